@@ -1,0 +1,23 @@
+-- Demand 2: what it is for a pair to be right.
+use mathlib.Core.List.{List, [], _∷_}
+use Prim.Native.Nat.{ℕ, _≤_}
+use Rattle.spec.specs.Program.{Program}
+use Rattle.spec.specs.Split.{Map, Split}
+use Rattle.spec.specs.Conditions.{mapAt, startMap}
+use Rattle.spec.specs.Figure5.{Derives}
+use Rattle.spec.specs.WellFormed.{WellFormedProgram, WellFormedSplit}
+
+-- a map has at most d of each location
+pub data AtMost (d : ℕ) : Map → Type 0 where
+  none : AtMost d []
+  more : {a : ℕ} {m : Map} → a ≤ d → AtMost d m → AtMost d (a ∷ m)
+
+-- "both sheets are well formed and the split sheet gives, step by step, a derivation [..], with the start holding at most
+-- one of each location"
+pub record Right (programText splitText : List ℕ) : Type 0 where
+  pub P : Program
+  pub S : Split
+  pub program : WellFormedProgram programText P
+  pub split : WellFormedSplit (P .steps) splitText S
+  pub atMostOne : AtMost (S .header .denominator) (mapAt S startMap)
+  pub derives : Derives S [] (mapAt S startMap) (P .root)

@@ -1,0 +1,163 @@
+-- The conditions, from Figure 5.
+use mathlib.Core.List.{List, [], _∷_, _++_}
+use mathlib.Core.Bool.{Bool, true, false}
+use mathlib.Core.Option.{Option, none, some}
+use Prim.Native.Nat.{ℕ, _+_, _-_}
+use lib.Dec.{eqb, leb, ltb}
+use lib.ListN.{getD}
+use Rattle.spec.specs.Choice.{if_then_else_}
+use Rattle.spec.specs.Reading.{Out, stop, on, _>>=_}
+use Rattle.spec.specs.Expression.{Expr, leaf, unary, binary}
+use Rattle.spec.specs.Split.{Map, Row, Split}
+use Rattle.spec.specs.Maps.{_=ᵐ_, _≥ᵐ_, _+ᵐ_, share, overWhole}
+use Rattle.spec.specs.declared.TypeNumber.{TypeNumber}
+use Rattle.spec.specs.declared.MapNumber.{MapNumber}
+use Rattle.spec.specs.declared.Location.{Location}
+use Rattle.spec.specs.declared.TypeLine.{TypeLine}
+use Rattle.spec.specs.declared.TypeLine.the-variants as type-line
+use Rattle.spec.specs.declared.Refusal.{Refusal}
+use Rattle.spec.specs.declared.Refusal.the-variants.{OverOne, TypeFalse, FlowFalse, AccessFalse}
+use Rattle.spec.specs.declared.LeafWord.the-variants.{Var, Int, Newtid, Newlock}
+use Rattle.spec.specs.declared.UnaryWord.{UnaryWord}
+use Rattle.spec.specs.declared.UnaryWord.the-variants.{While, Join, Ref, Read, Freelock, Lock, Unlock}
+use Rattle.spec.specs.declared.BinaryWord.{BinaryWord}
+use Rattle.spec.specs.declared.BinaryWord.the-variants.{Let, If, Spawn, Write}
+
+-- ------------------------------------------------------------------ kinds of type
+
+unfoldable pub isInt : TypeLine → Bool
+isInt type-line.Int = true
+isInt (type-line.Ref p c) = false
+isInt (type-line.Lock k) = false
+isInt (type-line.Tid k) = false
+
+unfoldable pub isRef : TypeLine → Bool
+isRef type-line.Int = false
+isRef (type-line.Ref p c) = true
+isRef (type-line.Lock k) = false
+isRef (type-line.Tid k) = false
+
+unfoldable pub isLock : TypeLine → Bool
+isLock type-line.Int = false
+isLock (type-line.Ref p c) = false
+isLock (type-line.Lock k) = true
+isLock (type-line.Tid k) = false
+
+unfoldable pub isTid : TypeLine → Bool
+isTid type-line.Int = false
+isTid (type-line.Ref p c) = false
+isTid (type-line.Lock k) = false
+isTid (type-line.Tid k) = true
+
+-- p of a ref type; it is asked for only where the type is a ref
+unfoldable pub place : TypeLine → Location
+place type-line.Int = record { 0 = 0 }
+place (type-line.Ref p c) = p
+place (type-line.Lock k) = record { 0 = 0 }
+place (type-line.Tid k) = record { 0 = 0 }
+
+-- K of a lock or tid type; it is asked for only where the type is one
+unfoldable pub load : TypeLine → MapNumber
+load type-line.Int = record { 0 = 0 }
+load (type-line.Ref p c) = record { 0 = 0 }
+load (type-line.Lock k) = k
+load (type-line.Tid k) = k
+
+-- ------------------------------------------------------------------ conditions
+
+-- a condition: on types (T); on flow (F), with the lowest location at which it fails; on access (A) to a location
+pub data Condition : Type 0 where
+  T : Bool → Condition
+  F : Option ℕ → Condition
+  A : Bool → (p : Location) → Condition
+
+-- the types of the variables in scope
+abbrev pub Env : Type 0
+Env = List (ℕ × TypeNumber)
+
+-- the type of the variable v's let's e1
+unfoldable pub typeIn : Env → (v : ℕ) → TypeNumber
+typeIn [] v = record { 0 = 0 }
+typeIn (b ∷ Γ) v = if eqb (b .0) v then b .1 else typeIn Γ v
+
+-- the line of an expression's first step
+unfoldable pub lineOf : Expr → ℕ
+lineOf (leaf w k v) = k
+lineOf (unary w k v e) = k
+lineOf (binary w k v e₁ e₂) = k
+
+-- "map 0 for the root": the start, which a program's first step has for its pre
+unfoldable pub startMap : MapNumber
+startMap = record { 0 = 0 }
+
+module _ (S : Split) where
+  unfoldable pub typeAt : TypeNumber → TypeLine
+  typeAt t = getD (S .types) (t .0) type-line.Int
+
+  unfoldable pub mapAt : MapNumber → Map
+  mapAt m = getD (S .maps) (m .0) []
+
+  -- "Two types agree when their numbers agree"
+  unfoldable pub agree : TypeNumber → TypeNumber → Bool
+  agree t u = eqb (t .0) (u .0)
+
+  -- a ref type whose c is the type t
+  unfoldable pub contains : TypeLine → TypeNumber → Bool
+  contains type-line.Int t = false
+  contains (type-line.Ref p c) t = agree c t
+  contains (type-line.Lock k) t = false
+  contains (type-line.Tid k) t = false
+
+  -- the split's row of an expression's first step: rows begin with the step at line 2
+  unfoldable pub row : Expr → Row
+  row e = getD (S .rows) (lineOf e - 2) (record { type = record { 0 = 0 }; post = record { 0 = 0 }; start = record { 0 = 0 } })
+
+  -- of an expression: its type by number, that type's line, its post, the map that a spawned body starts with, K of its type
+  unfoldable pub type : Expr → TypeNumber
+  type e = row e .type
+
+  unfoldable pub kind : Expr → TypeLine
+  kind e = typeAt (type e)
+
+  unfoldable pub post : Expr → Map
+  post e = mapAt (row e .post)
+
+  unfoldable pub start : Expr → Map
+  start e = mapAt (row e .start)
+
+  unfoldable pub K : Expr → Map
+  K e = mapAt (load (kind e))
+
+  -- the table: the conditions of a step, in order, with the types of the variables there and its pre
+  unfoldable pub own : Env → (pre : Map) → Expr → List Condition
+  own Γ pre (leaf Var k v) = let e = leaf Var k v in
+      T (agree (type e) (typeIn Γ v)) ∷ F (post e =ᵐ pre) ∷ []
+  own Γ pre (leaf Int k v) = let e = leaf Int k v in
+      T (isInt (kind e)) ∷ F (post e =ᵐ pre) ∷ []
+  own Γ pre (binary Let k v e₁ e₂) = let e = binary Let k v e₁ e₂ in
+      T (agree (type e) (type e₂)) ∷ F (post e =ᵐ post e₂) ∷ []
+  own Γ pre (binary If k v e₁ e₂) = let e = binary If k v e₁ e₂ in
+      T (agree (type e) (type e₁)) ∷ T (agree (type e) (type e₂)) ∷ F (post e₁ ≥ᵐ post e) ∷ F (post e₂ ≥ᵐ post e) ∷ []
+  own Γ pre (unary While k v e₁) = let e = unary While k v e₁ in
+      T (isInt (kind e)) ∷ F (pre ≥ᵐ post e) ∷ F (post e₁ ≥ᵐ post e) ∷ []
+  own Γ pre (leaf Newtid k v) = let e = leaf Newtid k v in
+      T (isTid (kind e)) ∷ F (post e =ᵐ pre) ∷ []
+  own Γ pre (binary Spawn k v e₁ e₂) = let e = binary Spawn k v e₁ e₂ in
+      T (isInt (kind e)) ∷ T (isTid (kind e₁)) ∷ F (post e₂ ≥ᵐ K e₁) ∷ F (post e +ᵐ start e =ᵐ post e₁) ∷ []
+  own Γ pre (unary Join k v e₁) = let e = unary Join k v e₁ in
+      T (isInt (kind e)) ∷ T (isTid (kind e₁)) ∷ F (post e =ᵐ post e₁ +ᵐ K e₁) ∷ []
+  own Γ pre (unary Ref k v e₁) = let e = unary Ref k v e₁ in
+      T (contains (kind e) (type e₁)) ∷ F (post e =ᵐ post e₁) ∷ []
+  own Γ pre (unary Read k v e₁) = let e = unary Read k v e₁ in let p = place (kind e₁) in
+      T (isRef (kind e₁)) ∷ T (contains (kind e₁) (type e)) ∷ F (post e =ᵐ post e₁) ∷ A (ltb 0 (share (post e) p)) p ∷ []
+  own Γ pre (binary Write k v e₁ e₂) = let e = binary Write k v e₁ e₂ in let p = place (kind e₁) in
+      T (isInt (kind e)) ∷ T (isRef (kind e₁)) ∷ T (contains (kind e₁) (type e₂)) ∷ F (post e =ᵐ post e₂)
+      ∷ A (leb (S .header .denominator) (share (post e) p)) p ∷ []
+  own Γ pre (leaf Newlock k v) = let e = leaf Newlock k v in
+      T (isLock (kind e)) ∷ F (post e +ᵐ K e =ᵐ pre) ∷ []
+  own Γ pre (unary Lock k v e₁) = let e = unary Lock k v e₁ in
+      T (isInt (kind e)) ∷ T (isLock (kind e₁)) ∷ F (post e =ᵐ post e₁ +ᵐ K e₁) ∷ []
+  own Γ pre (unary Freelock k v e₁) = let e = unary Freelock k v e₁ in
+      T (isInt (kind e)) ∷ T (isLock (kind e₁)) ∷ F (post e =ᵐ post e₁ +ᵐ K e₁) ∷ []
+  own Γ pre (unary Unlock k v e₁) = let e = unary Unlock k v e₁ in
+      T (isInt (kind e)) ∷ T (isLock (kind e₁)) ∷ F (post e +ᵐ K e₁ =ᵐ post e₁) ∷ []

@@ -1,0 +1,14 @@
+pub mod Choice
+pub mod Text
+pub mod Reading
+pub mod Expression
+pub mod Program
+pub mod Split
+pub mod Maps
+pub mod Conditions
+pub mod Sites
+pub mod Workspace
+pub mod Verdict
+pub mod Figure5
+pub mod WellFormed
+pub mod Accepted

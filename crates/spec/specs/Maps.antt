@@ -1,0 +1,43 @@
+-- Maps are compared and added number by number.
+use mathlib.Core.List.{List, [], _∷_}
+use mathlib.Core.Bool.{Bool}
+use mathlib.Core.Option.{Option, none, some}
+use Prim.Native.Nat.{ℕ, _+_}
+use lib.Dec.{eqb, leb}
+use lib.ListN.{getD}
+use Rattle.spec.specs.Choice.{if_then_else_}
+use Rattle.spec.specs.Split.{Map}
+use Rattle.spec.specs.declared.Location.{Location}
+
+-- the lowest location, counted from i, at which a test of two maps fails
+unfoldable pub lowest : (ℕ → ℕ → Bool) → (i : ℕ) → Map → Map → Option ℕ
+lowest test i [] [] = none
+lowest test i [] (b ∷ n) = some i
+lowest test i (a ∷ m) [] = some i
+lowest test i (a ∷ m) (b ∷ n) = if test a b then lowest test (i + 1) m n else some i
+
+unfoldable pub atLeast : ℕ → ℕ → Bool
+atLeast a b = leb b a
+
+-- where two maps fail to be equal, where the first fails to be at least the second
+infix 4 _=ᵐ_ _≥ᵐ_
+unfoldable pub _=ᵐ_ : Map → Map → Option ℕ
+m =ᵐ n = lowest eqb 0 m n
+
+unfoldable pub _≥ᵐ_ : Map → Map → Option ℕ
+m ≥ᵐ n = lowest atLeast 0 m n
+
+infixl 60 _+ᵐ_
+unfoldable pub _+ᵐ_ : Map → Map → Map
+[] +ᵐ n = []
+(a ∷ m) +ᵐ [] = []
+(a ∷ m) +ᵐ (b ∷ n) = (a + b) ∷ (m +ᵐ n)
+
+-- what a map has of a location
+unfoldable pub share : Map → Location → ℕ
+share m p = getD m (p .0) 0
+
+-- where a map has more than the whole, d parts
+unfoldable pub overWhole : (d i : ℕ) → Map → Option ℕ
+overWhole d i [] = none
+overWhole d i (a ∷ m) = if leb a d then overWhole d (i + 1) m else some i

@@ -1,0 +1,91 @@
+-- The program sheet.
+use mathlib.Core.List.{List, [], _∷_}
+use mathlib.Core.Bool.{Bool, true, false}
+use mathlib.Core.Option.{Option, none, some}
+use Prim.Native.Nat.{ℕ}
+use lib.ListN.{getD, replicate}
+use Rattle.spec.specs.Choice.{if_then_else_}
+use Rattle.spec.specs.Text.{bytes, same, lines, Field}
+use Rattle.spec.specs.Reading.{programSheet, Out, _>>=_, on, Seen, badForm, seen, Range, _to_, numbers, next, nextAll, begin, end}
+use Rattle.spec.specs.Expression.{Step, Expr, listed, single, scope}
+use Rattle.spec.specs.declared.Word.{Word}
+use Rattle.spec.specs.declared.Word.the-variants.{Leaf, Unary, Binary}
+use Rattle.spec.specs.declared.LeafWord.the-variants.{Var, Int, Newtid, Newlock}
+use Rattle.spec.specs.declared.UnaryWord.the-variants.{While, Join, Ref, Read, Freelock, Lock, Unlock}
+use Rattle.spec.specs.declared.BinaryWord.the-variants.{Let, If, Spawn, Write}
+
+-- the most bytes that a program sheet may have
+unfoldable pub programLimit : ℕ
+programLimit = 16384
+
+-- `P,n`: n the number of steps
+unfoldable pub firstNumber : List ℕ → ℕ
+firstNumber ns = getD ns 0 0
+
+unfoldable pub countLine : List Field → Seen ℕ
+countLine [] = badForm
+countLine (f ∷ fs) = if same f (bytes "P") then seen firstNumber (numbers ((1 to 256) ∷ []) fs) else badForm
+
+-- the words, by their number of parts
+unfoldable pub words : List (List ℕ × Word)
+words =
+    (bytes "var", Leaf Var)
+    ∷ (bytes "int", Leaf Int)
+    ∷ (bytes "newtid", Leaf Newtid)
+    ∷ (bytes "newlock", Leaf Newlock)
+    ∷ (bytes "while", Unary While)
+    ∷ (bytes "join", Unary Join)
+    ∷ (bytes "ref", Unary Ref)
+    ∷ (bytes "read", Unary Read)
+    ∷ (bytes "freelock", Unary Freelock)
+    ∷ (bytes "lock", Unary Lock)
+    ∷ (bytes "unlock", Unary Unlock)
+    ∷ (bytes "let", Binary Let)
+    ∷ (bytes "if", Binary If)
+    ∷ (bytes "spawn", Binary Spawn)
+    ∷ (bytes "write", Binary Write)
+    ∷ []
+
+unfoldable pub lookUp : List (List ℕ × Word) → Field → Option Word
+lookUp [] f = none
+lookUp (w ∷ ws) f = if same (w .0) f then some (w .1) else lookUp ws f
+
+-- v is a variable, a constant, or 0
+unfoldable pub valueRange : Word → Range
+valueRange (Leaf Var) = 0 to 255
+valueRange (Leaf Int) = 0 to 65535
+valueRange (Leaf Newtid) = 0 to 0
+valueRange (Leaf Newlock) = 0 to 0
+valueRange (Unary w) = 0 to 0
+valueRange (Binary Let) = 0 to 255
+valueRange (Binary If) = 0 to 0
+valueRange (Binary Spawn) = 0 to 0
+valueRange (Binary Write) = 0 to 0
+
+-- `word,v`
+unfoldable pub stepOf : Word → List ℕ → Step
+stepOf w ns = record { word = w; value = firstNumber ns }
+
+unfoldable pub wordLine : Option Word → List Field → Seen Step
+wordLine none fs = badForm
+wordLine (some w) fs = seen (stepOf w) (numbers (valueRange w ∷ []) fs)
+
+unfoldable pub stepLine : List Field → Seen Step
+stepLine [] = badForm
+stepLine (f ∷ fs) = wordLine (lookUp words f) fs
+
+-- a program: its steps in line order, the first at line 2, and the expression that they list
+pub record Program : Type 0 where
+  pub steps : List Step
+  pub root : Expr
+
+-- 11, 12 and 13 line by line; then 13 for the expression; then 14 and 15
+unfoldable pub program : List ℕ → Out Program
+program text = do
+  top ← begin programSheet (lines text)
+  (n, first) ← next programSheet countLine top
+  (steps, last) ← nextAll programSheet (replicate n stepLine) first
+  done ← end programSheet last
+  e ← single n (listed 2 steps)
+  bound ← scope e [] []
+  on (record { steps = steps; root = e })

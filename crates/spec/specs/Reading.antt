@@ -1,0 +1,135 @@
+-- Reading a sheet line by line, with the refusals that a line can meet: its form, a range, lines missing or spare.
+use mathlib.Core.List.{List, [], _∷_}
+use mathlib.Core.Bool.{Bool, true, false, _&&_}
+use mathlib.Core.Option.{Option, none, some}
+use Prim.Native.Nat.{ℕ, _+_}
+use lib.Dec.{eqb, leb, ltb}
+use lib.ListN.{length}
+use Rattle.spec.specs.Choice.{if_then_else_}
+use Rattle.spec.specs.Text.{Line, closed, unclosed, Field, fields, numeral}
+use Rattle.spec.specs.declared.Refusal.{Refusal}
+use Rattle.spec.specs.declared.Refusal.the-variants.{ProgramForm, ProgramRange, ProgramLines, SplitForm, SplitRange, SplitLines}
+
+-- ------------------------------------------------------------------ outcomes
+
+-- stopped by a refusal, or going on with what was found
+pub data Out (A : Type 0) : Type 0 where
+  stop : Refusal → Out A
+  on : A → Out A
+
+infixl 1 _>>=_
+unfoldable pub _>>=_ : {A B : Type 0} → Out A → (A → Out B) → Out B
+stop r >>= f = stop r
+on a >>= f = f a
+
+-- go on if the test holds
+unfoldable pub demand : Bool → Refusal → Out (Unit {0})
+demand true r = on tt
+demand false r = stop r
+
+-- ------------------------------------------------------------------ numbers on a line
+
+-- what a closed line shows: form is judged before range
+pub data Seen (A : Type 0) : Type 0 where
+  right : A → Seen A
+  badForm badRange : Seen A
+
+unfoldable pub seen : {A B : Type 0} → (A → B) → Seen A → Seen B
+seen f (right a) = right (f a)
+seen f badForm = badForm
+seen f badRange = badRange
+
+-- the range of a number: from the first to the last, both in it; or the number of one of so many things, counted from 0
+infix 4 _to_
+pub data Range : Type 0 where
+  _to_ : (first last : ℕ) → Range
+  below : (count : ℕ) → Range
+
+unfoldable pub inRange : Range → ℕ → Bool
+inRange (first to last) n = leb first n && leb n last
+inRange (below count) n = ltb n count
+
+unfoldable pub allInRange : List Range → List ℕ → Bool
+allInRange [] [] = true
+allInRange [] (n ∷ ns) = true
+allInRange (r ∷ rs) [] = true
+allInRange (r ∷ rs) (n ∷ ns) = inRange r n && allInRange rs ns
+
+unfoldable pub withNumeral : Option ℕ → Option (List ℕ) → Option (List ℕ)
+withNumeral none ns = none
+withNumeral (some n) none = none
+withNumeral (some n) (some ns) = some (n ∷ ns)
+
+-- the numbers of fields that are numerals, all of them
+unfoldable pub numerals : List Field → Option (List ℕ)
+numerals [] = some []
+numerals (f ∷ fs) = withNumeral (numeral f) (numerals fs)
+
+unfoldable pub ranged : List Range → Option (List ℕ) → Seen (List ℕ)
+ranged rs none = badForm
+ranged rs (some ns) =
+    if eqb (length ns) (length rs)
+    then (if allInRange rs ns then right ns else badRange)
+    else badForm
+
+-- as many numerals as ranges, each in its range
+unfoldable pub numbers : List Range → List Field → Seen (List ℕ)
+numbers rs fs = ranged rs (numerals fs)
+
+-- ------------------------------------------------------------------ lines in turn
+
+-- the two sheets, and the refusals of a line of each
+pub data SheetName : Type 0 where
+  programSheet splitSheet : SheetName
+
+unfoldable pub form : SheetName → (line : ℕ) → Refusal
+form programSheet k = ProgramForm k
+form splitSheet k = SplitForm k
+
+unfoldable pub outside : SheetName → (line : ℕ) → Refusal
+outside programSheet k = ProgramRange k
+outside splitSheet k = SplitRange k
+
+unfoldable pub miscounted : SheetName → (line : ℕ) → Refusal
+miscounted programSheet k = ProgramLines k
+miscounted splitSheet k = SplitLines k
+
+-- the reading place: the number of the last line read, 0 before the first, and the lines behind it
+pub record Place : Type 0 where
+  pub last : ℕ
+  pub rest : List Line
+
+unfoldable pub passed : {A : Type 0} → SheetName → (line : ℕ) → List Line → Seen A → Out (A × Place)
+passed sheet k rest (right a) = on (a, record { last = k; rest = rest })
+passed sheet k rest badForm = stop (form sheet k)
+passed sheet k rest badRange = stop (outside sheet k)
+
+-- a counted line: missing, without its closing byte, or what its fields show
+unfoldable pub nextLine : {A : Type 0} → SheetName → (List Field → Seen A) → (last : ℕ) → List Line → Out (A × Place)
+nextLine sheet read k [] = stop (miscounted sheet k)
+nextLine sheet read k (unclosed l ∷ rest) = stop (form sheet (k + 1))
+nextLine sheet read k (closed l ∷ rest) = passed sheet (k + 1) rest (read (fields l))
+
+unfoldable pub next : {A : Type 0} → SheetName → (List Field → Seen A) → Place → Out (A × Place)
+next sheet read place = nextLine sheet read (place .last) (place .rest)
+
+-- counted lines in turn, each read in its own way
+unfoldable pub nextAll : {A : Type 0} → SheetName → List (List Field → Seen A) → Place → Out (List A × Place)
+nextAll sheet [] place = on ([], place)
+nextAll sheet (read ∷ reads) place = do
+  (a, after) ← next sheet read place
+  (as′, end) ← nextAll sheet reads after
+  on (a ∷ as′, end)
+
+-- an empty text is of the wrong form at line 1
+unfoldable pub begin : SheetName → List Line → Out Place
+begin sheet [] = stop (form sheet 1)
+begin sheet (l ∷ rest) = on (record { last = 0; rest = l ∷ rest })
+
+-- a line behind the last is spare, with any bytes, closed or not
+unfoldable pub noneLeft : SheetName → (last : ℕ) → List Line → Out (Unit {0})
+noneLeft sheet k [] = on tt
+noneLeft sheet k (l ∷ rest) = stop (miscounted sheet (k + 1))
+
+unfoldable pub end : SheetName → Place → Out (Unit {0})
+end sheet place = noneLeft sheet (place .last) (place .rest)

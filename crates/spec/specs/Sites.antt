@@ -1,0 +1,93 @@
+-- Every step of an expression in line order, with what surrounds it, and the first condition that is false.
+use mathlib.Core.List.{List, [], _∷_, _++_}
+use mathlib.Core.Bool.{Bool, true, false}
+use mathlib.Core.Option.{Option, none, some}
+use Prim.Native.Nat.{ℕ, _+_}
+use Rattle.spec.specs.Reading.{Out, stop, on, _>>=_}
+use Rattle.spec.specs.Expression.{Expr, leaf, unary, binary}
+use Rattle.spec.specs.Split.{Split}
+use Rattle.spec.specs.Conditions.{Condition, T, F, A, Env, lineOf, mapAt, type, row, own}
+use Rattle.spec.specs.declared.TypeNumber.{TypeNumber}
+use Rattle.spec.specs.declared.MapNumber.{MapNumber}
+use Rattle.spec.specs.declared.Refusal.{Refusal}
+use Rattle.spec.specs.declared.Refusal.the-variants.{TypeFalse, FlowFalse, AccessFalse}
+use Rattle.spec.specs.declared.UnaryWord.{UnaryWord}
+use Rattle.spec.specs.declared.UnaryWord.the-variants.{While, Join, Ref, Read, Freelock, Lock, Unlock}
+use Rattle.spec.specs.declared.BinaryWord.{BinaryWord}
+use Rattle.spec.specs.declared.BinaryWord.the-variants.{Let, If, Spawn, Write}
+
+-- ------------------------------------------------------------------ the map before a step
+
+-- "the part of `while` has the `while`'s own post; [..] any other part has its step's pre"
+unfoldable pub preOfPart : UnaryWord → (pre post : MapNumber) → MapNumber
+preOfPart While pre post = post
+preOfPart Join pre post = pre
+preOfPart Ref pre post = pre
+preOfPart Read pre post = pre
+preOfPart Freelock pre post = pre
+preOfPart Lock pre post = pre
+preOfPart Unlock pre post = pre
+
+-- "for `let` and `write`, [..] e2 has e1's post; both parts of `if` have its pre; [..] in `spawn`, [..] e2 has s";
+-- e1 has the step's pre on each of these words
+unfoldable pub preOfSecond : BinaryWord → (pre post₁ start : MapNumber) → MapNumber
+preOfSecond Let pre post₁ start = post₁
+preOfSecond If pre post₁ start = pre
+preOfSecond Spawn pre post₁ start = start
+preOfSecond Write pre post₁ start = post₁
+
+-- a let's variable has the type of e1, and only inside e2
+unfoldable pub bind : BinaryWord → (v : ℕ) → TypeNumber → Env → Env
+bind Let v t Γ = (v, t) ∷ Γ
+bind If v t Γ = Γ
+bind Spawn v t Γ = Γ
+bind Write v t Γ = Γ
+
+-- a step, with the types of the variables there and the map before it
+pub record Site : Type 0 where
+  pub Γ : Env
+  pub pre : MapNumber
+  pub step : Expr
+
+module _ (S : Split) where
+  unfoldable pub sites : Env → (pre : MapNumber) → Expr → List Site
+  sites Γ pre (leaf w k v) = record { Γ = Γ; pre = pre; step = leaf w k v } ∷ []
+  sites Γ pre (unary w k v e₁) = let e = unary w k v e₁ in
+      record { Γ = Γ; pre = pre; step = e } ∷ sites Γ (preOfPart w pre (row S e .post)) e₁
+  sites Γ pre (binary w k v e₁ e₂) = let e = binary w k v e₁ e₂ in
+      record { Γ = Γ; pre = pre; step = e }
+      ∷ (sites Γ pre e₁ ++ sites (bind w v (type S e₁) Γ) (preOfSecond w pre (row S e₁ .post) (row S e .start)) e₂)
+
+-- ------------------------------------------------------------------ the first false condition
+
+-- a condition with its step's line and its number
+pub record Claim : Type 0 where
+  pub line : ℕ
+  pub number : ℕ
+  pub condition : Condition
+
+unfoldable pub numbered : (line number : ℕ) → List Condition → List Claim
+numbered k i [] = []
+numbered k i (c ∷ cs) = record { line = k; number = i; condition = c } ∷ numbered k (i + 1) cs
+
+-- "conditions by step line, then by number"
+module _ (S : Split) where
+  unfoldable pub claimsAt : Site → List Claim
+  claimsAt s = numbered (lineOf (s .step)) 1 (own S (s .Γ) (mapAt S (s .pre)) (s .step))
+
+  unfoldable pub claims : List Site → List Claim
+  claims [] = []
+  claims (s ∷ ss) = claimsAt s ++ claims ss
+
+-- "Location is 0 for (T), the lowest failing one for (F) [..], p for (A)"
+unfoldable pub judge : (line number : ℕ) → Condition → Out (Unit {0})
+judge k i (T true) = on tt
+judge k i (T false) = stop (TypeFalse k i)
+judge k i (F none) = on tt
+judge k i (F (some l)) = stop (FlowFalse k i (record { 0 = l }))
+judge k i (A true p) = on tt
+judge k i (A false p) = stop (AccessFalse k i p)
+
+unfoldable pub firstFalse : List Claim → Out (Unit {0})
+firstFalse [] = on tt
+firstFalse (c ∷ cs) = judge (c .line) (c .number) (c .condition) >>= λ holds. firstFalse cs

@@ -1,0 +1,120 @@
+-- The split sheet.
+use mathlib.Core.List.{List, [], _∷_, map}
+use mathlib.Core.Bool.{Bool, true, false}
+use Prim.Native.Nat.{ℕ, zero, suc, _+_}
+use lib.ListN.{getD, replicate, take, drop}
+use Rattle.spec.specs.Choice.{if_then_else_}
+use Rattle.spec.specs.Text.{bytes, same, lines, Field}
+use Rattle.spec.specs.Reading.{splitSheet, Out, _>>=_, on, Seen, badForm, seen, Range, _to_, below, numbers, next, nextAll, begin, end}
+use Rattle.spec.specs.Expression.{Step}
+use Rattle.spec.specs.declared.TypeNumber.{TypeNumber}
+use Rattle.spec.specs.declared.MapNumber.{MapNumber}
+use Rattle.spec.specs.declared.Location.{Location}
+use Rattle.spec.specs.declared.TypeLine.{TypeLine}
+use Rattle.spec.specs.declared.TypeLine.the-variants.{Int, Ref, Lock, Tid}
+use Rattle.spec.specs.declared.Word.{Word}
+use Rattle.spec.specs.declared.Word.the-variants.{Leaf, Unary, Binary}
+use Rattle.spec.specs.declared.BinaryWord.the-variants.{Let, If, Spawn, Write}
+
+-- the most bytes that a split sheet may have
+unfoldable pub splitLimit : ℕ
+splitLimit = 65536
+
+-- a capability mapping, document 01's "map": its numerals, one for each location, in parts of the denominator
+abbrev pub Map : Type 0
+Map = List ℕ
+
+-- `C,D,L,T,M`: denominator, locations, types, maps
+pub record Header : Type 0 where
+  pub denominator : ℕ
+  pub locations : ℕ
+  pub types : ℕ
+  pub maps : ℕ
+
+unfoldable pub headerOf : List ℕ → Header
+headerOf ns = record { denominator = getD ns 0 0; locations = getD ns 1 0; types = getD ns 2 0; maps = getD ns 3 0 }
+
+unfoldable pub headerLine : List Field → Seen Header
+headerLine [] = badForm
+headerLine (f ∷ fs) =
+    if same f (bytes "C")
+    then seen headerOf (numbers ((1 to 1000000) ∷ (1 to 16) ∷ (1 to 64) ∷ (1 to 512) ∷ []) fs)
+    else badForm
+
+-- `int,0,0`; `ref,p,t`; `lock,k,0`; `tid,k,0`. A content type's number is less than the type's own.
+unfoldable pub refOf : List ℕ → TypeLine
+refOf ns = Ref (record { 0 = getD ns 0 0 }) (record { 0 = getD ns 1 0 })
+
+unfoldable pub lockOf : List ℕ → TypeLine
+lockOf ns = Lock (record { 0 = getD ns 0 0 })
+
+unfoldable pub tidOf : List ℕ → TypeLine
+tidOf ns = Tid (record { 0 = getD ns 0 0 })
+
+unfoldable pub typeLine : Header → (own : ℕ) → List Field → Seen TypeLine
+typeLine H own [] = badForm
+typeLine H own (f ∷ fs) =
+    if same f (bytes "int") then seen (λ ns. Int) (numbers ((0 to 0) ∷ (0 to 0) ∷ []) fs)
+    else if same f (bytes "ref") then seen refOf (numbers (below (H .locations) ∷ below own ∷ []) fs)
+    else if same f (bytes "lock") then seen lockOf (numbers (below (H .maps) ∷ (0 to 0) ∷ []) fs)
+    else if same f (bytes "tid") then seen tidOf (numbers (below (H .maps) ∷ (0 to 0) ∷ []) fs)
+    else badForm
+
+-- the lines of n types, numbered from `own` upward
+unfoldable pub typeLines : Header → (own n : ℕ) → List (List Field → Seen TypeLine)
+typeLines H own zero = []
+typeLines H own (suc n) = typeLine H own ∷ typeLines H (own + 1) n
+
+-- a map line: a numeral for each location
+unfoldable pub mapLine : Header → List Field → Seen Map
+mapLine H fs = numbers (replicate (H .locations) (0 to 1000000)) fs
+
+-- `t,m,s`: a step's type, its post, and for a spawn the map that its body starts with
+pub record Row : Type 0 where
+  pub type : TypeNumber
+  pub post : MapNumber
+  pub start : MapNumber
+
+unfoldable pub rowOf : List ℕ → Row
+rowOf ns = record { type = record { 0 = getD ns 0 0 }; post = record { 0 = getD ns 1 0 }; start = record { 0 = getD ns 2 0 } }
+
+-- whether the fields are one, and nothing in it
+unfoldable pub blank : List Field → Bool
+blank [] = false
+blank ([] ∷ []) = true
+blank ((b ∷ f) ∷ []) = false
+blank (f ∷ g ∷ fs) = false
+
+-- "On a spawn, an empty s means map 0. On any other word s is empty": there, no number is in its range.
+unfoldable pub startRange : Word → Header → Range
+startRange (Leaf w) H = below 0
+startRange (Unary w) H = below 0
+startRange (Binary Let) H = below 0
+startRange (Binary If) H = below 0
+startRange (Binary Spawn) H = below (H .maps)
+startRange (Binary Write) H = below 0
+
+unfoldable pub rowLine : Header → Step → List Field → Seen Row
+rowLine H s fs =
+    seen rowOf
+    (if blank (drop 2 fs)
+    then numbers (below (H .types) ∷ below (H .maps) ∷ []) (take 2 fs)
+    else numbers (below (H .types) ∷ below (H .maps) ∷ startRange (s .word) H ∷ []) fs)
+
+-- a split: its header, its types and maps by number, its rows in step order
+pub record Split : Type 0 where
+  pub header : Header
+  pub types : List TypeLine
+  pub maps : List Map
+  pub rows : List Row
+
+-- 21, 22 and 23 line by line, for the steps of a program
+unfoldable pub split : List Step → List ℕ → Out Split
+split steps text = do
+  top ← begin splitSheet (lines text)
+  (H, p₁) ← next splitSheet headerLine top
+  (types, p₂) ← nextAll splitSheet (typeLines H 0 (H .types)) p₁
+  (maps, p₃) ← nextAll splitSheet (replicate (H .maps) (mapLine H)) p₂
+  (rows, p₄) ← nextAll splitSheet (map (rowLine H) steps) p₃
+  done ← end splitSheet p₄
+  on (record { header = H; types = types; maps = maps; rows = rows })

@@ -1,0 +1,73 @@
+-- The answer to a pair of sheets, in the order of document 01's reasons to stop.
+use mathlib.Core.List.{List, []}
+use mathlib.Core.Option.{Option, none, some}
+use Prim.Native.Nat.{ℕ}
+use lib.Dec.{leb}
+use lib.ListN.{length}
+use Rattle.spec.specs.Reading.{Out, stop, on, _>>=_, demand}
+use Rattle.spec.specs.Program.{Program, program, programLimit}
+use Rattle.spec.specs.Split.{Split, split, splitLimit}
+use Rattle.spec.specs.Maps.{overWhole}
+use Rattle.spec.specs.Conditions.{mapAt, startMap}
+use Rattle.spec.specs.Sites.{sites, claims, firstFalse}
+use Rattle.spec.specs.Workspace.{workspaceSize}
+use Rattle.spec.specs.declared.Returned.{Returned}
+use Rattle.spec.specs.declared.Answer.{Answer}
+use Rattle.spec.specs.declared.Answer.the-variants.{Accept, Refuse}
+use Rattle.spec.specs.declared.Refusal.{Refusal}
+use Rattle.spec.specs.declared.Refusal.the-variants.{ShortWorkspace, LongProgram, ProgramForm, ProgramRange, ProgramLines, Unbound, Rebound, LongSplit, SplitForm, SplitRange, SplitLines, OverOne, TypeFalse, FlowFalse, AccessFalse}
+
+-- 30: the start is over the whole somewhere
+unfoldable pub refuseOver : Option ℕ → Out (Unit {0})
+refuseOver none = on tt
+refuseOver (some l) = stop (OverOne (record { 0 = l }))
+
+unfoldable pub startAtMostOne : Split → Out (Unit {0})
+startAtMostOne S = refuseOver (overWhole (S .header .denominator) 0 (mapAt S startMap))
+
+-- 31 to 33
+unfoldable pub ruled : Program → Split → Out (Unit {0})
+ruled P S = firstFalse (claims S (sites S [] startMap (P .root)))
+
+-- 1; 10; 11 to 15; 20; 21 to 23; 30; 31 to 33
+unfoldable pub checked : (room : ℕ) → (programText splitText : List ℕ) → Out (Unit {0})
+checked room programText splitText = do
+  enough ← demand (leb workspaceSize room) ShortWorkspace
+  fits ← demand (leb (length programText) programLimit) LongProgram
+  P ← program programText
+  fits′ ← demand (leb (length splitText) splitLimit) LongSplit
+  S ← split (P .steps) splitText
+  whole ← startAtMostOne S
+  ruled P S
+
+unfoldable pub answer : Out (Unit {0}) → Answer
+answer (stop r) = Refuse r
+answer (on a) = Accept
+
+-- the answer to a pair of texts, with a work space of `room` numbers
+unfoldable pub verdict : (room : ℕ) → (programText splitText : List ℕ) → Answer
+verdict room programText splitText = answer (checked room programText splitText)
+
+-- ------------------------------------------------------------------ the returned numbers
+
+unfoldable pub four : (number line condition location : ℕ) → Returned
+four a b c d = record { number = a; line = b; condition = c; location = d }
+
+-- document 01's table "Reasons to stop", a row a case
+unfoldable pub returned : Answer → Returned
+returned Accept = four 0 0 0 0
+returned (Refuse ShortWorkspace) = four 1 0 0 0
+returned (Refuse LongProgram) = four 10 0 0 0
+returned (Refuse (ProgramForm k)) = four 11 k 0 0
+returned (Refuse (ProgramRange k)) = four 12 k 0 0
+returned (Refuse (ProgramLines k)) = four 13 k 0 0
+returned (Refuse (Unbound k)) = four 14 k 0 0
+returned (Refuse (Rebound k)) = four 15 k 0 0
+returned (Refuse LongSplit) = four 20 0 0 0
+returned (Refuse (SplitForm k)) = four 21 k 0 0
+returned (Refuse (SplitRange k)) = four 22 k 0 0
+returned (Refuse (SplitLines k)) = four 23 k 0 0
+returned (Refuse (OverOne l)) = four 30 2 0 (l .0)
+returned (Refuse (TypeFalse k i)) = four 31 k i 0
+returned (Refuse (FlowFalse k i l)) = four 32 k i (l .0)
+returned (Refuse (AccessFalse k i p)) = four 33 k i (p .0)

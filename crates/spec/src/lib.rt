@@ -1,0 +1,91 @@
+// The shapes that the definitions of document 01 and the code share. The definitions stand in specs/.
+
+// The words of a program sheet, by their number of parts.
+pub enum LeafWord {
+    Var,
+    Int,
+    Newtid,
+    Newlock,
+}
+
+pub enum UnaryWord {
+    While,
+    Join,
+    Ref,
+    Read,
+    Freelock,
+    Lock,
+    Unlock,
+}
+
+pub enum BinaryWord {
+    Let,
+    If,
+    Spawn,
+    Write,
+}
+
+pub enum Word {
+    Leaf(LeafWord),
+    Unary(UnaryWord),
+    Binary(BinaryWord),
+}
+
+// The numbers of types, maps and locations, each counted from 0: three sorts that never mix.
+pub struct TypeNumber(pub u32);
+
+pub struct MapNumber(pub u32);
+
+pub struct Location(pub u32);
+
+// What a type line of a split sheet says. A content type, a map: by number.
+pub enum TypeLine {
+    Int,
+    Ref(Location, TypeNumber),
+    Lock(MapNumber),
+    Tid(MapNumber),
+}
+
+// A reason to stop, with the line, the condition and the location that a person wants to know.
+pub enum Refusal {
+    ShortWorkspace,
+    LongProgram,
+    ProgramForm(u32),
+    ProgramRange(u32),
+    ProgramLines(u32),
+    Unbound(u32),
+    Rebound(u32),
+    LongSplit,
+    SplitForm(u32),
+    SplitRange(u32),
+    SplitLines(u32),
+    OverOne(Location),
+    TypeFalse {
+        line: u32,
+        condition: u32,
+    },
+    FlowFalse {
+        line: u32,
+        condition: u32,
+        location: Location,
+    },
+    AccessFalse {
+        line: u32,
+        condition: u32,
+        location: Location,
+    },
+}
+
+// The answer to a pair of sheets.
+pub enum Answer {
+    Accept,
+    Refuse(Refusal),
+}
+
+// The four numbers that a call returns for an answer.
+pub struct Returned {
+    pub number: u32,
+    pub line: u32,
+    pub condition: u32,
+    pub location: u32,
+}
