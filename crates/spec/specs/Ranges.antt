@@ -1,0 +1,34 @@
+-- What the ranges of a split sheet's lines come to: every number that is used as one of its kind is one of its kind.
+use mathlib.Core.Path.{_≡_}
+use mathlib.Core.List.{List, []}
+use Prim.Native.Nat.{ℕ, _≤_, _<_}
+use lib.ListN.{length, getD}
+use Rattle.spec.specs.Expression.{Step}
+use Rattle.spec.specs.Split.{Row, Split}
+use Rattle.spec.specs.declared.TypeNumber.{TypeNumber}
+use Rattle.spec.specs.declared.MapNumber.{MapNumber}
+use Rattle.spec.specs.declared.Location.{Location}
+use Rattle.spec.specs.declared.TypeLine.{TypeLine}
+use Rattle.spec.specs.declared.TypeLine.the-variants as type-line
+
+pub record InRange (steps : List Step) (S : Split) : Type 0 where
+  pub denominator : (1 ≤ S .header .denominator) × (S .header .denominator ≤ 1000000)
+  pub locations : (1 ≤ S .header .locations) × (S .header .locations ≤ 16)
+  pub typesCounted : length (S .types) ≡ S .header .types
+  pub typesFew : (1 ≤ S .header .types) × (S .header .types ≤ 64)
+  pub mapsCounted : length (S .maps) ≡ S .header .maps
+  pub mapsFew : (1 ≤ S .header .maps) × (S .header .maps ≤ 512)
+  pub rowsCounted : length (S .rows) ≡ length steps
+  -- a map has a number for each location
+  pub mapWide : (m : ℕ) → m < length (S .maps) → length (getD (S .maps) m []) ≡ S .header .locations
+  -- the numbers on a type line
+  pub refPlace : (t : ℕ) (p : Location) (c : TypeNumber) → t < length (S .types)
+      → getD (S .types) t type-line.Int ≡ type-line.Ref p c → (p .0 < S .header .locations) × (c .0 < t)
+  pub lockLoad : (t : ℕ) (k : MapNumber) → t < length (S .types)
+      → getD (S .types) t type-line.Int ≡ type-line.Lock k → k .0 < length (S .maps)
+  pub tidLoad : (t : ℕ) (k : MapNumber) → t < length (S .types)
+      → getD (S .types) t type-line.Int ≡ type-line.Tid k → k .0 < length (S .maps)
+  -- the numbers on a row
+  pub rowType : (i : ℕ) (d : Row) → i < length (S .rows) → getD (S .rows) i d .type .0 < length (S .types)
+  pub rowPost : (i : ℕ) (d : Row) → i < length (S .rows) → getD (S .rows) i d .post .0 < length (S .maps)
+  pub rowStart : (i : ℕ) (d : Row) → i < length (S .rows) → getD (S .rows) i d .start .0 < length (S .maps)

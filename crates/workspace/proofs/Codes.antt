@@ -1,0 +1,41 @@
+-- The numbers that stand for words and types give them back.
+use mathlib.Core.Path.{_≡_, refl}
+use Prim.Native.Nat.{ℕ, _+_, _≤_}
+use native.Mathlib.Omega.{arith}
+use Rattle.spec.specs.declared.TypeLine.{TypeLine}
+use Rattle.spec.specs.declared.TypeLine.the-variants as type-line
+use Rattle.spec.specs.declared.Word.{Word}
+use Rattle.spec.specs.declared.Word.the-variants.{Leaf, Unary, Binary}
+use Rattle.spec.specs.declared.LeafWord.the-variants.{Var, Int, Newtid, Newlock}
+use Rattle.spec.specs.declared.UnaryWord.the-variants.{While, Join, Ref, Read, Freelock, Lock, Unlock}
+use Rattle.spec.specs.declared.BinaryWord.the-variants.{Let, If, Spawn, Write}
+use Rattle.workspace.specs.Layout.{codeOf, coded, wordOf, kindOf, firstOf, secondOf, typeOf}
+
+-- one more than n is passed, for a number that is not n
+pub up : (n : ℕ) {k : ℕ} → n ≤ k → (k ≡ n → ⊥) → n + 1 ≤ k
+up n h e = omega arith
+
+pub word-of-code : (w : Word) → wordOf (codeOf w) ≡ w
+unfolding wordOf coded
+word-of-code (Leaf Var) = refl
+word-of-code (Leaf Int) = refl
+word-of-code (Leaf Newtid) = refl
+word-of-code (Leaf Newlock) = refl
+word-of-code (Unary While) = refl
+word-of-code (Unary Join) = refl
+word-of-code (Unary Ref) = refl
+word-of-code (Unary Read) = refl
+word-of-code (Unary Freelock) = refl
+word-of-code (Unary Lock) = refl
+word-of-code (Unary Unlock) = refl
+word-of-code (Binary Let) = refl
+word-of-code (Binary If) = refl
+word-of-code (Binary Spawn) = refl
+word-of-code (Binary Write) = refl
+
+pub type-of-numbers : (t : TypeLine) → typeOf (kindOf t) (firstOf t) (secondOf t) ≡ t
+unfolding typeOf
+type-of-numbers type-line.Int = refl
+type-of-numbers (type-line.Ref p c) = refl
+type-of-numbers (type-line.Lock k) = refl
+type-of-numbers (type-line.Tid k) = refl

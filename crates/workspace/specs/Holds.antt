@@ -1,0 +1,62 @@
+-- What the work space holds of a program and of a split, column by column.
+use mathlib.Core.List.{List, [], _∷_, _++_, map}
+use Prim.Native.Nat.{ℕ, suc, _+_, _*_, _<_}
+use lib.Dec.{eqb}
+use lib.ListN.{length, getD}
+use Rattle.spec.specs.Choice.{if_then_else_}
+use Rattle.spec.specs.Expression.{Step, Expr, leaf, unary, binary, size}
+use Rattle.spec.specs.Program.{Program}
+use Rattle.spec.specs.Split.{Row, Split}
+use Rattle.spec.specs.declared.LeafWord.the-variants.{Var, Int, Newtid, Newlock}
+use Rattle.spec.specs.declared.BinaryWord.the-variants.{Let, If, Spawn, Write}
+use Rattle.workspace.specs.Layout.{wordsAt, valuesAt, endsAt, letsAt, rowTypesAt, postsAt, startsAt, kindsAt, firstsAt, secondsAt, mapsAt, stride, codeOf, kindOf, firstOf, secondOf}
+use Rattle.workspace.specs.Region.{Region}
+
+-- ------------------------------------------------------------------ programs
+
+-- Steps are counted from 0 in line order: the step at line k + 2 has index k.
+
+-- for each step of an expression in line order, the index just past it; k is the index of its first step
+unfoldable pub ends : (k : ℕ) → Expr → List ℕ
+ends k (leaf w l v) = (k + 1) ∷ []
+ends k (unary w l v e) = (k + suc (size e)) ∷ ends (k + 1) e
+ends k (binary w l v e₁ e₂) = (k + suc (size e₁ + size e₂)) ∷ (ends (k + 1) e₁ ++ ends (k + 1 + size e₁) e₂)
+
+-- the index of the let of a variable, of those whose e2 this is in
+unfoldable pub letIn : List (ℕ × ℕ) → (v : ℕ) → ℕ
+letIn [] v = 0
+letIn (b ∷ inside) v = if eqb (b .0) v then b .1 else letIn inside v
+
+-- for each step of an expression in line order, the index of its variable's let if it is a `var`, else 0
+unfoldable pub lets : (k : ℕ) → (inside : List (ℕ × ℕ)) → Expr → List ℕ
+lets k inside (leaf Var l v) = letIn inside v ∷ []
+lets k inside (leaf Int l v) = 0 ∷ []
+lets k inside (leaf Newtid l v) = 0 ∷ []
+lets k inside (leaf Newlock l v) = 0 ∷ []
+lets k inside (unary w l v e) = 0 ∷ lets (k + 1) inside e
+lets k inside (binary Let l v e₁ e₂) = 0 ∷ (lets (k + 1) inside e₁ ++ lets (k + 1 + size e₁) ((v, k) ∷ inside) e₂)
+lets k inside (binary If l v e₁ e₂) = 0 ∷ (lets (k + 1) inside e₁ ++ lets (k + 1 + size e₁) inside e₂)
+lets k inside (binary Spawn l v e₁ e₂) = 0 ∷ (lets (k + 1) inside e₁ ++ lets (k + 1 + size e₁) inside e₂)
+lets k inside (binary Write l v e₁ e₂) = 0 ∷ (lets (k + 1) inside e₁ ++ lets (k + 1 + size e₁) inside e₂)
+
+-- the lines of a program sheet: words and numbers v
+pub record HoldsSteps (w : List ℕ) (steps : List Step) : Type 0 where
+  pub words : Region w wordsAt (map (λ (s : Step). codeOf (s .word)) steps)
+  pub values : Region w valuesAt (map (λ (s : Step). s .value) steps)
+
+-- a program: its lines, where its steps end, which let a variable means
+pub record HoldsProgram (w : List ℕ) (P : Program) : Type 0 where
+  pub steps : HoldsSteps w (P .steps)
+  pub ends : Region w endsAt (ends 0 (P .root))
+  pub lets : Region w letsAt (lets 0 [] (P .root))
+
+-- ------------------------------------------------------------------ splits
+
+pub record HoldsSplit (w : List ℕ) (S : Split) : Type 0 where
+  pub kinds : Region w kindsAt (map kindOf (S .types))
+  pub firsts : Region w firstsAt (map firstOf (S .types))
+  pub seconds : Region w secondsAt (map secondOf (S .types))
+  pub maps : (m : ℕ) → m < length (S .maps) → Region w (mapsAt + stride * m) (getD (S .maps) m [])
+  pub rowTypes : Region w rowTypesAt (map (λ (r : Row). r .type .0) (S .rows))
+  pub posts : Region w postsAt (map (λ (r : Row). r .post .0) (S .rows))
+  pub starts : Region w startsAt (map (λ (r : Row). r .start .0) (S .rows))
