@@ -13,3 +13,6 @@ pub mod Figure5
 pub mod WellFormed
 pub mod Accepted
 pub mod Ranges
+pub mod KnownPairs
+pub mod EdgeSheets
+pub mod EdgeConditions
