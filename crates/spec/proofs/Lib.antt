@@ -1,1 +1,3 @@
 pub mod KnownPairs
+pub mod Order
+pub mod Ranges
