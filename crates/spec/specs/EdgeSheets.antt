@@ -60,6 +60,9 @@ stepRows =
 unfoldable pub countRows : List Pair
 countRows =
     ("P,2|int,0|" with Z is four 13 2 0 0) ∷
+    ("P,3|foo,0|" with Z is four 11 2 0 0) ∷
+    ("P,3|int,65536|" with Z is four 12 2 0 0) ∷
+    ("P,1|foo,0|int,0|" with Z is four 11 2 0 0) ∷
     ("P,2|while,0|" with Z is four 13 2 0 0) ∷
     ("P,1|int,0|int,0|" with Z is four 13 3 0 0) ∷
     ("P,1|int,0|x" with Z is four 13 3 0 0) ∷
@@ -161,6 +164,8 @@ unfoldable pub splitCountRows : List Pair
 splitCountRows =
     ("P,1|int,0|" with "C,1,1,1,1|" is four 23 1 0 0) ∷
     ("P,1|int,0|" with "C,1,1,1,1|int,0,0|" is four 23 2 0 0) ∷
+    ("P,1|int,0|" with "C,1,1,1,1|flt,0,0|" is four 21 2 0 0) ∷
+    ("P,1|int,0|" with "C,1,1,1,2|int,0,0|1000001|" is four 22 3 0 0) ∷
     ("P,1|int,0|" with "C,1,1,1,1|int,0,0|0|" is four 23 3 0 0) ∷
     ("P,1|int,0|" with (of "0,0,") is four 21 4 0 0) ∷
     ("P,1|int,0|" with (of "0,0,|0,0,|") is four 23 5 0 0) ∷
