@@ -1,3 +1,3 @@
 pub mod KnownPairs
-pub mod Order
+pub mod Reasons
 pub mod Ranges
