@@ -13,18 +13,9 @@ use Rattle.spec.specs.Split.{Map}
 use Rattle.spec.specs.Maps.{lowest, atLeast, _=ᵐ_, _≥ᵐ_, overWhole}
 use Rattle.spec.specs.Figure5.{_⊒_, none as none⊒, more as more⊒}
 use Rattle.spec.specs.Accepted.{AtMost, none as noneAtMost, more as moreAtMost}
+use Rattle.spec.proofs.Clashes.{true-is-not-false, none-is-not-some, not-true-false}
 
 -- ------------------------------------------------------------------ nothing fails
-
-none-is-not-some {ℓ} : {A : Type 0} {C : Type ℓ} {a : A} → none ≡ some a → C
-none-is-not-some h = let clash : _≡_ {A = ℕ} 0 1 = cc in absurd (omega arith)
-
-true-is-not-false {ℓ} : {C : Type ℓ} → true ≡ false → C
-true-is-not-false h = let clash : _≡_ {A = ℕ} 0 1 = cc in absurd (omega arith)
-
-not-true-false : (t : Bool) → (t ≡ true → ⊥) → t ≡ false
-not-true-false true h = absurd (h refl)
-not-true-false false h = refl
 
 if-none : (t : Bool) (x : Option ℕ) (i : ℕ) → (if t then x else some i) ≡ none → (t ≡ true) × (x ≡ none)
 if-none true x i h = (refl, h)

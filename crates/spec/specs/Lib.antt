@@ -12,3 +12,4 @@ pub mod Verdict
 pub mod Figure5
 pub mod WellFormed
 pub mod Accepted
+pub mod FirstFalse
