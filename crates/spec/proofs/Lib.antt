@@ -5,3 +5,5 @@ pub mod Agreement
 pub mod Claims
 pub mod TypeKinds
 pub mod Figure5
+pub mod Listing
+pub mod Scopes
