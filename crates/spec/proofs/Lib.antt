@@ -7,3 +7,5 @@ pub mod TypeKinds
 pub mod Figure5
 pub mod Listing
 pub mod Scopes
+pub mod Reading
+pub mod WellFormed
