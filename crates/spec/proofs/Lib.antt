@@ -9,3 +9,5 @@ pub mod Listing
 pub mod Scopes
 pub mod Reading
 pub mod WellFormed
+pub mod Accepted
+pub mod Order
