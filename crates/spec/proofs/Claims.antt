@@ -10,7 +10,7 @@ use Rattle.spec.specs.Conditions.{Condition, T, F, A}
 use Rattle.spec.specs.Sites.{Site, Claim, claims, claimsAt, judge, firstFalse}
 use Rattle.spec.specs.FirstFalse.{Holds, AllHold, Names, type, flow, access, FirstFalse}
 use Rattle.spec.specs.declared.Refusal.{Refusal}
-use Rattle.spec.proofs.Clashes.{true-is-not-false, none-is-not-some}
+use Rattle.spec.proofs.Clashes.{true-is-not-false, none-is-not-some, not-true-false}
 use Rattle.spec.proofs.Outcomes.{stop-is-not-on, stop-injective, bind-goes-on, goes-on-bind}
 
 -- ------------------------------------------------------------------ one condition
@@ -93,3 +93,18 @@ stopped-first-false (c ∷ cs) h = go (judge (c .line) (c .number) (c .condition
           isFalse = f .isFalse;
           named = f .named;
         }
+
+-- and back
+false-judged : {k i : ℕ} {c : Condition} {r : Refusal} → Names k i c r → (Holds c → ⊥) → judge k i c ≡ stop r
+unfolding judge Holds
+false-judged (type {b}) h = rw (not-true-false b h)
+false-judged flow h = refl
+false-judged (access {b}) h = rw (not-true-false b h)
+
+pub first-false-stopped : {r : Refusal} {all : List Claim} → FirstFalse all r → firstFalse all ≡ stop r
+unfolding firstFalse AllHold _>>=_
+first-false-stopped {r} f = ap firstFalse (f .parted) ∙ past (f .before) (f .holdBefore)
+  where
+    past : (before : List Claim) → AllHold before → firstFalse (before ++ f .here ∷ f .after) ≡ stop r
+    past [] h = ap (λ o. o >>= λ holds. firstFalse (f .after)) (false-judged (f .named) (f .isFalse))
+    past (c ∷ cs) h = goes-on-bind _ _ (holds-judged _ _ _ (h .0)) (past cs (h .1))

@@ -2,12 +2,15 @@ pub mod Clashes
 pub mod Outcomes
 pub mod Maps
 pub mod Agreement
-pub mod Claims
 pub mod TypeKinds
+pub mod Claims
 pub mod Figure5
 pub mod Listing
 pub mod Scopes
 pub mod Reading
 pub mod WellFormed
+pub mod EarlyRefusals
+pub mod Reached
 pub mod Accepted
 pub mod Order
+pub mod FirstFalse

@@ -4,8 +4,12 @@ use mathlib.Core.List.{List, [], _∷_, _++_}
 use mathlib.Core.Bool.{Bool, true}
 use mathlib.Core.Option.{Option, none, some}
 use Prim.Native.Nat.{ℕ, _<_}
-use Rattle.spec.specs.Conditions.{Condition, T, F, A}
-use Rattle.spec.specs.Sites.{Claim}
+use Rattle.spec.specs.Program.{Program}
+use Rattle.spec.specs.Split.{Split}
+use Rattle.spec.specs.Conditions.{Condition, T, F, A, mapAt, startMap}
+use Rattle.spec.specs.Sites.{Claim, sites, claims}
+use Rattle.spec.specs.WellFormed.{WellFormedProgram, WellFormedSplit}
+use Rattle.spec.specs.Accepted.{AtMost}
 use Rattle.spec.specs.declared.Location.{Location}
 use Rattle.spec.specs.declared.Refusal.{Refusal}
 use Rattle.spec.specs.declared.Refusal.the-variants.{TypeFalse, FlowFalse, AccessFalse}
@@ -52,3 +56,16 @@ EarlierThanAll c (d ∷ ds) = Earlier c d × EarlierThanAll c ds
 unfoldable pub InOrder : List Claim → Type 0
 InOrder [] = Unit {0}
 InOrder (c ∷ cs) = EarlierThanAll c cs × InOrder cs
+
+-- ------------------------------------------------------------------ a pair of sheets
+
+-- what a refusal 31 to 33 says of a pair: both sheets are well formed, the start holds at most one of each location, and r
+-- names the first false condition by step line, then by number
+pub record Refuted (programText splitText : List ℕ) (r : Refusal) : Type 0 where
+  pub P : Program
+  pub S : Split
+  pub program : WellFormedProgram programText P
+  pub split : WellFormedSplit (P .steps) splitText S
+  pub atMostOne : AtMost (S .header .denominator) (mapAt S startMap)
+  pub inOrder : InOrder (claims S (sites S [] startMap (P .root)))
+  pub first : FirstFalse (claims S (sites S [] startMap (P .root))) r
