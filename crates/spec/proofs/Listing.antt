@@ -8,7 +8,7 @@ use lib.Dec.{eqb}
 use lib.ListN.{length, length-append}
 use borrow.Author.Tests.{eqb-true, eq-eqb}
 use Rattle.spec.specs.Choice.{if_then_else_}
-use Rattle.spec.specs.Reading.{Out, stop, on}
+use Rattle.spec.specs.Reading.{stop, on}
 use Rattle.spec.specs.Expression.{Step, Expr, leaf, unary, binary, size, withParts, listed, single}
 use Rattle.spec.specs.WellFormed.{prefix, LinesFrom}
 use Rattle.spec.specs.declared.Word.{Word}

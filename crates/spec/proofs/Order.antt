@@ -9,7 +9,7 @@ use Rattle.spec.specs.Split.{Split}
 use Rattle.spec.specs.Conditions.{Condition, Env, lineOf, type, row}
 use Rattle.spec.specs.Sites.{Site, sites, preOfPart, preOfSecond, bind, Claim, numbered, claimsAt, claims}
 use Rattle.spec.specs.WellFormed.{LinesFrom}
-use Rattle.spec.specs.FirstFalse.{Earlier, byLine, byNumber, EarlierThanAll, InOrder}
+use Rattle.spec.specs.FirstFalse.{byLine, byNumber, EarlierThanAll, InOrder}
 use Rattle.spec.specs.declared.MapNumber.{MapNumber}
 use Rattle.spec.proofs.Claims.{claims-append}
 

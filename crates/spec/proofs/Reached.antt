@@ -1,11 +1,11 @@
 -- The conditions decide exactly when all that is judged before them is passed.
 use mathlib.Core.Path.{_≡_, refl}
-use mathlib.Core.List.{List, []}
+use mathlib.Core.List.{List}
 use mathlib.Core.Option.{Option, none, some}
 use Prim.Native.Nat.{ℕ, _≤_}
 use native.Mathlib.Omega.{arith}
 use borrow.Author.Tests.{leb-true, le-leb}
-use Rattle.spec.specs.Reading.{Out, stop, on, _>>=_}
+use Rattle.spec.specs.Reading.{Out, on}
 use Rattle.spec.specs.Program.{Program}
 use Rattle.spec.specs.Split.{Split}
 use Rattle.spec.specs.Conditions.{mapAt, startMap}

@@ -1,10 +1,10 @@
 -- Counted lines are read to the end exactly when the text shows an entry on each of them.
-use mathlib.Core.Path.{_≡_, refl, ap, sym, _∙_, subst}
+use mathlib.Core.Path.{_≡_, refl, ap, sym, subst}
 use mathlib.Core.List.{List, [], _∷_}
 use Prim.Native.Nat.{ℕ, suc, _+_}
 use lib.ListN.{length}
 use Rattle.spec.specs.Text.{Line, closed, unclosed, Field, fields}
-use Rattle.spec.specs.Reading.{Out, stop, on, _>>=_, Seen, right, badForm, badRange, SheetName, Place, passed, nextLine, next, nextAll, begin, noneLeft, end}
+use Rattle.spec.specs.Reading.{on, Seen, right, badForm, badRange, SheetName, Place, passed, nextLine, next, nextAll, begin, noneLeft, end}
 use Rattle.spec.specs.WellFormed.{Shows, nothing, line}
 use Rattle.spec.proofs.Outcomes.{stop-is-not-on, on-injective, bind-goes-on, goes-on-bind}
 

@@ -1,16 +1,16 @@
 -- The sheets that meet none of 10 to 15, none of 20 to 23, are the well-formed ones.
 use mathlib.Core.Path.{_≡_, refl, ap, sym, _∙_, subst}
-use mathlib.Core.List.{List, [], _∷_, map}
+use mathlib.Core.List.{List, [], map}
 use Prim.Native.Nat.{ℕ, _≤_}
 use lib.ListN.{length, replicate, length-replicate}
-use Rattle.spec.specs.Text.{closed, lines, fields}
-use Rattle.spec.specs.Reading.{Out, on, _>>=_, programSheet, splitSheet, right, next, nextAll, begin, noneLeft, end}
-use Rattle.spec.specs.Expression.{Step, Expr, listed, single, scope}
+use Rattle.spec.specs.Text.{lines}
+use Rattle.spec.specs.Reading.{on, programSheet, splitSheet, right, begin, noneLeft, end}
+use Rattle.spec.specs.Expression.{Step, listed, single}
 use Rattle.spec.specs.Program.{Program, program, programLimit, countLine, stepLine}
-use Rattle.spec.specs.Split.{Split, split, splitLimit, headerLine, typeLines, mapLine, rowLine}
+use Rattle.spec.specs.Split.{Split, split, splitLimit, headerLine, rowLine}
 use Rattle.spec.specs.WellFormed.{Shows, WellFormedProgram, WellFormedSplit}
 use Rattle.spec.proofs.Outcomes.{on-injective, bind-goes-on, goes-on-bind}
-use Rattle.spec.proofs.Reading.{Begins, next-begins, all-shown, begun, ended, shown-length, read-next, read-all}
+use Rattle.spec.proofs.Reading.{next-begins, all-shown, begun, ended, shown-length, read-next, read-all}
 use Rattle.spec.proofs.Listing.{listed-expression, expression-listed}
 use Rattle.spec.proofs.Scopes.{scoped-once-inside, once-inside-scoped}
 
