@@ -1,0 +1,1 @@
+-- Why Figure 5 gives the claim.

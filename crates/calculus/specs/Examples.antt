@@ -1,0 +1,1 @@
+-- Programs of the paper to try the definitions on; what is proved of them stands in proofs/.
