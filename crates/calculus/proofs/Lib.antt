@@ -3,6 +3,7 @@ pub mod Maps
 pub mod Order
 pub mod NextWord
 pub mod Questions
+pub mod Names
 pub mod Typing
 pub mod Substitution
 pub mod Focus
@@ -13,4 +14,6 @@ pub mod Moving
 pub mod Preservation
 pub mod RaceFreedom
 pub mod Halting
+pub mod Waiting
 pub mod Safety
+pub mod Examples

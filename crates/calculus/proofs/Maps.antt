@@ -1,5 +1,5 @@
 -- Laws of options and of maps that are updated at one place.
-use Prim.Native.Nat.{ℕ}
+use Prim.Native.Nat.{ℕ, suc, _≤_, max}
 use mathlib.Core.Path.{_≡_, refl, sym, ap, _∙_}
 use mathlib.Core.Logic.{_≢_}
 use mathlib.Core.Option.{Option, none, some}
@@ -40,3 +40,7 @@ update-other f n m a h = by-cases (ℕ-discrete m n)
     by-cases : (d : Dec (m ≡ n)) → choose d a (f m) ≡ f m
     by-cases (yes p) = absurd (h p)
     by-cases (no p) = refl
+
+-- A map that is b from some number on still is, from some number on, when it is updated at one place.
+pub update-above : {A : Type 0} (f : ℕ → A) (n top : ℕ) (a b : A) → ((m : ℕ) → top ≤ m → f m ≡ b) → (m : ℕ) → max (suc n) top ≤ m → update f n a m ≡ b
+update-above f n top a b above m h = update-other f n m a (omega arith) ∙ above m (omega arith)

@@ -78,9 +78,3 @@ typed-is-safe {e} positive typed at-most-whole ms =
 -- The main theorem. With D = 0 everything would be allowed to write; a sheet's D is 1 or more.
 pub derived-is-safe : {D : ℕ} {Ψ Φ : Cap} {e : Exp} {τ : Ty} → 0 < D → D ∣ empty ∣ Ψ ⊢ e ∶ τ ∣ Φ → ((ρ : ℕ) → Ψ ρ ≤ D) → Safe e
 derived-is-safe positive derived at-most-whole = typed-is-safe positive (λ N. derived-is-typed N derived) at-most-whole
-
--- Names do not run out: in every state on the way some name is unused.
-pub derived-has-unused-names : {D : ℕ} {Ψ Φ : Cap} {e : Exp} {τ : Ty} → D ∣ empty ∣ Ψ ⊢ e ∶ τ ∣ Φ → ((ρ : ℕ) → Ψ ρ ≤ D) →
-    (ms : List Move) → Every (λ s. (n : ℕ) × (s .names n ≡ unused)) (states ms (start e))
-derived-has-unused-names {e} derived at-most-whole ms =
-    run-preserves (λ s. (n : ℕ) × (s .names n ≡ unused)) (λ s I. (I .top, I .above (I .top) (omega arith))) ms (start e) (start-is-well-typed (λ N. derived-is-typed N derived) at-most-whole)

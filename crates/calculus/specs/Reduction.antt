@@ -170,6 +170,11 @@ unfoldable pub states : List Move → State → List State
 states [] s = s ∷ []
 states (m ∷ ms) s = s ∷ states ms (attempt s m)
 
+-- The last of them.
+unfoldable pub run : List Move → State → State
+run [] s = s
+run (m ∷ ms) s = run ms (attempt s m)
+
 -- One thread, no cells and no locks; its identifier is the one name used so far, and no program has it.
 unfoldable pub start : Exp → State
 start e = record { threads = record { tid = 0; body = e } ∷ []; names = update (λ n. unused) 0 identifier }
