@@ -8,7 +8,7 @@ use borrow.Author.Tests.{leb-true, ltb-true}
 use Rattle.spec.specs.Reading.{on}
 use Rattle.spec.specs.Expression.{Expr, leaf, unary, binary}
 use Rattle.spec.specs.Split.{Map, Split}
-use Rattle.spec.specs.Conditions.{Env, type, post, start, row, K, own, lineOf, mapAt}
+use Rattle.spec.specs.Conditions.{Env, type, post, start, row, K, own, mapAt}
 use Rattle.spec.specs.Sites.{Site, sites, preOfPart, preOfSecond, bind, numbered, claimsAt, claims, firstFalse}
 use Rattle.spec.specs.FirstFalse.{Holds, AllHold}
 use Rattle.spec.specs.Figure5.{Derives, VAR, INT, LET, IF, WHILE, NEWT, SPAWN, JOIN, REF, WRITE, READ, NEWL, FREEL, LCK, ULCK}
@@ -69,7 +69,7 @@ module _ (S : Split) where
   -- ------------------------------------------------------------------ from conditions to a derivation
 
   holding-derives : (Γ : Env) (pre : MapNumber) (e : Expr) → AllAt (sites S Γ pre e) → Derives S Γ (mapAt S pre) e
-  unfolding AllHold Holds claimsAt numbered own lineOf preOfPart preOfSecond bind post start K
+  unfolding AllHold Holds claimsAt numbered own preOfPart preOfSecond bind post start K
   holding-derives Γ pre (leaf Var k v) h =
       let c = leaf-own Γ pre Var k v h in
       VAR (agree-same S _ _ .0 (c .0)) (none-equal (c .1 .0))
@@ -138,7 +138,7 @@ module _ (S : Split) where
   binary-all Γ pre w k v e₁ e₂ c h₁ h₂ = parts-step _ _ c (parts-both (sites S Γ pre e₁) _ h₁ h₂)
 
   derived-holds : {Γ : Env} {Ψ : Map} {e : Expr} → Derives S Γ Ψ e → (pre : MapNumber) → mapAt S pre ≡ Ψ → AllAt (sites S Γ pre e)
-  unfolding AllHold Holds claimsAt numbered own lineOf preOfPart preOfSecond bind post start K
+  unfolding AllHold Holds claimsAt numbered own preOfPart preOfSecond bind post start K
   derived-holds {Γ} (VAR {k = k} {v = v} t p) pre q =
       leaf-all Γ pre Var k v (agree-same S _ _ .1 t, (equal-none (p ∙ sym q), tt))
   derived-holds {Γ} (INT {k = k} {v = v} t p) pre q =

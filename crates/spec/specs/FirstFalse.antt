@@ -59,8 +59,8 @@ InOrder (c ∷ cs) = EarlierThanAll c cs × InOrder cs
 
 -- ------------------------------------------------------------------ a pair of sheets
 
--- what a refusal 31 to 33 says of a pair: both sheets are well formed, the start holds at most one of each location, and r
--- names the first false condition by step line, then by number
+-- what a refusal 31 to 33 says of a pair: both sheets are well formed, the start holds at most one of each location, the
+-- conditions stand by step line and then by number, and r names the first that is false
 pub record Refuted (programText splitText : List ℕ) (r : Refusal) : Type 0 where
   pub P : Program
   pub S : Split
