@@ -72,7 +72,7 @@ module _ {D : ℕ} {s : State} (I : WellTyped D s) (i : ℕ) (t : Thread) (there
           let h₃ = bind-is-none (if-equal (u .tid) n) _ (equal-is-told (u .tid) n same) h₂ in
           some-is-not-none (bind-is-none (value-of (next (u .body))) _ (ap (λ e. value-of (next e)) ended) h₃)
 
-  not-open : (n : ℕ) (after : LockState) → taken s (listed i 0 0) t (name n) after ≡ none → s .names n ≢ a-lock opened
+  not-open : (n : ℕ) (after : Slot) → taken s (listed i 0 0) t (name n) after ≡ none → s .names n ≢ a-lock opened
   not-open n after h e = some-is-not-none (bind-is-none (lock-state (s .names n)) _ (ap lock-state e) h)
 
   unary-halts : {σ τ : Ty} {Ψ Φ : Cap} {v : Value} (o : Unary) → next (t .body) ≡ at-word (unary-redex o v) → ValueTyped (I .N) v σ → UnaryTyped D o σ Ψ τ Φ → Waits s t
@@ -81,8 +81,8 @@ module _ {D : ℕ} {s : State} (I : WellTyped D s) (i : ℕ) (t : Thread) (there
   unary-halts read b (name-typed {n = n} k fits-refl) (read-typed g h) =
       let (w, e) = ref-is-cell (I .slots n) k in
       some-is-not-none (bind-is-none (content (s .names n)) _ (ap content e) (no-reduct b 0 0))
-  unary-halts freelock b (name-typed {n = n} k fits-refl) (freelock-typed g) = at-freelock n b (lock-is-lock (I .slots n) k) (not-open n removed (no-reduct b 0 0))
-  unary-halts lock b (name-typed {n = n} k fits-refl) (lock-typed g) = at-lock n b (lock-is-lock (I .slots n) k) (not-open n closed (no-reduct b 0 0))
+  unary-halts freelock b (name-typed {n = n} k fits-refl) (freelock-typed g) = at-freelock n b (lock-is-lock (I .slots n) k) (not-open n (a-lock removed) (no-reduct b 0 0))
+  unary-halts lock b (name-typed {n = n} k fits-refl) (lock-typed g) = at-lock n b (lock-is-lock (I .slots n) k) (not-open n (a-lock closed) (no-reduct b 0 0))
   unary-halts unlock b (name-typed {n = n} k fits-refl) (unlock-typed g) =
       let (l, e) = lock-has-state (lock-is-lock (I .slots n) k) in
       some-is-not-none (bind-is-none (lock-state (s .names n)) _ e (no-reduct b 0 0))

@@ -39,12 +39,12 @@ module _ (s : State) (m : Move) (t : Thread) where
   told : {a b : State} → OneChanged (s .names) (a .names) → some a ≡ some b → OneChanged (s .names) (b .names)
   told h q = along (λ (z : State). OneChanged (s .names) (z .names)) (some-injective q) h
 
-  taken-changes-one : (v : Value) (after : LockState) (s′ : State) → taken s m t v after ≡ some s′ → OneChanged (s .names) (s′ .names)
-  taken-changes-one v after s′ q =
+  taken-changes-one : (v : Value) (after : Slot) (s′ : State) → after ≢ unused → taken s m t v after ≡ some s′ → OneChanged (s .names) (s′ .names)
+  taken-changes-one v after s′ used q =
       let (n, _, q₁) = bind-is-some (name-of v) q in
       let (l, _, q₂) = bind-is-some (lock-state (s .names n)) q₁ in
       let (_, _, q₃) = bind-is-some (if-opened l) q₂ in
-      told (one-changed n (a-lock after) lock-is-used) q₃
+      told (one-changed n after used) q₃
 
   unary-changes-one : (o : Unary) (v : Value) (s′ : State) → unary-reduct s m t o v ≡ some s′ → OneChanged (s .names) (s′ .names)
   unary-changes-one join v s′ q =
@@ -61,8 +61,8 @@ module _ (s : State) (m : Move) (t : Thread) where
       let (n, _, q₁) = bind-is-some (name-of v) q in
       let (_, _, q₂) = bind-is-some (content (s .names n)) q₁ in
       told none-changed q₂
-  unary-changes-one freelock v s′ q = taken-changes-one v removed s′ q
-  unary-changes-one lock v s′ q = taken-changes-one v closed s′ q
+  unary-changes-one freelock v s′ q = taken-changes-one v (a-lock removed) s′ lock-is-used q
+  unary-changes-one lock v s′ q = taken-changes-one v (a-lock closed) s′ lock-is-used q
   unary-changes-one unlock v s′ q =
       let (n, _, q₁) = bind-is-some (name-of v) q in
       let (_, _, q₂) = bind-is-some (lock-state (s .names n)) q₁ in

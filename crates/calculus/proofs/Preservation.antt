@@ -7,7 +7,7 @@ use mathlib.Core.Option.{Option, none, some}
 use native.Mathlib.Omega.{arith}
 use lib.ListN.{getElem?, set}
 use Rattle.calculus.specs.Expression.{Value, int, name, Unary, join, ref, read, freelock, lock, unlock, Maker, newtid, newlock, Exp, value, let-in, if, while, Redex, let-redex, if-redex, while-redex, spawn-redex, write-redex, unary-redex, make-redex, is-value, at-word, next, substitute}
-use Rattle.calculus.specs.State.{LockState, opened, closed, removed, Slot, unused, identifier, cell, a-lock, Thread, State, Part, first, second, Move}
+use Rattle.calculus.specs.State.{opened, closed, removed, Slot, unused, identifier, cell, a-lock, Thread, State, Part, first, second, Move}
 use Rattle.calculus.specs.Reduction.{if-unused, if-identifier, content, lock-state, if-opened, if-equal, value-of, word-of, zero-exp, nowhere, part-listed, taken, unary-reduct, reduct, reduce}
 use Rattle.calculus.specs.Claim.{ThreadAt}
 use Rattle.calculus.specs.Capability.{Cap, _≥ᶜ_}
@@ -72,23 +72,23 @@ module _ {D : ℕ} {s : State} (I : WellTyped D s) (m : Move) (t : Thread) (h : 
       same-state-keeps (thread-alone-keeps M (value w) (value-typed (cell-content-typed (rw (content-tells (s .names n) e, k) at (I .slots n))) g)) (some-injective q₁)
 
   -- Out of an open lock the thread takes what it keeps; closed or removed it keeps nothing.
-  taken-keeps : {Φ K : Cap} {n : ℕ} {s′ : State} (after : LockState) → ((ρ : ℕ) → keeps (a-lock after) K ρ ≡ 0) →
+  taken-keeps : {Φ K : Cap} {n : ℕ} {s′ : State} (after : Slot) → SlotTyped (I .N) after (some (lock-type K)) → ((ρ : ℕ) → keeps after K ρ ≡ 0) →
       (M : Place D s I m t h int-type Φ) → I .N n ≡ some (lock-type K) → Gains Φ (h .own) K → taken s m t (name n) after ≡ some s′ → WellTyped D s′
-  taken-keeps {K} {n} after spent M k g q =
+  taken-keeps {K} {n} after ok spent M k g q =
       let (l, e, q₁) = bind-is-some (lock-state (s .names n)) q in
       let (_, o, q₂) = bind-is-some (if-opened l) q₁ in
       let was-open : s .names n ≡ a-lock opened = lock-state-tells (s .names n) e ∙ ap a-lock (opened-tells l o) in
       same-state-keeps
-      (slot-change-keeps M n (a-lock after) (lock-type K) (h .own +ᶜ K) zero-exp k slot-lock (value-typed int-typed (record { at = λ ρ. omega (arith, g .at ρ) }))
+      (slot-change-keeps M n after (lock-type K) (h .own +ᶜ K) zero-exp k ok (value-typed int-typed (record { at = λ ρ. omega (arith, g .at ρ) }))
       (λ ρ. omega (arith, spent ρ, ap (λ z. keeps z K ρ) was-open))) (some-injective q₂)
 
   freelock-keeps : {Φ K : Cap} {n : ℕ} {s′ : State} (M : Place D s I m t h int-type Φ) → I .N n ≡ some (lock-type K) → Gains Φ (h .own) K →
       unary-reduct s m t freelock (name n) ≡ some s′ → WellTyped D s′
-  freelock-keeps = taken-keeps removed (λ ρ. refl)
+  freelock-keeps = taken-keeps (a-lock removed) slot-lock (λ ρ. refl)
 
   lock-keeps : {Φ K : Cap} {n : ℕ} {s′ : State} (M : Place D s I m t h int-type Φ) → I .N n ≡ some (lock-type K) → Gains Φ (h .own) K →
       unary-reduct s m t lock (name n) ≡ some s′ → WellTyped D s′
-  lock-keeps = taken-keeps closed (λ ρ. refl)
+  lock-keeps = taken-keeps (a-lock closed) slot-lock (λ ρ. refl)
 
   -- Whatever the lock kept, the thread pays what it keeps from now on.
   unlock-keeps : {Φ K : Cap} {n : ℕ} {s′ : State} (M : Place D s I m t h int-type Φ) → I .N n ≡ some (lock-type K) → Pays Φ (h .own) K →

@@ -92,13 +92,13 @@ with-thread t s = record { threads = s .threads ++ (t ∷ []); names = s .names 
 abbrev pub without-thread : ℕ → State → State
 without-thread j s = record { threads = remove (s .threads) j; names = s .names }
 
--- `lock` and `freelock` wait unless the lock is open, and leave it closed or removed.
-abbrev pub taken : State → Move → Thread → Value → LockState → Option State
+-- `lock` and `freelock` wait unless the lock is open; what its slot is afterwards is told.
+abbrev pub taken : State → Move → Thread → Value → Slot → Option State
 taken s m t v after = do
   n ← name-of v
   l ← lock-state (s .names n)
   if-opened l
-  some (becomes s m t (update (s .names) n (a-lock after)) zero-exp)
+  some (becomes s m t (update (s .names) n after) zero-exp)
 
 -- The words with one part, on its value. `unlock` asks for a lock and no more: it goes ahead on a closed, an open or a removed
 -- one. `join` is of a finished thread, and the thread that joins has not finished, so it stays.
@@ -117,8 +117,8 @@ unary-reduct s m t read v = do
   n ← name-of v
   w ← content (s .names n)
   some (becomes s m t (s .names) (value w))
-unary-reduct s m t freelock v = taken s m t v removed
-unary-reduct s m t lock v = taken s m t v closed
+unary-reduct s m t freelock v = taken s m t v (a-lock removed)
+unary-reduct s m t lock v = taken s m t v (a-lock closed)
 unary-reduct s m t unlock v = do
   n ← name-of v
   lock-state (s .names n)
