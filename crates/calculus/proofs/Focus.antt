@@ -1,7 +1,7 @@
 -- The next word of a typed expression is typed, and what is typed as it is may take its place.
 use Prim.Native.Nat.{ℕ, _≤_}
 use mathlib.Core.Path.{_≡_, refl, sym, ap, _∙_}
-use mathlib.Core.Option.{none, some}
+use mathlib.Core.Option.{none}
 use native.Mathlib.Nat.{le-trans}
 use Rattle.calculus.specs.Expression.{Value, Unary, Maker, Exp, value, let-in, if, while, spawn, write, unary, make, Redex, let-redex, if-redex, while-redex, spawn-redex, write-redex, unary-redex, make-redex, Next, is-value, at-variable, at-word, next, if-value, plug}
 use Rattle.calculus.specs.Capability.{Cap, _≥ᶜ_}
@@ -61,12 +61,14 @@ focus-weakens : {D : ℕ} {N Γ : Env} {Ψ Ψ′ Φ : Cap} {τ : Ty} {r : Redex}
 focus-weakens a h = record { σ = h .σ; mid = h .mid; word = redex-weakens a (h .word); back = h .back }
 
 -- The expression is the word itself.
-whole : {D : ℕ} {N Γ : Env} {Ψ Φ : Cap} {τ : Ty} {r s : Redex} (e : Exp) → RedexTyped D N Γ Ψ Φ s τ → s ≡ r → ((e′ : Exp) → plug e e′ ≡ e′) → Focus D N Γ Ψ e τ Φ r
+whole : {D : ℕ} {N Γ : Env} {Ψ Φ : Cap} {τ : Ty} {r s : Redex} (e : Exp) → RedexTyped D N Γ Ψ Φ s τ → s ≡ r →
+    ((e′ : Exp) → plug e e′ ≡ e′) → Focus D N Γ Ψ e τ Φ r
 whole {Φ} {τ} e h q place = record { σ = τ; mid = Φ; word = rw q at h; back = λ N′ Ψ′ e′ s k. rw (place e′) k }
 
 -- The expression is c around its part d, which has the word.
 inside : {D : ℕ} {N Γ : Env} {Ψ Ψ₁ Φ : Cap} {σ τ : Ty} {r : Redex} (e d : Exp) (c : Exp → Exp) → Focus D N Γ Ψ d σ Ψ₁ r →
-    ((N′ : Env) (Ψ′ : Cap) (e′ : Exp) → N ⊆ N′ → Typed D N′ Γ Ψ′ e′ σ Ψ₁ → Typed D N′ Γ Ψ′ (c e′) τ Φ) → ((e′ : Exp) → plug e e′ ≡ c (plug d e′)) → Focus D N Γ Ψ e τ Φ r
+    ((N′ : Env) (Ψ′ : Cap) (e′ : Exp) → N ⊆ N′ → Typed D N′ Γ Ψ′ e′ σ Ψ₁ → Typed D N′ Γ Ψ′ (c e′) τ Φ) →
+    ((e′ : Exp) → plug e e′ ≡ c (plug d e′)) → Focus D N Γ Ψ e τ Φ r
 inside e d c h around place = record {
   σ = h .σ;
   mid = h .mid;
@@ -78,7 +80,8 @@ inside e d c h around place = record {
 
 -- By induction on the typing. Where a word wants a part to be a value there are two cases: the part is one, and the expression
 -- is the word itself, or the word is the part's and the rest of the expression stands around it.
-pub focus : {D : ℕ} {N Γ : Env} {Ψ Φ : Cap} {e : Exp} {τ : Ty} {r : Redex} → Typed D N Γ Ψ e τ Φ → next e ≡ at-word r → Focus D N Γ Ψ e τ Φ r
+pub focus : {D : ℕ} {N Γ : Env} {Ψ Φ : Cap} {e : Exp} {τ : Ty} {r : Redex} → Typed D N Γ Ψ e τ Φ → next e ≡ at-word r →
+    Focus D N Γ Ψ e τ Φ r
 focus (value-typed t h) q = word-is-no-value q refl
 focus (var-typed t f h) q = variable-is-no-word refl q
 focus (let-typed {x = x} {e₁ = e₁} {e₂ = e₂} a b) q =
@@ -117,7 +120,8 @@ focus (unary-typed {o = o} {e = e} a b) q =
 focus (make-typed {o = o} b) q = whole (make o) (make-redex-typed b) (word-injective q) (λ e′. refl)
 
 -- A typed expression with no free variable does not come to one.
-pub closed-has-no-variable : {D : ℕ} {N Γ : Env} {Ψ Φ : Cap} {e : Exp} {τ : Ty} {x : ℕ} → ((y : ℕ) → Γ y ≡ none) → Typed D N Γ Ψ e τ Φ → next e ≡ at-variable x → ⊥
+pub closed-has-no-variable : {D : ℕ} {N Γ : Env} {Ψ Φ : Cap} {e : Exp} {τ : Ty} {x : ℕ} → ((y : ℕ) → Γ y ≡ none) →
+    Typed D N Γ Ψ e τ Φ → next e ≡ at-variable x → ⊥
 closed-has-no-variable c (value-typed t h) q = variable-is-no-value q refl
 closed-has-no-variable c (var-typed {x = y} t f h) q = none-is-not-some (sym (c y) ∙ t)
 closed-has-no-variable c (let-typed {e₁ = e₁} a b) q =

@@ -1,13 +1,13 @@
 -- A thread that halts in a well-typed state has finished, or waits: progress.
 use Prim.Native.Nat.{ℕ}
-use mathlib.Core.Path.{_≡_, refl, sym, ap, _∙_}
+use mathlib.Core.Path.{_≡_, refl, ap}
 use mathlib.Core.Logic.{_≢_, _⊎_, inl, inr}
 use mathlib.Core.Option.{Option, none, some}
 use native.Mathlib.Omega.{arith}
 use lib.ListN.{getElem?}
-use Rattle.calculus.specs.Expression.{Value, name, Unary, join, ref, read, freelock, lock, unlock, value, Redex, unary-redex, Next, is-value, at-variable, at-word, next}
-use Rattle.calculus.specs.State.{LockState, opened, closed, removed, Slot, unused, identifier, cell, a-lock, Thread, State, Part, first, Move}
-use Rattle.calculus.specs.Reduction.{if-unused, if-identifier, content, lock-state, if-opened, if-equal, value-of, word-of, taken, reduct, reduce}
+use Rattle.calculus.specs.Expression.{Value, name, Unary, join, ref, read, freelock, lock, unlock, Redex, unary-redex, Next, is-value, at-variable, at-word, next}
+use Rattle.calculus.specs.State.{LockState, opened, Slot, identifier, cell, a-lock, Thread, State, first, Move}
+use Rattle.calculus.specs.Reduction.{if-unused, if-identifier, content, lock-state, if-equal, value-of, word-of, taken, reduct, reduce}
 use Rattle.calculus.specs.Claim.{ThreadAt, Finished, finished, IsLock, is-lock, Waits, at-join, at-lock, at-freelock, Halts, HaltsWell}
 use Rattle.calculus.specs.Capability.{Cap}
 use Rattle.calculus.specs.Figure5.{Ty, ref-type, lock-type, tid-type, Env, empty}
@@ -30,7 +30,8 @@ lock-is-lock slot-lock h = is-lock
 lock-has-state : {sl : Slot} → IsLock sl → (l : LockState) × (lock-state sl ≡ some l)
 lock-has-state (is-lock {l = l}) = (l, refl)
 
-ref-is-cell : {N : Env} {ρ : ℕ} {τ : Ty} {sl : Slot} {o : Option Ty} → SlotTyped N sl o → o ≡ some (ref-type ρ τ) → (v : Value) × (sl ≡ cell v)
+ref-is-cell : {N : Env} {ρ : ℕ} {τ : Ty} {sl : Slot} {o : Option Ty} → SlotTyped N sl o → o ≡ some (ref-type ρ τ) →
+    (v : Value) × (sl ≡ cell v)
 ref-is-cell slot-unused h = none-is-not-some h
 ref-is-cell slot-identifier h = let w : _≡_ {A = ℕ} 0 1 = cc in absurd (omega (arith, w))
 ref-is-cell (slot-cell {v = v} t) h = (v, refl)
@@ -75,14 +76,15 @@ module _ {D : ℕ} {s : State} (I : WellTyped D s) (i : ℕ) (t : Thread) (there
   not-open : (n : ℕ) (after : Slot) → taken s (listed i 0 0) t (name n) after ≡ none → s .names n ≢ a-lock opened
   not-open n after h e = some-is-not-none (bind-is-none (lock-state (s .names n)) _ (ap lock-state e) h)
 
-  unary-halts : {σ τ : Ty} {Ψ Φ : Cap} {v : Value} (o : Unary) → next (t .body) ≡ at-word (unary-redex o v) → ValueTyped (I .N) v σ → UnaryTyped D o σ Ψ τ Φ → Waits s t
+  unary-halts : {σ τ : Ty} {Ψ Φ : Cap} {v : Value} (o : Unary) → next (t .body) ≡ at-word (unary-redex o v) →
+      ValueTyped (I .N) v σ → UnaryTyped D o σ Ψ τ Φ → Waits s t
   unary-halts join b (name-typed k fits-refl) (join-typed g) = join-waits b k
   unary-halts ref b k (ref-typed g) = some-is-not-none (bind-is-none (if-unused (s .names (I .top))) _ top-is-unused (no-reduct b 0 (I .top)))
   unary-halts read b (name-typed {n = n} k fits-refl) (read-typed g h) =
       let (w, e) = ref-is-cell (I .slots n) k in
       some-is-not-none (bind-is-none (content (s .names n)) _ (ap content e) (no-reduct b 0 0))
-  unary-halts freelock b (name-typed {n = n} k fits-refl) (freelock-typed g) = at-freelock n b (lock-is-lock (I .slots n) k) (not-open n (a-lock removed) (no-reduct b 0 0))
-  unary-halts lock b (name-typed {n = n} k fits-refl) (lock-typed g) = at-lock n b (lock-is-lock (I .slots n) k) (not-open n (a-lock closed) (no-reduct b 0 0))
+  unary-halts freelock b (name-typed {n = n} k fits-refl) (freelock-typed g) = at-freelock n b (lock-is-lock (I .slots n) k) (not-open n _ (no-reduct b 0 0))
+  unary-halts lock b (name-typed {n = n} k fits-refl) (lock-typed g) = at-lock n b (lock-is-lock (I .slots n) k) (not-open n _ (no-reduct b 0 0))
   unary-halts unlock b (name-typed {n = n} k fits-refl) (unlock-typed g) =
       let (l, e) = lock-has-state (lock-is-lock (I .slots n) k) in
       some-is-not-none (bind-is-none (lock-state (s .names n)) _ e (no-reduct b 0 0))

@@ -20,7 +20,8 @@ use Rattle.calculus.proofs.Invariant.{SlotTyped, slot-unused, load, kee
 -- The place of the next word of t, the thread that moves: whatever has the word's type σ and leaves what it leaves, Φ, may stand there.
 pub record Place (D : ℕ) (s : State) (I : WellTyped D s) (m : Move) (t : Thread) (h : Member D (I .N) (s .threads) (I .held) (m .thread) t)
     (σ : Ty) (Φ : Cap) : Type 0 where
-  pub back : (N′ : Env) (Ψ′ : Cap) (e′ : Exp) → I .N ⊆ N′ → Typed D N′ empty Ψ′ e′ σ Φ → Typed D N′ empty Ψ′ (plug (t .body) e′) (h .ok .τ) (h .ok .K)
+  pub back : (N′ : Env) (Ψ′ : Cap) (e′ : Exp) → I .N ⊆ N′ → Typed D N′ empty Ψ′ e′ σ Φ →
+      Typed D N′ empty Ψ′ (plug (t .body) e′) (h .ok .τ) (h .ok .K)
 
 -- The new name n is known beside the others.
 pub fresh-grows : (N : Env) (n : ℕ) (τ : Ty) → N n ≡ none → N ⊆ bind N n τ

@@ -1,6 +1,6 @@
 -- Names in any run, of any program: a used name stays used, and names never run out.
 use Prim.Native.Nat.{ℕ, suc, _≤_, max}
-use mathlib.Core.Path.{_≡_, refl, _∙_}
+use mathlib.Core.Path.{_≡_, refl}
 use mathlib.Core.Path.{subst as along}
 use mathlib.Core.Logic.{_≢_}
 use mathlib.Core.Option.{Option, none, some}
@@ -9,7 +9,7 @@ use native.Mathlib.Decide.{ℕ-discrete}
 use native.Mathlib.Omega.{arith}
 use lib.ListN.{getElem?}
 use Rattle.calculus.specs.Expression.{Value, Unary, join, ref, read, freelock, lock, unlock, Maker, newtid, newlock, Exp, Redex, let-redex, if-redex, while-redex, spawn-redex, write-redex, unary-redex, make-redex, next, choose}
-use Rattle.calculus.specs.State.{LockState, opened, closed, removed, Slot, unused, identifier, cell, a-lock, Thread, State, Move, update}
+use Rattle.calculus.specs.State.{LockState, opened, Slot, unused, identifier, cell, a-lock, Thread, State, Move, update}
 use Rattle.calculus.specs.Reduction.{name-of, if-unused, if-identifier, content, lock-state, if-opened, if-equal, value-of, word-of, made, taken, unary-reduct, reduct, reduce, or-else, attempt, states, start}
 use Rattle.calculus.specs.Claim.{Every}
 use Rattle.calculus.proofs.Maps.{some-injective, bind-is-some, update-other, update-above}
@@ -39,7 +39,8 @@ module _ (s : State) (m : Move) (t : Thread) where
   told : {a b : State} → OneChanged (s .names) (a .names) → some a ≡ some b → OneChanged (s .names) (b .names)
   told h q = along (λ (z : State). OneChanged (s .names) (z .names)) (some-injective q) h
 
-  taken-changes-one : (v : Value) (after : Slot) (s′ : State) → after ≢ unused → taken s m t v after ≡ some s′ → OneChanged (s .names) (s′ .names)
+  taken-changes-one : (v : Value) (after : Slot) (s′ : State) → after ≢ unused → taken s m t v after ≡ some s′ →
+      OneChanged (s .names) (s′ .names)
   taken-changes-one v after s′ used q =
       let (n, _, q₁) = bind-is-some (name-of v) q in
       let (l, _, q₂) = bind-is-some (lock-state (s .names n)) q₁ in
@@ -61,8 +62,8 @@ module _ (s : State) (m : Move) (t : Thread) where
       let (n, _, q₁) = bind-is-some (name-of v) q in
       let (_, _, q₂) = bind-is-some (content (s .names n)) q₁ in
       told none-changed q₂
-  unary-changes-one freelock v s′ q = taken-changes-one v (a-lock removed) s′ lock-is-used q
-  unary-changes-one lock v s′ q = taken-changes-one v (a-lock closed) s′ lock-is-used q
+  unary-changes-one freelock v s′ q = taken-changes-one v _ s′ lock-is-used q
+  unary-changes-one lock v s′ q = taken-changes-one v _ s′ lock-is-used q
   unary-changes-one unlock v s′ q =
       let (n, _, q₁) = bind-is-some (name-of v) q in
       let (_, _, q₂) = bind-is-some (lock-state (s .names n)) q₁ in

@@ -1,5 +1,5 @@
 -- The threads of a state and what they hold together.
-use Prim.Native.Nat.{ℕ, zero, suc, _≤_}
+use Prim.Native.Nat.{ℕ, zero, suc}
 use mathlib.Core.Path.{_≡_, refl, ap}
 use mathlib.Core.Logic.{_≢_}
 use mathlib.Core.Option.{some}
@@ -58,7 +58,8 @@ pub record Member (D : ℕ) (N : Env) (ts : List Thread) (Ω : Cap) (i : ℕ) (t
   pub replaced : (N′ : Env) (t′ : Thread) (Ψ′ Ω′ : Cap) → N ⊆ N′ → ThreadTyped D N′ t′ Ψ′ → Pays Ψ′ Ω′ rest → Pool D N′ (set ts i t′) Ω′
   pub taken-out : Pool D N (remove ts i) rest
 
-pub member : {D : ℕ} {N : Env} {ts : List Thread} {Ω : Cap} {t : Thread} (i : ℕ) → Pool D N ts Ω → getElem? ts i ≡ some t → Member D N ts Ω i t
+pub member : {D : ℕ} {N : Env} {ts : List Thread} {Ω : Cap} {t : Thread} (i : ℕ) → Pool D N ts Ω → getElem? ts i ≡ some t →
+    Member D N ts Ω i t
 member i pool-nil h = none-is-not-some h
 member zero (pool-cons {Ψ = Ψ} {Φ = Φ} t ts l) h = record {
   own = Ψ;

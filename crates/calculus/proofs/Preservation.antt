@@ -3,11 +3,11 @@ use Prim.Native.Nat.{ℕ}
 use mathlib.Core.Path.{_≡_, refl, sym, ap, _∙_}
 use mathlib.Core.Path.{subst as along}
 use mathlib.Core.Logic.{_≢_}
-use mathlib.Core.Option.{Option, none, some}
+use mathlib.Core.Option.{Option, some}
 use native.Mathlib.Omega.{arith}
-use lib.ListN.{getElem?, set}
-use Rattle.calculus.specs.Expression.{Value, int, name, Unary, join, ref, read, freelock, lock, unlock, Maker, newtid, newlock, Exp, value, let-in, if, while, Redex, let-redex, if-redex, while-redex, spawn-redex, write-redex, unary-redex, make-redex, is-value, at-word, next, substitute}
-use Rattle.calculus.specs.State.{opened, closed, removed, Slot, unused, identifier, cell, a-lock, Thread, State, Part, first, second, Move}
+use lib.ListN.{getElem?}
+use Rattle.calculus.specs.Expression.{Value, name, Unary, join, ref, read, freelock, lock, unlock, newtid, newlock, Exp, value, let-in, if, while, Redex, let-redex, if-redex, while-redex, spawn-redex, write-redex, unary-redex, make-redex, is-value, at-word, next, substitute}
+use Rattle.calculus.specs.State.{opened, Slot, unused, identifier, cell, a-lock, Thread, State, Part, first, second, Move}
 use Rattle.calculus.specs.Reduction.{if-unused, if-identifier, content, lock-state, if-opened, if-equal, value-of, word-of, zero-exp, nowhere, part-listed, taken, unary-reduct, reduct, reduce}
 use Rattle.calculus.specs.Claim.{ThreadAt}
 use Rattle.calculus.specs.Capability.{Cap, _≥ᶜ_}
@@ -16,7 +16,7 @@ use Rattle.calculus.proofs.Maps.{some-injective, none-is-not-some, bind
 use Rattle.calculus.proofs.Order.{_+ᶜ_, Gains, Pays, ≥-trans, ≥-refl}
 use Rattle.calculus.proofs.NextWord.{word-is-no-value}
 use Rattle.calculus.proofs.Questions.{unused-tells, content-tells, lock-state-tells, opened-tells, equal-tells, value-tells, word-tells}
-use Rattle.calculus.proofs.Typing.{fits-refl, ValueTyped, int-typed, name-typed, UnaryTyped, join-typed, ref-typed, read-typed, freelock-typed, lock-typed, unlock-typed, MakerTyped, newtid-typed, newlock-typed, Typed, value-typed, let-typed, if-typed, while-typed, typing-weakens}
+use Rattle.calculus.proofs.Typing.{fits-refl, ValueTyped, int-typed, name-typed, UnaryTyped, join-typed, ref-typed, read-typed, freelock-typed, lock-typed, unlock-typed, newtid-typed, newlock-typed, Typed, value-typed, let-typed, if-typed, while-typed, typing-weakens}
 use Rattle.calculus.proofs.Substitution.{⊆-refl, value-grows, typing-grows, bind-extends-empty, substitution-keeps}
 use Rattle.calculus.proofs.Focus.{RedexTyped, let-redex-typed, if-redex-typed, while-redex-typed, spawn-redex-typed, write-redex-typed, unary-redex-typed, make-redex-typed, focus, typed-is-value}
 use Rattle.calculus.proofs.Pool.{ThreadTyped, pool-weakens, pool-with-last, Member, member, set-elsewhere}
@@ -33,7 +33,8 @@ tid-type-injective : {J K : Cap} {o : Option Ty} → o ≡ some (tid-type J) →
 tid-type-injective h k = cc
 
 -- A finished thread holds what its identifier lends to the thread that joins it.
-finished-holds : {D : ℕ} {N : Env} {u : Thread} {Ψ K : Cap} {v : Value} → ThreadTyped D N u Ψ → next (u .body) ≡ is-value v → N (u .tid) ≡ some (tid-type K) → Ψ ≥ᶜ K
+finished-holds : {D : ℕ} {N : Env} {u : Thread} {Ψ K : Cap} {v : Value} → ThreadTyped D N u Ψ → next (u .body) ≡ is-value v →
+    N (u .tid) ≡ some (tid-type K) → Ψ ≥ᶜ K
 finished-holds h q e = let (_, _, g) = typed-is-value (h .typed) q in rw (tid-type-injective (h .known) e) at g
 
 -- In each lemma below the thread t moves by m, M is the place of its next word, the lemma's, and q says that the move is a reduction.
@@ -41,7 +42,8 @@ module _ {D : ℕ} {s : State} (I : WellTyped D s) (m : Move) (t : Thread) (h : 
   -- ---- The words with one part
 
   -- The thread gains what the finished thread holds; the two are different, for one has finished and the other has not.
-  join-keeps : {Φ K : Cap} {n : ℕ} {s′ : State} (M : Place D s I m t h int-type Φ) → ThreadAt s (m .thread) t → next (t .body) ≡ at-word (unary-redex join (name n)) →
+  join-keeps : {Φ K : Cap} {n : ℕ} {s′ : State} (M : Place D s I m t h int-type Φ) → ThreadAt s (m .thread) t →
+      next (t .body) ≡ at-word (unary-redex join (name n)) →
       I .N n ≡ some (tid-type K) → Gains Φ (h .own) K → unary-reduct s m t join (name n) ≡ some s′ → WellTyped D s′
   join-keeps {K} {n} M a b k g q =
       let (_, _, q₁) = bind-is-some (if-identifier (s .names n)) q in
@@ -57,7 +59,8 @@ module _ {D : ℕ} {s : State} (I : WellTyped D s) (m : Move) (t : Thread) (h : 
       (threads-change-keeps I (pool-weakens {Ω = j .rest} (record { at = λ ρ. omega (arith, gives .at ρ, j .split .at ρ, h .split .at ρ) }) (j .taken-out)))
       (some-injective q₄)
 
-  ref-keeps : {Φ : Cap} {ρ : ℕ} {τ : Ty} {v : Value} {s′ : State} (M : Place D s I m t h (ref-type ρ τ) Φ) → ValueTyped (I .N) v τ → h .own ≥ᶜ Φ →
+  ref-keeps : {Φ : Cap} {ρ : ℕ} {τ : Ty} {v : Value} {s′ : State} (M : Place D s I m t h (ref-type ρ τ) Φ) → ValueTyped (I .N) v τ →
+      h .own ≥ᶜ Φ →
       unary-reduct s m t ref v ≡ some s′ → WellTyped D s′
   ref-keeps {ρ} {τ} {v} M k g q =
       let (_, e, q₁) = bind-is-some (if-unused (s .names (m .fresh))) q in
@@ -72,8 +75,10 @@ module _ {D : ℕ} {s : State} (I : WellTyped D s) (m : Move) (t : Thread) (h : 
       same-state-keeps (thread-alone-keeps M (value w) (value-typed (cell-content-typed (rw (content-tells (s .names n) e, k) at (I .slots n))) g)) (some-injective q₁)
 
   -- Out of an open lock the thread takes what it keeps; closed or removed it keeps nothing.
-  taken-keeps : {Φ K : Cap} {n : ℕ} {s′ : State} (after : Slot) → SlotTyped (I .N) after (some (lock-type K)) → ((ρ : ℕ) → keeps after K ρ ≡ 0) →
-      (M : Place D s I m t h int-type Φ) → I .N n ≡ some (lock-type K) → Gains Φ (h .own) K → taken s m t (name n) after ≡ some s′ → WellTyped D s′
+  taken-keeps : {Φ K : Cap} {n : ℕ} {s′ : State} (after : Slot) → SlotTyped (I .N) after (some (lock-type K)) →
+      ((ρ : ℕ) → keeps after K ρ ≡ 0) →
+      (M : Place D s I m t h int-type Φ) → I .N n ≡ some (lock-type K) → Gains Φ (h .own) K → taken s m t (name n) after ≡ some s′ →
+      WellTyped D s′
   taken-keeps {K} {n} after ok spent M k g q =
       let (l, e, q₁) = bind-is-some (lock-state (s .names n)) q in
       let (_, o, q₂) = bind-is-some (if-opened l) q₁ in
@@ -84,11 +89,11 @@ module _ {D : ℕ} {s : State} (I : WellTyped D s) (m : Move) (t : Thread) (h : 
 
   freelock-keeps : {Φ K : Cap} {n : ℕ} {s′ : State} (M : Place D s I m t h int-type Φ) → I .N n ≡ some (lock-type K) → Gains Φ (h .own) K →
       unary-reduct s m t freelock (name n) ≡ some s′ → WellTyped D s′
-  freelock-keeps = taken-keeps (a-lock removed) slot-lock (λ ρ. refl)
+  freelock-keeps = taken-keeps _ slot-lock (λ ρ. refl)
 
   lock-keeps : {Φ K : Cap} {n : ℕ} {s′ : State} (M : Place D s I m t h int-type Φ) → I .N n ≡ some (lock-type K) → Gains Φ (h .own) K →
       unary-reduct s m t lock (name n) ≡ some s′ → WellTyped D s′
-  lock-keeps = taken-keeps (a-lock closed) slot-lock (λ ρ. refl)
+  lock-keeps = taken-keeps _ slot-lock (λ ρ. refl)
 
   -- Whatever the lock kept, the thread pays what it keeps from now on.
   unlock-keeps : {Φ K : Cap} {n : ℕ} {s′ : State} (M : Place D s I m t h int-type Φ) → I .N n ≡ some (lock-type K) → Pays Φ (h .own) K →
@@ -98,7 +103,8 @@ module _ {D : ℕ} {s : State} (I : WellTyped D s) (m : Move) (t : Thread) (h : 
       same-state-keeps
       (slot-change-keeps M n (a-lock opened) (lock-type K) Φ zero-exp k slot-lock (value-typed int-typed ≥-refl) (λ ρ. omega (arith, g .at ρ))) (some-injective q₁)
 
-  unary-keeps : {Φ : Cap} {σ τ : Ty} {v : Value} {s′ : State} (o : Unary) (M : Place D s I m t h τ Φ) → ThreadAt s (m .thread) t → next (t .body) ≡ at-word (unary-redex o v) →
+  unary-keeps : {Φ : Cap} {σ τ : Ty} {v : Value} {s′ : State} (o : Unary) (M : Place D s I m t h τ Φ) → ThreadAt s (m .thread) t →
+      next (t .body) ≡ at-word (unary-redex o v) →
       ValueTyped (I .N) v σ → UnaryTyped D o σ (h .own) τ Φ → unary-reduct s m t o v ≡ some s′ → WellTyped D s′
   unary-keeps join M a b (name-typed k fits-refl) (join-typed g) q = join-keeps M a b k g q
   unary-keeps ref M a b k (ref-typed g) q = ref-keeps M k g q
@@ -146,18 +152,21 @@ module _ {D : ℕ} {s : State} (I : WellTyped D s) (m : Move) (t : Thread) (h : 
       same-state-keeps
       (slot-change-keeps M n (cell w) (ref-type ρ σ) (h .own) zero-exp k (slot-cell l) (value-typed int-typed g) (λ ρ. omega arith)) (some-injective q₁)
 
-  newtid-keeps : {Φ K : Cap} {s′ : State} (M : Place D s I m t h (tid-type K) Φ) → h .own ≥ᶜ Φ → reduct s m t (make-redex newtid) ≡ some s′ → WellTyped D s′
+  newtid-keeps : {Φ K : Cap} {s′ : State} (M : Place D s I m t h (tid-type K) Φ) → h .own ≥ᶜ Φ →
+      reduct s m t (make-redex newtid) ≡ some s′ → WellTyped D s′
   newtid-keeps M g q =
       let (_, e, q₁) = bind-is-some (if-unused (s .names (m .fresh))) q in
       same-state-keeps (new-name-keeps M identifier (h .own) (unused-tells (s .names (m .fresh)) e) slot-identifier g (λ ρ. omega arith)) (some-injective q₁)
 
   -- A new lock is open, so it keeps its load, and the thread pays it.
-  newlock-keeps : {Φ K : Cap} {s′ : State} (M : Place D s I m t h (lock-type K) Φ) → Pays Φ (h .own) K → reduct s m t (make-redex newlock) ≡ some s′ → WellTyped D s′
+  newlock-keeps : {Φ K : Cap} {s′ : State} (M : Place D s I m t h (lock-type K) Φ) → Pays Φ (h .own) K →
+      reduct s m t (make-redex newlock) ≡ some s′ → WellTyped D s′
   newlock-keeps {Φ} M g q =
       let (_, e, q₁) = bind-is-some (if-unused (s .names (m .fresh))) q in
       same-state-keeps (new-name-keeps M (a-lock opened) Φ (unused-tells (s .names (m .fresh)) e) slot-lock ≥-refl (λ ρ. omega (arith, g .at ρ))) (some-injective q₁)
 
-  redex-keeps : {Φ : Cap} {σ : Ty} {s′ : State} {r : Redex} (M : Place D s I m t h σ Φ) → ThreadAt s (m .thread) t → next (t .body) ≡ at-word r →
+  redex-keeps : {Φ : Cap} {σ : Ty} {s′ : State} {r : Redex} (M : Place D s I m t h σ Φ) → ThreadAt s (m .thread) t →
+      next (t .body) ≡ at-word r →
       RedexTyped D (I .N) empty (h .own) Φ r σ → reduct s m t r ≡ some s′ → WellTyped D s′
   redex-keeps M a b (let-redex-typed {x = x} k l) q = let-keeps x M k l q
   redex-keeps M a b (if-redex-typed k l) q = if-keeps M k l q

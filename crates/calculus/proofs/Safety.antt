@@ -6,7 +6,7 @@ use mathlib.Core.List.{List, [], _∷_}
 use native.Mathlib.Decide.{ℕ-discrete}
 use native.Mathlib.Omega.{arith}
 use Rattle.calculus.specs.Expression.{Exp, choose}
-use Rattle.calculus.specs.State.{unused, identifier, Thread, State, Move, update}
+use Rattle.calculus.specs.State.{unused, identifier, State, Move, update}
 use Rattle.calculus.specs.Reduction.{reduce, or-else, attempt, states, start}
 use Rattle.calculus.specs.Claim.{Every, RaceFree, HaltsWell, Safe}
 use Rattle.calculus.specs.Capability.{Cap, nothing}
@@ -38,7 +38,8 @@ start-keeps-nothing ρ n = by-cases (ℕ-discrete n 0)
     by-cases (no e) = refl
 
 -- The one thread holds the start; its identifier lends nothing.
-pub start-is-well-typed : {D : ℕ} {Ψ Φ : Cap} {e : Exp} {τ : Ty} → ((N : Env) → Typed D N empty Ψ e τ Φ) → ((ρ : ℕ) → Ψ ρ ≤ D) → WellTyped D (start e)
+pub start-is-well-typed : {D : ℕ} {Ψ Φ : Cap} {e : Exp} {τ : Ty} → ((N : Env) → Typed D N empty Ψ e τ Φ) → ((ρ : ℕ) → Ψ ρ ≤ D) →
+    WellTyped D (start e)
 unfolding start
 start-is-well-typed {Ψ} {e} {τ} typed at-most-whole =
     let N : Env = bind empty 0 (tid-type nothing) in
@@ -65,7 +66,8 @@ attempt-preserves {D} {s} m I = by-cases (reduce s m) refl
     by-cases (some s′) e = step-preserves I m e
 
 -- What holds of every well-typed state holds of every state on the way.
-pub run-preserves : {D : ℕ} (P : State → Type 0) → ((s : State) → WellTyped D s → P s) → (ms : List Move) (s : State) → WellTyped D s → Every P (states ms s)
+pub run-preserves : {D : ℕ} (P : State → Type 0) → ((s : State) → WellTyped D s → P s) → (ms : List Move) (s : State) →
+    WellTyped D s → Every P (states ms s)
 unfolding states
 run-preserves P f [] s I = (f s I, tt)
 run-preserves P f (m ∷ ms) s I = (f s I, run-preserves P f ms (attempt s m) (attempt-preserves m I))

@@ -2,11 +2,11 @@
 use Prim.Native.Nat.{ℕ, zero, suc}
 use mathlib.Core.Path.{_≡_, refl, ap, sym, _∙_}
 use mathlib.Core.Logic.{_≢_, _⊎_, inl, inr}
-use mathlib.Core.Option.{none, some}
+use mathlib.Core.Option.{some}
 use mathlib.Core.List.{[], _∷_}
 use native.Mathlib.Decide.{ℕ-discrete}
 use native.Mathlib.Omega.{arith}
-use Rattle.calculus.specs.Expression.{Value, int, name, Unary, join, ref, read, freelock, lock, unlock, Exp, value, unary, unary-redex, Next, at-word}
+use Rattle.calculus.specs.Expression.{Value, int, name, Unary, join, ref, read, freelock, lock, unlock, Exp, value, unary, unary-redex, at-word}
 use Rattle.calculus.specs.State.{LockState, closed, removed, opened, a-lock, Thread, State, Move, update}
 use Rattle.calculus.specs.Reduction.{_>>_, lock-state, zero-exp, becomes, unary-reduct, reduce, attempt, run, start}
 use Rattle.calculus.specs.Claim.{ThreadAt, Finished, finished, is-lock, Waits, at-join, at-lock, at-freelock, Halts, HaltsWell, Safe}
