@@ -10,7 +10,7 @@ use native.Mathlib.Omega.{arith}
 use lib.ListN.{getElem?}
 use Rattle.calculus.specs.Expression.{Value, Unary, join, ref, read, freelock, lock, unlock, Maker, newtid, newlock, Exp, Redex, let-redex, if-redex, while-redex, spawn-redex, write-redex, unary-redex, make-redex, next, choose}
 use Rattle.calculus.specs.State.{LockState, opened, Slot, unused, identifier, cell, a-lock, Thread, State, Move, update}
-use Rattle.calculus.specs.Reduction.{name-of, if-unused, if-identifier, content, lock-state, if-opened, if-equal, value-of, word-of, made, taken, unary-reduct, reduct, reduce, or-else, attempt, states, start}
+use Rattle.calculus.specs.Reduction.{name-of, if-unused, if-identifier, content, lock-state, if-opened, if-equal, value-of, word-of, made, named, taken, unary-reduct, reduct, reduce, or-else, attempt, states, start}
 use Rattle.calculus.specs.Claim.{Every}
 use Rattle.calculus.proofs.Maps.{some-injective, bind-is-some, update-other, update-above}
 
@@ -39,6 +39,11 @@ module _ (s : State) (m : Move) (t : Thread) where
   told : {a b : State} → OneChanged (s .names) (a .names) → some a ≡ some b → OneChanged (s .names) (b .names)
   told h q = along (λ (z : State). OneChanged (s .names) (z .names)) (some-injective q) h
 
+  named-changes-one : (new : Slot) (s′ : State) → new ≢ unused → named s m t new ≡ some s′ → OneChanged (s .names) (s′ .names)
+  named-changes-one new s′ used q =
+      let (_, _, q₁) = bind-is-some (if-unused (s .names (m .fresh))) q in
+      told (one-changed (m .fresh) new used) q₁
+
   taken-changes-one : (v : Value) (after : Slot) (s′ : State) → after ≢ unused → taken s m t v after ≡ some s′ →
       OneChanged (s .names) (s′ .names)
   taken-changes-one v after s′ used q =
@@ -55,9 +60,7 @@ module _ (s : State) (m : Move) (t : Thread) where
       let (_, _, q₄) = bind-is-some (if-equal (u .tid) n) q₃ in
       let (_, _, q₅) = bind-is-some (value-of (next (u .body))) q₄ in
       told none-changed q₅
-  unary-changes-one ref v s′ q =
-      let (_, _, q₁) = bind-is-some (if-unused (s .names (m .fresh))) q in
-      told (one-changed (m .fresh) (cell v) cell-is-used) q₁
+  unary-changes-one ref v s′ q = named-changes-one _ s′ cell-is-used q
   unary-changes-one read v s′ q =
       let (n, _, q₁) = bind-is-some (name-of v) q in
       let (_, _, q₂) = bind-is-some (content (s .names n)) q₁ in
@@ -82,9 +85,7 @@ module _ (s : State) (m : Move) (t : Thread) where
       let (_, _, q₂) = bind-is-some (content (s .names n)) q₁ in
       told (one-changed n (cell w) cell-is-used) q₂
   reduct-changes-one (unary-redex o v) s′ q = unary-changes-one o v s′ q
-  reduct-changes-one (make-redex o) s′ q =
-      let (_, _, q₁) = bind-is-some (if-unused (s .names (m .fresh))) q in
-      told (one-changed (m .fresh) (made o) (made-is-used o)) q₁
+  reduct-changes-one (make-redex o) s′ q = named-changes-one _ s′ (made-is-used o) q
 
 pub attempt-changes-one : (s : State) (m : Move) → OneChanged (s .names) (attempt s m .names)
 unfolding attempt reduce

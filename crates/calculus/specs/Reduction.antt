@@ -92,6 +92,12 @@ with-thread t s = record { threads = s .threads ++ (t ∷ []); names = s .names 
 abbrev pub without-thread : ℕ → State → State
 without-thread j s = record { threads = remove (s .threads) j; names = s .names }
 
+-- "`ref`, `newtid` and `newlock` become the name listed, if unused"; what it names from now on is told.
+abbrev pub named : State → Move → Thread → Slot → Option State
+named s m t new = do
+  if-unused (s .names (m .fresh))
+  some (becomes s m t (update (s .names) (m .fresh) new) (value (name (m .fresh))))
+
 -- `lock` and `freelock` wait unless the lock is open; what its slot is afterwards is told.
 abbrev pub taken : State → Move → Thread → Value → Slot → Option State
 taken s m t v after = do
@@ -110,9 +116,7 @@ unary-reduct s m t join v = do
   if-equal (u .tid) n
   value-of (next (u .body))
   some (without-thread (m .finished) (becomes s m t (s .names) zero-exp))
-unary-reduct s m t ref v = do
-  if-unused (s .names (m .fresh))
-  some (becomes s m t (update (s .names) (m .fresh) (cell v)) (value (name (m .fresh))))
+unary-reduct s m t ref v = named s m t (cell v)
 unary-reduct s m t read v = do
   n ← name-of v
   w ← content (s .names n)
@@ -138,9 +142,7 @@ reduct s m t (write-redex v w) = do
   content (s .names n)
   some (becomes s m t (update (s .names) n (cell w)) zero-exp)
 reduct s m t (unary-redex o v) = unary-reduct s m t o v
-reduct s m t (make-redex o) = do
-  if-unused (s .names (m .fresh))
-  some (becomes s m t (update (s .names) (m .fresh) (made o)) (value (name (m .fresh))))
+reduct s m t (make-redex o) = named s m t (made o)
 
 -- The word that comes next, if one does: "Only the next word reduces".
 abbrev pub word-of : Next → Option Redex
