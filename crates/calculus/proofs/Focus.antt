@@ -85,19 +85,21 @@ pub focus : {D : ℕ} {N Γ : Env} {Ψ Φ : Cap} {e : Exp} {τ : Ty} {r : Redex}
 focus (value-typed t h) q = word-is-no-value q refl
 focus (var-typed t f h) q = variable-is-no-word refl q
 focus (let-typed {x = x} {e₁ = e₁} {e₂ = e₂} a b) q =
+    let place : Exp → Next → Exp = λ e′ k. if-value k e′ (let-in x (plug e₁ e′) e₂) in
     once-is-word (next e₁) _ q
     (λ v n z. let (_, t, g) = typed-is-value a n in
-    whole (let-in x e₁ e₂) (let-redex-typed t (typing-weakens b g ≥-refl)) (word-injective z) (λ e′. ap (λ k. if-value k e′ (let-in x (plug e₁ e′) e₂)) n))
+    whole (let-in x e₁ e₂) (let-redex-typed t (typing-weakens b g ≥-refl)) (word-injective z) (λ e′. ap (place e′) n))
     (λ n. inside (let-in x e₁ e₂) e₁ (λ d. let-in x d e₂) (focus a n) (λ N′ Ψ′ e′ s k. let-typed k (typing-grows s (⊆-refl _) b))
-    (λ e′. ap (λ k. if-value k e′ (let-in x (plug e₁ e′) e₂)) n))
+    (λ e′. ap (place e′) n))
 focus (if-typed {e₁ = e₁} {e₂ = e₂} a b) q = whole (if e₁ e₂) (if-redex-typed a b) (word-injective q) (λ e′. refl)
 focus (while-typed {e = e} a g h) q = whole (while e) (while-redex-typed a g h) (word-injective q) (λ e′. refl)
 focus (spawn-typed {e₁ = e₁} {e₂ = e₂} a b h) q =
+    let place : Exp → Next → Exp = λ e′ k. if-value k e′ (spawn (plug e₁ e′) e₂) in
     once-is-word (next e₁) _ q
     (λ v n z. let (_, t, g) = typed-is-value a n in
-    whole (spawn e₁ e₂) (spawn-redex-typed t b (pays-weakens h g ≥-refl)) (word-injective z) (λ e′. ap (λ k. if-value k e′ (spawn (plug e₁ e′) e₂)) n))
+    whole (spawn e₁ e₂) (spawn-redex-typed t b (pays-weakens h g ≥-refl)) (word-injective z) (λ e′. ap (place e′) n))
     (λ n. inside (spawn e₁ e₂) e₁ (λ d. spawn d e₂) (focus a n) (λ N′ Ψ′ e′ s k. spawn-typed k (typing-grows s (⊆-refl _) b) h)
-    (λ e′. ap (λ k. if-value k e′ (spawn (plug e₁ e′) e₂)) n))
+    (λ e′. ap (place e′) n))
 focus (write-typed {e₁ = e₁} {e₂ = e₂} {ρ = ρ} a b g h) q =
     let first-place : Exp → Next → Exp = λ e′ k. if-value k (if-value (next e₂) e′ (write e₁ (plug e₂ e′))) (write (plug e₁ e′) e₂) in
     let second-place : Exp → Next → Exp = λ e′ k. if-value k e′ (write e₁ (plug e₂ e′)) in
@@ -113,10 +115,11 @@ focus (write-typed {e₁ = e₁} {e₂ = e₂} {ρ = ρ} a b g h) q =
     (λ n. inside (write e₁ e₂) e₁ (λ d. write d e₂) (focus a n) (λ N′ Ψ′ e′ s k. write-typed k (typing-grows s (⊆-refl _) b) g h)
     (λ e′. ap (first-place e′) n))
 focus (unary-typed {o = o} {e = e} a b) q =
+    let place : Exp → Next → Exp = λ e′ k. if-value k e′ (unary o (plug e e′)) in
     once-is-word (next e) _ q
     (λ v n z. let (_, t, g) = typed-is-value a n in
-    whole (unary o e) (unary-redex-typed t (unary-weakens b g ≥-refl)) (word-injective z) (λ e′. ap (λ k. if-value k e′ (unary o (plug e e′))) n))
-    (λ n. inside (unary o e) e (λ d. unary o d) (focus a n) (λ N′ Ψ′ e′ s k. unary-typed k b) (λ e′. ap (λ k. if-value k e′ (unary o (plug e e′))) n))
+    whole (unary o e) (unary-redex-typed t (unary-weakens b g ≥-refl)) (word-injective z) (λ e′. ap (place e′) n))
+    (λ n. inside (unary o e) e (λ d. unary o d) (focus a n) (λ N′ Ψ′ e′ s k. unary-typed k b) (λ e′. ap (place e′) n))
 focus (make-typed {o = o} b) q = whole (make o) (make-redex-typed b) (word-injective q) (λ e′. refl)
 
 -- A typed expression with no free variable does not come to one.

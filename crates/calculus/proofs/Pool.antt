@@ -24,7 +24,12 @@ pub record ThreadTyped (D : ℕ) (N : Env) (t : Thread) (Ψ : Cap) : Type 0 wher
   pub typed : Typed D N empty Ψ (t .body) τ K
 
 thread-grows : {D : ℕ} {N N′ : Env} {t : Thread} {Ψ : Cap} → N ⊆ N′ → ThreadTyped D N t Ψ → ThreadTyped D N′ t Ψ
-thread-grows {t} s h = record { K = h .K; τ = h .τ; known = s (t .tid) (tid-type (h .K)) (h .known); typed = typing-grows s (⊆-refl empty) (h .typed) }
+thread-grows {t} s h = record {
+  K = h .K;
+  τ = h .τ;
+  known = s (t .tid) (tid-type (h .K)) (h .known);
+  typed = typing-grows s (⊆-refl empty) (h .typed);
+}
 
 -- The threads hold at most Ω together.
 pub data Pool (D : ℕ) (N : Env) : List Thread → Cap → Type 0 where
@@ -44,7 +49,8 @@ pub pool-with-last : {D : ℕ} {N : Env} {t : Thread} {ts : List Thread} {Ω Ω�
     Pool D N ts Ω → ThreadTyped D N t Ψ → Pays Ω Ω′ Ψ → Pool D N (ts ++ (t ∷ [])) Ω′
 pool-with-last {Ω′} pool-nil h k = pool-cons {Φ = nothing} {Ω = Ω′} h pool-nil (record { at = λ ρ. omega (arith, k .at ρ) })
 pool-with-last {Ω′} {Ψ} (pool-cons {Φ = Φ} t ts l) h k =
-    pool-cons {Ω = Ω′} t (pool-with-last {Ω′ = Φ +ᶜ Ψ} ts h (record { at = λ ρ. omega arith })) (record { at = λ ρ. omega (arith, k .at ρ, l .at ρ) })
+    pool-cons {Ω = Ω′} t (pool-with-last {Ω′ = Φ +ᶜ Ψ} ts h (record { at = λ ρ. omega arith }))
+    (record { at = λ ρ. omega (arith, k .at ρ, l .at ρ) })
 
 -- ---- One thread and the others
 

@@ -91,7 +91,8 @@ pub derived-is-typed : {D : ℕ} {Γ : Env} {Ψ Φ : Cap} {e : Exp} {τ : Ty} (N
 derived-is-typed N (VAR h) = var-typed h fits-refl ≥-refl
 derived-is-typed N INT = value-typed int-typed ≥-refl
 derived-is-typed N (LET e₁ e₂) = let-typed (derived-is-typed N e₁) (derived-is-typed N e₂)
-derived-is-typed N (IF e₁ g e₂ h) = if-typed (typing-weakens (derived-is-typed N e₁) ≥-refl g) (typing-weakens (derived-is-typed N e₂) ≥-refl h)
+derived-is-typed N (IF e₁ g e₂ h) =
+    if-typed (typing-weakens (derived-is-typed N e₁) ≥-refl g) (typing-weakens (derived-is-typed N e₂) ≥-refl h)
 derived-is-typed N (WHILE e g h) = while-typed (typing-weakens (derived-is-typed N e) ≥-refl g) h ≥-refl
 derived-is-typed N NEWT = make-typed (newtid-typed ≥-refl)
 derived-is-typed N (SPAWN e₁ e₂ g h) = spawn-typed (derived-is-typed N e₁) (typing-weakens (derived-is-typed N e₂) ≥-refl g) (sum-pays h)

@@ -44,7 +44,8 @@ waiting-halts {t} s i there (at-join n b kind none-finished) = stuck-halts s i t
     let (u, at-u, q₂) = bind-is-some (getElem? (s .threads) (m .finished)) q₁ in
     let (_, same, q₃) = bind-is-some (if-equal (u .tid) n) q₂ in
     let (v, ended, _) = bind-is-some (value-of (next (u .body))) q₃ in
-    none-finished (m .finished) u at-u (equal-tells (u .tid) n same) (finished v (next-is-value (u .body) (value-tells (next (u .body)) ended)))
+    let is-v = next-is-value (u .body) (value-tells (next (u .body)) ended) in
+    none-finished (m .finished) u at-u (equal-tells (u .tid) n same) (finished v is-v)
 waiting-halts {t} s i there (at-lock n b kind shut) =
     stuck-halts s i there λ m r s′ w q. not-open-is-not-taken s m t n _ s′ shut (rw (word-injective (sym w ∙ b)) at q)
 waiting-halts {t} s i there (at-freelock n b kind shut) =
