@@ -10,7 +10,8 @@ use Rattle.calculus.proofs.Order.{Gains, Pays, ≥-trans, ≥-refl, gai
 
 -- ---- Values
 
--- A thing of type σ may be used as one of type τ. Today the two are the same type.
+-- A thing of type σ may be used as one of type τ: here, when the two are the same type. The rules for names and variables go through it,
+-- so that a wider relation may take its place.
 pub data Fits : Ty → Ty → Type 0 where
   fits-refl : {τ : Ty} → Fits τ τ
 

@@ -68,7 +68,8 @@ value-of (at-word r) = none
 abbrev pub zero-exp : Exp
 zero-exp = value (int 0)
 
--- The variable of the `let` that a `while` becomes. It is used nowhere: a sheet's variables are 0 to 255.
+-- The variable of the `let` that a `while` becomes. It is used nowhere: a sheet's variables are 0 to 255, and a value has been put for
+-- every variable by the time that the `while` around it is the next word.
 abbrev pub nowhere : ℕ
 nowhere = 256
 
