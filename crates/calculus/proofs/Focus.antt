@@ -6,9 +6,9 @@ use native.Mathlib.Nat.{le-trans}
 use Rattle.calculus.specs.Expression.{Value, Unary, Maker, Exp, value, let-in, if, while, spawn, write, unary, make, Redex, let-redex, if-redex, while-redex, spawn-redex, write-redex, unary-redex, make-redex, Next, is-value, at-variable, at-word, next, if-value, plug}
 use Rattle.calculus.specs.Capability.{Cap, _≥ᶜ_}
 use Rattle.calculus.specs.Figure5.{Ty, int-type, ref-type, tid-type, Env, bind}
-use Rattle.calculus.proofs.Maps.{none-is-not-some}
-use Rattle.calculus.proofs.Order.{Pays, ≥-trans, ≥-refl, pays-weakens}
-use Rattle.calculus.proofs.NextWord.{word-injective, word-is-no-value, variable-is-no-value, variable-is-no-word, next-is-value, once-is-word, once-is-variable}
+use Rattle.calculus.proofs.Laws.Maps.{none-is-not-some}
+use Rattle.calculus.proofs.Laws.Order.{Pays, ≥-trans, ≥-refl, pays-weakens}
+use Rattle.calculus.proofs.Laws.NextWord.{word-injective, word-is-no-value, variable-is-no-value, variable-is-no-word, next-is-value, once-is-word, once-is-variable}
 use Rattle.calculus.proofs.Typing.{ValueTyped, UnaryTyped, MakerTyped, Typed, value-typed, var-typed, let-typed, if-typed, while-typed, spawn-typed, write-typed, unary-typed, make-typed, unary-weakens, maker-weakens, typing-weakens}
 use Rattle.calculus.proofs.Substitution.{_⊆_, ⊆-refl, value-grows, typing-grows}
 

@@ -11,9 +11,9 @@ use Rattle.calculus.specs.Reduction.{if-unused, if-identifier, content, 
 use Rattle.calculus.specs.Claim.{ThreadAt, Finished, finished, IsLock, is-lock, Waits, at-join, at-lock, at-freelock, Halts, HaltsWell}
 use Rattle.calculus.specs.Capability.{Cap}
 use Rattle.calculus.specs.Figure5.{Ty, ref-type, lock-type, tid-type, Env, empty}
-use Rattle.calculus.proofs.Maps.{none-is-not-some, some-is-not-none, bind-is-none}
-use Rattle.calculus.proofs.NextWord.{next-is-value}
-use Rattle.calculus.proofs.Questions.{equal-is-told}
+use Rattle.calculus.proofs.Laws.Maps.{none-is-not-some, some-is-not-none, bind-is-none}
+use Rattle.calculus.proofs.Laws.NextWord.{next-is-value}
+use Rattle.calculus.proofs.Laws.Questions.{equal-is-told}
 use Rattle.calculus.proofs.Typing.{fits-refl, ValueTyped, name-typed, UnaryTyped, join-typed, ref-typed, read-typed, freelock-typed, lock-typed, unlock-typed}
 use Rattle.calculus.proofs.Focus.{RedexTyped, let-redex-typed, if-redex-typed, while-redex-typed, spawn-redex-typed, write-redex-typed, unary-redex-typed, make-redex-typed, focus, closed-has-no-variable}
 use Rattle.calculus.proofs.Pool.{member}

@@ -10,11 +10,11 @@ use Rattle.calculus.specs.Expression.{Value, choose}
 use Rattle.calculus.specs.State.{LockState, opened, closed, removed, Slot, unused, identifier, cell, a-lock, Thread, State, update}
 use Rattle.calculus.specs.Capability.{Cap, nothing}
 use Rattle.calculus.specs.Figure5.{Ty, int-type, ref-type, lock-type, tid-type, Env}
-use Rattle.calculus.proofs.Maps.{update-same, update-other, update-above}
+use Rattle.calculus.proofs.Laws.Maps.{update-same, update-other, update-above}
 use Rattle.calculus.proofs.Typing.{ValueTyped}
 use Rattle.calculus.proofs.Substitution.{_⊆_, value-grows}
 use Rattle.calculus.proofs.Pool.{Pool}
-use Rattle.calculus.proofs.Total.{total, total-with-one-changed}
+use Rattle.calculus.proofs.Laws.Total.{total, total-with-one-changed}
 
 -- ---- Slots
 

@@ -11,9 +11,9 @@ use Rattle.calculus.specs.State.{Slot, unused, Thread, State, Move, upda
 use Rattle.calculus.specs.Reduction.{if-unused, becomes, named}
 use Rattle.calculus.specs.Capability.{Cap, _≥ᶜ_}
 use Rattle.calculus.specs.Figure5.{Ty, tid-type, Env, empty, bind}
-use Rattle.calculus.proofs.Maps.{some-injective, none-is-not-some, bind-is-some, update-same, update-other}
-use Rattle.calculus.proofs.Order.{_+ᶜ_}
-use Rattle.calculus.proofs.Questions.{unused-tells}
+use Rattle.calculus.proofs.Laws.Maps.{some-injective, none-is-not-some, bind-is-some, update-same, update-other}
+use Rattle.calculus.proofs.Laws.Order.{_+ᶜ_}
+use Rattle.calculus.proofs.Laws.Questions.{unused-tells}
 use Rattle.calculus.proofs.Typing.{fits-refl, name-typed, Typed, value-typed}
 use Rattle.calculus.proofs.Substitution.{_⊆_, ⊆-refl}
 use Rattle.calculus.proofs.Pool.{Pool, pool-weakens, Member}

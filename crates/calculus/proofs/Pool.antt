@@ -9,8 +9,8 @@ use lib.ListN.{getElem?, set}
 use Rattle.calculus.specs.State.{Thread, remove}
 use Rattle.calculus.specs.Capability.{Cap, nothing, _≥ᶜ_}
 use Rattle.calculus.specs.Figure5.{Ty, tid-type, Env, empty}
-use Rattle.calculus.proofs.Maps.{some-injective, none-is-not-some}
-use Rattle.calculus.proofs.Order.{_+ᶜ_, Pays, ≥-refl, pays-weakens}
+use Rattle.calculus.proofs.Laws.Maps.{some-injective, none-is-not-some}
+use Rattle.calculus.proofs.Laws.Order.{_+ᶜ_, Pays, ≥-refl, pays-weakens}
 use Rattle.calculus.proofs.Typing.{Typed}
 use Rattle.calculus.proofs.Substitution.{_⊆_, ⊆-refl, typing-grows}
 

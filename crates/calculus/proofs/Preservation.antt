@@ -11,10 +11,10 @@ use Rattle.calculus.specs.Reduction.{if-unused, if-identifier, content, 
 use Rattle.calculus.specs.Claim.{ThreadAt}
 use Rattle.calculus.specs.Capability.{Cap, _≥ᶜ_}
 use Rattle.calculus.specs.Figure5.{Ty, int-type, ref-type, lock-type, tid-type, Env, empty, bind}
-use Rattle.calculus.proofs.Maps.{some-injective, none-is-not-some, bind-is-some}
-use Rattle.calculus.proofs.Order.{_+ᶜ_, Gains, Pays, ≥-trans, ≥-refl, gains-at-most}
-use Rattle.calculus.proofs.NextWord.{word-is-no-value}
-use Rattle.calculus.proofs.Questions.{unused-tells, content-tells, lock-state-tells, opened-tells, equal-tells, value-tells, word-tells}
+use Rattle.calculus.proofs.Laws.Maps.{some-injective, none-is-not-some, bind-is-some}
+use Rattle.calculus.proofs.Laws.Order.{_+ᶜ_, Gains, Pays, ≥-trans, ≥-refl, gains-at-most}
+use Rattle.calculus.proofs.Laws.NextWord.{word-is-no-value}
+use Rattle.calculus.proofs.Laws.Questions.{unused-tells, content-tells, lock-state-tells, opened-tells, equal-tells, value-tells, word-tells}
 use Rattle.calculus.proofs.Typing.{fits-refl, ValueTyped, int-typed, name-typed, UnaryTyped, join-typed, ref-typed, read-typed, freelock-typed, lock-typed, unlock-typed, newtid-typed, newlock-typed, Typed, value-typed, let-typed, if-typed, while-typed, typing-weakens}
 use Rattle.calculus.proofs.Substitution.{⊆-refl, value-grows, typing-grows, bind-extends-empty, substitution-keeps}
 use Rattle.calculus.proofs.Focus.{RedexTyped, let-redex-typed, if-redex-typed, while-redex-typed, spawn-redex-typed, write-redex-typed, unary-redex-typed, make-redex-typed, focus, typed-is-value}

@@ -13,7 +13,7 @@ use Rattle.calculus.specs.Figure5.{Ty, ref-type, Env, empty}
 use Rattle.calculus.proofs.Typing.{fits-refl, name-typed, read-typed}
 use Rattle.calculus.proofs.Focus.{RedexTyped, write-redex-typed, unary-redex-typed, focus}
 use Rattle.calculus.proofs.Pool.{ThreadTyped, two-members}
-use Rattle.calculus.proofs.Total.{total}
+use Rattle.calculus.proofs.Laws.Total.{total}
 use Rattle.calculus.proofs.Invariant.{WellTyped}
 
 -- n is a cell of some location ρ, and a number at least `least` is held of ρ.

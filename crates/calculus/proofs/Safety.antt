@@ -11,11 +11,11 @@ use Rattle.calculus.specs.Reduction.{reduce, or-else, attempt, states, s
 use Rattle.calculus.specs.Claim.{Every, RaceFree, HaltsWell, Safe}
 use Rattle.calculus.specs.Capability.{Cap, nothing}
 use Rattle.calculus.specs.Figure5.{Ty, tid-type, Env, empty, bind, _∣_∣_⊢_∶_∣_}
-use Rattle.calculus.proofs.Maps.{update-same, update-other}
-use Rattle.calculus.proofs.Order.{≥-refl}
+use Rattle.calculus.proofs.Laws.Maps.{update-same, update-other}
+use Rattle.calculus.proofs.Laws.Order.{≥-refl}
 use Rattle.calculus.proofs.Typing.{Typed, typing-weakens, derived-is-typed}
 use Rattle.calculus.proofs.Pool.{ThreadTyped, pool-nil, pool-cons}
-use Rattle.calculus.proofs.Total.{total-of-zeros}
+use Rattle.calculus.proofs.Laws.Total.{total-of-zeros}
 use Rattle.calculus.proofs.Invariant.{SlotTyped, slot-unused, slot-identifier, load, keeps, kept, WellTyped}
 use Rattle.calculus.proofs.Preservation.{step-preserves}
 use Rattle.calculus.proofs.RaceFreedom.{well-typed-is-race-free}

@@ -11,9 +11,9 @@ use Rattle.calculus.specs.State.{LockState, closed, removed, opened, a-l
 use Rattle.calculus.specs.Reduction.{_>>_, lock-state, zero-exp, becomes, unary-reduct, reduce, attempt, run, start}
 use Rattle.calculus.specs.Claim.{ThreadAt, Finished, finished, is-lock, Waits, at-join, at-lock, at-freelock, Halts, HaltsWell, Safe}
 use Rattle.calculus.specs.Examples.{goes, names, on-constant, figure-2b, moves-2b-to-join, figure-2c, moves-2c-to-lock, freed-lock, moves-freed-lock}
-use Rattle.calculus.proofs.Maps.{some-injective, none-is-not-some}
-use Rattle.calculus.proofs.NextWord.{word-injective}
-use Rattle.calculus.proofs.Waiting.{waiting-halts, stuck-halts}
+use Rattle.calculus.proofs.Laws.Maps.{some-injective, none-is-not-some}
+use Rattle.calculus.proofs.Laws.NextWord.{word-injective}
+use Rattle.calculus.proofs.Laws.Waiting.{waiting-halts, stuck-halts}
 use Rattle.calculus.proofs.Examples.Claims.{odd-halt-is-not-safe}
 
 -- ---- Odd halts: a constant is of the wrong kind for every word with one part but `ref`

@@ -12,7 +12,7 @@ use Rattle.calculus.specs.Expression.{Value, Unary, join, ref, read, fre
 use Rattle.calculus.specs.State.{LockState, opened, Slot, unused, identifier, cell, a-lock, Thread, State, Move, update}
 use Rattle.calculus.specs.Reduction.{name-of, if-unused, if-identifier, content, lock-state, if-opened, if-equal, value-of, word-of, made, named, taken, unary-reduct, reduct, reduce, or-else, attempt, states, start}
 use Rattle.calculus.specs.Claim.{Every}
-use Rattle.calculus.proofs.Maps.{some-injective, bind-is-some, update-other, update-above}
+use Rattle.calculus.proofs.Laws.Maps.{some-injective, bind-is-some, update-other, update-above}
 
 -- ---- What a reduction does to the names
 

@@ -8,9 +8,9 @@ use Rattle.calculus.specs.Expression.{name, join, Redex, at-word, next}
 use Rattle.calculus.specs.State.{Slot, opened, a-lock, Thread, State, Move}
 use Rattle.calculus.specs.Reduction.{_>>=_, if-identifier, lock-state, if-opened, if-equal, value-of, word-of, taken, unary-reduct, reduct, reduce}
 use Rattle.calculus.specs.Claim.{ThreadAt, Finished, finished, Waits, at-join, at-lock, at-freelock, Halts}
-use Rattle.calculus.proofs.Maps.{bind-is-some}
-use Rattle.calculus.proofs.NextWord.{word-injective, word-is-no-value, next-is-value}
-use Rattle.calculus.proofs.Questions.{lock-state-tells, opened-tells, equal-tells, value-tells, word-tells}
+use Rattle.calculus.proofs.Laws.Maps.{bind-is-some}
+use Rattle.calculus.proofs.Laws.NextWord.{word-injective, word-is-no-value, next-is-value}
+use Rattle.calculus.proofs.Laws.Questions.{lock-state-tells, opened-tells, equal-tells, value-tells, word-tells}
 
 -- What never gives an answer gives none.
 no-answer {ℓ} : {A : Type ℓ} (o : Option A) → ((a : A) → o ≡ some a → ⊥) → o ≡ none
