@@ -11,7 +11,7 @@ use Rattle.calculus.specs.Examples.{holding, figure-2b, figure-2c, secti
 use Rattle.calculus.proofs.Laws.Order.{≥-refl}
 use Rattle.calculus.proofs.Safety.{derived-is-safe}
 
-holding-sum : (a b c d : ℕ) → holding (a + c) (b + d) ≈ holding a b ⊕ holding c d
+pub holding-sum : (a b c d : ℕ) → holding (a + c) (b + d) ≈ holding a b ⊕ holding c d
 holding-sum a b c d = record { at = by-location }
   where
     by-location : (ρ : ℕ) → holding (a + c) (b + d) ρ ≡ holding a b ρ + holding c d ρ

@@ -51,6 +51,13 @@ word-on-constant-halts-oddly o d well = by-cases (well 0 _ refl (word-on-constan
     by-cases (inl (finished v e)) = unary-is-no-value e
     by-cases (inr w) = constant-is-not-waited-for (start (on-constant o)) o 0 w
 
+-- `! 0` and `unlock 0`, to name two.
+pub read-of-constant-halts-oddly : ¬ HaltsWell (start (on-constant read))
+read-of-constant-halts-oddly = word-on-constant-halts-oddly read λ h. let z : _≡_ {A = ℕ} 0 1 = cc in omega (arith, z)
+
+pub unlock-of-constant-halts-oddly : ¬ HaltsWell (start (on-constant unlock))
+unlock-of-constant-halts-oddly = word-on-constant-halts-oddly unlock λ h. let z : _≡_ {A = ℕ} 0 1 = cc in omega (arith, z)
+
 pub word-on-constant-is-not-safe : (o : Unary) → o ≢ ref → ¬ Safe (on-constant o)
 unfolding run
 word-on-constant-is-not-safe o d = odd-halt-is-not-safe (on-constant o) [] (word-on-constant-halts-oddly o d)
