@@ -5,3 +5,4 @@ pub mod Runs
 pub mod Halts
 pub mod Derivations
 pub mod FreedName
+pub mod Premises

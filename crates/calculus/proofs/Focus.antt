@@ -1,14 +1,14 @@
 -- The next word of a typed expression is typed, and what is typed as it is may take its place.
 use Prim.Native.Nat.{ℕ, _≤_}
 use mathlib.Core.Path.{_≡_, refl, sym, ap, _∙_}
-use mathlib.Core.Option.{none, some}
+use mathlib.Core.Option.{none}
 use native.Mathlib.Nat.{le-trans}
 use Rattle.calculus.specs.Expression.{Value, Unary, Maker, Exp, value, let-in, if, while, spawn, write, unary, make, Redex, let-redex, if-redex, while-redex, spawn-redex, write-redex, unary-redex, make-redex, Next, is-value, at-variable, at-word, next, if-value, plug}
 use Rattle.calculus.specs.Capability.{Cap, _≥ᶜ_}
 use Rattle.calculus.specs.Figure5.{Ty, int-type, ref-type, tid-type, Env, bind}
-use Rattle.calculus.proofs.Maps.{none-is-not-some}
-use Rattle.calculus.proofs.Order.{Pays, ≥-trans, ≥-refl, pays-weakens}
-use Rattle.calculus.proofs.NextWord.{word-injective, word-is-no-value, variable-is-no-value, variable-is-no-word, next-is-value, once-is-word, once-is-variable}
+use Rattle.calculus.proofs.Laws.Maps.{none-is-not-some}
+use Rattle.calculus.proofs.Laws.Order.{Pays, ≥-trans, ≥-refl, pays-weakens}
+use Rattle.calculus.proofs.Laws.NextWord.{word-injective, word-is-no-value, variable-is-no-value, variable-is-no-word, next-is-value, once-is-word, once-is-variable}
 use Rattle.calculus.proofs.Typing.{ValueTyped, UnaryTyped, MakerTyped, Typed, value-typed, var-typed, let-typed, if-typed, while-typed, spawn-typed, write-typed, unary-typed, make-typed, unary-weakens, maker-weakens, typing-weakens}
 use Rattle.calculus.proofs.Substitution.{_⊆_, ⊆-refl, value-grows, typing-grows}
 
@@ -61,12 +61,14 @@ focus-weakens : {D : ℕ} {N Γ : Env} {Ψ Ψ′ Φ : Cap} {τ : Ty} {r : Redex}
 focus-weakens a h = record { σ = h .σ; mid = h .mid; word = redex-weakens a (h .word); back = h .back }
 
 -- The expression is the word itself.
-whole : {D : ℕ} {N Γ : Env} {Ψ Φ : Cap} {τ : Ty} {r s : Redex} (e : Exp) → RedexTyped D N Γ Ψ Φ s τ → s ≡ r → ((e′ : Exp) → plug e e′ ≡ e′) → Focus D N Γ Ψ e τ Φ r
+whole : {D : ℕ} {N Γ : Env} {Ψ Φ : Cap} {τ : Ty} {r s : Redex} (e : Exp) → RedexTyped D N Γ Ψ Φ s τ → s ≡ r →
+    ((e′ : Exp) → plug e e′ ≡ e′) → Focus D N Γ Ψ e τ Φ r
 whole {Φ} {τ} e h q place = record { σ = τ; mid = Φ; word = rw q at h; back = λ N′ Ψ′ e′ s k. rw (place e′) k }
 
 -- The expression is c around its part d, which has the word.
 inside : {D : ℕ} {N Γ : Env} {Ψ Ψ₁ Φ : Cap} {σ τ : Ty} {r : Redex} (e d : Exp) (c : Exp → Exp) → Focus D N Γ Ψ d σ Ψ₁ r →
-    ((N′ : Env) (Ψ′ : Cap) (e′ : Exp) → N ⊆ N′ → Typed D N′ Γ Ψ′ e′ σ Ψ₁ → Typed D N′ Γ Ψ′ (c e′) τ Φ) → ((e′ : Exp) → plug e e′ ≡ c (plug d e′)) → Focus D N Γ Ψ e τ Φ r
+    ((N′ : Env) (Ψ′ : Cap) (e′ : Exp) → N ⊆ N′ → Typed D N′ Γ Ψ′ e′ σ Ψ₁ → Typed D N′ Γ Ψ′ (c e′) τ Φ) →
+    ((e′ : Exp) → plug e e′ ≡ c (plug d e′)) → Focus D N Γ Ψ e τ Φ r
 inside e d c h around place = record {
   σ = h .σ;
   mid = h .mid;
@@ -78,23 +80,26 @@ inside e d c h around place = record {
 
 -- By induction on the typing. Where a word wants a part to be a value there are two cases: the part is one, and the expression
 -- is the word itself, or the word is the part's and the rest of the expression stands around it.
-pub focus : {D : ℕ} {N Γ : Env} {Ψ Φ : Cap} {e : Exp} {τ : Ty} {r : Redex} → Typed D N Γ Ψ e τ Φ → next e ≡ at-word r → Focus D N Γ Ψ e τ Φ r
+pub focus : {D : ℕ} {N Γ : Env} {Ψ Φ : Cap} {e : Exp} {τ : Ty} {r : Redex} → Typed D N Γ Ψ e τ Φ → next e ≡ at-word r →
+    Focus D N Γ Ψ e τ Φ r
 focus (value-typed t h) q = word-is-no-value q refl
 focus (var-typed t f h) q = variable-is-no-word refl q
 focus (let-typed {x = x} {e₁ = e₁} {e₂ = e₂} a b) q =
+    let place : Exp → Next → Exp = λ e′ k. if-value k e′ (let-in x (plug e₁ e′) e₂) in
     once-is-word (next e₁) _ q
     (λ v n z. let (_, t, g) = typed-is-value a n in
-    whole (let-in x e₁ e₂) (let-redex-typed t (typing-weakens b g ≥-refl)) (word-injective z) (λ e′. ap (λ k. if-value k e′ (let-in x (plug e₁ e′) e₂)) n))
+    whole (let-in x e₁ e₂) (let-redex-typed t (typing-weakens b g ≥-refl)) (word-injective z) (λ e′. ap (place e′) n))
     (λ n. inside (let-in x e₁ e₂) e₁ (λ d. let-in x d e₂) (focus a n) (λ N′ Ψ′ e′ s k. let-typed k (typing-grows s (⊆-refl _) b))
-    (λ e′. ap (λ k. if-value k e′ (let-in x (plug e₁ e′) e₂)) n))
+    (λ e′. ap (place e′) n))
 focus (if-typed {e₁ = e₁} {e₂ = e₂} a b) q = whole (if e₁ e₂) (if-redex-typed a b) (word-injective q) (λ e′. refl)
 focus (while-typed {e = e} a g h) q = whole (while e) (while-redex-typed a g h) (word-injective q) (λ e′. refl)
 focus (spawn-typed {e₁ = e₁} {e₂ = e₂} a b h) q =
+    let place : Exp → Next → Exp = λ e′ k. if-value k e′ (spawn (plug e₁ e′) e₂) in
     once-is-word (next e₁) _ q
     (λ v n z. let (_, t, g) = typed-is-value a n in
-    whole (spawn e₁ e₂) (spawn-redex-typed t b (pays-weakens h g ≥-refl)) (word-injective z) (λ e′. ap (λ k. if-value k e′ (spawn (plug e₁ e′) e₂)) n))
+    whole (spawn e₁ e₂) (spawn-redex-typed t b (pays-weakens h g ≥-refl)) (word-injective z) (λ e′. ap (place e′) n))
     (λ n. inside (spawn e₁ e₂) e₁ (λ d. spawn d e₂) (focus a n) (λ N′ Ψ′ e′ s k. spawn-typed k (typing-grows s (⊆-refl _) b) h)
-    (λ e′. ap (λ k. if-value k e′ (spawn (plug e₁ e′) e₂)) n))
+    (λ e′. ap (place e′) n))
 focus (write-typed {e₁ = e₁} {e₂ = e₂} {ρ = ρ} a b g h) q =
     let first-place : Exp → Next → Exp = λ e′ k. if-value k (if-value (next e₂) e′ (write e₁ (plug e₂ e′))) (write (plug e₁ e′) e₂) in
     let second-place : Exp → Next → Exp = λ e′ k. if-value k e′ (write e₁ (plug e₂ e′)) in
@@ -110,14 +115,16 @@ focus (write-typed {e₁ = e₁} {e₂ = e₂} {ρ = ρ} a b g h) q =
     (λ n. inside (write e₁ e₂) e₁ (λ d. write d e₂) (focus a n) (λ N′ Ψ′ e′ s k. write-typed k (typing-grows s (⊆-refl _) b) g h)
     (λ e′. ap (first-place e′) n))
 focus (unary-typed {o = o} {e = e} a b) q =
+    let place : Exp → Next → Exp = λ e′ k. if-value k e′ (unary o (plug e e′)) in
     once-is-word (next e) _ q
     (λ v n z. let (_, t, g) = typed-is-value a n in
-    whole (unary o e) (unary-redex-typed t (unary-weakens b g ≥-refl)) (word-injective z) (λ e′. ap (λ k. if-value k e′ (unary o (plug e e′))) n))
-    (λ n. inside (unary o e) e (λ d. unary o d) (focus a n) (λ N′ Ψ′ e′ s k. unary-typed k b) (λ e′. ap (λ k. if-value k e′ (unary o (plug e e′))) n))
+    whole (unary o e) (unary-redex-typed t (unary-weakens b g ≥-refl)) (word-injective z) (λ e′. ap (place e′) n))
+    (λ n. inside (unary o e) e (λ d. unary o d) (focus a n) (λ N′ Ψ′ e′ s k. unary-typed k b) (λ e′. ap (place e′) n))
 focus (make-typed {o = o} b) q = whole (make o) (make-redex-typed b) (word-injective q) (λ e′. refl)
 
 -- A typed expression with no free variable does not come to one.
-pub closed-has-no-variable : {D : ℕ} {N Γ : Env} {Ψ Φ : Cap} {e : Exp} {τ : Ty} {x : ℕ} → ((y : ℕ) → Γ y ≡ none) → Typed D N Γ Ψ e τ Φ → next e ≡ at-variable x → ⊥
+pub closed-has-no-variable : {D : ℕ} {N Γ : Env} {Ψ Φ : Cap} {e : Exp} {τ : Ty} {x : ℕ} → ((y : ℕ) → Γ y ≡ none) →
+    Typed D N Γ Ψ e τ Φ → next e ≡ at-variable x → ⊥
 closed-has-no-variable c (value-typed t h) q = variable-is-no-value q refl
 closed-has-no-variable c (var-typed {x = y} t f h) q = none-is-not-some (sym (c y) ∙ t)
 closed-has-no-variable c (let-typed {e₁ = e₁} a b) q =

@@ -1,19 +1,19 @@
 -- A thread that halts in a well-typed state has finished, or waits: progress.
 use Prim.Native.Nat.{ℕ}
-use mathlib.Core.Path.{_≡_, refl, sym, ap, _∙_}
+use mathlib.Core.Path.{_≡_, refl, ap}
 use mathlib.Core.Logic.{_≢_, _⊎_, inl, inr}
 use mathlib.Core.Option.{Option, none, some}
 use native.Mathlib.Omega.{arith}
 use lib.ListN.{getElem?}
-use Rattle.calculus.specs.Expression.{Value, name, Unary, join, ref, read, freelock, lock, unlock, value, Redex, unary-redex, Next, is-value, at-variable, at-word, next}
-use Rattle.calculus.specs.State.{LockState, opened, closed, removed, Slot, unused, identifier, cell, a-lock, Thread, State, Part, first, Move}
-use Rattle.calculus.specs.Reduction.{if-unused, if-identifier, content, lock-state, if-opened, if-equal, value-of, word-of, taken, reduct, reduce}
+use Rattle.calculus.specs.Expression.{Value, name, Unary, join, ref, read, freelock, lock, unlock, Redex, unary-redex, Next, is-value, at-variable, at-word, next}
+use Rattle.calculus.specs.State.{LockState, opened, Slot, identifier, cell, a-lock, Thread, State, first, Move}
+use Rattle.calculus.specs.Reduction.{if-unused, if-identifier, content, lock-state, if-equal, value-of, word-of, named, taken, reduct, reduce}
 use Rattle.calculus.specs.Claim.{ThreadAt, Finished, finished, IsLock, is-lock, Waits, at-join, at-lock, at-freelock, Halts, HaltsWell}
 use Rattle.calculus.specs.Capability.{Cap}
 use Rattle.calculus.specs.Figure5.{Ty, ref-type, lock-type, tid-type, Env, empty}
-use Rattle.calculus.proofs.Maps.{none-is-not-some, some-is-not-none, bind-is-none}
-use Rattle.calculus.proofs.NextWord.{next-is-value}
-use Rattle.calculus.proofs.Questions.{equal-is-told}
+use Rattle.calculus.proofs.Laws.Maps.{none-is-not-some, some-is-not-none, bind-is-none}
+use Rattle.calculus.proofs.Laws.NextWord.{next-is-value}
+use Rattle.calculus.proofs.Laws.Questions.{equal-is-told}
 use Rattle.calculus.proofs.Typing.{fits-refl, ValueTyped, name-typed, UnaryTyped, join-typed, ref-typed, read-typed, freelock-typed, lock-typed, unlock-typed}
 use Rattle.calculus.proofs.Focus.{RedexTyped, let-redex-typed, if-redex-typed, while-redex-typed, spawn-redex-typed, write-redex-typed, unary-redex-typed, make-redex-typed, focus, closed-has-no-variable}
 use Rattle.calculus.proofs.Pool.{member}
@@ -30,7 +30,8 @@ lock-is-lock slot-lock h = is-lock
 lock-has-state : {sl : Slot} → IsLock sl → (l : LockState) × (lock-state sl ≡ some l)
 lock-has-state (is-lock {l = l}) = (l, refl)
 
-ref-is-cell : {N : Env} {ρ : ℕ} {τ : Ty} {sl : Slot} {o : Option Ty} → SlotTyped N sl o → o ≡ some (ref-type ρ τ) → (v : Value) × (sl ≡ cell v)
+ref-is-cell : {N : Env} {ρ : ℕ} {τ : Ty} {sl : Slot} {o : Option Ty} → SlotTyped N sl o → o ≡ some (ref-type ρ τ) →
+    (v : Value) × (sl ≡ cell v)
 ref-is-cell slot-unused h = none-is-not-some h
 ref-is-cell slot-identifier h = let w : _≡_ {A = ℕ} 0 1 = cc in absurd (omega (arith, w))
 ref-is-cell (slot-cell {v = v} t) h = (v, refl)
@@ -54,50 +55,60 @@ module _ {D : ℕ} {s : State} (I : WellTyped D s) (i : ℕ) (t : Thread) (there
   -- Whatever a move of the thread lists, its next word does not reduce.
   no-reduct : {r : Redex} → next (t .body) ≡ at-word r → (j n : ℕ) → reduct s (listed i j n) t r ≡ none
   unfolding reduce
-  no-reduct b j n = bind-is-none (word-of (next (t .body))) _ (ap word-of b) (bind-is-none (getElem? (s .threads) i) _ there (halts (listed i j n) refl))
+  no-reduct word j n =
+      let from-here = bind-is-none (getElem? (s .threads) i) _ there (halts (listed i j n) refl) in
+      bind-is-none (word-of (next (t .body))) _ (ap word-of word) from-here
 
-  top-is-unused : if-unused (s .names (I .top)) ≡ some tt
-  top-is-unused = ap if-unused (I .above (I .top) (omega arith))
+  -- A word that makes a new thing goes ahead: some name is unused.
+  named-goes-ahead : {A : Type 0} (new : Slot) → named s (listed i 0 (I .top)) t new ≡ none → A
+  named-goes-ahead new h =
+      some-is-not-none (bind-is-none (if-unused (s .names (I .top))) _ (ap if-unused (I .above (I .top) (omega arith))) h)
+
+  -- So does a word on a cell.
+  cell-has-content : {ρ n : ℕ} {τ : Ty} → I .N n ≡ some (ref-type ρ τ) → (v : Value) × (content (s .names n) ≡ some v)
+  cell-has-content {n} known = let (v, e) = ref-is-cell (I .slots n) known in (v, ap content e)
 
   join-waits : {K : Cap} {n : ℕ} → next (t .body) ≡ at-word (unary-redex join (name n)) → I .N n ≡ some (tid-type K) → Waits s t
-  join-waits {n} b k = at-join n b kind none-finished
+  join-waits {n} word known = at-join n word kind none-finished
     where
       kind : s .names n ≡ identifier
-      kind = tid-is-identifier (I .slots n) k
+      kind = tid-is-identifier (I .slots n) known
 
       none-finished : (j : ℕ) (u : Thread) → ThreadAt s j u → u .tid ≡ n → ¬ Finished u
       none-finished j u at-j same (finished v ended) =
-          let h₁ = bind-is-none (if-identifier (s .names n)) _ (ap if-identifier kind) (no-reduct b j 0) in
+          let h₁ = bind-is-none (if-identifier (s .names n)) _ (ap if-identifier kind) (no-reduct word j 0) in
           let h₂ = bind-is-none (getElem? (s .threads) j) _ at-j h₁ in
           let h₃ = bind-is-none (if-equal (u .tid) n) _ (equal-is-told (u .tid) n same) h₂ in
           some-is-not-none (bind-is-none (value-of (next (u .body))) _ (ap (λ e. value-of (next e)) ended) h₃)
 
-  not-open : (n : ℕ) (after : LockState) → taken s (listed i 0 0) t (name n) after ≡ none → s .names n ≢ a-lock opened
+  not-open : (n : ℕ) (after : Slot) → taken s (listed i 0 0) t (name n) after ≡ none → s .names n ≢ a-lock opened
   not-open n after h e = some-is-not-none (bind-is-none (lock-state (s .names n)) _ (ap lock-state e) h)
 
-  unary-halts : {σ τ : Ty} {Ψ Φ : Cap} {v : Value} (o : Unary) → next (t .body) ≡ at-word (unary-redex o v) → ValueTyped (I .N) v σ → UnaryTyped D o σ Ψ τ Φ → Waits s t
-  unary-halts join b (name-typed k fits-refl) (join-typed g) = join-waits b k
-  unary-halts ref b k (ref-typed g) = some-is-not-none (bind-is-none (if-unused (s .names (I .top))) _ top-is-unused (no-reduct b 0 (I .top)))
-  unary-halts read b (name-typed {n = n} k fits-refl) (read-typed g h) =
-      let (w, e) = ref-is-cell (I .slots n) k in
-      some-is-not-none (bind-is-none (content (s .names n)) _ (ap content e) (no-reduct b 0 0))
-  unary-halts freelock b (name-typed {n = n} k fits-refl) (freelock-typed g) = at-freelock n b (lock-is-lock (I .slots n) k) (not-open n removed (no-reduct b 0 0))
-  unary-halts lock b (name-typed {n = n} k fits-refl) (lock-typed g) = at-lock n b (lock-is-lock (I .slots n) k) (not-open n closed (no-reduct b 0 0))
-  unary-halts unlock b (name-typed {n = n} k fits-refl) (unlock-typed g) =
-      let (l, e) = lock-has-state (lock-is-lock (I .slots n) k) in
-      some-is-not-none (bind-is-none (lock-state (s .names n)) _ e (no-reduct b 0 0))
+  unary-halts : {σ τ : Ty} {Ψ Φ : Cap} {v : Value} (o : Unary) → next (t .body) ≡ at-word (unary-redex o v) →
+      ValueTyped (I .N) v σ → UnaryTyped D o σ Ψ τ Φ → Waits s t
+  unary-halts join word (name-typed known fits-refl) (join-typed gains) = join-waits word known
+  unary-halts ref word typed (ref-typed enough) = named-goes-ahead _ (no-reduct word 0 (I .top))
+  unary-halts read word (name-typed {n = n} known fits-refl) (read-typed some-of-it enough) =
+      some-is-not-none (bind-is-none (content (s .names n)) _ (cell-has-content known .1) (no-reduct word 0 0))
+  unary-halts freelock word (name-typed {n = n} known fits-refl) (freelock-typed gains) =
+      at-freelock n word (lock-is-lock (I .slots n) known) (not-open n _ (no-reduct word 0 0))
+  unary-halts lock word (name-typed {n = n} known fits-refl) (lock-typed gains) =
+      at-lock n word (lock-is-lock (I .slots n) known) (not-open n _ (no-reduct word 0 0))
+  unary-halts unlock word (name-typed {n = n} known fits-refl) (unlock-typed pays) =
+      let (l, e) = lock-has-state (lock-is-lock (I .slots n) known) in
+      some-is-not-none (bind-is-none (lock-state (s .names n)) _ e (no-reduct word 0 0))
 
   redex-halts : {σ : Ty} {Ψ Φ : Cap} {r : Redex} → next (t .body) ≡ at-word r → RedexTyped D (I .N) empty Ψ Φ r σ → Waits s t
-  redex-halts b (let-redex-typed k l) = some-is-not-none (no-reduct b 0 0)
-  redex-halts b (if-redex-typed k l) = some-is-not-none (no-reduct b 0 0)
-  redex-halts b (while-redex-typed k l g) = some-is-not-none (no-reduct b 0 0)
-  redex-halts b (spawn-redex-typed (name-typed {n = n} k fits-refl) l g) =
-      some-is-not-none (bind-is-none (if-identifier (s .names n)) _ (ap if-identifier (tid-is-identifier (I .slots n) k)) (no-reduct b 0 0))
-  redex-halts b (write-redex-typed (name-typed {n = n} k fits-refl) l g h) =
-      let (w, e) = ref-is-cell (I .slots n) k in
-      some-is-not-none (bind-is-none (content (s .names n)) _ (ap content e) (no-reduct b 0 0))
-  redex-halts b (unary-redex-typed {o = o} k l) = unary-halts o b k l
-  redex-halts b (make-redex-typed l) = some-is-not-none (bind-is-none (if-unused (s .names (I .top))) _ top-is-unused (no-reduct b 0 (I .top)))
+  redex-halts word (let-redex-typed v-typed e-typed) = some-is-not-none (no-reduct word 0 0)
+  redex-halts word (if-redex-typed e₁-typed e₂-typed) = some-is-not-none (no-reduct word 0 0)
+  redex-halts word (while-redex-typed typed enough left) = some-is-not-none (no-reduct word 0 0)
+  redex-halts word (spawn-redex-typed (name-typed {n = n} known fits-refl) typed pays) =
+      let kind = ap if-identifier (tid-is-identifier (I .slots n) known) in
+      some-is-not-none (bind-is-none (if-identifier (s .names n)) _ kind (no-reduct word 0 0))
+  redex-halts word (write-redex-typed (name-typed {n = n} known fits-refl) typed whole enough) =
+      some-is-not-none (bind-is-none (content (s .names n)) _ (cell-has-content known .1) (no-reduct word 0 0))
+  redex-halts word (unary-redex-typed {o = o} v-typed o-typed) = unary-halts o word v-typed o-typed
+  redex-halts word (make-redex-typed o-typed) = named-goes-ahead _ (no-reduct word 0 (I .top))
 
   next-halts : (q : Next) → next (t .body) ≡ q → Finished t ⊎ Waits s t
   next-halts (is-value v) b = inl (finished v (next-is-value (t .body) b))

@@ -10,11 +10,11 @@ use Rattle.calculus.specs.Expression.{Value, choose}
 use Rattle.calculus.specs.State.{LockState, opened, closed, removed, Slot, unused, identifier, cell, a-lock, Thread, State, update}
 use Rattle.calculus.specs.Capability.{Cap, nothing}
 use Rattle.calculus.specs.Figure5.{Ty, int-type, ref-type, lock-type, tid-type, Env}
-use Rattle.calculus.proofs.Maps.{update-same, update-other, update-above}
+use Rattle.calculus.proofs.Laws.Maps.{update-same, update-other, update-above}
 use Rattle.calculus.proofs.Typing.{ValueTyped}
 use Rattle.calculus.proofs.Substitution.{_⊆_, value-grows}
 use Rattle.calculus.proofs.Pool.{Pool}
-use Rattle.calculus.proofs.Total.{total, total-with-one-changed}
+use Rattle.calculus.proofs.Laws.Total.{total, total-with-one-changed}
 
 -- ---- Slots
 
@@ -92,8 +92,18 @@ module _ {D : ℕ} {s : State} (I : WellTyped D s) (n : ℕ) (sl : Slot) (N′ :
 
   changed-budget : (ρ b : ℕ) → held′ ρ + total (kept (update (s .names) n sl) N′ ρ) b ≤ D
   changed-budget ρ b =
-      let (c, sum) = total-with-one-changed (kept (s .names) (I .N) ρ) (kept (update (s .names) n sl) N′ ρ) n (λ m e. omega (arith, kept-elsewhere ρ m e)) b in
+      let before = kept (s .names) (I .N) ρ in
+      let after = kept (update (s .names) n sl) N′ ρ in
+      let (c, sum) = total-with-one-changed before after n (λ m e. omega (arith, kept-elsewhere ρ m e)) b in
       omega (arith, sum, kept-there ρ, no-more ρ, I .budget ρ c)
 
   pub name-change-keeps : {ts : List Thread} → Pool D N′ ts held′ → WellTyped D (record { threads = ts; names = update (s .names) n sl })
-  name-change-keeps P = record { N = N′; held = held′; pool = P; slots = changed-slots; budget = changed-budget; top = max (suc n) (I .top); above = update-above (s .names) n (I .top) sl unused (I .above) }
+  name-change-keeps P = record {
+    N = N′;
+    held = held′;
+    pool = P;
+    slots = changed-slots;
+    budget = changed-budget;
+    top = max (suc n) (I .top);
+    above = update-above (s .names) n (I .top) sl unused (I .above);
+  }

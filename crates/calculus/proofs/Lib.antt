@@ -1,19 +1,13 @@
--- Why Figure 5 gives the claim, from the bottom up.
-pub mod Maps
-pub mod Order
-pub mod NextWord
-pub mod Questions
-pub mod Names
+-- Why Figure 5 gives the claim, from the bottom up: laws, the run-time typing, well-typed states, what a reduction keeps, and the theorem.
+pub mod Laws
 pub mod Typing
 pub mod Substitution
 pub mod Focus
 pub mod Pool
-pub mod Total
 pub mod Invariant
 pub mod Moving
 pub mod Preservation
 pub mod RaceFreedom
 pub mod Halting
-pub mod Waiting
 pub mod Safety
 pub mod Examples

@@ -1,5 +1,5 @@
 -- The threads of a state and what they hold together.
-use Prim.Native.Nat.{ℕ, zero, suc, _≤_}
+use Prim.Native.Nat.{ℕ, zero, suc}
 use mathlib.Core.Path.{_≡_, refl, ap}
 use mathlib.Core.Logic.{_≢_}
 use mathlib.Core.Option.{some}
@@ -9,8 +9,8 @@ use lib.ListN.{getElem?, set}
 use Rattle.calculus.specs.State.{Thread, remove}
 use Rattle.calculus.specs.Capability.{Cap, nothing, _≥ᶜ_}
 use Rattle.calculus.specs.Figure5.{Ty, tid-type, Env, empty}
-use Rattle.calculus.proofs.Maps.{some-injective, none-is-not-some}
-use Rattle.calculus.proofs.Order.{_+ᶜ_, Pays, ≥-refl, pays-weakens}
+use Rattle.calculus.proofs.Laws.Maps.{some-injective, none-is-not-some}
+use Rattle.calculus.proofs.Laws.Order.{_+ᶜ_, Pays, ≥-refl, pays-weakens}
 use Rattle.calculus.proofs.Typing.{Typed}
 use Rattle.calculus.proofs.Substitution.{_⊆_, ⊆-refl, typing-grows}
 
@@ -24,7 +24,12 @@ pub record ThreadTyped (D : ℕ) (N : Env) (t : Thread) (Ψ : Cap) : Type 0 wher
   pub typed : Typed D N empty Ψ (t .body) τ K
 
 thread-grows : {D : ℕ} {N N′ : Env} {t : Thread} {Ψ : Cap} → N ⊆ N′ → ThreadTyped D N t Ψ → ThreadTyped D N′ t Ψ
-thread-grows {t} s h = record { K = h .K; τ = h .τ; known = s (t .tid) (tid-type (h .K)) (h .known); typed = typing-grows s (⊆-refl empty) (h .typed) }
+thread-grows {t} s h = record {
+  K = h .K;
+  τ = h .τ;
+  known = s (t .tid) (tid-type (h .K)) (h .known);
+  typed = typing-grows s (⊆-refl empty) (h .typed);
+}
 
 -- The threads hold at most Ω together.
 pub data Pool (D : ℕ) (N : Env) : List Thread → Cap → Type 0 where
@@ -44,7 +49,8 @@ pub pool-with-last : {D : ℕ} {N : Env} {t : Thread} {ts : List Thread} {Ω Ω�
     Pool D N ts Ω → ThreadTyped D N t Ψ → Pays Ω Ω′ Ψ → Pool D N (ts ++ (t ∷ [])) Ω′
 pool-with-last {Ω′} pool-nil h k = pool-cons {Φ = nothing} {Ω = Ω′} h pool-nil (record { at = λ ρ. omega (arith, k .at ρ) })
 pool-with-last {Ω′} {Ψ} (pool-cons {Φ = Φ} t ts l) h k =
-    pool-cons {Ω = Ω′} t (pool-with-last {Ω′ = Φ +ᶜ Ψ} ts h (record { at = λ ρ. omega arith })) (record { at = λ ρ. omega (arith, k .at ρ, l .at ρ) })
+    pool-cons {Ω = Ω′} t (pool-with-last {Ω′ = Φ +ᶜ Ψ} ts h (record { at = λ ρ. omega arith }))
+    (record { at = λ ρ. omega (arith, k .at ρ, l .at ρ) })
 
 -- ---- One thread and the others
 
@@ -58,7 +64,8 @@ pub record Member (D : ℕ) (N : Env) (ts : List Thread) (Ω : Cap) (i : ℕ) (t
   pub replaced : (N′ : Env) (t′ : Thread) (Ψ′ Ω′ : Cap) → N ⊆ N′ → ThreadTyped D N′ t′ Ψ′ → Pays Ψ′ Ω′ rest → Pool D N′ (set ts i t′) Ω′
   pub taken-out : Pool D N (remove ts i) rest
 
-pub member : {D : ℕ} {N : Env} {ts : List Thread} {Ω : Cap} {t : Thread} (i : ℕ) → Pool D N ts Ω → getElem? ts i ≡ some t → Member D N ts Ω i t
+pub member : {D : ℕ} {N : Env} {ts : List Thread} {Ω : Cap} {t : Thread} (i : ℕ) → Pool D N ts Ω → getElem? ts i ≡ some t →
+    Member D N ts Ω i t
 member i pool-nil h = none-is-not-some h
 member zero (pool-cons {Ψ = Ψ} {Φ = Φ} t ts l) h = record {
   own = Ψ;

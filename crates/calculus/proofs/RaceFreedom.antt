@@ -13,7 +13,7 @@ use Rattle.calculus.specs.Figure5.{Ty, ref-type, Env, empty}
 use Rattle.calculus.proofs.Typing.{fits-refl, name-typed, read-typed}
 use Rattle.calculus.proofs.Focus.{RedexTyped, write-redex-typed, unary-redex-typed, focus}
 use Rattle.calculus.proofs.Pool.{ThreadTyped, two-members}
-use Rattle.calculus.proofs.Total.{total}
+use Rattle.calculus.proofs.Laws.Total.{total}
 use Rattle.calculus.proofs.Invariant.{WellTyped}
 
 -- n is a cell of some location ρ, and a number at least `least` is held of ρ.
@@ -23,13 +23,15 @@ record Access (N : Env) (Ψ : Cap) (n least : ℕ) : Type 0 where
   known : N n ≡ some (ref-type ρ τ)
   enough : least ≤ Ψ ρ
 
-write-needs : {D : ℕ} {N : Env} {Ψ Φ : Cap} {n : ℕ} {w : Value} {τ : Ty} → RedexTyped D N empty Ψ Φ (write-redex (name n) w) τ → Access N Ψ n D
+write-needs : {D : ℕ} {N : Env} {Ψ Φ : Cap} {n : ℕ} {w : Value} {τ : Ty} → RedexTyped D N empty Ψ Φ (write-redex (name n) w) τ →
+    Access N Ψ n D
 write-needs (write-redex-typed {ρ = ρ} {σ = σ} (name-typed k fits-refl) l g h) = record { ρ = ρ; τ = σ; known = k; enough = g }
 
 read-needs : {D : ℕ} {N : Env} {Ψ Φ : Cap} {n : ℕ} {τ : Ty} → RedexTyped D N empty Ψ Φ (unary-redex read (name n)) τ → Access N Ψ n 1
 read-needs (unary-redex-typed (name-typed k fits-refl) (read-typed {τ = σ} {ρ = ρ} g h)) = record { ρ = ρ; τ = σ; known = k; enough = g }
 
-access-needs : {D : ℕ} {N : Env} {s : State} {u : Thread} {Ψ : Cap} {n : ℕ} → 0 < D → ThreadTyped D N u Ψ → AboutToRead s u n ⊎ AboutToWrite s u n → Access N Ψ n 1
+access-needs : {D : ℕ} {N : Env} {s : State} {u : Thread} {Ψ : Cap} {n : ℕ} → 0 < D → ThreadTyped D N u Ψ →
+    AboutToRead s u n ⊎ AboutToWrite s u n → Access N Ψ n 1
 access-needs d k (inl (about-to-read v c e)) = read-needs (focus (k .typed) e .word)
 access-needs d k (inr (about-to-write v w c e)) =
     let a = write-needs (focus (k .typed) e .word) in

@@ -7,7 +7,7 @@ use native.Mathlib.Decide.{ℕ-discrete}
 use Rattle.calculus.specs.Expression.{Value, Exp, value, var, choose, substitute}
 use Rattle.calculus.specs.Capability.{Cap, _≥ᶜ_}
 use Rattle.calculus.specs.Figure5.{Ty, Env, empty, bind}
-use Rattle.calculus.proofs.Maps.{some-injective, none-is-not-some}
+use Rattle.calculus.proofs.Laws.Maps.{some-injective, none-is-not-some}
 use Rattle.calculus.proofs.Typing.{Fits, ValueTyped, int-typed, name-typed, value-fits, Typed, value-typed, var-typed, let-typed, if-typed, while-typed, spawn-typed, write-typed, unary-typed, make-typed}
 
 -- ---- More names and more variables

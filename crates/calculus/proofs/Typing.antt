@@ -4,13 +4,14 @@ use mathlib.Core.Path.{_≡_}
 use mathlib.Core.Option.{some}
 use native.Mathlib.Nat.{le-trans}
 use Rattle.calculus.specs.Expression.{Value, int, name, Unary, join, ref, read, freelock, lock, unlock, Maker, newtid, newlock, Exp, value, var, let-in, if, while, spawn, write, unary, make}
-use Rattle.calculus.specs.Capability.{Cap, _≥ᶜ_, _≈_⊕_}
+use Rattle.calculus.specs.Capability.{Cap, _≥ᶜ_}
 use Rattle.calculus.specs.Figure5.{Ty, int-type, ref-type, lock-type, tid-type, Env, bind, _∣_∣_⊢_∶_∣_, VAR, INT, LET, IF, WHILE, NEWT, SPAWN, JOIN, REF, WRITE, READ, NEWL, FREEL, LCK, ULCK}
-use Rattle.calculus.proofs.Order.{Gains, Pays, ≥-trans, ≥-refl, gains-weakens, pays-weakens, sum-gains, sum-pays}
+use Rattle.calculus.proofs.Laws.Order.{Gains, Pays, ≥-trans, ≥-refl, gains-weakens, pays-weakens, sum-gains, sum-pays}
 
 -- ---- Values
 
--- A thing of type σ may be used as one of type τ. Today the two are the same type.
+-- A thing of type σ may be used as one of type τ: here, when the two are the same type. The rules for names and variables go through it,
+-- so that a wider relation may take its place.
 pub data Fits : Ty → Ty → Type 0 where
   fits-refl : {τ : Ty} → Fits τ τ
 
@@ -73,7 +74,8 @@ pub maker-weakens : {o : Maker} {τ : Ty} {Ψ Ψ′ Φ Φ′ : Cap} → MakerTyp
 maker-weakens (newtid-typed h) a b = newtid-typed (≥-trans a (≥-trans h b))
 maker-weakens (newlock-typed h) a b = newlock-typed (pays-weakens h a b)
 
-pub typing-weakens : {D : ℕ} {N Γ : Env} {Ψ Ψ′ Φ Φ′ : Cap} {e : Exp} {τ : Ty} → Typed D N Γ Ψ e τ Φ → Ψ′ ≥ᶜ Ψ → Φ ≥ᶜ Φ′ → Typed D N Γ Ψ′ e τ Φ′
+pub typing-weakens : {D : ℕ} {N Γ : Env} {Ψ Ψ′ Φ Φ′ : Cap} {e : Exp} {τ : Ty} → Typed D N Γ Ψ e τ Φ → Ψ′ ≥ᶜ Ψ → Φ ≥ᶜ Φ′ →
+    Typed D N Γ Ψ′ e τ Φ′
 typing-weakens (value-typed v h) a b = value-typed v (≥-trans a (≥-trans h b))
 typing-weakens (var-typed v f h) a b = var-typed v f (≥-trans a (≥-trans h b))
 typing-weakens (let-typed e₁ e₂) a b = let-typed (typing-weakens e₁ a ≥-refl) (typing-weakens e₂ ≥-refl b)
@@ -90,7 +92,8 @@ pub derived-is-typed : {D : ℕ} {Γ : Env} {Ψ Φ : Cap} {e : Exp} {τ : Ty} (N
 derived-is-typed N (VAR h) = var-typed h fits-refl ≥-refl
 derived-is-typed N INT = value-typed int-typed ≥-refl
 derived-is-typed N (LET e₁ e₂) = let-typed (derived-is-typed N e₁) (derived-is-typed N e₂)
-derived-is-typed N (IF e₁ g e₂ h) = if-typed (typing-weakens (derived-is-typed N e₁) ≥-refl g) (typing-weakens (derived-is-typed N e₂) ≥-refl h)
+derived-is-typed N (IF e₁ g e₂ h) =
+    if-typed (typing-weakens (derived-is-typed N e₁) ≥-refl g) (typing-weakens (derived-is-typed N e₂) ≥-refl h)
 derived-is-typed N (WHILE e g h) = while-typed (typing-weakens (derived-is-typed N e) ≥-refl g) h ≥-refl
 derived-is-typed N NEWT = make-typed (newtid-typed ≥-refl)
 derived-is-typed N (SPAWN e₁ e₂ g h) = spawn-typed (derived-is-typed N e₁) (typing-weakens (derived-is-typed N e₂) ≥-refl g) (sum-pays h)

@@ -2,7 +2,7 @@
 use Prim.Native.Nat.{ℕ, zero, suc}
 use mathlib.Core.List.{List, [], _∷_}
 use Rattle.calculus.specs.Expression.{int, Unary, join, ref, read, freelock, lock, unlock, newtid, newlock, Exp, value, var, let-in, while, spawn, write, unary, make}
-use Rattle.calculus.specs.State.{first, Move}
+use Rattle.calculus.specs.State.{first, second, Move}
 use Rattle.calculus.specs.Reduction.{nowhere}
 use Rattle.calculus.specs.Capability.{Cap}
 
@@ -23,6 +23,10 @@ goes i = record { thread = i; part = first; finished = 0; fresh = 0 }
 -- Thread i makes a thing that gets the name n.
 abbrev pub names : ℕ → ℕ → Move
 names i n = record { thread = i; part = first; finished = 0; fresh = n }
+
+-- Thread i takes the second part of an `if`.
+abbrev pub leaves : ℕ → Move
+leaves i = record { thread = i; part = second; finished = 0; fresh = 0 }
 
 -- Thread i joins the thread at place j.
 abbrev pub joins : ℕ → ℕ → Move
@@ -121,6 +125,21 @@ section-2-2-1 =
     ⨾ unary join (var 2)
     ⨾ unary join (var 2)
     ⨾ write (var 1) (constant 1))))))
+
+-- x, y, t and l get the names 1 to 4, and the loop is entered.
+abbrev pub moves-2-2-1-to-loop : List Move
+moves-2-2-1-to-loop = names 0 1 ∷ goes 0 ∷ names 0 2 ∷ goes 0 ∷ names 0 3 ∷ goes 0 ∷ names 0 4 ∷ goes 0 ∷ goes 0 ∷ goes 0 ∷ []
+
+-- Two threads are spawned; the second runs to its end, then the first.
+abbrev pub moves-2-2-1-threads : List Move
+moves-2-2-1-threads =
+    goes 0 ∷ goes 0 ∷ goes 0 ∷ goes 0
+    ∷ goes 2 ∷ goes 2 ∷ goes 2 ∷ goes 2 ∷ goes 2 ∷ goes 2 ∷ goes 2
+    ∷ goes 1 ∷ goes 1 ∷ goes 1 ∷ goes 1 ∷ goes 1 ∷ goes 1 ∷ goes 1 ∷ []
+
+-- Both are joined, the second first; then y is written, and the loop left at its second turn.
+abbrev pub moves-2-2-1-to-end : List Move
+moves-2-2-1-to-end = joins 0 2 ∷ goes 0 ∷ joins 0 1 ∷ goes 0 ∷ goes 0 ∷ goes 0 ∷ goes 0 ∷ leaves 0 ∷ []
 
 -- ---- Beside the paper
 

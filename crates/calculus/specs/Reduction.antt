@@ -68,7 +68,8 @@ value-of (at-word r) = none
 abbrev pub zero-exp : Exp
 zero-exp = value (int 0)
 
--- The variable of the `let` that a `while` becomes. It is used nowhere: a sheet's variables are 0 to 255.
+-- The variable of the `let` that a `while` becomes. It is used nowhere: a sheet's variables are 0 to 255, and a value has been put for
+-- every variable by the time that the `while` around it is the next word.
 abbrev pub nowhere : ℕ
 nowhere = 256
 
@@ -92,13 +93,19 @@ with-thread t s = record { threads = s .threads ++ (t ∷ []); names = s .names 
 abbrev pub without-thread : ℕ → State → State
 without-thread j s = record { threads = remove (s .threads) j; names = s .names }
 
--- `lock` and `freelock` wait unless the lock is open, and leave it closed or removed.
-abbrev pub taken : State → Move → Thread → Value → LockState → Option State
+-- "`ref`, `newtid` and `newlock` become the name listed, if unused"; what it names from now on is told.
+abbrev pub named : State → Move → Thread → Slot → Option State
+named s m t new = do
+  if-unused (s .names (m .fresh))
+  some (becomes s m t (update (s .names) (m .fresh) new) (value (name (m .fresh))))
+
+-- `lock` and `freelock` wait unless the lock is open; what its slot is afterwards is told.
+abbrev pub taken : State → Move → Thread → Value → Slot → Option State
 taken s m t v after = do
   n ← name-of v
   l ← lock-state (s .names n)
   if-opened l
-  some (becomes s m t (update (s .names) n (a-lock after)) zero-exp)
+  some (becomes s m t (update (s .names) n after) zero-exp)
 
 -- The words with one part, on its value. `unlock` asks for a lock and no more: it goes ahead on a closed, an open or a removed
 -- one. `join` is of a finished thread, and the thread that joins has not finished, so it stays.
@@ -110,15 +117,13 @@ unary-reduct s m t join v = do
   if-equal (u .tid) n
   value-of (next (u .body))
   some (without-thread (m .finished) (becomes s m t (s .names) zero-exp))
-unary-reduct s m t ref v = do
-  if-unused (s .names (m .fresh))
-  some (becomes s m t (update (s .names) (m .fresh) (cell v)) (value (name (m .fresh))))
+unary-reduct s m t ref v = named s m t (cell v)
 unary-reduct s m t read v = do
   n ← name-of v
   w ← content (s .names n)
   some (becomes s m t (s .names) (value w))
-unary-reduct s m t freelock v = taken s m t v removed
-unary-reduct s m t lock v = taken s m t v closed
+unary-reduct s m t freelock v = taken s m t v (a-lock removed)
+unary-reduct s m t lock v = taken s m t v (a-lock closed)
 unary-reduct s m t unlock v = do
   n ← name-of v
   lock-state (s .names n)
@@ -138,9 +143,7 @@ reduct s m t (write-redex v w) = do
   content (s .names n)
   some (becomes s m t (update (s .names) n (cell w)) zero-exp)
 reduct s m t (unary-redex o v) = unary-reduct s m t o v
-reduct s m t (make-redex o) = do
-  if-unused (s .names (m .fresh))
-  some (becomes s m t (update (s .names) (m .fresh) (made o)) (value (name (m .fresh))))
+reduct s m t (make-redex o) = named s m t (made o)
 
 -- The word that comes next, if one does: "Only the next word reduces".
 abbrev pub word-of : Next → Option Redex

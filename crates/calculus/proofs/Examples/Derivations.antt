@@ -8,10 +8,10 @@ use Rattle.calculus.specs.Claim.{Safe}
 use Rattle.calculus.specs.Capability.{nothing, _≈_⊕_}
 use Rattle.calculus.specs.Figure5.{Ty, int-type, ref-type, lock-type, tid-type, Env, empty, _∣_∣_⊢_∶_∣_, VAR, INT, LET, WHILE, NEWT, SPAWN, JOIN, REF, WRITE, READ, NEWL, FREEL, LCK, ULCK}
 use Rattle.calculus.specs.Examples.{holding, figure-2b, figure-2c, section-2-2-1-thread, section-2-2-1, freed-lock}
-use Rattle.calculus.proofs.Order.{≥-refl}
+use Rattle.calculus.proofs.Laws.Order.{≥-refl}
 use Rattle.calculus.proofs.Safety.{derived-is-safe}
 
-holding-sum : (a b c d : ℕ) → holding (a + c) (b + d) ≈ holding a b ⊕ holding c d
+pub holding-sum : (a b c d : ℕ) → holding (a + c) (b + d) ≈ holding a b ⊕ holding c d
 holding-sum a b c d = record { at = by-location }
   where
     by-location : (ρ : ℕ) → holding (a + c) (b + d) ρ ≡ holding a b ρ + holding c d ρ

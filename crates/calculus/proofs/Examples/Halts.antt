@@ -2,18 +2,18 @@
 use Prim.Native.Nat.{ℕ, zero, suc}
 use mathlib.Core.Path.{_≡_, refl, ap, sym, _∙_}
 use mathlib.Core.Logic.{_≢_, _⊎_, inl, inr}
-use mathlib.Core.Option.{none, some}
+use mathlib.Core.Option.{some}
 use mathlib.Core.List.{[], _∷_}
 use native.Mathlib.Decide.{ℕ-discrete}
 use native.Mathlib.Omega.{arith}
-use Rattle.calculus.specs.Expression.{Value, int, name, Unary, join, ref, read, freelock, lock, unlock, Exp, value, unary, unary-redex, Next, at-word}
+use Rattle.calculus.specs.Expression.{Value, int, name, Unary, join, ref, read, freelock, lock, unlock, Exp, value, unary, unary-redex, at-word}
 use Rattle.calculus.specs.State.{LockState, closed, removed, opened, a-lock, Thread, State, Move, update}
 use Rattle.calculus.specs.Reduction.{_>>_, lock-state, zero-exp, becomes, unary-reduct, reduce, attempt, run, start}
 use Rattle.calculus.specs.Claim.{ThreadAt, Finished, finished, is-lock, Waits, at-join, at-lock, at-freelock, Halts, HaltsWell, Safe}
 use Rattle.calculus.specs.Examples.{goes, names, on-constant, figure-2b, moves-2b-to-join, figure-2c, moves-2c-to-lock, freed-lock, moves-freed-lock}
-use Rattle.calculus.proofs.Maps.{some-injective, none-is-not-some}
-use Rattle.calculus.proofs.NextWord.{word-injective}
-use Rattle.calculus.proofs.Waiting.{waiting-halts, stuck-halts}
+use Rattle.calculus.proofs.Laws.Maps.{some-injective, none-is-not-some}
+use Rattle.calculus.proofs.Laws.NextWord.{word-injective}
+use Rattle.calculus.proofs.Laws.Waiting.{waiting-halts, stuck-halts}
 use Rattle.calculus.proofs.Examples.Claims.{odd-halt-is-not-safe}
 
 -- ---- Odd halts: a constant is of the wrong kind for every word with one part but `ref`
@@ -50,6 +50,13 @@ word-on-constant-halts-oddly o d well = by-cases (well 0 _ refl (word-on-constan
     by-cases : ¬ (Finished (record { tid = 0; body = on-constant o }) ⊎ Waits (start (on-constant o)) (record { tid = 0; body = on-constant o }))
     by-cases (inl (finished v e)) = unary-is-no-value e
     by-cases (inr w) = constant-is-not-waited-for (start (on-constant o)) o 0 w
+
+-- `! 0` and `unlock 0`, to name two.
+pub read-of-constant-halts-oddly : ¬ HaltsWell (start (on-constant read))
+read-of-constant-halts-oddly = word-on-constant-halts-oddly read λ h. let z : _≡_ {A = ℕ} 0 1 = cc in omega (arith, z)
+
+pub unlock-of-constant-halts-oddly : ¬ HaltsWell (start (on-constant unlock))
+unlock-of-constant-halts-oddly = word-on-constant-halts-oddly unlock λ h. let z : _≡_ {A = ℕ} 0 1 = cc in omega (arith, z)
 
 pub word-on-constant-is-not-safe : (o : Unary) → o ≢ ref → ¬ Safe (on-constant o)
 unfolding run

@@ -1,6 +1,6 @@
 -- Programs that race.
 use Prim.Native.Nat.{ℕ, _≤_, _<_}
-use mathlib.Core.Path.{_≡_, refl}
+use mathlib.Core.Path.{refl}
 use mathlib.Core.Logic.{inl, inr}
 use native.Mathlib.Decide.{ℕ-discrete}
 use native.Mathlib.Omega.{arith}
@@ -28,7 +28,7 @@ pub two-locks-race : Race (run moves-two-locks (start two-locks))
 unfolding start run attempt reduce ℕ-discrete
 two-locks-race = race 0 1 1 _ _ (omega arith) refl refl (about-to-write (int 0) (int 1) refl refl) (inl (about-to-read (int 0) refl refl))
 
--- So no start of at most the whole derives it, and NEWL tells it from the programs that NEWL-unsound could not.
+-- So Figure 5 does not derive it from a start of at most the whole. With NEWL-unsound it would: each lock would lend the whole of x.
 pub two-locks-has-no-derivation : {D : ℕ} {Ψ Φ : Cap} {τ : Ty} → 0 < D → ((ρ : ℕ) → Ψ ρ ≤ D) → ¬ (D ∣ empty ∣ Ψ ⊢ two-locks ∶ τ ∣ Φ)
 two-locks-has-no-derivation positive at-most-whole derived =
     race-is-not-safe two-locks moves-two-locks two-locks-race (derived-is-safe positive derived at-most-whole)

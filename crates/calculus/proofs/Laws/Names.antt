@@ -1,6 +1,6 @@
 -- Names in any run, of any program: a used name stays used, and names never run out.
 use Prim.Native.Nat.{ℕ, suc, _≤_, max}
-use mathlib.Core.Path.{_≡_, refl, _∙_}
+use mathlib.Core.Path.{_≡_, refl}
 use mathlib.Core.Path.{subst as along}
 use mathlib.Core.Logic.{_≢_}
 use mathlib.Core.Option.{Option, none, some}
@@ -9,10 +9,10 @@ use native.Mathlib.Decide.{ℕ-discrete}
 use native.Mathlib.Omega.{arith}
 use lib.ListN.{getElem?}
 use Rattle.calculus.specs.Expression.{Value, Unary, join, ref, read, freelock, lock, unlock, Maker, newtid, newlock, Exp, Redex, let-redex, if-redex, while-redex, spawn-redex, write-redex, unary-redex, make-redex, next, choose}
-use Rattle.calculus.specs.State.{LockState, opened, closed, removed, Slot, unused, identifier, cell, a-lock, Thread, State, Move, update}
-use Rattle.calculus.specs.Reduction.{name-of, if-unused, if-identifier, content, lock-state, if-opened, if-equal, value-of, word-of, made, taken, unary-reduct, reduct, reduce, or-else, attempt, states, start}
+use Rattle.calculus.specs.State.{LockState, opened, Slot, unused, identifier, cell, a-lock, Thread, State, Move, update}
+use Rattle.calculus.specs.Reduction.{name-of, if-unused, if-identifier, content, lock-state, if-opened, if-equal, value-of, word-of, made, named, taken, unary-reduct, reduct, reduce, or-else, attempt, states, start}
 use Rattle.calculus.specs.Claim.{Every}
-use Rattle.calculus.proofs.Maps.{some-injective, bind-is-some, update-other, update-above}
+use Rattle.calculus.proofs.Laws.Maps.{some-injective, bind-is-some, update-other, update-above}
 
 -- ---- What a reduction does to the names
 
@@ -39,12 +39,18 @@ module _ (s : State) (m : Move) (t : Thread) where
   told : {a b : State} → OneChanged (s .names) (a .names) → some a ≡ some b → OneChanged (s .names) (b .names)
   told h q = along (λ (z : State). OneChanged (s .names) (z .names)) (some-injective q) h
 
-  taken-changes-one : (v : Value) (after : LockState) (s′ : State) → taken s m t v after ≡ some s′ → OneChanged (s .names) (s′ .names)
-  taken-changes-one v after s′ q =
+  named-changes-one : (new : Slot) (s′ : State) → new ≢ unused → named s m t new ≡ some s′ → OneChanged (s .names) (s′ .names)
+  named-changes-one new s′ used q =
+      let (_, _, q₁) = bind-is-some (if-unused (s .names (m .fresh))) q in
+      told (one-changed (m .fresh) new used) q₁
+
+  taken-changes-one : (v : Value) (after : Slot) (s′ : State) → after ≢ unused → taken s m t v after ≡ some s′ →
+      OneChanged (s .names) (s′ .names)
+  taken-changes-one v after s′ used q =
       let (n, _, q₁) = bind-is-some (name-of v) q in
       let (l, _, q₂) = bind-is-some (lock-state (s .names n)) q₁ in
       let (_, _, q₃) = bind-is-some (if-opened l) q₂ in
-      told (one-changed n (a-lock after) lock-is-used) q₃
+      told (one-changed n after used) q₃
 
   unary-changes-one : (o : Unary) (v : Value) (s′ : State) → unary-reduct s m t o v ≡ some s′ → OneChanged (s .names) (s′ .names)
   unary-changes-one join v s′ q =
@@ -54,15 +60,13 @@ module _ (s : State) (m : Move) (t : Thread) where
       let (_, _, q₄) = bind-is-some (if-equal (u .tid) n) q₃ in
       let (_, _, q₅) = bind-is-some (value-of (next (u .body))) q₄ in
       told none-changed q₅
-  unary-changes-one ref v s′ q =
-      let (_, _, q₁) = bind-is-some (if-unused (s .names (m .fresh))) q in
-      told (one-changed (m .fresh) (cell v) cell-is-used) q₁
+  unary-changes-one ref v s′ q = named-changes-one _ s′ cell-is-used q
   unary-changes-one read v s′ q =
       let (n, _, q₁) = bind-is-some (name-of v) q in
       let (_, _, q₂) = bind-is-some (content (s .names n)) q₁ in
       told none-changed q₂
-  unary-changes-one freelock v s′ q = taken-changes-one v removed s′ q
-  unary-changes-one lock v s′ q = taken-changes-one v closed s′ q
+  unary-changes-one freelock v s′ q = taken-changes-one v _ s′ lock-is-used q
+  unary-changes-one lock v s′ q = taken-changes-one v _ s′ lock-is-used q
   unary-changes-one unlock v s′ q =
       let (n, _, q₁) = bind-is-some (name-of v) q in
       let (_, _, q₂) = bind-is-some (lock-state (s .names n)) q₁ in
@@ -81,9 +85,7 @@ module _ (s : State) (m : Move) (t : Thread) where
       let (_, _, q₂) = bind-is-some (content (s .names n)) q₁ in
       told (one-changed n (cell w) cell-is-used) q₂
   reduct-changes-one (unary-redex o v) s′ q = unary-changes-one o v s′ q
-  reduct-changes-one (make-redex o) s′ q =
-      let (_, _, q₁) = bind-is-some (if-unused (s .names (m .fresh))) q in
-      told (one-changed (m .fresh) (made o) (made-is-used o)) q₁
+  reduct-changes-one (make-redex o) s′ q = named-changes-one _ s′ (made-is-used o) q
 
 pub attempt-changes-one : (s : State) (m : Move) → OneChanged (s .names) (attempt s m .names)
 unfolding attempt reduce

@@ -27,6 +27,9 @@ gains-weakens h a b = record { at = λ ρ. omega (arith, h .at ρ, a .at ρ, b .
 pub pays-weakens : {Φ Φ′ Ψ Ψ′ K : Cap} → Pays Φ Ψ K → Ψ′ ≥ᶜ Ψ → Φ ≥ᶜ Φ′ → Pays Φ′ Ψ′ K
 pays-weakens h a b = record { at = λ ρ. omega (arith, h .at ρ, a .at ρ, b .at ρ) }
 
+pub gains-at-most : {Φ Ψ K : Cap} → Gains Φ Ψ K → Ψ +ᶜ K ≥ᶜ Φ
+gains-at-most h = record { at = λ ρ. omega (arith, h .at ρ) }
+
 pub sum-gains : {Φ Ψ K : Cap} → Φ ≈ Ψ ⊕ K → Gains Φ Ψ K
 sum-gains h = record { at = λ ρ. omega (arith, h .at ρ) }
 

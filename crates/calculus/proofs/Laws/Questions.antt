@@ -6,7 +6,7 @@ use native.Mathlib.Decide.{ℕ-discrete}
 use Rattle.calculus.specs.Expression.{Value, Redex, Next, is-value, at-variable, at-word, choose}
 use Rattle.calculus.specs.State.{LockState, opened, closed, removed, Slot, unused, identifier, cell, a-lock}
 use Rattle.calculus.specs.Reduction.{if-unused, if-identifier, content, lock-state, if-opened, if-equal, value-of, word-of}
-use Rattle.calculus.proofs.Maps.{some-injective, none-is-not-some}
+use Rattle.calculus.proofs.Laws.Maps.{some-injective, none-is-not-some}
 
 pub unused-tells : {u : Unit {0}} (sl : Slot) → if-unused sl ≡ some u → sl ≡ unused
 unused-tells unused h = refl

@@ -19,7 +19,8 @@ pub some-is-not-none {ℓ κ} : {A : Type ℓ} {B : Type κ} {a : A} → some a 
 some-is-not-none h = none-is-not-some (sym h)
 
 -- A chain of questions that ends well had an answer to its first.
-pub bind-is-some {ℓ κ} : {A : Type ℓ} {B : Type κ} {b : B} (o : Option A) {f : A → Option B} → (o >>= f) ≡ some b → (a : A) × (o ≡ some a) × (f a ≡ some b)
+pub bind-is-some {ℓ κ} : {A : Type ℓ} {B : Type κ} {b : B} (o : Option A) {f : A → Option B} → (o >>= f) ≡ some b →
+    (a : A) × (o ≡ some a) × (f a ≡ some b)
 bind-is-some none h = none-is-not-some h
 bind-is-some (some a) h = (a, refl, h)
 
@@ -42,5 +43,6 @@ update-other f n m a h = by-cases (ℕ-discrete m n)
     by-cases (no p) = refl
 
 -- A map that is b from some number on still is, from some number on, when it is updated at one place.
-pub update-above : {A : Type 0} (f : ℕ → A) (n top : ℕ) (a b : A) → ((m : ℕ) → top ≤ m → f m ≡ b) → (m : ℕ) → max (suc n) top ≤ m → update f n a m ≡ b
+pub update-above : {A : Type 0} (f : ℕ → A) (n top : ℕ) (a b : A) → ((m : ℕ) → top ≤ m → f m ≡ b) → (m : ℕ) → max (suc n) top ≤ m →
+    update f n a m ≡ b
 update-above f n top a b above m h = update-other f n m a (omega arith) ∙ above m (omega arith)

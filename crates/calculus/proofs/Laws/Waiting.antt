@@ -1,16 +1,16 @@
 -- The other direction of progress, in any state: a thread that has finished, or waits, halts.
 use Prim.Native.Nat.{ℕ}
 use mathlib.Core.Path.{_≡_, refl, sym, ap, _∙_}
-use mathlib.Core.Logic.{_≢_, _⊎_, inl, inr}
+use mathlib.Core.Logic.{_≢_}
 use mathlib.Core.Option.{Option, none, some}
 use lib.ListN.{getElem?}
-use Rattle.calculus.specs.Expression.{Value, name, join, Redex, unary-redex, is-value, at-word, next}
-use Rattle.calculus.specs.State.{LockState, opened, closed, removed, a-lock, Thread, State, Move}
+use Rattle.calculus.specs.Expression.{name, join, Redex, at-word, next}
+use Rattle.calculus.specs.State.{Slot, opened, a-lock, Thread, State, Move}
 use Rattle.calculus.specs.Reduction.{_>>=_, if-identifier, lock-state, if-opened, if-equal, value-of, word-of, taken, unary-reduct, reduct, reduce}
 use Rattle.calculus.specs.Claim.{ThreadAt, Finished, finished, Waits, at-join, at-lock, at-freelock, Halts}
-use Rattle.calculus.proofs.Maps.{bind-is-some}
-use Rattle.calculus.proofs.NextWord.{word-injective, word-is-no-value, next-is-value}
-use Rattle.calculus.proofs.Questions.{lock-state-tells, opened-tells, equal-tells, value-tells, word-tells}
+use Rattle.calculus.proofs.Laws.Maps.{bind-is-some}
+use Rattle.calculus.proofs.Laws.NextWord.{word-injective, word-is-no-value, next-is-value}
+use Rattle.calculus.proofs.Laws.Questions.{lock-state-tells, opened-tells, equal-tells, value-tells, word-tells}
 
 -- What never gives an answer gives none.
 no-answer {ℓ} : {A : Type ℓ} (o : Option A) → ((a : A) → o ≡ some a → ⊥) → o ≡ none
@@ -30,7 +30,8 @@ stuck-halts {t} s i there stuck m e =
 pub finished-halts : {t : Thread} (s : State) (i : ℕ) → ThreadAt s i t → Finished t → Halts s i
 finished-halts s i there (finished v e) = stuck-halts s i there λ m r s′ b q. word-is-no-value b (ap next e)
 
-not-open-is-not-taken : (s : State) (m : Move) (t : Thread) (n : ℕ) (after : LockState) (s′ : State) → s .names n ≢ a-lock opened → taken s m t (name n) after ≡ some s′ → ⊥
+not-open-is-not-taken : (s : State) (m : Move) (t : Thread) (n : ℕ) (after : Slot) (s′ : State) → s .names n ≢ a-lock opened →
+    taken s m t (name n) after ≡ some s′ → ⊥
 not-open-is-not-taken s m t n after s′ shut q =
     let (l, e, q₁) = bind-is-some (lock-state (s .names n)) q in
     let (_, o, _) = bind-is-some (if-opened l) q₁ in
@@ -43,8 +44,9 @@ waiting-halts {t} s i there (at-join n b kind none-finished) = stuck-halts s i t
     let (u, at-u, q₂) = bind-is-some (getElem? (s .threads) (m .finished)) q₁ in
     let (_, same, q₃) = bind-is-some (if-equal (u .tid) n) q₂ in
     let (v, ended, _) = bind-is-some (value-of (next (u .body))) q₃ in
-    none-finished (m .finished) u at-u (equal-tells (u .tid) n same) (finished v (next-is-value (u .body) (value-tells (next (u .body)) ended)))
+    let is-v = next-is-value (u .body) (value-tells (next (u .body)) ended) in
+    none-finished (m .finished) u at-u (equal-tells (u .tid) n same) (finished v is-v)
 waiting-halts {t} s i there (at-lock n b kind shut) =
-    stuck-halts s i there λ m r s′ w q. not-open-is-not-taken s m t n closed s′ shut (rw (word-injective (sym w ∙ b)) at q)
+    stuck-halts s i there λ m r s′ w q. not-open-is-not-taken s m t n _ s′ shut (rw (word-injective (sym w ∙ b)) at q)
 waiting-halts {t} s i there (at-freelock n b kind shut) =
-    stuck-halts s i there λ m r s′ w q. not-open-is-not-taken s m t n removed s′ shut (rw (word-injective (sym w ∙ b)) at q)
+    stuck-halts s i there λ m r s′ w q. not-open-is-not-taken s m t n _ s′ shut (rw (word-injective (sym w ∙ b)) at q)
