@@ -9,3 +9,4 @@ pub mod LineNumbers
 pub mod LineEnds
 pub mod Ranges
 pub mod Words
+pub mod TypeLines

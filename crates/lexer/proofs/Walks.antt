@@ -3,9 +3,9 @@ use mathlib.Core.Path.{_≡_, refl, sym, ap, subst, _∙_}
 use mathlib.Core.List.{List, [], _∷_}
 use mathlib.Core.Bool.{true, false}
 use mathlib.Core.Option.{Option, none, some}
-use Prim.Native.Nat.{ℕ, _+_, _^_, _<_}
+use Prim.Native.Nat.{ℕ, _+_, _-_, _^_, _<_}
 use native.Mathlib.Omega.{arith}
-use lib.ListN.{length}
+use lib.ListN.{length, take, drop}
 use Rattle.spec.specs.Text.{lines, Field, digitLimit, numeral}
 use Rattle.spec.specs.Reading.{SheetName, stop, Seen, badForm, form, passed, nextLine}
 use Rattle.lexer.specs.Views.{endOf, firstField, behind, nothing, withField, lineAt}
@@ -23,7 +23,7 @@ use Rattle.lexer.specs.Numbers.{numberAt}
 use Rattle.lexer.specs.declared.Number.the-variants as number-is
 use Rattle.lexer.proofs.Digits.{numeral-small}
 use Rattle.lexer.proofs.Numerals.{value-at-cursor}
-use Rattle.lexer.proofs.Places.{next-rest, next-placed, line-kept, line-passed}
+use Rattle.lexer.proofs.Places.{span-field, next-rest, next-placed, line-kept, line-passed}
 
 -- ------------------------------------------------------------------ at a cursor
 
@@ -61,6 +61,10 @@ module _ (text : List ℕ) (c : Cursor) (s : Span) (is : s ≡ spanAt text c) wh
 
     pub span-text : s .end ≡ Text → lineAt (rest text c) ≡ none
     span-text e = line-text (rest text c) (sym span-end ∙ e)
+
+  -- what is asked of the field's bytes, as `same` and `type_word` ask it, is asked of the first field
+  pub span-bytes : {A : Type 0} (g : List ℕ → A) → g (take (s .to - s .from) (drop (s .from) text)) ≡ g (firstField (rest text c))
+  span-bytes g = ap g (span-field text c s is)
 
   pub span-line-kept : s .end ≡ Comma → s .next .line ≡ c .line
   span-line-kept e = ap (λ (d : Cursor). d .line) span-next ∙ line-kept text c (sym span-end ∙ e)
