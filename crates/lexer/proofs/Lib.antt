@@ -2,6 +2,7 @@ pub mod SameBytes
 pub mod Digits
 pub mod Fields
 pub mod Lines
+pub mod Sheets
 pub mod Places
 pub mod Numerals
 pub mod Walks
