@@ -1,0 +1,12 @@
+pub mod Judged
+pub mod TypeKinds
+pub mod Relations
+pub mod Walking
+pub mod Columns
+pub mod Shown
+pub mod Words
+pub mod Here
+pub mod Scopes
+pub mod Views
+pub mod OneStep
+pub mod Transfer

@@ -1,0 +1,24 @@
+use Rattle.rules.proofs.Judged.{last, next}
+use borrow.Author.Needs.{needs}
+use Rattle.rules.proofs.check_var.Statement.{statement}
+use Rattle.rules.proofs.check_var.Tie as tie
+use Rattle.rules.proofs.check_var.Reads as reads
+use Rattle.rules.proofs.check_var.Lts as lts
+use Rattle.rules.proofs.agree.Reads as agree-reads
+use Rattle.rules.proofs.also.Reads as also-reads
+use Rattle.rules.proofs.equal.Reads as equal-reads
+
+agree-requires : tie.Need-agree-requires
+agree-requires c κs = search needs
+
+equal-requires : tie.Need-equal-requires
+equal-requires c κs = search needs
+
+also-requires : tie.Need-also-requires
+also-requires c κs = search needs
+
+returns : tie.Need-returns
+returns c = next _ _ _ _ _ _ (c .also .ensures) (c .before .before .agree .ensures) (last _ _ _ (c .before .equal .ensures))
+
+pub check-var-spec : {M : Type 1} → statement M
+check-var-spec = tie.close (tie.spec agree-requires equal-requires also-requires returns)
