@@ -1,0 +1,73 @@
+-- From what the stages found to the verdict.
+use mathlib.Core.Path.{_≡_, refl, sym, ap, _∙_}
+use mathlib.Core.List.{List}
+use Prim.Native.Nat.{ℕ, _≤_, _<_}
+use native.Mathlib.Omega.{arith}
+use lib.ListN.{length}
+use Rattle.spec.specs.Reading.{Out, stop, on, _>>=_}
+use Rattle.spec.specs.Program.{Program, programLimit, program}
+use Rattle.spec.specs.Split.{Split, splitLimit, split}
+use Rattle.spec.specs.WellFormed.{WellFormedProgram, WellFormedSplit}
+use Rattle.spec.specs.Workspace.{workspaceSize}
+use Rattle.spec.specs.Verdict.{startAtMostOne, ruled, answer, verdict}
+use Rattle.spec.specs.declared.Answer.{Answer}
+use Rattle.spec.specs.declared.Answer.the-variants.{Accept, Refuse}
+use Rattle.spec.specs.declared.Refusal.{Refusal}
+use Rattle.spec.specs.declared.Refusal.the-variants.{LongSplit}
+use Rattle.spec.proofs.WellFormed.{well-formed-program, split-well-formed}
+use Rattle.spec.proofs.Ranges.{well-formed-in-range}
+use Rattle.spec.proofs.Reasons.{long-split, split-refused, rules-decide}
+use Rattle.workspace.specs.Region.{ChangedWithin}
+use Rattle.workspace.specs.Holds.{HoldsProgram, HoldsSplit}
+use Rattle.workspace.proofs.Held.{program-kept}
+use Rattle.rules.specs.Outcome.{outcome, both}
+use Rattle.rules.specs.Contract.{HoldsSheets}
+use Rattle.rules.specs.declared.Ruling.{Ruling}
+use Rattle.rules.specs.declared.Ruling.the-variants.{Met, Refused}
+use Rattle.checker.specs.Stages.{RulesAnswered}
+
+-- ------------------------------------------------------------------ the rules
+
+pub met-accepts : {o : Out (Unit {0})} (r : Ruling) → r ≡ Met → outcome r ≡ o → Accept ≡ answer o
+unfolding outcome answer
+met-accepts r e h = ap answer (sym (ap outcome e) ∙ h)
+
+pub refused-refuses : {o : Out (Unit {0})} (r : Ruling) (x : Refusal) → r ≡ Refused x → outcome r ≡ o → Refuse x ≡ answer o
+unfolding outcome answer
+refused-refuses r x e h = ap answer (sym (ap outcome e) ∙ h)
+
+-- ------------------------------------------------------------------ the split
+
+-- a program that is well formed, and the split's text
+module _ (p s : List ℕ) (P : Program) (F : WellFormedProgram p P) where
+  reads : program p ≡ on P
+  reads = well-formed-program p F
+
+  pub long-split-refused : 65536 < length s → Refuse LongSplit ≡ verdict workspaceSize p s
+  unfolding workspaceSize programLimit
+  long-split-refused h = sym (long-split 16384 p s (omega arith) (F .fits) P reads h)
+
+  module _ (fits : length s ≤ 65536) where
+    pub bad-split-refused : (r : Refusal) → split (P .steps) s ≡ stop r → Refuse r ≡ verdict workspaceSize p s
+    unfolding workspaceSize programLimit
+    bad-split-refused r e = sym (split-refused 16384 p s (omega arith) (F .fits) P reads fits r e)
+
+    pub good-split-ruled : {w w′ : List ℕ} {n d l : ℕ} {a : Answer} (S : Split) → split (P .steps) s ≡ on S
+        → ChangedWithin 1024 16384 w w′ → HoldsProgram w P → HoldsSplit w′ S → n ≡ length (P .steps) → n ≤ 256
+        → d ≡ S .header .denominator → l ≡ S .header .locations → RulesAnswered w′ n d l a → a ≡ verdict workspaceSize p s
+    unfolding workspaceSize programLimit splitLimit both
+    good-split-ruled S e changed holds holds′ counted few isD isL rules =
+        let G = split-well-formed (P .steps) s fits e in
+        rules P S (record {
+          programText = p;
+          splitText = s;
+          wellFormedProgram = F;
+          wellFormedSplit = G;
+          inRange = well-formed-in-range G;
+          program = program-kept changed (F .listing) (omega (arith, counted, few)) holds;
+          split = holds′;
+          stepsCounted = counted;
+          denominatorGiven = isD;
+          locationsGiven = isL;
+        })
+        ∙ sym (rules-decide 16384 p s (omega arith) (F .fits) P reads fits S e)
