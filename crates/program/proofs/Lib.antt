@@ -1,0 +1,4 @@
+pub mod Regions
+pub mod Listed
+pub mod StructureLaws
+pub mod ScopeLaws

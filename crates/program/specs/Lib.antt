@@ -1,0 +1,4 @@
+pub mod Stored
+pub mod Outcomes
+pub mod Structure
+pub mod Scopes
