@@ -34,7 +34,7 @@ getD-any [] i d e h = absurd (not-suc-le-zero h)
 getD-any (x ∷ l) zero d e h = refl
 getD-any (x ∷ l) (suc i) d e h = getD-any l i d e (le-of-suc-le-suc h)
 
-replicate-any : (n v x : ℕ) → getD (replicate n x) v x ≡ x
+pub replicate-any : (n v x : ℕ) → getD (replicate n x) v x ≡ x
 replicate-any zero v x = refl
 replicate-any (suc n) zero x = refl
 replicate-any (suc n) (suc v) x = replicate-any n v x
