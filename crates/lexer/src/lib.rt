@@ -236,7 +236,7 @@ impl Cursor {
                 }
             }
         }
-        Numbers::Malformed
+        Numbers::Malformed // a numeral too many
     }
 }
 
