@@ -4,8 +4,8 @@ pub mod Fields
 pub mod Lines
 pub mod Places
 pub mod Numerals
-pub mod LineNumbers
-pub mod Words
-pub mod LineEnds
 pub mod Walks
+pub mod LineNumbers
+pub mod LineEnds
 pub mod Ranges
+pub mod Words

@@ -8,9 +8,9 @@ use Rattle.spec.specs.Choice.{if_then_else_}
 use lib.Dec.{eqb, leb, leb·suc-suc}
 use borrow.Author.Tests.{le-leb, lt-leb}
 use lib.ListN.{length, take, drop, drop-of-length-le, length-drop}
-use lib.Seq.{drop-drop, drop-nil}
+use lib.Seq.{drop-drop}
 use Rattle.lexer.specs.Views.{width, endOf, firstField, behind, nothing}
-use Rattle.lexer.specs.Cursors.{Placed, start, rest, past, next, spanTo, spanAt}
+use Rattle.lexer.specs.Cursors.{Placed, rest, past, next, spanTo, spanAt}
 use Rattle.lexer.specs.declared.Cursor.{Cursor}
 use Rattle.lexer.specs.declared.Span.{Span}
 use Rattle.lexer.specs.declared.FieldEnd.{FieldEnd}

@@ -1,5 +1,5 @@
 -- Cursors over a text, and what stands at them.
-use mathlib.Core.List.{List, [], _∷_}
+use mathlib.Core.List.{List}
 use Prim.Native.Nat.{ℕ, _+_, _≤_, _<_}
 use lib.ListN.{length, drop}
 use Rattle.lexer.specs.Views.{width, endOf}

@@ -1,8 +1,5 @@
 // The cursor over a lent text, and what is read at it: fields, numerals, words, the ends of lines and of the text.
 ghost use mathlib.Core.Path.{_≡_};
-ghost use mathlib.Core.List.{_++_};
-ghost use Prim.Native.Nat.{_+_, _<_, _≤_};
-ghost use lib.ListN.{length};
 ghost use Rattle.spec.specs.Text.{leadingZero, numeral, same as sameBytes};
 ghost use Rattle.spec.specs.Program.{words, lookUp};
 ghost use Rattle.lexer.specs.Views.{nothing};
