@@ -5,3 +5,6 @@ pub mod ScopeLaws
 pub mod Standing
 pub mod Tables
 pub mod Walk
+pub mod LineLaws
+pub mod StepLoop
+pub mod Sheets

@@ -11,17 +11,9 @@ use Rattle.workspace.specs.Layout.{endsAt}
 use Rattle.workspace.specs.Holds.{ends}
 use Rattle.workspace.specs.Region.{Region}
 use Rattle.program.specs.Stored.{wordAt, valueAt, stepsIn}
-use Rattle.program.specs.Scopes.{roleOf}
-use Rattle.program.specs.declared.Role.{Role}
-use Rattle.program.specs.declared.Role.the-variants.{Binds, Uses, Neither}
+use Rattle.program.specs.Scopes.{roleOf, Variable, Variables}
 use Rattle.program.proofs.Regions.{region-first, region-behind, region-left, region-right}
 use Rattle.program.proofs.Listed.{ends-length}
-
--- a variable is below 256
-abbrev pub Variable : Role → ℕ → Type 0
-Variable Binds v = v < 256
-Variable Uses v = v < 256
-Variable Neither v = Unit {0}
 
 -- the step at index k: its word, its line, its number v
 pub record Head (w : List ℕ) (k : ℕ) (x : Word) (l v : ℕ) : Type 0 where

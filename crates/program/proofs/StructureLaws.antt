@@ -91,7 +91,7 @@ listed-fits w n k e es h p =
 
 -- storing ends leaves the steps as they are
 module _ (w w′ : List ℕ) (a : ℕ) (x : ChangedWithin (endsAt + a) (endsAt + 256) w w′) where
-  steps-kept : (k m : ℕ) → k + m ≤ 256 → stepsIn w′ k m ≡ stepsIn w k m
+  pub steps-kept : (k m : ℕ) → k + m ≤ 256 → stepsIn w′ k m ≡ stepsIn w k m
   unfolding stepsIn wordAt valueAt
   steps-kept k zero h = refl
   steps-kept k (suc m) h =
