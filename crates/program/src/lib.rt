@@ -28,14 +28,14 @@ const STEP_LIMIT: u32 = 256;
 const UNBOUND: u32 = 256;
 
 // Nothing to refuse, or the refusal.
-pub enum Outcome {
+enum Outcome {
     Passed,
     Refused(Refusal),
 }
 
 // The number behind a line's first field and the cursor behind the line; malformed, if the line does not end with that
 // number.
-pub enum Tail {
+enum Tail {
     Value(u32, Cursor),
     Malformed,
 }
@@ -56,7 +56,7 @@ fn last_number(text: &[u8], end: FieldEnd, next: Cursor) -> Tail
 }
 
 // The number of steps and the cursor behind line 1, or the refusal of that line.
-pub enum CountLine {
+enum CountLine {
     Count(u32, Cursor),
     Refused(Refusal),
 }
@@ -124,7 +124,7 @@ fn limit_of(w: Word) -> u32
 }
 
 // A step and the cursor behind its line, or the refusal of that line.
-pub enum StepLine {
+enum StepLine {
     Step(Word, u32, Cursor),
     Refused(Refusal),
 }
@@ -157,7 +157,7 @@ fn step_line(text: &[u8], cursor: Cursor) -> StepLine
 }
 
 // The cursor behind the step lines, or the refusal of one of them.
-pub enum StepLines {
+enum StepLines {
     Read(Cursor),
     Refused(Refusal),
 }
@@ -186,7 +186,7 @@ fn step_lines(text: &[u8], work: &mut [u32], n: usize, start: Cursor) -> StepLin
 }
 
 // Where steps that are read one after the other end, or that a part is missing at the last line.
-pub enum Ending {
+enum Ending {
     Reached(usize),
     Unfinished,
 }
@@ -255,7 +255,7 @@ fn structure(work: &mut [u32], n: usize) -> Outcome
 }
 
 // What a step does with its number v, if that is a variable.
-pub enum Role {
+enum Role {
     Binds,
     Uses,
     Neither,
@@ -295,7 +295,7 @@ fn role_of(w: Word) -> Role
 
 // A step judged: its variable is bound here, or a number is stored for it, the index of its variable's let if it is a
 // `var`, else 0; or it is refused.
-pub enum Judged {
+enum Judged {
     Bind,
     Store(u32),
     Refused(Refusal),
