@@ -60,8 +60,7 @@ pub ten-more : (i a d : ℕ) → a < 10 ^ i → d ≤ 9 → a * 10 + d < 10 ^ (i
 ten-more i a d h k = rw (add-one, pow-succ') (omega arith)
 
 -- what the first digits of a numeral come to is small
-pub ten-limit : (i a : ℕ) → a < 10 ^ i → i ≤ digitLimit → a < 10000000
-unfolding digitLimit
+pub ten-limit : (i a : ℕ) → a < 10 ^ i → i ≤ digitLimit → a < 10 ^ digitLimit
 ten-limit i a h k = lt-of-lt-of-le h (pow-le-pow-right {n = 10} (lit< tt) k)
 
 -- ------------------------------------------------------------------ what is a numeral, and what is none

@@ -2,6 +2,7 @@ pub mod SameBytes
 pub mod Digits
 pub mod Fields
 pub mod Lines
+pub mod Sheets
 pub mod Places
 pub mod Numerals
 pub mod Walks
@@ -9,3 +10,4 @@ pub mod LineNumbers
 pub mod LineEnds
 pub mod Ranges
 pub mod Words
+pub mod TypeLines

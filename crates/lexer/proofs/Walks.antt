@@ -3,9 +3,9 @@ use mathlib.Core.Path.{_≡_, refl, sym, ap, subst, _∙_}
 use mathlib.Core.List.{List, [], _∷_}
 use mathlib.Core.Bool.{true, false}
 use mathlib.Core.Option.{Option, none, some}
-use Prim.Native.Nat.{ℕ, _+_, _^_, _<_}
+use Prim.Native.Nat.{ℕ, _+_, _-_, _^_, _<_}
 use native.Mathlib.Omega.{arith}
-use lib.ListN.{length}
+use lib.ListN.{length, take, drop}
 use Rattle.spec.specs.Text.{lines, Field, digitLimit, numeral}
 use Rattle.spec.specs.Reading.{SheetName, stop, Seen, badForm, form, passed, nextLine}
 use Rattle.lexer.specs.Views.{endOf, firstField, behind, nothing, withField, lineAt}
@@ -23,7 +23,7 @@ use Rattle.lexer.specs.Numbers.{numberAt}
 use Rattle.lexer.specs.declared.Number.the-variants as number-is
 use Rattle.lexer.proofs.Digits.{numeral-small}
 use Rattle.lexer.proofs.Numerals.{value-at-cursor}
-use Rattle.lexer.proofs.Places.{next-rest, next-placed, line-kept, line-passed}
+use Rattle.lexer.proofs.Places.{span-field, next-rest, next-placed, line-kept, line-passed}
 
 -- ------------------------------------------------------------------ at a cursor
 
@@ -50,7 +50,7 @@ module _ (text : List ℕ) (c : Cursor) (s : Span) (is : s ≡ spanAt text c) wh
     pub span-placed : Placed text (s .next)
     span-placed = subst (Placed text) (sym span-next) (next-placed text c p)
 
-    span-behind : behind (rest text c) ≡ rest text (s .next)
+    pub span-behind : behind (rest text c) ≡ rest text (s .next)
     span-behind = sym (next-rest text c p) ∙ ap (rest text) (sym span-next)
 
     pub span-comma : s .end ≡ Comma → lineAt (rest text c) ≡ withField (firstField (rest text c)) (lineAt (rest text (s .next)))
@@ -61,6 +61,10 @@ module _ (text : List ℕ) (c : Cursor) (s : Span) (is : s ≡ spanAt text c) wh
 
     pub span-text : s .end ≡ Text → lineAt (rest text c) ≡ none
     span-text e = line-text (rest text c) (sym span-end ∙ e)
+
+  -- what is asked of the field's bytes, as `same` and `type_word` ask it, is asked of the first field
+  pub span-bytes : {A : Type 0} (g : List ℕ → A) → g (take (s .to - s .from) (drop (s .from) text)) ≡ g (firstField (rest text c))
+  span-bytes g = ap g (span-field text c s is)
 
   pub span-line-kept : s .end ≡ Comma → s .next .line ≡ c .line
   span-line-kept e = ap (λ (d : Cursor). d .line) span-next ∙ line-kept text c (sym span-end ∙ e)
@@ -76,10 +80,10 @@ module _ (text : List ℕ) (c : Cursor) (n : ℕ) (e : FieldEnd) (d : Cursor) (i
   pub number-small : n < 10 ^ digitLimit
   number-small = numeral-small (firstField (rest text c)) n number-numeral
 
-  number-end : endOf (rest text c) ≡ e
+  pub number-end : endOf (rest text c) ≡ e
   number-end = value-at-cursor text c n e d is .1
 
-  number-next : next text c ≡ d
+  pub number-next : next text c ≡ d
   number-next = value-at-cursor text c n e d is .2
 
   pub number-line-kept : e ≡ Comma → d .line ≡ c .line
@@ -135,22 +139,20 @@ module _ {A : Type 0} (sheet : SheetName) (read : List Field → Seen A) (k : �
   bad-fields f none e h = next-open sheet read k t some-left e
   bad-fields f (some line) e h = next-closed sheet read k t (f ∷ line .0) (line .1) e ∙ rw h
 
-  -- the first field is enough to refuse the line
-  pub first-wrong : ((fs : List Field) → read (firstField t ∷ fs) ≡ badForm) → nextLine sheet read k (lines t) ≡ stop (form sheet (k + 1))
+  by-comma : (endOf t ≡ Comma → nextLine sheet read k (lines t) ≡ stop (form sheet (k + 1))) → read (firstField t ∷ []) ≡ badForm
+      → nextLine sheet read k (lines t) ≡ stop (form sheet (k + 1))
   unfolding passed
-  first-wrong h = go (endOf t) refl
+  by-comma n h = go (endOf t) refl
     where
       go : (e : FieldEnd) → endOf t ≡ e → nextLine sheet read k (lines t) ≡ stop (form sheet (k + 1))
-      go Comma e = bad-fields (firstField t) (lineAt (behind t)) (line-comma t e) h
+      go Comma e = n e
       go Newline e = next-closed sheet read k t (firstField t ∷ []) (behind t) (line-newline t e) ∙ rw h
       go Text e = next-open sheet read k t some-left (line-text t e)
 
+  -- the first field is enough to refuse the line
+  pub first-wrong : ((fs : List Field) → read (firstField t ∷ fs) ≡ badForm) → nextLine sheet read k (lines t) ≡ stop (form sheet (k + 1))
+  first-wrong h = by-comma (λ e. bad-fields (firstField t) (lineAt (behind t)) (line-comma t e) h) (h [])
+
   -- the first field is the last, and that is too few
   pub first-alone : (endOf t ≡ Comma → ⊥) → read (firstField t ∷ []) ≡ badForm → nextLine sheet read k (lines t) ≡ stop (form sheet (k + 1))
-  unfolding passed
-  first-alone n h = go (endOf t) refl
-    where
-      go : (e : FieldEnd) → endOf t ≡ e → nextLine sheet read k (lines t) ≡ stop (form sheet (k + 1))
-      go Comma e = absurd (n e)
-      go Newline e = next-closed sheet read k t (firstField t ∷ []) (behind t) (line-newline t e) ∙ rw h
-      go Text e = next-open sheet read k t some-left (line-text t e)
+  first-alone n h = by-comma (λ e. absurd (n e)) h

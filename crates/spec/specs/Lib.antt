@@ -13,3 +13,7 @@ pub mod Figure5
 pub mod WellFormed
 pub mod Accepted
 pub mod Ranges
+pub mod KnownPairs
+pub mod EdgeSheets
+pub mod EdgeConditions
+pub mod FirstFalse

@@ -1,3 +1,4 @@
+-- The three tables, one after the other, are the table of document 01.
 use mathlib.Core.Path.{sym, _∙_}
 use borrow.Author.Needs.{needs}
 use Rattle.lexer.proofs.Words.{leaf-found, unary-found, binary-left}

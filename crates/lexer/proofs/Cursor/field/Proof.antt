@@ -40,8 +40,8 @@ returns c =
 add-at-2 : tie.Need-add-at-2 Inv-loop μ-loop
 add-at-2 c = search needs
 
-add-lines : tie.Need-add-lines Inv-loop μ-loop
-add-lines c = search needs
+add-line : tie.Need-add-line Inv-loop μ-loop
+add-line c = search needs
 
 returns-2 : tie.Need-returns-2 Inv-loop μ-loop
 unfolding rest past spanTo
@@ -86,7 +86,7 @@ field-spec =
     add-at
     returns
     add-at-2
-    add-lines
+    add-line
     returns-2
     add-to
     loop-less

@@ -1,3 +1,4 @@
+-- The bytes that are read as a numeral are the first field of what is left at the cursor.
 use mathlib.Core.Path.{sym, _∙_}
 use borrow.Author.Needs.{needs}
 use Rattle.lexer.proofs.Places.{span-le}

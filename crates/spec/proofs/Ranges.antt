@@ -1,0 +1,271 @@
+-- A well-formed split sheet has every number in its range.
+use mathlib.Core.Path.{_≡_, refl, sym, ap, _∙_}
+use mathlib.Core.Path.{subst as along}
+use mathlib.Core.List.{List, [], _∷_, map}
+use mathlib.Core.Bool.{Bool, true, false, _&&_}
+use mathlib.Core.Option.{Option, none, some}
+use Prim.Native.Nat.{ℕ, zero, suc, _+_, _≤_, _<_}
+use native.Mathlib.Omega.{arith}
+use lib.Dec.{eqb, leb, ltb}
+use lib.ListN.{length, getD, replicate, take, drop, length-replicate, List·getD-eq-default}
+use borrow.Author.Tests.{eqb-true, leb-true, ltb-true}
+use Rattle.spec.specs.Choice.{if_then_else_}
+use Rattle.spec.specs.Text.{Line, closed, bytes, same, Field, fields}
+use Rattle.spec.specs.Reading.{Seen, right, badForm, badRange, seen, Range, _to_, below, inRange, allInRange, numerals, ranged, numbers}
+use Rattle.spec.specs.Expression.{Step}
+use Rattle.spec.specs.Split.{Map, Header, headerOf, headerLine, refOf, lockOf, tidOf, typeLine, typeLines, mapLine, Row, rowOf, blank, startRange, rowLine, Split}
+use Rattle.spec.specs.WellFormed.{Shows, nothing, line, WellFormedSplit}
+use Rattle.spec.specs.Ranges.{InRange}
+use Rattle.spec.specs.declared.Word.{Word}
+use Rattle.spec.specs.declared.Word.the-variants.{Leaf, Unary, Binary}
+use Rattle.spec.specs.declared.BinaryWord.the-variants.{Let, If, Spawn, Write}
+use Rattle.spec.specs.declared.TypeLine.{TypeLine}
+use Rattle.spec.specs.declared.TypeLine.the-variants as type-line
+
+-- ------------------------------------------------------------------ lines that show something
+
+bad-form : {A B : Type 0} {a : A} → badForm ≡ right a → B
+bad-form h = let z : _≡_ {A = ℕ} 0 1 = cc in absurd (omega arith)
+
+bad-range : {A B : Type 0} {a : A} → badRange ≡ right a → B
+bad-range h = let z : _≡_ {A = ℕ} 0 1 = cc in absurd (omega arith)
+
+right-inj : {A : Type 0} {a b : A} → right a ≡ right b → a ≡ b
+right-inj h = cc
+
+pub seen-right : {A B : Type 0} {f : A → B} {b : B} (x : Seen A) → seen f x ≡ right b → (a : A) × (x ≡ right a) × (f a ≡ b)
+unfolding seen
+seen-right (right a) h = (a, refl, right-inj h)
+seen-right badForm h = bad-form h
+seen-right badRange h = bad-range h
+
+choice-right : {A : Type 0} {a : A} (b : Bool) (x : Seen A) → (if b then x else badForm) ≡ right a → x ≡ right a
+choice-right true x h = h
+choice-right false x h = bad-form h
+
+-- what holds of what either of two ways shows
+either-right : {A : Type 0} (Q : A → Type 0) (b : Bool) (x y : Seen A) → ((a : A) → x ≡ right a → Q a) → ((a : A) → y ≡ right a → Q a)
+    → (a : A) → (if b then x else y) ≡ right a → Q a
+either-right Q true x y f g a h = f a h
+either-right Q false x y f g a h = g a h
+
+and-true : (a b : Bool) → (a && b) ≡ true → (a ≡ true) × (b ≡ true)
+and-true true b h = (refl, h)
+and-true false b h = let z : _≡_ {A = ℕ} 0 1 = cc in absurd (omega arith)
+
+within-right : {ns ms : List ℕ} (b : Bool) → (if b then right ns else badRange) ≡ right ms → (b ≡ true) × (ns ≡ ms)
+within-right true h = (refl, right-inj h)
+within-right false h = bad-range h
+
+pub ranged-right : (rs : List Range) (o : Option (List ℕ)) (ns : List ℕ) → ranged rs o ≡ right ns → (length ns ≡ length rs) × (allInRange rs ns ≡ true)
+unfolding ranged
+ranged-right rs none ns h = bad-form h
+ranged-right rs (some ms) ns h = counted (eqb (length ms) (length rs)) refl h
+  where
+    counted : (b : Bool) → eqb (length ms) (length rs) ≡ b → (if b then (if allInRange rs ms then right ms else badRange) else badForm) ≡ right ns
+        → (length ns ≡ length rs) × (allInRange rs ns ≡ true)
+    counted true e h =
+        let (t, q) = within-right (allInRange rs ms) h in
+        (sym (ap length q) ∙ eqb-true _ _ e, sym (ap (allInRange rs) q) ∙ t)
+    counted false e h = bad-form h
+
+pub numbers-right : (rs : List Range) (fs : List Field) (ns : List ℕ) → numbers rs fs ≡ right ns → (length ns ≡ length rs) × (allInRange rs ns ≡ true)
+unfolding numbers
+numbers-right rs fs ns h = ranged-right rs (numerals fs) ns h
+
+-- ------------------------------------------------------------------ numbers in ranges
+
+in-to : (a b n : ℕ) → inRange (a to b) n ≡ true → (a ≤ n) × (n ≤ b)
+unfolding inRange
+in-to a b n h = let (x, y) = and-true _ _ h in (leb-true _ _ x, leb-true _ _ y)
+
+in-below : (c n : ℕ) → inRange (below c) n ≡ true → n < c
+unfolding inRange
+in-below c n h = ltb-true _ _ h
+
+all-at : (rs : List Range) (ns : List ℕ) → length ns ≡ length rs → allInRange rs ns ≡ true
+    → (i : ℕ) → i < length rs → inRange (getD rs i (0 to 0)) (getD ns i 0) ≡ true
+unfolding allInRange
+all-at [] ns l t i h = absurd (omega arith)
+all-at (r ∷ rs) [] l t i h = absurd (omega (arith, l))
+all-at (r ∷ rs) (n ∷ ns) l t zero h = and-true (inRange r n) (allInRange rs ns) t .0
+all-at (r ∷ rs) (n ∷ ns) l t (suc i) h = all-at rs ns (omega (arith, l)) (and-true (inRange r n) (allInRange rs ns) t .1) i (omega arith)
+
+-- each of the numbers on a line is in its range
+pub in-range-at : (rs : List Range) (fs : List Field) (ns : List ℕ) → numbers rs fs ≡ right ns
+    → (i : ℕ) → i < length rs → inRange (getD rs i (0 to 0)) (getD ns i 0) ≡ true
+in-range-at rs fs ns h = let (l, t) = numbers-right rs fs ns h in all-at rs ns l t
+
+-- ------------------------------------------------------------------ headers
+
+record HeaderFits (H : Header) : Type 0 where
+  denominator : (1 ≤ H .denominator) × (H .denominator ≤ 1000000)
+  locations : (1 ≤ H .locations) × (H .locations ≤ 16)
+  types : (1 ≤ H .types) × (H .types ≤ 64)
+  maps : (1 ≤ H .maps) × (H .maps ≤ 512)
+
+header-fits : (fs : List Field) (H : Header) → headerLine fs ≡ right H → HeaderFits H
+unfolding headerLine headerOf
+header-fits [] H h = bad-form h
+header-fits (f ∷ fs) H h =
+    let (ns, n, e) = seen-right _ (choice-right (same f (bytes "C")) _ h) in
+    let at = in-range-at ((1 to 1000000) ∷ (1 to 16) ∷ (1 to 64) ∷ (1 to 512) ∷ []) fs ns n in
+    along HeaderFits e (record {
+      denominator = in-to _ _ _ (at 0 (omega arith));
+      locations = in-to _ _ _ (at 1 (omega arith));
+      types = in-to _ _ _ (at 2 (omega arith));
+      maps = in-to _ _ _ (at 3 (omega arith));
+    })
+
+-- ------------------------------------------------------------------ type lines
+
+-- the numbers of type `own` are of their kinds
+TypeFits : Header → (own : ℕ) → TypeLine → Type 0
+TypeFits H own type-line.Int = Unit {0}
+TypeFits H own (type-line.Ref p c) = (p .0 < H .locations) × (c .0 < own)
+TypeFits H own (type-line.Lock k) = k .0 < H .maps
+TypeFits H own (type-line.Tid k) = k .0 < H .maps
+
+module _ (H : Header) (own : ℕ) (fs : List Field) where
+  int-fits : (t : TypeLine) → seen (λ ns. type-line.Int) (numbers ((0 to 0) ∷ (0 to 0) ∷ []) fs) ≡ right t → TypeFits H own t
+  unfolding TypeFits
+  int-fits t h = let (ns, n, e) = seen-right _ h in along (TypeFits H own) e tt
+
+  ref-fits : (t : TypeLine) → seen refOf (numbers (below (H .locations) ∷ below own ∷ []) fs) ≡ right t → TypeFits H own t
+  unfolding refOf TypeFits
+  ref-fits t h =
+      let (ns, n, e) = seen-right _ h in
+      let at = in-range-at (below (H .locations) ∷ below own ∷ []) fs ns n in
+      along (TypeFits H own) e (in-below _ _ (at 0 (omega arith)), in-below _ _ (at 1 (omega arith)))
+
+  lock-fits : (t : TypeLine) → seen lockOf (numbers (below (H .maps) ∷ (0 to 0) ∷ []) fs) ≡ right t → TypeFits H own t
+  unfolding lockOf TypeFits
+  lock-fits t h =
+      let (ns, n, e) = seen-right _ h in
+      along (TypeFits H own) e (in-below _ _ (in-range-at (below (H .maps) ∷ (0 to 0) ∷ []) fs ns n 0 (omega arith)))
+
+  tid-fits : (t : TypeLine) → seen tidOf (numbers (below (H .maps) ∷ (0 to 0) ∷ []) fs) ≡ right t → TypeFits H own t
+  unfolding tidOf TypeFits
+  tid-fits t h =
+      let (ns, n, e) = seen-right _ h in
+      along (TypeFits H own) e (in-below _ _ (in-range-at (below (H .maps) ∷ (0 to 0) ∷ []) fs ns n 0 (omega arith)))
+
+type-fits : (H : Header) (own : ℕ) (fs : List Field) (t : TypeLine) → typeLine H own fs ≡ right t → TypeFits H own t
+unfolding typeLine
+type-fits H own [] t h = bad-form h
+type-fits H own (f ∷ fs) t h =
+    let fits = TypeFits H own in
+    either-right fits (same f (bytes "int")) _ _ (int-fits H own fs)
+    (either-right fits (same f (bytes "ref")) _ _ (ref-fits H own fs)
+    (either-right fits (same f (bytes "lock")) _ _ (lock-fits H own fs)
+    (either-right fits (same f (bytes "tid")) _ _ (tid-fits H own fs) (λ t h. bad-form h)))) t h
+
+types-fit : (H : Header) (own n : ℕ) {ls rest : List Line} {ts : List TypeLine} → Shows (typeLines H own n) ls ts rest
+    → (length ts ≡ n) × ((t : ℕ) → t < length ts → TypeFits H (own + t) (getD ts t type-line.Int))
+unfolding typeLines
+types-fit H own zero nothing = (refl, λ t h. absurd (omega arith))
+types-fit H own (suc n) (line {a = a} {as′ = ts} h more) =
+    let (l, fits) = types-fit H (own + 1) n more in
+    (ap suc l, go fits)
+  where
+    go : ((t : ℕ) → t < length ts → TypeFits H (own + 1 + t) (getD ts t type-line.Int))
+        → (t : ℕ) → t < length (a ∷ ts) → TypeFits H (own + t) (getD (a ∷ ts) t type-line.Int)
+    go fits zero q = along (λ o. TypeFits H o a) (omega arith) (type-fits H own _ a h)
+    go fits (suc t) q = along (λ o. TypeFits H o (getD ts t type-line.Int)) (omega arith) (fits t (omega arith))
+
+-- ------------------------------------------------------------------ map lines
+
+map-wide : (H : Header) (fs : List Field) (m : Map) → mapLine H fs ≡ right m → length m ≡ H .locations
+unfolding mapLine
+map-wide H fs m h = numbers-right _ fs m h .0 ∙ length-replicate (H .locations) (0 to 1000000)
+
+maps-wide : (H : Header) (n : ℕ) {ls rest : List Line} {ms : List Map} → Shows (replicate n (mapLine H)) ls ms rest
+    → (length ms ≡ n) × ((m : ℕ) → m < length ms → length (getD ms m []) ≡ H .locations)
+maps-wide H zero nothing = (refl, λ m h. absurd (omega arith))
+maps-wide H (suc n) (line {a = a} {as′ = ms} h more) =
+    let (l, wide) = maps-wide H n more in
+    (ap suc l, go wide)
+  where
+    go : ((m : ℕ) → m < length ms → length (getD ms m []) ≡ H .locations)
+        → (m : ℕ) → m < length (a ∷ ms) → length (getD (a ∷ ms) m []) ≡ H .locations
+    go wide zero q = map-wide H _ a h
+    go wide (suc m) q = wide m (omega arith)
+
+-- ------------------------------------------------------------------ step lines
+
+-- on every word, a number s is a map
+start-below : (w : Word) (H : Header) (n : ℕ) → inRange (startRange w H) n ≡ true → n < H .maps
+unfolding startRange
+start-below (Leaf w) H n h = let q = in-below 0 n h in absurd (omega arith)
+start-below (Unary w) H n h = let q = in-below 0 n h in absurd (omega arith)
+start-below (Binary Let) H n h = let q = in-below 0 n h in absurd (omega arith)
+start-below (Binary If) H n h = let q = in-below 0 n h in absurd (omega arith)
+start-below (Binary Spawn) H n h = in-below _ n h
+start-below (Binary Write) H n h = let q = in-below 0 n h in absurd (omega arith)
+
+RowFits : Header → Row → Type 0
+RowFits H r = (r .type .0 < H .types) × (r .post .0 < H .maps) × (r .start .0 < H .maps)
+
+module _ (H : Header) (some-map : 1 ≤ H .maps) where
+  -- two numbers: there is no third, and s is map 0
+  without-start : (fs : List Field) (ns : List ℕ) → numbers (below (H .types) ∷ below (H .maps) ∷ []) fs ≡ right ns → RowFits H (rowOf ns)
+  unfolding RowFits rowOf
+  without-start fs ns n =
+      let rs = below (H .types) ∷ below (H .maps) ∷ [] in
+      let at = in-range-at rs fs ns n in
+      let none-third : getD ns 2 0 ≡ 0 = List·getD-eq-default ns 0 (omega (arith, numbers-right rs fs ns n .0)) in
+      (in-below _ _ (at 0 (omega arith)), in-below _ _ (at 1 (omega arith)), omega (arith, none-third))
+
+  with-start : (w : Word) (fs : List Field) (ns : List ℕ) → numbers (below (H .types) ∷ below (H .maps) ∷ startRange w H ∷ []) fs ≡ right ns
+      → RowFits H (rowOf ns)
+  unfolding RowFits rowOf
+  with-start w fs ns n =
+      let at = in-range-at (below (H .types) ∷ below (H .maps) ∷ startRange w H ∷ []) fs ns n in
+      (in-below _ _ (at 0 (omega arith)), in-below _ _ (at 1 (omega arith)), start-below w H _ (at 2 (omega arith)))
+
+  row-fits : (s : Step) (fs : List Field) (r : Row) → rowLine H s fs ≡ right r → RowFits H r
+  unfolding rowLine
+  row-fits s fs r h =
+      let (ns, n, e) = seen-right _ h in
+      along (RowFits H) e
+      (either-right (λ ns. RowFits H (rowOf ns)) (blank (drop 2 fs)) _ _ (without-start (take 2 fs)) (with-start (s .word) fs) ns n)
+
+  rows-fit : (steps : List Step) {ls rest : List Line} {rs : List Row} → Shows (map (rowLine H) steps) ls rs rest
+      → (length rs ≡ length steps) × ((i : ℕ) (d : Row) → i < length rs → RowFits H (getD rs i d))
+  rows-fit [] nothing = (refl, λ i d h. absurd (omega arith))
+  rows-fit (s ∷ steps) (line {a = a} {as′ = rs} h more) =
+      let (l, fits) = rows-fit steps more in
+      (ap suc l, go fits)
+    where
+      go : ((i : ℕ) (d : Row) → i < length rs → RowFits H (getD rs i d)) → (i : ℕ) (d : Row) → i < length (a ∷ rs) → RowFits H (getD (a ∷ rs) i d)
+      go fits zero d q = row-fits s _ a h
+      go fits (suc i) d q = fits i d (omega arith)
+
+-- ------------------------------------------------------------------ the sheet
+
+pub well-formed-in-range : {steps : List Step} {text : List ℕ} {S : Split} → WellFormedSplit steps text S → InRange steps S
+unfolding TypeFits RowFits
+well-formed-in-range {steps} {text} {S} F =
+    let H = S .header in
+    let head = header-fits _ H (F .headed) in
+    let (typesCounted, types) = types-fit H 0 (H .types) (F .typed) in
+    let (mapsCounted, wide) = maps-wide H (H .maps) (F .mapped) in
+    let (rowsCounted, rows) = rows-fit H (head .maps .0) steps (F .rowed) in
+    let fits : (t : ℕ) (τ : TypeLine) → t < length (S .types) → getD (S .types) t type-line.Int ≡ τ → TypeFits H t τ =
+    λ t τ h e. let z : 0 + t ≡ t = omega arith in along (TypeFits H t) e (along (λ o. TypeFits H o (getD (S .types) t type-line.Int)) z (types t h)) in
+    record {
+      denominator = head .denominator;
+      locations = head .locations;
+      typesCounted = typesCounted;
+      typesFew = head .types;
+      mapsCounted = mapsCounted;
+      mapsFew = head .maps;
+      rowsCounted = rowsCounted;
+      mapWide = wide;
+      refPlace = λ t p c h e. fits t (type-line.Ref p c) h e;
+      lockLoad = λ t k h e. omega (arith, mapsCounted, fits t (type-line.Lock k) h e);
+      tidLoad = λ t k h e. omega (arith, mapsCounted, fits t (type-line.Tid k) h e);
+      rowType = λ i d h. omega (arith, typesCounted, rows i d h .0);
+      rowPost = λ i d h. omega (arith, mapsCounted, rows i d h .1);
+      rowStart = λ i d h. omega (arith, mapsCounted, rows i d h .2);
+    }
