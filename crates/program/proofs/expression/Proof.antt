@@ -1,0 +1,49 @@
+use borrow.Author.Needs.{needs}
+use native.Mathlib.Omega.{arith}
+use mathlib.Core.Path.{subst, _∙_}
+use Rattle.program.specs.Structure.{Structured}
+use Rattle.program.proofs.Sheets.{expression-refused, expression-scoped}
+use borrow.Author.Needs.{needs}
+use Rattle.program.proofs.expression.Statement.{statement}
+use Rattle.program.proofs.expression.Tie as tie
+use Rattle.program.proofs.expression.Reads as reads
+use Rattle.program.proofs.expression.Lts as lts
+use Rattle.program.proofs.scopes.Reads as scopes-reads
+use Rattle.program.proofs.structure.Reads as structure-reads
+
+structure-requires : tie.Need-structure-requires
+structure-requires c κs = search needs
+
+enum-told : tie.Need-enum-told
+enum-told c = search needs
+
+scopes-requires : tie.Need-scopes-requires
+scopes-requires c κs = search needs
+
+enum-known-refusal : tie.Need-enum-known-refusal
+enum-known-refusal c = search needs
+
+same-length : tie.Need-same-length
+same-length c = search needs
+
+returns : tie.Need-returns
+returns c = expression-scoped _ _ _ (c .before .before .before .before .before .before .before .before .before .before .before .pre .1) (c .before .before .before .before .before .before .before .before .before .before .before .pre .2) (subst (Structured _ _ _) (c .before .before .before .before .enum-told .given .1) (c .before .before .before .before .before .before .before .before .structure .ensures)) _ _ (c .before .before .scopes .ensures)
+
+same-length-2 : tie.Need-same-length-2
+same-length-2 c = search needs
+
+returns-2 : tie.Need-returns-2
+returns-2 c = expression-refused _ _ _ _ (subst (Structured _ _ _) (c .before .refusal .given .1) (c .before .before .before .before .before .structure .ensures))
+
+pub expression-spec : {M : Type 1} → statement M
+expression-spec =
+    tie.close
+    (tie.spec
+    structure-requires
+    enum-told
+    scopes-requires
+    enum-known-refusal
+    same-length
+    returns
+    same-length-2
+    returns-2)

@@ -1,0 +1,82 @@
+use borrow.Author.Tests.{le-leb}
+use Rattle.program.specs.Scopes.{judgeVar}
+use Rattle.program.proofs.ScopeLaws.{used-early, used-late, used-inside}
+use borrow.Author.Needs.{needs}
+use native.Mathlib.Omega.{arith}
+use mathlib.Core.Path.{_≡_, refl, sym, ap, _∙_}
+use borrow.Author.Needs.{needs}
+use Rattle.program.proofs.judge_var.Statement.{statement}
+use Rattle.program.proofs.judge_var.Tie as tie
+use Rattle.program.proofs.judge_var.Reads as reads
+use Rattle.program.proofs.judge_var.Lts as lts
+use Rattle.workspace.proofs.index.Reads as index-reads
+
+cast-line : tie.Need-cast-line
+cast-line c = search needs
+
+add-line : tie.Need-add-line
+add-line c = search needs
+
+returns : tie.Need-returns
+unfolding judgeVar
+returns c = simp (le-leb _ _ (c .if1 .taken))
+
+index-requires : tie.Need-index-requires
+index-requires c κs = search needs
+
+add-index : tie.Need-add-index
+add-index c = search needs
+
+add-index-2 : tie.Need-add-index-2
+add-index-2 c = search needs
+
+mul-index : tie.Need-mul-index
+mul-index c = search needs
+
+shared-slice-read-index : tie.Need-shared-slice-read-index
+shared-slice-read-index c = search needs
+
+index-requires-2 : tie.Need-index-requires-2
+index-requires-2 c κs = search needs
+
+returns-2 : tie.Need-returns-2
+returns-2 c = used-early _ _ _ _ _ (c .before .before .before .before .if1 .left) (c .before .before .before .index .ensures .0) (c .before .index2 .ensures .0) (c .if2 .taken)
+
+add-index-3 : tie.Need-add-index-3
+add-index-3 c = search needs
+
+mul-index-2 : tie.Need-mul-index-2
+mul-index-2 c = search needs
+
+shared-slice-read-index-2 : tie.Need-shared-slice-read-index-2
+shared-slice-read-index-2 c = search needs
+
+index-requires-3 : tie.Need-index-requires-3
+index-requires-3 c κs = search needs
+
+returns-3 : tie.Need-returns-3
+returns-3 c = used-late _ _ _ _ _ (c .before .before .before .before .before .before .before .if1 .left) (c .before .before .before .before .before .before .index .ensures .0) (c .before .before .before .before .index2 .ensures .0) _ (c .before .before .before .if2 .left) (c .before .index3 .ensures .0) (c .if3 .taken)
+
+returns-4 : tie.Need-returns-4
+returns-4 c = used-inside _ _ _ _ _ (c .before .before .before .before .before .before .before .if1 .left) (c .before .before .before .before .before .before .index .ensures .0) (c .before .before .before .before .index2 .ensures .0) _ (c .before .before .before .if2 .left) (c .before .index3 .ensures .0) (c .if3 .left)
+
+pub judge-var-spec : {M : Type 1} → statement M
+judge-var-spec =
+    tie.close
+    (tie.spec
+    cast-line
+    add-line
+    returns
+    index-requires
+    add-index
+    add-index-2
+    mul-index
+    shared-slice-read-index
+    index-requires-2
+    returns-2
+    add-index-3
+    mul-index-2
+    shared-slice-read-index-2
+    index-requires-3
+    returns-3
+    returns-4)

@@ -1,0 +1,52 @@
+use Rattle.lexer.proofs.Walks.{not-comma}
+use Rattle.program.proofs.LineLaws.{tail-read-one, tail-read-none}
+use borrow.Author.Needs.{needs}
+use native.Mathlib.Omega.{arith}
+use mathlib.Core.Path.{_≡_, refl, sym, ap, _∙_}
+use borrow.Author.Needs.{needs}
+use Rattle.program.proofs.last_number.Statement.{statement}
+use Rattle.program.proofs.last_number.Tie as tie
+use Rattle.program.proofs.last_number.Reads as reads
+use Rattle.program.proofs.last_number.Lts as lts
+use Rattle.lexer.proofs.Cursor.numbers.Reads as numbers-reads
+
+enum-told : tie.Need-enum-told
+enum-told c = search needs
+
+returns : tie.Need-returns
+returns c = λ e. absurd (not-comma _ (c .match .keys2) e)
+
+slice-aggregate-numbers : tie.Need-slice-aggregate-numbers
+slice-aggregate-numbers c = search needs
+
+numbers-requires : tie.Need-numbers-requires
+numbers-requires c κs = search needs
+
+enum-known-behind : tie.Need-enum-known-behind
+enum-known-behind c = search needs
+
+array-read-t12 : tie.Need-array-read-t12
+array-read-t12 c = search needs
+
+enum-told-2 : tie.Need-enum-told-2
+enum-told-2 c = search needs
+
+returns-2 : tie.Need-returns-2
+returns-2 c = tail-read-one _ _ _ _ _ _ (c .before .before .before .before .numbers .ensures) refl _ (c .before .before .before .before .before .before .enum-told .given .1) (c .before .before .before .before .before .before .before .before .before .pre) (c .before .behind .given .1)
+
+returns-3 : tie.Need-returns-3
+returns-3 c = tail-read-none _ _ _ _ _ _ (c .before .before .before .numbers .ensures) refl (c .enum-told2 .given .1)
+
+pub last-number-spec : {M : Type 1} → statement M
+last-number-spec =
+    tie.close
+    (tie.spec
+    enum-told
+    returns
+    slice-aggregate-numbers
+    numbers-requires
+    enum-known-behind
+    array-read-t12
+    enum-told-2
+    returns-2
+    returns-3)

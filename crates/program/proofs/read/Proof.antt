@@ -1,0 +1,52 @@
+use borrow.Author.Needs.{needs}
+use native.Mathlib.Omega.{arith}
+use mathlib.Core.Path.{refl, sym, subst, _∙_}
+use Rattle.program.specs.Lines.{CountShown}
+use Rattle.program.proofs.Sheets.{sheet-refused, sheet-read}
+use borrow.Author.Needs.{needs}
+use Rattle.program.proofs.read.Statement.{statement}
+use Rattle.program.proofs.read.Tie as tie
+use Rattle.program.proofs.read.Reads as reads
+use Rattle.program.proofs.read.Lts as lts
+use Rattle.program.proofs.count_line.Reads as count-line-reads
+use Rattle.program.proofs.read_steps.Reads as read-steps-reads
+use Rattle.workspace.proofs.index.Reads as index-reads
+
+count-line-requires : tie.Need-count-line-requires
+count-line-requires c κs = search needs
+
+enum-known-refusal : tie.Need-enum-known-refusal
+enum-known-refusal c = search needs
+
+enum-known-n : tie.Need-enum-known-n
+enum-known-n c = search needs
+
+index-requires : tie.Need-index-requires
+index-requires c κs = search needs
+
+read-steps-requires : tie.Need-read-steps-requires
+read-steps-requires c κs =
+    let s = subst (CountShown _) (c .before .before .before .n .given .1) (c .before .before .before .before .before .count-line .ensures) in (c .before .before .before .before .before .before .before .before .pre .0, omega (arith, s .1, c .index .ensures .0), s .2)
+
+returns : tie.Need-returns
+returns c = sheet-refused _ _ _ _ (subst (CountShown _) (c .before .refusal .given .1) (c .before .before .before .count-line .ensures)) refl
+
+same-length : tie.Need-same-length
+same-length c = search needs
+
+returns-2 : tie.Need-returns-2
+returns-2 c =
+    sheet-read _ _ _ _ _ _ _ (subst (CountShown _) (c .before .before .before .before .before .before .n .given .1) (c .before .before .before .before .before .before .before .before .count-line .ensures)) (c .before .before .before .index .ensures .0) (c .before .before .read-steps .kept .1 .0) (c .before .before .read-steps .ensures)
+
+pub read-spec : {M : Type 1} → statement M
+read-spec =
+    tie.close
+    (tie.spec
+    count-line-requires
+    enum-known-refusal
+    enum-known-n
+    index-requires
+    read-steps-requires
+    returns
+    same-length
+    returns-2)
