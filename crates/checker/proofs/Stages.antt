@@ -13,13 +13,16 @@ use Rattle.spec.specs.Verdict.{startAtMostOne, ruled, answer, verdict}
 use Rattle.spec.specs.declared.Answer.{Answer}
 use Rattle.spec.specs.declared.Answer.the-variants.{Accept, Refuse}
 use Rattle.spec.specs.declared.Refusal.{Refusal}
-use Rattle.spec.specs.declared.Refusal.the-variants.{LongSplit}
-use Rattle.spec.proofs.WellFormed.{well-formed-program, split-well-formed}
+use Rattle.spec.specs.declared.Refusal.the-variants.{LongProgram, LongSplit}
+use Rattle.spec.proofs.WellFormed.{program-well-formed, well-formed-program, split-well-formed}
 use Rattle.spec.proofs.Ranges.{well-formed-in-range}
-use Rattle.spec.proofs.Reasons.{long-split, split-refused, rules-decide}
+use Rattle.spec.proofs.Reasons.{long-program, program-refused, long-split, split-refused, rules-decide}
 use Rattle.workspace.specs.Region.{ChangedWithin}
 use Rattle.workspace.specs.Holds.{HoldsProgram, HoldsSplit}
 use Rattle.workspace.proofs.Held.{program-kept}
+use Rattle.program.specs.Sheet.{Answered}
+use Rattle.program.specs.declared.ProgramRead.{ProgramRead}
+use Rattle.program.specs.declared.ProgramRead.the-variants as program-read
 use Rattle.rules.specs.Outcome.{outcome, both}
 use Rattle.rules.specs.Contract.{HoldsSheets}
 use Rattle.rules.specs.declared.Ruling.{Ruling}
@@ -71,3 +74,29 @@ module _ (p s : List ℕ) (P : Program) (F : WellFormedProgram p P) where
           locationsGiven = isL;
         })
         ∙ sym (rules-decide 16384 p s (omega arith) (F .fits) P reads fits S e)
+
+-- ------------------------------------------------------------------ the program
+
+-- what an answer of the program's reader says
+pub program-refused-by : {x : Refusal} (w : List ℕ) (r : ProgramRead) (o : Out Program) → Answered w r o → r ≡ program-read.Refused x → o ≡ stop x
+program-refused-by {x = x} w r (stop y) h e = let same : y ≡ x = cc in ap stop same
+program-refused-by w r (on P) h e = let clash : _≡_ {A = ℕ} 0 1 = cc in absurd (omega arith)
+
+pub program-read-by : {n : ℕ} (w : List ℕ) (r : ProgramRead) (o : Out Program) → Answered w r o → r ≡ program-read.Read n
+    → (P : Program) × (o ≡ on P) × (n ≡ length (P .steps)) × HoldsProgram w P
+program-read-by w r (stop y) h e = let clash : _≡_ {A = ℕ} 0 1 = cc in absurd (omega arith)
+program-read-by {n = n} w r (on P) h e = let counted : n ≡ length (P .steps) = cc in (P, refl, counted, h .1)
+
+module _ (p s : List ℕ) where
+  pub long-program-refused : 16384 < length p → Refuse LongProgram ≡ verdict workspaceSize p s
+  unfolding workspaceSize
+  long-program-refused h = sym (long-program 16384 p s (omega arith) h)
+
+  module _ (fits : length p ≤ 16384) where
+    pub bad-program-refused : (r : Refusal) → program p ≡ stop r → Refuse r ≡ verdict workspaceSize p s
+    unfolding workspaceSize
+    bad-program-refused r e = sym (program-refused 16384 p s (omega arith) fits r e)
+
+    pub good-program : {P : Program} → program p ≡ on P → WellFormedProgram p P
+    unfolding programLimit
+    good-program e = program-well-formed p fits e

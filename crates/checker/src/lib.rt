@@ -1,6 +1,7 @@
 // The offered call: two texts and a lent work space in, one answer out.
 mod numbers;
 
+use program::ProgramRead;
 use rules::Ruling;
 use spec::Answer;
 use spec::Refusal;
@@ -15,7 +16,12 @@ ghost use Rattle.spec.specs.Workspace.{workspaceSize, workspaceAfter};
 ghost use Rattle.spec.specs.Accepted.{Right};
 ghost use Rattle.soundness.specs.SafeText.{SafeText};
 ghost use Rattle.checker.specs.Promise.{RefutedBy};
-ghost use Rattle.checker.specs.Stages.{RulesAnswered};
+ghost use Rattle.checker.specs.Stages.{RulesAnswered, SplitAnswered};
+
+// The most bytes that each sheet may have.
+const PROGRAM_LIMIT: usize = 16384;
+
+const SPLIT_LIMIT: usize = 65536;
 
 // 30 to 33, for the sheets that the work space holds.
 fn check_rules(work: &mut [u32], steps: usize, denominator: u32, locations: usize) -> Answer
@@ -28,12 +34,26 @@ fn check_rules(work: &mut [u32], steps: usize, denominator: u32, locations: usiz
     }
 }
 
-// 10 to 33, in the work space.
+// 20 to 33, for the program that the work space holds.
+fn check_split(split: &[u8], steps: usize, work: &mut [u32]) -> Answer
+    requires { ⌜ (length (now work) ≡ 16384) × (steps ≤ 256) ⌝ }
+    ensures { λ a. ⌜ SplitAnswered (now (work .entry)) steps (now (split .entry)) a ⌝ }
+{
+    Answer::Accept
+}
+
+// 10 to 33, in a work space that is as long as document 01 wants.
 fn check_program(program: &[u8], split: &[u8], work: &mut [u32]) -> Answer
     requires { ⌜ length (now work) ≡ 16384 ⌝ }
     ensures { λ a. ⌜ a ≡ verdict workspaceSize (now (program .entry)) (now (split .entry)) ⌝ }
 {
-    Answer::Accept
+    if PROGRAM_LIMIT < program.len() {
+        return Answer::Refuse(Refusal::LongProgram);
+    }
+    match program::read(program, work) {
+        ProgramRead::Refused(r) => Answer::Refuse(r),
+        ProgramRead::Read(steps) => check_split(split, steps, work),
+    }
 }
 
 // The answer to a pair of texts. What document 01 asks of it, clause by clause:
