@@ -6,7 +6,6 @@ use Prim.Native.Nat.{ℕ, suc, zero, _+_, _-_, _<_, _≤_}
 use native.Mathlib.Omega.{arith}
 use native.Mathlib.Nat.{not-suc-le-zero, le-of-suc-le-suc, sub-zero}
 use native.Mathlib.Decide.{ℕ-discrete}
-use lib.Dec.{leb, ltb}
 use lib.ListN.{length, getD, set, replicate, length-set, length-append}
 use lib.Seq.{getD-set-same, getD-set-other, set-out}
 use borrow.Author.Tests.{le-leb, lt-leb, le-ltb, lt-ltb}
@@ -18,9 +17,7 @@ use Rattle.workspace.specs.Layout.{wordsAt, valuesAt, endsAt, letsAt, wordOf}
 use Rattle.workspace.specs.Region.{Region, ChangedWithin}
 use Rattle.workspace.proofs.Region.{region-empty, region-push, changed-nothing, changed-store, changed-then}
 use Rattle.program.specs.Stored.{wordAt, valueAt}
-use Rattle.program.specs.Outcomes.{Answers}
 use Rattle.program.specs.Scopes.{roleOf, unbound, judgeLet, judgeVar, judgeBy, judgeOf, storing, judged, scopesFrom, Scoped}
-use Rattle.program.specs.declared.Outcome.{Outcome}
 use Rattle.program.specs.declared.Outcome.the-variants as outcome
 use Rattle.program.specs.declared.Role.{Role}
 use Rattle.program.specs.declared.Role.the-variants.{Binds, Uses, Neither}

@@ -2,22 +2,22 @@
 use mathlib.Core.Path.{_≡_, refl, sym, ap, subst, _∙_}
 use mathlib.Core.Logic.{inl, inr}
 use mathlib.Core.List.{List, [], _∷_, _++_, map, map-append, append-nil}
-use Prim.Native.Nat.{ℕ, suc, zero, _+_, _-_, _<_, _≤_}
+use Prim.Native.Nat.{ℕ, suc, _+_, _-_, _<_, _≤_}
 use native.Mathlib.Omega.{arith}
 use native.Mathlib.Nat.{sub-zero}
 use lib.ListN.{length, set, replicate, length-append, length-map, length-set}
-use Rattle.spec.specs.Reading.{programSheet, Out, stop, on, _>>=_, Place, next, nextAll}
+use Rattle.spec.specs.Reading.{programSheet, Out, stop, on, _>>=_, Place, nextAll}
 use Rattle.spec.specs.Expression.{Step}
 use Rattle.spec.specs.Program.{stepLine}
 use Rattle.spec.specs.declared.Refusal.{Refusal}
 use Rattle.spec.specs.declared.Word.{Word}
-use Rattle.lexer.specs.Cursors.{Placed}
+use Rattle.lexer.specs.Cursors.{Placed, placeAt}
 use Rattle.lexer.specs.declared.Cursor.{Cursor}
 use Rattle.workspace.specs.Layout.{wordsAt, valuesAt, codeOf}
 use Rattle.workspace.specs.Holds.{HoldsSteps}
 use Rattle.workspace.specs.Region.{Region, ChangedWithin}
 use Rattle.workspace.proofs.Region.{region-empty, region-apart, region-push, changed-nothing, changed-store, changed-then}
-use Rattle.program.specs.Lines.{placeAt, limitOf, stepAt, StepShown, Limited, none-limited, more-limited, stepsAt, StepsHeld, StepsFound, StepsShown}
+use Rattle.program.specs.Lines.{limitOf, stepAt, StepShown, Limited, none-limited, more-limited, stepsAt, StepsShown}
 use Rattle.program.specs.declared.StepLine.the-variants as step
 use Rattle.program.specs.declared.StepLines.the-variants as steps
 

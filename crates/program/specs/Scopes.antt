@@ -1,5 +1,4 @@
 -- Scopes in line order: a table has, for each variable, the index of the let that binds it.
-use mathlib.Core.Path.{_≡_}
 use mathlib.Core.List.{List, [], _∷_}
 use Prim.Native.Nat.{ℕ, suc, zero, _+_, _<_}
 use lib.Dec.{leb, ltb}

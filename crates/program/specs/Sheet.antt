@@ -6,13 +6,13 @@ use lib.ListN.{length, replicate}
 use Rattle.spec.specs.Reading.{programSheet, Out, stop, on, _>>=_, Place, nextAll, end}
 use Rattle.spec.specs.Expression.{Step, Expr, listed, single, scope}
 use Rattle.spec.specs.Program.{Program, stepLine, program}
+use Rattle.lexer.specs.Cursors.{placeAt}
 use Rattle.lexer.specs.declared.Cursor.{Cursor}
 use Rattle.workspace.specs.Layout.{endsAt, letsAt}
 use Rattle.workspace.specs.Holds.{ends, lets, HoldsProgram}
 use Rattle.workspace.specs.Region.{Region, ChangedWithin}
 use Rattle.program.specs.Stored.{stepsIn}
 use Rattle.program.specs.Outcomes.{Answers}
-use Rattle.program.specs.Lines.{placeAt}
 use Rattle.program.specs.declared.Outcome.{Outcome}
 use Rattle.program.specs.declared.ProgramRead.{ProgramRead}
 use Rattle.program.specs.declared.ProgramRead.the-variants.{Read, Refused}

@@ -1,8 +1,9 @@
+-- Reading a step calls reading of its parts, which calls reading of a step. The measure is twice the lines left, and one
+-- more for the parts: a step passes its own line, and steps one after the other each pass at least one.
 use borrow.Author.Needs.{needs}
 use native.Mathlib.Omega.{arith}
-use mathlib.Core.Path.{_≡_, refl, sym, ap, _∙_}
+use mathlib.Core.Path.{ap, _∙_}
 use Prim.Native.Nat.{ℕ, _<_, _+_, _-_, _*_}
-use lib.ListN.{length-set}
 use Rattle.program.specs.Stored.{partsOf}
 use Rattle.program.proofs.StructureLaws.{within, past, parts-none, parts-open, parts-more, step-none, step-open, step-more}
 use borrow.Fn.Kinds.{In}

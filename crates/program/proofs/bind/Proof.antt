@@ -1,3 +1,4 @@
+-- A variable past the table's end is not stored, and the table stays as it is.
 use mathlib.Core.Path.{sym}
 use lib.Seq.{set-out}
 use borrow.Author.Needs.{needs}

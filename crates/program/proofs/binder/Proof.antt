@@ -1,3 +1,4 @@
+-- A variable past the table's end is unbound.
 use mathlib.Core.Path.{sym}
 use lib.ListN.{List·getD-eq-default}
 use borrow.Author.Needs.{needs}

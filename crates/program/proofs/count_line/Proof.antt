@@ -1,21 +1,14 @@
+-- Line 1 in the order in which it is judged: an empty text, the first field, the number behind it, its range.
 use borrow.Author.Tests.{not-true, not-false}
 use Rattle.lexer.proofs.Walks.{span-placed}
-use Rattle.lexer.proofs.Places.{span-field, span-le}
+use Rattle.lexer.proofs.Places.{span-le}
 use Rattle.program.proofs.LineLaws.{placed-top, marked, count-empty, count-other, count-malformed, count-none, count-many, count-right}
 use borrow.Author.Needs.{needs}
-use native.Mathlib.Omega.{arith}
-use mathlib.Core.Path.{_≡_, refl, sym, ap, subst, _∙_}
+use mathlib.Core.Path.{sym, subst, _∙_}
 use Rattle.program.specs.Lines.{TailShown}
 use borrow.Author.Needs.{needs}
 use Rattle.program.proofs.count_line.Statement.{statement}
 use Rattle.program.proofs.count_line.Tie as tie
-use Rattle.program.proofs.count_line.Reads as reads
-use Rattle.program.proofs.count_line.Lts as lts
-use Rattle.lexer.proofs.Cursor.at_end.Reads as at-end-reads
-use Rattle.lexer.proofs.Cursor.field.Reads as field-reads
-use Rattle.lexer.proofs.Cursor.start.Reads as start-reads
-use Rattle.lexer.proofs.same.Reads as same-reads
-use Rattle.program.proofs.last_number.Reads as last-number-reads
 
 start-requires : tie.Need-start-requires
 start-requires c κs = search needs

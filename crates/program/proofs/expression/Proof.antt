@@ -1,15 +1,11 @@
+-- The structure, and then the scopes of the expression that it finds.
 use borrow.Author.Needs.{needs}
-use native.Mathlib.Omega.{arith}
-use mathlib.Core.Path.{subst, _∙_}
+use mathlib.Core.Path.{subst}
 use Rattle.program.specs.Structure.{Structured}
 use Rattle.program.proofs.Sheets.{expression-refused, expression-scoped}
 use borrow.Author.Needs.{needs}
 use Rattle.program.proofs.expression.Statement.{statement}
 use Rattle.program.proofs.expression.Tie as tie
-use Rattle.program.proofs.expression.Reads as reads
-use Rattle.program.proofs.expression.Lts as lts
-use Rattle.program.proofs.scopes.Reads as scopes-reads
-use Rattle.program.proofs.structure.Reads as structure-reads
 
 structure-requires : tie.Need-structure-requires
 structure-requires c κs = search needs

@@ -1,16 +1,10 @@
+-- A step is judged by what its word does with its number.
 use Rattle.program.proofs.ScopeLaws.{judged-let, judged-var, judged-other}
 use borrow.Author.Needs.{needs}
-use native.Mathlib.Omega.{arith}
-use mathlib.Core.Path.{_≡_, refl, sym, ap, _∙_}
+use mathlib.Core.Path.{_∙_}
 use borrow.Author.Needs.{needs}
 use Rattle.program.proofs.judge.Statement.{statement}
 use Rattle.program.proofs.judge.Tie as tie
-use Rattle.program.proofs.judge.Reads as reads
-use Rattle.program.proofs.judge.Lts as lts
-use Rattle.program.proofs.judge_let.Reads as judge-let-reads
-use Rattle.program.proofs.judge_var.Reads as judge-var-reads
-use Rattle.program.proofs.role_of.Reads as role-of-reads
-use Rattle.workspace.proofs.word_of.Reads as word-of-reads
 
 add-word-of : tie.Need-add-word-of
 add-word-of c = search needs

@@ -1,13 +1,10 @@
+-- A variable is bound once.
 use borrow.Author.Tests.{le-leb, lt-leb}
 use Rattle.program.specs.Scopes.{judgeLet}
 use borrow.Author.Needs.{needs}
-use native.Mathlib.Omega.{arith}
-use mathlib.Core.Path.{_≡_, refl, sym, ap, _∙_}
 use borrow.Author.Needs.{needs}
 use Rattle.program.proofs.judge_let.Statement.{statement}
 use Rattle.program.proofs.judge_let.Tie as tie
-use Rattle.program.proofs.judge_let.Reads as reads
-use Rattle.program.proofs.judge_let.Lts as lts
 
 returns : tie.Need-returns
 unfolding judgeLet

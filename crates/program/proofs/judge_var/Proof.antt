@@ -1,15 +1,11 @@
+-- A variable is used in its let's e2: bound, past the end of e1, before the let's end.
 use borrow.Author.Tests.{le-leb}
 use Rattle.program.specs.Scopes.{judgeVar}
 use Rattle.program.proofs.ScopeLaws.{used-early, used-late, used-inside}
 use borrow.Author.Needs.{needs}
-use native.Mathlib.Omega.{arith}
-use mathlib.Core.Path.{_≡_, refl, sym, ap, _∙_}
 use borrow.Author.Needs.{needs}
 use Rattle.program.proofs.judge_var.Statement.{statement}
 use Rattle.program.proofs.judge_var.Tie as tie
-use Rattle.program.proofs.judge_var.Reads as reads
-use Rattle.program.proofs.judge_var.Lts as lts
-use Rattle.workspace.proofs.index.Reads as index-reads
 
 cast-line : tie.Need-cast-line
 cast-line c = search needs

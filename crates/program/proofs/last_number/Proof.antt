@@ -1,14 +1,11 @@
+-- The line goes on behind a comma, with one numeral.
 use Rattle.lexer.proofs.Walks.{not-comma}
 use Rattle.program.proofs.LineLaws.{tail-read-one, tail-read-none}
 use borrow.Author.Needs.{needs}
-use native.Mathlib.Omega.{arith}
-use mathlib.Core.Path.{_≡_, refl, sym, ap, _∙_}
+use mathlib.Core.Path.{refl}
 use borrow.Author.Needs.{needs}
 use Rattle.program.proofs.last_number.Statement.{statement}
 use Rattle.program.proofs.last_number.Tie as tie
-use Rattle.program.proofs.last_number.Reads as reads
-use Rattle.program.proofs.last_number.Lts as lts
-use Rattle.lexer.proofs.Cursor.numbers.Reads as numbers-reads
 
 enum-told : tie.Need-enum-told
 enum-told c = search needs

@@ -1,16 +1,12 @@
+-- Line 1, and then what stands behind it.
 use borrow.Author.Needs.{needs}
 use native.Mathlib.Omega.{arith}
-use mathlib.Core.Path.{refl, sym, subst, _∙_}
+use mathlib.Core.Path.{refl, subst}
 use Rattle.program.specs.Lines.{CountShown}
 use Rattle.program.proofs.Sheets.{sheet-refused, sheet-read}
 use borrow.Author.Needs.{needs}
 use Rattle.program.proofs.read.Statement.{statement}
 use Rattle.program.proofs.read.Tie as tie
-use Rattle.program.proofs.read.Reads as reads
-use Rattle.program.proofs.read.Lts as lts
-use Rattle.program.proofs.count_line.Reads as count-line-reads
-use Rattle.program.proofs.read_steps.Reads as read-steps-reads
-use Rattle.workspace.proofs.index.Reads as index-reads
 
 count-line-requires : tie.Need-count-line-requires
 count-line-requires c κs = search needs

@@ -1,6 +1,7 @@
+-- The step lines, then no line behind them, then the expression that they list.
 use borrow.Author.Needs.{needs}
 use native.Mathlib.Omega.{arith}
-use mathlib.Core.Path.{refl, sym, subst, _∙_}
+use mathlib.Core.Path.{sym, subst, _∙_}
 use Rattle.program.specs.Lines.{StepsShown}
 use borrow.Author.Tests.{not-true, not-false}
 use Rattle.program.proofs.LineLaws.{line-fits}
@@ -8,11 +9,6 @@ use Rattle.program.proofs.Sheets.{steps-variables, steps-refused, steps
 use borrow.Author.Needs.{needs}
 use Rattle.program.proofs.read_steps.Statement.{statement}
 use Rattle.program.proofs.read_steps.Tie as tie
-use Rattle.program.proofs.read_steps.Reads as reads
-use Rattle.program.proofs.read_steps.Lts as lts
-use Rattle.lexer.proofs.Cursor.at_end.Reads as at-end-reads
-use Rattle.program.proofs.expression.Reads as expression-reads
-use Rattle.program.proofs.step_lines.Reads as step-lines-reads
 
 step-lines-requires : tie.Need-step-lines-requires
 step-lines-requires c κs = search needs

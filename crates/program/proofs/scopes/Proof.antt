@@ -1,18 +1,14 @@
+-- The loop's invariant: judging the steps from here on, with the table as it is, comes to what judging all of them does;
+-- what is stored for the steps passed stands in the work space.
 use Prim.Native.Nat.{_-_}
 use Rattle.program.proofs.ScopeLaws.{Sofar, start, finish, refuses, binds, stores}
 use Rattle.program.specs.Scopes.{unbound}
 use mathlib.Core.Logic.{⊎-elim}
 use borrow.Author.Needs.{needs}
 use native.Mathlib.Omega.{arith}
-use mathlib.Core.Path.{_≡_, refl, sym, ap, _∙_}
+use mathlib.Core.Path.{sym, _∙_}
 use Rattle.program.proofs.scopes.Statement.{statement}
 use Rattle.program.proofs.scopes.Tie as tie
-use Rattle.program.proofs.scopes.Reads as reads
-use Rattle.program.proofs.scopes.Lts as lts
-use Rattle.program.proofs.bind.Reads as bind-reads
-use Rattle.program.proofs.binder.Reads as binder-reads
-use Rattle.program.proofs.judge.Reads as judge-reads
-use Rattle.workspace.proofs.index.Reads as index-reads
 
 abbrev Inv-loop : tie.InvT-loop
 Inv-loop work₀ n table₀ k₀ work table k = Sofar n work₀ work table k

@@ -1,21 +1,15 @@
+-- A step line in the order in which it is judged: a missing line, the word, the number behind it, its range.
 use Rattle.lexer.proofs.Walks.{span-placed}
-use Rattle.lexer.proofs.Places.{span-field, span-le}
+use Rattle.lexer.proofs.Places.{span-le}
 use Rattle.lexer.proofs.Words.{span-known, span-unknown}
 use Rattle.program.proofs.LineLaws.{line-fits, step-missing, step-unknown, step-malformed, step-over, step-right}
 use borrow.Author.Needs.{needs}
 use native.Mathlib.Omega.{arith}
-use mathlib.Core.Path.{_≡_, refl, sym, ap, subst, _∙_}
+use mathlib.Core.Path.{sym, subst, _∙_}
 use Rattle.program.specs.Lines.{TailShown}
 use borrow.Author.Needs.{needs}
 use Rattle.program.proofs.step_line.Statement.{statement}
 use Rattle.program.proofs.step_line.Tie as tie
-use Rattle.program.proofs.step_line.Reads as reads
-use Rattle.program.proofs.step_line.Lts as lts
-use Rattle.lexer.proofs.Cursor.at_end.Reads as at-end-reads
-use Rattle.lexer.proofs.Cursor.field.Reads as field-reads
-use Rattle.lexer.proofs.word_of.Reads as word-of-reads
-use Rattle.program.proofs.last_number.Reads as last-number-reads
-use Rattle.program.proofs.limit_of.Reads as limit-of-reads
 
 at-end-requires : tie.Need-at-end-requires
 at-end-requires c κs = search needs

@@ -1,16 +1,14 @@
+-- The loop's invariant: the steps passed are stored, and reading the lines from the cursor on comes to what reading all of
+-- them does.
 use Prim.Native.Nat.{_-_}
 use lib.ListN.{length-set}
 use Rattle.program.specs.Lines.{StepShown}
 use Rattle.program.proofs.StepLoop.{SoFar, start, finish, refuses, more}
 use borrow.Author.Needs.{needs}
 use native.Mathlib.Omega.{arith}
-use mathlib.Core.Path.{subst, _∙_}
+use mathlib.Core.Path.{subst}
 use Rattle.program.proofs.step_lines.Statement.{statement}
 use Rattle.program.proofs.step_lines.Tie as tie
-use Rattle.program.proofs.step_lines.Reads as reads
-use Rattle.program.proofs.step_lines.Lts as lts
-use Rattle.program.proofs.step_line.Reads as step-line-reads
-use Rattle.workspace.proofs.code_of.Reads as code-of-reads
 
 abbrev Inv-loop : tie.InvT-loop
 Inv-loop text work₀ n cursor₀ k₀ work cursor k = SoFar text n cursor₀ work₀ work cursor k

@@ -1,13 +1,10 @@
+-- One expression, when the first step ends where the steps do.
 use Rattle.program.proofs.StructureLaws.{within, whole, early, unfinished}
 use borrow.Author.Needs.{needs}
 use native.Mathlib.Omega.{arith}
-use mathlib.Core.Path.{_≡_, refl, sym, ap, _∙_}
 use borrow.Author.Needs.{needs}
 use Rattle.program.proofs.structure.Statement.{statement}
 use Rattle.program.proofs.structure.Tie as tie
-use Rattle.program.proofs.structure.Reads as reads
-use Rattle.program.proofs.structure.Lts as lts
-use Rattle.program.proofs.read_step.Reads as read-step-reads
 
 read-step-requires : tie.Need-read-step-requires
 read-step-requires c κs = search needs
