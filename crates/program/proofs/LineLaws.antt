@@ -32,9 +32,9 @@ use Rattle.lexer.proofs.Places.{span-field}
 use Rattle.lexer.proofs.Walks.{start-placed, start-rest, span-end, span-line-kept, span-comma, left-none, left-some, first-wrong, first-alone}
 use Rattle.lexer.proofs.Ranges.{tail-form, tail-read}
 use Rattle.program.specs.Lines.{TailShown, countAt, CountShown, limitOf, stepAt, StepShown}
-use Rattle.program.specs.declared.Tail.the-variants.{Value, Malformed}
-use Rattle.program.specs.declared.CountLine.the-variants as count
-use Rattle.program.specs.declared.StepLine.the-variants as step
+use Rattle.program.specs.declared.lines.Tail.the-variants.{Value, Malformed}
+use Rattle.program.specs.declared.lines.CountLine.the-variants as count
+use Rattle.program.specs.declared.lines.StepLine.the-variants as step
 
 -- ------------------------------------------------------------------ the number behind a first field
 
@@ -52,6 +52,11 @@ module _ (text : List ℕ) (c : Cursor) (before after : List ℕ) (answer : Numb
 
   pub tail-read-none : answer ≡ numbers-are.Malformed → TailShown text c e Malformed
   tail-read-none a comma = numbers-none x 1 whole a .0
+
+-- the cursor behind the line is one line on
+tail-line : (text : List ℕ) (c : Cursor) (s : Span) → s ≡ spanAt text c → (v : ℕ) (d : Cursor) → TailShown text (s .next) (s .end) (Value v d)
+    → d .line ≡ c .line + 1
+tail-line text c s is v d h = h .3 ∙ ap (λ i. i + 1) (span-line-kept text c s is (h .0))
 
 -- a line whose first field is f, and that shows what the one number behind it shows
 module _
@@ -159,7 +164,7 @@ module _ (text : List ℕ) (c : Cursor) where
         pub step-right : v ≤ limitOf w → StepShown text c (step.Step w v d)
         unfolding seen stepOf firstNumber
         step-right l =
-            let line : d .line ≡ c .line + 1 = h .3 ∙ ap (λ i. i + 1) (span-line-kept text c s is (h .0)) in
+            let line = tail-line text c s is v d h in
             let one : Step = record { word = w; value = v } in
             (step-reads ∙ rw (within-limit w v l) (passed-at programSheet text one c d line), l, h .2)
 
@@ -230,5 +235,5 @@ module _ (text : List ℕ) (c : Cursor) (top : c ≡ start) where
         pub count-right : 1 ≤ n → n ≤ 256 → CountShown text (count.Count n d)
         unfolding seen firstNumber inRange
         count-right l m =
-            let line : d .line ≡ c .line + 1 = h .3 ∙ ap (λ i. i + 1) (span-line-kept text c s is (h .0)) in
+            let line = tail-line text c s is n d h in
             (count-reads ∙ rw (le-leb 1 n l, le-leb n 256 m) (passed-at programSheet text n c d line), m, h .2)

@@ -38,8 +38,8 @@ use Rattle.program.specs.Lines.{countAt, CountShown, limitOf, Limited, m
 use Rattle.program.specs.Sheet.{expressionOf, ExpressionRead, Answered, behindCount, StepsRead, ProgramIs}
 use Rattle.program.specs.declared.Outcome.{Outcome}
 use Rattle.program.specs.declared.Outcome.the-variants as outcome
-use Rattle.program.specs.declared.CountLine.the-variants as count
-use Rattle.program.specs.declared.StepLines.the-variants as step-lines
+use Rattle.program.specs.declared.lines.CountLine.the-variants as count
+use Rattle.program.specs.declared.lines.StepLines.the-variants as step-lines
 use Rattle.program.specs.declared.ProgramRead.{ProgramRead}
 use Rattle.program.specs.declared.ProgramRead.the-variants.{Read, Refused}
 use Rattle.program.proofs.Regions.{region-first, region-behind}
@@ -239,7 +239,7 @@ module _ (text : List ℕ) (n : ℕ) (c : Cursor) (w w₁ : List ℕ) where
       unfolding _>>=_ with-steps
       answers (stop y) a = rw a refl
       answers (on e) a =
-          (rw (a .0, s .found .counted) refl, record { steps = held-still; ends = a .1 .0; lets = a .1 .1 })
+          (rw (a .0, s .found .counted) refl, record { steps = held-still; ends = a .1 .0; lets = a .1 .1 }, omega (arith, s .found .counted))
 
       whole : StepsRead text n c w₂ (answerOf n r)
       whole =

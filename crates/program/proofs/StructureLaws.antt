@@ -21,8 +21,8 @@ use Rattle.program.specs.Structure.{listedFrom, reached, endsOf, Ended, 
 use Rattle.program.specs.Outcomes.{Answers}
 use Rattle.program.specs.declared.Outcome.{Outcome}
 use Rattle.program.specs.declared.Outcome.the-variants.{Passed, Refused}
-use Rattle.program.specs.declared.Ending.{Ending}
-use Rattle.program.specs.declared.Ending.the-variants.{Reached, Unfinished}
+use Rattle.program.specs.declared.tree.Ending.{Ending}
+use Rattle.program.specs.declared.tree.Ending.the-variants.{Reached, Unfinished}
 use Rattle.program.proofs.Regions.{region-front, region-append}
 use Rattle.program.proofs.Listed.{total, total-listed, size-positive, behind-first, first-fits, steps-length, steps-drop}
 

@@ -20,8 +20,8 @@ use Rattle.spec.specs.declared.LeafWord.the-variants.{Var, Int, Newtid, Newlock
 use Rattle.spec.specs.declared.BinaryWord.the-variants.{Let, If, Spawn, Write}
 use Rattle.workspace.specs.Holds.{letIn, lets}
 use Rattle.program.specs.Scopes.{roleOf, unbound, judgeLet, judgeVar, judgeBy, judgeOf, storing, judged, scopesFrom}
-use Rattle.program.specs.declared.Role.the-variants.{Uses, Neither}
-use Rattle.program.specs.declared.Judged.the-variants.{Store, Refused}
+use Rattle.program.specs.declared.binders.Role.the-variants.{Uses, Neither}
+use Rattle.program.specs.declared.binders.Judged.the-variants.{Store, Refused}
 use Rattle.program.proofs.ScopeLaws.{after, after-stop, after-on, replicate-any}
 use Rattle.program.proofs.Standing.{Head, Stands}
 use Rattle.program.proofs.Tables.{endAt, names, Right, Bound, Extends, Agrees, extends-same, extends-then, agrees-narrow, agrees-onward, let-extends, let-first, let-second}

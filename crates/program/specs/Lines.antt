@@ -22,14 +22,14 @@ use Rattle.lexer.specs.declared.FieldEnd.the-variants.{Comma}
 use Rattle.workspace.specs.Layout.{wordsAt, valuesAt}
 use Rattle.workspace.specs.Holds.{HoldsSteps}
 use Rattle.workspace.specs.Region.{ChangedWithin}
-use Rattle.program.specs.declared.Tail.{Tail}
-use Rattle.program.specs.declared.Tail.the-variants.{Value, Malformed}
-use Rattle.program.specs.declared.CountLine.{CountLine}
-use Rattle.program.specs.declared.CountLine.the-variants as count
-use Rattle.program.specs.declared.StepLine.{StepLine}
-use Rattle.program.specs.declared.StepLine.the-variants as step
-use Rattle.program.specs.declared.StepLines.{StepLines}
-use Rattle.program.specs.declared.StepLines.the-variants as steps
+use Rattle.program.specs.declared.lines.Tail.{Tail}
+use Rattle.program.specs.declared.lines.Tail.the-variants.{Value, Malformed}
+use Rattle.program.specs.declared.lines.CountLine.{CountLine}
+use Rattle.program.specs.declared.lines.CountLine.the-variants as count
+use Rattle.program.specs.declared.lines.StepLine.{StepLine}
+use Rattle.program.specs.declared.lines.StepLine.the-variants as step
+use Rattle.program.specs.declared.lines.StepLines.{StepLines}
+use Rattle.program.specs.declared.lines.StepLines.the-variants as steps
 
 -- ------------------------------------------------------------------ the number behind a first field
 

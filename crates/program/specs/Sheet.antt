@@ -1,7 +1,7 @@
 -- What reading a program sheet answers, and what it leaves in the work space.
 use mathlib.Core.Path.{_≡_}
 use mathlib.Core.List.{List, []}
-use Prim.Native.Nat.{ℕ, _+_}
+use Prim.Native.Nat.{ℕ, _+_, _≤_}
 use lib.ListN.{length, replicate}
 use Rattle.spec.specs.Reading.{programSheet, Out, stop, on, _>>=_, Place, nextAll, end}
 use Rattle.spec.specs.Expression.{Step, Expr, listed, single, scope}
@@ -29,10 +29,11 @@ pub record ExpressionRead (n : ℕ) (w w′ : List ℕ) (r : Outcome) : Type 0 w
 
 -- ------------------------------------------------------------------ the program
 
--- the refusal of a sheet; else the number of the steps, and the work space holds the program
+-- the refusal of a sheet; else the number of the steps, and the work space holds the program. That the steps are at most
+-- 256 follows from the definition; it is said here for whoever goes on with the program.
 abbrev pub Answered : (w : List ℕ) → ProgramRead → Out Program → Type 0
 Answered w r (stop x) = r ≡ Refused x
-Answered w r (on P) = (r ≡ Read (length (P .steps))) × HoldsProgram w P
+Answered w r (on P) = (r ≡ Read (length (P .steps))) × HoldsProgram w P × (length (P .steps) ≤ 256)
 
 -- what stands behind line 1
 unfoldable pub behindCount : (n : ℕ) → Place → Out Program

@@ -3,8 +3,8 @@ use mathlib.Core.Path.{sym}
 use lib.ListN.{List·getD-eq-default}
 use borrow.Author.Needs.{needs}
 use Rattle.program.proofs.ScopeLaws.{getD-any}
-use Rattle.program.proofs.binder.Statement.{statement}
-use Rattle.program.proofs.binder.Tie as tie
+use Rattle.program.proofs.binders.binder.Statement.{statement}
+use Rattle.program.proofs.binders.binder.Tie as tie
 
 mul-result : tie.Need-mul-result
 mul-result c = search needs

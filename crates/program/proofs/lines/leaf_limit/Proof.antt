@@ -1,7 +1,7 @@
 -- The ranges of v, word by word.
 use borrow.Author.Needs.{needs}
-use Rattle.program.proofs.leaf_limit.Statement.{statement}
-use Rattle.program.proofs.leaf_limit.Tie as tie
+use Rattle.program.proofs.lines.leaf_limit.Statement.{statement}
+use Rattle.program.proofs.lines.leaf_limit.Tie as tie
 
 enum-told : tie.Need-enum-told
 enum-told c = search needs

@@ -4,8 +4,8 @@ use Rattle.program.proofs.LineLaws.{tail-read-one, tail-read-none}
 use borrow.Author.Needs.{needs}
 use mathlib.Core.Path.{refl}
 use borrow.Author.Needs.{needs}
-use Rattle.program.proofs.last_number.Statement.{statement}
-use Rattle.program.proofs.last_number.Tie as tie
+use Rattle.program.proofs.lines.last_number.Statement.{statement}
+use Rattle.program.proofs.lines.last_number.Tie as tie
 
 enum-told : tie.Need-enum-told
 enum-told c = search needs

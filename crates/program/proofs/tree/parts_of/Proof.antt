@@ -1,7 +1,7 @@
 -- The number of parts, word by word.
 use borrow.Author.Needs.{needs}
-use Rattle.program.proofs.parts_of.Statement.{statement}
-use Rattle.program.proofs.parts_of.Tie as tie
+use Rattle.program.proofs.tree.parts_of.Statement.{statement}
+use Rattle.program.proofs.tree.parts_of.Tie as tie
 
 enum-told : tie.Need-enum-told
 enum-told c = search needs

@@ -8,8 +8,8 @@ use native.Mathlib.Omega.{arith}
 use mathlib.Core.Path.{sym, subst, _∙_}
 use Rattle.program.specs.Lines.{TailShown}
 use borrow.Author.Needs.{needs}
-use Rattle.program.proofs.step_line.Statement.{statement}
-use Rattle.program.proofs.step_line.Tie as tie
+use Rattle.program.proofs.lines.step_line.Statement.{statement}
+use Rattle.program.proofs.lines.step_line.Tie as tie
 
 at-end-requires : tie.Need-at-end-requires
 at-end-requires c κs = search needs

@@ -4,8 +4,8 @@ use Rattle.program.specs.Scopes.{judgeVar}
 use Rattle.program.proofs.ScopeLaws.{used-early, used-late, used-inside}
 use borrow.Author.Needs.{needs}
 use borrow.Author.Needs.{needs}
-use Rattle.program.proofs.judge_var.Statement.{statement}
-use Rattle.program.proofs.judge_var.Tie as tie
+use Rattle.program.proofs.binders.judge_var.Statement.{statement}
+use Rattle.program.proofs.binders.judge_var.Tie as tie
 
 cast-line : tie.Need-cast-line
 cast-line c = search needs

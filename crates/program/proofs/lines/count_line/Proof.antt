@@ -7,8 +7,8 @@ use borrow.Author.Needs.{needs}
 use mathlib.Core.Path.{sym, subst, _∙_}
 use Rattle.program.specs.Lines.{TailShown}
 use borrow.Author.Needs.{needs}
-use Rattle.program.proofs.count_line.Statement.{statement}
-use Rattle.program.proofs.count_line.Tie as tie
+use Rattle.program.proofs.lines.count_line.Statement.{statement}
+use Rattle.program.proofs.lines.count_line.Tie as tie
 
 start-requires : tie.Need-start-requires
 start-requires c κs = search needs

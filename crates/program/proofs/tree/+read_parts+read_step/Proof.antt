@@ -8,16 +8,16 @@ use Rattle.program.specs.Stored.{partsOf}
 use Rattle.program.proofs.StructureLaws.{within, past, parts-none, parts-open, parts-more, step-none, step-open, step-more}
 use borrow.Fn.Kinds.{In}
 use borrow.Fn.PlainCycle.{Measures, is, falls, and}
-use Rattle.program.proofs.read_parts.Reads as read-parts
-use Rattle.program.proofs.read_parts.Kinds as read-parts-kinds
-use Rattle.program.proofs.+read_parts+read_step.Lts-read_parts as read-parts-lts
-use Rattle.program.proofs.read_step.Reads as read-step
-use Rattle.program.proofs.read_step.Kinds as read-step-kinds
-use Rattle.program.proofs.+read_parts+read_step.Lts-read_step as read-step-lts
-use Rattle.program.proofs.parts_of.Reads as parts-of-reads
+use Rattle.program.proofs.tree.read_parts.Reads as read-parts
+use Rattle.program.proofs.tree.read_parts.Kinds as read-parts-kinds
+use Rattle.program.proofs.tree.+read_parts+read_step.Lts-read_parts as read-parts-lts
+use Rattle.program.proofs.tree.read_step.Reads as read-step
+use Rattle.program.proofs.tree.read_step.Kinds as read-step-kinds
+use Rattle.program.proofs.tree.+read_parts+read_step.Lts-read_step as read-step-lts
+use Rattle.program.proofs.tree.parts_of.Reads as parts-of-reads
 use Rattle.workspace.proofs.word_of.Reads as word-of-reads
-use Rattle.program.proofs.+read_parts+read_step.{statement}
-use Rattle.program.proofs.+read_parts+read_step.Tie.{close}
+use Rattle.program.proofs.tree.+read_parts+read_step.{statement}
+use Rattle.program.proofs.tree.+read_parts+read_step.Tie.{close}
 
 abbrev μ-read-parts : Measures 1 read-parts-kinds.ps ℕ
 μ-read-parts κs a = 2 * (a .1 .0 - a .1 .1 .1 .0) + 1

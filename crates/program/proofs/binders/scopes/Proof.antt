@@ -1,17 +1,17 @@
 -- The loop's invariant: judging the steps from here on, with the table as it is, comes to what judging all of them does;
 -- what is stored for the steps passed stands in the work space.
 use Prim.Native.Nat.{_-_}
-use Rattle.program.proofs.ScopeLaws.{Sofar, start, finish, refuses, binds, stores}
+use Rattle.program.proofs.ScopeLaws.{ScopesSoFar, start, finish, refuses, binds, stores}
 use Rattle.program.specs.Scopes.{unbound}
 use mathlib.Core.Logic.{⊎-elim}
 use borrow.Author.Needs.{needs}
 use native.Mathlib.Omega.{arith}
 use mathlib.Core.Path.{sym, _∙_}
-use Rattle.program.proofs.scopes.Statement.{statement}
-use Rattle.program.proofs.scopes.Tie as tie
+use Rattle.program.proofs.binders.scopes.Statement.{statement}
+use Rattle.program.proofs.binders.scopes.Tie as tie
 
 abbrev Inv-loop : tie.InvT-loop
-Inv-loop work₀ n table₀ k₀ work table k = Sofar n work₀ work table k
+Inv-loop work₀ n table₀ k₀ work table k = ScopesSoFar n work₀ work table k
 
 abbrev μ-loop : tie.MeasureT-loop
 μ-loop work₀ n table₀ k₀ work table k = n - k

@@ -3,8 +3,8 @@ use Rattle.program.proofs.ScopeLaws.{judged-let, judged-var, judged-oth
 use borrow.Author.Needs.{needs}
 use mathlib.Core.Path.{_∙_}
 use borrow.Author.Needs.{needs}
-use Rattle.program.proofs.judge.Statement.{statement}
-use Rattle.program.proofs.judge.Tie as tie
+use Rattle.program.proofs.binders.judge.Statement.{statement}
+use Rattle.program.proofs.binders.judge.Tie as tie
 
 add-word-of : tie.Need-add-word-of
 add-word-of c = search needs

@@ -3,15 +3,15 @@
 use Prim.Native.Nat.{_-_}
 use lib.ListN.{length-set}
 use Rattle.program.specs.Lines.{StepShown}
-use Rattle.program.proofs.StepLoop.{SoFar, start, finish, refuses, more}
+use Rattle.program.proofs.StepLoop.{StepsSoFar, start, finish, refuses, more}
 use borrow.Author.Needs.{needs}
 use native.Mathlib.Omega.{arith}
 use mathlib.Core.Path.{subst}
-use Rattle.program.proofs.step_lines.Statement.{statement}
-use Rattle.program.proofs.step_lines.Tie as tie
+use Rattle.program.proofs.lines.step_lines.Statement.{statement}
+use Rattle.program.proofs.lines.step_lines.Tie as tie
 
 abbrev Inv-loop : tie.InvT-loop
-Inv-loop text work₀ n cursor₀ k₀ work cursor k = SoFar text n cursor₀ work₀ work cursor k
+Inv-loop text work₀ n cursor₀ k₀ work cursor k = StepsSoFar text n cursor₀ work₀ work cursor k
 
 abbrev μ-loop : tie.MeasureT-loop
 μ-loop text work₀ n cursor₀ k₀ work cursor k = n - k

@@ -3,8 +3,8 @@ use Rattle.program.proofs.StructureLaws.{within, whole, early, unfinish
 use borrow.Author.Needs.{needs}
 use native.Mathlib.Omega.{arith}
 use borrow.Author.Needs.{needs}
-use Rattle.program.proofs.structure.Statement.{statement}
-use Rattle.program.proofs.structure.Tie as tie
+use Rattle.program.proofs.tree.structure.Statement.{statement}
+use Rattle.program.proofs.tree.structure.Tie as tie
 
 read-step-requires : tie.Need-read-step-requires
 read-step-requires c κs = search needs

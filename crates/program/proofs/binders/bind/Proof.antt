@@ -2,8 +2,8 @@
 use mathlib.Core.Path.{sym}
 use lib.Seq.{set-out}
 use borrow.Author.Needs.{needs}
-use Rattle.program.proofs.bind.Statement.{statement}
-use Rattle.program.proofs.bind.Tie as tie
+use Rattle.program.proofs.binders.bind.Statement.{statement}
+use Rattle.program.proofs.binders.bind.Tie as tie
 
 mul-table : tie.Need-mul-table
 mul-table c = search needs
