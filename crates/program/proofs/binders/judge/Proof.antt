@@ -2,7 +2,6 @@
 use Rattle.program.proofs.ScopeLaws.{judged-let, judged-var, judged-other}
 use borrow.Author.Needs.{needs}
 use mathlib.Core.Path.{_∙_}
-use borrow.Author.Needs.{needs}
 use Rattle.program.proofs.binders.judge.Statement.{statement}
 use Rattle.program.proofs.binders.judge.Tie as tie
 
@@ -37,10 +36,16 @@ enum-told-3 : tie.Need-enum-told-3
 enum-told-3 c = search needs
 
 returns : tie.Need-returns
-returns c = c .judge-let .ensures ∙ judged-let _ _ _ (c .before .before .before .before .word-of .ensures) (c .before .before .before .role-of .ensures) (c .before .enum-told .given .1)
+returns c =
+    let at-role-of = c .before .before .before in
+    let at-word-of = at-role-of .before in
+    c .judge-let .ensures ∙ judged-let _ _ _ (at-word-of .word-of .ensures) (at-role-of .role-of .ensures) (c .before .enum-told .given .1)
 
 returns-2 : tie.Need-returns-2
-returns-2 c = c .judge-var .ensures ∙ judged-var _ _ _ (c .before .before .before .before .word-of .ensures) (c .before .before .before .role-of .ensures) (c .before .enum-told2 .given .1)
+returns-2 c =
+    let at-role-of = c .before .before .before in
+    let at-word-of = at-role-of .before in
+    c .judge-var .ensures ∙ judged-var _ _ _ (at-word-of .word-of .ensures) (at-role-of .role-of .ensures) (c .before .enum-told2 .given .1)
 
 returns-3 : tie.Need-returns-3
 returns-3 c = judged-other _ _ _ (c .before .before .before .word-of .ensures) (c .before .before .role-of .ensures) (c .enum-told3 .given .1)

@@ -2,7 +2,6 @@
 use borrow.Author.Tests.{le-leb, lt-leb}
 use Rattle.program.specs.Scopes.{judgeLet}
 use borrow.Author.Needs.{needs}
-use borrow.Author.Needs.{needs}
 use Rattle.program.proofs.binders.judge_let.Statement.{statement}
 use Rattle.program.proofs.binders.judge_let.Tie as tie
 

@@ -39,22 +39,37 @@ binder-requires : tie.Need-binder-requires Inv-loop μ-loop
 binder-requires c κs = search needs
 
 judge-requires : tie.Need-judge-requires Inv-loop μ-loop
-judge-requires c κs = (c .before .before .before .before .before .before .loop .inv .changed .long ∙ c .before .before .before .before .before .before .before .before .pre .0, omega (arith, c .before .before .before .before .before .before .before .before .pre .1, c .before .before .before .before .before .loop-test .taken))
+judge-requires c κs =
+    let at-loop-test = c .before .before .before .before .before in
+    let at-loop = at-loop-test .before in
+    let at-pre = at-loop .before .before in
+    (at-loop .loop .inv .changed .long ∙ at-pre .pre .0, omega (arith, at-pre .pre .1, at-loop-test .loop-test .taken))
 
 enum-known-refusal : tie.Need-enum-known-refusal Inv-loop μ-loop
 enum-known-refusal c = search needs
 
 same-length : tie.Need-same-length Inv-loop μ-loop
-same-length c = c .before .before .before .before .before .before .before .before .before .before .loop .inv .changed .long
+same-length c =
+    let at-loop = c .before .before .before .before .before .before .before .before .before .before in
+    at-loop .loop .inv .changed .long
 
 returns : tie.Need-returns Inv-loop μ-loop
-returns c = refuses _ _ _ _ _ (c .before .before .before .before .before .before .before .before .before .before .loop .inv) _ _ _ (c .before .before .before .before .before .before .before .before .before .before .before .before .pre .0) (c .before .before .before .before .before .before .before .before .before .before .before .before .pre .1) (c .before .before .before .before .before .before .before .before .before .loop-test .taken) (c .before .before .before .before .before .before .before .index .ensures .0) (c .before .before .before .before .before .binder .ensures) (c .before .before .before .judge .ensures) _ (c .before .refusal .given .1)
+returns c =
+    let at-judge = c .before .before .before in
+    let at-binder = at-judge .before .before in
+    let at-index = at-binder .before .before in
+    let at-loop-test = at-index .before .before in
+    let at-loop = at-loop-test .before in
+    let at-pre = at-loop .before .before in
+    refuses _ _ _ _ _ (at-loop .loop .inv) _ _ _ (at-pre .pre .0) (at-pre .pre .1) (at-loop-test .loop-test .taken) (at-index .index .ensures .0) (at-binder .binder .ensures) (at-judge .judge .ensures) _ (c .before .refusal .given .1)
 
 enum-told : tie.Need-enum-told Inv-loop μ-loop
 enum-told c = search needs
 
 slice-aggregate-bind : tie.Need-slice-aggregate-bind Inv-loop μ-loop
-slice-aggregate-bind c = sym (c .before .before .before .before .before .before .before .before .before .before .loop .inv .long)
+slice-aggregate-bind c =
+    let at-loop = c .before .before .before .before .before .before .before .before .before .before in
+    sym (at-loop .loop .inv .long)
 
 cast-bind : tie.Need-cast-bind Inv-loop μ-loop
 cast-bind c = search needs
@@ -72,7 +87,10 @@ mul-work : tie.Need-mul-work Inv-loop μ-loop
 mul-work c = search needs
 
 slice-write-work : tie.Need-slice-write-work Inv-loop μ-loop
-slice-write-work c = omega (arith, c .before .before .before .before .before .before .before .before .before .before .pre, c .before .before .before .before .before .before .before .before .loop .inv .changed .long)
+slice-write-work c =
+    let at-loop = c .before .before .before .before .before .before .before .before in
+    let at-pre = at-loop .before .before in
+    omega (arith, at-pre .pre, at-loop .loop .inv .changed .long)
 
 add-k : tie.Need-add-k Inv-loop μ-loop
 add-k c = search needs
@@ -82,13 +100,18 @@ loop-less c = search needs
 
 loop-again : tie.Need-loop-again Inv-loop μ-loop
 loop-again c =
+    let at-binder = c .before .before .before in
+    let at-index = at-binder .before .before in
+    let at-loop-test = at-index .before .before in
+    let at-loop = at-loop-test .before in
+    let at-pre = at-loop .before .before in
     ⊎-elim
     (λ u.
-    binds _ _ _ _ _ (c .before .before .before .before .before .before .before .before .loop .inv) _ _ _ (c .before .before .before .before .before .before .before .before .before .before .pre .0) (c .before .before .before .before .before .before .before .before .before .before .pre .1) (c .before .before .before .before .before .before .before .loop-test .taken) (c .before .before .before .before .before .index .ensures .0) (c .before .before .before .binder .ensures) (c .before .judge .ensures) _ _ (u .6)
+    binds _ _ _ _ _ (at-loop .loop .inv) _ _ _ (at-pre .pre .0) (at-pre .pre .1) (at-loop-test .loop-test .taken) (at-index .index .ensures .0) (at-binder .binder .ensures) (c .before .judge .ensures) _ _ (u .6)
     (u .5 ∙ u .3 .ensures)
     (u .1 .given .1))
     (λ u.
-    stores _ _ _ _ _ (c .before .before .before .before .before .before .before .before .loop .inv) _ _ _ (c .before .before .before .before .before .before .before .before .before .before .pre .0) (c .before .before .before .before .before .before .before .before .before .before .pre .1) (c .before .before .before .before .before .before .before .loop-test .taken) (c .before .before .before .before .before .index .ensures .0) (c .before .before .before .binder .ensures) (c .before .judge .ensures) _ _ _ (u .4) (u .3)
+    stores _ _ _ _ _ (at-loop .loop .inv) _ _ _ (at-pre .pre .0) (at-pre .pre .1) (at-loop-test .loop-test .taken) (at-index .index .ensures .0) (at-binder .binder .ensures) (c .before .judge .ensures) _ _ _ (u .4) (u .3)
     (u .1 .given .1))
     (c .match .came)
 

@@ -6,7 +6,6 @@ use Rattle.program.proofs.LineLaws.{placed-top, marked, count-empty, co
 use borrow.Author.Needs.{needs}
 use mathlib.Core.Path.{sym, subst, _∙_}
 use Rattle.program.specs.Lines.{TailShown}
-use borrow.Author.Needs.{needs}
 use Rattle.program.proofs.lines.count_line.Statement.{statement}
 use Rattle.program.proofs.lines.count_line.Tie as tie
 
@@ -23,13 +22,22 @@ field-requires : tie.Need-field-requires
 field-requires c κs = placed-top _ _ (c .before .before .start .ensures) (c .before .before .before .before .pre)
 
 sub-same : tie.Need-sub-same
-sub-same c = span-le _ _ (c .field .result) (c .field .ensures) (placed-top _ _ (c .before .before .before .start .ensures) (c .before .before .before .before .before .pre)) .0
+sub-same c =
+    let at-start = c .before .before .before in
+    let at-pre = at-start .before .before in
+    span-le _ _ (c .field .result) (c .field .ensures) (placed-top _ _ (at-start .start .ensures) (at-pre .pre)) .0
 
 part-same-start : tie.Need-part-same-start
-part-same-start c = span-le _ _ (c .field .result) (c .field .ensures) (placed-top _ _ (c .before .before .before .start .ensures) (c .before .before .before .before .before .pre)) .0
+part-same-start c =
+    let at-start = c .before .before .before in
+    let at-pre = at-start .before .before in
+    span-le _ _ (c .field .result) (c .field .ensures) (placed-top _ _ (at-start .start .ensures) (at-pre .pre)) .0
 
 part-same-end : tie.Need-part-same-end
-part-same-end c = span-le _ _ (c .field .result) (c .field .ensures) (placed-top _ _ (c .before .before .before .start .ensures) (c .before .before .before .before .before .pre)) .1
+part-same-end c =
+    let at-start = c .before .before .before in
+    let at-pre = at-start .before .before in
+    span-le _ _ (c .field .result) (c .field .ensures) (placed-top _ _ (at-start .start .ensures) (at-pre .pre)) .1
 
 slice-aggregate-same : tie.Need-slice-aggregate-same
 slice-aggregate-same c = search needs
@@ -38,10 +46,20 @@ same-requires : tie.Need-same-requires
 same-requires c κs = search needs
 
 returns-2 : tie.Need-returns-2
-returns-2 c = count-other _ _ (c .before .before .before .before .before .before .before .start .ensures) (sym (c .before .before .before .before .before .before .at-end .ensures) ∙ c .before .before .before .before .before .if1 .left) (c .before .before .before .before .field .result) (c .before .before .before .before .field .ensures) (placed-top _ _ (c .before .before .before .before .before .before .before .start .ensures) (c .before .before .before .before .before .before .before .before .before .pre)) (marked _ _ (c .before .before .before .before .field .result) _ (c .before .before .before .before .field .ensures) (c .before .same .ensures) ∙ not-true _ (c .if2 .taken))
+returns-2 c =
+    let at-field = c .before .before .before .before in
+    let at-if1 = at-field .before in
+    let at-at-end = at-if1 .before in
+    let at-start = at-at-end .before in
+    let at-pre = at-start .before .before in
+    count-other _ _ (at-start .start .ensures) (sym (at-at-end .at-end .ensures) ∙ at-if1 .if1 .left) (at-field .field .result) (at-field .field .ensures) (placed-top _ _ (at-start .start .ensures) (at-pre .pre)) (marked _ _ (at-field .field .result) _ (at-field .field .ensures) (c .before .same .ensures) ∙ not-true _ (c .if2 .taken))
 
 last-number-requires : tie.Need-last-number-requires
-last-number-requires c κs = span-placed _ _ (c .before .before .before .before .before .field .result) (c .before .before .before .before .before .field .ensures) (placed-top _ _ (c .before .before .before .before .before .before .before .before .start .ensures) (c .before .before .before .before .before .before .before .before .before .before .pre))
+last-number-requires c κs =
+    let at-field = c .before .before .before .before .before in
+    let at-start = at-field .before .before .before in
+    let at-pre = at-start .before .before in
+    span-placed _ _ (at-field .field .result) (at-field .field .ensures) (placed-top _ _ (at-start .start .ensures) (at-pre .pre))
 
 enum-known-n : tie.Need-enum-known-n
 enum-known-n c = search needs
@@ -51,35 +69,68 @@ enum-told c = search needs
 
 returns-3 : tie.Need-returns-3
 returns-3 c =
-    count-malformed _ _ (c .before .before .before .before .before .before .before .before .before .before .before .start .ensures) (sym (c .before .before .before .before .before .before .before .before .before .before .at-end .ensures) ∙ c .before .before .before .before .before .before .before .before .before .if1 .left) (c .before .before .before .before .before .before .before .before .field .result) (c .before .before .before .before .before .before .before .before .field .ensures) (placed-top _ _ (c .before .before .before .before .before .before .before .before .before .before .before .start .ensures) (c .before .before .before .before .before .before .before .before .before .before .before .before .before .pre))
-    (marked _ _ (c .before .before .before .before .before .before .before .before .field .result) _ (c .before .before .before .before .before .before .before .before .field .ensures) (c .before .before .before .before .before .same .ensures) ∙ not-false _ (c .before .before .before .before .if2 .left))
+    let at-if2 = c .before .before .before .before in
+    let at-same = at-if2 .before in
+    let at-field = at-same .before .before .before in
+    let at-if1 = at-field .before in
+    let at-at-end = at-if1 .before in
+    let at-start = at-at-end .before in
+    let at-pre = at-start .before .before in
+    count-malformed _ _ (at-start .start .ensures) (sym (at-at-end .at-end .ensures) ∙ at-if1 .if1 .left) (at-field .field .result) (at-field .field .ensures) (placed-top _ _ (at-start .start .ensures) (at-pre .pre))
+    (marked _ _ (at-field .field .result) _ (at-field .field .ensures) (at-same .same .ensures) ∙ not-false _ (at-if2 .if2 .left))
     (subst (TailShown _ _ _) (c .enum-told .given .1) (c .before .before .last-number .ensures))
 
 returns-4 : tie.Need-returns-4
 returns-4 c =
-    count-none _ _ (c .before .before .before .before .before .before .before .before .before .before .before .before .before .start .ensures) (sym (c .before .before .before .before .before .before .before .before .before .before .before .before .at-end .ensures) ∙ c .before .before .before .before .before .before .before .before .before .before .before .if1 .left) (c .before .before .before .before .before .before .before .before .before .before .field .result) (c .before .before .before .before .before .before .before .before .before .before .field .ensures) (placed-top _ _ (c .before .before .before .before .before .before .before .before .before .before .before .before .before .start .ensures) (c .before .before .before .before .before .before .before .before .before .before .before .before .before .before .before .pre))
-    (marked _ _ (c .before .before .before .before .before .before .before .before .before .before .field .result) _ (c .before .before .before .before .before .before .before .before .before .before .field .ensures) (c .before .before .before .before .before .before .before .same .ensures) ∙ not-false _ (c .before .before .before .before .before .before .if2 .left))
+    let at-last-number = c .before .before .before .before in
+    let at-if2 = at-last-number .before .before in
+    let at-same = at-if2 .before in
+    let at-field = at-same .before .before .before in
+    let at-if1 = at-field .before in
+    let at-at-end = at-if1 .before in
+    let at-start = at-at-end .before in
+    let at-pre = at-start .before .before in
+    count-none _ _ (at-start .start .ensures) (sym (at-at-end .at-end .ensures) ∙ at-if1 .if1 .left) (at-field .field .result) (at-field .field .ensures) (placed-top _ _ (at-start .start .ensures) (at-pre .pre))
+    (marked _ _ (at-field .field .result) _ (at-field .field .ensures) (at-same .same .ensures) ∙ not-false _ (at-if2 .if2 .left))
     _
     _
-    (subst (TailShown _ _ _) (c .before .before .n .given .1) (c .before .before .before .before .last-number .ensures))
+    (subst (TailShown _ _ _) (c .before .before .n .given .1) (at-last-number .last-number .ensures))
     (c .if3 .taken)
 
 returns-5 : tie.Need-returns-5
 returns-5 c =
-    count-many _ _ (c .before .before .before .before .before .before .before .before .before .before .before .before .before .before .start .ensures) (sym (c .before .before .before .before .before .before .before .before .before .before .before .before .before .at-end .ensures) ∙ c .before .before .before .before .before .before .before .before .before .before .before .before .if1 .left) (c .before .before .before .before .before .before .before .before .before .before .before .field .result) (c .before .before .before .before .before .before .before .before .before .before .before .field .ensures) (placed-top _ _ (c .before .before .before .before .before .before .before .before .before .before .before .before .before .before .start .ensures) (c .before .before .before .before .before .before .before .before .before .before .before .before .before .before .before .before .pre))
-    (marked _ _ (c .before .before .before .before .before .before .before .before .before .before .before .field .result) _ (c .before .before .before .before .before .before .before .before .before .before .before .field .ensures) (c .before .before .before .before .before .before .before .before .same .ensures) ∙ not-false _ (c .before .before .before .before .before .before .before .if2 .left))
+    let at-n = c .before .before .before in
+    let at-last-number = at-n .before .before in
+    let at-if2 = at-last-number .before .before in
+    let at-same = at-if2 .before in
+    let at-field = at-same .before .before .before in
+    let at-if1 = at-field .before in
+    let at-at-end = at-if1 .before in
+    let at-start = at-at-end .before in
+    let at-pre = at-start .before .before in
+    count-many _ _ (at-start .start .ensures) (sym (at-at-end .at-end .ensures) ∙ at-if1 .if1 .left) (at-field .field .result) (at-field .field .ensures) (placed-top _ _ (at-start .start .ensures) (at-pre .pre))
+    (marked _ _ (at-field .field .result) _ (at-field .field .ensures) (at-same .same .ensures) ∙ not-false _ (at-if2 .if2 .left))
     _
     _
-    (subst (TailShown _ _ _) (c .before .before .before .n .given .1) (c .before .before .before .before .before .last-number .ensures))
+    (subst (TailShown _ _ _) (at-n .n .given .1) (at-last-number .last-number .ensures))
     (c .before .if3 .left) (c .if4 .taken)
 
 returns-6 : tie.Need-returns-6
 returns-6 c =
-    count-right _ _ (c .before .before .before .before .before .before .before .before .before .before .before .before .before .before .start .ensures) (sym (c .before .before .before .before .before .before .before .before .before .before .before .before .before .at-end .ensures) ∙ c .before .before .before .before .before .before .before .before .before .before .before .before .if1 .left) (c .before .before .before .before .before .before .before .before .before .before .before .field .result) (c .before .before .before .before .before .before .before .before .before .before .before .field .ensures) (placed-top _ _ (c .before .before .before .before .before .before .before .before .before .before .before .before .before .before .start .ensures) (c .before .before .before .before .before .before .before .before .before .before .before .before .before .before .before .before .pre))
-    (marked _ _ (c .before .before .before .before .before .before .before .before .before .before .before .field .result) _ (c .before .before .before .before .before .before .before .before .before .before .before .field .ensures) (c .before .before .before .before .before .before .before .before .same .ensures) ∙ not-false _ (c .before .before .before .before .before .before .before .if2 .left))
+    let at-n = c .before .before .before in
+    let at-last-number = at-n .before .before in
+    let at-if2 = at-last-number .before .before in
+    let at-same = at-if2 .before in
+    let at-field = at-same .before .before .before in
+    let at-if1 = at-field .before in
+    let at-at-end = at-if1 .before in
+    let at-start = at-at-end .before in
+    let at-pre = at-start .before .before in
+    count-right _ _ (at-start .start .ensures) (sym (at-at-end .at-end .ensures) ∙ at-if1 .if1 .left) (at-field .field .result) (at-field .field .ensures) (placed-top _ _ (at-start .start .ensures) (at-pre .pre))
+    (marked _ _ (at-field .field .result) _ (at-field .field .ensures) (at-same .same .ensures) ∙ not-false _ (at-if2 .if2 .left))
     _
     _
-    (subst (TailShown _ _ _) (c .before .before .before .n .given .1) (c .before .before .before .before .before .last-number .ensures))
+    (subst (TailShown _ _ _) (at-n .n .given .1) (at-last-number .last-number .ensures))
     (c .before .if3 .left) (c .if4 .left)
 
 pub count-line-spec : {M : Type 1} → statement M

@@ -3,7 +3,6 @@ use Rattle.lexer.proofs.Walks.{not-comma}
 use Rattle.program.proofs.LineLaws.{tail-read-one, tail-read-none}
 use borrow.Author.Needs.{needs}
 use mathlib.Core.Path.{refl}
-use borrow.Author.Needs.{needs}
 use Rattle.program.proofs.lines.last_number.Statement.{statement}
 use Rattle.program.proofs.lines.last_number.Tie as tie
 
@@ -29,7 +28,11 @@ enum-told-2 : tie.Need-enum-told-2
 enum-told-2 c = search needs
 
 returns-2 : tie.Need-returns-2
-returns-2 c = tail-read-one _ _ _ _ _ _ (c .before .before .before .before .numbers .ensures) refl _ (c .before .before .before .before .before .before .enum-told .given .1) (c .before .before .before .before .before .before .before .before .before .pre) (c .before .behind .given .1)
+returns-2 c =
+    let at-numbers = c .before .before .before .before in
+    let at-enum-told = at-numbers .before .before in
+    let at-pre = at-enum-told .before .before .before in
+    tail-read-one _ _ _ _ _ _ (at-numbers .numbers .ensures) refl _ (at-enum-told .enum-told .given .1) (at-pre .pre) (c .before .behind .given .1)
 
 returns-3 : tie.Need-returns-3
 returns-3 c = tail-read-none _ _ _ _ _ _ (c .before .before .before .numbers .ensures) refl (c .enum-told2 .given .1)

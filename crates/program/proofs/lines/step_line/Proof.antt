@@ -7,7 +7,6 @@ use borrow.Author.Needs.{needs}
 use native.Mathlib.Omega.{arith}
 use mathlib.Core.Path.{sym, subst, _∙_}
 use Rattle.program.specs.Lines.{TailShown}
-use borrow.Author.Needs.{needs}
 use Rattle.program.proofs.lines.step_line.Statement.{statement}
 use Rattle.program.proofs.lines.step_line.Tie as tie
 
@@ -42,10 +41,18 @@ enum-told : tie.Need-enum-told
 enum-told c = search needs
 
 returns-2 : tie.Need-returns-2
-returns-2 c = step-unknown _ _ (sym (c .before .before .before .before .before .before .at-end .ensures) ∙ c .before .before .before .before .before .if1 .left) (c .before .before .before .before .field .result) (c .before .before .before .before .field .ensures) (c .before .before .before .before .before .before .before .before .pre) (span-unknown _ _ (c .before .before .before .before .field .result) (c .before .before .before .before .field .ensures) (sym (c .before .before .word-of .ensures) ∙ c .enum-told .given .1))
+returns-2 c =
+    let at-field = c .before .before .before .before in
+    let at-if1 = at-field .before in
+    let at-at-end = at-if1 .before in
+    let at-pre = at-at-end .before .before in
+    step-unknown _ _ (sym (at-at-end .at-end .ensures) ∙ at-if1 .if1 .left) (at-field .field .result) (at-field .field .ensures) (at-pre .pre) (span-unknown _ _ (at-field .field .result) (at-field .field .ensures) (sym (c .before .before .word-of .ensures) ∙ c .enum-told .given .1))
 
 last-number-requires : tie.Need-last-number-requires
-last-number-requires c κs = span-placed _ _ (c .before .before .before .before .before .before .field .result) (c .before .before .before .before .before .before .field .ensures) (c .before .before .before .before .before .before .before .before .before .before .pre)
+last-number-requires c κs =
+    let at-field = c .before .before .before .before .before .before in
+    let at-pre = at-field .before .before .before .before in
+    span-placed _ _ (at-field .field .result) (at-field .field .ensures) (at-pre .pre)
 
 enum-known-v : tie.Need-enum-known-v
 enum-known-v c = search needs
@@ -55,8 +62,14 @@ enum-told-2 c = search needs
 
 returns-3 : tie.Need-returns-3
 returns-3 c =
-    step-malformed _ _ (sym (c .before .before .before .before .before .before .before .before .before .before .before .at-end .ensures) ∙ c .before .before .before .before .before .before .before .before .before .before .if1 .left) (c .before .before .before .before .before .before .before .before .before .field .result) (c .before .before .before .before .before .before .before .before .before .field .ensures) (c .before .before .before .before .before .before .before .before .before .before .before .before .before .pre) _
-    (span-known _ _ (c .before .before .before .before .before .before .before .before .before .field .result) (c .before .before .before .before .before .before .before .before .before .field .ensures) _ (sym (c .before .before .before .before .before .before .before .word-of .ensures) ∙ c .before .before .before .before .before .word .given .1))
+    let at-word = c .before .before .before .before .before in
+    let at-word-of = at-word .before .before in
+    let at-field = at-word-of .before .before in
+    let at-if1 = at-field .before in
+    let at-at-end = at-if1 .before in
+    let at-pre = at-at-end .before .before in
+    step-malformed _ _ (sym (at-at-end .at-end .ensures) ∙ at-if1 .if1 .left) (at-field .field .result) (at-field .field .ensures) (at-pre .pre) _
+    (span-known _ _ (at-field .field .result) (at-field .field .ensures) _ (sym (at-word-of .word-of .ensures) ∙ at-word .word .given .1))
     (subst (TailShown _ _ _) (c .enum-told2 .given .1) (c .before .before .last-number .ensures))
 
 limit-of-requires : tie.Need-limit-of-requires
@@ -64,20 +77,36 @@ limit-of-requires c κs = search needs
 
 returns-4 : tie.Need-returns-4
 returns-4 c =
-    step-over _ _ (sym (c .before .before .before .before .before .before .before .before .before .before .before .before .before .before .at-end .ensures) ∙ c .before .before .before .before .before .before .before .before .before .before .before .before .before .if1 .left) (c .before .before .before .before .before .before .before .before .before .before .before .before .field .result) (c .before .before .before .before .before .before .before .before .before .before .before .before .field .ensures) (c .before .before .before .before .before .before .before .before .before .before .before .before .before .before .before .before .pre) _
-    (span-known _ _ (c .before .before .before .before .before .before .before .before .before .before .before .before .field .result) (c .before .before .before .before .before .before .before .before .before .before .before .before .field .ensures) _ (sym (c .before .before .before .before .before .before .before .before .before .before .word-of .ensures) ∙ c .before .before .before .before .before .before .before .before .word .given .1))
+    let at-v = c .before .before .before in
+    let at-last-number = at-v .before .before in
+    let at-word = at-last-number .before .before .before in
+    let at-word-of = at-word .before .before in
+    let at-field = at-word-of .before .before in
+    let at-if1 = at-field .before in
+    let at-at-end = at-if1 .before in
+    let at-pre = at-at-end .before .before in
+    step-over _ _ (sym (at-at-end .at-end .ensures) ∙ at-if1 .if1 .left) (at-field .field .result) (at-field .field .ensures) (at-pre .pre) _
+    (span-known _ _ (at-field .field .result) (at-field .field .ensures) _ (sym (at-word-of .word-of .ensures) ∙ at-word .word .given .1))
     _
     _
-    (subst (TailShown _ _ _) (c .before .before .before .v .given .1) (c .before .before .before .before .before .last-number .ensures))
+    (subst (TailShown _ _ _) (at-v .v .given .1) (at-last-number .last-number .ensures))
     (omega (arith, c .if2 .taken, c .before .limit-of .ensures))
 
 returns-5 : tie.Need-returns-5
 returns-5 c =
-    step-right _ _ (sym (c .before .before .before .before .before .before .before .before .before .before .before .before .before .before .at-end .ensures) ∙ c .before .before .before .before .before .before .before .before .before .before .before .before .before .if1 .left) (c .before .before .before .before .before .before .before .before .before .before .before .before .field .result) (c .before .before .before .before .before .before .before .before .before .before .before .before .field .ensures) (c .before .before .before .before .before .before .before .before .before .before .before .before .before .before .before .before .pre) _
-    (span-known _ _ (c .before .before .before .before .before .before .before .before .before .before .before .before .field .result) (c .before .before .before .before .before .before .before .before .before .before .before .before .field .ensures) _ (sym (c .before .before .before .before .before .before .before .before .before .before .word-of .ensures) ∙ c .before .before .before .before .before .before .before .before .word .given .1))
+    let at-v = c .before .before .before in
+    let at-last-number = at-v .before .before in
+    let at-word = at-last-number .before .before .before in
+    let at-word-of = at-word .before .before in
+    let at-field = at-word-of .before .before in
+    let at-if1 = at-field .before in
+    let at-at-end = at-if1 .before in
+    let at-pre = at-at-end .before .before in
+    step-right _ _ (sym (at-at-end .at-end .ensures) ∙ at-if1 .if1 .left) (at-field .field .result) (at-field .field .ensures) (at-pre .pre) _
+    (span-known _ _ (at-field .field .result) (at-field .field .ensures) _ (sym (at-word-of .word-of .ensures) ∙ at-word .word .given .1))
     _
     _
-    (subst (TailShown _ _ _) (c .before .before .before .v .given .1) (c .before .before .before .before .before .last-number .ensures))
+    (subst (TailShown _ _ _) (at-v .v .given .1) (at-last-number .last-number .ensures))
     (omega (arith, c .if2 .left, c .before .limit-of .ensures))
 
 pub step-line-spec : {M : Type 1} → statement M

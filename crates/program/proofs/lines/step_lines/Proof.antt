@@ -35,7 +35,10 @@ mul-work : tie.Need-mul-work Inv-loop μ-loop
 mul-work c = search needs
 
 slice-write-work : tie.Need-slice-write-work Inv-loop μ-loop
-slice-write-work c = omega (arith, c .before .before .before .before .before .before .before .before .before .pre, c .before .before .before .before .before .before .loop .inv .changed .long)
+slice-write-work c =
+    let at-loop = c .before .before .before .before .before .before in
+    let at-pre = at-loop .before .before .before in
+    omega (arith, at-pre .pre, at-loop .loop .inv .changed .long)
 
 add-work-2 : tie.Need-add-work-2 Inv-loop μ-loop
 add-work-2 c = search needs
@@ -44,7 +47,10 @@ mul-work-2 : tie.Need-mul-work-2 Inv-loop μ-loop
 mul-work-2 c = search needs
 
 slice-write-work-2 : tie.Need-slice-write-work-2 Inv-loop μ-loop
-slice-write-work-2 c = simp length-set (omega (arith, c .before .before .before .before .before .before .before .before .before .pre, c .before .before .before .before .before .before .loop .inv .changed .long))
+slice-write-work-2 c =
+    let at-loop = c .before .before .before .before .before .before in
+    let at-pre = at-loop .before .before .before in
+    simp length-set (omega (arith, at-pre .pre, at-loop .loop .inv .changed .long))
 
 enum-known-refusal : tie.Need-enum-known-refusal Inv-loop μ-loop
 enum-known-refusal c = search needs
@@ -53,7 +59,11 @@ same-length : tie.Need-same-length Inv-loop μ-loop
 same-length c = c .before .before .before .before .before .loop .inv .changed .long
 
 returns : tie.Need-returns Inv-loop μ-loop
-returns c = refuses _ _ _ _ _ _ _ (c .before .before .before .before .before .loop .inv) (c .before .before .before .before .loop-test .taken) _ (subst (StepShown _ _) (c .before .refusal .given .1) (c .before .before .before .step-line .ensures))
+returns c =
+    let at-step-line = c .before .before .before in
+    let at-loop-test = at-step-line .before in
+    let at-loop = at-loop-test .before in
+    refuses _ _ _ _ _ _ _ (at-loop .loop .inv) (at-loop-test .loop-test .taken) _ (subst (StepShown _ _) (c .before .refusal .given .1) (at-step-line .step-line .ensures))
 
 add-k : tie.Need-add-k Inv-loop μ-loop
 add-k c = search needs
@@ -63,8 +73,12 @@ loop-less c = search needs
 
 loop-again : tie.Need-loop-again Inv-loop μ-loop
 loop-again c =
-    more _ _ _ _ _ _ _ (c .before .before .before .before .before .before .loop .inv) (c .before .before .before .before .before .loop-test .taken) _ _ _ _ (c .before .before .before .before .before .before .before .before .before .pre .0) (c .before .before .before .before .before .before .before .before .before .pre .1)
-    (subst (StepShown _ _) (c .before .before .word .given .1) (c .before .before .before .before .step-line .ensures))
+    let at-step-line = c .before .before .before .before in
+    let at-loop-test = at-step-line .before in
+    let at-loop = at-loop-test .before in
+    let at-pre = at-loop .before .before .before in
+    more _ _ _ _ _ _ _ (at-loop .loop .inv) (at-loop-test .loop-test .taken) _ _ _ _ (at-pre .pre .0) (at-pre .pre .1)
+    (subst (StepShown _ _) (c .before .before .word .given .1) (at-step-line .step-line .ensures))
     (c .code-of .ensures)
 
 same-length-2 : tie.Need-same-length-2 Inv-loop μ-loop

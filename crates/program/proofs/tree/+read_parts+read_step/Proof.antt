@@ -54,7 +54,9 @@ read-parts-read-step-requires : (t : ℕ) → read-parts-lts.Need-read-step-requ
   read-parts-below t,
   read-parts.Post,
 ) (read-parts-at t) read-parts.Post
-read-parts-read-step-requires t c κs = (omega (arith, c .before .before .before .pre .0), c .before .before .before .pre .1)
+read-parts-read-step-requires t c κs =
+    let at-pre = c .before .before .before in
+    (omega (arith, at-pre .pre .0), at-pre .pre .1)
 
 read-parts-enum-known-e : (t : ℕ) → read-parts-lts.Need-enum-known-e (
   read-step-below t,
@@ -79,9 +81,11 @@ read-parts-read-parts-requires : (t : ℕ) → read-parts-lts.Need-read-parts-re
   read-parts.Post,
 ) (read-parts-at t) read-parts.Post
 read-parts-read-parts-requires t c κs =
-    let q = within _ 1 _ _ _ _ _ (c .before .before .before .before .before .before .before .before .before .before .pre .1 .2) (c .before .before .before .before .before .before .read-step .ensures) (c .before .before .e .given .1) in
-    let l = past _ _ _ _ _ _ (c .before .before .before .before .before .before .read-step .ensures) (c .before .before .e .given .1) in
-    (omega (arith, l, q .1, c .before .before .before .before .before .before .before .before .before .before .pre .0), (c .before .before .before .before .before .before .read-step .kept .0 ∙ c .before .before .before .before .before .before .before .before .before .before .pre .1 .0, c .before .before .before .before .before .before .before .before .before .before .pre .1 .1, q .1))
+    let at-read-step = c .before .before .before .before .before .before in
+    let at-pre = at-read-step .before .before .before .before in
+    let q = within _ 1 _ _ _ _ _ (at-pre .pre .1 .2) (at-read-step .read-step .ensures) (c .before .before .e .given .1) in
+    let l = past _ _ _ _ _ _ (at-read-step .read-step .ensures) (c .before .before .e .given .1) in
+    (omega (arith, l, q .1, at-pre .pre .0), (at-read-step .read-step .kept .0 ∙ at-pre .pre .1 .0, at-pre .pre .1 .1, q .1))
 
 read-parts-enum-told : (t : ℕ) → read-parts-lts.Need-enum-told (
   read-step-below t,
@@ -106,7 +110,11 @@ read-parts-returns-2 : (t : ℕ) → read-parts-lts.Need-returns-2 (
   read-parts.Post,
 ) (read-parts-at t) read-parts.Post
 read-parts-returns-2 t c =
-    parts-more _ _ _ _ (c .before .before .before .before .before .before .before .before .before .before .before .before .before .pre .1 .0) (c .before .before .before .before .before .before .before .before .before .before .before .before .before .pre .1 .1) (c .before .before .before .before .before .before .before .before .before .before .before .before .before .pre .1 .2) _ _ (c .before .before .before .before .before .before .before .before .before .before .before .if1 .left) (c .before .before .before .before .before .before .before .before .before .read-step .ensures) _ _ _ (c .before .before .before .before .before .e .given .1) (c .before .before .read-parts .ensures)
+    let at-e = c .before .before .before .before .before in
+    let at-read-step = at-e .before .before .before .before in
+    let at-if1 = at-read-step .before .before in
+    let at-pre = at-if1 .before .before in
+    parts-more _ _ _ _ (at-pre .pre .1 .0) (at-pre .pre .1 .1) (at-pre .pre .1 .2) _ _ (at-if1 .if1 .left) (at-read-step .read-step .ensures) _ _ _ (at-e .e .given .1) (c .before .before .read-parts .ensures)
 
 read-parts-same-length-2 : (t : ℕ) → read-parts-lts.Need-same-length-2 (
   read-step-below t,
@@ -123,7 +131,10 @@ read-parts-returns-3 : (t : ℕ) → read-parts-lts.Need-returns-3 (
   read-parts.Post,
 ) (read-parts-at t) read-parts.Post
 read-parts-returns-3 t c =
-    parts-open _ _ _ _ (c .before .before .before .before .before .before .before .before .pre .1 .0) (c .before .before .before .before .before .before .before .before .pre .1 .1) (c .before .before .before .before .before .before .before .before .pre .1 .2) _ _ (c .before .before .before .before .before .before .if1 .left) (c .before .before .before .before .read-step .ensures) (c .enum-told .given .1)
+    let at-read-step = c .before .before .before .before in
+    let at-if1 = at-read-step .before .before in
+    let at-pre = at-if1 .before .before in
+    parts-open _ _ _ _ (at-pre .pre .1 .0) (at-pre .pre .1 .1) (at-pre .pre .1 .2) _ _ (at-if1 .if1 .left) (at-read-step .read-step .ensures) (c .enum-told .given .1)
 
 read-step-returns : (t : ℕ) → read-step-lts.Need-returns (
   word-of-reads.Asked,
@@ -204,7 +215,9 @@ read-step-read-parts-requires : (t : ℕ) → read-step-lts.Need-read-parts-requ
   read-parts.Post,
 ) (read-step-at t) read-step.Post
 read-step-read-parts-requires t c κs =
-    (omega (arith, c .before .before .before .before .before .before .pre .0, c .before .before .before .before .if1 .left), (c .before .before .before .before .before .before .pre .1 .0, c .before .before .before .before .before .before .pre .1 .1, omega (arith, c .before .before .before .before .if1 .left)))
+    let at-if1 = c .before .before .before .before in
+    let at-pre = at-if1 .before .before in
+    (omega (arith, at-pre .pre .0, at-if1 .if1 .left), (at-pre .pre .1 .0, at-pre .pre .1 .1, omega (arith, at-if1 .if1 .left)))
 
 read-step-enum-known-e : (t : ℕ) → read-step-lts.Need-enum-known-e (
   word-of-reads.Asked,
@@ -225,7 +238,10 @@ read-step-cast-work : (t : ℕ) → read-step-lts.Need-cast-work (
   read-parts.Post,
 ) (read-step-at t) read-step.Post
 read-step-cast-work t c =
-    omega (arith, c .before .before .before .before .before .before .before .before .before .before .before .before .pre .1 .1, within _ _ _ _ _ _ _ (omega (arith, c .before .before .before .before .before .before .before .before .before .before .if1 .left)) (c .before .before .before .before .before .read-parts .ensures) (c .before .e .given .1) .1)
+    let at-read-parts = c .before .before .before .before .before in
+    let at-if1 = at-read-parts .before .before .before .before .before in
+    let at-pre = at-if1 .before .before in
+    omega (arith, at-pre .pre .1 .1, within _ _ _ _ _ _ _ (omega (arith, at-if1 .if1 .left)) (at-read-parts .read-parts .ensures) (c .before .e .given .1) .1)
 
 read-step-add-work : (t : ℕ) → read-step-lts.Need-add-work (
   word-of-reads.Asked,
@@ -286,7 +302,12 @@ read-step-returns-2 : (t : ℕ) → read-step-lts.Need-returns-2 (
   read-parts.Post,
 ) (read-step-at t) read-step.Post
 read-step-returns-2 t c =
-    step-more _ _ _ (c .before .before .before .before .before .before .before .before .before .before .before .before .pre .1 .0) (c .before .before .before .before .before .before .before .before .before .before .before .before .pre .1 .1) _ _ _ (c .before .before .before .before .before .before .before .before .before .before .if1 .left) (c .before .before .before .before .before .before .before .parts-of .ensures ∙ ap partsOf (c .before .before .before .before .before .before .before .before .word-of .ensures)) (c .before .before .before .before .before .read-parts .ensures) _ (c .before .e .given .1)
+    let at-read-parts = c .before .before .before .before .before in
+    let at-parts-of = at-read-parts .before .before in
+    let at-word-of = at-parts-of .before in
+    let at-if1 = at-word-of .before .before in
+    let at-pre = at-if1 .before .before in
+    step-more _ _ _ (at-pre .pre .1 .0) (at-pre .pre .1 .1) _ _ _ (at-if1 .if1 .left) (at-parts-of .parts-of .ensures ∙ ap partsOf (at-word-of .word-of .ensures)) (at-read-parts .read-parts .ensures) _ (c .before .e .given .1)
 
 read-step-same-length-2 : (t : ℕ) → read-step-lts.Need-same-length-2 (
   word-of-reads.Asked,
@@ -307,7 +328,12 @@ read-step-returns-3 : (t : ℕ) → read-step-lts.Need-returns-3 (
   read-parts.Post,
 ) (read-step-at t) read-step.Post
 read-step-returns-3 t c =
-    step-open _ _ _ (c .before .before .before .before .before .before .before .before .before .before .before .pre .1 .0) (c .before .before .before .before .before .before .before .before .before .before .before .pre .1 .1) _ _ _ (c .before .before .before .before .before .before .before .before .before .if1 .left) (c .before .before .before .before .before .before .parts-of .ensures ∙ ap partsOf (c .before .before .before .before .before .before .before .word-of .ensures)) (c .before .before .before .before .read-parts .ensures) (c .enum-told .given .1)
+    let at-read-parts = c .before .before .before .before in
+    let at-parts-of = at-read-parts .before .before in
+    let at-word-of = at-parts-of .before in
+    let at-if1 = at-word-of .before .before in
+    let at-pre = at-if1 .before .before in
+    step-open _ _ _ (at-pre .pre .1 .0) (at-pre .pre .1 .1) _ _ _ (at-if1 .if1 .left) (at-parts-of .parts-of .ensures ∙ ap partsOf (at-word-of .word-of .ensures)) (at-read-parts .read-parts .ensures) (c .enum-told .given .1)
 
 pub +read-parts+read-step-spec : {M : Type 1} → statement M
 +read-parts+read-step-spec = close μ-read-parts μ-read-step (λ t. read-parts-lts.spec (

@@ -2,7 +2,6 @@
 use Rattle.program.proofs.StructureLaws.{within, whole, early, unfinished}
 use borrow.Author.Needs.{needs}
 use native.Mathlib.Omega.{arith}
-use borrow.Author.Needs.{needs}
 use Rattle.program.proofs.tree.structure.Statement.{statement}
 use Rattle.program.proofs.tree.structure.Tie as tie
 
@@ -16,13 +15,21 @@ same-length : tie.Need-same-length
 same-length c = search needs
 
 returns : tie.Need-returns
-returns c = whole _ _ _ _ (c .before .before .before .before .before .before .read-step .ensures) _ (c .before .before .e .given .1) (c .if1 .taken)
+returns c =
+    let at-read-step = c .before .before .before .before .before .before in
+    whole _ _ _ _ (at-read-step .read-step .ensures) _ (c .before .before .e .given .1) (c .if1 .taken)
 
 cast-line : tie.Need-cast-line
-cast-line c = omega (arith, c .before .before .before .before .before .before .before .before .before .pre .1, within _ 1 0 _ _ _ _ (omega arith) (c .before .before .before .before .before .before .read-step .ensures) (c .before .before .e .given .1) .1)
+cast-line c =
+    let at-read-step = c .before .before .before .before .before .before in
+    let at-pre = at-read-step .before .before .before in
+    omega (arith, at-pre .pre .1, within _ 1 0 _ _ _ _ (omega arith) (at-read-step .read-step .ensures) (c .before .before .e .given .1) .1)
 
 add-line : tie.Need-add-line
-add-line c = omega (arith, c .before .before .before .before .before .before .before .before .before .pre .1, within _ 1 0 _ _ _ _ (omega arith) (c .before .before .before .before .before .before .read-step .ensures) (c .before .before .e .given .1) .1)
+add-line c =
+    let at-read-step = c .before .before .before .before .before .before in
+    let at-pre = at-read-step .before .before .before in
+    omega (arith, at-pre .pre .1, within _ 1 0 _ _ _ _ (omega arith) (at-read-step .read-step .ensures) (c .before .before .e .given .1) .1)
 
 enum-told : tie.Need-enum-told
 enum-told c = search needs
@@ -37,7 +44,9 @@ same-length-2 : tie.Need-same-length-2
 same-length-2 c = search needs
 
 returns-2 : tie.Need-returns-2
-returns-2 c = early _ _ _ _ (c .before .before .before .before .before .before .read-step .ensures) _ (c .before .before .e .given .1) (c .if1 .left)
+returns-2 c =
+    let at-read-step = c .before .before .before .before .before .before in
+    early _ _ _ _ (at-read-step .read-step .ensures) _ (c .before .before .e .given .1) (c .if1 .left)
 
 same-length-3 : tie.Need-same-length-3
 same-length-3 c = search needs
