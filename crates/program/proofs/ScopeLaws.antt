@@ -80,10 +80,14 @@ unfoldable pub after : List ℕ → Out (List ℕ) → Out (List ℕ)
 after [] o = o
 after (x ∷ xs) o = storing x (after xs o)
 
+pub after-append : (xs ys : List ℕ) (o : Out (List ℕ)) → after xs (after ys o) ≡ after (xs ++ ys) o
+unfolding after
+after-append [] ys o = refl
+after-append (x ∷ xs) ys o = ap (storing x) (after-append xs ys o)
+
 after-snoc : (xs : List ℕ) (x : ℕ) (o : Out (List ℕ)) → after xs (storing x o) ≡ after (xs ++ (x ∷ [])) o
 unfolding after
-after-snoc [] x o = refl
-after-snoc (y ∷ xs) x o = ap (storing y) (after-snoc xs x o)
+after-snoc xs x o = after-append xs (x ∷ []) o
 
 pub after-stop : (xs : List ℕ) (r : Refusal) → after xs (stop r) ≡ stop r
 unfolding after storing

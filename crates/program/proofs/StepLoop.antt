@@ -6,6 +6,7 @@ use Prim.Native.Nat.{ℕ, suc, _+_, _-_, _<_, _≤_}
 use native.Mathlib.Omega.{arith}
 use native.Mathlib.Nat.{sub-zero}
 use lib.ListN.{length, set, replicate, length-append, length-map, length-set}
+use lib.Seq.{append-snoc}
 use Rattle.spec.specs.Reading.{programSheet, Out, stop, on, _>>=_, Place, nextAll}
 use Rattle.spec.specs.Expression.{Step}
 use Rattle.spec.specs.Program.{stepLine}
@@ -36,10 +37,6 @@ front-snoc : (ss : List Step) (s : Step) (o : Out (List Step × Place)) → fron
 unfolding front
 front-snoc ss s (stop x) = refl
 front-snoc ss s (on r) = ap (λ ts. on (ts, r .1)) (sym (append-snoc ss s (r .0)))
-  where
-    append-snoc : (ss : List Step) (s : Step) (ts : List Step) → (ss ++ (s ∷ [])) ++ ts ≡ ss ++ (s ∷ ts)
-    append-snoc [] s ts = refl
-    append-snoc (x ∷ ss) s ts = ap (λ l. x ∷ l) (append-snoc ss s ts)
 
 front-one : (s : Step) (o : Out (List Step × Place)) → (o >>= λ r. on (s ∷ r .0, r .1)) ≡ front (s ∷ []) o
 unfolding front _>>=_

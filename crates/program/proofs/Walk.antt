@@ -22,14 +22,9 @@ use Rattle.workspace.specs.Holds.{letIn, lets}
 use Rattle.program.specs.Scopes.{roleOf, unbound, judgeLet, judgeVar, judgeBy, judgeOf, storing, judged, scopesFrom}
 use Rattle.program.specs.declared.binders.Role.the-variants.{Uses, Neither}
 use Rattle.program.specs.declared.binders.Judged.the-variants.{Store, Refused}
-use Rattle.program.proofs.ScopeLaws.{after, after-stop, after-on, replicate-any}
+use Rattle.program.proofs.ScopeLaws.{after, after-append, after-stop, after-on, replicate-any}
 use Rattle.program.proofs.Standing.{Head, Stands}
 use Rattle.program.proofs.Tables.{endAt, names, Right, Bound, Extends, Agrees, extends-same, extends-then, agrees-narrow, agrees-onward, let-extends, let-first, let-second}
-
-after-append : (xs ys : List ℕ) (o : Out (List ℕ)) → after xs (after ys o) ≡ after (xs ++ ys) o
-unfolding after
-after-append [] ys o = refl
-after-append (x ∷ xs) ys o = ap (storing x) (after-append xs ys o)
 
 joined : (xs ys : List ℕ) (o : Out (List ℕ)) → storing 0 (after xs (after ys o)) ≡ after (0 ∷ (xs ++ ys)) o
 unfolding after
