@@ -1,43 +1,40 @@
 -- Laws of the lines of a program sheet at the cursor.
-use mathlib.Core.Path.{_≡_, refl, sym, ap, subst, _∙_}
+use mathlib.Core.Path.{_≡_, refl, sym, ap, _∙_}
 use mathlib.Core.Bool.{Bool, true, false, and-true}
 use mathlib.Core.List.{List, [], _∷_}
-use mathlib.Core.Option.{Option, none, some}
-use Prim.Native.Nat.{ℕ, suc, zero, _+_, _-_, _<_, _≤_}
+use mathlib.Core.Option.{none, some}
+use Prim.Native.Nat.{ℕ, _+_, _-_, _<_, _≤_}
 use native.Mathlib.Omega.{arith}
-use lib.Dec.{leb}
 use lib.ListN.{length, getD, take, drop, length-drop}
 use borrow.Author.Tests.{le-leb, lt-leb}
 use Rattle.spec.specs.Choice.{if_then_else_}
 use Rattle.spec.specs.Text.{bytes, same, lines, Field}
-use Rattle.spec.specs.Reading.{programSheet, Out, stop, on, _>>=_, Seen, right, badForm, badRange, seen, Range, _to_, inRange, allInRange, numerals, ranged, numbers, form, outside, miscounted, Place, passed, nextLine, next, begin}
+use Rattle.spec.specs.Reading.{programSheet, stop, _>>=_, Seen, right, badForm, badRange, seen, Range, _to_, inRange, allInRange, numerals, ranged, numbers, form, outside, miscounted, passed, nextLine, next}
 use Rattle.spec.specs.Expression.{Step}
 use Rattle.spec.specs.Program.{firstNumber, countLine, words, lookUp, valueRange, stepOf, wordLine, stepLine}
-use Rattle.spec.specs.declared.Refusal.{Refusal}
 use Rattle.spec.specs.declared.Refusal.the-variants.{ProgramForm, ProgramRange, ProgramLines}
 use Rattle.spec.specs.declared.Word.{Word}
 use Rattle.spec.specs.declared.Word.the-variants.{Leaf, Unary, Binary}
 use Rattle.spec.specs.declared.LeafWord.the-variants.{Var, Int, Newtid, Newlock}
 use Rattle.spec.specs.declared.BinaryWord.the-variants.{Let, If, Spawn, Write}
-use Rattle.lexer.specs.Views.{endOf, firstField, nothing, lineAt}
-use Rattle.lexer.specs.Cursors.{Placed, start, rest, spanAt}
-use Rattle.lexer.specs.Numbers.{numbersAt, NumbersRead}
+use Rattle.lexer.specs.Views.{firstField, nothing}
+use Rattle.lexer.specs.Cursors.{Placed, start, rest, placeAt, spanAt}
+use Rattle.lexer.specs.Numbers.{NumbersRead}
 use Rattle.lexer.specs.declared.Cursor.{Cursor}
 use Rattle.lexer.specs.declared.Span.{Span}
 use Rattle.lexer.specs.declared.FieldEnd.{FieldEnd}
 use Rattle.lexer.specs.declared.FieldEnd.the-variants.{Comma, Newline, Text}
 use Rattle.lexer.specs.declared.Numbers.{Numbers}
 use Rattle.lexer.specs.declared.Numbers.the-variants as numbers-are
-use Rattle.lexer.proofs.Lines.{next-missing, begin-empty, begin-some}
+use Rattle.lexer.proofs.Sheets.{begin-at-none, begin-at-some, next-at, next-at-none, passed-at}
 use Rattle.lexer.proofs.LineEnds.{LineRead, numbers-none, numbers-read}
 use Rattle.lexer.proofs.Places.{span-field}
-use Rattle.lexer.proofs.Walks.{start-placed, start-rest, span-end, span-next, span-placed, span-line-kept, span-comma, left-none, left-some, first-wrong, first-alone}
+use Rattle.lexer.proofs.Walks.{start-placed, start-rest, span-end, span-line-kept, span-comma, left-none, left-some, first-wrong, first-alone}
 use Rattle.lexer.proofs.Ranges.{tail-form, tail-read}
-use Rattle.program.specs.Lines.{placeAt, TailShown, countAt, CountShown, limitOf, stepAt, StepShown}
-use Rattle.program.specs.declared.Tail.{Tail}
-use Rattle.program.specs.declared.Tail.the-variants.{Value, Malformed}
-use Rattle.program.specs.declared.CountLine.the-variants as count
-use Rattle.program.specs.declared.StepLine.the-variants as step
+use Rattle.program.specs.Lines.{TailShown, countAt, CountShown, limitOf, stepAt, StepShown}
+use Rattle.program.specs.declared.lines.Tail.the-variants.{Value, Malformed}
+use Rattle.program.specs.declared.lines.CountLine.the-variants as count
+use Rattle.program.specs.declared.lines.StepLine.the-variants as step
 
 -- ------------------------------------------------------------------ the number behind a first field
 
@@ -55,6 +52,11 @@ module _ (text : List ℕ) (c : Cursor) (before after : List ℕ) (answer : Numb
 
   pub tail-read-none : answer ≡ numbers-are.Malformed → TailShown text c e Malformed
   tail-read-none a comma = numbers-none x 1 whole a .0
+
+-- the cursor behind the line is one line on
+tail-line : (text : List ℕ) (c : Cursor) (s : Span) → s ≡ spanAt text c → (v : ℕ) (d : Cursor) → TailShown text (s .next) (s .end) (Value v d)
+    → d .line ≡ c .line + 1
+tail-line text c s is v d h = h .3 ∙ ap (λ i. i + 1) (span-line-kept text c s is (h .0))
 
 -- a line whose first field is f, and that shows what the one number behind it shows
 module _
@@ -93,9 +95,6 @@ module _
             clash e = let z : _≡_ {A = ℕ} 0 1 = cc in omega arith
 
     module _ (v : ℕ) (d : Cursor) (h : TailShown text (s .next) (s .end) (Value v d)) where
-      tail-line : d .line ≡ c .line + 1
-      tail-line = h .3 ∙ ap (λ i. i + 1) (span-line-kept text c s is (h .0))
-
       tail-shows : nextLine programSheet read (c .line) (lines (rest text c))
           ≡ passed programSheet (c .line + 1) (lines (rest text d)) (g (if inRange range v then right (v ∷ []) else badRange))
       unfolding allInRange
@@ -134,8 +133,8 @@ over-limit w v h = rw (range-of w, le-leb 0 v (omega arith), lt-leb v (limitOf w
 module _ (text : List ℕ) (c : Cursor) where
   -- no line is left
   pub step-missing : nothing (rest text c) ≡ true → StepShown text c (step.Refused (ProgramLines (c .line)))
-  unfolding stepAt next placeAt miscounted
-  step-missing e = rw (left-none (rest text c) e) (next-missing programSheet stepLine (c .line))
+  unfolding stepAt miscounted
+  step-missing e = next-at-none programSheet text stepLine c (left-none (rest text c) e)
 
   module _ (e : nothing (rest text c) ≡ false) (s : Span) (is : s ≡ spanAt text c) (p : Placed text c) where
     pub step-unknown : lookUp words (firstField (rest text c)) ≡ none → StepShown text c (step.Refused (ProgramForm (c .line + 1)))
@@ -163,10 +162,11 @@ module _ (text : List ℕ) (c : Cursor) where
         step-over l = step-reads ∙ rw (over-limit w v l) refl
 
         pub step-right : v ≤ limitOf w → StepShown text c (step.Step w v d)
-        unfolding passed seen stepOf firstNumber placeAt
+        unfolding seen stepOf firstNumber
         step-right l =
-            let line : d .line ≡ c .line + 1 = h .3 ∙ ap (λ i. i + 1) (span-line-kept text c s is (h .0)) in
-            (step-reads ∙ rw (within-limit w v l, line) refl, l, h .2)
+            let line = tail-line text c s is v d h in
+            let one : Step = record { word = w; value = v } in
+            (step-reads ∙ rw (within-limit w v l) (passed-at programSheet text one c d line), l, h .2)
 
 -- ------------------------------------------------------------------ line 1
 
@@ -180,25 +180,23 @@ module _ (text : List ℕ) (c : Cursor) (top : c ≡ start) where
   pub placed-top : length text ≤ 16384 → Placed text c
   placed-top h = rw top (start-placed text (omega arith))
 
-  pub count-empty : nothing (rest text c) ≡ true → CountShown text (count.Refused (ProgramForm 1))
-  unfolding countAt _>>=_ form
-  count-empty e =
-      let n : text ≡ [] = sym (ap (rest text) top ∙ start-rest text) ∙ left-none (rest text c) e in
-      rw (n, begin-empty programSheet) refl
-
   at-top : c .line ≡ 0
   unfolding start
   at-top = ap (λ (x : Cursor). x .line) top
 
+  at-text : rest text c ≡ text
+  at-text = ap (rest text) top ∙ start-rest text
+
+  pub count-empty : nothing (rest text c) ≡ true → CountShown text (count.Refused (ProgramForm 1))
+  unfolding countAt _>>=_ form
+  count-empty e = rw (begin-at-none programSheet text (sym at-text ∙ left-none (rest text c) e)) refl
+
   module _ (e : nothing (rest text c) ≡ false) (s : Span) (is : s ≡ spanAt text c) (p : Placed text c) where
     counts : countAt text ≡ nextLine programSheet countLine (c .line) (lines (rest text c))
-    unfolding countAt _>>=_ next
+    unfolding countAt _>>=_
     counts =
-        let r : rest text c ≡ text = ap (rest text) top ∙ start-rest text in
-        let l : 0 < length text = rw r at (left-some (rest text c) e) in
-        ap (λ o. o >>= λ x. next programSheet countLine x) (begin-some programSheet text l)
-        ∙ ap (λ i. nextLine programSheet countLine i (lines text)) (sym at-top)
-        ∙ ap (λ t. nextLine programSheet countLine (c .line) (lines t)) (sym r)
+        let l : 0 < length text = rw at-text at (left-some (rest text c) e) in
+        rw (begin-at-some programSheet text l, ← top) (next-at programSheet text countLine c)
 
     pub count-other : same (firstField (rest text c)) (bytes "P") ≡ false → CountShown text (count.Refused (ProgramForm 1))
     unfolding form countLine
@@ -235,7 +233,7 @@ module _ (text : List ℕ) (c : Cursor) (top : c ≡ start) where
         count-many l m = count-reads ∙ rw (le-leb 1 n l, lt-leb n 256 m, at-top) refl
 
         pub count-right : 1 ≤ n → n ≤ 256 → CountShown text (count.Count n d)
-        unfolding passed seen firstNumber placeAt inRange
+        unfolding seen firstNumber inRange
         count-right l m =
-            let line : d .line ≡ c .line + 1 = h .3 ∙ ap (λ i. i + 1) (span-line-kept text c s is (h .0)) in
-            (count-reads ∙ rw (le-leb 1 n l, le-leb n 256 m, line) refl, m, h .2)
+            let line = tail-line text c s is n d h in
+            (count-reads ∙ rw (le-leb 1 n l, le-leb n 256 m) (passed-at programSheet text n c d line), m, h .2)

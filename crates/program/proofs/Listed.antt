@@ -1,17 +1,14 @@
 -- Laws of the expressions that steps list: how many steps they have, and what is listed behind the first of them.
 use mathlib.Core.Path.{_≡_, refl, sym, ap, _∙_}
-use mathlib.Core.List.{List, [], _∷_, _++_, append-nil}
-use Prim.Native.Nat.{ℕ, suc, zero, _+_, _-_, _<_, _≤_}
+use mathlib.Core.List.{List, [], _∷_}
+use Prim.Native.Nat.{ℕ, suc, zero, _+_, _-_, _≤_}
 use native.Mathlib.Omega.{arith}
-use native.Mathlib.Numerals.{add-one}
-use native.Mathlib.Nat.{add-assoc, suc-add, add-suc, add-zero}
-use lib.ListN.{length, drop, getD, length-append}
-use lib.Seq.{drop-nil}
+use native.Mathlib.Nat.{add-zero}
+use lib.ListN.{length, drop}
 use Rattle.spec.specs.Expression.{Step, Expr, leaf, unary, binary, size, withParts, listed}
 use Rattle.spec.specs.declared.Word.{Word}
 use Rattle.spec.specs.declared.Word.the-variants.{Leaf, Unary, Binary}
-use Rattle.workspace.specs.Holds.{ends}
-use Rattle.program.specs.Stored.{partsOf, wordAt, valueAt, stepsIn}
+use Rattle.program.specs.Stored.{partsOf, stepsIn}
 
 -- the steps of the first m of some expressions
 unfoldable pub total : ℕ → List Expr → ℕ
@@ -28,13 +25,6 @@ unfolding size
 size-positive (leaf w l v) = omega arith
 size-positive (unary w l v e) = omega arith
 size-positive (binary w l v e₁ e₂) = omega arith
-
-pub ends-length : (k : ℕ) (e : Expr) → length (ends k e) ≡ size e
-unfolding ends size
-ends-length k (leaf w l v) = refl
-ends-length k (unary w l v e) = ap suc (ends-length (k + 1) e)
-ends-length k (binary w l v e₁ e₂) =
-    omega (arith, length-append (ends (k + 1) e₁) (ends (k + 1 + size e₁) e₂), ends-length (k + 1) e₁, ends-length (k + 1 + size e₁) e₂)
 
 -- ------------------------------------------------------------------ one step in front
 

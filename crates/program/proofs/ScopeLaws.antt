@@ -6,7 +6,6 @@ use Prim.Native.Nat.{ℕ, suc, zero, _+_, _-_, _<_, _≤_}
 use native.Mathlib.Omega.{arith}
 use native.Mathlib.Nat.{not-suc-le-zero, le-of-suc-le-suc, sub-zero}
 use native.Mathlib.Decide.{ℕ-discrete}
-use lib.Dec.{leb, ltb}
 use lib.ListN.{length, getD, set, replicate, length-set, length-append}
 use lib.Seq.{getD-set-same, getD-set-other, set-out}
 use borrow.Author.Tests.{le-leb, lt-leb, le-ltb, lt-ltb}
@@ -18,14 +17,12 @@ use Rattle.workspace.specs.Layout.{wordsAt, valuesAt, endsAt, letsAt, wordOf}
 use Rattle.workspace.specs.Region.{Region, ChangedWithin}
 use Rattle.workspace.proofs.Region.{region-empty, region-push, changed-nothing, changed-store, changed-then}
 use Rattle.program.specs.Stored.{wordAt, valueAt}
-use Rattle.program.specs.Outcomes.{Answers}
 use Rattle.program.specs.Scopes.{roleOf, unbound, judgeLet, judgeVar, judgeBy, judgeOf, storing, judged, scopesFrom, Scoped}
-use Rattle.program.specs.declared.Outcome.{Outcome}
 use Rattle.program.specs.declared.Outcome.the-variants as outcome
-use Rattle.program.specs.declared.Role.{Role}
-use Rattle.program.specs.declared.Role.the-variants.{Binds, Uses, Neither}
-use Rattle.program.specs.declared.Judged.{Judged}
-use Rattle.program.specs.declared.Judged.the-variants.{Bind, Store, Refused}
+use Rattle.program.specs.declared.binders.Role.{Role}
+use Rattle.program.specs.declared.binders.Role.the-variants.{Binds, Uses, Neither}
+use Rattle.program.specs.declared.binders.Judged.{Judged}
+use Rattle.program.specs.declared.binders.Judged.the-variants.{Bind, Store, Refused}
 use Rattle.program.proofs.Regions.{lt-or-le}
 
 -- within a list the default does not matter
@@ -83,10 +80,14 @@ unfoldable pub after : List ℕ → Out (List ℕ) → Out (List ℕ)
 after [] o = o
 after (x ∷ xs) o = storing x (after xs o)
 
+pub after-append : (xs ys : List ℕ) (o : Out (List ℕ)) → after xs (after ys o) ≡ after (xs ++ ys) o
+unfolding after
+after-append [] ys o = refl
+after-append (x ∷ xs) ys o = ap (storing x) (after-append xs ys o)
+
 after-snoc : (xs : List ℕ) (x : ℕ) (o : Out (List ℕ)) → after xs (storing x o) ≡ after (xs ++ (x ∷ [])) o
 unfolding after
-after-snoc [] x o = refl
-after-snoc (y ∷ xs) x o = ap (storing y) (after-snoc xs x o)
+after-snoc xs x o = after-append xs (x ∷ []) o
 
 pub after-stop : (xs : List ℕ) (r : Refusal) → after xs (stop r) ≡ stop r
 unfolding after storing
@@ -99,7 +100,7 @@ after-on [] ys = refl
 after-on (y ∷ xs) ys = ap (storing y) (after-on xs ys)
 
 -- the loop at index k, with its table and its work space
-pub record Sofar (n : ℕ) (w₀ w t : List ℕ) (k : ℕ) : Type 0 where
+pub record ScopesSoFar (n : ℕ) (w₀ w t : List ℕ) (k : ℕ) : Type 0 where
   pub few : k ≤ n
   pub long : length t ≡ 256
   pub below : (v : ℕ) → (getD t v 256 ≡ 256) ⊎ (getD t v 256 < k)
@@ -109,7 +110,7 @@ pub record Sofar (n : ℕ) (w₀ w t : List ℕ) (k : ℕ) : Type 0 where
   pub changed : ChangedWithin letsAt (letsAt + 256) w₀ w
   pub rest : scopesFrom w₀ n 0 unbound ≡ after stored (scopesFrom w₀ (n - k) k t)
 
-pub start : (n : ℕ) (w : List ℕ) → length w ≡ 16384 → Sofar n w w unbound 0
+pub start : (n : ℕ) (w : List ℕ) → length w ≡ 16384 → ScopesSoFar n w w unbound 0
 unfolding unbound after
 start n w h = record {
   few = omega arith;
@@ -122,7 +123,7 @@ start n w h = record {
   rest = rw sub-zero refl;
 }
 
-module _ (n : ℕ) (w₀ w t : List ℕ) (k : ℕ) (s : Sofar n w₀ w t k) where
+module _ (n : ℕ) (w₀ w t : List ℕ) (k : ℕ) (s : ScopesSoFar n w₀ w t k) where
   pub finish : n ≤ k → Scoped n w₀ w outcome.Passed
   unfolding scopesFrom
   finish h =
@@ -155,7 +156,7 @@ module _ (n : ℕ) (w₀ w t : List ℕ) (k : ℕ) (s : Sofar n w₀ w t k) wher
 
     -- the loop goes on with the table and the number that a step leaves
     more : (x : ℕ) (t′ : List ℕ) → length t′ ≡ 256 → ((u : ℕ) → (getD t′ u 256 ≡ 256) ⊎ (getD t′ u 256 < k + 1))
-        → scopesFrom w₀ (n - k) k t ≡ storing x (scopesFrom w₀ (n - (k + 1)) (k + 1) t′) → Sofar n w₀ (set w (letsAt + k) x) t′ (k + 1)
+        → scopesFrom w₀ (n - k) k t ≡ storing x (scopesFrom w₀ (n - (k + 1)) (k + 1) t′) → ScopesSoFar n w₀ (set w (letsAt + k) x) t′ (k + 1)
     more x t′ long below p = record {
       few = omega arith;
       long = long;
@@ -169,7 +170,7 @@ module _ (n : ℕ) (w₀ w t : List ℕ) (k : ℕ) (s : Sofar n w₀ w t k) wher
       rest = s .rest ∙ ap (after (s .stored)) p ∙ after-snoc (s .stored) x (scopesFrom w₀ (n - (k + 1)) (k + 1) t′);
     }
 
-    pub binds : (x : ℕ) (t′ : List ℕ) → x ≡ 0 → t′ ≡ set t v k → j ≡ Bind → Sofar n w₀ (set w (letsAt + k) x) t′ (k + 1)
+    pub binds : (x : ℕ) (t′ : List ℕ) → x ≡ 0 → t′ ≡ set t v k → j ≡ Bind → ScopesSoFar n w₀ (set w (letsAt + k) x) t′ (k + 1)
     unfolding judged
     binds x t′ e f p =
         rw (e, f)
@@ -190,7 +191,7 @@ module _ (n : ℕ) (w₀ w t : List ℕ) (k : ℕ) (s : Sofar n w₀ w t k) wher
                 (lt-or-le v (length t))
             from (no f) = rw (getD-set-other t v u k 256 f) old
 
-    pub stores : (x y : ℕ) (t′ : List ℕ) → x ≡ y → t′ ≡ t → j ≡ Store y → Sofar n w₀ (set w (letsAt + k) x) t′ (k + 1)
+    pub stores : (x y : ℕ) (t′ : List ℕ) → x ≡ y → t′ ≡ t → j ≡ Store y → ScopesSoFar n w₀ (set w (letsAt + k) x) t′ (k + 1)
     unfolding judged
     stores x y t′ e f p =
         rw (e, f)

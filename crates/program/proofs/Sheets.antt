@@ -1,19 +1,19 @@
 -- Reading a program sheet, put together from its lines, its structure and its scopes.
 use mathlib.Core.Path.{_≡_, refl, sym, ap, subst, _∙_}
-use mathlib.Core.Logic.{_⊎_, inl, inr, ⊎-elim}
+use mathlib.Core.Logic.{inl, ⊎-elim}
 use mathlib.Core.Bool.{Bool, true, false}
 use mathlib.Core.List.{List, [], _∷_, map}
-use Prim.Native.Nat.{ℕ, suc, zero, _+_, _-_, _<_, _≤_}
+use Prim.Native.Nat.{ℕ, suc, zero, _+_, _<_, _≤_}
 use native.Mathlib.Omega.{arith}
 use native.Mathlib.Nat.{eq-or-lt-of-le}
 use lib.Dec.{eqb}
-use lib.ListN.{length, getD, replicate, length-map}
+use lib.ListN.{length, length-map}
 use borrow.Author.Tests.{eqb-true}
 use Rattle.spec.specs.Choice.{if_then_else_}
 use Rattle.spec.specs.Text.{lines}
-use Rattle.spec.specs.Reading.{programSheet, Out, stop, on, _>>=_, Place, miscounted, begin, next, nextAll, end, noneLeft}
+use Rattle.spec.specs.Reading.{programSheet, Out, stop, on, _>>=_, Place, miscounted, begin, next, end}
 use Rattle.spec.specs.Expression.{Step, Expr, size, listed, single, scope}
-use Rattle.spec.specs.Program.{Program, countLine, stepLine, program}
+use Rattle.spec.specs.Program.{Program, countLine, program}
 use Rattle.spec.specs.declared.Refusal.{Refusal}
 use Rattle.spec.specs.declared.Refusal.the-variants.{ProgramLines}
 use Rattle.spec.specs.declared.Word.{Word}
@@ -21,29 +21,30 @@ use Rattle.spec.specs.declared.Word.the-variants.{Leaf, Unary, Binary}
 use Rattle.spec.specs.declared.LeafWord.the-variants.{Var, Int, Newtid, Newlock}
 use Rattle.spec.specs.declared.BinaryWord.the-variants.{Let, If, Spawn, Write}
 use Rattle.lexer.specs.Views.{nothing}
-use Rattle.lexer.specs.Cursors.{Placed, rest}
+use Rattle.lexer.specs.Cursors.{rest, placeAt}
 use Rattle.lexer.specs.declared.Cursor.{Cursor}
-use Rattle.lexer.proofs.Lines.{end-none, end-spare}
+use Rattle.lexer.proofs.Sheets.{end-at-none, end-at-some}
 use Rattle.lexer.proofs.Walks.{left-none, left-some}
-use Rattle.workspace.specs.Layout.{wordsAt, valuesAt, endsAt, letsAt, codeOf, wordOf}
-use Rattle.workspace.specs.Holds.{ends, lets, HoldsSteps, HoldsProgram}
+use Rattle.workspace.specs.Layout.{wordsAt, valuesAt, endsAt, letsAt, codeOf}
+use Rattle.workspace.specs.Holds.{ends, lets, HoldsSteps}
 use Rattle.workspace.specs.Region.{Region, ChangedWithin}
 use Rattle.workspace.proofs.Codes.{word-of-code}
 use Rattle.workspace.proofs.Region.{region-kept, changed-then, changed-wider}
 use Rattle.program.specs.Stored.{wordAt, valueAt, stepsIn}
 use Rattle.program.specs.Outcomes.{Answers}
 use Rattle.program.specs.Structure.{Structured}
-use Rattle.program.specs.Scopes.{roleOf, Variable, Variables, unbound, scopesFrom, Scoped}
-use Rattle.program.specs.Lines.{placeAt, countAt, CountShown, limitOf, Limited, none-limited, more-limited, stepsAt, StepsHeld, StepsShown}
+use Rattle.program.specs.Scopes.{roleOf, Variable, Variables, Scoped}
+use Rattle.program.specs.Lines.{countAt, CountShown, limitOf, Limited, more-limited, stepsAt, StepsShown}
 use Rattle.program.specs.Sheet.{expressionOf, ExpressionRead, Answered, behindCount, StepsRead, ProgramIs}
 use Rattle.program.specs.declared.Outcome.{Outcome}
 use Rattle.program.specs.declared.Outcome.the-variants as outcome
-use Rattle.program.specs.declared.CountLine.the-variants as count
-use Rattle.program.specs.declared.StepLines.the-variants as step-lines
+use Rattle.program.specs.declared.lines.CountLine.the-variants as count
+use Rattle.program.specs.declared.lines.StepLines.the-variants as step-lines
 use Rattle.program.specs.declared.ProgramRead.{ProgramRead}
 use Rattle.program.specs.declared.ProgramRead.the-variants.{Read, Refused}
 use Rattle.program.proofs.Regions.{region-first, region-behind}
-use Rattle.program.proofs.Listed.{ends-length}
+use Rattle.workspace.proofs.Held.{ends-length}
+use Rattle.spec.proofs.Outcomes.{stop-is-not-on}
 use Rattle.program.proofs.StructureLaws.{steps-kept}
 use Rattle.program.proofs.Standing.{Stands, root-stands}
 use Rattle.program.proofs.Walk.{root-stops, root-goes-on}
@@ -100,24 +101,18 @@ variables-of w n ss e h l i g =
 
 -- ------------------------------------------------------------------ the expression
 
-stop-on : {A : Type 0} {x : Refusal} {a : A} → stop x ≡ on a → ⊥
-stop-on {A} {x} {a} e = let z : _≡_ {A = ℕ} 0 1 = cc in omega arith
-
 refused-passed : {x : Refusal} → outcome.Refused x ≡ outcome.Passed → ⊥
 refused-passed {x} e = let z : _≡_ {A = ℕ} 0 1 = cc in omega arith
 
-same-refusal : {x y : Refusal} → outcome.Refused x ≡ outcome.Refused y → x ≡ y
-same-refusal {x} {y} e = cc
-
 single-on : (n : ℕ) (es : List Expr) (e : Expr) → single n es ≡ on e → (fs : List Expr) × (es ≡ e ∷ fs) × (size e ≡ n)
 unfolding single
-single-on n [] e p = absurd (stop-on p)
+single-on n [] e p = stop-is-not-on p
 single-on n (x ∷ xs) e p = go (eqb (size x) n) refl p
   where
     go : (b : Bool) → eqb (size x) n ≡ b → (if b then on x else stop (ProgramLines (size x + 2))) ≡ on e
         → (fs : List Expr) × (x ∷ xs ≡ e ∷ fs) × (size e ≡ n)
     go true q p = let f : x ≡ e = cc in (xs, ap (λ y. y ∷ xs) f, ap size (sym f) ∙ eqb-true (size x) n q)
-    go false q p = absurd (stop-on p)
+    go false q p = stop-is-not-on p
 
 module _ (n : ℕ) (w w₁ : List ℕ) where
   pub expression-refused : (x : Refusal) → Structured n w w₁ (outcome.Refused x) → ExpressionRead n w w₁ (outcome.Refused x)
@@ -216,9 +211,9 @@ module _ (text : List ℕ) (n : ℕ) (c : Cursor) (w w₁ : List ℕ) where
 
   module _ (d : Cursor) (s : StepsShown text n c w w₁ (step-lines.Read d)) where
     pub steps-spare : nothing (rest text d) ≡ false → StepsRead text n c w₁ (Refused (ProgramLines (d .line + 1)))
-    unfolding _>>=_ end placeAt miscounted
+    unfolding _>>=_ miscounted
     steps-spare e =
-        let f = end-spare programSheet (d .line) (rest text d) (left-some (rest text d) e) in
+        let f = end-at-some programSheet text d (left-some (rest text d) e) in
         let o : Out (List Step × Place) = on (s .found .steps, placeAt text d) in
         let g : behindCount n (placeAt text c) ≡ stop (ProgramLines (d .line + 1)) = behind-steps o (s .found .shown) ∙ rw f refl in
         subst (Answered w₁ (Refused (ProgramLines (d .line + 1)))) (sym g) refl
@@ -228,10 +223,10 @@ module _ (text : List ℕ) (n : ℕ) (c : Cursor) (w w₁ : List ℕ) where
 
     module _ (few : n ≤ 256) (e : nothing (rest text d) ≡ true) (w₂ : List ℕ) (r : Outcome) (x : ExpressionRead n w₁ w₂ r) where
       all-lines : behindCount n (placeAt text c) ≡ (expressionOf n (s .found .steps) >>= with-steps n (s .found .steps))
-      unfolding _>>=_ end placeAt
+      unfolding _>>=_
       all-lines =
           let o : Out (List Step × Place) = on (s .found .steps, placeAt text d) in
-          behind-steps o (s .found .shown) ∙ rw (left-none (rest text d) e, end-none programSheet (d .line)) (from-expression n (s .found .steps))
+          behind-steps o (s .found .shown) ∙ rw (end-at-none programSheet text d (left-none (rest text d) e)) (from-expression n (s .found .steps))
 
       held-still : HoldsSteps w₂ (s .found .steps)
       held-still = record {
@@ -244,7 +239,7 @@ module _ (text : List ℕ) (n : ℕ) (c : Cursor) (w w₁ : List ℕ) where
       unfolding _>>=_ with-steps
       answers (stop y) a = rw a refl
       answers (on e) a =
-          (rw (a .0, s .found .counted) refl, record { steps = held-still; ends = a .1 .0; lets = a .1 .1 })
+          (rw (a .0, s .found .counted) refl, record { steps = held-still; ends = a .1 .0; lets = a .1 .1 }, omega (arith, s .found .counted))
 
       whole : StepsRead text n c w₂ (answerOf n r)
       whole =

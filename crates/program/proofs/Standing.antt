@@ -1,19 +1,19 @@
 -- What the work space holds of an expression, step by step: an expression stands at the index of its first step.
-use mathlib.Core.Path.{_≡_, refl, sym, ap, subst, _∙_}
+use mathlib.Core.Path.{_≡_, refl, subst}
 use mathlib.Core.List.{List, [], _∷_, _++_}
-use Prim.Native.Nat.{ℕ, suc, zero, _+_, _<_, _≤_}
+use Prim.Native.Nat.{ℕ, suc, zero, _+_, _<_}
 use native.Mathlib.Omega.{arith}
 use lib.ListN.{length, getD}
-use Rattle.spec.specs.Expression.{Step, Expr, leaf, unary, binary, size, withParts, listed}
+use Rattle.spec.specs.Expression.{Expr, leaf, unary, binary, size, withParts, listed}
 use Rattle.spec.specs.declared.Word.{Word}
 use Rattle.spec.specs.declared.Word.the-variants.{Leaf, Unary, Binary}
 use Rattle.workspace.specs.Layout.{endsAt}
 use Rattle.workspace.specs.Holds.{ends}
+use Rattle.workspace.proofs.Held.{ends-length}
 use Rattle.workspace.specs.Region.{Region}
 use Rattle.program.specs.Stored.{wordAt, valueAt, stepsIn}
-use Rattle.program.specs.Scopes.{roleOf, Variable, Variables}
+use Rattle.program.specs.Scopes.{roleOf, Variable}
 use Rattle.program.proofs.Regions.{region-first, region-behind, region-left, region-right}
-use Rattle.program.proofs.Listed.{ends-length}
 
 -- the step at index k: its word, its line, its number v
 pub record Head (w : List ℕ) (k : ℕ) (x : Word) (l v : ℕ) : Type 0 where

@@ -2,24 +2,25 @@
 use mathlib.Core.Path.{_≡_, refl, sym, ap, subst, _∙_}
 use mathlib.Core.Logic.{inl, inr}
 use mathlib.Core.List.{List, [], _∷_, _++_, map, map-append, append-nil}
-use Prim.Native.Nat.{ℕ, suc, zero, _+_, _-_, _<_, _≤_}
+use Prim.Native.Nat.{ℕ, suc, _+_, _-_, _<_, _≤_}
 use native.Mathlib.Omega.{arith}
 use native.Mathlib.Nat.{sub-zero}
 use lib.ListN.{length, set, replicate, length-append, length-map, length-set}
-use Rattle.spec.specs.Reading.{programSheet, Out, stop, on, _>>=_, Place, next, nextAll}
+use lib.Seq.{append-snoc}
+use Rattle.spec.specs.Reading.{programSheet, Out, stop, on, _>>=_, Place, nextAll}
 use Rattle.spec.specs.Expression.{Step}
 use Rattle.spec.specs.Program.{stepLine}
 use Rattle.spec.specs.declared.Refusal.{Refusal}
 use Rattle.spec.specs.declared.Word.{Word}
-use Rattle.lexer.specs.Cursors.{Placed}
+use Rattle.lexer.specs.Cursors.{Placed, placeAt}
 use Rattle.lexer.specs.declared.Cursor.{Cursor}
 use Rattle.workspace.specs.Layout.{wordsAt, valuesAt, codeOf}
 use Rattle.workspace.specs.Holds.{HoldsSteps}
 use Rattle.workspace.specs.Region.{Region, ChangedWithin}
 use Rattle.workspace.proofs.Region.{region-empty, region-apart, region-push, changed-nothing, changed-store, changed-then}
-use Rattle.program.specs.Lines.{placeAt, limitOf, stepAt, StepShown, Limited, none-limited, more-limited, stepsAt, StepsHeld, StepsFound, StepsShown}
-use Rattle.program.specs.declared.StepLine.the-variants as step
-use Rattle.program.specs.declared.StepLines.the-variants as steps
+use Rattle.program.specs.Lines.{limitOf, stepAt, StepShown, Limited, none-limited, more-limited, stepsAt, StepsShown}
+use Rattle.program.specs.declared.lines.StepLine.the-variants as step
+use Rattle.program.specs.declared.lines.StepLines.the-variants as steps
 
 -- ------------------------------------------------------------------ steps in front of others
 
@@ -36,10 +37,6 @@ front-snoc : (ss : List Step) (s : Step) (o : Out (List Step × Place)) → fron
 unfolding front
 front-snoc ss s (stop x) = refl
 front-snoc ss s (on r) = ap (λ ts. on (ts, r .1)) (sym (append-snoc ss s (r .0)))
-  where
-    append-snoc : (ss : List Step) (s : Step) (ts : List Step) → (ss ++ (s ∷ [])) ++ ts ≡ ss ++ (s ∷ ts)
-    append-snoc [] s ts = refl
-    append-snoc (x ∷ ss) s ts = ap (λ l. x ∷ l) (append-snoc ss s ts)
 
 front-one : (s : Step) (o : Out (List Step × Place)) → (o >>= λ r. on (s ∷ r .0, r .1)) ≡ front (s ∷ []) o
 unfolding front _>>=_
@@ -62,7 +59,7 @@ column-push w b f ss s k e h r =
 -- ------------------------------------------------------------------ the loop
 
 -- k step lines are read, and the cursor stands behind them
-pub record SoFar (text : List ℕ) (n : ℕ) (c₀ : Cursor) (w₀ w : List ℕ) (c : Cursor) (k : ℕ) : Type 0 where
+pub record StepsSoFar (text : List ℕ) (n : ℕ) (c₀ : Cursor) (w₀ w : List ℕ) (c : Cursor) (k : ℕ) : Type 0 where
   pub few : k ≤ n
   pub read : List Step
   pub counted : length read ≡ k
@@ -72,7 +69,7 @@ pub record SoFar (text : List ℕ) (n : ℕ) (c₀ : Cursor) (w₀ w : List ℕ)
   pub rest : stepsAt text n c₀ ≡ front read (stepsAt text (n - k) c)
   pub changed : ChangedWithin wordsAt (valuesAt + 256) w₀ w
 
-pub start : (text : List ℕ) (n : ℕ) (c : Cursor) (w : List ℕ) → length w ≡ 16384 → Placed text c → SoFar text n c w w c 0
+pub start : (text : List ℕ) (n : ℕ) (c : Cursor) (w : List ℕ) → length w ≡ 16384 → Placed text c → StepsSoFar text n c w w c 0
 start text n c w h p = record {
   few = omega arith;
   read = [];
@@ -84,7 +81,7 @@ start text n c w h p = record {
   changed = changed-nothing wordsAt (valuesAt + 256) w;
 }
 
-module _ (text : List ℕ) (n : ℕ) (c₀ : Cursor) (w₀ w : List ℕ) (c : Cursor) (k : ℕ) (s : SoFar text n c₀ w₀ w c k) where
+module _ (text : List ℕ) (n : ℕ) (c₀ : Cursor) (w₀ w : List ℕ) (c : Cursor) (k : ℕ) (s : StepsSoFar text n c₀ w₀ w c k) where
   pub finish : n ≤ k → StepsShown text n c₀ w₀ w (steps.Read c)
   unfolding stepsAt nextAll front
   finish h =
@@ -118,7 +115,7 @@ module _ (text : List ℕ) (n : ℕ) (c₀ : Cursor) (w₀ w : List ℕ) (c : Cu
     refuses x p = record { found = s .rest ∙ ap (front (s .read)) (step-next (stop x) p); changed = s .changed }
 
     pub more : (x : Word) (v code : ℕ) (d : Cursor) → length w₀ ≡ 16384 → n ≤ 256 → StepShown text c (step.Step x v d) → code ≡ codeOf x
-        → SoFar text n c₀ w₀ (set (set w (wordsAt + k) code) (valuesAt + k) v) d (k + 1)
+        → StepsSoFar text n c₀ w₀ (set (set w (wordsAt + k) code) (valuesAt + k) v) d (k + 1)
     more x v code d hw hn p e =
         let one : Step = record { word = x; value = v } in
         let w₁ : List ℕ = set w (wordsAt + k) code in

@@ -1,18 +1,19 @@
 -- Laws of where stored steps end. A step ends where its parts end; steps one after the other end where the last one ends.
 use mathlib.Core.Path.{_≡_, refl, sym, ap, subst, _∙_}
-use mathlib.Core.Logic.{_⊎_, inl, inr}
+use mathlib.Core.Logic.{inl}
 use mathlib.Core.List.{List, [], _∷_, _++_, append-nil}
 use Prim.Native.Nat.{ℕ, suc, zero, _+_, _-_, _<_, _≤_}
 use native.Mathlib.Omega.{arith}
 use native.Mathlib.Nat.{sub-zero}
 use lib.ListN.{length, getD, set}
 use borrow.Author.Tests.{eq-eqb, ne-eqb}
-use Rattle.spec.specs.Expression.{Step, Expr, leaf, unary, binary, size, withParts, listed, single}
+use Rattle.spec.specs.Expression.{Expr, size, withParts, listed, single}
 use Rattle.spec.specs.declared.Refusal.the-variants.{ProgramLines}
 use Rattle.spec.specs.declared.Word.{Word}
 use Rattle.spec.specs.declared.Word.the-variants.{Leaf, Unary, Binary}
 use Rattle.workspace.specs.Layout.{wordsAt, valuesAt, endsAt, wordOf}
 use Rattle.workspace.specs.Holds.{ends}
+use Rattle.workspace.proofs.Held.{ends-length}
 use Rattle.workspace.specs.Region.{Region, ChangedWithin}
 use Rattle.workspace.proofs.Region.{region-empty, region-kept, changed-nothing, changed-store, changed-then, changed-wider}
 use Rattle.program.specs.Stored.{partsOf, wordAt, valueAt, stepsIn}
@@ -20,10 +21,10 @@ use Rattle.program.specs.Structure.{listedFrom, reached, endsOf, Ended, 
 use Rattle.program.specs.Outcomes.{Answers}
 use Rattle.program.specs.declared.Outcome.{Outcome}
 use Rattle.program.specs.declared.Outcome.the-variants.{Passed, Refused}
-use Rattle.program.specs.declared.Ending.{Ending}
-use Rattle.program.specs.declared.Ending.the-variants.{Reached, Unfinished}
+use Rattle.program.specs.declared.tree.Ending.{Ending}
+use Rattle.program.specs.declared.tree.Ending.the-variants.{Reached, Unfinished}
 use Rattle.program.proofs.Regions.{region-front, region-append}
-use Rattle.program.proofs.Listed.{total, total-listed, size-positive, ends-length, behind-first, first-fits, steps-length, steps-drop}
+use Rattle.program.proofs.Listed.{total, total-listed, size-positive, behind-first, first-fits, steps-length, steps-drop}
 
 never : {e : ℕ} → Unfinished ≡ Reached e → ⊥
 never {e} p = let z : _≡_ {A = ℕ} 0 1 = cc in omega arith

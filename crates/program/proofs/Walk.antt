@@ -4,10 +4,10 @@ use mathlib.Core.Path.{_≡_, refl, sym, ap, subst, _∙_}
 use mathlib.Core.Logic.{_⊎_, inl, inr, ⊎-elim}
 use mathlib.Core.List.{List, [], _∷_, _++_, append-nil}
 use mathlib.Core.Bool.{Bool, true, false, false≢true}
-use Prim.Native.Nat.{ℕ, suc, zero, _+_, _<_, _≤_}
+use Prim.Native.Nat.{ℕ, suc, _+_, _<_, _≤_}
 use native.Mathlib.Omega.{arith}
 use lib.Dec.{leb, ltb}
-use lib.ListN.{length, getD, set, replicate}
+use lib.ListN.{length, getD, set}
 use borrow.Author.Tests.{le-leb, lt-leb, lt-ltb, le-ltb, ltb-true, ltb-false}
 use Rattle.spec.specs.Choice.{if_then_else_}
 use Rattle.spec.specs.Reading.{Out, stop, on, _>>=_}
@@ -15,24 +15,16 @@ use Rattle.spec.specs.Expression.{Expr, leaf, unary, binary, size, among, scope
 use Rattle.spec.specs.declared.Refusal.{Refusal}
 use Rattle.spec.specs.declared.Refusal.the-variants.{Unbound, Rebound}
 use Rattle.spec.specs.declared.Word.{Word}
-use Rattle.spec.specs.declared.Word.the-variants.{Leaf, Unary, Binary}
+use Rattle.spec.specs.declared.Word.the-variants.{Binary}
 use Rattle.spec.specs.declared.LeafWord.the-variants.{Var, Int, Newtid, Newlock}
-use Rattle.spec.specs.declared.BinaryWord.{BinaryWord}
 use Rattle.spec.specs.declared.BinaryWord.the-variants.{Let, If, Spawn, Write}
-use Rattle.workspace.specs.Layout.{endsAt}
 use Rattle.workspace.specs.Holds.{letIn, lets}
-use Rattle.program.specs.Stored.{wordAt, valueAt}
 use Rattle.program.specs.Scopes.{roleOf, unbound, judgeLet, judgeVar, judgeBy, judgeOf, storing, judged, scopesFrom}
-use Rattle.program.specs.declared.Role.the-variants.{Binds, Uses, Neither}
-use Rattle.program.specs.declared.Judged.the-variants.{Bind, Store, Refused}
-use Rattle.program.proofs.ScopeLaws.{after, after-stop, after-on, replicate-any}
+use Rattle.program.specs.declared.binders.Role.the-variants.{Uses, Neither}
+use Rattle.program.specs.declared.binders.Judged.the-variants.{Store, Refused}
+use Rattle.program.proofs.ScopeLaws.{after, after-append, after-stop, after-on, replicate-any}
 use Rattle.program.proofs.Standing.{Head, Stands}
 use Rattle.program.proofs.Tables.{endAt, names, Right, Bound, Extends, Agrees, extends-same, extends-then, agrees-narrow, agrees-onward, let-extends, let-first, let-second}
-
-after-append : (xs ys : List ℕ) (o : Out (List ℕ)) → after xs (after ys o) ≡ after (xs ++ ys) o
-unfolding after
-after-append [] ys o = refl
-after-append (x ∷ xs) ys o = ap (storing x) (after-append xs ys o)
 
 joined : (xs ys : List ℕ) (o : Out (List ℕ)) → storing 0 (after xs (after ys o)) ≡ after (0 ∷ (xs ++ ys)) o
 unfolding after

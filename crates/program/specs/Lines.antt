@@ -14,7 +14,7 @@ use Rattle.spec.specs.declared.LeafWord.{LeafWord}
 use Rattle.spec.specs.declared.LeafWord.the-variants.{Var, Int, Newtid, Newlock}
 use Rattle.spec.specs.declared.BinaryWord.{BinaryWord}
 use Rattle.spec.specs.declared.BinaryWord.the-variants.{Let, If, Spawn, Write}
-use Rattle.lexer.specs.Cursors.{Placed, rest}
+use Rattle.lexer.specs.Cursors.{Placed, rest, placeAt}
 use Rattle.lexer.specs.Numbers.{numbersAt}
 use Rattle.lexer.specs.declared.Cursor.{Cursor}
 use Rattle.lexer.specs.declared.FieldEnd.{FieldEnd}
@@ -22,18 +22,14 @@ use Rattle.lexer.specs.declared.FieldEnd.the-variants.{Comma}
 use Rattle.workspace.specs.Layout.{wordsAt, valuesAt}
 use Rattle.workspace.specs.Holds.{HoldsSteps}
 use Rattle.workspace.specs.Region.{ChangedWithin}
-use Rattle.program.specs.declared.Tail.{Tail}
-use Rattle.program.specs.declared.Tail.the-variants.{Value, Malformed}
-use Rattle.program.specs.declared.CountLine.{CountLine}
-use Rattle.program.specs.declared.CountLine.the-variants as count
-use Rattle.program.specs.declared.StepLine.{StepLine}
-use Rattle.program.specs.declared.StepLine.the-variants as step
-use Rattle.program.specs.declared.StepLines.{StepLines}
-use Rattle.program.specs.declared.StepLines.the-variants as steps
-
--- the reading place that a cursor stands for
-unfoldable pub placeAt : List ℕ → Cursor → Place
-placeAt text c = record { last = c .line; rest = lines (rest text c) }
+use Rattle.program.specs.declared.lines.Tail.{Tail}
+use Rattle.program.specs.declared.lines.Tail.the-variants.{Value, Malformed}
+use Rattle.program.specs.declared.lines.CountLine.{CountLine}
+use Rattle.program.specs.declared.lines.CountLine.the-variants as count
+use Rattle.program.specs.declared.lines.StepLine.{StepLine}
+use Rattle.program.specs.declared.lines.StepLine.the-variants as step
+use Rattle.program.specs.declared.lines.StepLines.{StepLines}
+use Rattle.program.specs.declared.lines.StepLines.the-variants as steps
 
 -- ------------------------------------------------------------------ the number behind a first field
 

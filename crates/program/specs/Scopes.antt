@@ -1,5 +1,4 @@
 -- Scopes in line order: a table has, for each variable, the index of the let that binds it.
-use mathlib.Core.Path.{_≡_}
 use mathlib.Core.List.{List, [], _∷_}
 use Prim.Native.Nat.{ℕ, suc, zero, _+_, _<_}
 use lib.Dec.{leb, ltb}
@@ -18,10 +17,10 @@ use Rattle.workspace.specs.Region.{Region, ChangedWithin}
 use Rattle.program.specs.Stored.{wordAt, valueAt}
 use Rattle.program.specs.Outcomes.{Answers}
 use Rattle.program.specs.declared.Outcome.{Outcome}
-use Rattle.program.specs.declared.Role.{Role}
-use Rattle.program.specs.declared.Role.the-variants.{Binds, Uses, Neither}
-use Rattle.program.specs.declared.Judged.{Judged}
-use Rattle.program.specs.declared.Judged.the-variants.{Bind, Store, Refused}
+use Rattle.program.specs.declared.binders.Role.{Role}
+use Rattle.program.specs.declared.binders.Role.the-variants.{Binds, Uses, Neither}
+use Rattle.program.specs.declared.binders.Judged.{Judged}
+use Rattle.program.specs.declared.binders.Judged.the-variants.{Bind, Store, Refused}
 
 -- what a step with this word does with its number v
 abbrev pub leafRole : LeafWord → Role

@@ -1,18 +1,18 @@
 -- What reading a program sheet answers, and what it leaves in the work space.
 use mathlib.Core.Path.{_≡_}
 use mathlib.Core.List.{List, []}
-use Prim.Native.Nat.{ℕ, _+_}
+use Prim.Native.Nat.{ℕ, _+_, _≤_}
 use lib.ListN.{length, replicate}
 use Rattle.spec.specs.Reading.{programSheet, Out, stop, on, _>>=_, Place, nextAll, end}
 use Rattle.spec.specs.Expression.{Step, Expr, listed, single, scope}
 use Rattle.spec.specs.Program.{Program, stepLine, program}
+use Rattle.lexer.specs.Cursors.{placeAt}
 use Rattle.lexer.specs.declared.Cursor.{Cursor}
 use Rattle.workspace.specs.Layout.{endsAt, letsAt}
 use Rattle.workspace.specs.Holds.{ends, lets, HoldsProgram}
 use Rattle.workspace.specs.Region.{Region, ChangedWithin}
 use Rattle.program.specs.Stored.{stepsIn}
 use Rattle.program.specs.Outcomes.{Answers}
-use Rattle.program.specs.Lines.{placeAt}
 use Rattle.program.specs.declared.Outcome.{Outcome}
 use Rattle.program.specs.declared.ProgramRead.{ProgramRead}
 use Rattle.program.specs.declared.ProgramRead.the-variants.{Read, Refused}
@@ -29,10 +29,11 @@ pub record ExpressionRead (n : ℕ) (w w′ : List ℕ) (r : Outcome) : Type 0 w
 
 -- ------------------------------------------------------------------ the program
 
--- the refusal of a sheet; else the number of the steps, and the work space holds the program
+-- the refusal of a sheet; else the number of the steps, and the work space holds the program. That the steps are at most
+-- 256 follows from the definition; it is said here for whoever goes on with the program.
 abbrev pub Answered : (w : List ℕ) → ProgramRead → Out Program → Type 0
 Answered w r (stop x) = r ≡ Refused x
-Answered w r (on P) = (r ≡ Read (length (P .steps))) × HoldsProgram w P
+Answered w r (on P) = (r ≡ Read (length (P .steps))) × HoldsProgram w P × (length (P .steps) ≤ 256)
 
 -- what stands behind line 1
 unfoldable pub behindCount : (n : ℕ) → Place → Out Program

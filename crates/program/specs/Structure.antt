@@ -9,8 +9,8 @@ use Rattle.workspace.specs.Region.{Region, ChangedWithin}
 use Rattle.program.specs.Stored.{stepsIn}
 use Rattle.program.specs.Outcomes.{Answers}
 use Rattle.program.specs.declared.Outcome.{Outcome}
-use Rattle.program.specs.declared.Ending.{Ending}
-use Rattle.program.specs.declared.Ending.the-variants.{Reached, Unfinished}
+use Rattle.program.specs.declared.tree.Ending.{Ending}
+use Rattle.program.specs.declared.tree.Ending.the-variants.{Reached, Unfinished}
 
 -- the expressions that the steps from index k on list, one after the other; the step with index k is at line k + 2
 unfoldable pub listedFrom : List ℕ → (n k : ℕ) → List Expr

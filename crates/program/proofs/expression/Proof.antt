@@ -1,15 +1,10 @@
+-- The structure, and then the scopes of the expression that it finds.
 use borrow.Author.Needs.{needs}
-use native.Mathlib.Omega.{arith}
-use mathlib.Core.Path.{subst, _∙_}
+use mathlib.Core.Path.{subst}
 use Rattle.program.specs.Structure.{Structured}
 use Rattle.program.proofs.Sheets.{expression-refused, expression-scoped}
-use borrow.Author.Needs.{needs}
 use Rattle.program.proofs.expression.Statement.{statement}
 use Rattle.program.proofs.expression.Tie as tie
-use Rattle.program.proofs.expression.Reads as reads
-use Rattle.program.proofs.expression.Lts as lts
-use Rattle.program.proofs.scopes.Reads as scopes-reads
-use Rattle.program.proofs.structure.Reads as structure-reads
 
 structure-requires : tie.Need-structure-requires
 structure-requires c κs = search needs
@@ -27,7 +22,11 @@ same-length : tie.Need-same-length
 same-length c = search needs
 
 returns : tie.Need-returns
-returns c = expression-scoped _ _ _ (c .before .before .before .before .before .before .before .before .before .before .before .pre .1) (c .before .before .before .before .before .before .before .before .before .before .before .pre .2) (subst (Structured _ _ _) (c .before .before .before .before .enum-told .given .1) (c .before .before .before .before .before .before .before .before .structure .ensures)) _ _ (c .before .before .scopes .ensures)
+returns c =
+    let at-enum-told = c .before .before .before .before in
+    let at-structure = at-enum-told .before .before .before .before in
+    let at-pre = at-structure .before .before .before in
+    expression-scoped _ _ _ (at-pre .pre .1) (at-pre .pre .2) (subst (Structured _ _ _) (at-enum-told .enum-told .given .1) (at-structure .structure .ensures)) _ _ (c .before .before .scopes .ensures)
 
 same-length-2 : tie.Need-same-length-2
 same-length-2 c = search needs

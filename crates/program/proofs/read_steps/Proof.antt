@@ -1,18 +1,13 @@
+-- The step lines, then no line behind them, then the expression that they list.
 use borrow.Author.Needs.{needs}
 use native.Mathlib.Omega.{arith}
-use mathlib.Core.Path.{refl, sym, subst, _∙_}
+use mathlib.Core.Path.{sym, subst, _∙_}
 use Rattle.program.specs.Lines.{StepsShown}
 use borrow.Author.Tests.{not-true, not-false}
 use Rattle.program.proofs.LineLaws.{line-fits}
 use Rattle.program.proofs.Sheets.{steps-variables, steps-refused, steps-spare, steps-read, steps-unscoped}
-use borrow.Author.Needs.{needs}
 use Rattle.program.proofs.read_steps.Statement.{statement}
 use Rattle.program.proofs.read_steps.Tie as tie
-use Rattle.program.proofs.read_steps.Reads as reads
-use Rattle.program.proofs.read_steps.Lts as lts
-use Rattle.lexer.proofs.Cursor.at_end.Reads as at-end-reads
-use Rattle.program.proofs.expression.Reads as expression-reads
-use Rattle.program.proofs.step_lines.Reads as step-lines-reads
 
 step-lines-requires : tie.Need-step-lines-requires
 step-lines-requires c κs = search needs
@@ -28,7 +23,9 @@ at-end-requires c κs = search needs
 
 add-spare : tie.Need-add-spare
 add-spare c =
-    let s = subst (StepsShown _ _ _ _ _) (c .before .before .before .before .behind .given .1) (c .before .before .before .before .before .before .before .before .step-lines .ensures) in
+    let at-behind = c .before .before .before .before in
+    let at-step-lines = at-behind .before .before .before .before in
+    let s = subst (StepsShown _ _ _ _ _) (at-behind .behind .given .1) (at-step-lines .step-lines .ensures) in
     omega (arith, line-fits _ _ (s .found .placed) (sym (c .before .before .at-end .ensures) ∙ not-true _ (c .before .if1 .taken)))
 
 same-length : tie.Need-same-length
@@ -36,13 +33,18 @@ same-length c = search needs
 
 returns : tie.Need-returns
 returns c =
-    steps-spare _ _ _ _ _ _ (subst (StepsShown _ _ _ _ _) (c .before .before .before .before .behind .given .1) (c .before .before .before .before .before .before .before .before .step-lines .ensures))
+    let at-behind = c .before .before .before .before in
+    let at-step-lines = at-behind .before .before .before .before in
+    steps-spare _ _ _ _ _ _ (subst (StepsShown _ _ _ _ _) (at-behind .behind .given .1) (at-step-lines .step-lines .ensures))
     (sym (c .before .before .at-end .ensures) ∙ not-true _ (c .before .if1 .taken))
 
 expression-requires : tie.Need-expression-requires
 expression-requires c κs =
-    let s = subst (StepsShown _ _ _ _ _) (c .before .before .before .before .behind .given .1) (c .before .before .before .before .before .before .before .before .step-lines .ensures) in
-    (s .changed .long ∙ c .before .before .before .before .before .before .before .before .before .before .before .before .pre .0, c .before .before .before .before .before .before .before .before .before .before .before .before .pre .1, steps-variables _ _ _ _ _ _ s)
+    let at-behind = c .before .before .before .before in
+    let at-step-lines = at-behind .before .before .before .before in
+    let at-pre = at-step-lines .before .before .before .before in
+    let s = subst (StepsShown _ _ _ _ _) (at-behind .behind .given .1) (at-step-lines .step-lines .ensures) in
+    (s .changed .long ∙ at-pre .pre .0, at-pre .pre .1, steps-variables _ _ _ _ _ _ s)
 
 enum-told : tie.Need-enum-told
 enum-told c = search needs
@@ -61,11 +63,17 @@ same-length-3 c = search needs
 
 returns-3 : tie.Need-returns-3
 returns-3 c =
-    steps-read _ _ _ _ _ _ (subst (StepsShown _ _ _ _ _) (c .before .before .before .before .before .before .before .before .before .behind .given .1) (c .before .before .before .before .before .before .before .before .before .before .before .before .before .step-lines .ensures)) (c .before .before .before .before .before .before .before .before .before .before .before .before .before .before .before .before .before .pre .1)
-    (sym (c .before .before .before .before .before .before .before .at-end .ensures) ∙ not-false _ (c .before .before .before .before .before .before .if1 .left))
+    let at-expression = c .before .before .before .before in
+    let at-if1 = at-expression .before .before in
+    let at-at-end = at-if1 .before in
+    let at-behind = at-at-end .before .before in
+    let at-step-lines = at-behind .before .before .before .before in
+    let at-pre = at-step-lines .before .before .before .before in
+    steps-read _ _ _ _ _ _ (subst (StepsShown _ _ _ _ _) (at-behind .behind .given .1) (at-step-lines .step-lines .ensures)) (at-pre .pre .1)
+    (sym (at-at-end .at-end .ensures) ∙ not-false _ (at-if1 .if1 .left))
     _
     _
-    (c .before .before .before .before .expression .ensures)
+    (at-expression .expression .ensures)
     (c .enum-told .given .1)
 
 same-length-4 : tie.Need-same-length-4
@@ -73,11 +81,17 @@ same-length-4 c = search needs
 
 returns-4 : tie.Need-returns-4
 returns-4 c =
-    steps-unscoped _ _ _ _ _ _ (subst (StepsShown _ _ _ _ _) (c .before .before .before .before .before .before .before .before .before .before .behind .given .1) (c .before .before .before .before .before .before .before .before .before .before .before .before .before .before .step-lines .ensures)) (c .before .before .before .before .before .before .before .before .before .before .before .before .before .before .before .before .before .before .pre .1)
-    (sym (c .before .before .before .before .before .before .before .before .at-end .ensures) ∙ not-false _ (c .before .before .before .before .before .before .before .if1 .left))
+    let at-expression = c .before .before .before .before .before in
+    let at-if1 = at-expression .before .before in
+    let at-at-end = at-if1 .before in
+    let at-behind = at-at-end .before .before in
+    let at-step-lines = at-behind .before .before .before .before in
+    let at-pre = at-step-lines .before .before .before .before in
+    steps-unscoped _ _ _ _ _ _ (subst (StepsShown _ _ _ _ _) (at-behind .behind .given .1) (at-step-lines .step-lines .ensures)) (at-pre .pre .1)
+    (sym (at-at-end .at-end .ensures) ∙ not-false _ (at-if1 .if1 .left))
     _
     _
-    (c .before .before .before .before .before .expression .ensures)
+    (at-expression .expression .ensures)
     _
     (c .before .refusal2 .given .1)
 
