@@ -1,10 +1,10 @@
 -- The first false one of a step's conditions, one condition at a time, as the code of a word goes through them.
-use mathlib.Core.Path.{_≡_, refl, sym, ap, _∙_}
+use mathlib.Core.Path.{_≡_, refl, sym, _∙_}
 use mathlib.Core.Bool.{Bool, true, false}
 use mathlib.Core.List.{List, [], _∷_}
 use Prim.Native.Nat.{ℕ, _+_}
 use Rattle.spec.specs.Reading.{Out, stop, on, _>>=_}
-use Rattle.spec.specs.Conditions.{Condition, T, F, A}
+use Rattle.spec.specs.Conditions.{Condition, T}
 use Rattle.spec.specs.Sites.{judge, numbered, firstFalse}
 use Rattle.spec.specs.declared.Refusal.{Refusal}
 use Rattle.rules.specs.Outcome.{outcome, both, judged}

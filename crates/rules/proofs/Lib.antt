@@ -4,7 +4,7 @@ pub mod Relations
 pub mod Walking
 pub mod Columns
 pub mod Shown
-pub mod Words
+pub mod TableRows
 pub mod Here
 pub mod Scopes
 pub mod Views

@@ -8,7 +8,7 @@ use native.Mathlib.Omega.{arith}
 use lib.ListN.{length, getD, length-map}
 use Rattle.spec.specs.Expression.{Step, Expr, leaf, unary, binary, size}
 use Rattle.spec.specs.Split.{Row, Split}
-use Rattle.spec.specs.Conditions.{Env, mapAt, row, type, own}
+use Rattle.spec.specs.Conditions.{Env, mapAt, row, own}
 use Rattle.spec.specs.Sites.{preOfPart, preOfSecond, claimsAt, firstFalse}
 use Rattle.spec.specs.Ranges.{InRange}
 use Rattle.spec.specs.declared.MapNumber.{MapNumber}
@@ -22,9 +22,9 @@ use Rattle.workspace.specs.Holds.{HoldsSplit}
 use Rattle.workspace.proofs.Region.{region-kept}
 use Rattle.rules.specs.Outcome.{judged}
 use Rattle.rules.specs.Table.{wordRow}
-use Rattle.rules.specs.Walk.{cell, viewOf, stepOutcome, putPre, passWord, passOn, walk}
+use Rattle.rules.specs.Walk.{cell, viewOf, stepOutcome, putPre, passWord, passOn}
 use Rattle.rules.proofs.Shown.{row-post, row-start}
-use Rattle.rules.proofs.Words.{leaf-shown, unary-shown, binary-shown}
+use Rattle.rules.proofs.TableRows.{leaf-shown, unary-shown, binary-shown}
 use Rattle.rules.proofs.Here.{Here, size-positive, here-line, leaf-word, unary-word, binary-word, here-part, here-first, here-second, here-second-at}
 use Rattle.rules.proofs.Scopes.{Scoped}
 use Rattle.rules.proofs.Views.{map-number, row-start-in, own-part, first-part, second-part, started, bound-shown}

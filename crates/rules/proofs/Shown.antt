@@ -1,9 +1,8 @@
 -- What the work space shows of the split that it holds: types, maps and rows by number.
 use mathlib.Core.Path.{_≡_, refl, sym, ap, _∙_}
 use mathlib.Core.Bool.{Bool, true, false}
-use mathlib.Core.List.{List, [], _∷_, map}
-use mathlib.Core.Option.{Option}
-use Prim.Native.Nat.{ℕ, zero, suc, _+_, _*_, _-_, _<_, _≤_}
+use mathlib.Core.List.{List, [], _∷_}
+use Prim.Native.Nat.{ℕ, suc, _+_, _-_, _<_}
 use native.Mathlib.Omega.{arith}
 use lib.Dec.{eqb}
 use borrow.Author.Tests.{eqb-true, eqb-false, eq-eqb, ne-eqb}
@@ -11,7 +10,7 @@ use lib.ListN.{length, getD}
 use Rattle.spec.specs.Expression.{Step, Expr}
 use Rattle.spec.specs.Split.{Map, Row, Split}
 use Rattle.spec.specs.Maps.{lowest, _=ᵐ_, _≥ᵐ_, _+ᵐ_, share}
-use Rattle.spec.specs.Conditions.{typeAt, mapAt, lineOf, row, type, kind, place, load}
+use Rattle.spec.specs.Conditions.{typeAt, mapAt, lineOf, row, type, place, load}
 use Rattle.spec.specs.Ranges.{InRange}
 use Rattle.spec.specs.declared.Location.{Location}
 use Rattle.spec.specs.declared.MapNumber.{MapNumber}
@@ -19,8 +18,7 @@ use Rattle.spec.specs.declared.TypeNumber.{TypeNumber}
 use Rattle.spec.specs.declared.TypeLine.{TypeLine}
 use Rattle.spec.specs.declared.TypeLine.the-variants.{Int, Ref, Lock, Tid}
 use Rattle.workspace.specs.Layout as layout
-use Rattle.workspace.specs.Layout.{rowTypesAt, postsAt, startsAt, kindsAt, firstsAt, secondsAt, mapsAt, stride, mapCell, typeOf, kindOf, firstOf, secondOf}
-use Rattle.workspace.specs.Region.{Region}
+use Rattle.workspace.specs.Layout.{rowTypesAt, postsAt, startsAt, kindsAt, firstsAt, secondsAt, mapCell, kindOf, firstOf, secondOf}
 use Rattle.workspace.specs.Holds.{HoldsSplit}
 use Rattle.workspace.proofs.Region.{column}
 use Rattle.workspace.proofs.Codes.{type-of-numbers}

@@ -2,49 +2,43 @@
 -- expression at index k is walked through, and what is left is the walk from its end on, over a work space in which only
 -- maps before its own steps are changed.
 use mathlib.Core.Path.{_≡_, refl, sym, ap, _∙_}
-use mathlib.Core.Logic.{_⊎_, inl, inr}
+use mathlib.Core.Logic.{inr}
 use mathlib.Core.Bool.{Bool, true, false}
-use mathlib.Core.List.{List, [], _∷_, _++_, map}
-use Prim.Native.Nat.{ℕ, zero, suc, _+_, _*_, _<_, _≤_}
+use mathlib.Core.List.{List, [], _∷_, _++_}
+use Prim.Native.Nat.{ℕ, suc, _+_, _<_, _≤_}
 use native.Mathlib.Omega.{arith}
 use lib.Dec.{ltb}
-use lib.ListN.{length, getD, set, length-map, length-set}
+use lib.ListN.{length, set}
 use lib.Seq.{getD-set-same, getD-set-other}
 use borrow.Author.Tests.{lt-ltb}
 use Rattle.spec.specs.Choice.{if_then_else_}
-use Rattle.spec.specs.Reading.{Out, stop, on, _>>=_}
+use Rattle.spec.specs.Reading.{_>>=_}
 use Rattle.spec.specs.Expression.{Step, Expr, leaf, unary, binary, size}
 use Rattle.spec.specs.Program.{Program}
 use Rattle.spec.specs.Split.{Row, Split}
-use Rattle.spec.specs.Conditions.{Env, lineOf, mapAt, startMap, row, type, own}
-use Rattle.spec.specs.Sites.{Site, Claim, preOfPart, preOfSecond, bind, sites, numbered, claimsAt, claims, judge, firstFalse}
+use Rattle.spec.specs.Conditions.{Env, lineOf, startMap, row, type}
+use Rattle.spec.specs.Sites.{Site, Claim, preOfPart, preOfSecond, bind, sites, claimsAt, claims, judge, firstFalse}
 use Rattle.spec.specs.Verdict.{startAtMostOne, ruled}
-use Rattle.spec.specs.WellFormed.{prefix}
 use Rattle.spec.specs.Ranges.{InRange}
 use Rattle.spec.specs.declared.MapNumber.{MapNumber}
-use Rattle.spec.specs.declared.TypeNumber.{TypeNumber}
-use Rattle.spec.specs.declared.LeafWord.{LeafWord}
 use Rattle.spec.specs.declared.UnaryWord.{UnaryWord}
 use Rattle.spec.specs.declared.UnaryWord.the-variants.{While, Join, Ref, Read, Freelock, Lock, Unlock}
 use Rattle.spec.specs.declared.BinaryWord.{BinaryWord}
 use Rattle.spec.specs.declared.BinaryWord.the-variants.{Let, If, Spawn, Write}
-use Rattle.workspace.specs.Layout as layout
-use Rattle.workspace.specs.Layout.{wordsAt, endsAt, rowTypesAt, postsAt, startsAt, presAt, kindOf, firstOf, secondOf, wordOf}
-use Rattle.workspace.specs.Region.{Region, ChangedWithin}
+use Rattle.workspace.specs.Layout.{presAt}
+use Rattle.workspace.specs.Region.{ChangedWithin}
 use Rattle.workspace.specs.Holds.{HoldsSplit}
-use Rattle.workspace.proofs.Region.{changed-nothing, changed-store, changed-then, changed-wider, region-kept}
-use Rattle.rules.specs.Outcome.{both, judged}
-use Rattle.rules.specs.Table.{wordRow}
-use Rattle.rules.specs.Walk.{cell, startOutcome, viewOf, stepOutcome, putPre, passWord, passOn, walk}
+use Rattle.workspace.proofs.Region.{changed-nothing, changed-store, changed-then, changed-wider}
+use Rattle.rules.specs.Outcome.{both}
+use Rattle.rules.specs.Walk.{cell, startOutcome, stepOutcome, putPre, passOn, walk}
 use Rattle.rules.specs.Contract.{HoldsSheets}
 use Rattle.rules.proofs.Judged.{both-met, both-assoc}
 use Rattle.rules.proofs.Walking.{put-before}
-use Rattle.rules.proofs.Shown.{noRow, map-shown, row-at, row-type, row-post, row-start}
-use Rattle.rules.proofs.Words.{Part, leaf-shown, unary-shown, binary-shown}
-use Rattle.rules.proofs.Here.{Here, codes, size-positive, prefix-long, here-kept, here-line, leaf-word, unary-word, binary-word, here-part, here-first, here-second, insideSecond, varsSecond}
+use Rattle.rules.proofs.Shown.{map-shown, row-at}
+use Rattle.rules.proofs.Here.{Here, codes, size-positive, prefix-long, here-kept, here-line, here-part, here-first, here-second, insideSecond, varsSecond}
 use Rattle.rules.proofs.Scopes.{Scoped, scoped-none, scoped-second}
 use Rattle.rules.proofs.OneStep.{Ready, split-kept, below, step-shown, leaf-passes, unary-passes, binary-passes}
-use Rattle.rules.proofs.Views.{map-number, row-post-in, row-start-in, own-part, first-part, second-part, started, bound-shown}
+use Rattle.rules.proofs.Views.{row-post-in, row-start-in}
 
 -- ------------------------------------------------------------------ claims of one site after the other
 
@@ -276,16 +270,16 @@ module _ (w : List ℕ) (steps denominator locations : ℕ) (P : Program) (S : S
     rows-few = omega (arith, H .inRange .rowsCounted, H .stepsCounted)
 
     sized : size (P .root) ≡ steps
-    sized = sym (prefix-long (P .root)) ∙ ap length (H .wellFormedProgram .listing) ∙ sym (H .stepsCounted)
+    sized = sym (prefix-long (P .root)) ∙ ap length (H .wellFormed .listing) ∙ sym (H .stepsCounted)
 
     root-here : Here w 0 [] [] (P .root)
     unfolding codes
     root-here = record {
-      words = rw (H .wellFormedProgram .listing) (H .program .steps .words);
+      words = rw (H .wellFormed .listing) (H .program .steps .words);
       ended = H .program .ends;
       bound = H .program .lets;
-      lines = H .wellFormedProgram .numbering;
-      used = H .wellFormedProgram .usedInside;
+      lines = H .wellFormed .numbering;
+      used = H .wellFormed .usedInside;
     }
 
     root-ready : Ready S (P .steps) (H .inRange) rows-few (set w presAt 0) 0 [] [] [] startMap (P .root)
@@ -306,5 +300,6 @@ module _ (w : List ℕ) (steps denominator locations : ℕ) (P : Program) (S : S
 
     -- 30 to 33
     pub sheets-shown : both (startOutcome w denominator locations) (walk locations denominator (set w presAt 0) 0 steps)
-        ≡ both (startAtMostOne S) (ruled P S)
+        ≡ (startAtMostOne S >>= λ whole. ruled P S)
+    unfolding both
     sheets-shown = rw (start-shown, steps-shown)

@@ -1,21 +1,21 @@
 -- The walk over the steps, one step at a time, and which part of the work space it changes.
-use mathlib.Core.Path.{_≡_, refl, sym, ap, _∙_}
+use mathlib.Core.Path.{_≡_, refl}
 use mathlib.Core.Bool.{Bool, true, false}
 use mathlib.Core.List.{List}
-use Prim.Native.Nat.{ℕ, zero, suc, _+_, _-_, _<_, _≤_}
+use Prim.Native.Nat.{ℕ, suc, _+_, _-_, _<_, _≤_}
 use native.Mathlib.Omega.{arith}
 use lib.Dec.{ltb}
-use lib.ListN.{length, set}
+use lib.ListN.{set}
 use borrow.Author.Tests.{ltb-true}
 use Rattle.spec.specs.Choice.{if_then_else_}
-use Rattle.spec.specs.Reading.{Out, stop, on}
+use Rattle.spec.specs.Reading.{on}
 use Rattle.spec.specs.Sites.{preOfPart, preOfSecond}
 use Rattle.spec.specs.declared.MapNumber.{MapNumber}
 use Rattle.spec.specs.declared.Word.{Word}
 use Rattle.spec.specs.declared.Word.the-variants.{Leaf, Unary, Binary}
 use Rattle.workspace.specs.Layout.{wordsAt, presAt, wordOf}
 use Rattle.workspace.specs.Region.{ChangedWithin}
-use Rattle.workspace.proofs.Region.{changed-nothing, changed-store, changed-then, changed-wider}
+use Rattle.workspace.proofs.Region.{changed-nothing, changed-store, changed-then}
 use Rattle.rules.specs.Outcome.{both}
 use Rattle.rules.specs.Walk.{cell, stepOutcome, putPre, passWord, passOn, walk}
 

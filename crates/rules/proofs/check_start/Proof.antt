@@ -1,5 +1,5 @@
-use Prim.Native.Nat.{ℕ, _≤_, _-_}
-use mathlib.Core.Path.{_≡_, refl, sym, ap, _∙_}
+use Prim.Native.Nat.{_≤_, _-_}
+use mathlib.Core.Path.{_≡_, refl, ap, _∙_}
 use native.Mathlib.Omega.{arith}
 use native.Mathlib.Nat.{sub-zero}
 use borrow.Author.Tests.{le-leb, lt-leb}
@@ -13,10 +13,6 @@ use Rattle.rules.specs.Walk.{startOutcome}
 use Rattle.rules.proofs.Relations.{over-later, over-here, over-nowhere}
 use Rattle.rules.proofs.check_start.Statement.{statement}
 use Rattle.rules.proofs.check_start.Tie as tie
-use Rattle.rules.proofs.check_start.Reads as reads
-use Rattle.rules.proofs.check_start.Lts as lts
-use Rattle.workspace.proofs.index.Reads as index-reads
-use Rattle.workspace.proofs.map_cell.Reads as map-cell-reads
 
 abbrev Inv-loop : tie.InvT-loop
 Inv-loop work denominator locations l₀ l =
