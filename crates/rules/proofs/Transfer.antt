@@ -30,7 +30,7 @@ use Rattle.workspace.specs.Region.{ChangedWithin}
 use Rattle.workspace.specs.Holds.{HoldsSplit}
 use Rattle.workspace.proofs.Region.{changed-nothing, changed-store, changed-then, changed-wider}
 use Rattle.rules.specs.Outcome.{both}
-use Rattle.rules.specs.Walk.{cell, startOutcome, stepOutcome, putPre, passOn, walk}
+use Rattle.rules.specs.Walk.{cell, startOutcome, stepOutcome, putPre, passOn, walk, atRoot}
 use Rattle.rules.specs.Contract.{HoldsSheets}
 use Rattle.rules.proofs.Judged.{both-met, both-assoc}
 use Rattle.rules.proofs.Walking.{put-before}
@@ -282,15 +282,15 @@ module _ (w : List ℕ) (steps denominator locations : ℕ) (P : Program) (S : S
       used = H .wellFormed .usedInside;
     }
 
-    root-ready : Ready S (P .steps) (H .inRange) rows-few (set w presAt 0) 0 [] [] [] startMap (P .root)
-    unfolding startMap
+    root-ready : Ready S (P .steps) (H .inRange) rows-few (atRoot w) 0 [] [] [] startMap (P .root)
+    unfolding atRoot startMap
     root-ready =
         again S (P .steps) (H .inRange) rows-few (changed-store presAt (presAt + 256) w presAt 0 (omega arith) (omega arith)) (H .split) (omega arith)
         root-here (scoped-none S) (omega (arith, H .inRange .mapsCounted, H .inRange .mapsFew .0))
         (getD-set-same w presAt 0 0 (omega arith)) (omega (arith, sized, H .stepsCounted, H .inRange .rowsCounted))
 
     -- 31 to 33
-    pub steps-shown : walk locations denominator (set w presAt 0) 0 steps ≡ ruled P S
+    pub steps-shown : walk locations denominator (atRoot w) 0 steps ≡ ruled P S
     unfolding ruled walk
     steps-shown =
         let end : steps ≡ size (P .root) + 0 = omega (arith, sized) in
@@ -299,7 +299,7 @@ module _ (w : List ℕ) (steps denominator locations : ℕ) (P : Program) (S : S
         ∙ both-met (firstFalse (claims S (sites S [] startMap (P .root)))))
 
     -- 30 to 33
-    pub sheets-shown : both (startOutcome w denominator locations) (walk locations denominator (set w presAt 0) 0 steps)
+    pub sheets-shown : both (startOutcome w denominator locations) (walk locations denominator (atRoot w) 0 steps)
         ≡ (startAtMostOne S >>= λ whole. ruled P S)
     unfolding both
     sheets-shown = rw (start-shown, steps-shown)

@@ -50,6 +50,10 @@ stepOutcome w locations denominator k =
     let s = viewOf w locations denominator k in
     judged (k + 2) 1 (wordRow (wordOf (cell w wordsAt k)) w s (typeAt w (s .own)) (typeAt w (s .type1)))
 
+-- the start is the map before the root
+unfoldable pub atRoot : (w : List ℕ) → List ℕ
+atRoot w = set w presAt (startMap .0)
+
 -- the map before step i is m
 unfoldable pub putPre : (w : List ℕ) → (i : ℕ) → MapNumber → List ℕ
 putPre w i m = if ltb i 256 then set w (presAt + i) (m .0) else w

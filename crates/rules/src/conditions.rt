@@ -16,6 +16,7 @@ ghost use Rattle.rules.specs.Outcome.{outcome, both};
 ghost use Rattle.rules.specs.Relation.{holdsAt, failsFrom};
 ghost use Rattle.rules.specs.Table.{agreeIn, hasAtLeast};
 
+// A number of the work space, so that two of them can be added.
 fn wide(x: u32) -> u64
     ensures { λ r. ⌜ r ≡ x ⌝ }
 {
@@ -32,6 +33,7 @@ pub(crate) fn also(a: Ruling, b: Ruling) -> Ruling
     b
 }
 
+// A condition on types that fails.
 pub(crate) fn type_false(line: u32, condition: u32) -> Ruling
     ensures { λ r. ⌜ outcome r ≡ judge line condition (T false) ⌝ }
 {
@@ -84,6 +86,7 @@ pub(crate) fn flow(line: u32, condition: u32, work: &[u32], locations: u32, f: R
     Ruling::Met
 }
 
+// a = b.
 pub(crate) fn equal(
     line: u32,
     condition: u32,
@@ -97,6 +100,7 @@ pub(crate) fn equal(
     flow(line, condition, work, locations, Relation::Equal(a, b))
 }
 
+// a ≥ b.
 pub(crate) fn at_least(
     line: u32,
     condition: u32,
@@ -110,6 +114,7 @@ pub(crate) fn at_least(
     flow(line, condition, work, locations, Relation::AtLeast(a, b))
 }
 
+// a + b = c.
 pub(crate) fn sum(
     line: u32,
     condition: u32,

@@ -17,6 +17,9 @@ ghost use Rattle.rules.specs.Outcome.{outcome};
 ghost use Rattle.rules.specs.Walk.{startOutcome};
 ghost use Rattle.rules.specs.Contract.{Ruled};
 
+// The number of the start: the map before the root.
+const START: u32 = 0;
+
 // Every condition is met, or the first that is not refuses.
 pub enum Ruling {
     Met,
@@ -53,7 +56,7 @@ fn check_start(work: &[u32], denominator: u32, locations: u32) -> Ruling
 {
     let mut l = 0;
     while l < locations {
-        if denominator < map_cell(work, MapNumber(0), index(l)) {
+        if denominator < map_cell(work, MapNumber(START), index(l)) {
             return Ruling::Refused(Refusal::OverOne(Location(l)));
         }
         l += 1;

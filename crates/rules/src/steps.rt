@@ -1,5 +1,6 @@
 // The steps in line order. Each is judged once the map before it is known, and hands down the maps before its parts.
 use super::Ruling;
+use super::START;
 use super::View;
 use super::words::check_word;
 use spec::BinaryWord;
@@ -20,12 +21,12 @@ use workspace::type_at;
 use workspace::word_of;
 ghost use mathlib.Core.Path.{_≡_};
 ghost use Prim.Native.Nat.{_+_, _≤_, _<_};
-ghost use lib.ListN.{length, set};
+ghost use lib.ListN.{length};
 ghost use Rattle.spec.specs.Sites.{preOfPart, preOfSecond};
 ghost use Rattle.workspace.specs.Layout.{presAt};
 ghost use Rattle.workspace.specs.Region.{ChangedWithin};
 ghost use Rattle.rules.specs.Outcome.{outcome};
-ghost use Rattle.rules.specs.Walk.{cell, viewOf, stepOutcome, putPre, passOn, walk};
+ghost use Rattle.rules.specs.Walk.{cell, viewOf, atRoot, stepOutcome, putPre, passOn, walk};
 
 // Entry i of the column that begins at base.
 fn cell(work: &[u32], base: usize, i: u32) -> u32
@@ -80,6 +81,7 @@ fn put_pre(work: &mut [u32], i: u32, m: MapNumber)
     }
 }
 
+// The map before the part of a step with one part.
 fn pre_of_part(w: UnaryWord, pre: MapNumber, post: MapNumber) -> MapNumber
     ensures { λ r. ⌜ r ≡ preOfPart w pre post ⌝ }
 {
@@ -94,6 +96,7 @@ fn pre_of_part(w: UnaryWord, pre: MapNumber, post: MapNumber) -> MapNumber
     }
 }
 
+// The map before the second part of a step with two.
 fn pre_of_second(w: BinaryWord, pre: MapNumber, post1: MapNumber, start: MapNumber) -> MapNumber
     ensures { λ r. ⌜ r ≡ preOfSecond w pre post1 start ⌝ }
 {
@@ -125,9 +128,9 @@ fn pass_on(work: &mut [u32], k: u32)
 // 31 to 33: the steps in line order, each judged once the map before it is known.
 pub(crate) fn check_steps(work: &mut [u32], steps: u32, denominator: u32, locations: u32) -> Ruling
     requires { ⌜ (length (now work) ≡ 16384) × (steps ≤ 256) ⌝ }
-    ensures { λ r. ⌜ (outcome r ≡ walk locations denominator (set (now (work .entry)) presAt 0) 0 steps) × ChangedWithin presAt (presAt + 256) (now (work .entry)) (now (work .exit)) ⌝ }
+    ensures { λ r. ⌜ (outcome r ≡ walk locations denominator (atRoot (now (work .entry))) 0 steps) × ChangedWithin presAt (presAt + 256) (now (work .entry)) (now (work .exit)) ⌝ }
 {
-    work[PRES] = 0;
+    work[PRES] = START;
     let mut k = 0;
     while k < steps {
         let r = check_step(work, locations, denominator, k);

@@ -17,6 +17,7 @@ ghost use mathlib.Core.Path.{_≡_};
 ghost use Rattle.rules.specs.Outcome.{outcome, judged};
 ghost use Rattle.rules.specs.Table.{varRow, intRow, letRow, ifRow, whileRow, newtidRow, spawnRow, joinRow, refRow, readRow, writeRow, newlockRow, lockRow, unlockRow, leafRow, unaryRow, binaryRow, wordRow};
 
+// `var`: 1 type is that of its let's e1; 2 post = pre.
 fn check_var(work: &[u32], s: View, kind: TypeLine, kind1: TypeLine) -> Ruling
     ensures { λ r. ⌜ outcome r ≡ judged (s .line) 1 (varRow (now (work .entry)) s kind kind1) ⌝ }
 {
@@ -26,6 +27,7 @@ fn check_var(work: &[u32], s: View, kind: TypeLine, kind1: TypeLine) -> Ruling
     )
 }
 
+// `int`: 1 type int; 2 post = pre.
 fn check_int(work: &[u32], s: View, kind: TypeLine, kind1: TypeLine) -> Ruling
     ensures { λ r. ⌜ outcome r ≡ judged (s .line) 1 (intRow (now (work .entry)) s kind kind1) ⌝ }
 {
@@ -35,6 +37,7 @@ fn check_int(work: &[u32], s: View, kind: TypeLine, kind1: TypeLine) -> Ruling
     equal(s.line, 2, work, s.locations, s.post, s.pre)
 }
 
+// `let`: 1 type of e2; 2 post = post of e2.
 fn check_let(work: &[u32], s: View, kind: TypeLine, kind1: TypeLine) -> Ruling
     ensures { λ r. ⌜ outcome r ≡ judged (s .line) 1 (letRow (now (work .entry)) s kind kind1) ⌝ }
 {
@@ -44,6 +47,7 @@ fn check_let(work: &[u32], s: View, kind: TypeLine, kind1: TypeLine) -> Ruling
     )
 }
 
+// `if`: 1 type of e1; 2 type of e2; 3 post of e1 ≥ post; 4 post of e2 ≥ post.
 fn check_if(work: &[u32], s: View, kind: TypeLine, kind1: TypeLine) -> Ruling
     ensures { λ r. ⌜ outcome r ≡ judged (s .line) 1 (ifRow (now (work .entry)) s kind kind1) ⌝ }
 {
@@ -58,18 +62,21 @@ fn check_if(work: &[u32], s: View, kind: TypeLine, kind1: TypeLine) -> Ruling
     also(types, flows)
 }
 
+// `while`: 1 type int; 2 pre ≥ post; 3 post of part ≥ post.
 fn check_while(work: &[u32], s: View, kind: TypeLine, kind1: TypeLine) -> Ruling
     ensures { λ r. ⌜ outcome r ≡ judged (s .line) 1 (whileRow (now (work .entry)) s kind kind1) ⌝ }
 {
     let TypeLine::Int = kind else {
         return type_false(s.line, 1);
     };
+    let body = s.post1;
     also(
         at_least(s.line, 2, work, s.locations, s.pre, s.post),
-        at_least(s.line, 3, work, s.locations, s.post1, s.post),
+        at_least(s.line, 3, work, s.locations, body, s.post),
     )
 }
 
+// `newtid`: 1 a tid type; 2 post = pre.
 fn check_newtid(work: &[u32], s: View, kind: TypeLine, kind1: TypeLine) -> Ruling
     ensures { λ r. ⌜ outcome r ≡ judged (s .line) 1 (newtidRow (now (work .entry)) s kind kind1) ⌝ }
 {
@@ -79,6 +86,7 @@ fn check_newtid(work: &[u32], s: View, kind: TypeLine, kind1: TypeLine) -> Rulin
     equal(s.line, 2, work, s.locations, s.post, s.pre)
 }
 
+// `spawn`: 1 type int; 2 e1 a tid; 3 post of e2 ≥ K; 4 post + s = post of e1.
 fn check_spawn(work: &[u32], s: View, kind: TypeLine, kind1: TypeLine) -> Ruling
     ensures { λ r. ⌜ outcome r ≡ judged (s .line) 1 (spawnRow (now (work .entry)) s kind kind1) ⌝ }
 {
@@ -94,6 +102,7 @@ fn check_spawn(work: &[u32], s: View, kind: TypeLine, kind1: TypeLine) -> Ruling
     )
 }
 
+// `join`: 1 type int; 2 part a tid; 3 post = post of part + K.
 fn check_join(work: &[u32], s: View, kind: TypeLine, kind1: TypeLine) -> Ruling
     ensures { λ r. ⌜ outcome r ≡ judged (s .line) 1 (joinRow (now (work .entry)) s kind kind1) ⌝ }
 {
@@ -106,6 +115,7 @@ fn check_join(work: &[u32], s: View, kind: TypeLine, kind1: TypeLine) -> Ruling
     sum(s.line, 3, work, s.locations, s.post1, load, s.post)
 }
 
+// `ref`: 1 a ref type whose c is the part's type; 2 post = post of part.
 fn check_ref(work: &[u32], s: View, kind: TypeLine, kind1: TypeLine) -> Ruling
     ensures { λ r. ⌜ outcome r ≡ judged (s .line) 1 (refRow (now (work .entry)) s kind kind1) ⌝ }
 {
@@ -118,6 +128,7 @@ fn check_ref(work: &[u32], s: View, kind: TypeLine, kind1: TypeLine) -> Ruling
     )
 }
 
+// `read`: 1 part a ref; 2 type is c; 3 post = post of part; 4 post at p > 0.
 fn check_read(work: &[u32], s: View, kind: TypeLine, kind1: TypeLine) -> Ruling
     ensures { λ r. ⌜ outcome r ≡ judged (s .line) 1 (readRow (now (work .entry)) s kind kind1) ⌝ }
 {
@@ -131,6 +142,7 @@ fn check_read(work: &[u32], s: View, kind: TypeLine, kind1: TypeLine) -> Ruling
     also(agree(s.line, 2, work, content, s.own), access)
 }
 
+// `write`: 1 type int; 2 e1 a ref; 3 type of e2 is c; 4 post = post of e2; 5 post at p ≥ D.
 fn check_write(work: &[u32], s: View, kind: TypeLine, kind1: TypeLine) -> Ruling
     ensures { λ r. ⌜ outcome r ≡ judged (s .line) 1 (writeRow (now (work .entry)) s kind kind1) ⌝ }
 {
@@ -147,6 +159,7 @@ fn check_write(work: &[u32], s: View, kind: TypeLine, kind1: TypeLine) -> Ruling
     also(agree(s.line, 3, work, content, s.type2), access)
 }
 
+// `newlock`: 1 a lock type; 2 post + K = pre.
 fn check_newlock(work: &[u32], s: View, kind: TypeLine, kind1: TypeLine) -> Ruling
     ensures { λ r. ⌜ outcome r ≡ judged (s .line) 1 (newlockRow (now (work .entry)) s kind kind1) ⌝ }
 {
@@ -156,7 +169,7 @@ fn check_newlock(work: &[u32], s: View, kind: TypeLine, kind1: TypeLine) -> Ruli
     sum(s.line, 2, work, s.locations, s.post, load, s.pre)
 }
 
-// `lock` and `freelock`.
+// `lock` and `freelock`: 1 type int; 2 part a lock; 3 post = post of part + K.
 fn check_lock(work: &[u32], s: View, kind: TypeLine, kind1: TypeLine) -> Ruling
     ensures { λ r. ⌜ outcome r ≡ judged (s .line) 1 (lockRow (now (work .entry)) s kind kind1) ⌝ }
 {
@@ -169,6 +182,7 @@ fn check_lock(work: &[u32], s: View, kind: TypeLine, kind1: TypeLine) -> Ruling
     sum(s.line, 3, work, s.locations, s.post1, load, s.post)
 }
 
+// `unlock`: 1 type int; 2 part a lock; 3 post + K = post of part.
 fn check_unlock(work: &[u32], s: View, kind: TypeLine, kind1: TypeLine) -> Ruling
     ensures { λ r. ⌜ outcome r ≡ judged (s .line) 1 (unlockRow (now (work .entry)) s kind kind1) ⌝ }
 {
@@ -181,6 +195,7 @@ fn check_unlock(work: &[u32], s: View, kind: TypeLine, kind1: TypeLine) -> Rulin
     sum(s.line, 3, work, s.locations, s.post, load, s.post1)
 }
 
+// The words with no part, with one, with two.
 fn check_leaf(w: LeafWord, work: &[u32], s: View, kind: TypeLine, kind1: TypeLine) -> Ruling
     ensures { λ r. ⌜ outcome r ≡ judged (s .line) 1 (leafRow w (now (work .entry)) s kind kind1) ⌝ }
 {
@@ -217,6 +232,7 @@ fn check_binary(w: BinaryWord, work: &[u32], s: View, kind: TypeLine, kind1: Typ
     }
 }
 
+// The conditions of a step with the word w.
 pub(crate) fn check_word(w: Word, work: &[u32], s: View, kind: TypeLine, kind1: TypeLine) -> Ruling
     ensures { λ r. ⌜ outcome r ≡ judged (s .line) 1 (wordRow w (now (work .entry)) s kind kind1) ⌝ }
 {

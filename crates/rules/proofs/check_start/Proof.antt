@@ -1,3 +1,4 @@
+-- The loop's invariant: the lowest location from l on at which the start is over the whole is the lowest of all.
 use Prim.Native.Nat.{_≤_, _-_}
 use mathlib.Core.Path.{_≡_, refl, ap, _∙_}
 use native.Mathlib.Omega.{arith}
@@ -33,7 +34,10 @@ map-cell-requires c κs = omega arith
 
 returns : tie.Need-returns Inv-loop μ-loop
 unfolding outcome startOutcome startMap refuseOver
-returns c = rw (c .before .before .before .before .loop .inv .1 ∙ over-here _ _ _ _ _ (c .before .before .before .loop-test .taken) (rw (← c .before .map-cell .ensures ∙ ap (mapCell _ _) (c .before .before .index .ensures .0)) (lt-leb _ _ (c .if1 .taken))))
+returns c =
+    rw (c .before .before .before .before .loop .inv .1
+    ∙ over-here _ _ _ _ _ (c .before .before .before .loop-test .taken) (rw (← c .before .map-cell .ensures
+    ∙ ap (mapCell _ _) (c .before .before .index .ensures .0)) (lt-leb _ _ (c .if1 .taken))))
 
 add-l : tie.Need-add-l Inv-loop μ-loop
 add-l c = omega arith
@@ -43,7 +47,12 @@ loop-less c = omega arith
 
 loop-again : tie.Need-loop-again Inv-loop μ-loop
 unfolding startMap
-loop-again c = (omega arith, c .before .before .before .before .loop .inv .1 ∙ over-later _ _ _ _ _ (c .before .before .before .loop-test .taken) (rw (← c .before .map-cell .ensures ∙ ap (mapCell _ _) (c .before .before .index .ensures .0)) (le-leb _ _ (c .if1 .left))))
+loop-again c = (
+  omega arith,
+  c .before .before .before .before .loop .inv .1
+      ∙ over-later _ _ _ _ _ (c .before .before .before .loop-test .taken) (rw (← c .before .map-cell .ensures
+      ∙ ap (mapCell _ _) (c .before .before .index .ensures .0)) (le-leb _ _ (c .if1 .left))),
+)
 
 returns-2 : tie.Need-returns-2 Inv-loop μ-loop
 unfolding outcome startOutcome refuseOver

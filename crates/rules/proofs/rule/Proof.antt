@@ -1,3 +1,4 @@
+-- The start, then the walk over the steps; proofs/Transfer.antt says what they come to for the sheets.
 use Prim.Native.Nat.{_+_}
 use mathlib.Core.Path.{sym, _∙_}
 use Rattle.workspace.specs.Layout.{presAt}
@@ -27,7 +28,8 @@ same-length c = search needs
 returns : tie.Need-returns
 unfolding both
 returns c = record {
-  answers = λ P S H. rw (← start-shown _ _ _ _ P S H, ← c .before .before .check-start .ensures) (sym (refused-stops _ _ (c .enum-told2 .given .1)));
+  answers = λ P S H. rw (← start-shown _ _ _ _ P S H, ← c .before .before .check-start .ensures) (sym
+      (refused-stops _ _ (c .enum-told2 .given .1)));
   changed = changed-nothing presAt (presAt + 256) _;
 }
 
@@ -45,7 +47,8 @@ returns-2 c = record {
   answers = λ P S H.
       c .before .before .check-steps .ensures .0
       ∙ sym (met-goes-on _ _ (c .before .before .before .before .enum-told .given .1))
-      ∙ rw (c .before .before .before .before .before .before .check-start .ensures) (sheets-shown _ _ _ _ P S H (c .before .before .before .before .before .before .before .before .before .pre .0) (c .before .before .before .before .before .before .before .before .before .pre .1));
+      ∙ rw (c .before .before .before .before .before .before .check-start .ensures)
+      (sheets-shown _ _ _ _ P S H (c .before .before .before .before .before .before .before .before .before .pre .0) (c .before .before .before .before .before .before .before .before .before .pre .1));
   changed = c .before .before .check-steps .ensures .1;
 }
 

@@ -6,16 +6,13 @@ use borrow.Author.Needs.{needs}
 use Rattle.rules.proofs.conditions.agree.Statement.{statement}
 use Rattle.rules.proofs.conditions.agree.Tie as tie
 
--- src/conditions.rt:49:9
 returns : tie.Need-returns
 unfolding outcome judge agreeIn
 returns c = rw (eq-eqb _ _ (c .if1 .taken))
 
--- src/conditions.rt:51:5
 type-false-requires : tie.Need-type-false-requires
 type-false-requires c κs = search needs
 
--- src/conditions.rt:45:1
 returns-2 : tie.Need-returns-2
 unfolding agreeIn
 returns-2 c = rw (ne-eqb _ _ (c .before .if1 .left)) (c .type-false .ensures)

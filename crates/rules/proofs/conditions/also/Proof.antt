@@ -7,16 +7,13 @@ use Rattle.rules.proofs.conditions.also.Tie as tie
 enum-told : tie.Need-enum-told
 enum-told c = search needs
 
--- src/conditions.rt:30:9
 enum-told-2 : tie.Need-enum-told-2
 enum-told-2 c = search needs
 
--- src/conditions.rt:30:9
 returns : tie.Need-returns
 unfolding outcome both _>>=_
 returns c = search needs
 
--- src/conditions.rt:26:1
 returns-2 : tie.Need-returns-2
 unfolding outcome both _>>=_
 returns-2 c = search needs

@@ -1,3 +1,4 @@
+-- The loop's invariant: the lowest location from l on at which the relation fails is the lowest of all.
 use Prim.Native.Nat.{_≤_, _-_}
 use mathlib.Core.Path.{_≡_, refl, sym, _∙_}
 use native.Mathlib.Omega.{arith}
@@ -17,32 +18,31 @@ Inv-loop line condition work locations f l₀ l =
 abbrev μ-loop : tie.MeasureT-loop
 μ-loop line condition work locations f l₀ l = locations - l
 
--- src/conditions.rt:74:5
 loop-holds : tie.Need-loop-holds Inv-loop μ-loop
 loop-holds c = (omega arith, rw sub-zero refl)
 
--- src/conditions.rt:75:13
 holds-at-requires : tie.Need-holds-at-requires Inv-loop μ-loop
 holds-at-requires c κs = tt
 
--- src/conditions.rt:76:13
 returns : tie.Need-returns Inv-loop μ-loop
 unfolding outcome judge
-returns c = rw (c .before .before .before .loop .inv .1 ∙ fails-here _ _ _ _ (c .before .before .loop-test .taken) (sym (c .before .holds-at .ensures) ∙ not-true _ (c .if1 .taken)))
+returns c =
+    rw (c .before .before .before .loop .inv .1
+    ∙ fails-here _ _ _ _ (c .before .before .loop-test .taken) (sym (c .before .holds-at .ensures) ∙ not-true _ (c .if1 .taken)))
 
--- src/conditions.rt:82:9
 add-l : tie.Need-add-l Inv-loop μ-loop
 add-l c = omega arith
 
--- src/conditions.rt:74:5
 loop-less : tie.Need-loop-less Inv-loop μ-loop
 loop-less c = omega arith
 
--- src/conditions.rt:74:5
 loop-again : tie.Need-loop-again Inv-loop μ-loop
-loop-again c = (omega arith, c .before .before .before .loop .inv .1 ∙ fails-later _ _ _ _ (c .before .before .loop-test .taken) (sym (c .before .holds-at .ensures) ∙ not-false _ (c .if1 .left)))
+loop-again c = (
+  omega arith,
+  c .before .before .before .loop .inv .1
+      ∙ fails-later _ _ _ _ (c .before .before .loop-test .taken) (sym (c .before .holds-at .ensures) ∙ not-false _ (c .if1 .left)),
+)
 
--- src/conditions.rt:70:1
 returns-2 : tie.Need-returns-2 Inv-loop μ-loop
 unfolding outcome judge
 returns-2 c = rw (c .before .loop .inv .1 ∙ fails-nowhere _ _ _ _ (c .loop-test .left))

@@ -7,23 +7,29 @@ use borrow.Author.Needs.{needs}
 use Rattle.rules.proofs.conditions.has.Statement.{statement}
 use Rattle.rules.proofs.conditions.has.Tie as tie
 
--- src/conditions.rt:131:35
 index-requires : tie.Need-index-requires
 index-requires c κs = search needs
 
--- src/conditions.rt:131:17
 map-cell-requires : tie.Need-map-cell-requires
 map-cell-requires c κs = search needs
 
--- src/conditions.rt:132:9
 returns : tie.Need-returns
 unfolding outcome judge
-returns c = rw (← c .before .map-cell .ensures ∙ ap (mapCell _ _) (c .before .before .index .ensures .0), le-leb _ _ (c .if1 .taken))
+returns c =
+    rw (
+      ← c .before .map-cell .ensures
+          ∙ ap (mapCell _ _) (c .before .before .index .ensures .0),
+      le-leb _ _ (c .if1 .taken),
+    )
 
--- src/conditions.rt:128:1
 returns-2 : tie.Need-returns-2
 unfolding outcome judge
-returns-2 c = rw (← c .before .map-cell .ensures ∙ ap (mapCell _ _) (c .before .before .index .ensures .0), lt-leb _ _ (c .if1 .left))
+returns-2 c =
+    rw (
+      ← c .before .map-cell .ensures
+          ∙ ap (mapCell _ _) (c .before .before .index .ensures .0),
+      lt-leb _ _ (c .if1 .left),
+    )
 
 pub has-spec : {M : Type 1} → statement M
 has-spec = tie.close (tie.spec index-requires map-cell-requires returns returns-2)

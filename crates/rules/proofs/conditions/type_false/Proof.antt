@@ -4,7 +4,6 @@ use mathlib.Core.Path.{refl}
 use Rattle.rules.proofs.conditions.type_false.Statement.{statement}
 use Rattle.rules.proofs.conditions.type_false.Tie as tie
 
--- src/conditions.rt:35:1
 returns : tie.Need-returns
 unfolding outcome judge
 returns c = refl

@@ -4,34 +4,29 @@ use borrow.Author.Needs.{needs}
 use Rattle.rules.proofs.steps.check_step.Statement.{statement}
 use Rattle.rules.proofs.steps.check_step.Tie as tie
 
--- src/steps.rt:67:21
 cell-requires : tie.Need-cell-requires
 cell-requires c κs = search needs
 
--- src/steps.rt:67:9
 word-of-requires : tie.Need-word-of-requires
 word-of-requires c κs = search needs
 
--- src/steps.rt:68:9
 view-of-requires : tie.Need-view-of-requires
 view-of-requires c κs = search needs
 
--- src/steps.rt:69:28
 type-at-requires : tie.Need-type-at-requires
 type-at-requires c κs = search needs
 
--- src/steps.rt:69:50
 type-at-requires-2 : tie.Need-type-at-requires-2
 type-at-requires-2 c κs = search needs
 
--- src/steps.rt:69:5
 check-word-requires : tie.Need-check-word-requires
 check-word-requires c κs = search needs
 
--- src/steps.rt:63:1
 returns : tie.Need-returns
 unfolding stepOutcome viewOf
-returns c = c .check-word .ensures ∙ rw (c .before .type-at2 .ensures, c .before .before .type-at .ensures, c .before .before .before .view-of .ensures, c .before .before .before .before .word-of .ensures, c .before .before .before .before .before .cell .ensures)
+returns c =
+    c .check-word .ensures
+    ∙ rw (c .before .type-at2 .ensures, c .before .before .type-at .ensures, c .before .before .before .view-of .ensures, c .before .before .before .before .word-of .ensures, c .before .before .before .before .before .cell .ensures)
 
 pub check-step-spec : {M : Type 1} → statement M
 check-step-spec =

@@ -1,14 +1,17 @@
+-- The loop's invariant: what is left of the walk over the steps gives the outcome of the whole, and so far only maps before
+-- steps are changed.
 use Prim.Native.Nat.{_+_, _≤_, _-_}
 use mathlib.Core.Path.{_≡_, refl, sym, _∙_}
 use native.Mathlib.Omega.{arith}
 use native.Mathlib.Nat.{sub-zero}
 use borrow.Author.Needs.{needs}
 use lib.ListN.{length, length-set}
+use Rattle.spec.specs.Conditions.{startMap}
 use Rattle.workspace.specs.Layout.{presAt}
 use Rattle.workspace.specs.Region.{ChangedWithin}
 use Rattle.workspace.proofs.Region.{changed-nothing, changed-store, changed-then}
 use Rattle.rules.specs.Outcome.{outcome}
-use Rattle.rules.specs.Walk.{walk}
+use Rattle.rules.specs.Walk.{atRoot, walk}
 use Rattle.rules.proofs.Judged.{refused-stops, met-goes-on}
 use Rattle.rules.proofs.Walking.{walk-more, walk-end, pass-within}
 use Rattle.rules.proofs.steps.check_steps.Statement.{statement}
@@ -24,11 +27,9 @@ Inv-loop work₀ steps denominator locations k₀ work k =
 abbrev μ-loop : tie.MeasureT-loop
 μ-loop work₀ steps denominator locations k₀ work k = steps - k
 
--- src/steps.rt:130:5
 slice-write-work : tie.Need-slice-write-work Inv-loop μ-loop
 slice-write-work c = omega arith
 
--- src/steps.rt:132:5
 loop-holds : tie.Need-loop-holds Inv-loop μ-loop
 loop-holds c = (
   omega arith,
@@ -37,57 +38,57 @@ loop-holds c = (
   rw sub-zero refl,
 )
 
--- src/steps.rt:133:13
 check-step-requires : tie.Need-check-step-requires Inv-loop μ-loop
 check-step-requires c κs = omega arith
 
 enum-told : tie.Need-enum-told Inv-loop μ-loop
 enum-told c = search needs
 
--- src/steps.rt:135:13
 enum-told-2 : tie.Need-enum-told-2 Inv-loop μ-loop
 enum-told-2 c = search needs
 
--- src/steps.rt:135:13
 same-length : tie.Need-same-length Inv-loop μ-loop
 same-length c = search needs
 
--- src/steps.rt:135:13
 returns : tie.Need-returns Inv-loop μ-loop
+unfolding atRoot startMap
 returns c = (
-  sym (c .before .before .before .before .before .loop .inv .3 ∙ walk-more _ _ _ _ _ (c .before .before .before .before .loop-test .taken) ∙ rw (← c .before .before .check-step .ensures) (refused-stops _ _ (c .enum-told2 .given .1))),
+  sym (c .before .before .before .before .before .loop .inv .3
+      ∙ walk-more _ _ _ _ _ (c .before .before .before .before .loop-test .taken)
+      ∙ rw (← c .before .before .check-step .ensures)
+      (refused-stops _ _ (c .enum-told2 .given .1))),
   changed-then presAt (presAt + 256) (changed-store presAt (presAt + 256) _ presAt 0 (omega arith) (omega arith)) (c .before .before .before .before .before .loop .inv .2),
 )
 
--- src/steps.rt:137:9
 pass-on-requires : tie.Need-pass-on-requires Inv-loop μ-loop
 pass-on-requires c κs = (c .before .before .before .before .before .before .loop .inv .1, omega arith)
 
--- src/steps.rt:138:9
 add-k : tie.Need-add-k Inv-loop μ-loop
 add-k c = omega arith
 
--- src/steps.rt:132:5
 loop-less : tie.Need-loop-less Inv-loop μ-loop
 loop-less c = omega arith
 
--- src/steps.rt:132:5
 loop-again : tie.Need-loop-again Inv-loop μ-loop
 loop-again c = (
   omega arith,
   rw (c .before .before .pass-on .ensures) (pass-within _ _ .long ∙ c .before .before .before .before .before .before .before .before .before .loop .inv .1),
   rw (c .before .before .pass-on .ensures) (changed-then presAt (presAt + 256) (c .before .before .before .before .before .before .before .before .before .loop .inv .2) (pass-within _ _)),
-  c .before .before .before .before .before .before .before .before .before .loop .inv .3 ∙ walk-more _ _ _ _ _ (c .before .before .before .before .before .before .before .before .loop-test .taken) ∙ rw (← c .before .before .before .before .before .before .check-step .ensures, c .before .before .pass-on .ensures) (met-goes-on _ _ (c .before .before .before .before .enum-told .given .1)),
+  c .before .before .before .before .before .before .before .before .before .loop .inv .3
+      ∙ walk-more _ _ _ _ _ (c .before .before .before .before .before .before .before .before .loop-test .taken)
+      ∙ rw (← c .before .before .before .before .before .before .check-step .ensures, c .before .before .pass-on .ensures) (met-goes-on _ _ (c .before .before .before .before .enum-told .given .1)),
 )
 
--- src/steps.rt:126:1
 same-length-2 : tie.Need-same-length-2 Inv-loop μ-loop
 same-length-2 c = search needs
 
--- src/steps.rt:126:1
 returns-2 : tie.Need-returns-2 Inv-loop μ-loop
-unfolding outcome
-returns-2 c = (sym (c .before .loop .inv .3 ∙ walk-end _ _ _ _ _ (c .loop-test .left)), changed-then presAt (presAt + 256) (changed-store presAt (presAt + 256) _ presAt 0 (omega arith) (omega arith)) (c .before .loop .inv .2))
+unfolding outcome atRoot startMap
+returns-2 c = (
+  sym (c .before .loop .inv .3
+      ∙ walk-end _ _ _ _ _ (c .loop-test .left)),
+  changed-then presAt (presAt + 256) (changed-store presAt (presAt + 256) _ presAt 0 (omega arith) (omega arith)) (c .before .loop .inv .2),
+)
 
 pub check-steps-spec : {M : Type 1} → statement M
 check-steps-spec =

@@ -5,91 +5,89 @@ use borrow.Author.Needs.{needs}
 use Rattle.rules.proofs.steps.pass_on.Statement.{statement}
 use Rattle.rules.proofs.steps.pass_on.Tie as tie
 
--- src/steps.rt:113:9
 view-of-requires : tie.Need-view-of-requires
 view-of-requires c κs = search needs
 
--- src/steps.rt:114:29
 add-cell : tie.Need-add-cell
 add-cell c = search needs
 
--- src/steps.rt:114:9
 cell-requires : tie.Need-cell-requires
 cell-requires c κs = search needs
 
--- src/steps.rt:115:19
 cell-requires-2 : tie.Need-cell-requires-2
 cell-requires-2 c κs = search needs
 
--- src/steps.rt:115:11
 word-of-requires : tie.Need-word-of-requires
 word-of-requires c κs = search needs
 
 enum-told : tie.Need-enum-told
 enum-told c = search needs
 
--- src/steps.rt:117:21
 enum-known-u : tie.Need-enum-known-u
 enum-known-u c = search needs
 
--- src/steps.rt:117:41
 add-put-pre : tie.Need-add-put-pre
 add-put-pre c = search needs
 
--- src/steps.rt:117:48
 pre-of-part-requires : tie.Need-pre-of-part-requires
 pre-of-part-requires c κs = search needs
 
--- src/steps.rt:117:27
 put-pre-requires : tie.Need-put-pre-requires
 put-pre-requires c κs = search needs
 
--- src/steps.rt:118:22
 enum-known-b : tie.Need-enum-known-b
 enum-known-b c = search needs
 
--- src/steps.rt:119:27
 add-put-pre-2 : tie.Need-add-put-pre-2
 add-put-pre-2 c = search needs
 
--- src/steps.rt:119:13
 put-pre-requires-2 : tie.Need-put-pre-requires-2
 put-pre-requires-2 c κs = search needs
 
--- src/steps.rt:120:35
 pre-of-second-requires : tie.Need-pre-of-second-requires
 pre-of-second-requires c κs = search needs
 
--- src/steps.rt:120:13
 put-pre-requires-3 : tie.Need-put-pre-requires-3
 put-pre-requires-3 c κs = search needs
 
--- src/steps.rt:109:1
 same-length : tie.Need-same-length
 same-length c = search needs
 
--- src/steps.rt:109:1
 returns : tie.Need-returns
 unfolding passOn passWord
-returns c = rw (sym (c .before .before .word-of .ensures ∙ ap wordOf (c .before .before .before .cell2 .ensures)) ∙ c .enum-told .given .1)
+returns c =
+    rw (sym (c .before .before .word-of .ensures
+    ∙ ap wordOf (c .before .before .before .cell2 .ensures)) ∙ c .enum-told .given .1)
 
--- src/steps.rt:109:1
 same-length-2 : tie.Need-same-length-2
 same-length-2 c = search needs
 
--- src/steps.rt:109:1
 returns-2 : tie.Need-returns-2
 unfolding passOn passWord viewOf
-returns-2 c = c .before .before .put-pre .ensures ∙ rw (c .before .before .before .pre-of-part .ensures, c .before .before .before .before .before .before .before .before .before .before .before .before .before .view-of .ensures, sym (c .before .before .before .before .before .before .before .before .word-of .ensures ∙ ap wordOf (c .before .before .before .before .before .before .before .before .before .cell2 .ensures)) ∙ c .before .before .before .before .before .before .u .given .1)
+returns-2 c =
+    c .before .before .put-pre .ensures
+    ∙ rw (
+      c .before .before .before .pre-of-part .ensures,
+      c .before .before .before .before .before .before .before .before .before .before .before .before .before .view-of .ensures,
+      sym (c .before .before .before .before .before .before .before .before .word-of .ensures
+          ∙ ap wordOf (c .before .before .before .before .before .before .before .before .before .cell2 .ensures)) ∙ c .before .before .before .before .before .before .u .given .1,
+    )
 
--- src/steps.rt:109:1
 same-length-3 : tie.Need-same-length-3
 same-length-3 c = search needs
 
--- src/steps.rt:109:1
 returns-3 : tie.Need-returns-3
 unfolding passOn passWord viewOf
-returns-3 c = c .before .before .put-pre3 .ensures ∙ rw (c .before .before .before .before .before .before .before .put-pre2 .ensures, c .before .before .before .pre-of-second .ensures, c .before .before .before .before .before .before .before .before .before .before .before .before .before .before .before .cell .ensures, c .before .before .before .before .before .before .before .before .before .before .before .before .before .before .before .before .before .view-of .ensures, sym (c .before .before .before .before .before .before .before .before .before .before .before .before .word-of .ensures ∙ ap wordOf (c .before .before .before .before .before .before .before .before .before .before .before .before .before .cell2 .ensures)) ∙ c .before .before .before .before .before .before .before .before .before .before .b .given .1)
+returns-3 c =
+    c .before .before .put-pre3 .ensures
+    ∙ rw (
+      c .before .before .before .before .before .before .before .put-pre2 .ensures,
+      c .before .before .before .pre-of-second .ensures,
+      c .before .before .before .before .before .before .before .before .before .before .before .before .before .before .before .cell .ensures,
+      c .before .before .before .before .before .before .before .before .before .before .before .before .before .before .before .before .before .view-of .ensures,
+      sym (c .before .before .before .before .before .before .before .before .before .before .before .before .word-of .ensures
+          ∙ ap wordOf (c .before .before .before .before .before .before .before .before .before .before .before .before .before .cell2 .ensures)) ∙ c .before .before .before .before .before .before .before .before .before .before .b .given .1,
+    )
 
 pub pass-on-spec : {M : Type 1} → statement M
 pass-on-spec =

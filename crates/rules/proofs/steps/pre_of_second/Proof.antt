@@ -3,38 +3,30 @@ use borrow.Author.Needs.{needs}
 use Rattle.rules.proofs.steps.pre_of_second.Statement.{statement}
 use Rattle.rules.proofs.steps.pre_of_second.Tie as tie
 
--- src/steps.rt:101:28
 enum-told : tie.Need-enum-told
 enum-told c = search needs
 
--- src/steps.rt:102:27
 enum-told-2 : tie.Need-enum-told-2
 enum-told-2 c = search needs
 
--- src/steps.rt:103:30
 enum-told-3 : tie.Need-enum-told-3
 enum-told-3 c = search needs
 
--- src/steps.rt:104:30
 enum-told-4 : tie.Need-enum-told-4
 enum-told-4 c = search needs
 
--- src/steps.rt:97:1
 returns : tie.Need-returns
 unfolding preOfSecond
 returns c = rw (c .enum-told .given .1)
 
--- src/steps.rt:97:1
 returns-2 : tie.Need-returns-2
 unfolding preOfSecond
 returns-2 c = rw (c .enum-told2 .given .1)
 
--- src/steps.rt:97:1
 returns-3 : tie.Need-returns-3
 unfolding preOfSecond
 returns-3 c = rw (c .enum-told3 .given .1)
 
--- src/steps.rt:97:1
 returns-4 : tie.Need-returns-4
 unfolding preOfSecond
 returns-4 c = rw (c .enum-told4 .given .1)

@@ -3,54 +3,42 @@ use borrow.Author.Needs.{needs}
 use Rattle.rules.proofs.words.check_binary.Statement.{statement}
 use Rattle.rules.proofs.words.check_binary.Tie as tie
 
--- src/words.rt:213:28
 enum-told : tie.Need-enum-told
 enum-told c = search needs
 
--- src/words.rt:213:28
 check-let-requires : tie.Need-check-let-requires
 check-let-requires c κs = search needs
 
--- src/words.rt:214:27
 enum-told-2 : tie.Need-enum-told-2
 enum-told-2 c = search needs
 
--- src/words.rt:214:27
 check-if-requires : tie.Need-check-if-requires
 check-if-requires c κs = search needs
 
--- src/words.rt:215:30
 enum-told-3 : tie.Need-enum-told-3
 enum-told-3 c = search needs
 
--- src/words.rt:215:30
 check-spawn-requires : tie.Need-check-spawn-requires
 check-spawn-requires c κs = search needs
 
--- src/words.rt:216:30
 enum-told-4 : tie.Need-enum-told-4
 enum-told-4 c = search needs
 
--- src/words.rt:216:30
 check-write-requires : tie.Need-check-write-requires
 check-write-requires c κs = search needs
 
--- src/words.rt:209:1
 returns : tie.Need-returns
 unfolding binaryRow
 returns c = rw (c .before .enum-told .given .1) (c .check-let .ensures)
 
--- src/words.rt:209:1
 returns-2 : tie.Need-returns-2
 unfolding binaryRow
 returns-2 c = rw (c .before .enum-told2 .given .1) (c .check-if .ensures)
 
--- src/words.rt:209:1
 returns-3 : tie.Need-returns-3
 unfolding binaryRow
 returns-3 c = rw (c .before .enum-told3 .given .1) (c .check-spawn .ensures)
 
--- src/words.rt:209:1
 returns-4 : tie.Need-returns-4
 unfolding binaryRow
 returns-4 c = rw (c .before .enum-told4 .given .1) (c .check-write .ensures)

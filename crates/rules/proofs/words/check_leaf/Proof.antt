@@ -3,54 +3,42 @@ use borrow.Author.Needs.{needs}
 use Rattle.rules.proofs.words.check_leaf.Statement.{statement}
 use Rattle.rules.proofs.words.check_leaf.Tie as tie
 
--- src/words.rt:188:26
 enum-told : tie.Need-enum-told
 enum-told c = search needs
 
--- src/words.rt:188:26
 check-var-requires : tie.Need-check-var-requires
 check-var-requires c κs = search needs
 
--- src/words.rt:189:26
 enum-told-2 : tie.Need-enum-told-2
 enum-told-2 c = search needs
 
--- src/words.rt:189:26
 check-int-requires : tie.Need-check-int-requires
 check-int-requires c κs = search needs
 
--- src/words.rt:190:29
 enum-told-3 : tie.Need-enum-told-3
 enum-told-3 c = search needs
 
--- src/words.rt:190:29
 check-newtid-requires : tie.Need-check-newtid-requires
 check-newtid-requires c κs = search needs
 
--- src/words.rt:191:30
 enum-told-4 : tie.Need-enum-told-4
 enum-told-4 c = search needs
 
--- src/words.rt:191:30
 check-newlock-requires : tie.Need-check-newlock-requires
 check-newlock-requires c κs = search needs
 
--- src/words.rt:184:1
 returns : tie.Need-returns
 unfolding leafRow
 returns c = rw (c .before .enum-told .given .1) (c .check-var .ensures)
 
--- src/words.rt:184:1
 returns-2 : tie.Need-returns-2
 unfolding leafRow
 returns-2 c = rw (c .before .enum-told2 .given .1) (c .check-int .ensures)
 
--- src/words.rt:184:1
 returns-3 : tie.Need-returns-3
 unfolding leafRow
 returns-3 c = rw (c .before .enum-told3 .given .1) (c .check-newtid .ensures)
 
--- src/words.rt:184:1
 returns-4 : tie.Need-returns-4
 unfolding leafRow
 returns-4 c = rw (c .before .enum-told4 .given .1) (c .check-newlock .ensures)

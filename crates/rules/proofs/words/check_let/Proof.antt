@@ -3,19 +3,15 @@ use borrow.Author.Needs.{needs}
 use Rattle.rules.proofs.words.check_let.Statement.{statement}
 use Rattle.rules.proofs.words.check_let.Tie as tie
 
--- src/words.rt:42:9
 agree-requires : tie.Need-agree-requires
 agree-requires c κs = search needs
 
--- src/words.rt:43:9
 equal-requires : tie.Need-equal-requires
 equal-requires c κs = search needs
 
--- src/words.rt:41:5
 also-requires : tie.Need-also-requires
 also-requires c κs = search needs
 
--- src/words.rt:38:1
 returns : tie.Need-returns
 returns c = next _ _ _ _ _ _ (c .also .ensures) (c .before .before .agree .ensures) (last _ _ _ (c .before .equal .ensures))
 

@@ -6,23 +6,18 @@ use borrow.Author.Needs.{needs}
 use Rattle.rules.proofs.words.check_newlock.Statement.{statement}
 use Rattle.rules.proofs.words.check_newlock.Tie as tie
 
--- src/words.rt:153:24
 enum-known-kind : tie.Need-enum-known-kind
 enum-known-kind c = search needs
 
--- src/words.rt:154:9
 type-false-requires : tie.Need-type-false-requires
 type-false-requires c κs = search needs
 
--- src/words.rt:154:9
 returns : tie.Need-returns
 returns c = fail _ _ _ _ (not-lock _ (c .before .match .keys2)) (c .type-false .ensures)
 
--- src/words.rt:156:5
 sum-requires : tie.Need-sum-requires
 sum-requires c κs = search needs
 
--- src/words.rt:150:1
 returns-2 : tie.Need-returns-2
 unfolding isLock load
 returns-2 c = rw (c .before .before .kind .given .1) (pass _ _ _ _ refl (last _ _ _ (c .sum .ensures)))

@@ -9,19 +9,15 @@ use Rattle.rules.proofs.words.check_newtid.Tie as tie
 enum-told : tie.Need-enum-told
 enum-told c = search needs
 
--- src/words.rt:77:9
 type-false-requires : tie.Need-type-false-requires
 type-false-requires c κs = search needs
 
--- src/words.rt:77:9
 returns : tie.Need-returns
 returns c = fail _ _ _ _ (not-tid _ (c .before .match .keys2)) (c .type-false .ensures)
 
--- src/words.rt:79:5
 equal-requires : tie.Need-equal-requires
 equal-requires c κs = search needs
 
--- src/words.rt:73:1
 returns-2 : tie.Need-returns-2
 unfolding isTid
 returns-2 c = pass _ _ _ _ (ap isTid (c .before .enum-told .given .1)) (last _ _ _ (c .equal .ensures))

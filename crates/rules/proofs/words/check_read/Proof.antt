@@ -7,42 +7,38 @@ use borrow.Author.Needs.{needs}
 use Rattle.rules.proofs.words.check_read.Statement.{statement}
 use Rattle.rules.proofs.words.check_read.Tie as tie
 
--- src/words.rt:124:23
 enum-known-kind1 : tie.Need-enum-known-kind1
 enum-known-kind1 c = search needs
 
--- src/words.rt:125:9
 type-false-requires : tie.Need-type-false-requires
 type-false-requires c κs = search needs
 
--- src/words.rt:125:9
 returns : tie.Need-returns
 returns c = fail _ _ _ _ (not-ref _ (c .before .match .keys2)) (c .type-false .ensures)
 
--- src/words.rt:128:9
 equal-requires : tie.Need-equal-requires
 equal-requires c κs = search needs
 
--- src/words.rt:129:9
 has-requires : tie.Need-has-requires
 has-requires c κs = search needs
 
--- src/words.rt:127:9
 also-requires : tie.Need-also-requires
 also-requires c κs = search needs
 
--- src/words.rt:131:10
 agree-requires : tie.Need-agree-requires
 agree-requires c κs = search needs
 
--- src/words.rt:131:5
 also-requires-2 : tie.Need-also-requires-2
 also-requires-2 c κs = search needs
 
--- src/words.rt:121:1
 returns-2 : tie.Need-returns-2
 unfolding isRef place containsIn
-returns-2 c = rw (c .before .before .before .before .before .before .kind1 .given .1) (pass _ _ _ _ refl (next _ _ _ _ _ _ (c .also2 .ensures) (c .before .agree .ensures) (next _ _ _ _ _ _ (c .before .before .also .ensures) (c .before .before .before .before .equal .ensures) (last _ _ _ (c .before .before .before .has .ensures)))))
+returns-2 c =
+    rw (c .before .before .before .before .before .before .kind1 .given .1)
+    (pass _ _ _ _ refl
+    (next _ _ _ _ _ _ (c .also2 .ensures) (c .before .agree .ensures)
+    (next _ _ _ _ _ _ (c .before .before .also .ensures) (c .before .before .before .before .equal .ensures)
+    (last _ _ _ (c .before .before .before .has .ensures)))))
 
 pub check-read-spec : {M : Type 1} → statement M
 check-read-spec =

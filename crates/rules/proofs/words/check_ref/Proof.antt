@@ -5,34 +5,30 @@ use borrow.Author.Needs.{needs}
 use Rattle.rules.proofs.words.check_ref.Statement.{statement}
 use Rattle.rules.proofs.words.check_ref.Tie as tie
 
--- src/words.rt:112:26
 enum-known-kind : tie.Need-enum-known-kind
 enum-known-kind c = search needs
 
--- src/words.rt:113:9
 type-false-requires : tie.Need-type-false-requires
 type-false-requires c κs = search needs
 
--- src/words.rt:113:9
 returns : tie.Need-returns
 returns c = fail _ _ _ _ (not-contains _ _ _ (c .before .match .keys2)) (c .type-false .ensures)
 
--- src/words.rt:116:9
 agree-requires : tie.Need-agree-requires
 agree-requires c κs = search needs
 
--- src/words.rt:117:9
 equal-requires : tie.Need-equal-requires
 equal-requires c κs = search needs
 
--- src/words.rt:115:5
 also-requires : tie.Need-also-requires
 also-requires c κs = search needs
 
--- src/words.rt:109:1
 returns-2 : tie.Need-returns-2
 unfolding containsIn
-returns-2 c = rw (c .before .before .before .before .kind .given .1) (next _ _ _ _ _ _ (c .also .ensures) (c .before .before .agree .ensures) (last _ _ _ (c .before .equal .ensures)))
+returns-2 c =
+    rw (c .before .before .before .before .kind .given .1)
+    (next _ _ _ _ _ _ (c .also .ensures) (c .before .before .agree .ensures)
+    (last _ _ _ (c .before .equal .ensures)))
 
 pub check-ref-spec : {M : Type 1} → statement M
 check-ref-spec =

@@ -9,43 +9,41 @@ use Rattle.rules.proofs.words.check_spawn.Tie as tie
 enum-told : tie.Need-enum-told
 enum-told c = search needs
 
--- src/words.rt:86:9
 type-false-requires : tie.Need-type-false-requires
 type-false-requires c κs = search needs
 
--- src/words.rt:86:9
 returns : tie.Need-returns
 returns c = fail _ _ _ _ (not-int _ (c .before .match .keys2)) (c .type-false .ensures)
 
--- src/words.rt:88:23
 enum-known-kind1 : tie.Need-enum-known-kind1
 enum-known-kind1 c = search needs
 
--- src/words.rt:89:9
 type-false-requires-2 : tie.Need-type-false-requires-2
 type-false-requires-2 c κs = search needs
 
--- src/words.rt:89:9
 returns-2 : tie.Need-returns-2
 unfolding isInt
-returns-2 c = pass _ _ _ _ (ap isInt (c .before .before .enum-told .given .1)) (fail _ _ _ _ (not-tid _ (c .before .match2 .keys2)) (c .type-false2 .ensures))
+returns-2 c =
+    pass _ _ _ _ (ap isInt (c .before .before .enum-told .given .1))
+    (fail _ _ _ _ (not-tid _ (c .before .match2 .keys2)) (c .type-false2 .ensures))
 
--- src/words.rt:92:9
 at-least-requires : tie.Need-at-least-requires
 at-least-requires c κs = search needs
 
--- src/words.rt:93:9
 sum-requires : tie.Need-sum-requires
 sum-requires c κs = search needs
 
--- src/words.rt:91:5
 also-requires : tie.Need-also-requires
 also-requires c κs = search needs
 
--- src/words.rt:82:1
 returns-3 : tie.Need-returns-3
 unfolding isInt isTid load
-returns-3 c = rw (c .before .before .before .before .before .before .enum-told .given .1, c .before .before .before .before .kind1 .given .1) (pass _ _ _ _ refl (pass _ _ _ _ refl (next _ _ _ _ _ _ (c .also .ensures) (c .before .before .at-least .ensures) (last _ _ _ (c .before .sum .ensures)))))
+returns-3 c =
+    rw (c .before .before .before .before .before .before .enum-told .given .1, c .before .before .before .before .kind1 .given .1)
+    (pass _ _ _ _ refl
+    (pass _ _ _ _ refl
+    (next _ _ _ _ _ _ (c .also .ensures) (c .before .before .at-least .ensures)
+    (last _ _ _ (c .before .sum .ensures)))))
 
 pub check-spawn-spec : {M : Type 1} → statement M
 check-spawn-spec =

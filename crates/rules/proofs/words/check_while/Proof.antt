@@ -9,30 +9,27 @@ use Rattle.rules.proofs.words.check_while.Tie as tie
 enum-told : tie.Need-enum-told
 enum-told c = search needs
 
--- src/words.rt:65:9
 type-false-requires : tie.Need-type-false-requires
 type-false-requires c κs = search needs
 
--- src/words.rt:65:9
 returns : tie.Need-returns
 returns c = fail _ _ _ _ (not-int _ (c .before .match .keys2)) (c .type-false .ensures)
 
--- src/words.rt:68:9
 at-least-requires : tie.Need-at-least-requires
 at-least-requires c κs = search needs
 
--- src/words.rt:69:9
 at-least-requires-2 : tie.Need-at-least-requires-2
 at-least-requires-2 c κs = search needs
 
--- src/words.rt:67:5
 also-requires : tie.Need-also-requires
 also-requires c κs = search needs
 
--- src/words.rt:61:1
 returns-2 : tie.Need-returns-2
 unfolding isInt
-returns-2 c = pass _ _ _ _ (ap isInt (c .before .before .before .enum-told .given .1)) (next _ _ _ _ _ _ (c .also .ensures) (c .before .before .at-least .ensures) (last _ _ _ (c .before .at-least2 .ensures)))
+returns-2 c =
+    pass _ _ _ _ (ap isInt (c .before .before .before .before .enum-told .given .1))
+    (next _ _ _ _ _ _ (c .also .ensures) (c .before .before .at-least .ensures)
+    (last _ _ _ (c .before .at-least2 .ensures)))
 
 pub check-while-spec : {M : Type 1} → statement M
 check-while-spec =

@@ -3,41 +3,32 @@ use borrow.Author.Needs.{needs}
 use Rattle.rules.proofs.words.check_word.Statement.{statement}
 use Rattle.rules.proofs.words.check_word.Tie as tie
 
--- src/words.rt:224:20
 enum-known-w : tie.Need-enum-known-w
 enum-known-w c = search needs
 
--- src/words.rt:224:26
 check-leaf-requires : tie.Need-check-leaf-requires
 check-leaf-requires c κs = search needs
 
--- src/words.rt:225:21
 enum-known-w-2 : tie.Need-enum-known-w-2
 enum-known-w-2 c = search needs
 
--- src/words.rt:225:27
 check-unary-requires : tie.Need-check-unary-requires
 check-unary-requires c κs = search needs
 
--- src/words.rt:226:22
 enum-known-w-3 : tie.Need-enum-known-w-3
 enum-known-w-3 c = search needs
 
--- src/words.rt:226:28
 check-binary-requires : tie.Need-check-binary-requires
 check-binary-requires c κs = search needs
 
--- src/words.rt:220:1
 returns : tie.Need-returns
 unfolding wordRow
 returns c = rw (c .before .before .w .given .1) (c .check-leaf .ensures)
 
--- src/words.rt:220:1
 returns-2 : tie.Need-returns-2
 unfolding wordRow
 returns-2 c = rw (c .before .before .w2 .given .1) (c .check-unary .ensures)
 
--- src/words.rt:220:1
 returns-3 : tie.Need-returns-3
 unfolding wordRow
 returns-3 c = rw (c .before .before .w3 .given .1) (c .check-binary .ensures)

@@ -10,51 +10,48 @@ use Rattle.rules.proofs.words.check_write.Tie as tie
 enum-told : tie.Need-enum-told
 enum-told c = search needs
 
--- src/words.rt:138:9
 type-false-requires : tie.Need-type-false-requires
 type-false-requires c κs = search needs
 
--- src/words.rt:138:9
 returns : tie.Need-returns
 returns c = fail _ _ _ _ (not-int _ (c .before .match .keys2)) (c .type-false .ensures)
 
--- src/words.rt:140:23
 enum-known-kind1 : tie.Need-enum-known-kind1
 enum-known-kind1 c = search needs
 
--- src/words.rt:141:9
 type-false-requires-2 : tie.Need-type-false-requires-2
 type-false-requires-2 c κs = search needs
 
--- src/words.rt:141:9
 returns-2 : tie.Need-returns-2
 unfolding isInt
-returns-2 c = pass _ _ _ _ (ap isInt (c .before .before .enum-told .given .1)) (fail _ _ _ _ (not-ref _ (c .before .match2 .keys2)) (c .type-false2 .ensures))
+returns-2 c =
+    pass _ _ _ _ (ap isInt (c .before .before .enum-told .given .1))
+    (fail _ _ _ _ (not-ref _ (c .before .match2 .keys2)) (c .type-false2 .ensures))
 
--- src/words.rt:144:9
 equal-requires : tie.Need-equal-requires
 equal-requires c κs = search needs
 
--- src/words.rt:145:9
 has-requires : tie.Need-has-requires
 has-requires c κs = search needs
 
--- src/words.rt:143:9
 also-requires : tie.Need-also-requires
 also-requires c κs = search needs
 
--- src/words.rt:147:10
 agree-requires : tie.Need-agree-requires
 agree-requires c κs = search needs
 
--- src/words.rt:147:5
 also-requires-2 : tie.Need-also-requires-2
 also-requires-2 c κs = search needs
 
--- src/words.rt:134:1
 returns-3 : tie.Need-returns-3
 unfolding isInt isRef place containsIn
-returns-3 c = rw (c .before .before .before .before .before .before .before .before .enum-told .given .1, c .before .before .before .before .before .before .kind1 .given .1) (pass _ _ _ _ refl (pass _ _ _ _ refl (next _ _ _ _ _ _ (c .also2 .ensures) (c .before .agree .ensures) (next _ _ _ _ _ _ (c .before .before .also .ensures) (c .before .before .before .before .equal .ensures) (last _ _ _ (c .before .before .before .has .ensures))))))
+returns-3 c =
+    rw (c .before .before .before .before .before .before .before .before .enum-told .given .1, c .before .before .before .before .before .before .kind1 .given .1)
+    (pass _ _ _ _ refl
+    (pass _ _ _ _ refl
+    (next _ _ _ _ _ _ (c .also2 .ensures) (c .before .agree .ensures)
+    (next _ _ _ _ _ _ (c .before .before .also .ensures) (c .before .before .before .before .equal .ensures)
+    (last _ _ _ (c .before .before .before .has .ensures))))))
 
 pub check-write-spec : {M : Type 1} → statement M
 check-write-spec =
