@@ -7,7 +7,8 @@ use lib.Dec.{leb, ltb}
 use lib.ListN.{length}
 use borrow.Author.Tests.{le-leb, lt-ltb}
 use Rattle.spec.specs.Expression.{Step, Expr, leaf, unary, binary}
-use Rattle.spec.specs.Split.{Split}
+use Rattle.spec.specs.Split.{Map, Split}
+use Rattle.spec.specs.Maps.{_=ᵐ_, _≥ᵐ_, _+ᵐ_, share}
 use Rattle.spec.specs.Conditions.{Env, typeIn, mapAt, agree, contains, row, type, kind, post, start, K, place, load, own}
 use Rattle.spec.specs.Ranges.{InRange}
 use Rattle.spec.specs.declared.MapNumber.{MapNumber}
@@ -21,7 +22,10 @@ use Rattle.spec.specs.declared.UnaryWord.the-variants.{While, Join, Ref, Read, 
 use Rattle.spec.specs.declared.BinaryWord.{BinaryWord}
 use Rattle.spec.specs.declared.BinaryWord.the-variants.{Let, If, Spawn, Write}
 use Rattle.workspace.specs.Layout as layout
+use Rattle.workspace.specs.Layout.{mapCell}
 use Rattle.workspace.specs.Holds.{HoldsSplit}
+use Rattle.rules.specs.Relation.{failsFrom}
+use Rattle.rules.specs.declared.Relation.the-variants.{Equal, AtLeast, Sum}
 use Rattle.rules.specs.Table.{agreeIn, containsIn, leafRow, unaryRow, binaryRow}
 use Rattle.rules.specs.declared.View.{View}
 use Rattle.rules.proofs.Shown.{type-shown, place-in, load-in, has-shown, equal-shown, at-least-shown, sum-shown, is-sum-shown}
@@ -45,6 +49,11 @@ pub record Part (S : Split) (t : TypeNumber) (m : MapNumber) (e : Expr) : Type 0
   pub type-in : row S e .type .0 < length (S .types)
   pub post-in : row S e .post .0 < length (S .maps)
 
+-- the map with a number
+record Stands (S : Split) (m : MapNumber) (x : Map) : Type 0 where
+  pub inside : m .0 < length (S .maps)
+  pub is : mapAt S m ≡ x
+
 -- a `var` shows the type of its let's e1
 abbrev pub Bound : LeafWord → View → Env → (v : ℕ) → Type 0
 Bound Var s Γ v = s .bound ≡ typeIn Γ v
@@ -55,141 +64,113 @@ Bound Newlock s Γ v = Unit {0}
 module _ (w : List ℕ) (S : Split) (steps : List Step) (H : HoldsSplit w S) (R : InRange steps S)
     (s : View) (located : s .locations ≡ S .header .locations) (divided : s .denominator ≡ S .header .denominator)
     (Γ : Env) (pre : MapNumber) (pred : s .pre ≡ pre) (pre-in : pre .0 < length (S .maps)) (l v : ℕ) where
+  -- ---------------------------------------------------------------- types and maps that the view shows
+
   typed-as : {t : TypeNumber} {m : MapNumber} (e : Expr) → Part S t m e → layout.typeAt w t ≡ kind S e
   unfolding kind type
   typed-as e p = ap (layout.typeAt w) (p .typed) ∙ type-shown w S steps H R _ (p .type-in)
 
-  load-of : {t : TypeNumber} {m : MapNumber} (e : Expr) → Part S t m e → load (kind S e) .0 < length (S .maps)
-  unfolding kind type
-  load-of e p = load-in w S steps H R _ (p .type-in)
+  pre-stands : Stands S (s .pre) (mapAt S pre)
+  pre-stands = record { inside = rw pred pre-in; is = ap (mapAt S) pred }
 
-  place-of : {t : TypeNumber} {m : MapNumber} (e : Expr) → Part S t m e → place (kind S e) .0 < S .header .locations
+  post-stands : {t : TypeNumber} {m : MapNumber} (e : Expr) → Part S t m e → Stands S m (post S e)
+  unfolding post
+  post-stands e p = record { inside = rw (p .posted) (p .post-in); is = ap (mapAt S) (p .posted) }
+
+  load-stands : {t : TypeNumber} {m : MapNumber} (e : Expr) → Part S t m e → Stands S (load (layout.typeAt w t)) (K S e)
+  unfolding kind type K
+  load-stands e p = record {
+    inside = rw (typed-as e p) (load-in w S steps H R _ (p .type-in));
+    is = ap (λ (x : TypeLine). mapAt S (load x)) (typed-as e p);
+  }
+
+  -- ---------------------------------------------------------------- flow and access
+
+  module _ {a b : MapNumber} {x y : Map} (p : Stands S a x) (q : Stands S b y) where
+    equal : failsFrom w (Equal a b) 0 (s .locations) ≡ (x =ᵐ y)
+    equal = rw (located, equal-shown w S steps H R a b (p .inside) (q .inside), p .is, q .is)
+
+    at-least : failsFrom w (AtLeast a b) 0 (s .locations) ≡ (x ≥ᵐ y)
+    at-least = rw (located, at-least-shown w S steps H R a b (p .inside) (q .inside), p .is, q .is)
+
+    module _ {c : MapNumber} {z : Map} (r : Stands S c z) where
+      sum : failsFrom w (Sum a b c) 0 (s .locations) ≡ (x +ᵐ y =ᵐ z)
+      sum = rw (located, sum-shown w S steps H R a b (p .inside) (q .inside) c (r .inside), p .is, q .is, r .is)
+
+      is-sum : failsFrom w (Sum a b c) 0 (s .locations) ≡ (z =ᵐ x +ᵐ y)
+      is-sum = rw (located, is-sum-shown w S steps H R a b (p .inside) (q .inside) c (r .inside), p .is, q .is, r .is)
+
+  shares : {t u : TypeNumber} {m n : MapNumber} (e e₁ : Expr) → Part S t m e → Part S u n e₁
+      → mapCell w m (place (kind S e₁) .0) ≡ share (post S e) (place (kind S e₁))
   unfolding kind type
-  place-of e p = place-in w S steps H R _ (p .type-in)
+  shares e e₁ o f =
+      let p : Stands S _ (post S e) = post-stands e o in
+      rw (← p .is) (has-shown w S steps H R _ _ (p .inside) (place-in w S steps H R _ (f .type-in)))
+
+  -- ---------------------------------------------------------------- the table
 
   pub leaf-shown : (x : LeafWord) → Part S (s .own) (s .post) (leaf x l v) → Bound x s Γ v
       → leafRow x w s (layout.typeAt w (s .own)) (layout.typeAt w (s .type1)) ≡ own S Γ (mapAt S pre) (leaf x l v)
-  unfolding leafRow own type post K agreeIn agree
-  leaf-shown Var o b = rw (located, pred, o .typed, b, o .posted, equal-shown w S steps H R _ _ (o .post-in) pre-in)
-  leaf-shown Int o b = rw (located, pred, typed-as _ o, o .posted, equal-shown w S steps H R _ _ (o .post-in) pre-in)
-  leaf-shown Newtid o b = rw (located, pred, typed-as _ o, o .posted, equal-shown w S steps H R _ _ (o .post-in) pre-in)
-  leaf-shown Newlock o b =
-      rw (located, pred, typed-as _ o, o .posted, sum-shown w S steps H R _ _ (o .post-in) (load-of _ o) _ pre-in)
+  unfolding leafRow own type agreeIn agree
+  leaf-shown Var o b = rw (equal (post-stands _ o) pre-stands, o .typed, b)
+  leaf-shown Int o b = rw (equal (post-stands _ o) pre-stands, typed-as _ o)
+  leaf-shown Newtid o b = rw (equal (post-stands _ o) pre-stands, typed-as _ o)
+  leaf-shown Newlock o b = rw (sum (post-stands _ o) (load-stands _ o) pre-stands, typed-as _ o)
 
   module _ (e₁ : Expr) (f : Part S (s .type1) (s .post1) e₁) where
     pub unary-shown : (x : UnaryWord) → Part S (s .own) (s .post) (unary x l v e₁)
         → unaryRow x w s (layout.typeAt w (s .own)) (layout.typeAt w (s .type1)) ≡ own S Γ (mapAt S pre) (unary x l v e₁)
-    unfolding unaryRow own type post K
+    unfolding unaryRow own type
     unary-shown While o =
-        rw (
-          located,
-          pred,
-          typed-as _ o,
-          o .posted,
-          f .posted,
-          at-least-shown w S steps H R _ _ pre-in (o .post-in),
-          at-least-shown w S steps H R _ _ (f .post-in) (o .post-in),
-        )
+        rw (at-least pre-stands (post-stands _ o), at-least (post-stands _ f) (post-stands _ o), typed-as _ o)
     unary-shown Join o =
-        rw (
-          located,
-          typed-as _ o,
-          typed-as _ f,
-          o .posted,
-          f .posted,
-          is-sum-shown w S steps H R _ _ (f .post-in) (load-of _ f) _ (o .post-in),
-        )
+        rw (is-sum (post-stands _ f) (load-stands _ f) (post-stands _ o), typed-as _ o, typed-as _ f)
     unary-shown Ref o =
-        rw (
-          located,
-          typed-as _ o,
-          f .typed,
-          contains-shown w S,
-          o .posted,
-          f .posted,
-          equal-shown w S steps H R _ _ (o .post-in) (f .post-in),
-        )
+        rw (equal (post-stands _ o) (post-stands _ f), typed-as _ o, contains-shown w S, f .typed)
     unary-shown Read o =
         rw (
-          located,
+          equal (post-stands _ o) (post-stands _ f),
           typed-as _ f,
-          o .typed,
           contains-shown w S,
-          o .posted,
-          f .posted,
-          equal-shown w S steps H R _ _ (o .post-in) (f .post-in),
-          has-shown w S steps H R _ _ (o .post-in) (place-of _ f),
+          o .typed,
           some-is-one,
+          shares _ _ o f,
         )
     unary-shown Freelock o =
-        rw (
-          located,
-          typed-as _ o,
-          typed-as _ f,
-          o .posted,
-          f .posted,
-          is-sum-shown w S steps H R _ _ (f .post-in) (load-of _ f) _ (o .post-in),
-        )
+        rw (is-sum (post-stands _ f) (load-stands _ f) (post-stands _ o), typed-as _ o, typed-as _ f)
     unary-shown Lock o =
-        rw (
-          located,
-          typed-as _ o,
-          typed-as _ f,
-          o .posted,
-          f .posted,
-          is-sum-shown w S steps H R _ _ (f .post-in) (load-of _ f) _ (o .post-in),
-        )
+        rw (is-sum (post-stands _ f) (load-stands _ f) (post-stands _ o), typed-as _ o, typed-as _ f)
     unary-shown Unlock o =
-        rw (
-          located,
-          typed-as _ o,
-          typed-as _ f,
-          o .posted,
-          f .posted,
-          sum-shown w S steps H R _ _ (o .post-in) (load-of _ f) _ (f .post-in),
-        )
+        rw (sum (post-stands _ o) (load-stands _ f) (post-stands _ f), typed-as _ o, typed-as _ f)
 
     module _ (e₂ : Expr) (g : Part S (s .type2) (s .post2) e₂) where
       pub binary-shown : (x : BinaryWord) → Part S (s .own) (s .post) (binary x l v e₁ e₂)
           → s .start ≡ row S (binary x l v e₁ e₂) .start → row S (binary x l v e₁ e₂) .start .0 < length (S .maps)
           → binaryRow x w s (layout.typeAt w (s .own)) (layout.typeAt w (s .type1)) ≡ own S Γ (mapAt S pre) (binary x l v e₁ e₂)
-      unfolding binaryRow own type post start K agreeIn agree
-      binary-shown Let o b b-in =
-          rw (located, o .typed, g .typed, o .posted, g .posted, equal-shown w S steps H R _ _ (o .post-in) (g .post-in))
+      unfolding binaryRow own type start agreeIn agree
+      binary-shown Let o b b-in = rw (equal (post-stands _ o) (post-stands _ g), o .typed, g .typed)
       binary-shown If o b b-in =
           rw (
-            located,
+            at-least (post-stands _ f) (post-stands _ o),
+            at-least (post-stands _ g) (post-stands _ o),
             o .typed,
             f .typed,
             g .typed,
-            o .posted,
-            f .posted,
-            g .posted,
-            at-least-shown w S steps H R _ _ (f .post-in) (o .post-in),
-            at-least-shown w S steps H R _ _ (g .post-in) (o .post-in),
           )
       binary-shown Spawn o b b-in =
           rw (
-            located,
+            at-least (post-stands _ g) (load-stands _ f),
+            sum (post-stands _ o) (record { inside = rw b b-in; is = ap (mapAt S) b }) (post-stands _ f),
             typed-as _ o,
             typed-as _ f,
-            o .posted,
-            f .posted,
-            g .posted,
-            b,
-            at-least-shown w S steps H R _ _ (g .post-in) (load-of _ f),
-            sum-shown w S steps H R _ _ (o .post-in) b-in _ (f .post-in),
           )
       binary-shown Write o b b-in =
           rw (
-            located,
+            equal (post-stands _ o) (post-stands _ g),
             divided,
             typed-as _ o,
             typed-as _ f,
-            g .typed,
             contains-shown w S,
-            o .posted,
-            g .posted,
-            equal-shown w S steps H R _ _ (o .post-in) (g .post-in),
-            has-shown w S steps H R _ _ (o .post-in) (place-of _ f),
+            g .typed,
+            shares _ _ o f,
           )
