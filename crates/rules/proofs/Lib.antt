@@ -2,6 +2,7 @@ pub mod Judged
 pub mod TypeKinds
 pub mod Relations
 pub mod Walking
+pub mod Claims
 pub mod Columns
 pub mod Shown
 pub mod TableRows

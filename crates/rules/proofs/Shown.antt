@@ -90,7 +90,8 @@ module _ (w : List ℕ) (S : Split) (steps : List Step) (H : HoldsSplit w S) (R 
 
   -- ---------------------------------------------------------------- maps
 
-  share-shown : (m : MapNumber) (p : ℕ) → m .0 < length (S .maps) → p < S .header .locations → mapCell w m p ≡ getD (mapAt S m) p 0
+  share-shown : (m : MapNumber) (p : ℕ) → m .0 < length (S .maps) → p < S .header .locations
+      → mapCell w m p ≡ getD (mapAt S m) p 0
   unfolding mapCell mapAt
   share-shown m p h l = H .maps (m .0) h .at p (rw (R .mapWide (m .0) h) l)
 
@@ -101,7 +102,8 @@ module _ (w : List ℕ) (S : Split) (steps : List Step) (H : HoldsSplit w S) (R 
       rw (← e) (cells w m 0 (mapAt S m) (λ i l. ap (mapCell w m) (omega arith) ∙ share-shown m i h (rw (← e) l)))
 
   -- what a map has of the location of a type
-  pub has-shown : (m : MapNumber) (p : Location) → m .0 < length (S .maps) → p .0 < S .header .locations → mapCell w m (p .0) ≡ share (mapAt S m) p
+  pub has-shown : (m : MapNumber) (p : Location) → m .0 < length (S .maps) → p .0 < S .header .locations
+      → mapCell w m (p .0) ≡ share (mapAt S m) p
   unfolding share
   has-shown m p h l = share-shown m (p .0) h l
 
@@ -136,10 +138,12 @@ module _ (w : List ℕ) (S : Split) (steps : List Step) (H : HoldsSplit w S) (R 
         rw z
 
     pub row-type : cell w rowTypesAt i ≡ row S e .type .0
-    row-type = column w rowTypesAt (λ (r : Row). r .type .0) (S .rows) noRow i (H .rowTypes) h ∙ ap (λ (r : Row). r .type .0) row-at
+    row-type = column w rowTypesAt (λ (r : Row). r .type .0) (S .rows) noRow i (H .rowTypes) h
+        ∙ ap (λ (r : Row). r .type .0) row-at
 
     pub row-post : cell w postsAt i ≡ row S e .post .0
     row-post = column w postsAt (λ (r : Row). r .post .0) (S .rows) noRow i (H .posts) h ∙ ap (λ (r : Row). r .post .0) row-at
 
     pub row-start : cell w startsAt i ≡ row S e .start .0
-    row-start = column w startsAt (λ (r : Row). r .start .0) (S .rows) noRow i (H .starts) h ∙ ap (λ (r : Row). r .start .0) row-at
+    row-start = column w startsAt (λ (r : Row). r .start .0) (S .rows) noRow i (H .starts) h
+        ∙ ap (λ (r : Row). r .start .0) row-at

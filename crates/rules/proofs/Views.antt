@@ -53,7 +53,8 @@ module _ (w : List ℕ) (S : Split) (steps : List Step) (H : HoldsSplit w S) (R 
     unfolding viewOf
     own-part e line h = part-at e k line h refl refl
 
-    pub first-part : (e : Expr) → lineOf e ≡ k + 1 + 2 → k + 1 < length (S .rows) → Part S (viewOf w n d k .type1) (viewOf w n d k .post1) e
+    pub first-part : (e : Expr) → lineOf e ≡ k + 1 + 2 → k + 1 < length (S .rows)
+        → Part S (viewOf w n d k .type1) (viewOf w n d k .post1) e
     unfolding viewOf
     first-part e line h =
         part-at e (k + 1) line h (ap (λ (i : ℕ). getD w i 0) (omega arith)) (ap (λ (i : ℕ). getD w i 0) (omega arith))
@@ -74,7 +75,8 @@ module _ (w : List ℕ) (S : Split) (steps : List Step) (H : HoldsSplit w S) (R 
         type-number
         (ap (cell w (rowTypesAt + 1)) (here-let l v P)
         ∙ ap (λ (i : ℕ). getD w i 0) (omega arith)
-        ∙ column w rowTypesAt (λ (r : Row). r .type .0) (S .rows) noRow (letIn inside v + 1) (H .rowTypes) (C .within v (P .used))
+        ∙ column w rowTypesAt (λ (r : Row). r .type .0) (S .rows) noRow (letIn inside v + 1)
+        (H .rowTypes) (C .within v (P .used))
         ∙ sym (ap (λ (t : TypeNumber). t .0) (C .typed v (P .used))))
     bound-shown Int l v P C = tt
     bound-shown Newtid l v P C = tt

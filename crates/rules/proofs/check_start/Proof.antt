@@ -18,7 +18,8 @@ use Rattle.rules.proofs.check_start.Tie as tie
 abbrev Inv-loop : tie.InvT-loop
 Inv-loop work denominator locations l₀ l =
     (l ≤ locations)
-    × (overWhole denominator 0 (mapFrom work startMap 0 locations) ≡ overWhole denominator l (mapFrom work startMap l (locations - l)))
+    × (overWhole denominator 0 (mapFrom work startMap 0 locations)
+    ≡ overWhole denominator l (mapFrom work startMap l (locations - l)))
 
 abbrev μ-loop : tie.MeasureT-loop
 μ-loop work denominator locations l₀ l = locations - l

@@ -28,7 +28,8 @@ returns : tie.Need-returns Inv-loop μ-loop
 unfolding outcome judge
 returns c =
     rw (c .before .before .before .loop .inv .1
-    ∙ fails-here _ _ _ _ (c .before .before .loop-test .taken) (sym (c .before .holds-at .ensures) ∙ not-true _ (c .if1 .taken)))
+    ∙ fails-here _ _ _ _ (c .before .before .loop-test .taken) (sym (c .before .holds-at .ensures)
+    ∙ not-true _ (c .if1 .taken)))
 
 add-l : tie.Need-add-l Inv-loop μ-loop
 add-l c = omega arith
@@ -40,7 +41,8 @@ loop-again : tie.Need-loop-again Inv-loop μ-loop
 loop-again c = (
   omega arith,
   c .before .before .before .loop .inv .1
-      ∙ fails-later _ _ _ _ (c .before .before .loop-test .taken) (sym (c .before .holds-at .ensures) ∙ not-false _ (c .if1 .left)),
+      ∙ fails-later _ _ _ _ (c .before .before .loop-test .taken) (sym (c .before .holds-at .ensures)
+      ∙ not-false _ (c .if1 .left)),
 )
 
 returns-2 : tie.Need-returns-2 Inv-loop μ-loop

@@ -26,7 +26,13 @@ returns : tie.Need-returns
 unfolding stepOutcome viewOf
 returns c =
     c .check-word .ensures
-    ∙ rw (c .before .type-at2 .ensures, c .before .before .type-at .ensures, c .before .before .before .view-of .ensures, c .before .before .before .before .word-of .ensures, c .before .before .before .before .before .cell .ensures)
+    ∙ rw (
+      c .before .type-at2 .ensures,
+      c .before .before .type-at .ensures,
+      c .before .before .before .view-of .ensures,
+      c .before .before .before .before .word-of .ensures,
+      c .before .before .before .before .before .cell .ensures,
+    )
 
 pub check-step-spec : {M : Type 1} → statement M
 check-step-spec =

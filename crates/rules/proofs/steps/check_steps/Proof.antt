@@ -57,7 +57,8 @@ returns c = (
       ∙ walk-more _ _ _ _ _ (c .before .before .before .before .loop-test .taken)
       ∙ rw (← c .before .before .check-step .ensures)
       (refused-stops _ _ (c .enum-told2 .given .1))),
-  changed-then presAt (presAt + 256) (changed-store presAt (presAt + 256) _ presAt 0 (omega arith) (omega arith)) (c .before .before .before .before .before .loop .inv .2),
+  changed-then presAt (presAt + 256) (changed-store presAt (presAt + 256) _ presAt 0 (omega arith)
+      (omega arith)) (c .before .before .before .before .before .loop .inv .2),
 )
 
 pass-on-requires : tie.Need-pass-on-requires Inv-loop μ-loop
@@ -72,11 +73,17 @@ loop-less c = omega arith
 loop-again : tie.Need-loop-again Inv-loop μ-loop
 loop-again c = (
   omega arith,
-  rw (c .before .before .pass-on .ensures) (pass-within _ _ .long ∙ c .before .before .before .before .before .before .before .before .before .loop .inv .1),
-  rw (c .before .before .pass-on .ensures) (changed-then presAt (presAt + 256) (c .before .before .before .before .before .before .before .before .before .loop .inv .2) (pass-within _ _)),
+  rw (c .before .before .pass-on .ensures) (pass-within _ _ .long
+      ∙ c .before .before .before .before .before .before .before .before .before .loop .inv .1),
+  rw (c .before .before .pass-on .ensures) (changed-then presAt (presAt + 256)
+      (c .before .before .before .before .before .before .before .before .before .loop .inv .2) (pass-within _ _)),
   c .before .before .before .before .before .before .before .before .before .loop .inv .3
       ∙ walk-more _ _ _ _ _ (c .before .before .before .before .before .before .before .before .loop-test .taken)
-      ∙ rw (← c .before .before .before .before .before .before .check-step .ensures, c .before .before .pass-on .ensures) (met-goes-on _ _ (c .before .before .before .before .enum-told .given .1)),
+      ∙ rw (
+        ← c .before .before .before .before .before .before .check-step .ensures,
+        c .before .before .pass-on .ensures,
+      )
+      (met-goes-on _ _ (c .before .before .before .before .enum-told .given .1)),
 )
 
 same-length-2 : tie.Need-same-length-2 Inv-loop μ-loop
@@ -87,7 +94,8 @@ unfolding outcome atRoot startMap
 returns-2 c = (
   sym (c .before .loop .inv .3
       ∙ walk-end _ _ _ _ _ (c .loop-test .left)),
-  changed-then presAt (presAt + 256) (changed-store presAt (presAt + 256) _ presAt 0 (omega arith) (omega arith)) (c .before .loop .inv .2),
+  changed-then presAt (presAt + 256) (changed-store presAt (presAt + 256) _ presAt 0 (omega arith)
+      (omega arith)) (c .before .loop .inv .2),
 )
 
 pub check-steps-spec : {M : Type 1} → statement M

@@ -70,7 +70,8 @@ returns-2 c =
       c .before .before .before .pre-of-part .ensures,
       c .before .before .before .before .before .before .before .before .before .before .before .before .before .view-of .ensures,
       sym (c .before .before .before .before .before .before .before .before .word-of .ensures
-          ∙ ap wordOf (c .before .before .before .before .before .before .before .before .before .cell2 .ensures)) ∙ c .before .before .before .before .before .before .u .given .1,
+          ∙ ap wordOf (c .before .before .before .before .before .before .before .before .before .cell2 .ensures))
+          ∙ c .before .before .before .before .before .before .u .given .1,
     )
 
 same-length-3 : tie.Need-same-length-3

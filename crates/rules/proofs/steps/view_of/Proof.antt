@@ -54,7 +54,19 @@ cell-requires-11 c κs = search needs
 returns : tie.Need-returns
 unfolding viewOf
 returns c =
-    rw (c .cell11 .ensures, c .before .cell10 .ensures, c .before .before .cell9 .ensures, c .before .before .before .cell8 .ensures, c .before .before .before .before .cell7 .ensures, c .before .before .before .before .before .cell6 .ensures, c .before .before .before .before .before .before .cell5 .ensures, c .before .before .before .before .before .before .before .cell4 .ensures, c .before .before .before .before .before .before .before .before .cell3 .ensures, c .before .before .before .before .before .before .before .before .before .cell2 .ensures, c .before .before .before .before .before .before .before .before .before .before .cell .ensures)
+    rw (
+      c .cell11 .ensures,
+      c .before .cell10 .ensures,
+      c .before .before .cell9 .ensures,
+      c .before .before .before .cell8 .ensures,
+      c .before .before .before .before .cell7 .ensures,
+      c .before .before .before .before .before .cell6 .ensures,
+      c .before .before .before .before .before .before .cell5 .ensures,
+      c .before .before .before .before .before .before .before .cell4 .ensures,
+      c .before .before .before .before .before .before .before .before .cell3 .ensures,
+      c .before .before .before .before .before .before .before .before .before .cell2 .ensures,
+      c .before .before .before .before .before .before .before .before .before .before .cell .ensures,
+    )
 
 pub view-of-spec : {M : Type 1} → statement M
 view-of-spec =

@@ -26,7 +26,9 @@ also-requires-3 c κs = search needs
 
 returns : tie.Need-returns
 returns c =
-    next-two _ _ _ _ _ _ _ _ (c .also3 .ensures) (c .before .before .before .before .also .ensures) (c .before .before .before .before .before .before .agree .ensures) (c .before .before .before .before .before .agree2 .ensures)
+    next-two _ _ _ _ _ _ _ _ (c .also3 .ensures) (c .before .before .before .before .also .ensures)
+    (c .before .before .before .before .before .before .agree .ensures)
+    (c .before .before .before .before .before .agree2 .ensures)
     (next _ _ _ _ _ _ (c .before .also2 .ensures) (c .before .before .before .at-least .ensures)
     (last _ _ _ (c .before .before .at-least2 .ensures)))
 

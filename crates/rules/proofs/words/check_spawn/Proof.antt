@@ -39,7 +39,10 @@ also-requires c κs = search needs
 returns-3 : tie.Need-returns-3
 unfolding isInt isTid load
 returns-3 c =
-    rw (c .before .before .before .before .before .before .enum-told .given .1, c .before .before .before .before .kind1 .given .1)
+    rw (
+      c .before .before .before .before .before .before .enum-told .given .1,
+      c .before .before .before .before .kind1 .given .1,
+    )
     (pass _ _ _ _ refl
     (pass _ _ _ _ refl
     (next _ _ _ _ _ _ (c .also .ensures) (c .before .before .at-least .ensures)

@@ -46,7 +46,10 @@ also-requires-2 c κs = search needs
 returns-3 : tie.Need-returns-3
 unfolding isInt isRef place containsIn
 returns-3 c =
-    rw (c .before .before .before .before .before .before .before .before .enum-told .given .1, c .before .before .before .before .before .before .kind1 .given .1)
+    rw (
+      c .before .before .before .before .before .before .before .before .enum-told .given .1,
+      c .before .before .before .before .before .before .kind1 .given .1,
+    )
     (pass _ _ _ _ refl
     (pass _ _ _ _ refl
     (next _ _ _ _ _ _ (c .also2 .ensures) (c .before .agree .ensures)
