@@ -54,11 +54,11 @@ pub(crate) fn agree(line: u32, condition: u32, work: &[u32], a: TypeNumber, b: T
 }
 
 // Whether a flow condition holds at a location.
-fn holds_at(work: &[u32], f: Relation, location: u32) -> bool
-    ensures { λ ok. ⌜ ok ≡ holdsAt (now (work .entry)) f location ⌝ }
+fn holds_at(work: &[u32], relation: Relation, location: u32) -> bool
+    ensures { λ ok. ⌜ ok ≡ holdsAt (now (work .entry)) relation location ⌝ }
 {
     let l = index(location);
-    match f {
+    match relation {
         Relation::Equal(a, b) => map_cell(work, a, l) == map_cell(work, b, l),
         Relation::AtLeast(a, b) => map_cell(work, b, l) <= map_cell(work, a, l),
         Relation::Sum(a, b, c) => {
@@ -69,12 +69,12 @@ fn holds_at(work: &[u32], f: Relation, location: u32) -> bool
 }
 
 // A flow condition, refused at the lowest location at which it fails.
-pub(crate) fn flow(line: u32, condition: u32, work: &[u32], locations: u32, f: Relation) -> Ruling
-    ensures { λ r. ⌜ outcome r ≡ judge line condition (F (failsFrom (now (work .entry)) f 0 locations)) ⌝ }
+fn flow(line: u32, condition: u32, work: &[u32], locations: u32, relation: Relation) -> Ruling
+    ensures { λ r. ⌜ outcome r ≡ judge line condition (F (failsFrom (now (work .entry)) relation 0 locations)) ⌝ }
 {
     let mut l = 0;
     while l < locations {
-        if !holds_at(work, f, l) {
+        if !holds_at(work, relation, l) {
             return Ruling::Refused(Refusal::FlowFalse {
                 line: line,
                 condition: condition,

@@ -108,7 +108,7 @@ fn pre_of_second(w: BinaryWord, pre: MapNumber, post1: MapNumber, start: MapNumb
     }
 }
 
-// The maps before the parts of step k.
+// The maps before the parts of step k. The sheet's locations and denominator play no part in them.
 fn pass_on(work: &mut [u32], k: u32)
     requires { ⌜ (length (now work) ≡ 16384) × (k < 256) ⌝ }
     ensures { λ _. ⌜ now (work .exit) ≡ passOn (now (work .entry)) k ⌝ }

@@ -12,11 +12,11 @@ use Rattle.rules.proofs.conditions.flow.Statement.{statement}
 use Rattle.rules.proofs.conditions.flow.Tie as tie
 
 abbrev Inv-loop : tie.InvT-loop
-Inv-loop line condition work locations f l₀ l =
-    (l ≤ locations) × (failsFrom work f 0 locations ≡ failsFrom work f l (locations - l))
+Inv-loop line condition work locations relation l₀ l =
+    (l ≤ locations) × (failsFrom work relation 0 locations ≡ failsFrom work relation l (locations - l))
 
 abbrev μ-loop : tie.MeasureT-loop
-μ-loop line condition work locations f l₀ l = locations - l
+μ-loop line condition work locations relation l₀ l = locations - l
 
 loop-holds : tie.Need-loop-holds Inv-loop μ-loop
 loop-holds c = (omega arith, rw sub-zero refl)

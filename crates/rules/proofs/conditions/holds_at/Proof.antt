@@ -6,8 +6,8 @@ use Rattle.rules.proofs.conditions.holds_at.Tie as tie
 index-requires : tie.Need-index-requires
 index-requires c κs = search needs
 
-enum-known-f : tie.Need-enum-known-f
-enum-known-f c = search needs
+enum-known-relation : tie.Need-enum-known-relation
+enum-known-relation c = search needs
 
 map-cell-requires : tie.Need-map-cell-requires
 map-cell-requires c κs = search needs
@@ -15,8 +15,8 @@ map-cell-requires c κs = search needs
 map-cell-requires-2 : tie.Need-map-cell-requires-2
 map-cell-requires-2 c κs = search needs
 
-enum-known-f-2 : tie.Need-enum-known-f-2
-enum-known-f-2 c = search needs
+enum-known-relation-2 : tie.Need-enum-known-relation-2
+enum-known-relation-2 c = search needs
 
 map-cell-requires-3 : tie.Need-map-cell-requires-3
 map-cell-requires-3 c κs = search needs
@@ -24,8 +24,8 @@ map-cell-requires-3 c κs = search needs
 map-cell-requires-4 : tie.Need-map-cell-requires-4
 map-cell-requires-4 c κs = search needs
 
-enum-known-f-3 : tie.Need-enum-known-f-3
-enum-known-f-3 c = search needs
+enum-known-relation-3 : tie.Need-enum-known-relation-3
+enum-known-relation-3 c = search needs
 
 map-cell-requires-5 : tie.Need-map-cell-requires-5
 map-cell-requires-5 c κs = search needs
@@ -50,28 +50,28 @@ wide-requires-3 c κs = search needs
 
 returns : tie.Need-returns
 unfolding holdsAt
-returns c = rw (c .before .before .before .f .given .1) (cc)
+returns c = rw (c .before .before .before .relation .given .1) (cc)
 
 returns-2 : tie.Need-returns-2
 unfolding holdsAt
-returns-2 c = rw (c .before .before .before .f2 .given .1) (cc)
+returns-2 c = rw (c .before .before .before .relation2 .given .1) (cc)
 
 returns-3 : tie.Need-returns-3
 unfolding holdsAt
-returns-3 c = rw (c .before .before .before .before .before .before .before .f3 .given .1) (cc)
+returns-3 c = rw (c .before .before .before .before .before .before .before .relation3 .given .1) (cc)
 
 pub holds-at-spec : {M : Type 1} → statement M
 holds-at-spec =
     tie.close
     (tie.spec
     index-requires
-    enum-known-f
+    enum-known-relation
     map-cell-requires
     map-cell-requires-2
-    enum-known-f-2
+    enum-known-relation-2
     map-cell-requires-3
     map-cell-requires-4
-    enum-known-f-3
+    enum-known-relation-3
     map-cell-requires-5
     wide-requires
     map-cell-requires-6
