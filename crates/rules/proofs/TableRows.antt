@@ -35,10 +35,15 @@ some-is-one : (x : ℕ) → leb 1 x ≡ ltb 0 x
 some-is-one zero = refl
 some-is-one (suc x) = le-leb 1 (suc x) (omega arith) ∙ sym (lt-ltb 0 (suc x) (omega arith))
 
+-- type agreement, the one place that knows what it is
+agree-shown : (w : List ℕ) (S : Split) (t u : TypeNumber) → agreeIn w t u ≡ agree S t u
+unfolding agreeIn agree
+agree-shown w S t u = refl
+
 contains-shown : (w : List ℕ) (S : Split) (x : TypeLine) (t : TypeNumber) → containsIn w x t ≡ contains S x t
-unfolding containsIn agreeIn contains agree
+unfolding containsIn contains
 contains-shown w S type-line.Int t = refl
-contains-shown w S (type-line.Ref p c) t = refl
+contains-shown w S (type-line.Ref p c) t = agree-shown w S c t
 contains-shown w S (type-line.Lock k) t = refl
 contains-shown w S (type-line.Tid k) t = refl
 
@@ -111,8 +116,8 @@ module _ (w : List ℕ) (S : Split) (steps : List Step) (H : HoldsSplit w S) (R 
 
   pub leaf-shown : (x : LeafWord) → Part S (s .own) (s .post) (leaf x l v) → Bound x s Γ v
       → leafRow x w s (layout.typeAt w (s .own)) (layout.typeAt w (s .type1)) ≡ own S Γ (mapAt S pre) (leaf x l v)
-  unfolding leafRow own type agreeIn agree
-  leaf-shown Var o b = rw (equal (post-stands _ o) pre-stands, o .typed, b)
+  unfolding leafRow own type
+  leaf-shown Var o b = rw (equal (post-stands _ o) pre-stands, agree-shown w S, o .typed, b)
   leaf-shown Int o b = rw (equal (post-stands _ o) pre-stands, typed-as _ o)
   leaf-shown Newtid o b = rw (equal (post-stands _ o) pre-stands, typed-as _ o)
   leaf-shown Newlock o b = rw (sum (post-stands _ o) (load-stands _ o) pre-stands, typed-as _ o)
@@ -147,12 +152,15 @@ module _ (w : List ℕ) (S : Split) (steps : List Step) (H : HoldsSplit w S) (R 
       pub binary-shown : (x : BinaryWord) → Part S (s .own) (s .post) (binary x l v e₁ e₂)
           → s .start ≡ row S (binary x l v e₁ e₂) .start → row S (binary x l v e₁ e₂) .start .0 < length (S .maps)
           → binaryRow x w s (layout.typeAt w (s .own)) (layout.typeAt w (s .type1)) ≡ own S Γ (mapAt S pre) (binary x l v e₁ e₂)
-      unfolding binaryRow own type start agreeIn agree
-      binary-shown Let o b b-in = rw (equal (post-stands _ o) (post-stands _ g), o .typed, g .typed)
+      unfolding binaryRow own type start
+      binary-shown Let o b b-in =
+          rw (equal (post-stands _ o) (post-stands _ g), agree-shown w S, o .typed, g .typed)
       binary-shown If o b b-in =
           rw (
             at-least (post-stands _ f) (post-stands _ o),
             at-least (post-stands _ g) (post-stands _ o),
+            agree-shown w S,
+            agree-shown w S,
             o .typed,
             f .typed,
             g .typed,
