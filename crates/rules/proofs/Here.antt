@@ -1,15 +1,13 @@
 -- Where an expression of the program that the work space holds stands: its steps from index k on, its parts behind them.
-use mathlib.Core.Path.{_≡_, refl, sym, ap, _∙_}
-use mathlib.Core.Logic.{_⊎_, inl, inr}
-use mathlib.Core.Bool.{Bool, true, false}
-use mathlib.Core.List.{List, [], _∷_, _++_, map, map-append}
-use Prim.Native.Nat.{ℕ, suc, _+_, _<_, _≤_}
+use mathlib.Core.Path.{_≡_, refl, ap, _∙_}
+use mathlib.Core.Logic.{inl}
+use mathlib.Core.List.{List, _∷_, _++_, map, map-append}
+use Prim.Native.Nat.{ℕ, suc, _+_, _≤_}
 use native.Mathlib.Omega.{arith}
 use lib.ListN.{length, getD, length-append, length-map}
 use Rattle.spec.specs.Expression.{Step, Expr, leaf, unary, binary, size}
 use Rattle.spec.specs.Conditions.{lineOf}
 use Rattle.spec.specs.WellFormed.{prefix, LinesFrom, UsedInside}
-use Rattle.spec.specs.declared.Word.{Word}
 use Rattle.spec.specs.declared.Word.the-variants.{Leaf, Unary, Binary}
 use Rattle.spec.specs.declared.LeafWord.{LeafWord}
 use Rattle.spec.specs.declared.LeafWord.the-variants.{Var, Int, Newtid, Newlock}
@@ -44,7 +42,9 @@ unfolding ends size
 ends-long k (leaf x l v) = refl
 ends-long k (unary x l v e) = ap suc (ends-long (k + 1) e)
 ends-long k (binary x l v e₁ e₂) =
-    ap suc (length-append (ends (k + 1) e₁) (ends (k + 1 + size e₁) e₂) ∙ rw (ends-long (k + 1) e₁, ends-long (k + 1 + size e₁) e₂))
+    ap suc
+    (length-append (ends (k + 1) e₁) (ends (k + 1 + size e₁) e₂)
+    ∙ rw (ends-long (k + 1) e₁, ends-long (k + 1 + size e₁) e₂))
 
 -- the variables whose let's e2 the second part is in
 unfoldable pub insideSecond : BinaryWord → (v k : ℕ) → List (ℕ × ℕ) → List (ℕ × ℕ)
@@ -134,11 +134,13 @@ module _ {w : List ℕ} {k : ℕ} {inside : List (ℕ × ℕ)} {vars : List ℕ}
   unfolding codes prefix
   leaf-word x l v H = ap wordOf (region-head _ _ (H .words)) ∙ word-of-code (Leaf x)
 
-  pub unary-word : (x : UnaryWord) (l v : ℕ) (e : Expr) → Here w k inside vars (unary x l v e) → wordOf (cell w wordsAt k) ≡ Unary x
+  pub unary-word : (x : UnaryWord) (l v : ℕ) (e : Expr) → Here w k inside vars (unary x l v e)
+      → wordOf (cell w wordsAt k) ≡ Unary x
   unfolding codes prefix
   unary-word x l v e H = ap wordOf (region-head _ _ (H .words)) ∙ word-of-code (Unary x)
 
-  pub binary-word : (x : BinaryWord) (l v : ℕ) (e₁ e₂ : Expr) → Here w k inside vars (binary x l v e₁ e₂) → wordOf (cell w wordsAt k) ≡ Binary x
+  pub binary-word : (x : BinaryWord) (l v : ℕ) (e₁ e₂ : Expr) → Here w k inside vars (binary x l v e₁ e₂)
+      → wordOf (cell w wordsAt k) ≡ Binary x
   unfolding codes prefix
   binary-word x l v e₁ e₂ H = ap wordOf (region-head _ _ (H .words)) ∙ word-of-code (Binary x)
 
@@ -186,7 +188,8 @@ module _ {w : List ℕ} {k : ℕ} {inside : List (ℕ × ℕ)} {vars : List ℕ}
     here-second = record {
       words = region-moved _ _ (omega (arith, codes-long e₁)) (region-right (codes e₁) _ codes-parts);
       ended = region-moved _ _ (omega (arith, ends-long (k + 1) e₁)) (region-right (ends (k + 1) e₁) _ ends-parts);
-      bound = region-moved _ _ (omega (arith, lets-long (k + 1) inside e₁)) (region-right (lets (k + 1) inside e₁) _ lets-parts);
+      bound = region-moved _ _
+          (omega (arith, lets-long (k + 1) inside e₁)) (region-right (lets (k + 1) inside e₁) _ lets-parts);
       lines = lines-moved _ _ e₂ (omega arith) (H .lines .2);
       used = used-binary x vars l v e₁ e₂ (H .used) .1;
     }

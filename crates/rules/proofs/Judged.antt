@@ -1,10 +1,10 @@
 -- The first false one of a step's conditions, one condition at a time, as the code of a word goes through them.
-use mathlib.Core.Path.{_≡_, refl, sym, ap, _∙_}
+use mathlib.Core.Path.{_≡_, refl, sym, _∙_}
 use mathlib.Core.Bool.{Bool, true, false}
 use mathlib.Core.List.{List, [], _∷_}
 use Prim.Native.Nat.{ℕ, _+_}
 use Rattle.spec.specs.Reading.{Out, stop, on, _>>=_}
-use Rattle.spec.specs.Conditions.{Condition, T, F, A}
+use Rattle.spec.specs.Conditions.{Condition, T}
 use Rattle.spec.specs.Sites.{judge, numbered, firstFalse}
 use Rattle.spec.specs.declared.Refusal.{Refusal}
 use Rattle.rules.specs.Outcome.{outcome, both, judged}
@@ -22,7 +22,8 @@ both-assoc (stop r) b c = refl
 both-assoc (on a) b c = refl
 
 module _ (line i : ℕ) where
-  pub judged-cons : (c : Condition) (cs : List Condition) → judged line i (c ∷ cs) ≡ both (judge line i c) (judged line (i + 1) cs)
+  pub judged-cons : (c : Condition) (cs : List Condition)
+      → judged line i (c ∷ cs) ≡ both (judge line i c) (judged line (i + 1) cs)
   unfolding judged numbered firstFalse both
   judged-cons c cs = refl
 
@@ -41,14 +42,17 @@ module _ (line i : ℕ) where
       → v ≡ both u f → u ≡ both a b → a ≡ judge line i c → b ≡ judge line (i + 1) d → f ≡ judged line (i + 1 + 1) cs
       → v ≡ judged line i (c ∷ d ∷ cs)
   unfolding judged numbered firstFalse both
-  next-two c d cs a b f e h p q r = e ∙ rw (h, p, q, r) (both-assoc (judge line i c) (judge line (i + 1) d) (judged line (i + 1 + 1) cs))
+  next-two c d cs a b f e h p q r =
+      e ∙ rw (h, p, q, r) (both-assoc (judge line i c) (judge line (i + 1) d) (judged line (i + 1 + 1) cs))
 
   -- a condition on types that holds, that fails
-  pub pass : (b : Bool) (cs : List Condition) {v : Out (Unit {0})} → b ≡ true → v ≡ judged line (i + 1) cs → v ≡ judged line i (T b ∷ cs)
+  pub pass : (b : Bool) (cs : List Condition) {v : Out (Unit {0})} → b ≡ true → v ≡ judged line (i + 1) cs
+      → v ≡ judged line i (T b ∷ cs)
   unfolding judged numbered firstFalse judge _>>=_
   pass b cs e p = rw e p
 
-  pub fail : (b : Bool) (cs : List Condition) {v : Out (Unit {0})} → b ≡ false → v ≡ judge line i (T false) → v ≡ judged line i (T b ∷ cs)
+  pub fail : (b : Bool) (cs : List Condition) {v : Out (Unit {0})} → b ≡ false → v ≡ judge line i (T false)
+      → v ≡ judged line i (T b ∷ cs)
   unfolding judged numbered firstFalse judge _>>=_
   fail b cs e p = rw e p
 

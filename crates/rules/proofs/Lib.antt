@@ -2,9 +2,10 @@ pub mod Judged
 pub mod TypeKinds
 pub mod Relations
 pub mod Walking
+pub mod Claims
 pub mod Columns
 pub mod Shown
-pub mod Words
+pub mod TableRows
 pub mod Here
 pub mod Scopes
 pub mod Views

@@ -8,7 +8,7 @@ use native.Mathlib.Omega.{arith}
 use lib.ListN.{length, getD, length-map}
 use Rattle.spec.specs.Expression.{Step, Expr, leaf, unary, binary, size}
 use Rattle.spec.specs.Split.{Row, Split}
-use Rattle.spec.specs.Conditions.{Env, mapAt, row, type, own}
+use Rattle.spec.specs.Conditions.{Env, mapAt, row, own}
 use Rattle.spec.specs.Sites.{preOfPart, preOfSecond, claimsAt, firstFalse}
 use Rattle.spec.specs.Ranges.{InRange}
 use Rattle.spec.specs.declared.MapNumber.{MapNumber}
@@ -22,9 +22,9 @@ use Rattle.workspace.specs.Holds.{HoldsSplit}
 use Rattle.workspace.proofs.Region.{region-kept}
 use Rattle.rules.specs.Outcome.{judged}
 use Rattle.rules.specs.Table.{wordRow}
-use Rattle.rules.specs.Walk.{cell, viewOf, stepOutcome, putPre, passWord, passOn, walk}
+use Rattle.rules.specs.Walk.{cell, viewOf, stepOutcome, putPre, passWord, passOn}
 use Rattle.rules.proofs.Shown.{row-post, row-start}
-use Rattle.rules.proofs.Words.{leaf-shown, unary-shown, binary-shown}
+use Rattle.rules.proofs.TableRows.{leaf-shown, unary-shown, binary-shown}
 use Rattle.rules.proofs.Here.{Here, size-positive, here-line, leaf-word, unary-word, binary-word, here-part, here-first, here-second, here-second-at}
 use Rattle.rules.proofs.Scopes.{Scoped}
 use Rattle.rules.proofs.Views.{map-number, row-start-in, own-part, first-part, second-part, started, bound-shown}
@@ -75,22 +75,27 @@ module _ (S : Split) (steps : List Step) (R : InRange steps S) (few : length (S 
     unfolding wordRow size
     conditions-shown (leaf x l v) r =
         rw (leaf-word x l v (r .here))
-        (leaf-shown w S steps (r .split) R (viewOf w _ _ k) (view-located w _ _ k) (view-divided w _ _ k) Γ pre (view-pre w _ _ k pre (r .pre-at)) (r .pre-in)
+        (leaf-shown w S steps (r .split) R (viewOf w _ _ k) (view-located w _ _ k)
+        (view-divided w _ _ k) Γ pre (view-pre w _ _ k pre (r .pre-at)) (r .pre-in)
         l v x
         (own-part w S steps (r .split) R _ _ k (leaf x l v) (here-line _ (r .here)) (below _ r))
         (bound-shown w S steps (r .split) R _ _ k x l v (r .here) (r .scoped)))
     conditions-shown (unary x l v e₁) r =
         rw (unary-word x l v e₁ (r .here))
-        (unary-shown w S steps (r .split) R (viewOf w _ _ k) (view-located w _ _ k) (view-divided w _ _ k) Γ pre (view-pre w _ _ k pre (r .pre-at)) (r .pre-in)
+        (unary-shown w S steps (r .split) R (viewOf w _ _ k) (view-located w _ _ k)
+        (view-divided w _ _ k) Γ pre (view-pre w _ _ k pre (r .pre-at)) (r .pre-in)
         l v e₁
-        (first-part w S steps (r .split) R _ _ k e₁ (here-line e₁ (here-part x l v e₁ (r .here))) (omega (arith, size-positive e₁, r .room)))
+        (first-part w S steps (r .split) R _ _ k e₁ (here-line e₁ (here-part x l v e₁ (r .here)))
+        (omega (arith, size-positive e₁, r .room)))
         x
         (own-part w S steps (r .split) R _ _ k _ (here-line _ (r .here)) (below _ r)))
     conditions-shown (binary x l v e₁ e₂) r =
         rw (binary-word x l v e₁ e₂ (r .here))
-        (binary-shown w S steps (r .split) R (viewOf w _ _ k) (view-located w _ _ k) (view-divided w _ _ k) Γ pre (view-pre w _ _ k pre (r .pre-at)) (r .pre-in)
+        (binary-shown w S steps (r .split) R (viewOf w _ _ k) (view-located w _ _ k)
+        (view-divided w _ _ k) Γ pre (view-pre w _ _ k pre (r .pre-at)) (r .pre-in)
         l v e₁
-        (first-part w S steps (r .split) R _ _ k e₁ (here-line e₁ (here-first x l v e₁ e₂ (r .here))) (omega (arith, size-positive e₁, r .room)))
+        (first-part w S steps (r .split) R _ _ k e₁ (here-line e₁ (here-first x l v e₁ e₂ (r .here)))
+        (omega (arith, size-positive e₁, r .room)))
         e₂
         (second-part w S steps (r .split) R _ _ k e₂ (k + 1 + size e₁) (here-second-at x l v e₁ e₂ (r .here))
         (here-line e₂ (here-second x l v e₁ e₂ (r .here))) (omega (arith, size-positive e₂, r .room)))
@@ -127,7 +132,8 @@ module _ (S : Split) (steps : List Step) (R : InRange steps S) (few : length (S 
     binary-passes x l v e₁ e₂ r =
         let p : cell w (postsAt + 1) k ≡ row S e₁ .post .0 =
         ap (λ (i : ℕ). getD w i 0) (omega arith)
-        ∙ row-post w S steps (r .split) R e₁ (k + 1) (here-line e₁ (here-first x l v e₁ e₂ (r .here))) (omega (arith, size-positive e₁, r .room))
+        ∙ row-post w S steps (r .split) R e₁ (k + 1) (here-line e₁ (here-first x l v e₁ e₂ (r .here)))
+        (omega (arith, size-positive e₁, r .room))
         in
         rw (
           binary-word x l v e₁ e₂ (r .here),

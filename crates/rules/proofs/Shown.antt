@@ -1,9 +1,8 @@
 -- What the work space shows of the split that it holds: types, maps and rows by number.
 use mathlib.Core.Path.{_≡_, refl, sym, ap, _∙_}
 use mathlib.Core.Bool.{Bool, true, false}
-use mathlib.Core.List.{List, [], _∷_, map}
-use mathlib.Core.Option.{Option}
-use Prim.Native.Nat.{ℕ, zero, suc, _+_, _*_, _-_, _<_, _≤_}
+use mathlib.Core.List.{List, [], _∷_}
+use Prim.Native.Nat.{ℕ, suc, _+_, _-_, _<_}
 use native.Mathlib.Omega.{arith}
 use lib.Dec.{eqb}
 use borrow.Author.Tests.{eqb-true, eqb-false, eq-eqb, ne-eqb}
@@ -11,7 +10,7 @@ use lib.ListN.{length, getD}
 use Rattle.spec.specs.Expression.{Step, Expr}
 use Rattle.spec.specs.Split.{Map, Row, Split}
 use Rattle.spec.specs.Maps.{lowest, _=ᵐ_, _≥ᵐ_, _+ᵐ_, share}
-use Rattle.spec.specs.Conditions.{typeAt, mapAt, lineOf, row, type, kind, place, load}
+use Rattle.spec.specs.Conditions.{typeAt, mapAt, lineOf, row, type, place, load}
 use Rattle.spec.specs.Ranges.{InRange}
 use Rattle.spec.specs.declared.Location.{Location}
 use Rattle.spec.specs.declared.MapNumber.{MapNumber}
@@ -19,8 +18,7 @@ use Rattle.spec.specs.declared.TypeNumber.{TypeNumber}
 use Rattle.spec.specs.declared.TypeLine.{TypeLine}
 use Rattle.spec.specs.declared.TypeLine.the-variants.{Int, Ref, Lock, Tid}
 use Rattle.workspace.specs.Layout as layout
-use Rattle.workspace.specs.Layout.{rowTypesAt, postsAt, startsAt, kindsAt, firstsAt, secondsAt, mapsAt, stride, mapCell, typeOf, kindOf, firstOf, secondOf}
-use Rattle.workspace.specs.Region.{Region}
+use Rattle.workspace.specs.Layout.{rowTypesAt, postsAt, startsAt, kindsAt, firstsAt, secondsAt, mapCell, kindOf, firstOf, secondOf}
 use Rattle.workspace.specs.Holds.{HoldsSplit}
 use Rattle.workspace.proofs.Region.{column}
 use Rattle.workspace.proofs.Codes.{type-of-numbers}
@@ -92,7 +90,8 @@ module _ (w : List ℕ) (S : Split) (steps : List Step) (H : HoldsSplit w S) (R 
 
   -- ---------------------------------------------------------------- maps
 
-  share-shown : (m : MapNumber) (p : ℕ) → m .0 < length (S .maps) → p < S .header .locations → mapCell w m p ≡ getD (mapAt S m) p 0
+  share-shown : (m : MapNumber) (p : ℕ) → m .0 < length (S .maps) → p < S .header .locations
+      → mapCell w m p ≡ getD (mapAt S m) p 0
   unfolding mapCell mapAt
   share-shown m p h l = H .maps (m .0) h .at p (rw (R .mapWide (m .0) h) l)
 
@@ -103,7 +102,8 @@ module _ (w : List ℕ) (S : Split) (steps : List Step) (H : HoldsSplit w S) (R 
       rw (← e) (cells w m 0 (mapAt S m) (λ i l. ap (mapCell w m) (omega arith) ∙ share-shown m i h (rw (← e) l)))
 
   -- what a map has of the location of a type
-  pub has-shown : (m : MapNumber) (p : Location) → m .0 < length (S .maps) → p .0 < S .header .locations → mapCell w m (p .0) ≡ share (mapAt S m) p
+  pub has-shown : (m : MapNumber) (p : Location) → m .0 < length (S .maps) → p .0 < S .header .locations
+      → mapCell w m (p .0) ≡ share (mapAt S m) p
   unfolding share
   has-shown m p h l = share-shown m (p .0) h l
 
@@ -138,10 +138,12 @@ module _ (w : List ℕ) (S : Split) (steps : List Step) (H : HoldsSplit w S) (R 
         rw z
 
     pub row-type : cell w rowTypesAt i ≡ row S e .type .0
-    row-type = column w rowTypesAt (λ (r : Row). r .type .0) (S .rows) noRow i (H .rowTypes) h ∙ ap (λ (r : Row). r .type .0) row-at
+    row-type = column w rowTypesAt (λ (r : Row). r .type .0) (S .rows) noRow i (H .rowTypes) h
+        ∙ ap (λ (r : Row). r .type .0) row-at
 
     pub row-post : cell w postsAt i ≡ row S e .post .0
     row-post = column w postsAt (λ (r : Row). r .post .0) (S .rows) noRow i (H .posts) h ∙ ap (λ (r : Row). r .post .0) row-at
 
     pub row-start : cell w startsAt i ≡ row S e .start .0
-    row-start = column w startsAt (λ (r : Row). r .start .0) (S .rows) noRow i (H .starts) h ∙ ap (λ (r : Row). r .start .0) row-at
+    row-start = column w startsAt (λ (r : Row). r .start .0) (S .rows) noRow i (H .starts) h
+        ∙ ap (λ (r : Row). r .start .0) row-at

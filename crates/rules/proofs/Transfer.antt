@@ -1,89 +1,45 @@
 -- The walk over the work space gives what document 01 says of the sheets that it holds. The proof goes by the expression: an
 -- expression at index k is walked through, and what is left is the walk from its end on, over a work space in which only
 -- maps before its own steps are changed.
-use mathlib.Core.Path.{_≡_, refl, sym, ap, _∙_}
-use mathlib.Core.Logic.{_⊎_, inl, inr}
-use mathlib.Core.Bool.{Bool, true, false}
-use mathlib.Core.List.{List, [], _∷_, _++_, map}
-use Prim.Native.Nat.{ℕ, zero, suc, _+_, _*_, _<_, _≤_}
+use mathlib.Core.Path.{_≡_, sym, ap, _∙_}
+use mathlib.Core.Logic.{inr}
+use mathlib.Core.List.{List, []}
+use Prim.Native.Nat.{ℕ, suc, _+_, _<_, _≤_}
 use native.Mathlib.Omega.{arith}
-use lib.Dec.{ltb}
-use lib.ListN.{length, getD, set, length-map, length-set}
-use lib.Seq.{getD-set-same, getD-set-other}
-use borrow.Author.Tests.{lt-ltb}
-use Rattle.spec.specs.Choice.{if_then_else_}
-use Rattle.spec.specs.Reading.{Out, stop, on, _>>=_}
+use lib.ListN.{length}
+use lib.Seq.{getD-set-same}
+use Rattle.spec.specs.Reading.{Out, _>>=_}
 use Rattle.spec.specs.Expression.{Step, Expr, leaf, unary, binary, size}
 use Rattle.spec.specs.Program.{Program}
 use Rattle.spec.specs.Split.{Row, Split}
-use Rattle.spec.specs.Conditions.{Env, lineOf, mapAt, startMap, row, type, own}
-use Rattle.spec.specs.Sites.{Site, Claim, preOfPart, preOfSecond, bind, sites, numbered, claimsAt, claims, judge, firstFalse}
+use Rattle.spec.specs.Conditions.{Env, lineOf, startMap, row, type}
+use Rattle.spec.specs.Sites.{preOfPart, preOfSecond, bind, sites, claims, firstFalse}
 use Rattle.spec.specs.Verdict.{startAtMostOne, ruled}
-use Rattle.spec.specs.WellFormed.{prefix}
 use Rattle.spec.specs.Ranges.{InRange}
 use Rattle.spec.specs.declared.MapNumber.{MapNumber}
-use Rattle.spec.specs.declared.TypeNumber.{TypeNumber}
-use Rattle.spec.specs.declared.LeafWord.{LeafWord}
 use Rattle.spec.specs.declared.UnaryWord.{UnaryWord}
 use Rattle.spec.specs.declared.UnaryWord.the-variants.{While, Join, Ref, Read, Freelock, Lock, Unlock}
 use Rattle.spec.specs.declared.BinaryWord.{BinaryWord}
 use Rattle.spec.specs.declared.BinaryWord.the-variants.{Let, If, Spawn, Write}
-use Rattle.workspace.specs.Layout as layout
-use Rattle.workspace.specs.Layout.{wordsAt, endsAt, rowTypesAt, postsAt, startsAt, presAt, kindOf, firstOf, secondOf, wordOf}
-use Rattle.workspace.specs.Region.{Region, ChangedWithin}
+use Rattle.workspace.specs.Layout.{presAt}
+use Rattle.workspace.specs.Region.{ChangedWithin}
 use Rattle.workspace.specs.Holds.{HoldsSplit}
-use Rattle.workspace.proofs.Region.{changed-nothing, changed-store, changed-then, changed-wider, region-kept}
-use Rattle.rules.specs.Outcome.{both, judged}
-use Rattle.rules.specs.Table.{wordRow}
-use Rattle.rules.specs.Walk.{cell, startOutcome, viewOf, stepOutcome, putPre, passWord, passOn, walk}
+use Rattle.workspace.proofs.Region.{changed-nothing, changed-store, changed-then, changed-wider}
+use Rattle.rules.specs.Outcome.{both}
+use Rattle.rules.specs.Walk.{cell, startOutcome, stepOutcome, passOn, walk, atRoot}
 use Rattle.rules.specs.Contract.{HoldsSheets}
 use Rattle.rules.proofs.Judged.{both-met, both-assoc}
-use Rattle.rules.proofs.Walking.{put-before}
-use Rattle.rules.proofs.Shown.{noRow, map-shown, row-at, row-type, row-post, row-start}
-use Rattle.rules.proofs.Words.{Part, leaf-shown, unary-shown, binary-shown}
-use Rattle.rules.proofs.Here.{Here, codes, size-positive, prefix-long, here-kept, here-line, leaf-word, unary-word, binary-word, here-part, here-first, here-second, insideSecond, varsSecond}
+use Rattle.rules.proofs.Walking.{put-before, put-at, put-other}
+use Rattle.rules.proofs.Claims.{claims-first, claims-one, claims-append}
+use Rattle.rules.proofs.Shown.{map-shown, row-at}
+use Rattle.rules.proofs.Here.{Here, codes, size-positive, prefix-long, here-kept, here-line, here-part, here-first, here-second, insideSecond, varsSecond}
 use Rattle.rules.proofs.Scopes.{Scoped, scoped-none, scoped-second}
 use Rattle.rules.proofs.OneStep.{Ready, split-kept, below, step-shown, leaf-passes, unary-passes, binary-passes}
-use Rattle.rules.proofs.Views.{map-number, row-post-in, row-start-in, own-part, first-part, second-part, started, bound-shown}
+use Rattle.rules.proofs.Views.{row-post-in, row-start-in}
 
--- ------------------------------------------------------------------ claims of one site after the other
-
-first-append : (xs ys : List Claim) → firstFalse (xs ++ ys) ≡ both (firstFalse xs) (firstFalse ys)
-unfolding firstFalse both _>>=_
-first-append [] ys = refl
-first-append (c ∷ cs) ys = rw (first-append cs ys) (sym (both-assoc (judge (c .line) (c .number) (c .condition)) (firstFalse cs) (firstFalse ys)))
-
-module _ (S : Split) where
-  claims-first : (s : Site) (ss : List Site) → firstFalse (claims S (s ∷ ss)) ≡ both (firstFalse (claimsAt S s)) (firstFalse (claims S ss))
-  unfolding claims
-  claims-first s ss = first-append (claimsAt S s) (claims S ss)
-
-  claims-one : (s : Site) → firstFalse (claims S (s ∷ [])) ≡ firstFalse (claimsAt S s)
-  unfolding claims firstFalse
-  claims-one s = first-append (claimsAt S s) [] ∙ both-met (firstFalse (claimsAt S s))
-
-  claims-append : (ss rs : List Site) → firstFalse (claims S (ss ++ rs)) ≡ both (firstFalse (claims S ss)) (firstFalse (claims S rs))
-  unfolding claims firstFalse both _>>=_
-  claims-append [] rs = refl
-  claims-append (s ∷ ss) rs =
-      claims-first s (ss ++ rs)
-      ∙ rw (claims-append ss rs, claims-first s ss)
-      (sym (both-assoc (firstFalse (claimsAt S s)) (firstFalse (claims S ss)) (firstFalse (claims S rs))))
-
--- ------------------------------------------------------------------ maps before steps
-
--- a map before a step, once it is put there, and another step's
-put-at : (w : List ℕ) (i : ℕ) (m : MapNumber) → i < 256 → presAt + 256 ≤ length w → cell (putPre w i m) presAt i ≡ m .0
-unfolding putPre
-put-at w i m h l = rw (lt-ltb i 256 h) (getD-set-same w (presAt + i) (m .0) 0 (omega arith))
-
-put-other : (w : List ℕ) (i j : ℕ) (m : MapNumber) → (j ≡ i → ⊥) → cell (putPre w i m) presAt j ≡ cell w presAt j
-unfolding putPre
-put-other w i j m h = either (ltb i 256)
-  where
-    either : (t : Bool) → cell (if t then set w (presAt + i) (m .0) else w) presAt j ≡ cell w presAt j
-    either true = getD-set-other w (presAt + i) (presAt + j) (m .0) 0 (λ e. h (omega arith))
-    either false = refl
+-- the walk over the steps of a program, with its split's locations and denominator
+abbrev walkOf : Split → List ℕ → (k n : ℕ) → Out (Unit {0})
+walkOf S w k n = walk (S .header .locations) (S .header .denominator) w k n
 
 -- a map before a part is a map
 part-in : (x : UnaryWord) (pre post : MapNumber) (n : ℕ) → pre .0 < n → post .0 < n → preOfPart x pre post .0 < n
@@ -111,19 +67,21 @@ module _ (S : Split) (steps : List Step) (R : InRange steps S) (few : length (S 
   record Walked (w : List ℕ) (k m : ℕ) (Γ : Env) (pre : MapNumber) (e : Expr) : Type 0 where
     pub after : List ℕ
     pub changed : ChangedWithin presAt (presAt + (k + size e)) w after
-    pub walks : walk (S .header .locations) (S .header .denominator) w k (size e + m)
-        ≡ both (firstFalse (claims S (sites S Γ pre e))) (walk (S .header .locations) (S .header .denominator) after (k + size e) m)
+    pub walks : walkOf S w k (size e + m)
+        ≡ both (firstFalse (claims S (sites S Γ pre e))) (walkOf S after (k + size e) m)
 
   walk-first : (w : List ℕ) (k n m : ℕ) → n ≡ suc m
-      → walk (S .header .locations) (S .header .denominator) w k n
-      ≡ both (stepOutcome w (S .header .locations) (S .header .denominator) k) (walk (S .header .locations) (S .header .denominator) (passOn w k) (k + 1) m)
+      → walkOf S w k n
+      ≡ both (stepOutcome w (S .header .locations) (S .header .denominator) k) (walkOf S (passOn w k) (k + 1) m)
   unfolding walk
   walk-first w k n m e = rw e
 
   -- ready again, over a work space in which maps before steps are changed
   again : {w w′ : List ℕ} {k : ℕ} {inside : List (ℕ × ℕ)} {vars : List ℕ} {Γ : Env} {pre : MapNumber} {e : Expr}
-      → ChangedWithin presAt (presAt + 256) w w′ → HoldsSplit w S → presAt + 256 ≤ length w → Here w k inside vars e → Scoped S Γ inside vars
-      → pre .0 < length (S .maps) → cell w′ presAt k ≡ pre .0 → k + size e ≤ length (S .rows) → Ready S steps R few w′ k inside vars Γ pre e
+      → ChangedWithin presAt (presAt + 256) w w′ → HoldsSplit w S → presAt + 256 ≤ length w → Here w k inside vars e
+      → Scoped S Γ inside vars
+      → pre .0 < length (S .maps) → cell w′ presAt k ≡ pre .0 → k + size e ≤ length (S .rows)
+      → Ready S steps R few w′ k inside vars Γ pre e
   again x H long P C p q h = record {
     split = split-kept S steps R few x H;
     here = here-kept x (omega arith) P;
@@ -147,7 +105,8 @@ module _ (S : Split) (steps : List Step) (R : InRange steps S) (few : length (S 
       part-ready =
           again (changed-wider presAt (presAt + 256) (omega arith) (omega (arith, r .room)) unary-changed) (r .split) (r .long)
           (here-part x l v e₁ (r .here)) (r .scoped)
-          (part-in x pre _ _ (r .pre-in) (row-post-in w S steps (r .split) R _ k (here-line _ (r .here)) (below S steps R few _ r)))
+          (part-in x pre _ _ (r .pre-in) (row-post-in w S steps (r .split) R _ k
+          (here-line _ (r .here)) (below S steps R few _ r)))
           (rw (unary-passes S steps R few x l v e₁ r) (put-at w (k + 1) _ (omega (arith, size-positive e₁, r .room)) (r .long)))
           (omega (arith, r .room))
 
@@ -157,7 +116,8 @@ module _ (S : Split) (steps : List Step) (R : InRange steps S) (few : length (S 
       unary-walked m t = record {
         after = t .after;
         changed =
-            changed-then presAt _ unary-changed (changed-wider presAt (presAt + (k + suc (size e₁))) (omega arith) (omega arith) (t .changed));
+            changed-then presAt _ unary-changed (changed-wider presAt (presAt + (k + suc (size e₁)))
+            (omega arith) (omega arith) (t .changed));
         walks =
             let end : k + 1 + size e₁ ≡ k + suc (size e₁) = omega arith in
             walk-first w k (suc (size e₁) + m) (size e₁ + m) (omega arith)
@@ -218,7 +178,8 @@ module _ (S : Split) (steps : List Step) (R : InRange steps S) (few : length (S 
           (rw (put-before w (k + 1) (k + 2) pre (omega arith) .long) (r .long))))
           (omega (arith, r .room))
 
-      binary-walked : (m : ℕ) (t : Walked (passOn w k) (k + 1) (size e₂ + m) Γ pre e₁) → Walked (t .after) (k + 1 + size e₁) m Γ₂ pre₂ e₂
+      binary-walked : (m : ℕ) (t : Walked (passOn w k) (k + 1) (size e₂ + m) Γ pre e₁)
+          → Walked (t .after) (k + 1 + size e₁) m Γ₂ pre₂ e₂
           → Walked w k m Γ pre (binary x l v e₁ e₂)
       unfolding size sites
       binary-walked m t u = record {
@@ -268,7 +229,8 @@ module _ (w : List ℕ) (steps denominator locations : ℕ) (P : Program) (S : S
       rw (
         H .denominatorGiven,
         H .locationsGiven,
-        map-shown w S (P .steps) (H .split) (H .inRange) (record { 0 = 0 }) (omega (arith, H .inRange .mapsCounted, H .inRange .mapsFew .0)),
+        map-shown w S (P .steps) (H .split)
+            (H .inRange) (record { 0 = 0 }) (omega (arith, H .inRange .mapsCounted, H .inRange .mapsFew .0)),
       )
 
   module _ (long : length w ≡ 16384) (fewSteps : steps ≤ 256) where
@@ -276,27 +238,28 @@ module _ (w : List ℕ) (steps denominator locations : ℕ) (P : Program) (S : S
     rows-few = omega (arith, H .inRange .rowsCounted, H .stepsCounted)
 
     sized : size (P .root) ≡ steps
-    sized = sym (prefix-long (P .root)) ∙ ap length (H .wellFormedProgram .listing) ∙ sym (H .stepsCounted)
+    sized = sym (prefix-long (P .root)) ∙ ap length (H .wellFormed .listing) ∙ sym (H .stepsCounted)
 
     root-here : Here w 0 [] [] (P .root)
     unfolding codes
     root-here = record {
-      words = rw (H .wellFormedProgram .listing) (H .program .steps .words);
+      words = rw (H .wellFormed .listing) (H .program .steps .words);
       ended = H .program .ends;
       bound = H .program .lets;
-      lines = H .wellFormedProgram .numbering;
-      used = H .wellFormedProgram .usedInside;
+      lines = H .wellFormed .numbering;
+      used = H .wellFormed .usedInside;
     }
 
-    root-ready : Ready S (P .steps) (H .inRange) rows-few (set w presAt 0) 0 [] [] [] startMap (P .root)
-    unfolding startMap
+    root-ready : Ready S (P .steps) (H .inRange) rows-few (atRoot w) 0 [] [] [] startMap (P .root)
+    unfolding atRoot startMap
     root-ready =
-        again S (P .steps) (H .inRange) rows-few (changed-store presAt (presAt + 256) w presAt 0 (omega arith) (omega arith)) (H .split) (omega arith)
+        again S (P .steps) (H .inRange) rows-few (changed-store presAt (presAt + 256) w presAt 0 (omega arith)
+        (omega arith)) (H .split) (omega arith)
         root-here (scoped-none S) (omega (arith, H .inRange .mapsCounted, H .inRange .mapsFew .0))
         (getD-set-same w presAt 0 0 (omega arith)) (omega (arith, sized, H .stepsCounted, H .inRange .rowsCounted))
 
     -- 31 to 33
-    pub steps-shown : walk locations denominator (set w presAt 0) 0 steps ≡ ruled P S
+    pub steps-shown : walk locations denominator (atRoot w) 0 steps ≡ ruled P S
     unfolding ruled walk
     steps-shown =
         let end : steps ≡ size (P .root) + 0 = omega (arith, sized) in
@@ -305,6 +268,7 @@ module _ (w : List ℕ) (steps denominator locations : ℕ) (P : Program) (S : S
         ∙ both-met (firstFalse (claims S (sites S [] startMap (P .root)))))
 
     -- 30 to 33
-    pub sheets-shown : both (startOutcome w denominator locations) (walk locations denominator (set w presAt 0) 0 steps)
-        ≡ both (startAtMostOne S) (ruled P S)
+    pub sheets-shown : both (startOutcome w denominator locations) (walk locations denominator (atRoot w) 0 steps)
+        ≡ (startAtMostOne S >>= λ whole. ruled P S)
+    unfolding both
     sheets-shown = rw (start-shown, steps-shown)

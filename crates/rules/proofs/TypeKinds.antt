@@ -1,6 +1,6 @@
 -- What the else of a `let .. else` on a type is told, that it is of another kind, in terms of the definitions.
 use mathlib.Core.Path.{_≡_, refl}
-use mathlib.Core.Bool.{Bool, true, false}
+use mathlib.Core.Bool.{false}
 use mathlib.Core.List.{List, [], _∷_}
 use Prim.Native.Nat.{ℕ}
 use types.Run.{OneOf, miss}
@@ -40,7 +40,8 @@ not-tid (Ref p c) h = refl
 not-tid (Lock k) h = refl
 not-tid (Tid k) h = absurd (miss (0 ∷ 1 ∷ 2 ∷ []) 3 tt h)
 
-pub not-contains : (w : List ℕ) (t : TypeLine) (u : TypeNumber) → OneOf (0 ∷ 2 ∷ 3 ∷ []) (tagOf kind.the-type t) → containsIn w t u ≡ false
+pub not-contains : (w : List ℕ) (t : TypeLine) (u : TypeNumber) → OneOf (0 ∷ 2 ∷ 3 ∷ []) (tagOf kind.the-type t)
+    → containsIn w t u ≡ false
 unfolding containsIn
 not-contains w Int u h = refl
 not-contains w (Ref p c) u h = absurd (miss (0 ∷ 2 ∷ 3 ∷ []) 1 tt h)

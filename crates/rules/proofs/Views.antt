@@ -1,24 +1,24 @@
 -- What the view of a step shows: the rows of the step and of its parts.
 use mathlib.Core.Path.{_≡_, refl, sym, ap, _∙_}
-use mathlib.Core.List.{List, [], _∷_}
-use Prim.Native.Nat.{ℕ, _+_, _<_, _≤_}
+use mathlib.Core.List.{List}
+use Prim.Native.Nat.{ℕ, _+_, _<_}
 use native.Mathlib.Omega.{arith}
 use lib.ListN.{length, getD}
-use Rattle.spec.specs.Expression.{Step, Expr, leaf, unary, binary}
+use Rattle.spec.specs.Expression.{Step, Expr, leaf}
 use Rattle.spec.specs.Split.{Row, Split}
-use Rattle.spec.specs.Conditions.{Env, typeIn, lineOf, row}
+use Rattle.spec.specs.Conditions.{Env, lineOf, row}
 use Rattle.spec.specs.WellFormed.{UsedInside}
 use Rattle.spec.specs.Ranges.{InRange}
 use Rattle.spec.specs.declared.MapNumber.{MapNumber}
 use Rattle.spec.specs.declared.TypeNumber.{TypeNumber}
 use Rattle.spec.specs.declared.LeafWord.{LeafWord}
 use Rattle.spec.specs.declared.LeafWord.the-variants.{Var, Int, Newtid, Newlock}
-use Rattle.workspace.specs.Layout.{endsAt, letsAt, rowTypesAt, postsAt}
+use Rattle.workspace.specs.Layout.{endsAt, rowTypesAt, postsAt}
 use Rattle.workspace.specs.Holds.{HoldsSplit, letIn}
 use Rattle.workspace.proofs.Region.{column}
 use Rattle.rules.specs.Walk.{cell, viewOf}
 use Rattle.rules.proofs.Shown.{noRow, row-at, row-type, row-post, row-start}
-use Rattle.rules.proofs.Words.{Part, Bound}
+use Rattle.rules.proofs.TableRows.{Part, Bound}
 use Rattle.rules.proofs.Scopes.{Scoped}
 use Rattle.rules.proofs.Here.{Here, here-let}
 
@@ -53,7 +53,8 @@ module _ (w : List ℕ) (S : Split) (steps : List Step) (H : HoldsSplit w S) (R 
     unfolding viewOf
     own-part e line h = part-at e k line h refl refl
 
-    pub first-part : (e : Expr) → lineOf e ≡ k + 1 + 2 → k + 1 < length (S .rows) → Part S (viewOf w n d k .type1) (viewOf w n d k .post1) e
+    pub first-part : (e : Expr) → lineOf e ≡ k + 1 + 2 → k + 1 < length (S .rows)
+        → Part S (viewOf w n d k .type1) (viewOf w n d k .post1) e
     unfolding viewOf
     first-part e line h =
         part-at e (k + 1) line h (ap (λ (i : ℕ). getD w i 0) (omega arith)) (ap (λ (i : ℕ). getD w i 0) (omega arith))
@@ -74,7 +75,8 @@ module _ (w : List ℕ) (S : Split) (steps : List Step) (H : HoldsSplit w S) (R 
         type-number
         (ap (cell w (rowTypesAt + 1)) (here-let l v P)
         ∙ ap (λ (i : ℕ). getD w i 0) (omega arith)
-        ∙ column w rowTypesAt (λ (r : Row). r .type .0) (S .rows) noRow (letIn inside v + 1) (H .rowTypes) (C .within v (P .used))
+        ∙ column w rowTypesAt (λ (r : Row). r .type .0) (S .rows) noRow (letIn inside v + 1)
+        (H .rowTypes) (C .within v (P .used))
         ∙ sym (ap (λ (t : TypeNumber). t .0) (C .typed v (P .used))))
     bound-shown Int l v P C = tt
     bound-shown Newtid l v P C = tt

@@ -1,21 +1,22 @@
 -- The walk over the steps, one step at a time, and which part of the work space it changes.
-use mathlib.Core.Path.{_≡_, refl, sym, ap, _∙_}
+use mathlib.Core.Path.{_≡_, refl}
 use mathlib.Core.Bool.{Bool, true, false}
 use mathlib.Core.List.{List}
-use Prim.Native.Nat.{ℕ, zero, suc, _+_, _-_, _<_, _≤_}
+use Prim.Native.Nat.{ℕ, suc, _+_, _-_, _<_, _≤_}
 use native.Mathlib.Omega.{arith}
 use lib.Dec.{ltb}
 use lib.ListN.{length, set}
-use borrow.Author.Tests.{ltb-true}
+use lib.Seq.{getD-set-same, getD-set-other}
+use borrow.Author.Tests.{lt-ltb, ltb-true}
 use Rattle.spec.specs.Choice.{if_then_else_}
-use Rattle.spec.specs.Reading.{Out, stop, on}
+use Rattle.spec.specs.Reading.{on}
 use Rattle.spec.specs.Sites.{preOfPart, preOfSecond}
 use Rattle.spec.specs.declared.MapNumber.{MapNumber}
 use Rattle.spec.specs.declared.Word.{Word}
 use Rattle.spec.specs.declared.Word.the-variants.{Leaf, Unary, Binary}
 use Rattle.workspace.specs.Layout.{wordsAt, presAt, wordOf}
 use Rattle.workspace.specs.Region.{ChangedWithin}
-use Rattle.workspace.proofs.Region.{changed-nothing, changed-store, changed-then, changed-wider}
+use Rattle.workspace.proofs.Region.{changed-nothing, changed-store, changed-then}
 use Rattle.rules.specs.Outcome.{both}
 use Rattle.rules.specs.Walk.{cell, stepOutcome, putPre, passWord, passOn, walk}
 
@@ -63,3 +64,16 @@ pass-within w k = word (wordOf (cell w wordsAt k)) _ _ _ _ _
     word (Unary u) pre post post₁ start second = put-within w (k + 1) (preOfPart u pre post)
     word (Binary b) pre post post₁ start second =
         changed-then presAt (presAt + 256) (put-within w (k + 1) pre) (put-within _ second (preOfSecond b pre post₁ start))
+
+-- a map before a step, once it is put there, and another step's
+pub put-at : (w : List ℕ) (i : ℕ) (m : MapNumber) → i < 256 → presAt + 256 ≤ length w → cell (putPre w i m) presAt i ≡ m .0
+unfolding putPre
+put-at w i m h l = rw (lt-ltb i 256 h) (getD-set-same w (presAt + i) (m .0) 0 (omega arith))
+
+pub put-other : (w : List ℕ) (i j : ℕ) (m : MapNumber) → (j ≡ i → ⊥) → cell (putPre w i m) presAt j ≡ cell w presAt j
+unfolding putPre
+put-other w i j m h = either (ltb i 256)
+  where
+    either : (t : Bool) → cell (if t then set w (presAt + i) (m .0) else w) presAt j ≡ cell w presAt j
+    either true = getD-set-other w (presAt + i) (presAt + j) (m .0) 0 (λ e. h (omega arith))
+    either false = refl

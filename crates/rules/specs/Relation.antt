@@ -5,7 +5,7 @@ use mathlib.Core.Option.{Option}
 use Prim.Native.Nat.{ℕ, zero, suc, _+_}
 use lib.Dec.{eqb, leb}
 use Rattle.spec.specs.Split.{Map}
-use Rattle.spec.specs.Maps.{lowest, atLeast, _+ᵐ_, overWhole}
+use Rattle.spec.specs.Maps.{lowest, atLeast, _+ᵐ_}
 use Rattle.spec.specs.declared.MapNumber.{MapNumber}
 use Rattle.workspace.specs.Layout.{mapCell}
 use Rattle.rules.specs.declared.Relation.{Relation}

@@ -1,6 +1,6 @@
--- The conditions of each word, from what the work space shows of a step. proofs/Transfer.antt shows that these are
+-- The conditions of each word, from what the work space shows of a step. proofs/TableRows.antt shows that these are
 -- document 01's for the sheets that the work space holds.
-use mathlib.Core.Bool.{Bool, true, false}
+use mathlib.Core.Bool.{Bool, false}
 use mathlib.Core.List.{List, [], _∷_}
 use Prim.Native.Nat.{ℕ}
 use lib.Dec.{eqb, leb}

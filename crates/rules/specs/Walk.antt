@@ -1,17 +1,15 @@
 -- The steps in line order: what the conditions of each look at, and the map before each, which its step hands down.
-use mathlib.Core.Bool.{Bool}
 use mathlib.Core.List.{List}
 use Prim.Native.Nat.{ℕ, zero, suc, _+_}
 use lib.Dec.{ltb}
 use lib.ListN.{getD, set}
 use Rattle.spec.specs.Choice.{if_then_else_}
-use Rattle.spec.specs.Reading.{Out, stop, on}
+use Rattle.spec.specs.Reading.{Out, on}
 use Rattle.spec.specs.Maps.{overWhole}
 use Rattle.spec.specs.Conditions.{startMap}
 use Rattle.spec.specs.Sites.{preOfPart, preOfSecond}
 use Rattle.spec.specs.Verdict.{refuseOver}
 use Rattle.spec.specs.declared.MapNumber.{MapNumber}
-use Rattle.spec.specs.declared.TypeNumber.{TypeNumber}
 use Rattle.spec.specs.declared.Word.{Word}
 use Rattle.spec.specs.declared.Word.the-variants.{Leaf, Unary, Binary}
 use Rattle.workspace.specs.Layout.{wordsAt, endsAt, letsAt, rowTypesAt, postsAt, startsAt, presAt, wordOf, typeAt}
@@ -28,10 +26,8 @@ startOutcome w denominator locations = refuseOver (overWhole denominator 0 (mapF
 abbrev pub cell : (w : List ℕ) → (b i : ℕ) → ℕ
 cell w b i = getD w (b + i) 0
 
--- the type of step i, its pre, its post, the map that a spawned body starts with
-abbrev pub typeNumber : (w : List ℕ) → (i : ℕ) → TypeNumber
-typeNumber w i = record { 0 = cell w rowTypesAt i }
-
+-- what the conditions of step k look at: a first part stands just behind its step, a second part at the end of the first,
+-- the e1 of a let just behind the let
 unfoldable pub viewOf : (w : List ℕ) → (locations denominator k : ℕ) → View
 viewOf w locations denominator k = record {
   line = k + 2;
@@ -48,10 +44,15 @@ viewOf w locations denominator k = record {
   post2 = record { 0 = cell w postsAt (cell w (endsAt + 1) k) };
 }
 
+-- the conditions of step k, in order
 unfoldable pub stepOutcome : (w : List ℕ) → (locations denominator k : ℕ) → Out (Unit {0})
 stepOutcome w locations denominator k =
     let s = viewOf w locations denominator k in
     judged (k + 2) 1 (wordRow (wordOf (cell w wordsAt k)) w s (typeAt w (s .own)) (typeAt w (s .type1)))
+
+-- the start is the map before the root
+unfoldable pub atRoot : (w : List ℕ) → List ℕ
+atRoot w = set w presAt (startMap .0)
 
 -- the map before step i is m
 unfoldable pub putPre : (w : List ℕ) → (i : ℕ) → MapNumber → List ℕ

@@ -1,5 +1,6 @@
-use Prim.Native.Nat.{ℕ, _≤_, _-_}
-use mathlib.Core.Path.{_≡_, refl, sym, ap, _∙_}
+-- The loop's invariant: the lowest location from l on at which the start is over the whole is the lowest of all.
+use Prim.Native.Nat.{_≤_, _-_}
+use mathlib.Core.Path.{_≡_, refl, ap, _∙_}
 use native.Mathlib.Omega.{arith}
 use native.Mathlib.Nat.{sub-zero}
 use borrow.Author.Tests.{le-leb, lt-leb}
@@ -13,15 +14,12 @@ use Rattle.rules.specs.Walk.{startOutcome}
 use Rattle.rules.proofs.Relations.{over-later, over-here, over-nowhere}
 use Rattle.rules.proofs.check_start.Statement.{statement}
 use Rattle.rules.proofs.check_start.Tie as tie
-use Rattle.rules.proofs.check_start.Reads as reads
-use Rattle.rules.proofs.check_start.Lts as lts
-use Rattle.workspace.proofs.index.Reads as index-reads
-use Rattle.workspace.proofs.map_cell.Reads as map-cell-reads
 
 abbrev Inv-loop : tie.InvT-loop
 Inv-loop work denominator locations l₀ l =
     (l ≤ locations)
-    × (overWhole denominator 0 (mapFrom work startMap 0 locations) ≡ overWhole denominator l (mapFrom work startMap l (locations - l)))
+    × (overWhole denominator 0 (mapFrom work startMap 0 locations)
+    ≡ overWhole denominator l (mapFrom work startMap l (locations - l)))
 
 abbrev μ-loop : tie.MeasureT-loop
 μ-loop work denominator locations l₀ l = locations - l
@@ -37,7 +35,10 @@ map-cell-requires c κs = omega arith
 
 returns : tie.Need-returns Inv-loop μ-loop
 unfolding outcome startOutcome startMap refuseOver
-returns c = rw (c .before .before .before .before .loop .inv .1 ∙ over-here _ _ _ _ _ (c .before .before .before .loop-test .taken) (rw (← c .before .map-cell .ensures ∙ ap (mapCell _ _) (c .before .before .index .ensures .0)) (lt-leb _ _ (c .if1 .taken))))
+returns c =
+    rw (c .before .before .before .before .loop .inv .1
+    ∙ over-here _ _ _ _ _ (c .before .before .before .loop-test .taken) (rw (← c .before .map-cell .ensures
+    ∙ ap (mapCell _ _) (c .before .before .index .ensures .0)) (lt-leb _ _ (c .if1 .taken))))
 
 add-l : tie.Need-add-l Inv-loop μ-loop
 add-l c = omega arith
@@ -47,7 +48,12 @@ loop-less c = omega arith
 
 loop-again : tie.Need-loop-again Inv-loop μ-loop
 unfolding startMap
-loop-again c = (omega arith, c .before .before .before .before .loop .inv .1 ∙ over-later _ _ _ _ _ (c .before .before .before .loop-test .taken) (rw (← c .before .map-cell .ensures ∙ ap (mapCell _ _) (c .before .before .index .ensures .0)) (le-leb _ _ (c .if1 .left))))
+loop-again c = (
+  omega arith,
+  c .before .before .before .before .loop .inv .1
+      ∙ over-later _ _ _ _ _ (c .before .before .before .loop-test .taken) (rw (← c .before .map-cell .ensures
+      ∙ ap (mapCell _ _) (c .before .before .index .ensures .0)) (le-leb _ _ (c .if1 .left))),
+)
 
 returns-2 : tie.Need-returns-2 Inv-loop μ-loop
 unfolding outcome startOutcome refuseOver

@@ -1,17 +1,14 @@
+-- The start, then the walk over the steps; proofs/Transfer.antt says what they come to for the sheets.
 use Prim.Native.Nat.{_+_}
 use mathlib.Core.Path.{sym, _∙_}
-use native.Mathlib.Omega.{arith}
 use Rattle.workspace.specs.Layout.{presAt}
 use Rattle.workspace.proofs.Region.{changed-nothing}
+use Rattle.rules.specs.Outcome.{both}
 use Rattle.rules.proofs.Judged.{refused-stops, met-goes-on}
 use Rattle.rules.proofs.Transfer.{start-shown, sheets-shown}
 use borrow.Author.Needs.{needs}
 use Rattle.rules.proofs.rule.Statement.{statement}
 use Rattle.rules.proofs.rule.Tie as tie
-use Rattle.rules.proofs.rule.Reads as reads
-use Rattle.rules.proofs.rule.Lts as lts
-use Rattle.rules.proofs.check_start.Reads as check-start-reads
-use Rattle.rules.proofs.check_steps.Reads as check-steps-reads
 
 cast-n : tie.Need-cast-n
 cast-n c = search needs
@@ -29,10 +26,12 @@ same-length : tie.Need-same-length
 same-length c = search needs
 
 returns : tie.Need-returns
-returns c = (
-  λ P S H. rw (← start-shown _ _ _ _ P S H, ← c .before .before .check-start .ensures) (sym (refused-stops _ _ (c .enum-told2 .given .1))),
-  changed-nothing presAt (presAt + 256) _,
-)
+unfolding both
+returns c = record {
+  answers = λ P S H. rw (← start-shown _ _ _ _ P S H, ← c .before .before .check-start .ensures) (sym
+      (refused-stops _ _ (c .enum-told2 .given .1)));
+  changed = changed-nothing presAt (presAt + 256) _;
+}
 
 cast-check-steps : tie.Need-cast-check-steps
 cast-check-steps c = search needs
@@ -44,13 +43,15 @@ same-length-2 : tie.Need-same-length-2
 same-length-2 c = search needs
 
 returns-2 : tie.Need-returns-2
-returns-2 c = (
-  λ P S H.
+returns-2 c = record {
+  answers = λ P S H.
       c .before .before .check-steps .ensures .0
       ∙ sym (met-goes-on _ _ (c .before .before .before .before .enum-told .given .1))
-      ∙ rw (c .before .before .before .before .before .before .check-start .ensures) (sheets-shown _ _ _ _ P S H (c .before .before .before .before .before .before .before .before .before .pre .0) (c .before .before .before .before .before .before .before .before .before .pre .1)),
-  c .before .before .check-steps .ensures .1,
-)
+      ∙ rw (c .before .before .before .before .before .before .check-start .ensures)
+      (sheets-shown _ _ _ _ P S H (c .before .before .before .before .before .before .before .before .before .pre .0)
+      (c .before .before .before .before .before .before .before .before .before .pre .1));
+  changed = c .before .before .check-steps .ensures .1;
+}
 
 pub rule-spec : {M : Type 1} → statement M
 rule-spec =
