@@ -23,7 +23,7 @@ use Rattle.workspace.proofs.Held.{program-kept}
 use Rattle.program.specs.Sheet.{Answered}
 use Rattle.program.specs.declared.ProgramRead.{ProgramRead}
 use Rattle.program.specs.declared.ProgramRead.the-variants as program-read
-use Rattle.rules.specs.Outcome.{outcome, both}
+use Rattle.rules.specs.Outcome.{outcome}
 use Rattle.rules.specs.Contract.{HoldsSheets}
 use Rattle.rules.specs.declared.Ruling.{Ruling}
 use Rattle.rules.specs.declared.Ruling.the-variants.{Met, Refused}
@@ -58,14 +58,12 @@ module _ (p s : List ℕ) (P : Program) (F : WellFormedProgram p P) where
     pub good-split-ruled : {w w′ : List ℕ} {n d l : ℕ} {a : Answer} (S : Split) → split (P .steps) s ≡ on S
         → ChangedWithin 1024 16384 w w′ → HoldsProgram w P → HoldsSplit w′ S → n ≡ length (P .steps) → n ≤ 256
         → d ≡ S .header .denominator → l ≡ S .header .locations → RulesAnswered w′ n d l a → a ≡ verdict workspaceSize p s
-    unfolding workspaceSize programLimit splitLimit both
+    unfolding workspaceSize programLimit splitLimit
     good-split-ruled S e changed holds holds′ counted few isD isL rules =
         let G = split-well-formed (P .steps) s fits e in
         rules P S (record {
           programText = p;
-          splitText = s;
-          wellFormedProgram = F;
-          wellFormedSplit = G;
+          wellFormed = F;
           inRange = well-formed-in-range G;
           program = program-kept changed (F .listing) (omega (arith, counted, few)) holds;
           split = holds′;
@@ -83,9 +81,9 @@ program-refused-by {x = x} w r (stop y) h e = let same : y ≡ x = cc in ap stop
 program-refused-by w r (on P) h e = let clash : _≡_ {A = ℕ} 0 1 = cc in absurd (omega arith)
 
 pub program-read-by : {n : ℕ} (w : List ℕ) (r : ProgramRead) (o : Out Program) → Answered w r o → r ≡ program-read.Read n
-    → (P : Program) × (o ≡ on P) × (n ≡ length (P .steps)) × HoldsProgram w P
+    → (P : Program) × (o ≡ on P) × (n ≡ length (P .steps)) × HoldsProgram w P × (length (P .steps) ≤ 256)
 program-read-by w r (stop y) h e = let clash : _≡_ {A = ℕ} 0 1 = cc in absurd (omega arith)
-program-read-by {n = n} w r (on P) h e = let counted : n ≡ length (P .steps) = cc in (P, refl, counted, h .1)
+program-read-by {n = n} w r (on P) h e = let counted : n ≡ length (P .steps) = cc in (P, refl, counted, h .1, h .2)
 
 module _ (p s : List ℕ) where
   pub long-program-refused : 16384 < length p → Refuse LongProgram ≡ verdict workspaceSize p s

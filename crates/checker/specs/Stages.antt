@@ -3,6 +3,7 @@ use mathlib.Core.Path.{_≡_}
 use mathlib.Core.List.{List}
 use Prim.Native.Nat.{ℕ}
 use lib.ListN.{length}
+use Rattle.spec.specs.Reading.{_>>=_}
 use Rattle.spec.specs.Program.{Program}
 use Rattle.spec.specs.Split.{Split}
 use Rattle.spec.specs.WellFormed.{WellFormedProgram}
@@ -10,13 +11,12 @@ use Rattle.spec.specs.Workspace.{workspaceSize}
 use Rattle.spec.specs.Verdict.{startAtMostOne, ruled, answer, verdict}
 use Rattle.spec.specs.declared.Answer.{Answer}
 use Rattle.workspace.specs.Holds.{HoldsProgram}
-use Rattle.rules.specs.Outcome.{both}
 use Rattle.rules.specs.Contract.{HoldsSheets}
 
 -- the rules: for whichever sheets the work space holds
 abbrev pub RulesAnswered : (w : List ℕ) (steps denominator locations : ℕ) → Answer → Type 0
 RulesAnswered w steps denominator locations a =
-    (P : Program) (S : Split) → HoldsSheets w steps denominator locations P S → a ≡ answer (both (startAtMostOne S) (ruled P S))
+    (P : Program) (S : Split) → HoldsSheets w steps denominator locations P S → a ≡ answer (startAtMostOne S >>= λ whole. ruled P S)
 
 -- the split and the rules: for whichever program the work space holds
 abbrev pub SplitAnswered : (w : List ℕ) (steps : ℕ) (splitText : List ℕ) → Answer → Type 0

@@ -1,4 +1,4 @@
--- A well-formed sheet has every number in its range.
+-- A well-formed split sheet has every number in its range.
 use mathlib.Core.Path.{_≡_, refl, sym, ap, _∙_}
 use mathlib.Core.Path.{subst as along}
 use mathlib.Core.List.{List, [], _∷_, map}
@@ -14,8 +14,7 @@ use Rattle.spec.specs.Text.{Line, closed, bytes, same, Field, fields}
 use Rattle.spec.specs.Reading.{Seen, right, badForm, badRange, seen, Range, _to_, below, inRange, allInRange, numerals, ranged, numbers}
 use Rattle.spec.specs.Expression.{Step}
 use Rattle.spec.specs.Split.{Map, Header, headerOf, headerLine, refOf, lockOf, tidOf, typeLine, typeLines, mapLine, Row, rowOf, blank, startRange, rowLine, Split}
-use Rattle.spec.specs.Program.{Program, firstNumber, countLine}
-use Rattle.spec.specs.WellFormed.{Shows, nothing, line, WellFormedProgram, WellFormedSplit}
+use Rattle.spec.specs.WellFormed.{Shows, nothing, line, WellFormedSplit}
 use Rattle.spec.specs.Ranges.{InRange}
 use Rattle.spec.specs.declared.Word.{Word}
 use Rattle.spec.specs.declared.Word.the-variants.{Leaf, Unary, Binary}
@@ -96,18 +95,6 @@ all-at (r ∷ rs) (n ∷ ns) l t (suc i) h = all-at rs ns (omega (arith, l)) (an
 pub in-range-at : (rs : List Range) (fs : List Field) (ns : List ℕ) → numbers rs fs ≡ right ns
     → (i : ℕ) → i < length rs → inRange (getD rs i (0 to 0)) (getD ns i 0) ≡ true
 in-range-at rs fs ns h = let (l, t) = numbers-right rs fs ns h in all-at rs ns l t
-
--- ------------------------------------------------------------------ programs
-
-count-few : (fs : List Field) (n : ℕ) → countLine fs ≡ right n → n ≤ 256
-unfolding countLine firstNumber
-count-few [] n h = bad-form h
-count-few (f ∷ fs) n h =
-    let (ns, m, e) = seen-right _ (choice-right (same f (bytes "P")) _ h) in
-    omega (arith, e, in-to _ _ _ (in-range-at ((1 to 256) ∷ []) fs ns m 0 (omega arith)))
-
-pub few-steps : {text : List ℕ} {P : Program} → WellFormedProgram text P → length (P .steps) ≤ 256
-few-steps {P = P} F = count-few _ (length (P .steps)) (F .counted)
 
 -- ------------------------------------------------------------------ headers
 

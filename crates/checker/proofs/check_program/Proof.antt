@@ -1,7 +1,6 @@
 use mathlib.Core.Path.{_∙_}
 use Rattle.spec.specs.Program.{program}
 use native.Mathlib.Omega.{arith}
-use Rattle.spec.proofs.Ranges.{few-steps}
 use Rattle.checker.proofs.Stages.{program-refused-by, program-read-by, long-program-refused, bad-program-refused, good-program}
 use borrow.Author.Needs.{needs}
 use Rattle.checker.proofs.check_program.Statement.{statement}
@@ -31,8 +30,8 @@ enum-known-steps c = search needs
 check-split-requires : tie.Need-check-split-requires
 check-split-requires c κs =
     let text = c .before .before .before .before .before .before .before .before .before .before .before .before .args .program .now in
-    let (P, reads-on, counted, holds) = program-read-by (c .before .before .before .before .before .before .read .last .1 .0) _ (program text) (c .before .before .before .before .before .before .read .ensures .answer) (c .before .before .steps .given .1) in
-    (c .before .before .before .before .before .before .read .kept .1 .0 ∙ c .before .before .before .before .before .before .before .before .before .before .before .before .pre, omega (arith, counted, few-steps (good-program text text (c .before .before .before .before .before .before .before .before .if1 .left) reads-on)))
+    let (P, reads-on, counted, holds, few) = program-read-by (c .before .before .before .before .before .before .read .last .1 .0) _ (program text) (c .before .before .before .before .before .before .read .ensures .answer) (c .before .before .steps .given .1) in
+    (c .before .before .before .before .before .before .read .kept .1 .0 ∙ c .before .before .before .before .before .before .before .before .before .before .before .before .pre, omega (arith, counted, few))
 
 -- src/lib.rt:46:1
 same-length : tie.Need-same-length
@@ -51,7 +50,7 @@ same-length-2 c = search needs
 returns-3 : tie.Need-returns-3
 returns-3 c =
     let text = c .before .before .before .before .before .before .before .before .before .before .before .before .before .before .before .args .program .now in
-    let (P, reads-on, counted, holds) = program-read-by (c .before .before .before .before .before .before .before .before .before .read .last .1 .0) _ (program text) (c .before .before .before .before .before .before .before .before .before .read .ensures .answer) (c .before .before .before .before .before .steps .given .1) in
+    let (P, reads-on, counted, holds, few) = program-read-by (c .before .before .before .before .before .before .before .before .before .read .last .1 .0) _ (program text) (c .before .before .before .before .before .before .before .before .before .read .ensures .answer) (c .before .before .before .before .before .steps .given .1) in
     c .before .before .check-split .ensures text P (good-program text text (c .before .before .before .before .before .before .before .before .before .before .before .if1 .left) reads-on) holds counted
 
 pub check-program-spec : {M : Type 1} → statement M

@@ -24,7 +24,7 @@ same-length c = search needs
 
 -- src/lib.rt:21:1
 returns : tie.Need-returns
-returns c P S holds = met-accepts _ (c .enum-told .given .1) (c .before .before .before .before .rule .ensures .0 P S holds)
+returns c P S holds = met-accepts _ (c .enum-told .given .1) (c .before .before .before .before .rule .ensures .answers P S holds)
 
 -- src/lib.rt:21:1
 same-length-2 : tie.Need-same-length-2
@@ -32,7 +32,7 @@ same-length-2 c = search needs
 
 -- src/lib.rt:21:1
 returns-2 : tie.Need-returns-2
-returns-2 c P S holds = refused-refuses _ _ (c .before .r .given .1) (c .before .before .before .before .before .rule .ensures .0 P S holds)
+returns-2 c P S holds = refused-refuses _ _ (c .before .r .given .1) (c .before .before .before .before .before .rule .ensures .answers P S holds)
 
 pub check-rules-spec : {M : Type 1} → statement M
 check-rules-spec =
