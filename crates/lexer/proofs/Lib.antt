@@ -1,0 +1,6 @@
+pub mod SameBytes
+pub mod Digits
+pub mod Fields
+pub mod Lines
+pub mod Places
+pub mod Numerals

@@ -1,0 +1,51 @@
+-- Numerals at a cursor, and the numerals of a line.
+use mathlib.Core.Path.{_≡_, refl, sym, ap, _∙_}
+use mathlib.Core.List.{List, [], _∷_, _++_}
+use mathlib.Core.Bool.{Bool, true, false}
+use mathlib.Core.Option.{Option, none, some}
+use Prim.Native.Nat.{ℕ, suc, _+_, _-_, _≤_, _<_}
+use native.Mathlib.Omega.{arith}
+use lib.Dec.{eqb}
+use lib.ListN.{length, take, drop}
+use Rattle.spec.specs.Choice.{if_then_else_}
+use Rattle.spec.specs.Text.{Field, numeral}
+use Rattle.spec.specs.Reading.{numerals, withNumeral}
+use Rattle.lexer.specs.Views.{endOf, firstField, behind, withField, lineAt}
+use Rattle.lexer.specs.Cursors.{rest, next, spanTo, spanAt}
+use Rattle.lexer.specs.Numbers.{numeralOf, numberOf, numberAt, withRest, numbersIn, counted, numbersAt, behindLine, numbersOf}
+use Rattle.lexer.specs.declared.Cursor.{Cursor}
+use Rattle.lexer.specs.declared.Span.{Span}
+use Rattle.lexer.specs.declared.FieldEnd.{FieldEnd}
+use Rattle.lexer.specs.declared.FieldEnd.the-variants.{Comma, Newline, Text}
+use Rattle.lexer.specs.declared.Numeral.the-variants as numeral-is
+use Rattle.lexer.specs.declared.Number.the-variants as number-is
+use Rattle.lexer.proofs.Places.{span-field}
+
+-- ------------------------------------------------------------------ one numeral
+
+pub numeral-value : (o : Option ℕ) (n : ℕ) → numeralOf o ≡ numeral-is.Value n → o ≡ some n
+unfolding numeralOf
+numeral-value none n e = cc
+numeral-value (some m) n e = cc
+
+pub numeral-none : (o : Option ℕ) → numeralOf o ≡ numeral-is.Malformed → o ≡ none
+unfolding numeralOf
+numeral-none none e = refl
+numeral-none (some m) e = cc
+
+module _ (text : List ℕ) (c : Cursor) where
+  at-span : (s : Span) → s ≡ spanAt text c → (o : Option ℕ) → numeral (take (s .to - s .from) (drop (s .from) text)) ≡ o
+      → numberOf o (s .end) (s .next) ≡ numberAt text c
+  unfolding numberAt spanAt spanTo next
+  at-span s e o f = let g = sym f ∙ ap numeral (span-field text c s e) in rw (g, e)
+
+  -- what reading a numeral hands back, by what its field spells
+  pub number-value : (s : Span) → s ≡ spanAt text c → (n : ℕ)
+      → numeralOf (numeral (take (s .to - s .from) (drop (s .from) text))) ≡ numeral-is.Value n → number-is.Value n (s .end) (s .next) ≡ numberAt text c
+  unfolding numberOf
+  number-value s e n f = at-span s e (some n) (numeral-value _ n f)
+
+  pub number-none : (s : Span) → s ≡ spanAt text c
+      → numeralOf (numeral (take (s .to - s .from) (drop (s .from) text))) ≡ numeral-is.Malformed → number-is.Malformed ≡ numberAt text c
+  unfolding numberOf
+  number-none s e f = at-span s e none (numeral-none _ f)

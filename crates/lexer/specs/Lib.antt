@@ -1,0 +1,4 @@
+pub mod Views
+pub mod Cursors
+pub mod Numbers
+pub mod Words

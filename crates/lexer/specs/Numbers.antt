@@ -1,0 +1,73 @@
+-- Numerals at a cursor, as the shapes that the code hands back.
+use mathlib.Core.List.{List, [], _∷_, _++_}
+use mathlib.Core.Bool.{Bool, true, false}
+use mathlib.Core.Option.{Option, none, some}
+use mathlib.Core.Path.{_≡_}
+use Prim.Native.Nat.{ℕ, _+_, _-_}
+use lib.Dec.{eqb}
+use lib.ListN.{length}
+use Rattle.spec.specs.Choice.{if_then_else_}
+use Rattle.spec.specs.Text.{Field, numeral}
+use Rattle.spec.specs.Reading.{numerals}
+use Rattle.lexer.specs.Views.{endOf, firstField, lineAt}
+use Rattle.lexer.specs.Cursors.{rest, next}
+use Rattle.lexer.specs.declared.Cursor.{Cursor}
+use Rattle.lexer.specs.declared.FieldEnd.{FieldEnd}
+use Rattle.lexer.specs.declared.Numeral.{Numeral}
+use Rattle.lexer.specs.declared.Numeral.the-variants as numeral-is
+use Rattle.lexer.specs.declared.Number.{Number}
+use Rattle.lexer.specs.declared.Number.the-variants as number-is
+use Rattle.lexer.specs.declared.Numbers.{Numbers}
+use Rattle.lexer.specs.declared.Numbers.the-variants as numbers-are
+
+-- ------------------------------------------------------------------ one numeral
+
+unfoldable pub numeralOf : Option ℕ → Numeral
+numeralOf none = numeral-is.Malformed
+numeralOf (some n) = numeral-is.Value n
+
+unfoldable pub numberOf : Option ℕ → FieldEnd → Cursor → Number
+numberOf none e c = number-is.Malformed
+numberOf (some n) e c = number-is.Value n e c
+
+-- the numeral at a cursor, what ends it, and the cursor behind it
+unfoldable pub numberAt : List ℕ → Cursor → Number
+numberAt text c = numberOf (numeral (firstField (rest text c))) (endOf (rest text c)) (next text c)
+
+-- ------------------------------------------------------------------ the numerals of a line
+
+-- the numbers of a line that has numerals alone, and what is left behind it
+unfoldable pub withRest : Option (List ℕ) → List ℕ → Option (List ℕ × List ℕ)
+withRest none r = none
+withRest (some ns) r = some (ns, r)
+
+unfoldable pub numbersIn : Option (List Field × List ℕ) → Option (List ℕ × List ℕ)
+numbersIn none = none
+numbersIn (some line) = withRest (numerals (line .0)) (line .1)
+
+-- so many of them
+unfoldable pub counted : ℕ → Option (List ℕ × List ℕ) → Option (List ℕ × List ℕ)
+counted n none = none
+counted n (some found) = if eqb (length (found .0)) n then some found else none
+
+-- the line at a cursor, if it is of so many numerals
+unfoldable pub numbersAt : List ℕ → Cursor → ℕ → Option (List ℕ × List ℕ)
+numbersAt text c n = counted n (numbersIn (lineAt (rest text c)))
+
+-- the cursor in front of what is left behind a line
+unfoldable pub behindLine : List ℕ → Cursor → List ℕ → Cursor
+behindLine text c r = record { at = length text - length r; line = c .line + 1 }
+
+unfoldable pub numbersOf : List ℕ → Cursor → Option (List ℕ × List ℕ) → Numbers
+numbersOf text c none = numbers-are.Malformed
+numbersOf text c (some found) = numbers-are.Read (behindLine text c (found .1))
+
+-- what a lent slice holds afterwards: the numbers; of a line of another form, only its length is promised
+abbrev pub Filled : Option (List ℕ × List ℕ) → (before after : List ℕ) → Type 0
+Filled none before after = length after ≡ length before
+Filled (some found) before after = after ≡ found .0
+
+-- reading the numerals of a line into a slice of as many places
+pub record NumbersRead (text : List ℕ) (c : Cursor) (before after : List ℕ) (answer : Numbers) : Type 0 where
+  pub found : answer ≡ numbersOf text c (numbersAt text c (length before))
+  pub filled : Filled (numbersAt text c (length before)) before after

@@ -1,0 +1,208 @@
+// The cursor over a lent text, and what is read at it: fields, numerals, words, the ends of lines and of the text.
+ghost use mathlib.Core.Path.{_≡_};
+ghost use mathlib.Core.List.{_++_};
+ghost use Prim.Native.Nat.{_+_, _<_, _≤_};
+ghost use lib.ListN.{length};
+ghost use Rattle.spec.specs.Text.{leadingZero, numeral, same as sameBytes};
+ghost use Rattle.spec.specs.Program.{words, lookUp};
+ghost use Rattle.lexer.specs.Views.{nothing};
+ghost use Rattle.lexer.specs.Cursors.{Placed, start as startOf, rest, spanAt};
+ghost use Rattle.lexer.specs.Numbers.{numeralOf, numberAt, NumbersRead};
+ghost use Rattle.lexer.specs.Words.{foundOf, leafWords, unaryWords, binaryWords, typeWordOf};
+use spec::BinaryWord;
+use spec::LeafWord;
+use spec::UnaryWord;
+use spec::Word;
+
+// "A numeral has 1 to 7 digits"
+const DIGIT_LIMIT: usize = 7;
+
+// The reading place: the byte to read next, and the number of the last line read, 0 before the first.
+pub struct Cursor {
+    pub at: usize,
+    pub line: u32,
+}
+
+// What ends a field: a comma, the line's byte 10, or the end of the text.
+pub enum FieldEnd {
+    Comma,
+    Newline,
+    Text,
+}
+
+// A field: its first byte, the byte behind its last, what ends it, and the cursor behind that.
+pub struct Span {
+    pub from: usize,
+    pub to: usize,
+    pub end: FieldEnd,
+    pub next: Cursor,
+}
+
+// The number that a field spells.
+pub enum Numeral {
+    Value(u64),
+    Malformed,
+}
+
+// The number at a cursor, what ends it, and the cursor behind that.
+pub enum Number {
+    Value(u64, FieldEnd, Cursor),
+    Malformed,
+}
+
+// The cursor behind a line of numerals.
+pub enum Numbers {
+    Read(Cursor),
+    Malformed,
+}
+
+// The word of a step that a field spells.
+pub enum FoundWord {
+    Known(Word),
+    Unknown,
+}
+
+// The kind of a type line that a field spells.
+pub enum TypeWord {
+    Int,
+    Ref,
+    Lock,
+    Tid,
+    Unknown,
+}
+
+// Whether two slices hold the same bytes.
+pub fn same(a: &[u8], b: &[u8]) -> bool
+    ensures { λ r. ⌜ r ≡ sameBytes (now (a .entry)) (now (b .entry)) ⌝ }
+{
+    if a.len() != b.len() {
+        return false;
+    }
+    let mut i = 0;
+    while i < a.len() {
+        if a[i] != b[i] {
+            return false;
+        }
+        i += 1;
+    }
+    true
+}
+
+// Whether a field begins with a 0 that is not all of it.
+fn leading_zero(field: &[u8]) -> bool
+    ensures { λ r. ⌜ r ≡ leadingZero (now (field .entry)) ⌝ }
+{
+    if 1 < field.len() {
+        return field[0] == 48;
+    }
+    false
+}
+
+// The number that a field spells, where it is a numeral.
+pub fn numeral_of(field: &[u8]) -> Numeral
+    ensures { λ r. ⌜ r ≡ numeralOf (numeral (now (field .entry))) ⌝ }
+{
+    let n = field.len();
+    if n == 0 {
+        return Numeral::Malformed;
+    }
+    if DIGIT_LIMIT < n {
+        return Numeral::Malformed;
+    }
+    if leading_zero(field) {
+        return Numeral::Malformed;
+    }
+    let mut i = 0;
+    let mut value: u64 = 0;
+    while i < n {
+        let b = field[i];
+        if b < 48 {
+            return Numeral::Malformed;
+        }
+        if 57 < b {
+            return Numeral::Malformed;
+        }
+        value = value * 10 + (b as u64 - 48);
+        i += 1;
+    }
+    Numeral::Value(value)
+}
+
+impl Cursor {
+    // In front of the first line of a text.
+    pub fn start() -> Cursor
+        ensures { λ r. ⌜ r ≡ startOf ⌝ }
+    {
+        Cursor { at: 0, line: 0 }
+    }
+
+    // Whether nothing is left of the text.
+    pub fn at_end(self, text: &[u8]) -> bool
+        ensures { λ r. ⌜ r ≡ nothing (rest (now (text .entry)) self) ⌝ }
+    {
+        let at = self.at;
+        text.len() <= at
+    }
+
+    // The field at the cursor.
+    pub fn field(self, text: &[u8]) -> Span
+        requires { ⌜ Placed (now text) self ⌝ }
+        ensures { λ r. ⌜ r ≡ spanAt (now (text .entry)) self ⌝ }
+    {
+        let from = self.at;
+        let line = self.line;
+        let mut to = from;
+        while to < text.len() {
+            let b = text[to];
+            if b == 44 {
+                let at = to + 1;
+                let next = Cursor { at: at, line: line };
+                return Span {
+                    from: from,
+                    to: to,
+                    end: FieldEnd::Comma,
+                    next: next,
+                };
+            }
+            if b == 10 {
+                let at = to + 1;
+                let lines = line + 1;
+                let next = Cursor {
+                    at: at,
+                    line: lines,
+                };
+                return Span {
+                    from: from,
+                    to: to,
+                    end: FieldEnd::Newline,
+                    next: next,
+                };
+            }
+            to += 1;
+        }
+        let next = Cursor { at: to, line: line };
+        Span {
+            from: from,
+            to: to,
+            end: FieldEnd::Text,
+            next: next,
+        }
+    }
+
+    // The numeral at the cursor.
+    pub fn number(self, text: &[u8]) -> Number
+        requires { ⌜ Placed (now text) self ⌝ }
+        ensures { λ r. ⌜ r ≡ numberAt (now (text .entry)) self ⌝ }
+    {
+        let field = self.field(text);
+        let from = field.from;
+        let to = field.to;
+        let end = field.end;
+        let next = field.next;
+        let found = numeral_of(&text[from..to]);
+        match found {
+            Numeral::Value(n) => Number::Value(n, end, next),
+            Numeral::Malformed => Number::Malformed,
+        }
+    }
+}
