@@ -4,3 +4,5 @@ pub mod Fields
 pub mod Lines
 pub mod Places
 pub mod Numerals
+pub mod LineNumbers
+pub mod Words

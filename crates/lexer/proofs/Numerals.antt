@@ -1,6 +1,6 @@
 -- Numerals at a cursor, and the numerals of a line.
 use mathlib.Core.Path.{_≡_, refl, sym, ap, _∙_}
-use mathlib.Core.List.{List, [], _∷_, _++_}
+use mathlib.Core.List.{List, [], _∷_, _++_, append-assoc}
 use mathlib.Core.Bool.{Bool, true, false}
 use mathlib.Core.Option.{Option, none, some}
 use Prim.Native.Nat.{ℕ, suc, _+_, _-_, _≤_, _<_}
@@ -19,6 +19,7 @@ use Rattle.lexer.specs.declared.FieldEnd.{FieldEnd}
 use Rattle.lexer.specs.declared.FieldEnd.the-variants.{Comma, Newline, Text}
 use Rattle.lexer.specs.declared.Numeral.the-variants as numeral-is
 use Rattle.lexer.specs.declared.Number.the-variants as number-is
+use Rattle.lexer.proofs.Fields.{line-comma, line-newline, line-text, line-some}
 use Rattle.lexer.proofs.Places.{span-field}
 
 -- ------------------------------------------------------------------ one numeral
@@ -49,3 +50,25 @@ module _ (text : List ℕ) (c : Cursor) where
       → numeralOf (numeral (take (s .to - s .from) (drop (s .from) text))) ≡ numeral-is.Malformed → number-is.Malformed ≡ numberAt text c
   unfolding numberOf
   number-none s e f = at-span s e none (numeral-none _ f)
+
+value-parts : (o : Option ℕ) (e : FieldEnd) (d : Cursor) (n : ℕ) (e′ : FieldEnd) (d′ : Cursor) → numberOf o e d ≡ number-is.Value n e′ d′
+    → (o ≡ some n) × (e ≡ e′) × (d ≡ d′)
+unfolding numberOf
+value-parts none e d n e′ d′ h = let z : _≡_ {A = ℕ} 0 1 = cc in absurd (omega arith)
+value-parts (some m) e d n e′ d′ h = let p : m ≡ n = cc in (ap some p, cc, cc)
+
+none-parts : (o : Option ℕ) (e : FieldEnd) (d : Cursor) → numberOf o e d ≡ number-is.Malformed → o ≡ none
+unfolding numberOf
+none-parts none e d h = refl
+none-parts (some m) e d h = cc
+
+-- what a number at a cursor says of the text
+module _ (text : List ℕ) (c : Cursor) where
+  pub value-at-cursor : (n : ℕ) (e : FieldEnd) (d : Cursor) → numberAt text c ≡ number-is.Value n e d
+      → (numeral (firstField (rest text c)) ≡ some n) × (endOf (rest text c) ≡ e) × (next text c ≡ d)
+  unfolding numberAt
+  value-at-cursor n e d h = value-parts _ _ _ n e d h
+
+  pub none-at-cursor : numberAt text c ≡ number-is.Malformed → numeral (firstField (rest text c)) ≡ none
+  unfolding numberAt
+  none-at-cursor h = none-parts _ _ _ h

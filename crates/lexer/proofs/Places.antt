@@ -102,6 +102,15 @@ module _ (text : List ℕ) (c : Cursor) (p : Placed text c) where
   unfolding next
   next-placed = past-placed (endOf (rest text c)) (field-fits (rest text c))
 
+module _ (text : List ℕ) (c : Cursor) where
+  pub line-kept : endOf (rest text c) ≡ Comma → next text c .line ≡ c .line
+  unfolding next past
+  line-kept e = rw e
+
+  pub line-passed : endOf (rest text c) ≡ Newline → next text c .line ≡ c .line + 1
+  unfolding next past
+  line-passed e = rw e
+
 -- ------------------------------------------------------------------ the bytes of a field
 
 module _ (text : List ℕ) (c : Cursor) where

@@ -1,0 +1,179 @@
+-- The loop's invariant: the numbers of the line are those stored so far, and then those of the line from the byte reached.
+use mathlib.Core.Path.{_≡_, refl, sym, ap, _∙_}
+use mathlib.Core.List.{List, [], _∷_, _++_}
+use mathlib.Core.Option.{none, some}
+use Prim.Native.Nat.{ℕ, _≤_, _<_, _+_, _-_}
+use native.Mathlib.Numerals.{add-one}
+use native.Mathlib.Omega.{arith}
+use lib.ListN.{length, take, set, length-set, length-append}
+use lib.Seq.{take-suc-set, length-take-le}
+use borrow.Author.Needs.{needs}
+use Rattle.spec.specs.Text.{digitLimit}
+use Rattle.lexer.specs.Views.{lineAt}
+use Rattle.lexer.specs.Cursors.{Placed, rest, next}
+use Rattle.lexer.specs.Numbers.{numbersIn}
+use Rattle.lexer.proofs.LineNumbers.{ahead, ahead-none, few-counted, many-counted, all-counted, stop-malformed, stop-text, after-comma, after-newline, value-small-at, value-placed, value-line-kept, value-line-passed, whole, stands, refused, accepted}
+use Rattle.lexer.proofs.Cursor.numbers.Statement.{statement}
+use Rattle.lexer.proofs.Cursor.numbers.Tie as tie
+use Rattle.lexer.proofs.Cursor.numbers.Reads as reads
+use Rattle.lexer.proofs.Cursor.numbers.Lts as lts
+use Rattle.lexer.proofs.Cursor.number.Reads as number-reads
+
+abbrev Inv-loop : tie.InvT-loop
+Inv-loop text into₀ count cursor₀ i₀ into cursor i =
+    (i ≤ count) × (length into ≡ length into₀) × Placed text cursor × (cursor .line ≡ cursor₀ .line)
+    × (numbersIn (lineAt (rest text cursor₀)) ≡ ahead (take i into) (numbersIn (lineAt (rest text cursor))))
+
+abbrev μ-loop : tie.MeasureT-loop
+μ-loop text into₀ count cursor₀ i₀ into cursor i = count - i
+
+loop-holds : tie.Need-loop-holds Inv-loop μ-loop
+loop-holds c = (omega arith, refl, c .before .before .pre, refl, sym (ahead-none _))
+
+number-requires : tie.Need-number-requires Inv-loop μ-loop
+number-requires c κs = c .before .loop .inv .2
+
+enum-known-found : tie.Need-enum-known-found Inv-loop μ-loop
+enum-known-found c = search needs
+
+enum-told : tie.Need-enum-told Inv-loop μ-loop
+enum-told c = search needs
+
+same-length : tie.Need-same-length Inv-loop μ-loop
+same-length c = search needs
+
+returns : tie.Need-returns Inv-loop μ-loop
+returns c =
+    let here = c .before .before .before .before in
+    let h = sym (c .before .before .number .ensures) ∙ c .enum-told .given .1 in
+    refused _ _ _ _ (stop-malformed _ _ _ _ (here .loop .inv .4) _ h) (here .loop .inv .1)
+
+cast-into : tie.Need-cast-into Inv-loop μ-loop
+unfolding digitLimit
+cast-into c =
+    let h = sym (c .before .before .before .number .ensures) ∙ c .before .found .given .1 in
+    let small = value-small-at _ _ _ _ _ h in
+    omega arith
+
+mul-into : tie.Need-mul-into Inv-loop μ-loop
+mul-into c = search needs
+
+slice-write-into : tie.Need-slice-write-into Inv-loop μ-loop
+slice-write-into c = search needs
+
+add-i : tie.Need-add-i Inv-loop μ-loop
+add-i c = search needs
+
+enum-told-2 : tie.Need-enum-told-2 Inv-loop μ-loop
+enum-told-2 c = search needs
+
+loop-less : tie.Need-loop-less Inv-loop μ-loop
+loop-less c = search needs
+
+loop-again : tie.Need-loop-again Inv-loop μ-loop
+loop-again c =
+    let k = c .before .before in
+    let here = k .before .before .before .before .before in
+    let h = sym (k .before .before .before .number .ensures) ∙ k .before .found .given .1 in
+    let into = here .loop .into in
+    let i = here .loop .i in
+    let n = k .before .found .given .0 .0 in
+    let l = length-set into i n in
+    let comma = c .enum-told2 .given .1 in
+    let stored : take (i + 1) (set into i n) ≡ take i into ++ (n ∷ []) = rw add-one (take-suc-set into i n (omega arith)) in (
+      omega arith,
+      omega arith,
+      value-placed _ _ _ _ _ h (here .loop .inv .2),
+      value-line-kept _ _ _ _ _ h comma ∙ here .loop .inv .3,
+      rw stored (after-comma _ _ _ _ (here .loop .inv .4) _ _ _ h (here .loop .inv .2) comma),
+    )
+
+enum-told-3 : tie.Need-enum-told-3 Inv-loop μ-loop
+enum-told-3 c = search needs
+
+same-length-2 : tie.Need-same-length-2 Inv-loop μ-loop
+same-length-2 c = search needs
+
+returns-2 : tie.Need-returns-2 Inv-loop μ-loop
+returns-2 c =
+    let k = c .before .before .before in
+    let here = k .before .before .before .before .before in
+    let h = sym (k .before .before .before .number .ensures) ∙ k .before .found .given .1 in
+    let into = here .loop .into in
+    let i = here .loop .i in
+    let n = k .before .found .given .0 .0 in
+    let newline = c .before .enum-told3 .given .1 in
+    let found = after-newline _ _ _ _ (here .loop .inv .4) _ _ _ h (here .loop .inv .2) newline in
+    let w = whole into i n (omega arith) in
+    let l : length (take i into ++ (n ∷ [])) ≡ length into = sym (ap length w) ∙ length-set into i n in
+    accepted _ _ _ _ _ _ _ (all-counted _ _ _ _ _ found (l ∙ here .loop .inv .1)) w
+    (stands _ _ _ (value-placed _ _ _ _ _ h (here .loop .inv .2)) (value-line-passed _ _ _ _ _ h newline ∙ ap (λ (x : ℕ). x + 1) (here .loop .inv .3)))
+
+same-length-3 : tie.Need-same-length-3 Inv-loop μ-loop
+same-length-3 c = search needs
+
+returns-3 : tie.Need-returns-3 Inv-loop μ-loop
+returns-3 c =
+    let k = c .before .before .before in
+    let here = k .before .before .before .before .before in
+    let h = sym (k .before .before .before .number .ensures) ∙ k .before .found .given .1 in
+    let into = here .loop .into in
+    let i = here .loop .i in
+    let n = k .before .found .given .0 .0 in
+    let found = after-newline _ _ _ _ (here .loop .inv .4) _ _ _ h (here .loop .inv .2) (c .before .enum-told3 .given .1) in
+    let l = length-append (take i into) (n ∷ []) in
+    let m = length-take-le i into (omega arith) in
+    refused _ _ _ _ (few-counted _ _ _ _ _ found (λ e. c .if1 .left (omega arith))) (length-set into i n ∙ here .loop .inv .1)
+
+enum-told-4 : tie.Need-enum-told-4 Inv-loop μ-loop
+enum-told-4 c = search needs
+
+same-length-4 : tie.Need-same-length-4 Inv-loop μ-loop
+same-length-4 c = search needs
+
+returns-4 : tie.Need-returns-4 Inv-loop μ-loop
+returns-4 c =
+    let k = c .before .before in
+    let here = k .before .before .before .before .before in
+    let h = sym (k .before .before .before .number .ensures) ∙ k .before .found .given .1 in
+    refused _ _ _ _ (stop-text _ _ _ _ (here .loop .inv .4) _ _ _ h _ (c .enum-told4 .given .1))
+    (length-set (here .loop .into) (here .loop .i) (k .before .found .given .0 .0) ∙ here .loop .inv .1)
+
+same-length-5 : tie.Need-same-length-5 Inv-loop μ-loop
+same-length-5 c = search needs
+
+returns-5 : tie.Need-returns-5 Inv-loop μ-loop
+returns-5 c =
+    let here = c .before in
+    let m = length-take-le (here .loop .i) (here .loop .into) (omega arith) in
+    refused _ _ _ _ (many-counted _ _ _ _ _ (here .loop .inv .4) (omega arith)) (here .loop .inv .1)
+
+pub numbers-spec : {M : Type 1} → statement M
+numbers-spec =
+    tie.close
+    (tie.spec
+    Inv-loop
+    μ-loop
+    loop-holds
+    number-requires
+    enum-known-found
+    enum-told
+    same-length
+    returns
+    cast-into
+    mul-into
+    slice-write-into
+    add-i
+    enum-told-2
+    loop-less
+    loop-again
+    enum-told-3
+    same-length-2
+    returns-2
+    same-length-3
+    returns-3
+    enum-told-4
+    same-length-4
+    returns-4
+    same-length-5
+    returns-5)
