@@ -6,3 +6,6 @@ pub mod Places
 pub mod Numerals
 pub mod LineNumbers
 pub mod Words
+pub mod LineEnds
+pub mod Walks
+pub mod Ranges
