@@ -1,8 +1,8 @@
 -- Laws of numerals, at a place of a field.
-use mathlib.Core.Path.{_≡_, refl, sym, _∙_, ap}
+use mathlib.Core.Path.{_≡_, refl, _∙_}
 use mathlib.Core.List.{List, [], _∷_}
 use mathlib.Core.Bool.{Bool, true, false, _&&_, not, and-false}
-use mathlib.Core.Option.{Option, none, some}
+use mathlib.Core.Option.{none, some}
 use Prim.Native.Nat.{ℕ, _+_, _*_, _-_, _^_, _<_, _≤_}
 use native.Mathlib.Nat.{not-suc-le-zero, le-of-suc-le-suc, pow-succ', pow-le-pow-right, lt-of-lt-of-le, mul-le-mul-right}
 use native.Mathlib.Numerals.{add-one}
@@ -60,8 +60,7 @@ pub ten-more : (i a d : ℕ) → a < 10 ^ i → d ≤ 9 → a * 10 + d < 10 ^ (i
 ten-more i a d h k = rw (add-one, pow-succ') (omega arith)
 
 -- what the first digits of a numeral come to is small
-pub ten-limit : (i a : ℕ) → a < 10 ^ i → i ≤ digitLimit → a < 10000000
-unfolding digitLimit
+pub ten-limit : (i a : ℕ) → a < 10 ^ i → i ≤ digitLimit → a < 10 ^ digitLimit
 ten-limit i a h k = lt-of-lt-of-le h (pow-le-pow-right {n = 10} (lit< tt) k)
 
 -- ------------------------------------------------------------------ what is a numeral, and what is none

@@ -2,10 +2,12 @@ pub mod SameBytes
 pub mod Digits
 pub mod Fields
 pub mod Lines
+pub mod Sheets
 pub mod Places
 pub mod Numerals
-pub mod LineNumbers
-pub mod Words
-pub mod LineEnds
 pub mod Walks
+pub mod LineNumbers
+pub mod LineEnds
 pub mod Ranges
+pub mod Words
+pub mod TypeLines

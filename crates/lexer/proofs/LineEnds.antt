@@ -3,7 +3,7 @@ use mathlib.Core.Path.{_≡_, refl, sym, ap, subst, _∙_}
 use mathlib.Core.List.{List, [], _∷_}
 use mathlib.Core.Bool.{Bool, true, false}
 use mathlib.Core.Option.{Option, none, some}
-use Prim.Native.Nat.{ℕ, suc, _+_, _-_, _≤_, _<_}
+use Prim.Native.Nat.{ℕ, suc, _+_, _≤_, _<_}
 use native.Mathlib.Omega.{arith}
 use lib.Dec.{eqb}
 use lib.ListN.{length, drop, length-drop}
@@ -100,31 +100,23 @@ module _ (n : ℕ) (ns r : List ℕ) where
   counted-length none e = let z : _≡_ {A = ℕ} 0 1 = cc in absurd (omega arith)
   counted-length (some line) e = counted-parts (numerals (line .0)) (line .1) e .1
 
--- what a caller of `numbers` knows when it has read them: the numbers are in the slice, and the cursor stands behind the line
-pub record LineRead (text : List ℕ) (c : Cursor) (before after : List ℕ) (d : Cursor) : Type 0 where
-  pub numbers : numbersAt text c (length before) ≡ some (after, rest text d)
+-- what a caller of `numbers` knows when it has read n of them: they are in the slice, and the cursor stands behind the line
+pub record LineRead (text : List ℕ) (c : Cursor) (n : ℕ) (after : List ℕ) (d : Cursor) : Type 0 where
+  pub numbers : numbersAt text c n ≡ some (after, rest text d)
   pub placed : Placed text d
   pub line : d .line ≡ c .line + 1
-  pub long : length after ≡ length before
+  pub long : length after ≡ n
 
-module _ (text : List ℕ) (c : Cursor) (before after : List ℕ) where
-  pub numbers-none : NumbersRead text c before after Malformed → (numbersAt text c (length before) ≡ none) × (length after ≡ length before)
-  unfolding numbersOf
-  numbers-none h = go (numbersAt text c (length before)) (h .found) (h .filled)
-    where
-      go : (o : Option (List ℕ × List ℕ)) → Malformed ≡ numbersOf text c o → Filled o before after → (o ≡ none) × (length after ≡ length before)
-      go none e f = (refl, f)
-      go (some found) e f = let z : _≡_ {A = ℕ} 0 1 = cc in absurd (omega arith)
-
-  at-found : (ns r : List ℕ) → numbersAt text c (length before) ≡ some (ns, r) → Behind (rest text c) r
+module _ (text : List ℕ) (c : Cursor) (n : ℕ) where
+  at-found : (ns r : List ℕ) → numbersAt text c n ≡ some (ns, r) → Behind (rest text c) r
   unfolding numbersAt
-  at-found ns r e = counted-behind (length before) ns r (rest text c) (lineAt (rest text c)) (behind-line (rest text c)) e
+  at-found ns r e = counted-behind n ns r (rest text c) (lineAt (rest text c)) (behind-line (rest text c)) e
 
-  at-length : (ns r : List ℕ) → numbersAt text c (length before) ≡ some (ns, r) → length ns ≡ length before
+  at-length : (ns r : List ℕ) → numbersAt text c n ≡ some (ns, r) → length ns ≡ n
   unfolding numbersAt
-  at-length ns r e = counted-length (length before) ns r (lineAt (rest text c)) e
+  at-length ns r e = counted-length n ns r (lineAt (rest text c)) e
 
-  line-read : (ns r : List ℕ) → Placed text c → numbersAt text c (length before) ≡ some (ns, r) → LineRead text c before ns (behindLine text c r)
+  line-read : (ns r : List ℕ) → Placed text c → numbersAt text c n ≡ some (ns, r) → LineRead text c n ns (behindLine text c r)
   line-read ns r p e =
       let b = at-found ns r e in
       record {
@@ -134,12 +126,22 @@ module _ (text : List ℕ) (c : Cursor) (before after : List ℕ) where
         long = at-length ns r e;
       }
 
-  pub numbers-read : (d : Cursor) → Placed text c → NumbersRead text c before after (Read d) → LineRead text c before after d
+module _ {text : List ℕ} {c : Cursor} {before after : List ℕ} {answer : Numbers} (h : NumbersRead text c before after answer) (n : ℕ) (whole : length before ≡ n) where
+  pub numbers-none : answer ≡ Malformed → (numbersAt text c n ≡ none) × (length after ≡ n)
   unfolding numbersOf
-  numbers-read d p h = go (numbersAt text c (length before)) refl (h .found) (h .filled)
+  numbers-none a = rw whole at (go (numbersAt text c (length before)) (sym a ∙ h .found) (h .filled))
     where
-      go : (o : Option (List ℕ × List ℕ)) → numbersAt text c (length before) ≡ o → Read d ≡ numbersOf text c o → Filled o before after → LineRead text c before after d
+      go : (o : Option (List ℕ × List ℕ)) → Malformed ≡ numbersOf text c o → Filled o before after → (o ≡ none) × (length after ≡ length before)
+      go none e f = (refl, f)
+      go (some found) e f = let z : _≡_ {A = ℕ} 0 1 = cc in absurd (omega arith)
+
+  pub numbers-read : {d : Cursor} → Placed text c → answer ≡ Read d → LineRead text c n after d
+  unfolding numbersOf
+  numbers-read {d} p a = rw whole at (go (numbersAt text c (length before)) refl (sym a ∙ h .found) (h .filled))
+    where
+      go : (o : Option (List ℕ × List ℕ)) → numbersAt text c (length before) ≡ o → Read d ≡ numbersOf text c o → Filled o before after
+          → LineRead text c (length before) after d
       go none q e f = let z : _≡_ {A = ℕ} 0 1 = cc in absurd (omega arith)
       go (some found) q e f =
           let k : d ≡ behindLine text c (found .1) = cc in
-          rw (k, f) (line-read (found .0) (found .1) p q)
+          rw (k, f) (line-read text c (length before) (found .0) (found .1) p q)

@@ -1,29 +1,24 @@
 -- The numerals of a line, field by field, and reading them into a lent slice.
 use mathlib.Core.Path.{_≡_, refl, sym, ap, subst, _∙_}
 use mathlib.Core.List.{List, [], _∷_, _++_, append-assoc}
-use mathlib.Core.Bool.{Bool, true, false}
 use mathlib.Core.Option.{Option, none, some}
-use Prim.Native.Nat.{ℕ, suc, _+_, _-_, _^_, _≤_, _<_}
-use native.Mathlib.Numerals.{add-one}
+use Prim.Native.Nat.{ℕ, suc, _+_, _-_, _≤_, _<_}
 use native.Mathlib.Omega.{arith}
-use lib.Dec.{eqb}
 use lib.ListN.{length, take, drop, set, length-drop, length-append, length-set}
 use lib.Seq.{take-all, take-suc-set}
 use borrow.Author.Tests.{eq-eqb, ne-eqb}
-use Rattle.spec.specs.Choice.{if_then_else_}
-use Rattle.spec.specs.Text.{Field, digitLimit, numeral}
+use Rattle.spec.specs.Text.{Field, numeral}
 use Rattle.spec.specs.Reading.{numerals, withNumeral}
 use Rattle.lexer.specs.Views.{endOf, firstField, behind, withField, lineAt}
-use Rattle.lexer.specs.Cursors.{Placed, rest, next}
-use Rattle.lexer.specs.Numbers.{numberAt, withRest, numbersIn, counted, numbersAt, behindLine, numbersOf, Filled, NumbersRead}
+use Rattle.lexer.specs.Cursors.{Placed, rest}
+use Rattle.lexer.specs.Numbers.{numberAt, withRest, numbersIn, counted, numbersAt, behindLine, numbersOf, NumbersRead}
 use Rattle.lexer.specs.declared.Cursor.{Cursor}
 use Rattle.lexer.specs.declared.FieldEnd.{FieldEnd}
 use Rattle.lexer.specs.declared.FieldEnd.the-variants.{Comma, Newline, Text}
 use Rattle.lexer.specs.declared.Numbers.the-variants.{Read, Malformed}
 use Rattle.lexer.specs.declared.Number.the-variants as number-is
-use Rattle.lexer.proofs.Digits.{numeral-small}
-use Rattle.lexer.proofs.Places.{next-rest, next-placed, line-kept, line-passed}
-use Rattle.lexer.proofs.Numerals.{value-at-cursor, none-at-cursor}
+use Rattle.lexer.proofs.Numerals.{none-at-cursor}
+use Rattle.lexer.proofs.Walks.{number-numeral, number-comma, number-newline, number-text}
 use Rattle.lexer.proofs.Fields.{line-comma, line-newline, line-text, line-some}
 
 -- ------------------------------------------------------------------ a line of numerals, field by field
@@ -65,29 +60,19 @@ no-last : (f : Field) (r : List ℕ) → numeral f ≡ none → numbersIn (some 
 unfolding numbersIn numerals
 no-last f r e = rw e (no-rest (numerals []) r)
 
-module _ (t : List ℕ) where
-  -- a numeral and a comma: the numbers behind them follow
-  pub numbers-comma : (n : ℕ) → endOf t ≡ Comma → numeral (firstField t) ≡ some n → numbersIn (lineAt t) ≡ ahead (n ∷ []) (numbersIn (lineAt (behind t)))
-  numbers-comma n e f = rw (line-comma t e) (with-numeral (firstField t) n (lineAt (behind t)) f)
+with-last : (f : Field) (n : ℕ) (r : List ℕ) → numeral f ≡ some n → numbersIn (some (f ∷ [], r)) ≡ some (n ∷ [], r)
+unfolding numbersIn numerals withRest withNumeral
+with-last f n r e = rw e
 
-  -- a numeral and byte 10: the last number
-  pub numbers-newline : (n : ℕ) → endOf t ≡ Newline → numeral (firstField t) ≡ some n → numbersIn (lineAt t) ≡ some (n ∷ [], behind t)
-  unfolding numbersIn numerals withRest withNumeral
-  numbers-newline n e f = rw (line-newline t e, f)
-
-  -- no byte 10
-  pub numbers-text : endOf t ≡ Text → numbersIn (lineAt t) ≡ none
-  unfolding numbersIn
-  numbers-text e = rw (line-text t e)
-
-  -- no numeral
-  pub numbers-malformed : numeral (firstField t) ≡ none → numbersIn (lineAt t) ≡ none
-  numbers-malformed f = go (endOf t) refl
-    where
-      go : (e : FieldEnd) → endOf t ≡ e → numbersIn (lineAt t) ≡ none
-      go Comma e = rw (line-comma t e) (no-numeral (firstField t) (lineAt (behind t)) f)
-      go Newline e = rw (line-newline t e) (no-last (firstField t) (behind t) f)
-      go Text e = numbers-text e
+-- a line whose first field is no numeral
+no-numbers : (t : List ℕ) → numeral (firstField t) ≡ none → numbersIn (lineAt t) ≡ none
+unfolding numbersIn
+no-numbers t f = go (endOf t) refl
+  where
+    go : (e : FieldEnd) → endOf t ≡ e → numbersIn (lineAt t) ≡ none
+    go Comma e = rw (line-comma t e) (no-numeral (firstField t) (lineAt (behind t)) f)
+    go Newline e = rw (line-newline t e) (no-last (firstField t) (behind t) f)
+    go Text e = rw (line-text t e)
 
 -- ------------------------------------------------------------------ how many they are
 
@@ -147,43 +132,27 @@ module _ (text : List ℕ) (c : Cursor) (n : ℕ) where
 module _ (text : List ℕ) (top c : Cursor) (xs : List ℕ) (so-far : numbersIn (lineAt (rest text top)) ≡ ahead xs (numbersIn (lineAt (rest text c)))) where
   pub stop-malformed : (k : ℕ) → numberAt text c ≡ number-is.Malformed → numbersAt text top k ≡ none
   unfolding ahead
-  stop-malformed k h = none-counted text top k (so-far ∙ ap (ahead xs) (numbers-malformed (rest text c) (none-at-cursor text c h)))
+  stop-malformed k h = none-counted text top k (so-far ∙ ap (ahead xs) (no-numbers (rest text c) (none-at-cursor text c h)))
 
   module _ (n : ℕ) (e : FieldEnd) (d : Cursor) (h : numberAt text c ≡ number-is.Value n e d) where
-    is-next : next text c ≡ d
-    is-next = value-at-cursor text c n e d h .2
-
     pub stop-text : (k : ℕ) → e ≡ Text → numbersAt text top k ≡ none
-    unfolding ahead
-    stop-text k p = none-counted text top k (so-far ∙ ap (ahead xs) (numbers-text (rest text c) (value-at-cursor text c n e d h .1 ∙ p)))
+    unfolding ahead numbersIn
+    stop-text k p = none-counted text top k (so-far ∙ ap (λ (o : Option (List Field × List ℕ)). ahead xs (numbersIn o)) (number-text text c n e d h p))
 
     pub after-comma : Placed text c → e ≡ Comma → numbersIn (lineAt (rest text top)) ≡ ahead (xs ++ (n ∷ [])) (numbersIn (lineAt (rest text d)))
     after-comma q p =
-        let v = value-at-cursor text c n e d h in
-        let b : behind (rest text c) ≡ rest text d = sym (next-rest text c q) ∙ ap (rest text) (v .2) in
-        so-far ∙ ap (ahead xs) (numbers-comma (rest text c) n (v .1 ∙ p) (v .0) ∙ ap (λ (t : List ℕ). ahead (n ∷ []) (numbersIn (lineAt t))) b)
+        let line = number-comma text c n e d h q p in
+        let first = number-numeral text c n e d h in
+        so-far
+        ∙ ap (ahead xs) (ap numbersIn line ∙ with-numeral (firstField (rest text c)) n (lineAt (rest text d)) first)
         ∙ ahead-ahead xs (n ∷ []) (numbersIn (lineAt (rest text d)))
 
     pub after-newline : Placed text c → e ≡ Newline → numbersIn (lineAt (rest text top)) ≡ some (xs ++ (n ∷ []), rest text d)
     unfolding ahead
     after-newline q p =
-        let v = value-at-cursor text c n e d h in
-        let b : behind (rest text c) ≡ rest text d = sym (next-rest text c q) ∙ ap (rest text) (v .2) in
-        so-far ∙ ap (ahead xs) (numbers-newline (rest text c) n (v .1 ∙ p) (v .0) ∙ ap (λ (t : List ℕ). some (n ∷ [], t)) b)
-
--- what a number says of its own size, and of the cursor behind it
-module _ (text : List ℕ) (c : Cursor) (n : ℕ) (e : FieldEnd) (d : Cursor) (h : numberAt text c ≡ number-is.Value n e d) where
-  pub value-small-at : n < 10 ^ digitLimit
-  value-small-at = numeral-small (firstField (rest text c)) n (value-at-cursor text c n e d h .0)
-
-  pub value-placed : Placed text c → Placed text d
-  value-placed q = subst (Placed text) (value-at-cursor text c n e d h .2) (next-placed text c q)
-
-  pub value-line-kept : e ≡ Comma → d .line ≡ c .line
-  value-line-kept p = let v = value-at-cursor text c n e d h in ap (λ (x : Cursor). x .line) (sym (v .2)) ∙ line-kept text c (v .1 ∙ p)
-
-  pub value-line-passed : e ≡ Newline → d .line ≡ c .line + 1
-  value-line-passed p = let v = value-at-cursor text c n e d h in ap (λ (x : Cursor). x .line) (sym (v .2)) ∙ line-passed text c (v .1 ∙ p)
+        let line = number-newline text c n e d h q p in
+        let first = number-numeral text c n e d h in
+        so-far ∙ ap (ahead xs) (ap numbersIn line ∙ with-last (firstField (rest text c)) n (rest text d) first)
 
 -- ------------------------------------------------------------------ reading them
 

@@ -1,16 +1,16 @@
 -- What is left of a text, by its first line.
-use mathlib.Core.Path.{_≡_, refl, sym, ap, _∙_}
+use mathlib.Core.Path.{_≡_, refl, ap, _∙_}
 use mathlib.Core.List.{List, [], _∷_}
 use mathlib.Core.Bool.{Bool, true, false}
 use mathlib.Core.Option.{Option, none, some}
-use Prim.Native.Nat.{ℕ, suc, _+_, _≤_, _<_}
+use Prim.Native.Nat.{ℕ, _+_, _<_}
 use native.Mathlib.Omega.{arith}
 use lib.Dec.{eqb}
 use lib.ListN.{length}
 use borrow.Author.Tests.{eqb-true}
 use Rattle.spec.specs.Choice.{if_then_else_}
-use Rattle.spec.specs.Text.{Line, closed, unclosed, onLine, lines, Field, onField, fields}
-use Rattle.spec.specs.Reading.{SheetName, Out, stop, on, Seen, Place, form, miscounted, passed, nextLine, begin, noneLeft}
+use Rattle.spec.specs.Text.{Line, closed, unclosed, onLine, lines, Field, fields}
+use Rattle.spec.specs.Reading.{SheetName, stop, on, Seen, form, miscounted, passed, nextLine, begin, noneLeft}
 use Rattle.lexer.specs.Views.{withField, withByte, lineAt}
 
 -- ------------------------------------------------------------------ the first of the lines

@@ -1,25 +1,19 @@
 -- Numerals at a cursor, and the numerals of a line.
 use mathlib.Core.Path.{_≡_, refl, sym, ap, _∙_}
-use mathlib.Core.List.{List, [], _∷_, _++_, append-assoc}
-use mathlib.Core.Bool.{Bool, true, false}
+use mathlib.Core.List.{List}
 use mathlib.Core.Option.{Option, none, some}
-use Prim.Native.Nat.{ℕ, suc, _+_, _-_, _≤_, _<_}
+use Prim.Native.Nat.{ℕ, _-_}
 use native.Mathlib.Omega.{arith}
-use lib.Dec.{eqb}
-use lib.ListN.{length, take, drop}
-use Rattle.spec.specs.Choice.{if_then_else_}
-use Rattle.spec.specs.Text.{Field, numeral}
-use Rattle.spec.specs.Reading.{numerals, withNumeral}
-use Rattle.lexer.specs.Views.{endOf, firstField, behind, withField, lineAt}
+use lib.ListN.{take, drop}
+use Rattle.spec.specs.Text.{numeral}
+use Rattle.lexer.specs.Views.{endOf, firstField}
 use Rattle.lexer.specs.Cursors.{rest, next, spanTo, spanAt}
-use Rattle.lexer.specs.Numbers.{numeralOf, numberOf, numberAt, withRest, numbersIn, counted, numbersAt, behindLine, numbersOf}
+use Rattle.lexer.specs.Numbers.{numeralOf, numberOf, numberAt}
 use Rattle.lexer.specs.declared.Cursor.{Cursor}
 use Rattle.lexer.specs.declared.Span.{Span}
 use Rattle.lexer.specs.declared.FieldEnd.{FieldEnd}
-use Rattle.lexer.specs.declared.FieldEnd.the-variants.{Comma, Newline, Text}
 use Rattle.lexer.specs.declared.Numeral.the-variants as numeral-is
 use Rattle.lexer.specs.declared.Number.the-variants as number-is
-use Rattle.lexer.proofs.Fields.{line-comma, line-newline, line-text, line-some}
 use Rattle.lexer.proofs.Places.{span-field}
 
 -- ------------------------------------------------------------------ one numeral

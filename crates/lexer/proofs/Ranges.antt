@@ -1,6 +1,6 @@
 -- The numerals that end a line, against the ranges that the sheet gives them.
 use mathlib.Core.Path.{_≡_, refl, ap, _∙_}
-use mathlib.Core.List.{List, [], _∷_}
+use mathlib.Core.List.{List, _∷_}
 use mathlib.Core.Bool.{Bool, true, false}
 use mathlib.Core.Option.{Option, none, some}
 use Prim.Native.Nat.{ℕ, _+_, _<_}
@@ -9,7 +9,7 @@ use lib.Dec.{eqb}
 use lib.ListN.{length}
 use Rattle.spec.specs.Choice.{if_then_else_}
 use Rattle.spec.specs.Text.{lines, Field}
-use Rattle.spec.specs.Reading.{SheetName, Out, stop, Seen, right, badForm, badRange, Range, allInRange, numerals, ranged, numbers, form, passed, nextLine}
+use Rattle.spec.specs.Reading.{SheetName, stop, Seen, right, badForm, badRange, Range, allInRange, numerals, ranged, numbers, form, passed, nextLine}
 use Rattle.lexer.specs.Views.{withField, lineAt}
 use Rattle.lexer.specs.Cursors.{rest}
 use Rattle.lexer.specs.Numbers.{withRest, numbersIn, counted, numbersAt}

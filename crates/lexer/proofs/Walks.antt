@@ -1,22 +1,29 @@
 -- How the proof of a line's reader walks: field by field, at the cursor.
 use mathlib.Core.Path.{_≡_, refl, sym, ap, subst, _∙_}
 use mathlib.Core.List.{List, [], _∷_}
-use mathlib.Core.Bool.{Bool, true, false}
+use mathlib.Core.Bool.{true, false}
 use mathlib.Core.Option.{Option, none, some}
-use Prim.Native.Nat.{ℕ, _+_, _<_}
+use Prim.Native.Nat.{ℕ, _+_, _-_, _^_, _<_}
 use native.Mathlib.Omega.{arith}
-use lib.ListN.{length}
-use Rattle.spec.specs.Text.{lines, Field}
-use Rattle.spec.specs.Reading.{SheetName, Out, stop, Seen, badForm, form, passed, nextLine}
+use lib.ListN.{length, take, drop}
+use Rattle.spec.specs.Text.{lines, Field, digitLimit, numeral}
+use Rattle.spec.specs.Reading.{SheetName, stop, Seen, badForm, form, passed, nextLine}
 use Rattle.lexer.specs.Views.{endOf, firstField, behind, nothing, withField, lineAt}
 use Rattle.lexer.specs.Cursors.{Placed, start, rest, next, spanTo, spanAt}
+use types.Run.{OneOf, miss}
+use denote.Enum.Declared.{tagOf}
+use Rattle.lexer.proofs.FieldEnd as field-end
 use Rattle.lexer.specs.declared.Cursor.{Cursor}
 use Rattle.lexer.specs.declared.Span.{Span}
 use Rattle.lexer.specs.declared.FieldEnd.{FieldEnd}
 use Rattle.lexer.specs.declared.FieldEnd.the-variants.{Comma, Newline, Text}
 use Rattle.lexer.proofs.Fields.{line-comma, line-newline, line-text}
 use Rattle.lexer.proofs.Lines.{next-open, next-closed}
-use Rattle.lexer.proofs.Places.{next-rest, next-placed}
+use Rattle.lexer.specs.Numbers.{numberAt}
+use Rattle.lexer.specs.declared.Number.the-variants as number-is
+use Rattle.lexer.proofs.Digits.{numeral-small}
+use Rattle.lexer.proofs.Numerals.{value-at-cursor}
+use Rattle.lexer.proofs.Places.{span-field, next-rest, next-placed, line-kept, line-passed}
 
 -- ------------------------------------------------------------------ at a cursor
 
@@ -43,7 +50,7 @@ module _ (text : List ℕ) (c : Cursor) (s : Span) (is : s ≡ spanAt text c) wh
     pub span-placed : Placed text (s .next)
     span-placed = subst (Placed text) (sym span-next) (next-placed text c p)
 
-    span-behind : behind (rest text c) ≡ rest text (s .next)
+    pub span-behind : behind (rest text c) ≡ rest text (s .next)
     span-behind = sym (next-rest text c p) ∙ ap (rest text) (sym span-next)
 
     pub span-comma : s .end ≡ Comma → lineAt (rest text c) ≡ withField (firstField (rest text c)) (lineAt (rest text (s .next)))
@@ -54,6 +61,63 @@ module _ (text : List ℕ) (c : Cursor) (s : Span) (is : s ≡ spanAt text c) wh
 
     pub span-text : s .end ≡ Text → lineAt (rest text c) ≡ none
     span-text e = line-text (rest text c) (sym span-end ∙ e)
+
+  -- what is asked of the field's bytes, as `same` and `type_word` ask it, is asked of the first field
+  pub span-bytes : {A : Type 0} (g : List ℕ → A) → g (take (s .to - s .from) (drop (s .from) text)) ≡ g (firstField (rest text c))
+  span-bytes g = ap g (span-field text c s is)
+
+  pub span-line-kept : s .end ≡ Comma → s .next .line ≡ c .line
+  span-line-kept e = ap (λ (d : Cursor). d .line) span-next ∙ line-kept text c (sym span-end ∙ e)
+
+  pub span-line-passed : s .end ≡ Newline → s .next .line ≡ c .line + 1
+  span-line-passed e = ap (λ (d : Cursor). d .line) span-next ∙ line-passed text c (sym span-end ∙ e)
+
+-- what the numeral at a cursor says of the line there
+module _ (text : List ℕ) (c : Cursor) (n : ℕ) (e : FieldEnd) (d : Cursor) (is : numberAt text c ≡ number-is.Value n e d) where
+  pub number-numeral : numeral (firstField (rest text c)) ≡ some n
+  number-numeral = value-at-cursor text c n e d is .0
+
+  pub number-small : n < 10 ^ digitLimit
+  number-small = numeral-small (firstField (rest text c)) n number-numeral
+
+  pub number-end : endOf (rest text c) ≡ e
+  number-end = value-at-cursor text c n e d is .1
+
+  pub number-next : next text c ≡ d
+  number-next = value-at-cursor text c n e d is .2
+
+  pub number-line-kept : e ≡ Comma → d .line ≡ c .line
+  number-line-kept f = ap (λ (x : Cursor). x .line) (sym number-next) ∙ line-kept text c (number-end ∙ f)
+
+  pub number-line-passed : e ≡ Newline → d .line ≡ c .line + 1
+  number-line-passed f = ap (λ (x : Cursor). x .line) (sym number-next) ∙ line-passed text c (number-end ∙ f)
+
+  pub number-text : e ≡ Text → lineAt (rest text c) ≡ none
+  number-text f = line-text (rest text c) (number-end ∙ f)
+
+  module _ (p : Placed text c) where
+    pub number-placed : Placed text d
+    number-placed = subst (Placed text) number-next (next-placed text c p)
+
+    pub number-behind : behind (rest text c) ≡ rest text d
+    number-behind = sym (next-rest text c p) ∙ ap (rest text) number-next
+
+    pub number-comma : e ≡ Comma → lineAt (rest text c) ≡ withField (firstField (rest text c)) (lineAt (rest text d))
+    number-comma f = rw (← number-behind) (line-comma (rest text c) (number-end ∙ f))
+
+    pub number-newline : e ≡ Newline → lineAt (rest text c) ≡ some (firstField (rest text c) ∷ [], rest text d)
+    number-newline f = rw (← number-behind) (line-newline (rest text c) (number-end ∙ f))
+
+-- a field that a comma does not end, as a `let FieldEnd::Comma = end else` leaves it; likewise byte 10
+pub not-comma : (e : FieldEnd) → OneOf (1 ∷ 2 ∷ []) (tagOf field-end.the-type e) → e ≡ Comma → ⊥
+not-comma Comma h p = miss (1 ∷ 2 ∷ []) 0 tt h
+not-comma Newline h p = let z : _≡_ {A = ℕ} 0 1 = cc in omega arith
+not-comma Text h p = let z : _≡_ {A = ℕ} 0 1 = cc in omega arith
+
+pub not-newline : (e : FieldEnd) → OneOf (0 ∷ 2 ∷ []) (tagOf field-end.the-type e) → e ≡ Newline → ⊥
+not-newline Comma h p = let z : _≡_ {A = ℕ} 0 1 = cc in omega arith
+not-newline Newline h p = miss (0 ∷ 2 ∷ []) 1 tt h
+not-newline Text h p = let z : _≡_ {A = ℕ} 0 1 = cc in omega arith
 
 -- whether something is left
 pub left-none : (t : List ℕ) → nothing t ≡ true → t ≡ []
@@ -75,22 +139,20 @@ module _ {A : Type 0} (sheet : SheetName) (read : List Field → Seen A) (k : �
   bad-fields f none e h = next-open sheet read k t some-left e
   bad-fields f (some line) e h = next-closed sheet read k t (f ∷ line .0) (line .1) e ∙ rw h
 
-  -- the first field is enough to refuse the line
-  pub first-wrong : ((fs : List Field) → read (firstField t ∷ fs) ≡ badForm) → nextLine sheet read k (lines t) ≡ stop (form sheet (k + 1))
+  by-comma : (endOf t ≡ Comma → nextLine sheet read k (lines t) ≡ stop (form sheet (k + 1))) → read (firstField t ∷ []) ≡ badForm
+      → nextLine sheet read k (lines t) ≡ stop (form sheet (k + 1))
   unfolding passed
-  first-wrong h = go (endOf t) refl
+  by-comma n h = go (endOf t) refl
     where
       go : (e : FieldEnd) → endOf t ≡ e → nextLine sheet read k (lines t) ≡ stop (form sheet (k + 1))
-      go Comma e = bad-fields (firstField t) (lineAt (behind t)) (line-comma t e) h
+      go Comma e = n e
       go Newline e = next-closed sheet read k t (firstField t ∷ []) (behind t) (line-newline t e) ∙ rw h
       go Text e = next-open sheet read k t some-left (line-text t e)
 
+  -- the first field is enough to refuse the line
+  pub first-wrong : ((fs : List Field) → read (firstField t ∷ fs) ≡ badForm) → nextLine sheet read k (lines t) ≡ stop (form sheet (k + 1))
+  first-wrong h = by-comma (λ e. bad-fields (firstField t) (lineAt (behind t)) (line-comma t e) h) (h [])
+
   -- the first field is the last, and that is too few
   pub first-alone : (endOf t ≡ Comma → ⊥) → read (firstField t ∷ []) ≡ badForm → nextLine sheet read k (lines t) ≡ stop (form sheet (k + 1))
-  unfolding passed
-  first-alone n h = go (endOf t) refl
-    where
-      go : (e : FieldEnd) → endOf t ≡ e → nextLine sheet read k (lines t) ≡ stop (form sheet (k + 1))
-      go Comma e = absurd (n e)
-      go Newline e = next-closed sheet read k t (firstField t ∷ []) (behind t) (line-newline t e) ∙ rw h
-      go Text e = next-open sheet read k t some-left (line-text t e)
+  first-alone n h = by-comma (λ e. absurd (n e)) h

@@ -3,11 +3,17 @@ use mathlib.Core.Path.{_≡_, refl, sym, ap, _∙_}
 use mathlib.Core.List.{List, [], _∷_, _++_}
 use mathlib.Core.Bool.{Bool, true, false}
 use mathlib.Core.Option.{Option, none, some}
-use Prim.Native.Nat.{ℕ}
+use Prim.Native.Nat.{ℕ, _-_}
+use lib.ListN.{take, drop}
 use Rattle.spec.specs.Choice.{if_then_else_}
-use Rattle.spec.specs.Text.{same, bytes, Field}
+use Rattle.spec.specs.Text.{same, Field}
 use Rattle.spec.specs.Program.{words, lookUp}
 use Rattle.spec.specs.declared.Word.{Word}
+use Rattle.lexer.specs.Views.{firstField}
+use Rattle.lexer.specs.Cursors.{rest, spanAt}
+use Rattle.lexer.specs.declared.Cursor.{Cursor}
+use Rattle.lexer.specs.declared.Span.{Span}
+use Rattle.lexer.proofs.Places.{span-field}
 use Rattle.lexer.specs.Words.{foundOf, leafWords, unaryWords, binaryWords}
 use Rattle.lexer.specs.declared.FoundWord.{FoundWord}
 use Rattle.lexer.specs.declared.FoundWord.the-variants.{Known, Unknown}
@@ -79,3 +85,15 @@ module _ (f : Field) where
 
     pub binary-left : foundOf (lookUp unaryWords f) ≡ Unknown → foundOf (lookUp binaryWords f) ≡ foundOf (lookUp words f)
     binary-left e = rw words-are (sym (next-table leafWords (unaryWords ++ binaryWords) f no-leaf ∙ next-table unaryWords binaryWords f e))
+
+-- ------------------------------------------------------------------ the word at a cursor
+
+module _ (text : List ℕ) (c : Cursor) (s : Span) (is : s ≡ spanAt text c) where
+  at-span : lookUp words (firstField (rest text c)) ≡ lookUp words (take (s .to - s .from) (drop (s .from) text))
+  at-span = ap (lookUp words) (sym (span-field text c s is))
+
+  pub span-known : (w : Word) → foundOf (lookUp words (take (s .to - s .from) (drop (s .from) text))) ≡ Known w → lookUp words (firstField (rest text c)) ≡ some w
+  span-known w e = at-span ∙ known _ w e
+
+  pub span-unknown : foundOf (lookUp words (take (s .to - s .from) (drop (s .from) text))) ≡ Unknown → lookUp words (firstField (rest text c)) ≡ none
+  span-unknown e = at-span ∙ unknown _ e

@@ -1,7 +1,9 @@
 -- Cursors over a text, and what stands at them.
-use mathlib.Core.List.{List, [], _∷_}
+use mathlib.Core.List.{List}
 use Prim.Native.Nat.{ℕ, _+_, _≤_, _<_}
 use lib.ListN.{length, drop}
+use Rattle.spec.specs.Text.{lines}
+use Rattle.spec.specs.Reading.{Place}
 use Rattle.lexer.specs.Views.{width, endOf}
 use Rattle.lexer.specs.declared.Cursor.{Cursor}
 use Rattle.lexer.specs.declared.Span.{Span}
@@ -21,6 +23,10 @@ start = record { at = 0; line = 0 }
 -- what is left of the text
 unfoldable pub rest : List ℕ → Cursor → List ℕ
 rest text c = drop (c .at) text
+
+-- the cursor as a reading place of document 01: the last line read, and the lines behind it
+unfoldable pub placeAt : List ℕ → Cursor → Place
+placeAt text c = record { last = c .line; rest = lines (rest text c) }
 
 -- behind the byte that ends a field
 unfoldable pub past : FieldEnd → (to line : ℕ) → Cursor

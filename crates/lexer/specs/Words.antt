@@ -1,6 +1,5 @@
 -- The words of document 01, as the shapes that the code hands back.
 use mathlib.Core.List.{List, [], _∷_}
-use mathlib.Core.Bool.{Bool, true, false}
 use mathlib.Core.Option.{Option, none, some}
 use Prim.Native.Nat.{ℕ}
 use Rattle.spec.specs.Choice.{if_then_else_}

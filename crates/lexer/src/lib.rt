@@ -1,8 +1,5 @@
 // The cursor over a lent text, and what is read at it: fields, numerals, words, the ends of lines and of the text.
 ghost use mathlib.Core.Path.{_≡_};
-ghost use mathlib.Core.List.{_++_};
-ghost use Prim.Native.Nat.{_+_, _<_, _≤_};
-ghost use lib.ListN.{length};
 ghost use Rattle.spec.specs.Text.{leadingZero, numeral, same as sameBytes};
 ghost use Rattle.spec.specs.Program.{words, lookUp};
 ghost use Rattle.lexer.specs.Views.{nothing};
@@ -93,7 +90,7 @@ fn leading_zero(field: &[u8]) -> bool
     ensures { λ r. ⌜ r ≡ leadingZero (now (field .entry)) ⌝ }
 {
     if 1 < field.len() {
-        return field[0] == 48;
+        return field[0] == b'0';
     }
     false
 }
@@ -116,10 +113,10 @@ pub fn numeral_of(field: &[u8]) -> Numeral
     let mut value: u64 = 0;
     while i < n {
         let b = field[i];
-        if b < 48 {
+        if b < b'0' {
             return Numeral::Malformed;
         }
-        if 57 < b {
+        if b'9' < b {
             return Numeral::Malformed;
         }
         value = value * 10 + (b as u64 - 48);
@@ -154,38 +151,35 @@ impl Cursor {
         let mut to = from;
         while to < text.len() {
             let b = text[to];
-            if b == 44 {
+            if b == b',' {
                 let at = to + 1;
-                let next = Cursor { at: at, line: line };
+                let next = Cursor { at, line };
                 return Span {
-                    from: from,
-                    to: to,
+                    from,
+                    to,
                     end: FieldEnd::Comma,
-                    next: next,
+                    next,
                 };
             }
-            if b == 10 {
+            if b == b'\n' {
                 let at = to + 1;
-                let lines = line + 1;
-                let next = Cursor {
-                    at: at,
-                    line: lines,
-                };
+                let line = line + 1;
+                let next = Cursor { at, line };
                 return Span {
-                    from: from,
-                    to: to,
+                    from,
+                    to,
                     end: FieldEnd::Newline,
-                    next: next,
+                    next,
                 };
             }
             to += 1;
         }
-        let next = Cursor { at: to, line: line };
+        let next = Cursor { at: to, line };
         Span {
-            from: from,
-            to: to,
+            from,
+            to,
             end: FieldEnd::Text,
-            next: next,
+            next,
         }
     }
 
@@ -236,7 +230,7 @@ impl Cursor {
                 }
             }
         }
-        Numbers::Malformed
+        Numbers::Malformed // a numeral too many
     }
 }
 

@@ -16,3 +16,4 @@ pub mod Ranges
 pub mod KnownPairs
 pub mod EdgeSheets
 pub mod EdgeConditions
+pub mod FirstFalse

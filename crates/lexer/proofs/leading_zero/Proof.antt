@@ -1,3 +1,4 @@
+-- A field of one byte has no leading zero; of a longer one the first byte tells.
 use mathlib.Core.Path.{sym}
 use borrow.Author.Needs.{needs}
 use Rattle.lexer.proofs.Digits.{leading-one, leading-two}

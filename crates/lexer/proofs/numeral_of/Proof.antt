@@ -10,9 +10,6 @@ use Rattle.lexer.specs.Numbers.{numeralOf}
 use Rattle.lexer.proofs.Digits.{digits-low, digits-high, digits-on, digits-end, value-at, value-end, ten-more, ten-limit, not-short, not-long, not-leading, not-digits, is-numeral}
 use Rattle.lexer.proofs.numeral_of.Statement.{statement}
 use Rattle.lexer.proofs.numeral_of.Tie as tie
-use Rattle.lexer.proofs.numeral_of.Reads as reads
-use Rattle.lexer.proofs.numeral_of.Lts as lts
-use Rattle.lexer.proofs.leading_zero.Reads as leading-zero-reads
 
 abbrev Inv-loop : tie.InvT-loop
 Inv-loop field n i₀ value₀ i value =

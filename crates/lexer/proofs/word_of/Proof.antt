@@ -1,13 +1,9 @@
+-- The three tables, one after the other, are the table of document 01.
 use mathlib.Core.Path.{sym, _∙_}
 use borrow.Author.Needs.{needs}
 use Rattle.lexer.proofs.Words.{leaf-found, unary-found, binary-left}
 use Rattle.lexer.proofs.word_of.Statement.{statement}
 use Rattle.lexer.proofs.word_of.Tie as tie
-use Rattle.lexer.proofs.word_of.Reads as reads
-use Rattle.lexer.proofs.word_of.Lts as lts
-use Rattle.lexer.proofs.binary_word.Reads as binary-word-reads
-use Rattle.lexer.proofs.leaf_word.Reads as leaf-word-reads
-use Rattle.lexer.proofs.unary_word.Reads as unary-word-reads
 
 leaf-word-requires : tie.Need-leaf-word-requires
 leaf-word-requires c κs = search needs

@@ -1,3 +1,4 @@
+-- Nothing is left where the cursor is at the text's end.
 use mathlib.Core.Path.{sym}
 use Rattle.lexer.proofs.Places.{nothing-left}
 use Rattle.lexer.proofs.Cursor.at_end.Statement.{statement}

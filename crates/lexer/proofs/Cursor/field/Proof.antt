@@ -1,5 +1,5 @@
 -- The loop's invariant: from the cursor and from the byte reached, the field ends at the same byte and in the same way.
-use mathlib.Core.Path.{_≡_, refl, sym, _∙_}
+use mathlib.Core.Path.{_≡_, refl, _∙_}
 use Prim.Native.Nat.{_≤_, _+_, _-_}
 use native.Mathlib.Omega.{arith}
 use lib.ListN.{length, drop}
@@ -11,8 +11,6 @@ use Rattle.lexer.proofs.Fields.{comma-width, comma-end, newline-width, 
 use Rattle.lexer.proofs.Places.{span-is}
 use Rattle.lexer.proofs.Cursor.field.Statement.{statement}
 use Rattle.lexer.proofs.Cursor.field.Tie as tie
-use Rattle.lexer.proofs.Cursor.field.Reads as reads
-use Rattle.lexer.proofs.Cursor.field.Lts as lts
 
 abbrev Inv-loop : tie.InvT-loop
 Inv-loop text from line to₀ to =
@@ -42,8 +40,8 @@ returns c =
 add-at-2 : tie.Need-add-at-2 Inv-loop μ-loop
 add-at-2 c = search needs
 
-add-lines : tie.Need-add-lines Inv-loop μ-loop
-add-lines c = search needs
+add-line : tie.Need-add-line Inv-loop μ-loop
+add-line c = search needs
 
 returns-2 : tie.Need-returns-2 Inv-loop μ-loop
 unfolding rest past spanTo
@@ -88,7 +86,7 @@ field-spec =
     add-at
     returns
     add-at-2
-    add-lines
+    add-line
     returns-2
     add-to
     loop-less

@@ -1,13 +1,10 @@
+-- The bytes that are read as a numeral are the first field of what is left at the cursor.
 use mathlib.Core.Path.{sym, _∙_}
 use borrow.Author.Needs.{needs}
 use Rattle.lexer.proofs.Places.{span-le}
 use Rattle.lexer.proofs.Numerals.{number-value, number-none}
 use Rattle.lexer.proofs.Cursor.number.Statement.{statement}
 use Rattle.lexer.proofs.Cursor.number.Tie as tie
-use Rattle.lexer.proofs.Cursor.number.Reads as reads
-use Rattle.lexer.proofs.Cursor.number.Lts as lts
-use Rattle.lexer.proofs.Cursor.field.Reads as field-reads
-use Rattle.lexer.proofs.numeral_of.Reads as numeral-of-reads
 
 field-requires : tie.Need-field-requires
 field-requires c κs = search needs

@@ -1,8 +1,7 @@
 -- The loop's invariant: the numbers of the line are those stored so far, and then those of the line from the byte reached.
 use mathlib.Core.Path.{_≡_, refl, sym, ap, _∙_}
-use mathlib.Core.List.{List, [], _∷_, _++_}
-use mathlib.Core.Option.{none, some}
-use Prim.Native.Nat.{ℕ, _≤_, _<_, _+_, _-_}
+use mathlib.Core.List.{[], _∷_, _++_}
+use Prim.Native.Nat.{ℕ, _≤_, _+_, _-_}
 use native.Mathlib.Numerals.{add-one}
 use native.Mathlib.Omega.{arith}
 use lib.ListN.{length, take, set, length-set, length-append}
@@ -10,14 +9,12 @@ use lib.Seq.{take-suc-set, length-take-le}
 use borrow.Author.Needs.{needs}
 use Rattle.spec.specs.Text.{digitLimit}
 use Rattle.lexer.specs.Views.{lineAt}
-use Rattle.lexer.specs.Cursors.{Placed, rest, next}
+use Rattle.lexer.specs.Cursors.{Placed, rest}
 use Rattle.lexer.specs.Numbers.{numbersIn}
-use Rattle.lexer.proofs.LineNumbers.{ahead, ahead-none, few-counted, many-counted, all-counted, stop-malformed, stop-text, after-comma, after-newline, value-small-at, value-placed, value-line-kept, value-line-passed, whole, stands, refused, accepted}
+use Rattle.lexer.proofs.Walks.{number-small, number-placed, number-line-kept, number-line-passed}
+use Rattle.lexer.proofs.LineNumbers.{ahead, ahead-none, few-counted, many-counted, all-counted, stop-malformed, stop-text, after-comma, after-newline, whole, stands, refused, accepted}
 use Rattle.lexer.proofs.Cursor.numbers.Statement.{statement}
 use Rattle.lexer.proofs.Cursor.numbers.Tie as tie
-use Rattle.lexer.proofs.Cursor.numbers.Reads as reads
-use Rattle.lexer.proofs.Cursor.numbers.Lts as lts
-use Rattle.lexer.proofs.Cursor.number.Reads as number-reads
 
 abbrev Inv-loop : tie.InvT-loop
 Inv-loop text into₀ count cursor₀ i₀ into cursor i =
@@ -52,7 +49,7 @@ cast-into : tie.Need-cast-into Inv-loop μ-loop
 unfolding digitLimit
 cast-into c =
     let h = sym (c .before .before .before .number .ensures) ∙ c .before .found .given .1 in
-    let small = value-small-at _ _ _ _ _ h in
+    let small = number-small _ _ _ _ _ h in
     omega arith
 
 mul-into : tie.Need-mul-into Inv-loop μ-loop
@@ -83,8 +80,8 @@ loop-again c =
     let stored : take (i + 1) (set into i n) ≡ take i into ++ (n ∷ []) = rw add-one (take-suc-set into i n (omega arith)) in (
       omega arith,
       omega arith,
-      value-placed _ _ _ _ _ h (here .loop .inv .2),
-      value-line-kept _ _ _ _ _ h comma ∙ here .loop .inv .3,
+      number-placed _ _ _ _ _ h (here .loop .inv .2),
+      number-line-kept _ _ _ _ _ h comma ∙ here .loop .inv .3,
       rw stored (after-comma _ _ _ _ (here .loop .inv .4) _ _ _ h (here .loop .inv .2) comma),
     )
 
@@ -107,7 +104,7 @@ returns-2 c =
     let w = whole into i n (omega arith) in
     let l : length (take i into ++ (n ∷ [])) ≡ length into = sym (ap length w) ∙ length-set into i n in
     accepted _ _ _ _ _ _ _ (all-counted _ _ _ _ _ found (l ∙ here .loop .inv .1)) w
-    (stands _ _ _ (value-placed _ _ _ _ _ h (here .loop .inv .2)) (value-line-passed _ _ _ _ _ h newline ∙ ap (λ (x : ℕ). x + 1) (here .loop .inv .3)))
+    (stands _ _ _ (number-placed _ _ _ _ _ h (here .loop .inv .2)) (number-line-passed _ _ _ _ _ h newline ∙ ap (λ (x : ℕ). x + 1) (here .loop .inv .3)))
 
 same-length-3 : tie.Need-same-length-3 Inv-loop μ-loop
 same-length-3 c = search needs

@@ -1,0 +1,120 @@
+-- Programs that Figure 5 derives, and that are therefore safe.
+use Prim.Native.Nat.{ℕ, zero, suc, _+_, _≤_}
+use mathlib.Core.Path.{_≡_, refl}
+use mathlib.Core.Option.{some}
+use native.Mathlib.Decide.{ℕ-discrete}
+use native.Mathlib.Omega.{arith}
+use Rattle.calculus.specs.Claim.{Safe}
+use Rattle.calculus.specs.Capability.{nothing, _≈_⊕_}
+use Rattle.calculus.specs.Figure5.{Ty, int-type, ref-type, lock-type, tid-type, Env, empty, _∣_∣_⊢_∶_∣_, VAR, INT, LET, WHILE, NEWT, SPAWN, JOIN, REF, WRITE, READ, NEWL, FREEL, LCK, ULCK}
+use Rattle.calculus.specs.Examples.{holding, figure-2b, figure-2c, section-2-2-1-thread, section-2-2-1, freed-lock}
+use Rattle.calculus.proofs.Laws.Order.{≥-refl}
+use Rattle.calculus.proofs.Safety.{derived-is-safe}
+
+pub holding-sum : (a b c d : ℕ) → holding (a + c) (b + d) ≈ holding a b ⊕ holding c d
+holding-sum a b c d = record { at = by-location }
+  where
+    by-location : (ρ : ℕ) → holding (a + c) (b + d) ρ ≡ holding a b ρ + holding c d ρ
+    by-location zero = refl
+    by-location (suc zero) = refl
+    by-location (suc (suc ρ)) = refl
+
+holding-at-most : (D a b : ℕ) → a ≤ D → b ≤ D → (ρ : ℕ) → holding a b ρ ≤ D
+holding-at-most D a b h k zero = h
+holding-at-most D a b h k (suc zero) = k
+holding-at-most D a b h k (suc (suc ρ)) = omega arith
+
+-- A cell of location 0, and one of location 1.
+abbrev x-type : Ty
+x-type = ref-type 0 int-type
+
+abbrev y-type : Ty
+y-type = ref-type 1 int-type
+
+-- ---- Figure 2 (b): the identifier carries half of x, which the spawned thread starts with
+
+pub figure-2b-derived : 2 ∣ empty ∣ holding 2 0 ⊢ figure-2b ∶ int-type ∣ holding 2 0
+unfolding ℕ-discrete
+figure-2b-derived =
+    let half = holding-sum 1 0 1 0 in
+    LET {τ₁ = x-type} (REF INT)
+    (LET {τ₁ = tid-type (holding 1 0)} NEWT
+    (LET {τ₁ = int-type} (SPAWN {Ψ₃ = holding 1 0} (VAR refl) (READ {Ψ₁ = holding 1 0} {ρ = 0} (VAR refl) (omega arith)) ≥-refl half)
+    (LET {τ₁ = int-type} (JOIN (VAR refl) half)
+    (WRITE {Ψ₂ = holding 2 0} {τ = int-type} {ρ = 0} (VAR refl) INT (omega arith)))))
+
+pub figure-2b-is-safe : Safe figure-2b
+figure-2b-is-safe = derived-is-safe (omega arith) figure-2b-derived (holding-at-most 2 2 0 (omega arith) (omega arith))
+
+-- ---- Figure 2 (c): the lock lends the whole of x
+
+pub figure-2c-derived : 1 ∣ empty ∣ holding 1 0 ⊢ figure-2c ∶ int-type ∣ holding 0 0
+unfolding ℕ-discrete
+figure-2c-derived =
+    let whole = holding-sum 0 0 1 0 in
+    LET {τ₁ = x-type} (REF INT)
+    (LET {τ₁ = lock-type (holding 1 0)} (NEWL whole)
+    (LET {τ₁ = int-type}
+    (SPAWN {Ψ₁ = holding 0 0} {Ψ₃ = holding 0 0} NEWT
+    (LET {τ₁ = int-type} (LCK (VAR refl) whole)
+    (LET {τ₁ = int-type} (READ {Ψ₁ = holding 1 0} {ρ = 0} (VAR refl) (omega arith)) (ULCK {Ψ₃ = holding 0 0} (VAR refl) whole)))
+    ≥-refl (holding-sum 0 0 0 0))
+    (LET {τ₁ = int-type} (LCK (VAR refl) whole)
+    (LET {τ₁ = int-type} (WRITE {Ψ₂ = holding 1 0} {τ = int-type} {ρ = 0} (VAR refl) INT (omega arith))
+    (ULCK (VAR refl) whole)))))
+
+pub figure-2c-is-safe : Safe figure-2c
+figure-2c-is-safe = derived-is-safe (omega arith) figure-2c-derived (holding-at-most 1 1 0 (omega arith) (omega arith))
+
+-- ---- Section 2.2.1: t carries half of y, and l lends the whole of x
+
+abbrev t-type : Ty
+t-type = tid-type (holding 0 1)
+
+abbrev l-type : Ty
+l-type = lock-type (holding 2 0)
+
+section-2-2-1-thread-derived : (Γ : Env) → Γ 0 ≡ some x-type → Γ 1 ≡ some y-type → Γ 3 ≡ some l-type →
+    2 ∣ Γ ∣ holding 0 1 ⊢ section-2-2-1-thread ∶ int-type ∣ holding 0 1
+unfolding ℕ-discrete
+section-2-2-1-thread-derived Γ x y l =
+    LET {τ₁ = int-type} (READ {Ψ₁ = holding 0 1} {ρ = 1} (VAR y) (omega arith))
+    (LET {τ₁ = int-type} (LCK (VAR l) (holding-sum 0 1 2 0))
+    (LET {τ₁ = int-type} (WRITE {Ψ₂ = holding 2 1} {τ = int-type} {ρ = 0} (VAR x) (VAR refl) (omega arith))
+    (ULCK (VAR l) (holding-sum 0 1 2 0))))
+
+pub section-2-2-1-derived : 2 ∣ empty ∣ holding 2 2 ⊢ section-2-2-1 ∶ int-type ∣ holding 0 2
+unfolding ℕ-discrete
+section-2-2-1-derived =
+    LET {τ₁ = x-type} (REF INT)
+    (LET {τ₁ = y-type} (REF INT)
+    (LET {τ₁ = t-type} NEWT
+    (LET {τ₁ = l-type} (NEWL (holding-sum 0 2 2 0))
+    (WHILE
+    (LET {τ₁ = int-type} (SPAWN {Ψ₃ = holding 0 1} (VAR refl) (section-2-2-1-thread-derived _ refl refl refl) ≥-refl (holding-sum 0 1 0 1))
+    (LET {τ₁ = int-type} (SPAWN {Ψ₃ = holding 0 1} (VAR refl) (section-2-2-1-thread-derived _ refl refl refl) ≥-refl (holding-sum 0 0 0 1))
+    (LET {τ₁ = int-type} (JOIN (VAR refl) (holding-sum 0 0 0 1))
+    (LET {τ₁ = int-type} (JOIN (VAR refl) (holding-sum 0 1 0 1))
+    (WRITE {Ψ₂ = holding 0 2} {τ = int-type} {ρ = 1} (VAR refl) INT (omega arith))))))
+    ≥-refl ≥-refl))))
+
+pub section-2-2-1-is-safe : Safe section-2-2-1
+section-2-2-1-is-safe = derived-is-safe (omega arith) section-2-2-1-derived (holding-at-most 2 2 2 (omega arith) (omega arith))
+
+-- ---- The lock that is locked after it was freed: Figure 5 derives it, since the thread that would gain so much waits for good
+
+pub freed-lock-derived : 1 ∣ empty ∣ holding 1 0 ⊢ freed-lock ∶ int-type ∣ holding 1 0
+unfolding ℕ-discrete
+freed-lock-derived =
+    LET {τ₁ = x-type} (REF INT)
+    (LET {τ₁ = lock-type (holding 1 0)} (NEWL (holding-sum 0 0 1 0))
+    (LET {τ₁ = int-type} (FREEL (VAR refl) (holding-sum 0 0 1 0))
+    (LET {τ₁ = lock-type (holding 0 0)} (NEWL (holding-sum 1 0 0 0))
+    (LET {τ₁ = int-type} (LCK (VAR refl) (holding-sum 1 0 1 0))
+    (LET {τ₁ = int-type}
+    (SPAWN {Ψ₁ = nothing} {Ψ₃ = holding 1 0} NEWT (WRITE {Ψ₂ = holding 1 0} {τ = int-type} {ρ = 0} (VAR refl) INT (omega arith))
+    (record { at = λ ρ. omega arith }) (holding-sum 1 0 1 0))
+    (WRITE {Ψ₂ = holding 1 0} {τ = int-type} {ρ = 0} (VAR refl) INT (omega arith)))))))
+
+pub freed-lock-is-safe : Safe freed-lock
+freed-lock-is-safe = derived-is-safe (omega arith) freed-lock-derived (holding-at-most 1 1 0 (omega arith) (omega arith))

@@ -1,0 +1,108 @@
+-- Threads that halt: where the claim allows it, and where it does not.
+use Prim.Native.Nat.{ℕ, zero, suc}
+use mathlib.Core.Path.{_≡_, refl, ap, sym, _∙_}
+use mathlib.Core.Logic.{_≢_, _⊎_, inl, inr}
+use mathlib.Core.Option.{some}
+use mathlib.Core.List.{[], _∷_}
+use native.Mathlib.Decide.{ℕ-discrete}
+use native.Mathlib.Omega.{arith}
+use Rattle.calculus.specs.Expression.{Value, int, name, Unary, join, ref, read, freelock, lock, unlock, Exp, value, unary, unary-redex, at-word}
+use Rattle.calculus.specs.State.{LockState, closed, removed, opened, a-lock, Thread, State, Move, update}
+use Rattle.calculus.specs.Reduction.{_>>_, lock-state, zero-exp, becomes, unary-reduct, reduce, attempt, run, start}
+use Rattle.calculus.specs.Claim.{ThreadAt, Finished, finished, is-lock, Waits, at-join, at-lock, at-freelock, Halts, HaltsWell, Safe}
+use Rattle.calculus.specs.Examples.{goes, names, on-constant, figure-2b, moves-2b-to-join, figure-2c, moves-2c-to-lock, freed-lock, moves-freed-lock}
+use Rattle.calculus.proofs.Laws.Maps.{some-injective, none-is-not-some}
+use Rattle.calculus.proofs.Laws.NextWord.{word-injective}
+use Rattle.calculus.proofs.Laws.Waiting.{waiting-halts, stuck-halts}
+use Rattle.calculus.proofs.Examples.Claims.{odd-halt-is-not-safe}
+
+-- ---- Odd halts: a constant is of the wrong kind for every word with one part but `ref`
+
+constant-stops : (o : Unary) → o ≢ ref → (s : State) (m : Move) (t : Thread) (s′ : State) → unary-reduct s m t o (int 0) ≡ some s′ → ⊥
+constant-stops join d s m t s′ q = none-is-not-some q
+constant-stops ref d s m t s′ q = d refl
+constant-stops read d s m t s′ q = none-is-not-some q
+constant-stops freelock d s m t s′ q = none-is-not-some q
+constant-stops lock d s m t s′ q = none-is-not-some q
+constant-stops unlock d s m t s′ q = none-is-not-some q
+
+pub word-on-constant-halts : (o : Unary) → o ≢ ref → Halts (start (on-constant o)) 0
+unfolding start
+word-on-constant-halts o d = stuck-halts (start (on-constant o)) 0 refl
+    λ m r s′ w q. constant-stops o d (start (on-constant o)) m _ s′ (rw (word-injective (sym w)) at q)
+
+constant-is-no-name : {A : Type 0} {o p : Unary} {k n : ℕ} → at-word (unary-redex o (int k)) ≡ at-word (unary-redex p (name n)) → A
+constant-is-no-name h = let z : _≡_ {A = ℕ} 0 1 = cc in absurd (omega (arith, z))
+
+unary-is-no-value : {A : Type 0} {o : Unary} {e : Exp} {v : Value} → unary o e ≡ value v → A
+unary-is-no-value h = let z : _≡_ {A = ℕ} 0 1 = cc in absurd (omega (arith, z))
+
+-- A thread waits on what a name names, so never on a constant.
+constant-is-not-waited-for : (s : State) (o : Unary) (i : ℕ) → ¬ Waits s (record { tid = i; body = on-constant o })
+constant-is-not-waited-for s o i (at-join n b k f) = constant-is-no-name b
+constant-is-not-waited-for s o i (at-lock n b k f) = constant-is-no-name b
+constant-is-not-waited-for s o i (at-freelock n b k f) = constant-is-no-name b
+
+pub word-on-constant-halts-oddly : (o : Unary) → o ≢ ref → ¬ HaltsWell (start (on-constant o))
+unfolding start
+word-on-constant-halts-oddly o d well = by-cases (well 0 _ refl (word-on-constant-halts o d))
+  where
+    by-cases : ¬ (Finished (record { tid = 0; body = on-constant o }) ⊎ Waits (start (on-constant o)) (record { tid = 0; body = on-constant o }))
+    by-cases (inl (finished v e)) = unary-is-no-value e
+    by-cases (inr w) = constant-is-not-waited-for (start (on-constant o)) o 0 w
+
+-- `! 0` and `unlock 0`, to name two.
+pub read-of-constant-halts-oddly : ¬ HaltsWell (start (on-constant read))
+read-of-constant-halts-oddly = word-on-constant-halts-oddly read λ h. let z : _≡_ {A = ℕ} 0 1 = cc in omega (arith, z)
+
+pub unlock-of-constant-halts-oddly : ¬ HaltsWell (start (on-constant unlock))
+unlock-of-constant-halts-oddly = word-on-constant-halts-oddly unlock λ h. let z : _≡_ {A = ℕ} 0 1 = cc in omega (arith, z)
+
+pub word-on-constant-is-not-safe : (o : Unary) → o ≢ ref → ¬ Safe (on-constant o)
+unfolding run
+word-on-constant-is-not-safe o d = odd-halt-is-not-safe (on-constant o) [] (word-on-constant-halts-oddly o d)
+
+-- ---- Halts that the claim allows
+
+-- Thread i of s waits, and so halts.
+pub record HaltsWaiting (s : State) (i : ℕ) : Type 0 where
+  pub t : Thread
+  pub there : ThreadAt s i t
+  pub waits : Waits s t
+  pub halts : Halts s i
+
+closed-is-not-opened : a-lock closed ≢ a-lock opened
+closed-is-not-opened h = let z : _≡_ {A = ℕ} 0 1 = cc in absurd (omega (arith, z))
+
+removed-is-not-opened : a-lock removed ≢ a-lock opened
+removed-is-not-opened h = let z : _≡_ {A = ℕ} 0 1 = cc in absurd (omega (arith, z))
+
+waiting : {t : Thread} (s : State) (i : ℕ) → ThreadAt s i t → Waits s t → HaltsWaiting s i
+waiting {t} s i there w = record { t = t; there = there; waits = w; halts = waiting-halts s i there w }
+
+-- Figure 2 (c), while the spawned thread holds the lock.
+pub figure-2c-waits-at-closed-lock : HaltsWaiting (run moves-2c-to-lock (start figure-2c)) 0
+unfolding start run attempt reduce ℕ-discrete
+figure-2c-waits-at-closed-lock = waiting (run moves-2c-to-lock (start figure-2c)) 0 refl (at-lock 2 refl is-lock closed-is-not-opened)
+
+-- The lock that was freed: its name, 2, stays used, so the new lock is 3, and the thread waits at a removed lock for good.
+pub freed-lock-waits-at-removed-lock : HaltsWaiting (run (names 0 3 ∷ goes 0 ∷ []) (run moves-freed-lock (start freed-lock))) 0
+unfolding start run attempt reduce ℕ-discrete
+freed-lock-waits-at-removed-lock =
+    waiting (run (names 0 3 ∷ goes 0 ∷ []) (run moves-freed-lock (start freed-lock))) 0 refl (at-lock 2 refl is-lock removed-is-not-opened)
+
+-- Figure 2 (b), while the spawned thread has not read: of its two threads the first has another identifier, and the second has not finished.
+pub figure-2b-waits-at-join : HaltsWaiting (run moves-2b-to-join (start figure-2b)) 0
+unfolding start run attempt reduce ℕ-discrete
+figure-2b-waits-at-join = waiting (run moves-2b-to-join (start figure-2b)) 0 refl (at-join 2 refl refl none-finished)
+  where
+    none-finished : (j : ℕ) (u : Thread) → ThreadAt (run moves-2b-to-join (start figure-2b)) j u → u .tid ≡ 2 → ¬ Finished u
+    none-finished zero u at-u same f = let z : _≡_ {A = ℕ} 0 2 = ap (λ (x : Thread). x .tid) (some-injective at-u) ∙ same in omega (arith, z)
+    none-finished (suc zero) u at-u same (finished v e) = unary-is-no-value (ap (λ (x : Thread). x .body) (some-injective at-u) ∙ e)
+    none-finished (suc (suc j)) u at-u same f = none-is-not-some at-u
+
+-- ---- `unlock` goes ahead on any lock, held or not, and makes a removed one open
+
+pub unlock-opens : (s : State) (m : Move) (t : Thread) (n : ℕ) (l : LockState) → s .names n ≡ a-lock l →
+    unary-reduct s m t unlock (name n) ≡ some (becomes s m t (update (s .names) n (a-lock opened)) zero-exp)
+unlock-opens s m t n l e = ap (λ sl. lock-state sl >> some (becomes s m t (update (s .names) n (a-lock opened)) zero-exp)) e

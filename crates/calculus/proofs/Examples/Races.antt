@@ -1,0 +1,42 @@
+-- Programs that race.
+use Prim.Native.Nat.{ℕ, _≤_, _<_}
+use mathlib.Core.Path.{refl}
+use mathlib.Core.Logic.{inl, inr}
+use native.Mathlib.Decide.{ℕ-discrete}
+use native.Mathlib.Omega.{arith}
+use Rattle.calculus.specs.Expression.{int}
+use Rattle.calculus.specs.Reduction.{reduce, attempt, run, start}
+use Rattle.calculus.specs.Claim.{about-to-read, about-to-write, Race, race, Safe}
+use Rattle.calculus.specs.Capability.{Cap}
+use Rattle.calculus.specs.Figure5.{Ty, empty, _∣_∣_⊢_∶_∣_}
+use Rattle.calculus.specs.Examples.{figure-2a, moves-2a, two-locks, moves-two-locks, one-identifier, moves-one-identifier}
+use Rattle.calculus.proofs.Safety.{derived-is-safe}
+use Rattle.calculus.proofs.Examples.Claims.{race-is-not-safe}
+
+-- ---- Figure 2 (a)
+
+pub figure-2a-races : Race (run moves-2a (start figure-2a))
+unfolding start run attempt reduce ℕ-discrete
+figure-2a-races = race 0 1 1 _ _ (omega arith) refl refl (about-to-write (int 0) (int 1) refl refl) (inl (about-to-read (int 0) refl refl))
+
+pub figure-2a-is-not-safe : ¬ Safe figure-2a
+figure-2a-is-not-safe = race-is-not-safe figure-2a moves-2a figure-2a-races
+
+-- ---- Two locks for one cell
+
+pub two-locks-race : Race (run moves-two-locks (start two-locks))
+unfolding start run attempt reduce ℕ-discrete
+two-locks-race = race 0 1 1 _ _ (omega arith) refl refl (about-to-write (int 0) (int 1) refl refl) (inl (about-to-read (int 0) refl refl))
+
+-- So Figure 5 does not derive it from a start of at most the whole. With NEWL-unsound it would: each lock would lend the whole of x.
+pub two-locks-has-no-derivation : {D : ℕ} {Ψ Φ : Cap} {τ : Ty} → 0 < D → ((ρ : ℕ) → Ψ ρ ≤ D) → ¬ (D ∣ empty ∣ Ψ ⊢ two-locks ∶ τ ∣ Φ)
+two-locks-has-no-derivation positive at-most-whole derived =
+    race-is-not-safe two-locks moves-two-locks two-locks-race (derived-is-safe positive derived at-most-whole)
+
+-- ---- Two threads with one identifier are two threads
+
+pub one-identifier-races : Race (run moves-one-identifier (start one-identifier))
+unfolding start run attempt reduce ℕ-discrete
+one-identifier-races =
+    race 1 2 1 (record { tid = 2; body = _ }) (record { tid = 2; body = _ }) (omega arith) refl refl
+    (about-to-write (int 0) (int 1) refl refl) (inr (about-to-write (int 0) (int 2) refl refl))

@@ -1,0 +1,48 @@
+-- Programs that run to their end.
+use mathlib.Core.Path.{_≡_, refl}
+use mathlib.Core.List.{[], _∷_}
+use native.Mathlib.Decide.{ℕ-discrete}
+use Rattle.calculus.specs.Expression.{int}
+use Rattle.calculus.specs.State.{cell, opened, a-lock}
+use Rattle.calculus.specs.Reduction.{reduce, attempt, run, start}
+use Rattle.calculus.specs.Claim.{ThreadAt}
+use Rattle.calculus.specs.Examples.{constant, figure-2b, moves-2b-to-join, moves-2b-to-end, figure-2c, moves-2c-to-lock, moves-2c-to-end, section-2-2-1, moves-2-2-1-to-loop, moves-2-2-1-threads, moves-2-2-1-to-end}
+
+-- The first thread is left, and x holds 1.
+pub figure-2b-ends : (run moves-2b-to-end (run moves-2b-to-join (start figure-2b))) .threads ≡ (record { tid = 0; body = constant 0 } ∷ [])
+unfolding start run attempt reduce ℕ-discrete
+figure-2b-ends = refl
+
+pub figure-2b-writes : (run moves-2b-to-end (run moves-2b-to-join (start figure-2b))) .names 1 ≡ cell (int 1)
+unfolding start run attempt reduce ℕ-discrete
+figure-2b-writes = refl
+
+-- Both threads have finished, x holds 1, and the lock is open.
+pub figure-2c-ends : (run moves-2c-to-end (run moves-2c-to-lock (start figure-2c))) .threads ≡
+    (record { tid = 0; body = constant 0 } ∷ record { tid = 3; body = constant 0 } ∷ [])
+unfolding start run attempt reduce ℕ-discrete
+figure-2c-ends = refl
+
+pub figure-2c-writes : (run moves-2c-to-end (run moves-2c-to-lock (start figure-2c))) .names 1 ≡ cell (int 1)
+unfolding start run attempt reduce ℕ-discrete
+figure-2c-writes = refl
+
+pub figure-2c-unlocks : (run moves-2c-to-end (run moves-2c-to-lock (start figure-2c))) .names 2 ≡ a-lock opened
+unfolding start run attempt reduce ℕ-discrete
+figure-2c-unlocks = refl
+
+-- Section 2.2.1, once through the loop: both spawned threads, of one identifier, finish; they are joined, and the loop is left.
+pub section-2-2-1-first-finishes :
+    ThreadAt (run moves-2-2-1-threads (run moves-2-2-1-to-loop (start section-2-2-1))) 1 (record { tid = 3; body = constant 0 })
+unfolding start run attempt reduce ℕ-discrete
+section-2-2-1-first-finishes = refl
+
+pub section-2-2-1-second-finishes :
+    ThreadAt (run moves-2-2-1-threads (run moves-2-2-1-to-loop (start section-2-2-1))) 2 (record { tid = 3; body = constant 0 })
+unfolding start run attempt reduce ℕ-discrete
+section-2-2-1-second-finishes = refl
+
+pub section-2-2-1-ends : (run moves-2-2-1-to-end (run moves-2-2-1-threads (run moves-2-2-1-to-loop (start section-2-2-1)))) .threads ≡
+    (record { tid = 0; body = constant 0 } ∷ [])
+unfolding start run attempt reduce ℕ-discrete
+section-2-2-1-ends = refl

@@ -1,0 +1,109 @@
+-- Well-typed states (Definition 2.3), and the two ways in which a change keeps them well typed.
+use Prim.Native.Nat.{ℕ, suc, _+_, _≤_, max}
+use mathlib.Core.Path.{_≡_, ap, _∙_}
+use mathlib.Core.Logic.{_≢_}
+use mathlib.Core.Option.{Option, none, some}
+use mathlib.Core.List.{List}
+use native.Mathlib.Decide.{ℕ-discrete}
+use native.Mathlib.Omega.{arith}
+use Rattle.calculus.specs.Expression.{Value, choose}
+use Rattle.calculus.specs.State.{LockState, opened, closed, removed, Slot, unused, identifier, cell, a-lock, Thread, State, update}
+use Rattle.calculus.specs.Capability.{Cap, nothing}
+use Rattle.calculus.specs.Figure5.{Ty, int-type, ref-type, lock-type, tid-type, Env}
+use Rattle.calculus.proofs.Laws.Maps.{update-same, update-other, update-above}
+use Rattle.calculus.proofs.Typing.{ValueTyped}
+use Rattle.calculus.proofs.Substitution.{_⊆_, value-grows}
+use Rattle.calculus.proofs.Pool.{Pool}
+use Rattle.calculus.proofs.Laws.Total.{total, total-with-one-changed}
+
+-- ---- Slots
+
+-- A slot has the type that its name has; a name has none until it is used. A lock's type does not change as it opens, closes
+-- and is removed.
+pub data SlotTyped (N : Env) : Slot → Option Ty → Type 0 where
+  slot-unused : SlotTyped N unused none
+  slot-identifier : {K : Cap} → SlotTyped N identifier (some (tid-type K))
+  slot-cell : {v : Value} {ρ : ℕ} {τ : Ty} → ValueTyped N v τ → SlotTyped N (cell v) (some (ref-type ρ τ))
+  slot-lock : {l : LockState} {K : Cap} → SlotTyped N (a-lock l) (some (lock-type K))
+
+slot-grows : {N N′ : Env} {sl : Slot} {o : Option Ty} → N ⊆ N′ → SlotTyped N sl o → SlotTyped N′ sl o
+slot-grows s slot-unused = slot-unused
+slot-grows s slot-identifier = slot-identifier
+slot-grows s (slot-cell t) = slot-cell (value-grows s t)
+slot-grows s slot-lock = slot-lock
+
+-- What a thing of that type hands over, once.
+abbrev pub load : Option Ty → Cap
+load none = nothing
+load (some int-type) = nothing
+load (some (ref-type ρ τ)) = nothing
+load (some (lock-type K)) = K
+load (some (tid-type K)) = nothing
+
+-- What a slot keeps, of a thing with that load: an open lock keeps its load, and nothing else keeps any.
+abbrev pub keeps : Slot → Cap → Cap
+keeps unused K = nothing
+keeps identifier K = nothing
+keeps (cell v) K = nothing
+keeps (a-lock opened) K = K
+keeps (a-lock closed) K = nothing
+keeps (a-lock removed) K = nothing
+
+-- What the thing named n keeps of location ρ.
+abbrev pub kept : (ℕ → Slot) → Env → ℕ → ℕ → ℕ
+kept names N ρ n = keeps (names n) (load (N n)) ρ
+
+-- ---- States
+
+-- The types N of the names, and what the threads hold together, are such that every thread and every slot is typed, and of no
+-- location is more than the whole, D, held and kept. Above `top` every name is unused, so names do not run out.
+pub record WellTyped (D : ℕ) (s : State) : Type 0 where
+  pub N : Env
+  pub held : Cap
+  pub pool : Pool D N (s .threads) held
+  pub slots : (n : ℕ) → SlotTyped N (s .names n) (N n)
+  pub budget : (ρ b : ℕ) → held ρ + total (kept (s .names) N ρ) b ≤ D
+  pub top : ℕ
+  pub above : (n : ℕ) → top ≤ n → s .names n ≡ unused
+
+-- Other threads that hold no more, and the same names.
+pub threads-change-keeps : {D : ℕ} {s : State} {ts : List Thread} (I : WellTyped D s) → Pool D (I .N) ts (I .held) →
+    WellTyped D (record { threads = ts; names = s .names })
+threads-change-keeps I P = record { N = I .N; held = I .held; pool = P; slots = I .slots; budget = I .budget; top = I .top; above = I .above }
+
+-- Other threads, and one name n with another slot and perhaps a first type: no more may be held, and kept at n, than before.
+-- This is the one place that looks into the sum over the names.
+module _ {D : ℕ} {s : State} (I : WellTyped D s) (n : ℕ) (sl : Slot) (N′ : Env) (held′ : Cap)
+    (grows : I .N ⊆ N′) (elsewhere : (m : ℕ) → m ≢ n → N′ m ≡ I .N m) (ok : SlotTyped N′ sl (N′ n))
+    (no-more : (ρ : ℕ) → held′ ρ + keeps sl (load (N′ n)) ρ ≤ I .held ρ + kept (s .names) (I .N) ρ n) where
+  changed-slots : (m : ℕ) → SlotTyped N′ (update (s .names) n sl m) (N′ m)
+  changed-slots m = by-cases (ℕ-discrete m n)
+    where
+      by-cases : (d : Dec (m ≡ n)) → SlotTyped N′ (choose d sl (s .names m)) (N′ m)
+      by-cases (yes e) = rw e ok
+      by-cases (no e) = rw (elsewhere m e) (slot-grows grows (I .slots m))
+
+  kept-there : (ρ : ℕ) → kept (update (s .names) n sl) N′ ρ n ≡ keeps sl (load (N′ n)) ρ
+  kept-there ρ = ap (λ z. keeps z (load (N′ n)) ρ) (update-same (s .names) n sl)
+
+  kept-elsewhere : (ρ m : ℕ) → m ≢ n → kept (update (s .names) n sl) N′ ρ m ≡ kept (s .names) (I .N) ρ m
+  kept-elsewhere ρ m e =
+      ap (λ z. keeps z (load (N′ m)) ρ) (update-other (s .names) n m sl e) ∙ ap (λ z. keeps (s .names m) (load z) ρ) (elsewhere m e)
+
+  changed-budget : (ρ b : ℕ) → held′ ρ + total (kept (update (s .names) n sl) N′ ρ) b ≤ D
+  changed-budget ρ b =
+      let before = kept (s .names) (I .N) ρ in
+      let after = kept (update (s .names) n sl) N′ ρ in
+      let (c, sum) = total-with-one-changed before after n (λ m e. omega (arith, kept-elsewhere ρ m e)) b in
+      omega (arith, sum, kept-there ρ, no-more ρ, I .budget ρ c)
+
+  pub name-change-keeps : {ts : List Thread} → Pool D N′ ts held′ → WellTyped D (record { threads = ts; names = update (s .names) n sl })
+  name-change-keeps P = record {
+    N = N′;
+    held = held′;
+    pool = P;
+    slots = changed-slots;
+    budget = changed-budget;
+    top = max (suc n) (I .top);
+    above = update-above (s .names) n (I .top) sl unused (I .above);
+  }

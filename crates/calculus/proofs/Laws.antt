@@ -1,0 +1,8 @@
+-- Laws of the definitions by themselves, whatever is typed.
+pub mod Maps
+pub mod Order
+pub mod Total
+pub mod NextWord
+pub mod Questions
+pub mod Names
+pub mod Waiting

@@ -1,0 +1,135 @@
+-- Names in any run, of any program: a used name stays used, and names never run out.
+use Prim.Native.Nat.{ℕ, suc, _≤_, max}
+use mathlib.Core.Path.{_≡_, refl}
+use mathlib.Core.Path.{subst as along}
+use mathlib.Core.Logic.{_≢_}
+use mathlib.Core.Option.{Option, none, some}
+use mathlib.Core.List.{List, [], _∷_}
+use native.Mathlib.Decide.{ℕ-discrete}
+use native.Mathlib.Omega.{arith}
+use lib.ListN.{getElem?}
+use Rattle.calculus.specs.Expression.{Value, Unary, join, ref, read, freelock, lock, unlock, Maker, newtid, newlock, Exp, Redex, let-redex, if-redex, while-redex, spawn-redex, write-redex, unary-redex, make-redex, next, choose}
+use Rattle.calculus.specs.State.{LockState, opened, Slot, unused, identifier, cell, a-lock, Thread, State, Move, update}
+use Rattle.calculus.specs.Reduction.{name-of, if-unused, if-identifier, content, lock-state, if-opened, if-equal, value-of, word-of, made, named, taken, unary-reduct, reduct, reduce, or-else, attempt, states, start}
+use Rattle.calculus.specs.Claim.{Every}
+use Rattle.calculus.proofs.Laws.Maps.{some-injective, bind-is-some, update-other, update-above}
+
+-- ---- What a reduction does to the names
+
+-- No name has another slot than before, or one has, and is used.
+pub data OneChanged (names : ℕ → Slot) : (ℕ → Slot) → Type 0 where
+  none-changed : OneChanged names names
+  one-changed : (n : ℕ) (sl : Slot) → sl ≢ unused → OneChanged names (update names n sl)
+
+identifier-is-used : identifier ≢ unused
+identifier-is-used h = let z : _≡_ {A = ℕ} 0 1 = cc in omega (arith, z)
+
+cell-is-used : {v : Value} → cell v ≢ unused
+cell-is-used h = let z : _≡_ {A = ℕ} 0 1 = cc in omega (arith, z)
+
+lock-is-used : {l : LockState} → a-lock l ≢ unused
+lock-is-used h = let z : _≡_ {A = ℕ} 0 1 = cc in omega (arith, z)
+
+made-is-used : (o : Maker) → made o ≢ unused
+made-is-used newtid = identifier-is-used
+made-is-used newlock = lock-is-used
+
+module _ (s : State) (m : Move) (t : Thread) where
+  -- The state that a reduction is told to give.
+  told : {a b : State} → OneChanged (s .names) (a .names) → some a ≡ some b → OneChanged (s .names) (b .names)
+  told h q = along (λ (z : State). OneChanged (s .names) (z .names)) (some-injective q) h
+
+  named-changes-one : (new : Slot) (s′ : State) → new ≢ unused → named s m t new ≡ some s′ → OneChanged (s .names) (s′ .names)
+  named-changes-one new s′ used q =
+      let (_, _, q₁) = bind-is-some (if-unused (s .names (m .fresh))) q in
+      told (one-changed (m .fresh) new used) q₁
+
+  taken-changes-one : (v : Value) (after : Slot) (s′ : State) → after ≢ unused → taken s m t v after ≡ some s′ →
+      OneChanged (s .names) (s′ .names)
+  taken-changes-one v after s′ used q =
+      let (n, _, q₁) = bind-is-some (name-of v) q in
+      let (l, _, q₂) = bind-is-some (lock-state (s .names n)) q₁ in
+      let (_, _, q₃) = bind-is-some (if-opened l) q₂ in
+      told (one-changed n after used) q₃
+
+  unary-changes-one : (o : Unary) (v : Value) (s′ : State) → unary-reduct s m t o v ≡ some s′ → OneChanged (s .names) (s′ .names)
+  unary-changes-one join v s′ q =
+      let (n, _, q₁) = bind-is-some (name-of v) q in
+      let (_, _, q₂) = bind-is-some (if-identifier (s .names n)) q₁ in
+      let (u, _, q₃) = bind-is-some (getElem? (s .threads) (m .finished)) q₂ in
+      let (_, _, q₄) = bind-is-some (if-equal (u .tid) n) q₃ in
+      let (_, _, q₅) = bind-is-some (value-of (next (u .body))) q₄ in
+      told none-changed q₅
+  unary-changes-one ref v s′ q = named-changes-one _ s′ cell-is-used q
+  unary-changes-one read v s′ q =
+      let (n, _, q₁) = bind-is-some (name-of v) q in
+      let (_, _, q₂) = bind-is-some (content (s .names n)) q₁ in
+      told none-changed q₂
+  unary-changes-one freelock v s′ q = taken-changes-one v _ s′ lock-is-used q
+  unary-changes-one lock v s′ q = taken-changes-one v _ s′ lock-is-used q
+  unary-changes-one unlock v s′ q =
+      let (n, _, q₁) = bind-is-some (name-of v) q in
+      let (_, _, q₂) = bind-is-some (lock-state (s .names n)) q₁ in
+      told (one-changed n (a-lock opened) lock-is-used) q₂
+
+  reduct-changes-one : (r : Redex) (s′ : State) → reduct s m t r ≡ some s′ → OneChanged (s .names) (s′ .names)
+  reduct-changes-one (let-redex x v e) s′ q = told none-changed q
+  reduct-changes-one (if-redex e₁ e₂) s′ q = told none-changed q
+  reduct-changes-one (while-redex e) s′ q = told none-changed q
+  reduct-changes-one (spawn-redex v e) s′ q =
+      let (n, _, q₁) = bind-is-some (name-of v) q in
+      let (_, _, q₂) = bind-is-some (if-identifier (s .names n)) q₁ in
+      told none-changed q₂
+  reduct-changes-one (write-redex v w) s′ q =
+      let (n, _, q₁) = bind-is-some (name-of v) q in
+      let (_, _, q₂) = bind-is-some (content (s .names n)) q₁ in
+      told (one-changed n (cell w) cell-is-used) q₂
+  reduct-changes-one (unary-redex o v) s′ q = unary-changes-one o v s′ q
+  reduct-changes-one (make-redex o) s′ q = named-changes-one _ s′ (made-is-used o) q
+
+pub attempt-changes-one : (s : State) (m : Move) → OneChanged (s .names) (attempt s m .names)
+unfolding attempt reduce
+attempt-changes-one s m = by-cases (reduce s m) refl
+  where
+    by-cases : (o : Option State) → reduce s m ≡ o → OneChanged (s .names) (or-else o s .names)
+    by-cases none q = none-changed
+    by-cases (some s′) q =
+        let (t, _, q₁) = bind-is-some (getElem? (s .threads) (m .thread)) q in
+        let (r, _, q₂) = bind-is-some (word-of (next (t .body))) q₁ in
+        reduct-changes-one s m t r s′ q₂
+
+-- ---- A used name stays used, a freed one too
+
+change-keeps-used : {f g : ℕ → Slot} → OneChanged f g → (n : ℕ) → f n ≢ unused → g n ≢ unused
+change-keeps-used none-changed n h = h
+change-keeps-used {f} (one-changed k sl d) n h = by-cases (ℕ-discrete n k)
+  where
+    by-cases : (e : Dec (n ≡ k)) → choose e sl (f n) ≢ unused
+    by-cases (yes e) = d
+    by-cases (no e) = h
+
+pub used-name-stays-used : (s : State) (m : Move) (n : ℕ) → s .names n ≢ unused → attempt s m .names n ≢ unused
+used-name-stays-used s m = change-keeps-used (attempt-changes-one s m)
+
+-- ---- Names never run out
+
+-- From some number on every name is unused.
+pub record Bounded (names : ℕ → Slot) : Type 0 where
+  pub top : ℕ
+  pub above : (n : ℕ) → top ≤ n → names n ≡ unused
+
+change-keeps-bound : {f g : ℕ → Slot} → OneChanged f g → Bounded f → Bounded g
+change-keeps-bound none-changed B = B
+change-keeps-bound {f} (one-changed n sl d) B = record { top = max (suc n) (B .top); above = update-above f n (B .top) sl unused (B .above) }
+
+run-has-unused-names : (ms : List Move) (s : State) → Bounded (s .names) → Every (λ s′. (n : ℕ) × (s′ .names n ≡ unused)) (states ms s)
+unfolding states
+run-has-unused-names [] s B = ((B .top, B .above (B .top) (omega arith)), tt)
+run-has-unused-names (m ∷ ms) s B =
+    ((B .top, B .above (B .top) (omega arith)), run-has-unused-names ms (attempt s m) (change-keeps-bound (attempt-changes-one s m) B))
+
+-- In every state on the way some name is unused.
+pub names-never-run-out : (e : Exp) (ms : List Move) → Every (λ s. (n : ℕ) × (s .names n ≡ unused)) (states ms (start e))
+unfolding start
+names-never-run-out e ms =
+    run-has-unused-names ms (start e) (record { top = 1; above = λ n h. update-other (λ k. unused) 0 n identifier (omega arith) })

@@ -1,0 +1,177 @@
+-- A reduction keeps a state well typed (Lemma 2.4).
+use Prim.Native.Nat.{ℕ}
+use mathlib.Core.Path.{_≡_, refl, sym, ap, _∙_}
+use mathlib.Core.Logic.{_≢_}
+use mathlib.Core.Option.{Option, some}
+use native.Mathlib.Omega.{arith}
+use lib.ListN.{getElem?}
+use Rattle.calculus.specs.Expression.{Value, name, Unary, join, ref, read, freelock, lock, unlock, newtid, newlock, Exp, value, let-in, if, while, Redex, let-redex, if-redex, while-redex, spawn-redex, write-redex, unary-redex, make-redex, is-value, at-word, next, substitute}
+use Rattle.calculus.specs.State.{opened, Slot, unused, identifier, cell, a-lock, Thread, State, Part, first, second, Move}
+use Rattle.calculus.specs.Reduction.{if-unused, if-identifier, content, lock-state, if-opened, if-equal, value-of, word-of, zero-exp, nowhere, part-listed, taken, unary-reduct, reduct, reduce}
+use Rattle.calculus.specs.Claim.{ThreadAt}
+use Rattle.calculus.specs.Capability.{Cap, _≥ᶜ_}
+use Rattle.calculus.specs.Figure5.{Ty, int-type, ref-type, lock-type, tid-type, Env, empty, bind}
+use Rattle.calculus.proofs.Laws.Maps.{some-injective, none-is-not-some, bind-is-some}
+use Rattle.calculus.proofs.Laws.Order.{_+ᶜ_, Gains, Pays, ≥-trans, ≥-refl, gains-at-most}
+use Rattle.calculus.proofs.Laws.NextWord.{word-is-no-value}
+use Rattle.calculus.proofs.Laws.Questions.{unused-tells, content-tells, lock-state-tells, opened-tells, equal-tells, value-tells, word-tells}
+use Rattle.calculus.proofs.Typing.{fits-refl, ValueTyped, int-typed, name-typed, UnaryTyped, join-typed, ref-typed, read-typed, freelock-typed, lock-typed, unlock-typed, newtid-typed, newlock-typed, Typed, value-typed, let-typed, if-typed, while-typed, typing-weakens}
+use Rattle.calculus.proofs.Substitution.{⊆-refl, value-grows, typing-grows, bind-extends-empty, substitution-keeps}
+use Rattle.calculus.proofs.Focus.{RedexTyped, let-redex-typed, if-redex-typed, while-redex-typed, spawn-redex-typed, write-redex-typed, unary-redex-typed, make-redex-typed, focus, typed-is-value}
+use Rattle.calculus.proofs.Pool.{ThreadTyped, pool-weakens, pool-with-last, Member, member, set-elsewhere}
+use Rattle.calculus.proofs.Invariant.{SlotTyped, slot-identifier, slot-cell, slot-lock, keeps, WellTyped, threads-change-keeps}
+use Rattle.calculus.proofs.Moving.{Place, told, moved-pool, thread-alone-keeps, slot-change-keeps, new-name-keeps}
+
+cell-content-typed : {N : Env} {w : Value} {ρ : ℕ} {τ : Ty} → SlotTyped N (cell w) (some (ref-type ρ τ)) → ValueTyped N w τ
+cell-content-typed (slot-cell t) = t
+
+tid-type-injective : {J K : Cap} {o : Option Ty} → o ≡ some (tid-type J) → o ≡ some (tid-type K) → J ≡ K
+tid-type-injective h k = cc
+
+-- A finished thread holds what its identifier lends to the thread that joins it.
+finished-holds : {D : ℕ} {N : Env} {u : Thread} {Ψ K : Cap} {v : Value} → ThreadTyped D N u Ψ → next (u .body) ≡ is-value v →
+    N (u .tid) ≡ some (tid-type K) → Ψ ≥ᶜ K
+finished-holds ok ended known =
+    let (_, _, enough) = typed-is-value (ok .typed) ended in
+    rw (tid-type-injective (ok .known) known) at enough
+
+-- The 0 that a word becomes, when its thread has gained K.
+zero-typed-with : {D : ℕ} {N : Env} {Φ Ψ K : Cap} → Gains Φ Ψ K → Typed D N empty (Ψ +ᶜ K) zero-exp int-type Φ
+zero-typed-with gains = value-typed int-typed (gains-at-most gains)
+
+-- In each lemma below the thread t moves by m, M is the place of its next word, the lemma's, and q says that the move is a reduction.
+module _ {D : ℕ} {s : State} (I : WellTyped D s) (m : Move) (t : Thread) (h : Member D (I .N) (s .threads) (I .held) (m .thread) t) where
+  -- ---- The words with one part
+
+  -- The thread gains what the finished thread holds; the two are different, for one has finished and the other has not.
+  join-keeps : {Φ K : Cap} {n : ℕ} {s′ : State} (M : Place D s I m t h int-type Φ) → ThreadAt s (m .thread) t →
+      next (t .body) ≡ at-word (unary-redex join (name n)) → I .N n ≡ some (tid-type K) → Gains Φ (h .own) K →
+      unary-reduct s m t join (name n) ≡ some s′ → WellTyped D s′
+  join-keeps {K} {n} M there word known gains q =
+      let (_, _, q₁) = bind-is-some (if-identifier (s .names n)) q in
+      let (u, at-u, q₂) = bind-is-some (getElem? (s .threads) (m .finished)) q₁ in
+      let (_, same, q₃) = bind-is-some (if-equal (u .tid) n) q₂ in
+      let (v, is-v, q₄) = bind-is-some (value-of (next (u .body))) q₃ in
+      let ended : next (u .body) ≡ is-value v = value-tells (next (u .body)) is-v in
+      let apart : m .thread ≢ m .finished = λ z.
+      let t-is-u : t ≡ u = some-injective (sym there ∙ ap (getElem? (s .threads)) z ∙ at-u) in
+      word-is-no-value word (ap (λ (x : Thread). next (x .body)) t-is-u ∙ ended) in
+      let P = moved-pool M (I .N) (h .own +ᶜ K) zero-exp (⊆-refl (I .N)) (zero-typed-with gains) in
+      let j = member (m .finished) P (set-elsewhere (s .threads) (m .thread) (m .finished) _ apart ∙ at-u) in
+      let gives = finished-holds {Ψ = j .own} (j .ok) ended (ap (I .N) (equal-tells (u .tid) n same) ∙ known) in
+      told (threads-change-keeps I (pool-weakens {Ω = j .rest}
+      (record { at = λ ρ. omega (arith, gives .at ρ, j .split .at ρ, h .split .at ρ) }) (j .taken-out))) q₄
+
+  ref-keeps : {Φ : Cap} {ρ : ℕ} {τ : Ty} {v : Value} {s′ : State} (M : Place D s I m t h (ref-type ρ τ) Φ) → ValueTyped (I .N) v τ →
+      h .own ≥ᶜ Φ → unary-reduct s m t ref v ≡ some s′ → WellTyped D s′
+  ref-keeps M typed enough = new-name-keeps M _ (h .own) (λ grows. slot-cell (value-grows grows typed)) enough (λ ρ. omega arith)
+
+  read-keeps : {Φ : Cap} {ρ n : ℕ} {τ : Ty} {s′ : State} (M : Place D s I m t h τ Φ) → I .N n ≡ some (ref-type ρ τ) → h .own ≥ᶜ Φ →
+      unary-reduct s m t read (name n) ≡ some s′ → WellTyped D s′
+  read-keeps {n} M known enough q =
+      let (w, e, q₁) = bind-is-some (content (s .names n)) q in
+      let typed = cell-content-typed (rw (content-tells (s .names n) e, known) at (I .slots n)) in
+      thread-alone-keeps M (value w) (value-typed typed enough) q₁
+
+  -- Out of an open lock the thread takes what it keeps; closed or removed it keeps nothing.
+  taken-keeps : {Φ K : Cap} {n : ℕ} {s′ : State} (after : Slot) → SlotTyped (I .N) after (some (lock-type K)) → ((ρ : ℕ) → keeps after K ρ ≡ 0) →
+      (M : Place D s I m t h int-type Φ) → I .N n ≡ some (lock-type K) → Gains Φ (h .own) K → taken s m t (name n) after ≡ some s′ → WellTyped D s′
+  taken-keeps {K} {n} after ok spent M known gains q =
+      let (l, e, q₁) = bind-is-some (lock-state (s .names n)) q in
+      let (_, o, q₂) = bind-is-some (if-opened l) q₁ in
+      let was-open : s .names n ≡ a-lock opened = lock-state-tells (s .names n) e ∙ ap a-lock (opened-tells l o) in
+      slot-change-keeps M n after (lock-type K) (h .own +ᶜ K) zero-exp known ok (zero-typed-with gains)
+      (λ ρ. omega (arith, spent ρ, ap (λ z. keeps z K ρ) was-open)) q₂
+
+  freelock-keeps : {Φ K : Cap} {n : ℕ} {s′ : State} (M : Place D s I m t h int-type Φ) → I .N n ≡ some (lock-type K) →
+      Gains Φ (h .own) K → unary-reduct s m t freelock (name n) ≡ some s′ → WellTyped D s′
+  freelock-keeps = taken-keeps _ slot-lock (λ ρ. refl)
+
+  lock-keeps : {Φ K : Cap} {n : ℕ} {s′ : State} (M : Place D s I m t h int-type Φ) → I .N n ≡ some (lock-type K) →
+      Gains Φ (h .own) K → unary-reduct s m t lock (name n) ≡ some s′ → WellTyped D s′
+  lock-keeps = taken-keeps _ slot-lock (λ ρ. refl)
+
+  -- Whatever the lock kept, the thread pays what it keeps from now on.
+  unlock-keeps : {Φ K : Cap} {n : ℕ} {s′ : State} (M : Place D s I m t h int-type Φ) → I .N n ≡ some (lock-type K) →
+      Pays Φ (h .own) K → unary-reduct s m t unlock (name n) ≡ some s′ → WellTyped D s′
+  unlock-keeps {Φ} {K} {n} M known pays q =
+      let (l, e, q₁) = bind-is-some (lock-state (s .names n)) q in
+      slot-change-keeps M n _ (lock-type K) Φ zero-exp known slot-lock (value-typed int-typed ≥-refl) (λ ρ. omega (arith, pays .at ρ)) q₁
+
+  unary-keeps : {Φ : Cap} {σ τ : Ty} {v : Value} {s′ : State} (o : Unary) (M : Place D s I m t h τ Φ) → ThreadAt s (m .thread) t →
+      next (t .body) ≡ at-word (unary-redex o v) → ValueTyped (I .N) v σ → UnaryTyped D o σ (h .own) τ Φ →
+      unary-reduct s m t o v ≡ some s′ → WellTyped D s′
+  unary-keeps join M there word (name-typed known fits-refl) (join-typed gains) q = join-keeps M there word known gains q
+  unary-keeps ref M there word typed (ref-typed enough) q = ref-keeps M typed enough q
+  unary-keeps read M there word (name-typed known fits-refl) (read-typed some-of-it enough) q = read-keeps M known enough q
+  unary-keeps freelock M there word (name-typed known fits-refl) (freelock-typed gains) q = freelock-keeps M known gains q
+  unary-keeps lock M there word (name-typed known fits-refl) (lock-typed gains) q = lock-keeps M known gains q
+  unary-keeps unlock M there word (name-typed known fits-refl) (unlock-typed pays) q = unlock-keeps M known pays q
+
+  -- ---- The other words
+
+  let-keeps : {Φ : Cap} {v : Value} {e : Exp} {σ τ : Ty} {s′ : State} (x : ℕ) (M : Place D s I m t h τ Φ) → ValueTyped (I .N) v σ →
+      Typed D (I .N) (bind empty x σ) (h .own) e τ Φ → reduct s m t (let-redex x v e) ≡ some s′ → WellTyped D s′
+  let-keeps {v} {e} {σ} x M v-typed e-typed =
+      thread-alone-keeps M (substitute x v e) (substitution-keeps empty x v-typed (bind-extends-empty x σ) e-typed)
+
+  if-keeps : {Φ : Cap} {e₁ e₂ : Exp} {τ : Ty} {s′ : State} (M : Place D s I m t h τ Φ) → Typed D (I .N) empty (h .own) e₁ τ Φ →
+      Typed D (I .N) empty (h .own) e₂ τ Φ → reduct s m t (if-redex e₁ e₂) ≡ some s′ → WellTyped D s′
+  if-keeps {Φ} {e₁} {e₂} {τ} M e₁-typed e₂-typed =
+      let either : (p : Part) → Typed D (I .N) empty (h .own) (part-listed p e₁ e₂) τ Φ = λ p. elim p [ first ↦ e₁-typed | second ↦ e₂-typed ] in
+      thread-alone-keeps M (part-listed (m .part) e₁ e₂) (either (m .part))
+
+  -- What the body needs is there before the loop, and again after each turn.
+  while-keeps : {Φ Ψ₁ : Cap} {e : Exp} {σ : Ty} {s′ : State} (M : Place D s I m t h int-type Φ) → Typed D (I .N) empty Ψ₁ e σ Ψ₁ →
+      h .own ≥ᶜ Ψ₁ → Ψ₁ ≥ᶜ Φ → reduct s m t (while-redex e) ≡ some s′ → WellTyped D s′
+  while-keeps {e} M typed enough left =
+      let again = while-typed (typing-grows (⊆-refl (I .N)) (λ x τ z. none-is-not-some z) typed) ≥-refl left in
+      thread-alone-keeps M (if (let-in nowhere e (while e)) zero-exp)
+      (if-typed (let-typed (typing-weakens typed enough ≥-refl) again) (value-typed int-typed (≥-trans enough left)))
+
+  -- The new thread starts with what the other pays.
+  spawn-keeps : {Φ K Ψ₃ : Cap} {e : Exp} {n : ℕ} {σ : Ty} {s′ : State} (M : Place D s I m t h int-type Φ) →
+      I .N n ≡ some (tid-type K) → Typed D (I .N) empty Ψ₃ e σ K → Pays Φ (h .own) Ψ₃ → reduct s m t (spawn-redex (name n) e) ≡ some s′ →
+      WellTyped D s′
+  spawn-keeps {Φ} {K} {n} {σ} M known typed pays q =
+      let (_, _, q₁) = bind-is-some (if-identifier (s .names n)) q in
+      let P = moved-pool M (I .N) Φ zero-exp (⊆-refl (I .N)) (value-typed int-typed ≥-refl) in
+      told (threads-change-keeps I (pool-with-last P (record { K = K; τ = σ; known = known; typed = typed })
+      (record { at = λ ρ. omega (arith, pays .at ρ, h .split .at ρ) }))) q₁
+
+  write-keeps : {Φ : Cap} {ρ n : ℕ} {w : Value} {σ : Ty} {s′ : State} (M : Place D s I m t h int-type Φ) → I .N n ≡ some (ref-type ρ σ) →
+      ValueTyped (I .N) w σ → h .own ≥ᶜ Φ → reduct s m t (write-redex (name n) w) ≡ some s′ → WellTyped D s′
+  write-keeps {ρ} {n} {σ} M known typed enough q =
+      let (_, _, q₁) = bind-is-some (content (s .names n)) q in
+      slot-change-keeps M n _ (ref-type ρ σ) (h .own) zero-exp known (slot-cell typed) (value-typed int-typed enough) (λ ρ. omega arith) q₁
+
+  newtid-keeps : {Φ K : Cap} {s′ : State} (M : Place D s I m t h (tid-type K) Φ) → h .own ≥ᶜ Φ →
+      reduct s m t (make-redex newtid) ≡ some s′ → WellTyped D s′
+  newtid-keeps M enough = new-name-keeps M _ (h .own) (λ grows. slot-identifier) enough (λ ρ. omega arith)
+
+  -- A new lock is open, so it keeps its load, and the thread pays it.
+  newlock-keeps : {Φ K : Cap} {s′ : State} (M : Place D s I m t h (lock-type K) Φ) → Pays Φ (h .own) K →
+      reduct s m t (make-redex newlock) ≡ some s′ → WellTyped D s′
+  newlock-keeps {Φ} M pays = new-name-keeps M _ Φ (λ grows. slot-lock) ≥-refl (λ ρ. omega (arith, pays .at ρ))
+
+  redex-keeps : {Φ : Cap} {σ : Ty} {s′ : State} {r : Redex} (M : Place D s I m t h σ Φ) → ThreadAt s (m .thread) t →
+      next (t .body) ≡ at-word r → RedexTyped D (I .N) empty (h .own) Φ r σ → reduct s m t r ≡ some s′ → WellTyped D s′
+  redex-keeps M there word (let-redex-typed {x = x} v-typed e-typed) q = let-keeps x M v-typed e-typed q
+  redex-keeps M there word (if-redex-typed e₁-typed e₂-typed) q = if-keeps M e₁-typed e₂-typed q
+  redex-keeps M there word (while-redex-typed typed enough left) q = while-keeps M typed enough left q
+  redex-keeps M there word (spawn-redex-typed (name-typed known fits-refl) typed pays) q = spawn-keeps M known typed pays q
+  redex-keeps M there word (write-redex-typed (name-typed known fits-refl) typed whole enough) q = write-keeps M known typed enough q
+  redex-keeps M there word (unary-redex-typed {o = o} v-typed o-typed) q = unary-keeps o M there word v-typed o-typed q
+  redex-keeps M there word (make-redex-typed (newtid-typed enough)) q = newtid-keeps M enough q
+  redex-keeps M there word (make-redex-typed (newlock-typed pays)) q = newlock-keeps M pays q
+
+-- Lemma 2.4: find the thread and its next word, and look at the word.
+pub step-preserves : {D : ℕ} {s s′ : State} → WellTyped D s → (m : Move) → reduce s m ≡ some s′ → WellTyped D s′
+unfolding reduce
+step-preserves {s} I m q =
+    let (t, there, q₁) = bind-is-some (getElem? (s .threads) (m .thread)) q in
+    let (r, e, q₂) = bind-is-some (word-of (next (t .body))) q₁ in
+    let word : next (t .body) ≡ at-word r = word-tells (next (t .body)) e in
+    let h = member (m .thread) (I .pool) there in
+    let f = focus (h .ok .typed) word in
+    redex-keeps I m t h (record { back = f .back }) there word (f .word) q₂

@@ -1,0 +1,107 @@
+-- The typing of expressions at run time, with weakening in each rule. Figure 5 gives it.
+use Prim.Native.Nat.{ℕ, _≤_, _<_}
+use mathlib.Core.Path.{_≡_}
+use mathlib.Core.Option.{some}
+use native.Mathlib.Nat.{le-trans}
+use Rattle.calculus.specs.Expression.{Value, int, name, Unary, join, ref, read, freelock, lock, unlock, Maker, newtid, newlock, Exp, value, var, let-in, if, while, spawn, write, unary, make}
+use Rattle.calculus.specs.Capability.{Cap, _≥ᶜ_}
+use Rattle.calculus.specs.Figure5.{Ty, int-type, ref-type, lock-type, tid-type, Env, bind, _∣_∣_⊢_∶_∣_, VAR, INT, LET, IF, WHILE, NEWT, SPAWN, JOIN, REF, WRITE, READ, NEWL, FREEL, LCK, ULCK}
+use Rattle.calculus.proofs.Laws.Order.{Gains, Pays, ≥-trans, ≥-refl, gains-weakens, pays-weakens, sum-gains, sum-pays}
+
+-- ---- Values
+
+-- A thing of type σ may be used as one of type τ: here, when the two are the same type. The rules for names and variables go through it,
+-- so that a wider relation may take its place.
+pub data Fits : Ty → Ty → Type 0 where
+  fits-refl : {τ : Ty} → Fits τ τ
+
+pub fits-trans : {σ τ υ : Ty} → Fits σ τ → Fits τ υ → Fits σ υ
+fits-trans fits-refl g = g
+
+-- N has the types of the names.
+pub data ValueTyped (N : Env) : Value → Ty → Type 0 where
+  int-typed : {k : ℕ} → ValueTyped N (int k) int-type
+  name-typed : {n : ℕ} {σ τ : Ty} → N n ≡ some σ → Fits σ τ → ValueTyped N (name n) τ
+
+pub value-fits : {N : Env} {v : Value} {σ τ : Ty} → ValueTyped N v σ → Fits σ τ → ValueTyped N v τ
+value-fits int-typed fits-refl = int-typed
+value-fits (name-typed h f) g = name-typed h (fits-trans f g)
+
+-- ---- Expressions
+
+-- UnaryTyped D o σ Ψ τ Φ: on a part of type σ, with Ψ before and Φ after, the word o has type τ.
+pub data UnaryTyped (D : ℕ) : Unary → Ty → Cap → Ty → Cap → Type 0 where
+  join-typed : {K Ψ Φ : Cap} → Gains Φ Ψ K → UnaryTyped D join (tid-type K) Ψ int-type Φ
+  ref-typed : {τ : Ty} {ρ : ℕ} {Ψ Φ : Cap} → Ψ ≥ᶜ Φ → UnaryTyped D ref τ Ψ (ref-type ρ τ) Φ
+  read-typed : {τ : Ty} {ρ : ℕ} {Ψ Φ : Cap} → 0 < Ψ ρ → Ψ ≥ᶜ Φ → UnaryTyped D read (ref-type ρ τ) Ψ τ Φ
+  freelock-typed : {K Ψ Φ : Cap} → Gains Φ Ψ K → UnaryTyped D freelock (lock-type K) Ψ int-type Φ
+  lock-typed : {K Ψ Φ : Cap} → Gains Φ Ψ K → UnaryTyped D lock (lock-type K) Ψ int-type Φ
+  unlock-typed : {K Ψ Φ : Cap} → Pays Φ Ψ K → UnaryTyped D unlock (lock-type K) Ψ int-type Φ
+
+pub data MakerTyped : Maker → Cap → Ty → Cap → Type 0 where
+  newtid-typed : {K Ψ Φ : Cap} → Ψ ≥ᶜ Φ → MakerTyped newtid Ψ (tid-type K) Φ
+  newlock-typed : {K Ψ Φ : Cap} → Pays Φ Ψ K → MakerTyped newlock Ψ (lock-type K) Φ
+
+-- Typed D N Γ Ψ e τ Φ: with these types of names and variables e has type τ, can be run with Ψ, and leaves at least Φ.
+pub data Typed (D : ℕ) (N : Env) : Env → Cap → Exp → Ty → Cap → Type 0 where
+  value-typed : {Γ : Env} {Ψ Φ : Cap} {v : Value} {τ : Ty} → ValueTyped N v τ → Ψ ≥ᶜ Φ → Typed D N Γ Ψ (value v) τ Φ
+  var-typed : {Γ : Env} {Ψ Φ : Cap} {x : ℕ} {σ τ : Ty} → Γ x ≡ some σ → Fits σ τ → Ψ ≥ᶜ Φ → Typed D N Γ Ψ (var x) τ Φ
+  let-typed : {Γ : Env} {Ψ Ψ₁ Φ : Cap} {x : ℕ} {e₁ e₂ : Exp} {σ τ : Ty} →
+      Typed D N Γ Ψ e₁ σ Ψ₁ → Typed D N (bind Γ x σ) Ψ₁ e₂ τ Φ → Typed D N Γ Ψ (let-in x e₁ e₂) τ Φ
+  if-typed : {Γ : Env} {Ψ Φ : Cap} {e₁ e₂ : Exp} {τ : Ty} →
+      Typed D N Γ Ψ e₁ τ Φ → Typed D N Γ Ψ e₂ τ Φ → Typed D N Γ Ψ (if e₁ e₂) τ Φ
+  while-typed : {Γ : Env} {Ψ Ψ₁ Φ : Cap} {e : Exp} {τ : Ty} →
+      Typed D N Γ Ψ₁ e τ Ψ₁ → Ψ ≥ᶜ Ψ₁ → Ψ₁ ≥ᶜ Φ → Typed D N Γ Ψ (while e) int-type Φ
+  spawn-typed : {Γ : Env} {Ψ Ψ₂ Ψ₃ Φ K : Cap} {e₁ e₂ : Exp} {τ : Ty} →
+      Typed D N Γ Ψ e₁ (tid-type K) Ψ₂ → Typed D N Γ Ψ₃ e₂ τ K → Pays Φ Ψ₂ Ψ₃ → Typed D N Γ Ψ (spawn e₁ e₂) int-type Φ
+  write-typed : {Γ : Env} {Ψ Ψ₁ Ψ₂ Φ : Cap} {e₁ e₂ : Exp} {τ : Ty} {ρ : ℕ} →
+      Typed D N Γ Ψ e₁ (ref-type ρ τ) Ψ₁ → Typed D N Γ Ψ₁ e₂ τ Ψ₂ → D ≤ Ψ₂ ρ → Ψ₂ ≥ᶜ Φ → Typed D N Γ Ψ (write e₁ e₂) int-type Φ
+  unary-typed : {Γ : Env} {Ψ Ψ₁ Φ : Cap} {o : Unary} {e : Exp} {σ τ : Ty} →
+      Typed D N Γ Ψ e σ Ψ₁ → UnaryTyped D o σ Ψ₁ τ Φ → Typed D N Γ Ψ (unary o e) τ Φ
+  make-typed : {Γ : Env} {Ψ Φ : Cap} {o : Maker} {τ : Ty} → MakerTyped o Ψ τ Φ → Typed D N Γ Ψ (make o) τ Φ
+
+-- ---- Weakening: more before and less after
+
+pub unary-weakens : {D : ℕ} {o : Unary} {σ τ : Ty} {Ψ Ψ′ Φ Φ′ : Cap} → UnaryTyped D o σ Ψ τ Φ → Ψ′ ≥ᶜ Ψ → Φ ≥ᶜ Φ′ → UnaryTyped D o σ Ψ′ τ Φ′
+unary-weakens (join-typed h) a b = join-typed (gains-weakens h a b)
+unary-weakens (ref-typed h) a b = ref-typed (≥-trans a (≥-trans h b))
+unary-weakens (read-typed {ρ = ρ} g h) a b = read-typed {ρ = ρ} (le-trans g (a .at ρ)) (≥-trans a (≥-trans h b))
+unary-weakens (freelock-typed h) a b = freelock-typed (gains-weakens h a b)
+unary-weakens (lock-typed h) a b = lock-typed (gains-weakens h a b)
+unary-weakens (unlock-typed h) a b = unlock-typed (pays-weakens h a b)
+
+pub maker-weakens : {o : Maker} {τ : Ty} {Ψ Ψ′ Φ Φ′ : Cap} → MakerTyped o Ψ τ Φ → Ψ′ ≥ᶜ Ψ → Φ ≥ᶜ Φ′ → MakerTyped o Ψ′ τ Φ′
+maker-weakens (newtid-typed h) a b = newtid-typed (≥-trans a (≥-trans h b))
+maker-weakens (newlock-typed h) a b = newlock-typed (pays-weakens h a b)
+
+pub typing-weakens : {D : ℕ} {N Γ : Env} {Ψ Ψ′ Φ Φ′ : Cap} {e : Exp} {τ : Ty} → Typed D N Γ Ψ e τ Φ → Ψ′ ≥ᶜ Ψ → Φ ≥ᶜ Φ′ →
+    Typed D N Γ Ψ′ e τ Φ′
+typing-weakens (value-typed v h) a b = value-typed v (≥-trans a (≥-trans h b))
+typing-weakens (var-typed v f h) a b = var-typed v f (≥-trans a (≥-trans h b))
+typing-weakens (let-typed e₁ e₂) a b = let-typed (typing-weakens e₁ a ≥-refl) (typing-weakens e₂ ≥-refl b)
+typing-weakens (if-typed e₁ e₂) a b = if-typed (typing-weakens e₁ a b) (typing-weakens e₂ a b)
+typing-weakens (while-typed e g h) a b = while-typed e (≥-trans a g) (≥-trans h b)
+typing-weakens (spawn-typed e₁ e₂ h) a b = spawn-typed (typing-weakens e₁ a ≥-refl) e₂ (pays-weakens h ≥-refl b)
+typing-weakens (write-typed e₁ e₂ g h) a b = write-typed (typing-weakens e₁ a ≥-refl) e₂ g (≥-trans h b)
+typing-weakens (unary-typed e o) a b = unary-typed (typing-weakens e a ≥-refl) (unary-weakens o ≥-refl b)
+typing-weakens (make-typed o) a b = make-typed (maker-weakens o a b)
+
+-- ---- Figure 5 gives it
+
+pub derived-is-typed : {D : ℕ} {Γ : Env} {Ψ Φ : Cap} {e : Exp} {τ : Ty} (N : Env) → D ∣ Γ ∣ Ψ ⊢ e ∶ τ ∣ Φ → Typed D N Γ Ψ e τ Φ
+derived-is-typed N (VAR h) = var-typed h fits-refl ≥-refl
+derived-is-typed N INT = value-typed int-typed ≥-refl
+derived-is-typed N (LET e₁ e₂) = let-typed (derived-is-typed N e₁) (derived-is-typed N e₂)
+derived-is-typed N (IF e₁ g e₂ h) =
+    if-typed (typing-weakens (derived-is-typed N e₁) ≥-refl g) (typing-weakens (derived-is-typed N e₂) ≥-refl h)
+derived-is-typed N (WHILE e g h) = while-typed (typing-weakens (derived-is-typed N e) ≥-refl g) h ≥-refl
+derived-is-typed N NEWT = make-typed (newtid-typed ≥-refl)
+derived-is-typed N (SPAWN e₁ e₂ g h) = spawn-typed (derived-is-typed N e₁) (typing-weakens (derived-is-typed N e₂) ≥-refl g) (sum-pays h)
+derived-is-typed N (JOIN e h) = unary-typed (derived-is-typed N e) (join-typed (sum-gains h))
+derived-is-typed N (REF e) = unary-typed (derived-is-typed N e) (ref-typed ≥-refl)
+derived-is-typed N (WRITE e₁ e₂ g) = write-typed (derived-is-typed N e₁) (derived-is-typed N e₂) g ≥-refl
+derived-is-typed N (READ e g) = unary-typed (derived-is-typed N e) (read-typed g ≥-refl)
+derived-is-typed N (NEWL h) = make-typed (newlock-typed (sum-pays h))
+derived-is-typed N (FREEL e h) = unary-typed (derived-is-typed N e) (freelock-typed (sum-gains h))
+derived-is-typed N (LCK e h) = unary-typed (derived-is-typed N e) (lock-typed (sum-gains h))
+derived-is-typed N (ULCK e h) = unary-typed (derived-is-typed N e) (unlock-typed (sum-pays h))

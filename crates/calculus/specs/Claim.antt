@@ -1,0 +1,70 @@
+-- What is claimed of a program: no race and no odd halt in any state on the way, for every list of moves.
+use Prim.Native.Nat.{ℕ}
+use mathlib.Core.Path.{_≡_}
+use mathlib.Core.Logic.{_≢_, _⊎_}
+use mathlib.Core.Option.{none, some}
+use mathlib.Core.List.{List, [], _∷_}
+use lib.ListN.{getElem?}
+use Rattle.calculus.specs.Expression.{Value, name, join, read, freelock, lock, Exp, value, write-redex, unary-redex, at-word, next}
+use Rattle.calculus.specs.State.{LockState, opened, Slot, identifier, cell, a-lock, Thread, State, Move}
+use Rattle.calculus.specs.Reduction.{reduce, states, start}
+
+-- Thread t stands at place i.
+abbrev pub ThreadAt : State → ℕ → Thread → Type 0
+ThreadAt s i t = getElem? (s .threads) i ≡ some t
+
+-- ---- Races
+
+-- "It is about to read or write a cell when its next word is a `read` or `write` of that cell."
+pub data AboutToRead (s : State) (t : Thread) (n : ℕ) : Type 0 where
+  about-to-read : (v : Value) → s .names n ≡ cell v → next (t .body) ≡ at-word (unary-redex read (name n)) → AboutToRead s t n
+
+pub data AboutToWrite (s : State) (t : Thread) (n : ℕ) : Type 0 where
+  about-to-write : (v w : Value) → s .names n ≡ cell v → next (t .body) ≡ at-word (write-redex (name n) w) → AboutToWrite s t n
+
+-- Definition 2.1: one thread is about to write a cell that another is about to read or write. Two threads are different when
+-- they stand at different places; they may share an identifier.
+pub data Race (s : State) : Type 0 where
+  race : (i j n : ℕ) (t u : Thread) → i ≢ j → ThreadAt s i t → ThreadAt s j u → AboutToWrite s t n →
+      AboutToRead s u n ⊎ AboutToWrite s u n → Race s
+
+abbrev pub RaceFree : State → Type 0
+RaceFree s = ¬ Race s
+
+-- ---- Halts
+
+-- "A thread has finished when its expression is a value."
+pub data Finished (t : Thread) : Type 0 where
+  finished : (v : Value) → t .body ≡ value v → Finished t
+
+-- A lock is open, closed or removed.
+pub data IsLock : Slot → Type 0 where
+  is-lock : {l : LockState} → IsLock (a-lock l)
+
+-- "It waits at a `join` on an identifier that no finished thread has, and at a `lock` or `freelock` on a lock that is not open."
+pub data Waits (s : State) (t : Thread) : Type 0 where
+  at-join : (n : ℕ) → next (t .body) ≡ at-word (unary-redex join (name n)) → s .names n ≡ identifier →
+      ((j : ℕ) (u : Thread) → ThreadAt s j u → u .tid ≡ n → ¬ Finished u) → Waits s t
+  at-lock : (n : ℕ) → next (t .body) ≡ at-word (unary-redex lock (name n)) → IsLock (s .names n) →
+      s .names n ≢ a-lock opened → Waits s t
+  at-freelock : (n : ℕ) → next (t .body) ≡ at-word (unary-redex freelock (name n)) → IsLock (s .names n) →
+      s .names n ≢ a-lock opened → Waits s t
+  -- No other word waits; an `unlock`, above all, goes ahead on any lock.
+
+-- "It halts in a state where no move of its own is a reduction."
+abbrev pub Halts : State → ℕ → Type 0
+Halts s i = (m : Move) → m .thread ≡ i → reduce s m ≡ none
+
+-- No odd halt: a thread that halts has finished, or waits.
+abbrev pub HaltsWell : State → Type 0
+HaltsWell s = (i : ℕ) (t : Thread) → ThreadAt s i t → Halts s i → Finished t ⊎ Waits s t
+
+-- ---- The claim
+
+abbrev pub Every : {A : Type 0} → (A → Type 0) → List A → Type 0
+Every P [] = Unit {0}
+Every P (x ∷ xs) = P x × Every P xs
+
+-- One claim about the list of moves as a whole.
+abbrev pub Safe : Exp → Type 0
+Safe e = (ms : List Move) → Every (λ s. RaceFree s × HaltsWell s) (states ms (start e))

@@ -1,0 +1,178 @@
+-- Programs of the paper and a few beside them, with moves that run them. What they show is proved in proofs/Examples.
+use Prim.Native.Nat.{ℕ, zero, suc}
+use mathlib.Core.List.{List, [], _∷_}
+use Rattle.calculus.specs.Expression.{int, Unary, join, ref, read, freelock, lock, unlock, newtid, newlock, Exp, value, var, let-in, while, spawn, write, unary, make}
+use Rattle.calculus.specs.State.{first, second, Move}
+use Rattle.calculus.specs.Reduction.{nowhere}
+use Rattle.calculus.specs.Capability.{Cap}
+
+-- ---- Short forms
+
+abbrev pub constant : ℕ → Exp
+constant k = value (int k)
+
+-- The paper's e₁; e₂, a `let` of a variable that e₂ does not use.
+infixr 10 _⨾_
+abbrev pub _⨾_ : Exp → Exp → Exp
+e₁ ⨾ e₂ = let-in nowhere e₁ e₂
+
+-- Thread i moves, and its word needs nothing else.
+abbrev pub goes : ℕ → Move
+goes i = record { thread = i; part = first; finished = 0; fresh = 0 }
+
+-- Thread i makes a thing that gets the name n.
+abbrev pub names : ℕ → ℕ → Move
+names i n = record { thread = i; part = first; finished = 0; fresh = n }
+
+-- Thread i takes the second part of an `if`.
+abbrev pub leaves : ℕ → Move
+leaves i = record { thread = i; part = second; finished = 0; fresh = 0 }
+
+-- Thread i joins the thread at place j.
+abbrev pub joins : ℕ → ℕ → Move
+joins i j = record { thread = i; part = first; finished = j; fresh = 0 }
+
+-- a of location 0 and b of location 1.
+abbrev pub holding : ℕ → ℕ → Cap
+holding a b zero = a
+holding a b (suc zero) = b
+holding a b (suc (suc ρ)) = 0
+
+-- ---- Figure 2
+
+-- (a) A race: the spawned thread reads x while the other writes it.
+abbrev pub figure-2a : Exp
+figure-2a =
+    let-in 0 (unary ref (constant 0))
+    (spawn (make newtid) (unary read (var 0))
+    ⨾ write (var 0) (constant 1))
+
+-- The first thread makes x, 1, and an identifier, 2, spawns, and is about to write; so is the other to read.
+abbrev pub moves-2a : List Move
+moves-2a = names 0 1 ∷ goes 0 ∷ names 0 2 ∷ goes 0 ∷ goes 0 ∷ []
+
+-- (b) The same with a join.
+abbrev pub figure-2b : Exp
+figure-2b =
+    let-in 0 (unary ref (constant 0))
+    (let-in 1 (make newtid)
+    (spawn (var 1) (unary read (var 0))
+    ⨾ unary join (var 1)
+    ⨾ write (var 0) (constant 1)))
+
+-- Up to the join, with the other thread still about to read.
+abbrev pub moves-2b-to-join : List Move
+moves-2b-to-join = names 0 1 ∷ goes 0 ∷ names 0 2 ∷ goes 0 ∷ goes 0 ∷ goes 0 ∷ []
+
+-- Then the other reads, and the first joins and writes.
+abbrev pub moves-2b-to-end : List Move
+moves-2b-to-end = goes 1 ∷ joins 0 1 ∷ goes 0 ∷ goes 0 ∷ []
+
+-- (c) The same with a lock.
+abbrev pub figure-2c : Exp
+figure-2c =
+    let-in 0 (unary ref (constant 0))
+    (let-in 1 (make newlock)
+    (spawn (make newtid) (unary lock (var 1) ⨾ unary read (var 0) ⨾ unary unlock (var 1))
+    ⨾ unary lock (var 1)
+    ⨾ write (var 0) (constant 1)
+    ⨾ unary unlock (var 1)))
+
+-- Up to where both threads are about to lock, and the spawned one does.
+abbrev pub moves-2c-to-lock : List Move
+moves-2c-to-lock = names 0 1 ∷ goes 0 ∷ names 0 2 ∷ goes 0 ∷ names 0 3 ∷ goes 0 ∷ goes 0 ∷ goes 1 ∷ []
+
+-- Then it reads and unlocks, and the first locks, writes and unlocks.
+abbrev pub moves-2c-to-end : List Move
+moves-2c-to-end = goes 1 ∷ goes 1 ∷ goes 1 ∷ goes 1 ∷ goes 0 ∷ goes 0 ∷ goes 0 ∷ goes 0 ∷ goes 0 ∷ []
+
+-- ---- Section 2.2: two locks for one cell. With NEWL-unsound each would lend the whole of x.
+
+abbrev pub two-locks : Exp
+two-locks =
+    let-in 0 (unary ref (constant 0))
+    (let-in 1 (make newlock)
+    (let-in 2 (make newlock)
+    (spawn (make newtid) (unary lock (var 1) ⨾ unary read (var 0) ⨾ unary unlock (var 1))
+    ⨾ unary lock (var 2)
+    ⨾ write (var 0) (constant 1)
+    ⨾ unary unlock (var 2))))
+
+-- Each thread takes its lock and is about to use x.
+abbrev pub moves-two-locks : List Move
+moves-two-locks =
+    names 0 1 ∷ goes 0 ∷ names 0 2 ∷ goes 0 ∷ names 0 3 ∷ goes 0 ∷ names 0 4 ∷ goes 0 ∷ goes 0
+    ∷ goes 0 ∷ goes 0 ∷ goes 1 ∷ goes 1 ∷ []
+
+-- ---- Section 2.2.1: threads in a loop that share one identifier; x is 0, y is 1, t is 2, l is 3 and z is 4.
+
+abbrev pub section-2-2-1-thread : Exp
+section-2-2-1-thread =
+    let-in 4 (unary read (var 1))
+    (unary lock (var 3)
+    ⨾ write (var 0) (var 4)
+    ⨾ unary unlock (var 3))
+
+abbrev pub section-2-2-1 : Exp
+section-2-2-1 =
+    let-in 0 (unary ref (constant 0))
+    (let-in 1 (unary ref (constant 0))
+    (let-in 2 (make newtid)
+    (let-in 3 (make newlock)
+    (while
+    (spawn (var 2) section-2-2-1-thread
+    ⨾ spawn (var 2) section-2-2-1-thread
+    ⨾ unary join (var 2)
+    ⨾ unary join (var 2)
+    ⨾ write (var 1) (constant 1))))))
+
+-- x, y, t and l get the names 1 to 4, and the loop is entered.
+abbrev pub moves-2-2-1-to-loop : List Move
+moves-2-2-1-to-loop = names 0 1 ∷ goes 0 ∷ names 0 2 ∷ goes 0 ∷ names 0 3 ∷ goes 0 ∷ names 0 4 ∷ goes 0 ∷ goes 0 ∷ goes 0 ∷ []
+
+-- Two threads are spawned; the second runs to its end, then the first.
+abbrev pub moves-2-2-1-threads : List Move
+moves-2-2-1-threads =
+    goes 0 ∷ goes 0 ∷ goes 0 ∷ goes 0
+    ∷ goes 2 ∷ goes 2 ∷ goes 2 ∷ goes 2 ∷ goes 2 ∷ goes 2 ∷ goes 2
+    ∷ goes 1 ∷ goes 1 ∷ goes 1 ∷ goes 1 ∷ goes 1 ∷ goes 1 ∷ goes 1 ∷ []
+
+-- Both are joined, the second first; then y is written, and the loop left at its second turn.
+abbrev pub moves-2-2-1-to-end : List Move
+moves-2-2-1-to-end = joins 0 2 ∷ goes 0 ∷ joins 0 1 ∷ goes 0 ∷ goes 0 ∷ goes 0 ∷ goes 0 ∷ leaves 0 ∷ []
+
+-- ---- Beside the paper
+
+-- Two threads with one identifier that write one cell.
+abbrev pub one-identifier : Exp
+one-identifier =
+    let-in 0 (unary ref (constant 0))
+    (let-in 1 (make newtid)
+    (spawn (var 1) (write (var 0) (constant 1))
+    ⨾ spawn (var 1) (write (var 0) (constant 2))))
+
+abbrev pub moves-one-identifier : List Move
+moves-one-identifier = names 0 1 ∷ goes 0 ∷ names 0 2 ∷ goes 0 ∷ goes 0 ∷ goes 0 ∷ goes 0 ∷ []
+
+-- A word with one part on a constant.
+abbrev pub on-constant : Unary → Exp
+on-constant o = unary o (constant 0)
+
+-- A lock that lends the whole of x is freed, and another, which lends nothing, is made. Then the freed one is locked.
+abbrev pub freed-lock : Exp
+freed-lock =
+    let-in 0 (unary ref (constant 0))
+    (let-in 1 (make newlock)
+    (unary freelock (var 1)
+    ⨾ let-in 2 (make newlock)
+    (unary lock (var 1)
+    ⨾ spawn (make newtid) (write (var 0) (constant 1))
+    ⨾ write (var 0) (constant 2))))
+
+-- Up to the second `newlock`; the freed lock is 2.
+abbrev pub moves-freed-lock : List Move
+moves-freed-lock = names 0 1 ∷ goes 0 ∷ names 0 2 ∷ goes 0 ∷ goes 0 ∷ goes 0 ∷ []
+
+-- From there, were 2 unused again: the new lock gets it, the first thread locks it, spawns, and both are about to write.
+abbrev pub moves-name-back : List Move
+moves-name-back = names 0 2 ∷ goes 0 ∷ goes 0 ∷ goes 0 ∷ names 0 3 ∷ goes 0 ∷ goes 0 ∷ []

@@ -1,0 +1,108 @@
+-- Expressions: Figure 1 with run-time values, the next word, putting a reduct back in its place, and substitution.
+use Prim.Native.Nat.{ℕ}
+use native.Mathlib.Decide.{ℕ-discrete}
+
+-- ---- Values and expressions
+
+-- Document 01: "Values are constants and names". Section 2.1 has a kind of name each for thread identifiers, locks and cells;
+-- here all are numbers, and the state says what a name names (State.antt).
+pub data Value : Type 0 where
+  int : ℕ → Value
+  name : ℕ → Value
+
+-- The words with one part, which must be a value before they reduce. `while` has one part too, but reduces with it as it is.
+pub data Unary : Type 0 where
+  join ref read freelock lock unlock : Unary
+
+-- The words with no part that make a new thing.
+pub data Maker : Type 0 where
+  newtid newlock : Maker
+
+-- Figure 1, extended with values as in Section 2.1. A variable is a number, and a constant n is `value (int n)`.
+pub data Exp : Type 0 where
+  value : Value → Exp
+  var : ℕ → Exp
+  let-in : ℕ → Exp → Exp → Exp
+  if : Exp → Exp → Exp
+  while : Exp → Exp
+  spawn : Exp → Exp → Exp
+  write : Exp → Exp → Exp
+  unary : Unary → Exp → Exp
+  make : Maker → Exp
+
+-- ---- The next word
+
+-- A word whose parts that must be values are values: e1 of `let` and `spawn`, e1 and e2 of `write`, none of `if` and
+-- `while`, the part of any other word.
+pub data Redex : Type 0 where
+  let-redex : ℕ → Value → Exp → Redex
+  if-redex : Exp → Exp → Redex
+  while-redex : Exp → Redex
+  spawn-redex : Value → Exp → Redex
+  write-redex : Value → Value → Redex
+  unary-redex : Unary → Value → Redex
+  make-redex : Maker → Redex
+
+-- What an expression does next: nothing, for it is a value; nothing, for it has come to a variable that no value was put
+-- for; or a word.
+pub data Next : Type 0 where
+  is-value : Value → Next
+  at-variable : ℕ → Next
+  at-word : Redex → Next
+
+-- The next word of a word that wants a part to be a value: once it is one, as told, and else the part's own next word.
+abbrev pub once : Next → (Value → Next) → Next
+once (is-value v) k = k v
+once (at-variable x) k = at-variable x
+once (at-word r) k = at-word r
+
+-- Document 01: "its first word if those parts are values, else the next word of the first of them that is not". The
+-- evaluation contexts of Figure 3 say the same: parts are evaluated left to right.
+abbrev pub next : Exp → Next
+next (value v) = is-value v
+next (var x) = at-variable x
+next (let-in x e₁ e₂) = once (next e₁) λ v. at-word (let-redex x v e₂)
+next (if e₁ e₂) = at-word (if-redex e₁ e₂)
+next (while e) = at-word (while-redex e)
+next (spawn e₁ e₂) = once (next e₁) λ v. at-word (spawn-redex v e₂)
+next (write e₁ e₂) = once (next e₁) λ v. once (next e₂) λ w. at-word (write-redex v w)
+next (unary o e) = once (next e) λ v. at-word (unary-redex o v)
+next (make o) = at-word (make-redex o)
+
+-- ---- Putting a reduct back
+
+abbrev pub if-value : Next → Exp → Exp → Exp
+if-value (is-value v) a b = a
+if-value (at-variable x) a b = b
+if-value (at-word r) a b = b
+
+-- The expression with r in the place of its next word: E[r] of Figure 3, for the E that `next` has found.
+abbrev pub plug : Exp → Exp → Exp
+plug (value v) r = r
+plug (var x) r = r
+plug (let-in x e₁ e₂) r = if-value (next e₁) r (let-in x (plug e₁ r) e₂)
+plug (if e₁ e₂) r = r
+plug (while e) r = r
+plug (spawn e₁ e₂) r = if-value (next e₁) r (spawn (plug e₁ r) e₂)
+plug (write e₁ e₂) r = if-value (next e₁) (if-value (next e₂) r (write e₁ (plug e₂ r))) (write (plug e₁ r) e₂)
+plug (unary o e) r = if-value (next e) r (unary o (plug e r))
+plug (make o) r = r
+
+-- ---- Substitution
+
+abbrev pub choose {ℓ κ} : {A : Type ℓ} {P : Type κ} → Dec P → A → A → A
+choose (yes p) a b = a
+choose (no p) a b = b
+
+-- The expression with v put for the variable x, e[v/x] of Figure 4. A value has no variable, so nothing is captured; a
+-- `let` of x itself hides x from its e2.
+abbrev pub substitute : ℕ → Value → Exp → Exp
+substitute x v (value w) = value w
+substitute x v (var y) = choose (ℕ-discrete y x) (value v) (var y)
+substitute x v (let-in y e₁ e₂) = let-in y (substitute x v e₁) (choose (ℕ-discrete y x) e₂ (substitute x v e₂))
+substitute x v (if e₁ e₂) = if (substitute x v e₁) (substitute x v e₂)
+substitute x v (while e) = while (substitute x v e)
+substitute x v (spawn e₁ e₂) = spawn (substitute x v e₁) (substitute x v e₂)
+substitute x v (write e₁ e₂) = write (substitute x v e₁) (substitute x v e₂)
+substitute x v (unary o e) = unary o (substitute x v e)
+substitute x v (make o) = make o

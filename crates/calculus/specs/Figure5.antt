@@ -1,0 +1,67 @@
+-- Figure 5: Γ, Ψ ⊢ e : τ, Ψ′, one constructor a printed rule, in the printed order and with the printed names.
+use Prim.Native.Nat.{ℕ, _≤_, _<_}
+use mathlib.Core.Path.{_≡_}
+use mathlib.Core.Option.{Option, none, some}
+use Rattle.calculus.specs.Expression.{int, join, ref, read, freelock, lock, unlock, newtid, newlock, Exp, value, var, let-in, if, while, spawn, write, unary, make}
+use Rattle.calculus.specs.State.{update}
+use Rattle.calculus.specs.Capability.{Cap, _≥ᶜ_, _≈_⊕_}
+
+-- The types of Section 2.2, as trees.
+pub data Ty : Type 0 where
+  int-type : Ty
+  ref-type : ℕ → Ty → Ty
+  lock-type : Cap → Ty
+  tid-type : Cap → Ty
+
+-- Γ, the types of the variables that are bound.
+abbrev pub Env : Type 0
+Env = ℕ → Option Ty
+
+abbrev pub empty : Env
+empty x = none
+
+-- Γ[x ↦ τ]
+abbrev pub bind : Env → ℕ → Ty → Env
+bind Γ x τ = update Γ x (some τ)
+
+-- D ∣ Γ ∣ Ψ ⊢ e ∶ τ ∣ Ψ′ is the printed Γ, Ψ ⊢ e : τ, Ψ′, with D for the printed 1. A printed difference is the sum that defines it:
+-- Ψ₂ − Ψ₃ is the Ψ₅ with Ψ₂ ≈ Ψ₅ ⊕ Ψ₃, and where there is none the rule does not apply.
+infix 20 _∣_∣_⊢_∶_∣_
+pub data _∣_∣_⊢_∶_∣_ (D : ℕ) : Env → Cap → Exp → Ty → Cap → Type 0 where
+  VAR : {Γ : Env} {Ψ : Cap} {x : ℕ} {τ : Ty} → Γ x ≡ some τ → D ∣ Γ ∣ Ψ ⊢ var x ∶ τ ∣ Ψ
+  INT : {Γ : Env} {Ψ : Cap} {n : ℕ} → D ∣ Γ ∣ Ψ ⊢ value (int n) ∶ int-type ∣ Ψ
+  LET : {Γ : Env} {Ψ Ψ₁ Ψ₂ : Cap} {x : ℕ} {e₁ e₂ : Exp} {τ₁ τ₂ : Ty} →
+      D ∣ Γ ∣ Ψ ⊢ e₁ ∶ τ₁ ∣ Ψ₁ → D ∣ bind Γ x τ₁ ∣ Ψ₁ ⊢ e₂ ∶ τ₂ ∣ Ψ₂ →
+      D ∣ Γ ∣ Ψ ⊢ let-in x e₁ e₂ ∶ τ₂ ∣ Ψ₂
+  IF : {Γ : Env} {Ψ Ψ₁ Ψ₂ Ψ₃ : Cap} {e₁ e₂ : Exp} {τ : Ty} →
+      D ∣ Γ ∣ Ψ ⊢ e₁ ∶ τ ∣ Ψ₁ → Ψ₁ ≥ᶜ Ψ₃ → D ∣ Γ ∣ Ψ ⊢ e₂ ∶ τ ∣ Ψ₂ → Ψ₂ ≥ᶜ Ψ₃ →
+      D ∣ Γ ∣ Ψ ⊢ if e₁ e₂ ∶ τ ∣ Ψ₃
+  WHILE : {Γ : Env} {Ψ Ψ₁ Ψ₂ : Cap} {e : Exp} {τ : Ty} →
+      D ∣ Γ ∣ Ψ₁ ⊢ e ∶ τ ∣ Ψ₂ → Ψ₂ ≥ᶜ Ψ₁ → Ψ ≥ᶜ Ψ₁ →
+      D ∣ Γ ∣ Ψ ⊢ while e ∶ int-type ∣ Ψ₁
+  NEWT : {Γ : Env} {Ψ Ψ₁ : Cap} → D ∣ Γ ∣ Ψ ⊢ make newtid ∶ tid-type Ψ₁ ∣ Ψ
+  SPAWN : {Γ : Env} {Ψ Ψ₁ Ψ₂ Ψ₃ Ψ₄ Ψ₅ : Cap} {e₁ e₂ : Exp} {τ : Ty} →
+      D ∣ Γ ∣ Ψ ⊢ e₁ ∶ tid-type Ψ₁ ∣ Ψ₂ → D ∣ Γ ∣ Ψ₃ ⊢ e₂ ∶ τ ∣ Ψ₄ → Ψ₄ ≥ᶜ Ψ₁ → Ψ₂ ≈ Ψ₅ ⊕ Ψ₃ →
+      D ∣ Γ ∣ Ψ ⊢ spawn e₁ e₂ ∶ int-type ∣ Ψ₅
+  JOIN : {Γ : Env} {Ψ Ψ₁ Ψ₂ Ψ₃ : Cap} {e : Exp} →
+      D ∣ Γ ∣ Ψ ⊢ e ∶ tid-type Ψ₁ ∣ Ψ₂ → Ψ₃ ≈ Ψ₂ ⊕ Ψ₁ →
+      D ∣ Γ ∣ Ψ ⊢ unary join e ∶ int-type ∣ Ψ₃
+  REF : {Γ : Env} {Ψ Ψ₁ : Cap} {e : Exp} {τ : Ty} {ρ : ℕ} →
+      D ∣ Γ ∣ Ψ ⊢ e ∶ τ ∣ Ψ₁ →
+      D ∣ Γ ∣ Ψ ⊢ unary ref e ∶ ref-type ρ τ ∣ Ψ₁
+  WRITE : {Γ : Env} {Ψ Ψ₁ Ψ₂ : Cap} {e₁ e₂ : Exp} {τ : Ty} {ρ : ℕ} →
+      D ∣ Γ ∣ Ψ ⊢ e₁ ∶ ref-type ρ τ ∣ Ψ₁ → D ∣ Γ ∣ Ψ₁ ⊢ e₂ ∶ τ ∣ Ψ₂ → D ≤ Ψ₂ ρ →
+      D ∣ Γ ∣ Ψ ⊢ write e₁ e₂ ∶ int-type ∣ Ψ₂
+  READ : {Γ : Env} {Ψ Ψ₁ : Cap} {e : Exp} {τ : Ty} {ρ : ℕ} →
+      D ∣ Γ ∣ Ψ ⊢ e ∶ ref-type ρ τ ∣ Ψ₁ → 0 < Ψ₁ ρ →
+      D ∣ Γ ∣ Ψ ⊢ unary read e ∶ τ ∣ Ψ₁
+  NEWL : {Γ : Env} {Ψ Ψ₁ Ψ₂ : Cap} → Ψ ≈ Ψ₂ ⊕ Ψ₁ → D ∣ Γ ∣ Ψ ⊢ make newlock ∶ lock-type Ψ₁ ∣ Ψ₂
+  FREEL : {Γ : Env} {Ψ Ψ₁ Ψ₂ Ψ₃ : Cap} {e : Exp} →
+      D ∣ Γ ∣ Ψ ⊢ e ∶ lock-type Ψ₁ ∣ Ψ₂ → Ψ₃ ≈ Ψ₂ ⊕ Ψ₁ →
+      D ∣ Γ ∣ Ψ ⊢ unary freelock e ∶ int-type ∣ Ψ₃
+  LCK : {Γ : Env} {Ψ Ψ₁ Ψ₂ Ψ₃ : Cap} {e : Exp} →
+      D ∣ Γ ∣ Ψ ⊢ e ∶ lock-type Ψ₁ ∣ Ψ₂ → Ψ₃ ≈ Ψ₂ ⊕ Ψ₁ →
+      D ∣ Γ ∣ Ψ ⊢ unary lock e ∶ int-type ∣ Ψ₃
+  ULCK : {Γ : Env} {Ψ Ψ₁ Ψ₂ Ψ₃ : Cap} {e : Exp} →
+      D ∣ Γ ∣ Ψ ⊢ e ∶ lock-type Ψ₁ ∣ Ψ₂ → Ψ₂ ≈ Ψ₃ ⊕ Ψ₁ →
+      D ∣ Γ ∣ Ψ ⊢ unary unlock e ∶ int-type ∣ Ψ₃

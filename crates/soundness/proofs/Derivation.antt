@@ -1,0 +1,75 @@
+-- A split's own derivation is one of Figure 5: read each type number as the tree that it stands for, each map as the capability
+-- that it gives, and every rule of the one is the rule of that name of the other.
+use mathlib.Core.Path.{_≡_, refl, sym, ap, _∙_}
+use mathlib.Core.List.{List, [], _∷_, map}
+use Prim.Native.Nat.{ℕ}
+use Rattle.spec.specs.Expression.{Step, Expr, leaf, unary, binary}
+use Rattle.spec.specs.Split.{Map, Split}
+use Rattle.spec.specs.Conditions.{type, kind, post, start, mapAt}
+use Rattle.spec.specs.Conditions as conditions
+use Rattle.spec.specs.WellFormed.{UsedInside}
+use Rattle.spec.specs.Ranges.{InRange}
+use Rattle.spec.specs.Figure5 as own
+use Rattle.spec.specs.Maps.{share}
+use Rattle.spec.specs.declared.LeafWord.the-variants.{Newlock}
+use Rattle.spec.specs.declared.UnaryWord.the-variants.{Read, Unlock}
+use Rattle.spec.specs.declared.BinaryWord.the-variants.{Spawn}
+use Rattle.calculus.specs.Capability.{_≥ᶜ_, _≈_⊕_}
+use Rattle.calculus.specs.Figure5.{_∣_∣_⊢_∶_∣_, VAR, INT, LET, IF, WHILE, NEWT, SPAWN, JOIN, REF, WRITE, READ, NEWL, FREEL, LCK, ULCK}
+use Rattle.soundness.specs.Erasure.{erase}
+use Rattle.soundness.proofs.Capabilities.{cap, covers-cap, sum-cap}
+use Rattle.soundness.proofs.Types.{means, environment, means-int, means-lock, means-tid, means-ref, post-wide, start-wide, lock-wide, tid-wide, variable-typed}
+
+-- the variables in scope
+abbrev pub variables : conditions.Env → List ℕ
+variables Γ = map (λ b. b .0) Γ
+
+module _ {steps : List Step} (S : Split) (R : InRange steps S) where
+  -- Γ, Ψ ⊢ e : τ, Ψ′ with the trees and capabilities of the split
+  abbrev pub Figure5 : conditions.Env → Map → Expr → Type 0
+  Figure5 Γ Ψ e = S .header .denominator ∣ environment S Γ ∣ cap Ψ ⊢ erase e ∶ means S (type S e) ∣ cap (post S e)
+
+  pub split-derivation-is-figure-5 : {Γ : conditions.Env} {Ψ : Map} {e : Expr} → own.Derives S Γ Ψ e → UsedInside (variables Γ) e → Figure5 Γ Ψ e
+  unfolding erase kind share UsedInside
+  split-derivation-is-figure-5 {Γ} (own.VAR {v = v} t m) u = rw (t, m) (VAR (variable-typed S R Γ v u))
+  split-derivation-is-figure-5 (own.INT t m) u = rw (means-int S R _ t, m) INT
+  split-derivation-is-figure-5 (own.LET d₁ d₂ t m) u =
+      rw (t, m) (LET (split-derivation-is-figure-5 d₁ (u .0)) (split-derivation-is-figure-5 d₂ (u .1)))
+  split-derivation-is-figure-5 (own.IF d₁ t₁ c₁ d₂ t₂ c₂) u =
+      IF (rw (← t₁) at (split-derivation-is-figure-5 d₁ (u .0))) (covers-cap c₁) (rw (← t₂) at (split-derivation-is-figure-5 d₂ (u .1))) (covers-cap c₂)
+  split-derivation-is-figure-5 (own.WHILE d c₂ c₁ t) u =
+      rw (means-int S R _ t) (WHILE (split-derivation-is-figure-5 d u) (covers-cap c₂) (covers-cap c₁))
+  split-derivation-is-figure-5 (own.NEWT {K = K} t m) u = rw (means-tid S R _ K t, m) NEWT
+  split-derivation-is-figure-5 (own.SPAWN {k = k} {v = v} {K = K} {e₁ = e₁} {e₂ = e₂} d₁ t d₂ c i m) u =
+      let e = binary Spawn k v e₁ e₂ in
+      rw (means-int S R _ i)
+      (SPAWN (rw (means-tid S R _ K t) at (split-derivation-is-figure-5 d₁ (u .0))) (split-derivation-is-figure-5 d₂ (u .1)) (covers-cap c)
+      (sum-cap (post S e) (start S e) (post-wide S R e ∙ sym (start-wide S R e)) m))
+  split-derivation-is-figure-5 (own.JOIN {K = K} {e₁ = e₁} d t i m) u =
+      rw (means-int S R _ i)
+      (JOIN (rw (means-tid S R _ K t) at (split-derivation-is-figure-5 d u))
+      (sum-cap (post S e₁) (mapAt S K) (post-wide S R e₁ ∙ sym (tid-wide S R _ K t)) (sym m)))
+  split-derivation-is-figure-5 (own.REF {ρ = ρ} {e₁ = e₁} d t m) u =
+      rw (means-ref S R _ ρ (type S e₁) t, m) (REF (split-derivation-is-figure-5 d u))
+  split-derivation-is-figure-5 (own.WRITE {ρ = ρ} {e₂ = e₂} d₁ t d₂ w i m) u =
+      rw (means-int S R _ i, m)
+      (WRITE (rw (means-ref S R _ ρ (type S e₂) t) at (split-derivation-is-figure-5 d₁ (u .0))) (split-derivation-is-figure-5 d₂ (u .1)) (rw m at w))
+  split-derivation-is-figure-5 (own.READ {k = k} {v = v} {ρ = ρ} {e₁ = e₁} d t w m) u =
+      rw m
+      (READ (rw (means-ref S R _ ρ (type S (unary Read k v e₁)) t) at (split-derivation-is-figure-5 d u)) (rw m at w))
+  split-derivation-is-figure-5 (own.NEWL {k = k} {v = v} {K = K} t m) u =
+      let e = leaf Newlock k v in
+      rw (means-lock S R _ K t) (NEWL (sum-cap (post S e) (mapAt S K) (post-wide S R e ∙ sym (lock-wide S R _ K t)) m))
+  split-derivation-is-figure-5 (own.FREEL {K = K} {e₁ = e₁} d t i m) u =
+      rw (means-int S R _ i)
+      (FREEL (rw (means-lock S R _ K t) at (split-derivation-is-figure-5 d u))
+      (sum-cap (post S e₁) (mapAt S K) (post-wide S R e₁ ∙ sym (lock-wide S R _ K t)) (sym m)))
+  split-derivation-is-figure-5 (own.LCK {K = K} {e₁ = e₁} d t i m) u =
+      rw (means-int S R _ i)
+      (LCK (rw (means-lock S R _ K t) at (split-derivation-is-figure-5 d u))
+      (sum-cap (post S e₁) (mapAt S K) (post-wide S R e₁ ∙ sym (lock-wide S R _ K t)) (sym m)))
+  split-derivation-is-figure-5 (own.ULCK {k = k} {v = v} {K = K} {e₁ = e₁} d t i m) u =
+      let e = unary Unlock k v e₁ in
+      rw (means-int S R _ i)
+      (ULCK (rw (means-lock S R _ K t) at (split-derivation-is-figure-5 d u))
+      (sum-cap (post S e) (mapAt S K) (post-wide S R e ∙ sym (lock-wide S R _ K t)) m))

@@ -1,0 +1,4 @@
+pub mod Capabilities
+pub mod Types
+pub mod Derivation
+pub mod Safety

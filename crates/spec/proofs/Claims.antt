@@ -1,0 +1,110 @@
+-- No claim of a list is false exactly when all of them hold; else the first that is false is named.
+use mathlib.Core.Path.{_≡_, refl, ap, sym, _∙_, subst}
+use mathlib.Core.List.{List, [], _∷_, _++_, append-assoc}
+use mathlib.Core.Bool.{true, false}
+use mathlib.Core.Option.{none, some}
+use Prim.Native.Nat.{ℕ}
+use Rattle.spec.specs.Reading.{Out, stop, on, _>>=_}
+use Rattle.spec.specs.Split.{Split}
+use Rattle.spec.specs.Conditions.{Condition, T, F, A}
+use Rattle.spec.specs.Sites.{Site, Claim, claims, claimsAt, judge, firstFalse}
+use Rattle.spec.specs.FirstFalse.{Holds, AllHold, Names, type, flow, access, FirstFalse}
+use Rattle.spec.specs.declared.Refusal.{Refusal}
+use Rattle.spec.proofs.Clashes.{true-is-not-false, none-is-not-some, not-true-false}
+use Rattle.spec.proofs.Outcomes.{stop-is-not-on, stop-injective, bind-goes-on, goes-on-bind}
+
+-- ------------------------------------------------------------------ one condition
+
+judged-holds : {t : Unit {0}} (k i : ℕ) (c : Condition) → judge k i c ≡ on t → Holds c
+unfolding judge Holds
+judged-holds k i (T true) h = refl
+judged-holds k i (T false) h = stop-is-not-on h
+judged-holds k i (F none) h = refl
+judged-holds k i (F (some l)) h = stop-is-not-on h
+judged-holds k i (A true p) h = refl
+judged-holds k i (A false p) h = stop-is-not-on h
+
+holds-judged : (k i : ℕ) (c : Condition) → Holds c → judge k i c ≡ on tt
+unfolding judge Holds
+holds-judged k i (T b) h = rw h
+holds-judged k i (F o) h = rw h
+holds-judged k i (A b p) h = rw h
+
+-- ------------------------------------------------------------------ a list of claims
+
+pub none-false-all-hold : {t : Unit {0}} (cs : List Claim) → firstFalse cs ≡ on t → AllHold cs
+unfolding firstFalse AllHold
+none-false-all-hold [] h = tt
+none-false-all-hold (c ∷ cs) h =
+    let b = bind-goes-on _ _ h in
+    (judged-holds _ _ _ (b .1), none-false-all-hold cs (b .2))
+
+pub all-hold-none-false : (cs : List Claim) → AllHold cs → firstFalse cs ≡ on tt
+unfolding firstFalse AllHold
+all-hold-none-false [] h = refl
+all-hold-none-false (c ∷ cs) h = goes-on-bind _ _ (holds-judged _ _ _ (h .0)) (all-hold-none-false cs (h .1))
+
+pub all-hold-parts : (xs ys : List Claim) → AllHold (xs ++ ys) → AllHold xs × AllHold ys
+unfolding AllHold
+all-hold-parts [] ys h = (tt, h)
+all-hold-parts (x ∷ xs) ys h =
+    let r = all-hold-parts xs ys (h .1) in
+    ((h .0, r .0), r .1)
+
+pub all-hold-append : (xs ys : List Claim) → AllHold xs → AllHold ys → AllHold (xs ++ ys)
+unfolding AllHold
+all-hold-append [] ys p q = q
+all-hold-append (x ∷ xs) ys p q = (p .0, all-hold-append xs ys (p .1) q)
+
+pub claims-append : (S : Split) (xs ys : List Site) → claims S (xs ++ ys) ≡ claims S xs ++ claims S ys
+unfolding claims
+claims-append S [] ys = refl
+claims-append S (x ∷ xs) ys = rw (claims-append S xs ys, append-assoc (claimsAt S x) (claims S xs) (claims S ys))
+
+-- ------------------------------------------------------------------ the first false one
+
+judged-false : {r : Refusal} (k i : ℕ) (c : Condition) → judge k i c ≡ stop r → (Holds c → ⊥) × Names k i c r
+unfolding judge Holds
+judged-false k i (T true) h = stop-is-not-on (sym h)
+judged-false k i (T false) h = (λ t. true-is-not-false (sym t), subst (λ s. Names k i (T false) s) (stop-injective h) type)
+judged-false k i (F none) h = stop-is-not-on (sym h)
+judged-false k i (F (some l)) h = (λ n. none-is-not-some (sym n), subst (λ s. Names k i (F (some l)) s) (stop-injective h) flow)
+judged-false k i (A true p) h = stop-is-not-on (sym h)
+judged-false k i (A false p) h = (λ t. true-is-not-false (sym t), subst (λ s. Names k i (A false p) s) (stop-injective h) access)
+
+pub stopped-first-false : {r : Refusal} (cs : List Claim) → firstFalse cs ≡ stop r → FirstFalse cs r
+unfolding firstFalse _>>=_ AllHold
+stopped-first-false [] h = stop-is-not-on (sym h)
+stopped-first-false (c ∷ cs) h = go (judge (c .line) (c .number) (c .condition)) refl h (stopped-first-false cs)
+  where
+    go : {r : Refusal} (o : Out (Unit {0})) → judge (c .line) (c .number) (c .condition) ≡ o → (o >>= λ holds. firstFalse cs) ≡ stop r
+        → (firstFalse cs ≡ stop r → FirstFalse cs r) → FirstFalse (c ∷ cs) r
+    go (stop s) e h rest =
+        let f = judged-false _ _ _ (e ∙ h) in
+        record { before = []; here = c; after = cs; parted = refl; holdBefore = tt; isFalse = f .0; named = f .1 }
+    go (on t) e h rest =
+        let f = rest h in
+        record {
+          before = c ∷ f .before;
+          here = f .here;
+          after = f .after;
+          parted = ap (c ∷_) (f .parted);
+          holdBefore = (judged-holds _ _ _ e, f .holdBefore);
+          isFalse = f .isFalse;
+          named = f .named;
+        }
+
+-- and back
+false-judged : {k i : ℕ} {c : Condition} {r : Refusal} → Names k i c r → (Holds c → ⊥) → judge k i c ≡ stop r
+unfolding judge Holds
+false-judged (type {b}) h = rw (not-true-false b h)
+false-judged flow h = refl
+false-judged (access {b}) h = rw (not-true-false b h)
+
+pub first-false-stopped : {r : Refusal} {all : List Claim} → FirstFalse all r → firstFalse all ≡ stop r
+unfolding firstFalse AllHold _>>=_
+first-false-stopped {r} f = ap firstFalse (f .parted) ∙ past (f .before) (f .holdBefore)
+  where
+    past : (before : List Claim) → AllHold before → firstFalse (before ++ f .here ∷ f .after) ≡ stop r
+    past [] h = ap (λ o. o >>= λ holds. firstFalse (f .after)) (false-judged (f .named) (f .isFalse))
+    past (c ∷ cs) h = goes-on-bind _ _ (holds-judged _ _ _ (h .0)) (past cs (h .1))

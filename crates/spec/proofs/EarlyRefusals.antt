@@ -1,0 +1,163 @@
+-- Whatever is refused before the conditions are judged has a number below 31.
+use mathlib.Core.Path.{_≡_, refl, ap}
+use mathlib.Core.List.{List, [], _∷_}
+use mathlib.Core.Bool.{Bool, true, false}
+use mathlib.Core.Option.{Option, none, some}
+use Prim.Native.Nat.{ℕ, _+_, _≤_, _<_}
+use native.Mathlib.Omega.{arith}
+use lib.Dec.{eqb}
+use Rattle.spec.specs.Choice.{if_then_else_}
+use Rattle.spec.specs.Text.{Line, closed, unclosed, Field, fields}
+use Rattle.spec.specs.Reading.{Out, stop, on, _>>=_, demand, Seen, right, badForm, badRange, SheetName, programSheet, splitSheet, form, outside, miscounted, Place, passed, nextLine, next, nextAll, begin, noneLeft, end}
+use Rattle.spec.specs.Expression.{Step, Expr, leaf, unary, binary, size, single, among, scope}
+use Rattle.spec.specs.Program.{program}
+use Rattle.spec.specs.Split.{Split, split}
+use Rattle.spec.specs.Verdict.{refuseOver, startAtMostOne, four, returned}
+use Rattle.spec.specs.declared.Answer.the-variants.{Refuse}
+use Rattle.spec.specs.declared.Refusal.{Refusal}
+use Rattle.spec.specs.declared.Refusal.the-variants.{ProgramLines, Unbound, Rebound}
+use Rattle.spec.specs.declared.LeafWord.the-variants.{Var, Int, Newtid, Newlock}
+use Rattle.spec.specs.declared.BinaryWord.the-variants.{Let, If, Spawn, Write}
+use Rattle.spec.proofs.Outcomes.{stop-is-not-on, stop-injective}
+
+-- a refusal's number
+abbrev pub numberOf : Refusal → ℕ
+numberOf r = returned (Refuse r) .number
+
+-- an outcome that, if it is stopped, is stopped by a number below 31
+abbrev pub Early : {A : Type 0} → Out A → Type 0
+Early (stop r) = numberOf r < 31
+Early (on a) = Unit {0}
+
+pub early-bind : {A B : Type 0} (m : Out A) (f : A → Out B) → Early m → ((a : A) → Early (f a)) → Early (m >>= f)
+unfolding _>>=_
+early-bind (stop r) f p q = p
+early-bind (on a) f p q = q a
+
+pub early-demand : (b : Bool) (r : Refusal) → numberOf r < 31 → Early (demand b r)
+unfolding demand
+early-demand true r h = tt
+early-demand false r h = h
+
+early-choice : {A : Type 0} (b : Bool) (x y : Out A) → Early x → Early y → Early (if b then x else y)
+early-choice true x y p q = p
+early-choice false x y p q = q
+
+-- an outcome that goes on, or is stopped by a number from 31 on
+abbrev pub Late : {A : Type 0} → Out A → Type 0
+Late (stop r) = 31 ≤ numberOf r
+Late (on a) = Unit {0}
+
+-- a late outcome comes from what follows an early one, which goes on
+pub past : {A B C : Type 0} (o : Out B) (m : Out A) (f : A → Out B) → Early m → Late o → (m >>= f) ≡ o
+    → ((a : A) → m ≡ on a → f a ≡ o → C) → C
+unfolding _>>=_
+past (stop r) (stop s) f early late h go =
+    let same : numberOf s ≡ numberOf r = ap numberOf (stop-injective h) in
+    absurd (omega (arith, early, late, same))
+past (on b) (stop s) f early late h go = stop-is-not-on h
+past (stop r) (on a) f early late h go = go a refl h
+past (on b) (on a) f early late h go = go a refl h
+
+-- ------------------------------------------------------------------ lines
+
+form-early : (sheet : SheetName) (k : ℕ) → numberOf (form sheet k) < 31
+unfolding form returned four
+form-early programSheet k = omega arith
+form-early splitSheet k = omega arith
+
+outside-early : (sheet : SheetName) (k : ℕ) → numberOf (outside sheet k) < 31
+unfolding outside returned four
+outside-early programSheet k = omega arith
+outside-early splitSheet k = omega arith
+
+miscounted-early : (sheet : SheetName) (k : ℕ) → numberOf (miscounted sheet k) < 31
+unfolding miscounted returned four
+miscounted-early programSheet k = omega arith
+miscounted-early splitSheet k = omega arith
+
+passed-early : {A : Type 0} (sheet : SheetName) (k : ℕ) (rest : List Line) (x : Seen A) → Early (passed sheet k rest x)
+unfolding passed
+passed-early sheet k rest (right a) = tt
+passed-early sheet k rest badForm = form-early sheet k
+passed-early sheet k rest badRange = outside-early sheet k
+
+line-early : {A : Type 0} (sheet : SheetName) (read : List Field → Seen A) (k : ℕ) (ls : List Line) → Early (nextLine sheet read k ls)
+unfolding nextLine
+line-early sheet read k [] = miscounted-early sheet k
+line-early sheet read k (unclosed l ∷ rest) = form-early sheet (k + 1)
+line-early sheet read k (closed l ∷ rest) = passed-early sheet (k + 1) rest (read (fields l))
+
+next-early : {A : Type 0} (sheet : SheetName) (read : List Field → Seen A) (place : Place) → Early (next sheet read place)
+unfolding next
+next-early sheet read place = line-early sheet read (place .last) (place .rest)
+
+all-early : {A : Type 0} (sheet : SheetName) (reads : List (List Field → Seen A)) (place : Place) → Early (nextAll sheet reads place)
+unfolding nextAll
+all-early sheet [] place = tt
+all-early sheet (read ∷ reads) place =
+    early-bind _ _ (next-early sheet read place) λ a. early-bind _ _ (all-early sheet reads (a .1)) λ as′. tt
+
+begin-early : (sheet : SheetName) (ls : List Line) → Early (begin sheet ls)
+unfolding begin
+begin-early sheet [] = form-early sheet 1
+begin-early sheet (l ∷ rest) = tt
+
+none-left-early : (sheet : SheetName) (k : ℕ) (ls : List Line) → Early (noneLeft sheet k ls)
+unfolding noneLeft
+none-left-early sheet k [] = tt
+none-left-early sheet k (l ∷ rest) = miscounted-early sheet (k + 1)
+
+end-early : (sheet : SheetName) (place : Place) → Early (end sheet place)
+unfolding end
+end-early sheet place = none-left-early sheet (place .last) (place .rest)
+
+-- ------------------------------------------------------------------ the sheets
+
+single-early : (n : ℕ) (es : List Expr) → Early (single n es)
+unfolding single returned four
+single-early n [] = omega arith
+single-early n (e ∷ es) = early-choice (eqb (size e) n) (on e) (stop (ProgramLines (size e + 2))) tt (omega arith)
+
+scope-early : (e : Expr) (inside bound : List ℕ) → Early (scope e inside bound)
+unfolding scope returned four
+scope-early (leaf Var k v) inside bound = early-choice (among v inside) (on bound) (stop (Unbound k)) tt (omega arith)
+scope-early (leaf Int k v) inside bound = tt
+scope-early (leaf Newtid k v) inside bound = tt
+scope-early (leaf Newlock k v) inside bound = tt
+scope-early (unary w k v e) inside bound = scope-early e inside bound
+scope-early (binary Let k v e₁ e₂) inside bound =
+    early-choice (among v bound) (stop (Rebound k)) _ (omega arith)
+    (early-bind _ _ (scope-early e₁ inside (v ∷ bound)) λ b. scope-early e₂ (v ∷ inside) b)
+scope-early (binary If k v e₁ e₂) inside bound = early-bind _ _ (scope-early e₁ inside bound) λ b. scope-early e₂ inside b
+scope-early (binary Spawn k v e₁ e₂) inside bound = early-bind _ _ (scope-early e₁ inside bound) λ b. scope-early e₂ inside b
+scope-early (binary Write k v e₁ e₂) inside bound = early-bind _ _ (scope-early e₁ inside bound) λ b. scope-early e₂ inside b
+
+pub program-early : (text : List ℕ) → Early (program text)
+unfolding program
+program-early text =
+    early-bind _ _ (begin-early programSheet _) λ top.
+    early-bind _ _ (next-early programSheet _ top) λ n.
+    early-bind _ _ (all-early programSheet _ (n .1)) λ s.
+    early-bind _ _ (end-early programSheet (s .1)) λ done.
+    early-bind _ _ (single-early (n .0) _) λ e.
+    early-bind _ _ (scope-early e [] []) λ bound. tt
+
+pub split-early : (steps : List Step) (text : List ℕ) → Early (split steps text)
+unfolding split
+split-early steps text =
+    early-bind _ _ (begin-early splitSheet _) λ top.
+    early-bind _ _ (next-early splitSheet _ top) λ H.
+    early-bind _ _ (all-early splitSheet _ (H .1)) λ types.
+    early-bind _ _ (all-early splitSheet _ (types .1)) λ maps.
+    early-bind _ _ (all-early splitSheet _ (maps .1)) λ rows.
+    early-bind _ _ (end-early splitSheet (rows .1)) λ done. tt
+
+over-early : (o : Option ℕ) → Early (refuseOver o)
+unfolding refuseOver returned four
+over-early none = tt
+over-early (some l) = omega arith
+
+pub start-early : (S : Split) → Early (startAtMostOne S)
+unfolding startAtMostOne
+start-early S = over-early _

@@ -1,0 +1,187 @@
+-- No condition is false exactly when the split's types and maps are derived by Figure 5.
+-- A step's own conditions and those of its parts are taken apart and put together by the two laws below; each rule then
+-- is its row of the table, read one way or the other.
+use mathlib.Core.Path.{_≡_, refl, subst, sym, _∙_}
+use mathlib.Core.List.{List, [], _∷_, _++_}
+use Prim.Native.Nat.{ℕ}
+use borrow.Author.Tests.{leb-true, ltb-true}
+use Rattle.spec.specs.Reading.{on}
+use Rattle.spec.specs.Expression.{Expr, leaf, unary, binary}
+use Rattle.spec.specs.Split.{Map, Split}
+use Rattle.spec.specs.Conditions.{Env, type, post, start, row, K, own, mapAt}
+use Rattle.spec.specs.Sites.{Site, sites, preOfPart, preOfSecond, bind, numbered, claimsAt, claims, firstFalse}
+use Rattle.spec.specs.FirstFalse.{Holds, AllHold}
+use Rattle.spec.specs.Figure5.{Derives, VAR, INT, LET, IF, WHILE, NEWT, SPAWN, JOIN, REF, WRITE, READ, NEWL, FREEL, LCK, ULCK}
+use Rattle.spec.specs.declared.MapNumber.{MapNumber}
+use Rattle.spec.specs.declared.LeafWord.{LeafWord}
+use Rattle.spec.specs.declared.LeafWord.the-variants.{Var, Int, Newtid, Newlock}
+use Rattle.spec.specs.declared.UnaryWord.{UnaryWord}
+use Rattle.spec.specs.declared.UnaryWord.the-variants.{While, Join, Ref, Read, Freelock, Lock, Unlock}
+use Rattle.spec.specs.declared.BinaryWord.{BinaryWord}
+use Rattle.spec.specs.declared.BinaryWord.the-variants.{Let, If, Spawn, Write}
+use Rattle.spec.proofs.Agreement.{agree-same}
+use Rattle.spec.proofs.TypeKinds.{is-int, is-tid, is-lock, is-ref-of, int-is, tid-is, lock-is, ref-is, ref-of-is, tid-load, lock-load, readable, writable}
+use Rattle.spec.proofs.Maps.{none-equal, none-covers, equal-none, covers-none}
+use Rattle.spec.proofs.Claims.{none-false-all-hold, all-hold-none-false, all-hold-parts, all-hold-append, claims-append}
+
+module _ (S : Split) where
+  -- all conditions hold at each of the sites; at one step
+  abbrev AllAt : List Site → Type 0
+  AllAt ss = AllHold (claims S ss)
+
+  abbrev OwnAt : Env → MapNumber → Expr → Type 0
+  OwnAt Γ pre e = AllHold (claimsAt S (record { Γ = Γ; pre = pre; step = e }))
+
+  -- ------------------------------------------------------------------ a step and its parts
+
+  step-parts : (s : Site) (ss : List Site) → AllAt (s ∷ ss) → AllHold (claimsAt S s) × AllAt ss
+  unfolding claims
+  step-parts s ss h = all-hold-parts (claimsAt S s) (claims S ss) h
+
+  parts-step : (s : Site) (ss : List Site) → AllHold (claimsAt S s) → AllAt ss → AllAt (s ∷ ss)
+  unfolding claims
+  parts-step s ss p q = all-hold-append (claimsAt S s) (claims S ss) p q
+
+  both-parts : (xs ys : List Site) → AllAt (xs ++ ys) → AllAt xs × AllAt ys
+  both-parts xs ys h = all-hold-parts (claims S xs) (claims S ys) (subst AllHold (claims-append S xs ys) h)
+
+  parts-both : (xs ys : List Site) → AllAt xs → AllAt ys → AllAt (xs ++ ys)
+  parts-both xs ys p q = subst AllHold (sym (claims-append S xs ys)) (all-hold-append (claims S xs) (claims S ys) p q)
+
+  leaf-own : (Γ : Env) (pre : MapNumber) (w : LeafWord) (k v : ℕ) → AllAt (sites S Γ pre (leaf w k v)) → OwnAt Γ pre (leaf w k v)
+  unfolding sites
+  leaf-own Γ pre w k v h = step-parts _ [] h .0
+
+  unary-own : (Γ : Env) (pre : MapNumber) (w : UnaryWord) (k v : ℕ) (e₁ : Expr) → AllAt (sites S Γ pre (unary w k v e₁))
+      → OwnAt Γ pre (unary w k v e₁) × AllAt (sites S Γ (preOfPart w pre (row S (unary w k v e₁) .post)) e₁)
+  unfolding sites
+  unary-own Γ pre w k v e₁ h = step-parts _ _ h
+
+  binary-own : (Γ : Env) (pre : MapNumber) (w : BinaryWord) (k v : ℕ) (e₁ e₂ : Expr) → AllAt (sites S Γ pre (binary w k v e₁ e₂))
+      → OwnAt Γ pre (binary w k v e₁ e₂) × AllAt (sites S Γ pre e₁)
+      × AllAt (sites S (bind w v (type S e₁) Γ) (preOfSecond w pre (row S e₁ .post) (row S (binary w k v e₁ e₂) .start)) e₂)
+  unfolding sites
+  binary-own Γ pre w k v e₁ e₂ h =
+      let s = step-parts _ _ h in
+      let b = both-parts (sites S Γ pre e₁) _ (s .1) in
+      (s .0, b .0, b .1)
+
+  -- ------------------------------------------------------------------ from conditions to a derivation
+
+  holding-derives : (Γ : Env) (pre : MapNumber) (e : Expr) → AllAt (sites S Γ pre e) → Derives S Γ (mapAt S pre) e
+  unfolding AllHold Holds claimsAt numbered own preOfPart preOfSecond bind post start K
+  holding-derives Γ pre (leaf Var k v) h =
+      let c = leaf-own Γ pre Var k v h in
+      VAR (agree-same S _ _ .0 (c .0)) (none-equal (c .1 .0))
+  holding-derives Γ pre (leaf Int k v) h =
+      let c = leaf-own Γ pre Int k v h in
+      INT (is-int _ (c .0)) (none-equal (c .1 .0))
+  holding-derives Γ pre (leaf Newtid k v) h =
+      let c = leaf-own Γ pre Newtid k v h in
+      NEWT (is-tid _ (c .0)) (none-equal (c .1 .0))
+  holding-derives Γ pre (leaf Newlock k v) h =
+      let c = leaf-own Γ pre Newlock k v h in
+      NEWL (is-lock _ (c .0)) (none-equal (c .1 .0))
+  holding-derives Γ pre (unary While k v e₁) h =
+      let (c, h₁) = unary-own Γ pre While k v e₁ h in
+      WHILE (holding-derives _ _ e₁ h₁) (none-covers (c .1 .1 .0)) (none-covers (c .1 .0)) (is-int _ (c .0))
+  holding-derives Γ pre (unary Join k v e₁) h =
+      let (c, h₁) = unary-own Γ pre Join k v e₁ h in
+      JOIN (holding-derives _ _ e₁ h₁) (is-tid _ (c .1 .0)) (is-int _ (c .0)) (none-equal (c .1 .1 .0))
+  holding-derives Γ pre (unary Ref k v e₁) h =
+      let (c, h₁) = unary-own Γ pre Ref k v e₁ h in
+      REF (holding-derives _ _ e₁ h₁) (is-ref-of S _ _ (c .0)) (none-equal (c .1 .0))
+  holding-derives Γ pre (unary Read k v e₁) h =
+      let (c, h₁) = unary-own Γ pre Read k v e₁ h in
+      READ (holding-derives _ _ e₁ h₁) (is-ref-of S _ _ (c .1 .0)) (ltb-true _ _ (c .1 .1 .1 .0)) (none-equal (c .1 .1 .0))
+  holding-derives Γ pre (unary Freelock k v e₁) h =
+      let (c, h₁) = unary-own Γ pre Freelock k v e₁ h in
+      FREEL (holding-derives _ _ e₁ h₁) (is-lock _ (c .1 .0)) (is-int _ (c .0)) (none-equal (c .1 .1 .0))
+  holding-derives Γ pre (unary Lock k v e₁) h =
+      let (c, h₁) = unary-own Γ pre Lock k v e₁ h in
+      LCK (holding-derives _ _ e₁ h₁) (is-lock _ (c .1 .0)) (is-int _ (c .0)) (none-equal (c .1 .1 .0))
+  holding-derives Γ pre (unary Unlock k v e₁) h =
+      let (c, h₁) = unary-own Γ pre Unlock k v e₁ h in
+      ULCK (holding-derives _ _ e₁ h₁) (is-lock _ (c .1 .0)) (is-int _ (c .0)) (none-equal (c .1 .1 .0))
+  holding-derives Γ pre (binary Let k v e₁ e₂) h =
+      let (c, h₁, h₂) = binary-own Γ pre Let k v e₁ e₂ h in
+      LET (holding-derives _ _ e₁ h₁) (holding-derives _ _ e₂ h₂) (agree-same S _ _ .0 (c .0)) (none-equal (c .1 .0))
+  holding-derives Γ pre (binary If k v e₁ e₂) h =
+      let (c, h₁, h₂) = binary-own Γ pre If k v e₁ e₂ h in
+      IF (holding-derives _ _ e₁ h₁) (agree-same S _ _ .0 (c .0)) (none-covers (c .1 .1 .0))
+      (holding-derives _ _ e₂ h₂) (agree-same S _ _ .0 (c .1 .0)) (none-covers (c .1 .1 .1 .0))
+  holding-derives Γ pre (binary Spawn k v e₁ e₂) h =
+      let (c, h₁, h₂) = binary-own Γ pre Spawn k v e₁ e₂ h in
+      SPAWN (holding-derives _ _ e₁ h₁) (is-tid _ (c .1 .0)) (holding-derives _ _ e₂ h₂) (none-covers (c .1 .1 .0))
+      (is-int _ (c .0)) (none-equal (c .1 .1 .1 .0))
+  holding-derives Γ pre (binary Write k v e₁ e₂) h =
+      let (c, h₁, h₂) = binary-own Γ pre Write k v e₁ e₂ h in
+      WRITE (holding-derives _ _ e₁ h₁) (is-ref-of S _ _ (c .1 .1 .0)) (holding-derives _ _ e₂ h₂)
+      (leb-true _ _ (c .1 .1 .1 .1 .0)) (is-int _ (c .0)) (none-equal (c .1 .1 .1 .0))
+
+  -- ------------------------------------------------------------------ from a derivation to conditions
+
+  leaf-all : (Γ : Env) (pre : MapNumber) (w : LeafWord) (k v : ℕ) → OwnAt Γ pre (leaf w k v) → AllAt (sites S Γ pre (leaf w k v))
+  unfolding sites claims AllHold
+  leaf-all Γ pre w k v c = parts-step _ [] c tt
+
+  unary-all : (Γ : Env) (pre : MapNumber) (w : UnaryWord) (k v : ℕ) (e₁ : Expr) → OwnAt Γ pre (unary w k v e₁)
+      → AllAt (sites S Γ (preOfPart w pre (row S (unary w k v e₁) .post)) e₁) → AllAt (sites S Γ pre (unary w k v e₁))
+  unfolding sites
+  unary-all Γ pre w k v e₁ c h₁ = parts-step _ _ c h₁
+
+  binary-all : (Γ : Env) (pre : MapNumber) (w : BinaryWord) (k v : ℕ) (e₁ e₂ : Expr) → OwnAt Γ pre (binary w k v e₁ e₂)
+      → AllAt (sites S Γ pre e₁)
+      → AllAt (sites S (bind w v (type S e₁) Γ) (preOfSecond w pre (row S e₁ .post) (row S (binary w k v e₁ e₂) .start)) e₂)
+      → AllAt (sites S Γ pre (binary w k v e₁ e₂))
+  unfolding sites
+  binary-all Γ pre w k v e₁ e₂ c h₁ h₂ = parts-step _ _ c (parts-both (sites S Γ pre e₁) _ h₁ h₂)
+
+  derived-holds : {Γ : Env} {Ψ : Map} {e : Expr} → Derives S Γ Ψ e → (pre : MapNumber) → mapAt S pre ≡ Ψ → AllAt (sites S Γ pre e)
+  unfolding AllHold Holds claimsAt numbered own preOfPart preOfSecond bind post start K
+  derived-holds {Γ} (VAR {k = k} {v = v} t p) pre q =
+      leaf-all Γ pre Var k v (agree-same S _ _ .1 t, (equal-none (p ∙ sym q), tt))
+  derived-holds {Γ} (INT {k = k} {v = v} t p) pre q =
+      leaf-all Γ pre Int k v (int-is t, (equal-none (p ∙ sym q), tt))
+  derived-holds {Γ} (LET {k = k} {v = v} {e₁ = e₁} {e₂ = e₂} d₁ d₂ t p) pre q =
+      binary-all Γ pre Let k v e₁ e₂ (agree-same S _ _ .1 t, (equal-none p, tt))
+      (derived-holds d₁ pre q) (derived-holds d₂ _ refl)
+  derived-holds {Γ} (IF {k = k} {v = v} {e₁ = e₁} {e₂ = e₂} d₁ t₁ p₁ d₂ t₂ p₂) pre q =
+      binary-all Γ pre If k v e₁ e₂ (agree-same S _ _ .1 t₁, (agree-same S _ _ .1 t₂, (covers-none p₁, (covers-none p₂, tt))))
+      (derived-holds d₁ pre q) (derived-holds d₂ pre q)
+  derived-holds {Γ} (WHILE {k = k} {v = v} {e₁ = e₁} d p₁ p t) pre q =
+      unary-all Γ pre While k v e₁ (int-is t, (covers-none (rw q p), (covers-none p₁, tt))) (derived-holds d _ refl)
+  derived-holds {Γ} (NEWT {k = k} {v = v} t p) pre q =
+      leaf-all Γ pre Newtid k v (tid-is t, (equal-none (p ∙ sym q), tt))
+  derived-holds {Γ} (SPAWN {k = k} {v = v} {e₁ = e₁} {e₂ = e₂} d₁ t d₂ c i p) pre q =
+      binary-all Γ pre Spawn k v e₁ e₂ (int-is i, (tid-is t, (covers-none (rw (tid-load S t) c), (equal-none p, tt))))
+      (derived-holds d₁ pre q) (derived-holds d₂ _ refl)
+  derived-holds {Γ} (JOIN {k = k} {v = v} {e₁ = e₁} d t i p) pre q =
+      unary-all Γ pre Join k v e₁ (int-is i, (tid-is t, (equal-none (rw (tid-load S t) p), tt))) (derived-holds d pre q)
+  derived-holds {Γ} (REF {k = k} {v = v} {e₁ = e₁} d t p) pre q =
+      unary-all Γ pre Ref k v e₁ (ref-of-is S t, (equal-none p, tt)) (derived-holds d pre q)
+  derived-holds {Γ} (WRITE {k = k} {v = v} {e₁ = e₁} {e₂ = e₂} d₁ t d₂ w i p) pre q =
+      binary-all Γ pre Write k v e₁ e₂
+      (int-is i, (ref-is t, (ref-of-is S t, (equal-none p, (writable _ (post S (binary Write k v e₁ e₂)) t w, tt)))))
+      (derived-holds d₁ pre q) (derived-holds d₂ _ refl)
+  derived-holds {Γ} (READ {k = k} {v = v} {e₁ = e₁} d t w p) pre q =
+      unary-all Γ pre Read k v e₁
+      (ref-is t, (ref-of-is S t, (equal-none p, (readable (post S (unary Read k v e₁)) t w, tt)))) (derived-holds d pre q)
+  derived-holds {Γ} (NEWL {k = k} {v = v} t p) pre q =
+      leaf-all Γ pre Newlock k v (lock-is t, (equal-none (rw (lock-load S t) (p ∙ sym q)), tt))
+  derived-holds {Γ} (FREEL {k = k} {v = v} {e₁ = e₁} d t i p) pre q =
+      unary-all Γ pre Freelock k v e₁ (int-is i, (lock-is t, (equal-none (rw (lock-load S t) p), tt))) (derived-holds d pre q)
+  derived-holds {Γ} (LCK {k = k} {v = v} {e₁ = e₁} d t i p) pre q =
+      unary-all Γ pre Lock k v e₁ (int-is i, (lock-is t, (equal-none (rw (lock-load S t) p), tt))) (derived-holds d pre q)
+  derived-holds {Γ} (ULCK {k = k} {v = v} {e₁ = e₁} d t i p) pre q =
+      unary-all Γ pre Unlock k v e₁ (int-is i, (lock-is t, (equal-none (rw (lock-load S t) p), tt))) (derived-holds d pre q)
+
+  -- ------------------------------------------------------------------ the theorem, both ways
+
+  pub conditions-derive : {t : Unit {0}} (Γ : Env) (pre : MapNumber) (e : Expr) → firstFalse (claims S (sites S Γ pre e)) ≡ on t
+      → Derives S Γ (mapAt S pre) e
+  conditions-derive Γ pre e h = holding-derives Γ pre e (none-false-all-hold _ h)
+
+  pub derivation-meets-conditions : (Γ : Env) (pre : MapNumber) (e : Expr) → Derives S Γ (mapAt S pre) e
+      → firstFalse (claims S (sites S Γ pre e)) ≡ on tt
+  derivation-meets-conditions Γ pre e d = all-hold-none-false _ (derived-holds d pre refl)

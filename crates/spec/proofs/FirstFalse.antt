@@ -1,0 +1,48 @@
+-- A refusal 31 to 33 names the first condition, by step line and then by number, that is false; and each such pair gets one.
+use mathlib.Core.Path.{_≡_, ap}
+use mathlib.Core.List.{List, []}
+use Prim.Native.Nat.{ℕ, _≤_}
+use native.Mathlib.Omega.{arith}
+use Rattle.spec.specs.Reading.{Out, stop, on}
+use Rattle.spec.specs.Conditions.{startMap}
+use Rattle.spec.specs.Sites.{sites, claims}
+use Rattle.spec.specs.Workspace.{workspaceSize}
+use Rattle.spec.specs.Verdict.{ruled, checked, answer, verdict, returned}
+use Rattle.spec.specs.FirstFalse.{Refuted}
+use Rattle.spec.specs.declared.Answer.the-variants.{Refuse}
+use Rattle.spec.specs.declared.Refusal.{Refusal}
+use Rattle.spec.proofs.Claims.{stopped-first-false, first-false-stopped}
+use Rattle.spec.proofs.Order.{claims-in-order}
+use Rattle.spec.proofs.Reached.{reached, reached-checked}
+
+refused-stopped : {r : Refusal} (o : Out (Unit {0})) → answer o ≡ Refuse r → o ≡ stop r
+unfolding answer
+refused-stopped {r} (stop s) h = let same : s ≡ r = cc in ap stop same
+refused-stopped (on t) h = let clash : _≡_ {A = ℕ} 0 1 = cc in absurd (omega arith)
+
+pub refusal-names-first-false : (room : ℕ) (p s : List ℕ) (r : Refusal) → verdict room p s ≡ Refuse r → 31 ≤ returned (Refuse r) .number
+    → Refuted p s r
+unfolding verdict ruled
+refusal-names-first-false room p s r h late =
+    let c = reached room p s (stop r) late (refused-stopped (checked room p s) h) in
+    record {
+      P = c .P;
+      S = c .S;
+      program = c .program;
+      split = c .split;
+      atMostOne = c .atMostOne;
+      inOrder = claims-in-order (c .S) [] startMap (c .P .root) 2 (c .program .numbering);
+      first = stopped-first-false (claims (c .S) (sites (c .S) [] startMap (c .P .root))) (c .outcome);
+    }
+
+pub first-false-is-refused : (room : ℕ) (p s : List ℕ) (r : Refusal) → workspaceSize ≤ room → Refuted p s r → verdict room p s ≡ Refuse r
+unfolding verdict answer ruled
+first-false-is-refused room p s r enough f = ap answer (reached-checked room p s (stop r) (record {
+  P = f .P;
+  S = f .S;
+  enough = enough;
+  program = f .program;
+  split = f .split;
+  atMostOne = f .atMostOne;
+  outcome = first-false-stopped (f .first);
+}))

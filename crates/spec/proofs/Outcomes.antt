@@ -1,0 +1,40 @@
+-- Laws of outcomes: what goes on, what is stopped.
+use mathlib.Core.Path.{_≡_, refl}
+use mathlib.Core.Bool.{Bool, true, false}
+use Prim.Native.Nat.{ℕ}
+use native.Mathlib.Omega.{arith}
+use Rattle.spec.specs.Reading.{Out, stop, on, _>>=_, demand}
+use Rattle.spec.specs.declared.Refusal.{Refusal}
+
+-- a stopped outcome does not go on
+pub stop-is-not-on {ℓ} : {A : Type 0} {C : Type ℓ} {r : Refusal} {a : A} → stop r ≡ on a → C
+stop-is-not-on h = let clash : _≡_ {A = ℕ} 0 1 = cc in absurd (omega arith)
+
+pub on-injective : {A : Type 0} {a b : A} → _≡_ {A = Out A} (on a) (on b) → a ≡ b
+on-injective h = cc
+
+pub stop-injective : {A : Type 0} {r s : Refusal} → _≡_ {A = Out A} (stop r) (stop s) → r ≡ s
+stop-injective h = cc
+
+-- ------------------------------------------------------------------ one outcome after another
+
+-- the two go on together exactly when the first goes on and the second goes on from there
+pub bind-goes-on : {A B : Type 0} {b : B} (m : Out A) (f : A → Out B) → (m >>= f) ≡ on b → (a : A) × (m ≡ on a) × (f a ≡ on b)
+unfolding _>>=_
+bind-goes-on (stop r) f h = stop-is-not-on h
+bind-goes-on (on a) f h = (a, refl, h)
+
+pub goes-on-bind : {A B : Type 0} {a : A} {o : Out B} (m : Out A) (f : A → Out B) → m ≡ on a → f a ≡ o → (m >>= f) ≡ o
+unfolding _>>=_
+goes-on-bind m f e h = rw e h
+
+-- ------------------------------------------------------------------ demands
+
+pub demand-goes-on : {t : Unit {0}} (b : Bool) (r : Refusal) → demand b r ≡ on t → b ≡ true
+unfolding demand
+demand-goes-on true r h = refl
+demand-goes-on false r h = stop-is-not-on h
+
+pub goes-on-demand : (b : Bool) (r : Refusal) → b ≡ true → demand b r ≡ on tt
+unfolding demand
+goes-on-demand b r h = rw h

@@ -1,0 +1,78 @@
+-- The conditions decide exactly when all that is judged before them is passed.
+use mathlib.Core.Path.{_≡_, refl}
+use mathlib.Core.List.{List}
+use mathlib.Core.Option.{Option, none, some}
+use Prim.Native.Nat.{ℕ, _≤_}
+use native.Mathlib.Omega.{arith}
+use borrow.Author.Tests.{leb-true, le-leb}
+use Rattle.spec.specs.Reading.{Out, on}
+use Rattle.spec.specs.Program.{Program}
+use Rattle.spec.specs.Split.{Split}
+use Rattle.spec.specs.Conditions.{mapAt, startMap}
+use Rattle.spec.specs.Workspace.{workspaceSize}
+use Rattle.spec.specs.Verdict.{refuseOver, startAtMostOne, ruled, checked, four, returned}
+use Rattle.spec.specs.WellFormed.{WellFormedProgram, WellFormedSplit}
+use Rattle.spec.specs.Accepted.{AtMost}
+use Rattle.spec.proofs.Outcomes.{stop-is-not-on, goes-on-bind, demand-goes-on, goes-on-demand}
+use Rattle.spec.proofs.Maps.{none-at-most, at-most-none}
+use Rattle.spec.proofs.WellFormed.{program-well-formed, well-formed-program, split-well-formed, well-formed-split}
+use Rattle.spec.proofs.EarlyRefusals.{Late, past, early-demand, program-early, split-early, start-early}
+
+-- ------------------------------------------------------------------ the start
+
+over-none : {t : Unit {0}} (o : Option ℕ) → refuseOver o ≡ on t → o ≡ none
+unfolding refuseOver
+over-none none h = refl
+over-none (some l) h = stop-is-not-on h
+
+none-over : (o : Option ℕ) → o ≡ none → refuseOver o ≡ on tt
+unfolding refuseOver
+none-over o h = rw h
+
+start-at-most-one : {t : Unit {0}} (S : Split) → startAtMostOne S ≡ on t → AtMost (S .header .denominator) (mapAt S startMap)
+unfolding startAtMostOne
+start-at-most-one S h = none-at-most _ 0 _ (over-none _ h)
+
+at-most-one-start : (S : Split) → AtMost (S .header .denominator) (mapAt S startMap) → startAtMostOne S ≡ on tt
+unfolding startAtMostOne
+at-most-one-start S h = none-over _ (at-most-none _ 0 h)
+
+-- ------------------------------------------------------------------ the conditions
+
+-- nothing is refused before the conditions are judged, and o is what they come to
+pub record Reached (room : ℕ) (p s : List ℕ) (o : Out (Unit {0})) : Type 0 where
+  pub P : Program
+  pub S : Split
+  pub enough : workspaceSize ≤ room
+  pub program : WellFormedProgram p P
+  pub split : WellFormedSplit (P .steps) s S
+  pub atMostOne : AtMost (S .header .denominator) (mapAt S startMap)
+  pub outcome : ruled P S ≡ o
+
+pub reached : (room : ℕ) (p s : List ℕ) (o : Out (Unit {0})) → Late o → checked room p s ≡ o → Reached room p s o
+unfolding checked returned four
+reached room p s o late h =
+    past o _ _ (early-demand _ _ (omega arith)) late h λ _ enough r₁.
+    past o _ _ (early-demand _ _ (omega arith)) late r₁ λ _ fits r₂.
+    past o _ _ (program-early p) late r₂ λ P reads r₃.
+    past o _ _ (early-demand _ _ (omega arith)) late r₃ λ _ splitFits r₄.
+    past o _ _ (split-early (P .steps) s) late r₄ λ S splits r₅.
+    past o _ _ (start-early S) late r₅ λ _ whole r₆. record {
+      P = P;
+      S = S;
+      enough = leb-true _ _ (demand-goes-on _ _ enough);
+      program = program-well-formed p (leb-true _ _ (demand-goes-on _ _ fits)) reads;
+      split = split-well-formed (P .steps) s (leb-true _ _ (demand-goes-on _ _ splitFits)) splits;
+      atMostOne = start-at-most-one S whole;
+      outcome = r₆;
+    }
+
+pub reached-checked : (room : ℕ) (p s : List ℕ) (o : Out (Unit {0})) → Reached room p s o → checked room p s ≡ o
+unfolding checked
+reached-checked room p s o r =
+    goes-on-bind _ _ (goes-on-demand _ _ (le-leb _ _ (r .enough)))
+    (goes-on-bind _ _ (goes-on-demand _ _ (le-leb _ _ (r .program .fits)))
+    (goes-on-bind _ _ (well-formed-program p (r .program))
+    (goes-on-bind _ _ (goes-on-demand _ _ (le-leb _ _ (r .split .fits)))
+    (goes-on-bind _ _ (well-formed-split (r .P .steps) s (r .split))
+    (goes-on-bind _ _ (at-most-one-start (r .S) (r .atMostOne)) (r .outcome))))))

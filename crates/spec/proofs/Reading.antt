@@ -1,0 +1,85 @@
+-- Counted lines are read to the end exactly when the text shows an entry on each of them.
+use mathlib.Core.Path.{_≡_, refl, ap, sym, subst}
+use mathlib.Core.List.{List, [], _∷_}
+use Prim.Native.Nat.{ℕ, suc, _+_}
+use lib.ListN.{length}
+use Rattle.spec.specs.Text.{Line, closed, unclosed, Field, fields}
+use Rattle.spec.specs.Reading.{on, Seen, right, badForm, badRange, SheetName, Place, passed, nextLine, next, nextAll, begin, noneLeft, end}
+use Rattle.spec.specs.WellFormed.{Shows, nothing, line}
+use Rattle.spec.proofs.Outcomes.{stop-is-not-on, on-injective, bind-goes-on, goes-on-bind}
+
+-- ------------------------------------------------------------------ from reading to lines
+
+passed-right : {A : Type 0} {a : A} {p : Place} (sheet : SheetName) (k : ℕ) (rest : List Line) (x : Seen A)
+    → passed sheet k rest x ≡ on (a, p) → (x ≡ right a) × (rest ≡ p .rest)
+unfolding passed
+passed-right sheet k rest (right a) h = (ap (λ r. right (r .0)) (on-injective h), ap (λ r. r .1 .rest) (on-injective h))
+passed-right sheet k rest badForm h = stop-is-not-on h
+passed-right sheet k rest badRange h = stop-is-not-on h
+
+-- the lines ls begin with a closed one that shows a, and rest is behind it
+pub record Begins {A : Type 0} (read : List Field → Seen A) (ls : List Line) (a : A) (rest : List Line) : Type 0 where
+  pub first : List ℕ
+  pub lined : ls ≡ closed first ∷ rest
+  pub shown : read (fields first) ≡ right a
+
+line-begins : {A : Type 0} {a : A} {p : Place} (sheet : SheetName) (read : List Field → Seen A) (k : ℕ) (ls : List Line)
+    → nextLine sheet read k ls ≡ on (a, p) → Begins read ls a (p .rest)
+unfolding nextLine
+line-begins sheet read k [] h = stop-is-not-on h
+line-begins sheet read k (unclosed l ∷ rest) h = stop-is-not-on h
+line-begins sheet read k (closed l ∷ rest) h =
+    let (shown, behind) = passed-right sheet (k + 1) rest (read (fields l)) h in
+    record { first = l; lined = ap (closed l ∷_) behind; shown = shown }
+
+pub next-begins : {A : Type 0} {a : A} {p : Place} (sheet : SheetName) (read : List Field → Seen A) (place : Place)
+    → next sheet read place ≡ on (a, p) → Begins read (place .rest) a (p .rest)
+unfolding next
+next-begins sheet read place h = line-begins sheet read (place .last) (place .rest) h
+
+pub all-shown : {A : Type 0} {as′ : List A} {p : Place} (sheet : SheetName) (reads : List (List Field → Seen A)) (place : Place)
+    → nextAll sheet reads place ≡ on (as′, p) → Shows reads (place .rest) as′ (p .rest)
+unfolding nextAll
+all-shown sheet [] place h = subst (λ r. Shows [] (place .rest) (r .0) (r .1 .rest)) (on-injective h) nothing
+all-shown sheet (read ∷ reads) place h =
+    let (r₁, h₁, h₂) = bind-goes-on _ _ h in
+    let (r₂, h₃, h₄) = bind-goes-on _ _ h₂ in
+    let b = next-begins sheet read place h₁ in
+    let shown = line (b .shown) (all-shown sheet reads (r₁ .1) h₃) in
+    subst (λ r. Shows (read ∷ reads) (place .rest) (r .0) (r .1 .rest)) (on-injective h₄)
+    (subst (λ ls. Shows (read ∷ reads) ls (r₁ .0 ∷ r₂ .0) (r₂ .1 .rest)) (sym (b .lined)) shown)
+
+pub begun : {p : Place} (sheet : SheetName) (ls : List Line) → begin sheet ls ≡ on p → ls ≡ p .rest
+unfolding begin
+begun sheet [] h = stop-is-not-on h
+begun sheet (l ∷ rest) h = ap (λ r. r .rest) (on-injective h)
+
+none-left : {t : Unit {0}} (sheet : SheetName) (k : ℕ) (ls : List Line) → noneLeft sheet k ls ≡ on t → ls ≡ []
+unfolding noneLeft
+none-left sheet k [] h = refl
+none-left sheet k (l ∷ rest) h = stop-is-not-on h
+
+pub ended : {t : Unit {0}} (sheet : SheetName) (place : Place) → end sheet place ≡ on t → place .rest ≡ []
+unfolding end
+ended sheet place h = none-left sheet (place .last) (place .rest) h
+
+pub shown-length : {A : Type 0} {reads : List (List Field → Seen A)} {ls rest : List Line} {as′ : List A}
+    → Shows reads ls as′ rest → length as′ ≡ length reads
+shown-length nothing = refl
+shown-length (line h s) = ap suc (shown-length s)
+
+-- ------------------------------------------------------------------ from lines to reading
+
+pub read-next : {A : Type 0} {a : A} (sheet : SheetName) (read : List Field → Seen A) (k : ℕ) (l : List ℕ) (rest : List Line)
+    → read (fields l) ≡ right a → next sheet read (record { last = k; rest = closed l ∷ rest }) ≡ on (a, record { last = k + 1; rest = rest })
+unfolding next nextLine passed
+read-next sheet read k l rest h = rw h
+
+pub read-all : {A : Type 0} {reads : List (List Field → Seen A)} {ls rest : List Line} {as′ : List A} (sheet : SheetName)
+    → Shows reads ls as′ rest → (k : ℕ)
+    → (last : ℕ) × (nextAll sheet reads (record { last = k; rest = ls }) ≡ on (as′, record { last = last; rest = rest }))
+unfolding nextAll
+read-all sheet nothing k = (k, refl)
+read-all sheet (line {read} {reads} {l} {ls} h s) k =
+    let (last, r) = read-all sheet s (k + 1) in
+    (last, goes-on-bind _ _ (read-next sheet read k l ls h) (goes-on-bind _ _ r refl))

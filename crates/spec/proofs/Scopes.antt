@@ -1,0 +1,164 @@
+-- 14 and 15 are met by no step exactly when no variable is bound twice and each is used only inside its let's e2.
+-- The walk in line order carries the variables bound so far; what it asks of them comes to `Distinct` in the end.
+use mathlib.Core.Path.{_≡_, refl, ap, sym, _∙_, subst}
+use mathlib.Core.List.{List, [], _∷_, _++_}
+use mathlib.Core.Bool.{Bool, true, false, _||_}
+use mathlib.Core.Logic.{_↔_}
+use Prim.Native.Nat.{ℕ}
+use lib.Dec.{eqb}
+use borrow.Author.Tests.{eqb-false, ne-eqb}
+use Rattle.spec.specs.Choice.{if_then_else_}
+use Rattle.spec.specs.Reading.{Out, stop, on, _>>=_}
+use Rattle.spec.specs.Expression.{Expr, leaf, unary, binary, among, scope}
+use Rattle.spec.specs.WellFormed.{binders, Distinct, UsedInside}
+use Rattle.spec.specs.declared.Refusal.{Refusal}
+use Rattle.spec.specs.declared.LeafWord.the-variants.{Var, Int, Newtid, Newlock}
+use Rattle.spec.specs.declared.BinaryWord.the-variants.{Let, If, Spawn, Write}
+use Rattle.spec.proofs.Clashes.{true-is-not-false}
+use Rattle.spec.proofs.Outcomes.{stop-is-not-on, bind-goes-on, goes-on-bind, on-injective}
+
+-- ------------------------------------------------------------------ variables bound one after the other
+
+-- those bound once the lets of vs are past, and that each let of vs binds one that is not bound yet
+unfoldable after : (vs bound : List ℕ) → List ℕ
+after [] bound = bound
+after (v ∷ vs) bound = after vs (v ∷ bound)
+
+unfoldable EachNew : (vs bound : List ℕ) → Type 0
+EachNew [] bound = Unit {0}
+EachNew (v ∷ vs) bound = (among v bound ≡ false) × EachNew vs (v ∷ bound)
+
+after-append : (xs ys bound : List ℕ) → after (xs ++ ys) bound ≡ after ys (after xs bound)
+unfolding after
+after-append [] ys bound = refl
+after-append (x ∷ xs) ys bound = after-append xs ys (x ∷ bound)
+
+new-parts : (xs ys bound : List ℕ) → EachNew (xs ++ ys) bound ↔ (EachNew xs bound × EachNew ys (after xs bound))
+unfolding after EachNew
+new-parts [] ys bound = (λ h. (tt, h), λ h. h .1)
+new-parts (x ∷ xs) ys bound =
+    let r = new-parts xs ys (x ∷ bound) in
+    (λ h. (let q = r .0 (h .1) in ((h .0, q .0), q .1)), λ h. (h .0 .0, r .1 (h .0 .1, h .1)))
+
+-- ------------------------------------------------------------------ bound one after the other: distinct
+
+unfoldable NoneAmong : (vs bound : List ℕ) → Type 0
+NoneAmong [] bound = Unit {0}
+NoneAmong (v ∷ vs) bound = (among v bound ≡ false) × NoneAmong vs bound
+
+or-false : (a b : Bool) → (a || b) ≡ false ↔ ((a ≡ false) × (b ≡ false))
+or-false true b = (λ h. true-is-not-false h, λ h. true-is-not-false (h .0))
+or-false false b = (λ h. (refl, h), λ h. h .1)
+
+different-swap : (a b : ℕ) → eqb a b ≡ false → eqb b a ≡ false
+different-swap a b h = ne-eqb b a (λ e. eqb-false a b h (sym e))
+
+none-among-more : (x : ℕ) (vs bound : List ℕ) → NoneAmong vs (x ∷ bound) ↔ ((among x vs ≡ false) × NoneAmong vs bound)
+unfolding NoneAmong among
+none-among-more x [] bound = (λ h. (refl, tt), λ h. tt)
+none-among-more x (v ∷ vs) bound =
+    let r = none-among-more x vs bound in (
+      λ h. (let p = or-false (eqb v x) (among v bound) .0 (h .0) in
+          let q = r .0 (h .1) in
+          (or-false (eqb x v) (among x vs) .1 (different-swap v x (p .0), q .0), (p .1, q .1))),
+      λ h. (let p = or-false (eqb x v) (among x vs) .0 (h .0) in
+          (or-false (eqb v x) (among v bound) .1 (different-swap x v (p .0), h .1 .0), r .1 (p .1, h .1 .1))),
+    )
+
+new-distinct : (vs bound : List ℕ) → EachNew vs bound ↔ (Distinct vs × NoneAmong vs bound)
+unfolding EachNew Distinct NoneAmong
+new-distinct [] bound = (λ h. (tt, tt), λ h. tt)
+new-distinct (v ∷ vs) bound =
+    let r = new-distinct vs (v ∷ bound) in
+    let m = none-among-more v vs bound in (
+      λ h. (let q = r .0 (h .1) in let p = m .0 (q .1) in ((p .0, q .0), (h .0, p .1))),
+      λ h. (h .1 .0, r .1 (h .0 .1, m .1 (h .0 .0, h .1 .1))),
+    )
+
+none-among-nothing : (vs : List ℕ) → NoneAmong vs []
+unfolding NoneAmong among
+none-among-nothing [] = tt
+none-among-nothing (v ∷ vs) = (refl, none-among-nothing vs)
+
+-- ------------------------------------------------------------------ the walk
+
+-- what is known of an expression when the walk over it goes on: b has the variables bound by then
+abbrev Walked : Expr → (inside bound b : List ℕ) → Type 0
+Walked e inside bound b = (b ≡ after (binders e) bound) × EachNew (binders e) bound × UsedInside inside e
+
+used-goes-on : {A : Type 0} {a : A} (b : Bool) (o : Out A) (r : Refusal) → (if b then o else stop r) ≡ on a → (b ≡ true) × (o ≡ on a)
+used-goes-on true o r h = (refl, h)
+used-goes-on false o r h = stop-is-not-on h
+
+bound-goes-on : {A : Type 0} {a : A} (b : Bool) (o : Out A) (r : Refusal) → (if b then stop r else o) ≡ on a → (b ≡ false) × (o ≡ on a)
+bound-goes-on true o r h = stop-is-not-on h
+bound-goes-on false o r h = (refl, h)
+
+-- e₂ is walked with what e₁ has bound
+parts-walked : (e₁ e₂ : Expr) (in₁ in₂ bound : List ℕ) {b : List ℕ}
+    → ((b : List ℕ) → scope e₁ in₁ bound ≡ on b → Walked e₁ in₁ bound b)
+    → ((c b : List ℕ) → scope e₂ in₂ c ≡ on b → Walked e₂ in₂ c b)
+    → (scope e₁ in₁ bound >>= λ c. scope e₂ in₂ c) ≡ on b
+    → (b ≡ after (binders e₁ ++ binders e₂) bound) × EachNew (binders e₁ ++ binders e₂) bound × (UsedInside in₁ e₁ × UsedInside in₂ e₂)
+parts-walked e₁ e₂ in₁ in₂ bound {b} first second h =
+    let (c, h₁, h₂) = bind-goes-on _ _ h in
+    let (c-is, new₁, used₁) = first c h₁ in
+    let (b-is, new₂, used₂) = second c b h₂ in (
+      b-is ∙ ap (after (binders e₂)) c-is ∙ sym (after-append (binders e₁) (binders e₂) bound),
+      new-parts (binders e₁) (binders e₂) bound .1 (new₁, subst (EachNew (binders e₂)) c-is new₂),
+      (used₁, used₂),
+    )
+
+walk : (e : Expr) (inside bound b : List ℕ) → scope e inside bound ≡ on b → Walked e inside bound b
+unfolding scope binders after EachNew UsedInside
+walk (leaf Var k v) inside bound b h =
+    let (used, same) = used-goes-on _ _ _ h in
+    (sym (on-injective same), tt, used)
+walk (leaf Int k v) inside bound b h = (sym (on-injective h), tt, tt)
+walk (leaf Newtid k v) inside bound b h = (sym (on-injective h), tt, tt)
+walk (leaf Newlock k v) inside bound b h = (sym (on-injective h), tt, tt)
+walk (unary w k v e) inside bound b h = walk e inside bound b h
+walk (binary Let k v e₁ e₂) inside bound b h =
+    let (new, rest) = bound-goes-on _ _ _ h in
+    let (b-is, news, used) = parts-walked e₁ e₂ inside (v ∷ inside) (v ∷ bound) (walk e₁ inside (v ∷ bound)) (walk e₂ (v ∷ inside)) rest in
+    (b-is, (new, news), used)
+walk (binary If k v e₁ e₂) inside bound b h = parts-walked e₁ e₂ inside inside bound (walk e₁ inside bound) (walk e₂ inside) h
+walk (binary Spawn k v e₁ e₂) inside bound b h = parts-walked e₁ e₂ inside inside bound (walk e₁ inside bound) (walk e₂ inside) h
+walk (binary Write k v e₁ e₂) inside bound b h = parts-walked e₁ e₂ inside inside bound (walk e₁ inside bound) (walk e₂ inside) h
+
+-- and back
+parts-walk : (e₁ e₂ : Expr) (in₁ in₂ bound : List ℕ)
+    → (EachNew (binders e₁) bound → scope e₁ in₁ bound ≡ on (after (binders e₁) bound))
+    → ((c : List ℕ) → EachNew (binders e₂) c → scope e₂ in₂ c ≡ on (after (binders e₂) c))
+    → EachNew (binders e₁ ++ binders e₂) bound
+    → (scope e₁ in₁ bound >>= λ c. scope e₂ in₂ c) ≡ on (after (binders e₁ ++ binders e₂) bound)
+parts-walk e₁ e₂ in₁ in₂ bound first second new =
+    let (new₁, new₂) = new-parts (binders e₁) (binders e₂) bound .0 new in
+    goes-on-bind _ _ (first new₁) (second _ new₂ ∙ ap on (sym (after-append (binders e₁) (binders e₂) bound)))
+
+walked : (e : Expr) (inside bound : List ℕ) → UsedInside inside e → EachNew (binders e) bound → scope e inside bound ≡ on (after (binders e) bound)
+unfolding scope binders after EachNew UsedInside
+walked (leaf Var k v) inside bound used new = rw used
+walked (leaf Int k v) inside bound used new = refl
+walked (leaf Newtid k v) inside bound used new = refl
+walked (leaf Newlock k v) inside bound used new = refl
+walked (unary w k v e) inside bound used new = walked e inside bound used new
+walked (binary Let k v e₁ e₂) inside bound used new =
+    rw (new .0)
+    (parts-walk e₁ e₂ inside (v ∷ inside) (v ∷ bound) (walked e₁ inside (v ∷ bound) (used .0)) (λ c. walked e₂ (v ∷ inside) c (used .1)) (new .1))
+walked (binary If k v e₁ e₂) inside bound used new =
+    parts-walk e₁ e₂ inside inside bound (walked e₁ inside bound (used .0)) (λ c. walked e₂ inside c (used .1)) new
+walked (binary Spawn k v e₁ e₂) inside bound used new =
+    parts-walk e₁ e₂ inside inside bound (walked e₁ inside bound (used .0)) (λ c. walked e₂ inside c (used .1)) new
+walked (binary Write k v e₁ e₂) inside bound used new =
+    parts-walk e₁ e₂ inside inside bound (walked e₁ inside bound (used .0)) (λ c. walked e₂ inside c (used .1)) new
+
+-- ------------------------------------------------------------------ a whole program's expression
+
+pub scoped-once-inside : {b : List ℕ} (e : Expr) → scope e [] [] ≡ on b → Distinct (binders e) × UsedInside [] e
+scoped-once-inside {b} e h =
+    let (b-is, new, used) = walk e [] [] b h in
+    (new-distinct (binders e) [] .0 new .0, used)
+
+pub once-inside-scoped : (e : Expr) → Distinct (binders e) → UsedInside [] e → (b : List ℕ) × (scope e [] [] ≡ on b)
+once-inside-scoped e once used = (after (binders e) [], walked e [] [] used (new-distinct (binders e) [] .1 (once, none-among-nothing (binders e))))

@@ -1,0 +1,86 @@
+-- What a test of a type's kind says of the type, and back.
+use mathlib.Core.Path.{_≡_, refl, ap}
+use mathlib.Core.Bool.{true}
+use Prim.Native.Nat.{ℕ, _≤_, _<_}
+use lib.Dec.{leb, ltb}
+use borrow.Author.Tests.{le-leb, lt-ltb}
+use Rattle.spec.specs.Split.{Map, Split}
+use Rattle.spec.specs.Maps.{share}
+use Rattle.spec.specs.Conditions.{isInt, isRef, isLock, isTid, place, load, contains, mapAt}
+use Rattle.spec.specs.declared.TypeNumber.{TypeNumber}
+use Rattle.spec.specs.declared.MapNumber.{MapNumber}
+use Rattle.spec.specs.declared.Location.{Location}
+use Rattle.spec.specs.declared.TypeLine.{TypeLine}
+use Rattle.spec.specs.declared.TypeLine.the-variants.{Int, Ref, Lock, Tid}
+use Rattle.spec.proofs.Agreement.{agree-same}
+
+-- ------------------------------------------------------------------ from a test to a type
+
+pub is-int : (t : TypeLine) → isInt t ≡ true → t ≡ Int
+unfolding isInt
+is-int Int h = refl
+is-int (Ref p c) h = cc
+is-int (Lock k) h = cc
+is-int (Tid k) h = cc
+
+pub is-tid : (t : TypeLine) → isTid t ≡ true → t ≡ Tid (load t)
+unfolding isTid load
+is-tid Int h = cc
+is-tid (Ref p c) h = cc
+is-tid (Lock k) h = cc
+is-tid (Tid k) h = refl
+
+pub is-lock : (t : TypeLine) → isLock t ≡ true → t ≡ Lock (load t)
+unfolding isLock load
+is-lock Int h = cc
+is-lock (Ref p c) h = cc
+is-lock (Lock k) h = refl
+is-lock (Tid k) h = cc
+
+pub is-ref-of : (S : Split) (t : TypeLine) (c : TypeNumber) → contains S t c ≡ true → t ≡ Ref (place t) c
+unfolding contains place
+is-ref-of S Int c h = cc
+is-ref-of S (Ref p d) c h = ap (Ref p) (agree-same S d c .0 h)
+is-ref-of S (Lock k) c h = cc
+is-ref-of S (Tid k) c h = cc
+
+-- ------------------------------------------------------------------ from a type to a test
+
+pub int-is : {t : TypeLine} → t ≡ Int → isInt t ≡ true
+unfolding isInt
+int-is e = rw e
+
+pub tid-is : {t : TypeLine} {k : MapNumber} → t ≡ Tid k → isTid t ≡ true
+unfolding isTid
+tid-is e = rw e
+
+pub lock-is : {t : TypeLine} {k : MapNumber} → t ≡ Lock k → isLock t ≡ true
+unfolding isLock
+lock-is e = rw e
+
+pub ref-is : {t : TypeLine} {p : Location} {c : TypeNumber} → t ≡ Ref p c → isRef t ≡ true
+unfolding isRef
+ref-is e = rw e
+
+pub ref-of-is : (S : Split) {t : TypeLine} {p : Location} {c : TypeNumber} → t ≡ Ref p c → contains S t c ≡ true
+unfolding contains
+ref-of-is S {t} {p} {c} e = rw e (agree-same S c c .1 refl)
+
+pub tid-load : (S : Split) {t : TypeLine} {k : MapNumber} → t ≡ Tid k → mapAt S (load t) ≡ mapAt S k
+unfolding load
+tid-load S e = rw e
+
+pub lock-load : (S : Split) {t : TypeLine} {k : MapNumber} → t ≡ Lock k → mapAt S (load t) ≡ mapAt S k
+unfolding load
+lock-load S e = rw e
+
+pub ref-place : {t : TypeLine} {p : Location} {c : TypeNumber} → t ≡ Ref p c → place t ≡ p
+unfolding place
+ref-place e = rw e
+
+pub readable : (m : Map) {t : TypeLine} {p : Location} {c : TypeNumber} → t ≡ Ref p c → 0 < share m p → ltb 0 (share m (place t)) ≡ true
+readable m e w = rw (ref-place e) (lt-ltb _ _ w)
+
+pub writable : (d : ℕ) (m : Map) {t : TypeLine} {p : Location} {c : TypeNumber} → t ≡ Ref p c → d ≤ share m p
+    → leb d (share m (place t)) ≡ true
+writable d m e w = rw (ref-place e) (le-leb _ _ w)

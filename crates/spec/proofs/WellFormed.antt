@@ -1,0 +1,97 @@
+-- The sheets that meet none of 10 to 15, none of 20 to 23, are the well-formed ones.
+use mathlib.Core.Path.{_≡_, refl, ap, sym, _∙_, subst}
+use mathlib.Core.List.{List, [], map}
+use Prim.Native.Nat.{ℕ, _≤_}
+use lib.ListN.{length, replicate, length-replicate}
+use Rattle.spec.specs.Text.{lines}
+use Rattle.spec.specs.Reading.{on, programSheet, splitSheet, right, begin, noneLeft, end}
+use Rattle.spec.specs.Expression.{Step, listed, single}
+use Rattle.spec.specs.Program.{Program, program, programLimit, countLine, stepLine}
+use Rattle.spec.specs.Split.{Split, split, splitLimit, headerLine, rowLine}
+use Rattle.spec.specs.WellFormed.{Shows, WellFormedProgram, WellFormedSplit}
+use Rattle.spec.proofs.Outcomes.{on-injective, bind-goes-on, goes-on-bind}
+use Rattle.spec.proofs.Reading.{next-begins, all-shown, begun, ended, shown-length, read-next, read-all}
+use Rattle.spec.proofs.Listing.{listed-expression, expression-listed}
+use Rattle.spec.proofs.Scopes.{scoped-once-inside, once-inside-scoped}
+
+-- ------------------------------------------------------------------ the program sheet
+
+pub program-well-formed : {P : Program} (text : List ℕ) → length text ≤ programLimit → program text ≡ on P → WellFormedProgram text P
+unfolding program
+program-well-formed text fits h =
+    let (top, h₁, r₁) = bind-goes-on _ _ h in
+    let (nf, h₂, r₂) = bind-goes-on _ _ r₁ in
+    let (sl, h₃, r₃) = bind-goes-on _ _ r₂ in
+    let (done, h₄, r₄) = bind-goes-on _ _ r₃ in
+    let (e, h₅, r₅) = bind-goes-on _ _ r₄ in
+    let (bound, h₆, r₆) = bind-goes-on _ _ r₅ in
+    let b = next-begins programSheet countLine top h₂ in
+    let s = all-shown programSheet (replicate (nf .0) stepLine) (nf .1) h₃ in
+    let count : nf .0 ≡ length (sl .0) = sym (shown-length s ∙ length-replicate (nf .0) stepLine) in
+    let l = listed-expression (sl .0) (subst (λ n. single n (listed 2 (sl .0)) ≡ on e) count h₅) in
+    let v = scoped-once-inside e h₆ in
+    subst (WellFormedProgram text) (on-injective r₆) (record {
+      fits = fits;
+      first = b .first;
+      others = nf .1 .rest;
+      lined = begun programSheet (lines text) h₁ ∙ b .lined;
+      counted = b .shown ∙ ap right count;
+      stepped = subst (λ n. Shows (replicate n stepLine) (nf .1 .rest) (sl .0) []) count
+          (subst (λ rest. Shows (replicate (nf .0) stepLine) (nf .1 .rest) (sl .0) rest) (ended programSheet (sl .1) h₄) s);
+      listing = l .0;
+      numbering = l .1;
+      boundOnce = v .0;
+      usedInside = v .1;
+    })
+
+pub well-formed-program : {P : Program} (text : List ℕ) → WellFormedProgram text P → program text ≡ on P
+unfolding program begin end noneLeft
+well-formed-program {P} text w =
+    let (last, steps) = read-all programSheet (w .stepped) 1 in
+    let (bound, scoped) = once-inside-scoped (P .root) (w .boundOnce) (w .usedInside) in
+    goes-on-bind _ _ (ap (begin programSheet) (w .lined))
+    (goes-on-bind _ _ (read-next programSheet countLine 0 (w .first) (w .others) (w .counted))
+    (goes-on-bind _ _ steps
+    (goes-on-bind _ _ refl
+    (goes-on-bind _ _ (expression-listed (P .steps) (P .root) (w .listing) (w .numbering))
+    (goes-on-bind _ _ scoped refl)))))
+
+-- ------------------------------------------------------------------ the split sheet
+
+pub split-well-formed : {S : Split} (steps : List Step) (text : List ℕ) → length text ≤ splitLimit → split steps text ≡ on S
+    → WellFormedSplit steps text S
+unfolding split
+split-well-formed steps text fits h =
+    let (top, h₁, r₁) = bind-goes-on _ _ h in
+    let (Hp, h₂, r₂) = bind-goes-on _ _ r₁ in
+    let (tp, h₃, r₃) = bind-goes-on _ _ r₂ in
+    let (mp, h₄, r₄) = bind-goes-on _ _ r₃ in
+    let (rp, h₅, r₅) = bind-goes-on _ _ r₄ in
+    let (done, h₆, r₆) = bind-goes-on _ _ r₅ in
+    let b = next-begins splitSheet headerLine top h₂ in
+    subst (WellFormedSplit steps text) (on-injective r₆) (record {
+      fits = fits;
+      first = b .first;
+      others = Hp .1 .rest;
+      afterTypes = tp .1 .rest;
+      afterMaps = mp .1 .rest;
+      lined = begun splitSheet (lines text) h₁ ∙ b .lined;
+      headed = b .shown;
+      typed = all-shown splitSheet _ (Hp .1) h₃;
+      mapped = all-shown splitSheet _ (tp .1) h₄;
+      rowed = subst (λ rest. Shows (map (rowLine (Hp .0)) steps) (mp .1 .rest) (rp .0) rest) (ended splitSheet (rp .1) h₆)
+          (all-shown splitSheet _ (mp .1) h₅);
+    })
+
+pub well-formed-split : {S : Split} (steps : List Step) (text : List ℕ) → WellFormedSplit steps text S → split steps text ≡ on S
+unfolding split begin end noneLeft
+well-formed-split {S} steps text w =
+    let (l₁, types) = read-all splitSheet (w .typed) 1 in
+    let (l₂, maps) = read-all splitSheet (w .mapped) l₁ in
+    let (l₃, rows) = read-all splitSheet (w .rowed) l₂ in
+    goes-on-bind _ _ (ap (begin splitSheet) (w .lined))
+    (goes-on-bind _ _ (read-next splitSheet headerLine 0 (w .first) (w .others) (w .headed))
+    (goes-on-bind _ _ types
+    (goes-on-bind _ _ maps
+    (goes-on-bind _ _ rows
+    (goes-on-bind _ _ refl refl)))))
