@@ -1,0 +1,12 @@
+pub mod Turns
+pub mod Tests
+pub mod FieldLaws
+pub mod LineLaws
+pub mod HeaderLaws
+pub mod TypeLaws
+pub mod MapLaws
+pub mod RowLaws
+pub mod Stores
+pub mod Loops
+pub mod SheetLaws
+pub mod WholeLaws

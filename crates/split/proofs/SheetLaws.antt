@@ -1,0 +1,191 @@
+-- The whole sheet: its parts one after the other, and what the work space holds once all of them are read.
+use mathlib.Core.Path.{_≡_, refl, sym, ap, subst, _∙_}
+use mathlib.Core.Logic.{inl, inr}
+use mathlib.Core.List.{List, [], _∷_, map}
+use mathlib.Core.Bool.{Bool, true, false}
+use Prim.Native.Nat.{ℕ, zero, suc, _+_, _*_, _≤_, _<_}
+use native.Mathlib.Omega.{arith}
+use lib.ListN.{length, getD, replicate, length-map}
+use Rattle.spec.specs.Text.{lines}
+use Rattle.spec.specs.Reading.{splitSheet, Out, stop, on, _>>=_, Place, form, next, nextAll, begin, end}
+use Rattle.spec.specs.Expression.{Step}
+use Rattle.spec.specs.Split.{Map, Header, Row, Split, headerLine, typeLines, mapLine, rowLine, split}
+use Rattle.spec.specs.declared.Refusal.{Refusal}
+use Rattle.spec.specs.declared.Refusal.the-variants.{SplitForm}
+use Rattle.spec.specs.declared.TypeLine.{TypeLine}
+use Rattle.spec.specs.declared.Word.{Word}
+use Rattle.lexer.specs.Views.{nothing}
+use Rattle.lexer.specs.Cursors.{Placed, start, rest}
+use Rattle.lexer.specs.declared.Cursor.{Cursor}
+use Rattle.lexer.proofs.Lines.{begin-empty, begin-some}
+use Rattle.lexer.proofs.Walks.{start-rest, left-none, left-some}
+use Rattle.workspace.specs.Layout.{wordsAt, valuesAt, codeOf, wordOf}
+use Rattle.workspace.specs.Region.{Region, ChangedWithin}
+use Rattle.workspace.specs.Holds.{HoldsSteps, HoldsSplit}
+use Rattle.workspace.proofs.Codes.{word-of-code}
+use Rattle.workspace.proofs.Region.{column, region-kept, changed-then, changed-wider}
+use Rattle.split.specs.declared.Header.{Header as HeaderRead}
+use Rattle.split.specs.declared.LinesRead.{LinesRead}
+use Rattle.split.specs.declared.LinesRead.the-variants as lines-read
+use Rattle.split.specs.Lines.{placeAt, headerTold}
+use Rattle.split.specs.Answers.{Small}
+use Rattle.split.specs.Stored.{Columns, HoldsTypes, HoldsRows, HoldsMaps, LinesAnswer, LinesStored, stepAt, stepsFrom}
+use Rattle.split.specs.Sheet.{body, EndAnswer, BodyAnswer, BodyRead}
+
+-- ------------------------------------------------------------------ the steps in the work space
+
+step-kept : (w w′ : List ℕ) (k : ℕ) → k < 256 → ChangedWithin 1024 16384 w w′ → stepAt w′ k ≡ stepAt w k
+unfolding stepAt
+step-kept w w′ k h x =
+    let a : getD w′ (wordsAt + k) 0 ≡ getD w (wordsAt + k) 0 = x .kept (wordsAt + k) (inl (omega arith)) in
+    let b : getD w′ (valuesAt + k) 0 ≡ getD w (valuesAt + k) 0 = x .kept (valuesAt + k) (inl (omega arith)) in
+    rw (a, b)
+
+steps-kept : (w w′ : List ℕ) (k n : ℕ) → k + n ≤ 256 → ChangedWithin 1024 16384 w w′ → stepsFrom w′ k n ≡ stepsFrom w k n
+unfolding stepsFrom
+steps-kept w w′ k zero h x = refl
+steps-kept w w′ k (suc n) h x = rw (step-kept w w′ k (omega arith) x, steps-kept w w′ (k + 1) n (omega arith) x)
+
+held : (w : List ℕ) (k : ℕ) (s : Step) → wordOf (getD w (wordsAt + k) 0) ≡ s .word → getD w (valuesAt + k) 0 ≡ s .value → stepAt w k ≡ s
+unfolding stepAt
+held w k s a b = rw (a, b)
+
+-- the steps that the work space holds are those that it is read for
+steps-from : (w : List ℕ) (k : ℕ) (z : Step) (steps : List Step)
+    → ((i : ℕ) → i < length steps → (getD w (wordsAt + (k + i)) 0 ≡ codeOf (getD steps i z .word)) × (getD w (valuesAt + (k + i)) 0 ≡ getD steps i z .value))
+    → stepsFrom w k (length steps) ≡ steps
+unfolding stepsFrom
+steps-from w k z [] h = refl
+steps-from w k z (s ∷ steps) h =
+    let first : stepAt w k ≡ s = here (h 0 (omega arith)) in
+    let others : stepsFrom w (k + 1) (length steps) ≡ steps = steps-from w (k + 1) z steps (λ i l. there i (h (suc i) (omega arith))) in
+    rw (first, others)
+  where
+    here : (getD w (wordsAt + (k + 0)) 0 ≡ codeOf (s .word)) × (getD w (valuesAt + (k + 0)) 0 ≡ s .value) → stepAt w k ≡ s
+    here (a, b) =
+        let e : k + 0 ≡ k = omega arith in
+        held w k s (ap wordOf (ap (λ (j : ℕ). getD w (wordsAt + j) 0) (sym e) ∙ a) ∙ word-of-code (s .word)) (ap (λ (j : ℕ). getD w (valuesAt + j) 0) (sym e) ∙ b)
+
+    there : (i : ℕ)
+        → (getD w (wordsAt + (k + suc i)) 0 ≡ codeOf (getD steps i z .word)) × (getD w (valuesAt + (k + suc i)) 0 ≡ getD steps i z .value)
+        → (getD w (wordsAt + (k + 1 + i)) 0 ≡ codeOf (getD steps i z .word)) × (getD w (valuesAt + (k + 1 + i)) 0 ≡ getD steps i z .value)
+    there i (a, b) =
+        let e : k + 1 + i ≡ k + suc i = omega arith in
+        (ap (λ (j : ℕ). getD w (wordsAt + j) 0) e ∙ a, ap (λ (j : ℕ). getD w (valuesAt + j) 0) e ∙ b)
+
+pub steps-held : (w : List ℕ) (steps : List Step) (n : ℕ) → HoldsSteps w steps → length steps ≡ n → stepsFrom w 0 n ≡ steps
+steps-held w [] n h e = ap (stepsFrom w 0) (sym e) ∙ steps-from w 0 (stepAt w 0) [] (λ i l. absurd (omega arith))
+steps-held w (s ∷ steps) n h e =
+    ap (stepsFrom w 0) (sym e)
+    ∙ steps-from w 0 s (s ∷ steps) (λ i l.
+    let z : 0 + i ≡ i = omega arith in (
+      ap (λ (j : ℕ). getD w (wordsAt + j) 0) z ∙ column w wordsAt (λ (x : Step). codeOf (x .word)) (s ∷ steps) s i (h .words) l,
+      ap (λ (j : ℕ). getD w (valuesAt + j) 0) z ∙ column w valuesAt (λ (x : Step). x .value) (s ∷ steps) s i (h .values) l,
+    ))
+
+-- ------------------------------------------------------------------ the lines behind the header
+
+module _ (h : HeaderRead) (small : Small h) (n : ℕ) (few : n ≤ 256) (text : List ℕ) (c : Cursor) (w w₁ : List ℕ) (types : LinesRead)
+    (read-types : LinesStored 2048 2240 (h .types) HoldsTypes text (nextAll splitSheet (typeLines (headerTold h) 0 (h .types)) (placeAt text c)) w w₁ types)
+  where
+    abbrev H : Header
+    H = headerTold h
+
+    abbrev whole : Out Split
+    whole = body H (stepsFrom w 0 n) (placeAt text c)
+
+    abbrev types-out : Out (List TypeLine × Place)
+    types-out = nextAll splitSheet (typeLines H 0 (h .types)) (placeAt text c)
+
+    changed-one : ChangedWithin 1024 16384 w w₁
+    changed-one = changed-wider 1024 16384 (omega arith) (omega arith) (read-types .changed)
+
+    pub types-stop : (r : Refusal) → types ≡ lines-read.Refused r → BodyRead H n (placeAt text c) w w₁ types
+    unfolding body headerTold _>>=_
+    types-stop r e = record {
+      answered = subst (BodyAnswer H whole w₁) (sym e) (rw (subst (LinesAnswer (h .types) (HoldsTypes w₁) text types-out) e (read-types .answered)));
+      changed = changed-one;
+    }
+
+    module _ (c₂ : Cursor) (types-told : types ≡ lines-read.Read c₂) where
+      types-got : LinesAnswer (h .types) (HoldsTypes w₁) text types-out (lines-read.Read c₂)
+      types-got = subst (LinesAnswer (h .types) (HoldsTypes w₁) text types-out) types-told (read-types .answered)
+
+      pub types-placed : Placed text c₂
+      types-placed = types-got .4
+
+      abbrev maps-out : Out (List Map × Place)
+      maps-out = nextAll splitSheet (replicate (h .maps) (mapLine H)) (placeAt text c₂)
+
+      module _ (w₂ : List ℕ) (maps : LinesRead) (read-maps : LinesStored 4096 16384 (h .maps) (HoldsMaps (h .locations)) text maps-out w₁ w₂ maps) where
+        changed-two : ChangedWithin 1024 16384 w w₂
+        changed-two = changed-then 1024 16384 changed-one (changed-wider 1024 16384 (omega arith) (omega arith) (read-maps .changed))
+
+        pub maps-stop : (r : Refusal) → maps ≡ lines-read.Refused r → BodyRead H n (placeAt text c) w w₂ maps
+        unfolding body headerTold _>>=_
+        maps-stop r e = record {
+          answered = subst (BodyAnswer H whole w₂) (sym e)
+              (rw (types-got .1, subst (LinesAnswer (h .maps) (HoldsMaps (h .locations) w₂) text maps-out) e (read-maps .answered)));
+          changed = changed-two;
+        }
+
+        module _ (c₃ : Cursor) (maps-told : maps ≡ lines-read.Read c₃) where
+          maps-got : LinesAnswer (h .maps) (HoldsMaps (h .locations) w₂) text maps-out (lines-read.Read c₃)
+          maps-got = subst (LinesAnswer (h .maps) (HoldsMaps (h .locations) w₂) text maps-out) maps-told (read-maps .answered)
+
+          pub maps-placed : Placed text c₃
+          maps-placed = maps-got .4
+
+          abbrev rows-out : Out (List Row × Place)
+          rows-out = nextAll splitSheet (map (rowLine H) (stepsFrom w₂ 0 n)) (placeAt text c₃)
+
+          module _ (w₃ : List ℕ) (rows : LinesRead) (read-rows : LinesStored 1024 1792 n HoldsRows text rows-out w₂ w₃ rows) where
+            changed-three : ChangedWithin 1024 16384 w w₃
+            changed-three = changed-then 1024 16384 changed-two (changed-wider 1024 16384 (omega arith) (omega arith) (read-rows .changed))
+
+            same-rows : nextAll splitSheet (map (rowLine H) (stepsFrom w 0 n)) (placeAt text c₃) ≡ rows-out
+            same-rows = ap (λ (l : List Step). nextAll splitSheet (map (rowLine H) l) (placeAt text c₃)) (sym (steps-kept w w₂ 0 n (omega arith) changed-two))
+
+            pub rows-stop : (r : Refusal) → rows ≡ lines-read.Refused r → BodyRead H n (placeAt text c) w w₃ rows
+            unfolding body headerTold _>>=_
+            rows-stop r e = record {
+              answered = subst (BodyAnswer H whole w₃) (sym e)
+                  (rw (types-got .1, maps-got .1, same-rows ∙ subst (LinesAnswer n (HoldsRows w₃) text rows-out) e (read-rows .answered)));
+              changed = changed-three;
+            }
+
+            module _ (c₄ : Cursor) (rows-told : rows ≡ lines-read.Read c₄) where
+              rows-got : LinesAnswer n (HoldsRows w₃) text rows-out (lines-read.Read c₄)
+              rows-got = subst (LinesAnswer n (HoldsRows w₃) text rows-out) rows-told (read-rows .answered)
+
+              pub rows-placed : Placed text c₄
+              rows-placed = rows-got .4
+
+              abbrev found : Split
+              found = record { header = H; types = types-got .0; maps = maps-got .0; rows = rows-got .0 }
+
+              -- types and maps stand where rows, and types where maps, do not
+              types-kept : (at : ℕ) (f : TypeLine → ℕ) → 1792 ≤ at → at + 64 ≤ 4096 → Region w₁ at (map f (types-got .0)) → Region w₃ at (map f (types-got .0))
+              types-kept at f low high r =
+                  let l = length-map (types-got .0) f in
+                  region-kept (read-rows .changed) (inr low)
+                  (region-kept (read-maps .changed) (inl (omega (arith, l, types-got .2, small .types))) r)
+
+              holds : HoldsSplit w₃ found
+              holds = record {
+                kinds = types-kept 2048 _ (omega arith) (omega arith) (types-got .3 .first);
+                firsts = types-kept 2112 _ (omega arith) (omega arith) (types-got .3 .second);
+                seconds = types-kept 2176 _ (omega arith) (omega arith) (types-got .3 .third);
+                maps = λ m l. region-kept (read-rows .changed) (inr (omega arith)) (maps-got .3 .maps m l);
+                rowTypes = rows-got .3 .first;
+                posts = rows-got .3 .second;
+                starts = rows-got .3 .third;
+              }
+
+              ended : (answer : LinesRead) → EndAnswer (end splitSheet (placeAt text c₄)) answer → BodyAnswer H whole w₃ answer
+              unfolding body headerTold _>>=_
+              ended (lines-read.Refused r) e = rw (types-got .1, maps-got .1, same-rows ∙ rows-got .1, e)
+              ended (lines-read.Read d) e = (found, rw (types-got .1, maps-got .1, same-rows ∙ rows-got .1, e), refl, holds)
+
+              pub body-read : (answer : LinesRead) → EndAnswer (end splitSheet (placeAt text c₄)) answer → BodyRead H n (placeAt text c) w w₃ answer
+              body-read answer e = record { answered = ended answer e; changed = changed-three }

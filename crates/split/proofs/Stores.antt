@@ -1,0 +1,132 @@
+-- Stores of the readers: a row of three columns, a map; and which part of the work space they change.
+use mathlib.Core.Path.{_≡_, refl, sym, ap, _∙_}
+use mathlib.Core.Logic.{_⊎_, inl, inr, ⊎-elim}
+use mathlib.Core.List.{List, [], _∷_, _++_, map, map-append}
+use Prim.Native.Nat.{ℕ, _+_, _-_, _*_, _<_, _≤_}
+use native.Mathlib.Omega.{arith}
+use native.Mathlib.Nat.{eq-or-lt-of-le}
+use lib.ListN.{length, getD, take, drop, set, length-set, length-map, length-append, length-drop, List·getD-append}
+use lib.Seq.{getD-take, getD-drop, length-take-le, getD-append-add, getD-append-seam}
+use Rattle.spec.specs.Split.{Map}
+use Rattle.workspace.specs.Layout.{mapsAt, stride}
+use Rattle.workspace.specs.Region.{Region, ChangedWithin}
+use Rattle.workspace.proofs.Region.{region-empty, region-apart, region-push, region-kept, changed-store, changed-then}
+use Rattle.split.specs.Stored.{Columns, HoldsMaps}
+
+-- ------------------------------------------------------------------ columns
+
+module _ {A : Type 0} (f g h : A → ℕ) (b rows : ℕ) where
+  pub columns-empty : (w : List ℕ) → b + rows + rows ≤ length w → Columns f g h b rows w []
+  columns-empty w l = record {
+    first = region-empty w b (omega arith);
+    second = region-empty w (b + rows) (omega arith);
+    third = region-empty w (b + rows + rows) l;
+  }
+
+  -- one row more
+  module _ (w : List ℕ) (entries : List A) (a : A) (n : ℕ) (count : length entries ≡ n) (few : n < rows) (room : b + rows + rows + rows ≤ length w) where
+    abbrev stored : List ℕ
+    stored = set (set (set w (b + n) (f a)) (b + rows + n) (g a)) (b + rows + rows + n) (h a)
+
+    pushed : (k : A → ℕ) (at : ℕ) (v : List ℕ) → at + rows ≤ length v → Region v at (map k entries) → Region (set v (at + n) (k a)) at (map k (entries ++ (a ∷ [])))
+    pushed k at v l r =
+        let m : length (map k entries) ≡ n = length-map entries k ∙ count in
+        rw (map-append k entries (a ∷ []), ← m) (region-push v at (map k entries) (k a) (omega arith) r)
+
+    apart : (k : A → ℕ) (at : ℕ) (v : List ℕ) (i x : ℕ) → (i < at) ⊎ (at + rows ≤ i) → (l : List A) → length l ≤ rows → Region v at (map k l) → Region (set v i x) at (map k l)
+    apart k at v i x o l c r =
+        region-apart v at (map k l) i x (⊎-elim (λ p. inl p) (λ p. inr (omega (arith, length-map l k))) o) r
+
+    more : length (entries ++ (a ∷ [])) ≤ rows
+    more = omega (arith, length-append entries (a ∷ []))
+
+    pub columns-push : Columns f g h b rows w entries → Columns f g h b rows stored (entries ++ (a ∷ []))
+    columns-push c =
+        let w₁ = set w (b + n) (f a) in
+        let w₂ = set w₁ (b + rows + n) (g a) in
+        let l₁ = length-set w (b + n) (f a) in
+        let l₂ = length-set w₁ (b + rows + n) (g a) in
+        let all = entries ++ (a ∷ []) in
+        record {
+          first =
+              apart f b w₂ (b + rows + rows + n) (h a) (inr (omega arith)) all more
+              (apart f b w₁ (b + rows + n) (g a) (inr (omega arith)) all more (pushed f b w (omega arith) (c .first)));
+          second =
+              apart g (b + rows) w₂ (b + rows + rows + n) (h a) (inr (omega arith)) all more
+              (pushed g (b + rows) w₁ (omega arith) (apart g (b + rows) w (b + n) (f a) (inl (omega arith)) entries (omega arith) (c .second)));
+          third =
+              pushed h (b + rows + rows) w₂ (omega arith)
+              (apart h (b + rows + rows) w₁ (b + rows + n) (g a) (inl (omega arith)) entries (omega arith)
+              (apart h (b + rows + rows) w (b + n) (f a) (inl (omega arith)) entries (omega arith) (c .third)));
+        }
+
+    pub columns-changed : ChangedWithin b (b + rows + rows + rows) w stored
+    columns-changed =
+        let e = b + rows + rows + rows in
+        changed-then b e (changed-store b e w (b + n) (f a) (omega arith) (omega arith))
+        (changed-then b e (changed-store b e (set w (b + n) (f a)) (b + rows + n) (g a) (omega arith) (omega arith))
+        (changed-store b e (set (set w (b + n) (f a)) (b + rows + n) (g a)) (b + rows + rows + n) (h a) (omega arith) (omega arith)))
+
+-- ------------------------------------------------------------------ maps
+
+-- a part of the work space with other numbers in it
+module _ (w : List ℕ) (at : ℕ) (xs : List ℕ) (n : ℕ) (count : length xs ≡ n) (room : at + n ≤ length w) where
+  abbrev filled : List ℕ
+  filled = take at w ++ (xs ++ drop n (drop at w))
+
+  front : length (take at w) ≡ at
+  front = length-take-le at w (omega arith)
+
+  filled-long : length filled ≡ length w
+  filled-long =
+      omega (arith, length-append (take at w) (xs ++ drop n (drop at w)), length-append xs (drop n (drop at w)), length-drop n (drop at w), length-drop at w, front)
+
+  filled-before : (i : ℕ) → i < at → getD filled i 0 ≡ getD w i 0
+  filled-before i h = List·getD-append (take at w) (xs ++ drop n (drop at w)) 0 i (omega (arith, front)) ∙ getD-take at w i 0 h
+
+  filled-at : (i : ℕ) → i < length xs → getD filled (at + i) 0 ≡ getD xs i 0
+  filled-at i h =
+      ap (λ (k : ℕ). getD (take at w ++ (xs ++ drop n (drop at w))) (k + i) 0) (sym front)
+      ∙ getD-append-add (take at w) (xs ++ drop n (drop at w)) i 0
+      ∙ List·getD-append xs (drop n (drop at w)) 0 i h
+
+  filled-behind : (i : ℕ) → at + n ≤ i → getD filled i 0 ≡ getD w i 0
+  filled-behind i h =
+      let k = i - (at + n) in
+      let e : i ≡ length (take at w) + (length xs + k) = omega (arith, front) in
+      ap (λ (j : ℕ). getD (take at w ++ (xs ++ drop n (drop at w))) j 0) e
+      ∙ getD-append-add (take at w) (xs ++ drop n (drop at w)) (length xs + k) 0
+      ∙ getD-append-add xs (drop n (drop at w)) k 0
+      ∙ getD-drop n (drop at w) k 0
+      ∙ getD-drop at w (n + k) 0
+      ∙ ap (λ (j : ℕ). getD w j 0) (omega arith)
+
+  pub filled-changed : (a b : ℕ) → a ≤ at → at + n ≤ b → ChangedWithin a b w filled
+  filled-changed a b l m = record {
+    long = filled-long;
+    kept = λ i o. ⊎-elim (λ p. filled-before i (omega arith)) (λ p. filled-behind i (omega arith)) o;
+  }
+
+  pub filled-region : Region filled at xs
+  filled-region = record { fits = omega (arith, filled-long); at = filled-at }
+
+pub maps-empty : (locations : ℕ) (w : List ℕ) → HoldsMaps locations w []
+maps-empty locations w = record { wide = λ m h. absurd (omega arith); maps = λ m h. absurd (omega arith) }
+
+-- one map more
+module _ (locations : ℕ) (narrow : locations ≤ 16) (w w′ : List ℕ) (ms : List Map) (m : Map) (wide : length m ≡ locations) (n : ℕ) (count : length ms ≡ n) where
+  pub maps-push : HoldsMaps locations w ms → ChangedWithin (4096 + 16 * n) (4096 + 16 * n + locations) w w′
+      → Region w′ (4096 + 16 * n) m → HoldsMaps locations w′ (ms ++ (m ∷ []))
+  maps-push h x r = record {
+    wide = λ i l. at (λ (n : Map) (j : ℕ). length n ≡ locations) (h .wide) wide i l;
+    maps = λ i l. at (λ (n : Map) (j : ℕ). Region w′ (mapsAt + stride * j) n)
+        (λ j k. region-kept x (inl (omega (arith, h .wide j k, count))) (h .maps j k)) (rw count r) i l;
+  }
+    where
+      at : (P : Map → ℕ → Type 0) → ((j : ℕ) → j < length ms → P (getD ms j []) j) → P m (length ms)
+          → (i : ℕ) → i < length (ms ++ (m ∷ [])) → P (getD (ms ++ (m ∷ [])) i []) i
+      at P old new i l =
+          ⊎-elim
+          (λ (e : i ≡ length ms). rw (e, getD-append-seam ms m [] []) new)
+          (λ (k : i < length ms). rw (List·getD-append ms (m ∷ []) [] i k) (old i k))
+          (eq-or-lt-of-le (omega (arith, length-append ms (m ∷ []))))

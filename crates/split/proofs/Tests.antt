@@ -1,0 +1,98 @@
+-- The code's tests of numbers, as ranges.
+use mathlib.Core.Path.{_≡_, refl, sym, ap, _∙_}
+use mathlib.Core.List.{List, [], _∷_}
+use mathlib.Core.Bool.{Bool, true, false, _&&_, not}
+use Prim.Native.Nat.{ℕ, _≤_, _<_}
+use native.Mathlib.Omega.{arith}
+use lib.Dec.{leb, ltb}
+use borrow.Author.Tests.{le-leb, lt-leb, lt-ltb, le-ltb}
+use Rattle.spec.specs.Choice.{if_then_else_}
+use Rattle.spec.specs.Reading.{Seen, right, badForm, badRange, Range, _to_, below, inRange, allInRange}
+use Rattle.spec.specs.Split.{Header, refOf, lockOf, tidOf}
+use Rattle.spec.specs.declared.TypeLine.{TypeLine}
+use Rattle.spec.specs.declared.TypeLine.the-variants as type-line
+use Rattle.lexer.specs.declared.Cursor.{Cursor}
+use Rattle.lexer.specs.declared.TypeWord.{TypeWord}
+use Rattle.lexer.specs.declared.TypeWord.the-variants as kind
+use Rattle.split.specs.declared.TypeSeen.{TypeSeen}
+use Rattle.split.specs.declared.TypeSeen.the-variants as type-seen
+use Rattle.split.specs.Lines.{rangedType, typeSeen, typeSeenOf}
+
+pub untrue : (b : Bool) → not b ≡ true → b ≡ false
+untrue true e = sym e
+untrue false e = refl
+
+pub unfalse : (b : Bool) → not b ≡ false → b ≡ true
+unfalse true e = refl
+unfalse false e = sym e
+
+-- ------------------------------------------------------------------ one number after the other
+
+module _ (r : Range) (rs : List Range) (n : ℕ) (ns : List ℕ) where
+  pub range-out : inRange r n ≡ false → false ≡ allInRange (r ∷ rs) (n ∷ ns)
+  unfolding allInRange
+  range-out e = rw e
+
+  pub range-next : inRange r n ≡ true → {x : Bool} → x ≡ allInRange rs ns → x ≡ allInRange (r ∷ rs) (n ∷ ns)
+  unfolding allInRange
+  range-next e h = rw e h
+
+and-last : (b : Bool) → b ≡ (b && true)
+and-last true = refl
+and-last false = refl
+
+pub range-last : (r : Range) (n : ℕ) {x : Bool} → x ≡ inRange r n → x ≡ allInRange (r ∷ []) (n ∷ [])
+unfolding allInRange
+range-last r n e = e ∙ and-last (inRange r n)
+
+module _ (k n : ℕ) where
+  pub in-below : n < k → inRange (below k) n ≡ true
+  unfolding inRange
+  in-below h = lt-ltb _ _ h
+
+  pub out-below : k ≤ n → inRange (below k) n ≡ false
+  unfolding inRange
+  out-below h = le-ltb _ _ h
+
+  pub below-test : {m : ℕ} → m ≡ n → ltb m k ≡ inRange (below k) n
+  unfolding inRange
+  below-test e = rw e
+
+-- "any other number where a line form above shows 0" is out of range: 0 is the one number below 1
+pub zero-below : (n : ℕ) → inRange (0 to 0) n ≡ inRange (below 1) n
+unfolding inRange
+zero-below Prim.Native.Nat.zero = refl
+zero-below (Prim.Native.Nat.suc n) = simp (le-leb 0 (Prim.Native.Nat.suc n) (omega arith), lt-leb (Prim.Native.Nat.suc n) 0 (omega arith), le-ltb (Prim.Native.Nat.suc n) 1 (omega arith))
+
+-- ------------------------------------------------------------------ types
+
+-- the two numbers of a type line of each kind, as numbers of so many things
+module _ (H : Header) (own a b : ℕ) where
+  pub int-seen : (k : TypeWord) → k ≡ kind.Int → typeSeen k H own (a ∷ b ∷ []) ≡ rangedType (below 1 ∷ below 1 ∷ []) (λ ns. type-line.Int) (a ∷ b ∷ [])
+  unfolding typeSeen rangedType allInRange
+  int-seen k e = rw (e, zero-below a, zero-below b)
+
+  pub ref-seen : (k : TypeWord) → k ≡ kind.Ref → typeSeen k H own (a ∷ b ∷ []) ≡ rangedType (below (H .locations) ∷ below own ∷ []) refOf (a ∷ b ∷ [])
+  unfolding typeSeen
+  ref-seen k e = rw e
+
+  pub lock-seen : (k : TypeWord) → k ≡ kind.Lock → typeSeen k H own (a ∷ b ∷ []) ≡ rangedType (below (H .maps) ∷ below 1 ∷ []) lockOf (a ∷ b ∷ [])
+  unfolding typeSeen rangedType allInRange
+  lock-seen k e = rw (e, zero-below b)
+
+  pub tid-seen : (k : TypeWord) → k ≡ kind.Tid → typeSeen k H own (a ∷ b ∷ []) ≡ rangedType (below (H .maps) ∷ below 1 ∷ []) tidOf (a ∷ b ∷ [])
+  unfolding typeSeen rangedType allInRange
+  tid-seen k e = rw (e, zero-below b)
+
+  pub unknown-seen : (k : TypeWord) → k ≡ kind.Unknown → type-seen.BadForm ≡ typeSeenOf (typeSeen k H own (a ∷ b ∷ []))
+  unfolding typeSeen typeSeenOf
+  unknown-seen k e = sym (rw e)
+
+module _ (rs : List Range) (f : List ℕ → TypeLine) (ns : List ℕ) {s : Seen TypeLine} (e : s ≡ rangedType rs f ns) where
+  pub seen-in : allInRange rs ns ≡ true → type-seen.Right (f ns) ≡ typeSeenOf s
+  unfolding rangedType typeSeenOf
+  seen-in h = sym (rw (e, h))
+
+  pub seen-out : allInRange rs ns ≡ false → type-seen.BadRange ≡ typeSeenOf s
+  unfolding rangedType typeSeenOf
+  seen-out h = sym (rw (e, h))

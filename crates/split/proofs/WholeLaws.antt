@@ -1,0 +1,94 @@
+-- A split sheet from its first line on: an empty text, a header that is refused, and the lines behind a header.
+use mathlib.Core.Path.{_≡_, refl, sym, ap, subst, _∙_}
+use mathlib.Core.List.{List, []}
+use mathlib.Core.Bool.{Bool, true, false}
+use Prim.Native.Nat.{ℕ, _≤_, _<_}
+use lib.ListN.{length}
+use Rattle.spec.specs.Text.{lines}
+use Rattle.spec.specs.Reading.{splitSheet, Out, stop, on, _>>=_, Place, form, next, begin}
+use Rattle.spec.specs.Expression.{Step}
+use Rattle.spec.specs.Split.{Header, Split, headerLine, split}
+use Rattle.spec.specs.declared.Refusal.{Refusal}
+use Rattle.spec.specs.declared.Refusal.the-variants.{SplitForm}
+use Rattle.lexer.specs.Views.{nothing}
+use Rattle.lexer.specs.Cursors.{Placed, start, rest}
+use Rattle.lexer.specs.declared.Cursor.{Cursor}
+use Rattle.lexer.proofs.Lines.{begin-empty, begin-some}
+use Rattle.lexer.proofs.Walks.{start-rest, start-placed, left-none, left-some}
+use Rattle.workspace.specs.Region.{ChangedWithin}
+use Rattle.workspace.specs.Holds.{HoldsSteps, HoldsSplit}
+use Rattle.workspace.proofs.Region.{changed-nothing}
+use Rattle.split.specs.declared.Header.{Header as HeaderRead}
+use Rattle.split.specs.declared.HeaderLine.{HeaderLine}
+use Rattle.split.specs.declared.HeaderLine.the-variants as header-line
+use Rattle.split.specs.declared.LinesRead.{LinesRead}
+use Rattle.split.specs.declared.LinesRead.the-variants as lines-read
+use Rattle.split.specs.declared.Sheet.the-variants as sheet
+use Rattle.split.specs.Lines.{placeAt, headerTold}
+use Rattle.split.specs.Answers.{Small, HeaderAnswer}
+use Rattle.split.specs.Stored.{stepsFrom}
+use Rattle.split.specs.Sheet.{body, BodyAnswer, BodyRead, SplitRead}
+use Rattle.split.proofs.SheetLaws.{steps-held}
+
+module _ (text : List ℕ) (top : Cursor) (is : top ≡ start) where
+  top-rest : rest text top ≡ text
+  top-rest = ap (rest text) is ∙ start-rest text
+
+  pub top-placed : length text < 4294967296 → Placed text top
+  top-placed h = subst (Placed text) (sym is) (start-placed text h)
+
+  empty-begin : nothing (rest text top) ≡ true → begin splitSheet (lines text) ≡ stop (SplitForm 1)
+  unfolding form
+  empty-begin e = ap (λ (t : List ℕ). begin splitSheet (lines t)) (sym top-rest ∙ left-none (rest text top) e) ∙ begin-empty splitSheet
+
+  pub read-empty : nothing (rest text top) ≡ true → (n : ℕ) (w : List ℕ) → SplitRead text n w w (sheet.Refused (SplitForm 1))
+  unfolding split _>>=_
+  read-empty e n w = record { answered = λ steps held count. rw (empty-begin e); changed = changed-nothing 1024 16384 w }
+
+  module _ (some-left : nothing (rest text top) ≡ false) where
+    top-place : begin splitSheet (lines text) ≡ on (placeAt text top)
+    unfolding placeAt start rest
+    top-place = begin-some splitSheet text (subst (λ (t : List ℕ). 0 < length t) top-rest (left-some (rest text top) some-left)) ∙ rw is
+
+    module _ (answer : HeaderLine) (header : HeaderAnswer text (next splitSheet headerLine (placeAt text top)) answer) where
+      -- the header is refused
+      pub read-header-stop : (r : Refusal) → answer ≡ header-line.Refused r → (n : ℕ) (w : List ℕ) → SplitRead text n w w (sheet.Refused r)
+      unfolding split _>>=_
+      read-header-stop r e n w =
+          let h = subst (HeaderAnswer text (next splitSheet headerLine (placeAt text top))) e header in
+          record { answered = λ steps held count. rw (top-place, h); changed = changed-nothing 1024 16384 w }
+
+      module _ (h : HeaderRead) (c : Cursor) (told : answer ≡ header-line.Read h c) where
+        header-got : HeaderAnswer text (next splitSheet headerLine (placeAt text top)) (header-line.Read h c)
+        header-got = subst (HeaderAnswer text (next splitSheet headerLine (placeAt text top))) told header
+
+        pub header-placed : Placed text c
+        header-placed = header-got .1
+
+        pub header-small : Small h
+        header-small = header-got .2
+
+        behind-header : (steps : List Step) → split steps text ≡ body (headerTold h) steps (placeAt text c)
+        unfolding split body _>>=_
+        behind-header steps = rw (top-place, header-got .0)
+
+        module _ (n : ℕ) (w w′ : List ℕ) (lines′ : LinesRead) (read : BodyRead (headerTold h) n (placeAt text c) w w′ lines′) where
+          abbrev out : Out Split
+          out = body (headerTold h) (stepsFrom w 0 n) (placeAt text c)
+
+          of-steps : (steps : List Step) → HoldsSteps w steps → length steps ≡ n → split steps text ≡ out
+          of-steps steps held count = behind-header steps ∙ ap (λ (l : List Step). body (headerTold h) l (placeAt text c)) (sym (steps-held w steps n held count))
+
+          pub read-body-stop : (r : Refusal) → lines′ ≡ lines-read.Refused r → SplitRead text n w w′ (sheet.Refused r)
+          read-body-stop r e = record {
+            answered = λ steps held count. of-steps steps held count ∙ subst (BodyAnswer (headerTold h) out w′) e (read .answered);
+            changed = read .changed;
+          }
+
+          pub read-whole : (d : Cursor) → lines′ ≡ lines-read.Read d → SplitRead text n w w′ (sheet.Read h)
+          read-whole d e =
+              let (S, is-on, head, holds) = subst (BodyAnswer (headerTold h) out w′) e (read .answered) in
+              record {
+                answered = λ steps held count. (S, of-steps steps held count ∙ is-on, head, holds, header-small);
+                changed = read .changed;
+              }

@@ -1,0 +1,82 @@
+use mathlib.Core.Path.{sym, refl, _∙_}
+use mathlib.Core.Logic.{inl, inr}
+use Rattle.lexer.proofs.Places.{span-le}
+use Rattle.lexer.proofs.Digits.{numeral-small}
+use Rattle.lexer.proofs.Numerals.{numeral-value}
+use Rattle.split.proofs.FieldLaws.{ends-apart, newline-text, small, not-newline, start-empty, start-given, start-neither}
+use borrow.Author.Needs.{needs}
+use Rattle.split.proofs.start_field.Statement.{statement}
+use Rattle.split.proofs.start_field.Tie as tie
+use Rattle.split.proofs.start_field.Reads as reads
+use Rattle.split.proofs.start_field.Lts as lts
+use Rattle.lexer.proofs.Cursor.field.Reads as field-reads
+use Rattle.lexer.proofs.numeral_of.Reads as numeral-of-reads
+
+field-requires : tie.Need-field-requires
+field-requires c κs = search needs
+
+enum-told : tie.Need-enum-told
+enum-told c = search needs
+
+enum-told-2 : tie.Need-enum-told-2
+enum-told-2 c = search needs
+
+returns : tie.Need-returns
+returns c = start-empty _ _ (c .before .before .before .before .field .result) (c .before .before .before .before .field .ensures) (c .before .enum-told2 .given .1) (c .if1 .taken)
+
+sub-numeral-of : tie.Need-sub-numeral-of
+sub-numeral-of c = span-le _ _ (c .before .before .before .before .field .result) (c .before .before .before .before .field .ensures) (c .before .before .before .before .before .before .pre .placed) .0
+
+part-numeral-of-start : tie.Need-part-numeral-of-start
+part-numeral-of-start c = span-le _ _ (c .before .before .before .before .field .result) (c .before .before .before .before .field .ensures) (c .before .before .before .before .before .before .pre .placed) .0
+
+part-numeral-of-end : tie.Need-part-numeral-of-end
+part-numeral-of-end c = span-le _ _ (c .before .before .before .before .field .result) (c .before .before .before .before .field .ensures) (c .before .before .before .before .before .before .pre .placed) .1
+
+numeral-of-requires : tie.Need-numeral-of-requires
+numeral-of-requires c κs = search needs
+
+enum-known-found : tie.Need-enum-known-found
+enum-known-found c = search needs
+
+cast-t17 : tie.Need-cast-t17
+cast-t17 c = record { fits = small (numeral-small _ _ (numeral-value _ _ (sym (c .before .before .before .numeral-of .ensures) ∙ c .before .found .given .1))) }
+
+enum-told-3 : tie.Need-enum-told-3
+enum-told-3 c = search needs
+
+enum-told-4 : tie.Need-enum-told-4
+enum-told-4 c = search needs
+
+returns-2 : tie.Need-returns-2
+returns-2 c = inr (not-newline _ _ (c .before .before .before .field .result) (c .before .before .before .field .ensures) (c .enum-told .given .1) (λ q. ends-apart refl refl (sym q)))
+
+returns-3 : tie.Need-returns-3
+returns-3 c = start-given _ _ (c .before .before .before .before .before .before .before .before .before .field .result) (c .before .before .before .before .before .before .before .before .before .field .ensures) (c .before .before .before .before .before .before .enum-told2 .given .1) _ (sym (c .before .before .before .numeral-of .ensures) ∙ c .before .found .given .1)
+
+returns-4 : tie.Need-returns-4
+returns-4 c = inl (start-neither _ _ (c .before .before .before .before .before .before .before .before .field .result) (c .before .before .before .before .before .before .before .before .field .ensures) (c .before .before .before .before .before .before .before .before .before .before .pre .placed) (c .before .before .before .before .if1 .left) (sym (c .before .before .numeral-of .ensures) ∙ c .enum-told3 .given .1))
+
+returns-5 : tie.Need-returns-5
+returns-5 c = inr (not-newline _ _ (c .before .before .before .field .result) (c .before .before .before .field .ensures) (c .enum-told4 .given .1) (newline-text refl refl))
+
+pub start-field-spec : {M : Type 1} → statement M
+start-field-spec =
+    tie.close
+    (tie.spec
+    field-requires
+    enum-told
+    enum-told-2
+    returns
+    sub-numeral-of
+    part-numeral-of-start
+    part-numeral-of-end
+    numeral-of-requires
+    enum-known-found
+    cast-t17
+    enum-told-3
+    enum-told-4
+    returns-2
+    returns-3
+    returns-4
+    returns-5)

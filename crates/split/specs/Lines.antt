@@ -1,0 +1,95 @@
+-- The lines of a split sheet at a cursor, as their readers see them.
+use mathlib.Core.List.{List, [], _∷_}
+use mathlib.Core.Bool.{Bool, true, false}
+use Prim.Native.Nat.{ℕ, _<_, _≤_}
+use lib.ListN.{replicate, getD}
+use Rattle.spec.specs.Choice.{if_then_else_}
+use Rattle.spec.specs.Text.{lines, Field}
+use Rattle.spec.specs.Reading.{Place, Seen, right, badForm, badRange, Range, _to_, below, allInRange, numbers}
+use Rattle.spec.specs.Split.{Map, Header, refOf, lockOf, tidOf, Row, rowLine}
+use Rattle.spec.specs.declared.Refusal.the-variants.{SplitRange}
+use Rattle.spec.specs.declared.Word.{Word}
+use Rattle.spec.specs.declared.Word.the-variants.{Leaf, Unary, Binary}
+use Rattle.spec.specs.declared.BinaryWord.the-variants.{Let, If, Spawn, Write}
+use Rattle.spec.specs.declared.TypeLine.{TypeLine}
+use Rattle.spec.specs.declared.TypeLine.the-variants as type-line
+use Rattle.lexer.specs.Cursors.{rest}
+use Rattle.lexer.specs.declared.Cursor.{Cursor}
+use Rattle.lexer.specs.declared.TypeWord.{TypeWord}
+use Rattle.lexer.specs.declared.TypeWord.the-variants as kind
+use Rattle.split.specs.declared.Header.{Header as HeaderRead}
+use Rattle.split.specs.declared.Row.{Row as RowNumbers}
+use Rattle.split.specs.declared.RowRead.{RowRead}
+use Rattle.split.specs.declared.RowRead.the-variants as row-read
+use Rattle.split.specs.declared.TypeSeen.{TypeSeen}
+use Rattle.split.specs.declared.TypeSeen.the-variants as type-seen
+
+-- the reading place of a cursor
+unfoldable pub placeAt : List ℕ → Cursor → Place
+placeAt text c = record { last = c .line; rest = lines (rest text c) }
+
+-- ------------------------------------------------------------------ what the code reads, as document 01 has it
+
+unfoldable pub headerTold : HeaderRead → Header
+headerTold h = record { denominator = h .denominator; locations = h .locations; types = h .types; maps = h .maps }
+
+unfoldable pub rowTold : RowNumbers → Row
+rowTold r = record { type = r .typed; post = r .post; start = r .start }
+
+-- ------------------------------------------------------------------ the header
+
+unfoldable pub headerRanges : List Range
+headerRanges = (1 to 1000000) ∷ (1 to 16) ∷ (1 to 64) ∷ (1 to 512) ∷ []
+
+unfoldable pub headerNumbers : (denominator locations types maps : ℕ) → List ℕ
+headerNumbers d l t m = d ∷ l ∷ t ∷ m ∷ []
+
+-- ------------------------------------------------------------------ types
+
+-- a kind with its two numbers in their ranges
+unfoldable pub rangedType : List Range → (List ℕ → TypeLine) → List ℕ → Seen TypeLine
+rangedType rs f ns = if allInRange rs ns then right (f ns) else badRange
+
+unfoldable pub typeSeen : TypeWord → Header → (own : ℕ) → List ℕ → Seen TypeLine
+typeSeen kind.Int H own ns = rangedType ((0 to 0) ∷ (0 to 0) ∷ []) (λ ns. type-line.Int) ns
+typeSeen kind.Ref H own ns = rangedType (below (H .locations) ∷ below own ∷ []) refOf ns
+typeSeen kind.Lock H own ns = rangedType (below (H .maps) ∷ (0 to 0) ∷ []) lockOf ns
+typeSeen kind.Tid H own ns = rangedType (below (H .maps) ∷ (0 to 0) ∷ []) tidOf ns
+typeSeen kind.Unknown H own ns = badForm
+
+unfoldable pub typeSeenOf : Seen TypeLine → TypeSeen
+typeSeenOf (right t) = type-seen.Right t
+typeSeenOf badForm = type-seen.BadForm
+typeSeenOf badRange = type-seen.BadRange
+
+-- ------------------------------------------------------------------ maps
+
+-- the range of each number of a map
+unfoldable pub cells : ℕ → List Range
+cells n = replicate n (0 to 1000000)
+
+-- a line of so many numbers of a map
+unfoldable pub cellLine : ℕ → List Field → Seen Map
+cellLine n fs = numbers (cells n) fs
+
+-- ------------------------------------------------------------------ rows
+
+-- the row of a step with this word
+unfoldable pub wordLine : Header → Word → List Field → Seen Row
+wordLine H w fs = rowLine H (record { word = w; value = 0 }) fs
+
+-- how many of the maps can be the s of a step with this word
+abbrev pub startLimit : Word → (maps : ℕ) → ℕ
+startLimit (Leaf w) n = 0
+startLimit (Unary w) n = 0
+startLimit (Binary Let) n = 0
+startLimit (Binary If) n = 0
+startLimit (Binary Spawn) n = n
+startLimit (Binary Write) n = 0
+
+-- a row with its numbers in their ranges, and the cursor behind its line
+unfoldable pub rowRanged : (line : ℕ) → RowNumbers → (starts : ℕ) → Header → Cursor → RowRead
+rowRanged line row starts H c =
+    if allInRange (below (H .types) ∷ below (H .maps) ∷ below starts ∷ []) (row .typed .0 ∷ row .post .0 ∷ row .start .0 ∷ [])
+    then row-read.Read row c
+    else row-read.Refused (SplitRange line)
