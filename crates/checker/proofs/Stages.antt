@@ -1,5 +1,6 @@
 -- From what the stages found to the verdict.
 use mathlib.Core.Path.{_≡_, refl, sym, ap, _∙_}
+use mathlib.Core.Path.{subst as along}
 use mathlib.Core.List.{List}
 use Prim.Native.Nat.{ℕ, _≤_, _<_}
 use native.Mathlib.Omega.{arith}
@@ -23,6 +24,12 @@ use Rattle.workspace.proofs.Held.{program-kept}
 use Rattle.program.specs.Sheet.{Answered}
 use Rattle.program.specs.declared.ProgramRead.{ProgramRead}
 use Rattle.program.specs.declared.ProgramRead.the-variants as program-read
+use Rattle.split.specs.Lines.{headerTold}
+use Rattle.split.specs.Answers.{Small}
+use Rattle.split.specs.Sheet.{SheetAnswer}
+use Rattle.split.specs.declared.Header.{Header}
+use Rattle.split.specs.declared.Sheet.{Sheet}
+use Rattle.split.specs.declared.Sheet.the-variants as sheet
 use Rattle.rules.specs.Outcome.{outcome}
 use Rattle.rules.specs.Contract.{HoldsSheets}
 use Rattle.rules.specs.declared.Ruling.{Ruling}
@@ -72,6 +79,24 @@ module _ (p s : List ℕ) (P : Program) (F : WellFormedProgram p P) where
           locationsGiven = isL;
         })
         ∙ sym (rules-decide 16384 p s (omega arith) (F .fits) P reads fits S e)
+
+-- what an answer of the split's reader says
+pub split-refused-by : {x : Refusal} (w : List ℕ) (h : Sheet) (o : Out Split) → SheetAnswer o w h → h ≡ sheet.Refused x → o ≡ stop x
+split-refused-by {x = x} w (sheet.Refused y) o a e = let same : y ≡ x = cc in a ∙ ap stop same
+split-refused-by w (sheet.Read h) o a e = let clash : _≡_ {A = ℕ} 0 1 = cc in absurd (omega arith)
+
+pub split-read-by : {k : Header} (w : List ℕ) (h : Sheet) (o : Out Split) → SheetAnswer o w h → h ≡ sheet.Read k
+    → (S : Split) × (o ≡ on S) × (S .header ≡ headerTold k) × HoldsSplit w S × Small k
+split-read-by w (sheet.Refused y) o a e = let clash : _≡_ {A = ℕ} 0 1 = cc in absurd (omega arith)
+split-read-by {k = k} w (sheet.Read h) o a e = let same : h ≡ k = cc in along (λ z. SheetAnswer o w (sheet.Read z)) same a
+
+pub denominator-told : (S : Split) (h : Header) → S .header ≡ headerTold h → h .denominator ≡ S .header .denominator
+unfolding headerTold
+denominator-told S h e = sym (ap (λ H. H .denominator) e)
+
+pub locations-told : (S : Split) (h : Header) → S .header ≡ headerTold h → h .locations ≡ S .header .locations
+unfolding headerTold
+locations-told S h e = sym (ap (λ H. H .locations) e)
 
 -- ------------------------------------------------------------------ the program
 

@@ -18,6 +18,10 @@ abbrev pub RulesAnswered : (w : List ℕ) (steps denominator locations : ℕ) �
 RulesAnswered w steps denominator locations a =
     (P : Program) (S : Split) → HoldsSheets w steps denominator locations P S → a ≡ answer (startAtMostOne S >>= λ whole. ruled P S)
 
+-- a program of so many steps stands in the work space
+abbrev pub HoldsSome : (w : List ℕ) (steps : ℕ) → Type 0
+HoldsSome w steps = (P : Program) × HoldsProgram w P × (steps ≡ length (P .steps))
+
 -- the split and the rules: for whichever program the work space holds
 abbrev pub SplitAnswered : (w : List ℕ) (steps : ℕ) (splitText : List ℕ) → Answer → Type 0
 SplitAnswered w steps splitText a =

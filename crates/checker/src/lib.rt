@@ -5,6 +5,7 @@ use program::ProgramRead;
 use rules::Ruling;
 use spec::Answer;
 use spec::Refusal;
+use split::Sheet;
 pub use numbers::numbers_of;
 ghost use mathlib.Core.Path.{_≡_};
 ghost use mathlib.Core.List.{List};
@@ -16,7 +17,7 @@ ghost use Rattle.spec.specs.Workspace.{workspaceSize, workspaceAfter};
 ghost use Rattle.spec.specs.Accepted.{Right};
 ghost use Rattle.soundness.specs.SafeText.{SafeText};
 ghost use Rattle.checker.specs.Promise.{RefutedBy};
-ghost use Rattle.checker.specs.Stages.{RulesAnswered, SplitAnswered};
+ghost use Rattle.checker.specs.Stages.{RulesAnswered, HoldsSome, SplitAnswered};
 
 // The most bytes that each sheet may have.
 const PROGRAM_LIMIT: usize = 16384;
@@ -36,10 +37,16 @@ fn check_rules(work: &mut [u32], steps: usize, denominator: u32, locations: usiz
 
 // 20 to 33, for the program that the work space holds.
 fn check_split(split: &[u8], steps: usize, work: &mut [u32]) -> Answer
-    requires { ⌜ (length (now work) ≡ 16384) × (steps ≤ 256) ⌝ }
+    requires { ⌜ (length (now work) ≡ 16384) × (steps ≤ 256) × HoldsSome (now work) steps ⌝ }
     ensures { λ a. ⌜ SplitAnswered (now (work .entry)) steps (now (split .entry)) a ⌝ }
 {
-    Answer::Accept
+    if SPLIT_LIMIT < split.len() {
+        return Answer::Refuse(Refusal::LongSplit);
+    }
+    match split::read(split, steps, work) {
+        Sheet::Refused(r) => Answer::Refuse(r),
+        Sheet::Read(header) => check_rules(work, steps, header.denominator, header.locations),
+    }
 }
 
 // 10 to 33, in a work space that is as long as document 01 wants.

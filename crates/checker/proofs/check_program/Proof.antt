@@ -31,7 +31,7 @@ check-split-requires : tie.Need-check-split-requires
 check-split-requires c κs =
     let text = c .before .before .before .before .before .before .before .before .before .before .before .before .args .program .now in
     let (P, reads-on, counted, holds, few) = program-read-by (c .before .before .before .before .before .before .read .last .1 .0) _ (program text) (c .before .before .before .before .before .before .read .ensures .answer) (c .before .before .steps .given .1) in
-    (c .before .before .before .before .before .before .read .kept .1 .0 ∙ c .before .before .before .before .before .before .before .before .before .before .before .before .pre, omega (arith, counted, few))
+    (c .before .before .before .before .before .before .read .kept .1 .0 ∙ c .before .before .before .before .before .before .before .before .before .before .before .before .pre, omega (arith, counted, few), (P, holds, counted))
 
 -- src/lib.rt:46:1
 same-length : tie.Need-same-length
