@@ -14,16 +14,18 @@ use Rattle.spec.specs.Reading.{splitSheet, Out, stop, on, Place, Seen, right, b
 use Rattle.spec.specs.Split.{Header, headerOf, headerLine}
 use Rattle.spec.specs.declared.Refusal.the-variants.{SplitForm, SplitRange}
 use Rattle.lexer.specs.Views.{endOf, firstField}
-use Rattle.lexer.specs.Cursors.{Placed, rest, next as nextCursor}
+use Rattle.lexer.specs.Cursors.{Placed, rest, next as nextCursor, placeAt}
 use Rattle.lexer.specs.Numbers.{numbersAt}
 use Rattle.lexer.specs.declared.Cursor.{Cursor}
 use Rattle.lexer.specs.declared.FieldEnd.the-variants.{Comma}
 use Rattle.lexer.proofs.Walks.{first-wrong, first-alone}
 use Rattle.lexer.proofs.Ranges.{tail-form, tail-read}
 use Rattle.split.specs.declared.Header.{Header as HeaderRead}
-use Rattle.split.specs.Lines.{placeAt, headerTold, headerRanges, headerNumbers}
+use Rattle.split.specs.Lines.{headerTold, headerRanges, headerNumbers}
 use Rattle.split.specs.Answers.{Small}
-use Rattle.split.proofs.LineLaws.{here, shows-range, shows-entry, comma-line, comma-placed, comma-kept, LineOf}
+use Rattle.lexer.proofs.Sheets.{next-at}
+use Rattle.lexer.proofs.LineEnds.{LineRead}
+use Rattle.split.proofs.LineLaws.{shows-range, shows-entry, comma-line, comma-placed, comma-kept}
 
 -- ------------------------------------------------------------------ the numbers
 
@@ -92,12 +94,12 @@ module _ (text : List ℕ) (c : Cursor) (some-left : 0 < length (rest text c)) w
   -- no comma behind the first field
   pub no-comma : (endOf (rest text c) ≡ Comma → ⊥) → next splitSheet headerLine (placeAt text c) ≡ stop (SplitForm (c .line + 1))
   unfolding form
-  no-comma n = here headerLine text c ∙ first-alone splitSheet headerLine (c .line) (rest text c) some-left n (header-alone (firstField (rest text c)))
+  no-comma n = next-at splitSheet text headerLine c ∙ first-alone splitSheet headerLine (c .line) (rest text c) some-left n (header-alone (firstField (rest text c)))
 
   -- another word
   pub no-header : same (firstField (rest text c)) (bytes "C") ≡ false → next splitSheet headerLine (placeAt text c) ≡ stop (SplitForm (c .line + 1))
   unfolding form
-  no-header e = here headerLine text c ∙ first-wrong splitSheet headerLine (c .line) (rest text c) some-left (header-wrong (firstField (rest text c)) e)
+  no-header e = next-at splitSheet text headerLine c ∙ first-wrong splitSheet headerLine (c .line) (rest text c) some-left (header-wrong (firstField (rest text c)) e)
 
   module _
       (p : Placed text c) (comma : endOf (rest text c) ≡ Comma) (d : Cursor) (is : nextCursor text c ≡ d)
@@ -106,18 +108,18 @@ module _ (text : List ℕ) (c : Cursor) (some-left : 0 < length (rest text c)) w
       pub header-form : numbersAt text d 4 ≡ none → next splitSheet headerLine (placeAt text c) ≡ stop (SplitForm (c .line + 1))
       unfolding form seen headerRanges
       header-form e =
-          here headerLine text c
+          next-at splitSheet text headerLine c
           ∙ tail-form splitSheet headerLine (c .line) headerRanges (seen headerOf) text c (firstField (rest text c)) d (comma-line text c d p comma is)
           (header-shows (firstField (rest text c)) word) refl some-left e
 
-      module _ (ns : List ℕ) (e : Cursor) (h : LineOf text d 4 ns e) where
+      module _ (ns : List ℕ) (e : Cursor) (h : LineRead text d 4 ns e) where
         reads : next splitSheet headerLine (placeAt text c)
             ≡ passed splitSheet (c .line + 1) (lines (rest text e)) (seen headerOf (if allInRange headerRanges ns then right ns else badRange))
         unfolding headerRanges
         reads =
-            here headerLine text c
+            next-at splitSheet text headerLine c
             ∙ tail-read splitSheet headerLine (c .line) headerRanges (seen headerOf) text c (firstField (rest text c)) d (comma-line text c d p comma is)
-            (header-shows (firstField (rest text c)) word) ns (rest text e) (h .found)
+            (header-shows (firstField (rest text c)) word) ns (rest text e) (h .numbers)
 
         pub header-range : allInRange headerRanges ns ≡ false → next splitSheet headerLine (placeAt text c) ≡ stop (SplitRange (c .line + 1))
         unfolding seen
@@ -126,4 +128,4 @@ module _ (text : List ℕ) (c : Cursor) (some-left : 0 < length (rest text c)) w
         pub header-on : allInRange headerRanges ns ≡ true → next splitSheet headerLine (placeAt text c) ≡ on (headerOf ns, placeAt text e)
         unfolding seen
         header-on q =
-            reads ∙ shows-entry (c .line + 1) (rest text e) text e (headerOf ns) (rw q) (h .line ∙ ap (λ (k : ℕ). k + 1) (comma-kept text c d p comma is)) refl
+            reads ∙ shows-entry text c e (headerOf ns) (rw q) (h .line ∙ ap (λ (k : ℕ). k + 1) (comma-kept text c d p comma is))

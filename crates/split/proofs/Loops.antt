@@ -11,12 +11,12 @@ use Rattle.spec.specs.Reading.{splitSheet, stop, on, Seen, next, nextAll}
 use Rattle.spec.specs.Split.{Map, Header}
 use Rattle.spec.specs.declared.Refusal.{Refusal}
 use Rattle.spec.specs.declared.Word.{Word}
-use Rattle.lexer.specs.Cursors.{Placed}
+use Rattle.lexer.specs.Cursors.{Placed, placeAt}
 use Rattle.lexer.specs.declared.Cursor.{Cursor}
 use Rattle.workspace.specs.Layout.{wordsAt, wordOf}
 use Rattle.workspace.specs.Region.{ChangedWithin}
 use Rattle.workspace.proofs.Region.{changed-then}
-use Rattle.split.specs.Lines.{placeAt, cellLine, wordLine}
+use Rattle.split.specs.Lines.{cellLine, wordLine}
 use Rattle.split.specs.Stored.{Columns, HoldsMaps, LinesStored, stepAt}
 use Rattle.split.specs.declared.LinesRead.the-variants as lines-read
 use Rattle.split.proofs.Turns.{numbered, Turn, next-turn, turns-stop}

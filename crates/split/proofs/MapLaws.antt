@@ -13,12 +13,14 @@ use Rattle.spec.specs.Choice.{if_then_else_}
 use Rattle.spec.specs.Text.{Field, lines}
 use Rattle.spec.specs.Reading.{splitSheet, stop, on, Seen, right, badRange, _to_, inRange, allInRange, numbers, form, next}
 use Rattle.spec.specs.declared.Refusal.the-variants.{SplitForm, SplitRange}
-use Rattle.lexer.specs.Cursors.{rest}
+use Rattle.lexer.specs.Cursors.{rest, placeAt}
 use Rattle.lexer.specs.Numbers.{numbersAt}
 use Rattle.lexer.specs.declared.Cursor.{Cursor}
 use Rattle.lexer.proofs.Ranges.{numerals-form, numerals-read}
-use Rattle.split.specs.Lines.{placeAt, cells, cellLine}
-use Rattle.split.proofs.LineLaws.{here, shows-range, shows-entry, LineOf}
+use Rattle.split.specs.Lines.{cells, cellLine}
+use Rattle.lexer.proofs.Sheets.{next-at}
+use Rattle.lexer.proofs.LineEnds.{LineRead}
+use Rattle.split.proofs.LineLaws.{shows-range, shows-entry}
 
 -- ------------------------------------------------------------------ the numbers of a map
 
@@ -70,18 +72,18 @@ module _ (text : List ℕ) (c : Cursor) (n : ℕ) where
   pub map-form : 0 < length (rest text c) → numbersAt text c n ≡ none → next splitSheet (cellLine n) (placeAt text c) ≡ stop (SplitForm (c .line + 1))
   unfolding form
   map-form l e =
-      here (cellLine n) text c
+      next-at splitSheet text (cellLine n) c
       ∙ numerals-form splitSheet (cellLine n) (c .line) (cells n) (λ s. s) text c shows refl l (ap (numbersAt text c) counts ∙ e)
 
-  module _ (ns : List ℕ) (d : Cursor) (h : LineOf text c n ns d) where
+  module _ (ns : List ℕ) (d : Cursor) (h : LineRead text c n ns d) where
     reads : next splitSheet (cellLine n) (placeAt text c)
         ≡ Rattle.spec.specs.Reading.passed splitSheet (c .line + 1) (lines (rest text d)) (if allInRange (cells n) ns then right ns else badRange)
     reads =
-        here (cellLine n) text c
-        ∙ numerals-read splitSheet (cellLine n) (c .line) (cells n) (λ s. s) text c shows ns (rest text d) (ap (numbersAt text c) counts ∙ h .found)
+        next-at splitSheet text (cellLine n) c
+        ∙ numerals-read splitSheet (cellLine n) (c .line) (cells n) (λ s. s) text c shows ns (rest text d) (ap (numbersAt text c) counts ∙ h .numbers)
 
     pub map-range : allInRange (cells n) ns ≡ false → next splitSheet (cellLine n) (placeAt text c) ≡ stop (SplitRange (c .line + 1))
     map-range e = reads ∙ shows-range (c .line + 1) (lines (rest text d)) (rw e)
 
     pub map-on : allInRange (cells n) ns ≡ true → next splitSheet (cellLine n) (placeAt text c) ≡ on (ns, placeAt text d)
-    map-on e = reads ∙ shows-entry (c .line + 1) (rest text d) text d ns (rw e) (h .line) refl
+    map-on e = reads ∙ shows-entry text c d ns (rw e) (h .line)

@@ -19,7 +19,7 @@ use Rattle.spec.specs.declared.Word.{Word}
 use Rattle.spec.specs.declared.Word.the-variants.{Leaf, Unary, Binary}
 use Rattle.spec.specs.declared.BinaryWord.the-variants.{Let, If, Spawn, Write}
 use Rattle.lexer.specs.Views.{endOf, firstField, behind, withField, lineAt}
-use Rattle.lexer.specs.Cursors.{Placed, rest, next as nextCursor}
+use Rattle.lexer.specs.Cursors.{Placed, rest, next as nextCursor, placeAt}
 use Rattle.lexer.specs.declared.Cursor.{Cursor}
 use Rattle.lexer.specs.declared.FieldEnd.{FieldEnd}
 use Rattle.lexer.specs.declared.FieldEnd.the-variants.{Comma, Newline, Text}
@@ -31,9 +31,10 @@ use Rattle.split.specs.declared.RowRead.{RowRead}
 use Rattle.split.specs.declared.RowRead.the-variants as row-read
 use Rattle.split.specs.declared.Leading.the-variants as leading
 use Rattle.split.specs.declared.Start.the-variants as start
-use Rattle.split.specs.Lines.{placeAt, rowTold, wordLine, startLimit, rowRanged}
+use Rattle.split.specs.Lines.{rowTold, wordLine, startLimit, rowRanged}
 use Rattle.split.specs.Answers.{LeadingAnswer, StartAnswer, RowAnswer}
-use Rattle.split.proofs.LineLaws.{here, shows-range, shows-entry, comma-line, comma-placed, comma-kept}
+use Rattle.lexer.proofs.Sheets.{next-at}
+use Rattle.split.proofs.LineLaws.{shows-range, shows-entry, comma-line, comma-placed, comma-kept}
 
 -- ------------------------------------------------------------------ three numbers in their ranges
 
@@ -113,7 +114,7 @@ module _ {A : Type 0} (read : List Field → Seen A) (k : ℕ) where
 at-cursor : {A : Type 0} (read : List Field → Seen A) (text : List ℕ) (c : Cursor) → 0 < length (rest text c)
     → next splitSheet read (placeAt text c) ≡ shown read (c .line + 1) (lineAt (rest text c))
 unfolding shown form
-at-cursor read text c l = here read text c ∙ go (lineAt (rest text c)) refl
+at-cursor read text c l = next-at splitSheet text read c ∙ go (lineAt (rest text c)) refl
   where
     go : (o : Option (List Field × List ℕ)) → lineAt (rest text c) ≡ o → nextLine splitSheet read (c .line) (lines (rest text c)) ≡ shown read (c .line + 1) o
     go none e = next-open splitSheet read (c .line) (rest text c) l e
@@ -355,7 +356,7 @@ module _ (H : Header) (w : Word) (text : List ℕ) (c : Cursor) (p : Placed text
             → row .typed .0 ≡ a → row .post .0 ≡ b → row .start .0 ≡ s → (x : Bool) → fits (c .line + 1) row starts H d ≡ x
             → RowAnswer text out (if x then row-read.Read row d else row-read.Refused (SplitRange (c .line + 1)))
         judged starts s row e ea eb es true q =
-            (row-closed ∙ shows-entry (c .line + 1) (rest text d) text d (rowTold row) (e ∙ tested H starts row a b s ea eb es true q) last-line refl, last-placed)
+            (row-closed ∙ shows-entry text c d (rowTold row) (e ∙ tested H starts row a b s ea eb es true q) last-line, last-placed)
         judged starts s row e ea eb es false q =
             row-closed ∙ shows-range (c .line + 1) (lines (rest text d)) (e ∙ tested H starts row a b s ea eb es false q)
 

@@ -15,7 +15,7 @@ use Rattle.spec.specs.declared.Refusal.the-variants.{SplitForm}
 use Rattle.spec.specs.declared.TypeLine.{TypeLine}
 use Rattle.spec.specs.declared.Word.{Word}
 use Rattle.lexer.specs.Views.{nothing}
-use Rattle.lexer.specs.Cursors.{Placed, start, rest}
+use Rattle.lexer.specs.Cursors.{Placed, start, rest, placeAt}
 use Rattle.lexer.specs.declared.Cursor.{Cursor}
 use Rattle.lexer.proofs.Lines.{begin-empty, begin-some}
 use Rattle.lexer.proofs.Walks.{start-rest, left-none, left-some}
@@ -27,7 +27,7 @@ use Rattle.workspace.proofs.Region.{column, region-kept, changed-then, changed-
 use Rattle.split.specs.declared.Header.{Header as HeaderRead}
 use Rattle.split.specs.declared.LinesRead.{LinesRead}
 use Rattle.split.specs.declared.LinesRead.the-variants as lines-read
-use Rattle.split.specs.Lines.{placeAt, headerTold}
+use Rattle.split.specs.Lines.{headerTold}
 use Rattle.split.specs.Answers.{Small}
 use Rattle.split.specs.Stored.{Columns, HoldsTypes, HoldsRows, HoldsMaps, LinesAnswer, LinesStored, stepAt, stepsFrom}
 use Rattle.split.specs.Sheet.{body, EndAnswer, BodyAnswer, BodyRead}

@@ -10,11 +10,11 @@ use Rattle.spec.specs.Reading.{splitSheet, Out, stop, on, _>>=_, Seen, Place, n
 use Rattle.spec.specs.Expression.{Step}
 use Rattle.spec.specs.Split.{Header, typeLine, typeLines, mapLine, rowLine}
 use Rattle.spec.specs.declared.Refusal.{Refusal}
-use Rattle.lexer.specs.Cursors.{Placed}
+use Rattle.lexer.specs.Cursors.{Placed, placeAt}
 use Rattle.lexer.specs.declared.Cursor.{Cursor}
 use Rattle.workspace.specs.Region.{ChangedWithin}
 use Rattle.workspace.proofs.Region.{changed-nothing, changed-then}
-use Rattle.split.specs.Lines.{placeAt, cells, cellLine, wordLine}
+use Rattle.split.specs.Lines.{cells, cellLine, wordLine}
 use Rattle.split.specs.Stored.{stepAt, stepsFrom, LinesStored}
 use Rattle.split.specs.declared.LinesRead.the-variants as lines-read
 

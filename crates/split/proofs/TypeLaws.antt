@@ -14,7 +14,7 @@ use Rattle.spec.specs.declared.Refusal.the-variants.{SplitForm, SplitRange}
 use Rattle.spec.specs.declared.TypeLine.{TypeLine}
 use Rattle.spec.specs.declared.TypeLine.the-variants as type-line
 use Rattle.lexer.specs.Views.{endOf, firstField}
-use Rattle.lexer.specs.Cursors.{Placed, rest, next as nextCursor}
+use Rattle.lexer.specs.Cursors.{Placed, rest, next as nextCursor, placeAt}
 use Rattle.lexer.specs.Numbers.{numbersAt}
 use Rattle.lexer.specs.Words.{typeWordOf}
 use Rattle.lexer.specs.declared.Cursor.{Cursor}
@@ -25,8 +25,11 @@ use Rattle.lexer.proofs.Walks.{first-wrong, first-alone}
 use Rattle.lexer.proofs.Ranges.{tail-form, tail-read}
 use Rattle.split.specs.declared.TypeSeen.{TypeSeen}
 use Rattle.split.specs.declared.TypeSeen.the-variants as type-seen
-use Rattle.split.specs.Lines.{placeAt, rangedType, typeSeen, typeSeenOf}
-use Rattle.split.proofs.LineLaws.{here, shows-form, shows-range, shows-entry, comma-line, comma-kept, LineOf}
+use Rattle.split.specs.Lines.{rangedType, typeSeen, typeSeenOf}
+use Rattle.lexer.proofs.TypeLines.{ofKind, type-line as kind-line}
+use Rattle.lexer.proofs.Sheets.{next-at}
+use Rattle.lexer.proofs.LineEnds.{LineRead}
+use Rattle.split.proofs.LineLaws.{shows-form, shows-range, shows-entry, comma-line, comma-kept}
 
 pub two : (l : List ℕ) → length l ≡ 2 → l ≡ getD l 0 0 ∷ getD l 1 0 ∷ []
 two [] h = absurd (omega arith)
@@ -36,30 +39,9 @@ two (a ∷ b ∷ c ∷ l) h = absurd (omega arith)
 
 -- ------------------------------------------------------------------ by kind
 
--- a line of a known kind, behind its word
-kindLine : TypeWord → Header → (own : ℕ) → List Field → Seen TypeLine
-kindLine kind.Int H own fs = seen (λ ns. type-line.Int) (numbers ((0 to 0) ∷ (0 to 0) ∷ []) fs)
-kindLine kind.Ref H own fs = seen refOf (numbers (below (H .locations) ∷ below own ∷ []) fs)
-kindLine kind.Lock H own fs = seen lockOf (numbers (below (H .maps) ∷ (0 to 0) ∷ []) fs)
-kindLine kind.Tid H own fs = seen tidOf (numbers (below (H .maps) ∷ (0 to 0) ∷ []) fs)
-kindLine kind.Unknown H own fs = badForm
-
 module _ (H : Header) (own : ℕ) where
-  by-kind : (f : Field) (fs : List Field) → typeLine H own (f ∷ fs) ≡ kindLine (typeWordOf f) H own fs
-  unfolding typeLine typeWordOf kindLine
-  by-kind f fs = go (same f (bytes "int")) (same f (bytes "ref")) (same f (bytes "lock")) (same f (bytes "tid"))
-    where
-      go : (x y z t : Bool)
-          → (if x then kindLine kind.Int H own fs else if y then kindLine kind.Ref H own fs else if z then kindLine kind.Lock H own fs else if t then kindLine kind.Tid H own fs else badForm)
-          ≡ kindLine (if x then kind.Int else if y then kind.Ref else if z then kind.Lock else if t then kind.Tid else kind.Unknown) H own fs
-      go true y z t = refl
-      go false true z t = refl
-      go false false true t = refl
-      go false false false true = refl
-      go false false false false = refl
-
-  kind-alone : (k : TypeWord) → kindLine k H own [] ≡ badForm
-  unfolding kindLine seen numbers numerals ranged
+  kind-alone : (k : TypeWord) → ofKind H own [] k ≡ badForm
+  unfolding ofKind seen numbers numerals ranged
   kind-alone kind.Int = refl
   kind-alone kind.Ref = refl
   kind-alone kind.Lock = refl
@@ -81,12 +63,12 @@ module _ (H : Header) (own : ℕ) (text : List ℕ) (c : Cursor) (some-left : 0 
   unfolding form
   no-comma n =
       let f = firstField (rest text c) in
-      here (typeLine H own) text c
-      ∙ first-alone splitSheet (typeLine H own) (c .line) (rest text c) some-left n (by-kind H own f [] ∙ kind-alone H own (typeWordOf f))
+      next-at splitSheet text (typeLine H own) c
+      ∙ first-alone splitSheet (typeLine H own) (c .line) (rest text c) some-left n (kind-line H own f [] ∙ kind-alone H own (typeWordOf f))
 
   module _ (p : Placed text c) (comma : endOf (rest text c) ≡ Comma) (d : Cursor) (is : nextCursor text c ≡ d) where
-    as-kind : (k : TypeWord) → typeWordOf (firstField (rest text c)) ≡ k → (fs : List Field) → typeLine H own (firstField (rest text c) ∷ fs) ≡ kindLine k H own fs
-    as-kind k e fs = by-kind H own (firstField (rest text c)) fs ∙ ap (λ (x : TypeWord). kindLine x H own fs) e
+    as-kind : (k : TypeWord) → typeWordOf (firstField (rest text c)) ≡ k → (fs : List Field) → typeLine H own (firstField (rest text c) ∷ fs) ≡ ofKind H own fs k
+    as-kind k e fs = kind-line H own (firstField (rest text c)) fs ∙ ap (ofKind H own fs) e
 
     module _ (rs : List Range) (g : List ℕ → TypeLine) (shows : (fs : List Field) → typeLine H own (firstField (rest text c) ∷ fs) ≡ seen g (numbers rs fs)) where
       known-form : numbersAt text d (length rs) ≡ none → nextLine splitSheet (typeLine H own) (c .line) (lines (rest text c)) ≡ stop (SplitForm (c .line + 1))
@@ -101,12 +83,12 @@ module _ (H : Header) (own : ℕ) (text : List ℕ) (c : Cursor) (some-left : 0 
           ∙ ap (passed splitSheet (c .line + 1) (lines r)) (seen-ranged rs g ns)
 
     unknown : typeWordOf (firstField (rest text c)) ≡ kind.Unknown → nextLine splitSheet (typeLine H own) (c .line) (lines (rest text c)) ≡ stop (SplitForm (c .line + 1))
-    unfolding form kindLine
+    unfolding form ofKind
     unknown e = first-wrong splitSheet (typeLine H own) (c .line) (rest text c) some-left (as-kind kind.Unknown e)
 
     kind-form : (k : TypeWord) → typeWordOf (firstField (rest text c)) ≡ k → numbersAt text d 2 ≡ none
         → nextLine splitSheet (typeLine H own) (c .line) (lines (rest text c)) ≡ stop (SplitForm (c .line + 1))
-    unfolding kindLine
+    unfolding ofKind
     kind-form kind.Int e n = known-form ((0 to 0) ∷ (0 to 0) ∷ []) (λ ns. type-line.Int) (as-kind kind.Int e) n
     kind-form kind.Ref e n = known-form (below (H .locations) ∷ below own ∷ []) refOf (as-kind kind.Ref e) n
     kind-form kind.Lock e n = known-form (below (H .maps) ∷ (0 to 0) ∷ []) lockOf (as-kind kind.Lock e) n
@@ -115,7 +97,7 @@ module _ (H : Header) (own : ℕ) (text : List ℕ) (c : Cursor) (some-left : 0 
 
     kind-read : (k : TypeWord) → typeWordOf (firstField (rest text c)) ≡ k → (ns r : List ℕ) → numbersAt text d 2 ≡ some (ns, r)
         → nextLine splitSheet (typeLine H own) (c .line) (lines (rest text c)) ≡ passed splitSheet (c .line + 1) (lines r) (typeSeen k H own ns)
-    unfolding kindLine typeSeen passed form
+    unfolding ofKind typeSeen passed form
     kind-read kind.Int e ns r n = known-read ((0 to 0) ∷ (0 to 0) ∷ []) (λ ns. type-line.Int) (as-kind kind.Int e) ns r n
     kind-read kind.Ref e ns r n = known-read (below (H .locations) ∷ below own ∷ []) refOf (as-kind kind.Ref e) ns r n
     kind-read kind.Lock e ns r n = known-read (below (H .maps) ∷ (0 to 0) ∷ []) lockOf (as-kind kind.Lock e) ns r n
@@ -123,16 +105,16 @@ module _ (H : Header) (own : ℕ) (text : List ℕ) (c : Cursor) (some-left : 0 
     kind-read kind.Unknown e ns r n = unknown e
 
     pub type-form : numbersAt text d 2 ≡ none → next splitSheet (typeLine H own) (placeAt text c) ≡ stop (SplitForm (c .line + 1))
-    type-form n = here (typeLine H own) text c ∙ kind-form (typeWordOf (firstField (rest text c))) refl n
+    type-form n = next-at splitSheet text (typeLine H own) c ∙ kind-form (typeWordOf (firstField (rest text c))) refl n
 
     -- the word and the numbers are read: what they come to
-    module _ (k : TypeWord) (word : k ≡ typeWordOf (firstField (rest text c))) (ns : List ℕ) (e : Cursor) (h : LineOf text d 2 ns e)
-        (s : TypeSeen) (told : s ≡ typeSeenOf (typeSeen k H own (getD ns 0 0 ∷ getD ns 1 0 ∷ []))) (pair : length ns ≡ 2) where
+    module _ (k : TypeWord) (word : k ≡ typeWordOf (firstField (rest text c))) (ns : List ℕ) (e : Cursor) (h : LineRead text d 2 ns e)
+        (s : TypeSeen) (told : s ≡ typeSeenOf (typeSeen k H own (getD ns 0 0 ∷ getD ns 1 0 ∷ []))) where
       reads : next splitSheet (typeLine H own) (placeAt text c)
           ≡ passed splitSheet (c .line + 1) (lines (rest text e)) (typeSeen k H own (getD ns 0 0 ∷ getD ns 1 0 ∷ []))
       reads =
-          here (typeLine H own) text c ∙ kind-read k (sym word) ns (rest text e) (h .found)
-          ∙ ap (λ (l : List ℕ). passed splitSheet (c .line + 1) (lines (rest text e)) (typeSeen k H own l)) (two ns pair)
+          next-at splitSheet text (typeLine H own) c ∙ kind-read k (sym word) ns (rest text e) (h .numbers)
+          ∙ ap (λ (l : List ℕ). passed splitSheet (c .line + 1) (lines (rest text e)) (typeSeen k H own l)) (two ns (h .long))
 
       right-of : (x : Seen TypeLine) (t : TypeLine) → typeSeenOf x ≡ type-seen.Right t → x ≡ right t
       unfolding typeSeenOf
@@ -154,7 +136,7 @@ module _ (H : Header) (own : ℕ) (text : List ℕ) (c : Cursor) (some-left : 0 
 
       pub type-on : (t : TypeLine) → s ≡ type-seen.Right t → next splitSheet (typeLine H own) (placeAt text c) ≡ on (t, placeAt text e)
       type-on t q =
-          reads ∙ shows-entry (c .line + 1) (rest text e) text e t (right-of _ t (sym told ∙ q)) (h .line ∙ ap (λ (k : ℕ). k + 1) (comma-kept text c d p comma is)) refl
+          reads ∙ shows-entry text c e t (right-of _ t (sym told ∙ q)) (h .line ∙ ap (λ (k : ℕ). k + 1) (comma-kept text c d p comma is))
 
       pub type-unknown : s ≡ type-seen.BadForm → next splitSheet (typeLine H own) (placeAt text c) ≡ stop (SplitForm (c .line + 1))
       type-unknown q = reads ∙ shows-form (c .line + 1) (lines (rest text e)) (form-of _ (sym told ∙ q))

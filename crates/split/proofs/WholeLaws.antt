@@ -11,9 +11,9 @@ use Rattle.spec.specs.Split.{Header, Split, headerLine, split}
 use Rattle.spec.specs.declared.Refusal.{Refusal}
 use Rattle.spec.specs.declared.Refusal.the-variants.{SplitForm}
 use Rattle.lexer.specs.Views.{nothing}
-use Rattle.lexer.specs.Cursors.{Placed, start, rest}
+use Rattle.lexer.specs.Cursors.{Placed, start, rest, placeAt}
 use Rattle.lexer.specs.declared.Cursor.{Cursor}
-use Rattle.lexer.proofs.Lines.{begin-empty, begin-some}
+use Rattle.lexer.proofs.Sheets.{begin-at-none, begin-at-some}
 use Rattle.lexer.proofs.Walks.{start-rest, start-placed, left-none, left-some}
 use Rattle.workspace.specs.Region.{ChangedWithin}
 use Rattle.workspace.specs.Holds.{HoldsSteps, HoldsSplit}
@@ -24,7 +24,7 @@ use Rattle.split.specs.declared.HeaderLine.the-variants as header-line
 use Rattle.split.specs.declared.LinesRead.{LinesRead}
 use Rattle.split.specs.declared.LinesRead.the-variants as lines-read
 use Rattle.split.specs.declared.Sheet.the-variants as sheet
-use Rattle.split.specs.Lines.{placeAt, headerTold}
+use Rattle.split.specs.Lines.{headerTold}
 use Rattle.split.specs.Answers.{Small, HeaderAnswer}
 use Rattle.split.specs.Stored.{stepsFrom}
 use Rattle.split.specs.Sheet.{body, BodyAnswer, BodyRead, SplitRead}
@@ -39,7 +39,7 @@ module _ (text : List ℕ) (top : Cursor) (is : top ≡ start) where
 
   empty-begin : nothing (rest text top) ≡ true → begin splitSheet (lines text) ≡ stop (SplitForm 1)
   unfolding form
-  empty-begin e = ap (λ (t : List ℕ). begin splitSheet (lines t)) (sym top-rest ∙ left-none (rest text top) e) ∙ begin-empty splitSheet
+  empty-begin e = begin-at-none splitSheet text (sym top-rest ∙ left-none (rest text top) e)
 
   pub read-empty : nothing (rest text top) ≡ true → (n : ℕ) (w : List ℕ) → SplitRead text n w w (sheet.Refused (SplitForm 1))
   unfolding split _>>=_
@@ -47,8 +47,7 @@ module _ (text : List ℕ) (top : Cursor) (is : top ≡ start) where
 
   module _ (some-left : nothing (rest text top) ≡ false) where
     top-place : begin splitSheet (lines text) ≡ on (placeAt text top)
-    unfolding placeAt start rest
-    top-place = begin-some splitSheet text (subst (λ (t : List ℕ). 0 < length t) top-rest (left-some (rest text top) some-left)) ∙ rw is
+    top-place = begin-at-some splitSheet text (subst (λ (t : List ℕ). 0 < length t) top-rest (left-some (rest text top) some-left)) ∙ rw is
 
     module _ (answer : HeaderLine) (header : HeaderAnswer text (next splitSheet headerLine (placeAt text top)) answer) where
       -- the header is refused

@@ -10,7 +10,7 @@ use Rattle.spec.specs.Reading.{Out, stop, on, Place}
 use Rattle.spec.specs.Split.{Map, Header, Row}
 use Rattle.spec.specs.declared.TypeLine.{TypeLine}
 use Rattle.lexer.specs.Views.{endOf, firstField}
-use Rattle.lexer.specs.Cursors.{Placed, rest, next}
+use Rattle.lexer.specs.Cursors.{Placed, rest, next, placeAt}
 use Rattle.lexer.specs.declared.Cursor.{Cursor}
 use Rattle.lexer.specs.declared.FieldEnd.the-variants.{Comma, Newline, Text}
 use Rattle.split.specs.declared.Header.{Header as HeaderRead}
@@ -28,7 +28,7 @@ use Rattle.split.specs.declared.Leading.{Leading}
 use Rattle.split.specs.declared.Leading.the-variants as leading
 use Rattle.split.specs.declared.Start.{Start}
 use Rattle.split.specs.declared.Start.the-variants as start
-use Rattle.split.specs.Lines.{placeAt, headerTold, rowTold}
+use Rattle.split.specs.Lines.{headerTold, rowTold}
 
 -- a text that the limit lets through, and a cursor in it
 pub record Reading (text : List ℕ) (c : Cursor) : Type 0 where

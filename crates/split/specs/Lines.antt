@@ -4,8 +4,8 @@ use mathlib.Core.Bool.{Bool, true, false}
 use Prim.Native.Nat.{ℕ, _<_, _≤_}
 use lib.ListN.{replicate, getD}
 use Rattle.spec.specs.Choice.{if_then_else_}
-use Rattle.spec.specs.Text.{lines, Field}
-use Rattle.spec.specs.Reading.{Place, Seen, right, badForm, badRange, Range, _to_, below, allInRange, numbers}
+use Rattle.spec.specs.Text.{Field}
+use Rattle.spec.specs.Reading.{Seen, right, badForm, badRange, Range, _to_, below, allInRange, numbers}
 use Rattle.spec.specs.Split.{Map, Header, refOf, lockOf, tidOf, Row, rowLine}
 use Rattle.spec.specs.declared.Refusal.the-variants.{SplitRange}
 use Rattle.spec.specs.declared.Word.{Word}
@@ -13,7 +13,6 @@ use Rattle.spec.specs.declared.Word.the-variants.{Leaf, Unary, Binary}
 use Rattle.spec.specs.declared.BinaryWord.the-variants.{Let, If, Spawn, Write}
 use Rattle.spec.specs.declared.TypeLine.{TypeLine}
 use Rattle.spec.specs.declared.TypeLine.the-variants as type-line
-use Rattle.lexer.specs.Cursors.{rest}
 use Rattle.lexer.specs.declared.Cursor.{Cursor}
 use Rattle.lexer.specs.declared.TypeWord.{TypeWord}
 use Rattle.lexer.specs.declared.TypeWord.the-variants as kind
@@ -23,10 +22,6 @@ use Rattle.split.specs.declared.RowRead.{RowRead}
 use Rattle.split.specs.declared.RowRead.the-variants as row-read
 use Rattle.split.specs.declared.TypeSeen.{TypeSeen}
 use Rattle.split.specs.declared.TypeSeen.the-variants as type-seen
-
--- the reading place of a cursor
-unfoldable pub placeAt : List ℕ → Cursor → Place
-placeAt text c = record { last = c .line; rest = lines (rest text c) }
 
 -- ------------------------------------------------------------------ what the code reads, as document 01 has it
 

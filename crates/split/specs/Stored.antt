@@ -7,13 +7,12 @@ use Rattle.spec.specs.Reading.{Out, stop, on, Place}
 use Rattle.spec.specs.Expression.{Step}
 use Rattle.spec.specs.Split.{Map, Row}
 use Rattle.spec.specs.declared.TypeLine.{TypeLine}
-use Rattle.lexer.specs.Cursors.{Placed}
+use Rattle.lexer.specs.Cursors.{Placed, placeAt}
 use Rattle.lexer.specs.declared.Cursor.{Cursor}
 use Rattle.workspace.specs.Layout.{wordsAt, valuesAt, rowTypesAt, kindsAt, mapsAt, stride, wordOf, kindOf, firstOf, secondOf}
 use Rattle.workspace.specs.Region.{Region, ChangedWithin}
 use Rattle.split.specs.declared.LinesRead.{LinesRead}
 use Rattle.split.specs.declared.LinesRead.the-variants as lines-read
-use Rattle.split.specs.Lines.{placeAt}
 
 -- three numbers of each entry, in three columns with room for so many rows, one behind the other
 pub record Columns {A : Type 0} (f g h : A → ℕ) (b rows : ℕ) (w : List ℕ) (entries : List A) : Type 0 where

@@ -4,9 +4,6 @@ use native.Mathlib.Omega.{arith}
 use borrow.Author.Needs.{needs}
 use Rattle.split.proofs.both_below.Statement.{statement}
 use Rattle.split.proofs.both_below.Tie as tie
-use Rattle.split.proofs.both_below.Reads as reads
-use Rattle.split.proofs.both_below.Lts as lts
-use Rattle.workspace.proofs.index.Reads as index-reads
 
 index-requires : tie.Need-index-requires
 index-requires c κs = search needs

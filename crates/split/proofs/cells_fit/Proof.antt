@@ -8,8 +8,6 @@ use Rattle.split.specs.Lines.{cells}
 use Rattle.split.proofs.MapLaws.{cells-all, cells-on, cells-out, cells-end}
 use Rattle.split.proofs.cells_fit.Statement.{statement}
 use Rattle.split.proofs.cells_fit.Tie as tie
-use Rattle.split.proofs.cells_fit.Reads as reads
-use Rattle.split.proofs.cells_fit.Lts as lts
 
 abbrev Inv-loop : tie.InvT-loop
 Inv-loop map i₀ i = (i ≤ length map) × (allInRange (cells (length map)) map ≡ allInRange (cells (length map - i)) (drop i map))

@@ -3,9 +3,6 @@ use Rattle.split.proofs.LineLaws.{end-reached, line-spare}
 use borrow.Author.Needs.{needs}
 use Rattle.split.proofs.finish.Statement.{statement}
 use Rattle.split.proofs.finish.Tie as tie
-use Rattle.split.proofs.finish.Reads as reads
-use Rattle.split.proofs.finish.Lts as lts
-use Rattle.lexer.proofs.Cursor.at_end.Reads as at-end-reads
 
 at-end-requires : tie.Need-at-end-requires
 at-end-requires c κs = search needs

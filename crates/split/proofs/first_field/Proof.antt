@@ -1,11 +1,9 @@
-use mathlib.Core.Path.{sym, refl}
-use Rattle.split.proofs.FieldLaws.{ends-apart, comma-text, head-field, not-comma}
+-- The first field of a line, and what ends it.
 use borrow.Author.Needs.{needs}
+use mathlib.Core.Path.{refl}
+use Rattle.split.proofs.FieldLaws.{ends-apart, comma-text, head-field, not-comma}
 use Rattle.split.proofs.first_field.Statement.{statement}
 use Rattle.split.proofs.first_field.Tie as tie
-use Rattle.split.proofs.first_field.Reads as reads
-use Rattle.split.proofs.first_field.Lts as lts
-use Rattle.lexer.proofs.Cursor.field.Reads as field-reads
 
 field-requires : tie.Need-field-requires
 field-requires c κs = search needs
@@ -20,13 +18,20 @@ enum-told-3 : tie.Need-enum-told-3
 enum-told-3 c = search needs
 
 returns : tie.Need-returns
-returns c = head-field _ _ (c .before .before .before .field .result) (c .before .before .before .field .ensures) (c .before .before .before .before .before .pre .placed) (c .enum-told .given .1)
+returns c =
+    let field = c .before .before .before in
+    let entry = field .before .before in
+    head-field _ _ (field .field .result) (field .field .ensures) (entry .pre .placed) (c .enum-told .given .1)
 
 returns-2 : tie.Need-returns-2
-returns-2 c = not-comma _ _ (c .before .before .before .field .result) (c .before .before .before .field .ensures) (c .enum-told2 .given .1) (ends-apart refl refl)
+returns-2 c =
+    let field = c .before .before .before in
+    not-comma _ _ (field .field .result) (field .field .ensures) (c .enum-told2 .given .1) (ends-apart refl refl)
 
 returns-3 : tie.Need-returns-3
-returns-3 c = not-comma _ _ (c .before .before .before .field .result) (c .before .before .before .field .ensures) (c .enum-told3 .given .1) (comma-text refl refl)
+returns-3 c =
+    let field = c .before .before .before in
+    not-comma _ _ (field .field .result) (field .field .ensures) (c .enum-told3 .given .1) (comma-text refl refl)
 
 pub first-field-spec : {M : Type 1} → statement M
 first-field-spec =

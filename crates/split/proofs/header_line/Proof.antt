@@ -1,25 +1,20 @@
-use Rattle.spec.specs.Reading.{allInRange}
-use Rattle.split.specs.Lines.{headerRanges}
-use mathlib.Core.Path.{sym, ap, subst, _∙_}
+-- The header line: its word, its four numerals, their ranges.
+use borrow.Author.Needs.{needs}
+use mathlib.Core.Path.{refl, sym, ap, subst, _∙_}
 use mathlib.Core.List.{List}
 use Prim.Native.Nat.{ℕ}
 use Rattle.spec.specs.Text.{bytes, same}
+use Rattle.spec.specs.Reading.{allInRange}
 use Rattle.lexer.specs.Cursors.{rest}
+use Rattle.lexer.proofs.LineEnds.{numbers-none, numbers-read}
 use Rattle.lexer.proofs.Walks.{left-some}
-use Rattle.split.proofs.Tests.{untrue, unfalse}
-use Rattle.split.proofs.LineLaws.{comma-placed, numbers-malformed, numbers-found}
-use Rattle.split.proofs.HeaderLaws.{four, header-small, no-comma, no-header, header-form, header-range, header-on, header-told, on-header, made-small}
+use Rattle.split.specs.Lines.{headerRanges}
 use Rattle.split.specs.Answers.{HeadAnswer}
-use borrow.Author.Needs.{needs}
+use Rattle.split.proofs.Tests.{untrue, unfalse}
+use Rattle.split.proofs.LineLaws.{comma-placed}
+use Rattle.split.proofs.HeaderLaws.{four, header-told, on-header, made-small, no-comma, no-header, header-form, header-range, header-on}
 use Rattle.split.proofs.header_line.Statement.{statement}
 use Rattle.split.proofs.header_line.Tie as tie
-use Rattle.split.proofs.header_line.Reads as reads
-use Rattle.split.proofs.header_line.Lts as lts
-use Rattle.lexer.proofs.Cursor.numbers.Reads as numbers-reads
-use Rattle.lexer.proofs.same.Reads as same-reads
-use Rattle.split.proofs.first_field.Reads as first-field-reads
-use Rattle.split.proofs.header_fits.Reads as header-fits-reads
-use Rattle.workspace.proofs.index.Reads as index-reads
 
 add-line : tie.Need-add-line
 add-line c = search needs
@@ -34,16 +29,35 @@ enum-told : tie.Need-enum-told
 enum-told c = search needs
 
 returns : tie.Need-returns
-returns c = no-comma (c .before .before .before .before .before .args .text .now) (c .before .before .before .before .before .args .cursor) (left-some (rest (c .before .before .before .before .before .args .text .now) (c .before .before .before .before .before .args .cursor)) (c .before .before .before .before .before .pre .1)) (subst (HeadAnswer (c .before .before .before .before .before .args .text .now) (c .before .before .before .before .before .args .cursor)) (c .enum-told .given .1) (c .before .before .first-field .ensures))
+returns c =
+    let first-field = c .before .before in
+    let entry = first-field .before .before .before in
+    let left = left-some (rest (entry .args .text .now) (entry .args .cursor)) (entry .pre .1) in
+    no-comma (entry .args .text .now) (entry .args .cursor) left (subst (HeadAnswer (entry .args .text .now) (entry .args .cursor)) (c .enum-told .given .1) (first-field .first-field .ensures))
 
 sub-same : tie.Need-sub-same
-sub-same c = (subst (HeadAnswer (c .before .before .before .before .before .before .args .text .now) (c .before .before .before .before .before .before .args .cursor)) (c .before .from .given .1) (c .before .before .before .first-field .ensures)) .0
+sub-same c =
+    let from = c .before in
+    let first-field = from .before .before in
+    let entry = first-field .before .before .before in
+    let head = subst (HeadAnswer (entry .args .text .now) (entry .args .cursor)) (from .from .given .1) (first-field .first-field .ensures) in
+    head .0
 
 part-same-start : tie.Need-part-same-start
-part-same-start c = (subst (HeadAnswer (c .before .before .before .before .before .before .args .text .now) (c .before .before .before .before .before .before .args .cursor)) (c .before .from .given .1) (c .before .before .before .first-field .ensures)) .0
+part-same-start c =
+    let from = c .before in
+    let first-field = from .before .before in
+    let entry = first-field .before .before .before in
+    let head = subst (HeadAnswer (entry .args .text .now) (entry .args .cursor)) (from .from .given .1) (first-field .first-field .ensures) in
+    head .0
 
 part-same-end : tie.Need-part-same-end
-part-same-end c = (subst (HeadAnswer (c .before .before .before .before .before .before .args .text .now) (c .before .before .before .before .before .before .args .cursor)) (c .before .from .given .1) (c .before .before .before .first-field .ensures)) .1
+part-same-end c =
+    let from = c .before in
+    let first-field = from .before .before in
+    let entry = first-field .before .before .before in
+    let head = subst (HeadAnswer (entry .args .text .now) (entry .args .cursor)) (from .from .given .1) (first-field .first-field .ensures) in
+    head .1
 
 slice-aggregate-same : tie.Need-slice-aggregate-same
 slice-aggregate-same c = search needs
@@ -53,13 +67,26 @@ same-requires c κs = search needs
 
 returns-2 : tie.Need-returns-2
 unfolding bytes
-returns-2 c = no-header (c .before .before .before .before .before .before .before .before .before .before .args .text .now) (c .before .before .before .before .before .before .before .before .before .before .args .cursor) (left-some (rest (c .before .before .before .before .before .before .before .before .before .before .args .text .now) (c .before .before .before .before .before .before .before .before .before .before .args .cursor)) (c .before .before .before .before .before .before .before .before .before .before .pre .1)) (ap (λ (f : List ℕ). same f (bytes "C")) (sym ((subst (HeadAnswer (c .before .before .before .before .before .before .before .before .before .before .args .text .now) (c .before .before .before .before .before .before .before .before .before .before .args .cursor)) (c .before .before .before .before .before .from .given .1) (c .before .before .before .before .before .before .before .first-field .ensures)) .2)) ∙ sym (c .before .same .ensures) ∙ untrue _ (c .if1 .taken))
+returns-2 c =
+    let compared = c .before in
+    let from = compared .before .before .before .before in
+    let first-field = from .before .before in
+    let entry = first-field .before .before .before in
+    let left = left-some (rest (entry .args .text .now) (entry .args .cursor)) (entry .pre .1) in
+    let head = subst (HeadAnswer (entry .args .text .now) (entry .args .cursor)) (from .from .given .1) (first-field .first-field .ensures) in
+    let spelled = ap (λ (f : List ℕ). same f (bytes "C")) (sym (head .2)) ∙ sym (compared .same .ensures) ∙ untrue _ (c .if1 .taken) in
+    no-header (entry .args .text .now) (entry .args .cursor) left spelled
 
 slice-aggregate-numbers : tie.Need-slice-aggregate-numbers
 slice-aggregate-numbers c = search needs
 
 numbers-requires : tie.Need-numbers-requires
-numbers-requires c κs = (comma-placed _ _ _ (c .before .before .before .before .before .before .before .before .before .before .before .pre .0 .placed) ((subst (HeadAnswer (c .before .before .before .before .before .before .before .before .before .before .before .args .text .now) (c .before .before .before .before .before .before .before .before .before .before .before .args .cursor)) (c .before .before .before .before .before .before .from .given .1) (c .before .before .before .before .before .before .before .before .first-field .ensures)) .3) ((subst (HeadAnswer (c .before .before .before .before .before .before .before .before .before .before .before .args .text .now) (c .before .before .before .before .before .before .before .before .before .before .before .args .cursor)) (c .before .before .before .before .before .before .from .given .1) (c .before .before .before .before .before .before .before .before .first-field .ensures)) .4))
+numbers-requires c κs =
+    let from = c .before .before .before .before .before .before in
+    let first-field = from .before .before in
+    let entry = first-field .before .before .before in
+    let head = subst (HeadAnswer (entry .args .text .now) (entry .args .cursor)) (from .from .given .1) (first-field .first-field .ensures) in
+    comma-placed _ _ _ (entry .pre .0 .placed) (head .3) (head .4)
 
 enum-known-read : tie.Need-enum-known-read
 enum-known-read c = search needs
@@ -69,7 +96,17 @@ enum-told-2 c = search needs
 
 returns-3 : tie.Need-returns-3
 unfolding bytes
-returns-3 c = header-form (c .before .before .before .before .before .before .before .before .before .before .before .before .before .before .before .args .text .now) (c .before .before .before .before .before .before .before .before .before .before .before .before .before .before .before .args .cursor) (left-some (rest (c .before .before .before .before .before .before .before .before .before .before .before .before .before .before .before .args .text .now) (c .before .before .before .before .before .before .before .before .before .before .before .before .before .before .before .args .cursor)) (c .before .before .before .before .before .before .before .before .before .before .before .before .before .before .before .pre .1)) (c .before .before .before .before .before .before .before .before .before .before .before .before .before .before .before .pre .0 .placed) ((subst (HeadAnswer (c .before .before .before .before .before .before .before .before .before .before .before .before .before .before .before .args .text .now) (c .before .before .before .before .before .before .before .before .before .before .before .before .before .before .before .args .cursor)) (c .before .before .before .before .before .before .before .before .before .before .from .given .1) (c .before .before .before .before .before .before .before .before .before .before .before .before .first-field .ensures)) .3) _ ((subst (HeadAnswer (c .before .before .before .before .before .before .before .before .before .before .before .before .before .before .before .args .text .now) (c .before .before .before .before .before .before .before .before .before .before .before .before .before .before .before .args .cursor)) (c .before .before .before .before .before .before .before .before .before .before .from .given .1) (c .before .before .before .before .before .before .before .before .before .before .before .before .first-field .ensures)) .4) (ap (λ (f : List ℕ). same f (bytes "C")) (sym ((subst (HeadAnswer (c .before .before .before .before .before .before .before .before .before .before .before .before .before .before .before .args .text .now) (c .before .before .before .before .before .before .before .before .before .before .before .before .before .before .before .args .cursor)) (c .before .before .before .before .before .before .before .before .before .before .from .given .1) (c .before .before .before .before .before .before .before .before .before .before .before .before .first-field .ensures)) .2)) ∙ sym (c .before .before .before .before .before .before .same .ensures) ∙ unfalse _ (c .before .before .before .before .before .if1 .left)) (numbers-malformed _ _ _ _ _ (c .before .before .before .numbers .ensures) (c .enum-told2 .given .1))
+returns-3 c =
+    let numbers = c .before .before .before in
+    let else1 = numbers .before .before in
+    let compared = else1 .before in
+    let from = compared .before .before .before .before in
+    let first-field = from .before .before in
+    let entry = first-field .before .before .before in
+    let left = left-some (rest (entry .args .text .now) (entry .args .cursor)) (entry .pre .1) in
+    let head = subst (HeadAnswer (entry .args .text .now) (entry .args .cursor)) (from .from .given .1) (first-field .first-field .ensures) in
+    let spelled = ap (λ (f : List ℕ). same f (bytes "C")) (sym (head .2)) ∙ sym (compared .same .ensures) ∙ unfalse _ (else1 .if1 .left) in
+    header-form (entry .args .text .now) (entry .args .cursor) left (entry .pre .0 .placed) (head .3) _ (head .4) spelled (numbers-none (numbers .numbers .ensures) 4 refl (c .enum-told2 .given .1) .0)
 
 array-read-denominator : tie.Need-array-read-denominator
 array-read-denominator c = search needs
@@ -88,7 +125,22 @@ header-fits-requires c κs = search needs
 
 returns-4 : tie.Need-returns-4
 unfolding bytes
-returns-4 c = header-range (c .before .before .before .before .before .before .before .before .before .before .before .before .before .before .before .before .before .before .args .text .now) (c .before .before .before .before .before .before .before .before .before .before .before .before .before .before .before .before .before .before .args .cursor) (left-some (rest (c .before .before .before .before .before .before .before .before .before .before .before .before .before .before .before .before .before .before .args .text .now) (c .before .before .before .before .before .before .before .before .before .before .before .before .before .before .before .before .before .before .args .cursor)) (c .before .before .before .before .before .before .before .before .before .before .before .before .before .before .before .before .before .before .pre .1)) (c .before .before .before .before .before .before .before .before .before .before .before .before .before .before .before .before .before .before .pre .0 .placed) ((subst (HeadAnswer (c .before .before .before .before .before .before .before .before .before .before .before .before .before .before .before .before .before .before .args .text .now) (c .before .before .before .before .before .before .before .before .before .before .before .before .before .before .before .before .before .before .args .cursor)) (c .before .before .before .before .before .before .before .before .before .before .before .before .before .from .given .1) (c .before .before .before .before .before .before .before .before .before .before .before .before .before .before .before .first-field .ensures)) .3) _ ((subst (HeadAnswer (c .before .before .before .before .before .before .before .before .before .before .before .before .before .before .before .before .before .before .args .text .now) (c .before .before .before .before .before .before .before .before .before .before .before .before .before .before .before .before .before .before .args .cursor)) (c .before .before .before .before .before .before .before .before .before .before .before .before .before .from .given .1) (c .before .before .before .before .before .before .before .before .before .before .before .before .before .before .before .first-field .ensures)) .4) (ap (λ (f : List ℕ). same f (bytes "C")) (sym ((subst (HeadAnswer (c .before .before .before .before .before .before .before .before .before .before .before .before .before .before .before .before .before .before .args .text .now) (c .before .before .before .before .before .before .before .before .before .before .before .before .before .before .before .before .before .before .args .cursor)) (c .before .before .before .before .before .before .before .before .before .before .before .before .before .from .given .1) (c .before .before .before .before .before .before .before .before .before .before .before .before .before .before .before .first-field .ensures)) .2)) ∙ sym (c .before .before .before .before .before .before .before .before .before .same .ensures) ∙ unfalse _ (c .before .before .before .before .before .before .before .before .if1 .left)) (c .before .before .before .before .before .before .numbers .last .1 .1 .0) _ (numbers-found _ _ _ _ _ (c .before .before .before .before .before .before .numbers .ensures) (comma-placed _ _ _ (c .before .before .before .before .before .before .before .before .before .before .before .before .before .before .before .before .before .before .pre .0 .placed) ((subst (HeadAnswer (c .before .before .before .before .before .before .before .before .before .before .before .before .before .before .before .before .before .before .args .text .now) (c .before .before .before .before .before .before .before .before .before .before .before .before .before .before .before .before .before .before .args .cursor)) (c .before .before .before .before .before .before .before .before .before .before .before .before .before .from .given .1) (c .before .before .before .before .before .before .before .before .before .before .before .before .before .before .before .first-field .ensures)) .3) ((subst (HeadAnswer (c .before .before .before .before .before .before .before .before .before .before .before .before .before .before .before .before .before .before .args .text .now) (c .before .before .before .before .before .before .before .before .before .before .before .before .before .before .before .before .before .before .args .cursor)) (c .before .before .before .before .before .before .before .before .before .before .before .before .before .from .given .1) (c .before .before .before .before .before .before .before .before .before .before .before .before .before .before .before .first-field .ensures)) .4)) _ (c .before .before .before .read .given .1)) (ap (allInRange headerRanges) (four (c .before .before .before .before .before .before .numbers .last .1 .1 .0) (c .before .before .before .before .before .before .numbers .kept .1 .1 .0)) ∙ sym (c .before .header-fits .ensures) ∙ untrue _ (c .if2 .taken))
+returns-4 c =
+    let header-fits = c .before in
+    let read = header-fits .before .before in
+    let numbers = read .before .before .before in
+    let else1 = numbers .before .before in
+    let compared = else1 .before in
+    let from = compared .before .before .before .before in
+    let first-field = from .before .before in
+    let entry = first-field .before .before .before in
+    let left = left-some (rest (entry .args .text .now) (entry .args .cursor)) (entry .pre .1) in
+    let head = subst (HeadAnswer (entry .args .text .now) (entry .args .cursor)) (from .from .given .1) (first-field .first-field .ensures) in
+    let spelled = ap (λ (f : List ℕ). same f (bytes "C")) (sym (head .2)) ∙ sym (compared .same .ensures) ∙ unfalse _ (else1 .if1 .left) in
+    let behind = comma-placed _ _ _ (entry .pre .0 .placed) (head .3) (head .4) in
+    let found = numbers-read (numbers .numbers .ensures) 4 refl behind (read .read .given .1) in
+    let fit = ap (allInRange headerRanges) (four (numbers .numbers .last .1 .1 .0) (found .long)) ∙ sym (header-fits .header-fits .ensures) ∙ untrue _ (c .if2 .taken) in
+    header-range (entry .args .text .now) (entry .args .cursor) left (entry .pre .0 .placed) (head .3) _ (head .4) spelled (numbers .numbers .last .1 .1 .0) _ found fit
 
 index-requires : tie.Need-index-requires
 index-requires c κs = search needs
@@ -101,7 +153,25 @@ index-requires-3 c κs = search needs
 
 returns-5 : tie.Need-returns-5
 unfolding bytes
-returns-5 c = let line = (numbers-found _ _ _ _ _ (c .before .before .before .before .before .before .before .before .before .numbers .ensures) (comma-placed _ _ _ (c .before .before .before .before .before .before .before .before .before .before .before .before .before .before .before .before .before .before .before .before .before .pre .0 .placed) ((subst (HeadAnswer (c .before .before .before .before .before .before .before .before .before .before .before .before .before .before .before .before .before .before .before .before .before .args .text .now) (c .before .before .before .before .before .before .before .before .before .before .before .before .before .before .before .before .before .before .before .before .before .args .cursor)) (c .before .before .before .before .before .before .before .before .before .before .before .before .before .before .before .before .from .given .1) (c .before .before .before .before .before .before .before .before .before .before .before .before .before .before .before .before .before .before .first-field .ensures)) .3) ((subst (HeadAnswer (c .before .before .before .before .before .before .before .before .before .before .before .before .before .before .before .before .before .before .before .before .before .args .text .now) (c .before .before .before .before .before .before .before .before .before .before .before .before .before .before .before .before .before .before .before .before .before .args .cursor)) (c .before .before .before .before .before .before .before .before .before .before .before .before .before .before .before .before .from .given .1) (c .before .before .before .before .before .before .before .before .before .before .before .before .before .before .before .before .before .before .first-field .ensures)) .4)) _ (c .before .before .before .before .before .before .read .given .1)) in let good = (ap (allInRange headerRanges) (four (c .before .before .before .before .before .before .before .before .before .numbers .last .1 .1 .0) (c .before .before .before .before .before .before .before .before .before .numbers .kept .1 .1 .0)) ∙ sym (c .before .before .before .before .header-fits .ensures) ∙ unfalse _ (c .before .before .before .if2 .left)) in let told = header-told (c .before .before .before .before .before .before .before .before .before .numbers .last .1 .1 .0) _ _ _ (c .before .before .index .ensures .0) (c .before .index2 .ensures .0) (c .index3 .ensures .0) in (on-header (header-on (c .before .before .before .before .before .before .before .before .before .before .before .before .before .before .before .before .before .before .before .before .before .args .text .now) (c .before .before .before .before .before .before .before .before .before .before .before .before .before .before .before .before .before .before .before .before .before .args .cursor) (left-some (rest (c .before .before .before .before .before .before .before .before .before .before .before .before .before .before .before .before .before .before .before .before .before .args .text .now) (c .before .before .before .before .before .before .before .before .before .before .before .before .before .before .before .before .before .before .before .before .before .args .cursor)) (c .before .before .before .before .before .before .before .before .before .before .before .before .before .before .before .before .before .before .before .before .before .pre .1)) (c .before .before .before .before .before .before .before .before .before .before .before .before .before .before .before .before .before .before .before .before .before .pre .0 .placed) ((subst (HeadAnswer (c .before .before .before .before .before .before .before .before .before .before .before .before .before .before .before .before .before .before .before .before .before .args .text .now) (c .before .before .before .before .before .before .before .before .before .before .before .before .before .before .before .before .before .before .before .before .before .args .cursor)) (c .before .before .before .before .before .before .before .before .before .before .before .before .before .before .before .before .from .given .1) (c .before .before .before .before .before .before .before .before .before .before .before .before .before .before .before .before .before .before .first-field .ensures)) .3) _ ((subst (HeadAnswer (c .before .before .before .before .before .before .before .before .before .before .before .before .before .before .before .before .before .before .before .before .before .args .text .now) (c .before .before .before .before .before .before .before .before .before .before .before .before .before .before .before .before .before .before .before .before .before .args .cursor)) (c .before .before .before .before .before .before .before .before .before .before .before .before .before .before .before .before .from .given .1) (c .before .before .before .before .before .before .before .before .before .before .before .before .before .before .before .before .before .before .first-field .ensures)) .4) (ap (λ (f : List ℕ). same f (bytes "C")) (sym ((subst (HeadAnswer (c .before .before .before .before .before .before .before .before .before .before .before .before .before .before .before .before .before .before .before .before .before .args .text .now) (c .before .before .before .before .before .before .before .before .before .before .before .before .before .before .before .before .before .before .before .before .before .args .cursor)) (c .before .before .before .before .before .before .before .before .before .before .before .before .before .before .before .before .from .given .1) (c .before .before .before .before .before .before .before .before .before .before .before .before .before .before .before .before .before .before .first-field .ensures)) .2)) ∙ sym (c .before .before .before .before .before .before .before .before .before .before .before .before .same .ensures) ∙ unfalse _ (c .before .before .before .before .before .before .before .before .before .before .before .if1 .left)) (c .before .before .before .before .before .before .before .before .before .numbers .last .1 .1 .0) _ line good) told, line .placed, made-small (c .before .before .before .before .before .before .before .before .before .numbers .last .1 .1 .0) _ _ _ (c .before .before .index .ensures .0) (c .before .index2 .ensures .0) (c .index3 .ensures .0) (c .before .before .before .before .before .before .before .before .before .numbers .kept .1 .1 .0) good)
+returns-5 c =
+    let index2 = c .before in
+    let index = index2 .before in
+    let else2 = index .before in
+    let header-fits = else2 .before in
+    let read = header-fits .before .before in
+    let numbers = read .before .before .before in
+    let else1 = numbers .before .before in
+    let compared = else1 .before in
+    let from = compared .before .before .before .before in
+    let first-field = from .before .before in
+    let entry = first-field .before .before .before in
+    let left = left-some (rest (entry .args .text .now) (entry .args .cursor)) (entry .pre .1) in
+    let head = subst (HeadAnswer (entry .args .text .now) (entry .args .cursor)) (from .from .given .1) (first-field .first-field .ensures) in
+    let spelled = ap (λ (f : List ℕ). same f (bytes "C")) (sym (head .2)) ∙ sym (compared .same .ensures) ∙ unfalse _ (else1 .if1 .left) in
+    let behind = comma-placed _ _ _ (entry .pre .0 .placed) (head .3) (head .4) in
+    let found = numbers-read (numbers .numbers .ensures) 4 refl behind (read .read .given .1) in
+    let fit = ap (allInRange headerRanges) (four (numbers .numbers .last .1 .1 .0) (found .long)) ∙ sym (header-fits .header-fits .ensures) ∙ unfalse _ (else2 .if2 .left) in
+    (on-header (header-on (entry .args .text .now) (entry .args .cursor) left (entry .pre .0 .placed) (head .3) _ (head .4) spelled (numbers .numbers .last .1 .1 .0) _ found fit) (header-told (numbers .numbers .last .1 .1 .0) _ _ _ (index .index .ensures .0) (index2 .index2 .ensures .0) (c .index3 .ensures .0)), found .placed, made-small (numbers .numbers .last .1 .1 .0) _ _ _ (index .index .ensures .0) (index2 .index2 .ensures .0) (c .index3 .ensures .0) (found .long) fit)
 
 pub header-line-spec : {M : Type 1} → statement M
 header-line-spec =

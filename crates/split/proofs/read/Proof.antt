@@ -1,15 +1,10 @@
+-- The header, and then the lines behind it.
+use borrow.Author.Needs.{needs}
 use mathlib.Core.Path.{sym, _∙_}
 use native.Mathlib.Omega.{arith}
 use Rattle.split.proofs.WholeLaws.{top-placed, read-empty, read-header-stop, header-placed, header-small, read-body-stop, read-whole}
-use borrow.Author.Needs.{needs}
 use Rattle.split.proofs.read.Statement.{statement}
 use Rattle.split.proofs.read.Tie as tie
-use Rattle.split.proofs.read.Reads as reads
-use Rattle.split.proofs.read.Lts as lts
-use Rattle.lexer.proofs.Cursor.at_end.Reads as at-end-reads
-use Rattle.lexer.proofs.Cursor.start.Reads as start-reads
-use Rattle.split.proofs.header_line.Reads as header-line-reads
-use Rattle.split.proofs.read_body.Reads as read-body-reads
 
 start-requires : tie.Need-start-requires
 start-requires c κs = search needs
@@ -18,16 +13,33 @@ at-end-requires : tie.Need-at-end-requires
 at-end-requires c κs = search needs
 
 returns : tie.Need-returns
-returns c = read-empty (c .before .before .before .before .before .args .text .now) (c .before .before .start .result) (c .before .before .start .ensures) (sym (c .before .at-end .ensures) ∙ c .if1 .taken) (c .before .before .before .before .before .args .steps) (c .before .before .before .before .before .args .work .now)
+returns c =
+    let at-end = c .before in
+    let start = at-end .before in
+    let entry = start .before .before .before in
+    read-empty (entry .args .text .now) (start .start .result) (start .start .ensures) (sym (at-end .at-end .ensures) ∙ c .if1 .taken) (entry .args .steps) (entry .args .work .now)
 
 header-line-requires : tie.Need-header-line-requires
-header-line-requires c κs = (record { placed = top-placed (c .before .before .before .before .before .args .text .now) (c .before .before .start .result) (c .before .before .start .ensures) (omega (arith, c .before .before .before .before .before .pre .0)); fits = c .before .before .before .before .before .pre .0 }, (sym (c .before .at-end .ensures) ∙ c .if1 .left))
+header-line-requires c κs =
+    let at-end = c .before in
+    let start = at-end .before in
+    let entry = start .before .before .before in
+    let left = sym (at-end .at-end .ensures) ∙ c .if1 .left in
+    (record { placed = top-placed (entry .args .text .now) (start .start .result) (start .start .ensures) (omega (arith, entry .pre .0)); fits = entry .pre .0 }, left)
 
 enum-known-first : tie.Need-enum-known-first
 enum-known-first c = search needs
 
 read-body-requires : tie.Need-read-body-requires
-read-body-requires c κs = (record { placed = header-placed (c .before .before .before .before .before .before .before .before .before .before .args .text .now) (c .before .before .before .before .before .before .before .start .result) (c .before .before .before .before .before .before .before .start .ensures) (sym (c .before .before .before .before .before .before .at-end .ensures) ∙ c .before .before .before .before .before .if1 .left) (c .before .before .before .before .header-line .result) (c .before .before .before .before .header-line .ensures) (c .before .before .first .given .0 .0) (c .before .before .first .given .0 .1 .0) (c .before .before .first .given .1); fits = c .before .before .before .before .before .before .before .before .before .before .pre .0 }, header-small (c .before .before .before .before .before .before .before .before .before .before .args .text .now) (c .before .before .before .before .before .before .before .start .result) (c .before .before .before .before .before .before .before .start .ensures) (sym (c .before .before .before .before .before .before .at-end .ensures) ∙ c .before .before .before .before .before .if1 .left) (c .before .before .before .before .header-line .result) (c .before .before .before .before .header-line .ensures) (c .before .before .first .given .0 .0) (c .before .before .first .given .0 .1 .0) (c .before .before .first .given .1), c .before .before .before .before .before .before .before .before .before .before .pre .1, c .before .before .before .before .before .before .before .before .before .before .pre .2)
+read-body-requires c κs =
+    let first = c .before .before in
+    let header-line = first .before .before in
+    let else1 = header-line .before in
+    let at-end = else1 .before in
+    let start = at-end .before in
+    let entry = start .before .before .before in
+    let left = sym (at-end .at-end .ensures) ∙ else1 .if1 .left in
+    (record { placed = header-placed (entry .args .text .now) (start .start .result) (start .start .ensures) left (header-line .header-line .result) (header-line .header-line .ensures) (first .first .given .0 .0) (first .first .given .0 .1 .0) (first .first .given .1); fits = entry .pre .0 }, header-small (entry .args .text .now) (start .start .result) (start .start .ensures) left (header-line .header-line .result) (header-line .header-line .ensures) (first .first .given .0 .0) (first .first .given .0 .1 .0) (first .first .given .1), entry .pre .1, entry .pre .2)
 
 enum-told : tie.Need-enum-told
 enum-told c = search needs
@@ -42,16 +54,43 @@ same-length : tie.Need-same-length
 same-length c = search needs
 
 returns-2 : tie.Need-returns-2
-returns-2 c = read-whole (c .before .before .before .before .before .before .before .before .before .before .before .before .before .before .before .args .text .now) (c .before .before .before .before .before .before .before .before .before .before .before .before .start .result) (c .before .before .before .before .before .before .before .before .before .before .before .before .start .ensures) (sym (c .before .before .before .before .before .before .before .before .before .before .before .at-end .ensures) ∙ c .before .before .before .before .before .before .before .before .before .before .if1 .left) (c .before .before .before .before .before .before .before .before .before .header-line .result) (c .before .before .before .before .before .before .before .before .before .header-line .ensures) (c .before .before .before .before .before .before .before .first .given .0 .0) (c .before .before .before .before .before .before .before .first .given .0 .1 .0) (c .before .before .before .before .before .before .before .first .given .1) (c .before .before .before .before .before .before .before .before .before .before .before .before .before .before .before .args .steps) (c .before .before .before .before .before .before .before .before .before .before .before .before .before .before .before .args .work .now) (c .before .before .before .before .read-body .last .1 .1 .1 .1 .0) (c .before .before .before .before .read-body .result) (c .before .before .before .before .read-body .ensures) _ (c .enum-told .given .1)
+returns-2 c =
+    let read-body = c .before .before .before .before in
+    let first = read-body .before .before .before in
+    let header-line = first .before .before in
+    let else1 = header-line .before in
+    let at-end = else1 .before in
+    let start = at-end .before in
+    let entry = start .before .before .before in
+    let left = sym (at-end .at-end .ensures) ∙ else1 .if1 .left in
+    read-whole (entry .args .text .now) (start .start .result) (start .start .ensures) left (header-line .header-line .result) (header-line .header-line .ensures) (first .first .given .0 .0) (first .first .given .0 .1 .0) (first .first .given .1) (entry .args .steps) (entry .args .work .now) (read-body .read-body .last .1 .1 .1 .1 .0) (read-body .read-body .result) (read-body .read-body .ensures) _ (c .enum-told .given .1)
 
 same-length-2 : tie.Need-same-length-2
 same-length-2 c = search needs
 
 returns-3 : tie.Need-returns-3
-returns-3 c = read-body-stop (c .before .before .before .before .before .before .before .before .before .before .before .before .before .before .before .before .args .text .now) (c .before .before .before .before .before .before .before .before .before .before .before .before .before .start .result) (c .before .before .before .before .before .before .before .before .before .before .before .before .before .start .ensures) (sym (c .before .before .before .before .before .before .before .before .before .before .before .before .at-end .ensures) ∙ c .before .before .before .before .before .before .before .before .before .before .before .if1 .left) (c .before .before .before .before .before .before .before .before .before .before .header-line .result) (c .before .before .before .before .before .before .before .before .before .before .header-line .ensures) (c .before .before .before .before .before .before .before .before .first .given .0 .0) (c .before .before .before .before .before .before .before .before .first .given .0 .1 .0) (c .before .before .before .before .before .before .before .before .first .given .1) (c .before .before .before .before .before .before .before .before .before .before .before .before .before .before .before .before .args .steps) (c .before .before .before .before .before .before .before .before .before .before .before .before .before .before .before .before .args .work .now) (c .before .before .before .before .before .read-body .last .1 .1 .1 .1 .0) (c .before .before .before .before .before .read-body .result) (c .before .before .before .before .before .read-body .ensures) _ (c .before .body .given .1)
+returns-3 c =
+    let body = c .before in
+    let read-body = body .before .before .before .before in
+    let first = read-body .before .before .before in
+    let header-line = first .before .before in
+    let else1 = header-line .before in
+    let at-end = else1 .before in
+    let start = at-end .before in
+    let entry = start .before .before .before in
+    let left = sym (at-end .at-end .ensures) ∙ else1 .if1 .left in
+    read-body-stop (entry .args .text .now) (start .start .result) (start .start .ensures) left (header-line .header-line .result) (header-line .header-line .ensures) (first .first .given .0 .0) (first .first .given .0 .1 .0) (first .first .given .1) (entry .args .steps) (entry .args .work .now) (read-body .read-body .last .1 .1 .1 .1 .0) (read-body .read-body .result) (read-body .read-body .ensures) _ (body .body .given .1)
 
 returns-4 : tie.Need-returns-4
-returns-4 c = read-header-stop (c .before .before .before .before .before .before .before .before .before .args .text .now) (c .before .before .before .before .before .before .start .result) (c .before .before .before .before .before .before .start .ensures) (sym (c .before .before .before .before .before .at-end .ensures) ∙ c .before .before .before .before .if1 .left) (c .before .before .before .header-line .result) (c .before .before .before .header-line .ensures) _ (c .before .first2 .given .1) (c .before .before .before .before .before .before .before .before .before .args .steps) (c .before .before .before .before .before .before .before .before .before .args .work .now)
+returns-4 c =
+    let first2 = c .before in
+    let header-line = first2 .before .before in
+    let else1 = header-line .before in
+    let at-end = else1 .before in
+    let start = at-end .before in
+    let entry = start .before .before .before in
+    let left = sym (at-end .at-end .ensures) ∙ else1 .if1 .left in
+    read-header-stop (entry .args .text .now) (start .start .result) (start .start .ensures) left (header-line .header-line .result) (header-line .header-line .ensures) _ (first2 .first2 .given .1) (entry .args .steps) (entry .args .work .now)
 
 pub read-spec : {M : Type 1} → statement M
 read-spec =

@@ -1,14 +1,9 @@
+-- The parts behind the header, one after the other: each begins where the one before it ends.
+use borrow.Author.Needs.{needs}
 use mathlib.Core.Path.{_∙_}
 use Rattle.split.proofs.SheetLaws.{types-stop, types-placed, maps-stop, maps-placed, rows-stop, rows-placed, body-read}
-use borrow.Author.Needs.{needs}
 use Rattle.split.proofs.read_body.Statement.{statement}
 use Rattle.split.proofs.read_body.Tie as tie
-use Rattle.split.proofs.read_body.Reads as reads
-use Rattle.split.proofs.read_body.Lts as lts
-use Rattle.split.proofs.finish.Reads as finish-reads
-use Rattle.split.proofs.read_maps.Reads as read-maps-reads
-use Rattle.split.proofs.read_rows.Reads as read-rows-reads
-use Rattle.split.proofs.read_types.Reads as read-types-reads
 
 read-types-requires : tie.Need-read-types-requires
 read-types-requires c κs = search needs
@@ -23,10 +18,17 @@ same-length : tie.Need-same-length
 same-length c = search needs
 
 returns : tie.Need-returns
-returns c = types-stop (c .before .before .before .before .before .before .before .before .args .header) (c .before .before .before .before .before .before .before .before .pre .1) (c .before .before .before .before .before .before .before .before .args .steps) (c .before .before .before .before .before .before .before .before .pre .2) (c .before .before .before .before .before .before .before .before .args .text .now) (c .before .before .before .before .before .before .before .before .args .from) (c .before .before .before .before .before .before .before .before .args .work .now) (c .before .before .before .before .read-types .last .1 .1 .1 .0) (c .before .before .before .before .read-types .result) (c .before .before .before .before .read-types .ensures) _ (c .enum-told .given .1)
+returns c =
+    let read-types = c .before .before .before .before in
+    let entry = read-types .before .before .before .before in
+    types-stop (entry .args .header) (entry .pre .1) (entry .args .steps) (entry .pre .2) (entry .args .text .now) (entry .args .from) (entry .args .work .now) (read-types .read-types .last .1 .1 .1 .0) (read-types .read-types .result) (read-types .read-types .ensures) _ (c .enum-told .given .1)
 
 read-maps-requires : tie.Need-read-maps-requires
-read-maps-requires c κs = (record { placed = types-placed (c .before .before .before .before .before .before .before .before .before .before .args .header) (c .before .before .before .before .before .before .before .before .before .before .pre .1) (c .before .before .before .before .before .before .before .before .before .before .args .steps) (c .before .before .before .before .before .before .before .before .before .before .pre .2) (c .before .before .before .before .before .before .before .before .before .before .args .text .now) (c .before .before .before .before .before .before .before .before .before .before .args .from) (c .before .before .before .before .before .before .before .before .before .before .args .work .now) (c .before .before .before .before .before .before .read-types .last .1 .1 .1 .0) (c .before .before .before .before .before .before .read-types .result) (c .before .before .before .before .before .before .read-types .ensures) (c .before .before .types .given .0 .0) (c .before .before .types .given .1); fits = c .before .before .before .before .before .before .before .before .before .before .pre .0 .fits }, (c .before .before .before .before .before .before .before .before .before .before .pre .1), c .before .before .before .before .before .before .read-types .ensures .changed .long ∙ c .before .before .before .before .before .before .before .before .before .before .pre .3)
+read-maps-requires c κs =
+    let types = c .before .before in
+    let read-types = types .before .before .before .before in
+    let entry = read-types .before .before .before .before in
+    (record { placed = types-placed (entry .args .header) (entry .pre .1) (entry .args .steps) (entry .pre .2) (entry .args .text .now) (entry .args .from) (entry .args .work .now) (read-types .read-types .last .1 .1 .1 .0) (read-types .read-types .result) (read-types .read-types .ensures) (types .types .given .0 .0) (types .types .given .1); fits = entry .pre .0 .fits }, entry .pre .1, read-types .read-types .ensures .changed .long ∙ entry .pre .3)
 
 enum-known-maps : tie.Need-enum-known-maps
 enum-known-maps c = search needs
@@ -38,10 +40,21 @@ same-length-2 : tie.Need-same-length-2
 same-length-2 c = search needs
 
 returns-2 : tie.Need-returns-2
-returns-2 c = maps-stop (c .before .before .before .before .before .before .before .before .before .before .before .before .before .before .before .args .header) (c .before .before .before .before .before .before .before .before .before .before .before .before .before .before .before .pre .1) (c .before .before .before .before .before .before .before .before .before .before .before .before .before .before .before .args .steps) (c .before .before .before .before .before .before .before .before .before .before .before .before .before .before .before .pre .2) (c .before .before .before .before .before .before .before .before .before .before .before .before .before .before .before .args .text .now) (c .before .before .before .before .before .before .before .before .before .before .before .before .before .before .before .args .from) (c .before .before .before .before .before .before .before .before .before .before .before .before .before .before .before .args .work .now) (c .before .before .before .before .before .before .before .before .before .before .before .read-types .last .1 .1 .1 .0) (c .before .before .before .before .before .before .before .before .before .before .before .read-types .result) (c .before .before .before .before .before .before .before .before .before .before .before .read-types .ensures) (c .before .before .before .before .before .before .before .types .given .0 .0) (c .before .before .before .before .before .before .before .types .given .1) (c .before .before .before .before .read-maps .last .1 .1 .1 .0) (c .before .before .before .before .read-maps .result) (c .before .before .before .before .read-maps .ensures) _ (c .enum-told2 .given .1)
+returns-2 c =
+    let read-maps = c .before .before .before .before in
+    let types = read-maps .before .before .before in
+    let read-types = types .before .before .before .before in
+    let entry = read-types .before .before .before .before in
+    maps-stop (entry .args .header) (entry .pre .1) (entry .args .steps) (entry .pre .2) (entry .args .text .now) (entry .args .from) (entry .args .work .now) (read-types .read-types .last .1 .1 .1 .0) (read-types .read-types .result) (read-types .read-types .ensures) (types .types .given .0 .0) (types .types .given .1) (read-maps .read-maps .last .1 .1 .1 .0) (read-maps .read-maps .result) (read-maps .read-maps .ensures) _ (c .enum-told2 .given .1)
 
 read-rows-requires : tie.Need-read-rows-requires
-read-rows-requires c κs = (record { placed = maps-placed (c .before .before .before .before .before .before .before .before .before .before .before .before .before .before .before .before .before .args .header) (c .before .before .before .before .before .before .before .before .before .before .before .before .before .before .before .before .before .pre .1) (c .before .before .before .before .before .before .before .before .before .before .before .before .before .before .before .before .before .args .steps) (c .before .before .before .before .before .before .before .before .before .before .before .before .before .before .before .before .before .pre .2) (c .before .before .before .before .before .before .before .before .before .before .before .before .before .before .before .before .before .args .text .now) (c .before .before .before .before .before .before .before .before .before .before .before .before .before .before .before .before .before .args .from) (c .before .before .before .before .before .before .before .before .before .before .before .before .before .before .before .before .before .args .work .now) (c .before .before .before .before .before .before .before .before .before .before .before .before .before .read-types .last .1 .1 .1 .0) (c .before .before .before .before .before .before .before .before .before .before .before .before .before .read-types .result) (c .before .before .before .before .before .before .before .before .before .before .before .before .before .read-types .ensures) (c .before .before .before .before .before .before .before .before .before .types .given .0 .0) (c .before .before .before .before .before .before .before .before .before .types .given .1) (c .before .before .before .before .before .before .read-maps .last .1 .1 .1 .0) (c .before .before .before .before .before .before .read-maps .result) (c .before .before .before .before .before .before .read-maps .ensures) (c .before .before .maps .given .0 .0) (c .before .before .maps .given .1); fits = c .before .before .before .before .before .before .before .before .before .before .before .before .before .before .before .before .before .pre .0 .fits }, (c .before .before .before .before .before .before .before .before .before .before .before .before .before .before .before .before .before .pre .2), c .before .before .before .before .before .before .read-maps .ensures .changed .long ∙ c .before .before .before .before .before .before .before .before .before .before .before .before .before .read-types .ensures .changed .long ∙ c .before .before .before .before .before .before .before .before .before .before .before .before .before .before .before .before .before .pre .3)
+read-rows-requires c κs =
+    let maps = c .before .before in
+    let read-maps = maps .before .before .before .before in
+    let types = read-maps .before .before .before in
+    let read-types = types .before .before .before .before in
+    let entry = read-types .before .before .before .before in
+    (record { placed = maps-placed (entry .args .header) (entry .pre .1) (entry .args .steps) (entry .pre .2) (entry .args .text .now) (entry .args .from) (entry .args .work .now) (read-types .read-types .last .1 .1 .1 .0) (read-types .read-types .result) (read-types .read-types .ensures) (types .types .given .0 .0) (types .types .given .1) (read-maps .read-maps .last .1 .1 .1 .0) (read-maps .read-maps .result) (read-maps .read-maps .ensures) (maps .maps .given .0 .0) (maps .maps .given .1); fits = entry .pre .0 .fits }, entry .pre .2, read-maps .read-maps .ensures .changed .long ∙ read-types .read-types .ensures .changed .long ∙ entry .pre .3)
 
 enum-known-rows : tie.Need-enum-known-rows
 enum-known-rows c = search needs
@@ -53,16 +66,39 @@ same-length-3 : tie.Need-same-length-3
 same-length-3 c = search needs
 
 returns-3 : tie.Need-returns-3
-returns-3 c = rows-stop (c .before .before .before .before .before .before .before .before .before .before .before .before .before .before .before .before .before .before .before .before .before .before .args .header) (c .before .before .before .before .before .before .before .before .before .before .before .before .before .before .before .before .before .before .before .before .before .before .pre .1) (c .before .before .before .before .before .before .before .before .before .before .before .before .before .before .before .before .before .before .before .before .before .before .args .steps) (c .before .before .before .before .before .before .before .before .before .before .before .before .before .before .before .before .before .before .before .before .before .before .pre .2) (c .before .before .before .before .before .before .before .before .before .before .before .before .before .before .before .before .before .before .before .before .before .before .args .text .now) (c .before .before .before .before .before .before .before .before .before .before .before .before .before .before .before .before .before .before .before .before .before .before .args .from) (c .before .before .before .before .before .before .before .before .before .before .before .before .before .before .before .before .before .before .before .before .before .before .args .work .now) (c .before .before .before .before .before .before .before .before .before .before .before .before .before .before .before .before .before .before .read-types .last .1 .1 .1 .0) (c .before .before .before .before .before .before .before .before .before .before .before .before .before .before .before .before .before .before .read-types .result) (c .before .before .before .before .before .before .before .before .before .before .before .before .before .before .before .before .before .before .read-types .ensures) (c .before .before .before .before .before .before .before .before .before .before .before .before .before .before .types .given .0 .0) (c .before .before .before .before .before .before .before .before .before .before .before .before .before .before .types .given .1) (c .before .before .before .before .before .before .before .before .before .before .before .read-maps .last .1 .1 .1 .0) (c .before .before .before .before .before .before .before .before .before .before .before .read-maps .result) (c .before .before .before .before .before .before .before .before .before .before .before .read-maps .ensures) (c .before .before .before .before .before .before .before .maps .given .0 .0) (c .before .before .before .before .before .before .before .maps .given .1) (c .before .before .before .before .read-rows .last .1 .1 .1 .1 .0) (c .before .before .before .before .read-rows .result) (c .before .before .before .before .read-rows .ensures) _ (c .enum-told3 .given .1)
+returns-3 c =
+    let read-rows = c .before .before .before .before in
+    let maps = read-rows .before .before .before in
+    let read-maps = maps .before .before .before .before in
+    let types = read-maps .before .before .before in
+    let read-types = types .before .before .before .before in
+    let entry = read-types .before .before .before .before in
+    rows-stop (entry .args .header) (entry .pre .1) (entry .args .steps) (entry .pre .2) (entry .args .text .now) (entry .args .from) (entry .args .work .now) (read-types .read-types .last .1 .1 .1 .0) (read-types .read-types .result) (read-types .read-types .ensures) (types .types .given .0 .0) (types .types .given .1) (read-maps .read-maps .last .1 .1 .1 .0) (read-maps .read-maps .result) (read-maps .read-maps .ensures) (maps .maps .given .0 .0) (maps .maps .given .1) (read-rows .read-rows .last .1 .1 .1 .1 .0) (read-rows .read-rows .result) (read-rows .read-rows .ensures) _ (c .enum-told3 .given .1)
 
 finish-requires : tie.Need-finish-requires
-finish-requires c κs = record { placed = rows-placed (c .before .before .before .before .before .before .before .before .before .before .before .before .before .before .before .before .before .before .before .before .before .before .before .args .header) (c .before .before .before .before .before .before .before .before .before .before .before .before .before .before .before .before .before .before .before .before .before .before .before .pre .1) (c .before .before .before .before .before .before .before .before .before .before .before .before .before .before .before .before .before .before .before .before .before .before .before .args .steps) (c .before .before .before .before .before .before .before .before .before .before .before .before .before .before .before .before .before .before .before .before .before .before .before .pre .2) (c .before .before .before .before .before .before .before .before .before .before .before .before .before .before .before .before .before .before .before .before .before .before .before .args .text .now) (c .before .before .before .before .before .before .before .before .before .before .before .before .before .before .before .before .before .before .before .before .before .before .before .args .from) (c .before .before .before .before .before .before .before .before .before .before .before .before .before .before .before .before .before .before .before .before .before .before .before .args .work .now) (c .before .before .before .before .before .before .before .before .before .before .before .before .before .before .before .before .before .before .before .read-types .last .1 .1 .1 .0) (c .before .before .before .before .before .before .before .before .before .before .before .before .before .before .before .before .before .before .before .read-types .result) (c .before .before .before .before .before .before .before .before .before .before .before .before .before .before .before .before .before .before .before .read-types .ensures) (c .before .before .before .before .before .before .before .before .before .before .before .before .before .before .before .types .given .0 .0) (c .before .before .before .before .before .before .before .before .before .before .before .before .before .before .before .types .given .1) (c .before .before .before .before .before .before .before .before .before .before .before .before .read-maps .last .1 .1 .1 .0) (c .before .before .before .before .before .before .before .before .before .before .before .before .read-maps .result) (c .before .before .before .before .before .before .before .before .before .before .before .before .read-maps .ensures) (c .before .before .before .before .before .before .before .before .maps .given .0 .0) (c .before .before .before .before .before .before .before .before .maps .given .1) (c .before .before .before .before .before .read-rows .last .1 .1 .1 .1 .0) (c .before .before .before .before .before .read-rows .result) (c .before .before .before .before .before .read-rows .ensures) (c .before .rows .given .0 .0) (c .before .rows .given .1); fits = c .before .before .before .before .before .before .before .before .before .before .before .before .before .before .before .before .before .before .before .before .before .before .before .pre .0 .fits }
+finish-requires c κs =
+    let rows = c .before in
+    let read-rows = rows .before .before .before .before in
+    let maps = read-rows .before .before .before in
+    let read-maps = maps .before .before .before .before in
+    let types = read-maps .before .before .before in
+    let read-types = types .before .before .before .before in
+    let entry = read-types .before .before .before .before in
+    record { placed = rows-placed (entry .args .header) (entry .pre .1) (entry .args .steps) (entry .pre .2) (entry .args .text .now) (entry .args .from) (entry .args .work .now) (read-types .read-types .last .1 .1 .1 .0) (read-types .read-types .result) (read-types .read-types .ensures) (types .types .given .0 .0) (types .types .given .1) (read-maps .read-maps .last .1 .1 .1 .0) (read-maps .read-maps .result) (read-maps .read-maps .ensures) (maps .maps .given .0 .0) (maps .maps .given .1) (read-rows .read-rows .last .1 .1 .1 .1 .0) (read-rows .read-rows .result) (read-rows .read-rows .ensures) (rows .rows .given .0 .0) (rows .rows .given .1); fits = entry .pre .0 .fits }
 
 same-length-4 : tie.Need-same-length-4
 same-length-4 c = search needs
 
 returns-4 : tie.Need-returns-4
-returns-4 c = body-read (c .before .before .before .before .before .before .before .before .before .before .before .before .before .before .before .before .before .before .before .before .before .before .before .before .args .header) (c .before .before .before .before .before .before .before .before .before .before .before .before .before .before .before .before .before .before .before .before .before .before .before .before .pre .1) (c .before .before .before .before .before .before .before .before .before .before .before .before .before .before .before .before .before .before .before .before .before .before .before .before .args .steps) (c .before .before .before .before .before .before .before .before .before .before .before .before .before .before .before .before .before .before .before .before .before .before .before .before .pre .2) (c .before .before .before .before .before .before .before .before .before .before .before .before .before .before .before .before .before .before .before .before .before .before .before .before .args .text .now) (c .before .before .before .before .before .before .before .before .before .before .before .before .before .before .before .before .before .before .before .before .before .before .before .before .args .from) (c .before .before .before .before .before .before .before .before .before .before .before .before .before .before .before .before .before .before .before .before .before .before .before .before .args .work .now) (c .before .before .before .before .before .before .before .before .before .before .before .before .before .before .before .before .before .before .before .before .read-types .last .1 .1 .1 .0) (c .before .before .before .before .before .before .before .before .before .before .before .before .before .before .before .before .before .before .before .before .read-types .result) (c .before .before .before .before .before .before .before .before .before .before .before .before .before .before .before .before .before .before .before .before .read-types .ensures) (c .before .before .before .before .before .before .before .before .before .before .before .before .before .before .before .before .types .given .0 .0) (c .before .before .before .before .before .before .before .before .before .before .before .before .before .before .before .before .types .given .1) (c .before .before .before .before .before .before .before .before .before .before .before .before .before .read-maps .last .1 .1 .1 .0) (c .before .before .before .before .before .before .before .before .before .before .before .before .before .read-maps .result) (c .before .before .before .before .before .before .before .before .before .before .before .before .before .read-maps .ensures) (c .before .before .before .before .before .before .before .before .before .maps .given .0 .0) (c .before .before .before .before .before .before .before .before .before .maps .given .1) (c .before .before .before .before .before .before .read-rows .last .1 .1 .1 .1 .0) (c .before .before .before .before .before .before .read-rows .result) (c .before .before .before .before .before .before .read-rows .ensures) (c .before .before .rows .given .0 .0) (c .before .before .rows .given .1) (c .finish .result) (c .finish .ensures)
+returns-4 c =
+    let rows = c .before .before in
+    let read-rows = rows .before .before .before .before in
+    let maps = read-rows .before .before .before in
+    let read-maps = maps .before .before .before .before in
+    let types = read-maps .before .before .before in
+    let read-types = types .before .before .before .before in
+    let entry = read-types .before .before .before .before in
+    body-read (entry .args .header) (entry .pre .1) (entry .args .steps) (entry .pre .2) (entry .args .text .now) (entry .args .from) (entry .args .work .now) (read-types .read-types .last .1 .1 .1 .0) (read-types .read-types .result) (read-types .read-types .ensures) (types .types .given .0 .0) (types .types .given .1) (read-maps .read-maps .last .1 .1 .1 .0) (read-maps .read-maps .result) (read-maps .read-maps .ensures) (maps .maps .given .0 .0) (maps .maps .given .1) (read-rows .read-rows .last .1 .1 .1 .1 .0) (read-rows .read-rows .result) (read-rows .read-rows .ensures) (rows .rows .given .0 .0) (rows .rows .given .1) (c .finish .result) (c .finish .ensures)
 
 pub read-body-spec : {M : Type 1} → statement M
 read-body-spec =

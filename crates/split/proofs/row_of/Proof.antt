@@ -7,9 +7,6 @@ use Rattle.split.specs.Lines.{headerTold}
 use borrow.Author.Needs.{needs}
 use Rattle.split.proofs.row_of.Statement.{statement}
 use Rattle.split.proofs.row_of.Tie as tie
-use Rattle.split.proofs.row_of.Reads as reads
-use Rattle.split.proofs.row_of.Lts as lts
-use Rattle.workspace.proofs.index.Reads as index-reads
 
 index-requires : tie.Need-index-requires
 index-requires c κs = search needs

@@ -1,16 +1,13 @@
+-- The last field of a row: nothing, a numeral, or something else.
+use borrow.Author.Needs.{needs}
 use mathlib.Core.Path.{sym, refl, _∙_}
 use mathlib.Core.Logic.{inl, inr}
-use Rattle.lexer.proofs.Places.{span-le}
 use Rattle.lexer.proofs.Digits.{numeral-small}
 use Rattle.lexer.proofs.Numerals.{numeral-value}
+use Rattle.lexer.proofs.Places.{span-le}
 use Rattle.split.proofs.FieldLaws.{ends-apart, newline-text, small, not-newline, start-empty, start-given, start-neither}
-use borrow.Author.Needs.{needs}
 use Rattle.split.proofs.start_field.Statement.{statement}
 use Rattle.split.proofs.start_field.Tie as tie
-use Rattle.split.proofs.start_field.Reads as reads
-use Rattle.split.proofs.start_field.Lts as lts
-use Rattle.lexer.proofs.Cursor.field.Reads as field-reads
-use Rattle.lexer.proofs.numeral_of.Reads as numeral-of-reads
 
 field-requires : tie.Need-field-requires
 field-requires c κs = search needs
@@ -22,16 +19,31 @@ enum-told-2 : tie.Need-enum-told-2
 enum-told-2 c = search needs
 
 returns : tie.Need-returns
-returns c = start-empty _ _ (c .before .before .before .before .field .result) (c .before .before .before .before .field .ensures) (c .before .enum-told2 .given .1) (c .if1 .taken)
+returns c =
+    let enum-told2 = c .before in
+    let field = enum-told2 .before .before .before in
+    start-empty _ _ (field .field .result) (field .field .ensures) (enum-told2 .enum-told2 .given .1) (c .if1 .taken)
 
 sub-numeral-of : tie.Need-sub-numeral-of
-sub-numeral-of c = span-le _ _ (c .before .before .before .before .field .result) (c .before .before .before .before .field .ensures) (c .before .before .before .before .before .before .pre .placed) .0
+sub-numeral-of c =
+    let field = c .before .before .before .before in
+    let entry = field .before .before in
+    let bounds = span-le _ _ (field .field .result) (field .field .ensures) (entry .pre .placed) in
+    bounds .0
 
 part-numeral-of-start : tie.Need-part-numeral-of-start
-part-numeral-of-start c = span-le _ _ (c .before .before .before .before .field .result) (c .before .before .before .before .field .ensures) (c .before .before .before .before .before .before .pre .placed) .0
+part-numeral-of-start c =
+    let field = c .before .before .before .before in
+    let entry = field .before .before in
+    let bounds = span-le _ _ (field .field .result) (field .field .ensures) (entry .pre .placed) in
+    bounds .0
 
 part-numeral-of-end : tie.Need-part-numeral-of-end
-part-numeral-of-end c = span-le _ _ (c .before .before .before .before .field .result) (c .before .before .before .before .field .ensures) (c .before .before .before .before .before .before .pre .placed) .1
+part-numeral-of-end c =
+    let field = c .before .before .before .before in
+    let entry = field .before .before in
+    let bounds = span-le _ _ (field .field .result) (field .field .ensures) (entry .pre .placed) in
+    bounds .1
 
 numeral-of-requires : tie.Need-numeral-of-requires
 numeral-of-requires c κs = search needs
@@ -40,7 +52,10 @@ enum-known-found : tie.Need-enum-known-found
 enum-known-found c = search needs
 
 cast-t17 : tie.Need-cast-t17
-cast-t17 c = record { fits = small (numeral-small _ _ (numeral-value _ _ (sym (c .before .before .before .numeral-of .ensures) ∙ c .before .found .given .1))) }
+cast-t17 c =
+    let found = c .before in
+    let numeral-of = found .before .before in
+    record { fits = small (numeral-small _ _ (numeral-value _ _ (sym (numeral-of .numeral-of .ensures) ∙ found .found .given .1))) }
 
 enum-told-3 : tie.Need-enum-told-3
 enum-told-3 c = search needs
@@ -49,16 +64,30 @@ enum-told-4 : tie.Need-enum-told-4
 enum-told-4 c = search needs
 
 returns-2 : tie.Need-returns-2
-returns-2 c = inr (not-newline _ _ (c .before .before .before .field .result) (c .before .before .before .field .ensures) (c .enum-told .given .1) (λ q. ends-apart refl refl (sym q)))
+returns-2 c =
+    let field = c .before .before .before in
+    inr (not-newline _ _ (field .field .result) (field .field .ensures) (c .enum-told .given .1) (λ q. ends-apart refl refl (sym q)))
 
 returns-3 : tie.Need-returns-3
-returns-3 c = start-given _ _ (c .before .before .before .before .before .before .before .before .before .field .result) (c .before .before .before .before .before .before .before .before .before .field .ensures) (c .before .before .before .before .before .before .enum-told2 .given .1) _ (sym (c .before .before .before .numeral-of .ensures) ∙ c .before .found .given .1)
+returns-3 c =
+    let found = c .before in
+    let numeral-of = found .before .before in
+    let enum-told2 = numeral-of .before .before .before in
+    let field = enum-told2 .before .before .before in
+    start-given _ _ (field .field .result) (field .field .ensures) (enum-told2 .enum-told2 .given .1) _ (sym (numeral-of .numeral-of .ensures) ∙ found .found .given .1)
 
 returns-4 : tie.Need-returns-4
-returns-4 c = inl (start-neither _ _ (c .before .before .before .before .before .before .before .before .field .result) (c .before .before .before .before .before .before .before .before .field .ensures) (c .before .before .before .before .before .before .before .before .before .before .pre .placed) (c .before .before .before .before .if1 .left) (sym (c .before .before .numeral-of .ensures) ∙ c .enum-told3 .given .1))
+returns-4 c =
+    let numeral-of = c .before .before in
+    let else1 = numeral-of .before .before in
+    let field = else1 .before .before .before .before in
+    let entry = field .before .before in
+    inl (start-neither _ _ (field .field .result) (field .field .ensures) (entry .pre .placed) (else1 .if1 .left) (sym (numeral-of .numeral-of .ensures) ∙ c .enum-told3 .given .1))
 
 returns-5 : tie.Need-returns-5
-returns-5 c = inr (not-newline _ _ (c .before .before .before .field .result) (c .before .before .before .field .ensures) (c .enum-told4 .given .1) (newline-text refl refl))
+returns-5 c =
+    let field = c .before .before .before in
+    inr (not-newline _ _ (field .field .result) (field .field .ensures) (c .enum-told4 .given .1) (newline-text refl refl))
 
 pub start-field-spec : {M : Type 1} → statement M
 start-field-spec =

@@ -1,8 +1,6 @@
 use borrow.Author.Needs.{needs}
 use Rattle.split.proofs.start_limit.Statement.{statement}
 use Rattle.split.proofs.start_limit.Tie as tie
-use Rattle.split.proofs.start_limit.Reads as reads
-use Rattle.split.proofs.start_limit.Lts as lts
 
 enum-told : tie.Need-enum-told
 enum-told c = search needs

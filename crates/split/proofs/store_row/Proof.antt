@@ -3,8 +3,6 @@ use native.Mathlib.Omega.{arith}
 use borrow.Author.Needs.{needs}
 use Rattle.split.proofs.store_row.Statement.{statement}
 use Rattle.split.proofs.store_row.Tie as tie
-use Rattle.split.proofs.store_row.Reads as reads
-use Rattle.split.proofs.store_row.Lts as lts
 
 add-work : tie.Need-add-work
 add-work c = search needs

@@ -3,11 +3,6 @@ use native.Mathlib.Omega.{arith}
 use borrow.Author.Needs.{needs}
 use Rattle.split.proofs.store_type.Statement.{statement}
 use Rattle.split.proofs.store_type.Tie as tie
-use Rattle.split.proofs.store_type.Reads as reads
-use Rattle.split.proofs.store_type.Lts as lts
-use Rattle.workspace.proofs.first_of.Reads as first-of-reads
-use Rattle.workspace.proofs.kind_of.Reads as kind-of-reads
-use Rattle.workspace.proofs.second_of.Reads as second-of-reads
 
 kind-of-requires : tie.Need-kind-of-requires
 kind-of-requires c κs = search needs

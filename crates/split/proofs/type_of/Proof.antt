@@ -5,9 +5,6 @@ use Rattle.spec.specs.Split.{refOf, lockOf, tidOf}
 use borrow.Author.Needs.{needs}
 use Rattle.split.proofs.type_of.Statement.{statement}
 use Rattle.split.proofs.type_of.Tie as tie
-use Rattle.split.proofs.type_of.Reads as reads
-use Rattle.split.proofs.type_of.Lts as lts
-use Rattle.split.proofs.both_below.Reads as both-below-reads
 
 enum-told : tie.Need-enum-told
 enum-told c = search needs

@@ -2,8 +2,6 @@ use Rattle.spec.specs.Reading.{inRange}
 use borrow.Author.Tests.{le-leb, lt-leb}
 use Rattle.split.proofs.within.Statement.{statement}
 use Rattle.split.proofs.within.Tie as tie
-use Rattle.split.proofs.within.Reads as reads
-use Rattle.split.proofs.within.Lts as lts
 
 returns : tie.Need-returns
 unfolding inRange
