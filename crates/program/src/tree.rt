@@ -27,7 +27,8 @@ fn parts_of(w: Word) -> usize
     }
 }
 
-// Reads the step at index k, and stores the index just past it and past each step in it.
+// Reads the step at index k, and stores the index just past it and past each step in it. "Each part is again a step": it
+// reads its parts, which reads steps; the lines left fall.
 fn read_step(work: &mut [u32], n: usize, k: usize) -> Ending
     requires { ⌜ (length (now work) ≡ 16384) × (n ≤ 256) × (k ≤ n) ⌝ }
     ensures { λ r. ⌜ Ended n 1 k (now (work .entry)) (now (work .exit)) r ⌝ }
