@@ -1,12 +1,12 @@
 // The offered call: two texts and a lent work space in, one answer out.
 mod numbers;
 
+pub use numbers::numbers_of;
 use program::ProgramRead;
 use rules::Ruling;
 use spec::Answer;
 use spec::Refusal;
 use split::Sheet;
-pub use numbers::numbers_of;
 ghost use mathlib.Core.Path.{_≡_};
 ghost use mathlib.Core.List.{List};
 ghost use mathlib.Core.Logic.{_↔_};

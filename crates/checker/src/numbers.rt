@@ -33,9 +33,20 @@ fn refusal_numbers(r: Refusal) -> Returned
         Refusal::SplitRange(k) => four(22, k, 0, 0),
         Refusal::SplitLines(k) => four(23, k, 0, 0),
         Refusal::OverOne(l) => four(30, 2, 0, l.0),
-        Refusal::TypeFalse { line: k, condition: i } => four(31, k, i, 0),
-        Refusal::FlowFalse { line: k, condition: i, location: l } => four(32, k, i, l.0),
-        Refusal::AccessFalse { line: k, condition: i, location: p } => four(33, k, i, p.0),
+        Refusal::TypeFalse {
+            line: k,
+            condition: i,
+        } => four(31, k, i, 0),
+        Refusal::FlowFalse {
+            line: k,
+            condition: i,
+            location: l,
+        } => four(32, k, i, l.0),
+        Refusal::AccessFalse {
+            line: k,
+            condition: i,
+            location: p,
+        } => four(33, k, i, p.0),
     }
 }
 
