@@ -2,9 +2,90 @@
 
 mod directed;
 pub mod draft;
+pub mod full;
 pub mod honest;
 mod honest_steps;
+mod limits;
+mod mutants;
+mod noise;
 pub mod random;
+
+use crate::answer::{LOCATIONS, SPLIT_BYTES, WHOLE, WORK_SPACE};
+use crate::words::{Word, WORDS};
+use draft::Draft;
+use random::Random;
+
+/// A pair of sheets, the length of the work space it is checked with, and how it was drawn.
+pub struct Drawn {
+    pub program: Vec<u8>,
+    pub split: Vec<u8>,
+    pub room: usize,
+    pub origin: &'static str,
+}
+
+impl Drawn {
+    pub fn of(draft: &Draft, origin: &'static str) -> Drawn {
+        Drawn { program: draft.program(), split: draft.split(), room: WORK_SPACE, origin }
+    }
+}
+
+/// The pair with this number in the series of this seed. Equal arguments give equal pairs.
+pub fn pair(seed: u64, number: u64) -> Drawn {
+    let random = &mut Random::new(seed, number);
+    match random.below(1000) {
+        0..=399 => Drawn::of(&honest_draft(random), "honest"),
+        400..=404 => Drawn::of(&near_full(random), "full"),
+        405..=554 => directed(random, number),
+        555..=729 => changed_draft(random),
+        730..=889 => changed_text(random),
+        890..=939 => limits::at_limit(random),
+        _ => noise::noise(random),
+    }
+}
+
+/// An honest draft, most often small.
+pub fn honest_draft(random: &mut Random) -> Draft {
+    let size = match random.below(20) {
+        0..=8 => 1 + random.below(12),
+        9..=16 => 8 + random.below(50),
+        17..=18 => 60 + random.below(80),
+        _ => 235,
+    };
+    let locations = if random.percent(80) { 1 + random.below(4) } else { 1 + random.below(LOCATIONS as usize) };
+    let whole = random.pick(&[1, 2, 2, 3, 4, 6, 12, 100, 65_536, WHOLE]);
+    honest::draft(random, size, locations, whole)
+}
+
+/// A full pair with a split at or under the limit.
+fn near_full(random: &mut Random) -> Draft {
+    let bytes = SPLIT_BYTES - random.pick(&[0, 1, 2, 100, 1000]);
+    full::full(random, bytes)
+}
+
+/// The conditions are taken in turn, so that none is left out of a long series.
+fn directed(random: &mut Random, number: u64) -> Drawn {
+    let conditions: Vec<(Word, u32)> =
+        WORDS.iter().flat_map(|&word| (1..=word.conditions()).map(move |condition| (word, condition))).collect();
+    let (word, condition) = conditions[number as usize % conditions.len()];
+    Drawn::of(&directed::breaking(random, word, condition), "directed")
+}
+
+fn changed_draft(random: &mut Random) -> Drawn {
+    let mut draft = honest_draft(random);
+    for _ in 0..1 + random.below(2) {
+        mutants::change_draft(random, &mut draft);
+    }
+    Drawn::of(&draft, "changed draft")
+}
+
+fn changed_text(random: &mut Random) -> Drawn {
+    let mut drawn = Drawn::of(&honest_draft(random), "changed text");
+    let text = if random.percent(50) { &mut drawn.program } else { &mut drawn.split };
+    for _ in 0..1 + random.below(2) {
+        mutants::change_text(random, text);
+    }
+    drawn
+}
 
 #[cfg(test)]
 mod tests {
