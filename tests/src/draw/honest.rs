@@ -65,8 +65,9 @@ impl<'r> Builder<'r> {
 
     fn draw_types(&mut self) {
         let wanted = 2 + self.random.below(8);
-        while self.draft.types.len() < wanted || !self.draft.types.contains(&Type::Int) {
-            let kind = self.new_type();
+        let int = if self.random.percent(70) { 0 } else { self.random.below(wanted) };
+        for own in 0..wanted {
+            let kind = if own == int { Type::Int } else { self.new_type() };
             self.draft.types.push(kind);
         }
     }
@@ -170,10 +171,11 @@ impl<'r> Builder<'r> {
 
     fn drawn_word(&mut self, kind: usize, size: usize) -> Word {
         use Word::*;
-        if size > 12 && self.random.percent(70) {
-            return Let;
-        }
         match self.draft.types[kind] {
+            Type::Int if size > 12 => {
+                self.random.pick(&[Let, Let, Let, Let, Let, Let, Let, Let, Let, Let, If, While, Spawn, Spawn])
+            }
+            _ if size > 12 => self.random.pick(&[Let, Let, Let, If]),
             Type::Int => self.random.pick(&[
                 Let, Let, Let, If, While, Spawn, Spawn, Join, Read, Read, Write, Write, Write, Lock, Lock, Unlock,
                 Unlock, Freelock, Int, Var,

@@ -76,7 +76,8 @@ impl Builder<'_> {
         let step = self.open(Word::Let, variable);
         self.expression(bound, now, &kept, bound_size);
         self.scope.push((variable, bound));
-        self.expression(kind, now, need, size.saturating_sub(bound_size + 1));
+        let used = self.draft.steps.len() - step;
+        self.expression(kind, now, need, size.saturating_sub(used));
         self.scope.pop();
         self.close(step, kind, now)
     }
