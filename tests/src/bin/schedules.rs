@@ -1,1 +1,262 @@
-fn main(){}
+//! Runs programs under many schedules and checks the two claims: no race, no odd halt.
+//!
+//! Accepted pairs must never show a fault. Racy and ill-typed programs must show theirs, so that
+//! the search is known to find what it looks for. Exits with 1 on any failure.
+
+use evidence::answer::WORK_SPACE;
+use evidence::draw::draft::Draft;
+use evidence::draw::random::Random;
+use evidence::draw::{concurrent, honest, mutants};
+use evidence::second;
+use evidence::steps::claims::Fault;
+use evidence::steps::expression::Expression;
+use evidence::steps::search::{drawn_schedule, exhaustive, Found};
+use evidence::words::Word;
+use std::process::ExitCode;
+use std::rc::Rc;
+use std::time::Instant;
+
+const SEED: u64 = 2008;
+/// How many states an exhaustive search visits before it gives up on the rest.
+const BOUND: usize = 6_000;
+
+fn main() -> ExitCode {
+    let start = Instant::now();
+    let checks: [(&str, fn() -> Result<String, String>); 6] = [
+        ("known racy programs", known_races),
+        ("known odd halts", known_odd_halts),
+        ("known safe programs", known_safe),
+        ("accepted pairs, all schedules", accepted_exhaustively),
+        ("accepted pairs, drawn schedules", accepted_at_random),
+        ("faulty drawn programs are refused", faulty_are_refused),
+    ];
+    let mut exit = ExitCode::SUCCESS;
+    for (title, check) in checks {
+        match check() {
+            Ok(summary) => println!("{title}: {summary}"),
+            Err(failure) => {
+                println!("{title}: FAILED, {failure}");
+                exit = ExitCode::FAILURE;
+            }
+        }
+    }
+    println!("{:.1} s", start.elapsed().as_secs_f64());
+    exit
+}
+
+/// Programs in prefix order, a bar for each line end, with a race that some schedule shows.
+const RACY: [(&str, &str); 8] = [
+    ("Figure 2 (a)", "let,0|ref,0|int,0|let,1|spawn,0|newtid,0|read,0|var,0|write,0|var,0|int,1"),
+    ("two writers", "let,0|ref,0|int,0|let,1|spawn,0|newtid,0|write,0|var,0|int,2|write,0|var,0|int,1"),
+    (
+        "a read without the lock",
+        "let,0|ref,0|int,0|let,1|newlock,0|let,2|spawn,0|newtid,0|read,0|var,0|let,3|lock,0|var,1|\
+         let,4|write,0|var,0|int,1|unlock,0|var,1",
+    ),
+    (
+        "two locks, the program beside NEWL-unsound",
+        "let,0|ref,0|int,0|let,1|newlock,0|let,2|newlock,0|let,3|spawn,0|newtid,0|let,4|lock,0|var,1|\
+         let,5|read,0|var,0|unlock,0|var,1|let,6|lock,0|var,2|let,7|write,0|var,0|int,1|unlock,0|var,2",
+    ),
+    (
+        "one join for two threads",
+        "let,0|ref,0|int,0|let,1|newtid,0|let,2|spawn,0|var,1|read,0|var,0|let,3|spawn,0|var,1|read,0|var,0|\
+         let,4|join,0|var,1|write,0|var,0|int,1",
+    ),
+    (
+        "a lock given up too early",
+        "let,0|ref,0|int,0|let,1|newlock,0|let,2|spawn,0|newtid,0|let,3|lock,0|var,1|write,0|var,0|int,2|\
+         let,4|lock,0|var,1|let,5|unlock,0|var,1|write,0|var,0|int,1",
+    ),
+    (
+        "an unlock by a thread that does not hold the lock",
+        "let,0|ref,0|int,0|let,1|newlock,0|let,2|spawn,0|newtid,0|let,3|unlock,0|var,1|let,4|lock,0|var,1|\
+         write,0|var,0|int,2|let,5|lock,0|var,1|write,0|var,0|int,1",
+    ),
+    (
+        "a freed lock that an unlock makes open again",
+        "let,0|ref,0|int,0|let,1|newlock,0|let,2|spawn,0|newtid,0|let,3|lock,0|var,1|write,0|var,0|int,2|\
+         let,4|freelock,0|var,1|let,5|unlock,0|var,1|write,0|var,0|int,1",
+    ),
+];
+
+/// Programs whose one thread halts on a value of the wrong kind.
+const ODD: [&str; 8] = [
+    "read,0|int,0",
+    "write,0|int,0|int,0",
+    "lock,0|int,0",
+    "unlock,0|newtid,0",
+    "freelock,0|ref,0|int,0",
+    "join,0|newlock,0",
+    "spawn,0|newlock,0|int,0",
+    "let,0|newtid,0|let,1|spawn,0|var,0|read,0|int,0|join,0|var,0",
+];
+
+/// Figure 2 (c) with its split: the lock carries the whole of the cell's location.
+const GUARDED: &str = "let,0|ref,0|int,0|let,1|newlock,0|let,2|spawn,0|newtid,0|let,3|lock,0|var,1|let,4|read,0|var,0|\
+                       unlock,0|var,1|let,5|lock,0|var,1|let,6|write,0|var,0|int,1|unlock,0|var,1";
+const GUARDED_SPLIT: &str = "C,1,1,4,2|int,0,0|ref,0,0|lock,0,0|tid,1,0|1|0|0,1,|1,0,|0,0,|0,1,|2,1,|0,1,|0,1,1|3,1,|\
+                             0,1,|0,0,|2,1,|0,0,|0,0,|1,0,|0,1,|2,0,|0,1,|0,0,|2,1,|0,1,|0,0,|1,0,|0,0,|0,1,|2,0,|";
+
+/// Programs that wait for ever or keep apart, and show no fault on any schedule.
+const SAFE: [&str; 4] = [
+    "let,0|ref,0|int,0|let,1|newtid,0|let,2|spawn,0|var,1|read,0|var,0|let,3|join,0|var,1|write,0|var,0|int,1",
+    GUARDED,
+    "join,0|newtid,0",
+    "let,0|newlock,0|let,1|lock,0|var,0|freelock,0|var,0",
+];
+
+fn sheet(steps: &str) -> Vec<u8> {
+    let count = steps.split('|').count();
+    format!("P,{count}|{steps}|").replace('|', "\n").into_bytes()
+}
+
+fn listed(program: &[u8]) -> Rc<Expression> {
+    Expression::listed(program).expect("the program is well formed")
+}
+
+fn known_races() -> Result<String, String> {
+    for (title, steps) in RACY {
+        let found = exhaustive(&listed(&sheet(steps)), BOUND);
+        let Some(Fault::Race(_)) = found.fault else { return Err(format!("no race found in {title}")) };
+    }
+    Ok(format!("{} of {} found", RACY.len(), RACY.len()))
+}
+
+fn known_odd_halts() -> Result<String, String> {
+    for steps in ODD {
+        let found = exhaustive(&listed(&sheet(steps)), BOUND);
+        let Some(Fault::OddHalt(_)) = found.fault else { return Err(format!("no odd halt found in {steps}")) };
+    }
+    Ok(format!("{} of {} found", ODD.len(), ODD.len()))
+}
+
+fn known_safe() -> Result<String, String> {
+    let split = GUARDED_SPLIT.replace('|', "\n").into_bytes();
+    let returned = second::check(&sheet(GUARDED), &split, WORK_SPACE);
+    if returned.number != 0 {
+        return Err(format!("Figure 2 (c) gets {returned}"));
+    }
+    for steps in SAFE {
+        let found = exhaustive(&listed(&sheet(steps)), 100_000);
+        if !found.complete || found.fault.is_some() {
+            return Err(format!("{:?} in {steps}", found.fault));
+        }
+    }
+    Ok(format!("{} searched to the end, no fault", SAFE.len()))
+}
+
+/// How telling a series of searches was.
+#[derive(Default)]
+struct Sum {
+    programs: usize,
+    complete: usize,
+    concurrent: usize,
+    shared: usize,
+    states: usize,
+}
+
+impl Sum {
+    fn add(&mut self, found: &Found) {
+        self.programs += 1;
+        self.complete += usize::from(found.complete);
+        self.concurrent += usize::from(found.threads > 1);
+        self.shared += usize::from(found.shared);
+        self.states += found.states;
+    }
+
+    fn told(&self) -> String {
+        format!(
+            "{} programs, {} states, {} searched to the end, {} with two threads or more, {} with a shared cell",
+            self.programs, self.states, self.complete, self.concurrent, self.shared
+        )
+    }
+}
+
+fn accepted(draft: &Draft) -> bool {
+    second::check(&draft.program(), &draft.split(), WORK_SPACE).number == 0
+}
+
+fn accepted_exhaustively() -> Result<String, String> {
+    let mut sum = Sum::default();
+    for number in 0..1_200 {
+        let random = &mut Random::new(SEED, number);
+        let draft = small_draft(random, number);
+        if !accepted(&draft) {
+            return Err(format!("the honest pair {number} is refused"));
+        }
+        let found = exhaustive(&listed(&draft.program()), BOUND);
+        if let Some(fault) = found.fault {
+            return Err(format!("{fault:?} in the accepted pair {number}"));
+        }
+        sum.add(&found);
+    }
+    Ok(sum.told())
+}
+
+/// Two kinds in turn: drawn word by word, and drawn around threads that share cells.
+fn small_draft(random: &mut Random, number: u64) -> Draft {
+    if number % 2 == 0 {
+        return concurrent::draft(random);
+    }
+    let (size, locations) = (10 + random.below(25), 1 + random.below(2));
+    honest::draft(random, size, locations, 2)
+}
+
+fn accepted_at_random() -> Result<String, String> {
+    let mut sum = Sum::default();
+    for number in 0..2_000 {
+        let random = &mut Random::new(SEED + 1, number);
+        let size = 20 + random.below(150);
+        let draft = if number % 2 == 0 { concurrent::draft(random) } else { honest::draft(random, size, 3, 6) };
+        let program = listed(&draft.program());
+        for _ in 0..3 {
+            let found = drawn_schedule(&program, random, 300);
+            if let Some(fault) = found.fault {
+                return Err(format!("{fault:?} in the accepted pair {number}"));
+            }
+            sum.add(&found);
+        }
+    }
+    Ok(sum.told())
+}
+
+/// Drawn pairs with a change: where the search finds a fault, the pair must be refused.
+fn faulty_are_refused() -> Result<String, String> {
+    let (mut races, mut halts, mut still_accepted) = (0, 0, 0);
+    for number in 0..1_500 {
+        let random = &mut Random::new(SEED + 2, number);
+        let mut draft = concurrent::draft(random);
+        if number % 3 == 0 {
+            mutants::change_draft(random, &mut draft);
+        } else {
+            loosen(random, &mut draft);
+        }
+        let returned = second::check(&draft.program(), &draft.split(), WORK_SPACE);
+        if (1..=23).contains(&returned.number) {
+            continue;
+        }
+        let fault = exhaustive(&listed(&draft.program()), BOUND).fault;
+        match (fault, returned.number) {
+            (Some(fault), 0) => return Err(format!("{fault:?} in the accepted pair {number}")),
+            (Some(Fault::Race(_)), _) => races += 1,
+            (Some(Fault::OddHalt(_)), _) => halts += 1,
+            (None, 0) => still_accepted += 1,
+            _ => {}
+        }
+    }
+    if races < 50 || halts < 5 {
+        return Err(format!("only {races} races and {halts} odd halts found"));
+    }
+    Ok(format!("{races} with a race and {halts} with an odd halt, all refused; {still_accepted} still accepted"))
+}
+
+/// Takes away what keeps threads apart: a `lock` becomes an `unlock`, a `join` a mere `ref`.
+fn loosen(random: &mut Random, draft: &mut Draft) {
+    let guards: Vec<usize> =
+        (0..draft.steps.len()).filter(|&step| matches!(draft.steps[step].word, Word::Lock | Word::Join)).collect();
+    if !guards.is_empty() {
+        let guard = &mut draft.steps[random.pick(&guards)];
+        guard.word = if guard.word == Word::Lock { Word::Unlock } else { Word::Ref };
+    }
+}

@@ -38,14 +38,20 @@ pub fn draft(random: &mut Random, size: usize, locations: usize, whole: u32) -> 
 }
 
 impl<'r> Builder<'r> {
+    /// A builder with drawn types and a drawn map 0.
     pub fn new(random: &'r mut Random, locations: usize, whole: u32) -> Builder<'r> {
-        let first = random.between(0, VARIABLES - 1);
-        let unbound = (0..VARIABLES).map(|place| (first + 37 * place) % VARIABLES).collect();
-        let draft = Draft { whole, locations, types: Vec::new(), maps: Vec::new(), steps: Vec::new() };
-        let mut builder = Builder { random, draft, scope: Vec::new(), unbound, spoiled: false };
+        let mut builder = Builder::bare(random, locations, whole);
         builder.draw_first_map();
         builder.draw_types();
         builder
+    }
+
+    /// A builder without types or maps.
+    pub fn bare(random: &'r mut Random, locations: usize, whole: u32) -> Builder<'r> {
+        let first = random.between(0, VARIABLES - 1);
+        let unbound = (0..VARIABLES).map(|place| (first + 37 * place) % VARIABLES).collect();
+        let draft = Draft { whole, locations, types: Vec::new(), maps: Vec::new(), steps: Vec::new() };
+        Builder { random, draft, scope: Vec::new(), unbound, spoiled: false }
     }
 
     /// The draft, if it kept within the limits.
@@ -127,7 +133,7 @@ impl<'r> Builder<'r> {
         self.int_type()
     }
 
-    fn int_type(&mut self) -> usize {
+    pub(super) fn int_type(&mut self) -> usize {
         self.type_where(|_, _, kind| kind == Type::Int).expect("there is an int type")
     }
 
@@ -159,6 +165,10 @@ impl<'r> Builder<'r> {
 
     /// An expression of this type, which can be made here, of about `size` steps.
     pub fn expression(&mut self, kind: usize, now: &mut Map, need: &Map, size: usize) {
+        let is_int = self.draft.types[kind] == Type::Int;
+        if is_int && size >= 8 && self.random.percent(15) && self.idiom(kind, now, need, size) {
+            return;
+        }
         let tries = if size >= 3 { 4 } else { 0 };
         for _ in 0..tries {
             let word = self.drawn_word(kind, size);

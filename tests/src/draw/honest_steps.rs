@@ -47,7 +47,7 @@ impl Builder<'_> {
         true
     }
 
-    fn leaf(&mut self, word: Word, number: u32, kind: usize, now: &Map) -> bool {
+    pub(super) fn leaf(&mut self, word: Word, number: u32, kind: usize, now: &Map) -> bool {
         let step = self.open(word, number);
         self.close(step, kind, now)
     }
@@ -115,6 +115,11 @@ impl Builder<'_> {
             matches!(kind, Type::Tid(map) if at_least(now, &sum(need, &builder.draft.maps[map])))
         };
         let Some(identifier) = self.type_where(affordable) else { return false };
+        self.spawn_on(identifier, kind, now, need, size)
+    }
+
+    /// A spawn whose identifier has this type; the map held now can spare what it gives back.
+    pub(super) fn spawn_on(&mut self, identifier: usize, kind: usize, now: &mut Map, need: &Map, size: usize) -> bool {
         let Type::Tid(map) = self.draft.types[identifier] else { return false };
         let given_back = self.draft.maps[map];
         let step = self.open(Word::Spawn, 0);
@@ -158,7 +163,16 @@ impl Builder<'_> {
 
     /// A word whose part carries a map that is added to what the thread holds.
     #[allow(clippy::too_many_arguments)]
-    fn gain(&mut self, word: Word, kind: usize, part: usize, map: usize, now: &mut Map, need: &Map, size: usize) -> bool {
+    pub(super) fn gain(
+        &mut self,
+        word: Word,
+        kind: usize,
+        part: usize,
+        map: usize,
+        now: &mut Map,
+        need: &Map,
+        size: usize,
+    ) -> bool {
         let carried = self.draft.maps[map];
         if sum(now, &carried).iter().any(|&number| number > WHOLE) {
             return false;
@@ -172,6 +186,11 @@ impl Builder<'_> {
     fn unlock(&mut self, kind: usize, now: &mut Map, need: &Map, size: usize) -> bool {
         let known = |builder: &Self, number, kind| matches!(kind, Type::Lock(_)) && builder.in_scope(number);
         let Some(lock) = self.type_where(known) else { return false };
+        self.unlock_of(lock, kind, now, need, size)
+    }
+
+    /// An unlock of a lock with this type, which is in scope.
+    pub(super) fn unlock_of(&mut self, lock: usize, kind: usize, now: &mut Map, need: &Map, size: usize) -> bool {
         let Type::Lock(map) = self.draft.types[lock] else { return false };
         let carried = self.draft.maps[map];
         at_least(now, &sum(need, &carried)) && {
@@ -222,7 +241,7 @@ impl Builder<'_> {
 
     /// A part that is most often short: a variable or a new thing.
     fn operand(&mut self, kind: usize, now: &mut Map, need: &Map, size: usize) {
-        let size = if self.random.percent(80) { 1 } else { size.min(12) - 1 };
+        let size = if self.random.percent(80) { 1 } else { size.min(12).saturating_sub(1) };
         self.expression(kind, now, need, size);
     }
 }

@@ -1,12 +1,14 @@
 //! Drawn pairs of sheets: honest ones, mutants of them, pairs at the limits, and noise.
 
+pub mod concurrent;
 mod directed;
 pub mod draft;
 pub mod full;
 pub mod honest;
 mod honest_steps;
+mod idioms;
 mod limits;
-mod mutants;
+pub mod mutants;
 mod noise;
 pub mod random;
 
@@ -33,7 +35,8 @@ impl Drawn {
 pub fn pair(seed: u64, number: u64) -> Drawn {
     let random = &mut Random::new(seed, number);
     match random.below(1000) {
-        0..=399 => Drawn::of(&honest_draft(random), "honest"),
+        0..=349 => Drawn::of(&honest_draft(random), "honest"),
+        350..=399 => Drawn::of(&concurrent::draft(random), "concurrent"),
         400..=404 => Drawn::of(&near_full(random), "full"),
         405..=554 => directed(random, number),
         555..=729 => changed_draft(random),

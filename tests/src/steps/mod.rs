@@ -1,1 +1,6 @@
-//! x
+//! An interpreter of the language's steps, and a search through its schedules.
+
+pub mod claims;
+pub mod expression;
+pub mod search;
+pub mod state;
