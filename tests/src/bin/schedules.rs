@@ -6,7 +6,7 @@
 use evidence::answer::WORK_SPACE;
 use evidence::draw::draft::Draft;
 use evidence::draw::random::Random;
-use evidence::draw::{concurrent, honest, mutants};
+use evidence::draw::{self, concurrent, honest, mutants, Drawn};
 use evidence::second;
 use evidence::steps::claims::Fault;
 use evidence::steps::expression::Expression;
@@ -18,7 +18,7 @@ use std::time::Instant;
 
 const SEED: u64 = 2008;
 /// How many states an exhaustive search visits before it gives up on the rest.
-const BOUND: usize = 6_000;
+const BOUND: usize = 4_000;
 
 fn main() -> ExitCode {
     let start = Instant::now();
@@ -96,7 +96,7 @@ const ODD: [&str; 8] = [
 const GUARDED: &str = "let,0|ref,0|int,0|let,1|newlock,0|let,2|spawn,0|newtid,0|let,3|lock,0|var,1|let,4|read,0|var,0|\
                        unlock,0|var,1|let,5|lock,0|var,1|let,6|write,0|var,0|int,1|unlock,0|var,1";
 const GUARDED_SPLIT: &str = "C,1,1,4,2|int,0,0|ref,0,0|lock,0,0|tid,1,0|1|0|0,1,|1,0,|0,0,|0,1,|2,1,|0,1,|0,1,1|3,1,|\
-                             0,1,|0,0,|2,1,|0,0,|0,0,|1,0,|0,1,|2,0,|0,1,|0,0,|2,1,|0,1,|0,0,|1,0,|0,0,|0,1,|2,0,|";
+                             0,1,|0,0,|2,1,|0,1,|0,0,|1,0,|0,1,|2,0,|0,1,|0,0,|2,1,|0,1,|0,0,|1,0,|0,0,|0,1,|2,0,|";
 
 /// Programs that wait for ever or keep apart, and show no fault on any schedule.
 const SAFE: [&str; 4] = [
@@ -149,7 +149,7 @@ fn known_safe() -> Result<String, String> {
 /// How telling a series of searches was.
 #[derive(Default)]
 struct Sum {
-    programs: usize,
+    runs: usize,
     complete: usize,
     concurrent: usize,
     shared: usize,
@@ -158,7 +158,7 @@ struct Sum {
 
 impl Sum {
     fn add(&mut self, found: &Found) {
-        self.programs += 1;
+        self.runs += 1;
         self.complete += usize::from(found.complete);
         self.concurrent += usize::from(found.threads > 1);
         self.shared += usize::from(found.shared);
@@ -167,8 +167,8 @@ impl Sum {
 
     fn told(&self) -> String {
         format!(
-            "{} programs, {} states, {} searched to the end, {} with two threads or more, {} with a shared cell",
-            self.programs, self.states, self.complete, self.concurrent, self.shared
+            "{} runs, {} states, {} to the end, {} with two threads or more, {} with a shared cell",
+            self.runs, self.states, self.complete, self.concurrent, self.shared
         )
     }
 }
@@ -179,7 +179,7 @@ fn accepted(draft: &Draft) -> bool {
 
 fn accepted_exhaustively() -> Result<String, String> {
     let mut sum = Sum::default();
-    for number in 0..1_200 {
+    for number in 0..1_600 {
         let random = &mut Random::new(SEED, number);
         let draft = small_draft(random, number);
         if !accepted(&draft) {
@@ -205,11 +205,16 @@ fn small_draft(random: &mut Random, number: u64) -> Draft {
 
 fn accepted_at_random() -> Result<String, String> {
     let mut sum = Sum::default();
-    for number in 0..2_000 {
+    for number in 0..3_000 {
         let random = &mut Random::new(SEED + 1, number);
-        let size = 20 + random.below(150);
-        let draft = if number % 2 == 0 { concurrent::draft(random) } else { honest::draft(random, size, 3, 6) };
-        let program = listed(&draft.program());
+        let pair = match number % 2 {
+            0 => Drawn::of(&concurrent::draft(random), "concurrent"),
+            _ => draw::pair(SEED + 1, number),
+        };
+        if second::check(&pair.program, &pair.split, WORK_SPACE).number != 0 {
+            continue;
+        }
+        let program = listed(&pair.program);
         for _ in 0..3 {
             let found = drawn_schedule(&program, random, 300);
             if let Some(fault) = found.fault {
@@ -224,7 +229,7 @@ fn accepted_at_random() -> Result<String, String> {
 /// Drawn pairs with a change: where the search finds a fault, the pair must be refused.
 fn faulty_are_refused() -> Result<String, String> {
     let (mut races, mut halts, mut still_accepted) = (0, 0, 0);
-    for number in 0..1_500 {
+    for number in 0..2_000 {
         let random = &mut Random::new(SEED + 2, number);
         let mut draft = concurrent::draft(random);
         if number % 3 == 0 {

@@ -46,7 +46,7 @@ impl Builder<'_> {
     /// Binds a new thing of each of these types, and then forks.
     fn over(&mut self, things: &[usize], now: &mut Map, size: usize) {
         let Some((&first, rest)) = things.split_first() else {
-            if !self.idiom(0, now, &Map::default(), size) {
+            if !self.fork_and_join(0, now, &Map::default(), size) {
                 self.expression(0, now, &Map::default(), size);
             }
             return;

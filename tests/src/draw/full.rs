@@ -10,11 +10,7 @@ use crate::words::Word;
 pub fn full(random: &mut Random, bytes: usize) -> Draft {
     loop {
         let mut draft = honest::draft(random, 235, LOCATIONS as usize, WHOLE);
-        let reaches = with_steps(random, &mut draft, STEPS as usize);
-        with_types(random, &mut draft, TYPES as usize);
-        let used = draft.maps.len();
-        with_maps(&mut draft, MAPS as usize);
-        if reaches && lengthen(random, &mut draft, used, bytes) {
+        if with_steps(random, &mut draft, STEPS as usize) && filled(random, &mut draft, bytes) {
             return draft;
         }
     }
@@ -23,6 +19,44 @@ pub fn full(random: &mut Random, bytes: usize) -> Draft {
 /// The longest honest pair.
 pub fn fullest(random: &mut Random) -> Draft {
     full(random, SPLIT_BYTES)
+}
+
+/// As long a pair, refused for the last location of the last condition of the last step: a constant
+/// in a loop that ends with more than it starts with.
+pub fn refused_last(random: &mut Random) -> Draft {
+    loop {
+        let mut draft = honest::draft(random, 232, LOCATIONS as usize, WHOLE);
+        if with_steps(random, &mut draft, STEPS as usize - 3) {
+            end_with_faulty_loop(&mut draft);
+            if filled(random, &mut draft, SPLIT_BYTES) {
+                return draft;
+            }
+        }
+    }
+}
+
+/// Puts the program into the e1 of a `let` whose e2 is the loop.
+fn end_with_faulty_loop(draft: &mut Draft) {
+    let int = draft.types.iter().position(|kind| *kind == Type::Int).expect("there is an int type");
+    let variable = unbound_variables(draft)[0];
+    let mut map = draft.maps[draft.steps[0].post];
+    let last = draft.locations - 1;
+    map[last] = 0;
+    let kept = draft.add_map(map);
+    map[last] = 1;
+    let more = draft.add_map(map);
+    let plain = |word, number, post| Step { word, number, kind: int, post, start: None };
+    draft.steps.insert(0, plain(Word::Let, variable, kept));
+    draft.steps.push(plain(Word::While, 0, kept));
+    draft.steps.push(plain(Word::Int, 0, more));
+}
+
+/// Adds unused types and maps up to their limits, and digits up to `bytes`.
+fn filled(random: &mut Random, draft: &mut Draft, bytes: usize) -> bool {
+    with_types(random, draft, TYPES as usize);
+    let used = draft.maps.len();
+    with_maps(draft, MAPS as usize);
+    used <= MAPS as usize && lengthen(random, draft, used, bytes)
 }
 
 /// Wraps the program in `let`s of constants and of loops until it has `count` steps. False when

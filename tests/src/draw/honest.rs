@@ -198,7 +198,7 @@ impl<'r> Builder<'r> {
 
     /// The shortest way to a value of this type.
     fn plain(&mut self, kind: usize, now: &mut Map, need: &Map) {
-        if self.random.percent(85) && self.step(Word::Var, kind, now, need, 1) {
+        if self.random.percent(94) && self.step(Word::Var, kind, now, need, 1) {
             return;
         }
         let word = match self.draft.types[kind] {

@@ -126,8 +126,7 @@ impl Builder<'_> {
         self.operand(identifier, now, &sum(need, &given_back), size);
         let spare = difference(now, &sum(need, &given_back));
         let start = sum(&given_back, &spare.map(|amount| self.part_of(amount)));
-        let body = self.drawn_type(&start, &given_back);
-        self.expression(body, &mut start.clone(), &given_back, size.saturating_sub(2));
+        self.work(&mut start.clone(), &given_back, size.saturating_sub(2));
         *now = difference(now, &start);
         self.draft.steps[step].start = self.start_number(start);
         self.close(step, kind, now)
@@ -210,8 +209,11 @@ impl Builder<'_> {
     }
 
     fn read(&mut self, kind: usize, now: &mut Map, need: &Map, size: usize) -> bool {
-        let readable =
-            |_: &Self, _, cell| matches!(cell, Type::Ref { location, content } if content == kind && now[location] > 0);
+        let wants_known = self.random.percent(85);
+        let readable = |builder: &Self, number, cell| {
+            matches!(cell, Type::Ref { location, content } if content == kind && now[location] > 0)
+                && (!wants_known || builder.in_scope(number))
+        };
         let Some(cell) = self.type_where(readable) else { return false };
         let Type::Ref { location, .. } = self.draft.types[cell] else { return false };
         let mut kept = *need;
@@ -225,7 +227,11 @@ impl Builder<'_> {
 
     fn write(&mut self, kind: usize, now: &mut Map, need: &Map, size: usize) -> bool {
         let whole = self.draft.whole;
-        let writable = |_: &Self, _, cell| matches!(cell, Type::Ref { location, .. } if now[location] >= whole);
+        let wants_known = self.random.percent(85);
+        let writable = |builder: &Self, number, cell| {
+            matches!(cell, Type::Ref { location, .. } if now[location] >= whole)
+                && (!wants_known || builder.in_scope(number))
+        };
         let Some(cell) = self.type_where(writable) else { return false };
         let Type::Ref { location, content } = self.draft.types[cell] else { return false };
         let mut kept = *need;

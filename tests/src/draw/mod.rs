@@ -93,7 +93,7 @@ fn changed_text(random: &mut Random) -> Drawn {
 #[cfg(test)]
 mod tests {
     use super::random::Random;
-    use super::{directed, honest};
+    use super::{directed, full, honest, Draft};
     use crate::answer::WORK_SPACE;
     use crate::second;
     use crate::words::WORDS;
@@ -105,6 +105,16 @@ mod tests {
             let draft = honest::draft(random, 1 + seed as usize % 120, 1 + seed as usize % 16, 6);
             let returned = second::check(&draft.program(), &draft.split(), WORK_SPACE);
             assert_eq!(returned.to_string(), "ACCEPT", "seed {seed}");
+        }
+    }
+
+    #[test]
+    fn full_pairs_end_as_told() {
+        for seed in 0..5 {
+            let (longest, refused) = (full::fullest(&mut Random::new(3, seed)), full::refused_last(&mut Random::new(4, seed)));
+            let answer = |draft: &Draft| second::check(&draft.program(), &draft.split(), WORK_SPACE).to_string();
+            assert_eq!((longest.split().len(), answer(&longest).as_str()), (65_536, "ACCEPT"));
+            assert_eq!((refused.split().len(), answer(&refused).as_str()), (65_536, "REFUSE,32,257,2,15"));
         }
     }
 

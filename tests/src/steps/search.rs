@@ -11,7 +11,7 @@ use std::rc::Rc;
 #[derive(Default)]
 pub struct Found {
     pub states: usize,
-    /// No state was left out.
+    /// No state was left out; for one schedule, it ran until no thread could go on.
     pub complete: bool,
     pub fault: Option<Fault>,
     /// The greatest number of threads in one state.
@@ -70,7 +70,8 @@ pub fn drawn_schedule(program: &Rc<Expression>, random: &mut Random, moves: usiz
     let (mut found, mut accesses) = (Found::default(), Accesses::default());
     for _ in 0..moves {
         found.look_at(&state, &mut accesses);
-        if found.fault.is_some() {
+        found.complete = successors(&state).next().is_none();
+        if found.fault.is_some() || found.complete {
             return found;
         }
         let listed = state.moves(random.below(state.threads.len()));
