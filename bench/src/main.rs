@@ -11,9 +11,10 @@ use evidence::{product, second};
 use std::hint::black_box;
 use std::time::{Duration, Instant};
 
-/// How long one batch of calls takes at least, and how many batches there are of each.
-const BATCH: Duration = Duration::from_millis(12);
-const BATCHES: usize = 9;
+/// How long one batch of calls takes at least, and how many batches there are of each. Batches are
+/// short, so that on a busy machine some of them run undisturbed.
+const BATCH: Duration = Duration::from_micros(1_000);
+const BATCHES: usize = 100;
 
 struct Pair {
     title: String,

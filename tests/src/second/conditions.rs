@@ -68,84 +68,123 @@ struct Judge<'a> {
 }
 
 impl Judge<'_> {
-    /// The table of document 01, one row an arm, conditions in the printed order.
+    /// The rows of document 01's table.
     fn conditions(&self) -> Judged {
-        let Step { word, second: e2, binder, .. } = self.steps[self.step];
-        let e1 = self.step + 1;
-        let own = self.split.marks[self.step].kind;
-        let (pre, post) = (self.pre, self.post(self.step));
-        match word {
-            Word::Var => {
-                holds(1, own == self.kind(binder + 1))?;
-                self.equal(2, post, pre)
-            }
-            Word::Int => {
-                self.is_int(1)?;
-                self.equal(2, post, pre)
-            }
-            Word::Let => {
-                holds(1, own == self.kind(e2))?;
-                self.equal(2, post, self.post(e2))
-            }
-            Word::If => {
-                holds(1, own == self.kind(e1))?;
-                holds(2, own == self.kind(e2))?;
-                self.at_least(3, self.post(e1), post)?;
-                self.at_least(4, self.post(e2), post)
-            }
-            Word::While => {
-                self.is_int(1)?;
-                self.at_least(2, pre, post)?;
-                self.at_least(3, self.post(e1), post)
-            }
-            Word::Newtid => {
-                self.tid(1, self.step)?;
-                self.equal(2, post, pre)
-            }
-            Word::Spawn => {
-                self.is_int(1)?;
-                let given_back = self.tid(2, e1)?;
-                self.at_least(3, self.post(e2), given_back)?;
-                self.sum(4, post, self.split.marks[self.step].start, self.post(e1))
-            }
-            Word::Join => {
-                self.is_int(1)?;
-                let given_back = self.tid(2, e1)?;
-                self.sum(3, self.post(e1), given_back, post)
-            }
-            Word::Ref => {
-                let Type::Ref { content, .. } = self.split.types[own] else { return broken(31, 1, 0) };
-                holds(1, content == self.kind(e1))?;
-                self.equal(2, post, self.post(e1))
-            }
-            Word::Read => {
-                let (location, content) = self.cell(1, e1)?;
-                holds(2, own == content)?;
-                self.equal(3, post, self.post(e1))?;
-                self.access(4, location, 1)
-            }
-            Word::Write => {
-                self.is_int(1)?;
-                let (location, content) = self.cell(2, e1)?;
-                holds(3, self.kind(e2) == content)?;
-                self.equal(4, post, self.post(e2))?;
-                self.access(5, location, self.split.whole)
-            }
-            Word::Newlock => {
-                let carried = self.lock(1, self.step)?;
-                self.sum(2, post, carried, pre)
-            }
-            Word::Lock | Word::Freelock => {
-                self.is_int(1)?;
-                let carried = self.lock(2, e1)?;
-                self.sum(3, self.post(e1), carried, post)
-            }
-            Word::Unlock => {
-                self.is_int(1)?;
-                let carried = self.lock(2, e1)?;
-                self.sum(3, post, carried, self.post(e1))
-            }
+        match self.steps[self.step].word {
+            Word::Var => self.var(),
+            Word::Int => self.int(),
+            Word::Let => self.binding(),
+            Word::If => self.branch(),
+            Word::While => self.repeat(),
+            Word::Newtid => self.newtid(),
+            Word::Spawn => self.spawn(),
+            Word::Join => self.join(),
+            Word::Ref => self.new_cell(),
+            Word::Read => self.read(),
+            Word::Write => self.write(),
+            Word::Newlock => self.newlock(),
+            Word::Lock | Word::Freelock => self.take(),
+            Word::Unlock => self.unlock(),
         }
+    }
+
+    fn var(&self) -> Judged {
+        let bound = self.steps[self.step].binder + 1;
+        holds(1, self.own() == self.kind(bound))?;
+        self.equal(2, self.post(self.step), self.pre)
+    }
+
+    fn int(&self) -> Judged {
+        self.is_int(1)?;
+        self.equal(2, self.post(self.step), self.pre)
+    }
+
+    fn binding(&self) -> Judged {
+        holds(1, self.own() == self.kind(self.e2()))?;
+        self.equal(2, self.post(self.step), self.post(self.e2()))
+    }
+
+    fn branch(&self) -> Judged {
+        holds(1, self.own() == self.kind(self.e1()))?;
+        holds(2, self.own() == self.kind(self.e2()))?;
+        self.at_least(3, self.post(self.e1()), self.post(self.step))?;
+        self.at_least(4, self.post(self.e2()), self.post(self.step))
+    }
+
+    fn repeat(&self) -> Judged {
+        self.is_int(1)?;
+        self.at_least(2, self.pre, self.post(self.step))?;
+        self.at_least(3, self.post(self.e1()), self.post(self.step))
+    }
+
+    fn newtid(&self) -> Judged {
+        self.tid(1, self.step)?;
+        self.equal(2, self.post(self.step), self.pre)
+    }
+
+    fn spawn(&self) -> Judged {
+        self.is_int(1)?;
+        let given_back = self.tid(2, self.e1())?;
+        self.at_least(3, self.post(self.e2()), given_back)?;
+        let start = self.split.marks[self.step].start;
+        self.sum(4, self.post(self.step), start, self.post(self.e1()))
+    }
+
+    fn join(&self) -> Judged {
+        self.is_int(1)?;
+        let given_back = self.tid(2, self.e1())?;
+        self.sum(3, self.post(self.e1()), given_back, self.post(self.step))
+    }
+
+    fn new_cell(&self) -> Judged {
+        let (_, content) = self.cell(1, self.step)?;
+        holds(1, content == self.kind(self.e1()))?;
+        self.equal(2, self.post(self.step), self.post(self.e1()))
+    }
+
+    fn read(&self) -> Judged {
+        let (location, content) = self.cell(1, self.e1())?;
+        holds(2, self.own() == content)?;
+        self.equal(3, self.post(self.step), self.post(self.e1()))?;
+        self.access(4, location, 1)
+    }
+
+    fn write(&self) -> Judged {
+        self.is_int(1)?;
+        let (location, content) = self.cell(2, self.e1())?;
+        holds(3, self.kind(self.e2()) == content)?;
+        self.equal(4, self.post(self.step), self.post(self.e2()))?;
+        self.access(5, location, self.split.whole)
+    }
+
+    fn newlock(&self) -> Judged {
+        let carried = self.lock(1, self.step)?;
+        self.sum(2, self.post(self.step), carried, self.pre)
+    }
+
+    fn take(&self) -> Judged {
+        self.is_int(1)?;
+        let carried = self.lock(2, self.e1())?;
+        self.sum(3, self.post(self.e1()), carried, self.post(self.step))
+    }
+
+    fn unlock(&self) -> Judged {
+        self.is_int(1)?;
+        let carried = self.lock(2, self.e1())?;
+        self.sum(3, self.post(self.step), carried, self.post(self.e1()))
+    }
+
+    fn e1(&self) -> usize {
+        self.step + 1
+    }
+
+    fn e2(&self) -> usize {
+        self.steps[self.step].second
+    }
+
+    /// The type of the step itself.
+    fn own(&self) -> usize {
+        self.kind(self.step)
     }
 
     fn kind(&self, step: usize) -> usize {
@@ -157,7 +196,7 @@ impl Judge<'_> {
     }
 
     fn is_int(&self, condition: u32) -> Judged {
-        holds(condition, matches!(self.split.types[self.kind(self.step)], Type::Int))
+        holds(condition, matches!(self.split.types[self.own()], Type::Int))
     }
 
     /// The location and the content type of a step that must be a cell.

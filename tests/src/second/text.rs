@@ -58,15 +58,20 @@ impl<'a> Text<'a> {
     /// Takes a numeral: 1 to 7 digits, no leading zero except `0` itself. A digit left over after
     /// that stands where a comma or the closing byte must be, so the line has the wrong form.
     pub fn numeral(&mut self) -> Option<u32> {
-        let mut value = self.digit()?;
-        if value == 0 {
-            return Some(0);
+        let (mut value, mut length) = (0, 0);
+        for byte in self.bytes[self.at..].iter().take(7) {
+            let digit = byte.wrapping_sub(b'0');
+            if digit > 9 {
+                break;
+            }
+            value = value * 10 + u32::from(digit);
+            length += 1;
+            if value == 0 {
+                break;
+            }
         }
-        for _ in 1..7 {
-            let Some(digit) = self.digit() else { break };
-            value = value * 10 + digit;
-        }
-        Some(value)
+        self.at += length;
+        (length > 0).then_some(value)
     }
 
     /// Takes a comma, then a numeral.
@@ -82,14 +87,5 @@ impl<'a> Text<'a> {
             return Some(None);
         }
         self.numeral().map(Some)
-    }
-
-    fn digit(&mut self) -> Option<u32> {
-        let digit = self.bytes.get(self.at)?.wrapping_sub(b'0');
-        if digit > 9 {
-            return None;
-        }
-        self.at += 1;
-        Some(u32::from(digit))
     }
 }
