@@ -4,6 +4,7 @@
 
 pub mod answer;
 pub mod draw;
+pub mod known;
 pub mod product;
 pub mod second;
 pub mod steps;

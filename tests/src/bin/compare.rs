@@ -5,6 +5,7 @@
 
 use evidence::answer::{Returned, WORK_SPACE};
 use evidence::draw::{self, Drawn};
+use evidence::known::KNOWN;
 use evidence::product::{self, WorkSpace};
 use evidence::second;
 use evidence::words::{Word, WORDS};
@@ -23,6 +24,7 @@ fn main() -> ExitCode {
     let start = Instant::now();
     let mut work = WorkSpace::new(WORK_SPACE + 64);
     let mut tally = Tally::default();
+    let known_agree = known_pairs_agree(&mut work);
     for number in 0..pairs {
         let drawn = draw::pair(seed, number);
         let expected = second::check(&drawn.program, &drawn.split, drawn.room);
@@ -34,9 +36,27 @@ fn main() -> ExitCode {
         tally.count(&drawn, expected);
     }
     let against = if product::LINKED { "the product" } else { "a stand-in, the product is not linked" };
-    println!("{pairs} pairs of seed {seed} against {against}, {:.1} s", start.elapsed().as_secs_f64());
+    println!("{} known pairs and {pairs} of seed {seed} against {against}", KNOWN.len());
+    println!("{:.1} s", start.elapsed().as_secs_f64());
     tally.print();
-    tally.verdict()
+    if tally.complete() && known_agree {
+        return ExitCode::SUCCESS;
+    }
+    ExitCode::FAILURE
+}
+
+/// The known pairs get the answers that document 01 lists.
+fn known_pairs_agree(work: &mut WorkSpace) -> bool {
+    let mut agree = true;
+    for known in KNOWN {
+        let (program, split) = known.sheets();
+        let (returned, fault) = work.check(&program, &split, WORK_SPACE);
+        if returned.to_string() != known.answer || fault.is_some() {
+            println!("known pair {} with {}: {returned}, not {}", known.program, known.split, known.answer);
+            agree = false;
+        }
+    }
+    agree
 }
 
 /// What the product does otherwise than the second checker and document 01 say, if anything.
@@ -106,8 +126,8 @@ impl Tally {
         }
     }
 
-    /// Success only when nothing was left out.
-    fn verdict(&self) -> ExitCode {
+    /// Whether every refusal and every condition was met, and a third was accepted.
+    fn complete(&self) -> bool {
         let mut missed: Vec<String> = NUMBERS
             .iter()
             .filter(|number| !self.numbers.contains_key(number))
@@ -121,11 +141,11 @@ impl Tally {
             missed.push("a third of the pairs accepted".to_string());
         }
         if missed.is_empty() {
-            println!("all agree, {} of {} accepted", self.accepted(), self.pairs);
-            return ExitCode::SUCCESS;
+            println!("all drawn pairs agree, {} of {} accepted", self.accepted(), self.pairs);
+            return true;
         }
         println!("never met: {}", missed.join(", "));
-        ExitCode::FAILURE
+        false
     }
 }
 
