@@ -3,11 +3,12 @@
 //! Accepted pairs must never show a fault. Racy and ill-typed programs must show theirs, so that
 //! the search is known to find what it looks for. Exits with 1 on any failure.
 
-use evidence::answer::WORK_SPACE;
+use evidence::answer::{Returned, WORK_SPACE};
 use evidence::draw::draft::Draft;
+use evidence::draw::honest::Slip;
 use evidence::draw::random::Random;
 use evidence::draw::{self, concurrent, honest, mutants, Drawn};
-use evidence::second;
+use evidence::product;
 use evidence::steps::claims::Fault;
 use evidence::steps::expression::Expression;
 use evidence::steps::search::{drawn_schedule, exhaustive, Found};
@@ -22,13 +23,14 @@ const BOUND: usize = 4_000;
 
 fn main() -> ExitCode {
     let start = Instant::now();
-    let checks: [(&str, fn() -> Result<String, String>); 6] = [
+    let checks: [(&str, fn() -> Result<String, String>); 7] = [
         ("known racy programs", known_races),
         ("known odd halts", known_odd_halts),
         ("known safe programs", known_safe),
         ("accepted pairs, all schedules", accepted_exhaustively),
         ("accepted pairs, drawn schedules", accepted_at_random),
         ("faulty drawn programs are refused", faulty_are_refused),
+        ("what a mistaken checker would accept", slips_are_refused),
     ];
     let mut exit = ExitCode::SUCCESS;
     for (title, check) in checks {
@@ -133,7 +135,7 @@ fn known_odd_halts() -> Result<String, String> {
 
 fn known_safe() -> Result<String, String> {
     let split = GUARDED_SPLIT.replace('|', "\n").into_bytes();
-    let returned = second::check(&sheet(GUARDED), &split, WORK_SPACE);
+    let returned = answer(&sheet(GUARDED), &split);
     if returned.number != 0 {
         return Err(format!("Figure 2 (c) gets {returned}"));
     }
@@ -173,8 +175,9 @@ impl Sum {
     }
 }
 
-fn accepted(draft: &Draft) -> bool {
-    second::check(&draft.program(), &draft.split(), WORK_SPACE).number == 0
+/// What the product says of a pair, or the second checker where the product is not linked.
+fn answer(program: &[u8], split: &[u8]) -> Returned {
+    product::check(program, split, &mut [0; WORK_SPACE])
 }
 
 fn accepted_exhaustively() -> Result<String, String> {
@@ -182,7 +185,7 @@ fn accepted_exhaustively() -> Result<String, String> {
     for number in 0..1_600 {
         let random = &mut Random::new(SEED, number);
         let draft = small_draft(random, number);
-        if !accepted(&draft) {
+        if answer(&draft.program(), &draft.split()).number != 0 {
             return Err(format!("the honest pair {number} is refused"));
         }
         let found = exhaustive(&listed(&draft.program()), BOUND);
@@ -211,7 +214,7 @@ fn accepted_at_random() -> Result<String, String> {
             0 => Drawn::of(&concurrent::draft(random), "concurrent"),
             _ => draw::pair(SEED + 1, number),
         };
-        if second::check(&pair.program, &pair.split, WORK_SPACE).number != 0 {
+        if answer(&pair.program, &pair.split).number != 0 {
             continue;
         }
         let program = listed(&pair.program);
@@ -237,7 +240,7 @@ fn faulty_are_refused() -> Result<String, String> {
         } else {
             loosen(random, &mut draft);
         }
-        let returned = second::check(&draft.program(), &draft.split(), WORK_SPACE);
+        let returned = answer(&draft.program(), &draft.split());
         if (1..=23).contains(&returned.number) {
             continue;
         }
@@ -254,6 +257,28 @@ fn faulty_are_refused() -> Result<String, String> {
         return Err(format!("only {races} races and {halts} odd halts found"));
     }
     Ok(format!("{races} with a race and {halts} with an odd halt, all refused; {still_accepted} still accepted"))
+}
+
+/// Drafts built with one of the mistakes that document 01 expects: some of them race, and those must
+/// be refused.
+fn slips_are_refused() -> Result<String, String> {
+    let mut told = Vec::new();
+    for slip in [Slip::LocksForFree, Slip::StartsForFree, Slip::WritesByFirstMap] {
+        let mut races = 0;
+        for number in 0..300 {
+            let draft = concurrent::draft_with(&mut Random::new(SEED + 3, number), Some(slip));
+            let Some(fault) = exhaustive(&listed(&draft.program()), BOUND).fault else { continue };
+            races += usize::from(matches!(fault, Fault::Race(_)));
+            if answer(&draft.program(), &draft.split()).number == 0 {
+                return Err(format!("{fault:?} in the accepted pair {number} with {slip:?}"));
+            }
+        }
+        if races < 10 {
+            return Err(format!("only {races} races with {slip:?}"));
+        }
+        told.push(format!("{slip:?} {races} races"));
+    }
+    Ok(format!("{}, all refused", told.join(", ")))
 }
 
 /// Takes away what keeps threads apart: a `lock` becomes an `unlock`, a `join` a mere `ref`.

@@ -2,17 +2,23 @@
 //! over at a join.
 
 use super::draft::{Draft, Map, Type};
-use super::honest::Builder;
+use super::honest::{Builder, Slip};
 use super::random::Random;
 use crate::words::Word;
 
 /// Two locations: the lock carries the whole of the first, identifiers bring back half of the
 /// second, all of it, or nothing.
 pub fn draft(random: &mut Random) -> Draft {
+    draft_with(random, None)
+}
+
+/// Such a draft from a builder that makes a mistake.
+pub fn draft_with(random: &mut Random, slip: Option<Slip>) -> Draft {
     loop {
         let whole = random.pick(&[2, 4, 6]);
         let size = 16 + random.below(24);
         let mut builder = Builder::bare(random, 2, whole);
+        builder.slip = slip;
         let map = |builder: &mut Builder, first, second| {
             let mut map = Map::default();
             (map[0], map[1]) = (first, second);

@@ -10,6 +10,18 @@ use super::random::Random;
 use crate::answer::{STEPS, VARIABLES, WHOLE};
 use crate::words::Word;
 
+/// A mistake of document 01's "Bugs we expect". A builder that makes it builds what a checker with
+/// that mistake would accept.
+#[derive(Clone, Copy, Debug, PartialEq, Eq)]
+pub enum Slip {
+    /// A new lock takes nothing from the thread.
+    LocksForFree,
+    /// A spawned body's start is not taken from the parent.
+    StartsForFree,
+    /// A write is tested against map 0.
+    WritesByFirstMap,
+}
+
 pub struct Builder<'r> {
     pub random: &'r mut Random,
     pub draft: Draft,
@@ -19,6 +31,8 @@ pub struct Builder<'r> {
     pub(super) unbound: Vec<u32>,
     /// A number grew past what a map can hold: the draft is to be dropped.
     spoiled: bool,
+    /// None in an honest builder.
+    pub(super) slip: Option<Slip>,
 }
 
 /// How many maps the builder may use before it stops taking words that move capabilities.
@@ -51,7 +65,7 @@ impl<'r> Builder<'r> {
         let first = random.between(0, VARIABLES - 1);
         let unbound = (0..VARIABLES).map(|place| (first + 37 * place) % VARIABLES).collect();
         let draft = Draft { whole, locations, types: Vec::new(), maps: Vec::new(), steps: Vec::new() };
-        Builder { random, draft, scope: Vec::new(), unbound, spoiled: false }
+        Builder { random, draft, scope: Vec::new(), unbound, spoiled: false, slip: None }
     }
 
     /// The draft, if it kept within the limits.
@@ -153,10 +167,15 @@ impl<'r> Builder<'r> {
     pub(super) fn price(&self, kind: usize) -> Map {
         match self.draft.types[kind] {
             _ if self.in_scope(kind) => Map::default(),
-            Type::Lock(map) => self.draft.maps[map],
+            Type::Lock(map) => self.lock_price(map),
             Type::Ref { content, .. } => self.price(content),
             Type::Int | Type::Tid(_) => Map::default(),
         }
+    }
+
+    /// What a new lock that carries this map takes.
+    pub(super) fn lock_price(&self, map: usize) -> Map {
+        if self.slip == Some(Slip::LocksForFree) { Map::default() } else { self.draft.maps[map] }
     }
 
     pub(super) fn can_make(&self, kind: usize, now: &Map, need: &Map) -> bool {

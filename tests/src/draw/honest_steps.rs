@@ -1,7 +1,7 @@
 //! The words of an honest pair: what each takes from the map held now, and what it gives.
 
 use super::draft::{at_least, difference, lower, sum, Map, Step, Type};
-use super::honest::{Builder, MAPS_IN_USE};
+use super::honest::{Builder, Slip, MAPS_IN_USE};
 use crate::answer::{CONSTANTS, WHOLE};
 use crate::words::Word;
 
@@ -61,9 +61,9 @@ impl Builder<'_> {
     }
 
     fn newlock(&mut self, kind: usize, map: usize, now: &mut Map, need: &Map) -> bool {
-        let carried = self.draft.maps[map];
-        at_least(now, &sum(need, &carried)) && {
-            *now = difference(now, &carried);
+        let price = self.lock_price(map);
+        at_least(now, &sum(need, &price)) && {
+            *now = difference(now, &price);
             self.leaf(Word::Newlock, 0, kind, now)
         }
     }
@@ -127,7 +127,9 @@ impl Builder<'_> {
         let spare = difference(now, &sum(need, &given_back));
         let start = sum(&given_back, &spare.map(|amount| self.part_of(amount)));
         self.work(&mut start.clone(), &given_back, size.saturating_sub(2));
-        *now = difference(now, &start);
+        if self.slip != Some(Slip::StartsForFree) {
+            *now = difference(now, &start);
+        }
         self.draft.steps[step].start = self.start_number(start);
         self.close(step, kind, now)
     }
@@ -227,15 +229,19 @@ impl Builder<'_> {
 
     fn write(&mut self, kind: usize, now: &mut Map, need: &Map, size: usize) -> bool {
         let whole = self.draft.whole;
+        let by_first_map = self.slip == Some(Slip::WritesByFirstMap);
+        let held = if by_first_map { self.draft.maps[0] } else { *now };
         let wants_known = self.random.percent(85);
         let writable = |builder: &Self, number, cell| {
-            matches!(cell, Type::Ref { location, .. } if now[location] >= whole)
+            matches!(cell, Type::Ref { location, .. } if held[location] >= whole)
                 && (!wants_known || builder.in_scope(number))
         };
         let Some(cell) = self.type_where(writable) else { return false };
         let Type::Ref { location, content } = self.draft.types[cell] else { return false };
         let mut kept = *need;
-        kept[location] = kept[location].max(whole);
+        if !by_first_map {
+            kept[location] = kept[location].max(whole);
+        }
         let kept_for_value = sum(&kept, &self.price(content));
         self.can_make(cell, now, &kept_for_value) && {
             let step = self.open(Word::Write, 0);

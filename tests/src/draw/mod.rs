@@ -12,7 +12,7 @@ pub mod mutants;
 mod noise;
 pub mod random;
 
-use crate::answer::{LOCATIONS, SPLIT_BYTES, WHOLE, WORK_SPACE};
+use crate::answer::{LOCATIONS, PROGRAM_BYTES, SPLIT_BYTES, WHOLE, WORK_SPACE};
 use crate::words::{Word, WORDS};
 use draft::Draft;
 use random::Random;
@@ -40,7 +40,8 @@ pub fn pair(seed: u64, number: u64) -> Drawn {
         400..=404 => Drawn::of(&near_full(random), "full"),
         405..=554 => directed(random, number),
         555..=729 => changed_draft(random),
-        730..=889 => changed_text(random),
+        730..=869 => changed_text(random),
+        870..=889 => faults_at_once(random),
         890..=939 => limits::at_limit(random),
         _ => noise::noise(random),
     }
@@ -86,6 +87,27 @@ fn changed_text(random: &mut Random) -> Drawn {
     let text = if random.percent(50) { &mut drawn.program } else { &mut drawn.split };
     for _ in 0..1 + random.below(2) {
         mutants::change_text(random, text);
+    }
+    drawn
+}
+
+/// Both sheets changed, and lengths past their limits now and then: the order of the refusals shows.
+fn faults_at_once(random: &mut Random) -> Drawn {
+    let mut drawn = Drawn { origin: "faults at once", ..Drawn::of(&honest_draft(random), "") };
+    if random.percent(70) {
+        mutants::change_text(random, &mut drawn.program);
+    }
+    if random.percent(70) {
+        mutants::change_text(random, &mut drawn.split);
+    }
+    if random.percent(20) {
+        drawn.program.resize(PROGRAM_BYTES + 1, b'0');
+    }
+    if random.percent(30) {
+        drawn.split.resize(SPLIT_BYTES + 1, b'0');
+    }
+    if random.percent(10) {
+        drawn.room = WORK_SPACE - 1;
     }
     drawn
 }

@@ -12,7 +12,7 @@ pub fn change_draft(random: &mut Random, draft: &mut Draft) {
         2 | 3 => draft.steps[step].post = random.below(draft.maps.len()),
         4 => draft.steps[step].start = random.percent(70).then(|| random.below(draft.maps.len())),
         5 => draft.steps[step].word = word_like(random, draft.steps[step].word),
-        6 => draft.steps[step].number = random.between(0, 300),
+        6 => change_variable(random, draft),
         7 => change_type(random, draft),
         8 => change_number(random, draft),
         _ => draft.whole = random.pick(&[1, 2, draft.whole + 1, draft.whole.max(2) - 1, 1_000_000]),
@@ -27,6 +27,20 @@ fn word_like(random: &mut Random, word: Word) -> Word {
             return other;
         }
     }
+}
+
+/// Gives a `let` or a `var` the variable of another `let`, or gives any step any number.
+fn change_variable(random: &mut Random, draft: &mut Draft) {
+    let steps_with = |words: &[Word]| -> Vec<usize> {
+        (0..draft.steps.len()).filter(|&step| words.contains(&draft.steps[step].word)).collect()
+    };
+    let (lets, both) = (steps_with(&[Word::Let]), steps_with(&[Word::Let, Word::Var]));
+    if lets.is_empty() || random.percent(20) {
+        let step = random.below(draft.steps.len());
+        draft.steps[step].number = random.between(0, 300);
+        return;
+    }
+    draft.steps[random.pick(&both)].number = draft.steps[random.pick(&lets)].number;
 }
 
 fn change_type(random: &mut Random, draft: &mut Draft) {
