@@ -7,6 +7,7 @@ use evidence::answer::{Returned, WORK_SPACE};
 use evidence::draw::draft::{Draft, Map};
 use evidence::draw::random::Random;
 use evidence::draw::{full, honest};
+use evidence::known::KNOWN;
 use evidence::{product, second};
 use std::hint::black_box;
 use std::time::{Duration, Instant};
@@ -38,11 +39,12 @@ fn main() {
     }
     let mut bench = Bench { work: vec![0; WORK_SPACE] };
     let random = &mut Random::new(1, 0);
-    let small = honest::draft(random, 12, 1, 2);
+    let (program, split) = KNOWN[0].sheets();
+    let small = Pair { title: "small, Figure 2 (b), accepted".to_string(), program, split };
     let (fullest, refused) = (full::fullest(random), full::refused_last(random));
     println!("nanoseconds a call, the best batch of {BATCHES}");
     heading();
-    bench.row(&Pair::new("small, accepted", &small), None);
+    bench.row(&small, None);
     bench.row(&Pair::new("full, accepted", &fullest), None);
     bench.row(&Pair::new("full, refused at its last condition", &refused), None);
     bench.growth("steps", [16, 32, 64, 128, 256], |random, count| grown(random, count, 32, 4));

@@ -22,9 +22,8 @@ pub enum Word {
 use Word::*;
 
 /// Every word, in the order of document 01's table of conditions.
-pub const WORDS: [Word; 15] = [
-    Var, Int, Let, If, While, Newtid, Spawn, Join, Ref, Read, Write, Newlock, Lock, Freelock, Unlock,
-];
+pub const WORDS: [Word; 15] =
+    [Var, Int, Let, If, While, Newtid, Spawn, Join, Ref, Read, Write, Newlock, Lock, Freelock, Unlock];
 
 impl Word {
     /// The word with this spelling, if there is one.

@@ -21,9 +21,12 @@ const SEED: u64 = 2008;
 /// How many states an exhaustive search visits before it gives up on the rest.
 const BOUND: usize = 4_000;
 
+/// A summary when all is well, else what failed.
+type Check = fn() -> Result<String, String>;
+
 fn main() -> ExitCode {
     let start = Instant::now();
-    let checks: [(&str, fn() -> Result<String, String>); 7] = [
+    let checks: [(&str, Check); 7] = [
         ("known racy programs", known_races),
         ("known odd halts", known_odd_halts),
         ("known safe programs", known_safe),
@@ -199,7 +202,7 @@ fn accepted_exhaustively() -> Result<String, String> {
 
 /// Two kinds in turn: drawn word by word, and drawn around threads that share cells.
 fn small_draft(random: &mut Random, number: u64) -> Draft {
-    if number % 2 == 0 {
+    if number.is_multiple_of(2) {
         return concurrent::draft(random);
     }
     let (size, locations) = (10 + random.below(25), 1 + random.below(2));

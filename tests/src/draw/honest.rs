@@ -175,7 +175,11 @@ impl<'r> Builder<'r> {
 
     /// What a new lock that carries this map takes.
     pub(super) fn lock_price(&self, map: usize) -> Map {
-        if self.slip == Some(Slip::LocksForFree) { Map::default() } else { self.draft.maps[map] }
+        if self.slip == Some(Slip::LocksForFree) {
+            Map::default()
+        } else {
+            self.draft.maps[map]
+        }
     }
 
     pub(super) fn can_make(&self, kind: usize, now: &Map, need: &Map) -> bool {

@@ -111,9 +111,7 @@ impl Builder<'_> {
     }
 
     fn spawn(&mut self, kind: usize, now: &mut Map, need: &Map, size: usize) -> bool {
-        let affordable = |builder: &Self, _, kind| {
-            matches!(kind, Type::Tid(map) if at_least(now, &sum(need, &builder.draft.maps[map])))
-        };
+        let affordable = |builder: &Self, _, kind| matches!(kind, Type::Tid(map) if at_least(now, &sum(need, &builder.draft.maps[map])));
         let Some(identifier) = self.type_where(affordable) else { return false };
         self.spawn_on(identifier, kind, now, need, size)
     }
@@ -144,9 +142,8 @@ impl Builder<'_> {
 
     fn join(&mut self, kind: usize, now: &mut Map, need: &Map, size: usize) -> bool {
         let wants_known = self.random.percent(95);
-        let known = |builder: &Self, number, kind| {
-            matches!(kind, Type::Tid(_)) && (!wants_known || builder.in_scope(number))
-        };
+        let known =
+            |builder: &Self, number, kind| matches!(kind, Type::Tid(_)) && (!wants_known || builder.in_scope(number));
         let Some(identifier) = self.type_where(known) else { return false };
         let Type::Tid(map) = self.draft.types[identifier] else { return false };
         self.gain(Word::Join, kind, identifier, map, now, need, size)
@@ -154,9 +151,8 @@ impl Builder<'_> {
 
     fn take(&mut self, word: Word, kind: usize, now: &mut Map, need: &Map, size: usize) -> bool {
         let wants_known = self.random.percent(95);
-        let known = |builder: &Self, number, kind| {
-            matches!(kind, Type::Lock(_)) && (!wants_known || builder.in_scope(number))
-        };
+        let known =
+            |builder: &Self, number, kind| matches!(kind, Type::Lock(_)) && (!wants_known || builder.in_scope(number));
         let Some(lock) = self.type_where(known) else { return false };
         let Type::Lock(map) = self.draft.types[lock] else { return false };
         self.can_make(lock, now, need) && self.gain(word, kind, lock, map, now, need, size)

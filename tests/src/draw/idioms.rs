@@ -69,9 +69,7 @@ impl Builder<'_> {
 
     /// `let t = newtid in let _ = spawn(t){e} in let _ = e' in let _ = join t in e''`.
     pub(super) fn fork_and_join(&mut self, kind: usize, now: &mut Map, need: &Map, size: usize) -> bool {
-        let affordable = |builder: &Self, _, kind| {
-            matches!(kind, Type::Tid(map) if at_least(now, &sum(need, &builder.draft.maps[map])))
-        };
+        let affordable = |builder: &Self, _, kind| matches!(kind, Type::Tid(map) if at_least(now, &sum(need, &builder.draft.maps[map])));
         let Some(identifier) = self.type_where(affordable) else { return false };
         let Type::Tid(map) = self.draft.types[identifier] else { return false };
         let (int, half) = (self.int_type(), size.saturating_sub(8) / 2);

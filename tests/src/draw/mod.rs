@@ -133,7 +133,8 @@ mod tests {
     #[test]
     fn full_pairs_end_as_told() {
         for seed in 0..5 {
-            let (longest, refused) = (full::fullest(&mut Random::new(3, seed)), full::refused_last(&mut Random::new(4, seed)));
+            let (longest, refused) =
+                (full::fullest(&mut Random::new(3, seed)), full::refused_last(&mut Random::new(4, seed)));
             let answer = |draft: &Draft| second::check(&draft.program(), &draft.split(), WORK_SPACE).to_string();
             assert_eq!((longest.split().len(), answer(&longest).as_str()), (65_536, "ACCEPT"));
             assert_eq!((refused.split().len(), answer(&refused).as_str()), (65_536, "REFUSE,32,257,2,15"));

@@ -81,7 +81,11 @@ pub fn change_text(random: &mut Random, text: &mut Vec<u8>) {
 const TELLING: &[u8] = b"\n\n,,0019 \r-+PCintrefvlk\0\xff";
 
 fn drawn_byte(random: &mut Random) -> u8 {
-    if random.percent(80) { random.pick(TELLING) } else { random.byte() }
+    if random.percent(80) {
+        random.pick(TELLING)
+    } else {
+        random.byte()
+    }
 }
 
 fn change_byte(random: &mut Random, text: &mut [u8]) {
@@ -119,8 +123,30 @@ fn numerals(text: &[u8]) -> Vec<std::ops::Range<usize>> {
 
 /// Numbers at the ends of the ranges of document 01, and one past them.
 const EDGES: &[u32] = &[
-    0, 1, 2, 15, 16, 17, 63, 64, 65, 255, 256, 257, 511, 512, 513, 65_535, 65_536, 999_999, 1_000_000, 1_000_001,
-    9_999_999, 10_000_000, 99_999_999, u32::MAX,
+    0,
+    1,
+    2,
+    15,
+    16,
+    17,
+    63,
+    64,
+    65,
+    255,
+    256,
+    257,
+    511,
+    512,
+    513,
+    65_535,
+    65_536,
+    999_999,
+    1_000_000,
+    1_000_001,
+    9_999_999,
+    10_000_000,
+    99_999_999,
+    u32::MAX,
 ];
 
 fn change_numeral(random: &mut Random, text: &mut Vec<u8>) {
@@ -171,7 +197,8 @@ fn double_line(random: &mut Random, text: &mut Vec<u8>) {
 fn swap_lines(random: &mut Random, text: &mut Vec<u8>) {
     let (one, other) = (drawn_line(random, text), drawn_line(random, text));
     if one.end <= other.start {
-        let parts = [&text[..one.start], &text[other.clone()], &text[one.end..other.start], &text[one], &text[other.end..]];
+        let parts =
+            [&text[..one.start], &text[other.clone()], &text[one.end..other.start], &text[one], &text[other.end..]];
         *text = parts.concat();
     }
 }

@@ -254,7 +254,11 @@ fn broken<T>(number: u32, condition: u32, location: usize) -> Result<T, Broken> 
 
 /// A condition on types.
 fn holds(condition: u32, yes: bool) -> Judged {
-    if yes { Ok(()) } else { broken(31, condition, 0) }
+    if yes {
+        Ok(())
+    } else {
+        broken(31, condition, 0)
+    }
 }
 
 /// A condition on maps, judged location by location; the lowest false one is reported.

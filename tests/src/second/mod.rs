@@ -28,5 +28,9 @@ fn first_refusal(program: &[u8], split: &[u8], room: usize) -> Result<(), Return
 
 /// Refuses with `number` and no line when `length` is over `limit`.
 fn at_most(number: u32, length: usize, limit: usize) -> Result<(), Returned> {
-    if length <= limit { Ok(()) } else { Err(Returned::at_line(number, 0)) }
+    if length <= limit {
+        Ok(())
+    } else {
+        Err(Returned::at_line(number, 0))
+    }
 }

@@ -30,12 +30,20 @@ impl<'a> Text<'a> {
 
     /// Refuses the line just read unless its numbers are in range.
     pub fn in_range(&self, yes: bool) -> Result<(), Returned> {
-        if yes { Ok(()) } else { Err(Returned::at_line(self.base + 2, self.line - 1)) }
+        if yes {
+            Ok(())
+        } else {
+            Err(Returned::at_line(self.base + 2, self.line - 1))
+        }
     }
 
     /// Refuses the first spare line, whatever its bytes.
     pub fn end(&self) -> Result<(), Returned> {
-        if self.at == self.bytes.len() { Ok(()) } else { Err(Returned::at_line(self.base + 3, self.line)) }
+        if self.at == self.bytes.len() {
+            Ok(())
+        } else {
+            Err(Returned::at_line(self.base + 3, self.line))
+        }
     }
 
     /// Takes this one byte.

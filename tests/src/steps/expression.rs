@@ -19,7 +19,11 @@ pub enum Expression {
     Value(Value),
     Var(u32),
     /// Any other word. The variable is the one that a `let` binds, and 0 elsewhere.
-    Step { word: Word, variable: u32, parts: Vec<Rc<Expression>> },
+    Step {
+        word: Word,
+        variable: u32,
+        parts: Vec<Rc<Expression>>,
+    },
 }
 
 /// The variable of an unrolled loop's `let`, which no program uses.

@@ -4,3 +4,5 @@ pub mod claims;
 pub mod expression;
 pub mod search;
 pub mod state;
+#[cfg(test)]
+mod tests;
