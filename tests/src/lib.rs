@@ -3,6 +3,7 @@
 //! "Document 01" in the comments is the specification of the two sheets and their answers.
 
 pub mod answer;
+pub mod comparison;
 pub mod draw;
 pub mod known;
 pub mod product;

@@ -1,4 +1,4 @@
-//! The call of the product through its C entry, and the check of what it leaves behind.
+//! The call of the product through its C entry.
 //! Without the library (see `build.rs`) the second checker stands in, so that all else still runs.
 
 use crate::answer::{Returned, WORK_SPACE};
@@ -50,36 +50,4 @@ pub fn check(program: &[u8], split: &[u8], work: &mut [u32]) -> Returned {
         work[..WORK_SPACE].fill(0);
     }
     returned
-}
-
-/// A work space with a mark behind it, filled with garbage before each call.
-pub struct WorkSpace {
-    numbers: Vec<u32>,
-    garbage: Vec<u32>,
-}
-
-/// How many numbers stand behind the lent part, to show a write past its end.
-const MARK: usize = 64;
-
-impl WorkSpace {
-    /// A work space that can lend up to `longest` numbers.
-    pub fn new(longest: usize) -> WorkSpace {
-        let garbage: Vec<u32> = (0..longest + MARK).map(|place| 0xA5A5_0001 ^ (place as u32) << 8).collect();
-        WorkSpace { numbers: garbage.clone(), garbage }
-    }
-
-    /// Calls the product with `room` numbers of garbage. The second part says what is wrong with
-    /// the work space afterwards, if anything.
-    pub fn check(&mut self, program: &[u8], split: &[u8], room: usize) -> (Returned, Option<&'static str>) {
-        self.numbers.copy_from_slice(&self.garbage);
-        let returned = check(program, split, &mut self.numbers[..room]);
-        let cleared = if room < WORK_SPACE { 0 } else { WORK_SPACE };
-        if self.numbers[..cleared].iter().any(|&number| number != 0) {
-            return (returned, Some("the work space is not cleared"));
-        }
-        if self.numbers[cleared..] != self.garbage[cleared..] {
-            return (returned, Some("the work space is changed where it must stay"));
-        }
-        (returned, None)
-    }
 }

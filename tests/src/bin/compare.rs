@@ -4,11 +4,11 @@
 //! also when a refusal or a condition was never met or too few pairs were accepted.
 
 use evidence::answer::{Returned, WORK_SPACE};
+use evidence::comparison::{difference, WorkSpace};
 use evidence::draw::{self, Drawn};
 use evidence::known::KNOWN;
-use evidence::product::{self, WorkSpace};
-use evidence::second;
 use evidence::words::{Word, WORDS};
+use evidence::{product, second};
 use std::collections::BTreeMap;
 use std::process::ExitCode;
 use std::time::Instant;
@@ -22,13 +22,13 @@ fn main() -> ExitCode {
     let pairs = arguments.next().and_then(Result::ok).unwrap_or(PAIRS);
     let seed = arguments.next().and_then(Result::ok).unwrap_or(SEED);
     let start = Instant::now();
-    let mut work = WorkSpace::new(WORK_SPACE + 64);
+    let mut work = WorkSpace::default();
     let mut tally = Tally::default();
     let known_agree = known_pairs_agree(&mut work);
     for number in 0..pairs {
         let drawn = draw::pair(seed, number);
         let expected = second::check(&drawn.program, &drawn.split, drawn.room);
-        if let Some(difference) = difference(&drawn, expected, &mut work) {
+        if let Some(difference) = difference(product::check, &drawn, expected, &mut work) {
             save(&drawn, number);
             println!("pair {number} of seed {seed} ({}): {difference}", drawn.origin);
             return ExitCode::FAILURE;
@@ -50,26 +50,13 @@ fn known_pairs_agree(work: &mut WorkSpace) -> bool {
     let mut agree = true;
     for known in KNOWN {
         let (program, split) = known.sheets();
-        let (returned, fault) = work.check(&program, &split, WORK_SPACE);
+        let (returned, fault) = work.check(product::check, &program, &split, WORK_SPACE);
         if returned.to_string() != known.answer || fault.is_some() {
             println!("known pair {} with {}: {returned}, not {}", known.program, known.split, known.answer);
             agree = false;
         }
     }
     agree
-}
-
-/// What the product does otherwise than the second checker and document 01 say, if anything.
-fn difference(drawn: &Drawn, expected: Returned, work: &mut WorkSpace) -> Option<String> {
-    let (program, split) = (drawn.program.clone(), drawn.split.clone());
-    let (returned, fault) = work.check(&program, &split, drawn.room);
-    if returned != expected {
-        return Some(format!("product {returned:?}, second checker {expected:?}, room {}", drawn.room));
-    }
-    if program != drawn.program || split != drawn.split {
-        return Some("a text was changed".to_string());
-    }
-    fault.map(str::to_string)
 }
 
 /// Keeps the pair for a closer look.
