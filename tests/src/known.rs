@@ -40,6 +40,46 @@ macro_rules! split_of_p {
     };
 }
 
+/// Figure 2 (a), with half of the cell for each thread: the write asks for the whole.
+const RACY: Known = pair(
+    "P,11|let,0|ref,0|int,0|let,1|spawn,0|newtid,0|read,0|var,0|write,0|var,0|int,1|",
+    "C,2,1,3,3|int,0,0|ref,0,0|tid,2,0|2|1|0|0,1,|1,0,|0,0,|0,1,|0,1,1|2,0,|0,1,|1,1,|0,1,|1,1,|0,1,|",
+    "REFUSE,33,10,5,0",
+);
+
+/// Figure 2 (c): the lock carries the whole of the cell.
+const GUARDED: Known = pair(
+    "P,25|let,0|ref,0|int,0|let,1|newlock,0|let,2|spawn,0|newtid,0|let,3|lock,0|var,1|let,4|read,0|var,0|\
+     unlock,0|var,1|let,5|lock,0|var,1|let,6|write,0|var,0|int,1|unlock,0|var,1|",
+    "C,1,1,4,2|int,0,0|ref,0,0|lock,0,0|tid,1,0|1|0|0,1,|1,0,|0,0,|0,1,|2,1,|0,1,|0,1,1|3,1,|0,1,|0,0,|2,1,|0,1,|\
+     0,0,|1,0,|0,1,|2,0,|0,1,|0,0,|2,1,|0,1,|0,0,|1,0,|0,0,|0,1,|2,0,|",
+    "ACCEPT",
+);
+
+/// The program beside NEWL-unsound: each of two locks would carry the whole of the cell.
+const TWO_LOCKS: Known = pair(
+    "P,27|let,0|ref,0|int,0|let,1|newlock,0|let,2|newlock,0|let,3|spawn,0|newtid,0|let,4|lock,0|var,1|let,5|read,0|\
+     var,0|unlock,0|var,1|let,6|lock,0|var,2|let,7|write,0|var,0|int,1|unlock,0|var,2|",
+    "C,1,1,4,2|int,0,0|ref,0,0|lock,0,0|tid,1,0|1|0|0,1,|1,0,|0,0,|0,1,|2,1,|0,1,|2,1,|0,1,|0,1,1|3,1,|0,1,|0,0,|2,1,|\
+     0,1,|0,0,|1,0,|0,1,|2,0,|0,1,|0,0,|2,1,|0,1,|0,0,|1,0,|0,0,|0,1,|2,0,|",
+    "REFUSE,32,8,2,0",
+);
+
+/// The example of the paper's section 2.2.1: threads spawned in a loop, x behind a lock, y read in
+/// halves and written after the joins.
+const LOOP: Known = pair(
+    "P,50|let,0|ref,0|int,0|let,1|ref,0|int,0|let,2|newtid,0|let,3|newlock,0|while,0|\
+     let,4|spawn,0|var,2|let,5|read,0|var,1|let,6|lock,0|var,3|let,7|write,0|var,0|var,5|unlock,0|var,3|\
+     let,8|spawn,0|var,2|let,9|read,0|var,1|let,10|lock,0|var,3|let,11|write,0|var,0|var,9|unlock,0|var,3|\
+     let,12|join,0|var,2|let,13|join,0|var,2|write,0|var,1|int,1|",
+    "C,2,2,5,6|int,0,0|ref,0,0|ref,1,0|tid,2,0|lock,1,0|2,2|2,0|0,1|0,2|0,0|2,1|\
+     0,3,|1,0,|0,0,|0,3,|2,0,|0,0,|0,3,|3,0,|0,3,|4,3,|0,3,|\
+     0,3,|0,2,2|3,3,|0,2,|0,2,|2,2,|0,2,|0,5,|4,2,|0,2,|0,5,|1,5,|0,5,|0,2,|4,5,|\
+     0,3,|0,4,2|3,2,|0,2,|0,2,|2,2,|0,2,|0,5,|4,2,|0,2,|0,5,|1,5,|0,5,|0,2,|4,5,|\
+     0,3,|0,2,|3,4,|0,3,|0,3,|3,2,|0,3,|2,3,|0,3,|",
+    "ACCEPT",
+);
+
 const fn pair(program: &'static str, split: &'static str, answer: &'static str) -> Known {
     Known { program, split, answer }
 }
@@ -69,6 +109,11 @@ pub const KNOWN: &[Known] = &[
     program("P,2|int,0|int,0|", "REFUSE,13,3,0,0"),
     pair("P,3|let,255|int,0|var,255|", Z3, "ACCEPT"),
     pair("P,3|let,256|int,0|int,0|", Z3, "REFUSE,12,2,0,0"),
+    // The paper's other examples.
+    RACY,
+    GUARDED,
+    TWO_LOCKS,
+    LOOP,
     // An empty s on a spawn is map 0.
     pair(P, split_of_p!("C,2,1,3,2", "0,1,"), "REFUSE,32,8,4,0"),
     // Missing and spare lines. A spare line is met before the tree is looked at.

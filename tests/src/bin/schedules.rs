@@ -8,6 +8,7 @@ use evidence::draw::draft::Draft;
 use evidence::draw::honest::Slip;
 use evidence::draw::random::Random;
 use evidence::draw::{self, concurrent, honest, mutants, Drawn};
+use evidence::known::{Known, KNOWN};
 use evidence::product;
 use evidence::steps::claims::Fault;
 use evidence::steps::expression::Expression;
@@ -97,18 +98,11 @@ const ODD: [&str; 8] = [
     "let,0|newtid,0|let,1|spawn,0|var,0|read,0|int,0|join,0|var,0",
 ];
 
-/// Figure 2 (c) with its split: the lock carries the whole of the cell's location.
-const GUARDED: &str = "let,0|ref,0|int,0|let,1|newlock,0|let,2|spawn,0|newtid,0|let,3|lock,0|var,1|let,4|read,0|var,0|\
-                       unlock,0|var,1|let,5|lock,0|var,1|let,6|write,0|var,0|int,1|unlock,0|var,1";
-const GUARDED_SPLIT: &str = "C,1,1,4,2|int,0,0|ref,0,0|lock,0,0|tid,1,0|1|0|0,1,|1,0,|0,0,|0,1,|2,1,|0,1,|0,1,1|3,1,|\
-                             0,1,|0,0,|2,1,|0,1,|0,0,|1,0,|0,1,|2,0,|0,1,|0,0,|2,1,|0,1,|0,0,|1,0,|0,0,|0,1,|2,0,|";
-
-/// Programs that wait for ever or keep apart, and show no fault on any schedule.
-const SAFE: [&str; 4] = [
-    "let,0|ref,0|int,0|let,1|newtid,0|let,2|spawn,0|var,1|read,0|var,0|let,3|join,0|var,1|write,0|var,0|int,1",
-    GUARDED,
+/// Programs that wait for ever, and show no fault for it.
+const WAITING: [&str; 3] = [
     "join,0|newtid,0",
     "let,0|newlock,0|let,1|lock,0|var,0|freelock,0|var,0",
+    "let,0|newlock,0|let,1|freelock,0|var,0|lock,0|var,0",
 ];
 
 fn sheet(steps: &str) -> Vec<u8> {
@@ -137,18 +131,17 @@ fn known_odd_halts() -> Result<String, String> {
 }
 
 fn known_safe() -> Result<String, String> {
-    let split = GUARDED_SPLIT.replace('|', "\n").into_bytes();
-    let returned = answer(&sheet(GUARDED), &split);
-    if returned.number != 0 {
-        return Err(format!("Figure 2 (c) gets {returned}"));
-    }
-    for steps in SAFE {
-        let found = exhaustive(&listed(&sheet(steps)), 100_000);
-        if !found.complete || found.fault.is_some() {
-            return Err(format!("{:?} in {steps}", found.fault));
+    let accepted: Vec<&Known> = KNOWN.iter().filter(|known| known.answer == "ACCEPT").collect();
+    let waiting = WAITING.iter().map(|steps| sheet(steps));
+    let mut sum = Sum::default();
+    for program in accepted.iter().map(|known| known.sheets().0).chain(waiting) {
+        let found = exhaustive(&listed(&program), 50_000);
+        if let Some(fault) = found.fault {
+            return Err(format!("{fault:?} in {}", String::from_utf8_lossy(&program)));
         }
+        sum.add(&found);
     }
-    Ok(format!("{} searched to the end, no fault", SAFE.len()))
+    Ok(sum.told())
 }
 
 /// How telling a series of searches was.
