@@ -1,7 +1,9 @@
 //! The call of the product through its C entry.
 //! Without the library (see `build.rs`) the second checker stands in, so that all else still runs.
 
-use crate::answer::{Returned, WORK_SPACE};
+use crate::answer::Returned;
+#[cfg(not(product))]
+use crate::answer::WORK_SPACE;
 
 /// Whether the product itself is linked.
 pub const LINKED: bool = cfg!(product);

@@ -66,12 +66,13 @@ module _ (room : ℕ) (p s : List ℕ) (a : Answer) (verdicts : a ≡ verdict ro
   pub safe-kept : returned a ≡ four 0 0 0 0 → SafeText p
   safe-kept h = accepted-is-safe room p s (accepts h)
 
--- every promise of the offered call, in the order of its clauses
-pub promises-kept : (w w′ p s : List ℕ) (a : Answer) → a ≡ verdict (length w) p s → w′ ≡ workspaceAfter w
+-- every promise of the offered call, in the order of its clauses; U is that of the texts, which are lent unchanged
+pub promises-kept : {U : Type 0} (w w′ p s : List ℕ) (a : Answer) → a ≡ verdict (length w) p s → w′ ≡ workspaceAfter w → U
     → (returned a ≡ returned (verdict (length w) p s))
     × ((w′ ≡ workspaceAfter w)
+    × (U
     × ((workspaceSize ≤ length w → (returned a ≡ four 0 0 0 0) ↔ Right p s)
-    × ((31 ≤ returned a .number → RefutedBy p s a) × (returned a ≡ four 0 0 0 0 → SafeText p))))
-promises-kept w w′ p s a v c =
+    × ((31 ≤ returned a .number → RefutedBy p s a) × (returned a ≡ four 0 0 0 0 → SafeText p)))))
+promises-kept w w′ p s a v c u =
     let room = length w in
-    (answer-kept room p s a v, (c, (derivation-kept room p s a v, (first-false-kept room p s a v, safe-kept room p s a v))))
+    (answer-kept room p s a v, (c, (u, (derivation-kept room p s a v, (first-false-kept room p s a v, safe-kept room p s a v)))))

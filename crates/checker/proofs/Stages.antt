@@ -110,6 +110,10 @@ pub program-read-by : {n : ℕ} (w : List ℕ) (r : ProgramRead) (o : Out Progra
 program-read-by w r (stop y) h e = let clash : _≡_ {A = ℕ} 0 1 = cc in absurd (omega arith)
 program-read-by {n = n} w r (on P) h e = let counted : n ≡ length (P .steps) = cc in (P, refl, counted, h .1, h .2)
 
+pub good-program : {P : Program} (p : List ℕ) → length p ≤ 16384 → program p ≡ on P → WellFormedProgram p P
+unfolding programLimit
+good-program p fits e = program-well-formed p fits e
+
 module _ (p s : List ℕ) where
   pub long-program-refused : 16384 < length p → Refuse LongProgram ≡ verdict workspaceSize p s
   unfolding workspaceSize
@@ -119,7 +123,3 @@ module _ (p s : List ℕ) where
     pub bad-program-refused : (r : Refusal) → program p ≡ stop r → Refuse r ≡ verdict workspaceSize p s
     unfolding workspaceSize
     bad-program-refused r e = sym (program-refused 16384 p s (omega arith) fits r e)
-
-    pub good-program : {P : Program} → program p ≡ on P → WellFormedProgram p P
-    unfolding programLimit
-    good-program e = program-well-formed p fits e

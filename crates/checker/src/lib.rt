@@ -66,6 +66,7 @@ fn check_program(program: &[u8], split: &[u8], work: &mut [u32]) -> Answer
 // The answer to a pair of texts. What document 01 asks of it, clause by clause:
 // answer: it is the one that document 01 gives, for every input;
 // cleared: the first 16,384 numbers of the work space are 0 afterwards and the rest is as before; a shorter one is as it was;
+// unchanged: both texts are as they were;
 // derivation (demand 2): accepted exactly when both sheets are well formed, the start holds at most one of each location, and
 // the split gives a derivation;
 // first_false (demand 2): a refusal on the rules names the first condition that is false;
@@ -73,6 +74,7 @@ fn check_program(program: &[u8], split: &[u8], work: &mut [u32]) -> Answer
 pub fn check(program: &[u8], split: &[u8], work: &mut [u32]) -> Answer
     ensures answer { λ a. ⌜ returned a ≡ returned (verdict (length (now (work .entry))) (now (program .entry)) (now (split .entry))) ⌝ }
     ensures cleared { λ a. ⌜ now (work .exit) ≡ workspaceAfter (now (work .entry)) ⌝ }
+    ensures unchanged { λ a. ⌜ (now (program .exit) ≡ now (program .entry)) × (now (split .exit) ≡ now (split .entry)) ⌝ }
     ensures derivation { λ a. ⌜ (workspaceSize ≤ length (now (work .entry)) → (returned a ≡ four 0 0 0 0) ↔ Right (now (program .entry)) (now (split .entry))) ⌝ }
     ensures first_false { λ a. ⌜ (31 ≤ returned a .number → RefutedBy (now (program .entry)) (now (split .entry)) a) ⌝ }
     ensures safe { λ a. ⌜ (returned a ≡ four 0 0 0 0 → SafeText (now (program .entry))) ⌝ }
@@ -97,6 +99,7 @@ pub extern "C" fn racecheck_check(
 ) -> u32
     ensures answer { λ n. ⌜ four n (now (line .exit)) (now (condition .exit)) (now (location .exit)) ≡ returned (verdict (length (now (work .entry))) (now (program .entry)) (now (split .entry))) ⌝ }
     ensures cleared { λ n. ⌜ now (work .exit) ≡ workspaceAfter (now (work .entry)) ⌝ }
+    ensures unchanged { λ n. ⌜ (now (program .exit) ≡ now (program .entry)) × (now (split .exit) ≡ now (split .entry)) ⌝ }
 {
     let four = numbers_of(check(program, split, work));
     *line = four.line;

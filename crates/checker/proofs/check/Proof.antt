@@ -1,4 +1,4 @@
-use mathlib.Core.Path.{sym, _∙_}
+use mathlib.Core.Path.{refl, sym, _∙_}
 use lib.Seq.{length-take-le}
 use Rattle.spec.proofs.Reasons.{short-workspace}
 use Rattle.checker.proofs.Promises.{promises-kept}
@@ -13,7 +13,7 @@ use Rattle.workspace.proofs.clear.Reads as clear-reads
 
 -- src/lib.rt:54:9
 returns : tie.Need-returns
-returns c = promises-kept _ _ _ _ _ (sym (short-workspace _ _ _ (c .if1 .taken))) (short-kept _ (c .if1 .taken))
+returns c = promises-kept _ _ _ _ _ (sym (short-workspace _ _ _ (c .if1 .taken))) (short-kept _ (c .if1 .taken)) (refl, refl)
 
 -- src/lib.rt:56:43
 slice-relend-prefix-check-program : tie.Need-slice-relend-prefix-check-program
@@ -53,6 +53,7 @@ returns-2 c =
     (long-cleared _ _ enough
     (then-cleared 16384 (c .before .before .before .before .before .before .before .before .before .before .before .before .args .work .now) (c .before .before .before .before .before .before .check-program .last .1 .1 .0) enough (c .before .before .before .before .before .before .check-program .kept .1 .1 .0) _
     (c .before .before .clear .ensures)))
+    (refl, refl)
 
 pub check-spec : {M : Type 1} → statement M
 check-spec =

@@ -51,7 +51,7 @@ returns-3 : tie.Need-returns-3
 returns-3 c =
     let text = c .before .before .before .before .before .before .before .before .before .before .before .before .before .before .before .args .program .now in
     let (P, reads-on, counted, holds, few) = program-read-by (c .before .before .before .before .before .before .before .before .before .read .last .1 .0) _ (program text) (c .before .before .before .before .before .before .before .before .before .read .ensures .answer) (c .before .before .before .before .before .steps .given .1) in
-    c .before .before .check-split .ensures text P (good-program text text (c .before .before .before .before .before .before .before .before .before .before .before .if1 .left) reads-on) holds counted
+    c .before .before .check-split .ensures text P (good-program text (c .before .before .before .before .before .before .before .before .before .before .before .if1 .left) reads-on) holds counted
 
 pub check-program-spec : {M : Type 1} → statement M
 check-program-spec =

@@ -1,4 +1,4 @@
-use mathlib.Core.Path.{_∙_}
+use mathlib.Core.Path.{refl, _∙_}
 use Rattle.spec.specs.Verdict.{four}
 use borrow.Author.Needs.{needs}
 use Rattle.checker.proofs.racecheck_check.Statement.{statement}
@@ -23,7 +23,7 @@ same-length c = search needs
 -- src/lib.rt:62:1
 returns : tie.Need-returns
 unfolding four
-returns c = (c .numbers-of .ensures ∙ c .before .before .before .check .ensures .0, c .before .before .before .check .ensures .1 .0)
+returns c = (c .numbers-of .ensures ∙ c .before .before .before .check .ensures .0, (c .before .before .before .check .ensures .1 .0, (refl, refl)))
 
 pub racecheck-check-spec : {M : Type 1} → statement M
 racecheck-check-spec = tie.close (tie.spec check-requires numbers-of-requires same-length returns)
