@@ -88,7 +88,7 @@ module _ (s : List ℕ) where
 
 -- ------------------------------------------------------------------ the size of a numeral
 
-both-true : (x y : Bool) → (x && y) ≡ true → (x ≡ true) × (y ≡ true)
+pub both-true : (x y : Bool) → (x && y) ≡ true → (x ≡ true) × (y ≡ true)
 both-true true y e = (refl, e)
 both-true false y e = let z : _≡_ {A = ℕ} 0 1 = cc in absurd (omega arith)
 

@@ -5,6 +5,7 @@ pub mod Lines
 pub mod Sheets
 pub mod Places
 pub mod Numerals
+pub mod FirstDigits
 pub mod Walks
 pub mod LineNumbers
 pub mod LineEnds

@@ -1,19 +1,21 @@
 -- Numerals at a cursor, as the shapes that the code hands back.
-use mathlib.Core.List.{List}
+use mathlib.Core.List.{List, [], _∷_}
+use mathlib.Core.Bool.{Bool, false, _&&_}
 use mathlib.Core.Option.{Option, none, some}
 use mathlib.Core.Path.{_≡_}
-use Prim.Native.Nat.{ℕ, _+_, _-_}
-use lib.Dec.{eqb}
-use lib.ListN.{length}
+use Prim.Native.Nat.{ℕ, _+_, _-_, _≤_, _<_}
+use lib.Dec.{eqb, leb, ltb}
+use lib.ListN.{length, drop}
 use Rattle.spec.specs.Choice.{if_then_else_}
-use Rattle.spec.specs.Text.{Field, numeral}
+use Rattle.spec.specs.Text.{Field, digitLimit, digits, value as valueOf, numeral}
 use Rattle.spec.specs.Reading.{numerals}
-use Rattle.lexer.specs.Views.{endOf, firstField, lineAt}
+use Rattle.lexer.specs.Views.{width, endOf, firstField, lineAt}
 use Rattle.lexer.specs.Cursors.{rest, next}
 use Rattle.lexer.specs.declared.Cursor.{Cursor}
 use Rattle.lexer.specs.declared.FieldEnd.{FieldEnd}
 use Rattle.lexer.specs.declared.Numeral.{Numeral}
 use Rattle.lexer.specs.declared.Numeral.the-variants as numeral-is
+use Rattle.lexer.specs.declared.Taken.{Taken}
 use Rattle.lexer.specs.declared.Number.{Number}
 use Rattle.lexer.specs.declared.Number.the-variants as number-is
 use Rattle.lexer.specs.declared.Numbers.{Numbers}
@@ -32,6 +34,32 @@ numberOf (some n) e c = number-is.Value n e c
 -- the numeral at a cursor, what ends it, and the cursor behind it
 unfoldable pub numberAt : List ℕ → Cursor → Number
 numberAt text c = numberOf (numeral (firstField (rest text c))) (endOf (rest text c)) (next text c)
+
+-- ------------------------------------------------------------------ the digits in front
+
+pub record Lower (a b r : ℕ) : Type 0 where
+  pub first-le : r ≤ a
+  pub second-le : r ≤ b
+  pub one : r < b → r ≡ a
+
+-- whether the first of so many digits is a 0 in front of others
+unfoldable pub zeroLeads : (first width : ℕ) → Bool
+zeroLeads b n = eqb b 48 && ltb 1 n
+
+unfoldable pub digitFirst : List ℕ → Bool
+digitFirst [] = false
+digitFirst (b ∷ t) = leb 48 b && leb b 57
+
+-- the digits in front of the field at a cursor, all of them or as many as a numeral can have: with what is left of the field behind them, they are the field
+pub record DigitsTaken (text : List ℕ) (c : Cursor) (d : Taken) : Type 0 where
+  pub from-le : c .at ≤ d .to
+  pub to-le : d .to ≤ length text
+  pub limit : d .to ≤ c .at + digitLimit
+  pub ahead : c .at + width (rest text c) ≡ d .to + width (drop (d .to) text)
+  pub end : endOf (rest text c) ≡ endOf (drop (d .to) text)
+  pub all : digits (firstField (rest text c)) ≡ digits (firstField (drop (d .to) text))
+  pub comes-to : valueOf 0 (firstField (rest text c)) ≡ valueOf (d .value) (firstField (drop (d .to) text))
+  pub no-more : d .to < c .at + digitLimit → digitFirst (drop (d .to) text) ≡ false
 
 -- ------------------------------------------------------------------ the numerals of a line
 

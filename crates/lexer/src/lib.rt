@@ -4,7 +4,7 @@ ghost use Rattle.spec.specs.Text.{leadingZero, numeral, same as sameBytes};
 ghost use Rattle.spec.specs.Program.{words, lookUp};
 ghost use Rattle.lexer.specs.Views.{nothing};
 ghost use Rattle.lexer.specs.Cursors.{Placed, start as startOf, rest, spanAt};
-ghost use Rattle.lexer.specs.Numbers.{numeralOf, numberAt, NumbersRead};
+ghost use Rattle.lexer.specs.Numbers.{numeralOf, Lower, zeroLeads, DigitsTaken, numberAt, NumbersRead};
 ghost use Rattle.lexer.specs.Words.{foundOf, leafWords, unaryWords, binaryWords, typeWordOf};
 use spec::BinaryWord;
 use spec::LeafWord;
@@ -39,6 +39,12 @@ pub struct Span {
 pub enum Numeral {
     Value(u64),
     Malformed,
+}
+
+// The digits taken at a cursor: what they come to, and the byte behind them.
+pub struct Taken {
+    pub value: u64,
+    pub to: usize,
 }
 
 // The number at a cursor, what ends it, and the cursor behind that.
@@ -125,6 +131,26 @@ pub fn numeral_of(field: &[u8]) -> Numeral
     Numeral::Value(value)
 }
 
+// The lower of two numbers.
+fn lower(a: usize, b: usize) -> usize
+    ensures { λ r. ⌜ Lower a b r ⌝ }
+{
+    if a < b {
+        return a;
+    }
+    b
+}
+
+// Whether the first of so many digits is a 0 in front of others.
+fn zero_leads(first: u8, width: usize) -> bool
+    ensures { λ r. ⌜ r ≡ zeroLeads first width ⌝ }
+{
+    if first == b'0' {
+        return 1 < width;
+    }
+    false
+}
+
 impl Cursor {
     // In front of the first line of a text.
     pub fn start() -> Cursor
@@ -183,21 +209,65 @@ impl Cursor {
         }
     }
 
-    // The numeral at the cursor.
+    // The digits at the cursor, no more than a numeral can have.
+    fn take_digits(self, text: &[u8]) -> Taken
+        requires { ⌜ Placed (now text) self ⌝ }
+        ensures { λ r. ⌜ DigitsTaken (now (text .entry)) self r ⌝ }
+    {
+        let from = self.at;
+        let left = text.len() - from;
+        let stop = from + lower(left, DIGIT_LIMIT);
+        let mut to = from;
+        let mut value: u64 = 0;
+        while to < stop {
+            let b = text[to];
+            if b < b'0' {
+                return Taken { value, to };
+            }
+            if b'9' < b {
+                return Taken { value, to };
+            }
+            value = value * 10 + (b as u64 - 48);
+            to += 1;
+        }
+        Taken { value, to }
+    }
+
+    // The numeral at the cursor, in one pass: a byte behind its digits that ends no field makes it malformed.
     pub fn number(self, text: &[u8]) -> Number
         requires { ⌜ Placed (now text) self ⌝ }
         ensures { λ r. ⌜ r ≡ numberAt (now (text .entry)) self ⌝ }
     {
-        let field = self.field(text);
-        let from = field.from;
-        let to = field.to;
-        let end = field.end;
-        let next = field.next;
-        let found = numeral_of(&text[from..to]);
-        match found {
-            Numeral::Value(n) => Number::Value(n, end, next),
-            Numeral::Malformed => Number::Malformed,
+        let from = self.at;
+        let line = self.line;
+        let taken = self.take_digits(text);
+        let value = taken.value;
+        let to = taken.to;
+        if to == from {
+            return Number::Malformed;
         }
+        let width = to - from;
+        let first = text[from];
+        if zero_leads(first, width) {
+            return Number::Malformed;
+        }
+        if text.len() <= to {
+            let next = Cursor { at: to, line };
+            return Number::Value(value, FieldEnd::Text, next);
+        }
+        let b = text[to];
+        if b == b',' {
+            let at = to + 1;
+            let next = Cursor { at, line };
+            return Number::Value(value, FieldEnd::Comma, next);
+        }
+        if b == b'\n' {
+            let at = to + 1;
+            let line = line + 1;
+            let next = Cursor { at, line };
+            return Number::Value(value, FieldEnd::Newline, next);
+        }
+        Number::Malformed
     }
 
     // The numerals that end the line at the cursor, as many as the slice is long, into that slice.

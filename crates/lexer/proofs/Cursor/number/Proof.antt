@@ -1,52 +1,102 @@
--- The bytes that are read as a numeral are the first field of what is left at the cursor.
+-- The digits at the cursor are all of a field where the byte behind them ends one.
 use mathlib.Core.Path.{sym, _∙_}
+use native.Mathlib.Omega.{arith}
 use borrow.Author.Needs.{needs}
-use Rattle.lexer.proofs.Places.{span-le}
-use Rattle.lexer.proofs.Numerals.{number-value, number-none}
+use Rattle.lexer.specs.Cursors.{past}
+use Rattle.lexer.specs.declared.FieldEnd.the-variants.{Comma, Newline, Text}
+use Rattle.lexer.proofs.Fields.{comma-width, comma-end, newline-width, newline-end, text-width, text-end}
+use Rattle.lexer.proofs.FirstDigits.{digits-none, digits-padded, digits-closed, digits-spoilt}
 use Rattle.lexer.proofs.Cursor.number.Statement.{statement}
 use Rattle.lexer.proofs.Cursor.number.Tie as tie
 
-field-requires : tie.Need-field-requires
-field-requires c κs = search needs
-
-sub-numeral-of : tie.Need-sub-numeral-of
-sub-numeral-of c = span-le _ _ (c .before .field .result) (c .before .field .ensures) (c .before .before .before .pre) .0
-
-part-numeral-of-start : tie.Need-part-numeral-of-start
-part-numeral-of-start c = span-le _ _ (c .before .field .result) (c .before .field .ensures) (c .before .before .before .pre) .0
-
-part-numeral-of-end : tie.Need-part-numeral-of-end
-part-numeral-of-end c = span-le _ _ (c .before .field .result) (c .before .field .ensures) (c .before .before .before .pre) .1
-
-numeral-of-requires : tie.Need-numeral-of-requires
-numeral-of-requires c κs = search needs
-
-enum-known-found : tie.Need-enum-known-found
-enum-known-found c = search needs
-
-enum-told : tie.Need-enum-told
-enum-told c = search needs
+take-digits-requires : tie.Need-take-digits-requires
+take-digits-requires c κs = search needs
 
 returns : tie.Need-returns
 returns c =
-    let read = c .before .before .before in
-    number-value _ _ (read .before .before .before .field .result) (read .before .before .before .field .ensures) _ (sym (read .numeral-of .ensures) ∙ c .before .found .given .1)
+    let read = c .before .take-digits in
+    digits-none _ _ (read .result) (read .ensures) (c .if1 .taken)
+
+sub-width : tie.Need-sub-width
+sub-width c = search needs
+
+shared-slice-read-first : tie.Need-shared-slice-read-first
+shared-slice-read-first c = search needs
+
+zero-leads-requires : tie.Need-zero-leads-requires
+zero-leads-requires c κs = search needs
 
 returns-2 : tie.Need-returns-2
 returns-2 c =
-    let read = c .before .before in
-    number-none _ _ (read .before .before .before .field .result) (read .before .before .before .field .ensures) (sym (read .numeral-of .ensures) ∙ c .enum-told .given .1)
+    let digit = c .before .before .before in
+    let read = digit .before .take-digits in
+    digits-padded _ _ (read .result) (read .ensures) (digit .if1 .left) (sym (c .before .zero-leads .ensures) ∙ c .if2 .taken)
+
+returns-3 : tie.Need-returns-3
+unfolding past
+returns-3 c =
+    let here = c .before in
+    let digit = here .before .before .before in
+    let read = digit .before .take-digits in
+    let text = digit .before .before .before .args .text .now in
+    let to = read .result .to in
+    let bare = sym (here .before .zero-leads .ensures) ∙ here .if2 .left in
+    digits-closed _ _ (read .result) (read .ensures) (digit .if1 .left) bare (text-width text to (c .if3 .taken)) Text (text-end text to (c .if3 .taken))
+
+shared-slice-read-b : tie.Need-shared-slice-read-b
+shared-slice-read-b c = search needs
+
+add-at : tie.Need-add-at
+add-at c = search needs
+
+returns-4 : tie.Need-returns-4
+unfolding past
+returns-4 c =
+    let here = c .before .before .before in
+    let digit = here .before .before .before in
+    let read = digit .before .take-digits in
+    let text = digit .before .before .before .args .text .now in
+    let to = read .result .to in
+    let bare = sym (here .before .zero-leads .ensures) ∙ here .if2 .left in
+    digits-closed _ _ (read .result) (read .ensures) (digit .if1 .left) bare (comma-width text to (search needs) (c .if4 .taken)) Comma (comma-end text to (search needs) (c .if4 .taken))
+
+add-at-2 : tie.Need-add-at-2
+add-at-2 c = search needs
+
+add-line : tie.Need-add-line
+add-line c = search needs
+
+returns-5 : tie.Need-returns-5
+unfolding past
+returns-5 c =
+    let here = c .before .before .before .before in
+    let digit = here .before .before .before in
+    let read = digit .before .take-digits in
+    let text = digit .before .before .before .args .text .now in
+    let to = read .result .to in
+    let bare = sym (here .before .zero-leads .ensures) ∙ here .if2 .left in
+    digits-closed _ _ (read .result) (read .ensures) (digit .if1 .left) bare (newline-width text to (search needs) (c .before .if4 .left) (c .if5 .taken)) Newline (newline-end text to (search needs) (c .before .if4 .left) (c .if5 .taken))
+
+returns-6 : tie.Need-returns-6
+returns-6 c =
+    let read = c .before .before .before .before .before .before .before .before .take-digits in
+    digits-spoilt _ _ (read .result) (read .ensures) (search needs) (c .before .if4 .left) (c .if5 .left)
 
 pub number-spec : {M : Type 1} → statement M
 number-spec =
     tie.close
     (tie.spec
-    field-requires
-    sub-numeral-of
-    part-numeral-of-start
-    part-numeral-of-end
-    numeral-of-requires
-    enum-known-found
-    enum-told
+    take-digits-requires
     returns
-    returns-2)
+    sub-width
+    shared-slice-read-first
+    zero-leads-requires
+    returns-2
+    returns-3
+    shared-slice-read-b
+    add-at
+    returns-4
+    add-at-2
+    add-line
+    returns-5
+    returns-6)
