@@ -1,0 +1,153 @@
+//! Times the product against the second checker, in one run and on the same pairs.
+//!
+//! The product must clear the work space, the second checker has none. So the second checker is
+//! timed twice: alone, and with 16,384 numbers cleared after it.
+
+use evidence::answer::{Returned, WORK_SPACE};
+use evidence::draw::draft::{Draft, Map};
+use evidence::draw::random::Random;
+use evidence::draw::{full, honest};
+use evidence::known::KNOWN;
+use evidence::{product, second};
+use std::hint::black_box;
+use std::time::{Duration, Instant};
+
+/// How long one batch of calls takes at least, and how many batches there are of each. Batches are
+/// short, so that on a busy machine some of them run undisturbed.
+const BATCH: Duration = Duration::from_micros(1_000);
+const BATCHES: usize = 100;
+
+struct Pair {
+    title: String,
+    program: Vec<u8>,
+    split: Vec<u8>,
+}
+
+impl Pair {
+    fn new(title: &str, draft: &Draft) -> Pair {
+        Pair { title: title.to_string(), program: draft.program(), split: draft.split() }
+    }
+
+    fn bytes(&self) -> usize {
+        self.program.len() + self.split.len()
+    }
+}
+
+fn main() {
+    if !product::LINKED {
+        println!("the product is not linked: the second checker stands in for it");
+    }
+    let mut bench = Bench { work: vec![0; WORK_SPACE] };
+    let random = &mut Random::new(1, 0);
+    let (program, split) = KNOWN[0].sheets();
+    let small = Pair { title: "small, Figure 2 (b), accepted".to_string(), program, split };
+    let (fullest, refused) = (full::fullest(random), full::refused_last(random));
+    println!("nanoseconds a call, the best batch of {BATCHES}");
+    heading();
+    bench.row(&small, None);
+    bench.row(&Pair::new("full, accepted", &fullest), None);
+    bench.row(&Pair::new("full, refused at its last condition", &refused), None);
+    bench.growth("steps", [16, 32, 64, 128, 256], |random, count| grown(random, count, 32, 4));
+    bench.growth("maps", [32, 64, 128, 256, 512], |random, count| grown(random, 32, count, 4));
+    bench.growth("locations", [1, 2, 4, 8, 16], |random, count| grown(random, 32, 256, count));
+}
+
+/// An honest draft with exactly so many steps, maps and locations. Unused maps have numbers of six
+/// digits, so that more of them is more to read.
+fn grown(random: &mut Random, steps: usize, maps: usize, locations: usize) -> Draft {
+    loop {
+        let mut draft = honest::draft(random, 12, 1, 100_000);
+        if draft.steps.len() < 16 && full::with_steps(random, &mut draft, steps) && draft.maps.len() <= maps {
+            full::with_locations(&mut draft, locations);
+            while draft.maps.len() < maps {
+                let mut map = Map::default();
+                map[..locations].fill_with(|| random.between(100_000, 999_999));
+                draft.maps.push(map);
+            }
+            return draft;
+        }
+    }
+}
+
+fn heading() {
+    println!(
+        "{:38} {:>7} {:>10} {:>10} {:>10} {:>7} {:>7} {:>9} {:>7}",
+        "pair", "bytes", "product", "second", "+ clear", "ratio", "ratio", "per byte", "growth"
+    );
+}
+
+struct Bench {
+    work: Vec<u32>,
+}
+
+/// The best times in nanoseconds.
+struct Times {
+    product: f64,
+    second: f64,
+    second_and_clear: f64,
+}
+
+impl Bench {
+    /// Measures one pair and prints its line; `before` is the product's time in the line above.
+    fn row(&mut self, pair: &Pair, before: Option<f64>) -> f64 {
+        let times = self.times(pair);
+        let growth = before.map_or(String::new(), |before| format!("{:.2}", times.product / before));
+        println!(
+            "{:38} {:7} {:10.0} {:10.0} {:10.0} {:7.2} {:7.2} {:9.3} {:>7}",
+            pair.title,
+            pair.bytes(),
+            times.product,
+            times.second,
+            times.second_and_clear,
+            times.product / times.second,
+            times.product / times.second_and_clear,
+            times.product / pair.bytes() as f64,
+            growth
+        );
+        times.product
+    }
+
+    /// Doubles one count and prints how the time grows.
+    fn growth(&mut self, what: &str, counts: [usize; 5], draft: impl Fn(&mut Random, usize) -> Draft) {
+        let mut before = None;
+        for count in counts {
+            let draft = draft(&mut Random::new(7, 0), count);
+            let pair = Pair::new(&format!("{count} {what}"), &draft);
+            before = Some(self.row(&pair, before));
+        }
+    }
+
+    /// The three are timed in turn, so that a busy machine slows all of them alike.
+    fn times(&mut self, pair: &Pair) -> Times {
+        let mut times = Times { product: f64::MAX, second: f64::MAX, second_and_clear: f64::MAX };
+        let work = &mut self.work;
+        for _ in 0..BATCHES {
+            times.product = times.product.min(batch(pair, |pair| product::check(&pair.program, &pair.split, work)));
+            times.second = times.second.min(batch(pair, second_checker));
+            let cleared = batch(pair, |pair| {
+                let returned = second_checker(pair);
+                black_box(&mut *work).fill(0);
+                returned
+            });
+            times.second_and_clear = times.second_and_clear.min(cleared);
+        }
+        times
+    }
+}
+
+fn second_checker(pair: &Pair) -> Returned {
+    second::check(&pair.program, &pair.split, WORK_SPACE)
+}
+
+/// The mean time of a call over one batch, in nanoseconds.
+fn batch(pair: &Pair, mut call: impl FnMut(&Pair) -> Returned) -> f64 {
+    let start = Instant::now();
+    let mut calls = 0;
+    while start.elapsed() < BATCH {
+        for _ in 0..8 {
+            black_box(call(black_box(pair)));
+        }
+        calls += 8;
+    }
+    start.elapsed().as_nanos() as f64 / f64::from(calls)
+}

@@ -1,0 +1,78 @@
+-- An answer that is the verdict keeps every promise of the offered call.
+use mathlib.Core.Path.{_≡_, refl, ap, sym, _∙_}
+use mathlib.Core.Logic.{_↔_}
+use mathlib.Core.List.{List}
+use Prim.Native.Nat.{ℕ, _≤_}
+use native.Mathlib.Omega.{arith}
+use Rattle.spec.specs.Verdict.{verdict, returned, four}
+use lib.ListN.{length}
+use Rattle.spec.specs.Workspace.{workspaceSize, workspaceAfter}
+use Rattle.spec.specs.Accepted.{Right}
+use Rattle.spec.specs.declared.Answer.{Answer}
+use Rattle.spec.specs.declared.Answer.the-variants.{Accept, Refuse}
+use Rattle.spec.specs.declared.Refusal.{Refusal}
+use Rattle.spec.specs.declared.Refusal.the-variants.{ShortWorkspace, LongProgram, ProgramForm, ProgramRange, ProgramLines, Unbound, Rebound, LongSplit, SplitForm, SplitRange, SplitLines, OverOne, TypeFalse, FlowFalse, AccessFalse}
+use Rattle.spec.proofs.Accepted.{accepted-is-right, right-is-accepted}
+use Rattle.spec.proofs.FirstFalse.{refusal-names-first-false}
+use Rattle.soundness.specs.SafeText.{SafeText}
+use Rattle.soundness.proofs.Safety.{accepted-is-safe}
+use Rattle.checker.specs.Promise.{RefutedBy}
+
+-- a refusal's number is not 0
+refusal-number : (r : Refusal) → 1 ≤ returned (Refuse r) .number
+unfolding returned four
+refusal-number ShortWorkspace = omega arith
+refusal-number LongProgram = omega arith
+refusal-number (ProgramForm k) = omega arith
+refusal-number (ProgramRange k) = omega arith
+refusal-number (ProgramLines k) = omega arith
+refusal-number (Unbound k) = omega arith
+refusal-number (Rebound k) = omega arith
+refusal-number LongSplit = omega arith
+refusal-number (SplitForm k) = omega arith
+refusal-number (SplitRange k) = omega arith
+refusal-number (SplitLines k) = omega arith
+refusal-number (OverOne l) = omega arith
+refusal-number (TypeFalse k i) = omega arith
+refusal-number (FlowFalse k i l) = omega arith
+refusal-number (AccessFalse k i p) = omega arith
+
+-- 0,0,0,0 is returned for Accept alone
+pub zeros-accept : (a : Answer) → returned a ≡ four 0 0 0 0 → a ≡ Accept
+unfolding four
+zeros-accept Accept h = refl
+zeros-accept (Refuse r) h = absurd (omega (arith, refusal-number r, ap (λ n. n .number) h))
+
+module _ (room : ℕ) (p s : List ℕ) (a : Answer) (verdicts : a ≡ verdict room p s) where
+  accepts : returned a ≡ four 0 0 0 0 → verdict room p s ≡ Accept
+  accepts h = sym verdicts ∙ zeros-accept a h
+
+  pub answer-kept : returned a ≡ returned (verdict room p s)
+  answer-kept = ap returned verdicts
+
+  pub derivation-kept : workspaceSize ≤ room → (returned a ≡ four 0 0 0 0) ↔ Right p s
+  unfolding returned
+  derivation-kept enough =
+      ((λ h. accepted-is-right room p s (accepts h)), (λ r. ap returned (verdicts ∙ right-is-accepted room p s enough r)))
+
+  pub first-false-kept : 31 ≤ returned a .number → RefutedBy p s a
+  unfolding returned four
+  first-false-kept = by-cases a verdicts
+    where
+      by-cases : (b : Answer) → b ≡ verdict room p s → 31 ≤ returned b .number → RefutedBy p s b
+      by-cases Accept e h = absurd (omega arith)
+      by-cases (Refuse r) e h = record { refusal = r; numbers = refl; refuted = refusal-names-first-false room p s r (sym e) h }
+
+  pub safe-kept : returned a ≡ four 0 0 0 0 → SafeText p
+  safe-kept h = accepted-is-safe room p s (accepts h)
+
+-- every promise of the offered call, in the order of its clauses; U is that of the texts, which are lent unchanged
+pub promises-kept : {U : Type 0} (w w′ p s : List ℕ) (a : Answer) → a ≡ verdict (length w) p s → w′ ≡ workspaceAfter w → U
+    → (returned a ≡ returned (verdict (length w) p s))
+    × ((w′ ≡ workspaceAfter w)
+    × (U
+    × ((workspaceSize ≤ length w → (returned a ≡ four 0 0 0 0) ↔ Right p s)
+    × ((31 ≤ returned a .number → RefutedBy p s a) × (returned a ≡ four 0 0 0 0 → SafeText p)))))
+promises-kept w w′ p s a v c u =
+    let room = length w in
+    (answer-kept room p s a v, (c, (u, (derivation-kept room p s a v, (first-false-kept room p s a v, safe-kept room p s a v)))))

@@ -1,0 +1,70 @@
+use mathlib.Core.Path.{sym, _∙_}
+use Rattle.spec.specs.Split.{split}
+use Rattle.checker.proofs.Stages.{long-split-refused, bad-split-refused, good-split-ruled, split-refused-by, split-read-by, denominator-told, locations-told}
+use borrow.Author.Needs.{needs}
+use Rattle.checker.proofs.check_split.Statement.{statement}
+use Rattle.checker.proofs.check_split.Tie as tie
+use Rattle.checker.proofs.check_split.Reads as reads
+use Rattle.checker.proofs.check_split.Lts as lts
+use Rattle.checker.proofs.check_rules.Reads as check-rules-reads
+use Rattle.split.proofs.read.Reads as read-reads
+
+-- src/lib.rt:44:9
+returns : tie.Need-returns
+returns c p P F holds counted = long-split-refused p _ P F (c .if1 .taken)
+
+-- src/lib.rt:46:11
+read-requires : tie.Need-read-requires
+read-requires c κs = search needs
+
+-- src/lib.rt:47:24
+enum-known-r : tie.Need-enum-known-r
+enum-known-r c = search needs
+
+-- src/lib.rt:48:21
+enum-known-header : tie.Need-enum-known-header
+enum-known-header c = search needs
+
+-- src/lib.rt:48:32
+check-rules-requires : tie.Need-check-rules-requires
+check-rules-requires c κs =
+    let (P, holds, counted) = c .before .before .before .before .before .before .before .before .before .before .before .pre .2 in
+    let text = c .before .before .before .before .before .before .before .before .before .before .before .args .split .now in
+    let found = split-read-by (c .before .before .before .before .before .before .read .last .1 .1 .0) _ (split (P .steps) text) (c .before .before .before .before .before .before .read .ensures .answered (P .steps) (holds .steps) (sym counted)) (c .before .before .header .given .1) in
+    (c .before .before .before .before .before .before .read .kept .1 .1 .0 ∙ c .before .before .before .before .before .before .before .before .before .before .before .pre .0, c .before .before .before .before .before .before .before .before .before .before .before .pre .1, found .4 .locations)
+
+-- src/lib.rt:39:1
+same-length : tie.Need-same-length
+same-length c = search needs
+
+-- src/lib.rt:39:1
+returns-2 : tie.Need-returns-2
+returns-2 c p P F holds counted =
+    bad-split-refused p _ P F (c .before .before .before .before .before .before .before .if1 .left) _
+    (split-refused-by (c .before .before .before .before .before .read .last .1 .1 .0) _ _ (c .before .before .before .before .before .read .ensures .answered (P .steps) (holds .steps) (sym counted)) (c .before .r .given .1))
+
+-- src/lib.rt:39:1
+same-length-2 : tie.Need-same-length-2
+same-length-2 c = search needs
+
+-- src/lib.rt:39:1
+returns-3 : tie.Need-returns-3
+returns-3 c p P F holds counted =
+    let text = c .before .before .before .before .before .before .before .before .before .before .before .before .before .before .args .split .now in
+    let (S, reads-on, header, holds′, small) = split-read-by (c .before .before .before .before .before .before .before .before .before .read .last .1 .1 .0) _ (split (P .steps) text) (c .before .before .before .before .before .before .before .before .before .read .ensures .answered (P .steps) (holds .steps) (sym counted)) (c .before .before .before .before .before .header .given .1) in
+    good-split-ruled p text P F (c .before .before .before .before .before .before .before .before .before .before .before .if1 .left) S reads-on (c .before .before .before .before .before .before .before .before .before .read .ensures .changed) holds holds′ counted (c .before .before .before .before .before .before .before .before .before .before .before .before .before .before .pre .1)
+    (denominator-told S _ header) (locations-told S _ header) (c .before .before .check-rules .ensures)
+
+pub check-split-spec : {M : Type 1} → statement M
+check-split-spec =
+    tie.close
+    (tie.spec
+    returns
+    read-requires
+    enum-known-r
+    enum-known-header
+    check-rules-requires
+    same-length
+    returns-2
+    same-length-2
+    returns-3)

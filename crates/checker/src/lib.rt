@@ -1,0 +1,109 @@
+// The offered call: two texts and a lent work space in, one answer out.
+mod numbers;
+
+pub use numbers::numbers_of;
+use program::ProgramRead;
+use rules::Ruling;
+use spec::Answer;
+use spec::Refusal;
+use split::Sheet;
+ghost use mathlib.Core.Path.{_≡_};
+ghost use mathlib.Core.List.{List};
+ghost use mathlib.Core.Logic.{_↔_};
+ghost use Prim.Native.Nat.{ℕ, _≤_};
+ghost use lib.ListN.{length};
+ghost use Rattle.spec.specs.Verdict.{verdict, returned, four};
+ghost use Rattle.spec.specs.Workspace.{workspaceSize, workspaceAfter};
+ghost use Rattle.spec.specs.Accepted.{Right};
+ghost use Rattle.soundness.specs.SafeText.{SafeText};
+ghost use Rattle.checker.specs.Promise.{RefutedBy};
+ghost use Rattle.checker.specs.Stages.{RulesAnswered, HoldsSome, SplitAnswered};
+
+// The most bytes that each sheet may have.
+const PROGRAM_LIMIT: usize = 16384;
+
+const SPLIT_LIMIT: usize = 65536;
+
+// 30 to 33, for the sheets that the work space holds.
+fn check_rules(work: &mut [u32], steps: usize, denominator: u32, locations: usize) -> Answer
+    requires { ⌜ (length (now work) ≡ 16384) × (steps ≤ 256) × (locations ≤ 16) ⌝ }
+    ensures { λ a. ⌜ RulesAnswered (now (work .entry)) steps denominator locations a ⌝ }
+{
+    match rules::rule(work, steps, denominator, locations) {
+        Ruling::Met => Answer::Accept,
+        Ruling::Refused(r) => Answer::Refuse(r),
+    }
+}
+
+// 20 to 33, for the program that the work space holds.
+fn check_split(split: &[u8], steps: usize, work: &mut [u32]) -> Answer
+    requires { ⌜ (length (now work) ≡ 16384) × (steps ≤ 256) × HoldsSome (now work) steps ⌝ }
+    ensures { λ a. ⌜ SplitAnswered (now (work .entry)) steps (now (split .entry)) a ⌝ }
+{
+    if SPLIT_LIMIT < split.len() {
+        return Answer::Refuse(Refusal::LongSplit);
+    }
+    match split::read(split, steps, work) {
+        Sheet::Refused(r) => Answer::Refuse(r),
+        Sheet::Read(header) => check_rules(work, steps, header.denominator, header.locations),
+    }
+}
+
+// 10 to 33, in a work space that is as long as document 01 wants.
+fn check_program(program: &[u8], split: &[u8], work: &mut [u32]) -> Answer
+    requires { ⌜ length (now work) ≡ 16384 ⌝ }
+    ensures { λ a. ⌜ a ≡ verdict workspaceSize (now (program .entry)) (now (split .entry)) ⌝ }
+{
+    if PROGRAM_LIMIT < program.len() {
+        return Answer::Refuse(Refusal::LongProgram);
+    }
+    match program::read(program, work) {
+        ProgramRead::Refused(r) => Answer::Refuse(r),
+        ProgramRead::Read(steps) => check_split(split, steps, work),
+    }
+}
+
+// The answer to a pair of texts. What document 01 asks of it, clause by clause:
+// answer: it is the one that document 01 gives, for every input;
+// cleared: the first 16,384 numbers of the work space are 0 afterwards and the rest is as before; a shorter one is as it was;
+// unchanged: both texts are as they were;
+// derivation (demand 2): accepted exactly when both sheets are well formed, the start holds at most one of each location, and
+// the split gives a derivation;
+// first_false (demand 2): a refusal on the rules names the first condition that is false;
+// safe (demand 3): an accepted program has no race and no odd halt in any state, for every list of moves.
+pub fn check(program: &[u8], split: &[u8], work: &mut [u32]) -> Answer
+    ensures answer { λ a. ⌜ returned a ≡ returned (verdict (length (now (work .entry))) (now (program .entry)) (now (split .entry))) ⌝ }
+    ensures cleared { λ a. ⌜ now (work .exit) ≡ workspaceAfter (now (work .entry)) ⌝ }
+    ensures unchanged { λ a. ⌜ (now (program .exit) ≡ now (program .entry)) × (now (split .exit) ≡ now (split .entry)) ⌝ }
+    ensures derivation { λ a. ⌜ (workspaceSize ≤ length (now (work .entry)) → (returned a ≡ four 0 0 0 0) ↔ Right (now (program .entry)) (now (split .entry))) ⌝ }
+    ensures first_false { λ a. ⌜ (31 ≤ returned a .number → RefutedBy (now (program .entry)) (now (split .entry)) a) ⌝ }
+    ensures safe { λ a. ⌜ (returned a ≡ four 0 0 0 0 → SafeText (now (program .entry))) ⌝ }
+{
+    if work.len() < workspace::SIZE {
+        return Answer::Refuse(Refusal::ShortWorkspace);
+    }
+    let a = check_program(program, split, &mut work[..16384]);
+    workspace::clear(&mut work[..16384]);
+    a
+}
+
+// The same for callers in Rust and C: the number is returned, and the other three are stored.
+#[no_mangle]
+pub extern "C" fn racecheck_check(
+    program: &[u8],
+    split: &[u8],
+    work: &mut [u32],
+    line: &mut u32,
+    condition: &mut u32,
+    location: &mut u32,
+) -> u32
+    ensures answer { λ n. ⌜ four n (now (line .exit)) (now (condition .exit)) (now (location .exit)) ≡ returned (verdict (length (now (work .entry))) (now (program .entry)) (now (split .entry))) ⌝ }
+    ensures cleared { λ n. ⌜ now (work .exit) ≡ workspaceAfter (now (work .entry)) ⌝ }
+    ensures unchanged { λ n. ⌜ (now (program .exit) ≡ now (program .entry)) × (now (split .exit) ≡ now (split .entry)) ⌝ }
+{
+    let four = numbers_of(check(program, split, work));
+    *line = four.line;
+    *condition = four.condition;
+    *location = four.location;
+    four.number
+}

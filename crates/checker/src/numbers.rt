@@ -1,0 +1,60 @@
+// The four numbers that document 01 returns for an answer.
+use spec::Answer;
+use spec::Refusal;
+use spec::Returned;
+ghost use mathlib.Core.Path.{_≡_};
+ghost use Rattle.spec.specs.Verdict.{returned, four as fourOf};
+ghost use Rattle.spec.specs.declared.Answer.the-variants.{Refuse};
+
+fn four(number: u32, line: u32, condition: u32, location: u32) -> Returned
+    ensures { λ r. ⌜ r ≡ fourOf number line condition location ⌝ }
+{
+    Returned {
+        number: number,
+        line: line,
+        condition: condition,
+        location: location,
+    }
+}
+
+fn refusal_numbers(r: Refusal) -> Returned
+    ensures { λ n. ⌜ n ≡ returned (Refuse r) ⌝ }
+{
+    match r {
+        Refusal::ShortWorkspace => four(1, 0, 0, 0),
+        Refusal::LongProgram => four(10, 0, 0, 0),
+        Refusal::ProgramForm(k) => four(11, k, 0, 0),
+        Refusal::ProgramRange(k) => four(12, k, 0, 0),
+        Refusal::ProgramLines(k) => four(13, k, 0, 0),
+        Refusal::Unbound(k) => four(14, k, 0, 0),
+        Refusal::Rebound(k) => four(15, k, 0, 0),
+        Refusal::LongSplit => four(20, 0, 0, 0),
+        Refusal::SplitForm(k) => four(21, k, 0, 0),
+        Refusal::SplitRange(k) => four(22, k, 0, 0),
+        Refusal::SplitLines(k) => four(23, k, 0, 0),
+        Refusal::OverOne(l) => four(30, 2, 0, l.0),
+        Refusal::TypeFalse {
+            line: k,
+            condition: i,
+        } => four(31, k, i, 0),
+        Refusal::FlowFalse {
+            line: k,
+            condition: i,
+            location: l,
+        } => four(32, k, i, l.0),
+        Refusal::AccessFalse {
+            line: k,
+            condition: i,
+            location: p,
+        } => four(33, k, i, p.0),
+    }
+}
+
+pub fn numbers_of(a: Answer) -> Returned
+    ensures { λ n. ⌜ n ≡ returned a ⌝ }
+{
+    match a {
+        Answer::Accept => four(0, 0, 0, 0),
+        Answer::Refuse(r) => refusal_numbers(r),
+    }
+}

@@ -1,0 +1,10 @@
+pub mod Regions
+pub mod Listed
+pub mod StructureLaws
+pub mod ScopeLaws
+pub mod Standing
+pub mod Tables
+pub mod Walk
+pub mod LineLaws
+pub mod StepLoop
+pub mod Sheets

@@ -1,0 +1,239 @@
+-- Laws of the lines of a program sheet at the cursor.
+use mathlib.Core.Path.{_≡_, refl, sym, ap, _∙_}
+use mathlib.Core.Bool.{Bool, true, false, and-true}
+use mathlib.Core.List.{List, [], _∷_}
+use mathlib.Core.Option.{none, some}
+use Prim.Native.Nat.{ℕ, _+_, _-_, _<_, _≤_}
+use native.Mathlib.Omega.{arith}
+use lib.ListN.{length, getD, take, drop, length-drop}
+use borrow.Author.Tests.{le-leb, lt-leb}
+use Rattle.spec.specs.Choice.{if_then_else_}
+use Rattle.spec.specs.Text.{bytes, same, lines, Field}
+use Rattle.spec.specs.Reading.{programSheet, stop, _>>=_, Seen, right, badForm, badRange, seen, Range, _to_, inRange, allInRange, numerals, ranged, numbers, form, outside, miscounted, passed, nextLine, next}
+use Rattle.spec.specs.Expression.{Step}
+use Rattle.spec.specs.Program.{firstNumber, countLine, words, lookUp, valueRange, stepOf, wordLine, stepLine}
+use Rattle.spec.specs.declared.Refusal.the-variants.{ProgramForm, ProgramRange, ProgramLines}
+use Rattle.spec.specs.declared.Word.{Word}
+use Rattle.spec.specs.declared.Word.the-variants.{Leaf, Unary, Binary}
+use Rattle.spec.specs.declared.LeafWord.the-variants.{Var, Int, Newtid, Newlock}
+use Rattle.spec.specs.declared.BinaryWord.the-variants.{Let, If, Spawn, Write}
+use Rattle.lexer.specs.Views.{firstField, nothing}
+use Rattle.lexer.specs.Cursors.{Placed, start, rest, placeAt, spanAt}
+use Rattle.lexer.specs.Numbers.{NumbersRead}
+use Rattle.lexer.specs.declared.Cursor.{Cursor}
+use Rattle.lexer.specs.declared.Span.{Span}
+use Rattle.lexer.specs.declared.FieldEnd.{FieldEnd}
+use Rattle.lexer.specs.declared.FieldEnd.the-variants.{Comma, Newline, Text}
+use Rattle.lexer.specs.declared.Numbers.{Numbers}
+use Rattle.lexer.specs.declared.Numbers.the-variants as numbers-are
+use Rattle.lexer.proofs.Sheets.{begin-at-none, begin-at-some, next-at, next-at-none, passed-at}
+use Rattle.lexer.proofs.LineEnds.{LineRead, numbers-none, numbers-read}
+use Rattle.lexer.proofs.Places.{span-field}
+use Rattle.lexer.proofs.Walks.{start-placed, start-rest, span-end, span-line-kept, span-comma, left-none, left-some, first-wrong, first-alone}
+use Rattle.lexer.proofs.Ranges.{tail-form, tail-read}
+use Rattle.program.specs.Lines.{TailShown, countAt, CountShown, limitOf, stepAt, StepShown}
+use Rattle.program.specs.declared.lines.Tail.the-variants.{Value, Malformed}
+use Rattle.program.specs.declared.lines.CountLine.the-variants as count
+use Rattle.program.specs.declared.lines.StepLine.the-variants as step
+
+-- ------------------------------------------------------------------ the number behind a first field
+
+single-entry : (xs : List ℕ) → length xs ≡ 1 → xs ≡ getD xs 0 0 ∷ []
+single-entry [] h = absurd (omega arith)
+single-entry (x ∷ []) h = refl
+single-entry (x ∷ y ∷ xs) h = absurd (omega arith)
+
+module _ (text : List ℕ) (c : Cursor) (before after : List ℕ) (answer : Numbers) (e : FieldEnd)
+    (x : NumbersRead text c before after answer) (whole : length before ≡ 1) where
+  pub tail-read-one : (d : Cursor) → e ≡ Comma → Placed text c → answer ≡ numbers-are.Read d → TailShown text c e (Value (getD after 0 0) d)
+  tail-read-one d comma p a =
+      let y : LineRead text c 1 after d = numbers-read x 1 whole p a in
+      (comma, y .numbers ∙ ap (λ ns. some (ns, rest text d)) (single-entry after (y .long)), y .placed, y .line)
+
+  pub tail-read-none : answer ≡ numbers-are.Malformed → TailShown text c e Malformed
+  tail-read-none a comma = numbers-none x 1 whole a .0
+
+-- the cursor behind the line is one line on
+tail-line : (text : List ℕ) (c : Cursor) (s : Span) → s ≡ spanAt text c → (v : ℕ) (d : Cursor) → TailShown text (s .next) (s .end) (Value v d)
+    → d .line ≡ c .line + 1
+tail-line text c s is v d h = h .3 ∙ ap (λ i. i + 1) (span-line-kept text c s is (h .0))
+
+-- a line whose first field is f, and that shows what the one number behind it shows
+module _
+    {A : Type 0}
+    (read : List Field → Seen A)
+    (g : Seen (List ℕ) → Seen A)
+    (bad : g badForm ≡ badForm)
+    (range : Range)
+    (text : List ℕ)
+    (c : Cursor)
+    (s : Span)
+    (is : s ≡ spanAt text c)
+    (p : Placed text c)
+    (left : 0 < length (rest text c))
+    (shows : (fs : List Field) → read (firstField (rest text c) ∷ fs) ≡ g (numbers (range ∷ []) fs))
+  where
+    alone : read (firstField (rest text c) ∷ []) ≡ badForm
+    unfolding numbers numerals ranged
+    alone = shows [] ∙ bad
+
+    tail-malformed : TailShown text (s .next) (s .end) Malformed
+        → nextLine programSheet read (c .line) (lines (rest text c)) ≡ stop (ProgramForm (c .line + 1))
+    unfolding form
+    tail-malformed h = go (s .end) refl
+      where
+        go : (e : FieldEnd) → s .end ≡ e → nextLine programSheet read (c .line) (lines (rest text c)) ≡ stop (ProgramForm (c .line + 1))
+        go Comma q =
+            tail-form programSheet read (c .line) (range ∷ []) g text c (firstField (rest text c)) (s .next) (span-comma text c s is p q) shows bad left (h q)
+        go Newline q = first-alone programSheet read (c .line) (rest text c) left (λ e. clash (sym q ∙ span-end text c s is ∙ e)) alone
+          where
+            clash : Newline ≡ Comma → ⊥
+            clash e = let z : _≡_ {A = ℕ} 0 1 = cc in omega arith
+        go Text q = first-alone programSheet read (c .line) (rest text c) left (λ e. clash (sym q ∙ span-end text c s is ∙ e)) alone
+          where
+            clash : Text ≡ Comma → ⊥
+            clash e = let z : _≡_ {A = ℕ} 0 1 = cc in omega arith
+
+    module _ (v : ℕ) (d : Cursor) (h : TailShown text (s .next) (s .end) (Value v d)) where
+      tail-shows : nextLine programSheet read (c .line) (lines (rest text c))
+          ≡ passed programSheet (c .line + 1) (lines (rest text d)) (g (if inRange range v then right (v ∷ []) else badRange))
+      unfolding allInRange
+      tail-shows =
+          tail-read programSheet read (c .line) (range ∷ []) g text c (firstField (rest text c)) (s .next) (span-comma text c s is p (h .0)) shows (v ∷ []) (rest text d) (h .1)
+          ∙ ap (λ b. passed programSheet (c .line + 1) (lines (rest text d)) (g (if b then right (v ∷ []) else badRange))) (and-true (inRange range v))
+
+-- the number of a line can be counted
+pub line-fits : (text : List ℕ) (c : Cursor) → Placed text c → nothing (rest text c) ≡ false → c .line + 1 < 4294967296
+unfolding rest
+line-fits text c p e =
+    omega (arith, p .line-le, p .short, left-some (drop (c .at) text) e, length-drop (c .at) text)
+
+-- ------------------------------------------------------------------ step lines
+
+range-of : (w : Word) → valueRange w ≡ (0 to limitOf w)
+unfolding valueRange
+range-of (Leaf Var) = refl
+range-of (Leaf Int) = refl
+range-of (Leaf Newtid) = refl
+range-of (Leaf Newlock) = refl
+range-of (Unary w) = refl
+range-of (Binary Let) = refl
+range-of (Binary If) = refl
+range-of (Binary Spawn) = refl
+range-of (Binary Write) = refl
+
+within-limit : (w : Word) (v : ℕ) → v ≤ limitOf w → inRange (valueRange w) v ≡ true
+unfolding inRange
+within-limit w v h = rw (range-of w, le-leb 0 v (omega arith), le-leb v (limitOf w) h) refl
+
+over-limit : (w : Word) (v : ℕ) → limitOf w < v → inRange (valueRange w) v ≡ false
+unfolding inRange
+over-limit w v h = rw (range-of w, le-leb 0 v (omega arith), lt-leb v (limitOf w) h) refl
+
+module _ (text : List ℕ) (c : Cursor) where
+  -- no line is left
+  pub step-missing : nothing (rest text c) ≡ true → StepShown text c (step.Refused (ProgramLines (c .line)))
+  unfolding stepAt miscounted
+  step-missing e = next-at-none programSheet text stepLine c (left-none (rest text c) e)
+
+  module _ (e : nothing (rest text c) ≡ false) (s : Span) (is : s ≡ spanAt text c) (p : Placed text c) where
+    pub step-unknown : lookUp words (firstField (rest text c)) ≡ none → StepShown text c (step.Refused (ProgramForm (c .line + 1)))
+    unfolding stepAt next placeAt form stepLine wordLine
+    step-unknown u = first-wrong programSheet stepLine (c .line) (rest text c) (left-some (rest text c) e) (λ fs. rw u refl)
+
+    module _ (w : Word) (k : lookUp words (firstField (rest text c)) ≡ some w) where
+      step-shows : (fs : List Field) → stepLine (firstField (rest text c) ∷ fs) ≡ seen (stepOf w) (numbers (valueRange w ∷ []) fs)
+      unfolding stepLine wordLine
+      step-shows fs = rw k refl
+
+      pub step-malformed : TailShown text (s .next) (s .end) Malformed → StepShown text c (step.Refused (ProgramForm (c .line + 1)))
+      unfolding stepAt next placeAt seen
+      step-malformed h =
+          tail-malformed stepLine (seen (stepOf w)) refl (valueRange w) text c s is p (left-some (rest text c) e) step-shows h
+
+      module _ (v : ℕ) (d : Cursor) (h : TailShown text (s .next) (s .end) (Value v d)) where
+        step-reads : stepAt text c
+            ≡ passed programSheet (c .line + 1) (lines (rest text d)) (seen (stepOf w) (if inRange (valueRange w) v then right (v ∷ []) else badRange))
+        unfolding stepAt next placeAt seen
+        step-reads = tail-shows stepLine (seen (stepOf w)) refl (valueRange w) text c s is p (left-some (rest text c) e) step-shows v d h
+
+        pub step-over : limitOf w < v → StepShown text c (step.Refused (ProgramRange (c .line + 1)))
+        unfolding passed seen outside
+        step-over l = step-reads ∙ rw (over-limit w v l) refl
+
+        pub step-right : v ≤ limitOf w → StepShown text c (step.Step w v d)
+        unfolding seen stepOf firstNumber
+        step-right l =
+            let line = tail-line text c s is v d h in
+            let one : Step = record { word = w; value = v } in
+            (step-reads ∙ rw (within-limit w v l) (passed-at programSheet text one c d line), l, h .2)
+
+-- ------------------------------------------------------------------ line 1
+
+-- whether the first field is `P`
+pub marked : (text : List ℕ) (c : Cursor) (s : Span) (r : Bool) → s ≡ spanAt text c
+    → r ≡ same (take (s .to - s .from) (drop (s .from) text)) (80 ∷ []) → same (firstField (rest text c)) (bytes "P") ≡ r
+unfolding bytes
+marked text c s r is e = ap (λ f. same f (80 ∷ [])) (sym (span-field text c s is)) ∙ sym e
+
+module _ (text : List ℕ) (c : Cursor) (top : c ≡ start) where
+  pub placed-top : length text ≤ 16384 → Placed text c
+  placed-top h = rw top (start-placed text (omega arith))
+
+  at-top : c .line ≡ 0
+  unfolding start
+  at-top = ap (λ (x : Cursor). x .line) top
+
+  at-text : rest text c ≡ text
+  at-text = ap (rest text) top ∙ start-rest text
+
+  pub count-empty : nothing (rest text c) ≡ true → CountShown text (count.Refused (ProgramForm 1))
+  unfolding countAt _>>=_ form
+  count-empty e = rw (begin-at-none programSheet text (sym at-text ∙ left-none (rest text c) e)) refl
+
+  module _ (e : nothing (rest text c) ≡ false) (s : Span) (is : s ≡ spanAt text c) (p : Placed text c) where
+    counts : countAt text ≡ nextLine programSheet countLine (c .line) (lines (rest text c))
+    unfolding countAt _>>=_
+    counts =
+        let l : 0 < length text = rw at-text at (left-some (rest text c) e) in
+        rw (begin-at-some programSheet text l, ← top) (next-at programSheet text countLine c)
+
+    pub count-other : same (firstField (rest text c)) (bytes "P") ≡ false → CountShown text (count.Refused (ProgramForm 1))
+    unfolding form countLine
+    count-other u =
+        counts
+        ∙ first-wrong programSheet countLine (c .line) (rest text c) (left-some (rest text c) e) (λ fs. rw u refl)
+        ∙ rw at-top refl
+
+    module _ (k : same (firstField (rest text c)) (bytes "P") ≡ true) where
+      count-shows : (fs : List Field) → countLine (firstField (rest text c) ∷ fs) ≡ seen firstNumber (numbers ((1 to 256) ∷ []) fs)
+      unfolding countLine
+      count-shows fs = rw k refl
+
+      pub count-malformed : TailShown text (s .next) (s .end) Malformed → CountShown text (count.Refused (ProgramForm 1))
+      unfolding seen
+      count-malformed h =
+          counts
+          ∙ tail-malformed countLine (seen firstNumber) refl (1 to 256) text c s is p (left-some (rest text c) e) count-shows h
+          ∙ rw at-top refl
+
+      module _ (n : ℕ) (d : Cursor) (h : TailShown text (s .next) (s .end) (Value n d)) where
+        count-reads : countAt text
+            ≡ passed programSheet (c .line + 1) (lines (rest text d)) (seen firstNumber (if inRange (1 to 256) n then right (n ∷ []) else badRange))
+        unfolding seen
+        count-reads =
+            counts ∙ tail-shows countLine (seen firstNumber) refl (1 to 256) text c s is p (left-some (rest text c) e) count-shows n d h
+
+        pub count-none : n < 1 → CountShown text (count.Refused (ProgramRange 1))
+        unfolding passed seen outside inRange
+        count-none l = count-reads ∙ rw (lt-leb 1 n l, at-top) refl
+
+        pub count-many : 1 ≤ n → 256 < n → CountShown text (count.Refused (ProgramRange 1))
+        unfolding passed seen outside inRange
+        count-many l m = count-reads ∙ rw (le-leb 1 n l, lt-leb n 256 m, at-top) refl
+
+        pub count-right : 1 ≤ n → n ≤ 256 → CountShown text (count.Count n d)
+        unfolding seen firstNumber inRange
+        count-right l m =
+            let line = tail-line text c s is n d h in
+            (count-reads ∙ rw (le-leb 1 n l, le-leb n 256 m) (passed-at programSheet text n c d line), m, h .2)

@@ -1,0 +1,282 @@
+-- Judging the steps of an expression in line order, with a table, comes to the scopes of the expression.
+-- One induction on the expression: the table that agrees with the scopes in front of it agrees behind it.
+use mathlib.Core.Path.{_≡_, refl, sym, ap, subst, _∙_}
+use mathlib.Core.Logic.{_⊎_, inl, inr, ⊎-elim}
+use mathlib.Core.List.{List, [], _∷_, _++_, append-nil}
+use mathlib.Core.Bool.{Bool, true, false, false≢true}
+use Prim.Native.Nat.{ℕ, suc, _+_, _<_, _≤_}
+use native.Mathlib.Omega.{arith}
+use lib.Dec.{leb, ltb}
+use lib.ListN.{length, getD, set}
+use borrow.Author.Tests.{le-leb, lt-leb, lt-ltb, le-ltb, ltb-true, ltb-false}
+use Rattle.spec.specs.Choice.{if_then_else_}
+use Rattle.spec.specs.Reading.{Out, stop, on, _>>=_}
+use Rattle.spec.specs.Expression.{Expr, leaf, unary, binary, size, among, scope}
+use Rattle.spec.specs.declared.Refusal.{Refusal}
+use Rattle.spec.specs.declared.Refusal.the-variants.{Unbound, Rebound}
+use Rattle.spec.specs.declared.Word.{Word}
+use Rattle.spec.specs.declared.Word.the-variants.{Binary}
+use Rattle.spec.specs.declared.LeafWord.the-variants.{Var, Int, Newtid, Newlock}
+use Rattle.spec.specs.declared.BinaryWord.the-variants.{Let, If, Spawn, Write}
+use Rattle.workspace.specs.Holds.{letIn, lets}
+use Rattle.program.specs.Scopes.{roleOf, unbound, judgeLet, judgeVar, judgeBy, judgeOf, storing, judged, scopesFrom}
+use Rattle.program.specs.declared.binders.Role.the-variants.{Uses, Neither}
+use Rattle.program.specs.declared.binders.Judged.the-variants.{Store, Refused}
+use Rattle.program.proofs.ScopeLaws.{after, after-append, after-stop, after-on, replicate-any}
+use Rattle.program.proofs.Standing.{Head, Stands}
+use Rattle.program.proofs.Tables.{endAt, names, Right, Bound, Extends, Agrees, extends-same, extends-then, agrees-narrow, agrees-onward, let-extends, let-first, let-second}
+
+joined : (xs ys : List ℕ) (o : Out (List ℕ)) → storing 0 (after xs (after ys o)) ≡ after (0 ∷ (xs ++ ys)) o
+unfolding after
+joined xs ys o = ap (storing 0) (after-append xs ys o)
+
+-- ------------------------------------------------------------------ what walking over some steps comes to
+
+-- s steps from index k on, for which ls are stored, and the m steps behind them with the table that is left
+pub record Gone (w : List ℕ) (m k s : ℕ) (ls t bound : List ℕ) : Type 0 where
+  pub table : List ℕ
+  pub long : length table ≡ 256
+  pub extends : Extends w (k + s) t table
+  pub bind : Bound table bound
+  pub goes : scopesFrom w (s + m) k t ≡ after ls (scopesFrom w m (k + s) table)
+
+abbrev pub Walked : List ℕ → (m k s : ℕ) → (ls t : List ℕ) → Out (List ℕ) → Type 0
+Walked w m k s ls t (stop r) = scopesFrom w (s + m) k t ≡ stop r
+Walked w m k s ls t (on bound) = Gone w m k s ls t bound
+
+-- ------------------------------------------------------------------ one step
+
+one-of : {A : Type 0} (r s : A) (x y z : Bool) → (x ≡ true) ⊎ ((y ≡ true) ⊎ (z ≡ true))
+    → (if x then r else if y then r else if z then r else s) ≡ r
+one-of r s true y z o = refl
+one-of r s false true z o = refl
+one-of r s false false true o = refl
+one-of r s false false false o =
+    absurd (⊎-elim (λ e. false≢true e) (λ p. ⊎-elim (λ e. false≢true e) (λ e. false≢true e) p) o)
+
+var-refused : (w : List ℕ) (k b : ℕ) → (256 ≤ b) ⊎ ((k < endAt w (b + 1)) ⊎ (endAt w b ≤ k)) → judgeVar w k b ≡ Refused (Unbound (k + 2))
+unfolding judgeVar
+var-refused w k b o =
+    one-of (Refused (Unbound (k + 2))) (Store b) (leb 256 b) (ltb k (endAt w (b + 1))) (leb (endAt w b) k)
+    (⊎-elim
+    (λ h. inl (le-leb 256 b h))
+    (λ p. inr (⊎-elim (λ h. inl (lt-ltb k (endAt w (b + 1)) h)) (λ h. inr (le-leb (endAt w b) k h)) p))
+    o)
+
+module _ (w : List ℕ) (m k : ℕ) (t : List ℕ) {x : Word} {l v : ℕ} (h : Head w k x l v) where
+  step : scopesFrom w (suc m) k t ≡ judged (λ u. scopesFrom w m (k + 1) u) k t v (judgeBy w k (getD t v 256) (roleOf x))
+  unfolding scopesFrom judgeOf
+  step = rw (h .word, h .value) refl
+
+  step-other : roleOf x ≡ Neither → scopesFrom w (suc m) k t ≡ storing 0 (scopesFrom w m (k + 1) t)
+  unfolding judged judgeBy
+  step-other e = step ∙ ap (λ r. judged (λ u. scopesFrom w m (k + 1) u) k t v (judgeBy w k (getD t v 256) r)) e
+
+  -- a step that neither binds nor uses a variable, alone
+  walk-other : (bound : List ℕ) → roleOf x ≡ Neither → length t ≡ 256 → Bound t bound → Gone w m k 1 (0 ∷ []) t bound
+  unfolding after
+  walk-other bound e long b = record {
+    table = t;
+    long = long;
+    extends = extends-same w (k + 1) t;
+    bind = b;
+    goes = let q : 1 + m ≡ suc m = omega arith in rw q (step-other e);
+  }
+
+  -- a use of a variable
+  module _ (hi : ℕ) (ins : List (ℕ × ℕ)) (bound : List ℕ) (e : roleOf x ≡ Uses) (hh : k + 1 ≤ hi) (a : Agrees w k hi t ins bound) where
+    step-use : scopesFrom w (suc m) k t ≡ judged (λ u. scopesFrom w m (k + 1) u) k t v (judgeVar w k (getD t v 256))
+    unfolding judgeBy
+    step-use = step ∙ ap (λ r. judged (λ u. scopesFrom w m (k + 1) u) k t v (judgeBy w k (getD t v 256) r)) e
+
+    inside : (i b : ℕ) → b ≡ getD t v 256 → Right w k hi true i b → scopesFrom w (suc m) k t ≡ storing i (scopesFrom w m (k + 1) t)
+    unfolding judgeVar judged
+    inside i b q r =
+        let low : b < 256 = r .1 in
+        let from : endAt w (b + 1) ≤ k = r .2 in
+        let till : k < endAt w b = omega (arith, r .3) in
+        step-use ∙ rw (← q, lt-leb 256 b low, le-ltb k (endAt w (b + 1)) from, lt-leb (endAt w b) k till, r .0) refl
+
+    outside : (i b : ℕ) → b ≡ getD t v 256 → Right w k hi false i b → scopesFrom w (suc m) k t ≡ stop (Unbound l)
+    unfolding judged
+    outside i b q r =
+        let o : (256 ≤ b) ⊎ ((k < endAt w (b + 1)) ⊎ (endAt w b ≤ k)) =
+        ⊎-elim (λ p. inl p) (λ p. inr (⊎-elim (λ f. inl (omega arith)) (λ f. inr f) p)) r in
+        step-use
+        ∙ ap (judged (λ u. scopesFrom w m (k + 1) u) k t v)
+        (ap (judgeVar w k) (sym q) ∙ var-refused w k b o ∙ ap (λ i. Refused (Unbound i)) (sym (h .line)))
+
+    walk-use : (y : Bool) → Right w k hi y (letIn ins v) (getD t v 256)
+        → Walked w m k 1 (letIn ins v ∷ []) t (if y then on bound else stop (Unbound l))
+    unfolding after
+    walk-use true r = record {
+      table = t;
+      long = a .long;
+      extends = extends-same w (k + 1) t;
+      bind = a .bind;
+      goes = let q : 1 + m ≡ suc m = omega arith in rw q (inside (letIn ins v) (getD t v 256) refl r);
+    }
+    walk-use false r = let q : 1 + m ≡ suc m = omega arith in rw q (outside (letIn ins v) (getD t v 256) refl r)
+
+-- ------------------------------------------------------------------ a step and its parts
+
+-- a step for which 0 is stored, and then its one part
+walk-one : (w : List ℕ) (m k s : ℕ) (ls t : List ℕ) (o : Out (List ℕ)) → scopesFrom w (suc s + m) k t ≡ storing 0 (scopesFrom w (s + m) (k + 1) t)
+    → Walked w m (k + 1) s ls t o → Walked w m k (suc s) (0 ∷ ls) t o
+unfolding storing after
+walk-one w m k s ls t (stop r) p x = p ∙ ap (storing 0) x
+walk-one w m k s ls t (on bound) p x =
+    let q : k + 1 + s ≡ k + suc s = omega arith in
+    record {
+      table = x .table;
+      long = x .long;
+      extends = subst (λ i. Extends w i t (x .table)) q (x .extends);
+      bind = x .bind;
+      goes = p ∙ ap (storing 0) (x .goes) ∙ ap (λ i. storing 0 (after ls (scopesFrom w m i (x .table)))) q;
+    }
+
+-- a step for which 0 is stored and that leaves the table t₀, and then its two parts
+module _ (w : List ℕ) (m k s₁ s₂ : ℕ) (ls₁ ls₂ t t₀ : List ℕ)
+    (p : scopesFrom w (suc (s₁ + s₂) + m) k t ≡ storing 0 (scopesFrom w (s₁ + (s₂ + m)) (k + 1) t₀))
+    (x₀ : Extends w (k + suc (s₁ + s₂)) t t₀) where
+  behind : (b₁ : List ℕ) (x₁ : Gone w (s₂ + m) (k + 1) s₁ ls₁ t₀ b₁) (o : Out (List ℕ)) → Walked w m (k + 1 + s₁) s₂ ls₂ (x₁ .table) o
+      → Walked w m k (suc (s₁ + s₂)) (0 ∷ (ls₁ ++ ls₂)) t o
+  unfolding storing
+  behind b₁ x₁ (stop r) x₂ = p ∙ ap (storing 0) (x₁ .goes ∙ ap (after ls₁) x₂ ∙ after-stop ls₁ r)
+  behind b₁ x₁ (on b₂) x₂ =
+      let q : k + 1 + s₁ + s₂ ≡ k + suc (s₁ + s₂) = omega arith in
+      let y₂ : Extends w (k + suc (s₁ + s₂)) (x₁ .table) (x₂ .table) = subst (λ i. Extends w i (x₁ .table) (x₂ .table)) q (x₂ .extends) in
+      let y₁ : Extends w (k + suc (s₁ + s₂)) t₀ (x₂ .table) =
+      extends-then w (k + 1 + s₁) (k + suc (s₁ + s₂)) t₀ (x₁ .table) (x₂ .table) (omega arith) (x₁ .extends) y₂ in
+      record {
+        table = x₂ .table;
+        long = x₂ .long;
+        extends = extends-then w (k + suc (s₁ + s₂)) (k + suc (s₁ + s₂)) t t₀ (x₂ .table) (omega arith) x₀ y₁;
+        bind = x₂ .bind;
+        goes = p ∙ ap (storing 0) (x₁ .goes ∙ ap (after ls₁) (x₂ .goes)) ∙ joined ls₁ ls₂ (scopesFrom w m (k + 1 + s₁ + s₂) (x₂ .table))
+            ∙ ap (λ i. after (0 ∷ (ls₁ ++ ls₂)) (scopesFrom w m i (x₂ .table))) q;
+      }
+
+  walk-two : (o₁ : Out (List ℕ)) (more : List ℕ → Out (List ℕ)) → Walked w (s₂ + m) (k + 1) s₁ ls₁ t₀ o₁
+      → ((b₁ : List ℕ) (x₁ : Gone w (s₂ + m) (k + 1) s₁ ls₁ t₀ b₁) → Walked w m (k + 1 + s₁) s₂ ls₂ (x₁ .table) (more b₁))
+      → Walked w m k (suc (s₁ + s₂)) (0 ∷ (ls₁ ++ ls₂)) t (o₁ >>= more)
+  unfolding storing _>>=_
+  walk-two (stop r) more x₁ x₂ = p ∙ ap (storing 0) x₁
+  walk-two (on b₁) more x₁ x₂ = behind b₁ x₁ (more b₁) (x₂ b₁ x₁)
+
+-- a let, and then its two parts
+module _ (w : List ℕ) (m k s₁ s₂ : ℕ) (ls₁ ls₂ t : List ℕ) {l v : ℕ} (h : Head w k (Binary Let) l v) (bound : List ℕ)
+    (end : endAt w k ≡ k + suc (s₁ + s₂)) (long : length t ≡ 256) (bind : Bound t bound) where
+  step-let : scopesFrom w (suc (s₁ + s₂) + m) k t ≡ judged (λ u. scopesFrom w (s₁ + (s₂ + m)) (k + 1) u) k t v (judgeLet k (getD t v 256))
+  unfolding judgeBy
+  step-let = let q : suc (s₁ + s₂) + m ≡ suc (s₁ + (s₂ + m)) = omega arith in rw q (step w (s₁ + (s₂ + m)) k t h)
+
+  walk-let : (x₀ : among v bound ≡ false → Extends w (k + suc (s₁ + s₂)) t (set t v k))
+      → (o₁ : Out (List ℕ)) (more : List ℕ → Out (List ℕ))
+      → (among v bound ≡ false → Walked w (s₂ + m) (k + 1) s₁ ls₁ (set t v k) o₁)
+      → (among v bound ≡ false → (b₁ : List ℕ) (x₁ : Gone w (s₂ + m) (k + 1) s₁ ls₁ (set t v k) b₁) → Walked w m (k + 1 + s₁) s₂ ls₂ (x₁ .table) (more b₁))
+      → (y : Bool) → among v bound ≡ y
+      → Walked w m k (suc (s₁ + s₂)) (0 ∷ (ls₁ ++ ls₂)) t (if y then stop (Rebound l) else (o₁ >>= more))
+  unfolding judged judgeLet
+  walk-let x₀ o₁ more x₁ x₂ true e =
+      let low : getD t v 256 < 256 = ltb-true (getD t v 256) 256 (sym (bind v (h .variable)) ∙ e) in
+      step-let ∙ rw (lt-leb 256 (getD t v 256) low, h .line) refl
+  walk-let x₀ o₁ more x₁ x₂ false e =
+      let free : 256 ≤ getD t v 256 = ltb-false (getD t v 256) 256 (sym (bind v (h .variable)) ∙ e) in
+      walk-two w m k s₁ s₂ ls₁ ls₂ t (set t v k) (step-let ∙ rw (le-leb 256 (getD t v 256) free) refl) (x₀ e) o₁ more (x₁ e) (x₂ e)
+
+-- ------------------------------------------------------------------ an expression
+
+step-first : (w : List ℕ) (m k s : ℕ) (t : List ℕ) {x : Word} {l v : ℕ} → Head w k x l v → roleOf x ≡ Neither
+    → scopesFrom w (suc s + m) k t ≡ storing 0 (scopesFrom w (s + m) (k + 1) t)
+step-first w m k s t h e = let q : suc s + m ≡ suc (s + m) = omega arith in rw q (step-other w (s + m) k t h e)
+
+step-pair : (w : List ℕ) (m k s₁ s₂ : ℕ) (t : List ℕ) {x : Word} {l v : ℕ} → Head w k x l v → roleOf x ≡ Neither
+    → scopesFrom w (suc (s₁ + s₂) + m) k t ≡ storing 0 (scopesFrom w (s₁ + (s₂ + m)) (k + 1) t)
+step-pair w m k s₁ s₂ t h e = let q : s₁ + s₂ + m ≡ s₁ + (s₂ + m) = omega arith in step-first w m k (s₁ + s₂) t h e ∙ rw q refl
+
+-- a step of two parts that binds nothing, from its parts
+walk-pair : (w : List ℕ) (m k hi : ℕ) (t : List ℕ) (ins : List (ℕ × ℕ)) (bound : List ℕ) (e₁ e₂ : Expr) {x : Word} {l v : ℕ}
+    → Head w k x l v → roleOf x ≡ Neither → Agrees w k hi t ins bound
+    → (Agrees w (k + 1) hi t ins bound → Walked w (size e₂ + m) (k + 1) (size e₁) (lets (k + 1) ins e₁) t (scope e₁ (names ins) bound))
+    → ((b u : List ℕ) → Agrees w (k + 1 + size e₁) hi u ins b → Walked w m (k + 1 + size e₁) (size e₂) (lets (k + 1 + size e₁) ins e₂) u (scope e₂ (names ins) b))
+    → Walked w m k (suc (size e₁ + size e₂)) (0 ∷ (lets (k + 1) ins e₁ ++ lets (k + 1 + size e₁) ins e₂)) t
+    (scope e₁ (names ins) bound >>= λ b. scope e₂ (names ins) b)
+walk-pair w m k hi t ins bound e₁ e₂ h role a x₁ x₂ =
+    walk-two w m k (size e₁) (size e₂) (lets (k + 1) ins e₁) (lets (k + 1 + size e₁) ins e₂) t t
+    (step-pair w m k (size e₁) (size e₂) t h role)
+    (extends-same w (k + suc (size e₁ + size e₂)) t)
+    (scope e₁ (names ins) bound)
+    (λ b. scope e₂ (names ins) b)
+    (x₁ (agrees-narrow w k hi (k + 1) hi t ins bound (omega arith) (omega arith) a))
+    (λ b y.
+    x₂ b (y .table)
+    (agrees-onward w k hi (k + 1 + size e₁) t (y .table) ins bound b (omega arith) a (y .long) (y .extends) (y .bind)))
+
+walk : (w : List ℕ) (e : Expr) (k m hi : ℕ) (t : List ℕ) (ins : List (ℕ × ℕ)) (bound : List ℕ) → Stands w k e → k + size e ≤ hi → hi ≤ 256
+    → Agrees w k hi t ins bound → Walked w m k (size e) (lets k ins e) t (scope e (names ins) bound)
+unfolding scope lets size names
+walk w (leaf Var l v) k m hi t ins bound h hh top a =
+    walk-use w m k t h hi ins bound refl hh a (among v (names ins)) (a .at v (h .variable))
+walk w (leaf Int l v) k m hi t ins bound h hh top a = walk-other w m k t h bound refl (a .long) (a .bind)
+walk w (leaf Newtid l v) k m hi t ins bound h hh top a = walk-other w m k t h bound refl (a .long) (a .bind)
+walk w (leaf Newlock l v) k m hi t ins bound h hh top a = walk-other w m k t h bound refl (a .long) (a .bind)
+walk w (unary x l v e) k m hi t ins bound h hh top a =
+    walk-one w m k (size e) (lets (k + 1) ins e) t (scope e (names ins) bound) (step-first w m k (size e) t (h .0) refl)
+    (walk w e (k + 1) m hi t ins bound (h .1) (omega arith) top (agrees-narrow w k hi (k + 1) hi t ins bound (omega arith) (omega arith) a))
+walk w (binary Let l v e₁ e₂) k m hi t ins bound h hh top a =
+    let mid = k + 1 + size e₁ in
+    let end = k + suc (size e₁ + size e₂) in
+    let inner : Agrees w k end t ins bound = agrees-narrow w k hi k end t ins bound (omega arith) hh a in
+    let order : (k ≤ mid) × (mid ≤ end) = (omega arith, omega arith) in
+    let small : k < 256 = omega arith in
+    walk-let w m k (size e₁) (size e₂) (lets (k + 1) ins e₁) (lets mid ((v, k) ∷ ins) e₂) t (h .0) bound (h .1) (a .long) (a .bind)
+    (let-extends w k mid end v t ins bound (h .0 .variable) small (h .2) (h .1) order inner)
+    (scope e₁ (names ins) (v ∷ bound))
+    (λ b. scope e₂ (v ∷ names ins) b)
+    (λ free.
+    walk w e₁ (k + 1) (size e₂ + m) mid (set t v k) ins (v ∷ bound) (h .3) (omega arith) (omega arith)
+    (let-first w k mid end v t ins bound (h .0 .variable) small (h .2) (h .1) order inner free))
+    (λ free b₁ x₁.
+    walk w e₂ mid m end (x₁ .table) ((v, k) ∷ ins) b₁ (h .4) (omega arith) (omega arith)
+    (let-second w k mid end v t ins bound (h .0 .variable) small (h .2) (h .1) order inner free (x₁ .table) b₁ (x₁ .long) (x₁ .extends) (x₁ .bind)))
+    (among v bound)
+    refl
+walk w (binary If l v e₁ e₂) k m hi t ins bound h hh top a =
+    walk-pair w m k hi t ins bound e₁ e₂ (h .0) refl a
+    (walk w e₁ (k + 1) (size e₂ + m) hi t ins bound (h .3) (omega arith) top)
+    (λ b u. walk w e₂ (k + 1 + size e₁) m hi u ins b (h .4) (omega arith) top)
+walk w (binary Spawn l v e₁ e₂) k m hi t ins bound h hh top a =
+    walk-pair w m k hi t ins bound e₁ e₂ (h .0) refl a
+    (walk w e₁ (k + 1) (size e₂ + m) hi t ins bound (h .3) (omega arith) top)
+    (λ b u. walk w e₂ (k + 1 + size e₁) m hi u ins b (h .4) (omega arith) top)
+walk w (binary Write l v e₁ e₂) k m hi t ins bound h hh top a =
+    walk-pair w m k hi t ins bound e₁ e₂ (h .0) refl a
+    (walk w e₁ (k + 1) (size e₂ + m) hi t ins bound (h .3) (omega arith) top)
+    (λ b u. walk w e₂ (k + 1 + size e₁) m hi u ins b (h .4) (omega arith) top)
+
+-- ------------------------------------------------------------------ a whole program
+
+-- no variable is bound
+none-agrees : (w : List ℕ) (n : ℕ) → Agrees w 0 n unbound [] []
+unfolding unbound among names
+none-agrees w n = record {
+  long = refl;
+  bind = λ v l. rw (replicate-any 256 v 256) refl;
+  at = λ v l. inl (rw (replicate-any 256 v 256) (omega arith));
+}
+
+module _ (w : List ℕ) (n : ℕ) (e : Expr) (h : Stands w 0 e) (s : size e ≡ n) (few : n ≤ 256) where
+  from-root : Walked w 0 0 (size e) (lets 0 [] e) unbound (scope e [] [])
+  unfolding names
+  from-root = walk w e 0 0 n unbound [] [] h (omega arith) few (none-agrees w n)
+
+  pub root-stops : (r : Refusal) → scope e [] [] ≡ stop r → scopesFrom w n 0 unbound ≡ stop r
+  root-stops r p = let q : size e + 0 ≡ n = omega arith in rw q at (subst (Walked w 0 0 (size e) (lets 0 [] e) unbound) p from-root)
+
+  pub root-goes-on : (bound : List ℕ) → scope e [] [] ≡ on bound → scopesFrom w n 0 unbound ≡ on (lets 0 [] e)
+  unfolding scopesFrom
+  root-goes-on bound p =
+      let q : size e + 0 ≡ n = omega arith in
+      let x : Gone w 0 0 (size e) (lets 0 [] e) unbound bound = subst (Walked w 0 0 (size e) (lets 0 [] e) unbound) p from-root in
+      rw (← q) (x .goes ∙ after-on (lets 0 [] e) [] ∙ ap on (append-nil (lets 0 [] e)))

@@ -1,0 +1,23 @@
+-- A variable past the table's end is unbound.
+use mathlib.Core.Path.{sym}
+use lib.ListN.{List·getD-eq-default}
+use borrow.Author.Needs.{needs}
+use Rattle.program.proofs.ScopeLaws.{getD-any}
+use Rattle.program.proofs.binders.binder.Statement.{statement}
+use Rattle.program.proofs.binders.binder.Tie as tie
+
+mul-result : tie.Need-mul-result
+mul-result c = search needs
+
+shared-slice-read-result : tie.Need-shared-slice-read-result
+shared-slice-read-result c = search needs
+
+returns : tie.Need-returns
+returns c =
+    getD-any (c .before .before .args .table .now) (c .before .before .args .v) 0 256 (c .before .if1 .taken)
+
+returns-2 : tie.Need-returns-2
+returns-2 c = sym (List·getD-eq-default (c .before .args .table .now) 256 (c .if1 .left))
+
+pub binder-spec : {M : Type 1} → statement M
+binder-spec = tie.close (tie.spec mul-result shared-slice-read-result returns returns-2)

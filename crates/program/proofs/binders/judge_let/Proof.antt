@@ -1,0 +1,23 @@
+-- A variable is bound once.
+use borrow.Author.Tests.{le-leb, lt-leb}
+use Rattle.program.specs.Scopes.{judgeLet}
+use borrow.Author.Needs.{needs}
+use Rattle.program.proofs.binders.judge_let.Statement.{statement}
+use Rattle.program.proofs.binders.judge_let.Tie as tie
+
+returns : tie.Need-returns
+unfolding judgeLet
+returns c = simp (le-leb _ _ (c .if1 .taken))
+
+cast-line : tie.Need-cast-line
+cast-line c = search needs
+
+add-line : tie.Need-add-line
+add-line c = search needs
+
+returns-2 : tie.Need-returns-2
+unfolding judgeLet
+returns-2 c = simp (lt-leb _ _ (c .if1 .left))
+
+pub judge-let-spec : {M : Type 1} → statement M
+judge-let-spec = tie.close (tie.spec returns cast-line add-line returns-2)

@@ -1,0 +1,52 @@
+-- The line goes on behind a comma, with one numeral.
+use Rattle.lexer.proofs.Walks.{not-comma}
+use Rattle.program.proofs.LineLaws.{tail-read-one, tail-read-none}
+use borrow.Author.Needs.{needs}
+use mathlib.Core.Path.{refl}
+use Rattle.program.proofs.lines.last_number.Statement.{statement}
+use Rattle.program.proofs.lines.last_number.Tie as tie
+
+enum-told : tie.Need-enum-told
+enum-told c = search needs
+
+returns : tie.Need-returns
+returns c = λ e. absurd (not-comma _ (c .match .keys2) e)
+
+slice-aggregate-numbers : tie.Need-slice-aggregate-numbers
+slice-aggregate-numbers c = search needs
+
+numbers-requires : tie.Need-numbers-requires
+numbers-requires c κs = search needs
+
+enum-known-behind : tie.Need-enum-known-behind
+enum-known-behind c = search needs
+
+array-read-t12 : tie.Need-array-read-t12
+array-read-t12 c = search needs
+
+enum-told-2 : tie.Need-enum-told-2
+enum-told-2 c = search needs
+
+returns-2 : tie.Need-returns-2
+returns-2 c =
+    let at-numbers = c .before .before .before .before in
+    let at-enum-told = at-numbers .before .before in
+    let at-pre = at-enum-told .before .before .before in
+    tail-read-one _ _ _ _ _ _ (at-numbers .numbers .ensures) refl _ (at-enum-told .enum-told .given .1) (at-pre .pre) (c .before .behind .given .1)
+
+returns-3 : tie.Need-returns-3
+returns-3 c = tail-read-none _ _ _ _ _ _ (c .before .before .before .numbers .ensures) refl (c .enum-told2 .given .1)
+
+pub last-number-spec : {M : Type 1} → statement M
+last-number-spec =
+    tie.close
+    (tie.spec
+    enum-told
+    returns
+    slice-aggregate-numbers
+    numbers-requires
+    enum-known-behind
+    array-read-t12
+    enum-told-2
+    returns-2
+    returns-3)

@@ -1,0 +1,113 @@
+-- The loop's invariant: the steps passed are stored, and reading the lines from the cursor on comes to what reading all of
+-- them does.
+use Prim.Native.Nat.{_-_}
+use lib.ListN.{length-set}
+use Rattle.program.specs.Lines.{StepShown}
+use Rattle.program.proofs.StepLoop.{StepsSoFar, start, finish, refuses, more}
+use borrow.Author.Needs.{needs}
+use native.Mathlib.Omega.{arith}
+use mathlib.Core.Path.{subst}
+use Rattle.program.proofs.lines.step_lines.Statement.{statement}
+use Rattle.program.proofs.lines.step_lines.Tie as tie
+
+abbrev Inv-loop : tie.InvT-loop
+Inv-loop text work₀ n cursor₀ k₀ work cursor k = StepsSoFar text n cursor₀ work₀ work cursor k
+
+abbrev μ-loop : tie.MeasureT-loop
+μ-loop text work₀ n cursor₀ k₀ work cursor k = n - k
+
+loop-holds : tie.Need-loop-holds Inv-loop μ-loop
+loop-holds c = start _ _ _ _ (c .before .before .pre .0) (c .before .before .pre .2)
+
+step-line-requires : tie.Need-step-line-requires Inv-loop μ-loop
+step-line-requires c κs = c .before .loop .inv .placed
+
+enum-known-word : tie.Need-enum-known-word Inv-loop μ-loop
+enum-known-word c = search needs
+
+code-of-requires : tie.Need-code-of-requires Inv-loop μ-loop
+code-of-requires c κs = search needs
+
+add-work : tie.Need-add-work Inv-loop μ-loop
+add-work c = search needs
+
+mul-work : tie.Need-mul-work Inv-loop μ-loop
+mul-work c = search needs
+
+slice-write-work : tie.Need-slice-write-work Inv-loop μ-loop
+slice-write-work c =
+    let at-loop = c .before .before .before .before .before .before in
+    let at-pre = at-loop .before .before .before in
+    omega (arith, at-pre .pre, at-loop .loop .inv .changed .long)
+
+add-work-2 : tie.Need-add-work-2 Inv-loop μ-loop
+add-work-2 c = search needs
+
+mul-work-2 : tie.Need-mul-work-2 Inv-loop μ-loop
+mul-work-2 c = search needs
+
+slice-write-work-2 : tie.Need-slice-write-work-2 Inv-loop μ-loop
+slice-write-work-2 c =
+    let at-loop = c .before .before .before .before .before .before in
+    let at-pre = at-loop .before .before .before in
+    simp length-set (omega (arith, at-pre .pre, at-loop .loop .inv .changed .long))
+
+enum-known-refusal : tie.Need-enum-known-refusal Inv-loop μ-loop
+enum-known-refusal c = search needs
+
+same-length : tie.Need-same-length Inv-loop μ-loop
+same-length c = c .before .before .before .before .before .loop .inv .changed .long
+
+returns : tie.Need-returns Inv-loop μ-loop
+returns c =
+    let at-step-line = c .before .before .before in
+    let at-loop-test = at-step-line .before in
+    let at-loop = at-loop-test .before in
+    refuses _ _ _ _ _ _ _ (at-loop .loop .inv) (at-loop-test .loop-test .taken) _ (subst (StepShown _ _) (c .before .refusal .given .1) (at-step-line .step-line .ensures))
+
+add-k : tie.Need-add-k Inv-loop μ-loop
+add-k c = search needs
+
+loop-less : tie.Need-loop-less Inv-loop μ-loop
+loop-less c = search needs
+
+loop-again : tie.Need-loop-again Inv-loop μ-loop
+loop-again c =
+    let at-step-line = c .before .before .before .before in
+    let at-loop-test = at-step-line .before in
+    let at-loop = at-loop-test .before in
+    let at-pre = at-loop .before .before .before in
+    more _ _ _ _ _ _ _ (at-loop .loop .inv) (at-loop-test .loop-test .taken) _ _ _ _ (at-pre .pre .0) (at-pre .pre .1)
+    (subst (StepShown _ _) (c .before .before .word .given .1) (at-step-line .step-line .ensures))
+    (c .code-of .ensures)
+
+same-length-2 : tie.Need-same-length-2 Inv-loop μ-loop
+same-length-2 c = c .before .loop .inv .changed .long
+
+returns-2 : tie.Need-returns-2 Inv-loop μ-loop
+returns-2 c = finish _ _ _ _ _ _ _ (c .before .loop .inv) (c .loop-test .left)
+
+pub step-lines-spec : {M : Type 1} → statement M
+step-lines-spec =
+    tie.close
+    (tie.spec
+    Inv-loop
+    μ-loop
+    loop-holds
+    step-line-requires
+    enum-known-word
+    code-of-requires
+    add-work
+    mul-work
+    slice-write-work
+    add-work-2
+    mul-work-2
+    slice-write-work-2
+    enum-known-refusal
+    same-length
+    returns
+    add-k
+    loop-less
+    loop-again
+    same-length-2
+    returns-2)

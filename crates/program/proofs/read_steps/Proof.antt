@@ -1,0 +1,117 @@
+-- The step lines, then no line behind them, then the expression that they list.
+use borrow.Author.Needs.{needs}
+use native.Mathlib.Omega.{arith}
+use mathlib.Core.Path.{sym, subst, _∙_}
+use Rattle.program.specs.Lines.{StepsShown}
+use borrow.Author.Tests.{not-true, not-false}
+use Rattle.program.proofs.LineLaws.{line-fits}
+use Rattle.program.proofs.Sheets.{steps-variables, steps-refused, steps-spare, steps-read, steps-unscoped}
+use Rattle.program.proofs.read_steps.Statement.{statement}
+use Rattle.program.proofs.read_steps.Tie as tie
+
+step-lines-requires : tie.Need-step-lines-requires
+step-lines-requires c κs = search needs
+
+enum-known-refusal : tie.Need-enum-known-refusal
+enum-known-refusal c = search needs
+
+enum-known-behind : tie.Need-enum-known-behind
+enum-known-behind c = search needs
+
+at-end-requires : tie.Need-at-end-requires
+at-end-requires c κs = search needs
+
+add-spare : tie.Need-add-spare
+add-spare c =
+    let at-behind = c .before .before .before .before in
+    let at-step-lines = at-behind .before .before .before .before in
+    let s = subst (StepsShown _ _ _ _ _) (at-behind .behind .given .1) (at-step-lines .step-lines .ensures) in
+    omega (arith, line-fits _ _ (s .found .placed) (sym (c .before .before .at-end .ensures) ∙ not-true _ (c .before .if1 .taken)))
+
+same-length : tie.Need-same-length
+same-length c = search needs
+
+returns : tie.Need-returns
+returns c =
+    let at-behind = c .before .before .before .before in
+    let at-step-lines = at-behind .before .before .before .before in
+    steps-spare _ _ _ _ _ _ (subst (StepsShown _ _ _ _ _) (at-behind .behind .given .1) (at-step-lines .step-lines .ensures))
+    (sym (c .before .before .at-end .ensures) ∙ not-true _ (c .before .if1 .taken))
+
+expression-requires : tie.Need-expression-requires
+expression-requires c κs =
+    let at-behind = c .before .before .before .before in
+    let at-step-lines = at-behind .before .before .before .before in
+    let at-pre = at-step-lines .before .before .before .before in
+    let s = subst (StepsShown _ _ _ _ _) (at-behind .behind .given .1) (at-step-lines .step-lines .ensures) in
+    (s .changed .long ∙ at-pre .pre .0, at-pre .pre .1, steps-variables _ _ _ _ _ _ s)
+
+enum-told : tie.Need-enum-told
+enum-told c = search needs
+
+enum-known-refusal-2 : tie.Need-enum-known-refusal-2
+enum-known-refusal-2 c = search needs
+
+same-length-2 : tie.Need-same-length-2
+same-length-2 c = search needs
+
+returns-2 : tie.Need-returns-2
+returns-2 c = steps-refused _ _ _ _ _ _ (subst (StepsShown _ _ _ _ _) (c .before .refusal .given .1) (c .before .before .before .before .before .step-lines .ensures))
+
+same-length-3 : tie.Need-same-length-3
+same-length-3 c = search needs
+
+returns-3 : tie.Need-returns-3
+returns-3 c =
+    let at-expression = c .before .before .before .before in
+    let at-if1 = at-expression .before .before in
+    let at-at-end = at-if1 .before in
+    let at-behind = at-at-end .before .before in
+    let at-step-lines = at-behind .before .before .before .before in
+    let at-pre = at-step-lines .before .before .before .before in
+    steps-read _ _ _ _ _ _ (subst (StepsShown _ _ _ _ _) (at-behind .behind .given .1) (at-step-lines .step-lines .ensures)) (at-pre .pre .1)
+    (sym (at-at-end .at-end .ensures) ∙ not-false _ (at-if1 .if1 .left))
+    _
+    _
+    (at-expression .expression .ensures)
+    (c .enum-told .given .1)
+
+same-length-4 : tie.Need-same-length-4
+same-length-4 c = search needs
+
+returns-4 : tie.Need-returns-4
+returns-4 c =
+    let at-expression = c .before .before .before .before .before in
+    let at-if1 = at-expression .before .before in
+    let at-at-end = at-if1 .before in
+    let at-behind = at-at-end .before .before in
+    let at-step-lines = at-behind .before .before .before .before in
+    let at-pre = at-step-lines .before .before .before .before in
+    steps-unscoped _ _ _ _ _ _ (subst (StepsShown _ _ _ _ _) (at-behind .behind .given .1) (at-step-lines .step-lines .ensures)) (at-pre .pre .1)
+    (sym (at-at-end .at-end .ensures) ∙ not-false _ (at-if1 .if1 .left))
+    _
+    _
+    (at-expression .expression .ensures)
+    _
+    (c .before .refusal2 .given .1)
+
+pub read-steps-spec : {M : Type 1} → statement M
+read-steps-spec =
+    tie.close
+    (tie.spec
+    step-lines-requires
+    enum-known-refusal
+    enum-known-behind
+    at-end-requires
+    add-spare
+    same-length
+    returns
+    expression-requires
+    enum-told
+    enum-known-refusal-2
+    same-length-2
+    returns-2
+    same-length-3
+    returns-3
+    same-length-4
+    returns-4)

@@ -1,0 +1,6 @@
+pub mod Stored
+pub mod Lines
+pub mod Outcomes
+pub mod Structure
+pub mod Scopes
+pub mod Sheet

@@ -1,0 +1,101 @@
+-- The lines of a program sheet at the cursor, as the shapes that the code hands back.
+use mathlib.Core.Path.{_≡_}
+use mathlib.Core.List.{List, [], _∷_}
+use mathlib.Core.Option.{none, some}
+use Prim.Native.Nat.{ℕ, _+_, _≤_}
+use lib.ListN.{length, replicate}
+use Rattle.spec.specs.Text.{lines}
+use Rattle.spec.specs.Reading.{programSheet, Out, stop, on, _>>=_, Place, begin, next, nextAll}
+use Rattle.spec.specs.Expression.{Step}
+use Rattle.spec.specs.Program.{countLine, stepLine}
+use Rattle.spec.specs.declared.Word.{Word}
+use Rattle.spec.specs.declared.Word.the-variants.{Leaf, Unary, Binary}
+use Rattle.spec.specs.declared.LeafWord.{LeafWord}
+use Rattle.spec.specs.declared.LeafWord.the-variants.{Var, Int, Newtid, Newlock}
+use Rattle.spec.specs.declared.BinaryWord.{BinaryWord}
+use Rattle.spec.specs.declared.BinaryWord.the-variants.{Let, If, Spawn, Write}
+use Rattle.lexer.specs.Cursors.{Placed, rest, placeAt}
+use Rattle.lexer.specs.Numbers.{numbersAt}
+use Rattle.lexer.specs.declared.Cursor.{Cursor}
+use Rattle.lexer.specs.declared.FieldEnd.{FieldEnd}
+use Rattle.lexer.specs.declared.FieldEnd.the-variants.{Comma}
+use Rattle.workspace.specs.Layout.{wordsAt, valuesAt}
+use Rattle.workspace.specs.Holds.{HoldsSteps}
+use Rattle.workspace.specs.Region.{ChangedWithin}
+use Rattle.program.specs.declared.lines.Tail.{Tail}
+use Rattle.program.specs.declared.lines.Tail.the-variants.{Value, Malformed}
+use Rattle.program.specs.declared.lines.CountLine.{CountLine}
+use Rattle.program.specs.declared.lines.CountLine.the-variants as count
+use Rattle.program.specs.declared.lines.StepLine.{StepLine}
+use Rattle.program.specs.declared.lines.StepLine.the-variants as step
+use Rattle.program.specs.declared.lines.StepLines.{StepLines}
+use Rattle.program.specs.declared.lines.StepLines.the-variants as steps
+
+-- ------------------------------------------------------------------ the number behind a first field
+
+-- the cursor c stands behind the field and what ends it
+abbrev pub TailShown : List ℕ → Cursor → FieldEnd → Tail → Type 0
+TailShown text c e (Value v d) =
+    (e ≡ Comma) × (numbersAt text c 1 ≡ some (v ∷ [], rest text d)) × Placed text d × (d .line ≡ c .line + 1)
+TailShown text c e Malformed = e ≡ Comma → numbersAt text c 1 ≡ none
+
+-- ------------------------------------------------------------------ line 1
+
+unfoldable pub countAt : List ℕ → Out (ℕ × Place)
+countAt text = begin programSheet (lines text) >>= λ top. next programSheet countLine top
+
+abbrev pub CountShown : List ℕ → CountLine → Type 0
+CountShown text (count.Count n d) = (countAt text ≡ on (n, placeAt text d)) × (n ≤ 256) × Placed text d
+CountShown text (count.Refused x) = countAt text ≡ stop x
+
+-- ------------------------------------------------------------------ step lines
+
+-- the largest v that a step with this word may have
+abbrev pub leafLimit : LeafWord → ℕ
+leafLimit Var = 255
+leafLimit Int = 65535
+leafLimit Newtid = 0
+leafLimit Newlock = 0
+
+abbrev pub binaryLimit : BinaryWord → ℕ
+binaryLimit Let = 255
+binaryLimit If = 0
+binaryLimit Spawn = 0
+binaryLimit Write = 0
+
+abbrev pub limitOf : Word → ℕ
+limitOf (Leaf w) = leafLimit w
+limitOf (Unary w) = 0
+limitOf (Binary w) = binaryLimit w
+
+unfoldable pub stepAt : List ℕ → Cursor → Out (Step × Place)
+stepAt text c = next programSheet stepLine (placeAt text c)
+
+abbrev pub StepShown : List ℕ → Cursor → StepLine → Type 0
+StepShown text c (step.Step w v d) = (stepAt text c ≡ on (record { word = w; value = v }, placeAt text d)) × (v ≤ limitOf w) × Placed text d
+StepShown text c (step.Refused x) = stepAt text c ≡ stop x
+
+-- no number is larger than its word allows
+pub data Limited : List Step → Type 0 where
+  none-limited : Limited []
+  more-limited : {s : Step} {ss : List Step} → s .value ≤ limitOf (s .word) → Limited ss → Limited (s ∷ ss)
+
+unfoldable pub stepsAt : List ℕ → (n : ℕ) → Cursor → Out (List Step × Place)
+stepsAt text n c = nextAll programSheet (replicate n stepLine) (placeAt text c)
+
+-- n steps are read and stored
+pub record StepsHeld (text : List ℕ) (n : ℕ) (c : Cursor) (w : List ℕ) (d : Cursor) : Type 0 where
+  pub steps : List Step
+  pub shown : stepsAt text n c ≡ on (steps, placeAt text d)
+  pub counted : length steps ≡ n
+  pub held : HoldsSteps w steps
+  pub limited : Limited steps
+  pub placed : Placed text d
+
+abbrev pub StepsFound : List ℕ → (n : ℕ) → Cursor → (w : List ℕ) → StepLines → Type 0
+StepsFound text n c w (steps.Read d) = StepsHeld text n c w d
+StepsFound text n c w (steps.Refused x) = stepsAt text n c ≡ stop x
+
+pub record StepsShown (text : List ℕ) (n : ℕ) (c : Cursor) (w w′ : List ℕ) (r : StepLines) : Type 0 where
+  pub found : StepsFound text n c w′ r
+  pub changed : ChangedWithin wordsAt (valuesAt + 256) w w′

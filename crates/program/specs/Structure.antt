@@ -1,0 +1,40 @@
+-- Where the steps that the work space stores end.
+use mathlib.Core.Path.{_≡_}
+use mathlib.Core.List.{List, [], _∷_, _++_}
+use Prim.Native.Nat.{ℕ, suc, zero, _+_, _-_}
+use Rattle.spec.specs.Expression.{Expr, size, listed, single}
+use Rattle.workspace.specs.Layout.{endsAt}
+use Rattle.workspace.specs.Holds.{ends}
+use Rattle.workspace.specs.Region.{Region, ChangedWithin}
+use Rattle.program.specs.Stored.{stepsIn}
+use Rattle.program.specs.Outcomes.{Answers}
+use Rattle.program.specs.declared.Outcome.{Outcome}
+use Rattle.program.specs.declared.tree.Ending.{Ending}
+use Rattle.program.specs.declared.tree.Ending.the-variants.{Reached, Unfinished}
+
+-- the expressions that the steps from index k on list, one after the other; the step with index k is at line k + 2
+unfoldable pub listedFrom : List ℕ → (n k : ℕ) → List Expr
+listedFrom w n k = listed (k + 2) (stepsIn w k (n - k))
+
+-- where the first m of some expressions end, of which the first begins at index k
+unfoldable pub reached : (m k : ℕ) → List Expr → Ending
+reached zero k es = Reached k
+reached (suc m) k [] = Unfinished
+reached (suc m) k (e ∷ es) = reached m (k + size e) es
+
+-- for each step of them in line order, the index just past it
+unfoldable pub endsOf : (m k : ℕ) → List Expr → List ℕ
+endsOf zero k es = []
+endsOf (suc m) k [] = []
+endsOf (suc m) k (e ∷ es) = ends k e ++ endsOf m (k + size e) es
+
+-- what reading m steps from index k on answers, and what it leaves in the work space
+pub record Ended (n m k : ℕ) (w w′ : List ℕ) (r : Ending) : Type 0 where
+  pub answer : r ≡ reached m k (listedFrom w n k)
+  pub marks : Region w′ (endsAt + k) (endsOf m k (listedFrom w n k))
+  pub changed : ChangedWithin (endsAt + k) (endsAt + 256) w w′
+
+-- what reading the one expression that n steps are to list answers, and what it leaves in the work space
+pub record Structured (n : ℕ) (w w′ : List ℕ) (r : Outcome) : Type 0 where
+  pub found : Answers (λ e. Region w′ endsAt (ends 0 e)) r (single n (listed 2 (stepsIn w 0 n)))
+  pub changed : ChangedWithin endsAt (endsAt + 256) w w′

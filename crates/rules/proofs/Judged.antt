@@ -1,0 +1,66 @@
+-- The first false one of a step's conditions, one condition at a time, as the code of a word goes through them.
+use mathlib.Core.Path.{_≡_, refl, sym, _∙_}
+use mathlib.Core.Bool.{Bool, true, false}
+use mathlib.Core.List.{List, [], _∷_}
+use Prim.Native.Nat.{ℕ, _+_}
+use Rattle.spec.specs.Reading.{Out, stop, on, _>>=_}
+use Rattle.spec.specs.Conditions.{Condition, T}
+use Rattle.spec.specs.Sites.{judge, numbered, firstFalse}
+use Rattle.spec.specs.declared.Refusal.{Refusal}
+use Rattle.rules.specs.Outcome.{outcome, both, judged}
+use Rattle.rules.specs.declared.Ruling.{Ruling}
+use Rattle.rules.specs.declared.Ruling.the-variants.{Met, Refused}
+
+pub both-met : (a : Out (Unit {0})) → both a (on tt) ≡ a
+unfolding both _>>=_
+both-met (stop r) = refl
+both-met (on a) = refl
+
+pub both-assoc : (a b c : Out (Unit {0})) → both (both a b) c ≡ both a (both b c)
+unfolding both _>>=_
+both-assoc (stop r) b c = refl
+both-assoc (on a) b c = refl
+
+module _ (line i : ℕ) where
+  pub judged-cons : (c : Condition) (cs : List Condition)
+      → judged line i (c ∷ cs) ≡ both (judge line i c) (judged line (i + 1) cs)
+  unfolding judged numbered firstFalse both
+  judged-cons c cs = refl
+
+  -- the last condition
+  pub last : (c : Condition) {v : Out (Unit {0})} → v ≡ judge line i c → v ≡ judged line i (c ∷ [])
+  unfolding judged numbered firstFalse
+  last c e = e ∙ sym (both-met (judge line i c)) ∙ sym (judged-cons c [])
+
+  -- a condition and those after it, as `also` joins them
+  pub next : (c : Condition) (cs : List Condition) {v : Out (Unit {0})} (a b : Out (Unit {0}))
+      → v ≡ both a b → a ≡ judge line i c → b ≡ judged line (i + 1) cs → v ≡ judged line i (c ∷ cs)
+  next c cs a b e p q = e ∙ rw (p, q) (sym (judged-cons c cs))
+
+  -- two conditions that `also` joins, and those after them
+  pub next-two : (c d : Condition) (cs : List Condition) {v u : Out (Unit {0})} (a b f : Out (Unit {0}))
+      → v ≡ both u f → u ≡ both a b → a ≡ judge line i c → b ≡ judge line (i + 1) d → f ≡ judged line (i + 1 + 1) cs
+      → v ≡ judged line i (c ∷ d ∷ cs)
+  unfolding judged numbered firstFalse both
+  next-two c d cs a b f e h p q r =
+      e ∙ rw (h, p, q, r) (both-assoc (judge line i c) (judge line (i + 1) d) (judged line (i + 1 + 1) cs))
+
+  -- a condition on types that holds, that fails
+  pub pass : (b : Bool) (cs : List Condition) {v : Out (Unit {0})} → b ≡ true → v ≡ judged line (i + 1) cs
+      → v ≡ judged line i (T b ∷ cs)
+  unfolding judged numbered firstFalse judge _>>=_
+  pass b cs e p = rw e p
+
+  pub fail : (b : Bool) (cs : List Condition) {v : Out (Unit {0})} → b ≡ false → v ≡ judge line i (T false)
+      → v ≡ judged line i (T b ∷ cs)
+  unfolding judged numbered firstFalse judge _>>=_
+  fail b cs e p = rw e p
+
+-- a ruling that refuses is the first of two, one that is met is not
+pub refused-stops : (r : Ruling) {x : Refusal} (b : Out (Unit {0})) → r ≡ Refused x → both (outcome r) b ≡ outcome r
+unfolding both outcome _>>=_
+refused-stops r b e = rw e
+
+pub met-goes-on : (r : Ruling) (b : Out (Unit {0})) → r ≡ Met → both (outcome r) b ≡ b
+unfolding both outcome _>>=_
+met-goes-on r b e = rw e

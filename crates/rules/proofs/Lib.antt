@@ -1,0 +1,13 @@
+pub mod Judged
+pub mod TypeKinds
+pub mod Relations
+pub mod Walking
+pub mod Claims
+pub mod Columns
+pub mod Shown
+pub mod TableRows
+pub mod Here
+pub mod Scopes
+pub mod Views
+pub mod OneStep
+pub mod Transfer

@@ -1,0 +1,62 @@
+-- The types of the variables in scope, beside the lets that the work space notes for them.
+use mathlib.Core.Path.{_≡_, refl}
+use mathlib.Core.Bool.{Bool, true, false}
+use mathlib.Core.List.{List, [], _∷_}
+use Prim.Native.Nat.{ℕ, _+_, _<_}
+use native.Mathlib.Omega.{arith}
+use lib.Dec.{eqb}
+use lib.ListN.{length, getD}
+use Rattle.spec.specs.Choice.{if_then_else_}
+use Rattle.spec.specs.Expression.{among}
+use Rattle.spec.specs.Split.{Split}
+use Rattle.spec.specs.Conditions.{Env, typeIn}
+use Rattle.spec.specs.Sites.{bind}
+use Rattle.spec.specs.declared.TypeNumber.{TypeNumber}
+use Rattle.spec.specs.declared.BinaryWord.{BinaryWord}
+use Rattle.spec.specs.declared.BinaryWord.the-variants.{Let, If, Spawn, Write}
+use Rattle.workspace.specs.Holds.{letIn}
+use Rattle.rules.proofs.Shown.{noRow, eqb-sym}
+use Rattle.rules.proofs.Here.{insideSecond, varsSecond}
+
+-- each variable of vars has in Γ the type of the row just behind its let
+pub record Scoped (S : Split) (Γ : Env) (inside : List (ℕ × ℕ)) (vars : List ℕ) : Type 0 where
+  pub within : (v : ℕ) → among v vars ≡ true → letIn inside v + 1 < length (S .rows)
+  pub typed : (v : ℕ) → among v vars ≡ true → typeIn Γ v ≡ getD (S .rows) (letIn inside v + 1) noRow .type
+
+pub scoped-none : (S : Split) → Scoped S [] [] []
+unfolding among
+scoped-none S = record {
+  within = λ v h. never h;
+  typed = λ v h. never h;
+}
+  where
+    never : {A : Type 0} → false ≡ true → A
+    never h = let z : _≡_ {A = ℕ} 0 1 = cc in absurd (omega arith)
+
+-- one more let, whose e1 has the row behind it
+module _ (S : Split) (Γ : Env) (inside : List (ℕ × ℕ)) (vars : List ℕ) (C : Scoped S Γ inside vars)
+    (v k : ℕ) (t : TypeNumber) (h : k + 1 < length (S .rows)) (e : t ≡ getD (S .rows) (k + 1) noRow .type) where
+  let-within : (u : ℕ) → among u (v ∷ vars) ≡ true → letIn ((v, k) ∷ inside) u + 1 < length (S .rows)
+  unfolding among letIn
+  let-within u a = either (eqb v u) refl
+    where
+      either : (b : Bool) → eqb v u ≡ b → (if b then k else letIn inside u) + 1 < length (S .rows)
+      either true q = h
+      either false q = C .within u (rw (eqb-sym u v, q) at a)
+
+  let-typed : (u : ℕ) → among u (v ∷ vars) ≡ true
+      → typeIn ((v, t) ∷ Γ) u ≡ getD (S .rows) (letIn ((v, k) ∷ inside) u + 1) noRow .type
+  unfolding among letIn typeIn
+  let-typed u a = either (eqb v u) refl
+    where
+      either : (b : Bool) → eqb v u ≡ b
+          → (if b then t else typeIn Γ u) ≡ getD (S .rows) ((if b then k else letIn inside u) + 1) noRow .type
+      either true q = e
+      either false q = C .typed u (rw (eqb-sym u v, q) at a)
+
+  pub scoped-second : (x : BinaryWord) → Scoped S (bind x v t Γ) (insideSecond x v k inside) (varsSecond x v vars)
+  unfolding bind insideSecond varsSecond
+  scoped-second Let = record { within = let-within; typed = let-typed }
+  scoped-second If = C
+  scoped-second Spawn = C
+  scoped-second Write = C

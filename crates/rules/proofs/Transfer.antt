@@ -1,0 +1,274 @@
+-- The walk over the work space gives what document 01 says of the sheets that it holds. The proof goes by the expression: an
+-- expression at index k is walked through, and what is left is the walk from its end on, over a work space in which only
+-- maps before its own steps are changed.
+use mathlib.Core.Path.{_≡_, sym, ap, _∙_}
+use mathlib.Core.Logic.{inr}
+use mathlib.Core.List.{List, []}
+use Prim.Native.Nat.{ℕ, suc, _+_, _<_, _≤_}
+use native.Mathlib.Omega.{arith}
+use lib.ListN.{length}
+use lib.Seq.{getD-set-same}
+use Rattle.spec.specs.Reading.{Out, _>>=_}
+use Rattle.spec.specs.Expression.{Step, Expr, leaf, unary, binary, size}
+use Rattle.spec.specs.Program.{Program}
+use Rattle.spec.specs.Split.{Row, Split}
+use Rattle.spec.specs.Conditions.{Env, lineOf, startMap, row, type}
+use Rattle.spec.specs.Sites.{preOfPart, preOfSecond, bind, sites, claims, firstFalse}
+use Rattle.spec.specs.Verdict.{startAtMostOne, ruled}
+use Rattle.spec.specs.Ranges.{InRange}
+use Rattle.spec.specs.declared.MapNumber.{MapNumber}
+use Rattle.spec.specs.declared.UnaryWord.{UnaryWord}
+use Rattle.spec.specs.declared.UnaryWord.the-variants.{While, Join, Ref, Read, Freelock, Lock, Unlock}
+use Rattle.spec.specs.declared.BinaryWord.{BinaryWord}
+use Rattle.spec.specs.declared.BinaryWord.the-variants.{Let, If, Spawn, Write}
+use Rattle.workspace.specs.Layout.{presAt}
+use Rattle.workspace.specs.Region.{ChangedWithin}
+use Rattle.workspace.specs.Holds.{HoldsSplit}
+use Rattle.workspace.proofs.Region.{changed-nothing, changed-store, changed-then, changed-wider}
+use Rattle.rules.specs.Outcome.{both}
+use Rattle.rules.specs.Walk.{cell, startOutcome, stepOutcome, passOn, walk, atRoot}
+use Rattle.rules.specs.Contract.{HoldsSheets}
+use Rattle.rules.proofs.Judged.{both-met, both-assoc}
+use Rattle.rules.proofs.Walking.{put-before, put-at, put-other}
+use Rattle.rules.proofs.Claims.{claims-first, claims-one, claims-append}
+use Rattle.rules.proofs.Shown.{map-shown, row-at}
+use Rattle.rules.proofs.Here.{Here, codes, size-positive, prefix-long, here-kept, here-line, here-part, here-first, here-second, insideSecond, varsSecond}
+use Rattle.rules.proofs.Scopes.{Scoped, scoped-none, scoped-second}
+use Rattle.rules.proofs.OneStep.{Ready, split-kept, below, step-shown, leaf-passes, unary-passes, binary-passes}
+use Rattle.rules.proofs.Views.{row-post-in, row-start-in}
+
+-- the walk over the steps of a program, with its split's locations and denominator
+abbrev walkOf : Split → List ℕ → (k n : ℕ) → Out (Unit {0})
+walkOf S w k n = walk (S .header .locations) (S .header .denominator) w k n
+
+-- a map before a part is a map
+part-in : (x : UnaryWord) (pre post : MapNumber) (n : ℕ) → pre .0 < n → post .0 < n → preOfPart x pre post .0 < n
+unfolding preOfPart
+part-in While pre post n p q = q
+part-in Join pre post n p q = p
+part-in Ref pre post n p q = p
+part-in Read pre post n p q = p
+part-in Freelock pre post n p q = p
+part-in Lock pre post n p q = p
+part-in Unlock pre post n p q = p
+
+second-in : (x : BinaryWord) (pre post₁ start : MapNumber) (n : ℕ) → pre .0 < n → post₁ .0 < n → start .0 < n
+    → preOfSecond x pre post₁ start .0 < n
+unfolding preOfSecond
+second-in Let pre post₁ start n p q r = q
+second-in If pre post₁ start n p q r = p
+second-in Spawn pre post₁ start n p q r = r
+second-in Write pre post₁ start n p q r = q
+
+-- ------------------------------------------------------------------ the walk through an expression
+
+module _ (S : Split) (steps : List Step) (R : InRange steps S) (few : length (S .rows) ≤ 256) where
+  -- an expression is walked through; m steps are left behind it
+  record Walked (w : List ℕ) (k m : ℕ) (Γ : Env) (pre : MapNumber) (e : Expr) : Type 0 where
+    pub after : List ℕ
+    pub changed : ChangedWithin presAt (presAt + (k + size e)) w after
+    pub walks : walkOf S w k (size e + m)
+        ≡ both (firstFalse (claims S (sites S Γ pre e))) (walkOf S after (k + size e) m)
+
+  walk-first : (w : List ℕ) (k n m : ℕ) → n ≡ suc m
+      → walkOf S w k n
+      ≡ both (stepOutcome w (S .header .locations) (S .header .denominator) k) (walkOf S (passOn w k) (k + 1) m)
+  unfolding walk
+  walk-first w k n m e = rw e
+
+  -- ready again, over a work space in which maps before steps are changed
+  again : {w w′ : List ℕ} {k : ℕ} {inside : List (ℕ × ℕ)} {vars : List ℕ} {Γ : Env} {pre : MapNumber} {e : Expr}
+      → ChangedWithin presAt (presAt + 256) w w′ → HoldsSplit w S → presAt + 256 ≤ length w → Here w k inside vars e
+      → Scoped S Γ inside vars
+      → pre .0 < length (S .maps) → cell w′ presAt k ≡ pre .0 → k + size e ≤ length (S .rows)
+      → Ready S steps R few w′ k inside vars Γ pre e
+  again x H long P C p q h = record {
+    split = split-kept S steps R few x H;
+    here = here-kept x (omega arith) P;
+    scoped = C;
+    pre-in = p;
+    pre-at = q;
+    room = h;
+    long = rw (x .long) long;
+  }
+
+  module _ {w : List ℕ} {k : ℕ} {inside : List (ℕ × ℕ)} {vars : List ℕ} {Γ : Env} {pre : MapNumber} where
+    module _ (x : UnaryWord) (l v : ℕ) (e₁ : Expr) (r : Ready S steps R few w k inside vars Γ pre (unary x l v e₁)) where
+      unary-changed : ChangedWithin presAt (presAt + (k + size (unary x l v e₁))) w (passOn w k)
+      unfolding size
+      unary-changed =
+          rw (unary-passes S steps R few x l v e₁ r)
+          (put-before w (k + 1) (k + suc (size e₁)) _ (omega (arith, size-positive e₁)))
+
+      part-ready : Ready S steps R few (passOn w k) (k + 1) inside vars Γ (preOfPart x pre (row S (unary x l v e₁) .post)) e₁
+      unfolding size
+      part-ready =
+          again (changed-wider presAt (presAt + 256) (omega arith) (omega (arith, r .room)) unary-changed) (r .split) (r .long)
+          (here-part x l v e₁ (r .here)) (r .scoped)
+          (part-in x pre _ _ (r .pre-in) (row-post-in w S steps (r .split) R _ k
+          (here-line _ (r .here)) (below S steps R few _ r)))
+          (rw (unary-passes S steps R few x l v e₁ r) (put-at w (k + 1) _ (omega (arith, size-positive e₁, r .room)) (r .long)))
+          (omega (arith, r .room))
+
+      unary-walked : (m : ℕ) → Walked (passOn w k) (k + 1) m Γ (preOfPart x pre (row S (unary x l v e₁) .post)) e₁
+          → Walked w k m Γ pre (unary x l v e₁)
+      unfolding size sites
+      unary-walked m t = record {
+        after = t .after;
+        changed =
+            changed-then presAt _ unary-changed (changed-wider presAt (presAt + (k + suc (size e₁)))
+            (omega arith) (omega arith) (t .changed));
+        walks =
+            let end : k + 1 + size e₁ ≡ k + suc (size e₁) = omega arith in
+            walk-first w k (suc (size e₁) + m) (size e₁ + m) (omega arith)
+            ∙ rw (
+              step-shown S steps R few (unary x l v e₁) r,
+              t .walks,
+              end,
+              claims-first S (record { Γ = Γ; pre = pre; step = unary x l v e₁ }),
+              both-assoc,
+            );
+      }
+
+    module _ (x : BinaryWord) (l v : ℕ) (e₁ e₂ : Expr) (r : Ready S steps R few w k inside vars Γ pre (binary x l v e₁ e₂)) where
+      binary-changed : ChangedWithin presAt (presAt + (k + size (binary x l v e₁ e₂))) w (passOn w k)
+      unfolding size
+      binary-changed =
+          rw (binary-passes S steps R few x l v e₁ e₂ r)
+          (changed-then presAt _
+          (put-before w (k + 1) (k + suc (size e₁ + size e₂)) _ (omega (arith, size-positive e₁, size-positive e₂)))
+          (put-before _ (k + 1 + size e₁) (k + suc (size e₁ + size e₂)) _ (omega (arith, size-positive e₂))))
+
+      binary-within : ChangedWithin presAt (presAt + 256) w (passOn w k)
+      binary-within = changed-wider presAt (presAt + 256) (omega arith) (omega (arith, r .room)) binary-changed
+
+      first-ready : Ready S steps R few (passOn w k) (k + 1) inside vars Γ pre e₁
+      unfolding size
+      first-ready =
+          again binary-within (r .split) (r .long) (here-first x l v e₁ e₂ (r .here)) (r .scoped) (r .pre-in)
+          (rw (binary-passes S steps R few x l v e₁ e₂ r)
+          (put-other _ (k + 1 + size e₁) (k + 1) _ (λ e. omega (arith, size-positive e₁))
+          ∙ put-at w (k + 1) pre (omega (arith, size-positive e₁, r .room)) (r .long)))
+          (omega (arith, r .room))
+
+      -- the map before the second part, and the types of the variables there
+      abbrev pre₂ : MapNumber
+      pre₂ = preOfSecond x pre (row S e₁ .post) (row S (binary x l v e₁ e₂) .start)
+
+      abbrev Γ₂ : Env
+      Γ₂ = bind x v (type S e₁) Γ
+
+      second-ready : (m : ℕ) → (t : Walked (passOn w k) (k + 1) m Γ pre e₁)
+          → Ready S steps R few (t .after) (k + 1 + size e₁) (insideSecond x v k inside) (varsSecond x v vars) Γ₂ pre₂ e₂
+      unfolding size type
+      second-ready m t =
+          let h₁ : k + 1 < length (S .rows) = omega (arith, size-positive e₁, r .room) in
+          let line₁ : lineOf e₁ ≡ k + 1 + 2 = here-line e₁ (here-first x l v e₁ e₂ (r .here)) in
+          again
+          (changed-then presAt (presAt + 256) binary-within
+          (changed-wider presAt (presAt + 256) (omega arith) (omega (arith, r .room)) (t .changed)))
+          (r .split) (r .long) (here-second x l v e₁ e₂ (r .here))
+          (scoped-second S Γ inside vars (r .scoped) v k (type S e₁) h₁
+          (ap (λ (d : Row). d .type) (sym (row-at w S steps (r .split) R e₁ (k + 1) line₁ h₁))) x)
+          (second-in x pre _ _ _ (r .pre-in) (row-post-in w S steps (r .split) R e₁ (k + 1) line₁ h₁)
+          (row-start-in w S steps (r .split) R _ k (here-line _ (r .here)) (below S steps R few _ r)))
+          (t .changed .kept (presAt + (k + 1 + size e₁)) (inr (omega arith))
+          ∙ rw (binary-passes S steps R few x l v e₁ e₂ r)
+          (put-at _ (k + 1 + size e₁) pre₂ (omega (arith, size-positive e₂, r .room))
+          (rw (put-before w (k + 1) (k + 2) pre (omega arith) .long) (r .long))))
+          (omega (arith, r .room))
+
+      binary-walked : (m : ℕ) (t : Walked (passOn w k) (k + 1) (size e₂ + m) Γ pre e₁)
+          → Walked (t .after) (k + 1 + size e₁) m Γ₂ pre₂ e₂
+          → Walked w k m Γ pre (binary x l v e₁ e₂)
+      unfolding size sites
+      binary-walked m t u = record {
+        after = u .after;
+        changed =
+            changed-then presAt _ binary-changed
+            (changed-then presAt _
+            (changed-wider presAt (presAt + (k + suc (size e₁ + size e₂))) (omega arith) (omega arith) (t .changed))
+            (changed-wider presAt (presAt + (k + suc (size e₁ + size e₂))) (omega arith) (omega arith) (u .changed)));
+        walks =
+            let end : k + 1 + size e₁ + size e₂ ≡ k + suc (size e₁ + size e₂) = omega arith in
+            walk-first w k (suc (size e₁ + size e₂) + m) (size e₁ + (size e₂ + m)) (omega arith)
+            ∙ rw (
+              step-shown S steps R few (binary x l v e₁ e₂) r,
+              t .walks,
+              u .walks,
+              claims-first S (record { Γ = Γ; pre = pre; step = binary x l v e₁ e₂ }),
+              claims-append S,
+              both-assoc,
+              both-assoc,
+              end,
+            );
+      }
+
+  walked : {w : List ℕ} {k : ℕ} {inside : List (ℕ × ℕ)} {vars : List ℕ} {Γ : Env} {pre : MapNumber} (e : Expr) (m : ℕ)
+      → Ready S steps R few w k inside vars Γ pre e → Walked w k m Γ pre e
+  unfolding size sites
+  walked {w} {k} {inside} {vars} {Γ} {pre} (leaf x l v) m r = record {
+    after = w;
+    changed = changed-nothing presAt _ w;
+    walks =
+        walk-first w k (1 + m) m (omega arith)
+        ∙ rw (step-shown S steps R few (leaf x l v) r, leaf-passes S steps R few x l v r, claims-one S);
+  }
+  walked (unary x l v e₁) m r = unary-walked x l v e₁ r m (walked e₁ m (part-ready x l v e₁ r))
+  walked (binary x l v e₁ e₂) m r =
+      binary-walked x l v e₁ e₂ r m (walked e₁ (size e₂ + m) (first-ready x l v e₁ e₂ r))
+      (walked e₂ m (second-ready x l v e₁ e₂ r (size e₂ + m) (walked e₁ (size e₂ + m) (first-ready x l v e₁ e₂ r))))
+
+-- ------------------------------------------------------------------ the sheets
+
+module _ (w : List ℕ) (steps denominator locations : ℕ) (P : Program) (S : Split) (H : HoldsSheets w steps denominator locations P S) where
+  -- 30
+  pub start-shown : startOutcome w denominator locations ≡ startAtMostOne S
+  unfolding startOutcome startAtMostOne startMap
+  start-shown =
+      rw (
+        H .denominatorGiven,
+        H .locationsGiven,
+        map-shown w S (P .steps) (H .split)
+            (H .inRange) (record { 0 = 0 }) (omega (arith, H .inRange .mapsCounted, H .inRange .mapsFew .0)),
+      )
+
+  module _ (long : length w ≡ 16384) (fewSteps : steps ≤ 256) where
+    rows-few : length (S .rows) ≤ 256
+    rows-few = omega (arith, H .inRange .rowsCounted, H .stepsCounted)
+
+    sized : size (P .root) ≡ steps
+    sized = sym (prefix-long (P .root)) ∙ ap length (H .wellFormed .listing) ∙ sym (H .stepsCounted)
+
+    root-here : Here w 0 [] [] (P .root)
+    unfolding codes
+    root-here = record {
+      words = rw (H .wellFormed .listing) (H .program .steps .words);
+      ended = H .program .ends;
+      bound = H .program .lets;
+      lines = H .wellFormed .numbering;
+      used = H .wellFormed .usedInside;
+    }
+
+    root-ready : Ready S (P .steps) (H .inRange) rows-few (atRoot w) 0 [] [] [] startMap (P .root)
+    unfolding atRoot startMap
+    root-ready =
+        again S (P .steps) (H .inRange) rows-few (changed-store presAt (presAt + 256) w presAt 0 (omega arith)
+        (omega arith)) (H .split) (omega arith)
+        root-here (scoped-none S) (omega (arith, H .inRange .mapsCounted, H .inRange .mapsFew .0))
+        (getD-set-same w presAt 0 0 (omega arith)) (omega (arith, sized, H .stepsCounted, H .inRange .rowsCounted))
+
+    -- 31 to 33
+    pub steps-shown : walk locations denominator (atRoot w) 0 steps ≡ ruled P S
+    unfolding ruled walk
+    steps-shown =
+        let end : steps ≡ size (P .root) + 0 = omega (arith, sized) in
+        rw (H .denominatorGiven, H .locationsGiven, end)
+        (walked S (P .steps) (H .inRange) rows-few (P .root) 0 root-ready .walks
+        ∙ both-met (firstFalse (claims S (sites S [] startMap (P .root)))))
+
+    -- 30 to 33
+    pub sheets-shown : both (startOutcome w denominator locations) (walk locations denominator (atRoot w) 0 steps)
+        ≡ (startAtMostOne S >>= λ whole. ruled P S)
+    unfolding both
+    sheets-shown = rw (start-shown, steps-shown)

@@ -1,0 +1,22 @@
+use Rattle.spec.specs.Reading.{_>>=_}
+use Rattle.rules.specs.Outcome.{outcome, both}
+use borrow.Author.Needs.{needs}
+use Rattle.rules.proofs.conditions.also.Statement.{statement}
+use Rattle.rules.proofs.conditions.also.Tie as tie
+
+enum-told : tie.Need-enum-told
+enum-told c = search needs
+
+enum-told-2 : tie.Need-enum-told-2
+enum-told-2 c = search needs
+
+returns : tie.Need-returns
+unfolding outcome both _>>=_
+returns c = search needs
+
+returns-2 : tie.Need-returns-2
+unfolding outcome both _>>=_
+returns-2 c = search needs
+
+pub also-spec : {M : Type 1} → statement M
+also-spec = tie.close (tie.spec enum-told enum-told-2 returns returns-2)

@@ -1,0 +1,27 @@
+use mathlib.Core.Path.{ap}
+use Rattle.spec.specs.Conditions.{isInt}
+use Rattle.rules.proofs.Judged.{last, pass, fail}
+use Rattle.rules.proofs.TypeKinds.{not-int}
+use borrow.Author.Needs.{needs}
+use Rattle.rules.proofs.words.check_int.Statement.{statement}
+use Rattle.rules.proofs.words.check_int.Tie as tie
+
+enum-told : tie.Need-enum-told
+enum-told c = search needs
+
+type-false-requires : tie.Need-type-false-requires
+type-false-requires c κs = search needs
+
+returns : tie.Need-returns
+returns c = fail _ _ _ _ (not-int _ (c .before .match .keys2)) (c .type-false .ensures)
+
+equal-requires : tie.Need-equal-requires
+equal-requires c κs = search needs
+
+returns-2 : tie.Need-returns-2
+unfolding isInt
+returns-2 c = pass _ _ _ _ (ap isInt (c .before .enum-told .given .1)) (last _ _ _ (c .equal .ensures))
+
+pub check-int-spec : {M : Type 1} → statement M
+check-int-spec =
+    tie.close (tie.spec enum-told type-false-requires returns equal-requires returns-2)

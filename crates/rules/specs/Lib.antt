@@ -1,0 +1,5 @@
+pub mod Outcome
+pub mod Relation
+pub mod Table
+pub mod Walk
+pub mod Contract

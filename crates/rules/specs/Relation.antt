@@ -1,0 +1,29 @@
+-- Relations between maps that stand in the work space, location by location.
+use mathlib.Core.Bool.{Bool}
+use mathlib.Core.List.{List, [], _∷_}
+use mathlib.Core.Option.{Option}
+use Prim.Native.Nat.{ℕ, zero, suc, _+_}
+use lib.Dec.{eqb, leb}
+use Rattle.spec.specs.Split.{Map}
+use Rattle.spec.specs.Maps.{lowest, atLeast, _+ᵐ_}
+use Rattle.spec.specs.declared.MapNumber.{MapNumber}
+use Rattle.workspace.specs.Layout.{mapCell}
+use Rattle.rules.specs.declared.Relation.{Relation}
+use Rattle.rules.specs.declared.Relation.the-variants.{Equal, AtLeast, Sum}
+
+-- what a map has at n locations from l on
+unfoldable pub mapFrom : (w : List ℕ) → MapNumber → (l n : ℕ) → Map
+mapFrom w m l zero = []
+mapFrom w m l (suc n) = mapCell w m l ∷ mapFrom w m (l + 1) n
+
+-- whether a relation holds at a location
+unfoldable pub holdsAt : (w : List ℕ) → Relation → (l : ℕ) → Bool
+holdsAt w (Equal a b) l = eqb (mapCell w a l) (mapCell w b l)
+holdsAt w (AtLeast a b) l = leb (mapCell w b l) (mapCell w a l)
+holdsAt w (Sum a b c) l = eqb (mapCell w a l + mapCell w b l) (mapCell w c l)
+
+-- the lowest of n locations from l on at which a relation fails
+unfoldable pub failsFrom : (w : List ℕ) → Relation → (l n : ℕ) → Option ℕ
+failsFrom w (Equal a b) l n = lowest eqb l (mapFrom w a l n) (mapFrom w b l n)
+failsFrom w (AtLeast a b) l n = lowest atLeast l (mapFrom w a l n) (mapFrom w b l n)
+failsFrom w (Sum a b c) l n = lowest eqb l (mapFrom w a l n +ᵐ mapFrom w b l n) (mapFrom w c l n)

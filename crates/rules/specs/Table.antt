@@ -1,0 +1,171 @@
+-- The conditions of each word, from what the work space shows of a step. proofs/TableRows.antt shows that these are
+-- document 01's for the sheets that the work space holds.
+use mathlib.Core.Bool.{Bool, false}
+use mathlib.Core.List.{List, [], _∷_}
+use Prim.Native.Nat.{ℕ}
+use lib.Dec.{eqb, leb}
+use Rattle.spec.specs.Conditions.{Condition, T, F, A, isInt, isRef, isLock, isTid, place, load}
+use Rattle.spec.specs.declared.Location.{Location}
+use Rattle.spec.specs.declared.MapNumber.{MapNumber}
+use Rattle.spec.specs.declared.TypeNumber.{TypeNumber}
+use Rattle.spec.specs.declared.TypeLine.{TypeLine}
+use Rattle.spec.specs.declared.TypeLine.the-variants as type-line
+use Rattle.spec.specs.declared.Word.{Word}
+use Rattle.spec.specs.declared.Word.the-variants.{Leaf, Unary, Binary}
+use Rattle.spec.specs.declared.LeafWord.{LeafWord}
+use Rattle.spec.specs.declared.LeafWord.the-variants.{Var, Int, Newtid, Newlock}
+use Rattle.spec.specs.declared.UnaryWord.{UnaryWord}
+use Rattle.spec.specs.declared.UnaryWord.the-variants.{While, Join, Ref, Read, Freelock, Lock, Unlock}
+use Rattle.spec.specs.declared.BinaryWord.{BinaryWord}
+use Rattle.spec.specs.declared.BinaryWord.the-variants.{Let, If, Spawn, Write}
+use Rattle.workspace.specs.Layout.{mapCell}
+use Rattle.rules.specs.Relation.{failsFrom}
+use Rattle.rules.specs.declared.Relation.{Relation}
+use Rattle.rules.specs.declared.Relation.the-variants.{Equal, AtLeast, Sum}
+use Rattle.rules.specs.declared.View.{View}
+
+-- two types agree, by what the work space w holds of types
+unfoldable pub agreeIn : (w : List ℕ) → TypeNumber → TypeNumber → Bool
+agreeIn w t u = eqb (t .0) (u .0)
+
+-- a ref type whose c is the type t
+unfoldable pub containsIn : (w : List ℕ) → TypeLine → TypeNumber → Bool
+containsIn w type-line.Int t = false
+containsIn w (type-line.Ref p c) t = agreeIn w c t
+containsIn w (type-line.Lock k) t = false
+containsIn w (type-line.Tid k) t = false
+
+-- a relation at every location of the sheet
+abbrev pub flows : (w : List ℕ) → View → Relation → Condition
+flows w s r = F (failsFrom w r 0 (s .locations))
+
+-- a map has at least so much of a location
+abbrev pub hasAtLeast : (w : List ℕ) → MapNumber → Location → (least : ℕ) → Condition
+hasAtLeast w m p least = A (leb least (mapCell w m (p .0))) p
+
+-- a row of the table
+abbrev pub TableRow : Type 0
+TableRow = (w : List ℕ) → View → (kind kind₁ : TypeLine) → List Condition
+
+abbrev pub varRow : TableRow
+varRow w s kind kind₁ =
+    T (agreeIn w (s .own) (s .bound))
+    ∷ flows w s (Equal (s .post) (s .pre))
+    ∷ []
+
+abbrev pub intRow : TableRow
+intRow w s kind kind₁ =
+    T (isInt kind)
+    ∷ flows w s (Equal (s .post) (s .pre))
+    ∷ []
+
+abbrev pub letRow : TableRow
+letRow w s kind kind₁ =
+    T (agreeIn w (s .own) (s .type2))
+    ∷ flows w s (Equal (s .post) (s .post2))
+    ∷ []
+
+abbrev pub ifRow : TableRow
+ifRow w s kind kind₁ =
+    T (agreeIn w (s .own) (s .type1))
+    ∷ T (agreeIn w (s .own) (s .type2))
+    ∷ flows w s (AtLeast (s .post1) (s .post))
+    ∷ flows w s (AtLeast (s .post2) (s .post))
+    ∷ []
+
+abbrev pub whileRow : TableRow
+whileRow w s kind kind₁ =
+    T (isInt kind)
+    ∷ flows w s (AtLeast (s .pre) (s .post))
+    ∷ flows w s (AtLeast (s .post1) (s .post))
+    ∷ []
+
+abbrev pub newtidRow : TableRow
+newtidRow w s kind kind₁ =
+    T (isTid kind)
+    ∷ flows w s (Equal (s .post) (s .pre))
+    ∷ []
+
+abbrev pub spawnRow : TableRow
+spawnRow w s kind kind₁ =
+    T (isInt kind)
+    ∷ T (isTid kind₁)
+    ∷ flows w s (AtLeast (s .post2) (load kind₁))
+    ∷ flows w s (Sum (s .post) (s .start) (s .post1))
+    ∷ []
+
+abbrev pub joinRow : TableRow
+joinRow w s kind kind₁ =
+    T (isInt kind)
+    ∷ T (isTid kind₁)
+    ∷ flows w s (Sum (s .post1) (load kind₁) (s .post))
+    ∷ []
+
+abbrev pub refRow : TableRow
+refRow w s kind kind₁ =
+    T (containsIn w kind (s .type1))
+    ∷ flows w s (Equal (s .post) (s .post1))
+    ∷ []
+
+abbrev pub readRow : TableRow
+readRow w s kind kind₁ =
+    T (isRef kind₁)
+    ∷ T (containsIn w kind₁ (s .own))
+    ∷ flows w s (Equal (s .post) (s .post1))
+    ∷ hasAtLeast w (s .post) (place kind₁) 1
+    ∷ []
+
+abbrev pub writeRow : TableRow
+writeRow w s kind kind₁ =
+    T (isInt kind)
+    ∷ T (isRef kind₁)
+    ∷ T (containsIn w kind₁ (s .type2))
+    ∷ flows w s (Equal (s .post) (s .post2))
+    ∷ hasAtLeast w (s .post) (place kind₁) (s .denominator)
+    ∷ []
+
+abbrev pub newlockRow : TableRow
+newlockRow w s kind kind₁ =
+    T (isLock kind)
+    ∷ flows w s (Sum (s .post) (load kind) (s .pre))
+    ∷ []
+
+abbrev pub lockRow : TableRow
+lockRow w s kind kind₁ =
+    T (isInt kind)
+    ∷ T (isLock kind₁)
+    ∷ flows w s (Sum (s .post1) (load kind₁) (s .post))
+    ∷ []
+
+abbrev pub unlockRow : TableRow
+unlockRow w s kind kind₁ =
+    T (isInt kind)
+    ∷ T (isLock kind₁)
+    ∷ flows w s (Sum (s .post) (load kind₁) (s .post1))
+    ∷ []
+
+unfoldable pub leafRow : LeafWord → TableRow
+leafRow Var = varRow
+leafRow Int = intRow
+leafRow Newtid = newtidRow
+leafRow Newlock = newlockRow
+
+unfoldable pub unaryRow : UnaryWord → TableRow
+unaryRow While = whileRow
+unaryRow Join = joinRow
+unaryRow Ref = refRow
+unaryRow Read = readRow
+unaryRow Freelock = lockRow
+unaryRow Lock = lockRow
+unaryRow Unlock = unlockRow
+
+unfoldable pub binaryRow : BinaryWord → TableRow
+binaryRow Let = letRow
+binaryRow If = ifRow
+binaryRow Spawn = spawnRow
+binaryRow Write = writeRow
+
+unfoldable pub wordRow : Word → TableRow
+wordRow (Leaf l) = leafRow l
+wordRow (Unary u) = unaryRow u
+wordRow (Binary b) = binaryRow b

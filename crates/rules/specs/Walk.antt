@@ -1,0 +1,77 @@
+-- The steps in line order: what the conditions of each look at, and the map before each, which its step hands down.
+use mathlib.Core.List.{List}
+use Prim.Native.Nat.{ℕ, zero, suc, _+_}
+use lib.Dec.{ltb}
+use lib.ListN.{getD, set}
+use Rattle.spec.specs.Choice.{if_then_else_}
+use Rattle.spec.specs.Reading.{Out, on}
+use Rattle.spec.specs.Maps.{overWhole}
+use Rattle.spec.specs.Conditions.{startMap}
+use Rattle.spec.specs.Sites.{preOfPart, preOfSecond}
+use Rattle.spec.specs.Verdict.{refuseOver}
+use Rattle.spec.specs.declared.MapNumber.{MapNumber}
+use Rattle.spec.specs.declared.Word.{Word}
+use Rattle.spec.specs.declared.Word.the-variants.{Leaf, Unary, Binary}
+use Rattle.workspace.specs.Layout.{wordsAt, endsAt, letsAt, rowTypesAt, postsAt, startsAt, presAt, wordOf, typeAt}
+use Rattle.rules.specs.Outcome.{both, judged}
+use Rattle.rules.specs.Relation.{mapFrom}
+use Rattle.rules.specs.Table.{wordRow}
+use Rattle.rules.specs.declared.View.{View}
+
+-- 30: the lowest location at which the start is over the whole
+unfoldable pub startOutcome : (w : List ℕ) → (denominator locations : ℕ) → Out (Unit {0})
+startOutcome w denominator locations = refuseOver (overWhole denominator 0 (mapFrom w startMap 0 locations))
+
+-- entry i of the column that begins at b
+abbrev pub cell : (w : List ℕ) → (b i : ℕ) → ℕ
+cell w b i = getD w (b + i) 0
+
+-- what the conditions of step k look at: a first part stands just behind its step, a second part at the end of the first,
+-- the e1 of a let just behind the let
+unfoldable pub viewOf : (w : List ℕ) → (locations denominator k : ℕ) → View
+viewOf w locations denominator k = record {
+  line = k + 2;
+  locations = locations;
+  denominator = denominator;
+  own = record { 0 = cell w rowTypesAt k };
+  type1 = record { 0 = cell w (rowTypesAt + 1) k };
+  type2 = record { 0 = cell w rowTypesAt (cell w (endsAt + 1) k) };
+  bound = record { 0 = cell w (rowTypesAt + 1) (cell w letsAt k) };
+  pre = record { 0 = cell w presAt k };
+  post = record { 0 = cell w postsAt k };
+  start = record { 0 = cell w startsAt k };
+  post1 = record { 0 = cell w (postsAt + 1) k };
+  post2 = record { 0 = cell w postsAt (cell w (endsAt + 1) k) };
+}
+
+-- the conditions of step k, in order
+unfoldable pub stepOutcome : (w : List ℕ) → (locations denominator k : ℕ) → Out (Unit {0})
+stepOutcome w locations denominator k =
+    let s = viewOf w locations denominator k in
+    judged (k + 2) 1 (wordRow (wordOf (cell w wordsAt k)) w s (typeAt w (s .own)) (typeAt w (s .type1)))
+
+-- the start is the map before the root
+unfoldable pub atRoot : (w : List ℕ) → List ℕ
+atRoot w = set w presAt (startMap .0)
+
+-- the map before step i is m
+unfoldable pub putPre : (w : List ℕ) → (i : ℕ) → MapNumber → List ℕ
+putPre w i m = if ltb i 256 then set w (presAt + i) (m .0) else w
+
+unfoldable pub passWord : Word → (w : List ℕ) → (k : ℕ) → (pre post post₁ start : MapNumber) → (second : ℕ) → List ℕ
+passWord (Leaf l) w k pre post post₁ start second = w
+passWord (Unary u) w k pre post post₁ start second = putPre w (k + 1) (preOfPart u pre post)
+passWord (Binary b) w k pre post post₁ start second =
+    putPre (putPre w (k + 1) pre) second (preOfSecond b pre post₁ start)
+
+-- the maps before the parts of step k
+unfoldable pub passOn : (w : List ℕ) → (k : ℕ) → List ℕ
+passOn w k =
+    passWord (wordOf (cell w wordsAt k)) w k (record { 0 = cell w presAt k }) (record { 0 = cell w postsAt k })
+    (record { 0 = cell w (postsAt + 1) k }) (record { 0 = cell w startsAt k }) (cell w (endsAt + 1) k)
+
+-- n steps from step k on
+unfoldable pub walk : (locations denominator : ℕ) → (w : List ℕ) → (k n : ℕ) → Out (Unit {0})
+walk locations denominator w k zero = on tt
+walk locations denominator w k (suc n) =
+    both (stepOutcome w locations denominator k) (walk locations denominator (passOn w k) (k + 1) n)

@@ -1,0 +1,79 @@
+// The conditions of Figure 5, judged over what the work space holds of a program and its split, and before them the start.
+mod conditions;
+mod steps;
+mod words;
+
+use spec::Location;
+use spec::MapNumber;
+use spec::Refusal;
+use spec::TypeNumber;
+use steps::check_steps;
+use workspace::index;
+use workspace::map_cell;
+ghost use mathlib.Core.Path.{_≡_};
+ghost use Prim.Native.Nat.{_≤_};
+ghost use lib.ListN.{length};
+ghost use Rattle.rules.specs.Outcome.{outcome};
+ghost use Rattle.rules.specs.Walk.{startOutcome};
+ghost use Rattle.rules.specs.Contract.{Ruled};
+
+// The number of the start: the map before the root.
+const START: u32 = 0;
+
+// Every condition is met, or the first that is not refuses.
+pub enum Ruling {
+    Met,
+    Refused(Refusal),
+}
+
+// What a flow condition asks of maps, number by number: a = b, a ≥ b, a + b = c.
+enum Relation {
+    Equal(MapNumber, MapNumber),
+    AtLeast(MapNumber, MapNumber),
+    Sum(MapNumber, MapNumber, MapNumber),
+}
+
+// What the conditions of a step look at: the sheet's locations and denominator, the step's line, the types and maps of the
+// step and of its parts, and for a `var` the type of its let's e1.
+struct View {
+    line: u32,
+    locations: u32,
+    denominator: u32,
+    own: TypeNumber,
+    type1: TypeNumber,
+    type2: TypeNumber,
+    bound: TypeNumber,
+    pre: MapNumber,
+    post: MapNumber,
+    start: MapNumber,
+    post1: MapNumber,
+    post2: MapNumber,
+}
+
+// 30: the start has at most the whole of each location.
+fn check_start(work: &[u32], denominator: u32, locations: u32) -> Ruling
+    ensures { λ r. ⌜ outcome r ≡ startOutcome (now (work .entry)) denominator locations ⌝ }
+{
+    let mut l = 0;
+    while l < locations {
+        if denominator < map_cell(work, MapNumber(START), index(l)) {
+            return Ruling::Refused(Refusal::OverOne(Location(l)));
+        }
+        l += 1;
+    }
+    Ruling::Met
+}
+
+// The first reason of 30 to 33 for the sheets that the work space holds. It notes the maps before steps there, and changes
+// nothing else.
+pub fn rule(work: &mut [u32], steps: usize, denominator: u32, locations: usize) -> Ruling
+    requires { ⌜ (length (now work) ≡ 16384) × (steps ≤ 256) × (locations ≤ 16) ⌝ }
+    ensures { λ r. ⌜ Ruled (now (work .entry)) steps denominator locations r (now (work .exit)) ⌝ }
+{
+    let n = locations as u32;
+    let first = check_start(work, denominator, n);
+    let Ruling::Met = first else {
+        return first;
+    };
+    check_steps(work, steps as u32, denominator, n)
+}

@@ -1,0 +1,144 @@
+// The steps in line order. Each is judged once the map before it is known, and hands down the maps before its parts.
+use super::Ruling;
+use super::START;
+use super::View;
+use super::words::check_word;
+use spec::BinaryWord;
+use spec::MapNumber;
+use spec::TypeNumber;
+use spec::UnaryWord;
+use spec::Word;
+use workspace::ENDS;
+use workspace::LETS;
+use workspace::POSTS;
+use workspace::PRES;
+use workspace::ROW_TYPES;
+use workspace::STARTS;
+use workspace::WORDS;
+use workspace::at;
+use workspace::index;
+use workspace::type_at;
+use workspace::word_of;
+ghost use mathlib.Core.Path.{_≡_};
+ghost use Prim.Native.Nat.{_+_, _≤_, _<_};
+ghost use lib.ListN.{length};
+ghost use Rattle.spec.specs.Sites.{preOfPart, preOfSecond};
+ghost use Rattle.workspace.specs.Layout.{presAt};
+ghost use Rattle.workspace.specs.Region.{ChangedWithin};
+ghost use Rattle.rules.specs.Outcome.{outcome};
+ghost use Rattle.rules.specs.Walk.{cell, viewOf, atRoot, stepOutcome, putPre, passOn, walk};
+
+// Entry i of the column that begins at base.
+fn cell(work: &[u32], base: usize, i: u32) -> u32
+    requires { ⌜ base < 16384 ⌝ }
+    ensures { λ r. ⌜ r ≡ cell (now (work .entry)) base i ⌝ }
+{
+    at(work, base + index(i))
+}
+
+// What the conditions of step k look at. A first part stands just behind its step, a second part at the end of the first,
+// the e1 of a let just behind the let.
+fn view_of(work: &[u32], locations: u32, denominator: u32, k: u32) -> View
+    requires { ⌜ k < 256 ⌝ }
+    ensures { λ r. ⌜ r ≡ viewOf (now (work .entry)) locations denominator k ⌝ }
+{
+    let second = cell(work, ENDS + 1, k);
+    let binder = cell(work, LETS, k);
+    View {
+        line: k + 2,
+        locations: locations,
+        denominator: denominator,
+        own: TypeNumber(cell(work, ROW_TYPES, k)),
+        type1: TypeNumber(cell(work, ROW_TYPES + 1, k)),
+        type2: TypeNumber(cell(work, ROW_TYPES, second)),
+        bound: TypeNumber(cell(work, ROW_TYPES + 1, binder)),
+        pre: MapNumber(cell(work, PRES, k)),
+        post: MapNumber(cell(work, POSTS, k)),
+        start: MapNumber(cell(work, STARTS, k)),
+        post1: MapNumber(cell(work, POSTS + 1, k)),
+        post2: MapNumber(cell(work, POSTS, second)),
+    }
+}
+
+// The conditions of step k.
+fn check_step(work: &[u32], locations: u32, denominator: u32, k: u32) -> Ruling
+    requires { ⌜ k < 256 ⌝ }
+    ensures { λ r. ⌜ outcome r ≡ stepOutcome (now (work .entry)) locations denominator k ⌝ }
+{
+    let w = word_of(cell(work, WORDS, k));
+    let s = view_of(work, locations, denominator, k);
+    check_word(w, work, s, type_at(work, s.own), type_at(work, s.type1))
+}
+
+// The map before a step, for one of the 256 that there may be.
+fn put_pre(work: &mut [u32], i: u32, m: MapNumber)
+    requires { ⌜ length (now work) ≡ 16384 ⌝ }
+    ensures { λ _. ⌜ now (work .exit) ≡ putPre (now (work .entry)) i m ⌝ }
+{
+    if i < 256 {
+        let place = PRES + index(i);
+        work[place] = m.0;
+    }
+}
+
+// The map before the part of a step with one part.
+fn pre_of_part(w: UnaryWord, pre: MapNumber, post: MapNumber) -> MapNumber
+    ensures { λ r. ⌜ r ≡ preOfPart w pre post ⌝ }
+{
+    match w {
+        UnaryWord::While => post,
+        UnaryWord::Join => pre,
+        UnaryWord::Ref => pre,
+        UnaryWord::Read => pre,
+        UnaryWord::Freelock => pre,
+        UnaryWord::Lock => pre,
+        UnaryWord::Unlock => pre,
+    }
+}
+
+// The map before the second part of a step with two.
+fn pre_of_second(w: BinaryWord, pre: MapNumber, post1: MapNumber, start: MapNumber) -> MapNumber
+    ensures { λ r. ⌜ r ≡ preOfSecond w pre post1 start ⌝ }
+{
+    match w {
+        BinaryWord::Let => post1,
+        BinaryWord::If => pre,
+        BinaryWord::Spawn => start,
+        BinaryWord::Write => post1,
+    }
+}
+
+// The maps before the parts of step k. The sheet's locations and denominator play no part in them.
+fn pass_on(work: &mut [u32], k: u32)
+    requires { ⌜ (length (now work) ≡ 16384) × (k < 256) ⌝ }
+    ensures { λ _. ⌜ now (work .exit) ≡ passOn (now (work .entry)) k ⌝ }
+{
+    let s = view_of(work, 0, 0, k);
+    let second = cell(work, ENDS + 1, k);
+    match word_of(cell(work, WORDS, k)) {
+        Word::Leaf(_) => {}
+        Word::Unary(u) => put_pre(work, k + 1, pre_of_part(u, s.pre, s.post)),
+        Word::Binary(b) => {
+            put_pre(work, k + 1, s.pre);
+            put_pre(work, second, pre_of_second(b, s.pre, s.post1, s.start));
+        }
+    }
+}
+
+// 31 to 33: the steps in line order, each judged once the map before it is known.
+pub(crate) fn check_steps(work: &mut [u32], steps: u32, denominator: u32, locations: u32) -> Ruling
+    requires { ⌜ (length (now work) ≡ 16384) × (steps ≤ 256) ⌝ }
+    ensures { λ r. ⌜ (outcome r ≡ walk locations denominator (atRoot (now (work .entry))) 0 steps) × ChangedWithin presAt (presAt + 256) (now (work .entry)) (now (work .exit)) ⌝ }
+{
+    work[PRES] = START;
+    let mut k = 0;
+    while k < steps {
+        let r = check_step(work, locations, denominator, k);
+        let Ruling::Met = r else {
+            return r;
+        };
+        pass_on(work, k);
+        k += 1;
+    }
+    Ruling::Met
+}

@@ -1,0 +1,13 @@
+//! Links the product when `RACECHECK_LIB_DIR` names the folder of `libchecker.a`.
+//! Without it the cfg `product` is off, and the second checker stands in for the product.
+
+fn main() {
+    println!("cargo:rustc-check-cfg=cfg(product)");
+    println!("cargo:rerun-if-env-changed=RACECHECK_LIB_DIR");
+    if let Ok(folder) = std::env::var("RACECHECK_LIB_DIR") {
+        println!("cargo:rustc-cfg=product");
+        println!("cargo:rustc-link-search=native={folder}");
+        println!("cargo:rustc-link-lib=static=checker");
+        println!("cargo:rerun-if-changed={folder}/libchecker.a");
+    }
+}

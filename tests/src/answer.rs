@@ -1,0 +1,44 @@
+//! The four returned numbers, and the limits of document 01.
+
+/// The work space's length in 32-bit numbers, below which a call is refused with 1.
+pub const WORK_SPACE: usize = 16_384;
+/// The longest program sheet in bytes.
+pub const PROGRAM_BYTES: usize = 16_384;
+/// The longest split sheet in bytes.
+pub const SPLIT_BYTES: usize = 65_536;
+pub const STEPS: u32 = 256;
+pub const VARIABLES: u32 = 256;
+pub const CONSTANTS: u32 = 65_536;
+pub const LOCATIONS: u32 = 16;
+pub const TYPES: u32 = 64;
+pub const MAPS: u32 = 512;
+/// The greatest denominator, and the greatest numeral of a map.
+pub const WHOLE: u32 = 1_000_000;
+
+/// What a call returns. All four are 0 for ACCEPT.
+#[derive(Clone, Copy, Debug, PartialEq, Eq, Default)]
+pub struct Returned {
+    pub number: u32,
+    pub line: u32,
+    pub condition: u32,
+    pub location: u32,
+}
+
+impl Returned {
+    pub const ACCEPT: Returned = Returned { number: 0, line: 0, condition: 0, location: 0 };
+
+    /// A refusal that names a line and nothing else.
+    pub const fn at_line(number: u32, line: u32) -> Returned {
+        Returned { number, line, condition: 0, location: 0 }
+    }
+}
+
+impl std::fmt::Display for Returned {
+    /// The line that `racecheck` writes, without its closing byte.
+    fn fmt(&self, out: &mut std::fmt::Formatter<'_>) -> std::fmt::Result {
+        if *self == Returned::ACCEPT {
+            return write!(out, "ACCEPT");
+        }
+        write!(out, "REFUSE,{},{},{},{}", self.number, self.line, self.condition, self.location)
+    }
+}

@@ -1,0 +1,288 @@
+//! Runs programs under many schedules and checks the two claims: no race, no odd halt.
+//!
+//! Accepted pairs must never show a fault. Racy and ill-typed programs must show theirs, so that
+//! the search is known to find what it looks for. Exits with 1 on any failure.
+
+use evidence::answer::{Returned, WORK_SPACE};
+use evidence::draw::draft::Draft;
+use evidence::draw::honest::Slip;
+use evidence::draw::random::Random;
+use evidence::draw::{self, concurrent, honest, mutants, Drawn};
+use evidence::known::{Known, KNOWN};
+use evidence::product;
+use evidence::steps::claims::Fault;
+use evidence::steps::expression::Expression;
+use evidence::steps::search::{drawn_schedule, exhaustive, Found};
+use evidence::words::Word;
+use std::process::ExitCode;
+use std::rc::Rc;
+use std::time::Instant;
+
+const SEED: u64 = 2008;
+/// How many states an exhaustive search visits before it gives up on the rest.
+const BOUND: usize = 4_000;
+
+/// A summary when all is well, else what failed.
+type Check = fn() -> Result<String, String>;
+
+fn main() -> ExitCode {
+    let start = Instant::now();
+    let checks: [(&str, Check); 7] = [
+        ("known racy programs", known_races),
+        ("known odd halts", known_odd_halts),
+        ("known safe programs", known_safe),
+        ("accepted pairs, all schedules", accepted_exhaustively),
+        ("accepted pairs, drawn schedules", accepted_at_random),
+        ("faulty drawn programs are refused", faulty_are_refused),
+        ("what a mistaken checker would accept", slips_are_refused),
+    ];
+    let mut exit = ExitCode::SUCCESS;
+    for (title, check) in checks {
+        match check() {
+            Ok(summary) => println!("{title}: {summary}"),
+            Err(failure) => {
+                println!("{title}: FAILED, {failure}");
+                exit = ExitCode::FAILURE;
+            }
+        }
+    }
+    println!("{:.1} s", start.elapsed().as_secs_f64());
+    exit
+}
+
+/// Programs in prefix order, a bar for each line end, with a race that some schedule shows.
+const RACY: [(&str, &str); 8] = [
+    ("Figure 2 (a)", "let,0|ref,0|int,0|let,1|spawn,0|newtid,0|read,0|var,0|write,0|var,0|int,1"),
+    ("two writers", "let,0|ref,0|int,0|let,1|spawn,0|newtid,0|write,0|var,0|int,2|write,0|var,0|int,1"),
+    (
+        "a read without the lock",
+        "let,0|ref,0|int,0|let,1|newlock,0|let,2|spawn,0|newtid,0|read,0|var,0|let,3|lock,0|var,1|\
+         let,4|write,0|var,0|int,1|unlock,0|var,1",
+    ),
+    (
+        "two locks, the program beside NEWL-unsound",
+        "let,0|ref,0|int,0|let,1|newlock,0|let,2|newlock,0|let,3|spawn,0|newtid,0|let,4|lock,0|var,1|\
+         let,5|read,0|var,0|unlock,0|var,1|let,6|lock,0|var,2|let,7|write,0|var,0|int,1|unlock,0|var,2",
+    ),
+    (
+        "one join for two threads",
+        "let,0|ref,0|int,0|let,1|newtid,0|let,2|spawn,0|var,1|read,0|var,0|let,3|spawn,0|var,1|read,0|var,0|\
+         let,4|join,0|var,1|write,0|var,0|int,1",
+    ),
+    (
+        "a lock given up too early",
+        "let,0|ref,0|int,0|let,1|newlock,0|let,2|spawn,0|newtid,0|let,3|lock,0|var,1|write,0|var,0|int,2|\
+         let,4|lock,0|var,1|let,5|unlock,0|var,1|write,0|var,0|int,1",
+    ),
+    (
+        "an unlock by a thread that does not hold the lock",
+        "let,0|ref,0|int,0|let,1|newlock,0|let,2|spawn,0|newtid,0|let,3|unlock,0|var,1|let,4|lock,0|var,1|\
+         write,0|var,0|int,2|let,5|lock,0|var,1|write,0|var,0|int,1",
+    ),
+    (
+        "a freed lock that an unlock makes open again",
+        "let,0|ref,0|int,0|let,1|newlock,0|let,2|spawn,0|newtid,0|let,3|lock,0|var,1|write,0|var,0|int,2|\
+         let,4|freelock,0|var,1|let,5|unlock,0|var,1|write,0|var,0|int,1",
+    ),
+];
+
+/// Programs whose one thread halts on a value of the wrong kind.
+const ODD: [&str; 8] = [
+    "read,0|int,0",
+    "write,0|int,0|int,0",
+    "lock,0|int,0",
+    "unlock,0|newtid,0",
+    "freelock,0|ref,0|int,0",
+    "join,0|newlock,0",
+    "spawn,0|newlock,0|int,0",
+    "let,0|newtid,0|let,1|spawn,0|var,0|read,0|int,0|join,0|var,0",
+];
+
+/// Programs that wait for ever, and show no fault for it.
+const WAITING: [&str; 3] = [
+    "join,0|newtid,0",
+    "let,0|newlock,0|let,1|lock,0|var,0|freelock,0|var,0",
+    "let,0|newlock,0|let,1|freelock,0|var,0|lock,0|var,0",
+];
+
+fn sheet(steps: &str) -> Vec<u8> {
+    let count = steps.split('|').count();
+    format!("P,{count}|{steps}|").replace('|', "\n").into_bytes()
+}
+
+fn listed(program: &[u8]) -> Rc<Expression> {
+    Expression::listed(program).expect("the program is well formed")
+}
+
+fn known_races() -> Result<String, String> {
+    for (title, steps) in RACY {
+        let found = exhaustive(&listed(&sheet(steps)), BOUND);
+        let Some(Fault::Race(_)) = found.fault else { return Err(format!("no race found in {title}")) };
+    }
+    Ok(format!("{} of {} found", RACY.len(), RACY.len()))
+}
+
+fn known_odd_halts() -> Result<String, String> {
+    for steps in ODD {
+        let found = exhaustive(&listed(&sheet(steps)), BOUND);
+        let Some(Fault::OddHalt(_)) = found.fault else { return Err(format!("no odd halt found in {steps}")) };
+    }
+    Ok(format!("{} of {} found", ODD.len(), ODD.len()))
+}
+
+fn known_safe() -> Result<String, String> {
+    let accepted: Vec<&Known> = KNOWN.iter().filter(|known| known.answer == "ACCEPT").collect();
+    let waiting = WAITING.iter().map(|steps| sheet(steps));
+    let mut sum = Sum::default();
+    for program in accepted.iter().map(|known| known.sheets().0).chain(waiting) {
+        let found = exhaustive(&listed(&program), 50_000);
+        if let Some(fault) = found.fault {
+            return Err(format!("{fault:?} in {}", String::from_utf8_lossy(&program)));
+        }
+        sum.add(&found);
+    }
+    Ok(sum.told())
+}
+
+/// How telling a series of searches was.
+#[derive(Default)]
+struct Sum {
+    runs: usize,
+    complete: usize,
+    concurrent: usize,
+    shared: usize,
+    states: usize,
+}
+
+impl Sum {
+    fn add(&mut self, found: &Found) {
+        self.runs += 1;
+        self.complete += usize::from(found.complete);
+        self.concurrent += usize::from(found.threads > 1);
+        self.shared += usize::from(found.shared);
+        self.states += found.states;
+    }
+
+    fn told(&self) -> String {
+        format!(
+            "{} runs, {} states, {} to the end, {} with two threads or more, {} with a shared cell",
+            self.runs, self.states, self.complete, self.concurrent, self.shared
+        )
+    }
+}
+
+/// What the product says of a pair, or the second checker where the product is not linked.
+fn answer(program: &[u8], split: &[u8]) -> Returned {
+    product::check(program, split, &mut [0; WORK_SPACE])
+}
+
+fn accepted_exhaustively() -> Result<String, String> {
+    let mut sum = Sum::default();
+    for number in 0..1_600 {
+        let random = &mut Random::new(SEED, number);
+        let draft = small_draft(random, number);
+        if answer(&draft.program(), &draft.split()).number != 0 {
+            return Err(format!("the honest pair {number} is refused"));
+        }
+        let found = exhaustive(&listed(&draft.program()), BOUND);
+        if let Some(fault) = found.fault {
+            return Err(format!("{fault:?} in the accepted pair {number}"));
+        }
+        sum.add(&found);
+    }
+    Ok(sum.told())
+}
+
+/// Two kinds in turn: drawn word by word, and drawn around threads that share cells.
+fn small_draft(random: &mut Random, number: u64) -> Draft {
+    if number.is_multiple_of(2) {
+        return concurrent::draft(random);
+    }
+    let (size, locations) = (10 + random.below(25), 1 + random.below(2));
+    honest::draft(random, size, locations, 2)
+}
+
+fn accepted_at_random() -> Result<String, String> {
+    let mut sum = Sum::default();
+    for number in 0..3_000 {
+        let random = &mut Random::new(SEED + 1, number);
+        let pair = match number % 2 {
+            0 => Drawn::of(&concurrent::draft(random), "concurrent"),
+            _ => draw::pair(SEED + 1, number),
+        };
+        if answer(&pair.program, &pair.split).number != 0 {
+            continue;
+        }
+        let program = listed(&pair.program);
+        for _ in 0..3 {
+            let found = drawn_schedule(&program, random, 300);
+            if let Some(fault) = found.fault {
+                return Err(format!("{fault:?} in the accepted pair {number}"));
+            }
+            sum.add(&found);
+        }
+    }
+    Ok(sum.told())
+}
+
+/// Drawn pairs with a change: where the search finds a fault, the pair must be refused.
+fn faulty_are_refused() -> Result<String, String> {
+    let (mut races, mut halts, mut still_accepted) = (0, 0, 0);
+    for number in 0..2_000 {
+        let random = &mut Random::new(SEED + 2, number);
+        let mut draft = concurrent::draft(random);
+        if number % 3 == 0 {
+            mutants::change_draft(random, &mut draft);
+        } else {
+            loosen(random, &mut draft);
+        }
+        let returned = answer(&draft.program(), &draft.split());
+        if (1..=23).contains(&returned.number) {
+            continue;
+        }
+        let fault = exhaustive(&listed(&draft.program()), BOUND).fault;
+        match (fault, returned.number) {
+            (Some(fault), 0) => return Err(format!("{fault:?} in the accepted pair {number}")),
+            (Some(Fault::Race(_)), _) => races += 1,
+            (Some(Fault::OddHalt(_)), _) => halts += 1,
+            (None, 0) => still_accepted += 1,
+            _ => {}
+        }
+    }
+    if races < 50 || halts < 5 {
+        return Err(format!("only {races} races and {halts} odd halts found"));
+    }
+    Ok(format!("{races} with a race and {halts} with an odd halt, all refused; {still_accepted} still accepted"))
+}
+
+/// Drafts built with one of the mistakes that document 01 expects: some of them race, and those must
+/// be refused.
+fn slips_are_refused() -> Result<String, String> {
+    let mut told = Vec::new();
+    for slip in [Slip::LocksForFree, Slip::StartsForFree, Slip::WritesByFirstMap] {
+        let mut races = 0;
+        for number in 0..300 {
+            let draft = concurrent::draft_with(&mut Random::new(SEED + 3, number), Some(slip));
+            let Some(fault) = exhaustive(&listed(&draft.program()), BOUND).fault else { continue };
+            races += usize::from(matches!(fault, Fault::Race(_)));
+            if answer(&draft.program(), &draft.split()).number == 0 {
+                return Err(format!("{fault:?} in the accepted pair {number} with {slip:?}"));
+            }
+        }
+        if races < 10 {
+            return Err(format!("only {races} races with {slip:?}"));
+        }
+        told.push(format!("{slip:?} {races} races"));
+    }
+    Ok(format!("{}, all refused", told.join(", ")))
+}
+
+/// Takes away what keeps threads apart: a `lock` becomes an `unlock`, a `join` a mere `ref`.
+fn loosen(random: &mut Random, draft: &mut Draft) {
+    let guards: Vec<usize> =
+        (0..draft.steps.len()).filter(|&step| matches!(draft.steps[step].word, Word::Lock | Word::Join)).collect();
+    if !guards.is_empty() {
+        let guard = &mut draft.steps[random.pick(&guards)];
+        guard.word = if guard.word == Word::Lock { Word::Unlock } else { Word::Ref };
+    }
+}

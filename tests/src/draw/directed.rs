@@ -1,0 +1,169 @@
+//! Pairs whose first false condition is a given one.
+//!
+//! The sabotaged step is the e1 of a `let`, whose own conditions look only at e2. So no line above
+//! the step notices a change to its type or its map, and the step's own condition is the first to
+//! fail.
+
+use super::draft::{Draft, Map, Type};
+use super::honest::Builder;
+use super::random::Random;
+use crate::answer::WHOLE;
+use crate::words::Word;
+
+/// A draft whose first false condition is this one of this word.
+pub fn breaking(random: &mut Random, word: Word, condition: u32) -> Draft {
+    loop {
+        if let Some(draft) = attempt(random, word, condition) {
+            return draft;
+        }
+    }
+}
+
+/// An honest draft with the word as a `let`'s e1, and then the sabotage.
+fn attempt(random: &mut Random, word: Word, condition: u32) -> Option<Draft> {
+    let (locations, whole) = (1 + random.below(4), random.pick(&[1, 2, 6, 1000, 999_999]));
+    let size = random.pick(&[4, 8, 30]);
+    let mut builder = Builder::new(random, locations, whole);
+    let mut now = builder.draft.maps[0];
+    let kind = builder.drawn_type(&now, &Map::default());
+    let above = builder.random.below(4);
+    let target = builder.chain_around(word, above, kind, &mut now, size)?;
+    let draft = builder.finished()?;
+    Sabotage { random, draft, step: target.step, pre: target.pre }.condition(condition)
+}
+
+/// Where the sabotage goes, with the map before it.
+pub struct Target {
+    pub step: usize,
+    pub pre: Map,
+}
+
+struct Sabotage<'r> {
+    random: &'r mut Random,
+    draft: Draft,
+    step: usize,
+    pre: Map,
+}
+
+impl Sabotage<'_> {
+    /// Makes one condition of the step false and leaves the ones before it true. None when the
+    /// draft does not lend itself to it.
+    fn condition(mut self, condition: u32) -> Option<Draft> {
+        use Word::*;
+        let (own, e1) = (self.step, self.step + 1);
+        match (self.draft.steps[own].word, condition) {
+            (Var | Let | If, 1) | (Read, 2) => self.other_type(own),
+            (Int | While | Spawn | Join | Write | Lock | Freelock | Unlock | Newtid | Newlock | Ref, 1) => {
+                self.other_kind(own)
+            }
+            (If, 2) | (Write, 3) => self.other_type(self.draft.second_of(own)),
+            (Spawn | Join | Write | Lock | Freelock | Unlock, 2) | (Read, 1) => self.other_kind(e1),
+            (Var | Int | Let | Newtid | Ref | Newlock, 2) => self.other_post(own),
+            (Join | Lock | Freelock | Unlock | Read, 3) | (Write | Spawn, 4) => self.other_post(own),
+            (If, 3) => self.post_over(self.post(e1)),
+            (If, 4) => self.post_over_second(),
+            (While, 2) => self.post_over(self.pre),
+            (While, 3) => self.post_under(e1, self.post(own)),
+            (Spawn, 3) => self.body_under_identifier(),
+            (Read, 4) => self.access_under(e1, e1, 1),
+            (Write, 5) => self.access_under(e1, self.draft.second_of(own), self.draft.whole),
+            _ => None,
+        }?;
+        Some(self.draft)
+    }
+
+    fn post(&self, step: usize) -> Map {
+        self.draft.maps[self.draft.steps[step].post]
+    }
+
+    fn set_post(&mut self, step: usize, map: Map) -> Option<()> {
+        if map.iter().any(|&number| number > WHOLE) {
+            return None;
+        }
+        self.draft.steps[step].post = self.draft.number_of(map);
+        Some(())
+    }
+
+    /// Another type number, of the same kind or not.
+    fn other_type(&mut self, step: usize) -> Option<()> {
+        let kind = self.random.below(self.draft.types.len());
+        let differs = kind != self.draft.steps[step].kind;
+        self.draft.steps[step].kind = kind;
+        differs.then_some(())
+    }
+
+    /// A type of another kind. A new type at the end serves when there is none.
+    fn other_kind(&mut self, step: usize) -> Option<()> {
+        let known = self.draft.types[self.draft.steps[step].kind];
+        let other = self.random.below(self.draft.types.len());
+        if std::mem::discriminant(&known) != std::mem::discriminant(&self.draft.types[other]) {
+            self.draft.steps[step].kind = other;
+            return Some(());
+        }
+        self.draft.types.push(if known == Type::Int { Type::Tid(0) } else { Type::Int });
+        self.draft.steps[step].kind = self.draft.types.len() - 1;
+        Some(())
+    }
+
+    /// A post that differs in one location or two.
+    fn other_post(&mut self, step: usize) -> Option<()> {
+        let mut map = self.post(step);
+        for _ in 0..1 + self.random.below(2) {
+            let location = self.random.below(self.draft.locations);
+            map[location] = self.nudged(map[location]);
+        }
+        let differs = map != self.post(step);
+        self.set_post(step, map)?;
+        differs.then_some(())
+    }
+
+    fn nudged(&mut self, number: u32) -> u32 {
+        match self.random.below(3) {
+            0 => number + 1,
+            1 => number.saturating_sub(1),
+            _ => self.random.between(0, self.draft.whole),
+        }
+    }
+
+    /// The step's post goes over a map in one location.
+    fn post_over(&mut self, bound: Map) -> Option<()> {
+        let location = self.random.below(self.draft.locations);
+        let mut map = self.post(self.step);
+        map[location] = bound[location] + 1;
+        self.set_post(self.step, map)
+    }
+
+    /// The step's post goes over the second part's, and the first part's goes along with it.
+    fn post_over_second(&mut self) -> Option<()> {
+        let location = self.random.below(self.draft.locations);
+        let second = self.post(self.draft.second_of(self.step));
+        let (mut own, mut first) = (self.post(self.step), self.post(self.step + 1));
+        own[location] = second[location] + 1;
+        first[location] = first[location].max(own[location]);
+        self.set_post(self.step, own)?;
+        self.set_post(self.step + 1, first)
+    }
+
+    /// A part's post goes under a bound in one location where the bound is not 0.
+    fn post_under(&mut self, part: usize, bound: Map) -> Option<()> {
+        let location = self.random.below(self.draft.locations);
+        let mut map = self.post(part);
+        map[location] = bound[location].checked_sub(1)?;
+        self.set_post(part, map)
+    }
+
+    fn body_under_identifier(&mut self) -> Option<()> {
+        let kind = self.draft.steps[self.step + 1].kind;
+        let Type::Tid(map) = self.draft.types[kind] else { return None };
+        self.post_under(self.draft.second_of(self.step), self.draft.maps[map])
+    }
+
+    /// The step and its last part end with less of the cell's location than the access wants.
+    fn access_under(&mut self, cell: usize, last: usize, wanted: u32) -> Option<()> {
+        let Type::Ref { location, .. } = self.draft.types[self.draft.steps[cell].kind] else { return None };
+        let mut map = self.post(self.step);
+        map[location] = self.random.between(0, wanted - 1);
+        self.set_post(self.step, map)?;
+        self.set_post(last, map)
+    }
+}

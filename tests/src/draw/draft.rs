@@ -1,0 +1,151 @@
+//! A pair of sheets before it is written out as text.
+
+use crate::answer::LOCATIONS;
+use crate::words::Word;
+
+/// A capability mapping, document 01's "map"; numbers past the last location are 0.
+pub type Map = [u32; LOCATIONS as usize];
+
+#[derive(Clone, Copy, PartialEq, Eq)]
+pub enum Type {
+    Int,
+    Ref { location: usize, content: usize },
+    Lock(usize),
+    Tid(usize),
+}
+
+/// A line of the program with its line of the split.
+#[derive(Clone, Copy)]
+pub struct Step {
+    pub word: Word,
+    pub number: u32,
+    pub kind: usize,
+    pub post: usize,
+    pub start: Option<usize>,
+}
+
+#[derive(Clone)]
+pub struct Draft {
+    pub whole: u32,
+    pub locations: usize,
+    pub types: Vec<Type>,
+    pub maps: Vec<Map>,
+    pub steps: Vec<Step>,
+}
+
+impl Draft {
+    /// The number of a map with these numbers, a new one if there is none.
+    pub fn number_of(&mut self, map: Map) -> usize {
+        match self.maps.iter().rposition(|known| *known == map) {
+            Some(number) => number,
+            None => self.add_map(map),
+        }
+    }
+
+    pub fn add_map(&mut self, map: Map) -> usize {
+        self.maps.push(map);
+        self.maps.len() - 1
+    }
+
+    /// The step after the last part of this one.
+    pub fn end_of(&self, step: usize) -> usize {
+        let (mut open, mut at) = (1, step);
+        while open > 0 {
+            open = open - 1 + self.steps[at].word.parts();
+            at += 1;
+        }
+        at
+    }
+
+    /// The second part of a step that has two.
+    pub fn second_of(&self, step: usize) -> usize {
+        self.end_of(step + 1)
+    }
+
+    pub fn program(&self) -> Vec<u8> {
+        let mut text = Vec::with_capacity(12 * self.steps.len() + 8);
+        text.extend_from_slice(b"P,");
+        push_numeral(&mut text, self.steps.len() as u32);
+        for step in &self.steps {
+            text.push(b'\n');
+            text.extend_from_slice(step.word.spelling().as_bytes());
+            text.push(b',');
+            push_numeral(&mut text, step.number);
+        }
+        text.push(b'\n');
+        text
+    }
+
+    pub fn split(&self) -> Vec<u8> {
+        let mut text = Vec::with_capacity(8 * self.maps.len() * self.locations + 12 * self.steps.len() + 1024);
+        let head = [self.locations, self.types.len(), self.maps.len()].map(|number| number as u32);
+        push_fields(&mut text, b"C,", &[self.whole, head[0], head[1], head[2]]);
+        for kind in &self.types {
+            let (word, first, second): (&[u8], _, _) = match *kind {
+                Type::Int => (b"int,", 0, 0),
+                Type::Ref { location, content } => (b"ref,", location, content),
+                Type::Lock(map) => (b"lock,", map, 0),
+                Type::Tid(map) => (b"tid,", map, 0),
+            };
+            push_fields(&mut text, word, &[first as u32, second as u32]);
+        }
+        for map in &self.maps {
+            push_fields(&mut text, b"", &map[..self.locations]);
+        }
+        for step in &self.steps {
+            push_mark(&mut text, step);
+        }
+        text
+    }
+}
+
+fn push_mark(text: &mut Vec<u8>, step: &Step) {
+    push_numeral(text, step.kind as u32);
+    text.push(b',');
+    push_numeral(text, step.post as u32);
+    text.push(b',');
+    if let Some(start) = step.start {
+        push_numeral(text, start as u32);
+    }
+    text.push(b'\n');
+}
+
+fn push_fields(text: &mut Vec<u8>, opening: &[u8], numbers: &[u32]) {
+    text.extend_from_slice(opening);
+    for (place, &number) in numbers.iter().enumerate() {
+        if place > 0 {
+            text.push(b',');
+        }
+        push_numeral(text, number);
+    }
+    text.push(b'\n');
+}
+
+/// Writes a number in decimal.
+pub fn push_numeral(text: &mut Vec<u8>, number: u32) {
+    let mut digits = [0; 10];
+    let (mut at, mut left) = (digits.len(), number);
+    while at == digits.len() || left > 0 {
+        at -= 1;
+        digits[at] = b'0' + (left % 10) as u8;
+        left /= 10;
+    }
+    text.extend_from_slice(&digits[at..]);
+}
+
+pub fn sum(left: &Map, right: &Map) -> Map {
+    std::array::from_fn(|location| left[location] + right[location])
+}
+
+/// left - right, where right is nowhere greater.
+pub fn difference(left: &Map, right: &Map) -> Map {
+    std::array::from_fn(|location| left[location] - right[location])
+}
+
+pub fn lower(left: &Map, right: &Map) -> Map {
+    std::array::from_fn(|location| left[location].min(right[location]))
+}
+
+pub fn at_least(greater: &Map, less: &Map) -> bool {
+    (0..greater.len()).all(|location| greater[location] >= less[location])
+}

@@ -1,0 +1,108 @@
+//! Pairs at the limits of document 01 and one past them.
+
+use super::draft::{push_numeral, Draft};
+use super::full::{full, program_with_bytes, with_locations, with_maps, with_steps, with_types};
+use super::honest;
+use super::random::Random;
+use super::Drawn;
+use crate::answer::{LOCATIONS, MAPS, PROGRAM_BYTES, SPLIT_BYTES, STEPS, TYPES, WHOLE, WORK_SPACE};
+use crate::words::Word;
+
+/// A pair at one of the limits, or one past it.
+pub fn at_limit(random: &mut Random) -> Drawn {
+    let past = random.below(2);
+    let mut draft = honest::draft(random, 10, 2, 4);
+    let mut room = WORK_SPACE;
+    match random.below(15) {
+        0 => drop(with_steps(random, &mut draft, STEPS as usize + past)),
+        1 => with_types(random, &mut draft, TYPES as usize + past),
+        2 => with_maps(&mut draft, MAPS as usize + past),
+        3 => return past_in_head(random, &mut draft, LOCATIONS as usize, past),
+        4 => draft.whole = WHOLE + past as u32,
+        5 => last_number_of_maps(random, &mut draft, past),
+        6 => last_of_its_kind(random, &mut draft, past),
+        7 => constant(random, &mut draft, [65_535, 65_536][past]),
+        8 => constant(random, &mut draft, [9_999_999, 10_000_000][past]),
+        9 => variable(random, &mut draft, [255, 256][past]),
+        10 => room = [WORK_SPACE, WORK_SPACE - 1][past],
+        11 => room = random.pick(&[0, 1, WORK_SPACE - 1, WORK_SPACE + 1, WORK_SPACE + 40]),
+        12 => return program_of(draft, PROGRAM_BYTES + past),
+        13 => draft = smallest(random),
+        _ => return split_of(random, past),
+    }
+    Drawn { room, ..Drawn::of(&draft, "limit") }
+}
+
+/// As many locations as there may be, or a head that says one more, with lines to match.
+fn past_in_head(random: &mut Random, draft: &mut Draft, limit: usize, past: usize) -> Drawn {
+    with_locations(draft, limit);
+    let mut drawn = Drawn::of(draft, "limit");
+    if past == 1 {
+        let head = drawn.split.iter().position(|&byte| byte == b'\n').unwrap_or(0);
+        let mut line = b"C,".to_vec();
+        let counts = [draft.whole, limit as u32 + 1, draft.types.len() as u32, draft.maps.len() as u32];
+        for (place, count) in counts.into_iter().enumerate() {
+            if place > 0 {
+                line.push(b',');
+            }
+            push_numeral(&mut line, count);
+        }
+        drawn.split.splice(..head, line);
+        drawn.room += random.below(3);
+    }
+    drawn
+}
+
+/// A program of one step.
+fn smallest(random: &mut Random) -> Draft {
+    loop {
+        let draft = honest::draft(random, 1, 1, 1);
+        if draft.steps.len() == 1 {
+            return draft;
+        }
+    }
+}
+
+/// A number of a map at 1,000,000 or one past.
+fn last_number_of_maps(random: &mut Random, draft: &mut Draft, past: usize) {
+    with_maps(draft, draft.maps.len() + 1);
+    let (last, location) = (draft.maps.len() - 1, random.below(draft.locations));
+    draft.maps[last][location] = WHOLE + past as u32;
+}
+
+/// A step's type or map, or a body's start, is the last of its kind or one past.
+fn last_of_its_kind(random: &mut Random, draft: &mut Draft, past: usize) {
+    let step = random.below(draft.steps.len());
+    let (last_type, last_map) = (draft.types.len() - 1 + past, draft.maps.len() - 1 + past);
+    match random.below(3) {
+        0 => draft.steps[step].kind = last_type,
+        1 => draft.steps[step].post = last_map,
+        _ => draft.steps[step].start = Some(last_map),
+    }
+}
+
+fn constant(random: &mut Random, draft: &mut Draft, number: u32) {
+    set_number(random, draft, &[Word::Int], number);
+}
+
+fn variable(random: &mut Random, draft: &mut Draft, number: u32) {
+    set_number(random, draft, &[Word::Var, Word::Let], number);
+}
+
+/// Gives this number to a drawn step with one of these words, if there is one.
+fn set_number(random: &mut Random, draft: &mut Draft, words: &[Word], number: u32) {
+    let steps = 0..draft.steps.len();
+    let meant: Vec<usize> = steps.filter(|&step| words.contains(&draft.steps[step].word)).collect();
+    if !meant.is_empty() {
+        draft.steps[random.pick(&meant)].number = number;
+    }
+}
+
+fn program_of(draft: Draft, bytes: usize) -> Drawn {
+    Drawn { program: program_with_bytes(&draft, bytes), ..Drawn::of(&draft, "limit") }
+}
+
+/// A full pair, its split as long as it may be or one byte longer.
+fn split_of(random: &mut Random, past: usize) -> Drawn {
+    Drawn::of(&full(random, SPLIT_BYTES + past), "limit")
+}

@@ -1,0 +1,74 @@
+//! Noise: bytes, scraps of the formats, and drawn trees with drawn splits.
+
+use super::draft::{Draft, Map, Step, Type};
+use super::random::Random;
+use super::Drawn;
+use crate::answer::WORK_SPACE;
+use crate::words::{Word, WORDS};
+
+/// A pair that nobody worked out.
+pub fn noise(random: &mut Random) -> Drawn {
+    let honest_program = b"P,1\nint,0\n".to_vec();
+    let (program, split) = match random.below(8) {
+        0 => (bytes(random), bytes(random)),
+        1 => (honest_program, bytes(random)),
+        2 => (scraps(random, b'P'), scraps(random, b'C')),
+        3 => (honest_program, scraps(random, b'C')),
+        _ => return Drawn::of(&drawn_tree(random), "noise"),
+    };
+    Drawn { program, split, room: WORK_SPACE, origin: "noise" }
+}
+
+fn bytes(random: &mut Random) -> Vec<u8> {
+    let length = random.pick(&[0, 1, 4, 40, 400]);
+    (0..length).map(|_| random.byte()).collect()
+}
+
+/// Words, numerals, commas and line ends in no order.
+fn scraps(random: &mut Random, first: u8) -> Vec<u8> {
+    let known: [&[u8]; 12] =
+        [b",", b",", b"\n", b"\n", b"0", b"1", b"2", b"int", b"ref,0,0\n", b"0,0,\n", b"int,0\n", b"int,0,0\n"];
+    let mut text = vec![first, b','];
+    for _ in 0..random.below(30) {
+        let scrap = random.pick(&known);
+        text.extend_from_slice(scrap);
+    }
+    text
+}
+
+/// A tree of drawn words with drawn types and maps, all of them in range.
+fn drawn_tree(random: &mut Random) -> Draft {
+    let locations = 1 + random.below(3);
+    let mut draft = Draft { whole: 2, locations, types: vec![Type::Int], maps: Vec::new(), steps: Vec::new() };
+    for _ in 0..3 {
+        let mut map = Map::default();
+        map[..locations].fill_with(|| random.between(0, 2));
+        draft.maps.push(map);
+    }
+    for own in 1..4 {
+        let map = random.below(3);
+        let cell = Type::Ref { location: random.below(locations), content: random.below(own) };
+        draft.types.push(random.pick(&[Type::Int, cell, Type::Lock(map), Type::Tid(map)]));
+    }
+    let mut open = 1;
+    while open > 0 && draft.steps.len() < 256 {
+        let step = drawn_step(random, open);
+        open = open - 1 + step.word.parts();
+        draft.steps.push(step);
+    }
+    if random.percent(10) {
+        draft.steps.pop();
+    }
+    draft
+}
+
+fn drawn_step(random: &mut Random, open: usize) -> Step {
+    let word = if open > 4 { random.pick(&[Word::Int, Word::Var]) } else { random.pick(&WORDS) };
+    let number = match word {
+        Word::Var | Word::Let => random.between(0, 5),
+        Word::Int => random.between(0, 9),
+        _ => 0,
+    };
+    let start = (word == Word::Spawn && random.percent(80)).then(|| random.below(3));
+    Step { word, number, kind: random.below(4), post: random.below(3), start }
+}

@@ -1,0 +1,12 @@
+//! Evidence beside the proofs: a second checker, drawn pairs of sheets, an interpreter of the
+//! language's steps, and the call of the product that they are compared with.
+//! "Document 01" in the comments is the specification of the two sheets and their answers.
+
+pub mod answer;
+pub mod comparison;
+pub mod draw;
+pub mod known;
+pub mod product;
+pub mod second;
+pub mod steps;
+pub mod words;

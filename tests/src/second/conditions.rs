@@ -1,0 +1,270 @@
+//! Map 0 (refusal 30) and the conditions of Figure 5 (refusals 31 to 33).
+
+use super::program::{line_of, Step};
+use super::split::{Split, Type};
+use crate::answer::{Returned, STEPS};
+use crate::words::Word;
+
+/// The first false condition, by step line and then by number.
+pub fn check(steps: &[Step], split: &Split) -> Result<(), Returned> {
+    if let Some(location) = split.map(0).iter().position(|&number| number > split.whole) {
+        return Err(Returned { number: 30, line: 2, condition: 0, location: location as u32 });
+    }
+    // The map before each step. A step's parts come after it, so each entry is set in time.
+    let mut pres = [0; STEPS as usize];
+    for step in 0..steps.len() {
+        hand_on(steps, split, &mut pres, step);
+        let judge = Judge { steps, split, step, pre: pres[step] };
+        judge.conditions().map_err(|broken| broken.at(step))?;
+    }
+    Ok(())
+}
+
+/// Sets the map before each part of a step.
+fn hand_on(steps: &[Step], split: &Split, pres: &mut [usize; STEPS as usize], step: usize) {
+    let Step { word, second, .. } = steps[step];
+    let (first, pre) = (step + 1, pres[step]);
+    match word {
+        Word::Let | Word::Write => {
+            pres[first] = pre;
+            pres[second] = split.marks[first].post;
+        }
+        Word::If => {
+            pres[first] = pre;
+            pres[second] = pre;
+        }
+        Word::Spawn => {
+            pres[first] = pre;
+            pres[second] = split.marks[step].start;
+        }
+        Word::While => pres[first] = split.marks[step].post,
+        _ if word.parts() == 1 => pres[first] = pre,
+        _ => {}
+    }
+}
+
+/// A false condition of some step.
+struct Broken {
+    number: u32,
+    condition: u32,
+    location: usize,
+}
+
+impl Broken {
+    fn at(self, step: usize) -> Returned {
+        let Broken { number, condition, location } = self;
+        Returned { number, line: line_of(step), condition, location: location as u32 }
+    }
+}
+
+type Judged = Result<(), Broken>;
+
+/// One step with the map before it.
+struct Judge<'a> {
+    steps: &'a [Step],
+    split: &'a Split,
+    step: usize,
+    pre: usize,
+}
+
+impl Judge<'_> {
+    /// The rows of document 01's table.
+    fn conditions(&self) -> Judged {
+        match self.steps[self.step].word {
+            Word::Var => self.var(),
+            Word::Int => self.int(),
+            Word::Let => self.binding(),
+            Word::If => self.branch(),
+            Word::While => self.repeat(),
+            Word::Newtid => self.newtid(),
+            Word::Spawn => self.spawn(),
+            Word::Join => self.join(),
+            Word::Ref => self.new_cell(),
+            Word::Read => self.read(),
+            Word::Write => self.write(),
+            Word::Newlock => self.newlock(),
+            Word::Lock | Word::Freelock => self.take(),
+            Word::Unlock => self.unlock(),
+        }
+    }
+
+    fn var(&self) -> Judged {
+        let bound = self.steps[self.step].binder + 1;
+        holds(1, self.own() == self.kind(bound))?;
+        self.equal(2, self.post(self.step), self.pre)
+    }
+
+    fn int(&self) -> Judged {
+        self.is_int(1)?;
+        self.equal(2, self.post(self.step), self.pre)
+    }
+
+    fn binding(&self) -> Judged {
+        holds(1, self.own() == self.kind(self.e2()))?;
+        self.equal(2, self.post(self.step), self.post(self.e2()))
+    }
+
+    fn branch(&self) -> Judged {
+        holds(1, self.own() == self.kind(self.e1()))?;
+        holds(2, self.own() == self.kind(self.e2()))?;
+        self.at_least(3, self.post(self.e1()), self.post(self.step))?;
+        self.at_least(4, self.post(self.e2()), self.post(self.step))
+    }
+
+    fn repeat(&self) -> Judged {
+        self.is_int(1)?;
+        self.at_least(2, self.pre, self.post(self.step))?;
+        self.at_least(3, self.post(self.e1()), self.post(self.step))
+    }
+
+    fn newtid(&self) -> Judged {
+        self.tid(1, self.step)?;
+        self.equal(2, self.post(self.step), self.pre)
+    }
+
+    fn spawn(&self) -> Judged {
+        self.is_int(1)?;
+        let given_back = self.tid(2, self.e1())?;
+        self.at_least(3, self.post(self.e2()), given_back)?;
+        let start = self.split.marks[self.step].start;
+        self.sum(4, self.post(self.step), start, self.post(self.e1()))
+    }
+
+    fn join(&self) -> Judged {
+        self.is_int(1)?;
+        let given_back = self.tid(2, self.e1())?;
+        self.sum(3, self.post(self.e1()), given_back, self.post(self.step))
+    }
+
+    fn new_cell(&self) -> Judged {
+        let (_, content) = self.cell(1, self.step)?;
+        holds(1, content == self.kind(self.e1()))?;
+        self.equal(2, self.post(self.step), self.post(self.e1()))
+    }
+
+    fn read(&self) -> Judged {
+        let (location, content) = self.cell(1, self.e1())?;
+        holds(2, self.own() == content)?;
+        self.equal(3, self.post(self.step), self.post(self.e1()))?;
+        self.access(4, location, 1)
+    }
+
+    fn write(&self) -> Judged {
+        self.is_int(1)?;
+        let (location, content) = self.cell(2, self.e1())?;
+        holds(3, self.kind(self.e2()) == content)?;
+        self.equal(4, self.post(self.step), self.post(self.e2()))?;
+        self.access(5, location, self.split.whole)
+    }
+
+    fn newlock(&self) -> Judged {
+        let carried = self.lock(1, self.step)?;
+        self.sum(2, self.post(self.step), carried, self.pre)
+    }
+
+    fn take(&self) -> Judged {
+        self.is_int(1)?;
+        let carried = self.lock(2, self.e1())?;
+        self.sum(3, self.post(self.e1()), carried, self.post(self.step))
+    }
+
+    fn unlock(&self) -> Judged {
+        self.is_int(1)?;
+        let carried = self.lock(2, self.e1())?;
+        self.sum(3, self.post(self.step), carried, self.post(self.e1()))
+    }
+
+    fn e1(&self) -> usize {
+        self.step + 1
+    }
+
+    fn e2(&self) -> usize {
+        self.steps[self.step].second
+    }
+
+    /// The type of the step itself.
+    fn own(&self) -> usize {
+        self.kind(self.step)
+    }
+
+    fn kind(&self, step: usize) -> usize {
+        self.split.marks[step].kind
+    }
+
+    fn post(&self, step: usize) -> usize {
+        self.split.marks[step].post
+    }
+
+    fn is_int(&self, condition: u32) -> Judged {
+        holds(condition, matches!(self.split.types[self.own()], Type::Int))
+    }
+
+    /// The location and the content type of a step that must be a cell.
+    fn cell(&self, condition: u32, step: usize) -> Result<(usize, usize), Broken> {
+        match self.split.types[self.kind(step)] {
+            Type::Ref { location, content } => Ok((location, content)),
+            _ => broken(31, condition, 0),
+        }
+    }
+
+    /// The map of a step that must be a lock.
+    fn lock(&self, condition: u32, step: usize) -> Result<usize, Broken> {
+        match self.split.types[self.kind(step)] {
+            Type::Lock(map) => Ok(map),
+            _ => broken(31, condition, 0),
+        }
+    }
+
+    /// The map of a step that must be a thread identifier.
+    fn tid(&self, condition: u32, step: usize) -> Result<usize, Broken> {
+        match self.split.types[self.kind(step)] {
+            Type::Tid(map) => Ok(map),
+            _ => broken(31, condition, 0),
+        }
+    }
+
+    fn equal(&self, condition: u32, left: usize, right: usize) -> Judged {
+        let pairs = self.split.map(left).iter().zip(self.split.map(right));
+        flows(condition, pairs.map(|(left, right)| left == right))
+    }
+
+    fn at_least(&self, condition: u32, greater: usize, less: usize) -> Judged {
+        let pairs = self.split.map(greater).iter().zip(self.split.map(less));
+        flows(condition, pairs.map(|(greater, less)| greater >= less))
+    }
+
+    /// left + right = total. Numbers stay under 2,000,001, so nothing overflows.
+    fn sum(&self, condition: u32, left: usize, right: usize, total: usize) -> Judged {
+        let pairs = self.split.map(left).iter().zip(self.split.map(right));
+        flows(condition, pairs.zip(self.split.map(total)).map(|((left, right), total)| left + right == *total))
+    }
+
+    /// The post has at least this much of the location.
+    fn access(&self, condition: u32, location: usize, wanted: u32) -> Judged {
+        if self.split.map(self.post(self.step))[location] >= wanted {
+            return Ok(());
+        }
+        broken(33, condition, location)
+    }
+}
+
+fn broken<T>(number: u32, condition: u32, location: usize) -> Result<T, Broken> {
+    Err(Broken { number, condition, location })
+}
+
+/// A condition on types.
+fn holds(condition: u32, yes: bool) -> Judged {
+    if yes {
+        Ok(())
+    } else {
+        broken(31, condition, 0)
+    }
+}
+
+/// A condition on maps, judged location by location; the lowest false one is reported.
+fn flows(condition: u32, mut locations: impl Iterator<Item = bool>) -> Judged {
+    match locations.position(|yes| !yes) {
+        None => Ok(()),
+        Some(location) => broken(32, condition, location),
+    }
+}

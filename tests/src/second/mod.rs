@@ -1,0 +1,36 @@
+//! The second checker, written from document 01 alone.
+
+mod conditions;
+#[cfg(test)]
+mod known_pairs;
+mod program;
+mod split;
+mod text;
+
+use crate::answer::{Returned, PROGRAM_BYTES, SPLIT_BYTES, WORK_SPACE};
+
+/// Judges a pair of sheets. `room` is the length of the work space in 32-bit numbers.
+pub fn check(program: &[u8], split: &[u8], room: usize) -> Returned {
+    match first_refusal(program, split, room) {
+        Ok(()) => Returned::ACCEPT,
+        Err(refusal) => refusal,
+    }
+}
+
+fn first_refusal(program: &[u8], split: &[u8], room: usize) -> Result<(), Returned> {
+    at_most(1, WORK_SPACE, room)?;
+    at_most(10, program.len(), PROGRAM_BYTES)?;
+    let steps = program::read(program)?;
+    at_most(20, split.len(), SPLIT_BYTES)?;
+    let split = split::read(split, &steps)?;
+    conditions::check(&steps, &split)
+}
+
+/// Refuses with `number` and no line when `length` is over `limit`.
+fn at_most(number: u32, length: usize, limit: usize) -> Result<(), Returned> {
+    if length <= limit {
+        Ok(())
+    } else {
+        Err(Returned::at_line(number, 0))
+    }
+}

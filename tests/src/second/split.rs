@@ -1,0 +1,144 @@
+//! The split sheet: types, maps and the three numbers of each step (refusals 21 to 23).
+
+use super::program::Step;
+use super::text::Text;
+use crate::answer::{Returned, LOCATIONS, MAPS, TYPES, WHOLE};
+use crate::words::Word;
+
+/// A type line. Locations, types and maps are held as indices.
+#[derive(Clone, Copy)]
+pub enum Type {
+    Int,
+    Ref { location: usize, content: usize },
+    Lock(usize),
+    Tid(usize),
+}
+
+/// A step's line: its type, its map afterwards, and the map that a spawned body starts with.
+#[derive(Clone, Copy)]
+pub struct Mark {
+    pub kind: usize,
+    pub post: usize,
+    pub start: usize,
+}
+
+pub struct Split {
+    pub whole: u32,
+    pub locations: usize,
+    pub types: Vec<Type>,
+    pub marks: Vec<Mark>,
+    /// The maps one after the other, each of `locations` numbers.
+    numbers: Vec<u32>,
+}
+
+impl Split {
+    /// The numbers of a map, one for each location.
+    pub fn map(&self, map: usize) -> &[u32] {
+        &self.numbers[map * self.locations..][..self.locations]
+    }
+}
+
+struct Head {
+    whole: u32,
+    locations: u32,
+    types: u32,
+    maps: u32,
+}
+
+/// Reads the whole sheet beside the steps of its program.
+pub fn read(split: &[u8], steps: &[Step]) -> Result<Split, Returned> {
+    let mut text = Text::new(split, 20);
+    let head = read_head(&mut text)?;
+    let types = read_types(&mut text, &head)?;
+    let numbers = read_maps(&mut text, &head)?;
+    let marks = read_marks(&mut text, &head, steps)?;
+    text.end()?;
+    Ok(Split { whole: head.whole, locations: head.locations as usize, types, marks, numbers })
+}
+
+fn read_head(text: &mut Text) -> Result<Head, Returned> {
+    let head = text.line(|line| {
+        line.byte(b'C')?;
+        Some(Head {
+            whole: line.next_numeral()?,
+            locations: line.next_numeral()?,
+            types: line.next_numeral()?,
+            maps: line.next_numeral()?,
+        })
+    })?;
+    text.in_range((1..=WHOLE).contains(&head.whole))?;
+    text.in_range((1..=LOCATIONS).contains(&head.locations))?;
+    text.in_range((1..=TYPES).contains(&head.types))?;
+    text.in_range((1..=MAPS).contains(&head.maps))?;
+    Ok(head)
+}
+
+fn read_types(text: &mut Text, head: &Head) -> Result<Vec<Type>, Returned> {
+    let mut types = Vec::with_capacity(head.types as usize);
+    for own in 0..head.types {
+        types.push(read_type(text, head, own)?);
+    }
+    Ok(types)
+}
+
+/// Reads the line of type number `own`. An unknown word has the wrong form, as in the program.
+fn read_type(text: &mut Text, head: &Head, own: u32) -> Result<Type, Returned> {
+    let (word, first, second) = text.line(|line| {
+        let word = line.letters();
+        let known: [&[u8]; 4] = [b"int", b"ref", b"lock", b"tid"];
+        let fields = (word, line.next_numeral()?, line.next_numeral()?);
+        known.contains(&word).then_some(fields)
+    })?;
+    let (firsts, seconds) = match word {
+        b"int" => (1, 1),
+        b"ref" => (head.locations, own),
+        _ => (head.maps, 1),
+    };
+    text.in_range(first < firsts && second < seconds)?;
+    let (first, second) = (first as usize, second as usize);
+    Ok(match word {
+        b"int" => Type::Int,
+        b"ref" => Type::Ref { location: first, content: second },
+        b"lock" => Type::Lock(first),
+        _ => Type::Tid(first),
+    })
+}
+
+fn read_maps(text: &mut Text, head: &Head) -> Result<Vec<u32>, Returned> {
+    let mut numbers = Vec::with_capacity((head.maps * head.locations) as usize);
+    for _ in 0..head.maps {
+        read_map(text, head, &mut numbers)?;
+    }
+    Ok(numbers)
+}
+
+/// Reads one map line. Its form is judged as a whole before its numbers are.
+fn read_map(text: &mut Text, head: &Head, numbers: &mut Vec<u32>) -> Result<(), Returned> {
+    let mut greatest = 0;
+    text.line(|line| {
+        for location in 0..head.locations {
+            if location > 0 {
+                line.byte(b',')?;
+            }
+            let number = line.numeral()?;
+            greatest = greatest.max(number);
+            numbers.push(number);
+        }
+        Some(())
+    })?;
+    text.in_range(greatest <= WHOLE)
+}
+
+fn read_marks(text: &mut Text, head: &Head, steps: &[Step]) -> Result<Vec<Mark>, Returned> {
+    let mut marks = Vec::with_capacity(steps.len());
+    for step in steps {
+        let fields = |line: &mut Text| Some((line.numeral()?, line.next_numeral()?, line.next_numeral_or_empty()?));
+        let (kind, post, start) = text.line(fields)?;
+        text.in_range(kind < head.types && post < head.maps)?;
+        text.in_range(start.is_none() || step.word == Word::Spawn)?;
+        let start = start.unwrap_or(0);
+        text.in_range(start < head.maps)?;
+        marks.push(Mark { kind: kind as usize, post: post as usize, start: start as usize });
+    }
+    Ok(marks)
+}

@@ -1,0 +1,110 @@
+//! Expressions as they are evaluated: the words of the program sheet, with values among them.
+
+use crate::words::Word;
+use std::rc::Rc;
+
+pub type Name = u32;
+
+/// A constant or a name. A name is used for one thing only, so it carries that thing's kind.
+#[derive(Clone, Copy, Debug, PartialEq, Eq, Hash, PartialOrd, Ord)]
+pub enum Value {
+    Constant(u32),
+    Cell(Name),
+    Lock(Name),
+    Identifier(Name),
+}
+
+#[derive(Debug, PartialEq, Eq, Hash)]
+pub enum Expression {
+    Value(Value),
+    Var(u32),
+    /// Any other word. The variable is the one that a `let` binds, and 0 elsewhere.
+    Step {
+        word: Word,
+        variable: u32,
+        parts: Vec<Rc<Expression>>,
+    },
+}
+
+/// The variable of an unrolled loop's `let`, which no program uses.
+pub const USED_NOWHERE: u32 = 256;
+
+use Expression::{Step, Var};
+
+impl Expression {
+    /// The expression that a well formed program sheet lists.
+    pub fn listed(program: &[u8]) -> Option<Rc<Expression>> {
+        let text = std::str::from_utf8(program).ok()?;
+        read_step(&mut text.lines().skip(1))
+    }
+
+    pub fn constant(number: u32) -> Rc<Expression> {
+        Rc::new(Expression::Value(Value::Constant(number)))
+    }
+
+    pub fn value(&self) -> Option<Value> {
+        match self {
+            Expression::Value(value) => Some(*value),
+            _ => None,
+        }
+    }
+
+    /// The part that is evaluated next, of those that must be values before the word reduces.
+    fn open_part(&self) -> Option<usize> {
+        let Step { word, parts, .. } = self else { return None };
+        let strict = match word {
+            Word::If | Word::While => 0,
+            Word::Let | Word::Spawn => 1,
+            _ => parts.len(),
+        };
+        parts[..strict].iter().position(|part| part.value().is_none())
+    }
+
+    /// The next word of an expression that is no value.
+    pub fn next_word(&self) -> &Expression {
+        match (self, self.open_part()) {
+            (Step { parts, .. }, Some(part)) => parts[part].next_word(),
+            _ => self,
+        }
+    }
+
+    /// The same expression with something else in place of its next word.
+    pub fn with_next_word(&self, replacement: Rc<Expression>) -> Rc<Expression> {
+        let (Step { word, variable, parts }, Some(part)) = (self, self.open_part()) else { return replacement };
+        let mut parts = parts.clone();
+        parts[part] = parts[part].with_next_word(replacement);
+        Rc::new(Step { word: *word, variable: *variable, parts })
+    }
+
+    /// The expression with a value put for a variable.
+    pub fn put(self: &Rc<Expression>, variable: u32, value: Value) -> Rc<Expression> {
+        match &**self {
+            Expression::Value(_) => self.clone(),
+            Var(known) if *known == variable => Rc::new(Expression::Value(value)),
+            Var(_) => self.clone(),
+            Step { word, variable: bound, parts } => {
+                let parts = parts.iter().map(|part| part.put(variable, value)).collect();
+                Rc::new(Step { word: *word, variable: *bound, parts })
+            }
+        }
+    }
+
+    /// What a loop becomes: an `if` of the part and then the same loop, or 0.
+    pub fn unrolled(part: &Rc<Expression>) -> Rc<Expression> {
+        let again = Rc::new(Step { word: Word::While, variable: 0, parts: vec![part.clone()] });
+        let once = Step { word: Word::Let, variable: USED_NOWHERE, parts: vec![part.clone(), again] };
+        let parts = vec![Rc::new(once), Expression::constant(0)];
+        Rc::new(Step { word: Word::If, variable: 0, parts })
+    }
+}
+
+fn read_step<'a>(lines: &mut impl Iterator<Item = &'a str>) -> Option<Rc<Expression>> {
+    let (word, number) = lines.next()?.split_once(',')?;
+    let (word, number) = (Word::spelled(word.as_bytes())?, number.parse().ok()?);
+    let parts = (0..word.parts()).map(|_| read_step(lines)).collect::<Option<Vec<_>>>()?;
+    Some(Rc::new(match word {
+        Word::Var => Var(number),
+        Word::Int => Expression::Value(Value::Constant(number)),
+        _ => Step { word, variable: number, parts },
+    }))
+}

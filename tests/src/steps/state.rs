@@ -1,0 +1,150 @@
+//! States, moves and reductions, after "The steps, from Figures 3 and 4".
+
+use super::expression::{Expression, Name, Value};
+use crate::words::Word;
+use std::collections::{BTreeMap, BTreeSet};
+use std::rc::Rc;
+
+#[derive(Clone, Copy, Debug, PartialEq, Eq, Hash)]
+pub enum LockState {
+    Open,
+    Closed,
+    Removed,
+}
+
+#[derive(Clone, Debug, PartialEq, Eq, Hash)]
+pub struct Thread {
+    pub identifier: Name,
+    pub expression: Rc<Expression>,
+}
+
+impl Thread {
+    pub fn finished(&self) -> bool {
+        self.expression.value().is_some()
+    }
+}
+
+/// Threads in spawn order, cells, locks and identifiers. The names used so far are the cells', the
+/// locks' and the identifiers'; a removed lock stays listed, so its name stays used.
+#[derive(Clone, Debug, PartialEq, Eq, Hash)]
+pub struct State {
+    pub threads: Vec<Thread>,
+    pub cells: BTreeMap<Name, Value>,
+    pub locks: BTreeMap<Name, LockState>,
+    pub identifiers: BTreeSet<Name>,
+}
+
+/// What a scheduler decides: the thread, the part for an `if`, the finished thread for a `join`
+/// and the name for a new thing.
+#[derive(Clone, Copy, Debug, PartialEq, Eq)]
+pub struct Move {
+    pub thread: usize,
+    pub part: usize,
+    pub finished: usize,
+    pub name: Name,
+}
+
+impl State {
+    /// One thread, its identifier the one name used so far.
+    pub fn start(program: Rc<Expression>) -> State {
+        State {
+            threads: vec![Thread { identifier: 0, expression: program }],
+            cells: BTreeMap::new(),
+            locks: BTreeMap::new(),
+            identifiers: BTreeSet::from([0]),
+        }
+    }
+
+    fn unused(&self, name: Name) -> bool {
+        !self.cells.contains_key(&name) && !self.locks.contains_key(&name) && !self.identifiers.contains(&name)
+    }
+
+    /// A name never used before. Names are given out from 0 upward, so their count is the next.
+    pub fn new_name(&self) -> Name {
+        let next = (self.cells.len() + self.locks.len() + self.identifiers.len()) as Name;
+        (next..).find(|&name| self.unused(name)).expect("names never run out")
+    }
+
+    /// The moves of one thread that could be reductions, up to the choice of a new name.
+    pub fn moves(&self, thread: usize) -> Vec<Move> {
+        let plain = Move { thread, part: 0, finished: 0, name: self.new_name() };
+        match self.threads[thread].expression.next_word() {
+            Expression::Step { word: Word::If, .. } => (0..2).map(|part| Move { part, ..plain }).collect(),
+            Expression::Step { word: Word::Join, .. } => {
+                (0..self.threads.len()).map(|finished| Move { finished, ..plain }).collect()
+            }
+            _ => vec![plain],
+        }
+    }
+
+    /// The state after a move, if the move is a reduction.
+    pub fn reduced(&self, step: Move) -> Option<State> {
+        let thread = self.threads.get(step.thread)?;
+        let Expression::Step { word, variable, parts } = thread.expression.next_word() else { return None };
+        let mut next = self.clone();
+        let result = match word {
+            Word::Let => parts[1].put(*variable, parts[0].value()?),
+            Word::If => parts.get(step.part)?.clone(),
+            Word::While => Expression::unrolled(&parts[0]),
+            _ => {
+                let operands: Vec<Value> = parts.iter().map_while(|part| part.value()).collect();
+                let value = next.act(*word, &operands, parts.last(), step)?;
+                Rc::new(Expression::Value(value))
+            }
+        };
+        next.threads[step.thread].expression = thread.expression.with_next_word(result);
+        if *word == Word::Join {
+            next.threads.remove(step.finished);
+        }
+        Some(next)
+    }
+
+    /// A word that acts on the state, and the value that it becomes.
+    fn act(&mut self, word: Word, operands: &[Value], body: Option<&Rc<Expression>>, step: Move) -> Option<Value> {
+        match (word, operands) {
+            (Word::Newtid | Word::Ref | Word::Newlock, _) => return self.create(word, operands, step.name),
+            (Word::Read, [Value::Cell(cell)]) => return self.cells.get(cell).copied(),
+            (Word::Write, [Value::Cell(cell), value]) => drop(self.cells.insert(*cell, *value)),
+            (Word::Spawn, [Value::Identifier(identifier), ..]) => {
+                self.threads.push(Thread { identifier: *identifier, expression: body?.clone() });
+            }
+            (Word::Join, [Value::Identifier(identifier)]) => {
+                let listed = self.threads.get(step.finished)?;
+                (listed.finished() && listed.identifier == *identifier).then_some(())?;
+            }
+            (Word::Lock, [Value::Lock(lock)]) => self.change_open_lock(*lock, LockState::Closed)?,
+            (Word::Freelock, [Value::Lock(lock)]) => self.change_open_lock(*lock, LockState::Removed)?,
+            (Word::Unlock, [Value::Lock(lock)]) => drop(self.locks.insert(*lock, LockState::Open)),
+            _ => return None,
+        }
+        Some(Value::Constant(0))
+    }
+
+    /// A new identifier, cell or lock under an unused name.
+    fn create(&mut self, word: Word, operands: &[Value], name: Name) -> Option<Value> {
+        if !self.unused(name) {
+            return None;
+        }
+        match (word, operands) {
+            (Word::Newtid, []) => {
+                self.identifiers.insert(name);
+                Some(Value::Identifier(name))
+            }
+            (Word::Ref, [value]) => {
+                self.cells.insert(name, *value);
+                Some(Value::Cell(name))
+            }
+            (Word::Newlock, []) => {
+                self.locks.insert(name, LockState::Open);
+                Some(Value::Lock(name))
+            }
+            _ => None,
+        }
+    }
+
+    /// `lock` and `freelock` wait unless the lock is open.
+    fn change_open_lock(&mut self, lock: Name, to: LockState) -> Option<()> {
+        let known = self.locks.get_mut(&lock)?;
+        (*known == LockState::Open).then(|| *known = to)
+    }
+}
