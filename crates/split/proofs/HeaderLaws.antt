@@ -2,7 +2,7 @@
 use mathlib.Core.Path.{_≡_, refl, sym, ap, _∙_}
 use mathlib.Core.List.{List, [], _∷_}
 use mathlib.Core.Bool.{Bool, true, false, _&&_}
-use mathlib.Core.Option.{none, some}
+use mathlib.Core.Option.{none}
 use Prim.Native.Nat.{ℕ, _+_, _≤_, _<_}
 use native.Mathlib.Omega.{arith}
 use lib.Dec.{leb}
@@ -25,7 +25,7 @@ use Rattle.split.specs.Lines.{headerTold, headerRanges, headerNumbers}
 use Rattle.split.specs.Answers.{Small}
 use Rattle.lexer.proofs.Sheets.{next-at}
 use Rattle.lexer.proofs.LineEnds.{LineRead}
-use Rattle.split.proofs.LineLaws.{shows-range, shows-entry, comma-line, comma-placed, comma-kept}
+use Rattle.split.proofs.LineLaws.{shows-range, shows-entry, comma-line, comma-kept}
 
 -- ------------------------------------------------------------------ the numbers
 

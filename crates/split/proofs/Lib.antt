@@ -2,6 +2,7 @@ pub mod Turns
 pub mod Tests
 pub mod FieldLaws
 pub mod LineLaws
+pub mod FieldsInTurn
 pub mod HeaderLaws
 pub mod TypeLaws
 pub mod MapLaws

@@ -1,8 +1,8 @@
 -- Map lines: as many numerals as there are locations, each in its range.
 use mathlib.Core.Path.{_≡_, refl, sym, ap, _∙_}
-use mathlib.Core.List.{List, [], _∷_}
+use mathlib.Core.List.{List}
 use mathlib.Core.Bool.{Bool, true, false, _&&_}
-use mathlib.Core.Option.{none, some}
+use mathlib.Core.Option.{none}
 use Prim.Native.Nat.{ℕ, suc, _+_, _-_, _≤_, _<_}
 use native.Mathlib.Numerals.{add-one}
 use native.Mathlib.Omega.{arith}
@@ -11,7 +11,7 @@ use lib.Seq.{drop-cons}
 use borrow.Author.Tests.{le-leb, lt-leb}
 use Rattle.spec.specs.Choice.{if_then_else_}
 use Rattle.spec.specs.Text.{Field, lines}
-use Rattle.spec.specs.Reading.{splitSheet, stop, on, Seen, right, badRange, _to_, inRange, allInRange, numbers, form, next}
+use Rattle.spec.specs.Reading.{splitSheet, stop, on, right, badRange, _to_, inRange, allInRange, numbers, form, next}
 use Rattle.spec.specs.declared.Refusal.the-variants.{SplitForm, SplitRange}
 use Rattle.lexer.specs.Cursors.{rest, placeAt}
 use Rattle.lexer.specs.Numbers.{numbersAt}

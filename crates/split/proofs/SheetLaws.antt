@@ -2,23 +2,16 @@
 use mathlib.Core.Path.{_≡_, refl, sym, ap, subst, _∙_}
 use mathlib.Core.Logic.{inl, inr}
 use mathlib.Core.List.{List, [], _∷_, map}
-use mathlib.Core.Bool.{Bool, true, false}
-use Prim.Native.Nat.{ℕ, zero, suc, _+_, _*_, _≤_, _<_}
+use Prim.Native.Nat.{ℕ, zero, suc, _+_, _≤_, _<_}
 use native.Mathlib.Omega.{arith}
 use lib.ListN.{length, getD, replicate, length-map}
-use Rattle.spec.specs.Text.{lines}
-use Rattle.spec.specs.Reading.{splitSheet, Out, stop, on, _>>=_, Place, form, next, nextAll, begin, end}
+use Rattle.spec.specs.Reading.{splitSheet, Out, _>>=_, Place, nextAll, end}
 use Rattle.spec.specs.Expression.{Step}
-use Rattle.spec.specs.Split.{Map, Header, Row, Split, headerLine, typeLines, mapLine, rowLine, split}
+use Rattle.spec.specs.Split.{Map, Header, Row, Split, typeLines, mapLine, rowLine}
 use Rattle.spec.specs.declared.Refusal.{Refusal}
-use Rattle.spec.specs.declared.Refusal.the-variants.{SplitForm}
 use Rattle.spec.specs.declared.TypeLine.{TypeLine}
-use Rattle.spec.specs.declared.Word.{Word}
-use Rattle.lexer.specs.Views.{nothing}
-use Rattle.lexer.specs.Cursors.{Placed, start, rest, placeAt}
+use Rattle.lexer.specs.Cursors.{Placed, placeAt}
 use Rattle.lexer.specs.declared.Cursor.{Cursor}
-use Rattle.lexer.proofs.Lines.{begin-empty, begin-some}
-use Rattle.lexer.proofs.Walks.{start-rest, left-none, left-some}
 use Rattle.workspace.specs.Layout.{wordsAt, valuesAt, codeOf, wordOf}
 use Rattle.workspace.specs.Region.{Region, ChangedWithin}
 use Rattle.workspace.specs.Holds.{HoldsSteps, HoldsSplit}
@@ -29,7 +22,7 @@ use Rattle.split.specs.declared.LinesRead.{LinesRead}
 use Rattle.split.specs.declared.LinesRead.the-variants as lines-read
 use Rattle.split.specs.Lines.{headerTold}
 use Rattle.split.specs.Answers.{Small}
-use Rattle.split.specs.Stored.{Columns, HoldsTypes, HoldsRows, HoldsMaps, LinesAnswer, LinesStored, stepAt, stepsFrom}
+use Rattle.split.specs.Stored.{HoldsTypes, HoldsRows, HoldsMaps, LinesAnswer, LinesStored, stepAt, stepsFrom}
 use Rattle.split.specs.Sheet.{body, EndAnswer, BodyAnswer, BodyRead}
 
 -- ------------------------------------------------------------------ the steps in the work space

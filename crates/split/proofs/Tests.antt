@@ -1,20 +1,17 @@
 -- The code's tests of numbers, as ranges.
-use mathlib.Core.Path.{_≡_, refl, sym, ap, _∙_}
+use mathlib.Core.Path.{_≡_, refl, sym, _∙_}
 use mathlib.Core.List.{List, [], _∷_}
 use mathlib.Core.Bool.{Bool, true, false, _&&_, not}
 use Prim.Native.Nat.{ℕ, _≤_, _<_}
 use native.Mathlib.Omega.{arith}
-use lib.Dec.{leb, ltb}
+use lib.Dec.{ltb}
 use borrow.Author.Tests.{le-leb, lt-leb, lt-ltb, le-ltb}
-use Rattle.spec.specs.Choice.{if_then_else_}
-use Rattle.spec.specs.Reading.{Seen, right, badForm, badRange, Range, _to_, below, inRange, allInRange}
+use Rattle.spec.specs.Reading.{Seen, Range, _to_, below, inRange, allInRange}
 use Rattle.spec.specs.Split.{Header, refOf, lockOf, tidOf}
 use Rattle.spec.specs.declared.TypeLine.{TypeLine}
 use Rattle.spec.specs.declared.TypeLine.the-variants as type-line
-use Rattle.lexer.specs.declared.Cursor.{Cursor}
 use Rattle.lexer.specs.declared.TypeWord.{TypeWord}
 use Rattle.lexer.specs.declared.TypeWord.the-variants as kind
-use Rattle.split.specs.declared.TypeSeen.{TypeSeen}
 use Rattle.split.specs.declared.TypeSeen.the-variants as type-seen
 use Rattle.split.specs.Lines.{rangedType, typeSeen, typeSeenOf}
 

@@ -2,8 +2,8 @@
 use mathlib.Core.Path.{_≡_}
 use mathlib.Core.Logic.{_⊎_}
 use mathlib.Core.List.{List, []}
-use mathlib.Core.Option.{Option, none, some}
-use Prim.Native.Nat.{ℕ, _≤_, _<_, _-_, _+_}
+use mathlib.Core.Option.{none, some}
+use Prim.Native.Nat.{ℕ, _≤_, _-_}
 use lib.ListN.{length, take, drop}
 use Rattle.spec.specs.Text.{numeral}
 use Rattle.spec.specs.Reading.{Out, stop, on, Place}
@@ -12,7 +12,7 @@ use Rattle.spec.specs.declared.TypeLine.{TypeLine}
 use Rattle.lexer.specs.Views.{endOf, firstField}
 use Rattle.lexer.specs.Cursors.{Placed, rest, next, placeAt}
 use Rattle.lexer.specs.declared.Cursor.{Cursor}
-use Rattle.lexer.specs.declared.FieldEnd.the-variants.{Comma, Newline, Text}
+use Rattle.lexer.specs.declared.FieldEnd.the-variants.{Comma, Newline}
 use Rattle.split.specs.declared.Header.{Header as HeaderRead}
 use Rattle.split.specs.declared.HeaderLine.{HeaderLine}
 use Rattle.split.specs.declared.HeaderLine.the-variants as header-line

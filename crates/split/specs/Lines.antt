@@ -1,8 +1,7 @@
 -- The lines of a split sheet at a cursor, as their readers see them.
 use mathlib.Core.List.{List, [], _∷_}
-use mathlib.Core.Bool.{Bool, true, false}
-use Prim.Native.Nat.{ℕ, _<_, _≤_}
-use lib.ListN.{replicate, getD}
+use Prim.Native.Nat.{ℕ}
+use lib.ListN.{replicate}
 use Rattle.spec.specs.Choice.{if_then_else_}
 use Rattle.spec.specs.Text.{Field}
 use Rattle.spec.specs.Reading.{Seen, right, badForm, badRange, Range, _to_, below, allInRange, numbers}

@@ -2,17 +2,19 @@
 use mathlib.Core.Path.{_≡_}
 use mathlib.Core.List.{List, [], _∷_, map}
 use Prim.Native.Nat.{ℕ, suc, zero, _+_, _*_, _<_}
-use lib.ListN.{length, getD}
-use Rattle.spec.specs.Reading.{Out, stop, on, Place}
+use lib.ListN.{length, getD, replicate}
+use Rattle.spec.specs.Reading.{splitSheet, Out, stop, on, Place, nextAll}
 use Rattle.spec.specs.Expression.{Step}
-use Rattle.spec.specs.Split.{Map, Row}
+use Rattle.spec.specs.Split.{Map, Row, typeLines, mapLine, rowLine}
 use Rattle.spec.specs.declared.TypeLine.{TypeLine}
 use Rattle.lexer.specs.Cursors.{Placed, placeAt}
 use Rattle.lexer.specs.declared.Cursor.{Cursor}
 use Rattle.workspace.specs.Layout.{wordsAt, valuesAt, rowTypesAt, kindsAt, mapsAt, stride, wordOf, kindOf, firstOf, secondOf}
 use Rattle.workspace.specs.Region.{Region, ChangedWithin}
+use Rattle.split.specs.declared.Header.{Header}
 use Rattle.split.specs.declared.LinesRead.{LinesRead}
 use Rattle.split.specs.declared.LinesRead.the-variants as lines-read
+use Rattle.split.specs.Lines.{headerTold}
 
 -- three numbers of each entry, in three columns with room for so many rows, one behind the other
 pub record Columns {A : Type 0} (f g h : A → ℕ) (b rows : ℕ) (w : List ℕ) (entries : List A) : Type 0 where
@@ -50,3 +52,20 @@ stepAt w k = record { word = wordOf (getD w (wordsAt + k) 0); value = getD w (va
 unfoldable pub stepsFrom : List ℕ → (k n : ℕ) → List Step
 stepsFrom w k zero = []
 stepsFrom w k (suc n) = stepAt w k ∷ stepsFrom w (k + 1) n
+
+-- ------------------------------------------------------------------ what the three loops over lines leave and answer
+
+-- the type lines from a cursor on
+abbrev pub TypesRead : List ℕ → Cursor → Header → (w w′ : List ℕ) → LinesRead → Type 0
+TypesRead text c h w w′ answer =
+    LinesStored 2048 2240 (h .types) HoldsTypes text (nextAll splitSheet (typeLines (headerTold h) 0 (h .types)) (placeAt text c)) w w′ answer
+
+-- the map lines
+abbrev pub MapsRead : List ℕ → Cursor → Header → (w w′ : List ℕ) → LinesRead → Type 0
+MapsRead text c h w w′ answer =
+    LinesStored 4096 16384 (h .maps) (HoldsMaps (h .locations)) text (nextAll splitSheet (replicate (h .maps) (mapLine (headerTold h))) (placeAt text c)) w w′ answer
+
+-- the rows of the first n steps in the work space
+abbrev pub RowsRead : List ℕ → Cursor → Header → (n : ℕ) → (w w′ : List ℕ) → LinesRead → Type 0
+RowsRead text c h n w w′ answer =
+    LinesStored 1024 1792 n HoldsRows text (nextAll splitSheet (map (rowLine (headerTold h)) (stepsFrom w 0 n)) (placeAt text c)) w w′ answer

@@ -22,19 +22,18 @@ use workspace::STARTS;
 use workspace::STRIDE;
 use workspace::WORDS;
 ghost use mathlib.Core.Path.{_≡_};
-ghost use mathlib.Core.List.{[], _∷_, map};
+ghost use mathlib.Core.List.{[], _∷_};
 ghost use mathlib.Core.Bool.{false};
 ghost use Prim.Native.Nat.{_+_, _<_, _≤_};
-ghost use lib.ListN.{length, set, replicate};
-ghost use Rattle.spec.specs.Reading.{splitSheet, _to_, below, inRange, allInRange, next, nextAll, end};
-ghost use Rattle.spec.specs.Split.{headerLine, typeLine, typeLines, mapLine, rowLine};
+ghost use lib.ListN.{length, set};
+ghost use Rattle.spec.specs.Reading.{splitSheet, _to_, below, inRange, allInRange, next, end};
+ghost use Rattle.spec.specs.Split.{headerLine, typeLine};
 ghost use Rattle.lexer.specs.Views.{nothing};
 ghost use Rattle.lexer.specs.Cursors.{rest, placeAt};
 ghost use Rattle.workspace.specs.Layout.{kindOf, firstOf, secondOf};
-ghost use Rattle.workspace.specs.Region.{ChangedWithin};
 ghost use Rattle.split.specs.Lines.{headerTold, headerRanges, headerNumbers, typeSeen, typeSeenOf, cells, cellLine, wordLine, startLimit, rowRanged};
 ghost use Rattle.split.specs.Answers.{Reading, Small, HeadAnswer, LeadingAnswer, StartAnswer, HeaderAnswer, TypeAnswer, MapAnswer, RowAnswer};
-ghost use Rattle.split.specs.Stored.{HoldsTypes, HoldsMaps, HoldsRows, LinesStored, stepsFrom};
+ghost use Rattle.split.specs.Stored.{TypesRead, MapsRead, RowsRead};
 ghost use Rattle.split.specs.Sheet.{EndAnswer, BodyRead, SplitRead};
 
 // The ranges of document 01: numbers of a map and the denominator, and how many locations, types and maps a sheet can have.
@@ -323,7 +322,7 @@ fn store_type(work: &mut [u32], own: usize, t: TypeLine)
 // The type lines, from a cursor on.
 fn read_types(text: &[u8], from: Cursor, header: Header, work: &mut [u32]) -> LinesRead
     requires { ⌜ Reading (now text) from × Small header × (length (now work) ≡ 16384) ⌝ }
-    ensures { λ r. ⌜ LinesStored 2048 2240 (header .types) HoldsTypes (now (text .entry)) (nextAll splitSheet (typeLines (headerTold header) 0 (header .types)) (placeAt (now (text .entry)) from)) (now (work .entry)) (now (work .exit)) r ⌝ }
+    ensures { λ r. ⌜ TypesRead (now (text .entry)) from header (now (work .entry)) (now (work .exit)) r ⌝ }
 {
     let types = header.types;
     let mut cursor = from;
@@ -382,7 +381,7 @@ fn map_line(text: &[u8], cursor: Cursor, into: &mut [u32]) -> LinesRead
 // The map lines, from a cursor on.
 fn read_maps(text: &[u8], from: Cursor, header: Header, work: &mut [u32]) -> LinesRead
     requires { ⌜ Reading (now text) from × Small header × (length (now work) ≡ 16384) ⌝ }
-    ensures { λ r. ⌜ LinesStored 4096 16384 (header .maps) (HoldsMaps (header .locations)) (now (text .entry)) (nextAll splitSheet (replicate (header .maps) (mapLine (headerTold header))) (placeAt (now (text .entry)) from)) (now (work .entry)) (now (work .exit)) r ⌝ }
+    ensures { λ r. ⌜ MapsRead (now (text .entry)) from header (now (work .entry)) (now (work .exit)) r ⌝ }
 {
     let locations = header.locations;
     let maps = header.maps;
@@ -501,7 +500,7 @@ fn store_row(work: &mut [u32], k: usize, row: Row)
 // The rows of the steps whose words the work space holds, from a cursor on.
 fn read_rows(text: &[u8], from: Cursor, header: Header, steps: usize, work: &mut [u32]) -> LinesRead
     requires { ⌜ Reading (now text) from × (steps ≤ 256) × (length (now work) ≡ 16384) ⌝ }
-    ensures { λ r. ⌜ LinesStored 1024 1792 steps HoldsRows (now (text .entry)) (nextAll splitSheet (map (rowLine (headerTold header)) (stepsFrom (now (work .entry)) 0 steps)) (placeAt (now (text .entry)) from)) (now (work .entry)) (now (work .exit)) r ⌝ }
+    ensures { λ r. ⌜ RowsRead (now (text .entry)) from header steps (now (work .entry)) (now (work .exit)) r ⌝ }
 {
     let mut cursor = from;
     let mut k = 0;
