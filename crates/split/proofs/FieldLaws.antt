@@ -20,9 +20,9 @@ use Rattle.lexer.proofs.Numerals.{numeral-value, numeral-none, value-at-cursor}
 use Rattle.lexer.proofs.Places.{span-field, span-le}
 use Rattle.lexer.proofs.Walks.{span-end, span-next}
 use Rattle.split.specs.Answers.{HeadAnswer, LeadingAnswer, StartAnswer}
-use Rattle.split.specs.declared.Head.the-variants as head
-use Rattle.split.specs.declared.Leading.the-variants as leading
-use Rattle.split.specs.declared.Start.the-variants as start
+use Rattle.split.specs.declared.fields.Head.the-variants as head
+use Rattle.split.specs.declared.fields.Leading.the-variants as leading
+use Rattle.split.specs.declared.fields.Start.the-variants as start
 
 -- two ends are not one
 pub ends-apart : {e f : FieldEnd} → e ≡ Comma → f ≡ Newline → e ≡ f → ⊥

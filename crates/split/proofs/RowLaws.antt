@@ -22,11 +22,11 @@ use Rattle.lexer.specs.declared.Cursor.{Cursor}
 use Rattle.lexer.specs.declared.FieldEnd.the-variants.{Newline}
 use Rattle.lexer.proofs.Fields.{line-newline}
 use Rattle.lexer.proofs.Places.{next-rest, next-placed, line-passed}
-use Rattle.split.specs.declared.Row.{Row as RowNumbers}
-use Rattle.split.specs.declared.RowRead.{RowRead}
-use Rattle.split.specs.declared.RowRead.the-variants as row-read
-use Rattle.split.specs.declared.Leading.the-variants as leading
-use Rattle.split.specs.declared.Start.the-variants as start
+use Rattle.split.specs.declared.row_lines.Row.{Row as RowNumbers}
+use Rattle.split.specs.declared.row_lines.RowRead.{RowRead}
+use Rattle.split.specs.declared.row_lines.RowRead.the-variants as row-read
+use Rattle.split.specs.declared.fields.Leading.the-variants as leading
+use Rattle.split.specs.declared.fields.Start.the-variants as start
 use Rattle.split.specs.Lines.{rowTold, wordLine, startLimit, rowRanged}
 use Rattle.split.specs.Answers.{LeadingAnswer, StartAnswer, RowAnswer}
 use Rattle.split.proofs.FieldsInTurn.{shown, behind-field, field-wrong, field-last, field-more, at-cursor}

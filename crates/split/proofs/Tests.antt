@@ -12,7 +12,7 @@ use Rattle.spec.specs.declared.TypeLine.{TypeLine}
 use Rattle.spec.specs.declared.TypeLine.the-variants as type-line
 use Rattle.lexer.specs.declared.TypeWord.{TypeWord}
 use Rattle.lexer.specs.declared.TypeWord.the-variants as kind
-use Rattle.split.specs.declared.TypeSeen.the-variants as type-seen
+use Rattle.split.specs.declared.type_lines.TypeSeen.the-variants as type-seen
 use Rattle.split.specs.Lines.{rangedType, typeSeen, typeSeenOf}
 
 pub untrue : (b : Bool) → not b ≡ true → b ≡ false

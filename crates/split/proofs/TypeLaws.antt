@@ -23,8 +23,8 @@ use Rattle.lexer.specs.declared.TypeWord.{TypeWord}
 use Rattle.lexer.specs.declared.TypeWord.the-variants as kind
 use Rattle.lexer.proofs.Walks.{first-wrong, first-alone}
 use Rattle.lexer.proofs.Ranges.{tail-form, tail-read}
-use Rattle.split.specs.declared.TypeSeen.{TypeSeen}
-use Rattle.split.specs.declared.TypeSeen.the-variants as type-seen
+use Rattle.split.specs.declared.type_lines.TypeSeen.{TypeSeen}
+use Rattle.split.specs.declared.type_lines.TypeSeen.the-variants as type-seen
 use Rattle.split.specs.Lines.{rangedType, typeSeen, typeSeenOf}
 use Rattle.lexer.proofs.TypeLines.{ofKind, type-line as kind-line}
 use Rattle.lexer.proofs.Sheets.{next-at}

@@ -18,8 +18,8 @@ use Rattle.lexer.proofs.Walks.{start-rest, start-placed, left-none, left-some}
 use Rattle.workspace.specs.Holds.{HoldsSteps}
 use Rattle.workspace.proofs.Region.{changed-nothing}
 use Rattle.split.specs.declared.Header.{Header as HeaderRead}
-use Rattle.split.specs.declared.HeaderLine.{HeaderLine}
-use Rattle.split.specs.declared.HeaderLine.the-variants as header-line
+use Rattle.split.specs.declared.first_line.HeaderLine.{HeaderLine}
+use Rattle.split.specs.declared.first_line.HeaderLine.the-variants as header-line
 use Rattle.split.specs.declared.LinesRead.{LinesRead}
 use Rattle.split.specs.declared.LinesRead.the-variants as lines-read
 use Rattle.split.specs.declared.Sheet.the-variants as sheet

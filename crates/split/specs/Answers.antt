@@ -14,20 +14,20 @@ use Rattle.lexer.specs.Cursors.{Placed, rest, next, placeAt}
 use Rattle.lexer.specs.declared.Cursor.{Cursor}
 use Rattle.lexer.specs.declared.FieldEnd.the-variants.{Comma, Newline}
 use Rattle.split.specs.declared.Header.{Header as HeaderRead}
-use Rattle.split.specs.declared.HeaderLine.{HeaderLine}
-use Rattle.split.specs.declared.HeaderLine.the-variants as header-line
-use Rattle.split.specs.declared.TypeRead.{TypeRead}
-use Rattle.split.specs.declared.TypeRead.the-variants as type-read
-use Rattle.split.specs.declared.RowRead.{RowRead}
-use Rattle.split.specs.declared.RowRead.the-variants as row-read
+use Rattle.split.specs.declared.first_line.HeaderLine.{HeaderLine}
+use Rattle.split.specs.declared.first_line.HeaderLine.the-variants as header-line
+use Rattle.split.specs.declared.type_lines.TypeRead.{TypeRead}
+use Rattle.split.specs.declared.type_lines.TypeRead.the-variants as type-read
+use Rattle.split.specs.declared.row_lines.RowRead.{RowRead}
+use Rattle.split.specs.declared.row_lines.RowRead.the-variants as row-read
 use Rattle.split.specs.declared.LinesRead.{LinesRead}
 use Rattle.split.specs.declared.LinesRead.the-variants as lines-read
-use Rattle.split.specs.declared.Head.{Head}
-use Rattle.split.specs.declared.Head.the-variants as head
-use Rattle.split.specs.declared.Leading.{Leading}
-use Rattle.split.specs.declared.Leading.the-variants as leading
-use Rattle.split.specs.declared.Start.{Start}
-use Rattle.split.specs.declared.Start.the-variants as start
+use Rattle.split.specs.declared.fields.Head.{Head}
+use Rattle.split.specs.declared.fields.Head.the-variants as head
+use Rattle.split.specs.declared.fields.Leading.{Leading}
+use Rattle.split.specs.declared.fields.Leading.the-variants as leading
+use Rattle.split.specs.declared.fields.Start.{Start}
+use Rattle.split.specs.declared.fields.Start.the-variants as start
 use Rattle.split.specs.Lines.{headerTold, rowTold}
 
 -- a text that the limit lets through, and a cursor in it

@@ -16,11 +16,11 @@ use Rattle.lexer.specs.declared.Cursor.{Cursor}
 use Rattle.lexer.specs.declared.TypeWord.{TypeWord}
 use Rattle.lexer.specs.declared.TypeWord.the-variants as kind
 use Rattle.split.specs.declared.Header.{Header as HeaderRead}
-use Rattle.split.specs.declared.Row.{Row as RowNumbers}
-use Rattle.split.specs.declared.RowRead.{RowRead}
-use Rattle.split.specs.declared.RowRead.the-variants as row-read
-use Rattle.split.specs.declared.TypeSeen.{TypeSeen}
-use Rattle.split.specs.declared.TypeSeen.the-variants as type-seen
+use Rattle.split.specs.declared.row_lines.Row.{Row as RowNumbers}
+use Rattle.split.specs.declared.row_lines.RowRead.{RowRead}
+use Rattle.split.specs.declared.row_lines.RowRead.the-variants as row-read
+use Rattle.split.specs.declared.type_lines.TypeSeen.{TypeSeen}
+use Rattle.split.specs.declared.type_lines.TypeSeen.the-variants as type-seen
 
 -- ------------------------------------------------------------------ what the code reads, as document 01 has it
 

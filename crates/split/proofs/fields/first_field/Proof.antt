@@ -1,0 +1,39 @@
+-- The first field of a line, and what ends it.
+use borrow.Author.Needs.{needs}
+use mathlib.Core.Path.{refl}
+use Rattle.split.proofs.FieldLaws.{ends-apart, comma-text, head-field, not-comma}
+use Rattle.split.proofs.fields.first_field.Statement.{statement}
+use Rattle.split.proofs.fields.first_field.Tie as tie
+
+field-requires : tie.Need-field-requires
+field-requires c κs = search needs
+
+enum-told : tie.Need-enum-told
+enum-told c = search needs
+
+enum-told-2 : tie.Need-enum-told-2
+enum-told-2 c = search needs
+
+enum-told-3 : tie.Need-enum-told-3
+enum-told-3 c = search needs
+
+returns : tie.Need-returns
+returns c =
+    let field = c .before .before .before in
+    let entry = field .before .before in
+    head-field _ _ (field .field .result) (field .field .ensures) (entry .pre .placed) (c .enum-told .given .1)
+
+returns-2 : tie.Need-returns-2
+returns-2 c =
+    let field = c .before .before .before in
+    not-comma _ _ (field .field .result) (field .field .ensures) (c .enum-told2 .given .1) (ends-apart refl refl)
+
+returns-3 : tie.Need-returns-3
+returns-3 c =
+    let field = c .before .before .before in
+    not-comma _ _ (field .field .result) (field .field .ensures) (c .enum-told3 .given .1) (comma-text refl refl)
+
+pub first-field-spec : {M : Type 1} → statement M
+first-field-spec =
+    tie.close
+    (tie.spec field-requires enum-told enum-told-2 enum-told-3 returns returns-2 returns-3)

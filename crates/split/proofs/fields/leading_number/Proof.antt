@@ -1,0 +1,72 @@
+-- A numeral, and what ends it.
+use borrow.Author.Needs.{needs}
+use mathlib.Core.Path.{sym, refl, _∙_}
+use mathlib.Core.Logic.{inl, inr}
+use Rattle.lexer.proofs.Numerals.{none-at-cursor}
+use Rattle.lexer.proofs.Walks.{number-small}
+use Rattle.split.proofs.FieldLaws.{ends-apart, comma-text, small, leading-value, leading-other}
+use Rattle.split.proofs.fields.leading_number.Statement.{statement}
+use Rattle.split.proofs.fields.leading_number.Tie as tie
+
+number-requires : tie.Need-number-requires
+number-requires c κs = search needs
+
+enum-known-found : tie.Need-enum-known-found
+enum-known-found c = search needs
+
+enum-told : tie.Need-enum-told
+enum-told c = search needs
+
+returns : tie.Need-returns
+returns c =
+    let number = c .before .before in
+    inl (none-at-cursor _ _ (sym (number .number .ensures) ∙ c .enum-told .given .1))
+
+enum-told-2 : tie.Need-enum-told-2
+enum-told-2 c = search needs
+
+cast-t8 : tie.Need-cast-t8
+cast-t8 c =
+    let found = c .before .before .before in
+    let number = found .before .before in
+    record { fits = small (number-small _ _ _ _ _ (sym (number .number .ensures) ∙ found .found .given .1)) }
+
+enum-told-3 : tie.Need-enum-told-3
+enum-told-3 c = search needs
+
+enum-told-4 : tie.Need-enum-told-4
+enum-told-4 c = search needs
+
+returns-2 : tie.Need-returns-2
+returns-2 c =
+    let found = c .before .before .before in
+    let number = found .before .before in
+    leading-value _ _ _ _ _ (sym (number .number .ensures) ∙ found .found .given .1) (c .enum-told2 .given .1)
+
+returns-3 : tie.Need-returns-3
+returns-3 c =
+    let found = c .before .before .before in
+    let number = found .before .before in
+    inr (leading-other _ _ _ _ _ (sym (number .number .ensures) ∙ found .found .given .1) (ends-apart refl (c .enum-told3 .given .1)))
+
+returns-4 : tie.Need-returns-4
+returns-4 c =
+    let found = c .before .before .before in
+    let number = found .before .before in
+    inr (leading-other _ _ _ _ _ (sym (number .number .ensures) ∙ found .found .given .1) (comma-text refl (c .enum-told4 .given .1)))
+
+pub leading-number-spec : {M : Type 1} → statement M
+leading-number-spec =
+    tie.close
+    (tie.spec
+    number-requires
+    enum-known-found
+    enum-told
+    returns
+    enum-told-2
+    cast-t8
+    enum-told-3
+    enum-told-4
+    returns-2
+    returns-3
+    returns-4)

@@ -1,0 +1,111 @@
+-- The last field of a row: nothing, a numeral, or something else.
+use borrow.Author.Needs.{needs}
+use mathlib.Core.Path.{sym, refl, _∙_}
+use mathlib.Core.Logic.{inl, inr}
+use Rattle.lexer.proofs.Digits.{numeral-small}
+use Rattle.lexer.proofs.Numerals.{numeral-value}
+use Rattle.lexer.proofs.Places.{span-le}
+use Rattle.split.proofs.FieldLaws.{ends-apart, newline-text, small, not-newline, start-empty, start-given, start-neither}
+use Rattle.split.proofs.fields.start_field.Statement.{statement}
+use Rattle.split.proofs.fields.start_field.Tie as tie
+
+field-requires : tie.Need-field-requires
+field-requires c κs = search needs
+
+enum-told : tie.Need-enum-told
+enum-told c = search needs
+
+enum-told-2 : tie.Need-enum-told-2
+enum-told-2 c = search needs
+
+returns : tie.Need-returns
+returns c =
+    let enum-told2 = c .before in
+    let field = enum-told2 .before .before .before in
+    start-empty _ _ (field .field .result) (field .field .ensures) (enum-told2 .enum-told2 .given .1) (c .if1 .taken)
+
+sub-numeral-of : tie.Need-sub-numeral-of
+sub-numeral-of c =
+    let field = c .before .before .before .before in
+    let entry = field .before .before in
+    let bounds = span-le _ _ (field .field .result) (field .field .ensures) (entry .pre .placed) in
+    bounds .0
+
+part-numeral-of-start : tie.Need-part-numeral-of-start
+part-numeral-of-start c =
+    let field = c .before .before .before .before in
+    let entry = field .before .before in
+    let bounds = span-le _ _ (field .field .result) (field .field .ensures) (entry .pre .placed) in
+    bounds .0
+
+part-numeral-of-end : tie.Need-part-numeral-of-end
+part-numeral-of-end c =
+    let field = c .before .before .before .before in
+    let entry = field .before .before in
+    let bounds = span-le _ _ (field .field .result) (field .field .ensures) (entry .pre .placed) in
+    bounds .1
+
+numeral-of-requires : tie.Need-numeral-of-requires
+numeral-of-requires c κs = search needs
+
+enum-known-found : tie.Need-enum-known-found
+enum-known-found c = search needs
+
+cast-t17 : tie.Need-cast-t17
+cast-t17 c =
+    let found = c .before in
+    let numeral-of = found .before .before in
+    record { fits = small (numeral-small _ _ (numeral-value _ _ (sym (numeral-of .numeral-of .ensures) ∙ found .found .given .1))) }
+
+enum-told-3 : tie.Need-enum-told-3
+enum-told-3 c = search needs
+
+enum-told-4 : tie.Need-enum-told-4
+enum-told-4 c = search needs
+
+returns-2 : tie.Need-returns-2
+returns-2 c =
+    let field = c .before .before .before in
+    inr (not-newline _ _ (field .field .result) (field .field .ensures) (c .enum-told .given .1) (λ q. ends-apart refl refl (sym q)))
+
+returns-3 : tie.Need-returns-3
+returns-3 c =
+    let found = c .before in
+    let numeral-of = found .before .before in
+    let enum-told2 = numeral-of .before .before .before in
+    let field = enum-told2 .before .before .before in
+    start-given _ _ (field .field .result) (field .field .ensures) (enum-told2 .enum-told2 .given .1) _ (sym (numeral-of .numeral-of .ensures) ∙ found .found .given .1)
+
+returns-4 : tie.Need-returns-4
+returns-4 c =
+    let numeral-of = c .before .before in
+    let else1 = numeral-of .before .before in
+    let field = else1 .before .before .before .before in
+    let entry = field .before .before in
+    inl (start-neither _ _ (field .field .result) (field .field .ensures) (entry .pre .placed) (else1 .if1 .left) (sym (numeral-of .numeral-of .ensures) ∙ c .enum-told3 .given .1))
+
+returns-5 : tie.Need-returns-5
+returns-5 c =
+    let field = c .before .before .before in
+    inr (not-newline _ _ (field .field .result) (field .field .ensures) (c .enum-told4 .given .1) (newline-text refl refl))
+
+pub start-field-spec : {M : Type 1} → statement M
+start-field-spec =
+    tie.close
+    (tie.spec
+    field-requires
+    enum-told
+    enum-told-2
+    returns
+    sub-numeral-of
+    part-numeral-of-start
+    part-numeral-of-end
+    numeral-of-requires
+    enum-known-found
+    cast-t17
+    enum-told-3
+    enum-told-4
+    returns-2
+    returns-3
+    returns-4
+    returns-5)

@@ -1,0 +1,88 @@
+-- A map line: its numerals, as many as the slice is long, and their range.
+use borrow.Author.Needs.{needs}
+use mathlib.Core.Path.{refl, sym, _∙_}
+use Rattle.lexer.proofs.LineEnds.{numbers-none, numbers-read}
+use Rattle.lexer.proofs.Walks.{left-some}
+use Rattle.split.proofs.Tests.{untrue, unfalse}
+use Rattle.split.proofs.LineLaws.{line-missing}
+use Rattle.split.proofs.MapLaws.{cells-told, map-form, map-range, map-on}
+use Rattle.split.proofs.map_lines.map_line.Statement.{statement}
+use Rattle.split.proofs.map_lines.map_line.Tie as tie
+
+at-end-requires : tie.Need-at-end-requires
+at-end-requires c κs = search needs
+
+returns : tie.Need-returns
+returns c =
+    let at-end = c .before in
+    line-missing _ _ _ (sym (at-end .at-end .ensures) ∙ c .if1 .taken)
+
+add-line : tie.Need-add-line
+add-line c = search needs
+
+numbers-requires : tie.Need-numbers-requires
+numbers-requires c κs = search needs
+
+enum-known-read : tie.Need-enum-known-read
+enum-known-read c = search needs
+
+enum-told : tie.Need-enum-told
+enum-told c = search needs
+
+same-length : tie.Need-same-length
+same-length c = search needs
+
+returns-2 : tie.Need-returns-2
+returns-2 c =
+    let numbers = c .before .before .before .before in
+    let else1 = numbers .before .before .before in
+    let at-end = else1 .before in
+    let left = left-some _ (sym (at-end .at-end .ensures) ∙ else1 .if1 .left) in
+    map-form _ _ _ left (numbers-none (numbers .numbers .ensures) _ refl (c .enum-told .given .1) .0)
+
+cells-fit-requires : tie.Need-cells-fit-requires
+cells-fit-requires c κs = search needs
+
+same-length-2 : tie.Need-same-length-2
+same-length-2 c = search needs
+
+returns-3 : tie.Need-returns-3
+returns-3 c =
+    let cells-fit = c .before in
+    let read = cells-fit .before .before .before in
+    let numbers = read .before .before .before .before in
+    let entry = numbers .before .before .before .before .before .before .before in
+    let found = numbers-read (numbers .numbers .ensures) _ refl (entry .pre .placed) (read .read .given .1) in
+    let fit = cells-told _ _ (found .long) (cells-fit .cells-fit .ensures) (untrue _ (c .if2 .taken)) in
+    map-range _ _ _ _ _ found fit
+
+same-length-3 : tie.Need-same-length-3
+same-length-3 c = search needs
+
+returns-4 : tie.Need-returns-4
+returns-4 c =
+    let cells-fit = c .before in
+    let read = cells-fit .before .before .before in
+    let numbers = read .before .before .before .before in
+    let entry = numbers .before .before .before .before .before .before .before in
+    let found = numbers-read (numbers .numbers .ensures) _ refl (entry .pre .placed) (read .read .given .1) in
+    let fit = cells-told _ _ (found .long) (cells-fit .cells-fit .ensures) (unfalse _ (c .if2 .left)) in
+    (map-on _ _ _ _ _ found fit, found .placed)
+
+pub map-line-spec : {M : Type 1} → statement M
+map-line-spec =
+    tie.close
+    (tie.spec
+    at-end-requires
+    returns
+    add-line
+    numbers-requires
+    enum-known-read
+    enum-told
+    same-length
+    returns-2
+    cells-fit-requires
+    same-length-2
+    returns-3
+    same-length-3
+    returns-4)

@@ -1,0 +1,188 @@
+-- A row: two numerals, the last field, and their ranges.
+use borrow.Author.Needs.{needs}
+use mathlib.Core.Path.{sym, subst, _∙_}
+use Rattle.lexer.specs.Cursors.{rest}
+use Rattle.lexer.proofs.Walks.{left-some}
+use Rattle.split.specs.Lines.{headerTold}
+use Rattle.split.specs.Answers.{LeadingAnswer, StartAnswer}
+use Rattle.split.proofs.LineLaws.{line-missing}
+use Rattle.split.proofs.RowLaws.{row-first, second-placed, row-second, third-placed, row-third, row-without, row-with-start}
+use Rattle.split.proofs.row_lines.row_line.Statement.{statement}
+use Rattle.split.proofs.row_lines.row_line.Tie as tie
+
+at-end-requires : tie.Need-at-end-requires
+at-end-requires c κs = search needs
+
+returns : tie.Need-returns
+returns c =
+    let at-end = c .before in
+    line-missing _ _ _ (sym (at-end .at-end .ensures) ∙ c .if1 .taken)
+
+add-line : tie.Need-add-line
+add-line c = search needs
+
+leading-number-requires : tie.Need-leading-number-requires
+leading-number-requires c κs = search needs
+
+enum-known-typed : tie.Need-enum-known-typed
+enum-known-typed c = search needs
+
+enum-told : tie.Need-enum-told
+enum-told c = search needs
+
+returns-2 : tie.Need-returns-2
+returns-2 c =
+    let leading-number = c .before .before in
+    let else1 = leading-number .before .before in
+    let at-end = else1 .before in
+    let entry = at-end .before .before in
+    let left = left-some (rest (entry .args .text .now) (entry .args .cursor)) (sym (at-end .at-end .ensures) ∙ else1 .if1 .left) in
+    row-first (headerTold (entry .args .header)) (entry .args .word) (entry .args .text .now) (entry .args .cursor) (entry .pre .placed) left (subst (LeadingAnswer (entry .args .text .now) (entry .args .cursor)) (c .enum-told .given .1) (leading-number .leading-number .ensures))
+
+leading-number-requires-2 : tie.Need-leading-number-requires-2
+leading-number-requires-2 c κs =
+    let typed = c .before in
+    let leading-number = typed .before .before in
+    let else1 = leading-number .before .before in
+    let at-end = else1 .before in
+    let entry = at-end .before .before in
+    let left = left-some (rest (entry .args .text .now) (entry .args .cursor)) (sym (at-end .at-end .ensures) ∙ else1 .if1 .left) in
+    let type = subst (LeadingAnswer (entry .args .text .now) (entry .args .cursor)) (typed .typed .given .1) (leading-number .leading-number .ensures) in
+    record { placed = second-placed (headerTold (entry .args .header)) (entry .args .word) (entry .args .text .now) (entry .args .cursor) (entry .pre .placed) left _ (typed .typed .given .0 .1 .0) type; fits = entry .pre .fits }
+
+enum-known-post : tie.Need-enum-known-post
+enum-known-post c = search needs
+
+enum-told-2 : tie.Need-enum-told-2
+enum-told-2 c = search needs
+
+returns-3 : tie.Need-returns-3
+returns-3 c =
+    let leading-number2 = c .before .before in
+    let typed = leading-number2 .before .before in
+    let leading-number = typed .before .before in
+    let else1 = leading-number .before .before in
+    let at-end = else1 .before in
+    let entry = at-end .before .before in
+    let left = left-some (rest (entry .args .text .now) (entry .args .cursor)) (sym (at-end .at-end .ensures) ∙ else1 .if1 .left) in
+    let type = subst (LeadingAnswer (entry .args .text .now) (entry .args .cursor)) (typed .typed .given .1) (leading-number .leading-number .ensures) in
+    row-second (headerTold (entry .args .header)) (entry .args .word) (entry .args .text .now) (entry .args .cursor) (entry .pre .placed) left _ (typed .typed .given .0 .1 .0) type (subst (LeadingAnswer (entry .args .text .now) (typed .typed .given .0 .1 .0)) (c .enum-told2 .given .1) (leading-number2 .leading-number2 .ensures))
+
+start-field-requires : tie.Need-start-field-requires
+start-field-requires c κs =
+    let post = c .before in
+    let leading-number2 = post .before .before in
+    let typed = leading-number2 .before .before in
+    let leading-number = typed .before .before in
+    let else1 = leading-number .before .before in
+    let at-end = else1 .before in
+    let entry = at-end .before .before in
+    let left = left-some (rest (entry .args .text .now) (entry .args .cursor)) (sym (at-end .at-end .ensures) ∙ else1 .if1 .left) in
+    let type = subst (LeadingAnswer (entry .args .text .now) (entry .args .cursor)) (typed .typed .given .1) (leading-number .leading-number .ensures) in
+    let map = subst (LeadingAnswer (entry .args .text .now) (typed .typed .given .0 .1 .0)) (post .post .given .1) (leading-number2 .leading-number2 .ensures) in
+    record { placed = third-placed (headerTold (entry .args .header)) (entry .args .word) (entry .args .text .now) (entry .args .cursor) (entry .pre .placed) left _ (typed .typed .given .0 .1 .0) type _ (post .post .given .0 .1 .0) map; fits = entry .pre .fits }
+
+enum-known-start : tie.Need-enum-known-start
+enum-known-start c = search needs
+
+row-with-requires : tie.Need-row-with-requires
+row-with-requires c κs = search needs
+
+row-of-requires : tie.Need-row-of-requires
+row-of-requires c κs = search needs
+
+enum-known-start-2 : tie.Need-enum-known-start-2
+enum-known-start-2 c = search needs
+
+row-with-requires-2 : tie.Need-row-with-requires-2
+row-with-requires-2 c κs = search needs
+
+start-limit-requires : tie.Need-start-limit-requires
+start-limit-requires c κs = search needs
+
+row-of-requires-2 : tie.Need-row-of-requires-2
+row-of-requires-2 c κs = search needs
+
+enum-told-3 : tie.Need-enum-told-3
+enum-told-3 c = search needs
+
+returns-4 : tie.Need-returns-4
+returns-4 c =
+    let row-with = c .before in
+    let start = row-with .before .before in
+    let start-field = start .before .before in
+    let post = start-field .before .before in
+    let leading-number2 = post .before .before in
+    let typed = leading-number2 .before .before in
+    let leading-number = typed .before .before in
+    let else1 = leading-number .before .before in
+    let at-end = else1 .before in
+    let entry = at-end .before .before in
+    let left = left-some (rest (entry .args .text .now) (entry .args .cursor)) (sym (at-end .at-end .ensures) ∙ else1 .if1 .left) in
+    let type = subst (LeadingAnswer (entry .args .text .now) (entry .args .cursor)) (typed .typed .given .1) (leading-number .leading-number .ensures) in
+    let map = subst (LeadingAnswer (entry .args .text .now) (typed .typed .given .0 .1 .0)) (post .post .given .1) (leading-number2 .leading-number2 .ensures) in
+    let last = subst (StartAnswer (entry .args .text .now) (post .post .given .0 .1 .0)) (start .start .given .1) (start-field .start-field .ensures) in
+    row-without (headerTold (entry .args .header)) (entry .args .word) (entry .args .text .now) (entry .args .cursor) (entry .pre .placed) left _ (typed .typed .given .0 .1 .0) type _ (post .post .given .0 .1 .0) map _ last (row-with .row-with .result) (row-with .row-with .ensures .0) (row-with .row-with .ensures .1) (row-with .row-with .ensures .2) (c .row-of .result) (c .row-of .ensures)
+
+returns-5 : tie.Need-returns-5
+unfolding headerTold
+returns-5 c =
+    let start-limit = c .before in
+    let row-with2 = start-limit .before in
+    let start2 = row-with2 .before .before in
+    let start-field = start2 .before .before in
+    let post = start-field .before .before in
+    let leading-number2 = post .before .before in
+    let typed = leading-number2 .before .before in
+    let leading-number = typed .before .before in
+    let else1 = leading-number .before .before in
+    let at-end = else1 .before in
+    let entry = at-end .before .before in
+    let left = left-some (rest (entry .args .text .now) (entry .args .cursor)) (sym (at-end .at-end .ensures) ∙ else1 .if1 .left) in
+    let type = subst (LeadingAnswer (entry .args .text .now) (entry .args .cursor)) (typed .typed .given .1) (leading-number .leading-number .ensures) in
+    let map = subst (LeadingAnswer (entry .args .text .now) (typed .typed .given .0 .1 .0)) (post .post .given .1) (leading-number2 .leading-number2 .ensures) in
+    let last = subst (StartAnswer (entry .args .text .now) (post .post .given .0 .1 .0)) (start2 .start2 .given .1) (start-field .start-field .ensures) in
+    row-with-start (headerTold (entry .args .header)) (entry .args .word) (entry .args .text .now) (entry .args .cursor) (entry .pre .placed) left _ (typed .typed .given .0 .1 .0) type _ (post .post .given .0 .1 .0) map _ _ last (row-with2 .row-with2 .result) (row-with2 .row-with2 .ensures .0) (row-with2 .row-with2 .ensures .1) (row-with2 .row-with2 .ensures .2) _ (start-limit .start-limit .ensures) (c .row-of2 .result) (c .row-of2 .ensures)
+
+returns-6 : tie.Need-returns-6
+returns-6 c =
+    let start-field = c .before .before in
+    let post = start-field .before .before in
+    let leading-number2 = post .before .before in
+    let typed = leading-number2 .before .before in
+    let leading-number = typed .before .before in
+    let else1 = leading-number .before .before in
+    let at-end = else1 .before in
+    let entry = at-end .before .before in
+    let left = left-some (rest (entry .args .text .now) (entry .args .cursor)) (sym (at-end .at-end .ensures) ∙ else1 .if1 .left) in
+    let type = subst (LeadingAnswer (entry .args .text .now) (entry .args .cursor)) (typed .typed .given .1) (leading-number .leading-number .ensures) in
+    let map = subst (LeadingAnswer (entry .args .text .now) (typed .typed .given .0 .1 .0)) (post .post .given .1) (leading-number2 .leading-number2 .ensures) in
+    row-third (headerTold (entry .args .header)) (entry .args .word) (entry .args .text .now) (entry .args .cursor) (entry .pre .placed) left _ (typed .typed .given .0 .1 .0) type _ (post .post .given .0 .1 .0) map (subst (StartAnswer (entry .args .text .now) (post .post .given .0 .1 .0)) (c .enum-told3 .given .1) (start-field .start-field .ensures))
+
+pub row-line-spec : {M : Type 1} → statement M
+row-line-spec =
+    tie.close
+    (tie.spec
+    at-end-requires
+    returns
+    add-line
+    leading-number-requires
+    enum-known-typed
+    enum-told
+    returns-2
+    leading-number-requires-2
+    enum-known-post
+    enum-told-2
+    returns-3
+    start-field-requires
+    enum-known-start
+    row-with-requires
+    row-of-requires
+    enum-known-start-2
+    row-with-requires-2
+    start-limit-requires
+    row-of-requires-2
+    enum-told-3
+    returns-4
+    returns-5
+    returns-6)

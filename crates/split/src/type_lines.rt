@@ -1,0 +1,146 @@
+// The type lines of the split sheet.
+use crate::Header;
+use crate::LinesRead;
+use crate::fields::Head;
+use crate::fields::first_field;
+use crate::read;
+use lexer::Cursor;
+use lexer::Numbers;
+use lexer::TypeWord;
+use spec::Location;
+use spec::MapNumber;
+use spec::Refusal;
+use spec::TypeLine;
+use spec::TypeNumber;
+use workspace::FIRSTS;
+use workspace::KINDS;
+use workspace::SECONDS;
+ghost use mathlib.Core.Path.{_≡_};
+ghost use mathlib.Core.List.{[], _∷_};
+ghost use mathlib.Core.Bool.{false};
+ghost use Prim.Native.Nat.{_+_, _<_};
+ghost use lib.ListN.{length, set};
+ghost use Rattle.spec.specs.Reading.{splitSheet, below, allInRange, next};
+ghost use Rattle.spec.specs.Split.{typeLine};
+ghost use Rattle.lexer.specs.Cursors.{placeAt};
+ghost use Rattle.workspace.specs.Layout.{kindOf, firstOf, secondOf};
+ghost use Rattle.split.specs.Lines.{headerTold, typeSeen, typeSeenOf};
+ghost use Rattle.split.specs.Answers.{Reading, Small, TypeAnswer};
+ghost use Rattle.split.specs.Stored.{TypesRead};
+
+enum TypeRead {
+    Read(TypeLine, Cursor),
+    Refused(Refusal),
+}
+
+// What the word and the two numbers of a type line come to.
+enum TypeSeen {
+    Right(TypeLine),
+    BadForm,
+    BadRange,
+}
+
+// Whether two numbers are numbers of so many things.
+fn both_below(first: u32, second: u32, firsts: usize, seconds: usize) -> bool
+    ensures { λ r. ⌜ r ≡ allInRange (below firsts ∷ below seconds ∷ []) (first ∷ second ∷ []) ⌝ }
+{
+    if firsts <= workspace::index(first) {
+        return false;
+    }
+    workspace::index(second) < seconds
+}
+
+// The type that a word and two numbers make, each number in its range. Where a line shows 0, 0 is the one number.
+fn type_of(kind: TypeWord, first: u32, second: u32, own: usize, header: Header) -> TypeSeen
+    ensures { λ r. ⌜ r ≡ typeSeenOf (typeSeen kind (headerTold header) own (first ∷ second ∷ [])) ⌝ }
+{
+    let locations = header.locations;
+    let maps = header.maps;
+    match kind {
+        TypeWord::Int => {
+            if both_below(first, second, 1, 1) {
+                return TypeSeen::Right(TypeLine::Int);
+            }
+            TypeSeen::BadRange
+        }
+        TypeWord::Ref => {
+            if both_below(first, second, locations, own) {
+                return TypeSeen::Right(TypeLine::Ref(Location(first), TypeNumber(second)));
+            }
+            TypeSeen::BadRange
+        }
+        TypeWord::Lock => {
+            if both_below(first, second, maps, 1) {
+                return TypeSeen::Right(TypeLine::Lock(MapNumber(first)));
+            }
+            TypeSeen::BadRange
+        }
+        TypeWord::Tid => {
+            if both_below(first, second, maps, 1) {
+                return TypeSeen::Right(TypeLine::Tid(MapNumber(first)));
+            }
+            TypeSeen::BadRange
+        }
+        TypeWord::Unknown => TypeSeen::BadForm,
+    }
+}
+
+// The line of the type with the number `own`, at a cursor.
+fn type_line(text: &[u8], cursor: Cursor, own: usize, header: Header) -> TypeRead
+    requires { ⌜ Reading (now text) cursor ⌝ }
+    ensures { λ r. ⌜ TypeAnswer (now (text .entry)) (next splitSheet (typeLine (headerTold header) own) (placeAt (now (text .entry)) cursor)) r ⌝ }
+{
+    if cursor.at_end(text) {
+        return TypeRead::Refused(Refusal::SplitLines(cursor.line));
+    }
+    let line = cursor.line + 1;
+    let Head::Field(from, to, numbers) = first_field(text, cursor) else {
+        return TypeRead::Refused(Refusal::SplitForm(line));
+    };
+    let kind = lexer::type_word(&text[from..to]);
+    let mut found = [0u32; 2];
+    let read = numbers.numbers(text, &mut found);
+    let Numbers::Read(next) = read else {
+        return TypeRead::Refused(Refusal::SplitForm(line));
+    };
+    let seen = type_of(kind, found[0], found[1], own, header);
+    match seen {
+        TypeSeen::Right(t) => TypeRead::Read(t, next),
+        TypeSeen::BadForm => TypeRead::Refused(Refusal::SplitForm(line)),
+        TypeSeen::BadRange => TypeRead::Refused(Refusal::SplitRange(line)),
+    }
+}
+
+// Stores a type in the three columns of types.
+fn store_type(work: &mut [u32], own: usize, t: TypeLine)
+    requires { ⌜ (length (now work) ≡ 16384) × (own < 64) ⌝ }
+    ensures { λ _. ⌜ now (work .exit) ≡ set (set (set (now (work .entry)) (2048 + own) (kindOf t)) (2112 + own) (firstOf t)) (2176 + own) (secondOf t) ⌝ }
+{
+    work[KINDS + own] = workspace::kind_of(t);
+    work[FIRSTS + own] = workspace::first_of(t);
+    work[SECONDS + own] = workspace::second_of(t);
+}
+
+// The type lines, from a cursor on.
+pub(crate) fn read_types(text: &[u8], from: Cursor, header: Header, work: &mut [u32]) -> LinesRead
+    requires { ⌜ Reading (now text) from × Small header × (length (now work) ≡ 16384) ⌝ }
+    ensures { λ r. ⌜ TypesRead (now (text .entry)) from header (now (work .entry)) (now (work .exit)) r ⌝ }
+{
+    let types = header.types;
+    let mut cursor = from;
+    let mut own = 0;
+    while own < types {
+        let found = type_line(text, cursor, own, header);
+        match found {
+            TypeRead::Read(t, next) => {
+                store_type(work, own, t);
+                cursor = next;
+            }
+            TypeRead::Refused(r) => {
+                return LinesRead::Refused(r);
+            }
+        }
+        own += 1;
+    }
+    LinesRead::Read(cursor)
+}
