@@ -3,8 +3,6 @@ use lexer::Cursor;
 use lexer::FieldEnd;
 use lexer::Number;
 use lexer::Numeral;
-ghost use Rattle.spec.specs.Reading.{_to_, next, end};
-ghost use Rattle.lexer.specs.Views.{nothing};
 ghost use Rattle.split.specs.Answers.{Reading, HeadAnswer, LeadingAnswer, StartAnswer};
 
 // The first field of a line, where a comma ends it: its first byte, the byte behind its last, and the cursor behind the comma.

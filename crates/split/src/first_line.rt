@@ -3,13 +3,11 @@ use crate::Header;
 use crate::LARGEST;
 use crate::fields::Head;
 use crate::fields::first_field;
-use crate::read;
 use lexer::Cursor;
 use lexer::Numbers;
 use spec::Refusal;
 ghost use mathlib.Core.Path.{_≡_};
 ghost use mathlib.Core.Bool.{false};
-ghost use Prim.Native.Nat.{_+_, _<_};
 ghost use Rattle.spec.specs.Reading.{splitSheet, _to_, inRange, allInRange, next};
 ghost use Rattle.spec.specs.Split.{headerLine};
 ghost use Rattle.lexer.specs.Views.{nothing};
@@ -17,6 +15,7 @@ ghost use Rattle.lexer.specs.Cursors.{rest, placeAt};
 ghost use Rattle.split.specs.Lines.{headerRanges, headerNumbers};
 ghost use Rattle.split.specs.Answers.{Reading, HeaderAnswer};
 
+// How many locations, types and maps a sheet can have.
 const MOST_LOCATIONS: u32 = 16;
 
 const MOST_TYPES: u32 = 64;

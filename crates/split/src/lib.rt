@@ -13,15 +13,15 @@ use row_lines::read_rows;
 use spec::Refusal;
 use type_lines::read_types;
 ghost use mathlib.Core.Path.{_≡_};
-ghost use Prim.Native.Nat.{_+_, _≤_};
+ghost use Prim.Native.Nat.{_≤_};
 ghost use lib.ListN.{length};
-ghost use Rattle.spec.specs.Reading.{splitSheet, _to_, next, end};
+ghost use Rattle.spec.specs.Reading.{splitSheet, end};
 ghost use Rattle.lexer.specs.Cursors.{placeAt};
 ghost use Rattle.split.specs.Lines.{headerTold};
 ghost use Rattle.split.specs.Answers.{Reading, Small};
 ghost use Rattle.split.specs.Sheet.{EndAnswer, BodyRead, SplitRead};
 
-// The ranges of document 01: numbers of a map and the denominator, and how many locations, types and maps a sheet can have.
+// The largest denominator, and the largest number of a map.
 pub(crate) const LARGEST: u32 = 1000000;
 
 // What the header of a split sheet says: the denominator, and how many locations, types and maps there are.

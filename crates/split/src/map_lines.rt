@@ -2,15 +2,12 @@
 use crate::Header;
 use crate::LARGEST;
 use crate::LinesRead;
-use crate::read;
 use lexer::Cursor;
 use lexer::Numbers;
 use spec::Refusal;
 use workspace::MAPS;
 use workspace::STRIDE;
 ghost use mathlib.Core.Path.{_≡_};
-ghost use mathlib.Core.Bool.{false};
-ghost use Prim.Native.Nat.{_+_, _<_};
 ghost use lib.ListN.{length};
 ghost use Rattle.spec.specs.Reading.{splitSheet, allInRange, next};
 ghost use Rattle.lexer.specs.Cursors.{placeAt};
