@@ -15,13 +15,13 @@ use Rattle.spec.specs.Choice.{if_then_else_}
 use Rattle.spec.specs.Text.{digitLimit, digits, value, leadingZero, numeral}
 use Rattle.lexer.specs.Views.{width, endOf, firstField}
 use Rattle.lexer.specs.Cursors.{rest, past, next}
-use Rattle.lexer.specs.Numbers.{zeroLeads, digitFirst, DigitsTaken, numberOf, numberAt}
+use Rattle.lexer.specs.Numbers.{Lower, zeroLeads, digitFirst, DigitsTaken, numberOf, numberAt}
 use Rattle.lexer.specs.declared.Cursor.{Cursor}
 use Rattle.lexer.specs.declared.Taken.{Taken}
 use Rattle.lexer.specs.declared.FieldEnd.{FieldEnd}
 use Rattle.lexer.specs.declared.Number.the-variants as number-is
 use Rattle.lexer.proofs.Digits.{not-long, not-leading, not-digits, is-numeral, both-true}
-use Rattle.lexer.proofs.Fields.{byte-width}
+use Rattle.lexer.proofs.Fields.{byte-width, byte-end}
 use Rattle.lexer.proofs.Places.{width-le}
 
 -- ------------------------------------------------------------------ one byte of a field
@@ -42,11 +42,11 @@ module _ (s : List ℕ) (i : ℕ) where
     field-digit : firstField (drop i s) ≡ getD s i 0 ∷ firstField (drop (i + 1) s)
     field-digit = field-at h (λ e. omega arith) (λ e. omega arith)
 
-    pub digit-all : digits (firstField (drop i s)) ≡ digits (firstField (drop (i + 1) s))
+    digit-all : digits (firstField (drop i s)) ≡ digits (firstField (drop (i + 1) s))
     unfolding digits
     digit-all = ap digits field-digit ∙ simp (le-leb 48 (getD s i 0) low, le-leb (getD s i 0) 57 high)
 
-    pub digit-value : (a : ℕ) → value a (firstField (drop i s)) ≡ value (a * 10 + (getD s i 0 - 48)) (firstField (drop (i + 1) s))
+    digit-value : (a : ℕ) → value a (firstField (drop i s)) ≡ value (a * 10 + (getD s i 0 - 48)) (firstField (drop (i + 1) s))
     unfolding value
     digit-value a = ap (value a) field-digit
 
@@ -70,6 +70,44 @@ module _ (s : List ℕ) (i : ℕ) where
       let f : (leb 48 (getD s i 0) && leb (getD s i 0) 57) ≡ false = sym (ap digitFirst (at-cons h)) ∙ e in
       ap digits (field-at h n m) ∙ rw f
 
+-- ------------------------------------------------------------------ the digits taken at a cursor
+
+-- the digits from one byte to another come to the value: with what is left of the field behind them, they are the field
+abbrev pub Reached : List ℕ → (from to so-far : ℕ) → Type 0
+Reached text from to so-far =
+    (from + width (drop from text) ≡ to + width (drop to text))
+    × (endOf (drop from text) ≡ endOf (drop to text))
+    × (digits (firstField (drop from text)) ≡ digits (firstField (drop to text)))
+    × (value 0 (firstField (drop from text)) ≡ value so-far (firstField (drop to text)))
+
+module _ (text : List ℕ) (from to so-far : ℕ) (r : Reached text from to so-far) where
+  pub reached-more : to < length text → 48 ≤ getD text to 0 → getD text to 0 ≤ 57 → Reached text from (to + 1) (so-far * 10 + (getD text to 0 - 48))
+  reached-more h low high =
+      let w = byte-width text to h (λ e. omega arith) (λ e. omega arith) in (
+        omega (arith, r .0),
+        r .1 ∙ byte-end text to h (λ e. omega arith) (λ e. omega arith),
+        r .2 ∙ digit-all text to h low high,
+        r .3 ∙ digit-value text to h low high so-far,
+      )
+
+module _ (text : List ℕ) (c : Cursor) (left : ℕ) (few : Lower (length text - c .at) digitLimit left) (at-le : c .at ≤ length text) where
+  pub digits-taken : (d : Taken) → c .at ≤ d .to → d .to ≤ c .at + left → Reached text (c .at) (d .to) (d .value)
+      → (d .to < c .at + digitLimit → digitFirst (drop (d .to) text) ≡ false) → DigitsTaken text c d
+  unfolding rest
+  digits-taken d from-le to-le r no-more =
+      record {
+        from-le = from-le;
+        to-le = omega (arith, few .first-le);
+        limit = omega (arith, few .second-le);
+        ahead = r .0;
+        end = r .1;
+        all = r .2;
+        comes-to = r .3;
+        no-more = no-more;
+      }
+
+-- ------------------------------------------------------------------ the numeral at a cursor
+
 -- a field that starts with no digit
 spoilt : (b : ℕ) (t : List ℕ) → (leb 48 b && leb b 57) ≡ false → digits (b ∷ t) ≡ false
 unfolding digits
@@ -84,8 +122,6 @@ no-digits (b ∷ t) e = go (eqb b 44) (eqb b 10)
     go true y = unfold numeral in refl
     go false true = unfold numeral in refl
     go false false = not-digits (b ∷ take (width t) t) (spoilt b (take (width t) t) e)
-
--- ------------------------------------------------------------------ the numeral at a cursor
 
 leading-is : (s : List ℕ) → leadingZero s ≡ zeroLeads (getD s 0 0) (length s)
 unfolding leadingZero zeroLeads

@@ -1,20 +1,17 @@
 -- Numerals at a cursor, and the numerals of a line.
-use mathlib.Core.Path.{_≡_, refl, sym, ap, _∙_}
+use mathlib.Core.Path.{_≡_, refl, ap}
 use mathlib.Core.List.{List}
 use mathlib.Core.Option.{Option, none, some}
-use Prim.Native.Nat.{ℕ, _-_}
+use Prim.Native.Nat.{ℕ}
 use native.Mathlib.Omega.{arith}
-use lib.ListN.{take, drop}
 use Rattle.spec.specs.Text.{numeral}
 use Rattle.lexer.specs.Views.{endOf, firstField}
-use Rattle.lexer.specs.Cursors.{rest, next, spanTo, spanAt}
+use Rattle.lexer.specs.Cursors.{rest, next}
 use Rattle.lexer.specs.Numbers.{numeralOf, numberOf, numberAt}
 use Rattle.lexer.specs.declared.Cursor.{Cursor}
-use Rattle.lexer.specs.declared.Span.{Span}
 use Rattle.lexer.specs.declared.FieldEnd.{FieldEnd}
 use Rattle.lexer.specs.declared.Numeral.the-variants as numeral-is
 use Rattle.lexer.specs.declared.Number.the-variants as number-is
-use Rattle.lexer.proofs.Places.{span-field}
 
 -- ------------------------------------------------------------------ one numeral
 
@@ -27,23 +24,6 @@ pub numeral-none : (o : Option ℕ) → numeralOf o ≡ numeral-is.Malformed →
 unfolding numeralOf
 numeral-none none e = refl
 numeral-none (some m) e = cc
-
-module _ (text : List ℕ) (c : Cursor) where
-  at-span : (s : Span) → s ≡ spanAt text c → (o : Option ℕ) → numeral (take (s .to - s .from) (drop (s .from) text)) ≡ o
-      → numberOf o (s .end) (s .next) ≡ numberAt text c
-  unfolding numberAt spanAt spanTo next
-  at-span s e o f = let g = sym f ∙ ap numeral (span-field text c s e) in rw (g, e)
-
-  -- what reading a numeral hands back, by what its field spells
-  pub number-value : (s : Span) → s ≡ spanAt text c → (n : ℕ)
-      → numeralOf (numeral (take (s .to - s .from) (drop (s .from) text))) ≡ numeral-is.Value n → number-is.Value n (s .end) (s .next) ≡ numberAt text c
-  unfolding numberOf
-  number-value s e n f = at-span s e (some n) (numeral-value _ n f)
-
-  pub number-none : (s : Span) → s ≡ spanAt text c
-      → numeralOf (numeral (take (s .to - s .from) (drop (s .from) text))) ≡ numeral-is.Malformed → number-is.Malformed ≡ numberAt text c
-  unfolding numberOf
-  number-none s e f = at-span s e none (numeral-none _ f)
 
 value-parts : (o : Option ℕ) (e : FieldEnd) (d : Cursor) (n : ℕ) (e′ : FieldEnd) (d′ : Cursor) → numberOf o e d ≡ number-is.Value n e′ d′
     → (o ≡ some n) × (e ≡ e′) × (d ≡ d′)

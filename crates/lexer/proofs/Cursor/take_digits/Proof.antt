@@ -1,24 +1,16 @@
 -- The loop's invariant: the digits taken so far, with what is left of the field from the byte reached, are the field.
-use mathlib.Core.Path.{_≡_, refl, _∙_}
+use mathlib.Core.Path.{_≡_, refl}
 use Prim.Native.Nat.{_≤_, _<_, _+_, _-_, _^_}
 use native.Mathlib.Omega.{arith}
-use lib.ListN.{length, drop}
 use borrow.Author.Needs.{needs}
-use Rattle.spec.specs.Text.{digitLimit, digits, value as valueOf}
-use Rattle.lexer.specs.Views.{width, endOf, firstField}
-use Rattle.lexer.specs.Cursors.{rest}
+use Rattle.spec.specs.Text.{digitLimit}
 use Rattle.lexer.proofs.Digits.{ten-more, ten-limit}
-use Rattle.lexer.proofs.Fields.{byte-width, byte-end}
-use Rattle.lexer.proofs.FirstDigits.{digit-all, digit-value, low-first, high-first, none-first}
+use Rattle.lexer.proofs.FirstDigits.{Reached, reached-more, low-first, high-first, none-first, digits-taken}
 use Rattle.lexer.proofs.Cursor.take_digits.Statement.{statement}
 use Rattle.lexer.proofs.Cursor.take_digits.Tie as tie
 
 abbrev Inv-loop : tie.InvT-loop
-Inv-loop text from left stop to₀ value₀ to value =
-    (from ≤ to) × (to ≤ stop) × (value < 10 ^ (to - from)) × (from + width (drop from text) ≡ to + width (drop to text))
-    × (endOf (drop from text) ≡ endOf (drop to text))
-    × (digits (firstField (drop from text)) ≡ digits (firstField (drop to text)))
-    × (valueOf 0 (firstField (drop from text)) ≡ valueOf value (firstField (drop to text)))
+Inv-loop text from left stop to₀ value₀ to value = (from ≤ to) × (to ≤ stop) × (value < 10 ^ (to - from)) × Reached text from to value
 
 abbrev μ-loop : tie.MeasureT-loop
 μ-loop text from left stop to₀ value₀ to value = stop - to
@@ -36,46 +28,26 @@ loop-holds : tie.Need-loop-holds Inv-loop μ-loop
 loop-holds c =
     let at = c .before .before .args .self .at in
     let none : at - at ≡ 0 = omega arith in
-    (omega arith, omega arith, rw none (omega arith), refl, refl, refl, refl)
+    (omega arith, omega arith, rw none (omega arith), (refl, refl, refl, refl))
 
 shared-slice-read-b : tie.Need-shared-slice-read-b Inv-loop μ-loop
 shared-slice-read-b c = search needs
 
 returns : tie.Need-returns Inv-loop μ-loop
-unfolding rest digitLimit
+unfolding digitLimit
 returns c =
     let here = c .before .before .before in
-    let text = here .before .before .before .args .text .now in
-    let to = here .loop .to in
     let lower = here .before .lower .ensures in
-    record {
-      from-le = omega arith;
-      to-le = omega (arith, lower .first-le);
-      limit = omega (arith, lower .second-le);
-      ahead = here .loop .inv .3;
-      end = here .loop .inv .4;
-      all = here .loop .inv .5;
-      comes-to = here .loop .inv .6;
-      no-more = λ h. low-first text to (omega (arith, lower .first-le)) (c .if1 .taken);
-    }
+    digits-taken _ _ _ lower (here .before .before .before .pre .at-le) _ (omega arith) (omega arith) (here .loop .inv .3)
+    (λ h. low-first _ (here .loop .to) (omega (arith, lower .first-le)) (c .if1 .taken))
 
 returns-2 : tie.Need-returns-2 Inv-loop μ-loop
-unfolding rest digitLimit
+unfolding digitLimit
 returns-2 c =
     let here = c .before .before .before .before in
-    let text = here .before .before .before .args .text .now in
-    let to = here .loop .to in
     let lower = here .before .lower .ensures in
-    record {
-      from-le = omega arith;
-      to-le = omega (arith, lower .first-le);
-      limit = omega (arith, lower .second-le);
-      ahead = here .loop .inv .3;
-      end = here .loop .inv .4;
-      all = here .loop .inv .5;
-      comes-to = here .loop .inv .6;
-      no-more = λ h. high-first text to (omega (arith, lower .first-le)) (c .if2 .taken);
-    }
+    digits-taken _ _ _ lower (here .before .before .before .pre .at-le) _ (omega arith) (omega arith) (here .loop .inv .3)
+    (λ h. high-first _ (here .loop .to) (omega (arith, lower .first-le)) (c .if2 .taken))
 
 mul-value : tie.Need-mul-value Inv-loop μ-loop
 unfolding digitLimit
@@ -106,39 +78,23 @@ loop-less c = search needs
 loop-again : tie.Need-loop-again Inv-loop μ-loop
 loop-again c =
     let here = c .before .before .before .before in
-    let text = here .before .before .before .args .text .now in
     let from = here .before .before .before .args .self .at in
     let to = here .loop .to in
     let value = here .loop .value in
-    let inside : to < length text = omega (arith, here .before .lower .ensures .first-le) in
-    let more : to + 1 - from ≡ to - from + 1 = omega arith in
-    let w = byte-width text to inside (λ e. omega arith) (λ e. omega arith) in (
+    let more : to + 1 - from ≡ to - from + 1 = omega arith in (
       omega arith,
       omega arith,
       rw more (ten-more (to - from) value _ (here .loop .inv .2) (omega arith)),
-      omega arith,
-      here .loop .inv .4 ∙ byte-end text to inside (λ e. omega arith) (λ e. omega arith),
-      here .loop .inv .5 ∙ digit-all text to inside (omega arith) (omega arith),
-      here .loop .inv .6 ∙ digit-value text to inside (omega arith) (omega arith) value,
+      reached-more _ from to value (here .loop .inv .3) (omega (arith, here .before .lower .ensures .first-le)) (omega arith) (omega arith),
     )
 
 returns-3 : tie.Need-returns-3 Inv-loop μ-loop
-unfolding rest digitLimit
+unfolding digitLimit
 returns-3 c =
     let here = c .before in
-    let text = here .before .before .before .args .text .now in
-    let to = here .loop .to in
     let lower = here .before .lower .ensures in
-    record {
-      from-le = omega arith;
-      to-le = omega (arith, lower .first-le);
-      limit = omega (arith, lower .second-le);
-      ahead = here .loop .inv .3;
-      end = here .loop .inv .4;
-      all = here .loop .inv .5;
-      comes-to = here .loop .inv .6;
-      no-more = λ h. none-first text to (omega (arith, lower .one (omega arith)));
-    }
+    digits-taken _ _ _ lower (here .before .before .before .pre .at-le) _ (omega arith) (omega arith) (here .loop .inv .3)
+    (λ h. none-first _ (here .loop .to) (omega (arith, lower .one (omega arith))))
 
 pub take-digits-spec : {M : Type 1} → statement M
 take-digits-spec =
