@@ -17,10 +17,9 @@ use Rattle.spec.specs.declared.BinaryWord.the-variants.{Let, If, Spawn, Write}
 use Rattle.workspace.specs.Layout.{wordsAt, endsAt, letsAt, presAt, codeOf, wordOf}
 use Rattle.workspace.specs.Region.{Region, ChangedWithin}
 use Rattle.workspace.specs.Holds.{ends, lets, letIn}
-use Rattle.workspace.proofs.Region.{region-kept}
+use Rattle.workspace.proofs.Region.{region-moved, region-first, region-behind, region-left, region-right, region-kept}
 use Rattle.workspace.proofs.Codes.{word-of-code}
 use Rattle.rules.specs.Walk.{cell}
-use Rattle.rules.proofs.Columns.{region-head, region-tail, region-left, region-right}
 
 -- ------------------------------------------------------------------ as many entries as steps
 
@@ -116,9 +115,6 @@ here-kept {k = k} {inside = inside} {e = e} x h H = record {
   used = H .used;
 }
 
-region-moved : {w xs : List ℕ} (b c : ℕ) → b ≡ c → Region w b xs → Region w c xs
-region-moved b c e r = rw (← e) r
-
 lines-moved : (m n : ℕ) (e : Expr) → m ≡ n → LinesFrom m e → LinesFrom n e
 lines-moved m n e h r = rw (← h) r
 
@@ -132,30 +128,30 @@ module _ {w : List ℕ} {k : ℕ} {inside : List (ℕ × ℕ)} {vars : List ℕ}
 
   pub leaf-word : (x : LeafWord) (l v : ℕ) → Here w k inside vars (leaf x l v) → wordOf (cell w wordsAt k) ≡ Leaf x
   unfolding codes prefix
-  leaf-word x l v H = ap wordOf (region-head _ _ (H .words)) ∙ word-of-code (Leaf x)
+  leaf-word x l v H = ap wordOf (region-first (H .words)) ∙ word-of-code (Leaf x)
 
   pub unary-word : (x : UnaryWord) (l v : ℕ) (e : Expr) → Here w k inside vars (unary x l v e)
       → wordOf (cell w wordsAt k) ≡ Unary x
   unfolding codes prefix
-  unary-word x l v e H = ap wordOf (region-head _ _ (H .words)) ∙ word-of-code (Unary x)
+  unary-word x l v e H = ap wordOf (region-first (H .words)) ∙ word-of-code (Unary x)
 
   pub binary-word : (x : BinaryWord) (l v : ℕ) (e₁ e₂ : Expr) → Here w k inside vars (binary x l v e₁ e₂)
       → wordOf (cell w wordsAt k) ≡ Binary x
   unfolding codes prefix
-  binary-word x l v e₁ e₂ H = ap wordOf (region-head _ _ (H .words)) ∙ word-of-code (Binary x)
+  binary-word x l v e₁ e₂ H = ap wordOf (region-first (H .words)) ∙ word-of-code (Binary x)
 
   -- the let of a variable
   pub here-let : (l v : ℕ) → Here w k inside vars (leaf Var l v) → cell w letsAt k ≡ letIn inside v
   unfolding lets
-  here-let l v H = region-head _ _ (H .bound)
+  here-let l v H = region-first (H .bound)
 
   -- the one part of a step, and the first of two, stand just behind it
   pub here-part : (x : UnaryWord) (l v : ℕ) (e : Expr) → Here w k inside vars (unary x l v e) → Here w (k + 1) inside vars e
   unfolding codes prefix ends lets LinesFrom UsedInside
   here-part x l v e H = record {
-    words = region-moved _ _ (omega arith) (region-tail _ _ (H .words));
-    ended = region-moved _ _ (omega arith) (region-tail _ _ (H .ended));
-    bound = region-moved _ _ (omega arith) (region-tail _ _ (H .bound));
+    words = region-moved _ _ (omega arith) (region-behind (H .words));
+    ended = region-moved _ _ (omega arith) (region-behind (H .ended));
+    bound = region-moved _ _ (omega arith) (region-behind (H .bound));
     lines = lines-moved _ _ e (omega arith) (H .lines .1);
     used = H .used;
   }
@@ -163,14 +159,14 @@ module _ {w : List ℕ} {k : ℕ} {inside : List (ℕ × ℕ)} {vars : List ℕ}
   module _ (x : BinaryWord) (l v : ℕ) (e₁ e₂ : Expr) (H : Here w k inside vars (binary x l v e₁ e₂)) where
     codes-parts : Region w (wordsAt + k + 1) (codes e₁ ++ codes e₂)
     unfolding codes prefix
-    codes-parts = rw map-append at (region-tail _ _ (H .words))
+    codes-parts = rw map-append at (region-behind (H .words))
 
     ends-parts : Region w (endsAt + k + 1) (ends (k + 1) e₁ ++ ends (k + 1 + size e₁) e₂)
     unfolding ends
-    ends-parts = region-tail _ _ (H .ended)
+    ends-parts = region-behind (H .ended)
 
     lets-parts : Region w (letsAt + k + 1) (lets (k + 1) inside e₁ ++ lets (k + 1 + size e₁) (insideSecond x v k inside) e₂)
-    lets-parts = region-tail 0 _ (rw (lets-binary x k inside l v e₁ e₂) at (H .bound))
+    lets-parts = region-behind (rw (lets-binary x k inside l v e₁ e₂) at (H .bound))
 
     pub here-first : Here w (k + 1) inside vars e₁
     unfolding LinesFrom
@@ -197,9 +193,9 @@ module _ {w : List ℕ} {k : ℕ} {inside : List (ℕ × ℕ)} {vars : List ℕ}
   -- the end of an expression
   pub here-end : (e : Expr) → Here w k inside vars e → cell w endsAt k ≡ k + size e
   unfolding ends size
-  here-end (leaf x l v) H = region-head _ _ (H .ended)
-  here-end (unary x l v e) H = region-head _ _ (H .ended)
-  here-end (binary x l v e₁ e₂) H = region-head _ _ (H .ended)
+  here-end (leaf x l v) H = region-first (H .ended)
+  here-end (unary x l v e) H = region-first (H .ended)
+  here-end (binary x l v e₁ e₂) H = region-first (H .ended)
 
 -- where the second of two parts stands, by the end of the first
 pub here-second-at : {w : List ℕ} {k : ℕ} {inside : List (ℕ × ℕ)} {vars : List ℕ} (x : BinaryWord) (l v : ℕ) (e₁ e₂ : Expr)
