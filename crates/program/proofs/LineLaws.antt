@@ -17,6 +17,7 @@ use Rattle.spec.specs.declared.Word.{Word}
 use Rattle.spec.specs.declared.Word.the-variants.{Leaf, Unary, Binary}
 use Rattle.spec.specs.declared.LeafWord.the-variants.{Var, Int, Newtid, Newlock}
 use Rattle.spec.specs.declared.BinaryWord.the-variants.{Let, If, Spawn, Write}
+use Rattle.spec.proofs.Ranges.{up-to-in, up-to-out}
 use Rattle.lexer.specs.Views.{firstField, nothing}
 use Rattle.lexer.specs.Cursors.{Placed, start, rest, placeAt, spanAt}
 use Rattle.lexer.specs.Numbers.{NumbersRead}
@@ -123,12 +124,10 @@ range-of (Binary Spawn) = refl
 range-of (Binary Write) = refl
 
 within-limit : (w : Word) (v : ℕ) → v ≤ limitOf w → inRange (valueRange w) v ≡ true
-unfolding inRange
-within-limit w v h = rw (range-of w, le-leb 0 v (omega arith), le-leb v (limitOf w) h) refl
+within-limit w v h = rw (range-of w) (up-to-in (limitOf w) v h)
 
 over-limit : (w : Word) (v : ℕ) → limitOf w < v → inRange (valueRange w) v ≡ false
-unfolding inRange
-over-limit w v h = rw (range-of w, le-leb 0 v (omega arith), lt-leb v (limitOf w) h) refl
+over-limit w v h = rw (range-of w) (up-to-out (limitOf w) v h)
 
 module _ (text : List ℕ) (c : Cursor) where
   -- no line is left

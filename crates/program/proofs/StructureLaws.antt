@@ -13,6 +13,7 @@ use Rattle.spec.specs.declared.Word.{Word}
 use Rattle.spec.specs.declared.Word.the-variants.{Leaf, Unary, Binary}
 use Rattle.workspace.specs.Layout.{wordsAt, valuesAt, endsAt, wordOf}
 use Rattle.workspace.specs.Holds.{ends}
+use Rattle.spec.proofs.Listing.{size-positive}
 use Rattle.workspace.proofs.Held.{ends-length}
 use Rattle.workspace.specs.Region.{Region, ChangedWithin}
 use Rattle.workspace.proofs.Region.{region-empty, region-front, region-append, region-kept, changed-nothing, changed-store, changed-then, changed-wider}
@@ -23,7 +24,7 @@ use Rattle.program.specs.declared.Outcome.{Outcome}
 use Rattle.program.specs.declared.Outcome.the-variants.{Passed, Refused}
 use Rattle.program.specs.declared.tree.Ending.{Ending}
 use Rattle.program.specs.declared.tree.Ending.the-variants.{Reached, Unfinished}
-use Rattle.program.proofs.Listed.{total, total-listed, size-positive, behind-first, first-fits, steps-length, steps-drop}
+use Rattle.program.proofs.Listed.{total, total-listed, behind-first, first-fits, steps-length, steps-drop}
 
 never : {e : ℕ} → Unfinished ≡ Reached e → ⊥
 never {e} p = let z : _≡_ {A = ℕ} 0 1 = cc in omega arith

@@ -1,16 +1,17 @@
 -- Where an expression of the program that the work space holds stands: its steps from index k on, its parts behind them.
-use mathlib.Core.Path.{_≡_, refl, ap, _∙_}
+use mathlib.Core.Path.{_≡_, ap, _∙_}
 use mathlib.Core.Logic.{inl}
 use mathlib.Core.List.{List, _∷_, _++_, map, map-append}
-use Prim.Native.Nat.{ℕ, suc, _+_, _≤_}
+use Prim.Native.Nat.{ℕ, _+_, _≤_}
 use native.Mathlib.Omega.{arith}
-use lib.ListN.{length, getD, length-append, length-map}
+use lib.ListN.{length, getD, length-map}
 use Rattle.spec.specs.Expression.{Step, Expr, leaf, unary, binary, size}
 use Rattle.spec.specs.Conditions.{lineOf}
 use Rattle.spec.specs.WellFormed.{prefix, LinesFrom, UsedInside}
+use Rattle.spec.proofs.Listing.{prefix-length}
 use Rattle.spec.specs.declared.Word.the-variants.{Leaf, Unary, Binary}
 use Rattle.spec.specs.declared.LeafWord.{LeafWord}
-use Rattle.spec.specs.declared.LeafWord.the-variants.{Var, Int, Newtid, Newlock}
+use Rattle.spec.specs.declared.LeafWord.the-variants.{Var}
 use Rattle.spec.specs.declared.UnaryWord.{UnaryWord}
 use Rattle.spec.specs.declared.BinaryWord.{BinaryWord}
 use Rattle.spec.specs.declared.BinaryWord.the-variants.{Let, If, Spawn, Write}
@@ -18,53 +19,18 @@ use Rattle.workspace.specs.Layout.{wordsAt, endsAt, letsAt, presAt, codeOf, wor
 use Rattle.workspace.specs.Region.{Region, ChangedWithin}
 use Rattle.workspace.specs.Holds.{ends, lets, letIn}
 use Rattle.workspace.proofs.Region.{region-moved, region-first, region-behind, region-left, region-right, region-kept}
+use Rattle.workspace.proofs.Held.{ends-length, insideSecond, lets-binary, lets-length}
 use Rattle.workspace.proofs.Codes.{word-of-code}
 use Rattle.rules.specs.Walk.{cell}
 
--- ------------------------------------------------------------------ as many entries as steps
+-- ------------------------------------------------------------------ the second of two parts
 
-pub size-positive : (e : Expr) → 1 ≤ size e
-unfolding size
-size-positive (leaf x l v) = omega arith
-size-positive (unary x l v e) = omega arith
-size-positive (binary x l v e₁ e₂) = omega arith
-
-pub prefix-long : (e : Expr) → length (prefix e) ≡ size e
-unfolding prefix size
-prefix-long (leaf x l v) = refl
-prefix-long (unary x l v e) = ap suc (prefix-long e)
-prefix-long (binary x l v e₁ e₂) =
-    ap suc (length-append (prefix e₁) (prefix e₂) ∙ rw (prefix-long e₁, prefix-long e₂))
-
-ends-long : (k : ℕ) (e : Expr) → length (ends k e) ≡ size e
-unfolding ends size
-ends-long k (leaf x l v) = refl
-ends-long k (unary x l v e) = ap suc (ends-long (k + 1) e)
-ends-long k (binary x l v e₁ e₂) =
-    ap suc
-    (length-append (ends (k + 1) e₁) (ends (k + 1 + size e₁) e₂)
-    ∙ rw (ends-long (k + 1) e₁, ends-long (k + 1 + size e₁) e₂))
-
--- the variables whose let's e2 the second part is in
-unfoldable pub insideSecond : BinaryWord → (v k : ℕ) → List (ℕ × ℕ) → List (ℕ × ℕ)
-insideSecond Let v k inside = (v, k) ∷ inside
-insideSecond If v k inside = inside
-insideSecond Spawn v k inside = inside
-insideSecond Write v k inside = inside
-
+-- the variables whose let's e2 it is in
 unfoldable pub varsSecond : BinaryWord → (v : ℕ) → List ℕ → List ℕ
 varsSecond Let v vars = v ∷ vars
 varsSecond If v vars = vars
 varsSecond Spawn v vars = vars
 varsSecond Write v vars = vars
-
-lets-binary : (x : BinaryWord) (k : ℕ) (inside : List (ℕ × ℕ)) (l v : ℕ) (e₁ e₂ : Expr)
-    → lets k inside (binary x l v e₁ e₂) ≡ 0 ∷ (lets (k + 1) inside e₁ ++ lets (k + 1 + size e₁) (insideSecond x v k inside) e₂)
-unfolding lets insideSecond
-lets-binary Let k inside l v e₁ e₂ = refl
-lets-binary If k inside l v e₁ e₂ = refl
-lets-binary Spawn k inside l v e₁ e₂ = refl
-lets-binary Write k inside l v e₁ e₂ = refl
 
 used-binary : (x : BinaryWord) (vars : List ℕ) (l v : ℕ) (e₁ e₂ : Expr)
     → UsedInside vars (binary x l v e₁ e₂) → UsedInside vars e₁ × UsedInside (varsSecond x v vars) e₂
@@ -74,28 +40,15 @@ used-binary If vars l v e₁ e₂ u = u
 used-binary Spawn vars l v e₁ e₂ u = u
 used-binary Write vars l v e₁ e₂ u = u
 
-lets-long : (k : ℕ) (inside : List (ℕ × ℕ)) (e : Expr) → length (lets k inside e) ≡ size e
-unfolding lets size
-lets-long k inside (leaf Var l v) = refl
-lets-long k inside (leaf Int l v) = refl
-lets-long k inside (leaf Newtid l v) = refl
-lets-long k inside (leaf Newlock l v) = refl
-lets-long k inside (unary x l v e) = ap suc (lets-long (k + 1) inside e)
-lets-long k inside (binary x l v e₁ e₂) =
-    ap length (lets-binary x k inside l v e₁ e₂)
-    ∙ ap suc
-    (length-append (lets (k + 1) inside e₁) (lets (k + 1 + size e₁) (insideSecond x v k inside) e₂)
-    ∙ rw (lets-long (k + 1) inside e₁, lets-long (k + 1 + size e₁) (insideSecond x v k inside) e₂))
-
 -- ------------------------------------------------------------------ where an expression stands
 
 -- the codes of an expression's words, in line order
 unfoldable pub codes : Expr → List ℕ
 codes e = map (λ (s : Step). codeOf (s .word)) (prefix e)
 
-codes-long : (e : Expr) → length (codes e) ≡ size e
+codes-length : (e : Expr) → length (codes e) ≡ size e
 unfolding codes
-codes-long e = length-map (prefix e) (λ (s : Step). codeOf (s .word)) ∙ prefix-long e
+codes-length e = length-map (prefix e) (λ (s : Step). codeOf (s .word)) ∙ prefix-length e
 
 pub record Here (w : List ℕ) (k : ℕ) (inside : List (ℕ × ℕ)) (vars : List ℕ) (e : Expr) : Type 0 where
   pub words : Region w (wordsAt + k) (codes e)
@@ -108,9 +61,9 @@ pub record Here (w : List ℕ) (k : ℕ) (inside : List (ℕ × ℕ)) (vars : Li
 pub here-kept : {w w′ : List ℕ} {k : ℕ} {inside : List (ℕ × ℕ)} {vars : List ℕ} {e : Expr}
     → ChangedWithin presAt (presAt + 256) w w′ → k + size e ≤ 256 → Here w k inside vars e → Here w′ k inside vars e
 here-kept {k = k} {inside = inside} {e = e} x h H = record {
-  words = region-kept x (inl (omega (arith, codes-long e))) (H .words);
-  ended = region-kept x (inl (omega (arith, ends-long k e))) (H .ended);
-  bound = region-kept x (inl (omega (arith, lets-long k inside e))) (H .bound);
+  words = region-kept x (inl (omega (arith, codes-length e))) (H .words);
+  ended = region-kept x (inl (omega (arith, ends-length k e))) (H .ended);
+  bound = region-kept x (inl (omega (arith, lets-length k inside e))) (H .bound);
   lines = H .lines;
   used = H .used;
 }
@@ -182,10 +135,10 @@ module _ {w : List ℕ} {k : ℕ} {inside : List (ℕ × ℕ)} {vars : List ℕ}
     pub here-second : Here w (k + 1 + size e₁) (insideSecond x v k inside) (varsSecond x v vars) e₂
     unfolding LinesFrom
     here-second = record {
-      words = region-moved _ _ (omega (arith, codes-long e₁)) (region-right (codes e₁) _ codes-parts);
-      ended = region-moved _ _ (omega (arith, ends-long (k + 1) e₁)) (region-right (ends (k + 1) e₁) _ ends-parts);
+      words = region-moved _ _ (omega (arith, codes-length e₁)) (region-right (codes e₁) _ codes-parts);
+      ended = region-moved _ _ (omega (arith, ends-length (k + 1) e₁)) (region-right (ends (k + 1) e₁) _ ends-parts);
       bound = region-moved _ _
-          (omega (arith, lets-long (k + 1) inside e₁)) (region-right (lets (k + 1) inside e₁) _ lets-parts);
+          (omega (arith, lets-length (k + 1) inside e₁)) (region-right (lets (k + 1) inside e₁) _ lets-parts);
       lines = lines-moved _ _ e₂ (omega arith) (H .lines .2);
       used = used-binary x vars l v e₁ e₂ (H .used) .1;
     }

@@ -1,11 +1,10 @@
 -- What the first field at a cursor says, as the answers of the readers of fields.
-use mathlib.Core.Path.{_≡_, refl, sym, ap, subst, _∙_}
-use mathlib.Core.Logic.{_⊎_, inl, inr}
-use mathlib.Core.List.{List, [], _∷_}
-use mathlib.Core.Option.{Option, none, some}
-use Prim.Native.Nat.{ℕ, _+_, _-_, _≤_, _<_, _^_}
+use mathlib.Core.Path.{_≡_, sym, ap, _∙_}
+use mathlib.Core.List.{List, []}
+use mathlib.Core.Option.{none}
+use Prim.Native.Nat.{ℕ, _-_, _<_, _^_}
 use native.Mathlib.Omega.{arith}
-use lib.ListN.{length, take, drop, length-take, length-drop}
+use lib.ListN.{length, take, drop, length-drop}
 use lib.Seq.{length-take-le}
 use Rattle.spec.specs.Text.{numeral, digitLimit}
 use Rattle.lexer.specs.Views.{endOf, firstField}
@@ -17,8 +16,7 @@ use Rattle.lexer.specs.declared.FieldEnd.{FieldEnd}
 use Rattle.lexer.specs.declared.FieldEnd.the-variants.{Comma, Newline, Text}
 use Rattle.lexer.specs.declared.Numeral.the-variants as numeral-is
 use Rattle.lexer.specs.declared.Number.the-variants as number-is
-use Rattle.lexer.proofs.Digits.{numeral-small}
-use Rattle.lexer.proofs.Numerals.{numeral-value, numeral-none, value-at-cursor, none-at-cursor}
+use Rattle.lexer.proofs.Numerals.{numeral-value, numeral-none, value-at-cursor}
 use Rattle.lexer.proofs.Places.{span-field, span-le}
 use Rattle.lexer.proofs.Walks.{span-end, span-next}
 use Rattle.split.specs.Answers.{HeadAnswer, LeadingAnswer, StartAnswer}

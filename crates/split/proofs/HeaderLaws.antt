@@ -1,18 +1,18 @@
 -- The header line, by its word and its four numbers.
 use mathlib.Core.Path.{_≡_, refl, sym, ap, _∙_}
 use mathlib.Core.List.{List, [], _∷_}
-use mathlib.Core.Bool.{Bool, true, false, _&&_}
-use mathlib.Core.Option.{none, some}
+use mathlib.Core.Bool.{Bool, true, false}
+use mathlib.Core.Option.{none}
 use Prim.Native.Nat.{ℕ, _+_, _≤_, _<_}
 use native.Mathlib.Omega.{arith}
-use lib.Dec.{leb}
 use lib.ListN.{length, getD}
-use borrow.Author.Tests.{leb-true}
 use Rattle.spec.specs.Choice.{if_then_else_}
 use Rattle.spec.specs.Text.{bytes, same, Field, lines}
 use Rattle.spec.specs.Reading.{splitSheet, Out, stop, on, Place, Seen, right, badForm, badRange, seen, _to_, inRange, allInRange, numerals, ranged, numbers, form, passed, next}
 use Rattle.spec.specs.Split.{Header, headerOf, headerLine}
 use Rattle.spec.specs.declared.Refusal.the-variants.{SplitForm, SplitRange}
+use Rattle.spec.proofs.Tests.{both-true}
+use Rattle.spec.proofs.Ranges.{in-to}
 use Rattle.lexer.specs.Views.{endOf, firstField}
 use Rattle.lexer.specs.Cursors.{Placed, rest, next as nextCursor, placeAt}
 use Rattle.lexer.specs.Numbers.{numbersAt}
@@ -25,7 +25,7 @@ use Rattle.split.specs.Lines.{headerTold, headerRanges, headerNumbers}
 use Rattle.split.specs.Answers.{Small}
 use Rattle.lexer.proofs.Sheets.{next-at}
 use Rattle.lexer.proofs.LineEnds.{LineRead}
-use Rattle.split.proofs.LineLaws.{shows-range, shows-entry, comma-line, comma-placed, comma-kept}
+use Rattle.split.proofs.LineLaws.{shows-range, shows-entry, comma-line, comma-kept}
 
 -- ------------------------------------------------------------------ the numbers
 
@@ -38,21 +38,13 @@ four (a ∷ b ∷ c ∷ []) h = absurd (omega arith)
 four (a ∷ b ∷ c ∷ d ∷ []) h = refl
 four (a ∷ b ∷ c ∷ d ∷ e ∷ l) h = absurd (omega arith)
 
-both : (a b : Bool) → (a && b) ≡ true → (a ≡ true) × (b ≡ true)
-both true b h = (refl, h)
-both false b h = let z : _≡_ {A = ℕ} 0 1 = cc in absurd (omega arith)
-
-at-most : (a b n : ℕ) → inRange (a to b) n ≡ true → n ≤ b
-unfolding inRange
-at-most a b n h = leb-true n b (both (leb a n) (leb n b) h .1)
-
 pub header-small : (d l t m : ℕ) → allInRange headerRanges (headerNumbers d l t m) ≡ true → (l ≤ 16) × (t ≤ 64) × (m ≤ 512)
 unfolding headerRanges headerNumbers allInRange
 header-small d l t m h =
-    let h₁ = both (inRange (1 to 1000000) d) _ h .1 in
-    let h₂ = both (inRange (1 to 16) l) _ h₁ in
-    let h₃ = both (inRange (1 to 64) t) _ (h₂ .1) in
-    (at-most 1 16 l (h₂ .0), at-most 1 64 t (h₃ .0), at-most 1 512 m (both (inRange (1 to 512) m) _ (h₃ .1) .0))
+    let h₁ = both-true (inRange (1 to 1000000) d) _ h .1 in
+    let h₂ = both-true (inRange (1 to 16) l) _ h₁ in
+    let h₃ = both-true (inRange (1 to 64) t) _ (h₂ .1) in
+    (in-to 1 16 l (h₂ .0) .1, in-to 1 64 t (h₃ .0) .1, in-to 1 512 m (both-true (inRange (1 to 512) m) _ (h₃ .1) .0) .1)
 
 -- a header that is made of the four numbers of a line
 module _ (ns : List ℕ) (l t m : ℕ) (el : l ≡ getD ns 1 0) (et : t ≡ getD ns 2 0) (em : m ≡ getD ns 3 0) where

@@ -1,18 +1,16 @@
 -- Rows, by their two numerals and their last field.
 use mathlib.Core.Path.{_≡_, refl, sym, ap, subst, _∙_}
-use mathlib.Core.Logic.{_⊎_, inl, inr, ⊎-elim}
+use mathlib.Core.Logic.{_⊎_, ⊎-elim}
 use mathlib.Core.List.{List, [], _∷_}
-use mathlib.Core.Bool.{Bool, true, false, _&&_}
+use mathlib.Core.Bool.{Bool, true, false}
 use mathlib.Core.Option.{Option, none, some}
-use Prim.Native.Nat.{ℕ, suc, _+_, _≤_, _<_}
+use Prim.Native.Nat.{ℕ, suc, _+_, _<_}
 use native.Mathlib.Omega.{arith}
-use lib.Dec.{eqb, ltb}
-use lib.ListN.{length, getD, take, drop}
+use lib.ListN.{length, take, drop}
 use borrow.Author.Tests.{ne-eqb}
 use Rattle.spec.specs.Choice.{if_then_else_}
 use Rattle.spec.specs.Text.{lines, Field, numeral, digitLimit}
-use Rattle.spec.specs.Reading.{splitSheet, Out, stop, on, Place, Seen, right, badForm, badRange, seen, Range, below, inRange, allInRange, withNumeral, numerals, ranged, numbers, form, passed, nextLine, next}
-use Rattle.spec.specs.Expression.{Step}
+use Rattle.spec.specs.Reading.{splitSheet, Out, stop, Place, Seen, right, badForm, badRange, seen, Range, below, inRange, allInRange, withNumeral, numerals, ranged, numbers, form, passed, nextLine, next}
 use Rattle.spec.specs.Split.{Header, Row, rowOf, blank, startRange, rowLine}
 use Rattle.spec.specs.declared.Refusal.the-variants.{SplitForm, SplitRange}
 use Rattle.spec.specs.declared.Word.{Word}

@@ -2,34 +2,27 @@
 use mathlib.Core.Path.{_≡_, refl, sym, ap, subst, _∙_}
 use mathlib.Core.Logic.{inl, inr}
 use mathlib.Core.List.{List, [], _∷_, map}
-use mathlib.Core.Bool.{Bool, true, false}
-use Prim.Native.Nat.{ℕ, zero, suc, _+_, _*_, _≤_, _<_}
+use Prim.Native.Nat.{ℕ, zero, suc, _+_, _≤_, _<_}
 use native.Mathlib.Omega.{arith}
 use lib.ListN.{length, getD, replicate, length-map}
-use Rattle.spec.specs.Text.{lines}
-use Rattle.spec.specs.Reading.{splitSheet, Out, stop, on, _>>=_, Place, form, next, nextAll, begin, end}
+use Rattle.spec.specs.Reading.{splitSheet, Out, _>>=_, Place, nextAll, end}
 use Rattle.spec.specs.Expression.{Step}
-use Rattle.spec.specs.Split.{Map, Header, Row, Split, headerLine, typeLines, mapLine, rowLine, split}
+use Rattle.spec.specs.Split.{Map, Header, Row, Split, typeLines, mapLine, rowLine}
 use Rattle.spec.specs.declared.Refusal.{Refusal}
-use Rattle.spec.specs.declared.Refusal.the-variants.{SplitForm}
 use Rattle.spec.specs.declared.TypeLine.{TypeLine}
-use Rattle.spec.specs.declared.Word.{Word}
-use Rattle.lexer.specs.Views.{nothing}
-use Rattle.lexer.specs.Cursors.{Placed, start, rest, placeAt}
+use Rattle.lexer.specs.Cursors.{Placed, placeAt}
 use Rattle.lexer.specs.declared.Cursor.{Cursor}
-use Rattle.lexer.proofs.Lines.{begin-empty, begin-some}
-use Rattle.lexer.proofs.Walks.{start-rest, left-none, left-some}
-use Rattle.workspace.specs.Layout.{wordsAt, valuesAt, codeOf, wordOf}
+use Rattle.workspace.specs.Layout.{wordsAt, valuesAt, codeOf}
 use Rattle.workspace.specs.Region.{Region, ChangedWithin}
 use Rattle.workspace.specs.Holds.{HoldsSteps, HoldsSplit}
 use Rattle.workspace.proofs.Codes.{word-of-code}
-use Rattle.workspace.proofs.Region.{column, region-kept, changed-then, changed-wider}
+use Rattle.workspace.proofs.Region.{region-moved, region-first, region-behind, region-kept, changed-then, changed-wider}
 use Rattle.split.specs.declared.Header.{Header as HeaderRead}
 use Rattle.split.specs.declared.LinesRead.{LinesRead}
 use Rattle.split.specs.declared.LinesRead.the-variants as lines-read
 use Rattle.split.specs.Lines.{headerTold}
 use Rattle.split.specs.Answers.{Small}
-use Rattle.split.specs.Stored.{Columns, HoldsTypes, HoldsRows, HoldsMaps, LinesAnswer, LinesStored, stepAt, stepsFrom}
+use Rattle.split.specs.Stored.{HoldsTypes, HoldsRows, HoldsMaps, LinesAnswer, LinesStored, stepAt, stepsFrom}
 use Rattle.split.specs.Sheet.{body, EndAnswer, BodyAnswer, BodyRead}
 
 -- ------------------------------------------------------------------ the steps in the work space
@@ -46,42 +39,19 @@ unfolding stepsFrom
 steps-kept w w′ k zero h x = refl
 steps-kept w w′ k (suc n) h x = rw (step-kept w w′ k (omega arith) x, steps-kept w w′ (k + 1) n (omega arith) x)
 
-held : (w : List ℕ) (k : ℕ) (s : Step) → wordOf (getD w (wordsAt + k) 0) ≡ s .word → getD w (valuesAt + k) 0 ≡ s .value → stepAt w k ≡ s
-unfolding stepAt
-held w k s a b = rw (a, b)
-
 -- the steps that the work space holds are those that it is read for
-steps-from : (w : List ℕ) (k : ℕ) (z : Step) (steps : List Step)
-    → ((i : ℕ) → i < length steps → (getD w (wordsAt + (k + i)) 0 ≡ codeOf (getD steps i z .word)) × (getD w (valuesAt + (k + i)) 0 ≡ getD steps i z .value))
-    → stepsFrom w k (length steps) ≡ steps
-unfolding stepsFrom
-steps-from w k z [] h = refl
-steps-from w k z (s ∷ steps) h =
-    let first : stepAt w k ≡ s = here (h 0 (omega arith)) in
-    let others : stepsFrom w (k + 1) (length steps) ≡ steps = steps-from w (k + 1) z steps (λ i l. there i (h (suc i) (omega arith))) in
-    rw (first, others)
-  where
-    here : (getD w (wordsAt + (k + 0)) 0 ≡ codeOf (s .word)) × (getD w (valuesAt + (k + 0)) 0 ≡ s .value) → stepAt w k ≡ s
-    here (a, b) =
-        let e : k + 0 ≡ k = omega arith in
-        held w k s (ap wordOf (ap (λ (j : ℕ). getD w (wordsAt + j) 0) (sym e) ∙ a) ∙ word-of-code (s .word)) (ap (λ (j : ℕ). getD w (valuesAt + j) 0) (sym e) ∙ b)
-
-    there : (i : ℕ)
-        → (getD w (wordsAt + (k + suc i)) 0 ≡ codeOf (getD steps i z .word)) × (getD w (valuesAt + (k + suc i)) 0 ≡ getD steps i z .value)
-        → (getD w (wordsAt + (k + 1 + i)) 0 ≡ codeOf (getD steps i z .word)) × (getD w (valuesAt + (k + 1 + i)) 0 ≡ getD steps i z .value)
-    there i (a, b) =
-        let e : k + 1 + i ≡ k + suc i = omega arith in
-        (ap (λ (j : ℕ). getD w (wordsAt + j) 0) e ∙ a, ap (λ (j : ℕ). getD w (valuesAt + j) 0) e ∙ b)
+steps-from : (w : List ℕ) (k : ℕ) (steps : List Step) → Region w (wordsAt + k) (map (λ (s : Step). codeOf (s .word)) steps)
+    → Region w (valuesAt + k) (map (λ (s : Step). s .value) steps) → stepsFrom w k (length steps) ≡ steps
+unfolding stepsFrom stepAt
+steps-from w k [] r q = refl
+steps-from w k (s ∷ steps) r q =
+    let a : wordsAt + k + 1 ≡ wordsAt + (k + 1) = omega arith in
+    let b : valuesAt + k + 1 ≡ valuesAt + (k + 1) = omega arith in
+    rw (region-first r, region-first q, word-of-code (s .word))
+    (ap (λ (l : List Step). s ∷ l) (steps-from w (k + 1) steps (region-moved _ _ a (region-behind r)) (region-moved _ _ b (region-behind q))))
 
 pub steps-held : (w : List ℕ) (steps : List Step) (n : ℕ) → HoldsSteps w steps → length steps ≡ n → stepsFrom w 0 n ≡ steps
-steps-held w [] n h e = ap (stepsFrom w 0) (sym e) ∙ steps-from w 0 (stepAt w 0) [] (λ i l. absurd (omega arith))
-steps-held w (s ∷ steps) n h e =
-    ap (stepsFrom w 0) (sym e)
-    ∙ steps-from w 0 s (s ∷ steps) (λ i l.
-    let z : 0 + i ≡ i = omega arith in (
-      ap (λ (j : ℕ). getD w (wordsAt + j) 0) z ∙ column w wordsAt (λ (x : Step). codeOf (x .word)) (s ∷ steps) s i (h .words) l,
-      ap (λ (j : ℕ). getD w (valuesAt + j) 0) z ∙ column w valuesAt (λ (x : Step). x .value) (s ∷ steps) s i (h .values) l,
-    ))
+steps-held w steps n h e = rw (← e) (steps-from w 0 steps (h .words) (h .values))
 
 -- ------------------------------------------------------------------ the lines behind the header
 

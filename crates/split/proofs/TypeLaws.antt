@@ -3,11 +3,11 @@ use mathlib.Core.Path.{_≡_, refl, sym, ap, _∙_}
 use mathlib.Core.List.{List, [], _∷_}
 use mathlib.Core.Bool.{Bool, true, false}
 use mathlib.Core.Option.{none, some}
-use Prim.Native.Nat.{ℕ, _+_, _≤_, _<_}
+use Prim.Native.Nat.{ℕ, _+_, _<_}
 use native.Mathlib.Omega.{arith}
 use lib.ListN.{length, getD}
 use Rattle.spec.specs.Choice.{if_then_else_}
-use Rattle.spec.specs.Text.{bytes, same, Field, lines}
+use Rattle.spec.specs.Text.{Field, lines}
 use Rattle.spec.specs.Reading.{splitSheet, stop, on, Seen, right, badForm, badRange, seen, Range, _to_, below, allInRange, numerals, ranged, numbers, form, passed, nextLine, next}
 use Rattle.spec.specs.Split.{Header, refOf, lockOf, tidOf, typeLine}
 use Rattle.spec.specs.declared.Refusal.the-variants.{SplitForm, SplitRange}

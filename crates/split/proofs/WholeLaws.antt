@@ -1,13 +1,13 @@
 -- A split sheet from its first line on: an empty text, a header that is refused, and the lines behind a header.
-use mathlib.Core.Path.{_≡_, refl, sym, ap, subst, _∙_}
-use mathlib.Core.List.{List, []}
-use mathlib.Core.Bool.{Bool, true, false}
-use Prim.Native.Nat.{ℕ, _≤_, _<_}
+use mathlib.Core.Path.{_≡_, sym, ap, subst, _∙_}
+use mathlib.Core.List.{List}
+use mathlib.Core.Bool.{true, false}
+use Prim.Native.Nat.{ℕ, _<_}
 use lib.ListN.{length}
 use Rattle.spec.specs.Text.{lines}
-use Rattle.spec.specs.Reading.{splitSheet, Out, stop, on, _>>=_, Place, form, next, begin}
+use Rattle.spec.specs.Reading.{splitSheet, Out, stop, on, _>>=_, form, next, begin}
 use Rattle.spec.specs.Expression.{Step}
-use Rattle.spec.specs.Split.{Header, Split, headerLine, split}
+use Rattle.spec.specs.Split.{Split, headerLine, split}
 use Rattle.spec.specs.declared.Refusal.{Refusal}
 use Rattle.spec.specs.declared.Refusal.the-variants.{SplitForm}
 use Rattle.lexer.specs.Views.{nothing}
@@ -15,8 +15,7 @@ use Rattle.lexer.specs.Cursors.{Placed, start, rest, placeAt}
 use Rattle.lexer.specs.declared.Cursor.{Cursor}
 use Rattle.lexer.proofs.Sheets.{begin-at-none, begin-at-some}
 use Rattle.lexer.proofs.Walks.{start-rest, start-placed, left-none, left-some}
-use Rattle.workspace.specs.Region.{ChangedWithin}
-use Rattle.workspace.specs.Holds.{HoldsSteps, HoldsSplit}
+use Rattle.workspace.specs.Holds.{HoldsSteps}
 use Rattle.workspace.proofs.Region.{changed-nothing}
 use Rattle.split.specs.declared.Header.{Header as HeaderRead}
 use Rattle.split.specs.declared.HeaderLine.{HeaderLine}

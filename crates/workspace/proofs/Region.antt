@@ -6,7 +6,7 @@ use Prim.Native.Nat.{ℕ, zero, suc, _+_, _-_, _<_, _≤_}
 use native.Mathlib.Omega.{arith}
 use native.Mathlib.Nat.{eq-or-lt-of-le}
 use native.Mathlib.Decide.{decLt}
-use lib.ListN.{length, getD, take, drop, set, length-set, length-drop, length-append, length-map, List·getD-map, List·getD-append}
+use lib.ListN.{length, getD, take, drop, set, length-set, length-drop, length-append, length-map, List·getD-append}
 use lib.Seq.{getD-take, getD-drop, getD-set-same, getD-set-other, getD-append-add, getD-append-seam, ext-getD, length-take-le}
 use Rattle.workspace.specs.Region.{Region, ChangedWithin}
 

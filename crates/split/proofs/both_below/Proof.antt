@@ -1,4 +1,3 @@
-use mathlib.Core.Path.{sym}
 use Rattle.split.proofs.Tests.{range-out, range-next, range-last, in-below, out-below, below-test}
 use native.Mathlib.Omega.{arith}
 use borrow.Author.Needs.{needs}

@@ -1,8 +1,9 @@
 -- Each number of a header is tested against its range.
 use borrow.Author.Needs.{needs}
 use mathlib.Core.Path.{sym, _∙_}
+use borrow.Author.Tests.{not-true, not-false}
 use Rattle.split.specs.Lines.{headerRanges, headerNumbers}
-use Rattle.split.proofs.Tests.{untrue, unfalse, range-out, range-next, range-last}
+use Rattle.split.proofs.Tests.{range-out, range-next, range-last}
 use Rattle.split.proofs.header_fits.Statement.{statement}
 use Rattle.split.proofs.header_fits.Tie as tie
 
@@ -13,7 +14,7 @@ returns : tie.Need-returns
 unfolding headerRanges headerNumbers
 returns c =
     let within = c .before in
-    range-out _ _ _ _ (sym (within .within .ensures) ∙ untrue _ (c .if1 .taken))
+    range-out _ _ _ _ (sym (within .within .ensures) ∙ not-true _ (c .if1 .taken))
 
 within-requires-2 : tie.Need-within-requires-2
 within-requires-2 c κs = search needs
@@ -24,8 +25,8 @@ returns-2 c =
     let within2 = c .before in
     let else1 = within2 .before in
     let within = else1 .before in
-    let in1 = sym (within .within .ensures) ∙ unfalse _ (else1 .if1 .left) in
-    range-next _ _ _ _ in1 (range-out _ _ _ _ (sym (within2 .within2 .ensures) ∙ untrue _ (c .if2 .taken)))
+    let in1 = sym (within .within .ensures) ∙ not-false _ (else1 .if1 .left) in
+    range-next _ _ _ _ in1 (range-out _ _ _ _ (sym (within2 .within2 .ensures) ∙ not-true _ (c .if2 .taken)))
 
 within-requires-3 : tie.Need-within-requires-3
 within-requires-3 c κs = search needs
@@ -38,9 +39,9 @@ returns-3 c =
     let within2 = else2 .before in
     let else1 = within2 .before in
     let within = else1 .before in
-    let in1 = sym (within .within .ensures) ∙ unfalse _ (else1 .if1 .left) in
-    let in2 = sym (within2 .within2 .ensures) ∙ unfalse _ (else2 .if2 .left) in
-    range-next _ _ _ _ in1 (range-next _ _ _ _ in2 (range-out _ _ _ _ (sym (within3 .within3 .ensures) ∙ untrue _ (c .if3 .taken))))
+    let in1 = sym (within .within .ensures) ∙ not-false _ (else1 .if1 .left) in
+    let in2 = sym (within2 .within2 .ensures) ∙ not-false _ (else2 .if2 .left) in
+    range-next _ _ _ _ in1 (range-next _ _ _ _ in2 (range-out _ _ _ _ (sym (within3 .within3 .ensures) ∙ not-true _ (c .if3 .taken))))
 
 within-requires-4 : tie.Need-within-requires-4
 within-requires-4 c κs = search needs
@@ -54,9 +55,9 @@ returns-4 c =
     let within2 = else2 .before in
     let else1 = within2 .before in
     let within = else1 .before in
-    let in1 = sym (within .within .ensures) ∙ unfalse _ (else1 .if1 .left) in
-    let in2 = sym (within2 .within2 .ensures) ∙ unfalse _ (else2 .if2 .left) in
-    let in3 = sym (within3 .within3 .ensures) ∙ unfalse _ (else3 .if3 .left) in
+    let in1 = sym (within .within .ensures) ∙ not-false _ (else1 .if1 .left) in
+    let in2 = sym (within2 .within2 .ensures) ∙ not-false _ (else2 .if2 .left) in
+    let in3 = sym (within3 .within3 .ensures) ∙ not-false _ (else3 .if3 .left) in
     range-next _ _ _ _ in1 (range-next _ _ _ _ in2 (range-next _ _ _ _ in3 (range-last _ _ (c .within4 .ensures))))
 
 pub header-fits-spec : {M : Type 1} → statement M

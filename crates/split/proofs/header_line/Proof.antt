@@ -10,7 +10,7 @@ use Rattle.lexer.proofs.LineEnds.{numbers-none, numbers-read}
 use Rattle.lexer.proofs.Walks.{left-some}
 use Rattle.split.specs.Lines.{headerRanges}
 use Rattle.split.specs.Answers.{HeadAnswer}
-use Rattle.split.proofs.Tests.{untrue, unfalse}
+use borrow.Author.Tests.{not-true, not-false}
 use Rattle.split.proofs.LineLaws.{comma-placed}
 use Rattle.split.proofs.HeaderLaws.{four, header-told, on-header, made-small, no-comma, no-header, header-form, header-range, header-on}
 use Rattle.split.proofs.header_line.Statement.{statement}
@@ -74,7 +74,7 @@ returns-2 c =
     let entry = first-field .before .before .before in
     let left = left-some (rest (entry .args .text .now) (entry .args .cursor)) (entry .pre .1) in
     let head = subst (HeadAnswer (entry .args .text .now) (entry .args .cursor)) (from .from .given .1) (first-field .first-field .ensures) in
-    let spelled = ap (λ (f : List ℕ). same f (bytes "C")) (sym (head .2)) ∙ sym (compared .same .ensures) ∙ untrue _ (c .if1 .taken) in
+    let spelled = ap (λ (f : List ℕ). same f (bytes "C")) (sym (head .2)) ∙ sym (compared .same .ensures) ∙ not-true _ (c .if1 .taken) in
     no-header (entry .args .text .now) (entry .args .cursor) left spelled
 
 slice-aggregate-numbers : tie.Need-slice-aggregate-numbers
@@ -105,7 +105,7 @@ returns-3 c =
     let entry = first-field .before .before .before in
     let left = left-some (rest (entry .args .text .now) (entry .args .cursor)) (entry .pre .1) in
     let head = subst (HeadAnswer (entry .args .text .now) (entry .args .cursor)) (from .from .given .1) (first-field .first-field .ensures) in
-    let spelled = ap (λ (f : List ℕ). same f (bytes "C")) (sym (head .2)) ∙ sym (compared .same .ensures) ∙ unfalse _ (else1 .if1 .left) in
+    let spelled = ap (λ (f : List ℕ). same f (bytes "C")) (sym (head .2)) ∙ sym (compared .same .ensures) ∙ not-false _ (else1 .if1 .left) in
     header-form (entry .args .text .now) (entry .args .cursor) left (entry .pre .0 .placed) (head .3) _ (head .4) spelled (numbers-none (numbers .numbers .ensures) 4 refl (c .enum-told2 .given .1) .0)
 
 array-read-denominator : tie.Need-array-read-denominator
@@ -136,10 +136,10 @@ returns-4 c =
     let entry = first-field .before .before .before in
     let left = left-some (rest (entry .args .text .now) (entry .args .cursor)) (entry .pre .1) in
     let head = subst (HeadAnswer (entry .args .text .now) (entry .args .cursor)) (from .from .given .1) (first-field .first-field .ensures) in
-    let spelled = ap (λ (f : List ℕ). same f (bytes "C")) (sym (head .2)) ∙ sym (compared .same .ensures) ∙ unfalse _ (else1 .if1 .left) in
+    let spelled = ap (λ (f : List ℕ). same f (bytes "C")) (sym (head .2)) ∙ sym (compared .same .ensures) ∙ not-false _ (else1 .if1 .left) in
     let behind = comma-placed _ _ _ (entry .pre .0 .placed) (head .3) (head .4) in
     let found = numbers-read (numbers .numbers .ensures) 4 refl behind (read .read .given .1) in
-    let fit = ap (allInRange headerRanges) (four (numbers .numbers .last .1 .1 .0) (found .long)) ∙ sym (header-fits .header-fits .ensures) ∙ untrue _ (c .if2 .taken) in
+    let fit = ap (allInRange headerRanges) (four (numbers .numbers .last .1 .1 .0) (found .long)) ∙ sym (header-fits .header-fits .ensures) ∙ not-true _ (c .if2 .taken) in
     header-range (entry .args .text .now) (entry .args .cursor) left (entry .pre .0 .placed) (head .3) _ (head .4) spelled (numbers .numbers .last .1 .1 .0) _ found fit
 
 index-requires : tie.Need-index-requires
@@ -167,10 +167,10 @@ returns-5 c =
     let entry = first-field .before .before .before in
     let left = left-some (rest (entry .args .text .now) (entry .args .cursor)) (entry .pre .1) in
     let head = subst (HeadAnswer (entry .args .text .now) (entry .args .cursor)) (from .from .given .1) (first-field .first-field .ensures) in
-    let spelled = ap (λ (f : List ℕ). same f (bytes "C")) (sym (head .2)) ∙ sym (compared .same .ensures) ∙ unfalse _ (else1 .if1 .left) in
+    let spelled = ap (λ (f : List ℕ). same f (bytes "C")) (sym (head .2)) ∙ sym (compared .same .ensures) ∙ not-false _ (else1 .if1 .left) in
     let behind = comma-placed _ _ _ (entry .pre .0 .placed) (head .3) (head .4) in
     let found = numbers-read (numbers .numbers .ensures) 4 refl behind (read .read .given .1) in
-    let fit = ap (allInRange headerRanges) (four (numbers .numbers .last .1 .1 .0) (found .long)) ∙ sym (header-fits .header-fits .ensures) ∙ unfalse _ (else2 .if2 .left) in
+    let fit = ap (allInRange headerRanges) (four (numbers .numbers .last .1 .1 .0) (found .long)) ∙ sym (header-fits .header-fits .ensures) ∙ not-false _ (else2 .if2 .left) in
     (on-header (header-on (entry .args .text .now) (entry .args .cursor) left (entry .pre .0 .placed) (head .3) _ (head .4) spelled (numbers .numbers .last .1 .1 .0) _ found fit) (header-told (numbers .numbers .last .1 .1 .0) _ _ _ (index .index .ensures .0) (index2 .index2 .ensures .0) (c .index3 .ensures .0)), found .placed, made-small (numbers .numbers .last .1 .1 .0) _ _ _ (index .index .ensures .0) (index2 .index2 .ensures .0) (c .index3 .ensures .0) (found .long) fit)
 
 pub header-line-spec : {M : Type 1} → statement M

@@ -1,6 +1,6 @@
 -- The loop's invariant is a turn of it. Each map is read into its own part of the work space.
 use borrow.Author.Needs.{needs}
-use mathlib.Core.Path.{_∙_, subst}
+use mathlib.Core.Path.{subst}
 use Prim.Native.Nat.{_+_, _-_, _*_}
 use native.Mathlib.Omega.{arith}
 use lib.ListN.{length, take, drop}

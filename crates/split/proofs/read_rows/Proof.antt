@@ -1,6 +1,6 @@
 -- The loop's invariant is a turn of it. The words that it reads stand below what it stores.
 use borrow.Author.Needs.{needs}
-use mathlib.Core.Path.{sym, subst, _∙_}
+use mathlib.Core.Path.{subst, _∙_}
 use Prim.Native.Nat.{_-_}
 use native.Mathlib.Omega.{arith}
 use Rattle.spec.specs.Reading.{splitSheet, next}

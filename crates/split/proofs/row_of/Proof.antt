@@ -1,5 +1,4 @@
-use Rattle.spec.specs.Reading.{allInRange}
-use mathlib.Core.Path.{refl, sym}
+use mathlib.Core.Path.{sym}
 use native.Mathlib.Omega.{arith}
 use Rattle.split.proofs.Tests.{range-out, range-next, range-last, in-below, out-below}
 use Rattle.split.proofs.RowLaws.{row-out, row-in}
