@@ -1,7 +1,7 @@
 -- Laws of regions and of changed parts: what is read there, what a store in front of a region, past its end or elsewhere does, and the lists that a region is made of.
 use mathlib.Core.Path.{_≡_, refl, sym, ap, _∙_}
 use mathlib.Core.Logic.{_⊎_, inl, inr, ⊎-elim}
-use mathlib.Core.List.{List, [], _∷_, _++_, map}
+use mathlib.Core.List.{List, [], _∷_, _++_, map, map-append}
 use Prim.Native.Nat.{ℕ, zero, suc, _+_, _-_, _<_, _≤_}
 use native.Mathlib.Omega.{arith}
 use native.Mathlib.Nat.{eq-or-lt-of-le}
@@ -49,6 +49,13 @@ region-push w b xs v o r = record {
       ∙ sym (List·getD-append xs (v ∷ []) 0 i l))
       (eq-or-lt-of-le (omega (arith, length-append xs (v ∷ []))));
 }
+
+-- one entry more of a column
+pub column-push : {A : Type 0} (w : List ℕ) (b : ℕ) (f : A → ℕ) (l : List A) (a : A) (n : ℕ) → length l ≡ n → b + n < length w
+    → Region w b (map f l) → Region (set w (b + n) (f a)) b (map f (l ++ (a ∷ [])))
+column-push w b f l a n e h r =
+    let m : length (map f l) ≡ n = length-map l f ∙ e in
+    rw (map-append f l (a ∷ []), ← m) (region-push w b (map f l) (f a) (omega arith) r)
 
 -- a number stored in front of a region
 pub region-front : (w xs : List ℕ) (b v : ℕ) → b < length w → Region w (b + 1) xs → Region (set w b v) b (v ∷ xs)
