@@ -78,6 +78,10 @@ module _
     unfolding numbers numerals ranged
     alone = shows [] ∙ bad
 
+    no-tail : (s .end ≡ Comma → ⊥) → nextLine programSheet read (c .line) (lines (rest text c)) ≡ stop (ProgramForm (c .line + 1))
+    unfolding form
+    no-tail n = first-alone programSheet read (c .line) (rest text c) left (λ e. n (span-end text c s is ∙ e)) alone
+
     tail-malformed : TailShown text (s .next) (s .end) Malformed
         → nextLine programSheet read (c .line) (lines (rest text c)) ≡ stop (ProgramForm (c .line + 1))
     unfolding form
@@ -86,14 +90,8 @@ module _
         go : (e : FieldEnd) → s .end ≡ e → nextLine programSheet read (c .line) (lines (rest text c)) ≡ stop (ProgramForm (c .line + 1))
         go Comma q =
             tail-form programSheet read (c .line) (range ∷ []) g text c (firstField (rest text c)) (s .next) (span-comma text c s is p q) shows bad left (h q)
-        go Newline q = first-alone programSheet read (c .line) (rest text c) left (λ e. clash (sym q ∙ span-end text c s is ∙ e)) alone
-          where
-            clash : Newline ≡ Comma → ⊥
-            clash e = let z : _≡_ {A = ℕ} 0 1 = cc in omega arith
-        go Text q = first-alone programSheet read (c .line) (rest text c) left (λ e. clash (sym q ∙ span-end text c s is ∙ e)) alone
-          where
-            clash : Text ≡ Comma → ⊥
-            clash e = let z : _≡_ {A = ℕ} 0 1 = cc in omega arith
+        go Newline q = no-tail (λ e. let z : _≡_ {A = ℕ} 0 1 = cc in omega arith)
+        go Text q = no-tail (λ e. let z : _≡_ {A = ℕ} 0 1 = cc in omega arith)
 
     module _ (v : ℕ) (d : Cursor) (h : TailShown text (s .next) (s .end) (Value v d)) where
       tail-shows : nextLine programSheet read (c .line) (lines (rest text c))

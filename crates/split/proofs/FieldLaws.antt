@@ -45,11 +45,9 @@ module _ (text : List ℕ) (c : Cursor) (s : Span) (is : s ≡ spanAt text c) wh
       let l = span-le text c s is p in
       (l .0, l .1, span-field text c s is, sym (span-end text c s is) ∙ e, sym (span-next text c s is))
 
-  pub not-comma : {e : FieldEnd} → s .end ≡ e → (Comma ≡ e → ⊥) → endOf (rest text c) ≡ Comma → ⊥
-  not-comma h n q = n (sym q ∙ sym (span-end text c s is) ∙ h)
-
-  pub not-newline : {e : FieldEnd} → s .end ≡ e → (Newline ≡ e → ⊥) → endOf (rest text c) ≡ Newline → ⊥
-  not-newline h n q = n (sym q ∙ sym (span-end text c s is) ∙ h)
+  -- the field ends otherwise
+  pub other-end : {e f : FieldEnd} → s .end ≡ e → (f ≡ e → ⊥) → endOf (rest text c) ≡ f → ⊥
+  other-end h n q = n (sym q ∙ sym (span-end text c s is) ∙ h)
 
   -- a row's last field: nothing
   none-taken : (n : ℕ) (l : List ℕ) → n ≡ 0 → take n l ≡ []

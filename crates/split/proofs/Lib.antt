@@ -5,6 +5,7 @@ pub mod LineLaws
 pub mod HeaderLaws
 pub mod TypeLaws
 pub mod MapLaws
+pub mod LineFields
 pub mod RowLaws
 pub mod Stores
 pub mod Loops

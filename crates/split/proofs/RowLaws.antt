@@ -10,19 +10,17 @@ use lib.ListN.{length, take, drop}
 use borrow.Author.Tests.{ne-eqb}
 use Rattle.spec.specs.Choice.{if_then_else_}
 use Rattle.spec.specs.Text.{lines, Field, numeral, digitLimit}
-use Rattle.spec.specs.Reading.{splitSheet, Out, stop, Place, Seen, right, badForm, badRange, seen, Range, below, inRange, allInRange, withNumeral, numerals, ranged, numbers, form, passed, nextLine, next}
+use Rattle.spec.specs.Reading.{splitSheet, Out, stop, Place, Seen, right, badForm, badRange, seen, Range, below, inRange, allInRange, withNumeral, numerals, ranged, numbers, passed, next}
 use Rattle.spec.specs.Split.{Header, Row, rowOf, blank, startRange, rowLine}
 use Rattle.spec.specs.declared.Refusal.the-variants.{SplitForm, SplitRange}
 use Rattle.spec.specs.declared.Word.{Word}
 use Rattle.spec.specs.declared.Word.the-variants.{Leaf, Unary, Binary}
 use Rattle.spec.specs.declared.BinaryWord.the-variants.{Let, If, Spawn, Write}
-use Rattle.lexer.specs.Views.{endOf, firstField, behind, withField, lineAt}
+use Rattle.lexer.specs.Views.{endOf, firstField, lineAt}
 use Rattle.lexer.specs.Cursors.{Placed, rest, next as nextCursor, placeAt}
 use Rattle.lexer.specs.declared.Cursor.{Cursor}
-use Rattle.lexer.specs.declared.FieldEnd.{FieldEnd}
-use Rattle.lexer.specs.declared.FieldEnd.the-variants.{Comma, Newline, Text}
-use Rattle.lexer.proofs.Fields.{line-comma, line-newline, line-text, line-some}
-use Rattle.lexer.proofs.Lines.{next-open, next-closed}
+use Rattle.lexer.specs.declared.FieldEnd.the-variants.{Newline}
+use Rattle.lexer.proofs.Fields.{line-newline}
 use Rattle.lexer.proofs.Places.{next-rest, next-placed, line-passed}
 use Rattle.split.specs.declared.Row.{Row as RowNumbers}
 use Rattle.split.specs.declared.RowRead.{RowRead}
@@ -31,7 +29,7 @@ use Rattle.split.specs.declared.Leading.the-variants as leading
 use Rattle.split.specs.declared.Start.the-variants as start
 use Rattle.split.specs.Lines.{rowTold, wordLine, startLimit, rowRanged}
 use Rattle.split.specs.Answers.{LeadingAnswer, StartAnswer, RowAnswer}
-use Rattle.lexer.proofs.Sheets.{next-at}
+use Rattle.split.proofs.LineFields.{shown, behind-field, field-wrong, field-last, field-more, at-cursor}
 use Rattle.split.proofs.LineLaws.{shows-range, shows-entry, comma-line, comma-placed, comma-kept}
 
 -- ------------------------------------------------------------------ three numbers in their ranges
@@ -47,76 +45,6 @@ module _ (line : ℕ) (row : RowNumbers) (starts : ℕ) (H : Header) (c : Cursor
   pub row-in : true ≡ fits → row-read.Read row c ≡ rowRanged line row starts H c
   unfolding rowRanged
   row-in e = rw (← e)
-
--- ------------------------------------------------------------------ the fields of a line, one after the other
-
--- what a line shows, by its fields and what is left behind it
-unfoldable shown : {A : Type 0} → (List Field → Seen A) → (line : ℕ) → Option (List Field × List ℕ) → Out (A × Place)
-shown read k none = stop (SplitForm k)
-shown read k (some found) = passed splitSheet k (lines (found .1)) (read (found .0))
-
-module _ {A : Type 0} (read : List Field → Seen A) (k : ℕ) where
-  bad-line : (fs : List Field) (r : List ℕ) → read fs ≡ badForm → shown read k (some (fs, r)) ≡ stop (SplitForm k)
-  unfolding shown passed form
-  bad-line fs r e = rw e
-
-  behind-field : (f : Field) (o : Option (List Field × List ℕ)) → shown read k (withField f o) ≡ shown (λ fs. read (f ∷ fs)) k o
-  unfolding shown withField
-  behind-field f none = refl
-  behind-field f (some found) = refl
-
-  bad-fields : (f : Field) (o : Option (List Field × List ℕ)) → ((fs : List Field) → read (f ∷ fs) ≡ badForm) → shown read k (withField f o) ≡ stop (SplitForm k)
-  unfolding withField shown
-  bad-fields f none h = refl
-  bad-fields f (some found) h = bad-line (f ∷ found .0) (found .1) (h (found .0))
-
-  more-fields : (f : Field) (t : List ℕ) (o : Option (List Field × List ℕ)) → lineAt t ≡ o → ((g : Field) (gs : List Field) → read (f ∷ g ∷ gs) ≡ badForm)
-      → shown read k (withField f o) ≡ stop (SplitForm k)
-  unfolding withField shown
-  more-fields f t none e h = refl
-  more-fields f t (some ([], r)) e h = let l = line-some t [] r e in absurd (omega arith)
-  more-fields f t (some (g ∷ gs, r)) e h = bad-line (f ∷ g ∷ gs) r (h g gs)
-
-  module _ (t : List ℕ) where
-    open-line : endOf t ≡ Text → shown read k (lineAt t) ≡ stop (SplitForm k)
-    unfolding shown
-    open-line e = ap (shown read k) (line-text t e)
-
-    -- the first field is enough to refuse the line
-    field-wrong : ((fs : List Field) → read (firstField t ∷ fs) ≡ badForm) → shown read k (lineAt t) ≡ stop (SplitForm k)
-    field-wrong h = go (endOf t) refl
-      where
-        go : (e : FieldEnd) → endOf t ≡ e → shown read k (lineAt t) ≡ stop (SplitForm k)
-        go Comma e = ap (shown read k) (line-comma t e) ∙ bad-fields (firstField t) (lineAt (behind t)) h
-        go Newline e = ap (shown read k) (line-newline t e) ∙ bad-line (firstField t ∷ []) (behind t) (h [])
-        go Text e = open-line e
-
-    -- too few fields
-    field-last : (endOf t ≡ Comma → ⊥) → read (firstField t ∷ []) ≡ badForm → shown read k (lineAt t) ≡ stop (SplitForm k)
-    field-last n h = go (endOf t) refl
-      where
-        go : (e : FieldEnd) → endOf t ≡ e → shown read k (lineAt t) ≡ stop (SplitForm k)
-        go Comma e = absurd (n e)
-        go Newline e = ap (shown read k) (line-newline t e) ∙ bad-line (firstField t ∷ []) (behind t) h
-        go Text e = open-line e
-
-    -- too many fields
-    field-more : (endOf t ≡ Newline → ⊥) → ((g : Field) (gs : List Field) → read (firstField t ∷ g ∷ gs) ≡ badForm) → shown read k (lineAt t) ≡ stop (SplitForm k)
-    field-more n h = go (endOf t) refl
-      where
-        go : (e : FieldEnd) → endOf t ≡ e → shown read k (lineAt t) ≡ stop (SplitForm k)
-        go Comma e = ap (shown read k) (line-comma t e) ∙ more-fields (firstField t) (behind t) (lineAt (behind t)) refl h
-        go Newline e = absurd (n e)
-        go Text e = open-line e
-
-at-cursor : {A : Type 0} (read : List Field → Seen A) (text : List ℕ) (c : Cursor) → 0 < length (rest text c)
-    → next splitSheet read (placeAt text c) ≡ shown read (c .line + 1) (lineAt (rest text c))
-unfolding shown form
-at-cursor read text c l = next-at splitSheet text read c ∙ go (lineAt (rest text c)) refl
-  where
-    go : (o : Option (List Field × List ℕ)) → lineAt (rest text c) ≡ o → nextLine splitSheet read (c .line) (lines (rest text c)) ≡ shown read (c .line + 1) o
-    go none e = next-open splitSheet read (c .line) (rest text c) l e
-    go (some found) e = next-closed splitSheet read (c .line) (rest text c) (found .0) (found .1) e
 
 -- ------------------------------------------------------------------ what the fields of a row show
 
