@@ -1,4 +1,3 @@
-pub mod Regions
 pub mod Listed
 pub mod StructureLaws
 pub mod ScopeLaws

@@ -17,6 +17,7 @@ use Rattle.spec.specs.declared.Word.{Word}
 use Rattle.spec.specs.declared.Word.the-variants.{Leaf, Unary, Binary}
 use Rattle.spec.specs.declared.LeafWord.the-variants.{Var, Int, Newtid, Newlock}
 use Rattle.spec.specs.declared.BinaryWord.the-variants.{Let, If, Spawn, Write}
+use Rattle.spec.proofs.Ranges.{up-to-in, up-to-out}
 use Rattle.lexer.specs.Views.{firstField, nothing}
 use Rattle.lexer.specs.Cursors.{Placed, start, rest, placeAt, spanAt}
 use Rattle.lexer.specs.Numbers.{NumbersRead}
@@ -77,6 +78,10 @@ module _
     unfolding numbers numerals ranged
     alone = shows [] ∙ bad
 
+    no-tail : (s .end ≡ Comma → ⊥) → nextLine programSheet read (c .line) (lines (rest text c)) ≡ stop (ProgramForm (c .line + 1))
+    unfolding form
+    no-tail n = first-alone programSheet read (c .line) (rest text c) left (λ e. n (span-end text c s is ∙ e)) alone
+
     tail-malformed : TailShown text (s .next) (s .end) Malformed
         → nextLine programSheet read (c .line) (lines (rest text c)) ≡ stop (ProgramForm (c .line + 1))
     unfolding form
@@ -85,14 +90,8 @@ module _
         go : (e : FieldEnd) → s .end ≡ e → nextLine programSheet read (c .line) (lines (rest text c)) ≡ stop (ProgramForm (c .line + 1))
         go Comma q =
             tail-form programSheet read (c .line) (range ∷ []) g text c (firstField (rest text c)) (s .next) (span-comma text c s is p q) shows bad left (h q)
-        go Newline q = first-alone programSheet read (c .line) (rest text c) left (λ e. clash (sym q ∙ span-end text c s is ∙ e)) alone
-          where
-            clash : Newline ≡ Comma → ⊥
-            clash e = let z : _≡_ {A = ℕ} 0 1 = cc in omega arith
-        go Text q = first-alone programSheet read (c .line) (rest text c) left (λ e. clash (sym q ∙ span-end text c s is ∙ e)) alone
-          where
-            clash : Text ≡ Comma → ⊥
-            clash e = let z : _≡_ {A = ℕ} 0 1 = cc in omega arith
+        go Newline q = no-tail (λ e. let z : _≡_ {A = ℕ} 0 1 = cc in omega arith)
+        go Text q = no-tail (λ e. let z : _≡_ {A = ℕ} 0 1 = cc in omega arith)
 
     module _ (v : ℕ) (d : Cursor) (h : TailShown text (s .next) (s .end) (Value v d)) where
       tail-shows : nextLine programSheet read (c .line) (lines (rest text c))
@@ -123,12 +122,10 @@ range-of (Binary Spawn) = refl
 range-of (Binary Write) = refl
 
 within-limit : (w : Word) (v : ℕ) → v ≤ limitOf w → inRange (valueRange w) v ≡ true
-unfolding inRange
-within-limit w v h = rw (range-of w, le-leb 0 v (omega arith), le-leb v (limitOf w) h) refl
+within-limit w v h = rw (range-of w) (up-to-in (limitOf w) v h)
 
 over-limit : (w : Word) (v : ℕ) → limitOf w < v → inRange (valueRange w) v ≡ false
-unfolding inRange
-over-limit w v h = rw (range-of w, le-leb 0 v (omega arith), lt-leb v (limitOf w) h) refl
+over-limit w v h = rw (range-of w) (up-to-out (limitOf w) v h)
 
 module _ (text : List ℕ) (c : Cursor) where
   -- no line is left

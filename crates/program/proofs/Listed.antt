@@ -5,7 +5,7 @@ use Prim.Native.Nat.{ℕ, suc, zero, _+_, _-_, _≤_}
 use native.Mathlib.Omega.{arith}
 use native.Mathlib.Nat.{add-zero}
 use lib.ListN.{length, drop}
-use Rattle.spec.specs.Expression.{Step, Expr, leaf, unary, binary, size, withParts, listed}
+use Rattle.spec.specs.Expression.{Step, Expr, size, withParts, listed}
 use Rattle.spec.specs.declared.Word.{Word}
 use Rattle.spec.specs.declared.Word.the-variants.{Leaf, Unary, Binary}
 use Rattle.program.specs.Stored.{partsOf, stepsIn}
@@ -19,12 +19,6 @@ total (suc m) (e ∷ es) = size e + total m es
 total-one : (e : Expr) (es : List Expr) → total 1 (e ∷ es) ≡ size e
 unfolding total
 total-one e es = omega arith
-
-pub size-positive : (e : Expr) → 1 ≤ size e
-unfolding size
-size-positive (leaf w l v) = omega arith
-size-positive (unary w l v e) = omega arith
-size-positive (binary w l v e₁ e₂) = omega arith
 
 -- ------------------------------------------------------------------ one step in front
 

@@ -5,7 +5,7 @@ use mathlib.Core.List.{List, [], _∷_, _++_, append-nil}
 use Prim.Native.Nat.{ℕ, suc, zero, _+_, _-_, _<_, _≤_}
 use native.Mathlib.Omega.{arith}
 use native.Mathlib.Nat.{not-suc-le-zero, le-of-suc-le-suc, sub-zero}
-use native.Mathlib.Decide.{ℕ-discrete}
+use native.Mathlib.Decide.{ℕ-discrete, decLt}
 use lib.ListN.{length, getD, set, replicate, length-set, length-append}
 use lib.Seq.{getD-set-same, getD-set-other, set-out}
 use borrow.Author.Tests.{le-leb, lt-leb, le-ltb, lt-ltb}
@@ -23,7 +23,6 @@ use Rattle.program.specs.declared.binders.Role.{Role}
 use Rattle.program.specs.declared.binders.Role.the-variants.{Binds, Uses, Neither}
 use Rattle.program.specs.declared.binders.Judged.{Judged}
 use Rattle.program.specs.declared.binders.Judged.the-variants.{Bind, Store, Refused}
-use Rattle.program.proofs.Regions.{lt-or-le}
 
 -- within a list the default does not matter
 pub getD-any : (l : List ℕ) (i d e : ℕ) → i < length l → getD l i d ≡ getD l i e
@@ -184,11 +183,11 @@ module _ (n : ℕ) (w₀ w t : List ℕ) (k : ℕ) (s : ScopesSoFar n w₀ w t k
             old = ⊎-elim (λ e. inl e) (λ l. inr (omega arith)) (s .below u)
 
             from : Dec (u ≡ v) → (getD (set t v k) u 256 ≡ 256) ⊎ (getD (set t v k) u 256 < k + 1)
-            from (yes e) =
-                ⊎-elim
-                (λ (l : v < length t). inr (rw (e, getD-set-same t v k 256 l) (omega arith)))
-                (λ (l : length t ≤ v). rw (set-out t v k l) old)
-                (lt-or-le v (length t))
+            from (yes e) = within (decLt v (length t))
+              where
+                within : Dec (v < length t) → (getD (set t v k) u 256 ≡ 256) ⊎ (getD (set t v k) u 256 < k + 1)
+                within (yes l) = inr (rw (e, getD-set-same t v k 256 l) (omega arith))
+                within (no l) = rw (set-out t v k (omega arith)) old
             from (no f) = rw (getD-set-other t v u k 256 f) old
 
     pub stores : (x y : ℕ) (t′ : List ℕ) → x ≡ y → t′ ≡ t → j ≡ Store y → ScopesSoFar n w₀ (set w (letsAt + k) x) t′ (k + 1)

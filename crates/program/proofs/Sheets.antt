@@ -29,7 +29,7 @@ use Rattle.workspace.specs.Layout.{wordsAt, valuesAt, endsAt, letsAt, codeOf}
 use Rattle.workspace.specs.Holds.{ends, lets, HoldsSteps}
 use Rattle.workspace.specs.Region.{Region, ChangedWithin}
 use Rattle.workspace.proofs.Codes.{word-of-code}
-use Rattle.workspace.proofs.Region.{region-kept, changed-then, changed-wider}
+use Rattle.workspace.proofs.Region.{region-moved, region-first, region-behind, region-kept, changed-then, changed-wider}
 use Rattle.program.specs.Stored.{wordAt, valueAt, stepsIn}
 use Rattle.program.specs.Outcomes.{Answers}
 use Rattle.program.specs.Structure.{Structured}
@@ -42,7 +42,6 @@ use Rattle.program.specs.declared.lines.CountLine.the-variants as count
 use Rattle.program.specs.declared.lines.StepLines.the-variants as step-lines
 use Rattle.program.specs.declared.ProgramRead.{ProgramRead}
 use Rattle.program.specs.declared.ProgramRead.the-variants.{Read, Refused}
-use Rattle.program.proofs.Regions.{region-first, region-behind}
 use Rattle.workspace.proofs.Held.{ends-length}
 use Rattle.spec.proofs.Outcomes.{stop-is-not-on}
 use Rattle.program.proofs.StructureLaws.{steps-kept}
@@ -62,8 +61,8 @@ steps-held-from w k (s ∷ ss) r q =
     rw (region-first r, region-first q, word-of-code (s .word))
     (ap (λ l. s ∷ l)
     (steps-held-from w (k + 1) ss
-    (subst (λ i. Region w i (map (λ (s : Step). codeOf (s .word)) ss)) a (region-behind r))
-    (subst (λ i. Region w i (map (λ (s : Step). s .value) ss)) b (region-behind q))))
+    (region-moved _ _ a (region-behind r))
+    (region-moved _ _ b (region-behind q))))
 
 steps-held : (w : List ℕ) (n : ℕ) (ss : List Step) → length ss ≡ n → HoldsSteps w ss → stepsIn w 0 n ≡ ss
 steps-held w n ss e h = rw (← e) (steps-held-from w 0 ss (h .words) (h .values))

@@ -11,9 +11,9 @@ use Rattle.workspace.specs.Layout.{endsAt}
 use Rattle.workspace.specs.Holds.{ends}
 use Rattle.workspace.proofs.Held.{ends-length}
 use Rattle.workspace.specs.Region.{Region}
+use Rattle.workspace.proofs.Region.{region-moved, region-first, region-behind, region-left, region-right}
 use Rattle.program.specs.Stored.{wordAt, valueAt, stepsIn}
 use Rattle.program.specs.Scopes.{roleOf, Variable}
-use Rattle.program.proofs.Regions.{region-first, region-behind, region-left, region-right}
 
 -- the step at index k: its word, its line, its number v
 pub record Head (w : List ℕ) (k : ℕ) (x : Word) (l v : ℕ) : Type 0 where
@@ -80,21 +80,16 @@ unfolding ends size
 stands w k (leaf x l v) h r = h
 stands w k (unary x l v e) h r =
     let q : endsAt + k + 1 ≡ endsAt + (k + 1) = omega arith in
-    (h .0, stands w (k + 1) e (h .1) (subst (λ i. Region w i (ends (k + 1) e)) q (region-behind r)))
+    (h .0, stands w (k + 1) e (h .1) (region-moved _ _ q (region-behind r)))
 stands w k (binary x l v e₁ e₂) h r =
     let q : endsAt + k + 1 ≡ endsAt + (k + 1) = omega arith in
     let o : endsAt + (k + 1) + length (ends (k + 1) e₁) ≡ endsAt + (k + 1 + size e₁) = omega (arith, ends-length (k + 1) e₁) in
-    let s : Region w (endsAt + (k + 1)) (ends (k + 1) e₁ ++ ends (k + 1 + size e₁) e₂) =
-    subst (λ i. Region w i (ends (k + 1) e₁ ++ ends (k + 1 + size e₁) e₂)) q (region-behind r) in
-    let s₁ = region-left w (ends (k + 1) e₁) (ends (k + 1 + size e₁) e₂) (endsAt + (k + 1)) s in
-    let s₂ : Region w (endsAt + (k + 1 + size e₁)) (ends (k + 1 + size e₁) e₂) =
-    subst (λ i. Region w i (ends (k + 1 + size e₁) e₂)) o
-    (region-right w (ends (k + 1) e₁) (ends (k + 1 + size e₁) e₂) (endsAt + (k + 1)) s) in (
+    let s : Region w (endsAt + (k + 1)) (ends (k + 1) e₁ ++ ends (k + 1 + size e₁) e₂) = region-moved _ _ q (region-behind r) in (
       h .0,
       region-first r,
       ends-first w (k + 1) e₁ (ends (k + 1 + size e₁) e₂) s,
-      stands w (k + 1) e₁ (h .1) s₁,
-      stands w (k + 1 + size e₁) e₂ (h .2) s₂,
+      stands w (k + 1) e₁ (h .1) (region-left (ends (k + 1) e₁) _ s),
+      stands w (k + 1 + size e₁) e₂ (h .2) (region-moved _ _ o (region-right (ends (k + 1) e₁) _ s)),
     )
 
 -- the expression that n stored steps list stands at index 0

@@ -1,60 +1,30 @@
 -- Laws of the loop over the step lines.
-use mathlib.Core.Path.{_≡_, refl, sym, ap, subst, _∙_}
+use mathlib.Core.Path.{_≡_, refl, sym, ap, _∙_}
 use mathlib.Core.Logic.{inl, inr}
-use mathlib.Core.List.{List, [], _∷_, _++_, map, map-append, append-nil}
+use mathlib.Core.List.{List, [], _∷_, _++_, map}
 use Prim.Native.Nat.{ℕ, suc, _+_, _-_, _<_, _≤_}
 use native.Mathlib.Omega.{arith}
 use native.Mathlib.Nat.{sub-zero}
 use lib.ListN.{length, set, replicate, length-append, length-map, length-set}
-use lib.Seq.{append-snoc}
-use Rattle.spec.specs.Reading.{programSheet, Out, stop, on, _>>=_, Place, nextAll}
+use Rattle.spec.specs.Reading.{programSheet, on, nextAll}
 use Rattle.spec.specs.Expression.{Step}
 use Rattle.spec.specs.Program.{stepLine}
 use Rattle.spec.specs.declared.Refusal.{Refusal}
 use Rattle.spec.specs.declared.Word.{Word}
+use Rattle.spec.proofs.Reading.{front, front-none, all-stop, all-on, all-done}
 use Rattle.lexer.specs.Cursors.{Placed, placeAt}
 use Rattle.lexer.specs.declared.Cursor.{Cursor}
 use Rattle.workspace.specs.Layout.{wordsAt, valuesAt, codeOf}
 use Rattle.workspace.specs.Holds.{HoldsSteps}
 use Rattle.workspace.specs.Region.{Region, ChangedWithin}
-use Rattle.workspace.proofs.Region.{region-empty, region-apart, region-push, changed-nothing, changed-store, changed-then}
+use Rattle.workspace.proofs.Region.{region-empty, region-apart, column-push, changed-nothing, changed-store, changed-then}
 use Rattle.program.specs.Lines.{limitOf, stepAt, StepShown, Limited, none-limited, more-limited, stepsAt, StepsShown}
 use Rattle.program.specs.declared.lines.StepLine.the-variants as step
 use Rattle.program.specs.declared.lines.StepLines.the-variants as steps
 
--- ------------------------------------------------------------------ steps in front of others
-
-unfoldable pub front : List Step → Out (List Step × Place) → Out (List Step × Place)
-front ss (stop x) = stop x
-front ss (on r) = on (ss ++ r .0, r .1)
-
-front-none : (o : Out (List Step × Place)) → o ≡ front [] o
-unfolding front
-front-none (stop x) = refl
-front-none (on r) = refl
-
-front-snoc : (ss : List Step) (s : Step) (o : Out (List Step × Place)) → front ss (front (s ∷ []) o) ≡ front (ss ++ (s ∷ [])) o
-unfolding front
-front-snoc ss s (stop x) = refl
-front-snoc ss s (on r) = ap (λ ts. on (ts, r .1)) (sym (append-snoc ss s (r .0)))
-
-front-one : (s : Step) (o : Out (List Step × Place)) → (o >>= λ r. on (s ∷ r .0, r .1)) ≡ front (s ∷ []) o
-unfolding front _>>=_
-front-one s (stop x) = refl
-front-one s (on r) = refl
-
 limited-snoc : {ss : List Step} (s : Step) → Limited ss → s .value ≤ limitOf (s .word) → Limited (ss ++ (s ∷ []))
 limited-snoc s none-limited h = more-limited h none-limited
 limited-snoc s (more-limited l r) h = more-limited l (limited-snoc s r h)
-
--- one row more in a column
-column-push : (w : List ℕ) (b : ℕ) (f : Step → ℕ) (ss : List Step) (s : Step) (k : ℕ) → length ss ≡ k → b + k < length w → Region w b (map f ss)
-    → Region (set w (b + k) (f s)) b (map f (ss ++ (s ∷ [])))
-column-push w b f ss s k e h r =
-    let l : length (map f ss) ≡ k = rw length-map e in
-    rw (map-append f ss (s ∷ []))
-    (subst (λ i. Region (set w (b + i) (f s)) b (map f ss ++ (f s ∷ []))) l
-    (region-push w b (map f ss) (f s) (omega arith) r))
 
 -- ------------------------------------------------------------------ the loop
 
@@ -77,17 +47,17 @@ start text n c w h p = record {
   held = record { words = region-empty w wordsAt (omega arith); values = region-empty w valuesAt (omega arith) };
   limited = none-limited;
   placed = p;
-  rest = rw sub-zero (front-none (stepsAt text n c));
+  rest = rw sub-zero (sym (front-none (stepsAt text n c)));
   changed = changed-nothing wordsAt (valuesAt + 256) w;
 }
 
 module _ (text : List ℕ) (n : ℕ) (c₀ : Cursor) (w₀ w : List ℕ) (c : Cursor) (k : ℕ) (s : StepsSoFar text n c₀ w₀ w c k) where
   pub finish : n ≤ k → StepsShown text n c₀ w₀ w (steps.Read c)
-  unfolding stepsAt nextAll front
+  unfolding stepsAt
   finish h =
       let e : n - k ≡ 0 = omega (arith, s .few) in
       let f : stepsAt text n c₀ ≡ on (s .read, placeAt text c) =
-      s .rest ∙ ap (λ m. front (s .read) (stepsAt text m c)) e ∙ ap (λ l. on (l, placeAt text c)) (append-nil (s .read)) in
+      s .rest ∙ ap (λ m. front (s .read) (stepsAt text m c)) e ∙ all-done programSheet (s .read) (placeAt text c) in
       record {
         found = record {
           steps = s .read;
@@ -101,18 +71,22 @@ module _ (text : List ℕ) (n : ℕ) (c₀ : Cursor) (w₀ w : List ℕ) (c : Cu
       }
 
   module _ (h : k < n) where
-    step-next : (o : Out (Step × Place)) → stepAt text c ≡ o
-        → stepsAt text (n - k) c ≡ (o >>= λ r. nextAll programSheet (replicate (n - (k + 1)) stepLine) (r .1) >>= λ q. on (r .0 ∷ q .0, q .1))
-    unfolding stepsAt nextAll stepAt
-    step-next o p = let e : n - k ≡ suc (n - (k + 1)) = omega arith in rw (e, p) refl
+    left : stepsAt text (n - k) c ≡ nextAll programSheet (stepLine ∷ replicate (n - (k + 1)) stepLine) (placeAt text c)
+    unfolding stepsAt
+    left = let e : n - k ≡ suc (n - (k + 1)) = omega arith in rw e
 
-    reads : (one : Step) (d : Cursor) → stepAt text c ≡ on (one, placeAt text d) → stepsAt text (n - k) c ≡ front (one ∷ []) (stepsAt text (n - (k + 1)) d)
-    unfolding _>>=_ stepsAt
-    reads one d p = step-next (on (one, placeAt text d)) p ∙ front-one one (stepsAt text (n - (k + 1)) d)
+    reads : (one : Step) (d : Cursor) → stepAt text c ≡ on (one, placeAt text d)
+        → front (s .read) (stepsAt text (n - k) c) ≡ front (s .read ++ (one ∷ [])) (stepsAt text (n - (k + 1)) d)
+    unfolding stepsAt stepAt
+    reads one d p =
+        ap (front (s .read)) left
+        ∙ all-on programSheet stepLine (replicate (n - (k + 1)) stepLine) (placeAt text c) (s .read) one (placeAt text d) p
 
     pub refuses : (x : Refusal) → StepShown text c (step.Refused x) → StepsShown text n c₀ w₀ w (steps.Refused x)
-    unfolding front _>>=_
-    refuses x p = record { found = s .rest ∙ ap (front (s .read)) (step-next (stop x) p); changed = s .changed }
+    unfolding front stepAt
+    refuses x p =
+        let stopped = all-stop programSheet stepLine (replicate (n - (k + 1)) stepLine) (placeAt text c) x p in
+        record { found = s .rest ∙ ap (front (s .read)) (left ∙ stopped); changed = s .changed }
 
     pub more : (x : Word) (v code : ℕ) (d : Cursor) → length w₀ ≡ 16384 → n ≤ 256 → StepShown text c (step.Step x v d) → code ≡ codeOf x
         → StepsSoFar text n c₀ w₀ (set (set w (wordsAt + k) code) (valuesAt + k) v) d (k + 1)
@@ -136,7 +110,7 @@ module _ (text : List ℕ) (n : ℕ) (c₀ : Cursor) (w₀ w : List ℕ) (c : Cu
           };
           limited = limited-snoc one (s .limited) (p .1);
           placed = p .2;
-          rest = s .rest ∙ ap (front (s .read)) (reads one d (p .0)) ∙ front-snoc (s .read) one (stepsAt text (n - (k + 1)) d);
+          rest = s .rest ∙ reads one d (p .0);
           changed = changed-then wordsAt (valuesAt + 256) (s .changed)
               (changed-then wordsAt (valuesAt + 256)
               (changed-store wordsAt (valuesAt + 256) w (wordsAt + k) code (omega arith) (omega arith))

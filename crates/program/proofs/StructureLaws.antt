@@ -13,9 +13,10 @@ use Rattle.spec.specs.declared.Word.{Word}
 use Rattle.spec.specs.declared.Word.the-variants.{Leaf, Unary, Binary}
 use Rattle.workspace.specs.Layout.{wordsAt, valuesAt, endsAt, wordOf}
 use Rattle.workspace.specs.Holds.{ends}
+use Rattle.spec.proofs.Listing.{size-positive}
 use Rattle.workspace.proofs.Held.{ends-length}
 use Rattle.workspace.specs.Region.{Region, ChangedWithin}
-use Rattle.workspace.proofs.Region.{region-empty, region-kept, changed-nothing, changed-store, changed-then, changed-wider}
+use Rattle.workspace.proofs.Region.{region-empty, region-front, region-append, region-kept, changed-nothing, changed-store, changed-then, changed-wider}
 use Rattle.program.specs.Stored.{partsOf, wordAt, valueAt, stepsIn}
 use Rattle.program.specs.Structure.{listedFrom, reached, endsOf, Ended, Structured}
 use Rattle.program.specs.Outcomes.{Answers}
@@ -23,8 +24,7 @@ use Rattle.program.specs.declared.Outcome.{Outcome}
 use Rattle.program.specs.declared.Outcome.the-variants.{Passed, Refused}
 use Rattle.program.specs.declared.tree.Ending.{Ending}
 use Rattle.program.specs.declared.tree.Ending.the-variants.{Reached, Unfinished}
-use Rattle.program.proofs.Regions.{region-front, region-append}
-use Rattle.program.proofs.Listed.{total, total-listed, size-positive, behind-first, first-fits, steps-length, steps-drop}
+use Rattle.program.proofs.Listed.{total, total-listed, behind-first, first-fits, steps-length, steps-drop}
 
 never : {e : ℕ} → Unfinished ≡ Reached e → ⊥
 never {e} p = let z : _≡_ {A = ℕ} 0 1 = cc in omega arith
@@ -168,7 +168,7 @@ module _ (n m k : ℕ) (w : List ℕ) (hw : length w ≡ 16384) (hn : n ≤ 256)
     unfolding reached endsOf
     parts-at e w₂ r₂ f fs he q end y = record {
       answer = y .answer ∙ ap (reached (m - 1) e) tail ∙ sym answer;
-      marks = rw marks (region-append w₂ (ends k f) (endsOf (m - 1) e fs) (endsAt + k) left right);
+      marks = rw marks (region-append (ends k f) (endsOf (m - 1) e fs) left right);
       changed = changed-then (endsAt + k) (endsAt + 256) (x .changed)
           (changed-wider (endsAt + k) (endsAt + 256) (omega arith) (omega arith) (y .changed));
     }

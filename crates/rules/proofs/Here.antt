@@ -1,71 +1,36 @@
 -- Where an expression of the program that the work space holds stands: its steps from index k on, its parts behind them.
-use mathlib.Core.Path.{_≡_, refl, ap, _∙_}
+use mathlib.Core.Path.{_≡_, ap, _∙_}
 use mathlib.Core.Logic.{inl}
 use mathlib.Core.List.{List, _∷_, _++_, map, map-append}
-use Prim.Native.Nat.{ℕ, suc, _+_, _≤_}
+use Prim.Native.Nat.{ℕ, _+_, _≤_}
 use native.Mathlib.Omega.{arith}
-use lib.ListN.{length, getD, length-append, length-map}
+use lib.ListN.{length, getD, length-map}
 use Rattle.spec.specs.Expression.{Step, Expr, leaf, unary, binary, size}
 use Rattle.spec.specs.Conditions.{lineOf}
 use Rattle.spec.specs.WellFormed.{prefix, LinesFrom, UsedInside}
+use Rattle.spec.proofs.Listing.{prefix-length}
 use Rattle.spec.specs.declared.Word.the-variants.{Leaf, Unary, Binary}
 use Rattle.spec.specs.declared.LeafWord.{LeafWord}
-use Rattle.spec.specs.declared.LeafWord.the-variants.{Var, Int, Newtid, Newlock}
+use Rattle.spec.specs.declared.LeafWord.the-variants.{Var}
 use Rattle.spec.specs.declared.UnaryWord.{UnaryWord}
 use Rattle.spec.specs.declared.BinaryWord.{BinaryWord}
 use Rattle.spec.specs.declared.BinaryWord.the-variants.{Let, If, Spawn, Write}
 use Rattle.workspace.specs.Layout.{wordsAt, endsAt, letsAt, presAt, codeOf, wordOf}
 use Rattle.workspace.specs.Region.{Region, ChangedWithin}
 use Rattle.workspace.specs.Holds.{ends, lets, letIn}
-use Rattle.workspace.proofs.Region.{region-kept}
+use Rattle.workspace.proofs.Region.{region-moved, region-first, region-behind, region-left, region-right, region-kept}
+use Rattle.workspace.proofs.Held.{ends-length, insideSecond, lets-binary, lets-length}
 use Rattle.workspace.proofs.Codes.{word-of-code}
 use Rattle.rules.specs.Walk.{cell}
-use Rattle.rules.proofs.Columns.{region-head, region-tail, region-left, region-right}
 
--- ------------------------------------------------------------------ as many entries as steps
+-- ------------------------------------------------------------------ the second of two parts
 
-pub size-positive : (e : Expr) → 1 ≤ size e
-unfolding size
-size-positive (leaf x l v) = omega arith
-size-positive (unary x l v e) = omega arith
-size-positive (binary x l v e₁ e₂) = omega arith
-
-pub prefix-long : (e : Expr) → length (prefix e) ≡ size e
-unfolding prefix size
-prefix-long (leaf x l v) = refl
-prefix-long (unary x l v e) = ap suc (prefix-long e)
-prefix-long (binary x l v e₁ e₂) =
-    ap suc (length-append (prefix e₁) (prefix e₂) ∙ rw (prefix-long e₁, prefix-long e₂))
-
-ends-long : (k : ℕ) (e : Expr) → length (ends k e) ≡ size e
-unfolding ends size
-ends-long k (leaf x l v) = refl
-ends-long k (unary x l v e) = ap suc (ends-long (k + 1) e)
-ends-long k (binary x l v e₁ e₂) =
-    ap suc
-    (length-append (ends (k + 1) e₁) (ends (k + 1 + size e₁) e₂)
-    ∙ rw (ends-long (k + 1) e₁, ends-long (k + 1 + size e₁) e₂))
-
--- the variables whose let's e2 the second part is in
-unfoldable pub insideSecond : BinaryWord → (v k : ℕ) → List (ℕ × ℕ) → List (ℕ × ℕ)
-insideSecond Let v k inside = (v, k) ∷ inside
-insideSecond If v k inside = inside
-insideSecond Spawn v k inside = inside
-insideSecond Write v k inside = inside
-
+-- the variables whose let's e2 it is in
 unfoldable pub varsSecond : BinaryWord → (v : ℕ) → List ℕ → List ℕ
 varsSecond Let v vars = v ∷ vars
 varsSecond If v vars = vars
 varsSecond Spawn v vars = vars
 varsSecond Write v vars = vars
-
-lets-binary : (x : BinaryWord) (k : ℕ) (inside : List (ℕ × ℕ)) (l v : ℕ) (e₁ e₂ : Expr)
-    → lets k inside (binary x l v e₁ e₂) ≡ 0 ∷ (lets (k + 1) inside e₁ ++ lets (k + 1 + size e₁) (insideSecond x v k inside) e₂)
-unfolding lets insideSecond
-lets-binary Let k inside l v e₁ e₂ = refl
-lets-binary If k inside l v e₁ e₂ = refl
-lets-binary Spawn k inside l v e₁ e₂ = refl
-lets-binary Write k inside l v e₁ e₂ = refl
 
 used-binary : (x : BinaryWord) (vars : List ℕ) (l v : ℕ) (e₁ e₂ : Expr)
     → UsedInside vars (binary x l v e₁ e₂) → UsedInside vars e₁ × UsedInside (varsSecond x v vars) e₂
@@ -75,28 +40,15 @@ used-binary If vars l v e₁ e₂ u = u
 used-binary Spawn vars l v e₁ e₂ u = u
 used-binary Write vars l v e₁ e₂ u = u
 
-lets-long : (k : ℕ) (inside : List (ℕ × ℕ)) (e : Expr) → length (lets k inside e) ≡ size e
-unfolding lets size
-lets-long k inside (leaf Var l v) = refl
-lets-long k inside (leaf Int l v) = refl
-lets-long k inside (leaf Newtid l v) = refl
-lets-long k inside (leaf Newlock l v) = refl
-lets-long k inside (unary x l v e) = ap suc (lets-long (k + 1) inside e)
-lets-long k inside (binary x l v e₁ e₂) =
-    ap length (lets-binary x k inside l v e₁ e₂)
-    ∙ ap suc
-    (length-append (lets (k + 1) inside e₁) (lets (k + 1 + size e₁) (insideSecond x v k inside) e₂)
-    ∙ rw (lets-long (k + 1) inside e₁, lets-long (k + 1 + size e₁) (insideSecond x v k inside) e₂))
-
 -- ------------------------------------------------------------------ where an expression stands
 
 -- the codes of an expression's words, in line order
 unfoldable pub codes : Expr → List ℕ
 codes e = map (λ (s : Step). codeOf (s .word)) (prefix e)
 
-codes-long : (e : Expr) → length (codes e) ≡ size e
+codes-length : (e : Expr) → length (codes e) ≡ size e
 unfolding codes
-codes-long e = length-map (prefix e) (λ (s : Step). codeOf (s .word)) ∙ prefix-long e
+codes-length e = length-map (prefix e) (λ (s : Step). codeOf (s .word)) ∙ prefix-length e
 
 pub record Here (w : List ℕ) (k : ℕ) (inside : List (ℕ × ℕ)) (vars : List ℕ) (e : Expr) : Type 0 where
   pub words : Region w (wordsAt + k) (codes e)
@@ -109,15 +61,12 @@ pub record Here (w : List ℕ) (k : ℕ) (inside : List (ℕ × ℕ)) (vars : Li
 pub here-kept : {w w′ : List ℕ} {k : ℕ} {inside : List (ℕ × ℕ)} {vars : List ℕ} {e : Expr}
     → ChangedWithin presAt (presAt + 256) w w′ → k + size e ≤ 256 → Here w k inside vars e → Here w′ k inside vars e
 here-kept {k = k} {inside = inside} {e = e} x h H = record {
-  words = region-kept x (inl (omega (arith, codes-long e))) (H .words);
-  ended = region-kept x (inl (omega (arith, ends-long k e))) (H .ended);
-  bound = region-kept x (inl (omega (arith, lets-long k inside e))) (H .bound);
+  words = region-kept x (inl (omega (arith, codes-length e))) (H .words);
+  ended = region-kept x (inl (omega (arith, ends-length k e))) (H .ended);
+  bound = region-kept x (inl (omega (arith, lets-length k inside e))) (H .bound);
   lines = H .lines;
   used = H .used;
 }
-
-region-moved : {w xs : List ℕ} (b c : ℕ) → b ≡ c → Region w b xs → Region w c xs
-region-moved b c e r = rw (← e) r
 
 lines-moved : (m n : ℕ) (e : Expr) → m ≡ n → LinesFrom m e → LinesFrom n e
 lines-moved m n e h r = rw (← h) r
@@ -132,30 +81,30 @@ module _ {w : List ℕ} {k : ℕ} {inside : List (ℕ × ℕ)} {vars : List ℕ}
 
   pub leaf-word : (x : LeafWord) (l v : ℕ) → Here w k inside vars (leaf x l v) → wordOf (cell w wordsAt k) ≡ Leaf x
   unfolding codes prefix
-  leaf-word x l v H = ap wordOf (region-head _ _ (H .words)) ∙ word-of-code (Leaf x)
+  leaf-word x l v H = ap wordOf (region-first (H .words)) ∙ word-of-code (Leaf x)
 
   pub unary-word : (x : UnaryWord) (l v : ℕ) (e : Expr) → Here w k inside vars (unary x l v e)
       → wordOf (cell w wordsAt k) ≡ Unary x
   unfolding codes prefix
-  unary-word x l v e H = ap wordOf (region-head _ _ (H .words)) ∙ word-of-code (Unary x)
+  unary-word x l v e H = ap wordOf (region-first (H .words)) ∙ word-of-code (Unary x)
 
   pub binary-word : (x : BinaryWord) (l v : ℕ) (e₁ e₂ : Expr) → Here w k inside vars (binary x l v e₁ e₂)
       → wordOf (cell w wordsAt k) ≡ Binary x
   unfolding codes prefix
-  binary-word x l v e₁ e₂ H = ap wordOf (region-head _ _ (H .words)) ∙ word-of-code (Binary x)
+  binary-word x l v e₁ e₂ H = ap wordOf (region-first (H .words)) ∙ word-of-code (Binary x)
 
   -- the let of a variable
   pub here-let : (l v : ℕ) → Here w k inside vars (leaf Var l v) → cell w letsAt k ≡ letIn inside v
   unfolding lets
-  here-let l v H = region-head _ _ (H .bound)
+  here-let l v H = region-first (H .bound)
 
   -- the one part of a step, and the first of two, stand just behind it
   pub here-part : (x : UnaryWord) (l v : ℕ) (e : Expr) → Here w k inside vars (unary x l v e) → Here w (k + 1) inside vars e
   unfolding codes prefix ends lets LinesFrom UsedInside
   here-part x l v e H = record {
-    words = region-moved _ _ (omega arith) (region-tail _ _ (H .words));
-    ended = region-moved _ _ (omega arith) (region-tail _ _ (H .ended));
-    bound = region-moved _ _ (omega arith) (region-tail _ _ (H .bound));
+    words = region-moved _ _ (omega arith) (region-behind (H .words));
+    ended = region-moved _ _ (omega arith) (region-behind (H .ended));
+    bound = region-moved _ _ (omega arith) (region-behind (H .bound));
     lines = lines-moved _ _ e (omega arith) (H .lines .1);
     used = H .used;
   }
@@ -163,14 +112,14 @@ module _ {w : List ℕ} {k : ℕ} {inside : List (ℕ × ℕ)} {vars : List ℕ}
   module _ (x : BinaryWord) (l v : ℕ) (e₁ e₂ : Expr) (H : Here w k inside vars (binary x l v e₁ e₂)) where
     codes-parts : Region w (wordsAt + k + 1) (codes e₁ ++ codes e₂)
     unfolding codes prefix
-    codes-parts = rw map-append at (region-tail _ _ (H .words))
+    codes-parts = rw map-append at (region-behind (H .words))
 
     ends-parts : Region w (endsAt + k + 1) (ends (k + 1) e₁ ++ ends (k + 1 + size e₁) e₂)
     unfolding ends
-    ends-parts = region-tail _ _ (H .ended)
+    ends-parts = region-behind (H .ended)
 
     lets-parts : Region w (letsAt + k + 1) (lets (k + 1) inside e₁ ++ lets (k + 1 + size e₁) (insideSecond x v k inside) e₂)
-    lets-parts = region-tail 0 _ (rw (lets-binary x k inside l v e₁ e₂) at (H .bound))
+    lets-parts = region-behind (rw (lets-binary x k inside l v e₁ e₂) at (H .bound))
 
     pub here-first : Here w (k + 1) inside vars e₁
     unfolding LinesFrom
@@ -186,10 +135,10 @@ module _ {w : List ℕ} {k : ℕ} {inside : List (ℕ × ℕ)} {vars : List ℕ}
     pub here-second : Here w (k + 1 + size e₁) (insideSecond x v k inside) (varsSecond x v vars) e₂
     unfolding LinesFrom
     here-second = record {
-      words = region-moved _ _ (omega (arith, codes-long e₁)) (region-right (codes e₁) _ codes-parts);
-      ended = region-moved _ _ (omega (arith, ends-long (k + 1) e₁)) (region-right (ends (k + 1) e₁) _ ends-parts);
+      words = region-moved _ _ (omega (arith, codes-length e₁)) (region-right (codes e₁) _ codes-parts);
+      ended = region-moved _ _ (omega (arith, ends-length (k + 1) e₁)) (region-right (ends (k + 1) e₁) _ ends-parts);
       bound = region-moved _ _
-          (omega (arith, lets-long (k + 1) inside e₁)) (region-right (lets (k + 1) inside e₁) _ lets-parts);
+          (omega (arith, lets-length (k + 1) inside e₁)) (region-right (lets (k + 1) inside e₁) _ lets-parts);
       lines = lines-moved _ _ e₂ (omega arith) (H .lines .2);
       used = used-binary x vars l v e₁ e₂ (H .used) .1;
     }
@@ -197,9 +146,9 @@ module _ {w : List ℕ} {k : ℕ} {inside : List (ℕ × ℕ)} {vars : List ℕ}
   -- the end of an expression
   pub here-end : (e : Expr) → Here w k inside vars e → cell w endsAt k ≡ k + size e
   unfolding ends size
-  here-end (leaf x l v) H = region-head _ _ (H .ended)
-  here-end (unary x l v e) H = region-head _ _ (H .ended)
-  here-end (binary x l v e₁ e₂) H = region-head _ _ (H .ended)
+  here-end (leaf x l v) H = region-first (H .ended)
+  here-end (unary x l v e) H = region-first (H .ended)
+  here-end (binary x l v e₁ e₂) H = region-first (H .ended)
 
 -- where the second of two parts stands, by the end of the first
 pub here-second-at : {w : List ℕ} {k : ℕ} {inside : List (ℕ × ℕ)} {vars : List ℕ} (x : BinaryWord) (l v : ℕ) (e₁ e₂ : Expr)

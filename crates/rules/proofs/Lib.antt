@@ -3,7 +3,6 @@ pub mod TypeKinds
 pub mod Relations
 pub mod Walking
 pub mod Claims
-pub mod Columns
 pub mod Shown
 pub mod TableRows
 pub mod Here

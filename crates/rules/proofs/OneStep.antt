@@ -19,13 +19,14 @@ use Rattle.workspace.specs.Layout as layout
 use Rattle.workspace.specs.Layout.{wordsAt, postsAt, presAt, wordOf}
 use Rattle.workspace.specs.Region.{ChangedWithin}
 use Rattle.workspace.specs.Holds.{HoldsSplit}
+use Rattle.spec.proofs.Listing.{size-positive}
 use Rattle.workspace.proofs.Region.{region-kept}
 use Rattle.rules.specs.Outcome.{judged}
 use Rattle.rules.specs.Table.{wordRow}
 use Rattle.rules.specs.Walk.{cell, viewOf, stepOutcome, putPre, passWord, passOn}
 use Rattle.rules.proofs.Shown.{row-post, row-start}
 use Rattle.rules.proofs.TableRows.{leaf-shown, unary-shown, binary-shown}
-use Rattle.rules.proofs.Here.{Here, size-positive, here-line, leaf-word, unary-word, binary-word, here-part, here-first, here-second, here-second-at}
+use Rattle.rules.proofs.Here.{Here, here-line, leaf-word, unary-word, binary-word, here-part, here-first, here-second, here-second-at}
 use Rattle.rules.proofs.Scopes.{Scoped}
 use Rattle.rules.proofs.Views.{map-number, row-start-in, own-part, first-part, second-part, started, bound-shown}
 

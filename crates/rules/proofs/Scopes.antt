@@ -1,9 +1,8 @@
 -- The types of the variables in scope, beside the lets that the work space notes for them.
-use mathlib.Core.Path.{_≡_, refl}
+use mathlib.Core.Path.{_≡_, refl, sym}
 use mathlib.Core.Bool.{Bool, true, false}
 use mathlib.Core.List.{List, [], _∷_}
 use Prim.Native.Nat.{ℕ, _+_, _<_}
-use native.Mathlib.Omega.{arith}
 use lib.Dec.{eqb}
 use lib.ListN.{length, getD}
 use Rattle.spec.specs.Choice.{if_then_else_}
@@ -14,9 +13,12 @@ use Rattle.spec.specs.Sites.{bind}
 use Rattle.spec.specs.declared.TypeNumber.{TypeNumber}
 use Rattle.spec.specs.declared.BinaryWord.{BinaryWord}
 use Rattle.spec.specs.declared.BinaryWord.the-variants.{Let, If, Spawn, Write}
+use Rattle.spec.proofs.Clashes.{true-is-not-false}
+use Rattle.spec.proofs.Tests.{eqb-sym}
 use Rattle.workspace.specs.Holds.{letIn}
-use Rattle.rules.proofs.Shown.{noRow, eqb-sym}
-use Rattle.rules.proofs.Here.{insideSecond, varsSecond}
+use Rattle.workspace.proofs.Held.{insideSecond}
+use Rattle.rules.proofs.Shown.{noRow}
+use Rattle.rules.proofs.Here.{varsSecond}
 
 -- each variable of vars has in Γ the type of the row just behind its let
 pub record Scoped (S : Split) (Γ : Env) (inside : List (ℕ × ℕ)) (vars : List ℕ) : Type 0 where
@@ -26,12 +28,9 @@ pub record Scoped (S : Split) (Γ : Env) (inside : List (ℕ × ℕ)) (vars : Li
 pub scoped-none : (S : Split) → Scoped S [] [] []
 unfolding among
 scoped-none S = record {
-  within = λ v h. never h;
-  typed = λ v h. never h;
+  within = λ v h. true-is-not-false (sym h);
+  typed = λ v h. true-is-not-false (sym h);
 }
-  where
-    never : {A : Type 0} → false ≡ true → A
-    never h = let z : _≡_ {A = ℕ} 0 1 = cc in absurd (omega arith)
 
 -- one more let, whose e1 has the row behind it
 module _ (S : Split) (Γ : Env) (inside : List (ℕ × ℕ)) (vars : List ℕ) (C : Scoped S Γ inside vars)

@@ -1,17 +1,16 @@
 -- What the work space shows of the split that it holds: types, maps and rows by number.
-use mathlib.Core.Path.{_≡_, refl, sym, ap, _∙_}
-use mathlib.Core.Bool.{Bool, true, false}
+use mathlib.Core.Path.{_≡_, refl, ap, _∙_}
 use mathlib.Core.List.{List, [], _∷_}
 use Prim.Native.Nat.{ℕ, suc, _+_, _-_, _<_}
 use native.Mathlib.Omega.{arith}
 use lib.Dec.{eqb}
-use borrow.Author.Tests.{eqb-true, eqb-false, eq-eqb, ne-eqb}
 use lib.ListN.{length, getD}
 use Rattle.spec.specs.Expression.{Step, Expr}
 use Rattle.spec.specs.Split.{Map, Row, Split}
 use Rattle.spec.specs.Maps.{lowest, _=ᵐ_, _≥ᵐ_, _+ᵐ_, share}
 use Rattle.spec.specs.Conditions.{typeAt, mapAt, lineOf, row, type, place, load}
 use Rattle.spec.specs.Ranges.{InRange}
+use Rattle.spec.proofs.Tests.{eqb-sym}
 use Rattle.spec.specs.declared.Location.{Location}
 use Rattle.spec.specs.declared.MapNumber.{MapNumber}
 use Rattle.spec.specs.declared.TypeNumber.{TypeNumber}
@@ -29,13 +28,6 @@ use Rattle.rules.specs.declared.Relation.the-variants.{Equal, AtLeast, S
 -- a row that no step has
 abbrev pub noRow : Row
 noRow = record { type = record { 0 = 0 }; post = record { 0 = 0 }; start = record { 0 = 0 } }
-
-pub eqb-sym : (a b : ℕ) → eqb a b ≡ eqb b a
-eqb-sym a b = sym (either (eqb a b) refl)
-  where
-    either : (t : Bool) → eqb a b ≡ t → eqb b a ≡ t
-    either true e = eq-eqb b a (sym (eqb-true a b e))
-    either false e = ne-eqb b a (λ p. eqb-false a b e (sym p))
 
 -- equality of maps may be asked either way round
 equal-sym : (i : ℕ) (m n : Map) → lowest eqb i m n ≡ lowest eqb i n m

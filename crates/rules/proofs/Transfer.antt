@@ -24,6 +24,8 @@ use Rattle.spec.specs.declared.BinaryWord.the-variants.{Let, If, Spawn, Write}
 use Rattle.workspace.specs.Layout.{presAt}
 use Rattle.workspace.specs.Region.{ChangedWithin}
 use Rattle.workspace.specs.Holds.{HoldsSplit}
+use Rattle.spec.proofs.Listing.{prefix-length, size-positive}
+use Rattle.workspace.proofs.Held.{insideSecond}
 use Rattle.workspace.proofs.Region.{changed-nothing, changed-store, changed-then, changed-wider}
 use Rattle.rules.specs.Outcome.{both}
 use Rattle.rules.specs.Walk.{cell, startOutcome, stepOutcome, passOn, walk, atRoot}
@@ -32,7 +34,7 @@ use Rattle.rules.proofs.Judged.{both-met, both-assoc}
 use Rattle.rules.proofs.Walking.{put-before, put-at, put-other}
 use Rattle.rules.proofs.Claims.{claims-first, claims-one, claims-append}
 use Rattle.rules.proofs.Shown.{map-shown, row-at}
-use Rattle.rules.proofs.Here.{Here, codes, size-positive, prefix-long, here-kept, here-line, here-part, here-first, here-second, insideSecond, varsSecond}
+use Rattle.rules.proofs.Here.{Here, codes, here-kept, here-line, here-part, here-first, here-second, varsSecond}
 use Rattle.rules.proofs.Scopes.{Scoped, scoped-none, scoped-second}
 use Rattle.rules.proofs.OneStep.{Ready, split-kept, below, step-shown, leaf-passes, unary-passes, binary-passes}
 use Rattle.rules.proofs.Views.{row-post-in, row-start-in}
@@ -238,7 +240,7 @@ module _ (w : List ℕ) (steps denominator locations : ℕ) (P : Program) (S : S
     rows-few = omega (arith, H .inRange .rowsCounted, H .stepsCounted)
 
     sized : size (P .root) ≡ steps
-    sized = sym (prefix-long (P .root)) ∙ ap length (H .wellFormed .listing) ∙ sym (H .stepsCounted)
+    sized = sym (prefix-length (P .root)) ∙ ap length (H .wellFormed .listing) ∙ sym (H .stepsCounted)
 
     root-here : Here w 0 [] [] (P .root)
     unfolding codes

@@ -1,9 +1,7 @@
 -- The definitions give each starred pair of document 01 its answer, and each edge row of ours. A table is one equation that
 -- computes; `unfolding` names every definition on the way from a text to an answer.
-use mathlib.Core.Path.{_≡_, refl}
+use mathlib.Core.Path.{refl}
 use mathlib.Core.List.{_++_}
-use Prim.Native.Nat.{ℕ}
-use Rattle.spec.specs.Choice.{if_then_else_}
 use Rattle.spec.specs.Text.{bytes, same, onLine, lines, onField, fields, digitLimit, digits, leadingZero, value, numeral}
 use Rattle.spec.specs.Reading.{_>>=_, demand, seen, inRange, allInRange, withNumeral, numerals, ranged, numbers, form, outside, miscounted, passed, nextLine, next, nextAll, begin, noneLeft, end}
 use Rattle.spec.specs.Expression.{size, withParts, listed, single, among, scope}

@@ -1,7 +1,8 @@
 pub mod KnownPairs
 pub mod Reasons
-pub mod Ranges
 pub mod Clashes
+pub mod Tests
+pub mod Ranges
 pub mod Outcomes
 pub mod Maps
 pub mod Agreement

@@ -2,7 +2,7 @@
 use mathlib.Core.Path.{_≡_, refl, ap, sym, _∙_, subst}
 use mathlib.Core.List.{List, [], _∷_, _++_, append-assoc, append-nil}
 use mathlib.Core.Bool.{Bool, true, false}
-use Prim.Native.Nat.{ℕ, suc, _+_}
+use Prim.Native.Nat.{ℕ, suc, _+_, _≤_}
 use native.Mathlib.Omega.{arith}
 use lib.Dec.{eqb}
 use lib.ListN.{length, length-append}
@@ -15,6 +15,14 @@ use Rattle.spec.specs.declared.Word.{Word}
 use Rattle.spec.specs.declared.Word.the-variants.{Leaf, Unary, Binary}
 use Rattle.spec.specs.declared.Refusal.the-variants.{ProgramLines}
 use Rattle.spec.proofs.Outcomes.{stop-is-not-on, on-injective}
+
+-- ------------------------------------------------------------------ how many steps an expression has
+
+pub size-positive : (e : Expr) → 1 ≤ size e
+unfolding size
+size-positive (leaf w k v) = omega arith
+size-positive (unary w k v e) = omega arith
+size-positive (binary w k v e₁ e₂) = omega arith
 
 pub prefix-length : (e : Expr) → length (prefix e) ≡ size e
 unfolding prefix size

@@ -2,15 +2,15 @@
 use mathlib.Core.Path.{_≡_, refl, sym, ap, _∙_}
 use mathlib.Core.Path.{subst as along}
 use mathlib.Core.List.{List, [], _∷_, map}
-use mathlib.Core.Bool.{Bool, true, false, _&&_}
+use mathlib.Core.Bool.{Bool, true, false}
 use mathlib.Core.Option.{Option, none, some}
 use Prim.Native.Nat.{ℕ, zero, suc, _+_, _≤_, _<_}
 use native.Mathlib.Omega.{arith}
-use lib.Dec.{eqb, leb, ltb}
+use lib.Dec.{eqb}
 use lib.ListN.{length, getD, replicate, take, drop, length-replicate, List·getD-eq-default}
-use borrow.Author.Tests.{eqb-true, leb-true, ltb-true}
+use borrow.Author.Tests.{eqb-true, leb-true, ltb-true, le-leb, lt-leb}
 use Rattle.spec.specs.Choice.{if_then_else_}
-use Rattle.spec.specs.Text.{Line, closed, bytes, same, Field, fields}
+use Rattle.spec.specs.Text.{Line, bytes, same, Field}
 use Rattle.spec.specs.Reading.{Seen, right, badForm, badRange, seen, Range, _to_, below, inRange, allInRange, numerals, ranged, numbers}
 use Rattle.spec.specs.Expression.{Step}
 use Rattle.spec.specs.Split.{Map, Header, headerOf, headerLine, refOf, lockOf, tidOf, typeLine, typeLines, mapLine, Row, rowOf, blank, startRange, rowLine, Split}
@@ -21,6 +21,7 @@ use Rattle.spec.specs.declared.Word.the-variants.{Leaf, Unary, Binary}
 use Rattle.spec.specs.declared.BinaryWord.the-variants.{Let, If, Spawn, Write}
 use Rattle.spec.specs.declared.TypeLine.{TypeLine}
 use Rattle.spec.specs.declared.TypeLine.the-variants as type-line
+use Rattle.spec.proofs.Tests.{both-true}
 
 -- ------------------------------------------------------------------ lines that show something
 
@@ -49,10 +50,6 @@ either-right : {A : Type 0} (Q : A → Type 0) (b : Bool) (x y : Seen A) → ((a
 either-right Q true x y f g a h = f a h
 either-right Q false x y f g a h = g a h
 
-and-true : (a b : Bool) → (a && b) ≡ true → (a ≡ true) × (b ≡ true)
-and-true true b h = (refl, h)
-and-true false b h = let z : _≡_ {A = ℕ} 0 1 = cc in absurd (omega arith)
-
 within-right : {ns ms : List ℕ} (b : Bool) → (if b then right ns else badRange) ≡ right ms → (b ≡ true) × (ns ≡ ms)
 within-right true h = (refl, right-inj h)
 within-right false h = bad-range h
@@ -75,21 +72,31 @@ numbers-right rs fs ns h = ranged-right rs (numerals fs) ns h
 
 -- ------------------------------------------------------------------ numbers in ranges
 
-in-to : (a b n : ℕ) → inRange (a to b) n ≡ true → (a ≤ n) × (n ≤ b)
+pub in-to : (a b n : ℕ) → inRange (a to b) n ≡ true → (a ≤ n) × (n ≤ b)
 unfolding inRange
-in-to a b n h = let (x, y) = and-true _ _ h in (leb-true _ _ x, leb-true _ _ y)
+in-to a b n h = let (x, y) = both-true _ _ h in (leb-true _ _ x, leb-true _ _ y)
 
 in-below : (c n : ℕ) → inRange (below c) n ≡ true → n < c
 unfolding inRange
 in-below c n h = ltb-true _ _ h
+
+-- a range from 0 on
+module _ (b n : ℕ) where
+  pub up-to-in : n ≤ b → inRange (0 to b) n ≡ true
+  unfolding inRange
+  up-to-in h = simp (le-leb 0 n (omega arith), le-leb n b h)
+
+  pub up-to-out : b < n → inRange (0 to b) n ≡ false
+  unfolding inRange
+  up-to-out h = simp (le-leb 0 n (omega arith), lt-leb n b h)
 
 all-at : (rs : List Range) (ns : List ℕ) → length ns ≡ length rs → allInRange rs ns ≡ true
     → (i : ℕ) → i < length rs → inRange (getD rs i (0 to 0)) (getD ns i 0) ≡ true
 unfolding allInRange
 all-at [] ns l t i h = absurd (omega arith)
 all-at (r ∷ rs) [] l t i h = absurd (omega (arith, l))
-all-at (r ∷ rs) (n ∷ ns) l t zero h = and-true (inRange r n) (allInRange rs ns) t .0
-all-at (r ∷ rs) (n ∷ ns) l t (suc i) h = all-at rs ns (omega (arith, l)) (and-true (inRange r n) (allInRange rs ns) t .1) i (omega arith)
+all-at (r ∷ rs) (n ∷ ns) l t zero h = both-true (inRange r n) (allInRange rs ns) t .0
+all-at (r ∷ rs) (n ∷ ns) l t (suc i) h = all-at rs ns (omega (arith, l)) (both-true (inRange r n) (allInRange rs ns) t .1) i (omega arith)
 
 -- each of the numbers on a line is in its range
 pub in-range-at : (rs : List Range) (fs : List Field) (ns : List ℕ) → numbers rs fs ≡ right ns

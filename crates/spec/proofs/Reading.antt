@@ -1,12 +1,48 @@
--- Counted lines are read to the end exactly when the text shows an entry on each of them.
+-- Counted lines: those read so far and then the rest; they are read to the end exactly when the text shows an entry on each.
 use mathlib.Core.Path.{_≡_, refl, ap, sym, subst}
-use mathlib.Core.List.{List, [], _∷_}
+use mathlib.Core.List.{List, [], _∷_, _++_, append-assoc, append-nil}
 use Prim.Native.Nat.{ℕ, suc, _+_}
 use lib.ListN.{length}
 use Rattle.spec.specs.Text.{Line, closed, unclosed, Field, fields}
-use Rattle.spec.specs.Reading.{on, Seen, right, badForm, badRange, SheetName, Place, passed, nextLine, next, nextAll, begin, noneLeft, end}
+use Rattle.spec.specs.Reading.{Out, stop, on, _>>=_, Seen, right, badForm, badRange, SheetName, Place, passed, nextLine, next, nextAll, begin, noneLeft, end}
 use Rattle.spec.specs.WellFormed.{Shows, nothing, line}
+use Rattle.spec.specs.declared.Refusal.{Refusal}
 use Rattle.spec.proofs.Outcomes.{stop-is-not-on, on-injective, bind-goes-on, goes-on-bind}
+
+-- ------------------------------------------------------------------ one line after the other
+
+-- entries in front of those that lines show
+unfoldable pub front : {A : Type 0} → List A → Out (List A × Place) → Out (List A × Place)
+front done (stop r) = stop r
+front done (on found) = on (done ++ found .0, found .1)
+
+module _ {A : Type 0} where
+  pub front-none : (o : Out (List A × Place)) → front [] o ≡ o
+  unfolding front
+  front-none (stop r) = refl
+  front-none (on found) = refl
+
+  front-one : (done : List A) (a : A) (o : Out (List A × Place))
+      → front done (o >>= λ (as′, end). on (a ∷ as′, end)) ≡ front (done ++ (a ∷ [])) o
+  unfolding front _>>=_
+  front-one done a (stop r) = refl
+  front-one done a (on found) = rw append-assoc
+
+  -- what is read is what was read before, then a line, then the rest
+  module _ (sheet : SheetName) (read : List Field → Seen A) (reads : List (List Field → Seen A)) (place : Place) where
+    pub all-stop : (r : Refusal) → next sheet read place ≡ stop r → nextAll sheet (read ∷ reads) place ≡ stop r
+    unfolding nextAll _>>=_
+    all-stop r e = rw e
+
+    pub all-on : (done : List A) (a : A) (after : Place) → next sheet read place ≡ on (a, after)
+        → front done (nextAll sheet (read ∷ reads) place) ≡ front (done ++ (a ∷ [])) (nextAll sheet reads after)
+    unfolding nextAll _>>=_
+    all-on done a after e = rw e (front-one done a (nextAll sheet reads after))
+
+  -- no line is left
+  pub all-done : (sheet : SheetName) (done : List A) (place : Place) → front done (nextAll sheet [] place) ≡ on (done, place)
+  unfolding nextAll front
+  all-done sheet done place = ap (λ (l : List A). on (l, place)) (append-nil done)
 
 -- ------------------------------------------------------------------ from reading to lines
 

@@ -6,7 +6,6 @@ use mathlib.Core.Bool.{Bool, true, false, _||_}
 use mathlib.Core.Logic.{_↔_}
 use Prim.Native.Nat.{ℕ}
 use lib.Dec.{eqb}
-use borrow.Author.Tests.{eqb-false, ne-eqb}
 use Rattle.spec.specs.Choice.{if_then_else_}
 use Rattle.spec.specs.Reading.{Out, stop, on, _>>=_}
 use Rattle.spec.specs.Expression.{Expr, leaf, unary, binary, among, scope}
@@ -15,6 +14,7 @@ use Rattle.spec.specs.declared.Refusal.{Refusal}
 use Rattle.spec.specs.declared.LeafWord.the-variants.{Var, Int, Newtid, Newlock}
 use Rattle.spec.specs.declared.BinaryWord.the-variants.{Let, If, Spawn, Write}
 use Rattle.spec.proofs.Clashes.{true-is-not-false}
+use Rattle.spec.proofs.Tests.{eqb-sym}
 use Rattle.spec.proofs.Outcomes.{stop-is-not-on, bind-goes-on, goes-on-bind, on-injective}
 
 -- ------------------------------------------------------------------ variables bound one after the other
@@ -50,9 +50,6 @@ or-false : (a b : Bool) → (a || b) ≡ false ↔ ((a ≡ false) × (b ≡ fals
 or-false true b = (λ h. true-is-not-false h, λ h. true-is-not-false (h .0))
 or-false false b = (λ h. (refl, h), λ h. h .1)
 
-different-swap : (a b : ℕ) → eqb a b ≡ false → eqb b a ≡ false
-different-swap a b h = ne-eqb b a (λ e. eqb-false a b h (sym e))
-
 none-among-more : (x : ℕ) (vs bound : List ℕ) → NoneAmong vs (x ∷ bound) ↔ ((among x vs ≡ false) × NoneAmong vs bound)
 unfolding NoneAmong among
 none-among-more x [] bound = (λ h. (refl, tt), λ h. tt)
@@ -60,9 +57,9 @@ none-among-more x (v ∷ vs) bound =
     let r = none-among-more x vs bound in (
       λ h. (let p = or-false (eqb v x) (among v bound) .0 (h .0) in
           let q = r .0 (h .1) in
-          (or-false (eqb x v) (among x vs) .1 (different-swap v x (p .0), q .0), (p .1, q .1))),
+          (or-false (eqb x v) (among x vs) .1 (eqb-sym x v ∙ p .0, q .0), (p .1, q .1))),
       λ h. (let p = or-false (eqb x v) (among x vs) .0 (h .0) in
-          (or-false (eqb v x) (among v bound) .1 (different-swap x v (p .0), h .1 .0), r .1 (p .1, h .1 .1))),
+          (or-false (eqb v x) (among v bound) .1 (eqb-sym v x ∙ p .0, h .1 .0), r .1 (p .1, h .1 .1))),
     )
 
 new-distinct : (vs bound : List ℕ) → EachNew vs bound ↔ (Distinct vs × NoneAmong vs bound)
