@@ -10,8 +10,8 @@ use Rattle.spec.specs.Split.{Header, refOf, lockOf, tidOf, typeLine}
 use Rattle.spec.specs.declared.TypeLine.{TypeLine}
 use Rattle.spec.specs.declared.TypeLine.the-variants as line
 use Rattle.lexer.specs.Words.{typeWordOf}
-use Rattle.lexer.specs.declared.TypeWord.{TypeWord}
-use Rattle.lexer.specs.declared.TypeWord.the-variants.{Int, Ref, Lock, Tid, Unknown}
+use Rattle.lexer.specs.declared.vocabulary.TypeWord.{TypeWord}
+use Rattle.lexer.specs.declared.vocabulary.TypeWord.the-variants.{Int, Ref, Lock, Tid, Unknown}
 
 -- what the fields behind the kind show
 unfoldable pub ofKind : Header → (own : ℕ) → List Field → TypeWord → Seen TypeLine

@@ -15,8 +15,8 @@ use Rattle.lexer.specs.declared.Cursor.{Cursor}
 use Rattle.lexer.specs.declared.Span.{Span}
 use Rattle.lexer.proofs.Places.{span-field}
 use Rattle.lexer.specs.Words.{foundOf, leafWords, unaryWords, binaryWords}
-use Rattle.lexer.specs.declared.FoundWord.{FoundWord}
-use Rattle.lexer.specs.declared.FoundWord.the-variants.{Known, Unknown}
+use Rattle.lexer.specs.declared.vocabulary.FoundWord.{FoundWord}
+use Rattle.lexer.specs.declared.vocabulary.FoundWord.the-variants.{Known, Unknown}
 
 -- ------------------------------------------------------------------ one word of a table
 

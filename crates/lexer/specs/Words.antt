@@ -9,10 +9,10 @@ use Rattle.spec.specs.declared.Word.the-variants.{Leaf, Unary, Binary}
 use Rattle.spec.specs.declared.LeafWord.the-variants.{Var, Int, Newtid, Newlock}
 use Rattle.spec.specs.declared.UnaryWord.the-variants.{While, Join, Ref, Read, Freelock, Lock, Unlock}
 use Rattle.spec.specs.declared.BinaryWord.the-variants.{Let, If, Spawn, Write}
-use Rattle.lexer.specs.declared.FoundWord.{FoundWord}
-use Rattle.lexer.specs.declared.FoundWord.the-variants.{Known, Unknown}
-use Rattle.lexer.specs.declared.TypeWord.{TypeWord}
-use Rattle.lexer.specs.declared.TypeWord.the-variants as kind
+use Rattle.lexer.specs.declared.vocabulary.FoundWord.{FoundWord}
+use Rattle.lexer.specs.declared.vocabulary.FoundWord.the-variants.{Known, Unknown}
+use Rattle.lexer.specs.declared.vocabulary.TypeWord.{TypeWord}
+use Rattle.lexer.specs.declared.vocabulary.TypeWord.the-variants as kind
 
 unfoldable pub foundOf : Option Word → FoundWord
 foundOf none = Unknown

@@ -10,8 +10,8 @@ use Rattle.spec.specs.Reading.{Seen, Range, _to_, below, inRange, allInRange}
 use Rattle.spec.specs.Split.{Header, refOf, lockOf, tidOf}
 use Rattle.spec.specs.declared.TypeLine.{TypeLine}
 use Rattle.spec.specs.declared.TypeLine.the-variants as type-line
-use Rattle.lexer.specs.declared.TypeWord.{TypeWord}
-use Rattle.lexer.specs.declared.TypeWord.the-variants as kind
+use Rattle.lexer.specs.declared.vocabulary.TypeWord.{TypeWord}
+use Rattle.lexer.specs.declared.vocabulary.TypeWord.the-variants as kind
 use Rattle.split.specs.declared.type_lines.TypeSeen.the-variants as type-seen
 use Rattle.split.specs.Lines.{rangedType, typeSeen, typeSeenOf}
 

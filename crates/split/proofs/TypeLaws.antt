@@ -19,8 +19,8 @@ use Rattle.lexer.specs.Numbers.{numbersAt}
 use Rattle.lexer.specs.Words.{typeWordOf}
 use Rattle.lexer.specs.declared.Cursor.{Cursor}
 use Rattle.lexer.specs.declared.FieldEnd.the-variants.{Comma}
-use Rattle.lexer.specs.declared.TypeWord.{TypeWord}
-use Rattle.lexer.specs.declared.TypeWord.the-variants as kind
+use Rattle.lexer.specs.declared.vocabulary.TypeWord.{TypeWord}
+use Rattle.lexer.specs.declared.vocabulary.TypeWord.the-variants as kind
 use Rattle.lexer.proofs.Walks.{first-wrong, first-alone}
 use Rattle.lexer.proofs.Ranges.{tail-form, tail-read}
 use Rattle.split.specs.declared.type_lines.TypeSeen.{TypeSeen}

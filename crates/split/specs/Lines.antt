@@ -13,8 +13,8 @@ use Rattle.spec.specs.declared.BinaryWord.the-variants.{Let, If, Spawn, Write}
 use Rattle.spec.specs.declared.TypeLine.{TypeLine}
 use Rattle.spec.specs.declared.TypeLine.the-variants as type-line
 use Rattle.lexer.specs.declared.Cursor.{Cursor}
-use Rattle.lexer.specs.declared.TypeWord.{TypeWord}
-use Rattle.lexer.specs.declared.TypeWord.the-variants as kind
+use Rattle.lexer.specs.declared.vocabulary.TypeWord.{TypeWord}
+use Rattle.lexer.specs.declared.vocabulary.TypeWord.the-variants as kind
 use Rattle.split.specs.declared.Header.{Header as HeaderRead}
 use Rattle.split.specs.declared.row_lines.Row.{Row as RowNumbers}
 use Rattle.split.specs.declared.row_lines.RowRead.{RowRead}

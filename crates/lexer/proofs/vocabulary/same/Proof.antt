@@ -6,8 +6,8 @@ use mathlib.Core.Path.{_≡_, refl, sym, _∙_}
 use lib.ListN.{length, drop}
 use Rattle.spec.specs.Text.{same}
 use Rattle.lexer.proofs.SameBytes.{uneven, onward, apart, ended}
-use Rattle.lexer.proofs.same.Statement.{statement}
-use Rattle.lexer.proofs.same.Tie as tie
+use Rattle.lexer.proofs.vocabulary.same.Statement.{statement}
+use Rattle.lexer.proofs.vocabulary.same.Tie as tie
 
 abbrev Inv-loop : tie.InvT-loop
 Inv-loop a b i₀ i = (i ≤ length a) × (same a b ≡ same (drop i a) (drop i b))

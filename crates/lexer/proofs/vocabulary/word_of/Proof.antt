@@ -2,8 +2,8 @@
 use mathlib.Core.Path.{sym, _∙_}
 use borrow.Author.Needs.{needs}
 use Rattle.lexer.proofs.Words.{leaf-found, unary-found, binary-left}
-use Rattle.lexer.proofs.word_of.Statement.{statement}
-use Rattle.lexer.proofs.word_of.Tie as tie
+use Rattle.lexer.proofs.vocabulary.word_of.Statement.{statement}
+use Rattle.lexer.proofs.vocabulary.word_of.Tie as tie
 
 leaf-word-requires : tie.Need-leaf-word-requires
 leaf-word-requires c κs = search needs

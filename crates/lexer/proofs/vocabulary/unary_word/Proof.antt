@@ -4,8 +4,8 @@ use borrow.Author.Needs.{needs}
 use Rattle.spec.specs.Text.{bytes}
 use Rattle.lexer.specs.Words.{unaryWords}
 use Rattle.lexer.proofs.Words.{hit, skip, none-left}
-use Rattle.lexer.proofs.unary_word.Statement.{statement}
-use Rattle.lexer.proofs.unary_word.Tie as tie
+use Rattle.lexer.proofs.vocabulary.unary_word.Statement.{statement}
+use Rattle.lexer.proofs.vocabulary.unary_word.Tie as tie
 
 slice-aggregate-same : tie.Need-slice-aggregate-same
 slice-aggregate-same c = search needs

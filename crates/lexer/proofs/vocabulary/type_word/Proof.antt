@@ -3,8 +3,8 @@ use mathlib.Core.Path.{sym, _∙_}
 use borrow.Author.Needs.{needs}
 use Rattle.spec.specs.Text.{bytes}
 use Rattle.lexer.specs.Words.{typeWordOf}
-use Rattle.lexer.proofs.type_word.Statement.{statement}
-use Rattle.lexer.proofs.type_word.Tie as tie
+use Rattle.lexer.proofs.vocabulary.type_word.Statement.{statement}
+use Rattle.lexer.proofs.vocabulary.type_word.Tie as tie
 
 slice-aggregate-same : tie.Need-slice-aggregate-same
 slice-aggregate-same c = search needs
