@@ -25,89 +25,59 @@ module _ (S : Split) where
   -- Derives Γ Ψ e: Γ, Ψ ⊢ e : type S e, post S e
   pub data Derives : Env → Map → Expr → Type 0 where
     VAR : {Γ : Env} {Ψ : Map} {k v : ℕ}
-        → type S (leaf Var k v) ≡ typeIn Γ v
-        → post S (leaf Var k v) ≡ Ψ
+        → type S (leaf Var k v) ≡ typeIn Γ v → post S (leaf Var k v) ≡ Ψ
         → Derives Γ Ψ (leaf Var k v)
     INT : {Γ : Env} {Ψ : Map} {k v : ℕ}
-        → kind S (leaf Int k v) ≡ type-line.Int
-        → post S (leaf Int k v) ≡ Ψ
+        → kind S (leaf Int k v) ≡ type-line.Int → post S (leaf Int k v) ≡ Ψ
         → Derives Γ Ψ (leaf Int k v)
     LET : {Γ : Env} {Ψ : Map} {k v : ℕ} {e₁ e₂ : Expr}
-        → Derives Γ Ψ e₁
-        → Derives ((v, type S e₁) ∷ Γ) (post S e₁) e₂
-        → type S (binary Let k v e₁ e₂) ≡ type S e₂
+        → Derives Γ Ψ e₁ → Derives ((v, type S e₁) ∷ Γ) (post S e₁) e₂ → type S (binary Let k v e₁ e₂) ≡ type S e₂
         → post S (binary Let k v e₁ e₂) ≡ post S e₂
         → Derives Γ Ψ (binary Let k v e₁ e₂)
     IF : {Γ : Env} {Ψ : Map} {k v : ℕ} {e₁ e₂ : Expr}
-        → Derives Γ Ψ e₁
-        → type S (binary If k v e₁ e₂) ≡ type S e₁
-        → post S e₁ ⊒ post S (binary If k v e₁ e₂)
-        → Derives Γ Ψ e₂
-        → type S (binary If k v e₁ e₂) ≡ type S e₂
-        → post S e₂ ⊒ post S (binary If k v e₁ e₂)
+        → Derives Γ Ψ e₁ → type S (binary If k v e₁ e₂) ≡ type S e₁ → post S e₁ ⊒ post S (binary If k v e₁ e₂)
+        → Derives Γ Ψ e₂ → type S (binary If k v e₁ e₂) ≡ type S e₂ → post S e₂ ⊒ post S (binary If k v e₁ e₂)
         → Derives Γ Ψ (binary If k v e₁ e₂)
     WHILE : {Γ : Env} {Ψ : Map} {k v : ℕ} {e₁ : Expr}
-        → Derives Γ (post S (unary While k v e₁)) e₁
-        → post S e₁ ⊒ post S (unary While k v e₁)
-        → Ψ ⊒ post S (unary While k v e₁)
-        → kind S (unary While k v e₁) ≡ type-line.Int
+        → Derives Γ (post S (unary While k v e₁)) e₁ → post S e₁ ⊒ post S (unary While k v e₁)
+        → Ψ ⊒ post S (unary While k v e₁) → kind S (unary While k v e₁) ≡ type-line.Int
         → Derives Γ Ψ (unary While k v e₁)
     NEWT : {Γ : Env} {Ψ : Map} {k v : ℕ} {K : MapNumber}
-        → kind S (leaf Newtid k v) ≡ type-line.Tid K
-        → post S (leaf Newtid k v) ≡ Ψ
+        → kind S (leaf Newtid k v) ≡ type-line.Tid K → post S (leaf Newtid k v) ≡ Ψ
         → Derives Γ Ψ (leaf Newtid k v)
     SPAWN : {Γ : Env} {Ψ : Map} {k v : ℕ} {K : MapNumber} {e₁ e₂ : Expr}
-        → Derives Γ Ψ e₁
-        → kind S e₁ ≡ type-line.Tid K
-        → Derives Γ (start S (binary Spawn k v e₁ e₂)) e₂
-        → post S e₂ ⊒ mapAt S K
-        → kind S (binary Spawn k v e₁ e₂) ≡ type-line.Int
+        → Derives Γ Ψ e₁ → kind S e₁ ≡ type-line.Tid K → Derives Γ (start S (binary Spawn k v e₁ e₂)) e₂
+        → post S e₂ ⊒ mapAt S K → kind S (binary Spawn k v e₁ e₂) ≡ type-line.Int
         → post S (binary Spawn k v e₁ e₂) +ᵐ start S (binary Spawn k v e₁ e₂) ≡ post S e₁
         → Derives Γ Ψ (binary Spawn k v e₁ e₂)
     JOIN : {Γ : Env} {Ψ : Map} {k v : ℕ} {K : MapNumber} {e₁ : Expr}
-        → Derives Γ Ψ e₁
-        → kind S e₁ ≡ type-line.Tid K
-        → kind S (unary Join k v e₁) ≡ type-line.Int
+        → Derives Γ Ψ e₁ → kind S e₁ ≡ type-line.Tid K → kind S (unary Join k v e₁) ≡ type-line.Int
         → post S (unary Join k v e₁) ≡ post S e₁ +ᵐ mapAt S K
         → Derives Γ Ψ (unary Join k v e₁)
     REF : {Γ : Env} {Ψ : Map} {k v : ℕ} {ρ : Location} {e₁ : Expr}
-        → Derives Γ Ψ e₁
-        → kind S (unary Ref k v e₁) ≡ type-line.Ref ρ (type S e₁)
-        → post S (unary Ref k v e₁) ≡ post S e₁
+        → Derives Γ Ψ e₁ → kind S (unary Ref k v e₁) ≡ type-line.Ref ρ (type S e₁) → post S (unary Ref k v e₁) ≡ post S e₁
         → Derives Γ Ψ (unary Ref k v e₁)
     WRITE : {Γ : Env} {Ψ : Map} {k v : ℕ} {ρ : Location} {e₁ e₂ : Expr}
-        → Derives Γ Ψ e₁
-        → kind S e₁ ≡ type-line.Ref ρ (type S e₂)
-        → Derives Γ (post S e₁) e₂
-        → S .header .denominator ≤ share (post S (binary Write k v e₁ e₂)) ρ
-        → kind S (binary Write k v e₁ e₂) ≡ type-line.Int
+        → Derives Γ Ψ e₁ → kind S e₁ ≡ type-line.Ref ρ (type S e₂) → Derives Γ (post S e₁) e₂
+        → S .header .denominator ≤ share (post S (binary Write k v e₁ e₂)) ρ → kind S (binary Write k v e₁ e₂) ≡ type-line.Int
         → post S (binary Write k v e₁ e₂) ≡ post S e₂
         → Derives Γ Ψ (binary Write k v e₁ e₂)
     READ : {Γ : Env} {Ψ : Map} {k v : ℕ} {ρ : Location} {e₁ : Expr}
-        → Derives Γ Ψ e₁
-        → kind S e₁ ≡ type-line.Ref ρ (type S (unary Read k v e₁))
-        → 0 < share (post S (unary Read k v e₁)) ρ
+        → Derives Γ Ψ e₁ → kind S e₁ ≡ type-line.Ref ρ (type S (unary Read k v e₁)) → 0 < share (post S (unary Read k v e₁)) ρ
         → post S (unary Read k v e₁) ≡ post S e₁
         → Derives Γ Ψ (unary Read k v e₁)
     NEWL : {Γ : Env} {Ψ : Map} {k v : ℕ} {K : MapNumber}
-        → kind S (leaf Newlock k v) ≡ type-line.Lock K
-        → post S (leaf Newlock k v) +ᵐ mapAt S K ≡ Ψ
+        → kind S (leaf Newlock k v) ≡ type-line.Lock K → post S (leaf Newlock k v) +ᵐ mapAt S K ≡ Ψ
         → Derives Γ Ψ (leaf Newlock k v)
     FREEL : {Γ : Env} {Ψ : Map} {k v : ℕ} {K : MapNumber} {e₁ : Expr}
-        → Derives Γ Ψ e₁
-        → kind S e₁ ≡ type-line.Lock K
-        → kind S (unary Freelock k v e₁) ≡ type-line.Int
+        → Derives Γ Ψ e₁ → kind S e₁ ≡ type-line.Lock K → kind S (unary Freelock k v e₁) ≡ type-line.Int
         → post S (unary Freelock k v e₁) ≡ post S e₁ +ᵐ mapAt S K
         → Derives Γ Ψ (unary Freelock k v e₁)
     LCK : {Γ : Env} {Ψ : Map} {k v : ℕ} {K : MapNumber} {e₁ : Expr}
-        → Derives Γ Ψ e₁
-        → kind S e₁ ≡ type-line.Lock K
-        → kind S (unary Lock k v e₁) ≡ type-line.Int
+        → Derives Γ Ψ e₁ → kind S e₁ ≡ type-line.Lock K → kind S (unary Lock k v e₁) ≡ type-line.Int
         → post S (unary Lock k v e₁) ≡ post S e₁ +ᵐ mapAt S K
         → Derives Γ Ψ (unary Lock k v e₁)
     ULCK : {Γ : Env} {Ψ : Map} {k v : ℕ} {K : MapNumber} {e₁ : Expr}
-        → Derives Γ Ψ e₁
-        → kind S e₁ ≡ type-line.Lock K
-        → kind S (unary Unlock k v e₁) ≡ type-line.Int
+        → Derives Γ Ψ e₁ → kind S e₁ ≡ type-line.Lock K → kind S (unary Unlock k v e₁) ≡ type-line.Int
         → post S (unary Unlock k v e₁) +ᵐ mapAt S K ≡ post S e₁
         → Derives Γ Ψ (unary Unlock k v e₁)
