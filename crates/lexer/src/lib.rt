@@ -43,9 +43,9 @@ pub enum Numeral {
 }
 
 // The digits taken at a cursor: what they come to, and the byte behind them.
-pub struct Taken {
-    pub value: u64,
-    pub to: usize,
+struct Taken {
+    value: u64,
+    to: usize,
 }
 
 // The number at a cursor, what ends it, and the cursor behind that.
