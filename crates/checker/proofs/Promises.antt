@@ -2,9 +2,10 @@
 use mathlib.Core.Path.{_≡_, refl, ap, sym, _∙_}
 use mathlib.Core.Logic.{_↔_}
 use mathlib.Core.List.{List}
+use mathlib.Core.Bool.{true}
 use Prim.Native.Nat.{ℕ, _≤_}
 use native.Mathlib.Omega.{arith}
-use Rattle.spec.specs.Verdict.{verdict, returned, four}
+use Rattle.spec.specs.Verdict.{verdict, returned, four, onConditions}
 use lib.ListN.{length}
 use Rattle.spec.specs.Workspace.{workspaceSize, workspaceAfter}
 use Rattle.spec.specs.Accepted.{Right}
@@ -12,6 +13,7 @@ use Rattle.spec.specs.declared.Answer.{Answer}
 use Rattle.spec.specs.declared.Answer.the-variants.{Accept, Refuse}
 use Rattle.spec.specs.declared.Refusal.{Refusal}
 use Rattle.spec.specs.declared.Refusal.the-variants.{ShortWorkspace, LongProgram, ProgramForm, ProgramRange, ProgramLines, Unbound, Rebound, LongSplit, SplitForm, SplitRange, SplitLines, OverOne, TypeFalse, FlowFalse, AccessFalse}
+use Rattle.spec.proofs.Clashes.{true-is-not-false}
 use Rattle.spec.proofs.Accepted.{accepted-is-right, right-is-accepted}
 use Rattle.spec.proofs.FirstFalse.{refusal-names-first-false}
 use Rattle.soundness.specs.SafeText.{SafeText}
@@ -32,7 +34,7 @@ refusal-number LongSplit = omega arith
 refusal-number (SplitForm k) = omega arith
 refusal-number (SplitRange k) = omega arith
 refusal-number (SplitLines k) = omega arith
-refusal-number (OverOne l) = omega arith
+refusal-number (OverOne k l) = omega arith
 refusal-number (TypeFalse k i) = omega arith
 refusal-number (FlowFalse k i l) = omega arith
 refusal-number (AccessFalse k i p) = omega arith
@@ -55,12 +57,12 @@ module _ (room : ℕ) (p s : List ℕ) (a : Answer) (verdicts : a ≡ verdict ro
   derivation-kept enough =
       ((λ h. accepted-is-right room p s (accepts h)), (λ r. ap returned (verdicts ∙ right-is-accepted room p s enough r)))
 
-  pub first-false-kept : 31 ≤ returned a .number → RefutedBy p s a
-  unfolding returned four
+  pub first-false-kept : onConditions (returned a .number) ≡ true → RefutedBy p s a
+  unfolding returned four onConditions
   first-false-kept = by-cases a verdicts
     where
-      by-cases : (b : Answer) → b ≡ verdict room p s → 31 ≤ returned b .number → RefutedBy p s b
-      by-cases Accept e h = absurd (omega arith)
+      by-cases : (b : Answer) → b ≡ verdict room p s → onConditions (returned b .number) ≡ true → RefutedBy p s b
+      by-cases Accept e h = true-is-not-false (sym h)
       by-cases (Refuse r) e h = record { refusal = r; numbers = refl; refuted = refusal-names-first-false room p s r (sym e) h }
 
   pub safe-kept : returned a ≡ four 0 0 0 0 → SafeText p
@@ -72,7 +74,7 @@ pub promises-kept : {U : Type 0} (w w′ p s : List ℕ) (a : Answer) → a ≡ 
     × ((w′ ≡ workspaceAfter w)
     × (U
     × ((workspaceSize ≤ length w → (returned a ≡ four 0 0 0 0) ↔ Right p s)
-    × ((31 ≤ returned a .number → RefutedBy p s a) × (returned a ≡ four 0 0 0 0 → SafeText p)))))
+    × ((onConditions (returned a .number) ≡ true → RefutedBy p s a) × (returned a ≡ four 0 0 0 0 → SafeText p)))))
 promises-kept w w′ p s a v c u =
     let room = length w in
     (answer-kept room p s a v, (c, (u, (derivation-kept room p s a v, (first-false-kept room p s a v, safe-kept room p s a v)))))

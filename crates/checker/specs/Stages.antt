@@ -16,7 +16,7 @@ use Rattle.rules.specs.Contract.{HoldsSheets}
 -- the rules: for whichever sheets the work space holds
 abbrev pub RulesAnswered : (w : List ℕ) (steps denominator locations : ℕ) → Answer → Type 0
 RulesAnswered w steps denominator locations a =
-    (P : Program) (S : Split) → HoldsSheets w steps denominator locations P S → a ≡ answer (startAtMostOne S >>= λ whole. ruled P S)
+    (P : Program) (S : Split) → HoldsSheets w steps denominator locations P S → a ≡ answer (startAtMostOne P S >>= λ whole. ruled P S)
 
 -- a program of so many steps stands in the work space
 abbrev pub HoldsSome : (w : List ℕ) (steps : ℕ) → Type 0

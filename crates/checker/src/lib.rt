@@ -9,10 +9,11 @@ use spec::Refusal;
 use split::Sheet;
 ghost use mathlib.Core.Path.{_≡_};
 ghost use mathlib.Core.List.{List};
+ghost use mathlib.Core.Bool.{true};
 ghost use mathlib.Core.Logic.{_↔_};
 ghost use Prim.Native.Nat.{ℕ, _≤_};
 ghost use lib.ListN.{length};
-ghost use Rattle.spec.specs.Verdict.{verdict, returned, four};
+ghost use Rattle.spec.specs.Verdict.{verdict, returned, four, onConditions};
 ghost use Rattle.spec.specs.Workspace.{workspaceSize, workspaceAfter};
 ghost use Rattle.spec.specs.Accepted.{Right};
 ghost use Rattle.soundness.specs.SafeText.{SafeText};
@@ -76,7 +77,7 @@ pub fn check(program: &[u8], split: &[u8], work: &mut [u32]) -> Answer
     ensures cleared { λ a. ⌜ now (work .exit) ≡ workspaceAfter (now (work .entry)) ⌝ }
     ensures unchanged { λ a. ⌜ (now (program .exit) ≡ now (program .entry)) × (now (split .exit) ≡ now (split .entry)) ⌝ }
     ensures derivation { λ a. ⌜ (workspaceSize ≤ length (now (work .entry)) → (returned a ≡ four 0 0 0 0) ↔ Right (now (program .entry)) (now (split .entry))) ⌝ }
-    ensures first_false { λ a. ⌜ (31 ≤ returned a .number → RefutedBy (now (program .entry)) (now (split .entry)) a) ⌝ }
+    ensures first_false { λ a. ⌜ (onConditions (returned a .number) ≡ true → RefutedBy (now (program .entry)) (now (split .entry)) a) ⌝ }
     ensures safe { λ a. ⌜ (returned a ≡ four 0 0 0 0 → SafeText (now (program .entry))) ⌝ }
 {
     if work.len() < workspace::SIZE {

@@ -32,7 +32,10 @@ fn refusal_numbers(r: Refusal) -> Returned
         Refusal::SplitForm(k) => four(21, k, 0, 0),
         Refusal::SplitRange(k) => four(22, k, 0, 0),
         Refusal::SplitLines(k) => four(23, k, 0, 0),
-        Refusal::OverOne(l) => four(30, 2, 0, l.0),
+        Refusal::OverOne {
+            line: k,
+            location: l,
+        } => four(30, k, 0, l.0),
         Refusal::TypeFalse {
             line: k,
             condition: i,

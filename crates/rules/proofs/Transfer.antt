@@ -224,11 +224,22 @@ module _ (S : Split) (steps : List Step) (R : InRange steps S) (few : length (S 
 -- ------------------------------------------------------------------ the sheets
 
 module _ (w : List ℕ) (steps denominator locations : ℕ) (P : Program) (S : Split) (H : HoldsSheets w steps denominator locations P S) where
+  root-here : Here w 0 [] [] (P .root)
+  unfolding codes
+  root-here = record {
+    words = rw (H .wellFormed .listing) (H .program .steps .words);
+    ended = H .program .ends;
+    bound = H .program .lets;
+    lines = H .wellFormed .numbering;
+    used = H .wellFormed .usedInside;
+  }
+
   -- 30
-  pub start-shown : startOutcome w denominator locations ≡ startAtMostOne S
+  pub start-shown : startOutcome w denominator locations ≡ startAtMostOne P S
   unfolding startOutcome startAtMostOne startMap
   start-shown =
       rw (
+        here-line (P .root) root-here,
         H .denominatorGiven,
         H .locationsGiven,
         map-shown w S (P .steps) (H .split)
@@ -241,16 +252,6 @@ module _ (w : List ℕ) (steps denominator locations : ℕ) (P : Program) (S : S
 
     sized : size (P .root) ≡ steps
     sized = sym (prefix-length (P .root)) ∙ ap length (H .wellFormed .listing) ∙ sym (H .stepsCounted)
-
-    root-here : Here w 0 [] [] (P .root)
-    unfolding codes
-    root-here = record {
-      words = rw (H .wellFormed .listing) (H .program .steps .words);
-      ended = H .program .ends;
-      bound = H .program .lets;
-      lines = H .wellFormed .numbering;
-      used = H .wellFormed .usedInside;
-    }
 
     root-ready : Ready S (P .steps) (H .inRange) rows-few (atRoot w) 0 [] [] [] startMap (P .root)
     unfolding atRoot startMap
@@ -271,6 +272,6 @@ module _ (w : List ℕ) (steps denominator locations : ℕ) (P : Program) (S : S
 
     -- 30 to 33
     pub sheets-shown : both (startOutcome w denominator locations) (walk locations denominator (atRoot w) 0 steps)
-        ≡ (startAtMostOne S >>= λ whole. ruled P S)
+        ≡ (startAtMostOne P S >>= λ whole. ruled P S)
     unfolding both
     sheets-shown = rw (start-shown, steps-shown)

@@ -31,5 +31,5 @@ pub record HoldsSheets (w : List ℕ) (steps denominator locations : ℕ) (P : P
 -- at most the maps before steps are changed
 pub record Ruled (w : List ℕ) (steps denominator locations : ℕ) (r : Ruling) (w′ : List ℕ) : Type 0 where
   pub answers : (P : Program) (S : Split) → HoldsSheets w steps denominator locations P S
-      → outcome r ≡ (startAtMostOne S >>= λ whole. ruled P S)
+      → outcome r ≡ (startAtMostOne P S >>= λ whole. ruled P S)
   pub changed : ChangedWithin presAt (presAt + 256) w w′

@@ -18,9 +18,9 @@ use Rattle.rules.specs.Relation.{mapFrom}
 use Rattle.rules.specs.Table.{wordRow}
 use Rattle.rules.specs.declared.View.{View}
 
--- 30: the lowest location at which the start is over the whole
+-- 30, at the root's line: the lowest location at which the start is over the whole
 unfoldable pub startOutcome : (w : List ℕ) → (denominator locations : ℕ) → Out (Unit {0})
-startOutcome w denominator locations = refuseOver (overWhole denominator 0 (mapFrom w startMap 0 locations))
+startOutcome w denominator locations = refuseOver 2 (overWhole denominator 0 (mapFrom w startMap 0 locations))
 
 -- entry i of the column that begins at b
 abbrev pub cell : (w : List ℕ) → (b i : ℕ) → ℕ

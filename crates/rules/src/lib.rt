@@ -20,6 +20,9 @@ ghost use Rattle.rules.specs.Contract.{Ruled};
 // The number of the start: the map before the root.
 const START: u32 = 0;
 
+// The root's line.
+const ROOT_LINE: u32 = 2;
+
 // Every condition is met, or the first that is not refuses.
 pub enum Ruling {
     Met,
@@ -57,7 +60,10 @@ fn check_start(work: &[u32], denominator: u32, locations: u32) -> Ruling
     let mut l = 0;
     while l < locations {
         if denominator < map_cell(work, MapNumber(START), index(l)) {
-            return Ruling::Refused(Refusal::OverOne(Location(l)));
+            return Ruling::Refused(Refusal::OverOne {
+                line: ROOT_LINE,
+                location: Location(l),
+            });
         }
         l += 1;
     }

@@ -1,32 +1,32 @@
--- Whatever is refused before the conditions are judged has a number below 31.
-use mathlib.Core.Path.{_≡_, refl, ap}
+-- Whatever is refused before the conditions are judged is no refusal on the conditions.
+use mathlib.Core.Path.{_≡_, refl, ap, sym, _∙_}
 use mathlib.Core.List.{List, [], _∷_}
 use mathlib.Core.Bool.{Bool, true, false}
 use mathlib.Core.Option.{Option, none, some}
-use Prim.Native.Nat.{ℕ, _+_, _≤_, _<_}
-use native.Mathlib.Omega.{arith}
+use Prim.Native.Nat.{ℕ, _+_}
 use lib.Dec.{eqb}
 use Rattle.spec.specs.Choice.{if_then_else_}
 use Rattle.spec.specs.Text.{Line, closed, unclosed, Field, fields}
 use Rattle.spec.specs.Reading.{Out, stop, on, _>>=_, demand, Seen, right, badForm, badRange, SheetName, programSheet, splitSheet, form, outside, miscounted, Place, passed, nextLine, next, nextAll, begin, noneLeft, end}
 use Rattle.spec.specs.Expression.{Step, Expr, leaf, unary, binary, size, single, among, scope}
-use Rattle.spec.specs.Program.{program}
+use Rattle.spec.specs.Program.{Program, program}
 use Rattle.spec.specs.Split.{Split, split}
-use Rattle.spec.specs.Verdict.{refuseOver, startAtMostOne, four, returned}
+use Rattle.spec.specs.Verdict.{refuseOver, startAtMostOne, four, returned, onConditions}
 use Rattle.spec.specs.declared.Answer.the-variants.{Refuse}
 use Rattle.spec.specs.declared.Refusal.{Refusal}
 use Rattle.spec.specs.declared.Refusal.the-variants.{ProgramLines, Unbound, Rebound}
 use Rattle.spec.specs.declared.LeafWord.the-variants.{Var, Int, Newtid, Newlock}
 use Rattle.spec.specs.declared.BinaryWord.the-variants.{Let, If, Spawn, Write}
+use Rattle.spec.proofs.Clashes.{true-is-not-false}
 use Rattle.spec.proofs.Outcomes.{stop-is-not-on, stop-injective}
 
 -- a refusal's number
 abbrev pub numberOf : Refusal → ℕ
 numberOf r = returned (Refuse r) .number
 
--- an outcome that, if it is stopped, is stopped by a number below 31
+-- an outcome that, if it is stopped, is stopped by something else than a condition
 abbrev pub Early : {A : Type 0} → Out A → Type 0
-Early (stop r) = numberOf r < 31
+Early (stop r) = onConditions (numberOf r) ≡ false
 Early (on a) = Unit {0}
 
 pub early-bind : {A B : Type 0} (m : Out A) (f : A → Out B) → Early m → ((a : A) → Early (f a)) → Early (m >>= f)
@@ -34,7 +34,7 @@ unfolding _>>=_
 early-bind (stop r) f p q = p
 early-bind (on a) f p q = q a
 
-pub early-demand : (b : Bool) (r : Refusal) → numberOf r < 31 → Early (demand b r)
+pub early-demand : (b : Bool) (r : Refusal) → onConditions (numberOf r) ≡ false → Early (demand b r)
 unfolding demand
 early-demand true r h = tt
 early-demand false r h = h
@@ -43,9 +43,9 @@ early-choice : {A : Type 0} (b : Bool) (x y : Out A) → Early x → Early y →
 early-choice true x y p q = p
 early-choice false x y p q = q
 
--- an outcome that goes on, or is stopped by a number from 31 on
+-- an outcome that goes on, or is stopped by a condition
 abbrev pub Late : {A : Type 0} → Out A → Type 0
-Late (stop r) = 31 ≤ numberOf r
+Late (stop r) = onConditions (numberOf r) ≡ true
 Late (on a) = Unit {0}
 
 -- a late outcome comes from what follows an early one, which goes on
@@ -53,28 +53,27 @@ pub past : {A B C : Type 0} (o : Out B) (m : Out A) (f : A → Out B) → Early 
     → ((a : A) → m ≡ on a → f a ≡ o → C) → C
 unfolding _>>=_
 past (stop r) (stop s) f early late h go =
-    let same : numberOf s ≡ numberOf r = ap numberOf (stop-injective h) in
-    absurd (omega (arith, early, late, same))
+    true-is-not-false (sym late ∙ ap (λ q. onConditions (numberOf q)) (sym (stop-injective h)) ∙ early)
 past (on b) (stop s) f early late h go = stop-is-not-on h
 past (stop r) (on a) f early late h go = go a refl h
 past (on b) (on a) f early late h go = go a refl h
 
 -- ------------------------------------------------------------------ lines
 
-form-early : (sheet : SheetName) (k : ℕ) → numberOf (form sheet k) < 31
-unfolding form returned four
-form-early programSheet k = omega arith
-form-early splitSheet k = omega arith
+form-early : (sheet : SheetName) (k : ℕ) → onConditions (numberOf (form sheet k)) ≡ false
+unfolding form returned four onConditions
+form-early programSheet k = refl
+form-early splitSheet k = refl
 
-outside-early : (sheet : SheetName) (k : ℕ) → numberOf (outside sheet k) < 31
-unfolding outside returned four
-outside-early programSheet k = omega arith
-outside-early splitSheet k = omega arith
+outside-early : (sheet : SheetName) (k : ℕ) → onConditions (numberOf (outside sheet k)) ≡ false
+unfolding outside returned four onConditions
+outside-early programSheet k = refl
+outside-early splitSheet k = refl
 
-miscounted-early : (sheet : SheetName) (k : ℕ) → numberOf (miscounted sheet k) < 31
-unfolding miscounted returned four
-miscounted-early programSheet k = omega arith
-miscounted-early splitSheet k = omega arith
+miscounted-early : (sheet : SheetName) (k : ℕ) → onConditions (numberOf (miscounted sheet k)) ≡ false
+unfolding miscounted returned four onConditions
+miscounted-early programSheet k = refl
+miscounted-early splitSheet k = refl
 
 passed-early : {A : Type 0} (sheet : SheetName) (k : ℕ) (rest : List Line) (x : Seen A) → Early (passed sheet k rest x)
 unfolding passed
@@ -115,19 +114,19 @@ end-early sheet place = none-left-early sheet (place .last) (place .rest)
 -- ------------------------------------------------------------------ the sheets
 
 single-early : (n : ℕ) (es : List Expr) → Early (single n es)
-unfolding single returned four
-single-early n [] = omega arith
-single-early n (e ∷ es) = early-choice (eqb (size e) n) (on e) (stop (ProgramLines (size e + 2))) tt (omega arith)
+unfolding single returned four onConditions
+single-early n [] = refl
+single-early n (e ∷ es) = early-choice (eqb (size e) n) (on e) (stop (ProgramLines (size e + 2))) tt (refl)
 
 scope-early : (e : Expr) (inside bound : List ℕ) → Early (scope e inside bound)
-unfolding scope returned four
-scope-early (leaf Var k v) inside bound = early-choice (among v inside) (on bound) (stop (Unbound k)) tt (omega arith)
+unfolding scope returned four onConditions
+scope-early (leaf Var k v) inside bound = early-choice (among v inside) (on bound) (stop (Unbound k)) tt (refl)
 scope-early (leaf Int k v) inside bound = tt
 scope-early (leaf Newtid k v) inside bound = tt
 scope-early (leaf Newlock k v) inside bound = tt
 scope-early (unary w k v e) inside bound = scope-early e inside bound
 scope-early (binary Let k v e₁ e₂) inside bound =
-    early-choice (among v bound) (stop (Rebound k)) _ (omega arith)
+    early-choice (among v bound) (stop (Rebound k)) _ (refl)
     (early-bind _ _ (scope-early e₁ inside (v ∷ bound)) λ b. scope-early e₂ (v ∷ inside) b)
 scope-early (binary If k v e₁ e₂) inside bound = early-bind _ _ (scope-early e₁ inside bound) λ b. scope-early e₂ inside b
 scope-early (binary Spawn k v e₁ e₂) inside bound = early-bind _ _ (scope-early e₁ inside bound) λ b. scope-early e₂ inside b
@@ -153,11 +152,11 @@ split-early steps text =
     early-bind _ _ (all-early splitSheet _ (maps .1)) λ rows.
     early-bind _ _ (end-early splitSheet (rows .1)) λ done. tt
 
-over-early : (o : Option ℕ) → Early (refuseOver o)
-unfolding refuseOver returned four
-over-early none = tt
-over-early (some l) = omega arith
+over-early : (k : ℕ) (o : Option ℕ) → Early (refuseOver k o)
+unfolding refuseOver returned four onConditions
+over-early k none = tt
+over-early k (some l) = refl
 
-pub start-early : (S : Split) → Early (startAtMostOne S)
+pub start-early : (P : Program) (S : Split) → Early (startAtMostOne P S)
 unfolding startAtMostOne
-start-early S = over-early _
+start-early P S = over-early _ _

@@ -1,13 +1,14 @@
 -- A refusal 31 to 33 names the first condition, by step line and then by number, that is false; and each such pair gets one.
 use mathlib.Core.Path.{_≡_, ap}
 use mathlib.Core.List.{List, []}
+use mathlib.Core.Bool.{true}
 use Prim.Native.Nat.{ℕ, _≤_}
 use native.Mathlib.Omega.{arith}
 use Rattle.spec.specs.Reading.{Out, stop, on}
 use Rattle.spec.specs.Conditions.{startMap}
 use Rattle.spec.specs.Sites.{sites, claims}
 use Rattle.spec.specs.Workspace.{workspaceSize}
-use Rattle.spec.specs.Verdict.{ruled, checked, answer, verdict, returned}
+use Rattle.spec.specs.Verdict.{ruled, checked, answer, verdict, returned, onConditions}
 use Rattle.spec.specs.FirstFalse.{Refuted}
 use Rattle.spec.specs.declared.Answer.the-variants.{Refuse}
 use Rattle.spec.specs.declared.Refusal.{Refusal}
@@ -20,7 +21,7 @@ unfolding answer
 refused-stopped {r} (stop s) h = let same : s ≡ r = cc in ap stop same
 refused-stopped (on t) h = let clash : _≡_ {A = ℕ} 0 1 = cc in absurd (omega arith)
 
-pub refusal-names-first-false : (room : ℕ) (p s : List ℕ) (r : Refusal) → verdict room p s ≡ Refuse r → 31 ≤ returned (Refuse r) .number
+pub refusal-names-first-false : (room : ℕ) (p s : List ℕ) (r : Refusal) → verdict room p s ≡ Refuse r → onConditions (returned (Refuse r) .number) ≡ true
     → Refuted p s r
 unfolding verdict ruled
 refusal-names-first-false room p s r h late =

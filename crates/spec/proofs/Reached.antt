@@ -3,14 +3,13 @@ use mathlib.Core.Path.{_≡_, refl}
 use mathlib.Core.List.{List}
 use mathlib.Core.Option.{Option, none, some}
 use Prim.Native.Nat.{ℕ, _≤_}
-use native.Mathlib.Omega.{arith}
 use borrow.Author.Tests.{leb-true, le-leb}
 use Rattle.spec.specs.Reading.{Out, on}
 use Rattle.spec.specs.Program.{Program}
 use Rattle.spec.specs.Split.{Split}
 use Rattle.spec.specs.Conditions.{mapAt, startMap}
 use Rattle.spec.specs.Workspace.{workspaceSize}
-use Rattle.spec.specs.Verdict.{refuseOver, startAtMostOne, ruled, checked, four, returned}
+use Rattle.spec.specs.Verdict.{refuseOver, startAtMostOne, ruled, checked, four, returned, onConditions}
 use Rattle.spec.specs.WellFormed.{WellFormedProgram, WellFormedSplit}
 use Rattle.spec.specs.Accepted.{AtMost}
 use Rattle.spec.proofs.Outcomes.{stop-is-not-on, goes-on-bind, demand-goes-on, goes-on-demand}
@@ -20,22 +19,22 @@ use Rattle.spec.proofs.EarlyRefusals.{Late, past, early-demand, program
 
 -- ------------------------------------------------------------------ the start
 
-over-none : {t : Unit {0}} (o : Option ℕ) → refuseOver o ≡ on t → o ≡ none
+over-none : {t : Unit {0}} (k : ℕ) (o : Option ℕ) → refuseOver k o ≡ on t → o ≡ none
 unfolding refuseOver
-over-none none h = refl
-over-none (some l) h = stop-is-not-on h
+over-none k none h = refl
+over-none k (some l) h = stop-is-not-on h
 
-none-over : (o : Option ℕ) → o ≡ none → refuseOver o ≡ on tt
+none-over : (k : ℕ) (o : Option ℕ) → o ≡ none → refuseOver k o ≡ on tt
 unfolding refuseOver
-none-over o h = rw h
+none-over k o h = rw h
 
-start-at-most-one : {t : Unit {0}} (S : Split) → startAtMostOne S ≡ on t → AtMost (S .header .denominator) (mapAt S startMap)
+start-at-most-one : {t : Unit {0}} (P : Program) (S : Split) → startAtMostOne P S ≡ on t → AtMost (S .header .denominator) (mapAt S startMap)
 unfolding startAtMostOne
-start-at-most-one S h = none-at-most _ 0 _ (over-none _ h)
+start-at-most-one P S h = none-at-most _ 0 _ (over-none _ _ h)
 
-at-most-one-start : (S : Split) → AtMost (S .header .denominator) (mapAt S startMap) → startAtMostOne S ≡ on tt
+at-most-one-start : (P : Program) (S : Split) → AtMost (S .header .denominator) (mapAt S startMap) → startAtMostOne P S ≡ on tt
 unfolding startAtMostOne
-at-most-one-start S h = none-over _ (at-most-none _ 0 h)
+at-most-one-start P S h = none-over _ _ (at-most-none _ 0 h)
 
 -- ------------------------------------------------------------------ the conditions
 
@@ -50,20 +49,20 @@ pub record Reached (room : ℕ) (p s : List ℕ) (o : Out (Unit {0})) : Type 0 w
   pub outcome : ruled P S ≡ o
 
 pub reached : (room : ℕ) (p s : List ℕ) (o : Out (Unit {0})) → Late o → checked room p s ≡ o → Reached room p s o
-unfolding checked returned four
+unfolding checked returned four onConditions
 reached room p s o late h =
-    past o _ _ (early-demand _ _ (omega arith)) late h λ _ enough r₁.
-    past o _ _ (early-demand _ _ (omega arith)) late r₁ λ _ fits r₂.
+    past o _ _ (early-demand _ _ refl) late h λ _ enough r₁.
+    past o _ _ (early-demand _ _ refl) late r₁ λ _ fits r₂.
     past o _ _ (program-early p) late r₂ λ P reads r₃.
-    past o _ _ (early-demand _ _ (omega arith)) late r₃ λ _ splitFits r₄.
+    past o _ _ (early-demand _ _ refl) late r₃ λ _ splitFits r₄.
     past o _ _ (split-early (P .steps) s) late r₄ λ S splits r₅.
-    past o _ _ (start-early S) late r₅ λ _ whole r₆. record {
+    past o _ _ (start-early P S) late r₅ λ _ whole r₆. record {
       P = P;
       S = S;
       enough = leb-true _ _ (demand-goes-on _ _ enough);
       program = program-well-formed p (leb-true _ _ (demand-goes-on _ _ fits)) reads;
       split = split-well-formed (P .steps) s (leb-true _ _ (demand-goes-on _ _ splitFits)) splits;
-      atMostOne = start-at-most-one S whole;
+      atMostOne = start-at-most-one P S whole;
       outcome = r₆;
     }
 
@@ -75,4 +74,4 @@ reached-checked room p s o r =
     (goes-on-bind _ _ (well-formed-program p (r .program))
     (goes-on-bind _ _ (goes-on-demand _ _ (le-leb _ _ (r .split .fits)))
     (goes-on-bind _ _ (well-formed-split (r .P .steps) s (r .split))
-    (goes-on-bind _ _ (at-most-one-start (r .S) (r .atMostOne)) (r .outcome))))))
+    (goes-on-bind _ _ (at-most-one-start (r .P) (r .S) (r .atMostOne)) (r .outcome))))))

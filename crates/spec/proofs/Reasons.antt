@@ -37,6 +37,6 @@ module _ (room : ℕ) (p s : List ℕ) (enough : 16384 ≤ room) where
         unfolding verdict checked answer demand _>>=_ workspaceSize programLimit splitLimit
         split-refused r e = rw (le-leb _ _ enough, le-leb _ _ fits, reads, le-leb _ _ fits′, e)
 
-        pub rules-decide : (S : Split) → split (P .steps) s ≡ on S → verdict room p s ≡ answer (startAtMostOne S >>= λ whole. ruled P S)
+        pub rules-decide : (S : Split) → split (P .steps) s ≡ on S → verdict room p s ≡ answer (startAtMostOne P S >>= λ whole. ruled P S)
         unfolding verdict checked demand _>>=_ workspaceSize programLimit splitLimit
         rules-decide S e = rw (le-leb _ _ enough, le-leb _ _ fits, reads, le-leb _ _ fits′, e)

@@ -1,5 +1,6 @@
 -- The answer to a pair of sheets, in the order of document 01's reasons to stop.
 use mathlib.Core.List.{List, []}
+use mathlib.Core.Bool.{Bool, _&&_}
 use mathlib.Core.Option.{Option, none, some}
 use Prim.Native.Nat.{ℕ}
 use lib.Dec.{leb}
@@ -8,7 +9,7 @@ use Rattle.spec.specs.Reading.{Out, stop, on, _>>=_, demand}
 use Rattle.spec.specs.Program.{Program, program, programLimit}
 use Rattle.spec.specs.Split.{Split, split, splitLimit}
 use Rattle.spec.specs.Maps.{overWhole}
-use Rattle.spec.specs.Conditions.{mapAt, startMap}
+use Rattle.spec.specs.Conditions.{lineOf, mapAt, startMap}
 use Rattle.spec.specs.Sites.{sites, claims, firstFalse}
 use Rattle.spec.specs.Workspace.{workspaceSize}
 use Rattle.spec.specs.declared.Returned.{Returned}
@@ -17,13 +18,13 @@ use Rattle.spec.specs.declared.Answer.the-variants.{Accept, Refuse}
 use Rattle.spec.specs.declared.Refusal.{Refusal}
 use Rattle.spec.specs.declared.Refusal.the-variants.{ShortWorkspace, LongProgram, ProgramForm, ProgramRange, ProgramLines, Unbound, Rebound, LongSplit, SplitForm, SplitRange, SplitLines, OverOne, TypeFalse, FlowFalse, AccessFalse}
 
--- 30: the start is over the whole somewhere
-unfoldable pub refuseOver : Option ℕ → Out (Unit {0})
-refuseOver none = on tt
-refuseOver (some l) = stop (OverOne (record { 0 = l }))
+-- 30, at the root's line: the start is over the whole somewhere
+unfoldable pub refuseOver : (line : ℕ) → Option ℕ → Out (Unit {0})
+refuseOver k none = on tt
+refuseOver k (some l) = stop (OverOne k (record { 0 = l }))
 
-unfoldable pub startAtMostOne : Split → Out (Unit {0})
-startAtMostOne S = refuseOver (overWhole (S .header .denominator) 0 (mapAt S startMap))
+unfoldable pub startAtMostOne : Program → Split → Out (Unit {0})
+startAtMostOne P S = refuseOver (lineOf (P .root)) (overWhole (S .header .denominator) 0 (mapAt S startMap))
 
 -- 31 to 33
 unfoldable pub ruled : Program → Split → Out (Unit {0})
@@ -37,7 +38,7 @@ checked room programText splitText = do
   P ← program programText
   fits′ ← demand (leb (length splitText) splitLimit) LongSplit
   S ← split (P .steps) splitText
-  whole ← startAtMostOne S
+  whole ← startAtMostOne P S
   ruled P S
 
 unfoldable pub answer : Out (Unit {0}) → Answer
@@ -67,7 +68,11 @@ returned (Refuse LongSplit) = four 20 0 0 0
 returned (Refuse (SplitForm k)) = four 21 k 0 0
 returned (Refuse (SplitRange k)) = four 22 k 0 0
 returned (Refuse (SplitLines k)) = four 23 k 0 0
-returned (Refuse (OverOne l)) = four 30 2 0 (l .0)
+returned (Refuse (OverOne k l)) = four 30 k 0 (l .0)
 returned (Refuse (TypeFalse k i)) = four 31 k i 0
 returned (Refuse (FlowFalse k i l)) = four 32 k i (l .0)
 returned (Refuse (AccessFalse k i p)) = four 33 k i (p .0)
+
+-- the numbers of a refusal on the conditions: 31 (T), 32 (F), 33 (A)
+unfoldable pub onConditions : (number : ℕ) → Bool
+onConditions n = leb 31 n && leb n 33

@@ -59,7 +59,10 @@ pub enum Refusal {
     SplitForm(u32),
     SplitRange(u32),
     SplitLines(u32),
-    OverOne(Location),
+    OverOne {
+        line: u32,
+        location: Location,
+    },
     TypeFalse {
         line: u32,
         condition: u32,

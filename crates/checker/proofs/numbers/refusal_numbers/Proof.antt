@@ -186,7 +186,7 @@ returns-11 c = cc
 -- src/numbers.rt:20:1
 returns-12 : tie.Need-returns-12
 unfolding returned
-returns-12 c = cc
+returns-12 c = c .four12 .ensures ∙ ap (λ r. returned (Refuse r)) (sym (c .before .before .r9 .given .1))
 
 -- src/numbers.rt:20:1
 returns-13 : tie.Need-returns-13
