@@ -1,5 +1,5 @@
 //! Links the product when `RACECHECK_LIB_DIR` names the folder of `libchecker.a`.
-//! Without it the cfg `product` is off, and the second checker stands in for the product.
+//! Without it the cfg `product` is off, and what needs the product fails.
 
 fn main() {
     println!("cargo:rustc-check-cfg=cfg(product)");

@@ -4,12 +4,14 @@
 //! timed twice: alone, and with 16,384 numbers cleared after it.
 
 use evidence::answer::{Returned, WORK_SPACE};
+use evidence::comparison::Checker;
 use evidence::draw::draft::{Draft, Map};
 use evidence::draw::random::Random;
 use evidence::draw::{full, honest};
 use evidence::known::KNOWN;
 use evidence::{product, second};
 use std::hint::black_box;
+use std::process::ExitCode;
 use std::time::{Duration, Instant};
 
 /// How long one batch of calls takes at least, and how many batches there are of each. Batches are
@@ -33,11 +35,12 @@ impl Pair {
     }
 }
 
-fn main() {
-    if !product::LINKED {
-        println!("the product is not linked: the second checker stands in for it");
-    }
-    let mut bench = Bench { work: vec![0; WORK_SPACE] };
+fn main() -> ExitCode {
+    let Some(product) = product::CHECK else {
+        println!("{}", product::NOT_LINKED);
+        return ExitCode::FAILURE;
+    };
+    let mut bench = Bench { product, work: vec![0; WORK_SPACE] };
     let random = &mut Random::new(1, 0);
     let (program, split) = KNOWN[0].sheets();
     let small = Pair { title: "small, Figure 2 (b), accepted".to_string(), program, split };
@@ -50,6 +53,7 @@ fn main() {
     bench.growth("steps", [16, 32, 64, 128, 256], |random, count| grown(random, count, 32, 4));
     bench.growth("maps", [32, 64, 128, 256, 512], |random, count| grown(random, 32, count, 4));
     bench.growth("locations", [1, 2, 4, 8, 16], |random, count| grown(random, 32, 256, count));
+    ExitCode::SUCCESS
 }
 
 /// An honest draft with exactly so many steps, maps and locations. Unused maps have numbers of six
@@ -77,6 +81,7 @@ fn heading() {
 }
 
 struct Bench {
+    product: Checker,
     work: Vec<u32>,
 }
 
@@ -120,9 +125,9 @@ impl Bench {
     /// The three are timed in turn, so that a busy machine slows all of them alike.
     fn times(&mut self, pair: &Pair) -> Times {
         let mut times = Times { product: f64::MAX, second: f64::MAX, second_and_clear: f64::MAX };
-        let work = &mut self.work;
+        let (product, work) = (self.product, &mut self.work);
         for _ in 0..BATCHES {
-            times.product = times.product.min(batch(pair, |pair| product::check(&pair.program, &pair.split, work)));
+            times.product = times.product.min(batch(pair, |pair| product(&pair.program, &pair.split, work)));
             times.second = times.second.min(batch(pair, second_checker));
             let cleared = batch(pair, |pair| {
                 let returned = second_checker(pair);

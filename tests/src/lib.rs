@@ -9,4 +9,5 @@ pub mod known;
 pub mod product;
 pub mod second;
 pub mod steps;
+pub mod tally;
 pub mod words;

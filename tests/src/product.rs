@@ -1,55 +1,51 @@
-//! The call of the product through its C entry.
-//! Without the library (see `build.rs`) the second checker stands in, so that all else still runs.
+//! The call of the product through its C entry, where the library is linked (see `build.rs`).
 
-use crate::answer::Returned;
+use crate::comparison::Checker;
+
+/// The product's check, if the library is linked.
+#[cfg(product)]
+pub const CHECK: Option<Checker> = Some(linked::check);
 #[cfg(not(product))]
-use crate::answer::WORK_SPACE;
+pub const CHECK: Option<Checker> = None;
 
-/// Whether the product itself is linked.
-pub const LINKED: bool = cfg!(product);
+/// What a command that needs the product says before it fails without it.
+pub const NOT_LINKED: &str = "the product is not linked: name the folder of its library in RACECHECK_LIB_DIR";
 
 #[cfg(product)]
-extern "C" {
-    fn racecheck_check(
-        program: *const u8,
-        program_len: usize,
-        split: *const u8,
-        split_len: usize,
-        work: *mut u32,
-        work_len: usize,
-        line: *mut u32,
-        condition: *mut u32,
-        location: *mut u32,
-    ) -> u32;
-}
+mod linked {
+    use crate::answer::Returned;
 
-/// Calls the product on a pair and a lent work space.
-#[cfg(product)]
-pub fn check(program: &[u8], split: &[u8], work: &mut [u32]) -> Returned {
-    let mut returned = Returned::ACCEPT;
-    // The three slices and the three places are live and apart for the whole call.
-    returned.number = unsafe {
-        racecheck_check(
-            program.as_ptr(),
-            program.len(),
-            split.as_ptr(),
-            split.len(),
-            work.as_mut_ptr(),
-            work.len(),
-            &mut returned.line,
-            &mut returned.condition,
-            &mut returned.location,
-        )
-    };
-    returned
-}
-
-/// Stands in for the product: the second checker, and the work space as document 01 wants it.
-#[cfg(not(product))]
-pub fn check(program: &[u8], split: &[u8], work: &mut [u32]) -> Returned {
-    let returned = crate::second::check(program, split, work.len());
-    if returned.number != 1 {
-        work[..WORK_SPACE].fill(0);
+    extern "C" {
+        fn racecheck_check(
+            program: *const u8,
+            program_len: usize,
+            split: *const u8,
+            split_len: usize,
+            work: *mut u32,
+            work_len: usize,
+            line: *mut u32,
+            condition: *mut u32,
+            location: *mut u32,
+        ) -> u32;
     }
-    returned
+
+    /// Calls the product on a pair and a lent work space.
+    pub fn check(program: &[u8], split: &[u8], work: &mut [u32]) -> Returned {
+        let mut returned = Returned::ACCEPT;
+        // The three slices and the three places are live and apart for the whole call.
+        returned.number = unsafe {
+            racecheck_check(
+                program.as_ptr(),
+                program.len(),
+                split.as_ptr(),
+                split.len(),
+                work.as_mut_ptr(),
+                work.len(),
+                &mut returned.line,
+                &mut returned.condition,
+                &mut returned.location,
+            )
+        };
+        returned
+    }
 }

@@ -2,18 +2,21 @@
 //!
 //! Accepted pairs must never show a fault. Racy and ill-typed programs must show theirs, so that
 //! the search is known to find what it looks for. Exits with 1 on any failure.
+//!
+//! `schedules [second]`. The product says what is accepted, or, when asked for, the second checker.
 
 use evidence::answer::{Returned, WORK_SPACE};
+use evidence::comparison::Checker;
 use evidence::draw::draft::Draft;
 use evidence::draw::honest::Slip;
 use evidence::draw::random::Random;
 use evidence::draw::{self, concurrent, honest, mutants, Drawn};
 use evidence::known::{Known, KNOWN};
-use evidence::product;
 use evidence::steps::claims::Fault;
 use evidence::steps::expression::Expression;
 use evidence::steps::search::{drawn_schedule, exhaustive, Found};
 use evidence::words::Word;
+use evidence::{product, second};
 use std::process::ExitCode;
 use std::rc::Rc;
 use std::time::Instant;
@@ -22,15 +25,23 @@ const SEED: u64 = 2008;
 /// How many states an exhaustive search visits before it gives up on the rest.
 const BOUND: usize = 4_000;
 
-/// A summary when all is well, else what failed.
-type Check = fn() -> Result<String, String>;
+/// A summary when all is well, else what failed. The checker says which pairs are accepted.
+type Check = fn(Checker) -> Result<String, String>;
+
+/// The second checker, which needs no work space.
+const SECOND: Checker = |program, split, work| second::check(program, split, work.len());
 
 fn main() -> ExitCode {
+    let by_second = std::env::args().nth(1).as_deref() == Some("second");
+    let Some(checker) = product::CHECK.filter(|_| !by_second).or(by_second.then_some(SECOND)) else {
+        println!("{}", product::NOT_LINKED);
+        return ExitCode::FAILURE;
+    };
     let start = Instant::now();
     let checks: [(&str, Check); 7] = [
-        ("known racy programs", known_races),
-        ("known odd halts", known_odd_halts),
-        ("known safe programs", known_safe),
+        ("known racy programs", |_| known_races()),
+        ("known odd halts", |_| known_odd_halts()),
+        ("known safe programs", |_| known_safe()),
         ("accepted pairs, all schedules", accepted_exhaustively),
         ("accepted pairs, drawn schedules", accepted_at_random),
         ("faulty drawn programs are refused", faulty_are_refused),
@@ -38,7 +49,7 @@ fn main() -> ExitCode {
     ];
     let mut exit = ExitCode::SUCCESS;
     for (title, check) in checks {
-        match check() {
+        match check(checker) {
             Ok(summary) => println!("{title}: {summary}"),
             Err(failure) => {
                 println!("{title}: FAILED, {failure}");
@@ -171,17 +182,17 @@ impl Sum {
     }
 }
 
-/// What the product says of a pair, or the second checker where the product is not linked.
-fn answer(program: &[u8], split: &[u8]) -> Returned {
-    product::check(program, split, &mut [0; WORK_SPACE])
+/// What a checker says of a pair with work space enough.
+fn answer(checker: Checker, program: &[u8], split: &[u8]) -> Returned {
+    checker(program, split, &mut [0; WORK_SPACE])
 }
 
-fn accepted_exhaustively() -> Result<String, String> {
+fn accepted_exhaustively(checker: Checker) -> Result<String, String> {
     let mut sum = Sum::default();
     for number in 0..1_600 {
         let random = &mut Random::new(SEED, number);
         let draft = small_draft(random, number);
-        if answer(&draft.program(), &draft.split()).number != 0 {
+        if answer(checker, &draft.program(), &draft.split()).number != 0 {
             return Err(format!("the honest pair {number} is refused"));
         }
         let found = exhaustive(&listed(&draft.program()), BOUND);
@@ -202,7 +213,7 @@ fn small_draft(random: &mut Random, number: u64) -> Draft {
     honest::draft(random, size, locations, 2)
 }
 
-fn accepted_at_random() -> Result<String, String> {
+fn accepted_at_random(checker: Checker) -> Result<String, String> {
     let mut sum = Sum::default();
     for number in 0..3_000 {
         let random = &mut Random::new(SEED + 1, number);
@@ -210,7 +221,7 @@ fn accepted_at_random() -> Result<String, String> {
             0 => Drawn::of(&concurrent::draft(random), "concurrent"),
             _ => draw::pair(SEED + 1, number),
         };
-        if answer(&pair.program, &pair.split).number != 0 {
+        if answer(checker, &pair.program, &pair.split).number != 0 {
             continue;
         }
         let program = listed(&pair.program);
@@ -226,7 +237,7 @@ fn accepted_at_random() -> Result<String, String> {
 }
 
 /// Drawn pairs with a change: where the search finds a fault, the pair must be refused.
-fn faulty_are_refused() -> Result<String, String> {
+fn faulty_are_refused(checker: Checker) -> Result<String, String> {
     let (mut races, mut halts, mut still_accepted) = (0, 0, 0);
     for number in 0..2_000 {
         let random = &mut Random::new(SEED + 2, number);
@@ -236,7 +247,7 @@ fn faulty_are_refused() -> Result<String, String> {
         } else {
             loosen(random, &mut draft);
         }
-        let returned = answer(&draft.program(), &draft.split());
+        let returned = answer(checker, &draft.program(), &draft.split());
         if (1..=23).contains(&returned.number) {
             continue;
         }
@@ -257,7 +268,7 @@ fn faulty_are_refused() -> Result<String, String> {
 
 /// Drafts built with one of the mistakes that document 01 expects: some of them race, and those must
 /// be refused.
-fn slips_are_refused() -> Result<String, String> {
+fn slips_are_refused(checker: Checker) -> Result<String, String> {
     let mut told = Vec::new();
     for slip in [Slip::LocksForFree, Slip::StartsForFree, Slip::WritesByFirstMap] {
         let mut races = 0;
@@ -265,7 +276,7 @@ fn slips_are_refused() -> Result<String, String> {
             let draft = concurrent::draft_with(&mut Random::new(SEED + 3, number), Some(slip));
             let Some(fault) = exhaustive(&listed(&draft.program()), BOUND).fault else { continue };
             races += usize::from(matches!(fault, Fault::Race(_)));
-            if answer(&draft.program(), &draft.split()).number == 0 {
+            if answer(checker, &draft.program(), &draft.split()).number == 0 {
                 return Err(format!("{fault:?} in the accepted pair {number} with {slip:?}"));
             }
         }

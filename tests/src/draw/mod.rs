@@ -10,24 +10,33 @@ mod idioms;
 mod limits;
 pub mod mutants;
 mod noise;
+pub mod promise;
 pub mod random;
 
 use crate::answer::{LOCATIONS, PROGRAM_BYTES, SPLIT_BYTES, WHOLE, WORK_SPACE};
 use crate::words::{Word, WORDS};
 use draft::Draft;
+use promise::Promise;
 use random::Random;
 
-/// A pair of sheets, the length of the work space it is checked with, and how it was drawn.
+/// A pair of sheets, the length of the work space it is checked with, how it was drawn, and what is
+/// known of its answer.
 pub struct Drawn {
     pub program: Vec<u8>,
     pub split: Vec<u8>,
     pub room: usize,
     pub origin: &'static str,
+    pub promise: Promise,
 }
 
 impl Drawn {
     pub fn of(draft: &Draft, origin: &'static str) -> Drawn {
-        Drawn { program: draft.program(), split: draft.split(), room: WORK_SPACE, origin }
+        let (program, split) = (draft.program(), draft.split());
+        Drawn { program, split, room: WORK_SPACE, origin, promise: Promise::Open }
+    }
+
+    pub fn accepted(draft: &Draft, origin: &'static str) -> Drawn {
+        Drawn { promise: Promise::Accepted, ..Drawn::of(draft, origin) }
     }
 }
 
@@ -35,9 +44,9 @@ impl Drawn {
 pub fn pair(seed: u64, number: u64) -> Drawn {
     let random = &mut Random::new(seed, number);
     match random.below(1000) {
-        0..=349 => Drawn::of(&honest_draft(random), "honest"),
-        350..=399 => Drawn::of(&concurrent::draft(random), "concurrent"),
-        400..=404 => Drawn::of(&near_full(random), "full"),
+        0..=349 => Drawn::accepted(&honest_draft(random), "honest"),
+        350..=399 => Drawn::accepted(&concurrent::draft(random), "concurrent"),
+        400..=404 => Drawn::accepted(&near_full(random), "full"),
         405..=554 => directed(random, number),
         555..=729 => changed_draft(random),
         730..=869 => changed_text(random),
@@ -71,7 +80,8 @@ fn directed(random: &mut Random, number: u64) -> Drawn {
     let conditions: Vec<(Word, u32)> =
         WORDS.iter().flat_map(|&word| (1..=word.conditions()).map(move |condition| (word, condition))).collect();
     let (word, condition) = conditions[number as usize % conditions.len()];
-    Drawn::of(&directed::breaking(random, word, condition), "directed")
+    let draft = directed::breaking(random, word, condition);
+    Drawn { promise: Promise::Breaks(word, condition), ..Drawn::of(&draft, "directed") }
 }
 
 fn changed_draft(random: &mut Random) -> Drawn {
@@ -115,7 +125,7 @@ fn faults_at_once(random: &mut Random) -> Drawn {
 #[cfg(test)]
 mod tests {
     use super::random::Random;
-    use super::{directed, full, honest, Draft};
+    use super::{directed, full, honest, Draft, Promise};
     use crate::answer::WORK_SPACE;
     use crate::second;
     use crate::words::WORDS;
@@ -148,10 +158,8 @@ mod tests {
                 for seed in 0..50 {
                     let draft = directed::breaking(&mut Random::new(2, seed), word, condition);
                     let returned = second::check(&draft.program(), &draft.split(), WORK_SPACE);
-                    let met = returned.number >= 31
-                        && draft.steps[returned.line as usize - 2].word == word
-                        && returned.condition == condition;
-                    assert!(met, "{word:?} {condition}, seed {seed}: {returned}");
+                    let kept = Promise::Breaks(word, condition).kept(&draft.program(), returned);
+                    assert!(kept, "{word:?} {condition}, seed {seed}: {returned}");
                 }
             }
         }

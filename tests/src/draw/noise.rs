@@ -1,6 +1,7 @@
 //! Noise: bytes, scraps of the formats, and drawn trees with drawn splits.
 
 use super::draft::{Draft, Map, Step, Type};
+use super::promise::Promise;
 use super::random::Random;
 use super::Drawn;
 use crate::answer::WORK_SPACE;
@@ -16,7 +17,7 @@ pub fn noise(random: &mut Random) -> Drawn {
         3 => (honest_program, scraps(random, b'C')),
         _ => return Drawn::of(&drawn_tree(random), "noise"),
     };
-    Drawn { program, split, room: WORK_SPACE, origin: "noise" }
+    Drawn { program, split, room: WORK_SPACE, origin: "noise", promise: Promise::Open }
 }
 
 fn bytes(random: &mut Random) -> Vec<u8> {

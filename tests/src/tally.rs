@@ -1,0 +1,97 @@
+//! What a series of drawn pairs met: answers, conditions, and how each origin fared.
+
+use crate::answer::Returned;
+use crate::draw::promise::broken;
+use crate::draw::Drawn;
+use crate::words::{Word, WORDS};
+use std::collections::BTreeMap;
+use std::fmt;
+
+/// Every number that an answer can have.
+pub const NUMBERS: [u32; 16] = [0, 1, 10, 11, 12, 13, 14, 15, 20, 21, 22, 23, 30, 31, 32, 33];
+
+/// How many pairs met each answer.
+#[derive(Default)]
+pub struct Tally {
+    pairs: u64,
+    numbers: BTreeMap<u32, u64>,
+    conditions: BTreeMap<(Word, u32), u64>,
+    /// How many pairs were drawn in each way, and how many of them were accepted.
+    origins: BTreeMap<&'static str, (u64, u64)>,
+}
+
+impl Tally {
+    pub fn count(&mut self, drawn: &Drawn, returned: Returned) {
+        self.pairs += 1;
+        *self.numbers.entry(returned.number).or_default() += 1;
+        let origin = self.origins.entry(drawn.origin).or_default();
+        origin.0 += 1;
+        origin.1 += u64::from(returned.number == 0);
+        if let Some(condition) = broken(&drawn.program, returned) {
+            *self.conditions.entry(condition).or_default() += 1;
+        }
+    }
+
+    pub fn accepted(&self) -> u64 {
+        self.with_number(0)
+    }
+
+    fn with_number(&self, number: u32) -> u64 {
+        self.numbers.get(&number).copied().unwrap_or(0)
+    }
+
+    fn met(&self, word: Word, condition: u32) -> u64 {
+        self.conditions.get(&(word, condition)).copied().unwrap_or(0)
+    }
+
+    /// What the series should have met and did not: every number, every condition, and a third of the
+    /// pairs accepted.
+    pub fn missed(&self) -> Vec<String> {
+        let numbers = NUMBERS.iter().filter(|&&number| self.with_number(number) == 0);
+        let mut missed: Vec<String> = numbers.map(|number| format!("number {number}")).collect();
+        for word in WORDS {
+            let conditions = (1..=word.conditions()).filter(|&condition| self.met(word, condition) == 0);
+            missed.extend(conditions.map(|condition| format!("condition {condition} of {}", word.spelling())));
+        }
+        if 3 * self.accepted() < self.pairs {
+            missed.push("a third of the pairs accepted".to_string());
+        }
+        missed
+    }
+}
+
+impl fmt::Display for Tally {
+    fn fmt(&self, out: &mut fmt::Formatter<'_>) -> fmt::Result {
+        for (origin, (drawn, accepted)) in &self.origins {
+            writeln!(out, "  {origin:14} {drawn:7} drawn {accepted:7} accepted")?;
+        }
+        for number in NUMBERS {
+            writeln!(out, "  number {number:2} {:7}", self.with_number(number))?;
+        }
+        for word in WORDS {
+            let counts: Vec<String> =
+                (1..=word.conditions()).map(|condition| self.met(word, condition).to_string()).collect();
+            writeln!(out, "  {:8} {}", word.spelling(), counts.join(" "))?;
+        }
+        Ok(())
+    }
+}
+
+#[cfg(test)]
+mod tests {
+    use super::Tally;
+    use crate::{draw, second};
+
+    /// The second checker keeps the generator's promises on a series, and the series leaves nothing out.
+    #[test]
+    fn a_series_meets_everything() {
+        let mut tally = Tally::default();
+        for number in 0..20_000 {
+            let drawn = draw::pair(7, number);
+            let returned = second::check(&drawn.program, &drawn.split, drawn.room);
+            assert!(drawn.promise.kept(&drawn.program, returned), "pair {number}: {returned}, {:?}", drawn.promise);
+            tally.count(&drawn, returned);
+        }
+        assert_eq!(tally.missed(), Vec::<String>::new(), "{tally}");
+    }
+}
