@@ -3,12 +3,13 @@
 //! The product must clear the work space, the second checker has none. So the second checker is
 //! timed twice: alone, and with 16,384 numbers cleared after it.
 
-use evidence::answer::{Returned, WORK_SPACE};
+use evidence::answer::{Returned, LOCATIONS, STEPS, TYPES, WHOLE, WORK_SPACE};
 use evidence::comparison::Checker;
-use evidence::draw::draft::{Draft, Map};
+use evidence::draw::draft::{Draft, Map, Step, Type};
 use evidence::draw::random::Random;
 use evidence::draw::{full, honest};
 use evidence::known::KNOWN;
+use evidence::words::Word;
 use evidence::{product, second};
 use std::hint::black_box;
 use std::process::ExitCode;
@@ -50,6 +51,7 @@ fn main() -> ExitCode {
     bench.row(&small, None);
     bench.row(&Pair::new("full, accepted", &fullest), None);
     bench.row(&Pair::new("full, refused at its last condition", &refused), None);
+    bench.row(&Pair::new("deepest types, accepted", &deepest()), None);
     bench.growth("steps", [16, 32, 64, 128, 256], |random, count| grown(random, count, 32, 4));
     bench.growth("maps", [32, 64, 128, 256, 512], |random, count| grown(random, 32, count, 4));
     bench.growth("locations", [1, 2, 4, 8, 16], |random, count| grown(random, 32, 256, count));
@@ -71,6 +73,24 @@ fn grown(random: &mut Random, steps: usize, maps: usize, locations: usize) -> Dr
             return draft;
         }
     }
+}
+
+/// The pair that compares types at the greatest cost. Each type but the first is a ref to the one
+/// before it; a thing of the last type is made, and the steps left choose between it and itself: an
+/// `if` compares its type with both of its parts, a `var` with its let's value.
+fn deepest() -> Draft {
+    let last = TYPES as usize - 1;
+    let mut types = vec![Type::Tid(0)];
+    types.extend((0..last).map(|content| Type::Ref { location: 0, content }));
+    let plain = |word, kind| Step { word, number: 0, kind, post: 0, start: None };
+    let mut steps = vec![plain(Word::Let, last)];
+    steps.extend((1..=last).rev().map(|kind| plain(Word::Ref, kind)));
+    steps.push(plain(Word::Newtid, 0));
+    while steps.len() + 1 < STEPS as usize {
+        steps.extend([plain(Word::If, last), plain(Word::Var, last)]);
+    }
+    steps.push(plain(Word::Var, last));
+    Draft { whole: WHOLE, locations: LOCATIONS as usize, types, maps: vec![[WHOLE; LOCATIONS as usize]], steps }
 }
 
 fn heading() {

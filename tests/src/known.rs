@@ -40,6 +40,16 @@ macro_rules! split_of_p {
     };
 }
 
+/// Document 01's S with types and maps written anew for each use, the last row's first.
+const P_AFRESH: &str = "C,2,1,20,20|int,0,0|int,0,0|ref,0,1|int,0,0|tid,3,0|int,0,0|int,0,0|int,0,0|ref,0,7|int,0,0|\
+                        tid,8,0|int,0,0|int,0,0|tid,12,0|int,0,0|int,0,0|int,0,0|ref,0,16|int,0,0|int,0,0|\
+                        2|2|2|1|2|1|2|2|1|1|1|2|1|1|2|2|2|2|2|2|\
+                        18,19,|17,18,|19,17,|15,16,|13,15,|14,14,|12,13,3|10,11,|11,10,|8,9,|9,7,|6,6,|4,5,|5,4,|2,2,|0,1,|";
+
+/// A lock, and a cell, under one number where they are made and under another where they are used.
+const SAME_LOCK: &str = "P,3|let,0|newlock,0|var,0|";
+const SAME_CELL: &str = "P,4|let,0|ref,0|int,0|var,0|";
+
 /// Figure 2 (a), with half of the cell for each thread: the write asks for the whole.
 const RACY: Known = pair(
     "P,11|let,0|ref,0|int,0|let,1|spawn,0|newtid,0|read,0|var,0|write,0|var,0|int,1|",
@@ -179,9 +189,17 @@ pub const KNOWN: &[Known] = &[
     split("C,1,1,1,1|int,0,0|0|1,0,x|", "REFUSE,21,4,0,0"),
     split("C,1,1,1,1|int,0,0|0|", "REFUSE,23,3,0,0"),
     split("C,1,1,1,1|int,0,0|0|0,0,||", "REFUSE,23,5,0,0"),
-    // Any type line `int,0,0` is int, but two of them do not agree.
+    // Types agree by structure, request (i): any two ints, maps by their numbers, refs by location and content.
     split("C,1,1,2,1|int,0,0|int,0,0|0|1,0,|", "ACCEPT"),
-    pair("P,3|let,0|int,0|var,0|", "C,1,1,2,1|int,0,0|int,0,0|0|1,0,|0,0,|1,0,|", "REFUSE,31,4,1,0"),
+    pair("P,3|let,0|int,0|var,0|", "C,1,1,2,1|int,0,0|int,0,0|0|1,0,|0,0,|1,0,|", "ACCEPT"),
+    pair(P, P_AFRESH, "ACCEPT"),
+    pair(SAME_LOCK, "C,1,2,2,4|lock,1,0|lock,2,0|1,1|0,1|0,1|1,0|1,3,|0,3,|1,3,|", "ACCEPT"),
+    pair(SAME_LOCK, "C,1,2,2,4|lock,1,0|lock,2,0|1,1|0,1|0,0|1,0|1,3,|0,3,|1,3,|", "REFUSE,31,4,1,0"),
+    pair(SAME_LOCK, "C,1,1,2,2|lock,1,0|tid,1,0|1|0|1,0,|0,0,|1,0,|", "REFUSE,31,4,1,0"),
+    pair(SAME_CELL, "C,1,2,4,1|int,0,0|ref,1,0|int,0,0|ref,1,2|1,1|3,0,|1,0,|0,0,|3,0,|", "ACCEPT"),
+    pair(SAME_CELL, "C,1,2,4,1|int,0,0|ref,1,0|int,0,0|ref,0,2|1,1|3,0,|1,0,|0,0,|3,0,|", "REFUSE,31,5,1,0"),
+    pair(SAME_CELL, "C,1,2,4,1|int,0,0|ref,1,0|tid,0,0|ref,1,2|1,1|3,0,|1,0,|0,0,|3,0,|", "REFUSE,31,5,1,0"),
+    pair(SAME_CELL, "C,1,1,3,1|int,0,0|ref,0,0|ref,0,1|1|2,0,|1,0,|0,0,|2,0,|", "REFUSE,31,5,1,0"),
     // Two maps that hold the same are equal.
     split("C,1,1,1,2|int,0,0|1|1|0,1,|", "ACCEPT"),
     // The lowest failing location, for map 0 and for a flow.

@@ -1,6 +1,7 @@
 //! Evidence beside the proofs: a second checker, drawn pairs of sheets, an interpreter of the
 //! language's steps, and the call of the product that they are compared with.
-//! "Document 01" in the comments is the specification of the two sheets and their answers.
+//! "Document 01" in the comments is the specification of the two sheets and their answers, "document
+//! 02" the list of requests that change it, cited by their numbers.
 
 pub mod answer;
 pub mod comparison;

@@ -4,6 +4,7 @@ pub mod Relations
 pub mod Walking
 pub mod Claims
 pub mod Shown
+pub mod Agreement
 pub mod TableRows
 pub mod Here
 pub mod Scopes

@@ -9,7 +9,8 @@ use borrow.Author.Tests.{le-leb, lt-ltb}
 use Rattle.spec.specs.Expression.{Step, Expr, leaf, unary, binary}
 use Rattle.spec.specs.Split.{Map, Split}
 use Rattle.spec.specs.Maps.{_=ᵐ_, _≥ᵐ_, _+ᵐ_, share}
-use Rattle.spec.specs.Conditions.{Env, typeIn, mapAt, agree, contains, row, type, kind, post, start, K, place, load, own}
+use Rattle.spec.specs.Conditions.{Env, typeIn, mapAt, contains, row, type, kind, post, start, K, place, load, own}
+use Rattle.spec.specs.Agreement.{agree}
 use Rattle.spec.specs.Ranges.{InRange}
 use Rattle.spec.specs.declared.MapNumber.{MapNumber}
 use Rattle.spec.specs.declared.TypeNumber.{TypeNumber}
@@ -26,26 +27,16 @@ use Rattle.workspace.specs.Layout.{mapCell}
 use Rattle.workspace.specs.Holds.{HoldsSplit}
 use Rattle.rules.specs.Relation.{failsFrom}
 use Rattle.rules.specs.declared.Relation.the-variants.{Equal, AtLeast, Sum}
-use Rattle.rules.specs.Table.{agreeIn, containsIn, leafRow, unaryRow, binaryRow}
+use Rattle.rules.specs.Agreement.{agreeIn}
+use Rattle.rules.specs.Table.{containsIn, leafRow, unaryRow, binaryRow}
 use Rattle.rules.specs.declared.View.{View}
+use Rattle.rules.proofs.Agreement.{agree-shown, contains-shown}
 use Rattle.rules.proofs.Shown.{type-shown, place-in, load-in, has-shown, equal-shown, at-least-shown, sum-shown, is-sum-shown}
 
 -- "> 0" is "≥ 1"
 some-is-one : (x : ℕ) → leb 1 x ≡ ltb 0 x
 some-is-one zero = refl
 some-is-one (suc x) = le-leb 1 (suc x) (omega arith) ∙ sym (lt-ltb 0 (suc x) (omega arith))
-
--- type agreement, the one place that knows what it is
-agree-shown : (w : List ℕ) (S : Split) (t u : TypeNumber) → agreeIn w t u ≡ agree S t u
-unfolding agreeIn agree
-agree-shown w S t u = refl
-
-contains-shown : (w : List ℕ) (S : Split) (x : TypeLine) (t : TypeNumber) → containsIn w x t ≡ contains S x t
-unfolding containsIn contains
-contains-shown w S type-line.Int t = refl
-contains-shown w S (type-line.Ref p c) t = agree-shown w S c t
-contains-shown w S (type-line.Lock k) t = refl
-contains-shown w S (type-line.Tid k) t = refl
 
 -- a type and a map that a view shows are the type and the post of an expression
 pub record Part (S : Split) (t : TypeNumber) (m : MapNumber) (e : Expr) : Type 0 where
@@ -60,11 +51,11 @@ record Stands (S : Split) (m : MapNumber) (x : Map) : Type 0 where
   pub is : mapAt S m ≡ x
 
 -- a `var` shows the type of its let's e1
-abbrev pub Bound : LeafWord → View → Env → (v : ℕ) → Type 0
-Bound Var s Γ v = s .bound ≡ typeIn Γ v
-Bound Int s Γ v = Unit {0}
-Bound Newtid s Γ v = Unit {0}
-Bound Newlock s Γ v = Unit {0}
+abbrev pub Bound : Split → LeafWord → View → Env → (v : ℕ) → Type 0
+Bound S Var s Γ v = (s .bound ≡ typeIn Γ v) × (typeIn Γ v .0 < length (S .types))
+Bound S Int s Γ v = Unit {0}
+Bound S Newtid s Γ v = Unit {0}
+Bound S Newlock s Γ v = Unit {0}
 
 module _ (w : List ℕ) (S : Split) (steps : List Step) (H : HoldsSplit w S) (R : InRange steps S)
     (s : View) (located : s .locations ≡ S .header .locations) (divided : s .denominator ≡ S .header .denominator)
@@ -112,12 +103,24 @@ module _ (w : List ℕ) (S : Split) (steps : List Step) (H : HoldsSplit w S) (R 
       let p : Stands S _ (post S e) = post-stands e o in
       rw (← p .is) (has-shown w S steps H R _ _ (p .inside) (place-in w S steps H R _ (f .type-in)))
 
+  -- ---------------------------------------------------------------- agreement
+
+  agrees : {t u : TypeNumber} {m : MapNumber} (e : Expr) (x : TypeNumber) → Part S t m e → u ≡ x → x .0 < length (S .types)
+      → agreeIn w (s .locations) t u ≡ agree S (type S e) x
+  unfolding type
+  agrees e x p q h = rw (p .typed, q) (agree-shown w S steps H R (s .locations) located _ _ (p .type-in) h)
+
+  holds-content : {t u : TypeNumber} {m n : MapNumber} (e e₁ : Expr) → Part S t m e → Part S u n e₁
+      → containsIn w (s .locations) (layout.typeAt w t) u ≡ contains S (kind S e) (type S e₁)
+  unfolding type kind
+  holds-content e e₁ p q = rw (typed-as e p, q .typed) (contains-shown w S steps H R (s .locations) located _ _ (p .type-in) (q .type-in))
+
   -- ---------------------------------------------------------------- the table
 
-  pub leaf-shown : (x : LeafWord) → Part S (s .own) (s .post) (leaf x l v) → Bound x s Γ v
+  pub leaf-shown : (x : LeafWord) → Part S (s .own) (s .post) (leaf x l v) → Bound S x s Γ v
       → leafRow x w s (layout.typeAt w (s .own)) (layout.typeAt w (s .type1)) ≡ own S Γ (mapAt S pre) (leaf x l v)
   unfolding leafRow own type
-  leaf-shown Var o b = rw (equal (post-stands _ o) pre-stands, agree-shown w S, o .typed, b)
+  leaf-shown Var o b = rw (equal (post-stands _ o) pre-stands, agrees _ _ o (b .0) (b .1))
   leaf-shown Int o b = rw (equal (post-stands _ o) pre-stands, typed-as _ o)
   leaf-shown Newtid o b = rw (equal (post-stands _ o) pre-stands, typed-as _ o)
   leaf-shown Newlock o b = rw (sum (post-stands _ o) (load-stands _ o) pre-stands, typed-as _ o)
@@ -131,13 +134,12 @@ module _ (w : List ℕ) (S : Split) (steps : List Step) (H : HoldsSplit w S) (R 
     unary-shown Join o =
         rw (is-sum (post-stands _ f) (load-stands _ f) (post-stands _ o), typed-as _ o, typed-as _ f)
     unary-shown Ref o =
-        rw (equal (post-stands _ o) (post-stands _ f), typed-as _ o, contains-shown w S, f .typed)
+        rw (equal (post-stands _ o) (post-stands _ f), holds-content _ _ o f)
     unary-shown Read o =
         rw (
           equal (post-stands _ o) (post-stands _ f),
+          holds-content _ _ f o,
           typed-as _ f,
-          contains-shown w S,
-          o .typed,
           some-is-one,
           shares _ _ o f,
         )
@@ -154,16 +156,13 @@ module _ (w : List ℕ) (S : Split) (steps : List Step) (H : HoldsSplit w S) (R 
           → binaryRow x w s (layout.typeAt w (s .own)) (layout.typeAt w (s .type1)) ≡ own S Γ (mapAt S pre) (binary x l v e₁ e₂)
       unfolding binaryRow own type start
       binary-shown Let o b b-in =
-          rw (equal (post-stands _ o) (post-stands _ g), agree-shown w S, o .typed, g .typed)
+          rw (equal (post-stands _ o) (post-stands _ g), agrees _ _ o (g .typed) (g .type-in))
       binary-shown If o b b-in =
           rw (
             at-least (post-stands _ f) (post-stands _ o),
             at-least (post-stands _ g) (post-stands _ o),
-            agree-shown w S,
-            agree-shown w S,
-            o .typed,
-            f .typed,
-            g .typed,
+            agrees _ _ o (f .typed) (f .type-in),
+            agrees _ _ o (g .typed) (g .type-in),
           )
       binary-shown Spawn o b b-in =
           rw (
@@ -176,9 +175,8 @@ module _ (w : List ℕ) (S : Split) (steps : List Step) (H : HoldsSplit w S) (R 
           rw (
             equal (post-stands _ o) (post-stands _ g),
             divided,
+            holds-content _ _ f g,
             typed-as _ o,
             typed-as _ f,
-            contains-shown w S,
-            g .typed,
             shares _ _ o f,
           )

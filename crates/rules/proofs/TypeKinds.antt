@@ -40,10 +40,10 @@ not-tid (Ref p c) h = refl
 not-tid (Lock k) h = refl
 not-tid (Tid k) h = absurd (miss (0 ∷ 1 ∷ 2 ∷ []) 3 tt h)
 
-pub not-contains : (w : List ℕ) (t : TypeLine) (u : TypeNumber) → OneOf (0 ∷ 2 ∷ 3 ∷ []) (tagOf kind.the-type t)
-    → containsIn w t u ≡ false
+pub not-contains : (w : List ℕ) (n : ℕ) (t : TypeLine) (u : TypeNumber) → OneOf (0 ∷ 2 ∷ 3 ∷ []) (tagOf kind.the-type t)
+    → containsIn w n t u ≡ false
 unfolding containsIn
-not-contains w Int u h = refl
-not-contains w (Ref p c) u h = absurd (miss (0 ∷ 2 ∷ 3 ∷ []) 1 tt h)
-not-contains w (Lock k) u h = refl
-not-contains w (Tid k) u h = refl
+not-contains w n Int u h = refl
+not-contains w n (Ref p c) u h = absurd (miss (0 ∷ 2 ∷ 3 ∷ []) 1 tt h)
+not-contains w n (Lock k) u h = refl
+not-contains w n (Tid k) u h = refl

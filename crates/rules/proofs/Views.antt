@@ -69,15 +69,17 @@ module _ (w : List ℕ) (S : Split) (steps : List Step) (H : HoldsSplit w S) (R 
     started e line h = map-number (row-start w S steps H R e k line h)
 
     pub bound-shown : (x : LeafWord) (l v : ℕ) {Γ : Env} {inside : List (ℕ × ℕ)} {vars : List ℕ}
-        → Here w k inside vars (leaf x l v) → Scoped S Γ inside vars → Bound x (viewOf w n d k) Γ v
+        → Here w k inside vars (leaf x l v) → Scoped S Γ inside vars → Bound S x (viewOf w n d k) Γ v
     unfolding viewOf UsedInside
-    bound-shown Var l v {Γ} {inside} P C =
-        type-number
-        (ap (cell w (rowTypesAt + 1)) (here-let l v P)
-        ∙ ap (λ (i : ℕ). getD w i 0) (omega arith)
-        ∙ column w rowTypesAt (λ (r : Row). r .type .0) (S .rows) noRow (letIn inside v + 1)
-        (H .rowTypes) (C .within v (P .used))
-        ∙ sym (ap (λ (t : TypeNumber). t .0) (C .typed v (P .used))))
+    bound-shown Var l v {Γ} {inside} P C = (
+      type-number
+          (ap (cell w (rowTypesAt + 1)) (here-let l v P)
+          ∙ ap (λ (i : ℕ). getD w i 0) (omega arith)
+          ∙ column w rowTypesAt (λ (r : Row). r .type .0) (S .rows) noRow (letIn inside v + 1)
+          (H .rowTypes) (C .within v (P .used))
+          ∙ sym (ap (λ (t : TypeNumber). t .0) (C .typed v (P .used)))),
+      rw (C .typed v (P .used)) (R .rowType _ noRow (C .within v (P .used))),
+    )
     bound-shown Int l v P C = tt
     bound-shown Newtid l v P C = tt
     bound-shown Newlock l v P C = tt

@@ -1,5 +1,6 @@
 pub mod Outcome
 pub mod Relation
+pub mod Agreement
 pub mod Table
 pub mod Walk
 pub mod Contract

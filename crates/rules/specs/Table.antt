@@ -3,7 +3,7 @@
 use mathlib.Core.Bool.{Bool, false}
 use mathlib.Core.List.{List, [], _∷_}
 use Prim.Native.Nat.{ℕ}
-use lib.Dec.{eqb, leb}
+use lib.Dec.{leb}
 use Rattle.spec.specs.Conditions.{Condition, T, F, A, isInt, isRef, isLock, isTid, place, load}
 use Rattle.spec.specs.declared.Location.{Location}
 use Rattle.spec.specs.declared.MapNumber.{MapNumber}
@@ -20,20 +20,17 @@ use Rattle.spec.specs.declared.BinaryWord.{BinaryWord}
 use Rattle.spec.specs.declared.BinaryWord.the-variants.{Let, If, Spawn, Write}
 use Rattle.workspace.specs.Layout.{mapCell}
 use Rattle.rules.specs.Relation.{failsFrom}
+use Rattle.rules.specs.Agreement.{agreeIn}
 use Rattle.rules.specs.declared.Relation.{Relation}
 use Rattle.rules.specs.declared.Relation.the-variants.{Equal, AtLeast, Sum}
 use Rattle.rules.specs.declared.View.{View}
 
--- two types agree, by what the work space w holds of types
-unfoldable pub agreeIn : (w : List ℕ) → TypeNumber → TypeNumber → Bool
-agreeIn w t u = eqb (t .0) (u .0)
-
--- a ref type whose c is the type t
-unfoldable pub containsIn : (w : List ℕ) → TypeLine → TypeNumber → Bool
-containsIn w type-line.Int t = false
-containsIn w (type-line.Ref p c) t = agreeIn w c t
-containsIn w (type-line.Lock k) t = false
-containsIn w (type-line.Tid k) t = false
+-- a ref type whose c agrees with the type t, in a sheet of n locations
+unfoldable pub containsIn : (w : List ℕ) (n : ℕ) → TypeLine → TypeNumber → Bool
+containsIn w n type-line.Int t = false
+containsIn w n (type-line.Ref p c) t = agreeIn w n c t
+containsIn w n (type-line.Lock k) t = false
+containsIn w n (type-line.Tid k) t = false
 
 -- a relation at every location of the sheet
 abbrev pub flows : (w : List ℕ) → View → Relation → Condition
@@ -49,7 +46,7 @@ TableRow = (w : List ℕ) → View → (kind kind₁ : TypeLine) → List Condit
 
 abbrev pub varRow : TableRow
 varRow w s kind kind₁ =
-    T (agreeIn w (s .own) (s .bound))
+    T (agreeIn w (s .locations) (s .own) (s .bound))
     ∷ flows w s (Equal (s .post) (s .pre))
     ∷ []
 
@@ -61,14 +58,14 @@ intRow w s kind kind₁ =
 
 abbrev pub letRow : TableRow
 letRow w s kind kind₁ =
-    T (agreeIn w (s .own) (s .type2))
+    T (agreeIn w (s .locations) (s .own) (s .type2))
     ∷ flows w s (Equal (s .post) (s .post2))
     ∷ []
 
 abbrev pub ifRow : TableRow
 ifRow w s kind kind₁ =
-    T (agreeIn w (s .own) (s .type1))
-    ∷ T (agreeIn w (s .own) (s .type2))
+    T (agreeIn w (s .locations) (s .own) (s .type1))
+    ∷ T (agreeIn w (s .locations) (s .own) (s .type2))
     ∷ flows w s (AtLeast (s .post1) (s .post))
     ∷ flows w s (AtLeast (s .post2) (s .post))
     ∷ []
@@ -103,14 +100,14 @@ joinRow w s kind kind₁ =
 
 abbrev pub refRow : TableRow
 refRow w s kind kind₁ =
-    T (containsIn w kind (s .type1))
+    T (containsIn w (s .locations) kind (s .type1))
     ∷ flows w s (Equal (s .post) (s .post1))
     ∷ []
 
 abbrev pub readRow : TableRow
 readRow w s kind kind₁ =
     T (isRef kind₁)
-    ∷ T (containsIn w kind₁ (s .own))
+    ∷ T (containsIn w (s .locations) kind₁ (s .own))
     ∷ flows w s (Equal (s .post) (s .post1))
     ∷ hasAtLeast w (s .post) (place kind₁) 1
     ∷ []
@@ -119,7 +116,7 @@ abbrev pub writeRow : TableRow
 writeRow w s kind kind₁ =
     T (isInt kind)
     ∷ T (isRef kind₁)
-    ∷ T (containsIn w kind₁ (s .type2))
+    ∷ T (containsIn w (s .locations) kind₁ (s .type2))
     ∷ flows w s (Equal (s .post) (s .post2))
     ∷ hasAtLeast w (s .post) (place kind₁) (s .denominator)
     ∷ []

@@ -4,9 +4,11 @@ use super::Ruling;
 use spec::Location;
 use spec::MapNumber;
 use spec::Refusal;
+use spec::TypeLine;
 use spec::TypeNumber;
 use workspace::index;
 use workspace::map_cell;
+use workspace::type_at;
 ghost use mathlib.Core.Path.{_≡_};
 ghost use mathlib.Core.Bool.{false};
 ghost use Rattle.spec.specs.Conditions.{T, F};
@@ -14,7 +16,8 @@ ghost use Rattle.spec.specs.Sites.{judge};
 ghost use Rattle.rules.specs.declared.Relation.the-variants.{Equal, AtLeast, Sum};
 ghost use Rattle.rules.specs.Outcome.{outcome, both};
 ghost use Rattle.rules.specs.Relation.{holdsAt, failsFrom};
-ghost use Rattle.rules.specs.Table.{agreeIn, hasAtLeast};
+ghost use Rattle.rules.specs.Agreement.{sameNumbersIn, linesAgree, agreeIn};
+ghost use Rattle.rules.specs.Table.{hasAtLeast};
 
 // A number of the work space, so that two of them can be added.
 fn wide(x: u32) -> u64
@@ -41,16 +44,6 @@ pub(crate) fn type_false(line: u32, condition: u32) -> Ruling
         line: line,
         condition: condition,
     })
-}
-
-// Two types agree when their numbers agree.
-pub(crate) fn agree(line: u32, condition: u32, work: &[u32], a: TypeNumber, b: TypeNumber) -> Ruling
-    ensures { λ r. ⌜ outcome r ≡ judge line condition (T (agreeIn (now (work .entry)) a b)) ⌝ }
-{
-    if a.0 == b.0 {
-        return Ruling::Met;
-    }
-    type_false(line, condition)
 }
 
 // Whether a flow condition holds at a location.
@@ -127,6 +120,86 @@ pub(crate) fn sum(
     ensures { λ r. ⌜ outcome r ≡ judge line condition (F (failsFrom (now (work .entry)) (Sum a b c) 0 locations)) ⌝ }
 {
     flow(line, condition, work, locations, Relation::Sum(a, b, c))
+}
+
+// Two maps hold equal numbers, as a condition on types.
+fn same_maps(
+    line: u32,
+    condition: u32,
+    work: &[u32],
+    locations: u32,
+    a: MapNumber,
+    b: MapNumber,
+) -> Ruling
+    ensures { λ r. ⌜ outcome r ≡ judge line condition (T (sameNumbersIn (now (work .entry)) locations a b)) ⌝ }
+{
+    let Ruling::Met = equal(line, condition, work, locations, a, b) else {
+        return type_false(line, condition);
+    };
+    Ruling::Met
+}
+
+// Two types that hold no content agree when their kinds agree and their maps hold equal numbers.
+fn agree_plain(
+    line: u32,
+    condition: u32,
+    work: &[u32],
+    locations: u32,
+    kind: TypeLine,
+    other: TypeLine,
+) -> Ruling
+    ensures { λ r. ⌜ outcome r ≡ judge line condition (T (linesAgree (now (work .entry)) locations (λ c d. false) kind other)) ⌝ }
+{
+    match kind {
+        TypeLine::Int => {
+            let TypeLine::Int = other else {
+                return type_false(line, condition);
+            };
+            Ruling::Met
+        }
+        TypeLine::Ref(_, _) => type_false(line, condition),
+        TypeLine::Lock(k) => {
+            let TypeLine::Lock(h) = other else {
+                return type_false(line, condition);
+            };
+            same_maps(line, condition, work, locations, k, h)
+        }
+        TypeLine::Tid(k) => {
+            let TypeLine::Tid(h) = other else {
+                return type_false(line, condition);
+            };
+            same_maps(line, condition, work, locations, k, h)
+        }
+    }
+}
+
+// Two types agree when their kinds agree and their maps hold equal numbers; refs have the same location, and their contents
+// are compared the same way. A content's number is smaller than its ref's in every sheet; where it is not, nothing agrees.
+pub(crate) fn agree(
+    line: u32,
+    condition: u32,
+    work: &[u32],
+    locations: u32,
+    a: TypeNumber,
+    b: TypeNumber,
+) -> Ruling
+    ensures { λ r. ⌜ outcome r ≡ judge line condition (T (agreeIn (now (work .entry)) locations a b)) ⌝ }
+{
+    let kind = type_at(work, a);
+    let other = type_at(work, b);
+    let TypeLine::Ref(p, c) = kind else {
+        return agree_plain(line, condition, work, locations, kind, other);
+    };
+    let TypeLine::Ref(q, d) = other else {
+        return type_false(line, condition);
+    };
+    if p.0 != q.0 {
+        return type_false(line, condition);
+    }
+    if a.0 <= c.0 {
+        return type_false(line, condition);
+    }
+    agree(line, condition, work, locations, c, d)
 }
 
 // A map has at least so much of a location.

@@ -22,7 +22,7 @@ fn check_var(work: &[u32], s: View, kind: TypeLine, kind1: TypeLine) -> Ruling
     ensures { λ r. ⌜ outcome r ≡ judged (s .line) 1 (varRow (now (work .entry)) s kind kind1) ⌝ }
 {
     also(
-        agree(s.line, 1, work, s.own, s.bound),
+        agree(s.line, 1, work, s.locations, s.own, s.bound),
         equal(s.line, 2, work, s.locations, s.post, s.pre),
     )
 }
@@ -42,7 +42,7 @@ fn check_let(work: &[u32], s: View, kind: TypeLine, kind1: TypeLine) -> Ruling
     ensures { λ r. ⌜ outcome r ≡ judged (s .line) 1 (letRow (now (work .entry)) s kind kind1) ⌝ }
 {
     also(
-        agree(s.line, 1, work, s.own, s.type2),
+        agree(s.line, 1, work, s.locations, s.own, s.type2),
         equal(s.line, 2, work, s.locations, s.post, s.post2),
     )
 }
@@ -52,8 +52,8 @@ fn check_if(work: &[u32], s: View, kind: TypeLine, kind1: TypeLine) -> Ruling
     ensures { λ r. ⌜ outcome r ≡ judged (s .line) 1 (ifRow (now (work .entry)) s kind kind1) ⌝ }
 {
     let types = also(
-        agree(s.line, 1, work, s.own, s.type1),
-        agree(s.line, 2, work, s.own, s.type2),
+        agree(s.line, 1, work, s.locations, s.own, s.type1),
+        agree(s.line, 2, work, s.locations, s.own, s.type2),
     );
     let flows = also(
         at_least(s.line, 3, work, s.locations, s.post1, s.post),
@@ -123,7 +123,7 @@ fn check_ref(work: &[u32], s: View, kind: TypeLine, kind1: TypeLine) -> Ruling
         return type_false(s.line, 1);
     };
     also(
-        agree(s.line, 1, work, content, s.type1),
+        agree(s.line, 1, work, s.locations, content, s.type1),
         equal(s.line, 2, work, s.locations, s.post, s.post1),
     )
 }
@@ -139,7 +139,7 @@ fn check_read(work: &[u32], s: View, kind: TypeLine, kind1: TypeLine) -> Ruling
         equal(s.line, 3, work, s.locations, s.post, s.post1),
         has(s.line, 4, work, s.post, p, 1),
     );
-    also(agree(s.line, 2, work, content, s.own), access)
+    also(agree(s.line, 2, work, s.locations, content, s.own), access)
 }
 
 // `write`: 1 type int; 2 e1 a ref; 3 type of e2 is c; 4 post = post of e2; 5 post at p ≥ D.
@@ -156,7 +156,10 @@ fn check_write(work: &[u32], s: View, kind: TypeLine, kind1: TypeLine) -> Ruling
         equal(s.line, 4, work, s.locations, s.post, s.post2),
         has(s.line, 5, work, s.post, p, s.denominator),
     );
-    also(agree(s.line, 3, work, content, s.type2), access)
+    also(
+        agree(s.line, 3, work, s.locations, content, s.type2),
+        access,
+    )
 }
 
 // `newlock`: 1 a lock type; 2 post + K = pre.

@@ -18,7 +18,7 @@ use Rattle.calculus.specs.Capability.{_≥ᶜ_, _≈_⊕_}
 use Rattle.calculus.specs.Figure5.{_∣_∣_⊢_∶_∣_, VAR, INT, LET, IF, WHILE, NEWT, SPAWN, JOIN, REF, WRITE, READ, NEWL, FREEL, LCK, ULCK}
 use Rattle.soundness.specs.Erasure.{erase}
 use Rattle.soundness.proofs.Capabilities.{cap, covers-cap, sum-cap}
-use Rattle.soundness.proofs.Types.{means, environment, means-int, means-lock, means-tid, means-ref, post-wide, start-wide, lock-wide, tid-wide, variable-typed}
+use Rattle.soundness.proofs.Types.{means, environment, agree-means, means-int, means-lock, means-tid, means-ref, post-wide, start-wide, lock-wide, tid-wide, variable-typed}
 
 -- the variables in scope
 abbrev pub variables : conditions.Env → List ℕ
@@ -31,12 +31,12 @@ module _ {steps : List Step} (S : Split) (R : InRange steps S) where
 
   pub split-derivation-is-figure-5 : {Γ : conditions.Env} {Ψ : Map} {e : Expr} → own.Derives S Γ Ψ e → UsedInside (variables Γ) e → Figure5 Γ Ψ e
   unfolding erase kind share UsedInside
-  split-derivation-is-figure-5 {Γ} (own.VAR {v = v} t m) u = rw (t, m) (VAR (variable-typed S R Γ v u))
+  split-derivation-is-figure-5 {Γ} (own.VAR {v = v} t m) u = rw (agree-means S _ _ t, m) (VAR (variable-typed S R Γ v u))
   split-derivation-is-figure-5 (own.INT t m) u = rw (means-int S R _ t, m) INT
   split-derivation-is-figure-5 (own.LET d₁ d₂ t m) u =
-      rw (t, m) (LET (split-derivation-is-figure-5 d₁ (u .0)) (split-derivation-is-figure-5 d₂ (u .1)))
+      rw (agree-means S _ _ t, m) (LET (split-derivation-is-figure-5 d₁ (u .0)) (split-derivation-is-figure-5 d₂ (u .1)))
   split-derivation-is-figure-5 (own.IF d₁ t₁ c₁ d₂ t₂ c₂) u =
-      IF (rw (← t₁) at (split-derivation-is-figure-5 d₁ (u .0))) (covers-cap c₁) (rw (← t₂) at (split-derivation-is-figure-5 d₂ (u .1))) (covers-cap c₂)
+      IF (rw (← agree-means S _ _ t₁) at (split-derivation-is-figure-5 d₁ (u .0))) (covers-cap c₁) (rw (← agree-means S _ _ t₂) at (split-derivation-is-figure-5 d₂ (u .1))) (covers-cap c₂)
   split-derivation-is-figure-5 (own.WHILE d c₂ c₁ t) u =
       rw (means-int S R _ t) (WHILE (split-derivation-is-figure-5 d u) (covers-cap c₂) (covers-cap c₁))
   split-derivation-is-figure-5 (own.NEWT {K = K} t m) u = rw (means-tid S R _ K t, m) NEWT
@@ -49,14 +49,14 @@ module _ {steps : List Step} (S : Split) (R : InRange steps S) where
       rw (means-int S R _ i)
       (JOIN (rw (means-tid S R _ K t) at (split-derivation-is-figure-5 d u))
       (sum-cap (post S e₁) (mapAt S K) (post-wide S R e₁ ∙ sym (tid-wide S R _ K t)) (sym m)))
-  split-derivation-is-figure-5 (own.REF {ρ = ρ} {e₁ = e₁} d t m) u =
-      rw (means-ref S R _ ρ (type S e₁) t, m) (REF (split-derivation-is-figure-5 d u))
-  split-derivation-is-figure-5 (own.WRITE {ρ = ρ} {e₂ = e₂} d₁ t d₂ w i m) u =
+  split-derivation-is-figure-5 (own.REF {ρ = ρ} {c = c} {e₁ = e₁} d t a m) u =
+      rw (means-ref S R _ ρ c (type S e₁) t a, m) (REF (split-derivation-is-figure-5 d u))
+  split-derivation-is-figure-5 (own.WRITE {ρ = ρ} {c = c} {e₂ = e₂} d₁ t d₂ a w i m) u =
       rw (means-int S R _ i, m)
-      (WRITE (rw (means-ref S R _ ρ (type S e₂) t) at (split-derivation-is-figure-5 d₁ (u .0))) (split-derivation-is-figure-5 d₂ (u .1)) (rw m at w))
-  split-derivation-is-figure-5 (own.READ {k = k} {v = v} {ρ = ρ} {e₁ = e₁} d t w m) u =
+      (WRITE (rw (means-ref S R _ ρ c (type S e₂) t a) at (split-derivation-is-figure-5 d₁ (u .0))) (split-derivation-is-figure-5 d₂ (u .1)) (rw m at w))
+  split-derivation-is-figure-5 (own.READ {k = k} {v = v} {ρ = ρ} {c = c} {e₁ = e₁} d t a w m) u =
       rw m
-      (READ (rw (means-ref S R _ ρ (type S (unary Read k v e₁)) t) at (split-derivation-is-figure-5 d u)) (rw m at w))
+      (READ (rw (means-ref S R _ ρ c (type S (unary Read k v e₁)) t a) at (split-derivation-is-figure-5 d u)) (rw m at w))
   split-derivation-is-figure-5 (own.NEWL {k = k} {v = v} {K = K} t m) u =
       let e = leaf Newlock k v in
       rw (means-lock S R _ K t) (NEWL (sum-cap (post S e) (mapAt S K) (post-wide S R e ∙ sym (lock-wide S R _ K t)) m))

@@ -13,7 +13,7 @@ use Rattle.spec.specs.declared.Answer.the-variants.{Accept}
 use Rattle.spec.proofs.Figure5.{conditions-derive, derivation-meets-conditions}
 use Rattle.spec.proofs.Reached.{Reached, reached, reached-checked}
 
-accept-goes-on : (o : Out (Unit {0})) → answer o ≡ Accept → o ≡ on tt
+pub accept-goes-on : (o : Out (Unit {0})) → answer o ≡ Accept → o ≡ on tt
 unfolding answer
 accept-goes-on (stop r) h = let clash : _≡_ {A = ℕ} 0 1 = cc in absurd (omega arith)
 accept-goes-on (on t) h = refl

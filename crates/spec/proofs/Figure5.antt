@@ -19,7 +19,6 @@ use Rattle.spec.specs.declared.UnaryWord.{UnaryWord}
 use Rattle.spec.specs.declared.UnaryWord.the-variants.{While, Join, Ref, Read, Freelock, Lock, Unlock}
 use Rattle.spec.specs.declared.BinaryWord.{BinaryWord}
 use Rattle.spec.specs.declared.BinaryWord.the-variants.{Let, If, Spawn, Write}
-use Rattle.spec.proofs.Agreement.{agree-same}
 use Rattle.spec.proofs.TypeKinds.{is-int, is-tid, is-lock, is-ref-of, int-is, tid-is, lock-is, ref-is, ref-of-is, tid-load, lock-load, readable, writable}
 use Rattle.spec.proofs.Maps.{none-equal, none-covers, equal-none, covers-none}
 use Rattle.spec.proofs.Claims.{none-false-all-hold, all-hold-none-false, all-hold-parts, all-hold-append, claims-append}
@@ -72,7 +71,7 @@ module _ (S : Split) where
   unfolding AllHold Holds claimsAt numbered own preOfPart preOfSecond bind post start K
   holding-derives Γ pre (leaf Var k v) h =
       let c = leaf-own Γ pre Var k v h in
-      VAR (agree-same S _ _ .0 (c .0)) (none-equal (c .1 .0))
+      VAR (c .0) (none-equal (c .1 .0))
   holding-derives Γ pre (leaf Int k v) h =
       let c = leaf-own Γ pre Int k v h in
       INT (is-int _ (c .0)) (none-equal (c .1 .0))
@@ -90,10 +89,12 @@ module _ (S : Split) where
       JOIN (holding-derives _ _ e₁ h₁) (is-tid _ (c .1 .0)) (is-int _ (c .0)) (none-equal (c .1 .1 .0))
   holding-derives Γ pre (unary Ref k v e₁) h =
       let (c, h₁) = unary-own Γ pre Ref k v e₁ h in
-      REF (holding-derives _ _ e₁ h₁) (is-ref-of S _ _ (c .0)) (none-equal (c .1 .0))
+      let (content, is, agrees) = is-ref-of S _ _ (c .0) in
+      REF (holding-derives _ _ e₁ h₁) is agrees (none-equal (c .1 .0))
   holding-derives Γ pre (unary Read k v e₁) h =
       let (c, h₁) = unary-own Γ pre Read k v e₁ h in
-      READ (holding-derives _ _ e₁ h₁) (is-ref-of S _ _ (c .1 .0)) (ltb-true _ _ (c .1 .1 .1 .0)) (none-equal (c .1 .1 .0))
+      let (content, is, agrees) = is-ref-of S _ _ (c .1 .0) in
+      READ (holding-derives _ _ e₁ h₁) is agrees (ltb-true _ _ (c .1 .1 .1 .0)) (none-equal (c .1 .1 .0))
   holding-derives Γ pre (unary Freelock k v e₁) h =
       let (c, h₁) = unary-own Γ pre Freelock k v e₁ h in
       FREEL (holding-derives _ _ e₁ h₁) (is-lock _ (c .1 .0)) (is-int _ (c .0)) (none-equal (c .1 .1 .0))
@@ -105,18 +106,19 @@ module _ (S : Split) where
       ULCK (holding-derives _ _ e₁ h₁) (is-lock _ (c .1 .0)) (is-int _ (c .0)) (none-equal (c .1 .1 .0))
   holding-derives Γ pre (binary Let k v e₁ e₂) h =
       let (c, h₁, h₂) = binary-own Γ pre Let k v e₁ e₂ h in
-      LET (holding-derives _ _ e₁ h₁) (holding-derives _ _ e₂ h₂) (agree-same S _ _ .0 (c .0)) (none-equal (c .1 .0))
+      LET (holding-derives _ _ e₁ h₁) (holding-derives _ _ e₂ h₂) (c .0) (none-equal (c .1 .0))
   holding-derives Γ pre (binary If k v e₁ e₂) h =
       let (c, h₁, h₂) = binary-own Γ pre If k v e₁ e₂ h in
-      IF (holding-derives _ _ e₁ h₁) (agree-same S _ _ .0 (c .0)) (none-covers (c .1 .1 .0))
-      (holding-derives _ _ e₂ h₂) (agree-same S _ _ .0 (c .1 .0)) (none-covers (c .1 .1 .1 .0))
+      IF (holding-derives _ _ e₁ h₁) (c .0) (none-covers (c .1 .1 .0))
+      (holding-derives _ _ e₂ h₂) (c .1 .0) (none-covers (c .1 .1 .1 .0))
   holding-derives Γ pre (binary Spawn k v e₁ e₂) h =
       let (c, h₁, h₂) = binary-own Γ pre Spawn k v e₁ e₂ h in
       SPAWN (holding-derives _ _ e₁ h₁) (is-tid _ (c .1 .0)) (holding-derives _ _ e₂ h₂) (none-covers (c .1 .1 .0))
       (is-int _ (c .0)) (none-equal (c .1 .1 .1 .0))
   holding-derives Γ pre (binary Write k v e₁ e₂) h =
       let (c, h₁, h₂) = binary-own Γ pre Write k v e₁ e₂ h in
-      WRITE (holding-derives _ _ e₁ h₁) (is-ref-of S _ _ (c .1 .1 .0)) (holding-derives _ _ e₂ h₂)
+      let (content, is, agrees) = is-ref-of S _ _ (c .1 .1 .0) in
+      WRITE (holding-derives _ _ e₁ h₁) is (holding-derives _ _ e₂ h₂) agrees
       (leb-true _ _ (c .1 .1 .1 .1 .0)) (is-int _ (c .0)) (none-equal (c .1 .1 .1 .0))
 
   -- ------------------------------------------------------------------ from a derivation to conditions
@@ -140,14 +142,14 @@ module _ (S : Split) where
   derived-holds : {Γ : Env} {Ψ : Map} {e : Expr} → Derives S Γ Ψ e → (pre : MapNumber) → mapAt S pre ≡ Ψ → AllAt (sites S Γ pre e)
   unfolding AllHold Holds claimsAt numbered own preOfPart preOfSecond bind post start K
   derived-holds {Γ} (VAR {k = k} {v = v} t p) pre q =
-      leaf-all Γ pre Var k v (agree-same S _ _ .1 t, (equal-none (p ∙ sym q), tt))
+      leaf-all Γ pre Var k v (t, (equal-none (p ∙ sym q), tt))
   derived-holds {Γ} (INT {k = k} {v = v} t p) pre q =
       leaf-all Γ pre Int k v (int-is t, (equal-none (p ∙ sym q), tt))
   derived-holds {Γ} (LET {k = k} {v = v} {e₁ = e₁} {e₂ = e₂} d₁ d₂ t p) pre q =
-      binary-all Γ pre Let k v e₁ e₂ (agree-same S _ _ .1 t, (equal-none p, tt))
+      binary-all Γ pre Let k v e₁ e₂ (t, (equal-none p, tt))
       (derived-holds d₁ pre q) (derived-holds d₂ _ refl)
   derived-holds {Γ} (IF {k = k} {v = v} {e₁ = e₁} {e₂ = e₂} d₁ t₁ p₁ d₂ t₂ p₂) pre q =
-      binary-all Γ pre If k v e₁ e₂ (agree-same S _ _ .1 t₁, (agree-same S _ _ .1 t₂, (covers-none p₁, (covers-none p₂, tt))))
+      binary-all Γ pre If k v e₁ e₂ (t₁, (t₂, (covers-none p₁, (covers-none p₂, tt))))
       (derived-holds d₁ pre q) (derived-holds d₂ pre q)
   derived-holds {Γ} (WHILE {k = k} {v = v} {e₁ = e₁} d p₁ p t) pre q =
       unary-all Γ pre While k v e₁ (int-is t, (covers-none (rw q p), (covers-none p₁, tt))) (derived-holds d _ refl)
@@ -158,15 +160,15 @@ module _ (S : Split) where
       (derived-holds d₁ pre q) (derived-holds d₂ _ refl)
   derived-holds {Γ} (JOIN {k = k} {v = v} {e₁ = e₁} d t i p) pre q =
       unary-all Γ pre Join k v e₁ (int-is i, (tid-is t, (equal-none (rw (tid-load S t) p), tt))) (derived-holds d pre q)
-  derived-holds {Γ} (REF {k = k} {v = v} {e₁ = e₁} d t p) pre q =
-      unary-all Γ pre Ref k v e₁ (ref-of-is S t, (equal-none p, tt)) (derived-holds d pre q)
-  derived-holds {Γ} (WRITE {k = k} {v = v} {e₁ = e₁} {e₂ = e₂} d₁ t d₂ w i p) pre q =
+  derived-holds {Γ} (REF {k = k} {v = v} {e₁ = e₁} d t a p) pre q =
+      unary-all Γ pre Ref k v e₁ (ref-of-is S _ t a, (equal-none p, tt)) (derived-holds d pre q)
+  derived-holds {Γ} (WRITE {k = k} {v = v} {e₁ = e₁} {e₂ = e₂} d₁ t d₂ a w i p) pre q =
       binary-all Γ pre Write k v e₁ e₂
-      (int-is i, (ref-is t, (ref-of-is S t, (equal-none p, (writable _ (post S (binary Write k v e₁ e₂)) t w, tt)))))
+      (int-is i, (ref-is t, (ref-of-is S _ t a, (equal-none p, (writable _ (post S (binary Write k v e₁ e₂)) t w, tt)))))
       (derived-holds d₁ pre q) (derived-holds d₂ _ refl)
-  derived-holds {Γ} (READ {k = k} {v = v} {e₁ = e₁} d t w p) pre q =
+  derived-holds {Γ} (READ {k = k} {v = v} {e₁ = e₁} d t a w p) pre q =
       unary-all Γ pre Read k v e₁
-      (ref-is t, (ref-of-is S t, (equal-none p, (readable (post S (unary Read k v e₁)) t w, tt)))) (derived-holds d pre q)
+      (ref-is t, (ref-of-is S _ t a, (equal-none p, (readable (post S (unary Read k v e₁)) t w, tt)))) (derived-holds d pre q)
   derived-holds {Γ} (NEWL {k = k} {v = v} t p) pre q =
       leaf-all Γ pre Newlock k v (lock-is t, (equal-none (rw (lock-load S t) (p ∙ sym q)), tt))
   derived-holds {Γ} (FREEL {k = k} {v = v} {e₁ = e₁} d t i p) pre q =

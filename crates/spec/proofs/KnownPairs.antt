@@ -1,25 +1,44 @@
 -- The definitions give each starred pair of document 01 its answer, and each edge row of ours. A table is one equation that
 -- computes; `unfolding` names every definition on the way from a text to an answer.
-use mathlib.Core.Path.{refl}
-use mathlib.Core.List.{_++_}
+use mathlib.Core.Path.{_≡_, refl}
+use mathlib.Core.List.{List, _∷_, _++_, map}
 use Rattle.spec.specs.Text.{bytes, same, onLine, lines, onField, fields, digitLimit, digits, leadingZero, value, numeral}
 use Rattle.spec.specs.Reading.{_>>=_, demand, seen, inRange, allInRange, withNumeral, numerals, ranged, numbers, form, outside, miscounted, passed, nextLine, next, nextAll, begin, noneLeft, end}
 use Rattle.spec.specs.Expression.{size, withParts, listed, single, among, scope}
 use Rattle.spec.specs.Program.{programLimit, firstNumber, countLine, words, lookUp, valueRange, stepOf, wordLine, stepLine, program}
 use Rattle.spec.specs.Split.{splitLimit, headerOf, headerLine, refOf, lockOf, tidOf, typeLine, typeLines, mapLine, rowOf, blank, startRange, rowLine, split}
-use Rattle.spec.specs.Maps.{lowest, atLeast, _=ᵐ_, _≥ᵐ_, _+ᵐ_, share, overWhole}
-use Rattle.spec.specs.Conditions.{isInt, isRef, isLock, isTid, place, load, typeIn, lineOf, startMap, typeAt, mapAt, agree, contains, row, type, kind, post, start, K, own}
+use Rattle.spec.specs.Maps.{lowest, atLeast, _=ᵐ_, _≥ᵐ_, nowhere, sameNumbers, _+ᵐ_, share, overWhole}
+use Rattle.spec.specs.Conditions.{isInt, isRef, isLock, isTid, place, load, typeIn, lineOf, startMap, typeAt, mapAt, contains, row, type, kind, post, start, K, own}
+use Rattle.spec.specs.Agreement.{code, sameMaps, sameTree, treeOf, trees, tree, agree}
 use Rattle.spec.specs.Sites.{preOfPart, preOfSecond, bind, sites, numbered, claimsAt, claims, judge, firstFalse}
 use Rattle.spec.specs.Workspace.{workspaceSize}
 use Rattle.spec.specs.Verdict.{refuseOver, startAtMostOne, ruled, checked, answer, verdict, four, returned}
-use Rattle.spec.specs.KnownPairs.{barred, _with_is_, found, Answered, P, S, Z, starred}
+use Rattle.spec.specs.KnownPairs.{Pair, barred, _with_is_, found, Answered, P, S, Z, starred}
 use Rattle.spec.specs.EdgeSheets.{times, of, headerRows, stepRows, countRows, scopeRows, splitHeaderRows, typeRows, mapRows, rowRows, splitCountRows, sheetEdges}
 use Rattle.spec.specs.EdgeConditions.{rows, startRows, varRows, intRows, letRows, ifRows, whileRows, newtidRows, spawnRows, joinRows, refRows, readRows, writeRows, postRows, newlockRows, lockRows, freelockRows, unlockRows, fullRows, conditionEdges}
+use Rattle.spec.specs.EdgeAgreement.{afresh, intsAgree, tidsAgree, locksAgree, refsAgree, deepRefsAgree, agreementEdges}
+use Rattle.spec.specs.declared.Returned.{Returned}
+use Rattle.spec.proofs.AcceptedBefore.{agreeBefore, containsBefore, ownBefore, claimsBefore, checkedBefore, verdictBefore}
 
 pub starred-pairs : Answered starred
-unfolding bytes same onLine lines onField fields digitLimit digits leadingZero value numeral _>>=_ demand seen inRange allInRange withNumeral numerals ranged numbers form outside miscounted passed nextLine next nextAll begin noneLeft end size withParts listed single among scope programLimit firstNumber countLine words lookUp valueRange stepOf wordLine stepLine program splitLimit headerOf headerLine refOf lockOf tidOf typeLine typeLines mapLine rowOf blank startRange rowLine split lowest atLeast _=ᵐ_ _≥ᵐ_ _+ᵐ_ share overWhole isInt isRef isLock isTid place load typeIn lineOf startMap typeAt mapAt agree contains row type kind post start K own preOfPart preOfSecond bind sites numbered claimsAt claims judge firstFalse workspaceSize refuseOver startAtMostOne ruled checked answer verdict four returned barred _with_is_ found Answered P S Z starred
+unfolding bytes same onLine lines onField fields digitLimit digits leadingZero value numeral _>>=_ demand seen inRange allInRange withNumeral numerals ranged numbers form outside miscounted passed nextLine next nextAll begin noneLeft end size withParts listed single among scope programLimit firstNumber countLine words lookUp valueRange stepOf wordLine stepLine program splitLimit headerOf headerLine refOf lockOf tidOf typeLine typeLines mapLine rowOf blank startRange rowLine split lowest atLeast _=ᵐ_ _≥ᵐ_ nowhere sameNumbers _+ᵐ_ share overWhole isInt isRef isLock isTid place load typeIn lineOf startMap typeAt mapAt code sameMaps sameTree treeOf trees tree agree contains row type kind post start K own preOfPart preOfSecond bind sites numbered claimsAt claims judge firstFalse workspaceSize refuseOver startAtMostOne ruled checked answer verdict four returned barred _with_is_ found Answered P S Z starred
 starred-pairs = refl
 
-pub edge-pairs : Answered (sheetEdges ++ conditionEdges)
-unfolding bytes same onLine lines onField fields digitLimit digits leadingZero value numeral _>>=_ demand seen inRange allInRange withNumeral numerals ranged numbers form outside miscounted passed nextLine next nextAll begin noneLeft end size withParts listed single among scope programLimit firstNumber countLine words lookUp valueRange stepOf wordLine stepLine program splitLimit headerOf headerLine refOf lockOf tidOf typeLine typeLines mapLine rowOf blank startRange rowLine split lowest atLeast _=ᵐ_ _≥ᵐ_ _+ᵐ_ share overWhole isInt isRef isLock isTid place load typeIn lineOf startMap typeAt mapAt agree contains row type kind post start K own preOfPart preOfSecond bind sites numbered claimsAt claims judge firstFalse workspaceSize refuseOver startAtMostOne ruled checked answer verdict four returned barred _with_is_ found Answered P S Z times of rows headerRows stepRows countRows scopeRows splitHeaderRows typeRows mapRows rowRows splitCountRows startRows varRows intRows letRows ifRows whileRows newtidRows spawnRows joinRows refRows readRows writeRows postRows newlockRows lockRows freelockRows unlockRows fullRows sheetEdges conditionEdges
+pub edge-pairs : Answered (sheetEdges ++ conditionEdges ++ agreementEdges)
+unfolding bytes same onLine lines onField fields digitLimit digits leadingZero value numeral _>>=_ demand seen inRange allInRange withNumeral numerals ranged numbers form outside miscounted passed nextLine next nextAll begin noneLeft end size withParts listed single among scope programLimit firstNumber countLine words lookUp valueRange stepOf wordLine stepLine program splitLimit headerOf headerLine refOf lockOf tidOf typeLine typeLines mapLine rowOf blank startRange rowLine split lowest atLeast _=ᵐ_ _≥ᵐ_ nowhere sameNumbers _+ᵐ_ share overWhole isInt isRef isLock isTid place load typeIn lineOf startMap typeAt mapAt code sameMaps sameTree treeOf trees tree agree contains row type kind post start K own preOfPart preOfSecond bind sites numbered claimsAt claims judge firstFalse workspaceSize refuseOver startAtMostOne ruled checked answer verdict four returned barred _with_is_ found Answered P S Z times of rows headerRows stepRows countRows scopeRows splitHeaderRows typeRows mapRows rowRows splitCountRows startRows varRows intRows letRows ifRows whileRows newtidRows spawnRows joinRows refRows readRows writeRows postRows newlockRows lockRows freelockRows unlockRows fullRows sheetEdges conditionEdges afresh intsAgree tidsAgree locksAgree refsAgree deepRefsAgree agreementEdges
 edge-pairs = refl
+
+pub answeredBefore : Pair → Returned
+answeredBefore r = returned (verdictBefore workspaceSize (barred (r .program)) (barred (r .split)))
+
+pub twoNumbers : Pair
+twoNumbers = "P,3|let,0|int,0|int,0|" with "C,1,1,2,1|int,0,0|int,0,0|0|1,0,|0,0,|0,0,|" is four 0 0 0 0
+
+-- the starred pairs, and the edge rows of words that compare two types
+pub comparing : List Pair
+comparing = starred ++ varRows ++ ifRows ++ refRows ++ readRows ++ writeRows
+
+-- the check before request (i) of document 02 gives these the same answers; it refuses an int under two numbers
+pub pairs-before : map answeredBefore (twoNumbers ∷ comparing) ≡ four 31 2 1 0 ∷ map (λ (r : Pair). r .expected) comparing
+unfolding bytes same onLine lines onField fields digitLimit digits leadingZero value numeral _>>=_ demand seen inRange allInRange withNumeral numerals ranged numbers form outside miscounted passed nextLine next nextAll begin noneLeft end size withParts listed single among scope programLimit firstNumber countLine words lookUp valueRange stepOf wordLine stepLine program splitLimit headerOf headerLine refOf lockOf tidOf typeLine typeLines mapLine rowOf blank startRange rowLine split lowest atLeast _=ᵐ_ _≥ᵐ_ nowhere sameNumbers _+ᵐ_ share overWhole isInt isRef isLock isTid place load typeIn lineOf startMap typeAt mapAt contains row type kind post start K own agreeBefore containsBefore ownBefore preOfPart preOfSecond bind sites numbered claimsBefore judge firstFalse workspaceSize refuseOver startAtMostOne checkedBefore answer verdictBefore four returned barred _with_is_ answeredBefore twoNumbers P S Z starred rows varRows ifRows refRows readRows writeRows comparing
+pairs-before = refl

@@ -16,5 +16,6 @@ pub mod WellFormed
 pub mod EarlyRefusals
 pub mod Reached
 pub mod Accepted
+pub mod AcceptedBefore
 pub mod Order
 pub mod FirstFalse

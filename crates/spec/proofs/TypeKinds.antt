@@ -1,18 +1,19 @@
 -- What a test of a type's kind says of the type, and back.
-use mathlib.Core.Path.{_≡_, refl, ap}
+use mathlib.Core.Path.{_≡_, refl, sym}
 use mathlib.Core.Bool.{true}
 use Prim.Native.Nat.{ℕ, _≤_, _<_}
 use lib.Dec.{leb, ltb}
 use borrow.Author.Tests.{le-leb, lt-ltb}
 use Rattle.spec.specs.Split.{Map, Split}
 use Rattle.spec.specs.Maps.{share}
+use Rattle.spec.specs.Agreement.{agree}
 use Rattle.spec.specs.Conditions.{isInt, isRef, isLock, isTid, place, load, contains, mapAt}
 use Rattle.spec.specs.declared.TypeNumber.{TypeNumber}
 use Rattle.spec.specs.declared.MapNumber.{MapNumber}
 use Rattle.spec.specs.declared.Location.{Location}
 use Rattle.spec.specs.declared.TypeLine.{TypeLine}
 use Rattle.spec.specs.declared.TypeLine.the-variants.{Int, Ref, Lock, Tid}
-use Rattle.spec.proofs.Agreement.{agree-same}
+use Rattle.spec.proofs.Clashes.{true-is-not-false}
 
 -- ------------------------------------------------------------------ from a test to a type
 
@@ -37,12 +38,14 @@ is-lock (Ref p c) h = cc
 is-lock (Lock k) h = refl
 is-lock (Tid k) h = cc
 
-pub is-ref-of : (S : Split) (t : TypeLine) (c : TypeNumber) → contains S t c ≡ true → t ≡ Ref (place t) c
+-- a ref type, and its content agrees
+pub is-ref-of : (S : Split) (t : TypeLine) (u : TypeNumber) → contains S t u ≡ true
+    → (c : TypeNumber) × (t ≡ Ref (place t) c) × (agree S c u ≡ true)
 unfolding contains place
-is-ref-of S Int c h = cc
-is-ref-of S (Ref p d) c h = ap (Ref p) (agree-same S d c .0 h)
-is-ref-of S (Lock k) c h = cc
-is-ref-of S (Tid k) c h = cc
+is-ref-of S Int u h = true-is-not-false (sym h)
+is-ref-of S (Ref p c) u h = (c, refl, h)
+is-ref-of S (Lock k) u h = true-is-not-false (sym h)
+is-ref-of S (Tid k) u h = true-is-not-false (sym h)
 
 -- ------------------------------------------------------------------ from a type to a test
 
@@ -62,9 +65,9 @@ pub ref-is : {t : TypeLine} {p : Location} {c : TypeNumber} → t ≡ Ref p c �
 unfolding isRef
 ref-is e = rw e
 
-pub ref-of-is : (S : Split) {t : TypeLine} {p : Location} {c : TypeNumber} → t ≡ Ref p c → contains S t c ≡ true
+pub ref-of-is : (S : Split) {t : TypeLine} {p : Location} {c : TypeNumber} (u : TypeNumber) → t ≡ Ref p c → agree S c u ≡ true → contains S t u ≡ true
 unfolding contains
-ref-of-is S {t} {p} {c} e = rw e (agree-same S c c .1 refl)
+ref-of-is S u e h = rw e h
 
 pub tid-load : (S : Split) {t : TypeLine} {k : MapNumber} → t ≡ Tid k → mapAt S (load t) ≡ mapAt S k
 unfolding load

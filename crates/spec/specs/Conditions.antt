@@ -9,6 +9,8 @@ use Rattle.spec.specs.Choice.{if_then_else_}
 use Rattle.spec.specs.Reading.{Out, stop, on, _>>=_}
 use Rattle.spec.specs.Expression.{Expr, leaf, unary, binary}
 use Rattle.spec.specs.Split.{Map, Row, Split}
+unfoldable pub use Rattle.spec.specs.Split.{typeAt, mapAt}
+use Rattle.spec.specs.Agreement.{agree}
 use Rattle.spec.specs.Maps.{_=ᵐ_, _≥ᵐ_, _+ᵐ_, share, overWhole}
 use Rattle.spec.specs.declared.TypeNumber.{TypeNumber}
 use Rattle.spec.specs.declared.MapNumber.{MapNumber}
@@ -91,20 +93,10 @@ unfoldable pub startMap : MapNumber
 startMap = record { 0 = 0 }
 
 module _ (S : Split) where
-  unfoldable pub typeAt : TypeNumber → TypeLine
-  typeAt t = getD (S .types) (t .0) type-line.Int
-
-  unfoldable pub mapAt : MapNumber → Map
-  mapAt m = getD (S .maps) (m .0) []
-
-  -- "Two types agree when their numbers agree"
-  unfoldable pub agree : TypeNumber → TypeNumber → Bool
-  agree t u = eqb (t .0) (u .0)
-
-  -- a ref type whose c is the type t
+  -- a ref type whose c agrees with the type t
   unfoldable pub contains : TypeLine → TypeNumber → Bool
   contains type-line.Int t = false
-  contains (type-line.Ref p c) t = agree c t
+  contains (type-line.Ref p c) t = agree S c t
   contains (type-line.Lock k) t = false
   contains (type-line.Tid k) t = false
 
@@ -117,27 +109,27 @@ module _ (S : Split) where
   type e = row e .type
 
   unfoldable pub kind : Expr → TypeLine
-  kind e = typeAt (type e)
+  kind e = typeAt S (type e)
 
   unfoldable pub post : Expr → Map
-  post e = mapAt (row e .post)
+  post e = mapAt S (row e .post)
 
   unfoldable pub start : Expr → Map
-  start e = mapAt (row e .start)
+  start e = mapAt S (row e .start)
 
   unfoldable pub K : Expr → Map
-  K e = mapAt (load (kind e))
+  K e = mapAt S (load (kind e))
 
   -- the table: the conditions of a step, in order, with the types of the variables there and its pre
   unfoldable pub own : Env → (pre : Map) → Expr → List Condition
   own Γ pre (leaf Var k v) = let e = leaf Var k v in
-      T (agree (type e) (typeIn Γ v)) ∷ F (post e =ᵐ pre) ∷ []
+      T (agree S (type e) (typeIn Γ v)) ∷ F (post e =ᵐ pre) ∷ []
   own Γ pre (leaf Int k v) = let e = leaf Int k v in
       T (isInt (kind e)) ∷ F (post e =ᵐ pre) ∷ []
   own Γ pre (binary Let k v e₁ e₂) = let e = binary Let k v e₁ e₂ in
-      T (agree (type e) (type e₂)) ∷ F (post e =ᵐ post e₂) ∷ []
+      T (agree S (type e) (type e₂)) ∷ F (post e =ᵐ post e₂) ∷ []
   own Γ pre (binary If k v e₁ e₂) = let e = binary If k v e₁ e₂ in
-      T (agree (type e) (type e₁)) ∷ T (agree (type e) (type e₂)) ∷ F (post e₁ ≥ᵐ post e) ∷ F (post e₂ ≥ᵐ post e) ∷ []
+      T (agree S (type e) (type e₁)) ∷ T (agree S (type e) (type e₂)) ∷ F (post e₁ ≥ᵐ post e) ∷ F (post e₂ ≥ᵐ post e) ∷ []
   own Γ pre (unary While k v e₁) = let e = unary While k v e₁ in
       T (isInt (kind e)) ∷ F (pre ≥ᵐ post e) ∷ F (post e₁ ≥ᵐ post e) ∷ []
   own Γ pre (leaf Newtid k v) = let e = leaf Newtid k v in

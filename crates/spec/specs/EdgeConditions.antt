@@ -45,7 +45,7 @@ letRows =
     ("P,3|let,0|int,0|int,0|" with (rows "0,1,|0,0,|0,0,|") is four 32 2 2 0) ∷
     ("P,3|let,0|int,0|int,0|" with (rows "1,1,|0,0,|0,0,|") is four 31 2 1 0) ∷
     ("P,3|let,0|int,0|int,0|" with (rows "0,1,|1,0,|0,0,|") is four 32 2 2 0) ∷
-    ("P,3|let,0|int,0|int,0|" with "C,1,1,2,1|int,0,0|int,0,0|0|1,0,|0,0,|0,0,|" is four 31 2 1 0) ∷
+    ("P,3|let,0|int,0|int,0|" with "C,1,1,2,1|int,0,0|int,0,0|0|1,0,|0,0,|0,0,|" is four 0 0 0 0) ∷
     []
 
 -- if

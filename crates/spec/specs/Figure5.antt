@@ -1,12 +1,15 @@
 -- Figure 5 as a derivation whose judgements are the split's own: the type and the post of an expression are those of its row.
--- One constructor a printed rule, in the printed order. Types agree by number; 1 is the denominator.
+-- One constructor a printed rule, in the printed order. Types agree as Agreement.antt says; 1 is the denominator.
 use mathlib.Core.Path.{_≡_}
 use mathlib.Core.List.{List, [], _∷_}
+use mathlib.Core.Bool.{true}
 use Prim.Native.Nat.{ℕ, _≤_, _<_}
 use Rattle.spec.specs.Expression.{Expr, leaf, unary, binary}
 use Rattle.spec.specs.Split.{Map, Split}
 use Rattle.spec.specs.Maps.{_+ᵐ_, share}
+use Rattle.spec.specs.Agreement.{agree}
 use Rattle.spec.specs.Conditions.{Env, typeIn, type, kind, post, start, mapAt}
+use Rattle.spec.specs.declared.TypeNumber.{TypeNumber}
 use Rattle.spec.specs.declared.MapNumber.{MapNumber}
 use Rattle.spec.specs.declared.Location.{Location}
 use Rattle.spec.specs.declared.TypeLine.{TypeLine}
@@ -25,18 +28,18 @@ module _ (S : Split) where
   -- Derives Γ Ψ e: Γ, Ψ ⊢ e : type S e, post S e
   pub data Derives : Env → Map → Expr → Type 0 where
     VAR : {Γ : Env} {Ψ : Map} {k v : ℕ}
-        → type S (leaf Var k v) ≡ typeIn Γ v → post S (leaf Var k v) ≡ Ψ
+        → agree S (type S (leaf Var k v)) (typeIn Γ v) ≡ true → post S (leaf Var k v) ≡ Ψ
         → Derives Γ Ψ (leaf Var k v)
     INT : {Γ : Env} {Ψ : Map} {k v : ℕ}
         → kind S (leaf Int k v) ≡ type-line.Int → post S (leaf Int k v) ≡ Ψ
         → Derives Γ Ψ (leaf Int k v)
     LET : {Γ : Env} {Ψ : Map} {k v : ℕ} {e₁ e₂ : Expr}
-        → Derives Γ Ψ e₁ → Derives ((v, type S e₁) ∷ Γ) (post S e₁) e₂ → type S (binary Let k v e₁ e₂) ≡ type S e₂
+        → Derives Γ Ψ e₁ → Derives ((v, type S e₁) ∷ Γ) (post S e₁) e₂ → agree S (type S (binary Let k v e₁ e₂)) (type S e₂) ≡ true
         → post S (binary Let k v e₁ e₂) ≡ post S e₂
         → Derives Γ Ψ (binary Let k v e₁ e₂)
     IF : {Γ : Env} {Ψ : Map} {k v : ℕ} {e₁ e₂ : Expr}
-        → Derives Γ Ψ e₁ → type S (binary If k v e₁ e₂) ≡ type S e₁ → post S e₁ ⊒ post S (binary If k v e₁ e₂)
-        → Derives Γ Ψ e₂ → type S (binary If k v e₁ e₂) ≡ type S e₂ → post S e₂ ⊒ post S (binary If k v e₁ e₂)
+        → Derives Γ Ψ e₁ → agree S (type S (binary If k v e₁ e₂)) (type S e₁) ≡ true → post S e₁ ⊒ post S (binary If k v e₁ e₂)
+        → Derives Γ Ψ e₂ → agree S (type S (binary If k v e₁ e₂)) (type S e₂) ≡ true → post S e₂ ⊒ post S (binary If k v e₁ e₂)
         → Derives Γ Ψ (binary If k v e₁ e₂)
     WHILE : {Γ : Env} {Ψ : Map} {k v : ℕ} {e₁ : Expr}
         → Derives Γ (post S (unary While k v e₁)) e₁ → post S e₁ ⊒ post S (unary While k v e₁)
@@ -54,16 +57,18 @@ module _ (S : Split) where
         → Derives Γ Ψ e₁ → kind S e₁ ≡ type-line.Tid K → kind S (unary Join k v e₁) ≡ type-line.Int
         → post S (unary Join k v e₁) ≡ post S e₁ +ᵐ mapAt S K
         → Derives Γ Ψ (unary Join k v e₁)
-    REF : {Γ : Env} {Ψ : Map} {k v : ℕ} {ρ : Location} {e₁ : Expr}
-        → Derives Γ Ψ e₁ → kind S (unary Ref k v e₁) ≡ type-line.Ref ρ (type S e₁) → post S (unary Ref k v e₁) ≡ post S e₁
+    REF : {Γ : Env} {Ψ : Map} {k v : ℕ} {ρ : Location} {c : TypeNumber} {e₁ : Expr}
+        → Derives Γ Ψ e₁ → kind S (unary Ref k v e₁) ≡ type-line.Ref ρ c → agree S c (type S e₁) ≡ true
+        → post S (unary Ref k v e₁) ≡ post S e₁
         → Derives Γ Ψ (unary Ref k v e₁)
-    WRITE : {Γ : Env} {Ψ : Map} {k v : ℕ} {ρ : Location} {e₁ e₂ : Expr}
-        → Derives Γ Ψ e₁ → kind S e₁ ≡ type-line.Ref ρ (type S e₂) → Derives Γ (post S e₁) e₂
+    WRITE : {Γ : Env} {Ψ : Map} {k v : ℕ} {ρ : Location} {c : TypeNumber} {e₁ e₂ : Expr}
+        → Derives Γ Ψ e₁ → kind S e₁ ≡ type-line.Ref ρ c → Derives Γ (post S e₁) e₂ → agree S c (type S e₂) ≡ true
         → S .header .denominator ≤ share (post S (binary Write k v e₁ e₂)) ρ → kind S (binary Write k v e₁ e₂) ≡ type-line.Int
         → post S (binary Write k v e₁ e₂) ≡ post S e₂
         → Derives Γ Ψ (binary Write k v e₁ e₂)
-    READ : {Γ : Env} {Ψ : Map} {k v : ℕ} {ρ : Location} {e₁ : Expr}
-        → Derives Γ Ψ e₁ → kind S e₁ ≡ type-line.Ref ρ (type S (unary Read k v e₁)) → 0 < share (post S (unary Read k v e₁)) ρ
+    READ : {Γ : Env} {Ψ : Map} {k v : ℕ} {ρ : Location} {c : TypeNumber} {e₁ : Expr}
+        → Derives Γ Ψ e₁ → kind S e₁ ≡ type-line.Ref ρ c → agree S c (type S (unary Read k v e₁)) ≡ true
+        → 0 < share (post S (unary Read k v e₁)) ρ
         → post S (unary Read k v e₁) ≡ post S e₁
         → Derives Γ Ψ (unary Read k v e₁)
     NEWL : {Γ : Env} {Ψ : Map} {k v : ℕ} {K : MapNumber}

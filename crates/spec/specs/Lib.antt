@@ -5,6 +5,7 @@ pub mod Expression
 pub mod Program
 pub mod Split
 pub mod Maps
+pub mod Agreement
 pub mod Conditions
 pub mod Sites
 pub mod Workspace
@@ -16,4 +17,5 @@ pub mod Ranges
 pub mod KnownPairs
 pub mod EdgeSheets
 pub mod EdgeConditions
+pub mod EdgeAgreement
 pub mod FirstFalse

@@ -1,6 +1,6 @@
 -- Maps are compared and added number by number.
 use mathlib.Core.List.{List, [], _∷_}
-use mathlib.Core.Bool.{Bool}
+use mathlib.Core.Bool.{Bool, true, false}
 use mathlib.Core.Option.{Option, none, some}
 use Prim.Native.Nat.{ℕ, _+_}
 use lib.Dec.{eqb, leb}
@@ -26,6 +26,14 @@ m =ᵐ n = lowest eqb 0 m n
 
 unfoldable pub _≥ᵐ_ : Map → Map → Option ℕ
 m ≥ᵐ n = lowest atLeast 0 m n
+
+-- whether nothing is found
+unfoldable pub nowhere : Option ℕ → Bool
+nowhere none = true
+nowhere (some l) = false
+
+unfoldable pub sameNumbers : Map → Map → Bool
+sameNumbers m n = nowhere (m =ᵐ n)
 
 infixl 60 _+ᵐ_
 unfoldable pub _+ᵐ_ : Map → Map → Map

@@ -118,3 +118,11 @@ split steps text = do
   (rows, p₄) ← nextAll splitSheet (map (rowLine H) steps) p₃
   done ← end splitSheet p₄
   on (record { header = H; types = types; maps = maps; rows = rows })
+
+-- the type line and the map with a number
+module _ (S : Split) where
+  unfoldable pub typeAt : TypeNumber → TypeLine
+  typeAt t = getD (S .types) (t .0) Int
+
+  unfoldable pub mapAt : MapNumber → Map
+  mapAt m = getD (S .maps) (m .0) []

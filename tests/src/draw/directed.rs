@@ -53,6 +53,7 @@ impl Sabotage<'_> {
         let (own, e1) = (self.step, self.step + 1);
         match (self.draft.steps[own].word, condition) {
             (Var | Let | If, 1) | (Read, 2) => self.other_type(own),
+            (Ref, 1) if self.random.percent(50) => self.other_content(own),
             (Int | While | Spawn | Join | Write | Lock | Freelock | Unlock | Newtid | Newlock | Ref, 1) => {
                 self.other_kind(own)
             }
@@ -84,12 +85,44 @@ impl Sabotage<'_> {
         Some(())
     }
 
-    /// Another type number, of the same kind or not.
+    /// A type that does not agree with the step's: any other one, or a near miss.
     fn other_type(&mut self, step: usize) -> Option<()> {
-        let kind = self.random.below(self.draft.types.len());
-        let differs = kind != self.draft.steps[step].kind;
+        let known = self.draft.steps[step].kind;
+        let drawn = self.random.below(self.draft.types.len());
+        let kind = if self.random.percent(50) { self.near_miss(known) } else { drawn };
         self.draft.steps[step].kind = kind;
-        differs.then_some(())
+        (!self.draft.agree(known, kind)).then_some(())
+    }
+
+    /// The step's cell type with a content that does not agree.
+    fn other_content(&mut self, step: usize) -> Option<()> {
+        let Type::Ref { location, content } = self.draft.types[self.draft.steps[step].kind] else { return None };
+        let content = self.near_miss(content);
+        self.draft.steps[step].kind = self.draft.add_type(Type::Ref { location, content });
+        Some(())
+    }
+
+    /// A new type that differs from a known one in a single spot, as far inside as there is one: a map
+    /// at its last location alone, a cell's location, or what the last content is.
+    fn near_miss(&mut self, known: usize) -> usize {
+        let kind = match self.draft.types[known] {
+            Type::Int => Type::Tid(0),
+            Type::Lock(map) => Type::Lock(self.near_map(map)),
+            Type::Tid(map) => Type::Tid(self.near_map(map)),
+            Type::Ref { location, content } if self.draft.locations > 1 && self.random.percent(40) => {
+                Type::Ref { location: (location + 1) % self.draft.locations, content }
+            }
+            Type::Ref { location, content } => Type::Ref { location, content: self.near_miss(content) },
+        };
+        self.draft.add_type(kind)
+    }
+
+    /// A map that differs from a known one at the last location alone, by 1.
+    fn near_map(&mut self, known: usize) -> usize {
+        let mut map = self.draft.maps[known];
+        let last = &mut map[self.draft.locations - 1];
+        *last = if *last == WHOLE { WHOLE - 1 } else { *last + 1 };
+        self.draft.add_map(map)
     }
 
     /// A type of another kind. A new type at the end serves when there is none.
@@ -100,8 +133,7 @@ impl Sabotage<'_> {
             self.draft.steps[step].kind = other;
             return Some(());
         }
-        self.draft.types.push(if known == Type::Int { Type::Tid(0) } else { Type::Int });
-        self.draft.steps[step].kind = self.draft.types.len() - 1;
+        self.draft.steps[step].kind = self.draft.add_type(if known == Type::Int { Type::Tid(0) } else { Type::Int });
         Some(())
     }
 

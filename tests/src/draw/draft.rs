@@ -47,6 +47,26 @@ impl Draft {
         self.maps.len() - 1
     }
 
+    pub fn add_type(&mut self, kind: Type) -> usize {
+        self.types.push(kind);
+        self.types.len() - 1
+    }
+
+    /// Whether two types agree: the same kind, equal numbers in their maps, the same location and
+    /// contents that agree.
+    pub fn agree(&self, left: usize, right: usize) -> bool {
+        match (self.types[left], self.types[right]) {
+            (Type::Int, Type::Int) => true,
+            (Type::Ref { location: one, content: left }, Type::Ref { location: other, content: right }) => {
+                one == other && self.agree(left, right)
+            }
+            (Type::Lock(left), Type::Lock(right)) | (Type::Tid(left), Type::Tid(right)) => {
+                self.maps[left] == self.maps[right]
+            }
+            _ => false,
+        }
+    }
+
     /// The step after the last part of this one.
     pub fn end_of(&self, step: usize) -> usize {
         let (mut open, mut at) = (1, step);

@@ -1,5 +1,7 @@
 //! Drawn pairs of sheets: honest ones, mutants of them, pairs at the limits, and noise.
 
+mod afresh;
+mod chains;
 pub mod concurrent;
 mod directed;
 pub mod draft;
@@ -44,7 +46,9 @@ impl Drawn {
 pub fn pair(seed: u64, number: u64) -> Drawn {
     let random = &mut Random::new(seed, number);
     match random.below(1000) {
-        0..=349 => Drawn::accepted(&honest_draft(random), "honest"),
+        0..=249 => Drawn::accepted(&honest_draft(random), "honest"),
+        250..=339 => Drawn::accepted(&written_afresh(random), "afresh"),
+        340..=349 => chains::chain(random),
         350..=399 => Drawn::accepted(&concurrent::draft(random), "concurrent"),
         400..=404 => Drawn::accepted(&near_full(random), "full"),
         405..=554 => directed(random, number),
@@ -69,6 +73,12 @@ pub fn honest_draft(random: &mut Random) -> Draft {
     honest::draft(random, size, locations, whole)
 }
 
+/// An honest draft with its types and maps written afresh.
+fn written_afresh(random: &mut Random) -> Draft {
+    let draft = if random.percent(70) { honest_draft(random) } else { concurrent::draft(random) };
+    afresh::afresh(random, &draft)
+}
+
 /// A full pair with a split at or under the limit.
 fn near_full(random: &mut Random) -> Draft {
     let bytes = SPLIT_BYTES - random.pick(&[0, 1, 2, 100, 1000]);
@@ -85,7 +95,7 @@ fn directed(random: &mut Random, number: u64) -> Drawn {
 }
 
 fn changed_draft(random: &mut Random) -> Drawn {
-    let mut draft = honest_draft(random);
+    let mut draft = if random.percent(70) { honest_draft(random) } else { written_afresh(random) };
     for _ in 0..1 + random.below(2) {
         mutants::change_draft(random, &mut draft);
     }

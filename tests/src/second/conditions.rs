@@ -90,7 +90,7 @@ impl Judge<'_> {
 
     fn var(&self) -> Judged {
         let bound = self.steps[self.step].binder + 1;
-        holds(1, self.own() == self.kind(bound))?;
+        self.agree(1, self.own(), self.kind(bound))?;
         self.equal(2, self.post(self.step), self.pre)
     }
 
@@ -100,13 +100,13 @@ impl Judge<'_> {
     }
 
     fn binding(&self) -> Judged {
-        holds(1, self.own() == self.kind(self.e2()))?;
+        self.agree(1, self.own(), self.kind(self.e2()))?;
         self.equal(2, self.post(self.step), self.post(self.e2()))
     }
 
     fn branch(&self) -> Judged {
-        holds(1, self.own() == self.kind(self.e1()))?;
-        holds(2, self.own() == self.kind(self.e2()))?;
+        self.agree(1, self.own(), self.kind(self.e1()))?;
+        self.agree(2, self.own(), self.kind(self.e2()))?;
         self.at_least(3, self.post(self.e1()), self.post(self.step))?;
         self.at_least(4, self.post(self.e2()), self.post(self.step))
     }
@@ -138,13 +138,13 @@ impl Judge<'_> {
 
     fn new_cell(&self) -> Judged {
         let (_, content) = self.cell(1, self.step)?;
-        holds(1, content == self.kind(self.e1()))?;
+        self.agree(1, content, self.kind(self.e1()))?;
         self.equal(2, self.post(self.step), self.post(self.e1()))
     }
 
     fn read(&self) -> Judged {
         let (location, content) = self.cell(1, self.e1())?;
-        holds(2, self.own() == content)?;
+        self.agree(2, self.own(), content)?;
         self.equal(3, self.post(self.step), self.post(self.e1()))?;
         self.access(4, location, 1)
     }
@@ -152,7 +152,7 @@ impl Judge<'_> {
     fn write(&self) -> Judged {
         self.is_int(1)?;
         let (location, content) = self.cell(2, self.e1())?;
-        holds(3, self.kind(self.e2()) == content)?;
+        self.agree(3, self.kind(self.e2()), content)?;
         self.equal(4, self.post(self.step), self.post(self.e2()))?;
         self.access(5, location, self.split.whole)
     }
@@ -193,6 +193,10 @@ impl Judge<'_> {
 
     fn post(&self, step: usize) -> usize {
         self.split.marks[step].post
+    }
+
+    fn agree(&self, condition: u32, left: usize, right: usize) -> Judged {
+        holds(condition, self.split.agree(left, right))
     }
 
     fn is_int(&self, condition: u32) -> Judged {

@@ -1,4 +1,4 @@
-//! The second checker, written from document 01 alone.
+//! The second checker, written from documents 01 and 02 alone.
 
 mod conditions;
 #[cfg(test)]

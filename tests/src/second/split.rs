@@ -36,6 +36,20 @@ impl Split {
     pub fn map(&self, map: usize) -> &[u32] {
         &self.numbers[map * self.locations..][..self.locations]
     }
+
+    /// Whether two types agree: their kinds agree and their maps hold equal numbers; refs have the same
+    /// location, and contents that agree.
+    pub fn agree(&self, left: usize, right: usize) -> bool {
+        match (self.types[left], self.types[right]) {
+            (Type::Int, Type::Int) => true,
+            (Type::Ref { location: p, content: left }, Type::Ref { location: q, content: right }) => {
+                p == q && self.agree(left, right)
+            }
+            (Type::Lock(left), Type::Lock(right)) => self.map(left) == self.map(right),
+            (Type::Tid(left), Type::Tid(right)) => self.map(left) == self.map(right),
+            _ => false,
+        }
+    }
 }
 
 struct Head {

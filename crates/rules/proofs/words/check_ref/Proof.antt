@@ -12,7 +12,7 @@ type-false-requires : tie.Need-type-false-requires
 type-false-requires c κs = search needs
 
 returns : tie.Need-returns
-returns c = fail _ _ _ _ (not-contains _ _ _ (c .before .match .keys2)) (c .type-false .ensures)
+returns c = fail _ _ _ _ (not-contains _ _ _ _ (c .before .match .keys2)) (c .type-false .ensures)
 
 agree-requires : tie.Need-agree-requires
 agree-requires c κs = search needs

@@ -1,0 +1,196 @@
+-- Agreement of types in the work space: how it goes down a pair of refs, and that it is document 02's for the split that the
+-- work space holds.
+use mathlib.Core.Path.{_≡_, refl, sym, ap, _∙_}
+use mathlib.Core.List.{List, [], _∷_}
+use mathlib.Core.Bool.{Bool, true, false, _&&_}
+use mathlib.Core.Option.{Option, none, some}
+use Prim.Native.Nat.{ℕ, zero, suc, _<_, _≤_}
+use native.Mathlib.Omega.{arith}
+use lib.Dec.{eqb, ltb}
+use lib.ListN.{length, getD}
+use types.Run.{OneOf, miss}
+use denote.Enum.Declared.{tagOf}
+use borrow.Author.Tests.{eq-eqb, ne-eqb, lt-ltb, le-ltb, ltb-true}
+use Rattle.spec.proofs.TypeLine as kind
+use Rattle.spec.specs.Reading.{Out, on}
+use Rattle.spec.specs.Expression.{Step}
+use Rattle.spec.specs.Split.{Split, typeAt, mapAt}
+use Rattle.spec.specs.Maps.{nowhere, sameNumbers}
+use Rattle.spec.specs.Agreement.{int, code, Tree, plain, sameMaps, sameTree, treeOf, trees, tree, agree}
+use Rattle.spec.specs.Conditions.{T, F, isInt, isRef, isLock, isTid, place, load, contains}
+use Rattle.spec.specs.Sites.{judge}
+use Rattle.spec.specs.Ranges.{InRange}
+use Rattle.spec.specs.declared.Location.{Location}
+use Rattle.spec.specs.declared.MapNumber.{MapNumber}
+use Rattle.spec.specs.declared.TypeNumber.{TypeNumber}
+use Rattle.spec.specs.declared.Refusal.{Refusal}
+use Rattle.spec.specs.declared.TypeLine.{TypeLine}
+use Rattle.spec.specs.declared.TypeLine.the-variants.{Int, Ref, Lock, Tid}
+use Rattle.spec.proofs.Clashes.{true-is-not-false}
+use Rattle.spec.proofs.Outcomes.{stop-is-not-on}
+use Rattle.spec.proofs.Agreement.{same-maps-single, content-smaller, tree-of-type}
+use Rattle.workspace.specs.Layout as layout
+use Rattle.workspace.specs.Holds.{HoldsSplit}
+use Rattle.rules.specs.Outcome.{outcome}
+use Rattle.rules.specs.Agreement.{content, sameNumbersIn, linesAgree, agreeBelow, agreeIn}
+use Rattle.rules.specs.Table.{containsIn}
+use Rattle.rules.specs.declared.Ruling.{Ruling}
+use Rattle.rules.specs.declared.Ruling.the-variants.{Met, Refused}
+use Rattle.rules.proofs.Shown.{type-shown, load-in, equal-shown}
+
+-- ------------------------------------------------------------------ conditions on types
+
+module _ (line i : ℕ) where
+  pub judged-as : {a b : Bool} {v : Out (Unit {0})} → v ≡ judge line i (T a) → a ≡ b → v ≡ judge line i (T b)
+  judged-as h e = h ∙ ap (λ x. judge line i (T x)) e
+
+  -- a flow condition asked as one on types
+  pub flow-met : (o : Option ℕ) (r : Ruling) → outcome r ≡ judge line i (F o) → r ≡ Met → on tt ≡ judge line i (T (nowhere o))
+  unfolding outcome judge nowhere
+  flow-met none r h e = refl
+  flow-met (some l) r h e = stop-is-not-on (sym h ∙ ap outcome e)
+
+  pub flow-refused : (o : Option ℕ) (r : Ruling) {x : Refusal} {v : Out (Unit {0})} → outcome r ≡ judge line i (F o) → r ≡ Refused x
+      → v ≡ judge line i (T false) → v ≡ judge line i (T (nowhere o))
+  unfolding outcome judge nowhere
+  flow-refused none r h e v = stop-is-not-on (sym (ap outcome e) ∙ h)
+  flow-refused (some l) r h e v = v
+
+-- ------------------------------------------------------------------ down a pair of types
+
+module _ (w : List ℕ) (n : ℕ) where
+  lines-same : (f g : TypeNumber → TypeNumber → Bool) → ((c d : TypeNumber) → f c d ≡ g c d) → (x y : TypeLine)
+      → linesAgree w n f x y ≡ linesAgree w n g x y
+  unfolding linesAgree
+  lines-same f g h Int y = refl
+  lines-same f g h (Ref p c) y = rw (h c (content y))
+  lines-same f g h (Lock k) y = refl
+  lines-same f g h (Tid k) y = refl
+
+  -- where no contents agree, no refs do
+  pub no-contents : (x y : TypeLine) → isRef x ≡ true → linesAgree w n (λ c d. false) x y ≡ false
+  unfolding isRef linesAgree
+  no-contents Int y h = true-is-not-false (sym h)
+  no-contents (Ref p c) y h = either (isRef y) (eqb (p .0) (place y .0))
+    where
+      either : (a b : Bool) → (a && (b && false)) ≡ false
+      either true true = refl
+      either true false = refl
+      either false b = refl
+  no-contents (Lock k) y h = true-is-not-false (sym h)
+  no-contents (Tid k) y h = true-is-not-false (sym h)
+
+  plain-lines : (f g : TypeNumber → TypeNumber → Bool) (x y : TypeLine) → OneOf (0 ∷ 2 ∷ 3 ∷ []) (tagOf kind.the-type x)
+      → linesAgree w n f x y ≡ linesAgree w n g x y
+  unfolding linesAgree
+  plain-lines f g Int y h = refl
+  plain-lines f g (Ref p c) y h = absurd (miss (0 ∷ 2 ∷ 3 ∷ []) 1 tt h)
+  plain-lines f g (Lock k) y h = refl
+  plain-lines f g (Tid k) y h = refl
+
+  -- any bound above the first type's number will do
+  any-bound : (b b′ : ℕ) (t u : TypeNumber) → t .0 < b → t .0 < b′ → agreeBelow w n b t u ≡ agreeBelow w n b′ t u
+  unfolding agreeBelow
+  any-bound zero b′ t u p q = absurd (omega arith)
+  any-bound (suc b) zero t u p q = absurd (omega arith)
+  any-bound (suc b) (suc b′) t u p q =
+      lines-same _ _ (λ c d. either c d (λ l. any-bound b b′ c d (omega arith) (omega arith)) (ltb (c .0) (t .0)) refl) _ _
+    where
+      either : (c d : TypeNumber) → (c .0 < t .0 → agreeBelow w n b c d ≡ agreeBelow w n b′ c d) → (s : Bool) → ltb (c .0) (t .0) ≡ s
+          → (s && agreeBelow w n b c d) ≡ (s && agreeBelow w n b′ c d)
+      either c d h true e = h (ltb-true (c .0) (t .0) e)
+      either c d h false e = refl
+
+  module _ (t u : TypeNumber) {x y : TypeLine} (e : x ≡ layout.typeAt w t) (g : y ≡ layout.typeAt w u) where
+    -- a type that is no ref
+    pub plain-agree : OneOf (0 ∷ 2 ∷ 3 ∷ []) (tagOf kind.the-type x) → linesAgree w n (λ c d. false) x y ≡ agreeIn w n t u
+    unfolding agreeIn agreeBelow
+    plain-agree h = rw (← e, ← g) (plain-lines _ _ x y h)
+
+    -- a ref: with a type that is none, at another location, with a content that is not smaller, with contents to compare
+    module _ {p : Location} {c : TypeNumber} (is-ref : x ≡ Ref p c) where
+      pub ref-alone : isRef y ≡ false → agreeIn w n t u ≡ false
+      unfolding agreeIn agreeBelow linesAgree
+      ref-alone h = rw (← e, ← g, is-ref, h)
+
+      module _ {q : Location} {d : TypeNumber} (is-ref′ : y ≡ Ref q d) where
+        pub refs-apart : (p .0 ≡ q .0 → ⊥) → agreeIn w n t u ≡ false
+        unfolding agreeIn agreeBelow linesAgree isRef place
+        refs-apart h = rw (← e, ← g, is-ref, is-ref′, ne-eqb _ _ h)
+
+        pub refs-not-smaller : p .0 ≡ q .0 → t .0 ≤ c .0 → agreeIn w n t u ≡ false
+        unfolding agreeIn agreeBelow linesAgree isRef place
+        refs-not-smaller h l = rw (← e, ← g, is-ref, is-ref′, eq-eqb _ _ h, le-ltb _ _ l)
+
+        pub refs-by-contents : p .0 ≡ q .0 → c .0 < t .0 → agreeIn w n c d ≡ agreeIn w n t u
+        unfolding agreeIn agreeBelow linesAgree isRef place content
+        refs-by-contents h l =
+            rw (← e, ← g, is-ref, is-ref′, eq-eqb _ _ h, lt-ltb _ _ l) (any-bound (suc (c .0)) (t .0) c d (omega arith) l)
+
+-- ------------------------------------------------------------------ the split that the work space holds
+
+module _ (w : List ℕ) (S : Split) (steps : List Step) (H : HoldsSplit w S) (R : InRange steps S) (n : ℕ) (located : n ≡ S .header .locations) where
+  same-numbers-shown : (k h : MapNumber) → k .0 < length (S .maps) → h .0 < length (S .maps)
+      → sameNumbersIn w n k h ≡ sameNumbers (mapAt S k) (mapAt S h)
+  unfolding sameNumbersIn sameNumbers
+  same-numbers-shown k h p q = rw (located, equal-shown w S steps H R k h p q)
+
+  -- lines whose contents and maps are shown
+  lines-shown : (all : List Tree) (f : TypeNumber → TypeNumber → Bool) (x y : TypeLine)
+      → load x .0 < length (S .maps) → load y .0 < length (S .maps)
+      → ((p q : Location) (c d : TypeNumber) → x ≡ Ref p c → y ≡ Ref q d → f c d ≡ sameTree (getD all (c .0) (plain int [])) (getD all (d .0) (plain int [])))
+      → linesAgree w n f x y ≡ sameTree (treeOf S all x) (treeOf S all y)
+  unfolding linesAgree code sameMaps sameTree treeOf isInt isRef isLock isTid place load content
+  lines-shown all f Int Int i j h = refl
+  lines-shown all f Int (Ref q d) i j h = refl
+  lines-shown all f Int (Lock k) i j h = refl
+  lines-shown all f Int (Tid k) i j h = refl
+  lines-shown all f (Ref p c) Int i j h = refl
+  lines-shown all f (Ref p c) (Ref q d) i j h = rw (h p q c d refl refl)
+  lines-shown all f (Ref p c) (Lock k) i j h = refl
+  lines-shown all f (Ref p c) (Tid k) i j h = refl
+  lines-shown all f (Lock k) Int i j h = refl
+  lines-shown all f (Lock k) (Ref q d) i j h = refl
+  lines-shown all f (Lock k) (Lock m) i j h = same-numbers-shown k m i j ∙ sym (same-maps-single (mapAt S k) (mapAt S m))
+  lines-shown all f (Lock k) (Tid m) i j h = refl
+  lines-shown all f (Tid k) Int i j h = refl
+  lines-shown all f (Tid k) (Ref q d) i j h = refl
+  lines-shown all f (Tid k) (Lock m) i j h = refl
+  lines-shown all f (Tid k) (Tid m) i j h = same-numbers-shown k m i j ∙ sym (same-maps-single (mapAt S k) (mapAt S m))
+
+  below-shown : (b : ℕ) (t u : TypeNumber) → t .0 < b → t .0 < length (S .types) → u .0 < length (S .types)
+      → agreeBelow w n b t u ≡ agree S t u
+  unfolding agreeBelow agree tree
+  below-shown zero t u l i j = absurd (omega arith)
+  below-shown (suc b) t u l i j =
+      rw (
+        type-shown w S steps H R t i,
+        type-shown w S steps H R u j,
+        tree-of-type S R t _ refl,
+        tree-of-type S R u _ refl,
+      )
+      (lines-shown (trees S [] (S .types)) _ (typeAt S t) (typeAt S u) (load-in w S steps H R t i) (load-in w S steps H R u j)
+      (λ p q c d e g. down p q c d e g (below-shown b c d)))
+    where
+      down : (p q : Location) (c d : TypeNumber) → typeAt S t ≡ Ref p c → typeAt S u ≡ Ref q d
+          → (c .0 < b → c .0 < length (S .types) → d .0 < length (S .types) → agreeBelow w n b c d ≡ sameTree (tree S c) (tree S d))
+          → (ltb (c .0) (t .0) && agreeBelow w n b c d) ≡ sameTree (tree S c) (tree S d)
+      down p q c d e g h =
+          let c<t = content-smaller S R t p c e in
+          let d<u = content-smaller S R u q d g in
+          rw (lt-ltb _ _ c<t) (h (omega arith) (omega arith) (omega arith))
+
+  pub agree-shown : (t u : TypeNumber) → t .0 < length (S .types) → u .0 < length (S .types) → agreeIn w n t u ≡ agree S t u
+  unfolding agreeIn
+  agree-shown t u i j = below-shown (suc (t .0)) t u (omega arith) i j
+
+  pub contains-shown : (t u : TypeNumber) → t .0 < length (S .types) → u .0 < length (S .types)
+      → containsIn w n (typeAt S t) u ≡ contains S (typeAt S t) u
+  unfolding containsIn contains
+  contains-shown t u i j = of-line (typeAt S t) refl
+    where
+      of-line : (x : TypeLine) → typeAt S t ≡ x → containsIn w n x u ≡ contains S x u
+      of-line Int e = refl
+      of-line (Ref p c) e = let c<t = content-smaller S R t p c e in agree-shown c u (omega arith) j
+      of-line (Lock k) e = refl
+      of-line (Tid k) e = refl

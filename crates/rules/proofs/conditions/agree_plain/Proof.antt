@@ -1,0 +1,103 @@
+-- Each kind with itself and with any other.
+use borrow.Author.Needs.{needs}
+use mathlib.Core.Path.{sym, ap}
+use Rattle.spec.specs.Conditions.{isInt, isRef, isLock, isTid, load}
+use Rattle.spec.specs.Sites.{judge}
+use Rattle.rules.specs.Outcome.{outcome}
+use Rattle.rules.specs.Agreement.{linesAgree}
+use Rattle.rules.proofs.TypeKinds.{not-int, not-lock, not-tid}
+use Rattle.rules.proofs.Agreement.{judged-as, no-contents}
+use Rattle.rules.proofs.conditions.agree_plain.Statement.{statement}
+use Rattle.rules.proofs.conditions.agree_plain.Tie as tie
+
+enum-told : tie.Need-enum-told
+enum-told c = search needs
+
+enum-told-2 : tie.Need-enum-told-2
+enum-told-2 c = search needs
+
+type-false-requires : tie.Need-type-false-requires
+type-false-requires c κs = search needs
+
+returns : tie.Need-returns
+unfolding linesAgree
+returns c = rw (c .before .before .enum-told .given .1, not-int _ (c .before .match2 .keys2)) (c .type-false .ensures)
+
+enum-told-3 : tie.Need-enum-told-3
+enum-told-3 c = search needs
+
+type-false-requires-2 : tie.Need-type-false-requires-2
+type-false-requires-2 c κs = search needs
+
+enum-known-kind : tie.Need-enum-known-kind
+enum-known-kind c = search needs
+
+enum-known-other : tie.Need-enum-known-other
+enum-known-other c = search needs
+
+type-false-requires-3 : tie.Need-type-false-requires-3
+type-false-requires-3 c κs = search needs
+
+returns-2 : tie.Need-returns-2
+unfolding linesAgree
+returns-2 c = rw (c .before .before .before .kind .given .1, not-lock _ (c .before .match3 .keys2)) (c .type-false3 .ensures)
+
+same-maps-requires : tie.Need-same-maps-requires
+same-maps-requires c κs = search needs
+
+enum-known-kind-2 : tie.Need-enum-known-kind-2
+enum-known-kind-2 c = search needs
+
+enum-known-other-2 : tie.Need-enum-known-other-2
+enum-known-other-2 c = search needs
+
+type-false-requires-4 : tie.Need-type-false-requires-4
+type-false-requires-4 c κs = search needs
+
+returns-3 : tie.Need-returns-3
+unfolding linesAgree
+returns-3 c = rw (c .before .before .before .kind2 .given .1, not-tid _ (c .before .match4 .keys2)) (c .type-false4 .ensures)
+
+same-maps-requires-2 : tie.Need-same-maps-requires-2
+same-maps-requires-2 c κs = search needs
+
+returns-4 : tie.Need-returns-4
+unfolding linesAgree isInt outcome judge
+returns-4 c = rw (c .before .before .enum-told .given .1, c .enum-told2 .given .1)
+
+returns-5 : tie.Need-returns-5
+unfolding isRef
+returns-5 c = judged-as _ _ (c .type-false2 .ensures) (sym (no-contents _ _ _ _ (ap isRef (c .before .enum-told3 .given .1))))
+
+returns-6 : tie.Need-returns-6
+unfolding linesAgree isLock load
+returns-6 c = rw (c .before .before .before .before .before .kind .given .1, c .before .before .other .given .1) (c .same-maps .ensures)
+
+returns-7 : tie.Need-returns-7
+unfolding linesAgree isTid load
+returns-7 c = rw (c .before .before .before .before .before .kind2 .given .1, c .before .before .other2 .given .1) (c .same-maps2 .ensures)
+
+pub agree-plain-spec : {M : Type 1} → statement M
+agree-plain-spec =
+    tie.close
+    (tie.spec
+    enum-told
+    enum-told-2
+    type-false-requires
+    returns
+    enum-told-3
+    type-false-requires-2
+    enum-known-kind
+    enum-known-other
+    type-false-requires-3
+    returns-2
+    same-maps-requires
+    enum-known-kind-2
+    enum-known-other-2
+    type-false-requires-4
+    returns-3
+    same-maps-requires-2
+    returns-4
+    returns-5
+    returns-6
+    returns-7)

@@ -1,0 +1,155 @@
+-- Pairs accepted before request (i) of document 02 remain accepted. "Before", two types agreed when their numbers agreed; that
+-- check is written out here, beside the theorem; no definition and no contract cites it.
+use mathlib.Core.Path.{_≡_, ap}
+use mathlib.Core.List.{List, [], _∷_, _++_}
+use mathlib.Core.Bool.{Bool, true, false}
+use Prim.Native.Nat.{ℕ}
+use lib.Dec.{eqb, leb, ltb}
+use lib.ListN.{length}
+use borrow.Author.Tests.{eqb-true}
+use Rattle.spec.specs.Reading.{Out, on, _>>=_, demand}
+use Rattle.spec.specs.Expression.{Expr, leaf, unary, binary}
+use Rattle.spec.specs.Program.{program, programLimit}
+use Rattle.spec.specs.Split.{Map, Split, split, splitLimit}
+use Rattle.spec.specs.Maps.{_=ᵐ_, _≥ᵐ_, share}
+use Rattle.spec.specs.Agreement.{agree}
+use Rattle.spec.specs.Conditions.{Condition, T, F, A, Env, typeIn, lineOf, isInt, isRef, place, type, kind, post, mapAt, startMap, contains, own}
+use Rattle.spec.specs.Sites.{Site, sites, Claim, numbered, claimsAt, claims, firstFalse}
+use Rattle.spec.specs.FirstFalse.{Holds, AllHold}
+use Rattle.spec.specs.Workspace.{workspaceSize}
+use Rattle.spec.specs.Verdict.{startAtMostOne, ruled, checked, answer, verdict}
+use Rattle.spec.specs.declared.TypeNumber.{TypeNumber}
+use Rattle.spec.specs.declared.TypeLine.{TypeLine}
+use Rattle.spec.specs.declared.TypeLine.the-variants as type-line
+use Rattle.spec.specs.declared.Answer.{Answer}
+use Rattle.spec.specs.declared.Answer.the-variants.{Accept}
+use Rattle.spec.specs.declared.Refusal.the-variants.{ShortWorkspace, LongProgram, LongSplit}
+use Rattle.spec.specs.declared.LeafWord.the-variants.{Var, Int, Newtid, Newlock}
+use Rattle.spec.specs.declared.UnaryWord.the-variants.{While, Join, Ref, Read, Freelock, Lock, Unlock}
+use Rattle.spec.specs.declared.BinaryWord.the-variants.{Let, If, Spawn, Write}
+use Rattle.spec.proofs.Outcomes.{bind-goes-on, goes-on-bind}
+use Rattle.spec.proofs.Claims.{none-false-all-hold, all-hold-none-false, all-hold-parts, all-hold-append}
+use Rattle.spec.proofs.Agreement.{agree-reflexive}
+use Rattle.spec.proofs.Accepted.{accept-goes-on}
+
+-- ------------------------------------------------------------------ the check before
+
+-- "Two types agree when their numbers agree"
+unfoldable pub agreeBefore : TypeNumber → TypeNumber → Bool
+agreeBefore t u = eqb (t .0) (u .0)
+
+unfoldable pub containsBefore : TypeLine → TypeNumber → Bool
+containsBefore type-line.Int t = false
+containsBefore (type-line.Ref p c) t = agreeBefore c t
+containsBefore (type-line.Lock k) t = false
+containsBefore (type-line.Tid k) t = false
+
+module _ (S : Split) where
+  -- the rows of the table that compare two types; the others are as they were
+  unfoldable pub ownBefore : Env → (pre : Map) → Expr → List Condition
+  ownBefore Γ pre (leaf Var k v) = let e = leaf Var k v in
+      T (agreeBefore (type S e) (typeIn Γ v)) ∷ F (post S e =ᵐ pre) ∷ []
+  ownBefore Γ pre (leaf Int k v) = own S Γ pre (leaf Int k v)
+  ownBefore Γ pre (binary Let k v e₁ e₂) = let e = binary Let k v e₁ e₂ in
+      T (agreeBefore (type S e) (type S e₂)) ∷ F (post S e =ᵐ post S e₂) ∷ []
+  ownBefore Γ pre (binary If k v e₁ e₂) = let e = binary If k v e₁ e₂ in
+      T (agreeBefore (type S e) (type S e₁)) ∷ T (agreeBefore (type S e) (type S e₂))
+      ∷ F (post S e₁ ≥ᵐ post S e) ∷ F (post S e₂ ≥ᵐ post S e) ∷ []
+  ownBefore Γ pre (unary While k v e₁) = own S Γ pre (unary While k v e₁)
+  ownBefore Γ pre (leaf Newtid k v) = own S Γ pre (leaf Newtid k v)
+  ownBefore Γ pre (binary Spawn k v e₁ e₂) = own S Γ pre (binary Spawn k v e₁ e₂)
+  ownBefore Γ pre (unary Join k v e₁) = own S Γ pre (unary Join k v e₁)
+  ownBefore Γ pre (unary Ref k v e₁) = let e = unary Ref k v e₁ in
+      T (containsBefore (kind S e) (type S e₁)) ∷ F (post S e =ᵐ post S e₁) ∷ []
+  ownBefore Γ pre (unary Read k v e₁) = let e = unary Read k v e₁ in let p = place (kind S e₁) in
+      T (isRef (kind S e₁)) ∷ T (containsBefore (kind S e₁) (type S e)) ∷ F (post S e =ᵐ post S e₁)
+      ∷ A (ltb 0 (share (post S e) p)) p ∷ []
+  ownBefore Γ pre (binary Write k v e₁ e₂) = let e = binary Write k v e₁ e₂ in let p = place (kind S e₁) in
+      T (isInt (kind S e)) ∷ T (isRef (kind S e₁)) ∷ T (containsBefore (kind S e₁) (type S e₂)) ∷ F (post S e =ᵐ post S e₂)
+      ∷ A (leb (S .header .denominator) (share (post S e) p)) p ∷ []
+  ownBefore Γ pre (leaf Newlock k v) = own S Γ pre (leaf Newlock k v)
+  ownBefore Γ pre (unary Lock k v e₁) = own S Γ pre (unary Lock k v e₁)
+  ownBefore Γ pre (unary Freelock k v e₁) = own S Γ pre (unary Freelock k v e₁)
+  ownBefore Γ pre (unary Unlock k v e₁) = own S Γ pre (unary Unlock k v e₁)
+
+  unfoldable pub claimsBefore : List Site → List Claim
+  claimsBefore [] = []
+  claimsBefore (s ∷ ss) = numbered (lineOf (s .step)) 1 (ownBefore (s .Γ) (mapAt S (s .pre)) (s .step)) ++ claimsBefore ss
+
+unfoldable pub checkedBefore : (room : ℕ) → (programText splitText : List ℕ) → Out (Unit {0})
+checkedBefore room programText splitText = do
+  enough ← demand (leb workspaceSize room) ShortWorkspace
+  fits ← demand (leb (length programText) programLimit) LongProgram
+  P ← program programText
+  fits′ ← demand (leb (length splitText) splitLimit) LongSplit
+  S ← split (P .steps) splitText
+  whole ← startAtMostOne P S
+  firstFalse (claimsBefore S (sites S [] startMap (P .root)))
+
+unfoldable pub verdictBefore : (room : ℕ) → (programText splitText : List ℕ) → Answer
+verdictBefore room programText splitText = answer (checkedBefore room programText splitText)
+
+-- ------------------------------------------------------------------ what held before holds
+
+module _ (S : Split) where
+  agreed : (t u : TypeNumber) → agreeBefore t u ≡ true → agree S t u ≡ true
+  unfolding agreeBefore
+  agreed t u h =
+      let e : t ≡ u = ap (λ x. record { 0 = x }) (eqb-true (t .0) (u .0) h) in
+      rw e (agree-reflexive S u)
+
+  contained : (x : TypeLine) (u : TypeNumber) → containsBefore x u ≡ true → contains S x u ≡ true
+  unfolding containsBefore contains
+  contained type-line.Int u h = h
+  contained (type-line.Ref p c) u h = agreed c u h
+  contained (type-line.Lock k) u h = h
+  contained (type-line.Tid k) u h = h
+
+  own-holds : (n i : ℕ) (Γ : Env) (pre : Map) (e : Expr) → AllHold (numbered n i (ownBefore S Γ pre e)) → AllHold (numbered n i (own S Γ pre e))
+  unfolding AllHold Holds numbered ownBefore own
+  own-holds n i Γ pre (leaf Var k v) h = (agreed _ _ (h .0), h .1)
+  own-holds n i Γ pre (leaf Int k v) h = h
+  own-holds n i Γ pre (binary Let k v e₁ e₂) h = (agreed _ _ (h .0), h .1)
+  own-holds n i Γ pre (binary If k v e₁ e₂) h = (agreed _ _ (h .0), (agreed _ _ (h .1 .0), h .1 .1))
+  own-holds n i Γ pre (unary While k v e₁) h = h
+  own-holds n i Γ pre (leaf Newtid k v) h = h
+  own-holds n i Γ pre (binary Spawn k v e₁ e₂) h = h
+  own-holds n i Γ pre (unary Join k v e₁) h = h
+  own-holds n i Γ pre (unary Ref k v e₁) h = (contained _ _ (h .0), h .1)
+  own-holds n i Γ pre (unary Read k v e₁) h = (h .0, (contained _ _ (h .1 .0), h .1 .1))
+  own-holds n i Γ pre (binary Write k v e₁ e₂) h = (h .0, (h .1 .0, (contained _ _ (h .1 .1 .0), h .1 .1 .1)))
+  own-holds n i Γ pre (leaf Newlock k v) h = h
+  own-holds n i Γ pre (unary Lock k v e₁) h = h
+  own-holds n i Γ pre (unary Freelock k v e₁) h = h
+  own-holds n i Γ pre (unary Unlock k v e₁) h = h
+
+  claims-hold : (ss : List Site) → AllHold (claimsBefore S ss) → AllHold (claims S ss)
+  unfolding claims claimsAt claimsBefore
+  claims-hold [] h = h
+  claims-hold (s ∷ ss) h =
+      let both = all-hold-parts _ (claimsBefore S ss) h in
+      all-hold-append _ (claims S ss) (own-holds _ 1 (s .Γ) _ (s .step) (both .0)) (claims-hold ss (both .1))
+
+-- what goes on after m by one continuation does so by another
+goes-on-too : {A B : Type 0} {b : B} (m : Out A) (f g : A → Out B) → ((a : A) → f a ≡ on b → g a ≡ on b) → (m >>= f) ≡ on b → (m >>= g) ≡ on b
+goes-on-too m f g too h =
+    let (a, e, k) = bind-goes-on m f h in
+    goes-on-bind m g e (too a k)
+
+checked-too : (room : ℕ) (p s : List ℕ) → checkedBefore room p s ≡ on tt → checked room p s ≡ on tt
+unfolding checkedBefore checked ruled
+checked-too room p s =
+    goes-on-too _ _ _ λ _.
+    goes-on-too _ _ _ λ _.
+    goes-on-too _ _ _ λ P.
+    goes-on-too _ _ _ λ _.
+    goes-on-too _ _ _ λ S.
+    goes-on-too _ _ _ λ _ h.
+    all-hold-none-false _ (claims-hold S (sites S [] startMap (P .root)) (none-false-all-hold _ h))
+
+-- ------------------------------------------------------------------ the theorem
+
+pub accepted-before-remains-accepted : (room : ℕ) (programText splitText : List ℕ)
+    → verdictBefore room programText splitText ≡ Accept → verdict room programText splitText ≡ Accept
+unfolding verdictBefore verdict answer
+accepted-before-remains-accepted room p s h = ap answer (checked-too room p s (accept-goes-on (checkedBefore room p s) h))

@@ -1,0 +1,95 @@
+//! A draft written afresh, as solvers do: each use of a type or of a map has a line of its own, under
+//! a new number. Types agree by structure, so an honest draft stays one.
+
+use super::draft::{Draft, Step, Type};
+use super::random::Random;
+use crate::answer::{MAPS, TYPES};
+
+/// The same draft with a new line for each use while there is room for new lines; past that, a use
+/// shares a line that says the same.
+pub fn afresh(random: &mut Random, known: &Draft) -> Draft {
+    let mut draft = Draft { types: Vec::new(), maps: vec![known.maps[0]], ..known.clone() };
+    let order = shuffled(random, draft.steps.len());
+    let mut shared_maps = vec![None; known.maps.len()];
+    shared_maps[0] = Some(0);
+    let mut writer = Writer { known, shared_types: vec![None; known.types.len()], shared_maps, draft: &mut draft };
+    for step in order {
+        let old = known.steps[step];
+        let (kind, post) = (writer.new_type(old.kind), writer.new_map(old.post));
+        let start = old.start.map(|start| writer.new_map(start));
+        writer.draft.steps[step] = Step { kind, post, start, ..old };
+    }
+    draft
+}
+
+fn shuffled(random: &mut Random, count: usize) -> Vec<usize> {
+    let mut order: Vec<usize> = (0..count).collect();
+    for place in (1..count).rev() {
+        order.swap(place, random.below(place + 1));
+    }
+    order
+}
+
+struct Writer<'a> {
+    known: &'a Draft,
+    draft: &'a mut Draft,
+    /// The line that stands for an old one when there is no room for a line of its own.
+    shared_types: Vec<Option<usize>>,
+    shared_maps: Vec<Option<usize>>,
+}
+
+impl Writer<'_> {
+    /// A new line for a type, its content and its map, while every old type could still get one.
+    fn new_type(&mut self, old: usize) -> usize {
+        let kept_free = unwritten(&self.shared_types);
+        if self.draft.types.len() + self.depth(old) + kept_free > TYPES as usize {
+            return self.shared_type(old);
+        }
+        let kind = match self.known.types[old] {
+            Type::Int => Type::Int,
+            Type::Ref { location, content } => Type::Ref { location, content: self.new_type(content) },
+            Type::Lock(map) => Type::Lock(self.new_map(map)),
+            Type::Tid(map) => Type::Tid(self.new_map(map)),
+        };
+        self.draft.add_type(kind)
+    }
+
+    fn shared_type(&mut self, old: usize) -> usize {
+        if let Some(number) = self.shared_types[old] {
+            return number;
+        }
+        let kind = match self.known.types[old] {
+            Type::Int => Type::Int,
+            Type::Ref { location, content } => Type::Ref { location, content: self.shared_type(content) },
+            Type::Lock(map) => Type::Lock(self.new_map(map)),
+            Type::Tid(map) => Type::Tid(self.new_map(map)),
+        };
+        let number = self.draft.add_type(kind);
+        self.shared_types[old] = Some(number);
+        number
+    }
+
+    fn new_map(&mut self, old: usize) -> usize {
+        let has_room = self.draft.maps.len() + unwritten(&self.shared_maps) < MAPS as usize;
+        match self.shared_maps[old] {
+            Some(number) if !has_room => number,
+            _ => {
+                let number = self.draft.add_map(self.known.maps[old]);
+                self.shared_maps[old].get_or_insert(number);
+                number
+            }
+        }
+    }
+
+    /// How many lines a type takes with its contents.
+    fn depth(&self, old: usize) -> usize {
+        match self.known.types[old] {
+            Type::Ref { content, .. } => 1 + self.depth(content),
+            _ => 1,
+        }
+    }
+}
+
+fn unwritten(shared: &[Option<usize>]) -> usize {
+    shared.iter().filter(|line| line.is_none()).count()
+}
