@@ -1,17 +1,16 @@
 -- Laws of numerals, at a place of a field.
 use mathlib.Core.Path.{_≡_, refl, _∙_}
 use mathlib.Core.List.{List, [], _∷_}
-use mathlib.Core.Bool.{Bool, true, false, _&&_, not, and-false}
+use mathlib.Core.Bool.{Bool, true, false, _&&_, and-false}
 use mathlib.Core.Option.{none, some}
 use Prim.Native.Nat.{ℕ, _+_, _*_, _-_, _^_, _<_, _≤_}
-use native.Mathlib.Nat.{not-suc-le-zero, le-of-suc-le-suc, pow-succ', pow-le-pow-right, lt-of-lt-of-le, mul-le-mul-right}
+use native.Mathlib.Nat.{not-suc-le-zero, le-of-suc-le-suc, pow-succ', pow-le-pow-right, lt-of-lt-of-le}
 use native.Mathlib.Numerals.{add-one}
 use native.Mathlib.Omega.{arith}
 use lib.Dec.{eqb, leb, lit<}
 use lib.ListN.{length, getD, drop, drop-of-length-le}
 use lib.Seq.{drop-cons}
-use borrow.Author.Tests.{le-leb, lt-leb, leb-true}
-use Rattle.spec.specs.Choice.{if_then_else_}
+use borrow.Author.Tests.{le-leb, lt-leb}
 use Rattle.spec.specs.Text.{digitLimit, digits, value, numeral, leadingZero}
 
 -- ------------------------------------------------------------------ the first digit
@@ -86,31 +85,6 @@ module _ (s : List ℕ) where
   unfolding numeral
   is-numeral h k l d = simp (l, d, le-leb 1 (length s) h, le-leb (length s) digitLimit k)
 
--- ------------------------------------------------------------------ the size of a numeral
-
 pub both-true : (x y : Bool) → (x && y) ≡ true → (x ≡ true) × (y ≡ true)
 both-true true y e = (refl, e)
 both-true false y e = let z : _≡_ {A = ℕ} 0 1 = cc in absurd (omega arith)
-
-value-small : (s : List ℕ) (a : ℕ) → digits s ≡ true → value a s < (a + 1) * 10 ^ length s
-unfolding digits value
-value-small [] a e = omega arith
-value-small (b ∷ t) a e =
-    let more = both-true (leb 48 b && leb b 57) (digits t) e in
-    let low = leb-true b 57 (both-true (leb 48 b) (leb b 57) (more .0) .1) in
-    let less : a * 10 + (b - 48) + 1 ≤ a * 10 + 10 = omega arith in
-    rw pow-succ' (omega (arith, value-small t (a * 10 + (b - 48)) (more .1), mul-le-mul-right (10 ^ length t) less))
-
-taken : (x : Bool) (v n : ℕ) → (if x then some v else none) ≡ some n → (x ≡ true) × (v ≡ n)
-taken true v n e = (refl, cc)
-taken false v n e = let z : _≡_ {A = ℕ} 0 1 = cc in absurd (omega arith)
-
-pub numeral-small : (s : List ℕ) (n : ℕ) → numeral s ≡ some n → n < 10 ^ digitLimit
-unfolding numeral
-numeral-small s n e =
-    let all = taken (leb 1 (length s) && leb (length s) digitLimit && digits s && not (leadingZero s)) (value 0 s) n e in
-    let sized = both-true (leb 1 (length s) && leb (length s) digitLimit && digits s) (not (leadingZero s)) (all .0) .0 in
-    let short = both-true (leb 1 (length s) && leb (length s) digitLimit) (digits s) sized in
-    let limit = both-true (leb 1 (length s)) (leb (length s) digitLimit) (short .0) .1 in
-    let bound = pow-le-pow-right {n = 10} (lit< tt) (leb-true (length s) digitLimit limit) in
-    omega (arith, value-small s 0 (short .1), bound, all .1)

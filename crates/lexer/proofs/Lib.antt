@@ -9,6 +9,7 @@ pub mod FirstDigits
 pub mod Walks
 pub mod LineNumbers
 pub mod LineEnds
+pub mod Stored
 pub mod Ranges
 pub mod Words
 pub mod TypeLines

@@ -1,6 +1,6 @@
 -- The cursor behind a line, and what reading the numerals of a line tells its caller.
 use mathlib.Core.Path.{_≡_, refl, sym, ap, subst, _∙_}
-use mathlib.Core.List.{List, [], _∷_}
+use mathlib.Core.List.{List, [], _∷_, map}
 use mathlib.Core.Bool.{Bool, true, false}
 use mathlib.Core.Option.{Option, none, some}
 use Prim.Native.Nat.{ℕ, suc, _+_, _≤_, _<_}
@@ -14,7 +14,7 @@ use Rattle.spec.specs.Text.{Field}
 use Rattle.spec.specs.Reading.{numerals}
 use Rattle.lexer.specs.Views.{withField, withByte, lineAt}
 use Rattle.lexer.specs.Cursors.{Placed, rest}
-use Rattle.lexer.specs.Numbers.{withRest, numbersIn, counted, numbersAt, behindLine, numbersOf, Filled, NumbersRead}
+use Rattle.lexer.specs.Numbers.{stored, withRest, numbersIn, counted, numbersAt, behindLine, numbersOf, Filled, NumbersRead}
 use Rattle.lexer.specs.declared.Cursor.{Cursor}
 use Rattle.lexer.specs.declared.Numbers.{Numbers}
 use Rattle.lexer.specs.declared.Numbers.the-variants.{Read, Malformed}
@@ -82,12 +82,12 @@ module _ (n : ℕ) (ns r : List ℕ) where
   counted-parts : (o : Option (List ℕ)) (r′ : List ℕ) → counted n (withRest o r′) ≡ some (ns, r) → (r′ ≡ r) × (length ns ≡ n)
   unfolding counted withRest
   counted-parts none r′ e = let z : _≡_ {A = ℕ} 0 1 = cc in absurd (omega arith)
-  counted-parts (some ms) r′ e = go (eqb (length ms) n) refl e
+  counted-parts (some ms) r′ e = go (eqb (length (map stored ms)) n) refl e
     where
-      go : (x : Bool) → eqb (length ms) n ≡ x → if_then_else_ {A = Option (List ℕ × List ℕ)} x (some (ms, r′)) none ≡ some (ns, r) → (r′ ≡ r) × (length ns ≡ n)
+      go : (x : Bool) → eqb (length (map stored ms)) n ≡ x → if_then_else_ {A = Option (List ℕ × List ℕ)} x (some (map stored ms, r′)) none ≡ some (ns, r) → (r′ ≡ r) × (length ns ≡ n)
       go true q e =
-          let p : _≡_ {A = List ℕ × List ℕ} (ms, r′) (ns, r) = cc in
-          (ap (λ (q : List ℕ × List ℕ). q .1) p, sym (ap (λ (q : List ℕ × List ℕ). length (q .0)) p) ∙ eqb-true (length ms) n q)
+          let p : _≡_ {A = List ℕ × List ℕ} (map stored ms, r′) (ns, r) = cc in
+          (ap (λ (q : List ℕ × List ℕ). q .1) p, sym (ap (λ (q : List ℕ × List ℕ). length (q .0)) p) ∙ eqb-true (length (map stored ms)) n q)
       go false q e = let z : _≡_ {A = ℕ} 0 1 = cc in absurd (omega arith)
 
   counted-behind : (t : List ℕ) (o : Option (List Field × List ℕ)) → BehindLine t o → counted n (numbersIn o) ≡ some (ns, r) → Behind t r

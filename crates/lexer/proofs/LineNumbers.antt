@@ -11,7 +11,7 @@ use Rattle.spec.specs.Text.{Field, numeral}
 use Rattle.spec.specs.Reading.{numerals, withNumeral}
 use Rattle.lexer.specs.Views.{endOf, firstField, behind, withField, lineAt}
 use Rattle.lexer.specs.Cursors.{Placed, rest}
-use Rattle.lexer.specs.Numbers.{numberAt, withRest, numbersIn, counted, numbersAt, behindLine, numbersOf, NumbersRead}
+use Rattle.lexer.specs.Numbers.{numberAt, stored, withRest, numbersIn, counted, numbersAt, behindLine, numbersOf, NumbersRead}
 use Rattle.lexer.specs.declared.Cursor.{Cursor}
 use Rattle.lexer.specs.declared.FieldEnd.{FieldEnd}
 use Rattle.lexer.specs.declared.FieldEnd.the-variants.{Comma, Newline, Text}
@@ -37,7 +37,7 @@ unfolding ahead
 ahead-ahead xs ys none = refl
 ahead-ahead xs ys (some found) = rw append-assoc
 
-with-rest : (n : ℕ) (o : Option (List ℕ)) (r : List ℕ) → withRest (withNumeral (some n) o) r ≡ ahead (n ∷ []) (withRest o r)
+with-rest : (n : ℕ) (o : Option (List ℕ)) (r : List ℕ) → withRest (withNumeral (some n) o) r ≡ ahead (stored n ∷ []) (withRest o r)
 unfolding withRest withNumeral ahead
 with-rest n none r = refl
 with-rest n (some ns) r = refl
@@ -46,7 +46,7 @@ no-rest : (o : Option (List ℕ)) (r : List ℕ) → withRest (withNumeral none 
 unfolding withRest withNumeral
 no-rest o r = refl
 
-with-numeral : (f : Field) (n : ℕ) (o : Option (List Field × List ℕ)) → numeral f ≡ some n → numbersIn (withField f o) ≡ ahead (n ∷ []) (numbersIn o)
+with-numeral : (f : Field) (n : ℕ) (o : Option (List Field × List ℕ)) → numeral f ≡ some n → numbersIn (withField f o) ≡ ahead (stored n ∷ []) (numbersIn o)
 unfolding numbersIn withField numerals ahead
 with-numeral f n none e = refl
 with-numeral f n (some line) e = rw e (with-rest n (numerals (line .0)) (line .1))
@@ -60,7 +60,7 @@ no-last : (f : Field) (r : List ℕ) → numeral f ≡ none → numbersIn (some 
 unfolding numbersIn numerals
 no-last f r e = rw e (no-rest (numerals []) r)
 
-with-last : (f : Field) (n : ℕ) (r : List ℕ) → numeral f ≡ some n → numbersIn (some (f ∷ [], r)) ≡ some (n ∷ [], r)
+with-last : (f : Field) (n : ℕ) (r : List ℕ) → numeral f ≡ some n → numbersIn (some (f ∷ [], r)) ≡ some (stored n ∷ [], r)
 unfolding numbersIn numerals withRest withNumeral
 with-last f n r e = rw e
 
@@ -139,15 +139,15 @@ module _ (text : List ℕ) (top c : Cursor) (xs : List ℕ) (so-far : numbersIn 
     unfolding ahead numbersIn
     stop-text k p = none-counted text top k (so-far ∙ ap (λ (o : Option (List Field × List ℕ)). ahead xs (numbersIn o)) (number-text text c n e d h p))
 
-    pub after-comma : Placed text c → e ≡ Comma → numbersIn (lineAt (rest text top)) ≡ ahead (xs ++ (n ∷ [])) (numbersIn (lineAt (rest text d)))
+    pub after-comma : Placed text c → e ≡ Comma → numbersIn (lineAt (rest text top)) ≡ ahead (xs ++ (stored n ∷ [])) (numbersIn (lineAt (rest text d)))
     after-comma q p =
         let line = number-comma text c n e d h q p in
         let first = number-numeral text c n e d h in
         so-far
         ∙ ap (ahead xs) (ap numbersIn line ∙ with-numeral (firstField (rest text c)) n (lineAt (rest text d)) first)
-        ∙ ahead-ahead xs (n ∷ []) (numbersIn (lineAt (rest text d)))
+        ∙ ahead-ahead xs (stored n ∷ []) (numbersIn (lineAt (rest text d)))
 
-    pub after-newline : Placed text c → e ≡ Newline → numbersIn (lineAt (rest text top)) ≡ some (xs ++ (n ∷ []), rest text d)
+    pub after-newline : Placed text c → e ≡ Newline → numbersIn (lineAt (rest text top)) ≡ some (xs ++ (stored n ∷ []), rest text d)
     unfolding ahead
     after-newline q p =
         let line = number-newline text c n e d h q p in

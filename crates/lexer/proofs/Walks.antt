@@ -3,10 +3,10 @@ use mathlib.Core.Path.{_≡_, refl, sym, ap, subst, _∙_}
 use mathlib.Core.List.{List, [], _∷_}
 use mathlib.Core.Bool.{true, false}
 use mathlib.Core.Option.{Option, none, some}
-use Prim.Native.Nat.{ℕ, _+_, _-_, _^_, _<_}
+use Prim.Native.Nat.{ℕ, _+_, _-_, _<_}
 use native.Mathlib.Omega.{arith}
 use lib.ListN.{length, take, drop}
-use Rattle.spec.specs.Text.{lines, Field, digitLimit, numeral}
+use Rattle.spec.specs.Text.{lines, Field, numeral}
 use Rattle.spec.specs.Reading.{SheetName, stop, Seen, badForm, form, passed, nextLine}
 use Rattle.lexer.specs.Views.{endOf, firstField, behind, nothing, withField, lineAt}
 use Rattle.lexer.specs.Cursors.{Placed, start, rest, next, spanTo, spanAt}
@@ -21,7 +21,6 @@ use Rattle.lexer.proofs.Fields.{line-comma, line-newline, line-text}
 use Rattle.lexer.proofs.Lines.{next-open, next-closed}
 use Rattle.lexer.specs.Numbers.{numberAt}
 use Rattle.lexer.specs.declared.Number.the-variants as number-is
-use Rattle.lexer.proofs.Digits.{numeral-small}
 use Rattle.lexer.proofs.Numerals.{value-at-cursor}
 use Rattle.lexer.proofs.Places.{span-field, next-rest, next-placed, line-kept, line-passed}
 
@@ -76,9 +75,6 @@ module _ (text : List ℕ) (c : Cursor) (s : Span) (is : s ≡ spanAt text c) wh
 module _ (text : List ℕ) (c : Cursor) (n : ℕ) (e : FieldEnd) (d : Cursor) (is : numberAt text c ≡ number-is.Value n e d) where
   pub number-numeral : numeral (firstField (rest text c)) ≡ some n
   number-numeral = value-at-cursor text c n e d is .0
-
-  pub number-small : n < 10 ^ digitLimit
-  number-small = numeral-small (firstField (rest text c)) n number-numeral
 
   pub number-end : endOf (rest text c) ≡ e
   number-end = value-at-cursor text c n e d is .1

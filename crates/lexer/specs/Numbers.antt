@@ -1,5 +1,5 @@
 -- Numerals at a cursor, as the shapes that the code hands back.
-use mathlib.Core.List.{List, [], _∷_}
+use mathlib.Core.List.{List, [], _∷_, map}
 use mathlib.Core.Bool.{Bool, false, _&&_}
 use mathlib.Core.Option.{Option, none, some}
 use mathlib.Core.Path.{_≡_}
@@ -61,12 +61,22 @@ pub record DigitsTaken (text : List ℕ) (c : Cursor) (d : Taken) : Type 0 where
   pub comes-to : valueOf 0 (firstField (rest text c)) ≡ valueOf (d .value) (firstField (drop (d .to) text))
   pub no-more : d .to < c .at + digitLimit → digitFirst (drop (d .to) text) ≡ false
 
+-- ------------------------------------------------------------------ stored numbers
+
+-- a number as it is stored, in 32 bits: itself, or the largest that they hold
+unfoldable pub stored : ℕ → ℕ
+stored n = if leb n 4294967295 then n else 4294967295
+
+-- the field is a numeral, and its number is stored as n
+abbrev pub Spells : Field → ℕ → Type 0
+Spells f n = (m : ℕ) × (numeral f ≡ some m) × (n ≡ stored m)
+
 -- ------------------------------------------------------------------ the numerals of a line
 
--- the numbers of a line that has numerals alone, and what is left behind it
+-- the numbers of a line that has numerals alone, as they are stored, and what is left behind it
 unfoldable pub withRest : Option (List ℕ) → List ℕ → Option (List ℕ × List ℕ)
 withRest none r = none
-withRest (some ns) r = some (ns, r)
+withRest (some ns) r = some (map stored ns, r)
 
 unfoldable pub numbersIn : Option (List Field × List ℕ) → Option (List ℕ × List ℕ)
 numbersIn none = none

@@ -10,10 +10,13 @@ ghost use mathlib.Core.Path.{_≡_};
 ghost use Rattle.spec.specs.Text.{leadingZero, numeral};
 ghost use Rattle.lexer.specs.Views.{nothing};
 ghost use Rattle.lexer.specs.Cursors.{Placed, start as startOf, rest, spanAt};
-ghost use Rattle.lexer.specs.Numbers.{numeralOf, Lower, zeroLeads, DigitsTaken, numberAt, NumbersRead};
+ghost use Rattle.lexer.specs.Numbers.{numeralOf, Lower, zeroLeads, DigitsTaken, numberAt, stored, NumbersRead};
 
 // "A numeral has 1 to 7 digits"
 const DIGIT_LIMIT: usize = 7;
+
+// The largest number that 32 bits hold.
+const LARGEST_STORED: u64 = 4294967295;
 
 // The reading place: the byte to read next, and the number of the last line read, 0 before the first.
 pub struct Cursor {
@@ -98,6 +101,17 @@ pub fn numeral_of(field: &[u8]) -> Numeral
         i += 1;
     }
     Numeral::Value(value)
+}
+
+// A number as it is stored, in 32 bits: one that they do not hold is stored as the largest that they hold, which is in no
+// range.
+pub fn narrow(n: u64) -> u32
+    ensures { λ r. ⌜ r ≡ stored n ⌝ }
+{
+    if LARGEST_STORED < n {
+        return LARGEST_STORED as u32;
+    }
+    n as u32
 }
 
 // The lower of two numbers.
@@ -239,7 +253,7 @@ impl Cursor {
         Number::Malformed
     }
 
-    // The numerals that end the line at the cursor, as many as the slice is long, into that slice.
+    // The numerals that end the line at the cursor, as many as the slice is long, stored in that slice.
     pub fn numbers(self, text: &[u8], into: &mut [u32]) -> Numbers
         requires { ⌜ Placed (now text) self ⌝ }
         ensures { λ r. ⌜ NumbersRead (now (text .entry)) self (now (into .entry)) (now (into .exit)) r ⌝ }
@@ -252,7 +266,7 @@ impl Cursor {
             let Number::Value(n, end, next) = found else {
                 return Numbers::Malformed;
             };
-            into[i] = n as u32;
+            into[i] = narrow(n);
             i += 1;
             match end {
                 FieldEnd::Comma => {

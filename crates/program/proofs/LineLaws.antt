@@ -31,6 +31,7 @@ use Rattle.lexer.proofs.Sheets.{begin-at-none, begin-at-some, next-at, next-at-
 use Rattle.lexer.proofs.LineEnds.{LineRead, numbers-none, numbers-read}
 use Rattle.lexer.proofs.Places.{span-field}
 use Rattle.lexer.proofs.Walks.{start-placed, start-rest, span-end, span-line-kept, span-comma, left-none, left-some, first-wrong, first-alone}
+use Rattle.lexer.proofs.Stored.{Narrow}
 use Rattle.lexer.proofs.Ranges.{tail-form, tail-read}
 use Rattle.program.specs.Lines.{TailShown, countAt, CountShown, limitOf, stepAt, StepShown}
 use Rattle.program.specs.declared.lines.Tail.the-variants.{Value, Malformed}
@@ -93,12 +94,12 @@ module _
         go Newline q = no-tail (λ e. let z : _≡_ {A = ℕ} 0 1 = cc in omega arith)
         go Text q = no-tail (λ e. let z : _≡_ {A = ℕ} 0 1 = cc in omega arith)
 
-    module _ (v : ℕ) (d : Cursor) (h : TailShown text (s .next) (s .end) (Value v d)) where
+    module _ (narrow : Narrow range) (v : ℕ) (d : Cursor) (h : TailShown text (s .next) (s .end) (Value v d)) where
       tail-shows : nextLine programSheet read (c .line) (lines (rest text c))
           ≡ passed programSheet (c .line + 1) (lines (rest text d)) (g (if inRange range v then right (v ∷ []) else badRange))
       unfolding allInRange
       tail-shows =
-          tail-read programSheet read (c .line) (range ∷ []) g text c (firstField (rest text c)) (s .next) (span-comma text c s is p (h .0)) shows (v ∷ []) (rest text d) (h .1)
+          tail-read programSheet read (c .line) (range ∷ []) g text c (firstField (rest text c)) (s .next) (span-comma text c s is p (h .0)) shows (narrow, tt) (v ∷ []) (rest text d) (h .1)
           ∙ ap (λ b. passed programSheet (c .line + 1) (lines (rest text d)) (g (if b then right (v ∷ []) else badRange))) (and-true (inRange range v))
 
 -- the number of a line can be counted
@@ -120,6 +121,18 @@ range-of (Binary Let) = refl
 range-of (Binary If) = refl
 range-of (Binary Spawn) = refl
 range-of (Binary Write) = refl
+
+value-narrow : (w : Word) → Narrow (valueRange w)
+unfolding valueRange
+value-narrow (Leaf Var) = omega arith
+value-narrow (Leaf Int) = omega arith
+value-narrow (Leaf Newtid) = omega arith
+value-narrow (Leaf Newlock) = omega arith
+value-narrow (Unary w) = omega arith
+value-narrow (Binary Let) = omega arith
+value-narrow (Binary If) = omega arith
+value-narrow (Binary Spawn) = omega arith
+value-narrow (Binary Write) = omega arith
 
 within-limit : (w : Word) (v : ℕ) → v ≤ limitOf w → inRange (valueRange w) v ≡ true
 within-limit w v h = rw (range-of w) (up-to-in (limitOf w) v h)
@@ -152,7 +165,7 @@ module _ (text : List ℕ) (c : Cursor) where
         step-reads : stepAt text c
             ≡ passed programSheet (c .line + 1) (lines (rest text d)) (seen (stepOf w) (if inRange (valueRange w) v then right (v ∷ []) else badRange))
         unfolding stepAt next placeAt seen
-        step-reads = tail-shows stepLine (seen (stepOf w)) refl (valueRange w) text c s is p (left-some (rest text c) e) step-shows v d h
+        step-reads = tail-shows stepLine (seen (stepOf w)) refl (valueRange w) text c s is p (left-some (rest text c) e) step-shows (value-narrow w) v d h
 
         pub step-over : limitOf w < v → StepShown text c (step.Refused (ProgramRange (c .line + 1)))
         unfolding passed seen outside
@@ -219,7 +232,7 @@ module _ (text : List ℕ) (c : Cursor) (top : c ≡ start) where
             ≡ passed programSheet (c .line + 1) (lines (rest text d)) (seen firstNumber (if inRange (1 to 256) n then right (n ∷ []) else badRange))
         unfolding seen
         count-reads =
-            counts ∙ tail-shows countLine (seen firstNumber) refl (1 to 256) text c s is p (left-some (rest text c) e) count-shows n d h
+            counts ∙ tail-shows countLine (seen firstNumber) refl (1 to 256) text c s is p (left-some (rest text c) e) count-shows (omega arith) n d h
 
         pub count-none : n < 1 → CountShown text (count.Refused (ProgramRange 1))
         unfolding passed seen outside inRange

@@ -2,14 +2,14 @@
 use mathlib.Core.Path.{_≡_, sym, ap, _∙_}
 use mathlib.Core.List.{List, []}
 use mathlib.Core.Option.{none}
-use Prim.Native.Nat.{ℕ, _-_, _<_, _^_}
+use Prim.Native.Nat.{ℕ, _-_}
 use native.Mathlib.Omega.{arith}
 use lib.ListN.{length, take, drop, length-drop}
 use lib.Seq.{length-take-le}
-use Rattle.spec.specs.Text.{numeral, digitLimit}
+use Rattle.spec.specs.Text.{numeral}
 use Rattle.lexer.specs.Views.{endOf, firstField}
 use Rattle.lexer.specs.Cursors.{Placed, rest, next, spanAt}
-use Rattle.lexer.specs.Numbers.{numeralOf, numberAt}
+use Rattle.lexer.specs.Numbers.{numeralOf, numberAt, stored}
 use Rattle.lexer.specs.declared.Cursor.{Cursor}
 use Rattle.lexer.specs.declared.Span.{Span}
 use Rattle.lexer.specs.declared.FieldEnd.{FieldEnd}
@@ -34,11 +34,6 @@ comma-text p q r = let z : _≡_ {A = ℕ} 0 1 = cc in omega arith
 pub newline-text : {e f : FieldEnd} → e ≡ Newline → f ≡ Text → e ≡ f → ⊥
 newline-text p q r = let z : _≡_ {A = ℕ} 0 1 = cc in omega arith
 
--- a numeral fits 32 bits
-pub small : {n : ℕ} → n < 10 ^ digitLimit → n < 2 ^ 32
-unfolding digitLimit
-small h = omega arith
-
 module _ (text : List ℕ) (c : Cursor) (s : Span) (is : s ≡ spanAt text c) where
   pub head-field : Placed text c → s .end ≡ Comma → HeadAnswer text c (head.Field (s .from) (s .to) (s .next))
   head-field p e =
@@ -61,10 +56,10 @@ module _ (text : List ℕ) (c : Cursor) (s : Span) (is : s ≡ spanAt text c) wh
       (sym (span-field text c s is) ∙ none-taken (s .to - s .from) (drop (s .from) text) z, sym (span-end text c s is) ∙ e, sym (span-next text c s is))
 
   -- a number
-  pub start-given : s .end ≡ Newline → (n : ℕ) → numeralOf (numeral (take (s .to - s .from) (drop (s .from) text))) ≡ numeral-is.Value n
-      → StartAnswer text c (start.Given n (s .next))
-  start-given e n h =
-      (ap numeral (sym (span-field text c s is)) ∙ numeral-value _ n h, sym (span-end text c s is) ∙ e, sym (span-next text c s is))
+  pub start-given : s .end ≡ Newline → (m n : ℕ) → numeralOf (numeral (take (s .to - s .from) (drop (s .from) text))) ≡ numeral-is.Value m
+      → n ≡ stored m → StartAnswer text c (start.Given n (s .next))
+  start-given e m n h q =
+      ((m, ap numeral (sym (span-field text c s is)) ∙ numeral-value _ m h, q), sym (span-end text c s is) ∙ e, sym (span-next text c s is))
 
   -- something else
   pub start-neither : Placed text c → (s .from ≡ s .to → ⊥) → numeralOf (numeral (take (s .to - s .from) (drop (s .from) text))) ≡ numeral-is.Malformed
@@ -79,8 +74,8 @@ module _ (text : List ℕ) (c : Cursor) (s : Span) (is : s ≡ spanAt text c) wh
           q (omega (arith, l))
 
 module _ (text : List ℕ) (c : Cursor) (n : ℕ) (e : FieldEnd) (d : Cursor) (h : numberAt text c ≡ number-is.Value n e d) where
-  pub leading-value : e ≡ Comma → LeadingAnswer text c (leading.Value n d)
-  leading-value q = let v = value-at-cursor text c n e d h in (v .0, v .1 ∙ q, v .2)
+  pub leading-value : (k : ℕ) → k ≡ stored n → e ≡ Comma → LeadingAnswer text c (leading.Value k d)
+  leading-value k l q = let v = value-at-cursor text c n e d h in ((n, v .0, l), v .1 ∙ q, v .2)
 
   pub leading-other : (Comma ≡ e → ⊥) → endOf (rest text c) ≡ Comma → ⊥
   leading-other q z = q (sym z ∙ value-at-cursor text c n e d h .1)

@@ -119,7 +119,7 @@ module _ (text : List ℕ) (c : Cursor) (some-left : 0 < length (rest text c)) w
         reads =
             next-at splitSheet text headerLine c
             ∙ tail-read splitSheet headerLine (c .line) headerRanges (seen headerOf) text c (firstField (rest text c)) d (comma-line text c d p comma is)
-            (header-shows (firstField (rest text c)) word) ns (rest text e) (h .numbers)
+            (header-shows (firstField (rest text c)) word) (omega arith, (omega arith, (omega arith, (omega arith, tt)))) ns (rest text e) (h .numbers)
 
         pub header-range : allInRange headerRanges ns ≡ false → next splitSheet headerLine (placeAt text c) ≡ stop (SplitRange (c .line + 1))
         unfolding seen

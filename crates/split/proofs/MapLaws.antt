@@ -3,7 +3,7 @@ use mathlib.Core.Path.{_≡_, refl, sym, ap, _∙_}
 use mathlib.Core.List.{List}
 use mathlib.Core.Bool.{Bool, true, false, _&&_}
 use mathlib.Core.Option.{none}
-use Prim.Native.Nat.{ℕ, suc, _+_, _-_, _≤_, _<_}
+use Prim.Native.Nat.{ℕ, zero, suc, _+_, _-_, _≤_, _<_}
 use native.Mathlib.Numerals.{add-one}
 use native.Mathlib.Omega.{arith}
 use lib.ListN.{length, getD, drop, drop-of-length-le, length-replicate}
@@ -16,6 +16,7 @@ use Rattle.spec.specs.declared.Refusal.the-variants.{SplitForm, SplitRange}
 use Rattle.lexer.specs.Cursors.{rest, placeAt}
 use Rattle.lexer.specs.Numbers.{numbersAt}
 use Rattle.lexer.specs.declared.Cursor.{Cursor}
+use Rattle.lexer.proofs.Stored.{AllNarrow}
 use Rattle.lexer.proofs.Ranges.{numerals-form, numerals-read}
 use Rattle.split.specs.Lines.{cells, cellLine}
 use Rattle.lexer.proofs.Sheets.{next-at}
@@ -54,6 +55,11 @@ module _ (m : List ℕ) (i : ℕ) where
 pub cells-all : (m : List ℕ) → allInRange (cells (length m)) m ≡ allInRange (cells (length m - 0)) (drop 0 m)
 cells-all m = ap (λ (n : ℕ). allInRange (cells n) m) (omega arith)
 
+cells-narrow : (n : ℕ) → AllNarrow (cells n)
+unfolding cells
+cells-narrow zero = tt
+cells-narrow (suc n) = (omega arith, cells-narrow n)
+
 -- a test of as many numbers as there are
 pub cells-told : (n : ℕ) (m : List ℕ) {x y : Bool} → length m ≡ n → x ≡ allInRange (cells (length m)) m → x ≡ y → allInRange (cells n) m ≡ y
 cells-told n m e h q = rw (← e) (sym h ∙ q)
@@ -80,7 +86,7 @@ module _ (text : List ℕ) (c : Cursor) (n : ℕ) where
         ≡ Rattle.spec.specs.Reading.passed splitSheet (c .line + 1) (lines (rest text d)) (if allInRange (cells n) ns then right ns else badRange)
     reads =
         next-at splitSheet text (cellLine n) c
-        ∙ numerals-read splitSheet (cellLine n) (c .line) (cells n) (λ s. s) text c shows ns (rest text d) (ap (numbersAt text c) counts ∙ h .numbers)
+        ∙ numerals-read splitSheet (cellLine n) (c .line) (cells n) (λ s. s) text c shows (cells-narrow n) ns (rest text d) (ap (numbersAt text c) counts ∙ h .numbers)
 
     pub map-range : allInRange (cells n) ns ≡ false → next splitSheet (cellLine n) (placeAt text c) ≡ stop (SplitRange (c .line + 1))
     map-range e = reads ∙ shows-range (c .line + 1) (lines (rest text d)) (rw e)

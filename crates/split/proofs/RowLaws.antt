@@ -1,10 +1,10 @@
 -- Rows, by their two numerals and their last field.
 use mathlib.Core.Path.{_≡_, refl, sym, ap, subst, _∙_}
 use mathlib.Core.Logic.{⊎-elim}
-use mathlib.Core.List.{List, [], _∷_}
+use mathlib.Core.List.{List, [], _∷_, map}
 use mathlib.Core.Bool.{Bool, true, false}
 use mathlib.Core.Option.{Option, none, some}
-use Prim.Native.Nat.{ℕ, suc, _+_, _<_}
+use Prim.Native.Nat.{ℕ, suc, _+_, _≤_, _<_}
 use native.Mathlib.Omega.{arith}
 use lib.ListN.{length, take, drop}
 use borrow.Author.Tests.{ne-eqb}
@@ -18,9 +18,11 @@ use Rattle.spec.specs.declared.Word.the-variants.{Leaf, Unary, Binary}
 use Rattle.spec.specs.declared.BinaryWord.the-variants.{Let, If, Spawn, Write}
 use Rattle.lexer.specs.Views.{endOf, firstField, lineAt}
 use Rattle.lexer.specs.Cursors.{Placed, rest, next as nextCursor, placeAt}
+use Rattle.lexer.specs.Numbers.{stored, Spells}
 use Rattle.lexer.specs.declared.Cursor.{Cursor}
 use Rattle.lexer.specs.declared.FieldEnd.the-variants.{Newline}
 use Rattle.lexer.proofs.Fields.{line-newline}
+use Rattle.lexer.proofs.Stored.{stored-judged}
 use Rattle.lexer.proofs.Places.{next-rest, next-placed, line-passed}
 use Rattle.split.specs.declared.row_lines.Row.{Row as RowNumbers}
 use Rattle.split.specs.declared.row_lines.RowRead.{RowRead}
@@ -170,22 +172,40 @@ start-below (Binary If) H = refl
 start-below (Binary Spawn) H = refl
 start-below (Binary Write) H = refl
 
-module _ (H : Header) (w : Word) (f g : Field) (a b : ℕ) (first : numeral f ≡ some a) (second : numeral g ≡ some b) where
-  -- "an empty s means map 0"
-  row-empty : wordLine H w (f ∷ g ∷ [] ∷ []) ≡ rowShown H 1 a b 0
-  unfolding wordLine rowLine blank numbers numerals withNumeral ranged
-  row-empty = rw (first, second) (seen-row (allInRange (two H) (a ∷ b ∷ [])) (a ∷ b ∷ []) ∙ empty-range H a b)
+start-few : (w : Word) (n : ℕ) → startLimit w n ≤ n
+start-few (Leaf w) n = omega arith
+start-few (Unary w) n = omega arith
+start-few (Binary Let) n = omega arith
+start-few (Binary If) n = omega arith
+start-few (Binary Spawn) n = omega arith
+start-few (Binary Write) n = omega arith
 
-  filled : (s : Field) (n : ℕ) → numeral s ≡ some n → s ≡ [] → ⊥
-  unfolding numeral digitLimit
-  filled [] n e q = let z : _≡_ {A = ℕ} 0 1 = cc in omega arith
-  filled (x ∷ s) n e q = let z : _≡_ {A = ℕ} 0 1 = cc in omega arith
+module _
+    (H : Header) (few : (H .types ≤ 64) × (H .maps ≤ 512)) (w : Word) (f g : Field) (a b : ℕ) (first : Spells f a) (second : Spells g b)
+  where
+    -- "an empty s means map 0"
+    row-empty : wordLine H w (f ∷ g ∷ [] ∷ []) ≡ rowShown H 1 a b 0
+    unfolding wordLine rowLine blank numbers numerals withNumeral ranged
+    row-empty =
+        rw (first .2, second .2, first .1, second .1)
+        (ap (seen rowOf) (stored-judged (two H) (omega arith, (omega arith, tt)) (first .0 ∷ second .0 ∷ []) refl)
+        ∙ seen-row (allInRange (two H) (stored (first .0) ∷ stored (second .0) ∷ [])) (stored (first .0) ∷ stored (second .0) ∷ [])
+        ∙ empty-range H (stored (first .0)) (stored (second .0)))
 
-  row-given : (s : Field) (n : ℕ) → numeral s ≡ some n → wordLine H w (f ∷ g ∷ s ∷ []) ≡ rowShown H (startLimit w (H .maps)) a b n
-  unfolding wordLine rowLine numbers numerals withNumeral ranged
-  row-given s n e =
-      rw (not-blank H w f g s (filled s n e) [], first, second, e, start-below w H)
-      (seen-row (allInRange (below (H .types) ∷ below (H .maps) ∷ below (startLimit w (H .maps)) ∷ []) (a ∷ b ∷ n ∷ [])) (a ∷ b ∷ n ∷ []))
+    filled : (s : Field) (n : ℕ) → numeral s ≡ some n → s ≡ [] → ⊥
+    unfolding numeral digitLimit
+    filled [] n e q = let z : _≡_ {A = ℕ} 0 1 = cc in omega arith
+    filled (x ∷ s) n e q = let z : _≡_ {A = ℕ} 0 1 = cc in omega arith
+
+    row-given : (s : Field) (n : ℕ) → Spells s n → wordLine H w (f ∷ g ∷ s ∷ []) ≡ rowShown H (startLimit w (H .maps)) a b n
+    unfolding wordLine rowLine numbers numerals withNumeral ranged
+    row-given s n third =
+        let rs = below (H .types) ∷ below (H .maps) ∷ below (startLimit w (H .maps)) ∷ [] in
+        let ns = first .0 ∷ second .0 ∷ third .0 ∷ [] in
+        let maps = start-few w (H .maps) in
+        rw (first .2, second .2, third .2, not-blank H w f g s (filled s (third .0) (third .1)) [], first .1, second .1, third .1, start-below w H)
+        (ap (seen rowOf) (stored-judged rs (omega arith, (omega arith, (omega arith, tt))) ns refl)
+        ∙ seen-row (allInRange rs (map stored ns)) (map stored ns))
 
 -- ------------------------------------------------------------------ the answers of the readers of the fields, as what the line shows
 
@@ -291,17 +311,17 @@ module _ (H : Header) (w : Word) (text : List ℕ) (c : Cursor) (p : Placed text
         unfolding rowRanged
         row-judged starts s row e ea eb es answer q = subst (RowAnswer text out) (sym q) (judged starts s row e ea eb es (fits (c .line + 1) row starts H d) refl)
 
-      pub row-without : (d : Cursor) → StartAnswer text c₃ (start.Empty d) → (row : RowNumbers) → row .typed .0 ≡ a → row .post .0 ≡ b → row .start .0 ≡ 0
+      pub row-without : (H .types ≤ 64) × (H .maps ≤ 512) → (d : Cursor) → StartAnswer text c₃ (start.Empty d) → (row : RowNumbers) → row .typed .0 ≡ a → row .post .0 ≡ b → row .start .0 ≡ 0
           → (answer : RowRead) → answer ≡ rowRanged (c .line + 1) row 1 H d → RowAnswer text out answer
-      row-without d h row ea eb es answer q =
+      row-without few d h row ea eb es answer q =
           let f = firstField (rest text c) in
           let g = firstField (rest text c₂) in
-          row-judged d (h .1) (h .2) 1 0 row (ap (λ (s : Field). wordLine H w (f ∷ g ∷ s ∷ [])) (h .0) ∙ row-empty H w f g a b (lead .0) (lead₂ .0)) ea eb es answer q
+          row-judged d (h .1) (h .2) 1 0 row (ap (λ (s : Field). wordLine H w (f ∷ g ∷ s ∷ [])) (h .0) ∙ row-empty H few w f g a b (lead .0) (lead₂ .0)) ea eb es answer q
 
-      pub row-with-start : (n : ℕ) (d : Cursor) → StartAnswer text c₃ (start.Given n d) → (row : RowNumbers) → row .typed .0 ≡ a → row .post .0 ≡ b → row .start .0 ≡ n
+      pub row-with-start : (H .types ≤ 64) × (H .maps ≤ 512) → (n : ℕ) (d : Cursor) → StartAnswer text c₃ (start.Given n d) → (row : RowNumbers) → row .typed .0 ≡ a → row .post .0 ≡ b → row .start .0 ≡ n
           → (starts : ℕ) → starts ≡ startLimit w (H .maps) → (answer : RowRead) → answer ≡ rowRanged (c .line + 1) row starts H d → RowAnswer text out answer
-      row-with-start n d h row ea eb es starts l answer q =
+      row-with-start few n d h row ea eb es starts l answer q =
           row-judged d (h .1) (h .2) starts n row
-          (row-given H w (firstField (rest text c)) (firstField (rest text c₂)) a b (lead .0) (lead₂ .0) (firstField (rest text c₃)) n (h .0)
+          (row-given H few w (firstField (rest text c)) (firstField (rest text c₂)) a b (lead .0) (lead₂ .0) (firstField (rest text c₃)) n (h .0)
           ∙ ap (λ (k : ℕ). rowShown H k a b n) (sym l))
           ea eb es answer q

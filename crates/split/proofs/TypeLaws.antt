@@ -3,7 +3,7 @@ use mathlib.Core.Path.{_≡_, refl, sym, ap, _∙_}
 use mathlib.Core.List.{List, [], _∷_}
 use mathlib.Core.Bool.{Bool, true, false}
 use mathlib.Core.Option.{none, some}
-use Prim.Native.Nat.{ℕ, _+_, _<_}
+use Prim.Native.Nat.{ℕ, _+_, _≤_, _<_}
 use native.Mathlib.Omega.{arith}
 use lib.ListN.{length, getD}
 use Rattle.spec.specs.Choice.{if_then_else_}
@@ -22,6 +22,7 @@ use Rattle.lexer.specs.declared.FieldEnd.the-variants.{Comma}
 use Rattle.lexer.specs.declared.vocabulary.TypeWord.{TypeWord}
 use Rattle.lexer.specs.declared.vocabulary.TypeWord.the-variants as kind
 use Rattle.lexer.proofs.Walks.{first-wrong, first-alone}
+use Rattle.lexer.proofs.Stored.{AllNarrow}
 use Rattle.lexer.proofs.Ranges.{tail-form, tail-read}
 use Rattle.split.specs.declared.type_lines.TypeSeen.{TypeSeen}
 use Rattle.split.specs.declared.type_lines.TypeSeen.the-variants as type-seen
@@ -76,10 +77,10 @@ module _ (H : Header) (own : ℕ) (text : List ℕ) (c : Cursor) (some-left : 0 
       known-form e =
           tail-form splitSheet (typeLine H own) (c .line) rs (seen g) text c (firstField (rest text c)) d (comma-line text c d p comma is) shows refl some-left e
 
-      known-read : (ns r : List ℕ) → numbersAt text d (length rs) ≡ some (ns, r)
+      known-read : AllNarrow rs → (ns r : List ℕ) → numbersAt text d (length rs) ≡ some (ns, r)
           → nextLine splitSheet (typeLine H own) (c .line) (lines (rest text c)) ≡ passed splitSheet (c .line + 1) (lines r) (rangedType rs g ns)
-      known-read ns r e =
-          tail-read splitSheet (typeLine H own) (c .line) rs (seen g) text c (firstField (rest text c)) d (comma-line text c d p comma is) shows ns r e
+      known-read narrow ns r e =
+          tail-read splitSheet (typeLine H own) (c .line) rs (seen g) text c (firstField (rest text c)) d (comma-line text c d p comma is) shows narrow ns r e
           ∙ ap (passed splitSheet (c .line + 1) (lines r)) (seen-ranged rs g ns)
 
     unknown : typeWordOf (firstField (rest text c)) ≡ kind.Unknown → nextLine splitSheet (typeLine H own) (c .line) (lines (rest text c)) ≡ stop (SplitForm (c .line + 1))
@@ -95,25 +96,25 @@ module _ (H : Header) (own : ℕ) (text : List ℕ) (c : Cursor) (some-left : 0 
     kind-form kind.Tid e n = known-form (below (H .maps) ∷ (0 to 0) ∷ []) tidOf (as-kind kind.Tid e) n
     kind-form kind.Unknown e n = unknown e
 
-    kind-read : (k : TypeWord) → typeWordOf (firstField (rest text c)) ≡ k → (ns r : List ℕ) → numbersAt text d 2 ≡ some (ns, r)
+    kind-read : (H .locations ≤ 16) × (H .maps ≤ 512) × (own < 64) → (k : TypeWord) → typeWordOf (firstField (rest text c)) ≡ k → (ns r : List ℕ) → numbersAt text d 2 ≡ some (ns, r)
         → nextLine splitSheet (typeLine H own) (c .line) (lines (rest text c)) ≡ passed splitSheet (c .line + 1) (lines r) (typeSeen k H own ns)
     unfolding ofKind typeSeen passed form
-    kind-read kind.Int e ns r n = known-read ((0 to 0) ∷ (0 to 0) ∷ []) (λ ns. type-line.Int) (as-kind kind.Int e) ns r n
-    kind-read kind.Ref e ns r n = known-read (below (H .locations) ∷ below own ∷ []) refOf (as-kind kind.Ref e) ns r n
-    kind-read kind.Lock e ns r n = known-read (below (H .maps) ∷ (0 to 0) ∷ []) lockOf (as-kind kind.Lock e) ns r n
-    kind-read kind.Tid e ns r n = known-read (below (H .maps) ∷ (0 to 0) ∷ []) tidOf (as-kind kind.Tid e) ns r n
-    kind-read kind.Unknown e ns r n = unknown e
+    kind-read few kind.Int e ns r n = known-read ((0 to 0) ∷ (0 to 0) ∷ []) (λ ns. type-line.Int) (as-kind kind.Int e) (omega arith, (omega arith, tt)) ns r n
+    kind-read few kind.Ref e ns r n = known-read (below (H .locations) ∷ below own ∷ []) refOf (as-kind kind.Ref e) (omega arith, (omega arith, tt)) ns r n
+    kind-read few kind.Lock e ns r n = known-read (below (H .maps) ∷ (0 to 0) ∷ []) lockOf (as-kind kind.Lock e) (omega arith, (omega arith, tt)) ns r n
+    kind-read few kind.Tid e ns r n = known-read (below (H .maps) ∷ (0 to 0) ∷ []) tidOf (as-kind kind.Tid e) (omega arith, (omega arith, tt)) ns r n
+    kind-read few kind.Unknown e ns r n = unknown e
 
     pub type-form : numbersAt text d 2 ≡ none → next splitSheet (typeLine H own) (placeAt text c) ≡ stop (SplitForm (c .line + 1))
     type-form n = next-at splitSheet text (typeLine H own) c ∙ kind-form (typeWordOf (firstField (rest text c))) refl n
 
     -- the word and the numbers are read: what they come to
-    module _ (k : TypeWord) (word : k ≡ typeWordOf (firstField (rest text c))) (ns : List ℕ) (e : Cursor) (h : LineRead text d 2 ns e)
+    module _ (few : (H .locations ≤ 16) × (H .maps ≤ 512) × (own < 64)) (k : TypeWord) (word : k ≡ typeWordOf (firstField (rest text c))) (ns : List ℕ) (e : Cursor) (h : LineRead text d 2 ns e)
         (s : TypeSeen) (told : s ≡ typeSeenOf (typeSeen k H own (getD ns 0 0 ∷ getD ns 1 0 ∷ []))) where
       reads : next splitSheet (typeLine H own) (placeAt text c)
           ≡ passed splitSheet (c .line + 1) (lines (rest text e)) (typeSeen k H own (getD ns 0 0 ∷ getD ns 1 0 ∷ []))
       reads =
-          next-at splitSheet text (typeLine H own) c ∙ kind-read k (sym word) ns (rest text e) (h .numbers)
+          next-at splitSheet text (typeLine H own) c ∙ kind-read few k (sym word) ns (rest text e) (h .numbers)
           ∙ ap (λ (l : List ℕ). passed splitSheet (c .line + 1) (lines (rest text e)) (typeSeen k H own l)) (two ns (h .long))
 
       right-of : (x : Seen TypeLine) (t : TypeLine) → typeSeenOf x ≡ type-seen.Right t → x ≡ right t

@@ -2,7 +2,7 @@
 use mathlib.Core.Path.{_≡_}
 use mathlib.Core.Logic.{_⊎_}
 use mathlib.Core.List.{List, []}
-use mathlib.Core.Option.{none, some}
+use mathlib.Core.Option.{none}
 use Prim.Native.Nat.{ℕ, _≤_, _-_}
 use lib.ListN.{length, take, drop}
 use Rattle.spec.specs.Text.{numeral}
@@ -11,6 +11,7 @@ use Rattle.spec.specs.Split.{Map, Header, Row}
 use Rattle.spec.specs.declared.TypeLine.{TypeLine}
 use Rattle.lexer.specs.Views.{endOf, firstField}
 use Rattle.lexer.specs.Cursors.{Placed, rest, next, placeAt}
+use Rattle.lexer.specs.Numbers.{Spells}
 use Rattle.lexer.specs.declared.Cursor.{Cursor}
 use Rattle.lexer.specs.declared.FieldEnd.the-variants.{Comma, Newline}
 use Rattle.split.specs.declared.Header.{Header as HeaderRead}
@@ -52,13 +53,13 @@ HeadAnswer text c head.Alone = endOf (rest text c) ≡ Comma → ⊥
 
 -- a numeral with a comma behind it
 abbrev pub LeadingAnswer : List ℕ → Cursor → Leading → Type 0
-LeadingAnswer text c (leading.Value n d) = (numeral (firstField (rest text c)) ≡ some n) × (endOf (rest text c) ≡ Comma) × (next text c ≡ d)
+LeadingAnswer text c (leading.Value n d) = Spells (firstField (rest text c)) n × (endOf (rest text c) ≡ Comma) × (next text c ≡ d)
 LeadingAnswer text c leading.Malformed = (numeral (firstField (rest text c)) ≡ none) ⊎ (endOf (rest text c) ≡ Comma → ⊥)
 
 -- the last field of a row
 abbrev pub StartAnswer : List ℕ → Cursor → Start → Type 0
 StartAnswer text c (start.Empty d) = (firstField (rest text c) ≡ []) × (endOf (rest text c) ≡ Newline) × (next text c ≡ d)
-StartAnswer text c (start.Given n d) = (numeral (firstField (rest text c)) ≡ some n) × (endOf (rest text c) ≡ Newline) × (next text c ≡ d)
+StartAnswer text c (start.Given n d) = Spells (firstField (rest text c)) n × (endOf (rest text c) ≡ Newline) × (next text c ≡ d)
 StartAnswer text c start.Malformed = ((numeral (firstField (rest text c)) ≡ none) × (firstField (rest text c) ≡ [] → ⊥)) ⊎ (endOf (rest text c) ≡ Newline → ⊥)
 
 -- ------------------------------------------------------------------ lines

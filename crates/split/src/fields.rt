@@ -51,7 +51,7 @@ pub(crate) fn leading_number(text: &[u8], cursor: Cursor) -> Leading
         return Leading::Malformed;
     };
     match end {
-        FieldEnd::Comma => Leading::Value(n as u32, next),
+        FieldEnd::Comma => Leading::Value(lexer::narrow(n), next),
         FieldEnd::Newline => Leading::Malformed,
         FieldEnd::Text => Leading::Malformed,
     }
@@ -75,7 +75,7 @@ pub(crate) fn start_field(text: &[u8], cursor: Cursor) -> Start
             }
             let found = lexer::numeral_of(&text[from..to]);
             match found {
-                Numeral::Value(n) => Start::Given(n as u32, next),
+                Numeral::Value(n) => Start::Given(lexer::narrow(n), next),
                 Numeral::Malformed => Start::Malformed,
             }
         }

@@ -21,7 +21,7 @@ ghost use lib.ListN.{length, set};
 ghost use Rattle.spec.specs.Reading.{splitSheet, next};
 ghost use Rattle.lexer.specs.Cursors.{placeAt};
 ghost use Rattle.split.specs.Lines.{headerTold, wordLine, startLimit, rowRanged};
-ghost use Rattle.split.specs.Answers.{Reading, RowAnswer};
+ghost use Rattle.split.specs.Answers.{Reading, Small, RowAnswer};
 ghost use Rattle.split.specs.Stored.{RowsRead};
 
 // A step's type, its post, and the map that its body starts with.
@@ -86,7 +86,7 @@ fn row_of(line: u32, row: Row, starts: usize, header: Header, next: Cursor) -> R
 
 // The line `t,m,s` at a cursor, of a step with this word. An empty s is map 0, which every sheet has.
 fn row_line(text: &[u8], cursor: Cursor, word: Word, header: Header) -> RowRead
-    requires { ⌜ Reading (now text) cursor ⌝ }
+    requires { ⌜ Reading (now text) cursor × Small header ⌝ }
     ensures { λ r. ⌜ RowAnswer (now (text .entry)) (next splitSheet (wordLine (headerTold header) word) (placeAt (now (text .entry)) cursor)) r ⌝ }
 {
     if cursor.at_end(text) {
@@ -135,7 +135,7 @@ pub(crate) fn read_rows(
     steps: usize,
     work: &mut [u32],
 ) -> LinesRead
-    requires { ⌜ Reading (now text) from × (steps ≤ 256) × (length (now work) ≡ 16384) ⌝ }
+    requires { ⌜ Reading (now text) from × Small header × (steps ≤ 256) × (length (now work) ≡ 16384) ⌝ }
     ensures { λ r. ⌜ RowsRead (now (text .entry)) from header steps (now (work .entry)) (now (work .exit)) r ⌝ }
 {
     let mut cursor = from;

@@ -85,7 +85,7 @@ fn type_of(kind: TypeWord, first: u32, second: u32, own: usize, header: Header) 
 
 // The line of the type with the number `own`, at a cursor.
 fn type_line(text: &[u8], cursor: Cursor, own: usize, header: Header) -> TypeRead
-    requires { ⌜ Reading (now text) cursor ⌝ }
+    requires { ⌜ Reading (now text) cursor × Small header × (own < 64) ⌝ }
     ensures { λ r. ⌜ TypeAnswer (now (text .entry)) (next splitSheet (typeLine (headerTold header) own) (placeAt (now (text .entry)) cursor)) r ⌝ }
 {
     if cursor.at_end(text) {

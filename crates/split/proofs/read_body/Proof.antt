@@ -54,7 +54,7 @@ read-rows-requires c κs =
     let types = read-maps .before .before .before in
     let read-types = types .before .before .before .before in
     let entry = read-types .before .before .before .before in
-    (record { placed = maps-placed (entry .args .header) (entry .pre .1) (entry .args .steps) (entry .pre .2) (entry .args .text .now) (entry .args .from) (entry .args .work .now) (read-types .read-types .last .1 .1 .1 .0) (read-types .read-types .result) (read-types .read-types .ensures) (types .types .given .0 .0) (types .types .given .1) (read-maps .read-maps .last .1 .1 .1 .0) (read-maps .read-maps .result) (read-maps .read-maps .ensures) (maps .maps .given .0 .0) (maps .maps .given .1); fits = entry .pre .0 .fits }, entry .pre .2, read-maps .read-maps .ensures .changed .long ∙ read-types .read-types .ensures .changed .long ∙ entry .pre .3)
+    (record { placed = maps-placed (entry .args .header) (entry .pre .1) (entry .args .steps) (entry .pre .2) (entry .args .text .now) (entry .args .from) (entry .args .work .now) (read-types .read-types .last .1 .1 .1 .0) (read-types .read-types .result) (read-types .read-types .ensures) (types .types .given .0 .0) (types .types .given .1) (read-maps .read-maps .last .1 .1 .1 .0) (read-maps .read-maps .result) (read-maps .read-maps .ensures) (maps .maps .given .0 .0) (maps .maps .given .1); fits = entry .pre .0 .fits }, entry .pre .1, entry .pre .2, read-maps .read-maps .ensures .changed .long ∙ read-types .read-types .ensures .changed .long ∙ entry .pre .3)
 
 enum-known-rows : tie.Need-enum-known-rows
 enum-known-rows c = search needs

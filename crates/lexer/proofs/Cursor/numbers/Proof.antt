@@ -7,11 +7,10 @@ use native.Mathlib.Omega.{arith}
 use lib.ListN.{length, take, set, length-set, length-append}
 use lib.Seq.{take-suc-set, length-take-le}
 use borrow.Author.Needs.{needs}
-use Rattle.spec.specs.Text.{digitLimit}
 use Rattle.lexer.specs.Views.{lineAt}
 use Rattle.lexer.specs.Cursors.{Placed, rest}
-use Rattle.lexer.specs.Numbers.{numbersIn}
-use Rattle.lexer.proofs.Walks.{number-small, number-placed, number-line-kept, number-line-passed}
+use Rattle.lexer.specs.Numbers.{stored, numbersIn}
+use Rattle.lexer.proofs.Walks.{number-placed, number-line-kept, number-line-passed}
 use Rattle.lexer.proofs.LineNumbers.{ahead, ahead-none, few-counted, many-counted, all-counted, stop-malformed, stop-text, after-comma, after-newline, whole, stands, refused, accepted}
 use Rattle.lexer.proofs.Cursor.numbers.Statement.{statement}
 use Rattle.lexer.proofs.Cursor.numbers.Tie as tie
@@ -45,12 +44,8 @@ returns c =
     let h = sym (c .before .before .number .ensures) ∙ c .enum-told .given .1 in
     refused _ _ _ _ (stop-malformed _ _ _ _ (here .loop .inv .4) _ h) (here .loop .inv .1)
 
-cast-into : tie.Need-cast-into Inv-loop μ-loop
-unfolding digitLimit
-cast-into c =
-    let h = sym (c .before .before .before .number .ensures) ∙ c .before .found .given .1 in
-    let small = number-small _ _ _ _ _ h in
-    omega arith
+narrow-requires : tie.Need-narrow-requires Inv-loop μ-loop
+narrow-requires c κs = search needs
 
 mul-into : tie.Need-mul-into Inv-loop μ-loop
 mul-into c = search needs
@@ -69,20 +64,21 @@ loop-less c = search needs
 
 loop-again : tie.Need-loop-again Inv-loop μ-loop
 loop-again c =
-    let k = c .before .before in
+    let narrow = c .before .before .narrow in
+    let k = c .before .before .before in
     let here = k .before .before .before .before .before in
     let h = sym (k .before .before .before .number .ensures) ∙ k .before .found .given .1 in
     let into = here .loop .into in
     let i = here .loop .i in
-    let n = k .before .found .given .0 .0 in
+    let n = narrow .result in
     let l = length-set into i n in
     let comma = c .enum-told2 .given .1 in
-    let stored : take (i + 1) (set into i n) ≡ take i into ++ (n ∷ []) = rw add-one (take-suc-set into i n (omega arith)) in (
+    let so-far : take (i + 1) (set into i n) ≡ take i into ++ (n ∷ []) = rw add-one (take-suc-set into i n (omega arith)) in (
       omega arith,
       omega arith,
       number-placed _ _ _ _ _ h (here .loop .inv .2),
       number-line-kept _ _ _ _ _ h comma ∙ here .loop .inv .3,
-      rw stored (after-comma _ _ _ _ (here .loop .inv .4) _ _ _ h (here .loop .inv .2) comma),
+      rw (so-far, narrow .ensures) (after-comma _ _ _ _ (here .loop .inv .4) _ _ _ h (here .loop .inv .2) comma),
     )
 
 enum-told-3 : tie.Need-enum-told-3 Inv-loop μ-loop
@@ -93,16 +89,17 @@ same-length-2 c = search needs
 
 returns-2 : tie.Need-returns-2 Inv-loop μ-loop
 returns-2 c =
-    let k = c .before .before .before in
+    let narrow = c .before .before .before .narrow in
+    let k = c .before .before .before .before in
     let here = k .before .before .before .before .before in
     let h = sym (k .before .before .before .number .ensures) ∙ k .before .found .given .1 in
     let into = here .loop .into in
     let i = here .loop .i in
-    let n = k .before .found .given .0 .0 in
+    let n = narrow .result in
     let newline = c .before .enum-told3 .given .1 in
     let found = after-newline _ _ _ _ (here .loop .inv .4) _ _ _ h (here .loop .inv .2) newline in
-    let w = whole into i n (omega arith) in
-    let l : length (take i into ++ (n ∷ [])) ≡ length into = sym (ap length w) ∙ length-set into i n in
+    let w = whole into i n (omega arith) ∙ ap (λ (m : ℕ). take i into ++ (m ∷ [])) (narrow .ensures) in
+    let l = sym (ap length w) ∙ length-set into i n in
     accepted _ _ _ _ _ _ _ (all-counted _ _ _ _ _ found (l ∙ here .loop .inv .1)) w
     (stands _ _ _ (number-placed _ _ _ _ _ h (here .loop .inv .2)) (number-line-passed _ _ _ _ _ h newline ∙ ap (λ (x : ℕ). x + 1) (here .loop .inv .3)))
 
@@ -111,16 +108,16 @@ same-length-3 c = search needs
 
 returns-3 : tie.Need-returns-3 Inv-loop μ-loop
 returns-3 c =
-    let k = c .before .before .before in
+    let narrow = c .before .before .before .narrow in
+    let k = c .before .before .before .before in
     let here = k .before .before .before .before .before in
     let h = sym (k .before .before .before .number .ensures) ∙ k .before .found .given .1 in
     let into = here .loop .into in
     let i = here .loop .i in
-    let n = k .before .found .given .0 .0 in
     let found = after-newline _ _ _ _ (here .loop .inv .4) _ _ _ h (here .loop .inv .2) (c .before .enum-told3 .given .1) in
-    let l = length-append (take i into) (n ∷ []) in
+    let l = length-append (take i into) (stored (k .before .found .given .0 .0) ∷ []) in
     let m = length-take-le i into (omega arith) in
-    refused _ _ _ _ (few-counted _ _ _ _ _ found (λ e. c .if1 .left (omega arith))) (length-set into i n ∙ here .loop .inv .1)
+    refused _ _ _ _ (few-counted _ _ _ _ _ found (λ e. c .if1 .left (omega arith))) (length-set into i (narrow .result) ∙ here .loop .inv .1)
 
 enum-told-4 : tie.Need-enum-told-4 Inv-loop μ-loop
 enum-told-4 c = search needs
@@ -130,11 +127,12 @@ same-length-4 c = search needs
 
 returns-4 : tie.Need-returns-4 Inv-loop μ-loop
 returns-4 c =
-    let k = c .before .before in
+    let narrow = c .before .before .narrow in
+    let k = c .before .before .before in
     let here = k .before .before .before .before .before in
     let h = sym (k .before .before .before .number .ensures) ∙ k .before .found .given .1 in
     refused _ _ _ _ (stop-text _ _ _ _ (here .loop .inv .4) _ _ _ h _ (c .enum-told4 .given .1))
-    (length-set (here .loop .into) (here .loop .i) (k .before .found .given .0 .0) ∙ here .loop .inv .1)
+    (length-set (here .loop .into) (here .loop .i) (narrow .result) ∙ here .loop .inv .1)
 
 same-length-5 : tie.Need-same-length-5 Inv-loop μ-loop
 same-length-5 c = search needs
@@ -157,7 +155,7 @@ numbers-spec =
     enum-told
     same-length
     returns
-    cast-into
+    narrow-requires
     mul-into
     slice-write-into
     add-i

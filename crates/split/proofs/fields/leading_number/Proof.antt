@@ -3,8 +3,7 @@ use borrow.Author.Needs.{needs}
 use mathlib.Core.Path.{sym, refl, _∙_}
 use mathlib.Core.Logic.{inl, inr}
 use Rattle.lexer.proofs.Numerals.{none-at-cursor}
-use Rattle.lexer.proofs.Walks.{number-small}
-use Rattle.split.proofs.FieldLaws.{ends-apart, comma-text, small, leading-value, leading-other}
+use Rattle.split.proofs.FieldLaws.{ends-apart, comma-text, leading-value, leading-other}
 use Rattle.split.proofs.fields.leading_number.Statement.{statement}
 use Rattle.split.proofs.fields.leading_number.Tie as tie
 
@@ -25,11 +24,8 @@ returns c =
 enum-told-2 : tie.Need-enum-told-2
 enum-told-2 c = search needs
 
-cast-t8 : tie.Need-cast-t8
-cast-t8 c =
-    let found = c .before .before .before in
-    let number = found .before .before in
-    record { fits = small (number-small _ _ _ _ _ (sym (number .number .ensures) ∙ found .found .given .1)) }
+narrow-requires : tie.Need-narrow-requires
+narrow-requires c κs = search needs
 
 enum-told-3 : tie.Need-enum-told-3
 enum-told-3 c = search needs
@@ -39,9 +35,10 @@ enum-told-4 c = search needs
 
 returns-2 : tie.Need-returns-2
 returns-2 c =
-    let found = c .before .before .before in
+    let comma = c .before in
+    let found = comma .before .before .before in
     let number = found .before .before in
-    leading-value _ _ _ _ _ (sym (number .number .ensures) ∙ found .found .given .1) (c .enum-told2 .given .1)
+    leading-value _ _ _ _ _ (sym (number .number .ensures) ∙ found .found .given .1) _ (c .narrow .ensures) (comma .enum-told2 .given .1)
 
 returns-3 : tie.Need-returns-3
 returns-3 c =
@@ -64,7 +61,7 @@ leading-number-spec =
     enum-told
     returns
     enum-told-2
-    cast-t8
+    narrow-requires
     enum-told-3
     enum-told-4
     returns-2

@@ -2,10 +2,8 @@
 use borrow.Author.Needs.{needs}
 use mathlib.Core.Path.{sym, refl, _∙_}
 use mathlib.Core.Logic.{inl, inr}
-use Rattle.lexer.proofs.Digits.{numeral-small}
-use Rattle.lexer.proofs.Numerals.{numeral-value}
 use Rattle.lexer.proofs.Places.{span-le}
-use Rattle.split.proofs.FieldLaws.{ends-apart, newline-text, small, not-newline, start-empty, start-given, start-neither}
+use Rattle.split.proofs.FieldLaws.{ends-apart, newline-text, not-newline, start-empty, start-given, start-neither}
 use Rattle.split.proofs.fields.start_field.Statement.{statement}
 use Rattle.split.proofs.fields.start_field.Tie as tie
 
@@ -51,11 +49,8 @@ numeral-of-requires c κs = search needs
 enum-known-found : tie.Need-enum-known-found
 enum-known-found c = search needs
 
-cast-t17 : tie.Need-cast-t17
-cast-t17 c =
-    let found = c .before in
-    let numeral-of = found .before .before in
-    record { fits = small (numeral-small _ _ (numeral-value _ _ (sym (numeral-of .numeral-of .ensures) ∙ found .found .given .1))) }
+narrow-requires : tie.Need-narrow-requires
+narrow-requires c κs = search needs
 
 enum-told-3 : tie.Need-enum-told-3
 enum-told-3 c = search needs
@@ -70,11 +65,11 @@ returns-2 c =
 
 returns-3 : tie.Need-returns-3
 returns-3 c =
-    let found = c .before in
+    let found = c .before .before in
     let numeral-of = found .before .before in
     let enum-told2 = numeral-of .before .before .before in
     let field = enum-told2 .before .before .before in
-    start-given _ _ (field .field .result) (field .field .ensures) (enum-told2 .enum-told2 .given .1) _ (sym (numeral-of .numeral-of .ensures) ∙ found .found .given .1)
+    start-given _ _ (field .field .result) (field .field .ensures) (enum-told2 .enum-told2 .given .1) _ _ (sym (numeral-of .numeral-of .ensures) ∙ found .found .given .1) (c .narrow .ensures)
 
 returns-4 : tie.Need-returns-4
 returns-4 c =
@@ -102,7 +97,7 @@ start-field-spec =
     part-numeral-of-end
     numeral-of-requires
     enum-known-found
-    cast-t17
+    narrow-requires
     enum-told-3
     enum-told-4
     returns-2

@@ -42,7 +42,7 @@ row-line-requires : tie.Need-row-line-requires Inv-loop μ-loop
 row-line-requires c κs =
     let turn = c .before .before .before in
     let entry = turn .before .before .before in
-    record { placed = turn .loop .inv .placed; fits = entry .pre .0 .fits }
+    (record { placed = turn .loop .inv .placed; fits = entry .pre .0 .fits }, entry .pre .1)
 
 enum-known-found : tie.Need-enum-known-found Inv-loop μ-loop
 enum-known-found c = search needs
@@ -52,7 +52,7 @@ store-row-requires c κs =
     let inside = c .before .before .before .before .before .before .before in
     let turn = inside .before in
     let entry = turn .before .before .before in
-    (turn .loop .inv .changed .long ∙ entry .pre .2, omega (arith, inside .loop-test .taken, entry .pre .1))
+    (turn .loop .inv .changed .long ∙ entry .pre .3, omega (arith, inside .loop-test .taken, entry .pre .2))
 
 enum-known-found-2 : tie.Need-enum-known-found-2 Inv-loop μ-loop
 enum-known-found-2 c = search needs
@@ -72,7 +72,7 @@ returns c =
     let entry = turn .before .before .before in
     let out = next splitSheet (wordLine (headerTold (entry .args .header)) (word-of .word-of .result)) (placeAt (entry .args .text .now) (turn .loop .cursor)) in
     let answer = subst (RowAnswer (entry .args .text .now) out) (found2 .found2 .given .1) (row-line .row-line .ensures) in
-    let same = row-here (headerTold (entry .args .header)) (entry .args .text .now) (turn .loop .cursor) (entry .args .work .now) (turn .loop .work) (turn .loop .k) _ (word-of .word-of .ensures) (omega (arith, inside .loop-test .taken, entry .pre .1)) (turn .loop .inv .changed) in
+    let same = row-here (headerTold (entry .args .header)) (entry .args .text .now) (turn .loop .cursor) (entry .args .work .now) (turn .loop .work) (turn .loop .k) _ (word-of .word-of .ensures) (omega (arith, inside .loop-test .taken, entry .pre .2)) (turn .loop .inv .changed) in
     turns-stop (λ i. wordLine (headerTold (entry .args .header)) (stepAt (entry .args .work .now) i .word)) HoldsRows 1024 1792 (entry .args .steps) (entry .args .text .now) (entry .args .work .now) (entry .args .from) (turn .loop .work) (turn .loop .cursor) (turn .loop .k) (turn .loop .inv) _ (rows-numbered (headerTold (entry .args .header)) (entry .args .work .now) 0 (entry .args .steps)) (inside .loop-test .taken) _ (same ∙ answer)
 
 add-k : tie.Need-add-k Inv-loop μ-loop
@@ -93,8 +93,8 @@ loop-again c =
     let entry = turn .before .before .before in
     let out = next splitSheet (wordLine (headerTold (entry .args .header)) (word-of .word-of .result)) (placeAt (entry .args .text .now) (turn .loop .cursor)) in
     let answer = subst (RowAnswer (entry .args .text .now) out) (found .found .given .1) (row-line .row-line .ensures) in
-    let same = row-here (headerTold (entry .args .header)) (entry .args .text .now) (turn .loop .cursor) (entry .args .work .now) (turn .loop .work) (turn .loop .k) _ (word-of .word-of .ensures) (omega (arith, inside .loop-test .taken, entry .pre .1)) (turn .loop .inv .changed) in
-    columns-turn (λ (r : Row). r .type .0) (λ (r : Row). r .post .0) (λ (r : Row). r .start .0) 1024 256 (entry .args .steps) (λ i. wordLine (headerTold (entry .args .header)) (stepAt (entry .args .work .now) i .word)) (entry .args .text .now) (entry .args .work .now) (entry .args .from) (entry .pre .1) (omega arith) (turn .loop .work) (turn .loop .cursor) (turn .loop .k) (turn .loop .inv) (inside .loop-test .taken) _ (rowTold _) _ (same ∙ answer .0) (answer .1) (store-row .store-row .ensures)
+    let same = row-here (headerTold (entry .args .header)) (entry .args .text .now) (turn .loop .cursor) (entry .args .work .now) (turn .loop .work) (turn .loop .k) _ (word-of .word-of .ensures) (omega (arith, inside .loop-test .taken, entry .pre .2)) (turn .loop .inv .changed) in
+    columns-turn (λ (r : Row). r .type .0) (λ (r : Row). r .post .0) (λ (r : Row). r .start .0) 1024 256 (entry .args .steps) (λ i. wordLine (headerTold (entry .args .header)) (stepAt (entry .args .work .now) i .word)) (entry .args .text .now) (entry .args .work .now) (entry .args .from) (entry .pre .2) (omega arith) (turn .loop .work) (turn .loop .cursor) (turn .loop .k) (turn .loop .inv) (inside .loop-test .taken) _ (rowTold _) _ (same ∙ answer .0) (answer .1) (store-row .store-row .ensures)
 
 same-length-2 : tie.Need-same-length-2 Inv-loop μ-loop
 same-length-2 c =

@@ -37,7 +37,7 @@ returns-2 c =
     let at-end = else1 .before in
     let entry = at-end .before .before in
     let left = left-some (rest (entry .args .text .now) (entry .args .cursor)) (sym (at-end .at-end .ensures) ∙ else1 .if1 .left) in
-    row-first (headerTold (entry .args .header)) (entry .args .word) (entry .args .text .now) (entry .args .cursor) (entry .pre .placed) left (subst (LeadingAnswer (entry .args .text .now) (entry .args .cursor)) (c .enum-told .given .1) (leading-number .leading-number .ensures))
+    row-first (headerTold (entry .args .header)) (entry .args .word) (entry .args .text .now) (entry .args .cursor) (entry .pre .0 .placed) left (subst (LeadingAnswer (entry .args .text .now) (entry .args .cursor)) (c .enum-told .given .1) (leading-number .leading-number .ensures))
 
 leading-number-requires-2 : tie.Need-leading-number-requires-2
 leading-number-requires-2 c κs =
@@ -48,7 +48,7 @@ leading-number-requires-2 c κs =
     let entry = at-end .before .before in
     let left = left-some (rest (entry .args .text .now) (entry .args .cursor)) (sym (at-end .at-end .ensures) ∙ else1 .if1 .left) in
     let type = subst (LeadingAnswer (entry .args .text .now) (entry .args .cursor)) (typed .typed .given .1) (leading-number .leading-number .ensures) in
-    record { placed = second-placed (headerTold (entry .args .header)) (entry .args .word) (entry .args .text .now) (entry .args .cursor) (entry .pre .placed) left _ (typed .typed .given .0 .1 .0) type; fits = entry .pre .fits }
+    record { placed = second-placed (headerTold (entry .args .header)) (entry .args .word) (entry .args .text .now) (entry .args .cursor) (entry .pre .0 .placed) left _ (typed .typed .given .0 .1 .0) type; fits = entry .pre .0 .fits }
 
 enum-known-post : tie.Need-enum-known-post
 enum-known-post c = search needs
@@ -66,7 +66,7 @@ returns-3 c =
     let entry = at-end .before .before in
     let left = left-some (rest (entry .args .text .now) (entry .args .cursor)) (sym (at-end .at-end .ensures) ∙ else1 .if1 .left) in
     let type = subst (LeadingAnswer (entry .args .text .now) (entry .args .cursor)) (typed .typed .given .1) (leading-number .leading-number .ensures) in
-    row-second (headerTold (entry .args .header)) (entry .args .word) (entry .args .text .now) (entry .args .cursor) (entry .pre .placed) left _ (typed .typed .given .0 .1 .0) type (subst (LeadingAnswer (entry .args .text .now) (typed .typed .given .0 .1 .0)) (c .enum-told2 .given .1) (leading-number2 .leading-number2 .ensures))
+    row-second (headerTold (entry .args .header)) (entry .args .word) (entry .args .text .now) (entry .args .cursor) (entry .pre .0 .placed) left _ (typed .typed .given .0 .1 .0) type (subst (LeadingAnswer (entry .args .text .now) (typed .typed .given .0 .1 .0)) (c .enum-told2 .given .1) (leading-number2 .leading-number2 .ensures))
 
 start-field-requires : tie.Need-start-field-requires
 start-field-requires c κs =
@@ -80,7 +80,7 @@ start-field-requires c κs =
     let left = left-some (rest (entry .args .text .now) (entry .args .cursor)) (sym (at-end .at-end .ensures) ∙ else1 .if1 .left) in
     let type = subst (LeadingAnswer (entry .args .text .now) (entry .args .cursor)) (typed .typed .given .1) (leading-number .leading-number .ensures) in
     let map = subst (LeadingAnswer (entry .args .text .now) (typed .typed .given .0 .1 .0)) (post .post .given .1) (leading-number2 .leading-number2 .ensures) in
-    record { placed = third-placed (headerTold (entry .args .header)) (entry .args .word) (entry .args .text .now) (entry .args .cursor) (entry .pre .placed) left _ (typed .typed .given .0 .1 .0) type _ (post .post .given .0 .1 .0) map; fits = entry .pre .fits }
+    record { placed = third-placed (headerTold (entry .args .header)) (entry .args .word) (entry .args .text .now) (entry .args .cursor) (entry .pre .0 .placed) left _ (typed .typed .given .0 .1 .0) type _ (post .post .given .0 .1 .0) map; fits = entry .pre .0 .fits }
 
 enum-known-start : tie.Need-enum-known-start
 enum-known-start c = search needs
@@ -107,6 +107,7 @@ enum-told-3 : tie.Need-enum-told-3
 enum-told-3 c = search needs
 
 returns-4 : tie.Need-returns-4
+unfolding headerTold
 returns-4 c =
     let row-with = c .before in
     let start = row-with .before .before in
@@ -122,7 +123,7 @@ returns-4 c =
     let type = subst (LeadingAnswer (entry .args .text .now) (entry .args .cursor)) (typed .typed .given .1) (leading-number .leading-number .ensures) in
     let map = subst (LeadingAnswer (entry .args .text .now) (typed .typed .given .0 .1 .0)) (post .post .given .1) (leading-number2 .leading-number2 .ensures) in
     let last = subst (StartAnswer (entry .args .text .now) (post .post .given .0 .1 .0)) (start .start .given .1) (start-field .start-field .ensures) in
-    row-without (headerTold (entry .args .header)) (entry .args .word) (entry .args .text .now) (entry .args .cursor) (entry .pre .placed) left _ (typed .typed .given .0 .1 .0) type _ (post .post .given .0 .1 .0) map _ last (row-with .row-with .result) (row-with .row-with .ensures .0) (row-with .row-with .ensures .1) (row-with .row-with .ensures .2) (c .row-of .result) (c .row-of .ensures)
+    row-without (headerTold (entry .args .header)) (entry .args .word) (entry .args .text .now) (entry .args .cursor) (entry .pre .0 .placed) left _ (typed .typed .given .0 .1 .0) type _ (post .post .given .0 .1 .0) map (entry .pre .1 .types, entry .pre .1 .maps) _ last (row-with .row-with .result) (row-with .row-with .ensures .0) (row-with .row-with .ensures .1) (row-with .row-with .ensures .2) (c .row-of .result) (c .row-of .ensures)
 
 returns-5 : tie.Need-returns-5
 unfolding headerTold
@@ -142,7 +143,7 @@ returns-5 c =
     let type = subst (LeadingAnswer (entry .args .text .now) (entry .args .cursor)) (typed .typed .given .1) (leading-number .leading-number .ensures) in
     let map = subst (LeadingAnswer (entry .args .text .now) (typed .typed .given .0 .1 .0)) (post .post .given .1) (leading-number2 .leading-number2 .ensures) in
     let last = subst (StartAnswer (entry .args .text .now) (post .post .given .0 .1 .0)) (start2 .start2 .given .1) (start-field .start-field .ensures) in
-    row-with-start (headerTold (entry .args .header)) (entry .args .word) (entry .args .text .now) (entry .args .cursor) (entry .pre .placed) left _ (typed .typed .given .0 .1 .0) type _ (post .post .given .0 .1 .0) map _ _ last (row-with2 .row-with2 .result) (row-with2 .row-with2 .ensures .0) (row-with2 .row-with2 .ensures .1) (row-with2 .row-with2 .ensures .2) _ (start-limit .start-limit .ensures) (c .row-of2 .result) (c .row-of2 .ensures)
+    row-with-start (headerTold (entry .args .header)) (entry .args .word) (entry .args .text .now) (entry .args .cursor) (entry .pre .0 .placed) left _ (typed .typed .given .0 .1 .0) type _ (post .post .given .0 .1 .0) map (entry .pre .1 .types, entry .pre .1 .maps) _ _ last (row-with2 .row-with2 .result) (row-with2 .row-with2 .ensures .0) (row-with2 .row-with2 .ensures .1) (row-with2 .row-with2 .ensures .2) _ (start-limit .start-limit .ensures) (c .row-of2 .result) (c .row-of2 .ensures)
 
 returns-6 : tie.Need-returns-6
 returns-6 c =
@@ -157,7 +158,7 @@ returns-6 c =
     let left = left-some (rest (entry .args .text .now) (entry .args .cursor)) (sym (at-end .at-end .ensures) ∙ else1 .if1 .left) in
     let type = subst (LeadingAnswer (entry .args .text .now) (entry .args .cursor)) (typed .typed .given .1) (leading-number .leading-number .ensures) in
     let map = subst (LeadingAnswer (entry .args .text .now) (typed .typed .given .0 .1 .0)) (post .post .given .1) (leading-number2 .leading-number2 .ensures) in
-    row-third (headerTold (entry .args .header)) (entry .args .word) (entry .args .text .now) (entry .args .cursor) (entry .pre .placed) left _ (typed .typed .given .0 .1 .0) type _ (post .post .given .0 .1 .0) map (subst (StartAnswer (entry .args .text .now) (post .post .given .0 .1 .0)) (c .enum-told3 .given .1) (start-field .start-field .ensures))
+    row-third (headerTold (entry .args .header)) (entry .args .word) (entry .args .text .now) (entry .args .cursor) (entry .pre .0 .placed) left _ (typed .typed .given .0 .1 .0) type _ (post .post .given .0 .1 .0) map (subst (StartAnswer (entry .args .text .now) (post .post .given .0 .1 .0)) (c .enum-told3 .given .1) (start-field .start-field .ensures))
 
 pub row-line-spec : {M : Type 1} → statement M
 row-line-spec =

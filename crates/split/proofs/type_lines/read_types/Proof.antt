@@ -31,7 +31,7 @@ type-line-requires : tie.Need-type-line-requires Inv-loop μ-loop
 type-line-requires c κs =
     let turn = c .before in
     let entry = turn .before .before .before in
-    record { placed = turn .loop .inv .placed; fits = entry .pre .0 .fits }
+    (record { placed = turn .loop .inv .placed; fits = entry .pre .0 .fits }, entry .pre .1, omega (arith, c .loop-test .taken, entry .pre .1 .types))
 
 enum-known-found : tie.Need-enum-known-found Inv-loop μ-loop
 enum-known-found c = search needs

@@ -77,7 +77,7 @@ numbers-requires c κs =
     let first-field = from .before .before in
     let entry = first-field .before .before .before .before .before in
     let head = subst (HeadAnswer (entry .args .text .now) (entry .args .cursor)) (from .from .given .1) (first-field .first-field .ensures) in
-    comma-placed _ _ _ (entry .pre .placed) (head .3) (head .4)
+    comma-placed _ _ _ (entry .pre .0 .placed) (head .3) (head .4)
 
 enum-known-read : tie.Need-enum-known-read
 enum-known-read c = search needs
@@ -95,7 +95,7 @@ returns-3 c =
     let entry = at-end .before .before in
     let left = left-some (rest (entry .args .text .now) (entry .args .cursor)) (sym (at-end .at-end .ensures) ∙ else1 .if1 .left) in
     let head = subst (HeadAnswer (entry .args .text .now) (entry .args .cursor)) (from .from .given .1) (first-field .first-field .ensures) in
-    type-form (headerTold (entry .args .header)) (entry .args .own) (entry .args .text .now) (entry .args .cursor) left (entry .pre .placed) (head .3) _ (head .4) (numbers-none (numbers .numbers .ensures) 2 refl (c .enum-told2 .given .1) .0)
+    type-form (headerTold (entry .args .header)) (entry .args .own) (entry .args .text .now) (entry .args .cursor) left (entry .pre .0 .placed) (head .3) _ (head .4) (numbers-none (numbers .numbers .ensures) 2 refl (c .enum-told2 .given .1) .0)
 
 array-read-type-of : tie.Need-array-read-type-of
 array-read-type-of c = search needs
@@ -116,6 +116,7 @@ enum-told-4 : tie.Need-enum-told-4
 enum-told-4 c = search needs
 
 returns-4 : tie.Need-returns-4
+unfolding headerTold
 returns-4 c =
     let seen = c .before in
     let type-of = seen .before .before in
@@ -129,12 +130,13 @@ returns-4 c =
     let entry = at-end .before .before in
     let left = left-some (rest (entry .args .text .now) (entry .args .cursor)) (sym (at-end .at-end .ensures) ∙ else1 .if1 .left) in
     let head = subst (HeadAnswer (entry .args .text .now) (entry .args .cursor)) (from .from .given .1) (first-field .first-field .ensures) in
-    let behind = comma-placed _ _ _ (entry .pre .placed) (head .3) (head .4) in
+    let behind = comma-placed _ _ _ (entry .pre .0 .placed) (head .3) (head .4) in
     let found = numbers-read (numbers .numbers .ensures) 2 refl behind (read .read .given .1) in
     let kind = type-word .type-word .ensures ∙ ap typeWordOf (head .2) in
-    (type-on (headerTold (entry .args .header)) (entry .args .own) (entry .args .text .now) (entry .args .cursor) left (entry .pre .placed) (head .3) _ (head .4) _ kind (numbers .numbers .last .1 .1 .0) _ found _ (type-of .type-of .ensures) _ (seen .seen .given .1), found .placed)
+    (type-on (headerTold (entry .args .header)) (entry .args .own) (entry .args .text .now) (entry .args .cursor) left (entry .pre .0 .placed) (head .3) _ (head .4) (entry .pre .1 .locations, entry .pre .1 .maps, entry .pre .2) _ kind (numbers .numbers .last .1 .1 .0) _ found _ (type-of .type-of .ensures) _ (seen .seen .given .1), found .placed)
 
 returns-5 : tie.Need-returns-5
+unfolding headerTold
 returns-5 c =
     let type-of = c .before .before in
     let read = type-of .before .before in
@@ -147,12 +149,13 @@ returns-5 c =
     let entry = at-end .before .before in
     let left = left-some (rest (entry .args .text .now) (entry .args .cursor)) (sym (at-end .at-end .ensures) ∙ else1 .if1 .left) in
     let head = subst (HeadAnswer (entry .args .text .now) (entry .args .cursor)) (from .from .given .1) (first-field .first-field .ensures) in
-    let behind = comma-placed _ _ _ (entry .pre .placed) (head .3) (head .4) in
+    let behind = comma-placed _ _ _ (entry .pre .0 .placed) (head .3) (head .4) in
     let found = numbers-read (numbers .numbers .ensures) 2 refl behind (read .read .given .1) in
     let kind = type-word .type-word .ensures ∙ ap typeWordOf (head .2) in
-    type-unknown (headerTold (entry .args .header)) (entry .args .own) (entry .args .text .now) (entry .args .cursor) left (entry .pre .placed) (head .3) _ (head .4) _ kind (numbers .numbers .last .1 .1 .0) _ found _ (type-of .type-of .ensures) (c .enum-told3 .given .1)
+    type-unknown (headerTold (entry .args .header)) (entry .args .own) (entry .args .text .now) (entry .args .cursor) left (entry .pre .0 .placed) (head .3) _ (head .4) (entry .pre .1 .locations, entry .pre .1 .maps, entry .pre .2) _ kind (numbers .numbers .last .1 .1 .0) _ found _ (type-of .type-of .ensures) (c .enum-told3 .given .1)
 
 returns-6 : tie.Need-returns-6
+unfolding headerTold
 returns-6 c =
     let type-of = c .before .before in
     let read = type-of .before .before in
@@ -165,10 +168,10 @@ returns-6 c =
     let entry = at-end .before .before in
     let left = left-some (rest (entry .args .text .now) (entry .args .cursor)) (sym (at-end .at-end .ensures) ∙ else1 .if1 .left) in
     let head = subst (HeadAnswer (entry .args .text .now) (entry .args .cursor)) (from .from .given .1) (first-field .first-field .ensures) in
-    let behind = comma-placed _ _ _ (entry .pre .placed) (head .3) (head .4) in
+    let behind = comma-placed _ _ _ (entry .pre .0 .placed) (head .3) (head .4) in
     let found = numbers-read (numbers .numbers .ensures) 2 refl behind (read .read .given .1) in
     let kind = type-word .type-word .ensures ∙ ap typeWordOf (head .2) in
-    type-range (headerTold (entry .args .header)) (entry .args .own) (entry .args .text .now) (entry .args .cursor) left (entry .pre .placed) (head .3) _ (head .4) _ kind (numbers .numbers .last .1 .1 .0) _ found _ (type-of .type-of .ensures) (c .enum-told4 .given .1)
+    type-range (headerTold (entry .args .header)) (entry .args .own) (entry .args .text .now) (entry .args .cursor) left (entry .pre .0 .placed) (head .3) _ (head .4) (entry .pre .1 .locations, entry .pre .1 .maps, entry .pre .2) _ kind (numbers .numbers .last .1 .1 .0) _ found _ (type-of .type-of .ensures) (c .enum-told4 .given .1)
 
 pub type-line-spec : {M : Type 1} → statement M
 type-line-spec =
