@@ -15,11 +15,12 @@ use Rattle.spec.specs.Verdict.{refuseOver, startAtMostOne, ruled, checke
 use Rattle.spec.specs.KnownPairs.{barred, _with_is_, found, Answered, P, S, Z, starred}
 use Rattle.spec.specs.EdgeSheets.{times, of, headerRows, stepRows, countRows, scopeRows, splitHeaderRows, typeRows, mapRows, rowRows, splitCountRows, sheetEdges}
 use Rattle.spec.specs.EdgeConditions.{rows, startRows, varRows, intRows, letRows, ifRows, whileRows, newtidRows, spawnRows, joinRows, refRows, readRows, writeRows, postRows, newlockRows, lockRows, freelockRows, unlockRows, fullRows, conditionEdges}
+use Rattle.spec.specs.EdgeNumbers.{parted, largestRows, past, inProgram, inSplit, programNumbers, headerNumbers, typeNumbers, bodyNumbers, numberEdges}
 
 pub starred-pairs : Answered starred
 unfolding bytes same onLine lines onField fields digitLimit digits leadingZero value numeral _>>=_ demand seen inRange allInRange withNumeral numerals ranged numbers form outside miscounted passed nextLine next nextAll begin noneLeft end size withParts listed single among scope programLimit firstNumber countLine words lookUp valueRange stepOf wordLine stepLine program splitLimit headerOf headerLine refOf lockOf tidOf typeLine typeLines mapLine rowOf blank startRange rowLine split lowest atLeast _=ᵐ_ _≥ᵐ_ _+ᵐ_ share overWhole isInt isRef isLock isTid place load typeIn lineOf startMap typeAt mapAt agree contains row type kind post start K own preOfPart preOfSecond bind sites numbered claimsAt claims judge firstFalse workspaceSize refuseOver startAtMostOne ruled checked answer verdict four returned barred _with_is_ found Answered P S Z starred
 starred-pairs = refl
 
-pub edge-pairs : Answered (sheetEdges ++ conditionEdges)
-unfolding bytes same onLine lines onField fields digitLimit digits leadingZero value numeral _>>=_ demand seen inRange allInRange withNumeral numerals ranged numbers form outside miscounted passed nextLine next nextAll begin noneLeft end size withParts listed single among scope programLimit firstNumber countLine words lookUp valueRange stepOf wordLine stepLine program splitLimit headerOf headerLine refOf lockOf tidOf typeLine typeLines mapLine rowOf blank startRange rowLine split lowest atLeast _=ᵐ_ _≥ᵐ_ _+ᵐ_ share overWhole isInt isRef isLock isTid place load typeIn lineOf startMap typeAt mapAt agree contains row type kind post start K own preOfPart preOfSecond bind sites numbered claimsAt claims judge firstFalse workspaceSize refuseOver startAtMostOne ruled checked answer verdict four returned barred _with_is_ found Answered P S Z times of rows headerRows stepRows countRows scopeRows splitHeaderRows typeRows mapRows rowRows splitCountRows startRows varRows intRows letRows ifRows whileRows newtidRows spawnRows joinRows refRows readRows writeRows postRows newlockRows lockRows freelockRows unlockRows fullRows sheetEdges conditionEdges
+pub edge-pairs : Answered (sheetEdges ++ conditionEdges ++ numberEdges)
+unfolding bytes same onLine lines onField fields digitLimit digits leadingZero value numeral _>>=_ demand seen inRange allInRange withNumeral numerals ranged numbers form outside miscounted passed nextLine next nextAll begin noneLeft end size withParts listed single among scope programLimit firstNumber countLine words lookUp valueRange stepOf wordLine stepLine program splitLimit headerOf headerLine refOf lockOf tidOf typeLine typeLines mapLine rowOf blank startRange rowLine split lowest atLeast _=ᵐ_ _≥ᵐ_ _+ᵐ_ share overWhole isInt isRef isLock isTid place load typeIn lineOf startMap typeAt mapAt agree contains row type kind post start K own preOfPart preOfSecond bind sites numbered claimsAt claims judge firstFalse workspaceSize refuseOver startAtMostOne ruled checked answer verdict four returned barred _with_is_ found Answered P S Z times of rows headerRows stepRows countRows scopeRows splitHeaderRows typeRows mapRows rowRows splitCountRows startRows varRows intRows letRows ifRows whileRows newtidRows spawnRows joinRows refRows readRows writeRows postRows newlockRows lockRows freelockRows unlockRows fullRows parted largestRows past inProgram inSplit programNumbers headerNumbers typeNumbers bodyNumbers sheetEdges conditionEdges numberEdges
 edge-pairs = refl

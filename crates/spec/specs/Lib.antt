@@ -16,4 +16,5 @@ pub mod Ranges
 pub mod KnownPairs
 pub mod EdgeSheets
 pub mod EdgeConditions
+pub mod EdgeNumbers
 pub mod FirstFalse
