@@ -58,16 +58,16 @@ fn main() -> ExitCode {
     ExitCode::SUCCESS
 }
 
-/// An honest draft with exactly so many steps, maps and locations. Unused maps have numbers of six
+/// An honest draft with exactly so many steps, maps and locations. Unused maps have numbers of nine
 /// digits, so that more of them is more to read.
 fn grown(random: &mut Random, steps: usize, maps: usize, locations: usize) -> Draft {
     loop {
-        let mut draft = honest::draft(random, 12, 1, 100_000);
+        let mut draft = honest::draft(random, 12, 1, 100_000_000);
         if draft.steps.len() < 16 && full::with_steps(random, &mut draft, steps) && draft.maps.len() <= maps {
             full::with_locations(&mut draft, locations);
             while draft.maps.len() < maps {
                 let mut map = Map::default();
-                map[..locations].fill_with(|| random.between(100_000, 999_999));
+                map[..locations].fill_with(|| random.between(100_000_000, 999_999_999));
                 draft.maps.push(map);
             }
             return draft;

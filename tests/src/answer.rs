@@ -13,7 +13,7 @@ pub const LOCATIONS: u32 = 16;
 pub const TYPES: u32 = 64;
 pub const MAPS: u32 = 512;
 /// The greatest denominator, and the greatest numeral of a map.
-pub const WHOLE: u32 = 1_000_000;
+pub const WHOLE: u32 = 1_000_000_000;
 
 /// What a call returns. All four are 0 for ACCEPT.
 #[derive(Clone, Copy, Debug, PartialEq, Eq, Default)]

@@ -12,8 +12,8 @@ ghost use Rattle.lexer.specs.Views.{nothing};
 ghost use Rattle.lexer.specs.Cursors.{Placed, start as startOf, rest, spanAt};
 ghost use Rattle.lexer.specs.Numbers.{numeralOf, Lower, zeroLeads, DigitsTaken, numberAt, stored, NumbersRead};
 
-// "A numeral has 1 to 7 digits"
-const DIGIT_LIMIT: usize = 7;
+// "Numerals may now have up to 10 digits"
+const DIGIT_LIMIT: usize = 10;
 
 // The largest number that 32 bits hold.
 const LARGEST_STORED: u64 = 4294967295;

@@ -17,6 +17,7 @@ use Rattle.spec.specs.KnownPairs.{Pair, barred, _with_is_, found, Answer
 use Rattle.spec.specs.EdgeSheets.{times, of, headerRows, stepRows, countRows, scopeRows, splitHeaderRows, typeRows, mapRows, rowRows, splitCountRows, sheetEdges}
 use Rattle.spec.specs.EdgeConditions.{rows, startRows, varRows, intRows, letRows, ifRows, whileRows, newtidRows, spawnRows, joinRows, refRows, readRows, writeRows, postRows, newlockRows, lockRows, freelockRows, unlockRows, fullRows, conditionEdges}
 use Rattle.spec.specs.EdgeAgreement.{afresh, intsAgree, tidsAgree, locksAgree, refsAgree, deepRefsAgree, agreementEdges}
+use Rattle.spec.specs.EdgeNumbers.{parted, largestRows, past, inProgram, inSplit, programNumbers, headerNumbers, typeNumbers, bodyNumbers, numberEdges}
 use Rattle.spec.specs.declared.Returned.{Returned}
 use Rattle.spec.proofs.AcceptedBefore.{agreeBefore, containsBefore, ownBefore, claimsBefore, checkedBefore, verdictBefore}
 
@@ -24,8 +25,8 @@ pub starred-pairs : Answered starred
 unfolding bytes same onLine lines onField fields digitLimit digits leadingZero value numeral _>>=_ demand seen inRange allInRange withNumeral numerals ranged numbers form outside miscounted passed nextLine next nextAll begin noneLeft end size withParts listed single among scope programLimit firstNumber countLine words lookUp valueRange stepOf wordLine stepLine program splitLimit headerOf headerLine refOf lockOf tidOf typeLine typeLines mapLine rowOf blank startRange rowLine split lowest atLeast _=ᵐ_ _≥ᵐ_ nowhere sameNumbers _+ᵐ_ share overWhole isInt isRef isLock isTid place load typeIn lineOf startMap typeAt mapAt code sameMaps sameTree treeOf trees tree agree contains row type kind post start K own preOfPart preOfSecond bind sites numbered claimsAt claims judge firstFalse workspaceSize refuseOver startAtMostOne ruled checked answer verdict four returned barred _with_is_ found Answered P S Z starred
 starred-pairs = refl
 
-pub edge-pairs : Answered (sheetEdges ++ conditionEdges ++ agreementEdges)
-unfolding bytes same onLine lines onField fields digitLimit digits leadingZero value numeral _>>=_ demand seen inRange allInRange withNumeral numerals ranged numbers form outside miscounted passed nextLine next nextAll begin noneLeft end size withParts listed single among scope programLimit firstNumber countLine words lookUp valueRange stepOf wordLine stepLine program splitLimit headerOf headerLine refOf lockOf tidOf typeLine typeLines mapLine rowOf blank startRange rowLine split lowest atLeast _=ᵐ_ _≥ᵐ_ nowhere sameNumbers _+ᵐ_ share overWhole isInt isRef isLock isTid place load typeIn lineOf startMap typeAt mapAt code sameMaps sameTree treeOf trees tree agree contains row type kind post start K own preOfPart preOfSecond bind sites numbered claimsAt claims judge firstFalse workspaceSize refuseOver startAtMostOne ruled checked answer verdict four returned barred _with_is_ found Answered P S Z times of rows headerRows stepRows countRows scopeRows splitHeaderRows typeRows mapRows rowRows splitCountRows startRows varRows intRows letRows ifRows whileRows newtidRows spawnRows joinRows refRows readRows writeRows postRows newlockRows lockRows freelockRows unlockRows fullRows sheetEdges conditionEdges afresh intsAgree tidsAgree locksAgree refsAgree deepRefsAgree agreementEdges
+pub edge-pairs : Answered (sheetEdges ++ conditionEdges ++ agreementEdges ++ numberEdges)
+unfolding bytes same onLine lines onField fields digitLimit digits leadingZero value numeral _>>=_ demand seen inRange allInRange withNumeral numerals ranged numbers form outside miscounted passed nextLine next nextAll begin noneLeft end size withParts listed single among scope programLimit firstNumber countLine words lookUp valueRange stepOf wordLine stepLine program splitLimit headerOf headerLine refOf lockOf tidOf typeLine typeLines mapLine rowOf blank startRange rowLine split lowest atLeast _=ᵐ_ _≥ᵐ_ nowhere sameNumbers _+ᵐ_ share overWhole isInt isRef isLock isTid place load typeIn lineOf startMap typeAt mapAt code sameMaps sameTree treeOf trees tree agree contains row type kind post start K own preOfPart preOfSecond bind sites numbered claimsAt claims judge firstFalse workspaceSize refuseOver startAtMostOne ruled checked answer verdict four returned barred _with_is_ found Answered P S Z times of rows headerRows stepRows countRows scopeRows splitHeaderRows typeRows mapRows rowRows splitCountRows startRows varRows intRows letRows ifRows whileRows newtidRows spawnRows joinRows refRows readRows writeRows postRows newlockRows lockRows freelockRows unlockRows fullRows sheetEdges conditionEdges afresh intsAgree tidsAgree locksAgree refsAgree deepRefsAgree agreementEdges parted largestRows past inProgram inSplit programNumbers headerNumbers typeNumbers bodyNumbers numberEdges
 edge-pairs = refl
 
 pub answeredBefore : Pair → Returned

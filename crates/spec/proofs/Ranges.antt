@@ -106,7 +106,7 @@ in-range-at rs fs ns h = let (l, t) = numbers-right rs fs ns h in all-at rs ns l
 -- ------------------------------------------------------------------ headers
 
 record HeaderFits (H : Header) : Type 0 where
-  denominator : (1 ≤ H .denominator) × (H .denominator ≤ 1000000)
+  denominator : (1 ≤ H .denominator) × (H .denominator ≤ 1000000000)
   locations : (1 ≤ H .locations) × (H .locations ≤ 16)
   types : (1 ≤ H .types) × (H .types ≤ 64)
   maps : (1 ≤ H .maps) × (H .maps ≤ 512)
@@ -116,7 +116,7 @@ unfolding headerLine headerOf
 header-fits [] H h = bad-form h
 header-fits (f ∷ fs) H h =
     let (ns, n, e) = seen-right _ (choice-right (same f (bytes "C")) _ h) in
-    let at = in-range-at ((1 to 1000000) ∷ (1 to 16) ∷ (1 to 64) ∷ (1 to 512) ∷ []) fs ns n in
+    let at = in-range-at ((1 to 1000000000) ∷ (1 to 16) ∷ (1 to 64) ∷ (1 to 512) ∷ []) fs ns n in
     along HeaderFits e (record {
       denominator = in-to _ _ _ (at 0 (omega arith));
       locations = in-to _ _ _ (at 1 (omega arith));
@@ -184,7 +184,7 @@ types-fit H own (suc n) (line {a = a} {as′ = ts} h more) =
 
 map-wide : (H : Header) (fs : List Field) (m : Map) → mapLine H fs ≡ right m → length m ≡ H .locations
 unfolding mapLine
-map-wide H fs m h = numbers-right _ fs m h .0 ∙ length-replicate (H .locations) (0 to 1000000)
+map-wide H fs m h = numbers-right _ fs m h .0 ∙ length-replicate (H .locations) (0 to 1000000000)
 
 maps-wide : (H : Header) (n : ℕ) {ls rest : List Line} {ms : List Map} → Shows (replicate n (mapLine H)) ls ms rest
     → (length ms ≡ n) × ((m : ℕ) → m < length ms → length (getD ms m []) ≡ H .locations)

@@ -26,8 +26,8 @@ headerRows =
     ("p,1|int,0|" with Z is four 11 1 0 0) ∷
     ("P,01|int,0|" with Z is four 11 1 0 0) ∷
     ("P,00|int,0|" with Z is four 11 1 0 0) ∷
-    ("P,12345678|int,0|" with Z is four 11 1 0 0) ∷
-    ("P,1234567|int,0|" with Z is four 12 1 0 0) ∷
+    ("P,12345678901|int,0|" with Z is four 11 1 0 0) ∷
+    ("P,1234567890|int,0|" with Z is four 12 1 0 0) ∷
     ("P,0|" with Z is four 12 1 0 0) ∷
     ("P,257|int,0|" with Z is four 12 1 0 0) ∷
     ("P,257" with Z is four 11 1 0 0) ∷
@@ -98,9 +98,9 @@ splitHeaderRows =
     ("P,1|int,0|" with "C2,1,1,1,1|int,0,0|0|0,0,|" is four 21 1 0 0) ∷
     ("P,1|int,0|" with "C,1,1,1,1" is four 21 1 0 0) ∷
     ("P,1|int,0|" with "C,0,1,1,1|int,0,0|0|0,0,|" is four 22 1 0 0) ∷
-    ("P,1|int,0|" with "C,1000000,1,1,1|int,0,0|1000000|0,0,|" is four 0 0 0 0) ∷
-    ("P,1|int,0|" with "C,1000001,1,1,1|int,0,0|0|0,0,|" is four 22 1 0 0) ∷
-    ("P,1|int,0|" with "C,10000000,1,1,1|int,0,0|0|0,0,|" is four 21 1 0 0) ∷
+    ("P,1|int,0|" with "C,1000000000,1,1,1|int,0,0|1000000000|0,0,|" is four 0 0 0 0) ∷
+    ("P,1|int,0|" with "C,1000000001,1,1,1|int,0,0|0|0,0,|" is four 22 1 0 0) ∷
+    ("P,1|int,0|" with "C,10000000000,1,1,1|int,0,0|0|0,0,|" is four 21 1 0 0) ∷
     ("P,1|int,0|" with "C,1,0,1,1|int,0,0|0|0,0,|" is four 22 1 0 0) ∷
     ("P,1|int,0|" with "C,1,16,1,1|int,0,0|0,0,0,0,0,0,0,0,0,0,0,0,0,0,0,0|0,0,|" is four 0 0 0 0) ∷
     ("P,1|int,0|" with "C,1,17,1,1|int,0,0|0|0,0,|" is four 22 1 0 0) ∷
@@ -138,8 +138,8 @@ mapRows =
     ("P,1|int,0|" with "C,1,2,1,1|int,0,0|0|0,0,|" is four 21 3 0 0) ∷
     ("P,1|int,0|" with "C,1,1,1,1|int,0,0||0,0,|" is four 21 3 0 0) ∷
     ("P,1|int,0|" with "C,1,1,1,1|int,0,0|00|0,0,|" is four 21 3 0 0) ∷
-    ("P,1|int,0|" with "C,1,1,1,1|int,0,0|1000001|0,0,|" is four 22 3 0 0) ∷
-    ("P,1|int,0|" with "C,1,2,1,1|int,0,0|1000001,x|0,0,|" is four 21 3 0 0) ∷
+    ("P,1|int,0|" with "C,1,1,1,1|int,0,0|1000000001|0,0,|" is four 22 3 0 0) ∷
+    ("P,1|int,0|" with "C,1,2,1,1|int,0,0|1000000001,x|0,0,|" is four 21 3 0 0) ∷
     []
 
 -- step lines of the split: s is empty on another word than spawn, and an empty s on a spawn is map 0
@@ -165,7 +165,7 @@ splitCountRows =
     ("P,1|int,0|" with "C,1,1,1,1|" is four 23 1 0 0) ∷
     ("P,1|int,0|" with "C,1,1,1,1|int,0,0|" is four 23 2 0 0) ∷
     ("P,1|int,0|" with "C,1,1,1,1|flt,0,0|" is four 21 2 0 0) ∷
-    ("P,1|int,0|" with "C,1,1,1,2|int,0,0|1000001|" is four 22 3 0 0) ∷
+    ("P,1|int,0|" with "C,1,1,1,2|int,0,0|1000000001|" is four 22 3 0 0) ∷
     ("P,1|int,0|" with "C,1,1,1,1|int,0,0|0|" is four 23 3 0 0) ∷
     ("P,1|int,0|" with (of "0,0,") is four 21 4 0 0) ∷
     ("P,1|int,0|" with (of "0,0,|0,0,|") is four 23 5 0 0) ∷

@@ -18,4 +18,5 @@ pub mod KnownPairs
 pub mod EdgeSheets
 pub mod EdgeConditions
 pub mod EdgeAgreement
+pub mod EdgeNumbers
 pub mod FirstFalse

@@ -12,7 +12,7 @@ use Rattle.spec.specs.declared.TypeLine.{TypeLine}
 use Rattle.spec.specs.declared.TypeLine.the-variants as type-line
 
 pub record InRange (steps : List Step) (S : Split) : Type 0 where
-  pub denominator : (1 ≤ S .header .denominator) × (S .header .denominator ≤ 1000000)
+  pub denominator : (1 ≤ S .header .denominator) × (S .header .denominator ≤ 1000000000)
   pub locations : (1 ≤ S .header .locations) × (S .header .locations ≤ 16)
   pub typesCounted : length (S .types) ≡ S .header .types
   pub typesFew : (1 ≤ S .header .types) × (S .header .types ≤ 64)

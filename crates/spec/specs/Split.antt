@@ -38,7 +38,7 @@ unfoldable pub headerLine : List Field → Seen Header
 headerLine [] = badForm
 headerLine (f ∷ fs) =
     if same f (bytes "C")
-    then seen headerOf (numbers ((1 to 1000000) ∷ (1 to 16) ∷ (1 to 64) ∷ (1 to 512) ∷ []) fs)
+    then seen headerOf (numbers ((1 to 1000000000) ∷ (1 to 16) ∷ (1 to 64) ∷ (1 to 512) ∷ []) fs)
     else badForm
 
 -- `int,0,0`; `ref,p,t`; `lock,k,0`; `tid,k,0`. A content type's number is less than the type's own.
@@ -67,7 +67,7 @@ typeLines H own (suc n) = typeLine H own ∷ typeLines H (own + 1) n
 
 -- a map line: a numeral for each location
 unfoldable pub mapLine : Header → List Field → Seen Map
-mapLine H fs = numbers (replicate (H .locations) (0 to 1000000)) fs
+mapLine H fs = numbers (replicate (H .locations) (0 to 1000000000)) fs
 
 -- `t,m,s`: a step's type, its post, and for a spawn the map that its body starts with
 pub record Row : Type 0 where

@@ -54,9 +54,9 @@ fields (b ∷ t) = if eqb b 44 then [] ∷ fields t else onField b (fields t)
 
 -- ------------------------------------------------------------------ numerals
 
--- "A numeral has 1 to 7 digits and no leading zero, except `0` itself"
+-- "A numeral has 1 to 7 digits and no leading zero, except `0` itself"; request (iii): "up to 10 digits"
 unfoldable pub digitLimit : ℕ
-digitLimit = 7
+digitLimit = 10
 
 unfoldable pub digits : List ℕ → Bool
 digits [] = true

@@ -49,7 +49,7 @@ at-most a b n h = leb-true n b (both (leb a n) (leb n b) h .1)
 pub header-small : (d l t m : ℕ) → allInRange headerRanges (headerNumbers d l t m) ≡ true → (l ≤ 16) × (t ≤ 64) × (m ≤ 512)
 unfolding headerRanges headerNumbers allInRange
 header-small d l t m h =
-    let h₁ = both (inRange (1 to 1000000) d) _ h .1 in
+    let h₁ = both (inRange (1 to 1000000000) d) _ h .1 in
     let h₂ = both (inRange (1 to 16) l) _ h₁ in
     let h₃ = both (inRange (1 to 64) t) _ (h₂ .1) in
     (at-most 1 16 l (h₂ .0), at-most 1 64 t (h₃ .0), at-most 1 512 m (both (inRange (1 to 512) m) _ (h₃ .1) .0))

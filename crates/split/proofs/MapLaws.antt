@@ -25,27 +25,27 @@ use Rattle.split.proofs.LineLaws.{shows-range, shows-entry}
 
 -- ------------------------------------------------------------------ the numbers of a map
 
-in-cell : (n : ℕ) → n ≤ 1000000 → inRange (0 to 1000000) n ≡ true
+in-cell : (n : ℕ) → n ≤ 1000000000 → inRange (0 to 1000000000) n ≡ true
 unfolding inRange
-in-cell n h = simp (le-leb 0 n (omega arith), le-leb n 1000000 h)
+in-cell n h = simp (le-leb 0 n (omega arith), le-leb n 1000000000 h)
 
-out-cell : (n : ℕ) → 1000000 < n → inRange (0 to 1000000) n ≡ false
+out-cell : (n : ℕ) → 1000000000 < n → inRange (0 to 1000000000) n ≡ false
 unfolding inRange
-out-cell n h = simp (le-leb 0 n (omega arith), lt-leb n 1000000 h)
+out-cell n h = simp (le-leb 0 n (omega arith), lt-leb n 1000000000 h)
 
 module _ (m : List ℕ) (i : ℕ) where
   cells-at : i < length m
-      → allInRange (cells (length m - i)) (drop i m) ≡ (inRange (0 to 1000000) (getD m i 0) && allInRange (cells (length m - (i + 1))) (drop (i + 1) m))
+      → allInRange (cells (length m - i)) (drop i m) ≡ (inRange (0 to 1000000000) (getD m i 0) && allInRange (cells (length m - (i + 1))) (drop (i + 1) m))
   unfolding cells allInRange
   cells-at h = let e : length m - i ≡ suc (length m - (i + 1)) = omega arith in rw (e, add-one, drop-cons m i 0 h)
 
   -- one that is in range is passed over
-  pub cells-on : i < length m → getD m i 0 ≤ 1000000
+  pub cells-on : i < length m → getD m i 0 ≤ 1000000000
       → allInRange (cells (length m - i)) (drop i m) ≡ allInRange (cells (length m - (i + 1))) (drop (i + 1) m)
   cells-on h l = cells-at h ∙ rw (in-cell (getD m i 0) l)
 
   -- one that is not decides
-  pub cells-out : i < length m → 1000000 < getD m i 0 → allInRange (cells (length m - i)) (drop i m) ≡ false
+  pub cells-out : i < length m → 1000000000 < getD m i 0 → allInRange (cells (length m - i)) (drop i m) ≡ false
   cells-out h l = cells-at h ∙ rw (out-cell (getD m i 0) l)
 
   pub cells-end : length m ≤ i → allInRange (cells (length m - i)) (drop i m) ≡ true
@@ -73,7 +73,7 @@ module _ (text : List ℕ) (c : Cursor) (n : ℕ) where
 
   counts : length (cells n) ≡ n
   unfolding cells
-  counts = length-replicate n (0 to 1000000)
+  counts = length-replicate n (0 to 1000000000)
 
   pub map-form : 0 < length (rest text c) → numbersAt text c n ≡ none → next splitSheet (cellLine n) (placeAt text c) ≡ stop (SplitForm (c .line + 1))
   unfolding form

@@ -33,7 +33,7 @@ rowTold r = record { type = r .typed; post = r .post; start = r .start }
 -- ------------------------------------------------------------------ the header
 
 unfoldable pub headerRanges : List Range
-headerRanges = (1 to 1000000) ∷ (1 to 16) ∷ (1 to 64) ∷ (1 to 512) ∷ []
+headerRanges = (1 to 1000000000) ∷ (1 to 16) ∷ (1 to 64) ∷ (1 to 512) ∷ []
 
 unfoldable pub headerNumbers : (denominator locations types maps : ℕ) → List ℕ
 headerNumbers d l t m = d ∷ l ∷ t ∷ m ∷ []
@@ -60,7 +60,7 @@ typeSeenOf badRange = type-seen.BadRange
 
 -- the range of each number of a map
 unfoldable pub cells : ℕ → List Range
-cells n = replicate n (0 to 1000000)
+cells n = replicate n (0 to 1000000000)
 
 -- a line of so many numbers of a map
 unfoldable pub cellLine : ℕ → List Field → Seen Map

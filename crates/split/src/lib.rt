@@ -22,7 +22,7 @@ ghost use Rattle.split.specs.Answers.{Reading, Small};
 ghost use Rattle.split.specs.Sheet.{EndAnswer, BodyRead, SplitRead};
 
 // The largest denominator, and the largest number of a map.
-pub(crate) const LARGEST: u32 = 1000000;
+pub(crate) const LARGEST: u32 = 1000000000;
 
 // What the header of a split sheet says: the denominator, and how many locations, types and maps there are.
 pub struct Header {

@@ -21,7 +21,7 @@ pub fn breaking(random: &mut Random, word: Word, condition: u32) -> Draft {
 
 /// An honest draft with the word as a `let`'s e1, and then the sabotage.
 fn attempt(random: &mut Random, word: Word, condition: u32) -> Option<Draft> {
-    let (locations, whole) = (1 + random.below(4), random.pick(&[1, 2, 6, 1000, 999_999]));
+    let (locations, whole) = (1 + random.below(4), random.pick(&[1, 2, 6, 1000, 999_999, WHOLE - 1]));
     let size = random.pick(&[4, 8, 30]);
     let mut builder = Builder::new(random, locations, whole);
     let mut now = builder.draft.maps[0];

@@ -142,9 +142,9 @@ fn push_fields(text: &mut Vec<u8>, opening: &[u8], numbers: &[u32]) {
 }
 
 /// Writes a number in decimal.
-pub fn push_numeral(text: &mut Vec<u8>, number: u32) {
-    let mut digits = [0; 10];
-    let (mut at, mut left) = (digits.len(), number);
+pub fn push_numeral(text: &mut Vec<u8>, number: impl Into<u64>) {
+    let mut digits = [0; 20];
+    let (mut at, mut left) = (digits.len(), number.into());
     while at == digits.len() || left > 0 {
         at -= 1;
         digits[at] = b'0' + (left % 10) as u8;

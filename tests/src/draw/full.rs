@@ -123,11 +123,11 @@ fn lengthen(random: &mut Random, draft: &mut Draft, unused: usize, bytes: usize)
     let locations = draft.locations;
     let mut places = (draft.maps.len() - unused) * locations;
     for number in draft.maps[unused..].iter_mut().flat_map(|map| &mut map[..locations]) {
-        // The places behind this one can take 6 more digits each, so what is over falls due here.
+        // The places behind this one can take 9 more digits each, so what is over falls due here.
         places -= 1;
-        let due = missing.saturating_sub(6 * places);
-        let more = missing.min(due.max(random.below(7)));
-        if more > 6 {
+        let due = missing.saturating_sub(9 * places);
+        let more = missing.min(due.max(random.below(10)));
+        if more > 9 {
             return false;
         }
         *number = with_digits(random, more + 1);
@@ -136,20 +136,20 @@ fn lengthen(random: &mut Random, draft: &mut Draft, unused: usize, bytes: usize)
     missing == 0
 }
 
-/// A number of so many digits, at most 1,000,000.
+/// A number of so many digits, at most 1,000,000,000.
 fn with_digits(random: &mut Random, digits: usize) -> u32 {
-    let low = 10_u32.pow(digits as u32 - 1);
-    if digits == 1 {
-        return random.between(0, 9);
+    match 10_u32.pow(digits as u32 - 1) {
+        1 => random.between(0, 9),
+        WHOLE => WHOLE,
+        low => random.between(low, low * 10 - 1),
     }
-    random.between(low, (low * 10 - 1).min(WHOLE))
 }
 
 /// A program sheet of exactly `bytes` bytes: the draft's, and spare bytes behind it.
 pub fn program_with_bytes(draft: &Draft, bytes: usize) -> Vec<u8> {
     let mut text = draft.program();
     while text.len() < bytes {
-        push_numeral(&mut text, 1);
+        push_numeral(&mut text, 1_u32);
     }
     text
 }

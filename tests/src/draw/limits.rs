@@ -13,7 +13,7 @@ pub fn at_limit(random: &mut Random) -> Drawn {
     let past = random.below(2);
     let mut draft = honest::draft(random, 10, 2, 4);
     let mut room = WORK_SPACE;
-    match random.below(15) {
+    match random.below(14) {
         0 => drop(with_steps(random, &mut draft, STEPS as usize + past)),
         1 => with_types(random, &mut draft, TYPES as usize + past),
         2 => with_maps(&mut draft, MAPS as usize + past),
@@ -22,12 +22,11 @@ pub fn at_limit(random: &mut Random) -> Drawn {
         5 => last_number_of_maps(random, &mut draft, past),
         6 => last_of_its_kind(random, &mut draft, past),
         7 => constant(random, &mut draft, [65_535, 65_536][past]),
-        8 => constant(random, &mut draft, [9_999_999, 10_000_000][past]),
-        9 => variable(random, &mut draft, [255, 256][past]),
-        10 => room = [WORK_SPACE, WORK_SPACE - 1][past],
-        11 => room = random.pick(&[0, 1, WORK_SPACE - 1, WORK_SPACE + 1, WORK_SPACE + 40]),
-        12 => return program_of(draft, PROGRAM_BYTES + past),
-        13 => draft = smallest(random),
+        8 => variable(random, &mut draft, [255, 256][past]),
+        9 => room = [WORK_SPACE, WORK_SPACE - 1][past],
+        10 => room = random.pick(&[0, 1, WORK_SPACE - 1, WORK_SPACE + 1, WORK_SPACE + 40]),
+        11 => return program_of(draft, PROGRAM_BYTES + past),
+        12 => draft = smallest(random),
         _ => return split_of(random, past),
     }
     Drawn { room, ..Drawn::of(&draft, "limit") }
@@ -63,7 +62,7 @@ fn smallest(random: &mut Random) -> Draft {
     }
 }
 
-/// A number of a map at 1,000,000 or one past.
+/// A number of a map at its limit or one past.
 fn last_number_of_maps(random: &mut Random, draft: &mut Draft, past: usize) {
     with_maps(draft, draft.maps.len() + 1);
     let (last, location) = (draft.maps.len() - 1, random.below(draft.locations));

@@ -12,6 +12,7 @@ mod idioms;
 mod limits;
 pub mod mutants;
 mod noise;
+mod numerals;
 pub mod promise;
 pub mod random;
 
@@ -55,7 +56,8 @@ pub fn pair(seed: u64, number: u64) -> Drawn {
         555..=729 => changed_draft(random),
         730..=869 => changed_text(random),
         870..=889 => faults_at_once(random),
-        890..=939 => limits::at_limit(random),
+        890..=924 => limits::at_limit(random),
+        925..=939 => long_numeral(random),
         _ => noise::noise(random),
     }
 }
@@ -69,7 +71,7 @@ pub fn honest_draft(random: &mut Random) -> Draft {
         _ => 235,
     };
     let locations = if random.percent(80) { 1 + random.below(4) } else { 1 + random.below(LOCATIONS as usize) };
-    let whole = random.pick(&[1, 2, 2, 3, 4, 6, 12, 100, 65_536, WHOLE]);
+    let whole = random.pick(&[1, 2, 2, 3, 4, 6, 12, 100, 65_536, 1_000_000, WHOLE - 1, WHOLE]);
     honest::draft(random, size, locations, whole)
 }
 
@@ -109,6 +111,12 @@ fn changed_text(random: &mut Random) -> Drawn {
         mutants::change_text(random, text);
     }
     drawn
+}
+
+/// An honest pair, most often with threads, and a long numeral in it.
+fn long_numeral(random: &mut Random) -> Drawn {
+    let draft = if random.percent(50) { honest_draft(random) } else { concurrent::draft(random) };
+    numerals::long_numeral(random, &draft)
 }
 
 /// Both sheets changed, and lengths past their limits now and then: the order of the refusals shows.

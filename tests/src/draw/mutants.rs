@@ -2,6 +2,7 @@
 
 use super::draft::{push_numeral, Draft, Type};
 use super::random::Random;
+use crate::answer::WHOLE;
 use crate::words::{Word, WORDS};
 
 /// Changes one word, type, map, number or share of a draft.
@@ -15,7 +16,7 @@ pub fn change_draft(random: &mut Random, draft: &mut Draft) {
         6 => change_variable(random, draft),
         7 => change_type(random, draft),
         8 => change_number(random, draft),
-        _ => draft.whole = random.pick(&[1, 2, draft.whole + 1, draft.whole.max(2) - 1, 1_000_000]),
+        _ => draft.whole = random.pick(&[1, 2, draft.whole + 1, draft.whole.max(2) - 1, WHOLE]),
     }
 }
 
@@ -121,8 +122,8 @@ fn numerals(text: &[u8]) -> Vec<std::ops::Range<usize>> {
     runs
 }
 
-/// Numbers at the ends of the ranges of document 01, and one past them.
-const EDGES: &[u32] = &[
+/// Numbers at the ends of the ranges of the documents and of machine words, and one past them.
+const EDGES: &[u64] = &[
     0,
     1,
     2,
@@ -140,13 +141,20 @@ const EDGES: &[u32] = &[
     513,
     65_535,
     65_536,
-    999_999,
     1_000_000,
-    1_000_001,
-    9_999_999,
     10_000_000,
-    99_999_999,
-    u32::MAX,
+    999_999_999,
+    1_000_000_000,
+    1_000_000_001,
+    (1 << 31) - 1,
+    1 << 31,
+    (1 << 32) - 1,
+    1 << 32,
+    (1 << 32) + 1,
+    9_999_999_999,
+    10_000_000_000,
+    99_999_999_999,
+    u64::MAX,
 ];
 
 fn change_numeral(random: &mut Random, text: &mut Vec<u8>) {
@@ -155,7 +163,7 @@ fn change_numeral(random: &mut Random, text: &mut Vec<u8>) {
         return;
     }
     let run = runs[random.below(runs.len())].clone();
-    let known = text[run.clone()].iter().take(9).fold(0, |value, digit| value * 10 + u32::from(digit - b'0'));
+    let known = text[run.clone()].iter().take(12).fold(0, |value, digit| value * 10 + u64::from(digit - b'0'));
     let mut numeral = Vec::new();
     match random.below(8) {
         0 => numeral.extend_from_slice(b"0"),
@@ -163,7 +171,7 @@ fn change_numeral(random: &mut Random, text: &mut Vec<u8>) {
         2 | 3 => push_numeral(&mut numeral, random.pick(EDGES)),
         4 => push_numeral(&mut numeral, known + 1),
         5 => push_numeral(&mut numeral, known.saturating_sub(1)),
-        6 => push_numeral(&mut numeral, random.between(0, 20)),
+        6 => push_numeral(&mut numeral, random.below(21) as u64),
         _ => {
             numeral.push(b'0');
             push_numeral(&mut numeral, known);

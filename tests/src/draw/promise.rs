@@ -8,6 +8,8 @@ pub enum Promise {
     /// Nobody worked the answer out.
     Open,
     Accepted,
+    /// This answer.
+    Exactly(Returned),
     /// The first false condition is this one of this word.
     Breaks(Word, u32),
 }
@@ -18,6 +20,7 @@ impl Promise {
         match self {
             Promise::Open => true,
             Promise::Accepted => returned == Returned::ACCEPT,
+            Promise::Exactly(answer) => returned == answer,
             Promise::Breaks(word, condition) => broken(program, returned) == Some((word, condition)),
         }
     }

@@ -237,7 +237,7 @@ impl Judge<'_> {
         flows(condition, pairs.map(|(greater, less)| greater >= less))
     }
 
-    /// left + right = total. Numbers stay under 2,000,001, so nothing overflows.
+    /// left + right = total. Sums stay within 2,000,000,000, so nothing overflows.
     fn sum(&self, condition: u32, left: usize, right: usize, total: usize) -> Judged {
         let pairs = self.split.map(left).iter().zip(self.split.map(right));
         flows(condition, pairs.zip(self.split.map(total)).map(|((left, right), total)| left + right == *total))

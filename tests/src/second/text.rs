@@ -63,23 +63,24 @@ impl<'a> Text<'a> {
         &rest[..length]
     }
 
-    /// Takes a numeral: 1 to 7 digits, no leading zero except `0` itself. A digit left over after
-    /// that stands where a comma or the closing byte must be, so the line has the wrong form.
+    /// Takes a numeral: 1 to 10 digits, no leading zero except `0` itself. A digit left over after
+    /// that stands where a comma or the closing byte must be, so the line has the wrong form. Numbers
+    /// past 32 bits are in range nowhere, so the greatest of 32 bits stands for each of them.
     pub fn numeral(&mut self) -> Option<u32> {
-        let (mut value, mut length) = (0, 0);
-        for byte in self.bytes[self.at..].iter().take(7) {
+        let (mut value, mut length) = (0_u64, 0);
+        for byte in self.bytes[self.at..].iter().take(10) {
             let digit = byte.wrapping_sub(b'0');
             if digit > 9 {
                 break;
             }
-            value = value * 10 + u32::from(digit);
+            value = value * 10 + u64::from(digit);
             length += 1;
             if value == 0 {
                 break;
             }
         }
         self.at += length;
-        (length > 0).then_some(value)
+        (length > 0).then_some(u32::try_from(value).unwrap_or(u32::MAX))
     }
 
     /// Takes a comma, then a numeral.
