@@ -4,7 +4,7 @@ use mathlib.Core.List.{List, []}
 use Prim.Native.Nat.{ℕ, _+_, _<_}
 use lib.ListN.{length}
 use Rattle.spec.specs.Text.{lines, Field}
-use Rattle.spec.specs.Reading.{SheetName, stop, on, Seen, right, form, miscounted, passed, nextLine, next, begin, noneLeft, end}
+use Rattle.spec.specs.Reading.{SheetName, stop, on, Seen, right, form, miscounted, faulty, passed, nextLine, next, begin, noneLeft, end}
 use Rattle.lexer.specs.Cursors.{start, rest, placeAt}
 use Rattle.lexer.specs.declared.Cursor.{Cursor}
 use Rattle.lexer.proofs.Lines.{next-missing, begin-empty, begin-some, end-none, end-spare}
@@ -29,7 +29,7 @@ module _ (sheet : SheetName) (text : List ℕ) where
 
   -- what is found on a line, and the cursor behind the line
   pub passed-at : {A : Type 0} (a : A) (c d : Cursor) → d .line ≡ c .line + 1 → passed sheet (c .line + 1) (lines (rest text d)) (right a) ≡ on (a, placeAt text d)
-  unfolding passed placeAt
+  unfolding faulty passed placeAt
   passed-at a c d e = rw e
 
   -- behind the last line

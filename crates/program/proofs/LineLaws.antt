@@ -9,7 +9,7 @@ use lib.ListN.{length, getD, take, drop, length-drop}
 use borrow.Author.Tests.{le-leb, lt-leb}
 use Rattle.spec.specs.Choice.{if_then_else_}
 use Rattle.spec.specs.Text.{bytes, same, lines, Field}
-use Rattle.spec.specs.Reading.{programSheet, stop, _>>=_, Seen, right, badForm, badRange, seen, Range, _to_, inRange, allInRange, numerals, ranged, numbers, form, outside, miscounted, passed, nextLine, next}
+use Rattle.spec.specs.Reading.{programSheet, stop, _>>=_, Seen, right, wrong, badForm, badRange, seen, Range, _to_, inRange, allInRange, numerals, ranged, numbers, form, outside, miscounted, faulty, passed, nextLine, next}
 use Rattle.spec.specs.Expression.{Step}
 use Rattle.spec.specs.Program.{firstNumber, countLine, words, lookUp, valueRange, stepOf, wordLine, stepLine}
 use Rattle.spec.specs.declared.Refusal.the-variants.{ProgramForm, ProgramRange, ProgramLines}
@@ -65,7 +65,7 @@ module _
     {A : Type 0}
     (read : List Field → Seen A)
     (g : Seen (List ℕ) → Seen A)
-    (bad : g badForm ≡ badForm)
+    (bad : g (wrong badForm) ≡ wrong badForm)
     (range : Range)
     (text : List ℕ)
     (c : Cursor)
@@ -75,7 +75,7 @@ module _
     (left : 0 < length (rest text c))
     (shows : (fs : List Field) → read (firstField (rest text c) ∷ fs) ≡ g (numbers (range ∷ []) fs))
   where
-    alone : read (firstField (rest text c) ∷ []) ≡ badForm
+    alone : read (firstField (rest text c) ∷ []) ≡ wrong badForm
     unfolding numbers numerals ranged
     alone = shows [] ∙ bad
 
@@ -96,11 +96,11 @@ module _
 
     module _ (narrow : Narrow range) (v : ℕ) (d : Cursor) (h : TailShown text (s .next) (s .end) (Value v d)) where
       tail-shows : nextLine programSheet read (c .line) (lines (rest text c))
-          ≡ passed programSheet (c .line + 1) (lines (rest text d)) (g (if inRange range v then right (v ∷ []) else badRange))
+          ≡ passed programSheet (c .line + 1) (lines (rest text d)) (g (if inRange range v then right (v ∷ []) else wrong badRange))
       unfolding allInRange
       tail-shows =
           tail-read programSheet read (c .line) (range ∷ []) g text c (firstField (rest text c)) (s .next) (span-comma text c s is p (h .0)) shows (narrow, tt) (v ∷ []) (rest text d) (h .1)
-          ∙ ap (λ b. passed programSheet (c .line + 1) (lines (rest text d)) (g (if b then right (v ∷ []) else badRange))) (and-true (inRange range v))
+          ∙ ap (λ b. passed programSheet (c .line + 1) (lines (rest text d)) (g (if b then right (v ∷ []) else wrong badRange))) (and-true (inRange range v))
 
 -- the number of a line can be counted
 pub line-fits : (text : List ℕ) (c : Cursor) → Placed text c → nothing (rest text c) ≡ false → c .line + 1 < 4294967296
@@ -163,12 +163,12 @@ module _ (text : List ℕ) (c : Cursor) where
 
       module _ (v : ℕ) (d : Cursor) (h : TailShown text (s .next) (s .end) (Value v d)) where
         step-reads : stepAt text c
-            ≡ passed programSheet (c .line + 1) (lines (rest text d)) (seen (stepOf w) (if inRange (valueRange w) v then right (v ∷ []) else badRange))
+            ≡ passed programSheet (c .line + 1) (lines (rest text d)) (seen (stepOf w) (if inRange (valueRange w) v then right (v ∷ []) else wrong badRange))
         unfolding stepAt next placeAt seen
         step-reads = tail-shows stepLine (seen (stepOf w)) refl (valueRange w) text c s is p (left-some (rest text c) e) step-shows (value-narrow w) v d h
 
         pub step-over : limitOf w < v → StepShown text c (step.Refused (ProgramRange (c .line + 1)))
-        unfolding passed seen outside
+        unfolding faulty passed seen outside
         step-over l = step-reads ∙ rw (over-limit w v l) refl
 
         pub step-right : v ≤ limitOf w → StepShown text c (step.Step w v d)
@@ -229,17 +229,17 @@ module _ (text : List ℕ) (c : Cursor) (top : c ≡ start) where
 
       module _ (n : ℕ) (d : Cursor) (h : TailShown text (s .next) (s .end) (Value n d)) where
         count-reads : countAt text
-            ≡ passed programSheet (c .line + 1) (lines (rest text d)) (seen firstNumber (if inRange (1 to 256) n then right (n ∷ []) else badRange))
+            ≡ passed programSheet (c .line + 1) (lines (rest text d)) (seen firstNumber (if inRange (1 to 256) n then right (n ∷ []) else wrong badRange))
         unfolding seen
         count-reads =
             counts ∙ tail-shows countLine (seen firstNumber) refl (1 to 256) text c s is p (left-some (rest text c) e) count-shows (omega arith) n d h
 
         pub count-none : n < 1 → CountShown text (count.Refused (ProgramRange 1))
-        unfolding passed seen outside inRange
+        unfolding faulty passed seen outside inRange
         count-none l = count-reads ∙ rw (lt-leb 1 n l, at-top) refl
 
         pub count-many : 1 ≤ n → 256 < n → CountShown text (count.Refused (ProgramRange 1))
-        unfolding passed seen outside inRange
+        unfolding faulty passed seen outside inRange
         count-many l m = count-reads ∙ rw (le-leb 1 n l, lt-leb n 256 m, at-top) refl
 
         pub count-right : 1 ≤ n → n ≤ 256 → CountShown text (count.Count n d)

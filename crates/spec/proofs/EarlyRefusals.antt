@@ -7,7 +7,7 @@ use Prim.Native.Nat.{ℕ, _+_}
 use lib.Dec.{eqb}
 use Rattle.spec.specs.Choice.{if_then_else_}
 use Rattle.spec.specs.Text.{Line, closed, unclosed, Field, fields}
-use Rattle.spec.specs.Reading.{Out, stop, on, _>>=_, demand, Seen, right, badForm, badRange, SheetName, programSheet, splitSheet, form, outside, miscounted, Place, passed, nextLine, next, nextAll, begin, noneLeft, end}
+use Rattle.spec.specs.Reading.{Out, stop, on, _>>=_, demand, Fault, badForm, badRange, Seen, right, wrong, SheetName, programSheet, splitSheet, form, outside, miscounted, faulty, Place, passed, nextLine, next, nextAll, begin, noneLeft, end}
 use Rattle.spec.specs.Expression.{Step, Expr, leaf, unary, binary, size, single, among, scope}
 use Rattle.spec.specs.Program.{Program, program}
 use Rattle.spec.specs.Split.{Split, split}
@@ -75,11 +75,15 @@ unfolding miscounted returned four onConditions
 miscounted-early programSheet k = refl
 miscounted-early splitSheet k = refl
 
+faulty-early : (sheet : SheetName) (w : Fault) (k : ℕ) → onConditions (numberOf (faulty sheet w k)) ≡ false
+unfolding faulty
+faulty-early sheet badForm k = form-early sheet k
+faulty-early sheet badRange k = outside-early sheet k
+
 passed-early : {A : Type 0} (sheet : SheetName) (k : ℕ) (rest : List Line) (x : Seen A) → Early (passed sheet k rest x)
 unfolding passed
 passed-early sheet k rest (right a) = tt
-passed-early sheet k rest badForm = form-early sheet k
-passed-early sheet k rest badRange = outside-early sheet k
+passed-early sheet k rest (wrong w) = faulty-early sheet w k
 
 line-early : {A : Type 0} (sheet : SheetName) (read : List Field → Seen A) (k : ℕ) (ls : List Line) → Early (nextLine sheet read k ls)
 unfolding nextLine

@@ -11,7 +11,7 @@ use lib.ListN.{length, getD, replicate, take, drop, length-replicate, List·getD
 use borrow.Author.Tests.{eqb-true, leb-true, ltb-true, le-leb, lt-leb}
 use Rattle.spec.specs.Choice.{if_then_else_}
 use Rattle.spec.specs.Text.{Line, bytes, same, Field}
-use Rattle.spec.specs.Reading.{Seen, right, badForm, badRange, seen, Range, _to_, below, inRange, allInRange, numerals, ranged, numbers}
+use Rattle.spec.specs.Reading.{Fault, badForm, badRange, Seen, right, wrong, seen, Range, _to_, below, inRange, allInRange, numerals, ranged, numbers}
 use Rattle.spec.specs.Expression.{Step}
 use Rattle.spec.specs.Split.{Map, Header, headerOf, headerLine, refOf, lockOf, tidOf, typeLine, typeLines, mapLine, Row, rowOf, blank, startRange, rowLine, Split}
 use Rattle.spec.specs.WellFormed.{Shows, nothing, line, WellFormedSplit}
@@ -25,11 +25,8 @@ use Rattle.spec.proofs.Tests.{both-true}
 
 -- ------------------------------------------------------------------ lines that show something
 
-bad-form : {A B : Type 0} {a : A} → badForm ≡ right a → B
-bad-form h = let z : _≡_ {A = ℕ} 0 1 = cc in absurd (omega arith)
-
-bad-range : {A B : Type 0} {a : A} → badRange ≡ right a → B
-bad-range h = let z : _≡_ {A = ℕ} 0 1 = cc in absurd (omega arith)
+wrong-is-not-right : {A B : Type 0} {w : Fault} {a : A} → wrong w ≡ right a → B
+wrong-is-not-right h = let z : _≡_ {A = ℕ} 0 1 = cc in absurd (omega arith)
 
 right-inj : {A : Type 0} {a b : A} → right a ≡ right b → a ≡ b
 right-inj h = cc
@@ -37,12 +34,11 @@ right-inj h = cc
 pub seen-right : {A B : Type 0} {f : A → B} {b : B} (x : Seen A) → seen f x ≡ right b → (a : A) × (x ≡ right a) × (f a ≡ b)
 unfolding seen
 seen-right (right a) h = (a, refl, right-inj h)
-seen-right badForm h = bad-form h
-seen-right badRange h = bad-range h
+seen-right (wrong w) h = wrong-is-not-right h
 
-choice-right : {A : Type 0} {a : A} (b : Bool) (x : Seen A) → (if b then x else badForm) ≡ right a → x ≡ right a
+choice-right : {A : Type 0} {a : A} (b : Bool) (x : Seen A) → (if b then x else wrong badForm) ≡ right a → x ≡ right a
 choice-right true x h = h
-choice-right false x h = bad-form h
+choice-right false x h = wrong-is-not-right h
 
 -- what holds of what either of two ways shows
 either-right : {A : Type 0} (Q : A → Type 0) (b : Bool) (x y : Seen A) → ((a : A) → x ≡ right a → Q a) → ((a : A) → y ≡ right a → Q a)
@@ -50,21 +46,21 @@ either-right : {A : Type 0} (Q : A → Type 0) (b : Bool) (x y : Seen A) → ((a
 either-right Q true x y f g a h = f a h
 either-right Q false x y f g a h = g a h
 
-within-right : {ns ms : List ℕ} (b : Bool) → (if b then right ns else badRange) ≡ right ms → (b ≡ true) × (ns ≡ ms)
+within-right : {ns ms : List ℕ} (b : Bool) → (if b then right ns else wrong badRange) ≡ right ms → (b ≡ true) × (ns ≡ ms)
 within-right true h = (refl, right-inj h)
-within-right false h = bad-range h
+within-right false h = wrong-is-not-right h
 
 pub ranged-right : (rs : List Range) (o : Option (List ℕ)) (ns : List ℕ) → ranged rs o ≡ right ns → (length ns ≡ length rs) × (allInRange rs ns ≡ true)
 unfolding ranged
-ranged-right rs none ns h = bad-form h
+ranged-right rs none ns h = wrong-is-not-right h
 ranged-right rs (some ms) ns h = counted (eqb (length ms) (length rs)) refl h
   where
-    counted : (b : Bool) → eqb (length ms) (length rs) ≡ b → (if b then (if allInRange rs ms then right ms else badRange) else badForm) ≡ right ns
+    counted : (b : Bool) → eqb (length ms) (length rs) ≡ b → (if b then (if allInRange rs ms then right ms else wrong badRange) else wrong badForm) ≡ right ns
         → (length ns ≡ length rs) × (allInRange rs ns ≡ true)
     counted true e h =
         let (t, q) = within-right (allInRange rs ms) h in
         (sym (ap length q) ∙ eqb-true _ _ e, sym (ap (allInRange rs) q) ∙ t)
-    counted false e h = bad-form h
+    counted false e h = wrong-is-not-right h
 
 pub numbers-right : (rs : List Range) (fs : List Field) (ns : List ℕ) → numbers rs fs ≡ right ns → (length ns ≡ length rs) × (allInRange rs ns ≡ true)
 unfolding numbers
@@ -113,7 +109,7 @@ record HeaderFits (H : Header) : Type 0 where
 
 header-fits : (fs : List Field) (H : Header) → headerLine fs ≡ right H → HeaderFits H
 unfolding headerLine headerOf
-header-fits [] H h = bad-form h
+header-fits [] H h = wrong-is-not-right h
 header-fits (f ∷ fs) H h =
     let (ns, n, e) = seen-right _ (choice-right (same f (bytes "C")) _ h) in
     let at = in-range-at ((1 to 1000000000) ∷ (1 to 16) ∷ (1 to 64) ∷ (1 to 512) ∷ []) fs ns n in
@@ -159,13 +155,13 @@ module _ (H : Header) (own : ℕ) (fs : List Field) where
 
 type-fits : (H : Header) (own : ℕ) (fs : List Field) (t : TypeLine) → typeLine H own fs ≡ right t → TypeFits H own t
 unfolding typeLine
-type-fits H own [] t h = bad-form h
+type-fits H own [] t h = wrong-is-not-right h
 type-fits H own (f ∷ fs) t h =
     let fits = TypeFits H own in
     either-right fits (same f (bytes "int")) _ _ (int-fits H own fs)
     (either-right fits (same f (bytes "ref")) _ _ (ref-fits H own fs)
     (either-right fits (same f (bytes "lock")) _ _ (lock-fits H own fs)
-    (either-right fits (same f (bytes "tid")) _ _ (tid-fits H own fs) (λ t h. bad-form h)))) t h
+    (either-right fits (same f (bytes "tid")) _ _ (tid-fits H own fs) (λ t h. wrong-is-not-right h)))) t h
 
 types-fit : (H : Header) (own n : ℕ) {ls rest : List Line} {ts : List TypeLine} → Shows (typeLines H own n) ls ts rest
     → (length ts ≡ n) × ((t : ℕ) → t < length ts → TypeFits H (own + t) (getD ts t type-line.Int))

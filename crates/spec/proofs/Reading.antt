@@ -4,7 +4,7 @@ use mathlib.Core.List.{List, [], _∷_, _++_, append-assoc, append-nil}
 use Prim.Native.Nat.{ℕ, suc, _+_}
 use lib.ListN.{length}
 use Rattle.spec.specs.Text.{Line, closed, unclosed, Field, fields}
-use Rattle.spec.specs.Reading.{Out, stop, on, _>>=_, Seen, right, badForm, badRange, SheetName, Place, passed, nextLine, next, nextAll, begin, noneLeft, end}
+use Rattle.spec.specs.Reading.{Out, stop, on, _>>=_, Seen, right, wrong, SheetName, Place, passed, nextLine, next, nextAll, begin, noneLeft, end}
 use Rattle.spec.specs.WellFormed.{Shows, nothing, line}
 use Rattle.spec.specs.declared.Refusal.{Refusal}
 use Rattle.spec.proofs.Outcomes.{stop-is-not-on, on-injective, bind-goes-on, goes-on-bind}
@@ -50,8 +50,7 @@ passed-right : {A : Type 0} {a : A} {p : Place} (sheet : SheetName) (k : ℕ) (r
     → passed sheet k rest x ≡ on (a, p) → (x ≡ right a) × (rest ≡ p .rest)
 unfolding passed
 passed-right sheet k rest (right a) h = (ap (λ r. right (r .0)) (on-injective h), ap (λ r. r .1 .rest) (on-injective h))
-passed-right sheet k rest badForm h = stop-is-not-on h
-passed-right sheet k rest badRange h = stop-is-not-on h
+passed-right sheet k rest (wrong w) h = stop-is-not-on h
 
 -- the lines ls begin with a closed one that shows a, and rest is behind it
 pub record Begins {A : Type 0} (read : List Field → Seen A) (ls : List Line) (a : A) (rest : List Line) : Type 0 where

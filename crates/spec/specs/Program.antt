@@ -6,7 +6,7 @@ use Prim.Native.Nat.{ℕ}
 use lib.ListN.{getD, replicate}
 use Rattle.spec.specs.Choice.{if_then_else_}
 use Rattle.spec.specs.Text.{bytes, same, lines, Field}
-use Rattle.spec.specs.Reading.{programSheet, Out, _>>=_, on, Seen, badForm, seen, Range, _to_, numbers, next, nextAll, begin, end}
+use Rattle.spec.specs.Reading.{programSheet, Out, _>>=_, on, Seen, wrong, badForm, seen, Range, _to_, numbers, next, nextAll, begin, end}
 use Rattle.spec.specs.Expression.{Step, Expr, listed, single, scope}
 use Rattle.spec.specs.declared.Word.{Word}
 use Rattle.spec.specs.declared.Word.the-variants.{Leaf, Unary, Binary}
@@ -23,8 +23,8 @@ unfoldable pub firstNumber : List ℕ → ℕ
 firstNumber ns = getD ns 0 0
 
 unfoldable pub countLine : List Field → Seen ℕ
-countLine [] = badForm
-countLine (f ∷ fs) = if same f (bytes "P") then seen firstNumber (numbers ((1 to 256) ∷ []) fs) else badForm
+countLine [] = wrong badForm
+countLine (f ∷ fs) = if same f (bytes "P") then seen firstNumber (numbers ((1 to 256) ∷ []) fs) else wrong badForm
 
 -- the words, by their number of parts
 unfoldable pub words : List (List ℕ × Word)
@@ -67,11 +67,11 @@ unfoldable pub stepOf : Word → List ℕ → Step
 stepOf w ns = record { word = w; value = firstNumber ns }
 
 unfoldable pub wordLine : Option Word → List Field → Seen Step
-wordLine none fs = badForm
+wordLine none fs = wrong badForm
 wordLine (some w) fs = seen (stepOf w) (numbers (valueRange w ∷ []) fs)
 
 unfoldable pub stepLine : List Field → Seen Step
-stepLine [] = badForm
+stepLine [] = wrong badForm
 stepLine (f ∷ fs) = wordLine (lookUp words f) fs
 
 -- a program: its steps in line order, the first at line 2, and the expression that they list

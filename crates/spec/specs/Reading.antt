@@ -29,15 +29,18 @@ demand false r = stop r
 
 -- ------------------------------------------------------------------ numbers on a line
 
+-- what can be wrong with a closed line
+pub data Fault : Type 0 where
+  badForm badRange : Fault
+
 -- what a closed line shows: form is judged before range
 pub data Seen (A : Type 0) : Type 0 where
   right : A → Seen A
-  badForm badRange : Seen A
+  wrong : Fault → Seen A
 
 unfoldable pub seen : {A B : Type 0} → (A → B) → Seen A → Seen B
 seen f (right a) = right (f a)
-seen f badForm = badForm
-seen f badRange = badRange
+seen f (wrong w) = wrong w
 
 -- the range of a number: from the first to the last, both in it; or the number of one of so many things, counted from 0
 infix 4 _to_
@@ -66,11 +69,11 @@ numerals [] = some []
 numerals (f ∷ fs) = withNumeral (numeral f) (numerals fs)
 
 unfoldable pub ranged : List Range → Option (List ℕ) → Seen (List ℕ)
-ranged rs none = badForm
+ranged rs none = wrong badForm
 ranged rs (some ns) =
     if eqb (length ns) (length rs)
-    then (if allInRange rs ns then right ns else badRange)
-    else badForm
+    then (if allInRange rs ns then right ns else wrong badRange)
+    else wrong badForm
 
 -- as many numerals as ranges, each in its range
 unfoldable pub numbers : List Range → List Field → Seen (List ℕ)
@@ -94,6 +97,10 @@ unfoldable pub miscounted : SheetName → (line : ℕ) → Refusal
 miscounted programSheet k = ProgramLines k
 miscounted splitSheet k = SplitLines k
 
+unfoldable pub faulty : SheetName → Fault → (line : ℕ) → Refusal
+faulty sheet badForm k = form sheet k
+faulty sheet badRange k = outside sheet k
+
 -- the reading place: the number of the last line read, 0 before the first, and the lines behind it
 pub record Place : Type 0 where
   pub last : ℕ
@@ -101,8 +108,7 @@ pub record Place : Type 0 where
 
 unfoldable pub passed : {A : Type 0} → SheetName → (line : ℕ) → List Line → Seen A → Out (A × Place)
 passed sheet k rest (right a) = on (a, record { last = k; rest = rest })
-passed sheet k rest badForm = stop (form sheet k)
-passed sheet k rest badRange = stop (outside sheet k)
+passed sheet k rest (wrong w) = stop (faulty sheet w k)
 
 -- a counted line: missing, without its closing byte, or what its fields show
 unfoldable pub nextLine : {A : Type 0} → SheetName → (List Field → Seen A) → (last : ℕ) → List Line → Out (A × Place)

@@ -5,7 +5,7 @@ use Prim.Native.Nat.{ℕ, zero, suc, _+_}
 use lib.ListN.{getD, replicate, take, drop}
 use Rattle.spec.specs.Choice.{if_then_else_}
 use Rattle.spec.specs.Text.{bytes, same, lines, Field}
-use Rattle.spec.specs.Reading.{splitSheet, Out, _>>=_, on, Seen, badForm, seen, Range, _to_, below, numbers, next, nextAll, begin, end}
+use Rattle.spec.specs.Reading.{splitSheet, Out, _>>=_, on, Seen, wrong, badForm, seen, Range, _to_, below, numbers, next, nextAll, begin, end}
 use Rattle.spec.specs.Expression.{Step}
 use Rattle.spec.specs.declared.TypeNumber.{TypeNumber}
 use Rattle.spec.specs.declared.MapNumber.{MapNumber}
@@ -35,11 +35,11 @@ unfoldable pub headerOf : List ℕ → Header
 headerOf ns = record { denominator = getD ns 0 0; locations = getD ns 1 0; types = getD ns 2 0; maps = getD ns 3 0 }
 
 unfoldable pub headerLine : List Field → Seen Header
-headerLine [] = badForm
+headerLine [] = wrong badForm
 headerLine (f ∷ fs) =
     if same f (bytes "C")
     then seen headerOf (numbers ((1 to 1000000000) ∷ (1 to 16) ∷ (1 to 64) ∷ (1 to 512) ∷ []) fs)
-    else badForm
+    else wrong badForm
 
 -- `int,0,0`; `ref,p,t`; `lock,k,0`; `tid,k,0`. A content type's number is less than the type's own.
 unfoldable pub refOf : List ℕ → TypeLine
@@ -52,13 +52,13 @@ unfoldable pub tidOf : List ℕ → TypeLine
 tidOf ns = Tid (record { 0 = getD ns 0 0 })
 
 unfoldable pub typeLine : Header → (own : ℕ) → List Field → Seen TypeLine
-typeLine H own [] = badForm
+typeLine H own [] = wrong badForm
 typeLine H own (f ∷ fs) =
     if same f (bytes "int") then seen (λ ns. Int) (numbers ((0 to 0) ∷ (0 to 0) ∷ []) fs)
     else if same f (bytes "ref") then seen refOf (numbers (below (H .locations) ∷ below own ∷ []) fs)
     else if same f (bytes "lock") then seen lockOf (numbers (below (H .maps) ∷ (0 to 0) ∷ []) fs)
     else if same f (bytes "tid") then seen tidOf (numbers (below (H .maps) ∷ (0 to 0) ∷ []) fs)
-    else badForm
+    else wrong badForm
 
 -- the lines of n types, numbered from `own` upward
 unfoldable pub typeLines : Header → (own n : ℕ) → List (List Field → Seen TypeLine)

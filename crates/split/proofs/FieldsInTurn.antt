@@ -6,7 +6,7 @@ use Prim.Native.Nat.{ℕ, _+_, _<_}
 use native.Mathlib.Omega.{arith}
 use lib.ListN.{length}
 use Rattle.spec.specs.Text.{lines, Field}
-use Rattle.spec.specs.Reading.{splitSheet, Out, stop, Place, Seen, badForm, form, passed, nextLine, next}
+use Rattle.spec.specs.Reading.{splitSheet, Out, stop, Place, Seen, wrong, badForm, form, faulty, passed, nextLine, next}
 use Rattle.spec.specs.declared.Refusal.the-variants.{SplitForm}
 use Rattle.lexer.specs.Views.{endOf, firstField, behind, withField, lineAt}
 use Rattle.lexer.specs.Cursors.{rest, placeAt}
@@ -23,8 +23,8 @@ shown read k none = stop (SplitForm k)
 shown read k (some found) = passed splitSheet k (lines (found .1)) (read (found .0))
 
 module _ {A : Type 0} (read : List Field → Seen A) (k : ℕ) where
-  bad-line : (fs : List Field) (r : List ℕ) → read fs ≡ badForm → shown read k (some (fs, r)) ≡ stop (SplitForm k)
-  unfolding shown passed form
+  bad-line : (fs : List Field) (r : List ℕ) → read fs ≡ wrong badForm → shown read k (some (fs, r)) ≡ stop (SplitForm k)
+  unfolding shown faulty passed form
   bad-line fs r e = rw e
 
   pub behind-field : (f : Field) (o : Option (List Field × List ℕ)) → shown read k (withField f o) ≡ shown (λ fs. read (f ∷ fs)) k o
@@ -32,12 +32,12 @@ module _ {A : Type 0} (read : List Field → Seen A) (k : ℕ) where
   behind-field f none = refl
   behind-field f (some found) = refl
 
-  bad-fields : (f : Field) (o : Option (List Field × List ℕ)) → ((fs : List Field) → read (f ∷ fs) ≡ badForm) → shown read k (withField f o) ≡ stop (SplitForm k)
+  bad-fields : (f : Field) (o : Option (List Field × List ℕ)) → ((fs : List Field) → read (f ∷ fs) ≡ wrong badForm) → shown read k (withField f o) ≡ stop (SplitForm k)
   unfolding withField shown
   bad-fields f none h = refl
   bad-fields f (some found) h = bad-line (f ∷ found .0) (found .1) (h (found .0))
 
-  more-fields : (f : Field) (t : List ℕ) (o : Option (List Field × List ℕ)) → lineAt t ≡ o → ((g : Field) (gs : List Field) → read (f ∷ g ∷ gs) ≡ badForm)
+  more-fields : (f : Field) (t : List ℕ) (o : Option (List Field × List ℕ)) → lineAt t ≡ o → ((g : Field) (gs : List Field) → read (f ∷ g ∷ gs) ≡ wrong badForm)
       → shown read k (withField f o) ≡ stop (SplitForm k)
   unfolding withField shown
   more-fields f t none e h = refl
@@ -50,7 +50,7 @@ module _ {A : Type 0} (read : List Field → Seen A) (k : ℕ) where
     open-line e = ap (shown read k) (line-text t e)
 
     -- the first field is enough to refuse the line
-    pub field-wrong : ((fs : List Field) → read (firstField t ∷ fs) ≡ badForm) → shown read k (lineAt t) ≡ stop (SplitForm k)
+    pub field-wrong : ((fs : List Field) → read (firstField t ∷ fs) ≡ wrong badForm) → shown read k (lineAt t) ≡ stop (SplitForm k)
     field-wrong h = go (endOf t) refl
       where
         go : (e : FieldEnd) → endOf t ≡ e → shown read k (lineAt t) ≡ stop (SplitForm k)
@@ -59,7 +59,7 @@ module _ {A : Type 0} (read : List Field → Seen A) (k : ℕ) where
         go Text e = open-line e
 
     -- too few fields
-    pub field-last : (endOf t ≡ Comma → ⊥) → read (firstField t ∷ []) ≡ badForm → shown read k (lineAt t) ≡ stop (SplitForm k)
+    pub field-last : (endOf t ≡ Comma → ⊥) → read (firstField t ∷ []) ≡ wrong badForm → shown read k (lineAt t) ≡ stop (SplitForm k)
     field-last n h = go (endOf t) refl
       where
         go : (e : FieldEnd) → endOf t ≡ e → shown read k (lineAt t) ≡ stop (SplitForm k)
@@ -68,7 +68,7 @@ module _ {A : Type 0} (read : List Field → Seen A) (k : ℕ) where
         go Text e = open-line e
 
     -- too many fields
-    pub field-more : (endOf t ≡ Newline → ⊥) → ((g : Field) (gs : List Field) → read (firstField t ∷ g ∷ gs) ≡ badForm) → shown read k (lineAt t) ≡ stop (SplitForm k)
+    pub field-more : (endOf t ≡ Newline → ⊥) → ((g : Field) (gs : List Field) → read (firstField t ∷ g ∷ gs) ≡ wrong badForm) → shown read k (lineAt t) ≡ stop (SplitForm k)
     field-more n h = go (endOf t) refl
       where
         go : (e : FieldEnd) → endOf t ≡ e → shown read k (lineAt t) ≡ stop (SplitForm k)

@@ -10,7 +10,7 @@ use lib.ListN.{length, getD}
 use borrow.Author.Tests.{leb-true}
 use Rattle.spec.specs.Choice.{if_then_else_}
 use Rattle.spec.specs.Text.{bytes, same, Field, lines}
-use Rattle.spec.specs.Reading.{splitSheet, Out, stop, on, Place, Seen, right, badForm, badRange, seen, _to_, inRange, allInRange, numerals, ranged, numbers, form, passed, next}
+use Rattle.spec.specs.Reading.{splitSheet, Out, stop, on, Place, Seen, right, wrong, badForm, badRange, seen, _to_, inRange, allInRange, numerals, ranged, numbers, form, passed, next}
 use Rattle.spec.specs.Split.{Header, headerOf, headerLine}
 use Rattle.spec.specs.declared.Refusal.the-variants.{SplitForm, SplitRange}
 use Rattle.lexer.specs.Views.{endOf, firstField}
@@ -78,15 +78,15 @@ module _ (f : Field) where
   unfolding headerLine headerRanges
   header-shows e fs = rw e
 
-  header-wrong : same f (bytes "C") ≡ false → (fs : List Field) → headerLine (f ∷ fs) ≡ badForm
+  header-wrong : same f (bytes "C") ≡ false → (fs : List Field) → headerLine (f ∷ fs) ≡ wrong badForm
   unfolding headerLine
   header-wrong e fs = rw e
 
-  header-alone : headerLine (f ∷ []) ≡ badForm
+  header-alone : headerLine (f ∷ []) ≡ wrong badForm
   unfolding headerLine seen numbers numerals ranged
   header-alone = go (same f (bytes "C"))
     where
-      go : (x : Bool) → _≡_ {A = Seen Header} (if x then badForm else badForm) badForm
+      go : (x : Bool) → _≡_ {A = Seen Header} (if x then (wrong badForm) else wrong badForm) (wrong badForm)
       go true = refl
       go false = refl
 
@@ -114,7 +114,7 @@ module _ (text : List ℕ) (c : Cursor) (some-left : 0 < length (rest text c)) w
 
       module _ (ns : List ℕ) (e : Cursor) (h : LineRead text d 4 ns e) where
         reads : next splitSheet headerLine (placeAt text c)
-            ≡ passed splitSheet (c .line + 1) (lines (rest text e)) (seen headerOf (if allInRange headerRanges ns then right ns else badRange))
+            ≡ passed splitSheet (c .line + 1) (lines (rest text e)) (seen headerOf (if allInRange headerRanges ns then right ns else wrong badRange))
         unfolding headerRanges
         reads =
             next-at splitSheet text headerLine c

@@ -4,7 +4,7 @@ use mathlib.Core.List.{List}
 use mathlib.Core.Bool.{true, false}
 use Prim.Native.Nat.{ℕ, _+_}
 use Rattle.spec.specs.Text.{lines, Line, Field}
-use Rattle.spec.specs.Reading.{splitSheet, stop, on, Seen, right, badForm, badRange, form, outside, miscounted, passed, next, end}
+use Rattle.spec.specs.Reading.{splitSheet, stop, on, Seen, right, wrong, badForm, badRange, form, outside, miscounted, faulty, passed, next, end}
 use Rattle.spec.specs.declared.Refusal.the-variants.{SplitForm, SplitRange, SplitLines}
 use Rattle.lexer.specs.Views.{endOf, firstField, nothing, withField, lineAt}
 use Rattle.lexer.specs.Cursors.{Placed, rest, next as nextCursor, placeAt}
@@ -32,12 +32,12 @@ module _ (text : List ℕ) (c : Cursor) where
 -- ------------------------------------------------------------------ what a line shows
 
 module _ {A : Type 0} (k : ℕ) (l : List Line) where
-  pub shows-form : {s : Seen A} → s ≡ badForm → passed splitSheet k l s ≡ stop (SplitForm k)
-  unfolding passed form
+  pub shows-form : {s : Seen A} → s ≡ wrong badForm → passed splitSheet k l s ≡ stop (SplitForm k)
+  unfolding faulty passed form
   shows-form e = rw e
 
-  pub shows-range : {s : Seen A} → s ≡ badRange → passed splitSheet k l s ≡ stop (SplitRange k)
-  unfolding passed outside
+  pub shows-range : {s : Seen A} → s ≡ wrong badRange → passed splitSheet k l s ≡ stop (SplitRange k)
+  unfolding faulty passed outside
   shows-range e = rw e
 
 pub shows-entry : {A : Type 0} (text : List ℕ) (c d : Cursor) {s : Seen A} (a : A) → s ≡ right a → d .line ≡ c .line + 1

@@ -11,7 +11,7 @@ use lib.Seq.{drop-cons}
 use borrow.Author.Tests.{le-leb, lt-leb}
 use Rattle.spec.specs.Choice.{if_then_else_}
 use Rattle.spec.specs.Text.{Field, lines}
-use Rattle.spec.specs.Reading.{splitSheet, stop, on, right, badRange, _to_, inRange, allInRange, numbers, form, next}
+use Rattle.spec.specs.Reading.{splitSheet, stop, on, right, wrong, badRange, _to_, inRange, allInRange, numbers, form, next}
 use Rattle.spec.specs.declared.Refusal.the-variants.{SplitForm, SplitRange}
 use Rattle.lexer.specs.Cursors.{rest, placeAt}
 use Rattle.lexer.specs.Numbers.{numbersAt}
@@ -83,7 +83,7 @@ module _ (text : List ℕ) (c : Cursor) (n : ℕ) where
 
   module _ (ns : List ℕ) (d : Cursor) (h : LineRead text c n ns d) where
     reads : next splitSheet (cellLine n) (placeAt text c)
-        ≡ Rattle.spec.specs.Reading.passed splitSheet (c .line + 1) (lines (rest text d)) (if allInRange (cells n) ns then right ns else badRange)
+        ≡ Rattle.spec.specs.Reading.passed splitSheet (c .line + 1) (lines (rest text d)) (if allInRange (cells n) ns then right ns else wrong badRange)
     reads =
         next-at splitSheet text (cellLine n) c
         ∙ numerals-read splitSheet (cellLine n) (c .line) (cells n) (λ s. s) text c shows (cells-narrow n) ns (rest text d) (ap (numbersAt text c) counts ∙ h .numbers)

@@ -10,7 +10,7 @@ use lib.ListN.{length, take, drop}
 use borrow.Author.Tests.{ne-eqb}
 use Rattle.spec.specs.Choice.{if_then_else_}
 use Rattle.spec.specs.Text.{lines, Field, numeral, digitLimit}
-use Rattle.spec.specs.Reading.{splitSheet, Out, stop, Place, Seen, right, badForm, badRange, seen, Range, below, inRange, allInRange, withNumeral, numerals, ranged, numbers, passed, next}
+use Rattle.spec.specs.Reading.{splitSheet, Out, stop, Place, Seen, right, wrong, badForm, badRange, seen, Range, below, inRange, allInRange, withNumeral, numerals, ranged, numbers, passed, next}
 use Rattle.spec.specs.Split.{Header, Row, rowOf, blank, startRange, rowLine}
 use Rattle.spec.specs.declared.Refusal.the-variants.{SplitForm, SplitRange}
 use Rattle.spec.specs.declared.Word.{Word}
@@ -57,7 +57,7 @@ abbrev three : Header → Word → List Range
 three H w = below (H .types) ∷ below (H .maps) ∷ startRange w H ∷ []
 
 -- a field that is no numeral
-no-numerals : (rs : List Range) (fs : List Field) → numerals fs ≡ none → numbers rs fs ≡ badForm
+no-numerals : (rs : List Range) (fs : List Field) → numerals fs ≡ none → numbers rs fs ≡ wrong badForm
 unfolding numbers ranged
 no-numerals rs fs e = rw e
 
@@ -88,43 +88,43 @@ as-many (f ∷ fs) = go (numeral f) (numerals fs) (as-many fs)
     go (some n) none h = tt
     go (some n) (some ns) h = ap suc h
 
-other-count : (rs : List Range) (fs : List Field) → (length fs ≡ length rs → ⊥) → numbers rs fs ≡ badForm
+other-count : (rs : List Range) (fs : List Field) → (length fs ≡ length rs → ⊥) → numbers rs fs ≡ wrong badForm
 unfolding numbers ranged AsMany
 other-count rs fs n = go (numerals fs) (as-many fs)
   where
-    go : (o : Option (List ℕ)) → AsMany fs o → ranged rs o ≡ badForm
+    go : (o : Option (List ℕ)) → AsMany fs o → ranged rs o ≡ wrong badForm
     go none h = refl
     go (some ns) h = rw (ne-eqb (length ns) (length rs) (λ e. n (sym h ∙ e)))
 
 module _ (H : Header) (w : Word) where
-  either-bad : (fs : List Field) → numbers (two H) (take 2 fs) ≡ badForm → numbers (three H w) fs ≡ badForm → wordLine H w fs ≡ badForm
+  either-bad : (fs : List Field) → numbers (two H) (take 2 fs) ≡ wrong badForm → numbers (three H w) fs ≡ wrong badForm → wordLine H w fs ≡ wrong badForm
   unfolding wordLine rowLine seen
   either-bad fs a b = go (blank (drop 2 fs))
     where
-      go : (x : Bool) → seen rowOf (if x then numbers (two H) (take 2 fs) else numbers (three H w) fs) ≡ badForm
+      go : (x : Bool) → seen rowOf (if x then numbers (two H) (take 2 fs) else numbers (three H w) fs) ≡ wrong badForm
       go true = rw a
       go false = rw b
 
-  three-bad : (fs : List Field) → blank (drop 2 fs) ≡ false → numbers (three H w) fs ≡ badForm → wordLine H w fs ≡ badForm
+  three-bad : (fs : List Field) → blank (drop 2 fs) ≡ false → numbers (three H w) fs ≡ wrong badForm → wordLine H w fs ≡ wrong badForm
   unfolding wordLine rowLine seen
   three-bad fs e b = rw (e, b)
 
   -- no numeral in front
-  first-bad : (f : Field) → numeral f ≡ none → (fs : List Field) → wordLine H w (f ∷ fs) ≡ badForm
+  first-bad : (f : Field) → numeral f ≡ none → (fs : List Field) → wordLine H w (f ∷ fs) ≡ wrong badForm
   first-bad f e fs =
       either-bad (f ∷ fs) (no-numerals (two H) (take 2 (f ∷ fs)) (not-first f (take 1 fs) e)) (no-numerals (three H w) (f ∷ fs) (not-first f fs e))
 
-  first-alone : (f : Field) → wordLine H w (f ∷ []) ≡ badForm
+  first-alone : (f : Field) → wordLine H w (f ∷ []) ≡ wrong badForm
   unfolding blank
   first-alone f = three-bad (f ∷ []) refl (other-count (three H w) (f ∷ []) (λ e. omega arith))
 
   module _ (f : Field) where
-    second-bad : (g : Field) → numeral g ≡ none → (fs : List Field) → wordLine H w (f ∷ g ∷ fs) ≡ badForm
+    second-bad : (g : Field) → numeral g ≡ none → (fs : List Field) → wordLine H w (f ∷ g ∷ fs) ≡ wrong badForm
     second-bad g e fs =
         either-bad (f ∷ g ∷ fs) (no-numerals (two H) (take 2 (f ∷ g ∷ fs)) (not-behind f (g ∷ []) (not-first g [] e)))
         (no-numerals (three H w) (f ∷ g ∷ fs) (not-behind f (g ∷ fs) (not-first g fs e)))
 
-    second-alone : (g : Field) → wordLine H w (f ∷ g ∷ []) ≡ badForm
+    second-alone : (g : Field) → wordLine H w (f ∷ g ∷ []) ≡ wrong badForm
     unfolding blank
     second-alone g = three-bad (f ∷ g ∷ []) refl (other-count (three H w) (f ∷ g ∷ []) (λ e. omega arith))
 
@@ -136,7 +136,7 @@ module _ (H : Header) (w : Word) where
       not-blank (b ∷ s) n (t ∷ fs) = refl
 
       -- neither empty nor a numeral
-      third-bad : (s : Field) → numeral s ≡ none → (s ≡ [] → ⊥) → (fs : List Field) → wordLine H w (f ∷ g ∷ s ∷ fs) ≡ badForm
+      third-bad : (s : Field) → numeral s ≡ none → (s ≡ [] → ⊥) → (fs : List Field) → wordLine H w (f ∷ g ∷ s ∷ fs) ≡ wrong badForm
       third-bad s e n fs =
           three-bad (f ∷ g ∷ s ∷ fs) (not-blank s n fs) (no-numerals (three H w) (f ∷ g ∷ s ∷ fs) (not-behind f (g ∷ s ∷ fs) (not-behind g (s ∷ fs) (not-first s fs e))))
 
@@ -145,21 +145,21 @@ module _ (H : Header) (w : Word) where
       blank-more [] t fs = refl
       blank-more (b ∷ s) t fs = refl
 
-      fourth-bad : (s t : Field) (fs : List Field) → wordLine H w (f ∷ g ∷ s ∷ t ∷ fs) ≡ badForm
+      fourth-bad : (s t : Field) (fs : List Field) → wordLine H w (f ∷ g ∷ s ∷ t ∷ fs) ≡ wrong badForm
       fourth-bad s t fs = three-bad (f ∷ g ∷ s ∷ t ∷ fs) (blank-more s t fs) (other-count (three H w) (f ∷ g ∷ s ∷ t ∷ fs) (λ e. omega arith))
 
 -- a row whose numbers are in their ranges
 abbrev rowShown : Header → (starts a b s : ℕ) → Seen Row
 rowShown H starts a b s =
-    if allInRange (below (H .types) ∷ below (H .maps) ∷ below starts ∷ []) (a ∷ b ∷ s ∷ []) then right (rowOf (a ∷ b ∷ s ∷ [])) else badRange
+    if allInRange (below (H .types) ∷ below (H .maps) ∷ below starts ∷ []) (a ∷ b ∷ s ∷ []) then right (rowOf (a ∷ b ∷ s ∷ [])) else wrong badRange
 
-seen-row : (x : Bool) (ns : List ℕ) → seen rowOf (if x then right ns else badRange) ≡ (if x then right (rowOf ns) else badRange)
+seen-row : (x : Bool) (ns : List ℕ) → seen rowOf (if x then right ns else wrong badRange) ≡ (if x then right (rowOf ns) else wrong badRange)
 unfolding seen
 seen-row true ns = refl
 seen-row false ns = refl
 
 -- map 0 is always there
-empty-range : (H : Header) (a b : ℕ) → (if allInRange (two H) (a ∷ b ∷ []) then right (rowOf (a ∷ b ∷ [])) else badRange) ≡ rowShown H 1 a b 0
+empty-range : (H : Header) (a b : ℕ) → (if allInRange (two H) (a ∷ b ∷ []) then right (rowOf (a ∷ b ∷ [])) else wrong badRange) ≡ rowShown H 1 a b 0
 unfolding allInRange inRange rowOf
 empty-range H a b = refl
 
@@ -215,12 +215,12 @@ made-row row a b s p q r = rw (← p, ← q, ← r)
 
 tested : (H : Header) (starts : ℕ) (row : RowNumbers) (a b s : ℕ) → row .typed .0 ≡ a → row .post .0 ≡ b → row .start .0 ≡ s → (x : Bool)
     → allInRange (below (H .types) ∷ below (H .maps) ∷ below starts ∷ []) (row .typed .0 ∷ row .post .0 ∷ row .start .0 ∷ []) ≡ x
-    → rowShown H starts a b s ≡ (if x then right (rowTold row) else badRange)
+    → rowShown H starts a b s ≡ (if x then right (rowTold row) else wrong badRange)
 tested H starts row a b s p q r x e =
     let rs = below (H .types) ∷ below (H .maps) ∷ below starts ∷ [] in
     let same : allInRange rs (a ∷ b ∷ s ∷ []) ≡ allInRange rs (row .typed .0 ∷ row .post .0 ∷ row .start .0 ∷ []) = rw (← p, ← q, ← r) in
-    ap (λ (y : Bool). if y then right (rowOf (a ∷ b ∷ s ∷ [])) else badRange) (same ∙ e)
-    ∙ ap (λ (y : Row). if x then right y else badRange) (made-row row a b s p q r)
+    ap (λ (y : Bool). if y then right (rowOf (a ∷ b ∷ s ∷ [])) else wrong badRange) (same ∙ e)
+    ∙ ap (λ (y : Row). if x then right y else wrong badRange) (made-row row a b s p q r)
 
 module _ (H : Header) (w : Word) (text : List ℕ) (c : Cursor) (p : Placed text c) (some-left : 0 < length (rest text c)) where
   abbrev out : Out (Row × Place)

@@ -8,7 +8,7 @@ use native.Mathlib.Omega.{arith}
 use lib.ListN.{length, getD}
 use Rattle.spec.specs.Choice.{if_then_else_}
 use Rattle.spec.specs.Text.{Field, lines}
-use Rattle.spec.specs.Reading.{splitSheet, stop, on, Seen, right, badForm, badRange, seen, Range, _to_, below, allInRange, numerals, ranged, numbers, form, passed, nextLine, next}
+use Rattle.spec.specs.Reading.{splitSheet, stop, on, Seen, right, wrong, badForm, badRange, seen, Range, _to_, below, allInRange, numerals, ranged, numbers, form, faulty, passed, nextLine, next}
 use Rattle.spec.specs.Split.{Header, refOf, lockOf, tidOf, typeLine}
 use Rattle.spec.specs.declared.Refusal.the-variants.{SplitForm, SplitRange}
 use Rattle.spec.specs.declared.TypeLine.{TypeLine}
@@ -41,7 +41,7 @@ two (a ∷ b ∷ c ∷ l) h = absurd (omega arith)
 -- ------------------------------------------------------------------ by kind
 
 module _ (H : Header) (own : ℕ) where
-  kind-alone : (k : TypeWord) → ofKind H own [] k ≡ badForm
+  kind-alone : (k : TypeWord) → ofKind H own [] k ≡ wrong badForm
   unfolding ofKind seen numbers numerals ranged
   kind-alone kind.Int = refl
   kind-alone kind.Ref = refl
@@ -49,11 +49,11 @@ module _ (H : Header) (own : ℕ) where
   kind-alone kind.Tid = refl
   kind-alone kind.Unknown = refl
 
-seen-ranged : (rs : List Range) (f : List ℕ → TypeLine) (ns : List ℕ) → seen f (if allInRange rs ns then right ns else badRange) ≡ rangedType rs f ns
+seen-ranged : (rs : List Range) (f : List ℕ → TypeLine) (ns : List ℕ) → seen f (if allInRange rs ns then right ns else wrong badRange) ≡ rangedType rs f ns
 unfolding seen rangedType
 seen-ranged rs f ns = go (allInRange rs ns)
   where
-    go : (x : Bool) → seen f (if x then right ns else badRange) ≡ (if x then right (f ns) else badRange)
+    go : (x : Bool) → seen f (if x then right ns else wrong badRange) ≡ (if x then right (f ns) else wrong badRange)
     go true = refl
     go false = refl
 
@@ -98,7 +98,7 @@ module _ (H : Header) (own : ℕ) (text : List ℕ) (c : Cursor) (some-left : 0 
 
     kind-read : (H .locations ≤ 16) × (H .maps ≤ 512) × (own < 64) → (k : TypeWord) → typeWordOf (firstField (rest text c)) ≡ k → (ns r : List ℕ) → numbersAt text d 2 ≡ some (ns, r)
         → nextLine splitSheet (typeLine H own) (c .line) (lines (rest text c)) ≡ passed splitSheet (c .line + 1) (lines r) (typeSeen k H own ns)
-    unfolding ofKind typeSeen passed form
+    unfolding ofKind typeSeen faulty passed form
     kind-read few kind.Int e ns r n = known-read ((0 to 0) ∷ (0 to 0) ∷ []) (λ ns. type-line.Int) (as-kind kind.Int e) (omega arith, (omega arith, tt)) ns r n
     kind-read few kind.Ref e ns r n = known-read (below (H .locations) ∷ below own ∷ []) refOf (as-kind kind.Ref e) (omega arith, (omega arith, tt)) ns r n
     kind-read few kind.Lock e ns r n = known-read (below (H .maps) ∷ (0 to 0) ∷ []) lockOf (as-kind kind.Lock e) (omega arith, (omega arith, tt)) ns r n
@@ -120,20 +120,20 @@ module _ (H : Header) (own : ℕ) (text : List ℕ) (c : Cursor) (some-left : 0 
       right-of : (x : Seen TypeLine) (t : TypeLine) → typeSeenOf x ≡ type-seen.Right t → x ≡ right t
       unfolding typeSeenOf
       right-of (right u) t q = cc
-      right-of badForm t q = cc
-      right-of badRange t q = cc
+      right-of (wrong badForm) t q = cc
+      right-of (wrong badRange) t q = cc
 
-      form-of : (x : Seen TypeLine) → typeSeenOf x ≡ type-seen.BadForm → x ≡ badForm
+      form-of : (x : Seen TypeLine) → typeSeenOf x ≡ type-seen.BadForm → x ≡ wrong badForm
       unfolding typeSeenOf
       form-of (right u) q = cc
-      form-of badForm q = refl
-      form-of badRange q = cc
+      form-of (wrong badForm) q = refl
+      form-of (wrong badRange) q = cc
 
-      range-of : (x : Seen TypeLine) → typeSeenOf x ≡ type-seen.BadRange → x ≡ badRange
+      range-of : (x : Seen TypeLine) → typeSeenOf x ≡ type-seen.BadRange → x ≡ wrong badRange
       unfolding typeSeenOf
       range-of (right u) q = cc
-      range-of badForm q = cc
-      range-of badRange q = refl
+      range-of (wrong badForm) q = cc
+      range-of (wrong badRange) q = refl
 
       pub type-on : (t : TypeLine) → s ≡ type-seen.Right t → next splitSheet (typeLine H own) (placeAt text c) ≡ on (t, placeAt text e)
       type-on t q =

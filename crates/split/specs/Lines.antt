@@ -4,7 +4,7 @@ use Prim.Native.Nat.{ℕ}
 use lib.ListN.{replicate}
 use Rattle.spec.specs.Choice.{if_then_else_}
 use Rattle.spec.specs.Text.{Field}
-use Rattle.spec.specs.Reading.{Seen, right, badForm, badRange, Range, _to_, below, allInRange, numbers}
+use Rattle.spec.specs.Reading.{Seen, right, wrong, badForm, badRange, Range, _to_, below, allInRange, numbers}
 use Rattle.spec.specs.Split.{Map, Header, refOf, lockOf, tidOf, Row, rowLine}
 use Rattle.spec.specs.declared.Refusal.the-variants.{SplitRange}
 use Rattle.spec.specs.declared.Word.{Word}
@@ -42,19 +42,19 @@ headerNumbers d l t m = d ∷ l ∷ t ∷ m ∷ []
 
 -- a kind with its two numbers in their ranges
 unfoldable pub rangedType : List Range → (List ℕ → TypeLine) → List ℕ → Seen TypeLine
-rangedType rs f ns = if allInRange rs ns then right (f ns) else badRange
+rangedType rs f ns = if allInRange rs ns then right (f ns) else wrong badRange
 
 unfoldable pub typeSeen : TypeWord → Header → (own : ℕ) → List ℕ → Seen TypeLine
 typeSeen kind.Int H own ns = rangedType ((0 to 0) ∷ (0 to 0) ∷ []) (λ ns. type-line.Int) ns
 typeSeen kind.Ref H own ns = rangedType (below (H .locations) ∷ below own ∷ []) refOf ns
 typeSeen kind.Lock H own ns = rangedType (below (H .maps) ∷ (0 to 0) ∷ []) lockOf ns
 typeSeen kind.Tid H own ns = rangedType (below (H .maps) ∷ (0 to 0) ∷ []) tidOf ns
-typeSeen kind.Unknown H own ns = badForm
+typeSeen kind.Unknown H own ns = wrong badForm
 
 unfoldable pub typeSeenOf : Seen TypeLine → TypeSeen
 typeSeenOf (right t) = type-seen.Right t
-typeSeenOf badForm = type-seen.BadForm
-typeSeenOf badRange = type-seen.BadRange
+typeSeenOf (wrong badForm) = type-seen.BadForm
+typeSeenOf (wrong badRange) = type-seen.BadRange
 
 -- ------------------------------------------------------------------ maps
 
