@@ -1,6 +1,6 @@
 -- Well-typed states (Definition 2.3), and the two ways in which a change keeps them well typed.
 use Prim.Native.Nat.{ℕ, suc, _+_, _≤_, max}
-use mathlib.Core.Path.{_≡_, ap, _∙_}
+use mathlib.Core.Path.{_≡_, refl, ap, _∙_}
 use mathlib.Core.Logic.{_≢_}
 use mathlib.Core.Option.{Option, none, some}
 use mathlib.Core.List.{List}
@@ -31,6 +31,16 @@ slot-grows s slot-unused = slot-unused
 slot-grows s slot-identifier = slot-identifier
 slot-grows s (slot-cell t) = slot-cell (value-grows s t)
 slot-grows s slot-lock = slot-lock
+
+-- The slot of a name, read off the name's type: one row a kind of thing.
+pub identifier-there : {N : Env} {sl : Slot} {K : Cap} → SlotTyped N sl (some (tid-type K)) → sl ≡ identifier
+identifier-there slot-identifier = refl
+
+pub cell-there : {N : Env} {sl : Slot} {ρ : ℕ} {τ : Ty} → SlotTyped N sl (some (ref-type ρ τ)) → (v : Value) × (sl ≡ cell v) × ValueTyped N v τ
+cell-there (slot-cell {v = v} t) = (v, refl, t)
+
+pub lock-there : {N : Env} {sl : Slot} {K : Cap} → SlotTyped N sl (some (lock-type K)) → (l : LockState) × (sl ≡ a-lock l)
+lock-there (slot-lock {l = l}) = (l, refl)
 
 -- What a thing of that type hands over, once.
 abbrev pub load : Option Ty → Cap

@@ -6,7 +6,7 @@ use mathlib.Core.Option.{none, some}
 use mathlib.Core.List.{List, [], _∷_}
 use lib.ListN.{getElem?}
 use Rattle.calculus.specs.Expression.{Value, name, join, read, freelock, lock, Exp, value, write-redex, unary-redex, at-word, next}
-use Rattle.calculus.specs.State.{LockState, opened, Slot, identifier, cell, a-lock, Thread, State, Move}
+use Rattle.calculus.specs.State.{LockState, opened, identifier, cell, a-lock, Thread, State, Move}
 use Rattle.calculus.specs.Reduction.{reduce, states, start}
 
 -- Thread t stands at place i.
@@ -37,18 +37,13 @@ RaceFree s = ¬ Race s
 pub data Finished (t : Thread) : Type 0 where
   finished : (v : Value) → t .body ≡ value v → Finished t
 
--- A lock is open, closed or removed.
-pub data IsLock : Slot → Type 0 where
-  is-lock : {l : LockState} → IsLock (a-lock l)
-
 -- "It waits at a `join` on an identifier that no finished thread has, and at a `lock` or `freelock` on a lock that is not open."
 pub data Waits (s : State) (t : Thread) : Type 0 where
   at-join : (n : ℕ) → next (t .body) ≡ at-word (unary-redex join (name n)) → s .names n ≡ identifier →
       ((j : ℕ) (u : Thread) → ThreadAt s j u → u .tid ≡ n → ¬ Finished u) → Waits s t
-  at-lock : (n : ℕ) → next (t .body) ≡ at-word (unary-redex lock (name n)) → IsLock (s .names n) →
-      s .names n ≢ a-lock opened → Waits s t
-  at-freelock : (n : ℕ) → next (t .body) ≡ at-word (unary-redex freelock (name n)) → IsLock (s .names n) →
-      s .names n ≢ a-lock opened → Waits s t
+  at-lock : (n : ℕ) (l : LockState) → next (t .body) ≡ at-word (unary-redex lock (name n)) → s .names n ≡ a-lock l → l ≢ opened → Waits s t
+  at-freelock : (n : ℕ) (l : LockState) → next (t .body) ≡ at-word (unary-redex freelock (name n)) → s .names n ≡ a-lock l → l ≢ opened →
+      Waits s t
   -- No other word waits; an `unlock`, above all, goes ahead on any lock.
 
 -- "It halts in a state where no move of its own is a reduction."

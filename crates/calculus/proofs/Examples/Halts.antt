@@ -9,7 +9,7 @@ use native.Mathlib.Omega.{arith}
 use Rattle.calculus.specs.Expression.{Value, int, name, Unary, join, ref, read, freelock, lock, unlock, Exp, value, unary, unary-redex, at-word}
 use Rattle.calculus.specs.State.{LockState, closed, removed, opened, a-lock, Thread, State, Move, update}
 use Rattle.calculus.specs.Reduction.{_>>_, lock-state, zero-exp, becomes, unary-reduct, reduce, attempt, run, start}
-use Rattle.calculus.specs.Claim.{ThreadAt, Finished, finished, is-lock, Waits, at-join, at-lock, at-freelock, Halts, HaltsWell, Safe}
+use Rattle.calculus.specs.Claim.{ThreadAt, Finished, finished, Waits, at-join, at-lock, at-freelock, Halts, HaltsWell, Safe}
 use Rattle.calculus.specs.Examples.{goes, names, on-constant, figure-2b, moves-2b-to-join, figure-2c, moves-2c-to-lock, freed-lock, moves-freed-lock}
 use Rattle.calculus.proofs.Laws.Maps.{some-injective, none-is-not-some}
 use Rattle.calculus.proofs.Laws.NextWord.{word-injective}
@@ -40,8 +40,8 @@ unary-is-no-value h = let z : _≡_ {A = ℕ} 0 1 = cc in absurd (omega (arith, 
 -- A thread waits on what a name names, so never on a constant.
 constant-is-not-waited-for : (s : State) (o : Unary) (i : ℕ) → ¬ Waits s (record { tid = i; body = on-constant o })
 constant-is-not-waited-for s o i (at-join n b k f) = constant-is-no-name b
-constant-is-not-waited-for s o i (at-lock n b k f) = constant-is-no-name b
-constant-is-not-waited-for s o i (at-freelock n b k f) = constant-is-no-name b
+constant-is-not-waited-for s o i (at-lock n l b k f) = constant-is-no-name b
+constant-is-not-waited-for s o i (at-freelock n l b k f) = constant-is-no-name b
 
 pub word-on-constant-halts-oddly : (o : Unary) → o ≢ ref → ¬ HaltsWell (start (on-constant o))
 unfolding start
@@ -71,10 +71,10 @@ pub record HaltsWaiting (s : State) (i : ℕ) : Type 0 where
   pub waits : Waits s t
   pub halts : Halts s i
 
-closed-is-not-opened : a-lock closed ≢ a-lock opened
+closed-is-not-opened : closed ≢ opened
 closed-is-not-opened h = let z : _≡_ {A = ℕ} 0 1 = cc in absurd (omega (arith, z))
 
-removed-is-not-opened : a-lock removed ≢ a-lock opened
+removed-is-not-opened : removed ≢ opened
 removed-is-not-opened h = let z : _≡_ {A = ℕ} 0 1 = cc in absurd (omega (arith, z))
 
 waiting : {t : Thread} (s : State) (i : ℕ) → ThreadAt s i t → Waits s t → HaltsWaiting s i
@@ -83,13 +83,13 @@ waiting {t} s i there w = record { t = t; there = there; waits = w; halts = wait
 -- Figure 2 (c), while the spawned thread holds the lock.
 pub figure-2c-waits-at-closed-lock : HaltsWaiting (run moves-2c-to-lock (start figure-2c)) 0
 unfolding start run attempt reduce ℕ-discrete
-figure-2c-waits-at-closed-lock = waiting (run moves-2c-to-lock (start figure-2c)) 0 refl (at-lock 2 refl is-lock closed-is-not-opened)
+figure-2c-waits-at-closed-lock = waiting (run moves-2c-to-lock (start figure-2c)) 0 refl (at-lock 2 closed refl refl closed-is-not-opened)
 
 -- The lock that was freed: its name, 2, stays used, so the new lock is 3, and the thread waits at a removed lock for good.
 pub freed-lock-waits-at-removed-lock : HaltsWaiting (run (names 0 3 ∷ goes 0 ∷ []) (run moves-freed-lock (start freed-lock))) 0
 unfolding start run attempt reduce ℕ-discrete
 freed-lock-waits-at-removed-lock =
-    waiting (run (names 0 3 ∷ goes 0 ∷ []) (run moves-freed-lock (start freed-lock))) 0 refl (at-lock 2 refl is-lock removed-is-not-opened)
+    waiting (run (names 0 3 ∷ goes 0 ∷ []) (run moves-freed-lock (start freed-lock))) 0 refl (at-lock 2 removed refl refl removed-is-not-opened)
 
 -- Figure 2 (b), while the spawned thread has not read: of its two threads the first has another identifier, and the second has not finished.
 pub figure-2b-waits-at-join : HaltsWaiting (run moves-2b-to-join (start figure-2b)) 0

@@ -24,9 +24,10 @@ pub bind-is-some {ℓ κ} : {A : Type ℓ} {B : Type κ} {b : B} (o : Option A) 
 bind-is-some none h = none-is-not-some h
 bind-is-some (some a) h = (a, refl, h)
 
--- A chain that stops, though its first question has an answer, stops further on.
-pub bind-is-none {ℓ κ} : {A : Type ℓ} {B : Type κ} {a : A} (o : Option A) (f : A → Option B) → o ≡ some a → (o >>= f) ≡ none → f a ≡ none
-bind-is-none o f e h = sym (ap (λ z. z >>= f) e) ∙ h
+-- A chain whose first question has the answer a ends as what comes after a does.
+pub bind-goes-on {ℓ κ} : {A : Type ℓ} {B : Type κ} {a : A} {end : Option B} (o : Option A) (f : A → Option B) → o ≡ some a → (o >>= f) ≡ end →
+    f a ≡ end
+bind-goes-on o f e h = sym (ap (λ z. z >>= f) e) ∙ h
 
 pub update-same : {A : Type 0} (f : ℕ → A) (n : ℕ) (a : A) → update f n a n ≡ a
 update-same f n a = by-cases (ℕ-discrete n n)
