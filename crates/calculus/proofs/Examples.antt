@@ -5,4 +5,5 @@ pub mod Runs
 pub mod Halts
 pub mod Derivations
 pub mod FreedName
+pub mod NewSemaphore
 pub mod Premises

@@ -1,23 +1,23 @@
 -- A thread that halts in a well-typed state has finished, or waits: progress.
-use Prim.Native.Nat.{ℕ}
+use Prim.Native.Nat.{ℕ, zero, suc}
 use mathlib.Core.Path.{_≡_, refl, ap, _∙_}
 use mathlib.Core.Logic.{_≢_, _⊎_, inl, inr}
 use mathlib.Core.Option.{none, some}
 use native.Mathlib.Omega.{arith}
 use lib.ListN.{getElem?}
-use Rattle.calculus.specs.Expression.{Value, name, Unary, join, ref, read, freelock, lock, unlock, Redex, unary-redex, Next, is-value, at-variable, at-word, next}
-use Rattle.calculus.specs.State.{LockState, opened, Slot, identifier, a-lock, Thread, State, first, Move}
-use Rattle.calculus.specs.Reduction.{if-unused, if-identifier, content, lock-state, if-equal, value-of, word-of, named, taken, reduct, reduce}
-use Rattle.calculus.specs.Claim.{ThreadAt, Finished, finished, Waits, at-join, at-lock, at-freelock, Halts, HaltsWell}
+use Rattle.calculus.specs.Expression.{Value, name, Unary, join, ref, read, freelock, lock, unlock, post, wait, Redex, unary-redex, Next, is-value, at-variable, at-word, next}
+use Rattle.calculus.specs.State.{LockState, opened, Slot, identifier, a-lock, semaphore, Thread, State, first, Move}
+use Rattle.calculus.specs.Reduction.{if-unused, if-identifier, content, lock-state, count, if-equal, value-of, word-of, named, taken, reduct, reduce}
+use Rattle.calculus.specs.Claim.{ThreadAt, Finished, finished, Waits, at-join, at-lock, at-freelock, at-wait, Halts, HaltsWell}
 use Rattle.calculus.specs.Capability.{Cap}
 use Rattle.calculus.specs.Figure5.{Ty, ref-type, tid-type, empty}
 use Rattle.calculus.proofs.Laws.Maps.{some-is-not-none, bind-goes-on}
 use Rattle.calculus.proofs.Laws.NextWord.{next-is-value}
 use Rattle.calculus.proofs.Laws.Questions.{equal-is-told}
-use Rattle.calculus.proofs.Typing.{fits-refl, ValueTyped, name-typed, UnaryTyped, join-typed, ref-typed, read-typed, freelock-typed, lock-typed, unlock-typed}
+use Rattle.calculus.proofs.Typing.{fits-refl, ValueTyped, name-typed, UnaryTyped, join-typed, ref-typed, read-typed, freelock-typed, lock-typed, unlock-typed, post-typed, wait-typed}
 use Rattle.calculus.proofs.Focus.{RedexTyped, let-redex-typed, if-redex-typed, while-redex-typed, spawn-redex-typed, write-redex-typed, unary-redex-typed, make-redex-typed, focus, closed-has-no-variable}
 use Rattle.calculus.proofs.Pool.{member}
-use Rattle.calculus.proofs.Invariant.{identifier-there, cell-there, lock-there, WellTyped}
+use Rattle.calculus.proofs.Invariant.{identifier-there, cell-there, lock-there, semaphore-there, WellTyped}
 
 -- ---- Halts
 
@@ -61,6 +61,11 @@ module _ {D : ℕ} {s : State} (I : WellTyped D s) (i : ℕ) (t : Thread) (there
   not-open : {l : LockState} (n : ℕ) (after : Slot) → s .names n ≡ a-lock l → taken s (listed i 0 0) t (name n) after ≡ none → l ≢ opened
   not-open n after found h e = some-is-not-none (bind-goes-on (lock-state (s .names n)) _ (ap lock-state (found ∙ ap a-lock e)) h)
 
+  -- A `wait` whose count is above 0 goes ahead.
+  wait-waits : {n : ℕ} (c : ℕ) → next (t .body) ≡ at-word (unary-redex wait (name n)) → s .names n ≡ semaphore c → Waits s t
+  wait-waits {n} zero word found = at-wait n word found
+  wait-waits {n} (suc c) word found = some-is-not-none (bind-goes-on (count (s .names n)) _ (ap count found) (no-reduct word 0 0))
+
   unary-halts : {σ τ : Ty} {Ψ Φ : Cap} {v : Value} (o : Unary) → next (t .body) ≡ at-word (unary-redex o v) →
       ValueTyped (I .N) v σ → UnaryTyped D o σ Ψ τ Φ → Waits s t
   unary-halts join word (name-typed known fits-refl) (join-typed gains) = join-waits word known
@@ -74,6 +79,11 @@ module _ {D : ℕ} {s : State} (I : WellTyped D s) (i : ℕ) (t : Thread) (there
   unary-halts unlock word (name-typed {n = n} known fits-refl) (unlock-typed pays) =
       let (l, found) = lock-there (rw known at (I .slots n)) in
       some-is-not-none (bind-goes-on (lock-state (s .names n)) _ (ap lock-state found) (no-reduct word 0 0))
+  unary-halts post word (name-typed {n = n} known fits-refl) (post-typed pays) =
+      let (c, found) = semaphore-there (rw known at (I .slots n)) in
+      some-is-not-none (bind-goes-on (count (s .names n)) _ (ap count found) (no-reduct word 0 0))
+  unary-halts wait word (name-typed {n = n} known fits-refl) (wait-typed gains) =
+      let (c, found) = semaphore-there (rw known at (I .slots n)) in wait-waits c word found
 
   redex-halts : {σ : Ty} {Ψ Φ : Cap} {r : Redex} → next (t .body) ≡ at-word r → RedexTyped D (I .N) empty Ψ Φ r σ → Waits s t
   redex-halts word (let-redex-typed v-typed e-typed) = some-is-not-none (no-reduct word 0 0)

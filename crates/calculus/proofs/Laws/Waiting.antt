@@ -4,11 +4,11 @@ use mathlib.Core.Path.{_≡_, refl, sym, ap, _∙_}
 use mathlib.Core.Logic.{_≢_}
 use mathlib.Core.Option.{Option, none, some}
 use lib.ListN.{getElem?}
-use Rattle.calculus.specs.Expression.{name, join, Redex, at-word, next}
+use Rattle.calculus.specs.Expression.{name, join, wait, Redex, at-word, next}
 use Rattle.calculus.specs.State.{LockState, opened, Slot, a-lock, Thread, State, Move}
-use Rattle.calculus.specs.Reduction.{_>>=_, if-identifier, lock-state, if-opened, if-equal, value-of, word-of, taken, unary-reduct, reduct, reduce}
-use Rattle.calculus.specs.Claim.{ThreadAt, Finished, finished, Waits, at-join, at-lock, at-freelock, Halts}
-use Rattle.calculus.proofs.Laws.Maps.{bind-is-some, bind-goes-on}
+use Rattle.calculus.specs.Reduction.{_>>=_, if-identifier, lock-state, if-opened, count, if-equal, value-of, word-of, taken, unary-reduct, reduct, reduce}
+use Rattle.calculus.specs.Claim.{ThreadAt, Finished, finished, Waits, at-join, at-lock, at-freelock, at-wait, Halts}
+use Rattle.calculus.proofs.Laws.Maps.{none-is-not-some, bind-is-some, bind-goes-on}
 use Rattle.calculus.proofs.Laws.NextWord.{word-injective, word-is-no-value, next-is-value}
 use Rattle.calculus.proofs.Laws.Questions.{opened-tells, equal-tells, value-tells, word-tells}
 
@@ -49,3 +49,6 @@ waiting-halts {t} s i there (at-lock n l b found shut) =
     stuck-halts s i there λ m r s′ w q. not-open-is-not-taken s m t n l _ s′ found shut (rw (word-injective (sym w ∙ b)) at q)
 waiting-halts {t} s i there (at-freelock n l b found shut) =
     stuck-halts s i there λ m r s′ w q. not-open-is-not-taken s m t n l _ s′ found shut (rw (word-injective (sym w ∙ b)) at q)
+waiting-halts {t} s i there (at-wait n b found) = stuck-halts s i there λ m r s′ w q.
+    let q₀ : unary-reduct s m t wait (name n) ≡ some s′ = rw (word-injective (sym w ∙ b)) at q in
+    none-is-not-some (bind-goes-on (count (s .names n)) _ (ap count found) q₀)
