@@ -4,5 +4,7 @@ pub mod Races
 pub mod Runs
 pub mod Halts
 pub mod Derivations
+pub mod Orders
 pub mod FreedName
+pub mod NewSemaphore
 pub mod Premises

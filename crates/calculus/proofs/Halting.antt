@@ -1,47 +1,23 @@
 -- A thread that halts in a well-typed state has finished, or waits: progress.
-use Prim.Native.Nat.{ℕ}
-use mathlib.Core.Path.{_≡_, refl, ap}
+use Prim.Native.Nat.{ℕ, zero, suc}
+use mathlib.Core.Path.{_≡_, refl, ap, _∙_}
 use mathlib.Core.Logic.{_≢_, _⊎_, inl, inr}
-use mathlib.Core.Option.{Option, none, some}
+use mathlib.Core.Option.{none, some}
 use native.Mathlib.Omega.{arith}
 use lib.ListN.{getElem?}
-use Rattle.calculus.specs.Expression.{Value, name, Unary, join, ref, read, freelock, lock, unlock, Redex, unary-redex, Next, is-value, at-variable, at-word, next}
-use Rattle.calculus.specs.State.{LockState, opened, Slot, identifier, cell, a-lock, Thread, State, first, Move}
-use Rattle.calculus.specs.Reduction.{if-unused, if-identifier, content, lock-state, if-equal, value-of, word-of, named, taken, reduct, reduce}
-use Rattle.calculus.specs.Claim.{ThreadAt, Finished, finished, IsLock, is-lock, Waits, at-join, at-lock, at-freelock, Halts, HaltsWell}
+use Rattle.calculus.specs.Expression.{Value, name, Unary, join, ref, read, freelock, lock, unlock, post, wait, Redex, unary-redex, Next, is-value, at-variable, at-word, next}
+use Rattle.calculus.specs.State.{LockState, opened, Slot, identifier, a-lock, semaphore, Thread, State, first, Move}
+use Rattle.calculus.specs.Reduction.{if-unused, if-identifier, content, lock-state, count, if-equal, value-of, word-of, named, taken, reduct, reduce}
+use Rattle.calculus.specs.Claim.{ThreadAt, Finished, finished, Waits, at-join, at-lock, at-freelock, at-wait, Halts, HaltsWell}
 use Rattle.calculus.specs.Capability.{Cap}
-use Rattle.calculus.specs.Figure5.{Ty, ref-type, lock-type, tid-type, Env, empty}
-use Rattle.calculus.proofs.Laws.Maps.{none-is-not-some, some-is-not-none, bind-is-none}
+use Rattle.calculus.specs.Figure5.{Ty, ref-type, tid-type, empty}
+use Rattle.calculus.proofs.Laws.Maps.{some-is-not-none, bind-goes-on}
 use Rattle.calculus.proofs.Laws.NextWord.{next-is-value}
 use Rattle.calculus.proofs.Laws.Questions.{equal-is-told}
-use Rattle.calculus.proofs.Typing.{fits-refl, ValueTyped, name-typed, UnaryTyped, join-typed, ref-typed, read-typed, freelock-typed, lock-typed, unlock-typed}
+use Rattle.calculus.proofs.Typing.{fits-refl, ValueTyped, name-typed, UnaryTyped, join-typed, ref-typed, read-typed, freelock-typed, lock-typed, unlock-typed, post-typed, wait-typed}
 use Rattle.calculus.proofs.Focus.{RedexTyped, let-redex-typed, if-redex-typed, while-redex-typed, spawn-redex-typed, write-redex-typed, unary-redex-typed, make-redex-typed, focus, closed-has-no-variable}
 use Rattle.calculus.proofs.Pool.{member}
-use Rattle.calculus.proofs.Invariant.{SlotTyped, slot-unused, slot-identifier, slot-cell, slot-lock, WellTyped}
-
--- ---- The kind of a slot, from the type of its name
-
-lock-is-lock : {N : Env} {K : Cap} {sl : Slot} {o : Option Ty} → SlotTyped N sl o → o ≡ some (lock-type K) → IsLock sl
-lock-is-lock slot-unused h = none-is-not-some h
-lock-is-lock slot-identifier h = let w : _≡_ {A = ℕ} 0 1 = cc in absurd (omega (arith, w))
-lock-is-lock (slot-cell t) h = let w : _≡_ {A = ℕ} 0 1 = cc in absurd (omega (arith, w))
-lock-is-lock slot-lock h = is-lock
-
-lock-has-state : {sl : Slot} → IsLock sl → (l : LockState) × (lock-state sl ≡ some l)
-lock-has-state (is-lock {l = l}) = (l, refl)
-
-ref-is-cell : {N : Env} {ρ : ℕ} {τ : Ty} {sl : Slot} {o : Option Ty} → SlotTyped N sl o → o ≡ some (ref-type ρ τ) →
-    (v : Value) × (sl ≡ cell v)
-ref-is-cell slot-unused h = none-is-not-some h
-ref-is-cell slot-identifier h = let w : _≡_ {A = ℕ} 0 1 = cc in absurd (omega (arith, w))
-ref-is-cell (slot-cell {v = v} t) h = (v, refl)
-ref-is-cell slot-lock h = let w : _≡_ {A = ℕ} 0 1 = cc in absurd (omega (arith, w))
-
-tid-is-identifier : {N : Env} {K : Cap} {sl : Slot} {o : Option Ty} → SlotTyped N sl o → o ≡ some (tid-type K) → sl ≡ identifier
-tid-is-identifier slot-unused h = none-is-not-some h
-tid-is-identifier slot-identifier h = refl
-tid-is-identifier (slot-cell t) h = let w : _≡_ {A = ℕ} 0 1 = cc in absurd (omega (arith, w))
-tid-is-identifier slot-lock h = let w : _≡_ {A = ℕ} 0 1 = cc in absurd (omega (arith, w))
+use Rattle.calculus.proofs.Invariant.{identifier-there, cell-there, lock-there, semaphore-there, WellTyped}
 
 -- ---- Halts
 
@@ -56,57 +32,68 @@ module _ {D : ℕ} {s : State} (I : WellTyped D s) (i : ℕ) (t : Thread) (there
   no-reduct : {r : Redex} → next (t .body) ≡ at-word r → (j n : ℕ) → reduct s (listed i j n) t r ≡ none
   unfolding reduce
   no-reduct word j n =
-      let from-here = bind-is-none (getElem? (s .threads) i) _ there (halts (listed i j n) refl) in
-      bind-is-none (word-of (next (t .body))) _ (ap word-of word) from-here
+      let from-here = bind-goes-on (getElem? (s .threads) i) _ there (halts (listed i j n) refl) in
+      bind-goes-on (word-of (next (t .body))) _ (ap word-of word) from-here
 
   -- A word that makes a new thing goes ahead: some name is unused.
   named-goes-ahead : {A : Type 0} (new : Slot) → named s (listed i 0 (I .top)) t new ≡ none → A
   named-goes-ahead new h =
-      some-is-not-none (bind-is-none (if-unused (s .names (I .top))) _ (ap if-unused (I .above (I .top) (omega arith))) h)
+      some-is-not-none (bind-goes-on (if-unused (s .names (I .top))) _ (ap if-unused (I .above (I .top) (omega arith))) h)
 
   -- So does a word on a cell.
   cell-has-content : {ρ n : ℕ} {τ : Ty} → I .N n ≡ some (ref-type ρ τ) → (v : Value) × (content (s .names n) ≡ some v)
-  cell-has-content {n} known = let (v, e) = ref-is-cell (I .slots n) known in (v, ap content e)
+  cell-has-content {n} known = let (v, found, _) = cell-there (rw known at (I .slots n)) in (v, ap content found)
 
   join-waits : {K : Cap} {n : ℕ} → next (t .body) ≡ at-word (unary-redex join (name n)) → I .N n ≡ some (tid-type K) → Waits s t
   join-waits {n} word known = at-join n word kind none-finished
     where
       kind : s .names n ≡ identifier
-      kind = tid-is-identifier (I .slots n) known
+      kind = identifier-there (rw known at (I .slots n))
 
       none-finished : (j : ℕ) (u : Thread) → ThreadAt s j u → u .tid ≡ n → ¬ Finished u
       none-finished j u at-j same (finished v ended) =
-          let h₁ = bind-is-none (if-identifier (s .names n)) _ (ap if-identifier kind) (no-reduct word j 0) in
-          let h₂ = bind-is-none (getElem? (s .threads) j) _ at-j h₁ in
-          let h₃ = bind-is-none (if-equal (u .tid) n) _ (equal-is-told (u .tid) n same) h₂ in
-          some-is-not-none (bind-is-none (value-of (next (u .body))) _ (ap (λ e. value-of (next e)) ended) h₃)
+          let h₁ = bind-goes-on (if-identifier (s .names n)) _ (ap if-identifier kind) (no-reduct word j 0) in
+          let h₂ = bind-goes-on (getElem? (s .threads) j) _ at-j h₁ in
+          let h₃ = bind-goes-on (if-equal (u .tid) n) _ (equal-is-told (u .tid) n same) h₂ in
+          some-is-not-none (bind-goes-on (value-of (next (u .body))) _ (ap (λ e. value-of (next e)) ended) h₃)
 
-  not-open : (n : ℕ) (after : Slot) → taken s (listed i 0 0) t (name n) after ≡ none → s .names n ≢ a-lock opened
-  not-open n after h e = some-is-not-none (bind-is-none (lock-state (s .names n)) _ (ap lock-state e) h)
+  -- A word that takes a lock goes ahead if the lock is open.
+  not-open : {l : LockState} (n : ℕ) (after : Slot) → s .names n ≡ a-lock l → taken s (listed i 0 0) t (name n) after ≡ none → l ≢ opened
+  not-open n after found h e = some-is-not-none (bind-goes-on (lock-state (s .names n)) _ (ap lock-state (found ∙ ap a-lock e)) h)
+
+  -- A `wait` whose count is above 0 goes ahead.
+  wait-waits : {n : ℕ} (c : ℕ) → next (t .body) ≡ at-word (unary-redex wait (name n)) → s .names n ≡ semaphore c → Waits s t
+  wait-waits {n} zero word found = at-wait n word found
+  wait-waits {n} (suc c) word found = some-is-not-none (bind-goes-on (count (s .names n)) _ (ap count found) (no-reduct word 0 0))
 
   unary-halts : {σ τ : Ty} {Ψ Φ : Cap} {v : Value} (o : Unary) → next (t .body) ≡ at-word (unary-redex o v) →
       ValueTyped (I .N) v σ → UnaryTyped D o σ Ψ τ Φ → Waits s t
   unary-halts join word (name-typed known fits-refl) (join-typed gains) = join-waits word known
   unary-halts ref word typed (ref-typed enough) = named-goes-ahead _ (no-reduct word 0 (I .top))
   unary-halts read word (name-typed {n = n} known fits-refl) (read-typed some-of-it enough) =
-      some-is-not-none (bind-is-none (content (s .names n)) _ (cell-has-content known .1) (no-reduct word 0 0))
+      some-is-not-none (bind-goes-on (content (s .names n)) _ (cell-has-content known .1) (no-reduct word 0 0))
   unary-halts freelock word (name-typed {n = n} known fits-refl) (freelock-typed gains) =
-      at-freelock n word (lock-is-lock (I .slots n) known) (not-open n _ (no-reduct word 0 0))
+      let (l, found) = lock-there (rw known at (I .slots n)) in at-freelock n l word found (not-open n _ found (no-reduct word 0 0))
   unary-halts lock word (name-typed {n = n} known fits-refl) (lock-typed gains) =
-      at-lock n word (lock-is-lock (I .slots n) known) (not-open n _ (no-reduct word 0 0))
+      let (l, found) = lock-there (rw known at (I .slots n)) in at-lock n l word found (not-open n _ found (no-reduct word 0 0))
   unary-halts unlock word (name-typed {n = n} known fits-refl) (unlock-typed pays) =
-      let (l, e) = lock-has-state (lock-is-lock (I .slots n) known) in
-      some-is-not-none (bind-is-none (lock-state (s .names n)) _ e (no-reduct word 0 0))
+      let (l, found) = lock-there (rw known at (I .slots n)) in
+      some-is-not-none (bind-goes-on (lock-state (s .names n)) _ (ap lock-state found) (no-reduct word 0 0))
+  unary-halts post word (name-typed {n = n} known fits-refl) (post-typed pays) =
+      let (c, found) = semaphore-there (rw known at (I .slots n)) in
+      some-is-not-none (bind-goes-on (count (s .names n)) _ (ap count found) (no-reduct word 0 0))
+  unary-halts wait word (name-typed {n = n} known fits-refl) (wait-typed gains) =
+      let (c, found) = semaphore-there (rw known at (I .slots n)) in wait-waits c word found
 
   redex-halts : {σ : Ty} {Ψ Φ : Cap} {r : Redex} → next (t .body) ≡ at-word r → RedexTyped D (I .N) empty Ψ Φ r σ → Waits s t
   redex-halts word (let-redex-typed v-typed e-typed) = some-is-not-none (no-reduct word 0 0)
   redex-halts word (if-redex-typed e₁-typed e₂-typed) = some-is-not-none (no-reduct word 0 0)
   redex-halts word (while-redex-typed typed enough left) = some-is-not-none (no-reduct word 0 0)
   redex-halts word (spawn-redex-typed (name-typed {n = n} known fits-refl) typed pays) =
-      let kind = ap if-identifier (tid-is-identifier (I .slots n) known) in
-      some-is-not-none (bind-is-none (if-identifier (s .names n)) _ kind (no-reduct word 0 0))
+      let kind = ap if-identifier (identifier-there (rw known at (I .slots n))) in
+      some-is-not-none (bind-goes-on (if-identifier (s .names n)) _ kind (no-reduct word 0 0))
   redex-halts word (write-redex-typed (name-typed {n = n} known fits-refl) typed whole enough) =
-      some-is-not-none (bind-is-none (content (s .names n)) _ (cell-has-content known .1) (no-reduct word 0 0))
+      some-is-not-none (bind-goes-on (content (s .names n)) _ (cell-has-content known .1) (no-reduct word 0 0))
   redex-halts word (unary-redex-typed {o = o} v-typed o-typed) = unary-halts o word v-typed o-typed
   redex-halts word (make-redex-typed o-typed) = named-goes-ahead _ (no-reduct word 0 (I .top))
 

@@ -1,16 +1,17 @@
 -- Well-typed states (Definition 2.3), and the two ways in which a change keeps them well typed.
 use Prim.Native.Nat.{ℕ, suc, _+_, _≤_, max}
-use mathlib.Core.Path.{_≡_, ap, _∙_}
+use mathlib.Core.Path.{_≡_, refl, ap, _∙_}
 use mathlib.Core.Logic.{_≢_}
 use mathlib.Core.Option.{Option, none, some}
 use mathlib.Core.List.{List}
 use native.Mathlib.Decide.{ℕ-discrete}
 use native.Mathlib.Omega.{arith}
 use Rattle.calculus.specs.Expression.{Value, choose}
-use Rattle.calculus.specs.State.{LockState, opened, closed, removed, Slot, unused, identifier, cell, a-lock, Thread, State, update}
+use Rattle.calculus.specs.State.{LockState, opened, closed, removed, Slot, unused, identifier, cell, a-lock, semaphore, Thread, State, update}
 use Rattle.calculus.specs.Capability.{Cap, nothing}
-use Rattle.calculus.specs.Figure5.{Ty, int-type, ref-type, lock-type, tid-type, Env}
+use Rattle.calculus.specs.Figure5.{Ty, int-type, ref-type, lock-type, tid-type, sem-type, Env}
 use Rattle.calculus.proofs.Laws.Maps.{update-same, update-other, update-above}
+use Rattle.calculus.proofs.Laws.Order.{_×ᶜ_}
 use Rattle.calculus.proofs.Typing.{ValueTyped}
 use Rattle.calculus.proofs.Substitution.{_⊆_, value-grows}
 use Rattle.calculus.proofs.Pool.{Pool}
@@ -25,12 +26,27 @@ pub data SlotTyped (N : Env) : Slot → Option Ty → Type 0 where
   slot-identifier : {K : Cap} → SlotTyped N identifier (some (tid-type K))
   slot-cell : {v : Value} {ρ : ℕ} {τ : Ty} → ValueTyped N v τ → SlotTyped N (cell v) (some (ref-type ρ τ))
   slot-lock : {l : LockState} {K : Cap} → SlotTyped N (a-lock l) (some (lock-type K))
+  slot-semaphore : {c : ℕ} {K : Cap} → SlotTyped N (semaphore c) (some (sem-type K))
 
 slot-grows : {N N′ : Env} {sl : Slot} {o : Option Ty} → N ⊆ N′ → SlotTyped N sl o → SlotTyped N′ sl o
 slot-grows s slot-unused = slot-unused
 slot-grows s slot-identifier = slot-identifier
 slot-grows s (slot-cell t) = slot-cell (value-grows s t)
 slot-grows s slot-lock = slot-lock
+slot-grows s slot-semaphore = slot-semaphore
+
+-- The slot of a name, read off the name's type: one row a kind of thing.
+pub identifier-there : {N : Env} {sl : Slot} {K : Cap} → SlotTyped N sl (some (tid-type K)) → sl ≡ identifier
+identifier-there slot-identifier = refl
+
+pub cell-there : {N : Env} {sl : Slot} {ρ : ℕ} {τ : Ty} → SlotTyped N sl (some (ref-type ρ τ)) → (v : Value) × (sl ≡ cell v) × ValueTyped N v τ
+cell-there (slot-cell {v = v} t) = (v, refl, t)
+
+pub lock-there : {N : Env} {sl : Slot} {K : Cap} → SlotTyped N sl (some (lock-type K)) → (l : LockState) × (sl ≡ a-lock l)
+lock-there (slot-lock {l = l}) = (l, refl)
+
+pub semaphore-there : {N : Env} {sl : Slot} {K : Cap} → SlotTyped N sl (some (sem-type K)) → (c : ℕ) × (sl ≡ semaphore c)
+semaphore-there (slot-semaphore {c = c}) = (c, refl)
 
 -- What a thing of that type hands over, once.
 abbrev pub load : Option Ty → Cap
@@ -39,8 +55,10 @@ load (some int-type) = nothing
 load (some (ref-type ρ τ)) = nothing
 load (some (lock-type K)) = K
 load (some (tid-type K)) = nothing
+load (some (sem-type K)) = K
 
--- What a slot keeps, of a thing with that load: an open lock keeps its load, and nothing else keeps any.
+-- What a slot keeps, of a thing with that load: an open lock keeps its load, a semaphore keeps it as often as it counts, and nothing else
+-- keeps any.
 abbrev pub keeps : Slot → Cap → Cap
 keeps unused K = nothing
 keeps identifier K = nothing
@@ -48,6 +66,7 @@ keeps (cell v) K = nothing
 keeps (a-lock opened) K = K
 keeps (a-lock closed) K = nothing
 keeps (a-lock removed) K = nothing
+keeps (semaphore c) K = c ×ᶜ K
 
 -- What the thing named n keeps of location ρ.
 abbrev pub kept : (ℕ → Slot) → Env → ℕ → ℕ → ℕ

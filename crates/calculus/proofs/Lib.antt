@@ -9,5 +9,6 @@ pub mod Moving
 pub mod Preservation
 pub mod RaceFreedom
 pub mod Halting
+pub mod EitherOrder
 pub mod Safety
 pub mod Examples

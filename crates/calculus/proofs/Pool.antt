@@ -120,11 +120,3 @@ two-members (suc i) (suc j) d (pool-cons t ts l) h k = let r = two-members i j (
   right-ok = r .right-ok;
   both = record { at = λ ρ. omega (arith, l .at ρ, r .both .at ρ) };
 }
-
--- The thread at another place than the one that was set.
-pub set-elsewhere : {A : Type 0} (ts : List A) (i j : ℕ) (t : A) → i ≢ j → getElem? (set ts i t) j ≡ getElem? ts j
-set-elsewhere [] i j x d = refl
-set-elsewhere (t ∷ ts) zero zero x d = absurd (d refl)
-set-elsewhere (t ∷ ts) zero (suc j) x d = refl
-set-elsewhere (t ∷ ts) (suc i) zero x d = refl
-set-elsewhere (t ∷ ts) (suc i) (suc j) x d = set-elsewhere ts i j x (λ e. d (ap suc e))

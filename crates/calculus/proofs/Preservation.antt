@@ -1,29 +1,28 @@
 -- A reduction keeps a state well typed (Lemma 2.4).
-use Prim.Native.Nat.{ℕ}
+use Prim.Native.Nat.{ℕ, suc}
 use mathlib.Core.Path.{_≡_, refl, sym, ap, _∙_}
 use mathlib.Core.Logic.{_≢_}
 use mathlib.Core.Option.{Option, some}
+use native.Mathlib.Nat.{zero-mul, suc-mul}
 use native.Mathlib.Omega.{arith}
 use lib.ListN.{getElem?}
-use Rattle.calculus.specs.Expression.{Value, name, Unary, join, ref, read, freelock, lock, unlock, newtid, newlock, Exp, value, let-in, if, while, Redex, let-redex, if-redex, while-redex, spawn-redex, write-redex, unary-redex, make-redex, is-value, at-word, next, substitute}
-use Rattle.calculus.specs.State.{opened, Slot, unused, identifier, cell, a-lock, Thread, State, Part, first, second, Move}
-use Rattle.calculus.specs.Reduction.{if-unused, if-identifier, content, lock-state, if-opened, if-equal, value-of, word-of, zero-exp, nowhere, part-listed, taken, unary-reduct, reduct, reduce}
+use Rattle.calculus.specs.Expression.{Value, name, Unary, join, ref, read, freelock, lock, unlock, post, wait, newtid, newlock, newsem, Exp, value, let-in, if, while, Redex, let-redex, if-redex, while-redex, spawn-redex, write-redex, unary-redex, make-redex, is-value, at-word, next, substitute}
+use Rattle.calculus.specs.State.{opened, Slot, a-lock, semaphore, Thread, State, Part, first, second, Move}
+use Rattle.calculus.specs.Reduction.{if-identifier, content, lock-state, if-opened, count, one-less, if-equal, value-of, word-of, zero-exp, nowhere, part-listed, taken, unary-reduct, reduct, reduce}
 use Rattle.calculus.specs.Claim.{ThreadAt}
 use Rattle.calculus.specs.Capability.{Cap, _≥ᶜ_}
-use Rattle.calculus.specs.Figure5.{Ty, int-type, ref-type, lock-type, tid-type, Env, empty, bind}
-use Rattle.calculus.proofs.Laws.Maps.{some-injective, none-is-not-some, bind-is-some}
+use Rattle.calculus.specs.Figure5.{Ty, int-type, ref-type, lock-type, tid-type, sem-type, Env, empty, bind}
+use Rattle.calculus.proofs.Laws.Maps.{some-injective, none-is-not-some, bind-is-some, bind-goes-on}
+use Rattle.calculus.proofs.Laws.Places.{set-elsewhere}
 use Rattle.calculus.proofs.Laws.Order.{_+ᶜ_, Gains, Pays, ≥-trans, ≥-refl, gains-at-most}
 use Rattle.calculus.proofs.Laws.NextWord.{word-is-no-value}
-use Rattle.calculus.proofs.Laws.Questions.{unused-tells, content-tells, lock-state-tells, opened-tells, equal-tells, value-tells, word-tells}
-use Rattle.calculus.proofs.Typing.{fits-refl, ValueTyped, int-typed, name-typed, UnaryTyped, join-typed, ref-typed, read-typed, freelock-typed, lock-typed, unlock-typed, newtid-typed, newlock-typed, Typed, value-typed, let-typed, if-typed, while-typed, typing-weakens}
+use Rattle.calculus.proofs.Laws.Questions.{opened-tells, one-less-tells, equal-tells, value-tells, word-tells}
+use Rattle.calculus.proofs.Typing.{fits-refl, ValueTyped, int-typed, name-typed, UnaryTyped, join-typed, ref-typed, read-typed, freelock-typed, lock-typed, unlock-typed, post-typed, wait-typed, newtid-typed, newlock-typed, newsem-typed, Typed, value-typed, let-typed, if-typed, while-typed, typing-weakens}
 use Rattle.calculus.proofs.Substitution.{⊆-refl, value-grows, typing-grows, bind-extends-empty, substitution-keeps}
 use Rattle.calculus.proofs.Focus.{RedexTyped, let-redex-typed, if-redex-typed, while-redex-typed, spawn-redex-typed, write-redex-typed, unary-redex-typed, make-redex-typed, focus, typed-is-value}
-use Rattle.calculus.proofs.Pool.{ThreadTyped, pool-weakens, pool-with-last, Member, member, set-elsewhere}
-use Rattle.calculus.proofs.Invariant.{SlotTyped, slot-identifier, slot-cell, slot-lock, keeps, WellTyped, threads-change-keeps}
+use Rattle.calculus.proofs.Pool.{ThreadTyped, pool-weakens, pool-with-last, Member, member}
+use Rattle.calculus.proofs.Invariant.{SlotTyped, slot-identifier, slot-cell, slot-lock, slot-semaphore, cell-there, lock-there, semaphore-there, keeps, WellTyped, threads-change-keeps}
 use Rattle.calculus.proofs.Moving.{Place, told, moved-pool, thread-alone-keeps, slot-change-keeps, new-name-keeps}
-
-cell-content-typed : {N : Env} {w : Value} {ρ : ℕ} {τ : Ty} → SlotTyped N (cell w) (some (ref-type ρ τ)) → ValueTyped N w τ
-cell-content-typed (slot-cell t) = t
 
 tid-type-injective : {J K : Cap} {o : Option Ty} → o ≡ some (tid-type J) → o ≡ some (tid-type K) → J ≡ K
 tid-type-injective h k = cc
@@ -69,19 +68,18 @@ module _ {D : ℕ} {s : State} (I : WellTyped D s) (m : Move) (t : Thread) (h : 
   read-keeps : {Φ : Cap} {ρ n : ℕ} {τ : Ty} {s′ : State} (M : Place D s I m t h τ Φ) → I .N n ≡ some (ref-type ρ τ) → h .own ≥ᶜ Φ →
       unary-reduct s m t read (name n) ≡ some s′ → WellTyped D s′
   read-keeps {n} M known enough q =
-      let (w, e, q₁) = bind-is-some (content (s .names n)) q in
-      let typed = cell-content-typed (rw (content-tells (s .names n) e, known) at (I .slots n)) in
-      thread-alone-keeps M (value w) (value-typed typed enough) q₁
+      let (w, found, typed) = cell-there (rw known at (I .slots n)) in
+      thread-alone-keeps M (value w) (value-typed typed enough) (bind-goes-on (content (s .names n)) _ (ap content found) q)
 
   -- Out of an open lock the thread takes what it keeps; closed or removed it keeps nothing.
   taken-keeps : {Φ K : Cap} {n : ℕ} {s′ : State} (after : Slot) → SlotTyped (I .N) after (some (lock-type K)) → ((ρ : ℕ) → keeps after K ρ ≡ 0) →
       (M : Place D s I m t h int-type Φ) → I .N n ≡ some (lock-type K) → Gains Φ (h .own) K → taken s m t (name n) after ≡ some s′ → WellTyped D s′
   taken-keeps {K} {n} after ok spent M known gains q =
-      let (l, e, q₁) = bind-is-some (lock-state (s .names n)) q in
-      let (_, o, q₂) = bind-is-some (if-opened l) q₁ in
-      let was-open : s .names n ≡ a-lock opened = lock-state-tells (s .names n) e ∙ ap a-lock (opened-tells l o) in
+      let (l, found) = lock-there (rw known at (I .slots n)) in
+      let (_, o, q₁) = bind-is-some (if-opened l) (bind-goes-on (lock-state (s .names n)) _ (ap lock-state found) q) in
+      let was-open : s .names n ≡ a-lock opened = found ∙ ap a-lock (opened-tells l o) in
       slot-change-keeps M n after (lock-type K) (h .own +ᶜ K) zero-exp known ok (zero-typed-with gains)
-      (λ ρ. omega (arith, spent ρ, ap (λ z. keeps z K ρ) was-open)) q₂
+      (λ ρ. omega (arith, spent ρ, ap (λ z. keeps z K ρ) was-open)) q₁
 
   freelock-keeps : {Φ K : Cap} {n : ℕ} {s′ : State} (M : Place D s I m t h int-type Φ) → I .N n ≡ some (lock-type K) →
       Gains Φ (h .own) K → unary-reduct s m t freelock (name n) ≡ some s′ → WellTyped D s′
@@ -95,8 +93,26 @@ module _ {D : ℕ} {s : State} (I : WellTyped D s) (m : Move) (t : Thread) (h : 
   unlock-keeps : {Φ K : Cap} {n : ℕ} {s′ : State} (M : Place D s I m t h int-type Φ) → I .N n ≡ some (lock-type K) →
       Pays Φ (h .own) K → unary-reduct s m t unlock (name n) ≡ some s′ → WellTyped D s′
   unlock-keeps {Φ} {K} {n} M known pays q =
-      let (l, e, q₁) = bind-is-some (lock-state (s .names n)) q in
+      let (_, _, q₁) = bind-is-some (lock-state (s .names n)) q in
       slot-change-keeps M n _ (lock-type K) Φ zero-exp known slot-lock (value-typed int-typed ≥-refl) (λ ρ. omega (arith, pays .at ρ)) q₁
+
+  -- The count rises by one, and the thread pays one load.
+  post-keeps : {Φ K : Cap} {n : ℕ} {s′ : State} (M : Place D s I m t h int-type Φ) → I .N n ≡ some (sem-type K) →
+      Pays Φ (h .own) K → unary-reduct s m t post (name n) ≡ some s′ → WellTyped D s′
+  post-keeps {Φ} {K} {n} M known pays q =
+      let (c, found) = semaphore-there (rw known at (I .slots n)) in
+      slot-change-keeps M n _ (sem-type K) Φ zero-exp known slot-semaphore (value-typed int-typed ≥-refl)
+      (λ ρ. omega (arith, pays .at ρ, suc-mul c (K ρ), ap (λ z. keeps z K ρ) found)) (bind-goes-on (count (s .names n)) _ (ap count found) q)
+
+  -- The count falls by one, and the thread takes one load.
+  wait-keeps : {Φ K : Cap} {n : ℕ} {s′ : State} (M : Place D s I m t h int-type Φ) → I .N n ≡ some (sem-type K) →
+      Gains Φ (h .own) K → unary-reduct s m t wait (name n) ≡ some s′ → WellTyped D s′
+  wait-keeps {K} {n} M known gains q =
+      let (c, found) = semaphore-there (rw known at (I .slots n)) in
+      let (left, o, q₁) = bind-is-some (one-less c) (bind-goes-on (count (s .names n)) _ (ap count found) q) in
+      let counted : s .names n ≡ semaphore (suc left) = found ∙ ap semaphore (one-less-tells c o) in
+      slot-change-keeps M n _ (sem-type K) (h .own +ᶜ K) zero-exp known slot-semaphore (zero-typed-with gains)
+      (λ ρ. omega (arith, suc-mul left (K ρ), ap (λ z. keeps z K ρ) counted)) q₁
 
   unary-keeps : {Φ : Cap} {σ τ : Ty} {v : Value} {s′ : State} (o : Unary) (M : Place D s I m t h τ Φ) → ThreadAt s (m .thread) t →
       next (t .body) ≡ at-word (unary-redex o v) → ValueTyped (I .N) v σ → UnaryTyped D o σ (h .own) τ Φ →
@@ -107,6 +123,8 @@ module _ {D : ℕ} {s : State} (I : WellTyped D s) (m : Move) (t : Thread) (h : 
   unary-keeps freelock M there word (name-typed known fits-refl) (freelock-typed gains) q = freelock-keeps M known gains q
   unary-keeps lock M there word (name-typed known fits-refl) (lock-typed gains) q = lock-keeps M known gains q
   unary-keeps unlock M there word (name-typed known fits-refl) (unlock-typed pays) q = unlock-keeps M known pays q
+  unary-keeps post M there word (name-typed known fits-refl) (post-typed pays) q = post-keeps M known pays q
+  unary-keeps wait M there word (name-typed known fits-refl) (wait-typed gains) q = wait-keeps M known gains q
 
   -- ---- The other words
 
@@ -154,6 +172,11 @@ module _ {D : ℕ} {s : State} (I : WellTyped D s) (m : Move) (t : Thread) (h : 
       reduct s m t (make-redex newlock) ≡ some s′ → WellTyped D s′
   newlock-keeps {Φ} M pays = new-name-keeps M _ Φ (λ grows. slot-lock) ≥-refl (λ ρ. omega (arith, pays .at ρ))
 
+  -- A new semaphore counts 0, so it keeps nothing.
+  newsem-keeps : {Φ K : Cap} {s′ : State} (M : Place D s I m t h (sem-type K) Φ) → h .own ≥ᶜ Φ →
+      reduct s m t (make-redex newsem) ≡ some s′ → WellTyped D s′
+  newsem-keeps {K} M enough = new-name-keeps M _ (h .own) (λ grows. slot-semaphore) enough (λ ρ. omega (arith, zero-mul (K ρ)))
+
   redex-keeps : {Φ : Cap} {σ : Ty} {s′ : State} {r : Redex} (M : Place D s I m t h σ Φ) → ThreadAt s (m .thread) t →
       next (t .body) ≡ at-word r → RedexTyped D (I .N) empty (h .own) Φ r σ → reduct s m t r ≡ some s′ → WellTyped D s′
   redex-keeps M there word (let-redex-typed {x = x} v-typed e-typed) q = let-keeps x M v-typed e-typed q
@@ -164,6 +187,7 @@ module _ {D : ℕ} {s : State} (I : WellTyped D s) (m : Move) (t : Thread) (h : 
   redex-keeps M there word (unary-redex-typed {o = o} v-typed o-typed) q = unary-keeps o M there word v-typed o-typed q
   redex-keeps M there word (make-redex-typed (newtid-typed enough)) q = newtid-keeps M enough q
   redex-keeps M there word (make-redex-typed (newlock-typed pays)) q = newlock-keeps M pays q
+  redex-keeps M there word (make-redex-typed (newsem-typed enough)) q = newsem-keeps M enough q
 
 -- Lemma 2.4: find the thread and its next word, and look at the word.
 pub step-preserves : {D : ℕ} {s s′ : State} → WellTyped D s → (m : Move) → reduce s m ≡ some s′ → WellTyped D s′

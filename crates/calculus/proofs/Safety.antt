@@ -1,4 +1,5 @@
--- The main theorem: what Figure 5 derives, from a start of at most the whole, is safe (Theorem 2.6, with halts).
+-- The main theorem: what Figure 5 derives, from a start of at most the whole, is safe (Theorem 2.6, with halts); so its cell steps may be taken
+-- in either order.
 use Prim.Native.Nat.{ℕ, _≤_, _<_}
 use mathlib.Core.Path.{_≡_, refl}
 use mathlib.Core.Option.{Option, none, some}
@@ -8,7 +9,7 @@ use native.Mathlib.Omega.{arith}
 use Rattle.calculus.specs.Expression.{Exp, choose}
 use Rattle.calculus.specs.State.{unused, identifier, State, Move, update}
 use Rattle.calculus.specs.Reduction.{reduce, or-else, attempt, states, start}
-use Rattle.calculus.specs.Claim.{Every, RaceFree, HaltsWell, Safe}
+use Rattle.calculus.specs.Claim.{Every, RaceFree, HaltsWell, Safe, InEitherOrder}
 use Rattle.calculus.specs.Capability.{Cap, nothing}
 use Rattle.calculus.specs.Figure5.{Ty, tid-type, Env, empty, bind, _∣_∣_⊢_∶_∣_}
 use Rattle.calculus.proofs.Laws.Maps.{update-same, update-other}
@@ -20,6 +21,7 @@ use Rattle.calculus.proofs.Invariant.{SlotTyped, slot-unused, slot-iden
 use Rattle.calculus.proofs.Preservation.{step-preserves}
 use Rattle.calculus.proofs.RaceFreedom.{well-typed-is-race-free}
 use Rattle.calculus.proofs.Halting.{well-typed-halts-well}
+use Rattle.calculus.proofs.EitherOrder.{safe-is-in-either-order}
 
 -- ---- The start
 
@@ -82,3 +84,7 @@ typed-is-safe {e} positive typed at-most-whole ms =
 -- The main theorem. With D = 0 everything would be allowed to write; a sheet's D is 1 or more.
 pub derived-is-safe : {D : ℕ} {Ψ Φ : Cap} {e : Exp} {τ : Ty} → 0 < D → D ∣ empty ∣ Ψ ⊢ e ∶ τ ∣ Φ → ((ρ : ℕ) → Ψ ρ ≤ D) → Safe e
 derived-is-safe positive derived at-most-whole = typed-is-safe positive (λ N. derived-is-typed N derived) at-most-whole
+
+pub derived-is-in-either-order : {D : ℕ} {Ψ Φ : Cap} {e : Exp} {τ : Ty} → 0 < D → D ∣ empty ∣ Ψ ⊢ e ∶ τ ∣ Φ → ((ρ : ℕ) → Ψ ρ ≤ D) →
+    InEitherOrder e
+derived-is-in-either-order {e} positive derived at-most-whole = safe-is-in-either-order e (derived-is-safe positive derived at-most-whole)

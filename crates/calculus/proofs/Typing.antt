@@ -3,9 +3,9 @@ use Prim.Native.Nat.{ℕ, _≤_, _<_}
 use mathlib.Core.Path.{_≡_}
 use mathlib.Core.Option.{some}
 use native.Mathlib.Nat.{le-trans}
-use Rattle.calculus.specs.Expression.{Value, int, name, Unary, join, ref, read, freelock, lock, unlock, Maker, newtid, newlock, Exp, value, var, let-in, if, while, spawn, write, unary, make}
+use Rattle.calculus.specs.Expression.{Value, int, name, Unary, join, ref, read, freelock, lock, unlock, post, wait, Maker, newtid, newlock, newsem, Exp, value, var, let-in, if, while, spawn, write, unary, make}
 use Rattle.calculus.specs.Capability.{Cap, _≥ᶜ_}
-use Rattle.calculus.specs.Figure5.{Ty, int-type, ref-type, lock-type, tid-type, Env, bind, _∣_∣_⊢_∶_∣_, VAR, INT, LET, IF, WHILE, NEWT, SPAWN, JOIN, REF, WRITE, READ, NEWL, FREEL, LCK, ULCK}
+use Rattle.calculus.specs.Figure5.{Ty, int-type, ref-type, lock-type, tid-type, sem-type, Env, bind, _∣_∣_⊢_∶_∣_, VAR, INT, LET, IF, WHILE, NEWT, SPAWN, JOIN, REF, WRITE, READ, NEWL, FREEL, LCK, ULCK, NEWSEM, POST, WAIT}
 use Rattle.calculus.proofs.Laws.Order.{Gains, Pays, ≥-trans, ≥-refl, gains-weakens, pays-weakens, sum-gains, sum-pays}
 
 -- ---- Values
@@ -37,10 +37,13 @@ pub data UnaryTyped (D : ℕ) : Unary → Ty → Cap → Ty → Cap → Type 0 w
   freelock-typed : {K Ψ Φ : Cap} → Gains Φ Ψ K → UnaryTyped D freelock (lock-type K) Ψ int-type Φ
   lock-typed : {K Ψ Φ : Cap} → Gains Φ Ψ K → UnaryTyped D lock (lock-type K) Ψ int-type Φ
   unlock-typed : {K Ψ Φ : Cap} → Pays Φ Ψ K → UnaryTyped D unlock (lock-type K) Ψ int-type Φ
+  post-typed : {K Ψ Φ : Cap} → Pays Φ Ψ K → UnaryTyped D post (sem-type K) Ψ int-type Φ
+  wait-typed : {K Ψ Φ : Cap} → Gains Φ Ψ K → UnaryTyped D wait (sem-type K) Ψ int-type Φ
 
 pub data MakerTyped : Maker → Cap → Ty → Cap → Type 0 where
   newtid-typed : {K Ψ Φ : Cap} → Ψ ≥ᶜ Φ → MakerTyped newtid Ψ (tid-type K) Φ
   newlock-typed : {K Ψ Φ : Cap} → Pays Φ Ψ K → MakerTyped newlock Ψ (lock-type K) Φ
+  newsem-typed : {K Ψ Φ : Cap} → Ψ ≥ᶜ Φ → MakerTyped newsem Ψ (sem-type K) Φ
 
 -- Typed D N Γ Ψ e τ Φ: with these types of names and variables e has type τ, can be run with Ψ, and leaves at least Φ.
 pub data Typed (D : ℕ) (N : Env) : Env → Cap → Exp → Ty → Cap → Type 0 where
@@ -69,10 +72,13 @@ unary-weakens (read-typed {ρ = ρ} g h) a b = read-typed {ρ = ρ} (le-trans g 
 unary-weakens (freelock-typed h) a b = freelock-typed (gains-weakens h a b)
 unary-weakens (lock-typed h) a b = lock-typed (gains-weakens h a b)
 unary-weakens (unlock-typed h) a b = unlock-typed (pays-weakens h a b)
+unary-weakens (post-typed h) a b = post-typed (pays-weakens h a b)
+unary-weakens (wait-typed h) a b = wait-typed (gains-weakens h a b)
 
 pub maker-weakens : {o : Maker} {τ : Ty} {Ψ Ψ′ Φ Φ′ : Cap} → MakerTyped o Ψ τ Φ → Ψ′ ≥ᶜ Ψ → Φ ≥ᶜ Φ′ → MakerTyped o Ψ′ τ Φ′
 maker-weakens (newtid-typed h) a b = newtid-typed (≥-trans a (≥-trans h b))
 maker-weakens (newlock-typed h) a b = newlock-typed (pays-weakens h a b)
+maker-weakens (newsem-typed h) a b = newsem-typed (≥-trans a (≥-trans h b))
 
 pub typing-weakens : {D : ℕ} {N Γ : Env} {Ψ Ψ′ Φ Φ′ : Cap} {e : Exp} {τ : Ty} → Typed D N Γ Ψ e τ Φ → Ψ′ ≥ᶜ Ψ → Φ ≥ᶜ Φ′ →
     Typed D N Γ Ψ′ e τ Φ′
@@ -105,3 +111,6 @@ derived-is-typed N (NEWL h) = make-typed (newlock-typed (sum-pays h))
 derived-is-typed N (FREEL e h) = unary-typed (derived-is-typed N e) (freelock-typed (sum-gains h))
 derived-is-typed N (LCK e h) = unary-typed (derived-is-typed N e) (lock-typed (sum-gains h))
 derived-is-typed N (ULCK e h) = unary-typed (derived-is-typed N e) (unlock-typed (sum-pays h))
+derived-is-typed N NEWSEM = make-typed (newsem-typed ≥-refl)
+derived-is-typed N (POST e h) = unary-typed (derived-is-typed N e) (post-typed (sum-pays h))
+derived-is-typed N (WAIT e h) = unary-typed (derived-is-typed N e) (wait-typed (sum-gains h))

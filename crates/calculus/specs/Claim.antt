@@ -1,13 +1,14 @@
--- What is claimed of a program: no race and no odd halt in any state on the way, for every list of moves.
+-- What is claimed of a program: no race and no odd halt in any state on the way, for every list of moves; and that two steps on cells, of
+-- different threads, may be taken in either order.
 use Prim.Native.Nat.{ℕ}
 use mathlib.Core.Path.{_≡_}
 use mathlib.Core.Logic.{_≢_, _⊎_}
-use mathlib.Core.Option.{none, some}
+use mathlib.Core.Option.{Option, none, some}
 use mathlib.Core.List.{List, [], _∷_}
 use lib.ListN.{getElem?}
-use Rattle.calculus.specs.Expression.{Value, name, join, read, freelock, lock, Exp, value, write-redex, unary-redex, at-word, next}
-use Rattle.calculus.specs.State.{LockState, opened, Slot, identifier, cell, a-lock, Thread, State, Move}
-use Rattle.calculus.specs.Reduction.{reduce, states, start}
+use Rattle.calculus.specs.Expression.{Value, name, join, read, freelock, lock, wait, Exp, value, write-redex, unary-redex, at-word, next}
+use Rattle.calculus.specs.State.{LockState, opened, identifier, cell, a-lock, semaphore, Thread, State, Move}
+use Rattle.calculus.specs.Reduction.{_>>=_, reduce, states, run, start}
 
 -- Thread t stands at place i.
 abbrev pub ThreadAt : State → ℕ → Thread → Type 0
@@ -37,18 +38,15 @@ RaceFree s = ¬ Race s
 pub data Finished (t : Thread) : Type 0 where
   finished : (v : Value) → t .body ≡ value v → Finished t
 
--- A lock is open, closed or removed.
-pub data IsLock : Slot → Type 0 where
-  is-lock : {l : LockState} → IsLock (a-lock l)
-
--- "It waits at a `join` on an identifier that no finished thread has, and at a `lock` or `freelock` on a lock that is not open."
+-- "It waits at a `join` on an identifier that no finished thread has, and at a `lock` or `freelock` on a lock that is not open",
+-- and, by request (vi), at a `wait` on a count of 0.
 pub data Waits (s : State) (t : Thread) : Type 0 where
   at-join : (n : ℕ) → next (t .body) ≡ at-word (unary-redex join (name n)) → s .names n ≡ identifier →
       ((j : ℕ) (u : Thread) → ThreadAt s j u → u .tid ≡ n → ¬ Finished u) → Waits s t
-  at-lock : (n : ℕ) → next (t .body) ≡ at-word (unary-redex lock (name n)) → IsLock (s .names n) →
-      s .names n ≢ a-lock opened → Waits s t
-  at-freelock : (n : ℕ) → next (t .body) ≡ at-word (unary-redex freelock (name n)) → IsLock (s .names n) →
-      s .names n ≢ a-lock opened → Waits s t
+  at-lock : (n : ℕ) (l : LockState) → next (t .body) ≡ at-word (unary-redex lock (name n)) → s .names n ≡ a-lock l → l ≢ opened → Waits s t
+  at-freelock : (n : ℕ) (l : LockState) → next (t .body) ≡ at-word (unary-redex freelock (name n)) → s .names n ≡ a-lock l → l ≢ opened →
+      Waits s t
+  at-wait : (n : ℕ) → next (t .body) ≡ at-word (unary-redex wait (name n)) → s .names n ≡ semaphore 0 → Waits s t
   -- No other word waits; an `unlock`, above all, goes ahead on any lock.
 
 -- "It halts in a state where no move of its own is a reduction."
@@ -68,3 +66,32 @@ Every P (x ∷ xs) = P x × Every P xs
 -- One claim about the list of moves as a whole.
 abbrev pub Safe : Exp → Type 0
 Safe e = (ms : List Move) → Every (λ s. RaceFree s × HaltsWell s) (states ms (start e))
+
+-- ---- Cell steps in either order: request (xiii)
+
+-- "Any state that an accepted job can reach": some list of moves leads there from the start.
+pub data Reachable (e : Exp) : State → Type 0 where
+  reached : (ms : List Move) → Reachable e (run ms (start e))
+
+-- A thread that "can read or write a cell next".
+pub data AboutToUse (s : State) (t : Thread) : Type 0 where
+  about-to-use : (n : ℕ) → AboutToRead s t n ⊎ AboutToWrite s t n → AboutToUse s t
+
+-- The state after the move m and then k, if both are reductions.
+abbrev pub taking-both : State → Move → Move → Option State
+taking-both s m k = reduce s m >>= λ s′. reduce s′ k
+
+-- "Taking both steps in either order must give the same state": in either order both moves are reductions, and the state after them is one
+-- and the same, in its threads and in its names.
+pub record SameEitherWay (s : State) (m k : Move) : Type 0 where
+  pub after : State
+  pub one-way : taking-both s m k ≡ some after
+  pub other-way : taking-both s k m ≡ some after
+
+-- "If two different threads can each read or write a cell next": the moves m and k are theirs.
+abbrev pub CellStepsSwap : State → Type 0
+CellStepsSwap s = (m k : Move) (t u : Thread) → m .thread ≢ k .thread → ThreadAt s (m .thread) t → ThreadAt s (k .thread) u →
+    AboutToUse s t → AboutToUse s u → SameEitherWay s m k
+
+abbrev pub InEitherOrder : Exp → Type 0
+InEitherOrder e = (s : State) → Reachable e s → CellStepsSwap s

@@ -1,7 +1,7 @@
 -- Programs of the paper and a few beside them, with moves that run them. What they show is proved in proofs/Examples.
 use Prim.Native.Nat.{ℕ, zero, suc}
 use mathlib.Core.List.{List, [], _∷_}
-use Rattle.calculus.specs.Expression.{int, Unary, join, ref, read, freelock, lock, unlock, newtid, newlock, Exp, value, var, let-in, while, spawn, write, unary, make}
+use Rattle.calculus.specs.Expression.{int, Unary, join, ref, read, freelock, lock, unlock, post, wait, newtid, newlock, newsem, Exp, value, var, let-in, while, spawn, write, unary, make}
 use Rattle.calculus.specs.State.{first, second, Move}
 use Rattle.calculus.specs.Reduction.{nowhere}
 use Rattle.calculus.specs.Capability.{Cap}
@@ -141,6 +141,52 @@ moves-2-2-1-threads =
 abbrev pub moves-2-2-1-to-end : List Move
 moves-2-2-1-to-end = joins 0 2 ∷ goes 0 ∷ joins 0 1 ∷ goes 0 ∷ goes 0 ∷ goes 0 ∷ goes 0 ∷ leaves 0 ∷ []
 
+-- ---- Section 3.1.4: semaphores
+
+-- A thread that waits for a post and then writes x; x is 0 and the semaphore is 1.
+abbrev pub waits-and-writes : Exp
+waits-and-writes = unary wait (var 1) ⨾ write (var 0) (constant 1)
+
+-- The first thread writes x and hands it over to such a thread.
+abbrev pub handover : Exp
+handover =
+    let-in 0 (unary ref (constant 0))
+    (let-in 1 (make newsem)
+    (spawn (make newtid) waits-and-writes
+    ⨾ write (var 0) (constant 2)
+    ⨾ unary post (var 1)))
+
+-- Up to where the first thread is about to make the semaphore.
+abbrev pub moves-handover-to-newsem : List Move
+moves-handover-to-newsem = names 0 1 ∷ goes 0 ∷ []
+
+-- Then the other thread is spawned and is about to wait on a count of 0.
+abbrev pub moves-handover-to-wait : List Move
+moves-handover-to-wait = names 0 2 ∷ goes 0 ∷ names 0 3 ∷ goes 0 ∷ goes 0 ∷ []
+
+-- Then the first writes and posts.
+abbrev pub moves-handover-to-post : List Move
+moves-handover-to-post = goes 0 ∷ goes 0 ∷ goes 0 ∷ []
+
+-- Then the other waits and writes.
+abbrev pub moves-handover-to-end : List Move
+moves-handover-to-end = goes 1 ∷ goes 1 ∷ goes 1 ∷ []
+
+-- Figure 7: two posts let two threads write. Unlike an `unlock`, a post is not idempotent.
+abbrev pub figure-7 : Exp
+figure-7 =
+    let-in 0 (unary ref (constant 0))
+    (let-in 1 (make newsem)
+    (spawn (make newtid) waits-and-writes
+    ⨾ spawn (make newtid) waits-and-writes
+    ⨾ unary post (var 1)
+    ⨾ unary post (var 1)))
+
+abbrev pub moves-figure-7 : List Move
+moves-figure-7 =
+    names 0 1 ∷ goes 0 ∷ names 0 2 ∷ goes 0 ∷ names 0 3 ∷ goes 0 ∷ goes 0 ∷ names 0 4 ∷ goes 0 ∷ goes 0
+    ∷ goes 0 ∷ goes 0 ∷ goes 0 ∷ goes 1 ∷ goes 1 ∷ goes 2 ∷ goes 2 ∷ []
+
 -- ---- Beside the paper
 
 -- Two threads with one identifier that write one cell.
@@ -153,6 +199,14 @@ one-identifier =
 
 abbrev pub moves-one-identifier : List Move
 moves-one-identifier = names 0 1 ∷ goes 0 ∷ names 0 2 ∷ goes 0 ∷ goes 0 ∷ goes 0 ∷ goes 0 ∷ []
+
+-- A `post` of a lock.
+abbrev pub post-of-lock : Exp
+post-of-lock = let-in 0 (make newlock) (unary post (var 0))
+
+-- The lock gets the name 1, and is about to be posted.
+abbrev pub moves-post-of-lock : List Move
+moves-post-of-lock = names 0 1 ∷ goes 0 ∷ []
 
 -- A word with one part on a constant.
 abbrev pub on-constant : Unary → Exp

@@ -12,11 +12,11 @@ pub data Value : Type 0 where
 
 -- The words with one part, which must be a value before they reduce. `while` has one part too, but reduces with it as it is.
 pub data Unary : Type 0 where
-  join ref read freelock lock unlock : Unary
+  join ref read freelock lock unlock post wait : Unary
 
 -- The words with no part that make a new thing.
 pub data Maker : Type 0 where
-  newtid newlock : Maker
+  newtid newlock newsem : Maker
 
 -- Figure 1, extended with values as in Section 2.1. A variable is a number, and a constant n is `value (int n)`.
 pub data Exp : Type 0 where

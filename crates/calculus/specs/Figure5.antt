@@ -1,17 +1,19 @@
--- Figure 5: Γ, Ψ ⊢ e : τ, Ψ′, one constructor a printed rule, in the printed order and with the printed names.
+-- Figure 5: Γ, Ψ ⊢ e : τ, Ψ′, one constructor a printed rule, in the printed order and with the printed names; then the rules of
+-- Section 3.1.4 for semaphores, under the names of their words.
 use Prim.Native.Nat.{ℕ, _≤_, _<_}
 use mathlib.Core.Path.{_≡_}
 use mathlib.Core.Option.{Option, none, some}
-use Rattle.calculus.specs.Expression.{int, join, ref, read, freelock, lock, unlock, newtid, newlock, Exp, value, var, let-in, if, while, spawn, write, unary, make}
+use Rattle.calculus.specs.Expression.{int, join, ref, read, freelock, lock, unlock, post, wait, newtid, newlock, newsem, Exp, value, var, let-in, if, while, spawn, write, unary, make}
 use Rattle.calculus.specs.State.{update}
 use Rattle.calculus.specs.Capability.{Cap, _≥ᶜ_, _≈_⊕_}
 
--- The types of Section 2.2, as trees.
+-- The types of Section 2.2 and of Section 3.1.4, as trees.
 pub data Ty : Type 0 where
   int-type : Ty
   ref-type : ℕ → Ty → Ty
   lock-type : Cap → Ty
   tid-type : Cap → Ty
+  sem-type : Cap → Ty
 
 -- Γ, the types of the variables that are bound.
 abbrev pub Env : Type 0
@@ -65,3 +67,10 @@ pub data _∣_∣_⊢_∶_∣_ (D : ℕ) : Env → Cap → Exp → Ty → Cap �
   ULCK : {Γ : Env} {Ψ Ψ₁ Ψ₂ Ψ₃ : Cap} {e : Exp} →
       D ∣ Γ ∣ Ψ ⊢ e ∶ lock-type Ψ₁ ∣ Ψ₂ → Ψ₂ ≈ Ψ₃ ⊕ Ψ₁ →
       D ∣ Γ ∣ Ψ ⊢ unary unlock e ∶ int-type ∣ Ψ₃
+  NEWSEM : {Γ : Env} {Ψ Ψ₁ : Cap} → D ∣ Γ ∣ Ψ ⊢ make newsem ∶ sem-type Ψ₁ ∣ Ψ
+  POST : {Γ : Env} {Ψ Ψ₁ Ψ₂ Ψ₃ : Cap} {e : Exp} →
+      D ∣ Γ ∣ Ψ ⊢ e ∶ sem-type Ψ₁ ∣ Ψ₂ → Ψ₂ ≈ Ψ₃ ⊕ Ψ₁ →
+      D ∣ Γ ∣ Ψ ⊢ unary post e ∶ int-type ∣ Ψ₃
+  WAIT : {Γ : Env} {Ψ Ψ₁ Ψ₂ Ψ₃ : Cap} {e : Exp} →
+      D ∣ Γ ∣ Ψ ⊢ e ∶ sem-type Ψ₁ ∣ Ψ₂ → Ψ₃ ≈ Ψ₂ ⊕ Ψ₁ →
+      D ∣ Γ ∣ Ψ ⊢ unary wait e ∶ int-type ∣ Ψ₃

@@ -1,11 +1,11 @@
 -- Reductions and runs: document 01's "The steps", after Figure 4.
-use Prim.Native.Nat.{ℕ}
+use Prim.Native.Nat.{ℕ, zero, suc}
 use mathlib.Core.Option.{Option, none, some}
 use mathlib.Core.List.{List, [], _∷_, _++_}
 use native.Mathlib.Decide.{ℕ-discrete}
 use lib.ListN.{getElem?, set}
-use Rattle.calculus.specs.Expression.{Value, int, name, Unary, join, ref, read, freelock, lock, unlock, Maker, newtid, newlock, Exp, value, let-in, if, while, Redex, let-redex, if-redex, while-redex, spawn-redex, write-redex, unary-redex, make-redex, Next, is-value, at-variable, at-word, next, plug, choose, substitute}
-use Rattle.calculus.specs.State.{LockState, opened, closed, removed, Slot, unused, identifier, cell, a-lock, Thread, State, Part, first, second, Move, update, remove}
+use Rattle.calculus.specs.Expression.{Value, int, name, Unary, join, ref, read, freelock, lock, unlock, post, wait, Maker, newtid, newlock, newsem, Exp, value, let-in, if, while, Redex, let-redex, if-redex, while-redex, spawn-redex, write-redex, unary-redex, make-redex, Next, is-value, at-variable, at-word, next, plug, choose, substitute}
+use Rattle.calculus.specs.State.{LockState, opened, closed, removed, Slot, unused, identifier, cell, a-lock, semaphore, Thread, State, Part, first, second, Move, update, remove}
 
 -- ---- What a word asks before it reduces: `none` where the answer is no
 
@@ -28,12 +28,14 @@ if-unused unused = some tt
 if-unused identifier = none
 if-unused (cell v) = none
 if-unused (a-lock l) = none
+if-unused (semaphore c) = none
 
 abbrev pub if-identifier : Slot → Option (Unit {0})
 if-identifier unused = none
 if-identifier identifier = some tt
 if-identifier (cell v) = none
 if-identifier (a-lock l) = none
+if-identifier (semaphore c) = none
 
 -- The value that a cell holds.
 abbrev pub content : Slot → Option Value
@@ -41,6 +43,7 @@ content unused = none
 content identifier = none
 content (cell v) = some v
 content (a-lock l) = none
+content (semaphore c) = none
 
 -- Whether a lock is open, closed or removed.
 abbrev pub lock-state : Slot → Option LockState
@@ -48,11 +51,25 @@ lock-state unused = none
 lock-state identifier = none
 lock-state (cell v) = none
 lock-state (a-lock l) = some l
+lock-state (semaphore c) = none
 
 abbrev pub if-opened : LockState → Option (Unit {0})
 if-opened opened = some tt
 if-opened closed = none
 if-opened removed = none
+
+-- The count of a semaphore.
+abbrev pub count : Slot → Option ℕ
+count unused = none
+count identifier = none
+count (cell v) = none
+count (a-lock l) = none
+count (semaphore c) = some c
+
+-- The number that is one less, of a number above 0.
+abbrev pub one-less : ℕ → Option ℕ
+one-less zero = none
+one-less (suc c) = some c
 
 abbrev pub if-equal : ℕ → ℕ → Option (Unit {0})
 if-equal n m = choose (ℕ-discrete n m) (some tt) none
@@ -77,10 +94,11 @@ abbrev pub part-listed : Part → Exp → Exp → Exp
 part-listed first e₁ e₂ = e₁
 part-listed second e₁ e₂ = e₂
 
--- A new lock is open.
+-- A new lock is open; a new semaphore counts 0.
 abbrev pub made : Maker → Slot
 made newtid = identifier
 made newlock = a-lock opened
+made newsem = semaphore 0
 
 -- The state in which the thread that moves, t, has e in the place of its next word, with these names.
 abbrev pub becomes : State → Move → Thread → (ℕ → Slot) → Exp → State
@@ -93,7 +111,7 @@ with-thread t s = record { threads = s .threads ++ (t ∷ []); names = s .names 
 abbrev pub without-thread : ℕ → State → State
 without-thread j s = record { threads = remove (s .threads) j; names = s .names }
 
--- "`ref`, `newtid` and `newlock` become the name listed, if unused"; what it names from now on is told.
+-- "`ref`, `newtid` and `newlock` become the name listed, if unused", and so does `newsem`; what it names from now on is told.
 abbrev pub named : State → Move → Thread → Slot → Option State
 named s m t new = do
   if-unused (s .names (m .fresh))
@@ -108,7 +126,8 @@ taken s m t v after = do
   some (becomes s m t (update (s .names) n after) zero-exp)
 
 -- The words with one part, on its value. `unlock` asks for a lock and no more: it goes ahead on a closed, an open or a removed
--- one. `join` is of a finished thread, and the thread that joins has not finished, so it stays.
+-- one. `join` is of a finished thread, and the thread that joins has not finished, so it stays. "Post adds one and never waits";
+-- `wait` "needs a count above 0 and takes one".
 abbrev pub unary-reduct : State → Move → Thread → Unary → Value → Option State
 unary-reduct s m t join v = do
   n ← name-of v
@@ -128,6 +147,15 @@ unary-reduct s m t unlock v = do
   n ← name-of v
   lock-state (s .names n)
   some (becomes s m t (update (s .names) n (a-lock opened)) zero-exp)
+unary-reduct s m t post v = do
+  n ← name-of v
+  c ← count (s .names n)
+  some (becomes s m t (update (s .names) n (semaphore (suc c))) zero-exp)
+unary-reduct s m t wait v = do
+  n ← name-of v
+  c ← count (s .names n)
+  left ← one-less c
+  some (becomes s m t (update (s .names) n (semaphore left)) zero-exp)
 
 -- The state after thread t of s reduces that word, if the move m makes it a reduction.
 abbrev pub reduct : State → Move → Thread → Redex → Option State

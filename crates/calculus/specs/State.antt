@@ -1,5 +1,5 @@
 -- States and moves. Document 01: "a state is threads in spawn order, each an identifier and an expression; cells with their
--- values; locks, open, closed or removed; and the names used so far".
+-- values; locks, open, closed or removed; and the names used so far". Request (vi) adds semaphores with their counts.
 use Prim.Native.Nat.{ℕ, zero, suc}
 use mathlib.Core.List.{List, [], _∷_}
 use native.Mathlib.Decide.{ℕ-discrete}
@@ -15,6 +15,7 @@ pub data Slot : Type 0 where
   identifier : Slot
   cell : Value → Slot
   a-lock : LockState → Slot
+  semaphore : ℕ → Slot
 
 pub record Thread : Type 0 where
   pub tid : ℕ

@@ -17,7 +17,9 @@ use Rattle.spec.proofs.Clashes.{true-is-not-false}
 use Rattle.spec.proofs.Accepted.{accepted-is-right, right-is-accepted}
 use Rattle.spec.proofs.FirstFalse.{refusal-names-first-false}
 use Rattle.soundness.specs.SafeText.{SafeText}
+use Rattle.soundness.specs.EitherOrderText.{EitherOrderText}
 use Rattle.soundness.proofs.Safety.{accepted-is-safe}
+use Rattle.soundness.proofs.EitherOrder.{accepted-is-in-either-order}
 use Rattle.checker.specs.Promise.{RefutedBy}
 
 -- a refusal's number is not 0
@@ -68,13 +70,22 @@ module _ (room : ℕ) (p s : List ℕ) (a : Answer) (verdicts : a ≡ verdict ro
   pub safe-kept : returned a ≡ four 0 0 0 0 → SafeText p
   safe-kept h = accepted-is-safe room p s (accepts h)
 
+  pub either-order-kept : returned a ≡ four 0 0 0 0 → EitherOrderText p
+  either-order-kept h = accepted-is-in-either-order room p s (accepts h)
+
 -- every promise of the offered call, in the order of its clauses; U is that of the texts, which are lent unchanged
 pub promises-kept : {U : Type 0} (w w′ p s : List ℕ) (a : Answer) → a ≡ verdict (length w) p s → w′ ≡ workspaceAfter w → U
     → (returned a ≡ returned (verdict (length w) p s))
     × ((w′ ≡ workspaceAfter w)
     × (U
     × ((workspaceSize ≤ length w → (returned a ≡ four 0 0 0 0) ↔ Right p s)
-    × ((onConditions (returned a .number) ≡ true → RefutedBy p s a) × (returned a ≡ four 0 0 0 0 → SafeText p)))))
+    × ((onConditions (returned a .number) ≡ true → RefutedBy p s a)
+    × ((returned a ≡ four 0 0 0 0 → SafeText p)
+    × (returned a ≡ four 0 0 0 0 → EitherOrderText p))))))
 promises-kept w w′ p s a v c u =
     let room = length w in
-    (answer-kept room p s a v, (c, (u, (derivation-kept room p s a v, (first-false-kept room p s a v, safe-kept room p s a v)))))
+    let derivation = derivation-kept room p s a v in
+    let first-false = first-false-kept room p s a v in
+    let safe = safe-kept room p s a v in
+    let either-order = either-order-kept room p s a v in
+    (answer-kept room p s a v, (c, (u, (derivation, (first-false, (safe, either-order))))))

@@ -17,6 +17,7 @@ ghost use Rattle.spec.specs.Verdict.{verdict, returned, four, onConditions};
 ghost use Rattle.spec.specs.Workspace.{workspaceSize, workspaceAfter};
 ghost use Rattle.spec.specs.Accepted.{Right};
 ghost use Rattle.soundness.specs.SafeText.{SafeText};
+ghost use Rattle.soundness.specs.EitherOrderText.{EitherOrderText};
 ghost use Rattle.checker.specs.Promise.{RefutedBy};
 ghost use Rattle.checker.specs.Stages.{RulesAnswered, HoldsSome, SplitAnswered};
 
@@ -64,14 +65,16 @@ fn check_program(program: &[u8], split: &[u8], work: &mut [u32]) -> Answer
     }
 }
 
-// The answer to a pair of texts. What document 01 asks of it, clause by clause:
+// The answer to a pair of texts. What documents 01 and 02 ask of it, clause by clause:
 // answer: it is the one that document 01 gives, for every input;
 // cleared: the first 16,384 numbers of the work space are 0 afterwards and the rest is as before; a shorter one is as it was;
 // unchanged: both texts are as they were;
 // derivation (demand 2): accepted exactly when both sheets are well formed, the start holds at most one of each location, and
 // the split gives a derivation;
 // first_false (demand 2): a refusal on the rules names the first condition that is false;
-// safe (demand 3): an accepted program has no race and no odd halt in any state, for every list of moves.
+// safe (demand 3): an accepted program has no race and no odd halt in any state, for every list of moves;
+// either_order (request (xiii)): in every state that an accepted program can reach, two steps on cells, of different threads, give
+// the same state in either order.
 pub fn check(program: &[u8], split: &[u8], work: &mut [u32]) -> Answer
     ensures answer { λ a. ⌜ returned a ≡ returned (verdict (length (now (work .entry))) (now (program .entry)) (now (split .entry))) ⌝ }
     ensures cleared { λ a. ⌜ now (work .exit) ≡ workspaceAfter (now (work .entry)) ⌝ }
@@ -79,6 +82,7 @@ pub fn check(program: &[u8], split: &[u8], work: &mut [u32]) -> Answer
     ensures derivation { λ a. ⌜ (workspaceSize ≤ length (now (work .entry)) → (returned a ≡ four 0 0 0 0) ↔ Right (now (program .entry)) (now (split .entry))) ⌝ }
     ensures first_false { λ a. ⌜ (onConditions (returned a .number) ≡ true → RefutedBy (now (program .entry)) (now (split .entry)) a) ⌝ }
     ensures safe { λ a. ⌜ (returned a ≡ four 0 0 0 0 → SafeText (now (program .entry))) ⌝ }
+    ensures either_order { λ a. ⌜ (returned a ≡ four 0 0 0 0 → EitherOrderText (now (program .entry))) ⌝ }
 {
     if work.len() < workspace::SIZE {
         return Answer::Refuse(Refusal::ShortWorkspace);

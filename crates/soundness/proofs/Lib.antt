@@ -2,3 +2,4 @@ pub mod Capabilities
 pub mod Types
 pub mod Derivation
 pub mod Safety
+pub mod EitherOrder

@@ -1,6 +1,6 @@
 -- Demand 3 of two texts: what is accepted is safe.
 use mathlib.Core.Path.{_≡_}
-use mathlib.Core.List.{List, []}
+use mathlib.Core.List.{List}
 use Prim.Native.Nat.{ℕ}
 use Rattle.spec.specs.Verdict.{verdict}
 use Rattle.spec.specs.Accepted.{Right}
@@ -19,7 +19,7 @@ right-is-safe programText splitText r =
     record {
       P = r .P;
       program = r .program;
-      safe = derived-is-safe (R .denominator .0) (split-derivation-is-figure-5 (r .S) R (r .derives) (r .program .usedInside)) (at-most-cap (r .atMostOne));
+      holds = derived-is-safe (R .denominator .0) (split-derivation-is-figure-5 (r .S) R (r .derives) (r .program .usedInside)) (at-most-cap (r .atMostOne));
     }
 
 pub accepted-is-safe : (room : ℕ) (programText splitText : List ℕ) → verdict room programText splitText ≡ Accept → SafeText programText

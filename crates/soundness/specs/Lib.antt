@@ -1,2 +1,4 @@
 pub mod Erasure
+pub mod Listed
 pub mod SafeText
+pub mod EitherOrderText

@@ -6,8 +6,8 @@ use native.Mathlib.Decide.{ℕ-discrete}
 use native.Mathlib.Omega.{arith}
 use Rattle.calculus.specs.Claim.{Safe}
 use Rattle.calculus.specs.Capability.{nothing, _≈_⊕_}
-use Rattle.calculus.specs.Figure5.{Ty, int-type, ref-type, lock-type, tid-type, Env, empty, _∣_∣_⊢_∶_∣_, VAR, INT, LET, WHILE, NEWT, SPAWN, JOIN, REF, WRITE, READ, NEWL, FREEL, LCK, ULCK}
-use Rattle.calculus.specs.Examples.{holding, figure-2b, figure-2c, section-2-2-1-thread, section-2-2-1, freed-lock}
+use Rattle.calculus.specs.Figure5.{Ty, int-type, ref-type, lock-type, tid-type, sem-type, Env, empty, _∣_∣_⊢_∶_∣_, VAR, INT, LET, WHILE, NEWT, SPAWN, JOIN, REF, WRITE, READ, NEWL, FREEL, LCK, ULCK, NEWSEM, POST, WAIT}
+use Rattle.calculus.specs.Examples.{holding, figure-2b, figure-2c, section-2-2-1-thread, section-2-2-1, handover, freed-lock}
 use Rattle.calculus.proofs.Laws.Order.{≥-refl}
 use Rattle.calculus.proofs.Safety.{derived-is-safe}
 
@@ -100,6 +100,24 @@ section-2-2-1-derived =
 
 pub section-2-2-1-is-safe : Safe section-2-2-1
 section-2-2-1-is-safe = derived-is-safe (omega arith) section-2-2-1-derived (holding-at-most 2 2 2 (omega arith) (omega arith))
+
+-- ---- Section 3.1.4: a post hands over the whole of x
+
+pub handover-derived : 1 ∣ empty ∣ holding 1 0 ⊢ handover ∶ int-type ∣ holding 0 0
+unfolding ℕ-discrete
+handover-derived =
+    let whole = holding-sum 0 0 1 0 in
+    LET {τ₁ = x-type} (REF INT)
+    (LET {τ₁ = sem-type (holding 1 0)} NEWSEM
+    (LET {τ₁ = int-type}
+    (SPAWN {Ψ₁ = nothing} {Ψ₃ = holding 0 0} NEWT
+    (LET {τ₁ = int-type} (WAIT (VAR refl) whole) (WRITE {Ψ₂ = holding 1 0} {τ = int-type} {ρ = 0} (VAR refl) INT (omega arith)))
+    (record { at = λ ρ. omega arith }) (holding-sum 1 0 0 0))
+    (LET {τ₁ = int-type} (WRITE {Ψ₂ = holding 1 0} {τ = int-type} {ρ = 0} (VAR refl) INT (omega arith))
+    (POST (VAR refl) whole))))
+
+pub handover-is-safe : Safe handover
+handover-is-safe = derived-is-safe (omega arith) handover-derived (holding-at-most 1 1 0 (omega arith) (omega arith))
 
 -- ---- The lock that is locked after it was freed: Figure 5 derives it, since the thread that would gain so much waits for good
 

@@ -6,11 +6,11 @@ use mathlib.Core.Option.{some}
 use mathlib.Core.List.{[], _∷_}
 use native.Mathlib.Decide.{ℕ-discrete}
 use native.Mathlib.Omega.{arith}
-use Rattle.calculus.specs.Expression.{Value, int, name, Unary, join, ref, read, freelock, lock, unlock, Exp, value, unary, unary-redex, at-word}
+use Rattle.calculus.specs.Expression.{Value, int, name, Unary, join, ref, read, freelock, lock, unlock, post, wait, Exp, value, unary, unary-redex, at-word}
 use Rattle.calculus.specs.State.{LockState, closed, removed, opened, a-lock, Thread, State, Move, update}
 use Rattle.calculus.specs.Reduction.{_>>_, lock-state, zero-exp, becomes, unary-reduct, reduce, attempt, run, start}
-use Rattle.calculus.specs.Claim.{ThreadAt, Finished, finished, is-lock, Waits, at-join, at-lock, at-freelock, Halts, HaltsWell, Safe}
-use Rattle.calculus.specs.Examples.{goes, names, on-constant, figure-2b, moves-2b-to-join, figure-2c, moves-2c-to-lock, freed-lock, moves-freed-lock}
+use Rattle.calculus.specs.Claim.{ThreadAt, Finished, finished, Waits, at-join, at-lock, at-freelock, at-wait, Halts, HaltsWell, Safe}
+use Rattle.calculus.specs.Examples.{goes, names, on-constant, figure-2b, moves-2b-to-join, figure-2c, moves-2c-to-lock, freed-lock, moves-freed-lock, handover, moves-handover-to-newsem, moves-handover-to-wait, post-of-lock, moves-post-of-lock}
 use Rattle.calculus.proofs.Laws.Maps.{some-injective, none-is-not-some}
 use Rattle.calculus.proofs.Laws.NextWord.{word-injective}
 use Rattle.calculus.proofs.Laws.Waiting.{waiting-halts, stuck-halts}
@@ -25,6 +25,8 @@ constant-stops read d s m t s′ q = none-is-not-some q
 constant-stops freelock d s m t s′ q = none-is-not-some q
 constant-stops lock d s m t s′ q = none-is-not-some q
 constant-stops unlock d s m t s′ q = none-is-not-some q
+constant-stops post d s m t s′ q = none-is-not-some q
+constant-stops wait d s m t s′ q = none-is-not-some q
 
 pub word-on-constant-halts : (o : Unary) → o ≢ ref → Halts (start (on-constant o)) 0
 unfolding start
@@ -40,8 +42,9 @@ unary-is-no-value h = let z : _≡_ {A = ℕ} 0 1 = cc in absurd (omega (arith, 
 -- A thread waits on what a name names, so never on a constant.
 constant-is-not-waited-for : (s : State) (o : Unary) (i : ℕ) → ¬ Waits s (record { tid = i; body = on-constant o })
 constant-is-not-waited-for s o i (at-join n b k f) = constant-is-no-name b
-constant-is-not-waited-for s o i (at-lock n b k f) = constant-is-no-name b
-constant-is-not-waited-for s o i (at-freelock n b k f) = constant-is-no-name b
+constant-is-not-waited-for s o i (at-lock n l b k f) = constant-is-no-name b
+constant-is-not-waited-for s o i (at-freelock n l b k f) = constant-is-no-name b
+constant-is-not-waited-for s o i (at-wait n b e) = constant-is-no-name b
 
 pub word-on-constant-halts-oddly : (o : Unary) → o ≢ ref → ¬ HaltsWell (start (on-constant o))
 unfolding start
@@ -62,6 +65,38 @@ pub word-on-constant-is-not-safe : (o : Unary) → o ≢ ref → ¬ Safe (on-con
 unfolding run
 word-on-constant-is-not-safe o d = odd-halt-is-not-safe (on-constant o) [] (word-on-constant-halts-oddly o d)
 
+-- ---- An odd halt: a lock is of the wrong kind for a `post`
+
+-- The lock is 1, and the thread is about to post it.
+abbrev lock-posted : State
+lock-posted = run moves-post-of-lock (start post-of-lock)
+
+abbrev about-to-post : Thread
+about-to-post = record { tid = 0; body = unary post (value (name 1)) }
+
+post-never-waits : (s : State) → ¬ Waits s about-to-post
+post-never-waits s (at-join n b k f) = let z : _≡_ {A = ℕ} 0 1 = cc in omega (arith, z)
+post-never-waits s (at-lock n l b k f) = let z : _≡_ {A = ℕ} 0 1 = cc in omega (arith, z)
+post-never-waits s (at-freelock n l b k f) = let z : _≡_ {A = ℕ} 0 1 = cc in omega (arith, z)
+post-never-waits s (at-wait n b e) = let z : _≡_ {A = ℕ} 0 1 = cc in omega (arith, z)
+
+post-of-lock-halts : Halts lock-posted 0
+unfolding start run attempt reduce ℕ-discrete
+post-of-lock-halts = stuck-halts lock-posted 0 refl λ m r s′ w q.
+    let stuck : unary-reduct lock-posted m about-to-post post (name 1) ≡ some s′ = rw (word-injective (sym w)) at q in
+    none-is-not-some stuck
+
+pub post-of-lock-halts-oddly : ¬ HaltsWell lock-posted
+unfolding start run attempt reduce ℕ-discrete
+post-of-lock-halts-oddly well = by-cases (well 0 about-to-post refl post-of-lock-halts)
+  where
+    by-cases : ¬ (Finished about-to-post ⊎ Waits lock-posted about-to-post)
+    by-cases (inl (finished v e)) = unary-is-no-value e
+    by-cases (inr w) = post-never-waits lock-posted w
+
+pub post-of-lock-is-not-safe : ¬ Safe post-of-lock
+post-of-lock-is-not-safe = odd-halt-is-not-safe post-of-lock moves-post-of-lock post-of-lock-halts-oddly
+
 -- ---- Halts that the claim allows
 
 -- Thread i of s waits, and so halts.
@@ -71,10 +106,10 @@ pub record HaltsWaiting (s : State) (i : ℕ) : Type 0 where
   pub waits : Waits s t
   pub halts : Halts s i
 
-closed-is-not-opened : a-lock closed ≢ a-lock opened
+closed-is-not-opened : closed ≢ opened
 closed-is-not-opened h = let z : _≡_ {A = ℕ} 0 1 = cc in absurd (omega (arith, z))
 
-removed-is-not-opened : a-lock removed ≢ a-lock opened
+removed-is-not-opened : removed ≢ opened
 removed-is-not-opened h = let z : _≡_ {A = ℕ} 0 1 = cc in absurd (omega (arith, z))
 
 waiting : {t : Thread} (s : State) (i : ℕ) → ThreadAt s i t → Waits s t → HaltsWaiting s i
@@ -83,13 +118,19 @@ waiting {t} s i there w = record { t = t; there = there; waits = w; halts = wait
 -- Figure 2 (c), while the spawned thread holds the lock.
 pub figure-2c-waits-at-closed-lock : HaltsWaiting (run moves-2c-to-lock (start figure-2c)) 0
 unfolding start run attempt reduce ℕ-discrete
-figure-2c-waits-at-closed-lock = waiting (run moves-2c-to-lock (start figure-2c)) 0 refl (at-lock 2 refl is-lock closed-is-not-opened)
+figure-2c-waits-at-closed-lock = waiting (run moves-2c-to-lock (start figure-2c)) 0 refl (at-lock 2 closed refl refl closed-is-not-opened)
 
 -- The lock that was freed: its name, 2, stays used, so the new lock is 3, and the thread waits at a removed lock for good.
 pub freed-lock-waits-at-removed-lock : HaltsWaiting (run (names 0 3 ∷ goes 0 ∷ []) (run moves-freed-lock (start freed-lock))) 0
 unfolding start run attempt reduce ℕ-discrete
 freed-lock-waits-at-removed-lock =
-    waiting (run (names 0 3 ∷ goes 0 ∷ []) (run moves-freed-lock (start freed-lock))) 0 refl (at-lock 2 refl is-lock removed-is-not-opened)
+    waiting (run (names 0 3 ∷ goes 0 ∷ []) (run moves-freed-lock (start freed-lock))) 0 refl (at-lock 2 removed refl refl removed-is-not-opened)
+
+-- The thread that the semaphore is for, before the first thread posts.
+pub handover-waits-at-count-0 : HaltsWaiting (run moves-handover-to-wait (run moves-handover-to-newsem (start handover))) 1
+unfolding start run attempt reduce ℕ-discrete
+handover-waits-at-count-0 =
+    waiting (run moves-handover-to-wait (run moves-handover-to-newsem (start handover))) 1 refl (at-wait 2 refl refl)
 
 -- Figure 2 (b), while the spawned thread has not read: of its two threads the first has another identifier, and the second has not finished.
 pub figure-2b-waits-at-join : HaltsWaiting (run moves-2b-to-join (start figure-2b)) 0

@@ -2,16 +2,25 @@
 use Prim.Native.Nat.{ℕ, _≤_, _<_}
 use mathlib.Core.Path.{refl}
 use mathlib.Core.Logic.{inl, inr}
+use mathlib.Core.List.{List}
 use native.Mathlib.Decide.{ℕ-discrete}
 use native.Mathlib.Omega.{arith}
-use Rattle.calculus.specs.Expression.{int}
+use Rattle.calculus.specs.Expression.{int, Exp}
+use Rattle.calculus.specs.State.{Move}
 use Rattle.calculus.specs.Reduction.{reduce, attempt, run, start}
 use Rattle.calculus.specs.Claim.{about-to-read, about-to-write, Race, race, Safe}
 use Rattle.calculus.specs.Capability.{Cap}
 use Rattle.calculus.specs.Figure5.{Ty, empty, _∣_∣_⊢_∶_∣_}
-use Rattle.calculus.specs.Examples.{figure-2a, moves-2a, two-locks, moves-two-locks, one-identifier, moves-one-identifier}
+use Rattle.calculus.specs.Examples.{figure-2a, moves-2a, two-locks, moves-two-locks, one-identifier, moves-one-identifier, figure-7, moves-figure-7}
 use Rattle.calculus.proofs.Safety.{derived-is-safe}
 use Rattle.calculus.proofs.Examples.Claims.{race-is-not-safe}
+
+-- Figure 5 does not derive the program from a start of at most the whole.
+abbrev pub HasNoDerivation : Exp → Type 0
+HasNoDerivation e = (D : ℕ) (Ψ Φ : Cap) (τ : Ty) → 0 < D → ((ρ : ℕ) → Ψ ρ ≤ D) → ¬ (D ∣ empty ∣ Ψ ⊢ e ∶ τ ∣ Φ)
+
+race-has-no-derivation : (e : Exp) (ms : List Move) → Race (run ms (start e)) → HasNoDerivation e
+race-has-no-derivation e ms r D Ψ Φ τ positive at-most-whole derived = race-is-not-safe e ms r (derived-is-safe positive derived at-most-whole)
 
 -- ---- Figure 2 (a)
 
@@ -28,10 +37,19 @@ pub two-locks-race : Race (run moves-two-locks (start two-locks))
 unfolding start run attempt reduce ℕ-discrete
 two-locks-race = race 0 1 1 _ _ (omega arith) refl refl (about-to-write (int 0) (int 1) refl refl) (inl (about-to-read (int 0) refl refl))
 
--- So Figure 5 does not derive it from a start of at most the whole. With NEWL-unsound it would: each lock would lend the whole of x.
-pub two-locks-has-no-derivation : {D : ℕ} {Ψ Φ : Cap} {τ : Ty} → 0 < D → ((ρ : ℕ) → Ψ ρ ≤ D) → ¬ (D ∣ empty ∣ Ψ ⊢ two-locks ∶ τ ∣ Φ)
-two-locks-has-no-derivation positive at-most-whole derived =
-    race-is-not-safe two-locks moves-two-locks two-locks-race (derived-is-safe positive derived at-most-whole)
+-- With NEWL-unsound Figure 5 would derive it: each lock would lend the whole of x.
+pub two-locks-has-no-derivation : HasNoDerivation two-locks
+two-locks-has-no-derivation = race-has-no-derivation two-locks moves-two-locks two-locks-race
+
+-- ---- Figure 7: two posts
+
+pub figure-7-races : Race (run moves-figure-7 (start figure-7))
+unfolding start run attempt reduce ℕ-discrete
+figure-7-races = race 1 2 1 _ _ (omega arith) refl refl (about-to-write (int 0) (int 1) refl refl) (inr (about-to-write (int 0) (int 1) refl refl))
+
+-- The second post would pay with what the first has paid.
+pub figure-7-has-no-derivation : HasNoDerivation figure-7
+figure-7-has-no-derivation = race-has-no-derivation figure-7 moves-figure-7 figure-7-races
 
 -- ---- Two threads with one identifier are two threads
 

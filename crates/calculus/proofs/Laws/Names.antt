@@ -8,9 +8,9 @@ use mathlib.Core.List.{List, [], _∷_}
 use native.Mathlib.Decide.{ℕ-discrete}
 use native.Mathlib.Omega.{arith}
 use lib.ListN.{getElem?}
-use Rattle.calculus.specs.Expression.{Value, Unary, join, ref, read, freelock, lock, unlock, Maker, newtid, newlock, Exp, Redex, let-redex, if-redex, while-redex, spawn-redex, write-redex, unary-redex, make-redex, next, choose}
-use Rattle.calculus.specs.State.{LockState, opened, Slot, unused, identifier, cell, a-lock, Thread, State, Move, update}
-use Rattle.calculus.specs.Reduction.{name-of, if-unused, if-identifier, content, lock-state, if-opened, if-equal, value-of, word-of, made, named, taken, unary-reduct, reduct, reduce, or-else, attempt, states, start}
+use Rattle.calculus.specs.Expression.{Value, Unary, join, ref, read, freelock, lock, unlock, post, wait, Maker, newtid, newlock, newsem, Exp, Redex, let-redex, if-redex, while-redex, spawn-redex, write-redex, unary-redex, make-redex, next, choose}
+use Rattle.calculus.specs.State.{LockState, opened, Slot, unused, identifier, cell, a-lock, semaphore, Thread, State, Move, update}
+use Rattle.calculus.specs.Reduction.{name-of, if-unused, if-identifier, content, lock-state, if-opened, count, one-less, if-equal, value-of, word-of, made, named, taken, unary-reduct, reduct, reduce, or-else, attempt, states, start}
 use Rattle.calculus.specs.Claim.{Every}
 use Rattle.calculus.proofs.Laws.Maps.{some-injective, bind-is-some, update-other, update-above}
 
@@ -30,9 +30,13 @@ cell-is-used h = let z : _≡_ {A = ℕ} 0 1 = cc in omega (arith, z)
 lock-is-used : {l : LockState} → a-lock l ≢ unused
 lock-is-used h = let z : _≡_ {A = ℕ} 0 1 = cc in omega (arith, z)
 
+semaphore-is-used : {c : ℕ} → semaphore c ≢ unused
+semaphore-is-used h = let z : _≡_ {A = ℕ} 0 1 = cc in omega (arith, z)
+
 made-is-used : (o : Maker) → made o ≢ unused
 made-is-used newtid = identifier-is-used
 made-is-used newlock = lock-is-used
+made-is-used newsem = semaphore-is-used
 
 module _ (s : State) (m : Move) (t : Thread) where
   -- The state that a reduction is told to give.
@@ -71,6 +75,15 @@ module _ (s : State) (m : Move) (t : Thread) where
       let (n, _, q₁) = bind-is-some (name-of v) q in
       let (_, _, q₂) = bind-is-some (lock-state (s .names n)) q₁ in
       told (one-changed n (a-lock opened) lock-is-used) q₂
+  unary-changes-one post v s′ q =
+      let (n, _, q₁) = bind-is-some (name-of v) q in
+      let (c, _, q₂) = bind-is-some (count (s .names n)) q₁ in
+      told (one-changed n (semaphore (suc c)) semaphore-is-used) q₂
+  unary-changes-one wait v s′ q =
+      let (n, _, q₁) = bind-is-some (name-of v) q in
+      let (c, _, q₂) = bind-is-some (count (s .names n)) q₁ in
+      let (left, _, q₃) = bind-is-some (one-less c) q₂ in
+      told (one-changed n (semaphore left) semaphore-is-used) q₃
 
   reduct-changes-one : (r : Redex) (s′ : State) → reduct s m t r ≡ some s′ → OneChanged (s .names) (s′ .names)
   reduct-changes-one (let-redex x v e) s′ q = told none-changed q

@@ -1,11 +1,11 @@
 -- What the answers to a word's questions tell: laws of the questions that Reduction.antt asks.
-use Prim.Native.Nat.{ℕ}
+use Prim.Native.Nat.{ℕ, zero, suc}
 use mathlib.Core.Path.{_≡_, refl, ap}
 use mathlib.Core.Option.{some, none}
 use native.Mathlib.Decide.{ℕ-discrete}
 use Rattle.calculus.specs.Expression.{Value, Redex, Next, is-value, at-variable, at-word, choose}
-use Rattle.calculus.specs.State.{LockState, opened, closed, removed, Slot, unused, identifier, cell, a-lock}
-use Rattle.calculus.specs.Reduction.{if-unused, if-identifier, content, lock-state, if-opened, if-equal, value-of, word-of}
+use Rattle.calculus.specs.State.{LockState, opened, closed, removed, Slot, unused, identifier, cell, a-lock, semaphore}
+use Rattle.calculus.specs.Reduction.{if-unused, if-opened, one-less, if-equal, value-of, word-of}
 use Rattle.calculus.proofs.Laws.Maps.{some-injective, none-is-not-some}
 
 pub unused-tells : {u : Unit {0}} (sl : Slot) → if-unused sl ≡ some u → sl ≡ unused
@@ -13,29 +13,16 @@ unused-tells unused h = refl
 unused-tells identifier h = none-is-not-some h
 unused-tells (cell v) h = none-is-not-some h
 unused-tells (a-lock l) h = none-is-not-some h
-
-pub identifier-tells : {u : Unit {0}} (sl : Slot) → if-identifier sl ≡ some u → sl ≡ identifier
-identifier-tells unused h = none-is-not-some h
-identifier-tells identifier h = refl
-identifier-tells (cell v) h = none-is-not-some h
-identifier-tells (a-lock l) h = none-is-not-some h
-
-pub content-tells : {v : Value} (sl : Slot) → content sl ≡ some v → sl ≡ cell v
-content-tells unused h = none-is-not-some h
-content-tells identifier h = none-is-not-some h
-content-tells (cell w) h = ap cell (some-injective h)
-content-tells (a-lock l) h = none-is-not-some h
-
-pub lock-state-tells : {l : LockState} (sl : Slot) → lock-state sl ≡ some l → sl ≡ a-lock l
-lock-state-tells unused h = none-is-not-some h
-lock-state-tells identifier h = none-is-not-some h
-lock-state-tells (cell v) h = none-is-not-some h
-lock-state-tells (a-lock k) h = ap a-lock (some-injective h)
+unused-tells (semaphore c) h = none-is-not-some h
 
 pub opened-tells : {u : Unit {0}} (l : LockState) → if-opened l ≡ some u → l ≡ opened
 opened-tells opened h = refl
 opened-tells closed h = none-is-not-some h
 opened-tells removed h = none-is-not-some h
+
+pub one-less-tells : {left : ℕ} (c : ℕ) → one-less c ≡ some left → c ≡ suc left
+one-less-tells zero h = none-is-not-some h
+one-less-tells (suc c) h = ap suc (some-injective h)
 
 pub equal-tells : {u : Unit {0}} (n m : ℕ) → if-equal n m ≡ some u → n ≡ m
 equal-tells n m = by-cases (ℕ-discrete n m)

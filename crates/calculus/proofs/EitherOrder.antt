@@ -1,0 +1,142 @@
+-- Two steps on cells, of different threads, give the same state in either order: with no race they are on different cells, or both read.
+use Prim.Native.Nat.{ℕ}
+use mathlib.Core.Path.{_≡_, refl, sym, ap, _∙_}
+use mathlib.Core.Logic.{_≢_, _⊎_, inl, inr}
+use mathlib.Core.Option.{some}
+use mathlib.Core.List.{List, _∷_, _++_}
+use native.Mathlib.Decide.{ℕ-discrete}
+use Rattle.calculus.specs.Expression.{Value, name, read, Exp, value, write-redex, unary-redex, Next, at-word, next, choose}
+use Rattle.calculus.specs.State.{Slot, cell, Thread, State, Move, update}
+use Rattle.calculus.specs.Reduction.{_>>=_, content, zero-exp, becomes, word-of, reduct, reduce, or-else, attempt, run, start}
+use Rattle.calculus.specs.Claim.{ThreadAt, AboutToRead, about-to-read, AboutToWrite, about-to-write, race, RaceFree, Safe, reached, AboutToUse, about-to-use, SameEitherWay, CellStepsSwap, InEitherOrder}
+use Rattle.calculus.proofs.Laws.Maps.{update-other, updates-swap}
+use Rattle.calculus.proofs.Laws.Places.{set-elsewhere, sets-swap}
+use Rattle.calculus.proofs.Laws.Runs.{last-is-on-the-way, run-of-both, run-goes-on}
+
+-- ---- One step
+
+-- A step of thread t, by the move m, on the cell n that holds v: in every state with that thread and that cell the word becomes e, and the
+-- names change so.
+record CellStep (m : Move) (t : Thread) (n : ℕ) (v : Value) (change : (ℕ → Slot) → ℕ → Slot) : Type 0 where
+  e : Exp
+  goes : (s : State) → ThreadAt s (m .thread) t → s .names n ≡ cell v → reduce s m ≡ some (becomes s m t (change (s .names)) e)
+
+word-found : (s : State) (m : Move) (t : Thread) {q : Next} → ThreadAt s (m .thread) t → next (t .body) ≡ q →
+    reduce s m ≡ (word-of q >>= reduct s m t)
+unfolding reduce
+word-found s m t there word =
+    ap (λ o. o >>= λ u. word-of (next (u .body)) >>= reduct s m u) there ∙ ap (λ q. word-of q >>= reduct s m t) word
+
+read-step : (m : Move) (t : Thread) (n : ℕ) (v : Value) → next (t .body) ≡ at-word (unary-redex read (name n)) →
+    CellStep m t n v (λ names. names)
+read-step m t n v word = record {
+  e = value v;
+  goes = λ s there holds. word-found s m t there word ∙ ap (λ sl. content sl >>= λ w. some (becomes s m t (s .names) (value w))) holds;
+}
+
+write-step : (m : Move) (t : Thread) (n : ℕ) (v w : Value) → next (t .body) ≡ at-word (write-redex (name n) w) →
+    CellStep m t n v (λ names. update names n (cell w))
+write-step m t n v w word = record {
+  e = zero-exp;
+  goes = λ s there holds. word-found s m t there word
+      ∙ ap (λ sl. content sl >>= λ z. some (becomes s m t (update (s .names) n (cell w)) zero-exp)) holds;
+}
+
+-- ---- Two steps
+
+same-state : {a b : State} → a .threads ≡ b .threads → a .names ≡ b .names → a ≡ b
+same-state p q = λ i. record { threads = p i; names = q i }
+
+cells-differ : {s : State} {t u : Thread} {n l : ℕ} (i j : ℕ) → RaceFree s → i ≢ j → ThreadAt s i t → ThreadAt s j u → AboutToWrite s t n →
+    AboutToRead s u l ⊎ AboutToWrite s u l → l ≢ n
+cells-differ i j free apart at-t at-u writes uses z = free (race i j _ _ _ apart at-t at-u writes (rw z at uses))
+
+module _ (s : State) (m k : Move) (t u : Thread) (apart : m .thread ≢ k .thread) (at-t : ThreadAt s (m .thread) t)
+    (at-u : ThreadAt s (k .thread) u) where
+  -- Neither changes the cell of the other, and the changes themselves may be made in either order.
+  steps-swap : {n l : ℕ} {v w : Value} {f g : (ℕ → Slot) → ℕ → Slot} → CellStep m t n v f → CellStep k u l w g →
+      s .names n ≡ cell v → s .names l ≡ cell w → g (s .names) n ≡ s .names n → f (s .names) l ≡ s .names l →
+      g (f (s .names)) ≡ f (g (s .names)) → SameEitherWay s m k
+  steps-swap {f} {g} a b holds-v holds-w n-stays l-stays swap =
+      let s₁ = becomes s m t (f (s .names)) (a .e) in
+      let s₂ = becomes s k u (g (s .names)) (b .e) in
+      let m-first = a .goes s at-t holds-v in
+      let k-first = b .goes s at-u holds-w in
+      let then-k = b .goes s₁ (set-elsewhere (s .threads) (m .thread) (k .thread) _ apart ∙ at-u) (l-stays ∙ holds-w) in
+      let then-m = a .goes s₂ (set-elsewhere (s .threads) (k .thread) (m .thread) _ (λ z. apart (sym z)) ∙ at-t) (n-stays ∙ holds-v) in
+      let same = same-state (sets-swap (s .threads) (m .thread) (k .thread) _ _ apart) swap in
+      record {
+        after = becomes s₁ k u (g (f (s .names))) (b .e);
+        one-way = ap (λ o. o >>= λ z. reduce z k) m-first ∙ then-k;
+        other-way = ap (λ o. o >>= λ z. reduce z m) k-first ∙ then-m ∙ ap some (sym same);
+      }
+
+  race-free-swap : {n l : ℕ} → RaceFree s → AboutToRead s t n ⊎ AboutToWrite s t n → AboutToRead s u l ⊎ AboutToWrite s u l → SameEitherWay s m k
+  race-free-swap {n} {l} free (inl (about-to-read v c e)) (inl (about-to-read v′ c′ e′)) =
+      steps-swap (read-step m t n v e) (read-step k u l v′ e′) c c′ refl refl refl
+  race-free-swap {n} {l} free (inl (about-to-read v c e)) (inr (about-to-write v′ w′ c′ e′)) =
+      let d : n ≢ l = cells-differ _ _ free (λ z. apart (sym z)) at-u at-t (about-to-write v′ w′ c′ e′) (inl (about-to-read v c e)) in
+      steps-swap (read-step m t n v e) (write-step k u l v′ w′ e′) c c′ (update-other (s .names) l n _ d) refl refl
+  race-free-swap {n} {l} free (inr (about-to-write v w c e)) (inl (about-to-read v′ c′ e′)) =
+      let d : l ≢ n = cells-differ _ _ free apart at-t at-u (about-to-write v w c e) (inl (about-to-read v′ c′ e′)) in
+      steps-swap (write-step m t n v w e) (read-step k u l v′ e′) c c′ refl (update-other (s .names) n l _ d) refl
+  race-free-swap {n} {l} free (inr (about-to-write v w c e)) (inr (about-to-write v′ w′ c′ e′)) =
+      let d : l ≢ n = cells-differ _ _ free apart at-t at-u (about-to-write v w c e) (inr (about-to-write v′ w′ c′ e′)) in
+      let d′ : n ≢ l = λ z. d (sym z) in
+      steps-swap (write-step m t n v w e) (write-step k u l v′ w′ e′) c c′ (update-other (s .names) l n _ d′)
+      (update-other (s .names) n l _ d) (updates-swap (s .names) n l _ _ d′)
+
+pub cell-steps-swap : {s : State} → RaceFree s → CellStepsSwap s
+cell-steps-swap {s} free m k t u apart at-t at-u (about-to-use n a) (about-to-use l b) = race-free-swap s m k t u apart at-t at-u free a b
+
+-- ---- The claim
+
+-- It follows from safety alone: no typing is looked at.
+pub safe-is-in-either-order : (e : Exp) → Safe e → InEitherOrder e
+safe-is-in-either-order e safe s (reached ms) = cell-steps-swap (last-is-on-the-way _ ms (start e) (safe ms) .0)
+
+-- ---- Two neighbouring moves of a list
+
+-- A thread that can use a cell in s′ could in s, if every cell of s′ is one of s.
+uses-before : {s s′ : State} {u : Thread} → ((l : ℕ) (v : Value) → s′ .names l ≡ cell v → (w : Value) × (s .names l ≡ cell w)) →
+    AboutToUse s′ u → AboutToUse s u
+uses-before cells (about-to-use l (inl (about-to-read v c e))) = let (w, h) = cells l v c in about-to-use l (inl (about-to-read w h e))
+uses-before cells (about-to-use l (inr (about-to-write v x c e))) = let (w, h) = cells l v c in about-to-use l (inr (about-to-write w x h e))
+
+-- A write makes no new cell.
+written-was-cell : {v : Value} (names : ℕ → Slot) (n : ℕ) (w : Value) → names n ≡ cell v → (l : ℕ) (z : Value) → update names n (cell w) l ≡ cell z →
+    (y : Value) × (names l ≡ cell y)
+written-was-cell {v} names n w holds l z = by-cases (ℕ-discrete l n)
+  where
+    by-cases : (d : Dec (l ≡ n)) → choose d (cell w) (names l) ≡ cell z → (y : Value) × (names l ≡ cell y)
+    by-cases (yes p) h = (v, ap names p ∙ holds)
+    by-cases (no p) h = (z, h)
+
+-- What another thread can do after a step on a cell, it could do before it.
+module _ (s : State) (m k : Move) (t u : Thread) (apart : m .thread ≢ k .thread) (at-t : ThreadAt s (m .thread) t)
+    (at-u : ThreadAt (attempt s m) (k .thread) u) (uses-u : AboutToUse (attempt s m) u) where
+  before-step : {n : ℕ} {v : Value} {f : (ℕ → Slot) → ℕ → Slot} → CellStep m t n v f → s .names n ≡ cell v →
+      ((l : ℕ) (z : Value) → f (s .names) l ≡ cell z → (y : Value) × (s .names l ≡ cell y)) → ThreadAt s (k .thread) u × AboutToUse s u
+  unfolding attempt
+  before-step {f} a holds cells =
+      let done : attempt s m ≡ becomes s m t (f (s .names)) (a .e) = ap (λ o. or-else o s) (a .goes s at-t holds) in
+      (sym (set-elsewhere (s .threads) (m .thread) (k .thread) _ apart) ∙ rw done at at-u, uses-before cells (rw done at uses-u))
+
+  before-use : AboutToUse s t → ThreadAt s (k .thread) u × AboutToUse s u
+  before-use (about-to-use n (inl (about-to-read v c e))) = before-step (read-step m t n v e) c (λ l z h. (z, h))
+  before-use (about-to-use n (inr (about-to-write v w c e))) = before-step (write-step m t n v w e) c (written-was-cell (s .names) n w c)
+
+-- What the claim gives for a list of moves: where a step on a cell comes right after one of another thread, the two may be swapped, and the
+-- list ends in the same state, whatever stands before and behind them.
+pub neighbours-swap : {e : Exp} {t u : Thread} (ms rest : List Move) (m k : Move) → InEitherOrder e → m .thread ≢ k .thread →
+    ThreadAt (run ms (start e)) (m .thread) t → AboutToUse (run ms (start e)) t →
+    ThreadAt (attempt (run ms (start e)) m) (k .thread) u → AboutToUse (attempt (run ms (start e)) m) u →
+    run (ms ++ (m ∷ k ∷ rest)) (start e) ≡ run (ms ++ (k ∷ m ∷ rest)) (start e)
+neighbours-swap {e} {t} {u} ms rest m k claim apart at-t uses-t at-u uses-u =
+    let s = run ms (start e) in
+    let (was-at-u, could-use-u) = before-use s m k t u apart at-t at-u uses-u uses-t in
+    let same = claim s (reached ms) m k t u apart at-t was-at-u uses-t could-use-u in
+    run-of-both ms (m ∷ k ∷ rest) (start e)
+    ∙ run-goes-on s (same .after) m k rest (same .one-way)
+    ∙ sym (run-goes-on s (same .after) k m rest (same .other-way))
+    ∙ sym (run-of-both ms (k ∷ m ∷ rest) (start e))
