@@ -2,11 +2,11 @@
 import re
 
 from checks import HOUSE, answer_in, check, check_pair
-from explaining.refusals import PROGRAM, REFUSALS, SPLIT
+from explaining.refusals import PROGRAM, REFUSALS, SPLIT, USUALLY
 from explaining.sheets import read_sheet, split_of, steps_of
 from explaining.showing import fractions
 from explaining.sites import Sites
-from explaining.words import WORDS
+from explaining.words import NUMBER_OF, WORDS
 
 PAGES = ["REFUSALS.md", "FORMATS.md"]
 NUMBERS = set(REFUSALS) - {1}  # no pair of sheets leads to 1
@@ -71,6 +71,46 @@ def check_nothing_left_out():
             failed.add((program.split("|")[int(line) - 1].split(",")[0], int(condition)))
     every = {(name, k) for name, word in WORDS.items() for k in range(1, len(word.conditions) + 1)}
     check("REFUSALS.md has an example for each condition", failed, every)
+
+
+# ---- What the pages share with the tables of tools/explaining
+
+
+def rows_of(page, head):
+    """The rows of the table with this head, as cells."""
+    table = page[page.index(head):].split("\n\n")[0].splitlines()[2:]
+    return [[cell.strip() for cell in row.strip("|").split("|")] for row in table]
+
+
+def check_refusals_words():
+    """REFUSALS.md says of each answer and each condition what tools/explain says."""
+    page = (HOUSE / "docs" / "REFUSALS.md").read_text()
+    told = [row for row in rows_of(page, "| answer | found wrong | look first |") if row[0].isdigit()]
+    check("REFUSALS.md, its answers", told, [[str(number), row.found, row.owner] for number, row in REFUSALS.items()])
+    check("REFUSALS.md, what helps", [row.helps for row in REFUSALS.values() if f"What usually helps: {row.helps}." not in page], [])
+    wanted = [
+        [f"`{name}`" * (k == 1), word.rule * (k == 1), str(k), f"`{one.wording}`", one.plain, str(NUMBER_OF[one.mark])]
+        for name, word in WORDS.items() for k, one in enumerate(word.conditions, 1)]
+    check("REFUSALS.md, its conditions", rows_of(page, "| word | rule | condition |"), wanted)
+    usually = {}
+    for labels, words in re.findall(r"^- at (`.*?): (.*)\.$", page, re.M):
+        usually.update({(word, int(k)): words for word, k in re.findall(r"`(\w+)` (\d)", labels)})
+    check("REFUSALS.md, what a condition usually means", usually, USUALLY)
+
+
+STARTS = {"pre": "before", "post": "after", "s": "s", "post of e1": "what the first leaves"}
+
+
+def check_formats_words():
+    """FORMATS.md says of each word's type, parts and map what the tables say."""
+    page = (HOUSE / "docs" / "FORMATS.md").read_text()
+    wanted = []
+    for name, word in WORDS.items():
+        starts = [STARTS[start] for start in word.parts.values()]
+        flows = [one.plain for one in word.conditions if one.mark == "F"]
+        parts = f"first: {starts[0]}; second: {starts[1]}" if len(starts) == 2 else "".join(starts)
+        wanted.append([f"`{name}`", word.result, parts, "; ".join(flows)])
+    check("FORMATS.md, its words", rows_of(page, "| word | its type | its parts start with |"), wanted)
 
 
 # ---- The tables of FORMATS.md that explain a pair line by line

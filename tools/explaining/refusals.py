@@ -29,7 +29,7 @@ REFUSALS = {
         "write the line as `word,v` (line 1 as `P,n`): no spaces, no capitals, no leading zeros, byte 10 at its end"),
     12: Refusal(
         "a number of the program sheet is out of range", "owner of the program", PROGRAM,
-        "steps are 1 to 256, variables 0 to 255, constants 0 to 65,535; on every word but `var`, `int` and `let` the number must be 0"),
+        "keep to the ranges: steps 1 to 256, variables 0 to 255, constants 0 to 65,535; on every word but `var`, `int` and `let` the number must be 0"),
     13: Refusal(
         "lines of the program sheet are missing or spare", "owner of the program", PROGRAM,
         "count the lines against line 1, and the parts of each word; look for an empty line at the end of the file"),
@@ -53,10 +53,11 @@ REFUSALS = {
         "look whether the split was made for this version of the job; it needs 1 + T + M + n lines"),
     30: Refusal(
         "the job starts with more than one whole of a location", "owner of the solver", PROGRAM,
-        "no number of the starting map may be over D"),
+        "make the starting map smaller: no number of it may be over D"),
     31: Refusal(
         "a type is wrong", "owner of the solver, then of the program", PROGRAM,
-        "most often the solver wrote the wrong type number in the row; if the rows are as meant, the job uses one kind of thing as another"),
+        "look at the type number in the row, which is most often wrong; if the rows are as meant, look at the job, which uses one kind"
+        " of thing as another, say it joins a lock or writes to a number"),
     32: Refusal(
         "rights do not add up", "owner of the solver, then of the program", PROGRAM,
         "work out that one step by hand from its row and the rows of its parts"),

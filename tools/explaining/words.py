@@ -52,10 +52,10 @@ WORDS = {
     "int": Word("INT", "constant", {}, "`int`", "the number {number}", _conditions(
         _INT,
         _KEEPS)),
-    "let": Word("LET", "variable", {"e1": "pre", "e2": "post of e1"}, "that of e2", "let {variable} be line {e1}, then line {e2}", _conditions(
+    "let": Word("LET", "variable", {"e1": "pre", "e2": "post of e1"}, "that of its second part", "let {variable} be line {e1}, then line {e2}", _conditions(
         ("type of e2", "T", "its type is that of its second part"),
         ("post = post of e2", "F", "after equals what its second part leaves"))),
-    "if": Word("IF", "nothing", {"e1": "pre", "e2": "pre"}, "that of e1, which is that of e2", "line {e1} or line {e2}, nobody says which", _conditions(
+    "if": Word("IF", "nothing", {"e1": "pre", "e2": "pre"}, "that of both its parts", "line {e1} or line {e2}, nobody says which", _conditions(
         ("type of e1", "T", "its type is that of its first part"),
         ("type of e2", "T", "its type is that of its second part"),
         ("post of e1 ≥ post", "F", "its first part leaves at least after"),
