@@ -87,7 +87,8 @@ def check_refusals_words():
     page = (HOUSE / "docs" / "REFUSALS.md").read_text()
     told = [row for row in rows_of(page, "| answer | found wrong | look first |") if row[0].isdigit()]
     check("REFUSALS.md, its answers", told, [[str(number), row.found, row.owner] for number, row in REFUSALS.items()])
-    check("REFUSALS.md, what helps", [row.helps for row in REFUSALS.values() if f"What usually helps: {row.helps}." not in page], [])
+    helps = [f"What usually helps: {row.helps}." for row in REFUSALS.values()]
+    check("REFUSALS.md, what helps", [words for words in helps if words not in page], [])
     wanted = [
         [f"`{name}`" * (k == 1), word.rule * (k == 1), str(k), f"`{one.wording}`", one.plain, str(NUMBER_OF[one.mark])]
         for name, word in WORDS.items() for k, one in enumerate(word.conditions, 1)]

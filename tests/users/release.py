@@ -7,7 +7,7 @@ import tempfile
 import time
 from pathlib import Path
 
-from checks import HOUSE, check, contents, make_pair
+from checks import HOUSE, check, contents, make_pair, user_environment
 
 TOOLS = HOUSE / "tools"
 TOOL = TOOLS / "check-release"
@@ -92,11 +92,11 @@ class Desk:
         self.temporary = scratch / "temporary"
         self.temporary.mkdir()
 
-    def start(self, *arguments, tool=TOOL, before=(), output=subprocess.PIPE, **environment):
-        environment = {**os.environ, "TMPDIR": str(self.temporary), **{k: str(v) for k, v in environment.items()}}
+    def start(self, *arguments, tool=TOOL, before=(), output=subprocess.PIPE, error=subprocess.PIPE, **environment):
+        environment = user_environment(TMPDIR=self.temporary, **environment)
         return subprocess.Popen(
             [*before, tool, *arguments], cwd=self.scratch, env=environment, stdin=subprocess.DEVNULL, stdout=output,
-            stderr=subprocess.PIPE, text=True)
+            stderr=error, text=True)
 
     def run(self, *arguments, **how):
         process = self.start(*arguments, **how)
@@ -211,6 +211,8 @@ def check_outputs(desk, binary):
     """Counts or a report that cannot be written give status 2; what is no plain file is not replaced."""
     with open("/dev/full", "w") as full:
         done = desk.run("two", "report", output=full, RACECHECK=binary)
+        unheard = desk.run("two", "unheard report", error=full, RACECHECK=binary)
+    check("progress to a full device", (unheard.returncode, (desk.scratch / "unheard report").is_file()), (0, True))
     check("counts to a full device", (done.returncode, "cannot write the counts" in done.stderr), (2, True))
     done = desk.run("two", "report", before=["sh", "-c", 'exec "$@" >&-', "sh"], RACECHECK=binary)
     check("counts to a closed output", (done.returncode, "cannot write the counts" in done.stderr), (2, True))

@@ -40,7 +40,8 @@ def line_causes(sheet, line):
         return causes
     if text.endswith(b"\r"):
         ended = sum(one.text.endswith(b"\r") for one in sheet.lines)
-        causes.append(f"byte 13 before the line's end, on {grouped(ended)} of {grouped(len(sheet.lines))} lines: save it with byte 10 alone")
+        share = f"{grouped(ended)} of {grouped(len(sheet.lines))}"
+        causes.append(f"byte 13 before the line's end, on {share} lines: save it with byte 10 alone")
     if line == len(sheet.lines) and not sheet.lines[-1].closed:
         causes.append("the last byte 10 is missing: the file may have been cut off, or its last line was not closed")
     if b" " in text or b"\t" in text:

@@ -3,7 +3,7 @@ import re
 from typing import NamedTuple
 
 from .showing import fraction
-from .sites import holder_of_load, map_named
+from .sites import acted_on, map_named
 from .words import KINDS, WORDS
 
 
@@ -61,7 +61,7 @@ def _flow(site, wording, split, names):
 
 def cell_location(site, split):
     """The location of the cell that a step touches: document 01's p."""
-    return split.types[holder_of_load(site).type].first
+    return split.types[acted_on(site).type].first
 
 
 def access_at(site, wording, split):
@@ -122,7 +122,7 @@ def _part_name(name):
 def _agreement(site, wording, split, names):
     """Conditions that compare two types: whether they agree, and both in words."""
     own = ("the step's own type", site.type)
-    cell = holder_of_load(site)
+    cell = acted_on(site)
     content = cell and ("the cell's content", split.types[cell.type].second)
     if wording == "a ref type whose c is the part's type":
         if split.types[site.type].kind != "ref":

@@ -60,17 +60,17 @@ def _guarded(explanation, fill):
         fill()
     except Disagreement as why:
         explanation.disagrees = str(why)
-    except (ValueError, IndexError, KeyError, AttributeError, TypeError) as error:
+    except (ValueError, LookupError, AttributeError, TypeError, RecursionError) as error:
         explanation.disagrees = f"the sheets cannot be read as this answer says they can ({type(error).__name__}: {error})"
     return explanation
 
 
 def _walkable(explanation, program, split):
     steps, division = steps_of(program), split_of(split)
-    explanation.sites = Sites(steps, division)
-    promised = int(program.line(1).split(b",")[1])
-    lengths = {promised, len(steps), len(division.rows), len(explanation.sites.all)}
+    sites, promised = Sites(steps, division), int(program.line(1).split(b",")[1])
+    lengths = {promised, len(steps), len(division.rows), len(sites.all)}
     require(len(lengths) == 1, f"the steps promised, the steps, the rows and the expression differ in length: {sorted(lengths)}")
+    explanation.sites = sites
 
 
 def _refused(explanation, program, split, line, condition, location):

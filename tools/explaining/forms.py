@@ -17,7 +17,8 @@ class Range(NamedTuple):
     high: int
 
     def __str__(self):
-        return f"{self.what} is {grouped(self.low)} to {grouped(self.high)}" if self.low < self.high else f"{self.what} is {self.low}"
+        to = f" to {grouped(self.high)}" if self.low < self.high else ""
+        return f"{self.what} is {grouped(self.low)}{to}"
 
 
 # What the number beside a word may be.

@@ -5,11 +5,9 @@ answer depends on it.
 """
 import os
 
-from .showing import shown
-
 FILE = "names.txt"
 KINDS = ("location", "variable", "thread")
-MOST_BYTES = 1 << 16
+MOST_BYTES, LONGEST = 1 << 16, 40
 
 
 class Names:
@@ -31,6 +29,10 @@ class Names:
     def thread(self, number):
         return self._named("thread", number, "the first thread" if number == 0 else f"thread {number}")
 
+    def thread_label(self, number):
+        """A thread as the picture calls it."""
+        return self._named("thread", number, f"thread {number}")
+
     def thread_mark(self, number):
         """A thread's name where there is little room."""
         return self._named("thread", number, str(number))
@@ -51,5 +53,6 @@ def read_names(folder):
         kind, _, rest = line.partition(b",")
         number, _, name = rest.partition(b",")
         if kind.decode("latin-1") in KINDS and number.isdigit() and len(number) < 4 and name:
-            given[kind.decode("ascii"), int(number)] = shown(name)
+            printable = "".join(filter(str.isprintable, name.decode("utf-8", "replace")))
+            given[kind.decode("ascii"), int(number)] = printable[:LONGEST]
     return Names(given)

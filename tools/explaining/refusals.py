@@ -29,7 +29,8 @@ REFUSALS = {
         "write the line as `word,v` (line 1 as `P,n`): no spaces, no capitals, no leading zeros, byte 10 at its end"),
     12: Refusal(
         "a number of the program sheet is out of range", "owner of the program", PROGRAM,
-        "keep to the ranges: steps 1 to 256, variables 0 to 255, constants 0 to 65,535; on every word but `var`, `int` and `let` the number must be 0"),
+        "keep to the ranges: steps 1 to 256, variables 0 to 255, constants 0 to 65,535; on every word but `var`, `int` and `let`"
+        " the number must be 0"),
     13: Refusal(
         "lines of the program sheet are missing or spare", "owner of the program", PROGRAM,
         "count the lines against line 1, and the parts of each word; look for an empty line at the end of the file"),
@@ -56,21 +57,24 @@ REFUSALS = {
         "make the starting map smaller: no number of it may be over D"),
     31: Refusal(
         "a type is wrong", "owner of the solver, then of the program", PROGRAM,
-        "look at the type number in the row, which is most often wrong; if the rows are as meant, look at the job, which uses one kind"
-        " of thing as another, say it joins a lock or writes to a number"),
+        "look at the type number in the row, which is most often wrong; if the rows are as meant, look at the job, which uses one"
+        " kind of thing as another, say it joins a lock or writes to a number"),
     32: Refusal(
         "rights do not add up", "owner of the solver, then of the program", PROGRAM,
         "work out that one step by hand from its row and the rows of its parts"),
     33: Refusal(
         "a cell is touched without enough right to it", "owner of the program, then of the solver", PROGRAM,
-        "ask what keeps the other threads away from the cell here: a join that comes too late, a lock not taken, a thread never joined"),
+        "ask what keeps the other threads away from the cell here: a join that comes too late, a lock not taken, a thread never"
+        " joined"),
 }
 
 # What a false condition of a word usually means, beyond its refusal's own line: by word and condition.
 _EARLIER = "a take or give is missing before it: the row counts with a right that no step on the way has moved"
 _REPEATS = "the row does not repeat what its part leaves; a step of this word moves no rights"
 _ADDS = "the row's map is not the sum: it needs a map that holds what was there plus the load"
-_BRANCH = "one branch ends with less than the row says, say a lock is given back in that branch only; after may be at most the smaller of the two"
+_BRANCH = (
+    "one branch ends with less than the row says, say a lock is given back in that branch only; after may be at most the smaller of"
+    " the two")
 
 USUALLY = {
     ("var", 1): "the row shows another type than the row of what the `let` bound",

@@ -63,8 +63,8 @@ class Sites:
         return site
 
 
-def holder_of_load(site):
-    """The site whose type has the load, location or content that the conditions speak of: K, p and c."""
+def acted_on(site):
+    """The step whose type has the K, p and c of the conditions: the part that the word acts on, or the step itself."""
     for condition in WORDS[site.word].conditions:
         words = condition.wording.split()
         if len(words) == 3 and words[1] == "a":  # "part a tid"
@@ -77,7 +77,7 @@ def holder_of_load(site):
 def map_named(site, name, split):
     """The map that document 01 calls pre, post, s, K or "post of" a part."""
     if name == "K":
-        return split.load(holder_of_load(site).type)
+        return split.load(acted_on(site).type)
     if name.startswith("post of "):
         return site.parts[name.removeprefix("post of ")].post
     return {"pre": site.pre, "post": site.post, "s": site.start}[name]

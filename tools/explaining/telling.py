@@ -5,7 +5,11 @@ from .words import WORDS
 
 # What document 01's names of maps are called beside "before" and "after".
 PLAIN = {
-    "K": "load (K)", "s": "body's start (s)", "post of part": "the part leaves", "post of e1": "e1 leaves", "post of e2": "e2 leaves",
+    "K": "load (K)",
+    "s": "body's start (s)",
+    "post of part": "the part leaves",
+    "post of e1": "e1 leaves",
+    "post of e2": "e2 leaves",
 }
 
 
@@ -38,7 +42,8 @@ def alarm(explanation):
     """What is said when racecheck and the arithmetic here part: loudly, since one of them is wrong."""
     if not explanation.disagrees:
         return []
-    return ["", f"*** DISAGREEMENT: {explanation.disagrees} ***", "*** Trust neither; hand this pair to the owners of racecheck. ***", ""]
+    told = f"*** DISAGREEMENT: {explanation.disagrees} ***"
+    return ["", told, "*** Trust neither; hand this pair to the owners of racecheck. ***", ""]
 
 
 def maps_of(explanation):

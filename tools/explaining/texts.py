@@ -84,7 +84,8 @@ def _scope_fault(steps):
     def walk(at):
         step = steps[at]
         if step.word == "var" and (step.number not in bound or step.number in ended):
-            where = "bound by no let above it" if step.number not in bound else f"used outside the second part of its let on line {bound[step.number]}"
+            its_let = bound.get(step.number)
+            where = f"used outside the second part of its let on line {its_let}" if its_let else "bound by no let above it"
             raise _Found(14, step.line, f"variable {step.number} is {where}")
         if step.word == "let":
             if step.number in bound:

@@ -34,8 +34,8 @@ class Word(NamedTuple):
     conditions: tuple
 
 
-def _conditions(*rows):
-    return tuple(Condition(*row) for row in rows)
+def _word(rule, number, parts, result, does, *conditions):
+    return Word(rule, number, parts, result, does, tuple(Condition(*condition) for condition in conditions))
 
 
 _INT = ("type int", "T", "its type is of the kind `int`")
@@ -46,56 +46,88 @@ _TAKES = ("post = post of part + K", "F", "after equals what its part leaves plu
 _GIVES = ("post + K = post of part", "F", "after plus the load equals what its part leaves")
 
 WORDS = {
-    "var": Word("VAR", "variable", {}, "that of what its `let` bound", "{variable}, {type}", _conditions(
+    "var": _word(
+        "VAR", "variable", {},
+        "that of what its `let` bound", "{variable}, {type}",
         ("type is that of its let's e1", "T", "its type is the type of what its `let` bound"),
-        _KEEPS)),
-    "int": Word("INT", "constant", {}, "`int`", "the number {number}", _conditions(
-        _INT,
-        _KEEPS)),
-    "let": Word("LET", "variable", {"e1": "pre", "e2": "post of e1"}, "that of its second part", "let {variable} be line {e1}, then line {e2}", _conditions(
+        _KEEPS),
+    "int": _word(
+        "INT", "constant", {},
+        "`int`", "the number {number}",
+        _INT, _KEEPS),
+    "let": _word(
+        "LET", "variable", {"e1": "pre", "e2": "post of e1"},
+        "that of its second part", "let {variable} be line {e1}, then line {e2}",
         ("type of e2", "T", "its type is that of its second part"),
-        ("post = post of e2", "F", "after equals what its second part leaves"))),
-    "if": Word("IF", "nothing", {"e1": "pre", "e2": "pre"}, "that of both its parts", "line {e1} or line {e2}, nobody says which", _conditions(
+        ("post = post of e2", "F", "after equals what its second part leaves")),
+    "if": _word(
+        "IF", "nothing", {"e1": "pre", "e2": "pre"},
+        "that of both its parts", "line {e1} or line {e2}, nobody says which",
         ("type of e1", "T", "its type is that of its first part"),
         ("type of e2", "T", "its type is that of its second part"),
         ("post of e1 ≥ post", "F", "its first part leaves at least after"),
-        ("post of e2 ≥ post", "F", "its second part leaves at least after"))),
-    "while": Word("WHILE", "nothing", {"part": "post"}, "`int`", "again and again, from line {part}", _conditions(
+        ("post of e2 ≥ post", "F", "its second part leaves at least after")),
+    "while": _word(
+        "WHILE", "nothing", {"part": "post"},
+        "`int`", "again and again, from line {part}",
         _INT,
         ("pre ≥ post", "F", "before is at least after"),
-        ("post of part ≥ post", "F", "a round leaves at least after, which is what it began with"))),
-    "newtid": Word("NEWT", "nothing", {}, "a `tid` type", "a new identifier; a join on it hands over {load}", _conditions(
+        ("post of part ≥ post", "F", "a round leaves at least after, which is what it began with")),
+    "newtid": _word(
+        "NEWT", "nothing", {},
+        "a `tid` type", "a new identifier; a join on it hands over {load}",
         ("a tid type", "T", "its type is of the kind `tid`"),
-        _KEEPS)),
-    "spawn": Word("SPAWN", "nothing", {"e1": "pre", "e2": "s"}, "`int`", "start {thread} with {start}", _conditions(
+        _KEEPS),
+    "spawn": _word(
+        "SPAWN", "nothing", {"e1": "pre", "e2": "s"},
+        "`int`", "start {thread} with {start}",
         _INT,
         ("e1 a tid", "T", "its first part is a thread identifier"),
         ("post of e2 ≥ K", "F", "the body leaves at least the load of the identifier"),
-        ("post + s = post of e1", "F", "after plus what the body starts with equals what the first part leaves"))),
-    "join": Word("JOIN", "nothing", {"part": "pre"}, "`int`", "wait for a thread of {thing} and get {load}", _conditions(
+        ("post + s = post of e1", "F", "after plus what the body starts with equals what the first part leaves")),
+    "join": _word(
+        "JOIN", "nothing", {"part": "pre"},
+        "`int`", "wait for a thread of {thing} and get {load}",
         _INT,
         ("part a tid", "T", "its part is a thread identifier"),
-        _TAKES)),
-    "ref": Word("REF", "nothing", {"part": "pre"}, "a `ref` type that holds its part's type", "a new cell of {location}", _conditions(
+        _TAKES),
+    "ref": _word(
+        "REF", "nothing", {"part": "pre"},
+        "a `ref` type that holds its part's type", "a new cell of {location}",
         ("a ref type whose c is the part's type", "T", "its type is a cell whose content has the type of its part"),
-        _PART_KEEPS)),
-    "read": Word("READ", "nothing", {"part": "pre"}, "that of the cell's content", "read {cell}", _conditions(
+        _PART_KEEPS),
+    "read": _word(
+        "READ", "nothing", {"part": "pre"},
+        "that of the cell's content", "read {cell}",
         ("part a ref", "T", "its part is a cell"),
         ("type is c", "T", "its type is that of the cell's content"),
         _PART_KEEPS,
-        ("post at p > 0", "A", "after has more than 0 of the cell's location"))),
-    "write": Word("WRITE", "nothing", {"e1": "pre", "e2": "post of e1"}, "`int`", "write {cell}", _conditions(
+        ("post at p > 0", "A", "after has more than 0 of the cell's location")),
+    "write": _word(
+        "WRITE", "nothing", {"e1": "pre", "e2": "post of e1"},
+        "`int`", "write {cell}",
         _INT,
         ("e1 a ref", "T", "its first part is a cell"),
         ("type of e2 is c", "T", "its second part has the type of the cell's content"),
         ("post = post of e2", "F", "after equals what its second part leaves"),
-        ("post at p ≥ D", "A", "after has at least D of the cell's location"))),
-    "newlock": Word("NEWL", "nothing", {}, "a `lock` type", "a new lock, which gets {load}", _conditions(
+        ("post at p ≥ D", "A", "after has at least D of the cell's location")),
+    "newlock": _word(
+        "NEWL", "nothing", {},
+        "a `lock` type", "a new lock, which gets {load}",
         ("a lock type", "T", "its type is of the kind `lock`"),
-        ("post + K = pre", "F", "after plus the load equals before"))),
-    "lock": Word("LCK", "nothing", {"part": "pre"}, "`int`", "take {thing} and get {load}", _conditions(_INT, _PART_A_LOCK, _TAKES)),
-    "freelock": Word("FREEL", "nothing", {"part": "pre"}, "`int`", "take {thing} for good and get {load}", _conditions(_INT, _PART_A_LOCK, _TAKES)),
-    "unlock": Word("ULCK", "nothing", {"part": "pre"}, "`int`", "give back {thing} and with it {load}", _conditions(_INT, _PART_A_LOCK, _GIVES)),
+        ("post + K = pre", "F", "after plus the load equals before")),
+    "lock": _word(
+        "LCK", "nothing", {"part": "pre"},
+        "`int`", "take {thing} and get {load}",
+        _INT, _PART_A_LOCK, _TAKES),
+    "freelock": _word(
+        "FREEL", "nothing", {"part": "pre"},
+        "`int`", "take {thing} for good and get {load}",
+        _INT, _PART_A_LOCK, _TAKES),
+    "unlock": _word(
+        "ULCK", "nothing", {"part": "pre"},
+        "`int`", "give back {thing} and with it {load}",
+        _INT, _PART_A_LOCK, _GIVES),
 }
 
 # The refusal's number for a false condition of each mark.
