@@ -1,4 +1,5 @@
 """What the tests share: the count of checks, and pairs of sheets in folders."""
+import os
 import re
 import subprocess
 import tempfile
@@ -8,6 +9,12 @@ HOUSE = Path(__file__).resolve().parents[2]
 
 passed = 0
 failures = []
+
+
+def user_environment(**changes):
+    """The environment of somebody who has set nothing for Python."""
+    plain = {name: value for name, value in os.environ.items() if not name.startswith("PYTHON")}
+    return {**plain, **{name: str(value) for name, value in changes.items()}}
 
 
 def check(what, got, wanted):

@@ -2,16 +2,14 @@
 import re
 
 from checks import HOUSE, answer_in, check, check_pair
+from explaining.refusals import PROGRAM, REFUSALS, SPLIT, USUALLY
+from explaining.sheets import read_sheet, split_of, steps_of
+from explaining.showing import fractions
+from explaining.sites import Sites
+from explaining.words import NUMBER_OF, WORDS
 
 PAGES = ["REFUSALS.md", "FORMATS.md"]
-
-# The conditions of each word, for the test that none lacks its example.
-CONDITIONS = {
-    "var": 2, "int": 2, "let": 2, "if": 4, "while": 3, "newtid": 2, "spawn": 4, "join": 3, "ref": 2, "read": 4,
-    "write": 5, "newlock": 2, "freelock": 3, "lock": 3, "unlock": 3,
-}
-NUMBERS = {10, 11, 12, 13, 14, 15, 20, 21, 22, 23, 30, 31, 32, 33}
-PARTS = {"var": 0, "int": 0, "newtid": 0, "newlock": 0, "let": 2, "if": 2, "spawn": 2, "write": 2}  # else one
+NUMBERS = set(REFUSALS) - {1}  # no pair of sheets leads to 1
 
 # ---- The examples that are files
 
@@ -71,8 +69,49 @@ def check_nothing_left_out():
         if re.match("REFUSE,3[123],", answer):
             _, _, line, condition, _ = answer.split(",")
             failed.add((program.split("|")[int(line) - 1].split(",")[0], int(condition)))
-    every = {(word, k) for word, count in CONDITIONS.items() for k in range(1, count + 1)}
+    every = {(name, k) for name, word in WORDS.items() for k in range(1, len(word.conditions) + 1)}
     check("REFUSALS.md has an example for each condition", failed, every)
+
+
+# ---- What the pages share with the tables of tools/explaining
+
+
+def rows_of(page, head):
+    """The rows of the table with this head, as cells."""
+    table = page[page.index(head):].split("\n\n")[0].splitlines()[2:]
+    return [[cell.strip() for cell in row.strip("|").split("|")] for row in table]
+
+
+def check_refusals_words():
+    """REFUSALS.md says of each answer and each condition what tools/explain says."""
+    page = (HOUSE / "docs" / "REFUSALS.md").read_text()
+    told = [row for row in rows_of(page, "| answer | found wrong | look first |") if row[0].isdigit()]
+    check("REFUSALS.md, its answers", told, [[str(number), row.found, row.owner] for number, row in REFUSALS.items()])
+    helps = [f"What usually helps: {row.helps}." for row in REFUSALS.values()]
+    check("REFUSALS.md, what helps", [words for words in helps if words not in page], [])
+    wanted = [
+        [f"`{name}`" * (k == 1), word.rule * (k == 1), str(k), f"`{one.wording}`", one.plain, str(NUMBER_OF[one.mark])]
+        for name, word in WORDS.items() for k, one in enumerate(word.conditions, 1)]
+    check("REFUSALS.md, its conditions", rows_of(page, "| word | rule | condition |"), wanted)
+    usually = {}
+    for labels, words in re.findall(r"^- at (`.*?): (.*)\.$", page, re.M):
+        usually.update({(word, int(k)): words for word, k in re.findall(r"`(\w+)` (\d)", labels)})
+    check("REFUSALS.md, what a condition usually means", usually, USUALLY)
+
+
+STARTS = {"pre": "before", "post": "after", "s": "s", "post of e1": "what the first leaves"}
+
+
+def check_formats_words():
+    """FORMATS.md says of each word's type, parts and map what the tables say."""
+    page = (HOUSE / "docs" / "FORMATS.md").read_text()
+    wanted = []
+    for name, word in WORDS.items():
+        starts = [STARTS[start] for start in word.parts.values()]
+        flows = [one.plain for one in word.conditions if one.mark == "F"]
+        parts = f"first: {starts[0]}; second: {starts[1]}" if len(starts) == 2 else "".join(starts)
+        wanted.append([f"`{name}`", word.result, parts, "; ".join(flows)])
+    check("FORMATS.md, its words", rows_of(page, "| word | its type | its parts start with |"), wanted)
 
 
 # ---- The tables of FORMATS.md that explain a pair line by line
@@ -85,41 +124,18 @@ def tables(page, kind):
         yield found[1], rows[2:]
 
 
-def befores(words, rows):
-    """The number of the map before each step."""
-    before = {}
-
-    def walk(step, at):
-        before[step] = at
-        word, after, part = words[step], rows[step][1], step + 1
-        starts = {"while": [after], "spawn": [at, rows[step][2] or "0"], "if": [at, at]}
-        starts = starts.get(word, [at, rows[part][1] if part < len(rows) else at])
-        for start in starts[: PARTS.get(word, 1)]:
-            part = walk(part, start)
-        return part
-
-    walk(0, "0")
-    return before
-
-
 def check_tables(name, page):
     for folder, cells in tables(page, "head"):
         split = (HOUSE / folder / "split.txt").read_text().splitlines()
         check(f"docs/{name}, head of {folder}", [row[:2] for row in cells], [[str(i + 1), split[i]] for i in range(len(cells))])
     for folder, cells in tables(page, "walk"):
-        program = (HOUSE / folder / "program.txt").read_text().splitlines()
-        split = (HOUSE / folder / "split.txt").read_text().splitlines()
-        denominator, _, types, maps = map(int, split[0].split(",")[1:])
-        rows = [row.split(",") for row in split[1 + types + maps :]]
-        before = befores([line.split(",")[0] for line in program[1:]], rows)
-
-        def fractions(number):
-            return ", ".join(f"{a}/{denominator}" for a in split[1 + types + int(number)].split(","))
-
+        program = read_sheet(HOUSE / folder, PROGRAM)
+        split = split_of(read_sheet(HOUSE / folder, SPLIT))
+        sites = Sites(steps_of(program), split)
         for row in cells:
-            line = int(row[0])
-            step = line - 2
-            wanted = [program[line - 1], split[types + maps + line - 1], fractions(before[step]), fractions(rows[step][1])]
-            check(f"docs/{name}, {folder} line {line}", row[1:5], wanted)
+            site = sites.at_line(int(row[0]))
+            before, after = (fractions(numbers, split.denominator) for numbers in (site.pre, site.post))
+            wanted = [program.line(site.line).decode(), site.row.text, before, after]
+            check(f"docs/{name}, {folder} line {site.line}", row[1:5], wanted)
         refusal = (HOUSE / folder / "expected").read_text().strip()
         check(f"docs/{name}, answer of {folder}", f"The answer is `{refusal}`" in page or refusal == "ACCEPT", True)

@@ -1,22 +1,51 @@
 """tools/check-release on generated releases, with the given racecheck and with ones that do not keep their word."""
 import os
+import shutil
+import signal
 import subprocess
 import tempfile
+import time
 from pathlib import Path
 
-from checks import HOUSE, check, contents, make_pair
+from checks import HOUSE, check, contents, make_pair, user_environment
 
-TOOL = HOUSE / "tools" / "check-release"
-GOOD = ("P,1|int,0|", "C,1,1,1,1|int,0,0|0|0,0,|", "ACCEPT")
+TOOLS = HOUSE / "tools"
+TOOL = TOOLS / "check-release"
+Z = "C,1,1,1,1|int,0,0|0|0,0,|"
+
+# Programs and splits with their answers and what the report says below them.
+GOOD = ("P,1|int,0|", Z, "ACCEPT", [])
 KINDS = [
     GOOD,
-    ("P,1|int,65535|", GOOD[1], "ACCEPT"),
-    ("P,1|int,65536|", GOOD[1], "REFUSE,12,2,0,0"),
-    ("P,1|var,0|", GOOD[1], "REFUSE,14,2,0,0"),
-    ("P,1|int,0|", "C,1,2,1,1|int,0,0|1,2|0,0,|", "REFUSE,30,2,0,1"),
+    ("P,1|int,65535|", Z, "ACCEPT", []),
+    ("P,1|int,65536|", Z, "REFUSE,12,2,0,0", [
+        "A number of the program sheet is out of range.", "program.txt line 2: int,65536",
+        "65,536 is out of range: a constant is 0 to 65,535"]),
+    ("P,1|var,0|", Z, "REFUSE,14,2,0,0", [
+        "A variable is used where it is not bound.", "program.txt line 2: var,0", "variable 0 is bound by no let above it"]),
+    ("P,1|int,0|", "C,1,2,1,1|int,0,0|1,2|0,0,|", "REFUSE,30,2,0,1", [
+        "The job starts with more than one whole of a location.", "program.txt line 2: int,0",
+        "at location 1: 2/1 is more than the whole"]),
     GOOD,
-    ("P,1|int,0|", "absent", "UNREAD"),
-    ("absent", "absent", "UNREAD"),
+    ("P,1|int,0|", "absent", "UNREAD", [
+        "A file could not be read. Nothing was judged.", "likely cause: split.txt is missing"]),
+    ("absent", "folder", "UNREAD", [
+        "A file could not be read. Nothing was judged.", "likely cause: program.txt is missing",
+        "likely cause: split.txt is a folder"]),
+]
+# What the bytes of a refused sheet show.
+CAUSES = [
+    ("P,1|int,0\r|", Z, "REFUSE,11,2,0,0", "byte 13 before the line's end, on 1 of 2 lines: save it with byte 10 alone"),
+    ("\ufeffP,1|int,0|", Z, "REFUSE,11,1,0,0", "program.txt begins with a byte order mark (UTF-8): save it without one"),
+    ("P,1|int,0", Z, "REFUSE,11,2,0,0",
+     "the last byte 10 is missing: the file may have been cut off, or its last line was not closed"),
+    ("empty", Z, "REFUSE,11,1,0,0", "program.txt is empty"),
+    ("P,1|int, 0|", Z, "REFUSE,11,2,0,0", "there is a space or a tab in the line"),
+    ("P,1|int,0||", Z, "REFUSE,13,3,0,0", "the line is empty"),
+    ("P,1|\0int,0|", Z, "REFUSE,11,2,0,0", "there are bytes 0 in the line: the file is not plain text"),
+    ("P,1|int,0|", "empty", "REFUSE,21,1,0,0", "split.txt is empty"),
+    ("P,1|int,0|", Z + "0,0,|", "REFUSE,23,5,0,0",
+     "by its line 1 and the job's 1 steps the split should have 4 lines and has 5: it may be that of another version of the job"),
 ]
 NAMES = [
     "job {:03}", "job {:03}-b", "job-{:03}", "{:03} pump  and stirrer ", "refill's \"{:03}\" $x *", "-{:03}", "screen\\n{:03}",
@@ -25,19 +54,19 @@ NAMES = [
 
 
 def make_release(folder, count, kinds):
-    """A folder of pairs, and the lines that its report should have."""
+    """A folder of pairs, and its report's entries: name, answer and details."""
     folder.mkdir()
-    lines = []
+    entries = []
     for i in range(count):
         name = NAMES[i % len(NAMES)].format(i // 2)
-        program, split, answer = kinds[i % len(kinds)]
+        program, split, answer, details = kinds[i % len(kinds)]
         make_pair(folder / name, program, split)
-        lines.append((name, answer))
-    return sorted(lines, key=lambda line: line[0].encode())
+        entries.append((name, answer, details))
+    return sorted(entries, key=lambda entry: entry[0].encode())
 
 
-def wanted_counts(lines):
-    answers = [answer for _, answer in lines]
+def wanted_counts(entries):
+    answers = [answer for _, answer, _ in entries]
     refusals = [int(a.split(",")[1]) for a in answers if a.startswith("REFUSE")]
     counts = [("ACCEPT", answers.count("ACCEPT")), ("REFUSE", len(refusals))]
     counts += [(f"REFUSE,{n}", refusals.count(n)) for n in sorted(set(refusals))]
@@ -45,8 +74,14 @@ def wanted_counts(lines):
     return "".join(f"count\t{answer}\t{count}\n" for answer, count in counts)
 
 
-def wanted_report(lines):
-    return "".join(f"{name}\t{answer}\n" for name, answer in lines) + "\n" + wanted_counts(lines)
+def wanted_report(entries):
+    text = wanted_counts(entries)
+    for kind, title in [("REFUSE", "Refused"), ("UNREAD", "Not read"), ("FAILED", "No answer"), ("ACCEPT", "Accepted")]:
+        chosen = [entry for entry in entries if entry[1].startswith(kind)]
+        text += f"\n{title}: {len(chosen)}\n" if chosen else ""
+        for name, answer, details in chosen:
+            text += f"{name}\t{answer}\n" + "".join(f"    {line}\n" for line in details)
+    return text
 
 
 class Desk:
@@ -57,13 +92,21 @@ class Desk:
         self.temporary = scratch / "temporary"
         self.temporary.mkdir()
 
-    def run(self, *arguments, tool=TOOL, **environment):
-        environment = {**os.environ, "TMPDIR": str(self.temporary), **{k: str(v) for k, v in environment.items()}}
-        done = subprocess.run(
-            [tool, *arguments], cwd=self.scratch, env=environment, stdin=subprocess.DEVNULL, capture_output=True, text=True
-        )
-        check(f"check-release {arguments}: no temporary files left", list(self.temporary.iterdir()), [])
-        return done
+    def start(self, *arguments, tool=TOOL, before=(), output=subprocess.PIPE, error=subprocess.PIPE, **environment):
+        environment = user_environment(TMPDIR=self.temporary, **environment)
+        return subprocess.Popen(
+            [*before, tool, *arguments], cwd=self.scratch, env=environment, stdin=subprocess.DEVNULL, stdout=output,
+            stderr=error, text=True)
+
+    def run(self, *arguments, **how):
+        process = self.start(*arguments, **how)
+        out, error = process.communicate()
+        self.check_nothing_left(arguments)
+        return subprocess.CompletedProcess(arguments, process.returncode, out, error)
+
+    def check_nothing_left(self, what):
+        left = list(self.temporary.iterdir()) + list(self.scratch.glob(".*"))
+        check(f"check-release {what}: no temporary files left", left, [])
 
     def binary(self, name, script):
         path = self.scratch / name
@@ -76,11 +119,11 @@ class Desk:
 def check_releases(desk, binary):
     """Reports, counts, order and status of whole releases."""
     release = desk.scratch / "a release"
-    lines = make_release(release, 400, KINDS)
+    entries = make_release(release, 400, KINDS)
     before = contents(release)
     done = desk.run("a release", RACECHECK=binary)
     report = desk.scratch / "release-report.txt"
-    check("400 pairs: report", report.read_text(), wanted_report(lines))
+    check("400 pairs: report", report.read_text(), wanted_report(entries))
     counts = "ACCEPT 150, REFUSE 150, REFUSE,12 50, REFUSE,14 50, REFUSE,30 50, UNREAD 100, FAILED 0"
     check("400 pairs: counts printed", ", ".join(" ".join(c.split("\t")[1:]) for c in done.stdout.splitlines()), counts)
     check("400 pairs: status", done.returncode, 2)
@@ -88,17 +131,110 @@ def check_releases(desk, binary):
     check("400 pairs: the folders are as they were", contents(release) == before, True)
 
     for name, count, kinds, status in [("accepted", 9, [GOOD], 0), ("refused", 9, KINDS[:5], 1)]:
-        lines = make_release(desk.scratch / name, count, kinds)
+        entries = make_release(desk.scratch / name, count, kinds)
         report = desk.scratch / f"report of {name}"
         done = desk.run(desk.scratch / name, report, RACECHECK=os.path.relpath(binary, desk.scratch))
         check(f"{name}: status", done.returncode, status)
-        check(f"{name}: report", report.read_text(), wanted_report(lines))
+        check(f"{name}: report", report.read_text(), wanted_report(entries))
 
     (desk.scratch / "accepted" / "a note.txt").write_text("not a pair")
     (desk.scratch / "accepted" / "empty").mkdir()
     done = desk.run("accepted", "report", RACECHECK=binary)
     check("a subfolder without a pair: status", done.returncode, 2)
     check("a subfolder without a pair: its line", "\nempty\tUNREAD\n" in (desk.scratch / "report").read_text(), True)
+
+
+def check_causes(desk, binary):
+    """What the bytes of a sheet show is in the report, below the pair."""
+    release = desk.scratch / "causes"
+    for number, (program, split, _, _) in enumerate(CAUSES):
+        make_pair(release / str(number), program, split)
+    desk.run("causes", "report", RACECHECK=binary)
+    entries = (desk.scratch / "report").read_text().split("\n\n")[1].split("\n    likely cause: ")
+    for number, (_, _, answer, cause) in enumerate(CAUSES):
+        check(f"cause {number}: answer", f"\n{number}\t{answer}\n" in entries[number], True)
+        check(f"cause {number}", entries[number + 1].split("\n")[0], cause)
+
+
+def check_hindrances(desk, binary):
+    """A FIFO, a link that leads nowhere and a folder that cannot be entered are FAILED, and the rest goes on."""
+    release = desk.scratch / "hindered"
+    entries = [("after", "ACCEPT", []), ("before", "ACCEPT", [])]
+    for name in ["before", "shut", "waits", "after"]:
+        make_pair(release / name, *GOOD[:2])
+    (release / "leads nowhere").symlink_to("nowhere")
+    entries.append(("leads nowhere", "FAILED", ["There is no answer: a link that leads nowhere."]))
+    (release / "shut").chmod(0)
+    before = ()
+    if os.geteuid() == 0:  # who may enter any folder, unless that is given up
+        before = ["setpriv", "--bounding-set=-all", "--inh-caps=-all"]
+        if shutil.which("setpriv") is None:
+            print("users: no setpriv here, so that a folder cannot be entered is not tried")
+            shutil.rmtree(release / "shut")
+            before = ()
+    if (release / "shut").exists():
+        entries.append(("shut", "FAILED", ["There is no answer: the folder cannot be entered."]))
+    (release / "waits" / "program.txt").unlink()
+    os.mkfifo(release / "waits" / "program.txt")
+    entries.append(("waits", "FAILED", ["There is no answer: no answer within 10 seconds."]))
+    process = desk.start("hindered", "hindered report", before=before, RACECHECK=binary)
+
+    def finish():
+        process.communicate()
+        check("a hindered release: status", process.returncode, 2)
+        check("a hindered release: report", (desk.scratch / "hindered report").read_text(), wanted_report(entries))
+        if (release / "shut").exists():
+            (release / "shut").chmod(0o755)
+
+    return finish
+
+
+def check_stopped(desk):
+    """A run that is stopped leaves the old report and nothing else."""
+    report = desk.scratch / "old report"
+    under_way = desk.scratch / "under way"
+    slow = desk.binary("slow", f"touch '{under_way}'; exec sleep 30")
+    for number in [signal.SIGTERM, signal.SIGINT, signal.SIGHUP]:
+        report.write_text("the old one")
+        under_way.unlink(missing_ok=True)
+        process = desk.start("two", "old report", RACECHECK=slow)
+        begun = time.monotonic()
+        while not under_way.exists() and time.monotonic() - begun < 60:
+            time.sleep(0.05)
+        begun = time.monotonic()
+        process.send_signal(number)
+        _, error = process.communicate()
+        check(f"stopped by {number.name}: status", process.returncode, 2)
+        check(f"stopped by {number.name}: at once", time.monotonic() - begun < 5, True)
+        check(f"stopped by {number.name}: message", "stopped" in error, True)
+        check(f"stopped by {number.name}: report", report.read_text(), "the old one")
+        desk.check_nothing_left(number.name)
+
+
+def check_outputs(desk, binary):
+    """Counts or a report that cannot be written give status 2; what is no plain file is not replaced."""
+    with open("/dev/full", "w") as full:
+        done = desk.run("two", "report", output=full, RACECHECK=binary)
+        unheard = desk.run("two", "unheard report", error=full, RACECHECK=binary)
+    check("progress to a full device", (unheard.returncode, (desk.scratch / "unheard report").is_file()), (0, True))
+    check("counts to a full device", (done.returncode, "cannot write the counts" in done.stderr), (2, True))
+    done = desk.run("two", "report", before=["sh", "-c", 'exec "$@" >&-', "sh"], RACECHECK=binary)
+    check("counts to a closed output", (done.returncode, "cannot write the counts" in done.stderr), (2, True))
+    done = desk.run("two", "/dev/full", RACECHECK=binary)
+    check("a report to a full device", (done.returncode, "cannot write the report" in done.stderr), (2, True))
+    check("the device is still there", Path("/dev/full").is_char_device(), True)
+    done = desk.run("two", "/dev/stdout", RACECHECK=binary)
+    check("a report to standard output", (done.returncode, done.stdout.count("count\tACCEPT\t2")), (0, 2))
+    (desk.scratch / "link").symlink_to("linked report")
+    desk.run("two", "link", RACECHECK=binary)
+    check("a report by a link", ((desk.scratch / "link").is_symlink(), (desk.scratch / "linked report").is_file()), (True, True))
+
+
+def check_liar(desk):
+    """A racecheck whose refusal the numbers do not bear out: the report says so, and the status is 2."""
+    done = desk.run("two", "report", RACECHECK=desk.binary("liar", "echo REFUSE,32,2,2,0"))
+    check("a lying binary: status", done.returncode, 2)
+    check("a lying binary: report", (desk.scratch / "report").read_text().count("*** DISAGREEMENT"), 2)
 
 
 def check_nonsense(desk):
@@ -115,7 +251,8 @@ def check_nonsense(desk):
         check(f"{name} binary: counts", done.stdout, "".join(f"count\t{a}\t{n}\n" for a, n in
               [("ACCEPT", 0), ("REFUSE", 0), ("UNREAD", 0), ("FAILED", 2)]))
         check(f"{name} binary: message", "racecheck failed on job 000" in done.stderr, True)
-    done = desk.run("two", "report", RACECHECK=desk.binary("honest", "echo REFUSE,33,1234567,10,0"))
+    make_pair(desk.scratch / "one" / "job", *KINDS[3][:2])
+    done = desk.run("one", "report", RACECHECK=desk.binary("honest", "echo REFUSE,14,2,0,0"))
     check("a binary of the right form: status", done.returncode, 1)
 
 
@@ -148,27 +285,32 @@ def check_errors(desk, binary):
     check("no report after an error", [p for p in desk.scratch.rglob("unwritten")], [])
     check("the pairs are as they were", contents(desk.scratch / "two") == before, True)
     done = desk.run("--help")
-    check("--help", (done.returncode, done.stdout.startswith("usage: check-release")), (0, True))
+    check("--help", (done.returncode, "usage: check-release" in done.stdout), (0, True))
 
 
 def check_which_binary(desk):
     """RACECHECK comes first, then the repository's own, then the PATH."""
-    tool = desk.binary("house/tools/check-release", "")
-    tool.write_bytes(TOOL.read_bytes())
+    shutil.copytree(TOOLS, desk.scratch / "house" / "tools")
+    tool = desk.scratch / "house" / "tools" / "check-release"
     environment = {"tool": tool, "RACECHECK": "", "PATH": f"{desk.scratch}/path:{os.environ['PATH']}"}
-    desk.binary("path/racecheck", "echo REFUSE,1,0,0,0")
-    check("racecheck on the PATH", desk.run("two", "report", **environment).returncode, 1)
+    desk.binary("path/racecheck", "echo REFUSE,14,2,0,0")
+    check("racecheck on the PATH", desk.run("one", "report", **environment).returncode, 1)
     desk.binary("house/target/bin/racecheck", "echo ACCEPT")
-    check("racecheck of the repository", desk.run("two", "report", **environment).returncode, 0)
+    check("racecheck of the repository", desk.run("one", "report", **environment).returncode, 0)
     environment["RACECHECK"] = desk.binary("named", "echo UNREAD")
-    check("racecheck by RACECHECK", desk.run("two", "report", **environment).returncode, 2)
+    check("racecheck by RACECHECK", desk.run("one", "report", **environment).returncode, 2)
 
 
 def check_release_tool(binary):
-    check("sh -n tools/check-release", subprocess.run(["sh", "-n", TOOL]).returncode, 0)
     with tempfile.TemporaryDirectory() as scratch:
         desk = Desk(Path(scratch))
+        finish_hindrances = check_hindrances(desk, binary)
         check_releases(desk, binary)
+        check_causes(desk, binary)
         check_nonsense(desk)
+        check_liar(desk)
+        check_stopped(desk)
+        check_outputs(desk, binary)
         check_which_binary(desk)
         check_errors(desk, binary)
+        finish_hindrances()

@@ -1,0 +1,204 @@
+"""tools/explain on every example, on every pair of the pages and on drawn pairs, and with racechecks that lie."""
+import shutil
+import subprocess
+import tempfile
+from collections import Counter
+from pathlib import Path
+
+import browser
+from checks import HOUSE, check, make_pair, user_environment
+from explaining import telling, walk
+from explaining.conditions import find
+from explaining.drawing import page
+from explaining.findings import explain
+from explaining.refusals import REFUSALS
+from explaining.running import Run, run_in
+from explaining.words import WORDS
+from pages import PAGES, examples, pairs_of
+
+TOOL = HOUSE / "tools" / "explain"
+DRAWN = 2000
+# The examples whose pages are opened in a browser: with names and without, accepted and refused.
+SHOWN = {"refill", "refill-race", "loop-race"}
+GOOD = ("P,1|int,0|", "C,1,1,1,1|int,0,0|0|0,0,|")
+
+
+def run(binary, *arguments, **how):
+    how = {"stdout": subprocess.PIPE, **how}
+    return subprocess.run(
+        [TOOL, *map(str, arguments)], env=user_environment(RACECHECK=binary), cwd=HOUSE, stdin=subprocess.DEVNULL,
+        stderr=subprocess.PIPE, text=True, **how)
+
+
+def check_examples(binary):
+    """The command itself, with each of its options."""
+    found = browser.say_which()
+    with tempfile.TemporaryDirectory() as scratch:
+        for folder in examples():
+            answer = (folder / "expected").read_text().strip()
+            file = Path(scratch) / f"{folder.name}.html"
+            done = run(binary, "--walk", "--page", file, folder)
+            lines = done.stdout.splitlines()
+            steps = len((folder / "program.txt").read_text().splitlines()) - 1
+            check(f"explain {folder.name}: status", done.returncode, 0 if answer == "ACCEPT" else 1)
+            check(f"explain {folder.name}: the answer comes first", lines[0], f"{folder}: {answer}")
+            check(f"explain {folder.name}: nothing on standard error", done.stderr, "")
+            numbers = [int(line.lstrip(" >").split()[0]) for line in lines[-steps:]]
+            check(f"explain {folder.name}: the walk has every line", numbers, list(range(2, steps + 2)))
+            marked = [line.split()[0] for line in lines[-steps:] if line.lstrip().startswith(">")]
+            wanted = [] if answer == "ACCEPT" else [f">{answer.split(',')[2]}"]
+            check(f"explain {folder.name}: the refused step is marked", marked, wanted)
+            kept = folder / "page.html"
+            if kept.exists():
+                check(f"explain {folder.name}: the page in its folder", kept.read_text() == file.read_text(), True)
+            browser.check_page(f"page of {folder.name}", file, steps, found if folder.name in SHOWN else None)
+
+
+# ---- What is said of each refusal
+
+
+def faults(explanation, run_there):
+    """What an explanation lacks."""
+    lacks = [explanation.disagrees] if explanation.disagrees else []
+    text = "\n".join(telling.told(explanation))
+    if not text.startswith(run_there.answer):
+        lacks.append("the answer")
+    if run_there.answer == "ACCEPT":
+        return lacks + ([] if walked(explanation) and first_false(explanation) is None else ["the walk"])
+    if run_there.answer == "UNREAD":
+        return lacks + ([] if "Likely cause" in text else ["the file at fault"])
+    number, line, condition, location = run_there.numbers()
+    wanted = [REFUSALS[number].helps, *explanation.numbers[:1]]
+    wanted += [f"line {line}"] if REFUSALS[number].sheet else []
+    if condition:
+        wanted += [f"Condition {condition} of ", explanation.condition.wording, explanation.condition.plain]
+        lacks += [] if first_false(explanation) == (line, condition, location) else ["the first false condition"]
+    lacks += [words for words in wanted if words not in text]
+    return lacks + ([] if explanation.numbers else ["the numbers"])
+
+
+def walked(explanation):
+    """Whether the walk of a pair comes to its last line."""
+    return len(walk.text(explanation)) == len(explanation.sites.all) + 1 == len(explanation.sites.steps) + 1
+
+
+def first_false(explanation):
+    """The first condition that the arithmetic finds false: line, number and location."""
+    for site in explanation.sites.all:
+        for number in range(1, len(WORDS[site.word].conditions) + 1):
+            finding = find(site, number, explanation.sites.split, explanation.names)
+            if not finding.holds:
+                return site.line, number, finding.location
+    return None
+
+
+def check_pages(binary):
+    """Every pair of the two pages, which have an example for each number and each condition."""
+    for name in PAGES:
+        for line, program, split, answer in pairs_of((HOUSE / "docs" / name).read_text()):
+            with tempfile.TemporaryDirectory() as scratch:
+                folder = Path(scratch) / "pair"
+                make_pair(folder, program, split)
+                run_there = run_in(binary, folder)
+                explanation = explain(run_there, folder)
+                check(f"docs/{name} line {line}, explained", (run_there.answer, faults(explanation, run_there)), (answer, []))
+
+
+def check_drawn(binary):
+    """Drawn pairs: each refused condition is the first that the arithmetic finds false, each accepted pair has none."""
+    met, wide, found = Counter(), None, browser.find_browser()
+    with tempfile.TemporaryDirectory() as scratch:
+        command = ["cargo", "run", "--release", "--offline", "--quiet", "--bin", "pairs", "--", scratch, str(DRAWN)]
+        check("pairs are drawn", subprocess.run(command, cwd=HOUSE / "tests").returncode, 0)
+        for number in range(DRAWN):
+            folder = Path(scratch) / str(number)
+            run_there = run_in(binary, folder)
+            explanation = explain(run_there, folder)
+            met[explanation.number] += 1
+            check(f"drawn pair {number}, {run_there.answer}", faults(explanation, run_there), [])
+            if number % 20 == 0:
+                browser.check_markup(f"drawn pair {number}, its page", page.text("drawn", explanation))
+            if wide is None and explanation.sites and explanation.sites.split.locations > 12 and len(explanation.sites.all) > 100:
+                wide = number, len(explanation.sites.all), page.text("wide", explanation)
+    check("some drawn pair has many locations and many steps", wide is not None, True)
+    if wide and found:
+        number, steps, text = wide
+        browser.check_in_browser(f"drawn pair {number}, wide and long", found, text, steps)
+    numbers = {number for number in REFUSALS if number != 1}
+    check("drawn pairs meet every number", sorted(numbers - set(met)), [])
+
+
+# ---- Racechecks that lie, and what explain cannot do
+
+
+def check_lies(binary):
+    """An answer that the numbers do not bear out is told loudly, with a status of its own."""
+    join, join_race = HOUSE / "examples" / "join", HOUSE / "examples" / "join-race"
+    lies = [(join, f"REFUSE,{rest}") for rest in [
+        "10,0,0,0", "11,2,0,0", "12,2,0,0", "13,3,0,0", "14,9,0,0", "15,5,0,0", "20,0,0,0", "21,2,0,0", "22,2,0,0", "23,5,0,0",
+        "30,2,0,0", "31,2,1,0", "32,2,2,0", "33,15,5,0", "33,99,5,0", "32,8,9,0", "11,99,0,0"]]
+    lies += [(join_race, "REFUSE,33,13,5,1"), (join_race, "REFUSE,32,13,4,0")]
+    for folder, answer in lies:
+        explanation = explain(Run(answer, None), folder)
+        text = "\n".join(telling.told(explanation))
+        check(f"a lie about {folder.name}, {answer}", (text.startswith(answer), "*** DISAGREEMENT" in text), (True, True))
+        browser.check_markup(f"a lie about {folder.name}, {answer}: its page", page.text("lie", explanation))
+    with tempfile.TemporaryDirectory() as scratch:
+        liar, folder = Path(scratch) / "liar", Path(scratch) / "pair"
+        lies = [(*GOOD, "REFUSE,32,2,2,0"), ("P,1|int|", GOOD[1], "ACCEPT"), ("P,9|int,0|", GOOD[1], "ACCEPT")]
+        for program, split, answer in lies:
+            liar.write_text(f"#!/bin/sh\necho {answer}\n")
+            liar.chmod(0o755)
+            make_pair(folder / answer / program, program, split)
+            done = run(liar, folder / answer / program)
+            check(f"a lying racecheck, {answer}: status", done.returncode, 3)
+            said = ["DISAGREEMENT" in output for output in (done.stdout, done.stderr)]
+            check(f"a lying racecheck, {answer}: both outputs say so", said, [True, True])
+
+
+def check_errors(binary):
+    join = HOUSE / "examples" / "join"
+    for what, arguments, message in [
+        ("no arguments", [], "usage: explain"), ("an unknown option", ["-x", join], "usage: explain"),
+        ("two folders", [join, join], "usage: explain"), ("a page without a file", [join, "--page"], "usage: explain"),
+        ("no such folder", ["nowhere"], "no such folder"),
+        ("a page in no folder", ["--page", "nowhere/page.html", join], "nowhere"),
+    ]:
+        done = run(binary, *arguments)
+        check(f"explain, {what}", (done.returncode, message in done.stderr), (2, True))
+    check("explain, a page in no folder: the answer is told", done.stdout.startswith(f"{join}: ACCEPT"), True)
+    check("explain, no racecheck", run("nowhere", join).returncode, 2)
+    with open("/dev/full", "w") as full:
+        check("explain to a full device", run(binary, join, stdout=full).returncode, 2)
+    check("explain --help", run(binary, "--help").stdout.count("usage: explain"), 1)
+    with tempfile.TemporaryDirectory() as scratch:
+        done = run(binary, scratch)
+        missing = [f"{name} is missing" in done.stdout for name in ("program.txt", "split.txt")]
+        check("explain in an empty folder", (done.returncode, missing), (2, [True, True]))
+
+
+def check_names(binary):
+    """Names are used where they are given; lines of another form are passed over."""
+    with tempfile.TemporaryDirectory() as scratch:
+        folder = Path(scratch) / "pair"
+        shutil.copytree(HOUSE / "examples" / "join-race", folder)
+        names = ["location,0,Füllstand", "thread,1,pump", "variable,0,<level>", "thread,x,y", "nothing", "variable,1,", "\x07", ""]
+        (folder / "names.txt").write_bytes("\n".join(names).encode() + b"\xff")
+        done = run(binary, "--walk", "--page", folder / "page.html", folder)
+        wanted = [
+            "at location 0 (Füllstand), that of the cell: 1/2 ≥ 2/2 is false", "start pump with 1/2 of Füllstand",
+            "write <level>, of Füllstand", "wait for a thread of v1"]
+        check("explain with names", [words for words in wanted if words not in done.stdout], [])
+        text = (folder / "page.html").read_text()
+        browser.check_markup("explain with names: its page", text)
+        check("explain with names: its page has them", [">pump<" in text, "&lt;level&gt;" in text, ">thread 0<" in text], [True] * 3)
+
+
+def check_explain_tool(binary):
+    check_examples(binary)
+    check_pages(binary)
+    check_lies(binary)
+    check_errors(binary)
+    check_names(binary)
+    check_drawn(binary)
+    check("the tools leave nothing beside themselves", list((HOUSE / "tools").rglob("__pycache__")), [])

@@ -1,0 +1,143 @@
+"""One page that needs nothing else: the answer in words, the picture with its legend, and the walk."""
+from html import escape
+from pathlib import Path
+
+from ..refusals import REFUSALS
+from ..telling import alarm, condition_line, maps_of
+from ..walk import strides
+from .holders import Holder
+from .picture import LOCK, Picture, colour_of, fill_of, patterns
+
+FEW = 3  # locations whose fractions fit on one line of the walk
+
+STYLE = Path(__file__).with_name("style.css").read_text(encoding="utf-8")
+
+
+def write(file, title, explanation):
+    with open(file, "w", encoding="utf-8", errors="replace") as out:
+        out.write(text(title, explanation))
+
+
+def text(title, explanation):
+    """The page of one pair."""
+    pieces = [
+        "<!DOCTYPE html>", '<html lang="en">', "<head>", '<meta charset="utf-8"/>',
+        '<meta name="viewport" content="width=device-width"/>',
+        f"<title>{escape(title)}: {escape(explanation.answer)}</title>", f"<style>{STYLE}</style>", "</head>", "<body>",
+        *_header(title, explanation), *_told(explanation),
+    ]
+    if explanation.sites:
+        pieces += [*_picture(explanation), *_walk(explanation)]
+    pieces += [
+        "<footer>The answer is racecheck's. The numbers beside it are worked out again from the two sheets by tools/explain, which"
+        " judges nothing.</footer>", "</body>", "</html>", ""]
+    return "\n".join(pieces)
+
+
+# ---- The answer in words
+
+
+def _header(title, explanation):
+    kind, badge = {"ACCEPT": ("accepted", "ACCEPTED"), "UNREAD": ("none", "NOT READ"), "FAILED": ("none", "NO ANSWER")}.get(
+        explanation.answer, ("refused", "REFUSED"))
+    return [
+        "<header>", f"<div><h1>{escape(title)}</h1>", f'<p class="meaning">{escape(explanation.meaning)}</p></div>',
+        f'<div><div class="badge {kind}">{badge}</div><div class="answer">{escape(explanation.answer)}</div></div>', "</header>",
+        *(f'<p class="alarm">{escape(line)}</p>' for line in alarm(explanation) if line),
+    ]
+
+
+def _told(explanation):
+    if explanation.answer == "ACCEPT":
+        return []
+    left = [f'<div class="place">{escape(line)}</div>' for line in explanation.place]
+    if explanation.site:
+        left.append(f"<p>This step is taken by <b>{escape(explanation.names.thread(explanation.site.thread))}</b>.</p>")
+    if explanation.condition:
+        left.append(f"<h3>{escape(condition_line(explanation))}</h3>")
+        left.append(f"<div>That is: {marked(explanation.condition.plain)}.</div>")
+    left += [f'<div class="false">{marked(line)}</div>' for line in explanation.numbers]
+    maps = [f'<tr><td>{escape(name)}</td><td class="map">{escape(value)}</td></tr>' for name, value in maps_of(explanation)]
+    left += ['<table class="maps"><tbody>', *maps, "</tbody></table>"] if maps else []
+    right = _list("Likely cause", explanation.causes) + _list("What usually helps", explanation.helps)
+    if explanation.number in REFUSALS:
+        right.append(f"<h3>Who looks first</h3><div>{escape(REFUSALS[explanation.number].owner)}</div>")
+    return ['<section class="told">', "<div>", *left, "</div>", "<div>", *right, "</div>", "</section>"]
+
+
+def _list(title, lines):
+    return [f"<h3>{title}</h3>", "<ul>", *(f"<li>{marked(line)}</li>" for line in lines), "</ul>"] if lines else []
+
+
+def marked(words):
+    """Words with `code` in backquotes."""
+    pieces = escape(words).split("`")
+    return "".join(f"<code>{piece}</code>" if place % 2 else piece for place, piece in enumerate(pieces))
+
+
+# ---- The picture
+
+
+def _picture(explanation):
+    picture = Picture(explanation)
+    return [
+        f'<svg class="patterns" aria-hidden="true">{patterns()}</svg>', "<h2>Who holds how much</h2>", *_legend(picture),
+        *(f"<figure>{part}</figure>" for part in picture.parts()),
+    ]
+
+
+def _legend(picture):
+    kinds = {holder.kind for holder in picture.holders}
+    threads = sorted({moment.site.thread for moment in picture.moments} | {holder.thread() for holder in picture.holders} - {None})
+    rows = [(_swatch(Holder("thread", thread)), escape(picture.holder_name(Holder("thread", thread)))) for thread in threads]
+    if "lock" in kinds:
+        rows.append((_swatch(Holder("lock", 0)), "kept in a lock that is open"))
+    if "identifier" in kinds:
+        owner = next(holder.owner for holder in picture.holders if holder.kind == "identifier")
+        rows.append((_swatch(Holder("identifier", 0, owner)), "kept for an identifier: that thread's share until it is joined"))
+    rows.append((_mark('<rect class="free" x="1" y="1" width="24" height="14"/>'), "nobody's"))
+    rows.append((_mark('<circle class="touch read" cx="13" cy="8" r="5"/>'), "reads here: needs some"))
+    rows.append((_mark('<circle class="touch write" cx="13" cy="8" r="5"/>'), "writes here: needs the whole"))
+    if picture.explanation.number:
+        wanted = _mark('<rect class="wanted" x="2" y="2" width="22" height="12"/>')
+        rows.append((wanted, "the refused step, at the location at fault"))
+    return ['<ul class="legend">', *(f"<li>{swatch}<span>{words}</span></li>" for swatch, words in rows), "</ul>"]
+
+
+def _swatch(holder):
+    return _mark(f'<rect x="1" y="1" width="24" height="14" fill="{fill_of(holder)}" stroke="{_edge(holder)}"/>')
+
+
+def _edge(holder):
+    return LOCK if holder.kind == "lock" else colour_of(holder)
+
+
+def _mark(shape):
+    return f'<svg viewBox="0 0 26 16" aria-hidden="true">{shape}</svg>'
+
+
+# ---- The walk
+
+
+def _walk(explanation):
+    head = "".join(f"<th>{name}</th>" for name in ("line", "thread", "step", "row", "before", "after", "in words", "in fractions"))
+    rows = []
+    for stride in strides(explanation):
+        site = stride.site
+        colour = colour_of(Holder("thread", site.thread))
+        cells = [
+            f'<td class="number">{site.line}</td>',
+            f'<td class="thread"><i style="background:{colour}"></i>{escape(explanation.names.thread_mark(site.thread))}</td>',
+            f'<td class="step">{"  " * site.depth}{site.word},{site.number}</td>',
+            f'<td class="row">{escape(stride.row)}</td>', f'<td class="map">{escape(stride.before)}</td>',
+            f'<td class="map">{escape(stride.after)}</td>', f"<td>{escape(stride.words)}</td>",
+            f'<td class="sums">{escape(stride.sums)}</td>',
+        ]
+        refused = ' class="refused"' if stride.refused else ""
+        rows.append(f"<tr{refused}>{''.join(cells)}</tr>")
+    kind = "walk wide" if explanation.sites.split.locations > FEW else "walk"
+    return [
+        '<section class="walk-section">', "<h2>The walk, step by step</h2>",
+        "<p>Before and after are what the thread has, one fraction for each location in turn:"
+        f" {escape(', '.join(explanation.names.place(p) for p in range(explanation.sites.split.locations)))}.</p>",
+        f'<table class="{kind}"><thead><tr>{head}</tr></thead><tbody>', *rows, "</tbody></table>", "</section>"]

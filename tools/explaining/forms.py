@@ -1,0 +1,151 @@
+"""The forms and ranges of the lines of both sheets: why a line is refused with 11, 12, 21 or 22."""
+import re
+from typing import NamedTuple
+
+from .showing import grouped, shown
+from .words import KINDS, WORDS
+
+DIGITS = 10
+NUMERAL = re.compile(rb"0|[1-9][0-9]{0,%d}" % (DIGITS - 1))
+PROGRAM_BYTES, SPLIT_BYTES = 16_384, 65_536
+WHOLE = 1_000_000_000
+
+
+class Range(NamedTuple):
+    what: str
+    low: int
+    high: int
+
+    def __str__(self):
+        to = f" to {grouped(self.high)}" if self.low < self.high else ""
+        return f"{self.what} is {grouped(self.low)}{to}"
+
+
+# What the number beside a word may be.
+RANGES = {
+    "variable": Range("a variable", 0, 255),
+    "constant": Range("a constant", 0, 65_535),
+    "nothing": Range("the number on this word", 0, 0),
+}
+STEPS = Range("the number of steps", 1, 256)
+COUNTS = [
+    Range("D", 1, WHOLE),
+    Range("the number of locations L", 1, 16),
+    Range("the number of types T", 1, 64),
+    Range("the number of maps M", 1, 512),
+]
+IN_A_MAP = Range("a number in a map", 0, WHOLE)
+
+
+class OneOf(NamedTuple):
+    """A field that is a fixed word."""
+
+    what: str
+    words: tuple
+
+
+class Absent(NamedTuple):
+    """A field that is empty, whatever number it might hold."""
+
+    what: str
+
+
+class Optional(NamedTuple):
+    """A field that is empty or a number."""
+
+    range: Range
+
+
+class Fault(NamedTuple):
+    kind: str  # form or range
+    why: str
+
+
+def numbered(what, count):
+    """The range of a thing numbered from 0."""
+    return Range(f"{what} (there {'is' if count == 1 else 'are'} {count})", 0, count - 1)
+
+
+# ---- What each line should be, given the fields it has
+
+
+def program_fields(number, fields):
+    if number == 1:
+        return [OneOf("`P`", ("P",)), STEPS]
+    word = WORDS.get(fields[0].decode("latin-1"))
+    return [OneOf("a word of the language", tuple(WORDS)), RANGES[word.number] if word else RANGES["nothing"]]
+
+
+class Counts(NamedTuple):
+    locations: int
+    types: int
+    maps: int
+
+
+def counts_of(header):
+    """The counts on a split's first line, which is known to be of its form and in range."""
+    return Counts(*map(int, header.split(b",")[2:5]))
+
+
+def split_fields(number, fields, counts, words):
+    """`words` are those of the job's steps: an s stands on a spawn alone."""
+    if number == 1:
+        return [OneOf("`C`", ("C",)), *COUNTS]
+    if number <= 1 + counts.types:
+        return _type_fields(number - 2, fields, counts)
+    if number <= 1 + counts.types + counts.maps:
+        return [IN_A_MAP] * counts.locations
+    word = words[number - 2 - counts.types - counts.maps]
+    a_map = numbered("a map", counts.maps)
+    last = Optional(a_map) if word == "spawn" else Absent(f"the last field on `{word}`, which is no spawn,")
+    return [numbered("a type", counts.types), a_map, last]
+
+
+def _type_fields(own, fields, counts):
+    ranges = {
+        None: Range("the number there", 0, 0),
+        "location": numbered("a location", counts.locations),
+        "content": Range("the content's type, which stands above,", 0, own - 1),
+        "load": numbered("a map", counts.maps),
+    }
+    kind = KINDS.get(fields[0].decode("latin-1"), KINDS["int"])
+    return [OneOf("a kind of type", tuple(KINDS)), *(ranges[field] for field in kind.fields)]
+
+
+# ---- What is wrong with a line
+
+
+def fault(line, wanted):
+    """The first fault of a line: form before range, as document 01 orders them."""
+    return _form_fault(line, wanted) or _range_fault(line, wanted)
+
+
+def _form_fault(line, wanted):
+    fields = line.text.split(b",")
+    if not line.closed:
+        return Fault("form", "the line is not closed by byte 10")
+    if len(fields) != len(wanted):
+        return Fault("form", f"it has {len(fields)} field{'s' * (len(fields) > 1)}, not {len(wanted)}")
+    for field, want in zip(fields, wanted):
+        if isinstance(want, OneOf):
+            if field.decode("latin-1") not in want.words:
+                return Fault("form", f"\"{shown(field)}\" is not {want.what}")
+        elif not NUMERAL.fullmatch(field) and (field or isinstance(want, Range)):
+            return Fault("form", f"\"{shown(field)}\" is no number of 1 to {DIGITS} digits without a leading zero")
+    return None
+
+
+def _range_fault(line, wanted):
+    for field, want in zip(line.text.split(b","), wanted):
+        if isinstance(want, Absent) and field:
+            return Fault("range", f"{want.what} is empty, not {shown(field)}")
+        ranged = want.range if isinstance(want, Optional) and field else want
+        if isinstance(ranged, Range) and not ranged.low <= int(field) <= ranged.high:
+            return Fault("range", _outside(ranged, int(field)))
+    return None
+
+
+def _outside(ranged, number):
+    if ranged.high < ranged.low:
+        return f"{number} is out of range: nothing stands above type 0"
+    return f"{grouped(number)} is out of range: {ranged}"

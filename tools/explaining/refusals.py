@@ -1,0 +1,103 @@
+"""What each answer means and what usually helps, as tables. docs/REFUSALS.md says the same words, which a test holds it to.
+
+A new refusal is a row of REFUSALS.
+"""
+from typing import NamedTuple
+
+PROGRAM, SPLIT = "program.txt", "split.txt"
+
+
+class Refusal(NamedTuple):
+    found: str  # what was found wrong
+    owner: str  # who looks first
+    sheet: str  # the file that the line named belongs to; None if no line is named
+    helps: str  # what usually helps
+
+
+ACCEPTED = "Both sheets are well formed, and the split shows the job safe."
+UNREAD = "A file could not be read. Nothing was judged."
+
+REFUSALS = {
+    1: Refusal(
+        "too little work space", "caller of the library", None,
+        "lend at least 16,384 numbers of 32 bits"),
+    10: Refusal(
+        "program sheet too long", "owner of the program", None,
+        "look whether the right file was copied"),
+    11: Refusal(
+        "a line of the program sheet is not of its form", "owner of the program", PROGRAM,
+        "write the line as `word,v` (line 1 as `P,n`): no spaces, no capitals, no leading zeros, byte 10 at its end"),
+    12: Refusal(
+        "a number of the program sheet is out of range", "owner of the program", PROGRAM,
+        "keep to the ranges: steps 1 to 256, variables 0 to 255, constants 0 to 65,535; on every word but `var`, `int` and `let`"
+        " the number must be 0"),
+    13: Refusal(
+        "lines of the program sheet are missing or spare", "owner of the program", PROGRAM,
+        "count the lines against line 1, and the parts of each word; look for an empty line at the end of the file"),
+    14: Refusal(
+        "a variable is used where it is not bound", "owner of the program", PROGRAM,
+        "bind it by a `let` and use it in that `let`'s second part only"),
+    15: Refusal(
+        "a variable is bound twice", "owner of the program", PROGRAM,
+        "give the later `let` a number of its own"),
+    20: Refusal(
+        "split sheet too long", "owner of the solver", None,
+        "write each map once; 512 maps of 16 locations fit only if their numbers are short"),
+    21: Refusal(
+        "a line of the split sheet is not of its form", "owner of the solver", SPLIT,
+        "look whether the split was made for this version of the job; then at the form of the line"),
+    22: Refusal(
+        "a number of the split sheet is out of range", "owner of the solver", SPLIT,
+        "look whether the split was made for this version of the job; then at the counts on line 1"),
+    23: Refusal(
+        "lines of the split sheet are missing or spare", "owner of the solver", SPLIT,
+        "look whether the split was made for this version of the job; it needs 1 + T + M + n lines"),
+    30: Refusal(
+        "the job starts with more than one whole of a location", "owner of the solver", PROGRAM,
+        "make the starting map smaller: no number of it may be over D"),
+    31: Refusal(
+        "a type is wrong", "owner of the solver, then of the program", PROGRAM,
+        "look at the type number in the row, which is most often wrong; if the rows are as meant, look at the job, which uses one"
+        " kind of thing as another, say it joins a lock or writes to a number"),
+    32: Refusal(
+        "rights do not add up", "owner of the solver, then of the program", PROGRAM,
+        "work out that one step by hand from its row and the rows of its parts"),
+    33: Refusal(
+        "a cell is touched without enough right to it", "owner of the program, then of the solver", PROGRAM,
+        "ask what keeps the other threads away from the cell here: a join that comes too late, a lock not taken, a thread never"
+        " joined"),
+}
+
+# What a false condition of a word usually means, beyond its refusal's own line: by word and condition.
+_EARLIER = "a take or give is missing before it: the row counts with a right that no step on the way has moved"
+_REPEATS = "the row does not repeat what its part leaves; a step of this word moves no rights"
+_ADDS = "the row's map is not the sum: it needs a map that holds what was there plus the load"
+_BRANCH = (
+    "one branch ends with less than the row says, say a lock is given back in that branch only; after may be at most the smaller of"
+    " the two")
+
+USUALLY = {
+    ("var", 1): "the row's type does not agree with that of what the `let` bound",
+    ("var", 2): _EARLIER,
+    ("int", 2): _EARLIER,
+    ("newtid", 2): _EARLIER,
+    ("let", 2): _REPEATS,
+    ("ref", 2): _REPEATS,
+    ("read", 3): _REPEATS,
+    ("write", 4): _REPEATS,
+    ("if", 3): _BRANCH,
+    ("if", 4): _BRANCH,
+    ("while", 2): "the loop claims more after it than there is before it",
+    ("while", 3): "a round of the loop ends with less than it began with, say a join is missing in the loop",
+    ("spawn", 3):
+        "the thread ends without the right that a join on it would hand over, say it left that right in a lock, or gave it to a"
+        " thread of its own and did not join that one",
+    ("spawn", 4): "what the body starts with was not taken from what is here, or more was taken than that",
+    ("join", 3): _ADDS,
+    ("lock", 3): _ADDS,
+    ("freelock", 3): _ADDS,
+    ("newlock", 2): "two locks guard the same location, and the right was given to the first one already",
+    ("unlock", 3): "the thread does not hold what the lock guards, say it unlocks twice",
+    ("read", 4): "the thread has nothing of the cell's location here: it was not handed any, or gave it away before",
+    ("write", 5): "another thread, a lock or an identifier still holds some of the cell's location here",
+}

@@ -1,0 +1,122 @@
+"""The two files of a pair: their bytes, their lines, and what the lines of well-formed sheets say."""
+import os
+import stat
+from typing import NamedTuple
+
+from .words import KINDS
+
+# More than the longest sheet: enough to see that a file is longer.
+MOST_BYTES = 1 << 17
+
+
+class Line(NamedTuple):
+    text: bytes
+    closed: bool
+
+
+class Sheet(NamedTuple):
+    name: str
+    text: bytes  # its first MOST_BYTES bytes
+    length: int
+    lines: list
+
+    def line(self, number):
+        """The bytes of a line, counted from 1; None past the last."""
+        return self.lines[number - 1].text if 0 < number <= len(self.lines) else None
+
+
+def read_sheet(folder, name):
+    """A sheet of a pair, or None. Only a plain file is opened: a FIFO would be waited for."""
+    path = os.path.join(folder, name)
+    try:
+        status = os.stat(path)
+        if not stat.S_ISREG(status.st_mode):
+            return None
+        with open(path, "rb") as file:
+            text = file.read(MOST_BYTES)
+    except OSError:
+        return None
+    pieces = text.split(b"\n")
+    lines = [Line(piece, True) for piece in pieces[:-1]] + [Line(piece, False) for piece in pieces[-1:] if piece]
+    return Sheet(name, text, max(status.st_size, len(text)), lines)
+
+
+class Step(NamedTuple):
+    line: int
+    word: str
+    number: int
+
+
+class Type(NamedTuple):
+    kind: str
+    first: int
+    second: int
+
+
+class Row(NamedTuple):
+    line: int
+    text: str
+    type: int
+    post: int
+    start: int  # None where the field is empty
+
+
+class Split(NamedTuple):
+    denominator: int
+    locations: int
+    types: list
+    maps: list
+    rows: list
+
+    def root_start(self):
+        """The map that the job starts with."""
+        return self.maps[0]
+
+    def body_start(self, row):
+        """The map that a spawn's body starts with. An empty field means map 0."""
+        return self.maps[row.start or 0]
+
+    def load(self, number):
+        """The map in a lock or tid type: document 01's K."""
+        return self.maps[self.types[number].first]
+
+    def agree(self, one, other):
+        return self.parting(one, other) is None
+
+    def parting(self, one, other):
+        """Where two types part: they themselves, or contents as deep in one as in the other. None if they agree."""
+        this, that = self.types[one], self.types[other]
+        fields = KINDS[this.kind].fields
+        if this.kind != that.kind:
+            return one, other
+        if fields[0] == "load" and self.load(one) != self.load(other):
+            return one, other
+        if fields[0] == "location" and this.first != that.first:
+            return one, other
+        return self.parting(this.second, that.second) if fields[1] == "content" else None
+
+
+def _fields(line):
+    return line.text.decode("ascii").split(",")
+
+
+def steps_of(sheet):
+    """The steps of a well-formed program sheet."""
+    return [Step(number, word, int(v)) for number, (word, v) in enumerate(map(_fields, sheet.lines[1:]), 2)]
+
+
+def split_of(sheet):
+    """What a well-formed split sheet says."""
+    denominator, locations, types, maps = map(int, _fields(sheet.lines[0])[1:])
+    first_map, first_row = 1 + types, 1 + types + maps
+    rows = []
+    for number, line in enumerate(sheet.lines[first_row:], first_row + 1):
+        kind, post, start = _fields(line)
+        rows.append(Row(number, line.text.decode("ascii"), int(kind), int(post), int(start) if start else None))
+    return Split(
+        denominator,
+        locations,
+        [Type(kind, int(one), int(two)) for kind, one, two in map(_fields, sheet.lines[1:first_map])],
+        [tuple(map(int, _fields(line))) for line in sheet.lines[first_map:first_row]],
+        rows,
+    )

@@ -1,0 +1,83 @@
+"""The steps of a job as a tree, each with the map before it, its thread and its nesting."""
+from dataclasses import dataclass, field
+
+from .words import WORDS
+
+
+@dataclass
+class Site:
+    """One step where it stands. Maps are tuples of numbers."""
+
+    line: int
+    word: str
+    number: int
+    row: object
+    type: int
+    pre: tuple
+    post: tuple
+    start: tuple  # what the body of a spawn starts with
+    thread: int  # 0 is the first; the threads of spawn lines are numbered in line order
+    depth: int  # how far it is indented in the walk
+    nest: int  # how many loops, choices and spawned bodies it stands in
+    body: int  # the thread that a spawn starts
+    binder: object  # for a var, the site of its let
+    parts: dict = field(default_factory=dict)  # document 01's name of a part, and its site
+
+
+class Sites:
+    """Every step of a well-formed pair, in line order."""
+
+    def __init__(self, steps, split):
+        self.split = split
+        self.steps = steps
+        self.all = []
+        self.threads = 1
+        self._lets = {}
+        self.root = self._read(split.root_start(), thread=0, depth=0, nest=0)
+        self.used = {site.number for site in self.all if site.word == "var"}
+
+    def at_line(self, line):
+        return self.all[line - 2]
+
+    def _read(self, pre, thread, depth, nest):
+        step, row = self.steps[len(self.all)], self.split.rows[len(self.all)]
+        site = Site(
+            line=step.line, word=step.word, number=step.number, row=row, type=row.type, pre=pre,
+            post=self.split.maps[row.post], start=None, thread=thread, depth=depth, nest=nest, body=None, binder=None,
+        )
+        self.all.append(site)
+        if site.word == "spawn":
+            site.start, site.body = self.split.body_start(row), self.threads
+            self.threads += 1
+        if site.word == "var":
+            site.binder = self._lets[site.number]
+        for name, start in WORDS[site.word].parts.items():
+            is_body = site.word == "spawn" and name == "e2"
+            # What follows a let stands under it, not inside it: "do this, then that" does not move to the right.
+            follows = site.word == "let" and name == "e2"
+            site.parts[name] = self._read(
+                map_named(site, start, self.split), site.body if is_body else thread, depth if follows else depth + 1,
+                nest + (is_body or site.word in ("if", "while")))
+            if site.word == "let" and name == "e1":
+                self._lets[site.number] = site
+        return site
+
+
+def acted_on(site):
+    """The step whose type has the K, p and c of the conditions: the part that the word acts on, or the step itself."""
+    for condition in WORDS[site.word].conditions:
+        words = condition.wording.split()
+        if len(words) == 3 and words[1] == "a":  # "part a tid"
+            return site.parts[words[0]]
+        if len(words) == 3 and words[0] == "a" and words[2] == "type":  # "a lock type"
+            return site
+    return None
+
+
+def map_named(site, name, split):
+    """The map that document 01 calls pre, post, s, K or "post of" a part."""
+    if name == "K":
+        return split.load(acted_on(site).type)
+    if name.startswith("post of "):
+        return site.parts[name.removeprefix("post of ")].post
+    return {"pre": site.pre, "post": site.post, "s": site.start}[name]

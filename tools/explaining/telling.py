@@ -1,0 +1,73 @@
+"""An explanation as text for a person at the desk."""
+from .refusals import REFUSALS
+from .showing import fractions, grouped
+from .words import WORDS
+
+# What document 01's names of maps are called beside "before" and "after".
+PLAIN = {
+    "K": "load (K)",
+    "s": "body's start (s)",
+    "post of part": "the part leaves",
+    "post of e1": "e1 leaves",
+    "post of e2": "e2 leaves",
+}
+
+
+def told(explanation):
+    """The lines of an explanation, from the answer to what helps."""
+    lines = [f"{explanation.answer}", "", explanation.meaning]
+    lines += alarm(explanation)
+    lines += _indented(explanation.place)
+    if explanation.site:
+        lines += _indented([f"taken by {explanation.names.thread(explanation.site.thread)}"])
+    if explanation.condition:
+        lines += ["", condition_line(explanation)]
+        lines += _indented([f"that is: {explanation.condition.plain}"])
+    lines += _indented(explanation.numbers)
+    lines += _maps(explanation)
+    lines += _titled("Likely cause", explanation.causes)
+    lines += _titled("What usually helps", explanation.helps)
+    if explanation.number in REFUSALS:
+        lines += ["", f"Who looks first: {REFUSALS[explanation.number].owner}"]
+    return lines
+
+
+def condition_line(explanation):
+    site = explanation.site
+    rule = WORDS[site.word].rule
+    return f"Condition {explanation.condition_number} of {site.word} ({rule} in Figure 5): {explanation.condition.wording}"
+
+
+def alarm(explanation):
+    """What is said when racecheck and the arithmetic here part: loudly, since one of them is wrong."""
+    if not explanation.disagrees:
+        return []
+    told = f"*** DISAGREEMENT: {explanation.disagrees} ***"
+    return ["", told, "*** Trust neither; hand this pair to the owners of racecheck. ***", ""]
+
+
+def maps_of(explanation):
+    """Before, after and the other maps that the condition names, each as its name and its fractions; then D."""
+    if not explanation.site:
+        return []
+    split = explanation.sites.split
+    named = [("before", explanation.site.pre), ("after", explanation.site.post)]
+    named += [(PLAIN.get(name, name), numbers) for name, numbers in explanation.maps if name not in ("pre", "post")]
+    rows = [(name, fractions(numbers, split.denominator)) for name, numbers in named]
+    if split.locations > 1:
+        rows.insert(0, ("of", ", ".join(map(explanation.names.place, range(split.locations)))))
+    return rows + [("D", f"{grouped(split.denominator)}, so {split.denominator}/{split.denominator} is the whole")]
+
+
+def _maps(explanation):
+    rows = maps_of(explanation)
+    width = max((len(name) for name, _ in rows), default=0)
+    return [""] * bool(rows) + _indented(f"{name.ljust(width)}  {value}" for name, value in rows)
+
+
+def _indented(lines):
+    return [f"  {line}" for line in lines]
+
+
+def _titled(title, lines):
+    return ["", title, *(f"  - {line}" for line in lines)] if lines else []

@@ -1,0 +1,150 @@
+"""The whole pair as a walk: each step with its row, its thread, what is there before and after, and what it comes to."""
+from typing import NamedTuple
+
+from .conditions import access_at, equation, find, holds_at, sides
+from .showing import fraction, fractions, listed
+from .sites import acted_on, map_named
+from .words import KINDS, WORDS
+
+
+class Stride(NamedTuple):
+    """One line of the walk."""
+
+    site: object
+    row: str
+    before: str
+    after: str
+    words: str
+    sums: str  # the conditions that move or ask for rights, with their fractions
+    refused: bool
+
+
+def strides(explanation):
+    """The walk's lines, in the order of the program sheet."""
+    return [_stride(site, explanation) for site in explanation.sites.all]
+
+
+def _stride(site, explanation):
+    split = explanation.sites.split
+    return Stride(
+        site,
+        site.row.text,
+        fractions(site.pre, split.denominator),
+        fractions(site.post, split.denominator),
+        in_words(site, explanation.sites, explanation.names),
+        sums(site, split, explanation.names),
+        site is explanation.site,
+    )
+
+
+# ---- In words
+
+
+def in_words(site, sites, names):
+    split = sites.split
+    does = WORDS[site.word].does
+    if site.word == "let" and site.number not in sites.used:
+        does = does.replace("let {variable} be", "do")
+    holder = acted_on(site) or site
+    return does.format(
+        variable=names.variable(site.number),
+        number=site.number,
+        type=_noun(site, names.variable(site.number), split, names),
+        thread=names.thread(site.body),
+        start=amounts(site.start, split, names),
+        load=_load(holder, split, names),
+        location=_place(holder, split, names),
+        thing=thing(holder, names),
+        cell=_cell(holder, split, names),
+        **{name: part.line for name, part in site.parts.items()},
+    )
+
+
+def amounts(numbers, split, names):
+    """What a map holds, in words: 1/2 of level and 2/2 of colour."""
+    if numbers is None:
+        return ""
+    held = [f"{fraction(a, split.denominator)} of {names.place(p)}" for p, a in enumerate(numbers) if a]
+    return listed(held) or "nothing"
+
+
+def thing(site, names):
+    """What a part stands for: its variable's name, or what stands on its line."""
+    return names.variable(site.number) if site.word == "var" else f"what line {site.line} gives"
+
+
+def _cell(site, split, names):
+    called = thing(site, names)
+    place = _place(site, split, names)
+    return called if called == place else f"{called}, of {place}"
+
+
+def _noun(site, called, split, names):
+    noun, place = KINDS[split.types[site.type].kind].noun, _place(site, split, names)
+    return noun if not _has(site, "location", split) or called == place else f"{noun} of {place}"
+
+
+def _load(site, split, names):
+    # A step behind the refused one may show a type of the wrong kind; then there is no load to tell.
+    return amounts(split.load(site.type), split, names) if _has(site, "load", split) else "?"
+
+
+def _place(site, split, names):
+    return names.place(split.types[site.type].first) if _has(site, "location", split) else "?"
+
+
+def _has(site, field, split):
+    return KINDS[split.types[site.type].kind].fields[0] == field
+
+
+# ---- In fractions
+
+
+def sums(site, split, names):
+    """The conditions of a step that move rights, or ask for them, at the locations where they do."""
+    told = []
+    for number, condition in enumerate(WORDS[site.word].conditions, 1):
+        finding = find(site, number, split, names)
+        if condition.mark == "T" and not finding.holds:
+            return ""
+        if condition.mark == "F" and " + " in condition.wording:
+            told += _equations(site, condition.wording, split, names)
+        if condition.mark == "A":
+            told.append(access_at(site, condition.wording, split) + " is false" * (not finding.holds))
+    return "; ".join(told)
+
+
+def _equations(site, wording, split, names):
+    moved = _moved(site, wording, split)
+    for location in moved:
+        where = f"{names.place(location)}: " if len(moved) > 1 else ""
+        is_false = " is false" * (not holds_at(site, wording, location, split))
+        yield where + equation(site, wording, location, split) + is_false
+
+
+def _moved(site, wording, split):
+    """The locations of which a step hands over some."""
+    left, _, right = sides(wording)
+    moved = [map_named(site, term, split) for term in left + right if term in ("s", "K")]
+    return [p for p in range(split.locations) if any(numbers[p] for numbers in moved)]
+
+
+# ---- As text
+
+
+def text(explanation):
+    """The walk as lines of text, the refused step marked."""
+    table = [("line", "thread", "step", "row", "before", "after", "in words")]
+    for stride in strides(explanation):
+        site = stride.site
+        words = f"{stride.words}: {stride.sums}" if stride.sums else stride.words
+        mark = ">" if stride.refused else " "
+        table.append((
+            f"{mark}{site.line}", explanation.names.thread_mark(site.thread), "  " * site.depth + f"{site.word},{site.number}",
+            stride.row, stride.before, stride.after, words))
+    widths = [max(len(row[column]) for row in table) for column in range(len(table[0]) - 1)]
+    lines = []
+    for row in table:
+        first = row[0].rjust(widths[0])
+        lines.append("  ".join([first, *(cell.ljust(width) for cell, width in zip(row[1:], widths[1:])), row[-1]]))
+    return lines

@@ -1,0 +1,134 @@
+"""The words of the program sheet and the kinds of types, as tables in the order of document 01.
+
+A new word is a row of WORDS, a new kind of type a row of KINDS. A condition stands here in document 01's own wording, and
+conditions.py computes it from that wording.
+"""
+from typing import NamedTuple
+
+
+class Kind(NamedTuple):
+    noun: str
+    fields: tuple  # what the two numbers of its type line are; None where the line shows 0
+
+
+KINDS = {
+    "int": Kind("a number", (None, None)),
+    "ref": Kind("a cell", ("location", "content")),
+    "lock": Kind("a lock", ("load", None)),
+    "tid": Kind("a thread identifier", ("load", None)),
+}
+
+
+class Condition(NamedTuple):
+    wording: str  # document 01's
+    mark: str  # T type, F flow, A access
+    plain: str  # the same for somebody who has not read document 01
+
+
+class Word(NamedTuple):
+    rule: str  # its name in Figure 5
+    number: str  # what its v is: a name in forms.RANGES
+    parts: dict  # document 01's name of each part, and the map it starts with
+    result: str  # its type, in words
+    does: str  # what the step does; walk.py puts the names and amounts in
+    conditions: tuple
+
+
+def _word(rule, number, parts, result, does, *conditions):
+    return Word(rule, number, parts, result, does, tuple(Condition(*condition) for condition in conditions))
+
+
+_INT = ("type int", "T", "its type is of the kind `int`")
+_KEEPS = ("post = pre", "F", "after equals before")
+_PART_KEEPS = ("post = post of part", "F", "after equals what its part leaves")
+_PART_A_LOCK = ("part a lock", "T", "its part is a lock")
+_TAKES = ("post = post of part + K", "F", "after equals what its part leaves plus the load")
+_GIVES = ("post + K = post of part", "F", "after plus the load equals what its part leaves")
+
+WORDS = {
+    "var": _word(
+        "VAR", "variable", {},
+        "that of what its `let` bound", "{variable}, {type}",
+        ("type is that of its let's e1", "T", "its type agrees with that of what its `let` bound"),
+        _KEEPS),
+    "int": _word(
+        "INT", "constant", {},
+        "`int`", "the number {number}",
+        _INT, _KEEPS),
+    "let": _word(
+        "LET", "variable", {"e1": "pre", "e2": "post of e1"},
+        "that of its second part", "let {variable} be line {e1}, then line {e2}",
+        ("type of e2", "T", "its type agrees with that of its second part"),
+        ("post = post of e2", "F", "after equals what its second part leaves")),
+    "if": _word(
+        "IF", "nothing", {"e1": "pre", "e2": "pre"},
+        "that of both its parts", "line {e1} or line {e2}, nobody says which",
+        ("type of e1", "T", "its type agrees with that of its first part"),
+        ("type of e2", "T", "its type agrees with that of its second part"),
+        ("post of e1 ≥ post", "F", "its first part leaves at least after"),
+        ("post of e2 ≥ post", "F", "its second part leaves at least after")),
+    "while": _word(
+        "WHILE", "nothing", {"part": "post"},
+        "`int`", "again and again, from line {part}",
+        _INT,
+        ("pre ≥ post", "F", "before is at least after"),
+        ("post of part ≥ post", "F", "a round leaves at least after, which is what it began with")),
+    "newtid": _word(
+        "NEWT", "nothing", {},
+        "a `tid` type", "a new identifier; a join on it hands over {load}",
+        ("a tid type", "T", "its type is of the kind `tid`"),
+        _KEEPS),
+    "spawn": _word(
+        "SPAWN", "nothing", {"e1": "pre", "e2": "s"},
+        "`int`", "start {thread} with {start}",
+        _INT,
+        ("e1 a tid", "T", "its first part is a thread identifier"),
+        ("post of e2 ≥ K", "F", "the body leaves at least the load of the identifier"),
+        ("post + s = post of e1", "F", "after plus what the body starts with equals what the first part leaves")),
+    "join": _word(
+        "JOIN", "nothing", {"part": "pre"},
+        "`int`", "wait for a thread of {thing} and get {load}",
+        _INT,
+        ("part a tid", "T", "its part is a thread identifier"),
+        _TAKES),
+    "ref": _word(
+        "REF", "nothing", {"part": "pre"},
+        "a `ref` type that holds its part's type", "a new cell of {location}",
+        ("a ref type whose c is the part's type", "T", "its type is a cell whose content agrees with the type of its part"),
+        _PART_KEEPS),
+    "read": _word(
+        "READ", "nothing", {"part": "pre"},
+        "that of the cell's content", "read {cell}",
+        ("part a ref", "T", "its part is a cell"),
+        ("type is c", "T", "its type agrees with the cell's content"),
+        _PART_KEEPS,
+        ("post at p > 0", "A", "after has more than 0 of the cell's location")),
+    "write": _word(
+        "WRITE", "nothing", {"e1": "pre", "e2": "post of e1"},
+        "`int`", "write {cell}",
+        _INT,
+        ("e1 a ref", "T", "its first part is a cell"),
+        ("type of e2 is c", "T", "the type of its second part agrees with the cell's content"),
+        ("post = post of e2", "F", "after equals what its second part leaves"),
+        ("post at p ≥ D", "A", "after has at least D of the cell's location")),
+    "newlock": _word(
+        "NEWL", "nothing", {},
+        "a `lock` type", "a new lock, which gets {load}",
+        ("a lock type", "T", "its type is of the kind `lock`"),
+        ("post + K = pre", "F", "after plus the load equals before")),
+    "lock": _word(
+        "LCK", "nothing", {"part": "pre"},
+        "`int`", "take {thing} and get {load}",
+        _INT, _PART_A_LOCK, _TAKES),
+    "freelock": _word(
+        "FREEL", "nothing", {"part": "pre"},
+        "`int`", "take {thing} for good and get {load}",
+        _INT, _PART_A_LOCK, _TAKES),
+    "unlock": _word(
+        "ULCK", "nothing", {"part": "pre"},
+        "`int`", "give back {thing} and with it {load}",
+        _INT, _PART_A_LOCK, _GIVES),
+}
+
+# The refusal's number for a false condition of each mark.
+NUMBER_OF = {"T": 31, "F": 32, "A": 33}
