@@ -22,7 +22,7 @@ use Rattle.practice.specs.Pair as pair
 
 -- the answers to n pairs, of k readers and upward; to unfold it is to unfold every definition on the way from k to an answer
 unfoldable pub answers : (k n : ℕ) → List Answer
-unfolding bytes same onLine lines onField fields digitLimit digits leadingZero value numeral _>>=_ demand seen inRange allInRange withNumeral numerals ranged numbers form outside miscounted passed nextLine next nextAll begin noneLeft end size withParts listed single among scope programLimit firstNumber countLine words lookUp valueRange stepOf wordLine stepLine program splitLimit headerOf headerLine refOf lockOf tidOf typeLine typeLines mapLine rowOf blank startRange rowLine split lowest atLeast _=ᵐ_ _≥ᵐ_ _+ᵐ_ share overWhole isInt isRef isLock isTid place load typeIn lineOf startMap typeAt mapAt agree contains row type kind post start K own preOfPart preOfSecond bind sites numbered claimsAt claims judge firstFalse workspaceSize refuseOver startAtMostOne ruled checked answer verdict digit digitsWithin decimal line text pair.step pair.spawn pair.spawns pair.join pair.joins pair.programSteps pair.programLines programText pair.header pair.typeLine pair.typeLines pair.fallingMaps pair.row pair.startRow pair.spawnRows pair.allSpawnRows pair.joinRows pair.allJoinRows pair.rows pair.splitLines splitText
+unfolding bytes same onLine lines onField fields digitLimit digits leadingZero value numeral _>>=_ demand seen inRange allInRange withNumeral numerals ranged numbers form outside miscounted passed nextLine next nextAll begin noneLeft end size withParts listed single among scope programLimit firstNumber countLine words lookUp valueRange stepOf wordLine stepLine program splitLimit headerOf headerLine refOf lockOf tidOf typeLine typeLines mapLine rowOf blank startRange rowLine split lowest atLeast _=ᵐ_ _≥ᵐ_ _+ᵐ_ share overWhole isInt isRef isLock isTid place load typeIn lineOf startMap typeAt mapAt agree contains row type kind post start K own preOfPart preOfSecond bind sites numbered claimsAt claims judge firstFalse workspaceSize refuseOver startAtMostOne ruled checked answer verdict digit digitsWithin decimal line text pair.step pair.lets pair.spawn pair.join pair.programSteps pair.programLines programText pair.header pair.typeLine pair.typeLines pair.fallingMaps pair.row pair.startRow pair.spawnRows pair.allSpawnRows pair.joinRows pair.allJoinRows pair.rows pair.splitLines splitText
 answers k zero = []
 answers k (suc n) = verdict workspaceSize (programText k) (splitText k) ∷ answers (k + 1) n
 

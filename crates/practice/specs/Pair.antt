@@ -13,22 +13,17 @@ use Rattle.practice.specs.Draw.{readersOf}
 unfoldable pub step : String → (v : ℕ) → List Field
 step word v = bytes word ∷ decimal v ∷ []
 
--- a reader of the cell, spawned on the identifier, in a let of its own that binds v
-unfoldable pub spawn : (v : ℕ) → List (List Field)
-spawn v = step "let" v ∷ step "spawn" 0 ∷ step "var" 1 ∷ step "read" 0 ∷ step "var" 0 ∷ []
+-- n lets, each around all that follows, with the same steps for their value; they bind the variables from v upward
+unfoldable pub lets : (value : List (List Field)) → (v n : ℕ) → List (List Field)
+lets value v zero = []
+lets value v (suc n) = step "let" v ∷ (value ++ lets value (v + 1) n)
 
--- n of them, around all that follows; they bind the variables from v upward
-unfoldable pub spawns : (v n : ℕ) → List (List Field)
-spawns v zero = []
-spawns v (suc n) = spawn v ++ spawns (v + 1) n
+-- a reader of the cell, spawned on the identifier
+unfoldable pub spawn : List (List Field)
+spawn = step "spawn" 0 ∷ step "var" 1 ∷ step "read" 0 ∷ step "var" 0 ∷ []
 
--- a join of the identifier, likewise
-unfoldable pub join : (v : ℕ) → List (List Field)
-join v = step "let" v ∷ step "join" 0 ∷ step "var" 1 ∷ []
-
-unfoldable pub joins : (v n : ℕ) → List (List Field)
-joins v zero = []
-joins v (suc n) = join v ++ joins (v + 1) n
+unfoldable pub join : List (List Field)
+join = step "join" 0 ∷ step "var" 1 ∷ []
 
 -- "a cell holding 0 and an identifier, spawns k readers on that identifier, joins k times, then writes 1"; "variables are
 -- numbered in binding order from 0": the cell is 0, the identifier 1
@@ -36,8 +31,8 @@ unfoldable pub programSteps : (k : ℕ) → List (List Field)
 programSteps k =
     step "let" 0 ∷ step "ref" 0 ∷ step "int" 0
     ∷ step "let" 1 ∷ step "newtid" 0
-    ∷ (spawns 2 k
-    ++ (joins (2 + k) k
+    ∷ (lets spawn 2 k
+    ++ (lets join (2 + k) k
     ++ (step "write" 0 ∷ step "var" 0 ∷ step "int" 1 ∷ [])))
 
 -- `P,n`, n the number of steps
