@@ -9,7 +9,7 @@ use borrow.Author.Tests.{eqb-true, eqb-false, ltb-true, ltb-false}
 use Rattle.spec.specs.Workspace.{workspaceSize}
 use Rattle.spec.specs.Verdict.{verdict}
 use Rattle.spec.specs.declared.Answer.the-variants.{Accept}
-use Rattle.practice.specs.Draw.{drawn, readers, readersOf, Drawable}
+use Rattle.practice.specs.Draw.{readers, readersOf, Drawable}
 use Rattle.practice.specs.Pair.{programText, splitText, programOf, splitOf}
 use Rattle.practice.proofs.Table.{answers, Accepted, from-1, from-13, from-19, from-24, from-28}
 
@@ -53,4 +53,4 @@ readers-drawable x = let small : x / 65536 % 31 < 31 = mod-lt (x / 65536) (lit< 
 
 pub seed-accepted : (seed : ℕ) → verdict workspaceSize (programOf seed) (splitOf seed) ≡ Accept
 unfolding programOf splitOf readersOf
-seed-accepted seed = pair-accepted (readers-drawable (drawn seed))
+seed-accepted seed = pair-accepted (readers-drawable _)
