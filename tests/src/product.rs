@@ -1,9 +1,10 @@
-//! The call of the product through its C entry.
-//! Without the library (see `build.rs`) the second checker stands in, so that all else still runs.
+//! The calls of the product through its C entries.
+//! Without the library (see `build.rs`) the second checker and the second drill stand in, so that all else still runs.
 
 use crate::answer::Returned;
 #[cfg(not(product))]
 use crate::answer::WORK_SPACE;
+use crate::drill::Drilled;
 
 /// Whether the product itself is linked.
 pub const LINKED: bool = cfg!(product);
@@ -20,6 +21,17 @@ extern "C" {
         line: *mut u32,
         condition: *mut u32,
         location: *mut u32,
+    ) -> u32;
+
+    fn racecheck_drill(
+        seed: u32,
+        program: *mut u8,
+        program_len: usize,
+        split: *mut u8,
+        split_len: usize,
+        next: *mut u32,
+        program_length: *mut u32,
+        split_length: *mut u32,
     ) -> u32;
 }
 
@@ -52,4 +64,31 @@ pub fn check(program: &[u8], split: &[u8], work: &mut [u32]) -> Returned {
         work[..WORK_SPACE].fill(0);
     }
     returned
+}
+
+/// Calls the product's drill on two lent buffers.
+#[cfg(product)]
+pub fn drill(seed: u32, program: &mut [u8], split: &mut [u8]) -> Drilled {
+    // What is stored must overwrite this.
+    let mut drilled = Drilled { number: 1, next: 1, program: 1, split: 1 };
+    // The two slices and the three places are live and apart for the whole call.
+    drilled.number = unsafe {
+        racecheck_drill(
+            seed,
+            program.as_mut_ptr(),
+            program.len(),
+            split.as_mut_ptr(),
+            split.len(),
+            &mut drilled.next,
+            &mut drilled.program,
+            &mut drilled.split,
+        )
+    };
+    drilled
+}
+
+/// Stands in for the product: the second drill.
+#[cfg(not(product))]
+pub fn drill(seed: u32, program: &mut [u8], split: &mut [u8]) -> Drilled {
+    crate::drill::drill(seed, program, split)
 }
