@@ -19,7 +19,7 @@ fn bytes(sheet: &str) -> Vec<u8> {
 }
 
 /// Figure 2 (b), document 01's P.
-const P: &str = "P,16|let,0|ref,0|int,0|let,1|newtid,0|let,2|spawn,0|var,1|read,0|var,0|let,3|join,0|var,1|\
+pub(crate) const P: &str = "P,16|let,0|ref,0|int,0|let,1|newtid,0|let,2|spawn,0|var,1|read,0|var,0|let,3|join,0|var,1|\
                  write,0|var,0|int,1|";
 /// The tiny split.
 const Z: &str = "C,1,1,1,1|int,0,0|0|0,0,|";

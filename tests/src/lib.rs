@@ -1,11 +1,12 @@
 //! Evidence beside the proofs: a second checker, drawn pairs of sheets, an interpreter of the
-//! language's steps, and the call of the product that they are compared with.
+//! language's steps, a second drill, and the calls of the product that they are compared with.
 //! "Document 01" in the comments is the specification of the two sheets and their answers, "document
 //! 02" the list of requests that change it, cited by their numbers.
 
 pub mod answer;
 pub mod comparison;
 pub mod draw;
+pub mod drill;
 pub mod known;
 pub mod product;
 pub mod second;

@@ -1,6 +1,7 @@
-//! The call of the product through its C entry, where the library is linked (see `build.rs`).
+//! The calls of the product through its C entries, where the library is linked (see `build.rs`).
 
 use crate::comparison::Checker;
+use crate::drill::Driller;
 
 /// The product's check, if the library is linked.
 #[cfg(product)]
@@ -8,12 +9,19 @@ pub const CHECK: Option<Checker> = Some(linked::check);
 #[cfg(not(product))]
 pub const CHECK: Option<Checker> = None;
 
+/// The product's drill, if the library is linked.
+#[cfg(product)]
+pub const DRILL: Option<Driller> = Some(linked::drill);
+#[cfg(not(product))]
+pub const DRILL: Option<Driller> = None;
+
 /// What a command that needs the product says before it fails without it.
 pub const NOT_LINKED: &str = "the product is not linked: name the folder of its library in RACECHECK_LIB_DIR";
 
 #[cfg(product)]
 mod linked {
     use crate::answer::Returned;
+    use crate::drill::Drilled;
 
     extern "C" {
         fn racecheck_check(
@@ -26,6 +34,17 @@ mod linked {
             line: *mut u32,
             condition: *mut u32,
             location: *mut u32,
+        ) -> u32;
+
+        fn racecheck_drill(
+            seed: u32,
+            program: *mut u8,
+            program_len: usize,
+            split: *mut u8,
+            split_len: usize,
+            next: *mut u32,
+            program_length: *mut u32,
+            split_length: *mut u32,
         ) -> u32;
     }
 
@@ -47,5 +66,25 @@ mod linked {
             )
         };
         returned
+    }
+
+    /// Calls the product's drill on two lent buffers.
+    pub fn drill(seed: u32, program: &mut [u8], split: &mut [u8]) -> Drilled {
+        // What is stored must overwrite this.
+        let mut drilled = Drilled { number: 1, next: 1, program: 1, split: 1 };
+        // The two slices and the three places are live and apart for the whole call.
+        drilled.number = unsafe {
+            racecheck_drill(
+                seed,
+                program.as_mut_ptr(),
+                program.len(),
+                split.as_mut_ptr(),
+                split.len(),
+                &mut drilled.next,
+                &mut drilled.program,
+                &mut drilled.split,
+            )
+        };
+        drilled
     }
 }

@@ -91,24 +91,3 @@ pub fn check(program: &[u8], split: &[u8], work: &mut [u32]) -> Answer
     workspace::clear(&mut work[..16384]);
     a
 }
-
-// The same for callers in Rust and C: the number is returned, and the other three are stored.
-#[no_mangle]
-pub extern "C" fn racecheck_check(
-    program: &[u8],
-    split: &[u8],
-    work: &mut [u32],
-    line: &mut u32,
-    condition: &mut u32,
-    location: &mut u32,
-) -> u32
-    ensures answer { λ n. ⌜ four n (now (line .exit)) (now (condition .exit)) (now (location .exit)) ≡ returned (verdict (length (now (work .entry))) (now (program .entry)) (now (split .entry))) ⌝ }
-    ensures cleared { λ n. ⌜ now (work .exit) ≡ workspaceAfter (now (work .entry)) ⌝ }
-    ensures unchanged { λ n. ⌜ (now (program .exit) ≡ now (program .entry)) × (now (split .exit) ≡ now (split .entry)) ⌝ }
-{
-    let four = numbers_of(check(program, split, work));
-    *line = four.line;
-    *condition = four.condition;
-    *location = four.location;
-    four.number
-}

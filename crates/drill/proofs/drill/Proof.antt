@@ -1,0 +1,86 @@
+use mathlib.Core.Path.{ap, _∙_}
+use native.Mathlib.Omega.{arith}
+use lib.ListN.{length}
+use borrow.Author.Needs.{needs}
+use Rattle.practice.proofs.Accepted.{readers-drawable}
+use Rattle.drill.proofs.Drilling.{program-of, split-of, program-short, split-short, both-written}
+use Rattle.drill.proofs.drill.Statement.{statement}
+use Rattle.drill.proofs.drill.Tie as tie
+
+draw-requires : tie.Need-draw-requires
+draw-requires c κs = search needs
+
+readers-requires : tie.Need-readers-requires
+readers-requires c κs = search needs
+
+program-length-requires : tie.Need-program-length-requires
+program-length-requires c κs = rw (c .readers .ensures) (readers-drawable _)
+
+split-length-requires : tie.Need-split-length-requires
+split-length-requires c κs = rw (c .before .readers .ensures) (readers-drawable _)
+
+cast-if1 : tie.Need-cast-if1
+cast-if1 c = search needs
+
+returns : tie.Need-returns
+returns c =
+    let sizes = c .before in
+    let k = sizes .before .before in
+    let p = program-of _ _ _ (k .before .draw .ensures) (k .readers .ensures) in
+    program-short _ _ _ (omega (arith, sizes .before .program-length .ensures, ap length p))
+
+cast-if2 : tie.Need-cast-if2
+cast-if2 c = search needs
+
+returns-2 : tie.Need-returns-2
+returns-2 c =
+    let sizes = c .before .before in
+    let k = sizes .before .before in
+    let q = split-of _ _ _ (k .before .draw .ensures) (k .readers .ensures) in
+    split-short _ _ _ (omega (arith, sizes .split-length .ensures, ap length q))
+
+write-program-requires : tie.Need-write-program-requires
+write-program-requires c κs = rw (c .before .before .before .before .before .readers .ensures) (readers-drawable _)
+
+write-split-requires : tie.Need-write-split-requires
+write-split-requires c κs = rw (c .before .before .before .before .before .before .before .before .before .readers .ensures) (readers-drawable _)
+
+same-length : tie.Need-same-length
+same-length c = search needs
+
+same-length-2 : tie.Need-same-length-2
+same-length-2 c = search needs
+
+returns-3 : tie.Need-returns-3
+returns-3 c =
+    let wrote = c .before .before in
+    let first = wrote .before .before .before .before in
+    let test = first .before .before in
+    let sizes = test .before .before in
+    let k = sizes .before .before in
+    let p = program-of _ _ _ (k .before .draw .ensures) (k .readers .ensures) in
+    let q = split-of _ _ _ (k .before .draw .ensures) (k .readers .ensures) in
+    both-written _ _ _ _ _ _ _ _ (k .before .draw .ensures)
+    (sizes .before .program-length .ensures ∙ ap length p)
+    (sizes .split-length .ensures ∙ ap length q)
+    (test .before .if1 .left) (test .if2 .left)
+    (first .write-program .ensures .holds ∙ rw p)
+    (wrote .write-split .ensures .holds ∙ rw q)
+
+pub drill-spec : {M : Type 1} → statement M
+drill-spec =
+    tie.close
+    (tie.spec
+    draw-requires
+    readers-requires
+    program-length-requires
+    split-length-requires
+    cast-if1
+    returns
+    cast-if2
+    returns-2
+    write-program-requires
+    write-split-requires
+    same-length
+    same-length-2
+    returns-3)

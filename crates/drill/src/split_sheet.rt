@@ -1,0 +1,118 @@
+// The split sheet of a practice pair.
+use writer::write_byte;
+use writer::write_bytes;
+use writer::write_field;
+ghost use mathlib.Core.List.{[], _∷_};
+ghost use Prim.Native.Nat.{_≤_};
+ghost use Rattle.writer.specs.Text.{text};
+ghost use Rattle.writer.specs.Buffer.{Written};
+ghost use Rattle.practice.specs.Draw.{Drawable};
+ghost use Rattle.practice.specs.Pair.{header, typeLines, row, startRow, fallingMaps, spawnRows, allSpawnRows, joinRows, allJoinRows, splitText};
+
+// Writes a row without a start.
+fn write_row(buffer: &mut [u8], at: usize, t: u64, m: u64) -> usize
+    ensures { λ r. ⌜ Written (now (buffer .entry)) (now (buffer .exit)) at (text (row t m ∷ [])) r ⌝ }
+{
+    let typed = write_field(buffer, at, t, b',');
+    let left = write_field(buffer, typed, m, b',');
+    write_byte(buffer, left, b'\n')
+}
+
+// Writes a row with a start.
+fn write_start_row(buffer: &mut [u8], at: usize, t: u64, m: u64, s: u64) -> usize
+    ensures { λ r. ⌜ Written (now (buffer .entry)) (now (buffer .exit)) at (text (startRow t m s ∷ [])) r ⌝ }
+{
+    let typed = write_field(buffer, at, t, b',');
+    let left = write_field(buffer, typed, m, b',');
+    write_field(buffer, left, s, b'\n')
+}
+
+// Writes so many maps, the last of which holds 0.
+fn write_maps(buffer: &mut [u8], at: usize, count: u64) -> usize
+    ensures { λ r. ⌜ Written (now (buffer .entry)) (now (buffer .exit)) at (text (fallingMaps count)) r ⌝ }
+{
+    let mut to = at;
+    let mut n = count;
+    while 0 < n {
+        n -= 1;
+        to = write_field(buffer, to, n, b'\n');
+    }
+    to
+}
+
+// Writes the rows of a spawn with map m before it.
+fn write_spawn_rows(buffer: &mut [u8], at: usize, share: u64, m: u64) -> usize
+    requires { ⌜ m ≤ 31 ⌝ }
+    ensures { λ r. ⌜ Written (now (buffer .entry)) (now (buffer .exit)) at (text (spawnRows share m)) r ⌝ }
+{
+    let bound = write_row(buffer, at, 0, 0);
+    let spawned = write_start_row(buffer, bound, 0, m + 1, share);
+    let named = write_row(buffer, spawned, 2, m);
+    let read = write_row(buffer, named, 0, share);
+    write_row(buffer, read, 1, share)
+}
+
+// Writes the rows of so many spawns, the first with map 0 before it.
+fn write_all_spawn_rows(buffer: &mut [u8], at: usize, share: u64, count: u64) -> usize
+    requires { ⌜ count ≤ 31 ⌝ }
+    ensures { λ r. ⌜ Written (now (buffer .entry)) (now (buffer .exit)) at (text (allSpawnRows share 0 count)) r ⌝ }
+{
+    let mut to = at;
+    let mut m = 0;
+    while m < count {
+        to = write_spawn_rows(buffer, to, share, m);
+        m += 1;
+    }
+    to
+}
+
+// Writes the rows of a join with map m behind it.
+fn write_join_rows(buffer: &mut [u8], at: usize, m: u64) -> usize
+    requires { ⌜ m ≤ 31 ⌝ }
+    ensures { λ r. ⌜ Written (now (buffer .entry)) (now (buffer .exit)) at (text (joinRows m)) r ⌝ }
+{
+    let bound = write_row(buffer, at, 0, 0);
+    let joined = write_row(buffer, bound, 0, m);
+    write_row(buffer, joined, 2, m + 1)
+}
+
+// Writes the rows of so many joins, the last with map 0 behind it.
+fn write_all_join_rows(buffer: &mut [u8], at: usize, count: u64) -> usize
+    requires { ⌜ count ≤ 31 ⌝ }
+    ensures { λ r. ⌜ Written (now (buffer .entry)) (now (buffer .exit)) at (text (allJoinRows count)) r ⌝ }
+{
+    let mut to = at;
+    let mut n = count;
+    while 0 < n {
+        n -= 1;
+        to = write_join_rows(buffer, to, n);
+    }
+    to
+}
+
+// Writes the header and the type lines of k readers, and hands back the place behind them.
+fn write_head(buffer: &mut [u8], k: u64) -> usize
+    requires { ⌜ Drawable k ⌝ }
+    ensures { λ r. ⌜ Written (now (buffer .entry)) (now (buffer .exit)) 0 (text (header k ∷ typeLines k)) r ⌝ }
+{
+    let headed = write_bytes(buffer, 0, b"C,");
+    let whole = write_field(buffer, headed, k, b',');
+    let sorted = write_bytes(buffer, whole, b"1,3,");
+    let counted = write_field(buffer, sorted, k + 1, b'\n');
+    let typed = write_bytes(buffer, counted, b"int,0,0\nref,0,0\ntid,");
+    let lent = write_field(buffer, typed, k - 1, b',');
+    write_bytes(buffer, lent, b"0\n")
+}
+
+// Writes the split text of k readers, and hands back its length.
+pub fn write_split(buffer: &mut [u8], k: u64) -> usize
+    requires { ⌜ Drawable k ⌝ }
+    ensures { λ r. ⌜ Written (now (buffer .entry)) (now (buffer .exit)) 0 (splitText k) r ⌝ }
+{
+    let headed = write_head(buffer, k);
+    let mapped = write_maps(buffer, headed, k + 1);
+    let made = write_bytes(buffer, mapped, b"0,0,\n1,0,\n0,0,\n0,0,\n2,0,\n");
+    let spawned = write_all_spawn_rows(buffer, made, k - 1, k);
+    let joined = write_all_join_rows(buffer, spawned, k);
+    write_bytes(buffer, joined, b"0,0,\n1,0,\n0,0,\n")
+}

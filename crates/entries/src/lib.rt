@@ -1,0 +1,66 @@
+// The offered calls for callers in Rust and C, one entry each: the number is returned, and the other three numbers of an answer
+// are stored.
+use drill::Drilled;
+ghost use mathlib.Core.Path.{_≡_};
+ghost use lib.ListN.{length, take};
+ghost use Rattle.spec.specs.Verdict.{verdict, returned, four};
+ghost use Rattle.spec.specs.Workspace.{workspaceSize, workspaceAfter};
+ghost use Rattle.spec.specs.declared.Answer.the-variants.{Accept};
+ghost use Rattle.practice.specs.Pair.{programOf, splitOf};
+ghost use Rattle.drill.specs.Answer.{numbered, answerOf, inFront};
+
+// The answer to a pair of texts: `check` of the crate `checker`.
+#[no_mangle]
+pub extern "C" fn racecheck_check(
+    program: &[u8],
+    split: &[u8],
+    work: &mut [u32],
+    line: &mut u32,
+    condition: &mut u32,
+    location: &mut u32,
+) -> u32
+    ensures answer { λ n. ⌜ four n (now (line .exit)) (now (condition .exit)) (now (location .exit)) ≡ returned (verdict (length (now (work .entry))) (now (program .entry)) (now (split .entry))) ⌝ }
+    ensures cleared { λ n. ⌜ now (work .exit) ≡ workspaceAfter (now (work .entry)) ⌝ }
+    ensures unchanged { λ n. ⌜ (now (program .exit) ≡ now (program .entry)) × (now (split .exit) ≡ now (split .entry)) ⌝ }
+{
+    let four = checker::numbers_of(checker::check(program, split, work));
+    *line = four.line;
+    *condition = four.condition;
+    *location = four.location;
+    four.number
+}
+
+// The practice pair of a seed: `drill` of the crate `drill`. On 38 the three numbers stored are 0.
+#[no_mangle]
+pub extern "C" fn racecheck_drill(
+    seed: u32,
+    program: &mut [u8],
+    split: &mut [u8],
+    next: &mut u32,
+    program_length: &mut u32,
+    split_length: &mut u32,
+) -> u32
+    ensures answer { λ n. ⌜ numbered n (now (next .exit)) (now («program_length» .exit)) (now («split_length» .exit)) ≡ answerOf seed (length (now (program .entry))) (length (now (split .entry))) ⌝ }
+    ensures written { λ n. ⌜ (n ≡ 0 → (now (program .exit) ≡ inFront (programOf seed) (now (program .entry))) × (now (split .exit) ≡ inFront (splitOf seed) (now (split .entry)))) ⌝ }
+    ensures unchanged { λ n. ⌜ (n ≡ 38 → (now (program .exit) ≡ now (program .entry)) × (now (split .exit) ≡ now (split .entry))) ⌝ }
+    ensures accepted { λ n. ⌜ (n ≡ 0 → verdict workspaceSize (take (now («program_length» .exit)) (now (program .exit))) (take (now («split_length» .exit)) (now (split .exit))) ≡ Accept) ⌝ }
+{
+    match drill::drill(seed, program, split) {
+        Drilled::Made {
+            next: x,
+            program: p,
+            split: s,
+        } => {
+            *next = x;
+            *program_length = p;
+            *split_length = s;
+            0
+        }
+        Drilled::Short => {
+            *next = 0;
+            *program_length = 0;
+            *split_length = 0;
+            38
+        }
+    }
+}

@@ -1,0 +1,90 @@
+// Writing texts into lent buffers: bytes, byte strings and numerals at a place. A byte past the end of a buffer is left out
+// and counted all the same, so a writer run over an empty buffer tells how long its text is.
+ghost use mathlib.Core.Path.{_≡_};
+ghost use mathlib.Core.List.{[], _∷_, _++_, map};
+ghost use Prim.Native.Nat.{_+_, _≤_};
+ghost use lib.ListN.{length};
+ghost use Rattle.writer.specs.Text.{digit as digitOf, decimal, line};
+ghost use Rattle.writer.specs.Buffer.{Written, counted};
+
+// The last place that is counted.
+const LAST: usize = 0xffff_ffff_ffff_ffff;
+
+// The place behind a place.
+fn behind(at: usize) -> usize
+    ensures { λ r. ⌜ r ≡ counted (at + 1) ⌝ }
+{
+    if at == LAST {
+        return LAST;
+    }
+    at + 1
+}
+
+// Puts a byte at a place, and hands back the next place.
+pub fn write_byte(buffer: &mut [u8], at: usize, byte: u8) -> usize
+    ensures { λ r. ⌜ Written (now (buffer .entry)) (now (buffer .exit)) at (byte ∷ []) r ⌝ }
+{
+    if buffer.len() <= at {
+        return behind(at);
+    }
+    buffer[at] = byte;
+    at + 1
+}
+
+// Puts a byte string at a place, and hands back the place behind it.
+pub fn write_bytes(buffer: &mut [u8], at: usize, bytes: &[u8]) -> usize
+    ensures { λ r. ⌜ Written (now (buffer .entry)) (now (buffer .exit)) at (now (bytes .entry)) r ⌝ }
+{
+    let mut to = at;
+    let mut i = 0;
+    while i < bytes.len() {
+        let byte = bytes[i];
+        to = write_byte(buffer, to, byte);
+        i += 1;
+    }
+    to
+}
+
+// The last digit of a number.
+fn digit(n: u64) -> u8
+    ensures { λ r. ⌜ r ≡ digitOf n ⌝ }
+{
+    b'0' + (n % 10) as u8
+}
+
+// Puts a numeral at a place, and hands back the place behind it: the digits in front of the last, then the last.
+pub fn write_numeral(buffer: &mut [u8], at: usize, n: u64) -> usize
+    ensures { λ r. ⌜ Written (now (buffer .entry)) (now (buffer .exit)) at (decimal n) r ⌝ }
+{
+    let last = digit(n);
+    if n < 10 {
+        return write_byte(buffer, at, last);
+    }
+    let to = write_numeral(buffer, at, n / 10);
+    write_byte(buffer, to, last)
+}
+
+// Puts a numeral and the byte that ends its field at a place, and hands back the place behind them.
+pub fn write_field(buffer: &mut [u8], at: usize, n: u64, end: u8) -> usize
+    ensures { λ r. ⌜ Written (now (buffer .entry)) (now (buffer .exit)) at (decimal n ++ (end ∷ [])) r ⌝ }
+{
+    let to = write_numeral(buffer, at, n);
+    write_byte(buffer, to, end)
+}
+
+// Puts a line of numerals at a place, and hands back the place behind it.
+pub fn write_numbers(buffer: &mut [u8], at: usize, numbers: &[u32]) -> usize
+    requires { ⌜ 1 ≤ length (now numbers) ⌝ }
+    ensures { λ r. ⌜ Written (now (buffer .entry)) (now (buffer .exit)) at (line (map decimal (now (numbers .entry))) []) r ⌝ }
+{
+    let last = numbers.len() - 1;
+    let mut to = at;
+    let mut i = 0;
+    while i < last {
+        let n = numbers[i];
+        to = write_field(buffer, to, n as u64, b',');
+        i += 1;
+    }
+    let n = numbers[i];
+    write_field(buffer, to, n as u64, b'\n')
+}
