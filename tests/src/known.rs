@@ -50,6 +50,20 @@ const P_AFRESH: &str = "C,2,1,20,20|int,0,0|int,0,0|ref,0,1|int,0,0|tid,3,0|int,
 const SAME_LOCK: &str = "P,3|let,0|newlock,0|var,0|";
 const SAME_CELL: &str = "P,4|let,0|ref,0|int,0|var,0|";
 
+/// Document 01's S with its two maps the other way round.
+macro_rules! split_from_map_1 {
+    ($spawn:literal) => {
+        concat!(
+            "C2,2,1,3,2,1|int,0,0|ref,0,0|tid,0,0|1|2|0,1,|1,1,|0,1,|0,1,|2,1,|0,1,|",
+            $spawn,
+            "|2,1,|0,0,|1,0,|0,1,|0,1,|2,0,|0,1,|1,1,|0,1,|"
+        )
+    };
+}
+const P_FROM_MAP_1: &str = split_from_map_1!("0,0,0");
+/// An empty start is map 0 here too, not the map that the program starts with.
+const P_FROM_MAP_1_WITHOUT_START: &str = split_from_map_1!("0,0,");
+
 /// Figure 2 (a), with half of the cell for each thread: the write asks for the whole.
 const RACY: Known = pair(
     "P,11|let,0|ref,0|int,0|let,1|spawn,0|newtid,0|read,0|var,0|write,0|var,0|int,1|",
@@ -206,6 +220,22 @@ pub const KNOWN: &[Known] = &[
     split("C,1,1,1,1|int,0,0|0|0,0,4294967296|", "REFUSE,22,4,0,0"),
     split("C,1,1,1,1|int,0,0|0|0,0,10000000000|", "REFUSE,21,4,0,0"),
     pair("P,1|newlock,0|", "C,1,1,1,2|lock,1,0|0|1000000000|0,1,|", "REFUSE,32,2,2,0"),
+    // The start written out, request (iv). The form of all fields comes before the range of any.
+    pair(P, P_FROM_MAP_1, "ACCEPT"),
+    split("C2,1,1,1,1,0|int,0,0|0|0,0,|", "ACCEPT"),
+    split("C2,1,1,1,1,1|int,0,0|0|0,0,|", "REFUSE,22,1,0,0"),
+    split("C2,1,1,1,1|int,0,0|0|0,0,|", "REFUSE,21,1,0,0"),
+    split("C2,1,1,1,1,|int,0,0|0|0,0,|", "REFUSE,21,1,0,0"),
+    split("C2,0,1,1,1,x|", "REFUSE,21,1,0,0"),
+    split("C2,1,1,1,1,0,|", "REFUSE,21,1,0,0"),
+    split("C,1,1,1,1,0|int,0,0|0|0,0,|", "REFUSE,21,1,0,0"),
+    split("C22,1,1,1,1,0|int,0,0|0|0,0,|", "REFUSE,21,1,0,0"),
+    split("C1,1,1,1,1|int,0,0|0|0,0,|", "REFUSE,21,1,0,0"),
+    split("C3,1,1,1,1,0|int,0,0|0|0,0,|", "REFUSE,21,1,0,0"),
+    split("C2,1,1,1,2,1|int,0,0|2|0|0,1,|", "ACCEPT"),
+    split("C2,1,2,1,2,1|int,0,0|0,0|1,2|0,1,|", "REFUSE,30,2,0,1"),
+    split("C2,1,1,1,2,1|int,0,0|1|0|0,0,|", "REFUSE,32,2,2,0"),
+    pair(P, P_FROM_MAP_1_WITHOUT_START, "ACCEPT"),
     // Types agree by structure, request (i): any two ints, maps by their numbers, refs by location and content.
     split("C,1,1,2,1|int,0,0|int,0,0|0|1,0,|", "ACCEPT"),
     pair("P,3|let,0|int,0|var,0|", "C,1,1,2,1|int,0,0|int,0,0|0|1,0,|0,0,|1,0,|", "ACCEPT"),

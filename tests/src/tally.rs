@@ -10,6 +10,9 @@ use std::fmt;
 /// Every number that an answer can have.
 pub const NUMBERS: [u32; 16] = [0, 1, 10, 11, 12, 13, 14, 15, 20, 21, 22, 23, 30, 31, 32, 33];
 
+/// How line 1 of a split can open.
+const HEADINGS: [&str; 2] = ["C", "C2"];
+
 /// How many pairs met each answer.
 #[derive(Default)]
 pub struct Tally {
@@ -18,6 +21,8 @@ pub struct Tally {
     conditions: BTreeMap<(Word, u32), u64>,
     /// How many pairs were drawn in each way, and how many of them were accepted.
     origins: BTreeMap<&'static str, (u64, u64)>,
+    /// How many were accepted under each heading.
+    headings: BTreeMap<&'static str, u64>,
 }
 
 impl Tally {
@@ -27,6 +32,11 @@ impl Tally {
         let origin = self.origins.entry(drawn.origin).or_default();
         origin.0 += 1;
         origin.1 += u64::from(returned.number == 0);
+        let heading = drawn.split.split(|&byte| byte == b',').next().unwrap_or_default();
+        let heading = HEADINGS.iter().find(|known| known.as_bytes() == heading);
+        if let Some(heading) = heading.filter(|_| returned.number == 0) {
+            *self.headings.entry(heading).or_default() += 1;
+        }
         if let Some(condition) = broken(&drawn.program, returned) {
             *self.conditions.entry(condition).or_default() += 1;
         }
@@ -40,12 +50,16 @@ impl Tally {
         self.numbers.get(&number).copied().unwrap_or(0)
     }
 
+    fn under(&self, heading: &str) -> u64 {
+        self.headings.get(heading).copied().unwrap_or(0)
+    }
+
     fn met(&self, word: Word, condition: u32) -> u64 {
         self.conditions.get(&(word, condition)).copied().unwrap_or(0)
     }
 
-    /// What the series should have met and did not: every number, every condition, and a third of the
-    /// pairs accepted.
+    /// What the series should have met and did not: every number, every condition, every heading, and a
+    /// third of the pairs accepted.
     pub fn missed(&self) -> Vec<String> {
         let numbers = NUMBERS.iter().filter(|&&number| self.with_number(number) == 0);
         let mut missed: Vec<String> = numbers.map(|number| format!("number {number}")).collect();
@@ -53,6 +67,8 @@ impl Tally {
             let conditions = (1..=word.conditions()).filter(|&condition| self.met(word, condition) == 0);
             missed.extend(conditions.map(|condition| format!("condition {condition} of {}", word.spelling())));
         }
+        let headings = HEADINGS.iter().filter(|heading| self.under(heading) == 0);
+        missed.extend(headings.map(|heading| format!("a {heading} sheet accepted")));
         if 3 * self.accepted() < self.pairs {
             missed.push("a third of the pairs accepted".to_string());
         }
@@ -64,6 +80,9 @@ impl fmt::Display for Tally {
     fn fmt(&self, out: &mut fmt::Formatter<'_>) -> fmt::Result {
         for (origin, (drawn, accepted)) in &self.origins {
             writeln!(out, "  {origin:14} {drawn:7} drawn {accepted:7} accepted")?;
+        }
+        for heading in HEADINGS {
+            writeln!(out, "  {heading:2} sheets {:7} accepted", self.under(heading))?;
         }
         for number in NUMBERS {
             writeln!(out, "  number {number:2} {:7}", self.with_number(number))?;

@@ -98,8 +98,8 @@ def _condition_finding(explanation, line, condition, location):
     explanation.location = location
     if explanation.number == 30:
         over = [p for p, number in enumerate(split.root_start()) if number > split.denominator]
-        explanation.maps = [("map 0, the start", split.root_start())]
-        require(over[:1] == [location], f"map 0 is over D at {over}, racecheck says location {location}")
+        explanation.maps = [(f"map {split.start}, the start", split.root_start())]
+        require(over[:1] == [location], f"map {split.start} is over D at {over}, racecheck says location {location}")
         explanation.numbers = [
             f"at {names.location(p)}: {fraction(split.root_start()[p], split.denominator)} is more than the whole" for p in over]
         return

@@ -38,7 +38,7 @@ IN_A_MAP = Range("a number in a map", 0, WHOLE)
 
 
 class OneOf(NamedTuple):
-    """A field that is a fixed word."""
+    """A first field, which is a fixed word."""
 
     what: str
     words: tuple
@@ -90,7 +90,7 @@ def counts_of(header):
 def split_fields(number, fields, counts, words):
     """`words` are those of the job's steps: an s stands on a spawn alone."""
     if number == 1:
-        return [OneOf("`C`", ("C",)), *COUNTS]
+        return _head_fields(fields)
     if number <= 1 + counts.types:
         return _type_fields(number - 2, fields, counts)
     if number <= 1 + counts.types + counts.maps:
@@ -99,6 +99,15 @@ def split_fields(number, fields, counts, words):
     a_map = numbered("a map", counts.maps)
     last = Optional(a_map) if word == "spawn" else Absent(f"the last field on `{word}`, which is no spawn,")
     return [numbered("a type", counts.types), a_map, last]
+
+
+def _head_fields(fields):
+    """A C2 line names the start as well, one of its M maps."""
+    start = []
+    if fields[0] == b"C2":
+        maps = int(fields[4]) if len(fields) > 4 and NUMERAL.fullmatch(fields[4]) else 1
+        start = [Range(f"the start r, with M = {grouped(maps)},", 0, maps - 1)]
+    return [OneOf("`C` or `C2`", ("C", "C2")), *COUNTS, *start]
 
 
 def _type_fields(own, fields, counts):
@@ -124,13 +133,12 @@ def _form_fault(line, wanted):
     fields = line.text.split(b",")
     if not line.closed:
         return Fault("form", "the line is not closed by byte 10")
+    if isinstance(wanted[0], OneOf) and fields[0].decode("latin-1") not in wanted[0].words:
+        return Fault("form", f"\"{shown(fields[0])}\" is not {wanted[0].what}")
     if len(fields) != len(wanted):
         return Fault("form", f"it has {len(fields)} field{'s' * (len(fields) > 1)}, not {len(wanted)}")
     for field, want in zip(fields, wanted):
-        if isinstance(want, OneOf):
-            if field.decode("latin-1") not in want.words:
-                return Fault("form", f"\"{shown(field)}\" is not {want.what}")
-        elif not NUMERAL.fullmatch(field) and (field or isinstance(want, Range)):
+        if not isinstance(want, OneOf) and not NUMERAL.fullmatch(field) and (field or isinstance(want, Range)):
             return Fault("form", f"\"{shown(field)}\" is no number of 1 to {DIGITS} digits without a leading zero")
     return None
 

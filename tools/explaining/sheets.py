@@ -64,13 +64,13 @@ class Row(NamedTuple):
 class Split(NamedTuple):
     denominator: int
     locations: int
+    start: int  # the map that the job starts with
     types: list
     maps: list
     rows: list
 
     def root_start(self):
-        """The map that the job starts with."""
-        return self.maps[0]
+        return self.maps[self.start]
 
     def body_start(self, row):
         """The map that a spawn's body starts with. An empty field means map 0."""
@@ -107,7 +107,7 @@ def steps_of(sheet):
 
 def split_of(sheet):
     """What a well-formed split sheet says."""
-    denominator, locations, types, maps = map(int, _fields(sheet.lines[0])[1:])
+    denominator, locations, types, maps, *root = map(int, _fields(sheet.lines[0])[1:])
     first_map, first_row = 1 + types, 1 + types + maps
     rows = []
     for number, line in enumerate(sheet.lines[first_row:], first_row + 1):
@@ -116,6 +116,7 @@ def split_of(sheet):
     return Split(
         denominator,
         locations,
+        root[0] if root else 0,  # a C sheet names none and means map 0
         [Type(kind, int(one), int(two)) for kind, one, two in map(_fields, sheet.lines[1:first_map])],
         [tuple(map(int, _fields(line))) for line in sheet.lines[first_map:first_row]],
         rows,

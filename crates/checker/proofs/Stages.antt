@@ -62,11 +62,11 @@ module _ (p s : List ℕ) (P : Program) (F : WellFormedProgram p P) where
     unfolding workspaceSize programLimit
     bad-split-refused r e = sym (split-refused 16384 p s (omega arith) (F .fits) P reads fits r e)
 
-    pub good-split-ruled : {w w′ : List ℕ} {n d l : ℕ} {a : Answer} (S : Split) → split (P .steps) s ≡ on S
+    pub good-split-ruled : {w w′ : List ℕ} {n d l r : ℕ} {a : Answer} (S : Split) → split (P .steps) s ≡ on S
         → ChangedWithin 1024 16384 w w′ → HoldsProgram w P → HoldsSplit w′ S → n ≡ length (P .steps) → n ≤ 256
-        → d ≡ S .header .denominator → l ≡ S .header .locations → RulesAnswered w′ n d l a → a ≡ verdict workspaceSize p s
+        → d ≡ S .header .denominator → l ≡ S .header .locations → r ≡ S .header .start .0 → RulesAnswered w′ n d l r a → a ≡ verdict workspaceSize p s
     unfolding workspaceSize programLimit splitLimit
-    good-split-ruled S e changed holds holds′ counted few isD isL rules =
+    good-split-ruled S e changed holds holds′ counted few isD isL isR rules =
         let G = split-well-formed (P .steps) s fits e in
         rules P S (record {
           programText = p;
@@ -77,6 +77,7 @@ module _ (p s : List ℕ) (P : Program) (F : WellFormedProgram p P) where
           stepsCounted = counted;
           denominatorGiven = isD;
           locationsGiven = isL;
+          startGiven = isR;
         })
         ∙ sym (rules-decide 16384 p s (omega arith) (F .fits) P reads fits S e)
 
@@ -97,6 +98,10 @@ denominator-told S h e = sym (ap (λ H. H .denominator) e)
 pub locations-told : (S : Split) (h : Header) → S .header ≡ headerTold h → h .locations ≡ S .header .locations
 unfolding headerTold
 locations-told S h e = sym (ap (λ H. H .locations) e)
+
+pub start-told : (S : Split) (h : Header) → S .header ≡ headerTold h → h .start .0 ≡ S .header .start .0
+unfolding headerTold
+start-told S h e = sym (ap (λ H. H .start .0) e)
 
 -- ------------------------------------------------------------------ the program
 

@@ -14,9 +14,9 @@ use Rattle.workspace.specs.Holds.{HoldsProgram}
 use Rattle.rules.specs.Contract.{HoldsSheets}
 
 -- the rules: for whichever sheets the work space holds
-abbrev pub RulesAnswered : (w : List ℕ) (steps denominator locations : ℕ) → Answer → Type 0
-RulesAnswered w steps denominator locations a =
-    (P : Program) (S : Split) → HoldsSheets w steps denominator locations P S → a ≡ answer (startAtMostOne P S >>= λ whole. ruled P S)
+abbrev pub RulesAnswered : (w : List ℕ) (steps denominator locations start : ℕ) → Answer → Type 0
+RulesAnswered w steps denominator locations start a =
+    (P : Program) (S : Split) → HoldsSheets w steps denominator locations start P S → a ≡ answer (startAtMostOne P S >>= λ whole. ruled P S)
 
 -- a program of so many steps stands in the work space
 abbrev pub HoldsSome : (w : List ℕ) (steps : ℕ) → Type 0

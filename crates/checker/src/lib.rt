@@ -27,11 +27,17 @@ const PROGRAM_LIMIT: usize = 16384;
 const SPLIT_LIMIT: usize = 65536;
 
 // 30 to 33, for the sheets that the work space holds.
-fn check_rules(work: &mut [u32], steps: usize, denominator: u32, locations: usize) -> Answer
+fn check_rules(
+    work: &mut [u32],
+    steps: usize,
+    denominator: u32,
+    locations: usize,
+    start: u32,
+) -> Answer
     requires { ⌜ (length (now work) ≡ 16384) × (steps ≤ 256) × (locations ≤ 16) ⌝ }
-    ensures { λ a. ⌜ RulesAnswered (now (work .entry)) steps denominator locations a ⌝ }
+    ensures { λ a. ⌜ RulesAnswered (now (work .entry)) steps denominator locations start a ⌝ }
 {
-    match rules::rule(work, steps, denominator, locations) {
+    match rules::rule(work, steps, denominator, locations, start) {
         Ruling::Met => Answer::Accept,
         Ruling::Refused(r) => Answer::Refuse(r),
     }
@@ -47,7 +53,13 @@ fn check_split(split: &[u8], steps: usize, work: &mut [u32]) -> Answer
     }
     match split::read(split, steps, work) {
         Sheet::Refused(r) => Answer::Refuse(r),
-        Sheet::Read(header) => check_rules(work, steps, header.denominator, header.locations),
+        Sheet::Read(header) => check_rules(
+            work,
+            steps,
+            header.denominator,
+            header.locations,
+            header.start.0,
+        ),
     }
 }
 

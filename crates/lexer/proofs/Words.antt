@@ -6,8 +6,8 @@ use mathlib.Core.Option.{Option, none, some}
 use Prim.Native.Nat.{ℕ, _-_}
 use lib.ListN.{take, drop}
 use Rattle.spec.specs.Choice.{if_then_else_}
-use Rattle.spec.specs.Text.{same, Field}
-use Rattle.spec.specs.Program.{words, lookUp}
+use Rattle.spec.specs.Text.{same, Field, lookUp}
+use Rattle.spec.specs.Program.{words}
 use Rattle.spec.specs.declared.Word.{Word}
 use Rattle.lexer.specs.Views.{firstField}
 use Rattle.lexer.specs.Cursors.{rest, spanAt}

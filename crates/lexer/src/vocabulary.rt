@@ -4,8 +4,8 @@ use spec::LeafWord;
 use spec::UnaryWord;
 use spec::Word;
 ghost use mathlib.Core.Path.{_≡_};
-ghost use Rattle.spec.specs.Text.{same as sameBytes};
-ghost use Rattle.spec.specs.Program.{words, lookUp};
+ghost use Rattle.spec.specs.Text.{same as sameBytes, lookUp};
+ghost use Rattle.spec.specs.Program.{words};
 ghost use Rattle.lexer.specs.Words.{foundOf, leafWords, unaryWords, binaryWords, typeWordOf};
 
 // The word of a step that a field spells.

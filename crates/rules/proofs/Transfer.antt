@@ -37,7 +37,7 @@ use Rattle.rules.proofs.Shown.{map-shown, row-at}
 use Rattle.rules.proofs.Here.{Here, codes, here-kept, here-line, here-part, here-first, here-second, varsSecond}
 use Rattle.rules.proofs.Scopes.{Scoped, scoped-none, scoped-second}
 use Rattle.rules.proofs.OneStep.{Ready, split-kept, below, step-shown, leaf-passes, unary-passes, binary-passes}
-use Rattle.rules.proofs.Views.{row-post-in, row-start-in}
+use Rattle.rules.proofs.Views.{map-number, row-post-in, row-start-in}
 
 -- the walk over the steps of a program, with its split's locations and denominator
 abbrev walkOf : Split → List ℕ → (k n : ℕ) → Out (Unit {0})
@@ -223,7 +223,7 @@ module _ (S : Split) (steps : List Step) (R : InRange steps S) (few : length (S 
 
 -- ------------------------------------------------------------------ the sheets
 
-module _ (w : List ℕ) (steps denominator locations : ℕ) (P : Program) (S : Split) (H : HoldsSheets w steps denominator locations P S) where
+module _ (w : List ℕ) (steps denominator locations start : ℕ) (P : Program) (S : Split) (H : HoldsSheets w steps denominator locations start P S) where
   root-here : Here w 0 [] [] (P .root)
   unfolding codes
   root-here = record {
@@ -234,16 +234,25 @@ module _ (w : List ℕ) (steps denominator locations : ℕ) (P : Program) (S : S
     used = H .wellFormed .usedInside;
   }
 
+  -- the start that the header names
+  named : _≡_ {A = MapNumber} (record { 0 = start }) (startMap S)
+  unfolding startMap
+  named = map-number (H .startGiven)
+
+  start-in : startMap S .0 < length (S .maps)
+  unfolding startMap
+  start-in = H .inRange .start
+
   -- 30
-  pub start-shown : startOutcome w denominator locations ≡ startAtMostOne P S
-  unfolding startOutcome startAtMostOne startMap
+  pub start-shown : startOutcome w denominator locations (record { 0 = start }) ≡ startAtMostOne P S
+  unfolding startOutcome startAtMostOne
   start-shown =
       rw (
         here-line (P .root) root-here,
         H .denominatorGiven,
         H .locationsGiven,
-        map-shown w S (P .steps) (H .split)
-            (H .inRange) (record { 0 = 0 }) (omega (arith, H .inRange .mapsCounted, H .inRange .mapsFew .0)),
+        named,
+        map-shown w S (P .steps) (H .split) (H .inRange) (startMap S) start-in,
       )
 
   module _ (long : length w ≡ 16384) (fewSteps : steps ≤ 256) where
@@ -253,25 +262,25 @@ module _ (w : List ℕ) (steps denominator locations : ℕ) (P : Program) (S : S
     sized : size (P .root) ≡ steps
     sized = sym (prefix-length (P .root)) ∙ ap length (H .wellFormed .listing) ∙ sym (H .stepsCounted)
 
-    root-ready : Ready S (P .steps) (H .inRange) rows-few (atRoot w) 0 [] [] [] startMap (P .root)
-    unfolding atRoot startMap
+    root-ready : Ready S (P .steps) (H .inRange) rows-few (atRoot w (startMap S)) 0 [] [] [] (startMap S) (P .root)
+    unfolding atRoot
     root-ready =
-        again S (P .steps) (H .inRange) rows-few (changed-store presAt (presAt + 256) w presAt 0 (omega arith)
+        again S (P .steps) (H .inRange) rows-few (changed-store presAt (presAt + 256) w presAt (startMap S .0) (omega arith)
         (omega arith)) (H .split) (omega arith)
-        root-here (scoped-none S) (omega (arith, H .inRange .mapsCounted, H .inRange .mapsFew .0))
-        (getD-set-same w presAt 0 0 (omega arith)) (omega (arith, sized, H .stepsCounted, H .inRange .rowsCounted))
+        root-here (scoped-none S) start-in
+        (getD-set-same w presAt (startMap S .0) 0 (omega arith)) (omega (arith, sized, H .stepsCounted, H .inRange .rowsCounted))
 
     -- 31 to 33
-    pub steps-shown : walk locations denominator (atRoot w) 0 steps ≡ ruled P S
+    pub steps-shown : walk locations denominator (atRoot w (record { 0 = start })) 0 steps ≡ ruled P S
     unfolding ruled walk
     steps-shown =
         let end : steps ≡ size (P .root) + 0 = omega (arith, sized) in
-        rw (H .denominatorGiven, H .locationsGiven, end)
+        rw (H .denominatorGiven, H .locationsGiven, named, end)
         (walked S (P .steps) (H .inRange) rows-few (P .root) 0 root-ready .walks
-        ∙ both-met (firstFalse (claims S (sites S [] startMap (P .root)))))
+        ∙ both-met (firstFalse (claims S (sites S [] (startMap S) (P .root)))))
 
     -- 30 to 33
-    pub sheets-shown : both (startOutcome w denominator locations) (walk locations denominator (atRoot w) 0 steps)
+    pub sheets-shown : both (startOutcome w denominator locations (record { 0 = start })) (walk locations denominator (atRoot w (record { 0 = start })) 0 steps)
         ≡ (startAtMostOne P S >>= λ whole. ruled P S)
     unfolding both
     sheets-shown = rw (start-shown, steps-shown)

@@ -16,8 +16,8 @@ use Rattle.rules.specs.Outcome.{outcome}
 use Rattle.rules.specs.declared.Ruling.{Ruling}
 
 -- the work space w holds the program P of a well-formed sheet and a split S for its steps whose numbers are in range, with
--- so many steps, this denominator and so many locations
-pub record HoldsSheets (w : List ℕ) (steps denominator locations : ℕ) (P : Program) (S : Split) : Type 0 where
+-- so many steps, this denominator, so many locations and the start with this number
+pub record HoldsSheets (w : List ℕ) (steps denominator locations start : ℕ) (P : Program) (S : Split) : Type 0 where
   pub programText : List ℕ
   pub wellFormed : WellFormedProgram programText P
   pub inRange : InRange (P .steps) S
@@ -26,10 +26,11 @@ pub record HoldsSheets (w : List ℕ) (steps denominator locations : ℕ) (P : P
   pub stepsCounted : steps ≡ length (P .steps)
   pub denominatorGiven : denominator ≡ S .header .denominator
   pub locationsGiven : locations ≡ S .header .locations
+  pub startGiven : start ≡ S .header .start .0
 
 -- from w to w′, with the ruling r: the answer is document 01's for whichever sheets w holds, 30 first and then 31 to 33;
 -- at most the maps before steps are changed
-pub record Ruled (w : List ℕ) (steps denominator locations : ℕ) (r : Ruling) (w′ : List ℕ) : Type 0 where
-  pub answers : (P : Program) (S : Split) → HoldsSheets w steps denominator locations P S
+pub record Ruled (w : List ℕ) (steps denominator locations start : ℕ) (r : Ruling) (w′ : List ℕ) : Type 0 where
+  pub answers : (P : Program) (S : Split) → HoldsSheets w steps denominator locations start P S
       → outcome r ≡ (startAtMostOne P S >>= λ whole. ruled P S)
   pub changed : ChangedWithin presAt (presAt + 256) w w′

@@ -6,7 +6,6 @@ use lib.ListN.{getD, set}
 use Rattle.spec.specs.Choice.{if_then_else_}
 use Rattle.spec.specs.Reading.{Out, on}
 use Rattle.spec.specs.Maps.{overWhole}
-use Rattle.spec.specs.Conditions.{startMap}
 use Rattle.spec.specs.Sites.{preOfPart, preOfSecond}
 use Rattle.spec.specs.Verdict.{refuseOver}
 use Rattle.spec.specs.declared.MapNumber.{MapNumber}
@@ -19,8 +18,8 @@ use Rattle.rules.specs.Table.{wordRow}
 use Rattle.rules.specs.declared.View.{View}
 
 -- 30, at the root's line: the lowest location at which the start is over the whole
-unfoldable pub startOutcome : (w : List ℕ) → (denominator locations : ℕ) → Out (Unit {0})
-startOutcome w denominator locations = refuseOver 2 (overWhole denominator 0 (mapFrom w startMap 0 locations))
+unfoldable pub startOutcome : (w : List ℕ) → (denominator locations : ℕ) → (start : MapNumber) → Out (Unit {0})
+startOutcome w denominator locations start = refuseOver 2 (overWhole denominator 0 (mapFrom w start 0 locations))
 
 -- entry i of the column that begins at b
 abbrev pub cell : (w : List ℕ) → (b i : ℕ) → ℕ
@@ -51,8 +50,8 @@ stepOutcome w locations denominator k =
     judged (k + 2) 1 (wordRow (wordOf (cell w wordsAt k)) w s (typeAt w (s .own)) (typeAt w (s .type1)))
 
 -- the start is the map before the root
-unfoldable pub atRoot : (w : List ℕ) → List ℕ
-atRoot w = set w presAt (startMap .0)
+unfoldable pub atRoot : (w : List ℕ) → (start : MapNumber) → List ℕ
+atRoot w start = set w presAt (start .0)
 
 -- the map before step i is m
 unfoldable pub putPre : (w : List ℕ) → (i : ℕ) → MapNumber → List ℕ

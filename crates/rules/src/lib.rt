@@ -17,9 +17,6 @@ ghost use Rattle.rules.specs.Outcome.{outcome};
 ghost use Rattle.rules.specs.Walk.{startOutcome};
 ghost use Rattle.rules.specs.Contract.{Ruled};
 
-// The number of the start: the map before the root.
-const START: u32 = 0;
-
 // The root's line.
 const ROOT_LINE: u32 = 2;
 
@@ -54,12 +51,12 @@ struct View {
 }
 
 // 30: the start has at most the whole of each location.
-fn check_start(work: &[u32], denominator: u32, locations: u32) -> Ruling
-    ensures { λ r. ⌜ outcome r ≡ startOutcome (now (work .entry)) denominator locations ⌝ }
+fn check_start(work: &[u32], denominator: u32, locations: u32, start: MapNumber) -> Ruling
+    ensures { λ r. ⌜ outcome r ≡ startOutcome (now (work .entry)) denominator locations start ⌝ }
 {
     let mut l = 0;
     while l < locations {
-        if denominator < map_cell(work, MapNumber(START), index(l)) {
+        if denominator < map_cell(work, start, index(l)) {
             return Ruling::Refused(Refusal::OverOne {
                 line: ROOT_LINE,
                 location: Location(l),
@@ -70,16 +67,22 @@ fn check_start(work: &[u32], denominator: u32, locations: u32) -> Ruling
     Ruling::Met
 }
 
-// The first reason of 30 to 33 for the sheets that the work space holds. It notes the maps before steps there, and changes
-// nothing else.
-pub fn rule(work: &mut [u32], steps: usize, denominator: u32, locations: usize) -> Ruling
+// The first reason of 30 to 33 for the sheets that the work space holds; `start` is the number of the map before the root. It
+// notes the maps before steps there, and changes nothing else.
+pub fn rule(
+    work: &mut [u32],
+    steps: usize,
+    denominator: u32,
+    locations: usize,
+    start: u32,
+) -> Ruling
     requires { ⌜ (length (now work) ≡ 16384) × (steps ≤ 256) × (locations ≤ 16) ⌝ }
-    ensures { λ r. ⌜ Ruled (now (work .entry)) steps denominator locations r (now (work .exit)) ⌝ }
+    ensures { λ r. ⌜ Ruled (now (work .entry)) steps denominator locations start r (now (work .exit)) ⌝ }
 {
     let n = locations as u32;
-    let first = check_start(work, denominator, n);
+    let first = check_start(work, denominator, n, MapNumber(start));
     let Ruling::Met = first else {
         return first;
     };
-    check_steps(work, steps as u32, denominator, n)
+    check_steps(work, steps as u32, denominator, n, MapNumber(start))
 }

@@ -1,6 +1,5 @@
 // The steps in line order. Each is judged once the map before it is known, and hands down the maps before its parts.
 use super::Ruling;
-use super::START;
 use super::View;
 use super::words::check_word;
 use spec::BinaryWord;
@@ -126,11 +125,17 @@ fn pass_on(work: &mut [u32], k: u32)
 }
 
 // 31 to 33: the steps in line order, each judged once the map before it is known.
-pub(crate) fn check_steps(work: &mut [u32], steps: u32, denominator: u32, locations: u32) -> Ruling
+pub(crate) fn check_steps(
+    work: &mut [u32],
+    steps: u32,
+    denominator: u32,
+    locations: u32,
+    start: MapNumber,
+) -> Ruling
     requires { ⌜ (length (now work) ≡ 16384) × (steps ≤ 256) ⌝ }
-    ensures { λ r. ⌜ (outcome r ≡ walk locations denominator (atRoot (now (work .entry))) 0 steps) × ChangedWithin presAt (presAt + 256) (now (work .entry)) (now (work .exit)) ⌝ }
+    ensures { λ r. ⌜ (outcome r ≡ walk locations denominator (atRoot (now (work .entry)) start) 0 steps) × ChangedWithin presAt (presAt + 256) (now (work .entry)) (now (work .exit)) ⌝ }
 {
-    work[PRES] = START;
+    work[PRES] = start.0;
     let mut k = 0;
     while k < steps {
         let r = check_step(work, locations, denominator, k);

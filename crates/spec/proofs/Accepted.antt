@@ -35,7 +35,7 @@ accepted-is-right room p s h =
       program = r .program;
       split = r .split;
       atMostOne = r .atMostOne;
-      derives = conditions-derive (r .S) [] startMap (r .P .root) (r .outcome);
+      derives = conditions-derive (r .S) [] (startMap (r .S)) (r .P .root) (r .outcome);
     }
 
 pub right-is-accepted : (room : ℕ) (p s : List ℕ) → workspaceSize ≤ room → Right p s → verdict room p s ≡ Accept
@@ -47,7 +47,7 @@ right-is-accepted room p s enough r = ap answer (reached-checked room p s (on tt
   program = r .program;
   split = r .split;
   atMostOne = r .atMostOne;
-  outcome = derivation-meets-conditions (r .S) [] startMap (r .P .root) (r .derives);
+  outcome = derivation-meets-conditions (r .S) [] (startMap (r .S)) (r .P .root) (r .derives);
 }))
 
 -- with room enough, ACCEPT is the answer exactly when the pair is right

@@ -84,7 +84,7 @@ checkedBefore room programText splitText = do
   fits′ ← demand (leb (length splitText) splitLimit) LongSplit
   S ← split (P .steps) splitText
   whole ← startAtMostOne P S
-  firstFalse (claimsBefore S (sites S [] startMap (P .root)))
+  firstFalse (claimsBefore S (sites S [] (startMap S) (P .root)))
 
 unfoldable pub verdictBefore : (room : ℕ) → (programText splitText : List ℕ) → Answer
 verdictBefore room programText splitText = answer (checkedBefore room programText splitText)
@@ -145,7 +145,7 @@ checked-too room p s =
     goes-on-too _ _ _ λ _.
     goes-on-too _ _ _ λ S.
     goes-on-too _ _ _ λ _ h.
-    all-hold-none-false _ (claims-hold S (sites S [] startMap (P .root)) (none-false-all-hold _ h))
+    all-hold-none-false _ (claims-hold S (sites S [] (startMap S) (P .root)) (none-false-all-hold _ h))
 
 -- ------------------------------------------------------------------ the theorem
 

@@ -32,8 +32,8 @@ refusal-names-first-false room p s r h late =
       program = c .program;
       split = c .split;
       atMostOne = c .atMostOne;
-      inOrder = claims-in-order (c .S) [] startMap (c .P .root) 2 (c .program .numbering);
-      first = stopped-first-false (claims (c .S) (sites (c .S) [] startMap (c .P .root))) (c .outcome);
+      inOrder = claims-in-order (c .S) [] (startMap (c .S)) (c .P .root) 2 (c .program .numbering);
+      first = stopped-first-false (claims (c .S) (sites (c .S) [] (startMap (c .S)) (c .P .root))) (c .outcome);
     }
 
 pub first-false-is-refused : (room : ℕ) (p s : List ℕ) (r : Refusal) → workspaceSize ≤ room → Refuted p s r → verdict room p s ≡ Refuse r

@@ -18,4 +18,6 @@ pub mod Reached
 pub mod Accepted
 pub mod AcceptedBefore
 pub mod Order
+pub mod NoHeading
+pub mod Headings
 pub mod FirstFalse

@@ -10,12 +10,14 @@ use lib.Dec.{eqb}
 use lib.ListN.{length, getD, replicate, take, drop, length-replicate, List·getD-eq-default}
 use borrow.Author.Tests.{eqb-true, leb-true, ltb-true, le-leb, lt-leb}
 use Rattle.spec.specs.Choice.{if_then_else_}
-use Rattle.spec.specs.Text.{Line, bytes, same, Field}
+use Rattle.spec.specs.Text.{Line, bytes, same, Field, lookUp}
 use Rattle.spec.specs.Reading.{Fault, badForm, badRange, Seen, right, wrong, seen, Range, _to_, below, inRange, allInRange, numerals, ranged, numbers}
 use Rattle.spec.specs.Expression.{Step}
-use Rattle.spec.specs.Split.{Map, Header, headerOf, headerLine, refOf, lockOf, tidOf, typeLine, typeLines, mapLine, Row, rowOf, blank, startRange, rowLine, Split}
+use Rattle.spec.specs.Split.{Map, Header, headings, headerRanges, mapsOf, mapsIn, startOf, headerOf, headed, headerLine, refOf, lockOf, tidOf, typeLine, typeLines, mapLine, Row, rowOf, blank, startRange, rowLine, Split}
 use Rattle.spec.specs.WellFormed.{Shows, nothing, line, WellFormedSplit}
 use Rattle.spec.specs.Ranges.{InRange}
+use Rattle.spec.specs.declared.Heading.{Heading}
+use Rattle.spec.specs.declared.Heading.the-variants.{C, C2}
 use Rattle.spec.specs.declared.Word.{Word}
 use Rattle.spec.specs.declared.Word.the-variants.{Leaf, Unary, Binary}
 use Rattle.spec.specs.declared.BinaryWord.the-variants.{Let, If, Spawn, Write}
@@ -35,10 +37,6 @@ pub seen-right : {A B : Type 0} {f : A → B} {b : B} (x : Seen A) → seen f x 
 unfolding seen
 seen-right (right a) h = (a, refl, right-inj h)
 seen-right (wrong w) h = wrong-is-not-right h
-
-choice-right : {A : Type 0} {a : A} (b : Bool) (x : Seen A) → (if b then x else wrong badForm) ≡ right a → x ≡ right a
-choice-right true x h = h
-choice-right false x h = wrong-is-not-right h
 
 -- what holds of what either of two ways shows
 either-right : {A : Type 0} (Q : A → Type 0) (b : Bool) (x y : Seen A) → ((a : A) → x ≡ right a → Q a) → ((a : A) → y ≡ right a → Q a)
@@ -65,6 +63,19 @@ ranged-right rs (some ms) ns h = counted (eqb (length ms) (length rs)) refl h
 pub numbers-right : (rs : List Range) (fs : List Field) (ns : List ℕ) → numbers rs fs ≡ right ns → (length ns ≡ length rs) × (allInRange rs ns ≡ true)
 unfolding numbers
 numbers-right rs fs ns h = ranged-right rs (numerals fs) ns h
+
+-- and they are the numerals of the fields
+pub numbers-spelled : (rs : List Range) (fs : List Field) (ns : List ℕ) → numbers rs fs ≡ right ns → numerals fs ≡ some ns
+unfolding numbers ranged
+numbers-spelled rs fs ns h = spelled (numerals fs) h
+  where
+    counted : (b : Bool) (ms : List ℕ) → (if b then (if allInRange rs ms then right ms else wrong badRange) else wrong badForm) ≡ right ns → ms ≡ ns
+    counted true ms h = within-right (allInRange rs ms) h .1
+    counted false ms h = wrong-is-not-right h
+
+    spelled : (o : Option (List ℕ)) → ranged rs o ≡ right ns → o ≡ some ns
+    spelled none h = wrong-is-not-right h
+    spelled (some ms) h = ap some (counted (eqb (length ms) (length rs)) ms h)
 
 -- ------------------------------------------------------------------ numbers in ranges
 
@@ -106,19 +117,39 @@ record HeaderFits (H : Header) : Type 0 where
   locations : (1 ≤ H .locations) × (H .locations ≤ 16)
   types : (1 ≤ H .types) × (H .types ≤ 64)
   maps : (1 ≤ H .maps) × (H .maps ≤ 512)
+  start : H .start .0 < H .maps
 
-header-fits : (fs : List Field) (H : Header) → headerLine fs ≡ right H → HeaderFits H
-unfolding headerLine headerOf
-header-fits [] H h = wrong-is-not-right h
-header-fits (f ∷ fs) H h =
-    let (ns, n, e) = seen-right _ (choice-right (same f (bytes "C")) _ h) in
-    let at = in-range-at ((1 to 1000000000) ∷ (1 to 16) ∷ (1 to 64) ∷ (1 to 512) ∷ []) fs ns n in
+-- the ranges of a `C` header, and of the same numbers of a `C2` header
+headed-fits : (o : Option Heading) (fs : List Field) (H : Header) → headed o fs ≡ right H → HeaderFits H
+unfolding headed headerRanges headerOf startOf mapsIn mapsOf
+headed-fits none fs H h = wrong-is-not-right h
+headed-fits (some C) fs H h =
+    let (ns, n, e) = seen-right _ h in
+    let at = in-range-at (headerRanges C (mapsIn (numerals fs))) fs ns n in
+    let maps = in-to _ _ _ (at 3 (omega arith)) in
+    along HeaderFits e (record {
+      denominator = in-to _ _ _ (at 0 (omega arith));
+      locations = in-to _ _ _ (at 1 (omega arith));
+      types = in-to _ _ _ (at 2 (omega arith));
+      maps = maps;
+      start = maps .0;
+    })
+headed-fits (some C2) fs H h =
+    let (ns, n, e) = seen-right _ h in
+    let at = in-range-at (headerRanges C2 (mapsIn (numerals fs))) fs ns n in
+    let named : mapsIn (numerals fs) ≡ mapsOf ns = ap mapsIn (numbers-spelled (headerRanges C2 (mapsIn (numerals fs))) fs ns n) in
     along HeaderFits e (record {
       denominator = in-to _ _ _ (at 0 (omega arith));
       locations = in-to _ _ _ (at 1 (omega arith));
       types = in-to _ _ _ (at 2 (omega arith));
       maps = in-to _ _ _ (at 3 (omega arith));
+      start = omega (arith, in-below _ _ (at 4 (omega arith)), named);
     })
+
+header-fits : (fs : List Field) (H : Header) → headerLine fs ≡ right H → HeaderFits H
+unfolding headerLine
+header-fits [] H h = wrong-is-not-right h
+header-fits (f ∷ fs) H h = headed-fits (lookUp headings f) fs H h
 
 -- ------------------------------------------------------------------ type lines
 
@@ -263,6 +294,7 @@ well-formed-in-range {steps} {text} {S} F =
       typesFew = head .types;
       mapsCounted = mapsCounted;
       mapsFew = head .maps;
+      start = omega (arith, mapsCounted, head .start);
       rowsCounted = rowsCounted;
       mapWide = wide;
       refPlace = λ t p c h e. fits t (type-line.Ref p c) h e;

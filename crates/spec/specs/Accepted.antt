@@ -19,5 +19,5 @@ pub record Right (programText splitText : List ℕ) : Type 0 where
   pub S : Split
   pub program : WellFormedProgram programText P
   pub split : WellFormedSplit (P .steps) splitText S
-  pub atMostOne : AtMost (S .header .denominator) (mapAt S startMap)
-  pub derives : Derives S [] (mapAt S startMap) (P .root)
+  pub atMostOne : AtMost (S .header .denominator) (mapAt S (startMap S))
+  pub derives : Derives S [] (mapAt S (startMap S)) (P .root)

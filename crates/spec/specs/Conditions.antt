@@ -88,11 +88,11 @@ lineOf (leaf w k v) = k
 lineOf (unary w k v e) = k
 lineOf (binary w k v e₁ e₂) = k
 
--- "map 0 for the root": the start, which a program's first step has for its pre
-unfoldable pub startMap : MapNumber
-startMap = record { 0 = 0 }
-
 module _ (S : Split) where
+  -- the start, which a program's first step has for its pre
+  unfoldable pub startMap : MapNumber
+  startMap = S .header .start
+
   -- a ref type whose c agrees with the type t
   unfoldable pub contains : TypeLine → TypeNumber → Bool
   contains type-line.Int t = false

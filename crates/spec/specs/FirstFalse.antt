@@ -66,6 +66,6 @@ pub record Refuted (programText splitText : List ℕ) (r : Refusal) : Type 0 whe
   pub S : Split
   pub program : WellFormedProgram programText P
   pub split : WellFormedSplit (P .steps) splitText S
-  pub atMostOne : AtMost (S .header .denominator) (mapAt S startMap)
-  pub inOrder : InOrder (claims S (sites S [] startMap (P .root)))
-  pub first : FirstFalse (claims S (sites S [] startMap (P .root))) r
+  pub atMostOne : AtMost (S .header .denominator) (mapAt S (startMap S))
+  pub inOrder : InOrder (claims S (sites S [] (startMap S) (P .root)))
+  pub first : FirstFalse (claims S (sites S [] (startMap S) (P .root))) r

@@ -19,4 +19,5 @@ pub mod EdgeSheets
 pub mod EdgeConditions
 pub mod EdgeAgreement
 pub mod EdgeNumbers
+pub mod EdgeStart
 pub mod FirstFalse

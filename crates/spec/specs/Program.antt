@@ -5,7 +5,7 @@ use mathlib.Core.Option.{Option, none, some}
 use Prim.Native.Nat.{ℕ}
 use lib.ListN.{getD, replicate}
 use Rattle.spec.specs.Choice.{if_then_else_}
-use Rattle.spec.specs.Text.{bytes, same, lines, Field}
+use Rattle.spec.specs.Text.{bytes, same, lines, Field, lookUp}
 use Rattle.spec.specs.Reading.{programSheet, Out, _>>=_, on, Seen, wrong, badForm, seen, Range, _to_, numbers, next, nextAll, begin, end}
 use Rattle.spec.specs.Expression.{Step, Expr, listed, single, scope}
 use Rattle.spec.specs.declared.Word.{Word}
@@ -45,10 +45,6 @@ words =
     ∷ (bytes "spawn", Binary Spawn)
     ∷ (bytes "write", Binary Write)
     ∷ []
-
-unfoldable pub lookUp : List (List ℕ × Word) → Field → Option Word
-lookUp [] f = none
-lookUp (w ∷ ws) f = if same (w .0) f then some (w .1) else lookUp ws f
 
 -- v is a variable, a constant, or 0
 unfoldable pub valueRange : Word → Range

@@ -1,12 +1,15 @@
 -- The split sheet.
 use mathlib.Core.List.{List, [], _∷_, map}
 use mathlib.Core.Bool.{Bool, true, false}
+use mathlib.Core.Option.{Option, none, some}
 use Prim.Native.Nat.{ℕ, zero, suc, _+_}
 use lib.ListN.{getD, replicate, take, drop}
 use Rattle.spec.specs.Choice.{if_then_else_}
-use Rattle.spec.specs.Text.{bytes, same, lines, Field}
-use Rattle.spec.specs.Reading.{splitSheet, Out, _>>=_, on, Seen, wrong, badForm, seen, Range, _to_, below, numbers, next, nextAll, begin, end}
+use Rattle.spec.specs.Text.{bytes, same, lines, Field, lookUp}
+use Rattle.spec.specs.Reading.{splitSheet, Out, _>>=_, on, Seen, wrong, badForm, seen, Range, _to_, below, numerals, numbers, next, nextAll, begin, end}
 use Rattle.spec.specs.Expression.{Step}
+use Rattle.spec.specs.declared.Heading.{Heading}
+use Rattle.spec.specs.declared.Heading.the-variants.{C, C2}
 use Rattle.spec.specs.declared.TypeNumber.{TypeNumber}
 use Rattle.spec.specs.declared.MapNumber.{MapNumber}
 use Rattle.spec.specs.declared.Location.{Location}
@@ -24,22 +27,53 @@ splitLimit = 65536
 abbrev pub Map : Type 0
 Map = List ℕ
 
--- `C,D,L,T,M`: denominator, locations, types, maps
+-- `C,D,L,T,M` and `C2,D,L,T,M,r`: denominator, locations, types, maps, and the start, the map before the root
 pub record Header : Type 0 where
+  pub heading : Heading
   pub denominator : ℕ
   pub locations : ℕ
   pub types : ℕ
   pub maps : ℕ
+  pub start : MapNumber
 
-unfoldable pub headerOf : List ℕ → Header
-headerOf ns = record { denominator = getD ns 0 0; locations = getD ns 1 0; types = getD ns 2 0; maps = getD ns 3 0 }
+unfoldable pub headings : List (List ℕ × Heading)
+headings = (bytes "C", C) ∷ (bytes "C2", C2) ∷ []
+
+-- r is a map: its range ends with the M of its own line
+unfoldable pub headerRanges : Heading → (maps : ℕ) → List Range
+headerRanges C maps = (1 to 1000000000) ∷ (1 to 16) ∷ (1 to 64) ∷ (1 to 512) ∷ []
+headerRanges C2 maps = (1 to 1000000000) ∷ (1 to 16) ∷ (1 to 64) ∷ (1 to 512) ∷ below maps ∷ []
+
+-- M among the numbers of a header
+unfoldable pub mapsOf : List ℕ → ℕ
+mapsOf ns = getD ns 3 0
+
+unfoldable pub mapsIn : Option (List ℕ) → ℕ
+mapsIn none = 0
+mapsIn (some ns) = mapsOf ns
+
+-- "A `C` sheet still means map 0"
+unfoldable pub startOf : Heading → List ℕ → MapNumber
+startOf C ns = record { 0 = 0 }
+startOf C2 ns = record { 0 = getD ns 4 0 }
+
+unfoldable pub headerOf : Heading → List ℕ → Header
+headerOf h ns = record {
+  heading = h;
+  denominator = getD ns 0 0;
+  locations = getD ns 1 0;
+  types = getD ns 2 0;
+  maps = mapsOf ns;
+  start = startOf h ns;
+}
+
+unfoldable pub headed : Option Heading → List Field → Seen Header
+headed none fs = wrong badForm
+headed (some h) fs = seen (headerOf h) (numbers (headerRanges h (mapsIn (numerals fs))) fs)
 
 unfoldable pub headerLine : List Field → Seen Header
 headerLine [] = wrong badForm
-headerLine (f ∷ fs) =
-    if same f (bytes "C")
-    then seen headerOf (numbers ((1 to 1000000000) ∷ (1 to 16) ∷ (1 to 64) ∷ (1 to 512) ∷ []) fs)
-    else wrong badForm
+headerLine (f ∷ fs) = headed (lookUp headings f) fs
 
 -- `int,0,0`; `ref,p,t`; `lock,k,0`; `tid,k,0`. A content type's number is less than the type's own.
 unfoldable pub refOf : List ℕ → TypeLine

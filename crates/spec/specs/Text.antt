@@ -52,6 +52,11 @@ unfoldable pub fields : List ℕ → List Field
 fields [] = [] ∷ []
 fields (b ∷ t) = if eqb b 44 then [] ∷ fields t else onField b (fields t)
 
+-- what a table has for a field
+unfoldable pub lookUp : {A : Type 0} → List (List ℕ × A) → Field → Option A
+lookUp [] f = none
+lookUp (w ∷ ws) f = if same (w .0) f then some (w .1) else lookUp ws f
+
 -- ------------------------------------------------------------------ numerals
 
 -- "A numeral has 1 to 7 digits and no leading zero, except `0` itself"; request (iii): "up to 10 digits"

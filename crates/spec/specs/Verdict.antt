@@ -24,11 +24,11 @@ refuseOver k none = on tt
 refuseOver k (some l) = stop (OverOne k (record { 0 = l }))
 
 unfoldable pub startAtMostOne : Program → Split → Out (Unit {0})
-startAtMostOne P S = refuseOver (lineOf (P .root)) (overWhole (S .header .denominator) 0 (mapAt S startMap))
+startAtMostOne P S = refuseOver (lineOf (P .root)) (overWhole (S .header .denominator) 0 (mapAt S (startMap S)))
 
 -- 31 to 33
 unfoldable pub ruled : Program → Split → Out (Unit {0})
-ruled P S = firstFalse (claims S (sites S [] startMap (P .root)))
+ruled P S = firstFalse (claims S (sites S [] (startMap S) (P .root)))
 
 -- 1; 10; 11 to 15; 20; 21 to 23; 30; 31 to 33
 unfoldable pub checked : (room : ℕ) → (programText splitText : List ℕ) → Out (Unit {0})

@@ -38,6 +38,12 @@ pub struct MapNumber(pub u32);
 
 pub struct Location(pub u32);
 
+// The headings of a split sheet: `C,D,L,T,M` and `C2,D,L,T,M,r`.
+pub enum Heading {
+    C,
+    C2,
+}
+
 // What a type line of a split sheet says. A content type, a map: by number.
 pub enum TypeLine {
     Int,

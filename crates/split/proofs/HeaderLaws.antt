@@ -1,42 +1,133 @@
--- The header line, by its word and its four numbers.
+-- The header line, by its heading and the numerals behind it.
 use mathlib.Core.Path.{_≡_, refl, sym, ap, _∙_}
-use mathlib.Core.List.{List, [], _∷_}
-use mathlib.Core.Bool.{Bool, true, false, _&&_}
-use mathlib.Core.Option.{none}
+use mathlib.Core.List.{List, [], _∷_, _++_, map}
+use mathlib.Core.Bool.{Bool, true, false, _&&_, and-false}
+use mathlib.Core.Option.{Option, none, some}
 use Prim.Native.Nat.{ℕ, _+_, _≤_, _<_}
 use native.Mathlib.Omega.{arith}
-use lib.Dec.{leb}
-use lib.ListN.{length, getD}
-use borrow.Author.Tests.{leb-true}
+use lib.Dec.{eqb, leb}
+use lib.ListN.{length, take, drop, getD, length-map}
+use lib.Seq.{length-take-le}
+use borrow.Author.Tests.{leb-true, leb-false, eqb-true, lt-leb}
 use Rattle.spec.specs.Choice.{if_then_else_}
-use Rattle.spec.specs.Text.{bytes, same, Field, lines}
-use Rattle.spec.specs.Reading.{splitSheet, Out, stop, on, Place, Seen, right, wrong, badForm, badRange, seen, _to_, inRange, allInRange, numerals, ranged, numbers, form, passed, next}
-use Rattle.spec.specs.Split.{Header, headerOf, headerLine}
+use Rattle.spec.specs.Text.{bytes, same, Field, lookUp, lines}
+use Rattle.spec.specs.Reading.{splitSheet, stop, on, Seen, right, wrong, badForm, badRange, seen, _to_, inRange, allInRange, numerals, ranged, numbers, form, passed, nextLine, next}
+use Rattle.spec.specs.Split.{Header, headings, headerRanges, mapsOf, mapsIn, startOf, headerOf, headed, headerLine}
+use Rattle.spec.specs.declared.Heading.{Heading}
+use Rattle.spec.specs.declared.Heading.the-variants.{C, C2}
 use Rattle.spec.specs.declared.Refusal.the-variants.{SplitForm, SplitRange}
-use Rattle.lexer.specs.Views.{endOf, firstField}
+use Rattle.spec.proofs.Headings.{first-map-fits}
+use Rattle.lexer.specs.Views.{endOf, firstField, withField, lineAt}
 use Rattle.lexer.specs.Cursors.{Placed, rest, next as nextCursor, placeAt}
-use Rattle.lexer.specs.Numbers.{numbersAt}
+use Rattle.lexer.specs.Numbers.{stored, withRest, numbersIn, counted, numbersAt}
 use Rattle.lexer.specs.declared.Cursor.{Cursor}
 use Rattle.lexer.specs.declared.FieldEnd.the-variants.{Comma}
+use Rattle.lexer.proofs.Lines.{next-open, next-closed}
+use Rattle.lexer.proofs.Stored.{stored-judged}
 use Rattle.lexer.proofs.Walks.{first-wrong, first-alone}
-use Rattle.lexer.proofs.Ranges.{tail-form, tail-read}
-use Rattle.split.specs.declared.Header.{Header as HeaderRead}
-use Rattle.split.specs.Lines.{headerTold, headerRanges, headerNumbers}
-use Rattle.split.specs.Answers.{Small}
 use Rattle.lexer.proofs.Sheets.{next-at}
-use Rattle.lexer.proofs.LineEnds.{LineRead}
-use Rattle.split.proofs.LineLaws.{shows-range, shows-entry, comma-line, comma-kept}
+use Rattle.split.specs.declared.Header.{Header as HeaderRead}
+use Rattle.split.specs.declared.first_line.FoundHeading.the-variants as found-heading
+use Rattle.split.specs.Lines.{headingFound, numeralsOf, headerTold, headerFits}
+use Rattle.split.specs.Answers.{Small}
+use Rattle.split.proofs.LineLaws.{shows-form, shows-range, shows-entry, comma-line, comma-kept}
 
--- ------------------------------------------------------------------ the numbers
+-- ------------------------------------------------------------------ the heading
 
-pub four : (l : List ℕ) → length l ≡ 4 → l ≡ headerNumbers (getD l 0 0) (getD l 1 0) (getD l 2 0) (getD l 3 0)
-unfolding headerNumbers
-four [] h = absurd (omega arith)
-four (a ∷ []) h = absurd (omega arith)
-four (a ∷ b ∷ []) h = absurd (omega arith)
-four (a ∷ b ∷ c ∷ []) h = absurd (omega arith)
-four (a ∷ b ∷ c ∷ d ∷ []) h = refl
-four (a ∷ b ∷ c ∷ d ∷ e ∷ l) h = absurd (omega arith)
+module _ (f : Field) where
+  pub first-heading : same (bytes "C") f ≡ true → found-heading.Known C ≡ headingFound (lookUp headings f)
+  unfolding headings lookUp headingFound
+  first-heading e = sym (rw e)
+
+  pub second-heading : same (bytes "C") f ≡ false → same (bytes "C2") f ≡ true → found-heading.Known C2 ≡ headingFound (lookUp headings f)
+  unfolding headings lookUp headingFound
+  second-heading e e′ = sym (rw (e, e′))
+
+  pub other-heading : same (bytes "C") f ≡ false → same (bytes "C2") f ≡ false → found-heading.Unknown ≡ headingFound (lookUp headings f)
+  unfolding headings lookUp headingFound
+  other-heading e e′ = sym (rw (e, e′))
+
+pub heading-known : (o : Option Heading) (h : Heading) → headingFound o ≡ found-heading.Known h → o ≡ some h
+unfolding headingFound
+heading-known none h e = cc
+heading-known (some k) h e = cc
+
+pub heading-unknown : (o : Option Heading) → headingFound o ≡ found-heading.Unknown → o ≡ none
+unfolding headingFound
+heading-unknown none e = refl
+heading-unknown (some k) e = cc
+
+-- ------------------------------------------------------------------ the numerals behind it
+
+pub four-numerals : (h : Heading) → h ≡ C → 4 ≡ numeralsOf h
+unfolding numeralsOf headerRanges
+four-numerals h e = sym (rw e)
+
+pub five-numerals : (h : Heading) → h ≡ C2 → 5 ≡ numeralsOf h
+unfolding numeralsOf headerRanges
+five-numerals h e = sym (rw e)
+
+pub few-numerals : (h : Heading) → numeralsOf h ≤ 5
+unfolding numeralsOf headerRanges
+few-numerals C = omega arith
+few-numerals C2 = omega arith
+
+-- the numbers behind each heading
+data NumbersOf : Heading → List ℕ → Type 0 where
+  four : (d l t m : ℕ) → NumbersOf C (d ∷ l ∷ t ∷ m ∷ [])
+  five : (d l t m r : ℕ) → NumbersOf C2 (d ∷ l ∷ t ∷ m ∷ r ∷ [])
+
+numbers-of : (h : Heading) (ns : List ℕ) → length ns ≡ numeralsOf h → NumbersOf h ns
+unfolding numeralsOf headerRanges
+numbers-of C [] e = absurd (omega arith)
+numbers-of C (d ∷ []) e = absurd (omega arith)
+numbers-of C (d ∷ l ∷ []) e = absurd (omega arith)
+numbers-of C (d ∷ l ∷ t ∷ []) e = absurd (omega arith)
+numbers-of C (d ∷ l ∷ t ∷ m ∷ []) e = four d l t m
+numbers-of C (d ∷ l ∷ t ∷ m ∷ r ∷ ns) e = absurd (omega arith)
+numbers-of C2 [] e = absurd (omega arith)
+numbers-of C2 (d ∷ []) e = absurd (omega arith)
+numbers-of C2 (d ∷ l ∷ []) e = absurd (omega arith)
+numbers-of C2 (d ∷ l ∷ t ∷ []) e = absurd (omega arith)
+numbers-of C2 (d ∷ l ∷ t ∷ m ∷ []) e = absurd (omega arith)
+numbers-of C2 (d ∷ l ∷ t ∷ m ∷ r ∷ []) e = five d l t m r
+numbers-of C2 (d ∷ l ∷ t ∷ m ∷ r ∷ s ∷ ns) e = absurd (omega arith)
+
+-- the five places that they are read into
+abbrev places : List ℕ
+places = 0 ∷ 0 ∷ 0 ∷ 0 ∷ 0 ∷ []
+
+pub places-lent : (h : Heading) (n : ℕ) → n ≡ numeralsOf h → length (take n places) ≡ n
+places-lent h n e = length-take-le n places (omega (arith, e, few-numerals h))
+
+unfoldable inPlaces : Heading → List ℕ → Header
+inPlaces h l = record {
+  heading = h;
+  denominator = getD l 0 0;
+  locations = getD l 1 0;
+  types = getD l 2 0;
+  maps = getD l 3 0;
+  start = record { 0 = getD l 4 0 };
+}
+
+-- a place that none is read into holds 0, the start of a `C` sheet
+filled : {h : Heading} {ns : List ℕ} → NumbersOf h ns → headerOf h ns ≡ inPlaces h (ns ++ drop (numeralsOf h) places)
+unfolding numeralsOf headerRanges headerOf mapsOf startOf inPlaces
+filled (four d l t m) = refl
+filled (five d l t m r) = refl
+
+-- a header that is made of what stands in the places
+module _ (h : Heading) (ns : List ℕ) (n : ℕ) (l t m : ℕ) where
+  abbrev after : List ℕ
+  after = ns ++ drop n places
+
+  pub header-told : n ≡ numeralsOf h → length ns ≡ numeralsOf h → l ≡ getD after 1 0 → t ≡ getD after 2 0 → m ≡ getD after 3 0
+      → headerOf h ns ≡ headerTold (record { heading = h; denominator = getD after 0 0; locations = l; types = t; maps = m; start = record { 0 = getD after 4 0 } })
+  unfolding headerTold inPlaces
+  header-told all e el et em =
+      filled (numbers-of h ns e) ∙ ap (λ (k : ℕ). inPlaces h (ns ++ drop k places)) (sym all) ∙ sym (rw (el, et, em))
+
+-- ------------------------------------------------------------------ the ranges
 
 both : (a b : Bool) → (a && b) ≡ true → (a ≡ true) × (b ≡ true)
 both true b h = (refl, h)
@@ -46,86 +137,184 @@ at-most : (a b n : ℕ) → inRange (a to b) n ≡ true → n ≤ b
 unfolding inRange
 at-most a b n h = leb-true n b (both (leb a n) (leb n b) h .1)
 
-pub header-small : (d l t m : ℕ) → allInRange headerRanges (headerNumbers d l t m) ≡ true → (l ≤ 16) × (t ≤ 64) × (m ≤ 512)
-unfolding headerRanges headerNumbers allInRange
-header-small d l t m h =
-    let h₁ = both (inRange (1 to 1000000000) d) _ h .1 in
-    let h₂ = both (inRange (1 to 16) l) _ h₁ in
-    let h₃ = both (inRange (1 to 64) t) _ (h₂ .1) in
-    (at-most 1 16 l (h₂ .0), at-most 1 64 t (h₃ .0), at-most 1 512 m (both (inRange (1 to 512) m) _ (h₃ .1) .0))
+pub header-small : (h : HeaderRead) → headerFits (headerTold h) ≡ true → Small h
+unfolding headerFits headerRanges headerTold allInRange
+header-small h e =
+    let h₁ = both (inRange (1 to 1000000000) (h .denominator)) _ e .1 in
+    let h₂ = both (inRange (1 to 16) (h .locations)) _ h₁ in
+    let h₃ = both (inRange (1 to 64) (h .types)) _ (h₂ .1) in
+    let h₄ = both (inRange (1 to 512) (h .maps)) _ (h₃ .1) in
+    record { locations = at-most 1 16 _ (h₂ .0); types = at-most 1 64 _ (h₃ .0); maps = at-most 1 512 _ (h₄ .0) }
 
--- a header that is made of the four numbers of a line
-module _ (ns : List ℕ) (l t m : ℕ) (el : l ≡ getD ns 1 0) (et : t ≡ getD ns 2 0) (em : m ≡ getD ns 3 0) where
-  abbrev pub made : HeaderRead
-  made = record { denominator = getD ns 0 0; locations = l; types = t; maps = m }
+-- the numbers behind a heading are in their ranges where the header that they make is
+fits-told : {h : Heading} {ns : List ℕ} → NumbersOf h ns → allInRange (headerRanges h (mapsOf ns)) ns ≡ headerFits (headerOf h ns)
+unfolding headerRanges mapsOf headerOf startOf headerFits
+fits-told (four d l t m) = first-map-fits d l t m
+fits-told (five d l t m r) = refl
 
-  pub header-told : headerOf ns ≡ headerTold made
-  unfolding headerOf headerTold
-  header-told = rw (el, et, em)
+-- ------------------------------------------------------------------ the numbers, as they are stored
 
-  pub made-small : length ns ≡ 4 → allInRange headerRanges ns ≡ true → Small made
-  made-small h e =
-      let small = header-small (getD ns 0 0) (getD ns 1 0) (getD ns 2 0) (getD ns 3 0) (ap (allInRange headerRanges) (sym (four ns h)) ∙ e) in
-      record { locations = omega (arith, el, small .0); types = omega (arith, et, small .1); maps = omega (arith, em, small .2) }
+kept : (n : ℕ) → leb n 4294967295 ≡ true → stored n ≡ n
+unfolding stored
+kept n e = simp e
 
-pub on-header : {H K : Header} {p : Place} {o : Out (Header × Place)} → o ≡ on (H, p) → H ≡ K → o ≡ on (K, p)
-on-header {p = p} q e = q ∙ ap (λ (x : Header). on (x, p)) e
+cut : (n : ℕ) → leb n 4294967295 ≡ false → stored n ≡ 4294967295
+unfolding stored
+cut n e = simp e
+
+-- what the numbers behind a heading come to
+unfoldable judged : Heading → List ℕ → Seen (List ℕ)
+judged h ns = if allInRange (headerRanges h (mapsOf ns)) ns then right ns else wrong badRange
+
+-- an M that is out of its range
+many-maps : (a b c d r : ℕ) → 512 < d → judged C2 (a ∷ b ∷ c ∷ d ∷ r ∷ []) ≡ wrong badRange
+unfolding judged headerRanges allInRange inRange
+many-maps a b c d r h = simp (lt-leb d 512 h, and-false)
+
+-- r's range ends with M: either M is stored as it is, or it is out of its own range both ways
+named-judged : (a b c d r : ℕ) → judged C2 (a ∷ b ∷ c ∷ d ∷ r ∷ []) ≡ judged C2 (stored a ∷ stored b ∷ stored c ∷ stored d ∷ stored r ∷ [])
+named-judged a b c d r = go (leb d 4294967295) refl
+  where
+    go : (x : Bool) → leb d 4294967295 ≡ x → judged C2 (a ∷ b ∷ c ∷ d ∷ r ∷ []) ≡ judged C2 (stored a ∷ stored b ∷ stored c ∷ stored d ∷ stored r ∷ [])
+    go true e =
+        unfold judged headerRanges mapsOf in
+        stored-judged (headerRanges C2 d) (omega arith, (omega arith, (omega arith, (omega arith, (leb-true d 4294967295 e, tt))))) (a ∷ b ∷ c ∷ d ∷ r ∷ []) refl
+        ∙ ap (λ (m : ℕ). if allInRange (headerRanges C2 m) (stored a ∷ stored b ∷ stored c ∷ stored d ∷ stored r ∷ []) then right (stored a ∷ stored b ∷ stored c ∷ stored d ∷ stored r ∷ []) else wrong badRange) (sym (kept d e))
+    go false e =
+        let far = leb-false d 4294967295 e in
+        let is = cut d e in
+        many-maps a b c d r (omega arith) ∙ sym (many-maps (stored a) (stored b) (stored c) (stored d) (stored r) (omega arith))
+
+judged-stored : {h : Heading} {ms : List ℕ} → NumbersOf h ms → judged h ms ≡ judged h (map stored ms)
+unfolding headerRanges
+judged-stored (four d l t m) =
+    unfold judged in stored-judged (headerRanges C 0) (omega arith, (omega arith, (omega arith, (omega arith, tt)))) (d ∷ l ∷ t ∷ m ∷ []) refl
+judged-stored (five d l t m r) = named-judged d l t m r
+
+-- ------------------------------------------------------------------ so many numerals, against the ranges of a heading
+
+as-many : (h : Heading) (m : ℕ) → length (headerRanges h m) ≡ numeralsOf h
+unfolding numeralsOf headerRanges
+as-many C m = refl
+as-many C2 m = refl
+
+module _ (h : Heading) (r : List ℕ) where
+  ranged-many : (ms : List ℕ) → ranged (headerRanges h (mapsOf ms)) (some ms) ≡ (if eqb (length ms) (numeralsOf h) then judged h ms else wrong badForm)
+  unfolding ranged judged
+  ranged-many ms = ap (λ (n : ℕ). if eqb (length ms) n then judged h ms else wrong badForm) (as-many h (mapsOf ms))
+
+  ranged-none : (o : Option (List ℕ)) → counted (numeralsOf h) (withRest o r) ≡ none → ranged (headerRanges h (mapsIn o)) o ≡ wrong badForm
+  unfolding counted withRest ranged mapsIn
+  ranged-none none e = refl
+  ranged-none (some ms) e = ranged-many ms ∙ go (eqb (length ms) (numeralsOf h)) (rw (length-map ms stored) at e)
+    where
+      go : (x : Bool) → if_then_else_ {A = Option (List ℕ × List ℕ)} x (some (map stored ms, r)) none ≡ none
+          → (if x then judged h ms else wrong badForm) ≡ wrong badForm
+      go true e = cc
+      go false e = refl
+
+  ranged-some : (o : Option (List ℕ)) (ns r′ : List ℕ) → counted (numeralsOf h) (withRest o r) ≡ some (ns, r′)
+      → (ranged (headerRanges h (mapsIn o)) o ≡ judged h ns) × (length ns ≡ numeralsOf h) × (r ≡ r′)
+  unfolding counted withRest mapsIn
+  ranged-some none ns r′ e = let z : _≡_ {A = ℕ} 0 1 = cc in absurd (omega arith)
+  ranged-some (some ms) ns r′ e =
+      let found = go (eqb (length ms) (numeralsOf h)) refl (rw (length-map ms stored) at e) in
+      (ranged-many ms ∙ found .0, found .1, found .2)
+    where
+      go : (x : Bool) → eqb (length ms) (numeralsOf h) ≡ x → if_then_else_ {A = Option (List ℕ × List ℕ)} x (some (map stored ms, r)) none ≡ some (ns, r′)
+          → ((if x then judged h ms else wrong badForm) ≡ judged h ns) × (length ns ≡ numeralsOf h) × (r ≡ r′)
+      go true q e =
+          let p : _≡_ {A = List ℕ × List ℕ} (map stored ms, r) (ns, r′) = cc in
+          let l = eqb-true (length ms) (numeralsOf h) q in (
+            judged-stored (numbers-of h ms l) ∙ ap (λ (q : List ℕ × List ℕ). judged h (q .0)) p,
+            sym (ap (λ (q : List ℕ × List ℕ). length (q .0)) p) ∙ length-map ms stored ∙ l,
+            ap (λ (q : List ℕ × List ℕ). q .1) p,
+          )
+      go false q e = let z : _≡_ {A = ℕ} 0 1 = cc in absurd (omega arith)
 
 -- ------------------------------------------------------------------ the line
 
-module _ (f : Field) where
-  header-shows : same f (bytes "C") ≡ true → (fs : List Field) → headerLine (f ∷ fs) ≡ seen headerOf (numbers headerRanges fs)
-  unfolding headerLine headerRanges
-  header-shows e fs = rw e
+header-alone : (o : Option Heading) → headed o [] ≡ wrong badForm
+unfolding headed headerRanges seen numbers numerals ranged
+header-alone none = refl
+header-alone (some C) = refl
+header-alone (some C2) = refl
 
-  header-wrong : same f (bytes "C") ≡ false → (fs : List Field) → headerLine (f ∷ fs) ≡ wrong badForm
-  unfolding headerLine
-  header-wrong e fs = rw e
+module _ (f : Field) (h : Heading) (known : lookUp headings f ≡ some h) (k : ℕ) (t : List ℕ) where
+  shows : (fs : List Field) → headerLine (f ∷ fs) ≡ seen (headerOf h) (ranged (headerRanges h (mapsIn (numerals fs))) (numerals fs))
+  unfolding headerLine headed numbers
+  shows fs = rw known
 
-  header-alone : headerLine (f ∷ []) ≡ wrong badForm
-  unfolding headerLine seen numbers numerals ranged
-  header-alone = go (same f (bytes "C"))
-    where
-      go : (x : Bool) → _≡_ {A = Seen Header} (if x then (wrong badForm) else wrong badForm) (wrong badForm)
-      go true = refl
-      go false = refl
+  line-form : (o : Option (List Field × List ℕ)) → lineAt t ≡ withField f o → counted (numeralsOf h) (numbersIn o) ≡ none → 0 < length t
+      → nextLine splitSheet headerLine k (lines t) ≡ stop (SplitForm (k + 1))
+  unfolding withField numbersIn form seen
+  line-form none e n l = next-open splitSheet headerLine k t l e
+  line-form (some line) e n l =
+      next-closed splitSheet headerLine k t (f ∷ line .0) (line .1) e
+      ∙ shows-form (k + 1) (lines (line .1)) (shows (line .0) ∙ ap (seen (headerOf h)) (ranged-none h (line .1) (numerals (line .0)) n))
+
+  line-read : (o : Option (List Field × List ℕ)) → lineAt t ≡ withField f o → (ns r : List ℕ) → counted (numeralsOf h) (numbersIn o) ≡ some (ns, r)
+      → (nextLine splitSheet headerLine k (lines t) ≡ passed splitSheet (k + 1) (lines r) (seen (headerOf h) (judged h ns))) × (length ns ≡ numeralsOf h)
+  unfolding withField numbersIn counted
+  line-read none e ns r n = let z : _≡_ {A = ℕ} 0 1 = cc in absurd (omega arith)
+  line-read (some line) e ns r n =
+      let found = ranged-some h (line .1) (numerals (line .0)) ns r n in (
+        next-closed splitSheet headerLine k t (f ∷ line .0) (line .1) e
+            ∙ ap (passed splitSheet (k + 1) (lines (line .1))) (shows (line .0) ∙ ap (seen (headerOf h)) (found .0))
+            ∙ ap (λ (x : List ℕ). passed splitSheet (k + 1) (lines x) (seen (headerOf h) (judged h ns))) (found .2),
+        found .1,
+      )
 
 module _ (text : List ℕ) (c : Cursor) (some-left : 0 < length (rest text c)) where
   -- no comma behind the first field
   pub no-comma : (endOf (rest text c) ≡ Comma → ⊥) → next splitSheet headerLine (placeAt text c) ≡ stop (SplitForm (c .line + 1))
-  unfolding form
-  no-comma n = next-at splitSheet text headerLine c ∙ first-alone splitSheet headerLine (c .line) (rest text c) some-left n (header-alone (firstField (rest text c)))
+  unfolding form headerLine
+  no-comma n =
+      next-at splitSheet text headerLine c
+      ∙ first-alone splitSheet headerLine (c .line) (rest text c) some-left n (header-alone (lookUp headings (firstField (rest text c))))
 
-  -- another word
-  pub no-header : same (firstField (rest text c)) (bytes "C") ≡ false → next splitSheet headerLine (placeAt text c) ≡ stop (SplitForm (c .line + 1))
-  unfolding form
-  no-header e = next-at splitSheet text headerLine c ∙ first-wrong splitSheet headerLine (c .line) (rest text c) some-left (header-wrong (firstField (rest text c)) e)
+  -- no heading
+  pub no-header : lookUp headings (firstField (rest text c)) ≡ none → next splitSheet headerLine (placeAt text c) ≡ stop (SplitForm (c .line + 1))
+  unfolding form headerLine headed
+  no-header e =
+      next-at splitSheet text headerLine c
+      ∙ first-wrong splitSheet headerLine (c .line) (rest text c) some-left (λ fs. ap (λ (o : Option Heading). headed o fs) e)
 
   module _
       (p : Placed text c) (comma : endOf (rest text c) ≡ Comma) (d : Cursor) (is : nextCursor text c ≡ d)
-      (word : same (firstField (rest text c)) (bytes "C") ≡ true)
+      (h : Heading) (known : lookUp headings (firstField (rest text c)) ≡ some h)
     where
-      pub header-form : numbersAt text d 4 ≡ none → next splitSheet headerLine (placeAt text c) ≡ stop (SplitForm (c .line + 1))
-      unfolding form seen headerRanges
-      header-form e =
+      pub header-form : numbersAt text d (numeralsOf h) ≡ none → next splitSheet headerLine (placeAt text c) ≡ stop (SplitForm (c .line + 1))
+      unfolding numbersAt
+      header-form n =
           next-at splitSheet text headerLine c
-          ∙ tail-form splitSheet headerLine (c .line) headerRanges (seen headerOf) text c (firstField (rest text c)) d (comma-line text c d p comma is)
-          (header-shows (firstField (rest text c)) word) refl some-left e
+          ∙ line-form (firstField (rest text c)) h known (c .line) (rest text c) (lineAt (rest text d)) (comma-line text c d p comma is) n some-left
 
-      module _ (ns : List ℕ) (e : Cursor) (h : LineRead text d 4 ns e) where
-        reads : next splitSheet headerLine (placeAt text c)
-            ≡ passed splitSheet (c .line + 1) (lines (rest text e)) (seen headerOf (if allInRange headerRanges ns then right ns else wrong badRange))
-        unfolding headerRanges
-        reads =
-            next-at splitSheet text headerLine c
-            ∙ tail-read splitSheet headerLine (c .line) headerRanges (seen headerOf) text c (firstField (rest text c)) d (comma-line text c d p comma is)
-            (header-shows (firstField (rest text c)) word) (omega arith, (omega arith, (omega arith, (omega arith, tt)))) ns (rest text e) (h .numbers)
+      module _
+          (ns : List ℕ) (e : Cursor) (found : numbersAt text d (numeralsOf h) ≡ some (ns, rest text e))
+          (H : HeaderRead) (told : headerOf h ns ≡ headerTold H)
+        where
+          reads : (nextLine splitSheet headerLine (c .line) (lines (rest text c)) ≡ passed splitSheet (c .line + 1) (lines (rest text e)) (seen (headerOf h) (judged h ns)))
+              × (length ns ≡ numeralsOf h)
+          unfolding numbersAt
+          reads = line-read (firstField (rest text c)) h known (c .line) (rest text c) (lineAt (rest text d)) (comma-line text c d p comma is) ns (rest text e) found
 
-        pub header-range : allInRange headerRanges ns ≡ false → next splitSheet headerLine (placeAt text c) ≡ stop (SplitRange (c .line + 1))
-        unfolding seen
-        header-range q = reads ∙ shows-range (c .line + 1) (lines (rest text e)) (rw q)
+          fits : allInRange (headerRanges h (mapsOf ns)) ns ≡ headerFits (headerTold H)
+          fits = fits-told (numbers-of h ns (reads .1)) ∙ ap headerFits told
 
-        pub header-on : allInRange headerRanges ns ≡ true → next splitSheet headerLine (placeAt text c) ≡ on (headerOf ns, placeAt text e)
-        unfolding seen
-        header-on q =
-            reads ∙ shows-entry text c e (headerOf ns) (rw q) (h .line ∙ ap (λ (k : ℕ). k + 1) (comma-kept text c d p comma is))
+          judged-as : {x : Bool} → headerFits (headerTold H) ≡ x → judged h ns ≡ (if x then right ns else wrong badRange)
+          unfolding judged
+          judged-as q = ap (λ (x : Bool). if x then right ns else wrong badRange) (fits ∙ q)
+
+          pub header-range : headerFits (headerTold H) ≡ false → next splitSheet headerLine (placeAt text c) ≡ stop (SplitRange (c .line + 1))
+          unfolding seen
+          header-range q =
+              next-at splitSheet text headerLine c ∙ reads .0
+              ∙ shows-range (c .line + 1) (lines (rest text e)) (ap (seen (headerOf h)) (judged-as q))
+
+          pub header-on : headerFits (headerTold H) ≡ true → e .line ≡ d .line + 1 → next splitSheet headerLine (placeAt text c) ≡ on (headerTold H, placeAt text e)
+          unfolding seen
+          header-on q l =
+              next-at splitSheet text headerLine c ∙ reads .0
+              ∙ shows-entry text c e (headerTold H) (ap (seen (headerOf h)) (judged-as q) ∙ ap right told)
+              (l ∙ ap (λ (k : ℕ). k + 1) (comma-kept text c d p comma is))

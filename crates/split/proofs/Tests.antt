@@ -42,6 +42,10 @@ pub range-last : (r : Range) (n : ℕ) {x : Bool} → x ≡ inRange r n → x �
 unfolding allInRange
 range-last r n e = e ∙ and-last (inRange r n)
 
+-- a range of indices, as one of the numbers that they stand for
+pub range-index : (first : ℕ) {l l′ n n′ : ℕ} {b : Bool} → l ≡ l′ → n ≡ n′ → b ≡ inRange (first to l) n → inRange (first to l′) n′ ≡ b
+range-index first e e′ h = sym (h ∙ rw (e, e′))
+
 module _ (k n : ℕ) where
   pub in-below : n < k → inRange (below k) n ≡ true
   unfolding inRange

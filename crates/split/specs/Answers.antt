@@ -2,19 +2,22 @@
 use mathlib.Core.Path.{_≡_}
 use mathlib.Core.Logic.{_⊎_}
 use mathlib.Core.List.{List, []}
-use mathlib.Core.Option.{none}
-use Prim.Native.Nat.{ℕ, _≤_, _-_}
+use mathlib.Core.Option.{none, some}
+use Prim.Native.Nat.{ℕ, _+_, _≤_, _-_}
 use lib.ListN.{length, take, drop}
 use Rattle.spec.specs.Text.{numeral}
 use Rattle.spec.specs.Reading.{Out, stop, on, Place}
-use Rattle.spec.specs.Split.{Map, Header, Row}
+use Rattle.spec.specs.Split.{Map, Header, headerOf, Row}
+use Rattle.spec.specs.declared.Heading.{Heading}
 use Rattle.spec.specs.declared.TypeLine.{TypeLine}
 use Rattle.lexer.specs.Views.{endOf, firstField}
 use Rattle.lexer.specs.Cursors.{Placed, rest, next, placeAt}
-use Rattle.lexer.specs.Numbers.{Spells}
+use Rattle.lexer.specs.Numbers.{Spells, numbersAt}
 use Rattle.lexer.specs.declared.Cursor.{Cursor}
 use Rattle.lexer.specs.declared.FieldEnd.the-variants.{Comma, Newline}
 use Rattle.split.specs.declared.Header.{Header as HeaderRead}
+use Rattle.split.specs.declared.first_line.FoundHeader.{FoundHeader}
+use Rattle.split.specs.declared.first_line.FoundHeader.the-variants as found-header
 use Rattle.split.specs.declared.first_line.HeaderLine.{HeaderLine}
 use Rattle.split.specs.declared.first_line.HeaderLine.the-variants as header-line
 use Rattle.split.specs.declared.type_lines.TypeRead.{TypeRead}
@@ -29,7 +32,7 @@ use Rattle.split.specs.declared.fields.Leading.{Leading}
 use Rattle.split.specs.declared.fields.Leading.the-variants as leading
 use Rattle.split.specs.declared.fields.Start.{Start}
 use Rattle.split.specs.declared.fields.Start.the-variants as start
-use Rattle.split.specs.Lines.{headerTold, rowTold}
+use Rattle.split.specs.Lines.{numeralsOf, headerTold, rowTold}
 
 -- a text that the limit lets through, and a cursor in it
 pub record Reading (text : List ℕ) (c : Cursor) : Type 0 where
@@ -63,6 +66,12 @@ StartAnswer text c (start.Given n d) = Spells (firstField (rest text c)) n × (e
 StartAnswer text c start.Malformed = ((numeral (firstField (rest text c)) ≡ none) × (firstField (rest text c) ≡ [] → ⊥)) ⊎ (endOf (rest text c) ≡ Newline → ⊥)
 
 -- ------------------------------------------------------------------ lines
+
+-- the numerals behind a heading, as they are stored: the header that they make, in range or not
+abbrev pub NumbersAnswer : List ℕ → Cursor → Heading → FoundHeader → Type 0
+NumbersAnswer text c h found-header.Malformed = numbersAt text c (numeralsOf h) ≡ none
+NumbersAnswer text c h (found-header.Read H d) =
+    (ns : List ℕ) × (numbersAt text c (numeralsOf h) ≡ some (ns, rest text d)) × (headerOf h ns ≡ headerTold H) × Placed text d × (d .line ≡ c .line + 1)
 
 abbrev pub HeaderAnswer : List ℕ → Out (Header × Place) → HeaderLine → Type 0
 HeaderAnswer text out (header-line.Refused r) = out ≡ stop r

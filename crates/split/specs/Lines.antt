@@ -1,11 +1,15 @@
 -- The lines of a split sheet at a cursor, as their readers see them.
 use mathlib.Core.List.{List, [], _∷_}
+use mathlib.Core.Bool.{Bool}
+use mathlib.Core.Option.{Option, none, some}
 use Prim.Native.Nat.{ℕ}
-use lib.ListN.{replicate}
+use lib.ListN.{length, replicate}
 use Rattle.spec.specs.Choice.{if_then_else_}
 use Rattle.spec.specs.Text.{Field}
 use Rattle.spec.specs.Reading.{Seen, right, wrong, badForm, badRange, Range, _to_, below, allInRange, numbers}
-use Rattle.spec.specs.Split.{Map, Header, refOf, lockOf, tidOf, Row, rowLine}
+use Rattle.spec.specs.Split.{Map, Header, headerRanges, refOf, lockOf, tidOf, Row, rowLine}
+use Rattle.spec.specs.declared.Heading.{Heading}
+use Rattle.spec.specs.declared.Heading.the-variants.{C2}
 use Rattle.spec.specs.declared.Refusal.the-variants.{SplitRange}
 use Rattle.spec.specs.declared.Word.{Word}
 use Rattle.spec.specs.declared.Word.the-variants.{Leaf, Unary, Binary}
@@ -16,6 +20,8 @@ use Rattle.lexer.specs.declared.Cursor.{Cursor}
 use Rattle.lexer.specs.declared.vocabulary.TypeWord.{TypeWord}
 use Rattle.lexer.specs.declared.vocabulary.TypeWord.the-variants as kind
 use Rattle.split.specs.declared.Header.{Header as HeaderRead}
+use Rattle.split.specs.declared.first_line.FoundHeading.{FoundHeading}
+use Rattle.split.specs.declared.first_line.FoundHeading.the-variants as found-heading
 use Rattle.split.specs.declared.row_lines.Row.{Row as RowNumbers}
 use Rattle.split.specs.declared.row_lines.RowRead.{RowRead}
 use Rattle.split.specs.declared.row_lines.RowRead.the-variants as row-read
@@ -25,18 +31,31 @@ use Rattle.split.specs.declared.type_lines.TypeSeen.the-variants as type
 -- ------------------------------------------------------------------ what the code reads, as document 01 has it
 
 unfoldable pub headerTold : HeaderRead → Header
-headerTold h = record { denominator = h .denominator; locations = h .locations; types = h .types; maps = h .maps }
+headerTold h = record {
+  heading = h .heading;
+  denominator = h .denominator;
+  locations = h .locations;
+  types = h .types;
+  maps = h .maps;
+  start = h .start;
+}
 
 unfoldable pub rowTold : RowNumbers → Row
 rowTold r = record { type = r .typed; post = r .post; start = r .start }
 
 -- ------------------------------------------------------------------ the header
 
-unfoldable pub headerRanges : List Range
-headerRanges = (1 to 1000000000) ∷ (1 to 16) ∷ (1 to 64) ∷ (1 to 512) ∷ []
+unfoldable pub headingFound : Option Heading → FoundHeading
+headingFound none = found-heading.Unknown
+headingFound (some h) = found-heading.Known h
 
-unfoldable pub headerNumbers : (denominator locations types maps : ℕ) → List ℕ
-headerNumbers d l t m = d ∷ l ∷ t ∷ m ∷ []
+-- how many numerals stand behind a heading
+unfoldable pub numeralsOf : Heading → ℕ
+numeralsOf h = length (headerRanges h 0)
+
+-- whether the numbers of a header are in their ranges: map 0, the start that a `C` header does not name, is in its range too
+unfoldable pub headerFits : Header → Bool
+headerFits H = allInRange (headerRanges C2 (H .maps)) (H .denominator ∷ H .locations ∷ H .types ∷ H .maps ∷ H .start .0 ∷ [])
 
 -- ------------------------------------------------------------------ types
 

@@ -1,26 +1,29 @@
-// Line 1 of the split sheet: `C,D,L,T,M`.
+// Line 1 of the split sheet: `C,D,L,T,M` or `C2,D,L,T,M,r`.
 use crate::Header;
 use crate::LARGEST;
 use crate::fields::Head;
 use crate::fields::first_field;
 use lexer::Cursor;
 use lexer::Numbers;
+use spec::Heading;
+use spec::MapNumber;
 use spec::Refusal;
 ghost use mathlib.Core.Path.{_≡_};
 ghost use mathlib.Core.Bool.{false};
-ghost use Rattle.spec.specs.Reading.{splitSheet, _to_, inRange, allInRange, next};
-ghost use Rattle.spec.specs.Split.{headerLine};
+ghost use Rattle.spec.specs.Text.{lookUp};
+ghost use Rattle.spec.specs.Reading.{splitSheet, _to_, inRange, next};
+ghost use Rattle.spec.specs.Split.{headings, headerLine};
 ghost use Rattle.lexer.specs.Views.{nothing};
 ghost use Rattle.lexer.specs.Cursors.{rest, placeAt};
-ghost use Rattle.split.specs.Lines.{headerRanges, headerNumbers};
-ghost use Rattle.split.specs.Answers.{Reading, HeaderAnswer};
+ghost use Rattle.split.specs.Lines.{headingFound, numeralsOf, headerTold, headerFits};
+ghost use Rattle.split.specs.Answers.{Reading, NumbersAnswer, HeaderAnswer};
 
 // How many locations, types and maps a sheet can have.
-const MOST_LOCATIONS: u32 = 16;
+const MOST_LOCATIONS: usize = 16;
 
-const MOST_TYPES: u32 = 64;
+const MOST_TYPES: usize = 64;
 
-const MOST_MAPS: u32 = 512;
+const MOST_MAPS: usize = 512;
 
 // What a line says, and the cursor behind it; or the reason to stop.
 pub(crate) enum HeaderLine {
@@ -28,8 +31,65 @@ pub(crate) enum HeaderLine {
     Refused(Refusal),
 }
 
+// The heading that a field spells.
+enum FoundHeading {
+    Known(Heading),
+    Unknown,
+}
+
+// What the numerals of a header say, in range or not, and the cursor behind the line.
+enum FoundHeader {
+    Read(Header, Cursor),
+    Malformed,
+}
+
+// The heading that a field spells.
+fn heading_of(field: &[u8]) -> FoundHeading
+    ensures { λ r. ⌜ r ≡ headingFound (lookUp headings (now (field .entry))) ⌝ }
+{
+    if lexer::same(b"C", field) {
+        return FoundHeading::Known(Heading::C);
+    }
+    if lexer::same(b"C2", field) {
+        return FoundHeading::Known(Heading::C2);
+    }
+    FoundHeading::Unknown
+}
+
+// How many numerals stand behind a heading.
+fn numerals_of(heading: Heading) -> usize
+    ensures { λ r. ⌜ r ≡ numeralsOf heading ⌝ }
+{
+    match heading {
+        Heading::C => 4,
+        Heading::C2 => 5,
+    }
+}
+
+// The numerals behind a heading. Where none names the start, it is map 0.
+fn header_numbers(text: &[u8], cursor: Cursor, heading: Heading) -> FoundHeader
+    requires { ⌜ Reading (now text) cursor ⌝ }
+    ensures { λ r. ⌜ NumbersAnswer (now (text .entry)) cursor heading r ⌝ }
+{
+    let mut found = [0u32; 5];
+    let count = numerals_of(heading);
+    let read = cursor.numbers(text, &mut found[..count]);
+    let Numbers::Read(next) = read else {
+        return FoundHeader::Malformed;
+    };
+    let header = Header {
+        heading: heading,
+        denominator: found[0],
+        locations: workspace::index(found[1]),
+        types: workspace::index(found[2]),
+        maps: workspace::index(found[3]),
+        start: MapNumber(found[4]),
+    };
+    FoundHeader::Read(header, next)
+}
+
 // Whether a number is in a range, both ends in it.
-fn within(n: u32, first: u32, last: u32) -> bool
+fn within(n: usize, first: usize, last: usize) -> bool
     ensures { λ r. ⌜ r ≡ inRange (first to last) n ⌝ }
 {
     if n < first {
@@ -38,23 +98,31 @@ fn within(n: u32, first: u32, last: u32) -> bool
     n <= last
 }
 
-// Whether each number of a header is in its range.
-fn header_fits(denominator: u32, locations: u32, types: u32, maps: u32) -> bool
-    ensures { λ r. ⌜ r ≡ allInRange headerRanges (headerNumbers denominator locations types maps) ⌝ }
+// Whether each number of a header is in its range; the start is one of its maps.
+fn header_fits(header: Header) -> bool
+    ensures { λ r. ⌜ r ≡ headerFits (headerTold header) ⌝ }
 {
-    if !within(denominator, 1, LARGEST) {
+    let start = header.start;
+    if !within(
+        workspace::index(header.denominator),
+        1,
+        workspace::index(LARGEST),
+    ) {
         return false;
     }
-    if !within(locations, 1, MOST_LOCATIONS) {
+    if !within(header.locations, 1, MOST_LOCATIONS) {
         return false;
     }
-    if !within(types, 1, MOST_TYPES) {
+    if !within(header.types, 1, MOST_TYPES) {
         return false;
     }
-    within(maps, 1, MOST_MAPS)
+    if !within(header.maps, 1, MOST_MAPS) {
+        return false;
+    }
+    workspace::index(start.0) < header.maps
 }
 
-// The line `C,D,L,T,M` at a cursor.
+// The header at a cursor.
 pub(crate) fn header_line(text: &[u8], cursor: Cursor) -> HeaderLine
     requires { ⌜ Reading (now text) cursor × (nothing (rest (now text) cursor) ≡ false) ⌝ }
     ensures { λ r. ⌜ HeaderAnswer (now (text .entry)) (next splitSheet headerLine (placeAt (now (text .entry)) cursor)) r ⌝ }
@@ -63,26 +131,14 @@ pub(crate) fn header_line(text: &[u8], cursor: Cursor) -> HeaderLine
     let Head::Field(from, to, numbers) = first_field(text, cursor) else {
         return HeaderLine::Refused(Refusal::SplitForm(line));
     };
-    if !lexer::same(&text[from..to], b"C") {
-        return HeaderLine::Refused(Refusal::SplitForm(line));
-    }
-    let mut found = [0u32; 4];
-    let read = numbers.numbers(text, &mut found);
-    let Numbers::Read(next) = read else {
+    let FoundHeading::Known(heading) = heading_of(&text[from..to]) else {
         return HeaderLine::Refused(Refusal::SplitForm(line));
     };
-    let denominator = found[0];
-    let locations = found[1];
-    let types = found[2];
-    let maps = found[3];
-    if !header_fits(denominator, locations, types, maps) {
+    let FoundHeader::Read(header, next) = header_numbers(text, numbers, heading) else {
+        return HeaderLine::Refused(Refusal::SplitForm(line));
+    };
+    if !header_fits(header) {
         return HeaderLine::Refused(Refusal::SplitRange(line));
     }
-    let header = Header {
-        denominator: denominator,
-        locations: workspace::index(locations),
-        types: workspace::index(types),
-        maps: workspace::index(maps),
-    };
     HeaderLine::Read(header, next)
 }

@@ -5,11 +5,12 @@ use super::draft::{Draft, Step, Type};
 use super::random::Random;
 use crate::answer::{MAPS, TYPES};
 
-/// The same draft with a new line for each use while there is room for new lines; past that, a use
+/// The same `C` draft with a new line for each use while there is room for new lines; past that, a use
 /// shares a line that says the same.
 pub fn afresh(random: &mut Random, known: &Draft) -> Draft {
     let mut draft = Draft { types: Vec::new(), maps: vec![known.maps[0]], ..known.clone() };
-    let order = shuffled(random, draft.steps.len());
+    let mut order: Vec<usize> = (0..known.steps.len()).collect();
+    random.shuffle(&mut order);
     let mut shared_maps = vec![None; known.maps.len()];
     shared_maps[0] = Some(0);
     let mut writer = Writer { known, shared_types: vec![None; known.types.len()], shared_maps, draft: &mut draft };
@@ -20,14 +21,6 @@ pub fn afresh(random: &mut Random, known: &Draft) -> Draft {
         writer.draft.steps[step] = Step { kind, post, start, ..old };
     }
     draft
-}
-
-fn shuffled(random: &mut Random, count: usize) -> Vec<usize> {
-    let mut order: Vec<usize> = (0..count).collect();
-    for place in (1..count).rev() {
-        order.swap(place, random.below(place + 1));
-    }
-    order
 }
 
 struct Writer<'a> {

@@ -1,6 +1,7 @@
 //! Long types: chains of refs that are written twice and agree down to the last, or differ in one spot.
 
-use super::draft::{Draft, Map, Step, Type};
+use super::draft::{Draft, Heading, Map, Step, Type};
+use super::headings::often_written_out;
 use super::promise::Promise;
 use super::random::Random;
 use super::Drawn;
@@ -31,6 +32,7 @@ pub fn chain(random: &mut Random) -> Drawn {
         *write_chain(&mut draft, bottom, &places).last().expect("a chain has a bottom")
     };
     write_steps(&mut draft, &levels, shown);
+    let draft = often_written_out(random, draft);
     let promise = if differs { Promise::Breaks(Word::Var, 1) } else { Promise::Accepted };
     Drawn { promise, ..Drawn::of(&draft, "chain") }
 }
@@ -41,7 +43,7 @@ fn empty(locations: usize) -> Draft {
     let mut nearly = Map::default();
     nearly[locations - 1] = 1;
     let maps = vec![whole, Map::default(), Map::default(), nearly];
-    Draft { whole: 1, locations, types: Vec::new(), maps, steps: Vec::new() }
+    Draft { heading: Heading::C, whole: 1, locations, types: Vec::new(), maps, steps: Vec::new() }
 }
 
 /// The lines of a chain from its bottom up.

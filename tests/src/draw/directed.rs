@@ -5,6 +5,7 @@
 //! fail.
 
 use super::draft::{Draft, Map, Type};
+use super::headings::often_written_out;
 use super::honest::Builder;
 use super::random::Random;
 use crate::answer::WHOLE;
@@ -14,7 +15,7 @@ use crate::words::Word;
 pub fn breaking(random: &mut Random, word: Word, condition: u32) -> Draft {
     loop {
         if let Some(draft) = attempt(random, word, condition) {
-            return draft;
+            return often_written_out(random, draft);
         }
     }
 }

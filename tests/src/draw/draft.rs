@@ -24,8 +24,16 @@ pub struct Step {
     pub start: Option<usize>,
 }
 
+/// How line 1 of the split opens, and the number of the map that the program starts with.
+#[derive(Clone, Copy)]
+pub enum Heading {
+    C,
+    C2 { start: usize },
+}
+
 #[derive(Clone)]
 pub struct Draft {
+    pub heading: Heading,
     pub whole: u32,
     pub locations: usize,
     pub types: Vec<Type>,
@@ -67,6 +75,37 @@ impl Draft {
         }
     }
 
+    /// The number of the map that the program starts with.
+    pub fn start(&self) -> usize {
+        match self.heading {
+            Heading::C => 0,
+            Heading::C2 { start } => start,
+        }
+    }
+
+    /// Puts the maps in another order: `order` lists them by their old numbers. An empty start is left
+    /// alone, whatever it then means.
+    pub fn renumber_maps(&mut self, order: &[usize]) {
+        let mut new = vec![0; order.len()];
+        for (number, &old) in order.iter().enumerate() {
+            new[old] = number;
+        }
+        self.maps = order.iter().map(|&old| self.maps[old]).collect();
+        for kind in &mut self.types {
+            match kind {
+                Type::Int | Type::Ref { .. } => {}
+                Type::Lock(map) | Type::Tid(map) => *map = new[*map],
+            }
+        }
+        for step in &mut self.steps {
+            step.post = new[step.post];
+            step.start = step.start.map(|start| new[start]);
+        }
+        if let Heading::C2 { start } = &mut self.heading {
+            *start = new[*start];
+        }
+    }
+
     /// The step after the last part of this one.
     pub fn end_of(&self, step: usize) -> usize {
         let (mut open, mut at) = (1, step);
@@ -98,8 +137,7 @@ impl Draft {
 
     pub fn split(&self) -> Vec<u8> {
         let mut text = Vec::with_capacity(8 * self.maps.len() * self.locations + 12 * self.steps.len() + 1024);
-        let head = [self.locations, self.types.len(), self.maps.len()].map(|number| number as u32);
-        push_fields(&mut text, b"C,", &[self.whole, head[0], head[1], head[2]]);
+        self.push_head(&mut text, self.locations);
         for kind in &self.types {
             let (word, first, second): (&[u8], _, _) = match *kind {
                 Type::Int => (b"int,", 0, 0),
@@ -116,6 +154,16 @@ impl Draft {
             push_mark(&mut text, step);
         }
         text
+    }
+
+    /// Writes line 1 of the split with this number of locations.
+    pub fn push_head(&self, text: &mut Vec<u8>, locations: usize) {
+        let counts = [locations, self.types.len(), self.maps.len(), self.start()].map(|number| number as u32);
+        let [locations, types, maps, start] = counts;
+        match self.heading {
+            Heading::C => push_fields(text, b"C,", &[self.whole, locations, types, maps]),
+            Heading::C2 { .. } => push_fields(text, b"C2,", &[self.whole, locations, types, maps, start]),
+        }
     }
 }
 

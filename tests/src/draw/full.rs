@@ -1,6 +1,7 @@
 //! Drafts brought to an exact size: so many steps, types, maps, locations or bytes of split.
 
 use super::draft::{push_numeral, Draft, Map, Step, Type};
+use super::headings::often_written_out;
 use super::honest;
 use super::random::Random;
 use crate::answer::{LOCATIONS, MAPS, SPLIT_BYTES, STEPS, TYPES, WHOLE};
@@ -9,7 +10,8 @@ use crate::words::Word;
 /// An honest draft at every limit at once, its split `bytes` long.
 pub fn full(random: &mut Random, bytes: usize) -> Draft {
     loop {
-        let mut draft = honest::draft(random, 235, LOCATIONS as usize, WHOLE);
+        let draft = honest::draft(random, 235, LOCATIONS as usize, WHOLE);
+        let mut draft = often_written_out(random, draft);
         if with_steps(random, &mut draft, STEPS as usize) && filled(random, &mut draft, bytes) {
             return draft;
         }
@@ -80,8 +82,8 @@ fn unbound_variables(draft: &Draft) -> Vec<u32> {
 
 /// Puts `let variable = 0 in` in front, or `let variable = while * do 0 in`.
 fn wrap(draft: &mut Draft, variable: u32, int: usize, with_loop: bool) {
-    let root = draft.steps[0];
-    let plain = |word| Step { word, number: 0, kind: int, post: 0, start: None };
+    let (root, post) = (draft.steps[0], draft.start());
+    let plain = |word| Step { word, number: 0, kind: int, post, start: None };
     let mut front = vec![Step { word: Word::Let, number: variable, ..root }];
     front[0].start = None;
     if with_loop {

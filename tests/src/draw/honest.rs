@@ -5,7 +5,7 @@
 //! condition of Figure 5 holds of what it builds.
 
 use super::directed::Target;
-use super::draft::{at_least, sum, Draft, Map, Type};
+use super::draft::{at_least, sum, Draft, Heading, Map, Type};
 use super::random::Random;
 use crate::answer::{STEPS, VARIABLES, WHOLE};
 use crate::words::Word;
@@ -64,7 +64,8 @@ impl<'r> Builder<'r> {
     pub fn bare(random: &'r mut Random, locations: usize, whole: u32) -> Builder<'r> {
         let first = random.between(0, VARIABLES - 1);
         let unbound = (0..VARIABLES).map(|place| (first + 37 * place) % VARIABLES).collect();
-        let draft = Draft { whole, locations, types: Vec::new(), maps: Vec::new(), steps: Vec::new() };
+        let (types, maps, steps) = (Vec::new(), Vec::new(), Vec::new());
+        let draft = Draft { heading: Heading::C, whole, locations, types, maps, steps };
         Builder { random, draft, scope: Vec::new(), unbound, spoiled: false, slip: None }
     }
 

@@ -1,7 +1,8 @@
 //! Pairs at the limits of document 01 and one past them.
 
-use super::draft::{push_numeral, Draft};
+use super::draft::{Draft, Heading};
 use super::full::{full, program_with_bytes, with_locations, with_maps, with_steps, with_types};
+use super::headings::often_written_out;
 use super::honest;
 use super::random::Random;
 use super::Drawn;
@@ -11,7 +12,8 @@ use crate::words::Word;
 /// A pair at one of the limits, or one past it.
 pub fn at_limit(random: &mut Random) -> Drawn {
     let past = random.below(2);
-    let mut draft = honest::draft(random, 10, 2, 4);
+    let draft = honest::draft(random, 10, 2, 4);
+    let mut draft = often_written_out(random, draft);
     let mut room = WORK_SPACE;
     match random.below(14) {
         0 => drop(with_steps(random, &mut draft, STEPS as usize + past)),
@@ -38,15 +40,9 @@ fn past_in_head(random: &mut Random, draft: &mut Draft, limit: usize, past: usiz
     let mut drawn = Drawn::of(draft, "limit");
     if past == 1 {
         let head = drawn.split.iter().position(|&byte| byte == b'\n').unwrap_or(0);
-        let mut line = b"C,".to_vec();
-        let counts = [draft.whole, limit as u32 + 1, draft.types.len() as u32, draft.maps.len() as u32];
-        for (place, count) in counts.into_iter().enumerate() {
-            if place > 0 {
-                line.push(b',');
-            }
-            push_numeral(&mut line, count);
-        }
-        drawn.split.splice(..head, line);
+        let mut line = Vec::new();
+        draft.push_head(&mut line, limit + 1);
+        drawn.split.splice(..=head, line);
         drawn.room += random.below(3);
     }
     drawn
@@ -69,13 +65,14 @@ fn last_number_of_maps(random: &mut Random, draft: &mut Draft, past: usize) {
     draft.maps[last][location] = WHOLE + past as u32;
 }
 
-/// A step's type or map, or a body's start, is the last of its kind or one past.
+/// A step's type or map, or a body's or the program's start, is the last of its kind or one past.
 fn last_of_its_kind(random: &mut Random, draft: &mut Draft, past: usize) {
     let step = random.below(draft.steps.len());
     let (last_type, last_map) = (draft.types.len() - 1 + past, draft.maps.len() - 1 + past);
-    match random.below(3) {
+    match random.below(4) {
         0 => draft.steps[step].kind = last_type,
         1 => draft.steps[step].post = last_map,
+        2 => draft.heading = Heading::C2 { start: last_map },
         _ => draft.steps[step].start = Some(last_map),
     }
 }

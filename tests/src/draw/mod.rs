@@ -6,6 +6,7 @@ pub mod concurrent;
 mod directed;
 pub mod draft;
 pub mod full;
+mod headings;
 pub mod honest;
 mod honest_steps;
 mod idioms;
@@ -47,10 +48,11 @@ impl Drawn {
 pub fn pair(seed: u64, number: u64) -> Drawn {
     let random = &mut Random::new(seed, number);
     match random.below(1000) {
-        0..=249 => Drawn::accepted(&honest_draft(random), "honest"),
+        0..=239 => Drawn::accepted(&honest_draft(random), "honest"),
+        240..=249 => over_whole(random),
         250..=339 => Drawn::accepted(&written_afresh(random), "afresh"),
         340..=349 => chains::chain(random),
-        350..=399 => Drawn::accepted(&concurrent::draft(random), "concurrent"),
+        350..=399 => Drawn::accepted(&concurrent_draft(random), "concurrent"),
         400..=404 => Drawn::accepted(&near_full(random), "full"),
         405..=554 => directed(random, number),
         555..=729 => changed_draft(random),
@@ -62,8 +64,19 @@ pub fn pair(seed: u64, number: u64) -> Drawn {
     }
 }
 
+/// An honest draft under some heading.
+fn honest_draft(random: &mut Random) -> Draft {
+    let draft = sized_draft(random);
+    headings::often_written_out(random, draft)
+}
+
+fn concurrent_draft(random: &mut Random) -> Draft {
+    let draft = concurrent::draft(random);
+    headings::often_written_out(random, draft)
+}
+
 /// An honest draft, most often small.
-pub fn honest_draft(random: &mut Random) -> Draft {
+fn sized_draft(random: &mut Random) -> Draft {
     let size = match random.below(20) {
         0..=8 => 1 + random.below(12),
         9..=16 => 8 + random.below(50),
@@ -77,8 +90,15 @@ pub fn honest_draft(random: &mut Random) -> Draft {
 
 /// An honest draft with its types and maps written afresh.
 fn written_afresh(random: &mut Random) -> Draft {
-    let draft = if random.percent(70) { honest_draft(random) } else { concurrent::draft(random) };
-    afresh::afresh(random, &draft)
+    let draft = if random.percent(70) { sized_draft(random) } else { concurrent::draft(random) };
+    let draft = afresh::afresh(random, &draft);
+    headings::often_written_out(random, draft)
+}
+
+/// An honest draft, save that it starts with more than a whole.
+fn over_whole(random: &mut Random) -> Drawn {
+    let draft = honest_draft(random);
+    headings::over_whole(random, draft)
 }
 
 /// A full pair with a split at or under the limit.
@@ -115,7 +135,7 @@ fn changed_text(random: &mut Random) -> Drawn {
 
 /// An honest pair, most often with threads, and a long numeral in it.
 fn long_numeral(random: &mut Random) -> Drawn {
-    let draft = if random.percent(50) { honest_draft(random) } else { concurrent::draft(random) };
+    let draft = if random.percent(50) { honest_draft(random) } else { concurrent_draft(random) };
     numerals::long_numeral(random, &draft)
 }
 

@@ -1,6 +1,6 @@
 //! Mutants: one thing changed in an honest pair, in the draft or in a sheet's text.
 
-use super::draft::{push_numeral, Draft, Type};
+use super::draft::{push_numeral, Draft, Heading, Type};
 use super::random::Random;
 use crate::answer::WHOLE;
 use crate::words::{Word, WORDS};
@@ -8,7 +8,7 @@ use crate::words::{Word, WORDS};
 /// Changes one word, type, map, number or share of a draft.
 pub fn change_draft(random: &mut Random, draft: &mut Draft) {
     let step = random.below(draft.steps.len());
-    match random.below(10) {
+    match random.below(11) {
         0 | 1 => draft.steps[step].kind = random.below(draft.types.len()),
         2 | 3 => draft.steps[step].post = random.below(draft.maps.len()),
         4 => draft.steps[step].start = random.percent(70).then(|| random.below(draft.maps.len())),
@@ -16,6 +16,7 @@ pub fn change_draft(random: &mut Random, draft: &mut Draft) {
         6 => change_variable(random, draft),
         7 => change_type(random, draft),
         8 => change_number(random, draft),
+        9 => change_heading(random, draft),
         _ => draft.whole = random.pick(&[1, 2, draft.whole + 1, draft.whole.max(2) - 1, WHOLE]),
     }
 }
@@ -42,6 +43,14 @@ fn change_variable(random: &mut Random, draft: &mut Draft) {
         return;
     }
     draft.steps[random.pick(&both)].number = draft.steps[random.pick(&lets)].number;
+}
+
+/// Another start, or the other heading.
+fn change_heading(random: &mut Random, draft: &mut Draft) {
+    draft.heading = match draft.heading {
+        Heading::C2 { .. } if random.percent(30) => Heading::C,
+        _ => Heading::C2 { start: random.below(draft.maps.len()) },
+    };
 }
 
 fn change_type(random: &mut Random, draft: &mut Draft) {
@@ -79,7 +88,7 @@ pub fn change_text(random: &mut Random, text: &mut Vec<u8>) {
 }
 
 /// Bytes that matter to the formats, to be met more often than others.
-const TELLING: &[u8] = b"\n\n,,0019 \r-+PCintrefvlk\0\xff";
+const TELLING: &[u8] = b"\n\n,,001239 \r-+PCintrefvlk\0\xff";
 
 fn drawn_byte(random: &mut Random) -> u8 {
     if random.percent(80) {

@@ -1,6 +1,6 @@
 //! Noise: bytes, scraps of the formats, and drawn trees with drawn splits.
 
-use super::draft::{Draft, Map, Step, Type};
+use super::draft::{Draft, Heading, Map, Step, Type};
 use super::promise::Promise;
 use super::random::Random;
 use super::Drawn;
@@ -13,8 +13,11 @@ pub fn noise(random: &mut Random) -> Drawn {
     let (program, split) = match random.below(8) {
         0 => (bytes(random), bytes(random)),
         1 => (honest_program, bytes(random)),
-        2 => (scraps(random, b'P'), scraps(random, b'C')),
-        3 => (honest_program, scraps(random, b'C')),
+        2 => (scraps(random, b"P,"), scraps(random, b"C,")),
+        3 => {
+            let heading = random.pick(&[b"C,".as_slice(), b"C2,"]);
+            (honest_program, scraps(random, heading))
+        }
         _ => return Drawn::of(&drawn_tree(random), "noise"),
     };
     Drawn { program, split, room: WORK_SPACE, origin: "noise", promise: Promise::Open }
@@ -26,10 +29,10 @@ fn bytes(random: &mut Random) -> Vec<u8> {
 }
 
 /// Words, numerals, commas and line ends in no order.
-fn scraps(random: &mut Random, first: u8) -> Vec<u8> {
+fn scraps(random: &mut Random, opening: &[u8]) -> Vec<u8> {
     let known: [&[u8]; 12] =
         [b",", b",", b"\n", b"\n", b"0", b"1", b"2", b"int", b"ref,0,0\n", b"0,0,\n", b"int,0\n", b"int,0,0\n"];
-    let mut text = vec![first, b','];
+    let mut text = opening.to_vec();
     for _ in 0..random.below(30) {
         let scrap = random.pick(&known);
         text.extend_from_slice(scrap);
@@ -40,7 +43,9 @@ fn scraps(random: &mut Random, first: u8) -> Vec<u8> {
 /// A tree of drawn words with drawn types and maps, all of them in range.
 fn drawn_tree(random: &mut Random) -> Draft {
     let locations = 1 + random.below(3);
-    let mut draft = Draft { whole: 2, locations, types: vec![Type::Int], maps: Vec::new(), steps: Vec::new() };
+    let heading = if random.percent(50) { Heading::C } else { Heading::C2 { start: random.below(3) } };
+    let (types, maps, steps) = (vec![Type::Int], Vec::new(), Vec::new());
+    let mut draft = Draft { heading, whole: 2, locations, types, maps, steps };
     for _ in 0..3 {
         let mut map = Map::default();
         map[..locations].fill_with(|| random.between(0, 2));

@@ -3,7 +3,7 @@
 //! Only D and the numbers of maps go that far, up to 1,000,000,000. So elsewhere the answer is known:
 //! out of range up to ten digits, the wrong form past them.
 
-use super::draft::{Draft, Type};
+use super::draft::{Draft, Heading, Type};
 use super::promise::Promise;
 use super::random::Random;
 use super::Drawn;
@@ -85,7 +85,7 @@ fn place_in_split(random: &mut Random, draft: &Draft) -> Place {
     let (types, maps) = (draft.types.len(), draft.maps.len());
     let (line, field, wide) = match random.below(7) {
         0 => (1, 1, true),
-        1 => (1, 2 + random.below(3), false),
+        1 => (1, 2 + random.below(3 + usize::from(matches!(draft.heading, Heading::C2 { .. }))), false),
         2 => (2 + drawn_type(random, draft), 1 + random.below(2), false),
         3 => (2 + types + random.below(maps), random.below(draft.locations), true),
         4 => (2 + types + maps + random.below(draft.steps.len()), random.below(2), false),

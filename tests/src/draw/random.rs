@@ -39,6 +39,12 @@ impl Random {
         choices[self.below(choices.len())]
     }
 
+    pub fn shuffle<T>(&mut self, things: &mut [T]) {
+        for place in (1..things.len()).rev() {
+            things.swap(place, self.below(place + 1));
+        }
+    }
+
     pub fn byte(&mut self) -> u8 {
         self.next() as u8
     }

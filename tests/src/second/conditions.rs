@@ -1,4 +1,4 @@
-//! Map 0 (refusal 30) and the conditions of Figure 5 (refusals 31 to 33).
+//! The start (refusal 30) and the conditions of Figure 5 (refusals 31 to 33).
 
 use super::program::{line_of, Step};
 use super::split::{Split, Type};
@@ -7,11 +7,11 @@ use crate::words::Word;
 
 /// The first false condition, by step line and then by number.
 pub fn check(steps: &[Step], split: &Split) -> Result<(), Returned> {
-    if let Some(location) = split.map(0).iter().position(|&number| number > split.whole) {
+    if let Some(location) = split.map(split.start).iter().position(|&number| number > split.whole) {
         return Err(Returned { number: 30, line: 2, condition: 0, location: location as u32 });
     }
     // The map before each step. A step's parts come after it, so each entry is set in time.
-    let mut pres = [0; STEPS as usize];
+    let mut pres = [split.start; STEPS as usize];
     for step in 0..steps.len() {
         hand_on(steps, split, &mut pres, step);
         let judge = Judge { steps, split, step, pre: pres[step] };

@@ -24,6 +24,8 @@ pub struct Mark {
 
 pub struct Split {
     pub whole: u32,
+    /// The map that the program starts with.
+    pub start: usize,
     pub locations: usize,
     pub types: Vec<Type>,
     pub marks: Vec<Mark>,
@@ -57,6 +59,7 @@ struct Head {
     locations: u32,
     types: u32,
     maps: u32,
+    start: u32,
 }
 
 /// Reads the whole sheet beside the steps of its program.
@@ -67,23 +70,28 @@ pub fn read(split: &[u8], steps: &[Step]) -> Result<Split, Returned> {
     let numbers = read_maps(&mut text, &head)?;
     let marks = read_marks(&mut text, &head, steps)?;
     text.end()?;
-    Ok(Split { whole: head.whole, locations: head.locations as usize, types, marks, numbers })
+    let (start, locations) = (head.start as usize, head.locations as usize);
+    Ok(Split { whole: head.whole, start, locations, types, marks, numbers })
 }
 
+/// Reads `C,D,L,T,M`, which starts with map 0, or `C2,D,L,T,M,r`.
 fn read_head(text: &mut Text) -> Result<Head, Returned> {
     let head = text.line(|line| {
         line.byte(b'C')?;
+        let names_start = line.byte(b'2').is_some();
         Some(Head {
             whole: line.next_numeral()?,
             locations: line.next_numeral()?,
             types: line.next_numeral()?,
             maps: line.next_numeral()?,
+            start: if names_start { line.next_numeral()? } else { 0 },
         })
     })?;
     text.in_range((1..=WHOLE).contains(&head.whole))?;
     text.in_range((1..=LOCATIONS).contains(&head.locations))?;
     text.in_range((1..=TYPES).contains(&head.types))?;
     text.in_range((1..=MAPS).contains(&head.maps))?;
+    text.in_range(head.start < head.maps)?;
     Ok(head)
 }
 

@@ -1,6 +1,6 @@
 use mathlib.Core.Path.{sym, _∙_}
 use Rattle.spec.specs.Split.{split}
-use Rattle.checker.proofs.Stages.{long-split-refused, bad-split-refused, good-split-ruled, split-refused-by, split-read-by, denominator-told, locations-told}
+use Rattle.checker.proofs.Stages.{long-split-refused, bad-split-refused, good-split-ruled, split-refused-by, split-read-by, denominator-told, locations-told, start-told}
 use borrow.Author.Needs.{needs}
 use Rattle.checker.proofs.check_split.Statement.{statement}
 use Rattle.checker.proofs.check_split.Tie as tie
@@ -53,7 +53,7 @@ returns-3 c p P F holds counted =
     let text = c .before .before .before .before .before .before .before .before .before .before .before .before .before .before .args .split .now in
     let (S, reads-on, header, holds′, small) = split-read-by (c .before .before .before .before .before .before .before .before .before .read .last .1 .1 .0) _ (split (P .steps) text) (c .before .before .before .before .before .before .before .before .before .read .ensures .answered (P .steps) (holds .steps) (sym counted)) (c .before .before .before .before .before .header .given .1) in
     good-split-ruled p text P F (c .before .before .before .before .before .before .before .before .before .before .before .if1 .left) S reads-on (c .before .before .before .before .before .before .before .before .before .read .ensures .changed) holds holds′ counted (c .before .before .before .before .before .before .before .before .before .before .before .before .before .before .pre .1)
-    (denominator-told S _ header) (locations-told S _ header) (c .before .before .check-rules .ensures)
+    (denominator-told S _ header) (locations-told S _ header) (start-told S _ header) (c .before .before .check-rules .ensures)
 
 pub check-split-spec : {M : Type 1} → statement M
 check-split-spec =

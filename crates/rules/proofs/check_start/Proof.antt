@@ -5,7 +5,6 @@ use native.Mathlib.Omega.{arith}
 use native.Mathlib.Nat.{sub-zero}
 use borrow.Author.Tests.{le-leb, lt-leb}
 use Rattle.spec.specs.Maps.{overWhole}
-use Rattle.spec.specs.Conditions.{startMap}
 use Rattle.spec.specs.Verdict.{refuseOver}
 use Rattle.workspace.specs.Layout.{mapCell}
 use Rattle.rules.specs.Outcome.{outcome}
@@ -16,13 +15,13 @@ use Rattle.rules.proofs.check_start.Statement.{statement}
 use Rattle.rules.proofs.check_start.Tie as tie
 
 abbrev Inv-loop : tie.InvT-loop
-Inv-loop work denominator locations l₀ l =
+Inv-loop work denominator locations start l₀ l =
     (l ≤ locations)
-    × (overWhole denominator 0 (mapFrom work startMap 0 locations)
-    ≡ overWhole denominator l (mapFrom work startMap l (locations - l)))
+    × (overWhole denominator 0 (mapFrom work start 0 locations)
+    ≡ overWhole denominator l (mapFrom work start l (locations - l)))
 
 abbrev μ-loop : tie.MeasureT-loop
-μ-loop work denominator locations l₀ l = locations - l
+μ-loop work denominator locations start l₀ l = locations - l
 
 loop-holds : tie.Need-loop-holds Inv-loop μ-loop
 loop-holds c = (omega arith, rw sub-zero refl)
@@ -34,7 +33,7 @@ map-cell-requires : tie.Need-map-cell-requires Inv-loop μ-loop
 map-cell-requires c κs = omega arith
 
 returns : tie.Need-returns Inv-loop μ-loop
-unfolding outcome startOutcome startMap refuseOver
+unfolding outcome startOutcome refuseOver
 returns c =
     rw (c .before .before .before .before .loop .inv .1
     ∙ over-here _ _ _ _ _ (c .before .before .before .loop-test .taken) (rw (← c .before .map-cell .ensures
@@ -47,7 +46,6 @@ loop-less : tie.Need-loop-less Inv-loop μ-loop
 loop-less c = omega arith
 
 loop-again : tie.Need-loop-again Inv-loop μ-loop
-unfolding startMap
 loop-again c = (
   omega arith,
   c .before .before .before .before .loop .inv .1

@@ -28,7 +28,7 @@ same-length c = search needs
 returns : tie.Need-returns
 unfolding both
 returns c = record {
-  answers = λ P S H. rw (← start-shown _ _ _ _ P S H, ← c .before .before .check-start .ensures) (sym
+  answers = λ P S H. rw (← start-shown _ _ _ _ _ P S H, ← c .before .before .check-start .ensures) (sym
       (refused-stops _ _ (c .enum-told2 .given .1)));
   changed = changed-nothing presAt (presAt + 256) _;
 }
@@ -48,7 +48,7 @@ returns-2 c = record {
       c .before .before .check-steps .ensures .0
       ∙ sym (met-goes-on _ _ (c .before .before .before .before .enum-told .given .1))
       ∙ rw (c .before .before .before .before .before .before .check-start .ensures)
-      (sheets-shown _ _ _ _ P S H (c .before .before .before .before .before .before .before .before .before .pre .0)
+      (sheets-shown _ _ _ _ _ P S H (c .before .before .before .before .before .before .before .before .before .pre .0)
       (c .before .before .before .before .before .before .before .before .before .pre .1));
   changed = c .before .before .check-steps .ensures .1;
 }

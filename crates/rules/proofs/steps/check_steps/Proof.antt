@@ -6,7 +6,6 @@ use native.Mathlib.Omega.{arith}
 use native.Mathlib.Nat.{sub-zero}
 use borrow.Author.Needs.{needs}
 use lib.ListN.{length, length-set}
-use Rattle.spec.specs.Conditions.{startMap}
 use Rattle.workspace.specs.Layout.{presAt}
 use Rattle.workspace.specs.Region.{ChangedWithin}
 use Rattle.workspace.proofs.Region.{changed-nothing, changed-store, changed-then}
@@ -51,13 +50,13 @@ same-length : tie.Need-same-length Inv-loop μ-loop
 same-length c = search needs
 
 returns : tie.Need-returns Inv-loop μ-loop
-unfolding atRoot startMap
+unfolding atRoot
 returns c = (
   sym (c .before .before .before .before .before .loop .inv .3
       ∙ walk-more _ _ _ _ _ (c .before .before .before .before .loop-test .taken)
       ∙ rw (← c .before .before .check-step .ensures)
       (refused-stops _ _ (c .enum-told2 .given .1))),
-  changed-then presAt (presAt + 256) (changed-store presAt (presAt + 256) _ presAt 0 (omega arith)
+  changed-then presAt (presAt + 256) (changed-store presAt (presAt + 256) _ presAt _ (omega arith)
       (omega arith)) (c .before .before .before .before .before .loop .inv .2),
 )
 
@@ -90,11 +89,11 @@ same-length-2 : tie.Need-same-length-2 Inv-loop μ-loop
 same-length-2 c = search needs
 
 returns-2 : tie.Need-returns-2 Inv-loop μ-loop
-unfolding outcome atRoot startMap
+unfolding outcome atRoot
 returns-2 c = (
   sym (c .before .loop .inv .3
       ∙ walk-end _ _ _ _ _ (c .loop-test .left)),
-  changed-then presAt (presAt + 256) (changed-store presAt (presAt + 256) _ presAt 0 (omega arith)
+  changed-then presAt (presAt + 256) (changed-store presAt (presAt + 256) _ presAt _ (omega arith)
       (omega arith)) (c .before .loop .inv .2),
 )
 

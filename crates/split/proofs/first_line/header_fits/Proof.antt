@@ -1,44 +1,57 @@
 -- Each number of a header is tested against its range.
-use borrow.Author.Needs.{needs}
 use mathlib.Core.Path.{sym, _∙_}
-use Rattle.split.specs.Lines.{headerRanges, headerNumbers}
-use Rattle.split.proofs.Tests.{untrue, unfalse, range-out, range-next, range-last}
+use Rattle.spec.specs.Split.{headerRanges}
+use Rattle.split.specs.Lines.{headerTold, headerFits}
+use Rattle.split.proofs.Tests.{untrue, unfalse, range-out, range-next, range-last, range-index, below-test}
+use borrow.Author.Needs.{needs}
 use Rattle.split.proofs.first_line.header_fits.Statement.{statement}
 use Rattle.split.proofs.first_line.header_fits.Tie as tie
+
+index-requires : tie.Need-index-requires
+index-requires c κs = search needs
+
+index-requires-2 : tie.Need-index-requires-2
+index-requires-2 c κs = search needs
 
 within-requires : tie.Need-within-requires
 within-requires c κs = search needs
 
 returns : tie.Need-returns
-unfolding headerRanges headerNumbers
+unfolding headerFits headerTold headerRanges
 returns c =
     let within = c .before in
-    range-out _ _ _ _ (sym (within .within .ensures) ∙ untrue _ (c .if1 .taken))
+    let index2 = within .before in
+    let index = index2 .before in
+    range-out _ _ _ _ (range-index 1 (index2 .index2 .ensures .0) (index .index .ensures .0) (within .within .ensures) ∙ untrue _ (c .if1 .taken))
 
 within-requires-2 : tie.Need-within-requires-2
 within-requires-2 c κs = search needs
 
 returns-2 : tie.Need-returns-2
-unfolding headerRanges headerNumbers
+unfolding headerFits headerTold headerRanges
 returns-2 c =
     let within2 = c .before in
     let else1 = within2 .before in
     let within = else1 .before in
-    let in1 = sym (within .within .ensures) ∙ unfalse _ (else1 .if1 .left) in
+    let index2 = within .before in
+    let index = index2 .before in
+    let in1 = range-index 1 (index2 .index2 .ensures .0) (index .index .ensures .0) (within .within .ensures) ∙ unfalse _ (else1 .if1 .left) in
     range-next _ _ _ _ in1 (range-out _ _ _ _ (sym (within2 .within2 .ensures) ∙ untrue _ (c .if2 .taken)))
 
 within-requires-3 : tie.Need-within-requires-3
 within-requires-3 c κs = search needs
 
 returns-3 : tie.Need-returns-3
-unfolding headerRanges headerNumbers
+unfolding headerFits headerTold headerRanges
 returns-3 c =
     let within3 = c .before in
     let else2 = within3 .before in
     let within2 = else2 .before in
     let else1 = within2 .before in
     let within = else1 .before in
-    let in1 = sym (within .within .ensures) ∙ unfalse _ (else1 .if1 .left) in
+    let index2 = within .before in
+    let index = index2 .before in
+    let in1 = range-index 1 (index2 .index2 .ensures .0) (index .index .ensures .0) (within .within .ensures) ∙ unfalse _ (else1 .if1 .left) in
     let in2 = sym (within2 .within2 .ensures) ∙ unfalse _ (else2 .if2 .left) in
     range-next _ _ _ _ in1 (range-next _ _ _ _ in2 (range-out _ _ _ _ (sym (within3 .within3 .ensures) ∙ untrue _ (c .if3 .taken))))
 
@@ -46,23 +59,51 @@ within-requires-4 : tie.Need-within-requires-4
 within-requires-4 c κs = search needs
 
 returns-4 : tie.Need-returns-4
-unfolding headerRanges headerNumbers
+unfolding headerFits headerTold headerRanges
 returns-4 c =
-    let else3 = c .before in
+    let within4 = c .before in
+    let else3 = within4 .before in
     let within3 = else3 .before in
     let else2 = within3 .before in
     let within2 = else2 .before in
     let else1 = within2 .before in
     let within = else1 .before in
-    let in1 = sym (within .within .ensures) ∙ unfalse _ (else1 .if1 .left) in
+    let index2 = within .before in
+    let index = index2 .before in
+    let in1 = range-index 1 (index2 .index2 .ensures .0) (index .index .ensures .0) (within .within .ensures) ∙ unfalse _ (else1 .if1 .left) in
     let in2 = sym (within2 .within2 .ensures) ∙ unfalse _ (else2 .if2 .left) in
     let in3 = sym (within3 .within3 .ensures) ∙ unfalse _ (else3 .if3 .left) in
-    range-next _ _ _ _ in1 (range-next _ _ _ _ in2 (range-next _ _ _ _ in3 (range-last _ _ (c .within4 .ensures))))
+    range-next _ _ _ _ in1 (range-next _ _ _ _ in2 (range-next _ _ _ _ in3 (range-out _ _ _ _ (sym (within4 .within4 .ensures) ∙ untrue _ (c .if4 .taken)))))
+
+index-requires-3 : tie.Need-index-requires-3
+index-requires-3 c κs = search needs
+
+returns-5 : tie.Need-returns-5
+unfolding headerFits headerTold headerRanges
+returns-5 c =
+    let index3 = c .before in
+    let else4 = index3 .before in
+    let within4 = else4 .before in
+    let else3 = within4 .before in
+    let within3 = else3 .before in
+    let else2 = within3 .before in
+    let within2 = else2 .before in
+    let else1 = within2 .before in
+    let within = else1 .before in
+    let index2 = within .before in
+    let index = index2 .before in
+    let in1 = range-index 1 (index2 .index2 .ensures .0) (index .index .ensures .0) (within .within .ensures) ∙ unfalse _ (else1 .if1 .left) in
+    let in2 = sym (within2 .within2 .ensures) ∙ unfalse _ (else2 .if2 .left) in
+    let in3 = sym (within3 .within3 .ensures) ∙ unfalse _ (else3 .if3 .left) in
+    let in4 = sym (within4 .within4 .ensures) ∙ unfalse _ (else4 .if4 .left) in
+    range-next _ _ _ _ in1 (range-next _ _ _ _ in2 (range-next _ _ _ _ in3 (range-next _ _ _ _ in4 (range-last _ _ (below-test _ _ (index3 .index3 .ensures .0))))))
 
 pub header-fits-spec : {M : Type 1} → statement M
 header-fits-spec =
     tie.close
     (tie.spec
+    index-requires
+    index-requires-2
     within-requires
     returns
     within-requires-2
@@ -70,4 +111,6 @@ header-fits-spec =
     within-requires-3
     returns-3
     within-requires-4
-    returns-4)
+    returns-4
+    index-requires-3
+    returns-5)

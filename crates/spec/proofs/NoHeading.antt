@@ -1,0 +1,113 @@
+-- 30 to 33 do not look at the heading: two splits that differ in nothing else get the same outcome.
+use mathlib.Core.Path.{_≡_, refl, ap, _∙_}
+use mathlib.Core.List.{List, [], _∷_, _++_}
+use mathlib.Core.Bool.{Bool}
+use lib.ListN.{getD}
+use Rattle.spec.specs.Expression.{Expr, leaf, unary, binary}
+use Rattle.spec.specs.Program.{Program}
+use Rattle.spec.specs.Split.{Map, Header, Split}
+use Rattle.spec.specs.Agreement.{Tree, plain, int, sameTree, treeOf, trees, tree, agree}
+use Rattle.spec.specs.Conditions.{Condition, T, Env, typeAt, mapAt, startMap, contains, row, type, kind, post, start, K, own}
+use Rattle.spec.specs.Sites.{Site, preOfPart, preOfSecond, bind, sites, claimsAt, claims, firstFalse}
+use Rattle.spec.specs.Verdict.{startAtMostOne, ruled}
+use Rattle.spec.specs.declared.Heading.{Heading}
+use Rattle.spec.specs.declared.MapNumber.{MapNumber}
+use Rattle.spec.specs.declared.TypeNumber.{TypeNumber}
+use Rattle.spec.specs.declared.TypeLine.{TypeLine}
+use Rattle.spec.specs.declared.TypeLine.the-variants as type-line
+use Rattle.spec.specs.declared.LeafWord.the-variants.{Var, Int, Newtid, Newlock}
+use Rattle.spec.specs.declared.UnaryWord.the-variants.{While, Join, Ref, Read, Freelock, Lock, Unlock}
+use Rattle.spec.specs.declared.BinaryWord.the-variants.{Let, If, Spawn, Write}
+
+-- a header, and a split, under another heading
+unfoldable pub headedAs : Heading → Header → Header
+headedAs h H = record {
+  heading = h;
+  denominator = H .denominator;
+  locations = H .locations;
+  types = H .types;
+  maps = H .maps;
+  start = H .start;
+}
+
+unfoldable pub under : Heading → Split → Split
+under h S = record { header = headedAs h (S .header); types = S .types; maps = S .maps; rows = S .rows }
+
+module _ (h : Heading) (S : Split) where
+  -- ---------------------------------------------------------------- types
+
+  same-tree-of : (before : List Tree) (x : TypeLine) → treeOf (under h S) before x ≡ treeOf S before x
+  unfolding treeOf mapAt under
+  same-tree-of before type-line.Int = refl
+  same-tree-of before (type-line.Ref p c) = refl
+  same-tree-of before (type-line.Lock k) = refl
+  same-tree-of before (type-line.Tid k) = refl
+
+  same-trees : (before : List Tree) (xs : List TypeLine) → trees (under h S) before xs ≡ trees S before xs
+  unfolding trees
+  same-trees before [] = refl
+  same-trees before (x ∷ xs) =
+      same-trees (before ++ treeOf (under h S) before x ∷ []) xs
+      ∙ ap (λ (y : Tree). trees S (before ++ y ∷ []) xs) (same-tree-of before x)
+
+  same-agree : (t u : TypeNumber) → agree (under h S) t u ≡ agree S t u
+  unfolding agree tree under
+  same-agree t u =
+      ap (λ (l : List Tree). sameTree (getD l (t .0) (plain int [])) (getD l (u .0) (plain int []))) (same-trees [] (S .types))
+
+  same-contains : (x : TypeLine) (t : TypeNumber) → contains (under h S) x t ≡ contains S x t
+  unfolding contains
+  same-contains type-line.Int t = refl
+  same-contains (type-line.Ref p c) t = same-agree c t
+  same-contains (type-line.Lock k) t = refl
+  same-contains (type-line.Tid k) t = refl
+
+  -- ---------------------------------------------------------------- conditions
+
+  -- lists of conditions that differ in how two types are compared, at the first or later
+  at-first : {a b : Bool} (cs : List Condition) → a ≡ b → _≡_ {A = List Condition} (T a ∷ cs) (T b ∷ cs)
+  at-first cs e = ap (λ (x : Bool). T x ∷ cs) e
+
+  later : (c : Condition) {cs ds : List Condition} → cs ≡ ds → _≡_ {A = List Condition} (c ∷ cs) (c ∷ ds)
+  later c e = ap (_∷_ c) e
+
+  same-own : (Γ : Env) (pre : Map) (e : Expr) → own (under h S) Γ pre e ≡ own S Γ pre e
+  unfolding own row type kind post start K typeAt mapAt under headedAs
+  same-own Γ pre (leaf Var k v) = at-first _ (same-agree _ _)
+  same-own Γ pre (leaf Int k v) = refl
+  same-own Γ pre (leaf Newtid k v) = refl
+  same-own Γ pre (leaf Newlock k v) = refl
+  same-own Γ pre (unary While k v e₁) = refl
+  same-own Γ pre (unary Join k v e₁) = refl
+  same-own Γ pre (unary Ref k v e₁) = at-first _ (same-contains _ _)
+  same-own Γ pre (unary Read k v e₁) = later _ (at-first _ (same-contains _ _))
+  same-own Γ pre (unary Freelock k v e₁) = refl
+  same-own Γ pre (unary Lock k v e₁) = refl
+  same-own Γ pre (unary Unlock k v e₁) = refl
+  same-own Γ pre (binary Let k v e₁ e₂) = at-first _ (same-agree _ _)
+  same-own Γ pre (binary If k v e₁ e₂) = at-first _ (same-agree _ _) ∙ later _ (at-first _ (same-agree _ _))
+  same-own Γ pre (binary Spawn k v e₁ e₂) = refl
+  same-own Γ pre (binary Write k v e₁ e₂) = later _ (later _ (at-first _ (same-contains _ _)))
+
+  -- ---------------------------------------------------------------- all of them
+
+  same-sites : (Γ : Env) (pre : MapNumber) (e : Expr) → sites (under h S) Γ pre e ≡ sites S Γ pre e
+  unfolding sites row type under
+  same-sites Γ pre (leaf w k v) = refl
+  same-sites Γ pre (unary w k v e₁) = rw (same-sites Γ (preOfPart w pre (row S (unary w k v e₁) .post)) e₁)
+  same-sites Γ pre (binary w k v e₁ e₂) = rw (same-sites Γ pre e₁, same-sites (bind w v (type S e₁) Γ) (preOfSecond w pre (row S e₁ .post) (row S (binary w k v e₁ e₂) .start)) e₂)
+
+  same-claims : (ss : List Site) → claims (under h S) ss ≡ claims S ss
+  unfolding claims claimsAt mapAt under
+  same-claims [] = refl
+  same-claims (s ∷ ss) = rw (same-own (s .Γ) (mapAt S (s .pre)) (s .step), same-claims ss)
+
+  pub same-start : (P : Program) → startAtMostOne P (under h S) ≡ startAtMostOne P S
+  unfolding startAtMostOne startMap mapAt under headedAs
+  same-start P = refl
+
+  pub same-ruled : (P : Program) → ruled P (under h S) ≡ ruled P S
+  unfolding ruled startMap under headedAs
+  same-ruled P =
+      ap (λ (ss : List Site). firstFalse (claims (under h S) ss)) (same-sites [] (S .header .start) (P .root))
+      ∙ ap firstFalse (same-claims (sites S [] (S .header .start) (P .root)))

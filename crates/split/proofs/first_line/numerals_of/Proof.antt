@@ -1,0 +1,19 @@
+use Rattle.split.proofs.HeaderLaws.{four-numerals, five-numerals}
+use borrow.Author.Needs.{needs}
+use Rattle.split.proofs.first_line.numerals_of.Statement.{statement}
+use Rattle.split.proofs.first_line.numerals_of.Tie as tie
+
+enum-told : tie.Need-enum-told
+enum-told c = search needs
+
+enum-told-2 : tie.Need-enum-told-2
+enum-told-2 c = search needs
+
+returns : tie.Need-returns
+returns c = four-numerals _ (c .enum-told .given .1)
+
+returns-2 : tie.Need-returns-2
+returns-2 c = five-numerals _ (c .enum-told2 .given .1)
+
+pub numerals-of-spec : {M : Type 1} → statement M
+numerals-of-spec = tie.close (tie.spec enum-told enum-told-2 returns returns-2)

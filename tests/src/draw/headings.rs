@@ -1,0 +1,66 @@
+//! The same draft under another heading, and drafts that start with more than a whole.
+
+use super::draft::{Draft, Heading, Map, Step};
+use super::promise::Promise;
+use super::random::Random;
+use super::Drawn;
+use crate::answer::{Returned, MAPS, WHOLE};
+use crate::words::Word;
+
+/// Now and then a `C` draft with its start written out. What was accepted stays accepted.
+pub fn often_written_out(random: &mut Random, draft: Draft) -> Draft {
+    match random.percent(50) {
+        true => written_out(random, draft),
+        false => draft,
+    }
+}
+
+/// A `C2` sheet that says the same as a `C` sheet, its maps in another order.
+fn written_out(random: &mut Random, mut draft: Draft) -> Draft {
+    for step in draft.steps.iter_mut().filter(|step| step.word == Word::Spawn) {
+        step.start.get_or_insert(0);
+    }
+    draft.heading = Heading::C2 { start: 0 };
+    if draft.maps.len() < MAPS as usize && random.percent(20) {
+        over_the_start(random, &mut draft);
+    }
+    let mut order: Vec<usize> = (0..draft.maps.len()).collect();
+    random.shuffle(&mut order);
+    draft.renumber_maps(&order);
+    leave_starts_out(random, &mut draft);
+    draft
+}
+
+/// An unused map with more than a whole somewhere, which is no fault unless the program starts with it.
+fn over_the_start(random: &mut Random, draft: &mut Draft) {
+    let mut map = Map::default();
+    map[random.below(draft.locations)] = WHOLE;
+    draft.add_map(map);
+}
+
+/// An empty start means map 0 under both headings.
+fn leave_starts_out(random: &mut Random, draft: &mut Draft) {
+    let first = draft.maps[0];
+    let maps = &draft.maps;
+    let empty = |step: &&mut Step| step.start.is_some_and(|start| maps[start] == first);
+    for step in draft.steps.iter_mut().filter(empty) {
+        step.start = step.start.filter(|_| random.percent(50));
+    }
+}
+
+/// A draft whose start has more than a whole of one location or more.
+pub fn over_whole(random: &mut Random, mut draft: Draft) -> Drawn {
+    let start = draft.start();
+    let mut map = draft.maps[start];
+    let lowest = random.below(draft.locations);
+    for (location, number) in map[..draft.locations].iter_mut().enumerate().skip(lowest) {
+        if location == lowest || random.percent(30) {
+            *number = (draft.whole + 1 + random.below(3) as u32).min(WHOLE);
+        }
+    }
+    draft.maps[start] = map;
+    let known = draft.whole < WHOLE && draft.maps[start][..lowest].iter().all(|&number| number <= draft.whole);
+    let answer = Returned { number: 30, line: 2, condition: 0, location: lowest as u32 };
+    let promise = if known { Promise::Exactly(answer) } else { Promise::Open };
+    Drawn { promise, ..Drawn::of(&draft, "over whole") }
+}
