@@ -9,18 +9,16 @@ use Rattle.spec.specs.Expression.{Step, Expr, leaf, unary, binary, size}
 use Rattle.spec.specs.Conditions.{lineOf}
 use Rattle.spec.specs.WellFormed.{prefix, LinesFrom, UsedInside}
 use Rattle.spec.proofs.Listing.{prefix-length}
-use Rattle.spec.specs.declared.Word.the-variants.{Leaf, Unary, Binary}
 use Rattle.spec.specs.declared.LeafWord.{LeafWord}
 use Rattle.spec.specs.declared.LeafWord.the-variants.{Var}
 use Rattle.spec.specs.declared.UnaryWord.{UnaryWord}
 use Rattle.spec.specs.declared.BinaryWord.{BinaryWord}
 use Rattle.spec.specs.declared.BinaryWord.the-variants.{Let, If, Spawn, Write}
-use Rattle.workspace.specs.Layout.{wordsAt, endsAt, letsAt, presAt, codeOf, wordOf}
+use Rattle.workspace.specs.Layout.{wordsAt, endsAt, letsAt, presAt, leafCode, unaryCode, binaryCode, codeOf}
 use Rattle.workspace.specs.Region.{Region, ChangedWithin}
 use Rattle.workspace.specs.Holds.{ends, lets, letIn}
 use Rattle.workspace.proofs.Region.{region-moved, region-first, region-behind, region-left, region-right, region-kept}
 use Rattle.workspace.proofs.Held.{ends-length, insideSecond, lets-binary, lets-length}
-use Rattle.workspace.proofs.Codes.{word-of-code}
 use Rattle.rules.specs.Walk.{cell}
 
 -- ------------------------------------------------------------------ the second of two parts
@@ -72,26 +70,25 @@ lines-moved : (m n : ℕ) (e : Expr) → m ≡ n → LinesFrom m e → LinesFrom
 lines-moved m n e h r = rw (← h) r
 
 module _ {w : List ℕ} {k : ℕ} {inside : List (ℕ × ℕ)} {vars : List ℕ} where
-  -- the line and the word of an expression
+  -- the line and the code of an expression
   pub here-line : (e : Expr) → Here w k inside vars e → lineOf e ≡ k + 2
   unfolding LinesFrom lineOf
   here-line (leaf x l v) H = H .lines
   here-line (unary x l v e) H = H .lines .0
   here-line (binary x l v e₁ e₂) H = H .lines .0
 
-  pub leaf-word : (x : LeafWord) (l v : ℕ) → Here w k inside vars (leaf x l v) → wordOf (cell w wordsAt k) ≡ Leaf x
+  pub leaf-code : (x : LeafWord) (l v : ℕ) → Here w k inside vars (leaf x l v) → cell w wordsAt k ≡ leafCode x
   unfolding codes prefix
-  leaf-word x l v H = ap wordOf (region-first (H .words)) ∙ word-of-code (Leaf x)
+  leaf-code x l v H = region-first (H .words)
 
-  pub unary-word : (x : UnaryWord) (l v : ℕ) (e : Expr) → Here w k inside vars (unary x l v e)
-      → wordOf (cell w wordsAt k) ≡ Unary x
+  pub unary-code : (x : UnaryWord) (l v : ℕ) (e : Expr) → Here w k inside vars (unary x l v e) → cell w wordsAt k ≡ unaryCode x
   unfolding codes prefix
-  unary-word x l v e H = ap wordOf (region-first (H .words)) ∙ word-of-code (Unary x)
+  unary-code x l v e H = region-first (H .words)
 
-  pub binary-word : (x : BinaryWord) (l v : ℕ) (e₁ e₂ : Expr) → Here w k inside vars (binary x l v e₁ e₂)
-      → wordOf (cell w wordsAt k) ≡ Binary x
+  pub binary-code : (x : BinaryWord) (l v : ℕ) (e₁ e₂ : Expr) → Here w k inside vars (binary x l v e₁ e₂)
+      → cell w wordsAt k ≡ binaryCode x
   unfolding codes prefix
-  binary-word x l v e₁ e₂ H = ap wordOf (region-first (H .words)) ∙ word-of-code (Binary x)
+  binary-code x l v e₁ e₂ H = region-first (H .words)
 
   -- the let of a variable
   pub here-let : (l v : ℕ) → Here w k inside vars (leaf Var l v) → cell w letsAt k ≡ letIn inside v

@@ -12,21 +12,23 @@ use Rattle.spec.specs.Conditions.{Env, mapAt, row, own}
 use Rattle.spec.specs.Sites.{preOfPart, preOfSecond, claimsAt, firstFalse}
 use Rattle.spec.specs.Ranges.{InRange}
 use Rattle.spec.specs.declared.MapNumber.{MapNumber}
+use Rattle.spec.specs.declared.Word.the-variants.{Leaf, Unary, Binary}
 use Rattle.spec.specs.declared.LeafWord.{LeafWord}
 use Rattle.spec.specs.declared.UnaryWord.{UnaryWord}
 use Rattle.spec.specs.declared.BinaryWord.{BinaryWord}
 use Rattle.workspace.specs.Layout as layout
-use Rattle.workspace.specs.Layout.{wordsAt, postsAt, presAt, wordOf}
+use Rattle.workspace.specs.Layout.{wordsAt, postsAt, presAt, ruleOf}
 use Rattle.workspace.specs.Region.{ChangedWithin}
 use Rattle.workspace.specs.Holds.{HoldsSplit}
 use Rattle.spec.proofs.Listing.{size-positive}
 use Rattle.workspace.proofs.Region.{region-kept}
+use Rattle.workspace.proofs.Codes.{word-of-code}
 use Rattle.rules.specs.Outcome.{judged}
-use Rattle.rules.specs.Table.{wordRow}
+use Rattle.rules.specs.Table.{ruleRow}
 use Rattle.rules.specs.Walk.{cell, viewOf, stepOutcome, putPre, passWord, passOn}
 use Rattle.rules.proofs.Shown.{row-post, row-start}
 use Rattle.rules.proofs.TableRows.{leaf-shown, unary-shown, binary-shown}
-use Rattle.rules.proofs.Here.{Here, here-line, leaf-word, unary-word, binary-word, here-part, here-first, here-second, here-second-at}
+use Rattle.rules.proofs.Here.{Here, here-line, leaf-code, unary-code, binary-code, here-part, here-first, here-second, here-second-at}
 use Rattle.rules.proofs.Scopes.{Scoped}
 use Rattle.rules.proofs.Views.{map-number, row-start-in, own-part, first-part, second-part, started, bound-shown}
 
@@ -71,18 +73,18 @@ module _ (S : Split) (steps : List Step) (R : InRange steps S) (few : length (S 
 
     conditions-shown : (e : Expr) → Ready w k inside vars Γ pre e
         → (let s = viewOf w (S .header .locations) (S .header .denominator) k in
-        wordRow (wordOf (cell w wordsAt k)) w s (layout.typeAt w (s .own)) (layout.typeAt w (s .type1)))
+        ruleRow (ruleOf (cell w wordsAt k)) w s (layout.typeAt w (s .own)) (layout.typeAt w (s .type1)))
         ≡ own S Γ (mapAt S pre) e
-    unfolding wordRow size
+    unfolding size
     conditions-shown (leaf x l v) r =
-        rw (leaf-word x l v (r .here))
+        rw (leaf-code x l v (r .here))
         (leaf-shown w S steps (r .split) R (viewOf w _ _ k) (view-located w _ _ k)
         (view-divided w _ _ k) Γ pre (view-pre w _ _ k pre (r .pre-at)) (r .pre-in)
         l v x
         (own-part w S steps (r .split) R _ _ k (leaf x l v) (here-line _ (r .here)) (below _ r))
         (bound-shown w S steps (r .split) R _ _ k x l v (r .here) (r .scoped)))
     conditions-shown (unary x l v e₁) r =
-        rw (unary-word x l v e₁ (r .here))
+        rw (unary-code x l v e₁ (r .here))
         (unary-shown w S steps (r .split) R (viewOf w _ _ k) (view-located w _ _ k)
         (view-divided w _ _ k) Γ pre (view-pre w _ _ k pre (r .pre-at)) (r .pre-in)
         l v e₁
@@ -91,7 +93,7 @@ module _ (S : Split) (steps : List Step) (R : InRange steps S) (few : length (S 
         x
         (own-part w S steps (r .split) R _ _ k _ (here-line _ (r .here)) (below _ r)))
     conditions-shown (binary x l v e₁ e₂) r =
-        rw (binary-word x l v e₁ e₂ (r .here))
+        rw (binary-code x l v e₁ e₂ (r .here))
         (binary-shown w S steps (r .split) R (viewOf w _ _ k) (view-located w _ _ k)
         (view-divided w _ _ k) Γ pre (view-pre w _ _ k pre (r .pre-at)) (r .pre-in)
         l v e₁
@@ -114,14 +116,15 @@ module _ (S : Split) (steps : List Step) (R : InRange steps S) (few : length (S 
 
     pub leaf-passes : (x : LeafWord) (l v : ℕ) → Ready w k inside vars Γ pre (leaf x l v) → passOn w k ≡ w
     unfolding passOn passWord
-    leaf-passes x l v r = rw (leaf-word x l v (r .here))
+    leaf-passes x l v r = rw (leaf-code x l v (r .here), word-of-code (Leaf x))
 
     pub unary-passes : (x : UnaryWord) (l v : ℕ) (e₁ : Expr) → Ready w k inside vars Γ pre (unary x l v e₁)
         → passOn w k ≡ putPre w (k + 1) (preOfPart x pre (row S (unary x l v e₁) .post))
     unfolding passOn passWord
     unary-passes x l v e₁ r =
         rw (
-          unary-word x l v e₁ (r .here),
+          unary-code x l v e₁ (r .here),
+          word-of-code (Unary x),
           r .pre-at,
           row-post w S steps (r .split) R (unary x l v e₁) k (here-line _ (r .here)) (below _ r),
         )
@@ -137,7 +140,8 @@ module _ (S : Split) (steps : List Step) (R : InRange steps S) (few : length (S 
         (omega (arith, size-positive e₁, r .room))
         in
         rw (
-          binary-word x l v e₁ e₂ (r .here),
+          binary-code x l v e₁ e₂ (r .here),
+          word-of-code (Binary x),
           r .pre-at,
           p,
           row-start w S steps (r .split) R (binary x l v e₁ e₂) k (here-line _ (r .here)) (below _ r),

@@ -23,12 +23,12 @@ use Rattle.spec.specs.declared.UnaryWord.the-variants.{While, Join, Ref, Read, 
 use Rattle.spec.specs.declared.BinaryWord.{BinaryWord}
 use Rattle.spec.specs.declared.BinaryWord.the-variants.{Let, If, Spawn, Write}
 use Rattle.workspace.specs.Layout as layout
-use Rattle.workspace.specs.Layout.{mapCell}
+use Rattle.workspace.specs.Layout.{mapCell, printed, ruleOf, leafCode, unaryCode, binaryCode}
 use Rattle.workspace.specs.Holds.{HoldsSplit}
 use Rattle.rules.specs.Relation.{failsFrom}
 use Rattle.rules.specs.declared.Relation.the-variants.{Equal, AtLeast, Sum}
 use Rattle.rules.specs.Agreement.{agreeIn}
-use Rattle.rules.specs.Table.{containsIn, leafRow, unaryRow, binaryRow}
+use Rattle.rules.specs.Table.{containsIn, ruleRow}
 use Rattle.rules.specs.declared.View.{View}
 use Rattle.rules.proofs.Agreement.{agree-shown, contains-shown}
 use Rattle.rules.proofs.Shown.{type-shown, place-in, load-in, has-shown, equal-shown, at-least-shown, sum-shown, is-sum-shown}
@@ -118,8 +118,8 @@ module _ (w : List ℕ) (S : Split) (steps : List Step) (H : HoldsSplit w S) (R 
   -- ---------------------------------------------------------------- the table
 
   pub leaf-shown : (x : LeafWord) → Part S (s .own) (s .post) (leaf x l v) → Bound S x s Γ v
-      → leafRow x w s (layout.typeAt w (s .own)) (layout.typeAt w (s .type1)) ≡ own S Γ (mapAt S pre) (leaf x l v)
-  unfolding leafRow own type
+      → ruleRow (ruleOf (leafCode x)) w s (layout.typeAt w (s .own)) (layout.typeAt w (s .type1)) ≡ own S Γ (mapAt S pre) (leaf x l v)
+  unfolding printed ruleOf ruleRow own type
   leaf-shown Var o b = rw (equal (post-stands _ o) pre-stands, agrees _ _ o (b .0) (b .1))
   leaf-shown Int o b = rw (equal (post-stands _ o) pre-stands, typed-as _ o)
   leaf-shown Newtid o b = rw (equal (post-stands _ o) pre-stands, typed-as _ o)
@@ -127,8 +127,8 @@ module _ (w : List ℕ) (S : Split) (steps : List Step) (H : HoldsSplit w S) (R 
 
   module _ (e₁ : Expr) (f : Part S (s .type1) (s .post1) e₁) where
     pub unary-shown : (x : UnaryWord) → Part S (s .own) (s .post) (unary x l v e₁)
-        → unaryRow x w s (layout.typeAt w (s .own)) (layout.typeAt w (s .type1)) ≡ own S Γ (mapAt S pre) (unary x l v e₁)
-    unfolding unaryRow own type
+        → ruleRow (ruleOf (unaryCode x)) w s (layout.typeAt w (s .own)) (layout.typeAt w (s .type1)) ≡ own S Γ (mapAt S pre) (unary x l v e₁)
+    unfolding printed ruleOf ruleRow own type
     unary-shown While o =
         rw (at-least pre-stands (post-stands _ o), at-least (post-stands _ f) (post-stands _ o), typed-as _ o)
     unary-shown Join o =
@@ -153,8 +153,8 @@ module _ (w : List ℕ) (S : Split) (steps : List Step) (H : HoldsSplit w S) (R 
     module _ (e₂ : Expr) (g : Part S (s .type2) (s .post2) e₂) where
       pub binary-shown : (x : BinaryWord) → Part S (s .own) (s .post) (binary x l v e₁ e₂)
           → s .start ≡ row S (binary x l v e₁ e₂) .start → row S (binary x l v e₁ e₂) .start .0 < length (S .maps)
-          → binaryRow x w s (layout.typeAt w (s .own)) (layout.typeAt w (s .type1)) ≡ own S Γ (mapAt S pre) (binary x l v e₁ e₂)
-      unfolding binaryRow own type start
+          → ruleRow (ruleOf (binaryCode x)) w s (layout.typeAt w (s .own)) (layout.typeAt w (s .type1)) ≡ own S Γ (mapAt S pre) (binary x l v e₁ e₂)
+      unfolding printed ruleOf ruleRow own type start
       binary-shown Let o b b-in =
           rw (equal (post-stands _ o) (post-stands _ g), agrees _ _ o (g .typed) (g .type-in))
       binary-shown If o b b-in =

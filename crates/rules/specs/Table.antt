@@ -1,4 +1,4 @@
--- The conditions of each word, from what the work space shows of a step. proofs/TableRows.antt shows that these are
+-- The conditions of each rule, from what the work space shows of a step. proofs/TableRows.antt shows that these are
 -- document 01's for the sheets that the work space holds.
 use mathlib.Core.Bool.{Bool, false}
 use mathlib.Core.List.{List, [], _∷_}
@@ -10,15 +10,9 @@ use Rattle.spec.specs.declared.MapNumber.{MapNumber}
 use Rattle.spec.specs.declared.TypeNumber.{TypeNumber}
 use Rattle.spec.specs.declared.TypeLine.{TypeLine}
 use Rattle.spec.specs.declared.TypeLine.the-variants as type-line
-use Rattle.spec.specs.declared.Word.{Word}
-use Rattle.spec.specs.declared.Word.the-variants.{Leaf, Unary, Binary}
-use Rattle.spec.specs.declared.LeafWord.{LeafWord}
-use Rattle.spec.specs.declared.LeafWord.the-variants.{Var, Int, Newtid, Newlock}
-use Rattle.spec.specs.declared.UnaryWord.{UnaryWord}
-use Rattle.spec.specs.declared.UnaryWord.the-variants.{While, Join, Ref, Read, Freelock, Lock, Unlock}
-use Rattle.spec.specs.declared.BinaryWord.{BinaryWord}
-use Rattle.spec.specs.declared.BinaryWord.the-variants.{Let, If, Spawn, Write}
 use Rattle.workspace.specs.Layout.{mapCell}
+use Rattle.workspace.specs.declared.Rule.{Rule}
+use Rattle.workspace.specs.declared.Rule.the-variants.{VAR, INT, LET, IF, WHILE, NEWT, SPAWN, JOIN, REF, WRITE, READ, NEWL, FREEL, LCK, ULCK}
 use Rattle.rules.specs.Relation.{failsFrom}
 use Rattle.rules.specs.Agreement.{agreeIn}
 use Rattle.rules.specs.declared.Relation.{Relation}
@@ -40,7 +34,16 @@ flows w s r = F (failsFrom w r 0 (s .locations))
 abbrev pub hasAtLeast : (w : List ℕ) → MapNumber → Location → (least : ℕ) → Condition
 hasAtLeast w m p least = A (leb least (mapCell w m (p .0))) p
 
--- a row of the table
+-- a part of some kind, with a load: the type is int, the part is of that kind, and less + load = more
+abbrev pub loaded : (w : List ℕ) → View → (kind : TypeLine) → (fits : Bool) → (less load more : MapNumber) → List Condition
+loaded w s kind fits less load more =
+    T (isInt kind)
+    ∷ T fits
+    ∷ flows w s (Sum less load more)
+    ∷ []
+
+-- ------------------------------------------------------------------ the rows, in the printed order
+
 abbrev pub TableRow : Type 0
 TableRow = (w : List ℕ) → View → (kind kind₁ : TypeLine) → List Condition
 
@@ -77,8 +80,8 @@ whileRow w s kind kind₁ =
     ∷ flows w s (AtLeast (s .post1) (s .post))
     ∷ []
 
-abbrev pub newtidRow : TableRow
-newtidRow w s kind kind₁ =
+abbrev pub newtRow : TableRow
+newtRow w s kind kind₁ =
     T (isTid kind)
     ∷ flows w s (Equal (s .post) (s .pre))
     ∷ []
@@ -92,24 +95,12 @@ spawnRow w s kind kind₁ =
     ∷ []
 
 abbrev pub joinRow : TableRow
-joinRow w s kind kind₁ =
-    T (isInt kind)
-    ∷ T (isTid kind₁)
-    ∷ flows w s (Sum (s .post1) (load kind₁) (s .post))
-    ∷ []
+joinRow w s kind kind₁ = loaded w s kind (isTid kind₁) (s .post1) (load kind₁) (s .post)
 
 abbrev pub refRow : TableRow
 refRow w s kind kind₁ =
     T (containsIn w (s .locations) kind (s .type1))
     ∷ flows w s (Equal (s .post) (s .post1))
-    ∷ []
-
-abbrev pub readRow : TableRow
-readRow w s kind kind₁ =
-    T (isRef kind₁)
-    ∷ T (containsIn w (s .locations) kind₁ (s .own))
-    ∷ flows w s (Equal (s .post) (s .post1))
-    ∷ hasAtLeast w (s .post) (place kind₁) 1
     ∷ []
 
 abbrev pub writeRow : TableRow
@@ -121,48 +112,42 @@ writeRow w s kind kind₁ =
     ∷ hasAtLeast w (s .post) (place kind₁) (s .denominator)
     ∷ []
 
-abbrev pub newlockRow : TableRow
-newlockRow w s kind kind₁ =
+abbrev pub readRow : TableRow
+readRow w s kind kind₁ =
+    T (isRef kind₁)
+    ∷ T (containsIn w (s .locations) kind₁ (s .own))
+    ∷ flows w s (Equal (s .post) (s .post1))
+    ∷ hasAtLeast w (s .post) (place kind₁) 1
+    ∷ []
+
+abbrev pub newlRow : TableRow
+newlRow w s kind kind₁ =
     T (isLock kind)
     ∷ flows w s (Sum (s .post) (load kind) (s .pre))
     ∷ []
 
-abbrev pub lockRow : TableRow
-lockRow w s kind kind₁ =
-    T (isInt kind)
-    ∷ T (isLock kind₁)
-    ∷ flows w s (Sum (s .post1) (load kind₁) (s .post))
-    ∷ []
+abbrev pub freelRow : TableRow
+freelRow w s kind kind₁ = loaded w s kind (isLock kind₁) (s .post1) (load kind₁) (s .post)
 
-abbrev pub unlockRow : TableRow
-unlockRow w s kind kind₁ =
-    T (isInt kind)
-    ∷ T (isLock kind₁)
-    ∷ flows w s (Sum (s .post) (load kind₁) (s .post1))
-    ∷ []
+abbrev pub lckRow : TableRow
+lckRow w s kind kind₁ = loaded w s kind (isLock kind₁) (s .post1) (load kind₁) (s .post)
 
-unfoldable pub leafRow : LeafWord → TableRow
-leafRow Var = varRow
-leafRow Int = intRow
-leafRow Newtid = newtidRow
-leafRow Newlock = newlockRow
+abbrev pub ulckRow : TableRow
+ulckRow w s kind kind₁ = loaded w s kind (isLock kind₁) (s .post) (load kind₁) (s .post1)
 
-unfoldable pub unaryRow : UnaryWord → TableRow
-unaryRow While = whileRow
-unaryRow Join = joinRow
-unaryRow Ref = refRow
-unaryRow Read = readRow
-unaryRow Freelock = lockRow
-unaryRow Lock = lockRow
-unaryRow Unlock = unlockRow
-
-unfoldable pub binaryRow : BinaryWord → TableRow
-binaryRow Let = letRow
-binaryRow If = ifRow
-binaryRow Spawn = spawnRow
-binaryRow Write = writeRow
-
-unfoldable pub wordRow : Word → TableRow
-wordRow (Leaf l) = leafRow l
-wordRow (Unary u) = unaryRow u
-wordRow (Binary b) = binaryRow b
+unfoldable pub ruleRow : Rule → TableRow
+ruleRow VAR = varRow
+ruleRow INT = intRow
+ruleRow LET = letRow
+ruleRow IF = ifRow
+ruleRow WHILE = whileRow
+ruleRow NEWT = newtRow
+ruleRow SPAWN = spawnRow
+ruleRow JOIN = joinRow
+ruleRow REF = refRow
+ruleRow WRITE = writeRow
+ruleRow READ = readRow
+ruleRow NEWL = newlRow
+ruleRow FREEL = freelRow
+ruleRow LCK = lckRow
+ruleRow ULCK = ulckRow

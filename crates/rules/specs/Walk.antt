@@ -11,10 +11,10 @@ use Rattle.spec.specs.Verdict.{refuseOver}
 use Rattle.spec.specs.declared.MapNumber.{MapNumber}
 use Rattle.spec.specs.declared.Word.{Word}
 use Rattle.spec.specs.declared.Word.the-variants.{Leaf, Unary, Binary}
-use Rattle.workspace.specs.Layout.{wordsAt, endsAt, letsAt, rowTypesAt, postsAt, startsAt, presAt, wordOf, typeAt}
+use Rattle.workspace.specs.Layout.{wordsAt, endsAt, letsAt, rowTypesAt, postsAt, startsAt, presAt, ruleOf, wordOf, typeAt}
 use Rattle.rules.specs.Outcome.{both, judged}
 use Rattle.rules.specs.Relation.{mapFrom}
-use Rattle.rules.specs.Table.{wordRow}
+use Rattle.rules.specs.Table.{ruleRow}
 use Rattle.rules.specs.declared.View.{View}
 
 -- 30, at the root's line: the lowest location at which the start is over the whole
@@ -47,7 +47,7 @@ viewOf w locations denominator k = record {
 unfoldable pub stepOutcome : (w : List ℕ) → (locations denominator k : ℕ) → Out (Unit {0})
 stepOutcome w locations denominator k =
     let s = viewOf w locations denominator k in
-    judged (k + 2) 1 (wordRow (wordOf (cell w wordsAt k)) w s (typeAt w (s .own)) (typeAt w (s .type1)))
+    judged (k + 2) 1 (ruleRow (ruleOf (cell w wordsAt k)) w s (typeAt w (s .own)) (typeAt w (s .type1)))
 
 -- the start is the map before the root
 unfoldable pub atRoot : (w : List ℕ) → (start : MapNumber) → List ℕ

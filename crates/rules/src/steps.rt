@@ -1,7 +1,7 @@
 // The steps in line order. Each is judged once the map before it is known, and hands down the maps before its parts.
 use super::Ruling;
 use super::View;
-use super::words::check_word;
+use super::words::check_rule;
 use spec::BinaryWord;
 use spec::MapNumber;
 use spec::TypeNumber;
@@ -16,6 +16,7 @@ use workspace::STARTS;
 use workspace::WORDS;
 use workspace::at;
 use workspace::index;
+use workspace::rule_of;
 use workspace::type_at;
 use workspace::word_of;
 ghost use mathlib.Core.Path.{_≡_};
@@ -64,9 +65,9 @@ fn check_step(work: &[u32], locations: u32, denominator: u32, k: u32) -> Ruling
     requires { ⌜ k < 256 ⌝ }
     ensures { λ r. ⌜ outcome r ≡ stepOutcome (now (work .entry)) locations denominator k ⌝ }
 {
-    let w = word_of(cell(work, WORDS, k));
+    let r = rule_of(cell(work, WORDS, k));
     let s = view_of(work, locations, denominator, k);
-    check_word(w, work, s, type_at(work, s.own), type_at(work, s.type1))
+    check_rule(r, work, s, type_at(work, s.own), type_at(work, s.type1))
 }
 
 // The map before a step, for one of the 256 that there may be.

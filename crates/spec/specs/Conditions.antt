@@ -120,7 +120,7 @@ module _ (S : Split) where
   unfoldable pub K : Expr → Map
   K e = mapAt S (load (kind e))
 
-  -- the table: the conditions of a step, in order, with the types of the variables there and its pre
+  -- the table, in the order of Figure 5: the conditions of a step, in order, with the types of the variables there and its pre
   unfoldable pub own : Env → (pre : Map) → Expr → List Condition
   own Γ pre (leaf Var k v) = let e = leaf Var k v in
       T (agree S (type e) (typeIn Γ v)) ∷ F (post e =ᵐ pre) ∷ []
@@ -140,16 +140,16 @@ module _ (S : Split) where
       T (isInt (kind e)) ∷ T (isTid (kind e₁)) ∷ F (post e =ᵐ post e₁ +ᵐ K e₁) ∷ []
   own Γ pre (unary Ref k v e₁) = let e = unary Ref k v e₁ in
       T (contains (kind e) (type e₁)) ∷ F (post e =ᵐ post e₁) ∷ []
-  own Γ pre (unary Read k v e₁) = let e = unary Read k v e₁ in let p = place (kind e₁) in
-      T (isRef (kind e₁)) ∷ T (contains (kind e₁) (type e)) ∷ F (post e =ᵐ post e₁) ∷ A (ltb 0 (share (post e) p)) p ∷ []
   own Γ pre (binary Write k v e₁ e₂) = let e = binary Write k v e₁ e₂ in let p = place (kind e₁) in
       T (isInt (kind e)) ∷ T (isRef (kind e₁)) ∷ T (contains (kind e₁) (type e₂)) ∷ F (post e =ᵐ post e₂)
       ∷ A (leb (S .header .denominator) (share (post e) p)) p ∷ []
+  own Γ pre (unary Read k v e₁) = let e = unary Read k v e₁ in let p = place (kind e₁) in
+      T (isRef (kind e₁)) ∷ T (contains (kind e₁) (type e)) ∷ F (post e =ᵐ post e₁) ∷ A (ltb 0 (share (post e) p)) p ∷ []
   own Γ pre (leaf Newlock k v) = let e = leaf Newlock k v in
       T (isLock (kind e)) ∷ F (post e +ᵐ K e =ᵐ pre) ∷ []
-  own Γ pre (unary Lock k v e₁) = let e = unary Lock k v e₁ in
-      T (isInt (kind e)) ∷ T (isLock (kind e₁)) ∷ F (post e =ᵐ post e₁ +ᵐ K e₁) ∷ []
   own Γ pre (unary Freelock k v e₁) = let e = unary Freelock k v e₁ in
+      T (isInt (kind e)) ∷ T (isLock (kind e₁)) ∷ F (post e =ᵐ post e₁ +ᵐ K e₁) ∷ []
+  own Γ pre (unary Lock k v e₁) = let e = unary Lock k v e₁ in
       T (isInt (kind e)) ∷ T (isLock (kind e₁)) ∷ F (post e =ᵐ post e₁ +ᵐ K e₁) ∷ []
   own Γ pre (unary Unlock k v e₁) = let e = unary Unlock k v e₁ in
       T (isInt (kind e)) ∷ T (isLock (kind e₁)) ∷ F (post e +ᵐ K e₁ =ᵐ post e₁) ∷ []

@@ -16,6 +16,8 @@ use Rattle.spec.specs.declared.UnaryWord.{UnaryWord}
 use Rattle.spec.specs.declared.UnaryWord.the-variants.{While, Join, Ref, Read, Freelock, Lock, Unlock}
 use Rattle.spec.specs.declared.BinaryWord.{BinaryWord}
 use Rattle.spec.specs.declared.BinaryWord.the-variants.{Let, If, Spawn, Write}
+use Rattle.workspace.specs.declared.Rule.{Rule}
+use Rattle.workspace.specs.declared.Rule.the-variants.{VAR, INT, LET, IF, WHILE, NEWT, SPAWN, JOIN, REF, WRITE, READ, NEWL, FREEL, LCK, ULCK}
 
 -- ------------------------------------------------------------------ offsets
 
@@ -64,53 +66,60 @@ stride = 16
 
 -- ------------------------------------------------------------------ words
 
+-- the rules of Figure 5, in the printed order; ULCK is the last
+unfoldable pub printed : List Rule
+printed = VAR ∷ INT ∷ LET ∷ IF ∷ WHILE ∷ NEWT ∷ SPAWN ∷ JOIN ∷ REF ∷ WRITE ∷ READ ∷ NEWL ∷ FREEL ∷ LCK ∷ []
+
+unfoldable pub ruleOf : ℕ → Rule
+ruleOf k = getD printed k ULCK
+
+-- the word that a rule is for
+unfoldable pub wordBy : Rule → Word
+wordBy VAR = Leaf Var
+wordBy INT = Leaf Int
+wordBy LET = Binary Let
+wordBy IF = Binary If
+wordBy WHILE = Unary While
+wordBy NEWT = Leaf Newtid
+wordBy SPAWN = Binary Spawn
+wordBy JOIN = Unary Join
+wordBy REF = Unary Ref
+wordBy WRITE = Binary Write
+wordBy READ = Unary Read
+wordBy NEWL = Leaf Newlock
+wordBy FREEL = Unary Freelock
+wordBy LCK = Unary Lock
+wordBy ULCK = Unary Unlock
+
+unfoldable pub wordOf : ℕ → Word
+wordOf k = wordBy (ruleOf k)
+
+-- the code of a word is the place of its rule
 abbrev pub leafCode : LeafWord → ℕ
 leafCode Var = 0
 leafCode Int = 1
-leafCode Newtid = 2
-leafCode Newlock = 3
+leafCode Newtid = 5
+leafCode Newlock = 11
 
 abbrev pub unaryCode : UnaryWord → ℕ
 unaryCode While = 4
-unaryCode Join = 5
-unaryCode Ref = 6
-unaryCode Read = 7
-unaryCode Freelock = 8
-unaryCode Lock = 9
-unaryCode Unlock = 10
+unaryCode Join = 7
+unaryCode Ref = 8
+unaryCode Read = 10
+unaryCode Freelock = 12
+unaryCode Lock = 13
+unaryCode Unlock = 14
 
 abbrev pub binaryCode : BinaryWord → ℕ
-binaryCode Let = 11
-binaryCode If = 12
-binaryCode Spawn = 13
-binaryCode Write = 14
+binaryCode Let = 2
+binaryCode If = 3
+binaryCode Spawn = 6
+binaryCode Write = 9
 
 abbrev pub codeOf : Word → ℕ
 codeOf (Leaf w) = leafCode w
 codeOf (Unary w) = unaryCode w
 codeOf (Binary w) = binaryCode w
-
--- the words in the order of their codes; `write` is the last
-unfoldable pub coded : List Word
-coded =
-    Leaf Var
-    ∷ Leaf Int
-    ∷ Leaf Newtid
-    ∷ Leaf Newlock
-    ∷ Unary While
-    ∷ Unary Join
-    ∷ Unary Ref
-    ∷ Unary Read
-    ∷ Unary Freelock
-    ∷ Unary Lock
-    ∷ Unary Unlock
-    ∷ Binary Let
-    ∷ Binary If
-    ∷ Binary Spawn
-    ∷ []
-
-unfoldable pub wordOf : ℕ → Word
-wordOf k = getD coded k (Binary Write)
 
 -- ------------------------------------------------------------------ types
 

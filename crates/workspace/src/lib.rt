@@ -12,7 +12,7 @@ ghost use mathlib.Core.Path.{_≡_};
 ghost use mathlib.Core.List.{_++_};
 ghost use Prim.Native.Nat.{_+_, _*_, _<_};
 ghost use lib.ListN.{length, getD, replicate};
-ghost use Rattle.workspace.specs.Layout.{codeOf, leafCode, unaryCode, binaryCode, wordOf, kindOf, firstOf, secondOf, typeOf, typeAt, mapCell};
+ghost use Rattle.workspace.specs.Layout.{codeOf, leafCode, unaryCode, binaryCode, ruleOf, wordBy, wordOf, kindOf, firstOf, secondOf, typeOf, typeAt, mapCell};
 
 // How many 32-bit numbers a check works in.
 pub const SIZE: usize = 16384;
@@ -64,14 +64,33 @@ pub fn index(x: u32) -> usize
     x as usize
 }
 
+// The rules of Figure 5, in the printed order.
+pub enum Rule {
+    VAR,
+    INT,
+    LET,
+    IF,
+    WHILE,
+    NEWT,
+    SPAWN,
+    JOIN,
+    REF,
+    WRITE,
+    READ,
+    NEWL,
+    FREEL,
+    LCK,
+    ULCK,
+}
+
 fn leaf_code(w: LeafWord) -> u32
     ensures { λ r. ⌜ r ≡ leafCode w ⌝ }
 {
     match w {
         LeafWord::Var => 0,
         LeafWord::Int => 1,
-        LeafWord::Newtid => 2,
-        LeafWord::Newlock => 3,
+        LeafWord::Newtid => 5,
+        LeafWord::Newlock => 11,
     }
 }
 
@@ -80,12 +99,12 @@ fn unary_code(w: UnaryWord) -> u32
 {
     match w {
         UnaryWord::While => 4,
-        UnaryWord::Join => 5,
-        UnaryWord::Ref => 6,
-        UnaryWord::Read => 7,
-        UnaryWord::Freelock => 8,
-        UnaryWord::Lock => 9,
-        UnaryWord::Unlock => 10,
+        UnaryWord::Join => 7,
+        UnaryWord::Ref => 8,
+        UnaryWord::Read => 10,
+        UnaryWord::Freelock => 12,
+        UnaryWord::Lock => 13,
+        UnaryWord::Unlock => 14,
     }
 }
 
@@ -93,14 +112,14 @@ fn binary_code(w: BinaryWord) -> u32
     ensures { λ r. ⌜ r ≡ binaryCode w ⌝ }
 {
     match w {
-        BinaryWord::Let => 11,
-        BinaryWord::If => 12,
-        BinaryWord::Spawn => 13,
-        BinaryWord::Write => 14,
+        BinaryWord::Let => 2,
+        BinaryWord::If => 3,
+        BinaryWord::Spawn => 6,
+        BinaryWord::Write => 9,
     }
 }
 
-// The number that stands for a word.
+// The number that stands for a word: the place of its rule among those of Figure 5.
 pub fn code_of(w: Word) -> u32
     ensures { λ r. ⌜ r ≡ codeOf w ⌝ }
 {
@@ -111,27 +130,57 @@ pub fn code_of(w: Word) -> u32
     }
 }
 
+// The rule at a place.
+pub fn rule_of(code: u32) -> Rule
+    ensures { λ r. ⌜ r ≡ ruleOf code ⌝ }
+{
+    match code {
+        0 => Rule::VAR,
+        1 => Rule::INT,
+        2 => Rule::LET,
+        3 => Rule::IF,
+        4 => Rule::WHILE,
+        5 => Rule::NEWT,
+        6 => Rule::SPAWN,
+        7 => Rule::JOIN,
+        8 => Rule::REF,
+        9 => Rule::WRITE,
+        10 => Rule::READ,
+        11 => Rule::NEWL,
+        12 => Rule::FREEL,
+        13 => Rule::LCK,
+        _ => Rule::ULCK,
+    }
+}
+
+// The word that a rule is for.
+fn word_by(r: Rule) -> Word
+    ensures { λ w. ⌜ w ≡ wordBy r ⌝ }
+{
+    match r {
+        Rule::VAR => Word::Leaf(LeafWord::Var),
+        Rule::INT => Word::Leaf(LeafWord::Int),
+        Rule::LET => Word::Binary(BinaryWord::Let),
+        Rule::IF => Word::Binary(BinaryWord::If),
+        Rule::WHILE => Word::Unary(UnaryWord::While),
+        Rule::NEWT => Word::Leaf(LeafWord::Newtid),
+        Rule::SPAWN => Word::Binary(BinaryWord::Spawn),
+        Rule::JOIN => Word::Unary(UnaryWord::Join),
+        Rule::REF => Word::Unary(UnaryWord::Ref),
+        Rule::WRITE => Word::Binary(BinaryWord::Write),
+        Rule::READ => Word::Unary(UnaryWord::Read),
+        Rule::NEWL => Word::Leaf(LeafWord::Newlock),
+        Rule::FREEL => Word::Unary(UnaryWord::Freelock),
+        Rule::LCK => Word::Unary(UnaryWord::Lock),
+        Rule::ULCK => Word::Unary(UnaryWord::Unlock),
+    }
+}
+
 // The word that a number stands for.
 pub fn word_of(code: u32) -> Word
     ensures { λ r. ⌜ r ≡ wordOf code ⌝ }
 {
-    match code {
-        0 => Word::Leaf(LeafWord::Var),
-        1 => Word::Leaf(LeafWord::Int),
-        2 => Word::Leaf(LeafWord::Newtid),
-        3 => Word::Leaf(LeafWord::Newlock),
-        4 => Word::Unary(UnaryWord::While),
-        5 => Word::Unary(UnaryWord::Join),
-        6 => Word::Unary(UnaryWord::Ref),
-        7 => Word::Unary(UnaryWord::Read),
-        8 => Word::Unary(UnaryWord::Freelock),
-        9 => Word::Unary(UnaryWord::Lock),
-        10 => Word::Unary(UnaryWord::Unlock),
-        11 => Word::Binary(BinaryWord::Let),
-        12 => Word::Binary(BinaryWord::If),
-        13 => Word::Binary(BinaryWord::Spawn),
-        _ => Word::Binary(BinaryWord::Write),
-    }
+    word_by(rule_of(code))
 }
 
 // The number that stands for a type line's kind, and the line's two numbers.

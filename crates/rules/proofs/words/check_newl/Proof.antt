@@ -3,8 +3,8 @@ use Rattle.spec.specs.Conditions.{isLock, load}
 use Rattle.rules.proofs.Judged.{last, pass, fail}
 use Rattle.rules.proofs.TypeKinds.{not-lock}
 use borrow.Author.Needs.{needs}
-use Rattle.rules.proofs.words.check_newlock.Statement.{statement}
-use Rattle.rules.proofs.words.check_newlock.Tie as tie
+use Rattle.rules.proofs.words.check_newl.Statement.{statement}
+use Rattle.rules.proofs.words.check_newl.Tie as tie
 
 enum-known-kind : tie.Need-enum-known-kind
 enum-known-kind c = search needs
@@ -22,6 +22,6 @@ returns-2 : tie.Need-returns-2
 unfolding isLock load
 returns-2 c = rw (c .before .before .kind .given .1) (pass _ _ _ _ refl (last _ _ _ (c .sum .ensures)))
 
-pub check-newlock-spec : {M : Type 1} → statement M
-check-newlock-spec =
+pub check-newl-spec : {M : Type 1} → statement M
+check-newl-spec =
     tie.close (tie.spec enum-known-kind type-false-requires returns sum-requires returns-2)

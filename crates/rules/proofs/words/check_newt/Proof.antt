@@ -3,8 +3,8 @@ use Rattle.spec.specs.Conditions.{isTid}
 use Rattle.rules.proofs.Judged.{last, pass, fail}
 use Rattle.rules.proofs.TypeKinds.{not-tid}
 use borrow.Author.Needs.{needs}
-use Rattle.rules.proofs.words.check_newtid.Statement.{statement}
-use Rattle.rules.proofs.words.check_newtid.Tie as tie
+use Rattle.rules.proofs.words.check_newt.Statement.{statement}
+use Rattle.rules.proofs.words.check_newt.Tie as tie
 
 enum-told : tie.Need-enum-told
 enum-told c = search needs
@@ -22,6 +22,6 @@ returns-2 : tie.Need-returns-2
 unfolding isTid
 returns-2 c = pass _ _ _ _ (ap isTid (c .before .enum-told .given .1)) (last _ _ _ (c .equal .ensures))
 
-pub check-newtid-spec : {M : Type 1} → statement M
-check-newtid-spec =
+pub check-newt-spec : {M : Type 1} → statement M
+check-newt-spec =
     tie.close (tie.spec enum-told type-false-requires returns equal-requires returns-2)

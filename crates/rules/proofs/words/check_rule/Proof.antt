@@ -1,0 +1,204 @@
+use Rattle.rules.specs.Table.{ruleRow}
+use borrow.Author.Needs.{needs}
+use Rattle.rules.proofs.words.check_rule.Statement.{statement}
+use Rattle.rules.proofs.words.check_rule.Tie as tie
+
+enum-told : tie.Need-enum-told
+enum-told c = search needs
+
+check-var-requires : tie.Need-check-var-requires
+check-var-requires c κs = search needs
+
+enum-told-2 : tie.Need-enum-told-2
+enum-told-2 c = search needs
+
+check-int-requires : tie.Need-check-int-requires
+check-int-requires c κs = search needs
+
+enum-told-3 : tie.Need-enum-told-3
+enum-told-3 c = search needs
+
+check-let-requires : tie.Need-check-let-requires
+check-let-requires c κs = search needs
+
+enum-told-4 : tie.Need-enum-told-4
+enum-told-4 c = search needs
+
+check-if-requires : tie.Need-check-if-requires
+check-if-requires c κs = search needs
+
+enum-told-5 : tie.Need-enum-told-5
+enum-told-5 c = search needs
+
+check-while-requires : tie.Need-check-while-requires
+check-while-requires c κs = search needs
+
+enum-told-6 : tie.Need-enum-told-6
+enum-told-6 c = search needs
+
+check-newt-requires : tie.Need-check-newt-requires
+check-newt-requires c κs = search needs
+
+enum-told-7 : tie.Need-enum-told-7
+enum-told-7 c = search needs
+
+check-spawn-requires : tie.Need-check-spawn-requires
+check-spawn-requires c κs = search needs
+
+enum-told-8 : tie.Need-enum-told-8
+enum-told-8 c = search needs
+
+check-join-requires : tie.Need-check-join-requires
+check-join-requires c κs = search needs
+
+enum-told-9 : tie.Need-enum-told-9
+enum-told-9 c = search needs
+
+check-ref-requires : tie.Need-check-ref-requires
+check-ref-requires c κs = search needs
+
+enum-told-10 : tie.Need-enum-told-10
+enum-told-10 c = search needs
+
+check-write-requires : tie.Need-check-write-requires
+check-write-requires c κs = search needs
+
+enum-told-11 : tie.Need-enum-told-11
+enum-told-11 c = search needs
+
+check-read-requires : tie.Need-check-read-requires
+check-read-requires c κs = search needs
+
+enum-told-12 : tie.Need-enum-told-12
+enum-told-12 c = search needs
+
+check-newl-requires : tie.Need-check-newl-requires
+check-newl-requires c κs = search needs
+
+enum-told-13 : tie.Need-enum-told-13
+enum-told-13 c = search needs
+
+check-freel-requires : tie.Need-check-freel-requires
+check-freel-requires c κs = search needs
+
+enum-told-14 : tie.Need-enum-told-14
+enum-told-14 c = search needs
+
+check-lck-requires : tie.Need-check-lck-requires
+check-lck-requires c κs = search needs
+
+enum-told-15 : tie.Need-enum-told-15
+enum-told-15 c = search needs
+
+check-ulck-requires : tie.Need-check-ulck-requires
+check-ulck-requires c κs = search needs
+
+returns : tie.Need-returns
+unfolding ruleRow
+returns c = rw (c .before .enum-told .given .1) (c .check-var .ensures)
+
+returns-2 : tie.Need-returns-2
+unfolding ruleRow
+returns-2 c = rw (c .before .enum-told2 .given .1) (c .check-int .ensures)
+
+returns-3 : tie.Need-returns-3
+unfolding ruleRow
+returns-3 c = rw (c .before .enum-told3 .given .1) (c .check-let .ensures)
+
+returns-4 : tie.Need-returns-4
+unfolding ruleRow
+returns-4 c = rw (c .before .enum-told4 .given .1) (c .check-if .ensures)
+
+returns-5 : tie.Need-returns-5
+unfolding ruleRow
+returns-5 c = rw (c .before .enum-told5 .given .1) (c .check-while .ensures)
+
+returns-6 : tie.Need-returns-6
+unfolding ruleRow
+returns-6 c = rw (c .before .enum-told6 .given .1) (c .check-newt .ensures)
+
+returns-7 : tie.Need-returns-7
+unfolding ruleRow
+returns-7 c = rw (c .before .enum-told7 .given .1) (c .check-spawn .ensures)
+
+returns-8 : tie.Need-returns-8
+unfolding ruleRow
+returns-8 c = rw (c .before .enum-told8 .given .1) (c .check-join .ensures)
+
+returns-9 : tie.Need-returns-9
+unfolding ruleRow
+returns-9 c = rw (c .before .enum-told9 .given .1) (c .check-ref .ensures)
+
+returns-10 : tie.Need-returns-10
+unfolding ruleRow
+returns-10 c = rw (c .before .enum-told10 .given .1) (c .check-write .ensures)
+
+returns-11 : tie.Need-returns-11
+unfolding ruleRow
+returns-11 c = rw (c .before .enum-told11 .given .1) (c .check-read .ensures)
+
+returns-12 : tie.Need-returns-12
+unfolding ruleRow
+returns-12 c = rw (c .before .enum-told12 .given .1) (c .check-newl .ensures)
+
+returns-13 : tie.Need-returns-13
+unfolding ruleRow
+returns-13 c = rw (c .before .enum-told13 .given .1) (c .check-freel .ensures)
+
+returns-14 : tie.Need-returns-14
+unfolding ruleRow
+returns-14 c = rw (c .before .enum-told14 .given .1) (c .check-lck .ensures)
+
+returns-15 : tie.Need-returns-15
+unfolding ruleRow
+returns-15 c = rw (c .before .enum-told15 .given .1) (c .check-ulck .ensures)
+
+pub check-rule-spec : {M : Type 1} → statement M
+check-rule-spec =
+    tie.close
+    (tie.spec
+    enum-told
+    check-var-requires
+    enum-told-2
+    check-int-requires
+    enum-told-3
+    check-let-requires
+    enum-told-4
+    check-if-requires
+    enum-told-5
+    check-while-requires
+    enum-told-6
+    check-newt-requires
+    enum-told-7
+    check-spawn-requires
+    enum-told-8
+    check-join-requires
+    enum-told-9
+    check-ref-requires
+    enum-told-10
+    check-write-requires
+    enum-told-11
+    check-read-requires
+    enum-told-12
+    check-newl-requires
+    enum-told-13
+    check-freel-requires
+    enum-told-14
+    check-lck-requires
+    enum-told-15
+    check-ulck-requires
+    returns
+    returns-2
+    returns-3
+    returns-4
+    returns-5
+    returns-6
+    returns-7
+    returns-8
+    returns-9
+    returns-10
+    returns-11
+    returns-12
+    returns-13
+    returns-14
+    returns-15)
