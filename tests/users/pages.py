@@ -2,14 +2,14 @@
 import re
 
 from checks import HOUSE, answer_in, check, check_pair
-from explaining.refusals import PROGRAM, REFUSALS, SPLIT, USUALLY
+from explaining.refusals import FOR_CALLERS, PROGRAM, REFUSALS, SPLIT, USUALLY
 from explaining.sheets import read_sheet, split_of, steps_of
 from explaining.showing import fractions
 from explaining.sites import Sites
 from explaining.words import NUMBER_OF, WORDS
 
 PAGES = ["REFUSALS.md", "FORMATS.md"]
-NUMBERS = set(REFUSALS) - {1}  # no pair of sheets leads to 1
+NUMBERS = set(REFUSALS) - FOR_CALLERS
 
 # ---- The examples that are files
 
@@ -63,7 +63,7 @@ def check_nothing_left_out():
     answers = {answer for _, _, _, answer in pairs}
     check("REFUSALS.md has ACCEPT and UNREAD", {"ACCEPT", "UNREAD"} <= answers, True)
     check("REFUSALS.md has every number", {int(a.split(",")[1]) for a in answers if a.startswith("REFUSE")}, NUMBERS)
-    check("REFUSALS.md has a heading for each", [n for n in NUMBERS | {1} if f"\n### {n}: " not in page], [])
+    check("REFUSALS.md has a heading for each", [n for n in REFUSALS if f"\n### {n}: " not in page], [])
     failed = set()
     for _, program, _, answer in pairs:
         if re.match("REFUSE,3[123],", answer):

@@ -78,7 +78,7 @@ def _refused(explanation, program, split, line, condition, location):
     if sheet is not None:
         text = sheet.line(line)
         explanation.place.append(f"{sheet.name} line {line}" + ("" if text is None else f": {shown(text)}"))
-    if explanation.number >= 30:
+    if 30 <= explanation.number <= 33:
         _walkable(explanation, program, split)
         _condition_finding(explanation, line, condition, location)
         return

@@ -66,7 +66,13 @@ REFUSALS = {
         "a cell is touched without enough right to it", "owner of the program, then of the solver", PROGRAM,
         "ask what keeps the other threads away from the cell here: a join that comes too late, a lock not taken, a thread never"
         " joined"),
+    38: Refusal(
+        "an output buffer is shorter than its text", "caller of the library", None,
+        "lend buffers of 1,725 and 1,613 bytes, which are always enough"),
 }
+
+# What only a caller of the library sees: no pair of sheets leads to these.
+FOR_CALLERS = {1, 38}
 
 # What a false condition of a word usually means, beyond its refusal's own line: by word and condition.
 _EARLIER = "a take or give is missing before it: the row counts with a right that no step on the way has moved"
