@@ -5,12 +5,11 @@
 
 use evidence::answer::{Returned, LOCATIONS, STEPS, TYPES, WHOLE, WORK_SPACE};
 use evidence::comparison::Checker;
-use evidence::draw::draft::{Draft, Map, Step, Type};
+use evidence::draw::draft::{Draft, Heading, Map, Step, Type};
 use evidence::draw::random::Random;
 use evidence::draw::{full, honest};
-use evidence::known::KNOWN;
 use evidence::words::Word;
-use evidence::{product, second};
+use evidence::{known, product, second};
 use std::hint::black_box;
 use std::process::ExitCode;
 use std::time::{Duration, Instant};
@@ -43,7 +42,7 @@ fn main() -> ExitCode {
     };
     let mut bench = Bench { product, work: vec![0; WORK_SPACE] };
     let random = &mut Random::new(1, 0);
-    let (program, split) = KNOWN[0].sheets();
+    let (program, split) = known::all().next().expect("there are known pairs").sheets();
     let small = Pair { title: "small, Figure 2 (b), accepted".to_string(), program, split };
     let (fullest, refused) = (full::fullest(random), full::refused_last(random));
     println!("nanoseconds a call, the best batch of {BATCHES}");
@@ -90,7 +89,14 @@ fn deepest() -> Draft {
         steps.extend([plain(Word::If, last), plain(Word::Var, last)]);
     }
     steps.push(plain(Word::Var, last));
-    Draft { whole: WHOLE, locations: LOCATIONS as usize, types, maps: vec![[WHOLE; LOCATIONS as usize]], steps }
+    Draft {
+        heading: Heading::C,
+        whole: WHOLE,
+        locations: LOCATIONS as usize,
+        types,
+        maps: vec![[WHOLE; LOCATIONS as usize]],
+        steps,
+    }
 }
 
 fn heading() {

@@ -68,12 +68,13 @@ pub fn drill(seed: u32, program: &mut [u8], split: &mut [u8]) -> Drilled {
     Drilled { number: 0, next, program: steps.len() as u32, split: rows.len() as u32 }
 }
 
-#[cfg(test)]
-mod tests {
+/// The product's drill, where it is linked, beside this one.
+#[cfg(all(test, product))]
+mod beside {
     use super::*;
     use crate::answer::{Returned, WORK_SPACE};
     use crate::draw::random::Random;
-    use crate::{known, product, second};
+    use crate::{product, second};
 
     /// A seed for each number of readers, 1 to 31.
     fn seeds() -> Vec<u32> {
@@ -112,7 +113,6 @@ mod tests {
         }
     }
 
-    #[cfg(product)]
     #[test]
     fn every_number_of_readers_is_accepted() {
         for seed in seeds() {
@@ -129,7 +129,6 @@ mod tests {
         }
     }
 
-    #[cfg(product)]
     #[test]
     fn room_for_both_texts_or_neither_is_written() {
         for seed in seeds() {
@@ -148,7 +147,6 @@ mod tests {
         }
     }
 
-    #[cfg(product)]
     #[test]
     fn drawn_seeds_give_what_the_second_drill_gives() {
         let mut random = Random::new(2008, 2);
@@ -161,6 +159,12 @@ mod tests {
             assert!(buffers.bytes[0].starts_with(&program) && buffers.bytes[1].starts_with(&split));
         }
     }
+}
+
+#[cfg(test)]
+mod tests {
+    use super::*;
+    use crate::known;
 
     #[test]
     fn the_pairs_that_document_02_tells_of() {

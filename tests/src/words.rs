@@ -1,4 +1,4 @@
-//! The fifteen words of the program sheet (Figure 1).
+//! The words of the program sheet: those of Figure 1, and those of document 02.
 
 #[derive(Clone, Copy, Debug, PartialEq, Eq, Hash, PartialOrd, Ord)]
 pub enum Word {
@@ -17,13 +17,18 @@ pub enum Word {
     Lock,
     Freelock,
     Unlock,
+    Newsem,
+    Post,
+    Wait,
 }
 
 use Word::*;
 
-/// Every word, in the order of document 01's table of conditions.
-pub const WORDS: [Word; 15] =
-    [Var, Int, Let, If, While, Newtid, Spawn, Join, Ref, Read, Write, Newlock, Lock, Freelock, Unlock];
+/// Every word, in the order of document 01's table of conditions, then of document 02.
+pub const WORDS: [Word; 18] = [
+    Var, Int, Let, If, While, Newtid, Spawn, Join, Ref, Read, Write, Newlock, Lock, Freelock, Unlock, Newsem, Post,
+    Wait,
+];
 
 impl Word {
     /// The word with this spelling, if there is one.
@@ -44,6 +49,9 @@ impl Word {
             b"lock" => Lock,
             b"freelock" => Freelock,
             b"unlock" => Unlock,
+            b"newsem" => Newsem,
+            b"post" => Post,
+            b"wait" => Wait,
             _ => return None,
         })
     }
@@ -65,23 +73,26 @@ impl Word {
             Lock => "lock",
             Freelock => "freelock",
             Unlock => "unlock",
+            Newsem => "newsem",
+            Post => "post",
+            Wait => "wait",
         }
     }
 
     /// How many parts a step with this word has.
     pub fn parts(self) -> usize {
         match self {
-            Var | Int | Newtid | Newlock => 0,
-            While | Join | Ref | Read | Freelock | Lock | Unlock => 1,
+            Var | Int | Newtid | Newlock | Newsem => 0,
+            While | Join | Ref | Read | Freelock | Lock | Unlock | Post | Wait => 1,
             Let | If | Spawn | Write => 2,
         }
     }
 
-    /// How many conditions document 01's table lists for this word.
+    /// How many conditions the documents list for this word.
     pub fn conditions(self) -> u32 {
         match self {
-            Var | Int | Let | Newtid | Ref | Newlock => 2,
-            While | Join | Lock | Freelock | Unlock => 3,
+            Var | Int | Let | Newtid | Ref | Newlock | Newsem => 2,
+            While | Join | Lock | Freelock | Unlock | Post | Wait => 3,
             If | Spawn | Read => 4,
             Write => 5,
         }

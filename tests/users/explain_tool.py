@@ -10,6 +10,7 @@ from checks import HOUSE, check, make_pair, user_environment
 from explaining import telling, walk
 from explaining.conditions import find
 from explaining.drawing import page
+from explaining.drawing.holders import SILENT, Telling
 from explaining.findings import explain
 from explaining.refusals import FOR_CALLERS, REFUSALS
 from explaining.running import Run, run_in
@@ -19,7 +20,7 @@ from pages import PAGES, examples, pairs_of
 TOOL = HOUSE / "tools" / "explain"
 DRAWN = 2000
 # The examples whose pages are opened in a browser: with names and without, accepted and refused.
-SHOWN = {"refill", "refill-race", "loop-race"}
+SHOWN = {"refill", "refill-race", "loop-race", "canisters-race"}
 GOOD = ("P,1|int,0|", "C,1,1,1,1|int,0,0|0|0,0,|")
 
 
@@ -52,6 +53,21 @@ def check_examples(binary):
             if kept.exists():
                 check(f"explain {folder.name}: the page in its folder", kept.read_text() == file.read_text(), True)
             browser.check_page(f"page of {folder.name}", file, steps, found if folder.name in SHOWN else None)
+
+
+def check_tellings(binary):
+    """The picture tells every step that moves something, and of an accepted example a run in which nobody has too much."""
+    for folder in examples():
+        explanation = explain(run_in(binary, folder), folder)
+        moments, split = Telling(explanation).moments, explanation.sites.split
+        told = {moment.site.line for moment in moments}
+        wanted = {site.line for site in explanation.sites.all if site.word not in SILENT}
+        check(f"picture of {folder.name}: every step is told", wanted - told, set())
+        most = max(max(map(sum, zip(*moment.held.values())), default=0) for moment in moments)
+        if explanation.answer == "ACCEPT":
+            check(f"picture of {folder.name}: nobody past the whole", most <= split.denominator, True)
+        if folder.name == "canisters-race":
+            check(f"picture of {folder.name}: the post past the whole", (most, split.denominator), (3, 2))
 
 
 # ---- What is said of each refusal
@@ -195,6 +211,7 @@ def check_names(binary):
 
 def check_explain_tool(binary):
     check_examples(binary)
+    check_tellings(binary)
     check_pages(binary)
     check_lies(binary)
     check_errors(binary)

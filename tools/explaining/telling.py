@@ -33,9 +33,9 @@ def told(explanation):
 
 
 def condition_line(explanation):
-    site = explanation.site
-    rule = WORDS[site.word].rule
-    return f"Condition {explanation.condition_number} of {site.word} ({rule} in Figure 5): {explanation.condition.wording}"
+    number, name = explanation.condition_number, explanation.site.word
+    word = WORDS[name]
+    return f"Condition {number} of {name} ({word.rule} in {word.source}): {explanation.condition.wording}"
 
 
 def alarm(explanation):

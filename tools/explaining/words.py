@@ -1,4 +1,4 @@
-"""The words of the program sheet and the kinds of types, as tables in the order of document 01.
+"""The words of the program sheet and the kinds of types, as tables in the order of document 01, then of document 02.
 
 A new word is a row of WORDS, a new kind of type a row of KINDS. A condition stands here in document 01's own wording, and
 conditions.py computes it from that wording.
@@ -16,6 +16,7 @@ KINDS = {
     "ref": Kind("a cell", ("location", "content")),
     "lock": Kind("a lock", ("load", None)),
     "tid": Kind("a thread identifier", ("load", None)),
+    "sem": Kind("a semaphore", ("load", None)),
 }
 
 
@@ -26,22 +27,24 @@ class Condition(NamedTuple):
 
 
 class Word(NamedTuple):
-    rule: str  # its name in Figure 5
+    rule: str  # its name in the paper's rules
     number: str  # what its v is: a name in forms.RANGES
     parts: dict  # document 01's name of each part, and the map it starts with
     result: str  # its type, in words
     does: str  # what the step does; walk.py puts the names and amounts in
     conditions: tuple
+    source: str  # where the paper has its rule
 
 
-def _word(rule, number, parts, result, does, *conditions):
-    return Word(rule, number, parts, result, does, tuple(Condition(*condition) for condition in conditions))
+def _word(rule, number, parts, result, does, *conditions, source="Figure 5"):
+    return Word(rule, number, parts, result, does, tuple(Condition(*condition) for condition in conditions), source)
 
 
 _INT = ("type int", "T", "its type is of the kind `int`")
 _KEEPS = ("post = pre", "F", "after equals before")
 _PART_KEEPS = ("post = post of part", "F", "after equals what its part leaves")
 _PART_A_LOCK = ("part a lock", "T", "its part is a lock")
+_PART_A_SEM = ("part a sem", "T", "its part is a semaphore")
 _TAKES = ("post = post of part + K", "F", "after equals what its part leaves plus the load")
 _GIVES = ("post + K = post of part", "F", "after plus the load equals what its part leaves")
 
@@ -128,6 +131,19 @@ WORDS = {
         "ULCK", "nothing", {"part": "pre"},
         "`int`", "give back {thing} and with it {load}",
         _INT, _PART_A_LOCK, _GIVES),
+    "newsem": _word(
+        "NEWSEM", "nothing", {},
+        "a `sem` type", "a new semaphore; each post puts in {load}",
+        ("a sem type", "T", "its type is of the kind `sem`"),
+        _KEEPS, source="Section 3.1.4"),
+    "post": _word(
+        "POST", "nothing", {"part": "pre"},
+        "`int`", "post {thing}, which gets {load}",
+        _INT, _PART_A_SEM, _GIVES, source="Section 3.1.4"),
+    "wait": _word(
+        "WAIT", "nothing", {"part": "pre"},
+        "`int`", "wait at {thing} and get {load}",
+        _INT, _PART_A_SEM, _TAKES, source="Section 3.1.4"),
 }
 
 # The refusal's number for a false condition of each mark.

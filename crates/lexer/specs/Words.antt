@@ -6,8 +6,8 @@ use Rattle.spec.specs.Choice.{if_then_else_}
 use Rattle.spec.specs.Text.{bytes, same, Field}
 use Rattle.spec.specs.declared.Word.{Word}
 use Rattle.spec.specs.declared.Word.the-variants.{Leaf, Unary, Binary}
-use Rattle.spec.specs.declared.LeafWord.the-variants.{Var, Int, Newtid, Newlock}
-use Rattle.spec.specs.declared.UnaryWord.the-variants.{While, Join, Ref, Read, Freelock, Lock, Unlock}
+use Rattle.spec.specs.declared.LeafWord.the-variants.{Var, Int, Newtid, Newlock, Newsem}
+use Rattle.spec.specs.declared.UnaryWord.the-variants.{While, Join, Ref, Read, Freelock, Lock, Unlock, Post, Wait}
 use Rattle.spec.specs.declared.BinaryWord.the-variants.{Let, If, Spawn, Write}
 use Rattle.lexer.specs.declared.vocabulary.FoundWord.{FoundWord}
 use Rattle.lexer.specs.declared.vocabulary.FoundWord.the-variants.{Known, Unknown}
@@ -25,6 +25,7 @@ leafWords =
     ∷ (bytes "int", Leaf Int)
     ∷ (bytes "newtid", Leaf Newtid)
     ∷ (bytes "newlock", Leaf Newlock)
+    ∷ (bytes "newsem", Leaf Newsem)
     ∷ []
 
 unfoldable pub unaryWords : List (List ℕ × Word)
@@ -36,6 +37,8 @@ unaryWords =
     ∷ (bytes "freelock", Unary Freelock)
     ∷ (bytes "lock", Unary Lock)
     ∷ (bytes "unlock", Unary Unlock)
+    ∷ (bytes "post", Unary Post)
+    ∷ (bytes "wait", Unary Wait)
     ∷ []
 
 unfoldable pub binaryWords : List (List ℕ × Word)
@@ -53,4 +56,5 @@ typeWordOf f =
     else if same f (bytes "ref") then kind.Ref
     else if same f (bytes "lock") then kind.Lock
     else if same f (bytes "tid") then kind.Tid
+    else if same f (bytes "sem") then kind.Sem
     else kind.Unknown

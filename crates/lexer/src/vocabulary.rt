@@ -20,6 +20,7 @@ pub enum TypeWord {
     Ref,
     Lock,
     Tid,
+    Sem,
     Unknown,
 }
 
@@ -56,6 +57,9 @@ fn leaf_word(field: &[u8]) -> FoundWord
     if same(b"newlock", field) {
         return FoundWord::Known(Word::Leaf(LeafWord::Newlock));
     }
+    if same(b"newsem", field) {
+        return FoundWord::Known(Word::Leaf(LeafWord::Newsem));
+    }
     FoundWord::Unknown
 }
 
@@ -83,6 +87,12 @@ fn unary_word(field: &[u8]) -> FoundWord
     }
     if same(b"unlock", field) {
         return FoundWord::Known(Word::Unary(UnaryWord::Unlock));
+    }
+    if same(b"post", field) {
+        return FoundWord::Known(Word::Unary(UnaryWord::Post));
+    }
+    if same(b"wait", field) {
+        return FoundWord::Known(Word::Unary(UnaryWord::Wait));
     }
     FoundWord::Unknown
 }
@@ -136,6 +146,9 @@ pub fn type_word(field: &[u8]) -> TypeWord
     }
     if same(field, b"tid") {
         return TypeWord::Tid;
+    }
+    if same(field, b"sem") {
+        return TypeWord::Sem;
     }
     TypeWord::Unknown
 }

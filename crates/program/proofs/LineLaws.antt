@@ -15,7 +15,7 @@ use Rattle.spec.specs.Program.{firstNumber, countLine, words, valueRange, stepO
 use Rattle.spec.specs.declared.Refusal.the-variants.{ProgramForm, ProgramRange, ProgramLines}
 use Rattle.spec.specs.declared.Word.{Word}
 use Rattle.spec.specs.declared.Word.the-variants.{Leaf, Unary, Binary}
-use Rattle.spec.specs.declared.LeafWord.the-variants.{Var, Int, Newtid, Newlock}
+use Rattle.spec.specs.declared.LeafWord.the-variants.{Var, Int, Newtid, Newlock, Newsem}
 use Rattle.spec.specs.declared.BinaryWord.the-variants.{Let, If, Spawn, Write}
 use Rattle.spec.proofs.Ranges.{up-to-in, up-to-out}
 use Rattle.lexer.specs.Views.{firstField, nothing}
@@ -116,6 +116,7 @@ range-of (Leaf Var) = refl
 range-of (Leaf Int) = refl
 range-of (Leaf Newtid) = refl
 range-of (Leaf Newlock) = refl
+range-of (Leaf Newsem) = refl
 range-of (Unary w) = refl
 range-of (Binary Let) = refl
 range-of (Binary If) = refl
@@ -128,6 +129,7 @@ value-narrow (Leaf Var) = omega arith
 value-narrow (Leaf Int) = omega arith
 value-narrow (Leaf Newtid) = omega arith
 value-narrow (Leaf Newlock) = omega arith
+value-narrow (Leaf Newsem) = omega arith
 value-narrow (Unary w) = omega arith
 value-narrow (Binary Let) = omega arith
 value-narrow (Binary If) = omega arith

@@ -11,7 +11,7 @@ use Rattle.spec.specs.Program.{countLine, stepLine}
 use Rattle.spec.specs.declared.Word.{Word}
 use Rattle.spec.specs.declared.Word.the-variants.{Leaf, Unary, Binary}
 use Rattle.spec.specs.declared.LeafWord.{LeafWord}
-use Rattle.spec.specs.declared.LeafWord.the-variants.{Var, Int, Newtid, Newlock}
+use Rattle.spec.specs.declared.LeafWord.the-variants.{Var, Int, Newtid, Newlock, Newsem}
 use Rattle.spec.specs.declared.BinaryWord.{BinaryWord}
 use Rattle.spec.specs.declared.BinaryWord.the-variants.{Let, If, Spawn, Write}
 use Rattle.lexer.specs.Cursors.{Placed, rest, placeAt}
@@ -56,6 +56,7 @@ leafLimit Var = 255
 leafLimit Int = 65535
 leafLimit Newtid = 0
 leafLimit Newlock = 0
+leafLimit Newsem = 0
 
 abbrev pub binaryLimit : BinaryWord → ℕ
 binaryLimit Let = 255

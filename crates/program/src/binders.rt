@@ -31,6 +31,7 @@ fn leaf_role(w: LeafWord) -> Role
         LeafWord::Int => Role::Neither,
         LeafWord::Newtid => Role::Neither,
         LeafWord::Newlock => Role::Neither,
+        LeafWord::Newsem => Role::Neither,
     }
 }
 

@@ -83,6 +83,7 @@ fn leaf_limit(w: LeafWord) -> u32
         LeafWord::Int => 65535,
         LeafWord::Newtid => 0,
         LeafWord::Newlock => 0,
+        LeafWord::Newsem => 0,
     }
 }
 

@@ -17,7 +17,7 @@ use Rattle.spec.specs.Expression.{Step}
 use Rattle.spec.specs.Split.{Split, typeAt, mapAt}
 use Rattle.spec.specs.Maps.{nowhere, sameNumbers}
 use Rattle.spec.specs.Agreement.{int, code, Tree, plain, sameMaps, sameTree, treeOf, trees, tree, agree}
-use Rattle.spec.specs.Conditions.{T, F, isInt, isRef, isLock, isTid, place, load, contains}
+use Rattle.spec.specs.Conditions.{T, F, isInt, isRef, isLock, isTid, isSem, place, load, contains}
 use Rattle.spec.specs.Sites.{judge}
 use Rattle.spec.specs.Ranges.{InRange}
 use Rattle.spec.specs.declared.Location.{Location}
@@ -25,7 +25,7 @@ use Rattle.spec.specs.declared.MapNumber.{MapNumber}
 use Rattle.spec.specs.declared.TypeNumber.{TypeNumber}
 use Rattle.spec.specs.declared.Refusal.{Refusal}
 use Rattle.spec.specs.declared.TypeLine.{TypeLine}
-use Rattle.spec.specs.declared.TypeLine.the-variants.{Int, Ref, Lock, Tid}
+use Rattle.spec.specs.declared.TypeLine.the-variants.{Int, Ref, Lock, Tid, Sem}
 use Rattle.spec.proofs.Clashes.{true-is-not-false}
 use Rattle.spec.proofs.Outcomes.{stop-is-not-on}
 use Rattle.spec.proofs.Agreement.{same-maps-single, content-smaller, tree-of-type}
@@ -66,6 +66,7 @@ module _ (w : List ℕ) (n : ℕ) where
   lines-same f g h (Ref p c) y = rw (h c (content y))
   lines-same f g h (Lock k) y = refl
   lines-same f g h (Tid k) y = refl
+  lines-same f g h (Sem k) y = refl
 
   -- where no contents agree, no refs do
   pub no-contents : (x y : TypeLine) → isRef x ≡ true → linesAgree w n (λ c d. false) x y ≡ false
@@ -79,14 +80,16 @@ module _ (w : List ℕ) (n : ℕ) where
       either false b = refl
   no-contents (Lock k) y h = true-is-not-false (sym h)
   no-contents (Tid k) y h = true-is-not-false (sym h)
+  no-contents (Sem k) y h = true-is-not-false (sym h)
 
-  plain-lines : (f g : TypeNumber → TypeNumber → Bool) (x y : TypeLine) → OneOf (0 ∷ 2 ∷ 3 ∷ []) (tagOf kind.the-type x)
+  plain-lines : (f g : TypeNumber → TypeNumber → Bool) (x y : TypeLine) → OneOf (0 ∷ 2 ∷ 3 ∷ 4 ∷ []) (tagOf kind.the-type x)
       → linesAgree w n f x y ≡ linesAgree w n g x y
   unfolding linesAgree
   plain-lines f g Int y h = refl
-  plain-lines f g (Ref p c) y h = absurd (miss (0 ∷ 2 ∷ 3 ∷ []) 1 tt h)
+  plain-lines f g (Ref p c) y h = absurd (miss (0 ∷ 2 ∷ 3 ∷ 4 ∷ []) 1 tt h)
   plain-lines f g (Lock k) y h = refl
   plain-lines f g (Tid k) y h = refl
+  plain-lines f g (Sem k) y h = refl
 
   -- any bound above the first type's number will do
   any-bound : (b b′ : ℕ) (t u : TypeNumber) → t .0 < b → t .0 < b′ → agreeBelow w n b t u ≡ agreeBelow w n b′ t u
@@ -103,7 +106,7 @@ module _ (w : List ℕ) (n : ℕ) where
 
   module _ (t u : TypeNumber) {x y : TypeLine} (e : x ≡ layout.typeAt w t) (g : y ≡ layout.typeAt w u) where
     -- a type that is no ref
-    pub plain-agree : OneOf (0 ∷ 2 ∷ 3 ∷ []) (tagOf kind.the-type x) → linesAgree w n (λ c d. false) x y ≡ agreeIn w n t u
+    pub plain-agree : OneOf (0 ∷ 2 ∷ 3 ∷ 4 ∷ []) (tagOf kind.the-type x) → linesAgree w n (λ c d. false) x y ≡ agreeIn w n t u
     unfolding agreeIn agreeBelow
     plain-agree h = rw (← e, ← g) (plain-lines _ _ x y h)
 
@@ -140,23 +143,32 @@ module _ (w : List ℕ) (S : Split) (steps : List Step) (H : HoldsSplit w S) (R 
       → load x .0 < length (S .maps) → load y .0 < length (S .maps)
       → ((p q : Location) (c d : TypeNumber) → x ≡ Ref p c → y ≡ Ref q d → f c d ≡ sameTree (getD all (c .0) (plain int [])) (getD all (d .0) (plain int [])))
       → linesAgree w n f x y ≡ sameTree (treeOf S all x) (treeOf S all y)
-  unfolding linesAgree code sameMaps sameTree treeOf isInt isRef isLock isTid place load content
+  unfolding linesAgree code sameMaps sameTree treeOf isInt isRef isLock isTid isSem place load content
   lines-shown all f Int Int i j h = refl
   lines-shown all f Int (Ref q d) i j h = refl
   lines-shown all f Int (Lock k) i j h = refl
   lines-shown all f Int (Tid k) i j h = refl
+  lines-shown all f Int (Sem k) i j h = refl
   lines-shown all f (Ref p c) Int i j h = refl
   lines-shown all f (Ref p c) (Ref q d) i j h = rw (h p q c d refl refl)
   lines-shown all f (Ref p c) (Lock k) i j h = refl
   lines-shown all f (Ref p c) (Tid k) i j h = refl
+  lines-shown all f (Ref p c) (Sem k) i j h = refl
   lines-shown all f (Lock k) Int i j h = refl
   lines-shown all f (Lock k) (Ref q d) i j h = refl
   lines-shown all f (Lock k) (Lock m) i j h = same-numbers-shown k m i j ∙ sym (same-maps-single (mapAt S k) (mapAt S m))
   lines-shown all f (Lock k) (Tid m) i j h = refl
+  lines-shown all f (Lock k) (Sem m) i j h = refl
   lines-shown all f (Tid k) Int i j h = refl
   lines-shown all f (Tid k) (Ref q d) i j h = refl
   lines-shown all f (Tid k) (Lock m) i j h = refl
   lines-shown all f (Tid k) (Tid m) i j h = same-numbers-shown k m i j ∙ sym (same-maps-single (mapAt S k) (mapAt S m))
+  lines-shown all f (Tid k) (Sem m) i j h = refl
+  lines-shown all f (Sem k) Int i j h = refl
+  lines-shown all f (Sem k) (Ref q d) i j h = refl
+  lines-shown all f (Sem k) (Lock m) i j h = refl
+  lines-shown all f (Sem k) (Tid m) i j h = refl
+  lines-shown all f (Sem k) (Sem m) i j h = same-numbers-shown k m i j ∙ sym (same-maps-single (mapAt S k) (mapAt S m))
 
   below-shown : (b : ℕ) (t u : TypeNumber) → t .0 < b → t .0 < length (S .types) → u .0 < length (S .types)
       → agreeBelow w n b t u ≡ agree S t u
@@ -194,3 +206,4 @@ module _ (w : List ℕ) (S : Split) (steps : List Step) (H : HoldsSplit w S) (R 
       of-line (Ref p c) e = let c<t = content-smaller S R t p c e in agree-shown c u (omega arith) j
       of-line (Lock k) e = refl
       of-line (Tid k) e = refl
+      of-line (Sem k) e = refl

@@ -15,7 +15,7 @@ use Rattle.spec.specs.declared.Location.{Location}
 use Rattle.spec.specs.declared.MapNumber.{MapNumber}
 use Rattle.spec.specs.declared.TypeNumber.{TypeNumber}
 use Rattle.spec.specs.declared.TypeLine.{TypeLine}
-use Rattle.spec.specs.declared.TypeLine.the-variants.{Int, Ref, Lock, Tid}
+use Rattle.spec.specs.declared.TypeLine.the-variants.{Int, Ref, Lock, Tid, Sem}
 use Rattle.workspace.specs.Layout as layout
 use Rattle.workspace.specs.Layout.{rowTypesAt, postsAt, startsAt, kindsAt, firstsAt, secondsAt, mapCell, kindOf, firstOf, secondOf}
 use Rattle.workspace.specs.Holds.{HoldsSplit}
@@ -69,6 +69,7 @@ module _ (w : List ℕ) (S : Split) (steps : List Step) (H : HoldsSplit w S) (R 
       of-line (Ref p c) e = R .refPlace (t .0) p c h e .0
       of-line (Lock k) e = R .locations .0
       of-line (Tid k) e = R .locations .0
+      of-line (Sem k) e = R .locations .0
 
   pub load-in : (t : TypeNumber) → t .0 < length (S .types) → load (typeAt S t) .0 < length (S .maps)
   unfolding typeAt load
@@ -79,6 +80,7 @@ module _ (w : List ℕ) (S : Split) (steps : List Step) (H : HoldsSplit w S) (R 
       of-line (Ref p c) e = omega (arith, R .mapsCounted, R .mapsFew .0)
       of-line (Lock k) e = R .lockLoad (t .0) k h e
       of-line (Tid k) e = R .tidLoad (t .0) k h e
+      of-line (Sem k) e = R .semLoad (t .0) k h e
 
   -- ---------------------------------------------------------------- maps
 

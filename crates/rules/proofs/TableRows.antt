@@ -17,9 +17,9 @@ use Rattle.spec.specs.declared.TypeNumber.{TypeNumber}
 use Rattle.spec.specs.declared.TypeLine.{TypeLine}
 use Rattle.spec.specs.declared.TypeLine.the-variants as type-line
 use Rattle.spec.specs.declared.LeafWord.{LeafWord}
-use Rattle.spec.specs.declared.LeafWord.the-variants.{Var, Int, Newtid, Newlock}
+use Rattle.spec.specs.declared.LeafWord.the-variants.{Var, Int, Newtid, Newlock, Newsem}
 use Rattle.spec.specs.declared.UnaryWord.{UnaryWord}
-use Rattle.spec.specs.declared.UnaryWord.the-variants.{While, Join, Ref, Read, Freelock, Lock, Unlock}
+use Rattle.spec.specs.declared.UnaryWord.the-variants.{While, Join, Ref, Read, Freelock, Lock, Unlock, Post, Wait}
 use Rattle.spec.specs.declared.BinaryWord.{BinaryWord}
 use Rattle.spec.specs.declared.BinaryWord.the-variants.{Let, If, Spawn, Write}
 use Rattle.workspace.specs.Layout as layout
@@ -56,6 +56,7 @@ Bound S Var s Γ v = (s .bound ≡ typeIn Γ v) × (typeIn Γ v .0 < length (S .
 Bound S Int s Γ v = Unit {0}
 Bound S Newtid s Γ v = Unit {0}
 Bound S Newlock s Γ v = Unit {0}
+Bound S Newsem s Γ v = Unit {0}
 
 module _ (w : List ℕ) (S : Split) (steps : List Step) (H : HoldsSplit w S) (R : InRange steps S)
     (s : View) (located : s .locations ≡ S .header .locations) (divided : s .denominator ≡ S .header .denominator)
@@ -124,6 +125,7 @@ module _ (w : List ℕ) (S : Split) (steps : List Step) (H : HoldsSplit w S) (R 
   leaf-shown Int o b = rw (equal (post-stands _ o) pre-stands, typed-as _ o)
   leaf-shown Newtid o b = rw (equal (post-stands _ o) pre-stands, typed-as _ o)
   leaf-shown Newlock o b = rw (sum (post-stands _ o) (load-stands _ o) pre-stands, typed-as _ o)
+  leaf-shown Newsem o b = rw (equal (post-stands _ o) pre-stands, typed-as _ o)
 
   module _ (e₁ : Expr) (f : Part S (s .type1) (s .post1) e₁) where
     pub unary-shown : (x : UnaryWord) → Part S (s .own) (s .post) (unary x l v e₁)
@@ -149,6 +151,10 @@ module _ (w : List ℕ) (S : Split) (steps : List Step) (H : HoldsSplit w S) (R 
         rw (is-sum (post-stands _ f) (load-stands _ f) (post-stands _ o), typed-as _ o, typed-as _ f)
     unary-shown Unlock o =
         rw (sum (post-stands _ o) (load-stands _ f) (post-stands _ f), typed-as _ o, typed-as _ f)
+    unary-shown Post o =
+        rw (sum (post-stands _ o) (load-stands _ f) (post-stands _ f), typed-as _ o, typed-as _ f)
+    unary-shown Wait o =
+        rw (is-sum (post-stands _ f) (load-stands _ f) (post-stands _ o), typed-as _ o, typed-as _ f)
 
     module _ (e₂ : Expr) (g : Part S (s .type2) (s .post2) e₂) where
       pub binary-shown : (x : BinaryWord) → Part S (s .own) (s .post) (binary x l v e₁ e₂)

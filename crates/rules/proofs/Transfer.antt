@@ -18,7 +18,7 @@ use Rattle.spec.specs.Verdict.{startAtMostOne, ruled}
 use Rattle.spec.specs.Ranges.{InRange}
 use Rattle.spec.specs.declared.MapNumber.{MapNumber}
 use Rattle.spec.specs.declared.UnaryWord.{UnaryWord}
-use Rattle.spec.specs.declared.UnaryWord.the-variants.{While, Join, Ref, Read, Freelock, Lock, Unlock}
+use Rattle.spec.specs.declared.UnaryWord.the-variants.{While, Join, Ref, Read, Freelock, Lock, Unlock, Post, Wait}
 use Rattle.spec.specs.declared.BinaryWord.{BinaryWord}
 use Rattle.spec.specs.declared.BinaryWord.the-variants.{Let, If, Spawn, Write}
 use Rattle.workspace.specs.Layout.{presAt}
@@ -53,6 +53,8 @@ part-in Read pre post n p q = p
 part-in Freelock pre post n p q = p
 part-in Lock pre post n p q = p
 part-in Unlock pre post n p q = p
+part-in Post pre post n p q = p
+part-in Wait pre post n p q = p
 
 second-in : (x : BinaryWord) (pre post₁ start : MapNumber) (n : ℕ) → pre .0 < n → post₁ .0 < n → start .0 < n
     → preOfSecond x pre post₁ start .0 < n

@@ -6,44 +6,57 @@ use Prim.Native.Nat.{ℕ}
 use types.Run.{OneOf, miss}
 use denote.Enum.Declared.{tagOf}
 use Rattle.spec.proofs.TypeLine as kind
-use Rattle.spec.specs.Conditions.{isInt, isRef, isLock, isTid}
+use Rattle.spec.specs.Conditions.{isInt, isRef, isLock, isTid, isSem}
 use Rattle.spec.specs.declared.TypeNumber.{TypeNumber}
 use Rattle.spec.specs.declared.TypeLine.{TypeLine}
-use Rattle.spec.specs.declared.TypeLine.the-variants.{Int, Ref, Lock, Tid}
+use Rattle.spec.specs.declared.TypeLine.the-variants.{Int, Ref, Lock, Tid, Sem}
 use Rattle.rules.specs.Table.{containsIn}
 
-pub not-int : (t : TypeLine) → OneOf (1 ∷ 2 ∷ 3 ∷ []) (tagOf kind.the-type t) → isInt t ≡ false
+pub not-int : (t : TypeLine) → OneOf (1 ∷ 2 ∷ 3 ∷ 4 ∷ []) (tagOf kind.the-type t) → isInt t ≡ false
 unfolding isInt
-not-int Int h = absurd (miss (1 ∷ 2 ∷ 3 ∷ []) 0 tt h)
+not-int Int h = absurd (miss (1 ∷ 2 ∷ 3 ∷ 4 ∷ []) 0 tt h)
 not-int (Ref p c) h = refl
 not-int (Lock k) h = refl
 not-int (Tid k) h = refl
+not-int (Sem k) h = refl
 
-pub not-ref : (t : TypeLine) → OneOf (0 ∷ 2 ∷ 3 ∷ []) (tagOf kind.the-type t) → isRef t ≡ false
+pub not-ref : (t : TypeLine) → OneOf (0 ∷ 2 ∷ 3 ∷ 4 ∷ []) (tagOf kind.the-type t) → isRef t ≡ false
 unfolding isRef
 not-ref Int h = refl
-not-ref (Ref p c) h = absurd (miss (0 ∷ 2 ∷ 3 ∷ []) 1 tt h)
+not-ref (Ref p c) h = absurd (miss (0 ∷ 2 ∷ 3 ∷ 4 ∷ []) 1 tt h)
 not-ref (Lock k) h = refl
 not-ref (Tid k) h = refl
+not-ref (Sem k) h = refl
 
-pub not-lock : (t : TypeLine) → OneOf (0 ∷ 1 ∷ 3 ∷ []) (tagOf kind.the-type t) → isLock t ≡ false
+pub not-lock : (t : TypeLine) → OneOf (0 ∷ 1 ∷ 3 ∷ 4 ∷ []) (tagOf kind.the-type t) → isLock t ≡ false
 unfolding isLock
 not-lock Int h = refl
 not-lock (Ref p c) h = refl
-not-lock (Lock k) h = absurd (miss (0 ∷ 1 ∷ 3 ∷ []) 2 tt h)
+not-lock (Lock k) h = absurd (miss (0 ∷ 1 ∷ 3 ∷ 4 ∷ []) 2 tt h)
 not-lock (Tid k) h = refl
+not-lock (Sem k) h = refl
 
-pub not-tid : (t : TypeLine) → OneOf (0 ∷ 1 ∷ 2 ∷ []) (tagOf kind.the-type t) → isTid t ≡ false
+pub not-tid : (t : TypeLine) → OneOf (0 ∷ 1 ∷ 2 ∷ 4 ∷ []) (tagOf kind.the-type t) → isTid t ≡ false
 unfolding isTid
 not-tid Int h = refl
 not-tid (Ref p c) h = refl
 not-tid (Lock k) h = refl
-not-tid (Tid k) h = absurd (miss (0 ∷ 1 ∷ 2 ∷ []) 3 tt h)
+not-tid (Tid k) h = absurd (miss (0 ∷ 1 ∷ 2 ∷ 4 ∷ []) 3 tt h)
+not-tid (Sem k) h = refl
 
-pub not-contains : (w : List ℕ) (n : ℕ) (t : TypeLine) (u : TypeNumber) → OneOf (0 ∷ 2 ∷ 3 ∷ []) (tagOf kind.the-type t)
+pub not-sem : (t : TypeLine) → OneOf (0 ∷ 1 ∷ 2 ∷ 3 ∷ []) (tagOf kind.the-type t) → isSem t ≡ false
+unfolding isSem
+not-sem Int h = refl
+not-sem (Ref p c) h = refl
+not-sem (Lock k) h = refl
+not-sem (Tid k) h = refl
+not-sem (Sem k) h = absurd (miss (0 ∷ 1 ∷ 2 ∷ 3 ∷ []) 4 tt h)
+
+pub not-contains : (w : List ℕ) (n : ℕ) (t : TypeLine) (u : TypeNumber) → OneOf (0 ∷ 2 ∷ 3 ∷ 4 ∷ []) (tagOf kind.the-type t)
     → containsIn w n t u ≡ false
 unfolding containsIn
 not-contains w n Int u h = refl
-not-contains w n (Ref p c) u h = absurd (miss (0 ∷ 2 ∷ 3 ∷ []) 1 tt h)
+not-contains w n (Ref p c) u h = absurd (miss (0 ∷ 2 ∷ 3 ∷ 4 ∷ []) 1 tt h)
 not-contains w n (Lock k) u h = refl
 not-contains w n (Tid k) u h = refl
+not-contains w n (Sem k) u h = refl

@@ -12,7 +12,7 @@ use Rattle.spec.specs.Ranges.{InRange}
 use Rattle.spec.specs.declared.MapNumber.{MapNumber}
 use Rattle.spec.specs.declared.TypeNumber.{TypeNumber}
 use Rattle.spec.specs.declared.LeafWord.{LeafWord}
-use Rattle.spec.specs.declared.LeafWord.the-variants.{Var, Int, Newtid, Newlock}
+use Rattle.spec.specs.declared.LeafWord.the-variants.{Var, Int, Newtid, Newlock, Newsem}
 use Rattle.workspace.specs.Layout.{endsAt, rowTypesAt, postsAt}
 use Rattle.workspace.specs.Holds.{HoldsSplit, letIn}
 use Rattle.workspace.proofs.Region.{column}
@@ -83,3 +83,4 @@ module _ (w : List ℕ) (S : Split) (steps : List Step) (H : HoldsSplit w S) (R 
     bound-shown Int l v P C = tt
     bound-shown Newtid l v P C = tt
     bound-shown Newlock l v P C = tt
+    bound-shown Newsem l v P C = tt

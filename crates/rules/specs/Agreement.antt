@@ -5,7 +5,7 @@ use mathlib.Core.List.{List}
 use Prim.Native.Nat.{ℕ, zero, suc}
 use lib.Dec.{eqb, ltb}
 use Rattle.spec.specs.Maps.{nowhere}
-use Rattle.spec.specs.Conditions.{isInt, isRef, isLock, isTid, place, load}
+use Rattle.spec.specs.Conditions.{isInt, isRef, isLock, isTid, isSem, place, load}
 use Rattle.spec.specs.declared.MapNumber.{MapNumber}
 use Rattle.spec.specs.declared.TypeNumber.{TypeNumber}
 use Rattle.spec.specs.declared.TypeLine.{TypeLine}
@@ -20,6 +20,7 @@ content type-line.Int = record { 0 = 0 }
 content (type-line.Ref p c) = c
 content (type-line.Lock k) = record { 0 = 0 }
 content (type-line.Tid k) = record { 0 = 0 }
+content (type-line.Sem k) = record { 0 = 0 }
 
 module _ (w : List ℕ) (n : ℕ) where
   -- two maps hold equal numbers
@@ -32,6 +33,7 @@ module _ (w : List ℕ) (n : ℕ) where
   linesAgree contents (type-line.Ref p c) y = isRef y && (eqb (p .0) (place y .0) && contents c (content y))
   linesAgree contents (type-line.Lock k) y = isLock y && sameNumbersIn k (load y)
   linesAgree contents (type-line.Tid k) y = isTid y && sameNumbersIn k (load y)
+  linesAgree contents (type-line.Sem k) y = isSem y && sameNumbersIn k (load y)
 
   -- a type numbered below the bound agrees with another. A content agrees only if it is numbered below its ref, as each is in
   -- a sheet.

@@ -4,7 +4,7 @@ use mathlib.Core.Bool.{Bool, false}
 use mathlib.Core.List.{List, [], _∷_}
 use Prim.Native.Nat.{ℕ}
 use lib.Dec.{leb}
-use Rattle.spec.specs.Conditions.{Condition, T, F, A, isInt, isRef, isLock, isTid, place, load}
+use Rattle.spec.specs.Conditions.{Condition, T, F, A, isInt, isRef, isLock, isTid, isSem, place, load}
 use Rattle.spec.specs.declared.Location.{Location}
 use Rattle.spec.specs.declared.MapNumber.{MapNumber}
 use Rattle.spec.specs.declared.TypeNumber.{TypeNumber}
@@ -12,7 +12,7 @@ use Rattle.spec.specs.declared.TypeLine.{TypeLine}
 use Rattle.spec.specs.declared.TypeLine.the-variants as type-line
 use Rattle.workspace.specs.Layout.{mapCell}
 use Rattle.workspace.specs.declared.Rule.{Rule}
-use Rattle.workspace.specs.declared.Rule.the-variants.{VAR, INT, LET, IF, WHILE, NEWT, SPAWN, JOIN, REF, WRITE, READ, NEWL, FREEL, LCK, ULCK}
+use Rattle.workspace.specs.declared.Rule.the-variants.{VAR, INT, LET, IF, WHILE, NEWT, SPAWN, JOIN, REF, WRITE, READ, NEWL, FREEL, LCK, ULCK, NEWSEM, POST, WAIT}
 use Rattle.rules.specs.Relation.{failsFrom}
 use Rattle.rules.specs.Agreement.{agreeIn}
 use Rattle.rules.specs.declared.Relation.{Relation}
@@ -25,6 +25,7 @@ containsIn w n type-line.Int t = false
 containsIn w n (type-line.Ref p c) t = agreeIn w n c t
 containsIn w n (type-line.Lock k) t = false
 containsIn w n (type-line.Tid k) t = false
+containsIn w n (type-line.Sem k) t = false
 
 -- a relation at every location of the sheet
 abbrev pub flows : (w : List ℕ) → View → Relation → Condition
@@ -135,6 +136,19 @@ lckRow w s kind kind₁ = loaded w s kind (isLock kind₁) (s .post1) (load kind
 abbrev pub ulckRow : TableRow
 ulckRow w s kind kind₁ = loaded w s kind (isLock kind₁) (s .post) (load kind₁) (s .post1)
 
+-- section 3.1.4
+abbrev pub newsemRow : TableRow
+newsemRow w s kind kind₁ =
+    T (isSem kind)
+    ∷ flows w s (Equal (s .post) (s .pre))
+    ∷ []
+
+abbrev pub postRow : TableRow
+postRow w s kind kind₁ = loaded w s kind (isSem kind₁) (s .post) (load kind₁) (s .post1)
+
+abbrev pub waitRow : TableRow
+waitRow w s kind kind₁ = loaded w s kind (isSem kind₁) (s .post1) (load kind₁) (s .post)
+
 unfoldable pub ruleRow : Rule → TableRow
 ruleRow VAR = varRow
 ruleRow INT = intRow
@@ -151,3 +165,6 @@ ruleRow NEWL = newlRow
 ruleRow FREEL = freelRow
 ruleRow LCK = lckRow
 ruleRow ULCK = ulckRow
+ruleRow NEWSEM = newsemRow
+ruleRow POST = postRow
+ruleRow WAIT = waitRow

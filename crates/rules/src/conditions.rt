@@ -170,6 +170,12 @@ fn agree_plain(
             };
             same_maps(line, condition, work, locations, k, h)
         }
+        TypeLine::Sem(k) => {
+            let TypeLine::Sem(h) = other else {
+                return type_false(line, condition);
+            };
+            same_maps(line, condition, work, locations, k, h)
+        }
     }
 }
 

@@ -93,6 +93,8 @@ fn pre_of_part(w: UnaryWord, pre: MapNumber, post: MapNumber) -> MapNumber
         UnaryWord::Freelock => pre,
         UnaryWord::Lock => pre,
         UnaryWord::Unlock => pre,
+        UnaryWord::Post => pre,
+        UnaryWord::Wait => pre,
     }
 }
 

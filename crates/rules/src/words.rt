@@ -1,4 +1,4 @@
-// The conditions of a step: the rules of Figure 5, in the printed order.
+// The conditions of a step: the rules of Figure 5, in the printed order, and behind them those of section 3.1.4.
 use super::Ruling;
 use super::View;
 use super::conditions::agree;
@@ -12,7 +12,7 @@ use spec::TypeLine;
 use workspace::Rule;
 ghost use mathlib.Core.Path.{_≡_};
 ghost use Rattle.rules.specs.Outcome.{outcome, judged};
-ghost use Rattle.rules.specs.Table.{varRow, intRow, letRow, ifRow, whileRow, newtRow, spawnRow, joinRow, refRow, writeRow, readRow, newlRow, freelRow, lckRow, ulckRow, ruleRow};
+ghost use Rattle.rules.specs.Table.{varRow, intRow, letRow, ifRow, whileRow, newtRow, spawnRow, joinRow, refRow, writeRow, readRow, newlRow, freelRow, lckRow, ulckRow, newsemRow, postRow, waitRow, ruleRow};
 
 // VAR: 1 type is that of its let's e1; 2 post = pre.
 fn check_var(work: &[u32], s: View, kind: TypeLine, kind1: TypeLine) -> Ruling
@@ -208,6 +208,42 @@ fn check_ulck(work: &[u32], s: View, kind: TypeLine, kind1: TypeLine) -> Ruling
     sum(s.line, 3, work, s.locations, s.post, load, s.post1)
 }
 
+// NEWSEM: 1 a sem type; 2 post = pre.
+fn check_newsem(work: &[u32], s: View, kind: TypeLine, kind1: TypeLine) -> Ruling
+    ensures { λ r. ⌜ outcome r ≡ judged (s .line) 1 (newsemRow (now (work .entry)) s kind kind1) ⌝ }
+{
+    let TypeLine::Sem(_) = kind else {
+        return type_false(s.line, 1);
+    };
+    equal(s.line, 2, work, s.locations, s.post, s.pre)
+}
+
+// POST: 1 type int; 2 part a sem; 3 post + K = post of part.
+fn check_post(work: &[u32], s: View, kind: TypeLine, kind1: TypeLine) -> Ruling
+    ensures { λ r. ⌜ outcome r ≡ judged (s .line) 1 (postRow (now (work .entry)) s kind kind1) ⌝ }
+{
+    let TypeLine::Int = kind else {
+        return type_false(s.line, 1);
+    };
+    let TypeLine::Sem(load) = kind1 else {
+        return type_false(s.line, 2);
+    };
+    sum(s.line, 3, work, s.locations, s.post, load, s.post1)
+}
+
+// WAIT: 1 type int; 2 part a sem; 3 post = post of part + K.
+fn check_wait(work: &[u32], s: View, kind: TypeLine, kind1: TypeLine) -> Ruling
+    ensures { λ r. ⌜ outcome r ≡ judged (s .line) 1 (waitRow (now (work .entry)) s kind kind1) ⌝ }
+{
+    let TypeLine::Int = kind else {
+        return type_false(s.line, 1);
+    };
+    let TypeLine::Sem(load) = kind1 else {
+        return type_false(s.line, 2);
+    };
+    sum(s.line, 3, work, s.locations, s.post1, load, s.post)
+}
+
 // The conditions of a step with the rule r.
 pub(crate) fn check_rule(r: Rule, work: &[u32], s: View, kind: TypeLine, kind1: TypeLine) -> Ruling
     ensures { λ ruling. ⌜ outcome ruling ≡ judged (s .line) 1 (ruleRow r (now (work .entry)) s kind kind1) ⌝ }
@@ -228,5 +264,8 @@ pub(crate) fn check_rule(r: Rule, work: &[u32], s: View, kind: TypeLine, kind1: 
         Rule::FREEL => check_freel(work, s, kind, kind1),
         Rule::LCK => check_lck(work, s, kind, kind1),
         Rule::ULCK => check_ulck(work, s, kind, kind1),
+        Rule::NEWSEM => check_newsem(work, s, kind, kind1),
+        Rule::POST => check_post(work, s, kind, kind1),
+        Rule::WAIT => check_wait(work, s, kind, kind1),
     }
 }

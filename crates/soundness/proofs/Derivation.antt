@@ -12,13 +12,13 @@ use Rattle.spec.specs.Ranges.{InRange}
 use Rattle.spec.specs.Figure5 as own
 use Rattle.spec.specs.Maps.{share}
 use Rattle.spec.specs.declared.LeafWord.the-variants.{Newlock}
-use Rattle.spec.specs.declared.UnaryWord.the-variants.{Read, Unlock}
+use Rattle.spec.specs.declared.UnaryWord.the-variants.{Read, Unlock, Post}
 use Rattle.spec.specs.declared.BinaryWord.the-variants.{Spawn}
 use Rattle.calculus.specs.Capability.{_≥ᶜ_, _≈_⊕_}
-use Rattle.calculus.specs.Figure5.{_∣_∣_⊢_∶_∣_, VAR, INT, LET, IF, WHILE, NEWT, SPAWN, JOIN, REF, WRITE, READ, NEWL, FREEL, LCK, ULCK}
+use Rattle.calculus.specs.Figure5.{_∣_∣_⊢_∶_∣_, VAR, INT, LET, IF, WHILE, NEWT, SPAWN, JOIN, REF, WRITE, READ, NEWL, FREEL, LCK, ULCK, NEWSEM, POST, WAIT}
 use Rattle.soundness.specs.Erasure.{erase}
 use Rattle.soundness.proofs.Capabilities.{cap, covers-cap, sum-cap}
-use Rattle.soundness.proofs.Types.{means, environment, agree-means, means-int, means-lock, means-tid, means-ref, post-wide, start-wide, lock-wide, tid-wide, variable-typed}
+use Rattle.soundness.proofs.Types.{means, environment, agree-means, means-int, means-lock, means-tid, means-sem, means-ref, post-wide, start-wide, lock-wide, tid-wide, sem-wide, variable-typed}
 
 -- the variables in scope
 abbrev pub variables : conditions.Env → List ℕ
@@ -73,3 +73,13 @@ module _ {steps : List Step} (S : Split) (R : InRange steps S) where
       rw (means-int S R _ i)
       (ULCK (rw (means-lock S R _ K t) at (split-derivation-is-figure-5 d u))
       (sum-cap (post S e) (mapAt S K) (post-wide S R e ∙ sym (lock-wide S R _ K t)) m))
+  split-derivation-is-figure-5 (own.NEWSEM {K = K} t m) u = rw (means-sem S R _ K t, m) NEWSEM
+  split-derivation-is-figure-5 (own.POST {k = k} {v = v} {K = K} {e₁ = e₁} d t i m) u =
+      let e = unary Post k v e₁ in
+      rw (means-int S R _ i)
+      (POST (rw (means-sem S R _ K t) at (split-derivation-is-figure-5 d u))
+      (sum-cap (post S e) (mapAt S K) (post-wide S R e ∙ sym (sem-wide S R _ K t)) m))
+  split-derivation-is-figure-5 (own.WAIT {K = K} {e₁ = e₁} d t i m) u =
+      rw (means-int S R _ i)
+      (WAIT (rw (means-sem S R _ K t) at (split-derivation-is-figure-5 d u))
+      (sum-cap (post S e₁) (mapAt S K) (post-wide S R e₁ ∙ sym (sem-wide S R _ K t)) (sym m)))

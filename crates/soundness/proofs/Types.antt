@@ -14,7 +14,7 @@ use Rattle.spec.specs.Expression.{Step, Expr, among}
 use Rattle.spec.specs.Split.{Row, Split}
 use Rattle.spec.specs.Conditions.{typeIn, typeAt, mapAt, row, type, post, start}
 use Rattle.spec.specs.Conditions as conditions
-use Rattle.spec.specs.Agreement.{int, lock, tid, Tree, plain, ref, treeOf, tree, agree}
+use Rattle.spec.specs.Agreement.{int, lock, tid, sem, Tree, plain, ref, treeOf, tree, agree}
 use Rattle.spec.specs.Ranges.{InRange}
 use Rattle.spec.specs.declared.TypeNumber.{TypeNumber}
 use Rattle.spec.specs.declared.MapNumber.{MapNumber}
@@ -23,7 +23,7 @@ use Rattle.spec.specs.declared.TypeLine.{TypeLine}
 use Rattle.spec.specs.declared.TypeLine.the-variants as type-line
 use Rattle.spec.proofs.Agreement.{agree-same-tree, numbered, tree-of-type}
 use Rattle.calculus.specs.Expression.{choose}
-use Rattle.calculus.specs.Figure5.{Ty, int-type, ref-type, lock-type, tid-type, Env, empty, bind}
+use Rattle.calculus.specs.Figure5.{Ty, int-type, ref-type, lock-type, tid-type, sem-type, Env, empty, bind}
 use Rattle.soundness.proofs.Capabilities.{cap}
 
 -- the type of the calculus that a tree is: its maps as capabilities
@@ -31,6 +31,7 @@ meaning : Tree → Ty
 meaning (plain int ms) = int-type
 meaning (plain lock ms) = lock-type (cap (getD ms 0 []))
 meaning (plain tid ms) = tid-type (cap (getD ms 0 []))
+meaning (plain sem ms) = sem-type (cap (getD ms 0 []))
 meaning (ref p c) = ref-type (p .0) (meaning c)
 
 module _ (S : Split) where
@@ -59,6 +60,10 @@ module _ {steps : List Step} (S : Split) (R : InRange steps S) where
   pub means-tid : (t : TypeNumber) (k : MapNumber) → typeAt S t ≡ type-line.Tid k → means S t ≡ tid-type (cap (mapAt S k))
   unfolding means meaning treeOf
   means-tid t k e = ap meaning (tree-of-type S R t (type-line.Tid k) e)
+
+  pub means-sem : (t : TypeNumber) (k : MapNumber) → typeAt S t ≡ type-line.Sem k → means S t ≡ sem-type (cap (mapAt S k))
+  unfolding means meaning treeOf
+  means-sem t k e = ap meaning (tree-of-type S R t (type-line.Sem k) e)
 
   -- a ref to a type that agrees with its content
   pub means-ref : (t : TypeNumber) (p : Location) (c u : TypeNumber) → typeAt S t ≡ type-line.Ref p c → agree S c u ≡ true
@@ -101,6 +106,11 @@ module _ {steps : List Step} (S : Split) (R : InRange steps S) where
   unfolding typeAt
   tid-wide t k e =
       map-wide k (R .tidLoad (t .0) k (numbered S R t (type-line.Tid k) e (λ z. let clash : _≡_ {A = ℕ} 0 1 = cc in omega arith)) e)
+
+  pub sem-wide : (t : TypeNumber) (k : MapNumber) → typeAt S t ≡ type-line.Sem k → length (mapAt S k) ≡ S .header .locations
+  unfolding typeAt
+  sem-wide t k e =
+      map-wide k (R .semLoad (t .0) k (numbered S R t (type-line.Sem k) e (λ z. let clash : _≡_ {A = ℕ} 0 1 = cc in omega arith)) e)
 
   -- ------------------------------------------------------------------ variables
 

@@ -24,8 +24,8 @@ use Rattle.spec.specs.declared.TypeLine.the-variants as type-line
 use Rattle.spec.specs.declared.Answer.{Answer}
 use Rattle.spec.specs.declared.Answer.the-variants.{Accept}
 use Rattle.spec.specs.declared.Refusal.the-variants.{ShortWorkspace, LongProgram, LongSplit}
-use Rattle.spec.specs.declared.LeafWord.the-variants.{Var, Int, Newtid, Newlock}
-use Rattle.spec.specs.declared.UnaryWord.the-variants.{While, Join, Ref, Read, Freelock, Lock, Unlock}
+use Rattle.spec.specs.declared.LeafWord.the-variants.{Var, Int, Newtid, Newlock, Newsem}
+use Rattle.spec.specs.declared.UnaryWord.the-variants.{While, Join, Ref, Read, Freelock, Lock, Unlock, Post, Wait}
 use Rattle.spec.specs.declared.BinaryWord.the-variants.{Let, If, Spawn, Write}
 use Rattle.spec.proofs.Outcomes.{bind-goes-on, goes-on-bind}
 use Rattle.spec.proofs.Claims.{none-false-all-hold, all-hold-none-false, all-hold-parts, all-hold-append}
@@ -43,6 +43,7 @@ containsBefore type-line.Int t = false
 containsBefore (type-line.Ref p c) t = agreeBefore c t
 containsBefore (type-line.Lock k) t = false
 containsBefore (type-line.Tid k) t = false
+containsBefore (type-line.Sem k) t = false
 
 module _ (S : Split) where
   -- the rows of the table that compare two types; the others are as they were
@@ -71,6 +72,9 @@ module _ (S : Split) where
   ownBefore Γ pre (unary Lock k v e₁) = own S Γ pre (unary Lock k v e₁)
   ownBefore Γ pre (unary Freelock k v e₁) = own S Γ pre (unary Freelock k v e₁)
   ownBefore Γ pre (unary Unlock k v e₁) = own S Γ pre (unary Unlock k v e₁)
+  ownBefore Γ pre (leaf Newsem k v) = own S Γ pre (leaf Newsem k v)
+  ownBefore Γ pre (unary Post k v e₁) = own S Γ pre (unary Post k v e₁)
+  ownBefore Γ pre (unary Wait k v e₁) = own S Γ pre (unary Wait k v e₁)
 
   unfoldable pub claimsBefore : List Site → List Claim
   claimsBefore [] = []
@@ -104,6 +108,7 @@ module _ (S : Split) where
   contained (type-line.Ref p c) u h = agreed c u h
   contained (type-line.Lock k) u h = h
   contained (type-line.Tid k) u h = h
+  contained (type-line.Sem k) u h = h
 
   own-holds : (n i : ℕ) (Γ : Env) (pre : Map) (e : Expr) → AllHold (numbered n i (ownBefore S Γ pre e)) → AllHold (numbered n i (own S Γ pre e))
   unfolding AllHold Holds numbered ownBefore own
@@ -122,6 +127,9 @@ module _ (S : Split) where
   own-holds n i Γ pre (unary Lock k v e₁) h = h
   own-holds n i Γ pre (unary Freelock k v e₁) h = h
   own-holds n i Γ pre (unary Unlock k v e₁) h = h
+  own-holds n i Γ pre (leaf Newsem k v) h = h
+  own-holds n i Γ pre (unary Post k v e₁) h = h
+  own-holds n i Γ pre (unary Wait k v e₁) h = h
 
   claims-hold : (ss : List Site) → AllHold (claimsBefore S ss) → AllHold (claims S ss)
   unfolding claims claimsAt claimsBefore

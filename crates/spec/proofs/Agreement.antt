@@ -16,12 +16,12 @@ use Rattle.spec.specs.Expression.{Step}
 use Rattle.spec.specs.Split.{Map, Split, typeAt, mapAt}
 use Rattle.spec.specs.Ranges.{InRange}
 use Rattle.spec.specs.Maps.{_=ᵐ_, nowhere, sameNumbers}
-use Rattle.spec.specs.Agreement.{Kind, int, lock, tid, code, Tree, plain, ref, sameMaps, sameTree, treeOf, trees, tree, agree}
+use Rattle.spec.specs.Agreement.{Kind, int, lock, tid, sem, code, Tree, plain, ref, sameMaps, sameTree, treeOf, trees, tree, agree}
 use Rattle.spec.specs.declared.TypeNumber.{TypeNumber}
 use Rattle.spec.specs.declared.MapNumber.{MapNumber}
 use Rattle.spec.specs.declared.Location.{Location}
 use Rattle.spec.specs.declared.TypeLine.{TypeLine}
-use Rattle.spec.specs.declared.TypeLine.the-variants.{Int, Ref, Lock, Tid}
+use Rattle.spec.specs.declared.TypeLine.the-variants.{Int, Ref, Lock, Tid, Sem}
 use Rattle.spec.proofs.Clashes.{true-is-not-false}
 use Rattle.spec.proofs.Tests.{both-true, and-true}
 use Rattle.spec.proofs.Maps.{none-equal, equal-none}
@@ -61,13 +61,14 @@ same-maps-single m n = and-true (sameNumbers m n)
 
 -- the kind with a code
 decoded : (n : ℕ) → Kind
-decoded n = getD (int ∷ lock ∷ tid ∷ []) n int
+decoded n = getD (int ∷ lock ∷ tid ∷ sem ∷ []) n int
 
 code-decoded : (k : Kind) → decoded (code k) ≡ k
 unfolding decoded code
 code-decoded int = refl
 code-decoded lock = refl
 code-decoded tid = refl
+code-decoded sem = refl
 
 same-code-equal : (k l : Kind) → code k ≡ code l → k ≡ l
 same-code-equal k l e = sym (code-decoded k) ∙ ap decoded e ∙ code-decoded l
@@ -95,6 +96,7 @@ ContentBelow n Int = Unit {0}
 ContentBelow n (Ref p c) = c .0 < n
 ContentBelow n (Lock k) = Unit {0}
 ContentBelow n (Tid k) = Unit {0}
+ContentBelow n (Sem k) = Unit {0}
 
 -- ------------------------------------------------------------------ agreement
 
@@ -136,6 +138,7 @@ module _ (S : Split) where
   tree-of-more before xs (Ref p c) h = ap (ref p) (sym (trees-kept before xs (c .0) h))
   tree-of-more before xs (Lock k) h = refl
   tree-of-more before xs (Tid k) h = refl
+  tree-of-more before xs (Sem k) h = refl
 
   trees-at : (before : List Tree) (xs : List TypeLine) (j : ℕ) → j < length xs → ContentBelow (length before + j) (getD xs j Int)
       → getD (trees S before xs) (length before + j) (plain int []) ≡ treeOf S (trees S before xs) (getD xs j Int)
@@ -191,6 +194,7 @@ module _ {steps : List Step} (S : Split) (R : InRange steps S) where
   content-below t (Ref p c) e = content-smaller t p c e
   content-below t (Lock k) e = tt
   content-below t (Tid k) e = tt
+  content-below t (Sem k) e = tt
 
   -- the tree of a type is that of its line, with its content among all the trees
   pub tree-of-type : (t : TypeNumber) (x : TypeLine) → typeAt S t ≡ x → tree S t ≡ treeOf S (trees S [] (S .types)) x
@@ -211,3 +215,7 @@ module _ {steps : List Step} (S : Split) (R : InRange steps S) where
     pub agree-tids : (k h : MapNumber) → typeAt S t ≡ Tid k → typeAt S u ≡ Tid h → agree S t u ≡ sameNumbers (mapAt S k) (mapAt S h)
     unfolding agree sameTree treeOf code
     agree-tids k h e g = rw (tree-of-type t (Tid k) e, tree-of-type u (Tid h) g) (same-maps-single (mapAt S k) (mapAt S h))
+
+    pub agree-sems : (k h : MapNumber) → typeAt S t ≡ Sem k → typeAt S u ≡ Sem h → agree S t u ≡ sameNumbers (mapAt S k) (mapAt S h)
+    unfolding agree sameTree treeOf code
+    agree-sems k h e g = rw (tree-of-type t (Sem k) e, tree-of-type u (Sem h) g) (same-maps-single (mapAt S k) (mapAt S h))

@@ -15,7 +15,7 @@ use Rattle.spec.specs.Verdict.{refuseOver, startAtMostOne, four, returne
 use Rattle.spec.specs.declared.Answer.the-variants.{Refuse}
 use Rattle.spec.specs.declared.Refusal.{Refusal}
 use Rattle.spec.specs.declared.Refusal.the-variants.{ProgramLines, Unbound, Rebound}
-use Rattle.spec.specs.declared.LeafWord.the-variants.{Var, Int, Newtid, Newlock}
+use Rattle.spec.specs.declared.LeafWord.the-variants.{Var, Int, Newtid, Newlock, Newsem}
 use Rattle.spec.specs.declared.BinaryWord.the-variants.{Let, If, Spawn, Write}
 use Rattle.spec.proofs.Clashes.{true-is-not-false}
 use Rattle.spec.proofs.Outcomes.{stop-is-not-on, stop-injective}
@@ -128,6 +128,7 @@ scope-early (leaf Var k v) inside bound = early-choice (among v inside) (on boun
 scope-early (leaf Int k v) inside bound = tt
 scope-early (leaf Newtid k v) inside bound = tt
 scope-early (leaf Newlock k v) inside bound = tt
+scope-early (leaf Newsem k v) inside bound = tt
 scope-early (unary w k v e) inside bound = scope-early e inside bound
 scope-early (binary Let k v e₁ e₂) inside bound =
     early-choice (among v bound) (stop (Rebound k)) _ (refl)

@@ -11,15 +11,15 @@ use Rattle.spec.specs.Split.{Map, Split}
 use Rattle.spec.specs.Conditions.{Env, type, post, start, row, K, own, mapAt}
 use Rattle.spec.specs.Sites.{Site, sites, preOfPart, preOfSecond, bind, numbered, claimsAt, claims, firstFalse}
 use Rattle.spec.specs.FirstFalse.{Holds, AllHold}
-use Rattle.spec.specs.Figure5.{Derives, VAR, INT, LET, IF, WHILE, NEWT, SPAWN, JOIN, REF, WRITE, READ, NEWL, FREEL, LCK, ULCK}
+use Rattle.spec.specs.Figure5.{Derives, VAR, INT, LET, IF, WHILE, NEWT, SPAWN, JOIN, REF, WRITE, READ, NEWL, FREEL, LCK, ULCK, NEWSEM, POST, WAIT}
 use Rattle.spec.specs.declared.MapNumber.{MapNumber}
 use Rattle.spec.specs.declared.LeafWord.{LeafWord}
-use Rattle.spec.specs.declared.LeafWord.the-variants.{Var, Int, Newtid, Newlock}
+use Rattle.spec.specs.declared.LeafWord.the-variants.{Var, Int, Newtid, Newlock, Newsem}
 use Rattle.spec.specs.declared.UnaryWord.{UnaryWord}
-use Rattle.spec.specs.declared.UnaryWord.the-variants.{While, Join, Ref, Read, Freelock, Lock, Unlock}
+use Rattle.spec.specs.declared.UnaryWord.the-variants.{While, Join, Ref, Read, Freelock, Lock, Unlock, Post, Wait}
 use Rattle.spec.specs.declared.BinaryWord.{BinaryWord}
 use Rattle.spec.specs.declared.BinaryWord.the-variants.{Let, If, Spawn, Write}
-use Rattle.spec.proofs.TypeKinds.{is-int, is-tid, is-lock, is-ref-of, int-is, tid-is, lock-is, ref-is, ref-of-is, tid-load, lock-load, readable, writable}
+use Rattle.spec.proofs.TypeKinds.{is-int, is-tid, is-lock, is-sem, is-ref-of, int-is, tid-is, lock-is, sem-is, ref-is, ref-of-is, tid-load, lock-load, sem-load, readable, writable}
 use Rattle.spec.proofs.Maps.{none-equal, none-covers, equal-none, covers-none}
 use Rattle.spec.proofs.Claims.{none-false-all-hold, all-hold-none-false, all-hold-parts, all-hold-append, claims-append}
 
@@ -104,6 +104,15 @@ module _ (S : Split) where
   holding-derives Γ pre (unary Unlock k v e₁) h =
       let (c, h₁) = unary-own Γ pre Unlock k v e₁ h in
       ULCK (holding-derives _ _ e₁ h₁) (is-lock _ (c .1 .0)) (is-int _ (c .0)) (none-equal (c .1 .1 .0))
+  holding-derives Γ pre (leaf Newsem k v) h =
+      let c = leaf-own Γ pre Newsem k v h in
+      NEWSEM (is-sem _ (c .0)) (none-equal (c .1 .0))
+  holding-derives Γ pre (unary Post k v e₁) h =
+      let (c, h₁) = unary-own Γ pre Post k v e₁ h in
+      POST (holding-derives _ _ e₁ h₁) (is-sem _ (c .1 .0)) (is-int _ (c .0)) (none-equal (c .1 .1 .0))
+  holding-derives Γ pre (unary Wait k v e₁) h =
+      let (c, h₁) = unary-own Γ pre Wait k v e₁ h in
+      WAIT (holding-derives _ _ e₁ h₁) (is-sem _ (c .1 .0)) (is-int _ (c .0)) (none-equal (c .1 .1 .0))
   holding-derives Γ pre (binary Let k v e₁ e₂) h =
       let (c, h₁, h₂) = binary-own Γ pre Let k v e₁ e₂ h in
       LET (holding-derives _ _ e₁ h₁) (holding-derives _ _ e₂ h₂) (c .0) (none-equal (c .1 .0))
@@ -177,6 +186,12 @@ module _ (S : Split) where
       unary-all Γ pre Lock k v e₁ (int-is i, (lock-is t, (equal-none (rw (lock-load S t) p), tt))) (derived-holds d pre q)
   derived-holds {Γ} (ULCK {k = k} {v = v} {e₁ = e₁} d t i p) pre q =
       unary-all Γ pre Unlock k v e₁ (int-is i, (lock-is t, (equal-none (rw (lock-load S t) p), tt))) (derived-holds d pre q)
+  derived-holds {Γ} (NEWSEM {k = k} {v = v} t p) pre q =
+      leaf-all Γ pre Newsem k v (sem-is t, (equal-none (p ∙ sym q), tt))
+  derived-holds {Γ} (POST {k = k} {v = v} {e₁ = e₁} d t i p) pre q =
+      unary-all Γ pre Post k v e₁ (int-is i, (sem-is t, (equal-none (rw (sem-load S t) p), tt))) (derived-holds d pre q)
+  derived-holds {Γ} (WAIT {k = k} {v = v} {e₁ = e₁} d t i p) pre q =
+      unary-all Γ pre Wait k v e₁ (int-is i, (sem-is t, (equal-none (rw (sem-load S t) p), tt))) (derived-holds d pre q)
 
   -- ------------------------------------------------------------------ the theorem, both ways
 

@@ -15,8 +15,8 @@ use Rattle.spec.specs.declared.MapNumber.{MapNumber}
 use Rattle.spec.specs.declared.TypeNumber.{TypeNumber}
 use Rattle.spec.specs.declared.TypeLine.{TypeLine}
 use Rattle.spec.specs.declared.TypeLine.the-variants as type-line
-use Rattle.spec.specs.declared.LeafWord.the-variants.{Var, Int, Newtid, Newlock}
-use Rattle.spec.specs.declared.UnaryWord.the-variants.{While, Join, Ref, Read, Freelock, Lock, Unlock}
+use Rattle.spec.specs.declared.LeafWord.the-variants.{Var, Int, Newtid, Newlock, Newsem}
+use Rattle.spec.specs.declared.UnaryWord.the-variants.{While, Join, Ref, Read, Freelock, Lock, Unlock, Post, Wait}
 use Rattle.spec.specs.declared.BinaryWord.the-variants.{Let, If, Spawn, Write}
 
 -- a header, and a split, under another heading
@@ -42,6 +42,7 @@ module _ (h : Heading) (S : Split) where
   same-tree-of before (type-line.Ref p c) = refl
   same-tree-of before (type-line.Lock k) = refl
   same-tree-of before (type-line.Tid k) = refl
+  same-tree-of before (type-line.Sem k) = refl
 
   same-trees : (before : List Tree) (xs : List TypeLine) → trees (under h S) before xs ≡ trees S before xs
   unfolding trees
@@ -61,6 +62,7 @@ module _ (h : Heading) (S : Split) where
   same-contains (type-line.Ref p c) t = same-agree c t
   same-contains (type-line.Lock k) t = refl
   same-contains (type-line.Tid k) t = refl
+  same-contains (type-line.Sem k) t = refl
 
   -- ---------------------------------------------------------------- conditions
 
@@ -77,6 +79,7 @@ module _ (h : Heading) (S : Split) where
   same-own Γ pre (leaf Int k v) = refl
   same-own Γ pre (leaf Newtid k v) = refl
   same-own Γ pre (leaf Newlock k v) = refl
+  same-own Γ pre (leaf Newsem k v) = refl
   same-own Γ pre (unary While k v e₁) = refl
   same-own Γ pre (unary Join k v e₁) = refl
   same-own Γ pre (unary Ref k v e₁) = at-first _ (same-contains _ _)
@@ -84,6 +87,8 @@ module _ (h : Heading) (S : Split) where
   same-own Γ pre (unary Freelock k v e₁) = refl
   same-own Γ pre (unary Lock k v e₁) = refl
   same-own Γ pre (unary Unlock k v e₁) = refl
+  same-own Γ pre (unary Post k v e₁) = refl
+  same-own Γ pre (unary Wait k v e₁) = refl
   same-own Γ pre (binary Let k v e₁ e₂) = at-first _ (same-agree _ _)
   same-own Γ pre (binary If k v e₁ e₂) = at-first _ (same-agree _ _) ∙ later _ (at-first _ (same-agree _ _))
   same-own Γ pre (binary Spawn k v e₁ e₂) = refl

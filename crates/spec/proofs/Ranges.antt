@@ -13,7 +13,7 @@ use Rattle.spec.specs.Choice.{if_then_else_}
 use Rattle.spec.specs.Text.{Line, bytes, same, Field, lookUp}
 use Rattle.spec.specs.Reading.{Fault, badForm, badRange, Seen, right, wrong, seen, Range, _to_, below, inRange, allInRange, numerals, ranged, numbers}
 use Rattle.spec.specs.Expression.{Step}
-use Rattle.spec.specs.Split.{Map, Header, headings, headerRanges, mapsOf, mapsIn, startOf, headerOf, headed, headerLine, refOf, lockOf, tidOf, typeLine, typeLines, mapLine, Row, rowOf, blank, startRange, rowLine, Split}
+use Rattle.spec.specs.Split.{Map, Header, headings, headerRanges, mapsOf, mapsIn, startOf, headerOf, headed, headerLine, refOf, lockOf, tidOf, semOf, typeLine, typeLines, mapLine, Row, rowOf, blank, startRange, rowLine, Split}
 use Rattle.spec.specs.WellFormed.{Shows, nothing, line, WellFormedSplit}
 use Rattle.spec.specs.Ranges.{InRange}
 use Rattle.spec.specs.declared.Heading.{Heading}
@@ -159,6 +159,7 @@ TypeFits H own type-line.Int = Unit {0}
 TypeFits H own (type-line.Ref p c) = (p .0 < H .locations) × (c .0 < own)
 TypeFits H own (type-line.Lock k) = k .0 < H .maps
 TypeFits H own (type-line.Tid k) = k .0 < H .maps
+TypeFits H own (type-line.Sem k) = k .0 < H .maps
 
 module _ (H : Header) (own : ℕ) (fs : List Field) where
   int-fits : (t : TypeLine) → seen (λ ns. type-line.Int) (numbers ((0 to 0) ∷ (0 to 0) ∷ []) fs) ≡ right t → TypeFits H own t
@@ -184,6 +185,12 @@ module _ (H : Header) (own : ℕ) (fs : List Field) where
       let (ns, n, e) = seen-right _ h in
       along (TypeFits H own) e (in-below _ _ (in-range-at (below (H .maps) ∷ (0 to 0) ∷ []) fs ns n 0 (omega arith)))
 
+  sem-fits : (t : TypeLine) → seen semOf (numbers (below (H .maps) ∷ (0 to 0) ∷ []) fs) ≡ right t → TypeFits H own t
+  unfolding semOf TypeFits
+  sem-fits t h =
+      let (ns, n, e) = seen-right _ h in
+      along (TypeFits H own) e (in-below _ _ (in-range-at (below (H .maps) ∷ (0 to 0) ∷ []) fs ns n 0 (omega arith)))
+
 type-fits : (H : Header) (own : ℕ) (fs : List Field) (t : TypeLine) → typeLine H own fs ≡ right t → TypeFits H own t
 unfolding typeLine
 type-fits H own [] t h = wrong-is-not-right h
@@ -192,7 +199,8 @@ type-fits H own (f ∷ fs) t h =
     either-right fits (same f (bytes "int")) _ _ (int-fits H own fs)
     (either-right fits (same f (bytes "ref")) _ _ (ref-fits H own fs)
     (either-right fits (same f (bytes "lock")) _ _ (lock-fits H own fs)
-    (either-right fits (same f (bytes "tid")) _ _ (tid-fits H own fs) (λ t h. wrong-is-not-right h)))) t h
+    (either-right fits (same f (bytes "tid")) _ _ (tid-fits H own fs)
+    (either-right fits (same f (bytes "sem")) _ _ (sem-fits H own fs) (λ t h. wrong-is-not-right h))))) t h
 
 types-fit : (H : Header) (own n : ℕ) {ls rest : List Line} {ts : List TypeLine} → Shows (typeLines H own n) ls ts rest
     → (length ts ≡ n) × ((t : ℕ) → t < length ts → TypeFits H (own + t) (getD ts t type-line.Int))
@@ -300,6 +308,7 @@ well-formed-in-range {steps} {text} {S} F =
       refPlace = λ t p c h e. fits t (type-line.Ref p c) h e;
       lockLoad = λ t k h e. omega (arith, mapsCounted, fits t (type-line.Lock k) h e);
       tidLoad = λ t k h e. omega (arith, mapsCounted, fits t (type-line.Tid k) h e);
+      semLoad = λ t k h e. omega (arith, mapsCounted, fits t (type-line.Sem k) h e);
       rowType = λ i d h. omega (arith, typesCounted, rows i d h .0);
       rowPost = λ i d h. omega (arith, mapsCounted, rows i d h .1);
       rowStart = λ i d h. omega (arith, mapsCounted, rows i d h .2);

@@ -7,12 +7,12 @@ use borrow.Author.Tests.{le-leb, lt-ltb}
 use Rattle.spec.specs.Split.{Map, Split}
 use Rattle.spec.specs.Maps.{share}
 use Rattle.spec.specs.Agreement.{agree}
-use Rattle.spec.specs.Conditions.{isInt, isRef, isLock, isTid, place, load, contains, mapAt}
+use Rattle.spec.specs.Conditions.{isInt, isRef, isLock, isTid, isSem, place, load, contains, mapAt}
 use Rattle.spec.specs.declared.TypeNumber.{TypeNumber}
 use Rattle.spec.specs.declared.MapNumber.{MapNumber}
 use Rattle.spec.specs.declared.Location.{Location}
 use Rattle.spec.specs.declared.TypeLine.{TypeLine}
-use Rattle.spec.specs.declared.TypeLine.the-variants.{Int, Ref, Lock, Tid}
+use Rattle.spec.specs.declared.TypeLine.the-variants.{Int, Ref, Lock, Tid, Sem}
 use Rattle.spec.proofs.Clashes.{true-is-not-false}
 
 -- ------------------------------------------------------------------ from a test to a type
@@ -23,6 +23,7 @@ is-int Int h = refl
 is-int (Ref p c) h = cc
 is-int (Lock k) h = cc
 is-int (Tid k) h = cc
+is-int (Sem k) h = cc
 
 pub is-tid : (t : TypeLine) → isTid t ≡ true → t ≡ Tid (load t)
 unfolding isTid load
@@ -30,6 +31,7 @@ is-tid Int h = cc
 is-tid (Ref p c) h = cc
 is-tid (Lock k) h = cc
 is-tid (Tid k) h = refl
+is-tid (Sem k) h = cc
 
 pub is-lock : (t : TypeLine) → isLock t ≡ true → t ≡ Lock (load t)
 unfolding isLock load
@@ -37,6 +39,15 @@ is-lock Int h = cc
 is-lock (Ref p c) h = cc
 is-lock (Lock k) h = refl
 is-lock (Tid k) h = cc
+is-lock (Sem k) h = cc
+
+pub is-sem : (t : TypeLine) → isSem t ≡ true → t ≡ Sem (load t)
+unfolding isSem load
+is-sem Int h = cc
+is-sem (Ref p c) h = cc
+is-sem (Lock k) h = cc
+is-sem (Tid k) h = cc
+is-sem (Sem k) h = refl
 
 -- a ref type, and its content agrees
 pub is-ref-of : (S : Split) (t : TypeLine) (u : TypeNumber) → contains S t u ≡ true
@@ -46,6 +57,7 @@ is-ref-of S Int u h = true-is-not-false (sym h)
 is-ref-of S (Ref p c) u h = (c, refl, h)
 is-ref-of S (Lock k) u h = true-is-not-false (sym h)
 is-ref-of S (Tid k) u h = true-is-not-false (sym h)
+is-ref-of S (Sem k) u h = true-is-not-false (sym h)
 
 -- ------------------------------------------------------------------ from a type to a test
 
@@ -60,6 +72,10 @@ tid-is e = rw e
 pub lock-is : {t : TypeLine} {k : MapNumber} → t ≡ Lock k → isLock t ≡ true
 unfolding isLock
 lock-is e = rw e
+
+pub sem-is : {t : TypeLine} {k : MapNumber} → t ≡ Sem k → isSem t ≡ true
+unfolding isSem
+sem-is e = rw e
 
 pub ref-is : {t : TypeLine} {p : Location} {c : TypeNumber} → t ≡ Ref p c → isRef t ≡ true
 unfolding isRef
@@ -76,6 +92,10 @@ tid-load S e = rw e
 pub lock-load : (S : Split) {t : TypeLine} {k : MapNumber} → t ≡ Lock k → mapAt S (load t) ≡ mapAt S k
 unfolding load
 lock-load S e = rw e
+
+pub sem-load : (S : Split) {t : TypeLine} {k : MapNumber} → t ≡ Sem k → mapAt S (load t) ≡ mapAt S k
+unfolding load
+sem-load S e = rw e
 
 pub ref-place : {t : TypeLine} {p : Location} {c : TypeNumber} → t ≡ Ref p c → place t ≡ p
 unfolding place

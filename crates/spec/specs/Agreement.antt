@@ -10,18 +10,19 @@ use Rattle.spec.specs.Maps.{sameNumbers}
 use Rattle.spec.specs.declared.TypeNumber.{TypeNumber}
 use Rattle.spec.specs.declared.Location.{Location}
 use Rattle.spec.specs.declared.TypeLine.{TypeLine}
-use Rattle.spec.specs.declared.TypeLine.the-variants.{Int, Ref, Lock, Tid}
+use Rattle.spec.specs.declared.TypeLine.the-variants.{Int, Ref, Lock, Tid, Sem}
 
 -- ------------------------------------------------------------------ types as trees
 
 -- the kinds of type without a content, each with a code of its own
 pub data Kind : Type 0 where
-  int lock tid : Kind
+  int lock tid sem : Kind
 
 unfoldable pub code : Kind → ℕ
 code int = 0
 code lock = 1
 code tid = 2
+code sem = 3
 
 -- a type without a content has the maps of its line, in their order; a ref has a location and a content
 pub data Tree : Type 0 where
@@ -51,6 +52,7 @@ module _ (S : Split) where
   treeOf before (Ref p c) = ref p (getD before (c .0) (plain int []))
   treeOf before (Lock k) = plain lock (mapAt S k ∷ [])
   treeOf before (Tid k) = plain tid (mapAt S k ∷ [])
+  treeOf before (Sem k) = plain sem (mapAt S k ∷ [])
 
   -- the trees of the lines before, then those of the lines given, one after the other
   unfoldable pub trees : (before : List Tree) → List TypeLine → List Tree

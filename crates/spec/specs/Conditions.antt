@@ -19,9 +19,9 @@ use Rattle.spec.specs.declared.TypeLine.{TypeLine}
 use Rattle.spec.specs.declared.TypeLine.the-variants as type-line
 use Rattle.spec.specs.declared.Refusal.{Refusal}
 use Rattle.spec.specs.declared.Refusal.the-variants.{TypeFalse, FlowFalse, AccessFalse}
-use Rattle.spec.specs.declared.LeafWord.the-variants.{Var, Int, Newtid, Newlock}
+use Rattle.spec.specs.declared.LeafWord.the-variants.{Var, Int, Newtid, Newlock, Newsem}
 use Rattle.spec.specs.declared.UnaryWord.{UnaryWord}
-use Rattle.spec.specs.declared.UnaryWord.the-variants.{While, Join, Ref, Read, Freelock, Lock, Unlock}
+use Rattle.spec.specs.declared.UnaryWord.the-variants.{While, Join, Ref, Read, Freelock, Lock, Unlock, Post, Wait}
 use Rattle.spec.specs.declared.BinaryWord.{BinaryWord}
 use Rattle.spec.specs.declared.BinaryWord.the-variants.{Let, If, Spawn, Write}
 
@@ -32,24 +32,35 @@ isInt type-line.Int = true
 isInt (type-line.Ref p c) = false
 isInt (type-line.Lock k) = false
 isInt (type-line.Tid k) = false
+isInt (type-line.Sem k) = false
 
 unfoldable pub isRef : TypeLine → Bool
 isRef type-line.Int = false
 isRef (type-line.Ref p c) = true
 isRef (type-line.Lock k) = false
 isRef (type-line.Tid k) = false
+isRef (type-line.Sem k) = false
 
 unfoldable pub isLock : TypeLine → Bool
 isLock type-line.Int = false
 isLock (type-line.Ref p c) = false
 isLock (type-line.Lock k) = true
 isLock (type-line.Tid k) = false
+isLock (type-line.Sem k) = false
 
 unfoldable pub isTid : TypeLine → Bool
 isTid type-line.Int = false
 isTid (type-line.Ref p c) = false
 isTid (type-line.Lock k) = false
 isTid (type-line.Tid k) = true
+isTid (type-line.Sem k) = false
+
+unfoldable pub isSem : TypeLine → Bool
+isSem type-line.Int = false
+isSem (type-line.Ref p c) = false
+isSem (type-line.Lock k) = false
+isSem (type-line.Tid k) = false
+isSem (type-line.Sem k) = true
 
 -- p of a ref type; it is asked for only where the type is a ref
 unfoldable pub place : TypeLine → Location
@@ -57,13 +68,15 @@ place type-line.Int = record { 0 = 0 }
 place (type-line.Ref p c) = p
 place (type-line.Lock k) = record { 0 = 0 }
 place (type-line.Tid k) = record { 0 = 0 }
+place (type-line.Sem k) = record { 0 = 0 }
 
--- K of a lock or tid type; it is asked for only where the type is one
+-- K of a lock, tid or sem type; it is asked for only where the type is one
 unfoldable pub load : TypeLine → MapNumber
 load type-line.Int = record { 0 = 0 }
 load (type-line.Ref p c) = record { 0 = 0 }
 load (type-line.Lock k) = k
 load (type-line.Tid k) = k
+load (type-line.Sem k) = k
 
 -- ------------------------------------------------------------------ conditions
 
@@ -99,6 +112,7 @@ module _ (S : Split) where
   contains (type-line.Ref p c) t = agree S c t
   contains (type-line.Lock k) t = false
   contains (type-line.Tid k) t = false
+  contains (type-line.Sem k) t = false
 
   -- the split's row of an expression's first step: rows begin with the step at line 2
   unfoldable pub row : Expr → Row
@@ -153,3 +167,9 @@ module _ (S : Split) where
       T (isInt (kind e)) ∷ T (isLock (kind e₁)) ∷ F (post e =ᵐ post e₁ +ᵐ K e₁) ∷ []
   own Γ pre (unary Unlock k v e₁) = let e = unary Unlock k v e₁ in
       T (isInt (kind e)) ∷ T (isLock (kind e₁)) ∷ F (post e +ᵐ K e₁ =ᵐ post e₁) ∷ []
+  own Γ pre (leaf Newsem k v) = let e = leaf Newsem k v in
+      T (isSem (kind e)) ∷ F (post e =ᵐ pre) ∷ []
+  own Γ pre (unary Post k v e₁) = let e = unary Post k v e₁ in
+      T (isInt (kind e)) ∷ T (isSem (kind e₁)) ∷ F (post e +ᵐ K e₁ =ᵐ post e₁) ∷ []
+  own Γ pre (unary Wait k v e₁) = let e = unary Wait k v e₁ in
+      T (isInt (kind e)) ∷ T (isSem (kind e₁)) ∷ F (post e =ᵐ post e₁ +ᵐ K e₁) ∷ []

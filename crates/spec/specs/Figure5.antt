@@ -14,8 +14,8 @@ use Rattle.spec.specs.declared.MapNumber.{MapNumber}
 use Rattle.spec.specs.declared.Location.{Location}
 use Rattle.spec.specs.declared.TypeLine.{TypeLine}
 use Rattle.spec.specs.declared.TypeLine.the-variants as type-line
-use Rattle.spec.specs.declared.LeafWord.the-variants.{Var, Int, Newtid, Newlock}
-use Rattle.spec.specs.declared.UnaryWord.the-variants.{While, Join, Ref, Read, Freelock, Lock, Unlock}
+use Rattle.spec.specs.declared.LeafWord.the-variants.{Var, Int, Newtid, Newlock, Newsem}
+use Rattle.spec.specs.declared.UnaryWord.the-variants.{While, Join, Ref, Read, Freelock, Lock, Unlock, Post, Wait}
 use Rattle.spec.specs.declared.BinaryWord.the-variants.{Let, If, Spawn, Write}
 
 -- a map is at least another, number by number
@@ -86,3 +86,15 @@ module _ (S : Split) where
         → Derives Γ Ψ e₁ → kind S e₁ ≡ type-line.Lock K → kind S (unary Unlock k v e₁) ≡ type-line.Int
         → post S (unary Unlock k v e₁) +ᵐ mapAt S K ≡ post S e₁
         → Derives Γ Ψ (unary Unlock k v e₁)
+    -- section 3.1.4
+    NEWSEM : {Γ : Env} {Ψ : Map} {k v : ℕ} {K : MapNumber}
+        → kind S (leaf Newsem k v) ≡ type-line.Sem K → post S (leaf Newsem k v) ≡ Ψ
+        → Derives Γ Ψ (leaf Newsem k v)
+    POST : {Γ : Env} {Ψ : Map} {k v : ℕ} {K : MapNumber} {e₁ : Expr}
+        → Derives Γ Ψ e₁ → kind S e₁ ≡ type-line.Sem K → kind S (unary Post k v e₁) ≡ type-line.Int
+        → post S (unary Post k v e₁) +ᵐ mapAt S K ≡ post S e₁
+        → Derives Γ Ψ (unary Post k v e₁)
+    WAIT : {Γ : Env} {Ψ : Map} {k v : ℕ} {K : MapNumber} {e₁ : Expr}
+        → Derives Γ Ψ e₁ → kind S e₁ ≡ type-line.Sem K → kind S (unary Wait k v e₁) ≡ type-line.Int
+        → post S (unary Wait k v e₁) ≡ post S e₁ +ᵐ mapAt S K
+        → Derives Γ Ψ (unary Wait k v e₁)

@@ -20,4 +20,5 @@ pub mod EdgeConditions
 pub mod EdgeAgreement
 pub mod EdgeNumbers
 pub mod EdgeStart
+pub mod EdgeSemaphores
 pub mod FirstFalse

@@ -10,8 +10,8 @@ use Rattle.spec.specs.Reading.{programSheet, Out, _>>=_, on, Seen, wrong
 use Rattle.spec.specs.Expression.{Step, Expr, listed, single, scope}
 use Rattle.spec.specs.declared.Word.{Word}
 use Rattle.spec.specs.declared.Word.the-variants.{Leaf, Unary, Binary}
-use Rattle.spec.specs.declared.LeafWord.the-variants.{Var, Int, Newtid, Newlock}
-use Rattle.spec.specs.declared.UnaryWord.the-variants.{While, Join, Ref, Read, Freelock, Lock, Unlock}
+use Rattle.spec.specs.declared.LeafWord.the-variants.{Var, Int, Newtid, Newlock, Newsem}
+use Rattle.spec.specs.declared.UnaryWord.the-variants.{While, Join, Ref, Read, Freelock, Lock, Unlock, Post, Wait}
 use Rattle.spec.specs.declared.BinaryWord.the-variants.{Let, If, Spawn, Write}
 
 -- the most bytes that a program sheet may have
@@ -33,6 +33,7 @@ words =
     ∷ (bytes "int", Leaf Int)
     ∷ (bytes "newtid", Leaf Newtid)
     ∷ (bytes "newlock", Leaf Newlock)
+    ∷ (bytes "newsem", Leaf Newsem)
     ∷ (bytes "while", Unary While)
     ∷ (bytes "join", Unary Join)
     ∷ (bytes "ref", Unary Ref)
@@ -40,6 +41,8 @@ words =
     ∷ (bytes "freelock", Unary Freelock)
     ∷ (bytes "lock", Unary Lock)
     ∷ (bytes "unlock", Unary Unlock)
+    ∷ (bytes "post", Unary Post)
+    ∷ (bytes "wait", Unary Wait)
     ∷ (bytes "let", Binary Let)
     ∷ (bytes "if", Binary If)
     ∷ (bytes "spawn", Binary Spawn)
@@ -52,6 +55,7 @@ valueRange (Leaf Var) = 0 to 255
 valueRange (Leaf Int) = 0 to 65535
 valueRange (Leaf Newtid) = 0 to 0
 valueRange (Leaf Newlock) = 0 to 0
+valueRange (Leaf Newsem) = 0 to 0
 valueRange (Unary w) = 0 to 0
 valueRange (Binary Let) = 0 to 255
 valueRange (Binary If) = 0 to 0

@@ -6,6 +6,7 @@ pub enum LeafWord {
     Int,
     Newtid,
     Newlock,
+    Newsem,
 }
 
 pub enum UnaryWord {
@@ -16,6 +17,8 @@ pub enum UnaryWord {
     Freelock,
     Lock,
     Unlock,
+    Post,
+    Wait,
 }
 
 pub enum BinaryWord {
@@ -50,6 +53,7 @@ pub enum TypeLine {
     Ref(Location, TypeNumber),
     Lock(MapNumber),
     Tid(MapNumber),
+    Sem(MapNumber),
 }
 
 // A reason to stop, with the line, the condition and the location that a person wants to know.

@@ -7,7 +7,7 @@ use native.Mathlib.Omega.{arith}
 use lib.Dec.{ltb}
 use borrow.Author.Tests.{le-leb, lt-leb, lt-ltb, le-ltb}
 use Rattle.spec.specs.Reading.{Seen, Range, _to_, below, inRange, allInRange}
-use Rattle.spec.specs.Split.{Header, refOf, lockOf, tidOf}
+use Rattle.spec.specs.Split.{Header, refOf, lockOf, tidOf, semOf}
 use Rattle.spec.specs.declared.TypeLine.{TypeLine}
 use Rattle.spec.specs.declared.TypeLine.the-variants as type-line
 use Rattle.lexer.specs.declared.vocabulary.TypeWord.{TypeWord}
@@ -84,6 +84,10 @@ module _ (H : Header) (own a b : ℕ) where
   pub tid-seen : (k : TypeWord) → k ≡ kind.Tid → typeSeen k H own (a ∷ b ∷ []) ≡ rangedType (below (H .maps) ∷ below 1 ∷ []) tidOf (a ∷ b ∷ [])
   unfolding typeSeen rangedType allInRange
   tid-seen k e = rw (e, zero-below b)
+
+  pub sem-seen : (k : TypeWord) → k ≡ kind.Sem → typeSeen k H own (a ∷ b ∷ []) ≡ rangedType (below (H .maps) ∷ below 1 ∷ []) semOf (a ∷ b ∷ [])
+  unfolding typeSeen rangedType allInRange
+  sem-seen k e = rw (e, zero-below b)
 
   pub unknown-seen : (k : TypeWord) → k ≡ kind.Unknown → type-seen.BadForm ≡ typeSeenOf (typeSeen k H own (a ∷ b ∷ []))
   unfolding typeSeen typeSeenOf

@@ -7,7 +7,7 @@ use lib.ListN.{length, replicate}
 use Rattle.spec.specs.Choice.{if_then_else_}
 use Rattle.spec.specs.Text.{Field}
 use Rattle.spec.specs.Reading.{Seen, right, wrong, badForm, badRange, Range, _to_, below, allInRange, numbers}
-use Rattle.spec.specs.Split.{Map, Header, headerRanges, refOf, lockOf, tidOf, Row, rowLine}
+use Rattle.spec.specs.Split.{Map, Header, headerRanges, refOf, lockOf, tidOf, semOf, Row, rowLine}
 use Rattle.spec.specs.declared.Heading.{Heading}
 use Rattle.spec.specs.declared.Heading.the-variants.{C2}
 use Rattle.spec.specs.declared.Refusal.the-variants.{SplitRange}
@@ -68,6 +68,7 @@ typeSeen kind.Int H own ns = rangedType ((0 to 0) ∷ (0 to 0) ∷ []) (λ ns. t
 typeSeen kind.Ref H own ns = rangedType (below (H .locations) ∷ below own ∷ []) refOf ns
 typeSeen kind.Lock H own ns = rangedType (below (H .maps) ∷ (0 to 0) ∷ []) lockOf ns
 typeSeen kind.Tid H own ns = rangedType (below (H .maps) ∷ (0 to 0) ∷ []) tidOf ns
+typeSeen kind.Sem H own ns = rangedType (below (H .maps) ∷ (0 to 0) ∷ []) semOf ns
 typeSeen kind.Unknown H own ns = wrong badForm
 
 unfoldable pub typeSeenOf : Seen TypeLine → TypeSeen

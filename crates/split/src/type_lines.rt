@@ -79,6 +79,12 @@ fn type_of(kind: TypeWord, first: u32, second: u32, own: usize, header: Header) 
             }
             TypeSeen::BadRange
         }
+        TypeWord::Sem => {
+            if both_below(first, second, maps, 1) {
+                return TypeSeen::Right(TypeLine::Sem(MapNumber(first)));
+            }
+            TypeSeen::BadRange
+        }
         TypeWord::Unknown => TypeSeen::BadForm,
     }
 }

@@ -6,8 +6,8 @@ use Rattle.spec.specs.declared.TypeLine.{TypeLine}
 use Rattle.spec.specs.declared.TypeLine.the-variants as type-line
 use Rattle.spec.specs.declared.Word.{Word}
 use Rattle.spec.specs.declared.Word.the-variants.{Leaf, Unary, Binary}
-use Rattle.spec.specs.declared.LeafWord.the-variants.{Var, Int, Newtid, Newlock}
-use Rattle.spec.specs.declared.UnaryWord.the-variants.{While, Join, Ref, Read, Freelock, Lock, Unlock}
+use Rattle.spec.specs.declared.LeafWord.the-variants.{Var, Int, Newtid, Newlock, Newsem}
+use Rattle.spec.specs.declared.UnaryWord.the-variants.{While, Join, Ref, Read, Freelock, Lock, Unlock, Post, Wait}
 use Rattle.spec.specs.declared.BinaryWord.the-variants.{Let, If, Spawn, Write}
 use Rattle.workspace.specs.Layout.{codeOf, printed, ruleOf, wordBy, wordOf, kindOf, firstOf, secondOf, typeOf}
 
@@ -21,6 +21,7 @@ word-of-code (Leaf Var) = refl
 word-of-code (Leaf Int) = refl
 word-of-code (Leaf Newtid) = refl
 word-of-code (Leaf Newlock) = refl
+word-of-code (Leaf Newsem) = refl
 word-of-code (Unary While) = refl
 word-of-code (Unary Join) = refl
 word-of-code (Unary Ref) = refl
@@ -28,6 +29,8 @@ word-of-code (Unary Read) = refl
 word-of-code (Unary Freelock) = refl
 word-of-code (Unary Lock) = refl
 word-of-code (Unary Unlock) = refl
+word-of-code (Unary Post) = refl
+word-of-code (Unary Wait) = refl
 word-of-code (Binary Let) = refl
 word-of-code (Binary If) = refl
 word-of-code (Binary Spawn) = refl
@@ -39,3 +42,4 @@ type-of-numbers type-line.Int = refl
 type-of-numbers (type-line.Ref p c) = refl
 type-of-numbers (type-line.Lock k) = refl
 type-of-numbers (type-line.Tid k) = refl
+type-of-numbers (type-line.Sem k) = refl

@@ -7,7 +7,7 @@ use Rattle.spec.specs.Choice.{if_then_else_}
 use Rattle.spec.specs.Expression.{Step, Expr, leaf, unary, binary, size}
 use Rattle.spec.specs.Program.{Program}
 use Rattle.spec.specs.Split.{Row, Split}
-use Rattle.spec.specs.declared.LeafWord.the-variants.{Var, Int, Newtid, Newlock}
+use Rattle.spec.specs.declared.LeafWord.the-variants.{Var, Int, Newtid, Newlock, Newsem}
 use Rattle.spec.specs.declared.BinaryWord.the-variants.{Let, If, Spawn, Write}
 use Rattle.workspace.specs.Layout.{wordsAt, valuesAt, endsAt, letsAt, rowTypesAt, postsAt, startsAt, kindsAt, firstsAt, secondsAt, mapsAt, stride, codeOf, kindOf, firstOf, secondOf}
 use Rattle.workspace.specs.Region.{Region}
@@ -33,6 +33,7 @@ lets k inside (leaf Var l v) = letIn inside v ∷ []
 lets k inside (leaf Int l v) = 0 ∷ []
 lets k inside (leaf Newtid l v) = 0 ∷ []
 lets k inside (leaf Newlock l v) = 0 ∷ []
+lets k inside (leaf Newsem l v) = 0 ∷ []
 lets k inside (unary w l v e) = 0 ∷ lets (k + 1) inside e
 lets k inside (binary Let l v e₁ e₂) = 0 ∷ (lets (k + 1) inside e₁ ++ lets (k + 1 + size e₁) ((v, k) ∷ inside) e₂)
 lets k inside (binary If l v e₁ e₂) = 0 ∷ (lets (k + 1) inside e₁ ++ lets (k + 1 + size e₁) inside e₂)

@@ -11,13 +11,13 @@ use Rattle.spec.specs.declared.TypeLine.the-variants as type-line
 use Rattle.spec.specs.declared.Word.{Word}
 use Rattle.spec.specs.declared.Word.the-variants.{Leaf, Unary, Binary}
 use Rattle.spec.specs.declared.LeafWord.{LeafWord}
-use Rattle.spec.specs.declared.LeafWord.the-variants.{Var, Int, Newtid, Newlock}
+use Rattle.spec.specs.declared.LeafWord.the-variants.{Var, Int, Newtid, Newlock, Newsem}
 use Rattle.spec.specs.declared.UnaryWord.{UnaryWord}
-use Rattle.spec.specs.declared.UnaryWord.the-variants.{While, Join, Ref, Read, Freelock, Lock, Unlock}
+use Rattle.spec.specs.declared.UnaryWord.the-variants.{While, Join, Ref, Read, Freelock, Lock, Unlock, Post, Wait}
 use Rattle.spec.specs.declared.BinaryWord.{BinaryWord}
 use Rattle.spec.specs.declared.BinaryWord.the-variants.{Let, If, Spawn, Write}
 use Rattle.workspace.specs.declared.Rule.{Rule}
-use Rattle.workspace.specs.declared.Rule.the-variants.{VAR, INT, LET, IF, WHILE, NEWT, SPAWN, JOIN, REF, WRITE, READ, NEWL, FREEL, LCK, ULCK}
+use Rattle.workspace.specs.declared.Rule.the-variants.{VAR, INT, LET, IF, WHILE, NEWT, SPAWN, JOIN, REF, WRITE, READ, NEWL, FREEL, LCK, ULCK, NEWSEM, POST, WAIT}
 
 -- ------------------------------------------------------------------ offsets
 
@@ -66,12 +66,12 @@ stride = 16
 
 -- ------------------------------------------------------------------ words
 
--- the rules of Figure 5, in the printed order; ULCK is the last
+-- the rules of Figure 5, in the printed order, then those of section 3.1.4; WAIT is the last
 unfoldable pub printed : List Rule
-printed = VAR ∷ INT ∷ LET ∷ IF ∷ WHILE ∷ NEWT ∷ SPAWN ∷ JOIN ∷ REF ∷ WRITE ∷ READ ∷ NEWL ∷ FREEL ∷ LCK ∷ []
+printed = VAR ∷ INT ∷ LET ∷ IF ∷ WHILE ∷ NEWT ∷ SPAWN ∷ JOIN ∷ REF ∷ WRITE ∷ READ ∷ NEWL ∷ FREEL ∷ LCK ∷ ULCK ∷ NEWSEM ∷ POST ∷ []
 
 unfoldable pub ruleOf : ℕ → Rule
-ruleOf k = getD printed k ULCK
+ruleOf k = getD printed k WAIT
 
 -- the word that a rule is for
 unfoldable pub wordBy : Rule → Word
@@ -90,6 +90,9 @@ wordBy NEWL = Leaf Newlock
 wordBy FREEL = Unary Freelock
 wordBy LCK = Unary Lock
 wordBy ULCK = Unary Unlock
+wordBy NEWSEM = Leaf Newsem
+wordBy POST = Unary Post
+wordBy WAIT = Unary Wait
 
 unfoldable pub wordOf : ℕ → Word
 wordOf k = wordBy (ruleOf k)
@@ -100,6 +103,7 @@ leafCode Var = 0
 leafCode Int = 1
 leafCode Newtid = 5
 leafCode Newlock = 11
+leafCode Newsem = 15
 
 abbrev pub unaryCode : UnaryWord → ℕ
 unaryCode While = 4
@@ -109,6 +113,8 @@ unaryCode Read = 10
 unaryCode Freelock = 12
 unaryCode Lock = 13
 unaryCode Unlock = 14
+unaryCode Post = 16
+unaryCode Wait = 17
 
 abbrev pub binaryCode : BinaryWord → ℕ
 binaryCode Let = 2
@@ -128,24 +134,28 @@ kindOf type-line.Int = 0
 kindOf (type-line.Ref p c) = 1
 kindOf (type-line.Lock k) = 2
 kindOf (type-line.Tid k) = 3
+kindOf (type-line.Sem k) = 4
 
 abbrev pub firstOf : TypeLine → ℕ
 firstOf type-line.Int = 0
 firstOf (type-line.Ref p c) = p .0
 firstOf (type-line.Lock k) = k .0
 firstOf (type-line.Tid k) = k .0
+firstOf (type-line.Sem k) = k .0
 
 abbrev pub secondOf : TypeLine → ℕ
 secondOf type-line.Int = 0
 secondOf (type-line.Ref p c) = c .0
 secondOf (type-line.Lock k) = 0
 secondOf (type-line.Tid k) = 0
+secondOf (type-line.Sem k) = 0
 
 unfoldable pub typeOf : (kind first second : ℕ) → TypeLine
 typeOf kind first second =
     if eqb kind 1 then type-line.Ref (record { 0 = first }) (record { 0 = second })
     else if eqb kind 2 then type-line.Lock (record { 0 = first })
     else if eqb kind 3 then type-line.Tid (record { 0 = first })
+    else if eqb kind 4 then type-line.Sem (record { 0 = first })
     else type-line.Int
 
 unfoldable pub typeAt : List ℕ → TypeNumber → TypeLine

@@ -64,7 +64,7 @@ pub fn index(x: u32) -> usize
     x as usize
 }
 
-// The rules of Figure 5, in the printed order.
+// The rules of Figure 5, in the printed order, and behind them those of section 3.1.4.
 pub enum Rule {
     VAR,
     INT,
@@ -81,6 +81,9 @@ pub enum Rule {
     FREEL,
     LCK,
     ULCK,
+    NEWSEM,
+    POST,
+    WAIT,
 }
 
 fn leaf_code(w: LeafWord) -> u32
@@ -91,6 +94,7 @@ fn leaf_code(w: LeafWord) -> u32
         LeafWord::Int => 1,
         LeafWord::Newtid => 5,
         LeafWord::Newlock => 11,
+        LeafWord::Newsem => 15,
     }
 }
 
@@ -105,6 +109,8 @@ fn unary_code(w: UnaryWord) -> u32
         UnaryWord::Freelock => 12,
         UnaryWord::Lock => 13,
         UnaryWord::Unlock => 14,
+        UnaryWord::Post => 16,
+        UnaryWord::Wait => 17,
     }
 }
 
@@ -119,7 +125,7 @@ fn binary_code(w: BinaryWord) -> u32
     }
 }
 
-// The number that stands for a word: the place of its rule among those of Figure 5.
+// The number that stands for a word: the place of its rule.
 pub fn code_of(w: Word) -> u32
     ensures { λ r. ⌜ r ≡ codeOf w ⌝ }
 {
@@ -149,7 +155,10 @@ pub fn rule_of(code: u32) -> Rule
         11 => Rule::NEWL,
         12 => Rule::FREEL,
         13 => Rule::LCK,
-        _ => Rule::ULCK,
+        14 => Rule::ULCK,
+        15 => Rule::NEWSEM,
+        16 => Rule::POST,
+        _ => Rule::WAIT,
     }
 }
 
@@ -173,6 +182,9 @@ fn word_by(r: Rule) -> Word
         Rule::FREEL => Word::Unary(UnaryWord::Freelock),
         Rule::LCK => Word::Unary(UnaryWord::Lock),
         Rule::ULCK => Word::Unary(UnaryWord::Unlock),
+        Rule::NEWSEM => Word::Leaf(LeafWord::Newsem),
+        Rule::POST => Word::Unary(UnaryWord::Post),
+        Rule::WAIT => Word::Unary(UnaryWord::Wait),
     }
 }
 
@@ -192,6 +204,7 @@ pub fn kind_of(t: TypeLine) -> u32
         TypeLine::Ref(_, _) => 1,
         TypeLine::Lock(_) => 2,
         TypeLine::Tid(_) => 3,
+        TypeLine::Sem(_) => 4,
     }
 }
 
@@ -203,6 +216,7 @@ pub fn first_of(t: TypeLine) -> u32
         TypeLine::Ref(p, _) => p.0,
         TypeLine::Lock(k) => k.0,
         TypeLine::Tid(k) => k.0,
+        TypeLine::Sem(k) => k.0,
     }
 }
 
@@ -214,6 +228,7 @@ pub fn second_of(t: TypeLine) -> u32
         TypeLine::Ref(_, c) => c.0,
         TypeLine::Lock(_) => 0,
         TypeLine::Tid(_) => 0,
+        TypeLine::Sem(_) => 0,
     }
 }
 
@@ -225,6 +240,7 @@ fn type_of(kind: u32, first: u32, second: u32) -> TypeLine
         1 => TypeLine::Ref(Location(first), TypeNumber(second)),
         2 => TypeLine::Lock(MapNumber(first)),
         3 => TypeLine::Tid(MapNumber(first)),
+        4 => TypeLine::Sem(MapNumber(first)),
         _ => TypeLine::Int,
     }
 }

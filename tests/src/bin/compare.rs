@@ -6,9 +6,8 @@
 use evidence::answer::WORK_SPACE;
 use evidence::comparison::{difference, Checker, WorkSpace};
 use evidence::draw::{self, Drawn};
-use evidence::known::KNOWN;
 use evidence::tally::Tally;
-use evidence::{product, second};
+use evidence::{known, product, second};
 use std::process::ExitCode;
 use std::time::Instant;
 
@@ -37,7 +36,10 @@ fn main() -> ExitCode {
         }
         tally.count(&drawn, expected);
     }
-    println!("{} known pairs and {pairs} of seed {seed} through the product and the second checker", KNOWN.len());
+    println!(
+        "{} known pairs and {pairs} of seed {seed} through the product and the second checker",
+        known::all().count()
+    );
     println!("{:.1} s", start.elapsed().as_secs_f64());
     print!("{tally}");
     let missed = tally.missed();
@@ -56,7 +58,7 @@ fn main() -> ExitCode {
 /// The known pairs get the answers that document 01 lists.
 fn known_pairs_agree(product: Checker, work: &mut WorkSpace) -> bool {
     let mut agree = true;
-    for known in KNOWN {
+    for known in known::all() {
         let (program, split) = known.sheets();
         let (returned, fault) = work.check(product, &program, &split, WORK_SPACE);
         if returned.to_string() != known.answer || fault.is_some() {

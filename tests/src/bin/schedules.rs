@@ -11,12 +11,11 @@ use evidence::draw::draft::Draft;
 use evidence::draw::honest::Slip;
 use evidence::draw::random::Random;
 use evidence::draw::{self, concurrent, honest, mutants, Drawn};
-use evidence::known::{Known, KNOWN};
 use evidence::steps::claims::Fault;
 use evidence::steps::expression::Expression;
 use evidence::steps::search::{drawn_schedule, exhaustive, Found};
 use evidence::words::Word;
-use evidence::{product, second};
+use evidence::{known, product, second};
 use std::process::ExitCode;
 use std::rc::Rc;
 use std::time::Instant;
@@ -62,7 +61,7 @@ fn main() -> ExitCode {
 }
 
 /// Programs in prefix order, a bar for each line end, with a race that some schedule shows.
-const RACY: [(&str, &str); 8] = [
+const RACY: [(&str, &str); 11] = [
     ("Figure 2 (a)", "let,0|ref,0|int,0|let,1|spawn,0|newtid,0|read,0|var,0|write,0|var,0|int,1"),
     ("two writers", "let,0|ref,0|int,0|let,1|spawn,0|newtid,0|write,0|var,0|int,2|write,0|var,0|int,1"),
     (
@@ -95,10 +94,25 @@ const RACY: [(&str, &str); 8] = [
         "let,0|ref,0|int,0|let,1|newlock,0|let,2|spawn,0|newtid,0|let,3|lock,0|var,1|write,0|var,0|int,2|\
          let,4|freelock,0|var,1|let,5|unlock,0|var,1|write,0|var,0|int,1",
     ),
+    (
+        "Figure 7, two posts for two that wait",
+        "let,0|ref,0|int,0|let,1|newsem,0|let,2|spawn,0|newtid,0|let,3|wait,0|var,1|write,0|var,0|int,1|\
+         let,4|spawn,0|newtid,0|let,5|wait,0|var,1|write,0|var,0|int,1|let,6|post,0|var,1|post,0|var,1",
+    ),
+    (
+        "a post before the write",
+        "let,0|ref,0|int,0|let,1|newsem,0|let,2|spawn,0|newtid,0|let,3|wait,0|var,1|write,0|var,0|int,1|\
+         let,4|post,0|var,1|write,0|var,0|int,2",
+    ),
+    (
+        "a wait that takes its own post",
+        "let,0|ref,0|int,0|let,1|newsem,0|let,2|spawn,0|newtid,0|let,3|read,0|var,0|post,0|var,1|\
+         let,4|post,0|var,1|let,5|wait,0|var,1|write,0|var,0|int,2",
+    ),
 ];
 
 /// Programs whose one thread halts on a value of the wrong kind.
-const ODD: [&str; 8] = [
+const ODD: [&str; 12] = [
     "read,0|int,0",
     "write,0|int,0|int,0",
     "lock,0|int,0",
@@ -106,14 +120,20 @@ const ODD: [&str; 8] = [
     "freelock,0|ref,0|int,0",
     "join,0|newlock,0",
     "spawn,0|newlock,0|int,0",
+    "wait,0|newlock,0",
+    "post,0|int,0",
+    "lock,0|newsem,0",
+    "join,0|newsem,0",
     "let,0|newtid,0|let,1|spawn,0|var,0|read,0|int,0|join,0|var,0",
 ];
 
 /// Programs that wait for ever, and show no fault for it.
-const WAITING: [&str; 3] = [
+const WAITING: [&str; 5] = [
     "join,0|newtid,0",
     "let,0|newlock,0|let,1|lock,0|var,0|freelock,0|var,0",
     "let,0|newlock,0|let,1|freelock,0|var,0|lock,0|var,0",
+    "wait,0|newsem,0",
+    "let,0|newsem,0|let,1|post,0|var,0|let,2|wait,0|var,0|wait,0|var,0",
 ];
 
 fn sheet(steps: &str) -> Vec<u8> {
@@ -142,10 +162,10 @@ fn known_odd_halts() -> Result<String, String> {
 }
 
 fn known_safe() -> Result<String, String> {
-    let accepted: Vec<&Known> = KNOWN.iter().filter(|known| known.answer == "ACCEPT").collect();
+    let accepted = known::all().filter(|known| known.answer == "ACCEPT");
     let waiting = WAITING.iter().map(|steps| sheet(steps));
     let mut sum = Sum::default();
-    for program in accepted.iter().map(|known| known.sheets().0).chain(waiting) {
+    for program in accepted.map(|known| known.sheets().0).chain(waiting) {
         let found = exhaustive(&listed(&program), 50_000);
         if let Some(fault) = found.fault {
             return Err(format!("{fault:?} in {}", String::from_utf8_lossy(&program)));
@@ -266,11 +286,11 @@ fn faulty_are_refused(checker: Checker) -> Result<String, String> {
     Ok(format!("{races} with a race and {halts} with an odd halt, all refused; {still_accepted} still accepted"))
 }
 
-/// Drafts built with one of the mistakes that document 01 expects: some of them race, and those must
-/// be refused.
+/// Drafts built with one of the mistakes that a checker may make: some of them race, and those must be
+/// refused.
 fn slips_are_refused(checker: Checker) -> Result<String, String> {
     let mut told = Vec::new();
-    for slip in [Slip::LocksForFree, Slip::StartsForFree, Slip::WritesByFirstMap] {
+    for slip in [Slip::LocksForFree, Slip::StartsForFree, Slip::WritesByFirstMap, Slip::PostsForFree] {
         let mut races = 0;
         for number in 0..300 {
             let draft = concurrent::draft_with(&mut Random::new(SEED + 3, number), Some(slip));
@@ -288,12 +308,17 @@ fn slips_are_refused(checker: Checker) -> Result<String, String> {
     Ok(format!("{}, all refused", told.join(", ")))
 }
 
-/// Takes away what keeps threads apart: a `lock` becomes an `unlock`, a `join` a mere `ref`.
+/// Takes away what keeps threads apart: a `lock` becomes an `unlock`, a `wait` a `post`, a `join` a mere
+/// `ref`.
 fn loosen(random: &mut Random, draft: &mut Draft) {
-    let guards: Vec<usize> =
-        (0..draft.steps.len()).filter(|&step| matches!(draft.steps[step].word, Word::Lock | Word::Join)).collect();
+    let guard = |step: &usize| matches!(draft.steps[*step].word, Word::Lock | Word::Wait | Word::Join);
+    let guards: Vec<usize> = (0..draft.steps.len()).filter(guard).collect();
     if !guards.is_empty() {
         let guard = &mut draft.steps[random.pick(&guards)];
-        guard.word = if guard.word == Word::Lock { Word::Unlock } else { Word::Ref };
+        guard.word = match guard.word {
+            Word::Lock => Word::Unlock,
+            Word::Wait => Word::Post,
+            _ => Word::Ref,
+        };
     }
 }

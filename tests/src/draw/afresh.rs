@@ -43,6 +43,7 @@ impl Writer<'_> {
             Type::Ref { location, content } => Type::Ref { location, content: self.new_type(content) },
             Type::Lock(map) => Type::Lock(self.new_map(map)),
             Type::Tid(map) => Type::Tid(self.new_map(map)),
+            Type::Sem(map) => Type::Sem(self.new_map(map)),
         };
         self.draft.add_type(kind)
     }
@@ -56,6 +57,7 @@ impl Writer<'_> {
             Type::Ref { location, content } => Type::Ref { location, content: self.shared_type(content) },
             Type::Lock(map) => Type::Lock(self.new_map(map)),
             Type::Tid(map) => Type::Tid(self.new_map(map)),
+            Type::Sem(map) => Type::Sem(self.new_map(map)),
         };
         let number = self.draft.add_type(kind);
         self.shared_types[old] = Some(number);

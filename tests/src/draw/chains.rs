@@ -20,7 +20,7 @@ pub fn chain(random: &mut Random) -> Drawn {
     let length = 1 + random.below(longest);
     let locations = 1 + random.below(3);
     let mut draft = empty(locations);
-    let bottom = random.pick(&[Type::Int, Type::Lock(NOTHING), Type::Tid(NOTHING)]);
+    let bottom = random.pick(&[Type::Int, Type::Lock(NOTHING), Type::Tid(NOTHING), Type::Sem(NOTHING)]);
     let places: Vec<usize> = (0..length).map(|_| random.below(locations)).collect();
     let levels = write_chain(&mut draft, bottom, &places);
     let mut differs = false;
@@ -60,6 +60,7 @@ fn again(kind: Type) -> Type {
     match kind {
         Type::Lock(_) => Type::Lock(NOTHING_AGAIN),
         Type::Tid(_) => Type::Tid(NOTHING_AGAIN),
+        Type::Sem(_) => Type::Sem(NOTHING_AGAIN),
         other => other,
     }
 }
@@ -70,7 +71,8 @@ fn differ(random: &mut Random, bottom: &mut Type, places: &mut [usize], location
         *bottom = match *bottom {
             Type::Int => random.pick(&[Type::Lock(NOTHING), Type::Tid(NOTHING)]),
             Type::Lock(_) => random.pick(&[Type::Int, Type::Lock(NEARLY_NOTHING), Type::Tid(NOTHING)]),
-            _ => random.pick(&[Type::Int, Type::Tid(NEARLY_NOTHING), Type::Lock(NOTHING)]),
+            Type::Tid(_) => random.pick(&[Type::Int, Type::Tid(NEARLY_NOTHING), Type::Sem(NOTHING)]),
+            _ => random.pick(&[Type::Int, Type::Sem(NEARLY_NOTHING), Type::Lock(NOTHING)]),
         };
         return true;
     }
@@ -89,6 +91,7 @@ fn write_steps(draft: &mut Draft, levels: &[usize], shown: usize) {
     let bottom = match draft.types[levels[0]] {
         Type::Lock(_) => Word::Newlock,
         Type::Tid(_) => Word::Newtid,
+        Type::Sem(_) => Word::Newsem,
         _ => Word::Int,
     };
     draft.steps.push(step(bottom, levels[0]));

@@ -1,5 +1,5 @@
 //! Small honest drafts in which threads share cells: guarded by a lock, read in shares, or handed
-//! over at a join.
+//! over at a join or by a semaphore.
 
 use super::draft::{Draft, Map, Type};
 use super::honest::{Builder, Slip};
@@ -7,7 +7,7 @@ use super::random::Random;
 use crate::words::Word;
 
 /// Two locations: the lock carries the whole of the first, identifiers bring back half of the
-/// second, all of it, or nothing.
+/// second, all of it, or nothing, and semaphores carry half of the second or all of it.
 pub fn draft(random: &mut Random) -> Draft {
     draft_with(random, None)
 }
@@ -38,9 +38,11 @@ pub fn draft_with(random: &mut Random, slip: Option<Slip>) -> Draft {
             Type::Tid(all),
             Type::Tid(none),
             Type::Ref { location: 1, content: 3 },
+            Type::Sem(half),
+            Type::Sem(all),
         ];
         let mut now = builder.draft.maps[0];
-        let things: &[usize] = if builder.random.percent(70) { &[1, 2, 3] } else { &[1, 2, 3, 7] };
+        let things = builder.random.pick::<&[usize]>(&[&[1, 2, 3], &[1, 2, 3, 7], &[1, 2, 3, 9], &[1, 2, 8, 9]]);
         builder.over(things, &mut now, size);
         if let Some(draft) = builder.finished() {
             return draft;
@@ -52,13 +54,18 @@ impl Builder<'_> {
     /// Binds a new thing of each of these types, and then forks.
     fn over(&mut self, things: &[usize], now: &mut Map, size: usize) {
         let Some((&first, rest)) = things.split_first() else {
-            if !self.fork_and_join(0, now, &Map::default(), size) {
+            let signals = self.random.percent(60) && self.fork_and_signal(0, now, &Map::default(), size);
+            if !signals && !self.fork_and_join(0, now, &Map::default(), size) {
                 self.expression(0, now, &Map::default(), size);
             }
             return;
         };
         let step = self.open_let();
-        let word = if matches!(self.draft.types[first], Type::Lock(_)) { Word::Newlock } else { Word::Ref };
+        let word = match self.draft.types[first] {
+            Type::Lock(_) => Word::Newlock,
+            Type::Sem(_) => Word::Newsem,
+            _ => Word::Ref,
+        };
         self.step(word, first, now, &Map::default(), 1);
         self.scope.push((self.draft.steps[step].number, first));
         self.over(rest, now, size);

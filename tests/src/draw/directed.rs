@@ -55,13 +55,13 @@ impl Sabotage<'_> {
         match (self.draft.steps[own].word, condition) {
             (Var | Let | If, 1) | (Read, 2) => self.other_type(own),
             (Ref, 1) if self.random.percent(50) => self.other_content(own),
-            (Int | While | Spawn | Join | Write | Lock | Freelock | Unlock | Newtid | Newlock | Ref, 1) => {
-                self.other_kind(own)
-            }
+            (Int | While | Spawn | Join | Write | Newtid | Newlock | Newsem | Ref, 1) => self.other_kind(own),
+            (Lock | Freelock | Unlock | Post | Wait, 1) => self.other_kind(own),
             (If, 2) | (Write, 3) => self.other_type(self.draft.second_of(own)),
-            (Spawn | Join | Write | Lock | Freelock | Unlock, 2) | (Read, 1) => self.other_kind(e1),
-            (Var | Int | Let | Newtid | Ref | Newlock, 2) => self.other_post(own),
-            (Join | Lock | Freelock | Unlock | Read, 3) | (Write | Spawn, 4) => self.other_post(own),
+            (Spawn | Join | Write | Lock | Freelock | Unlock | Post | Wait, 2) | (Read, 1) => self.other_kind(e1),
+            (Var | Int | Let | Newtid | Ref | Newlock | Newsem, 2) => self.other_post(own),
+            (Join | Lock | Freelock | Unlock | Post | Wait | Read, 3) => self.other_post(own),
+            (Write | Spawn, 4) => self.other_post(own),
             (If, 3) => self.post_over(self.post(e1)),
             (If, 4) => self.post_over_second(),
             (While, 2) => self.post_over(self.pre),
@@ -110,6 +110,7 @@ impl Sabotage<'_> {
             Type::Int => Type::Tid(0),
             Type::Lock(map) => Type::Lock(self.near_map(map)),
             Type::Tid(map) => Type::Tid(self.near_map(map)),
+            Type::Sem(map) => Type::Sem(self.near_map(map)),
             Type::Ref { location, content } if self.draft.locations > 1 && self.random.percent(40) => {
                 Type::Ref { location: (location + 1) % self.draft.locations, content }
             }

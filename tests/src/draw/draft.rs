@@ -12,6 +12,7 @@ pub enum Type {
     Ref { location: usize, content: usize },
     Lock(usize),
     Tid(usize),
+    Sem(usize),
 }
 
 /// A line of the program with its line of the split.
@@ -68,9 +69,9 @@ impl Draft {
             (Type::Ref { location: one, content: left }, Type::Ref { location: other, content: right }) => {
                 one == other && self.agree(left, right)
             }
-            (Type::Lock(left), Type::Lock(right)) | (Type::Tid(left), Type::Tid(right)) => {
-                self.maps[left] == self.maps[right]
-            }
+            (Type::Lock(left), Type::Lock(right))
+            | (Type::Tid(left), Type::Tid(right))
+            | (Type::Sem(left), Type::Sem(right)) => self.maps[left] == self.maps[right],
             _ => false,
         }
     }
@@ -94,7 +95,7 @@ impl Draft {
         for kind in &mut self.types {
             match kind {
                 Type::Int | Type::Ref { .. } => {}
-                Type::Lock(map) | Type::Tid(map) => *map = new[*map],
+                Type::Lock(map) | Type::Tid(map) | Type::Sem(map) => *map = new[*map],
             }
         }
         for step in &mut self.steps {
@@ -144,6 +145,7 @@ impl Draft {
                 Type::Ref { location, content } => (b"ref,", location, content),
                 Type::Lock(map) => (b"lock,", map, 0),
                 Type::Tid(map) => (b"tid,", map, 0),
+                Type::Sem(map) => (b"sem,", map, 0),
             };
             push_fields(&mut text, word, &[first as u32, second as u32]);
         }

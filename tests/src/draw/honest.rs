@@ -10,8 +10,8 @@ use super::random::Random;
 use crate::answer::{STEPS, VARIABLES, WHOLE};
 use crate::words::Word;
 
-/// A mistake of document 01's "Bugs we expect". A builder that makes it builds what a checker with
-/// that mistake would accept.
+/// A mistake of document 01's "Bugs we expect", or one like them. A builder that makes it builds what a
+/// checker with that mistake would accept.
 #[derive(Clone, Copy, Debug, PartialEq, Eq)]
 pub enum Slip {
     /// A new lock takes nothing from the thread.
@@ -20,6 +20,8 @@ pub enum Slip {
     StartsForFree,
     /// A write is tested against map 0.
     WritesByFirstMap,
+    /// A post takes nothing from the thread.
+    PostsForFree,
 }
 
 pub struct Builder<'r> {
@@ -95,18 +97,19 @@ impl<'r> Builder<'r> {
 
     fn new_type(&mut self) -> Type {
         let known = self.draft.types.len();
-        match self.random.below(10) {
+        match self.random.below(12) {
             0..=3 if known > 0 => {
                 let content = if self.random.percent(60) { 0 } else { self.random.below(known) };
                 Type::Ref { location: self.random.below(self.draft.locations), content }
             }
             4..=6 => Type::Lock(self.drawn_share()),
             7..=8 => Type::Tid(self.drawn_share()),
+            9..=10 => Type::Sem(self.drawn_share()),
             _ => Type::Int,
         }
     }
 
-    /// A map for a lock or an identifier to carry: something of a few locations, or nothing.
+    /// A map for a lock, an identifier or a semaphore to carry: something of a few locations, or nothing.
     fn drawn_share(&mut self) -> usize {
         let mut map = Map::default();
         for _ in 0..self.random.below(3) {
@@ -170,7 +173,7 @@ impl<'r> Builder<'r> {
             _ if self.in_scope(kind) => Map::default(),
             Type::Lock(map) => self.lock_price(map),
             Type::Ref { content, .. } => self.price(content),
-            Type::Int | Type::Tid(_) => Map::default(),
+            Type::Int | Type::Tid(_) | Type::Sem(_) => Map::default(),
         }
     }
 
@@ -212,11 +215,12 @@ impl<'r> Builder<'r> {
             _ if size > 12 => self.random.pick(&[Let, Let, Let, If]),
             Type::Int => self.random.pick(&[
                 Let, Let, Let, If, While, Spawn, Spawn, Join, Read, Read, Write, Write, Write, Lock, Lock, Unlock,
-                Unlock, Freelock, Int, Var,
+                Unlock, Freelock, Post, Post, Wait, Wait, Int, Var,
             ]),
             Type::Ref { .. } => self.random.pick(&[Let, Let, If, Ref, Ref, Read, Var]),
             Type::Lock(_) => self.random.pick(&[Let, If, Newlock, Newlock, Read, Var]),
             Type::Tid(_) => self.random.pick(&[Let, If, Newtid, Newtid, Read, Var]),
+            Type::Sem(_) => self.random.pick(&[Let, If, Newsem, Newsem, Read, Var]),
         }
     }
 
@@ -230,6 +234,7 @@ impl<'r> Builder<'r> {
             Type::Ref { .. } => Word::Ref,
             Type::Lock(_) => Word::Newlock,
             Type::Tid(_) => Word::Newtid,
+            Type::Sem(_) => Word::Newsem,
         };
         if !self.step(word, kind, now, need, 1) {
             self.step(Word::Var, kind, now, need, 1);

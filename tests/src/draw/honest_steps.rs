@@ -8,7 +8,8 @@ use crate::words::Word;
 impl Builder<'_> {
     /// A step with this word and type. False, with nothing built, when it cannot be had here.
     pub fn step(&mut self, word: Word, kind: usize, now: &mut Map, need: &Map, size: usize) -> bool {
-        let moves = matches!(word, Word::Spawn | Word::Join | Word::Lock | Word::Unlock | Word::Freelock);
+        use Word::{Freelock, Join, Lock, Post, Spawn, Unlock, Wait};
+        let moves = matches!(word, Spawn | Join | Lock | Unlock | Freelock | Post | Wait);
         if moves && self.draft.maps.len() > MAPS_IN_USE {
             return false;
         }
@@ -19,18 +20,17 @@ impl Builder<'_> {
                 let constant = self.random.between(0, CONSTANTS - 1);
                 self.leaf(Word::Int, constant, kind, now)
             }
-            (Word::Newtid, Type::Tid(_)) => self.leaf(Word::Newtid, 0, kind, now),
+            (Word::Newtid, Type::Tid(_)) | (Word::Newsem, Type::Sem(_)) => self.leaf(word, 0, kind, now),
             (Word::Newlock, Type::Lock(map)) => self.newlock(kind, map, now, need),
             (Word::Let, _) => self.binding(kind, now, need, size),
             (Word::If, _) => self.branch(kind, now, need, size),
             (Word::While, Type::Int) => self.repeat(kind, now, need, size),
-            (Word::Spawn, Type::Int) => self.spawn(kind, now, need, size),
-            (Word::Join, Type::Int) => self.join(kind, now, need, size),
+            (Spawn, Type::Int) => self.spawn(kind, now, need, size),
             (Word::Ref, Type::Ref { content, .. }) => self.new_cell(kind, content, now, need, size),
             (Word::Read, _) => self.read(kind, now, need, size),
             (Word::Write, Type::Int) => self.write(kind, now, need, size),
-            (Word::Lock | Word::Freelock, Type::Int) => self.take(word, kind, now, need, size),
-            (Word::Unlock, Type::Int) => self.unlock(kind, now, need, size),
+            (Join | Lock | Freelock | Wait, Type::Int) => self.take(word, kind, now, need, size),
+            (Unlock | Post, Type::Int) => self.give(word, kind, now, need, size),
             _ => false,
         }
     }
@@ -118,13 +118,31 @@ impl Builder<'_> {
 
     /// A spawn whose identifier has this type; the map held now can spare what it gives back.
     pub(super) fn spawn_on(&mut self, identifier: usize, kind: usize, now: &mut Map, need: &Map, size: usize) -> bool {
+        let work = |builder: &mut Self, held: &mut Map, given_back: &Map| {
+            builder.work(held, given_back, size.saturating_sub(2));
+        };
+        self.spawn_with(identifier, kind, now, need, &Map::default(), work)
+    }
+
+    /// A spawn whose body starts with at least `lent` above what its identifier gives back. The map held
+    /// now can spare both. `body` is built from what it starts with and what it must give back.
+    pub(super) fn spawn_with(
+        &mut self,
+        identifier: usize,
+        kind: usize,
+        now: &mut Map,
+        need: &Map,
+        lent: &Map,
+        body: impl FnOnce(&mut Self, &mut Map, &Map),
+    ) -> bool {
         let Type::Tid(map) = self.draft.types[identifier] else { return false };
         let given_back = self.draft.maps[map];
+        let least = sum(&given_back, lent);
         let step = self.open(Word::Spawn, 0);
-        self.operand(identifier, now, &sum(need, &given_back), size);
-        let spare = difference(now, &sum(need, &given_back));
-        let start = sum(&given_back, &spare.map(|amount| self.part_of(amount)));
-        self.work(&mut start.clone(), &given_back, size.saturating_sub(2));
+        self.operand(identifier, now, &sum(need, &least), 12);
+        let spare = difference(now, &sum(need, &least));
+        let start = sum(&least, &spare.map(|amount| self.part_of(amount)));
+        body(self, &mut start.clone(), &given_back);
         if self.slip != Some(Slip::StartsForFree) {
             *now = difference(now, &start);
         }
@@ -140,22 +158,14 @@ impl Builder<'_> {
         Some(self.map_number(start))
     }
 
-    fn join(&mut self, kind: usize, now: &mut Map, need: &Map, size: usize) -> bool {
-        let wants_known = self.random.percent(95);
-        let known =
-            |builder: &Self, number, kind| matches!(kind, Type::Tid(_)) && (!wants_known || builder.in_scope(number));
-        let Some(identifier) = self.type_where(known) else { return false };
-        let Type::Tid(map) = self.draft.types[identifier] else { return false };
-        self.gain(Word::Join, kind, identifier, map, now, need, size)
-    }
-
+    /// A word that takes what its part carries.
     fn take(&mut self, word: Word, kind: usize, now: &mut Map, need: &Map, size: usize) -> bool {
         let wants_known = self.random.percent(95);
         let known =
-            |builder: &Self, number, kind| matches!(kind, Type::Lock(_)) && (!wants_known || builder.in_scope(number));
-        let Some(lock) = self.type_where(known) else { return false };
-        let Type::Lock(map) = self.draft.types[lock] else { return false };
-        self.can_make(lock, now, need) && self.gain(word, kind, lock, map, now, need, size)
+            |builder: &Self, number, kind| moved(word, kind).is_some() && (!wants_known || builder.in_scope(number));
+        let Some(part) = self.type_where(known) else { return false };
+        let Some(map) = moved(word, self.draft.types[part]) else { return false };
+        self.can_make(part, now, need) && self.gain(word, kind, part, map, now, need, size)
     }
 
     /// A word whose part carries a map that is added to what the thread holds.
@@ -180,19 +190,29 @@ impl Builder<'_> {
         self.close(step, kind, now)
     }
 
-    fn unlock(&mut self, kind: usize, now: &mut Map, need: &Map, size: usize) -> bool {
-        let known = |builder: &Self, number, kind| matches!(kind, Type::Lock(_)) && builder.in_scope(number);
-        let Some(lock) = self.type_where(known) else { return false };
-        self.unlock_of(lock, kind, now, need, size)
+    /// A word that gives its part what it carries.
+    fn give(&mut self, word: Word, kind: usize, now: &mut Map, need: &Map, size: usize) -> bool {
+        let known = |builder: &Self, number, kind| moved(word, kind).is_some() && builder.in_scope(number);
+        let Some(part) = self.type_where(known) else { return false };
+        self.give_to(part, word, kind, now, need, size)
     }
 
-    /// An unlock of a lock with this type, which is in scope.
-    pub(super) fn unlock_of(&mut self, lock: usize, kind: usize, now: &mut Map, need: &Map, size: usize) -> bool {
-        let Type::Lock(map) = self.draft.types[lock] else { return false };
-        let carried = self.draft.maps[map];
+    /// An unlock or a post of a thing with this type, which is in scope.
+    pub(super) fn give_to(
+        &mut self,
+        part: usize,
+        word: Word,
+        kind: usize,
+        now: &mut Map,
+        need: &Map,
+        size: usize,
+    ) -> bool {
+        let Some(map) = moved(word, self.draft.types[part]) else { return false };
+        let for_free = word == Word::Post && self.slip == Some(Slip::PostsForFree);
+        let carried = if for_free { Map::default() } else { self.draft.maps[map] };
         at_least(now, &sum(need, &carried)) && {
-            let step = self.open(Word::Unlock, 0);
-            self.operand(lock, now, &sum(need, &carried), size);
+            let step = self.open(word, 0);
+            self.operand(part, now, &sum(need, &carried), size);
             *now = difference(now, &carried);
             self.close(step, kind, now)
         }
@@ -251,5 +271,15 @@ impl Builder<'_> {
     fn operand(&mut self, kind: usize, now: &mut Map, need: &Map, size: usize) {
         let size = if self.random.percent(80) { 1 } else { size.min(12).saturating_sub(1) };
         self.expression(kind, now, need, size);
+    }
+}
+
+/// The map that a word takes or gives when its part has this type, if it may have it.
+fn moved(word: Word, part: Type) -> Option<usize> {
+    match (word, part) {
+        (Word::Join, Type::Tid(map)) => Some(map),
+        (Word::Lock | Word::Freelock | Word::Unlock, Type::Lock(map)) => Some(map),
+        (Word::Wait | Word::Post, Type::Sem(map)) => Some(map),
+        _ => None,
     }
 }

@@ -1,4 +1,5 @@
-//! Idioms of several words that random choice seldom hits: critical sections, and forks with joins.
+//! Idioms of several words that random choice seldom hits: critical sections, forks with joins, and
+//! forks with signals.
 
 use super::draft::{at_least, sum, Map, Type};
 use super::honest::Builder;
@@ -8,10 +9,11 @@ use crate::words::Word;
 impl Builder<'_> {
     /// An idiom of int type. False, with nothing built, when it cannot be had here.
     pub(super) fn idiom(&mut self, kind: usize, now: &mut Map, need: &Map, size: usize) -> bool {
-        if self.random.percent(50) {
-            return self.critical_section(kind, now, need, size);
+        match self.random.below(10) {
+            0..=3 => self.critical_section(kind, now, need, size),
+            4..=7 => self.fork_and_join(kind, now, need, size),
+            _ => self.fork_and_signal(kind, now, need, size),
         }
-        self.fork_and_join(kind, now, need, size)
     }
 
     /// Something for a thread to do, of any type: most often accesses to cells, guarded or not.
@@ -62,7 +64,7 @@ impl Builder<'_> {
         if !self.random.percent(70) || !self.access(int, now, &kept) {
             self.work(now, &kept, size.saturating_sub(6));
         }
-        self.unlock_of(lock, kind, now, need, 1);
+        self.give_to(lock, Word::Unlock, kind, now, need, 1);
         self.close(inner, kind, now);
         self.close(taken, kind, now)
     }
@@ -80,7 +82,7 @@ impl Builder<'_> {
         self.spawn_on(identifier, int, now, need, half);
         let meanwhile = self.open_let();
         self.work(now, need, half);
-        self.join_and_work(identifier, map, kind, now, need);
+        self.gain_and_work(Word::Join, identifier, map, kind, now, need);
         self.scope.pop();
         for step in [meanwhile, spawned, outer] {
             self.close(step, kind, now);
@@ -88,11 +90,51 @@ impl Builder<'_> {
         true
     }
 
-    /// `let _ = join t in e`, with an access that the joined thread may have made room for.
-    fn join_and_work(&mut self, identifier: usize, map: usize, kind: usize, now: &mut Map, need: &Map) {
+    /// `let _ = spawn(newtid){e; post s; e} in let _ = e in let _ = wait s in e`.
+    pub(super) fn fork_and_signal(&mut self, kind: usize, now: &mut Map, need: &Map, size: usize) -> bool {
+        let known = |builder: &Self, number, kind| {
+            matches!(kind, Type::Sem(map) if at_least(now, &sum(need, &builder.draft.maps[map])))
+                && builder.in_scope(number)
+        };
+        let Some(semaphore) = self.type_where(known) else { return false };
+        let Type::Sem(map) = self.draft.types[semaphore] else { return false };
+        let carried = self.draft.maps[map];
+        let kept = sum(need, &carried);
+        let affordable = |builder: &Self, _, kind| matches!(kind, Type::Tid(map) if at_least(now, &sum(&kept, &builder.draft.maps[map])));
+        let Some(identifier) = self.type_where(affordable) else { return false };
+        let (int, half) = (self.int_type(), size.saturating_sub(10) / 2);
+        let spawned = self.open_let();
+        let body = |builder: &mut Self, held: &mut Map, given_back: &Map| {
+            builder.work_and_signal(semaphore, &carried, held, given_back, half);
+        };
+        self.spawn_with(identifier, int, now, need, &carried, body);
+        let meanwhile = self.open_let();
+        self.work(now, need, half);
+        self.gain_and_work(Word::Wait, semaphore, map, kind, now, need);
+        self.close(meanwhile, kind, now);
+        self.close(spawned, kind, now)
+    }
+
+    /// `let _ = e in let _ = post s in e`, the last e an access if one can be had.
+    fn work_and_signal(&mut self, semaphore: usize, carried: &Map, held: &mut Map, given_back: &Map, size: usize) {
+        let int = self.int_type();
+        let worked = self.open_let();
+        self.work(held, &sum(given_back, carried), size);
+        let posted = self.open_let();
+        self.give_to(semaphore, Word::Post, int, held, given_back, 1);
+        if !self.access(int, held, given_back) {
+            self.leaf(Word::Int, 0, int, held);
+        }
+        self.close(posted, int, held);
+        self.close(worked, int, held);
+    }
+
+    /// `let _ = join t in e` or `let _ = wait s in e`, with an access that the other thread may have made
+    /// room for.
+    fn gain_and_work(&mut self, word: Word, part: usize, map: usize, kind: usize, now: &mut Map, need: &Map) {
         let int = self.int_type();
         let step = self.open_let();
-        if !self.gain(Word::Join, int, identifier, map, now, need, 1) {
+        if !self.gain(word, int, part, map, now, need, 1) {
             self.leaf(Word::Int, 0, int, now);
         }
         if !self.access(kind, now, need) {

@@ -57,10 +57,11 @@ fn change_type(random: &mut Random, draft: &mut Draft) {
     let own = random.below(draft.types.len());
     let map = random.below(draft.maps.len());
     let location = random.below(draft.locations);
-    draft.types[own] = match random.below(4) {
+    draft.types[own] = match random.below(5) {
         0 => Type::Lock(map),
         1 => Type::Tid(map),
-        2 => Type::Ref { location, content: random.below(own.max(1)) },
+        2 => Type::Sem(map),
+        3 => Type::Ref { location, content: random.below(own.max(1)) },
         _ => Type::Int,
     };
 }

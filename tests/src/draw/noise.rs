@@ -54,7 +54,7 @@ fn drawn_tree(random: &mut Random) -> Draft {
     for own in 1..4 {
         let map = random.below(3);
         let cell = Type::Ref { location: random.below(locations), content: random.below(own) };
-        draft.types.push(random.pick(&[Type::Int, cell, Type::Lock(map), Type::Tid(map)]));
+        draft.types.push(random.pick(&[Type::Int, cell, Type::Lock(map), Type::Tid(map), Type::Sem(map)]));
     }
     let mut open = 1;
     while open > 0 && draft.steps.len() < 256 {

@@ -59,6 +59,9 @@ impl Broken {
 
 type Judged = Result<(), Broken>;
 
+/// The map of a type, if it is of the kind that a word wants.
+type Carried = fn(Type) -> Option<usize>;
+
 /// One step with the map before it.
 struct Judge<'a> {
     steps: &'a [Step],
@@ -68,7 +71,7 @@ struct Judge<'a> {
 }
 
 impl Judge<'_> {
-    /// The rows of document 01's table.
+    /// The rows of document 01's table, and the words of document 02.
     fn conditions(&self) -> Judged {
         match self.steps[self.step].word {
             Word::Var => self.var(),
@@ -76,15 +79,18 @@ impl Judge<'_> {
             Word::Let => self.binding(),
             Word::If => self.branch(),
             Word::While => self.repeat(),
-            Word::Newtid => self.newtid(),
+            Word::Newtid => self.new_free(Type::tid),
             Word::Spawn => self.spawn(),
-            Word::Join => self.join(),
+            Word::Join => self.take(Type::tid),
             Word::Ref => self.new_cell(),
             Word::Read => self.read(),
             Word::Write => self.write(),
             Word::Newlock => self.newlock(),
-            Word::Lock | Word::Freelock => self.take(),
-            Word::Unlock => self.unlock(),
+            Word::Lock | Word::Freelock => self.take(Type::lock),
+            Word::Unlock => self.give(Type::lock),
+            Word::Newsem => self.new_free(Type::sem),
+            Word::Post => self.give(Type::sem),
+            Word::Wait => self.take(Type::sem),
         }
     }
 
@@ -117,23 +123,18 @@ impl Judge<'_> {
         self.at_least(3, self.post(self.e1()), self.post(self.step))
     }
 
-    fn newtid(&self) -> Judged {
-        self.tid(1, self.step)?;
+    /// `newtid` and `newsem`: a new thing that takes nothing.
+    fn new_free(&self, carried: Carried) -> Judged {
+        self.carried(1, self.step, carried)?;
         self.equal(2, self.post(self.step), self.pre)
     }
 
     fn spawn(&self) -> Judged {
         self.is_int(1)?;
-        let given_back = self.tid(2, self.e1())?;
+        let given_back = self.carried(2, self.e1(), Type::tid)?;
         self.at_least(3, self.post(self.e2()), given_back)?;
         let start = self.split.marks[self.step].start;
         self.sum(4, self.post(self.step), start, self.post(self.e1()))
-    }
-
-    fn join(&self) -> Judged {
-        self.is_int(1)?;
-        let given_back = self.tid(2, self.e1())?;
-        self.sum(3, self.post(self.e1()), given_back, self.post(self.step))
     }
 
     fn new_cell(&self) -> Judged {
@@ -158,19 +159,21 @@ impl Judge<'_> {
     }
 
     fn newlock(&self) -> Judged {
-        let carried = self.lock(1, self.step)?;
+        let carried = self.carried(1, self.step, Type::lock)?;
         self.sum(2, self.post(self.step), carried, self.pre)
     }
 
-    fn take(&self) -> Judged {
+    /// `join`, `lock`, `freelock` and `wait`: what the part carries is added.
+    fn take(&self, carried: Carried) -> Judged {
         self.is_int(1)?;
-        let carried = self.lock(2, self.e1())?;
+        let carried = self.carried(2, self.e1(), carried)?;
         self.sum(3, self.post(self.e1()), carried, self.post(self.step))
     }
 
-    fn unlock(&self) -> Judged {
+    /// `unlock` and `post`: what the part carries is taken away.
+    fn give(&self, carried: Carried) -> Judged {
         self.is_int(1)?;
-        let carried = self.lock(2, self.e1())?;
+        let carried = self.carried(2, self.e1(), carried)?;
         self.sum(3, self.post(self.step), carried, self.post(self.e1()))
     }
 
@@ -211,19 +214,11 @@ impl Judge<'_> {
         }
     }
 
-    /// The map of a step that must be a lock.
-    fn lock(&self, condition: u32, step: usize) -> Result<usize, Broken> {
-        match self.split.types[self.kind(step)] {
-            Type::Lock(map) => Ok(map),
-            _ => broken(31, condition, 0),
-        }
-    }
-
-    /// The map of a step that must be a thread identifier.
-    fn tid(&self, condition: u32, step: usize) -> Result<usize, Broken> {
-        match self.split.types[self.kind(step)] {
-            Type::Tid(map) => Ok(map),
-            _ => broken(31, condition, 0),
+    /// The map of a step whose type must carry one of this kind.
+    fn carried(&self, condition: u32, step: usize, carried: Carried) -> Result<usize, Broken> {
+        match carried(self.split.types[self.kind(step)]) {
+            Some(map) => Ok(map),
+            None => broken(31, condition, 0),
         }
     }
 

@@ -2,11 +2,11 @@
 
 use super::check;
 use crate::answer::WORK_SPACE;
-use crate::known::KNOWN;
+use crate::known;
 
 #[test]
 fn known_pairs_get_their_answers() {
-    for known in KNOWN {
+    for known in known::all() {
         let (program, split) = known.sheets();
         let answer = check(&program, &split, WORK_SPACE).to_string();
         assert_eq!(answer, known.answer, "{} with {}", known.program, known.split);

@@ -12,6 +12,30 @@ pub enum Type {
     Ref { location: usize, content: usize },
     Lock(usize),
     Tid(usize),
+    Sem(usize),
+}
+
+impl Type {
+    pub fn lock(self) -> Option<usize> {
+        match self {
+            Type::Lock(map) => Some(map),
+            _ => None,
+        }
+    }
+
+    pub fn tid(self) -> Option<usize> {
+        match self {
+            Type::Tid(map) => Some(map),
+            _ => None,
+        }
+    }
+
+    pub fn sem(self) -> Option<usize> {
+        match self {
+            Type::Sem(map) => Some(map),
+            _ => None,
+        }
+    }
 }
 
 /// A step's line: its type, its map afterwards, and the map that a spawned body starts with.
@@ -49,6 +73,7 @@ impl Split {
             }
             (Type::Lock(left), Type::Lock(right)) => self.map(left) == self.map(right),
             (Type::Tid(left), Type::Tid(right)) => self.map(left) == self.map(right),
+            (Type::Sem(left), Type::Sem(right)) => self.map(left) == self.map(right),
             _ => false,
         }
     }
@@ -107,7 +132,7 @@ fn read_types(text: &mut Text, head: &Head) -> Result<Vec<Type>, Returned> {
 fn read_type(text: &mut Text, head: &Head, own: u32) -> Result<Type, Returned> {
     let (word, first, second) = text.line(|line| {
         let word = line.letters();
-        let known: [&[u8]; 4] = [b"int", b"ref", b"lock", b"tid"];
+        let known: [&[u8]; 5] = [b"int", b"ref", b"lock", b"tid", b"sem"];
         let fields = (word, line.next_numeral()?, line.next_numeral()?);
         known.contains(&word).then_some(fields)
     })?;
@@ -122,7 +147,8 @@ fn read_type(text: &mut Text, head: &Head, own: u32) -> Result<Type, Returned> {
         b"int" => Type::Int,
         b"ref" => Type::Ref { location: first, content: second },
         b"lock" => Type::Lock(first),
-        _ => Type::Tid(first),
+        b"tid" => Type::Tid(first),
+        _ => Type::Sem(first),
     })
 }
 

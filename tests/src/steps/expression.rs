@@ -12,6 +12,7 @@ pub enum Value {
     Cell(Name),
     Lock(Name),
     Identifier(Name),
+    Semaphore(Name),
 }
 
 #[derive(Debug, PartialEq, Eq, Hash)]

@@ -24,14 +24,15 @@ impl Thread {
     }
 }
 
-/// Threads in spawn order, cells, locks and identifiers. The names used so far are the cells', the
-/// locks' and the identifiers'; a removed lock stays listed, so its name stays used.
+/// Threads in spawn order, cells, locks, identifiers, and semaphores with their counts. The names used
+/// so far are those listed; a removed lock stays listed, so its name stays used.
 #[derive(Clone, Debug, PartialEq, Eq, Hash)]
 pub struct State {
     pub threads: Vec<Thread>,
     pub cells: BTreeMap<Name, Value>,
     pub locks: BTreeMap<Name, LockState>,
     pub identifiers: BTreeSet<Name>,
+    pub semaphores: BTreeMap<Name, usize>,
 }
 
 /// What a scheduler decides: the thread, the part for an `if`, the finished thread for a `join`
@@ -52,17 +53,21 @@ impl State {
             cells: BTreeMap::new(),
             locks: BTreeMap::new(),
             identifiers: BTreeSet::from([0]),
+            semaphores: BTreeMap::new(),
         }
     }
 
     fn unused(&self, name: Name) -> bool {
-        !self.cells.contains_key(&name) && !self.locks.contains_key(&name) && !self.identifiers.contains(&name)
+        !self.cells.contains_key(&name)
+            && !self.locks.contains_key(&name)
+            && !self.identifiers.contains(&name)
+            && !self.semaphores.contains_key(&name)
     }
 
     /// A name never used before. Names are given out from 0 upward, so their count is the next.
     pub fn new_name(&self) -> Name {
-        let next = (self.cells.len() + self.locks.len() + self.identifiers.len()) as Name;
-        (next..).find(|&name| self.unused(name)).expect("names never run out")
+        let used = self.cells.len() + self.locks.len() + self.identifiers.len() + self.semaphores.len();
+        (used as Name..).find(|&name| self.unused(name)).expect("names never run out")
     }
 
     /// The moves of one thread that could be reductions, up to the choice of a new name.
@@ -102,7 +107,9 @@ impl State {
     /// A word that acts on the state, and the value that it becomes.
     fn act(&mut self, word: Word, operands: &[Value], body: Option<&Rc<Expression>>, step: Move) -> Option<Value> {
         match (word, operands) {
-            (Word::Newtid | Word::Ref | Word::Newlock, _) => return self.create(word, operands, step.name),
+            (Word::Newtid | Word::Ref | Word::Newlock | Word::Newsem, _) => {
+                return self.create(word, operands, step.name)
+            }
             (Word::Read, [Value::Cell(cell)]) => return self.cells.get(cell).copied(),
             (Word::Write, [Value::Cell(cell), value]) => drop(self.cells.insert(*cell, *value)),
             (Word::Spawn, [Value::Identifier(identifier), ..]) => {
@@ -115,12 +122,17 @@ impl State {
             (Word::Lock, [Value::Lock(lock)]) => self.change_open_lock(*lock, LockState::Closed)?,
             (Word::Freelock, [Value::Lock(lock)]) => self.change_open_lock(*lock, LockState::Removed)?,
             (Word::Unlock, [Value::Lock(lock)]) => drop(self.locks.insert(*lock, LockState::Open)),
+            (Word::Post, [Value::Semaphore(semaphore)]) => *self.semaphores.get_mut(semaphore)? += 1,
+            (Word::Wait, [Value::Semaphore(semaphore)]) => {
+                let count = self.semaphores.get_mut(semaphore)?;
+                *count = count.checked_sub(1)?;
+            }
             _ => return None,
         }
         Some(Value::Constant(0))
     }
 
-    /// A new identifier, cell or lock under an unused name.
+    /// A new identifier, cell, lock or semaphore under an unused name.
     fn create(&mut self, word: Word, operands: &[Value], name: Name) -> Option<Value> {
         if !self.unused(name) {
             return None;
@@ -137,6 +149,10 @@ impl State {
             (Word::Newlock, []) => {
                 self.locks.insert(name, LockState::Open);
                 Some(Value::Lock(name))
+            }
+            (Word::Newsem, []) => {
+                self.semaphores.insert(name, 0);
+                Some(Value::Semaphore(name))
             }
             _ => None,
         }

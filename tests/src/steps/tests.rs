@@ -70,6 +70,23 @@ fn join_takes_one_finished_thread_with_the_identifier() {
 }
 
 #[test]
+fn a_semaphore_counts_posts_and_waits() {
+    let posts = "let,0|newsem,0|let,1|post,0|var,0|let,2|post,0|var,0";
+    let both = run_first_thread(start(&format!("{posts}|let,3|wait,0|var,0|wait,0|var,0")));
+    assert_eq!((first_value(&both), both.semaphores[&1]), (Some(Value::Constant(0)), 0));
+    let third = run_first_thread(start(&format!("{posts}|let,3|wait,0|var,0|let,4|wait,0|var,0|wait,0|var,0")));
+    assert_eq!((first_value(&third), third.semaphores[&1]), (None, 0));
+    assert!(waits(&third, 0) && fault(&third).is_none());
+}
+
+#[test]
+fn a_new_semaphore_counts_0() {
+    let state = run_first_thread(start("wait,0|newsem,0"));
+    assert!(waits(&state, 0) && fault(&state).is_none());
+    assert_eq!(state.reduced(Move { thread: 0, part: 0, finished: 0, name: 2 }), None);
+}
+
+#[test]
 fn a_loop_may_end_at_once_or_go_round() {
     let state = start("while,0|newtid,0");
     let unrolled = state.reduced(state.moves(0)[0]).expect("a loop unrolls");

@@ -1,9 +1,11 @@
 """Who holds how much: one telling of a job, in the order in which its steps act.
 
 A sheet says what the thread at work has before and after each step. The telling keeps beside it what the other threads, the
-locks and the identifiers have. A new thread is told to its end where it is spawned; then its share is kept for its identifier,
-until a join takes it. Of an `if` both parts are told, each from what there was before it, and the telling goes on from the
-one after which others hold more; of a `while` one round is told.
+locks, the semaphores and the identifiers have. A new thread is told where it is spawned, to its end or until it has to wait;
+it is told on when the thread at work has to wait or has ended. If all of them wait, the first goes on as its row says, so that
+every step is told. The share of a thread that has ended is kept for its identifier, until a join takes it. Of an `if` both
+parts are told, each from what there was before it, and the telling goes on from the one after which others hold more; of a
+`while` one round is told.
 """
 from typing import NamedTuple
 
@@ -13,16 +15,18 @@ from ..words import KINDS
 # Steps that neither move rights nor touch a cell. The picture leaves them out unless one is refused.
 SILENT = {"var", "int", "let"}
 # Steps that make a thing which keeps rights.
-MAKERS = {"newlock", "newtid"}
+MAKERS = {"newlock", "newtid", "newsem"}
+# Steps that may have to wait.
+WAITS = {"join", "lock", "freelock", "wait"}
 
 
 class Holder(NamedTuple):
-    kind: str  # thread, lock or identifier
-    number: int  # the thread; else the line where the lock or identifier was made
+    kind: str  # thread, lock, sem or identifier
+    number: int  # the thread; else the line where the lock, semaphore or identifier was made
     owner: int = 0  # for an identifier, the thread whose share it keeps
 
     def thread(self):
-        """The thread whose share this is or was; None for a lock."""
+        """The thread whose share this is or was; None for a lock or a semaphore."""
         return {"thread": self.number, "identifier": self.owner}.get(self.kind)
 
 
@@ -40,41 +44,67 @@ class Telling:
         self.refused = explanation.site
         self.moments = []
         self.held = {Holder("thread", 0): explanation.sites.root.pre}
-        self._tell(explanation.sites.root)
+        self.counts = {}  # how often each lock or semaphore can be taken: an open lock once
+        self.waiting = []  # the threads that wait: at which step, and the rest of their telling
+        self._tell_threads(explanation.sites.root)
+
+    # ---- Threads: the telling of each stops at a step that may have to wait
+
+    def _tell_threads(self, root):
+        self._tell_on(self._tell(root))
+        while self.waiting:
+            open_now = [place for place, (site, _) in enumerate(self.waiting) if self._is_open(site)]
+            _, telling = self.waiting.pop(open_now[0] if open_now else 0)
+            self._tell_on(telling)
+
+    def _tell_on(self, telling):
+        """Tells a thread on, to its end or until it has to wait."""
+        for site in telling:
+            if not self._is_open(site):
+                self.waiting.append((site, telling))
+                return
+
+    def _is_open(self, site):
+        """Whether a step of WAITS can go ahead now."""
+        if not self._has_load(site):
+            return True
+        return bool(self._finished(site)) if site.word == "join" else self.counts.get(self._keeper(site), 1) > 0
 
     # ---- One step: its parts, then itself
 
     def _tell(self, site):
         if site.word == "if":
-            self._tell_choice(site)
+            yield from self._tell_choice(site)
             return
         if site.word == "while":
             self._act(site)
         for name, part in site.parts.items():
             if site.word == "spawn" and name == "e2":
-                self._tell_body(site, part)
+                self._tell_on(self._tell_body(site, part))
             else:
-                self._tell(part)
+                yield from self._tell(part)
+        if site.word in WAITS:
+            yield site
         if site.word == "while":
             self._set(Holder("thread", site.thread), site.post)
         elif site.word != "spawn":
             self._act(site)
 
     def _tell_choice(self, site):
-        own, before, ends = Holder("thread", site.thread), self.held, []
+        own, before, ends = Holder("thread", site.thread), (self.held, self.counts), []
         self._remember(site)
         for part in site.parts.values():
-            self.held = dict(before)
-            self._tell(part)
-            ends.append(self.held)
-        self.held = max(ends, key=lambda held: sum(sum(numbers) for holder, numbers in held.items() if holder != own))
+            self.held, self.counts = map(dict, before)
+            yield from self._tell(part)
+            ends.append((self.held, self.counts))
+        self.held, self.counts = max(ends, key=lambda end: sum(sum(had) for holder, had in end[0].items() if holder != own))
         self._set(own, site.post)
 
     def _tell_body(self, site, body):
         own = Holder("thread", site.body)
         self._set(own, site.start)
         self._act(site)
-        self._tell(body)
+        yield from self._tell(body)
         self.held.pop(own, None)
         identifier = self._made_at(site.parts["e1"])
         if self._has_load(site):
@@ -84,7 +114,8 @@ class Telling:
         """The step's own effect: on the thread as its row says, on others by its word."""
         self._set(Holder("thread", site.thread), site.post)
         effect = {
-            "newlock": self._gains, "unlock": self._gains, "lock": self._loses, "freelock": self._loses, "join": self._joined,
+            "newlock": self._opens, "unlock": self._opens, "lock": self._takes, "freelock": self._takes, "join": self._joined,
+            "newsem": self._counts_none, "post": self._counts_up, "wait": self._takes,
         }.get(site.word)
         if effect and self._has_load(site):
             effect(site, self.split.load(acted_on(site).type))
@@ -94,21 +125,35 @@ class Telling:
         if site.word not in SILENT or site is self.refused:
             self.moments.append(Moment(site, {holder: numbers for holder, numbers in self.held.items() if any(numbers)}))
 
-    # ---- Effects on locks and identifiers
+    # ---- Effects on locks, semaphores and identifiers
 
-    def _gains(self, site, load):
-        lock = Holder("lock", self._made_at(acted_on(site)))
-        self._set(lock, tuple(a + b for a, b in zip(self._of(lock), load)))
+    def _opens(self, site, load):
+        self._keeps(self._keeper(site), 1, load)
 
-    def _loses(self, site, load):
-        lock = Holder("lock", self._made_at(acted_on(site)))
-        self._set(lock, tuple(max(0, a - b) for a, b in zip(self._of(lock), load)))
+    def _counts_none(self, site, _load):
+        self.counts[self._keeper(site)] = 0
+
+    def _counts_up(self, site, load):
+        semaphore = self._keeper(site)
+        self._keeps(semaphore, self.counts.get(semaphore, 0) + 1, load)
+
+    def _keeps(self, keeper, count, load):
+        self.counts[keeper] = count
+        self._set(keeper, tuple(a + b for a, b in zip(self._of(keeper), load)))
+
+    def _takes(self, site, load):
+        keeper = self._keeper(site)
+        self.counts[keeper] = max(0, self.counts.get(keeper, 1) - 1)
+        self._set(keeper, tuple(max(0, a - b) for a, b in zip(self._of(keeper), load)))
 
     def _joined(self, site, _load):
+        for holder in self._finished(site)[:1]:
+            self.held.pop(holder)
+
+    def _finished(self, site):
+        """The shares that wait for a join on this identifier."""
         identifier = self._made_at(acted_on(site))
-        waiting = [holder for holder in self.held if holder.kind == "identifier" and holder.number == identifier]
-        if waiting:
-            self.held.pop(waiting[0])
+        return [holder for holder in self.held if holder.kind == "identifier" and holder.number == identifier]
 
     # ---- What is held, and what a part stands for
 
@@ -118,11 +163,16 @@ class Telling:
     def _set(self, holder, numbers):
         self.held[holder] = numbers
 
+    def _keeper(self, site):
+        """The lock or semaphore that a step makes or names. A step that is refused may name another kind of thing."""
+        named = acted_on(site)
+        return Holder("sem" if self.split.types[named.type].kind == "sem" else "lock", self._made_at(named))
+
     def _has_load(self, site):
         return KINDS[self.split.types[acted_on(site).type].kind].fields[0] == "load"
 
     def _made_at(self, site):
-        """The line where the lock or identifier that a part stands for was made, as far as the sheets show it."""
+        """The line where the lock, semaphore or identifier that a part stands for was made, as far as the sheets show it."""
         made = _origin(site)
         if made.word in MAKERS:
             return made.line

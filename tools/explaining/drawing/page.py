@@ -6,7 +6,7 @@ from ..refusals import REFUSALS
 from ..telling import alarm, condition_line, maps_of
 from ..walk import strides
 from .holders import Holder
-from .picture import LOCK, Picture, colour_of, fill_of, patterns
+from .picture import Picture, colour_of, fill_of, patterns
 
 FEW = 3  # locations whose fractions fit on one line of the walk
 
@@ -92,6 +92,8 @@ def _legend(picture):
     rows = [(_swatch(Holder("thread", thread)), escape(picture.holder_name(Holder("thread", thread)))) for thread in threads]
     if "lock" in kinds:
         rows.append((_swatch(Holder("lock", 0)), "kept in a lock that is open"))
+    if "sem" in kinds:
+        rows.append((_swatch(Holder("sem", 0)), "kept in a semaphore: its count times what a wait gets"))
     if "identifier" in kinds:
         owner = next(holder.owner for holder in picture.holders if holder.kind == "identifier")
         rows.append((_swatch(Holder("identifier", 0, owner)), "kept for an identifier: that thread's share until it is joined"))
@@ -105,11 +107,7 @@ def _legend(picture):
 
 
 def _swatch(holder):
-    return _mark(f'<rect x="1" y="1" width="24" height="14" fill="{fill_of(holder)}" stroke="{_edge(holder)}"/>')
-
-
-def _edge(holder):
-    return LOCK if holder.kind == "lock" else colour_of(holder)
+    return _mark(f'<rect x="1" y="1" width="24" height="14" fill="{fill_of(holder)}" stroke="{colour_of(holder)}"/>')
 
 
 def _mark(shape):

@@ -19,7 +19,9 @@ LETTER, BOLD = 5.9, 6.8  # generous widths of a letter of 12 pixels
 
 # Colours that stay apart for most eyes and in grey; red is kept for the refusal.
 THREADS = ["#2f6db3", "#b8720a", "#23805f", "#8e52a1", "#b54a80", "#1c88a8", "#66751f", "#7a5c2e"]
-LOCK = "#8b8f99"
+# What keeps rights and is no thread: its fill, and what it is called if no variable has it.
+KEPT = "#8b8f99"
+KEEPERS = {"lock": "lock", "sem": "semaphore"}
 
 
 class Span(NamedTuple):
@@ -33,13 +35,14 @@ class Span(NamedTuple):
 
 
 def colour_of(holder):
-    return LOCK if holder.kind == "lock" else THREADS[holder.thread() % len(THREADS)]
+    return KEPT if holder.kind in KEEPERS else THREADS[holder.thread() % len(THREADS)]
 
 
 def fill_of(holder):
     """The colour of a running thread, else the pattern that patterns() makes for such a holder."""
-    kept = {"lock": "lock", "identifier": f"identifier-{holder.owner % len(THREADS)}"}
-    return colour_of(holder) if holder.kind == "thread" else f"url(#{kept[holder.kind]})"
+    if holder.kind == "thread":
+        return colour_of(holder)
+    return f"url(#{holder.kind})" if holder.kind in KEEPERS else f"url(#identifier-{holder.owner % len(THREADS)})"
 
 
 class Picture:
@@ -149,16 +152,16 @@ class Picture:
         return pieces
 
     def holder_name(self, holder):
-        if holder.kind == "lock":
-            return self._made_name(holder.number)
+        if holder.kind in KEEPERS:
+            return self._made_name(holder)
         return self.names.thread_label(holder.thread())
 
-    def _made_name(self, line):
-        """A lock's name: that of the variable that its let binds, or its line."""
+    def _made_name(self, keeper):
+        """A lock's or semaphore's name: that of the variable that its let binds, or its line."""
         for site in self.sites.all:
-            if site.word == "let" and site.parts["e1"].line == line:
+            if site.word == "let" and site.parts["e1"].line == keeper.number:
                 return self.names.variable(site.number)
-        return f"lock of line {line}"
+        return f"{KEEPERS[keeper.kind]} of line {keeper.number}"
 
     # ---- What a step touches, and what was refused
 
@@ -196,15 +199,21 @@ def text(kind, x, y, words, room, anchor="start", letter=LETTER):
 
 
 def patterns():
-    """The fills of what no running thread has: a lock's is cross-hatched, a kept share is striped in its thread's colour."""
-    lock = (
-        f'<pattern id="lock" width="8" height="8" patternUnits="userSpaceOnUse"><rect width="8" height="8" fill="#e4e5e9"/>'
-        f'<path d="M0 8L8 0M-2 2L2 -2M6 10L10 6" stroke="{LOCK}" stroke-width="1.4"/></pattern>'
-    )
+    """The fills of what no running thread has: a lock's is hatched, a semaphore's dotted, a kept share striped in its thread's
+    colour."""
+    marks = {
+        "lock": f'<path d="M0 8L8 0M-2 2L2 -2M6 10L10 6" stroke="{KEPT}" stroke-width="1.4"/>',
+        "sem": f'<circle cx="4" cy="4" r="1.8" fill="{KEPT}"/>',
+    }
+    keepers = [
+        f'<pattern id="{kind}" width="8" height="8" patternUnits="userSpaceOnUse"><rect width="8" height="8" fill="#e4e5e9"/>'
+        f"{mark}</pattern>"
+        for kind, mark in marks.items()
+    ]
     kept = [
         f'<pattern id="identifier-{number}" width="9" height="9" patternUnits="userSpaceOnUse">'
         f'<rect width="9" height="9" fill="#fff"/><rect width="9" height="9" fill="{colour}" opacity="0.25"/>'
         f'<path d="M0 0L9 9M-2 7L2 11M7 -2L11 2" stroke="{colour}" stroke-width="2"/></pattern>'
         for number, colour in enumerate(THREADS)
     ]
-    return f"<defs>{lock}{''.join(kept)}</defs>"
+    return f"<defs>{''.join(keepers + kept)}</defs>"

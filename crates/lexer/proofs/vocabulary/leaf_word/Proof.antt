@@ -63,17 +63,38 @@ returns-4 c =
     (skip _ _ _ (sym (c3 .before .same3 .ensures) ∙ c3 .if3 .left)
     (hit _ _ _ (sym (c .before .same4 .ensures) ∙ c .if4 .taken))))
 
+slice-aggregate-same-5 : tie.Need-slice-aggregate-same-5
+slice-aggregate-same-5 c = search needs
+
+same-requires-5 : tie.Need-same-requires-5
+same-requires-5 c κs = search needs
+
 returns-5 : tie.Need-returns-5
 unfolding leafWords bytes
 returns-5 c =
-    let c3 = c .before .before .before in
+    let c4 = c .before .before .before in
+    let c3 = c4 .before .before .before in
     let c2 = c3 .before .before .before in
     let c1 = c2 .before .before .before in
     skip _ _ _ (sym (c1 .before .same .ensures) ∙ c1 .if1 .left)
     (skip _ _ _ (sym (c2 .before .same2 .ensures) ∙ c2 .if2 .left)
     (skip _ _ _ (sym (c3 .before .same3 .ensures) ∙ c3 .if3 .left)
-    (skip _ _ _ (sym (c .before .same4 .ensures) ∙ c .if4 .left)
-    (none-left _))))
+    (skip _ _ _ (sym (c4 .before .same4 .ensures) ∙ c4 .if4 .left)
+    (hit _ _ _ (sym (c .before .same5 .ensures) ∙ c .if5 .taken)))))
+
+returns-6 : tie.Need-returns-6
+unfolding leafWords bytes
+returns-6 c =
+    let c4 = c .before .before .before in
+    let c3 = c4 .before .before .before in
+    let c2 = c3 .before .before .before in
+    let c1 = c2 .before .before .before in
+    skip _ _ _ (sym (c1 .before .same .ensures) ∙ c1 .if1 .left)
+    (skip _ _ _ (sym (c2 .before .same2 .ensures) ∙ c2 .if2 .left)
+    (skip _ _ _ (sym (c3 .before .same3 .ensures) ∙ c3 .if3 .left)
+    (skip _ _ _ (sym (c4 .before .same4 .ensures) ∙ c4 .if4 .left)
+    (skip _ _ _ (sym (c .before .same5 .ensures) ∙ c .if5 .left)
+    (none-left _)))))
 
 pub leaf-word-spec : {M : Type 1} → statement M
 leaf-word-spec =
@@ -91,4 +112,7 @@ leaf-word-spec =
     slice-aggregate-same-4
     same-requires-4
     returns-4
-    returns-5)
+    slice-aggregate-same-5
+    same-requires-5
+    returns-5
+    returns-6)

@@ -56,13 +56,29 @@ returns-4 c =
     let c1 = c2 .before .before .before in
     sym (rw (sym (c1 .before .same .ensures) ∙ c1 .if1 .left, sym (c2 .before .same2 .ensures) ∙ c2 .if2 .left, sym (c3 .before .same3 .ensures) ∙ c3 .if3 .left, sym (c .before .same4 .ensures) ∙ c .if4 .taken))
 
+slice-aggregate-same-5 : tie.Need-slice-aggregate-same-5
+slice-aggregate-same-5 c = search needs
+
+same-requires-5 : tie.Need-same-requires-5
+same-requires-5 c κs = search needs
+
 returns-5 : tie.Need-returns-5
 unfolding typeWordOf bytes
 returns-5 c =
-    let c3 = c .before .before .before in
+    let c4 = c .before .before .before in
+    let c3 = c4 .before .before .before in
     let c2 = c3 .before .before .before in
     let c1 = c2 .before .before .before in
-    sym (rw (sym (c1 .before .same .ensures) ∙ c1 .if1 .left, sym (c2 .before .same2 .ensures) ∙ c2 .if2 .left, sym (c3 .before .same3 .ensures) ∙ c3 .if3 .left, sym (c .before .same4 .ensures) ∙ c .if4 .left))
+    sym (rw (sym (c1 .before .same .ensures) ∙ c1 .if1 .left, sym (c2 .before .same2 .ensures) ∙ c2 .if2 .left, sym (c3 .before .same3 .ensures) ∙ c3 .if3 .left, sym (c4 .before .same4 .ensures) ∙ c4 .if4 .left, sym (c .before .same5 .ensures) ∙ c .if5 .taken))
+
+returns-6 : tie.Need-returns-6
+unfolding typeWordOf bytes
+returns-6 c =
+    let c4 = c .before .before .before in
+    let c3 = c4 .before .before .before in
+    let c2 = c3 .before .before .before in
+    let c1 = c2 .before .before .before in
+    sym (rw (sym (c1 .before .same .ensures) ∙ c1 .if1 .left, sym (c2 .before .same2 .ensures) ∙ c2 .if2 .left, sym (c3 .before .same3 .ensures) ∙ c3 .if3 .left, sym (c4 .before .same4 .ensures) ∙ c4 .if4 .left, sym (c .before .same5 .ensures) ∙ c .if5 .left))
 
 pub type-word-spec : {M : Type 1} → statement M
 type-word-spec =
@@ -80,4 +96,7 @@ type-word-spec =
     slice-aggregate-same-4
     same-requires-4
     returns-4
-    returns-5)
+    slice-aggregate-same-5
+    same-requires-5
+    returns-5
+    returns-6)

@@ -1,11 +1,11 @@
 -- Each kind with itself and with any other.
 use borrow.Author.Needs.{needs}
 use mathlib.Core.Path.{sym, ap}
-use Rattle.spec.specs.Conditions.{isInt, isRef, isLock, isTid, load}
+use Rattle.spec.specs.Conditions.{isInt, isRef, isLock, isTid, isSem, load}
 use Rattle.spec.specs.Sites.{judge}
 use Rattle.rules.specs.Outcome.{outcome}
 use Rattle.rules.specs.Agreement.{linesAgree}
-use Rattle.rules.proofs.TypeKinds.{not-int, not-lock, not-tid}
+use Rattle.rules.proofs.TypeKinds.{not-int, not-lock, not-tid, not-sem}
 use Rattle.rules.proofs.Agreement.{judged-as, no-contents}
 use Rattle.rules.proofs.conditions.agree_plain.Statement.{statement}
 use Rattle.rules.proofs.conditions.agree_plain.Tie as tie
@@ -61,21 +61,41 @@ returns-3 c = rw (c .before .before .before .kind2 .given .1, not-tid _ (c .befo
 same-maps-requires-2 : tie.Need-same-maps-requires-2
 same-maps-requires-2 c κs = search needs
 
+enum-known-kind-3 : tie.Need-enum-known-kind-3
+enum-known-kind-3 c = search needs
+
+enum-known-other-3 : tie.Need-enum-known-other-3
+enum-known-other-3 c = search needs
+
+type-false-requires-5 : tie.Need-type-false-requires-5
+type-false-requires-5 c κs = search needs
+
 returns-4 : tie.Need-returns-4
-unfolding linesAgree isInt outcome judge
-returns-4 c = rw (c .before .before .enum-told .given .1, c .enum-told2 .given .1)
+unfolding linesAgree
+returns-4 c = rw (c .before .before .before .kind3 .given .1, not-sem _ (c .before .match5 .keys2)) (c .type-false5 .ensures)
+
+same-maps-requires-3 : tie.Need-same-maps-requires-3
+same-maps-requires-3 c κs = search needs
 
 returns-5 : tie.Need-returns-5
-unfolding isRef
-returns-5 c = judged-as _ _ (c .type-false2 .ensures) (sym (no-contents _ _ _ _ (ap isRef (c .before .enum-told3 .given .1))))
+unfolding linesAgree isInt outcome judge
+returns-5 c = rw (c .before .before .enum-told .given .1, c .enum-told2 .given .1)
 
 returns-6 : tie.Need-returns-6
-unfolding linesAgree isLock load
-returns-6 c = rw (c .before .before .before .before .before .kind .given .1, c .before .before .other .given .1) (c .same-maps .ensures)
+unfolding isRef
+returns-6 c = judged-as _ _ (c .type-false2 .ensures) (sym (no-contents _ _ _ _ (ap isRef (c .before .enum-told3 .given .1))))
 
 returns-7 : tie.Need-returns-7
+unfolding linesAgree isLock load
+returns-7 c = rw (c .before .before .before .before .before .kind .given .1, c .before .before .other .given .1) (c .same-maps .ensures)
+
+returns-8 : tie.Need-returns-8
 unfolding linesAgree isTid load
-returns-7 c = rw (c .before .before .before .before .before .kind2 .given .1, c .before .before .other2 .given .1) (c .same-maps2 .ensures)
+returns-8 c = rw (c .before .before .before .before .before .kind2 .given .1, c .before .before .other2 .given .1) (c .same-maps2 .ensures)
+
+returns-9 : tie.Need-returns-9
+unfolding linesAgree isSem load
+returns-9 c = rw (c .before .before .before .before .before .kind3 .given .1, c .before .before .other3 .given .1) (c .same-maps3 .ensures)
 
 pub agree-plain-spec : {M : Type 1} → statement M
 agree-plain-spec =
@@ -97,7 +117,13 @@ agree-plain-spec =
     type-false-requires-4
     returns-3
     same-maps-requires-2
+    enum-known-kind-3
+    enum-known-other-3
+    type-false-requires-5
     returns-4
+    same-maps-requires-3
     returns-5
     returns-6
-    returns-7)
+    returns-7
+    returns-8
+    returns-9)

@@ -93,6 +93,24 @@ enum-told-15 c = search needs
 check-ulck-requires : tie.Need-check-ulck-requires
 check-ulck-requires c κs = search needs
 
+enum-told-16 : tie.Need-enum-told-16
+enum-told-16 c = search needs
+
+check-newsem-requires : tie.Need-check-newsem-requires
+check-newsem-requires c κs = search needs
+
+enum-told-17 : tie.Need-enum-told-17
+enum-told-17 c = search needs
+
+check-post-requires : tie.Need-check-post-requires
+check-post-requires c κs = search needs
+
+enum-told-18 : tie.Need-enum-told-18
+enum-told-18 c = search needs
+
+check-wait-requires : tie.Need-check-wait-requires
+check-wait-requires c κs = search needs
+
 returns : tie.Need-returns
 unfolding ruleRow
 returns c = rw (c .before .enum-told .given .1) (c .check-var .ensures)
@@ -153,6 +171,18 @@ returns-15 : tie.Need-returns-15
 unfolding ruleRow
 returns-15 c = rw (c .before .enum-told15 .given .1) (c .check-ulck .ensures)
 
+returns-16 : tie.Need-returns-16
+unfolding ruleRow
+returns-16 c = rw (c .before .enum-told16 .given .1) (c .check-newsem .ensures)
+
+returns-17 : tie.Need-returns-17
+unfolding ruleRow
+returns-17 c = rw (c .before .enum-told17 .given .1) (c .check-post .ensures)
+
+returns-18 : tie.Need-returns-18
+unfolding ruleRow
+returns-18 c = rw (c .before .enum-told18 .given .1) (c .check-wait .ensures)
+
 pub check-rule-spec : {M : Type 1} → statement M
 check-rule-spec =
     tie.close
@@ -187,6 +217,12 @@ check-rule-spec =
     check-lck-requires
     enum-told-15
     check-ulck-requires
+    enum-told-16
+    check-newsem-requires
+    enum-told-17
+    check-post-requires
+    enum-told-18
+    check-wait-requires
     returns
     returns-2
     returns-3
@@ -201,4 +237,7 @@ check-rule-spec =
     returns-12
     returns-13
     returns-14
-    returns-15)
+    returns-15
+    returns-16
+    returns-17
+    returns-18)

@@ -1,0 +1,27 @@
+use mathlib.Core.Path.{ap}
+use Rattle.spec.specs.Conditions.{isSem}
+use Rattle.rules.proofs.Judged.{last, pass, fail}
+use Rattle.rules.proofs.TypeKinds.{not-sem}
+use borrow.Author.Needs.{needs}
+use Rattle.rules.proofs.words.check_newsem.Statement.{statement}
+use Rattle.rules.proofs.words.check_newsem.Tie as tie
+
+enum-told : tie.Need-enum-told
+enum-told c = search needs
+
+type-false-requires : tie.Need-type-false-requires
+type-false-requires c κs = search needs
+
+returns : tie.Need-returns
+returns c = fail _ _ _ _ (not-sem _ (c .before .match .keys2)) (c .type-false .ensures)
+
+equal-requires : tie.Need-equal-requires
+equal-requires c κs = search needs
+
+returns-2 : tie.Need-returns-2
+unfolding isSem
+returns-2 c = pass _ _ _ _ (ap isSem (c .before .enum-told .given .1)) (last _ _ _ (c .equal .ensures))
+
+pub check-newsem-spec : {M : Type 1} → statement M
+check-newsem-spec =
+    tie.close (tie.spec enum-told type-false-requires returns equal-requires returns-2)
