@@ -8,7 +8,7 @@ use std::collections::BTreeMap;
 use std::fmt;
 
 /// Every number that an answer can have.
-pub const NUMBERS: [u32; 16] = [0, 1, 10, 11, 12, 13, 14, 15, 20, 21, 22, 23, 30, 31, 32, 33];
+pub const NUMBERS: [u32; 17] = [0, 1, 10, 11, 12, 13, 14, 15, 20, 21, 22, 23, 40, 30, 31, 32, 33];
 
 /// How line 1 of a split can open.
 const HEADINGS: [&str; 2] = ["C", "C2"];

@@ -83,7 +83,7 @@ def _refused(explanation, program, split, line, condition, location):
         _condition_finding(explanation, line, condition, location)
         return
     explanation.causes += causes.line_causes(sheet, line) if sheet else []
-    if explanation.number in (21, 22, 23) and line > 1:
+    if explanation.number in (21, 22, 23, 40) and line > 1:
         explanation.causes += causes.version_causes(program, split, lines_wanted(program, split))
     explanation.numbers.append(text_finding(explanation.number, line, program, split))
 

@@ -1,4 +1,4 @@
-"""The forms and ranges of the lines of both sheets: why a line is refused with 11, 12, 21 or 22."""
+"""The forms and ranges of the lines of both sheets: why a line is refused with 11, 12, 21, 22 or 40."""
 import re
 from typing import NamedTuple
 
@@ -54,10 +54,11 @@ class Optional(NamedTuple):
     """A field that is empty or a number."""
 
     range: Range
+    lacking: str = ""  # why it may not be empty after all, which is judged after the line's ranges
 
 
 class Fault(NamedTuple):
-    kind: str  # form or range
+    kind: str  # form, range or lack
     why: str
 
 
@@ -77,14 +78,16 @@ def program_fields(number, fields):
 
 
 class Counts(NamedTuple):
+    heading: str
     locations: int
     types: int
     maps: int
 
 
 def counts_of(header):
-    """The counts on a split's first line, which is known to be of its form and in range."""
-    return Counts(*map(int, header.split(b",")[2:5]))
+    """The heading and counts of a split's first line, which is known to be of its form and in range."""
+    heading, _, *counts = header.split(b",")
+    return Counts(heading.decode("ascii"), *map(int, counts[:3]))
 
 
 def split_fields(number, fields, counts, words):
@@ -97,7 +100,8 @@ def split_fields(number, fields, counts, words):
         return [IN_A_MAP] * counts.locations
     word = words[number - 2 - counts.types - counts.maps]
     a_map = numbered("a map", counts.maps)
-    last = Optional(a_map) if word == "spawn" else Absent(f"the last field on `{word}`, which is no spawn,")
+    lacking = "the last field is empty: a `C` sheet has to say what the new thread starts with" if counts.heading == "C" else ""
+    last = Optional(a_map, lacking) if word == "spawn" else Absent(f"the last field on `{word}`, which is no spawn,")
     return [numbered("a type", counts.types), a_map, last]
 
 
@@ -125,8 +129,8 @@ def _type_fields(own, fields, counts):
 
 
 def fault(line, wanted):
-    """The first fault of a line: form before range, as document 01 orders them."""
-    return _form_fault(line, wanted) or _range_fault(line, wanted)
+    """The first fault of a line: form before range, as document 01 orders them, then a number that lacks."""
+    return _form_fault(line, wanted) or _range_fault(line, wanted) or _lack(line, wanted)
 
 
 def _form_fault(line, wanted):
@@ -150,6 +154,13 @@ def _range_fault(line, wanted):
         ranged = want.range if isinstance(want, Optional) and field else want
         if isinstance(ranged, Range) and not ranged.low <= int(field) <= ranged.high:
             return Fault("range", _outside(ranged, int(field)))
+    return None
+
+
+def _lack(line, wanted):
+    for field, want in zip(line.text.split(b","), wanted):
+        if isinstance(want, Optional) and not field and want.lacking:
+            return Fault("lack", want.lacking)
     return None
 
 

@@ -69,6 +69,9 @@ REFUSALS = {
     38: Refusal(
         "an output buffer is shorter than its text", "caller of the library", None,
         "lend buffers of 1,725 and 1,613 bytes, which are always enough"),
+    40: Refusal(
+        "a spawn does not say what its thread starts with", "owner of the solver", SPLIT,
+        "write the map that the new thread starts with in the last field of that row: 0 for map 0"),
 }
 
 # What only a caller of the library sees: no pair of sheets leads to these.

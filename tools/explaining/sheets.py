@@ -73,8 +73,8 @@ class Split(NamedTuple):
         return self.maps[self.start]
 
     def body_start(self, row):
-        """The map that a spawn's body starts with. An empty field means map 0."""
-        return self.maps[row.start or 0]
+        """The map that a spawn's body starts with. An empty field means nothing of any location."""
+        return (0,) * self.locations if row.start is None else self.maps[row.start]
 
     def load(self, number):
         """The map in a lock or tid type: document 01's K."""

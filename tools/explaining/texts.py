@@ -1,4 +1,4 @@
-"""Refusals of a sheet's text, 10 to 15 and 20 to 23: the sentence that says what is wrong, with this pair's numbers."""
+"""Refusals of a sheet's text, 10 to 15, 20 to 23 and 40: the sentence that says what is wrong, with this pair's numbers."""
 from . import forms
 from .disagreement import Disagreement, require
 from .sheets import steps_of
@@ -23,7 +23,7 @@ def text_finding(number, line, program, split):
 
 
 def _line_fault(number, line, sheet, program):
-    kind = "form" if number in (11, 21) else "range"
+    kind = {11: "form", 21: "form", 12: "range", 22: "range", 40: "lack"}[number]
     if not sheet.text:
         require((kind, line) == ("form", 1), f"{sheet.name} is empty")
         return "there is no line 1"

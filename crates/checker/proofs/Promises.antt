@@ -12,7 +12,7 @@ use Rattle.spec.specs.Accepted.{Right}
 use Rattle.spec.specs.declared.Answer.{Answer}
 use Rattle.spec.specs.declared.Answer.the-variants.{Accept, Refuse}
 use Rattle.spec.specs.declared.Refusal.{Refusal}
-use Rattle.spec.specs.declared.Refusal.the-variants.{ShortWorkspace, LongProgram, ProgramForm, ProgramRange, ProgramLines, Unbound, Rebound, LongSplit, SplitForm, SplitRange, SplitLines, OverOne, TypeFalse, FlowFalse, AccessFalse}
+use Rattle.spec.specs.declared.Refusal.the-variants.{ShortWorkspace, LongProgram, ProgramForm, ProgramRange, ProgramLines, Unbound, Rebound, LongSplit, SplitForm, SplitRange, SplitLines, NoStart, OverOne, TypeFalse, FlowFalse, AccessFalse}
 use Rattle.spec.proofs.Clashes.{true-is-not-false}
 use Rattle.spec.proofs.Accepted.{accepted-is-right, right-is-accepted}
 use Rattle.spec.proofs.FirstFalse.{refusal-names-first-false}
@@ -36,6 +36,7 @@ refusal-number LongSplit = omega arith
 refusal-number (SplitForm k) = omega arith
 refusal-number (SplitRange k) = omega arith
 refusal-number (SplitLines k) = omega arith
+refusal-number (NoStart k) = omega arith
 refusal-number (OverOne k l) = omega arith
 refusal-number (TypeFalse k i) = omega arith
 refusal-number (FlowFalse k i l) = omega arith

@@ -32,6 +32,7 @@ fn refusal_numbers(r: Refusal) -> Returned
         Refusal::SplitForm(k) => four(21, k, 0, 0),
         Refusal::SplitRange(k) => four(22, k, 0, 0),
         Refusal::SplitLines(k) => four(23, k, 0, 0),
+        Refusal::NoStart(k) => four(40, k, 0, 0),
         Refusal::OverOne {
             line: k,
             location: l,

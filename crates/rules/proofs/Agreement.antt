@@ -36,7 +36,7 @@ use Rattle.rules.specs.Agreement.{content, sameNumbersIn, linesAgree, ag
 use Rattle.rules.specs.Table.{containsIn}
 use Rattle.rules.specs.declared.Ruling.{Ruling}
 use Rattle.rules.specs.declared.Ruling.the-variants.{Met, Refused}
-use Rattle.rules.proofs.Shown.{type-shown, load-in, equal-shown}
+use Rattle.rules.proofs.Shown.{type-shown, load-in, map-stands, equal-shown}
 
 -- ------------------------------------------------------------------ conditions on types
 
@@ -136,7 +136,7 @@ module _ (w : List ℕ) (S : Split) (steps : List Step) (H : HoldsSplit w S) (R 
   same-numbers-shown : (k h : MapNumber) → k .0 < length (S .maps) → h .0 < length (S .maps)
       → sameNumbersIn w n k h ≡ sameNumbers (mapAt S k) (mapAt S h)
   unfolding sameNumbersIn sameNumbers
-  same-numbers-shown k h p q = rw (located, equal-shown w S steps H R k h p q)
+  same-numbers-shown k h p q = rw (located, equal-shown w S steps H R (map-stands w S steps H R k p) (map-stands w S steps H R h q))
 
   -- lines whose contents and maps are shown
   lines-shown : (all : List Tree) (f : TypeNumber → TypeNumber → Bool) (x y : TypeLine)

@@ -1,36 +1,71 @@
 -- One step of an expression that the work space holds: its conditions are document 01's, and what it hands down to its parts
 -- are the maps before them.
-use mathlib.Core.Path.{_≡_, refl, ap, _∙_}
+use mathlib.Core.Path.{_≡_, refl, ap}
 use mathlib.Core.Logic.{inl, inr}
 use mathlib.Core.List.{List}
 use Prim.Native.Nat.{ℕ, _+_, _<_, _≤_}
 use native.Mathlib.Omega.{arith}
 use lib.ListN.{length, getD, length-map}
 use Rattle.spec.specs.Expression.{Step, Expr, leaf, unary, binary, size}
-use Rattle.spec.specs.Split.{Row, Split}
-use Rattle.spec.specs.Conditions.{Env, mapAt, row, own}
+use Rattle.spec.specs.Split.{Map, Row, Split}
+use Rattle.spec.specs.Conditions.{Env, post, start, own}
 use Rattle.spec.specs.Sites.{preOfPart, preOfSecond, claimsAt, firstFalse}
 use Rattle.spec.specs.Ranges.{InRange}
 use Rattle.spec.specs.declared.MapNumber.{MapNumber}
 use Rattle.spec.specs.declared.Word.the-variants.{Leaf, Unary, Binary}
 use Rattle.spec.specs.declared.LeafWord.{LeafWord}
 use Rattle.spec.specs.declared.UnaryWord.{UnaryWord}
+use Rattle.spec.specs.declared.UnaryWord.the-variants.{While, Join, Ref, Read, Freelock, Lock, Unlock, Post, Wait}
 use Rattle.spec.specs.declared.BinaryWord.{BinaryWord}
+use Rattle.spec.specs.declared.BinaryWord.the-variants.{Let, If, Spawn, Write}
 use Rattle.workspace.specs.Layout as layout
-use Rattle.workspace.specs.Layout.{wordsAt, postsAt, presAt, ruleOf}
+use Rattle.workspace.specs.Layout.{wordsAt, postsAt, startsAt, presAt, ruleOf}
 use Rattle.workspace.specs.Region.{ChangedWithin}
-use Rattle.workspace.specs.Holds.{HoldsSplit}
+use Rattle.workspace.specs.Holds.{HoldsSplit, startNumber}
 use Rattle.spec.proofs.Listing.{size-positive}
 use Rattle.workspace.proofs.Region.{region-kept}
 use Rattle.workspace.proofs.Codes.{word-of-code}
 use Rattle.rules.specs.Outcome.{judged}
 use Rattle.rules.specs.Table.{ruleRow}
-use Rattle.rules.specs.Walk.{cell, viewOf, stepOutcome, putPre, passWord, passOn}
-use Rattle.rules.proofs.Shown.{row-post, row-start}
+use Rattle.rules.specs.Walk.{cell, viewOf, stepOutcome, putPre, numberOfPart, numberOfSecond, passWord, passOn}
+use Rattle.rules.proofs.Shown.{Stands, post-at, start-at}
 use Rattle.rules.proofs.TableRows.{leaf-shown, unary-shown, binary-shown}
 use Rattle.rules.proofs.Here.{Here, here-line, leaf-code, unary-code, binary-code, here-part, here-first, here-second, here-second-at}
 use Rattle.rules.proofs.Scopes.{Scoped}
-use Rattle.rules.proofs.Views.{map-number, row-start-in, own-part, first-part, second-part, started, bound-shown}
+use Rattle.rules.proofs.Views.{own-part, first-part, second-part, started, bound-shown}
+
+-- the numbers of the maps before step k and before its parts
+abbrev pub preNumber : (w : List ℕ) (k : ℕ) → MapNumber
+preNumber w k = record { 0 = cell w presAt k }
+
+abbrev pub partNumber : (w : List ℕ) (k : ℕ) → UnaryWord → MapNumber
+partNumber w k x = numberOfPart x (preNumber w k) (record { 0 = cell w postsAt k })
+
+abbrev pub secondNumber : (w : List ℕ) (k : ℕ) → BinaryWord → MapNumber
+secondNumber w k x =
+    numberOfSecond x (preNumber w k) (record { 0 = cell w (postsAt + 1) k }) (record { 0 = cell w startsAt k })
+
+-- handed down by number or as maps, they are the same
+of-part : {w : List ℕ} {S : Split} {a b : MapNumber} {pre post : Map} (x : UnaryWord) → Stands w S a pre → Stands w S b post
+    → Stands w S (numberOfPart x a b) (preOfPart x pre post)
+unfolding numberOfPart preOfPart
+of-part While p q = q
+of-part Join p q = p
+of-part Ref p q = p
+of-part Read p q = p
+of-part Freelock p q = p
+of-part Lock p q = p
+of-part Unlock p q = p
+of-part Post p q = p
+of-part Wait p q = p
+
+of-second : {w : List ℕ} {S : Split} {a b c : MapNumber} {pre post₁ start : Map} (x : BinaryWord) → Stands w S a pre
+    → Stands w S b post₁ → Stands w S c start → Stands w S (numberOfSecond x a b c) (preOfSecond x pre post₁ start)
+unfolding numberOfSecond preOfSecond
+of-second Let p q r = q
+of-second If p q r = p
+of-second Spawn p q r = r
+of-second Write p q r = q
 
 module _ (S : Split) (steps : List Step) (R : InRange steps S) (few : length (S .rows) ≤ 256) where
   -- the split stays where only maps before steps are changed
@@ -40,18 +75,18 @@ module _ (S : Split) (steps : List Step) (R : InRange steps S) (few : length (S 
     firsts = region-kept x (inr (omega arith)) (H .firsts);
     seconds = region-kept x (inr (omega arith)) (H .seconds);
     maps = λ m h. region-kept x (inr (omega arith)) (H .maps m h);
+    empty = region-kept x (inr (omega arith)) (H .empty);
     rowTypes = region-kept x (inl (omega (arith, length-map (S .rows) (λ (r : Row). r .type .0)))) (H .rowTypes);
     posts = region-kept x (inl (omega (arith, length-map (S .rows) (λ (r : Row). r .post .0)))) (H .posts);
-    starts = region-kept x (inl (omega (arith, length-map (S .rows) (λ (r : Row). r .start .0)))) (H .starts);
+    starts = region-kept x (inl (omega (arith, length-map (S .rows) (λ (r : Row). startNumber (r .start))))) (H .starts);
   }
 
   -- all that the walk through an expression starts from
-  pub record Ready (w : List ℕ) (k : ℕ) (inside : List (ℕ × ℕ)) (vars : List ℕ) (Γ : Env) (pre : MapNumber) (e : Expr) : Type 0 where
+  pub record Ready (w : List ℕ) (k : ℕ) (inside : List (ℕ × ℕ)) (vars : List ℕ) (Γ : Env) (pre : Map) (e : Expr) : Type 0 where
     pub split : HoldsSplit w S
     pub here : Here w k inside vars e
     pub scoped : Scoped S Γ inside vars
-    pub pre-in : pre .0 < length (S .maps)
-    pub pre-at : cell w presAt k ≡ pre .0
+    pub pre-stands : Stands w S (record { 0 = cell w presAt k }) pre
     pub room : k + size e ≤ length (S .rows)
     pub long : presAt + 256 ≤ length w
 
@@ -63,30 +98,31 @@ module _ (S : Split) (steps : List Step) (R : InRange steps S) (few : length (S 
   unfolding viewOf
   view-divided w n d k = refl
 
-  view-pre : (w : List ℕ) (n d k : ℕ) (pre : MapNumber) → cell w presAt k ≡ pre .0 → viewOf w n d k .pre ≡ pre
+  view-pre : (w : List ℕ) (n d k : ℕ) {pre : Map} → Stands w S (record { 0 = cell w presAt k }) pre
+      → Stands w S (viewOf w n d k .pre) pre
   unfolding viewOf
-  view-pre w n d k pre e = map-number e
+  view-pre w n d k p = p
 
-  module _ {w : List ℕ} {k : ℕ} {inside : List (ℕ × ℕ)} {vars : List ℕ} {Γ : Env} {pre : MapNumber} where
+  module _ {w : List ℕ} {k : ℕ} {inside : List (ℕ × ℕ)} {vars : List ℕ} {Γ : Env} {pre : Map} where
     pub below : (e : Expr) → Ready w k inside vars Γ pre e → k < length (S .rows)
     below e r = omega (arith, size-positive e, r .room)
 
     conditions-shown : (e : Expr) → Ready w k inside vars Γ pre e
         → (let s = viewOf w (S .header .locations) (S .header .denominator) k in
         ruleRow (ruleOf (cell w wordsAt k)) w s (layout.typeAt w (s .own)) (layout.typeAt w (s .type1)))
-        ≡ own S Γ (mapAt S pre) e
+        ≡ own S Γ pre e
     unfolding size
     conditions-shown (leaf x l v) r =
         rw (leaf-code x l v (r .here))
         (leaf-shown w S steps (r .split) R (viewOf w _ _ k) (view-located w _ _ k)
-        (view-divided w _ _ k) Γ pre (view-pre w _ _ k pre (r .pre-at)) (r .pre-in)
+        (view-divided w _ _ k) Γ pre (view-pre w _ _ k (r .pre-stands))
         l v x
         (own-part w S steps (r .split) R _ _ k (leaf x l v) (here-line _ (r .here)) (below _ r))
         (bound-shown w S steps (r .split) R _ _ k x l v (r .here) (r .scoped)))
     conditions-shown (unary x l v e₁) r =
         rw (unary-code x l v e₁ (r .here))
         (unary-shown w S steps (r .split) R (viewOf w _ _ k) (view-located w _ _ k)
-        (view-divided w _ _ k) Γ pre (view-pre w _ _ k pre (r .pre-at)) (r .pre-in)
+        (view-divided w _ _ k) Γ pre (view-pre w _ _ k (r .pre-stands))
         l v e₁
         (first-part w S steps (r .split) R _ _ k e₁ (here-line e₁ (here-part x l v e₁ (r .here)))
         (omega (arith, size-positive e₁, r .room)))
@@ -95,7 +131,7 @@ module _ (S : Split) (steps : List Step) (R : InRange steps S) (few : length (S 
     conditions-shown (binary x l v e₁ e₂) r =
         rw (binary-code x l v e₁ e₂ (r .here))
         (binary-shown w S steps (r .split) R (viewOf w _ _ k) (view-located w _ _ k)
-        (view-divided w _ _ k) Γ pre (view-pre w _ _ k pre (r .pre-at)) (r .pre-in)
+        (view-divided w _ _ k) Γ pre (view-pre w _ _ k (r .pre-stands))
         l v e₁
         (first-part w S steps (r .split) R _ _ k e₁ (here-line e₁ (here-first x l v e₁ e₂ (r .here)))
         (omega (arith, size-positive e₁, r .room)))
@@ -104,8 +140,7 @@ module _ (S : Split) (steps : List Step) (R : InRange steps S) (few : length (S 
         (here-line e₂ (here-second x l v e₁ e₂ (r .here))) (omega (arith, size-positive e₂, r .room)))
         x
         (own-part w S steps (r .split) R _ _ k _ (here-line _ (r .here)) (below _ r))
-        (started w S steps (r .split) R _ _ k _ (here-line _ (r .here)) (below _ r))
-        (row-start-in w S steps (r .split) R _ k (here-line _ (r .here)) (below _ r)))
+        (started w S steps (r .split) R _ _ k _ (here-line _ (r .here)) (below _ r)))
 
     pub step-shown : (e : Expr) → Ready w k inside vars Γ pre e
         → stepOutcome w (S .header .locations) (S .header .denominator) k ≡ firstFalse (claimsAt S (record { Γ = Γ; pre = pre; step = e }))
@@ -119,31 +154,27 @@ module _ (S : Split) (steps : List Step) (R : InRange steps S) (few : length (S 
     leaf-passes x l v r = rw (leaf-code x l v (r .here), word-of-code (Leaf x))
 
     pub unary-passes : (x : UnaryWord) (l v : ℕ) (e₁ : Expr) → Ready w k inside vars Γ pre (unary x l v e₁)
-        → passOn w k ≡ putPre w (k + 1) (preOfPart x pre (row S (unary x l v e₁) .post))
+        → passOn w k ≡ putPre w (k + 1) (partNumber w k x)
     unfolding passOn passWord
-    unary-passes x l v e₁ r =
-        rw (
-          unary-code x l v e₁ (r .here),
-          word-of-code (Unary x),
-          r .pre-at,
-          row-post w S steps (r .split) R (unary x l v e₁) k (here-line _ (r .here)) (below _ r),
-        )
+    unary-passes x l v e₁ r = rw (unary-code x l v e₁ (r .here), word-of-code (Unary x))
 
     pub binary-passes : (x : BinaryWord) (l v : ℕ) (e₁ e₂ : Expr) → Ready w k inside vars Γ pre (binary x l v e₁ e₂)
-        → passOn w k
-        ≡ putPre (putPre w (k + 1) pre) (k + 1 + size e₁) (preOfSecond x pre (row S e₁ .post) (row S (binary x l v e₁ e₂) .start))
-    unfolding passOn passWord size
+        → passOn w k ≡ putPre (putPre w (k + 1) (preNumber w k)) (k + 1 + size e₁) (secondNumber w k x)
+    unfolding passOn passWord
     binary-passes x l v e₁ e₂ r =
-        let p : cell w (postsAt + 1) k ≡ row S e₁ .post .0 =
-        ap (λ (i : ℕ). getD w i 0) (omega arith)
-        ∙ row-post w S steps (r .split) R e₁ (k + 1) (here-line e₁ (here-first x l v e₁ e₂ (r .here)))
-        (omega (arith, size-positive e₁, r .room))
-        in
-        rw (
-          binary-code x l v e₁ e₂ (r .here),
-          word-of-code (Binary x),
-          r .pre-at,
-          p,
-          row-start w S steps (r .split) R (binary x l v e₁ e₂) k (here-line _ (r .here)) (below _ r),
-          here-second-at x l v e₁ e₂ (r .here),
-        )
+        rw (binary-code x l v e₁ e₂ (r .here), word-of-code (Binary x), here-second-at x l v e₁ e₂ (r .here))
+
+    -- the numbers handed down stand for the maps before the parts
+    pub part-stands : (x : UnaryWord) (l v : ℕ) (e₁ : Expr) → Ready w k inside vars Γ pre (unary x l v e₁)
+        → Stands w S (partNumber w k x) (preOfPart x pre (post S (unary x l v e₁)))
+    part-stands x l v e₁ r =
+        of-part x (r .pre-stands) (post-at w S steps (r .split) R (unary x l v e₁) k (here-line _ (r .here)) (below _ r) refl)
+
+    pub second-stands : (x : BinaryWord) (l v : ℕ) (e₁ e₂ : Expr) → Ready w k inside vars Γ pre (binary x l v e₁ e₂)
+        → Stands w S (secondNumber w k x) (preOfSecond x pre (post S e₁) (start S (binary x l v e₁ e₂)))
+    unfolding size
+    second-stands x l v e₁ e₂ r =
+        of-second x (r .pre-stands)
+        (post-at w S steps (r .split) R e₁ (k + 1) (here-line e₁ (here-first x l v e₁ e₂ (r .here)))
+        (omega (arith, size-positive e₁, r .room)) (ap (λ (i : ℕ). getD w i 0) (omega arith)))
+        (start-at w S steps (r .split) R (binary x l v e₁ e₂) k (here-line _ (r .here)) (below _ r))

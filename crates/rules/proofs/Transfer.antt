@@ -11,16 +11,14 @@ use lib.Seq.{getD-set-same}
 use Rattle.spec.specs.Reading.{Out, _>>=_}
 use Rattle.spec.specs.Expression.{Step, Expr, leaf, unary, binary, size}
 use Rattle.spec.specs.Program.{Program}
-use Rattle.spec.specs.Split.{Row, Split}
-use Rattle.spec.specs.Conditions.{Env, lineOf, startMap, row, type}
+use Rattle.spec.specs.Split.{Map, Row, Split}
+use Rattle.spec.specs.Conditions.{Env, lineOf, startMap, type, post, start}
 use Rattle.spec.specs.Sites.{preOfPart, preOfSecond, bind, sites, claims, firstFalse}
 use Rattle.spec.specs.Verdict.{startAtMostOne, ruled}
 use Rattle.spec.specs.Ranges.{InRange}
 use Rattle.spec.specs.declared.MapNumber.{MapNumber}
 use Rattle.spec.specs.declared.UnaryWord.{UnaryWord}
-use Rattle.spec.specs.declared.UnaryWord.the-variants.{While, Join, Ref, Read, Freelock, Lock, Unlock, Post, Wait}
 use Rattle.spec.specs.declared.BinaryWord.{BinaryWord}
-use Rattle.spec.specs.declared.BinaryWord.the-variants.{Let, If, Spawn, Write}
 use Rattle.workspace.specs.Layout.{presAt}
 use Rattle.workspace.specs.Region.{ChangedWithin}
 use Rattle.workspace.specs.Holds.{HoldsSplit}
@@ -33,42 +31,20 @@ use Rattle.rules.specs.Contract.{HoldsSheets}
 use Rattle.rules.proofs.Judged.{both-met, both-assoc}
 use Rattle.rules.proofs.Walking.{put-before, put-at, put-other}
 use Rattle.rules.proofs.Claims.{claims-first, claims-one, claims-append}
-use Rattle.rules.proofs.Shown.{map-shown, row-at}
+use Rattle.rules.proofs.Shown.{map-number, Stands, stands-kept, map-stands, row-at}
 use Rattle.rules.proofs.Here.{Here, codes, here-kept, here-line, here-part, here-first, here-second, varsSecond}
 use Rattle.rules.proofs.Scopes.{Scoped, scoped-none, scoped-second}
-use Rattle.rules.proofs.OneStep.{Ready, split-kept, below, step-shown, leaf-passes, unary-passes, binary-passes}
-use Rattle.rules.proofs.Views.{map-number, row-post-in, row-start-in}
+use Rattle.rules.proofs.OneStep.{preNumber, partNumber, secondNumber, Ready, split-kept, step-shown, leaf-passes, unary-passes, binary-passes, part-stands, second-stands}
 
 -- the walk over the steps of a program, with its split's locations and denominator
 abbrev walkOf : Split → List ℕ → (k n : ℕ) → Out (Unit {0})
 walkOf S w k n = walk (S .header .locations) (S .header .denominator) w k n
 
--- a map before a part is a map
-part-in : (x : UnaryWord) (pre post : MapNumber) (n : ℕ) → pre .0 < n → post .0 < n → preOfPart x pre post .0 < n
-unfolding preOfPart
-part-in While pre post n p q = q
-part-in Join pre post n p q = p
-part-in Ref pre post n p q = p
-part-in Read pre post n p q = p
-part-in Freelock pre post n p q = p
-part-in Lock pre post n p q = p
-part-in Unlock pre post n p q = p
-part-in Post pre post n p q = p
-part-in Wait pre post n p q = p
-
-second-in : (x : BinaryWord) (pre post₁ start : MapNumber) (n : ℕ) → pre .0 < n → post₁ .0 < n → start .0 < n
-    → preOfSecond x pre post₁ start .0 < n
-unfolding preOfSecond
-second-in Let pre post₁ start n p q r = q
-second-in If pre post₁ start n p q r = p
-second-in Spawn pre post₁ start n p q r = r
-second-in Write pre post₁ start n p q r = q
-
 -- ------------------------------------------------------------------ the walk through an expression
 
 module _ (S : Split) (steps : List Step) (R : InRange steps S) (few : length (S .rows) ≤ 256) where
   -- an expression is walked through; m steps are left behind it
-  record Walked (w : List ℕ) (k m : ℕ) (Γ : Env) (pre : MapNumber) (e : Expr) : Type 0 where
+  record Walked (w : List ℕ) (k m : ℕ) (Γ : Env) (pre : Map) (e : Expr) : Type 0 where
     pub after : List ℕ
     pub changed : ChangedWithin presAt (presAt + (k + size e)) w after
     pub walks : walkOf S w k (size e + m)
@@ -81,22 +57,21 @@ module _ (S : Split) (steps : List Step) (R : InRange steps S) (few : length (S 
   walk-first w k n m e = rw e
 
   -- ready again, over a work space in which maps before steps are changed
-  again : {w w′ : List ℕ} {k : ℕ} {inside : List (ℕ × ℕ)} {vars : List ℕ} {Γ : Env} {pre : MapNumber} {e : Expr}
+  again : {w w′ : List ℕ} {k : ℕ} {inside : List (ℕ × ℕ)} {vars : List ℕ} {Γ : Env} {pre : Map} {e : Expr}
       → ChangedWithin presAt (presAt + 256) w w′ → HoldsSplit w S → presAt + 256 ≤ length w → Here w k inside vars e
       → Scoped S Γ inside vars
-      → pre .0 < length (S .maps) → cell w′ presAt k ≡ pre .0 → k + size e ≤ length (S .rows)
+      → (m : MapNumber) → Stands w S m pre → cell w′ presAt k ≡ m .0 → k + size e ≤ length (S .rows)
       → Ready S steps R few w′ k inside vars Γ pre e
-  again x H long P C p q h = record {
+  again x H long P C m p q h = record {
     split = split-kept S steps R few x H;
     here = here-kept x (omega arith) P;
     scoped = C;
-    pre-in = p;
-    pre-at = q;
+    pre-stands = rw (map-number q) (stands-kept x p);
     room = h;
     long = rw (x .long) long;
   }
 
-  module _ {w : List ℕ} {k : ℕ} {inside : List (ℕ × ℕ)} {vars : List ℕ} {Γ : Env} {pre : MapNumber} where
+  module _ {w : List ℕ} {k : ℕ} {inside : List (ℕ × ℕ)} {vars : List ℕ} {Γ : Env} {pre : Map} where
     module _ (x : UnaryWord) (l v : ℕ) (e₁ : Expr) (r : Ready S steps R few w k inside vars Γ pre (unary x l v e₁)) where
       unary-changed : ChangedWithin presAt (presAt + (k + size (unary x l v e₁))) w (passOn w k)
       unfolding size
@@ -104,17 +79,16 @@ module _ (S : Split) (steps : List Step) (R : InRange steps S) (few : length (S 
           rw (unary-passes S steps R few x l v e₁ r)
           (put-before w (k + 1) (k + suc (size e₁)) _ (omega (arith, size-positive e₁)))
 
-      part-ready : Ready S steps R few (passOn w k) (k + 1) inside vars Γ (preOfPart x pre (row S (unary x l v e₁) .post)) e₁
+      part-ready : Ready S steps R few (passOn w k) (k + 1) inside vars Γ (preOfPart x pre (post S (unary x l v e₁))) e₁
       unfolding size
       part-ready =
           again (changed-wider presAt (presAt + 256) (omega arith) (omega (arith, r .room)) unary-changed) (r .split) (r .long)
           (here-part x l v e₁ (r .here)) (r .scoped)
-          (part-in x pre _ _ (r .pre-in) (row-post-in w S steps (r .split) R _ k
-          (here-line _ (r .here)) (below S steps R few _ r)))
+          (partNumber w k x) (part-stands S steps R few x l v e₁ r)
           (rw (unary-passes S steps R few x l v e₁ r) (put-at w (k + 1) _ (omega (arith, size-positive e₁, r .room)) (r .long)))
           (omega (arith, r .room))
 
-      unary-walked : (m : ℕ) → Walked (passOn w k) (k + 1) m Γ (preOfPart x pre (row S (unary x l v e₁) .post)) e₁
+      unary-walked : (m : ℕ) → Walked (passOn w k) (k + 1) m Γ (preOfPart x pre (post S (unary x l v e₁))) e₁
           → Walked w k m Γ pre (unary x l v e₁)
       unfolding size sites
       unary-walked m t = record {
@@ -149,15 +123,16 @@ module _ (S : Split) (steps : List Step) (R : InRange steps S) (few : length (S 
       first-ready : Ready S steps R few (passOn w k) (k + 1) inside vars Γ pre e₁
       unfolding size
       first-ready =
-          again binary-within (r .split) (r .long) (here-first x l v e₁ e₂ (r .here)) (r .scoped) (r .pre-in)
+          again binary-within (r .split) (r .long) (here-first x l v e₁ e₂ (r .here)) (r .scoped)
+          (preNumber w k) (r .pre-stands)
           (rw (binary-passes S steps R few x l v e₁ e₂ r)
           (put-other _ (k + 1 + size e₁) (k + 1) _ (λ e. omega (arith, size-positive e₁))
-          ∙ put-at w (k + 1) pre (omega (arith, size-positive e₁, r .room)) (r .long)))
+          ∙ put-at w (k + 1) _ (omega (arith, size-positive e₁, r .room)) (r .long)))
           (omega (arith, r .room))
 
       -- the map before the second part, and the types of the variables there
-      abbrev pre₂ : MapNumber
-      pre₂ = preOfSecond x pre (row S e₁ .post) (row S (binary x l v e₁ e₂) .start)
+      abbrev pre₂ : Map
+      pre₂ = preOfSecond x pre (post S e₁) (start S (binary x l v e₁ e₂))
 
       abbrev Γ₂ : Env
       Γ₂ = bind x v (type S e₁) Γ
@@ -174,12 +149,11 @@ module _ (S : Split) (steps : List Step) (R : InRange steps S) (few : length (S 
           (r .split) (r .long) (here-second x l v e₁ e₂ (r .here))
           (scoped-second S Γ inside vars (r .scoped) v k (type S e₁) h₁
           (ap (λ (d : Row). d .type) (sym (row-at w S steps (r .split) R e₁ (k + 1) line₁ h₁))) x)
-          (second-in x pre _ _ _ (r .pre-in) (row-post-in w S steps (r .split) R e₁ (k + 1) line₁ h₁)
-          (row-start-in w S steps (r .split) R _ k (here-line _ (r .here)) (below S steps R few _ r)))
+          (secondNumber w k x) (second-stands S steps R few x l v e₁ e₂ r)
           (t .changed .kept (presAt + (k + 1 + size e₁)) (inr (omega arith))
           ∙ rw (binary-passes S steps R few x l v e₁ e₂ r)
-          (put-at _ (k + 1 + size e₁) pre₂ (omega (arith, size-positive e₂, r .room))
-          (rw (put-before w (k + 1) (k + 2) pre (omega arith) .long) (r .long))))
+          (put-at _ (k + 1 + size e₁) _ (omega (arith, size-positive e₂, r .room))
+          (rw (put-before w (k + 1) (k + 2) (preNumber w k) (omega arith) .long) (r .long))))
           (omega (arith, r .room))
 
       binary-walked : (m : ℕ) (t : Walked (passOn w k) (k + 1) (size e₂ + m) Γ pre e₁)
@@ -208,7 +182,7 @@ module _ (S : Split) (steps : List Step) (R : InRange steps S) (few : length (S 
             );
       }
 
-  walked : {w : List ℕ} {k : ℕ} {inside : List (ℕ × ℕ)} {vars : List ℕ} {Γ : Env} {pre : MapNumber} (e : Expr) (m : ℕ)
+  walked : {w : List ℕ} {k : ℕ} {inside : List (ℕ × ℕ)} {vars : List ℕ} {Γ : Env} {pre : Map} (e : Expr) (m : ℕ)
       → Ready S steps R few w k inside vars Γ pre e → Walked w k m Γ pre e
   unfolding size sites
   walked {w} {k} {inside} {vars} {Γ} {pre} (leaf x l v) m r = record {
@@ -237,13 +211,10 @@ module _ (w : List ℕ) (steps denominator locations start : ℕ) (P : Program) 
   }
 
   -- the start that the header names
-  named : _≡_ {A = MapNumber} (record { 0 = start }) (startMap S)
+  start-named : Stands w S (record { 0 = start }) (startMap S)
   unfolding startMap
-  named = map-number (H .startGiven)
-
-  start-in : startMap S .0 < length (S .maps)
-  unfolding startMap
-  start-in = H .inRange .start
+  start-named =
+      rw (map-number (H .startGiven)) (map-stands w S (P .steps) (H .split) (H .inRange) (S .header .start) (H .inRange .start))
 
   -- 30
   pub start-shown : startOutcome w denominator locations (record { 0 = start }) ≡ startAtMostOne P S
@@ -253,8 +224,7 @@ module _ (w : List ℕ) (steps denominator locations start : ℕ) (P : Program) 
         here-line (P .root) root-here,
         H .denominatorGiven,
         H .locationsGiven,
-        named,
-        map-shown w S (P .steps) (H .split) (H .inRange) (startMap S) start-in,
+        start-named .is,
       )
 
   module _ (long : length w ≡ 16384) (fewSteps : steps ≤ 256) where
@@ -264,20 +234,20 @@ module _ (w : List ℕ) (steps denominator locations start : ℕ) (P : Program) 
     sized : size (P .root) ≡ steps
     sized = sym (prefix-length (P .root)) ∙ ap length (H .wellFormed .listing) ∙ sym (H .stepsCounted)
 
-    root-ready : Ready S (P .steps) (H .inRange) rows-few (atRoot w (startMap S)) 0 [] [] [] (startMap S) (P .root)
+    root-ready : Ready S (P .steps) (H .inRange) rows-few (atRoot w (record { 0 = start })) 0 [] [] [] (startMap S) (P .root)
     unfolding atRoot
     root-ready =
-        again S (P .steps) (H .inRange) rows-few (changed-store presAt (presAt + 256) w presAt (startMap S .0) (omega arith)
+        again S (P .steps) (H .inRange) rows-few (changed-store presAt (presAt + 256) w presAt start (omega arith)
         (omega arith)) (H .split) (omega arith)
-        root-here (scoped-none S) start-in
-        (getD-set-same w presAt (startMap S .0) 0 (omega arith)) (omega (arith, sized, H .stepsCounted, H .inRange .rowsCounted))
+        root-here (scoped-none S) (record { 0 = start }) start-named
+        (getD-set-same w presAt start 0 (omega arith)) (omega (arith, sized, H .stepsCounted, H .inRange .rowsCounted))
 
     -- 31 to 33
     pub steps-shown : walk locations denominator (atRoot w (record { 0 = start })) 0 steps ≡ ruled P S
     unfolding ruled walk
     steps-shown =
         let end : steps ≡ size (P .root) + 0 = omega (arith, sized) in
-        rw (H .denominatorGiven, H .locationsGiven, named, end)
+        rw (H .denominatorGiven, H .locationsGiven, end)
         (walked S (P .steps) (H .inRange) rows-few (P .root) 0 root-ready .walks
         ∙ both-met (firstFalse (claims S (sites S [] (startMap S) (P .root)))))
 

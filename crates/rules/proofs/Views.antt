@@ -6,10 +6,9 @@ use native.Mathlib.Omega.{arith}
 use lib.ListN.{length, getD}
 use Rattle.spec.specs.Expression.{Step, Expr, leaf}
 use Rattle.spec.specs.Split.{Row, Split}
-use Rattle.spec.specs.Conditions.{Env, lineOf, row}
+use Rattle.spec.specs.Conditions.{Env, lineOf, row, start}
 use Rattle.spec.specs.WellFormed.{UsedInside}
 use Rattle.spec.specs.Ranges.{InRange}
-use Rattle.spec.specs.declared.MapNumber.{MapNumber}
 use Rattle.spec.specs.declared.TypeNumber.{TypeNumber}
 use Rattle.spec.specs.declared.LeafWord.{LeafWord}
 use Rattle.spec.specs.declared.LeafWord.the-variants.{Var, Int, Newtid, Newlock, Newsem}
@@ -17,7 +16,7 @@ use Rattle.workspace.specs.Layout.{endsAt, rowTypesAt, postsAt}
 use Rattle.workspace.specs.Holds.{HoldsSplit, letIn}
 use Rattle.workspace.proofs.Region.{column}
 use Rattle.rules.specs.Walk.{cell, viewOf}
-use Rattle.rules.proofs.Shown.{noRow, row-at, row-type, row-post, row-start}
+use Rattle.rules.proofs.Shown.{noRow, Stands, row-at, row-type, post-at, start-at}
 use Rattle.rules.proofs.TableRows.{Part, Bound}
 use Rattle.rules.proofs.Scopes.{Scoped}
 use Rattle.rules.proofs.Here.{Here, here-let}
@@ -25,48 +24,38 @@ use Rattle.rules.proofs.Here.{Here, here-let}
 pub type-number : {x : ℕ} {t : TypeNumber} → x ≡ t .0 → _≡_ {A = TypeNumber} (record { 0 = x }) t
 type-number e = rw e
 
-pub map-number : {x : ℕ} {m : MapNumber} → x ≡ m .0 → _≡_ {A = MapNumber} (record { 0 = x }) m
-map-number e = rw e
-
 module _ (w : List ℕ) (S : Split) (steps : List Step) (H : HoldsSplit w S) (R : InRange steps S) where
   -- the numbers of a row are in range
   module _ (e : Expr) (i : ℕ) (line : lineOf e ≡ i + 2) (h : i < length (S .rows)) where
-    pub row-type-in : row S e .type .0 < length (S .types)
+    row-type-in : row S e .type .0 < length (S .types)
     row-type-in = rw (row-at w S steps H R e i line h) at (R .rowType i noRow h)
 
-    pub row-post-in : row S e .post .0 < length (S .maps)
-    row-post-in = rw (row-at w S steps H R e i line h) at (R .rowPost i noRow h)
-
-    pub row-start-in : row S e .start .0 < length (S .maps)
-    row-start-in = rw (row-at w S steps H R e i line h) at (R .rowStart i noRow h)
-
-    part-at : {t m : ℕ} → t ≡ cell w rowTypesAt i → m ≡ cell w postsAt i → Part S (record { 0 = t }) (record { 0 = m }) e
+    part-at : {t m : ℕ} → t ≡ cell w rowTypesAt i → m ≡ cell w postsAt i → Part w S (record { 0 = t }) (record { 0 = m }) e
     part-at p q = record {
       typed = type-number (p ∙ row-type w S steps H R e i line h);
-      posted = map-number (q ∙ row-post w S steps H R e i line h);
       type-in = row-type-in;
-      post-in = row-post-in;
+      posted = post-at w S steps H R e i line h q;
     }
 
   module _ (n d k : ℕ) where
-    pub own-part : (e : Expr) → lineOf e ≡ k + 2 → k < length (S .rows) → Part S (viewOf w n d k .own) (viewOf w n d k .post) e
+    pub own-part : (e : Expr) → lineOf e ≡ k + 2 → k < length (S .rows) → Part w S (viewOf w n d k .own) (viewOf w n d k .post) e
     unfolding viewOf
     own-part e line h = part-at e k line h refl refl
 
     pub first-part : (e : Expr) → lineOf e ≡ k + 1 + 2 → k + 1 < length (S .rows)
-        → Part S (viewOf w n d k .type1) (viewOf w n d k .post1) e
+        → Part w S (viewOf w n d k .type1) (viewOf w n d k .post1) e
     unfolding viewOf
     first-part e line h =
         part-at e (k + 1) line h (ap (λ (i : ℕ). getD w i 0) (omega arith)) (ap (λ (i : ℕ). getD w i 0) (omega arith))
 
     pub second-part : (e : Expr) (j : ℕ) → cell w (endsAt + 1) k ≡ j → lineOf e ≡ j + 2 → j < length (S .rows)
-        → Part S (viewOf w n d k .type2) (viewOf w n d k .post2) e
+        → Part w S (viewOf w n d k .type2) (viewOf w n d k .post2) e
     unfolding viewOf
     second-part e j q line h = part-at e j line h (ap (cell w rowTypesAt) q) (ap (cell w postsAt) q)
 
-    pub started : (e : Expr) → lineOf e ≡ k + 2 → k < length (S .rows) → viewOf w n d k .start ≡ row S e .start
+    pub started : (e : Expr) → lineOf e ≡ k + 2 → k < length (S .rows) → Stands w S (viewOf w n d k .start) (start S e)
     unfolding viewOf
-    started e line h = map-number (row-start w S steps H R e k line h)
+    started e line h = start-at w S steps H R e k line h
 
     pub bound-shown : (x : LeafWord) (l v : ℕ) {Γ : Env} {inside : List (ℕ × ℕ)} {vars : List ℕ}
         → Here w k inside vars (leaf x l v) → Scoped S Γ inside vars → Bound S x (viewOf w n d k) Γ v

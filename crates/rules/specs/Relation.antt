@@ -16,6 +16,10 @@ unfoldable pub mapFrom : (w : List ℕ) → MapNumber → (l n : ℕ) → Map
 mapFrom w m l zero = []
 mapFrom w m l (suc n) = mapCell w m l ∷ mapFrom w m (l + 1) n
 
+-- the map that a number stands for, in a sheet of n locations: what the work space holds at its place
+unfoldable pub mapIn : (w : List ℕ) (n : ℕ) → MapNumber → Map
+mapIn w n m = mapFrom w m 0 n
+
 -- whether a relation holds at a location
 unfoldable pub holdsAt : (w : List ℕ) → Relation → (l : ℕ) → Bool
 holdsAt w (Equal a b) l = eqb (mapCell w a l) (mapCell w b l)

@@ -6,20 +6,23 @@ use lib.ListN.{getD, set}
 use Rattle.spec.specs.Choice.{if_then_else_}
 use Rattle.spec.specs.Reading.{Out, on}
 use Rattle.spec.specs.Maps.{overWhole}
-use Rattle.spec.specs.Sites.{preOfPart, preOfSecond}
 use Rattle.spec.specs.Verdict.{refuseOver}
 use Rattle.spec.specs.declared.MapNumber.{MapNumber}
 use Rattle.spec.specs.declared.Word.{Word}
 use Rattle.spec.specs.declared.Word.the-variants.{Leaf, Unary, Binary}
+use Rattle.spec.specs.declared.UnaryWord.{UnaryWord}
+use Rattle.spec.specs.declared.UnaryWord.the-variants.{While, Join, Ref, Read, Freelock, Lock, Unlock, Post, Wait}
+use Rattle.spec.specs.declared.BinaryWord.{BinaryWord}
+use Rattle.spec.specs.declared.BinaryWord.the-variants.{Let, If, Spawn, Write}
 use Rattle.workspace.specs.Layout.{wordsAt, endsAt, letsAt, rowTypesAt, postsAt, startsAt, presAt, ruleOf, wordOf, typeAt}
 use Rattle.rules.specs.Outcome.{both, judged}
-use Rattle.rules.specs.Relation.{mapFrom}
+use Rattle.rules.specs.Relation.{mapIn}
 use Rattle.rules.specs.Table.{ruleRow}
 use Rattle.rules.specs.declared.View.{View}
 
 -- 30, at the root's line: the lowest location at which the start is over the whole
 unfoldable pub startOutcome : (w : List ℕ) → (denominator locations : ℕ) → (start : MapNumber) → Out (Unit {0})
-startOutcome w denominator locations start = refuseOver 2 (overWhole denominator 0 (mapFrom w start 0 locations))
+startOutcome w denominator locations start = refuseOver 2 (overWhole denominator 0 (mapIn w locations start))
 
 -- entry i of the column that begins at b
 abbrev pub cell : (w : List ℕ) → (b i : ℕ) → ℕ
@@ -57,11 +60,29 @@ atRoot w start = set w presAt (start .0)
 unfoldable pub putPre : (w : List ℕ) → (i : ℕ) → MapNumber → List ℕ
 putPre w i m = if ltb i 256 then set w (presAt + i) (m .0) else w
 
+-- the maps before the parts of a step, as document 01's preOfPart and preOfSecond have them, by number
+unfoldable pub numberOfPart : UnaryWord → (pre post : MapNumber) → MapNumber
+numberOfPart While pre post = post
+numberOfPart Join pre post = pre
+numberOfPart Ref pre post = pre
+numberOfPart Read pre post = pre
+numberOfPart Freelock pre post = pre
+numberOfPart Lock pre post = pre
+numberOfPart Unlock pre post = pre
+numberOfPart Post pre post = pre
+numberOfPart Wait pre post = pre
+
+unfoldable pub numberOfSecond : BinaryWord → (pre post₁ start : MapNumber) → MapNumber
+numberOfSecond Let pre post₁ start = post₁
+numberOfSecond If pre post₁ start = pre
+numberOfSecond Spawn pre post₁ start = start
+numberOfSecond Write pre post₁ start = post₁
+
 unfoldable pub passWord : Word → (w : List ℕ) → (k : ℕ) → (pre post post₁ start : MapNumber) → (second : ℕ) → List ℕ
 passWord (Leaf l) w k pre post post₁ start second = w
-passWord (Unary u) w k pre post post₁ start second = putPre w (k + 1) (preOfPart u pre post)
+passWord (Unary u) w k pre post post₁ start second = putPre w (k + 1) (numberOfPart u pre post)
 passWord (Binary b) w k pre post post₁ start second =
-    putPre (putPre w (k + 1) pre) second (preOfSecond b pre post₁ start)
+    putPre (putPre w (k + 1) pre) second (numberOfSecond b pre post₁ start)
 
 -- the maps before the parts of step k
 unfoldable pub passOn : (w : List ℕ) → (k : ℕ) → List ℕ

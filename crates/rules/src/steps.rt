@@ -22,11 +22,10 @@ use workspace::word_of;
 ghost use mathlib.Core.Path.{_≡_};
 ghost use Prim.Native.Nat.{_+_, _≤_, _<_};
 ghost use lib.ListN.{length};
-ghost use Rattle.spec.specs.Sites.{preOfPart, preOfSecond};
 ghost use Rattle.workspace.specs.Layout.{presAt};
 ghost use Rattle.workspace.specs.Region.{ChangedWithin};
 ghost use Rattle.rules.specs.Outcome.{outcome};
-ghost use Rattle.rules.specs.Walk.{cell, viewOf, atRoot, stepOutcome, putPre, passOn, walk};
+ghost use Rattle.rules.specs.Walk.{cell, viewOf, atRoot, stepOutcome, putPre, numberOfPart, numberOfSecond, passOn, walk};
 
 // Entry i of the column that begins at base.
 fn cell(work: &[u32], base: usize, i: u32) -> u32
@@ -83,7 +82,7 @@ fn put_pre(work: &mut [u32], i: u32, m: MapNumber)
 
 // The map before the part of a step with one part.
 fn pre_of_part(w: UnaryWord, pre: MapNumber, post: MapNumber) -> MapNumber
-    ensures { λ r. ⌜ r ≡ preOfPart w pre post ⌝ }
+    ensures { λ r. ⌜ r ≡ numberOfPart w pre post ⌝ }
 {
     match w {
         UnaryWord::While => post,
@@ -100,7 +99,7 @@ fn pre_of_part(w: UnaryWord, pre: MapNumber, post: MapNumber) -> MapNumber
 
 // The map before the second part of a step with two.
 fn pre_of_second(w: BinaryWord, pre: MapNumber, post1: MapNumber, start: MapNumber) -> MapNumber
-    ensures { λ r. ⌜ r ≡ preOfSecond w pre post1 start ⌝ }
+    ensures { λ r. ⌜ r ≡ numberOfSecond w pre post1 start ⌝ }
 {
     match w {
         BinaryWord::Let => post1,

@@ -2,17 +2,17 @@
 use mathlib.Core.Path.{_≡_, refl, sym, ap, _∙_}
 use mathlib.Core.List.{List, [], _∷_, map}
 use mathlib.Core.Bool.{true}
-use mathlib.Core.Option.{some}
-use Prim.Native.Nat.{ℕ, _≤_, _<_}
+use mathlib.Core.Option.{Option, none, some}
+use Prim.Native.Nat.{ℕ, _-_, _≤_, _<_}
 use native.Mathlib.Omega.{arith}
 use native.Mathlib.Decide.{ℕ-discrete, decLt}
 use lib.Dec.{eqb}
-use lib.ListN.{length, getD, List·getD-eq-default}
+use lib.ListN.{length, getD, List·getD-eq-default, length-replicate}
 use borrow.Author.Tests.{eq-eqb, ne-eqb}
 use Rattle.spec.specs.Choice.{if_then_else_}
 use Rattle.spec.specs.Expression.{Step, Expr, among}
 use Rattle.spec.specs.Split.{Row, Split}
-use Rattle.spec.specs.Conditions.{typeIn, typeAt, mapAt, row, type, post, start}
+use Rattle.spec.specs.Conditions.{typeIn, lineOf, typeAt, mapAt, row, type, post, startIn, start}
 use Rattle.spec.specs.Conditions as conditions
 use Rattle.spec.specs.Agreement.{int, lock, tid, sem, Tree, plain, ref, treeOf, tree, agree}
 use Rattle.spec.specs.Ranges.{InRange}
@@ -21,6 +21,7 @@ use Rattle.spec.specs.declared.MapNumber.{MapNumber}
 use Rattle.spec.specs.declared.Location.{Location}
 use Rattle.spec.specs.declared.TypeLine.{TypeLine}
 use Rattle.spec.specs.declared.TypeLine.the-variants as type-line
+use Rattle.spec.proofs.Clashes.{none-is-not-some}
 use Rattle.spec.proofs.Agreement.{agree-same-tree, numbered, tree-of-type}
 use Rattle.calculus.specs.Expression.{choose}
 use Rattle.calculus.specs.Figure5.{Ty, int-type, ref-type, lock-type, tid-type, sem-type, Env, empty, bind}
@@ -77,25 +78,35 @@ module _ {steps : List Step} (S : Split) (R : InRange steps S) where
   unfolding mapAt
   map-wide m h = R .mapWide (m .0) h
 
-  -- a row past the end stands for one of map 0
-  row-in-range : (f : Row → MapNumber) (i : ℕ) (d : Row) → f d .0 ≡ 0 → ((i : ℕ) (d : Row) → i < length (S .rows) → f (getD (S .rows) i d) .0 < length (S .maps))
-      → f (getD (S .rows) i d) .0 < length (S .maps)
-  row-in-range f i d z h = by-cases (decLt i (length (S .rows)))
-    where
-      by-cases : Dec (i < length (S .rows)) → f (getD (S .rows) i d) .0 < length (S .maps)
-      by-cases (yes l) = h i d l
-      by-cases (no l) =
-          let past : length (S .rows) ≤ i = omega arith in
-          let e = ap (λ r. f r .0) (List·getD-eq-default (S .rows) d past) in
-          omega (arith, e, z, R .mapsCounted, R .mapsFew .0)
+  -- the row of an expression that has none
+  unshown : Row
+  unshown = record { type = record { 0 = 0 }; post = record { 0 = 0 }; start = none }
 
   pub post-wide : (e : Expr) → length (post S e) ≡ S .header .locations
-  unfolding post row
-  post-wide e = map-wide (row S e .post) (row-in-range (λ r. r .post) _ _ refl (R .rowPost))
+  unfolding post row unshown
+  post-wide e = map-wide (row S e .post) (by-cases (decLt (lineOf e - 2) (length (S .rows))))
+    where
+      by-cases : Dec (lineOf e - 2 < length (S .rows)) → row S e .post .0 < length (S .maps)
+      by-cases (yes l) = R .rowPost (lineOf e - 2) _ l
+      by-cases (no l) =
+          let past : length (S .rows) ≤ lineOf e - 2 = omega arith in
+          let map-0 : row S e .post .0 ≡ 0 = ap (λ (r : Row). r .post .0) (List·getD-eq-default (S .rows) unshown past) in
+          omega (arith, map-0, R .mapsCounted, R .mapsFew .0)
 
+  -- a start that is not given has every location too
   pub start-wide : (e : Expr) → length (start S e) ≡ S .header .locations
-  unfolding start row
-  start-wide e = map-wide (row S e .start) (row-in-range (λ r. r .start) _ _ refl (R .rowStart))
+  unfolding start startIn row unshown
+  start-wide e = by-cases (row S e .start) refl
+    where
+      by-cases : (o : Option MapNumber) → row S e .start ≡ o → length (startIn S o) ≡ S .header .locations
+      by-cases none given = length-replicate (S .header .locations) 0
+      by-cases (some m) given = map-wide m (in-sheet (decLt (lineOf e - 2) (length (S .rows))))
+        where
+          in-sheet : Dec (lineOf e - 2 < length (S .rows)) → m .0 < length (S .maps)
+          in-sheet (yes l) = R .rowStart (lineOf e - 2) _ m l given
+          in-sheet (no l) =
+              let past : length (S .rows) ≤ lineOf e - 2 = omega arith in
+              none-is-not-some (sym (ap (λ (r : Row). r .start) (List·getD-eq-default (S .rows) unshown past)) ∙ given)
 
   pub lock-wide : (t : TypeNumber) (k : MapNumber) → typeAt S t ≡ type-line.Lock k → length (mapAt S k) ≡ S .header .locations
   unfolding typeAt

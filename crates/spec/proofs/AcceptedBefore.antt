@@ -78,7 +78,7 @@ module _ (S : Split) where
 
   unfoldable pub claimsBefore : List Site → List Claim
   claimsBefore [] = []
-  claimsBefore (s ∷ ss) = numbered (lineOf (s .step)) 1 (ownBefore (s .Γ) (mapAt S (s .pre)) (s .step)) ++ claimsBefore ss
+  claimsBefore (s ∷ ss) = numbered (lineOf (s .step)) 1 (ownBefore (s .Γ) (s .pre) (s .step)) ++ claimsBefore ss
 
 unfoldable pub checkedBefore : (room : ℕ) → (programText splitText : List ℕ) → Out (Unit {0})
 checkedBefore room programText splitText = do

@@ -8,11 +8,10 @@ use borrow.Author.Tests.{leb-true, ltb-true}
 use Rattle.spec.specs.Reading.{on}
 use Rattle.spec.specs.Expression.{Expr, leaf, unary, binary}
 use Rattle.spec.specs.Split.{Map, Split}
-use Rattle.spec.specs.Conditions.{Env, type, post, start, row, K, own, mapAt}
+use Rattle.spec.specs.Conditions.{Env, type, post, start, K, own}
 use Rattle.spec.specs.Sites.{Site, sites, preOfPart, preOfSecond, bind, numbered, claimsAt, claims, firstFalse}
 use Rattle.spec.specs.FirstFalse.{Holds, AllHold}
 use Rattle.spec.specs.Figure5.{Derives, VAR, INT, LET, IF, WHILE, NEWT, SPAWN, JOIN, REF, WRITE, READ, NEWL, FREEL, LCK, ULCK, NEWSEM, POST, WAIT}
-use Rattle.spec.specs.declared.MapNumber.{MapNumber}
 use Rattle.spec.specs.declared.LeafWord.{LeafWord}
 use Rattle.spec.specs.declared.LeafWord.the-variants.{Var, Int, Newtid, Newlock, Newsem}
 use Rattle.spec.specs.declared.UnaryWord.{UnaryWord}
@@ -28,7 +27,7 @@ module _ (S : Split) where
   abbrev AllAt : List Site → Type 0
   AllAt ss = AllHold (claims S ss)
 
-  abbrev OwnAt : Env → MapNumber → Expr → Type 0
+  abbrev OwnAt : Env → Map → Expr → Type 0
   OwnAt Γ pre e = AllHold (claimsAt S (record { Γ = Γ; pre = pre; step = e }))
 
   -- ------------------------------------------------------------------ a step and its parts
@@ -47,18 +46,18 @@ module _ (S : Split) where
   parts-both : (xs ys : List Site) → AllAt xs → AllAt ys → AllAt (xs ++ ys)
   parts-both xs ys p q = subst AllHold (sym (claims-append S xs ys)) (all-hold-append (claims S xs) (claims S ys) p q)
 
-  leaf-own : (Γ : Env) (pre : MapNumber) (w : LeafWord) (k v : ℕ) → AllAt (sites S Γ pre (leaf w k v)) → OwnAt Γ pre (leaf w k v)
+  leaf-own : (Γ : Env) (pre : Map) (w : LeafWord) (k v : ℕ) → AllAt (sites S Γ pre (leaf w k v)) → OwnAt Γ pre (leaf w k v)
   unfolding sites
   leaf-own Γ pre w k v h = step-parts _ [] h .0
 
-  unary-own : (Γ : Env) (pre : MapNumber) (w : UnaryWord) (k v : ℕ) (e₁ : Expr) → AllAt (sites S Γ pre (unary w k v e₁))
-      → OwnAt Γ pre (unary w k v e₁) × AllAt (sites S Γ (preOfPart w pre (row S (unary w k v e₁) .post)) e₁)
+  unary-own : (Γ : Env) (pre : Map) (w : UnaryWord) (k v : ℕ) (e₁ : Expr) → AllAt (sites S Γ pre (unary w k v e₁))
+      → OwnAt Γ pre (unary w k v e₁) × AllAt (sites S Γ (preOfPart w pre (post S (unary w k v e₁))) e₁)
   unfolding sites
   unary-own Γ pre w k v e₁ h = step-parts _ _ h
 
-  binary-own : (Γ : Env) (pre : MapNumber) (w : BinaryWord) (k v : ℕ) (e₁ e₂ : Expr) → AllAt (sites S Γ pre (binary w k v e₁ e₂))
+  binary-own : (Γ : Env) (pre : Map) (w : BinaryWord) (k v : ℕ) (e₁ e₂ : Expr) → AllAt (sites S Γ pre (binary w k v e₁ e₂))
       → OwnAt Γ pre (binary w k v e₁ e₂) × AllAt (sites S Γ pre e₁)
-      × AllAt (sites S (bind w v (type S e₁) Γ) (preOfSecond w pre (row S e₁ .post) (row S (binary w k v e₁ e₂) .start)) e₂)
+      × AllAt (sites S (bind w v (type S e₁) Γ) (preOfSecond w pre (post S e₁) (start S (binary w k v e₁ e₂))) e₂)
   unfolding sites
   binary-own Γ pre w k v e₁ e₂ h =
       let s = step-parts _ _ h in
@@ -67,7 +66,7 @@ module _ (S : Split) where
 
   -- ------------------------------------------------------------------ from conditions to a derivation
 
-  holding-derives : (Γ : Env) (pre : MapNumber) (e : Expr) → AllAt (sites S Γ pre e) → Derives S Γ (mapAt S pre) e
+  holding-derives : (Γ : Env) (pre : Map) (e : Expr) → AllAt (sites S Γ pre e) → Derives S Γ pre e
   unfolding AllHold Holds claimsAt numbered own preOfPart preOfSecond bind post start K
   holding-derives Γ pre (leaf Var k v) h =
       let c = leaf-own Γ pre Var k v h in
@@ -132,73 +131,73 @@ module _ (S : Split) where
 
   -- ------------------------------------------------------------------ from a derivation to conditions
 
-  leaf-all : (Γ : Env) (pre : MapNumber) (w : LeafWord) (k v : ℕ) → OwnAt Γ pre (leaf w k v) → AllAt (sites S Γ pre (leaf w k v))
+  leaf-all : (Γ : Env) (pre : Map) (w : LeafWord) (k v : ℕ) → OwnAt Γ pre (leaf w k v) → AllAt (sites S Γ pre (leaf w k v))
   unfolding sites claims AllHold
   leaf-all Γ pre w k v c = parts-step _ [] c tt
 
-  unary-all : (Γ : Env) (pre : MapNumber) (w : UnaryWord) (k v : ℕ) (e₁ : Expr) → OwnAt Γ pre (unary w k v e₁)
-      → AllAt (sites S Γ (preOfPart w pre (row S (unary w k v e₁) .post)) e₁) → AllAt (sites S Γ pre (unary w k v e₁))
+  unary-all : (Γ : Env) (pre : Map) (w : UnaryWord) (k v : ℕ) (e₁ : Expr) → OwnAt Γ pre (unary w k v e₁)
+      → AllAt (sites S Γ (preOfPart w pre (post S (unary w k v e₁))) e₁) → AllAt (sites S Γ pre (unary w k v e₁))
   unfolding sites
   unary-all Γ pre w k v e₁ c h₁ = parts-step _ _ c h₁
 
-  binary-all : (Γ : Env) (pre : MapNumber) (w : BinaryWord) (k v : ℕ) (e₁ e₂ : Expr) → OwnAt Γ pre (binary w k v e₁ e₂)
+  binary-all : (Γ : Env) (pre : Map) (w : BinaryWord) (k v : ℕ) (e₁ e₂ : Expr) → OwnAt Γ pre (binary w k v e₁ e₂)
       → AllAt (sites S Γ pre e₁)
-      → AllAt (sites S (bind w v (type S e₁) Γ) (preOfSecond w pre (row S e₁ .post) (row S (binary w k v e₁ e₂) .start)) e₂)
+      → AllAt (sites S (bind w v (type S e₁) Γ) (preOfSecond w pre (post S e₁) (start S (binary w k v e₁ e₂))) e₂)
       → AllAt (sites S Γ pre (binary w k v e₁ e₂))
   unfolding sites
   binary-all Γ pre w k v e₁ e₂ c h₁ h₂ = parts-step _ _ c (parts-both (sites S Γ pre e₁) _ h₁ h₂)
 
-  derived-holds : {Γ : Env} {Ψ : Map} {e : Expr} → Derives S Γ Ψ e → (pre : MapNumber) → mapAt S pre ≡ Ψ → AllAt (sites S Γ pre e)
+  derived-holds : {Γ : Env} {Ψ : Map} {e : Expr} → Derives S Γ Ψ e → AllAt (sites S Γ Ψ e)
   unfolding AllHold Holds claimsAt numbered own preOfPart preOfSecond bind post start K
-  derived-holds {Γ} (VAR {k = k} {v = v} t p) pre q =
-      leaf-all Γ pre Var k v (t, (equal-none (p ∙ sym q), tt))
-  derived-holds {Γ} (INT {k = k} {v = v} t p) pre q =
-      leaf-all Γ pre Int k v (int-is t, (equal-none (p ∙ sym q), tt))
-  derived-holds {Γ} (LET {k = k} {v = v} {e₁ = e₁} {e₂ = e₂} d₁ d₂ t p) pre q =
-      binary-all Γ pre Let k v e₁ e₂ (t, (equal-none p, tt))
-      (derived-holds d₁ pre q) (derived-holds d₂ _ refl)
-  derived-holds {Γ} (IF {k = k} {v = v} {e₁ = e₁} {e₂ = e₂} d₁ t₁ p₁ d₂ t₂ p₂) pre q =
-      binary-all Γ pre If k v e₁ e₂ (t₁, (t₂, (covers-none p₁, (covers-none p₂, tt))))
-      (derived-holds d₁ pre q) (derived-holds d₂ pre q)
-  derived-holds {Γ} (WHILE {k = k} {v = v} {e₁ = e₁} d p₁ p t) pre q =
-      unary-all Γ pre While k v e₁ (int-is t, (covers-none (rw q p), (covers-none p₁, tt))) (derived-holds d _ refl)
-  derived-holds {Γ} (NEWT {k = k} {v = v} t p) pre q =
-      leaf-all Γ pre Newtid k v (tid-is t, (equal-none (p ∙ sym q), tt))
-  derived-holds {Γ} (SPAWN {k = k} {v = v} {e₁ = e₁} {e₂ = e₂} d₁ t d₂ c i p) pre q =
-      binary-all Γ pre Spawn k v e₁ e₂ (int-is i, (tid-is t, (covers-none (rw (tid-load S t) c), (equal-none p, tt))))
-      (derived-holds d₁ pre q) (derived-holds d₂ _ refl)
-  derived-holds {Γ} (JOIN {k = k} {v = v} {e₁ = e₁} d t i p) pre q =
-      unary-all Γ pre Join k v e₁ (int-is i, (tid-is t, (equal-none (rw (tid-load S t) p), tt))) (derived-holds d pre q)
-  derived-holds {Γ} (REF {k = k} {v = v} {e₁ = e₁} d t a p) pre q =
-      unary-all Γ pre Ref k v e₁ (ref-of-is S _ t a, (equal-none p, tt)) (derived-holds d pre q)
-  derived-holds {Γ} (WRITE {k = k} {v = v} {e₁ = e₁} {e₂ = e₂} d₁ t d₂ a w i p) pre q =
-      binary-all Γ pre Write k v e₁ e₂
+  derived-holds {Γ} {Ψ} (VAR {k = k} {v = v} t p) =
+      leaf-all Γ Ψ Var k v (t, (equal-none p, tt))
+  derived-holds {Γ} {Ψ} (INT {k = k} {v = v} t p) =
+      leaf-all Γ Ψ Int k v (int-is t, (equal-none p, tt))
+  derived-holds {Γ} {Ψ} (LET {k = k} {v = v} {e₁ = e₁} {e₂ = e₂} d₁ d₂ t p) =
+      binary-all Γ Ψ Let k v e₁ e₂ (t, (equal-none p, tt))
+      (derived-holds d₁) (derived-holds d₂)
+  derived-holds {Γ} {Ψ} (IF {k = k} {v = v} {e₁ = e₁} {e₂ = e₂} d₁ t₁ p₁ d₂ t₂ p₂) =
+      binary-all Γ Ψ If k v e₁ e₂ (t₁, (t₂, (covers-none p₁, (covers-none p₂, tt))))
+      (derived-holds d₁) (derived-holds d₂)
+  derived-holds {Γ} {Ψ} (WHILE {k = k} {v = v} {e₁ = e₁} d p₁ p t) =
+      unary-all Γ Ψ While k v e₁ (int-is t, (covers-none p, (covers-none p₁, tt))) (derived-holds d)
+  derived-holds {Γ} {Ψ} (NEWT {k = k} {v = v} t p) =
+      leaf-all Γ Ψ Newtid k v (tid-is t, (equal-none p, tt))
+  derived-holds {Γ} {Ψ} (SPAWN {k = k} {v = v} {e₁ = e₁} {e₂ = e₂} d₁ t d₂ c i p) =
+      binary-all Γ Ψ Spawn k v e₁ e₂ (int-is i, (tid-is t, (covers-none (rw (tid-load S t) c), (equal-none p, tt))))
+      (derived-holds d₁) (derived-holds d₂)
+  derived-holds {Γ} {Ψ} (JOIN {k = k} {v = v} {e₁ = e₁} d t i p) =
+      unary-all Γ Ψ Join k v e₁ (int-is i, (tid-is t, (equal-none (rw (tid-load S t) p), tt))) (derived-holds d)
+  derived-holds {Γ} {Ψ} (REF {k = k} {v = v} {e₁ = e₁} d t a p) =
+      unary-all Γ Ψ Ref k v e₁ (ref-of-is S _ t a, (equal-none p, tt)) (derived-holds d)
+  derived-holds {Γ} {Ψ} (WRITE {k = k} {v = v} {e₁ = e₁} {e₂ = e₂} d₁ t d₂ a w i p) =
+      binary-all Γ Ψ Write k v e₁ e₂
       (int-is i, (ref-is t, (ref-of-is S _ t a, (equal-none p, (writable _ (post S (binary Write k v e₁ e₂)) t w, tt)))))
-      (derived-holds d₁ pre q) (derived-holds d₂ _ refl)
-  derived-holds {Γ} (READ {k = k} {v = v} {e₁ = e₁} d t a w p) pre q =
-      unary-all Γ pre Read k v e₁
-      (ref-is t, (ref-of-is S _ t a, (equal-none p, (readable (post S (unary Read k v e₁)) t w, tt)))) (derived-holds d pre q)
-  derived-holds {Γ} (NEWL {k = k} {v = v} t p) pre q =
-      leaf-all Γ pre Newlock k v (lock-is t, (equal-none (rw (lock-load S t) (p ∙ sym q)), tt))
-  derived-holds {Γ} (FREEL {k = k} {v = v} {e₁ = e₁} d t i p) pre q =
-      unary-all Γ pre Freelock k v e₁ (int-is i, (lock-is t, (equal-none (rw (lock-load S t) p), tt))) (derived-holds d pre q)
-  derived-holds {Γ} (LCK {k = k} {v = v} {e₁ = e₁} d t i p) pre q =
-      unary-all Γ pre Lock k v e₁ (int-is i, (lock-is t, (equal-none (rw (lock-load S t) p), tt))) (derived-holds d pre q)
-  derived-holds {Γ} (ULCK {k = k} {v = v} {e₁ = e₁} d t i p) pre q =
-      unary-all Γ pre Unlock k v e₁ (int-is i, (lock-is t, (equal-none (rw (lock-load S t) p), tt))) (derived-holds d pre q)
-  derived-holds {Γ} (NEWSEM {k = k} {v = v} t p) pre q =
-      leaf-all Γ pre Newsem k v (sem-is t, (equal-none (p ∙ sym q), tt))
-  derived-holds {Γ} (POST {k = k} {v = v} {e₁ = e₁} d t i p) pre q =
-      unary-all Γ pre Post k v e₁ (int-is i, (sem-is t, (equal-none (rw (sem-load S t) p), tt))) (derived-holds d pre q)
-  derived-holds {Γ} (WAIT {k = k} {v = v} {e₁ = e₁} d t i p) pre q =
-      unary-all Γ pre Wait k v e₁ (int-is i, (sem-is t, (equal-none (rw (sem-load S t) p), tt))) (derived-holds d pre q)
+      (derived-holds d₁) (derived-holds d₂)
+  derived-holds {Γ} {Ψ} (READ {k = k} {v = v} {e₁ = e₁} d t a w p) =
+      unary-all Γ Ψ Read k v e₁
+      (ref-is t, (ref-of-is S _ t a, (equal-none p, (readable (post S (unary Read k v e₁)) t w, tt)))) (derived-holds d)
+  derived-holds {Γ} {Ψ} (NEWL {k = k} {v = v} t p) =
+      leaf-all Γ Ψ Newlock k v (lock-is t, (equal-none (rw (lock-load S t) p), tt))
+  derived-holds {Γ} {Ψ} (FREEL {k = k} {v = v} {e₁ = e₁} d t i p) =
+      unary-all Γ Ψ Freelock k v e₁ (int-is i, (lock-is t, (equal-none (rw (lock-load S t) p), tt))) (derived-holds d)
+  derived-holds {Γ} {Ψ} (LCK {k = k} {v = v} {e₁ = e₁} d t i p) =
+      unary-all Γ Ψ Lock k v e₁ (int-is i, (lock-is t, (equal-none (rw (lock-load S t) p), tt))) (derived-holds d)
+  derived-holds {Γ} {Ψ} (ULCK {k = k} {v = v} {e₁ = e₁} d t i p) =
+      unary-all Γ Ψ Unlock k v e₁ (int-is i, (lock-is t, (equal-none (rw (lock-load S t) p), tt))) (derived-holds d)
+  derived-holds {Γ} {Ψ} (NEWSEM {k = k} {v = v} t p) =
+      leaf-all Γ Ψ Newsem k v (sem-is t, (equal-none p, tt))
+  derived-holds {Γ} {Ψ} (POST {k = k} {v = v} {e₁ = e₁} d t i p) =
+      unary-all Γ Ψ Post k v e₁ (int-is i, (sem-is t, (equal-none (rw (sem-load S t) p), tt))) (derived-holds d)
+  derived-holds {Γ} {Ψ} (WAIT {k = k} {v = v} {e₁ = e₁} d t i p) =
+      unary-all Γ Ψ Wait k v e₁ (int-is i, (sem-is t, (equal-none (rw (sem-load S t) p), tt))) (derived-holds d)
 
   -- ------------------------------------------------------------------ the theorem, both ways
 
-  pub conditions-derive : {t : Unit {0}} (Γ : Env) (pre : MapNumber) (e : Expr) → firstFalse (claims S (sites S Γ pre e)) ≡ on t
-      → Derives S Γ (mapAt S pre) e
+  pub conditions-derive : {t : Unit {0}} (Γ : Env) (pre : Map) (e : Expr) → firstFalse (claims S (sites S Γ pre e)) ≡ on t
+      → Derives S Γ pre e
   conditions-derive Γ pre e h = holding-derives Γ pre e (none-false-all-hold _ h)
 
-  pub derivation-meets-conditions : (Γ : Env) (pre : MapNumber) (e : Expr) → Derives S Γ (mapAt S pre) e
+  pub derivation-meets-conditions : (Γ : Env) (pre : Map) (e : Expr) → Derives S Γ pre e
       → firstFalse (claims S (sites S Γ pre e)) ≡ on tt
-  derivation-meets-conditions Γ pre e d = all-hold-none-false _ (derived-holds d pre refl)
+  derivation-meets-conditions Γ pre e d = all-hold-none-false _ (derived-holds d)

@@ -1,5 +1,7 @@
--- A `C` sheet and the `C2` sheet that names map 0 for the start get the same answer.
+-- A `C` sheet and the `C2` sheet that names map 0 for the start get the same answer, unless the `C` sheet is turned away by 40: where
+-- it leaves out the start of a spawn, the `C2` sheet means something else.
 use mathlib.Core.Path.{_≡_, refl, sym, ap, _∙_}
+use mathlib.Core.Path.{subst as along}
 use mathlib.Core.List.{List, [], _∷_, _++_, map}
 use mathlib.Core.Bool.{Bool, true, false}
 use mathlib.Core.Option.{Option, none, some}
@@ -9,19 +11,17 @@ use lib.Dec.{eqb, leb}
 use lib.ListN.{length, replicate, length-append}
 use borrow.Author.Tests.{lt-ltb, le-leb, ne-eqb}
 use Rattle.spec.specs.Choice.{if_then_else_}
-use Rattle.spec.specs.Text.{bytes, same, Line, closed, onLine, lines, Field, onField, fields, lookUp, digitLimit, digits, leadingZero, value, numeral}
-use Rattle.spec.specs.Reading.{splitSheet, Out, stop, on, _>>=_, demand, Seen, right, wrong, badRange, seen, inRange, allInRange, withNumeral, numerals, ranged, numbers, passed, nextLine, next, nextAll, begin, end, Place}
+use Rattle.spec.specs.Text.{bytes, same, Line, closed, unclosed, onLine, lines, Field, onField, fields, lookUp, digitLimit, digits, leadingZero, value, numeral}
+use Rattle.spec.specs.Reading.{splitSheet, Out, stop, on, _>>=_, demand, noStart, Seen, right, wrong, badRange, seen, insist, inRange, allInRange, withNumeral, numerals, ranged, numbers, faulty, passed, nextLine, next, nextAll, begin, end, Place}
 use Rattle.spec.specs.Expression.{Step}
 use Rattle.spec.specs.Program.{Program, programLimit, program}
-use Rattle.spec.specs.Split.{Map, Header, headings, headerRanges, mapsOf, mapsIn, startOf, headerOf, headed, headerLine, typeLine, typeLines, mapLine, Row, startRange, rowLine, Split, splitLimit, split}
+use Rattle.spec.specs.Split.{Map, Header, headings, headerRanges, mapsOf, mapsIn, startOf, headerOf, headed, headerLine, typeLine, typeLines, mapLine, Row, startRange, mayBeEmpty, rowLine, Split, splitLimit, split}
 use Rattle.spec.specs.Workspace.{workspaceSize}
 use Rattle.spec.specs.Verdict.{startAtMostOne, ruled, checked, answer, verdict}
 use Rattle.spec.specs.declared.Heading.the-variants.{C, C2}
 use Rattle.spec.specs.declared.TypeLine.{TypeLine}
-use Rattle.spec.specs.declared.Refusal.the-variants.{ShortWorkspace, LongProgram, LongSplit}
-use Rattle.spec.specs.declared.Word.{Word}
-use Rattle.spec.specs.declared.Word.the-variants.{Leaf, Unary, Binary}
-use Rattle.spec.specs.declared.BinaryWord.the-variants.{Let, If, Spawn, Write}
+use Rattle.spec.specs.declared.Refusal.the-variants.{ShortWorkspace, LongProgram, LongSplit, NoStart}
+use Rattle.spec.specs.declared.Answer.the-variants.{Refuse}
 use Rattle.spec.proofs.NoHeading.{headedAs, under, same-start, same-ruled}
 
 -- ------------------------------------------------------------------ the numbers of the header
@@ -146,27 +146,75 @@ module _ (H : Header) where
   same-types own zero = refl
   same-types own (suc n) = λ i. (λ fs. same-type own fs i) ∷ same-types (own + 1) n i
 
-  same-range : (w : Word) → startRange w (headedAs C2 H) ≡ startRange w H
-  unfolding startRange headedAs
-  same-range (Leaf w) = refl
-  same-range (Unary w) = refl
-  same-range (Binary Let) = refl
-  same-range (Binary If) = refl
-  same-range (Binary Spawn) = refl
-  same-range (Binary Write) = refl
+  -- of a row that leaves out the start of a spawn
+  data Alike (x y : Seen Row) : Type 0 where
+    same-row : x ≡ y → Alike x y
+    turned-away : y ≡ wrong noStart → Alike x y
 
-  same-row : (s : Step) (fs : List Field) → rowLine (headedAs C2 H) s fs ≡ rowLine H s fs
-  unfolding rowLine headedAs
-  same-row s fs = rw (same-range (s .word))
+  empty-alike : (b : Bool) (x : Seen Row) → Alike (insist true noStart x) (insist b noStart x)
+  unfolding insist
+  empty-alike b (wrong v) = same-row refl
+  empty-alike true (right a) = same-row refl
+  empty-alike false (right a) = turned-away refl
 
-  same-rows : (steps : List Step) → map (rowLine (headedAs C2 H)) steps ≡ map (rowLine H) steps
-  same-rows steps = ap (λ (f : Step → List Field → Seen Row). map f steps) (λ i s fs. same-row s fs i)
+  row-alike : (s : Step) (fs : List Field) → Alike (rowLine (headedAs C2 H) s fs) (rowLine H s fs)
+  unfolding rowLine startRange mayBeEmpty headedAs
+  row-alike s [] = same-row refl
+  row-alike s (t ∷ []) = same-row refl
+  row-alike s (t ∷ m ∷ []) = same-row refl
+  row-alike s (t ∷ m ∷ [] ∷ []) = empty-alike (mayBeEmpty (H .heading) (s .word)) _
+  row-alike s (t ∷ m ∷ (b ∷ f) ∷ []) = same-row refl
+  row-alike s (t ∷ m ∷ f ∷ g ∷ fs) = same-row refl
 
--- two outcomes that go on alike from whatever was found
-same-on : {A B E : Type 0} (o : Out A) (f g : A → Out B) (j k : B → Out E) → ((a : A) → (f a >>= j) ≡ (g a >>= k)) → (o >>= f >>= j) ≡ (o >>= g >>= k)
+-- an outcome that is not stopped by 40
+Started : {A : Type 0} → Out A → Type 0
+Started o = (k : ℕ) → o ≡ stop (NoStart k) → ⊥
+
+-- two outcomes that go on alike from whatever was found, but for 40
+same-on : {A B E : Type 0} (o : Out A) (f g : A → Out B) (j k : B → Out E) → ((a : A) → Started (g a >>= k) → (f a >>= j) ≡ (g a >>= k))
+    → Started (o >>= g >>= k) → (o >>= f >>= j) ≡ (o >>= g >>= k)
 unfolding _>>=_
-same-on (stop r) f g j k h = refl
-same-on (on a) f g j k h = h a
+same-on (stop r) f g j k h started = refl
+same-on (on a) f g j k h started = h a started
+
+same-then : {A B : Type 0} (o : Out A) (f g : A → Out B) → ((a : A) → Started (g a) → f a ≡ g a) → Started (o >>= g) → (o >>= f) ≡ (o >>= g)
+unfolding _>>=_
+same-then (stop r) f g h started = refl
+same-then (on a) f g h started = h a started
+
+first-started : {A B : Type 0} (o : Out A) (f : A → Out B) → Started (o >>= f) → Started o
+unfolding _>>=_ Started
+first-started o f started k e = started k (rw e)
+
+-- ------------------------------------------------------------------ the rows
+
+module _ (H : Header) where
+  away : {x : Seen Row} (k : ℕ) (ls : List Line) → x ≡ wrong noStart → passed splitSheet k ls x ≡ stop (NoStart k)
+  unfolding passed faulty
+  away k ls e = rw e
+
+  line-alike : (s : Step) (k : ℕ) (ls : List Line) → Started (nextLine splitSheet (rowLine H s) k ls)
+      → nextLine splitSheet (rowLine (headedAs C2 H) s) k ls ≡ nextLine splitSheet (rowLine H s) k ls
+  unfolding nextLine Started
+  line-alike s k [] started = refl
+  line-alike s k (unclosed l ∷ ls) started = refl
+  line-alike s k (closed l ∷ ls) started = by-cases (row-alike H s (fields l))
+    where
+      by-cases : Alike H (rowLine (headedAs C2 H) s (fields l)) (rowLine H s (fields l))
+          → passed splitSheet (k + 1) ls (rowLine (headedAs C2 H) s (fields l)) ≡ passed splitSheet (k + 1) ls (rowLine H s (fields l))
+      by-cases (same-row e) = ap (passed splitSheet (k + 1) ls) e
+      by-cases (turned-away e) = absurd (started (k + 1) (away (k + 1) ls e))
+
+  rows-alike : (steps : List Step) (p : Place) → Started (nextAll splitSheet (map (rowLine H) steps) p)
+      → nextAll splitSheet (map (rowLine (headedAs C2 H)) steps) p ≡ nextAll splitSheet (map (rowLine H) steps) p
+  unfolding nextAll next
+  rows-alike [] p started = refl
+  rows-alike (s ∷ steps) p started =
+      rw (line-alike s (p .last) (p .rest) (first-started _ _ started))
+      (same-then (nextLine splitSheet (rowLine H s) (p .last) (p .rest)) _ _
+      (λ (a, after) rest-started. rw (rows-alike steps after (first-started _ _ rest-started))) started)
+
+-- ------------------------------------------------------------------ the sheet, from the header on
 
 -- from the header on, stage by stage
 module _ (H : Header) (steps : List Step) where
@@ -193,28 +241,33 @@ ruling-same P S = rw (same-start C2 S P, same-ruled C2 S P)
 
 module _ (P : Program) (H : Header) (steps : List Step) where
   rows-same : (types : List TypeLine) (maps : List Map) (x : List Row × Place)
+      → Started (afterRows H steps types maps x >>= ruling P)
       → (afterRows (headedAs C2 H) steps types maps x >>= ruling P) ≡ (afterRows H steps types maps x >>= ruling P)
   unfolding afterRows under _>>=_
   rows-same types maps (rows, p) =
-      same-on (end splitSheet p) _ _ (ruling P) (ruling P) (λ done. ruling-same P (record { header = H; types = types; maps = maps; rows = rows }))
+      same-on (end splitSheet p) _ _ (ruling P) (ruling P) (λ done started. ruling-same P (record { header = H; types = types; maps = maps; rows = rows }))
 
   maps-same : (types : List TypeLine) (x : List Map × Place)
+      → Started (afterMaps H steps types x >>= ruling P)
       → (afterMaps (headedAs C2 H) steps types x >>= ruling P) ≡ (afterMaps H steps types x >>= ruling P)
   unfolding afterMaps
-  maps-same types (maps, p) =
-      ap (λ (rs : List (List Field → Seen Row)). nextAll splitSheet rs p >>= afterRows (headedAs C2 H) steps types maps >>= ruling P) (same-rows H steps)
-      ∙ same-on (nextAll splitSheet (map (rowLine H) steps) p) _ _ (ruling P) (ruling P) (rows-same types maps)
+  maps-same types (maps, p) started =
+      ap (λ (o : Out (List Row × Place)). o >>= afterRows (headedAs C2 H) steps types maps >>= ruling P)
+      (rows-alike H steps p (first-started _ _ (first-started _ (ruling P) started)))
+      ∙ same-on (nextAll splitSheet (map (rowLine H) steps) p) _ _ (ruling P) (ruling P) (rows-same types maps) started
 
-  types-same : (x : List TypeLine × Place) → (afterTypes (headedAs C2 H) steps x >>= ruling P) ≡ (afterTypes H steps x >>= ruling P)
+  types-same : (x : List TypeLine × Place) → Started (afterTypes H steps x >>= ruling P)
+      → (afterTypes (headedAs C2 H) steps x >>= ruling P) ≡ (afterTypes H steps x >>= ruling P)
   unfolding afterTypes mapLine headedAs
   types-same (types, p) =
       same-on (nextAll splitSheet (replicate (H .maps) (mapLine H)) p) _ _ (ruling P) (ruling P) (maps-same types)
 
-  header-same : (p : Place) → (afterHeader (headedAs C2 H) steps p >>= ruling P) ≡ (afterHeader H steps p >>= ruling P)
+  header-same : (p : Place) → Started (afterHeader H steps p >>= ruling P)
+      → (afterHeader (headedAs C2 H) steps p >>= ruling P) ≡ (afterHeader H steps p >>= ruling P)
   unfolding afterHeader headedAs
-  header-same p =
+  header-same p started =
       ap (λ (rs : List (List Field → Seen TypeLine)). nextAll splitSheet rs p >>= afterTypes (headedAs C2 H) steps >>= ruling P) (same-types H 0 (H .types))
-      ∙ same-on (nextAll splitSheet (typeLines H 0 (H .types)) p) _ _ (ruling P) (ruling P) types-same
+      ∙ same-on (nextAll splitSheet (typeLines H 0 (H .types)) p) _ _ (ruling P) (ruling P) types-same started
 
 -- ------------------------------------------------------------------ the sheet
 
@@ -227,11 +280,11 @@ unfolding split begin next nextLine _>>=_ behind afterHeader afterTypes afterMap
 by-lines steps l t one = rw (above-lines l t one)
 
 module _ (P : Program) (steps : List Step) (r : List Line) where
-  passed-same : (s : Seen Header)
+  passed-same : (s : Seen Header) → Started (passed splitSheet 1 r s >>= behind steps >>= ruling P)
       → (passed splitSheet 1 r (seen (headedAs C2) s) >>= behind steps >>= ruling P) ≡ (passed splitSheet 1 r s >>= behind steps >>= ruling P)
   unfolding seen passed _>>=_ behind
-  passed-same (right H) = header-same P H steps (record { last = 1; rest = r })
-  passed-same (wrong w) = refl
+  passed-same (right H) started = header-same P H steps (record { last = 1; rest = r }) started
+  passed-same (wrong w) started = refl
 
 module _ (a t : List ℕ) (one : OneLine a) where
   another : (b : ℕ) → 10 < b → b ≡ 10 → ⊥
@@ -247,11 +300,13 @@ module _ (a t : List ℕ) (one : OneLine a) where
       let zero-named = one-line-append a (44 ∷ 48 ∷ []) one (another 44 (omega arith), (another 48 (omega arith), tt)) in
       (another 67 (omega arith), (another 50 (omega arith), (another 44 (omega arith), zero-named)))
 
-  sheet-same : (P : Program) → (split (P .steps) (named a above t) >>= ruling P) ≡ (split (P .steps) (unnamed a above t) >>= ruling P)
-  sheet-same P =
+  sheet-same : (P : Program) → Started (split (P .steps) (unnamed a above t) >>= ruling P)
+      → (split (P .steps) (named a above t) >>= ruling P) ≡ (split (P .steps) (unnamed a above t) >>= ruling P)
+  sheet-same P started =
       ap (λ (o : Out Split). o >>= ruling P) (by-lines (P .steps) (named a) t named-line)
       ∙ ap (λ (s : Seen Header). passed splitSheet 1 (lines t) s >>= behind (P .steps) >>= ruling P) (line-named a)
       ∙ passed-same P (P .steps) (lines t) (headerLine (fields (unnamed a)))
+      (along Started (ap (λ (o : Out Split). o >>= ruling P) (by-lines (P .steps) (unnamed a) t unnamed-line)) started)
       ∙ sym (ap (λ (o : Out Split). o >>= ruling P) (by-lines (P .steps) (unnamed a) t unnamed-line))
 
   module _ (fits : length (named a above t) ≤ splitLimit) where
@@ -261,15 +316,18 @@ module _ (a t : List ℕ) (one : OneLine a) where
         omega (arith, fits, length-append a (10 ∷ t), length-append (a ++ 44 ∷ 48 ∷ []) (10 ∷ t), length-append a (44 ∷ 48 ∷ []))
 
     answer-same : (P : Program)
+        → Started (demand (leb (length (unnamed a above t)) splitLimit) LongSplit >>= λ fits. split (P .steps) (unnamed a above t) >>= ruling P)
         → (demand (leb (length (named a above t)) splitLimit) LongSplit >>= λ fits. split (P .steps) (named a above t) >>= ruling P)
         ≡ (demand (leb (length (unnamed a above t)) splitLimit) LongSplit >>= λ fits. split (P .steps) (unnamed a above t) >>= ruling P)
     unfolding demand _>>=_
-    answer-same P = rw (le-leb _ _ fits, le-leb _ _ shorter) (sheet-same P)
+    answer-same P started = rw (le-leb _ _ fits, le-leb _ _ shorter) (sheet-same P (rw (le-leb _ _ shorter) at started))
 
     -- "A `C` sheet still means map 0"
-    pub start-written-out : (room : ℕ) (p : List ℕ) → verdict room p (named a above t) ≡ verdict room p (unnamed a above t)
-    unfolding verdict checked ruling
-    start-written-out room p =
-        ap (λ (f : Program → Out (Unit {0})).
-        answer (demand (leb workspaceSize room) ShortWorkspace >>= λ enough. demand (leb (length p) programLimit) LongProgram >>= λ fits. program p >>= f))
-        (λ i P. answer-same P i)
+    pub start-written-out : (room : ℕ) (p : List ℕ) → ((k : ℕ) → verdict room p (unnamed a above t) ≡ Refuse (NoStart k) → ⊥)
+        → verdict room p (named a above t) ≡ verdict room p (unnamed a above t)
+    unfolding verdict checked ruling answer Started
+    start-written-out room p started =
+        ap answer
+        (same-then (demand (leb workspaceSize room) ShortWorkspace) _ _
+        (λ enough. same-then (demand (leb (length p) programLimit) LongProgram) _ _
+        (λ fits. same-then (program p) _ _ answer-same)) (λ k e. started k (ap answer e)))

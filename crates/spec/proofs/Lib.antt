@@ -3,6 +3,9 @@ pub mod Reasons
 pub mod Clashes
 pub mod Tests
 pub mod Ranges
+pub mod Starts
+pub mod StartsBefore
+pub mod StartsPairs
 pub mod Outcomes
 pub mod Maps
 pub mod Agreement

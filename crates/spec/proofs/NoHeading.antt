@@ -2,12 +2,13 @@
 use mathlib.Core.Path.{_≡_, refl, ap, _∙_}
 use mathlib.Core.List.{List, [], _∷_, _++_}
 use mathlib.Core.Bool.{Bool}
+use mathlib.Core.Option.{Option, none, some}
 use lib.ListN.{getD}
 use Rattle.spec.specs.Expression.{Expr, leaf, unary, binary}
 use Rattle.spec.specs.Program.{Program}
 use Rattle.spec.specs.Split.{Map, Header, Split}
 use Rattle.spec.specs.Agreement.{Tree, plain, int, sameTree, treeOf, trees, tree, agree}
-use Rattle.spec.specs.Conditions.{Condition, T, Env, typeAt, mapAt, startMap, contains, row, type, kind, post, start, K, own}
+use Rattle.spec.specs.Conditions.{Condition, T, Env, typeAt, mapAt, startMap, contains, row, type, kind, post, startIn, start, K, own}
 use Rattle.spec.specs.Sites.{Site, preOfPart, preOfSecond, bind, sites, claimsAt, claims, firstFalse}
 use Rattle.spec.specs.Verdict.{startAtMostOne, ruled}
 use Rattle.spec.specs.declared.Heading.{Heading}
@@ -73,8 +74,13 @@ module _ (h : Heading) (S : Split) where
   later : (c : Condition) {cs ds : List Condition} → cs ≡ ds → _≡_ {A = List Condition} (c ∷ cs) (c ∷ ds)
   later c e = ap (_∷_ c) e
 
+  same-start-in : (o : Option MapNumber) → startIn (under h S) o ≡ startIn S o
+  unfolding startIn mapAt under headedAs
+  same-start-in none = refl
+  same-start-in (some m) = refl
+
   same-own : (Γ : Env) (pre : Map) (e : Expr) → own (under h S) Γ pre e ≡ own S Γ pre e
-  unfolding own row type kind post start K typeAt mapAt under headedAs
+  unfolding own row type kind post start startIn K typeAt mapAt under headedAs
   same-own Γ pre (leaf Var k v) = at-first _ (same-agree _ _)
   same-own Γ pre (leaf Int k v) = refl
   same-own Γ pre (leaf Newtid k v) = refl
@@ -91,28 +97,33 @@ module _ (h : Heading) (S : Split) where
   same-own Γ pre (unary Wait k v e₁) = refl
   same-own Γ pre (binary Let k v e₁ e₂) = at-first _ (same-agree _ _)
   same-own Γ pre (binary If k v e₁ e₂) = at-first _ (same-agree _ _) ∙ later _ (at-first _ (same-agree _ _))
-  same-own Γ pre (binary Spawn k v e₁ e₂) = refl
+  same-own Γ pre (binary Spawn k v e₁ e₂) = rw (same-start-in (row S (binary Spawn k v e₁ e₂) .start))
   same-own Γ pre (binary Write k v e₁ e₂) = later _ (later _ (at-first _ (same-contains _ _)))
 
   -- ---------------------------------------------------------------- all of them
 
-  same-sites : (Γ : Env) (pre : MapNumber) (e : Expr) → sites (under h S) Γ pre e ≡ sites S Γ pre e
-  unfolding sites row type under
+  same-sites : (Γ : Env) (pre : Map) (e : Expr) → sites (under h S) Γ pre e ≡ sites S Γ pre e
+  unfolding sites row type post start mapAt under
   same-sites Γ pre (leaf w k v) = refl
-  same-sites Γ pre (unary w k v e₁) = rw (same-sites Γ (preOfPart w pre (row S (unary w k v e₁) .post)) e₁)
-  same-sites Γ pre (binary w k v e₁ e₂) = rw (same-sites Γ pre e₁, same-sites (bind w v (type S e₁) Γ) (preOfSecond w pre (row S e₁ .post) (row S (binary w k v e₁ e₂) .start)) e₂)
+  same-sites Γ pre (unary w k v e₁) = rw (same-sites Γ (preOfPart w pre (post S (unary w k v e₁))) e₁)
+  same-sites Γ pre (binary w k v e₁ e₂) =
+      rw (
+        same-start-in (row S (binary w k v e₁ e₂) .start),
+        same-sites Γ pre e₁,
+        same-sites (bind w v (type S e₁) Γ) (preOfSecond w pre (post S e₁) (start S (binary w k v e₁ e₂))) e₂,
+      )
 
   same-claims : (ss : List Site) → claims (under h S) ss ≡ claims S ss
-  unfolding claims claimsAt mapAt under
+  unfolding claims claimsAt
   same-claims [] = refl
-  same-claims (s ∷ ss) = rw (same-own (s .Γ) (mapAt S (s .pre)) (s .step), same-claims ss)
+  same-claims (s ∷ ss) = rw (same-own (s .Γ) (s .pre) (s .step), same-claims ss)
 
   pub same-start : (P : Program) → startAtMostOne P (under h S) ≡ startAtMostOne P S
   unfolding startAtMostOne startMap mapAt under headedAs
   same-start P = refl
 
   pub same-ruled : (P : Program) → ruled P (under h S) ≡ ruled P S
-  unfolding ruled startMap under headedAs
+  unfolding ruled startMap mapAt under headedAs
   same-ruled P =
-      ap (λ (ss : List Site). firstFalse (claims (under h S) ss)) (same-sites [] (S .header .start) (P .root))
-      ∙ ap firstFalse (same-claims (sites S [] (S .header .start) (P .root)))
+      ap (λ (ss : List Site). firstFalse (claims (under h S) ss)) (same-sites [] (startMap S) (P .root))
+      ∙ ap firstFalse (same-claims (sites S [] (startMap S) (P .root)))

@@ -5,12 +5,11 @@ use mathlib.Core.List.{List, [], _∷_, _++_}
 use Prim.Native.Nat.{ℕ, suc, _+_, _≤_, _<_}
 use native.Mathlib.Omega.{arith}
 use Rattle.spec.specs.Expression.{Expr, leaf, unary, binary, size}
-use Rattle.spec.specs.Split.{Split}
-use Rattle.spec.specs.Conditions.{Condition, Env, lineOf, type, row}
+use Rattle.spec.specs.Split.{Map, Split}
+use Rattle.spec.specs.Conditions.{Condition, Env, lineOf, type, post, start}
 use Rattle.spec.specs.Sites.{Site, sites, preOfPart, preOfSecond, bind, Claim, numbered, claimsAt, claims}
 use Rattle.spec.specs.WellFormed.{LinesFrom}
 use Rattle.spec.specs.FirstFalse.{byLine, byNumber, EarlierThanAll, InOrder}
-use Rattle.spec.specs.declared.MapNumber.{MapNumber}
 use Rattle.spec.proofs.Claims.{claims-append}
 
 -- the lines of the claims, from lo on and below hi
@@ -97,17 +96,17 @@ module _ (S : Split) where
       let end : n + a + b ≡ n + (a + b) = omega arith in
       rw (claims-append S xs ys, ← end) (span-append n (n + a) (n + a + b) (claims S xs) (claims S ys) (omega arith) (omega arith) p q)
 
-  expression-span : (Γ : Env) (pre : MapNumber) (e : Expr) (n : ℕ) → LinesFrom n e → Span n (n + size e) (claims S (sites S Γ pre e))
+  expression-span : (Γ : Env) (pre : Map) (e : Expr) (n : ℕ) → LinesFrom n e → Span n (n + size e) (claims S (sites S Γ pre e))
   unfolding sites LinesFrom size lineOf
   expression-span Γ pre (leaf w k v) n h = step-first-span _ [] n 0 h (no-parts-span _ _)
   expression-span Γ pre (unary w k v e₁) n h =
       step-first-span _ _ n (size e₁) (h .0)
-      (expression-span Γ (preOfPart w pre (row S (unary w k v e₁) .post)) e₁ (n + 1) (h .1))
+      (expression-span Γ (preOfPart w pre (post S (unary w k v e₁))) e₁ (n + 1) (h .1))
   expression-span Γ pre (binary w k v e₁ e₂) n h =
-      let pre₂ = preOfSecond w pre (row S e₁ .post) (row S (binary w k v e₁ e₂) .start) in
+      let pre₂ = preOfSecond w pre (post S e₁) (start S (binary w k v e₁ e₂)) in
       step-first-span _ _ n (size e₁ + size e₂) (h .0)
       (parts-span _ _ (n + 1) (size e₁) (size e₂) (expression-span Γ pre e₁ (n + 1) (h .1))
       (expression-span (bind w v (type S e₁) Γ) pre₂ e₂ (n + 1 + size e₁) (h .2)))
 
-  pub claims-in-order : (Γ : Env) (pre : MapNumber) (e : Expr) (n : ℕ) → LinesFrom n e → InOrder (claims S (sites S Γ pre e))
+  pub claims-in-order : (Γ : Env) (pre : Map) (e : Expr) (n : ℕ) → LinesFrom n e → InOrder (claims S (sites S Γ pre e))
   claims-in-order Γ pre e n h = expression-span Γ pre e n h .0

@@ -7,27 +7,26 @@ use mathlib.Core.Option.{Option, none, some}
 use Prim.Native.Nat.{ℕ, zero, suc, _+_, _≤_, _<_}
 use native.Mathlib.Omega.{arith}
 use lib.Dec.{eqb}
-use lib.ListN.{length, getD, replicate, take, drop, length-replicate, List·getD-eq-default}
+use lib.ListN.{length, getD, replicate, length-replicate}
 use borrow.Author.Tests.{eqb-true, leb-true, ltb-true, le-leb, lt-leb}
 use Rattle.spec.specs.Choice.{if_then_else_}
 use Rattle.spec.specs.Text.{Line, bytes, same, Field, lookUp}
-use Rattle.spec.specs.Reading.{Fault, badForm, badRange, Seen, right, wrong, seen, Range, _to_, below, inRange, allInRange, numerals, ranged, numbers}
+use Rattle.spec.specs.Reading.{Fault, badForm, badRange, noStart, Seen, right, wrong, seen, insist, Range, _to_, below, inRange, allInRange, numerals, ranged, numbers}
 use Rattle.spec.specs.Expression.{Step}
-use Rattle.spec.specs.Split.{Map, Header, headings, headerRanges, mapsOf, mapsIn, startOf, headerOf, headed, headerLine, refOf, lockOf, tidOf, semOf, typeLine, typeLines, mapLine, Row, rowOf, blank, startRange, rowLine, Split}
+use Rattle.spec.specs.Split.{Map, Header, headings, headerRanges, mapsOf, mapsIn, startOf, headerOf, headed, headerLine, refOf, lockOf, tidOf, semOf, typeLine, typeLines, mapLine, Row, rowOf, startGiven, takesStart, startRange, rowLine, Split}
 use Rattle.spec.specs.WellFormed.{Shows, nothing, line, WellFormedSplit}
 use Rattle.spec.specs.Ranges.{InRange}
 use Rattle.spec.specs.declared.Heading.{Heading}
 use Rattle.spec.specs.declared.Heading.the-variants.{C, C2}
+use Rattle.spec.specs.declared.MapNumber.{MapNumber}
 use Rattle.spec.specs.declared.Word.{Word}
-use Rattle.spec.specs.declared.Word.the-variants.{Leaf, Unary, Binary}
-use Rattle.spec.specs.declared.BinaryWord.the-variants.{Let, If, Spawn, Write}
 use Rattle.spec.specs.declared.TypeLine.{TypeLine}
 use Rattle.spec.specs.declared.TypeLine.the-variants as type-line
 use Rattle.spec.proofs.Tests.{both-true}
 
 -- ------------------------------------------------------------------ lines that show something
 
-wrong-is-not-right : {A B : Type 0} {w : Fault} {a : A} → wrong w ≡ right a → B
+pub wrong-is-not-right : {A B : Type 0} {w : Fault} {a : A} → wrong w ≡ right a → B
 wrong-is-not-right h = let z : _≡_ {A = ℕ} 0 1 = cc in absurd (omega arith)
 
 right-inj : {A : Type 0} {a b : A} → right a ≡ right b → a ≡ b
@@ -235,42 +234,44 @@ maps-wide H (suc n) (line {a = a} {as′ = ms} h more) =
 
 -- ------------------------------------------------------------------ step lines
 
+-- a start that is given is a map
+StartFits : Header → Option MapNumber → Type 0
+StartFits H none = Unit {0}
+StartFits H (some m) = m .0 < H .maps
+
+RowFits : Header → Row → Type 0
+RowFits H r = (r .type .0 < H .types) × (r .post .0 < H .maps) × StartFits H (r .start)
+
 -- on every word, a number s is a map
 start-below : (w : Word) (H : Header) (n : ℕ) → inRange (startRange w H) n ≡ true → n < H .maps
 unfolding startRange
-start-below (Leaf w) H n h = let q = in-below 0 n h in absurd (omega arith)
-start-below (Unary w) H n h = let q = in-below 0 n h in absurd (omega arith)
-start-below (Binary Let) H n h = let q = in-below 0 n h in absurd (omega arith)
-start-below (Binary If) H n h = let q = in-below 0 n h in absurd (omega arith)
-start-below (Binary Spawn) H n h = in-below _ n h
-start-below (Binary Write) H n h = let q = in-below 0 n h in absurd (omega arith)
+start-below w H n h = by-cases (takesStart w) (in-below _ n h)
+  where
+    by-cases : (b : Bool) → n < (if b then H .maps else 0) → n < H .maps
+    by-cases true q = q
+    by-cases false q = absurd (omega arith)
 
-RowFits : Header → Row → Type 0
-RowFits H r = (r .type .0 < H .types) × (r .post .0 < H .maps) × (r .start .0 < H .maps)
+pub insist-right : {A : Type 0} {a : A} (b : Bool) (w : Fault) (x : Seen A) → insist b w x ≡ right a → (b ≡ true) × (x ≡ right a)
+unfolding insist
+insist-right b w (wrong v) h = wrong-is-not-right h
+insist-right true w (right a) h = (refl, h)
+insist-right false w (right a) h = wrong-is-not-right h
 
-module _ (H : Header) (some-map : 1 ≤ H .maps) where
-  -- two numbers: there is no third, and s is map 0
-  without-start : (fs : List Field) (ns : List ℕ) → numbers (below (H .types) ∷ below (H .maps) ∷ []) fs ≡ right ns → RowFits H (rowOf ns)
-  unfolding RowFits rowOf
-  without-start fs ns n =
-      let rs = below (H .types) ∷ below (H .maps) ∷ [] in
-      let at = in-range-at rs fs ns n in
-      let none-third : getD ns 2 0 ≡ 0 = List·getD-eq-default ns 0 (omega (arith, numbers-right rs fs ns n .0)) in
-      (in-below _ _ (at 0 (omega arith)), in-below _ _ (at 1 (omega arith)), omega (arith, none-third))
-
-  with-start : (w : Word) (fs : List Field) (ns : List ℕ) → numbers (below (H .types) ∷ below (H .maps) ∷ startRange w H ∷ []) fs ≡ right ns
-      → RowFits H (rowOf ns)
-  unfolding RowFits rowOf
-  with-start w fs ns n =
-      let at = in-range-at (below (H .types) ∷ below (H .maps) ∷ startRange w H ∷ []) fs ns n in
-      (in-below _ _ (at 0 (omega arith)), in-below _ _ (at 1 (omega arith)), start-below w H _ (at 2 (omega arith)))
-
+module _ (H : Header) where
   row-fits : (s : Step) (fs : List Field) (r : Row) → rowLine H s fs ≡ right r → RowFits H r
-  unfolding rowLine
-  row-fits s fs r h =
+  unfolding rowLine rowOf startGiven RowFits StartFits
+  row-fits s [] r h = wrong-is-not-right h
+  row-fits s (t ∷ []) r h = wrong-is-not-right h
+  row-fits s (t ∷ m ∷ []) r h = wrong-is-not-right h
+  row-fits s (t ∷ m ∷ [] ∷ []) r h =
+      let (ns, n, e) = seen-right _ (insist-right _ noStart _ h .1) in
+      let at = in-range-at (below (H .types) ∷ below (H .maps) ∷ []) (t ∷ m ∷ []) ns n in
+      along (RowFits H) e (in-below _ _ (at 0 (omega arith)), in-below _ _ (at 1 (omega arith)), tt)
+  row-fits s (t ∷ m ∷ (b ∷ f) ∷ []) r h =
       let (ns, n, e) = seen-right _ h in
-      along (RowFits H) e
-      (either-right (λ ns. RowFits H (rowOf ns)) (blank (drop 2 fs)) _ _ (without-start (take 2 fs)) (with-start (s .word) fs) ns n)
+      let at = in-range-at (below (H .types) ∷ below (H .maps) ∷ startRange (s .word) H ∷ []) (t ∷ m ∷ (b ∷ f) ∷ []) ns n in
+      along (RowFits H) e (in-below _ _ (at 0 (omega arith)), in-below _ _ (at 1 (omega arith)), start-below (s .word) H _ (at 2 (omega arith)))
+  row-fits s (t ∷ m ∷ f ∷ g ∷ fs) r h = wrong-is-not-right h
 
   rows-fit : (steps : List Step) {ls rest : List Line} {rs : List Row} → Shows (map (rowLine H) steps) ls rs rest
       → (length rs ≡ length steps) × ((i : ℕ) (d : Row) → i < length rs → RowFits H (getD rs i d))
@@ -286,13 +287,13 @@ module _ (H : Header) (some-map : 1 ≤ H .maps) where
 -- ------------------------------------------------------------------ the sheet
 
 pub well-formed-in-range : {steps : List Step} {text : List ℕ} {S : Split} → WellFormedSplit steps text S → InRange steps S
-unfolding TypeFits RowFits
+unfolding TypeFits RowFits StartFits
 well-formed-in-range {steps} {text} {S} F =
     let H = S .header in
     let head = header-fits _ H (F .headed) in
     let (typesCounted, types) = types-fit H 0 (H .types) (F .typed) in
     let (mapsCounted, wide) = maps-wide H (H .maps) (F .mapped) in
-    let (rowsCounted, rows) = rows-fit H (head .maps .0) steps (F .rowed) in
+    let (rowsCounted, rows) = rows-fit H steps (F .rowed) in
     let fits : (t : ℕ) (τ : TypeLine) → t < length (S .types) → getD (S .types) t type-line.Int ≡ τ → TypeFits H t τ =
     λ t τ h e. let z : 0 + t ≡ t = omega arith in along (TypeFits H t) e (along (λ o. TypeFits H o (getD (S .types) t type-line.Int)) z (types t h)) in
     record {
@@ -311,5 +312,5 @@ well-formed-in-range {steps} {text} {S} F =
       semLoad = λ t k h e. omega (arith, mapsCounted, fits t (type-line.Sem k) h e);
       rowType = λ i d h. omega (arith, typesCounted, rows i d h .0);
       rowPost = λ i d h. omega (arith, mapsCounted, rows i d h .1);
-      rowStart = λ i d h. omega (arith, mapsCounted, rows i d h .2);
+      rowStart = λ i d m h e. omega (arith, mapsCounted, along (StartFits H) e (rows i d h .2));
     }

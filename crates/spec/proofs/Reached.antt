@@ -7,7 +7,7 @@ use borrow.Author.Tests.{leb-true, le-leb}
 use Rattle.spec.specs.Reading.{Out, on}
 use Rattle.spec.specs.Program.{Program}
 use Rattle.spec.specs.Split.{Split}
-use Rattle.spec.specs.Conditions.{mapAt, startMap}
+use Rattle.spec.specs.Conditions.{startMap}
 use Rattle.spec.specs.Workspace.{workspaceSize}
 use Rattle.spec.specs.Verdict.{refuseOver, startAtMostOne, ruled, checked, four, returned, onConditions}
 use Rattle.spec.specs.WellFormed.{WellFormedProgram, WellFormedSplit}
@@ -28,11 +28,11 @@ none-over : (k : ℕ) (o : Option ℕ) → o ≡ none → refuseOver k o ≡ on 
 unfolding refuseOver
 none-over k o h = rw h
 
-start-at-most-one : {t : Unit {0}} (P : Program) (S : Split) → startAtMostOne P S ≡ on t → AtMost (S .header .denominator) (mapAt S (startMap S))
+start-at-most-one : {t : Unit {0}} (P : Program) (S : Split) → startAtMostOne P S ≡ on t → AtMost (S .header .denominator) (startMap S)
 unfolding startAtMostOne
 start-at-most-one P S h = none-at-most _ 0 _ (over-none _ _ h)
 
-at-most-one-start : (P : Program) (S : Split) → AtMost (S .header .denominator) (mapAt S (startMap S)) → startAtMostOne P S ≡ on tt
+at-most-one-start : (P : Program) (S : Split) → AtMost (S .header .denominator) (startMap S) → startAtMostOne P S ≡ on tt
 unfolding startAtMostOne
 at-most-one-start P S h = none-over _ _ (at-most-none _ 0 h)
 
@@ -45,7 +45,7 @@ pub record Reached (room : ℕ) (p s : List ℕ) (o : Out (Unit {0})) : Type 0 w
   pub enough : workspaceSize ≤ room
   pub program : WellFormedProgram p P
   pub split : WellFormedSplit (P .steps) s S
-  pub atMostOne : AtMost (S .header .denominator) (mapAt S (startMap S))
+  pub atMostOne : AtMost (S .header .denominator) (startMap S)
   pub outcome : ruled P S ≡ o
 
 pub reached : (room : ℕ) (p s : List ℕ) (o : Out (Unit {0})) → Late o → checked room p s ≡ o → Reached room p s o

@@ -3,7 +3,7 @@ use mathlib.Core.List.{List, [], _∷_}
 use Prim.Native.Nat.{ℕ, _≤_}
 use Rattle.spec.specs.Program.{Program}
 use Rattle.spec.specs.Split.{Map, Split}
-use Rattle.spec.specs.Conditions.{mapAt, startMap}
+use Rattle.spec.specs.Conditions.{startMap}
 use Rattle.spec.specs.Figure5.{Derives}
 use Rattle.spec.specs.WellFormed.{WellFormedProgram, WellFormedSplit}
 
@@ -19,5 +19,5 @@ pub record Right (programText splitText : List ℕ) : Type 0 where
   pub S : Split
   pub program : WellFormedProgram programText P
   pub split : WellFormedSplit (P .steps) splitText S
-  pub atMostOne : AtMost (S .header .denominator) (mapAt S (startMap S))
-  pub derives : Derives S [] (mapAt S (startMap S)) (P .root)
+  pub atMostOne : AtMost (S .header .denominator) (startMap S)
+  pub derives : Derives S [] (startMap S) (P .root)

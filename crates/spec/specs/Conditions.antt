@@ -4,7 +4,7 @@ use mathlib.Core.Bool.{Bool, true, false}
 use mathlib.Core.Option.{Option, none, some}
 use Prim.Native.Nat.{ℕ, _+_, _-_}
 use lib.Dec.{eqb, leb, ltb}
-use lib.ListN.{getD}
+use lib.ListN.{getD, replicate}
 use Rattle.spec.specs.Choice.{if_then_else_}
 use Rattle.spec.specs.Reading.{Out, stop, on, _>>=_}
 use Rattle.spec.specs.Expression.{Expr, leaf, unary, binary}
@@ -103,8 +103,8 @@ lineOf (binary w k v e₁ e₂) = k
 
 module _ (S : Split) where
   -- the start, which a program's first step has for its pre
-  unfoldable pub startMap : MapNumber
-  startMap = S .header .start
+  unfoldable pub startMap : Map
+  startMap = mapAt S (S .header .start)
 
   -- a ref type whose c agrees with the type t
   unfoldable pub contains : TypeLine → TypeNumber → Bool
@@ -116,7 +116,7 @@ module _ (S : Split) where
 
   -- the split's row of an expression's first step: rows begin with the step at line 2
   unfoldable pub row : Expr → Row
-  row e = getD (S .rows) (lineOf e - 2) (record { type = record { 0 = 0 }; post = record { 0 = 0 }; start = record { 0 = 0 } })
+  row e = getD (S .rows) (lineOf e - 2) (record { type = record { 0 = 0 }; post = record { 0 = 0 }; start = none })
 
   -- of an expression: its type by number, that type's line, its post, the map that a spawned body starts with, K of its type
   unfoldable pub type : Expr → TypeNumber
@@ -128,8 +128,13 @@ module _ (S : Split) where
   unfoldable pub post : Expr → Map
   post e = mapAt S (row e .post)
 
+  -- "an empty start now means nothing of any location"
+  unfoldable pub startIn : Option MapNumber → Map
+  startIn none = replicate (S .header .locations) 0
+  startIn (some m) = mapAt S m
+
   unfoldable pub start : Expr → Map
-  start e = mapAt S (row e .start)
+  start e = startIn (row e .start)
 
   unfoldable pub K : Expr → Map
   K e = mapAt S (load (kind e))

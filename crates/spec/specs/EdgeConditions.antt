@@ -88,7 +88,7 @@ spawnRows =
     ("P,3|spawn,0|newtid,0|int,0|" with (rows "0,1,1|3,0,|0,1,|") is four 31 2 2 0) ∷
     ("P,3|spawn,0|newtid,0|int,0|" with (rows "0,1,1|2,0,|0,2,|") is four 32 2 3 0) ∷
     ("P,3|spawn,0|newtid,0|int,0|" with (rows "0,0,1|2,0,|0,1,|") is four 32 2 4 0) ∷
-    ("P,3|spawn,0|newtid,0|int,0|" with (rows "0,2,|2,0,|0,0,|") is four 0 0 0 0) ∷
+    ("P,3|spawn,0|newtid,0|int,0|" with (rows "0,2,|2,0,|0,0,|") is four 40 10 0 0) ∷
     []
 
 -- join

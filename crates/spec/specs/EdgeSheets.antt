@@ -142,7 +142,7 @@ mapRows =
     ("P,1|int,0|" with "C,1,2,1,1|int,0,0|1000000001,x|0,0,|" is four 21 3 0 0) ∷
     []
 
--- step lines of the split: s is empty on another word than spawn, and an empty s on a spawn is map 0
+-- step lines of the split: s is empty on another word than spawn, and given on a spawn
 unfoldable pub rowRows : List Pair
 rowRows =
     ("P,1|int,0|" with (of "0,0|") is four 21 4 0 0) ∷
@@ -154,7 +154,7 @@ rowRows =
     ("P,1|int,0|" with (of "0,1,|") is four 22 4 0 0) ∷
     ("P,1|int,0|" with (of "0,0,0|") is four 22 4 0 0) ∷
     ("P,1|int,0|" with (of "9,9,x|") is four 21 4 0 0) ∷
-    (P with (S "2" "0,1,") is four 32 8 4 0) ∷
+    (P with (S "2" "0,1,") is four 40 13 0 0) ∷
     (P with (S "2" "0,1,2") is four 22 13 0 0) ∷
     (P with (S "2" "0,1,x") is four 21 13 0 0) ∷
     []

@@ -35,10 +35,10 @@ namedRows =
     ("P,1|int,0|" with (named "C,1,1,1,2" "1|0" "0") is four 0 0 0 0) ∷
     []
 
--- the start of a spawn that gives none is map 0, not map r: the whole is 2, of which the body takes 1
+-- a spawn that gives no start gives nothing, neither map 0 nor map r: the whole is 2, of which the spawn keeps 1
 unfoldable pub spawnedRows : List Pair
 spawnedRows =
-    ("P,3|spawn,0|newtid,0|int,0|" with "C2,2,1,2,2,1|int,0,0|tid,0,0|1|2|0,0,|1,1,|0,0,|" is four 0 0 0 0) ∷
+    ("P,3|spawn,0|newtid,0|int,0|" with "C2,2,1,2,2,1|int,0,0|tid,0,0|1|2|0,0,|1,1,|0,0,|" is four 32 2 4 0) ∷
     ("P,3|spawn,0|newtid,0|int,0|" with "C2,2,1,2,2,1|int,0,0|tid,0,0|1|2|0,0,1|1,1,|0,0,|" is four 32 2 4 0) ∷
     []
 

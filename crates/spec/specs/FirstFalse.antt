@@ -6,7 +6,7 @@ use mathlib.Core.Option.{none, some}
 use Prim.Native.Nat.{ℕ, _<_}
 use Rattle.spec.specs.Program.{Program}
 use Rattle.spec.specs.Split.{Split}
-use Rattle.spec.specs.Conditions.{Condition, T, F, A, mapAt, startMap}
+use Rattle.spec.specs.Conditions.{Condition, T, F, A, startMap}
 use Rattle.spec.specs.Sites.{Claim, sites, claims}
 use Rattle.spec.specs.WellFormed.{WellFormedProgram, WellFormedSplit}
 use Rattle.spec.specs.Accepted.{AtMost}
@@ -66,6 +66,6 @@ pub record Refuted (programText splitText : List ℕ) (r : Refusal) : Type 0 whe
   pub S : Split
   pub program : WellFormedProgram programText P
   pub split : WellFormedSplit (P .steps) splitText S
-  pub atMostOne : AtMost (S .header .denominator) (mapAt S (startMap S))
+  pub atMostOne : AtMost (S .header .denominator) (startMap S)
   pub inOrder : InOrder (claims S (sites S [] (startMap S) (P .root)))
   pub first : FirstFalse (claims S (sites S [] (startMap S) (P .root))) r

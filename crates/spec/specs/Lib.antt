@@ -17,6 +17,7 @@ pub mod Ranges
 pub mod KnownPairs
 pub mod EdgeSheets
 pub mod EdgeConditions
+pub mod EdgeSpawns
 pub mod EdgeAgreement
 pub mod EdgeNumbers
 pub mod EdgeStart

@@ -1,6 +1,7 @@
 -- What the ranges of a split sheet's lines come to: every number that is used as one of its kind is one of its kind.
 use mathlib.Core.Path.{_≡_}
 use mathlib.Core.List.{List, []}
+use mathlib.Core.Option.{some}
 use Prim.Native.Nat.{ℕ, _≤_, _<_}
 use lib.ListN.{length, getD}
 use Rattle.spec.specs.Expression.{Step}
@@ -34,4 +35,4 @@ pub record InRange (steps : List Step) (S : Split) : Type 0 where
   -- the numbers on a row
   pub rowType : (i : ℕ) (d : Row) → i < length (S .rows) → getD (S .rows) i d .type .0 < length (S .types)
   pub rowPost : (i : ℕ) (d : Row) → i < length (S .rows) → getD (S .rows) i d .post .0 < length (S .maps)
-  pub rowStart : (i : ℕ) (d : Row) → i < length (S .rows) → getD (S .rows) i d .start .0 < length (S .maps)
+  pub rowStart : (i : ℕ) (d : Row) (m : MapNumber) → i < length (S .rows) → getD (S .rows) i d .start ≡ some m → m .0 < length (S .maps)

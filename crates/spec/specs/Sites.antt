@@ -5,10 +5,9 @@ use mathlib.Core.Option.{Option, none, some}
 use Prim.Native.Nat.{ℕ, _+_}
 use Rattle.spec.specs.Reading.{Out, stop, on, _>>=_}
 use Rattle.spec.specs.Expression.{Expr, leaf, unary, binary}
-use Rattle.spec.specs.Split.{Split}
-use Rattle.spec.specs.Conditions.{Condition, T, F, A, Env, lineOf, mapAt, type, row, own}
+use Rattle.spec.specs.Split.{Map, Split}
+use Rattle.spec.specs.Conditions.{Condition, T, F, A, Env, lineOf, type, post, start, own}
 use Rattle.spec.specs.declared.TypeNumber.{TypeNumber}
-use Rattle.spec.specs.declared.MapNumber.{MapNumber}
 use Rattle.spec.specs.declared.Refusal.{Refusal}
 use Rattle.spec.specs.declared.Refusal.the-variants.{TypeFalse, FlowFalse, AccessFalse}
 use Rattle.spec.specs.declared.UnaryWord.{UnaryWord}
@@ -19,7 +18,7 @@ use Rattle.spec.specs.declared.BinaryWord.the-variants.{Let, If, Spawn, 
 -- ------------------------------------------------------------------ the map before a step
 
 -- "the part of `while` has the `while`'s own post; [..] any other part has its step's pre"
-unfoldable pub preOfPart : UnaryWord → (pre post : MapNumber) → MapNumber
+unfoldable pub preOfPart : UnaryWord → (pre post : Map) → Map
 preOfPart While pre post = post
 preOfPart Join pre post = pre
 preOfPart Ref pre post = pre
@@ -32,7 +31,7 @@ preOfPart Wait pre post = pre
 
 -- "for `let` and `write`, [..] e2 has e1's post; both parts of `if` have its pre; [..] in `spawn`, [..] e2 has s";
 -- e1 has the step's pre on each of these words
-unfoldable pub preOfSecond : BinaryWord → (pre post₁ start : MapNumber) → MapNumber
+unfoldable pub preOfSecond : BinaryWord → (pre post₁ start : Map) → Map
 preOfSecond Let pre post₁ start = post₁
 preOfSecond If pre post₁ start = pre
 preOfSecond Spawn pre post₁ start = start
@@ -48,17 +47,17 @@ bind Write v t Γ = Γ
 -- a step, with the types of the variables there and the map before it
 pub record Site : Type 0 where
   pub Γ : Env
-  pub pre : MapNumber
+  pub pre : Map
   pub step : Expr
 
 module _ (S : Split) where
-  unfoldable pub sites : Env → (pre : MapNumber) → Expr → List Site
+  unfoldable pub sites : Env → (pre : Map) → Expr → List Site
   sites Γ pre (leaf w k v) = record { Γ = Γ; pre = pre; step = leaf w k v } ∷ []
   sites Γ pre (unary w k v e₁) = let e = unary w k v e₁ in
-      record { Γ = Γ; pre = pre; step = e } ∷ sites Γ (preOfPart w pre (row S e .post)) e₁
+      record { Γ = Γ; pre = pre; step = e } ∷ sites Γ (preOfPart w pre (post S e)) e₁
   sites Γ pre (binary w k v e₁ e₂) = let e = binary w k v e₁ e₂ in
       record { Γ = Γ; pre = pre; step = e }
-      ∷ (sites Γ pre e₁ ++ sites (bind w v (type S e₁) Γ) (preOfSecond w pre (row S e₁ .post) (row S e .start)) e₂)
+      ∷ (sites Γ pre e₁ ++ sites (bind w v (type S e₁) Γ) (preOfSecond w pre (post S e₁) (start S e)) e₂)
 
 -- ------------------------------------------------------------------ the first false condition
 
@@ -75,7 +74,7 @@ numbered k i (c ∷ cs) = record { line = k; number = i; condition = c } ∷ num
 -- "conditions by step line, then by number"
 module _ (S : Split) where
   unfoldable pub claimsAt : Site → List Claim
-  claimsAt s = numbered (lineOf (s .step)) 1 (own S (s .Γ) (mapAt S (s .pre)) (s .step))
+  claimsAt s = numbered (lineOf (s .step)) 1 (own S (s .Γ) (s .pre) (s .step))
 
   unfoldable pub claims : List Site → List Claim
   claims [] = []

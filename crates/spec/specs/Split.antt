@@ -1,12 +1,12 @@
 -- The split sheet.
 use mathlib.Core.List.{List, [], _∷_, map}
-use mathlib.Core.Bool.{Bool, true, false}
+use mathlib.Core.Bool.{Bool, true, false, not}
 use mathlib.Core.Option.{Option, none, some}
 use Prim.Native.Nat.{ℕ, zero, suc, _+_}
-use lib.ListN.{getD, replicate, take, drop}
+use lib.ListN.{getD, replicate}
 use Rattle.spec.specs.Choice.{if_then_else_}
 use Rattle.spec.specs.Text.{bytes, same, lines, Field, lookUp}
-use Rattle.spec.specs.Reading.{splitSheet, Out, _>>=_, on, Seen, wrong, badForm, seen, Range, _to_, below, numerals, numbers, next, nextAll, begin, end}
+use Rattle.spec.specs.Reading.{splitSheet, Out, _>>=_, on, wrong, badForm, noStart, Seen, seen, insist, Range, _to_, below, numerals, numbers, next, nextAll, begin, end}
 use Rattle.spec.specs.Expression.{Step}
 use Rattle.spec.specs.declared.Heading.{Heading}
 use Rattle.spec.specs.declared.Heading.the-variants.{C, C2}
@@ -107,37 +107,48 @@ typeLines H own (suc n) = typeLine H own ∷ typeLines H (own + 1) n
 unfoldable pub mapLine : Header → List Field → Seen Map
 mapLine H fs = numbers (replicate (H .locations) (0 to 1000000000)) fs
 
--- `t,m,s`: a step's type, its post, and for a spawn the map that its body starts with
+-- `t,m,s`: a step's type, its post, and for a spawn the map that its body starts with, if one is given
 pub record Row : Type 0 where
   pub type : TypeNumber
   pub post : MapNumber
-  pub start : MapNumber
+  pub start : Option MapNumber
 
-unfoldable pub rowOf : List ℕ → Row
-rowOf ns = record { type = record { 0 = getD ns 0 0 }; post = record { 0 = getD ns 1 0 }; start = record { 0 = getD ns 2 0 } }
+unfoldable pub rowOf : Option MapNumber → List ℕ → Row
+rowOf start ns = record { type = record { 0 = getD ns 0 0 }; post = record { 0 = getD ns 1 0 }; start = start }
 
--- whether the fields are one, and nothing in it
-unfoldable pub blank : List Field → Bool
-blank [] = false
-blank ([] ∷ []) = true
-blank ((b ∷ f) ∷ []) = false
-blank (f ∷ g ∷ fs) = false
+unfoldable pub startGiven : List ℕ → MapNumber
+startGiven ns = record { 0 = getD ns 2 0 }
 
--- "On a spawn, an empty s means map 0. On any other word s is empty": there, no number is in its range.
+-- the word whose row has a start
+unfoldable pub takesStart : Word → Bool
+takesStart (Leaf w) = false
+takesStart (Unary w) = false
+takesStart (Binary Let) = false
+takesStart (Binary If) = false
+takesStart (Binary Spawn) = true
+takesStart (Binary Write) = false
+
+-- "On any other word s is empty": there, no number is in its range
 unfoldable pub startRange : Word → Header → Range
-startRange (Leaf w) H = below 0
-startRange (Unary w) H = below 0
-startRange (Binary Let) H = below 0
-startRange (Binary If) H = below 0
-startRange (Binary Spawn) H = below (H .maps)
-startRange (Binary Write) H = below 0
+startRange w H = below (if takesStart w then H .maps else 0)
 
+-- where s may be empty: on a spawn, under the heading `C2` alone
+unfoldable pub mayBeEmpty : Heading → Word → Bool
+mayBeEmpty C w = not (takesStart w)
+mayBeEmpty C2 w = true
+
+-- "40 for an empty start on a spawn in a `C` sheet, judged after 22 on that line"
 unfoldable pub rowLine : Header → Step → List Field → Seen Row
-rowLine H s fs =
-    seen rowOf
-    (if blank (drop 2 fs)
-    then numbers (below (H .types) ∷ below (H .maps) ∷ []) (take 2 fs)
-    else numbers (below (H .types) ∷ below (H .maps) ∷ startRange (s .word) H ∷ []) fs)
+rowLine H s [] = wrong badForm
+rowLine H s (t ∷ []) = wrong badForm
+rowLine H s (t ∷ m ∷ []) = wrong badForm
+rowLine H s (t ∷ m ∷ [] ∷ []) =
+    insist (mayBeEmpty (H .heading) (s .word)) noStart
+    (seen (rowOf none) (numbers (below (H .types) ∷ below (H .maps) ∷ []) (t ∷ m ∷ [])))
+rowLine H s (t ∷ m ∷ (b ∷ f) ∷ []) =
+    seen (λ ns. rowOf (some (startGiven ns)) ns)
+    (numbers (below (H .types) ∷ below (H .maps) ∷ startRange (s .word) H ∷ []) (t ∷ m ∷ (b ∷ f) ∷ []))
+rowLine H s (t ∷ m ∷ f ∷ g ∷ fs) = wrong badForm
 
 -- a split: its header, its types and maps by number, its rows in step order
 pub record Split : Type 0 where

@@ -9,14 +9,14 @@ use Rattle.spec.specs.Reading.{Out, stop, on, _>>=_, demand}
 use Rattle.spec.specs.Program.{Program, program, programLimit}
 use Rattle.spec.specs.Split.{Split, split, splitLimit}
 use Rattle.spec.specs.Maps.{overWhole}
-use Rattle.spec.specs.Conditions.{lineOf, mapAt, startMap}
+use Rattle.spec.specs.Conditions.{lineOf, startMap}
 use Rattle.spec.specs.Sites.{sites, claims, firstFalse}
 use Rattle.spec.specs.Workspace.{workspaceSize}
 use Rattle.spec.specs.declared.Returned.{Returned}
 use Rattle.spec.specs.declared.Answer.{Answer}
 use Rattle.spec.specs.declared.Answer.the-variants.{Accept, Refuse}
 use Rattle.spec.specs.declared.Refusal.{Refusal}
-use Rattle.spec.specs.declared.Refusal.the-variants.{ShortWorkspace, LongProgram, ProgramForm, ProgramRange, ProgramLines, Unbound, Rebound, LongSplit, SplitForm, SplitRange, SplitLines, OverOne, TypeFalse, FlowFalse, AccessFalse}
+use Rattle.spec.specs.declared.Refusal.the-variants.{ShortWorkspace, LongProgram, ProgramForm, ProgramRange, ProgramLines, Unbound, Rebound, LongSplit, SplitForm, SplitRange, SplitLines, NoStart, OverOne, TypeFalse, FlowFalse, AccessFalse}
 
 -- 30, at the root's line: the start is over the whole somewhere
 unfoldable pub refuseOver : (line : ℕ) → Option ℕ → Out (Unit {0})
@@ -24,7 +24,7 @@ refuseOver k none = on tt
 refuseOver k (some l) = stop (OverOne k (record { 0 = l }))
 
 unfoldable pub startAtMostOne : Program → Split → Out (Unit {0})
-startAtMostOne P S = refuseOver (lineOf (P .root)) (overWhole (S .header .denominator) 0 (mapAt S (startMap S)))
+startAtMostOne P S = refuseOver (lineOf (P .root)) (overWhole (S .header .denominator) 0 (startMap S))
 
 -- 31 to 33
 unfoldable pub ruled : Program → Split → Out (Unit {0})
@@ -68,6 +68,7 @@ returned (Refuse LongSplit) = four 20 0 0 0
 returned (Refuse (SplitForm k)) = four 21 k 0 0
 returned (Refuse (SplitRange k)) = four 22 k 0 0
 returned (Refuse (SplitLines k)) = four 23 k 0 0
+returned (Refuse (NoStart k)) = four 40 k 0 0
 returned (Refuse (OverOne k l)) = four 30 k 0 (l .0)
 returned (Refuse (TypeFalse k i)) = four 31 k i 0
 returned (Refuse (FlowFalse k i l)) = four 32 k i (l .0)

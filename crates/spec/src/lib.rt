@@ -69,6 +69,7 @@ pub enum Refusal {
     SplitForm(u32),
     SplitRange(u32),
     SplitLines(u32),
+    NoStart(u32),
     OverOne {
         line: u32,
         location: Location,

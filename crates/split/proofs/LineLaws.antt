@@ -4,8 +4,8 @@ use mathlib.Core.List.{List}
 use mathlib.Core.Bool.{true, false}
 use Prim.Native.Nat.{ℕ, _+_}
 use Rattle.spec.specs.Text.{lines, Line, Field}
-use Rattle.spec.specs.Reading.{splitSheet, stop, on, Seen, right, wrong, badForm, badRange, form, outside, miscounted, faulty, passed, next, end}
-use Rattle.spec.specs.declared.Refusal.the-variants.{SplitForm, SplitRange, SplitLines}
+use Rattle.spec.specs.Reading.{splitSheet, stop, on, Seen, right, wrong, badForm, badRange, noStart, form, outside, miscounted, faulty, passed, next, end}
+use Rattle.spec.specs.declared.Refusal.the-variants.{SplitForm, SplitRange, SplitLines, NoStart}
 use Rattle.lexer.specs.Views.{endOf, firstField, nothing, withField, lineAt}
 use Rattle.lexer.specs.Cursors.{Placed, rest, next as nextCursor, placeAt}
 use Rattle.lexer.specs.declared.Cursor.{Cursor}
@@ -39,6 +39,10 @@ module _ {A : Type 0} (k : ℕ) (l : List Line) where
   pub shows-range : {s : Seen A} → s ≡ wrong badRange → passed splitSheet k l s ≡ stop (SplitRange k)
   unfolding faulty passed outside
   shows-range e = rw e
+
+  pub shows-no-start : {s : Seen A} → s ≡ wrong noStart → passed splitSheet k l s ≡ stop (NoStart k)
+  unfolding faulty passed
+  shows-no-start e = rw e
 
 pub shows-entry : {A : Type 0} (text : List ℕ) (c d : Cursor) {s : Seen A} (a : A) → s ≡ right a → d .line ≡ c .line + 1
     → passed splitSheet (c .line + 1) (lines (rest text d)) s ≡ on (a, placeAt text d)

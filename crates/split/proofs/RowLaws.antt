@@ -2,7 +2,7 @@
 use mathlib.Core.Path.{_≡_, refl, sym, ap, subst, _∙_}
 use mathlib.Core.Logic.{⊎-elim}
 use mathlib.Core.List.{List, [], _∷_, map}
-use mathlib.Core.Bool.{Bool, true, false}
+use mathlib.Core.Bool.{Bool, true, false, _&&_, not}
 use mathlib.Core.Option.{Option, none, some}
 use Prim.Native.Nat.{ℕ, suc, _+_, _≤_, _<_}
 use native.Mathlib.Omega.{arith}
@@ -10,12 +10,13 @@ use lib.ListN.{length, take, drop}
 use borrow.Author.Tests.{ne-eqb}
 use Rattle.spec.specs.Choice.{if_then_else_}
 use Rattle.spec.specs.Text.{lines, Field, numeral, digitLimit}
-use Rattle.spec.specs.Reading.{splitSheet, Out, stop, Place, Seen, right, wrong, badForm, badRange, seen, Range, below, inRange, allInRange, withNumeral, numerals, ranged, numbers, passed, next}
-use Rattle.spec.specs.Split.{Header, Row, rowOf, blank, startRange, rowLine}
-use Rattle.spec.specs.declared.Refusal.the-variants.{SplitForm, SplitRange}
+use Rattle.spec.specs.Reading.{splitSheet, Out, stop, Place, Seen, right, wrong, badForm, badRange, noStart, seen, insist, Range, below, inRange, allInRange, withNumeral, numerals, ranged, numbers, passed, next}
+use Rattle.spec.specs.Split.{Header, Row, rowOf, startGiven, takesStart, startRange, mayBeEmpty, rowLine}
+use Rattle.spec.specs.declared.Refusal.the-variants.{SplitForm, SplitRange, NoStart}
 use Rattle.spec.specs.declared.Word.{Word}
-use Rattle.spec.specs.declared.Word.the-variants.{Leaf, Unary, Binary}
-use Rattle.spec.specs.declared.BinaryWord.the-variants.{Let, If, Spawn, Write}
+use Rattle.spec.specs.declared.MapNumber.{MapNumber}
+use Rattle.spec.specs.declared.Heading.{Heading}
+use Rattle.spec.specs.declared.Heading.the-variants.{C, C2}
 use Rattle.lexer.specs.Views.{endOf, firstField, lineAt}
 use Rattle.lexer.specs.Cursors.{Placed, rest, next as nextCursor, placeAt}
 use Rattle.lexer.specs.Numbers.{stored, Spells}
@@ -25,36 +26,73 @@ use Rattle.lexer.proofs.Fields.{line-newline}
 use Rattle.lexer.proofs.Stored.{stored-judged}
 use Rattle.lexer.proofs.Places.{next-rest, next-placed, line-passed}
 use Rattle.split.specs.declared.row_lines.Row.{Row as RowNumbers}
+use Rattle.split.specs.declared.row_lines.RowStart.{RowStart}
+use Rattle.split.specs.declared.row_lines.RowStart.the-variants as row-start
 use Rattle.split.specs.declared.row_lines.RowRead.{RowRead}
 use Rattle.split.specs.declared.row_lines.RowRead.the-variants as row-read
 use Rattle.split.specs.declared.fields.Leading.the-variants as leading
 use Rattle.split.specs.declared.fields.Start.the-variants as start
-use Rattle.split.specs.Lines.{rowTold, wordLine, startLimit, rowRanged}
+use Rattle.split.specs.Lines.{startTold, rowTold, wordLine, startLimit, rowMade, startRanged, rowRanged}
 use Rattle.split.specs.Answers.{LeadingAnswer, StartAnswer, RowAnswer}
 use Rattle.split.proofs.FieldsInTurn.{shown, behind-field, field-wrong, field-last, field-more, at-cursor}
-use Rattle.split.proofs.LineLaws.{shows-range, shows-entry, comma-line, comma-placed, comma-kept}
+use Rattle.split.proofs.LineLaws.{shows-range, shows-no-start, shows-entry, comma-line, comma-placed, comma-kept}
 
--- ------------------------------------------------------------------ three numbers in their ranges
+-- ------------------------------------------------------------------ where a start is, and where it is asked for
 
-module _ (line : ℕ) (row : RowNumbers) (starts : ℕ) (H : Header) (c : Cursor) where
-  abbrev pub fits : Bool
-  fits = allInRange (below (H .types) ∷ below (H .maps) ∷ below starts ∷ []) (row .typed .0 ∷ row .post .0 ∷ row .start .0 ∷ [])
+pub limit-all : (w : Word) (n : ℕ) → takesStart w ≡ true → n ≡ startLimit w n
+limit-all w n e = sym (rw e)
 
-  pub row-out : false ≡ fits → row-read.Refused (SplitRange line) ≡ rowRanged line row starts H c
-  unfolding rowRanged
-  row-out e = rw (← e)
+pub limit-none : (w : Word) (n : ℕ) → takesStart w ≡ false → 0 ≡ startLimit w n
+limit-none w n e = sym (rw e)
 
-  pub row-in : true ≡ fits → row-read.Read row c ≡ rowRanged line row starts H c
-  unfolding rowRanged
-  row-in e = rw (← e)
+pub start-asked : (h : Heading) (w : Word) {x : Bool} → h ≡ C → x ≡ takesStart w → not x ≡ mayBeEmpty h w
+unfolding mayBeEmpty
+start-asked h w e q = sym (rw (e, q))
 
--- ------------------------------------------------------------------ what the fields of a row show
+pub start-not-asked : (h : Heading) (w : Word) → h ≡ C2 → true ≡ mayBeEmpty h w
+unfolding mayBeEmpty
+start-not-asked h w e = sym (rw e)
+
+-- ------------------------------------------------------------------ the numbers of a row in their ranges
 
 abbrev two : Header → List Range
 two H = below (H .types) ∷ below (H .maps) ∷ []
 
 abbrev three : Header → Word → List Range
 three H w = below (H .types) ∷ below (H .maps) ∷ startRange w H ∷ []
+
+module _ (line : ℕ) (row : RowNumbers) (w : Word) (H : Header) (c : Cursor) where
+  abbrev pub fits : Bool
+  fits = allInRange (two H) (row .typed .0 ∷ row .post .0 ∷ [])
+
+  pub row-out : fits ≡ false → row-read.Refused (SplitRange line) ≡ rowRanged line row w H c
+  unfolding rowRanged
+  row-out e = sym (rw e)
+
+  module _ (e : fits ≡ true) where
+    started : {s : RowStart} → row .start ≡ s → startRanged line row s w H c ≡ rowRanged line row w H c
+    unfolding rowRanged
+    started q = sym (rw e (ap (λ (x : RowStart). startRanged line row x w H c) q))
+
+    module _ (m : MapNumber) (given : row .start ≡ row-start.Given m) where
+      pub start-out : inRange (startRange w H) (m .0) ≡ false → row-read.Refused (SplitRange line) ≡ rowRanged line row w H c
+      unfolding startRanged
+      start-out h = sym (rw h) ∙ started given
+
+      pub start-in : inRange (startRange w H) (m .0) ≡ true → row-read.Read row c ≡ rowRanged line row w H c
+      unfolding startRanged
+      start-in h = sym (rw h) ∙ started given
+
+    module _ (empty : row .start ≡ row-start.Empty) where
+      pub start-wanted : mayBeEmpty (H .heading) w ≡ false → row-read.Refused (NoStart line) ≡ rowRanged line row w H c
+      unfolding startRanged
+      start-wanted h = sym (rw h) ∙ started empty
+
+      pub start-left : mayBeEmpty (H .heading) w ≡ true → row-read.Read row c ≡ rowRanged line row w H c
+      unfolding startRanged
+      start-left h = sym (rw h) ∙ started empty
+
+-- ------------------------------------------------------------------ what the fields of a row show
 
 -- a field that is no numeral
 no-numerals : (rs : List Range) (fs : List Field) → numerals fs ≡ none → numbers rs fs ≡ wrong badForm
@@ -73,154 +111,99 @@ not-behind f fs e = ap (withNumeral (numeral f)) e ∙ go (numeral f)
     go none = refl
     go (some n) = refl
 
--- as many numbers as fields
-AsMany : List Field → Option (List ℕ) → Type 0
-AsMany fs none = Unit
-AsMany fs (some ns) = length ns ≡ length fs
-
-as-many : (fs : List Field) → AsMany fs (numerals fs)
-unfolding AsMany numerals withNumeral
-as-many [] = refl
-as-many (f ∷ fs) = go (numeral f) (numerals fs) (as-many fs)
-  where
-    go : (x : Option ℕ) (o : Option (List ℕ)) → AsMany fs o → AsMany (f ∷ fs) (withNumeral x o)
-    go none o h = tt
-    go (some n) none h = tt
-    go (some n) (some ns) h = ap suc h
-
-other-count : (rs : List Range) (fs : List Field) → (length fs ≡ length rs → ⊥) → numbers rs fs ≡ wrong badForm
-unfolding numbers ranged AsMany
-other-count rs fs n = go (numerals fs) (as-many fs)
-  where
-    go : (o : Option (List ℕ)) → AsMany fs o → ranged rs o ≡ wrong badForm
-    go none h = refl
-    go (some ns) h = rw (ne-eqb (length ns) (length rs) (λ e. n (sym h ∙ e)))
-
 module _ (H : Header) (w : Word) where
-  either-bad : (fs : List Field) → numbers (two H) (take 2 fs) ≡ wrong badForm → numbers (three H w) fs ≡ wrong badForm → wordLine H w fs ≡ wrong badForm
-  unfolding wordLine rowLine seen
-  either-bad fs a b = go (blank (drop 2 fs))
-    where
-      go : (x : Bool) → seen rowOf (if x then numbers (two H) (take 2 fs) else numbers (three H w) fs) ≡ wrong badForm
-      go true = rw a
-      go false = rw b
+  -- a line whose numerals are not, with a start or without
+  two-bad : (f g : Field) → numerals (f ∷ g ∷ []) ≡ none → wordLine H w (f ∷ g ∷ [] ∷ []) ≡ wrong badForm
+  unfolding wordLine rowLine seen insist
+  two-bad f g e = rw (no-numerals (two H) (f ∷ g ∷ []) e)
 
-  three-bad : (fs : List Field) → blank (drop 2 fs) ≡ false → numbers (three H w) fs ≡ wrong badForm → wordLine H w fs ≡ wrong badForm
+  three-bad : (f g : Field) (b : ℕ) (s : Field) → numerals (f ∷ g ∷ (b ∷ s) ∷ []) ≡ none → wordLine H w (f ∷ g ∷ (b ∷ s) ∷ []) ≡ wrong badForm
   unfolding wordLine rowLine seen
-  three-bad fs e b = rw (e, b)
-
-  -- no numeral in front
-  first-bad : (f : Field) → numeral f ≡ none → (fs : List Field) → wordLine H w (f ∷ fs) ≡ wrong badForm
-  first-bad f e fs =
-      either-bad (f ∷ fs) (no-numerals (two H) (take 2 (f ∷ fs)) (not-first f (take 1 fs) e)) (no-numerals (three H w) (f ∷ fs) (not-first f fs e))
+  three-bad f g b s e = rw (no-numerals (three H w) (f ∷ g ∷ (b ∷ s) ∷ []) e)
 
   first-alone : (f : Field) → wordLine H w (f ∷ []) ≡ wrong badForm
-  unfolding blank
-  first-alone f = three-bad (f ∷ []) refl (other-count (three H w) (f ∷ []) (λ e. omega arith))
+  unfolding wordLine rowLine
+  first-alone f = refl
 
   module _ (f : Field) where
-    second-bad : (g : Field) → numeral g ≡ none → (fs : List Field) → wordLine H w (f ∷ g ∷ fs) ≡ wrong badForm
-    second-bad g e fs =
-        either-bad (f ∷ g ∷ fs) (no-numerals (two H) (take 2 (f ∷ g ∷ fs)) (not-behind f (g ∷ []) (not-first g [] e)))
-        (no-numerals (three H w) (f ∷ g ∷ fs) (not-behind f (g ∷ fs) (not-first g fs e)))
-
     second-alone : (g : Field) → wordLine H w (f ∷ g ∷ []) ≡ wrong badForm
-    unfolding blank
-    second-alone g = three-bad (f ∷ g ∷ []) refl (other-count (three H w) (f ∷ g ∷ []) (λ e. omega arith))
+    unfolding wordLine rowLine
+    second-alone g = refl
+
+    fourth-bad : (g s t : Field) (fs : List Field) → wordLine H w (f ∷ g ∷ s ∷ t ∷ fs) ≡ wrong badForm
+    unfolding wordLine rowLine
+    fourth-bad g s t fs = refl
+
+    -- no numeral in front
+    first-bad : numeral f ≡ none → (fs : List Field) → wordLine H w (f ∷ fs) ≡ wrong badForm
+    first-bad e [] = first-alone f
+    first-bad e (g ∷ []) = second-alone g
+    first-bad e (g ∷ [] ∷ []) = two-bad f g (not-first f (g ∷ []) e)
+    first-bad e (g ∷ (b ∷ s) ∷ []) = three-bad f g b s (not-first f (g ∷ (b ∷ s) ∷ []) e)
+    first-bad e (g ∷ s ∷ t ∷ fs) = fourth-bad g s t fs
 
     module _ (g : Field) where
-      not-blank : (s : Field) → (s ≡ [] → ⊥) → (fs : List Field) → blank (s ∷ fs) ≡ false
-      unfolding blank
-      not-blank [] n fs = absurd (n refl)
-      not-blank (b ∷ s) n [] = refl
-      not-blank (b ∷ s) n (t ∷ fs) = refl
+      second-bad : numeral g ≡ none → (fs : List Field) → wordLine H w (f ∷ g ∷ fs) ≡ wrong badForm
+      second-bad e [] = second-alone g
+      second-bad e ([] ∷ []) = two-bad f g (not-behind f (g ∷ []) (not-first g [] e))
+      second-bad e ((b ∷ s) ∷ []) = three-bad f g b s (not-behind f (g ∷ (b ∷ s) ∷ []) (not-first g ((b ∷ s) ∷ []) e))
+      second-bad e (s ∷ t ∷ fs) = fourth-bad g s t fs
 
       -- neither empty nor a numeral
       third-bad : (s : Field) → numeral s ≡ none → (s ≡ [] → ⊥) → (fs : List Field) → wordLine H w (f ∷ g ∷ s ∷ fs) ≡ wrong badForm
-      third-bad s e n fs =
-          three-bad (f ∷ g ∷ s ∷ fs) (not-blank s n fs) (no-numerals (three H w) (f ∷ g ∷ s ∷ fs) (not-behind f (g ∷ s ∷ fs) (not-behind g (s ∷ fs) (not-first s fs e))))
+      third-bad [] e n fs = absurd (n refl)
+      third-bad (b ∷ s) e n [] = three-bad f g b s (not-behind f (g ∷ (b ∷ s) ∷ []) (not-behind g ((b ∷ s) ∷ []) (not-first (b ∷ s) [] e)))
+      third-bad (b ∷ s) e n (t ∷ fs) = fourth-bad g (b ∷ s) t fs
 
-      blank-more : (s t : Field) (fs : List Field) → blank (s ∷ t ∷ fs) ≡ false
-      unfolding blank
-      blank-more [] t fs = refl
-      blank-more (b ∷ s) t fs = refl
-
-      fourth-bad : (s t : Field) (fs : List Field) → wordLine H w (f ∷ g ∷ s ∷ t ∷ fs) ≡ wrong badForm
-      fourth-bad s t fs = three-bad (f ∷ g ∷ s ∷ t ∷ fs) (blank-more s t fs) (other-count (three H w) (f ∷ g ∷ s ∷ t ∷ fs) (λ e. omega arith))
-
--- a row whose numbers are in their ranges
-abbrev rowShown : Header → (starts a b s : ℕ) → Seen Row
-rowShown H starts a b s =
-    if allInRange (below (H .types) ∷ below (H .maps) ∷ below starts ∷ []) (a ∷ b ∷ s ∷ []) then right (rowOf (a ∷ b ∷ s ∷ [])) else wrong badRange
-
-seen-row : (x : Bool) (ns : List ℕ) → seen rowOf (if x then right ns else wrong badRange) ≡ (if x then right (rowOf ns) else wrong badRange)
+seen-row : (make : List ℕ → Row) (x : Bool) (ns : List ℕ) → seen make (if x then right ns else wrong badRange) ≡ (if x then right (make ns) else wrong badRange)
 unfolding seen
-seen-row true ns = refl
-seen-row false ns = refl
-
--- map 0 is always there
-empty-range : (H : Header) (a b : ℕ) → (if allInRange (two H) (a ∷ b ∷ []) then right (rowOf (a ∷ b ∷ [])) else wrong badRange) ≡ rowShown H 1 a b 0
-unfolding allInRange inRange rowOf
-empty-range H a b = refl
-
-start-below : (w : Word) (H : Header) → startRange w H ≡ below (startLimit w (H .maps))
-unfolding startRange
-start-below (Leaf w) H = refl
-start-below (Unary w) H = refl
-start-below (Binary Let) H = refl
-start-below (Binary If) H = refl
-start-below (Binary Spawn) H = refl
-start-below (Binary Write) H = refl
+seen-row make true ns = refl
+seen-row make false ns = refl
 
 start-few : (w : Word) (n : ℕ) → startLimit w n ≤ n
-start-few (Leaf w) n = omega arith
-start-few (Unary w) n = omega arith
-start-few (Binary Let) n = omega arith
-start-few (Binary If) n = omega arith
-start-few (Binary Spawn) n = omega arith
-start-few (Binary Write) n = omega arith
+start-few w n = go (takesStart w)
+  where
+    go : (x : Bool) → (if x then n else 0) ≤ n
+    go true = omega arith
+    go false = omega arith
 
 module _
     (H : Header) (few : (H .types ≤ 64) × (H .maps ≤ 512)) (w : Word) (f g : Field) (a b : ℕ) (first : Spells f a) (second : Spells g b)
   where
-    -- "an empty s means map 0"
-    row-empty : wordLine H w (f ∷ g ∷ [] ∷ []) ≡ rowShown H 1 a b 0
-    unfolding wordLine rowLine blank numbers numerals withNumeral ranged
+    -- an empty s: form and ranges first, then whether it may be
+    row-empty : wordLine H w (f ∷ g ∷ [] ∷ [])
+        ≡ insist (mayBeEmpty (H .heading) w) noStart (if allInRange (two H) (a ∷ b ∷ []) then right (rowOf none (a ∷ b ∷ [])) else wrong badRange)
+    unfolding wordLine rowLine numbers numerals withNumeral ranged
     row-empty =
         rw (first .2, second .2, first .1, second .1)
-        (ap (seen rowOf) (stored-judged (two H) (omega arith, (omega arith, tt)) (first .0 ∷ second .0 ∷ []) refl)
-        ∙ seen-row (allInRange (two H) (stored (first .0) ∷ stored (second .0) ∷ [])) (stored (first .0) ∷ stored (second .0) ∷ [])
-        ∙ empty-range H (stored (first .0)) (stored (second .0)))
+        (ap (λ (x : Seen (List ℕ)). insist (mayBeEmpty (H .heading) w) noStart (seen (rowOf none) x))
+        (stored-judged (two H) (omega arith, (omega arith, tt)) (first .0 ∷ second .0 ∷ []) refl)
+        ∙ ap (insist (mayBeEmpty (H .heading) w) noStart)
+        (seen-row (rowOf none) (allInRange (two H) (stored (first .0) ∷ stored (second .0) ∷ [])) (stored (first .0) ∷ stored (second .0) ∷ [])))
 
-    filled : (s : Field) (n : ℕ) → numeral s ≡ some n → s ≡ [] → ⊥
-    unfolding numeral digitLimit
-    filled [] n e q = let z : _≡_ {A = ℕ} 0 1 = cc in omega arith
-    filled (x ∷ s) n e q = let z : _≡_ {A = ℕ} 0 1 = cc in omega arith
-
-    row-given : (s : Field) (n : ℕ) → Spells s n → wordLine H w (f ∷ g ∷ s ∷ []) ≡ rowShown H (startLimit w (H .maps)) a b n
-    unfolding wordLine rowLine numbers numerals withNumeral ranged
-    row-given s n third =
-        let rs = below (H .types) ∷ below (H .maps) ∷ below (startLimit w (H .maps)) ∷ [] in
+    -- a number
+    row-given : (s : Field) (n : ℕ) → Spells s n → wordLine H w (f ∷ g ∷ s ∷ [])
+        ≡ (if allInRange (three H w) (a ∷ b ∷ n ∷ []) then right (rowOf (some (record { 0 = n })) (a ∷ b ∷ n ∷ [])) else wrong badRange)
+    unfolding wordLine rowLine numbers numerals withNumeral ranged startGiven startRange
+    row-given [] n third = let z : _≡_ {A = ℕ} 0 1 = unfold numeral in cc in absurd (omega arith)
+    row-given (x ∷ s) n third =
         let ns = first .0 ∷ second .0 ∷ third .0 ∷ [] in
         let maps = start-few w (H .maps) in
-        rw (first .2, second .2, third .2, not-blank H w f g s (filled s (third .0) (third .1)) [], first .1, second .1, third .1, start-below w H)
-        (ap (seen rowOf) (stored-judged rs (omega arith, (omega arith, (omega arith, tt))) ns refl)
-        ∙ seen-row (allInRange rs (map stored ns)) (map stored ns))
+        rw (first .2, second .2, third .2, first .1, second .1, third .1)
+        (ap (seen (λ ns. rowOf (some (startGiven ns)) ns)) (stored-judged (three H w) (omega arith, (omega arith, (omega arith, tt))) ns refl)
+        ∙ seen-row (λ ns. rowOf (some (startGiven ns)) ns) (allInRange (three H w) (map stored ns)) (map stored ns))
 
 -- ------------------------------------------------------------------ the answers of the readers of the fields, as what the line shows
 
-made-row : (row : RowNumbers) (a b s : ℕ) → row .typed .0 ≡ a → row .post .0 ≡ b → row .start .0 ≡ s → rowOf (a ∷ b ∷ s ∷ []) ≡ rowTold row
-unfolding rowOf rowTold
-made-row row a b s p q r = rw (← p, ← q, ← r)
-
-tested : (H : Header) (starts : ℕ) (row : RowNumbers) (a b s : ℕ) → row .typed .0 ≡ a → row .post .0 ≡ b → row .start .0 ≡ s → (x : Bool)
-    → allInRange (below (H .types) ∷ below (H .maps) ∷ below starts ∷ []) (row .typed .0 ∷ row .post .0 ∷ row .start .0 ∷ []) ≡ x
-    → rowShown H starts a b s ≡ (if x then right (rowTold row) else wrong badRange)
-tested H starts row a b s p q r x e =
-    let rs = below (H .types) ∷ below (H .maps) ∷ below starts ∷ [] in
-    let same : allInRange rs (a ∷ b ∷ s ∷ []) ≡ allInRange rs (row .typed .0 ∷ row .post .0 ∷ row .start .0 ∷ []) = rw (← p, ← q, ← r) in
-    ap (λ (y : Bool). if y then right (rowOf (a ∷ b ∷ s ∷ [])) else wrong badRange) (same ∙ e)
-    ∙ ap (λ (y : Row). if x then right y else wrong badRange) (made-row row a b s p q r)
+three-tested : (H : Header) (w : Word) (a b n : ℕ) → allInRange (three H w) (a ∷ b ∷ n ∷ []) ≡ (allInRange (two H) (a ∷ b ∷ []) && inRange (startRange w H) n)
+unfolding allInRange
+three-tested H w a b n = go (inRange (below (H .types)) a) (inRange (below (H .maps)) b) (inRange (startRange w H) n)
+  where
+    go : (x y z : Bool) → (x && (y && (z && true))) ≡ ((x && (y && true)) && z)
+    go true true true = refl
+    go true true false = refl
+    go true false z = refl
+    go false y z = refl
 
 module _ (H : Header) (w : Word) (text : List ℕ) (c : Cursor) (p : Placed text c) (some-left : 0 < length (rest text c)) where
   abbrev out : Out (Row × Place)
@@ -298,30 +281,35 @@ module _ (H : Header) (w : Word) (text : List ℕ) (c : Cursor) (p : Placed text
             ∙ ap (λ (k : ℕ). k + 1) (comma-kept text c₂ c₃ second-placed (lead₂ .1) (lead₂ .2) ∙ comma-kept text c c₂ p (lead .1) (lead .2))
 
         -- the row, once its numbers are tested
-        judged : (starts s : ℕ) (row : RowNumbers) → behind-two (firstField (rest text c₃) ∷ []) ≡ rowShown H starts a b s
-            → row .typed .0 ≡ a → row .post .0 ≡ b → row .start .0 ≡ s → (x : Bool) → fits (c .line + 1) row starts H d ≡ x
-            → RowAnswer text out (if x then row-read.Read row d else row-read.Refused (SplitRange (c .line + 1)))
-        judged starts s row e ea eb es true q =
-            (row-closed ∙ shows-entry text c d (rowTold row) (e ∙ tested H starts row a b s ea eb es true q) last-line, last-placed)
-        judged starts s row e ea eb es false q =
-            row-closed ∙ shows-range (c .line + 1) (lines (rest text d)) (e ∙ tested H starts row a b s ea eb es false q)
+        given-judged : (row : RowNumbers) (x y : Bool) → behind-two (firstField (rest text c₃) ∷ []) ≡ (if x && y then right (rowTold row) else wrong badRange)
+            → RowAnswer text out (if x then (if y then row-read.Read row d else row-read.Refused (SplitRange (c .line + 1))) else row-read.Refused (SplitRange (c .line + 1)))
+        given-judged row true true e = (row-closed ∙ shows-entry text c d (rowTold row) e last-line, last-placed)
+        given-judged row true false e = row-closed ∙ shows-range (c .line + 1) (lines (rest text d)) e
+        given-judged row false y e = row-closed ∙ shows-range (c .line + 1) (lines (rest text d)) e
 
-        row-judged : (starts s : ℕ) (row : RowNumbers) → behind-two (firstField (rest text c₃) ∷ []) ≡ rowShown H starts a b s
-            → row .typed .0 ≡ a → row .post .0 ≡ b → row .start .0 ≡ s → (answer : RowRead) → answer ≡ rowRanged (c .line + 1) row starts H d → RowAnswer text out answer
-        unfolding rowRanged
-        row-judged starts s row e ea eb es answer q = subst (RowAnswer text out) (sym q) (judged starts s row e ea eb es (fits (c .line + 1) row starts H d) refl)
+        empty-judged : (row : RowNumbers) (x y : Bool) → behind-two (firstField (rest text c₃) ∷ []) ≡ insist y noStart (if x then right (rowTold row) else wrong badRange)
+            → RowAnswer text out (if x then (if y then row-read.Read row d else row-read.Refused (NoStart (c .line + 1))) else row-read.Refused (SplitRange (c .line + 1)))
+        unfolding insist
+        empty-judged row true true e = (row-closed ∙ shows-entry text c d (rowTold row) e last-line, last-placed)
+        empty-judged row true false e = row-closed ∙ shows-no-start (c .line + 1) (lines (rest text d)) e
+        empty-judged row false y e = row-closed ∙ shows-range (c .line + 1) (lines (rest text d)) e
 
-      pub row-without : (H .types ≤ 64) × (H .maps ≤ 512) → (d : Cursor) → StartAnswer text c₃ (start.Empty d) → (row : RowNumbers) → row .typed .0 ≡ a → row .post .0 ≡ b → row .start .0 ≡ 0
-          → (answer : RowRead) → answer ≡ rowRanged (c .line + 1) row 1 H d → RowAnswer text out answer
-      row-without few d h row ea eb es answer q =
+      pub row-without : (H .types ≤ 64) × (H .maps ≤ 512) → (d : Cursor) → StartAnswer text c₃ (start.Empty d)
+          → (row : RowNumbers) → row ≡ rowMade a b row-start.Empty → (answer : RowRead) → answer ≡ rowRanged (c .line + 1) row w H d → RowAnswer text out answer
+      unfolding rowRanged startRanged rowMade rowTold startTold rowOf
+      row-without few d h row is answer q =
           let f = firstField (rest text c) in
           let g = firstField (rest text c₂) in
-          row-judged d (h .1) (h .2) 1 0 row (ap (λ (s : Field). wordLine H w (f ∷ g ∷ s ∷ [])) (h .0) ∙ row-empty H few w f g a b (lead .0) (lead₂ .0)) ea eb es answer q
+          subst (RowAnswer text out) (sym (q ∙ ap (λ (r : RowNumbers). rowRanged (c .line + 1) r w H d) is))
+          (empty-judged d (h .1) (h .2) (rowMade a b row-start.Empty) (allInRange (two H) (a ∷ b ∷ [])) (mayBeEmpty (H .heading) w)
+          (ap (λ (s : Field). wordLine H w (f ∷ g ∷ s ∷ [])) (h .0) ∙ row-empty H few w f g a b (lead .0) (lead₂ .0)))
 
-      pub row-with-start : (H .types ≤ 64) × (H .maps ≤ 512) → (n : ℕ) (d : Cursor) → StartAnswer text c₃ (start.Given n d) → (row : RowNumbers) → row .typed .0 ≡ a → row .post .0 ≡ b → row .start .0 ≡ n
-          → (starts : ℕ) → starts ≡ startLimit w (H .maps) → (answer : RowRead) → answer ≡ rowRanged (c .line + 1) row starts H d → RowAnswer text out answer
-      row-with-start few n d h row ea eb es starts l answer q =
-          row-judged d (h .1) (h .2) starts n row
+      pub row-with-start : (H .types ≤ 64) × (H .maps ≤ 512) → (n : ℕ) (d : Cursor) → StartAnswer text c₃ (start.Given n d)
+          → (row : RowNumbers) → row ≡ rowMade a b (row-start.Given (record { 0 = n })) → (answer : RowRead) → answer ≡ rowRanged (c .line + 1) row w H d → RowAnswer text out answer
+      unfolding rowRanged startRanged rowMade rowTold startTold rowOf
+      row-with-start few n d h row is answer q =
+          let made = rowMade a b (row-start.Given (record { 0 = n })) in
+          subst (RowAnswer text out) (sym (q ∙ ap (λ (r : RowNumbers). rowRanged (c .line + 1) r w H d) is))
+          (given-judged d (h .1) (h .2) made (allInRange (two H) (a ∷ b ∷ [])) (inRange (startRange w H) n)
           (row-given H few w (firstField (rest text c)) (firstField (rest text c₂)) a b (lead .0) (lead₂ .0) (firstField (rest text c₃)) n (h .0)
-          ∙ ap (λ (k : ℕ). rowShown H k a b n) (sym l))
-          ea eb es answer q
+          ∙ ap (λ (x : Bool). if x then right (rowTold made) else wrong badRange) (three-tested H w a b n)))

@@ -22,7 +22,7 @@ use Rattle.split.specs.declared.LinesRead.{LinesRead}
 use Rattle.split.specs.declared.LinesRead.the-variants as lines-read
 use Rattle.split.specs.Lines.{headerTold}
 use Rattle.split.specs.Answers.{Small}
-use Rattle.split.specs.Stored.{HoldsTypes, HoldsRows, HoldsMaps, LinesAnswer, LinesStored, stepAt, stepsFrom}
+use Rattle.split.specs.Stored.{HoldsTypes, HoldsRows, HoldsMaps, EmptyStored, LinesAnswer, LinesStored, stepAt, stepsFrom}
 use Rattle.split.specs.Sheet.{body, EndAnswer, BodyAnswer, BodyRead}
 
 -- ------------------------------------------------------------------ the steps in the work space
@@ -129,15 +129,21 @@ module _ (h : HeaderRead) (small : Small h) (n : ℕ) (few : n ≤ 256) (text : 
           pub maps-placed : Placed text c₃
           maps-placed = maps-got .4
 
-          abbrev rows-out : Out (List Row × Place)
-          rows-out = nextAll splitSheet (map (rowLine H) (stepsFrom w₂ 0 n)) (placeAt text c₃)
+          abbrev rows-from : List ℕ → Out (List Row × Place)
+          rows-from v = nextAll splitSheet (map (rowLine H) (stepsFrom v 0 n)) (placeAt text c₃)
 
-          module _ (w₃ : List ℕ) (rows : LinesRead) (read-rows : LinesStored 1024 1792 n HoldsRows text rows-out w₂ w₃ rows) where
+          module _ (v : List ℕ) (emptied : EmptyStored w₂ v) (w₃ : List ℕ) (rows : LinesRead) (read-rows : LinesStored 1024 1792 n HoldsRows text (rows-from v) v w₃ rows) where
+            abbrev rows-out : Out (List Row × Place)
+            rows-out = rows-from v
+
+            changed-empty : ChangedWithin 1024 16384 w v
+            changed-empty = changed-then 1024 16384 changed-two (changed-wider 1024 16384 (omega arith) (omega arith) (emptied .changed))
+
             changed-three : ChangedWithin 1024 16384 w w₃
-            changed-three = changed-then 1024 16384 changed-two (changed-wider 1024 16384 (omega arith) (omega arith) (read-rows .changed))
+            changed-three = changed-then 1024 16384 changed-empty (changed-wider 1024 16384 (omega arith) (omega arith) (read-rows .changed))
 
             same-rows : nextAll splitSheet (map (rowLine H) (stepsFrom w 0 n)) (placeAt text c₃) ≡ rows-out
-            same-rows = ap (λ (l : List Step). nextAll splitSheet (map (rowLine H) l) (placeAt text c₃)) (sym (steps-kept w w₂ 0 n (omega arith) changed-two))
+            same-rows = ap (λ (l : List Step). nextAll splitSheet (map (rowLine H) l) (placeAt text c₃)) (sym (steps-kept w v 0 n (omega arith) changed-empty))
 
             pub rows-stop : (r : Refusal) → rows ≡ lines-read.Refused r → BodyRead H n (placeAt text c) w w₃ rows
             unfolding body headerTold _>>=_
@@ -162,14 +168,17 @@ module _ (h : HeaderRead) (small : Small h) (n : ℕ) (few : n ≤ 256) (text : 
               types-kept at f low high r =
                   let l = length-map (types-got .0) f in
                   region-kept (read-rows .changed) (inr low)
-                  (region-kept (read-maps .changed) (inl (omega (arith, l, types-got .2, small .types))) r)
+                  (region-kept (emptied .changed) (inl (omega (arith, l, types-got .2, small .types)))
+                  (region-kept (read-maps .changed) (inl (omega (arith, l, types-got .2, small .types))) r))
 
               holds : HoldsSplit w₃ found
               holds = record {
                 kinds = types-kept 2048 _ (omega arith) (omega arith) (types-got .3 .first);
                 firsts = types-kept 2112 _ (omega arith) (omega arith) (types-got .3 .second);
                 seconds = types-kept 2176 _ (omega arith) (omega arith) (types-got .3 .third);
-                maps = λ m l. region-kept (read-rows .changed) (inr (omega arith)) (maps-got .3 .maps m l);
+                maps = λ m l. region-kept (read-rows .changed) (inr (omega arith))
+                    (region-kept (emptied .changed) (inl (omega (arith, maps-got .3 .wide m l, maps-got .2, small .locations, small .maps))) (maps-got .3 .maps m l));
+                empty = region-kept (read-rows .changed) (inr (omega arith)) (emptied .empty);
                 rowTypes = rows-got .3 .first;
                 posts = rows-got .3 .second;
                 starts = rows-got .3 .third;

@@ -1,17 +1,17 @@
 -- Stores of the readers: a row of three columns, a map; and which part of the work space they change.
-use mathlib.Core.Path.{_≡_, sym, ap, _∙_}
+use mathlib.Core.Path.{_≡_, sym, ap, subst, _∙_}
 use mathlib.Core.Logic.{_⊎_, inl, inr, ⊎-elim}
 use mathlib.Core.List.{List, [], _∷_, _++_, map, map-append}
 use Prim.Native.Nat.{ℕ, _+_, _-_, _*_, _<_, _≤_}
 use native.Mathlib.Omega.{arith}
 use native.Mathlib.Nat.{eq-or-lt-of-le}
-use lib.ListN.{length, getD, take, drop, set, length-set, length-map, length-append, length-drop, List·getD-append}
+use lib.ListN.{length, getD, take, drop, replicate, set, length-set, length-map, length-append, length-drop, List·getD-append}
 use lib.Seq.{getD-take, getD-drop, length-take-le, getD-append-add, getD-append-seam}
 use Rattle.spec.specs.Split.{Map}
 use Rattle.workspace.specs.Layout.{mapsAt, stride}
 use Rattle.workspace.specs.Region.{Region, ChangedWithin}
 use Rattle.workspace.proofs.Region.{region-empty, region-apart, region-push, region-kept, changed-store, changed-then}
-use Rattle.split.specs.Stored.{Columns, HoldsMaps}
+use Rattle.split.specs.Stored.{Columns, EmptyStored, HoldsMaps}
 
 -- ------------------------------------------------------------------ columns
 
@@ -109,6 +109,18 @@ module _ (w : List ℕ) (at : ℕ) (xs : List ℕ) (n : ℕ) (count : length xs 
 
   pub filled-region : Region filled at xs
   filled-region = record { fits = omega (arith, filled-long); at = filled-at }
+
+-- the empty map
+pub empty-stored : (w xs : List ℕ) → length w ≡ 16384 → xs ≡ replicate (length (take 16 (drop 12288 w))) 0
+    → EmptyStored w (take 12288 w ++ (xs ++ drop 16 (drop 12288 w)))
+empty-stored w xs long e =
+    let part = length-take-le 16 (drop 12288 w) (omega (arith, length-drop 12288 w, long)) in
+    let is : xs ≡ replicate 16 0 = e ∙ ap (λ (n : ℕ). replicate n 0) part in
+    let count : length xs ≡ 16 = ap length is in
+    record {
+      empty = subst (Region (take 12288 w ++ (xs ++ drop 16 (drop 12288 w))) 12288) is (filled-region w 12288 xs 16 count (omega arith));
+      changed = filled-changed w 12288 xs 16 count (omega arith) 12288 12304 (omega arith) (omega arith);
+    }
 
 pub maps-empty : (locations : ℕ) (w : List ℕ) → HoldsMaps locations w []
 maps-empty locations w = record { wide = λ m h. absurd (omega arith); maps = λ m h. absurd (omega arith) }

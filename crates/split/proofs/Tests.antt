@@ -6,14 +6,15 @@ use Prim.Native.Nat.{ℕ, _≤_, _<_}
 use native.Mathlib.Omega.{arith}
 use lib.Dec.{ltb}
 use borrow.Author.Tests.{le-leb, lt-leb, lt-ltb, le-ltb}
-use Rattle.spec.specs.Reading.{Seen, Range, _to_, below, inRange, allInRange}
+use Rattle.spec.specs.Reading.{Range, _to_, below, inRange, allInRange}
 use Rattle.spec.specs.Split.{Header, refOf, lockOf, tidOf, semOf}
 use Rattle.spec.specs.declared.TypeLine.{TypeLine}
 use Rattle.spec.specs.declared.TypeLine.the-variants as type-line
 use Rattle.lexer.specs.declared.vocabulary.TypeWord.{TypeWord}
 use Rattle.lexer.specs.declared.vocabulary.TypeWord.the-variants as kind
+use Rattle.split.specs.declared.type_lines.TypeSeen.{TypeSeen}
 use Rattle.split.specs.declared.type_lines.TypeSeen.the-variants as type-seen
-use Rattle.split.specs.Lines.{rangedType, typeSeen, typeSeenOf}
+use Rattle.split.specs.Lines.{rangedType, typeSeen}
 
 pub untrue : (b : Bool) → not b ≡ true → b ≡ false
 untrue true e = sym e
@@ -89,15 +90,15 @@ module _ (H : Header) (own a b : ℕ) where
   unfolding typeSeen rangedType allInRange
   sem-seen k e = rw (e, zero-below b)
 
-  pub unknown-seen : (k : TypeWord) → k ≡ kind.Unknown → type-seen.BadForm ≡ typeSeenOf (typeSeen k H own (a ∷ b ∷ []))
-  unfolding typeSeen typeSeenOf
+  pub unknown-seen : (k : TypeWord) → k ≡ kind.Unknown → type-seen.BadForm ≡ typeSeen k H own (a ∷ b ∷ [])
+  unfolding typeSeen
   unknown-seen k e = sym (rw e)
 
-module _ (rs : List Range) (f : List ℕ → TypeLine) (ns : List ℕ) {s : Seen TypeLine} (e : s ≡ rangedType rs f ns) where
-  pub seen-in : allInRange rs ns ≡ true → type-seen.Right (f ns) ≡ typeSeenOf s
-  unfolding rangedType typeSeenOf
+module _ (rs : List Range) (f : List ℕ → TypeLine) (ns : List ℕ) {s : TypeSeen} (e : s ≡ rangedType rs f ns) where
+  pub seen-in : allInRange rs ns ≡ true → type-seen.Right (f ns) ≡ s
+  unfolding rangedType
   seen-in h = sym (rw (e, h))
 
-  pub seen-out : allInRange rs ns ≡ false → type-seen.BadRange ≡ typeSeenOf s
-  unfolding rangedType typeSeenOf
+  pub seen-out : allInRange rs ns ≡ false → type-seen.BadRange ≡ s
+  unfolding rangedType
   seen-out h = sym (rw (e, h))

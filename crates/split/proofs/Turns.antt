@@ -6,6 +6,7 @@ use native.Mathlib.Omega.{arith}
 use lib.ListN.{length, length-append, replicate}
 use Rattle.spec.specs.Text.{Field}
 use Rattle.spec.specs.Reading.{splitSheet, Out, stop, on, _>>=_, Seen, Place, next, nextAll}
+use Rattle.spec.specs.Expression.{Step}
 use Rattle.spec.specs.Split.{Header, typeLine, typeLines, mapLine, rowLine}
 use Rattle.spec.specs.declared.Refusal.{Refusal}
 use Rattle.lexer.specs.Cursors.{Placed, placeAt}
@@ -33,10 +34,20 @@ unfolding numbered mapLine cellLine cells
 maps-numbered H k zero = refl
 maps-numbered H k (suc n) = ap (λ (r : List _). mapLine H ∷ r) (maps-numbered H (k + 1) n)
 
+-- a row is read by its step's word, whatever its step's number
+by-word : (H : Header) (s : Step) (fs : List Field) → rowLine H s fs ≡ wordLine H (s .word) fs
+unfolding wordLine rowLine
+by-word H s [] = refl
+by-word H s (t ∷ []) = refl
+by-word H s (t ∷ m ∷ []) = refl
+by-word H s (t ∷ m ∷ [] ∷ []) = refl
+by-word H s (t ∷ m ∷ (b ∷ f) ∷ []) = refl
+by-word H s (t ∷ m ∷ f ∷ g ∷ fs) = refl
+
 pub rows-numbered : (H : Header) (w : List ℕ) (k n : ℕ) → map (rowLine H) (stepsFrom w k n) ≡ numbered (λ i. wordLine H (stepAt w i .word)) k n
-unfolding stepsFrom numbered wordLine rowLine
+unfolding stepsFrom numbered
 rows-numbered H w k zero = refl
-rows-numbered H w k (suc n) = ap (λ (r : List _). rowLine H (stepAt w k) ∷ r) (rows-numbered H w (k + 1) n)
+rows-numbered H w k (suc n) = λ i. (λ fs. by-word H (stepAt w k) fs i) ∷ rows-numbered H w (k + 1) n i
 
 -- ------------------------------------------------------------------ one line after the other
 

@@ -26,7 +26,7 @@ use Rattle.lexer.proofs.Stored.{AllNarrow}
 use Rattle.lexer.proofs.Ranges.{tail-form, tail-read}
 use Rattle.split.specs.declared.type_lines.TypeSeen.{TypeSeen}
 use Rattle.split.specs.declared.type_lines.TypeSeen.the-variants as type-seen
-use Rattle.split.specs.Lines.{rangedType, typeSeen, typeSeenOf}
+use Rattle.split.specs.Lines.{rangedType, typeSeen, typeTold}
 use Rattle.lexer.proofs.TypeLines.{ofKind, type-line as kind-line}
 use Rattle.lexer.proofs.Sheets.{next-at}
 use Rattle.lexer.proofs.LineEnds.{LineRead}
@@ -50,11 +50,11 @@ module _ (H : Header) (own : ℕ) where
   kind-alone kind.Sem = refl
   kind-alone kind.Unknown = refl
 
-seen-ranged : (rs : List Range) (f : List ℕ → TypeLine) (ns : List ℕ) → seen f (if allInRange rs ns then right ns else wrong badRange) ≡ rangedType rs f ns
-unfolding seen rangedType
+seen-ranged : (rs : List Range) (f : List ℕ → TypeLine) (ns : List ℕ) → seen f (if allInRange rs ns then right ns else wrong badRange) ≡ typeTold (rangedType rs f ns)
+unfolding seen rangedType typeTold
 seen-ranged rs f ns = go (allInRange rs ns)
   where
-    go : (x : Bool) → seen f (if x then right ns else wrong badRange) ≡ (if x then right (f ns) else wrong badRange)
+    go : (x : Bool) → seen f (if x then right ns else wrong badRange) ≡ typeTold (if x then type-seen.Right (f ns) else type-seen.BadRange)
     go true = refl
     go false = refl
 
@@ -79,7 +79,7 @@ module _ (H : Header) (own : ℕ) (text : List ℕ) (c : Cursor) (some-left : 0 
           tail-form splitSheet (typeLine H own) (c .line) rs (seen g) text c (firstField (rest text c)) d (comma-line text c d p comma is) shows refl some-left e
 
       known-read : AllNarrow rs → (ns r : List ℕ) → numbersAt text d (length rs) ≡ some (ns, r)
-          → nextLine splitSheet (typeLine H own) (c .line) (lines (rest text c)) ≡ passed splitSheet (c .line + 1) (lines r) (rangedType rs g ns)
+          → nextLine splitSheet (typeLine H own) (c .line) (lines (rest text c)) ≡ passed splitSheet (c .line + 1) (lines r) (typeTold (rangedType rs g ns))
       known-read narrow ns r e =
           tail-read splitSheet (typeLine H own) (c .line) rs (seen g) text c (firstField (rest text c)) d (comma-line text c d p comma is) shows narrow ns r e
           ∙ ap (passed splitSheet (c .line + 1) (lines r)) (seen-ranged rs g ns)
@@ -99,8 +99,8 @@ module _ (H : Header) (own : ℕ) (text : List ℕ) (c : Cursor) (some-left : 0 
     kind-form kind.Unknown e n = unknown e
 
     kind-read : (H .locations ≤ 16) × (H .maps ≤ 512) × (own < 64) → (k : TypeWord) → typeWordOf (firstField (rest text c)) ≡ k → (ns r : List ℕ) → numbersAt text d 2 ≡ some (ns, r)
-        → nextLine splitSheet (typeLine H own) (c .line) (lines (rest text c)) ≡ passed splitSheet (c .line + 1) (lines r) (typeSeen k H own ns)
-    unfolding ofKind typeSeen faulty passed form
+        → nextLine splitSheet (typeLine H own) (c .line) (lines (rest text c)) ≡ passed splitSheet (c .line + 1) (lines r) (typeTold (typeSeen k H own ns))
+    unfolding ofKind typeSeen typeTold faulty passed form
     kind-read few kind.Int e ns r n = known-read ((0 to 0) ∷ (0 to 0) ∷ []) (λ ns. type-line.Int) (as-kind kind.Int e) (omega arith, (omega arith, tt)) ns r n
     kind-read few kind.Ref e ns r n = known-read (below (H .locations) ∷ below own ∷ []) refOf (as-kind kind.Ref e) (omega arith, (omega arith, tt)) ns r n
     kind-read few kind.Lock e ns r n = known-read (below (H .maps) ∷ (0 to 0) ∷ []) lockOf (as-kind kind.Lock e) (omega arith, (omega arith, tt)) ns r n
@@ -113,37 +113,23 @@ module _ (H : Header) (own : ℕ) (text : List ℕ) (c : Cursor) (some-left : 0 
 
     -- the word and the numbers are read: what they come to
     module _ (few : (H .locations ≤ 16) × (H .maps ≤ 512) × (own < 64)) (k : TypeWord) (word : k ≡ typeWordOf (firstField (rest text c))) (ns : List ℕ) (e : Cursor) (h : LineRead text d 2 ns e)
-        (s : TypeSeen) (told : s ≡ typeSeenOf (typeSeen k H own (getD ns 0 0 ∷ getD ns 1 0 ∷ []))) where
+        (s : TypeSeen) (told : s ≡ typeSeen k H own (getD ns 0 0 ∷ getD ns 1 0 ∷ [])) where
       reads : next splitSheet (typeLine H own) (placeAt text c)
-          ≡ passed splitSheet (c .line + 1) (lines (rest text e)) (typeSeen k H own (getD ns 0 0 ∷ getD ns 1 0 ∷ []))
+          ≡ passed splitSheet (c .line + 1) (lines (rest text e)) (typeTold s)
       reads =
           next-at splitSheet text (typeLine H own) c ∙ kind-read few k (sym word) ns (rest text e) (h .numbers)
-          ∙ ap (λ (l : List ℕ). passed splitSheet (c .line + 1) (lines (rest text e)) (typeSeen k H own l)) (two ns (h .long))
-
-      right-of : (x : Seen TypeLine) (t : TypeLine) → typeSeenOf x ≡ type-seen.Right t → x ≡ right t
-      unfolding typeSeenOf
-      right-of (right u) t q = cc
-      right-of (wrong badForm) t q = cc
-      right-of (wrong badRange) t q = cc
-
-      form-of : (x : Seen TypeLine) → typeSeenOf x ≡ type-seen.BadForm → x ≡ wrong badForm
-      unfolding typeSeenOf
-      form-of (right u) q = cc
-      form-of (wrong badForm) q = refl
-      form-of (wrong badRange) q = cc
-
-      range-of : (x : Seen TypeLine) → typeSeenOf x ≡ type-seen.BadRange → x ≡ wrong badRange
-      unfolding typeSeenOf
-      range-of (right u) q = cc
-      range-of (wrong badForm) q = cc
-      range-of (wrong badRange) q = refl
+          ∙ ap (λ (l : List ℕ). passed splitSheet (c .line + 1) (lines (rest text e)) (typeTold (typeSeen k H own l))) (two ns (h .long))
+          ∙ ap (λ (x : TypeSeen). passed splitSheet (c .line + 1) (lines (rest text e)) (typeTold x)) (sym told)
 
       pub type-on : (t : TypeLine) → s ≡ type-seen.Right t → next splitSheet (typeLine H own) (placeAt text c) ≡ on (t, placeAt text e)
+      unfolding typeTold
       type-on t q =
-          reads ∙ shows-entry text c e t (right-of _ t (sym told ∙ q)) (h .line ∙ ap (λ (k : ℕ). k + 1) (comma-kept text c d p comma is))
+          reads ∙ shows-entry text c e t (ap typeTold q) (h .line ∙ ap (λ (k : ℕ). k + 1) (comma-kept text c d p comma is))
 
       pub type-unknown : s ≡ type-seen.BadForm → next splitSheet (typeLine H own) (placeAt text c) ≡ stop (SplitForm (c .line + 1))
-      type-unknown q = reads ∙ shows-form (c .line + 1) (lines (rest text e)) (form-of _ (sym told ∙ q))
+      unfolding typeTold
+      type-unknown q = reads ∙ shows-form (c .line + 1) (lines (rest text e)) (ap typeTold q)
 
       pub type-range : s ≡ type-seen.BadRange → next splitSheet (typeLine H own) (placeAt text c) ≡ stop (SplitRange (c .line + 1))
-      type-range q = reads ∙ shows-range (c .line + 1) (lines (rest text e)) (range-of _ (sym told ∙ q))
+      unfolding typeTold
+      type-range q = reads ∙ shows-range (c .line + 1) (lines (rest text e)) (ap typeTold q)

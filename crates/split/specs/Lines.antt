@@ -6,14 +6,13 @@ use Prim.Native.Nat.{ℕ}
 use lib.ListN.{length, replicate}
 use Rattle.spec.specs.Choice.{if_then_else_}
 use Rattle.spec.specs.Text.{Field}
-use Rattle.spec.specs.Reading.{Seen, right, wrong, badForm, badRange, Range, _to_, below, allInRange, numbers}
-use Rattle.spec.specs.Split.{Map, Header, headerRanges, refOf, lockOf, tidOf, semOf, Row, rowLine}
+use Rattle.spec.specs.Reading.{Seen, right, wrong, badForm, badRange, Range, _to_, below, inRange, allInRange, numbers}
+use Rattle.spec.specs.Split.{Map, Header, headerRanges, refOf, lockOf, tidOf, semOf, Row, takesStart, startRange, mayBeEmpty, rowLine}
 use Rattle.spec.specs.declared.Heading.{Heading}
 use Rattle.spec.specs.declared.Heading.the-variants.{C2}
-use Rattle.spec.specs.declared.Refusal.the-variants.{SplitRange}
+use Rattle.spec.specs.declared.Refusal.the-variants.{SplitRange, NoStart}
 use Rattle.spec.specs.declared.Word.{Word}
-use Rattle.spec.specs.declared.Word.the-variants.{Leaf, Unary, Binary}
-use Rattle.spec.specs.declared.BinaryWord.the-variants.{Let, If, Spawn, Write}
+use Rattle.spec.specs.declared.MapNumber.{MapNumber}
 use Rattle.spec.specs.declared.TypeLine.{TypeLine}
 use Rattle.spec.specs.declared.TypeLine.the-variants as type-line
 use Rattle.lexer.specs.declared.Cursor.{Cursor}
@@ -23,6 +22,8 @@ use Rattle.split.specs.declared.Header.{Header as HeaderRead}
 use Rattle.split.specs.declared.first_line.FoundHeading.{FoundHeading}
 use Rattle.split.specs.declared.first_line.FoundHeading.the-variants as found-heading
 use Rattle.split.specs.declared.row_lines.Row.{Row as RowNumbers}
+use Rattle.split.specs.declared.row_lines.RowStart.{RowStart}
+use Rattle.split.specs.declared.row_lines.RowStart.the-variants as row-start
 use Rattle.split.specs.declared.row_lines.RowRead.{RowRead}
 use Rattle.split.specs.declared.row_lines.RowRead.the-variants as row-read
 use Rattle.split.specs.declared.type_lines.TypeSeen.{TypeSeen}
@@ -40,8 +41,12 @@ headerTold h = record {
   start = h .start;
 }
 
+unfoldable pub startTold : RowStart → Option MapNumber
+startTold (row-start.Given m) = some m
+startTold row-start.Empty = none
+
 unfoldable pub rowTold : RowNumbers → Row
-rowTold r = record { type = r .typed; post = r .post; start = r .start }
+rowTold r = record { type = r .typed; post = r .post; start = startTold (r .start) }
 
 -- ------------------------------------------------------------------ the header
 
@@ -60,21 +65,21 @@ headerFits H = allInRange (headerRanges C2 (H .maps)) (H .denominator ∷ H .loc
 -- ------------------------------------------------------------------ types
 
 -- a kind with its two numbers in their ranges
-unfoldable pub rangedType : List Range → (List ℕ → TypeLine) → List ℕ → Seen TypeLine
-rangedType rs f ns = if allInRange rs ns then right (f ns) else wrong badRange
+unfoldable pub rangedType : List Range → (List ℕ → TypeLine) → List ℕ → TypeSeen
+rangedType rs f ns = if allInRange rs ns then type-seen.Right (f ns) else type-seen.BadRange
 
-unfoldable pub typeSeen : TypeWord → Header → (own : ℕ) → List ℕ → Seen TypeLine
+unfoldable pub typeSeen : TypeWord → Header → (own : ℕ) → List ℕ → TypeSeen
 typeSeen kind.Int H own ns = rangedType ((0 to 0) ∷ (0 to 0) ∷ []) (λ ns. type-line.Int) ns
 typeSeen kind.Ref H own ns = rangedType (below (H .locations) ∷ below own ∷ []) refOf ns
 typeSeen kind.Lock H own ns = rangedType (below (H .maps) ∷ (0 to 0) ∷ []) lockOf ns
 typeSeen kind.Tid H own ns = rangedType (below (H .maps) ∷ (0 to 0) ∷ []) tidOf ns
 typeSeen kind.Sem H own ns = rangedType (below (H .maps) ∷ (0 to 0) ∷ []) semOf ns
-typeSeen kind.Unknown H own ns = wrong badForm
+typeSeen kind.Unknown H own ns = type-seen.BadForm
 
-unfoldable pub typeSeenOf : Seen TypeLine → TypeSeen
-typeSeenOf (right t) = type-seen.Right t
-typeSeenOf (wrong badForm) = type-seen.BadForm
-typeSeenOf (wrong badRange) = type-seen.BadRange
+unfoldable pub typeTold : TypeSeen → Seen TypeLine
+typeTold (type-seen.Right t) = right t
+typeTold type-seen.BadForm = wrong badForm
+typeTold type-seen.BadRange = wrong badRange
 
 -- ------------------------------------------------------------------ maps
 
@@ -94,16 +99,18 @@ wordLine H w fs = rowLine H (record { word = w; value = 0 }) fs
 
 -- how many of the maps can be the s of a step with this word
 abbrev pub startLimit : Word → (maps : ℕ) → ℕ
-startLimit (Leaf w) n = 0
-startLimit (Unary w) n = 0
-startLimit (Binary Let) n = 0
-startLimit (Binary If) n = 0
-startLimit (Binary Spawn) n = n
-startLimit (Binary Write) n = 0
+startLimit w maps = if takesStart w then maps else 0
 
--- a row with its numbers in their ranges, and the cursor behind its line
-unfoldable pub rowRanged : (line : ℕ) → RowNumbers → (starts : ℕ) → Header → Cursor → RowRead
-rowRanged line row starts H c =
-    if allInRange (below (H .types) ∷ below (H .maps) ∷ below starts ∷ []) (row .typed .0 ∷ row .post .0 ∷ row .start .0 ∷ [])
-    then row-read.Read row c
+unfoldable pub rowMade : (typed post : ℕ) → RowStart → RowNumbers
+rowMade typed post start = record { typed = record { 0 = typed }; post = record { 0 = post }; start = start }
+
+-- a row with its numbers in their ranges, and the cursor behind its line: its type and its post, then its start
+unfoldable pub startRanged : (line : ℕ) → RowNumbers → RowStart → Word → Header → Cursor → RowRead
+startRanged line row (row-start.Given m) w H c = if inRange (startRange w H) (m .0) then row-read.Read row c else row-read.Refused (SplitRange line)
+startRanged line row row-start.Empty w H c = if mayBeEmpty (H .heading) w then row-read.Read row c else row-read.Refused (NoStart line)
+
+unfoldable pub rowRanged : (line : ℕ) → RowNumbers → Word → Header → Cursor → RowRead
+rowRanged line row w H c =
+    if allInRange (below (H .types) ∷ below (H .maps) ∷ []) (row .typed .0 ∷ row .post .0 ∷ [])
+    then startRanged line row (row .start) w H c
     else row-read.Refused (SplitRange line)

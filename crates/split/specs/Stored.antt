@@ -9,8 +9,9 @@ use Rattle.spec.specs.Split.{Map, Row, typeLines, mapLine, rowLine}
 use Rattle.spec.specs.declared.TypeLine.{TypeLine}
 use Rattle.lexer.specs.Cursors.{Placed, placeAt}
 use Rattle.lexer.specs.declared.Cursor.{Cursor}
-use Rattle.workspace.specs.Layout.{wordsAt, valuesAt, rowTypesAt, kindsAt, mapsAt, stride, wordOf, kindOf, firstOf, secondOf}
+use Rattle.workspace.specs.Layout.{wordsAt, valuesAt, rowTypesAt, kindsAt, mapsAt, stride, emptyMap, wordOf, kindOf, firstOf, secondOf}
 use Rattle.workspace.specs.Region.{Region, ChangedWithin}
+use Rattle.workspace.specs.Holds.{startNumber}
 use Rattle.split.specs.declared.Header.{Header}
 use Rattle.split.specs.declared.LinesRead.{LinesRead}
 use Rattle.split.specs.declared.LinesRead.the-variants as lines-read
@@ -26,12 +27,17 @@ abbrev pub HoldsTypes : List ℕ → List TypeLine → Type 0
 HoldsTypes w ts = Columns kindOf firstOf secondOf kindsAt 64 w ts
 
 abbrev pub HoldsRows : List ℕ → List Row → Type 0
-HoldsRows w rows = Columns (λ (r : Row). r .type .0) (λ (r : Row). r .post .0) (λ (r : Row). r .start .0) rowTypesAt 256 w rows
+HoldsRows w rows = Columns (λ (r : Row). r .type .0) (λ (r : Row). r .post .0) (λ (r : Row). startNumber (r .start)) rowTypesAt 256 w rows
 
 -- maps with so many numbers each
 pub record HoldsMaps (locations : ℕ) (w : List ℕ) (ms : List Map) : Type 0 where
   pub wide : (m : ℕ) → m < length ms → length (getD ms m []) ≡ locations
   pub maps : (m : ℕ) → m < length ms → Region w (mapsAt + stride * m) (getD ms m [])
+
+-- the empty map
+pub record EmptyStored (w w′ : List ℕ) : Type 0 where
+  pub empty : Region w′ (mapsAt + stride * emptyMap) (replicate stride 0)
+  pub changed : ChangedWithin 12288 12304 w w′
 
 -- n lines read one after the other: what they say is in the work space
 abbrev pub LinesAnswer : {A : Type 0} → (n : ℕ) → (Stored : List A → Type 0) → List ℕ → Out (List A × Place) → LinesRead → Type 0

@@ -14,6 +14,8 @@ use spec::Heading;
 use spec::MapNumber;
 use spec::Refusal;
 use type_lines::read_types;
+use workspace::EMPTY_ROW;
+use workspace::STRIDE;
 ghost use mathlib.Core.Path.{_≡_};
 ghost use Prim.Native.Nat.{_≤_};
 ghost use lib.ListN.{length};
@@ -21,6 +23,7 @@ ghost use Rattle.spec.specs.Reading.{splitSheet, end};
 ghost use Rattle.lexer.specs.Cursors.{placeAt};
 ghost use Rattle.split.specs.Lines.{headerTold};
 ghost use Rattle.split.specs.Answers.{Reading, Small};
+ghost use Rattle.split.specs.Stored.{EmptyStored};
 ghost use Rattle.split.specs.Sheet.{EndAnswer, BodyRead, SplitRead};
 
 // The largest denominator, and the largest number of a map.
@@ -61,6 +64,15 @@ fn finish(text: &[u8], cursor: Cursor) -> LinesRead
     LinesRead::Refused(Refusal::SplitLines(line))
 }
 
+// The empty map, behind the last that a sheet can have: nothing of any location.
+fn store_empty(work: &mut [u32])
+    requires { ⌜ length (now work) ≡ 16384 ⌝ }
+    ensures { λ _. ⌜ EmptyStored (now (work .entry)) (now (work .exit)) ⌝ }
+{
+    let past = EMPTY_ROW + STRIDE;
+    workspace::clear(&mut work[EMPTY_ROW..past]);
+}
+
 // The lines behind the header.
 fn read_body(text: &[u8], from: Cursor, header: Header, steps: usize, work: &mut [u32]) -> LinesRead
     requires { ⌜ Reading (now text) from × Small header × (steps ≤ 256) × (length (now work) ≡ 16384) ⌝ }
@@ -74,6 +86,7 @@ fn read_body(text: &[u8], from: Cursor, header: Header, steps: usize, work: &mut
     let LinesRead::Read(rows_from) = maps else {
         return maps;
     };
+    store_empty(work);
     let rows = read_rows(text, rows_from, header, steps, work);
     let LinesRead::Read(last) = rows else {
         return rows;

@@ -22,7 +22,7 @@ ghost use Rattle.spec.specs.Reading.{splitSheet, below, allInRange, next};
 ghost use Rattle.spec.specs.Split.{typeLine};
 ghost use Rattle.lexer.specs.Cursors.{placeAt};
 ghost use Rattle.workspace.specs.Layout.{kindOf, firstOf, secondOf};
-ghost use Rattle.split.specs.Lines.{headerTold, typeSeen, typeSeenOf};
+ghost use Rattle.split.specs.Lines.{headerTold, typeSeen};
 ghost use Rattle.split.specs.Answers.{Reading, Small, TypeAnswer};
 ghost use Rattle.split.specs.Stored.{TypesRead};
 
@@ -39,7 +39,7 @@ enum TypeSeen {
 }
 
 // Whether two numbers are numbers of so many things.
-fn both_below(first: u32, second: u32, firsts: usize, seconds: usize) -> bool
+pub(crate) fn both_below(first: u32, second: u32, firsts: usize, seconds: usize) -> bool
     ensures { λ r. ⌜ r ≡ allInRange (below firsts ∷ below seconds ∷ []) (first ∷ second ∷ []) ⌝ }
 {
     if firsts <= workspace::index(first) {
@@ -50,7 +50,7 @@ fn both_below(first: u32, second: u32, firsts: usize, seconds: usize) -> bool
 
 // The type that a word and two numbers make, each number in its range. Where a line shows 0, 0 is the one number.
 fn type_of(kind: TypeWord, first: u32, second: u32, own: usize, header: Header) -> TypeSeen
-    ensures { λ r. ⌜ r ≡ typeSeenOf (typeSeen kind (headerTold header) own (first ∷ second ∷ [])) ⌝ }
+    ensures { λ r. ⌜ r ≡ typeSeen kind (headerTold header) own (first ∷ second ∷ []) ⌝ }
 {
     let locations = header.locations;
     let maps = header.maps;

@@ -1,15 +1,17 @@
 -- What the work space holds of a program and of a split, column by column.
 use mathlib.Core.List.{List, [], _∷_, _++_, map}
+use mathlib.Core.Option.{Option, none, some}
 use Prim.Native.Nat.{ℕ, suc, _+_, _*_, _<_}
 use lib.Dec.{eqb}
-use lib.ListN.{length, getD}
+use lib.ListN.{length, getD, replicate}
 use Rattle.spec.specs.Choice.{if_then_else_}
 use Rattle.spec.specs.Expression.{Step, Expr, leaf, unary, binary, size}
 use Rattle.spec.specs.Program.{Program}
 use Rattle.spec.specs.Split.{Row, Split}
+use Rattle.spec.specs.declared.MapNumber.{MapNumber}
 use Rattle.spec.specs.declared.LeafWord.the-variants.{Var, Int, Newtid, Newlock, Newsem}
 use Rattle.spec.specs.declared.BinaryWord.the-variants.{Let, If, Spawn, Write}
-use Rattle.workspace.specs.Layout.{wordsAt, valuesAt, endsAt, letsAt, rowTypesAt, postsAt, startsAt, kindsAt, firstsAt, secondsAt, mapsAt, stride, codeOf, kindOf, firstOf, secondOf}
+use Rattle.workspace.specs.Layout.{wordsAt, valuesAt, endsAt, letsAt, rowTypesAt, postsAt, startsAt, kindsAt, firstsAt, secondsAt, mapsAt, stride, emptyMap, codeOf, kindOf, firstOf, secondOf}
 use Rattle.workspace.specs.Region.{Region}
 
 -- ------------------------------------------------------------------ programs
@@ -53,11 +55,18 @@ pub record HoldsProgram (w : List ℕ) (P : Program) : Type 0 where
 
 -- ------------------------------------------------------------------ splits
 
+-- the number that stands for the start of a row: its map's, or the empty map's where none is given
+unfoldable pub startNumber : Option MapNumber → ℕ
+startNumber none = emptyMap
+startNumber (some m) = m .0
+
+-- types and maps by number, the empty map, rows in step order
 pub record HoldsSplit (w : List ℕ) (S : Split) : Type 0 where
   pub kinds : Region w kindsAt (map kindOf (S .types))
   pub firsts : Region w firstsAt (map firstOf (S .types))
   pub seconds : Region w secondsAt (map secondOf (S .types))
   pub maps : (m : ℕ) → m < length (S .maps) → Region w (mapsAt + stride * m) (getD (S .maps) m [])
+  pub empty : Region w (mapsAt + stride * emptyMap) (replicate stride 0)
   pub rowTypes : Region w rowTypesAt (map (λ (r : Row). r .type .0) (S .rows))
   pub posts : Region w postsAt (map (λ (r : Row). r .post .0) (S .rows))
-  pub starts : Region w startsAt (map (λ (r : Row). r .start .0) (S .rows))
+  pub starts : Region w startsAt (map (λ (r : Row). startNumber (r .start)) (S .rows))

@@ -64,6 +64,9 @@ mapsAt = 4096
 abbrev pub stride : ℕ
 stride = 16
 
+abbrev pub emptyMap : ℕ
+emptyMap = 512
+
 -- ------------------------------------------------------------------ words
 
 -- the rules of Figure 5, in the printed order, then those of section 3.1.4; WAIT is the last

@@ -9,7 +9,6 @@ use spec::TypeNumber;
 use spec::UnaryWord;
 use spec::Word;
 ghost use mathlib.Core.Path.{_≡_};
-ghost use mathlib.Core.List.{_++_};
 ghost use Prim.Native.Nat.{_+_, _*_, _<_};
 ghost use lib.ListN.{length, getD, replicate};
 ghost use Rattle.workspace.specs.Layout.{codeOf, leafCode, unaryCode, binaryCode, ruleOf, wordBy, wordOf, kindOf, firstOf, secondOf, typeOf, typeAt, mapCell};
@@ -26,7 +25,8 @@ pub const ENDS: usize = 512;
 
 pub const LETS: usize = 768;
 
-// Rows in line order, up to 256: type, post, the map that a spawned body starts with; and the map before the step.
+// Rows in line order, up to 256: type, post, the map that a spawned body starts with, which is the empty map where none is
+// given; and the map before the step.
 pub const ROW_TYPES: usize = 1024;
 
 pub const POSTS: usize = 1280;
@@ -49,6 +49,11 @@ pub const LINE: usize = 2240;
 pub const MAPS: usize = 4096;
 
 pub const STRIDE: usize = 16;
+
+// The number of the empty map, nothing of any location: a row of zeros behind those of the 512 maps that a sheet may have.
+pub const EMPTY_MAP: u32 = 512;
+
+pub const EMPTY_ROW: usize = 12288;
 
 // The number at a place of the work space; 0 past its end.
 pub fn at(work: &[u32], i: usize) -> u32

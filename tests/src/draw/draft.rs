@@ -84,8 +84,12 @@ impl Draft {
         }
     }
 
-    /// Puts the maps in another order: `order` lists them by their old numbers. An empty start is left
-    /// alone, whatever it then means.
+    /// The split sheet's line of a step.
+    pub fn row_of(&self, step: usize) -> usize {
+        2 + self.types.len() + self.maps.len() + step
+    }
+
+    /// Puts the maps in another order: `order` lists them by their old numbers.
     pub fn renumber_maps(&mut self, order: &[usize]) {
         let mut new = vec![0; order.len()];
         for (number, &old) in order.iter().enumerate() {

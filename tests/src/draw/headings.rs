@@ -1,4 +1,4 @@
-//! The same draft under another heading, and drafts that start with more than a whole.
+//! The same draft under another heading, and drafts at fault in what they start with.
 
 use super::draft::{Draft, Heading, Map, Step};
 use super::promise::Promise;
@@ -17,9 +17,6 @@ pub fn often_written_out(random: &mut Random, draft: Draft) -> Draft {
 
 /// A `C2` sheet that says the same as a `C` sheet, its maps in another order.
 fn written_out(random: &mut Random, mut draft: Draft) -> Draft {
-    for step in draft.steps.iter_mut().filter(|step| step.word == Word::Spawn) {
-        step.start.get_or_insert(0);
-    }
     draft.heading = Heading::C2 { start: 0 };
     if draft.maps.len() < MAPS as usize && random.percent(20) {
         over_the_start(random, &mut draft);
@@ -38,14 +35,26 @@ fn over_the_start(random: &mut Random, draft: &mut Draft) {
     draft.add_map(map);
 }
 
-/// An empty start means map 0 under both headings.
+/// An empty start means nothing of any location.
 fn leave_starts_out(random: &mut Random, draft: &mut Draft) {
-    let first = draft.maps[0];
     let maps = &draft.maps;
-    let empty = |step: &&mut Step| step.start.is_some_and(|start| maps[start] == first);
-    for step in draft.steps.iter_mut().filter(empty) {
+    let holds_nothing = |step: &&mut Step| step.start.is_some_and(|start| maps[start] == Map::default());
+    for step in draft.steps.iter_mut().filter(holds_nothing) {
         step.start = step.start.filter(|_| random.percent(50));
     }
+}
+
+/// A draft in which a spawn lacks its start. None when the draft has no spawn.
+pub fn without_start(random: &mut Random, mut draft: Draft) -> Option<Drawn> {
+    let spawns: Vec<usize> = (0..draft.steps.len()).filter(|&step| draft.steps[step].word == Word::Spawn).collect();
+    if spawns.is_empty() {
+        return None;
+    }
+    let spawn = random.pick(&spawns);
+    draft.steps[spawn].start = None;
+    let refused = Promise::Exactly(Returned::at_line(40, draft.row_of(spawn) as u32));
+    let promise = if matches!(draft.heading, Heading::C) { refused } else { Promise::Open };
+    Some(Drawn { promise, ..Drawn::of(&draft, "without start") })
 }
 
 /// A draft whose start has more than a whole of one location or more.

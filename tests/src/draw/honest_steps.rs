@@ -146,16 +146,8 @@ impl Builder<'_> {
         if self.slip != Some(Slip::StartsForFree) {
             *now = difference(now, &start);
         }
-        self.draft.steps[step].start = self.start_number(start);
+        self.draft.steps[step].start = Some(self.map_number(start));
         self.close(step, kind, now)
-    }
-
-    /// The start of a body; map 0 may be left out.
-    fn start_number(&mut self, start: Map) -> Option<usize> {
-        if start == self.draft.maps[0] && self.random.percent(50) {
-            return None;
-        }
-        Some(self.map_number(start))
     }
 
     /// A word that takes what its part carries.

@@ -49,7 +49,8 @@ pub fn pair(seed: u64, number: u64) -> Drawn {
     let random = &mut Random::new(seed, number);
     match random.below(1000) {
         0..=239 => Drawn::accepted(&honest_draft(random), "honest"),
-        240..=249 => over_whole(random),
+        240..=244 => over_whole(random),
+        245..=249 => without_start(random),
         250..=339 => Drawn::accepted(&written_afresh(random), "afresh"),
         340..=349 => chains::chain(random),
         350..=399 => Drawn::accepted(&concurrent_draft(random), "concurrent"),
@@ -99,6 +100,16 @@ fn written_afresh(random: &mut Random) -> Draft {
 fn over_whole(random: &mut Random) -> Drawn {
     let draft = honest_draft(random);
     headings::over_whole(random, draft)
+}
+
+/// An honest draft, save that one of its spawns lacks its start.
+fn without_start(random: &mut Random) -> Drawn {
+    loop {
+        let draft = if random.percent(50) { honest_draft(random) } else { concurrent_draft(random) };
+        if let Some(drawn) = headings::without_start(random, draft) {
+            return drawn;
+        }
+    }
 }
 
 /// A full pair with a split at or under the limit.

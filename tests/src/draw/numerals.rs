@@ -88,9 +88,9 @@ fn place_in_split(random: &mut Random, draft: &Draft) -> Place {
         1 => (1, 2 + random.below(3 + usize::from(matches!(draft.heading, Heading::C2 { .. }))), false),
         2 => (2 + drawn_type(random, draft), 1 + random.below(2), false),
         3 => (2 + types + random.below(maps), random.below(draft.locations), true),
-        4 => (2 + types + maps + random.below(draft.steps.len()), random.below(2), false),
-        5 => (2 + types + maps + random.below(draft.steps.len()), 2, false),
-        _ => (2 + types + maps + drawn_spawn(random, draft), 2, false),
+        4 => (draft.row_of(random.below(draft.steps.len())), random.below(2), false),
+        5 => (draft.row_of(random.below(draft.steps.len())), 2, false),
+        _ => (draft.row_of(drawn_spawn(random, draft)), 2, false),
     };
     Place { of_program: false, line, field, wide }
 }

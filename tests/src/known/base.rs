@@ -77,8 +77,6 @@ pub const PAIRS: &[Known] = &[
     GUARDED,
     TWO_LOCKS,
     LOOP,
-    // An empty s on a spawn is map 0.
-    pair(P, split_of_p!("C,2,1,3,2", "0,1,"), "REFUSE,32,8,4,0"),
     // Missing and spare lines. A spare line is met before the tree is looked at.
     program("P,2|int,0|", "REFUSE,13,2,0,0"),
     program("P,1|int,0|x", "REFUSE,13,3,0,0"),

@@ -23,9 +23,9 @@ macro_rules! split_from_map_1 {
         )
     };
 }
-const P_FROM_MAP_1: &str = split_from_map_1!("0,0,0");
-/// An empty start is map 0 here too, not the map that the program starts with.
-const P_FROM_MAP_1_WITHOUT_START: &str = split_from_map_1!("0,0,");
+
+/// A thread that does nothing.
+const IDLE: &str = "P,3|spawn,0|newtid,0|int,0|";
 
 /// Types int, sem and lock, the last two with one half; maps of 2, 1, 0 and 3 halves.
 macro_rules! halves {
@@ -95,7 +95,7 @@ pub const PAIRS: &[Known] = &[
     split("C,1,1,1,1|int,0,0|0|0,0,10000000000|", "REFUSE,21,4,0,0"),
     pair("P,1|newlock,0|", "C,1,1,1,2|lock,1,0|0|1000000000|0,1,|", "REFUSE,32,2,2,0"),
     // The start written out, request (iv). The form of all fields comes before the range of any.
-    pair(P, P_FROM_MAP_1, "ACCEPT"),
+    pair(P, split_from_map_1!("0,0,0"), "ACCEPT"),
     split("C2,1,1,1,1,0|int,0,0|0|0,0,|", "ACCEPT"),
     split("C2,1,1,1,1,1|int,0,0|0|0,0,|", "REFUSE,22,1,0,0"),
     split("C2,1,1,1,1|int,0,0|0|0,0,|", "REFUSE,21,1,0,0"),
@@ -109,7 +109,6 @@ pub const PAIRS: &[Known] = &[
     split("C2,1,1,1,2,1|int,0,0|2|0|0,1,|", "ACCEPT"),
     split("C2,1,2,1,2,1|int,0,0|0,0|1,2|0,1,|", "REFUSE,30,2,0,1"),
     split("C2,1,1,1,2,1|int,0,0|1|0|0,0,|", "REFUSE,32,2,2,0"),
-    pair(P, P_FROM_MAP_1_WITHOUT_START, "ACCEPT"),
     // Semaphores, request (vi).
     SIGNALLED,
     SIGNALLED_EARLY,
@@ -138,4 +137,17 @@ pub const PAIRS: &[Known] = &[
     pair(SAME_SEM, "C,1,1,2,2|sem,0,0|sem,1,0|0|0|1,0,|0,0,|1,0,|", "ACCEPT"),
     pair(SAME_SEM, "C,1,1,2,2|sem,0,0|sem,1,0|0|1|1,0,|0,0,|1,0,|", "REFUSE,31,4,1,0"),
     pair(SAME_SEM, "C,1,1,2,1|sem,0,0|tid,0,0|0|1,0,|0,0,|1,0,|", "REFUSE,31,4,1,0"),
+    // A spawn with no start given, request (vii): nothing in a C2 sheet; in a C sheet 40, after 22 on its line and
+    // before anything of a later line, also where map 0 would have fitted.
+    pair(P, split_from_map_1!("0,0,"), "REFUSE,32,8,4,0"),
+    pair(IDLE, "C,2,1,2,3|int,0,0|tid,2,0|1|2|0|0,0,|1,0,|0,9,|", "REFUSE,40,7,0,0"),
+    pair(IDLE, "C,2,1,2,3|int,0,0|tid,2,0|1|2|0|0,9,|1,0,|0,9,|", "REFUSE,22,7,0,0"),
+    pair(IDLE, "C,2,1,2,3|int,0,0|tid,2,0|1|2|0|0,9|", "REFUSE,21,7,0,0"),
+    pair(IDLE, "C,2,1,2,3|int,0,0|tid,2,0|1|2|0|0,0,|", "REFUSE,40,7,0,0"),
+    pair(IDLE, "C,1,1,2,1|int,0,0|tid,0,0|0|0,0,|1,0,|0,0,|", "REFUSE,40,5,0,0"),
+    pair(IDLE, "C,1,1,2,1|int,0,0|tid,0,0|0|0,0,0|1,0,|0,0,|", "ACCEPT"),
+    pair(IDLE, "C,1,1,2,1|int,0,0|tid,0,0|2|0,0,|1,0,|0,0,|", "REFUSE,40,5,0,0"),
+    pair(IDLE, "C2,2,1,2,3,0|int,0,0|tid,2,0|1|2|0|0,0,|1,0,|0,2,|", "ACCEPT"),
+    pair(IDLE, "C2,2,1,2,3,0|int,0,0|tid,2,0|1|2|0|0,0,|1,0,|0,0,|", "REFUSE,32,4,2,0"),
+    pair(IDLE, "C2,1,1,2,1,0|int,0,0|tid,0,0|1|0,0,|1,0,|0,0,|", "REFUSE,32,4,2,0"),
 ];

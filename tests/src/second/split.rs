@@ -1,4 +1,4 @@
-//! The split sheet: types, maps and the three numbers of each step (refusals 21 to 23).
+//! The split sheet: types, maps and the three numbers of each step (refusals 21 to 23, and 40).
 
 use super::program::Step;
 use super::text::Text;
@@ -53,7 +53,7 @@ pub struct Split {
     pub locations: usize,
     pub types: Vec<Type>,
     pub marks: Vec<Mark>,
-    /// The maps one after the other, each of `locations` numbers.
+    /// The maps one after the other, each of `locations` numbers; behind them one that holds nothing.
     numbers: Vec<u32>,
 }
 
@@ -84,7 +84,8 @@ struct Head {
     locations: u32,
     types: u32,
     maps: u32,
-    start: u32,
+    /// What the program starts with, on a `C2` sheet.
+    start: Option<u32>,
 }
 
 /// Reads the whole sheet beside the steps of its program.
@@ -95,7 +96,7 @@ pub fn read(split: &[u8], steps: &[Step]) -> Result<Split, Returned> {
     let numbers = read_maps(&mut text, &head)?;
     let marks = read_marks(&mut text, &head, steps)?;
     text.end()?;
-    let (start, locations) = (head.start as usize, head.locations as usize);
+    let (start, locations) = (head.start.unwrap_or(0) as usize, head.locations as usize);
     Ok(Split { whole: head.whole, start, locations, types, marks, numbers })
 }
 
@@ -109,14 +110,14 @@ fn read_head(text: &mut Text) -> Result<Head, Returned> {
             locations: line.next_numeral()?,
             types: line.next_numeral()?,
             maps: line.next_numeral()?,
-            start: if names_start { line.next_numeral()? } else { 0 },
+            start: if names_start { Some(line.next_numeral()?) } else { None },
         })
     })?;
     text.in_range((1..=WHOLE).contains(&head.whole))?;
     text.in_range((1..=LOCATIONS).contains(&head.locations))?;
     text.in_range((1..=TYPES).contains(&head.types))?;
     text.in_range((1..=MAPS).contains(&head.maps))?;
-    text.in_range(head.start < head.maps)?;
+    text.in_range(head.start.unwrap_or(0) < head.maps)?;
     Ok(head)
 }
 
@@ -153,10 +154,12 @@ fn read_type(text: &mut Text, head: &Head, own: u32) -> Result<Type, Returned> {
 }
 
 fn read_maps(text: &mut Text, head: &Head) -> Result<Vec<u32>, Returned> {
-    let mut numbers = Vec::with_capacity((head.maps * head.locations) as usize);
+    let count = ((head.maps + 1) * head.locations) as usize;
+    let mut numbers = Vec::with_capacity(count);
     for _ in 0..head.maps {
         read_map(text, head, &mut numbers)?;
     }
+    numbers.resize(count, 0);
     Ok(numbers)
 }
 
@@ -183,9 +186,11 @@ fn read_marks(text: &mut Text, head: &Head, steps: &[Step]) -> Result<Vec<Mark>,
         let fields = |line: &mut Text| Some((line.numeral()?, line.next_numeral()?, line.next_numeral_or_empty()?));
         let (kind, post, start) = text.line(fields)?;
         text.in_range(kind < head.types && post < head.maps)?;
-        text.in_range(start.is_none() || step.word == Word::Spawn)?;
-        let start = start.unwrap_or(0);
-        text.in_range(start < head.maps)?;
+        let is_spawn = step.word == Word::Spawn;
+        text.in_range(start.is_none_or(|start| is_spawn && start < head.maps))?;
+        text.wanted(40, start.is_some() || !is_spawn || head.start.is_some())?;
+        // An empty start is the map of nothing behind the others.
+        let start = start.unwrap_or(head.maps);
         marks.push(Mark { kind: kind as usize, post: post as usize, start: start as usize });
     }
     Ok(marks)

@@ -30,10 +30,15 @@ impl<'a> Text<'a> {
 
     /// Refuses the line just read unless its numbers are in range.
     pub fn in_range(&self, yes: bool) -> Result<(), Returned> {
+        self.wanted(self.base + 2, yes)
+    }
+
+    /// Refuses the line just read with this number unless something holds.
+    pub fn wanted(&self, number: u32, yes: bool) -> Result<(), Returned> {
         if yes {
             Ok(())
         } else {
-            Err(Returned::at_line(self.base + 2, self.line - 1))
+            Err(Returned::at_line(number, self.line - 1))
         }
     }
 

@@ -8,7 +8,7 @@ use Rattle.spec.specs.Maps.{overWhole}
 use Rattle.spec.specs.Verdict.{refuseOver}
 use Rattle.workspace.specs.Layout.{mapCell}
 use Rattle.rules.specs.Outcome.{outcome}
-use Rattle.rules.specs.Relation.{mapFrom}
+use Rattle.rules.specs.Relation.{mapFrom, mapIn}
 use Rattle.rules.specs.Walk.{startOutcome}
 use Rattle.rules.proofs.Relations.{over-later, over-here, over-nowhere}
 use Rattle.rules.proofs.check_start.Statement.{statement}
@@ -33,7 +33,7 @@ map-cell-requires : tie.Need-map-cell-requires Inv-loop μ-loop
 map-cell-requires c κs = omega arith
 
 returns : tie.Need-returns Inv-loop μ-loop
-unfolding outcome startOutcome refuseOver
+unfolding outcome startOutcome mapIn refuseOver
 returns c =
     rw (c .before .before .before .before .loop .inv .1
     ∙ over-here _ _ _ _ _ (c .before .before .before .loop-test .taken) (rw (← c .before .map-cell .ensures
@@ -54,7 +54,7 @@ loop-again c = (
 )
 
 returns-2 : tie.Need-returns-2 Inv-loop μ-loop
-unfolding outcome startOutcome refuseOver
+unfolding outcome startOutcome mapIn refuseOver
 returns-2 c = rw (c .before .loop .inv .1 ∙ over-nowhere _ _ _ _ _ (c .loop-test .left))
 
 pub check-start-spec : {M : Type 1} → statement M

@@ -3,22 +3,16 @@ use mathlib.Core.Path.{sym}
 use borrow.Author.Needs.{needs}
 use Rattle.workspace.proofs.at.Statement.{statement}
 use Rattle.workspace.proofs.at.Tie as tie
-use Rattle.workspace.proofs.at.Reads as reads
-use Rattle.workspace.proofs.at.Lts as lts
 
--- src/lib.rt:35:26
 mul-result : tie.Need-mul-result
 mul-result c = search needs
 
--- src/lib.rt:35:26
 shared-slice-read-result : tie.Need-shared-slice-read-result
 shared-slice-read-result c = search needs
 
--- src/lib.rt:32:1
 returns : tie.Need-returns
 returns c = search needs
 
--- src/lib.rt:32:1
 returns-2 : tie.Need-returns-2
 returns-2 c = sym (List·getD-eq-default (c .before .args .work .now) 0 (c .if1 .left))
 

@@ -9,8 +9,6 @@ use borrow.Author.Fill.{fill-none, fill-more}
 use lib.ListN.{length, drop, replicate, set, length-set}
 use Rattle.workspace.proofs.clear.Statement.{statement}
 use Rattle.workspace.proofs.clear.Tie as tie
-use Rattle.workspace.proofs.clear.Reads as reads
-use Rattle.workspace.proofs.clear.Lts as lts
 
 abbrev Inv-loop : tie.InvT-loop
 Inv-loop s₀ i₀ s i = (i ≤ length s₀) × ((length s ≡ length s₀) × (s ≡ replicate i 0 ++ drop i s₀))
@@ -18,27 +16,21 @@ Inv-loop s₀ i₀ s i = (i ≤ length s₀) × ((length s ≡ length s₀) × (
 abbrev μ-loop : tie.MeasureT-loop
 μ-loop s₀ i₀ s i = length s₀ - i
 
--- src/lib.rt:443:5
 loop-holds : tie.Need-loop-holds Inv-loop μ-loop
 loop-holds c = (omega arith, (refl, fill-none _ 0))
 
--- src/lib.rt:444:9
 mul-s : tie.Need-mul-s Inv-loop μ-loop
 mul-s c = omega arith
 
--- src/lib.rt:444:9
 slice-write-s : tie.Need-slice-write-s Inv-loop μ-loop
 slice-write-s c = omega arith
 
--- src/lib.rt:445:9
 add-i : tie.Need-add-i Inv-loop μ-loop
 add-i c = omega arith
 
--- src/lib.rt:443:5
 loop-less : tie.Need-loop-less Inv-loop μ-loop
 loop-less c = omega arith
 
--- src/lib.rt:443:5
 loop-again : tie.Need-loop-again Inv-loop μ-loop
 loop-again c = (
   omega arith,
@@ -49,11 +41,9 @@ loop-again c = (
   ),
 )
 
--- src/lib.rt:439:1
 same-length : tie.Need-same-length Inv-loop μ-loop
 same-length c = search needs
 
--- src/lib.rt:439:1
 returns : tie.Need-returns Inv-loop μ-loop
 returns c =
     let e : c .before .loop .i ≡ length (c .before .before .args .s .now) = omega arith in

@@ -6,32 +6,22 @@ use Rattle.workspace.specs.Layout.{mapCell}
 use borrow.Author.Needs.{needs}
 use Rattle.workspace.proofs.map_cell.Statement.{statement}
 use Rattle.workspace.proofs.map_cell.Tie as tie
-use Rattle.workspace.proofs.map_cell.Reads as reads
-use Rattle.workspace.proofs.map_cell.Lts as lts
-use Rattle.workspace.proofs.at.Reads as at-reads
-use Rattle.workspace.proofs.index.Reads as index-reads
 
--- src/lib.rt:200:30
 index-requires : tie.Need-index-requires
 index-requires c κs = search needs
 
--- src/lib.rt:200:21
 mul-at : tie.Need-mul-at
 mul-at c = search needs
 
--- src/lib.rt:200:14
 add-at : tie.Need-add-at
 add-at c = search needs
 
--- src/lib.rt:200:14
 add-at-2 : tie.Need-add-at-2
 add-at-2 c = search needs
 
--- src/lib.rt:200:5
 at-requires : tie.Need-at-requires
 at-requires c κs = search needs
 
--- src/lib.rt:196:1
 returns : tie.Need-returns
 unfolding mapCell
 returns c =

@@ -4,204 +4,166 @@ use Rattle.spec.specs.Verdict.{returned}
 use borrow.Author.Needs.{needs}
 use Rattle.checker.proofs.numbers.refusal_numbers.Statement.{statement}
 use Rattle.checker.proofs.numbers.refusal_numbers.Tie as tie
-use Rattle.checker.proofs.numbers.refusal_numbers.Reads as reads
-use Rattle.checker.proofs.numbers.refusal_numbers.Lts as lts
-use Rattle.checker.proofs.numbers.four.Reads as four-reads
 
--- src/numbers.rt:24:36
 enum-told : tie.Need-enum-told
 enum-told c = search needs
 
--- src/numbers.rt:24:36
 four-requires : tie.Need-four-requires
 four-requires c κs = search needs
 
--- src/numbers.rt:25:33
 enum-told-2 : tie.Need-enum-told-2
 enum-told-2 c = search needs
 
--- src/numbers.rt:25:33
 four-requires-2 : tie.Need-four-requires-2
 four-requires-2 c κs = search needs
 
--- src/numbers.rt:26:30
 enum-known-r : tie.Need-enum-known-r
 enum-known-r c = search needs
 
--- src/numbers.rt:26:36
 four-requires-3 : tie.Need-four-requires-3
 four-requires-3 c κs = search needs
 
--- src/numbers.rt:27:31
 enum-known-r-2 : tie.Need-enum-known-r-2
 enum-known-r-2 c = search needs
 
--- src/numbers.rt:27:37
 four-requires-4 : tie.Need-four-requires-4
 four-requires-4 c κs = search needs
 
--- src/numbers.rt:28:31
 enum-known-r-3 : tie.Need-enum-known-r-3
 enum-known-r-3 c = search needs
 
--- src/numbers.rt:28:37
 four-requires-5 : tie.Need-four-requires-5
 four-requires-5 c κs = search needs
 
--- src/numbers.rt:29:26
 enum-known-r-4 : tie.Need-enum-known-r-4
 enum-known-r-4 c = search needs
 
--- src/numbers.rt:29:32
 four-requires-6 : tie.Need-four-requires-6
 four-requires-6 c κs = search needs
 
--- src/numbers.rt:30:26
 enum-known-r-5 : tie.Need-enum-known-r-5
 enum-known-r-5 c = search needs
 
--- src/numbers.rt:30:32
 four-requires-7 : tie.Need-four-requires-7
 four-requires-7 c κs = search needs
 
--- src/numbers.rt:31:31
 enum-told-3 : tie.Need-enum-told-3
 enum-told-3 c = search needs
 
--- src/numbers.rt:31:31
 four-requires-8 : tie.Need-four-requires-8
 four-requires-8 c κs = search needs
 
--- src/numbers.rt:32:28
 enum-known-r-6 : tie.Need-enum-known-r-6
 enum-known-r-6 c = search needs
 
--- src/numbers.rt:32:34
 four-requires-9 : tie.Need-four-requires-9
 four-requires-9 c κs = search needs
 
--- src/numbers.rt:33:29
 enum-known-r-7 : tie.Need-enum-known-r-7
 enum-known-r-7 c = search needs
 
--- src/numbers.rt:33:35
 four-requires-10 : tie.Need-four-requires-10
 four-requires-10 c κs = search needs
 
--- src/numbers.rt:34:29
 enum-known-r-8 : tie.Need-enum-known-r-8
 enum-known-r-8 c = search needs
 
--- src/numbers.rt:34:35
 four-requires-11 : tie.Need-four-requires-11
 four-requires-11 c κs = search needs
 
--- src/numbers.rt:35:26
 enum-known-r-9 : tie.Need-enum-known-r-9
 enum-known-r-9 c = search needs
 
--- src/numbers.rt:35:32
 four-requires-12 : tie.Need-four-requires-12
 four-requires-12 c κs = search needs
 
--- src/numbers.rt:36:36
 enum-known-r-10 : tie.Need-enum-known-r-10
 enum-known-r-10 c = search needs
 
--- src/numbers.rt:36:57
 four-requires-13 : tie.Need-four-requires-13
 four-requires-13 c κs = search needs
 
--- src/numbers.rt:37:36
 enum-known-r-11 : tie.Need-enum-known-r-11
 enum-known-r-11 c = search needs
 
--- src/numbers.rt:37:70
 four-requires-14 : tie.Need-four-requires-14
 four-requires-14 c κs = search needs
 
--- src/numbers.rt:38:38
 enum-known-r-12 : tie.Need-enum-known-r-12
 enum-known-r-12 c = search needs
 
--- src/numbers.rt:38:72
 four-requires-15 : tie.Need-four-requires-15
 four-requires-15 c κs = search needs
 
--- src/numbers.rt:20:1
+enum-known-r-13 : tie.Need-enum-known-r-13
+enum-known-r-13 c = search needs
+
+four-requires-16 : tie.Need-four-requires-16
+four-requires-16 c κs = search needs
+
 returns : tie.Need-returns
 unfolding returned
 returns c = cc
 
--- src/numbers.rt:20:1
 returns-2 : tie.Need-returns-2
 unfolding returned
 returns-2 c = cc
 
--- src/numbers.rt:20:1
 returns-3 : tie.Need-returns-3
 unfolding returned
 returns-3 c = cc
 
--- src/numbers.rt:20:1
 returns-4 : tie.Need-returns-4
 unfolding returned
 returns-4 c = cc
 
--- src/numbers.rt:20:1
 returns-5 : tie.Need-returns-5
 unfolding returned
 returns-5 c = cc
 
--- src/numbers.rt:20:1
 returns-6 : tie.Need-returns-6
 unfolding returned
 returns-6 c = cc
 
--- src/numbers.rt:20:1
 returns-7 : tie.Need-returns-7
 unfolding returned
 returns-7 c = cc
 
--- src/numbers.rt:20:1
 returns-8 : tie.Need-returns-8
 unfolding returned
 returns-8 c = cc
 
--- src/numbers.rt:20:1
 returns-9 : tie.Need-returns-9
 unfolding returned
 returns-9 c = cc
 
--- src/numbers.rt:20:1
 returns-10 : tie.Need-returns-10
 unfolding returned
 returns-10 c = cc
 
--- src/numbers.rt:20:1
 returns-11 : tie.Need-returns-11
 unfolding returned
 returns-11 c = cc
 
--- src/numbers.rt:20:1
 returns-12 : tie.Need-returns-12
 unfolding returned
-returns-12 c = c .four12 .ensures ∙ ap (λ r. returned (Refuse r)) (sym (c .before .before .r9 .given .1))
+returns-12 c = cc
 
--- src/numbers.rt:20:1
 returns-13 : tie.Need-returns-13
 unfolding returned
-returns-13 c = cc
+returns-13 c = c .four13 .ensures ∙ ap (λ r. returned (Refuse r)) (sym (c .before .before .r10 .given .1))
 
--- src/numbers.rt:20:1
 returns-14 : tie.Need-returns-14
 unfolding returned
 returns-14 c = c .four14 .ensures ∙ ap (λ r. returned (Refuse r)) (sym (c .before .before .r11 .given .1))
 
--- src/numbers.rt:20:1
 returns-15 : tie.Need-returns-15
 unfolding returned
 returns-15 c = c .four15 .ensures ∙ ap (λ r. returned (Refuse r)) (sym (c .before .before .r12 .given .1))
+
+returns-16 : tie.Need-returns-16
+unfolding returned
+returns-16 c = c .four16 .ensures ∙ ap (λ r. returned (Refuse r)) (sym (c .before .before .r13 .given .1))
 
 pub refusal-numbers-spec : {M : Type 1} → statement M
 refusal-numbers-spec =
@@ -237,6 +199,8 @@ refusal-numbers-spec =
     four-requires-14
     enum-known-r-12
     four-requires-15
+    enum-known-r-13
+    four-requires-16
     returns
     returns-2
     returns-3
@@ -251,4 +215,5 @@ refusal-numbers-spec =
     returns-12
     returns-13
     returns-14
-    returns-15)
+    returns-15
+    returns-16)

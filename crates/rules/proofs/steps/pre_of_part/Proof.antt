@@ -1,4 +1,4 @@
-use Rattle.spec.specs.Sites.{preOfPart}
+use Rattle.rules.specs.Walk.{numberOfPart}
 use borrow.Author.Needs.{needs}
 use Rattle.rules.proofs.steps.pre_of_part.Statement.{statement}
 use Rattle.rules.proofs.steps.pre_of_part.Tie as tie
@@ -31,39 +31,39 @@ enum-told-9 : tie.Need-enum-told-9
 enum-told-9 c = search needs
 
 returns : tie.Need-returns
-unfolding preOfPart
+unfolding numberOfPart
 returns c = rw (c .enum-told .given .1)
 
 returns-2 : tie.Need-returns-2
-unfolding preOfPart
+unfolding numberOfPart
 returns-2 c = rw (c .enum-told2 .given .1)
 
 returns-3 : tie.Need-returns-3
-unfolding preOfPart
+unfolding numberOfPart
 returns-3 c = rw (c .enum-told3 .given .1)
 
 returns-4 : tie.Need-returns-4
-unfolding preOfPart
+unfolding numberOfPart
 returns-4 c = rw (c .enum-told4 .given .1)
 
 returns-5 : tie.Need-returns-5
-unfolding preOfPart
+unfolding numberOfPart
 returns-5 c = rw (c .enum-told5 .given .1)
 
 returns-6 : tie.Need-returns-6
-unfolding preOfPart
+unfolding numberOfPart
 returns-6 c = rw (c .enum-told6 .given .1)
 
 returns-7 : tie.Need-returns-7
-unfolding preOfPart
+unfolding numberOfPart
 returns-7 c = rw (c .enum-told7 .given .1)
 
 returns-8 : tie.Need-returns-8
-unfolding preOfPart
+unfolding numberOfPart
 returns-8 c = rw (c .enum-told8 .given .1)
 
 returns-9 : tie.Need-returns-9
-unfolding preOfPart
+unfolding numberOfPart
 returns-9 c = rw (c .enum-told9 .given .1)
 
 pub pre-of-part-spec : {M : Type 1} → statement M

@@ -1,4 +1,4 @@
-use Rattle.spec.specs.Sites.{preOfSecond}
+use Rattle.rules.specs.Walk.{numberOfSecond}
 use borrow.Author.Needs.{needs}
 use Rattle.rules.proofs.steps.pre_of_second.Statement.{statement}
 use Rattle.rules.proofs.steps.pre_of_second.Tie as tie
@@ -16,19 +16,19 @@ enum-told-4 : tie.Need-enum-told-4
 enum-told-4 c = search needs
 
 returns : tie.Need-returns
-unfolding preOfSecond
+unfolding numberOfSecond
 returns c = rw (c .enum-told .given .1)
 
 returns-2 : tie.Need-returns-2
-unfolding preOfSecond
+unfolding numberOfSecond
 returns-2 c = rw (c .enum-told2 .given .1)
 
 returns-3 : tie.Need-returns-3
-unfolding preOfSecond
+unfolding numberOfSecond
 returns-3 c = rw (c .enum-told3 .given .1)
 
 returns-4 : tie.Need-returns-4
-unfolding preOfSecond
+unfolding numberOfSecond
 returns-4 c = rw (c .enum-told4 .given .1)
 
 pub pre-of-second-spec : {M : Type 1} → statement M

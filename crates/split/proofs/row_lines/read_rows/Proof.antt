@@ -6,6 +6,7 @@ use native.Mathlib.Omega.{arith}
 use Rattle.spec.specs.Reading.{splitSheet, next}
 use Rattle.spec.specs.Split.{Row}
 use Rattle.lexer.specs.Cursors.{placeAt}
+use Rattle.workspace.specs.Holds.{startNumber}
 use Rattle.split.specs.Lines.{headerTold, wordLine, rowTold}
 use Rattle.split.specs.Answers.{RowAnswer}
 use Rattle.split.specs.Stored.{HoldsRows, stepAt}
@@ -24,7 +25,7 @@ abbrev μ-loop : tie.MeasureT-loop
 loop-holds : tie.Need-loop-holds Inv-loop μ-loop
 loop-holds c =
     let entry = c .before .before in
-    first-turn (λ i. wordLine (headerTold (entry .args .header)) (stepAt (entry .args .work .now) i .word)) HoldsRows 1024 1792 (entry .args .steps) (entry .args .text .now) (entry .args .work .now) (entry .args .from) (columns-empty (λ (r : Row). r .type .0) (λ (r : Row). r .post .0) (λ (r : Row). r .start .0) 1024 256 (entry .args .work .now) (omega arith)) (entry .pre .0 .placed)
+    first-turn (λ i. wordLine (headerTold (entry .args .header)) (stepAt (entry .args .work .now) i .word)) HoldsRows 1024 1792 (entry .args .steps) (entry .args .text .now) (entry .args .work .now) (entry .args .from) (columns-empty (λ (r : Row). r .type .0) (λ (r : Row). r .post .0) (λ (r : Row). startNumber (r .start)) 1024 256 (entry .args .work .now) (omega arith)) (entry .pre .0 .placed)
 
 add-word-of : tie.Need-add-word-of Inv-loop μ-loop
 add-word-of c = search needs
@@ -94,7 +95,7 @@ loop-again c =
     let out = next splitSheet (wordLine (headerTold (entry .args .header)) (word-of .word-of .result)) (placeAt (entry .args .text .now) (turn .loop .cursor)) in
     let answer = subst (RowAnswer (entry .args .text .now) out) (found .found .given .1) (row-line .row-line .ensures) in
     let same = row-here (headerTold (entry .args .header)) (entry .args .text .now) (turn .loop .cursor) (entry .args .work .now) (turn .loop .work) (turn .loop .k) _ (word-of .word-of .ensures) (omega (arith, inside .loop-test .taken, entry .pre .2)) (turn .loop .inv .changed) in
-    columns-turn (λ (r : Row). r .type .0) (λ (r : Row). r .post .0) (λ (r : Row). r .start .0) 1024 256 (entry .args .steps) (λ i. wordLine (headerTold (entry .args .header)) (stepAt (entry .args .work .now) i .word)) (entry .args .text .now) (entry .args .work .now) (entry .args .from) (entry .pre .2) (omega arith) (turn .loop .work) (turn .loop .cursor) (turn .loop .k) (turn .loop .inv) (inside .loop-test .taken) _ (rowTold _) _ (same ∙ answer .0) (answer .1) (store-row .store-row .ensures)
+    columns-turn (λ (r : Row). r .type .0) (λ (r : Row). r .post .0) (λ (r : Row). startNumber (r .start)) 1024 256 (entry .args .steps) (λ i. wordLine (headerTold (entry .args .header)) (stepAt (entry .args .work .now) i .word)) (entry .args .text .now) (entry .args .work .now) (entry .args .from) (entry .pre .2) (omega arith) (turn .loop .work) (turn .loop .cursor) (turn .loop .k) (turn .loop .inv) (inside .loop-test .taken) _ (rowTold _) _ (same ∙ answer .0) (answer .1) (store-row .store-row .ensures)
 
 same-length-2 : tie.Need-same-length-2 Inv-loop μ-loop
 same-length-2 c =

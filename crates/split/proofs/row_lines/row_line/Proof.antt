@@ -97,9 +97,6 @@ enum-known-start-2 c = search needs
 row-with-requires-2 : tie.Need-row-with-requires-2
 row-with-requires-2 c κs = search needs
 
-start-limit-requires : tie.Need-start-limit-requires
-start-limit-requires c κs = search needs
-
 row-of-requires-2 : tie.Need-row-of-requires-2
 row-of-requires-2 c κs = search needs
 
@@ -123,13 +120,12 @@ returns-4 c =
     let type = subst (LeadingAnswer (entry .args .text .now) (entry .args .cursor)) (typed .typed .given .1) (leading-number .leading-number .ensures) in
     let map = subst (LeadingAnswer (entry .args .text .now) (typed .typed .given .0 .1 .0)) (post .post .given .1) (leading-number2 .leading-number2 .ensures) in
     let last = subst (StartAnswer (entry .args .text .now) (post .post .given .0 .1 .0)) (start .start .given .1) (start-field .start-field .ensures) in
-    row-without (headerTold (entry .args .header)) (entry .args .word) (entry .args .text .now) (entry .args .cursor) (entry .pre .0 .placed) left _ (typed .typed .given .0 .1 .0) type _ (post .post .given .0 .1 .0) map (entry .pre .1 .types, entry .pre .1 .maps) _ last (row-with .row-with .result) (row-with .row-with .ensures .0) (row-with .row-with .ensures .1) (row-with .row-with .ensures .2) (c .row-of .result) (c .row-of .ensures)
+    row-without (headerTold (entry .args .header)) (entry .args .word) (entry .args .text .now) (entry .args .cursor) (entry .pre .0 .placed) left _ (typed .typed .given .0 .1 .0) type _ (post .post .given .0 .1 .0) map (entry .pre .1 .types, entry .pre .1 .maps) _ last (row-with .row-with .result) (row-with .row-with .ensures) (c .row-of .result) (c .row-of .ensures)
 
 returns-5 : tie.Need-returns-5
 unfolding headerTold
 returns-5 c =
-    let start-limit = c .before in
-    let row-with2 = start-limit .before in
+    let row-with2 = c .before in
     let start2 = row-with2 .before .before in
     let start-field = start2 .before .before in
     let post = start-field .before .before in
@@ -143,7 +139,7 @@ returns-5 c =
     let type = subst (LeadingAnswer (entry .args .text .now) (entry .args .cursor)) (typed .typed .given .1) (leading-number .leading-number .ensures) in
     let map = subst (LeadingAnswer (entry .args .text .now) (typed .typed .given .0 .1 .0)) (post .post .given .1) (leading-number2 .leading-number2 .ensures) in
     let last = subst (StartAnswer (entry .args .text .now) (post .post .given .0 .1 .0)) (start2 .start2 .given .1) (start-field .start-field .ensures) in
-    row-with-start (headerTold (entry .args .header)) (entry .args .word) (entry .args .text .now) (entry .args .cursor) (entry .pre .0 .placed) left _ (typed .typed .given .0 .1 .0) type _ (post .post .given .0 .1 .0) map (entry .pre .1 .types, entry .pre .1 .maps) _ _ last (row-with2 .row-with2 .result) (row-with2 .row-with2 .ensures .0) (row-with2 .row-with2 .ensures .1) (row-with2 .row-with2 .ensures .2) _ (start-limit .start-limit .ensures) (c .row-of2 .result) (c .row-of2 .ensures)
+    row-with-start (headerTold (entry .args .header)) (entry .args .word) (entry .args .text .now) (entry .args .cursor) (entry .pre .0 .placed) left _ (typed .typed .given .0 .1 .0) type _ (post .post .given .0 .1 .0) map (entry .pre .1 .types, entry .pre .1 .maps) _ _ last (row-with2 .row-with2 .result) (row-with2 .row-with2 .ensures) (c .row-of2 .result) (c .row-of2 .ensures)
 
 returns-6 : tie.Need-returns-6
 returns-6 c =
@@ -181,7 +177,6 @@ row-line-spec =
     row-of-requires
     enum-known-start-2
     row-with-requires-2
-    start-limit-requires
     row-of-requires-2
     enum-told-3
     returns-4

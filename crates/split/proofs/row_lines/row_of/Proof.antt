@@ -1,45 +1,97 @@
-use mathlib.Core.Path.{sym}
+-- The two numbers of a row, and then its start, given or not.
+use mathlib.Core.Path.{sym, _∙_}
 use native.Mathlib.Omega.{arith}
-use Rattle.split.proofs.Tests.{range-out, range-next, range-last, in-below, out-below}
-use Rattle.split.proofs.RowLaws.{row-out, row-in}
+use Rattle.spec.specs.Split.{startRange}
 use Rattle.split.specs.Lines.{headerTold}
+use Rattle.split.proofs.Tests.{untrue, unfalse, in-below, out-below}
+use Rattle.split.proofs.RowLaws.{row-out, start-out, start-in, start-wanted, start-left}
 use borrow.Author.Needs.{needs}
 use Rattle.split.proofs.row_lines.row_of.Statement.{statement}
 use Rattle.split.proofs.row_lines.row_of.Tie as tie
 
+both-below-requires : tie.Need-both-below-requires
+both-below-requires c κs = search needs
+
+returns : tie.Need-returns
+unfolding headerTold startRange
+returns c =
+    let both-below = c .before in
+    let entry = both-below .before .before .before in
+    row-out _ (entry .args .row) (entry .args .word) (headerTold (entry .args .header)) _ (sym (both-below .both-below .ensures) ∙ untrue _ (c .if1 .taken))
+
+enum-known-start : tie.Need-enum-known-start
+enum-known-start c = search needs
+
+start-limit-requires : tie.Need-start-limit-requires
+start-limit-requires c κs = search needs
+
 index-requires : tie.Need-index-requires
 index-requires c κs = search needs
 
-returns : tie.Need-returns
-unfolding headerTold
-returns c = row-out _ (c .before .before .before .before .before .args .row) (c .before .before .before .before .before .args .starts) (headerTold (c .before .before .before .before .before .args .header)) _ (range-out _ _ _ _ (out-below _ _ (omega (arith, c .before .index .ensures .0, c .if1 .taken))))
-
-index-requires-2 : tie.Need-index-requires-2
-index-requires-2 c κs = search needs
-
 returns-2 : tie.Need-returns-2
-unfolding headerTold
-returns-2 c = row-out _ (c .before .before .before .before .before .before .before .args .row) (c .before .before .before .before .before .before .before .args .starts) (headerTold (c .before .before .before .before .before .before .before .args .header)) _ (range-next _ _ _ _ (in-below _ _ (omega (arith, c .before .before .before .index .ensures .0, c .before .before .if1 .left))) (range-out _ _ _ _ (out-below _ _ (omega (arith, c .before .index2 .ensures .0, c .if2 .taken)))))
+unfolding headerTold startRange
+returns-2 c =
+    let index = c .before in
+    let start-limit = index .before in
+    let start = start-limit .before .before in
+    let else1 = start .before .before in
+    let both-below = else1 .before in
+    let entry = both-below .before .before .before in
+    let fit = sym (both-below .both-below .ensures) ∙ unfalse _ (else1 .if1 .left) in
+    start-out _ (entry .args .row) (entry .args .word) (headerTold (entry .args .header)) _ fit _ (start .start .given .1) (out-below _ _ (omega (arith, index .index .ensures .0, start-limit .start-limit .ensures, c .if2 .taken)))
 
-index-requires-3 : tie.Need-index-requires-3
-index-requires-3 c κs = search needs
+enum-told : tie.Need-enum-told
+enum-told c = search needs
+
+may-be-empty-requires : tie.Need-may-be-empty-requires
+may-be-empty-requires c κs = search needs
 
 returns-3 : tie.Need-returns-3
-unfolding headerTold
-returns-3 c = row-out _ (c .before .before .before .before .before .before .before .before .before .args .row) (c .before .before .before .before .before .before .before .before .before .args .starts) (headerTold (c .before .before .before .before .before .before .before .before .before .args .header)) _ (range-next _ _ _ _ (in-below _ _ (omega (arith, c .before .before .before .before .before .index .ensures .0, c .before .before .before .before .if1 .left))) (range-next _ _ _ _ (in-below _ _ (omega (arith, c .before .before .before .index2 .ensures .0, c .before .before .if2 .left))) (range-out _ _ _ _ (out-below _ _ (omega (arith, c .before .index3 .ensures .0, c .if3 .taken))))))
+unfolding headerTold startRange
+returns-3 c =
+    let may-be-empty = c .before in
+    let enum-told = may-be-empty .before in
+    let else1 = enum-told .before .before in
+    let both-below = else1 .before in
+    let entry = both-below .before .before .before in
+    let fit = sym (both-below .both-below .ensures) ∙ unfalse _ (else1 .if1 .left) in
+    start-wanted _ (entry .args .row) (entry .args .word) (headerTold (entry .args .header)) _ fit (enum-told .enum-told .given .1) (sym (may-be-empty .may-be-empty .ensures) ∙ untrue _ (c .if3 .taken))
 
 returns-4 : tie.Need-returns-4
-unfolding headerTold
-returns-4 c = row-in _ (c .before .before .before .before .before .before .before .before .before .args .row) (c .before .before .before .before .before .before .before .before .before .args .starts) (headerTold (c .before .before .before .before .before .before .before .before .before .args .header)) _ (range-next _ _ _ _ (in-below _ _ (omega (arith, c .before .before .before .before .before .index .ensures .0, c .before .before .before .before .if1 .left))) (range-next _ _ _ _ (in-below _ _ (omega (arith, c .before .before .before .index2 .ensures .0, c .before .before .if2 .left))) (range-last _ _ (sym (in-below _ _ (omega (arith, c .before .index3 .ensures .0, c .if3 .left)))))))
+unfolding headerTold startRange
+returns-4 c =
+    let index = c .before in
+    let start-limit = index .before in
+    let start = start-limit .before .before in
+    let else1 = start .before .before in
+    let both-below = else1 .before in
+    let entry = both-below .before .before .before in
+    let fit = sym (both-below .both-below .ensures) ∙ unfalse _ (else1 .if1 .left) in
+    start-in _ (entry .args .row) (entry .args .word) (headerTold (entry .args .header)) _ fit _ (start .start .given .1) (in-below _ _ (omega (arith, index .index .ensures .0, start-limit .start-limit .ensures, c .if2 .left)))
+
+returns-5 : tie.Need-returns-5
+unfolding headerTold startRange
+returns-5 c =
+    let may-be-empty = c .before in
+    let enum-told = may-be-empty .before in
+    let else1 = enum-told .before .before in
+    let both-below = else1 .before in
+    let entry = both-below .before .before .before in
+    let fit = sym (both-below .both-below .ensures) ∙ unfalse _ (else1 .if1 .left) in
+    start-left _ (entry .args .row) (entry .args .word) (headerTold (entry .args .header)) _ fit (enum-told .enum-told .given .1) (sym (may-be-empty .may-be-empty .ensures) ∙ unfalse _ (c .if3 .left))
 
 pub row-of-spec : {M : Type 1} → statement M
 row-of-spec =
     tie.close
     (tie.spec
-    index-requires
+    both-below-requires
     returns
-    index-requires-2
+    enum-known-start
+    start-limit-requires
+    index-requires
     returns-2
-    index-requires-3
+    enum-told
+    may-be-empty-requires
     returns-3
-    returns-4)
+    returns-4
+    returns-5)

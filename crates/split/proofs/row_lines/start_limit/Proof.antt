@@ -1,60 +1,17 @@
+use mathlib.Core.Path.{sym, _∙_}
+use Rattle.split.proofs.RowLaws.{limit-all, limit-none}
 use borrow.Author.Needs.{needs}
 use Rattle.split.proofs.row_lines.start_limit.Statement.{statement}
 use Rattle.split.proofs.row_lines.start_limit.Tie as tie
 
-enum-told : tie.Need-enum-told
-enum-told c = search needs
-
-enum-told-2 : tie.Need-enum-told-2
-enum-told-2 c = search needs
-
-enum-known-word : tie.Need-enum-known-word
-enum-known-word c = search needs
-
-enum-told-3 : tie.Need-enum-told-3
-enum-told-3 c = search needs
-
-enum-told-4 : tie.Need-enum-told-4
-enum-told-4 c = search needs
-
-enum-told-5 : tie.Need-enum-told-5
-enum-told-5 c = search needs
-
-enum-told-6 : tie.Need-enum-told-6
-enum-told-6 c = search needs
+takes-start-requires : tie.Need-takes-start-requires
+takes-start-requires c κs = search needs
 
 returns : tie.Need-returns
-returns c = search needs
+returns c = limit-all _ _ (sym (c .before .takes-start .ensures) ∙ c .if1 .taken)
 
 returns-2 : tie.Need-returns-2
-returns-2 c = search needs
-
-returns-3 : tie.Need-returns-3
-returns-3 c = search needs
-
-returns-4 : tie.Need-returns-4
-returns-4 c = search needs
-
-returns-5 : tie.Need-returns-5
-returns-5 c = search needs
-
-returns-6 : tie.Need-returns-6
-returns-6 c = search needs
+returns-2 c = limit-none _ _ (sym (c .before .takes-start .ensures) ∙ c .if1 .left)
 
 pub start-limit-spec : {M : Type 1} → statement M
-start-limit-spec =
-    tie.close
-    (tie.spec
-    enum-told
-    enum-told-2
-    enum-known-word
-    enum-told-3
-    enum-told-4
-    enum-told-5
-    enum-told-6
-    returns
-    returns-2
-    returns-3
-    returns-4
-    returns-5
-    returns-6)
+start-limit-spec = tie.close (tie.spec takes-start-requires returns returns-2)

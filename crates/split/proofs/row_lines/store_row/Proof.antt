@@ -4,6 +4,9 @@ use borrow.Author.Needs.{needs}
 use Rattle.split.proofs.row_lines.store_row.Statement.{statement}
 use Rattle.split.proofs.row_lines.store_row.Tie as tie
 
+start-number-requires : tie.Need-start-number-requires
+start-number-requires c κs = search needs
+
 add-work : tie.Need-add-work
 add-work c = search needs
 
@@ -35,12 +38,13 @@ same-length : tie.Need-same-length
 same-length c = search needs
 
 returns : tie.Need-returns
-returns c = search needs
+returns c = rw (c .start-number .ensures)
 
 pub store-row-spec : {M : Type 1} → statement M
 store-row-spec =
     tie.close
     (tie.spec
+    start-number-requires
     add-work
     mul-work
     slice-write-work

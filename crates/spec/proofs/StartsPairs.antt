@@ -1,0 +1,46 @@
+-- Pairs with an empty start on a spawn: what they used to get, what they get, and that they get with 0 written what they used to get.
+use mathlib.Core.Path.{_≡_, refl}
+use mathlib.Core.List.{List, [], _∷_, map}
+use Prim.Native.String.{String, _++_}
+use Rattle.spec.specs.Text.{bytes, same, Line, onLine, lines, onField, fields, lookUp, digitLimit, digits, leadingZero, value, numeral}
+use Rattle.spec.specs.Reading.{Out, on, _>>=_, demand, seen, insist, inRange, allInRange, withNumeral, numerals, ranged, numbers, form, outside, miscounted, faulty, passed, nextLine, next, nextAll, begin, noneLeft, end}
+use Rattle.spec.specs.Expression.{size, withParts, listed, single, among, scope}
+use Rattle.spec.specs.Program.{programLimit, firstNumber, countLine, words, valueRange, stepOf, wordLine, stepLine, program}
+use Rattle.spec.specs.Split.{splitLimit, headings, headerRanges, mapsOf, mapsIn, startOf, headerOf, headed, headerLine, refOf, lockOf, tidOf, semOf, typeLine, typeLines, mapLine, rowOf, startGiven, takesStart, startRange, mayBeEmpty, rowLine, split}
+use Rattle.spec.specs.Maps.{lowest, atLeast, _=ᵐ_, _≥ᵐ_, nowhere, sameNumbers, _+ᵐ_, share, overWhole}
+use Rattle.spec.specs.Conditions.{isInt, isRef, isLock, isTid, isSem, place, load, typeIn, lineOf, startMap, typeAt, mapAt, contains, row, type, kind, post, startIn, start, K, own}
+use Rattle.spec.specs.Agreement.{code, sameMaps, sameTree, treeOf, trees, tree, agree}
+use Rattle.spec.specs.Sites.{preOfPart, preOfSecond, bind, sites, numbered, claimsAt, claims, judge, firstFalse}
+use Rattle.spec.specs.Workspace.{workspaceSize}
+use Rattle.spec.specs.Verdict.{refuseOver, startAtMostOne, ruled, checked, answer, verdict, four, returned}
+use Rattle.spec.specs.KnownPairs.{Pair, barred, _with_is_, found, Answered, P, S}
+use Rattle.spec.specs.EdgeConditions.{rows}
+use Rattle.spec.specs.EdgeSpawns.{spawning, naming}
+use Rattle.spec.specs.declared.Returned.{Returned}
+use Rattle.spec.proofs.StartsBefore.{startLeft, rowLineFormerly, splitFormerly, checkedFormerly, verdictFormerly, writeZero, kept, onClosed, along, zerosBehind, zerosWritten}
+
+-- pairs with one spawn, by what its row has for s; with nothing there, each used to get the answer listed
+unfoldable pub spawns : String → List Pair
+spawns s =
+    (spawning with ("C,2,1,2,2|int,0,0|tid,1,0|0|0|0,0," ++ s ++ "|1,0,|0,0,|") is four 0 0 0 0) ∷
+    (spawning with (rows ("0,2," ++ s ++ "|2,0,|0,0,|")) is four 0 0 0 0) ∷
+    (P with (S "2" ("0,1," ++ s)) is four 32 8 4 0) ∷
+    (spawning with (naming "0" ("0,2," ++ s ++ "|1,0,|0,0,|")) is four 0 0 0 0) ∷
+    []
+
+unfoldable pub answeredFormerly : Pair → Returned
+answeredFormerly r = returned (verdictFormerly workspaceSize (barred (r .program)) (barred (r .split)))
+
+-- the lines of a pair's split, with 0 written
+unfoldable pub linesWritten : Pair → Out (List Line)
+linesWritten r = program (barred (r .program)) >>= λ Q. on (zerosWritten (Q .steps) (lines (barred (r .split))))
+
+pub record SpawnsAnswered : Type 0 where
+  pub formerly : map answeredFormerly (spawns "") ≡ map (λ (r : Pair). r .expected) (spawns "")
+  pub now : map found (spawns "") ≡ four 40 6 0 0 ∷ four 40 10 0 0 ∷ four 40 13 0 0 ∷ four 32 2 4 0 ∷ []
+  pub withZero : Answered (spawns "0")
+  pub written : map linesWritten (spawns "") ≡ map (λ (r : Pair). on (lines (barred (r .split)))) (spawns "0")
+
+pub spawns-answered : SpawnsAnswered
+unfolding bytes same onLine lines onField fields digitLimit digits leadingZero value numeral _>>=_ demand seen insist inRange allInRange withNumeral numerals ranged numbers form outside miscounted faulty passed nextLine next nextAll begin noneLeft end size withParts listed single among scope programLimit firstNumber countLine words lookUp valueRange stepOf wordLine stepLine program splitLimit headings headerRanges mapsOf mapsIn startOf headerOf headed headerLine refOf lockOf tidOf semOf typeLine typeLines mapLine rowOf startGiven takesStart startRange mayBeEmpty rowLine split startLeft rowLineFormerly splitFormerly lowest atLeast _=ᵐ_ _≥ᵐ_ nowhere sameNumbers _+ᵐ_ share overWhole isInt isRef isLock isTid isSem place load typeIn lineOf startMap typeAt mapAt code sameMaps sameTree treeOf trees tree agree contains row type kind post startIn start K own preOfPart preOfSecond bind sites numbered claimsAt claims judge firstFalse workspaceSize refuseOver startAtMostOne ruled checked checkedFormerly answer verdict verdictFormerly four returned barred _with_is_ found Answered P S rows spawning naming spawns answeredFormerly writeZero kept onClosed along zerosBehind zerosWritten linesWritten
+spawns-answered = record { formerly = refl; now = refl; withZero = refl; written = refl }

@@ -1,0 +1,23 @@
+use Rattle.split.proofs.RowLaws.{start-asked, start-not-asked}
+use borrow.Author.Needs.{needs}
+use Rattle.split.proofs.row_lines.may_be_empty.Statement.{statement}
+use Rattle.split.proofs.row_lines.may_be_empty.Tie as tie
+
+enum-told : tie.Need-enum-told
+enum-told c = search needs
+
+takes-start-requires : tie.Need-takes-start-requires
+takes-start-requires c κs = search needs
+
+enum-told-2 : tie.Need-enum-told-2
+enum-told-2 c = search needs
+
+returns : tie.Need-returns
+returns c = start-asked _ _ (c .before .enum-told .given .1) (c .takes-start .ensures)
+
+returns-2 : tie.Need-returns-2
+returns-2 c = start-not-asked _ _ (c .enum-told2 .given .1)
+
+pub may-be-empty-spec : {M : Type 1} → statement M
+may-be-empty-spec =
+    tie.close (tie.spec enum-told takes-start-requires enum-told-2 returns returns-2)

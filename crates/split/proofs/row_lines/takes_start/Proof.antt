@@ -1,0 +1,67 @@
+use Rattle.spec.specs.Split.{takesStart}
+use borrow.Author.Needs.{needs}
+use Rattle.split.proofs.row_lines.takes_start.Statement.{statement}
+use Rattle.split.proofs.row_lines.takes_start.Tie as tie
+
+enum-told : tie.Need-enum-told
+enum-told c = search needs
+
+enum-told-2 : tie.Need-enum-told-2
+enum-told-2 c = search needs
+
+enum-known-word : tie.Need-enum-known-word
+enum-known-word c = search needs
+
+enum-told-3 : tie.Need-enum-told-3
+enum-told-3 c = search needs
+
+enum-told-4 : tie.Need-enum-told-4
+enum-told-4 c = search needs
+
+enum-told-5 : tie.Need-enum-told-5
+enum-told-5 c = search needs
+
+enum-told-6 : tie.Need-enum-told-6
+enum-told-6 c = search needs
+
+returns : tie.Need-returns
+unfolding takesStart
+returns c = search needs
+
+returns-2 : tie.Need-returns-2
+unfolding takesStart
+returns-2 c = search needs
+
+returns-3 : tie.Need-returns-3
+unfolding takesStart
+returns-3 c = search needs
+
+returns-4 : tie.Need-returns-4
+unfolding takesStart
+returns-4 c = search needs
+
+returns-5 : tie.Need-returns-5
+unfolding takesStart
+returns-5 c = search needs
+
+returns-6 : tie.Need-returns-6
+unfolding takesStart
+returns-6 c = search needs
+
+pub takes-start-spec : {M : Type 1} → statement M
+takes-start-spec =
+    tie.close
+    (tie.spec
+    enum-told
+    enum-told-2
+    enum-known-word
+    enum-told-3
+    enum-told-4
+    enum-told-5
+    enum-told-6
+    returns
+    returns-2
+    returns-3
+    returns-4
+    returns-5
+    returns-6)
