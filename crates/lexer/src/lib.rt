@@ -64,7 +64,7 @@ pub enum Numbers {
 }
 
 // Whether a field begins with a 0 that is not all of it.
-pub fn leading_zero(field: &[u8]) -> bool
+fn leading_zero(field: &[u8]) -> bool
     ensures { λ r. ⌜ r ≡ leadingZero (now (field .entry)) ⌝ }
 {
     if 1 < field.len() {

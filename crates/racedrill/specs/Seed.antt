@@ -1,14 +1,15 @@
--- The seed of `racedrill`: a numeral below 2^32, spelt as in the sheets, with up to ten digits.
-use mathlib.Core.Bool.{_&&_, not}
-use lib.Dec.{leb, ltb}
-use lib.ListN.{length}
+-- The seed of `racedrill`: a numeral below 2^32, spelt as in the sheets.
+use mathlib.Core.Option.{Option, none, some}
+use Prim.Native.Nat.{ℕ}
+use lib.Dec.{ltb}
 use Rattle.spec.specs.Choice.{if_then_else_}
-use Rattle.spec.specs.Text.{Field, digits, leadingZero, value}
+use Rattle.spec.specs.Text.{Field, numeral}
 use Rattle.racedrill.specs.declared.seed.Seed.{Seed}
 use Rattle.racedrill.specs.declared.seed.Seed.the-variants.{Given, Absent}
 
+unfoldable pub seedIn : Option ℕ → Seed
+seedIn none = Absent
+seedIn (some n) = if ltb n 4294967296 then Given n else Absent
+
 unfoldable pub seedOf : Field → Seed
-seedOf f =
-    if leb 1 (length f) && leb (length f) 10 && digits f && not (leadingZero f) && ltb (value 0 f) 4294967296
-    then Given (value 0 f)
-    else Absent
+seedOf f = seedIn (numeral f)

@@ -1,5 +1,5 @@
 // The seed that an argument spells.
-use lexer::leading_zero;
+use lexer::Numeral;
 ghost use mathlib.Core.Path.{_≡_};
 ghost use Rattle.racedrill.specs.Seed.{seedOf};
 
@@ -9,9 +9,6 @@ pub enum Seed {
     Absent,
 }
 
-// The most digits of a number of 32 bits.
-const DIGITS: usize = 10;
-
 // The first number that 32 bits do not hold.
 const END: u64 = 4294967296;
 
@@ -19,32 +16,12 @@ const END: u64 = 4294967296;
 pub fn seed_of(word: &[u8]) -> Seed
     ensures { λ r. ⌜ r ≡ seedOf (now (word .entry)) ⌝ }
 {
-    let n = word.len();
-    if n == 0 {
+    let Numeral::Value(n) = lexer::numeral_of(word) else {
+        return Seed::Absent;
+    };
+    if END <= n {
         return Seed::Absent;
     }
-    if DIGITS < n {
-        return Seed::Absent;
-    }
-    if leading_zero(word) {
-        return Seed::Absent;
-    }
-    let mut i = 0;
-    let mut value: u64 = 0;
-    while i < n {
-        let b = word[i];
-        if b < b'0' {
-            return Seed::Absent;
-        }
-        if b'9' < b {
-            return Seed::Absent;
-        }
-        value = value * 10 + (b as u64 - 48);
-        i += 1;
-    }
-    if END <= value {
-        return Seed::Absent;
-    }
-    let seed = value as u32;
+    let seed = n as u32;
     Seed::Given(seed)
 }
