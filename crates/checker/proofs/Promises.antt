@@ -12,7 +12,7 @@ use Rattle.spec.specs.Accepted.{Right}
 use Rattle.spec.specs.declared.Answer.{Answer}
 use Rattle.spec.specs.declared.Answer.the-variants.{Accept, Refuse}
 use Rattle.spec.specs.declared.Refusal.{Refusal}
-use Rattle.spec.specs.declared.Refusal.the-variants.{ShortWorkspace, LongProgram, ProgramForm, ProgramRange, ProgramLines, Unbound, Rebound, LongSplit, SplitForm, SplitRange, SplitLines, NoStart, OverOne, TypeFalse, FlowFalse, AccessFalse}
+use Rattle.spec.specs.declared.Refusal.the-variants.{ShortWorkspace, LongProgram, ProgramForm, ProgramRange, ProgramLines, Unbound, Rebound, LongSplit, SplitForm, SplitRange, SplitLines, NoStart, OverOne, TypeFalse, FlowFalse, AccessFalse, NoAfterMaps, TooLarge, TooManyMaps}
 use Rattle.spec.proofs.Clashes.{true-is-not-false}
 use Rattle.spec.proofs.Accepted.{accepted-is-right, right-is-accepted}
 use Rattle.spec.proofs.FirstFalse.{refusal-names-first-false}
@@ -41,6 +41,9 @@ refusal-number (OverOne k l) = omega arith
 refusal-number (TypeFalse k i) = omega arith
 refusal-number (FlowFalse k i l) = omega arith
 refusal-number (AccessFalse k i p) = omega arith
+refusal-number NoAfterMaps = omega arith
+refusal-number TooLarge = omega arith
+refusal-number TooManyMaps = omega arith
 
 -- 0,0,0,0 is returned for Accept alone
 pub zeros-accept : (a : Answer) → returned a ≡ four 0 0 0 0 → a ≡ Accept

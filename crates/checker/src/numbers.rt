@@ -51,6 +51,9 @@ fn refusal_numbers(r: Refusal) -> Returned
             condition: i,
             location: p,
         } => four(33, k, i, p.0),
+        Refusal::NoAfterMaps => four(41, 0, 0, 0),
+        Refusal::TooLarge => four(42, 0, 0, 0),
+        Refusal::TooManyMaps => four(43, 0, 0, 0),
     }
 }
 

@@ -28,11 +28,11 @@ none-over : (k : ℕ) (o : Option ℕ) → o ≡ none → refuseOver k o ≡ on 
 unfolding refuseOver
 none-over k o h = rw h
 
-start-at-most-one : {t : Unit {0}} (P : Program) (S : Split) → startAtMostOne P S ≡ on t → AtMost (S .header .denominator) (startMap S)
+pub start-at-most-one : {t : Unit {0}} (P : Program) (S : Split) → startAtMostOne P S ≡ on t → AtMost (S .header .denominator) (startMap S)
 unfolding startAtMostOne
 start-at-most-one P S h = none-at-most _ 0 _ (over-none _ _ h)
 
-at-most-one-start : (P : Program) (S : Split) → AtMost (S .header .denominator) (startMap S) → startAtMostOne P S ≡ on tt
+pub at-most-one-start : (P : Program) (S : Split) → AtMost (S .header .denominator) (startMap S) → startAtMostOne P S ≡ on tt
 unfolding startAtMostOne
 at-most-one-start P S h = none-over _ _ (at-most-none _ 0 h)
 

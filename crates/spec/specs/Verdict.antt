@@ -16,7 +16,7 @@ use Rattle.spec.specs.declared.Returned.{Returned}
 use Rattle.spec.specs.declared.Answer.{Answer}
 use Rattle.spec.specs.declared.Answer.the-variants.{Accept, Refuse}
 use Rattle.spec.specs.declared.Refusal.{Refusal}
-use Rattle.spec.specs.declared.Refusal.the-variants.{ShortWorkspace, LongProgram, ProgramForm, ProgramRange, ProgramLines, Unbound, Rebound, LongSplit, SplitForm, SplitRange, SplitLines, NoStart, OverOne, TypeFalse, FlowFalse, AccessFalse}
+use Rattle.spec.specs.declared.Refusal.the-variants.{ShortWorkspace, LongProgram, ProgramForm, ProgramRange, ProgramLines, Unbound, Rebound, LongSplit, SplitForm, SplitRange, SplitLines, NoStart, OverOne, TypeFalse, FlowFalse, AccessFalse, NoAfterMaps, TooLarge, TooManyMaps}
 
 -- 30, at the root's line: the start is over the whole somewhere
 unfoldable pub refuseOver : (line : ℕ) → Option ℕ → Out (Unit {0})
@@ -54,7 +54,7 @@ verdict room programText splitText = answer (checked room programText splitText)
 unfoldable pub four : (number line condition location : ℕ) → Returned
 four a b c d = record { number = a; line = b; condition = c; location = d }
 
--- document 01's table "Reasons to stop", a row a case
+-- document 01's table "Reasons to stop", a row a case, and the reasons of document 02; 41 to 43 are those of filling alone
 unfoldable pub returned : Answer → Returned
 returned Accept = four 0 0 0 0
 returned (Refuse ShortWorkspace) = four 1 0 0 0
@@ -73,6 +73,9 @@ returned (Refuse (OverOne k l)) = four 30 k 0 (l .0)
 returned (Refuse (TypeFalse k i)) = four 31 k i 0
 returned (Refuse (FlowFalse k i l)) = four 32 k i (l .0)
 returned (Refuse (AccessFalse k i p)) = four 33 k i (p .0)
+returned (Refuse NoAfterMaps) = four 41 0 0 0
+returned (Refuse TooLarge) = four 42 0 0 0
+returned (Refuse TooManyMaps) = four 43 0 0 0
 
 -- the numbers of a refusal on the conditions: 31 (T), 32 (F), 33 (A)
 unfoldable pub onConditions : (number : ℕ) → Bool

@@ -88,6 +88,9 @@ pub enum Refusal {
         condition: u32,
         location: Location,
     },
+    NoAfterMaps,
+    TooLarge,
+    TooManyMaps,
 }
 
 // The answer to a pair of sheets.

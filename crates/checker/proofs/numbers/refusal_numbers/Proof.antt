@@ -101,53 +101,71 @@ enum-known-r-13 c = search needs
 four-requires-16 : tie.Need-four-requires-16
 four-requires-16 c κs = search needs
 
+enum-told-4 : tie.Need-enum-told-4
+enum-told-4 c = search needs
+
+four-requires-17 : tie.Need-four-requires-17
+four-requires-17 c κs = search needs
+
+enum-told-5 : tie.Need-enum-told-5
+enum-told-5 c = search needs
+
+four-requires-18 : tie.Need-four-requires-18
+four-requires-18 c κs = search needs
+
+enum-told-6 : tie.Need-enum-told-6
+enum-told-6 c = search needs
+
+four-requires-19 : tie.Need-four-requires-19
+four-requires-19 c κs = search needs
+
 returns : tie.Need-returns
 unfolding returned
-returns c = cc
+returns c = c .four .ensures ∙ ap (λ r. returned (Refuse r)) (sym (c .before .enum-told .given .1))
 
 returns-2 : tie.Need-returns-2
 unfolding returned
-returns-2 c = cc
+returns-2 c = c .four2 .ensures ∙ ap (λ r. returned (Refuse r)) (sym (c .before .enum-told2 .given .1))
 
 returns-3 : tie.Need-returns-3
 unfolding returned
-returns-3 c = cc
+returns-3 c = c .four3 .ensures ∙ ap (λ r. returned (Refuse r)) (sym (c .before .before .r .given .1))
 
 returns-4 : tie.Need-returns-4
 unfolding returned
-returns-4 c = cc
+returns-4 c = c .four4 .ensures ∙ ap (λ r. returned (Refuse r)) (sym (c .before .before .r2 .given .1))
 
 returns-5 : tie.Need-returns-5
 unfolding returned
-returns-5 c = cc
+returns-5 c = c .four5 .ensures ∙ ap (λ r. returned (Refuse r)) (sym (c .before .before .r3 .given .1))
 
 returns-6 : tie.Need-returns-6
 unfolding returned
-returns-6 c = cc
+returns-6 c = c .four6 .ensures ∙ ap (λ r. returned (Refuse r)) (sym (c .before .before .r4 .given .1))
 
 returns-7 : tie.Need-returns-7
 unfolding returned
-returns-7 c = cc
+returns-7 c = c .four7 .ensures ∙ ap (λ r. returned (Refuse r)) (sym (c .before .before .r5 .given .1))
 
 returns-8 : tie.Need-returns-8
 unfolding returned
-returns-8 c = cc
+returns-8 c = c .four8 .ensures ∙ ap (λ r. returned (Refuse r)) (sym (c .before .enum-told3 .given .1))
 
 returns-9 : tie.Need-returns-9
 unfolding returned
-returns-9 c = cc
+returns-9 c = c .four9 .ensures ∙ ap (λ r. returned (Refuse r)) (sym (c .before .before .r6 .given .1))
 
 returns-10 : tie.Need-returns-10
 unfolding returned
-returns-10 c = cc
+returns-10 c = c .four10 .ensures ∙ ap (λ r. returned (Refuse r)) (sym (c .before .before .r7 .given .1))
 
 returns-11 : tie.Need-returns-11
 unfolding returned
-returns-11 c = cc
+returns-11 c = c .four11 .ensures ∙ ap (λ r. returned (Refuse r)) (sym (c .before .before .r8 .given .1))
 
 returns-12 : tie.Need-returns-12
 unfolding returned
-returns-12 c = cc
+returns-12 c = c .four12 .ensures ∙ ap (λ r. returned (Refuse r)) (sym (c .before .before .r9 .given .1))
 
 returns-13 : tie.Need-returns-13
 unfolding returned
@@ -164,6 +182,18 @@ returns-15 c = c .four15 .ensures ∙ ap (λ r. returned (Refuse r)) (sym (c .be
 returns-16 : tie.Need-returns-16
 unfolding returned
 returns-16 c = c .four16 .ensures ∙ ap (λ r. returned (Refuse r)) (sym (c .before .before .r13 .given .1))
+
+returns-17 : tie.Need-returns-17
+unfolding returned
+returns-17 c = c .four17 .ensures ∙ ap (λ r. returned (Refuse r)) (sym (c .before .enum-told4 .given .1))
+
+returns-18 : tie.Need-returns-18
+unfolding returned
+returns-18 c = c .four18 .ensures ∙ ap (λ r. returned (Refuse r)) (sym (c .before .enum-told5 .given .1))
+
+returns-19 : tie.Need-returns-19
+unfolding returned
+returns-19 c = c .four19 .ensures ∙ ap (λ r. returned (Refuse r)) (sym (c .before .enum-told6 .given .1))
 
 pub refusal-numbers-spec : {M : Type 1} → statement M
 refusal-numbers-spec =
@@ -201,6 +231,12 @@ refusal-numbers-spec =
     four-requires-15
     enum-known-r-13
     four-requires-16
+    enum-told-4
+    four-requires-17
+    enum-told-5
+    four-requires-18
+    enum-told-6
+    four-requires-19
     returns
     returns-2
     returns-3
@@ -216,4 +252,7 @@ refusal-numbers-spec =
     returns-13
     returns-14
     returns-15
-    returns-16)
+    returns-16
+    returns-17
+    returns-18
+    returns-19)

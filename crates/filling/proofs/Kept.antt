@@ -1,0 +1,194 @@
+-- What filling keeps of a split, and what it changes: the posts alone. Types, loads and starts show given maps, so the maps behind
+-- them are not looked at.
+use mathlib.Core.Path.{_≡_, refl, ap, sym, _∙_}
+use mathlib.Core.List.{List, [], _∷_, _++_}
+use mathlib.Core.Option.{Option, none, some}
+use Prim.Native.Nat.{ℕ, zero, suc, _+_, _-_, _<_}
+use native.Mathlib.Omega.{arith}
+use native.Mathlib.Decide.{decLt}
+use lib.ListN.{length, getD, length-replicate, List·getD-append, List·getD-eq-default}
+use lib.Seq.{getD-append-add}
+use Rattle.spec.specs.Expression.{Step, Expr}
+use Rattle.spec.specs.Split.{Map, Row, Split, typeAt, mapAt}
+use Rattle.spec.specs.Agreement.{Tree, plain, int, lock, tid, sem, treeOf, trees, tree, sameTree, agree}
+use Rattle.spec.specs.Conditions.{lineOf, place, load, row, type, kind, post, startIn, start, K, startMap, contains}
+use Rattle.spec.specs.Ranges.{InRange}
+use Rattle.spec.specs.declared.TypeNumber.{TypeNumber}
+use Rattle.spec.specs.declared.MapNumber.{MapNumber}
+use Rattle.spec.specs.declared.TypeLine.{TypeLine}
+use Rattle.spec.specs.declared.TypeLine.the-variants.{Int, Ref, Lock, Tid, Sem}
+use Rattle.spec.proofs.Clashes.{none-is-not-some}
+use Rattle.filling.specs.Filled.{withPosts, filled}
+
+-- ------------------------------------------------------------------ rows
+
+-- type and start are kept
+pub rows-kept : (m : ℕ) (rs : List Row) (i : ℕ) (d : Row)
+    → (getD (withPosts m rs) i d .type ≡ getD rs i d .type) × (getD (withPosts m rs) i d .start ≡ getD rs i d .start)
+unfolding withPosts
+rows-kept m [] i d = (refl, refl)
+rows-kept m (r ∷ rs) zero d = (refl, refl)
+rows-kept m (r ∷ rs) (suc i) d = rows-kept (m + 1) rs i d
+
+pub rows-post : (m : ℕ) (rs : List Row) (i : ℕ) (d : Row) → i < length rs → getD (withPosts m rs) i d .post .0 ≡ m + i
+unfolding withPosts
+rows-post m [] i d l = absurd (omega arith)
+rows-post m (r ∷ rs) zero d l = omega arith
+rows-post m (r ∷ rs) (suc i) d l = rows-post (m + 1) rs i d (omega arith) ∙ omega arith
+
+-- the row of a step that is not there
+abbrev pub absent : Row
+absent = record { type = record { 0 = 0 }; post = record { 0 = 0 }; start = none }
+
+module _ (S : Split) (σ : List Map) where
+  pub type-kept : (e : Expr) → type (filled S σ) e ≡ type S e
+  unfolding type row filled
+  type-kept e = rows-kept _ (S .rows) (lineOf e - 2) _ .0
+
+  pub kind-kept : (e : Expr) → kind (filled S σ) e ≡ kind S e
+  unfolding kind typeAt filled
+  kind-kept e = rw (type-kept e)
+
+-- ------------------------------------------------------------------ what a sheet shows is of the sheet
+
+module _ {steps : List Step} {S : Split} (R : InRange steps S) where
+  -- what holds of int and of each type line of the sheet holds of whatever a number stands for
+  of-each-type : (Q : TypeLine → Type 0) → Q Int → ((t : ℕ) → t < length (S .types) → (τ : TypeLine) → getD (S .types) t Int ≡ τ → Q τ)
+      → (t : TypeNumber) → Q (typeAt S t)
+  unfolding typeAt
+  of-each-type Q plainly each t = go (decLt (t .0) (length (S .types)))
+    where
+      go : Dec (t .0 < length (S .types)) → Q (getD (S .types) (t .0) Int)
+      go (yes l) = each (t .0) l _ refl
+      go (no l) = rw (List·getD-eq-default (S .types) Int {n = t .0} (omega (arith, l))) plainly
+
+  load-fits : (t : TypeNumber) → load (typeAt S t) .0 < length (S .maps)
+  unfolding load
+  load-fits = of-each-type (λ τ. load τ .0 < length (S .maps)) some-map fits
+    where
+      some-map : 0 < length (S .maps)
+      some-map = omega (arith, R .mapsCounted, R .mapsFew)
+
+      fits : (t : ℕ) → t < length (S .types) → (τ : TypeLine) → getD (S .types) t Int ≡ τ → load τ .0 < length (S .maps)
+      fits t l Int e = some-map
+      fits t l (Ref p c) e = some-map
+      fits t l (Lock k) e = R .lockLoad t k l e
+      fits t l (Tid k) e = R .tidLoad t k l e
+      fits t l (Sem k) e = R .semLoad t k l e
+
+  place-fits : (t : TypeNumber) → place (typeAt S t) .0 < S .header .locations
+  unfolding place
+  place-fits = of-each-type (λ τ. place τ .0 < S .header .locations) some-location fits
+    where
+      some-location : 0 < S .header .locations
+      some-location = omega (arith, R .locations)
+
+      fits : (t : ℕ) → t < length (S .types) → (τ : TypeLine) → getD (S .types) t Int ≡ τ → place τ .0 < S .header .locations
+      fits t l Int e = some-location
+      fits t l (Ref p c) e = R .refPlace t p c l e .0
+      fits t l (Lock k) e = some-location
+      fits t l (Tid k) e = some-location
+      fits t l (Sem k) e = some-location
+
+  start-fits : (e : Expr) (m : MapNumber) → row S e .start ≡ some m → m .0 < length (S .maps)
+  unfolding row
+  start-fits e m h = go (decLt (lineOf e - 2) (length (S .rows)))
+    where
+      go : Dec (lineOf e - 2 < length (S .rows)) → m .0 < length (S .maps)
+      go (yes q) = R .rowStart _ absent m q h
+      go (no q) =
+          let none-there = List·getD-eq-default (S .rows) absent {n = lineOf e - 2} (omega (arith, q)) in
+          none-is-not-some (sym (ap (λ (r : Row). r .start) none-there) ∙ h)
+
+  pub place-within : (e : Expr) → place (kind S e) .0 < S .header .locations
+  unfolding kind
+  place-within e = place-fits (type S e)
+
+  -- ------------------------------------------------------------------ each map has a number for each location
+
+  pub map-wide : (m : MapNumber) → m .0 < length (S .maps) → length (mapAt S m) ≡ S .header .locations
+  unfolding mapAt
+  map-wide m l = R .mapWide (m .0) l
+
+  start-in-wide : (o : Option MapNumber) → ((m : MapNumber) → o ≡ some m → m .0 < length (S .maps))
+      → length (startIn S o) ≡ S .header .locations
+  unfolding startIn
+  start-in-wide none h = length-replicate (S .header .locations) 0
+  start-in-wide (some m) h = map-wide m (h m refl)
+
+  pub start-wide : (e : Expr) → length (start S e) ≡ S .header .locations
+  unfolding start
+  start-wide e = start-in-wide (row S e .start) (start-fits e)
+
+  pub K-wide : (e : Expr) → length (K S e) ≡ S .header .locations
+  unfolding K kind
+  K-wide e = map-wide _ (load-fits (type S e))
+
+  pub start-map-wide : length (startMap S) ≡ S .header .locations
+  unfolding startMap
+  start-map-wide = map-wide _ (R .start)
+
+  -- ------------------------------------------------------------------ given maps are kept
+
+  module _ (σ : List Map) where
+    map-kept : (m : MapNumber) → m .0 < length (S .maps) → mapAt (filled S σ) m ≡ mapAt S m
+    unfolding mapAt filled
+    map-kept m l = List·getD-append (S .maps) σ [] (m .0) l
+
+    pub start-map-kept : startMap (filled S σ) ≡ startMap S
+    unfolding startMap filled
+    start-map-kept = map-kept _ (R .start)
+
+    start-in-kept : (o : Option MapNumber) → ((m : MapNumber) → o ≡ some m → m .0 < length (S .maps)) → startIn (filled S σ) o ≡ startIn S o
+    unfolding startIn filled
+    start-in-kept none h = refl
+    start-in-kept (some m) h = map-kept m (h m refl)
+
+    pub start-kept : (e : Expr) → start (filled S σ) e ≡ start S e
+    unfolding start row filled
+    start-kept e =
+        ap (startIn (filled S σ)) (rows-kept _ (S .rows) (lineOf e - 2) _ .1) ∙ start-in-kept (row S e .start) (start-fits e)
+
+    pub K-kept : (e : Expr) → K (filled S σ) e ≡ K S e
+    unfolding K kind
+    K-kept e = ap (λ t. mapAt (filled S σ) (load t)) (kind-kept S σ e) ∙ map-kept _ (load-fits (type S e))
+
+    -- the step with index i shows the new map i
+    pub post-new : (e : Expr) (i : ℕ) → lineOf e ≡ 2 + i → i < length (S .rows) → post (filled S σ) e ≡ getD σ i []
+    unfolding post mapAt row filled
+    post-new e i at l =
+        let index : lineOf e - 2 ≡ i = omega arith in
+        let shown : getD (withPosts (S .header .maps) (S .rows)) (lineOf e - 2) absent .post .0 ≡ length (S .maps) + i =
+        rw index (rows-post (S .header .maps) (S .rows) i absent l ∙ omega (arith, R .mapsCounted)) in
+        rw shown (getD-append-add (S .maps) σ i [])
+
+    -- ------------------------------------------------------------------ agreement
+
+    tree-kept : (before : List Tree) (τ : TypeLine) → load τ .0 < length (S .maps) → treeOf (filled S σ) before τ ≡ treeOf S before τ
+    unfolding treeOf load
+    tree-kept before Int l = refl
+    tree-kept before (Ref p c) l = refl
+    tree-kept before (Lock k) l = ap (λ m. plain lock (m ∷ [])) (map-kept k l)
+    tree-kept before (Tid k) l = ap (λ m. plain tid (m ∷ [])) (map-kept k l)
+    tree-kept before (Sem k) l = ap (λ m. plain sem (m ∷ [])) (map-kept k l)
+
+    trees-kept : (before : List Tree) (τs : List TypeLine) → ((t : ℕ) → load (getD τs t Int) .0 < length (S .maps))
+        → trees (filled S σ) before τs ≡ trees S before τs
+    unfolding trees
+    trees-kept before [] h = refl
+    trees-kept before (τ ∷ τs) h =
+        rw (tree-kept before τ (h 0)) (trees-kept (before ++ treeOf S before τ ∷ []) τs (λ t. h (suc t)))
+
+    pub agree-kept : (t u : TypeNumber) → agree (filled S σ) t u ≡ agree S t u
+    unfolding agree tree filled typeAt
+    agree-kept t u =
+        ap (λ ts. sameTree (getD ts (t .0) (plain int [])) (getD ts (u .0) (plain int [])))
+        (trees-kept [] (S .types) (λ n. load-fits (record { 0 = n })))
+
+    pub contains-kept : (τ : TypeLine) (u : TypeNumber) → contains (filled S σ) τ u ≡ contains S τ u
+    unfolding contains
+    contains-kept Int u = refl
+    contains-kept (Ref p c) u = agree-kept c u
+    contains-kept (Lock k) u = refl
+    contains-kept (Tid k) u = refl
+    contains-kept (Sem k) u = refl

@@ -1,0 +1,15 @@
+pub mod Found
+pub mod Pass
+pub mod Kept
+pub mod Types
+pub mod Sorts
+pub mod Locations
+pub mod Placed
+pub mod InRange
+pub mod EachLocation
+pub mod Columns
+pub mod Filling
+pub mod Reasons
+pub mod Limits
+pub mod Answer
+pub mod Examples

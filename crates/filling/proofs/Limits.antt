@@ -1,0 +1,58 @@
+-- The size limits of a filled sheet: its numbers, and its steps.
+use mathlib.Core.Path.{_≡_, refl}
+use mathlib.Core.Bool.{Bool, true, false, _&&_}
+use mathlib.Core.List.{List, [], _∷_}
+use mathlib.Core.Logic.{_↔_}
+use Prim.Native.Nat.{ℕ, zero, suc, _≤_}
+use native.Mathlib.Omega.{arith}
+use lib.Dec.{leb}
+use lib.ListN.{length, getD}
+use borrow.Author.Tests.{leb-true, le-leb}
+use Rattle.spec.specs.Choice.{if_then_else_}
+use Rattle.spec.specs.Text.{Field, bytes, same, fields}
+use Rattle.spec.specs.Reading.{right, wrong, badForm, seen, _to_, numbers}
+use Rattle.spec.specs.Program.{Program, firstNumber, countLine}
+use Rattle.spec.specs.Split.{Map}
+use Rattle.spec.specs.WellFormed.{WellFormedProgram}
+use Rattle.spec.specs.Accepted.{AtMost, none as noneAtMost, more as moreAtMost}
+use Rattle.spec.proofs.Tests.{both-true}
+use Rattle.spec.proofs.Ranges.{wrong-is-not-right, seen-right, in-range-at, in-to}
+use Rattle.filling.specs.Answer.{mapAtMost, allAtMost}
+
+map-at-most : (limit : ℕ) (m : Map) → mapAtMost limit m ≡ true ↔ AtMost limit m
+unfolding mapAtMost
+map-at-most limit [] = (λ h. noneAtMost, λ h. refl)
+map-at-most limit (a ∷ m) = (
+  λ h. let both = both-true (leb a limit) (mapAtMost limit m) h in moreAtMost (leb-true a limit (both .0)) (map-at-most limit m .0 (both .1)),
+  λ h. back h (map-at-most limit m .1),
+)
+  where
+    back : AtMost limit (a ∷ m) → (AtMost limit m → mapAtMost limit m ≡ true) → (leb a limit && mapAtMost limit m) ≡ true
+    back (moreAtMost l r) rest = rw (le-leb a limit l) (rest r)
+
+pub all-at-most : (limit : ℕ) (ms : List Map) → allAtMost limit ms ≡ true ↔ ((i : ℕ) → AtMost limit (getD ms i []))
+unfolding allAtMost
+all-at-most limit [] = (λ h i. noneAtMost, λ h. refl)
+all-at-most limit (m ∷ ms) = (
+  λ h. let both = both-true (mapAtMost limit m) (allAtMost limit ms) h in each (map-at-most limit m .0 (both .0)) (all-at-most limit ms .0 (both .1)),
+  λ h. rw (map-at-most limit m .1 (h 0)) (all-at-most limit ms .1 (λ i. h (suc i))),
+)
+  where
+    each : AtMost limit m → ((i : ℕ) → AtMost limit (getD ms i [])) → (i : ℕ) → AtMost limit (getD (m ∷ ms) i [])
+    each h r zero = h
+    each h r (suc i) = r i
+
+-- a program has at most 256 steps
+count-few : (fs : List Field) (n : ℕ) → countLine fs ≡ right n → n ≤ 256
+unfolding countLine firstNumber
+count-few [] n h = wrong-is-not-right h
+count-few (f ∷ fs) n h = go (same f (bytes "P")) h
+  where
+    go : (b : Bool) → (if b then seen firstNumber (numbers ((1 to 256) ∷ []) fs) else wrong badForm) ≡ right n → n ≤ 256
+    go false h = wrong-is-not-right h
+    go true h =
+        let (ns, r, e) = seen-right _ h in
+        rw (← e) (in-to _ _ _ (in-range-at ((1 to 256) ∷ []) fs ns r 0 (omega arith)) .1)
+
+pub steps-few : {text : List ℕ} (P : Program) → WellFormedProgram text P → length (P .steps) ≤ 256
+steps-few P W = count-few (fields (W .first)) (length (P .steps)) (W .counted)

@@ -1,0 +1,142 @@
+-- Where an expression stands among the steps of a program, and what a split shows there: one with maps filled in, or a whole one.
+use mathlib.Core.Path.{_≡_, refl, ap, _∙_}
+use mathlib.Core.List.{List, [], _∷_, map}
+use Prim.Native.Nat.{ℕ, zero, suc, _+_, _-_, _≤_, _<_}
+use native.Mathlib.Omega.{arith}
+use lib.ListN.{length, getD}
+use Rattle.spec.specs.Expression.{Step, Expr, leaf, unary, binary, size}
+use Rattle.spec.specs.WellFormed.{LinesFrom}
+use Rattle.spec.specs.Split.{Map, Row, Split, mapAt}
+use Rattle.spec.specs.Conditions.{lineOf, place, row, kind, post, start, K, startMap}
+use Rattle.spec.specs.Ranges.{InRange}
+use Rattle.spec.specs.declared.Location.{Location}
+use Rattle.spec.specs.declared.LeafWord.the-variants.{Var, Int, Newtid, Newlock, Newsem}
+use Rattle.spec.specs.declared.UnaryWord.{UnaryWord}
+use Rattle.spec.specs.declared.UnaryWord.the-variants.{While, Join, Ref, Read, Freelock, Lock, Unlock, Post, Wait}
+use Rattle.spec.specs.declared.BinaryWord.{BinaryWord}
+use Rattle.spec.specs.declared.BinaryWord.the-variants.{Let, If, Spawn, Write}
+use Rattle.spec.proofs.Listing.{size-positive}
+use Rattle.filling.specs.Filled.{filled}
+use Rattle.filling.specs.AfterMaps.{shownMaps}
+use Rattle.filling.specs.Flow.{steps}
+use Rattle.filling.specs.FlowOf.{flowOf}
+use Rattle.filling.proofs.Kept.{absent, kind-kept, place-within, map-wide, start-wide, K-wide, start-map-wide, start-map-kept, start-kept, K-kept, post-new}
+use Rattle.filling.proofs.Locations.{Known}
+
+-- a flow has the steps of its expression
+pub flow-steps : (S : Split) (p : Location) (e : Expr) → steps (flowOf S p e) ≡ size e
+unfolding steps flowOf size
+flow-steps S p (leaf Var k v) = refl
+flow-steps S p (leaf Int k v) = refl
+flow-steps S p (binary Let k v e₁ e₂) = rw (flow-steps S p e₁, flow-steps S p e₂)
+flow-steps S p (binary If k v e₁ e₂) = rw (flow-steps S p e₁, flow-steps S p e₂)
+flow-steps S p (unary While k v e₁) = ap suc (flow-steps S p e₁)
+flow-steps S p (leaf Newtid k v) = refl
+flow-steps S p (binary Spawn k v e₁ e₂) = rw (flow-steps S p e₁, flow-steps S p e₂)
+flow-steps S p (unary Join k v e₁) = ap suc (flow-steps S p e₁)
+flow-steps S p (unary Ref k v e₁) = ap suc (flow-steps S p e₁)
+flow-steps S p (binary Write k v e₁ e₂) = rw (flow-steps S p e₁, flow-steps S p e₂)
+flow-steps S p (unary Read k v e₁) = ap suc (flow-steps S p e₁)
+flow-steps S p (leaf Newlock k v) = refl
+flow-steps S p (unary Freelock k v e₁) = ap suc (flow-steps S p e₁)
+flow-steps S p (unary Lock k v e₁) = ap suc (flow-steps S p e₁)
+flow-steps S p (unary Unlock k v e₁) = ap suc (flow-steps S p e₁)
+flow-steps S p (leaf Newsem k v) = refl
+flow-steps S p (unary Post k v e₁) = ap suc (flow-steps S p e₁)
+flow-steps S p (unary Wait k v e₁) = ap suc (flow-steps S p e₁)
+
+-- ------------------------------------------------------------------ places
+
+-- in a program with the steps ss, the first step of e has index i
+pub record Placed (ss : List Step) (i : ℕ) (e : Expr) : Type 0 where
+  pub line : ℕ
+  pub lined : LinesFrom line e
+  pub indexed : line ≡ 2 + i
+  pub within : i + size e ≤ length ss
+
+line-of : (n : ℕ) (e : Expr) → LinesFrom n e → lineOf e ≡ n
+unfolding LinesFrom lineOf
+line-of n (leaf w k v) h = h
+line-of n (unary w k v e) h = h .0
+line-of n (binary w k v e₁ e₂) h = h .0
+
+line-at : {ss : List Step} {i : ℕ} {e : Expr} → Placed ss i e → lineOf e ≡ 2 + i
+line-at {e = e} P = line-of (P .line) e (P .lined) ∙ P .indexed
+
+module _ {ss : List Step} {i k v : ℕ} where
+  pub part : {w : UnaryWord} {e₁ : Expr} → Placed ss i (unary w k v e₁) → Placed ss (i + 1) e₁
+  unfolding LinesFrom size
+  part P = record { line = P .line + 1; lined = P .lined .1; indexed = omega (arith, P .indexed); within = omega (arith, P .within) }
+
+  pub first : {w : BinaryWord} {e₁ e₂ : Expr} → Placed ss i (binary w k v e₁ e₂) → Placed ss (i + 1) e₁
+  unfolding LinesFrom size
+  first P = record { line = P .line + 1; lined = P .lined .1; indexed = omega (arith, P .indexed); within = omega (arith, P .within) }
+
+  pub second : {w : BinaryWord} {e₁ e₂ : Expr} → Placed ss i (binary w k v e₁ e₂) → Placed ss (i + 1 + size e₁) e₂
+  unfolding LinesFrom size
+  second {e₁ = e₁} P = record {
+    line = P .line + 1 + size e₁;
+    lined = P .lined .2;
+    indexed = omega (arith, P .indexed);
+    within = omega (arith, P .within);
+  }
+
+-- ------------------------------------------------------------------ what a split shows
+
+-- after step i the split T shows the map i of σ, and otherwise what S shows: each with a number for each location
+pub record Showing (ss : List Step) (S : Split) (σ : List Map) (T : Split) : Type 0 where
+  pub posts : {i : ℕ} (e : Expr) → Placed ss i e → Known (S .header .locations) (post T e) (getD σ i [])
+  pub starts : (e : Expr) → Known (S .header .locations) (start T e) (start S e)
+  pub loads : (e : Expr) → Known (S .header .locations) (K T e) (K S e)
+  pub places : (e : Expr) → place (kind T e) ≡ place (kind S e)
+  pub within : (e : Expr) → place (kind S e) .0 < S .header .locations
+  pub first : Known (S .header .locations) (startMap T) (startMap S)
+  pub denominator : T .header .denominator ≡ S .header .denominator
+
+-- S is a split in range for the steps ss, and σ has a map for each step, with a number for each location
+pub record Given (ss : List Step) (S : Split) (σ : List Map) : Type 0 where
+  pub inRange : InRange ss S
+  pub counted : length σ ≡ length ss
+  pub wide : (i : ℕ) → i < length σ → length (getD σ i []) ≡ S .header .locations
+
+pub filled-shows : {ss : List Step} {S : Split} {σ : List Map} → Given ss S σ → Showing ss S σ (filled S σ)
+unfolding filled
+filled-shows {σ = σ} G = let R = G .inRange in record {
+  posts = λ {i} e P. record {
+    same = post-new R σ e i (line-at P) (omega (arith, P .within, size-positive e, R .rowsCounted));
+    wide = G .wide i (omega (arith, P .within, size-positive e, G .counted));
+  };
+  starts = λ e. record { same = start-kept R σ e; wide = start-wide R e };
+  loads = λ e. record { same = K-kept R σ e; wide = K-wide R e };
+  places = λ e. ap place (kind-kept _ σ e);
+  within = place-within R;
+  first = record { same = start-map-kept R σ; wide = start-map-wide R };
+  denominator = refl;
+}
+
+map-at : {A B : Type 0} (f : A → B) (xs : List A) (i : ℕ) (d : A) (d′ : B) → i < length xs → getD (map f xs) i d′ ≡ f (getD xs i d)
+map-at f [] i d d′ l = absurd (omega arith)
+map-at f (x ∷ xs) zero d d′ l = refl
+map-at f (x ∷ xs) (suc i) d d′ l = map-at f xs i d d′ (omega arith)
+
+-- a whole sheet shows its own maps
+pub shown-map : {ss : List Step} {S : Split} → InRange ss S → (i : ℕ) → i < length (S .rows)
+    → Known (S .header .locations) (mapAt S (getD (S .rows) i absent .post)) (getD (shownMaps S) i [])
+unfolding shownMaps
+shown-map {S = S} R i here =
+    rw (map-at (λ (r : Row). mapAt S (r .post)) (S .rows) i absent [] here)
+    (record { same = refl; wide = map-wide R _ (R .rowPost i absent here) })
+
+pub split-shows : {ss : List Step} {S : Split} → InRange ss S → Showing ss S (shownMaps S) S
+unfolding post row
+split-shows R = record {
+  posts = λ {i} e P.
+      let index : lineOf e - 2 ≡ i = omega (arith, line-at P) in
+      rw index (shown-map R i (omega (arith, P .within, size-positive e, R .rowsCounted)));
+  starts = λ e. record { same = refl; wide = start-wide R e };
+  loads = λ e. record { same = refl; wide = K-wide R e };
+  places = λ e. refl;
+  within = place-within R;
+  first = record { same = refl; wide = start-map-wide R };
+  denominator = refl;
+}

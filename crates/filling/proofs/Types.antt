@@ -1,0 +1,84 @@
+-- Filling changes no (T) condition.
+use mathlib.Core.Path.{_≡_, refl, ap₂, sym, _∙_}
+use mathlib.Core.List.{List, _∷_, _++_}
+use Rattle.spec.specs.Expression.{Step, Expr, leaf, unary, binary}
+use Rattle.spec.specs.Split.{Map, Split}
+use Rattle.spec.specs.Conditions.{Env, type, post, start, own}
+use Rattle.spec.specs.Sites.{Site, Claim, sites, bind, preOfPart, preOfSecond, numbered, claimsAt, claims}
+use Rattle.spec.specs.Ranges.{InRange}
+use Rattle.spec.specs.declared.LeafWord.the-variants.{Var, Int, Newtid, Newlock, Newsem}
+use Rattle.spec.specs.declared.UnaryWord.the-variants.{While, Join, Ref, Read, Freelock, Lock, Unlock, Post, Wait}
+use Rattle.spec.specs.declared.BinaryWord.the-variants.{Let, If, Spawn, Write}
+use Rattle.spec.proofs.Claims.{claims-append}
+use Rattle.filling.specs.Filled.{filled}
+use Rattle.filling.specs.AfterMaps.{isType, only}
+use Rattle.filling.proofs.Kept.{type-kept, kind-kept, agree-kept, contains-kept}
+use Rattle.filling.proofs.Sorts.{only-append}
+
+-- two lists of sites have the same claims on types
+record Alike (S : Split) (ss : List Site) (S′ : Split) (ss′ : List Site) : Type 0 where
+  same : only isType (claims S ss) ≡ only isType (claims S′ ss′)
+
+-- a step and then its parts; one part and then the other
+module _ {S S′ : Split} where
+  step-alike : (s s′ : Site) {ss ss′ : List Site} → only isType (claimsAt S s) ≡ only isType (claimsAt S′ s′) → Alike S ss S′ ss′
+      → Alike S (s ∷ ss) S′ (s′ ∷ ss′)
+  unfolding claims
+  step-alike s s′ {ss} {ss′} p q = record {
+    same = only-append isType (claimsAt S s) (claims S ss) ∙ ap₂ _++_ p (q .same) ∙ sym (only-append isType (claimsAt S′ s′) (claims S′ ss′));
+  }
+
+  both-alike : {xs ys xs′ ys′ : List Site} → Alike S xs S′ xs′ → Alike S ys S′ ys′ → Alike S (xs ++ ys) S′ (xs′ ++ ys′)
+  both-alike {xs} {ys} {xs′} {ys′} p q = record {
+    same = rw (
+      claims-append S xs ys,
+      claims-append S′ xs′ ys′,
+      only-append isType (claims S xs) (claims S ys),
+      only-append isType (claims S′ xs′) (claims S′ ys′),
+    ) (ap₂ _++_ (p .same) (q .same));
+  }
+
+module _ {steps : List Step} {S : Split} (R : InRange steps S) (σ : List Map) where
+  abbrev S′ : Split
+  S′ = filled S σ
+
+  -- the claims on types at a step, whatever its pre
+  abbrev ownTypes : Split → Env → Map → Expr → List Claim
+  ownTypes T Γ pre e = only isType (claimsAt T (record { Γ = Γ; pre = pre; step = e }))
+
+  own-kept : (Γ : Env) (pre pre′ : Map) (e : Expr) → ownTypes S′ Γ pre e ≡ ownTypes S Γ pre′ e
+  unfolding claimsAt numbered own only isType
+  own-kept Γ pre pre′ (leaf Var k v) = simp (type-kept S σ, agree-kept R σ)
+  own-kept Γ pre pre′ (leaf Int k v) = simp (kind-kept S σ)
+  own-kept Γ pre pre′ (binary Let k v e₁ e₂) = simp (type-kept S σ, agree-kept R σ)
+  own-kept Γ pre pre′ (binary If k v e₁ e₂) = simp (type-kept S σ, agree-kept R σ)
+  own-kept Γ pre pre′ (unary While k v e₁) = simp (kind-kept S σ)
+  own-kept Γ pre pre′ (leaf Newtid k v) = simp (kind-kept S σ)
+  own-kept Γ pre pre′ (binary Spawn k v e₁ e₂) = simp (kind-kept S σ)
+  own-kept Γ pre pre′ (unary Join k v e₁) = simp (kind-kept S σ)
+  own-kept Γ pre pre′ (unary Ref k v e₁) = simp (type-kept S σ, kind-kept S σ, contains-kept R σ)
+  own-kept Γ pre pre′ (binary Write k v e₁ e₂) = simp (type-kept S σ, kind-kept S σ, contains-kept R σ)
+  own-kept Γ pre pre′ (unary Read k v e₁) = simp (type-kept S σ, kind-kept S σ, contains-kept R σ)
+  own-kept Γ pre pre′ (leaf Newlock k v) = simp (kind-kept S σ)
+  own-kept Γ pre pre′ (unary Freelock k v e₁) = simp (kind-kept S σ)
+  own-kept Γ pre pre′ (unary Lock k v e₁) = simp (kind-kept S σ)
+  own-kept Γ pre pre′ (unary Unlock k v e₁) = simp (kind-kept S σ)
+  own-kept Γ pre pre′ (leaf Newsem k v) = simp (kind-kept S σ)
+  own-kept Γ pre pre′ (unary Post k v e₁) = simp (kind-kept S σ)
+  own-kept Γ pre pre′ (unary Wait k v e₁) = simp (kind-kept S σ)
+
+  sites-alike : (Γ : Env) (pre pre′ : Map) (e : Expr) → Alike S′ (sites S′ Γ pre e) S (sites S Γ pre′ e)
+  unfolding sites claims
+  sites-alike Γ pre pre′ (leaf w k v) = step-alike _ _ (own-kept Γ pre pre′ (leaf w k v)) (record { same = refl })
+  sites-alike Γ pre pre′ (unary w k v e₁) =
+      let e = unary w k v e₁ in
+      let of-part : Split → Map → Map = λ T pre. preOfPart w pre (post T e) in
+      step-alike _ _ (own-kept Γ pre pre′ e) (sites-alike Γ (of-part S′ pre) (of-part S pre′) e₁)
+  sites-alike Γ pre pre′ (binary w k v e₁ e₂) =
+      let e = binary w k v e₁ e₂ in
+      let of-second : Split → Map → Map = λ T pre. preOfSecond w pre (post T e₁) (start T e) in
+      let second = sites-alike (bind w v (type S e₁) Γ) (of-second S′ pre) (of-second S pre′) e₂ in
+      step-alike _ _ (own-kept Γ pre pre′ e) (both-alike (sites-alike Γ pre pre′ e₁) (rw (type-kept S σ e₁) second))
+
+  pub types-kept : (Γ : Env) (pre pre′ : Map) (e : Expr) → only isType (claims S′ (sites S′ Γ pre e)) ≡ only isType (claims S (sites S Γ pre′ e))
+  types-kept Γ pre pre′ e = sites-alike Γ pre pre′ e .same

@@ -1,0 +1,70 @@
+-- After-maps: those that pass all flow and access conditions, and the greatest of them. The conditions are those of `own`, the
+-- table of document 01, of the split with the maps filled in.
+use mathlib.Core.Path.{_≡_}
+use mathlib.Core.Bool.{Bool, true, false}
+use mathlib.Core.List.{List, [], _∷_, map}
+use Prim.Native.Nat.{ℕ, _≤_, _<_}
+use lib.ListN.{length, getD}
+use Rattle.spec.specs.Choice.{if_then_else_}
+use Rattle.spec.specs.Reading.{Out}
+use Rattle.spec.specs.Program.{Program}
+use Rattle.spec.specs.Split.{Map, Row, Split, mapAt}
+use Rattle.spec.specs.Maps.{share}
+use Rattle.spec.specs.Conditions.{Condition, T, F, A, startMap}
+use Rattle.spec.specs.Sites.{Claim, sites, claims, firstFalse}
+use Rattle.spec.specs.FirstFalse.{AllHold}
+use Rattle.spec.specs.declared.Location.{Location}
+use Rattle.filling.specs.Filled.{filled}
+
+-- ------------------------------------------------------------------ two sorts of claims
+
+unfoldable pub isType : Condition → Bool
+isType (T b) = true
+isType (F o) = false
+isType (A b p) = false
+
+unfoldable pub isFlow : Condition → Bool
+isFlow (T b) = false
+isFlow (F o) = true
+isFlow (A b p) = true
+
+-- the claims of one sort
+unfoldable pub only : (Condition → Bool) → List Claim → List Claim
+only sort [] = []
+only sort (c ∷ cs) = if sort (c .condition) then c ∷ only sort cs else only sort cs
+
+unfoldable pub allClaims : Program → Split → List Claim
+allClaims P S = claims S (sites S [] (startMap S) (P .root))
+
+-- the (T) claims, and the (F) and (A) claims
+unfoldable pub typeClaims : Program → Split → List Claim
+typeClaims P S = only isType (allClaims P S)
+
+unfoldable pub flowClaims : Program → Split → List Claim
+flowClaims P S = only isFlow (allClaims P S)
+
+-- 31: the first (T) condition that is false, whatever flow conditions are false before it
+unfoldable pub typed : Program → Split → Out (Unit {0})
+typed P S = firstFalse (typeClaims P S)
+
+-- ------------------------------------------------------------------ after-maps
+
+-- "some after-maps of whole numbers, however large, pass all flow and access conditions": a map for each step, with a number
+-- for each location
+pub record AfterMaps (P : Program) (S : Split) (σ : List Map) : Type 0 where
+  pub counted : length σ ≡ length (P .steps)
+  pub wide : (i : ℕ) → i < length σ → length (getD σ i []) ≡ S .header .locations
+  pub holding : AllHold (flowClaims P (filled S σ))
+
+-- σ is nowhere above γ
+unfoldable pub NowhereAbove : (σ γ : List Map) → Type 0
+NowhereAbove σ γ = (i : ℕ) (p : Location) → share (getD σ i []) p ≤ share (getD γ i []) p
+
+-- "each the greatest possible at every location"
+pub record GreatestMaps (P : Program) (S : Split) (γ : List Map) : Type 0 where
+  pub afterMaps : AfterMaps P S γ
+  pub greatest : (σ : List Map) → AfterMaps P S σ → NowhereAbove σ γ
+
+-- the after-maps that the rows of a whole sheet show
+unfoldable pub shownMaps : Split → List Map
+shownMaps S = map (λ (r : Row). mapAt S (r .post)) (S .rows)

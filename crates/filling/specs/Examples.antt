@@ -1,0 +1,101 @@
+-- Tables of pairs: the greatest after-maps of each, or that there are none; and whole answers. The splits show a map on every step
+-- line and are read as for checking, since what they show there plays no part.
+use mathlib.Core.Path.{_≡_}
+use mathlib.Core.List.{List, [], _∷_, _++_, map}
+use mathlib.Core.Option.{Option, none, some}
+use Prim.Native.Nat.{ℕ}
+use Prim.Native.String.{String, _++_ as _++ˢ_}
+use Rattle.spec.specs.Reading.{Out, on, _>>=_}
+use Rattle.spec.specs.Expression.{Step}
+use Rattle.spec.specs.Program.{program}
+use Rattle.spec.specs.Split.{Map, Split, split}
+use Rattle.spec.specs.Workspace.{workspaceSize}
+use Rattle.spec.specs.Verdict.{four}
+use Rattle.spec.specs.KnownPairs.{Pair, barred, _with_is_, P, S}
+use Rattle.spec.specs.EdgeSheets.{times}
+use Rattle.spec.specs.declared.Returned.{Returned}
+use Rattle.filling.specs.GreatestMaps.{greatestMaps}
+use Rattle.filling.specs.Answer.{fill, numbersOf}
+
+-- ------------------------------------------------------------------ greatest after-maps
+
+pub record Example : Type 0 where
+  pub program : String
+  pub split : String
+  pub maps : Option (List Map)
+
+infix 2 _with_has_
+unfoldable pub _with_has_ : String → String → Option (List Map) → Example
+p with s has ms = record { program = p; split = s; maps = ms }
+
+-- what the definitions give a pair
+unfoldable pub mapsFound : Example → Out (Option (List Map))
+mapsFound r = program (barred (r .program)) >>= λ p. split (p .steps) (barred (r .split)) >>= λ s. on (greatestMaps p s)
+
+-- maps of one location
+unfoldable pub ones : List ℕ → Option (List Map)
+ones ns = some (map (λ n. n ∷ []) ns)
+
+-- two locks on one lock of a whole, and so many unlocks
+unfoldable pub twoLocks : String → String
+twoLocks unlocks = "let,0|newlock,0|let,1|lock,0|var,0|let,2|lock,0|var,0|" ++ˢ unlocks
+
+unfoldable pub twoLocksSplit : String → String
+twoLocksSplit rows = "C2,1000000000,1,2,1,0|int,0,0|lock,0,0|1000000000|0,0,|1,0,|0,0,|0,0,|1,0,|0,0,|0,0,|1,0,|" ++ˢ rows
+
+unfoldable pub examples : List Example
+examples =
+    -- document 01's P and S; where the spawned body starts with all that there is, the write has too little
+    (P with S "2" "0,1,1" has ones (2 ∷ 2 ∷ 2 ∷ 2 ∷ 2 ∷ 2 ∷ 1 ∷ 2 ∷ 1 ∷ 1 ∷ 2 ∷ 2 ∷ 1 ∷ 2 ∷ 2 ∷ 2 ∷ [])) ∷
+    (P with S "2" "0,1,0" has none) ∷
+    -- the start is the map that the header names, and a spawn with no start keeps all
+    ("P,3|spawn,0|newtid,0|int,0|" with "C2,2,1,2,3,1|int,0,0|tid,2,0|2|1|0|0,0,|1,0,|0,0,|" has ones (1 ∷ 1 ∷ 0 ∷ [])) ∷
+    -- an if takes the smaller of its parts, a while keeps what it has
+    ("P,6|let,0|newlock,0|if,0|lock,0|var,0|int,0|" with "C2,1,1,2,1,0|int,0,0|lock,0,0|1|0,0,|1,0,|0,0,|0,0,|1,0,|0,0,|" has
+    ones (0 ∷ 0 ∷ 0 ∷ 1 ∷ 0 ∷ 0 ∷ [])) ∷
+    ("P,5|let,0|newlock,0|while,0|lock,0|var,0|" with "C2,1,1,2,1,0|int,0,0|lock,0,0|1|0,0,|1,0,|0,0,|0,0,|1,0,|" has
+    ones (0 ∷ 0 ∷ 0 ∷ 1 ∷ 0 ∷ [])) ∷
+    -- a while whose part loses
+    ("P,5|let,0|newlock,0|while,0|unlock,0|var,0|" with "C2,1,1,2,2,0|int,0,0|lock,1,0|3|1|0,0,|1,0,|0,0,|0,0,|1,0,|" has none) ∷
+    -- a post takes, a wait gives
+    ("P,7|let,0|newsem,0|let,1|post,0|var,0|wait,0|var,0|" with "C2,2,1,2,2,0|int,0,0|sem,1,0|2|1|0,0,|1,0,|0,0,|0,0,|1,0,|0,0,|1,0,|" has
+    ones (2 ∷ 2 ∷ 2 ∷ 1 ∷ 2 ∷ 2 ∷ 1 ∷ [])) ∷
+    -- numbers as large as they come
+    ("P,10|" ++ˢ twoLocks "unlock,0|var,0|" with twoLocksSplit "0,0,|1,0,|" has
+    ones (1000000000 ∷ 0 ∷ 1000000000 ∷ 1000000000 ∷ 0 ∷ 1000000000 ∷ 2000000000 ∷ 1000000000 ∷ 1000000000 ∷ 2000000000 ∷ [])) ∷
+    []
+
+unfoldable pub AllFound : List Example → Type 0
+AllFound rows = map mapsFound rows ≡ map (λ (r : Example). on (r .maps)) rows
+
+-- ------------------------------------------------------------------ whole answers
+
+-- a writer that writes the numbers of the maps and nothing else
+unfoldable pub numbersIn : List Map → List ℕ
+numbersIn [] = []
+numbersIn (m ∷ ms) = m ++ numbersIn ms
+
+unfoldable pub mapsAlone : List Step → Split → List ℕ
+mapsAlone steps S = numbersIn (S .maps)
+
+-- the answer to a pair with a buffer of so many bytes
+unfoldable pub answered : (buffer : ℕ) → Pair → Returned
+answered buffer r = numbersOf (fill split mapsAlone workspaceSize buffer (barred (r .program)) (barred (r .split)))
+
+unfoldable pub AllAnswered : (buffer : ℕ) → List Pair → Type 0
+AllAnswered buffer rows = map (answered buffer) rows ≡ map (λ (r : Pair). r .expected) rows
+
+-- with a buffer of two bytes: each reason comes before the next
+unfoldable pub answers : List Pair
+answers =
+    ("P,1|int,0|" with "C2,1,1,1,1,0|int,0,0|1|0,0,|" is four 0 2 0 0) ∷
+    ("P,1|int,0|" with "C2,1,1,1,257,1|int,0,0|" ++ˢ times 257 "2|" ++ˢ "0,257,|" is four 22 260 0 0) ∷
+    ("P,1|int,0|" with "C2,1,1,1,257,1|int,0,0|" ++ˢ times 257 "2|" ++ˢ "0,0,|" is four 43 0 0 0) ∷
+    ("P,1|int,0|" with "C2,1,1,1,256,1|lock,0,0|" ++ˢ times 256 "2|" ++ˢ "0,0,|" is four 30 2 0 0) ∷
+    ("P,3|let,0|newlock,0|int,0|" with "C2,1,1,2,2,0|int,0,0|lock,1,0|0|1|1,0,|1,0,|0,0,|" is four 31 2 1 0) ∷
+    ("P,3|let,0|newlock,0|int,0|" with "C2,1,1,2,2,0|int,0,0|lock,1,0|0|1|0,0,|1,0,|0,0,|" is four 41 0 0 0) ∷
+    ("P,16|" ++ˢ twoLocks "let,3|unlock,0|var,0|let,4|unlock,0|var,0|unlock,0|var,0|" with
+    twoLocksSplit "0,0,|0,0,|1,0,|0,0,|0,0,|1,0,|0,0,|1,0,|" is four 41 0 0 0) ∷
+    ("P,10|" ++ˢ twoLocks "unlock,0|var,0|" with twoLocksSplit "0,0,|1,0,|" is four 42 0 0 0) ∷
+    ("P,1|int,0|" with "C2,1,1,1,2,0|int,0,0|1|1|0,0,|" is four 42 0 0 0) ∷
+    []

@@ -1,0 +1,50 @@
+-- The flow of an expression at a location: document 01's table, its (F) and (A) conditions at that location.
+use Prim.Native.Nat.{ℕ}
+use lib.Dec.{eqb}
+use Rattle.spec.specs.Choice.{if_then_else_}
+use Rattle.spec.specs.Expression.{Expr, leaf, unary, binary}
+use Rattle.spec.specs.Split.{Split}
+use Rattle.spec.specs.Maps.{share}
+use Rattle.spec.specs.Conditions.{place, kind, start, K}
+use Rattle.spec.specs.declared.Location.{Location}
+use Rattle.spec.specs.declared.LeafWord.the-variants.{Var, Int, Newtid, Newlock, Newsem}
+use Rattle.spec.specs.declared.UnaryWord.the-variants.{While, Join, Ref, Read, Freelock, Lock, Unlock, Post, Wait}
+use Rattle.spec.specs.declared.BinaryWord.the-variants.{Let, If, Spawn, Write}
+use Rattle.filling.specs.Flow.{unchanged, taking, giving, needing, Flow, alone, after, inTurn, branch, loop, fork}
+
+-- an access to the location p that needs d there needs nothing elsewhere
+unfoldable pub asks : (here p : Location) → (d : ℕ) → ℕ
+asks here p d = if eqb (p .0) (here .0) then d else 0
+
+module _ (S : Split) (here : Location) where
+  -- what the load of an expression's type, and the start of its body, have here
+  unfoldable pub loadHere : Expr → ℕ
+  loadHere e = share (K S e) here
+
+  unfoldable pub startHere : Expr → ℕ
+  startHere e = share (start S e) here
+
+  -- what an access through the ref type of an expression needs here, if it needs d at its location
+  unfoldable pub accessHere : Expr → (d : ℕ) → ℕ
+  accessHere e d = asks here (place (kind S e)) d
+
+  -- in the order of Figure 5
+  unfoldable pub flowOf : Expr → Flow
+  flowOf (leaf Var k v) = alone unchanged
+  flowOf (leaf Int k v) = alone unchanged
+  flowOf (binary Let k v e₁ e₂) = inTurn unchanged (flowOf e₁) (flowOf e₂)
+  flowOf (binary If k v e₁ e₂) = branch (flowOf e₁) (flowOf e₂)
+  flowOf (unary While k v e₁) = loop (flowOf e₁)
+  flowOf (leaf Newtid k v) = alone unchanged
+  flowOf (binary Spawn k v e₁ e₂) = fork (startHere (binary Spawn k v e₁ e₂)) (loadHere e₁) (flowOf e₁) (flowOf e₂)
+  flowOf (unary Join k v e₁) = after (giving (loadHere e₁)) (flowOf e₁)
+  flowOf (unary Ref k v e₁) = after unchanged (flowOf e₁)
+  flowOf (binary Write k v e₁ e₂) = inTurn (needing (accessHere e₁ (S .header .denominator))) (flowOf e₁) (flowOf e₂)
+  flowOf (unary Read k v e₁) = after (needing (accessHere e₁ 1)) (flowOf e₁)
+  flowOf (leaf Newlock k v) = alone (taking (loadHere (leaf Newlock k v)))
+  flowOf (unary Freelock k v e₁) = after (giving (loadHere e₁)) (flowOf e₁)
+  flowOf (unary Lock k v e₁) = after (giving (loadHere e₁)) (flowOf e₁)
+  flowOf (unary Unlock k v e₁) = after (taking (loadHere e₁)) (flowOf e₁)
+  flowOf (leaf Newsem k v) = alone unchanged
+  flowOf (unary Post k v e₁) = after (taking (loadHere e₁)) (flowOf e₁)
+  flowOf (unary Wait k v e₁) = after (giving (loadHere e₁)) (flowOf e₁)

@@ -1,0 +1,10 @@
+// Filling, request (viii): the greatest after-maps of a split whose step lines leave them out. Here the shapes that definitions
+// and code share; what filling is stands in specs/, that it is right in proofs/.
+
+// What a step does to the number at one location once its parts are done: it takes some, it gives some, and so much must be
+// there afterwards.
+pub struct Effect {
+    pub takes: u64,
+    pub gives: u64,
+    pub needs: u64,
+}
