@@ -1,7 +1,11 @@
 // Reads `program.txt` and `split.txt` in the current folder and writes one line: `ACCEPT`, `REFUSE,` and four numbers, or
-// `UNREAD`. Everything that matters is in the library `checker`; here is only what meets the outside.
+// `UNREAD`. The judging is in the library `checker`, the wording in `report`; here is only what meets the outside.
+mod retry;
+
+use libc::STDERR_FILENO;
 use libc::STDOUT_FILENO;
-use spec::Answer;
+use report::Outcome;
+use report::write_line;
 ghost use Prim.Native.Nat.{_≤_};
 ghost use lib.ListN.{length};
 ghost use Rattle.racecheck.specs.Files.{Within};
@@ -18,7 +22,7 @@ fn fill(fd: i32, buffer: &mut [u8]) -> Contents
 {
     let mut n: usize = 0;
     while n < buffer.len() {
-        let got = libc::read(fd, &mut buffer[n..]);
+        let got = retry::read(fd, &mut buffer[n..]);
         if got < 0 {
             return Contents::Unread;
         }
@@ -35,7 +39,7 @@ fn fill(fd: i32, buffer: &mut [u8]) -> Contents
 fn read_file(name: &[u8], buffer: &mut [u8]) -> Contents
     ensures { λ r. ⌜ Within r (length (now (buffer .exit))) ⌝ }
 {
-    let fd = os::open_read(name);
+    let fd = retry::open(name);
     if fd < 0 {
         return Contents::Unread;
     }
@@ -44,52 +48,42 @@ fn read_file(name: &[u8], buffer: &mut [u8]) -> Contents
     contents
 }
 
-// A comma and a number.
-fn write_number(n: u32) {
-    io::write_all(STDOUT_FILENO, b",");
-    io::print_decimal(STDOUT_FILENO, n as u64);
-}
-
-fn write_refusal(answer: Answer) {
-    let four = checker::numbers_of(answer);
-    io::write_all(STDOUT_FILENO, b"REFUSE");
-    write_number(four.number);
-    write_number(four.line);
-    write_number(four.condition);
-    write_number(four.location);
-    io::write_all(STDOUT_FILENO, b"\n");
-}
-
-fn write_answer(answer: Answer) {
-    match answer {
-        Answer::Accept => {
-            io::write_all(STDOUT_FILENO, b"ACCEPT\n");
-        }
-        Answer::Refuse(_) => {
-            write_refusal(answer);
-        }
-    }
-}
-
 // Judges two texts in a work space of its own.
-fn judge(program: &[u8], split: &[u8]) {
+fn judge(program: &[u8], split: &[u8]) -> Outcome {
     let mut work = [0u32; 16384];
-    let answer = checker::check(program, split, &mut work);
-    write_answer(answer);
+    Outcome::Answered(checker::check(program, split, &mut work))
 }
 
 // Both files are read before anything is judged. A buffer has room for one byte more than its sheet may have, so that a longer
 // file is seen to be longer, and no more of it is read.
-fn main() {
+fn run() -> Outcome {
     let mut program = [0u8; 16385];
     let mut split = [0u8; 65537];
     let Contents::Bytes(p) = read_file(b"program.txt", &mut program) else {
-        io::write_all(STDOUT_FILENO, b"UNREAD\n");
-        return;
+        return Outcome::Unread;
     };
     let Contents::Bytes(s) = read_file(b"split.txt", &mut split) else {
-        io::write_all(STDOUT_FILENO, b"UNREAD\n");
-        return;
+        return Outcome::Unread;
     };
-    judge(&program[..p], &split[..s]);
+    judge(&program[..p], &split[..s])
+}
+
+// The line is made first and written by one call, so that no other program's line comes between its parts.
+fn tell(outcome: Outcome) {
+    let mut line = [0u8; 64];
+    let n = write_line(&mut line, outcome);
+    retry::write_all(STDOUT_FILENO, &line[..n]);
+}
+
+// An argument is refused: who names a folder would take the answer for that folder's.
+fn main() {
+    if 1 < os::arg_count() {
+        retry::write_all(
+            STDERR_FILENO,
+            b"usage: racecheck, with no argument, in a folder with program.txt and split.txt\n",
+        );
+        tell(Outcome::Unread);
+        return;
+    }
+    tell(run());
 }

@@ -1,0 +1,43 @@
+-- `REFUSE,` and the four numbers behind it.
+use lib.Dec.{lit<}
+use borrow.Author.Needs.{needs}
+use Rattle.spec.specs.Text.{bytes}
+use Rattle.writer.proofs.Buffer.{parted, onward, finish}
+use Rattle.report.proofs.Lines.{refusal-parts, refusal-short, written-short}
+use Rattle.report.proofs.write_refusal.Statement.{statement}
+use Rattle.report.proofs.write_refusal.Tie as tie
+
+slice-aggregate-write-bytes : tie.Need-slice-aggregate-write-bytes
+slice-aggregate-write-bytes c = search needs
+
+write-bytes-requires : tie.Need-write-bytes-requires
+write-bytes-requires c κs = search needs
+
+slice-aggregate-write-numbers : tie.Need-slice-aggregate-write-numbers
+slice-aggregate-write-numbers c = search needs
+
+write-numbers-requires : tie.Need-write-numbers-requires
+write-numbers-requires c κs = search needs
+
+same-length : tie.Need-same-length
+same-length c = search needs
+
+returns : tie.Need-returns
+unfolding bytes
+returns c =
+    let c₂ = c .before .before in
+    let c₁ = c₂ .before .before .before .before .before in
+    let start = c₁ .before .before .before .before in
+    let written = finish (onward _ _ (parted _ _ (refusal-parts _ _ _ _) (start .good .0 .0) (lit< tt)) (c₁ .write-bytes .ensures)) (c₂ .write-numbers .ensures) in
+    (written, written-short (refusal-short _ _ _ _ (start .fits .number .fits) (start .fits .line .fits) (start .fits .condition .fits) (start .fits .location .fits)) written)
+
+pub write-refusal-spec : {M : Type 1} → statement M
+write-refusal-spec =
+    tie.close
+    (tie.spec
+    slice-aggregate-write-bytes
+    write-bytes-requires
+    slice-aggregate-write-numbers
+    write-numbers-requires
+    same-length
+    returns)
