@@ -197,6 +197,7 @@ def check_stopped(desk):
     for number in [signal.SIGTERM, signal.SIGINT, signal.SIGHUP]:
         report.write_text("the old one")
         under_way.unlink(missing_ok=True)
+        signal.signal(number, signal.SIG_DFL)  # the tool leaves alone what is ignored, as under nohup; this test may run there
         process = desk.start("two", "old report", RACECHECK=slow)
         begun = time.monotonic()
         while not under_way.exists() and time.monotonic() - begun < 60:
