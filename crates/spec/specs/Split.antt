@@ -157,7 +157,7 @@ pub record Split : Type 0 where
   pub maps : List Map
   pub rows : List Row
 
--- 21, 22 and 23 line by line, for the steps of a program
+-- 21, 22, 40 and 23 line by line, for the steps of a program
 unfoldable pub split : List Step → List ℕ → Out Split
 split steps text = do
   top ← begin splitSheet (lines text)

@@ -30,7 +30,7 @@ startAtMostOne P S = refuseOver (lineOf (P .root)) (overWhole (S .header .denomi
 unfoldable pub ruled : Program → Split → Out (Unit {0})
 ruled P S = firstFalse (claims S (sites S [] (startMap S) (P .root)))
 
--- 1; 10; 11 to 15; 20; 21 to 23; 30; 31 to 33
+-- 1; 10; 11 to 15; 20; 21 to 23 and 40; 30; 31 to 33
 unfoldable pub checked : (room : ℕ) → (programText splitText : List ℕ) → Out (Unit {0})
 checked room programText splitText = do
   enough ← demand (leb workspaceSize room) ShortWorkspace
