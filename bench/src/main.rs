@@ -1,13 +1,13 @@
-//! Times the product against the second checker, in one run and on the same pairs.
+//! Times the product against the second checker, and its filling against the second filler, in one run
+//! and on the same pairs.
 //!
 //! The product must clear the work space, the second checker has none. So the second checker is
 //! timed twice: alone, and with 16,384 numbers cleared after it.
 
-use evidence::answer::{Returned, LOCATIONS, STEPS, TYPES, WHOLE, WORK_SPACE};
-use evidence::comparison::Checker;
+use evidence::answer::{Returned, LOCATIONS, SPLIT_BYTES, STEPS, TYPES, WHOLE, WORK_SPACE};
 use evidence::draw::draft::{Draft, Heading, Map, Step, Type};
 use evidence::draw::random::Random;
-use evidence::draw::{full, honest};
+use evidence::draw::{full, honest, unfilled};
 use evidence::words::Word;
 use evidence::{known, product, second};
 use std::hint::black_box;
@@ -36,11 +36,18 @@ impl Pair {
 }
 
 fn main() -> ExitCode {
-    let Some(product) = product::CHECK else {
+    let (Some(check), Some(fill)) = (product::CHECK, product::FILL) else {
         println!("{}", product::NOT_LINKED);
         return ExitCode::FAILURE;
     };
-    let mut bench = Bench { product, work: vec![0; WORK_SPACE] };
+    let mut bench = Bench::new(
+        |pair, work, _| check(&pair.program, &pair.split, work),
+        |pair, _| second::check(&pair.program, &pair.split, WORK_SPACE),
+    );
+    let mut filling = Bench::new(
+        |pair, work, out| fill(&pair.program, &pair.split, work, out),
+        |pair, out| second::fill(&pair.program, &pair.split, WORK_SPACE, out),
+    );
     let random = &mut Random::new(1, 0);
     let (program, split) = known::all().next().expect("there are known pairs").sheets();
     let small = Pair { title: "small, Figure 2 (b), accepted".to_string(), program, split };
@@ -51,6 +58,9 @@ fn main() -> ExitCode {
     bench.row(&Pair::new("full, accepted", &fullest), None);
     bench.row(&Pair::new("full, refused at its last condition", &refused), None);
     bench.row(&Pair::new("deepest types, accepted", &deepest()), None);
+    let unfilled = unfilled::limits::fullest(random).pair;
+    let title = "full sheet of 256 maps, filled".to_string();
+    filling.row(&Pair { title, program: unfilled.program, split: unfilled.split }, None);
     bench.growth("steps", [16, 32, 64, 128, 256], |random, count| grown(random, count, 32, 4));
     bench.growth("maps", [32, 64, 128, 256, 512], |random, count| grown(random, 32, count, 4));
     bench.growth("locations", [1, 2, 4, 8, 16], |random, count| grown(random, 32, 256, count));
@@ -106,9 +116,12 @@ fn heading() {
     );
 }
 
-struct Bench {
-    product: Checker,
+/// Two calls to be timed, and what is lent to them.
+struct Bench<P, S> {
+    product: P,
+    second: S,
     work: Vec<u32>,
+    out: Vec<u8>,
 }
 
 /// The best times in nanoseconds.
@@ -118,7 +131,15 @@ struct Times {
     second_and_clear: f64,
 }
 
-impl Bench {
+impl<P, S> Bench<P, S>
+where
+    P: Fn(&Pair, &mut [u32], &mut [u8]) -> Returned,
+    S: Fn(&Pair, &mut [u8]) -> Returned,
+{
+    fn new(product: P, second: S) -> Bench<P, S> {
+        Bench { product, second, work: vec![0; WORK_SPACE], out: vec![0; SPLIT_BYTES] }
+    }
+
     /// Measures one pair and prints its line; `before` is the product's time in the line above.
     fn row(&mut self, pair: &Pair, before: Option<f64>) -> f64 {
         let times = self.times(pair);
@@ -151,12 +172,12 @@ impl Bench {
     /// The three are timed in turn, so that a busy machine slows all of them alike.
     fn times(&mut self, pair: &Pair) -> Times {
         let mut times = Times { product: f64::MAX, second: f64::MAX, second_and_clear: f64::MAX };
-        let (product, work) = (self.product, &mut self.work);
+        let Bench { product, second, work, out } = self;
         for _ in 0..BATCHES {
-            times.product = times.product.min(batch(pair, |pair| product(&pair.program, &pair.split, work)));
-            times.second = times.second.min(batch(pair, second_checker));
+            times.product = times.product.min(batch(pair, |pair| product(pair, work, out)));
+            times.second = times.second.min(batch(pair, |pair| second(pair, out)));
             let cleared = batch(pair, |pair| {
-                let returned = second_checker(pair);
+                let returned = second(pair, out);
                 black_box(&mut *work).fill(0);
                 returned
             });
@@ -164,10 +185,6 @@ impl Bench {
         }
         times
     }
-}
-
-fn second_checker(pair: &Pair) -> Returned {
-    second::check(&pair.program, &pair.split, WORK_SPACE)
 }
 
 /// The mean time of a call over one batch, in nanoseconds.

@@ -12,6 +12,8 @@ pub const CONSTANTS: u32 = 65_536;
 pub const LOCATIONS: u32 = 16;
 pub const TYPES: u32 = 64;
 pub const MAPS: u32 = 512;
+/// The most maps of a sheet that is to be filled in.
+pub const GIVEN_MAPS: u32 = 256;
 /// The greatest denominator, and the greatest numeral of a map.
 pub const WHOLE: u32 = 1_000_000_000;
 

@@ -34,8 +34,13 @@ impl WorkSpace {
         split: &[u8],
         room: usize,
     ) -> (Returned, Option<&'static str>) {
+        self.lent(room, |work| checker(program, split, work))
+    }
+
+    /// The same for any call that is lent a work space.
+    pub fn lent(&mut self, room: usize, call: impl FnOnce(&mut [u32]) -> Returned) -> (Returned, Option<&'static str>) {
         self.numbers.copy_from_slice(&self.garbage);
-        let returned = checker(program, split, &mut self.numbers[..room]);
+        let returned = call(&mut self.numbers[..room]);
         let cleared = if room < WORK_SPACE { 0 } else { WORK_SPACE };
         if self.numbers[..cleared].iter().any(|&number| number != 0) {
             return (returned, Some("the work space is not cleared"));

@@ -7,6 +7,7 @@ pub mod answer;
 pub mod comparison;
 pub mod draw;
 pub mod drill;
+pub mod filling;
 pub mod known;
 pub mod product;
 pub mod second;

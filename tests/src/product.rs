@@ -2,6 +2,7 @@
 
 use crate::comparison::Checker;
 use crate::drill::Driller;
+use crate::filling::Filler;
 
 /// The product's check, if the library is linked.
 #[cfg(product)]
@@ -14,6 +15,12 @@ pub const CHECK: Option<Checker> = None;
 pub const DRILL: Option<Driller> = Some(linked::drill);
 #[cfg(not(product))]
 pub const DRILL: Option<Driller> = None;
+
+/// The product's filling, if the library is linked.
+#[cfg(product)]
+pub const FILL: Option<Filler> = Some(linked::fill);
+#[cfg(not(product))]
+pub const FILL: Option<Filler> = None;
 
 /// What a command that needs the product says before it fails without it.
 pub const NOT_LINKED: &str = "the product is not linked: name the folder of its library in RACECHECK_LIB_DIR";
@@ -45,6 +52,20 @@ mod linked {
             next: *mut u32,
             program_length: *mut u32,
             split_length: *mut u32,
+        ) -> u32;
+
+        fn racecheck_fill(
+            program: *const u8,
+            program_len: usize,
+            split: *const u8,
+            split_len: usize,
+            work: *mut u32,
+            work_len: usize,
+            out: *mut u8,
+            out_len: usize,
+            length_or_line: *mut u32,
+            condition: *mut u32,
+            location: *mut u32,
         ) -> u32;
     }
 
@@ -86,5 +107,28 @@ mod linked {
             )
         };
         drilled
+    }
+
+    /// Calls the product's filling on a pair, a lent work space and a lent buffer.
+    pub fn fill(program: &[u8], split: &[u8], work: &mut [u32], out: &mut [u8]) -> Returned {
+        // What is stored must overwrite this.
+        let mut returned = Returned { number: 1, line: 1, condition: 1, location: 1 };
+        // The four slices and the three places are live and apart for the whole call.
+        returned.number = unsafe {
+            racecheck_fill(
+                program.as_ptr(),
+                program.len(),
+                split.as_ptr(),
+                split.len(),
+                work.as_mut_ptr(),
+                work.len(),
+                out.as_mut_ptr(),
+                out.len(),
+                &mut returned.line,
+                &mut returned.condition,
+                &mut returned.location,
+            )
+        };
+        returned
     }
 }

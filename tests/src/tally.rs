@@ -4,41 +4,75 @@ use crate::answer::Returned;
 use crate::draw::promise::broken;
 use crate::draw::Drawn;
 use crate::words::{Word, WORDS};
-use std::collections::BTreeMap;
+use std::collections::{BTreeMap, BTreeSet};
 use std::fmt;
 
-/// Every number that an answer can have.
-pub const NUMBERS: [u32; 17] = [0, 1, 10, 11, 12, 13, 14, 15, 20, 21, 22, 23, 40, 30, 31, 32, 33];
+/// What a series has to meet.
+pub struct Asked {
+    /// Every number that an answer can have.
+    numbers: &'static [u32],
+    /// How line 1 of a split can open.
+    headings: &'static [&'static str],
+    /// How many conditions of a word an answer can name.
+    conditions: fn(Word) -> u32,
+}
 
-/// How line 1 of a split can open.
-const HEADINGS: [&str; 2] = ["C", "C2"];
+pub const CHECKING: Asked = Asked {
+    numbers: &[0, 1, 10, 11, 12, 13, 14, 15, 20, 21, 22, 23, 40, 30, 31, 32, 33],
+    headings: &["C", "C2"],
+    conditions: Word::conditions,
+};
+
+/// A filling has its refusals in this order.
+pub const FILLING: Asked = Asked {
+    numbers: &[0, 1, 10, 11, 12, 13, 14, 15, 20, 21, 22, 23, 43, 30, 31, 41, 42],
+    headings: &["C2"],
+    conditions: Word::type_conditions,
+};
 
 /// How many pairs met each answer.
-#[derive(Default)]
 pub struct Tally {
+    asked: Asked,
     pairs: u64,
     numbers: BTreeMap<u32, u64>,
     conditions: BTreeMap<(Word, u32), u64>,
     /// How many pairs were drawn in each way, and how many of them were accepted.
     origins: BTreeMap<&'static str, (u64, u64)>,
-    /// How many were accepted under each heading.
+    /// How many were accepted under each heading, and with each word.
     headings: BTreeMap<&'static str, u64>,
+    words: BTreeMap<Word, u64>,
 }
 
 impl Tally {
+    pub fn new(asked: Asked) -> Tally {
+        let (numbers, conditions) = (BTreeMap::new(), BTreeMap::new());
+        let (origins, headings, words) = (BTreeMap::new(), BTreeMap::new(), BTreeMap::new());
+        Tally { asked, pairs: 0, numbers, conditions, origins, headings, words }
+    }
+
     pub fn count(&mut self, drawn: &Drawn, returned: Returned) {
         self.pairs += 1;
         *self.numbers.entry(returned.number).or_default() += 1;
         let origin = self.origins.entry(drawn.origin).or_default();
         origin.0 += 1;
         origin.1 += u64::from(returned.number == 0);
-        let heading = drawn.split.split(|&byte| byte == b',').next().unwrap_or_default();
-        let heading = HEADINGS.iter().find(|known| known.as_bytes() == heading);
-        if let Some(heading) = heading.filter(|_| returned.number == 0) {
-            *self.headings.entry(heading).or_default() += 1;
+        if returned.number == 0 {
+            self.count_accepted(drawn);
         }
         if let Some(condition) = broken(&drawn.program, returned) {
             *self.conditions.entry(condition).or_default() += 1;
+        }
+    }
+
+    fn count_accepted(&mut self, drawn: &Drawn) {
+        let heading = drawn.split.split(|&byte| byte == b',').next().unwrap_or_default();
+        if let Some(heading) = self.asked.headings.iter().find(|known| known.as_bytes() == heading) {
+            *self.headings.entry(heading).or_default() += 1;
+        }
+        let spellings =
+            drawn.program.split(|&byte| byte == b'\n').filter_map(|line| line.split(|&byte| byte == b',').next());
+        for word in spellings.filter_map(Word::spelled).collect::<BTreeSet<Word>>() {
+            *self.words.entry(word).or_default() += 1;
         }
     }
 
@@ -54,20 +88,26 @@ impl Tally {
         self.headings.get(heading).copied().unwrap_or(0)
     }
 
+    fn with_word(&self, word: Word) -> u64 {
+        self.words.get(&word).copied().unwrap_or(0)
+    }
+
     fn met(&self, word: Word, condition: u32) -> u64 {
         self.conditions.get(&(word, condition)).copied().unwrap_or(0)
     }
 
-    /// What the series should have met and did not: every number, every condition, every heading, and a
-    /// third of the pairs accepted.
+    /// What the series should have met and did not: every number, every condition, every heading and every
+    /// word in accepted pairs, and a third of the pairs accepted.
     pub fn missed(&self) -> Vec<String> {
-        let numbers = NUMBERS.iter().filter(|&&number| self.with_number(number) == 0);
+        let numbers = self.asked.numbers.iter().filter(|&&number| self.with_number(number) == 0);
         let mut missed: Vec<String> = numbers.map(|number| format!("number {number}")).collect();
+        let words = WORDS.iter().filter(|&&word| self.with_word(word) == 0);
+        missed.extend(words.map(|word| format!("an accepted {}", word.spelling())));
         for word in WORDS {
-            let conditions = (1..=word.conditions()).filter(|&condition| self.met(word, condition) == 0);
+            let conditions = (1..=(self.asked.conditions)(word)).filter(|&condition| self.met(word, condition) == 0);
             missed.extend(conditions.map(|condition| format!("condition {condition} of {}", word.spelling())));
         }
-        let headings = HEADINGS.iter().filter(|heading| self.under(heading) == 0);
+        let headings = self.asked.headings.iter().filter(|heading| self.under(heading) == 0);
         missed.extend(headings.map(|heading| format!("a {heading} sheet accepted")));
         if 3 * self.accepted() < self.pairs {
             missed.push("a third of the pairs accepted".to_string());
@@ -81,16 +121,16 @@ impl fmt::Display for Tally {
         for (origin, (drawn, accepted)) in &self.origins {
             writeln!(out, "  {origin:14} {drawn:7} drawn {accepted:7} accepted")?;
         }
-        for heading in HEADINGS {
+        for heading in self.asked.headings {
             writeln!(out, "  {heading:2} sheets {:7} accepted", self.under(heading))?;
         }
-        for number in NUMBERS {
-            writeln!(out, "  number {number:2} {:7}", self.with_number(number))?;
+        for number in self.asked.numbers {
+            writeln!(out, "  number {number:2} {:7}", self.with_number(*number))?;
         }
         for word in WORDS {
             let counts: Vec<String> =
-                (1..=word.conditions()).map(|condition| self.met(word, condition).to_string()).collect();
-            writeln!(out, "  {:8} {}", word.spelling(), counts.join(" "))?;
+                (1..=(self.asked.conditions)(word)).map(|condition| self.met(word, condition).to_string()).collect();
+            writeln!(out, "  {:9} {:6} accepted, false {}", word.spelling(), self.with_word(word), counts.join(" "))?;
         }
         Ok(())
     }
@@ -98,13 +138,13 @@ impl fmt::Display for Tally {
 
 #[cfg(test)]
 mod tests {
-    use super::Tally;
+    use super::{Tally, CHECKING};
     use crate::{draw, second};
 
     /// The second checker keeps the generator's promises on a series, and the series leaves nothing out.
     #[test]
     fn a_series_meets_everything() {
-        let mut tally = Tally::default();
+        let mut tally = Tally::new(CHECKING);
         for number in 0..20_000 {
             let drawn = draw::pair(7, number);
             let returned = second::check(&drawn.program, &drawn.split, drawn.room);

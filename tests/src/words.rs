@@ -88,6 +88,15 @@ impl Word {
         }
     }
 
+    /// How many of this word's conditions are on types. They come first.
+    pub fn type_conditions(self) -> u32 {
+        match self {
+            Var | Int | Let | While | Newtid | Ref | Newlock | Newsem => 1,
+            If | Spawn | Join | Read | Lock | Freelock | Unlock | Post | Wait => 2,
+            Write => 3,
+        }
+    }
+
     /// How many conditions the documents list for this word.
     pub fn conditions(self) -> u32 {
         match self {

@@ -31,8 +31,14 @@ def contents(folder):
     return {str(p.relative_to(folder)): None if p.is_dir() else p.read_bytes() for p in sorted(folder.rglob("*"))}
 
 
+def sheet_of(text):
+    """A sheet as a page's example writes it: bars for byte 10, and "(3 lines of 0,,)" for a line that comes again."""
+    repeated = re.sub(r"\((\d+) lines of ([^)]*)\)", lambda found: f"{found[2]}|" * int(found[1]), text)
+    return repeated.replace("|", "\n").encode()
+
+
 def place(path, text):
-    """Puts a text where a page's example wants it: bars for byte 10, or one of the described constructions."""
+    """Puts a text where a page's example wants it: a sheet, or one of the described constructions."""
     repeated = re.fullmatch(r"(\d+) bytes of (.)", text)
     if text == "absent":
         return
@@ -43,7 +49,7 @@ def place(path, text):
     elif repeated:
         path.write_bytes(repeated[2].encode() * int(repeated[1]))
     else:
-        path.write_bytes(text.replace("|", "\n").encode())
+        path.write_bytes(sheet_of(text))
 
 
 def make_pair(folder, program, split):
@@ -57,9 +63,14 @@ def answer_in(binary, folder):
 
 
 def check_pair(binary, what, program, split, answer):
+    check_written(binary, what, program, split, answer.encode() + b"\n")
+
+
+def check_written(binary, what, program, split, written):
+    """A program started in a pair's folder writes this, and leaves the folder as it was."""
     with tempfile.TemporaryDirectory() as scratch:
         folder = Path(scratch) / "pair"
         make_pair(folder, program, split)
         before = contents(folder)
-        check(what, answer_in(binary, folder), answer.encode() + b"\n")
+        check(what, answer_in(binary, folder), written)
         check(what + ", its folder afterwards", contents(folder) == before, True)

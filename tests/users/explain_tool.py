@@ -12,7 +12,7 @@ from explaining.conditions import find
 from explaining.drawing import page
 from explaining.drawing.holders import SILENT, Telling
 from explaining.findings import explain
-from explaining.refusals import FOR_CALLERS, REFUSALS
+from explaining.refusals import OF_CHECKING, REFUSALS
 from explaining.running import Run, run_in
 from explaining.words import WORDS
 from pages import PAGES, examples, pairs_of
@@ -140,7 +140,7 @@ def check_drawn(binary):
     if wide and found:
         number, steps, text = wide
         browser.check_in_browser(f"drawn pair {number}, wide and long", found, text, steps)
-    check("drawn pairs meet every number", sorted(set(REFUSALS) - FOR_CALLERS - set(met)), [])
+    check("drawn pairs meet every number", sorted(OF_CHECKING - set(met)), [])
 
 
 # ---- Racechecks that lie, and what explain cannot do
@@ -152,7 +152,7 @@ def check_lies(binary):
     lies = [(join, f"REFUSE,{rest}") for rest in [
         "10,0,0,0", "11,2,0,0", "12,2,0,0", "13,3,0,0", "14,9,0,0", "15,5,0,0", "20,0,0,0", "21,2,0,0", "22,2,0,0", "23,5,0,0",
         "30,2,0,0", "31,2,1,0", "32,2,2,0", "33,15,5,0", "33,99,5,0", "32,8,9,0", "11,99,0,0", "1,0,0,0", "38,0,0,0",
-        "40,13,0,0", "40,12,0,0"]]
+        "40,13,0,0", "40,12,0,0", "41,0,0,0", "42,0,0,0", "43,0,0,0"]]
     lies += [(join_race, "REFUSE,33,13,5,1"), (join_race, "REFUSE,32,13,4,0")]
     for folder, answer in lies:
         explanation = explain(Run(answer, None), folder)

@@ -2,14 +2,13 @@
 import re
 
 from checks import HOUSE, answer_in, check, check_pair
-from explaining.refusals import FOR_CALLERS, PROGRAM, REFUSALS, SPLIT, USUALLY
+from explaining.refusals import OF_CHECKING, PROGRAM, REFUSALS, SPLIT, USUALLY
 from explaining.sheets import read_sheet, split_of, steps_of
 from explaining.showing import fractions
 from explaining.sites import Sites
 from explaining.words import NUMBER_OF, WORDS
 
 PAGES = ["REFUSALS.md", "FORMATS.md"]
-NUMBERS = set(REFUSALS) - FOR_CALLERS
 
 # ---- The examples that are files
 
@@ -54,7 +53,7 @@ def check_pages(binary):
             check_pair(binary, f"docs/{name} line {line}", program, split, answer)
         check_tables(name, page)
         linked = re.findall(r"\b(examples/[\w-]+)", page)
-        check(f"docs/{name}, its examples are there", [e for e in linked if not (HOUSE / e / "expected").exists()], [])
+        check(f"docs/{name}, its examples are there", [e for e in linked if not (HOUSE / e / "program.txt").exists()], [])
 
 
 def check_nothing_left_out():
@@ -62,7 +61,7 @@ def check_nothing_left_out():
     pairs = list(pairs_of(page))
     answers = {answer for _, _, _, answer in pairs}
     check("REFUSALS.md has ACCEPT and UNREAD", {"ACCEPT", "UNREAD"} <= answers, True)
-    check("REFUSALS.md has every number", {int(a.split(",")[1]) for a in answers if a.startswith("REFUSE")}, NUMBERS)
+    check("REFUSALS.md has every number", {int(a.split(",")[1]) for a in answers if a.startswith("REFUSE")}, OF_CHECKING)
     check("REFUSALS.md has a heading for each", [n for n in REFUSALS if f"\n### {n}: " not in page], [])
     failed = set()
     for _, program, _, answer in pairs:
@@ -118,17 +117,17 @@ def check_formats_words():
 
 
 def tables(page, kind):
-    """The tables under a mark `<!-- kind: folder -->`: the folder and the cells of each row."""
-    for found in re.finditer(rf"^<!-- {kind}: (\S+) -->\n((?:\|.*\n)+)", page, re.M):
+    """The tables under a mark `<!-- kind: folder -->`: the folder, the cells of each row, and the text up to the next heading."""
+    for found in re.finditer(rf"^<!-- {kind}: (\S+) -->\n((?:\|[^\n]*\n)+)(.*?)(?=^#|\Z)", page, re.M | re.S):
         rows = [[cell.strip(" `") for cell in row.strip("|").split("|")] for row in found[2].splitlines()]
-        yield found[1], rows[2:]
+        yield found[1], rows[2:], found[3]
 
 
 def check_tables(name, page):
-    for folder, cells in tables(page, "head"):
+    for folder, cells, _ in tables(page, "head"):
         split = (HOUSE / folder / "split.txt").read_text().splitlines()
         check(f"docs/{name}, head of {folder}", [row[:2] for row in cells], [[str(i + 1), split[i]] for i in range(len(cells))])
-    for folder, cells in tables(page, "walk"):
+    for folder, cells, below in tables(page, "walk"):
         program = read_sheet(HOUSE / folder, PROGRAM)
         split = split_of(read_sheet(HOUSE / folder, SPLIT))
         sites = Sites(steps_of(program), split)
@@ -137,5 +136,5 @@ def check_tables(name, page):
             before, after = (fractions(numbers, split.denominator) for numbers in (site.pre, site.post))
             wanted = [program.line(site.line).decode(), site.row.text, before, after]
             check(f"docs/{name}, {folder} line {site.line}", row[1:5], wanted)
-        refusal = (HOUSE / folder / "expected").read_text().strip()
-        check(f"docs/{name}, answer of {folder}", f"The answer is `{refusal}`" in page or refusal == "ACCEPT", True)
+        answer = (HOUSE / folder / "expected").read_text().strip()
+        check(f"docs/{name}, answer of {folder}", re.findall(r"answer is `([^`]*)`", below), [answer])

@@ -1,5 +1,6 @@
 """Likely causes that the bytes of the two files show."""
 import os
+import re
 import stat
 
 from .refusals import PROGRAM, SPLIT
@@ -48,6 +49,8 @@ def line_causes(sheet, line):
         causes.append("there is a space or a tab in the line")
     if text == b"" and line > 1:
         causes.append("the line is empty")
+    if sheet.name == SPLIT and re.fullmatch(rb"\d+,,\d*", text):
+        causes.append("the after-map is left empty: `racefill` fills in such a sheet")
     if b"\0" in text:
         causes.append("there are bytes 0 in the line: the file is not plain text")
     return causes

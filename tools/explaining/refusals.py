@@ -72,10 +72,23 @@ REFUSALS = {
     40: Refusal(
         "a spawn does not say what its thread starts with", "owner of the solver", SPLIT,
         "write the map that the new thread starts with in the last field of that row: 0 for map 0"),
+    41: Refusal(
+        "no after-maps pass", "owner of the solver, then of the program", None,
+        "follow each location from the start: every step moves what its type or start says; at the first one that takes more than"
+        " there is, or touches its cell with too little, a load or a start is wrong, or the job is"),
+    42: Refusal(
+        "the filled sheet would be too large", "owner of the solver", None,
+        "divide D and all numbers of the maps by a number that goes into all of them, or leave out maps that nothing names"),
+    43: Refusal(
+        "too many maps to fill in more", "owner of the solver", None,
+        "leave out the maps that nothing names: a sheet for filling needs the start, those in types and those that spawns hand on"),
 }
 
 # What only a caller of the library sees: no pair of sheets leads to these.
 FOR_CALLERS = {1, 38}
+# What only racefill answers, and what racecheck does.
+OF_FILLING = {41, 42, 43}
+OF_CHECKING = set(REFUSALS) - FOR_CALLERS - OF_FILLING
 
 # What a false condition of a word usually means, beyond its refusal's own line: by word and condition.
 _EARLIER = "a take or give is missing before it: the row counts with a right that no step on the way has moved"

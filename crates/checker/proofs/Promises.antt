@@ -12,38 +12,15 @@ use Rattle.spec.specs.Accepted.{Right}
 use Rattle.spec.specs.declared.Answer.{Answer}
 use Rattle.spec.specs.declared.Answer.the-variants.{Accept, Refuse}
 use Rattle.spec.specs.declared.Refusal.{Refusal}
-use Rattle.spec.specs.declared.Refusal.the-variants.{ShortWorkspace, LongProgram, ProgramForm, ProgramRange, ProgramLines, Unbound, Rebound, LongSplit, SplitForm, SplitRange, SplitLines, NoStart, OverOne, TypeFalse, FlowFalse, AccessFalse, NoAfterMaps, TooLarge, TooManyMaps}
 use Rattle.spec.proofs.Clashes.{true-is-not-false}
 use Rattle.spec.proofs.Accepted.{accepted-is-right, right-is-accepted}
 use Rattle.spec.proofs.FirstFalse.{refusal-names-first-false}
+use Rattle.numbers.proofs.Refusals.{refusal-number}
 use Rattle.soundness.specs.SafeText.{SafeText}
 use Rattle.soundness.specs.EitherOrderText.{EitherOrderText}
 use Rattle.soundness.proofs.Safety.{accepted-is-safe}
 use Rattle.soundness.proofs.EitherOrder.{accepted-is-in-either-order}
 use Rattle.checker.specs.Promise.{RefutedBy}
-
--- a refusal's number is not 0
-refusal-number : (r : Refusal) → 1 ≤ returned (Refuse r) .number
-unfolding returned four
-refusal-number ShortWorkspace = omega arith
-refusal-number LongProgram = omega arith
-refusal-number (ProgramForm k) = omega arith
-refusal-number (ProgramRange k) = omega arith
-refusal-number (ProgramLines k) = omega arith
-refusal-number (Unbound k) = omega arith
-refusal-number (Rebound k) = omega arith
-refusal-number LongSplit = omega arith
-refusal-number (SplitForm k) = omega arith
-refusal-number (SplitRange k) = omega arith
-refusal-number (SplitLines k) = omega arith
-refusal-number (NoStart k) = omega arith
-refusal-number (OverOne k l) = omega arith
-refusal-number (TypeFalse k i) = omega arith
-refusal-number (FlowFalse k i l) = omega arith
-refusal-number (AccessFalse k i p) = omega arith
-refusal-number NoAfterMaps = omega arith
-refusal-number TooLarge = omega arith
-refusal-number TooManyMaps = omega arith
 
 -- 0,0,0,0 is returned for Accept alone
 pub zeros-accept : (a : Answer) → returned a ≡ four 0 0 0 0 → a ≡ Accept

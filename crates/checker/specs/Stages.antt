@@ -11,7 +11,7 @@ use Rattle.spec.specs.Workspace.{workspaceSize}
 use Rattle.spec.specs.Verdict.{startAtMostOne, ruled, answer, verdict}
 use Rattle.spec.specs.declared.Answer.{Answer}
 use Rattle.workspace.specs.Holds.{HoldsProgram}
-use Rattle.rules.specs.Contract.{HoldsSheets}
+use Rattle.workspace.specs.Sheets.{HoldsSheets}
 
 -- the rules: for whichever sheets the work space holds
 abbrev pub RulesAnswered : (w : List ℕ) (steps denominator locations start : ℕ) → Answer → Type 0

@@ -1,10 +1,8 @@
 // The offered call: two texts and a lent work space in, one answer out.
-mod numbers;
-
-pub use numbers::numbers_of;
 use program::ProgramRead;
 use rules::Ruling;
 use spec::Answer;
+use spec::Purpose;
 use spec::Refusal;
 use split::Sheet;
 ghost use mathlib.Core.Path.{_≡_};
@@ -37,7 +35,7 @@ fn check_rules(
     requires { ⌜ (length (now work) ≡ 16384) × (steps ≤ 256) × (locations ≤ 16) ⌝ }
     ensures { λ a. ⌜ RulesAnswered (now (work .entry)) steps denominator locations start a ⌝ }
 {
-    match rules::rule(work, steps, denominator, locations, start) {
+    match rules::rule(work, Purpose::Check, steps, denominator, locations, start) {
         Ruling::Met => Answer::Accept,
         Ruling::Refused(r) => Answer::Refuse(r),
     }
@@ -51,7 +49,7 @@ fn check_split(split: &[u8], steps: usize, work: &mut [u32]) -> Answer
     if SPLIT_LIMIT < split.len() {
         return Answer::Refuse(Refusal::LongSplit);
     }
-    match split::read(split, steps, work) {
+    match split::read(split, Purpose::Check, steps, work) {
         Sheet::Refused(r) => Answer::Refuse(r),
         Sheet::Read(header) => check_rules(
             work,

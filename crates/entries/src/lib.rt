@@ -1,6 +1,8 @@
 // The offered calls for callers in Rust and C, one entry each: the number is returned, and the other three numbers of an answer
 // are stored.
 use drill::Drilled;
+use fill::Filled;
+use spec::Answer;
 ghost use mathlib.Core.Path.{_≡_};
 ghost use lib.ListN.{length, take};
 ghost use Rattle.spec.specs.Verdict.{verdict, returned, four};
@@ -8,6 +10,7 @@ ghost use Rattle.spec.specs.Workspace.{workspaceSize, workspaceAfter};
 ghost use Rattle.spec.specs.declared.Answer.the-variants.{Accept};
 ghost use Rattle.practice.specs.Pair.{programOf, splitOf};
 ghost use Rattle.drill.specs.Answer.{numbered, answerOf, inFront};
+ghost use Rattle.filling.specs.Answer.{fill as filling, numbersOf, bufferAfter};
 
 // The answer to a pair of texts: `check` of the crate `checker`.
 #[no_mangle]
@@ -23,7 +26,7 @@ pub extern "C" fn racecheck_check(
     ensures cleared { λ n. ⌜ now (work .exit) ≡ workspaceAfter (now (work .entry)) ⌝ }
     ensures unchanged { λ n. ⌜ (now (program .exit) ≡ now (program .entry)) × (now (split .exit) ≡ now (split .entry)) ⌝ }
 {
-    let four = checker::numbers_of(checker::check(program, split, work));
+    let four = numbers::numbers_of(checker::check(program, split, work));
     *line = four.line;
     *condition = four.condition;
     *location = four.location;
@@ -61,6 +64,40 @@ pub extern "C" fn racecheck_drill(
             *program_length = 0;
             *split_length = 0;
             38
+        }
+    }
+}
+
+// The whole sheet for a pair of texts whose split leaves its after-maps out: `fill` of the crate `fill`.
+#[no_mangle]
+pub extern "C" fn racecheck_fill(
+    program: &[u8],
+    split: &[u8],
+    work: &mut [u32],
+    out: &mut [u8],
+    length_or_line: &mut u32,
+    condition: &mut u32,
+    location: &mut u32,
+) -> u32
+    ensures answer { λ n. ⌜ four n (now («length_or_line» .exit)) (now (condition .exit)) (now (location .exit)) ≡ numbersOf (filling (length (now (work .entry))) (length (now (out .entry))) (now (program .entry)) (now (split .entry))) ⌝ }
+    ensures written { λ n. ⌜ now (out .exit) ≡ bufferAfter (filling (length (now (work .entry))) (length (now (out .entry))) (now (program .entry)) (now (split .entry))) (now (out .entry)) ⌝ }
+    ensures cleared { λ n. ⌜ now (work .exit) ≡ workspaceAfter (now (work .entry)) ⌝ }
+    ensures unchanged { λ n. ⌜ (now (program .exit) ≡ now (program .entry)) × (now (split .exit) ≡ now (split .entry)) ⌝ }
+    ensures accepted { λ n. ⌜ (n ≡ 0 → verdict (length (now (work .entry))) (now (program .entry)) (take (now («length_or_line» .exit)) (now (out .exit))) ≡ Accept) ⌝ }
+{
+    match fill::fill(program, split, work, out) {
+        Filled::Written(length) => {
+            *length_or_line = length;
+            *condition = 0;
+            *location = 0;
+            0
+        }
+        Filled::Refused(r) => {
+            let four = numbers::numbers_of(Answer::Refuse(r));
+            *length_or_line = four.line;
+            *condition = four.condition;
+            *location = four.location;
+            four.number
         }
     }
 }

@@ -2,35 +2,36 @@
 -- after-maps keep the size limits, and then the pair with that text is accepted.
 use mathlib.Core.Path.{_≡_, refl, ap, sym, _∙_}
 use mathlib.Core.Bool.{Bool, true, false}
-use mathlib.Core.List.{List, []}
+use mathlib.Core.List.{List}
 use mathlib.Core.Logic.{_↔_, _⊎_, inl, inr, ⊎-elim}
 use mathlib.Core.Option.{Option, none, some}
-use Prim.Native.Nat.{ℕ, _+_, _≤_, _<_, min}
+use Prim.Native.Nat.{ℕ, _≤_, min}
 use native.Mathlib.Omega.{arith}
 use native.Mathlib.Decide.{decLe}
-use lib.ListN.{length, getD}
+use lib.ListN.{length}
 use borrow.Author.Tests.{leb-true}
 use Rattle.spec.specs.Reading.{Out, stop, on}
-use Rattle.spec.specs.Expression.{Step}
 use Rattle.spec.specs.Program.{Program, program, programLimit}
 use Rattle.spec.specs.Split.{Map, Split, split, splitLimit}
 use Rattle.spec.specs.Workspace.{workspaceSize}
-use Rattle.spec.specs.Verdict.{answer, verdict, four, returned}
-use Rattle.spec.specs.Ranges.{InRange}
-use Rattle.spec.specs.Accepted.{AtMost}
+use Rattle.spec.specs.Verdict.{typed, answer, verdict, four, returned}
+use Rattle.spec.specs.declared.Purpose.the-variants.{Check, Fill}
 use Rattle.spec.specs.declared.Answer.the-variants.{Accept, Refuse}
 use Rattle.spec.specs.declared.Refusal.the-variants.{NoAfterMaps, TooLarge}
 use Rattle.spec.proofs.Clashes.{true-is-not-false}
 use Rattle.spec.proofs.Outcomes.{stop-is-not-on, on-injective, stop-injective, bind-goes-on, goes-on-bind, demand-goes-on}
-use Rattle.spec.proofs.WellFormed.{program-well-formed, well-formed-program}
+use Rattle.spec.proofs.WellFormed.{program-well-formed, well-formed-program, split-well-formed, well-formed-split}
+use Rattle.spec.proofs.Ranges.{well-formed-in-range}
 use Rattle.spec.proofs.Reached.{start-at-most-one, at-most-one-start}
 use Rattle.spec.proofs.Reasons.{rules-decide}
 use Rattle.spec.proofs.Claims.{none-false-all-hold, all-hold-none-false}
+use Rattle.writer.specs.Sheet.{written}
 use Rattle.filling.specs.Filled.{filled}
-use Rattle.filling.specs.AfterMaps.{typed, AfterMaps, GreatestMaps}
+use Rattle.filling.specs.AfterMaps.{allClaims, typeClaims, AfterMaps, GreatestMaps}
 use Rattle.filling.specs.GreatestMaps.{greatestMaps}
 use Rattle.filling.specs.Answer.{givenLimit, numberLimit, allAtMost, filledText, WithinLimits, fill, Fillable, Written}
 use Rattle.filling.proofs.Reasons.{no-after-maps, large-number, long-text, text-written, start-decides}
+use Rattle.filling.proofs.ReadBack.{filled-reads-back}
 use Rattle.filling.proofs.Limits.{all-at-most, steps-few}
 use Rattle.filling.proofs.Filling.{solvable, found-exactly-greatest, start-kept, filled-accepted}
 
@@ -45,160 +46,145 @@ too-large-is-not-none h =
 
 -- ------------------------------------------------------------------ the answer
 
-module _ (readToFill : List Step → List ℕ → Out Split) (written : List Step → Split → List ℕ) where
-  -- what the reader owes: what it reads is in range
-  abbrev pub InRangeRead : Type 0
-  InRangeRead = (steps : List Step) (text : List ℕ) (S : Split) → readToFill steps text ≡ on S → InRange steps S
+module _ (buffer : ℕ) (P : Program) (S : Split) where
+  abbrev text : Out (List ℕ)
+  text = filledText buffer P S
 
-  -- what the writer owes: the reader of whole sheets reads back a filled split that is written, if it keeps the limits of a sheet
-  abbrev pub ReadBack : Type 0
-  ReadBack = (steps : List Step) (text : List ℕ) (S : Split) (γ : List Map) → readToFill steps text ≡ on S
-      → length γ ≡ length steps → S .header .maps + length γ ≤ 512
-      → ((i : ℕ) → i < length γ → length (getD γ i []) ≡ S .header .locations)
-      → ((i : ℕ) → AtMost numberLimit (getD γ i []))
-      → split steps (written steps (filled S γ)) ≡ on (filled S γ)
+  -- once the greatest maps are found, the split with them is written, or it goes over a limit
+  Settled : List Map → Type 0
+  Settled γ = (WithinLimits buffer S γ × (text ≡ on (written (filled S γ)))) ⊎ ((WithinLimits buffer S γ → ⊥) × (text ≡ stop TooLarge))
 
-  module _ (buffer : ℕ) (P : Program) (S : Split) where
-    abbrev text : Out (List ℕ)
-    text = filledText written buffer P S
+  settled : (γ : List Map) → greatestMaps P S ≡ some γ → Settled γ
+  unfolding Settled numberLimit splitLimit
+  settled γ e = go (allAtMost numberLimit γ) refl (decLe (length (written (filled S γ))) (min splitLimit buffer))
+    where
+      go : (b : Bool) → allAtMost numberLimit γ ≡ b → Dec (length (written (filled S γ)) ≤ min splitLimit buffer) → Settled γ
+      go false large d =
+          inr (λ limits. true-is-not-false (sym (all-at-most numberLimit γ .1 (limits .small)) ∙ large), large-number buffer P S γ e large)
+      go true small (yes short) =
+          inl (
+            record { small = all-at-most numberLimit γ .0 small; notLong = omega (arith, short); hasRoom = omega (arith, short) },
+            text-written buffer P S γ e small short,
+          )
+      go true small (no long) =
+          inr (λ limits. long (omega (arith, limits .notLong, limits .hasRoom)), long-text buffer P S γ e small (omega (arith, long)))
 
-    -- once the greatest maps are found, the split with them is written, or it goes over a limit
-    Settled : List Map → Type 0
-    Settled γ = (WithinLimits written buffer P S γ × (text ≡ on (written (P .steps) (filled S γ)))) ⊎ ((WithinLimits written buffer P S γ → ⊥) × (text ≡ stop TooLarge))
+  within-limits : (γ : List Map) → greatestMaps P S ≡ some γ → WithinLimits buffer S γ → text ≡ on (written (filled S γ))
+  unfolding Settled
+  within-limits γ e limits = ⊎-elim (λ w. w .1) (λ o. absurd (o .0 limits)) (settled γ e)
 
-    settled : (γ : List Map) → greatestMaps P S ≡ some γ → Settled γ
-    unfolding Settled numberLimit splitLimit
-    settled γ e = go (allAtMost numberLimit γ) refl (decLe (length (written (P .steps) (filled S γ))) (min splitLimit buffer))
-      where
-        go : (b : Bool) → allAtMost numberLimit γ ≡ b → Dec (length (written (P .steps) (filled S γ)) ≤ min splitLimit buffer) → Settled γ
-        go false large d =
-            inr (λ limits. true-is-not-false (sym (all-at-most numberLimit γ .1 (limits .small)) ∙ large), large-number written buffer P S γ e large)
-        go true small (yes short) =
-            inl (
-              record { small = all-at-most numberLimit γ .0 small; notLong = omega (arith, short); hasRoom = omega (arith, short) },
-              text-written written buffer P S γ e small short,
-            )
-        go true small (no long) =
-            inr (λ limits. long (omega (arith, limits .notLong, limits .hasRoom)), long-text written buffer P S γ e small (omega (arith, long)))
+  over-limits : (γ : List Map) → greatestMaps P S ≡ some γ → (WithinLimits buffer S γ → ⊥) → text ≡ stop TooLarge
+  unfolding Settled
+  over-limits γ e large = ⊎-elim (λ w. absurd (large (w .0))) (λ o. o .1) (settled γ e)
 
-    within-limits : (γ : List Map) → greatestMaps P S ≡ some γ → WithinLimits written buffer P S γ → text ≡ on (written (P .steps) (filled S γ))
-    unfolding Settled
-    within-limits γ e limits = ⊎-elim (λ w. w .1) (λ o. absurd (o .0 limits)) (settled γ e)
+  found-not-refused : {C : Type 0} (γ : List Map) → greatestMaps P S ≡ some γ → text ≡ stop NoAfterMaps → C
+  unfolding Settled
+  found-not-refused γ e h = ⊎-elim (λ w. stop-is-not-on (sym h ∙ w .1)) (λ o. too-large-is-not-none (sym (o .1) ∙ h)) (settled γ e)
 
-    over-limits : (γ : List Map) → greatestMaps P S ≡ some γ → (WithinLimits written buffer P S γ → ⊥) → text ≡ stop TooLarge
-    unfolding Settled
-    over-limits γ e large = ⊎-elim (λ w. absurd (large (w .0))) (λ o. o .1) (settled γ e)
+  -- a text that is written, and what it has
+  text-has : (t : List ℕ) → text ≡ on t
+      → (γ : List Map) × (greatestMaps P S ≡ some γ) × WithinLimits buffer S γ × (t ≡ written (filled S γ))
+  unfolding Settled
+  text-has t h = go (greatestMaps P S) refl
+    where
+      go : (o : Option (List Map)) → greatestMaps P S ≡ o
+          → (γ : List Map) × (greatestMaps P S ≡ some γ) × WithinLimits buffer S γ × (t ≡ written (filled S γ))
+      go none e = stop-is-not-on (sym (no-after-maps buffer P S e) ∙ h)
+      go (some γ) e = ⊎-elim (λ w. (γ, e, w .0, on-injective (sym h ∙ w .1))) (λ o. stop-is-not-on (sym (o .1) ∙ h)) (settled γ e)
 
-    found-not-refused : {C : Type 0} (γ : List Map) → greatestMaps P S ≡ some γ → text ≡ stop NoAfterMaps → C
-    unfolding Settled
-    found-not-refused γ e h = ⊎-elim (λ w. stop-is-not-on (sym h ∙ w .1)) (λ o. too-large-is-not-none (sym (o .1) ∙ h)) (settled γ e)
+module _ (room buffer : ℕ) (p s : List ℕ) where
+  abbrev answered : Out (List ℕ)
+  answered = fill room buffer p s
 
-    -- a text that is written, and what it has
-    text-has : (t : List ℕ) → text ≡ on t
-        → (γ : List Map) × (greatestMaps P S ≡ some γ) × WithinLimits written buffer P S γ × (t ≡ written (P .steps) (filled S γ))
-    unfolding Settled
-    text-has t h = go (greatestMaps P S) refl
-      where
-        go : (o : Option (List Map)) → greatestMaps P S ≡ o
-            → (γ : List Map) × (greatestMaps P S ≡ some γ) × WithinLimits written buffer P S γ × (t ≡ written (P .steps) (filled S γ))
-        go none e = stop-is-not-on (sym (no-after-maps written buffer P S e) ∙ h)
-        go (some γ) e = ⊎-elim (λ w. (γ, e, w .0, on-injective (sym h ∙ w .1))) (λ o. stop-is-not-on (sym (o .1) ∙ h)) (settled γ e)
+  -- 41 and 42 decide once all that is judged before them is passed
+  pub fillable-decides : (P : Program) (S : Split) → Fillable room p s P S → answered ≡ filledText buffer P S
+  unfolding workspaceSize programLimit splitLimit givenLimit typed typeClaims allClaims
+  fillable-decides P S F =
+      start-decides room buffer p s (F .enough) (F .program .fits) P (well-formed-program p (F .program)) (F .split .fits) S (well-formed-split Fill (P .steps) s (F .split)) (F .few)
+      ∙ goes-on-bind _ _ (at-most-one-start P S (F .atMostOne)) (goes-on-bind _ _ (all-hold-none-false _ (F .typesHold)) refl)
 
-  module _ (room buffer : ℕ) (p s : List ℕ) where
-    abbrev answered : Out (List ℕ)
-    answered = fill readToFill written room buffer p s
-
-    -- 41 and 42 decide once all that is judged before them is passed
-    pub fillable-decides : (P : Program) (S : Split) → Fillable readToFill room p s P S → answered ≡ filledText written buffer P S
-    unfolding workspaceSize programLimit splitLimit givenLimit typed
-    fillable-decides P S F =
-        start-decides readToFill written room buffer p s (F .enough) (F .program .fits) P (well-formed-program p (F .program)) (F .fits) S (F .read) (F .few)
-        ∙ goes-on-bind _ _ (at-most-one-start P S (F .atMostOne)) (goes-on-bind _ _ (all-hold-none-false _ (F .typesHold)) refl)
-
-    -- a text is written only then
-    written-fillable : {t : List ℕ} → answered ≡ on t
-        → (P : Program) × (S : Split) × Fillable readToFill room p s P S × (filledText written buffer P S ≡ on t)
-    unfolding fill typed
-    written-fillable h =
-        let (_, enough, r₁) = bind-goes-on _ _ h in
-        let (_, fits, r₂) = bind-goes-on _ _ r₁ in
-        let (P, reads, r₃) = bind-goes-on _ _ r₂ in
-        let (_, fits′, r₄) = bind-goes-on _ _ r₃ in
-        let (S, splits, r₅) = bind-goes-on _ _ r₄ in
-        let (_, few, r₆) = bind-goes-on _ _ r₅ in
-        let (_, whole, r₇) = bind-goes-on _ _ r₆ in
-        let (_, types, r₈) = bind-goes-on _ _ r₇ in (
-          P,
-          S,
-          record {
-            enough = leb-true _ _ (demand-goes-on _ _ enough);
-            program = program-well-formed p (leb-true _ _ (demand-goes-on _ _ fits)) reads;
-            fits = leb-true _ _ (demand-goes-on _ _ fits′);
-            read = splits;
-            few = leb-true _ _ (demand-goes-on _ _ few);
-            atMostOne = start-at-most-one P S whole;
-            typesHold = none-false-all-hold _ types;
-          },
-          r₈,
-        )
-
-    module _ (ranges : InRangeRead) where
-      -- "41 if no such maps exist"
-      pub refused-exactly-unsolvable : (P : Program) (S : Split) → Fillable readToFill room p s P S
-          → (answered ≡ stop NoAfterMaps) ↔ ((σ : List Map) → AfterMaps P S σ → ⊥)
-      refused-exactly-unsolvable P S F = rw (fillable-decides P S F) (
-        λ h σ A. let (γ, e) = solves .1 (σ, A) in found-not-refused buffer P S γ e h,
-        λ unsolvable. no-after-maps written buffer P S (go (greatestMaps P S) refl unsolvable),
-      )
-        where
-          solves : ((γ : List Map) × (greatestMaps P S ≡ some γ)) ↔ ((σ : List Map) × AfterMaps P S σ)
-          solves = solvable P S (F .program) (ranges (P .steps) s S (F .read))
-
-          go : (o : Option (List Map)) → greatestMaps P S ≡ o → ((σ : List Map) → AfterMaps P S σ → ⊥) → o ≡ none
-          go none e unsolvable = refl
-          go (some γ) e unsolvable = let (σ, A) = solves .0 (γ, e) in absurd (unsolvable σ A)
-
-      greatest : (P : Program) (S : Split) → Fillable readToFill room p s P S → (γ : List Map) → greatestMaps P S ≡ some γ ↔ GreatestMaps P S γ
-      greatest P S F = found-exactly-greatest P S (F .program) (ranges (P .steps) s S (F .read))
-
-      -- "42 if the greatest has a number above 1,000,000,000 or the filled sheet is over 65,536 bytes or over the buffer"
-      pub refused-exactly-too-large : (P : Program) (S : Split) → Fillable readToFill room p s P S
-          → (answered ≡ stop TooLarge) ↔ ((γ : List Map) × GreatestMaps P S γ × (WithinLimits written buffer P S γ → ⊥))
-      refused-exactly-too-large P S F = rw (fillable-decides P S F) (
-        λ h. found (greatestMaps P S) refl h,
-        λ (γ, G, large). over-limits buffer P S γ (greatest P S F γ .1 G) large,
-      )
-        where
-          found : (o : Option (List Map)) → greatestMaps P S ≡ o → filledText written buffer P S ≡ stop TooLarge
-              → (γ : List Map) × GreatestMaps P S γ × (WithinLimits written buffer P S γ → ⊥)
-          found none e h = too-large-is-not-none (sym h ∙ no-after-maps written buffer P S e)
-          found (some γ) e h = (γ, greatest P S F γ .0 e, λ limits. stop-is-not-on (sym h ∙ within-limits buffer P S γ e limits))
-
-      -- "It is written exactly when .., apart from the size limits": with the greatest after-maps
-      pub written-exactly : (t : List ℕ) → answered ≡ on t ↔ Written readToFill written room buffer p s t
-      written-exactly t = (
-        λ h.
-            let (P, S, F, e) = written-fillable h in
-            let (γ, found, limits, is) = text-has buffer P S t e in
-            record { P = P; S = S; γ = γ; fillable = F; greatest = greatest P S F γ .0 found; limits = limits; isText = is },
-        λ W.
-            let F = W .fillable in
-            fillable-decides (W .P) (W .S) F
-            ∙ within-limits buffer (W .P) (W .S) (W .γ) (greatest (W .P) (W .S) F (W .γ) .1 (W .greatest)) (W .limits)
-            ∙ ap on (sym (W .isText)),
+  -- a text is written only then
+  written-fillable : {t : List ℕ} → answered ≡ on t
+      → (P : Program) × (S : Split) × Fillable room p s P S × (filledText buffer P S ≡ on t)
+  unfolding fill typed typeClaims allClaims
+  written-fillable h =
+      let (_, enough, r₁) = bind-goes-on _ _ h in
+      let (_, fits, r₂) = bind-goes-on _ _ r₁ in
+      let (P, reads, r₃) = bind-goes-on _ _ r₂ in
+      let (_, fits′, r₄) = bind-goes-on _ _ r₃ in
+      let (S, splits, r₅) = bind-goes-on _ _ r₄ in
+      let (_, few, r₆) = bind-goes-on _ _ r₅ in
+      let (_, whole, r₇) = bind-goes-on _ _ r₆ in
+      let (_, types, r₈) = bind-goes-on _ _ r₇ in (
+        P,
+        S,
+        record {
+          enough = leb-true _ _ (demand-goes-on _ _ enough);
+          program = program-well-formed p (leb-true _ _ (demand-goes-on _ _ fits)) reads;
+          split = split-well-formed Fill (P .steps) s (leb-true _ _ (demand-goes-on _ _ fits′)) splits;
+          few = leb-true _ _ (demand-goes-on _ _ few);
+          atMostOne = start-at-most-one P S whole;
+          typesHold = none-false-all-hold _ types;
+        },
+        r₈,
       )
 
-      -- "The filled pair must be accepted"
-      pub written-accepted : ReadBack → (t : List ℕ) → answered ≡ on t → verdict room p t ≡ Accept
-      unfolding answer workspaceSize programLimit splitLimit givenLimit typed
-      written-accepted back t h =
-          let W = written-exactly t .0 h in
-          let F = W .fillable in
-          let S = W .S in
-          let A = W .greatest .afterMaps in
-          let R = ranges (W .P .steps) s S (F .read) in
-          let found = greatest (W .P) S F (W .γ) .1 (W .greatest) in
-          let reads = back (W .P .steps) s S (W .γ) (F .read) (A .counted) (omega (arith, A .counted, F .few, steps-few (W .P) (F .program))) (A .wide) (W .limits .small) in
-          rules-decide room p t (F .enough) (F .program .fits) (W .P) (well-formed-program p (F .program)) (omega (arith, ap length (W .isText), W .limits .notLong)) (filled S (W .γ)) (ap (split (W .P .steps)) (W .isText) ∙ reads)
-          ∙ ap answer (goes-on-bind _ _ (start-kept (W .P) S (F .program) R (W .γ) ∙ at-most-one-start (W .P) S (F .atMostOne))
-          (filled-accepted (W .P) S (F .program) R (W .γ) (all-hold-none-false _ (F .typesHold)) found))
+  -- "41 if no such maps exist"
+  pub refused-exactly-unsolvable : (P : Program) (S : Split) → Fillable room p s P S
+      → (answered ≡ stop NoAfterMaps) ↔ ((σ : List Map) → AfterMaps P S σ → ⊥)
+  refused-exactly-unsolvable P S F = rw (fillable-decides P S F) (
+    λ h σ A. let (γ, e) = solves .1 (σ, A) in found-not-refused buffer P S γ e h,
+    λ unsolvable. no-after-maps buffer P S (go (greatestMaps P S) refl unsolvable),
+  )
+    where
+      solves : ((γ : List Map) × (greatestMaps P S ≡ some γ)) ↔ ((σ : List Map) × AfterMaps P S σ)
+      solves = solvable P S (F .program) (well-formed-in-range (F .split))
+
+      go : (o : Option (List Map)) → greatestMaps P S ≡ o → ((σ : List Map) → AfterMaps P S σ → ⊥) → o ≡ none
+      go none e unsolvable = refl
+      go (some γ) e unsolvable = let (σ, A) = solves .0 (γ, e) in absurd (unsolvable σ A)
+
+  greatest : (P : Program) (S : Split) → Fillable room p s P S → (γ : List Map) → greatestMaps P S ≡ some γ ↔ GreatestMaps P S γ
+  greatest P S F = found-exactly-greatest P S (F .program) (well-formed-in-range (F .split))
+
+  -- "42 if the greatest has a number above 1,000,000,000 or the filled sheet is over 65,536 bytes or over the buffer"
+  pub refused-exactly-too-large : (P : Program) (S : Split) → Fillable room p s P S
+      → (answered ≡ stop TooLarge) ↔ ((γ : List Map) × GreatestMaps P S γ × (WithinLimits buffer S γ → ⊥))
+  refused-exactly-too-large P S F = rw (fillable-decides P S F) (
+    λ h. found (greatestMaps P S) refl h,
+    λ (γ, G, large). over-limits buffer P S γ (greatest P S F γ .1 G) large,
+  )
+    where
+      found : (o : Option (List Map)) → greatestMaps P S ≡ o → filledText buffer P S ≡ stop TooLarge
+          → (γ : List Map) × GreatestMaps P S γ × (WithinLimits buffer S γ → ⊥)
+      found none e h = too-large-is-not-none (sym h ∙ no-after-maps buffer P S e)
+      found (some γ) e h = (γ, greatest P S F γ .0 e, λ limits. stop-is-not-on (sym h ∙ within-limits buffer P S γ e limits))
+
+  -- "It is written exactly when .., apart from the size limits": with the greatest after-maps
+  pub written-exactly : (t : List ℕ) → answered ≡ on t ↔ Written room buffer p s t
+  written-exactly t = (
+    λ h.
+        let (P, S, F, e) = written-fillable h in
+        let (γ, found, limits, is) = text-has buffer P S t e in
+        record { P = P; S = S; γ = γ; fillable = F; greatest = greatest P S F γ .0 found; limits = limits; isText = is },
+    λ W.
+        let F = W .fillable in
+        fillable-decides (W .P) (W .S) F
+        ∙ within-limits buffer (W .P) (W .S) (W .γ) (greatest (W .P) (W .S) F (W .γ) .1 (W .greatest)) (W .limits)
+        ∙ ap on (sym (W .isText)),
+  )
+
+  -- "The filled pair must be accepted"
+  pub written-accepted : (t : List ℕ) → answered ≡ on t → verdict room p t ≡ Accept
+  unfolding answer workspaceSize programLimit splitLimit givenLimit typed typeClaims allClaims
+  written-accepted t h =
+      let W = written-exactly t .0 h in
+      let F = W .fillable in
+      let S = W .S in
+      let A = W .greatest .afterMaps in
+      let R = well-formed-in-range (F .split) in
+      let found = greatest (W .P) S F (W .γ) .1 (W .greatest) in
+      let reads = filled-reads-back S (W .γ) (omega (arith, A .counted, F .few, steps-few (W .P) (F .program))) (A .wide) (W .limits .small) (A .counted) (F .split) in
+      rules-decide room p t (F .enough) (F .program .fits) (W .P) (well-formed-program p (F .program)) (omega (arith, ap length (W .isText), W .limits .notLong)) (filled S (W .γ)) (ap (split Check (W .P .steps)) (W .isText) ∙ reads)
+      ∙ ap answer (goes-on-bind _ _ (start-kept (W .P) S (F .program) R (W .γ) ∙ at-most-one-start (W .P) S (F .atMostOne))
+      (filled-accepted (W .P) S (F .program) R (W .γ) (all-hold-none-false _ (F .typesHold)) found))

@@ -1,13 +1,13 @@
 -- The posts found at each location, and the maps that they make.
 use mathlib.Core.Path.{_≡_, refl, ap, sym, _∙_}
 use mathlib.Core.List.{List, [], _∷_}
-use mathlib.Core.Option.{Option, some}
+use mathlib.Core.Option.{Option, none, some}
 use Prim.Native.Nat.{ℕ, zero, suc, _+_, _<_}
 use native.Mathlib.Omega.{arith}
 use lib.ListN.{length, getD, length-map, List·getD-map}
 use Rattle.spec.specs.Maps.{share}
 use Rattle.spec.specs.declared.Location.{Location}
-use Rattle.filling.specs.Found.{forEach}
+use Rattle.filling.specs.Found.{_>>=_, forEach}
 use Rattle.filling.specs.GreatestMaps.{mapOfStep, mapsOfSteps}
 use Rattle.filling.proofs.Found.{some-injective, bind-finds, finds-bind}
 
@@ -40,6 +40,19 @@ find-each f l (suc n) h =
     let z : l + 0 ≡ l = omega arith in
     let (rest, h₂) = find-each f (l + 1) n (λ q i. let s : l + suc q ≡ l + 1 + q = omega arith in rw s at (h (suc q) (omega arith))) in
     (a ∷ rest, finds-bind _ _ (rw z at h₁) (finds-bind _ _ h₂ refl))
+
+-- nothing is found for all where there is none for one
+pub miss-one : {A : Type 0} (f : ℕ → Option A) (l n q : ℕ) → q < n → f (l + q) ≡ none → forEach f l n ≡ none
+unfolding forEach _>>=_
+miss-one f l zero q h e = absurd (omega arith)
+miss-one f l (suc n) zero h e = let z : l + 0 ≡ l = omega arith in rw (rw z at e)
+miss-one f l (suc n) (suc q) h e =
+    let z : l + suc q ≡ l + 1 + q = omega arith in
+    rest-missed (f l) (miss-one f (l + 1) n q (omega arith) (rw z at e))
+  where
+    rest-missed : (o : Option _) → forEach f (l + 1) n ≡ none → (o >>= λ a. forEach f (l + 1) n >>= λ rest. some (a ∷ rest)) ≡ none
+    rest-missed none m = refl
+    rest-missed (some a) m = rw m
 
 -- ------------------------------------------------------------------ the maps of the steps
 

@@ -12,7 +12,7 @@ use Rattle.spec.specs.Expression.{Step, Expr, leaf, unary, binary, size}
 use Rattle.spec.specs.Split.{Map, Split}
 use Rattle.spec.specs.Maps.{share}
 use Rattle.spec.specs.Conditions.{Env, type, post, start, own}
-use Rattle.spec.specs.Sites.{Site, sites, preOfPart, preOfSecond, bind, numbered, claimsAt, claims}
+use Rattle.spec.specs.Sites.{Site, sites, preOfPart, preOfSecond, bind, numbered, claimsAt, claims, isFlow, only}
 use Rattle.spec.specs.FirstFalse.{Holds, AllHold}
 use Rattle.spec.specs.declared.Location.{Location}
 use Rattle.spec.specs.declared.LeafWord.{LeafWord}
@@ -21,7 +21,6 @@ use Rattle.spec.specs.declared.UnaryWord.{UnaryWord}
 use Rattle.spec.specs.declared.UnaryWord.the-variants.{While, Join, Ref, Read, Freelock, Lock, Unlock, Post, Wait}
 use Rattle.spec.specs.declared.BinaryWord.{BinaryWord}
 use Rattle.spec.specs.declared.BinaryWord.the-variants.{Let, If, Spawn, Write}
-use Rattle.filling.specs.AfterMaps.{isFlow, only}
 use Rattle.filling.specs.Flow.{taking, Flow, inTurn, branch, fork, Turns, Passes}
 use Rattle.filling.specs.FlowOf.{loadHere, startHere, accessHere, flowOf}
 use Rattle.filling.specs.declared.Effect.{Effect}

@@ -15,7 +15,7 @@ use Rattle.spec.specs.Program.{Program}
 use Rattle.spec.specs.Split.{Map, Split}
 use Rattle.spec.specs.Maps.{share, overWhole}
 use Rattle.spec.specs.Conditions.{lineOf, startMap}
-use Rattle.spec.specs.Verdict.{refuseOver, ruled, startAtMostOne}
+use Rattle.spec.specs.Verdict.{refuseOver, ruled, typed, startAtMostOne}
 use Rattle.spec.specs.FirstFalse.{AllHold}
 use Rattle.spec.specs.WellFormed.{WellFormedProgram}
 use Rattle.spec.specs.Ranges.{InRange}
@@ -23,7 +23,7 @@ use Rattle.spec.specs.declared.Location.{Location}
 use Rattle.spec.proofs.Claims.{none-false-all-hold, all-hold-none-false}
 use Rattle.spec.proofs.Listing.{prefix-length}
 use Rattle.filling.specs.Filled.{filled}
-use Rattle.filling.specs.AfterMaps.{allClaims, typeClaims, flowClaims, typed, AfterMaps, NowhereAbove, GreatestMaps, shownMaps}
+use Rattle.filling.specs.AfterMaps.{allClaims, typeClaims, flowClaims, AfterMaps, NowhereAbove, GreatestMaps, shownMaps}
 use Rattle.filling.specs.Found.{forEach}
 use Rattle.filling.specs.Flow.{Passes, pass}
 use Rattle.filling.specs.FlowOf.{flowOf}

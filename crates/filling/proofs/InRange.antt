@@ -13,7 +13,7 @@ use Rattle.filling.specs.Filled.{withPosts, filled}
 use Rattle.filling.proofs.Kept.{rows-kept, rows-post}
 use Rattle.filling.proofs.Placed.{Given}
 
-rows-counted : (m : ℕ) (rs : List Row) → length (withPosts m rs) ≡ length rs
+pub rows-counted : (m : ℕ) (rs : List Row) → length (withPosts m rs) ≡ length rs
 unfolding withPosts
 rows-counted m [] = refl
 rows-counted m (r ∷ rs) = ap suc (rows-counted (m + 1) rs)

@@ -11,5 +11,6 @@ pub mod Columns
 pub mod Filling
 pub mod Reasons
 pub mod Limits
+pub mod ReadBack
 pub mod Answer
 pub mod Examples

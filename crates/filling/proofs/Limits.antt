@@ -19,7 +19,7 @@ use Rattle.spec.proofs.Tests.{both-true}
 use Rattle.spec.proofs.Ranges.{wrong-is-not-right, seen-right, in-range-at, in-to}
 use Rattle.filling.specs.Answer.{mapAtMost, allAtMost}
 
-map-at-most : (limit : ℕ) (m : Map) → mapAtMost limit m ≡ true ↔ AtMost limit m
+pub map-at-most : (limit : ℕ) (m : Map) → mapAtMost limit m ≡ true ↔ AtMost limit m
 unfolding mapAtMost
 map-at-most limit [] = (λ h. noneAtMost, λ h. refl)
 map-at-most limit (a ∷ m) = (

@@ -8,45 +8,45 @@ use Prim.Native.Nat.{ℕ, _≤_, _<_, min}
 use lib.ListN.{length}
 use borrow.Author.Tests.{le-leb, lt-leb}
 use Rattle.spec.specs.Reading.{Out, stop, on, _>>=_, demand}
-use Rattle.spec.specs.Expression.{Step}
 use Rattle.spec.specs.Program.{Program, program, programLimit}
-use Rattle.spec.specs.Split.{Map, Split, splitLimit}
+use Rattle.spec.specs.Split.{Map, Split, split, splitLimit}
 use Rattle.spec.specs.Workspace.{workspaceSize}
-use Rattle.spec.specs.Verdict.{startAtMostOne}
+use Rattle.spec.specs.Verdict.{startAtMostOne, typed}
+use Rattle.spec.specs.declared.Purpose.the-variants.{Fill}
 use Rattle.spec.specs.declared.Refusal.{Refusal}
 use Rattle.spec.specs.declared.Refusal.the-variants.{ShortWorkspace, LongProgram, LongSplit, NoAfterMaps, TooLarge, TooManyMaps}
+use Rattle.writer.specs.Sheet.{written}
 use Rattle.filling.specs.Filled.{filled}
-use Rattle.filling.specs.AfterMaps.{typed}
 use Rattle.filling.specs.GreatestMaps.{greatestMaps}
 use Rattle.filling.specs.Answer.{givenLimit, numberLimit, allAtMost, foundOr, filledText, fill}
 
 -- ------------------------------------------------------------------ 41 and 42
 
-module _ (written : List Step → Split → List ℕ) (buffer : ℕ) (P : Program) (S : Split) where
-  pub no-after-maps : greatestMaps P S ≡ none → filledText written buffer P S ≡ stop NoAfterMaps
+module _ (buffer : ℕ) (P : Program) (S : Split) where
+  pub no-after-maps : greatestMaps P S ≡ none → filledText buffer P S ≡ stop NoAfterMaps
   unfolding filledText foundOr _>>=_
   no-after-maps e = rw e
 
   module _ (γ : List Map) (found : greatestMaps P S ≡ some γ) where
-    pub large-number : allAtMost 1000000000 γ ≡ false → filledText written buffer P S ≡ stop TooLarge
+    pub large-number : allAtMost 1000000000 γ ≡ false → filledText buffer P S ≡ stop TooLarge
     unfolding filledText foundOr _>>=_ demand numberLimit
     large-number h = rw (found, h)
 
     module _ (small : allAtMost 1000000000 γ ≡ true) where
-      pub long-text : min 65536 buffer < length (written (P .steps) (filled S γ)) → filledText written buffer P S ≡ stop TooLarge
+      pub long-text : min 65536 buffer < length (written (filled S γ)) → filledText buffer P S ≡ stop TooLarge
       unfolding filledText foundOr _>>=_ demand numberLimit splitLimit
       long-text h = rw (found, small, lt-leb _ _ h)
 
-      pub text-written : length (written (P .steps) (filled S γ)) ≤ min 65536 buffer
-          → filledText written buffer P S ≡ on (written (P .steps) (filled S γ))
+      pub text-written : length (written (filled S γ)) ≤ min 65536 buffer
+          → filledText buffer P S ≡ on (written (filled S γ))
       unfolding filledText foundOr _>>=_ demand numberLimit splitLimit
       text-written h = rw (found, small, le-leb _ _ h)
 
 -- ------------------------------------------------------------------ before them
 
-module _ (readToFill : List Step → List ℕ → Out Split) (written : List Step → Split → List ℕ) (room buffer : ℕ) (p s : List ℕ) where
+module _ (room buffer : ℕ) (p s : List ℕ) where
   abbrev answered : Out (List ℕ)
-  answered = fill readToFill written room buffer p s
+  answered = fill room buffer p s
 
   pub short-workspace : room < 16384 → answered ≡ stop ShortWorkspace
   unfolding fill demand _>>=_ workspaceSize
@@ -68,16 +68,16 @@ module _ (readToFill : List Step → List ℕ → Out Split) (written : List Ste
         long-split h = rw (le-leb _ _ enough, le-leb _ _ fits, reads, lt-leb _ _ h)
 
         module _ (fits′ : length s ≤ 65536) where
-          pub split-refused : (r : Refusal) → readToFill (P .steps) s ≡ stop r → answered ≡ stop r
+          pub split-refused : (r : Refusal) → split Fill (P .steps) s ≡ stop r → answered ≡ stop r
           unfolding fill demand _>>=_ workspaceSize programLimit splitLimit
           split-refused r e = rw (le-leb _ _ enough, le-leb _ _ fits, reads, le-leb _ _ fits′, e)
 
-          module _ (S : Split) (splits : readToFill (P .steps) s ≡ on S) where
+          module _ (S : Split) (splits : split Fill (P .steps) s ≡ on S) where
             pub many-maps : 256 < S .header .maps → answered ≡ stop TooManyMaps
             unfolding fill demand _>>=_ workspaceSize programLimit splitLimit givenLimit
             many-maps h = rw (le-leb _ _ enough, le-leb _ _ fits, reads, le-leb _ _ fits′, splits, lt-leb _ _ h)
 
             pub start-decides : S .header .maps ≤ 256
-                → answered ≡ (startAtMostOne P S >>= λ whole. typed P S >>= λ typesHold. filledText written buffer P S)
+                → answered ≡ (startAtMostOne P S >>= λ whole. typed P S >>= λ typesHold. filledText buffer P S)
             unfolding fill demand _>>=_ workspaceSize programLimit splitLimit givenLimit
             start-decides few = rw (le-leb _ _ enough, le-leb _ _ fits, reads, le-leb _ _ fits′, splits, le-leb _ _ few)

@@ -4,25 +4,13 @@ use mathlib.Core.Bool.{Bool, true, false}
 use mathlib.Core.List.{List, [], _∷_, _++_}
 use mathlib.Core.Logic.{_↔_}
 use Prim.Native.Nat.{ℕ}
-use Rattle.spec.specs.Choice.{if_then_else_}
 use Rattle.spec.specs.Split.{Split}
 use Rattle.spec.specs.Conditions.{Condition, T, F, A}
-use Rattle.spec.specs.Sites.{Site, Claim, claimsAt, claims}
+use Rattle.spec.specs.Sites.{Site, Claim, claimsAt, claims, isType, isFlow, only}
 use Rattle.spec.specs.FirstFalse.{AllHold}
-use Rattle.spec.proofs.Claims.{all-hold-parts, all-hold-append, claims-append}
-use Rattle.filling.specs.AfterMaps.{isType, isFlow, only}
+use Rattle.spec.proofs.Claims.{only-append, all-hold-parts, all-hold-append, claims-append}
 
 module _ (sort : Condition → Bool) where
-  pub only-append : (xs ys : List Claim) → only sort (xs ++ ys) ≡ only sort xs ++ only sort ys
-  unfolding only
-  only-append [] ys = refl
-  only-append (c ∷ xs) ys = go (sort (c .condition)) (only-append xs ys)
-    where
-      go : (b : Bool) → only sort (xs ++ ys) ≡ only sort xs ++ only sort ys
-          → (if b then c ∷ only sort (xs ++ ys) else only sort (xs ++ ys)) ≡ (if b then c ∷ only sort xs else only sort xs) ++ only sort ys
-      go true e = ap (c ∷_) e
-      go false e = e
-
   -- all claims of the sort hold at each of the sites
   abbrev pub AllAt : Split → List Site → Type 0
   AllAt S ss = AllHold (only sort (claims S ss))
@@ -33,15 +21,15 @@ module _ (sort : Condition → Bool) where
   module _ (S : Split) where
     pub step-parts : (s : Site) (ss : List Site) → AllAt S (s ∷ ss) → OwnAt S s × AllAt S ss
     unfolding claims
-    step-parts s ss h = all-hold-parts (only sort (claimsAt S s)) (only sort (claims S ss)) (subst AllHold (only-append (claimsAt S s) (claims S ss)) h)
+    step-parts s ss h = all-hold-parts (only sort (claimsAt S s)) (only sort (claims S ss)) (subst AllHold (only-append sort (claimsAt S s) (claims S ss)) h)
 
     pub parts-step : (s : Site) (ss : List Site) → OwnAt S s → AllAt S ss → AllAt S (s ∷ ss)
     unfolding claims
     parts-step s ss p q =
-        subst AllHold (sym (only-append (claimsAt S s) (claims S ss))) (all-hold-append (only sort (claimsAt S s)) (only sort (claims S ss)) p q)
+        subst AllHold (sym (only-append sort (claimsAt S s) (claims S ss))) (all-hold-append (only sort (claimsAt S s)) (only sort (claims S ss)) p q)
 
     sites-append : (xs ys : List Site) → only sort (claims S (xs ++ ys)) ≡ only sort (claims S xs) ++ only sort (claims S ys)
-    sites-append xs ys = ap (only sort) (claims-append S xs ys) ∙ only-append (claims S xs) (claims S ys)
+    sites-append xs ys = ap (only sort) (claims-append S xs ys) ∙ only-append sort (claims S xs) (claims S ys)
 
     pub both-parts : (xs ys : List Site) → AllAt S (xs ++ ys) → AllAt S xs × AllAt S ys
     both-parts xs ys h = all-hold-parts (only sort (claims S xs)) (only sort (claims S ys)) (subst AllHold (sites-append xs ys) h)

@@ -4,16 +4,15 @@ use mathlib.Core.List.{List, _∷_, _++_}
 use Rattle.spec.specs.Expression.{Step, Expr, leaf, unary, binary}
 use Rattle.spec.specs.Split.{Map, Split}
 use Rattle.spec.specs.Conditions.{Env, type, post, start, own}
-use Rattle.spec.specs.Sites.{Site, Claim, sites, bind, preOfPart, preOfSecond, numbered, claimsAt, claims}
+use Rattle.spec.specs.Sites.{Site, Claim, sites, bind, preOfPart, preOfSecond, numbered, claimsAt, claims, isType, only}
 use Rattle.spec.specs.Ranges.{InRange}
 use Rattle.spec.specs.declared.LeafWord.the-variants.{Var, Int, Newtid, Newlock, Newsem}
 use Rattle.spec.specs.declared.UnaryWord.the-variants.{While, Join, Ref, Read, Freelock, Lock, Unlock, Post, Wait}
 use Rattle.spec.specs.declared.BinaryWord.the-variants.{Let, If, Spawn, Write}
 use Rattle.spec.proofs.Claims.{claims-append}
 use Rattle.filling.specs.Filled.{filled}
-use Rattle.filling.specs.AfterMaps.{isType, only}
 use Rattle.filling.proofs.Kept.{type-kept, kind-kept, agree-kept, contains-kept}
-use Rattle.filling.proofs.Sorts.{only-append}
+use Rattle.spec.proofs.Claims.{only-append}
 
 -- two lists of sites have the same claims on types
 record Alike (S : Split) (ss : List Site) (S′ : Split) (ss′ : List Site) : Type 0 where

@@ -1,37 +1,19 @@
 -- After-maps: those that pass all flow and access conditions, and the greatest of them. The conditions are those of `own`, the
 -- table of document 01, of the split with the maps filled in.
 use mathlib.Core.Path.{_≡_}
-use mathlib.Core.Bool.{Bool, true, false}
 use mathlib.Core.List.{List, [], _∷_, map}
 use Prim.Native.Nat.{ℕ, _≤_, _<_}
 use lib.ListN.{length, getD}
-use Rattle.spec.specs.Choice.{if_then_else_}
-use Rattle.spec.specs.Reading.{Out}
 use Rattle.spec.specs.Program.{Program}
 use Rattle.spec.specs.Split.{Map, Row, Split, mapAt}
 use Rattle.spec.specs.Maps.{share}
-use Rattle.spec.specs.Conditions.{Condition, T, F, A, startMap}
-use Rattle.spec.specs.Sites.{Claim, sites, claims, firstFalse}
+use Rattle.spec.specs.Conditions.{startMap}
+use Rattle.spec.specs.Sites.{Claim, sites, claims, isType, isFlow, only}
 use Rattle.spec.specs.FirstFalse.{AllHold}
 use Rattle.spec.specs.declared.Location.{Location}
 use Rattle.filling.specs.Filled.{filled}
 
 -- ------------------------------------------------------------------ two sorts of claims
-
-unfoldable pub isType : Condition → Bool
-isType (T b) = true
-isType (F o) = false
-isType (A b p) = false
-
-unfoldable pub isFlow : Condition → Bool
-isFlow (T b) = false
-isFlow (F o) = true
-isFlow (A b p) = true
-
--- the claims of one sort
-unfoldable pub only : (Condition → Bool) → List Claim → List Claim
-only sort [] = []
-only sort (c ∷ cs) = if sort (c .condition) then c ∷ only sort cs else only sort cs
 
 unfoldable pub allClaims : Program → Split → List Claim
 allClaims P S = claims S (sites S [] (startMap S) (P .root))
@@ -42,10 +24,6 @@ typeClaims P S = only isType (allClaims P S)
 
 unfoldable pub flowClaims : Program → Split → List Claim
 flowClaims P S = only isFlow (allClaims P S)
-
--- 31: the first (T) condition that is false, whatever flow conditions are false before it
-unfoldable pub typed : Program → Split → Out (Unit {0})
-typed P S = firstFalse (typeClaims P S)
 
 -- ------------------------------------------------------------------ after-maps
 

@@ -7,21 +7,22 @@ use Prim.Native.Nat.{ℕ, _≤_, min}
 use lib.Dec.{leb}
 use lib.ListN.{length, getD, drop}
 use Rattle.spec.specs.Reading.{Out, stop, on, _>>=_, demand}
-use Rattle.spec.specs.Expression.{Step}
 use Rattle.spec.specs.Program.{Program, program, programLimit}
-use Rattle.spec.specs.Split.{Map, Split, splitLimit}
+use Rattle.spec.specs.Split.{Map, Split, split, splitLimit}
 use Rattle.spec.specs.Conditions.{startMap}
 use Rattle.spec.specs.Workspace.{workspaceSize}
-use Rattle.spec.specs.Verdict.{startAtMostOne, four, returned}
+use Rattle.spec.specs.Verdict.{startAtMostOne, typed, four, returned}
 use Rattle.spec.specs.FirstFalse.{AllHold}
-use Rattle.spec.specs.WellFormed.{WellFormedProgram}
+use Rattle.spec.specs.WellFormed.{WellFormedProgram, WellFormedSplit}
 use Rattle.spec.specs.Accepted.{AtMost}
+use Rattle.spec.specs.declared.Purpose.the-variants.{Fill}
 use Rattle.spec.specs.declared.Returned.{Returned}
 use Rattle.spec.specs.declared.Answer.the-variants.{Refuse}
 use Rattle.spec.specs.declared.Refusal.{Refusal}
 use Rattle.spec.specs.declared.Refusal.the-variants.{ShortWorkspace, LongProgram, LongSplit, NoAfterMaps, TooLarge, TooManyMaps}
+use Rattle.writer.specs.Sheet.{written}
 use Rattle.filling.specs.Filled.{filled}
-use Rattle.filling.specs.AfterMaps.{typeClaims, typed, GreatestMaps}
+use Rattle.filling.specs.AfterMaps.{typeClaims, GreatestMaps}
 use Rattle.filling.specs.GreatestMaps.{greatestMaps}
 
 -- "43 if the given sheet has over 256 maps"
@@ -46,57 +47,53 @@ unfoldable pub foundOr : {A : Type 0} → Refusal → Option A → Out A
 foundOr r none = stop r
 foundOr r (some a) = on a
 
--- how a split is written
-module _ (written : List Step → Split → List ℕ) where
-  -- 41 and 42: the text of the split with its greatest after-maps, for a buffer of so many bytes
-  unfoldable pub filledText : (buffer : ℕ) → Program → Split → Out (List ℕ)
-  filledText buffer P S = do
-    γ ← foundOr NoAfterMaps (greatestMaps P S)
-    small ← demand (allAtMost numberLimit γ) TooLarge
-    short ← demand (leb (length (written (P .steps) (filled S γ))) (min splitLimit buffer)) TooLarge
-    on (written (P .steps) (filled S γ))
+-- 41 and 42: the text of the split with its greatest after-maps, for a buffer of so many bytes
+unfoldable pub filledText : (buffer : ℕ) → Program → Split → Out (List ℕ)
+filledText buffer P S = do
+  γ ← foundOr NoAfterMaps (greatestMaps P S)
+  small ← demand (allAtMost numberLimit γ) TooLarge
+  short ← demand (leb (length (written (filled S γ))) (min splitLimit buffer)) TooLarge
+  on (written (filled S γ))
 
-  -- the split with the maps γ filled in keeps the size limits
-  pub record WithinLimits (buffer : ℕ) (P : Program) (S : Split) (γ : List Map) : Type 0 where
-    pub small : (i : ℕ) → AtMost numberLimit (getD γ i [])
-    pub notLong : length (written (P .steps) (filled S γ)) ≤ splitLimit
-    pub hasRoom : length (written (P .steps) (filled S γ)) ≤ buffer
+-- the answer to a pair of texts, with a work space of `room` numbers and a buffer of `buffer` bytes
+unfoldable pub fill : (room buffer : ℕ) → (programText splitText : List ℕ) → Out (List ℕ)
+fill room buffer programText splitText = do
+  enough ← demand (leb workspaceSize room) ShortWorkspace
+  fits ← demand (leb (length programText) programLimit) LongProgram
+  P ← program programText
+  fits′ ← demand (leb (length splitText) splitLimit) LongSplit
+  S ← split Fill (P .steps) splitText
+  few ← demand (leb (S .header .maps) givenLimit) TooManyMaps
+  whole ← startAtMostOne P S
+  typesHold ← typed P S
+  filledText buffer P S
 
--- how a sheet is read whose step lines leave m empty
-module _ (readToFill : List Step → List ℕ → Out Split) where
-  -- nothing is refused before 41: both sheets are well formed, at most 256 maps are given, 30 and every (T) condition pass
-  pub record Fillable (room : ℕ) (programText splitText : List ℕ) (P : Program) (S : Split) : Type 0 where
-    pub enough : workspaceSize ≤ room
-    pub program : WellFormedProgram programText P
-    pub fits : length splitText ≤ splitLimit
-    pub read : readToFill (P .steps) splitText ≡ on S
-    pub few : S .header .maps ≤ givenLimit
-    pub atMostOne : AtMost (S .header .denominator) (startMap S)
-    pub typesHold : AllHold (typeClaims P S)
+-- ------------------------------------------------------------------ when a sheet is written
 
-module _ (readToFill : List Step → List ℕ → Out Split) (written : List Step → Split → List ℕ) where
-  -- the answer to a pair of texts, with a work space of `room` numbers and a buffer of `buffer` bytes
-  unfoldable pub fill : (room buffer : ℕ) → (programText splitText : List ℕ) → Out (List ℕ)
-  fill room buffer programText splitText = do
-    enough ← demand (leb workspaceSize room) ShortWorkspace
-    fits ← demand (leb (length programText) programLimit) LongProgram
-    P ← program programText
-    fits′ ← demand (leb (length splitText) splitLimit) LongSplit
-    S ← readToFill (P .steps) splitText
-    few ← demand (leb (S .header .maps) givenLimit) TooManyMaps
-    whole ← startAtMostOne P S
-    typesHold ← typed P S
-    filledText written buffer P S
+-- nothing is refused before 41: both sheets are well formed, at most 256 maps are given, 30 and every (T) condition pass
+pub record Fillable (room : ℕ) (programText splitText : List ℕ) (P : Program) (S : Split) : Type 0 where
+  pub enough : workspaceSize ≤ room
+  pub program : WellFormedProgram programText P
+  pub split : WellFormedSplit Fill (P .steps) splitText S
+  pub few : S .header .maps ≤ givenLimit
+  pub atMostOne : AtMost (S .header .denominator) (startMap S)
+  pub typesHold : AllHold (typeClaims P S)
 
-  -- a text that is written: that of the split with its greatest after-maps, within the size limits
-  pub record Written (room buffer : ℕ) (programText splitText text : List ℕ) : Type 0 where
-    pub P : Program
-    pub S : Split
-    pub γ : List Map
-    pub fillable : Fillable readToFill room programText splitText P S
-    pub greatest : GreatestMaps P S γ
-    pub limits : WithinLimits written buffer P S γ
-    pub isText : text ≡ written (P .steps) (filled S γ)
+-- the split with the maps γ filled in keeps the size limits
+pub record WithinLimits (buffer : ℕ) (S : Split) (γ : List Map) : Type 0 where
+  pub small : (i : ℕ) → AtMost numberLimit (getD γ i [])
+  pub notLong : length (written (filled S γ)) ≤ splitLimit
+  pub hasRoom : length (written (filled S γ)) ≤ buffer
+
+-- a text that is written: that of the split with its greatest after-maps, within the size limits
+pub record Written (room buffer : ℕ) (programText splitText text : List ℕ) : Type 0 where
+  pub P : Program
+  pub S : Split
+  pub γ : List Map
+  pub fillable : Fillable room programText splitText P S
+  pub greatest : GreatestMaps P S γ
+  pub limits : WithinLimits buffer S γ
+  pub isText : text ≡ written (filled S γ)
 
 -- ------------------------------------------------------------------ what is returned
 

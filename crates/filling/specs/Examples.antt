@@ -1,18 +1,17 @@
--- Tables of pairs: the greatest after-maps of each, or that there are none; and whole answers. The splits show a map on every step
--- line and are read as for checking, since what they show there plays no part.
+-- Tables of pairs: the greatest after-maps of each, or that there are none; whole answers; and sheets before and after.
 use mathlib.Core.Path.{_≡_}
-use mathlib.Core.List.{List, [], _∷_, _++_, map}
+use mathlib.Core.List.{List, [], _∷_, map}
 use mathlib.Core.Option.{Option, none, some}
 use Prim.Native.Nat.{ℕ}
 use Prim.Native.String.{String, _++_ as _++ˢ_}
 use Rattle.spec.specs.Reading.{Out, on, _>>=_}
-use Rattle.spec.specs.Expression.{Step}
 use Rattle.spec.specs.Program.{program}
-use Rattle.spec.specs.Split.{Map, Split, split}
+use Rattle.spec.specs.Split.{Map, split, splitLimit}
 use Rattle.spec.specs.Workspace.{workspaceSize}
 use Rattle.spec.specs.Verdict.{four}
-use Rattle.spec.specs.KnownPairs.{Pair, barred, _with_is_, P, S}
+use Rattle.spec.specs.KnownPairs.{Pair, barred, _with_is_, P}
 use Rattle.spec.specs.EdgeSheets.{times}
+use Rattle.spec.specs.declared.Purpose.the-variants.{Fill}
 use Rattle.spec.specs.declared.Returned.{Returned}
 use Rattle.filling.specs.GreatestMaps.{greatestMaps}
 use Rattle.filling.specs.Answer.{fill, numbersOf}
@@ -30,38 +29,43 @@ p with s has ms = record { program = p; split = s; maps = ms }
 
 -- what the definitions give a pair
 unfoldable pub mapsFound : Example → Out (Option (List Map))
-mapsFound r = program (barred (r .program)) >>= λ p. split (p .steps) (barred (r .split)) >>= λ s. on (greatestMaps p s)
+mapsFound r = program (barred (r .program)) >>= λ p. split Fill (p .steps) (barred (r .split)) >>= λ s. on (greatestMaps p s)
 
 -- maps of one location
 unfoldable pub ones : List ℕ → Option (List Map)
 ones ns = some (map (λ n. n ∷ []) ns)
+
+-- document 01's S as a `C2` sheet without after-maps, with the start of its spawn
+unfoldable pub unfilled : String → String
+unfilled start =
+    "C2,2,1,3,2,0|int,0,0|ref,0,0|tid,1,0|2|1|0,,|1,,|0,,|0,,|2,,|0,,|0,," ++ˢ start ++ˢ "|2,,|0,,|1,,|0,,|0,,|2,,|0,,|1,,|0,,|"
 
 -- two locks on one lock of a whole, and so many unlocks
 unfoldable pub twoLocks : String → String
 twoLocks unlocks = "let,0|newlock,0|let,1|lock,0|var,0|let,2|lock,0|var,0|" ++ˢ unlocks
 
 unfoldable pub twoLocksSplit : String → String
-twoLocksSplit rows = "C2,1000000000,1,2,1,0|int,0,0|lock,0,0|1000000000|0,0,|1,0,|0,0,|0,0,|1,0,|0,0,|0,0,|1,0,|" ++ˢ rows
+twoLocksSplit rows = "C2,1000000000,1,2,1,0|int,0,0|lock,0,0|1000000000|0,,|1,,|0,,|0,,|1,,|0,,|0,,|1,,|" ++ˢ rows
 
 unfoldable pub examples : List Example
 examples =
     -- document 01's P and S; where the spawned body starts with all that there is, the write has too little
-    (P with S "2" "0,1,1" has ones (2 ∷ 2 ∷ 2 ∷ 2 ∷ 2 ∷ 2 ∷ 1 ∷ 2 ∷ 1 ∷ 1 ∷ 2 ∷ 2 ∷ 1 ∷ 2 ∷ 2 ∷ 2 ∷ [])) ∷
-    (P with S "2" "0,1,0" has none) ∷
+    (P with unfilled "1" has ones (2 ∷ 2 ∷ 2 ∷ 2 ∷ 2 ∷ 2 ∷ 1 ∷ 2 ∷ 1 ∷ 1 ∷ 2 ∷ 2 ∷ 1 ∷ 2 ∷ 2 ∷ 2 ∷ [])) ∷
+    (P with unfilled "0" has none) ∷
     -- the start is the map that the header names, and a spawn with no start keeps all
-    ("P,3|spawn,0|newtid,0|int,0|" with "C2,2,1,2,3,1|int,0,0|tid,2,0|2|1|0|0,0,|1,0,|0,0,|" has ones (1 ∷ 1 ∷ 0 ∷ [])) ∷
+    ("P,3|spawn,0|newtid,0|int,0|" with "C2,2,1,2,3,1|int,0,0|tid,2,0|2|1|0|0,,|1,,|0,,|" has ones (1 ∷ 1 ∷ 0 ∷ [])) ∷
     -- an if takes the smaller of its parts, a while keeps what it has
-    ("P,6|let,0|newlock,0|if,0|lock,0|var,0|int,0|" with "C2,1,1,2,1,0|int,0,0|lock,0,0|1|0,0,|1,0,|0,0,|0,0,|1,0,|0,0,|" has
+    ("P,6|let,0|newlock,0|if,0|lock,0|var,0|int,0|" with "C2,1,1,2,1,0|int,0,0|lock,0,0|1|0,,|1,,|0,,|0,,|1,,|0,,|" has
     ones (0 ∷ 0 ∷ 0 ∷ 1 ∷ 0 ∷ 0 ∷ [])) ∷
-    ("P,5|let,0|newlock,0|while,0|lock,0|var,0|" with "C2,1,1,2,1,0|int,0,0|lock,0,0|1|0,0,|1,0,|0,0,|0,0,|1,0,|" has
+    ("P,5|let,0|newlock,0|while,0|lock,0|var,0|" with "C2,1,1,2,1,0|int,0,0|lock,0,0|1|0,,|1,,|0,,|0,,|1,,|" has
     ones (0 ∷ 0 ∷ 0 ∷ 1 ∷ 0 ∷ [])) ∷
     -- a while whose part loses
-    ("P,5|let,0|newlock,0|while,0|unlock,0|var,0|" with "C2,1,1,2,2,0|int,0,0|lock,1,0|3|1|0,0,|1,0,|0,0,|0,0,|1,0,|" has none) ∷
+    ("P,5|let,0|newlock,0|while,0|unlock,0|var,0|" with "C2,1,1,2,2,0|int,0,0|lock,1,0|3|1|0,,|1,,|0,,|0,,|1,,|" has none) ∷
     -- a post takes, a wait gives
-    ("P,7|let,0|newsem,0|let,1|post,0|var,0|wait,0|var,0|" with "C2,2,1,2,2,0|int,0,0|sem,1,0|2|1|0,0,|1,0,|0,0,|0,0,|1,0,|0,0,|1,0,|" has
+    ("P,7|let,0|newsem,0|let,1|post,0|var,0|wait,0|var,0|" with "C2,2,1,2,2,0|int,0,0|sem,1,0|2|1|0,,|1,,|0,,|0,,|1,,|0,,|1,,|" has
     ones (2 ∷ 2 ∷ 2 ∷ 1 ∷ 2 ∷ 2 ∷ 1 ∷ [])) ∷
     -- numbers as large as they come
-    ("P,10|" ++ˢ twoLocks "unlock,0|var,0|" with twoLocksSplit "0,0,|1,0,|" has
+    ("P,10|" ++ˢ twoLocks "unlock,0|var,0|" with twoLocksSplit "0,,|1,,|" has
     ones (1000000000 ∷ 0 ∷ 1000000000 ∷ 1000000000 ∷ 0 ∷ 1000000000 ∷ 2000000000 ∷ 1000000000 ∷ 1000000000 ∷ 2000000000 ∷ [])) ∷
     []
 
@@ -70,32 +74,70 @@ AllFound rows = map mapsFound rows ≡ map (λ (r : Example). on (r .maps)) rows
 
 -- ------------------------------------------------------------------ whole answers
 
--- a writer that writes the numbers of the maps and nothing else
-unfoldable pub numbersIn : List Map → List ℕ
-numbersIn [] = []
-numbersIn (m ∷ ms) = m ++ numbersIn ms
-
-unfoldable pub mapsAlone : List Step → Split → List ℕ
-mapsAlone steps S = numbersIn (S .maps)
-
 -- the answer to a pair with a buffer of so many bytes
 unfoldable pub answered : (buffer : ℕ) → Pair → Returned
-answered buffer r = numbersOf (fill split mapsAlone workspaceSize buffer (barred (r .program)) (barred (r .split)))
+answered buffer r = numbersOf (fill workspaceSize buffer (barred (r .program)) (barred (r .split)))
 
 unfoldable pub AllAnswered : (buffer : ℕ) → List Pair → Type 0
 AllAnswered buffer rows = map (answered buffer) rows ≡ map (λ (r : Pair). r .expected) rows
 
--- with a buffer of two bytes: each reason comes before the next
+-- with a buffer of 30 bytes
 unfoldable pub answers : List Pair
 answers =
-    ("P,1|int,0|" with "C2,1,1,1,1,0|int,0,0|1|0,0,|" is four 0 2 0 0) ∷
-    ("P,1|int,0|" with "C2,1,1,1,257,1|int,0,0|" ++ˢ times 257 "2|" ++ˢ "0,257,|" is four 22 260 0 0) ∷
-    ("P,1|int,0|" with "C2,1,1,1,257,1|int,0,0|" ++ˢ times 257 "2|" ++ˢ "0,0,|" is four 43 0 0 0) ∷
-    ("P,1|int,0|" with "C2,1,1,1,256,1|lock,0,0|" ++ˢ times 256 "2|" ++ˢ "0,0,|" is four 30 2 0 0) ∷
-    ("P,3|let,0|newlock,0|int,0|" with "C2,1,1,2,2,0|int,0,0|lock,1,0|0|1|1,0,|1,0,|0,0,|" is four 31 2 1 0) ∷
-    ("P,3|let,0|newlock,0|int,0|" with "C2,1,1,2,2,0|int,0,0|lock,1,0|0|1|0,0,|1,0,|0,0,|" is four 41 0 0 0) ∷
+    ("P,1|int,0|" with "C2,1,1,1,1,0|int,0,0|1|0,,|" is four 0 30 0 0) ∷
+    -- "A `C` header is 21"
+    ("P,1|int,0|" with "C,1,1,1,1|int,0,0|1|0,,|" is four 21 1 0 0) ∷
+    -- "An m that is a numeral is 22, any other m that is not empty is 21", after the form of t and s
+    ("P,1|int,0|" with "C2,1,1,1,1,0|int,0,0|1|0,0,|" is four 22 4 0 0) ∷
+    ("P,1|int,0|" with "C2,1,1,1,1,0|int,0,0|1|0,9999999999,|" is four 22 4 0 0) ∷
+    ("P,1|int,0|" with "C2,1,1,1,1,0|int,0,0|1|0,00,|" is four 21 4 0 0) ∷
+    ("P,1|int,0|" with "C2,1,1,1,1,0|int,0,0|1|0,0,x|" is four 21 4 0 0) ∷
+    ("P,1|int,0|" with "C2,1,1,1,1,0|int,0,0|1|,0,|" is four 21 4 0 0) ∷
+    ("P,1|int,0|" with "C2,1,1,1,1,0|int,0,0|1|0,|" is four 21 4 0 0) ∷
+    ("P,1|int,0|" with "C2,1,1,1,1,0|int,0,0|1|0,,,|" is four 21 4 0 0) ∷
+    -- t and s keep their ranges
+    ("P,1|int,0|" with "C2,1,1,1,1,0|int,0,0|1|1,,|" is four 22 4 0 0) ∷
+    ("P,1|int,0|" with "C2,1,1,1,1,0|int,0,0|1|0,,0|" is four 22 4 0 0) ∷
+    -- each reason comes before the next; M has its range, and 43 is for a sheet that is well formed
+    ("P,1|int,0|" with "C2,1,1,1,513,0|int,0,0|1|0,,|" is four 22 1 0 0) ∷
+    ("P,1|int,0|" with "C2,1,1,1,257,1|int,0,0|" ++ˢ times 257 "2|" ++ˢ "0,0,|" is four 22 260 0 0) ∷
+    ("P,1|int,0|" with "C2,1,1,1,257,1|int,0,0|" ++ˢ times 257 "2|" ++ˢ "0,,|" is four 43 0 0 0) ∷
+    ("P,1|int,0|" with "C2,1,1,1,256,1|lock,0,0|" ++ˢ times 256 "2|" ++ˢ "0,,|" is four 30 2 0 0) ∷
+    ("P,3|let,0|newlock,0|int,0|" with "C2,1,1,2,2,0|int,0,0|lock,1,0|0|1|1,,|1,,|0,,|" is four 31 2 1 0) ∷
+    ("P,3|let,0|newlock,0|int,0|" with "C2,1,1,2,2,0|int,0,0|lock,1,0|0|1|0,,|1,,|0,,|" is four 41 0 0 0) ∷
     ("P,16|" ++ˢ twoLocks "let,3|unlock,0|var,0|let,4|unlock,0|var,0|unlock,0|var,0|" with
-    twoLocksSplit "0,0,|0,0,|1,0,|0,0,|0,0,|1,0,|0,0,|1,0,|" is four 41 0 0 0) ∷
-    ("P,10|" ++ˢ twoLocks "unlock,0|var,0|" with twoLocksSplit "0,0,|1,0,|" is four 42 0 0 0) ∷
-    ("P,1|int,0|" with "C2,1,1,1,2,0|int,0,0|1|1|0,0,|" is four 42 0 0 0) ∷
+    twoLocksSplit "0,,|0,,|1,,|0,,|0,,|1,,|0,,|1,,|" is four 41 0 0 0) ∷
+    ("P,10|" ++ˢ twoLocks "unlock,0|var,0|" with twoLocksSplit "0,,|1,,|" is four 42 0 0 0) ∷
+    ("P,1|int,0|" with "C2,1,1,1,2,0|int,0,0|1|1|0,,|" is four 42 0 0 0) ∷
+    []
+
+-- ------------------------------------------------------------------ sheets before and after
+
+pub record Filling : Type 0 where
+  pub program : String
+  pub given : String
+  pub whole : String
+
+infix 2 _with_becomes_
+unfoldable pub _with_becomes_ : String → String → String → Filling
+p with s becomes t = record { program = p; given = s; whole = t }
+
+-- what is written for a pair
+unfoldable pub wholeOf : Filling → Out (List ℕ)
+wholeOf r = fill workspaceSize splitLimit (barred (r .program)) (barred (r .given))
+
+unfoldable pub AllWritten : List Filling → Type 0
+AllWritten rows = map wholeOf rows ≡ map (λ (r : Filling). on (barred (r .whole))) rows
+
+unfoldable pub fillings : List Filling
+fillings =
+    (P with unfilled "1" becomes
+    "C2,2,1,3,18,0|int,0,0|ref,0,0|tid,1,0|2|1|2|2|2|2|2|2|1|2|1|1|2|2|1|2|2|2|" ++ˢ
+    "0,2,|1,3,|0,4,|0,5,|2,6,|0,7,|0,8,1|2,9,|0,10,|1,11,|0,12,|0,13,|2,14,|0,15,|1,16,|0,17,|") ∷
+    -- an empty start stays empty
+    ("P,3|spawn,0|newtid,0|int,0|" with "C2,2,1,2,3,1|int,0,0|tid,2,0|2|1|0|0,,|1,,|0,,|" becomes
+    "C2,2,1,2,6,1|int,0,0|tid,2,0|2|1|0|1|1|0|0,3,|1,4,|0,5,|") ∷
+    -- two locations, and every kind of type
+    ("P,3|let,0|newlock,0|int,7|" with "C2,5,2,5,2,0|int,0,0|ref,1,0|lock,1,0|tid,0,0|sem,1,0|5,4|0,3|0,,|2,,|0,,|" becomes
+    "C2,5,2,5,5,0|int,0,0|ref,1,0|lock,1,0|tid,0,0|sem,1,0|5,4|0,3|5,1|5,1|5,1|0,2,|2,3,|0,4,|") ∷
     []

@@ -4,7 +4,7 @@
 // What a step does to the number at one location once its parts are done: it takes some, it gives some, and so much must be
 // there afterwards.
 pub struct Effect {
-    pub takes: u64,
-    pub gives: u64,
-    pub needs: u64,
+    pub takes: u32,
+    pub gives: u32,
+    pub needs: u32,
 }

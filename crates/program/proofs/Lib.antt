@@ -7,3 +7,4 @@ pub mod Walk
 pub mod LineLaws
 pub mod StepLoop
 pub mod Sheets
+pub mod Found

@@ -31,12 +31,13 @@ use Rattle.spec.proofs.Outcomes.{stop-is-not-on}
 use Rattle.spec.proofs.Agreement.{same-maps-single, content-smaller, tree-of-type}
 use Rattle.workspace.specs.Layout as layout
 use Rattle.workspace.specs.Holds.{HoldsSplit}
+use Rattle.workspace.proofs.Shown.{type-shown, load-in, map-stands}
 use Rattle.rules.specs.Outcome.{outcome}
 use Rattle.rules.specs.Agreement.{content, sameNumbersIn, linesAgree, agreeBelow, agreeIn}
 use Rattle.rules.specs.Table.{containsIn}
 use Rattle.rules.specs.declared.Ruling.{Ruling}
 use Rattle.rules.specs.declared.Ruling.the-variants.{Met, Refused}
-use Rattle.rules.proofs.Shown.{type-shown, load-in, map-stands, equal-shown}
+use Rattle.rules.proofs.Shown.{equal-shown}
 
 -- ------------------------------------------------------------------ conditions on types
 

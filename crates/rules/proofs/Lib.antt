@@ -2,11 +2,12 @@ pub mod Judged
 pub mod TypeKinds
 pub mod Relations
 pub mod Walking
+pub mod OnTypes
+pub mod Asked
 pub mod Claims
 pub mod Shown
 pub mod Agreement
 pub mod TableRows
-pub mod Here
 pub mod Scopes
 pub mod Views
 pub mod OneStep

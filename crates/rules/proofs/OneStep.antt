@@ -9,29 +9,31 @@ use lib.ListN.{length, getD, length-map}
 use Rattle.spec.specs.Expression.{Step, Expr, leaf, unary, binary, size}
 use Rattle.spec.specs.Split.{Map, Row, Split}
 use Rattle.spec.specs.Conditions.{Env, post, start, own}
-use Rattle.spec.specs.Sites.{preOfPart, preOfSecond, claimsAt, firstFalse}
+use Rattle.spec.specs.Sites.{preOfPart, preOfSecond, claimsAt}
 use Rattle.spec.specs.Ranges.{InRange}
 use Rattle.spec.specs.declared.MapNumber.{MapNumber}
+use Rattle.spec.specs.declared.Purpose.{Purpose}
 use Rattle.spec.specs.declared.Word.the-variants.{Leaf, Unary, Binary}
 use Rattle.spec.specs.declared.LeafWord.{LeafWord}
 use Rattle.spec.specs.declared.UnaryWord.{UnaryWord}
 use Rattle.spec.specs.declared.UnaryWord.the-variants.{While, Join, Ref, Read, Freelock, Lock, Unlock, Post, Wait}
 use Rattle.spec.specs.declared.BinaryWord.{BinaryWord}
 use Rattle.spec.specs.declared.BinaryWord.the-variants.{Let, If, Spawn, Write}
+use Rattle.spec.proofs.Listing.{size-positive}
 use Rattle.workspace.specs.Layout as layout
 use Rattle.workspace.specs.Layout.{wordsAt, postsAt, startsAt, presAt, ruleOf}
 use Rattle.workspace.specs.Region.{ChangedWithin}
 use Rattle.workspace.specs.Holds.{HoldsSplit, startNumber}
-use Rattle.spec.proofs.Listing.{size-positive}
 use Rattle.workspace.proofs.Region.{region-kept}
 use Rattle.workspace.proofs.Codes.{word-of-code}
-use Rattle.rules.specs.Outcome.{judged}
+use Rattle.workspace.proofs.Shown.{Stands, post-at, start-at}
+use Rattle.workspace.proofs.Expression.{Here, here-line, leaf-code, unary-code, binary-code, here-part, here-first, here-second, here-second-at}
 use Rattle.rules.specs.Table.{ruleRow}
-use Rattle.rules.specs.Walk.{cell, viewOf, stepOutcome, putPre, numberOfPart, numberOfSecond, passWord, passOn}
-use Rattle.rules.proofs.Shown.{Stands, post-at, start-at}
+use Rattle.rules.specs.Walk.{cell, viewOf, stepOutcome, counted, putPre, numberOfPart, numberOfSecond, passWord, passOn}
 use Rattle.rules.proofs.TableRows.{leaf-shown, unary-shown, binary-shown}
-use Rattle.rules.proofs.Here.{Here, here-line, leaf-code, unary-code, binary-code, here-part, here-first, here-second, here-second-at}
 use Rattle.rules.proofs.Scopes.{Scoped}
+use Rattle.rules.proofs.Asked.{row-counted}
+use Rattle.rules.proofs.Claims.{firstAsked}
 use Rattle.rules.proofs.Views.{own-part, first-part, second-part, started, bound-shown}
 
 -- the numbers of the maps before step k and before its parts
@@ -142,10 +144,11 @@ module _ (S : Split) (steps : List Step) (R : InRange steps S) (few : length (S 
         (own-part w S steps (r .split) R _ _ k _ (here-line _ (r .here)) (below _ r))
         (started w S steps (r .split) R _ _ k _ (here-line _ (r .here)) (below _ r)))
 
-    pub step-shown : (e : Expr) → Ready w k inside vars Γ pre e
-        → stepOutcome w (S .header .locations) (S .header .denominator) k ≡ firstFalse (claimsAt S (record { Γ = Γ; pre = pre; step = e }))
-    unfolding stepOutcome judged claimsAt
-    step-shown e r = rw (conditions-shown e r, here-line e (r .here))
+    pub step-shown : (purpose : Purpose) (e : Expr) → Ready w k inside vars Γ pre e
+        → counted purpose (stepOutcome w (S .header .locations) (S .header .denominator) k)
+        ≡ firstAsked purpose (claimsAt S (record { Γ = Γ; pre = pre; step = e }))
+    unfolding stepOutcome claimsAt
+    step-shown purpose e r = rw (conditions-shown e r, here-line e (r .here)) (row-counted (k + 2) purpose S Γ pre e)
 
     -- ---------------------------------------------------------------- what a step hands down
 

@@ -9,8 +9,8 @@ use lib.Dec.{leb}
 use Rattle.spec.specs.Choice.{if_then_else_}
 use Rattle.spec.specs.Maps.{lowest, atLeast, _+ᵐ_, overWhole}
 use Rattle.spec.specs.declared.MapNumber.{MapNumber}
-use Rattle.workspace.specs.Layout.{mapCell}
-use Rattle.rules.specs.Relation.{mapFrom, holdsAt, failsFrom}
+use Rattle.workspace.specs.Layout.{mapCell, mapFrom}
+use Rattle.rules.specs.Relation.{holdsAt, failsFrom}
 use Rattle.rules.specs.declared.Relation.{Relation}
 use Rattle.rules.specs.declared.Relation.the-variants.{Equal, AtLeast, Sum}
 

@@ -17,8 +17,8 @@ use Rattle.spec.proofs.Clashes.{true-is-not-false}
 use Rattle.spec.proofs.Tests.{eqb-sym}
 use Rattle.workspace.specs.Holds.{letIn}
 use Rattle.workspace.proofs.Held.{insideSecond}
-use Rattle.rules.proofs.Shown.{noRow}
-use Rattle.rules.proofs.Here.{varsSecond}
+use Rattle.workspace.proofs.Shown.{noRow}
+use Rattle.workspace.proofs.Expression.{varsSecond}
 
 -- each variable of vars has in Γ the type of the row just behind its let
 pub record Scoped (S : Split) (Γ : Env) (inside : List (ℕ × ℕ)) (vars : List ℕ) : Type 0 where

@@ -1,39 +1,19 @@
--- What the work space shows of the split that it holds: types, maps and rows by number.
-use mathlib.Core.Path.{_≡_, refl, sym, ap, _∙_}
-use mathlib.Core.Logic.{inr}
+-- What relations between maps that stand in the work space say of the maps.
+use mathlib.Core.Path.{_≡_, refl, _∙_}
 use mathlib.Core.List.{List, [], _∷_}
-use mathlib.Core.Option.{Option, none, some}
-use Prim.Native.Nat.{ℕ, zero, suc, _+_, _-_, _*_, _<_}
-use native.Mathlib.Omega.{arith}
+use Prim.Native.Nat.{ℕ, _+_}
 use lib.Dec.{eqb}
-use lib.ListN.{length, getD, replicate, length-replicate, getD-replicate}
-use Rattle.spec.specs.Expression.{Step, Expr}
-use Rattle.spec.specs.Split.{Map, Row, Split}
-use Rattle.spec.specs.Maps.{lowest, _=ᵐ_, _≥ᵐ_, _+ᵐ_, share}
-use Rattle.spec.specs.Conditions.{typeAt, mapAt, lineOf, row, post, start, startIn, place, load}
+use Rattle.spec.specs.Expression.{Step}
+use Rattle.spec.specs.Split.{Map, Split}
+use Rattle.spec.specs.Maps.{lowest, _=ᵐ_, _≥ᵐ_, _+ᵐ_}
 use Rattle.spec.specs.Ranges.{InRange}
 use Rattle.spec.proofs.Tests.{eqb-sym}
-use Rattle.spec.specs.declared.Location.{Location}
 use Rattle.spec.specs.declared.MapNumber.{MapNumber}
-use Rattle.spec.specs.declared.TypeNumber.{TypeNumber}
-use Rattle.spec.specs.declared.TypeLine.{TypeLine}
-use Rattle.spec.specs.declared.TypeLine.the-variants.{Int, Ref, Lock, Tid, Sem}
-use Rattle.workspace.specs.Layout as layout
-use Rattle.workspace.specs.Region.{ChangedWithin}
-use Rattle.workspace.specs.Layout.{presAt, rowTypesAt, postsAt, startsAt, kindsAt, firstsAt, secondsAt, mapsAt, stride, emptyMap, mapCell, kindOf, firstOf, secondOf}
-use Rattle.workspace.specs.Holds.{HoldsSplit, startNumber}
-use Rattle.workspace.proofs.Region.{column}
-use Rattle.workspace.proofs.Codes.{type-of-numbers}
-use Rattle.rules.specs.Relation.{mapFrom, mapIn, failsFrom}
-use Rattle.rules.specs.Walk.{cell}
+use Rattle.workspace.specs.Layout.{mapIn}
+use Rattle.workspace.specs.Holds.{HoldsSplit}
+use Rattle.workspace.proofs.Shown.{Stands}
+use Rattle.rules.specs.Relation.{failsFrom}
 use Rattle.rules.specs.declared.Relation.the-variants.{Equal, AtLeast, Sum}
-
-pub map-number : {x : ℕ} {m : MapNumber} → x ≡ m .0 → _≡_ {A = MapNumber} (record { 0 = x }) m
-map-number e = rw e
-
--- a row that no step has
-abbrev pub noRow : Row
-noRow = record { type = record { 0 = 0 }; post = record { 0 = 0 }; start = none }
 
 -- equality of maps may be asked either way round
 equal-sym : (i : ℕ) (m n : Map) → lowest eqb i m n ≡ lowest eqb i n m
@@ -43,114 +23,7 @@ equal-sym i [] (b ∷ n) = refl
 equal-sym i (a ∷ m) [] = refl
 equal-sym i (a ∷ m) (b ∷ n) = rw (eqb-sym a b, equal-sym (i + 1) m n)
 
--- the numbers of a map, one after the other
-cells : (w : List ℕ) (m : MapNumber) (l : ℕ) (xs : List ℕ)
-    → ((i : ℕ) → i < length xs → mapCell w m (l + i) ≡ getD xs i 0) → mapFrom w m l (length xs) ≡ xs
-unfolding mapFrom
-cells w m l [] e = refl
-cells w m l (x ∷ xs) e =
-    let head : mapCell w m l ≡ x = ap (mapCell w m) (omega arith) ∙ e 0 (omega arith) in
-    rw (head, cells w m (l + 1) xs (λ i h. ap (mapCell w m) (omega arith) ∙ e (suc i) (omega arith)))
-
--- a number of a map that the work space holds
-cell-of : (w : List ℕ) (m : MapNumber) (l n i : ℕ) → i < n → getD (mapFrom w m l n) i 0 ≡ mapCell w m (l + i)
-unfolding mapFrom
-cell-of w m l zero i h = absurd (omega arith)
-cell-of w m l (suc n) zero h = ap (mapCell w m) (omega arith)
-cell-of w m l (suc n) (suc i) h = cell-of w m (l + 1) n i (omega arith) ∙ ap (mapCell w m) (omega arith)
-
--- maps stay where only maps before steps are changed
-from-kept : {w w′ : List ℕ} → ChangedWithin presAt (presAt + 256) w w′ → (m : MapNumber) (l n : ℕ) → mapFrom w′ m l n ≡ mapFrom w m l n
-unfolding mapFrom mapCell
-from-kept x m l zero = refl
-from-kept {w} {w′} x m l (suc n) =
-    let e : mapCell w′ m l ≡ mapCell w m l = x .kept (mapsAt + stride * (m .0) + l) (inr (omega arith)) in
-    rw (e, from-kept x m (l + 1) n)
-
--- the map x stands at the place of the number m
-pub record Stands (w : List ℕ) (S : Split) (m : MapNumber) (x : Map) : Type 0 where
-  pub is : mapIn w (S .header .locations) m ≡ x
-
-pub stands-kept : {w w′ : List ℕ} {S : Split} {m : MapNumber} {x : Map} → ChangedWithin presAt (presAt + 256) w w′
-    → Stands w S m x → Stands w′ S m x
-unfolding mapIn
-stands-kept {m = m} c p = record { is = from-kept c m 0 _ ∙ p .is }
-
 module _ (w : List ℕ) (S : Split) (steps : List Step) (H : HoldsSplit w S) (R : InRange steps S) where
-  -- ---------------------------------------------------------------- types
-
-  pub type-shown : (t : TypeNumber) → t .0 < length (S .types) → layout.typeAt w t ≡ typeAt S t
-  unfolding layout.typeAt typeAt
-  type-shown t h =
-      rw (
-        column w kindsAt kindOf (S .types) Int (t .0) (H .kinds) h,
-        column w firstsAt firstOf (S .types) Int (t .0) (H .firsts) h,
-        column w secondsAt secondOf (S .types) Int (t .0) (H .seconds) h,
-      )
-      (type-of-numbers _)
-
-  -- p of a ref type is a location, K of a lock or tid type a map; where they are not asked for they are the first
-  pub place-in : (t : TypeNumber) → t .0 < length (S .types) → place (typeAt S t) .0 < S .header .locations
-  unfolding typeAt place
-  place-in t h = of-line (getD (S .types) (t .0) Int) refl
-    where
-      of-line : (x : TypeLine) → getD (S .types) (t .0) Int ≡ x → place x .0 < S .header .locations
-      of-line Int e = R .locations .0
-      of-line (Ref p c) e = R .refPlace (t .0) p c h e .0
-      of-line (Lock k) e = R .locations .0
-      of-line (Tid k) e = R .locations .0
-      of-line (Sem k) e = R .locations .0
-
-  pub load-in : (t : TypeNumber) → t .0 < length (S .types) → load (typeAt S t) .0 < length (S .maps)
-  unfolding typeAt load
-  load-in t h = of-line (getD (S .types) (t .0) Int) refl
-    where
-      of-line : (x : TypeLine) → getD (S .types) (t .0) Int ≡ x → load x .0 < length (S .maps)
-      of-line Int e = omega (arith, R .mapsCounted, R .mapsFew .0)
-      of-line (Ref p c) e = omega (arith, R .mapsCounted, R .mapsFew .0)
-      of-line (Lock k) e = R .lockLoad (t .0) k h e
-      of-line (Tid k) e = R .tidLoad (t .0) k h e
-      of-line (Sem k) e = R .semLoad (t .0) k h e
-
-  -- ---------------------------------------------------------------- maps
-
-  pub map-stands : (m : MapNumber) → m .0 < length (S .maps) → Stands w S m (mapAt S m)
-  unfolding mapIn mapCell mapAt
-  map-stands m h =
-      let e : length (mapAt S m) ≡ S .header .locations = R .mapWide (m .0) h in
-      record { is = rw (← e) (cells w m 0 (mapAt S m) (λ i l. ap (mapCell w m) (omega arith) ∙ H .maps (m .0) h .at i l)) }
-
-  -- the empty map
-  empty-stands : Stands w S (record { 0 = emptyMap }) (replicate (S .header .locations) 0)
-  unfolding mapIn mapCell
-  empty-stands =
-      let n = S .header .locations in
-      let e : length {A = ℕ} (replicate n 0) ≡ n = length-replicate n 0 in
-      let zero-at : (i : ℕ) → i < n → mapCell w (record { 0 = emptyMap }) i ≡ getD (replicate n 0) i 0 = λ i l.
-      H .empty .at i (omega (arith, R .locations .1))
-      ∙ getD-replicate {A = ℕ} stride i 0 0 (omega (arith, R .locations .1))
-      ∙ sym (getD-replicate n i 0 0 l) in
-      record {
-        is =
-            ap (mapFrom w (record { 0 = emptyMap }) 0) (sym e)
-            ∙ cells w (record { 0 = emptyMap }) 0 (replicate n 0)
-            (λ i l. ap (mapCell w (record { 0 = emptyMap })) (omega arith) ∙ zero-at i (omega arith));
-      }
-
-  pub start-stands : (o : Option MapNumber) → ((m : MapNumber) → o ≡ some m → m .0 < length (S .maps))
-      → Stands w S (record { 0 = startNumber o }) (startIn S o)
-  unfolding startNumber startIn
-  start-stands none h = empty-stands
-  start-stands (some m) h = map-stands m (h m refl)
-
-  -- what a map has of a location
-  pub has-shown : {m : MapNumber} {x : Map} (p : Location) → Stands w S m x → p .0 < S .header .locations
-      → mapCell w m (p .0) ≡ share x p
-  unfolding mapIn share
-  has-shown {m} p s l = rw (← s .is) (sym (cell-of w m 0 (S .header .locations) (p .0) l ∙ ap (mapCell w m) (omega arith)))
-
-  -- ---------------------------------------------------------------- relations between maps
-
   module _ {a b : MapNumber} {x y : Map} (p : Stands w S a x) (q : Stands w S b y) where
     pub equal-shown : failsFrom w (Equal a b) 0 (S .header .locations) ≡ (x =ᵐ y)
     unfolding mapIn failsFrom _=ᵐ_
@@ -168,33 +41,3 @@ module _ (w : List ℕ) (S : Split) (steps : List Step) (H : HoldsSplit w S) (R 
       pub is-sum-shown : failsFrom w (Sum a b c) 0 (S .header .locations) ≡ (z =ᵐ x +ᵐ y)
       unfolding _=ᵐ_
       is-sum-shown = sum-shown ∙ equal-sym 0 (x +ᵐ y) z
-
-  -- ---------------------------------------------------------------- rows
-
-  -- the row of a step that stands at index i
-  module _ (e : Expr) (i : ℕ) (line : lineOf e ≡ i + 2) (h : i < length (S .rows)) where
-    pub row-at : getD (S .rows) i noRow ≡ row S e
-    unfolding row
-    row-at =
-        let z : lineOf e - 2 ≡ i = omega arith in
-        rw z
-
-    pub row-type : cell w rowTypesAt i ≡ row S e .type .0
-    row-type = column w rowTypesAt (λ (r : Row). r .type .0) (S .rows) noRow i (H .rowTypes) h
-        ∙ ap (λ (r : Row). r .type .0) row-at
-
-    row-post : cell w postsAt i ≡ row S e .post .0
-    row-post = column w postsAt (λ (r : Row). r .post .0) (S .rows) noRow i (H .posts) h ∙ ap (λ (r : Row). r .post .0) row-at
-
-    -- the maps of its row, by the numbers stored for them
-    pub post-at : {m : ℕ} → m ≡ cell w postsAt i → Stands w S (record { 0 = m }) (post S e)
-    unfolding post
-    post-at q = rw (map-number (q ∙ row-post)) (map-stands _ (rw row-at at (R .rowPost i noRow h)))
-
-    row-start : cell w startsAt i ≡ startNumber (row S e .start)
-    row-start = column w startsAt (λ (r : Row). startNumber (r .start)) (S .rows) noRow i (H .starts) h
-        ∙ ap (λ (r : Row). startNumber (r .start)) row-at
-
-    pub start-at : Stands w S (record { 0 = cell w startsAt i }) (start S e)
-    unfolding start
-    start-at = rw (map-number row-start) (start-stands _ (λ m q. R .rowStart i noRow m h (ap (λ (r : Row). r .start) row-at ∙ q)))

@@ -23,13 +23,14 @@ use Rattle.spec.specs.declared.BinaryWord.the-variants.{Let, If, Spawn, Write}
 use Rattle.workspace.specs.Layout as layout
 use Rattle.workspace.specs.Layout.{mapCell, printed, ruleOf, leafCode, unaryCode, binaryCode}
 use Rattle.workspace.specs.Holds.{HoldsSplit}
+use Rattle.workspace.proofs.Shown.{Stands, type-shown, place-in, load-in, map-stands, has-shown}
 use Rattle.rules.specs.Relation.{failsFrom}
 use Rattle.rules.specs.declared.Relation.the-variants.{Equal, AtLeast, Sum}
 use Rattle.rules.specs.Agreement.{agreeIn}
 use Rattle.rules.specs.Table.{containsIn, ruleRow}
 use Rattle.rules.specs.declared.View.{View}
 use Rattle.rules.proofs.Agreement.{agree-shown, contains-shown}
-use Rattle.rules.proofs.Shown.{Stands, type-shown, place-in, load-in, map-stands, has-shown, equal-shown, at-least-shown, sum-shown, is-sum-shown}
+use Rattle.rules.proofs.Shown.{equal-shown, at-least-shown, sum-shown, is-sum-shown}
 
 -- "> 0" is "≥ 1"
 some-is-one : (x : ℕ) → leb 1 x ≡ ltb 0 x

@@ -1,7 +1,7 @@
 -- The walk over the work space gives what document 01 says of the sheets that it holds. The proof goes by the expression: an
 -- expression at index k is walked through, and what is left is the walk from its end on, over a work space in which only
 -- maps before its own steps are changed.
-use mathlib.Core.Path.{_≡_, sym, ap, _∙_}
+use mathlib.Core.Path.{_≡_, refl, sym, ap, _∙_}
 use mathlib.Core.Logic.{inr}
 use mathlib.Core.List.{List, []}
 use Prim.Native.Nat.{ℕ, suc, _+_, _<_, _≤_}
@@ -13,46 +13,50 @@ use Rattle.spec.specs.Expression.{Step, Expr, leaf, unary, binary, size}
 use Rattle.spec.specs.Program.{Program}
 use Rattle.spec.specs.Split.{Map, Row, Split}
 use Rattle.spec.specs.Conditions.{Env, lineOf, startMap, type, post, start}
-use Rattle.spec.specs.Sites.{preOfPart, preOfSecond, bind, sites, claims, firstFalse}
-use Rattle.spec.specs.Verdict.{startAtMostOne, ruled}
+use Rattle.spec.specs.Sites.{preOfPart, preOfSecond, bind, sites, claims}
+use Rattle.spec.specs.Verdict.{startAtMostOne, ruled, typed}
 use Rattle.spec.specs.Ranges.{InRange}
 use Rattle.spec.specs.declared.MapNumber.{MapNumber}
+use Rattle.spec.specs.declared.Purpose.{Purpose}
+use Rattle.spec.specs.declared.Purpose.the-variants.{Check, Fill}
 use Rattle.spec.specs.declared.UnaryWord.{UnaryWord}
 use Rattle.spec.specs.declared.BinaryWord.{BinaryWord}
+use Rattle.spec.proofs.Listing.{prefix-length, size-positive}
 use Rattle.workspace.specs.Layout.{presAt}
 use Rattle.workspace.specs.Region.{ChangedWithin}
 use Rattle.workspace.specs.Holds.{HoldsSplit}
-use Rattle.spec.proofs.Listing.{prefix-length, size-positive}
+use Rattle.workspace.specs.Sheets.{HoldsSheets}
 use Rattle.workspace.proofs.Held.{insideSecond}
 use Rattle.workspace.proofs.Region.{changed-nothing, changed-store, changed-then, changed-wider}
+use Rattle.workspace.proofs.Shown.{map-number, Stands, stands-kept, map-stands, row-at}
+use Rattle.workspace.proofs.Expression.{Here, codes, here-kept, here-line, here-part, here-first, here-second, varsSecond}
 use Rattle.rules.specs.Outcome.{both}
-use Rattle.rules.specs.Walk.{cell, startOutcome, stepOutcome, passOn, walk, atRoot}
-use Rattle.rules.specs.Contract.{HoldsSheets}
+use Rattle.rules.specs.Walk.{cell, startOutcome, stepOutcome, counted, passOn, walk, atRoot}
+use Rattle.rules.specs.Contract.{ruledFor}
 use Rattle.rules.proofs.Judged.{both-met, both-assoc}
 use Rattle.rules.proofs.Walking.{put-before, put-at, put-other}
-use Rattle.rules.proofs.Claims.{claims-first, claims-one, claims-append}
-use Rattle.rules.proofs.Shown.{map-number, Stands, stands-kept, map-stands, row-at}
-use Rattle.rules.proofs.Here.{Here, codes, here-kept, here-line, here-part, here-first, here-second, varsSecond}
+use Rattle.rules.proofs.Claims.{firstAsked, claims-first, claims-one, claims-append}
+use Rattle.rules.proofs.Asked.{asked}
 use Rattle.rules.proofs.Scopes.{Scoped, scoped-none, scoped-second}
 use Rattle.rules.proofs.OneStep.{preNumber, partNumber, secondNumber, Ready, split-kept, step-shown, leaf-passes, unary-passes, binary-passes, part-stands, second-stands}
 
 -- the walk over the steps of a program, with its split's locations and denominator
-abbrev walkOf : Split → List ℕ → (k n : ℕ) → Out (Unit {0})
-walkOf S w k n = walk (S .header .locations) (S .header .denominator) w k n
+abbrev walkOf : Purpose → Split → List ℕ → (k n : ℕ) → Out (Unit {0})
+walkOf purpose S w k n = walk purpose (S .header .locations) (S .header .denominator) w k n
 
 -- ------------------------------------------------------------------ the walk through an expression
 
-module _ (S : Split) (steps : List Step) (R : InRange steps S) (few : length (S .rows) ≤ 256) where
+module _ (purpose : Purpose) (S : Split) (steps : List Step) (R : InRange steps S) (few : length (S .rows) ≤ 256) where
   -- an expression is walked through; m steps are left behind it
   record Walked (w : List ℕ) (k m : ℕ) (Γ : Env) (pre : Map) (e : Expr) : Type 0 where
     pub after : List ℕ
     pub changed : ChangedWithin presAt (presAt + (k + size e)) w after
-    pub walks : walkOf S w k (size e + m)
-        ≡ both (firstFalse (claims S (sites S Γ pre e))) (walkOf S after (k + size e) m)
+    pub walks : walkOf purpose S w k (size e + m)
+        ≡ both (firstAsked purpose (claims S (sites S Γ pre e))) (walkOf purpose S after (k + size e) m)
 
   walk-first : (w : List ℕ) (k n m : ℕ) → n ≡ suc m
-      → walkOf S w k n
-      ≡ both (stepOutcome w (S .header .locations) (S .header .denominator) k) (walkOf S (passOn w k) (k + 1) m)
+      → walkOf purpose S w k n
+      ≡ both (counted purpose (stepOutcome w (S .header .locations) (S .header .denominator) k)) (walkOf purpose S (passOn w k) (k + 1) m)
   unfolding walk
   walk-first w k n m e = rw e
 
@@ -100,10 +104,10 @@ module _ (S : Split) (steps : List Step) (R : InRange steps S) (few : length (S 
             let end : k + 1 + size e₁ ≡ k + suc (size e₁) = omega arith in
             walk-first w k (suc (size e₁) + m) (size e₁ + m) (omega arith)
             ∙ rw (
-              step-shown S steps R few (unary x l v e₁) r,
+              step-shown S steps R few purpose (unary x l v e₁) r,
               t .walks,
               end,
-              claims-first S (record { Γ = Γ; pre = pre; step = unary x l v e₁ }),
+              claims-first purpose S (record { Γ = Γ; pre = pre; step = unary x l v e₁ }),
               both-assoc,
             );
       }
@@ -171,11 +175,11 @@ module _ (S : Split) (steps : List Step) (R : InRange steps S) (few : length (S 
             let end : k + 1 + size e₁ + size e₂ ≡ k + suc (size e₁ + size e₂) = omega arith in
             walk-first w k (suc (size e₁ + size e₂) + m) (size e₁ + (size e₂ + m)) (omega arith)
             ∙ rw (
-              step-shown S steps R few (binary x l v e₁ e₂) r,
+              step-shown S steps R few purpose (binary x l v e₁ e₂) r,
               t .walks,
               u .walks,
-              claims-first S (record { Γ = Γ; pre = pre; step = binary x l v e₁ e₂ }),
-              claims-append S,
+              claims-first purpose S (record { Γ = Γ; pre = pre; step = binary x l v e₁ e₂ }),
+              claims-append purpose S,
               both-assoc,
               both-assoc,
               end,
@@ -190,7 +194,7 @@ module _ (S : Split) (steps : List Step) (R : InRange steps S) (few : length (S 
     changed = changed-nothing presAt _ w;
     walks =
         walk-first w k (1 + m) m (omega arith)
-        ∙ rw (step-shown S steps R few (leaf x l v) r, leaf-passes S steps R few x l v r, claims-one S);
+        ∙ rw (step-shown S steps R few purpose (leaf x l v) r, leaf-passes S steps R few x l v r, claims-one purpose S);
   }
   walked (unary x l v e₁) m r = unary-walked x l v e₁ r m (walked e₁ m (part-ready x l v e₁ r))
   walked (binary x l v e₁ e₂) m r =
@@ -198,6 +202,12 @@ module _ (S : Split) (steps : List Step) (R : InRange steps S) (few : length (S 
       (walked e₂ m (second-ready x l v e₁ e₂ r (size e₂ + m) (walked e₁ (size e₂ + m) (first-ready x l v e₁ e₂ r))))
 
 -- ------------------------------------------------------------------ the sheets
+
+-- the claims of a pair of sheets, by purpose
+claims-ruled : (purpose : Purpose) (P : Program) (S : Split) → firstAsked purpose (claims S (sites S [] (startMap S) (P .root))) ≡ ruledFor purpose P S
+unfolding asked ruledFor ruled typed
+claims-ruled Check P S = refl
+claims-ruled Fill P S = refl
 
 module _ (w : List ℕ) (steps denominator locations start : ℕ) (P : Program) (S : Split) (H : HoldsSheets w steps denominator locations start P S) where
   root-here : Here w 0 [] [] (P .root)
@@ -227,7 +237,7 @@ module _ (w : List ℕ) (steps denominator locations start : ℕ) (P : Program) 
         start-named .is,
       )
 
-  module _ (long : length w ≡ 16384) (fewSteps : steps ≤ 256) where
+  module _ (purpose : Purpose) (long : length w ≡ 16384) (fewSteps : steps ≤ 256) where
     rows-few : length (S .rows) ≤ 256
     rows-few = omega (arith, H .inRange .rowsCounted, H .stepsCounted)
 
@@ -237,22 +247,23 @@ module _ (w : List ℕ) (steps denominator locations start : ℕ) (P : Program) 
     root-ready : Ready S (P .steps) (H .inRange) rows-few (atRoot w (record { 0 = start })) 0 [] [] [] (startMap S) (P .root)
     unfolding atRoot
     root-ready =
-        again S (P .steps) (H .inRange) rows-few (changed-store presAt (presAt + 256) w presAt start (omega arith)
+        again purpose S (P .steps) (H .inRange) rows-few (changed-store presAt (presAt + 256) w presAt start (omega arith)
         (omega arith)) (H .split) (omega arith)
         root-here (scoped-none S) (record { 0 = start }) start-named
         (getD-set-same w presAt start 0 (omega arith)) (omega (arith, sized, H .stepsCounted, H .inRange .rowsCounted))
 
     -- 31 to 33
-    pub steps-shown : walk locations denominator (atRoot w (record { 0 = start })) 0 steps ≡ ruled P S
-    unfolding ruled walk
+    pub steps-shown : walk purpose locations denominator (atRoot w (record { 0 = start })) 0 steps ≡ ruledFor purpose P S
+    unfolding walk
     steps-shown =
         let end : steps ≡ size (P .root) + 0 = omega (arith, sized) in
         rw (H .denominatorGiven, H .locationsGiven, end)
-        (walked S (P .steps) (H .inRange) rows-few (P .root) 0 root-ready .walks
-        ∙ both-met (firstFalse (claims S (sites S [] (startMap S) (P .root)))))
+        (walked purpose S (P .steps) (H .inRange) rows-few (P .root) 0 root-ready .walks
+        ∙ both-met (firstAsked purpose (claims S (sites S [] (startMap S) (P .root))))
+        ∙ claims-ruled purpose P S)
 
     -- 30 to 33
-    pub sheets-shown : both (startOutcome w denominator locations (record { 0 = start })) (walk locations denominator (atRoot w (record { 0 = start })) 0 steps)
-        ≡ (startAtMostOne P S >>= λ whole. ruled P S)
+    pub sheets-shown : both (startOutcome w denominator locations (record { 0 = start })) (walk purpose locations denominator (atRoot w (record { 0 = start })) 0 steps)
+        ≡ (startAtMostOne P S >>= λ whole. ruledFor purpose P S)
     unfolding both
     sheets-shown = rw (start-shown, steps-shown)

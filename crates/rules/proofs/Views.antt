@@ -15,11 +15,11 @@ use Rattle.spec.specs.declared.LeafWord.the-variants.{Var, Int, Newtid, Newlock
 use Rattle.workspace.specs.Layout.{endsAt, rowTypesAt, postsAt}
 use Rattle.workspace.specs.Holds.{HoldsSplit, letIn}
 use Rattle.workspace.proofs.Region.{column}
+use Rattle.workspace.proofs.Shown.{noRow, Stands, row-at, row-type, post-at, start-at}
+use Rattle.workspace.proofs.Expression.{Here, here-let}
 use Rattle.rules.specs.Walk.{cell, viewOf}
-use Rattle.rules.proofs.Shown.{noRow, Stands, row-at, row-type, post-at, start-at}
 use Rattle.rules.proofs.TableRows.{Part, Bound}
 use Rattle.rules.proofs.Scopes.{Scoped}
-use Rattle.rules.proofs.Here.{Here, here-let}
 
 pub type-number : {x : ℕ} {t : TypeNumber} → x ≡ t .0 → _≡_ {A = TypeNumber} (record { 0 = x }) t
 type-number e = rw e

@@ -11,24 +11,25 @@ use borrow.Author.Tests.{lt-ltb, ltb-true}
 use Rattle.spec.specs.Choice.{if_then_else_}
 use Rattle.spec.specs.Reading.{on}
 use Rattle.spec.specs.declared.MapNumber.{MapNumber}
+use Rattle.spec.specs.declared.Purpose.{Purpose}
 use Rattle.spec.specs.declared.Word.{Word}
 use Rattle.spec.specs.declared.Word.the-variants.{Leaf, Unary, Binary}
 use Rattle.workspace.specs.Layout.{wordsAt, presAt, wordOf}
 use Rattle.workspace.specs.Region.{ChangedWithin}
 use Rattle.workspace.proofs.Region.{changed-nothing, changed-store, changed-then}
 use Rattle.rules.specs.Outcome.{both}
-use Rattle.rules.specs.Walk.{cell, stepOutcome, putPre, numberOfPart, numberOfSecond, passWord, passOn, walk}
+use Rattle.rules.specs.Walk.{cell, stepOutcome, counted, putPre, numberOfPart, numberOfSecond, passWord, passOn, walk}
 
-module _ (locations denominator : ℕ) (w : List ℕ) (k n : ℕ) where
+module _ (purpose : Purpose) (locations denominator : ℕ) (w : List ℕ) (k n : ℕ) where
   pub walk-more : k < n
-      → walk locations denominator w k (n - k)
-      ≡ both (stepOutcome w locations denominator k) (walk locations denominator (passOn w k) (k + 1) (n - (k + 1)))
+      → walk purpose locations denominator w k (n - k)
+      ≡ both (counted purpose (stepOutcome w locations denominator k)) (walk purpose locations denominator (passOn w k) (k + 1) (n - (k + 1)))
   unfolding walk
   walk-more h =
       let e : n - k ≡ suc (n - (k + 1)) = omega arith in
       rw e
 
-  pub walk-end : n ≤ k → walk locations denominator w k (n - k) ≡ on tt
+  pub walk-end : n ≤ k → walk purpose locations denominator w k (n - k) ≡ on tt
   unfolding walk
   walk-end h =
       let e : n - k ≡ 0 = omega arith in

@@ -1,24 +1,13 @@
 -- Relations between maps that stand in the work space, location by location.
 use mathlib.Core.Bool.{Bool}
-use mathlib.Core.List.{List, [], _∷_}
+use mathlib.Core.List.{List}
 use mathlib.Core.Option.{Option}
-use Prim.Native.Nat.{ℕ, zero, suc, _+_}
+use Prim.Native.Nat.{ℕ, _+_}
 use lib.Dec.{eqb, leb}
-use Rattle.spec.specs.Split.{Map}
 use Rattle.spec.specs.Maps.{lowest, atLeast, _+ᵐ_}
-use Rattle.spec.specs.declared.MapNumber.{MapNumber}
-use Rattle.workspace.specs.Layout.{mapCell}
+use Rattle.workspace.specs.Layout.{mapCell, mapFrom}
 use Rattle.rules.specs.declared.Relation.{Relation}
 use Rattle.rules.specs.declared.Relation.the-variants.{Equal, AtLeast, Sum}
-
--- what a map has at n locations from l on
-unfoldable pub mapFrom : (w : List ℕ) → MapNumber → (l n : ℕ) → Map
-mapFrom w m l zero = []
-mapFrom w m l (suc n) = mapCell w m l ∷ mapFrom w m (l + 1) n
-
--- the map that a number stands for, in a sheet of n locations: what the work space holds at its place
-unfoldable pub mapIn : (w : List ℕ) (n : ℕ) → MapNumber → Map
-mapIn w n m = mapFrom w m 0 n
 
 -- whether a relation holds at a location
 unfoldable pub holdsAt : (w : List ℕ) → Relation → (l : ℕ) → Bool

@@ -1,22 +1,24 @@
 -- The steps in line order: what the conditions of each look at, and the map before each, which its step hands down.
 use mathlib.Core.List.{List}
 use Prim.Native.Nat.{ℕ, zero, suc, _+_}
-use lib.Dec.{ltb}
+use lib.Dec.{eqb, ltb}
 use lib.ListN.{getD, set}
 use Rattle.spec.specs.Choice.{if_then_else_}
-use Rattle.spec.specs.Reading.{Out, on}
+use Rattle.spec.specs.Reading.{Out, stop, on}
 use Rattle.spec.specs.Maps.{overWhole}
-use Rattle.spec.specs.Verdict.{refuseOver}
+use Rattle.spec.specs.Verdict.{refuseOver, returned}
 use Rattle.spec.specs.declared.MapNumber.{MapNumber}
+use Rattle.spec.specs.declared.Answer.the-variants.{Refuse}
+use Rattle.spec.specs.declared.Purpose.{Purpose}
+use Rattle.spec.specs.declared.Purpose.the-variants.{Check, Fill}
 use Rattle.spec.specs.declared.Word.{Word}
 use Rattle.spec.specs.declared.Word.the-variants.{Leaf, Unary, Binary}
 use Rattle.spec.specs.declared.UnaryWord.{UnaryWord}
 use Rattle.spec.specs.declared.UnaryWord.the-variants.{While, Join, Ref, Read, Freelock, Lock, Unlock, Post, Wait}
 use Rattle.spec.specs.declared.BinaryWord.{BinaryWord}
 use Rattle.spec.specs.declared.BinaryWord.the-variants.{Let, If, Spawn, Write}
-use Rattle.workspace.specs.Layout.{wordsAt, endsAt, letsAt, rowTypesAt, postsAt, startsAt, presAt, ruleOf, wordOf, typeAt}
+use Rattle.workspace.specs.Layout.{wordsAt, endsAt, letsAt, rowTypesAt, postsAt, startsAt, presAt, ruleOf, wordOf, typeAt, mapIn}
 use Rattle.rules.specs.Outcome.{both, judged}
-use Rattle.rules.specs.Relation.{mapIn}
 use Rattle.rules.specs.Table.{ruleRow}
 use Rattle.rules.specs.declared.View.{View}
 
@@ -51,6 +53,16 @@ unfoldable pub stepOutcome : (w : List ℕ) → (locations denominator k : ℕ) 
 stepOutcome w locations denominator k =
     let s = viewOf w locations denominator k in
     judged (k + 2) 1 (ruleRow (ruleOf (cell w wordsAt k)) w s (typeAt w (s .own)) (typeAt w (s .type1)))
+
+-- what an outcome says of types: a refusal on flow or access, 32 or 33, is none
+unfoldable pub onTypes : Out (Unit {0}) → Out (Unit {0})
+onTypes (stop r) = if eqb (returned (Refuse r) .number) 31 then stop r else on tt
+onTypes (on a) = on tt
+
+-- what counts of a step's outcome: when filling, what it says of types
+unfoldable pub counted : Purpose → Out (Unit {0}) → Out (Unit {0})
+counted Check o = o
+counted Fill o = onTypes o
 
 -- the start is the map before the root
 unfoldable pub atRoot : (w : List ℕ) → (start : MapNumber) → List ℕ
@@ -91,7 +103,7 @@ passOn w k =
     (record { 0 = cell w (postsAt + 1) k }) (record { 0 = cell w startsAt k }) (cell w (endsAt + 1) k)
 
 -- n steps from step k on
-unfoldable pub walk : (locations denominator : ℕ) → (w : List ℕ) → (k n : ℕ) → Out (Unit {0})
-walk locations denominator w k zero = on tt
-walk locations denominator w k (suc n) =
-    both (stepOutcome w locations denominator k) (walk locations denominator (passOn w k) (k + 1) n)
+unfoldable pub walk : Purpose → (locations denominator : ℕ) → (w : List ℕ) → (k n : ℕ) → Out (Unit {0})
+walk purpose locations denominator w k zero = on tt
+walk purpose locations denominator w k (suc n) =
+    both (counted purpose (stepOutcome w locations denominator k)) (walk purpose locations denominator (passOn w k) (k + 1) n)

@@ -5,6 +5,7 @@ mod words;
 
 use spec::Location;
 use spec::MapNumber;
+use spec::Purpose;
 use spec::Refusal;
 use spec::TypeNumber;
 use steps::check_steps;
@@ -67,22 +68,23 @@ fn check_start(work: &[u32], denominator: u32, locations: u32, start: MapNumber)
     Ruling::Met
 }
 
-// The first reason of 30 to 33 for the sheets that the work space holds; `start` is the number of the map before the root. It
-// notes the maps before steps there, and changes nothing else.
+// The first reason of 30 to 33 for the sheets that the work space holds, when filling of 30 and 31; `start` is the number of the
+// map before the root. It notes the maps before steps there, and changes nothing else.
 pub fn rule(
     work: &mut [u32],
+    purpose: Purpose,
     steps: usize,
     denominator: u32,
     locations: usize,
     start: u32,
 ) -> Ruling
     requires { ⌜ (length (now work) ≡ 16384) × (steps ≤ 256) × (locations ≤ 16) ⌝ }
-    ensures { λ r. ⌜ Ruled (now (work .entry)) steps denominator locations start r (now (work .exit)) ⌝ }
+    ensures { λ r. ⌜ Ruled (now (work .entry)) purpose steps denominator locations start r (now (work .exit)) ⌝ }
 {
     let n = locations as u32;
     let first = check_start(work, denominator, n, MapNumber(start));
     let Ruling::Met = first else {
         return first;
     };
-    check_steps(work, steps as u32, denominator, n, MapNumber(start))
+    check_steps(work, purpose, steps as u32, denominator, n, MapNumber(start))
 }

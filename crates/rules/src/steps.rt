@@ -4,6 +4,8 @@ use super::View;
 use super::words::check_rule;
 use spec::BinaryWord;
 use spec::MapNumber;
+use spec::Purpose;
+use spec::Refusal;
 use spec::TypeNumber;
 use spec::UnaryWord;
 use spec::Word;
@@ -22,10 +24,11 @@ use workspace::word_of;
 ghost use mathlib.Core.Path.{_≡_};
 ghost use Prim.Native.Nat.{_+_, _≤_, _<_};
 ghost use lib.ListN.{length};
+ghost use Rattle.spec.specs.Reading.{stop};
 ghost use Rattle.workspace.specs.Layout.{presAt};
 ghost use Rattle.workspace.specs.Region.{ChangedWithin};
 ghost use Rattle.rules.specs.Outcome.{outcome};
-ghost use Rattle.rules.specs.Walk.{cell, viewOf, atRoot, stepOutcome, putPre, numberOfPart, numberOfSecond, passOn, walk};
+ghost use Rattle.rules.specs.Walk.{cell, viewOf, atRoot, stepOutcome, onTypes, counted, putPre, numberOfPart, numberOfSecond, passOn, walk};
 
 // Entry i of the column that begins at base.
 fn cell(work: &[u32], base: usize, i: u32) -> u32
@@ -67,6 +70,32 @@ fn check_step(work: &[u32], locations: u32, denominator: u32, k: u32) -> Ruling
     let r = rule_of(cell(work, WORDS, k));
     let s = view_of(work, locations, denominator, k);
     check_rule(r, work, s, type_at(work, s.own), type_at(work, s.type1))
+}
+
+// A refusal on types; one on flow or access does not count.
+fn on_types(refusal: Refusal) -> Ruling
+    ensures { λ r. ⌜ outcome r ≡ onTypes (stop refusal) ⌝ }
+{
+    let Refusal::TypeFalse {
+        line: _,
+        condition: _,
+    } = refusal else {
+        return Ruling::Met;
+    };
+    Ruling::Refused(refusal)
+}
+
+// What counts of the ruling on a step: when checking all of it, when filling what it says of types.
+fn counted(purpose: Purpose, r: Ruling) -> Ruling
+    ensures { λ c. ⌜ outcome c ≡ counted purpose (outcome r) ⌝ }
+{
+    match purpose {
+        Purpose::Check => r,
+        Purpose::Fill => match r {
+            Ruling::Met => r,
+            Ruling::Refused(refusal) => on_types(refusal),
+        },
+    }
 }
 
 // The map before a step, for one of the 256 that there may be.
@@ -126,21 +155,22 @@ fn pass_on(work: &mut [u32], k: u32)
     }
 }
 
-// 31 to 33: the steps in line order, each judged once the map before it is known.
+// 31 to 33, or 31 alone when filling: the steps in line order, each judged once the map before it is known.
 pub(crate) fn check_steps(
     work: &mut [u32],
+    purpose: Purpose,
     steps: u32,
     denominator: u32,
     locations: u32,
     start: MapNumber,
 ) -> Ruling
     requires { ⌜ (length (now work) ≡ 16384) × (steps ≤ 256) ⌝ }
-    ensures { λ r. ⌜ (outcome r ≡ walk locations denominator (atRoot (now (work .entry)) start) 0 steps) × ChangedWithin presAt (presAt + 256) (now (work .entry)) (now (work .exit)) ⌝ }
+    ensures { λ r. ⌜ (outcome r ≡ walk purpose locations denominator (atRoot (now (work .entry)) start) 0 steps) × ChangedWithin presAt (presAt + 256) (now (work .entry)) (now (work .exit)) ⌝ }
 {
     work[PRES] = start.0;
     let mut k = 0;
     while k < steps {
-        let r = check_step(work, locations, denominator, k);
+        let r = counted(purpose, check_step(work, locations, denominator, k));
         let Ruling::Met = r else {
             return r;
         };

@@ -31,6 +31,7 @@ use Rattle.spec.proofs.Outcomes.{bind-goes-on, goes-on-bind}
 use Rattle.spec.proofs.Claims.{none-false-all-hold, all-hold-none-false, all-hold-parts, all-hold-append}
 use Rattle.spec.proofs.Agreement.{agree-reflexive}
 use Rattle.spec.proofs.Accepted.{accept-goes-on}
+use Rattle.spec.specs.declared.Purpose.the-variants.{Check}
 
 -- ------------------------------------------------------------------ the check before
 
@@ -86,7 +87,7 @@ checkedBefore room programText splitText = do
   fits ← demand (leb (length programText) programLimit) LongProgram
   P ← program programText
   fits′ ← demand (leb (length splitText) splitLimit) LongSplit
-  S ← split (P .steps) splitText
+  S ← split Check (P .steps) splitText
   whole ← startAtMostOne P S
   firstFalse (claimsBefore S (sites S [] (startMap S) (P .root)))
 

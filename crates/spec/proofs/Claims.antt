@@ -1,13 +1,14 @@
 -- No claim of a list is false exactly when all of them hold; else the first that is false is named.
 use mathlib.Core.Path.{_≡_, refl, ap, sym, _∙_, subst}
 use mathlib.Core.List.{List, [], _∷_, _++_, append-assoc}
-use mathlib.Core.Bool.{true, false}
+use mathlib.Core.Bool.{Bool, true, false}
 use mathlib.Core.Option.{none, some}
 use Prim.Native.Nat.{ℕ}
+use Rattle.spec.specs.Choice.{if_then_else_}
 use Rattle.spec.specs.Reading.{Out, stop, on, _>>=_}
 use Rattle.spec.specs.Split.{Split}
 use Rattle.spec.specs.Conditions.{Condition, T, F, A}
-use Rattle.spec.specs.Sites.{Site, Claim, claims, claimsAt, judge, firstFalse}
+use Rattle.spec.specs.Sites.{Site, Claim, claims, claimsAt, judge, firstFalse, only}
 use Rattle.spec.specs.FirstFalse.{Holds, AllHold, Names, type, flow, access, FirstFalse}
 use Rattle.spec.specs.declared.Refusal.{Refusal}
 use Rattle.spec.proofs.Clashes.{true-is-not-false, none-is-not-some, not-true-false}
@@ -55,6 +56,17 @@ pub all-hold-append : (xs ys : List Claim) → AllHold xs → AllHold ys → All
 unfolding AllHold
 all-hold-append [] ys p q = q
 all-hold-append (x ∷ xs) ys p q = (p .0, all-hold-append xs ys (p .1) q)
+
+-- the claims of one sort, of two lists
+pub only-append : (sort : Condition → Bool) (xs ys : List Claim) → only sort (xs ++ ys) ≡ only sort xs ++ only sort ys
+unfolding only
+only-append sort [] ys = refl
+only-append sort (c ∷ xs) ys = go (sort (c .condition)) (only-append sort xs ys)
+  where
+    go : (b : Bool) → only sort (xs ++ ys) ≡ only sort xs ++ only sort ys
+        → (if b then c ∷ only sort (xs ++ ys) else only sort (xs ++ ys)) ≡ (if b then c ∷ only sort xs else only sort xs) ++ only sort ys
+    go true e = ap (c ∷_) e
+    go false e = e
 
 pub claims-append : (S : Split) (xs ys : List Site) → claims S (xs ++ ys) ≡ claims S xs ++ claims S ys
 unfolding claims

@@ -13,6 +13,7 @@ use Rattle.spec.specs.Program.{Program, program}
 use Rattle.spec.specs.Split.{Split, split}
 use Rattle.spec.specs.Verdict.{refuseOver, startAtMostOne, four, returned, onConditions}
 use Rattle.spec.specs.declared.Answer.the-variants.{Refuse}
+use Rattle.spec.specs.declared.Purpose.{Purpose}
 use Rattle.spec.specs.declared.Refusal.{Refusal}
 use Rattle.spec.specs.declared.Refusal.the-variants.{ProgramLines, Unbound, Rebound}
 use Rattle.spec.specs.declared.LeafWord.the-variants.{Var, Int, Newtid, Newlock, Newsem}
@@ -148,9 +149,9 @@ program-early text =
     early-bind _ _ (single-early (n .0) _) λ e.
     early-bind _ _ (scope-early e [] []) λ bound. tt
 
-pub split-early : (steps : List Step) (text : List ℕ) → Early (split steps text)
+pub split-early : (purpose : Purpose) (steps : List Step) (text : List ℕ) → Early (split purpose steps text)
 unfolding split
-split-early steps text =
+split-early purpose steps text =
     early-bind _ _ (begin-early splitSheet _) λ top.
     early-bind _ _ (next-early splitSheet _ top) λ H.
     early-bind _ _ (all-early splitSheet _ (H .1)) λ types.

@@ -15,7 +15,7 @@ use Rattle.spec.specs.Text.{bytes, same, Line, closed, unclosed, onLine,
 use Rattle.spec.specs.Reading.{splitSheet, Out, stop, on, _>>=_, demand, noStart, Seen, right, wrong, badRange, seen, insist, inRange, allInRange, withNumeral, numerals, ranged, numbers, faulty, passed, nextLine, next, nextAll, begin, end, Place}
 use Rattle.spec.specs.Expression.{Step}
 use Rattle.spec.specs.Program.{Program, programLimit, program}
-use Rattle.spec.specs.Split.{Map, Header, headings, headerRanges, mapsOf, mapsIn, startOf, headerOf, headed, headerLine, typeLine, typeLines, mapLine, Row, startRange, mayBeEmpty, rowLine, Split, splitLimit, split}
+use Rattle.spec.specs.Split.{Map, Header, headings, headerRanges, mapsOf, mapsIn, startOf, headerOf, headed, headerLine, typeLine, typeLines, mapLine, Row, startRange, mayBeEmpty, postRange, rowLine, Split, splitLimit, split}
 use Rattle.spec.specs.Workspace.{workspaceSize}
 use Rattle.spec.specs.Verdict.{startAtMostOne, ruled, checked, answer, verdict}
 use Rattle.spec.specs.declared.Heading.the-variants.{C, C2}
@@ -23,6 +23,7 @@ use Rattle.spec.specs.declared.TypeLine.{TypeLine}
 use Rattle.spec.specs.declared.Refusal.the-variants.{ShortWorkspace, LongProgram, LongSplit, NoStart}
 use Rattle.spec.specs.declared.Answer.the-variants.{Refuse}
 use Rattle.spec.proofs.NoHeading.{headedAs, under, same-start, same-ruled}
+use Rattle.spec.specs.declared.Purpose.the-variants.{Check}
 
 -- ------------------------------------------------------------------ the numbers of the header
 
@@ -75,7 +76,7 @@ judged (some (d ∷ l ∷ t ∷ m ∷ r ∷ ns)) =
       ne-eqb (length (d ∷ l ∷ t ∷ m ∷ r ∷ ns ++ 0 ∷ [])) 5 (λ e. omega (arith, e, length-append ns (0 ∷ []))),
     )
 
-header-named : (fs : List Field) → headerLine (bytes "C2" ∷ fs ++ (48 ∷ []) ∷ []) ≡ seen (headedAs C2) (headerLine (bytes "C" ∷ fs))
+header-named : (fs : List Field) → headerLine Check (bytes "C2" ∷ fs ++ (48 ∷ []) ∷ []) ≡ seen (headedAs C2) (headerLine Check (bytes "C" ∷ fs))
 unfolding headerLine headings lookUp same bytes headed numbers
 header-named fs =
     ap (λ (o : Option (List ℕ)). seen (headerOf C2) (ranged (headerRanges C2 (mapsIn o)) o)) (numerals-zero fs) ∙ judged (numerals fs)
@@ -129,9 +130,9 @@ module _ (a : List ℕ) where
   abbrev pub named : List ℕ
   named = bytes "C2," ++ a ++ bytes ",0"
 
-  line-named : headerLine (fields named) ≡ seen (headedAs C2) (headerLine (fields unnamed))
+  line-named : headerLine Check (fields named) ≡ seen (headedAs C2) (headerLine Check (fields unnamed))
   unfolding bytes fields onField
-  line-named = ap (λ (fs : List Field). headerLine (bytes "C2" ∷ fs)) (fields-append a (48 ∷ [])) ∙ header-named (fields a)
+  line-named = ap (λ (fs : List Field). headerLine Check (bytes "C2" ∷ fs)) (fields-append a (48 ∷ [])) ∙ header-named (fields a)
 
 -- ------------------------------------------------------------------ the lines behind it
 
@@ -157,8 +158,8 @@ module _ (H : Header) where
   empty-alike true (right a) = same-row refl
   empty-alike false (right a) = turned-away refl
 
-  row-alike : (s : Step) (fs : List Field) → Alike (rowLine (headedAs C2 H) s fs) (rowLine H s fs)
-  unfolding rowLine startRange mayBeEmpty headedAs
+  row-alike : (s : Step) (fs : List Field) → Alike (rowLine Check (headedAs C2 H) s fs) (rowLine Check H s fs)
+  unfolding rowLine postRange startRange mayBeEmpty headedAs
   row-alike s [] = same-row refl
   row-alike s (t ∷ []) = same-row refl
   row-alike s (t ∷ m ∷ []) = same-row refl
@@ -193,25 +194,25 @@ module _ (H : Header) where
   unfolding passed faulty
   away k ls e = rw e
 
-  line-alike : (s : Step) (k : ℕ) (ls : List Line) → Started (nextLine splitSheet (rowLine H s) k ls)
-      → nextLine splitSheet (rowLine (headedAs C2 H) s) k ls ≡ nextLine splitSheet (rowLine H s) k ls
+  line-alike : (s : Step) (k : ℕ) (ls : List Line) → Started (nextLine splitSheet (rowLine Check H s) k ls)
+      → nextLine splitSheet (rowLine Check (headedAs C2 H) s) k ls ≡ nextLine splitSheet (rowLine Check H s) k ls
   unfolding nextLine Started
   line-alike s k [] started = refl
   line-alike s k (unclosed l ∷ ls) started = refl
   line-alike s k (closed l ∷ ls) started = by-cases (row-alike H s (fields l))
     where
-      by-cases : Alike H (rowLine (headedAs C2 H) s (fields l)) (rowLine H s (fields l))
-          → passed splitSheet (k + 1) ls (rowLine (headedAs C2 H) s (fields l)) ≡ passed splitSheet (k + 1) ls (rowLine H s (fields l))
+      by-cases : Alike H (rowLine Check (headedAs C2 H) s (fields l)) (rowLine Check H s (fields l))
+          → passed splitSheet (k + 1) ls (rowLine Check (headedAs C2 H) s (fields l)) ≡ passed splitSheet (k + 1) ls (rowLine Check H s (fields l))
       by-cases (same-row e) = ap (passed splitSheet (k + 1) ls) e
       by-cases (turned-away e) = absurd (started (k + 1) (away (k + 1) ls e))
 
-  rows-alike : (steps : List Step) (p : Place) → Started (nextAll splitSheet (map (rowLine H) steps) p)
-      → nextAll splitSheet (map (rowLine (headedAs C2 H)) steps) p ≡ nextAll splitSheet (map (rowLine H) steps) p
+  rows-alike : (steps : List Step) (p : Place) → Started (nextAll splitSheet (map (rowLine Check H) steps) p)
+      → nextAll splitSheet (map (rowLine Check (headedAs C2 H)) steps) p ≡ nextAll splitSheet (map (rowLine Check H) steps) p
   unfolding nextAll next
   rows-alike [] p started = refl
   rows-alike (s ∷ steps) p started =
       rw (line-alike s (p .last) (p .rest) (first-started _ _ started))
-      (same-then (nextLine splitSheet (rowLine H s) (p .last) (p .rest)) _ _
+      (same-then (nextLine splitSheet (rowLine Check H s) (p .last) (p .rest)) _ _
       (λ (a, after) rest-started. rw (rows-alike steps after (first-started _ _ rest-started))) started)
 
 -- ------------------------------------------------------------------ the sheet, from the header on
@@ -224,7 +225,7 @@ module _ (H : Header) (steps : List Step) where
     on (record { header = H; types = types; maps = maps; rows = rows })
 
   unfoldable afterMaps : List TypeLine → List Map × Place → Out Split
-  afterMaps types (maps, p) = nextAll splitSheet (map (rowLine H) steps) p >>= afterRows types maps
+  afterMaps types (maps, p) = nextAll splitSheet (map (rowLine Check H) steps) p >>= afterRows types maps
 
   unfoldable afterTypes : List TypeLine × Place → Out Split
   afterTypes (types, p) = nextAll splitSheet (replicate (H .maps) (mapLine H)) p >>= afterMaps types
@@ -254,7 +255,7 @@ module _ (P : Program) (H : Header) (steps : List Step) where
   maps-same types (maps, p) started =
       ap (λ (o : Out (List Row × Place)). o >>= afterRows (headedAs C2 H) steps types maps >>= ruling P)
       (rows-alike H steps p (first-started _ _ (first-started _ (ruling P) started)))
-      ∙ same-on (nextAll splitSheet (map (rowLine H) steps) p) _ _ (ruling P) (ruling P) (rows-same types maps) started
+      ∙ same-on (nextAll splitSheet (map (rowLine Check H) steps) p) _ _ (ruling P) (ruling P) (rows-same types maps) started
 
   types-same : (x : List TypeLine × Place) → Started (afterTypes H steps x >>= ruling P)
       → (afterTypes (headedAs C2 H) steps x >>= ruling P) ≡ (afterTypes H steps x >>= ruling P)
@@ -275,7 +276,7 @@ unfoldable behind : List Step → Header × Place → Out Split
 behind steps (H, p) = afterHeader H steps p
 
 by-lines : (steps : List Step) (l t : List ℕ) → OneLine l
-    → split steps (l above t) ≡ (passed splitSheet 1 (lines t) (headerLine (fields l)) >>= behind steps)
+    → split Check steps (l above t) ≡ (passed splitSheet 1 (lines t) (headerLine Check (fields l)) >>= behind steps)
 unfolding split begin next nextLine _>>=_ behind afterHeader afterTypes afterMaps afterRows
 by-lines steps l t one = rw (above-lines l t one)
 
@@ -300,12 +301,12 @@ module _ (a t : List ℕ) (one : OneLine a) where
       let zero-named = one-line-append a (44 ∷ 48 ∷ []) one (another 44 (omega arith), (another 48 (omega arith), tt)) in
       (another 67 (omega arith), (another 50 (omega arith), (another 44 (omega arith), zero-named)))
 
-  sheet-same : (P : Program) → Started (split (P .steps) (unnamed a above t) >>= ruling P)
-      → (split (P .steps) (named a above t) >>= ruling P) ≡ (split (P .steps) (unnamed a above t) >>= ruling P)
+  sheet-same : (P : Program) → Started (split Check (P .steps) (unnamed a above t) >>= ruling P)
+      → (split Check (P .steps) (named a above t) >>= ruling P) ≡ (split Check (P .steps) (unnamed a above t) >>= ruling P)
   sheet-same P started =
       ap (λ (o : Out Split). o >>= ruling P) (by-lines (P .steps) (named a) t named-line)
       ∙ ap (λ (s : Seen Header). passed splitSheet 1 (lines t) s >>= behind (P .steps) >>= ruling P) (line-named a)
-      ∙ passed-same P (P .steps) (lines t) (headerLine (fields (unnamed a)))
+      ∙ passed-same P (P .steps) (lines t) (headerLine Check (fields (unnamed a)))
       (along Started (ap (λ (o : Out Split). o >>= ruling P) (by-lines (P .steps) (unnamed a) t unnamed-line)) started)
       ∙ sym (ap (λ (o : Out Split). o >>= ruling P) (by-lines (P .steps) (unnamed a) t unnamed-line))
 
@@ -316,9 +317,9 @@ module _ (a t : List ℕ) (one : OneLine a) where
         omega (arith, fits, length-append a (10 ∷ t), length-append (a ++ 44 ∷ 48 ∷ []) (10 ∷ t), length-append a (44 ∷ 48 ∷ []))
 
     answer-same : (P : Program)
-        → Started (demand (leb (length (unnamed a above t)) splitLimit) LongSplit >>= λ fits. split (P .steps) (unnamed a above t) >>= ruling P)
-        → (demand (leb (length (named a above t)) splitLimit) LongSplit >>= λ fits. split (P .steps) (named a above t) >>= ruling P)
-        ≡ (demand (leb (length (unnamed a above t)) splitLimit) LongSplit >>= λ fits. split (P .steps) (unnamed a above t) >>= ruling P)
+        → Started (demand (leb (length (unnamed a above t)) splitLimit) LongSplit >>= λ fits. split Check (P .steps) (unnamed a above t) >>= ruling P)
+        → (demand (leb (length (named a above t)) splitLimit) LongSplit >>= λ fits. split Check (P .steps) (named a above t) >>= ruling P)
+        ≡ (demand (leb (length (unnamed a above t)) splitLimit) LongSplit >>= λ fits. split Check (P .steps) (unnamed a above t) >>= ruling P)
     unfolding demand _>>=_
     answer-same P started = rw (le-leb _ _ fits, le-leb _ _ shorter) (sheet-same P (rw (le-leb _ _ shorter) at started))
 

@@ -13,8 +13,10 @@ use Rattle.spec.specs.Choice.{if_then_else_}
 use Rattle.spec.specs.Text.{Line, bytes, same, Field, lookUp}
 use Rattle.spec.specs.Reading.{Fault, badForm, badRange, noStart, Seen, right, wrong, seen, insist, Range, _to_, below, inRange, allInRange, numerals, ranged, numbers}
 use Rattle.spec.specs.Expression.{Step}
-use Rattle.spec.specs.Split.{Map, Header, headings, headerRanges, mapsOf, mapsIn, startOf, headerOf, headed, headerLine, refOf, lockOf, tidOf, semOf, typeLine, typeLines, mapLine, Row, rowOf, startGiven, takesStart, startRange, rowLine, Split}
+use Rattle.spec.specs.Split.{Map, Header, headings, headerRanges, mapsOf, mapsIn, startOf, headerOf, headed, headerLine, refOf, lockOf, tidOf, semOf, typeLine, typeLines, mapLine, Row, rowOf, startGiven, takesStart, startRange, postRange, postField, rowLine, Split}
 use Rattle.spec.specs.WellFormed.{Shows, nothing, line, WellFormedSplit}
+use Rattle.spec.specs.declared.Purpose.{Purpose}
+use Rattle.spec.specs.declared.Purpose.the-variants.{Check, Fill}
 use Rattle.spec.specs.Ranges.{InRange}
 use Rattle.spec.specs.declared.Heading.{Heading}
 use Rattle.spec.specs.declared.Heading.the-variants.{C, C2}
@@ -145,10 +147,10 @@ headed-fits (some C2) fs H h =
       start = omega (arith, in-below _ _ (at 4 (omega arith)), named);
     })
 
-header-fits : (fs : List Field) (H : Header) → headerLine fs ≡ right H → HeaderFits H
+header-fits : (purpose : Purpose) (fs : List Field) (H : Header) → headerLine purpose fs ≡ right H → HeaderFits H
 unfolding headerLine
-header-fits [] H h = wrong-is-not-right h
-header-fits (f ∷ fs) H h = headed-fits (lookUp headings f) fs H h
+header-fits purpose [] H h = wrong-is-not-right h
+header-fits purpose (f ∷ fs) H h = headed-fits (lookUp (headings purpose) f) fs H h
 
 -- ------------------------------------------------------------------ type lines
 
@@ -251,29 +253,36 @@ start-below w H n h = by-cases (takesStart w) (in-below _ n h)
     by-cases true q = q
     by-cases false q = absurd (omega arith)
 
+-- for every purpose, a number m is a map
+post-below : (purpose : Purpose) (H : Header) (m : Field) (n : ℕ) → inRange (postRange purpose H m) n ≡ true → n < H .maps
+unfolding postRange
+post-below Check H m n h = in-below _ n h
+post-below Fill H [] n h = in-below _ n h
+post-below Fill H (b ∷ m) n h = absurd (omega (arith, in-below _ n h))
+
 pub insist-right : {A : Type 0} {a : A} (b : Bool) (w : Fault) (x : Seen A) → insist b w x ≡ right a → (b ≡ true) × (x ≡ right a)
 unfolding insist
 insist-right b w (wrong v) h = wrong-is-not-right h
 insist-right true w (right a) h = (refl, h)
 insist-right false w (right a) h = wrong-is-not-right h
 
-module _ (H : Header) where
-  row-fits : (s : Step) (fs : List Field) (r : Row) → rowLine H s fs ≡ right r → RowFits H r
+module _ (purpose : Purpose) (H : Header) where
+  row-fits : (s : Step) (fs : List Field) (r : Row) → rowLine purpose H s fs ≡ right r → RowFits H r
   unfolding rowLine rowOf startGiven RowFits StartFits
   row-fits s [] r h = wrong-is-not-right h
   row-fits s (t ∷ []) r h = wrong-is-not-right h
   row-fits s (t ∷ m ∷ []) r h = wrong-is-not-right h
   row-fits s (t ∷ m ∷ [] ∷ []) r h =
       let (ns, n, e) = seen-right _ (insist-right _ noStart _ h .1) in
-      let at = in-range-at (below (H .types) ∷ below (H .maps) ∷ []) (t ∷ m ∷ []) ns n in
-      along (RowFits H) e (in-below _ _ (at 0 (omega arith)), in-below _ _ (at 1 (omega arith)), tt)
+      let at = in-range-at (below (H .types) ∷ postRange purpose H m ∷ []) (t ∷ postField purpose m ∷ []) ns n in
+      along (RowFits H) e (in-below _ _ (at 0 (omega arith)), post-below purpose H m _ (at 1 (omega arith)), tt)
   row-fits s (t ∷ m ∷ (b ∷ f) ∷ []) r h =
       let (ns, n, e) = seen-right _ h in
-      let at = in-range-at (below (H .types) ∷ below (H .maps) ∷ startRange (s .word) H ∷ []) (t ∷ m ∷ (b ∷ f) ∷ []) ns n in
-      along (RowFits H) e (in-below _ _ (at 0 (omega arith)), in-below _ _ (at 1 (omega arith)), start-below (s .word) H _ (at 2 (omega arith)))
+      let at = in-range-at (below (H .types) ∷ postRange purpose H m ∷ startRange (s .word) H ∷ []) (t ∷ postField purpose m ∷ (b ∷ f) ∷ []) ns n in
+      along (RowFits H) e (in-below _ _ (at 0 (omega arith)), post-below purpose H m _ (at 1 (omega arith)), start-below (s .word) H _ (at 2 (omega arith)))
   row-fits s (t ∷ m ∷ f ∷ g ∷ fs) r h = wrong-is-not-right h
 
-  rows-fit : (steps : List Step) {ls rest : List Line} {rs : List Row} → Shows (map (rowLine H) steps) ls rs rest
+  rows-fit : (steps : List Step) {ls rest : List Line} {rs : List Row} → Shows (map (rowLine purpose H) steps) ls rs rest
       → (length rs ≡ length steps) × ((i : ℕ) (d : Row) → i < length rs → RowFits H (getD rs i d))
   rows-fit [] nothing = (refl, λ i d h. absurd (omega arith))
   rows-fit (s ∷ steps) (line {a = a} {as′ = rs} h more) =
@@ -286,14 +295,15 @@ module _ (H : Header) where
 
 -- ------------------------------------------------------------------ the sheet
 
-pub well-formed-in-range : {steps : List Step} {text : List ℕ} {S : Split} → WellFormedSplit steps text S → InRange steps S
+pub well-formed-in-range : {purpose : Purpose} {steps : List Step} {text : List ℕ} {S : Split} → WellFormedSplit purpose steps text S
+    → InRange steps S
 unfolding TypeFits RowFits StartFits
-well-formed-in-range {steps} {text} {S} F =
+well-formed-in-range {purpose} {steps} {text} {S} F =
     let H = S .header in
-    let head = header-fits _ H (F .headed) in
+    let head = header-fits purpose _ H (F .headed) in
     let (typesCounted, types) = types-fit H 0 (H .types) (F .typed) in
     let (mapsCounted, wide) = maps-wide H (H .maps) (F .mapped) in
-    let (rowsCounted, rows) = rows-fit H steps (F .rowed) in
+    let (rowsCounted, rows) = rows-fit purpose H steps (F .rowed) in
     let fits : (t : ℕ) (τ : TypeLine) → t < length (S .types) → getD (S .types) t type-line.Int ≡ τ → TypeFits H t τ =
     λ t τ h e. let z : 0 + t ≡ t = omega arith in along (TypeFits H t) e (along (λ o. TypeFits H o (getD (S .types) t type-line.Int)) z (types t h)) in
     record {

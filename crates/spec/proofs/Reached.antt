@@ -16,6 +16,7 @@ use Rattle.spec.proofs.Outcomes.{stop-is-not-on, goes-on-bind, demand-g
 use Rattle.spec.proofs.Maps.{none-at-most, at-most-none}
 use Rattle.spec.proofs.WellFormed.{program-well-formed, well-formed-program, split-well-formed, well-formed-split}
 use Rattle.spec.proofs.EarlyRefusals.{Late, past, early-demand, program-early, split-early, start-early}
+use Rattle.spec.specs.declared.Purpose.the-variants.{Check}
 
 -- ------------------------------------------------------------------ the start
 
@@ -44,7 +45,7 @@ pub record Reached (room : ℕ) (p s : List ℕ) (o : Out (Unit {0})) : Type 0 w
   pub S : Split
   pub enough : workspaceSize ≤ room
   pub program : WellFormedProgram p P
-  pub split : WellFormedSplit (P .steps) s S
+  pub split : WellFormedSplit Check (P .steps) s S
   pub atMostOne : AtMost (S .header .denominator) (startMap S)
   pub outcome : ruled P S ≡ o
 
@@ -55,13 +56,13 @@ reached room p s o late h =
     past o _ _ (early-demand _ _ refl) late r₁ λ _ fits r₂.
     past o _ _ (program-early p) late r₂ λ P reads r₃.
     past o _ _ (early-demand _ _ refl) late r₃ λ _ splitFits r₄.
-    past o _ _ (split-early (P .steps) s) late r₄ λ S splits r₅.
+    past o _ _ (split-early Check (P .steps) s) late r₄ λ S splits r₅.
     past o _ _ (start-early P S) late r₅ λ _ whole r₆. record {
       P = P;
       S = S;
       enough = leb-true _ _ (demand-goes-on _ _ enough);
       program = program-well-formed p (leb-true _ _ (demand-goes-on _ _ fits)) reads;
-      split = split-well-formed (P .steps) s (leb-true _ _ (demand-goes-on _ _ splitFits)) splits;
+      split = split-well-formed Check (P .steps) s (leb-true _ _ (demand-goes-on _ _ splitFits)) splits;
       atMostOne = start-at-most-one P S whole;
       outcome = r₆;
     }
@@ -73,5 +74,5 @@ reached-checked room p s o r =
     (goes-on-bind _ _ (goes-on-demand _ _ (le-leb _ _ (r .program .fits)))
     (goes-on-bind _ _ (well-formed-program p (r .program))
     (goes-on-bind _ _ (goes-on-demand _ _ (le-leb _ _ (r .split .fits)))
-    (goes-on-bind _ _ (well-formed-split (r .P .steps) s (r .split))
+    (goes-on-bind _ _ (well-formed-split Check (r .P .steps) s (r .split))
     (goes-on-bind _ _ (at-most-one-start (r .P) (r .S) (r .atMostOne)) (r .outcome))))))

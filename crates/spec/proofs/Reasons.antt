@@ -12,6 +12,7 @@ use Rattle.spec.specs.Verdict.{startAtMostOne, ruled, checked, answer, v
 use Rattle.spec.specs.declared.Answer.the-variants.{Refuse}
 use Rattle.spec.specs.declared.Refusal.{Refusal}
 use Rattle.spec.specs.declared.Refusal.the-variants.{ShortWorkspace, LongProgram, LongSplit}
+use Rattle.spec.specs.declared.Purpose.the-variants.{Check}
 
 pub short-workspace : (room : ℕ) (p s : List ℕ) → room < 16384 → verdict room p s ≡ Refuse ShortWorkspace
 unfolding verdict checked answer demand _>>=_ workspaceSize
@@ -33,10 +34,10 @@ module _ (room : ℕ) (p s : List ℕ) (enough : 16384 ≤ room) where
       long-split h = rw (le-leb _ _ enough, le-leb _ _ fits, reads, lt-leb _ _ h)
 
       module _ (fits′ : length s ≤ 65536) where
-        pub split-refused : (r : Refusal) → split (P .steps) s ≡ stop r → verdict room p s ≡ Refuse r
+        pub split-refused : (r : Refusal) → split Check (P .steps) s ≡ stop r → verdict room p s ≡ Refuse r
         unfolding verdict checked answer demand _>>=_ workspaceSize programLimit splitLimit
         split-refused r e = rw (le-leb _ _ enough, le-leb _ _ fits, reads, le-leb _ _ fits′, e)
 
-        pub rules-decide : (S : Split) → split (P .steps) s ≡ on S → verdict room p s ≡ answer (startAtMostOne P S >>= λ whole. ruled P S)
+        pub rules-decide : (S : Split) → split Check (P .steps) s ≡ on S → verdict room p s ≡ answer (startAtMostOne P S >>= λ whole. ruled P S)
         unfolding verdict checked demand _>>=_ workspaceSize programLimit splitLimit
         rules-decide S e = rw (le-leb _ _ enough, le-leb _ _ fits, reads, le-leb _ _ fits′, e)

@@ -11,6 +11,7 @@ use Rattle.spec.specs.Reading.{noStart, right}
 use Rattle.spec.specs.Expression.{Step}
 use Rattle.spec.specs.Split.{Header, Row, rowOf, startGiven, takesStart, mayBeEmpty, rowLine, Split}
 use Rattle.spec.specs.WellFormed.{Shows, nothing, line, WellFormedSplit}
+use Rattle.spec.specs.declared.Purpose.{Purpose}
 use Rattle.spec.specs.declared.Heading.the-variants.{C}
 use Rattle.spec.specs.declared.MapNumber.{MapNumber}
 use Rattle.spec.proofs.Clashes.{true-is-not-false}
@@ -20,8 +21,8 @@ use Rattle.spec.proofs.Ranges.{wrong-is-not-right, seen-right, insist-r
 abbrev pub Started : Row → Type 0
 Started r = (m : MapNumber) × (r .start ≡ some m)
 
-module _ (H : Header) (plain : H .heading ≡ C) where
-  row-started : (s : Step) (fs : List Field) (r : Row) → takesStart (s .word) ≡ true → rowLine H s fs ≡ right r → Started r
+module _ (purpose : Purpose) (H : Header) (plain : H .heading ≡ C) where
+  row-started : (s : Step) (fs : List Field) (r : Row) → takesStart (s .word) ≡ true → rowLine purpose H s fs ≡ right r → Started r
   unfolding rowLine rowOf mayBeEmpty
   row-started s [] r spawns h = wrong-is-not-right h
   row-started s (t ∷ []) r spawns h = wrong-is-not-right h
@@ -35,13 +36,14 @@ module _ (H : Header) (plain : H .heading ≡ C) where
       (startGiven ns, sym (ap (λ (q : Row). q .start) e))
   row-started s (t ∷ m ∷ f ∷ g ∷ fs) r spawns h = wrong-is-not-right h
 
-  rows-started : (steps : List Step) {ls rest : List Line} {rs : List Row} → Shows (map (rowLine H) steps) ls rs rest
+  rows-started : (steps : List Step) {ls rest : List Line} {rs : List Row} → Shows (map (rowLine purpose H) steps) ls rs rest
       → (i : ℕ) (s : Step) (r : Row) → i < length steps → takesStart (getD steps i s .word) ≡ true → Started (getD rs i r)
   rows-started [] nothing i s r h spawns = absurd (omega arith)
   rows-started (x ∷ steps) (line shown more) zero s r h spawns = row-started x _ _ spawns shown
   rows-started (x ∷ steps) (line shown more) (suc i) s r h spawns = rows-started steps more i s r (omega arith) spawns
 
 -- a well-formed `C` sheet has no empty start on any spawn
-pub spawns-started : {steps : List Step} {text : List ℕ} {S : Split} → WellFormedSplit steps text S → S .header .heading ≡ C
+pub spawns-started : {purpose : Purpose} {steps : List Step} {text : List ℕ} {S : Split} → WellFormedSplit purpose steps text S
+    → S .header .heading ≡ C
     → (i : ℕ) (s : Step) (r : Row) → i < length steps → takesStart (getD steps i s .word) ≡ true → Started (getD (S .rows) i r)
-spawns-started {steps} {S = S} F plain i s r h spawns = rows-started (S .header) plain steps (F .rowed) i s r h spawns
+spawns-started {purpose} {steps} {S = S} F plain i s r h spawns = rows-started purpose (S .header) plain steps (F .rowed) i s r h spawns

@@ -14,11 +14,12 @@ use Rattle.spec.specs.Text.{bytes, Line, closed, unclosed, lines, Field,
 use Rattle.spec.specs.Reading.{Out, stop, on, _>>=_, demand, Seen, right, wrong, badRange, seen, below, inRange, allInRange, withNumeral, numerals, ranged, numbers, splitSheet, Place, passed, nextLine, next, nextAll, begin, end}
 use Rattle.spec.specs.Expression.{Step}
 use Rattle.spec.specs.Program.{Program, program, programLimit}
-use Rattle.spec.specs.Split.{splitLimit, Header, headerLine, typeLines, mapLine, Row, rowOf, startGiven, takesStart, startRange, rowLine, Split, split}
+use Rattle.spec.specs.Split.{splitLimit, Header, headerLine, typeLines, mapLine, Row, rowOf, startGiven, takesStart, startRange, postRange, postField, rowLine, Split, split}
 use Rattle.spec.specs.Workspace.{workspaceSize}
 use Rattle.spec.specs.Verdict.{startAtMostOne, ruled, checked, answer, verdict}
 use Rattle.spec.specs.declared.Answer.{Answer}
 use Rattle.spec.specs.declared.Refusal.the-variants.{ShortWorkspace, LongProgram, LongSplit}
+use Rattle.spec.specs.declared.Purpose.the-variants.{Check}
 
 -- ------------------------------------------------------------------ the reading before
 
@@ -36,12 +37,12 @@ unfoldable pub rowLineFormerly : Header → Step → List Field → Seen Row
 rowLineFormerly H s fs =
     if startLeft s fs
     then seen (rowOf (some (record { 0 = 0 }))) (numbers (below (H .types) ∷ below (H .maps) ∷ []) (take 2 fs))
-    else rowLine H s fs
+    else rowLine Check H s fs
 
 unfoldable pub splitFormerly : List Step → List ℕ → Out Split
 splitFormerly steps text = do
   top ← begin splitSheet (lines text)
-  (H, p₁) ← next splitSheet headerLine top
+  (H, p₁) ← next splitSheet (headerLine Check) top
   (types, p₂) ← nextAll splitSheet (typeLines H 0 (H .types)) p₁
   (maps, p₃) ← nextAll splitSheet (replicate (H .maps) (mapLine H)) p₂
   (rows, p₄) ← nextAll splitSheet (map (rowLineFormerly H) steps) p₃
@@ -89,7 +90,7 @@ zerosBehind (right H) steps ls = along (replicate (H .types) kept ++ (replicate 
 unfoldable pub zerosWritten : List Step → List Line → List Line
 zerosWritten steps [] = []
 zerosWritten steps (unclosed l ∷ ls) = unclosed l ∷ ls
-zerosWritten steps (closed l ∷ ls) = closed l ∷ zerosBehind (headerLine (fields l)) steps ls
+zerosWritten steps (closed l ∷ ls) = closed l ∷ zerosBehind (headerLine Check (fields l)) steps ls
 
 -- ------------------------------------------------------------------ one line
 
@@ -145,29 +146,29 @@ module _ (H : Header) (s : Step) where
       rw (zero-in-range (H .types) (H .maps) t m) (judged-alike t m (allInRange (below (H .types) ∷ below (H .maps) ∷ []) (t ∷ m ∷ [])))
 
   -- a spawn's row with an empty start, and the same with 0
-  zero-alike : (t m : Field) → takesStart (s .word) ≡ true → rowLineFormerly H s (t ∷ m ∷ [] ∷ []) ≡ rowLine H s (t ∷ m ∷ bytes "0" ∷ [])
-  unfolding rowLineFormerly startLeft rowLine startRange numbers numerals numeral digitLimit digits leadingZero value bytes withNumeral
+  zero-alike : (t m : Field) → takesStart (s .word) ≡ true → rowLineFormerly H s (t ∷ m ∷ [] ∷ []) ≡ rowLine Check H s (t ∷ m ∷ bytes "0" ∷ [])
+  unfolding rowLineFormerly startLeft rowLine postRange postField startRange numbers numerals numeral digitLimit digits leadingZero value bytes withNumeral
   zero-alike t m h = rw h (numbers-alike (numeral t) (numeral m))
 
-  unchanged : (l : List ℕ) → startLeft s (fields l) ≡ false → rowLineFormerly H s (fields l) ≡ rowLine H s (fields (writeZero s l))
+  unchanged : (l : List ℕ) → startLeft s (fields l) ≡ false → rowLineFormerly H s (fields l) ≡ rowLine Check H s (fields (writeZero s l))
   unfolding rowLineFormerly writeZero
   unchanged l h = rw h
 
   fields-alike : (f : Field) (fs : List Field) (l : List ℕ) → fields l ≡ f ∷ fs → fields (l ++ bytes "0") ≡ onLast 48 f fs
-      → rowLineFormerly H s (fields l) ≡ rowLine H s (fields (writeZero s l))
+      → rowLineFormerly H s (fields l) ≡ rowLine Check H s (fields (writeZero s l))
   unfolding startLeft writeZero onLast bytes
   fields-alike t [] l e e′ = unchanged l (rw e)
   fields-alike t (m ∷ []) l e e′ = unchanged l (rw e)
   fields-alike t (m ∷ [] ∷ []) l e e′ = by-word (takesStart (s .word)) refl
     where
-      by-word : (b : Bool) → takesStart (s .word) ≡ b → rowLineFormerly H s (fields l) ≡ rowLine H s (fields (writeZero s l))
+      by-word : (b : Bool) → takesStart (s .word) ≡ b → rowLineFormerly H s (fields l) ≡ rowLine Check H s (fields (writeZero s l))
       by-word true h = rw (e, h, e′) (zero-alike t m h)
       by-word false h = unchanged l (rw e h)
   fields-alike t (m ∷ (b ∷ f) ∷ []) l e e′ = unchanged l (rw e)
   fields-alike t (m ∷ f ∷ g ∷ fs) l e e′ = unchanged l (rw e)
 
   -- a row reads now, with 0 written, as it used to read
-  row-alike : (l : List ℕ) → rowLineFormerly H s (fields l) ≡ rowLine H s (fields (writeZero s l))
+  row-alike : (l : List ℕ) → rowLineFormerly H s (fields l) ≡ rowLine Check H s (fields (writeZero s l))
   row-alike l = let (f, fs, e, e′) = zero-ends l in fields-alike f fs l e e′
 
 -- ------------------------------------------------------------------ lines in turn
@@ -223,13 +224,13 @@ module _ (H : Header) {gs : List (List ℕ → List ℕ)} where
   maps-alike zero = nothing
   maps-alike (suc n) = line (λ l. refl) (maps-alike n)
 
-rows-alike : (H : Header) (steps : List Step) → Alike (map (rowLineFormerly H) steps) (map (rowLine H) steps) (map writeZero steps) []
+rows-alike : (H : Header) (steps : List Step) → Alike (map (rowLineFormerly H) steps) (map (rowLine Check H) steps) (map writeZero steps) []
 rows-alike H [] = nothing
 rows-alike H (s ∷ steps) = line (row-alike H s) (rows-alike H steps)
 
 module _ (steps : List Step) (t t′ : List ℕ) where
-  header-alike : (l : List ℕ) (ls : List Line) (x : Seen Header) → headerLine (fields l) ≡ x
-      → lines t ≡ closed l ∷ ls → lines t′ ≡ closed l ∷ zerosBehind x steps ls → splitFormerly steps t ≡ split steps t′
+  header-alike : (l : List ℕ) (ls : List Line) (x : Seen Header) → headerLine Check (fields l) ≡ x
+      → lines t ≡ closed l ∷ ls → lines t′ ≡ closed l ∷ zerosBehind x steps ls → splitFormerly steps t ≡ split Check steps t′
   unfolding splitFormerly split begin next nextLine passed _>>=_ zerosBehind along
   header-alike l ls (wrong w) h e e′ = rw (e, e′, h)
   header-alike l ls (right H) h e e′ = rw (e, e′, h) (
@@ -237,7 +238,7 @@ module _ (steps : List Step) (t t′ : List ℕ) where
       all-alike (maps-alike H (H .maps)) k₁ rest₁ _ _ λ maps k₂ rest₂.
       all-alike (rows-alike H steps) k₂ rest₂ _ _ λ rows k₃ rest₃. refl)
 
-  sheet-alike : (ls : List Line) → lines t ≡ ls → lines t′ ≡ zerosWritten steps ls → splitFormerly steps t ≡ split steps t′
+  sheet-alike : (ls : List Line) → lines t ≡ ls → lines t′ ≡ zerosWritten steps ls → splitFormerly steps t ≡ split Check steps t′
   unfolding splitFormerly split begin next nextLine _>>=_ zerosWritten
   sheet-alike [] e e′ = rw (e, e′)
   sheet-alike (unclosed l ∷ ls) e e′ = rw (e, e′)

@@ -9,6 +9,7 @@ use Rattle.spec.specs.Expression.{Step, listed, single}
 use Rattle.spec.specs.Program.{Program, program, programLimit, countLine, stepLine}
 use Rattle.spec.specs.Split.{Split, split, splitLimit, headerLine, rowLine}
 use Rattle.spec.specs.WellFormed.{Shows, WellFormedProgram, WellFormedSplit}
+use Rattle.spec.specs.declared.Purpose.{Purpose}
 use Rattle.spec.proofs.Outcomes.{on-injective, bind-goes-on, goes-on-bind}
 use Rattle.spec.proofs.Reading.{next-begins, all-shown, begun, ended, shown-length, read-next, read-all}
 use Rattle.spec.proofs.Listing.{listed-expression, expression-listed}
@@ -58,18 +59,18 @@ well-formed-program {P} text w =
 
 -- ------------------------------------------------------------------ the split sheet
 
-pub split-well-formed : {S : Split} (steps : List Step) (text : List ℕ) → length text ≤ splitLimit → split steps text ≡ on S
-    → WellFormedSplit steps text S
+pub split-well-formed : {S : Split} (purpose : Purpose) (steps : List Step) (text : List ℕ) → length text ≤ splitLimit
+    → split purpose steps text ≡ on S → WellFormedSplit purpose steps text S
 unfolding split
-split-well-formed steps text fits h =
+split-well-formed purpose steps text fits h =
     let (top, h₁, r₁) = bind-goes-on _ _ h in
     let (Hp, h₂, r₂) = bind-goes-on _ _ r₁ in
     let (tp, h₃, r₃) = bind-goes-on _ _ r₂ in
     let (mp, h₄, r₄) = bind-goes-on _ _ r₃ in
     let (rp, h₅, r₅) = bind-goes-on _ _ r₄ in
     let (done, h₆, r₆) = bind-goes-on _ _ r₅ in
-    let b = next-begins splitSheet headerLine top h₂ in
-    subst (WellFormedSplit steps text) (on-injective r₆) (record {
+    let b = next-begins splitSheet (headerLine purpose) top h₂ in
+    subst (WellFormedSplit purpose steps text) (on-injective r₆) (record {
       fits = fits;
       first = b .first;
       others = Hp .1 .rest;
@@ -79,18 +80,19 @@ split-well-formed steps text fits h =
       headed = b .shown;
       typed = all-shown splitSheet _ (Hp .1) h₃;
       mapped = all-shown splitSheet _ (tp .1) h₄;
-      rowed = subst (λ rest. Shows (map (rowLine (Hp .0)) steps) (mp .1 .rest) (rp .0) rest) (ended splitSheet (rp .1) h₆)
+      rowed = subst (λ rest. Shows (map (rowLine purpose (Hp .0)) steps) (mp .1 .rest) (rp .0) rest) (ended splitSheet (rp .1) h₆)
           (all-shown splitSheet _ (mp .1) h₅);
     })
 
-pub well-formed-split : {S : Split} (steps : List Step) (text : List ℕ) → WellFormedSplit steps text S → split steps text ≡ on S
+pub well-formed-split : {S : Split} (purpose : Purpose) (steps : List Step) (text : List ℕ) → WellFormedSplit purpose steps text S
+    → split purpose steps text ≡ on S
 unfolding split begin end noneLeft
-well-formed-split {S} steps text w =
+well-formed-split {S} purpose steps text w =
     let (l₁, types) = read-all splitSheet (w .typed) 1 in
     let (l₂, maps) = read-all splitSheet (w .mapped) l₁ in
     let (l₃, rows) = read-all splitSheet (w .rowed) l₂ in
     goes-on-bind _ _ (ap (begin splitSheet) (w .lined))
-    (goes-on-bind _ _ (read-next splitSheet headerLine 0 (w .first) (w .others) (w .headed))
+    (goes-on-bind _ _ (read-next splitSheet (headerLine purpose) 0 (w .first) (w .others) (w .headed))
     (goes-on-bind _ _ types
     (goes-on-bind _ _ maps
     (goes-on-bind _ _ rows

@@ -6,6 +6,7 @@ use Rattle.spec.specs.Split.{Map, Split}
 use Rattle.spec.specs.Conditions.{startMap}
 use Rattle.spec.specs.Figure5.{Derives}
 use Rattle.spec.specs.WellFormed.{WellFormedProgram, WellFormedSplit}
+use Rattle.spec.specs.declared.Purpose.the-variants.{Check}
 
 -- a map has at most d of each location
 pub data AtMost (d : ℕ) : Map → Type 0 where
@@ -18,6 +19,6 @@ pub record Right (programText splitText : List ℕ) : Type 0 where
   pub P : Program
   pub S : Split
   pub program : WellFormedProgram programText P
-  pub split : WellFormedSplit (P .steps) splitText S
+  pub split : WellFormedSplit Check (P .steps) splitText S
   pub atMostOne : AtMost (S .header .denominator) (startMap S)
   pub derives : Derives S [] (startMap S) (P .root)

@@ -13,6 +13,7 @@ use Rattle.spec.specs.Accepted.{AtMost}
 use Rattle.spec.specs.declared.Location.{Location}
 use Rattle.spec.specs.declared.Refusal.{Refusal}
 use Rattle.spec.specs.declared.Refusal.the-variants.{TypeFalse, FlowFalse, AccessFalse}
+use Rattle.spec.specs.declared.Purpose.the-variants.{Check}
 
 -- a condition holds: its test comes out true, or no location fails it
 unfoldable pub Holds : Condition → Type 0
@@ -65,7 +66,7 @@ pub record Refuted (programText splitText : List ℕ) (r : Refusal) : Type 0 whe
   pub P : Program
   pub S : Split
   pub program : WellFormedProgram programText P
-  pub split : WellFormedSplit (P .steps) splitText S
+  pub split : WellFormedSplit Check (P .steps) splitText S
   pub atMostOne : AtMost (S .header .denominator) (startMap S)
   pub inOrder : InOrder (claims S (sites S [] (startMap S) (P .root)))
   pub first : FirstFalse (claims S (sites S [] (startMap S) (P .root))) r

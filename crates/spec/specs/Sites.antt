@@ -3,6 +3,7 @@ use mathlib.Core.List.{List, [], _∷_, _++_}
 use mathlib.Core.Bool.{Bool, true, false}
 use mathlib.Core.Option.{Option, none, some}
 use Prim.Native.Nat.{ℕ, _+_}
+use Rattle.spec.specs.Choice.{if_then_else_}
 use Rattle.spec.specs.Reading.{Out, stop, on, _>>=_}
 use Rattle.spec.specs.Expression.{Expr, leaf, unary, binary}
 use Rattle.spec.specs.Split.{Map, Split}
@@ -92,3 +93,20 @@ judge k i (A false p) = stop (AccessFalse k i p)
 unfoldable pub firstFalse : List Claim → Out (Unit {0})
 firstFalse [] = on tt
 firstFalse (c ∷ cs) = judge (c .line) (c .number) (c .condition) >>= λ holds. firstFalse cs
+
+-- ------------------------------------------------------------------ claims of two sorts
+
+unfoldable pub isType : Condition → Bool
+isType (T b) = true
+isType (F o) = false
+isType (A b p) = false
+
+unfoldable pub isFlow : Condition → Bool
+isFlow (T b) = false
+isFlow (F o) = true
+isFlow (A b p) = true
+
+-- the claims of one sort
+unfoldable pub only : (Condition → Bool) → List Claim → List Claim
+only sort [] = []
+only sort (c ∷ cs) = if sort (c .condition) then c ∷ only sort cs else only sort cs

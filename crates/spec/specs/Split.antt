@@ -10,6 +10,8 @@ use Rattle.spec.specs.Reading.{splitSheet, Out, _>>=_, on, wrong, badFor
 use Rattle.spec.specs.Expression.{Step}
 use Rattle.spec.specs.declared.Heading.{Heading}
 use Rattle.spec.specs.declared.Heading.the-variants.{C, C2}
+use Rattle.spec.specs.declared.Purpose.{Purpose}
+use Rattle.spec.specs.declared.Purpose.the-variants.{Check, Fill}
 use Rattle.spec.specs.declared.TypeNumber.{TypeNumber}
 use Rattle.spec.specs.declared.MapNumber.{MapNumber}
 use Rattle.spec.specs.declared.Location.{Location}
@@ -36,8 +38,10 @@ pub record Header : Type 0 where
   pub maps : ℕ
   pub start : MapNumber
 
-unfoldable pub headings : List (List ℕ × Heading)
-headings = (bytes "C", C) ∷ (bytes "C2", C2) ∷ []
+-- when filling, "A `C` header is 21"
+unfoldable pub headings : Purpose → List (List ℕ × Heading)
+headings Check = (bytes "C", C) ∷ (bytes "C2", C2) ∷ []
+headings Fill = (bytes "C2", C2) ∷ []
 
 -- r is a map: its range ends with the M of its own line
 unfoldable pub headerRanges : Heading → (maps : ℕ) → List Range
@@ -71,9 +75,9 @@ unfoldable pub headed : Option Heading → List Field → Seen Header
 headed none fs = wrong badForm
 headed (some h) fs = seen (headerOf h) (numbers (headerRanges h (mapsIn (numerals fs))) fs)
 
-unfoldable pub headerLine : List Field → Seen Header
-headerLine [] = wrong badForm
-headerLine (f ∷ fs) = headed (lookUp headings f) fs
+unfoldable pub headerLine : Purpose → List Field → Seen Header
+headerLine purpose [] = wrong badForm
+headerLine purpose (f ∷ fs) = headed (lookUp (headings purpose) f) fs
 
 -- `int,0,0`; `ref,p,t`; `lock,k,0`; `tid,k,0`; `sem,k,0`. A content type's number is less than the type's own.
 unfoldable pub refOf : List ℕ → TypeLine
@@ -137,18 +141,30 @@ unfoldable pub mayBeEmpty : Heading → Word → Bool
 mayBeEmpty C w = not (takesStart w)
 mayBeEmpty C2 w = true
 
+-- "An m that is a numeral is 22, any other m that is not empty is 21": when filling, no number is in the range of m, and an empty
+-- m is read as the number of map 0, which nothing looks at
+unfoldable pub postRange : Purpose → Header → Field → Range
+postRange Check H m = below (H .maps)
+postRange Fill H [] = below (H .maps)
+postRange Fill H (b ∷ m) = below 0
+
+unfoldable pub postField : Purpose → Field → Field
+postField Check m = m
+postField Fill [] = bytes "0"
+postField Fill (b ∷ m) = b ∷ m
+
 -- "40 for an empty start on a spawn in a `C` sheet, judged after 22 on that line"
-unfoldable pub rowLine : Header → Step → List Field → Seen Row
-rowLine H s [] = wrong badForm
-rowLine H s (t ∷ []) = wrong badForm
-rowLine H s (t ∷ m ∷ []) = wrong badForm
-rowLine H s (t ∷ m ∷ [] ∷ []) =
+unfoldable pub rowLine : Purpose → Header → Step → List Field → Seen Row
+rowLine purpose H s [] = wrong badForm
+rowLine purpose H s (t ∷ []) = wrong badForm
+rowLine purpose H s (t ∷ m ∷ []) = wrong badForm
+rowLine purpose H s (t ∷ m ∷ [] ∷ []) =
     insist (mayBeEmpty (H .heading) (s .word)) noStart
-    (seen (rowOf none) (numbers (below (H .types) ∷ below (H .maps) ∷ []) (t ∷ m ∷ [])))
-rowLine H s (t ∷ m ∷ (b ∷ f) ∷ []) =
+    (seen (rowOf none) (numbers (below (H .types) ∷ postRange purpose H m ∷ []) (t ∷ postField purpose m ∷ [])))
+rowLine purpose H s (t ∷ m ∷ (b ∷ f) ∷ []) =
     seen (λ ns. rowOf (some (startGiven ns)) ns)
-    (numbers (below (H .types) ∷ below (H .maps) ∷ startRange (s .word) H ∷ []) (t ∷ m ∷ (b ∷ f) ∷ []))
-rowLine H s (t ∷ m ∷ f ∷ g ∷ fs) = wrong badForm
+    (numbers (below (H .types) ∷ postRange purpose H m ∷ startRange (s .word) H ∷ []) (t ∷ postField purpose m ∷ (b ∷ f) ∷ []))
+rowLine purpose H s (t ∷ m ∷ f ∷ g ∷ fs) = wrong badForm
 
 -- a split: its header, its types and maps by number, its rows in step order
 pub record Split : Type 0 where
@@ -158,13 +174,13 @@ pub record Split : Type 0 where
   pub rows : List Row
 
 -- 21, 22, 40 and 23 line by line, for the steps of a program
-unfoldable pub split : List Step → List ℕ → Out Split
-split steps text = do
+unfoldable pub split : Purpose → List Step → List ℕ → Out Split
+split purpose steps text = do
   top ← begin splitSheet (lines text)
-  (H, p₁) ← next splitSheet headerLine top
+  (H, p₁) ← next splitSheet (headerLine purpose) top
   (types, p₂) ← nextAll splitSheet (typeLines H 0 (H .types)) p₁
   (maps, p₃) ← nextAll splitSheet (replicate (H .maps) (mapLine H)) p₂
-  (rows, p₄) ← nextAll splitSheet (map (rowLine H) steps) p₃
+  (rows, p₄) ← nextAll splitSheet (map (rowLine purpose H) steps) p₃
   done ← end splitSheet p₄
   on (record { header = H; types = types; maps = maps; rows = rows })
 

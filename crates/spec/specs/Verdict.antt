@@ -10,13 +10,14 @@ use Rattle.spec.specs.Program.{Program, program, programLimit}
 use Rattle.spec.specs.Split.{Split, split, splitLimit}
 use Rattle.spec.specs.Maps.{overWhole}
 use Rattle.spec.specs.Conditions.{lineOf, startMap}
-use Rattle.spec.specs.Sites.{sites, claims, firstFalse}
+use Rattle.spec.specs.Sites.{sites, claims, firstFalse, isType, only}
 use Rattle.spec.specs.Workspace.{workspaceSize}
 use Rattle.spec.specs.declared.Returned.{Returned}
 use Rattle.spec.specs.declared.Answer.{Answer}
 use Rattle.spec.specs.declared.Answer.the-variants.{Accept, Refuse}
 use Rattle.spec.specs.declared.Refusal.{Refusal}
 use Rattle.spec.specs.declared.Refusal.the-variants.{ShortWorkspace, LongProgram, ProgramForm, ProgramRange, ProgramLines, Unbound, Rebound, LongSplit, SplitForm, SplitRange, SplitLines, NoStart, OverOne, TypeFalse, FlowFalse, AccessFalse, NoAfterMaps, TooLarge, TooManyMaps}
+use Rattle.spec.specs.declared.Purpose.the-variants.{Check}
 
 -- 30, at the root's line: the start is over the whole somewhere
 unfoldable pub refuseOver : (line : ℕ) → Option ℕ → Out (Unit {0})
@@ -30,6 +31,10 @@ startAtMostOne P S = refuseOver (lineOf (P .root)) (overWhole (S .header .denomi
 unfoldable pub ruled : Program → Split → Out (Unit {0})
 ruled P S = firstFalse (claims S (sites S [] (startMap S) (P .root)))
 
+-- 31 alone, as filling asks it: the first (T) condition that is false, whatever flow conditions are false before it
+unfoldable pub typed : Program → Split → Out (Unit {0})
+typed P S = firstFalse (only isType (claims S (sites S [] (startMap S) (P .root))))
+
 -- 1; 10; 11 to 15; 20; 21 to 23 and 40; 30; 31 to 33
 unfoldable pub checked : (room : ℕ) → (programText splitText : List ℕ) → Out (Unit {0})
 checked room programText splitText = do
@@ -37,7 +42,7 @@ checked room programText splitText = do
   fits ← demand (leb (length programText) programLimit) LongProgram
   P ← program programText
   fits′ ← demand (leb (length splitText) splitLimit) LongSplit
-  S ← split (P .steps) splitText
+  S ← split Check (P .steps) splitText
   whole ← startAtMostOne P S
   ruled P S
 

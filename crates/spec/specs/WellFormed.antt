@@ -10,6 +10,7 @@ use Rattle.spec.specs.Reading.{Seen, right}
 use Rattle.spec.specs.Expression.{Step, Expr, leaf, unary, binary, size, among}
 use Rattle.spec.specs.Program.{Program, programLimit, countLine, stepLine}
 use Rattle.spec.specs.Split.{Split, splitLimit, Header, headerLine, typeLines, mapLine, rowLine}
+use Rattle.spec.specs.declared.Purpose.{Purpose}
 use Rattle.spec.specs.declared.Word.the-variants.{Leaf, Unary, Binary}
 use Rattle.spec.specs.declared.LeafWord.the-variants.{Var, Int, Newtid, Newlock, Newsem}
 use Rattle.spec.specs.declared.BinaryWord.the-variants.{Let, If, Spawn, Write}
@@ -82,14 +83,14 @@ pub record WellFormedProgram (text : List ℕ) (P : Program) : Type 0 where
   pub usedInside : UsedInside [] (P .root)
 
 -- a well-formed split sheet for the steps of a program
-pub record WellFormedSplit (steps : List Step) (text : List ℕ) (S : Split) : Type 0 where
+pub record WellFormedSplit (purpose : Purpose) (steps : List Step) (text : List ℕ) (S : Split) : Type 0 where
   pub fits : length text ≤ splitLimit
   pub first : List ℕ
   pub others : List Line
   pub afterTypes : List Line
   pub afterMaps : List Line
   pub lined : lines text ≡ closed first ∷ others
-  pub headed : headerLine (fields first) ≡ right (S .header)
+  pub headed : headerLine purpose (fields first) ≡ right (S .header)
   pub typed : Shows (typeLines (S .header) 0 (S .header .types)) others (S .types) afterTypes
   pub mapped : Shows (replicate (S .header .maps) (mapLine (S .header))) afterTypes (S .maps) afterMaps
-  pub rowed : Shows (map (rowLine (S .header)) steps) afterMaps (S .rows) []
+  pub rowed : Shows (map (rowLine purpose (S .header)) steps) afterMaps (S .rows) []

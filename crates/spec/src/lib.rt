@@ -47,6 +47,12 @@ pub enum Heading {
     C2,
 }
 
+// What a split sheet is read for: to check a program with it, or to fill in its after-maps.
+pub enum Purpose {
+    Check,
+    Fill,
+}
+
 // What a type line of a split sheet says. A content type, a map: by number.
 pub enum TypeLine {
     Int,

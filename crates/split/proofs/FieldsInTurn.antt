@@ -45,36 +45,33 @@ module _ {A : Type 0} (read : List Field → Seen A) (k : ℕ) where
   more-fields f t (some (g ∷ gs, r)) e h = bad-line (f ∷ g ∷ gs) r (h g gs)
 
   module _ (t : List ℕ) where
-    open-line : endOf t ≡ Text → shown read k (lineAt t) ≡ stop (SplitForm k)
+    by-end : (endOf t ≡ Comma → shown read k (lineAt t) ≡ stop (SplitForm k)) → (endOf t ≡ Newline → shown read k (lineAt t) ≡ stop (SplitForm k))
+        → shown read k (lineAt t) ≡ stop (SplitForm k)
     unfolding shown
-    open-line e = ap (shown read k) (line-text t e)
+    by-end comma newline = go (endOf t) refl
+      where
+        go : (e : FieldEnd) → endOf t ≡ e → shown read k (lineAt t) ≡ stop (SplitForm k)
+        go Comma e = comma e
+        go Newline e = newline e
+        go Text e = ap (shown read k) (line-text t e)
 
     -- the first field is enough to refuse the line
     pub field-wrong : ((fs : List Field) → read (firstField t ∷ fs) ≡ wrong badForm) → shown read k (lineAt t) ≡ stop (SplitForm k)
-    field-wrong h = go (endOf t) refl
-      where
-        go : (e : FieldEnd) → endOf t ≡ e → shown read k (lineAt t) ≡ stop (SplitForm k)
-        go Comma e = ap (shown read k) (line-comma t e) ∙ bad-fields (firstField t) (lineAt (behind t)) h
-        go Newline e = ap (shown read k) (line-newline t e) ∙ bad-line (firstField t ∷ []) (behind t) (h [])
-        go Text e = open-line e
+    field-wrong h =
+        by-end (λ e. ap (shown read k) (line-comma t e) ∙ bad-fields (firstField t) (lineAt (behind t)) h)
+        (λ e. ap (shown read k) (line-newline t e) ∙ bad-line (firstField t ∷ []) (behind t) (h []))
 
     -- too few fields
     pub field-last : (endOf t ≡ Comma → ⊥) → read (firstField t ∷ []) ≡ wrong badForm → shown read k (lineAt t) ≡ stop (SplitForm k)
-    field-last n h = go (endOf t) refl
-      where
-        go : (e : FieldEnd) → endOf t ≡ e → shown read k (lineAt t) ≡ stop (SplitForm k)
-        go Comma e = absurd (n e)
-        go Newline e = ap (shown read k) (line-newline t e) ∙ bad-line (firstField t ∷ []) (behind t) h
-        go Text e = open-line e
+    field-last n h =
+        by-end (λ e. absurd (n e)) (λ e. ap (shown read k) (line-newline t e) ∙ bad-line (firstField t ∷ []) (behind t) h)
 
     -- too many fields
-    pub field-more : (endOf t ≡ Newline → ⊥) → ((g : Field) (gs : List Field) → read (firstField t ∷ g ∷ gs) ≡ wrong badForm) → shown read k (lineAt t) ≡ stop (SplitForm k)
-    field-more n h = go (endOf t) refl
-      where
-        go : (e : FieldEnd) → endOf t ≡ e → shown read k (lineAt t) ≡ stop (SplitForm k)
-        go Comma e = ap (shown read k) (line-comma t e) ∙ more-fields (firstField t) (behind t) (lineAt (behind t)) refl h
-        go Newline e = absurd (n e)
-        go Text e = open-line e
+    pub field-more : (endOf t ≡ Newline → ⊥) → ((g : Field) (gs : List Field) → read (firstField t ∷ g ∷ gs) ≡ wrong badForm)
+        → shown read k (lineAt t) ≡ stop (SplitForm k)
+    field-more n h =
+        by-end (λ e. ap (shown read k) (line-comma t e) ∙ more-fields (firstField t) (behind t) (lineAt (behind t)) refl h)
+        (λ e. absurd (n e))
 
 pub at-cursor : {A : Type 0} (read : List Field → Seen A) (text : List ℕ) (c : Cursor) → 0 < length (rest text c)
     → next splitSheet read (placeAt text c) ≡ shown read (c .line + 1) (lineAt (rest text c))

@@ -1,7 +1,7 @@
 -- The header line, by its heading and the numerals behind it.
 use mathlib.Core.Path.{_≡_, refl, sym, ap, _∙_}
 use mathlib.Core.List.{List, [], _∷_, _++_, map}
-use mathlib.Core.Bool.{Bool, true, false, _&&_, and-false}
+use mathlib.Core.Bool.{Bool, true, false, and-false}
 use mathlib.Core.Option.{Option, none, some}
 use Prim.Native.Nat.{ℕ, _+_, _≤_, _<_}
 use native.Mathlib.Omega.{arith}
@@ -15,8 +15,13 @@ use Rattle.spec.specs.Reading.{splitSheet, stop, on, Seen, right, wrong, badFor
 use Rattle.spec.specs.Split.{Header, headings, headerRanges, mapsOf, mapsIn, startOf, headerOf, headed, headerLine}
 use Rattle.spec.specs.declared.Heading.{Heading}
 use Rattle.spec.specs.declared.Heading.the-variants.{C, C2}
+use Rattle.spec.specs.declared.Purpose.{Purpose}
+use Rattle.spec.specs.declared.Purpose.the-variants.{Check, Fill}
 use Rattle.spec.specs.declared.Refusal.the-variants.{SplitForm, SplitRange}
+use Rattle.spec.proofs.Clashes.{true-is-not-false}
 use Rattle.spec.proofs.Headings.{first-map-fits}
+use Rattle.spec.proofs.Ranges.{in-to}
+use Rattle.spec.proofs.Tests.{both-true}
 use Rattle.lexer.specs.Views.{endOf, firstField, withField, lineAt}
 use Rattle.lexer.specs.Cursors.{Placed, rest, next as nextCursor, placeAt}
 use Rattle.lexer.specs.Numbers.{stored, withRest, numbersIn, counted, numbersAt}
@@ -34,18 +39,33 @@ use Rattle.split.proofs.LineLaws.{shows-form, shows-range, shows-entry,
 
 -- ------------------------------------------------------------------ the heading
 
-module _ (f : Field) where
-  pub first-heading : same (bytes "C") f ≡ true → found-heading.Known C ≡ headingFound (lookUp headings f)
-  unfolding headings lookUp headingFound
-  first-heading e = sym (rw e)
+-- `C` is not `C2`
+lone : (f : Field) → same (bytes "C") f ≡ true → same (bytes "C2") f ≡ false
+unfolding bytes same
+lone [] e = refl
+lone (b ∷ []) e = and-false (eqb 67 b)
+lone (b ∷ c ∷ f) e = true-is-not-false (sym e ∙ and-false (eqb 67 b))
 
-  pub second-heading : same (bytes "C") f ≡ false → same (bytes "C2") f ≡ true → found-heading.Known C2 ≡ headingFound (lookUp headings f)
+module _ (f : Field) (purpose : Purpose) where
+  pub first-heading : same (bytes "C") f ≡ true → purpose ≡ Check → found-heading.Known C ≡ headingFound (lookUp (headings purpose) f)
   unfolding headings lookUp headingFound
-  second-heading e e′ = sym (rw (e, e′))
+  first-heading e q = sym (rw (q, e))
 
-  pub other-heading : same (bytes "C") f ≡ false → same (bytes "C2") f ≡ false → found-heading.Unknown ≡ headingFound (lookUp headings f)
+  pub first-refused : same (bytes "C") f ≡ true → purpose ≡ Fill → found-heading.Unknown ≡ headingFound (lookUp (headings purpose) f)
   unfolding headings lookUp headingFound
-  other-heading e e′ = sym (rw (e, e′))
+  first-refused e q = sym (rw (q, lone f e))
+
+pub second-heading : (f : Field) (purpose : Purpose) → same (bytes "C") f ≡ false → same (bytes "C2") f ≡ true
+    → found-heading.Known C2 ≡ headingFound (lookUp (headings purpose) f)
+unfolding headings lookUp headingFound
+second-heading f Check e e′ = sym (rw (e, e′))
+second-heading f Fill e e′ = sym (rw e′)
+
+pub other-heading : (f : Field) (purpose : Purpose) → same (bytes "C") f ≡ false → same (bytes "C2") f ≡ false
+    → found-heading.Unknown ≡ headingFound (lookUp (headings purpose) f)
+unfolding headings lookUp headingFound
+other-heading f Check e e′ = sym (rw (e, e′))
+other-heading f Fill e e′ = sym (rw e′)
 
 pub heading-known : (o : Option Heading) (h : Heading) → headingFound o ≡ found-heading.Known h → o ≡ some h
 unfolding headingFound
@@ -129,22 +149,14 @@ module _ (h : Heading) (ns : List ℕ) (n : ℕ) (l t m : ℕ) where
 
 -- ------------------------------------------------------------------ the ranges
 
-both : (a b : Bool) → (a && b) ≡ true → (a ≡ true) × (b ≡ true)
-both true b h = (refl, h)
-both false b h = let z : _≡_ {A = ℕ} 0 1 = cc in absurd (omega arith)
-
-at-most : (a b n : ℕ) → inRange (a to b) n ≡ true → n ≤ b
-unfolding inRange
-at-most a b n h = leb-true n b (both (leb a n) (leb n b) h .1)
-
 pub header-small : (h : HeaderRead) → headerFits (headerTold h) ≡ true → Small h
 unfolding headerFits headerRanges headerTold allInRange
 header-small h e =
-    let h₁ = both (inRange (1 to 1000000000) (h .denominator)) _ e .1 in
-    let h₂ = both (inRange (1 to 16) (h .locations)) _ h₁ in
-    let h₃ = both (inRange (1 to 64) (h .types)) _ (h₂ .1) in
-    let h₄ = both (inRange (1 to 512) (h .maps)) _ (h₃ .1) in
-    record { locations = at-most 1 16 _ (h₂ .0); types = at-most 1 64 _ (h₃ .0); maps = at-most 1 512 _ (h₄ .0) }
+    let h₁ = both-true (inRange (1 to 1000000000) (h .denominator)) _ e .1 in
+    let h₂ = both-true (inRange (1 to 16) (h .locations)) _ h₁ in
+    let h₃ = both-true (inRange (1 to 64) (h .types)) _ (h₂ .1) in
+    let h₄ = both-true (inRange (1 to 512) (h .maps)) _ (h₃ .1) in
+    record { locations = in-to 1 16 _ (h₂ .0) .1; types = in-to 1 64 _ (h₃ .0) .1; maps = in-to 1 512 _ (h₄ .0) .1 }
 
 -- the numbers behind a heading are in their ranges where the header that they make is
 fits-told : {h : Heading} {ns : List ℕ} → NumbersOf h ns → allInRange (headerRanges h (mapsOf ns)) ns ≡ headerFits (headerOf h ns)
@@ -240,64 +252,64 @@ header-alone none = refl
 header-alone (some C) = refl
 header-alone (some C2) = refl
 
-module _ (f : Field) (h : Heading) (known : lookUp headings f ≡ some h) (k : ℕ) (t : List ℕ) where
-  shows : (fs : List Field) → headerLine (f ∷ fs) ≡ seen (headerOf h) (ranged (headerRanges h (mapsIn (numerals fs))) (numerals fs))
+module _ (purpose : Purpose) (f : Field) (h : Heading) (known : lookUp (headings purpose) f ≡ some h) (k : ℕ) (t : List ℕ) where
+  shows : (fs : List Field) → headerLine purpose (f ∷ fs) ≡ seen (headerOf h) (ranged (headerRanges h (mapsIn (numerals fs))) (numerals fs))
   unfolding headerLine headed numbers
   shows fs = rw known
 
   line-form : (o : Option (List Field × List ℕ)) → lineAt t ≡ withField f o → counted (numeralsOf h) (numbersIn o) ≡ none → 0 < length t
-      → nextLine splitSheet headerLine k (lines t) ≡ stop (SplitForm (k + 1))
+      → nextLine splitSheet (headerLine purpose) k (lines t) ≡ stop (SplitForm (k + 1))
   unfolding withField numbersIn form seen
-  line-form none e n l = next-open splitSheet headerLine k t l e
+  line-form none e n l = next-open splitSheet (headerLine purpose) k t l e
   line-form (some line) e n l =
-      next-closed splitSheet headerLine k t (f ∷ line .0) (line .1) e
+      next-closed splitSheet (headerLine purpose) k t (f ∷ line .0) (line .1) e
       ∙ shows-form (k + 1) (lines (line .1)) (shows (line .0) ∙ ap (seen (headerOf h)) (ranged-none h (line .1) (numerals (line .0)) n))
 
   line-read : (o : Option (List Field × List ℕ)) → lineAt t ≡ withField f o → (ns r : List ℕ) → counted (numeralsOf h) (numbersIn o) ≡ some (ns, r)
-      → (nextLine splitSheet headerLine k (lines t) ≡ passed splitSheet (k + 1) (lines r) (seen (headerOf h) (judged h ns))) × (length ns ≡ numeralsOf h)
+      → (nextLine splitSheet (headerLine purpose) k (lines t) ≡ passed splitSheet (k + 1) (lines r) (seen (headerOf h) (judged h ns))) × (length ns ≡ numeralsOf h)
   unfolding withField numbersIn counted
   line-read none e ns r n = let z : _≡_ {A = ℕ} 0 1 = cc in absurd (omega arith)
   line-read (some line) e ns r n =
       let found = ranged-some h (line .1) (numerals (line .0)) ns r n in (
-        next-closed splitSheet headerLine k t (f ∷ line .0) (line .1) e
+        next-closed splitSheet (headerLine purpose) k t (f ∷ line .0) (line .1) e
             ∙ ap (passed splitSheet (k + 1) (lines (line .1))) (shows (line .0) ∙ ap (seen (headerOf h)) (found .0))
             ∙ ap (λ (x : List ℕ). passed splitSheet (k + 1) (lines x) (seen (headerOf h) (judged h ns))) (found .2),
         found .1,
       )
 
-module _ (text : List ℕ) (c : Cursor) (some-left : 0 < length (rest text c)) where
+module _ (purpose : Purpose) (text : List ℕ) (c : Cursor) (some-left : 0 < length (rest text c)) where
   -- no comma behind the first field
-  pub no-comma : (endOf (rest text c) ≡ Comma → ⊥) → next splitSheet headerLine (placeAt text c) ≡ stop (SplitForm (c .line + 1))
+  pub no-comma : (endOf (rest text c) ≡ Comma → ⊥) → next splitSheet (headerLine purpose) (placeAt text c) ≡ stop (SplitForm (c .line + 1))
   unfolding form headerLine
   no-comma n =
-      next-at splitSheet text headerLine c
-      ∙ first-alone splitSheet headerLine (c .line) (rest text c) some-left n (header-alone (lookUp headings (firstField (rest text c))))
+      next-at splitSheet text (headerLine purpose) c
+      ∙ first-alone splitSheet (headerLine purpose) (c .line) (rest text c) some-left n (header-alone (lookUp (headings purpose) (firstField (rest text c))))
 
   -- no heading
-  pub no-header : lookUp headings (firstField (rest text c)) ≡ none → next splitSheet headerLine (placeAt text c) ≡ stop (SplitForm (c .line + 1))
+  pub no-header : lookUp (headings purpose) (firstField (rest text c)) ≡ none → next splitSheet (headerLine purpose) (placeAt text c) ≡ stop (SplitForm (c .line + 1))
   unfolding form headerLine headed
   no-header e =
-      next-at splitSheet text headerLine c
-      ∙ first-wrong splitSheet headerLine (c .line) (rest text c) some-left (λ fs. ap (λ (o : Option Heading). headed o fs) e)
+      next-at splitSheet text (headerLine purpose) c
+      ∙ first-wrong splitSheet (headerLine purpose) (c .line) (rest text c) some-left (λ fs. ap (λ (o : Option Heading). headed o fs) e)
 
   module _
       (p : Placed text c) (comma : endOf (rest text c) ≡ Comma) (d : Cursor) (is : nextCursor text c ≡ d)
-      (h : Heading) (known : lookUp headings (firstField (rest text c)) ≡ some h)
+      (h : Heading) (known : lookUp (headings purpose) (firstField (rest text c)) ≡ some h)
     where
-      pub header-form : numbersAt text d (numeralsOf h) ≡ none → next splitSheet headerLine (placeAt text c) ≡ stop (SplitForm (c .line + 1))
+      pub header-form : numbersAt text d (numeralsOf h) ≡ none → next splitSheet (headerLine purpose) (placeAt text c) ≡ stop (SplitForm (c .line + 1))
       unfolding numbersAt
       header-form n =
-          next-at splitSheet text headerLine c
-          ∙ line-form (firstField (rest text c)) h known (c .line) (rest text c) (lineAt (rest text d)) (comma-line text c d p comma is) n some-left
+          next-at splitSheet text (headerLine purpose) c
+          ∙ line-form purpose (firstField (rest text c)) h known (c .line) (rest text c) (lineAt (rest text d)) (comma-line text c d p comma is) n some-left
 
       module _
           (ns : List ℕ) (e : Cursor) (found : numbersAt text d (numeralsOf h) ≡ some (ns, rest text e))
           (H : HeaderRead) (told : headerOf h ns ≡ headerTold H)
         where
-          reads : (nextLine splitSheet headerLine (c .line) (lines (rest text c)) ≡ passed splitSheet (c .line + 1) (lines (rest text e)) (seen (headerOf h) (judged h ns)))
+          reads : (nextLine splitSheet (headerLine purpose) (c .line) (lines (rest text c)) ≡ passed splitSheet (c .line + 1) (lines (rest text e)) (seen (headerOf h) (judged h ns)))
               × (length ns ≡ numeralsOf h)
           unfolding numbersAt
-          reads = line-read (firstField (rest text c)) h known (c .line) (rest text c) (lineAt (rest text d)) (comma-line text c d p comma is) ns (rest text e) found
+          reads = line-read purpose (firstField (rest text c)) h known (c .line) (rest text c) (lineAt (rest text d)) (comma-line text c d p comma is) ns (rest text e) found
 
           fits : allInRange (headerRanges h (mapsOf ns)) ns ≡ headerFits (headerTold H)
           fits = fits-told (numbers-of h ns (reads .1)) ∙ ap headerFits told
@@ -306,15 +318,15 @@ module _ (text : List ℕ) (c : Cursor) (some-left : 0 < length (rest text c)) w
           unfolding judged
           judged-as q = ap (λ (x : Bool). if x then right ns else wrong badRange) (fits ∙ q)
 
-          pub header-range : headerFits (headerTold H) ≡ false → next splitSheet headerLine (placeAt text c) ≡ stop (SplitRange (c .line + 1))
+          pub header-range : headerFits (headerTold H) ≡ false → next splitSheet (headerLine purpose) (placeAt text c) ≡ stop (SplitRange (c .line + 1))
           unfolding seen
           header-range q =
-              next-at splitSheet text headerLine c ∙ reads .0
+              next-at splitSheet text (headerLine purpose) c ∙ reads .0
               ∙ shows-range (c .line + 1) (lines (rest text e)) (ap (seen (headerOf h)) (judged-as q))
 
-          pub header-on : headerFits (headerTold H) ≡ true → e .line ≡ d .line + 1 → next splitSheet headerLine (placeAt text c) ≡ on (headerTold H, placeAt text e)
+          pub header-on : headerFits (headerTold H) ≡ true → e .line ≡ d .line + 1 → next splitSheet (headerLine purpose) (placeAt text c) ≡ on (headerTold H, placeAt text e)
           unfolding seen
           header-on q l =
-              next-at splitSheet text headerLine c ∙ reads .0
+              next-at splitSheet text (headerLine purpose) c ∙ reads .0
               ∙ shows-entry text c e (headerTold H) (ap (seen (headerOf h)) (judged-as q) ∙ ap right told)
               (l ∙ ap (λ (k : ℕ). k + 1) (comma-kept text c d p comma is))

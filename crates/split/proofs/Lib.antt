@@ -6,8 +6,10 @@ pub mod FieldsInTurn
 pub mod HeaderLaws
 pub mod TypeLaws
 pub mod MapLaws
+pub mod RowFields
 pub mod RowLaws
 pub mod Stores
 pub mod Loops
 pub mod SheetLaws
 pub mod WholeLaws
+pub mod Found

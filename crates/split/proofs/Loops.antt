@@ -9,6 +9,7 @@ use lib.Seq.{length-take-le}
 use Rattle.spec.specs.Text.{Field}
 use Rattle.spec.specs.Reading.{splitSheet, stop, on, Seen, next, nextAll}
 use Rattle.spec.specs.Split.{Map, Header}
+use Rattle.spec.specs.declared.Purpose.{Purpose}
 use Rattle.spec.specs.declared.Refusal.{Refusal}
 use Rattle.spec.specs.declared.Word.{Word}
 use Rattle.lexer.specs.Cursors.{Placed, placeAt}
@@ -39,12 +40,12 @@ module _
         (subst (ChangedWithin b (b + rows + rows + rows) w) (sym q) (columns-changed f g h b rows w (t .entries) entry i (t .count) (omega arith) r))
 
 -- the word that a row is read for is that of its step, which no row has changed
-pub row-here : (H : Header) (text : List ℕ) (c : Cursor) (w₀ w : List ℕ) (k : ℕ) (word : Word) → word ≡ wordOf (getD w (wordsAt + k) 0) → k < 256 → ChangedWithin 1024 1792 w₀ w
-    → next splitSheet (wordLine H (stepAt w₀ k .word)) (placeAt text c) ≡ next splitSheet (wordLine H word) (placeAt text c)
+pub row-here : (purpose : Purpose) (H : Header) (text : List ℕ) (c : Cursor) (w₀ w : List ℕ) (k : ℕ) (word : Word) → word ≡ wordOf (getD w (wordsAt + k) 0) → k < 256 → ChangedWithin 1024 1792 w₀ w
+    → next splitSheet (wordLine purpose H (stepAt w₀ k .word)) (placeAt text c) ≡ next splitSheet (wordLine purpose H word) (placeAt text c)
 unfolding stepAt
-row-here H text c w₀ w k word e l x =
+row-here purpose H text c w₀ w k word e l x =
     let same : getD w (wordsAt + k) 0 ≡ getD w₀ (wordsAt + k) 0 = x .kept (wordsAt + k) (inl (omega arith)) in
-    ap (λ (v : Word). next splitSheet (wordLine H v) (placeAt text c)) (ap wordOf (sym same) ∙ sym e)
+    ap (λ (v : Word). next splitSheet (wordLine purpose H v) (placeAt text c)) (ap wordOf (sym same) ∙ sym e)
 
 -- a map line, whose numbers are read into their part of the work space
 module _

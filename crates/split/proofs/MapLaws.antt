@@ -8,11 +8,11 @@ use native.Mathlib.Numerals.{add-one}
 use native.Mathlib.Omega.{arith}
 use lib.ListN.{length, getD, drop, drop-of-length-le, length-replicate}
 use lib.Seq.{drop-cons}
-use borrow.Author.Tests.{le-leb, lt-leb}
 use Rattle.spec.specs.Choice.{if_then_else_}
 use Rattle.spec.specs.Text.{Field, lines}
 use Rattle.spec.specs.Reading.{splitSheet, stop, on, right, wrong, badRange, _to_, inRange, allInRange, numbers, form, next}
 use Rattle.spec.specs.declared.Refusal.the-variants.{SplitForm, SplitRange}
+use Rattle.spec.proofs.Ranges.{up-to-in, up-to-out}
 use Rattle.lexer.specs.Cursors.{rest, placeAt}
 use Rattle.lexer.specs.Numbers.{numbersAt}
 use Rattle.lexer.specs.declared.Cursor.{Cursor}
@@ -25,14 +25,6 @@ use Rattle.split.proofs.LineLaws.{shows-range, shows-entry}
 
 -- ------------------------------------------------------------------ the numbers of a map
 
-in-cell : (n : ℕ) → n ≤ 1000000000 → inRange (0 to 1000000000) n ≡ true
-unfolding inRange
-in-cell n h = simp (le-leb 0 n (omega arith), le-leb n 1000000000 h)
-
-out-cell : (n : ℕ) → 1000000000 < n → inRange (0 to 1000000000) n ≡ false
-unfolding inRange
-out-cell n h = simp (le-leb 0 n (omega arith), lt-leb n 1000000000 h)
-
 module _ (m : List ℕ) (i : ℕ) where
   cells-at : i < length m
       → allInRange (cells (length m - i)) (drop i m) ≡ (inRange (0 to 1000000000) (getD m i 0) && allInRange (cells (length m - (i + 1))) (drop (i + 1) m))
@@ -42,11 +34,11 @@ module _ (m : List ℕ) (i : ℕ) where
   -- one that is in range is passed over
   pub cells-on : i < length m → getD m i 0 ≤ 1000000000
       → allInRange (cells (length m - i)) (drop i m) ≡ allInRange (cells (length m - (i + 1))) (drop (i + 1) m)
-  cells-on h l = cells-at h ∙ rw (in-cell (getD m i 0) l)
+  cells-on h l = cells-at h ∙ rw (up-to-in 1000000000 (getD m i 0) l)
 
   -- one that is not decides
   pub cells-out : i < length m → 1000000000 < getD m i 0 → allInRange (cells (length m - i)) (drop i m) ≡ false
-  cells-out h l = cells-at h ∙ rw (out-cell (getD m i 0) l)
+  cells-out h l = cells-at h ∙ rw (up-to-out 1000000000 (getD m i 0) l)
 
   pub cells-end : length m ≤ i → allInRange (cells (length m - i)) (drop i m) ≡ true
   unfolding cells allInRange

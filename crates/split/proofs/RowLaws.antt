@@ -1,17 +1,15 @@
 -- Rows, by their two numerals and their last field.
 use mathlib.Core.Path.{_≡_, refl, sym, ap, subst, _∙_}
 use mathlib.Core.Logic.{⊎-elim}
-use mathlib.Core.List.{List, [], _∷_, map}
+use mathlib.Core.List.{List, [], _∷_}
 use mathlib.Core.Bool.{Bool, true, false, _&&_, not}
-use mathlib.Core.Option.{Option, none, some}
-use Prim.Native.Nat.{ℕ, suc, _+_, _≤_, _<_}
-use native.Mathlib.Omega.{arith}
-use lib.ListN.{length, take, drop}
-use borrow.Author.Tests.{ne-eqb}
+use Prim.Native.Nat.{ℕ, _+_, _≤_, _<_}
+use lib.ListN.{length}
 use Rattle.spec.specs.Choice.{if_then_else_}
-use Rattle.spec.specs.Text.{lines, Field, numeral, digitLimit}
-use Rattle.spec.specs.Reading.{splitSheet, Out, stop, Place, Seen, right, wrong, badForm, badRange, noStart, seen, insist, Range, below, inRange, allInRange, withNumeral, numerals, ranged, numbers, passed, next}
-use Rattle.spec.specs.Split.{Header, Row, rowOf, startGiven, takesStart, startRange, mayBeEmpty, rowLine}
+use Rattle.spec.specs.Text.{lines, Field}
+use Rattle.spec.specs.Reading.{splitSheet, Out, stop, Place, Seen, right, wrong, badRange, noStart, insist, below, inRange, allInRange, passed, next}
+use Rattle.spec.specs.Split.{Header, Row, rowOf, takesStart, startRange, mayBeEmpty}
+use Rattle.spec.specs.declared.Purpose.{Purpose}
 use Rattle.spec.specs.declared.Refusal.the-variants.{SplitForm, SplitRange, NoStart}
 use Rattle.spec.specs.declared.Word.{Word}
 use Rattle.spec.specs.declared.MapNumber.{MapNumber}
@@ -19,11 +17,9 @@ use Rattle.spec.specs.declared.Heading.{Heading}
 use Rattle.spec.specs.declared.Heading.the-variants.{C, C2}
 use Rattle.lexer.specs.Views.{endOf, firstField, lineAt}
 use Rattle.lexer.specs.Cursors.{Placed, rest, next as nextCursor, placeAt}
-use Rattle.lexer.specs.Numbers.{stored, Spells}
 use Rattle.lexer.specs.declared.Cursor.{Cursor}
 use Rattle.lexer.specs.declared.FieldEnd.the-variants.{Newline}
 use Rattle.lexer.proofs.Fields.{line-newline}
-use Rattle.lexer.proofs.Stored.{stored-judged}
 use Rattle.lexer.proofs.Places.{next-rest, next-placed, line-passed}
 use Rattle.split.specs.declared.row_lines.Row.{Row as RowNumbers}
 use Rattle.split.specs.declared.row_lines.RowStart.{RowStart}
@@ -33,7 +29,8 @@ use Rattle.split.specs.declared.row_lines.RowRead.the-variants as row-re
 use Rattle.split.specs.declared.fields.Leading.the-variants as leading
 use Rattle.split.specs.declared.fields.Start.the-variants as start
 use Rattle.split.specs.Lines.{startTold, rowTold, wordLine, startLimit, rowMade, startRanged, rowRanged}
-use Rattle.split.specs.Answers.{LeadingAnswer, StartAnswer, RowAnswer}
+use Rattle.split.specs.Answers.{LeadingAnswer, PostAnswer, StartAnswer, RowAnswer}
+use Rattle.split.proofs.RowFields.{two, three, first-alone, second-alone, fourth-bad, first-bad, second-bad, third-bad, row-empty, row-given}
 use Rattle.split.proofs.FieldsInTurn.{shown, behind-field, field-wrong, field-last, field-more, at-cursor}
 use Rattle.split.proofs.LineLaws.{shows-range, shows-no-start, shows-entry, comma-line, comma-placed, comma-kept}
 
@@ -54,12 +51,6 @@ unfolding mayBeEmpty
 start-not-asked h w e = sym (rw e)
 
 -- ------------------------------------------------------------------ the numbers of a row in their ranges
-
-abbrev two : Header → List Range
-two H = below (H .types) ∷ below (H .maps) ∷ []
-
-abbrev three : Header → Word → List Range
-three H w = below (H .types) ∷ below (H .maps) ∷ startRange w H ∷ []
 
 module _ (line : ℕ) (row : RowNumbers) (w : Word) (H : Header) (c : Cursor) where
   abbrev pub fits : Bool
@@ -92,107 +83,6 @@ module _ (line : ℕ) (row : RowNumbers) (w : Word) (H : Header) (c : Cursor) wh
       unfolding startRanged
       start-left h = sym (rw h) ∙ started empty
 
--- ------------------------------------------------------------------ what the fields of a row show
-
--- a field that is no numeral
-no-numerals : (rs : List Range) (fs : List Field) → numerals fs ≡ none → numbers rs fs ≡ wrong badForm
-unfolding numbers ranged
-no-numerals rs fs e = rw e
-
-not-first : (f : Field) (fs : List Field) → numeral f ≡ none → numerals (f ∷ fs) ≡ none
-unfolding numerals withNumeral
-not-first f fs e = rw e
-
-not-behind : (f : Field) (fs : List Field) → numerals fs ≡ none → numerals (f ∷ fs) ≡ none
-unfolding numerals withNumeral
-not-behind f fs e = ap (withNumeral (numeral f)) e ∙ go (numeral f)
-  where
-    go : (o : Option ℕ) → withNumeral o none ≡ none
-    go none = refl
-    go (some n) = refl
-
-module _ (H : Header) (w : Word) where
-  -- a line whose numerals are not, with a start or without
-  two-bad : (f g : Field) → numerals (f ∷ g ∷ []) ≡ none → wordLine H w (f ∷ g ∷ [] ∷ []) ≡ wrong badForm
-  unfolding wordLine rowLine seen insist
-  two-bad f g e = rw (no-numerals (two H) (f ∷ g ∷ []) e)
-
-  three-bad : (f g : Field) (b : ℕ) (s : Field) → numerals (f ∷ g ∷ (b ∷ s) ∷ []) ≡ none → wordLine H w (f ∷ g ∷ (b ∷ s) ∷ []) ≡ wrong badForm
-  unfolding wordLine rowLine seen
-  three-bad f g b s e = rw (no-numerals (three H w) (f ∷ g ∷ (b ∷ s) ∷ []) e)
-
-  first-alone : (f : Field) → wordLine H w (f ∷ []) ≡ wrong badForm
-  unfolding wordLine rowLine
-  first-alone f = refl
-
-  module _ (f : Field) where
-    second-alone : (g : Field) → wordLine H w (f ∷ g ∷ []) ≡ wrong badForm
-    unfolding wordLine rowLine
-    second-alone g = refl
-
-    fourth-bad : (g s t : Field) (fs : List Field) → wordLine H w (f ∷ g ∷ s ∷ t ∷ fs) ≡ wrong badForm
-    unfolding wordLine rowLine
-    fourth-bad g s t fs = refl
-
-    -- no numeral in front
-    first-bad : numeral f ≡ none → (fs : List Field) → wordLine H w (f ∷ fs) ≡ wrong badForm
-    first-bad e [] = first-alone f
-    first-bad e (g ∷ []) = second-alone g
-    first-bad e (g ∷ [] ∷ []) = two-bad f g (not-first f (g ∷ []) e)
-    first-bad e (g ∷ (b ∷ s) ∷ []) = three-bad f g b s (not-first f (g ∷ (b ∷ s) ∷ []) e)
-    first-bad e (g ∷ s ∷ t ∷ fs) = fourth-bad g s t fs
-
-    module _ (g : Field) where
-      second-bad : numeral g ≡ none → (fs : List Field) → wordLine H w (f ∷ g ∷ fs) ≡ wrong badForm
-      second-bad e [] = second-alone g
-      second-bad e ([] ∷ []) = two-bad f g (not-behind f (g ∷ []) (not-first g [] e))
-      second-bad e ((b ∷ s) ∷ []) = three-bad f g b s (not-behind f (g ∷ (b ∷ s) ∷ []) (not-first g ((b ∷ s) ∷ []) e))
-      second-bad e (s ∷ t ∷ fs) = fourth-bad g s t fs
-
-      -- neither empty nor a numeral
-      third-bad : (s : Field) → numeral s ≡ none → (s ≡ [] → ⊥) → (fs : List Field) → wordLine H w (f ∷ g ∷ s ∷ fs) ≡ wrong badForm
-      third-bad [] e n fs = absurd (n refl)
-      third-bad (b ∷ s) e n [] = three-bad f g b s (not-behind f (g ∷ (b ∷ s) ∷ []) (not-behind g ((b ∷ s) ∷ []) (not-first (b ∷ s) [] e)))
-      third-bad (b ∷ s) e n (t ∷ fs) = fourth-bad g (b ∷ s) t fs
-
-seen-row : (make : List ℕ → Row) (x : Bool) (ns : List ℕ) → seen make (if x then right ns else wrong badRange) ≡ (if x then right (make ns) else wrong badRange)
-unfolding seen
-seen-row make true ns = refl
-seen-row make false ns = refl
-
-start-few : (w : Word) (n : ℕ) → startLimit w n ≤ n
-start-few w n = go (takesStart w)
-  where
-    go : (x : Bool) → (if x then n else 0) ≤ n
-    go true = omega arith
-    go false = omega arith
-
-module _
-    (H : Header) (few : (H .types ≤ 64) × (H .maps ≤ 512)) (w : Word) (f g : Field) (a b : ℕ) (first : Spells f a) (second : Spells g b)
-  where
-    -- an empty s: form and ranges first, then whether it may be
-    row-empty : wordLine H w (f ∷ g ∷ [] ∷ [])
-        ≡ insist (mayBeEmpty (H .heading) w) noStart (if allInRange (two H) (a ∷ b ∷ []) then right (rowOf none (a ∷ b ∷ [])) else wrong badRange)
-    unfolding wordLine rowLine numbers numerals withNumeral ranged
-    row-empty =
-        rw (first .2, second .2, first .1, second .1)
-        (ap (λ (x : Seen (List ℕ)). insist (mayBeEmpty (H .heading) w) noStart (seen (rowOf none) x))
-        (stored-judged (two H) (omega arith, (omega arith, tt)) (first .0 ∷ second .0 ∷ []) refl)
-        ∙ ap (insist (mayBeEmpty (H .heading) w) noStart)
-        (seen-row (rowOf none) (allInRange (two H) (stored (first .0) ∷ stored (second .0) ∷ [])) (stored (first .0) ∷ stored (second .0) ∷ [])))
-
-    -- a number
-    row-given : (s : Field) (n : ℕ) → Spells s n → wordLine H w (f ∷ g ∷ s ∷ [])
-        ≡ (if allInRange (three H w) (a ∷ b ∷ n ∷ []) then right (rowOf (some (record { 0 = n })) (a ∷ b ∷ n ∷ [])) else wrong badRange)
-    unfolding wordLine rowLine numbers numerals withNumeral ranged startGiven startRange
-    row-given [] n third = let z : _≡_ {A = ℕ} 0 1 = unfold numeral in cc in absurd (omega arith)
-    row-given (x ∷ s) n third =
-        let ns = first .0 ∷ second .0 ∷ third .0 ∷ [] in
-        let maps = start-few w (H .maps) in
-        rw (first .2, second .2, third .2, first .1, second .1, third .1)
-        (ap (seen (λ ns. rowOf (some (startGiven ns)) ns)) (stored-judged (three H w) (omega arith, (omega arith, (omega arith, tt))) ns refl)
-        ∙ seen-row (λ ns. rowOf (some (startGiven ns)) ns) (allInRange (three H w) (map stored ns)) (map stored ns))
-
 -- ------------------------------------------------------------------ the answers of the readers of the fields, as what the line shows
 
 three-tested : (H : Header) (w : Word) (a b n : ℕ) → allInRange (three H w) (a ∷ b ∷ n ∷ []) ≡ (allInRange (two H) (a ∷ b ∷ []) && inRange (startRange w H) n)
@@ -205,45 +95,45 @@ three-tested H w a b n = go (inRange (below (H .types)) a) (inRange (below (H .m
     go true false z = refl
     go false y z = refl
 
-module _ (H : Header) (w : Word) (text : List ℕ) (c : Cursor) (p : Placed text c) (some-left : 0 < length (rest text c)) where
+module _ (purpose : Purpose) (H : Header) (w : Word) (text : List ℕ) (c : Cursor) (p : Placed text c) (some-left : 0 < length (rest text c)) where
   abbrev out : Out (Row × Place)
-  out = next splitSheet (wordLine H w) (placeAt text c)
+  out = next splitSheet (wordLine purpose H w) (placeAt text c)
 
   pub row-first : LeadingAnswer text c leading.Malformed → out ≡ stop (SplitForm (c .line + 1))
   row-first h =
       let f = firstField (rest text c) in
-      at-cursor (wordLine H w) text c some-left
+      at-cursor (wordLine purpose H w) text c some-left
       ∙ ⊎-elim
-      (λ e. field-wrong (wordLine H w) (c .line + 1) (rest text c) (first-bad H w f e))
-      (λ n. field-last (wordLine H w) (c .line + 1) (rest text c) n (first-alone H w f))
+      (λ e. field-wrong (wordLine purpose H w) (c .line + 1) (rest text c) (first-bad purpose H w f e))
+      (λ n. field-last (wordLine purpose H w) (c .line + 1) (rest text c) n (first-alone purpose H w f))
       h
 
   module _ (a : ℕ) (c₂ : Cursor) (lead : LeadingAnswer text c (leading.Value a c₂)) where
     abbrev behind-one : List Field → Seen Row
-    behind-one fs = wordLine H w (firstField (rest text c) ∷ fs)
+    behind-one fs = wordLine purpose H w (firstField (rest text c) ∷ fs)
 
     pub second-placed : Placed text c₂
     second-placed = comma-placed text c c₂ p (lead .1) (lead .2)
 
     peeled : out ≡ shown behind-one (c .line + 1) (lineAt (rest text c₂))
     peeled =
-        at-cursor (wordLine H w) text c some-left
-        ∙ ap (shown (wordLine H w) (c .line + 1)) (comma-line text c c₂ p (lead .1) (lead .2))
-        ∙ behind-field (wordLine H w) (c .line + 1) (firstField (rest text c)) (lineAt (rest text c₂))
+        at-cursor (wordLine purpose H w) text c some-left
+        ∙ ap (shown (wordLine purpose H w) (c .line + 1)) (comma-line text c c₂ p (lead .1) (lead .2))
+        ∙ behind-field (wordLine purpose H w) (c .line + 1) (firstField (rest text c)) (lineAt (rest text c₂))
 
-    pub row-second : LeadingAnswer text c₂ leading.Malformed → out ≡ stop (SplitForm (c .line + 1))
+    pub row-second : PostAnswer purpose text c₂ leading.Malformed → out ≡ stop (SplitForm (c .line + 1))
     row-second h =
         let f = firstField (rest text c) in
         let g = firstField (rest text c₂) in
         peeled
         ∙ ⊎-elim
-        (λ e. field-wrong behind-one (c .line + 1) (rest text c₂) (second-bad H w f g e))
-        (λ n. field-last behind-one (c .line + 1) (rest text c₂) n (second-alone H w f g))
+        (λ e. field-wrong behind-one (c .line + 1) (rest text c₂) (second-bad purpose H w f g e))
+        (λ n. field-last behind-one (c .line + 1) (rest text c₂) n (second-alone purpose H w f g))
         h
 
-    module _ (b : ℕ) (c₃ : Cursor) (lead₂ : LeadingAnswer text c₂ (leading.Value b c₃)) where
+    module _ (b : ℕ) (c₃ : Cursor) (lead₂ : PostAnswer purpose text c₂ (leading.Value b c₃)) where
       abbrev behind-two : List Field → Seen Row
-      behind-two fs = wordLine H w (firstField (rest text c) ∷ firstField (rest text c₂) ∷ fs)
+      behind-two fs = wordLine purpose H w (firstField (rest text c) ∷ firstField (rest text c₂) ∷ fs)
 
       pub third-placed : Placed text c₃
       third-placed = comma-placed text c₂ c₃ second-placed (lead₂ .1) (lead₂ .2)
@@ -260,8 +150,8 @@ module _ (H : Header) (w : Word) (text : List ℕ) (c : Cursor) (p : Placed text
           let g = firstField (rest text c₂) in
           peeled-two
           ∙ ⊎-elim
-          (λ e. field-wrong behind-two (c .line + 1) (rest text c₃) (third-bad H w f g (firstField (rest text c₃)) (e .0) (e .1)))
-          (λ n. field-more behind-two (c .line + 1) (rest text c₃) n (fourth-bad H w f g (firstField (rest text c₃))))
+          (λ e. field-wrong behind-two (c .line + 1) (rest text c₃) (third-bad purpose H w f g (firstField (rest text c₃)) (e .0) (e .1)))
+          (λ n. field-more behind-two (c .line + 1) (rest text c₃) n (fourth-bad purpose H w f g (firstField (rest text c₃))))
           h
 
       module _ (d : Cursor) (newline : endOf (rest text c₃) ≡ Newline) (is : nextCursor text c₃ ≡ d) where
@@ -302,7 +192,7 @@ module _ (H : Header) (w : Word) (text : List ℕ) (c : Cursor) (p : Placed text
           let g = firstField (rest text c₂) in
           subst (RowAnswer text out) (sym (q ∙ ap (λ (r : RowNumbers). rowRanged (c .line + 1) r w H d) is))
           (empty-judged d (h .1) (h .2) (rowMade a b row-start.Empty) (allInRange (two H) (a ∷ b ∷ [])) (mayBeEmpty (H .heading) w)
-          (ap (λ (s : Field). wordLine H w (f ∷ g ∷ s ∷ [])) (h .0) ∙ row-empty H few w f g a b (lead .0) (lead₂ .0)))
+          (ap (λ (s : Field). wordLine purpose H w (f ∷ g ∷ s ∷ [])) (h .0) ∙ row-empty purpose H few w f g a b (lead .0) (lead₂ .0)))
 
       pub row-with-start : (H .types ≤ 64) × (H .maps ≤ 512) → (n : ℕ) (d : Cursor) → StartAnswer text c₃ (start.Given n d)
           → (row : RowNumbers) → row ≡ rowMade a b (row-start.Given (record { 0 = n })) → (answer : RowRead) → answer ≡ rowRanged (c .line + 1) row w H d → RowAnswer text out answer
@@ -311,5 +201,5 @@ module _ (H : Header) (w : Word) (text : List ℕ) (c : Cursor) (p : Placed text
           let made = rowMade a b (row-start.Given (record { 0 = n })) in
           subst (RowAnswer text out) (sym (q ∙ ap (λ (r : RowNumbers). rowRanged (c .line + 1) r w H d) is))
           (given-judged d (h .1) (h .2) made (allInRange (two H) (a ∷ b ∷ [])) (inRange (startRange w H) n)
-          (row-given H few w (firstField (rest text c)) (firstField (rest text c₂)) a b (lead .0) (lead₂ .0) (firstField (rest text c₃)) n (h .0)
+          (row-given purpose H few w (firstField (rest text c)) (firstField (rest text c₂)) a b (lead .0) (lead₂ .0) (firstField (rest text c₃)) n (h .0)
           ∙ ap (λ (x : Bool). if x then right (rowTold made) else wrong badRange) (three-tested H w a b n)))

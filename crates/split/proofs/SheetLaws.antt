@@ -8,15 +8,16 @@ use lib.ListN.{length, getD, replicate, length-map}
 use Rattle.spec.specs.Reading.{splitSheet, Out, _>>=_, Place, nextAll, end}
 use Rattle.spec.specs.Expression.{Step}
 use Rattle.spec.specs.Split.{Map, Header, Row, Split, typeLines, mapLine, rowLine}
+use Rattle.spec.specs.declared.Purpose.{Purpose}
 use Rattle.spec.specs.declared.Refusal.{Refusal}
 use Rattle.spec.specs.declared.TypeLine.{TypeLine}
 use Rattle.lexer.specs.Cursors.{Placed, placeAt}
 use Rattle.lexer.specs.declared.Cursor.{Cursor}
-use Rattle.workspace.specs.Layout.{wordsAt, valuesAt, codeOf, wordOf}
+use Rattle.workspace.specs.Layout.{wordsAt, valuesAt, codeOf}
 use Rattle.workspace.specs.Region.{Region, ChangedWithin}
 use Rattle.workspace.specs.Holds.{HoldsSteps, HoldsSplit}
 use Rattle.workspace.proofs.Codes.{word-of-code}
-use Rattle.workspace.proofs.Region.{column, region-kept, changed-then, changed-wider}
+use Rattle.workspace.proofs.Region.{region-moved, region-first, region-behind, region-kept, changed-then, changed-wider}
 use Rattle.split.specs.declared.Header.{Header as HeaderRead}
 use Rattle.split.specs.declared.LinesRead.{LinesRead}
 use Rattle.split.specs.declared.LinesRead.the-variants as lines-read
@@ -39,53 +40,30 @@ unfolding stepsFrom
 steps-kept w w′ k zero h x = refl
 steps-kept w w′ k (suc n) h x = rw (step-kept w w′ k (omega arith) x, steps-kept w w′ (k + 1) n (omega arith) x)
 
-held : (w : List ℕ) (k : ℕ) (s : Step) → wordOf (getD w (wordsAt + k) 0) ≡ s .word → getD w (valuesAt + k) 0 ≡ s .value → stepAt w k ≡ s
-unfolding stepAt
-held w k s a b = rw (a, b)
-
 -- the steps that the work space holds are those that it is read for
-steps-from : (w : List ℕ) (k : ℕ) (z : Step) (steps : List Step)
-    → ((i : ℕ) → i < length steps → (getD w (wordsAt + (k + i)) 0 ≡ codeOf (getD steps i z .word)) × (getD w (valuesAt + (k + i)) 0 ≡ getD steps i z .value))
-    → stepsFrom w k (length steps) ≡ steps
-unfolding stepsFrom
-steps-from w k z [] h = refl
-steps-from w k z (s ∷ steps) h =
-    let first : stepAt w k ≡ s = here (h 0 (omega arith)) in
-    let others : stepsFrom w (k + 1) (length steps) ≡ steps = steps-from w (k + 1) z steps (λ i l. there i (h (suc i) (omega arith))) in
-    rw (first, others)
-  where
-    here : (getD w (wordsAt + (k + 0)) 0 ≡ codeOf (s .word)) × (getD w (valuesAt + (k + 0)) 0 ≡ s .value) → stepAt w k ≡ s
-    here (a, b) =
-        let e : k + 0 ≡ k = omega arith in
-        held w k s (ap wordOf (ap (λ (j : ℕ). getD w (wordsAt + j) 0) (sym e) ∙ a) ∙ word-of-code (s .word)) (ap (λ (j : ℕ). getD w (valuesAt + j) 0) (sym e) ∙ b)
-
-    there : (i : ℕ)
-        → (getD w (wordsAt + (k + suc i)) 0 ≡ codeOf (getD steps i z .word)) × (getD w (valuesAt + (k + suc i)) 0 ≡ getD steps i z .value)
-        → (getD w (wordsAt + (k + 1 + i)) 0 ≡ codeOf (getD steps i z .word)) × (getD w (valuesAt + (k + 1 + i)) 0 ≡ getD steps i z .value)
-    there i (a, b) =
-        let e : k + 1 + i ≡ k + suc i = omega arith in
-        (ap (λ (j : ℕ). getD w (wordsAt + j) 0) e ∙ a, ap (λ (j : ℕ). getD w (valuesAt + j) 0) e ∙ b)
+steps-from : (w : List ℕ) (k : ℕ) (steps : List Step) → Region w (wordsAt + k) (map (λ (s : Step). codeOf (s .word)) steps)
+    → Region w (valuesAt + k) (map (λ (s : Step). s .value) steps) → stepsFrom w k (length steps) ≡ steps
+unfolding stepsFrom stepAt
+steps-from w k [] r q = refl
+steps-from w k (s ∷ steps) r q =
+    let a : wordsAt + k + 1 ≡ wordsAt + (k + 1) = omega arith in
+    let b : valuesAt + k + 1 ≡ valuesAt + (k + 1) = omega arith in
+    rw (region-first r, region-first q, word-of-code (s .word))
+    (ap (λ (l : List Step). s ∷ l) (steps-from w (k + 1) steps (region-moved _ _ a (region-behind r)) (region-moved _ _ b (region-behind q))))
 
 pub steps-held : (w : List ℕ) (steps : List Step) (n : ℕ) → HoldsSteps w steps → length steps ≡ n → stepsFrom w 0 n ≡ steps
-steps-held w [] n h e = ap (stepsFrom w 0) (sym e) ∙ steps-from w 0 (stepAt w 0) [] (λ i l. absurd (omega arith))
-steps-held w (s ∷ steps) n h e =
-    ap (stepsFrom w 0) (sym e)
-    ∙ steps-from w 0 s (s ∷ steps) (λ i l.
-    let z : 0 + i ≡ i = omega arith in (
-      ap (λ (j : ℕ). getD w (wordsAt + j) 0) z ∙ column w wordsAt (λ (x : Step). codeOf (x .word)) (s ∷ steps) s i (h .words) l,
-      ap (λ (j : ℕ). getD w (valuesAt + j) 0) z ∙ column w valuesAt (λ (x : Step). x .value) (s ∷ steps) s i (h .values) l,
-    ))
+steps-held w steps n h e = rw (← e) (steps-from w 0 steps (h .words) (h .values))
 
 -- ------------------------------------------------------------------ the lines behind the header
 
-module _ (h : HeaderRead) (small : Small h) (n : ℕ) (few : n ≤ 256) (text : List ℕ) (c : Cursor) (w w₁ : List ℕ) (types : LinesRead)
+module _ (purpose : Purpose) (h : HeaderRead) (small : Small h) (n : ℕ) (few : n ≤ 256) (text : List ℕ) (c : Cursor) (w w₁ : List ℕ) (types : LinesRead)
     (read-types : LinesStored 2048 2240 (h .types) HoldsTypes text (nextAll splitSheet (typeLines (headerTold h) 0 (h .types)) (placeAt text c)) w w₁ types)
   where
     abbrev H : Header
     H = headerTold h
 
     abbrev whole : Out Split
-    whole = body H (stepsFrom w 0 n) (placeAt text c)
+    whole = body purpose H (stepsFrom w 0 n) (placeAt text c)
 
     abbrev types-out : Out (List TypeLine × Place)
     types-out = nextAll splitSheet (typeLines H 0 (h .types)) (placeAt text c)
@@ -93,7 +71,7 @@ module _ (h : HeaderRead) (small : Small h) (n : ℕ) (few : n ≤ 256) (text : 
     changed-one : ChangedWithin 1024 16384 w w₁
     changed-one = changed-wider 1024 16384 (omega arith) (omega arith) (read-types .changed)
 
-    pub types-stop : (r : Refusal) → types ≡ lines-read.Refused r → BodyRead H n (placeAt text c) w w₁ types
+    pub types-stop : (r : Refusal) → types ≡ lines-read.Refused r → BodyRead purpose H n (placeAt text c) w w₁ types
     unfolding body headerTold _>>=_
     types-stop r e = record {
       answered = subst (BodyAnswer H whole w₁) (sym e) (rw (subst (LinesAnswer (h .types) (HoldsTypes w₁) text types-out) e (read-types .answered)));
@@ -114,7 +92,7 @@ module _ (h : HeaderRead) (small : Small h) (n : ℕ) (few : n ≤ 256) (text : 
         changed-two : ChangedWithin 1024 16384 w w₂
         changed-two = changed-then 1024 16384 changed-one (changed-wider 1024 16384 (omega arith) (omega arith) (read-maps .changed))
 
-        pub maps-stop : (r : Refusal) → maps ≡ lines-read.Refused r → BodyRead H n (placeAt text c) w w₂ maps
+        pub maps-stop : (r : Refusal) → maps ≡ lines-read.Refused r → BodyRead purpose H n (placeAt text c) w w₂ maps
         unfolding body headerTold _>>=_
         maps-stop r e = record {
           answered = subst (BodyAnswer H whole w₂) (sym e)
@@ -130,7 +108,7 @@ module _ (h : HeaderRead) (small : Small h) (n : ℕ) (few : n ≤ 256) (text : 
           maps-placed = maps-got .4
 
           abbrev rows-from : List ℕ → Out (List Row × Place)
-          rows-from v = nextAll splitSheet (map (rowLine H) (stepsFrom v 0 n)) (placeAt text c₃)
+          rows-from v = nextAll splitSheet (map (rowLine purpose H) (stepsFrom v 0 n)) (placeAt text c₃)
 
           module _ (v : List ℕ) (emptied : EmptyStored w₂ v) (w₃ : List ℕ) (rows : LinesRead) (read-rows : LinesStored 1024 1792 n HoldsRows text (rows-from v) v w₃ rows) where
             abbrev rows-out : Out (List Row × Place)
@@ -142,10 +120,10 @@ module _ (h : HeaderRead) (small : Small h) (n : ℕ) (few : n ≤ 256) (text : 
             changed-three : ChangedWithin 1024 16384 w w₃
             changed-three = changed-then 1024 16384 changed-empty (changed-wider 1024 16384 (omega arith) (omega arith) (read-rows .changed))
 
-            same-rows : nextAll splitSheet (map (rowLine H) (stepsFrom w 0 n)) (placeAt text c₃) ≡ rows-out
-            same-rows = ap (λ (l : List Step). nextAll splitSheet (map (rowLine H) l) (placeAt text c₃)) (sym (steps-kept w v 0 n (omega arith) changed-empty))
+            same-rows : nextAll splitSheet (map (rowLine purpose H) (stepsFrom w 0 n)) (placeAt text c₃) ≡ rows-out
+            same-rows = ap (λ (l : List Step). nextAll splitSheet (map (rowLine purpose H) l) (placeAt text c₃)) (sym (steps-kept w v 0 n (omega arith) changed-empty))
 
-            pub rows-stop : (r : Refusal) → rows ≡ lines-read.Refused r → BodyRead H n (placeAt text c) w w₃ rows
+            pub rows-stop : (r : Refusal) → rows ≡ lines-read.Refused r → BodyRead purpose H n (placeAt text c) w w₃ rows
             unfolding body headerTold _>>=_
             rows-stop r e = record {
               answered = subst (BodyAnswer H whole w₃) (sym e)
@@ -189,5 +167,5 @@ module _ (h : HeaderRead) (small : Small h) (n : ℕ) (few : n ≤ 256) (text : 
               ended (lines-read.Refused r) e = rw (types-got .1, maps-got .1, same-rows ∙ rows-got .1, e)
               ended (lines-read.Read d) e = (found, rw (types-got .1, maps-got .1, same-rows ∙ rows-got .1, e), refl, holds)
 
-              pub body-read : (answer : LinesRead) → EndAnswer (end splitSheet (placeAt text c₄)) answer → BodyRead H n (placeAt text c) w w₃ answer
+              pub body-read : (answer : LinesRead) → EndAnswer (end splitSheet (placeAt text c₄)) answer → BodyRead purpose H n (placeAt text c) w w₃ answer
               body-read answer e = record { answered = ended answer e; changed = changed-three }

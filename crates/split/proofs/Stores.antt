@@ -1,7 +1,7 @@
 -- Stores of the readers: a row of three columns, a map; and which part of the work space they change.
 use mathlib.Core.Path.{_≡_, sym, ap, subst, _∙_}
 use mathlib.Core.Logic.{_⊎_, inl, inr, ⊎-elim}
-use mathlib.Core.List.{List, [], _∷_, _++_, map, map-append}
+use mathlib.Core.List.{List, [], _∷_, _++_, map}
 use Prim.Native.Nat.{ℕ, _+_, _-_, _*_, _<_, _≤_}
 use native.Mathlib.Omega.{arith}
 use native.Mathlib.Nat.{eq-or-lt-of-le}
@@ -10,7 +10,7 @@ use lib.Seq.{getD-take, getD-drop, length-take-le, getD-append-add, getD-append-
 use Rattle.spec.specs.Split.{Map}
 use Rattle.workspace.specs.Layout.{mapsAt, stride}
 use Rattle.workspace.specs.Region.{Region, ChangedWithin}
-use Rattle.workspace.proofs.Region.{region-empty, region-apart, region-push, region-kept, changed-store, changed-then}
+use Rattle.workspace.proofs.Region.{region-empty, region-apart, column-push, region-kept, changed-store, changed-then}
 use Rattle.split.specs.Stored.{Columns, EmptyStored, HoldsMaps}
 
 -- ------------------------------------------------------------------ columns
@@ -27,11 +27,6 @@ module _ {A : Type 0} (f g h : A → ℕ) (b rows : ℕ) where
   module _ (w : List ℕ) (entries : List A) (a : A) (n : ℕ) (count : length entries ≡ n) (few : n < rows) (room : b + rows + rows + rows ≤ length w) where
     abbrev stored : List ℕ
     stored = set (set (set w (b + n) (f a)) (b + rows + n) (g a)) (b + rows + rows + n) (h a)
-
-    pushed : (k : A → ℕ) (at : ℕ) (v : List ℕ) → at + rows ≤ length v → Region v at (map k entries) → Region (set v (at + n) (k a)) at (map k (entries ++ (a ∷ [])))
-    pushed k at v l r =
-        let m : length (map k entries) ≡ n = length-map entries k ∙ count in
-        rw (map-append k entries (a ∷ []), ← m) (region-push v at (map k entries) (k a) (omega arith) r)
 
     apart : (k : A → ℕ) (at : ℕ) (v : List ℕ) (i x : ℕ) → (i < at) ⊎ (at + rows ≤ i) → (l : List A) → length l ≤ rows → Region v at (map k l) → Region (set v i x) at (map k l)
     apart k at v i x o l c r =
@@ -50,12 +45,12 @@ module _ {A : Type 0} (f g h : A → ℕ) (b rows : ℕ) where
         record {
           first =
               apart f b w₂ (b + rows + rows + n) (h a) (inr (omega arith)) all more
-              (apart f b w₁ (b + rows + n) (g a) (inr (omega arith)) all more (pushed f b w (omega arith) (c .first)));
+              (apart f b w₁ (b + rows + n) (g a) (inr (omega arith)) all more (column-push w b f entries a n count (omega arith) (c .first)));
           second =
               apart g (b + rows) w₂ (b + rows + rows + n) (h a) (inr (omega arith)) all more
-              (pushed g (b + rows) w₁ (omega arith) (apart g (b + rows) w (b + n) (f a) (inl (omega arith)) entries (omega arith) (c .second)));
+              (column-push w₁ (b + rows) g entries a n count (omega arith) (apart g (b + rows) w (b + n) (f a) (inl (omega arith)) entries (omega arith) (c .second)));
           third =
-              pushed h (b + rows + rows) w₂ (omega arith)
+              column-push w₂ (b + rows + rows) h entries a n count (omega arith)
               (apart h (b + rows + rows) w₁ (b + rows + n) (g a) (inl (omega arith)) entries (omega arith)
               (apart h (b + rows + rows) w (b + n) (f a) (inl (omega arith)) entries (omega arith) (c .third)));
         }

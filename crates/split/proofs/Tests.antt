@@ -1,8 +1,8 @@
 -- The code's tests of numbers, as ranges.
 use mathlib.Core.Path.{_≡_, refl, sym, _∙_}
 use mathlib.Core.List.{List, [], _∷_}
-use mathlib.Core.Bool.{Bool, true, false, _&&_, not}
-use Prim.Native.Nat.{ℕ, _≤_, _<_}
+use mathlib.Core.Bool.{Bool, true, false}
+use Prim.Native.Nat.{ℕ, zero, suc, _≤_, _<_}
 use native.Mathlib.Omega.{arith}
 use lib.Dec.{ltb}
 use borrow.Author.Tests.{le-leb, lt-leb, lt-ltb, le-ltb}
@@ -10,19 +10,12 @@ use Rattle.spec.specs.Reading.{Range, _to_, below, inRange, allInRange}
 use Rattle.spec.specs.Split.{Header, refOf, lockOf, tidOf, semOf}
 use Rattle.spec.specs.declared.TypeLine.{TypeLine}
 use Rattle.spec.specs.declared.TypeLine.the-variants as type-line
+use Rattle.spec.proofs.Tests.{and-true}
 use Rattle.lexer.specs.declared.vocabulary.TypeWord.{TypeWord}
 use Rattle.lexer.specs.declared.vocabulary.TypeWord.the-variants as kind
 use Rattle.split.specs.declared.type_lines.TypeSeen.{TypeSeen}
 use Rattle.split.specs.declared.type_lines.TypeSeen.the-variants as type-seen
 use Rattle.split.specs.Lines.{rangedType, typeSeen}
-
-pub untrue : (b : Bool) → not b ≡ true → b ≡ false
-untrue true e = sym e
-untrue false e = refl
-
-pub unfalse : (b : Bool) → not b ≡ false → b ≡ true
-unfalse true e = refl
-unfalse false e = sym e
 
 -- ------------------------------------------------------------------ one number after the other
 
@@ -35,13 +28,9 @@ module _ (r : Range) (rs : List Range) (n : ℕ) (ns : List ℕ) where
   unfolding allInRange
   range-next e h = rw e h
 
-and-last : (b : Bool) → b ≡ (b && true)
-and-last true = refl
-and-last false = refl
-
 pub range-last : (r : Range) (n : ℕ) {x : Bool} → x ≡ inRange r n → x ≡ allInRange (r ∷ []) (n ∷ [])
 unfolding allInRange
-range-last r n e = e ∙ and-last (inRange r n)
+range-last r n e = e ∙ sym (and-true (inRange r n))
 
 -- a range of indices, as one of the numbers that they stand for
 pub range-index : (first : ℕ) {l l′ n n′ : ℕ} {b : Bool} → l ≡ l′ → n ≡ n′ → b ≡ inRange (first to l) n → inRange (first to l′) n′ ≡ b
@@ -63,8 +52,8 @@ module _ (k n : ℕ) where
 -- "any other number where a line form above shows 0" is out of range: 0 is the one number below 1
 pub zero-below : (n : ℕ) → inRange (0 to 0) n ≡ inRange (below 1) n
 unfolding inRange
-zero-below Prim.Native.Nat.zero = refl
-zero-below (Prim.Native.Nat.suc n) = simp (le-leb 0 (Prim.Native.Nat.suc n) (omega arith), lt-leb (Prim.Native.Nat.suc n) 0 (omega arith), le-ltb (Prim.Native.Nat.suc n) 1 (omega arith))
+zero-below zero = refl
+zero-below (suc n) = simp (le-leb 0 (suc n) (omega arith), lt-leb (suc n) 0 (omega arith), le-ltb (suc n) 1 (omega arith))
 
 -- ------------------------------------------------------------------ types
 

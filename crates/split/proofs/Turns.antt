@@ -1,14 +1,16 @@
 -- Counted lines in turn, whatever is read on each: what a loop over them knows after some of them, and what it knows at its end.
 use mathlib.Core.Path.{_≡_, refl, sym, ap, _∙_}
-use mathlib.Core.List.{List, [], _∷_, _++_, append-assoc, append-nil, map}
+use mathlib.Core.List.{List, [], _∷_, _++_, map}
 use Prim.Native.Nat.{ℕ, zero, suc, _+_, _-_, _≤_, _<_}
 use native.Mathlib.Omega.{arith}
 use lib.ListN.{length, length-append, replicate}
 use Rattle.spec.specs.Text.{Field}
-use Rattle.spec.specs.Reading.{splitSheet, Out, stop, on, _>>=_, Seen, Place, next, nextAll}
+use Rattle.spec.specs.Reading.{splitSheet, stop, on, Seen, Place, next, nextAll}
 use Rattle.spec.specs.Expression.{Step}
 use Rattle.spec.specs.Split.{Header, typeLine, typeLines, mapLine, rowLine}
+use Rattle.spec.specs.declared.Purpose.{Purpose}
 use Rattle.spec.specs.declared.Refusal.{Refusal}
+use Rattle.spec.proofs.Reading.{front, front-none, all-stop, all-on, all-done}
 use Rattle.lexer.specs.Cursors.{Placed, placeAt}
 use Rattle.lexer.specs.declared.Cursor.{Cursor}
 use Rattle.workspace.specs.Region.{ChangedWithin}
@@ -35,48 +37,19 @@ maps-numbered H k zero = refl
 maps-numbered H k (suc n) = ap (λ (r : List _). mapLine H ∷ r) (maps-numbered H (k + 1) n)
 
 -- a row is read by its step's word, whatever its step's number
-by-word : (H : Header) (s : Step) (fs : List Field) → rowLine H s fs ≡ wordLine H (s .word) fs
+by-word : (purpose : Purpose) (H : Header) (s : Step) (fs : List Field) → rowLine purpose H s fs ≡ wordLine purpose H (s .word) fs
 unfolding wordLine rowLine
-by-word H s [] = refl
-by-word H s (t ∷ []) = refl
-by-word H s (t ∷ m ∷ []) = refl
-by-word H s (t ∷ m ∷ [] ∷ []) = refl
-by-word H s (t ∷ m ∷ (b ∷ f) ∷ []) = refl
-by-word H s (t ∷ m ∷ f ∷ g ∷ fs) = refl
+by-word purpose H s [] = refl
+by-word purpose H s (t ∷ []) = refl
+by-word purpose H s (t ∷ m ∷ []) = refl
+by-word purpose H s (t ∷ m ∷ [] ∷ []) = refl
+by-word purpose H s (t ∷ m ∷ (b ∷ f) ∷ []) = refl
+by-word purpose H s (t ∷ m ∷ f ∷ g ∷ fs) = refl
 
-pub rows-numbered : (H : Header) (w : List ℕ) (k n : ℕ) → map (rowLine H) (stepsFrom w k n) ≡ numbered (λ i. wordLine H (stepAt w i .word)) k n
+pub rows-numbered : (purpose : Purpose) (H : Header) (w : List ℕ) (k n : ℕ) → map (rowLine purpose H) (stepsFrom w k n) ≡ numbered (λ i. wordLine purpose H (stepAt w i .word)) k n
 unfolding stepsFrom numbered
-rows-numbered H w k zero = refl
-rows-numbered H w k (suc n) = λ i. (λ fs. by-word H (stepAt w k) fs i) ∷ rows-numbered H w (k + 1) n i
-
--- ------------------------------------------------------------------ one line after the other
-
--- entries in front of those that lines show
-unfoldable pub behind : {A : Type 0} → List A → Out (List A × Place) → Out (List A × Place)
-behind done (stop r) = stop r
-behind done (on found) = on (done ++ found .0, found .1)
-
-module _ {A : Type 0} where
-  behind-none : (o : Out (List A × Place)) → behind [] o ≡ o
-  unfolding behind
-  behind-none (stop r) = refl
-  behind-none (on found) = refl
-
-  behind-one : (done : List A) (a : A) (o : Out (List A × Place))
-      → behind done (o >>= λ (as′, end). on (a ∷ as′, end)) ≡ behind (done ++ (a ∷ [])) o
-  unfolding behind _>>=_
-  behind-one done a (stop r) = refl
-  behind-one done a (on found) = rw append-assoc
-
-  module _ (read : List Field → Seen A) (reads : List (List Field → Seen A)) (place : Place) where
-    all-stop : (r : Refusal) → next splitSheet read place ≡ stop r → nextAll splitSheet (read ∷ reads) place ≡ stop r
-    unfolding nextAll _>>=_
-    all-stop r e = rw e
-
-    all-on : (done : List A) (a : A) (after : Place) → next splitSheet read place ≡ on (a, after)
-        → behind done (nextAll splitSheet (read ∷ reads) place) ≡ behind (done ++ (a ∷ [])) (nextAll splitSheet reads after)
-    unfolding nextAll _>>=_
-    all-on done a after e = rw e (behind-one done a (nextAll splitSheet reads after))
+rows-numbered purpose H w k zero = refl
+rows-numbered purpose H w k (suc n) = λ i. (λ fs. by-word purpose H (stepAt w k) fs i) ∷ rows-numbered purpose H w (k + 1) n i
 
 -- ------------------------------------------------------------------ a loop over the lines
 
@@ -91,7 +64,7 @@ pub record Turn
     pub stored : Stored w entries
     pub changed : ChangedWithin a b w₀ w
     pub placed : Placed text c
-    pub rest : nextAll splitSheet (numbered read 0 n) from ≡ behind entries (nextAll splitSheet (numbered read i (n - i)) (placeAt text c))
+    pub rest : nextAll splitSheet (numbered read 0 n) from ≡ front entries (nextAll splitSheet (numbered read i (n - i)) (placeAt text c))
 
 module _ {A : Type 0} (read : ℕ → List Field → Seen A) (Stored : List ℕ → List A → Type 0) (a b n : ℕ) (text w₀ : List ℕ) (c₀ : Cursor) where
   pub first-turn : Stored w₀ [] → Placed text c₀ → Turn read Stored a b n text w₀ (placeAt text c₀) w₀ c₀ 0
@@ -102,7 +75,7 @@ module _ {A : Type 0} (read : ℕ → List Field → Seen A) (Stored : List ℕ 
     stored = s;
     changed = changed-nothing a b w₀;
     placed = p;
-    rest = sym (ap (λ (k : ℕ). behind [] (nextAll splitSheet (numbered read 0 k) (placeAt text c₀))) (omega arith) ∙ behind-none _);
+    rest = sym (ap (λ (k : ℕ). front [] (nextAll splitSheet (numbered read 0 k) (placeAt text c₀))) (omega arith) ∙ front-none _);
   }
 
   module _ (w : List ℕ) (c : Cursor) (i : ℕ) (t : Turn read Stored a b n text w₀ (placeAt text c₀) w c i) where
@@ -112,9 +85,9 @@ module _ {A : Type 0} (read : ℕ → List Field → Seen A) (Stored : List ℕ 
 
     turn-stops : i < n → (r : Refusal) → next splitSheet (read i) (placeAt text c) ≡ stop r
         → nextAll splitSheet (numbered read 0 n) (placeAt text c₀) ≡ stop r
-    unfolding behind
-    turn-stops h r e = t .rest ∙ ap (λ (l : List _). behind (t .entries) (nextAll splitSheet l (placeAt text c))) (left h)
-        ∙ ap (behind (t .entries)) (all-stop (read i) (numbered read (i + 1) (n - (i + 1))) (placeAt text c) r e)
+    unfolding front
+    turn-stops h r e = t .rest ∙ ap (λ (l : List _). front (t .entries) (nextAll splitSheet l (placeAt text c))) (left h)
+        ∙ ap (front (t .entries)) (all-stop splitSheet (read i) (numbered read (i + 1) (n - (i + 1))) (placeAt text c) r e)
 
     pub next-turn : i < n → (w′ : List ℕ) (entry : A) (d : Cursor) → next splitSheet (read i) (placeAt text c) ≡ on (entry, placeAt text d) → Placed text d
         → Stored w′ (t .entries ++ (entry ∷ [])) → ChangedWithin a b w w′
@@ -126,13 +99,13 @@ module _ {A : Type 0} (read : ℕ → List Field → Seen A) (Stored : List ℕ 
       stored = s;
       changed = changed-then a b (t .changed) x;
       placed = p;
-      rest = t .rest ∙ ap (λ (l : List _). behind (t .entries) (nextAll splitSheet l (placeAt text c))) (left h)
-          ∙ all-on (read i) (numbered read (i + 1) (n - (i + 1))) (placeAt text c) (t .entries) entry (placeAt text d) e;
+      rest = t .rest ∙ ap (λ (l : List _). front (t .entries) (nextAll splitSheet l (placeAt text c))) (left h)
+          ∙ all-on splitSheet (read i) (numbered read (i + 1) (n - (i + 1))) (placeAt text c) (t .entries) entry (placeAt text d) e;
     }
 
-    ended : n - i ≡ 0 → behind (t .entries) (nextAll splitSheet (numbered read i (n - i)) (placeAt text c)) ≡ on (t .entries, placeAt text c)
-    unfolding numbered nextAll behind
-    ended e = rw e (ap (λ (l : List _). on (l, placeAt text c)) (append-nil (t .entries)))
+    ended : n - i ≡ 0 → front (t .entries) (nextAll splitSheet (numbered read i (n - i)) (placeAt text c)) ≡ on (t .entries, placeAt text c)
+    unfolding numbered
+    ended e = rw e (all-done splitSheet (t .entries) (placeAt text c))
 
     last-turn : n ≤ i
         → (entries : List A) × (nextAll splitSheet (numbered read 0 n) (placeAt text c₀) ≡ on (entries, placeAt text c)) × (length entries ≡ n) × Stored w entries × Placed text c

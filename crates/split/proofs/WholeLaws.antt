@@ -8,6 +8,7 @@ use Rattle.spec.specs.Text.{lines}
 use Rattle.spec.specs.Reading.{splitSheet, Out, stop, on, _>>=_, form, next, begin}
 use Rattle.spec.specs.Expression.{Step}
 use Rattle.spec.specs.Split.{Split, headerLine, split}
+use Rattle.spec.specs.declared.Purpose.{Purpose}
 use Rattle.spec.specs.declared.Refusal.{Refusal}
 use Rattle.spec.specs.declared.Refusal.the-variants.{SplitForm}
 use Rattle.lexer.specs.Views.{nothing}
@@ -40,25 +41,25 @@ module _ (text : List ℕ) (top : Cursor) (is : top ≡ start) where
   unfolding form
   empty-begin e = begin-at-none splitSheet text (sym top-rest ∙ left-none (rest text top) e)
 
-  pub read-empty : nothing (rest text top) ≡ true → (n : ℕ) (w : List ℕ) → SplitRead text n w w (sheet.Refused (SplitForm 1))
+  pub read-empty : nothing (rest text top) ≡ true → (purpose : Purpose) (n : ℕ) (w : List ℕ) → SplitRead purpose text n w w (sheet.Refused (SplitForm 1))
   unfolding split _>>=_
-  read-empty e n w = record { answered = λ steps held count. rw (empty-begin e); changed = changed-nothing 1024 16384 w }
+  read-empty e purpose n w = record { answered = λ steps held count. rw (empty-begin e); changed = changed-nothing 1024 16384 w }
 
   module _ (some-left : nothing (rest text top) ≡ false) where
     top-place : begin splitSheet (lines text) ≡ on (placeAt text top)
     top-place = begin-at-some splitSheet text (subst (λ (t : List ℕ). 0 < length t) top-rest (left-some (rest text top) some-left)) ∙ rw is
 
-    module _ (answer : HeaderLine) (header : HeaderAnswer text (next splitSheet headerLine (placeAt text top)) answer) where
+    module _ (purpose : Purpose) (answer : HeaderLine) (header : HeaderAnswer text (next splitSheet (headerLine purpose) (placeAt text top)) answer) where
       -- the header is refused
-      pub read-header-stop : (r : Refusal) → answer ≡ header-line.Refused r → (n : ℕ) (w : List ℕ) → SplitRead text n w w (sheet.Refused r)
+      pub read-header-stop : (r : Refusal) → answer ≡ header-line.Refused r → (n : ℕ) (w : List ℕ) → SplitRead purpose text n w w (sheet.Refused r)
       unfolding split _>>=_
       read-header-stop r e n w =
-          let h = subst (HeaderAnswer text (next splitSheet headerLine (placeAt text top))) e header in
+          let h = subst (HeaderAnswer text (next splitSheet (headerLine purpose) (placeAt text top))) e header in
           record { answered = λ steps held count. rw (top-place, h); changed = changed-nothing 1024 16384 w }
 
       module _ (h : HeaderRead) (c : Cursor) (told : answer ≡ header-line.Read h c) where
-        header-got : HeaderAnswer text (next splitSheet headerLine (placeAt text top)) (header-line.Read h c)
-        header-got = subst (HeaderAnswer text (next splitSheet headerLine (placeAt text top))) told header
+        header-got : HeaderAnswer text (next splitSheet (headerLine purpose) (placeAt text top)) (header-line.Read h c)
+        header-got = subst (HeaderAnswer text (next splitSheet (headerLine purpose) (placeAt text top))) told header
 
         pub header-placed : Placed text c
         header-placed = header-got .1
@@ -66,24 +67,24 @@ module _ (text : List ℕ) (top : Cursor) (is : top ≡ start) where
         pub header-small : Small h
         header-small = header-got .2
 
-        behind-header : (steps : List Step) → split steps text ≡ body (headerTold h) steps (placeAt text c)
+        behind-header : (steps : List Step) → split purpose steps text ≡ body purpose (headerTold h) steps (placeAt text c)
         unfolding split body _>>=_
         behind-header steps = rw (top-place, header-got .0)
 
-        module _ (n : ℕ) (w w′ : List ℕ) (lines′ : LinesRead) (read : BodyRead (headerTold h) n (placeAt text c) w w′ lines′) where
+        module _ (n : ℕ) (w w′ : List ℕ) (lines′ : LinesRead) (read : BodyRead purpose (headerTold h) n (placeAt text c) w w′ lines′) where
           abbrev out : Out Split
-          out = body (headerTold h) (stepsFrom w 0 n) (placeAt text c)
+          out = body purpose (headerTold h) (stepsFrom w 0 n) (placeAt text c)
 
-          of-steps : (steps : List Step) → HoldsSteps w steps → length steps ≡ n → split steps text ≡ out
-          of-steps steps held count = behind-header steps ∙ ap (λ (l : List Step). body (headerTold h) l (placeAt text c)) (sym (steps-held w steps n held count))
+          of-steps : (steps : List Step) → HoldsSteps w steps → length steps ≡ n → split purpose steps text ≡ out
+          of-steps steps held count = behind-header steps ∙ ap (λ (l : List Step). body purpose (headerTold h) l (placeAt text c)) (sym (steps-held w steps n held count))
 
-          pub read-body-stop : (r : Refusal) → lines′ ≡ lines-read.Refused r → SplitRead text n w w′ (sheet.Refused r)
+          pub read-body-stop : (r : Refusal) → lines′ ≡ lines-read.Refused r → SplitRead purpose text n w w′ (sheet.Refused r)
           read-body-stop r e = record {
             answered = λ steps held count. of-steps steps held count ∙ subst (BodyAnswer (headerTold h) out w′) e (read .answered);
             changed = read .changed;
           }
 
-          pub read-whole : (d : Cursor) → lines′ ≡ lines-read.Read d → SplitRead text n w w′ (sheet.Read h)
+          pub read-whole : (d : Cursor) → lines′ ≡ lines-read.Read d → SplitRead purpose text n w w′ (sheet.Read h)
           read-whole d e =
               let (S, is-on, head, holds) = subst (BodyAnswer (headerTold h) out w′) e (read .answered) in
               record {

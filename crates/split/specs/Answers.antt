@@ -1,14 +1,16 @@
 -- What the answers of the line readers mean: a refusal is that of document 01, and what is read is what document 01 reads there.
 use mathlib.Core.Path.{_≡_}
 use mathlib.Core.Logic.{_⊎_}
-use mathlib.Core.List.{List, []}
+use mathlib.Core.List.{List, [], _∷_}
 use mathlib.Core.Option.{none, some}
 use Prim.Native.Nat.{ℕ, _+_, _≤_, _-_}
 use lib.ListN.{length, take, drop}
-use Rattle.spec.specs.Text.{numeral}
+use Rattle.spec.specs.Text.{Field, numeral}
 use Rattle.spec.specs.Reading.{Out, stop, on, Place}
-use Rattle.spec.specs.Split.{Map, Header, headerOf, Row}
+use Rattle.spec.specs.Split.{Map, Header, headerOf, Row, postField}
 use Rattle.spec.specs.declared.Heading.{Heading}
+use Rattle.spec.specs.declared.Purpose.{Purpose}
+use Rattle.spec.specs.declared.Purpose.the-variants.{Check, Fill}
 use Rattle.spec.specs.declared.TypeLine.{TypeLine}
 use Rattle.lexer.specs.Views.{endOf, firstField}
 use Rattle.lexer.specs.Cursors.{Placed, rest, next, placeAt}
@@ -58,6 +60,17 @@ HeadAnswer text c head.Alone = endOf (rest text c) ≡ Comma → ⊥
 abbrev pub LeadingAnswer : List ℕ → Cursor → Leading → Type 0
 LeadingAnswer text c (leading.Value n d) = Spells (firstField (rest text c)) n × (endOf (rest text c) ≡ Comma) × (next text c ≡ d)
 LeadingAnswer text c leading.Malformed = (numeral (firstField (rest text c)) ≡ none) ⊎ (endOf (rest text c) ≡ Comma → ⊥)
+
+-- the number that is handed on for an m: when filling, that of map 0 for nothing, and for a numeral one that is in no range
+abbrev pub PostSpells : Purpose → Field → ℕ → Type 0
+PostSpells Check m n = Spells m n
+PostSpells Fill [] n = n ≡ 0
+PostSpells Fill (b ∷ m) n = (k : ℕ) × (numeral (b ∷ m) ≡ some k) × (n ≡ 4294967295)
+
+-- an m with a comma behind it
+abbrev pub PostAnswer : Purpose → List ℕ → Cursor → Leading → Type 0
+PostAnswer purpose text c (leading.Value n d) = PostSpells purpose (firstField (rest text c)) n × (endOf (rest text c) ≡ Comma) × (next text c ≡ d)
+PostAnswer purpose text c leading.Malformed = (numeral (postField purpose (firstField (rest text c))) ≡ none) ⊎ (endOf (rest text c) ≡ Comma → ⊥)
 
 -- the last field of a row
 abbrev pub StartAnswer : List ℕ → Cursor → Start → Type 0

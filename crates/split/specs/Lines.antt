@@ -10,6 +10,7 @@ use Rattle.spec.specs.Reading.{Seen, right, wrong, badForm, badRange, Range, _t
 use Rattle.spec.specs.Split.{Map, Header, headerRanges, refOf, lockOf, tidOf, semOf, Row, takesStart, startRange, mayBeEmpty, rowLine}
 use Rattle.spec.specs.declared.Heading.{Heading}
 use Rattle.spec.specs.declared.Heading.the-variants.{C2}
+use Rattle.spec.specs.declared.Purpose.{Purpose}
 use Rattle.spec.specs.declared.Refusal.the-variants.{SplitRange, NoStart}
 use Rattle.spec.specs.declared.Word.{Word}
 use Rattle.spec.specs.declared.MapNumber.{MapNumber}
@@ -94,8 +95,8 @@ cellLine n fs = numbers (cells n) fs
 -- ------------------------------------------------------------------ rows
 
 -- the row of a step with this word
-unfoldable pub wordLine : Header → Word → List Field → Seen Row
-wordLine H w fs = rowLine H (record { word = w; value = 0 }) fs
+unfoldable pub wordLine : Purpose → Header → Word → List Field → Seen Row
+wordLine purpose H w fs = rowLine purpose H (record { word = w; value = 0 }) fs
 
 -- how many of the maps can be the s of a step with this word
 abbrev pub startLimit : Word → (maps : ℕ) → ℕ

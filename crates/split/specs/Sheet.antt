@@ -6,6 +6,7 @@ use lib.ListN.{length, replicate}
 use Rattle.spec.specs.Reading.{splitSheet, Out, stop, on, _>>=_, Place, nextAll, end}
 use Rattle.spec.specs.Expression.{Step}
 use Rattle.spec.specs.Split.{Header, Split, typeLines, mapLine, rowLine, split}
+use Rattle.spec.specs.declared.Purpose.{Purpose}
 use Rattle.workspace.specs.Region.{ChangedWithin}
 use Rattle.workspace.specs.Holds.{HoldsSteps, HoldsSplit}
 use Rattle.split.specs.declared.LinesRead.{LinesRead}
@@ -17,11 +18,11 @@ use Rattle.split.specs.Lines.{headerTold}
 use Rattle.split.specs.Stored.{stepsFrom}
 
 -- the lines behind the header
-unfoldable pub body : Header → List Step → Place → Out Split
-body H steps p₁ = do
+unfoldable pub body : Purpose → Header → List Step → Place → Out Split
+body purpose H steps p₁ = do
   (types, p₂) ← nextAll splitSheet (typeLines H 0 (H .types)) p₁
   (maps, p₃) ← nextAll splitSheet (replicate (H .maps) (mapLine H)) p₂
-  (rows, p₄) ← nextAll splitSheet (map (rowLine H) steps) p₃
+  (rows, p₄) ← nextAll splitSheet (map (rowLine purpose H) steps) p₃
   done ← end splitSheet p₄
   on (record { header = H; types = types; maps = maps; rows = rows })
 
@@ -33,8 +34,8 @@ abbrev pub BodyAnswer : Header → Out Split → (w′ : List ℕ) → LinesRead
 BodyAnswer H out w′ (lines-read.Refused r) = out ≡ stop r
 BodyAnswer H out w′ (lines-read.Read c) = (S : Split) × (out ≡ on S) × (S .header ≡ H) × HoldsSplit w′ S
 
-pub record BodyRead (H : Header) (n : ℕ) (from : Place) (w w′ : List ℕ) (answer : LinesRead) : Type 0 where
-  pub answered : BodyAnswer H (body H (stepsFrom w 0 n) from) w′ answer
+pub record BodyRead (purpose : Purpose) (H : Header) (n : ℕ) (from : Place) (w w′ : List ℕ) (answer : LinesRead) : Type 0 where
+  pub answered : BodyAnswer H (body purpose H (stepsFrom w 0 n) from) w′ answer
   pub changed : ChangedWithin 1024 16384 w w′
 
 -- a refusal is that of document 01; else the header is that of the split, which the work space holds
@@ -42,7 +43,7 @@ abbrev pub SheetAnswer : Out Split → (w′ : List ℕ) → Sheet → Type 0
 SheetAnswer out w′ (sheet.Refused r) = out ≡ stop r
 SheetAnswer out w′ (sheet.Read h) = (S : Split) × (out ≡ on S) × (S .header ≡ headerTold h) × HoldsSplit w′ S × Small h
 
--- reading a split sheet for the n steps of a program that the work space holds: only places from 1024 on change
-pub record SplitRead (text : List ℕ) (n : ℕ) (w w′ : List ℕ) (answer : Sheet) : Type 0 where
-  pub answered : (steps : List Step) → HoldsSteps w steps → length steps ≡ n → SheetAnswer (split steps text) w′ answer
+-- reading a split sheet, to check or to fill, for the n steps of a program that the work space holds: only places from 1024 on change
+pub record SplitRead (purpose : Purpose) (text : List ℕ) (n : ℕ) (w w′ : List ℕ) (answer : Sheet) : Type 0 where
+  pub answered : (steps : List Step) → HoldsSteps w steps → length steps ≡ n → SheetAnswer (split purpose steps text) w′ answer
   pub changed : ChangedWithin 1024 16384 w w′

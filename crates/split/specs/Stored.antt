@@ -6,6 +6,7 @@ use lib.ListN.{length, getD, replicate}
 use Rattle.spec.specs.Reading.{splitSheet, Out, stop, on, Place, nextAll}
 use Rattle.spec.specs.Expression.{Step}
 use Rattle.spec.specs.Split.{Map, Row, typeLines, mapLine, rowLine}
+use Rattle.spec.specs.declared.Purpose.{Purpose}
 use Rattle.spec.specs.declared.TypeLine.{TypeLine}
 use Rattle.lexer.specs.Cursors.{Placed, placeAt}
 use Rattle.lexer.specs.declared.Cursor.{Cursor}
@@ -72,6 +73,6 @@ MapsRead text c h w w′ answer =
     LinesStored 4096 16384 (h .maps) (HoldsMaps (h .locations)) text (nextAll splitSheet (replicate (h .maps) (mapLine (headerTold h))) (placeAt text c)) w w′ answer
 
 -- the rows of the first n steps in the work space
-abbrev pub RowsRead : List ℕ → Cursor → Header → (n : ℕ) → (w w′ : List ℕ) → LinesRead → Type 0
-RowsRead text c h n w w′ answer =
-    LinesStored 1024 1792 n HoldsRows text (nextAll splitSheet (map (rowLine (headerTold h)) (stepsFrom w 0 n)) (placeAt text c)) w w′ answer
+abbrev pub RowsRead : Purpose → List ℕ → Cursor → Header → (n : ℕ) → (w w′ : List ℕ) → LinesRead → Type 0
+RowsRead purpose text c h n w w′ answer =
+    LinesStored 1024 1792 n HoldsRows text (nextAll splitSheet (map (rowLine purpose (headerTold h)) (stepsFrom w 0 n)) (placeAt text c)) w w′ answer

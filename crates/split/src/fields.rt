@@ -1,9 +1,14 @@
-// The fields of a line of the split sheet: the first one, a number with a comma behind it, and the s of a step line.
+// The fields of a line of the split sheet: the first one, a number with a comma behind it, and the m and the s of a step line.
 use lexer::Cursor;
 use lexer::FieldEnd;
 use lexer::Number;
 use lexer::Numeral;
-ghost use Rattle.split.specs.Answers.{Reading, HeadAnswer, LeadingAnswer, StartAnswer};
+use spec::Purpose;
+ghost use Rattle.spec.specs.declared.Purpose.the-variants.{Fill};
+ghost use Rattle.split.specs.Answers.{Reading, HeadAnswer, LeadingAnswer, PostAnswer, StartAnswer};
+
+// A number that is in no range.
+const IN_NO_RANGE: u32 = 4294967295;
 
 // The first field of a line, where a comma ends it: its first byte, the byte behind its last, and the cursor behind the comma.
 pub(crate) enum Head {
@@ -54,6 +59,34 @@ pub(crate) fn leading_number(text: &[u8], cursor: Cursor) -> Leading
         FieldEnd::Comma => Leading::Value(lexer::narrow(n), next),
         FieldEnd::Newline => Leading::Malformed,
         FieldEnd::Text => Leading::Malformed,
+    }
+}
+
+// The m of a row to fill: nothing, which is read as map 0, or a number, which is in no range.
+fn empty_post(text: &[u8], cursor: Cursor) -> Leading
+    requires { ⌜ Reading (now text) cursor ⌝ }
+    ensures { λ r. ⌜ PostAnswer Fill (now (text .entry)) cursor r ⌝ }
+{
+    let Head::Field(from, to, next) = first_field(text, cursor) else {
+        return Leading::Malformed;
+    };
+    if from == to {
+        return Leading::Value(0, next);
+    }
+    match leading_number(text, cursor) {
+        Leading::Value(_, behind) => Leading::Value(IN_NO_RANGE, behind),
+        Leading::Malformed => Leading::Malformed,
+    }
+}
+
+// The m of a row, in a sheet that is read for this purpose.
+pub(crate) fn post_field(text: &[u8], cursor: Cursor, purpose: Purpose) -> Leading
+    requires { ⌜ Reading (now text) cursor ⌝ }
+    ensures { λ r. ⌜ PostAnswer purpose (now (text .entry)) cursor r ⌝ }
+{
+    match purpose {
+        Purpose::Check => leading_number(text, cursor),
+        Purpose::Fill => empty_post(text, cursor),
     }
 }
 

@@ -7,6 +7,7 @@ use lexer::Cursor;
 use lexer::Numbers;
 use spec::Heading;
 use spec::MapNumber;
+use spec::Purpose;
 use spec::Refusal;
 ghost use mathlib.Core.Path.{_≡_};
 ghost use mathlib.Core.Bool.{false};
@@ -43,12 +44,15 @@ enum FoundHeader {
     Malformed,
 }
 
-// The heading that a field spells.
-fn heading_of(field: &[u8]) -> FoundHeading
-    ensures { λ r. ⌜ r ≡ headingFound (lookUp headings (now (field .entry))) ⌝ }
+// The heading that a field spells in a sheet that is read for this purpose: when filling, "A `C` header is 21".
+fn heading_of(field: &[u8], purpose: Purpose) -> FoundHeading
+    ensures { λ r. ⌜ r ≡ headingFound (lookUp (headings purpose) (now (field .entry))) ⌝ }
 {
     if lexer::same(b"C", field) {
-        return FoundHeading::Known(Heading::C);
+        return match purpose {
+            Purpose::Check => FoundHeading::Known(Heading::C),
+            Purpose::Fill => FoundHeading::Unknown,
+        };
     }
     if lexer::same(b"C2", field) {
         return FoundHeading::Known(Heading::C2);
@@ -123,15 +127,15 @@ fn header_fits(header: Header) -> bool
 }
 
 // The header at a cursor.
-pub(crate) fn header_line(text: &[u8], cursor: Cursor) -> HeaderLine
+pub(crate) fn header_line(text: &[u8], cursor: Cursor, purpose: Purpose) -> HeaderLine
     requires { ⌜ Reading (now text) cursor × (nothing (rest (now text) cursor) ≡ false) ⌝ }
-    ensures { λ r. ⌜ HeaderAnswer (now (text .entry)) (next splitSheet headerLine (placeAt (now (text .entry)) cursor)) r ⌝ }
+    ensures { λ r. ⌜ HeaderAnswer (now (text .entry)) (next splitSheet (headerLine purpose) (placeAt (now (text .entry)) cursor)) r ⌝ }
 {
     let line = cursor.line + 1;
     let Head::Field(from, to, numbers) = first_field(text, cursor) else {
         return HeaderLine::Refused(Refusal::SplitForm(line));
     };
-    let FoundHeading::Known(heading) = heading_of(&text[from..to]) else {
+    let FoundHeading::Known(heading) = heading_of(&text[from..to], purpose) else {
         return HeaderLine::Refused(Refusal::SplitForm(line));
     };
     let FoundHeader::Read(header, next) = header_numbers(text, numbers, heading) else {

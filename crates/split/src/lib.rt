@@ -12,6 +12,7 @@ use map_lines::read_maps;
 use row_lines::read_rows;
 use spec::Heading;
 use spec::MapNumber;
+use spec::Purpose;
 use spec::Refusal;
 use type_lines::read_types;
 use workspace::EMPTY_ROW;
@@ -74,9 +75,16 @@ fn store_empty(work: &mut [u32])
 }
 
 // The lines behind the header.
-fn read_body(text: &[u8], from: Cursor, header: Header, steps: usize, work: &mut [u32]) -> LinesRead
+fn read_body(
+    text: &[u8],
+    from: Cursor,
+    purpose: Purpose,
+    header: Header,
+    steps: usize,
+    work: &mut [u32],
+) -> LinesRead
     requires { ⌜ Reading (now text) from × Small header × (steps ≤ 256) × (length (now work) ≡ 16384) ⌝ }
-    ensures { λ r. ⌜ BodyRead (headerTold header) steps (placeAt (now (text .entry)) from) (now (work .entry)) (now (work .exit)) r ⌝ }
+    ensures { λ r. ⌜ BodyRead purpose (headerTold header) steps (placeAt (now (text .entry)) from) (now (work .entry)) (now (work .exit)) r ⌝ }
 {
     let types = read_types(text, from, header, work);
     let LinesRead::Read(maps_from) = types else {
@@ -87,26 +95,26 @@ fn read_body(text: &[u8], from: Cursor, header: Header, steps: usize, work: &mut
         return maps;
     };
     store_empty(work);
-    let rows = read_rows(text, rows_from, header, steps, work);
+    let rows = read_rows(text, rows_from, purpose, header, steps, work);
     let LinesRead::Read(last) = rows else {
         return rows;
     };
     finish(text, last)
 }
 
-// Reads a split sheet for the steps of the program that the work space holds.
-pub fn read(text: &[u8], steps: usize, work: &mut [u32]) -> Sheet
+// Reads a split sheet, to check or to fill, for the steps of the program that the work space holds.
+pub fn read(text: &[u8], purpose: Purpose, steps: usize, work: &mut [u32]) -> Sheet
     requires { ⌜ (length (now text) ≤ 65536) × (steps ≤ 256) × (length (now work) ≡ 16384) ⌝ }
-    ensures { λ r. ⌜ SplitRead (now (text .entry)) steps (now (work .entry)) (now (work .exit)) r ⌝ }
+    ensures { λ r. ⌜ SplitRead purpose (now (text .entry)) steps (now (work .entry)) (now (work .exit)) r ⌝ }
 {
     let top = Cursor::start();
     if top.at_end(text) {
         return Sheet::Refused(Refusal::SplitForm(1));
     }
-    let first = header_line(text, top);
+    let first = header_line(text, top, purpose);
     match first {
         HeaderLine::Read(header, next) => {
-            let body = read_body(text, next, header, steps, work);
+            let body = read_body(text, next, purpose, header, steps, work);
             match body {
                 LinesRead::Read(_) => Sheet::Read(header),
                 LinesRead::Refused(r) => Sheet::Refused(r),

@@ -4,12 +4,14 @@ use crate::LinesRead;
 use crate::fields::Leading;
 use crate::fields::Start;
 use crate::fields::leading_number;
+use crate::fields::post_field;
 use crate::fields::start_field;
 use crate::type_lines::both_below;
 use lexer::Cursor;
 use spec::BinaryWord;
 use spec::Heading;
 use spec::MapNumber;
+use spec::Purpose;
 use spec::Refusal;
 use spec::TypeNumber;
 use spec::Word;
@@ -122,9 +124,9 @@ fn row_of(line: u32, row: Row, word: Word, header: Header, next: Cursor) -> RowR
 }
 
 // The line `t,m,s` at a cursor, of a step with this word.
-fn row_line(text: &[u8], cursor: Cursor, word: Word, header: Header) -> RowRead
+fn row_line(text: &[u8], cursor: Cursor, purpose: Purpose, word: Word, header: Header) -> RowRead
     requires { ⌜ Reading (now text) cursor × Small header ⌝ }
-    ensures { λ r. ⌜ RowAnswer (now (text .entry)) (next splitSheet (wordLine (headerTold header) word) (placeAt (now (text .entry)) cursor)) r ⌝ }
+    ensures { λ r. ⌜ RowAnswer (now (text .entry)) (next splitSheet (wordLine purpose (headerTold header) word) (placeAt (now (text .entry)) cursor)) r ⌝ }
 {
     if cursor.at_end(text) {
         return RowRead::Refused(Refusal::SplitLines(cursor.line));
@@ -133,7 +135,7 @@ fn row_line(text: &[u8], cursor: Cursor, word: Word, header: Header) -> RowRead
     let Leading::Value(typed, second) = leading_number(text, cursor) else {
         return RowRead::Refused(Refusal::SplitForm(line));
     };
-    let Leading::Value(post, third) = leading_number(text, second) else {
+    let Leading::Value(post, third) = post_field(text, second, purpose) else {
         return RowRead::Refused(Refusal::SplitForm(line));
     };
     let start = start_field(text, third);
@@ -178,18 +180,19 @@ fn store_row(work: &mut [u32], k: usize, row: Row)
 pub(crate) fn read_rows(
     text: &[u8],
     from: Cursor,
+    purpose: Purpose,
     header: Header,
     steps: usize,
     work: &mut [u32],
 ) -> LinesRead
     requires { ⌜ Reading (now text) from × Small header × (steps ≤ 256) × (length (now work) ≡ 16384) ⌝ }
-    ensures { λ r. ⌜ RowsRead (now (text .entry)) from header steps (now (work .entry)) (now (work .exit)) r ⌝ }
+    ensures { λ r. ⌜ RowsRead purpose (now (text .entry)) from header steps (now (work .entry)) (now (work .exit)) r ⌝ }
 {
     let mut cursor = from;
     let mut k = 0;
     while k < steps {
         let word = workspace::word_of(work[WORDS + k]);
-        let found = row_line(text, cursor, word, header);
+        let found = row_line(text, cursor, purpose, word, header);
         match found {
             RowRead::Read(row, next) => {
                 store_row(work, k, row);

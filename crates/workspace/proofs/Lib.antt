@@ -1,3 +1,7 @@
 pub mod Codes
 pub mod Region
 pub mod Held
+pub mod Expression
+pub mod Shown
+pub mod Lent
+pub mod Sheets

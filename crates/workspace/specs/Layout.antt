@@ -1,9 +1,10 @@
 -- What stands where in the work space, and the numbers that stand for words and types.
 use mathlib.Core.List.{List, [], _∷_}
-use Prim.Native.Nat.{ℕ, _+_, _*_}
+use Prim.Native.Nat.{ℕ, zero, suc, _+_, _*_}
 use lib.Dec.{eqb}
 use lib.ListN.{getD}
 use Rattle.spec.specs.Choice.{if_then_else_}
+use Rattle.spec.specs.Split.{Map}
 use Rattle.spec.specs.declared.TypeNumber.{TypeNumber}
 use Rattle.spec.specs.declared.MapNumber.{MapNumber}
 use Rattle.spec.specs.declared.TypeLine.{TypeLine}
@@ -168,3 +169,12 @@ typeAt w t = typeOf (getD w (kindsAt + t .0) 0) (getD w (firstsAt + t .0) 0) (ge
 
 unfoldable pub mapCell : List ℕ → MapNumber → (l : ℕ) → ℕ
 mapCell w m l = getD w (mapsAt + stride * (m .0) + l) 0
+
+-- what a map has at n locations from l on
+unfoldable pub mapFrom : (w : List ℕ) → MapNumber → (l n : ℕ) → Map
+mapFrom w m l zero = []
+mapFrom w m l (suc n) = mapCell w m l ∷ mapFrom w m (l + 1) n
+
+-- the map that a number stands for, in a sheet of n locations: what the work space holds at its place
+unfoldable pub mapIn : (w : List ℕ) (n : ℕ) → MapNumber → Map
+mapIn w n m = mapFrom w m 0 n

@@ -1,3 +1,4 @@
 pub mod Layout
 pub mod Region
 pub mod Holds
+pub mod Sheets

@@ -6,7 +6,7 @@
 use evidence::answer::WORK_SPACE;
 use evidence::comparison::{difference, Checker, WorkSpace};
 use evidence::draw::{self, Drawn};
-use evidence::tally::Tally;
+use evidence::tally::{Tally, CHECKING};
 use evidence::{known, product, second};
 use std::process::ExitCode;
 use std::time::Instant;
@@ -24,7 +24,7 @@ fn main() -> ExitCode {
     };
     let start = Instant::now();
     let mut work = WorkSpace::default();
-    let mut tally = Tally::default();
+    let mut tally = Tally::new(CHECKING);
     let known_agree = known_pairs_agree(product, &mut work);
     for number in 0..pairs {
         let drawn = draw::pair(seed, number);

@@ -8,11 +8,12 @@
 use evidence::answer::{Returned, WORK_SPACE};
 use evidence::comparison::Checker;
 use evidence::draw::draft::Draft;
-use evidence::draw::honest::Slip;
+use evidence::draw::honest::{self, concurrent, Slip};
 use evidence::draw::random::Random;
-use evidence::draw::{self, concurrent, honest, mutants, Drawn};
+use evidence::draw::{self, mutants, Drawn};
 use evidence::steps::claims::Fault;
 use evidence::steps::expression::Expression;
+use evidence::steps::programs::{ODD, RACY, WAITING};
 use evidence::steps::search::{drawn_schedule, exhaustive, Found};
 use evidence::words::Word;
 use evidence::{known, product, second};
@@ -59,82 +60,6 @@ fn main() -> ExitCode {
     println!("{:.1} s", start.elapsed().as_secs_f64());
     exit
 }
-
-/// Programs in prefix order, a bar for each line end, with a race that some schedule shows.
-const RACY: [(&str, &str); 11] = [
-    ("Figure 2 (a)", "let,0|ref,0|int,0|let,1|spawn,0|newtid,0|read,0|var,0|write,0|var,0|int,1"),
-    ("two writers", "let,0|ref,0|int,0|let,1|spawn,0|newtid,0|write,0|var,0|int,2|write,0|var,0|int,1"),
-    (
-        "a read without the lock",
-        "let,0|ref,0|int,0|let,1|newlock,0|let,2|spawn,0|newtid,0|read,0|var,0|let,3|lock,0|var,1|\
-         let,4|write,0|var,0|int,1|unlock,0|var,1",
-    ),
-    (
-        "two locks, the program beside NEWL-unsound",
-        "let,0|ref,0|int,0|let,1|newlock,0|let,2|newlock,0|let,3|spawn,0|newtid,0|let,4|lock,0|var,1|\
-         let,5|read,0|var,0|unlock,0|var,1|let,6|lock,0|var,2|let,7|write,0|var,0|int,1|unlock,0|var,2",
-    ),
-    (
-        "one join for two threads",
-        "let,0|ref,0|int,0|let,1|newtid,0|let,2|spawn,0|var,1|read,0|var,0|let,3|spawn,0|var,1|read,0|var,0|\
-         let,4|join,0|var,1|write,0|var,0|int,1",
-    ),
-    (
-        "a lock given up too early",
-        "let,0|ref,0|int,0|let,1|newlock,0|let,2|spawn,0|newtid,0|let,3|lock,0|var,1|write,0|var,0|int,2|\
-         let,4|lock,0|var,1|let,5|unlock,0|var,1|write,0|var,0|int,1",
-    ),
-    (
-        "an unlock by a thread that does not hold the lock",
-        "let,0|ref,0|int,0|let,1|newlock,0|let,2|spawn,0|newtid,0|let,3|unlock,0|var,1|let,4|lock,0|var,1|\
-         write,0|var,0|int,2|let,5|lock,0|var,1|write,0|var,0|int,1",
-    ),
-    (
-        "a freed lock that an unlock makes open again",
-        "let,0|ref,0|int,0|let,1|newlock,0|let,2|spawn,0|newtid,0|let,3|lock,0|var,1|write,0|var,0|int,2|\
-         let,4|freelock,0|var,1|let,5|unlock,0|var,1|write,0|var,0|int,1",
-    ),
-    (
-        "Figure 7, two posts for two that wait",
-        "let,0|ref,0|int,0|let,1|newsem,0|let,2|spawn,0|newtid,0|let,3|wait,0|var,1|write,0|var,0|int,1|\
-         let,4|spawn,0|newtid,0|let,5|wait,0|var,1|write,0|var,0|int,1|let,6|post,0|var,1|post,0|var,1",
-    ),
-    (
-        "a post before the write",
-        "let,0|ref,0|int,0|let,1|newsem,0|let,2|spawn,0|newtid,0|let,3|wait,0|var,1|write,0|var,0|int,1|\
-         let,4|post,0|var,1|write,0|var,0|int,2",
-    ),
-    (
-        "a wait that takes its own post",
-        "let,0|ref,0|int,0|let,1|newsem,0|let,2|spawn,0|newtid,0|let,3|read,0|var,0|post,0|var,1|\
-         let,4|post,0|var,1|let,5|wait,0|var,1|write,0|var,0|int,2",
-    ),
-];
-
-/// Programs whose one thread halts on a value of the wrong kind.
-const ODD: [&str; 12] = [
-    "read,0|int,0",
-    "write,0|int,0|int,0",
-    "lock,0|int,0",
-    "unlock,0|newtid,0",
-    "freelock,0|ref,0|int,0",
-    "join,0|newlock,0",
-    "spawn,0|newlock,0|int,0",
-    "wait,0|newlock,0",
-    "post,0|int,0",
-    "lock,0|newsem,0",
-    "join,0|newsem,0",
-    "let,0|newtid,0|let,1|spawn,0|var,0|read,0|int,0|join,0|var,0",
-];
-
-/// Programs that wait for ever, and show no fault for it.
-const WAITING: [&str; 5] = [
-    "join,0|newtid,0",
-    "let,0|newlock,0|let,1|lock,0|var,0|freelock,0|var,0",
-    "let,0|newlock,0|let,1|freelock,0|var,0|lock,0|var,0",
-    "wait,0|newsem,0",
-    "let,0|newsem,0|let,1|post,0|var,0|let,2|wait,0|var,0|wait,0|var,0",
-];
 
 fn sheet(steps: &str) -> Vec<u8> {
     let count = steps.split('|').count();
@@ -209,7 +134,7 @@ fn answer(checker: Checker, program: &[u8], split: &[u8]) -> Returned {
 
 fn accepted_exhaustively(checker: Checker) -> Result<String, String> {
     let mut sum = Sum::default();
-    for number in 0..1_600 {
+    for number in 0..1_200 {
         let random = &mut Random::new(SEED, number);
         let draft = small_draft(random, number);
         if answer(checker, &draft.program(), &draft.split()).number != 0 {
@@ -259,7 +184,7 @@ fn accepted_at_random(checker: Checker) -> Result<String, String> {
 /// Drawn pairs with a change: where the search finds a fault, the pair must be refused.
 fn faulty_are_refused(checker: Checker) -> Result<String, String> {
     let (mut races, mut halts, mut still_accepted) = (0, 0, 0);
-    for number in 0..2_000 {
+    for number in 0..1_600 {
         let random = &mut Random::new(SEED + 2, number);
         let mut draft = concurrent::draft(random);
         if number % 3 == 0 {

@@ -2,6 +2,7 @@
 
 use crate::answer::LOCATIONS;
 use crate::words::Word;
+use std::collections::BTreeSet;
 
 /// A capability mapping, document 01's "map"; numbers past the last location are 0.
 pub type Map = [u32; LOCATIONS as usize];
@@ -89,9 +90,9 @@ impl Draft {
         2 + self.types.len() + self.maps.len() + step
     }
 
-    /// Puts the maps in another order: `order` lists them by their old numbers.
+    /// Puts the maps in another order: `order` lists those that stay by their old numbers.
     pub fn renumber_maps(&mut self, order: &[usize]) {
-        let mut new = vec![0; order.len()];
+        let mut new = vec![0; self.maps.len()];
         for (number, &old) in order.iter().enumerate() {
             new[old] = number;
         }
@@ -109,6 +110,17 @@ impl Draft {
         if let Heading::C2 { start } = &mut self.heading {
             *start = new[*start];
         }
+    }
+
+    /// Drops the maps that only steps have afterwards; those steps get any map.
+    pub fn drop_posts(&mut self) {
+        let carried = self.types.iter().filter_map(|kind| match kind {
+            Type::Int | Type::Ref { .. } => None,
+            Type::Lock(map) | Type::Tid(map) | Type::Sem(map) => Some(*map),
+        });
+        let starts = self.steps.iter().filter_map(|step| step.start);
+        let used: BTreeSet<usize> = carried.chain(starts).chain([self.start()]).collect();
+        self.renumber_maps(&used.into_iter().collect::<Vec<usize>>());
     }
 
     /// The step after the last part of this one.

@@ -121,7 +121,7 @@ pub fn with_locations(draft: &mut Draft, count: usize) {
 }
 
 /// Gives the numbers of the maps from `unused` on more digits until the split has `bytes` bytes.
-fn lengthen(random: &mut Random, draft: &mut Draft, unused: usize, bytes: usize) -> bool {
+pub fn lengthen(random: &mut Random, draft: &mut Draft, unused: usize, bytes: usize) -> bool {
     let Some(mut missing) = bytes.checked_sub(draft.split().len()) else { return false };
     let locations = draft.locations;
     let mut places = (draft.maps.len() - unused) * locations;

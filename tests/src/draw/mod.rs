@@ -2,24 +2,23 @@
 
 mod afresh;
 mod chains;
-pub mod concurrent;
 mod directed;
 pub mod draft;
 pub mod full;
 mod headings;
 pub mod honest;
-mod honest_steps;
-mod idioms;
 mod limits;
 pub mod mutants;
 mod noise;
 mod numerals;
 pub mod promise;
 pub mod random;
+pub mod unfilled;
 
 use crate::answer::{LOCATIONS, PROGRAM_BYTES, SPLIT_BYTES, WHOLE, WORK_SPACE};
 use crate::words::{Word, WORDS};
 use draft::Draft;
+use honest::concurrent;
 use promise::Promise;
 use random::Random;
 

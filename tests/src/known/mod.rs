@@ -2,6 +2,7 @@
 //! A bar stands for byte 10.
 
 mod base;
+mod fillings;
 mod requests;
 
 /// A program sheet, a split sheet, and the line that `racecheck` writes for them.
@@ -24,6 +25,11 @@ fn bytes(sheet: &str) -> Vec<u8> {
 /// Every known pair; the first is document 01's P with its S.
 pub fn all() -> impl Iterator<Item = &'static Known> {
     base::PAIRS.iter().chain(requests::PAIRS)
+}
+
+/// Every known sheet for filling. The answer is the filled sheet, or the refusal as `racefill` writes it.
+pub fn fillings() -> impl Iterator<Item = &'static Known> {
+    fillings::SHEETS.iter()
 }
 
 /// Figure 2 (b), document 01's P.

@@ -1,20 +1,32 @@
 //! The start (refusal 30) and the conditions of Figure 5 (refusals 31 to 33).
 
+use super::flows::{Flows, Given};
 use super::program::{line_of, Step};
 use super::split::{Split, Type};
 use crate::answer::{Returned, STEPS};
 use crate::words::Word;
 
-/// The first false condition, by step line and then by number.
+/// The start, then the first false condition, by step line and then by number.
 pub fn check(steps: &[Step], split: &Split) -> Result<(), Returned> {
-    if let Some(location) = split.map(split.start).iter().position(|&number| number > split.whole) {
-        return Err(Returned { number: 30, line: 2, condition: 0, location: location as u32 });
+    start_at_most_one(split)?;
+    each_step(steps, split, &mut Given(split))
+}
+
+pub fn start_at_most_one(split: &Split) -> Result<(), Returned> {
+    match split.map(split.start).iter().position(|&number| number > split.whole) {
+        None => Ok(()),
+        Some(location) => Err(Returned { number: 30, line: 2, condition: 0, location: location as u32 }),
     }
+}
+
+/// Goes through the steps in line order and through the conditions of each. Those on types are judged
+/// here, those on maps by `flows`.
+pub fn each_step(steps: &[Step], split: &Split, flows: &mut impl Flows) -> Result<(), Returned> {
     // The map before each step. A step's parts come after it, so each entry is set in time.
     let mut pres = [split.start; STEPS as usize];
     for step in 0..steps.len() {
         hand_on(steps, split, &mut pres, step);
-        let judge = Judge { steps, split, step, pre: pres[step] };
+        let mut judge = Judge { steps, split, step, pre: pres[step], flows };
         judge.conditions().map_err(|broken| broken.at(step))?;
     }
     Ok(())
@@ -44,7 +56,7 @@ fn hand_on(steps: &[Step], split: &Split, pres: &mut [usize; STEPS as usize], st
 }
 
 /// A false condition of some step.
-struct Broken {
+pub struct Broken {
     number: u32,
     condition: u32,
     location: usize,
@@ -57,22 +69,23 @@ impl Broken {
     }
 }
 
-type Judged = Result<(), Broken>;
+pub type Judged = Result<(), Broken>;
 
 /// The map of a type, if it is of the kind that a word wants.
 type Carried = fn(Type) -> Option<usize>;
 
 /// One step with the map before it.
-struct Judge<'a> {
+struct Judge<'a, F> {
     steps: &'a [Step],
     split: &'a Split,
     step: usize,
     pre: usize,
+    flows: &'a mut F,
 }
 
-impl Judge<'_> {
+impl<F: Flows> Judge<'_, F> {
     /// The rows of document 01's table, and the words of document 02.
-    fn conditions(&self) -> Judged {
+    fn conditions(&mut self) -> Judged {
         match self.steps[self.step].word {
             Word::Var => self.var(),
             Word::Int => self.int(),
@@ -94,87 +107,87 @@ impl Judge<'_> {
         }
     }
 
-    fn var(&self) -> Judged {
+    fn var(&mut self) -> Judged {
         let bound = self.steps[self.step].binder + 1;
         self.agree(1, self.own(), self.kind(bound))?;
-        self.equal(2, self.post(self.step), self.pre)
+        self.flows.equal(2, self.post(self.step), self.pre)
     }
 
-    fn int(&self) -> Judged {
+    fn int(&mut self) -> Judged {
         self.is_int(1)?;
-        self.equal(2, self.post(self.step), self.pre)
+        self.flows.equal(2, self.post(self.step), self.pre)
     }
 
-    fn binding(&self) -> Judged {
+    fn binding(&mut self) -> Judged {
         self.agree(1, self.own(), self.kind(self.e2()))?;
-        self.equal(2, self.post(self.step), self.post(self.e2()))
+        self.flows.equal(2, self.post(self.step), self.post(self.e2()))
     }
 
-    fn branch(&self) -> Judged {
+    fn branch(&mut self) -> Judged {
         self.agree(1, self.own(), self.kind(self.e1()))?;
         self.agree(2, self.own(), self.kind(self.e2()))?;
-        self.at_least(3, self.post(self.e1()), self.post(self.step))?;
-        self.at_least(4, self.post(self.e2()), self.post(self.step))
+        self.flows.at_least(3, self.post(self.e1()), self.post(self.step))?;
+        self.flows.at_least(4, self.post(self.e2()), self.post(self.step))
     }
 
-    fn repeat(&self) -> Judged {
+    fn repeat(&mut self) -> Judged {
         self.is_int(1)?;
-        self.at_least(2, self.pre, self.post(self.step))?;
-        self.at_least(3, self.post(self.e1()), self.post(self.step))
+        self.flows.at_least(2, self.pre, self.post(self.step))?;
+        self.flows.at_least(3, self.post(self.e1()), self.post(self.step))
     }
 
     /// `newtid` and `newsem`: a new thing that takes nothing.
-    fn new_free(&self, carried: Carried) -> Judged {
+    fn new_free(&mut self, carried: Carried) -> Judged {
         self.carried(1, self.step, carried)?;
-        self.equal(2, self.post(self.step), self.pre)
+        self.flows.equal(2, self.post(self.step), self.pre)
     }
 
-    fn spawn(&self) -> Judged {
+    fn spawn(&mut self) -> Judged {
         self.is_int(1)?;
         let given_back = self.carried(2, self.e1(), Type::tid)?;
-        self.at_least(3, self.post(self.e2()), given_back)?;
+        self.flows.at_least(3, self.post(self.e2()), given_back)?;
         let start = self.split.marks[self.step].start;
-        self.sum(4, self.post(self.step), start, self.post(self.e1()))
+        self.flows.sum(4, self.post(self.step), start, self.post(self.e1()))
     }
 
-    fn new_cell(&self) -> Judged {
+    fn new_cell(&mut self) -> Judged {
         let (_, content) = self.cell(1, self.step)?;
         self.agree(1, content, self.kind(self.e1()))?;
-        self.equal(2, self.post(self.step), self.post(self.e1()))
+        self.flows.equal(2, self.post(self.step), self.post(self.e1()))
     }
 
-    fn read(&self) -> Judged {
+    fn read(&mut self) -> Judged {
         let (location, content) = self.cell(1, self.e1())?;
         self.agree(2, self.own(), content)?;
-        self.equal(3, self.post(self.step), self.post(self.e1()))?;
-        self.access(4, location, 1)
+        self.flows.equal(3, self.post(self.step), self.post(self.e1()))?;
+        self.flows.access(4, self.post(self.step), location, 1)
     }
 
-    fn write(&self) -> Judged {
+    fn write(&mut self) -> Judged {
         self.is_int(1)?;
         let (location, content) = self.cell(2, self.e1())?;
         self.agree(3, self.kind(self.e2()), content)?;
-        self.equal(4, self.post(self.step), self.post(self.e2()))?;
-        self.access(5, location, self.split.whole)
+        self.flows.equal(4, self.post(self.step), self.post(self.e2()))?;
+        self.flows.access(5, self.post(self.step), location, self.split.whole)
     }
 
-    fn newlock(&self) -> Judged {
+    fn newlock(&mut self) -> Judged {
         let carried = self.carried(1, self.step, Type::lock)?;
-        self.sum(2, self.post(self.step), carried, self.pre)
+        self.flows.sum(2, self.post(self.step), carried, self.pre)
     }
 
     /// `join`, `lock`, `freelock` and `wait`: what the part carries is added.
-    fn take(&self, carried: Carried) -> Judged {
+    fn take(&mut self, carried: Carried) -> Judged {
         self.is_int(1)?;
         let carried = self.carried(2, self.e1(), carried)?;
-        self.sum(3, self.post(self.e1()), carried, self.post(self.step))
+        self.flows.sum(3, self.post(self.e1()), carried, self.post(self.step))
     }
 
     /// `unlock` and `post`: what the part carries is taken away.
-    fn give(&self, carried: Carried) -> Judged {
+    fn give(&mut self, carried: Carried) -> Judged {
         self.is_int(1)?;
         let carried = self.carried(2, self.e1(), carried)?;
-        self.sum(3, self.post(self.step), carried, self.post(self.e1()))
+        self.flows.sum(3, self.post(self.step), carried, self.post(self.e1()))
     }
 
     fn e1(&self) -> usize {
@@ -221,33 +234,9 @@ impl Judge<'_> {
             None => broken(31, condition, 0),
         }
     }
-
-    fn equal(&self, condition: u32, left: usize, right: usize) -> Judged {
-        let pairs = self.split.map(left).iter().zip(self.split.map(right));
-        flows(condition, pairs.map(|(left, right)| left == right))
-    }
-
-    fn at_least(&self, condition: u32, greater: usize, less: usize) -> Judged {
-        let pairs = self.split.map(greater).iter().zip(self.split.map(less));
-        flows(condition, pairs.map(|(greater, less)| greater >= less))
-    }
-
-    /// left + right = total. Sums stay within 2,000,000,000, so nothing overflows.
-    fn sum(&self, condition: u32, left: usize, right: usize, total: usize) -> Judged {
-        let pairs = self.split.map(left).iter().zip(self.split.map(right));
-        flows(condition, pairs.zip(self.split.map(total)).map(|((left, right), total)| left + right == *total))
-    }
-
-    /// The post has at least this much of the location.
-    fn access(&self, condition: u32, location: usize, wanted: u32) -> Judged {
-        if self.split.map(self.post(self.step))[location] >= wanted {
-            return Ok(());
-        }
-        broken(33, condition, location)
-    }
 }
 
-fn broken<T>(number: u32, condition: u32, location: usize) -> Result<T, Broken> {
+pub fn broken<T>(number: u32, condition: u32, location: usize) -> Result<T, Broken> {
     Err(Broken { number, condition, location })
 }
 
@@ -257,13 +246,5 @@ fn holds(condition: u32, yes: bool) -> Judged {
         Ok(())
     } else {
         broken(31, condition, 0)
-    }
-}
-
-/// A condition on maps, judged location by location; the lowest false one is reported.
-fn flows(condition: u32, mut locations: impl Iterator<Item = bool>) -> Judged {
-    match locations.position(|yes| !yes) {
-        None => Ok(()),
-        Some(location) => broken(32, condition, location),
     }
 }

@@ -1,6 +1,8 @@
-//! The second checker, written from documents 01 and 02 alone.
+//! The second checker and the second filler, written from documents 01 and 02 alone.
 
 mod conditions;
+mod fill;
+mod flows;
 #[cfg(test)]
 mod known_pairs;
 mod program;
@@ -8,6 +10,8 @@ mod split;
 mod text;
 
 use crate::answer::{Returned, PROGRAM_BYTES, SPLIT_BYTES, WORK_SPACE};
+pub use fill::fill;
+use split::Posts;
 
 /// Judges a pair of sheets. `room` is the length of the work space in 32-bit numbers.
 pub fn check(program: &[u8], split: &[u8], room: usize) -> Returned {
@@ -22,7 +26,7 @@ fn first_refusal(program: &[u8], split: &[u8], room: usize) -> Result<(), Return
     at_most(10, program.len(), PROGRAM_BYTES)?;
     let steps = program::read(program)?;
     at_most(20, split.len(), SPLIT_BYTES)?;
-    let split = split::read(split, &steps)?;
+    let split = split::read(split, &steps, Posts::Named)?;
     conditions::check(&steps, &split)
 }
 

@@ -38,7 +38,15 @@ impl Type {
     }
 }
 
-/// A step's line: its type, its map afterwards, and the map that a spawned body starts with.
+/// Whether the step lines name the maps afterwards, or leave them to be filled in (request (viii)).
+#[derive(Clone, Copy, PartialEq, Eq)]
+pub enum Posts {
+    Named,
+    Left,
+}
+
+/// A step's line: its type, its map afterwards, and the map that a spawned body starts with. A map that
+/// is left to be filled in has a number past those of the sheet.
 #[derive(Clone, Copy)]
 pub struct Mark {
     pub kind: usize,
@@ -46,6 +54,7 @@ pub struct Mark {
     pub start: usize,
 }
 
+#[derive(Clone)]
 pub struct Split {
     pub whole: u32,
     /// The map that the program starts with.
@@ -53,8 +62,10 @@ pub struct Split {
     pub locations: usize,
     pub types: Vec<Type>,
     pub marks: Vec<Mark>,
+    /// How many maps the sheet gives.
+    pub maps: usize,
     /// The maps one after the other, each of `locations` numbers; behind them one that holds nothing.
-    numbers: Vec<u32>,
+    pub numbers: Vec<u32>,
 }
 
 impl Split {
@@ -89,22 +100,25 @@ struct Head {
 }
 
 /// Reads the whole sheet beside the steps of its program.
-pub fn read(split: &[u8], steps: &[Step]) -> Result<Split, Returned> {
+pub fn read(split: &[u8], steps: &[Step], posts: Posts) -> Result<Split, Returned> {
     let mut text = Text::new(split, 20);
-    let head = read_head(&mut text)?;
+    let head = read_head(&mut text, posts)?;
     let types = read_types(&mut text, &head)?;
     let numbers = read_maps(&mut text, &head)?;
-    let marks = read_marks(&mut text, &head, steps)?;
+    let marks = read_marks(&mut text, &head, steps, posts)?;
     text.end()?;
-    let (start, locations) = (head.start.unwrap_or(0) as usize, head.locations as usize);
-    Ok(Split { whole: head.whole, start, locations, types, marks, numbers })
+    let (start, locations, maps) = (head.start.unwrap_or(0) as usize, head.locations as usize, head.maps as usize);
+    Ok(Split { whole: head.whole, start, locations, types, marks, maps, numbers })
 }
 
-/// Reads `C,D,L,T,M`, which starts with map 0, or `C2,D,L,T,M,r`.
-fn read_head(text: &mut Text) -> Result<Head, Returned> {
+/// Reads `C,D,L,T,M`, which starts with map 0 and which no filling takes, or `C2,D,L,T,M,r`.
+fn read_head(text: &mut Text, posts: Posts) -> Result<Head, Returned> {
     let head = text.line(|line| {
         line.byte(b'C')?;
         let names_start = line.byte(b'2').is_some();
+        if posts == Posts::Left && !names_start {
+            return None;
+        }
         Some(Head {
             whole: line.next_numeral()?,
             locations: line.next_numeral()?,
@@ -180,18 +194,27 @@ fn read_map(text: &mut Text, head: &Head, numbers: &mut Vec<u32>) -> Result<(), 
     text.in_range(greatest <= WHOLE)
 }
 
-fn read_marks(text: &mut Text, head: &Head, steps: &[Step]) -> Result<Vec<Mark>, Returned> {
+fn read_marks(text: &mut Text, head: &Head, steps: &[Step], posts: Posts) -> Result<Vec<Mark>, Returned> {
     let mut marks = Vec::with_capacity(steps.len());
-    for step in steps {
-        let fields = |line: &mut Text| Some((line.numeral()?, line.next_numeral()?, line.next_numeral_or_empty()?));
+    for (own, step) in steps.iter().enumerate() {
+        let fields =
+            |line: &mut Text| Some((line.numeral()?, next_post(line, posts)?, line.next_numeral_or_empty(b'\n')?));
         let (kind, post, start) = text.line(fields)?;
-        text.in_range(kind < head.types && post < head.maps)?;
+        text.in_range(kind < head.types && post.is_none_or(|post| posts == Posts::Named && post < head.maps))?;
         let is_spawn = step.word == Word::Spawn;
         text.in_range(start.is_none_or(|start| is_spawn && start < head.maps))?;
         text.wanted(40, start.is_some() || !is_spawn || head.start.is_some())?;
-        // An empty start is the map of nothing behind the others.
-        let start = start.unwrap_or(head.maps);
+        // An empty start is the map of nothing behind the others, and behind that come the posts left out.
+        let (start, post) = (start.unwrap_or(head.maps), post.unwrap_or(head.maps + 1 + own as u32));
         marks.push(Mark { kind: kind as usize, post: post as usize, start: start as usize });
     }
     Ok(marks)
+}
+
+/// Takes the field of the map afterwards. A numeral has its form also where it is to be left out.
+fn next_post(line: &mut Text, posts: Posts) -> Option<Option<u32>> {
+    match posts {
+        Posts::Named => line.next_numeral().map(Some),
+        Posts::Left => line.next_numeral_or_empty(b','),
+    }
 }

@@ -94,10 +94,10 @@ impl<'a> Text<'a> {
         self.numeral()
     }
 
-    /// Takes a comma, then a numeral or nothing: a field that may be empty at the end of a line.
-    pub fn next_numeral_or_empty(&mut self) -> Option<Option<u32>> {
+    /// Takes a comma, then a numeral or nothing: a field that may be empty, with the byte behind it.
+    pub fn next_numeral_or_empty(&mut self, behind: u8) -> Option<Option<u32>> {
         self.byte(b',')?;
-        if self.bytes.get(self.at) == Some(&b'\n') {
+        if self.bytes.get(self.at) == Some(&behind) {
             return Some(None);
         }
         self.numeral().map(Some)

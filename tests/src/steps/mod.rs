@@ -2,6 +2,7 @@
 
 pub mod claims;
 pub mod expression;
+pub mod programs;
 pub mod search;
 pub mod state;
 #[cfg(test)]

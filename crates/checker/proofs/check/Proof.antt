@@ -2,7 +2,8 @@ use mathlib.Core.Path.{refl, sym, _∙_}
 use lib.Seq.{length-take-le}
 use Rattle.spec.proofs.Reasons.{short-workspace}
 use Rattle.checker.proofs.Promises.{promises-kept}
-use Rattle.checker.proofs.Lent.{first-again, then-cleared, short-kept, long-cleared, room-enough}
+use Rattle.workspace.proofs.Lent.{first-again, then-cleared, short-kept, long-cleared}
+use Rattle.checker.proofs.Stages.{room-enough}
 use borrow.Author.Needs.{needs}
 use Rattle.checker.proofs.check.Statement.{statement}
 use Rattle.checker.proofs.check.Tie as tie

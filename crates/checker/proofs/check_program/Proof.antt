@@ -1,7 +1,8 @@
 use mathlib.Core.Path.{_∙_}
 use Rattle.spec.specs.Program.{program}
 use native.Mathlib.Omega.{arith}
-use Rattle.checker.proofs.Stages.{program-refused-by, program-read-by, long-program-refused, bad-program-refused, good-program}
+use Rattle.checker.proofs.Stages.{long-program-refused, bad-program-refused}
+use Rattle.program.proofs.Found.{program-refused-by, program-read-by, good-program}
 use borrow.Author.Needs.{needs}
 use Rattle.checker.proofs.check_program.Statement.{statement}
 use Rattle.checker.proofs.check_program.Tie as tie

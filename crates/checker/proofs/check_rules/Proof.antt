@@ -1,3 +1,4 @@
+use Rattle.rules.specs.Contract.{ruledFor}
 use Rattle.checker.proofs.Stages.{met-accepts, refused-refuses}
 use borrow.Author.Needs.{needs}
 use Rattle.checker.proofs.check_rules.Statement.{statement}
@@ -24,6 +25,7 @@ same-length c = search needs
 
 -- src/lib.rt:21:1
 returns : tie.Need-returns
+unfolding ruledFor
 returns c P S holds = met-accepts _ (c .enum-told .given .1) (c .before .before .before .before .rule .ensures .answers P S holds)
 
 -- src/lib.rt:21:1
@@ -32,6 +34,7 @@ same-length-2 c = search needs
 
 -- src/lib.rt:21:1
 returns-2 : tie.Need-returns-2
+unfolding ruledFor
 returns-2 c P S holds = refused-refuses _ _ (c .before .r .given .1) (c .before .before .before .before .before .rule .ensures .answers P S holds)
 
 pub check-rules-spec : {M : Type 1} → statement M

@@ -1,5 +1,5 @@
 use borrow.Author.Needs.{needs}
-use Rattle.racecheck.proofs.Buffers.{bytes-within, bytes-part}
+use Rattle.files.proofs.Buffers.{bytes-within, bytes-part}
 use Rattle.racecheck.proofs.run.Statement.{statement}
 use Rattle.racecheck.proofs.run.Tie as tie
 

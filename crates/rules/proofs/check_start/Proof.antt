@@ -6,9 +6,8 @@ use native.Mathlib.Nat.{sub-zero}
 use borrow.Author.Tests.{le-leb, lt-leb}
 use Rattle.spec.specs.Maps.{overWhole}
 use Rattle.spec.specs.Verdict.{refuseOver}
-use Rattle.workspace.specs.Layout.{mapCell}
+use Rattle.workspace.specs.Layout.{mapCell, mapFrom, mapIn}
 use Rattle.rules.specs.Outcome.{outcome}
-use Rattle.rules.specs.Relation.{mapFrom, mapIn}
 use Rattle.rules.specs.Walk.{startOutcome}
 use Rattle.rules.proofs.Relations.{over-later, over-here, over-nowhere}
 use Rattle.rules.proofs.check_start.Statement.{statement}

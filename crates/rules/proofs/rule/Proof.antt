@@ -48,7 +48,7 @@ returns-2 c = record {
       c .before .before .check-steps .ensures .0
       ∙ sym (met-goes-on _ _ (c .before .before .before .before .enum-told .given .1))
       ∙ rw (c .before .before .before .before .before .before .check-start .ensures)
-      (sheets-shown _ _ _ _ _ P S H (c .before .before .before .before .before .before .before .before .before .pre .0)
+      (sheets-shown _ _ _ _ _ P S H _ (c .before .before .before .before .before .before .before .before .before .pre .0)
       (c .before .before .before .before .before .before .before .before .before .pre .1));
   changed = c .before .before .check-steps .ensures .1;
 }

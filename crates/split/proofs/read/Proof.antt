@@ -17,7 +17,7 @@ returns c =
     let at-end = c .before in
     let start = at-end .before in
     let entry = start .before .before .before in
-    read-empty (entry .args .text .now) (start .start .result) (start .start .ensures) (sym (at-end .at-end .ensures) ∙ c .if1 .taken) (entry .args .steps) (entry .args .work .now)
+    read-empty (entry .args .text .now) (start .start .result) (start .start .ensures) (sym (at-end .at-end .ensures) ∙ c .if1 .taken) (entry .args .purpose) (entry .args .steps) (entry .args .work .now)
 
 header-line-requires : tie.Need-header-line-requires
 header-line-requires c κs =
@@ -39,7 +39,7 @@ read-body-requires c κs =
     let start = at-end .before in
     let entry = start .before .before .before in
     let left = sym (at-end .at-end .ensures) ∙ else1 .if1 .left in
-    (record { placed = header-placed (entry .args .text .now) (start .start .result) (start .start .ensures) left (header-line .header-line .result) (header-line .header-line .ensures) (first .first .given .0 .0) (first .first .given .0 .1 .0) (first .first .given .1); fits = entry .pre .0 }, header-small (entry .args .text .now) (start .start .result) (start .start .ensures) left (header-line .header-line .result) (header-line .header-line .ensures) (first .first .given .0 .0) (first .first .given .0 .1 .0) (first .first .given .1), entry .pre .1, entry .pre .2)
+    (record { placed = header-placed (entry .args .text .now) (start .start .result) (start .start .ensures) left (entry .args .purpose) (header-line .header-line .result) (header-line .header-line .ensures) (first .first .given .0 .0) (first .first .given .0 .1 .0) (first .first .given .1); fits = entry .pre .0 }, header-small (entry .args .text .now) (start .start .result) (start .start .ensures) left (entry .args .purpose) (header-line .header-line .result) (header-line .header-line .ensures) (first .first .given .0 .0) (first .first .given .0 .1 .0) (first .first .given .1), entry .pre .1, entry .pre .2)
 
 enum-told : tie.Need-enum-told
 enum-told c = search needs
@@ -63,7 +63,7 @@ returns-2 c =
     let start = at-end .before in
     let entry = start .before .before .before in
     let left = sym (at-end .at-end .ensures) ∙ else1 .if1 .left in
-    read-whole (entry .args .text .now) (start .start .result) (start .start .ensures) left (header-line .header-line .result) (header-line .header-line .ensures) (first .first .given .0 .0) (first .first .given .0 .1 .0) (first .first .given .1) (entry .args .steps) (entry .args .work .now) (read-body .read-body .last .1 .1 .1 .1 .0) (read-body .read-body .result) (read-body .read-body .ensures) _ (c .enum-told .given .1)
+    read-whole (entry .args .text .now) (start .start .result) (start .start .ensures) left (entry .args .purpose) (header-line .header-line .result) (header-line .header-line .ensures) (first .first .given .0 .0) (first .first .given .0 .1 .0) (first .first .given .1) (entry .args .steps) (entry .args .work .now) (read-body .read-body .last .1 .1 .1 .1 .1 .0) (read-body .read-body .result) (read-body .read-body .ensures) _ (c .enum-told .given .1)
 
 same-length-2 : tie.Need-same-length-2
 same-length-2 c = search needs
@@ -79,7 +79,7 @@ returns-3 c =
     let start = at-end .before in
     let entry = start .before .before .before in
     let left = sym (at-end .at-end .ensures) ∙ else1 .if1 .left in
-    read-body-stop (entry .args .text .now) (start .start .result) (start .start .ensures) left (header-line .header-line .result) (header-line .header-line .ensures) (first .first .given .0 .0) (first .first .given .0 .1 .0) (first .first .given .1) (entry .args .steps) (entry .args .work .now) (read-body .read-body .last .1 .1 .1 .1 .0) (read-body .read-body .result) (read-body .read-body .ensures) _ (body .body .given .1)
+    read-body-stop (entry .args .text .now) (start .start .result) (start .start .ensures) left (entry .args .purpose) (header-line .header-line .result) (header-line .header-line .ensures) (first .first .given .0 .0) (first .first .given .0 .1 .0) (first .first .given .1) (entry .args .steps) (entry .args .work .now) (read-body .read-body .last .1 .1 .1 .1 .1 .0) (read-body .read-body .result) (read-body .read-body .ensures) _ (body .body .given .1)
 
 returns-4 : tie.Need-returns-4
 returns-4 c =
@@ -90,7 +90,7 @@ returns-4 c =
     let start = at-end .before in
     let entry = start .before .before .before in
     let left = sym (at-end .at-end .ensures) ∙ else1 .if1 .left in
-    read-header-stop (entry .args .text .now) (start .start .result) (start .start .ensures) left (header-line .header-line .result) (header-line .header-line .ensures) _ (first2 .first2 .given .1) (entry .args .steps) (entry .args .work .now)
+    read-header-stop (entry .args .text .now) (start .start .result) (start .start .ensures) left (entry .args .purpose) (header-line .header-line .result) (header-line .header-line .ensures) _ (first2 .first2 .given .1) (entry .args .steps) (entry .args .work .now)
 
 pub read-spec : {M : Type 1} → statement M
 read-spec =

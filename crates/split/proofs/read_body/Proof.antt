@@ -21,14 +21,14 @@ returns : tie.Need-returns
 returns c =
     let read-types = c .before .before .before .before in
     let entry = read-types .before .before .before .before in
-    types-stop (entry .args .header) (entry .pre .1) (entry .args .steps) (entry .pre .2) (entry .args .text .now) (entry .args .from) (entry .args .work .now) (read-types .read-types .last .1 .1 .1 .0) (read-types .read-types .result) (read-types .read-types .ensures) _ (c .enum-told .given .1)
+    types-stop (entry .args .purpose) (entry .args .header) (entry .pre .1) (entry .args .steps) (entry .pre .2) (entry .args .text .now) (entry .args .from) (entry .args .work .now) (read-types .read-types .last .1 .1 .1 .0) (read-types .read-types .result) (read-types .read-types .ensures) _ (c .enum-told .given .1)
 
 read-maps-requires : tie.Need-read-maps-requires
 read-maps-requires c κs =
     let types = c .before .before in
     let read-types = types .before .before .before .before in
     let entry = read-types .before .before .before .before in
-    (record { placed = types-placed (entry .args .header) (entry .pre .1) (entry .args .steps) (entry .pre .2) (entry .args .text .now) (entry .args .from) (entry .args .work .now) (read-types .read-types .last .1 .1 .1 .0) (read-types .read-types .result) (read-types .read-types .ensures) (types .types .given .0 .0) (types .types .given .1); fits = entry .pre .0 .fits }, entry .pre .1, read-types .read-types .ensures .changed .long ∙ entry .pre .3)
+    (record { placed = types-placed (entry .args .purpose) (entry .args .header) (entry .pre .1) (entry .args .steps) (entry .pre .2) (entry .args .text .now) (entry .args .from) (entry .args .work .now) (read-types .read-types .last .1 .1 .1 .0) (read-types .read-types .result) (read-types .read-types .ensures) (types .types .given .0 .0) (types .types .given .1); fits = entry .pre .0 .fits }, entry .pre .1, read-types .read-types .ensures .changed .long ∙ entry .pre .3)
 
 enum-known-maps : tie.Need-enum-known-maps
 enum-known-maps c = search needs
@@ -45,7 +45,7 @@ returns-2 c =
     let types = read-maps .before .before .before in
     let read-types = types .before .before .before .before in
     let entry = read-types .before .before .before .before in
-    maps-stop (entry .args .header) (entry .pre .1) (entry .args .steps) (entry .pre .2) (entry .args .text .now) (entry .args .from) (entry .args .work .now) (read-types .read-types .last .1 .1 .1 .0) (read-types .read-types .result) (read-types .read-types .ensures) (types .types .given .0 .0) (types .types .given .1) (read-maps .read-maps .last .1 .1 .1 .0) (read-maps .read-maps .result) (read-maps .read-maps .ensures) _ (c .enum-told2 .given .1)
+    maps-stop (entry .args .purpose) (entry .args .header) (entry .pre .1) (entry .args .steps) (entry .pre .2) (entry .args .text .now) (entry .args .from) (entry .args .work .now) (read-types .read-types .last .1 .1 .1 .0) (read-types .read-types .result) (read-types .read-types .ensures) (types .types .given .0 .0) (types .types .given .1) (read-maps .read-maps .last .1 .1 .1 .0) (read-maps .read-maps .result) (read-maps .read-maps .ensures) _ (c .enum-told2 .given .1)
 
 store-empty-requires : tie.Need-store-empty-requires
 store-empty-requires c κs =
@@ -63,7 +63,7 @@ read-rows-requires c κs =
     let types = read-maps .before .before .before in
     let read-types = types .before .before .before .before in
     let entry = read-types .before .before .before .before in
-    (record { placed = maps-placed (entry .args .header) (entry .pre .1) (entry .args .steps) (entry .pre .2) (entry .args .text .now) (entry .args .from) (entry .args .work .now) (read-types .read-types .last .1 .1 .1 .0) (read-types .read-types .result) (read-types .read-types .ensures) (types .types .given .0 .0) (types .types .given .1) (read-maps .read-maps .last .1 .1 .1 .0) (read-maps .read-maps .result) (read-maps .read-maps .ensures) (maps .maps .given .0 .0) (maps .maps .given .1); fits = entry .pre .0 .fits }, entry .pre .1, entry .pre .2, store-empty .store-empty .ensures .changed .long ∙ read-maps .read-maps .ensures .changed .long ∙ read-types .read-types .ensures .changed .long ∙ entry .pre .3)
+    (record { placed = maps-placed (entry .args .purpose) (entry .args .header) (entry .pre .1) (entry .args .steps) (entry .pre .2) (entry .args .text .now) (entry .args .from) (entry .args .work .now) (read-types .read-types .last .1 .1 .1 .0) (read-types .read-types .result) (read-types .read-types .ensures) (types .types .given .0 .0) (types .types .given .1) (read-maps .read-maps .last .1 .1 .1 .0) (read-maps .read-maps .result) (read-maps .read-maps .ensures) (maps .maps .given .0 .0) (maps .maps .given .1); fits = entry .pre .0 .fits }, entry .pre .1, entry .pre .2, store-empty .store-empty .ensures .changed .long ∙ read-maps .read-maps .ensures .changed .long ∙ read-types .read-types .ensures .changed .long ∙ entry .pre .3)
 
 enum-known-rows : tie.Need-enum-known-rows
 enum-known-rows c = search needs
@@ -83,7 +83,7 @@ returns-3 c =
     let types = read-maps .before .before .before in
     let read-types = types .before .before .before .before in
     let entry = read-types .before .before .before .before in
-    rows-stop (entry .args .header) (entry .pre .1) (entry .args .steps) (entry .pre .2) (entry .args .text .now) (entry .args .from) (entry .args .work .now) (read-types .read-types .last .1 .1 .1 .0) (read-types .read-types .result) (read-types .read-types .ensures) (types .types .given .0 .0) (types .types .given .1) (read-maps .read-maps .last .1 .1 .1 .0) (read-maps .read-maps .result) (read-maps .read-maps .ensures) (maps .maps .given .0 .0) (maps .maps .given .1) _ (store-empty .store-empty .ensures) (read-rows .read-rows .last .1 .1 .1 .1 .0) (read-rows .read-rows .result) (read-rows .read-rows .ensures) _ (c .enum-told3 .given .1)
+    rows-stop (entry .args .purpose) (entry .args .header) (entry .pre .1) (entry .args .steps) (entry .pre .2) (entry .args .text .now) (entry .args .from) (entry .args .work .now) (read-types .read-types .last .1 .1 .1 .0) (read-types .read-types .result) (read-types .read-types .ensures) (types .types .given .0 .0) (types .types .given .1) (read-maps .read-maps .last .1 .1 .1 .0) (read-maps .read-maps .result) (read-maps .read-maps .ensures) (maps .maps .given .0 .0) (maps .maps .given .1) _ (store-empty .store-empty .ensures) (read-rows .read-rows .last .1 .1 .1 .1 .1 .0) (read-rows .read-rows .result) (read-rows .read-rows .ensures) _ (c .enum-told3 .given .1)
 
 finish-requires : tie.Need-finish-requires
 finish-requires c κs =
@@ -95,7 +95,7 @@ finish-requires c κs =
     let types = read-maps .before .before .before in
     let read-types = types .before .before .before .before in
     let entry = read-types .before .before .before .before in
-    record { placed = rows-placed (entry .args .header) (entry .pre .1) (entry .args .steps) (entry .pre .2) (entry .args .text .now) (entry .args .from) (entry .args .work .now) (read-types .read-types .last .1 .1 .1 .0) (read-types .read-types .result) (read-types .read-types .ensures) (types .types .given .0 .0) (types .types .given .1) (read-maps .read-maps .last .1 .1 .1 .0) (read-maps .read-maps .result) (read-maps .read-maps .ensures) (maps .maps .given .0 .0) (maps .maps .given .1) _ (store-empty .store-empty .ensures) (read-rows .read-rows .last .1 .1 .1 .1 .0) (read-rows .read-rows .result) (read-rows .read-rows .ensures) (rows .rows .given .0 .0) (rows .rows .given .1); fits = entry .pre .0 .fits }
+    record { placed = rows-placed (entry .args .purpose) (entry .args .header) (entry .pre .1) (entry .args .steps) (entry .pre .2) (entry .args .text .now) (entry .args .from) (entry .args .work .now) (read-types .read-types .last .1 .1 .1 .0) (read-types .read-types .result) (read-types .read-types .ensures) (types .types .given .0 .0) (types .types .given .1) (read-maps .read-maps .last .1 .1 .1 .0) (read-maps .read-maps .result) (read-maps .read-maps .ensures) (maps .maps .given .0 .0) (maps .maps .given .1) _ (store-empty .store-empty .ensures) (read-rows .read-rows .last .1 .1 .1 .1 .1 .0) (read-rows .read-rows .result) (read-rows .read-rows .ensures) (rows .rows .given .0 .0) (rows .rows .given .1); fits = entry .pre .0 .fits }
 
 same-length-4 : tie.Need-same-length-4
 same-length-4 c = search needs
@@ -110,7 +110,7 @@ returns-4 c =
     let types = read-maps .before .before .before in
     let read-types = types .before .before .before .before in
     let entry = read-types .before .before .before .before in
-    body-read (entry .args .header) (entry .pre .1) (entry .args .steps) (entry .pre .2) (entry .args .text .now) (entry .args .from) (entry .args .work .now) (read-types .read-types .last .1 .1 .1 .0) (read-types .read-types .result) (read-types .read-types .ensures) (types .types .given .0 .0) (types .types .given .1) (read-maps .read-maps .last .1 .1 .1 .0) (read-maps .read-maps .result) (read-maps .read-maps .ensures) (maps .maps .given .0 .0) (maps .maps .given .1) _ (store-empty .store-empty .ensures) (read-rows .read-rows .last .1 .1 .1 .1 .0) (read-rows .read-rows .result) (read-rows .read-rows .ensures) (rows .rows .given .0 .0) (rows .rows .given .1) (c .finish .result) (c .finish .ensures)
+    body-read (entry .args .purpose) (entry .args .header) (entry .pre .1) (entry .args .steps) (entry .pre .2) (entry .args .text .now) (entry .args .from) (entry .args .work .now) (read-types .read-types .last .1 .1 .1 .0) (read-types .read-types .result) (read-types .read-types .ensures) (types .types .given .0 .0) (types .types .given .1) (read-maps .read-maps .last .1 .1 .1 .0) (read-maps .read-maps .result) (read-maps .read-maps .ensures) (maps .maps .given .0 .0) (maps .maps .given .1) _ (store-empty .store-empty .ensures) (read-rows .read-rows .last .1 .1 .1 .1 .1 .0) (read-rows .read-rows .result) (read-rows .read-rows .ensures) (rows .rows .given .0 .0) (rows .rows .given .1) (c .finish .result) (c .finish .ensures)
 
 pub read-body-spec : {M : Type 1} → statement M
 read-body-spec =

@@ -17,14 +17,14 @@ use Rattle.rules.proofs.steps.check_steps.Statement.{statement}
 use Rattle.rules.proofs.steps.check_steps.Tie as tie
 
 abbrev Inv-loop : tie.InvT-loop
-Inv-loop work₀ steps denominator locations k₀ work k =
+Inv-loop work₀ purpose steps denominator locations k₀ work k =
     (k ≤ steps)
     × (length work ≡ 16384)
     × ChangedWithin presAt (presAt + 256) work₀ work
-    × (walk locations denominator work₀ 0 steps ≡ walk locations denominator work k (steps - k))
+    × (walk purpose locations denominator work₀ 0 steps ≡ walk purpose locations denominator work k (steps - k))
 
 abbrev μ-loop : tie.MeasureT-loop
-μ-loop work₀ steps denominator locations k₀ work k = steps - k
+μ-loop work₀ purpose steps denominator locations k₀ work k = steps - k
 
 slice-write-work : tie.Need-slice-write-work Inv-loop μ-loop
 slice-write-work c = omega arith
@@ -40,6 +40,9 @@ loop-holds c = (
 check-step-requires : tie.Need-check-step-requires Inv-loop μ-loop
 check-step-requires c κs = omega arith
 
+counted-requires : tie.Need-counted-requires Inv-loop μ-loop
+counted-requires c κs = search needs
+
 enum-told : tie.Need-enum-told Inv-loop μ-loop
 enum-told c = search needs
 
@@ -52,16 +55,16 @@ same-length c = search needs
 returns : tie.Need-returns Inv-loop μ-loop
 unfolding atRoot
 returns c = (
-  sym (c .before .before .before .before .before .loop .inv .3
-      ∙ walk-more _ _ _ _ _ (c .before .before .before .before .loop-test .taken)
-      ∙ rw (← c .before .before .check-step .ensures)
+  sym (c .before .before .before .before .before .before .loop .inv .3
+      ∙ walk-more _ _ _ _ _ _ (c .before .before .before .before .before .loop-test .taken)
+      ∙ rw (← c .before .before .before .check-step .ensures, ← c .before .before .counted .ensures)
       (refused-stops _ _ (c .enum-told2 .given .1))),
   changed-then presAt (presAt + 256) (changed-store presAt (presAt + 256) _ presAt _ (omega arith)
-      (omega arith)) (c .before .before .before .before .before .loop .inv .2),
+      (omega arith)) (c .before .before .before .before .before .before .loop .inv .2),
 )
 
 pass-on-requires : tie.Need-pass-on-requires Inv-loop μ-loop
-pass-on-requires c κs = (c .before .before .before .before .before .before .loop .inv .1, omega arith)
+pass-on-requires c κs = (c .before .before .before .before .before .before .before .loop .inv .1, omega arith)
 
 add-k : tie.Need-add-k Inv-loop μ-loop
 add-k c = omega arith
@@ -73,13 +76,14 @@ loop-again : tie.Need-loop-again Inv-loop μ-loop
 loop-again c = (
   omega arith,
   rw (c .before .before .pass-on .ensures) (pass-within _ _ .long
-      ∙ c .before .before .before .before .before .before .before .before .before .loop .inv .1),
+      ∙ c .before .before .before .before .before .before .before .before .before .before .loop .inv .1),
   rw (c .before .before .pass-on .ensures) (changed-then presAt (presAt + 256)
-      (c .before .before .before .before .before .before .before .before .before .loop .inv .2) (pass-within _ _)),
-  c .before .before .before .before .before .before .before .before .before .loop .inv .3
-      ∙ walk-more _ _ _ _ _ (c .before .before .before .before .before .before .before .before .loop-test .taken)
+      (c .before .before .before .before .before .before .before .before .before .before .loop .inv .2) (pass-within _ _)),
+  c .before .before .before .before .before .before .before .before .before .before .loop .inv .3
+      ∙ walk-more _ _ _ _ _ _ (c .before .before .before .before .before .before .before .before .before .loop-test .taken)
       ∙ rw (
-        ← c .before .before .before .before .before .before .check-step .ensures,
+        ← c .before .before .before .before .before .before .before .check-step .ensures,
+        ← c .before .before .before .before .before .before .counted .ensures,
         c .before .before .pass-on .ensures,
       )
       (met-goes-on _ _ (c .before .before .before .before .enum-told .given .1)),
@@ -92,7 +96,7 @@ returns-2 : tie.Need-returns-2 Inv-loop μ-loop
 unfolding outcome atRoot
 returns-2 c = (
   sym (c .before .loop .inv .3
-      ∙ walk-end _ _ _ _ _ (c .loop-test .left)),
+      ∙ walk-end _ _ _ _ _ _ (c .loop-test .left)),
   changed-then presAt (presAt + 256) (changed-store presAt (presAt + 256) _ presAt _ (omega arith)
       (omega arith)) (c .before .loop .inv .2),
 )
@@ -106,6 +110,7 @@ check-steps-spec =
     slice-write-work
     loop-holds
     check-step-requires
+    counted-requires
     enum-told
     enum-told-2
     same-length

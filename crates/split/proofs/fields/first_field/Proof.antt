@@ -1,7 +1,7 @@
 -- The first field of a line, and what ends it.
 use borrow.Author.Needs.{needs}
 use mathlib.Core.Path.{refl}
-use Rattle.split.proofs.FieldLaws.{ends-apart, comma-text, head-field, not-comma}
+use Rattle.split.proofs.FieldLaws.{ends-apart, comma-text, head-field, other-end}
 use Rattle.split.proofs.fields.first_field.Statement.{statement}
 use Rattle.split.proofs.fields.first_field.Tie as tie
 
@@ -26,12 +26,12 @@ returns c =
 returns-2 : tie.Need-returns-2
 returns-2 c =
     let field = c .before .before .before in
-    not-comma _ _ (field .field .result) (field .field .ensures) (c .enum-told2 .given .1) (ends-apart refl refl)
+    other-end _ _ (field .field .result) (field .field .ensures) (c .enum-told2 .given .1) (ends-apart refl refl)
 
 returns-3 : tie.Need-returns-3
 returns-3 c =
     let field = c .before .before .before in
-    not-comma _ _ (field .field .result) (field .field .ensures) (c .enum-told3 .given .1) (comma-text refl refl)
+    other-end _ _ (field .field .result) (field .field .ensures) (c .enum-told3 .given .1) (comma-text refl refl)
 
 pub first-field-spec : {M : Type 1} → statement M
 first-field-spec =

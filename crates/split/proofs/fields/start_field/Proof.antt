@@ -3,7 +3,7 @@ use borrow.Author.Needs.{needs}
 use mathlib.Core.Path.{sym, refl, _∙_}
 use mathlib.Core.Logic.{inl, inr}
 use Rattle.lexer.proofs.Places.{span-le}
-use Rattle.split.proofs.FieldLaws.{ends-apart, newline-text, not-newline, start-empty, start-given, start-neither}
+use Rattle.split.proofs.FieldLaws.{ends-apart, newline-text, other-end, start-empty, start-given, start-neither}
 use Rattle.split.proofs.fields.start_field.Statement.{statement}
 use Rattle.split.proofs.fields.start_field.Tie as tie
 
@@ -61,7 +61,7 @@ enum-told-4 c = search needs
 returns-2 : tie.Need-returns-2
 returns-2 c =
     let field = c .before .before .before in
-    inr (not-newline _ _ (field .field .result) (field .field .ensures) (c .enum-told .given .1) (λ q. ends-apart refl refl (sym q)))
+    inr (other-end _ _ (field .field .result) (field .field .ensures) (c .enum-told .given .1) (λ q. ends-apart refl refl (sym q)))
 
 returns-3 : tie.Need-returns-3
 returns-3 c =
@@ -82,7 +82,7 @@ returns-4 c =
 returns-5 : tie.Need-returns-5
 returns-5 c =
     let field = c .before .before .before in
-    inr (not-newline _ _ (field .field .result) (field .field .ensures) (c .enum-told4 .given .1) (newline-text refl refl))
+    inr (other-end _ _ (field .field .result) (field .field .ensures) (c .enum-told4 .given .1) (newline-text refl refl))
 
 pub start-field-spec : {M : Type 1} → statement M
 start-field-spec =

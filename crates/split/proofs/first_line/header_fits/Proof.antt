@@ -1,8 +1,9 @@
 -- Each number of a header is tested against its range.
 use mathlib.Core.Path.{sym, _∙_}
+use borrow.Author.Tests.{not-true, not-false}
 use Rattle.spec.specs.Split.{headerRanges}
 use Rattle.split.specs.Lines.{headerTold, headerFits}
-use Rattle.split.proofs.Tests.{untrue, unfalse, range-out, range-next, range-last, range-index, below-test}
+use Rattle.split.proofs.Tests.{range-out, range-next, range-last, range-index, below-test}
 use borrow.Author.Needs.{needs}
 use Rattle.split.proofs.first_line.header_fits.Statement.{statement}
 use Rattle.split.proofs.first_line.header_fits.Tie as tie
@@ -22,7 +23,7 @@ returns c =
     let within = c .before in
     let index2 = within .before in
     let index = index2 .before in
-    range-out _ _ _ _ (range-index 1 (index2 .index2 .ensures .0) (index .index .ensures .0) (within .within .ensures) ∙ untrue _ (c .if1 .taken))
+    range-out _ _ _ _ (range-index 1 (index2 .index2 .ensures .0) (index .index .ensures .0) (within .within .ensures) ∙ not-true _ (c .if1 .taken))
 
 within-requires-2 : tie.Need-within-requires-2
 within-requires-2 c κs = search needs
@@ -35,8 +36,8 @@ returns-2 c =
     let within = else1 .before in
     let index2 = within .before in
     let index = index2 .before in
-    let in1 = range-index 1 (index2 .index2 .ensures .0) (index .index .ensures .0) (within .within .ensures) ∙ unfalse _ (else1 .if1 .left) in
-    range-next _ _ _ _ in1 (range-out _ _ _ _ (sym (within2 .within2 .ensures) ∙ untrue _ (c .if2 .taken)))
+    let in1 = range-index 1 (index2 .index2 .ensures .0) (index .index .ensures .0) (within .within .ensures) ∙ not-false _ (else1 .if1 .left) in
+    range-next _ _ _ _ in1 (range-out _ _ _ _ (sym (within2 .within2 .ensures) ∙ not-true _ (c .if2 .taken)))
 
 within-requires-3 : tie.Need-within-requires-3
 within-requires-3 c κs = search needs
@@ -51,9 +52,9 @@ returns-3 c =
     let within = else1 .before in
     let index2 = within .before in
     let index = index2 .before in
-    let in1 = range-index 1 (index2 .index2 .ensures .0) (index .index .ensures .0) (within .within .ensures) ∙ unfalse _ (else1 .if1 .left) in
-    let in2 = sym (within2 .within2 .ensures) ∙ unfalse _ (else2 .if2 .left) in
-    range-next _ _ _ _ in1 (range-next _ _ _ _ in2 (range-out _ _ _ _ (sym (within3 .within3 .ensures) ∙ untrue _ (c .if3 .taken))))
+    let in1 = range-index 1 (index2 .index2 .ensures .0) (index .index .ensures .0) (within .within .ensures) ∙ not-false _ (else1 .if1 .left) in
+    let in2 = sym (within2 .within2 .ensures) ∙ not-false _ (else2 .if2 .left) in
+    range-next _ _ _ _ in1 (range-next _ _ _ _ in2 (range-out _ _ _ _ (sym (within3 .within3 .ensures) ∙ not-true _ (c .if3 .taken))))
 
 within-requires-4 : tie.Need-within-requires-4
 within-requires-4 c κs = search needs
@@ -70,10 +71,10 @@ returns-4 c =
     let within = else1 .before in
     let index2 = within .before in
     let index = index2 .before in
-    let in1 = range-index 1 (index2 .index2 .ensures .0) (index .index .ensures .0) (within .within .ensures) ∙ unfalse _ (else1 .if1 .left) in
-    let in2 = sym (within2 .within2 .ensures) ∙ unfalse _ (else2 .if2 .left) in
-    let in3 = sym (within3 .within3 .ensures) ∙ unfalse _ (else3 .if3 .left) in
-    range-next _ _ _ _ in1 (range-next _ _ _ _ in2 (range-next _ _ _ _ in3 (range-out _ _ _ _ (sym (within4 .within4 .ensures) ∙ untrue _ (c .if4 .taken)))))
+    let in1 = range-index 1 (index2 .index2 .ensures .0) (index .index .ensures .0) (within .within .ensures) ∙ not-false _ (else1 .if1 .left) in
+    let in2 = sym (within2 .within2 .ensures) ∙ not-false _ (else2 .if2 .left) in
+    let in3 = sym (within3 .within3 .ensures) ∙ not-false _ (else3 .if3 .left) in
+    range-next _ _ _ _ in1 (range-next _ _ _ _ in2 (range-next _ _ _ _ in3 (range-out _ _ _ _ (sym (within4 .within4 .ensures) ∙ not-true _ (c .if4 .taken)))))
 
 index-requires-3 : tie.Need-index-requires-3
 index-requires-3 c κs = search needs
@@ -92,10 +93,10 @@ returns-5 c =
     let within = else1 .before in
     let index2 = within .before in
     let index = index2 .before in
-    let in1 = range-index 1 (index2 .index2 .ensures .0) (index .index .ensures .0) (within .within .ensures) ∙ unfalse _ (else1 .if1 .left) in
-    let in2 = sym (within2 .within2 .ensures) ∙ unfalse _ (else2 .if2 .left) in
-    let in3 = sym (within3 .within3 .ensures) ∙ unfalse _ (else3 .if3 .left) in
-    let in4 = sym (within4 .within4 .ensures) ∙ unfalse _ (else4 .if4 .left) in
+    let in1 = range-index 1 (index2 .index2 .ensures .0) (index .index .ensures .0) (within .within .ensures) ∙ not-false _ (else1 .if1 .left) in
+    let in2 = sym (within2 .within2 .ensures) ∙ not-false _ (else2 .if2 .left) in
+    let in3 = sym (within3 .within3 .ensures) ∙ not-false _ (else3 .if3 .left) in
+    let in4 = sym (within4 .within4 .ensures) ∙ not-false _ (else4 .if4 .left) in
     range-next _ _ _ _ in1 (range-next _ _ _ _ in2 (range-next _ _ _ _ in3 (range-next _ _ _ _ in4 (range-last _ _ (below-test _ _ (index3 .index3 .ensures .0))))))
 
 pub header-fits-spec : {M : Type 1} → statement M

@@ -1,11 +1,11 @@
 -- The header line: its heading, its numerals, their ranges.
 use mathlib.Core.Path.{sym, ap, subst, _∙_}
+use borrow.Author.Tests.{not-true, not-false}
 use Rattle.spec.specs.Text.{lookUp}
 use Rattle.spec.specs.Split.{headings}
 use Rattle.lexer.specs.Cursors.{rest}
 use Rattle.lexer.proofs.Walks.{left-some}
 use Rattle.split.specs.Answers.{HeadAnswer, NumbersAnswer}
-use Rattle.split.proofs.Tests.{untrue, unfalse}
 use Rattle.split.proofs.LineLaws.{comma-placed}
 use Rattle.split.proofs.HeaderLaws.{heading-known, heading-unknown, header-small, no-comma, no-header, header-form, header-range, header-on}
 use borrow.Author.Needs.{needs}
@@ -29,7 +29,7 @@ returns c =
     let first-field = c .before .before in
     let entry = first-field .before .before .before in
     let left = left-some (rest (entry .args .text .now) (entry .args .cursor)) (entry .pre .1) in
-    no-comma (entry .args .text .now) (entry .args .cursor) left (subst (HeadAnswer (entry .args .text .now) (entry .args .cursor)) (c .enum-told .given .1) (first-field .first-field .ensures))
+    no-comma (entry .args .purpose) (entry .args .text .now) (entry .args .cursor) left (subst (HeadAnswer (entry .args .text .now) (entry .args .cursor)) (c .enum-told .given .1) (first-field .first-field .ensures))
 
 sub-heading-of : tie.Need-sub-heading-of
 sub-heading-of c =
@@ -72,7 +72,7 @@ returns-2 c =
     let entry = first-field .before .before .before in
     let left = left-some (rest (entry .args .text .now) (entry .args .cursor)) (entry .pre .1) in
     let head = subst (HeadAnswer (entry .args .text .now) (entry .args .cursor)) (from .from .given .1) (first-field .first-field .ensures) in
-    no-header (entry .args .text .now) (entry .args .cursor) left (ap (lookUp headings) (sym (head .2)) ∙ heading-unknown _ (sym (heading-of .heading-of .ensures) ∙ c .enum-told2 .given .1))
+    no-header (entry .args .purpose) (entry .args .text .now) (entry .args .cursor) left (ap (lookUp (headings (entry .args .purpose))) (sym (head .2)) ∙ heading-unknown _ (sym (heading-of .heading-of .ensures) ∙ c .enum-told2 .given .1))
 
 header-numbers-requires : tie.Need-header-numbers-requires
 header-numbers-requires c κs =
@@ -99,9 +99,9 @@ returns-3 c =
     let entry = first-field .before .before .before in
     let left = left-some (rest (entry .args .text .now) (entry .args .cursor)) (entry .pre .1) in
     let head = subst (HeadAnswer (entry .args .text .now) (entry .args .cursor)) (from .from .given .1) (first-field .first-field .ensures) in
-    let known = ap (lookUp headings) (sym (head .2)) ∙ heading-known _ _ (sym (heading-of .heading-of .ensures) ∙ heading .heading .given .1) in
+    let known = ap (lookUp (headings (entry .args .purpose))) (sym (head .2)) ∙ heading-known _ _ (sym (heading-of .heading-of .ensures) ∙ heading .heading .given .1) in
     let answer = subst (NumbersAnswer (entry .args .text .now) _ _) (c .enum-told3 .given .1) (header-numbers .header-numbers .ensures) in
-    header-form (entry .args .text .now) (entry .args .cursor) left (entry .pre .0 .placed) (head .3) _ (head .4) _ known answer
+    header-form (entry .args .purpose) (entry .args .text .now) (entry .args .cursor) left (entry .pre .0 .placed) (head .3) _ (head .4) _ known answer
 
 header-fits-requires : tie.Need-header-fits-requires
 header-fits-requires c κs = search needs
@@ -118,9 +118,9 @@ returns-4 c =
     let entry = first-field .before .before .before in
     let left = left-some (rest (entry .args .text .now) (entry .args .cursor)) (entry .pre .1) in
     let head = subst (HeadAnswer (entry .args .text .now) (entry .args .cursor)) (from .from .given .1) (first-field .first-field .ensures) in
-    let known = ap (lookUp headings) (sym (head .2)) ∙ heading-known _ _ (sym (heading-of .heading-of .ensures) ∙ heading .heading .given .1) in
+    let known = ap (lookUp (headings (entry .args .purpose))) (sym (head .2)) ∙ heading-known _ _ (sym (heading-of .heading-of .ensures) ∙ heading .heading .given .1) in
     let answer = subst (NumbersAnswer (entry .args .text .now) _ _) (header .header .given .1) (header-numbers .header-numbers .ensures) in
-    header-range (entry .args .text .now) (entry .args .cursor) left (entry .pre .0 .placed) (head .3) _ (head .4) _ known (answer .0) _ (answer .1) _ (answer .2) (sym (header-fits .header-fits .ensures) ∙ untrue _ (c .if1 .taken))
+    header-range (entry .args .purpose) (entry .args .text .now) (entry .args .cursor) left (entry .pre .0 .placed) (head .3) _ (head .4) _ known (answer .0) _ (answer .1) _ (answer .2) (sym (header-fits .header-fits .ensures) ∙ not-true _ (c .if1 .taken))
 
 returns-5 : tie.Need-returns-5
 returns-5 c =
@@ -134,10 +134,10 @@ returns-5 c =
     let entry = first-field .before .before .before in
     let left = left-some (rest (entry .args .text .now) (entry .args .cursor)) (entry .pre .1) in
     let head = subst (HeadAnswer (entry .args .text .now) (entry .args .cursor)) (from .from .given .1) (first-field .first-field .ensures) in
-    let known = ap (lookUp headings) (sym (head .2)) ∙ heading-known _ _ (sym (heading-of .heading-of .ensures) ∙ heading .heading .given .1) in
+    let known = ap (lookUp (headings (entry .args .purpose))) (sym (head .2)) ∙ heading-known _ _ (sym (heading-of .heading-of .ensures) ∙ heading .heading .given .1) in
     let answer = subst (NumbersAnswer (entry .args .text .now) _ _) (header .header .given .1) (header-numbers .header-numbers .ensures) in
-    let fits = sym (header-fits .header-fits .ensures) ∙ unfalse _ (c .if1 .left) in
-    (header-on (entry .args .text .now) (entry .args .cursor) left (entry .pre .0 .placed) (head .3) _ (head .4) _ known (answer .0) _ (answer .1) _ (answer .2) fits (answer .4), answer .3, header-small _ fits)
+    let fits = sym (header-fits .header-fits .ensures) ∙ not-false _ (c .if1 .left) in
+    (header-on (entry .args .purpose) (entry .args .text .now) (entry .args .cursor) left (entry .pre .0 .placed) (head .3) _ (head .4) _ known (answer .0) _ (answer .1) _ (answer .2) fits (answer .4), answer .3, header-small _ fits)
 
 pub header-line-spec : {M : Type 1} → statement M
 header-line-spec =

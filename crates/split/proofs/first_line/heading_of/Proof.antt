@@ -1,7 +1,7 @@
--- The two headings, one after the other.
+-- The two headings, one after the other; the first is none where a sheet is filled.
 use mathlib.Core.Path.{sym, _∙_}
 use Rattle.spec.specs.Text.{bytes}
-use Rattle.split.proofs.HeaderLaws.{first-heading, second-heading, other-heading}
+use Rattle.split.proofs.HeaderLaws.{first-heading, first-refused, second-heading, other-heading}
 use borrow.Author.Needs.{needs}
 use Rattle.split.proofs.first_line.heading_of.Statement.{statement}
 use Rattle.split.proofs.first_line.heading_of.Tie as tie
@@ -12,9 +12,23 @@ slice-aggregate-same c = search needs
 same-requires : tie.Need-same-requires
 same-requires c κs = search needs
 
+enum-told : tie.Need-enum-told
+enum-told c = search needs
+
+enum-told-2 : tie.Need-enum-told-2
+enum-told-2 c = search needs
+
 returns : tie.Need-returns
 unfolding bytes
-returns c = first-heading _ (sym (c .before .same .ensures) ∙ c .if1 .taken)
+returns c =
+    let c1 = c .before .before in
+    first-heading _ _ (sym (c1 .before .same .ensures) ∙ c1 .if1 .taken) (c .enum-told .given .1)
+
+returns-2 : tie.Need-returns-2
+unfolding bytes
+returns-2 c =
+    let c1 = c .before .before in
+    first-refused _ _ (sym (c1 .before .same .ensures) ∙ c1 .if1 .taken) (c .enum-told2 .given .1)
 
 slice-aggregate-same-2 : tie.Need-slice-aggregate-same-2
 slice-aggregate-same-2 c = search needs
@@ -22,17 +36,17 @@ slice-aggregate-same-2 c = search needs
 same-requires-2 : tie.Need-same-requires-2
 same-requires-2 c κs = search needs
 
-returns-2 : tie.Need-returns-2
-unfolding bytes
-returns-2 c =
-    let c1 = c .before .before .before in
-    second-heading _ (sym (c1 .before .same .ensures) ∙ c1 .if1 .left) (sym (c .before .same2 .ensures) ∙ c .if2 .taken)
-
 returns-3 : tie.Need-returns-3
 unfolding bytes
 returns-3 c =
     let c1 = c .before .before .before in
-    other-heading _ (sym (c1 .before .same .ensures) ∙ c1 .if1 .left) (sym (c .before .same2 .ensures) ∙ c .if2 .left)
+    second-heading _ _ (sym (c1 .before .same .ensures) ∙ c1 .if1 .left) (sym (c .before .same2 .ensures) ∙ c .if2 .taken)
+
+returns-4 : tie.Need-returns-4
+unfolding bytes
+returns-4 c =
+    let c1 = c .before .before .before in
+    other-heading _ _ (sym (c1 .before .same .ensures) ∙ c1 .if1 .left) (sym (c .before .same2 .ensures) ∙ c .if2 .left)
 
 pub heading-of-spec : {M : Type 1} → statement M
 heading-of-spec =
@@ -40,8 +54,11 @@ heading-of-spec =
     (tie.spec
     slice-aggregate-same
     same-requires
+    enum-told
+    enum-told-2
     returns
+    returns-2
     slice-aggregate-same-2
     same-requires-2
-    returns-2
-    returns-3)
+    returns-3
+    returns-4)

@@ -1,9 +1,9 @@
 -- A map line: its numerals, as many as the slice is long, and their range.
 use borrow.Author.Needs.{needs}
 use mathlib.Core.Path.{refl, sym, _∙_}
+use borrow.Author.Tests.{not-true, not-false}
 use Rattle.lexer.proofs.LineEnds.{numbers-none, numbers-read}
 use Rattle.lexer.proofs.Walks.{left-some}
-use Rattle.split.proofs.Tests.{untrue, unfalse}
 use Rattle.split.proofs.LineLaws.{line-missing}
 use Rattle.split.proofs.MapLaws.{cells-told, map-form, map-range, map-on}
 use Rattle.split.proofs.map_lines.map_line.Statement.{statement}
@@ -53,7 +53,7 @@ returns-3 c =
     let numbers = read .before .before .before .before in
     let entry = numbers .before .before .before .before .before .before .before in
     let found = numbers-read (numbers .numbers .ensures) _ refl (entry .pre .placed) (read .read .given .1) in
-    let fit = cells-told _ _ (found .long) (cells-fit .cells-fit .ensures) (untrue _ (c .if2 .taken)) in
+    let fit = cells-told _ _ (found .long) (cells-fit .cells-fit .ensures) (not-true _ (c .if2 .taken)) in
     map-range _ _ _ _ _ found fit
 
 same-length-3 : tie.Need-same-length-3
@@ -66,7 +66,7 @@ returns-4 c =
     let numbers = read .before .before .before .before in
     let entry = numbers .before .before .before .before .before .before .before in
     let found = numbers-read (numbers .numbers .ensures) _ refl (entry .pre .placed) (read .read .given .1) in
-    let fit = cells-told _ _ (found .long) (cells-fit .cells-fit .ensures) (unfalse _ (c .if2 .left)) in
+    let fit = cells-told _ _ (found .long) (cells-fit .cells-fit .ensures) (not-false _ (c .if2 .left)) in
     (map-on _ _ _ _ _ found fit, found .placed)
 
 pub map-line-spec : {M : Type 1} → statement M

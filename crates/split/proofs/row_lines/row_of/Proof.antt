@@ -1,9 +1,10 @@
 -- The two numbers of a row, and then its start, given or not.
 use mathlib.Core.Path.{sym, _∙_}
 use native.Mathlib.Omega.{arith}
+use borrow.Author.Tests.{not-true, not-false}
 use Rattle.spec.specs.Split.{startRange}
 use Rattle.split.specs.Lines.{headerTold}
-use Rattle.split.proofs.Tests.{untrue, unfalse, in-below, out-below}
+use Rattle.split.proofs.Tests.{in-below, out-below}
 use Rattle.split.proofs.RowLaws.{row-out, start-out, start-in, start-wanted, start-left}
 use borrow.Author.Needs.{needs}
 use Rattle.split.proofs.row_lines.row_of.Statement.{statement}
@@ -17,7 +18,7 @@ unfolding headerTold startRange
 returns c =
     let both-below = c .before in
     let entry = both-below .before .before .before in
-    row-out _ (entry .args .row) (entry .args .word) (headerTold (entry .args .header)) _ (sym (both-below .both-below .ensures) ∙ untrue _ (c .if1 .taken))
+    row-out _ (entry .args .row) (entry .args .word) (headerTold (entry .args .header)) _ (sym (both-below .both-below .ensures) ∙ not-true _ (c .if1 .taken))
 
 enum-known-start : tie.Need-enum-known-start
 enum-known-start c = search needs
@@ -37,7 +38,7 @@ returns-2 c =
     let else1 = start .before .before in
     let both-below = else1 .before in
     let entry = both-below .before .before .before in
-    let fit = sym (both-below .both-below .ensures) ∙ unfalse _ (else1 .if1 .left) in
+    let fit = sym (both-below .both-below .ensures) ∙ not-false _ (else1 .if1 .left) in
     start-out _ (entry .args .row) (entry .args .word) (headerTold (entry .args .header)) _ fit _ (start .start .given .1) (out-below _ _ (omega (arith, index .index .ensures .0, start-limit .start-limit .ensures, c .if2 .taken)))
 
 enum-told : tie.Need-enum-told
@@ -54,8 +55,8 @@ returns-3 c =
     let else1 = enum-told .before .before in
     let both-below = else1 .before in
     let entry = both-below .before .before .before in
-    let fit = sym (both-below .both-below .ensures) ∙ unfalse _ (else1 .if1 .left) in
-    start-wanted _ (entry .args .row) (entry .args .word) (headerTold (entry .args .header)) _ fit (enum-told .enum-told .given .1) (sym (may-be-empty .may-be-empty .ensures) ∙ untrue _ (c .if3 .taken))
+    let fit = sym (both-below .both-below .ensures) ∙ not-false _ (else1 .if1 .left) in
+    start-wanted _ (entry .args .row) (entry .args .word) (headerTold (entry .args .header)) _ fit (enum-told .enum-told .given .1) (sym (may-be-empty .may-be-empty .ensures) ∙ not-true _ (c .if3 .taken))
 
 returns-4 : tie.Need-returns-4
 unfolding headerTold startRange
@@ -66,7 +67,7 @@ returns-4 c =
     let else1 = start .before .before in
     let both-below = else1 .before in
     let entry = both-below .before .before .before in
-    let fit = sym (both-below .both-below .ensures) ∙ unfalse _ (else1 .if1 .left) in
+    let fit = sym (both-below .both-below .ensures) ∙ not-false _ (else1 .if1 .left) in
     start-in _ (entry .args .row) (entry .args .word) (headerTold (entry .args .header)) _ fit _ (start .start .given .1) (in-below _ _ (omega (arith, index .index .ensures .0, start-limit .start-limit .ensures, c .if2 .left)))
 
 returns-5 : tie.Need-returns-5
@@ -77,8 +78,8 @@ returns-5 c =
     let else1 = enum-told .before .before in
     let both-below = else1 .before in
     let entry = both-below .before .before .before in
-    let fit = sym (both-below .both-below .ensures) ∙ unfalse _ (else1 .if1 .left) in
-    start-left _ (entry .args .row) (entry .args .word) (headerTold (entry .args .header)) _ fit (enum-told .enum-told .given .1) (sym (may-be-empty .may-be-empty .ensures) ∙ unfalse _ (c .if3 .left))
+    let fit = sym (both-below .both-below .ensures) ∙ not-false _ (else1 .if1 .left) in
+    start-left _ (entry .args .row) (entry .args .word) (headerTold (entry .args .header)) _ fit (enum-told .enum-told .given .1) (sym (may-be-empty .may-be-empty .ensures) ∙ not-false _ (c .if3 .left))
 
 pub row-of-spec : {M : Type 1} → statement M
 row-of-spec =

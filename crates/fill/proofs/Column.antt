@@ -1,0 +1,102 @@
+-- A column of the new maps: from the posts that are found at a location to those that are stored.
+use mathlib.Core.Path.{_≡_, refl, sym, ap, _∙_}
+use mathlib.Core.Bool.{Bool, true, false}
+use mathlib.Core.List.{List}
+use mathlib.Core.Option.{Option, none, some}
+use Prim.Native.Nat.{ℕ, _≤_, _<_}
+use native.Mathlib.Omega.{arith}
+use lib.ListN.{length, take}
+use lib.Seq.{length-take-le}
+use Rattle.spec.specs.Program.{Program}
+use Rattle.spec.specs.Split.{Split}
+use Rattle.workspace.specs.Sheets.{HoldsSheets}
+use Rattle.workspace.proofs.Region.{region-part, changed-nothing}
+use Rattle.workspace.proofs.Sheets.{root-sized}
+use Rattle.filling.specs.GreatestMaps.{postsAt}
+use Rattle.filling.proofs.Pass.{pass-length}
+use Rattle.filling.proofs.Placed.{flow-steps}
+use Rattle.filling.proofs.Limits.{steps-few}
+use Rattle.pass.specs.declared.Column.{Column}
+use Rattle.pass.specs.Contract.{Fillable, Stored, FilledHere}
+use Rattle.fill.specs.declared.maps.Found.the-variants.{Nothing, Large, Maps}
+use Rattle.fill.specs.FilledMaps.{Given}
+use Rattle.fill.specs.Columns.{Room, PostsStored, ColumnGiven, ColumnFilled}
+
+-- a post for each step
+pub posts-counted : {w ps : List ℕ} {steps denominator locations start : ℕ} (P : Program) (S : Split) (l : ℕ)
+    → HoldsSheets w steps denominator locations start P S → postsAt P S l ≡ some ps → length ps ≡ steps
+unfolding postsAt
+posts-counted P S l H found = pass-length _ _ found ∙ flow-steps S (record { 0 = l }) (P .root) ∙ root-sized H
+
+pub given-few : {w : List ℕ} {steps denominator locations maps start : ℕ} → Given w steps denominator locations maps start → steps ≤ 256
+given-few G = omega (arith, steps-few (G .P) (G .held .sheets .wellFormed), G .held .sheets .stepsCounted)
+
+-- as many posts as steps stand in front of 256 places
+pub front-long : {w : List ℕ} {denominator locations maps start : ℕ} (steps : ℕ) (q : List ℕ) → Given w steps denominator locations maps start
+    → length q ≡ 256 → length (take steps q) ≡ steps
+front-long steps q G long = length-take-le steps q (omega (arith, given-few G))
+
+-- the column of a location in sheets with this denominator
+abbrev columnOf : (location denominator : ℕ) → Column
+columnOf location denominator = record { location = location; denominator = denominator }
+
+module _ (w : List ℕ) (steps denominator maps start location : ℕ) where
+  pub column-fillable : (q : List ℕ) → ColumnGiven w steps denominator maps start location → length q ≡ 256
+      → Fillable w (columnOf location denominator) start q
+  column-fillable q G long = record {
+    P = G .given .P;
+    S = G .given .S;
+    held = record { steps = steps; locations = G .locations; sheets = G .given .held .sheets; within = G .within };
+    long = long;
+  }
+
+  pub column-room : (posts : List ℕ) → ColumnGiven w steps denominator maps start location → length posts ≡ steps → Room w posts maps location
+  column-room posts G long =
+      let sheets = G .given .held .sheets in
+      record {
+        long = G .given .long;
+        room = omega (arith, given-few (G .given), G .given .few);
+        within = omega (arith, G .within, sheets .locationsGiven, sheets .inRange .locations);
+      }
+
+  module _ (q : List ℕ) (r : Bool) (F : FilledHere w (columnOf location denominator) start q r) where
+    posts-here : (P : Program) (S : Split) (locations : ℕ) → HoldsSheets w steps denominator locations start P S → location < locations
+        → Stored (postsAt P S location) q r
+    posts-here P S locations H l = F .answers P S (record { steps = steps; locations = locations; sheets = H; within = l })
+
+    pub column-nothing : r ≡ false → ColumnFilled w steps denominator maps start location Nothing w
+    column-nothing e = record {
+      one = record { behind = changed-nothing _ _ w; others = λ m l h n. refl };
+      answers = λ P S locations H l. not-found (postsAt P S location) (posts-here P S locations H l);
+    }
+      where
+        not-found : (o : Option (List ℕ)) → Stored o q r → o ≡ none
+        not-found none s = refl
+        not-found (some ps) s = let clash : _≡_ {A = ℕ} 0 1 = cc in absurd (omega arith)
+
+    -- the posts that are found stand in front
+    module _ (e : r ≡ true) where
+      found-here : (P : Program) (S : Split) (locations : ℕ) → HoldsSheets w steps denominator locations start P S → location < locations
+          → (ps : List ℕ) × (postsAt P S location ≡ some ps) × (take steps q ≡ ps)
+      found-here P S locations H l = go (postsAt P S location) refl (posts-here P S locations H l)
+        where
+          go : (o : Option (List ℕ)) → postsAt P S location ≡ o → Stored o q r → (ps : List ℕ) × (postsAt P S location ≡ some ps) × (take steps q ≡ ps)
+          go none h s = let clash : _≡_ {A = ℕ} 0 1 = cc in absurd (omega arith)
+          go (some ps) h s = (ps, h, ap (λ (n : ℕ). take n q) (sym (posts-counted P S location H h)) ∙ region-part q 0 ps (s .1))
+
+      module _ (w′ : List ℕ) (s : Bool) (T : PostsStored (take steps q) maps location s w w′) where
+        pub column-large : s ≡ false → ColumnFilled w steps denominator maps start location Large w′
+        column-large f = record {
+          one = T .one;
+          answers = λ P S locations H l.
+              let (ps, found, front) = found-here P S locations H l in
+              (ps, found, rw front at (sym (T .fits) ∙ f));
+        }
+
+        pub column-maps : s ≡ true → ColumnFilled w steps denominator maps start location Maps w′
+        column-maps f = record {
+          one = T .one;
+          answers = λ P S locations H l.
+              let (ps, found, front) = found-here P S locations H l in
+              (ps, found, rw front at (sym (T .fits) ∙ f), rw front at (T .stored f));
+        }

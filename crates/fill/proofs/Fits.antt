@@ -1,0 +1,42 @@
+-- Whether posts fit into maps, one after the other, as the loop over them goes.
+use mathlib.Core.Path.{_≡_}
+use mathlib.Core.Bool.{true, false}
+use mathlib.Core.List.{List, [], _∷_}
+use Prim.Native.Nat.{ℕ, zero, suc, _+_, _<_, _≤_}
+use native.Mathlib.Omega.{arith}
+use native.Mathlib.Numerals.{add-one}
+use lib.ListN.{length, getD, drop, drop-of-length-le}
+use lib.Seq.{drop-cons}
+use borrow.Author.Tests.{le-leb, lt-leb}
+use Rattle.spec.specs.Accepted.{AtMost, none as noneAtMost, more as moreAtMost}
+use Rattle.filling.specs.Answer.{numberLimit, mapAtMost}
+use Rattle.filling.proofs.Limits.{map-at-most}
+
+module _ (posts : List ℕ) (i : ℕ) where
+  pub fits-on : i < length posts → getD posts i 0 ≤ 1000000000
+      → mapAtMost numberLimit (drop i posts) ≡ mapAtMost numberLimit (drop (i + 1) posts)
+  unfolding mapAtMost numberLimit
+  fits-on h l = rw (drop-cons posts i 0 h, le-leb (getD posts i 0) 1000000000 l, add-one i)
+
+  pub fits-out : i < length posts → 1000000000 < getD posts i 0 → mapAtMost numberLimit (drop i posts) ≡ false
+  unfolding mapAtMost numberLimit
+  fits-out h l = rw (drop-cons posts i 0 h, lt-leb (getD posts i 0) 1000000000 l)
+
+  pub fits-end : length posts ≤ i → mapAtMost numberLimit (drop i posts) ≡ true
+  unfolding mapAtMost
+  fits-end h = rw (drop-of-length-le posts h)
+
+-- at most d at each place
+pub at-most-at : {d : ℕ} (m : List ℕ) → AtMost d m → (i : ℕ) → getD m i 0 ≤ d
+at-most-at [] noneAtMost i = omega arith
+at-most-at (a ∷ m) (moreAtMost l r) zero = l
+at-most-at (a ∷ m) (moreAtMost l r) (suc i) = at-most-at m r i
+
+pub at-at-most : {d : ℕ} (m : List ℕ) → ((i : ℕ) → getD m i 0 ≤ d) → AtMost d m
+at-at-most [] h = noneAtMost
+at-at-most (a ∷ m) h = moreAtMost (h 0) (at-at-most m (λ i. h (suc i)))
+
+-- a post that fits is at most the limit
+pub fits-each : (posts : List ℕ) → mapAtMost numberLimit posts ≡ true → (i : ℕ) → i < length posts → getD posts i 0 ≤ 1000000000
+unfolding numberLimit
+fits-each posts h i l = at-most-at posts (map-at-most 1000000000 posts .0 h) i

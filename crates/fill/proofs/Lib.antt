@@ -1,0 +1,9 @@
+pub mod Fits
+pub mod Stores
+pub mod Column
+pub mod SoFar
+pub mod Made
+pub mod Whole
+pub mod Told
+pub mod Stages
+pub mod Promises

@@ -1,0 +1,118 @@
+-- From what filling tells to the clauses of its contract.
+use mathlib.Core.Path.{_≡_, refl, sym, ap, _∙_}
+use mathlib.Core.List.{List, _++_}
+use mathlib.Core.Logic.{_↔_}
+use Prim.Native.Nat.{ℕ, _≤_}
+use native.Mathlib.Omega.{arith}
+use lib.ListN.{length, take, drop}
+use lib.Seq.{take-append-seam}
+use borrow.Author.Tests.{le-leb}
+use Rattle.spec.specs.Reading.{Out, stop, on, _>>=_, demand}
+use Rattle.spec.specs.Program.{Program}
+use Rattle.spec.specs.Split.{Map, Split}
+use Rattle.spec.specs.Workspace.{workspaceSize, workspaceAfter}
+use Rattle.spec.specs.Verdict.{checked, verdict, four, returned}
+use Rattle.spec.specs.declared.Returned.{Returned}
+use Rattle.spec.specs.declared.Answer.the-variants.{Accept, Refuse}
+use Rattle.spec.specs.declared.Refusal.{Refusal}
+use Rattle.spec.specs.declared.Refusal.the-variants.{NoAfterMaps}
+use Rattle.numbers.proofs.Refusals.{refusal-number, only-unsolvable}
+use Rattle.filling.specs.AfterMaps.{AfterMaps}
+use Rattle.filling.specs.Answer.{fill, numbersOf, bufferAfter, Fillable, Written}
+use Rattle.filling.proofs.Answer.{refused-exactly-unsolvable, written-exactly, written-accepted}
+use Rattle.fill.specs.Numbers.{numbered}
+use Rattle.fill.specs.Stages.{Tells}
+use Rattle.fill.specs.declared.Filled.{Filled}
+use Rattle.fill.specs.declared.Filled.the-variants.{Written as WrittenSheet}
+
+-- any work space that is long enough gives the same
+pub room-enough : (room buffer : ℕ) (p s : List ℕ) → 16384 ≤ room → fill workspaceSize buffer p s ≡ fill room buffer p s
+unfolding fill demand _>>=_ workspaceSize
+room-enough room buffer p s h = rw (le-leb _ _ h)
+
+-- ------------------------------------------------------------------ the numbers of an outcome
+
+unsolvable-alone : (o : Out (List ℕ)) → numbersOf o .number ≡ 41 → o ≡ stop NoAfterMaps
+unfolding numbersOf four
+unsolvable-alone (stop r) h = ap stop (only-unsolvable r h)
+unsolvable-alone (on t) h = absurd (omega (arith, h))
+
+refused-number : (r : Refusal) → returned (Refuse r) .number ≡ numbersOf (stop r) .number
+unfolding numbersOf
+refused-number r = refl
+
+text-line : (t : List ℕ) → numbersOf (on t) .line ≡ length t
+unfolding numbersOf four
+text-line t = refl
+
+-- 0 is the number of a text alone, and the buffer begins with it
+record Begins (o : Out (List ℕ)) (line : ℕ) (after : List ℕ) : Type 0 where
+  pub text : List ℕ
+  pub is : o ≡ on text
+  pub taken : take line after ≡ text
+
+text-begins : (o : Out (List ℕ)) (before after : List ℕ) → after ≡ bufferAfter o before → numbersOf o .number ≡ 0
+    → Begins o (numbersOf o .line) after
+unfolding numbersOf bufferAfter four
+text-begins (stop r) before after e h = absurd (omega (arith, refusal-number r, h))
+text-begins (on t) before after e h = record { text = t; is = refl; taken = rw e (take-append-seam t (drop (length t) before)) }
+
+-- ------------------------------------------------------------------ the clauses
+
+module _ (room : ℕ) (p s before after : List ℕ) (f : Filled) (told : Tells (fill room (length before) p s) before after f) where
+  solvable-kept : (P : Program) (S : Split) → Fillable room p s P S → (numbered f ≡ four 41 0 0 0) ↔ ((σ : List Map) → AfterMaps P S σ → ⊥)
+  unfolding numbersOf returned four
+  solvable-kept P S F =
+      let decides = refused-exactly-unsolvable room (length before) p s P S F in (
+        λ h. decides .0 (unsolvable-alone _ (ap (λ (r : Returned). r .number) (sym (told .numbers) ∙ h))),
+        λ unsolvable. told .numbers ∙ ap numbersOf (decides .1 unsolvable),
+      )
+
+  begins : numbered f .number ≡ 0 → Begins (fill room (length before) p s) (numbered f .line) after
+  begins h = rw (told .numbers) (text-begins _ before after (told .buffer) (ap (λ (r : Returned). r .number) (sym (told .numbers)) ∙ h))
+
+  greatest-kept : numbered f .number ≡ 0 → Written room (length before) p s (take (numbered f .line) after)
+  greatest-kept h =
+      let B = begins h in
+      rw (B .taken) (written-exactly room (length before) p s (B .text) .0 (B .is))
+
+  accepted-kept : numbered f .number ≡ 0 → verdict room p (take (numbered f .line) after) ≡ Accept
+  accepted-kept h =
+      let B = begins h in
+      rw (B .taken) (written-accepted room (length before) p s (B .text) (B .is))
+
+-- a text that is written has room in the buffer
+within-buffer : (room buffer : ℕ) (p s : List ℕ) (f : Filled) → numbered f ≡ numbersOf (fill room buffer p s)
+    → numbered f .number ≡ 0 → numbered f .line ≤ buffer
+within-buffer room buffer p s f e h = rw e (go (fill room buffer p s) refl (ap (λ (r : Returned). r .number) (sym e) ∙ h))
+  where
+    go : (o : Out (List ℕ)) → fill room buffer p s ≡ o → numbersOf o .number ≡ 0 → numbersOf o .line ≤ buffer
+    go (stop r) is zero = absurd (omega (arith, refusal-number r, refused-number r ∙ zero))
+    go (on t) is zero =
+        let W = written-exactly room buffer p s t .0 is in
+        omega (arith, W .limits .hasRoom, ap length (W .isText), text-line t)
+
+pub written-within : {n : ℕ} (room buffer : ℕ) (p s : List ℕ) (f : Filled) → numbered f ≡ numbersOf (fill room buffer p s)
+    → f ≡ WrittenSheet n → n ≤ buffer
+unfolding numbered four
+written-within {n} room buffer p s f e is =
+    let zero : numbered f .number ≡ 0 = rw is in
+    let line : numbered f .line ≡ n = rw is in
+    omega (arith, within-buffer room buffer p s f e zero, line)
+
+-- every promise of the offered call, in the order of its clauses; U is that of the texts, which are lent unchanged
+pub promises-kept : {U : Type 0} (w w′ p s before after : List ℕ) (f : Filled) → Tells (fill (length w) (length before) p s) before after f
+    → w′ ≡ workspaceAfter w → U
+    → (numbered f ≡ numbersOf (fill (length w) (length before) p s))
+    × ((after ≡ bufferAfter (fill (length w) (length before) p s) before)
+    × ((w′ ≡ workspaceAfter w)
+    × (U
+    × (((P : Program) (S : Split) → Fillable (length w) p s P S → (numbered f ≡ four 41 0 0 0) ↔ ((σ : List Map) → AfterMaps P S σ → ⊥))
+    × ((numbered f .number ≡ 0 → Written (length w) (length before) p s (take (numbered f .line) after))
+    × (numbered f .number ≡ 0 → verdict (length w) p (take (numbered f .line) after) ≡ Accept))))))
+promises-kept w w′ p s before after f told c u =
+    let room = length w in
+    let solvable = solvable-kept room p s before after f told in
+    let greatest = greatest-kept room p s before after f told in
+    let accepted = accepted-kept room p s before after f told in
+    (told .numbers, (told .buffer, (c, (u, (solvable, (greatest, accepted))))))

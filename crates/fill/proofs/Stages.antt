@@ -1,0 +1,255 @@
+-- From what the stages of filling find to what they tell.
+use mathlib.Core.Path.{_≡_, refl, sym, ap, _∙_}
+use mathlib.Core.Path.{subst as along}
+use mathlib.Core.List.{List}
+use mathlib.Core.Option.{some}
+use Prim.Native.Nat.{ℕ, _+_, _≤_, _<_}
+use native.Mathlib.Omega.{arith}
+use lib.Dec.{leb}
+use lib.ListN.{length}
+use mathlib.Core.Bool.{true}
+use borrow.Author.Tests.{le-leb, lt-leb}
+use Rattle.spec.specs.Reading.{Out, stop, on, _>>=_, demand}
+use Rattle.spec.specs.Program.{Program, programLimit, program}
+use Rattle.spec.specs.Split.{Map, Split, splitLimit, split}
+use Rattle.spec.specs.WellFormed.{WellFormedProgram}
+use Rattle.spec.specs.Workspace.{workspaceSize}
+use Rattle.spec.specs.Verdict.{startAtMostOne, typed}
+use Rattle.spec.specs.declared.Purpose.the-variants.{Fill}
+use Rattle.spec.specs.declared.Refusal.{Refusal}
+use Rattle.spec.specs.declared.Refusal.the-variants.{ShortWorkspace, LongProgram, LongSplit, NoAfterMaps, TooLarge, TooManyMaps}
+use Rattle.spec.proofs.WellFormed.{well-formed-program, split-well-formed}
+use Rattle.spec.proofs.Outcomes.{goes-on-bind}
+use Rattle.spec.proofs.Ranges.{well-formed-in-range}
+use Rattle.workspace.specs.Layout.{presAt}
+use Rattle.workspace.specs.Region.{ChangedWithin}
+use Rattle.workspace.specs.Holds.{HoldsProgram, HoldsSplit}
+use Rattle.workspace.specs.Sheets.{HoldsSheets}
+use Rattle.workspace.proofs.Region.{changed-wider}
+use Rattle.workspace.proofs.Held.{program-kept}
+use Rattle.split.specs.Lines.{headerTold}
+use Rattle.split.specs.declared.Header.{Header}
+use Rattle.split.proofs.Found.{denominator-told, locations-told, start-told}
+use Rattle.rules.specs.Outcome.{outcome}
+use Rattle.rules.specs.Contract.{ruledFor, Ruled}
+use Rattle.rules.specs.declared.Ruling.{Ruling}
+use Rattle.rules.specs.declared.Ruling.the-variants as ruling
+use Rattle.rules.proofs.OneStep.{split-kept}
+use Rattle.writer.specs.Sheet.{written}
+use Rattle.sheets.specs.Contract.{HoldsSheet, HoldsSome as HoldsSheetOfSome}
+use Rattle.filling.specs.Filled.{filled}
+use Rattle.filling.specs.GreatestMaps.{greatestMaps}
+use Rattle.filling.specs.Answer.{givenLimit, numberLimit, allAtMost, foundOr, filledText, fill}
+use Rattle.filling.proofs.Filling.{found-exactly-greatest}
+use Rattle.filling.proofs.Reasons.{no-after-maps, large-number, long-program, program-refused, long-split, split-refused}
+use Rattle.fill.specs.FilledMaps.{HoldsGiven, Given, FilledAs, FilledMaps}
+use Rattle.fill.specs.Stages.{Tells, grownBy, fitted, SheetTold, HoldsBoth, HoldsSome, TextTold, afterReading, SheetsTold, SplitTold}
+use Rattle.fill.specs.declared.Filled.{Filled}
+use Rattle.fill.specs.declared.Filled.the-variants.{Refused}
+use Rattle.fill.specs.declared.maps.Found.{Found}
+use Rattle.fill.specs.declared.maps.Found.the-variants.{Nothing, Large, Maps}
+use Rattle.fill.proofs.Told.{refusal-told, told-as}
+
+-- ------------------------------------------------------------------ 41 and 42
+
+-- a test that holds
+passed : (a b : ℕ) (r : Refusal) → a ≤ b → demand (leb a b) r ≡ on tt
+unfolding demand
+passed a b r h = rw (le-leb _ _ h)
+
+maps-told : (S : Split) (h : Header) → S .header ≡ headerTold h → h .maps ≡ S .header .maps
+unfolding headerTold
+maps-told S h e = sym (ap (λ H. H .maps) e)
+
+pub given-held : {w : List ℕ} {header : Header} {steps : ℕ} {P : Program} {S : Split} → HoldsBoth w header steps P S
+    → HoldsGiven w steps (header .denominator) (header .locations) (header .maps) (header .start .0) P S
+given-held {header = header} {S = S} B = record { sheets = B .sheets; mapsGiven = maps-told S header (B .headed) }
+
+pub some-given : {w : List ℕ} {header : Header} {steps : ℕ} → HoldsSome w header steps → header .maps ≤ 256 → length w ≡ 16384
+    → Given w steps (header .denominator) (header .locations) (header .maps) (header .start .0)
+some-given X few long = record { P = X .P; S = X .S; held = given-held (X .holds); few = few; long = long }
+
+-- the split with its greatest after-maps, once the work space holds it
+module _ {w w′ : List ℕ} {header : Header} {steps : ℕ} {P : Program} {S : Split} (B : HoldsBoth w header steps P S)
+    (γ : List Map) (found : greatestMaps P S ≡ some γ)
+    (H : HoldsSheets w′ steps (header .denominator) (header .locations) (header .start .0) P (filled S γ)) where
+  step-maps : length γ ≡ steps
+  step-maps =
+      let G = found-exactly-greatest P S (B .sheets .wellFormed) (B .sheets .inRange) γ .0 found in
+      G .afterMaps .counted ∙ sym (B .sheets .stepsCounted)
+
+  grown-header : filled S γ .header ≡ headerTold (grownBy steps header)
+  unfolding filled headerTold grownBy
+  grown-header = rw (B .headed, step-maps)
+
+  filled-held : HoldsSheet w′ (grownBy steps header) steps (filled S γ)
+  filled-held = record {
+    program = P .steps;
+    inRange = H .inRange;
+    split = H .split;
+    headed = grown-header;
+    counted = sym (H .stepsCounted);
+  }
+
+small-text : (buffer : ℕ) (P : Program) (S : Split) (γ : List Map) → greatestMaps P S ≡ some γ → allAtMost numberLimit γ ≡ true
+    → filledText buffer P S ≡ fitted buffer (written (filled S γ))
+unfolding filledText foundOr demand fitted _>>=_
+small-text buffer P S γ found small = rw (found, small)
+
+module _ {w w′ : List ℕ} (header : Header) {steps : ℕ} {r : Found}
+    (F : FilledMaps w steps (header .denominator) (header .locations) (header .maps) (header .start .0) r w′) where
+  filled-as : {r′ : Found} → r ≡ r′ → (P : Program) (S : Split) → HoldsBoth w header steps P S
+      → FilledAs steps (header .denominator) (header .locations) (header .start .0) P S w′ r′
+  filled-as e P S B = along (FilledAs _ _ _ _ P S w′) e (F .answers P S (given-held B))
+
+  pub nothing-told : (buffer : List ℕ) → r ≡ Nothing → TextTold w header steps buffer buffer (Refused NoAfterMaps)
+  nothing-told buffer e P S B = told-as (sym (no-after-maps _ P S (filled-as e P S B))) (refusal-told NoAfterMaps buffer)
+
+  pub large-told : (buffer : List ℕ) → r ≡ Large → TextTold w header steps buffer buffer (Refused TooLarge)
+  unfolding numberLimit
+  large-told buffer e P S B =
+      let (γ, found, large) = filled-as e P S B in
+      told-as (sym (large-number _ P S γ found large)) (refusal-told TooLarge buffer)
+
+  pub some-filled : {whole : Header} → r ≡ Maps → whole ≡ grownBy steps header → HoldsSome w header steps → HoldsSheetOfSome w′ whole steps
+  some-filled e is X =
+      let (γ, found, small, H) = filled-as e (X .P) (X .S) (X .holds) in
+      rw is (record { S = filled (X .S) γ; holds = filled-held (X .holds) γ found H })
+
+  pub maps-filled : {whole : Header} {before after : List ℕ} {f : Filled} → r ≡ Maps → whole ≡ grownBy steps header
+      → SheetTold w′ whole steps before after f → TextTold w header steps before after f
+  maps-filled e is told P S B =
+      let (γ, found, small, H) = filled-as e P S B in
+      told-as (sym (small-text _ P S γ found small)) (told (filled S γ) (rw is (filled-held B γ found H)))
+
+-- ------------------------------------------------------------------ 43, 30 and 31
+
+bind-parts : {A : Type 0} (a b : Out (Unit {0})) (c : Out A) → ((a >>= λ first. b) >>= λ both. c) ≡ (a >>= λ first. b >>= λ both. c)
+unfolding _>>=_
+bind-parts (stop x) b c = refl
+bind-parts (on x) b c = refl
+
+module _ (buffer : ℕ) (P : Program) (S : Split) where
+  many : 256 < S .header .maps → afterReading buffer P S ≡ stop TooManyMaps
+  unfolding afterReading demand _>>=_ givenLimit
+  many h = rw (lt-leb _ _ h)
+
+  few-maps : S .header .maps ≤ 256 → afterReading buffer P S ≡ ((startAtMostOne P S >>= λ whole. ruledFor Fill P S) >>= λ holds. filledText buffer P S)
+  unfolding afterReading demand givenLimit ruledFor _>>=_
+  few-maps h = rw (le-leb _ _ h) (sym (bind-parts (startAtMostOne P S) (typed P S) (filledText buffer P S)))
+
+  after-rules : {r r′ : Ruling} → S .header .maps ≤ 256 → outcome r ≡ (startAtMostOne P S >>= λ whole. ruledFor Fill P S) → r ≡ r′
+      → afterReading buffer P S ≡ (outcome r′ >>= λ holds. filledText buffer P S)
+  after-rules h e same = few-maps h ∙ ap (_>>= λ holds. filledText buffer P S) (sym e ∙ ap outcome same)
+
+module _ (w : List ℕ) (header : Header) (steps : ℕ) where
+  pub many-told : (buffer : List ℕ) → 256 < header .maps → SheetsTold w header steps buffer buffer (Refused TooManyMaps)
+  many-told buffer h P S B =
+      told-as (sym (many _ P S (omega (arith, maps-told S header (B .headed), h)))) (refusal-told TooManyMaps buffer)
+
+  module _ {w′ : List ℕ} {r : Ruling} (few : header .maps ≤ 256)
+      (R : Ruled w Fill steps (header .denominator) (header .locations) (header .start .0) r w′) where
+    given-few : {P : Program} {S : Split} → HoldsBoth w header steps P S → S .header .maps ≤ 256
+    given-few {S = S} B = omega (arith, maps-told S header (B .headed), few)
+
+    -- the rules leave the sheets as they stand
+    both-kept : steps ≤ 256 → {P : Program} {S : Split} → HoldsBoth w header steps P S → HoldsBoth w′ header steps P S
+    both-kept short {P} {S} B =
+        let H = B .sheets in
+        let rows : length (S .rows) ≤ 256 = omega (arith, H .inRange .rowsCounted, H .stepsCounted) in
+        record {
+          sheets = record {
+            programText = H .programText;
+            wellFormed = H .wellFormed;
+            inRange = H .inRange;
+            program = program-kept (changed-wider 1024 16384 (omega arith) (omega arith) (R .changed)) (H .wellFormed .listing) (omega (arith, H .stepsCounted)) (H .program);
+            split = split-kept S (P .steps) (H .inRange) rows (R .changed) (H .split);
+            stepsCounted = H .stepsCounted;
+            denominatorGiven = H .denominatorGiven;
+            locationsGiven = H .locationsGiven;
+            startGiven = H .startGiven;
+          };
+          headed = B .headed;
+        }
+
+    pub some-kept : steps ≤ 256 → HoldsSome w header steps → HoldsSome w′ header steps
+    some-kept short X = record { P = X .P; S = X .S; holds = both-kept short (X .holds) }
+
+    pub rule-refused : (buffer : List ℕ) (x : Refusal) → r ≡ ruling.Refused x → SheetsTold w header steps buffer buffer (Refused x)
+    unfolding outcome _>>=_
+    rule-refused buffer x e P S B =
+        told-as (sym (after-rules _ P S (given-few B) (R .answers P S (B .sheets)) e)) (refusal-told x buffer)
+
+    pub rules-met : {before after : List ℕ} {f : Filled} → steps ≤ 256 → r ≡ ruling.Met → TextTold w′ header steps before after f
+        → SheetsTold w header steps before after f
+    unfolding outcome _>>=_
+    rules-met short e told P S B =
+        told-as (sym (after-rules _ P S (given-few B) (R .answers P S (B .sheets)) e)) (told P S (both-kept short B))
+
+-- ------------------------------------------------------------------ the split
+
+-- a program that is well formed, and the split's text
+module _ (p s : List ℕ) (P : Program) (F : WellFormedProgram p P) where
+  reads : program p ≡ on P
+  reads = well-formed-program p F
+
+  module _ (before : List ℕ) where
+    pub long-split-told : 65536 < length s → Tells (fill workspaceSize (length before) p s) before before (Refused LongSplit)
+    unfolding workspaceSize programLimit
+    long-split-told h =
+        told-as (sym (long-split 16384 (length before) p s (omega arith) (F .fits) P reads h)) (refusal-told LongSplit before)
+
+    module _ (fits : length s ≤ 65536) where
+      pub bad-split-told : (r : Refusal) → split Fill (P .steps) s ≡ stop r → Tells (fill workspaceSize (length before) p s) before before (Refused r)
+      unfolding workspaceSize programLimit
+      bad-split-told r e =
+          told-as (sym (split-refused 16384 (length before) p s (omega arith) (F .fits) P reads fits r e)) (refusal-told r before)
+
+      reading-done : (S : Split) → split Fill (P .steps) s ≡ on S → fill workspaceSize (length before) p s ≡ afterReading (length before) P S
+      unfolding fill afterReading workspaceSize programLimit splitLimit
+      reading-done S e =
+          goes-on-bind _ _ (passed 16384 16384 ShortWorkspace (omega arith))
+          (goes-on-bind _ _ (passed (length p) 16384 LongProgram (F .fits))
+          (goes-on-bind _ _ reads
+          (goes-on-bind _ _ (passed (length s) 65536 LongSplit fits)
+          (goes-on-bind _ _ e refl))))
+
+      -- the work space after reading, with the header that was read
+      module _ {w w′ : List ℕ} (header : Header) {steps : ℕ} (S : Split) (e : split Fill (P .steps) s ≡ on S)
+          (changed : ChangedWithin 1024 16384 w w′) (holds : HoldsProgram w P) (holds′ : HoldsSplit w′ S) (counted : steps ≡ length (P .steps))
+          (short : steps ≤ 256) (headed : S .header ≡ headerTold header) where
+        read-held : HoldsBoth w′ header steps P S
+        unfolding splitLimit
+        read-held = record {
+          sheets = record {
+            programText = p;
+            wellFormed = F;
+            inRange = well-formed-in-range (split-well-formed Fill (P .steps) s fits e);
+            program = program-kept changed (F .listing) (omega (arith, counted, short)) holds;
+            split = holds′;
+            stepsCounted = counted;
+            denominatorGiven = denominator-told S header headed;
+            locationsGiven = locations-told S header headed;
+            startGiven = start-told S header headed;
+          };
+          headed = headed;
+        }
+
+        pub some-read : HoldsSome w′ header steps
+        some-read = record { P = P; S = S; holds = read-held }
+
+        pub good-split-told : {after : List ℕ} {f : Filled} → SheetsTold w′ header steps before after f
+            → Tells (fill workspaceSize (length before) p s) before after f
+        good-split-told told = told-as (sym (reading-done S e)) (told P S read-held)
+
+-- ------------------------------------------------------------------ the program
+
+module _ (p s before : List ℕ) where
+  pub long-program-told : 16384 < length p → Tells (fill workspaceSize (length before) p s) before before (Refused LongProgram)
+  unfolding workspaceSize
+  long-program-told h = told-as (sym (long-program 16384 (length before) p s (omega arith) h)) (refusal-told LongProgram before)
+
+  pub bad-program-told : length p ≤ 16384 → (r : Refusal) → program p ≡ stop r → Tells (fill workspaceSize (length before) p s) before before (Refused r)
+  unfolding workspaceSize
+  bad-program-told fits r e =
+      told-as (sym (program-refused 16384 (length before) p s (omega arith) fits r e)) (refusal-told r before)

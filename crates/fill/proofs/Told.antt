@@ -1,0 +1,58 @@
+-- What a stage of filling tells: a refusal with the buffer as it was, or a text in front of the buffer.
+use mathlib.Core.Path.{_≡_, refl, sym, ap, _∙_}
+use mathlib.Core.List.{List, _++_}
+use Prim.Native.Nat.{ℕ, _+_, _≤_, _<_, min}
+use native.Mathlib.Omega.{arith}
+use lib.ListN.{length, drop}
+use borrow.Author.Tests.{le-leb, lt-leb}
+use Rattle.spec.specs.Reading.{Out, stop, on, _>>=_, demand}
+use Rattle.spec.specs.Split.{splitLimit}
+use Rattle.spec.specs.Verdict.{four}
+use Rattle.spec.specs.declared.Refusal.{Refusal}
+use Rattle.spec.specs.declared.Refusal.the-variants.{TooLarge}
+use Rattle.writer.specs.Buffer.{Written}
+use Rattle.writer.proofs.Buffer.{overwrite-front}
+use Rattle.filling.specs.Answer.{numbersOf, bufferAfter}
+use Rattle.fill.specs.Numbers.{numbered}
+use Rattle.fill.specs.Stages.{Tells, fitted}
+use Rattle.fill.specs.declared.Filled.{Filled}
+use Rattle.fill.specs.declared.Filled.the-variants.{Written as WrittenSheet, Refused}
+
+-- ------------------------------------------------------------------ outcomes
+
+pub refusal-told : (r : Refusal) (buffer : List ℕ) → Tells (stop r) buffer buffer (Refused r)
+unfolding numbered numbersOf bufferAfter
+refusal-told r buffer = record { numbers = refl; buffer = refl }
+
+pub text-told : {n : ℕ} {after : List ℕ} (text buffer : List ℕ) → n ≡ length text → after ≡ text ++ drop (length text) buffer
+    → Tells (on text) buffer after (WrittenSheet n)
+unfolding numbered numbersOf bufferAfter four
+text-told text buffer e h = record { numbers = rw e; buffer = h }
+
+-- the same outcome, found in another way
+pub told-as : {o o′ : Out (List ℕ)} {before after : List ℕ} {f : Filled} → o ≡ o′ → Tells o before after f → Tells o′ before after f
+told-as e t = record { numbers = t .numbers ∙ ap numbersOf e; buffer = rw (← e) (t .buffer) }
+
+-- ------------------------------------------------------------------ 42 by length
+
+module _ (text before : List ℕ) where
+  over : min 65536 (length before) < length text → fitted (length before) text ≡ stop TooLarge
+  unfolding fitted demand _>>=_ splitLimit
+  over h = rw (lt-leb _ _ h)
+
+  within : length text ≤ min 65536 (length before) → fitted (length before) text ≡ on text
+  unfolding fitted demand _>>=_ splitLimit
+  within h = rw (le-leb _ _ h)
+
+  -- n is the length that was counted
+  module _ {n : ℕ} (counted : n ≡ min (0 + length text) 18446744073709551615) where
+    pub too-long : 65536 < n → Tells (fitted (length before) text) before before (Refused TooLarge)
+    too-long h = told-as (sym (over (omega arith))) (refusal-told TooLarge before)
+
+    pub no-room : length before < 18446744073709551616 → length before < n → Tells (fitted (length before) text) before before (Refused TooLarge)
+    no-room short h = told-as (sym (over (omega arith))) (refusal-told TooLarge before)
+
+    pub fits-told : {after : List ℕ} {next : ℕ} → n ≤ 65536 → n ≤ length before → Written before after 0 text next
+        → Tells (fitted (length before) text) before after (WrittenSheet n)
+    fits-told short room w =
+        told-as (sym (within (omega arith))) (text-told text before (omega arith) (w .holds ∙ overwrite-front before text (omega arith)))

@@ -1,0 +1,63 @@
+use mathlib.Core.Path.{refl, sym, ap, _∙_}
+use lib.Seq.{length-take-le}
+use Rattle.workspace.proofs.Lent.{first-again, then-cleared, short-kept, long-cleared}
+use Rattle.filling.proofs.Reasons.{short-workspace}
+use Rattle.spec.specs.declared.Refusal.the-variants.{ShortWorkspace}
+use Rattle.fill.proofs.Told.{refusal-told, told-as}
+use Rattle.fill.proofs.Promises.{room-enough, promises-kept}
+use borrow.Author.Needs.{needs}
+use Rattle.fill.proofs.fill.Statement.{statement}
+use Rattle.fill.proofs.fill.Tie as tie
+
+returns : tie.Need-returns
+returns c =
+    promises-kept _ _ _ _ _ _ _ (told-as (sym (short-workspace _ _ _ _ (c .if1 .taken))) (refusal-told ShortWorkspace _)) (short-kept _ (c .if1 .taken)) (refl, refl)
+
+slice-relend-prefix-fill-program : tie.Need-slice-relend-prefix-fill-program
+slice-relend-prefix-fill-program c = search needs
+
+slice-aggregate-fill-program : tie.Need-slice-aggregate-fill-program
+slice-aggregate-fill-program c = sym (length-take-le 16384 (c .before .before .before .before .before .before .args .work .now) (c .before .if1 .left))
+
+fill-program-requires : tie.Need-fill-program-requires
+fill-program-requires c κs = length-take-le 16384 (c .before .before .before .before .before .before .before .args .work .now) (c .before .before .if1 .left)
+
+slice-relend-prefix-clear : tie.Need-slice-relend-prefix-clear
+slice-relend-prefix-clear c = search needs
+
+slice-aggregate-clear : tie.Need-slice-aggregate-clear
+slice-aggregate-clear c =
+    let filled = c .before .before .before .before .before .fill-program in
+    sym (first-again 16384 (c .before .before .before .before .before .before .before .before .before .before .before .before .before .args .work .now) (filled .last .1 .1 .0) (c .before .before .before .before .before .before .before .before .if1 .left) (filled .kept .1 .1 .0))
+
+clear-requires : tie.Need-clear-requires
+clear-requires c κs = search needs
+
+same-length : tie.Need-same-length
+same-length c = search needs
+
+same-length-2 : tie.Need-same-length-2
+same-length-2 c = search needs
+
+returns-2 : tie.Need-returns-2
+returns-2 c =
+    let enough = c .before .before .before .before .before .before .before .before .before .before .before .if1 .left in
+    let filled = c .before .before .before .before .before .before .before .before .fill-program in
+    promises-kept _ _ _ _ _ _ _ (told-as (room-enough _ _ _ _ enough) (filled .ensures))
+    (long-cleared _ _ enough (then-cleared 16384 (c .before .before .before .before .before .before .before .before .before .before .before .before .before .before .before .before .args .work .now) (filled .last .1 .1 .0) enough (filled .kept .1 .1 .0) _ (c .before .before .clear .ensures)))
+    (refl, refl)
+
+pub fill-spec : {M : Type 1} → statement M
+fill-spec =
+    tie.close
+    (tie.spec
+    returns
+    slice-relend-prefix-fill-program
+    slice-aggregate-fill-program
+    fill-program-requires
+    slice-relend-prefix-clear
+    slice-aggregate-clear
+    clear-requires
+    same-length
+    same-length-2
+    returns-2)

@@ -1,0 +1,59 @@
+use mathlib.Core.Path.{_∙_}
+use Rattle.fill.proofs.Stages.{many-told, some-kept, rule-refused, rules-met}
+use borrow.Author.Needs.{needs}
+use Rattle.fill.proofs.fill_sheets.Statement.{statement}
+use Rattle.fill.proofs.fill_sheets.Tie as tie
+
+returns : tie.Need-returns
+returns c = many-told _ _ _ _ (c .if1 .taken)
+
+rule-requires : tie.Need-rule-requires
+rule-requires c κs = search needs
+
+enum-known-r : tie.Need-enum-known-r
+enum-known-r c = search needs
+
+enum-told : tie.Need-enum-told
+enum-told c = search needs
+
+fill-held-requires : tie.Need-fill-held-requires
+fill-held-requires c κs =
+    let start = c .before .before .before .before .before .before .before .before .before .before .before .before in
+    let few = c .before .before .before .before .before .before .before .before .if1 .left in (
+      c .before .before .before .before .before .before .rule .kept .0 ∙ start .pre .0,
+      start .pre .1,
+      few,
+      some-kept _ _ _ few (c .before .before .before .before .before .before .rule .ensures) (start .pre .1) (start .pre .3),
+    )
+
+same-length : tie.Need-same-length
+same-length c = search needs
+
+returns-2 : tie.Need-returns-2
+returns-2 c = rule-refused _ _ _ (c .before .before .before .before .before .before .before .if1 .left) (c .before .before .before .before .before .rule .ensures) _ _ (c .before .r .given .1)
+
+same-length-2 : tie.Need-same-length-2
+same-length-2 c = search needs
+
+same-length-3 : tie.Need-same-length-3
+same-length-3 c = search needs
+
+returns-3 : tie.Need-returns-3
+returns-3 c =
+    let start = c .before .before .before .before .before .before .before .before .before .before .before .before .before .before .before .before .before in
+    rules-met _ _ _ (c .before .before .before .before .before .before .before .before .before .before .before .before .before .if1 .left) (c .before .before .before .before .before .before .before .before .before .before .before .rule .ensures) (start .pre .1) (c .before .before .before .before .before .before .before .enum-told .given .1) (c .before .before .before .before .fill-held .ensures)
+
+pub fill-sheets-spec : {M : Type 1} → statement M
+fill-sheets-spec =
+    tie.close
+    (tie.spec
+    returns
+    rule-requires
+    enum-known-r
+    enum-told
+    fill-held-requires
+    same-length
+    returns-2
+    same-length-2
+    same-length-3
+    returns-3)

@@ -1,0 +1,112 @@
+-- The loop's invariant: the columns so far.
+use mathlib.Core.Path.{_∙_}
+use mathlib.Core.Logic.{⊎-elim}
+use Prim.Native.Nat.{_≤_, _-_}
+use native.Mathlib.Omega.{arith}
+use borrow.Author.Needs.{needs}
+use Rattle.fill.proofs.Column.{given-few}
+use Rattle.fill.proofs.SoFar.{SoFar, none-so-far, given-still, large-again, maps-again}
+use Rattle.fill.proofs.Whole.{filled-nothing, filled-large, filled-maps}
+use Rattle.fill.proofs.maps.fill_maps.Statement.{statement}
+use Rattle.fill.proofs.maps.fill_maps.Tie as tie
+
+abbrev Inv-loop : tie.InvT-loop
+Inv-loop work₀ steps denominator locations maps start large₀ l₀ work large l = (l ≤ locations) × SoFar work₀ work steps denominator locations maps start l large
+
+abbrev μ-loop : tie.MeasureT-loop
+μ-loop work₀ steps denominator locations maps start large₀ l₀ work large l = locations - l
+
+loop-holds : tie.Need-loop-holds Inv-loop μ-loop
+loop-holds c = (omega arith, none-so-far _ _ _ _ _ _)
+
+fill-column-requires : tie.Need-fill-column-requires Inv-loop μ-loop
+fill-column-requires c κs =
+    let turn = c .before in
+    let (_, Z) = turn .before .loop .inv in
+    record { locations = _; given = given-still (Z .behind) (turn .before .before .before .pre); within = turn .loop-test .taken }
+
+enum-told : tie.Need-enum-told Inv-loop μ-loop
+enum-told c = search needs
+
+same-length : tie.Need-same-length Inv-loop μ-loop
+same-length c = search needs
+
+returns : tie.Need-returns Inv-loop μ-loop
+returns c =
+    let at-column = c .before .before .before .before in
+    let turn = at-column .before .before in
+    let (_, Z) = turn .before .loop .inv in
+    filled-nothing _ _ _ _ _ _ _ _ _ Z (turn .loop-test .taken) (rw (c .enum-told .given .1) at (at-column .fill-column .ensures))
+
+enum-told-2 : tie.Need-enum-told-2 Inv-loop μ-loop
+enum-told-2 c = search needs
+
+enum-told-3 : tie.Need-enum-told-3 Inv-loop μ-loop
+enum-told-3 c = search needs
+
+add-l : tie.Need-add-l Inv-loop μ-loop
+add-l c = search needs
+
+loop-less : tie.Need-loop-less Inv-loop μ-loop
+loop-less c = search needs
+
+loop-again : tie.Need-loop-again Inv-loop μ-loop
+loop-again c =
+    let at-column = c .before .before .before in
+    let turn = at-column .before .before in
+    let (_, Z) = turn .before .loop .inv in
+    let within = turn .loop-test .taken in (
+      omega arith,
+      ⊎-elim
+          (λ came. rw (came .2) (large-again _ _ _ _ _ _ _ _ _ _ Z within (rw (came .1 .given .1) at (at-column .fill-column .ensures))))
+          (λ came. rw (came .2) (maps-again _ _ _ _ _ _ _ _ _ _ Z within (rw (came .1 .given .1) at (at-column .fill-column .ensures))))
+          (c .match .came),
+    )
+
+same-length-2 : tie.Need-same-length-2 Inv-loop μ-loop
+same-length-2 c = search needs
+
+returns-2 : tie.Need-returns-2 Inv-loop μ-loop
+returns-2 c =
+    let (at-most, Z) = c .before .before .loop .inv in
+    filled-large _ _ _ _ _ _ _ _ _ Z (omega (arith, c .before .loop-test .left)) (c .if1 .taken)
+
+show-maps-requires : tie.Need-show-maps-requires Inv-loop μ-loop
+show-maps-requires c κs =
+    let (at-most, Z) = c .before .before .before .loop .inv in
+    let G = c .before .before .before .before .before .pre in
+    (Z .behind .long ∙ G .long, given-few G, G .few)
+
+same-length-3 : tie.Need-same-length-3 Inv-loop μ-loop
+same-length-3 c = search needs
+
+returns-3 : tie.Need-returns-3 Inv-loop μ-loop
+returns-3 c =
+    let at-show = c .before .before in
+    let test = at-show .before .before in
+    let ended = test .before in
+    let (at-most, Z) = ended .before .loop .inv in
+    let G = ended .before .before .before .pre in
+    filled-maps _ _ _ _ _ _ _ _ _ Z (omega (arith, ended .loop-test .left)) (test .if1 .left) (G .few) (G .long) _ (at-show .show-maps .ensures)
+
+pub fill-maps-spec : {M : Type 1} → statement M
+fill-maps-spec =
+    tie.close
+    (tie.spec
+    Inv-loop
+    μ-loop
+    loop-holds
+    fill-column-requires
+    enum-told
+    same-length
+    returns
+    enum-told-2
+    enum-told-3
+    add-l
+    loop-less
+    loop-again
+    same-length-2
+    returns-2
+    show-maps-requires
+    same-length-3
+    returns-3)

@@ -1,0 +1,96 @@
+-- The loop's invariant: the posts of the steps below i are stored, and nothing else is changed.
+use mathlib.Core.Path.{refl, _∙_}
+use Prim.Native.Nat.{_≤_, _-_}
+use native.Mathlib.Omega.{arith}
+use borrow.Author.Needs.{needs}
+use lib.ListN.{length}
+use Rattle.fill.specs.Columns.{OneColumn}
+use Rattle.fill.proofs.Fits.{fits-each}
+use Rattle.fill.proofs.Stores.{StoredTo, none-stored, column-again, stored-again}
+use Rattle.fill.proofs.maps.store_column.Statement.{statement}
+use Rattle.fill.proofs.maps.store_column.Tie as tie
+
+abbrev Inv-loop : tie.InvT-loop
+Inv-loop work₀ posts maps location i₀ work i = (i ≤ length posts) × OneColumn maps location work₀ work × StoredTo i work posts maps location
+
+abbrev μ-loop : tie.MeasureT-loop
+μ-loop work₀ posts maps location i₀ work i = length posts - i
+
+loop-holds : tie.Need-loop-holds Inv-loop μ-loop
+loop-holds c = let (one, stored) = none-stored _ _ _ _ in (omega arith, one, stored)
+
+add-place : tie.Need-add-place Inv-loop μ-loop
+add-place c = search needs
+
+mul-place : tie.Need-mul-place Inv-loop μ-loop
+mul-place c = search needs
+
+add-place-2 : tie.Need-add-place-2 Inv-loop μ-loop
+add-place-2 c = search needs
+
+add-place-3 : tie.Need-add-place-3 Inv-loop μ-loop
+add-place-3 c = search needs
+
+mul-work : tie.Need-mul-work Inv-loop μ-loop
+mul-work c = search needs
+
+shared-slice-read-work : tie.Need-shared-slice-read-work Inv-loop μ-loop
+shared-slice-read-work c = search needs
+
+cast-work : tie.Need-cast-work Inv-loop μ-loop
+cast-work c =
+    let turn = c .before in
+    let start = turn .before .before in
+    omega (arith, fits-each _ (start .pre .1) _ (turn .loop-test .taken))
+
+mul-work-2 : tie.Need-mul-work-2 Inv-loop μ-loop
+mul-work-2 c = search needs
+
+slice-write-work : tie.Need-slice-write-work Inv-loop μ-loop
+slice-write-work c = search needs
+
+add-i : tie.Need-add-i Inv-loop μ-loop
+add-i c = search needs
+
+loop-less : tie.Need-loop-less Inv-loop μ-loop
+loop-less c = search needs
+
+loop-again : tie.Need-loop-again Inv-loop μ-loop
+loop-again c =
+    let turn = c .before in
+    let R = turn .before .before .pre .0 in
+    let (_, one, stored) = turn .before .loop .inv in (
+      omega arith,
+      column-again _ _ _ _ _ one (R .within) (omega (arith, R .room)) (one .behind .long ∙ R .long) _,
+      stored-again _ _ _ _ _ one (R .within) (omega (arith, R .room)) (one .behind .long ∙ R .long) _ _ refl stored,
+    )
+
+same-length : tie.Need-same-length Inv-loop μ-loop
+same-length c = search needs
+
+returns : tie.Need-returns Inv-loop μ-loop
+returns c =
+    let (at-end, one, stored) = c .before .loop .inv in
+    (one, record { at = λ i h. stored .at i (omega (arith, c .loop-test .left)) })
+
+pub store-column-spec : {M : Type 1} → statement M
+store-column-spec =
+    tie.close
+    (tie.spec
+    Inv-loop
+    μ-loop
+    loop-holds
+    add-place
+    mul-place
+    add-place-2
+    add-place-3
+    mul-work
+    shared-slice-read-work
+    cast-work
+    mul-work-2
+    slice-write-work
+    add-i
+    loop-less
+    loop-again
+    same-length
+    returns)

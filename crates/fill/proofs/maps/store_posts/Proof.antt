@@ -1,0 +1,31 @@
+use mathlib.Core.Path.{sym, _∙_}
+use borrow.Author.Needs.{needs}
+use Rattle.fill.proofs.Stores.{nothing-stored}
+use Rattle.fill.proofs.maps.store_posts.Statement.{statement}
+use Rattle.fill.proofs.maps.store_posts.Tie as tie
+
+posts-fit-requires : tie.Need-posts-fit-requires
+posts-fit-requires c κs = tt
+
+store-column-requires : tie.Need-store-column-requires
+store-column-requires c κs =
+    let test = c .before in
+    let at-fit = test .before in
+    (at-fit .before .before .before .pre, sym (at-fit .posts-fit .ensures) ∙ test .if1 .taken)
+
+same-length : tie.Need-same-length
+same-length c = search needs
+
+returns : tie.Need-returns
+returns c =
+    let at-store = c .before .before in
+    let test = at-store .before .before in
+    let (one, stored) = at-store .store-column .ensures in
+    record { fits = sym (test .if1 .taken) ∙ test .before .posts-fit .ensures; one = one; stored = λ e. stored }
+
+returns-2 : tie.Need-returns-2
+returns-2 c = nothing-stored _ _ _ _ (sym (c .if1 .left) ∙ c .before .posts-fit .ensures)
+
+pub store-posts-spec : {M : Type 1} → statement M
+store-posts-spec =
+    tie.close (tie.spec posts-fit-requires store-column-requires same-length returns returns-2)

@@ -1,0 +1,48 @@
+-- The length is counted by a first run over nothing; the second run writes, if there is room.
+use native.Mathlib.Omega.{arith}
+use borrow.Author.Needs.{needs}
+use Rattle.sheets.specs.Contract.{SheetWritten}
+use Rattle.fill.proofs.Told.{too-long, no-room, fits-told}
+use Rattle.fill.proofs.write_filled.Statement.{statement}
+use Rattle.fill.proofs.write_filled.Tie as tie
+
+slice-aggregate-write-sheet : tie.Need-slice-aggregate-write-sheet
+slice-aggregate-write-sheet c = search needs
+
+write-sheet-requires : tie.Need-write-sheet-requires
+write-sheet-requires c κs = search needs
+
+returns : tie.Need-returns
+unfolding SheetWritten
+returns c S holds = too-long _ _ (c .before .before .write-sheet .ensures S holds .moved) (c .if1 .taken)
+
+returns-2 : tie.Need-returns-2
+unfolding SheetWritten
+returns-2 c S holds = no-room _ _ (c .before .before .before .write-sheet .ensures S holds .moved) (search needs) (c .if2 .taken)
+
+write-sheet-requires-2 : tie.Need-write-sheet-requires-2
+write-sheet-requires-2 c κs = search needs
+
+cast-t15 : tie.Need-cast-t15
+cast-t15 c = search needs
+
+same-length : tie.Need-same-length
+same-length c = search needs
+
+returns-3 : tie.Need-returns-3
+unfolding SheetWritten
+returns-3 c S holds =
+    fits-told _ _ (c .before .before .before .before .before .before .before .write-sheet .ensures S holds .moved) (c .before .before .before .before .before .if1 .left) (c .before .before .before .before .if2 .left) (c .before .before .write-sheet2 .ensures S holds)
+
+pub write-filled-spec : {M : Type 1} → statement M
+write-filled-spec =
+    tie.close
+    (tie.spec
+    slice-aggregate-write-sheet
+    write-sheet-requires
+    returns
+    returns-2
+    write-sheet-requires-2
+    cast-t15
+    same-length
+    returns-3)

@@ -1,0 +1,4 @@
+pub mod FilledMaps
+pub mod Columns
+pub mod Numbers
+pub mod Stages

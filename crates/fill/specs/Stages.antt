@@ -1,0 +1,89 @@
+-- What each stage of filling promises the one before it.
+use mathlib.Core.Path.{_≡_}
+use mathlib.Core.List.{List}
+use Prim.Native.Nat.{ℕ, _+_, min}
+use lib.Dec.{leb}
+use lib.ListN.{length}
+use Rattle.spec.specs.Reading.{Out, on, _>>=_, demand}
+use Rattle.spec.specs.Program.{Program}
+use Rattle.spec.specs.Split.{Split, splitLimit}
+use Rattle.spec.specs.WellFormed.{WellFormedProgram}
+use Rattle.spec.specs.Workspace.{workspaceSize}
+use Rattle.spec.specs.Verdict.{startAtMostOne, typed}
+use Rattle.spec.specs.declared.Refusal.the-variants.{TooLarge, TooManyMaps}
+use Rattle.workspace.specs.Holds.{HoldsProgram}
+use Rattle.workspace.specs.Sheets.{HoldsSheets}
+use Rattle.split.specs.Lines.{headerTold}
+use Rattle.split.specs.declared.Header.{Header}
+use Rattle.writer.specs.Sheet.{written}
+use Rattle.sheets.specs.Contract.{HoldsSheet}
+use Rattle.filling.specs.Answer.{givenLimit, filledText, fill, numbersOf, bufferAfter}
+use Rattle.fill.specs.declared.Filled.{Filled}
+use Rattle.fill.specs.Numbers.{numbered}
+
+-- the four numbers, and the buffer before and after, are those of an outcome
+pub record Tells (outcome : Out (List ℕ)) (before after : List ℕ) (f : Filled) : Type 0 where
+  pub numbers : numbered f ≡ numbersOf outcome
+  pub buffer : after ≡ bufferAfter outcome before
+
+-- "M grows by n"
+unfoldable pub grownBy : (steps : ℕ) → Header → Header
+grownBy steps header = record {
+  heading = header .heading;
+  denominator = header .denominator;
+  locations = header .locations;
+  types = header .types;
+  maps = header .maps + steps;
+  start = header .start;
+}
+
+-- 42 by length, else the text
+unfoldable pub fitted : (buffer : ℕ) → List ℕ → Out (List ℕ)
+fitted buffer text = demand (leb (length text) (min splitLimit buffer)) TooLarge >>= λ short. on text
+
+-- the sheet of whichever split the work space holds
+abbrev pub SheetTold : (w : List ℕ) (header : Header) (steps : ℕ) (before after : List ℕ) → Filled → Type 0
+SheetTold w header steps before after f =
+    (S : Split) → HoldsSheet w header steps S → Tells (fitted (length before) (written S)) before after f
+
+-- the work space holds both sheets, and the split has this header
+pub record HoldsBoth (w : List ℕ) (header : Header) (steps : ℕ) (P : Program) (S : Split) : Type 0 where
+  pub sheets : HoldsSheets w steps (header .denominator) (header .locations) (header .start .0) P S
+  pub headed : S .header ≡ headerTold header
+
+-- it holds some
+pub record HoldsSome (w : List ℕ) (header : Header) (steps : ℕ) : Type 0 where
+  pub P : Program
+  pub S : Split
+  pub holds : HoldsBoth w header steps P S
+
+-- 41 and 42, for whichever sheets the work space holds
+abbrev pub TextTold : (w : List ℕ) (header : Header) (steps : ℕ) (before after : List ℕ) → Filled → Type 0
+TextTold w header steps before after f =
+    (P : Program) (S : Split) → HoldsBoth w header steps P S → Tells (filledText (length before) P S) before after f
+
+-- 43, 30, 31, 41 and 42
+unfoldable pub afterReading : (buffer : ℕ) → Program → Split → Out (List ℕ)
+afterReading buffer P S = do
+  few ← demand (leb (S .header .maps) givenLimit) TooManyMaps
+  whole ← startAtMostOne P S
+  typesHold ← typed P S
+  filledText buffer P S
+
+abbrev pub SheetsTold : (w : List ℕ) (header : Header) (steps : ℕ) (before after : List ℕ) → Filled → Type 0
+SheetsTold w header steps before after f =
+    (P : Program) (S : Split) → HoldsBoth w header steps P S → Tells (afterReading (length before) P S) before after f
+
+-- the program of a well-formed sheet, with so many steps, stands in the work space
+pub record HoldsProgramOfSome (w : List ℕ) (steps : ℕ) : Type 0 where
+  pub programText : List ℕ
+  pub P : Program
+  pub wellFormed : WellFormedProgram programText P
+  pub holds : HoldsProgram w P
+  pub counted : steps ≡ length (P .steps)
+
+-- 20 and on, for whichever program the work space holds
+abbrev pub SplitTold : (w : List ℕ) (steps : ℕ) (splitText : List ℕ) (before after : List ℕ) → Filled → Type 0
+SplitTold w steps splitText before after f =
+    (programText : List ℕ) (P : Program) → WellFormedProgram programText P → HoldsProgram w P → steps ≡ length (P .steps)
+    → Tells (fill workspaceSize (length before) programText splitText) before after f

@@ -1,0 +1,172 @@
+// The offered call of filling, request (viii): a program and a split whose step lines leave their maps out in, the whole sheet out.
+mod maps;
+
+use maps::Found;
+use maps::fill_maps;
+use program::ProgramRead;
+use rules::Ruling;
+use sheets::write_sheet;
+use spec::Purpose;
+use spec::Refusal;
+use split::Header;
+use split::Sheet;
+ghost use mathlib.Core.Path.{_≡_};
+ghost use mathlib.Core.List.{List};
+ghost use mathlib.Core.Logic.{_↔_};
+ghost use Prim.Native.Nat.{_≤_};
+ghost use lib.ListN.{length, take};
+ghost use Rattle.spec.specs.Program.{Program};
+ghost use Rattle.spec.specs.Split.{Map, Split};
+ghost use Rattle.spec.specs.Verdict.{verdict, four};
+ghost use Rattle.spec.specs.Workspace.{workspaceSize, workspaceAfter};
+ghost use Rattle.spec.specs.declared.Answer.the-variants.{Accept};
+ghost use Rattle.filling.specs.AfterMaps.{AfterMaps};
+ghost use Rattle.filling.specs.Answer.{fill as filling, numbersOf, bufferAfter, Fillable, Written};
+ghost use Rattle.sheets.specs.Contract.{HoldsSome as HoldsSheetOfSome};
+ghost use Rattle.fill.specs.Numbers.{numbered};
+ghost use Rattle.fill.specs.Stages.{Tells, grownBy, HoldsSome, HoldsProgramOfSome, SheetTold, TextTold, SheetsTold, SplitTold};
+
+// The most bytes that each sheet may have.
+const PROGRAM_LIMIT: usize = 16384;
+
+const SPLIT_LIMIT: usize = 65536;
+
+// The most maps that a sheet may give: one is added for each of up to 256 steps.
+const GIVEN_LIMIT: usize = 256;
+
+// The length of the sheet that is written, or the reason why none is.
+pub enum Filled {
+    Written(u32),
+    Refused(Refusal),
+}
+
+// The header of a sheet with a map more for each step.
+fn grown(header: Header, steps: usize) -> Header
+    requires { ⌜ (header .maps ≤ 256) × (steps ≤ 256) ⌝ }
+    ensures { λ h. ⌜ h ≡ grownBy steps header ⌝ }
+{
+    let heading = header.heading;
+    let start = header.start;
+    Header {
+        heading: heading,
+        denominator: header.denominator,
+        locations: header.locations,
+        types: header.types,
+        maps: header.maps + steps,
+        start: start,
+    }
+}
+
+// 42 for a sheet that is too long, else the sheet: the one that the work space holds. Its length is learned by writing it to nothing.
+fn write_filled(work: &[u32], header: Header, steps: usize, out: &mut [u8]) -> Filled
+    requires { ⌜ HoldsSheetOfSome (now work) header steps ⌝ }
+    ensures { λ f. ⌜ SheetTold (now (work .entry)) header steps (now (out .entry)) (now (out .exit)) f ⌝ }
+{
+    let mut nothing = [0u8; 0];
+    let length = write_sheet(&mut nothing, work, header, steps);
+    if SPLIT_LIMIT < length {
+        return Filled::Refused(Refusal::TooLarge);
+    }
+    if out.len() < length {
+        return Filled::Refused(Refusal::TooLarge);
+    }
+    write_sheet(out, work, header, steps);
+    Filled::Written(length as u32)
+}
+
+// 41 and 42, for the sheets that the work space holds.
+fn fill_held(work: &mut [u32], header: Header, steps: usize, out: &mut [u8]) -> Filled
+    requires { ⌜ (length (now work) ≡ 16384) × (steps ≤ 256) × (header .maps ≤ 256) × HoldsSome (now work) header steps ⌝ }
+    ensures { λ f. ⌜ TextTold (now (work .entry)) header steps (now (out .entry)) (now (out .exit)) f ⌝ }
+{
+    match fill_maps(
+        work,
+        steps,
+        header.denominator,
+        header.locations,
+        header.maps,
+        header.start.0,
+    ) {
+        Found::Nothing => Filled::Refused(Refusal::NoAfterMaps),
+        Found::Large => Filled::Refused(Refusal::TooLarge),
+        Found::Maps => {
+            let whole = grown(header, steps);
+            write_filled(work, whole, steps, out)
+        }
+    }
+}
+
+// 43 and on, for the sheets that the work space holds.
+fn fill_sheets(work: &mut [u32], header: Header, steps: usize, out: &mut [u8]) -> Filled
+    requires { ⌜ (length (now work) ≡ 16384) × (steps ≤ 256) × (header .locations ≤ 16) × HoldsSome (now work) header steps ⌝ }
+    ensures { λ f. ⌜ SheetsTold (now (work .entry)) header steps (now (out .entry)) (now (out .exit)) f ⌝ }
+{
+    if GIVEN_LIMIT < header.maps {
+        return Filled::Refused(Refusal::TooManyMaps);
+    }
+    match rules::rule(
+        work,
+        Purpose::Fill,
+        steps,
+        header.denominator,
+        header.locations,
+        header.start.0,
+    ) {
+        Ruling::Refused(r) => Filled::Refused(r),
+        Ruling::Met => fill_held(work, header, steps, out),
+    }
+}
+
+// 20 and on, for the program that the work space holds.
+fn fill_split(split: &[u8], steps: usize, work: &mut [u32], out: &mut [u8]) -> Filled
+    requires { ⌜ (length (now work) ≡ 16384) × (steps ≤ 256) × HoldsProgramOfSome (now work) steps ⌝ }
+    ensures { λ f. ⌜ SplitTold (now (work .entry)) steps (now (split .entry)) (now (out .entry)) (now (out .exit)) f ⌝ }
+{
+    if SPLIT_LIMIT < split.len() {
+        return Filled::Refused(Refusal::LongSplit);
+    }
+    match split::read(split, Purpose::Fill, steps, work) {
+        Sheet::Refused(r) => Filled::Refused(r),
+        Sheet::Read(header) => fill_sheets(work, header, steps, out),
+    }
+}
+
+// 10 and on, in a work space that is as long as document 01 wants.
+fn fill_program(program: &[u8], split: &[u8], work: &mut [u32], out: &mut [u8]) -> Filled
+    requires { ⌜ length (now work) ≡ 16384 ⌝ }
+    ensures { λ f. ⌜ Tells (filling workspaceSize (length (now (out .entry))) (now (program .entry)) (now (split .entry))) (now (out .entry)) (now (out .exit)) f ⌝ }
+{
+    if PROGRAM_LIMIT < program.len() {
+        return Filled::Refused(Refusal::LongProgram);
+    }
+    match program::read(program, work) {
+        ProgramRead::Refused(r) => Filled::Refused(r),
+        ProgramRead::Read(steps) => fill_split(split, steps, work, out),
+    }
+}
+
+// The whole sheet for a pair of texts, in front of the buffer `out`. What document 02 asks of it, clause by clause:
+// answer: the four numbers are those that request (viii) gives, for every input;
+// written: the buffer is the filled text and then what it held; on every refusal it is as it was;
+// cleared: the first 16,384 numbers of the work space are 0 afterwards and the rest is as before; a shorter one is as it was;
+// unchanged: both texts are as they were;
+// solvable: with both sheets well formed, at most 256 maps, 30 and every (T) condition met, the answer is 41 exactly when no maps of
+// whole numbers, however large, pass all flow and access conditions;
+// greatest: the text written is that of the split with the greatest such maps;
+// accepted: document 01's answer to the program and the text written is ACCEPT.
+pub fn fill(program: &[u8], split: &[u8], work: &mut [u32], out: &mut [u8]) -> Filled
+    ensures answer { λ f. ⌜ numbered f ≡ numbersOf (filling (length (now (work .entry))) (length (now (out .entry))) (now (program .entry)) (now (split .entry))) ⌝ }
+    ensures written { λ f. ⌜ now (out .exit) ≡ bufferAfter (filling (length (now (work .entry))) (length (now (out .entry))) (now (program .entry)) (now (split .entry))) (now (out .entry)) ⌝ }
+    ensures cleared { λ f. ⌜ now (work .exit) ≡ workspaceAfter (now (work .entry)) ⌝ }
+    ensures unchanged { λ f. ⌜ (now (program .exit) ≡ now (program .entry)) × (now (split .exit) ≡ now (split .entry)) ⌝ }
+    ensures solvable { λ f. ⌜ ((P : Program) (S : Split) → Fillable (length (now (work .entry))) (now (program .entry)) (now (split .entry)) P S → (numbered f ≡ four 41 0 0 0) ↔ ((σ : List Map) → AfterMaps P S σ → ⊥)) ⌝ }
+    ensures greatest { λ f. ⌜ (numbered f .number ≡ 0 → Written (length (now (work .entry))) (length (now (out .entry))) (now (program .entry)) (now (split .entry)) (take (numbered f .line) (now (out .exit)))) ⌝ }
+    ensures accepted { λ f. ⌜ (numbered f .number ≡ 0 → verdict (length (now (work .entry))) (now (program .entry)) (take (numbered f .line) (now (out .exit))) ≡ Accept) ⌝ }
+{
+    if work.len() < workspace::SIZE {
+        return Filled::Refused(Refusal::ShortWorkspace);
+    }
+    let f = fill_program(program, split, &mut work[..16384], out);
+    workspace::clear(&mut work[..16384]);
+    f
+}

@@ -1,0 +1,135 @@
+// The greatest after-maps, one location after the other, stored as maps behind the given ones.
+use pass::Column;
+use pass::fill_location;
+use workspace::MAPS;
+use workspace::POSTS;
+use workspace::STRIDE;
+ghost use mathlib.Core.Path.{_≡_};
+ghost use mathlib.Core.Bool.{true};
+ghost use Prim.Native.Nat.{_+_, _≤_, _<_};
+ghost use lib.ListN.{length};
+ghost use Rattle.filling.specs.Answer.{numberLimit, mapAtMost};
+ghost use Rattle.fill.specs.Columns.{Room, ColumnStored, OneColumn, PostsStored, ColumnGiven, ColumnFilled, PostsShown};
+ghost use Rattle.fill.specs.FilledMaps.{Given, FilledMaps};
+
+// The largest number that a map may have.
+const LARGEST: u64 = 1000000000;
+
+// No after-maps; greatest ones with a number that no map may have; or maps that stand in the work space.
+pub enum Found {
+    Nothing,
+    Large,
+    Maps,
+}
+
+// Whether no post is larger than a map can have.
+fn posts_fit(posts: &[u64]) -> bool
+    ensures { λ r. ⌜ r ≡ mapAtMost numberLimit (now (posts .entry)) ⌝ }
+{
+    let mut i = 0;
+    while i < posts.len() {
+        if LARGEST < posts[i] {
+            return false;
+        }
+        i += 1;
+    }
+    true
+}
+
+// Stores the posts at a location in the new maps, the first of which has the number `maps`.
+fn store_column(work: &mut [u32], posts: &[u64], maps: usize, location: usize)
+    requires { ⌜ Room (now work) (now posts) maps location × (mapAtMost numberLimit (now posts) ≡ true) ⌝ }
+    ensures { λ _. ⌜ OneColumn maps location (now (work .entry)) (now (work .exit)) × ColumnStored (now (work .exit)) maps location (now (posts .entry)) ⌝ }
+{
+    let mut i = 0;
+    while i < posts.len() {
+        let place = MAPS + STRIDE * (maps + i) + location;
+        work[place] = posts[i] as u32;
+        i += 1;
+    }
+}
+
+// Stores the posts at a location in the new maps, if no post is larger than a map can have; whether that is so.
+fn store_posts(work: &mut [u32], posts: &[u64], maps: usize, location: usize) -> bool
+    requires { ⌜ Room (now work) (now posts) maps location ⌝ }
+    ensures { λ r. ⌜ PostsStored (now (posts .entry)) maps location r (now (work .entry)) (now (work .exit)) ⌝ }
+{
+    if posts_fit(posts) {
+        store_column(work, posts, maps, location);
+        return true;
+    }
+    false
+}
+
+// Stores the greatest posts at a location in the new maps, if there are some and none is larger than a map can have.
+fn fill_column(
+    work: &mut [u32],
+    steps: usize,
+    denominator: u32,
+    maps: usize,
+    start: u32,
+    location: usize,
+) -> Found
+    requires { ⌜ ColumnGiven (now work) steps denominator maps start location ⌝ }
+    ensures { λ r. ⌜ ColumnFilled (now (work .entry)) steps denominator maps start location r (now (work .exit)) ⌝ }
+{
+    let mut posts = [0u64; 256];
+    let column = Column {
+        location: location as u32,
+        denominator: denominator,
+    };
+    if !fill_location(work, &mut posts, column, start) {
+        return Found::Nothing;
+    }
+    if !store_posts(work, &posts[..steps], maps, location) {
+        return Found::Large;
+    }
+    Found::Maps
+}
+
+// Each step shows a new map of its own.
+fn show_maps(work: &mut [u32], steps: usize, maps: usize)
+    requires { ⌜ (length (now work) ≡ 16384) × (steps ≤ 256) × (maps ≤ 256) ⌝ }
+    ensures { λ _. ⌜ PostsShown steps maps (now (work .entry)) (now (work .exit)) ⌝ }
+{
+    let mut i = 0;
+    while i < steps {
+        let shown = maps + i;
+        work[POSTS + i] = shown as u32;
+        i += 1;
+    }
+}
+
+// The greatest after-maps of the sheets that the work space holds, filled in there: the map of step i has the number `maps` + i.
+// That there are none is told at the first location without posts; that a number is too large, once every location has some.
+pub fn fill_maps(
+    work: &mut [u32],
+    steps: usize,
+    denominator: u32,
+    locations: usize,
+    maps: usize,
+    start: u32,
+) -> Found
+    requires { ⌜ Given (now work) steps denominator locations maps start ⌝ }
+    ensures { λ r. ⌜ FilledMaps (now (work .entry)) steps denominator locations maps start r (now (work .exit)) ⌝ }
+{
+    let mut large = false;
+    let mut l = 0;
+    while l < locations {
+        match fill_column(work, steps, denominator, maps, start, l) {
+            Found::Nothing => {
+                return Found::Nothing;
+            }
+            Found::Large => {
+                large = true;
+            }
+            Found::Maps => {}
+        }
+        l += 1;
+    }
+    if large {
+        return Found::Large;
+    }
+    show_maps(work, steps, maps);
+    Found::Maps
+}

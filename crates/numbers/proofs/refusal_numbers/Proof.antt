@@ -1,0 +1,258 @@
+use mathlib.Core.Path.{ap, sym, _∙_}
+use Rattle.spec.specs.declared.Answer.the-variants.{Refuse}
+use Rattle.spec.specs.Verdict.{returned}
+use borrow.Author.Needs.{needs}
+use Rattle.numbers.proofs.refusal_numbers.Statement.{statement}
+use Rattle.numbers.proofs.refusal_numbers.Tie as tie
+
+enum-told : tie.Need-enum-told
+enum-told c = search needs
+
+four-requires : tie.Need-four-requires
+four-requires c κs = search needs
+
+enum-told-2 : tie.Need-enum-told-2
+enum-told-2 c = search needs
+
+four-requires-2 : tie.Need-four-requires-2
+four-requires-2 c κs = search needs
+
+enum-known-r : tie.Need-enum-known-r
+enum-known-r c = search needs
+
+four-requires-3 : tie.Need-four-requires-3
+four-requires-3 c κs = search needs
+
+enum-known-r-2 : tie.Need-enum-known-r-2
+enum-known-r-2 c = search needs
+
+four-requires-4 : tie.Need-four-requires-4
+four-requires-4 c κs = search needs
+
+enum-known-r-3 : tie.Need-enum-known-r-3
+enum-known-r-3 c = search needs
+
+four-requires-5 : tie.Need-four-requires-5
+four-requires-5 c κs = search needs
+
+enum-known-r-4 : tie.Need-enum-known-r-4
+enum-known-r-4 c = search needs
+
+four-requires-6 : tie.Need-four-requires-6
+four-requires-6 c κs = search needs
+
+enum-known-r-5 : tie.Need-enum-known-r-5
+enum-known-r-5 c = search needs
+
+four-requires-7 : tie.Need-four-requires-7
+four-requires-7 c κs = search needs
+
+enum-told-3 : tie.Need-enum-told-3
+enum-told-3 c = search needs
+
+four-requires-8 : tie.Need-four-requires-8
+four-requires-8 c κs = search needs
+
+enum-known-r-6 : tie.Need-enum-known-r-6
+enum-known-r-6 c = search needs
+
+four-requires-9 : tie.Need-four-requires-9
+four-requires-9 c κs = search needs
+
+enum-known-r-7 : tie.Need-enum-known-r-7
+enum-known-r-7 c = search needs
+
+four-requires-10 : tie.Need-four-requires-10
+four-requires-10 c κs = search needs
+
+enum-known-r-8 : tie.Need-enum-known-r-8
+enum-known-r-8 c = search needs
+
+four-requires-11 : tie.Need-four-requires-11
+four-requires-11 c κs = search needs
+
+enum-known-r-9 : tie.Need-enum-known-r-9
+enum-known-r-9 c = search needs
+
+four-requires-12 : tie.Need-four-requires-12
+four-requires-12 c κs = search needs
+
+enum-known-r-10 : tie.Need-enum-known-r-10
+enum-known-r-10 c = search needs
+
+four-requires-13 : tie.Need-four-requires-13
+four-requires-13 c κs = search needs
+
+enum-known-r-11 : tie.Need-enum-known-r-11
+enum-known-r-11 c = search needs
+
+four-requires-14 : tie.Need-four-requires-14
+four-requires-14 c κs = search needs
+
+enum-known-r-12 : tie.Need-enum-known-r-12
+enum-known-r-12 c = search needs
+
+four-requires-15 : tie.Need-four-requires-15
+four-requires-15 c κs = search needs
+
+enum-known-r-13 : tie.Need-enum-known-r-13
+enum-known-r-13 c = search needs
+
+four-requires-16 : tie.Need-four-requires-16
+four-requires-16 c κs = search needs
+
+enum-told-4 : tie.Need-enum-told-4
+enum-told-4 c = search needs
+
+four-requires-17 : tie.Need-four-requires-17
+four-requires-17 c κs = search needs
+
+enum-told-5 : tie.Need-enum-told-5
+enum-told-5 c = search needs
+
+four-requires-18 : tie.Need-four-requires-18
+four-requires-18 c κs = search needs
+
+enum-told-6 : tie.Need-enum-told-6
+enum-told-6 c = search needs
+
+four-requires-19 : tie.Need-four-requires-19
+four-requires-19 c κs = search needs
+
+returns : tie.Need-returns
+unfolding returned
+returns c = c .four .ensures ∙ ap (λ r. returned (Refuse r)) (sym (c .before .enum-told .given .1))
+
+returns-2 : tie.Need-returns-2
+unfolding returned
+returns-2 c = c .four2 .ensures ∙ ap (λ r. returned (Refuse r)) (sym (c .before .enum-told2 .given .1))
+
+returns-3 : tie.Need-returns-3
+unfolding returned
+returns-3 c = c .four3 .ensures ∙ ap (λ r. returned (Refuse r)) (sym (c .before .before .r .given .1))
+
+returns-4 : tie.Need-returns-4
+unfolding returned
+returns-4 c = c .four4 .ensures ∙ ap (λ r. returned (Refuse r)) (sym (c .before .before .r2 .given .1))
+
+returns-5 : tie.Need-returns-5
+unfolding returned
+returns-5 c = c .four5 .ensures ∙ ap (λ r. returned (Refuse r)) (sym (c .before .before .r3 .given .1))
+
+returns-6 : tie.Need-returns-6
+unfolding returned
+returns-6 c = c .four6 .ensures ∙ ap (λ r. returned (Refuse r)) (sym (c .before .before .r4 .given .1))
+
+returns-7 : tie.Need-returns-7
+unfolding returned
+returns-7 c = c .four7 .ensures ∙ ap (λ r. returned (Refuse r)) (sym (c .before .before .r5 .given .1))
+
+returns-8 : tie.Need-returns-8
+unfolding returned
+returns-8 c = c .four8 .ensures ∙ ap (λ r. returned (Refuse r)) (sym (c .before .enum-told3 .given .1))
+
+returns-9 : tie.Need-returns-9
+unfolding returned
+returns-9 c = c .four9 .ensures ∙ ap (λ r. returned (Refuse r)) (sym (c .before .before .r6 .given .1))
+
+returns-10 : tie.Need-returns-10
+unfolding returned
+returns-10 c = c .four10 .ensures ∙ ap (λ r. returned (Refuse r)) (sym (c .before .before .r7 .given .1))
+
+returns-11 : tie.Need-returns-11
+unfolding returned
+returns-11 c = c .four11 .ensures ∙ ap (λ r. returned (Refuse r)) (sym (c .before .before .r8 .given .1))
+
+returns-12 : tie.Need-returns-12
+unfolding returned
+returns-12 c = c .four12 .ensures ∙ ap (λ r. returned (Refuse r)) (sym (c .before .before .r9 .given .1))
+
+returns-13 : tie.Need-returns-13
+unfolding returned
+returns-13 c = c .four13 .ensures ∙ ap (λ r. returned (Refuse r)) (sym (c .before .before .r10 .given .1))
+
+returns-14 : tie.Need-returns-14
+unfolding returned
+returns-14 c = c .four14 .ensures ∙ ap (λ r. returned (Refuse r)) (sym (c .before .before .r11 .given .1))
+
+returns-15 : tie.Need-returns-15
+unfolding returned
+returns-15 c = c .four15 .ensures ∙ ap (λ r. returned (Refuse r)) (sym (c .before .before .r12 .given .1))
+
+returns-16 : tie.Need-returns-16
+unfolding returned
+returns-16 c = c .four16 .ensures ∙ ap (λ r. returned (Refuse r)) (sym (c .before .before .r13 .given .1))
+
+returns-17 : tie.Need-returns-17
+unfolding returned
+returns-17 c = c .four17 .ensures ∙ ap (λ r. returned (Refuse r)) (sym (c .before .enum-told4 .given .1))
+
+returns-18 : tie.Need-returns-18
+unfolding returned
+returns-18 c = c .four18 .ensures ∙ ap (λ r. returned (Refuse r)) (sym (c .before .enum-told5 .given .1))
+
+returns-19 : tie.Need-returns-19
+unfolding returned
+returns-19 c = c .four19 .ensures ∙ ap (λ r. returned (Refuse r)) (sym (c .before .enum-told6 .given .1))
+
+pub refusal-numbers-spec : {M : Type 1} → statement M
+refusal-numbers-spec =
+    tie.close
+    (tie.spec
+    enum-told
+    four-requires
+    enum-told-2
+    four-requires-2
+    enum-known-r
+    four-requires-3
+    enum-known-r-2
+    four-requires-4
+    enum-known-r-3
+    four-requires-5
+    enum-known-r-4
+    four-requires-6
+    enum-known-r-5
+    four-requires-7
+    enum-told-3
+    four-requires-8
+    enum-known-r-6
+    four-requires-9
+    enum-known-r-7
+    four-requires-10
+    enum-known-r-8
+    four-requires-11
+    enum-known-r-9
+    four-requires-12
+    enum-known-r-10
+    four-requires-13
+    enum-known-r-11
+    four-requires-14
+    enum-known-r-12
+    four-requires-15
+    enum-known-r-13
+    four-requires-16
+    enum-told-4
+    four-requires-17
+    enum-told-5
+    four-requires-18
+    enum-told-6
+    four-requires-19
+    returns
+    returns-2
+    returns-3
+    returns-4
+    returns-5
+    returns-6
+    returns-7
+    returns-8
+    returns-9
+    returns-10
+    returns-11
+    returns-12
+    returns-13
+    returns-14
+    returns-15
+    returns-16
+    returns-17
+    returns-18
+    returns-19)

@@ -1,0 +1,42 @@
+-- What the code finds after a step is what the definitions find.
+use mathlib.Core.Path.{_≡_}
+use Prim.Native.Nat.{ℕ, _+_, _-_, _<_, _≤_}
+use borrow.Author.Tests.{le-leb, lt-leb}
+use Rattle.filling.specs.declared.Effect.{Effect}
+use Rattle.filling.specs.Found.{_>>=_, demand}
+use Rattle.filling.specs.Flow.{taking, turn}
+use Rattle.pass.specs.declared.Found.{Found}
+use Rattle.pass.specs.declared.Found.the-variants.{Number, Nothing}
+use Rattle.pass.specs.declared.UnaryWay.{UnaryWay}
+use Rattle.pass.specs.declared.UnaryWay.the-variants.{Loop}
+use Rattle.pass.specs.declared.BinaryWay.{BinaryWay}
+use Rattle.pass.specs.declared.BinaryWay.the-variants.{Fork}
+use Rattle.pass.specs.Passed.{asFound, afterUnary, afterBinary}
+
+module _ (E : Effect) (before : ℕ) where
+  pub turn-found : E .takes + E .needs ≤ before + E .gives → Number (before + E .gives - E .takes) ≡ asFound (turn E before)
+  unfolding turn
+  turn-found h = rw (le-leb (E .takes + E .needs) (before + E .gives) h)
+
+  pub turn-missed : before + E .gives < E .takes + E .needs → Nothing ≡ asFound (turn E before)
+  unfolding turn
+  turn-missed h = rw (lt-leb (E .takes + E .needs) (before + E .gives) h)
+
+module _ (way : UnaryWay) (pre first : ℕ) where
+  pub loop-kept : way ≡ Loop → pre ≤ first → Number pre ≡ asFound (afterUnary way pre first)
+  unfolding afterUnary demand _>>=_
+  loop-kept e h = rw (e, le-leb pre first h)
+
+  pub loop-lost : way ≡ Loop → first < pre → Nothing ≡ asFound (afterUnary way pre first)
+  unfolding afterUnary demand _>>=_
+  loop-lost e h = rw (e, lt-leb pre first h)
+
+module _ (way : BinaryWay) (first last : ℕ) {start due : ℕ} where
+  pub fork-paid : (E : Effect) (r : Found) → way ≡ Fork start due → due ≤ last → E ≡ taking start → r ≡ asFound (turn E first)
+      → r ≡ asFound (afterBinary way first last)
+  unfolding afterBinary demand _>>=_
+  fork-paid E r e h s t = rw (e, le-leb due last h, ← s) t
+
+  pub fork-unpaid : way ≡ Fork start due → last < due → Nothing ≡ asFound (afterBinary way first last)
+  unfolding afterBinary demand _>>=_
+  fork-unpaid e h = rw (e, lt-leb due last h)

@@ -1,0 +1,157 @@
+-- The flow that the work space shows is that of the sheets that it holds.
+use mathlib.Core.Path.{_≡_, refl, ap, ap₂, sym, _∙_}
+use mathlib.Core.List.{List}
+use Prim.Native.Nat.{ℕ, _+_, _≤_, _<_}
+use native.Mathlib.Omega.{arith}
+use lib.ListN.{length, getD}
+use Rattle.spec.specs.Expression.{Step, Expr, leaf, unary, binary, size}
+use Rattle.spec.specs.Split.{Split}
+use Rattle.spec.specs.Conditions.{lineOf, typeAt, row, type, kind, K, load}
+use Rattle.spec.specs.Ranges.{InRange}
+use Rattle.spec.proofs.Listing.{size-positive}
+use Rattle.spec.specs.declared.Location.{Location}
+use Rattle.spec.specs.declared.LeafWord.{LeafWord}
+use Rattle.spec.specs.declared.LeafWord.the-variants.{Var, Int, Newtid, Newlock, Newsem}
+use Rattle.spec.specs.declared.UnaryWord.{UnaryWord}
+use Rattle.spec.specs.declared.UnaryWord.the-variants.{While, Join, Ref, Read, Freelock, Lock, Unlock, Post, Wait}
+use Rattle.spec.specs.declared.BinaryWord.{BinaryWord}
+use Rattle.spec.specs.declared.BinaryWord.the-variants.{Let, If, Spawn, Write}
+use Rattle.workspace.specs.Layout.{wordsAt, leafCode, unaryCode, binaryCode, printed, ruleOf}
+use Rattle.workspace.specs.Holds.{HoldsSplit}
+use Rattle.workspace.proofs.Shown.{type-number, noRow, type-shown, load-in, map-stands, has-shown, row-at, row-type, start-at}
+use Rattle.workspace.proofs.Expression.{Here, here-line, leaf-code, unary-code, binary-code, here-part, here-first, here-second, here-end, varsSecond}
+use Rattle.workspace.proofs.Held.{insideSecond}
+use Rattle.filling.specs.declared.Effect.{Effect}
+use Rattle.filling.specs.Flow.{unchanged, taking, giving, needing, alone, steps}
+use Rattle.filling.specs.FlowOf.{loadHere, startHere, accessHere, flowOf}
+use Rattle.filling.proofs.Placed.{flow-steps}
+use Rattle.pass.specs.declared.Column.{Column}
+use Rattle.pass.specs.declared.Way.the-variants.{Leaf, Unary, Binary}
+use Rattle.pass.specs.declared.UnaryWay.{UnaryWay}
+use Rattle.pass.specs.declared.UnaryWay.the-variants.{After, Loop}
+use Rattle.pass.specs.declared.BinaryWay.{BinaryWay}
+use Rattle.pass.specs.declared.BinaryWay.the-variants.{InTurn, Branch, Fork}
+use Rattle.pass.specs.Ways.{locationOf, cellIn, typeIn, loadIn, startIn, accessIn, wayBy, wayIn}
+use Rattle.pass.specs.Shows.{unaryFlow, binaryFlow, endIn, Shows, leafShown, unaryShown, binaryShown}
+
+module _ (w : List ℕ) (column : Column) (ss : List Step) (S : Split) (H : HoldsSplit w S) (R : InRange ss S)
+    (within : column .location < S .header .locations) (given : column .denominator ≡ S .header .denominator) where
+  abbrev p : Location
+  p = locationOf column
+
+  -- ------------------------------------------------------------------ constants
+
+  -- the step with index i
+  module _ (e : Expr) (i : ℕ) (line : lineOf e ≡ i + 2) (h : i < length (S .rows)) where
+    type-in : row S e .type .0 < length (S .types)
+    type-in = rw (row-at w S ss H R e i line h) at (R .rowType i noRow h)
+
+    kind-held : typeIn w i ≡ kind S e
+    unfolding typeIn kind type
+    kind-held = rw (type-number (row-type w S ss H R e i line h)) (type-shown w S ss H R (row S e .type) type-in)
+
+    load-held : loadIn w column i ≡ loadHere S p e
+    unfolding loadIn cellIn loadHere K kind type
+    load-held =
+        rw kind-held (has-shown w S ss H R p (map-stands w S ss H R (load (typeAt S (row S e .type))) (load-in w S ss H R (row S e .type) type-in)) within)
+
+    start-held : startIn w column i ≡ startHere S p e
+    unfolding startIn cellIn startHere
+    start-held = has-shown w S ss H R p (start-at w S ss H R e i line h) within
+
+    access-held : (d : ℕ) → accessIn w column i d ≡ accessHere S p e d
+    unfolding accessIn accessHere
+    access-held d = rw kind-held
+
+  -- ------------------------------------------------------------------ a step
+
+  -- the way of the rule with a code
+  by-code : (k : ℕ) {code : ℕ} → getD w (wordsAt + k) 0 ≡ code → wayIn w column k ≡ wayBy (ruleOf code) w column k
+  unfolding wayIn
+  by-code k e = ap (λ (code : ℕ). wayBy (ruleOf code) w column k) e
+
+  module _ (k : ℕ) {inside : List (ℕ × ℕ)} {vars : List ℕ} where
+    leaf-held : (x : LeafWord) (l v : ℕ) (E : Effect) → Here w k inside vars (leaf x l v)
+        → wayBy (ruleOf (leafCode x)) w column k ≡ Leaf E → Shows w column k (alone E)
+    leaf-held x l v E C e = leafShown (by-code k (leaf-code x l v C) ∙ e)
+
+    unary-held : (x : UnaryWord) (l v : ℕ) (e₁ : Expr) (way : UnaryWay) → Here w k inside vars (unary x l v e₁)
+        → wayBy (ruleOf (unaryCode x)) w column k ≡ Unary way → Shows w column (k + 1) (flowOf S p e₁)
+        → Shows w column k (unaryFlow way (flowOf S p e₁))
+    unary-held x l v e₁ way C e s = unaryShown way (by-code k (unary-code x l v e₁ C) ∙ e) s
+
+    binary-held : (x : BinaryWord) (l v : ℕ) (e₁ e₂ : Expr) (way : BinaryWay) → Here w k inside vars (binary x l v e₁ e₂)
+        → wayBy (ruleOf (binaryCode x)) w column k ≡ Binary way → Shows w column (k + 1) (flowOf S p e₁)
+        → Shows w column (k + 1 + size e₁) (flowOf S p e₂)
+        → Shows w column k (binaryFlow way (flowOf S p e₁) (flowOf S p e₂))
+    unfolding endIn
+    binary-held x l v e₁ e₂ way C e s t =
+        let behind : Shows w column (k + 1 + steps (flowOf S p e₁)) (flowOf S p e₂) = rw (flow-steps S p e₁) t in
+        binaryShown way (by-code k (binary-code x l v e₁ e₂ C) ∙ e) s
+        (here-end e₁ (here-first x l v e₁ e₂ C) ∙ ap (k + 1 +_) (sym (flow-steps S p e₁))) behind
+
+    -- the constants of its first part
+    module _ (e₁ : Expr) (C : Here w (k + 1) inside vars e₁) (i : k + 1 + size e₁ ≤ length (S .rows)) where
+      part-load : loadIn w column (k + 1) ≡ loadHere S p e₁
+      part-load = load-held e₁ (k + 1) (here-line e₁ C) (omega (arith, size-positive e₁))
+
+      part-access : (d : ℕ) → accessIn w column (k + 1) d ≡ accessHere S p e₁ d
+      part-access = access-held e₁ (k + 1) (here-line e₁ C) (omega (arith, size-positive e₁))
+
+  -- ------------------------------------------------------------------ the flow
+
+  pub held-shows : (k : ℕ) (inside : List (ℕ × ℕ)) (vars : List ℕ) (e : Expr) → Here w k inside vars e → k + size e ≤ length (S .rows)
+      → Shows w column k (flowOf S p e)
+  unfolding flowOf size printed ruleOf wayBy unaryFlow binaryFlow
+  held-shows k inside vars (leaf Var l v) C i = leaf-held k Var l v unchanged C refl
+  held-shows k inside vars (leaf Int l v) C i = leaf-held k Int l v unchanged C refl
+  held-shows k inside vars (binary Let l v e₁ e₂) C i =
+      let D = here-first Let l v e₁ e₂ C in
+      binary-held k Let l v e₁ e₂ (InTurn unchanged) C refl (held-shows (k + 1) inside vars e₁ D (omega arith))
+      (held-shows (k + 1 + size e₁) (insideSecond Let v k inside) (varsSecond Let v vars) e₂ (here-second Let l v e₁ e₂ C) (omega arith))
+  held-shows k inside vars (binary If l v e₁ e₂) C i =
+      let D = here-first If l v e₁ e₂ C in
+      binary-held k If l v e₁ e₂ Branch C refl (held-shows (k + 1) inside vars e₁ D (omega arith))
+      (held-shows (k + 1 + size e₁) (insideSecond If v k inside) (varsSecond If v vars) e₂ (here-second If l v e₁ e₂ C) (omega arith))
+  held-shows k inside vars (unary While l v e₁) C i =
+      let D = here-part While l v e₁ C in
+      unary-held k While l v e₁ Loop C refl (held-shows (k + 1) inside vars e₁ D (omega arith))
+  held-shows k inside vars (leaf Newtid l v) C i = leaf-held k Newtid l v unchanged C refl
+  held-shows k inside vars (binary Spawn l v e₁ e₂) C i =
+      let D = here-first Spawn l v e₁ e₂ C in
+      binary-held k Spawn l v e₁ e₂ (Fork (startHere S p (binary Spawn l v e₁ e₂)) (loadHere S p e₁)) C
+      (ap₂ (λ (n m : ℕ). Binary (Fork n m)) (start-held (binary Spawn l v e₁ e₂) k (here-line (binary Spawn l v e₁ e₂) C) (omega arith)) (part-load k e₁ D (omega arith))) (held-shows (k + 1) inside vars e₁ D (omega arith))
+      (held-shows (k + 1 + size e₁) (insideSecond Spawn v k inside) (varsSecond Spawn v vars) e₂ (here-second Spawn l v e₁ e₂ C) (omega arith))
+  held-shows k inside vars (unary Join l v e₁) C i =
+      let D = here-part Join l v e₁ C in
+      unary-held k Join l v e₁ (After (giving (loadHere S p e₁))) C (ap (λ (n : ℕ). Unary (After (giving n))) (part-load k e₁ D (omega arith))) (held-shows (k + 1) inside vars e₁ D (omega arith))
+  held-shows k inside vars (unary Ref l v e₁) C i =
+      let D = here-part Ref l v e₁ C in
+      unary-held k Ref l v e₁ (After unchanged) C refl (held-shows (k + 1) inside vars e₁ D (omega arith))
+  held-shows k inside vars (binary Write l v e₁ e₂) C i =
+      let D = here-first Write l v e₁ e₂ C in
+      binary-held k Write l v e₁ e₂ (InTurn (needing (accessHere S p e₁ (S .header .denominator)))) C
+      (ap (λ (n : ℕ). Binary (InTurn (needing n))) (part-access k e₁ D (omega arith) (column .denominator) ∙ ap (accessHere S p e₁) given)) (held-shows (k + 1) inside vars e₁ D (omega arith))
+      (held-shows (k + 1 + size e₁) (insideSecond Write v k inside) (varsSecond Write v vars) e₂ (here-second Write l v e₁ e₂ C) (omega arith))
+  held-shows k inside vars (unary Read l v e₁) C i =
+      let D = here-part Read l v e₁ C in
+      unary-held k Read l v e₁ (After (needing (accessHere S p e₁ 1))) C (ap (λ (n : ℕ). Unary (After (needing n))) (part-access k e₁ D (omega arith) 1)) (held-shows (k + 1) inside vars e₁ D (omega arith))
+  held-shows k inside vars (leaf Newlock l v) C i =
+      let e = leaf Newlock l v in
+      leaf-held k Newlock l v (taking (loadHere S p e)) C (ap (λ (n : ℕ). Leaf (taking n)) (load-held e k (here-line e C) (omega arith)))
+  held-shows k inside vars (unary Freelock l v e₁) C i =
+      let D = here-part Freelock l v e₁ C in
+      unary-held k Freelock l v e₁ (After (giving (loadHere S p e₁))) C (ap (λ (n : ℕ). Unary (After (giving n))) (part-load k e₁ D (omega arith))) (held-shows (k + 1) inside vars e₁ D (omega arith))
+  held-shows k inside vars (unary Lock l v e₁) C i =
+      let D = here-part Lock l v e₁ C in
+      unary-held k Lock l v e₁ (After (giving (loadHere S p e₁))) C (ap (λ (n : ℕ). Unary (After (giving n))) (part-load k e₁ D (omega arith))) (held-shows (k + 1) inside vars e₁ D (omega arith))
+  held-shows k inside vars (unary Unlock l v e₁) C i =
+      let D = here-part Unlock l v e₁ C in
+      unary-held k Unlock l v e₁ (After (taking (loadHere S p e₁))) C (ap (λ (n : ℕ). Unary (After (taking n))) (part-load k e₁ D (omega arith))) (held-shows (k + 1) inside vars e₁ D (omega arith))
+  held-shows k inside vars (leaf Newsem l v) C i = leaf-held k Newsem l v unchanged C refl
+  held-shows k inside vars (unary Post l v e₁) C i =
+      let D = here-part Post l v e₁ C in
+      unary-held k Post l v e₁ (After (taking (loadHere S p e₁))) C (ap (λ (n : ℕ). Unary (After (taking n))) (part-load k e₁ D (omega arith))) (held-shows (k + 1) inside vars e₁ D (omega arith))
+  held-shows k inside vars (unary Wait l v e₁) C i =
+      let D = here-part Wait l v e₁ C in
+      unary-held k Wait l v e₁ (After (giving (loadHere S p e₁))) C (ap (λ (n : ℕ). Unary (After (giving n))) (part-load k e₁ D (omega arith))) (held-shows (k + 1) inside vars e₁ D (omega arith))

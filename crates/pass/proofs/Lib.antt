@@ -1,0 +1,9 @@
+pub mod Accesses
+pub mod AfterParts
+pub mod Answers
+pub mod Parts
+pub mod Small
+pub mod Passing
+pub mod Readiness
+pub mod Held
+pub mod Sheets

@@ -1,0 +1,30 @@
+use Prim.Native.Nat.{_+_}
+use mathlib.Core.Path.{_≡_, _∙_}
+use native.Mathlib.Omega.{arith}
+use Rattle.workspace.specs.Layout.{endsAt}
+use Rattle.pass.specs.Shows.{endIn}
+use borrow.Author.Needs.{needs}
+use Rattle.pass.proofs.steps.second_in.Statement.{statement}
+use Rattle.pass.proofs.steps.second_in.Tie as tie
+
+add-at : tie.Need-add-at
+add-at c = search needs
+
+add-at-2 : tie.Need-add-at-2
+add-at-2 c = search needs
+
+at-requires : tie.Need-at-requires
+at-requires c κs = tt
+
+index-requires : tie.Need-index-requires
+index-requires c κs = tt
+
+returns : tie.Need-returns
+unfolding endIn
+returns c =
+    let k = c .before .before .before .args .k in
+    let place : endsAt + 1 + k ≡ endsAt + (k + 1) = omega arith in
+    c .index .ensures .0 ∙ rw place at (c .before .at .ensures)
+
+pub second-in-spec : {M : Type 1} → statement M
+second-in-spec = tie.close (tie.spec add-at add-at-2 at-requires index-requires returns)

@@ -1,0 +1,11 @@
+use mathlib.Core.Path.{refl}
+use Rattle.filling.specs.Flow.{needing}
+use Rattle.pass.proofs.ways.needing.Statement.{statement}
+use Rattle.pass.proofs.ways.needing.Tie as tie
+
+returns : tie.Need-returns
+unfolding needing
+returns c = refl
+
+pub needing-spec : {M : Type 1} → statement M
+needing-spec = tie.close (tie.spec returns)

@@ -1,0 +1,285 @@
+-- A row of the table for each rule: its constants are what the calls return.
+use mathlib.Core.Path.{ap, ap₂, _∙_}
+use Rattle.filling.specs.Flow.{taking, giving, needing}
+use Rattle.pass.specs.declared.Way.the-variants.{Leaf, Unary, Binary}
+use Rattle.pass.specs.declared.UnaryWay.the-variants.{After}
+use Rattle.pass.specs.declared.BinaryWay.the-variants.{InTurn, Fork}
+use Rattle.pass.specs.Ways.{wayBy}
+use borrow.Author.Needs.{needs}
+use Rattle.pass.proofs.ways.way_by.Statement.{statement}
+use Rattle.pass.proofs.ways.way_by.Tie as tie
+
+add-part : tie.Need-add-part
+add-part c = search needs
+
+enum-told : tie.Need-enum-told
+enum-told c = search needs
+
+unchanged-requires : tie.Need-unchanged-requires
+unchanged-requires c κs = tt
+
+enum-told-2 : tie.Need-enum-told-2
+enum-told-2 c = search needs
+
+unchanged-requires-2 : tie.Need-unchanged-requires-2
+unchanged-requires-2 c κs = tt
+
+enum-told-3 : tie.Need-enum-told-3
+enum-told-3 c = search needs
+
+unchanged-requires-3 : tie.Need-unchanged-requires-3
+unchanged-requires-3 c κs = tt
+
+enum-told-4 : tie.Need-enum-told-4
+enum-told-4 c = search needs
+
+enum-told-5 : tie.Need-enum-told-5
+enum-told-5 c = search needs
+
+enum-told-6 : tie.Need-enum-told-6
+enum-told-6 c = search needs
+
+unchanged-requires-4 : tie.Need-unchanged-requires-4
+unchanged-requires-4 c κs = tt
+
+enum-told-7 : tie.Need-enum-told-7
+enum-told-7 c = search needs
+
+start-in-requires : tie.Need-start-in-requires
+start-in-requires c κs = search needs
+
+load-in-requires : tie.Need-load-in-requires
+load-in-requires c κs = search needs
+
+enum-told-8 : tie.Need-enum-told-8
+enum-told-8 c = search needs
+
+load-in-requires-2 : tie.Need-load-in-requires-2
+load-in-requires-2 c κs = search needs
+
+giving-requires : tie.Need-giving-requires
+giving-requires c κs = tt
+
+enum-told-9 : tie.Need-enum-told-9
+enum-told-9 c = search needs
+
+unchanged-requires-5 : tie.Need-unchanged-requires-5
+unchanged-requires-5 c κs = tt
+
+enum-told-10 : tie.Need-enum-told-10
+enum-told-10 c = search needs
+
+access-in-requires : tie.Need-access-in-requires
+access-in-requires c κs = search needs
+
+needing-requires : tie.Need-needing-requires
+needing-requires c κs = tt
+
+enum-told-11 : tie.Need-enum-told-11
+enum-told-11 c = search needs
+
+access-in-requires-2 : tie.Need-access-in-requires-2
+access-in-requires-2 c κs = search needs
+
+needing-requires-2 : tie.Need-needing-requires-2
+needing-requires-2 c κs = tt
+
+enum-told-12 : tie.Need-enum-told-12
+enum-told-12 c = search needs
+
+load-in-requires-3 : tie.Need-load-in-requires-3
+load-in-requires-3 c κs = search needs
+
+taking-requires : tie.Need-taking-requires
+taking-requires c κs = tt
+
+enum-told-13 : tie.Need-enum-told-13
+enum-told-13 c = search needs
+
+load-in-requires-4 : tie.Need-load-in-requires-4
+load-in-requires-4 c κs = search needs
+
+giving-requires-2 : tie.Need-giving-requires-2
+giving-requires-2 c κs = tt
+
+enum-told-14 : tie.Need-enum-told-14
+enum-told-14 c = search needs
+
+load-in-requires-5 : tie.Need-load-in-requires-5
+load-in-requires-5 c κs = search needs
+
+giving-requires-3 : tie.Need-giving-requires-3
+giving-requires-3 c κs = tt
+
+enum-told-15 : tie.Need-enum-told-15
+enum-told-15 c = search needs
+
+load-in-requires-6 : tie.Need-load-in-requires-6
+load-in-requires-6 c κs = search needs
+
+taking-requires-2 : tie.Need-taking-requires-2
+taking-requires-2 c κs = tt
+
+enum-told-16 : tie.Need-enum-told-16
+enum-told-16 c = search needs
+
+unchanged-requires-6 : tie.Need-unchanged-requires-6
+unchanged-requires-6 c κs = tt
+
+enum-told-17 : tie.Need-enum-told-17
+enum-told-17 c = search needs
+
+load-in-requires-7 : tie.Need-load-in-requires-7
+load-in-requires-7 c κs = search needs
+
+taking-requires-3 : tie.Need-taking-requires-3
+taking-requires-3 c κs = tt
+
+enum-told-18 : tie.Need-enum-told-18
+enum-told-18 c = search needs
+
+load-in-requires-8 : tie.Need-load-in-requires-8
+load-in-requires-8 c κs = search needs
+
+giving-requires-4 : tie.Need-giving-requires-4
+giving-requires-4 c κs = tt
+
+returns : tie.Need-returns
+unfolding wayBy
+returns c = rw (c .before .enum-told .given .1) (ap Leaf (c .unchanged .ensures))
+
+returns-2 : tie.Need-returns-2
+unfolding wayBy
+returns-2 c = rw (c .before .enum-told2 .given .1) (ap Leaf (c .unchanged2 .ensures))
+
+returns-3 : tie.Need-returns-3
+unfolding wayBy
+returns-3 c = rw (c .before .enum-told3 .given .1) (ap (λ E. Binary (InTurn E)) (c .unchanged3 .ensures))
+
+returns-4 : tie.Need-returns-4
+unfolding wayBy
+returns-4 c = rw (c .enum-told4 .given .1)
+
+returns-5 : tie.Need-returns-5
+unfolding wayBy
+returns-5 c = rw (c .enum-told5 .given .1)
+
+returns-6 : tie.Need-returns-6
+unfolding wayBy
+returns-6 c = rw (c .before .enum-told6 .given .1) (ap Leaf (c .unchanged4 .ensures))
+
+returns-7 : tie.Need-returns-7
+unfolding wayBy
+returns-7 c = rw (c .before .before .enum-told7 .given .1) (ap₂ (λ start due. Binary (Fork start due)) (c .before .start-in .ensures) (c .load-in .ensures))
+
+returns-8 : tie.Need-returns-8
+unfolding wayBy
+returns-8 c = rw (c .before .before .enum-told8 .given .1) (ap (λ E. Unary (After E)) (c .giving .ensures ∙ ap giving (c .before .load-in2 .ensures)))
+
+returns-9 : tie.Need-returns-9
+unfolding wayBy
+returns-9 c = rw (c .before .enum-told9 .given .1) (ap (λ E. Unary (After E)) (c .unchanged5 .ensures))
+
+returns-10 : tie.Need-returns-10
+unfolding wayBy
+returns-10 c = rw (c .before .before .enum-told10 .given .1) (ap (λ E. Binary (InTurn E)) (c .needing .ensures ∙ ap needing (c .before .access-in .ensures)))
+
+returns-11 : tie.Need-returns-11
+unfolding wayBy
+returns-11 c = rw (c .before .before .enum-told11 .given .1) (ap (λ E. Unary (After E)) (c .needing2 .ensures ∙ ap needing (c .before .access-in2 .ensures)))
+
+returns-12 : tie.Need-returns-12
+unfolding wayBy
+returns-12 c = rw (c .before .before .enum-told12 .given .1) (ap Leaf (c .taking .ensures ∙ ap taking (c .before .load-in3 .ensures)))
+
+returns-13 : tie.Need-returns-13
+unfolding wayBy
+returns-13 c = rw (c .before .before .enum-told13 .given .1) (ap (λ E. Unary (After E)) (c .giving2 .ensures ∙ ap giving (c .before .load-in4 .ensures)))
+
+returns-14 : tie.Need-returns-14
+unfolding wayBy
+returns-14 c = rw (c .before .before .enum-told14 .given .1) (ap (λ E. Unary (After E)) (c .giving3 .ensures ∙ ap giving (c .before .load-in5 .ensures)))
+
+returns-15 : tie.Need-returns-15
+unfolding wayBy
+returns-15 c = rw (c .before .before .enum-told15 .given .1) (ap (λ E. Unary (After E)) (c .taking2 .ensures ∙ ap taking (c .before .load-in6 .ensures)))
+
+returns-16 : tie.Need-returns-16
+unfolding wayBy
+returns-16 c = rw (c .before .enum-told16 .given .1) (ap Leaf (c .unchanged6 .ensures))
+
+returns-17 : tie.Need-returns-17
+unfolding wayBy
+returns-17 c = rw (c .before .before .enum-told17 .given .1) (ap (λ E. Unary (After E)) (c .taking3 .ensures ∙ ap taking (c .before .load-in7 .ensures)))
+
+returns-18 : tie.Need-returns-18
+unfolding wayBy
+returns-18 c = rw (c .before .before .enum-told18 .given .1) (ap (λ E. Unary (After E)) (c .giving4 .ensures ∙ ap giving (c .before .load-in8 .ensures)))
+
+pub way-by-spec : {M : Type 1} → statement M
+way-by-spec =
+    tie.close
+    (tie.spec
+    add-part
+    enum-told
+    unchanged-requires
+    enum-told-2
+    unchanged-requires-2
+    enum-told-3
+    unchanged-requires-3
+    enum-told-4
+    enum-told-5
+    enum-told-6
+    unchanged-requires-4
+    enum-told-7
+    start-in-requires
+    load-in-requires
+    enum-told-8
+    load-in-requires-2
+    giving-requires
+    enum-told-9
+    unchanged-requires-5
+    enum-told-10
+    access-in-requires
+    needing-requires
+    enum-told-11
+    access-in-requires-2
+    needing-requires-2
+    enum-told-12
+    load-in-requires-3
+    taking-requires
+    enum-told-13
+    load-in-requires-4
+    giving-requires-2
+    enum-told-14
+    load-in-requires-5
+    giving-requires-3
+    enum-told-15
+    load-in-requires-6
+    taking-requires-2
+    enum-told-16
+    unchanged-requires-6
+    enum-told-17
+    load-in-requires-7
+    taking-requires-3
+    enum-told-18
+    load-in-requires-8
+    giving-requires-4
+    returns
+    returns-2
+    returns-3
+    returns-4
+    returns-5
+    returns-6
+    returns-7
+    returns-8
+    returns-9
+    returns-10
+    returns-11
+    returns-12
+    returns-13
+    returns-14
+    returns-15
+    returns-16
+    returns-17
+    returns-18)

@@ -1,0 +1,4 @@
+pub mod Ways
+pub mod Shows
+pub mod Passed
+pub mod Contract

@@ -1,0 +1,67 @@
+-- The way in which the number at a location flows through a step, as the work space shows it: crate filling's table, by rule.
+use mathlib.Core.List.{List}
+use Prim.Native.Nat.{ℕ, _+_}
+use lib.ListN.{getD}
+use Rattle.spec.specs.Conditions.{load, place}
+use Rattle.spec.specs.declared.Location.{Location}
+use Rattle.spec.specs.declared.MapNumber.{MapNumber}
+use Rattle.spec.specs.declared.TypeLine.{TypeLine}
+use Rattle.workspace.specs.Layout.{wordsAt, rowTypesAt, startsAt, ruleOf, typeAt, mapCell}
+use Rattle.workspace.specs.declared.Rule.{Rule}
+use Rattle.workspace.specs.declared.Rule.the-variants.{VAR, INT, LET, IF, WHILE, NEWT, SPAWN, JOIN, REF, WRITE, READ, NEWL, FREEL, LCK, ULCK, NEWSEM, POST, WAIT}
+use Rattle.filling.specs.Flow.{unchanged, taking, giving, needing}
+use Rattle.filling.specs.FlowOf.{asks}
+use Rattle.pass.specs.declared.Column.{Column}
+use Rattle.pass.specs.declared.Way.{Way}
+use Rattle.pass.specs.declared.Way.the-variants.{Leaf, Unary, Binary}
+use Rattle.pass.specs.declared.UnaryWay.the-variants.{After, Loop}
+use Rattle.pass.specs.declared.BinaryWay.the-variants.{InTurn, Branch, Fork}
+
+-- ------------------------------------------------------------------ constants
+
+abbrev pub locationOf : Column → Location
+locationOf column = record { 0 = column .location }
+
+-- what a map has at the location
+unfoldable pub cellIn : List ℕ → Column → MapNumber → ℕ
+cellIn w column m = mapCell w m (column .location)
+
+-- the type of step k; what its load, the start of its body, and access through it have or need at the location
+unfoldable pub typeIn : List ℕ → (k : ℕ) → TypeLine
+typeIn w k = typeAt w (record { 0 = getD w (rowTypesAt + k) 0 })
+
+unfoldable pub loadIn : List ℕ → Column → (k : ℕ) → ℕ
+loadIn w column k = cellIn w column (load (typeIn w k))
+
+unfoldable pub startIn : List ℕ → Column → (k : ℕ) → ℕ
+startIn w column k = cellIn w column (record { 0 = getD w (startsAt + k) 0 })
+
+unfoldable pub accessIn : List ℕ → Column → (k d : ℕ) → ℕ
+accessIn w column k d = asks (locationOf column) (place (typeIn w k)) d
+
+-- ------------------------------------------------------------------ the table
+
+-- in the printed order; a first part stands just behind its step
+unfoldable pub wayBy : Rule → List ℕ → Column → (k : ℕ) → Way
+wayBy VAR w column k = Leaf unchanged
+wayBy INT w column k = Leaf unchanged
+wayBy LET w column k = Binary (InTurn unchanged)
+wayBy IF w column k = Binary Branch
+wayBy WHILE w column k = Unary Loop
+wayBy NEWT w column k = Leaf unchanged
+wayBy SPAWN w column k = Binary (Fork (startIn w column k) (loadIn w column (k + 1)))
+wayBy JOIN w column k = Unary (After (giving (loadIn w column (k + 1))))
+wayBy REF w column k = Unary (After unchanged)
+wayBy WRITE w column k = Binary (InTurn (needing (accessIn w column (k + 1) (column .denominator))))
+wayBy READ w column k = Unary (After (needing (accessIn w column (k + 1) 1)))
+wayBy NEWL w column k = Leaf (taking (loadIn w column k))
+wayBy FREEL w column k = Unary (After (giving (loadIn w column (k + 1))))
+wayBy LCK w column k = Unary (After (giving (loadIn w column (k + 1))))
+wayBy ULCK w column k = Unary (After (taking (loadIn w column (k + 1))))
+wayBy NEWSEM w column k = Leaf unchanged
+wayBy POST w column k = Unary (After (taking (loadIn w column (k + 1))))
+wayBy WAIT w column k = Unary (After (giving (loadIn w column (k + 1))))
+
+-- the way of step k
+unfoldable pub wayIn : List ℕ → Column → (k : ℕ) → Way
+wayIn w column k = wayBy (ruleOf (getD w (wordsAt + k) 0)) w column k

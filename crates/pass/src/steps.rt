@@ -1,0 +1,72 @@
+// The pass: from the number before a step to the number after it. Parts come before their step, so it calls itself for each part.
+use super::Column;
+use super::Found;
+use super::Way;
+use super::turns::after_binary;
+use super::turns::after_unary;
+use super::turns::second_pre;
+use super::turns::turn;
+use super::ways::way_in;
+use workspace::ENDS;
+use workspace::at;
+use workspace::index;
+ghost use mathlib.Core.Path.{_≡_};
+ghost use Prim.Native.Nat.{_+_, _<_};
+ghost use lib.ListN.{length};
+ghost use Rattle.pass.specs.Shows.{endIn};
+ghost use Rattle.pass.specs.Passed.{settled, Ready, Passed};
+
+// The index of the second part of step k: the end of the first.
+fn second_in(work: &[u32], k: usize) -> usize
+    requires { ⌜ k < 256 ⌝ }
+    ensures { λ r. ⌜ r ≡ endIn (now (work .entry)) (k + 1) ⌝ }
+{
+    index(at(work, ENDS + 1 + k))
+}
+
+// Stores the post of step k, if there is one.
+fn settle(posts: &mut [u64], k: usize, post: Found) -> Found
+    requires { ⌜ k < length (now posts) ⌝ }
+    ensures { λ r. ⌜ (r ≡ post) × (now (posts .exit) ≡ settled (now (posts .entry)) k post) ⌝ }
+{
+    match post {
+        Found::Number(x) => {
+            posts[k] = x;
+            Found::Number(x)
+        }
+        Found::Nothing => Found::Nothing,
+    }
+}
+
+// The posts of step k and of all steps in it, from the number before it; its own is the answer. Nothing, if no posts pass.
+pub(crate) fn pass_step(
+    work: &[u32],
+    posts: &mut [u64],
+    column: Column,
+    k: usize,
+    pre: u64,
+) -> Found
+    requires { ⌜ Ready (now work) column k pre (now posts) ⌝ }
+    ensures { λ r. ⌜ Passed (now (work .entry)) column k pre (now (posts .entry)) (now (posts .exit)) r ⌝ }
+{
+    match way_in(work, column, k) {
+        Way::Leaf(effect) => settle(posts, k, turn(effect, pre)),
+        Way::Unary(way) => {
+            let Found::Number(first) = pass_step(work, posts, column, k + 1, pre) else {
+                return Found::Nothing;
+            };
+            settle(posts, k, after_unary(way, pre, first))
+        }
+        Way::Binary(way) => {
+            let Found::Number(first) = pass_step(work, posts, column, k + 1, pre) else {
+                return Found::Nothing;
+            };
+            let second = second_in(work, k);
+            let next = second_pre(way, pre, first);
+            let Found::Number(last) = pass_step(work, posts, column, second, next) else {
+                return Found::Nothing;
+            };
+            settle(posts, k, after_binary(way, first, last))
+        }
+    }
+}

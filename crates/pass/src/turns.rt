@@ -1,0 +1,74 @@
+// From the numbers that the parts of a step leave to the number after it. Numbers are below 2^63, so that nothing wraps.
+use super::BinaryWay;
+use super::Found;
+use super::UnaryWay;
+use super::ways::taking;
+use filling::Effect;
+ghost use mathlib.Core.Path.{_≡_};
+ghost use Prim.Native.Nat.{_<_, min};
+ghost use Rattle.filling.specs.Flow.{turn};
+ghost use Rattle.pass.specs.Passed.{asFound, afterUnary, afterBinary, secondPre};
+
+// The number after a step, from the number that its parts leave.
+pub(crate) fn turn(effect: Effect, before: u64) -> Found
+    requires { ⌜ before < 9223372036854775808 ⌝ }
+    ensures { λ r. ⌜ r ≡ asFound (turn effect before) ⌝ }
+{
+    let takes = effect.takes as u64;
+    let there = before + effect.gives as u64;
+    if takes + effect.needs as u64 <= there {
+        return Found::Number(there - takes);
+    }
+    Found::Nothing
+}
+
+fn least(a: u64, b: u64) -> u64
+    ensures { λ r. ⌜ r ≡ min a b ⌝ }
+{
+    if a <= b { a } else { b }
+}
+
+// The number after a step whose one part ends with `first`. A loop keeps what it had, if its part leaves that much.
+pub(crate) fn after_unary(way: UnaryWay, pre: u64, first: u64) -> Found
+    requires { ⌜ first < 9223372036854775808 ⌝ }
+    ensures { λ r. ⌜ r ≡ asFound (afterUnary way pre first) ⌝ }
+{
+    match way {
+        UnaryWay::After(effect) => turn(effect, first),
+        UnaryWay::Loop => {
+            if pre <= first {
+                return Found::Number(pre);
+            }
+            Found::Nothing
+        }
+    }
+}
+
+// The number before the second part: what the first leaves; for a branch the same as before the first; for a fork its start.
+pub(crate) fn second_pre(way: BinaryWay, pre: u64, first: u64) -> u64
+    ensures { λ r. ⌜ r ≡ secondPre way pre first ⌝ }
+{
+    match way {
+        BinaryWay::InTurn(_) => first,
+        BinaryWay::Branch => pre,
+        BinaryWay::Fork(start, _) => start as u64,
+    }
+}
+
+// The number after a step whose parts end with `first` and `last`. A fork takes the start of its second part from the first, if the
+// second leaves what is due.
+pub(crate) fn after_binary(way: BinaryWay, first: u64, last: u64) -> Found
+    requires { ⌜ (first < 9223372036854775808) × (last < 9223372036854775808) ⌝ }
+    ensures { λ r. ⌜ r ≡ asFound (afterBinary way first last) ⌝ }
+{
+    match way {
+        BinaryWay::InTurn(effect) => turn(effect, last),
+        BinaryWay::Branch => Found::Number(least(first, last)),
+        BinaryWay::Fork(start, due) => {
+            if due as u64 <= last {
+                return turn(taking(start), first);
+            }
+            Found::Nothing
+        }
+    }
+}

@@ -1,0 +1,173 @@
+// The table: in which way the number flows through a step at the location, from the constants that the work space holds.
+use super::BinaryWay;
+use super::Column;
+use super::UnaryWay;
+use super::Way;
+use filling::Effect;
+use spec::Location;
+use spec::MapNumber;
+use spec::TypeLine;
+use spec::TypeNumber;
+use workspace::ROW_TYPES;
+use workspace::Rule;
+use workspace::STARTS;
+use workspace::WORDS;
+use workspace::at;
+use workspace::index;
+use workspace::map_cell;
+use workspace::rule_of;
+use workspace::type_at;
+ghost use mathlib.Core.Path.{_≡_};
+ghost use Prim.Native.Nat.{_<_};
+ghost use Rattle.spec.specs.Conditions.{load, place};
+ghost use Rattle.filling.specs.Flow.{unchanged, taking, giving, needing};
+ghost use Rattle.pass.specs.Ways.{cellIn, typeIn, loadIn, startIn, accessIn, wayBy, wayIn};
+
+// A step that keeps the number, takes from it, gives to it, or needs it to be large enough.
+fn unchanged() -> Effect
+    ensures { λ r. ⌜ r ≡ unchanged ⌝ }
+{
+    Effect {
+        takes: 0,
+        gives: 0,
+        needs: 0,
+    }
+}
+
+pub(crate) fn taking(k: u32) -> Effect
+    ensures { λ r. ⌜ r ≡ taking k ⌝ }
+{
+    Effect {
+        takes: k,
+        gives: 0,
+        needs: 0,
+    }
+}
+
+fn giving(k: u32) -> Effect
+    ensures { λ r. ⌜ r ≡ giving k ⌝ }
+{
+    Effect {
+        takes: 0,
+        gives: k,
+        needs: 0,
+    }
+}
+
+fn needing(k: u32) -> Effect
+    ensures { λ r. ⌜ r ≡ needing k ⌝ }
+{
+    Effect {
+        takes: 0,
+        gives: 0,
+        needs: k,
+    }
+}
+
+// K of a lock, tid or sem type.
+fn load_of(t: TypeLine) -> MapNumber
+    ensures { λ r. ⌜ r ≡ load t ⌝ }
+{
+    match t {
+        TypeLine::Int => MapNumber(0),
+        TypeLine::Ref(_, _) => MapNumber(0),
+        TypeLine::Lock(k) => k,
+        TypeLine::Tid(k) => k,
+        TypeLine::Sem(k) => k,
+    }
+}
+
+// p of a ref type.
+fn place_of(t: TypeLine) -> Location
+    ensures { λ r. ⌜ r ≡ place t ⌝ }
+{
+    match t {
+        TypeLine::Int => Location(0),
+        TypeLine::Ref(p, _) => p,
+        TypeLine::Lock(_) => Location(0),
+        TypeLine::Tid(_) => Location(0),
+        TypeLine::Sem(_) => Location(0),
+    }
+}
+
+// What a map has at the location.
+pub(crate) fn cell_in(work: &[u32], column: Column, m: MapNumber) -> u32
+    ensures { λ r. ⌜ r ≡ cellIn (now (work .entry)) column m ⌝ }
+{
+    map_cell(work, m, index(column.location))
+}
+
+// The type of step k.
+fn type_in(work: &[u32], k: usize) -> TypeLine
+    requires { ⌜ k < 512 ⌝ }
+    ensures { λ r. ⌜ r ≡ typeIn (now (work .entry)) k ⌝ }
+{
+    type_at(work, TypeNumber(at(work, ROW_TYPES + k)))
+}
+
+// K of the type of step k, at the location.
+fn load_in(work: &[u32], column: Column, k: usize) -> u32
+    requires { ⌜ k < 512 ⌝ }
+    ensures { λ r. ⌜ r ≡ loadIn (now (work .entry)) column k ⌝ }
+{
+    cell_in(work, column, load_of(type_in(work, k)))
+}
+
+// The map that the body of step k starts with, at the location.
+fn start_in(work: &[u32], column: Column, k: usize) -> u32
+    requires { ⌜ k < 512 ⌝ }
+    ensures { λ r. ⌜ r ≡ startIn (now (work .entry)) column k ⌝ }
+{
+    cell_in(work, column, MapNumber(at(work, STARTS + k)))
+}
+
+// What access through the ref type of step k needs at the location: d if it is the ref's own, else nothing.
+fn access_in(work: &[u32], column: Column, k: usize, d: u32) -> u32
+    requires { ⌜ k < 512 ⌝ }
+    ensures { λ r. ⌜ r ≡ accessIn (now (work .entry)) column k d ⌝ }
+{
+    let p = place_of(type_in(work, k));
+    if p.0 == column.location { d } else { 0 }
+}
+
+// The way of step k, whose word has the rule r. A first part stands just behind its step.
+fn way_by(r: Rule, work: &[u32], column: Column, k: usize) -> Way
+    requires { ⌜ k < 256 ⌝ }
+    ensures { λ way. ⌜ way ≡ wayBy r (now (work .entry)) column k ⌝ }
+{
+    let part = k + 1;
+    match r {
+        Rule::VAR => Way::Leaf(unchanged()),
+        Rule::INT => Way::Leaf(unchanged()),
+        Rule::LET => Way::Binary(BinaryWay::InTurn(unchanged())),
+        Rule::IF => Way::Binary(BinaryWay::Branch),
+        Rule::WHILE => Way::Unary(UnaryWay::Loop),
+        Rule::NEWT => Way::Leaf(unchanged()),
+        Rule::SPAWN => {
+            let start = start_in(work, column, k);
+            Way::Binary(BinaryWay::Fork(start, load_in(work, column, part)))
+        }
+        Rule::JOIN => Way::Unary(UnaryWay::After(giving(load_in(work, column, part)))),
+        Rule::REF => Way::Unary(UnaryWay::After(unchanged())),
+        Rule::WRITE => {
+            let access = access_in(work, column, part, column.denominator);
+            Way::Binary(BinaryWay::InTurn(needing(access)))
+        }
+        Rule::READ => Way::Unary(UnaryWay::After(needing(access_in(work, column, part, 1)))),
+        Rule::NEWL => Way::Leaf(taking(load_in(work, column, k))),
+        Rule::FREEL => Way::Unary(UnaryWay::After(giving(load_in(work, column, part)))),
+        Rule::LCK => Way::Unary(UnaryWay::After(giving(load_in(work, column, part)))),
+        Rule::ULCK => Way::Unary(UnaryWay::After(taking(load_in(work, column, part)))),
+        Rule::NEWSEM => Way::Leaf(unchanged()),
+        Rule::POST => Way::Unary(UnaryWay::After(taking(load_in(work, column, part)))),
+        Rule::WAIT => Way::Unary(UnaryWay::After(giving(load_in(work, column, part)))),
+    }
+}
+
+// The way in which the number flows through step k.
+pub(crate) fn way_in(work: &[u32], column: Column, k: usize) -> Way
+    requires { ⌜ k < 256 ⌝ }
+    ensures { λ r. ⌜ r ≡ wayIn (now (work .entry)) column k ⌝ }
+{
+    way_by(rule_of(at(work, WORDS + k)), work, column, k)
+}

@@ -1,0 +1,111 @@
+-- What counts of a step when only its types are asked for: since a row has its conditions on types in front, the first false
+-- condition of the row is on types, or no condition on types is false.
+use mathlib.Core.Path.{_≡_, refl, ap}
+use mathlib.Core.Bool.{Bool, true, false}
+use mathlib.Core.List.{List, [], _∷_, _++_}
+use mathlib.Core.Option.{Option, none, some}
+use Prim.Native.Nat.{ℕ, _+_}
+use Rattle.spec.specs.Choice.{if_then_else_}
+use Rattle.spec.specs.Reading.{Out, on, _>>=_}
+use Rattle.spec.specs.Expression.{Expr, leaf, unary, binary}
+use Rattle.spec.specs.Split.{Map, Split}
+use Rattle.spec.specs.Conditions.{Condition, T, F, A, Env, own}
+use Rattle.spec.specs.Sites.{Claim, numbered, judge, firstFalse, isType, only}
+use Rattle.spec.specs.Verdict.{four, returned}
+use Rattle.spec.specs.declared.Purpose.{Purpose}
+use Rattle.spec.specs.declared.Purpose.the-variants.{Check, Fill}
+use Rattle.spec.specs.declared.LeafWord.the-variants.{Var, Int, Newtid, Newlock, Newsem}
+use Rattle.spec.specs.declared.UnaryWord.the-variants.{While, Join, Ref, Read, Freelock, Lock, Unlock, Post, Wait}
+use Rattle.spec.specs.declared.BinaryWord.the-variants.{Let, If, Spawn, Write}
+use Rattle.spec.proofs.Claims.{only-append}
+use Rattle.rules.specs.Outcome.{judged}
+use Rattle.rules.specs.Walk.{onTypes, counted}
+
+-- the claims that are asked for
+unfoldable pub asked : Purpose → List Claim → List Claim
+asked Check cs = cs
+asked Fill cs = only isType cs
+
+pub asked-append : (purpose : Purpose) (xs ys : List Claim) → asked purpose (xs ++ ys) ≡ asked purpose xs ++ asked purpose ys
+unfolding asked
+asked-append Check xs ys = refl
+asked-append Fill xs ys = only-append isType xs ys
+
+pub asked-none : (purpose : Purpose) → asked purpose [] ≡ []
+unfolding asked only
+asked-none Check = refl
+asked-none Fill = refl
+
+-- ------------------------------------------------------------------ rows
+
+-- no condition is on types
+NoTypes : List Condition → Type 0
+NoTypes [] = Unit {0}
+NoTypes (T b ∷ cs) = ⊥
+NoTypes (F o ∷ cs) = NoTypes cs
+NoTypes (A b p ∷ cs) = NoTypes cs
+
+-- the conditions on types are in front
+TypesFirst : List Condition → Type 0
+TypesFirst [] = Unit {0}
+TypesFirst (T b ∷ cs) = TypesFirst cs
+TypesFirst (F o ∷ cs) = NoTypes cs
+TypesFirst (A b p ∷ cs) = NoTypes cs
+
+row-types-first : (S : Split) (Γ : Env) (pre : Map) (e : Expr) → TypesFirst (own S Γ pre e)
+unfolding own TypesFirst NoTypes
+row-types-first S Γ pre (leaf Var k v) = tt
+row-types-first S Γ pre (leaf Int k v) = tt
+row-types-first S Γ pre (binary Let k v e₁ e₂) = tt
+row-types-first S Γ pre (binary If k v e₁ e₂) = tt
+row-types-first S Γ pre (unary While k v e₁) = tt
+row-types-first S Γ pre (leaf Newtid k v) = tt
+row-types-first S Γ pre (binary Spawn k v e₁ e₂) = tt
+row-types-first S Γ pre (unary Join k v e₁) = tt
+row-types-first S Γ pre (unary Ref k v e₁) = tt
+row-types-first S Γ pre (binary Write k v e₁ e₂) = tt
+row-types-first S Γ pre (unary Read k v e₁) = tt
+row-types-first S Γ pre (leaf Newlock k v) = tt
+row-types-first S Γ pre (unary Freelock k v e₁) = tt
+row-types-first S Γ pre (unary Lock k v e₁) = tt
+row-types-first S Γ pre (unary Unlock k v e₁) = tt
+row-types-first S Γ pre (leaf Newsem k v) = tt
+row-types-first S Γ pre (unary Post k v e₁) = tt
+row-types-first S Γ pre (unary Wait k v e₁) = tt
+
+-- ------------------------------------------------------------------ outcomes
+
+module _ (line : ℕ) where
+  -- of the types, a row without any says nothing
+  no-types-asked : (i : ℕ) (cs : List Condition) → NoTypes cs → only isType (numbered line i cs) ≡ []
+  unfolding NoTypes numbered only isType
+  no-types-asked i [] h = refl
+  no-types-asked i (T b ∷ cs) h = absurd h
+  no-types-asked i (F o ∷ cs) h = no-types-asked (i + 1) cs h
+  no-types-asked i (A b p ∷ cs) h = no-types-asked (i + 1) cs h
+
+  no-types-counted : (i : ℕ) (cs : List Condition) → NoTypes cs → onTypes (judged line i cs) ≡ on tt
+  unfolding NoTypes onTypes judged numbered firstFalse judge _>>=_ returned four
+  no-types-counted i [] h = refl
+  no-types-counted i (T b ∷ cs) h = absurd h
+  no-types-counted i (F none ∷ cs) h = no-types-counted (i + 1) cs h
+  no-types-counted i (F (some l) ∷ cs) h = refl
+  no-types-counted i (A true p ∷ cs) h = no-types-counted (i + 1) cs h
+  no-types-counted i (A false p ∷ cs) h = refl
+
+  types-counted : (i : ℕ) (cs : List Condition) → TypesFirst cs → onTypes (judged line i cs) ≡ firstFalse (only isType (numbered line i cs))
+  unfolding TypesFirst onTypes judged numbered firstFalse judge only isType _>>=_ returned four
+  types-counted i [] h = refl
+  types-counted i (T true ∷ cs) h = types-counted (i + 1) cs h
+  types-counted i (T false ∷ cs) h = refl
+  types-counted i (F none ∷ cs) h = rw (no-types-asked (i + 1) cs h) (no-types-counted (i + 1) cs h)
+  types-counted i (F (some l) ∷ cs) h = rw (no-types-asked (i + 1) cs h)
+  types-counted i (A true p ∷ cs) h = rw (no-types-asked (i + 1) cs h) (no-types-counted (i + 1) cs h)
+  types-counted i (A false p ∷ cs) h = rw (no-types-asked (i + 1) cs h)
+
+  -- what counts of a row is its first false claim of those that are asked for
+  pub row-counted : (purpose : Purpose) (S : Split) (Γ : Env) (pre : Map) (e : Expr)
+      → counted purpose (judged line 1 (own S Γ pre e)) ≡ firstFalse (asked purpose (numbered line 1 (own S Γ pre e)))
+  unfolding counted asked judged
+  row-counted Check S Γ pre e = refl
+  row-counted Fill S Γ pre e = types-counted 1 (own S Γ pre e) (row-types-first S Γ pre e)

@@ -1,0 +1,45 @@
+use Rattle.rules.specs.Outcome.{outcome}
+use Rattle.rules.specs.Walk.{onTypes, counted}
+use borrow.Author.Needs.{needs}
+use Rattle.rules.proofs.steps.counted.Statement.{statement}
+use Rattle.rules.proofs.steps.counted.Tie as tie
+
+enum-told : tie.Need-enum-told
+enum-told c = search needs
+
+enum-told-2 : tie.Need-enum-told-2
+enum-told-2 c = search needs
+
+enum-told-3 : tie.Need-enum-told-3
+enum-told-3 c = search needs
+
+enum-known-r : tie.Need-enum-known-r
+enum-known-r c = search needs
+
+on-types-requires : tie.Need-on-types-requires
+on-types-requires c κs = search needs
+
+returns : tie.Need-returns
+unfolding counted
+returns c = rw (c .enum-told .given .1)
+
+returns-2 : tie.Need-returns-2
+unfolding counted outcome onTypes
+returns-2 c = rw (c .before .before .enum-told2 .given .1, c .enum-told3 .given .1)
+
+returns-3 : tie.Need-returns-3
+unfolding counted outcome
+returns-3 c = rw (c .before .before .before .before .enum-told2 .given .1, c .before .before .r .given .1) (c .on-types .ensures)
+
+pub counted-spec : {M : Type 1} → statement M
+counted-spec =
+    tie.close
+    (tie.spec
+    enum-told
+    enum-told-2
+    enum-told-3
+    enum-known-r
+    on-types-requires
+    returns
+    returns-2
+    returns-3)

@@ -1,0 +1,104 @@
+-- The split that the work space holds is the one that stands there, entry by entry; and the bounds that the writers ask for.
+use mathlib.Core.Path.{_≡_, refl, sym, ap, _∙_}
+use mathlib.Core.List.{List, [], _∷_}
+use mathlib.Core.Option.{Option, none, some}
+use Prim.Native.Nat.{ℕ, zero, suc, _+_, _*_, _≤_, _<_}
+use native.Mathlib.Omega.{arith}
+use lib.ListN.{length, getD, take, drop, length-map}
+use borrow.Author.Tests.{ne-eqb}
+use Rattle.spec.specs.Split.{Header, Row, Split}
+use Rattle.spec.specs.declared.MapNumber.{MapNumber}
+use Rattle.spec.specs.declared.TypeLine.the-variants.{Int}
+use Rattle.workspace.specs.Layout.{rowTypesAt, postsAt, startsAt, kindsAt, firstsAt, secondsAt, mapsAt, stride, emptyMap, kindOf, firstOf, secondOf, typeAt}
+use Rattle.workspace.specs.Holds.{startNumber}
+use Rattle.workspace.proofs.Region.{column, region-part}
+use Rattle.workspace.proofs.Codes.{type-of-numbers}
+use Rattle.split.specs.Lines.{headerTold}
+use Rattle.split.specs.declared.Header.{Header as HeaderRead}
+use Rattle.sheets.specs.Stored.{inOrder, typeIn, mapIn, startIn, rowIn, splitIn}
+use Rattle.sheets.specs.Contract.{HoldsSheet}
+
+-- things in order are the entries of a list
+in-order-entries : {A : Type 0} (f : ℕ → A) (xs : List A) (d : A) (i n : ℕ) → length xs ≡ n
+    → ((j : ℕ) → j < length xs → f (i + j) ≡ getD xs j d) → inOrder f i n ≡ xs
+unfolding inOrder
+in-order-entries f [] d i zero l e = refl
+in-order-entries f [] d i (suc n) l e = absurd (omega (arith, l))
+in-order-entries f (x ∷ xs) d i zero l e = absurd (omega (arith, l))
+in-order-entries f (x ∷ xs) d i (suc n) l e =
+    let here : f i ≡ x = ap f (omega arith) ∙ e 0 (omega arith) in
+    let behind = in-order-entries f xs d (i + 1) n (omega (arith, l)) (λ j h. ap f (omega arith) ∙ e (suc j) (omega arith)) in
+    λ k. here k ∷ behind k
+
+-- the number of a start that is a map, or of the empty map
+start-told : (o : Option MapNumber) → ((m : MapNumber) → o ≡ some m → m .0 < emptyMap) → startIn (startNumber o) ≡ o
+unfolding startIn startNumber
+start-told none few = refl
+start-told (some m) few = rw (ne-eqb (m .0) emptyMap (λ e. omega (arith, few m refl)))
+
+-- a row of nothing
+abbrev noRow : Row
+noRow = record { type = record { 0 = 0 }; post = record { 0 = 0 }; start = none }
+
+module _ {w : List ℕ} {header : HeaderRead} {steps : ℕ} {S : Split} (K : HoldsSheet w header steps S) where
+  type-held : (t : ℕ) → t < length (S .types) → typeIn w t ≡ getD (S .types) t Int
+  unfolding typeIn typeAt
+  type-held t h =
+      rw (
+        column w kindsAt kindOf (S .types) Int t (K .split .kinds) h,
+        column w firstsAt firstOf (S .types) Int t (K .split .firsts) h,
+        column w secondsAt secondOf (S .types) Int t (K .split .seconds) h,
+      )
+      (type-of-numbers _)
+
+  map-held : (m : ℕ) → m < length (S .maps) → mapIn (S .header .locations) w m ≡ getD (S .maps) m []
+  unfolding mapIn
+  map-held m h =
+      let xs = getD (S .maps) m [] in
+      ap (λ (n : ℕ). take n (drop (mapsAt + stride * m) w)) (sym (K .inRange .mapWide m h)) ∙ region-part w (mapsAt + stride * m) xs (K .split .maps m h)
+
+  row-held : (i : ℕ) → i < length (S .rows) → rowIn w i ≡ getD (S .rows) i noRow
+  unfolding rowIn
+  row-held i h =
+      let r = getD (S .rows) i noRow in
+      let typed = column w rowTypesAt (λ (q : Row). q .type .0) (S .rows) noRow i (K .split .rowTypes) h in
+      let left = column w postsAt (λ (q : Row). q .post .0) (S .rows) noRow i (K .split .posts) h in
+      let number = column w startsAt (λ (q : Row). startNumber (q .start)) (S .rows) noRow i (K .split .starts) h in
+      let few : (m : MapNumber) → r .start ≡ some m → m .0 < emptyMap =
+      λ m e. omega (arith, K .inRange .rowStart i noRow m h e, K .inRange .mapsCounted, K .inRange .mapsFew) in
+      let start = ap startIn number ∙ start-told (r .start) few in
+      λ k. record { type = record { 0 = typed k }; post = record { 0 = left k }; start = start k }
+
+  pub split-held : splitIn (headerTold header) steps w ≡ S
+  unfolding splitIn
+  split-held =
+      let R = K .inRange in
+      let behind : (j : ℕ) → 0 + j ≡ j = λ j. omega arith in
+      let types = in-order-entries (typeIn w) (S .types) Int 0 (S .header .types) (R .typesCounted) (λ t h. ap (typeIn w) (behind t) ∙ type-held t h) in
+      let maps = in-order-entries (mapIn (S .header .locations) w) (S .maps) [] 0 (S .header .maps) (R .mapsCounted) (λ m h. ap (mapIn (S .header .locations) w) (behind m) ∙ map-held m h) in
+      let rows = in-order-entries (rowIn w) (S .rows) noRow 0 steps (R .rowsCounted ∙ K .counted) (λ i h. ap (rowIn w) (behind i) ∙ row-held i h) in
+      ap (λ (H : Header). splitIn H steps w) (sym (K .headed)) ∙ (λ k. record { header = S .header; types = types k; maps = maps k; rows = rows k })
+
+  -- ---------------------------------------------------------------- numbers that the work space has room for
+
+  head : (f : Header → ℕ) → f (S .header) ≡ f (headerTold header)
+  head f = ap f (K .headed)
+
+  pub header-small : (header .locations < 4294967296) × (header .types < 4294967296) × (header .maps < 4294967296)
+  unfolding headerTold
+  header-small = (
+    omega (arith, head (λ H. H .locations), K .inRange .locations),
+    omega (arith, head (λ H. H .types), K .inRange .typesFew),
+    omega (arith, head (λ H. H .maps), K .inRange .mapsFew),
+  )
+
+  pub maps-stand : (1 ≤ header .locations) × (header .locations ≤ 16) × (4096 + 16 * header .maps ≤ length w)
+  unfolding headerTold
+  maps-stand = (
+    omega (arith, head (λ H. H .locations), K .inRange .locations),
+    omega (arith, head (λ H. H .locations), K .inRange .locations),
+    omega (arith, head (λ H. H .maps), K .inRange .mapsFew, K .split .empty .fits),
+  )
+
+  pub rows-stand : 1536 + steps ≤ length w
+  rows-stand = omega (arith, K .split .starts .fits, length-map (S .rows) (λ (r : Row). startNumber (r .start)), K .inRange .rowsCounted, K .counted)

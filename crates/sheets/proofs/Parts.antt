@@ -1,0 +1,116 @@
+-- The lines of a split sheet, part by part as they are written.
+use mathlib.Core.Path.{_≡_, sym, ap, _∙_}
+use mathlib.Core.List.{List, [], _∷_, _++_, map, append-assoc}
+use Prim.Native.Nat.{ℕ, suc, _+_, _-_, _*_, _≤_, _<_}
+use native.Mathlib.Nat.{add-sub-cancel-left}
+use native.Mathlib.Omega.{arith}
+use lib.ListN.{length, getD, take, drop, length-drop}
+use lib.Seq.{length-take-le}
+use borrow.Author.Tests.{eq-eqb, ne-eqb}
+use Rattle.spec.specs.Text.{bytes, Field}
+use Rattle.spec.specs.Split.{Header}
+use Rattle.spec.specs.declared.Heading.the-variants.{C, C2}
+use Rattle.spec.specs.declared.Purpose.the-variants.{Check}
+use Rattle.spec.specs.declared.MapNumber.{MapNumber}
+use Rattle.spec.specs.declared.TypeNumber.{TypeNumber}
+use Rattle.spec.specs.declared.Location.{Location}
+use Rattle.spec.specs.declared.TypeLine.{TypeLine}
+use Rattle.spec.specs.declared.TypeLine.the-variants.{Int, Ref, Lock, Tid, Sem}
+use Rattle.workspace.specs.Layout.{rowTypesAt, postsAt, startsAt, mapsAt, stride, emptyMap}
+use Rattle.split.specs.Lines.{headerTold}
+use Rattle.split.specs.declared.Header.{Header as HeaderRead}
+use Rattle.writer.specs.Text.{digit, digitsWithin, decimal, line, text}
+use Rattle.writer.specs.Sheet.{headingName, headerNumbers, headerFields, typeFields, mapFields, postShown, startShown, rowFields, splitLines, written}
+use Rattle.writer.proofs.Lines.{text-append}
+use Rattle.sheets.specs.Stored.{inOrder, typeIn, mapIn, startIn, rowIn, splitIn}
+
+-- ------------------------------------------------------------------ lines in order
+
+-- from i up to an end: one line, and those behind it
+module _ {A : Type 0} (shown : A → List Field) (f : ℕ → A) (i end : ℕ) where
+  pub lines-next : i < end
+      → text (map shown (inOrder f i (end - i))) ≡ text (shown (f i) ∷ []) ++ text (map shown (inOrder f (i + 1) (end - (i + 1))))
+  unfolding inOrder
+  lines-next h =
+      let one : end - i ≡ suc (end - (i + 1)) = omega arith in
+      ap (λ (n : ℕ). text (map shown (inOrder f i n))) one ∙ text-append (shown (f i) ∷ []) (map shown (inOrder f (i + 1) (end - (i + 1))))
+
+  pub lines-none : end ≤ i → text (map shown (inOrder f i (end - i))) ≡ []
+  unfolding inOrder text
+  lines-none h = let none : end - i ≡ 0 = omega arith in ap (λ (n : ℕ). text (map shown (inOrder f i n))) none
+
+-- the next map, as the part of the work space that is lent
+module _ (locations : ℕ) (w : List ℕ) where
+  pub maps-next : (m end : ℕ) → m < end
+      → text (map mapFields (inOrder (mapIn locations w) m (end - m)))
+      ≡ line (map decimal (take (mapsAt + stride * m + locations - (mapsAt + stride * m)) (drop (mapsAt + stride * m) w))) []
+      ++ text (map mapFields (inOrder (mapIn locations w) (m + 1) (end - (m + 1))))
+  unfolding line text mapFields mapIn
+  maps-next m end h = rw (add-sub-cancel-left (mapsAt + stride * m) locations) (lines-next mapFields (mapIn locations w) m end h)
+
+  pub map-long : (m : ℕ) → 1 ≤ locations → mapsAt + stride * m + locations ≤ length w
+      → 1 ≤ length (take (mapsAt + stride * m + locations - (mapsAt + stride * m)) (drop (mapsAt + stride * m) w))
+  map-long m some-place h =
+      let l : length (drop (mapsAt + stride * m) w) ≡ length w - (mapsAt + stride * m) = length-drop (mapsAt + stride * m) w in
+      rw (add-sub-cancel-left (mapsAt + stride * m) locations, length-take-le locations (drop (mapsAt + stride * m) w) (omega arith)) some-place
+
+-- ------------------------------------------------------------------ the header
+
+module _ (h : HeaderRead) where
+  pub plain-header-parts : h .heading ≡ C → text (headerFields (headerTold h) ∷ [])
+      ≡ bytes "C," ++ line (map decimal (h .denominator ∷ h .locations ∷ h .types ∷ h .maps ∷ [])) []
+  unfolding bytes line text headerTold headingName headerNumbers headerFields
+  plain-header-parts e = rw e
+
+  pub started-header-parts : h .heading ≡ C2 → text (headerFields (headerTold h) ∷ [])
+      ≡ bytes "C2," ++ line (map decimal (h .denominator ∷ h .locations ∷ h .types ∷ h .maps ∷ h .start .0 ∷ [])) []
+  unfolding bytes line text headerTold headingName headerNumbers headerFields
+  started-header-parts e = rw e
+
+-- ------------------------------------------------------------------ type lines
+
+module _ {τ : TypeLine} where
+  pub int-parts : τ ≡ Int → text (typeFields τ ∷ []) ≡ bytes "int,0,0\n"
+  unfolding bytes digit digitsWithin decimal line text typeFields
+  int-parts e = rw e
+
+  pub ref-parts : {p : Location} {t : TypeNumber} → τ ≡ Ref p t → text (typeFields τ ∷ []) ≡ bytes "ref," ++ line (map decimal (p .0 ∷ t .0 ∷ [])) []
+  unfolding bytes line text typeFields
+  ref-parts e = rw e
+
+  pub lock-parts : {k : MapNumber} → τ ≡ Lock k → text (typeFields τ ∷ []) ≡ bytes "lock," ++ line (map decimal (k .0 ∷ 0 ∷ [])) []
+  unfolding bytes line text typeFields
+  lock-parts e = rw e
+
+  pub tid-parts : {k : MapNumber} → τ ≡ Tid k → text (typeFields τ ∷ []) ≡ bytes "tid," ++ line (map decimal (k .0 ∷ 0 ∷ [])) []
+  unfolding bytes line text typeFields
+  tid-parts e = rw e
+
+  pub sem-parts : {k : MapNumber} → τ ≡ Sem k → text (typeFields τ ∷ []) ≡ bytes "sem," ++ line (map decimal (k .0 ∷ 0 ∷ [])) []
+  unfolding bytes line text typeFields
+  sem-parts e = rw e
+
+-- ------------------------------------------------------------------ rows
+
+module _ (w : List ℕ) (i : ℕ) {t m s : ℕ} (typed : t ≡ getD w (rowTypesAt + i) 0) (left : m ≡ getD w (postsAt + i) 0) (starts : s ≡ getD w (startsAt + i) 0) where
+  pub row-parts : s ≡ emptyMap → text (rowFields Check (rowIn w i) ∷ []) ≡ (decimal t ++ (44 ∷ [])) ++ ((decimal m ++ (44 ∷ [])) ++ (10 ∷ []))
+  unfolding line text postShown startShown rowFields startIn rowIn
+  row-parts e = rw (typed, left, eq-eqb (getD w (startsAt + i) 0) emptyMap (sym starts ∙ e)) (simp append-assoc)
+
+  pub start-row-parts : (s ≡ emptyMap → ⊥)
+      → text (rowFields Check (rowIn w i) ∷ []) ≡ (decimal t ++ (44 ∷ [])) ++ ((decimal m ++ (44 ∷ [])) ++ (decimal s ++ (10 ∷ [])))
+  unfolding line text postShown startShown rowFields startIn rowIn
+  start-row-parts n = rw (typed, left, starts, ne-eqb (getD w (startsAt + i) 0) emptyMap (λ e. n (starts ∙ e))) (simp append-assoc)
+
+-- ------------------------------------------------------------------ the sheet
+
+pub sheet-parts : (H : Header) (steps : ℕ) (w : List ℕ) → written (splitIn H steps w)
+    ≡ text (headerFields H ∷ []) ++ (text (map typeFields (inOrder (typeIn w) 0 (H .types)))
+    ++ (text (map mapFields (inOrder (mapIn (H .locations) w) 0 (H .maps))) ++ text (map (rowFields Check) (inOrder (rowIn w) 0 steps))))
+unfolding written splitLines splitIn
+sheet-parts H steps w =
+    let T = map typeFields (inOrder (typeIn w) 0 (H .types)) in
+    let M = map mapFields (inOrder (mapIn (H .locations) w) 0 (H .maps)) in
+    let R = map (rowFields Check) (inOrder (rowIn w) 0 steps) in
+    text-append (headerFields H ∷ []) (T ++ (M ++ R))
+    ∙ ap (λ (x : List ℕ). text (headerFields H ∷ []) ++ x) (text-append T (M ++ R) ∙ ap (λ (x : List ℕ). text T ++ x) (text-append M R))

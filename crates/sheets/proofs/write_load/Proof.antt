@@ -1,0 +1,35 @@
+-- The word, then the load and 0.
+use mathlib.Core.Path.{refl}
+use borrow.Author.Needs.{needs}
+use Rattle.writer.proofs.Buffer.{parted, onward, finish}
+use Rattle.sheets.proofs.write_load.Statement.{statement}
+use Rattle.sheets.proofs.write_load.Tie as tie
+
+write-bytes-requires : tie.Need-write-bytes-requires
+write-bytes-requires c κs = search needs
+
+slice-aggregate-write-numbers : tie.Need-slice-aggregate-write-numbers
+slice-aggregate-write-numbers c = search needs
+
+write-numbers-requires : tie.Need-write-numbers-requires
+write-numbers-requires c κs = search needs
+
+same-length : tie.Need-same-length
+same-length c = search needs
+
+returns : tie.Need-returns
+returns c =
+    let c₂ = c .before .before in
+    let c₁ = c₂ .before .before .before .before .before in
+    let start = c₁ .before .before .before .before in
+    finish (onward _ _ (parted _ _ refl (start .good .0 .0) (start .fits .at .fits)) (c₁ .write-bytes .ensures)) (c₂ .write-numbers .ensures)
+
+pub write-load-spec : {M : Type 1} → statement M
+write-load-spec =
+    tie.close
+    (tie.spec
+    write-bytes-requires
+    slice-aggregate-write-numbers
+    write-numbers-requires
+    same-length
+    returns)

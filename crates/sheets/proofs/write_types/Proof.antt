@@ -1,0 +1,69 @@
+-- The loop's invariant: the types from t on remain to be written.
+use mathlib.Core.Path.{refl}
+use mathlib.Core.List.{map}
+use Prim.Native.Nat.{_-_}
+use native.Mathlib.Nat.{sub-zero}
+use native.Mathlib.Omega.{arith}
+use borrow.Author.Needs.{needs}
+use Rattle.writer.specs.Text.{text}
+use Rattle.writer.specs.Sheet.{typeFields}
+use Rattle.writer.proofs.Buffer.{Remains, parted, restated, onward, done}
+use Rattle.sheets.specs.Stored.{inOrder, typeIn}
+use Rattle.sheets.proofs.Parts.{lines-next, lines-none}
+use Rattle.sheets.proofs.write_types.Statement.{statement}
+use Rattle.sheets.proofs.write_types.Tie as tie
+
+abbrev Inv-loop : tie.InvT-loop
+Inv-loop buffer₀ at work types to₀ t₀ buffer to t =
+    Remains buffer₀ at (text (map typeFields (inOrder (typeIn work) 0 types))) buffer to (text (map typeFields (inOrder (typeIn work) t (types - t))))
+
+abbrev μ-loop : tie.MeasureT-loop
+μ-loop buffer₀ at work types to₀ t₀ buffer to t = types - t
+
+loop-holds : tie.Need-loop-holds Inv-loop μ-loop
+loop-holds c = rw sub-zero (parted _ _ refl (c .before .before .good .0 .0) (c .before .before .fits .at .fits))
+
+cast-number : tie.Need-cast-number Inv-loop μ-loop
+cast-number c = omega arith
+
+type-at-requires : tie.Need-type-at-requires Inv-loop μ-loop
+type-at-requires c κs = search needs
+
+write-type-requires : tie.Need-write-type-requires Inv-loop μ-loop
+write-type-requires c κs = search needs
+
+add-t : tie.Need-add-t Inv-loop μ-loop
+add-t c = omega arith
+
+loop-less : tie.Need-loop-less Inv-loop μ-loop
+loop-less c = omega arith
+
+loop-again : tie.Need-loop-again Inv-loop μ-loop
+unfolding typeIn
+loop-again c =
+    let call = c .before .before in
+    let made = call .before .before in
+    let test = made .before in
+    onward _ _ (restated (lines-next _ _ _ _ (test .loop-test .taken)) (test .before .loop .inv)) (rw (made .type-at .ensures) at (call .write-type .ensures))
+
+same-length : tie.Need-same-length Inv-loop μ-loop
+same-length c = c .before .loop .inv .sized
+
+returns : tie.Need-returns Inv-loop μ-loop
+returns c = done (restated (lines-none _ _ _ _ (c .loop-test .left)) (c .before .loop .inv))
+
+pub write-types-spec : {M : Type 1} → statement M
+write-types-spec =
+    tie.close
+    (tie.spec
+    Inv-loop
+    μ-loop
+    loop-holds
+    cast-number
+    type-at-requires
+    write-type-requires
+    add-t
+    loop-less
+    loop-again
+    same-length
+    returns)

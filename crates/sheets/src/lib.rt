@@ -1,0 +1,150 @@
+// Writing a whole split sheet: the split that the work space holds, line by line, into a lent buffer.
+use spec::Heading;
+use spec::MapNumber;
+use spec::TypeLine;
+use spec::TypeNumber;
+use split::Header;
+use workspace::EMPTY_MAP;
+use workspace::MAPS;
+use workspace::POSTS;
+use workspace::ROW_TYPES;
+use workspace::STARTS;
+use workspace::STRIDE;
+use workspace::type_at;
+use writer::write_byte;
+use writer::write_bytes;
+use writer::write_field;
+use writer::write_numbers;
+ghost use mathlib.Core.List.{[], _∷_, _++_, map};
+ghost use Prim.Native.Nat.{_*_, _+_, _≤_, _<_};
+ghost use lib.ListN.{length};
+ghost use Rattle.split.specs.Lines.{headerTold};
+ghost use Rattle.writer.specs.Text.{decimal, line, text};
+ghost use Rattle.writer.specs.Buffer.{Written};
+ghost use Rattle.writer.specs.Sheet.{headerFields, typeFields, mapFields, rowFields};
+ghost use Rattle.spec.specs.declared.Purpose.the-variants.{Check};
+ghost use Rattle.sheets.specs.Stored.{inOrder, typeIn, mapIn, rowIn};
+ghost use Rattle.sheets.specs.Contract.{HoldsSome, SheetWritten};
+
+// Writes the header.
+fn write_header(buffer: &mut [u8], header: Header) -> usize
+    requires { ⌜ (header .locations < 4294967296) × (header .types < 4294967296) × (header .maps < 4294967296) ⌝ }
+    ensures { λ r. ⌜ Written (now (buffer .entry)) (now (buffer .exit)) 0 (text (headerFields (headerTold header) ∷ [])) r ⌝ }
+{
+    let locations = header.locations as u32;
+    let types = header.types as u32;
+    let maps = header.maps as u32;
+    let heading = header.heading;
+    match heading {
+        Heading::C => {
+            let named = write_bytes(buffer, 0, b"C,");
+            write_numbers(buffer, named, &[header.denominator, locations, types, maps])
+        }
+        Heading::C2 => {
+            let named = write_bytes(buffer, 0, b"C2,");
+            write_numbers(
+                buffer,
+                named,
+                &[header.denominator, locations, types, maps, header.start.0],
+            )
+        }
+    }
+}
+
+// Writes the line of a type that has a load: its word, a comma, the load's map and 0.
+fn write_load(buffer: &mut [u8], at: usize, word: &[u8], load: MapNumber) -> usize
+    ensures { λ r. ⌜ Written (now (buffer .entry)) (now (buffer .exit)) at (now (word .entry) ++ line (map decimal (load .0 ∷ 0 ∷ [])) []) r ⌝ }
+{
+    let named = write_bytes(buffer, at, word);
+    write_numbers(buffer, named, &[load.0, 0])
+}
+
+// Writes a type line.
+fn write_type(buffer: &mut [u8], at: usize, of: TypeLine) -> usize
+    ensures { λ r. ⌜ Written (now (buffer .entry)) (now (buffer .exit)) at (text (typeFields of ∷ [])) r ⌝ }
+{
+    match of {
+        TypeLine::Int => write_bytes(buffer, at, b"int,0,0\n"),
+        TypeLine::Ref(place, content) => {
+            let named = write_bytes(buffer, at, b"ref,");
+            write_numbers(buffer, named, &[place.0, content.0])
+        }
+        TypeLine::Lock(load) => write_load(buffer, at, b"lock,", load),
+        TypeLine::Tid(load) => write_load(buffer, at, b"tid,", load),
+        TypeLine::Sem(load) => write_load(buffer, at, b"sem,", load),
+    }
+}
+
+// Writes the lines of so many types.
+fn write_types(buffer: &mut [u8], at: usize, work: &[u32], types: usize) -> usize
+    requires { ⌜ types < 4294967296 ⌝ }
+    ensures { λ r. ⌜ Written (now (buffer .entry)) (now (buffer .exit)) at (text (map typeFields (inOrder (typeIn (now (work .entry))) 0 types))) r ⌝ }
+{
+    let mut to = at;
+    let mut t = 0;
+    while t < types {
+        let number = t as u32;
+        let of = type_at(work, TypeNumber(number));
+        to = write_type(buffer, to, of);
+        t += 1;
+    }
+    to
+}
+
+// Writes the lines of so many maps, each with a number for each location.
+fn write_maps(buffer: &mut [u8], at: usize, work: &[u32], locations: usize, maps: usize) -> usize
+    requires { ⌜ (1 ≤ locations) × (locations ≤ 16) × (4096 + 16 * maps ≤ length (now work)) ⌝ }
+    ensures { λ r. ⌜ Written (now (buffer .entry)) (now (buffer .exit)) at (text (map mapFields (inOrder (mapIn locations (now (work .entry))) 0 maps))) r ⌝ }
+{
+    let mut to = at;
+    let mut m = 0;
+    while m < maps {
+        let first = MAPS + STRIDE * m;
+        let past = first + locations;
+        to = write_numbers(buffer, to, &work[first..past]);
+        m += 1;
+    }
+    to
+}
+
+// Writes the row of a step.
+fn write_row(buffer: &mut [u8], at: usize, work: &[u32], step: usize) -> usize
+    requires { ⌜ 1536 + step < length (now work) ⌝ }
+    ensures { λ r. ⌜ Written (now (buffer .entry)) (now (buffer .exit)) at (text (rowFields Check (rowIn (now (work .entry)) step) ∷ [])) r ⌝ }
+{
+    let of = workspace::at(work, ROW_TYPES + step);
+    let post = workspace::at(work, POSTS + step);
+    let start = workspace::at(work, STARTS + step);
+    let typed = write_field(buffer, at, of as u64, b',');
+    let left = write_field(buffer, typed, post as u64, b',');
+    if start == EMPTY_MAP {
+        return write_byte(buffer, left, b'\n');
+    }
+    write_field(buffer, left, start as u64, b'\n')
+}
+
+// Writes the rows of so many steps.
+fn write_rows(buffer: &mut [u8], at: usize, work: &[u32], steps: usize) -> usize
+    requires { ⌜ 1536 + steps ≤ length (now work) ⌝ }
+    ensures { λ r. ⌜ Written (now (buffer .entry)) (now (buffer .exit)) at (text (map (rowFields Check) (inOrder (rowIn (now (work .entry))) 0 steps))) r ⌝ }
+{
+    let mut to = at;
+    let mut step = 0;
+    while step < steps {
+        to = write_row(buffer, to, work, step);
+        step += 1;
+    }
+    to
+}
+
+// Writes the sheet of the split that the work space holds, with this header and a row for each step, at the front of a buffer, and
+// hands back its length.
+pub fn write_sheet(buffer: &mut [u8], work: &[u32], header: Header, steps: usize) -> usize
+    requires { ⌜ HoldsSome (now work) header steps ⌝ }
+    ensures { λ r. ⌜ SheetWritten (now (work .entry)) header steps (now (buffer .entry)) (now (buffer .exit)) r ⌝ }
+{
+    let headed = write_header(buffer, header);
+    let typed = write_types(buffer, headed, work, header.types);
+    let mapped = write_maps(buffer, typed, work, header.locations, header.maps);
+    write_rows(buffer, mapped, work, steps)
+}

@@ -1,0 +1,38 @@
+use mathlib.Core.Path.{sym, subst}
+use Rattle.spec.specs.declared.Purpose.{Purpose}
+use Rattle.split.specs.Answers.{PostAnswer}
+use Rattle.split.proofs.FieldLaws.{post-checked}
+use borrow.Author.Needs.{needs}
+use Rattle.split.proofs.fields.post_field.Statement.{statement}
+use Rattle.split.proofs.fields.post_field.Tie as tie
+
+enum-told : tie.Need-enum-told
+enum-told c = search needs
+
+leading-number-requires : tie.Need-leading-number-requires
+leading-number-requires c κs = search needs
+
+enum-told-2 : tie.Need-enum-told-2
+enum-told-2 c = search needs
+
+empty-post-requires : tie.Need-empty-post-requires
+empty-post-requires c κs = search needs
+
+returns : tie.Need-returns
+returns c =
+    let told = c .before in
+    let entry = told .before .before .before in
+    let text = entry .args .text .now in
+    let cursor = entry .args .cursor in
+    subst (λ (p : Purpose). PostAnswer p text cursor (c .leading-number .result)) (sym (told .enum-told .given .1)) (post-checked text cursor (c .leading-number .result) (c .leading-number .ensures))
+
+returns-2 : tie.Need-returns-2
+returns-2 c =
+    let told = c .before in
+    let entry = told .before .before .before in
+    subst (λ (p : Purpose). PostAnswer p (entry .args .text .now) (entry .args .cursor) (c .empty-post .result)) (sym (told .enum-told2 .given .1)) (c .empty-post .ensures)
+
+pub post-field-spec : {M : Type 1} → statement M
+post-field-spec =
+    tie.close
+    (tie.spec enum-told leading-number-requires enum-told-2 empty-post-requires returns returns-2)

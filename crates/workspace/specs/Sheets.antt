@@ -1,0 +1,23 @@
+-- What it is for the work space to hold both sheets, once they are read.
+use mathlib.Core.Path.{_≡_}
+use mathlib.Core.List.{List}
+use Prim.Native.Nat.{ℕ}
+use lib.ListN.{length}
+use Rattle.spec.specs.Program.{Program}
+use Rattle.spec.specs.Split.{Split}
+use Rattle.spec.specs.WellFormed.{WellFormedProgram}
+use Rattle.spec.specs.Ranges.{InRange}
+use Rattle.workspace.specs.Holds.{HoldsProgram, HoldsSplit}
+
+-- the work space w holds the program P of a well-formed sheet and a split S for its steps whose numbers are in range, with
+-- so many steps, this denominator, so many locations and the start with this number
+pub record HoldsSheets (w : List ℕ) (steps denominator locations start : ℕ) (P : Program) (S : Split) : Type 0 where
+  pub programText : List ℕ
+  pub wellFormed : WellFormedProgram programText P
+  pub inRange : InRange (P .steps) S
+  pub program : HoldsProgram w P
+  pub split : HoldsSplit w S
+  pub stepsCounted : steps ≡ length (P .steps)
+  pub denominatorGiven : denominator ≡ S .header .denominator
+  pub locationsGiven : locations ≡ S .header .locations
+  pub startGiven : start ≡ S .header .start .0

@@ -1,0 +1,232 @@
+-- A split that is written reads back as that split. Line by line: the numbers of a line are in their ranges, so the line's own way
+-- of reading finds them again; then the lines of the text are those that were written.
+use mathlib.Core.Path.{_≡_, refl, sym, ap, _∙_}
+use mathlib.Core.List.{List, [], _∷_, _++_, map}
+use mathlib.Core.Bool.{false}
+use mathlib.Core.Option.{Option, none, some}
+use Prim.Native.Nat.{ℕ, zero, suc, _+_, _≤_, _<_}
+use native.Mathlib.Omega.{arith}
+use lib.Dec.{eqb}
+use lib.ListN.{length, replicate, getD, length-map, length-replicate, getD-replicate, List·getD-map}
+use Rattle.spec.specs.Text.{bytes, same, lookUp, lines, Field}
+use Rattle.spec.specs.Reading.{splitSheet, on, Seen, right, seen, insist, Range, _to_, below, numbers, begin, noneLeft, end}
+use Rattle.spec.specs.Expression.{Step}
+use Rattle.spec.specs.Split.{Map, Header, headings, headerRanges, mapsIn, mapsOf, startOf, headerOf, headed, headerLine, refOf, lockOf, tidOf, semOf, typeLine, typeLines, mapLine, Row, rowOf, startGiven, startRange, postRange, postField, rowLine, Split, split}
+use Rattle.spec.specs.Ranges.{InRange}
+use Rattle.spec.specs.Accepted.{AtMost}
+use Rattle.spec.specs.Accepted as accepted
+use Rattle.spec.specs.declared.Heading.{Heading}
+use Rattle.spec.specs.declared.Heading.the-variants.{C, C2}
+use Rattle.spec.specs.declared.Purpose.the-variants.{Check}
+use Rattle.spec.specs.declared.MapNumber.{MapNumber}
+use Rattle.spec.specs.declared.Word.the-variants.{Leaf}
+use Rattle.spec.specs.declared.LeafWord.the-variants.{Var}
+use Rattle.spec.specs.declared.TypeLine.{TypeLine}
+use Rattle.spec.specs.declared.TypeLine.the-variants.{Int, Ref, Lock, Tid, Sem}
+use Rattle.spec.proofs.Outcomes.{goes-on-bind}
+use Rattle.spec.proofs.Reading.{read-next, read-all}
+use Rattle.writer.specs.Text.{decimal, text}
+use Rattle.writer.specs.Plain.{Plain, PlainLine, last, next}
+use Rattle.writer.specs.Plain as plain
+use Rattle.writer.specs.Sheet.{headingName, headerNumbers, headerFields, typeFields, mapFields, postShown, startShown, rowFields, splitLines, written}
+use Rattle.writer.specs.Writable.{RootStarts, RowStarts, Writable}
+use Rattle.writer.proofs.Decimal.{decimal-long}
+use Rattle.writer.proofs.Numerals.{decimal-plain}
+use Rattle.writer.proofs.Fields.{joined, fields-joined, line-closed}
+use Rattle.writer.proofs.Numbers.{Within, within-to, within-below, empty, numerals-back, numbers-back, plain-numbers, plain-word}
+use Rattle.writer.proofs.Shown.{Spells, text-shows, all-shown, each-spelled}
+
+-- ------------------------------------------------------------------ plain lines
+
+header-plain : (H : Header) → PlainLine (headerFields H)
+unfolding headerFields headingName headerNumbers bytes
+header-plain H = by-heading (H .heading)
+  where
+    by-heading : (h : Heading) → PlainLine (headingName h ∷ map decimal (headerNumbers h H))
+    by-heading C = plain-word (H .denominator) (H .locations ∷ H .types ∷ H .maps ∷ []) (plain.more refl refl plain.none)
+    by-heading C2 = plain-word (H .denominator) (H .locations ∷ H .types ∷ H .maps ∷ H .start .0 ∷ []) (plain.more refl refl (plain.more refl refl plain.none))
+
+word-3 : {a b c : ℕ} → eqb a 44 ≡ false → eqb a 10 ≡ false → eqb b 44 ≡ false → eqb b 10 ≡ false → eqb c 44 ≡ false → eqb c 10 ≡ false
+    → Plain (a ∷ b ∷ c ∷ [])
+word-3 p q r s t u = plain.more p q (plain.more r s (plain.more t u plain.none))
+
+type-plain : (τ : TypeLine) → PlainLine (typeFields τ)
+unfolding typeFields bytes
+type-plain Int = plain-word 0 (0 ∷ []) (word-3 refl refl refl refl refl refl)
+type-plain (Ref p t) = plain-word (p .0) (t .0 ∷ []) (word-3 refl refl refl refl refl refl)
+type-plain (Lock k) = plain-word (k .0) (0 ∷ []) (plain.more refl refl (word-3 refl refl refl refl refl refl))
+type-plain (Tid k) = plain-word (k .0) (0 ∷ []) (word-3 refl refl refl refl refl refl)
+type-plain (Sem k) = plain-word (k .0) (0 ∷ []) (word-3 refl refl refl refl refl refl)
+
+map-plain : (m : Map) → 1 ≤ length m → PlainLine (mapFields m)
+unfolding mapFields
+map-plain [] h = absurd (omega arith)
+map-plain (a ∷ m) h = plain-numbers a m
+
+start-plain : (s : Option MapNumber) → Plain (startShown s)
+unfolding startShown
+start-plain none = plain.none
+start-plain (some m) = decimal-plain (m .0)
+
+row-plain : (r : Row) → PlainLine (rowFields Check r)
+unfolding rowFields postShown
+row-plain r = next (decimal-plain (r .type .0)) (next (decimal-plain (r .post .0)) (last (start-plain (r .start))))
+
+-- ------------------------------------------------------------------ each line reads back
+
+-- the lines of types by their numbers
+type-lines-length : (H : Header) (own n : ℕ) → length (typeLines H own n) ≡ n
+unfolding typeLines
+type-lines-length H own zero = refl
+type-lines-length H own (suc n) = ap suc (type-lines-length H (own + 1) n)
+
+type-lines-at : (H : Header) (own n i : ℕ) (d : List Field → Seen TypeLine) → i < n → getD (typeLines H own n) i d ≡ typeLine H (own + i)
+unfolding typeLines
+type-lines-at H own zero i d h = absurd (omega arith)
+type-lines-at H own (suc n) zero d h = ap (typeLine H) (omega arith)
+type-lines-at H own (suc n) (suc i) d h = type-lines-at H (own + 1) n i d (omega arith) ∙ ap (typeLine H) (omega arith)
+
+zero-in : {rs : List Range} {ns : List ℕ} → Within rs ns → Within ((0 to 0) ∷ rs) (0 ∷ ns)
+zero-in w = within-to (omega arith, omega arith) (omega arith) w
+
+-- numbers that are at most the largest, one for each location
+map-within : (n : ℕ) {m : Map} → length m ≡ n → AtMost 1000000000 m → Within (replicate n (0 to 1000000000)) m
+map-within zero e accepted.none = empty
+map-within zero e (accepted.more a small) = absurd (omega (arith, e))
+map-within (suc n) e accepted.none = absurd (omega (arith, e))
+map-within (suc n) e (accepted.more a small) = within-to (omega arith, a) (omega arith) (map-within n (omega (arith, e)) small)
+
+-- a start that is not empty is a third numeral
+third-numeral : (H : Header) (s : Step) (t m f : Field) → 1 ≤ length f
+    → rowLine Check H s (t ∷ m ∷ f ∷ [])
+    ≡ seen (λ ns. rowOf (some (startGiven ns)) ns) (numbers (below (H .types) ∷ below (H .maps) ∷ startRange (s .word) H ∷ []) (t ∷ m ∷ f ∷ []))
+unfolding rowLine postRange postField
+third-numeral H s t m [] h = absurd (omega arith)
+third-numeral H s t m (b ∷ f) h = refl
+
+-- defaults of lists
+abbrev aStep : Step
+aStep = record { word = Leaf Var; value = 0 }
+
+abbrev aRow : Row
+aRow = record { type = record { 0 = 0 }; post = record { 0 = 0 }; start = none }
+
+module _ {steps : List Step} {S : Split} (W : Writable steps S) where
+  abbrev H : Header
+  H = S .header
+
+  abbrev R : InRange steps S
+  R = W .inRange
+
+  a-map : {n : ℕ} → n < length (S .maps) → n < H .maps
+  a-map h = omega (arith, R .mapsCounted)
+
+  header-back : headerLine Check (headerFields H) ≡ right H
+  unfolding headerLine headings lookUp headed headerOf startOf mapsIn mapsOf headerFields headingName headerNumbers same bytes seen headerRanges RootStarts
+  header-back = by-heading (H .heading) refl (W .rootStart)
+    where
+      by-heading : (h : Heading) → H .heading ≡ h → RootStarts h (H .start) → headerLine Check (headingName h ∷ map decimal (headerNumbers h H)) ≡ right H
+      by-heading C e z =
+          rw (numbers-back (within-to (R .denominator) (omega arith) (within-to (R .locations) (omega arith)
+          (within-to (R .typesFew) (omega arith) (within-to (R .mapsFew) (omega arith) empty)))))
+          (λ i. right (record {
+            heading = sym e i;
+            denominator = H .denominator;
+            locations = H .locations;
+            types = H .types;
+            maps = H .maps;
+            start = record { 0 = sym z i };
+          }))
+      by-heading C2 e z =
+          let w = within-to (R .denominator) (omega arith) (within-to (R .locations) (omega arith)
+          (within-to (R .typesFew) (omega arith) (within-to (R .mapsFew) (omega arith)
+          (within-below (a-map (R .start)) (omega (arith, R .mapsFew)) empty)))) in
+          rw (numerals-back w, numbers-back w)
+          (λ i. right (record {
+            heading = sym e i;
+            denominator = H .denominator;
+            locations = H .locations;
+            types = H .types;
+            maps = H .maps;
+            start = H .start;
+          }))
+
+  type-back : (t : ℕ) (τ : TypeLine) → t < length (S .types) → getD (S .types) t Int ≡ τ → typeLine H t (typeFields τ) ≡ right τ
+  unfolding typeLine typeFields same bytes seen refOf lockOf tidOf semOf
+  type-back t Int h e = rw (numbers-back (zero-in (zero-in empty)))
+  type-back t (Ref p c) h e =
+      let (place, content) = R .refPlace t p c h e in
+      rw (numbers-back (within-below place (omega (arith, R .locations)) (within-below content (omega (arith, R .typesFew, R .typesCounted)) empty)))
+  type-back t (Lock k) h e = rw (numbers-back (within-below (a-map (R .lockLoad t k h e)) (omega (arith, R .mapsFew)) (zero-in empty)))
+  type-back t (Tid k) h e = rw (numbers-back (within-below (a-map (R .tidLoad t k h e)) (omega (arith, R .mapsFew)) (zero-in empty)))
+  type-back t (Sem k) h e = rw (numbers-back (within-below (a-map (R .semLoad t k h e)) (omega (arith, R .mapsFew)) (zero-in empty)))
+
+  map-back : (m : Map) → length m ≡ H .locations → AtMost 1000000000 m → mapLine H (mapFields m) ≡ right m
+  unfolding mapLine mapFields
+  map-back m wide small = numbers-back (map-within (H .locations) wide small)
+
+  row-back : (s : Step) (r : Row) → r .type .0 < length (S .types) → r .post .0 < length (S .maps)
+      → ((m : MapNumber) → r .start ≡ some m → m .0 < length (S .maps)) → RowStarts (H .heading) (s .word) (r .start)
+      → rowLine Check H s (rowFields Check r) ≡ right r
+  unfolding rowLine rowOf startGiven startRange postRange postField seen insist rowFields postShown startShown RowStarts
+  row-back s r t p inMaps starts = by-start (r .start) refl starts
+    where
+      typed : r .type .0 < H .types
+      typed = omega (arith, t, R .typesCounted)
+
+      few : H .types ≤ 1000000000
+      few = omega (arith, R .typesFew)
+
+      many : H .maps ≤ 1000000000
+      many = omega (arith, R .mapsFew)
+
+      by-start : (o : Option MapNumber) → r .start ≡ o → RowStarts (H .heading) (s .word) o
+          → rowLine Check H s (decimal (r .type .0) ∷ decimal (r .post .0) ∷ startShown o ∷ []) ≡ right r
+      by-start none e empty-allowed =
+          rw (numbers-back (within-below typed few (within-below (a-map p) many empty)), empty-allowed)
+          (λ i. right (record { type = r .type; post = r .post; start = sym e i }))
+      by-start (some m) e spawns =
+          third-numeral H s _ _ (decimal (m .0)) (decimal-long (m .0))
+          ∙ rw (spawns, numbers-back (within-below typed few (within-below (a-map p) many (within-below (a-map (inMaps m e)) many empty))))
+          (λ i. right (record { type = r .type; post = r .post; start = sym e i }))
+
+  -- ---------------------------------------------------------------- all lines of a sort
+
+  types-back : Spells (typeLines H 0 (H .types)) (map typeFields (S .types)) (S .types)
+  types-back = each-spelled typeFields (typeLines H 0 (H .types)) (S .types) (typeLine H 0) Int (R .typesCounted ∙ sym (type-lines-length H 0 (H .types))) (λ t h.
+      let τ = getD (S .types) t Int in
+      let own : 0 + t ≡ t = omega arith in
+      let read = type-lines-at H 0 (H .types) t (typeLine H 0) (omega (arith, R .typesCounted)) ∙ ap (typeLine H) own in
+      (type-plain τ, ap (λ (f : List Field → Seen TypeLine). f (typeFields τ)) read ∙ type-back t τ h refl))
+
+  maps-back : Spells (replicate (H .maps) (mapLine H)) (map mapFields (S .maps)) (S .maps)
+  maps-back = each-spelled mapFields (replicate (H .maps) (mapLine H)) (S .maps) (mapLine H) [] (R .mapsCounted ∙ sym (length-replicate (H .maps) (mapLine H))) (λ n h.
+      let m = getD (S .maps) n [] in
+      let read = getD-replicate (H .maps) n (mapLine H) (mapLine H) (a-map h) in
+      let wide = R .mapWide n h in
+      (map-plain m (omega (arith, wide, R .locations)), ap (λ (f : List Field → Seen Map). f (mapFields m)) read ∙ map-back m wide (W .numbersSmall n)))
+
+  rows-back : Spells (map (rowLine Check H) steps) (map (rowFields Check) (S .rows)) (S .rows)
+  rows-back = each-spelled (rowFields Check) (map (rowLine Check H) steps) (S .rows) (rowLine Check H aStep) aRow (R .rowsCounted ∙ sym (length-map steps (rowLine Check H))) (λ i h.
+      let row = getD (S .rows) i aRow in
+      let read = List·getD-map (rowLine Check H) steps i aStep in
+      let starts = W .rowStarts i aStep aRow (omega (arith, R .rowsCounted)) in
+      (row-plain row, ap (λ (f : List Field → Seen Row). f (rowFields Check row)) read ∙ row-back (getD steps i aStep) row (R .rowType i aRow h) (R .rowPost i aRow h) (λ m. R .rowStart i aRow m h) starts))
+
+  -- ---------------------------------------------------------------- the sheet
+
+  pub written-reads-back : split Check steps (written S) ≡ on S
+  unfolding split begin end noneLeft written splitLines text lines
+  written-reads-back =
+      let rowed = map (rowFields Check) (S .rows) in
+      let mapped = map mapFields (S .maps) ++ rowed in
+      let typed = map typeFields (S .types) ++ mapped in
+      let (l₁, types) = read-all splitSheet (text-shows mapped types-back) 1 in
+      let (l₂, maps) = read-all splitSheet (text-shows rowed maps-back) l₁ in
+      let (l₃, rows) = read-all splitSheet (all-shown rows-back) l₂ in
+      goes-on-bind _ _ (ap (begin splitSheet) (line-closed (text typed) (header-plain H)))
+      (goes-on-bind _ _ (read-next splitSheet (headerLine Check) 0 (joined (headerFields H)) (lines (text typed)) (ap (headerLine Check) (fields-joined (header-plain H)) ∙ header-back))
+      (goes-on-bind _ _ types
+      (goes-on-bind _ _ maps
+      (goes-on-bind _ _ rows
+      (goes-on-bind _ _ refl refl)))))

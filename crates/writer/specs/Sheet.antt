@@ -1,0 +1,68 @@
+-- The split sheet as it is written.
+use mathlib.Core.List.{List, [], _∷_, _++_, map}
+use mathlib.Core.Option.{Option, none, some}
+use Prim.Native.Nat.{ℕ}
+use Rattle.spec.specs.Text.{bytes, Field}
+use Rattle.spec.specs.Split.{Map, Header, Row, Split}
+use Rattle.spec.specs.declared.Heading.{Heading}
+use Rattle.spec.specs.declared.Heading.the-variants.{C, C2}
+use Rattle.spec.specs.declared.Purpose.{Purpose}
+use Rattle.spec.specs.declared.Purpose.the-variants.{Check, Fill}
+use Rattle.spec.specs.declared.MapNumber.{MapNumber}
+use Rattle.spec.specs.declared.TypeLine.{TypeLine}
+use Rattle.spec.specs.declared.TypeLine.the-variants.{Int, Ref, Lock, Tid, Sem}
+use Rattle.writer.specs.Text.{decimal, text}
+
+-- `C,D,L,T,M` and `C2,D,L,T,M,r`
+unfoldable pub headingName : Heading → Field
+headingName C = bytes "C"
+headingName C2 = bytes "C2"
+
+unfoldable pub headerNumbers : Heading → Header → List ℕ
+headerNumbers C H = H .denominator ∷ H .locations ∷ H .types ∷ H .maps ∷ []
+headerNumbers C2 H = H .denominator ∷ H .locations ∷ H .types ∷ H .maps ∷ H .start .0 ∷ []
+
+unfoldable pub headerFields : Header → List Field
+headerFields H = headingName (H .heading) ∷ map decimal (headerNumbers (H .heading) H)
+
+-- `int,0,0`; `ref,p,t`; `lock,k,0`; `tid,k,0`; `sem,k,0`
+unfoldable pub typeFields : TypeLine → List Field
+typeFields Int = bytes "int" ∷ map decimal (0 ∷ 0 ∷ [])
+typeFields (Ref p t) = bytes "ref" ∷ map decimal (p .0 ∷ t .0 ∷ [])
+typeFields (Lock k) = bytes "lock" ∷ map decimal (k .0 ∷ 0 ∷ [])
+typeFields (Tid k) = bytes "tid" ∷ map decimal (k .0 ∷ 0 ∷ [])
+typeFields (Sem k) = bytes "sem" ∷ map decimal (k .0 ∷ 0 ∷ [])
+
+-- a numeral for each location
+unfoldable pub mapFields : Map → List Field
+mapFields m = map decimal m
+
+-- m of a row: a sheet that is to be filled leaves it empty
+unfoldable pub postShown : Purpose → MapNumber → Field
+postShown Check m = decimal (m .0)
+postShown Fill m = []
+
+-- s of a row: it stays empty where no start is given
+unfoldable pub startShown : Option MapNumber → Field
+startShown none = []
+startShown (some m) = decimal (m .0)
+
+-- `t,m,s`
+unfoldable pub rowFields : Purpose → Row → List Field
+rowFields purpose r = decimal (r .type .0) ∷ postShown purpose (r .post) ∷ startShown (r .start) ∷ []
+
+-- header, types, maps, rows
+unfoldable pub splitLines : Purpose → Split → List (List Field)
+splitLines purpose S =
+    headerFields (S .header)
+    ∷ (map typeFields (S .types)
+    ++ (map mapFields (S .maps)
+    ++ map (rowFields purpose) (S .rows)))
+
+-- the sheet of a split, whole
+unfoldable pub written : Split → List ℕ
+written S = text (splitLines Check S)
+
+-- the sheet of a split with the after-maps left out
+unfoldable pub unfilled : Split → List ℕ
+unfilled S = text (splitLines Fill S)

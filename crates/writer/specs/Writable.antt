@@ -1,0 +1,32 @@
+-- The splits that some sheet shows: those that can be written and read back.
+use mathlib.Core.Path.{_≡_}
+use mathlib.Core.List.{List, []}
+use mathlib.Core.Bool.{true}
+use mathlib.Core.Option.{Option, none, some}
+use Prim.Native.Nat.{ℕ, _<_}
+use lib.ListN.{length, getD}
+use Rattle.spec.specs.Expression.{Step}
+use Rattle.spec.specs.Split.{Row, Split, takesStart, mayBeEmpty}
+use Rattle.spec.specs.Ranges.{InRange}
+use Rattle.spec.specs.Accepted.{AtMost}
+use Rattle.spec.specs.declared.Heading.{Heading}
+use Rattle.spec.specs.declared.Heading.the-variants.{C, C2}
+use Rattle.spec.specs.declared.MapNumber.{MapNumber}
+use Rattle.spec.specs.declared.Word.{Word}
+
+-- the start of the root that a heading can show: map 0 where the header does not name it
+unfoldable pub RootStarts : Heading → MapNumber → Type 0
+RootStarts C m = m .0 ≡ 0
+RootStarts C2 m = Unit {0}
+
+-- the start that a row of a step with this word can show
+unfoldable pub RowStarts : Heading → Word → Option MapNumber → Type 0
+RowStarts h w none = mayBeEmpty h w ≡ true
+RowStarts h w (some m) = takesStart w ≡ true
+
+-- a split that can be written for the steps of a program
+pub record Writable (steps : List Step) (S : Split) : Type 0 where
+  pub inRange : InRange steps S
+  pub rootStart : RootStarts (S .header .heading) (S .header .start)
+  pub numbersSmall : (m : ℕ) → AtMost 1000000000 (getD (S .maps) m [])
+  pub rowStarts : (i : ℕ) (s : Step) (r : Row) → i < length steps → RowStarts (S .header .heading) (getD steps i s .word) (getD (S .rows) i r .start)

@@ -1,0 +1,173 @@
+//! Drafts whose conditions on types hold, and whose maps nobody worked out: some can be filled in, some not.
+
+use crate::answer::{LOCATIONS, STEPS};
+use crate::draw::draft::{Draft, Heading, Map, Step, Type};
+use crate::draw::random::Random;
+use crate::words::Word;
+
+/// A draft of drawn size.
+pub fn draft(random: &mut Random) -> Draft {
+    let size = match random.below(10) {
+        0..=5 => 2 + random.below(14),
+        6..=8 => 10 + random.below(60),
+        _ => 200,
+    };
+    let locations = if random.percent(80) { 1 + random.below(3) } else { 1 + random.below(LOCATIONS as usize) };
+    let whole = random.pick(&[1, 2, 4, 1_000, 1_000_000]);
+    let loads = [0, 0, 0, 0, 1, whole / 2, whole];
+    sized(random, size, locations, whole, &loads)
+}
+
+/// A draft of about `size` steps, with these numbers in the maps that types carry and bodies start with.
+pub fn sized(random: &mut Random, size: usize, locations: usize, whole: u32, loads: &[u32]) -> Draft {
+    loop {
+        let mut typed = Typed::new(random, locations, whole, loads);
+        let kind = if typed.random.percent(80) { 0 } else { typed.random.below(typed.draft.types.len()) };
+        typed.expression(kind, size);
+        if typed.draft.steps.len() <= STEPS as usize {
+            return typed.draft;
+        }
+    }
+}
+
+struct Typed<'r> {
+    random: &'r mut Random,
+    draft: Draft,
+    /// The variables in scope, each with its type.
+    scope: Vec<(u32, usize)>,
+    /// How many variables are bound.
+    bound: u32,
+}
+
+/// The kinds of the types, in their order; every draft has all of them.
+const KINDS: [fn(usize) -> Type; 8] = [
+    |_| Type::Int,
+    |location| Type::Ref { location, content: 0 },
+    Type::Tid,
+    Type::Tid,
+    Type::Lock,
+    Type::Lock,
+    Type::Sem,
+    |location| Type::Ref { location, content: 4 },
+];
+
+impl<'r> Typed<'r> {
+    fn new(random: &'r mut Random, locations: usize, whole: u32, loads: &[u32]) -> Typed<'r> {
+        let mut start = Map::default();
+        start[..locations].fill_with(|| if random.percent(80) { whole } else { random.between(0, whole) });
+        let mut maps = vec![start];
+        for _ in 0..4 {
+            let mut map = Map::default();
+            map[..locations].fill_with(|| random.pick(loads));
+            maps.push(map);
+        }
+        random.shuffle(&mut maps);
+        let first = maps.iter().position(|map| *map == start).expect("the start is one of them");
+        let mut types = Vec::new();
+        for kind in KINDS {
+            let below = if matches!(kind(0), Type::Ref { .. }) { locations } else { maps.len() };
+            types.push(kind(random.below(below)));
+        }
+        let draft = Draft { heading: Heading::C2 { start: first }, whole, locations, types, maps, steps: Vec::new() };
+        Typed { random, draft, scope: Vec::new(), bound: 0 }
+    }
+
+    fn push(&mut self, word: Word, number: u32, kind: usize) {
+        let is_start = word == Word::Spawn && self.random.percent(60);
+        let start = is_start.then(|| self.random.below(self.draft.maps.len()));
+        self.draft.steps.push(Step { word, number, kind, post: 0, start });
+    }
+
+    /// A type drawn among those that meet a test.
+    fn kind_where(&mut self, meets: impl Fn(Type) -> bool) -> usize {
+        let kinds: Vec<usize> = (0..self.draft.types.len()).filter(|&kind| meets(self.draft.types[kind])).collect();
+        self.random.pick(&kinds)
+    }
+
+    /// An expression of this type, of about `size` steps.
+    fn expression(&mut self, kind: usize, size: usize) {
+        use Word::*;
+        let words: &[Word] = match (size, self.draft.types[kind]) {
+            (0..=1, _) => &[],
+            (_, Type::Int) => &[
+                Let, Let, Let, Let, Let, Let, If, While, Spawn, Spawn, Join, Read, Write, Lock, Freelock, Unlock, Post,
+                Wait,
+            ],
+            _ => &[Let, Let, If],
+        };
+        match words {
+            [] => self.value(kind),
+            _ => {
+                let word = self.random.pick(words);
+                self.step(word, kind, size - 1);
+            }
+        }
+    }
+
+    fn step(&mut self, word: Word, kind: usize, size: usize) {
+        let any = self.random.below(self.draft.types.len());
+        let first = self.random.below(size + 1);
+        match word {
+            Word::Let => self.binding(kind, any, size),
+            Word::If => self.parts(word, kind, &[(kind, first), (kind, size - first)]),
+            Word::While => self.parts(word, kind, &[(any, size)]),
+            Word::Spawn => {
+                let tid = self.kind_where(|kind| matches!(kind, Type::Tid(_)));
+                self.parts(word, kind, &[(tid, 1), (any, size)]);
+            }
+            Word::Read | Word::Write => {
+                let cell = self.kind_where(|kind| matches!(kind, Type::Ref { content: 0, .. }));
+                let value = if word == Word::Read { &[][..] } else { &[(0, size - first)] };
+                self.parts(word, kind, &[&[(cell, first)], value].concat());
+            }
+            _ => {
+                let wanted = self.kind_where(|kind| match word {
+                    Word::Join => matches!(kind, Type::Tid(_)),
+                    Word::Post | Word::Wait => matches!(kind, Type::Sem(_)),
+                    _ => matches!(kind, Type::Lock(_)),
+                });
+                self.parts(word, kind, &[(wanted, size)]);
+            }
+        }
+    }
+
+    fn parts(&mut self, word: Word, kind: usize, parts: &[(usize, usize)]) {
+        self.push(word, 0, kind);
+        for &(kind, size) in parts {
+            self.expression(kind, size);
+        }
+    }
+
+    fn binding(&mut self, kind: usize, bound: usize, size: usize) {
+        if self.bound == 256 {
+            return self.value(kind);
+        }
+        let variable = self.bound;
+        self.bound += 1;
+        self.push(Word::Let, variable, kind);
+        let first = self.random.below(size.min(8) + 1);
+        self.expression(bound, first);
+        self.scope.push((variable, bound));
+        self.expression(kind, size - first);
+        self.scope.pop();
+    }
+
+    /// A variable of this type, or a new thing.
+    fn value(&mut self, kind: usize) {
+        let known: Vec<u32> = self.scope.iter().filter(|known| known.1 == kind).map(|known| known.0).collect();
+        if !known.is_empty() && self.random.percent(70) {
+            let variable = self.random.pick(&known);
+            return self.push(Word::Var, variable, kind);
+        }
+        match self.draft.types[kind] {
+            Type::Int => self.push(Word::Int, 0, kind),
+            Type::Tid(_) => self.push(Word::Newtid, 0, kind),
+            Type::Lock(_) => self.push(Word::Newlock, 0, kind),
+            Type::Sem(_) => self.push(Word::Newsem, 0, kind),
+            Type::Ref { content, .. } => {
+                self.push(Word::Ref, 0, kind);
+                self.value(content);
+            }
+        }
+    }
+}
