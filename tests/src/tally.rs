@@ -18,15 +18,15 @@ pub struct Asked {
 }
 
 pub const CHECKING: Asked = Asked {
-    numbers: &[0, 1, 10, 11, 12, 13, 14, 15, 20, 21, 22, 23, 40, 30, 31, 32, 33],
-    headings: &["C", "C2"],
+    numbers: &[0, 1, 10, 11, 12, 13, 14, 15, 20, 21, 22, 23, 40, 44, 30, 31, 32, 33],
+    headings: &["C", "C2", "C3"],
     conditions: Word::conditions,
 };
 
 /// A filling has its refusals in this order.
 pub const FILLING: Asked = Asked {
-    numbers: &[0, 1, 10, 11, 12, 13, 14, 15, 20, 21, 22, 23, 43, 30, 31, 41, 42],
-    headings: &["C2"],
+    numbers: &[0, 1, 10, 11, 12, 13, 14, 15, 20, 21, 22, 23, 43, 44, 30, 31, 41, 42],
+    headings: &["C2", "C3"],
     conditions: Word::type_conditions,
 };
 

@@ -87,10 +87,14 @@ def described(number, split, names):
     noun = KINDS[kind].noun
     if kind == "ref":
         return f"type {number}, {noun} of {names.location(first)} that holds type {second}"
-    if KINDS[kind].fields[0] == "load":
-        load = fractions(split.load(number), split.denominator)
-        return f"type {number}, {noun} with a load of map {first}, which is {load}"
-    return f"type {number}, {noun}"
+    maps = [
+        f"{MAP_NAMES[name]} map {split.map_number(number, name)}, which is {fractions(split.map_in(number, name), split.denominator)}"
+        for name in KINDS[kind].maps()]
+    return f"type {number}, {noun} with {' and '.join(maps)}" if maps else f"type {number}, {noun}"
+
+
+# What a type's maps are called where the type is told.
+MAP_NAMES = {"K": "a load of", "in": "in", "out": "out"}
 
 
 def _type(site, wording, split, names):
@@ -141,6 +145,8 @@ def _agreement(site, wording, split, names):
         pair = own, (f"the {_part_name(part)} (line {site.parts[part].line})", site.parts[part].type)
     (one, one_type), (other, other_type) = pair
     numbers = [f"{one} is {described(one_type, split, names)}", f"{other} is {described(other_type, split, names)}"]
+    if site.word == "var" and split.may_show(one_type, other_type):
+        return True, numbers
     parting = split.parting(one_type, other_type)
     if parting not in (None, (one_type, other_type)):
         numbers.append("they part inside: " + "; ".join(described(number, split, names) for number in parting))

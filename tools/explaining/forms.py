@@ -3,7 +3,7 @@ import re
 from typing import NamedTuple
 
 from .showing import grouped, shown
-from .words import KINDS, WORDS
+from .words import KINDS, MAPS, WORDS
 
 DIGITS = 10
 NUMERAL = re.compile(rb"0|[1-9][0-9]{0,%d}" % (DIGITS - 1))
@@ -106,12 +106,12 @@ def split_fields(number, fields, counts, words):
 
 
 def _head_fields(fields):
-    """A C2 line names the start as well, one of its M maps."""
+    """A C2 or C3 line names the start as well, one of its M maps."""
     start = []
-    if fields[0] == b"C2":
+    if fields[0] in (b"C2", b"C3"):
         maps = int(fields[4]) if len(fields) > 4 and NUMERAL.fullmatch(fields[4]) else 1
         start = [Range(f"the start r, with M = {grouped(maps)},", 0, maps - 1)]
-    return [OneOf("`C` or `C2`", ("C", "C2")), *COUNTS, *start]
+    return [OneOf("`C`, `C2` or `C3`", ("C", "C2", "C3")), *COUNTS, *start]
 
 
 def _type_fields(own, fields, counts):
@@ -119,8 +119,10 @@ def _type_fields(own, fields, counts):
         None: Range("the number there", 0, 0),
         "location": numbered("a location", counts.locations),
         "content": Range("the content's type, which stands above,", 0, own - 1),
-        "load": numbered("a map", counts.maps),
+        **{name: numbered("a map", counts.maps) for name in MAPS},
     }
+    if counts.heading != "C3":
+        ranges["out"] = ranges[None]  # such a lock line has one map
     kind = KINDS.get(fields[0].decode("latin-1"), KINDS["int"])
     return [OneOf("a kind of type", tuple(KINDS)), *(ranges[field] for field in kind.fields)]
 

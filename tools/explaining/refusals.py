@@ -82,6 +82,9 @@ REFUSALS = {
     43: Refusal(
         "too many maps to fill in more", "owner of the solver", None,
         "leave out the maps that nothing names: a sheet for filling needs the start, those in types and those that spawns hand on"),
+    44: Refusal(
+        "a lock takes less than it gives", "owner of the solver", SPLIT,
+        "write a map for out, the last field of that line, that has at least as much as the map for in of every location"),
 }
 
 # What only a caller of the library sees: no pair of sheets leads to these.
@@ -93,13 +96,14 @@ OF_CHECKING = set(REFUSALS) - FOR_CALLERS - OF_FILLING
 # What a false condition of a word usually means, beyond its refusal's own line: by word and condition.
 _EARLIER = "a take or give is missing before it: the row counts with a right that no step on the way has moved"
 _REPEATS = "the row does not repeat what its part leaves; a step of this word moves no rights"
-_ADDS = "the row's map is not the sum: it needs a map that holds what was there plus the load"
+_ADDS = "the row's map is not the sum: it needs a map that holds what was there plus what comes in"
 _BRANCH = (
     "one branch ends with less than the row says, say a lock is given back in that branch only; after may be at most the smaller of"
     " the two")
 
 USUALLY = {
-    ("var", 1): "the row's type does not agree with that of what the `let` bound",
+    ("var", 1):
+        "the row's type does not agree with that of what the `let` bound; of a lock it may show no more in and no less out",
     ("var", 2): _EARLIER,
     ("int", 2): _EARLIER,
     ("newtid", 2): _EARLIER,
@@ -121,7 +125,7 @@ USUALLY = {
     ("freelock", 3): _ADDS,
     ("wait", 3): _ADDS,
     ("newlock", 2): "two locks guard the same location, and the right was given to the first one already",
-    ("unlock", 3): "the thread does not hold what the lock guards, say it unlocks twice",
+    ("unlock", 3): "the thread does not hold what the lock takes, say it unlocks twice",
     ("post", 3): "the thread does not hold what a post puts in, say it posts once more than it has something to hand on",
     ("read", 4): "the thread has nothing of the cell's location here: it was not handed any, or gave it away before",
     ("write", 5): "another thread, a lock, a semaphore or an identifier still holds some of the cell's location here",

@@ -76,9 +76,13 @@ class Split(NamedTuple):
         """The map that a spawn's body starts with. An empty field means nothing of any location."""
         return (0,) * self.locations if row.start is None else self.maps[row.start]
 
-    def load(self, number):
-        """The map in a lock or tid type: document 01's K."""
-        return self.maps[self.types[number].first]
+    def map_number(self, number, name):
+        """The number of a map in a type, by its name in the conditions: K, in or out."""
+        kind, *numbers = self.types[number]
+        return numbers[KINDS[kind].fields.index(name)]
+
+    def map_in(self, number, name):
+        return self.maps[self.map_number(number, name)]
 
     def agree(self, one, other):
         return self.parting(one, other) is None
@@ -86,14 +90,26 @@ class Split(NamedTuple):
     def parting(self, one, other):
         """Where two types part: they themselves, or contents as deep in one as in the other. None if they agree."""
         this, that = self.types[one], self.types[other]
-        fields = KINDS[this.kind].fields
+        kind = KINDS[this.kind]
         if this.kind != that.kind:
             return one, other
-        if fields[0] == "load" and self.load(one) != self.load(other):
+        if any(self.map_in(one, name) != self.map_in(other, name) for name in kind.maps()):
             return one, other
-        if fields[0] == "location" and this.first != that.first:
+        if kind.fields[0] == "location" and this.first != that.first:
             return one, other
-        return self.parting(this.second, that.second) if fields[1] == "content" else None
+        return self.parting(this.second, that.second) if kind.fields[1] == "content" else None
+
+    def may_show(self, shown, own):
+        """Whether a var line may show a type for its let's value: of a lock with no more in and no less out, else one that agrees."""
+        if self.types[shown].kind == self.types[own].kind == "lock":
+            return (at_least(self.map_in(own, "in"), self.map_in(shown, "in"))
+                    and at_least(self.map_in(shown, "out"), self.map_in(own, "out")))
+        return self.agree(shown, own)
+
+
+def at_least(one, other):
+    """Whether a map has at least as much as another of every location."""
+    return all(a >= b for a, b in zip(one, other))
 
 
 def _fields(line):
@@ -107,7 +123,8 @@ def steps_of(sheet):
 
 def split_of(sheet):
     """What a well-formed split sheet says."""
-    denominator, locations, types, maps, *root = map(int, _fields(sheet.lines[0])[1:])
+    heading, *header = _fields(sheet.lines[0])
+    denominator, locations, types, maps, *root = map(int, header)
     first_map, first_row = 1 + types, 1 + types + maps
     rows = []
     for number, line in enumerate(sheet.lines[first_row:], first_row + 1):
@@ -117,7 +134,12 @@ def split_of(sheet):
         denominator,
         locations,
         root[0] if root else 0,  # a C sheet names none and means map 0
-        [Type(kind, int(one), int(two)) for kind, one, two in map(_fields, sheet.lines[1:first_map])],
+        [_type_of(heading, *_fields(line)) for line in sheet.lines[1:first_map]],
         [tuple(map(int, _fields(line))) for line in sheet.lines[first_map:first_row]],
         rows,
     )
+
+
+def _type_of(heading, kind, first, second):
+    """What a type line says. A lock line shows its out in a C3 sheet alone; elsewhere out is in."""
+    return Type(kind, int(first), int(first if kind == "lock" and heading != "C3" else second))

@@ -1,7 +1,7 @@
 """The steps of a job as a tree, each with the map before it, its thread and its nesting."""
 from dataclasses import dataclass, field
 
-from .words import WORDS
+from .words import MAPS, WORDS
 
 
 @dataclass
@@ -64,7 +64,7 @@ class Sites:
 
 
 def acted_on(site):
-    """The step whose type has the K, p and c of the conditions: the part that the word acts on, or the step itself."""
+    """The step whose type has the maps, p and c of the conditions: the part that the word acts on, or the step itself."""
     for condition in WORDS[site.word].conditions:
         words = condition.wording.split()
         if len(words) == 3 and words[1] == "a":  # "part a tid"
@@ -75,9 +75,9 @@ def acted_on(site):
 
 
 def map_named(site, name, split):
-    """The map that document 01 calls pre, post, s, K or "post of" a part."""
-    if name == "K":
-        return split.load(acted_on(site).type)
+    """The map that the documents call pre, post, s, "post of" a part, or K, in or out of a type."""
+    if name in MAPS:
+        return split.map_in(acted_on(site).type, name)
     if name.startswith("post of "):
         return site.parts[name.removeprefix("post of ")].post
     return {"pre": site.pre, "post": site.post, "s": site.start}[name]

@@ -6,6 +6,8 @@ from .words import WORDS
 # What document 01's names of maps are called beside "before" and "after".
 PLAIN = {
     "K": "load (K)",
+    "in": "the lock gives (in)",
+    "out": "the lock takes (out)",
     "s": "body's start (s)",
     "post of part": "the part leaves",
     "post of e1": "e1 leaves",

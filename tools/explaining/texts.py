@@ -1,8 +1,8 @@
-"""Refusals of a sheet's text, 10 to 15, 20 to 23 and 40: the sentence that says what is wrong, with this pair's numbers."""
+"""Refusals of a sheet's text, 10 to 15, 20 to 23, 40 and 44: the sentence that says what is wrong, with this pair's numbers."""
 from . import forms
 from .disagreement import Disagreement, require
-from .sheets import steps_of
-from .showing import grouped
+from .sheets import at_least, split_of, steps_of
+from .showing import fractions, grouped
 from .words import WORDS
 
 
@@ -18,6 +18,10 @@ def text_finding(number, line, program, split):
     if number in (14, 15):
         found, at, why = _scope_fault(steps_of(program))
         require((found, at) == (number, line), f"the first variable at fault is {found} at line {at} here")
+        return why
+    if number == 44:
+        at, why = _lock_fault(split_of(split))
+        require(at == line, f"the first lock that takes less than it gives is on line {at} here, not on {line}")
         return why
     return _line_fault(number, line, program if number < 20 else split, program)
 
@@ -75,6 +79,15 @@ def _lines_differ(promised, present, why):
     if present < promised:
         return present, f"{why}; there are {grouped(present)}"
     return promised + 1, f"{why}; line {promised + 1} is spare"
+
+
+def _lock_fault(split):
+    """The first lock line whose out is below its in somewhere, and why."""
+    for number, one in enumerate(split.types):
+        if one.kind == "lock" and not at_least(split.map_in(number, "out"), split.map_in(number, "in")):
+            gives, takes = (fractions(split.map_in(number, name), split.denominator) for name in ("in", "out"))
+            return number + 2, f"the lock gives {gives} (in) and takes {takes} (out)"
+    raise Disagreement("no lock takes less than it gives, by the numbers here")
 
 
 def _scope_fault(steps):

@@ -4,7 +4,7 @@ from typing import NamedTuple
 from .conditions import access_at, equation, find, holds_at, sides
 from .showing import fraction, fractions, listed
 from .sites import acted_on, map_named
-from .words import KINDS, WORDS
+from .words import KINDS, MAPS, WORDS
 
 
 class Stride(NamedTuple):
@@ -52,10 +52,10 @@ def in_words(site, sites, names):
         type=_noun(site, names.variable(site.number), split, names),
         thread=names.thread(site.body),
         start=amounts(site.start, split, names),
-        load=_load(holder, split, names),
         location=_place(holder, split, names),
         thing=thing(holder, names),
         cell=_cell(holder, split, names),
+        **{name: _moved_map(holder, name, split, names) for name in MAPS},
         **{name: part.line for name, part in site.parts.items()},
     )
 
@@ -84,9 +84,9 @@ def _noun(site, called, split, names):
     return noun if not _has(site, "location", split) or called == place else f"{noun} of {place}"
 
 
-def _load(site, split, names):
-    # A step behind the refused one may show a type of the wrong kind; then there is no load to tell.
-    return amounts(split.load(site.type), split, names) if _has(site, "load", split) else "?"
+def _moved_map(site, name, split, names):
+    # A step behind the refused one may show a type of the wrong kind; then there is no such map to tell.
+    return amounts(split.map_in(site.type, name), split, names) if _has(site, name, split) else "?"
 
 
 def _place(site, split, names):
@@ -94,7 +94,7 @@ def _place(site, split, names):
 
 
 def _has(site, field, split):
-    return KINDS[split.types[site.type].kind].fields[0] == field
+    return field in KINDS[split.types[site.type].kind].fields
 
 
 # ---- In fractions
@@ -125,7 +125,7 @@ def _equations(site, wording, split, names):
 def _moved(site, wording, split):
     """The locations of which a step hands over some."""
     left, _, right = sides(wording)
-    moved = [map_named(site, term, split) for term in left + right if term in ("s", "K")]
+    moved = [map_named(site, term, split) for term in left + right if term in ("s", *MAPS)]
     return [p for p in range(split.locations) if any(numbers[p] for numbers in moved)]
 
 

@@ -10,13 +10,20 @@ class Kind(NamedTuple):
     noun: str
     fields: tuple  # what the two numbers of its type line are; None where the line shows 0
 
+    def maps(self):
+        """The names of the maps in such a type, as the conditions call them."""
+        return [field for field in self.fields if field in MAPS]
+
+
+# The names of maps in types.
+MAPS = ("K", "in", "out")
 
 KINDS = {
     "int": Kind("a number", (None, None)),
     "ref": Kind("a cell", ("location", "content")),
-    "lock": Kind("a lock", ("load", None)),
-    "tid": Kind("a thread identifier", ("load", None)),
-    "sem": Kind("a semaphore", ("load", None)),
+    "lock": Kind("a lock", ("in", "out")),
+    "tid": Kind("a thread identifier", ("K", None)),
+    "sem": Kind("a semaphore", ("K", None)),
 }
 
 
@@ -47,12 +54,15 @@ _PART_A_LOCK = ("part a lock", "T", "its part is a lock")
 _PART_A_SEM = ("part a sem", "T", "its part is a semaphore")
 _TAKES = ("post = post of part + K", "F", "after equals what its part leaves plus the load")
 _GIVES = ("post + K = post of part", "F", "after plus the load equals what its part leaves")
+_TAKES_IN = ("post = post of part + in", "F", "after equals what its part leaves plus in")
+_GIVES_OUT = ("post + out = post of part", "F", "after plus out equals what its part leaves")
 
 WORDS = {
     "var": _word(
         "VAR", "variable", {},
         "that of what its `let` bound", "{variable}, {type}",
-        ("type is that of its let's e1", "T", "its type agrees with that of what its `let` bound"),
+        ("type is that of its let's e1", "T",
+         "its type agrees with that of what its `let` bound, or both are locks and it shows no more in and no less out"),
         _KEEPS),
     "int": _word(
         "INT", "constant", {},
@@ -78,7 +88,7 @@ WORDS = {
         ("post of part ≥ post", "F", "a round leaves at least after, which is what it began with")),
     "newtid": _word(
         "NEWT", "nothing", {},
-        "a `tid` type", "a new identifier; a join on it hands over {load}",
+        "a `tid` type", "a new identifier; a join on it hands over {K}",
         ("a tid type", "T", "its type is of the kind `tid`"),
         _KEEPS),
     "spawn": _word(
@@ -90,7 +100,7 @@ WORDS = {
         ("post + s = post of e1", "F", "after plus what the body starts with equals what the first part leaves")),
     "join": _word(
         "JOIN", "nothing", {"part": "pre"},
-        "`int`", "wait for a thread of {thing} and get {load}",
+        "`int`", "wait for a thread of {thing} and get {K}",
         _INT,
         ("part a tid", "T", "its part is a thread identifier"),
         _TAKES),
@@ -116,33 +126,33 @@ WORDS = {
         ("post at p ≥ D", "A", "after has at least D of the cell's location")),
     "newlock": _word(
         "NEWL", "nothing", {},
-        "a `lock` type", "a new lock, which gets {load}",
+        "a `lock` type", "a new lock, which gets {out}",
         ("a lock type", "T", "its type is of the kind `lock`"),
-        ("post + K = pre", "F", "after plus the load equals before")),
+        ("post + out = pre", "F", "after plus out equals before")),
     "lock": _word(
         "LCK", "nothing", {"part": "pre"},
-        "`int`", "take {thing} and get {load}",
-        _INT, _PART_A_LOCK, _TAKES),
+        "`int`", "take {thing} and get {in}",
+        _INT, _PART_A_LOCK, _TAKES_IN),
     "freelock": _word(
         "FREEL", "nothing", {"part": "pre"},
-        "`int`", "take {thing} for good and get {load}",
-        _INT, _PART_A_LOCK, _TAKES),
+        "`int`", "take {thing} for good and get {in}",
+        _INT, _PART_A_LOCK, _TAKES_IN),
     "unlock": _word(
         "ULCK", "nothing", {"part": "pre"},
-        "`int`", "give back {thing} and with it {load}",
-        _INT, _PART_A_LOCK, _GIVES),
+        "`int`", "give back {thing} and with it {out}",
+        _INT, _PART_A_LOCK, _GIVES_OUT),
     "newsem": _word(
         "NEWSEM", "nothing", {},
-        "a `sem` type", "a new semaphore; each post puts in {load}",
+        "a `sem` type", "a new semaphore; each post puts in {K}",
         ("a sem type", "T", "its type is of the kind `sem`"),
         _KEEPS, source="Section 3.1.4"),
     "post": _word(
         "POST", "nothing", {"part": "pre"},
-        "`int`", "post {thing}, which gets {load}",
+        "`int`", "post {thing}, which gets {K}",
         _INT, _PART_A_SEM, _GIVES, source="Section 3.1.4"),
     "wait": _word(
         "WAIT", "nothing", {"part": "pre"},
-        "`int`", "wait at {thing} and get {load}",
+        "`int`", "wait at {thing} and get {K}",
         _INT, _PART_A_SEM, _TAKES, source="Section 3.1.4"),
 }
 

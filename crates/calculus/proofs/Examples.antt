@@ -4,6 +4,7 @@ pub mod Races
 pub mod Runs
 pub mod Halts
 pub mod Derivations
+pub mod PrintedLocks
 pub mod Orders
 pub mod FreedName
 pub mod NewSemaphore

@@ -10,11 +10,11 @@ use Rattle.calculus.specs.State.{LockState, opened, Slot, identifier, a-
 use Rattle.calculus.specs.Reduction.{if-unused, if-identifier, content, lock-state, count, if-equal, value-of, word-of, named, taken, reduct, reduce}
 use Rattle.calculus.specs.Claim.{ThreadAt, Finished, finished, Waits, at-join, at-lock, at-freelock, at-wait, Halts, HaltsWell}
 use Rattle.calculus.specs.Capability.{Cap}
-use Rattle.calculus.specs.Figure5.{Ty, ref-type, tid-type, empty}
+use Rattle.calculus.specs.Figure5.{Ty, ref-type, tid-type, empty, as-it-is}
 use Rattle.calculus.proofs.Laws.Maps.{some-is-not-none, bind-goes-on}
 use Rattle.calculus.proofs.Laws.NextWord.{next-is-value}
 use Rattle.calculus.proofs.Laws.Questions.{equal-is-told}
-use Rattle.calculus.proofs.Typing.{fits-refl, ValueTyped, name-typed, UnaryTyped, join-typed, ref-typed, read-typed, freelock-typed, lock-typed, unlock-typed, post-typed, wait-typed}
+use Rattle.calculus.proofs.Typing.{ValueTyped, name-typed, OwnLock, own-lock, UnaryTyped, join-typed, ref-typed, read-typed, freelock-typed, lock-typed, unlock-typed, post-typed, wait-typed}
 use Rattle.calculus.proofs.Focus.{RedexTyped, let-redex-typed, if-redex-typed, while-redex-typed, spawn-redex-typed, write-redex-typed, unary-redex-typed, make-redex-typed, focus, closed-has-no-variable}
 use Rattle.calculus.proofs.Pool.{member}
 use Rattle.calculus.proofs.Invariant.{identifier-there, cell-there, lock-there, semaphore-there, WellTyped}
@@ -57,6 +57,10 @@ module _ {D : ℕ} {s : State} (I : WellTyped D s) (i : ℕ) (t : Thread) (there
           let h₃ = bind-goes-on (if-equal (u .tid) n) _ (equal-is-told (u .tid) n same) h₂ in
           some-is-not-none (bind-goes-on (value-of (next (u .body))) _ (ap (λ e. value-of (next e)) ended) h₃)
 
+  -- A name that is shown as a lock is one.
+  lock-named : {n : ℕ} {Ψᵢ Ψₒ : Cap} → OwnLock (I .N) n Ψᵢ Ψₒ → (l : LockState) × (s .names n ≡ a-lock l)
+  lock-named {n} own = let (l, found, _) = lock-there (rw (own .known) at (I .slots n)) in (l, found)
+
   -- A word that takes a lock goes ahead if the lock is open.
   not-open : {l : LockState} (n : ℕ) (after : Slot) → s .names n ≡ a-lock l → taken s (listed i 0 0) t (name n) after ≡ none → l ≢ opened
   not-open n after found h e = some-is-not-none (bind-goes-on (lock-state (s .names n)) _ (ap lock-state (found ∙ ap a-lock e)) h)
@@ -68,31 +72,31 @@ module _ {D : ℕ} {s : State} (I : WellTyped D s) (i : ℕ) (t : Thread) (there
 
   unary-halts : {σ τ : Ty} {Ψ Φ : Cap} {v : Value} (o : Unary) → next (t .body) ≡ at-word (unary-redex o v) →
       ValueTyped (I .N) v σ → UnaryTyped D o σ Ψ τ Φ → Waits s t
-  unary-halts join word (name-typed known fits-refl) (join-typed gains) = join-waits word known
+  unary-halts join word (name-typed known as-it-is) (join-typed gains) = join-waits word known
   unary-halts ref word typed (ref-typed enough) = named-goes-ahead _ (no-reduct word 0 (I .top))
-  unary-halts read word (name-typed {n = n} known fits-refl) (read-typed some-of-it enough) =
+  unary-halts read word (name-typed {n = n} known as-it-is) (read-typed some-of-it enough) =
       some-is-not-none (bind-goes-on (content (s .names n)) _ (cell-has-content known .1) (no-reduct word 0 0))
-  unary-halts freelock word (name-typed {n = n} known fits-refl) (freelock-typed gains) =
-      let (l, found) = lock-there (rw known at (I .slots n)) in at-freelock n l word found (not-open n _ found (no-reduct word 0 0))
-  unary-halts lock word (name-typed {n = n} known fits-refl) (lock-typed gains) =
-      let (l, found) = lock-there (rw known at (I .slots n)) in at-lock n l word found (not-open n _ found (no-reduct word 0 0))
-  unary-halts unlock word (name-typed {n = n} known fits-refl) (unlock-typed pays) =
-      let (l, found) = lock-there (rw known at (I .slots n)) in
+  unary-halts freelock word (name-typed {n = n} known shown) (freelock-typed gains) =
+      let (l, found) = lock-named {n = n} (own-lock known shown) in at-freelock n l word found (not-open n _ found (no-reduct word 0 0))
+  unary-halts lock word (name-typed {n = n} known shown) (lock-typed gains) =
+      let (l, found) = lock-named {n = n} (own-lock known shown) in at-lock n l word found (not-open n _ found (no-reduct word 0 0))
+  unary-halts unlock word (name-typed {n = n} known shown) (unlock-typed pays) =
+      let (l, found) = lock-named {n = n} (own-lock known shown) in
       some-is-not-none (bind-goes-on (lock-state (s .names n)) _ (ap lock-state found) (no-reduct word 0 0))
-  unary-halts post word (name-typed {n = n} known fits-refl) (post-typed pays) =
+  unary-halts post word (name-typed {n = n} known as-it-is) (post-typed pays) =
       let (c, found) = semaphore-there (rw known at (I .slots n)) in
       some-is-not-none (bind-goes-on (count (s .names n)) _ (ap count found) (no-reduct word 0 0))
-  unary-halts wait word (name-typed {n = n} known fits-refl) (wait-typed gains) =
+  unary-halts wait word (name-typed {n = n} known as-it-is) (wait-typed gains) =
       let (c, found) = semaphore-there (rw known at (I .slots n)) in wait-waits c word found
 
   redex-halts : {σ : Ty} {Ψ Φ : Cap} {r : Redex} → next (t .body) ≡ at-word r → RedexTyped D (I .N) empty Ψ Φ r σ → Waits s t
   redex-halts word (let-redex-typed v-typed e-typed) = some-is-not-none (no-reduct word 0 0)
   redex-halts word (if-redex-typed e₁-typed e₂-typed) = some-is-not-none (no-reduct word 0 0)
   redex-halts word (while-redex-typed typed enough left) = some-is-not-none (no-reduct word 0 0)
-  redex-halts word (spawn-redex-typed (name-typed {n = n} known fits-refl) typed pays) =
+  redex-halts word (spawn-redex-typed (name-typed {n = n} known as-it-is) typed pays) =
       let kind = ap if-identifier (identifier-there (rw known at (I .slots n))) in
       some-is-not-none (bind-goes-on (if-identifier (s .names n)) _ kind (no-reduct word 0 0))
-  redex-halts word (write-redex-typed (name-typed {n = n} known fits-refl) typed whole enough) =
+  redex-halts word (write-redex-typed (name-typed {n = n} known as-it-is) typed whole enough) =
       some-is-not-none (bind-goes-on (content (s .names n)) _ (cell-has-content known .1) (no-reduct word 0 0))
   redex-halts word (unary-redex-typed {o = o} v-typed o-typed) = unary-halts o word v-typed o-typed
   redex-halts word (make-redex-typed o-typed) = named-goes-ahead _ (no-reduct word 0 (I .top))

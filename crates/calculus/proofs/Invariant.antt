@@ -8,7 +8,7 @@ use native.Mathlib.Decide.{ℕ-discrete}
 use native.Mathlib.Omega.{arith}
 use Rattle.calculus.specs.Expression.{Value, choose}
 use Rattle.calculus.specs.State.{LockState, opened, closed, removed, Slot, unused, identifier, cell, a-lock, semaphore, Thread, State, update}
-use Rattle.calculus.specs.Capability.{Cap, nothing}
+use Rattle.calculus.specs.Capability.{Cap, nothing, _≥ᶜ_}
 use Rattle.calculus.specs.Figure5.{Ty, int-type, ref-type, lock-type, tid-type, sem-type, Env}
 use Rattle.calculus.proofs.Laws.Maps.{update-same, update-other, update-above}
 use Rattle.calculus.proofs.Laws.Order.{_×ᶜ_}
@@ -20,19 +20,19 @@ use Rattle.calculus.proofs.Laws.Total.{total, total-with-one-changed}
 -- ---- Slots
 
 -- A slot has the type that its name has; a name has none until it is used. A lock's type does not change as it opens, closes
--- and is removed.
+-- and is removed, and hands out no more than it takes.
 pub data SlotTyped (N : Env) : Slot → Option Ty → Type 0 where
   slot-unused : SlotTyped N unused none
   slot-identifier : {K : Cap} → SlotTyped N identifier (some (tid-type K))
   slot-cell : {v : Value} {ρ : ℕ} {τ : Ty} → ValueTyped N v τ → SlotTyped N (cell v) (some (ref-type ρ τ))
-  slot-lock : {l : LockState} {K : Cap} → SlotTyped N (a-lock l) (some (lock-type K))
+  slot-lock : {l : LockState} {Ψᵢ Ψₒ : Cap} → Ψₒ ≥ᶜ Ψᵢ → SlotTyped N (a-lock l) (some (lock-type Ψᵢ Ψₒ))
   slot-semaphore : {c : ℕ} {K : Cap} → SlotTyped N (semaphore c) (some (sem-type K))
 
 slot-grows : {N N′ : Env} {sl : Slot} {o : Option Ty} → N ⊆ N′ → SlotTyped N sl o → SlotTyped N′ sl o
 slot-grows s slot-unused = slot-unused
 slot-grows s slot-identifier = slot-identifier
 slot-grows s (slot-cell t) = slot-cell (value-grows s t)
-slot-grows s slot-lock = slot-lock
+slot-grows s (slot-lock h) = slot-lock h
 slot-grows s slot-semaphore = slot-semaphore
 
 -- The slot of a name, read off the name's type: one row a kind of thing.
@@ -42,18 +42,18 @@ identifier-there slot-identifier = refl
 pub cell-there : {N : Env} {sl : Slot} {ρ : ℕ} {τ : Ty} → SlotTyped N sl (some (ref-type ρ τ)) → (v : Value) × (sl ≡ cell v) × ValueTyped N v τ
 cell-there (slot-cell {v = v} t) = (v, refl, t)
 
-pub lock-there : {N : Env} {sl : Slot} {K : Cap} → SlotTyped N sl (some (lock-type K)) → (l : LockState) × (sl ≡ a-lock l)
-lock-there (slot-lock {l = l}) = (l, refl)
+pub lock-there : {N : Env} {sl : Slot} {Ψᵢ Ψₒ : Cap} → SlotTyped N sl (some (lock-type Ψᵢ Ψₒ)) → (l : LockState) × (sl ≡ a-lock l) × Ψₒ ≥ᶜ Ψᵢ
+lock-there (slot-lock {l = l} h) = (l, refl, h)
 
 pub semaphore-there : {N : Env} {sl : Slot} {K : Cap} → SlotTyped N sl (some (sem-type K)) → (c : ℕ) × (sl ≡ semaphore c)
 semaphore-there (slot-semaphore {c = c}) = (c, refl)
 
--- What a thing of that type hands over, once.
+-- What a thing of that type takes, once, and can hand over.
 abbrev pub load : Option Ty → Cap
 load none = nothing
 load (some int-type) = nothing
 load (some (ref-type ρ τ)) = nothing
-load (some (lock-type K)) = K
+load (some (lock-type Ψᵢ Ψₒ)) = Ψₒ
 load (some (tid-type K)) = nothing
 load (some (sem-type K)) = K
 

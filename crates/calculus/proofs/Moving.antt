@@ -10,11 +10,11 @@ use Rattle.calculus.specs.Expression.{name, Exp, value, plug, choose}
 use Rattle.calculus.specs.State.{Slot, unused, Thread, State, Move, update}
 use Rattle.calculus.specs.Reduction.{if-unused, becomes, named}
 use Rattle.calculus.specs.Capability.{Cap, _≥ᶜ_}
-use Rattle.calculus.specs.Figure5.{Ty, tid-type, Env, empty, bind}
+use Rattle.calculus.specs.Figure5.{Ty, tid-type, Env, empty, bind, as-it-is}
 use Rattle.calculus.proofs.Laws.Maps.{some-injective, none-is-not-some, bind-is-some, update-same, update-other}
 use Rattle.calculus.proofs.Laws.Order.{_+ᶜ_}
 use Rattle.calculus.proofs.Laws.Questions.{unused-tells}
-use Rattle.calculus.proofs.Typing.{fits-refl, name-typed, Typed, value-typed}
+use Rattle.calculus.proofs.Typing.{name-typed, Typed, value-typed}
 use Rattle.calculus.proofs.Substitution.{_⊆_, ⊆-refl}
 use Rattle.calculus.proofs.Pool.{Pool, pool-weakens, Member}
 use Rattle.calculus.proofs.Invariant.{SlotTyped, slot-unused, load, keeps, WellTyped, threads-change-keeps, name-change-keeps}
@@ -84,4 +84,4 @@ module _ {D : ℕ} {s : State} {I : WellTyped D s} {m : Move} {t : Thread} {h : 
       let grows : I .N ⊆ N′ = fresh-grows (I .N) n σ (unused-has-no-type (rw (unused-tells (s .names n) e) at (I .slots n))) in
       told (name-change-keeps I n new N′ (Ψ′ +ᶜ h .rest) grows (λ x z. update-other (I .N) n x (some σ) z) (rw known (ok grows))
       (λ ρ. omega (arith, no-more ρ, h .split .at ρ, ap (λ o. keeps new (load o) ρ) known))
-      (moved-pool N′ Ψ′ (value (name n)) grows (value-typed (name-typed known fits-refl) enough))) q₁
+      (moved-pool N′ Ψ′ (value (name n)) grows (value-typed (name-typed known as-it-is) enough))) q₁

@@ -7,21 +7,21 @@ use native.Mathlib.Nat.{zero-mul, suc-mul}
 use native.Mathlib.Omega.{arith}
 use lib.ListN.{getElem?}
 use Rattle.calculus.specs.Expression.{Value, name, Unary, join, ref, read, freelock, lock, unlock, post, wait, newtid, newlock, newsem, Exp, value, let-in, if, while, Redex, let-redex, if-redex, while-redex, spawn-redex, write-redex, unary-redex, make-redex, is-value, at-word, next, substitute}
-use Rattle.calculus.specs.State.{opened, Slot, a-lock, semaphore, Thread, State, Part, first, second, Move}
+use Rattle.calculus.specs.State.{LockState, opened, closed, removed, a-lock, semaphore, Thread, State, Part, first, second, Move}
 use Rattle.calculus.specs.Reduction.{if-identifier, content, lock-state, if-opened, count, one-less, if-equal, value-of, word-of, zero-exp, nowhere, part-listed, taken, unary-reduct, reduct, reduce}
 use Rattle.calculus.specs.Claim.{ThreadAt}
 use Rattle.calculus.specs.Capability.{Cap, _≥ᶜ_}
-use Rattle.calculus.specs.Figure5.{Ty, int-type, ref-type, lock-type, tid-type, sem-type, Env, empty, bind}
+use Rattle.calculus.specs.Figure5.{Ty, int-type, ref-type, lock-type, tid-type, sem-type, Env, empty, bind, as-it-is}
 use Rattle.calculus.proofs.Laws.Maps.{some-injective, none-is-not-some, bind-is-some, bind-goes-on}
 use Rattle.calculus.proofs.Laws.Places.{set-elsewhere}
 use Rattle.calculus.proofs.Laws.Order.{_+ᶜ_, Gains, Pays, ≥-trans, ≥-refl, gains-at-most}
 use Rattle.calculus.proofs.Laws.NextWord.{word-is-no-value}
 use Rattle.calculus.proofs.Laws.Questions.{opened-tells, one-less-tells, equal-tells, value-tells, word-tells}
-use Rattle.calculus.proofs.Typing.{fits-refl, ValueTyped, int-typed, name-typed, UnaryTyped, join-typed, ref-typed, read-typed, freelock-typed, lock-typed, unlock-typed, post-typed, wait-typed, newtid-typed, newlock-typed, newsem-typed, Typed, value-typed, let-typed, if-typed, while-typed, typing-weakens}
+use Rattle.calculus.proofs.Typing.{ValueTyped, int-typed, name-typed, OwnLock, own-lock, UnaryTyped, join-typed, ref-typed, read-typed, freelock-typed, lock-typed, unlock-typed, post-typed, wait-typed, newtid-typed, newlock-typed, newsem-typed, Typed, value-typed, let-typed, if-typed, while-typed, typing-weakens}
 use Rattle.calculus.proofs.Substitution.{⊆-refl, value-grows, typing-grows, bind-extends-empty, substitution-keeps}
 use Rattle.calculus.proofs.Focus.{RedexTyped, let-redex-typed, if-redex-typed, while-redex-typed, spawn-redex-typed, write-redex-typed, unary-redex-typed, make-redex-typed, focus, typed-is-value}
 use Rattle.calculus.proofs.Pool.{ThreadTyped, pool-weakens, pool-with-last, Member, member}
-use Rattle.calculus.proofs.Invariant.{SlotTyped, slot-identifier, slot-cell, slot-lock, slot-semaphore, cell-there, lock-there, semaphore-there, keeps, WellTyped, threads-change-keeps}
+use Rattle.calculus.proofs.Invariant.{slot-identifier, slot-cell, slot-lock, slot-semaphore, cell-there, lock-there, semaphore-there, keeps, WellTyped, threads-change-keeps}
 use Rattle.calculus.proofs.Moving.{Place, told, moved-pool, thread-alone-keeps, slot-change-keeps, new-name-keeps}
 
 tid-type-injective : {J K : Cap} {o : Option Ty} → o ≡ some (tid-type J) → o ≡ some (tid-type K) → J ≡ K
@@ -71,30 +71,34 @@ module _ {D : ℕ} {s : State} (I : WellTyped D s) (m : Move) (t : Thread) (h : 
       let (w, found, typed) = cell-there (rw known at (I .slots n)) in
       thread-alone-keeps M (value w) (value-typed typed enough) (bind-goes-on (content (s .names n)) _ (ap content found) q)
 
-  -- Out of an open lock the thread takes what it keeps; closed or removed it keeps nothing.
-  taken-keeps : {Φ K : Cap} {n : ℕ} {s′ : State} (after : Slot) → SlotTyped (I .N) after (some (lock-type K)) → ((ρ : ℕ) → keeps after K ρ ≡ 0) →
-      (M : Place D s I m t h int-type Φ) → I .N n ≡ some (lock-type K) → Gains Φ (h .own) K → taken s m t (name n) after ≡ some s′ → WellTyped D s′
-  taken-keeps {K} {n} after ok spent M known gains q =
-      let (l, found) = lock-there (rw known at (I .slots n)) in
+  -- An open lock keeps what it takes, Ψₒ, and the thread takes out of it no more than it hands out, Ψᵢ; closed or removed it keeps
+  -- nothing. Here it counts that a lock hands out no more than it takes.
+  taken-keeps : {Φ Ψᵢ Ψₒ : Cap} {n : ℕ} {s′ : State} (l : LockState) → ((Ψ : Cap) (ρ : ℕ) → keeps (a-lock l) Ψ ρ ≡ 0) →
+      (M : Place D s I m t h int-type Φ) → OwnLock (I .N) n Ψᵢ Ψₒ → Gains Φ (h .own) Ψᵢ → taken s m t (name n) (a-lock l) ≡ some s′ → WellTyped D s′
+  taken-keeps {Ψᵢ} {n} after spent M own gains q =
+      let (l, found, covers) = lock-there (rw (own .known) at (I .slots n)) in
       let (_, o, q₁) = bind-is-some (if-opened l) (bind-goes-on (lock-state (s .names n)) _ (ap lock-state found) q) in
       let was-open : s .names n ≡ a-lock opened = found ∙ ap a-lock (opened-tells l o) in
-      slot-change-keeps M n after (lock-type K) (h .own +ᶜ K) zero-exp known ok (zero-typed-with gains)
-      (λ ρ. omega (arith, spent ρ, ap (λ z. keeps z K ρ) was-open)) q₁
+      slot-change-keeps M n (a-lock after) (lock-type (own .Ψᵢ) (own .Ψₒ)) (h .own +ᶜ Ψᵢ) zero-exp (own .known) (slot-lock covers)
+      (zero-typed-with gains)
+      (λ ρ. omega (arith, spent (own .Ψₒ) ρ, own .no-more-out .at ρ, covers .at ρ, ap (λ z. keeps z (own .Ψₒ) ρ) was-open)) q₁
 
-  freelock-keeps : {Φ K : Cap} {n : ℕ} {s′ : State} (M : Place D s I m t h int-type Φ) → I .N n ≡ some (lock-type K) →
-      Gains Φ (h .own) K → unary-reduct s m t freelock (name n) ≡ some s′ → WellTyped D s′
-  freelock-keeps = taken-keeps _ slot-lock (λ ρ. refl)
+  freelock-keeps : {Φ Ψᵢ Ψₒ : Cap} {n : ℕ} {s′ : State} (M : Place D s I m t h int-type Φ) → OwnLock (I .N) n Ψᵢ Ψₒ →
+      Gains Φ (h .own) Ψᵢ → unary-reduct s m t freelock (name n) ≡ some s′ → WellTyped D s′
+  freelock-keeps = taken-keeps removed (λ Ψ ρ. refl)
 
-  lock-keeps : {Φ K : Cap} {n : ℕ} {s′ : State} (M : Place D s I m t h int-type Φ) → I .N n ≡ some (lock-type K) →
-      Gains Φ (h .own) K → unary-reduct s m t lock (name n) ≡ some s′ → WellTyped D s′
-  lock-keeps = taken-keeps _ slot-lock (λ ρ. refl)
+  lock-keeps : {Φ Ψᵢ Ψₒ : Cap} {n : ℕ} {s′ : State} (M : Place D s I m t h int-type Φ) → OwnLock (I .N) n Ψᵢ Ψₒ →
+      Gains Φ (h .own) Ψᵢ → unary-reduct s m t lock (name n) ≡ some s′ → WellTyped D s′
+  lock-keeps = taken-keeps closed (λ Ψ ρ. refl)
 
-  -- Whatever the lock kept, the thread pays what it keeps from now on.
-  unlock-keeps : {Φ K : Cap} {n : ℕ} {s′ : State} (M : Place D s I m t h int-type Φ) → I .N n ≡ some (lock-type K) →
-      Pays Φ (h .own) K → unary-reduct s m t unlock (name n) ≡ some s′ → WellTyped D s′
-  unlock-keeps {Φ} {K} {n} M known pays q =
+  -- Whatever the lock kept, the thread pays no less than it keeps from now on.
+  unlock-keeps : {Φ Ψᵢ Ψₒ : Cap} {n : ℕ} {s′ : State} (M : Place D s I m t h int-type Φ) → OwnLock (I .N) n Ψᵢ Ψₒ →
+      Pays Φ (h .own) Ψₒ → unary-reduct s m t unlock (name n) ≡ some s′ → WellTyped D s′
+  unlock-keeps {Φ} {n} M own pays q =
       let (_, _, q₁) = bind-is-some (lock-state (s .names n)) q in
-      slot-change-keeps M n _ (lock-type K) Φ zero-exp known slot-lock (value-typed int-typed ≥-refl) (λ ρ. omega (arith, pays .at ρ)) q₁
+      let (_, _, covers) = lock-there (rw (own .known) at (I .slots n)) in
+      slot-change-keeps M n _ (lock-type (own .Ψᵢ) (own .Ψₒ)) Φ zero-exp (own .known) (slot-lock covers) (value-typed int-typed ≥-refl)
+      (λ ρ. omega (arith, pays .at ρ, own .no-less-in .at ρ)) q₁
 
   -- The count rises by one, and the thread pays one load.
   post-keeps : {Φ K : Cap} {n : ℕ} {s′ : State} (M : Place D s I m t h int-type Φ) → I .N n ≡ some (sem-type K) →
@@ -117,14 +121,14 @@ module _ {D : ℕ} {s : State} (I : WellTyped D s) (m : Move) (t : Thread) (h : 
   unary-keeps : {Φ : Cap} {σ τ : Ty} {v : Value} {s′ : State} (o : Unary) (M : Place D s I m t h τ Φ) → ThreadAt s (m .thread) t →
       next (t .body) ≡ at-word (unary-redex o v) → ValueTyped (I .N) v σ → UnaryTyped D o σ (h .own) τ Φ →
       unary-reduct s m t o v ≡ some s′ → WellTyped D s′
-  unary-keeps join M there word (name-typed known fits-refl) (join-typed gains) q = join-keeps M there word known gains q
+  unary-keeps join M there word (name-typed known as-it-is) (join-typed gains) q = join-keeps M there word known gains q
   unary-keeps ref M there word typed (ref-typed enough) q = ref-keeps M typed enough q
-  unary-keeps read M there word (name-typed known fits-refl) (read-typed some-of-it enough) q = read-keeps M known enough q
-  unary-keeps freelock M there word (name-typed known fits-refl) (freelock-typed gains) q = freelock-keeps M known gains q
-  unary-keeps lock M there word (name-typed known fits-refl) (lock-typed gains) q = lock-keeps M known gains q
-  unary-keeps unlock M there word (name-typed known fits-refl) (unlock-typed pays) q = unlock-keeps M known pays q
-  unary-keeps post M there word (name-typed known fits-refl) (post-typed pays) q = post-keeps M known pays q
-  unary-keeps wait M there word (name-typed known fits-refl) (wait-typed gains) q = wait-keeps M known gains q
+  unary-keeps read M there word (name-typed known as-it-is) (read-typed some-of-it enough) q = read-keeps M known enough q
+  unary-keeps freelock M there word (name-typed known shown) (freelock-typed gains) q = freelock-keeps M (own-lock known shown) gains q
+  unary-keeps lock M there word (name-typed known shown) (lock-typed gains) q = lock-keeps M (own-lock known shown) gains q
+  unary-keeps unlock M there word (name-typed known shown) (unlock-typed pays) q = unlock-keeps M (own-lock known shown) pays q
+  unary-keeps post M there word (name-typed known as-it-is) (post-typed pays) q = post-keeps M known pays q
+  unary-keeps wait M there word (name-typed known as-it-is) (wait-typed gains) q = wait-keeps M known gains q
 
   -- ---- The other words
 
@@ -168,9 +172,9 @@ module _ {D : ℕ} {s : State} (I : WellTyped D s) (m : Move) (t : Thread) (h : 
   newtid-keeps M enough = new-name-keeps M _ (h .own) (λ grows. slot-identifier) enough (λ ρ. omega arith)
 
   -- A new lock is open, so it keeps its load, and the thread pays it.
-  newlock-keeps : {Φ K : Cap} {s′ : State} (M : Place D s I m t h (lock-type K) Φ) → Pays Φ (h .own) K →
+  newlock-keeps : {Φ Ψᵢ Ψₒ : Cap} {s′ : State} (M : Place D s I m t h (lock-type Ψᵢ Ψₒ) Φ) → Ψₒ ≥ᶜ Ψᵢ → Pays Φ (h .own) Ψₒ →
       reduct s m t (make-redex newlock) ≡ some s′ → WellTyped D s′
-  newlock-keeps {Φ} M pays = new-name-keeps M _ Φ (λ grows. slot-lock) ≥-refl (λ ρ. omega (arith, pays .at ρ))
+  newlock-keeps {Φ} M covers pays = new-name-keeps M _ Φ (λ grows. slot-lock covers) ≥-refl (λ ρ. omega (arith, pays .at ρ))
 
   -- A new semaphore counts 0, so it keeps nothing.
   newsem-keeps : {Φ K : Cap} {s′ : State} (M : Place D s I m t h (sem-type K) Φ) → h .own ≥ᶜ Φ →
@@ -182,11 +186,11 @@ module _ {D : ℕ} {s : State} (I : WellTyped D s) (m : Move) (t : Thread) (h : 
   redex-keeps M there word (let-redex-typed {x = x} v-typed e-typed) q = let-keeps x M v-typed e-typed q
   redex-keeps M there word (if-redex-typed e₁-typed e₂-typed) q = if-keeps M e₁-typed e₂-typed q
   redex-keeps M there word (while-redex-typed typed enough left) q = while-keeps M typed enough left q
-  redex-keeps M there word (spawn-redex-typed (name-typed known fits-refl) typed pays) q = spawn-keeps M known typed pays q
-  redex-keeps M there word (write-redex-typed (name-typed known fits-refl) typed whole enough) q = write-keeps M known typed enough q
+  redex-keeps M there word (spawn-redex-typed (name-typed known as-it-is) typed pays) q = spawn-keeps M known typed pays q
+  redex-keeps M there word (write-redex-typed (name-typed known as-it-is) typed whole enough) q = write-keeps M known typed enough q
   redex-keeps M there word (unary-redex-typed {o = o} v-typed o-typed) q = unary-keeps o M there word v-typed o-typed q
   redex-keeps M there word (make-redex-typed (newtid-typed enough)) q = newtid-keeps M enough q
-  redex-keeps M there word (make-redex-typed (newlock-typed pays)) q = newlock-keeps M pays q
+  redex-keeps M there word (make-redex-typed (newlock-typed covers pays)) q = newlock-keeps M covers pays q
   redex-keeps M there word (make-redex-typed (newsem-typed enough)) q = newsem-keeps M enough q
 
 -- Lemma 2.4: find the thread and its next word, and look at the word.

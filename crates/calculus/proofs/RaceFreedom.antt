@@ -9,8 +9,8 @@ use Rattle.calculus.specs.Expression.{Value, name, read, write-redex, un
 use Rattle.calculus.specs.State.{Thread, State}
 use Rattle.calculus.specs.Claim.{AboutToRead, about-to-read, AboutToWrite, about-to-write, race, RaceFree}
 use Rattle.calculus.specs.Capability.{Cap}
-use Rattle.calculus.specs.Figure5.{Ty, ref-type, Env, empty}
-use Rattle.calculus.proofs.Typing.{fits-refl, name-typed, read-typed}
+use Rattle.calculus.specs.Figure5.{Ty, ref-type, Env, empty, as-it-is}
+use Rattle.calculus.proofs.Typing.{name-typed, read-typed}
 use Rattle.calculus.proofs.Focus.{RedexTyped, write-redex-typed, unary-redex-typed, focus}
 use Rattle.calculus.proofs.Pool.{ThreadTyped, two-members}
 use Rattle.calculus.proofs.Laws.Total.{total}
@@ -25,10 +25,10 @@ record Access (N : Env) (Ψ : Cap) (n least : ℕ) : Type 0 where
 
 write-needs : {D : ℕ} {N : Env} {Ψ Φ : Cap} {n : ℕ} {w : Value} {τ : Ty} → RedexTyped D N empty Ψ Φ (write-redex (name n) w) τ →
     Access N Ψ n D
-write-needs (write-redex-typed {ρ = ρ} {σ = σ} (name-typed k fits-refl) l g h) = record { ρ = ρ; τ = σ; known = k; enough = g }
+write-needs (write-redex-typed {ρ = ρ} {σ = σ} (name-typed k as-it-is) l g h) = record { ρ = ρ; τ = σ; known = k; enough = g }
 
 read-needs : {D : ℕ} {N : Env} {Ψ Φ : Cap} {n : ℕ} {τ : Ty} → RedexTyped D N empty Ψ Φ (unary-redex read (name n)) τ → Access N Ψ n 1
-read-needs (unary-redex-typed (name-typed k fits-refl) (read-typed {τ = σ} {ρ = ρ} g h)) = record { ρ = ρ; τ = σ; known = k; enough = g }
+read-needs (unary-redex-typed (name-typed k as-it-is) (read-typed {τ = σ} {ρ = ρ} g h)) = record { ρ = ρ; τ = σ; known = k; enough = g }
 
 access-needs : {D : ℕ} {N : Env} {s : State} {u : Thread} {Ψ : Cap} {n : ℕ} → 0 < D → ThreadTyped D N u Ψ →
     AboutToRead s u n ⊎ AboutToWrite s u n → Access N Ψ n 1

@@ -5,27 +5,36 @@ use mathlib.Core.Option.{some}
 use native.Mathlib.Nat.{le-trans}
 use Rattle.calculus.specs.Expression.{Value, int, name, Unary, join, ref, read, freelock, lock, unlock, post, wait, Maker, newtid, newlock, newsem, Exp, value, var, let-in, if, while, spawn, write, unary, make}
 use Rattle.calculus.specs.Capability.{Cap, _≥ᶜ_}
-use Rattle.calculus.specs.Figure5.{Ty, int-type, ref-type, lock-type, tid-type, sem-type, Env, bind, _∣_∣_⊢_∶_∣_, VAR, INT, LET, IF, WHILE, NEWT, SPAWN, JOIN, REF, WRITE, READ, NEWL, FREEL, LCK, ULCK, NEWSEM, POST, WAIT}
+use Rattle.calculus.specs.Figure5.{Ty, int-type, ref-type, lock-type, tid-type, sem-type, _shown-as_, as-it-is, looser, Env, bind, _∣_∣_⊢_∶_∣_, VAR, INT, LET, IF, WHILE, NEWT, SPAWN, JOIN, REF, WRITE, READ, NEWL, FREEL, LCK, ULCK, NEWSEM, POST, WAIT}
 use Rattle.calculus.proofs.Laws.Order.{Gains, Pays, ≥-trans, ≥-refl, gains-weakens, pays-weakens, sum-gains, sum-pays}
 
 -- ---- Values
 
--- A thing of type σ may be used as one of type τ: here, when the two are the same type. The rules for names and variables go through it,
--- so that a wider relation may take its place.
-pub data Fits : Ty → Ty → Type 0 where
-  fits-refl : {τ : Ty} → Fits τ τ
+pub shown-as-trans : {σ τ υ : Ty} → σ shown-as τ → τ shown-as υ → σ shown-as υ
+shown-as-trans as-it-is g = g
+shown-as-trans (looser i o) as-it-is = looser i o
+shown-as-trans (looser i o) (looser i′ o′) = looser (≥-trans i i′) (≥-trans o′ o)
 
-pub fits-trans : {σ τ υ : Ty} → Fits σ τ → Fits τ υ → Fits σ υ
-fits-trans fits-refl g = g
-
--- N has the types of the names.
+-- N has the types of the names. A name may be shown as a variable of its type may.
 pub data ValueTyped (N : Env) : Value → Ty → Type 0 where
   int-typed : {k : ℕ} → ValueTyped N (int k) int-type
-  name-typed : {n : ℕ} {σ τ : Ty} → N n ≡ some σ → Fits σ τ → ValueTyped N (name n) τ
+  name-typed : {n : ℕ} {σ τ : Ty} → N n ≡ some σ → σ shown-as τ → ValueTyped N (name n) τ
 
-pub value-fits : {N : Env} {v : Value} {σ τ : Ty} → ValueTyped N v σ → Fits σ τ → ValueTyped N v τ
-value-fits int-typed fits-refl = int-typed
-value-fits (name-typed h f) g = name-typed h (fits-trans f g)
+pub value-shown-as : {N : Env} {v : Value} {σ τ : Ty} → ValueTyped N v σ → σ shown-as τ → ValueTyped N v τ
+value-shown-as int-typed as-it-is = int-typed
+value-shown-as (name-typed h f) g = name-typed h (shown-as-trans f g)
+
+-- The own type of a name that is shown as a lock.
+pub record OwnLock (N : Env) (n : ℕ) (Ψᵢ′ Ψₒ′ : Cap) : Type 0 where
+  pub Ψᵢ : Cap
+  pub Ψₒ : Cap
+  pub known : N n ≡ some (lock-type Ψᵢ Ψₒ)
+  pub no-more-out : Ψᵢ ≥ᶜ Ψᵢ′
+  pub no-less-in : Ψₒ′ ≥ᶜ Ψₒ
+
+pub own-lock : {N : Env} {n : ℕ} {σ : Ty} {Ψᵢ′ Ψₒ′ : Cap} → N n ≡ some σ → σ shown-as lock-type Ψᵢ′ Ψₒ′ → OwnLock N n Ψᵢ′ Ψₒ′
+own-lock h as-it-is = record { Ψᵢ = _; Ψₒ = _; known = h; no-more-out = ≥-refl; no-less-in = ≥-refl }
+own-lock h (looser i o) = record { Ψᵢ = _; Ψₒ = _; known = h; no-more-out = i; no-less-in = o }
 
 -- ---- Expressions
 
@@ -34,21 +43,21 @@ pub data UnaryTyped (D : ℕ) : Unary → Ty → Cap → Ty → Cap → Type 0 w
   join-typed : {K Ψ Φ : Cap} → Gains Φ Ψ K → UnaryTyped D join (tid-type K) Ψ int-type Φ
   ref-typed : {τ : Ty} {ρ : ℕ} {Ψ Φ : Cap} → Ψ ≥ᶜ Φ → UnaryTyped D ref τ Ψ (ref-type ρ τ) Φ
   read-typed : {τ : Ty} {ρ : ℕ} {Ψ Φ : Cap} → 0 < Ψ ρ → Ψ ≥ᶜ Φ → UnaryTyped D read (ref-type ρ τ) Ψ τ Φ
-  freelock-typed : {K Ψ Φ : Cap} → Gains Φ Ψ K → UnaryTyped D freelock (lock-type K) Ψ int-type Φ
-  lock-typed : {K Ψ Φ : Cap} → Gains Φ Ψ K → UnaryTyped D lock (lock-type K) Ψ int-type Φ
-  unlock-typed : {K Ψ Φ : Cap} → Pays Φ Ψ K → UnaryTyped D unlock (lock-type K) Ψ int-type Φ
+  freelock-typed : {Ψᵢ Ψₒ Ψ Φ : Cap} → Gains Φ Ψ Ψᵢ → UnaryTyped D freelock (lock-type Ψᵢ Ψₒ) Ψ int-type Φ
+  lock-typed : {Ψᵢ Ψₒ Ψ Φ : Cap} → Gains Φ Ψ Ψᵢ → UnaryTyped D lock (lock-type Ψᵢ Ψₒ) Ψ int-type Φ
+  unlock-typed : {Ψᵢ Ψₒ Ψ Φ : Cap} → Pays Φ Ψ Ψₒ → UnaryTyped D unlock (lock-type Ψᵢ Ψₒ) Ψ int-type Φ
   post-typed : {K Ψ Φ : Cap} → Pays Φ Ψ K → UnaryTyped D post (sem-type K) Ψ int-type Φ
   wait-typed : {K Ψ Φ : Cap} → Gains Φ Ψ K → UnaryTyped D wait (sem-type K) Ψ int-type Φ
 
 pub data MakerTyped : Maker → Cap → Ty → Cap → Type 0 where
   newtid-typed : {K Ψ Φ : Cap} → Ψ ≥ᶜ Φ → MakerTyped newtid Ψ (tid-type K) Φ
-  newlock-typed : {K Ψ Φ : Cap} → Pays Φ Ψ K → MakerTyped newlock Ψ (lock-type K) Φ
+  newlock-typed : {Ψᵢ Ψₒ Ψ Φ : Cap} → Ψₒ ≥ᶜ Ψᵢ → Pays Φ Ψ Ψₒ → MakerTyped newlock Ψ (lock-type Ψᵢ Ψₒ) Φ
   newsem-typed : {K Ψ Φ : Cap} → Ψ ≥ᶜ Φ → MakerTyped newsem Ψ (sem-type K) Φ
 
 -- Typed D N Γ Ψ e τ Φ: with these types of names and variables e has type τ, can be run with Ψ, and leaves at least Φ.
 pub data Typed (D : ℕ) (N : Env) : Env → Cap → Exp → Ty → Cap → Type 0 where
   value-typed : {Γ : Env} {Ψ Φ : Cap} {v : Value} {τ : Ty} → ValueTyped N v τ → Ψ ≥ᶜ Φ → Typed D N Γ Ψ (value v) τ Φ
-  var-typed : {Γ : Env} {Ψ Φ : Cap} {x : ℕ} {σ τ : Ty} → Γ x ≡ some σ → Fits σ τ → Ψ ≥ᶜ Φ → Typed D N Γ Ψ (var x) τ Φ
+  var-typed : {Γ : Env} {Ψ Φ : Cap} {x : ℕ} {σ τ : Ty} → Γ x ≡ some σ → σ shown-as τ → Ψ ≥ᶜ Φ → Typed D N Γ Ψ (var x) τ Φ
   let-typed : {Γ : Env} {Ψ Ψ₁ Φ : Cap} {x : ℕ} {e₁ e₂ : Exp} {σ τ : Ty} →
       Typed D N Γ Ψ e₁ σ Ψ₁ → Typed D N (bind Γ x σ) Ψ₁ e₂ τ Φ → Typed D N Γ Ψ (let-in x e₁ e₂) τ Φ
   if-typed : {Γ : Env} {Ψ Φ : Cap} {e₁ e₂ : Exp} {τ : Ty} →
@@ -77,7 +86,7 @@ unary-weakens (wait-typed h) a b = wait-typed (gains-weakens h a b)
 
 pub maker-weakens : {o : Maker} {τ : Ty} {Ψ Ψ′ Φ Φ′ : Cap} → MakerTyped o Ψ τ Φ → Ψ′ ≥ᶜ Ψ → Φ ≥ᶜ Φ′ → MakerTyped o Ψ′ τ Φ′
 maker-weakens (newtid-typed h) a b = newtid-typed (≥-trans a (≥-trans h b))
-maker-weakens (newlock-typed h) a b = newlock-typed (pays-weakens h a b)
+maker-weakens (newlock-typed g h) a b = newlock-typed g (pays-weakens h a b)
 maker-weakens (newsem-typed h) a b = newsem-typed (≥-trans a (≥-trans h b))
 
 pub typing-weakens : {D : ℕ} {N Γ : Env} {Ψ Ψ′ Φ Φ′ : Cap} {e : Exp} {τ : Ty} → Typed D N Γ Ψ e τ Φ → Ψ′ ≥ᶜ Ψ → Φ ≥ᶜ Φ′ →
@@ -95,7 +104,7 @@ typing-weakens (make-typed o) a b = make-typed (maker-weakens o a b)
 -- ---- Figure 5 gives it
 
 pub derived-is-typed : {D : ℕ} {Γ : Env} {Ψ Φ : Cap} {e : Exp} {τ : Ty} (N : Env) → D ∣ Γ ∣ Ψ ⊢ e ∶ τ ∣ Φ → Typed D N Γ Ψ e τ Φ
-derived-is-typed N (VAR h) = var-typed h fits-refl ≥-refl
+derived-is-typed N (VAR h f) = var-typed h f ≥-refl
 derived-is-typed N INT = value-typed int-typed ≥-refl
 derived-is-typed N (LET e₁ e₂) = let-typed (derived-is-typed N e₁) (derived-is-typed N e₂)
 derived-is-typed N (IF e₁ g e₂ h) =
@@ -107,7 +116,7 @@ derived-is-typed N (JOIN e h) = unary-typed (derived-is-typed N e) (join-typed (
 derived-is-typed N (REF e) = unary-typed (derived-is-typed N e) (ref-typed ≥-refl)
 derived-is-typed N (WRITE e₁ e₂ g) = write-typed (derived-is-typed N e₁) (derived-is-typed N e₂) g ≥-refl
 derived-is-typed N (READ e g) = unary-typed (derived-is-typed N e) (read-typed g ≥-refl)
-derived-is-typed N (NEWL h) = make-typed (newlock-typed (sum-pays h))
+derived-is-typed N (NEWL g h) = make-typed (newlock-typed g (sum-pays h))
 derived-is-typed N (FREEL e h) = unary-typed (derived-is-typed N e) (freelock-typed (sum-gains h))
 derived-is-typed N (LCK e h) = unary-typed (derived-is-typed N e) (lock-typed (sum-gains h))
 derived-is-typed N (ULCK e h) = unary-typed (derived-is-typed N e) (unlock-typed (sum-pays h))

@@ -1,7 +1,7 @@
 -- Programs of the paper and a few beside them, with moves that run them. What they show is proved in proofs/Examples.
 use Prim.Native.Nat.{ℕ, zero, suc}
 use mathlib.Core.List.{List, [], _∷_}
-use Rattle.calculus.specs.Expression.{int, Unary, join, ref, read, freelock, lock, unlock, post, wait, newtid, newlock, newsem, Exp, value, var, let-in, while, spawn, write, unary, make}
+use Rattle.calculus.specs.Expression.{int, Unary, join, ref, read, freelock, lock, unlock, post, wait, newtid, newlock, newsem, Exp, value, var, let-in, if, while, spawn, write, unary, make}
 use Rattle.calculus.specs.State.{first, second, Move}
 use Rattle.calculus.specs.Reduction.{nowhere}
 use Rattle.calculus.specs.Capability.{Cap}
@@ -186,6 +186,31 @@ abbrev pub moves-figure-7 : List Move
 moves-figure-7 =
     names 0 1 ∷ goes 0 ∷ names 0 2 ∷ goes 0 ∷ names 0 3 ∷ goes 0 ∷ goes 0 ∷ names 0 4 ∷ goes 0 ∷ goes 0
     ∷ goes 0 ∷ goes 0 ∷ goes 0 ∷ goes 1 ∷ goes 1 ∷ goes 2 ∷ goes 2 ∷ []
+
+-- ---- Section 3.1.6: locks that take more than they give
+
+-- Two locks with unlike loads meet in one variable.
+abbrev pub two-loads : Exp
+two-loads =
+    let-in 0 (make newlock)
+    (let-in 1 (make newlock)
+    (let-in 2 (if (var 0) (var 1))
+    (unary lock (var 2))))
+
+-- With the printed out inequality the first thread could lock, give back nothing, and write.
+abbrev pub unlock-for-nothing : Exp
+unlock-for-nothing =
+    let-in 0 (unary ref (constant 0))
+    (let-in 1 (make newlock)
+    (spawn (make newtid) (unary lock (var 1) ⨾ write (var 0) (constant 1))
+    ⨾ unary lock (var 1)
+    ⨾ unary unlock (var 1)
+    ⨾ write (var 0) (constant 2)))
+
+-- It locks and unlocks; then the other locks, and both are about to write.
+abbrev pub moves-unlock-for-nothing : List Move
+moves-unlock-for-nothing =
+    names 0 1 ∷ goes 0 ∷ names 0 2 ∷ goes 0 ∷ names 0 3 ∷ goes 0 ∷ goes 0 ∷ goes 0 ∷ goes 0 ∷ goes 0 ∷ goes 0 ∷ goes 1 ∷ goes 1 ∷ []
 
 -- ---- Beside the paper
 

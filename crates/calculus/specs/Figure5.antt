@@ -1,5 +1,5 @@
 -- Figure 5: Γ, Ψ ⊢ e : τ, Ψ′, one constructor a printed rule, in the printed order and with the printed names; then the rules of
--- Section 3.1.4 for semaphores, under the names of their words.
+-- Section 3.1.4 for semaphores, under the names of their words. Locks are those of Section 3.1.6.
 use Prim.Native.Nat.{ℕ, _≤_, _<_}
 use mathlib.Core.Path.{_≡_}
 use mathlib.Core.Option.{Option, none, some}
@@ -7,13 +7,22 @@ use Rattle.calculus.specs.Expression.{int, join, ref, read, freelock, lo
 use Rattle.calculus.specs.State.{update}
 use Rattle.calculus.specs.Capability.{Cap, _≥ᶜ_, _≈_⊕_}
 
--- The types of Section 2.2 and of Section 3.1.4, as trees.
+-- The types of Section 2.2 and of Section 3.1.4, as trees. A lock has two capabilities, Ψᵢ and Ψₒ of Section 3.1.6: `lock` and `freelock`
+-- hand out Ψᵢ, `newlock` and `unlock` take Ψₒ.
 pub data Ty : Type 0 where
   int-type : Ty
   ref-type : ℕ → Ty → Ty
-  lock-type : Cap → Ty
+  lock-type : (Ψᵢ Ψₒ : Cap) → Ty
   tid-type : Cap → Ty
   sem-type : Cap → Ty
+
+-- What a variable of the first type may be shown as: a lock as one that hands out no more and takes no less, anything else as it is.
+-- Section 3.1.6 prints the second inequality the other way round; "that lets a thread lock, give back nothing and lock again, so ours
+-- holds" (request (ix)).
+infix 40 _shown-as_
+pub data _shown-as_ : Ty → Ty → Type 0 where
+  as-it-is : {τ : Ty} → τ shown-as τ
+  looser : {Ψᵢ Ψₒ Ψᵢ′ Ψₒ′ : Cap} → Ψᵢ ≥ᶜ Ψᵢ′ → Ψₒ′ ≥ᶜ Ψₒ → lock-type Ψᵢ Ψₒ shown-as lock-type Ψᵢ′ Ψₒ′
 
 -- Γ, the types of the variables that are bound.
 abbrev pub Env : Type 0
@@ -28,9 +37,12 @@ bind Γ x τ = update Γ x (some τ)
 
 -- D ∣ Γ ∣ Ψ ⊢ e ∶ τ ∣ Ψ′ is the printed Γ, Ψ ⊢ e : τ, Ψ′, with D for the printed 1. A printed difference is the sum that defines it:
 -- Ψ₂ − Ψ₃ is the Ψ₅ with Ψ₂ ≈ Ψ₅ ⊕ Ψ₃, and where there is none the rule does not apply.
+--
+-- NEWL asks that a lock hands out no more than it takes. No other rule has to: every lock has been made, and what it is shown as hands
+-- out no more and takes no less.
 infix 20 _∣_∣_⊢_∶_∣_
 pub data _∣_∣_⊢_∶_∣_ (D : ℕ) : Env → Cap → Exp → Ty → Cap → Type 0 where
-  VAR : {Γ : Env} {Ψ : Cap} {x : ℕ} {τ : Ty} → Γ x ≡ some τ → D ∣ Γ ∣ Ψ ⊢ var x ∶ τ ∣ Ψ
+  VAR : {Γ : Env} {Ψ : Cap} {x : ℕ} {σ τ : Ty} → Γ x ≡ some σ → σ shown-as τ → D ∣ Γ ∣ Ψ ⊢ var x ∶ τ ∣ Ψ
   INT : {Γ : Env} {Ψ : Cap} {n : ℕ} → D ∣ Γ ∣ Ψ ⊢ value (int n) ∶ int-type ∣ Ψ
   LET : {Γ : Env} {Ψ Ψ₁ Ψ₂ : Cap} {x : ℕ} {e₁ e₂ : Exp} {τ₁ τ₂ : Ty} →
       D ∣ Γ ∣ Ψ ⊢ e₁ ∶ τ₁ ∣ Ψ₁ → D ∣ bind Γ x τ₁ ∣ Ψ₁ ⊢ e₂ ∶ τ₂ ∣ Ψ₂ →
@@ -57,15 +69,15 @@ pub data _∣_∣_⊢_∶_∣_ (D : ℕ) : Env → Cap → Exp → Ty → Cap �
   READ : {Γ : Env} {Ψ Ψ₁ : Cap} {e : Exp} {τ : Ty} {ρ : ℕ} →
       D ∣ Γ ∣ Ψ ⊢ e ∶ ref-type ρ τ ∣ Ψ₁ → 0 < Ψ₁ ρ →
       D ∣ Γ ∣ Ψ ⊢ unary read e ∶ τ ∣ Ψ₁
-  NEWL : {Γ : Env} {Ψ Ψ₁ Ψ₂ : Cap} → Ψ ≈ Ψ₂ ⊕ Ψ₁ → D ∣ Γ ∣ Ψ ⊢ make newlock ∶ lock-type Ψ₁ ∣ Ψ₂
-  FREEL : {Γ : Env} {Ψ Ψ₁ Ψ₂ Ψ₃ : Cap} {e : Exp} →
-      D ∣ Γ ∣ Ψ ⊢ e ∶ lock-type Ψ₁ ∣ Ψ₂ → Ψ₃ ≈ Ψ₂ ⊕ Ψ₁ →
+  NEWL : {Γ : Env} {Ψ Ψᵢ Ψₒ Ψ₂ : Cap} → Ψₒ ≥ᶜ Ψᵢ → Ψ ≈ Ψ₂ ⊕ Ψₒ → D ∣ Γ ∣ Ψ ⊢ make newlock ∶ lock-type Ψᵢ Ψₒ ∣ Ψ₂
+  FREEL : {Γ : Env} {Ψ Ψᵢ Ψₒ Ψ₂ Ψ₃ : Cap} {e : Exp} →
+      D ∣ Γ ∣ Ψ ⊢ e ∶ lock-type Ψᵢ Ψₒ ∣ Ψ₂ → Ψ₃ ≈ Ψ₂ ⊕ Ψᵢ →
       D ∣ Γ ∣ Ψ ⊢ unary freelock e ∶ int-type ∣ Ψ₃
-  LCK : {Γ : Env} {Ψ Ψ₁ Ψ₂ Ψ₃ : Cap} {e : Exp} →
-      D ∣ Γ ∣ Ψ ⊢ e ∶ lock-type Ψ₁ ∣ Ψ₂ → Ψ₃ ≈ Ψ₂ ⊕ Ψ₁ →
+  LCK : {Γ : Env} {Ψ Ψᵢ Ψₒ Ψ₂ Ψ₃ : Cap} {e : Exp} →
+      D ∣ Γ ∣ Ψ ⊢ e ∶ lock-type Ψᵢ Ψₒ ∣ Ψ₂ → Ψ₃ ≈ Ψ₂ ⊕ Ψᵢ →
       D ∣ Γ ∣ Ψ ⊢ unary lock e ∶ int-type ∣ Ψ₃
-  ULCK : {Γ : Env} {Ψ Ψ₁ Ψ₂ Ψ₃ : Cap} {e : Exp} →
-      D ∣ Γ ∣ Ψ ⊢ e ∶ lock-type Ψ₁ ∣ Ψ₂ → Ψ₂ ≈ Ψ₃ ⊕ Ψ₁ →
+  ULCK : {Γ : Env} {Ψ Ψᵢ Ψₒ Ψ₂ Ψ₃ : Cap} {e : Exp} →
+      D ∣ Γ ∣ Ψ ⊢ e ∶ lock-type Ψᵢ Ψₒ ∣ Ψ₂ → Ψ₂ ≈ Ψ₃ ⊕ Ψₒ →
       D ∣ Γ ∣ Ψ ⊢ unary unlock e ∶ int-type ∣ Ψ₃
   NEWSEM : {Γ : Env} {Ψ Ψ₁ : Cap} → D ∣ Γ ∣ Ψ ⊢ make newsem ∶ sem-type Ψ₁ ∣ Ψ
   POST : {Γ : Env} {Ψ Ψ₁ Ψ₂ Ψ₃ : Cap} {e : Exp} →

@@ -26,14 +26,14 @@ use Rattle.workspace.proofs.Held.{program-kept}
 use Rattle.program.specs.Sheet.{Answered}
 use Rattle.program.specs.declared.ProgramRead.{ProgramRead}
 use Rattle.program.specs.declared.ProgramRead.the-variants as program-read
-use Rattle.split.specs.Lines.{headerTold}
 use Rattle.split.specs.Answers.{Small}
+use Rattle.split.proofs.Found.{denominator-told, locations-told, types-told, start-told}
 use Rattle.split.specs.Sheet.{SheetAnswer}
-use Rattle.split.specs.declared.Header.{Header}
+use Rattle.workspace.specs.declared.Header.{Header}
 use Rattle.split.specs.declared.Sheet.{Sheet}
 use Rattle.split.specs.declared.Sheet.the-variants as sheet
 use Rattle.rules.specs.Outcome.{outcome}
-use Rattle.workspace.specs.Sheets.{HoldsSheets}
+use Rattle.workspace.specs.Sheets.{headerTold, HoldsSheets}
 use Rattle.rules.specs.declared.Ruling.{Ruling}
 use Rattle.rules.specs.declared.Ruling.the-variants.{Met, Refused}
 use Rattle.checker.specs.Stages.{RulesAnswered}
@@ -64,11 +64,11 @@ module _ (p s : List ℕ) (P : Program) (F : WellFormedProgram p P) where
     unfolding workspaceSize programLimit
     bad-split-refused r e = sym (split-refused 16384 p s (omega arith) (F .fits) P reads fits r e)
 
-    pub good-split-ruled : {w w′ : List ℕ} {n d l r : ℕ} {a : Answer} (S : Split) → split Check (P .steps) s ≡ on S
+    pub good-split-ruled : {w w′ : List ℕ} {n : ℕ} {a : Answer} (h : Header) (S : Split) → split Check (P .steps) s ≡ on S
         → ChangedWithin 1024 16384 w w′ → HoldsProgram w P → HoldsSplit w′ S → n ≡ length (P .steps) → n ≤ 256
-        → d ≡ S .header .denominator → l ≡ S .header .locations → r ≡ S .header .start .0 → RulesAnswered w′ n d l r a → a ≡ verdict workspaceSize p s
+        → S .header ≡ headerTold h → RulesAnswered w′ n h a → a ≡ verdict workspaceSize p s
     unfolding workspaceSize programLimit splitLimit
-    good-split-ruled S e changed holds holds′ counted few isD isL isR rules =
+    good-split-ruled h S e changed holds holds′ counted few headed rules =
         let G = split-well-formed Check (P .steps) s fits e in
         rules P S (record {
           programText = p;
@@ -77,10 +77,11 @@ module _ (p s : List ℕ) (P : Program) (F : WellFormedProgram p P) where
           program = program-kept changed (F .listing) (omega (arith, counted, few)) holds;
           split = holds′;
           stepsCounted = counted;
-          denominatorGiven = isD;
-          locationsGiven = isL;
-          startGiven = isR;
+          denominatorGiven = denominator-told S h headed;
+          locationsGiven = locations-told S h headed;
+          startGiven = start-told S h headed;
         })
+        (types-told S h headed)
         ∙ sym (rules-decide 16384 p s (omega arith) (F .fits) P reads fits S e)
 
 -- ------------------------------------------------------------------ the program

@@ -8,15 +8,17 @@ use Rattle.spec.specs.Program.{Program}
 use Rattle.spec.specs.Split.{Split}
 use Rattle.spec.specs.WellFormed.{WellFormedProgram}
 use Rattle.spec.specs.Workspace.{workspaceSize}
-use Rattle.spec.specs.Verdict.{startAtMostOne, ruled, answer, verdict}
+use Rattle.spec.specs.Verdict.{locksTakeEnough, startAtMostOne, ruled, answer, verdict}
 use Rattle.spec.specs.declared.Answer.{Answer}
 use Rattle.workspace.specs.Holds.{HoldsProgram}
 use Rattle.workspace.specs.Sheets.{HoldsSheets}
+use Rattle.workspace.specs.declared.Header.{Header}
 
--- the rules: for whichever sheets the work space holds
-abbrev pub RulesAnswered : (w : List ℕ) (steps denominator locations start : ℕ) → Answer → Type 0
-RulesAnswered w steps denominator locations start a =
-    (P : Program) (S : Split) → HoldsSheets w steps denominator locations start P S → a ≡ answer (startAtMostOne P S >>= λ whole. ruled P S)
+-- the rules: for whichever sheets with this header the work space holds
+abbrev pub RulesAnswered : (w : List ℕ) (steps : ℕ) → Header → Answer → Type 0
+RulesAnswered w steps header a =
+    (P : Program) (S : Split) → HoldsSheets w steps (header .denominator) (header .locations) (header .start .0) P S → header .types ≡ S .header .types
+    → a ≡ answer (locksTakeEnough S >>= λ enough. startAtMostOne P S >>= λ whole. ruled P S)
 
 -- a program of so many steps stands in the work space
 abbrev pub HoldsSome : (w : List ℕ) (steps : ℕ) → Type 0

@@ -5,6 +5,7 @@ use spec::Answer;
 use spec::Purpose;
 use spec::Refusal;
 use split::Sheet;
+use workspace::Header;
 ghost use mathlib.Core.Path.{_≡_};
 ghost use mathlib.Core.List.{List};
 ghost use mathlib.Core.Bool.{true};
@@ -24,24 +25,18 @@ const PROGRAM_LIMIT: usize = 16384;
 
 const SPLIT_LIMIT: usize = 65536;
 
-// 30 to 33, for the sheets that the work space holds.
-fn check_rules(
-    work: &mut [u32],
-    steps: usize,
-    denominator: u32,
-    locations: usize,
-    start: u32,
-) -> Answer
-    requires { ⌜ (length (now work) ≡ 16384) × (steps ≤ 256) × (locations ≤ 16) ⌝ }
-    ensures { λ a. ⌜ RulesAnswered (now (work .entry)) steps denominator locations start a ⌝ }
+// 44 and 30 to 33, for the sheets that the work space holds.
+fn check_rules(work: &mut [u32], steps: usize, header: Header) -> Answer
+    requires { ⌜ (length (now work) ≡ 16384) × (steps ≤ 256) × (header .locations ≤ 16) × (header .types ≤ 64) ⌝ }
+    ensures { λ a. ⌜ RulesAnswered (now (work .entry)) steps header a ⌝ }
 {
-    match rules::rule(work, Purpose::Check, steps, denominator, locations, start) {
+    match rules::rule(work, Purpose::Check, steps, header) {
         Ruling::Met => Answer::Accept,
         Ruling::Refused(r) => Answer::Refuse(r),
     }
 }
 
-// 20 to 33, for the program that the work space holds.
+// 20 and on, for the program that the work space holds.
 fn check_split(split: &[u8], steps: usize, work: &mut [u32]) -> Answer
     requires { ⌜ (length (now work) ≡ 16384) × (steps ≤ 256) × HoldsSome (now work) steps ⌝ }
     ensures { λ a. ⌜ SplitAnswered (now (work .entry)) steps (now (split .entry)) a ⌝ }
@@ -51,17 +46,11 @@ fn check_split(split: &[u8], steps: usize, work: &mut [u32]) -> Answer
     }
     match split::read(split, Purpose::Check, steps, work) {
         Sheet::Refused(r) => Answer::Refuse(r),
-        Sheet::Read(header) => check_rules(
-            work,
-            steps,
-            header.denominator,
-            header.locations,
-            header.start.0,
-        ),
+        Sheet::Read(header) => check_rules(work, steps, header),
     }
 }
 
-// 10 to 33, in a work space that is as long as document 01 wants.
+// 10 and on, in a work space that is as long as document 01 wants.
 fn check_program(program: &[u8], split: &[u8], work: &mut [u32]) -> Answer
     requires { ⌜ length (now work) ≡ 16384 ⌝ }
     ensures { λ a. ⌜ a ≡ verdict workspaceSize (now (program .entry)) (now (split .entry)) ⌝ }

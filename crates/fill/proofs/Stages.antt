@@ -14,7 +14,7 @@ use Rattle.spec.specs.Program.{Program, programLimit, program}
 use Rattle.spec.specs.Split.{Map, Split, splitLimit, split}
 use Rattle.spec.specs.WellFormed.{WellFormedProgram}
 use Rattle.spec.specs.Workspace.{workspaceSize}
-use Rattle.spec.specs.Verdict.{startAtMostOne, typed}
+use Rattle.spec.specs.Verdict.{locksTakeEnough, startAtMostOne, typed}
 use Rattle.spec.specs.declared.Purpose.the-variants.{Fill}
 use Rattle.spec.specs.declared.Refusal.{Refusal}
 use Rattle.spec.specs.declared.Refusal.the-variants.{ShortWorkspace, LongProgram, LongSplit, NoAfterMaps, TooLarge, TooManyMaps}
@@ -24,12 +24,11 @@ use Rattle.spec.proofs.Ranges.{well-formed-in-range}
 use Rattle.workspace.specs.Layout.{presAt}
 use Rattle.workspace.specs.Region.{ChangedWithin}
 use Rattle.workspace.specs.Holds.{HoldsProgram, HoldsSplit}
-use Rattle.workspace.specs.Sheets.{HoldsSheets}
+use Rattle.workspace.specs.Sheets.{headerTold, HoldsSheets}
 use Rattle.workspace.proofs.Region.{changed-wider}
 use Rattle.workspace.proofs.Held.{program-kept}
-use Rattle.split.specs.Lines.{headerTold}
-use Rattle.split.specs.declared.Header.{Header}
-use Rattle.split.proofs.Found.{denominator-told, locations-told, start-told}
+use Rattle.workspace.specs.declared.Header.{Header}
+use Rattle.split.proofs.Found.{denominator-told, locations-told, types-told, start-told}
 use Rattle.rules.specs.Outcome.{outcome}
 use Rattle.rules.specs.Contract.{ruledFor, Ruled}
 use Rattle.rules.specs.declared.Ruling.{Ruling}
@@ -122,7 +121,7 @@ module _ {w w′ : List ℕ} (header : Header) {steps : ℕ} {r : Found}
       let (γ, found, small, H) = filled-as e P S B in
       told-as (sym (small-text _ P S γ found small)) (told (filled S γ) (rw is (filled-held B γ found H)))
 
--- ------------------------------------------------------------------ 43, 30 and 31
+-- ------------------------------------------------------------------ 43, 44, 30 and 31
 
 bind-parts : {A : Type 0} (a b : Out (Unit {0})) (c : Out A) → ((a >>= λ first. b) >>= λ both. c) ≡ (a >>= λ first. b >>= λ both. c)
 unfolding _>>=_
@@ -134,11 +133,16 @@ module _ (buffer : ℕ) (P : Program) (S : Split) where
   unfolding afterReading demand _>>=_ givenLimit
   many h = rw (lt-leb _ _ h)
 
-  few-maps : S .header .maps ≤ 256 → afterReading buffer P S ≡ ((startAtMostOne P S >>= λ whole. ruledFor Fill P S) >>= λ holds. filledText buffer P S)
+  few-maps : S .header .maps ≤ 256
+      → afterReading buffer P S ≡ ((locksTakeEnough S >>= λ enough. startAtMostOne P S >>= λ whole. ruledFor Fill P S) >>= λ holds. filledText buffer P S)
   unfolding afterReading demand givenLimit ruledFor _>>=_
-  few-maps h = rw (le-leb _ _ h) (sym (bind-parts (startAtMostOne P S) (typed P S) (filledText buffer P S)))
+  few-maps h =
+      rw (le-leb _ _ h)
+      (sym (bind-parts (locksTakeEnough S) (startAtMostOne P S >>= λ whole. typed P S) (filledText buffer P S)
+      ∙ ap (λ o. locksTakeEnough S >>= λ enough. o) (bind-parts (startAtMostOne P S) (typed P S) (filledText buffer P S))))
 
-  after-rules : {r r′ : Ruling} → S .header .maps ≤ 256 → outcome r ≡ (startAtMostOne P S >>= λ whole. ruledFor Fill P S) → r ≡ r′
+  after-rules : {r r′ : Ruling} → S .header .maps ≤ 256
+      → outcome r ≡ (locksTakeEnough S >>= λ enough. startAtMostOne P S >>= λ whole. ruledFor Fill P S) → r ≡ r′
       → afterReading buffer P S ≡ (outcome r′ >>= λ holds. filledText buffer P S)
   after-rules h e same = few-maps h ∙ ap (_>>= λ holds. filledText buffer P S) (sym e ∙ ap outcome same)
 
@@ -148,7 +152,7 @@ module _ (w : List ℕ) (header : Header) (steps : ℕ) where
       told-as (sym (many _ P S (omega (arith, maps-told S header (B .headed), h)))) (refusal-told TooManyMaps buffer)
 
   module _ {w′ : List ℕ} {r : Ruling} (few : header .maps ≤ 256)
-      (R : Ruled w Fill steps (header .denominator) (header .locations) (header .start .0) r w′) where
+      (R : Ruled w Fill steps header r w′) where
     given-few : {P : Program} {S : Split} → HoldsBoth w header steps P S → S .header .maps ≤ 256
     given-few {S = S} B = omega (arith, maps-told S header (B .headed), few)
 
@@ -178,13 +182,13 @@ module _ (w : List ℕ) (header : Header) (steps : ℕ) where
     pub rule-refused : (buffer : List ℕ) (x : Refusal) → r ≡ ruling.Refused x → SheetsTold w header steps buffer buffer (Refused x)
     unfolding outcome _>>=_
     rule-refused buffer x e P S B =
-        told-as (sym (after-rules _ P S (given-few B) (R .answers P S (B .sheets)) e)) (refusal-told x buffer)
+        told-as (sym (after-rules _ P S (given-few B) (R .answers P S (B .sheets) (types-told S header (B .headed))) e)) (refusal-told x buffer)
 
     pub rules-met : {before after : List ℕ} {f : Filled} → steps ≤ 256 → r ≡ ruling.Met → TextTold w′ header steps before after f
         → SheetsTold w header steps before after f
     unfolding outcome _>>=_
     rules-met short e told P S B =
-        told-as (sym (after-rules _ P S (given-few B) (R .answers P S (B .sheets)) e)) (told P S (both-kept short B))
+        told-as (sym (after-rules _ P S (given-few B) (R .answers P S (B .sheets) (types-told S header (B .headed))) e)) (told P S (both-kept short B))
 
 -- ------------------------------------------------------------------ the split
 

@@ -9,12 +9,11 @@ use Rattle.spec.specs.Program.{Program}
 use Rattle.spec.specs.Split.{Split, splitLimit}
 use Rattle.spec.specs.WellFormed.{WellFormedProgram}
 use Rattle.spec.specs.Workspace.{workspaceSize}
-use Rattle.spec.specs.Verdict.{startAtMostOne, typed}
+use Rattle.spec.specs.Verdict.{locksTakeEnough, startAtMostOne, typed}
 use Rattle.spec.specs.declared.Refusal.the-variants.{TooLarge, TooManyMaps}
 use Rattle.workspace.specs.Holds.{HoldsProgram}
-use Rattle.workspace.specs.Sheets.{HoldsSheets}
-use Rattle.split.specs.Lines.{headerTold}
-use Rattle.split.specs.declared.Header.{Header}
+use Rattle.workspace.specs.Sheets.{headerTold, HoldsSheets}
+use Rattle.workspace.specs.declared.Header.{Header}
 use Rattle.writer.specs.Sheet.{written}
 use Rattle.sheets.specs.Contract.{HoldsSheet}
 use Rattle.filling.specs.Answer.{givenLimit, filledText, fill, numbersOf, bufferAfter}
@@ -62,10 +61,11 @@ abbrev pub TextTold : (w : List ℕ) (header : Header) (steps : ℕ) (before aft
 TextTold w header steps before after f =
     (P : Program) (S : Split) → HoldsBoth w header steps P S → Tells (filledText (length before) P S) before after f
 
--- 43, 30, 31, 41 and 42
+-- 43, 44, 30, 31, 41 and 42
 unfoldable pub afterReading : (buffer : ℕ) → Program → Split → Out (List ℕ)
 afterReading buffer P S = do
   few ← demand (leb (S .header .maps) givenLimit) TooManyMaps
+  locks ← locksTakeEnough S
   whole ← startAtMostOne P S
   typesHold ← typed P S
   filledText buffer P S

@@ -8,8 +8,8 @@ use rules::Ruling;
 use sheets::write_sheet;
 use spec::Purpose;
 use spec::Refusal;
-use split::Header;
 use split::Sheet;
+use workspace::Header;
 ghost use mathlib.Core.Path.{_≡_};
 ghost use mathlib.Core.List.{List};
 ghost use mathlib.Core.Logic.{_↔_};
@@ -98,20 +98,13 @@ fn fill_held(work: &mut [u32], header: Header, steps: usize, out: &mut [u8]) -> 
 
 // 43 and on, for the sheets that the work space holds.
 fn fill_sheets(work: &mut [u32], header: Header, steps: usize, out: &mut [u8]) -> Filled
-    requires { ⌜ (length (now work) ≡ 16384) × (steps ≤ 256) × (header .locations ≤ 16) × HoldsSome (now work) header steps ⌝ }
+    requires { ⌜ (length (now work) ≡ 16384) × (steps ≤ 256) × (header .locations ≤ 16) × (header .types ≤ 64) × HoldsSome (now work) header steps ⌝ }
     ensures { λ f. ⌜ SheetsTold (now (work .entry)) header steps (now (out .entry)) (now (out .exit)) f ⌝ }
 {
     if GIVEN_LIMIT < header.maps {
         return Filled::Refused(Refusal::TooManyMaps);
     }
-    match rules::rule(
-        work,
-        Purpose::Fill,
-        steps,
-        header.denominator,
-        header.locations,
-        header.start.0,
-    ) {
+    match rules::rule(work, Purpose::Fill, steps, header) {
         Ruling::Refused(r) => Filled::Refused(r),
         Ruling::Met => fill_held(work, header, steps, out),
     }
@@ -150,7 +143,7 @@ fn fill_program(program: &[u8], split: &[u8], work: &mut [u32], out: &mut [u8]) 
 // written: the buffer is the filled text and then what it held; on every refusal it is as it was;
 // cleared: the first 16,384 numbers of the work space are 0 afterwards and the rest is as before; a shorter one is as it was;
 // unchanged: both texts are as they were;
-// solvable: with both sheets well formed, at most 256 maps, 30 and every (T) condition met, the answer is 41 exactly when no maps of
+// solvable: with both sheets well formed, at most 256 maps, 44, 30 and every (T) condition met, the answer is 41 exactly when no maps of
 // whole numbers, however large, pass all flow and access conditions;
 // greatest: the text written is that of the split with the greatest such maps;
 // accepted: document 01's answer to the program and the text written is ACCEPT.

@@ -23,6 +23,7 @@ use Rattle.spec.proofs.Outcomes.{stop-is-not-on, on-injective, stop-injective, 
 use Rattle.spec.proofs.WellFormed.{program-well-formed, well-formed-program, split-well-formed, well-formed-split}
 use Rattle.spec.proofs.Ranges.{well-formed-in-range}
 use Rattle.spec.proofs.Reached.{start-at-most-one, at-most-one-start}
+use Rattle.spec.proofs.Locks.{locks-take-enough, enough-taken}
 use Rattle.spec.proofs.Reasons.{rules-decide}
 use Rattle.spec.proofs.Claims.{none-false-all-hold, all-hold-none-false}
 use Rattle.writer.specs.Sheet.{written}
@@ -30,10 +31,10 @@ use Rattle.filling.specs.Filled.{filled}
 use Rattle.filling.specs.AfterMaps.{allClaims, typeClaims, AfterMaps, GreatestMaps}
 use Rattle.filling.specs.GreatestMaps.{greatestMaps}
 use Rattle.filling.specs.Answer.{givenLimit, numberLimit, allAtMost, filledText, WithinLimits, fill, Fillable, Written}
-use Rattle.filling.proofs.Reasons.{no-after-maps, large-number, long-text, text-written, start-decides}
+use Rattle.filling.proofs.Reasons.{no-after-maps, large-number, long-text, text-written, locks-decide}
 use Rattle.filling.proofs.ReadBack.{filled-reads-back}
 use Rattle.filling.proofs.Limits.{all-at-most, steps-few}
-use Rattle.filling.proofs.Filling.{solvable, found-exactly-greatest, start-kept, filled-accepted}
+use Rattle.filling.proofs.Filling.{solvable, found-exactly-greatest, locks-kept, start-kept, filled-accepted}
 
 -- ------------------------------------------------------------------ refusals
 
@@ -100,8 +101,9 @@ module _ (room buffer : ℕ) (p s : List ℕ) where
   pub fillable-decides : (P : Program) (S : Split) → Fillable room p s P S → answered ≡ filledText buffer P S
   unfolding workspaceSize programLimit splitLimit givenLimit typed typeClaims allClaims
   fillable-decides P S F =
-      start-decides room buffer p s (F .enough) (F .program .fits) P (well-formed-program p (F .program)) (F .split .fits) S (well-formed-split Fill (P .steps) s (F .split)) (F .few)
-      ∙ goes-on-bind _ _ (at-most-one-start P S (F .atMostOne)) (goes-on-bind _ _ (all-hold-none-false _ (F .typesHold)) refl)
+      locks-decide room buffer p s (F .enough) (F .program .fits) P (well-formed-program p (F .program)) (F .split .fits) S (well-formed-split Fill (P .steps) s (F .split)) (F .few)
+      ∙ goes-on-bind _ _ (enough-taken S (F .locks))
+      (goes-on-bind _ _ (at-most-one-start P S (F .atMostOne)) (goes-on-bind _ _ (all-hold-none-false _ (F .typesHold)) refl))
 
   -- a text is written only then
   written-fillable : {t : List ℕ} → answered ≡ on t
@@ -114,8 +116,9 @@ module _ (room buffer : ℕ) (p s : List ℕ) where
       let (_, fits′, r₄) = bind-goes-on _ _ r₃ in
       let (S, splits, r₅) = bind-goes-on _ _ r₄ in
       let (_, few, r₆) = bind-goes-on _ _ r₅ in
-      let (_, whole, r₇) = bind-goes-on _ _ r₆ in
-      let (_, types, r₈) = bind-goes-on _ _ r₇ in (
+      let (_, locks, r₇) = bind-goes-on _ _ r₆ in
+      let (_, whole, r₈) = bind-goes-on _ _ r₇ in
+      let (_, types, r₉) = bind-goes-on _ _ r₈ in (
         P,
         S,
         record {
@@ -123,10 +126,11 @@ module _ (room buffer : ℕ) (p s : List ℕ) where
           program = program-well-formed p (leb-true _ _ (demand-goes-on _ _ fits)) reads;
           split = split-well-formed Fill (P .steps) s (leb-true _ _ (demand-goes-on _ _ fits′)) splits;
           few = leb-true _ _ (demand-goes-on _ _ few);
+          locks = locks-take-enough S locks;
           atMostOne = start-at-most-one P S whole;
           typesHold = none-false-all-hold _ types;
         },
-        r₈,
+        r₉,
       )
 
   -- "41 if no such maps exist"
@@ -186,5 +190,6 @@ module _ (room buffer : ℕ) (p s : List ℕ) where
       let found = greatest (W .P) S F (W .γ) .1 (W .greatest) in
       let reads = filled-reads-back S (W .γ) (omega (arith, A .counted, F .few, steps-few (W .P) (F .program))) (A .wide) (W .limits .small) (A .counted) (F .split) in
       rules-decide room p t (F .enough) (F .program .fits) (W .P) (well-formed-program p (F .program)) (omega (arith, ap length (W .isText), W .limits .notLong)) (filled S (W .γ)) (ap (split Check (W .P .steps)) (W .isText) ∙ reads)
-      ∙ ap answer (goes-on-bind _ _ (start-kept (W .P) S (F .program) R (W .γ) ∙ at-most-one-start (W .P) S (F .atMostOne))
-      (filled-accepted (W .P) S (F .program) R (W .γ) (all-hold-none-false _ (F .typesHold)) found))
+      ∙ ap answer (goes-on-bind _ _ (locks-kept (W .P) S (F .program) R (W .γ) ∙ enough-taken S (F .locks))
+      (goes-on-bind _ _ (start-kept (W .P) S (F .program) R (W .γ) ∙ at-most-one-start (W .P) S (F .atMostOne))
+      (filled-accepted (W .P) S (F .program) R (W .γ) (all-hold-none-false _ (F .typesHold)) found)))

@@ -22,7 +22,7 @@ use Rattle.spec.specs.declared.UnaryWord.the-variants.{While, Join, Ref, Read, 
 use Rattle.spec.specs.declared.BinaryWord.{BinaryWord}
 use Rattle.spec.specs.declared.BinaryWord.the-variants.{Let, If, Spawn, Write}
 use Rattle.filling.specs.Flow.{taking, Flow, inTurn, branch, fork, Turns, Passes}
-use Rattle.filling.specs.FlowOf.{loadHere, startHere, accessHere, flowOf}
+use Rattle.filling.specs.FlowOf.{loadHere, inHere, outHere, startHere, accessHere, flowOf}
 use Rattle.filling.specs.declared.Effect.{Effect}
 use Rattle.filling.proofs.Locations.{Everywhere, Known, together, lastly, restated, three, least-everywhere, keeps, gives, takes, needs}
 use Rattle.filling.proofs.Sorts.{AllAt, OwnAt, step-parts, parts-step, both-parts, parts-both}
@@ -108,7 +108,7 @@ module _ {ss : List Step} {S : Split} {σ : List Map} {T : Split} (G : Showing s
   -- pre is the map x; in the order of Figure 5
   pub flow-at-each-location : (Γ : Env) {pre x : Map} (e : Expr) (i : ℕ) → Placed ss i e → Known L pre x
       → AllFlow (sites T Γ pre e) ↔ Everywhere L (λ p. Passes (at σ p) i (share x p) (flowOf S p e))
-  unfolding AllHold Holds claimsAt numbered own only isFlow preOfPart preOfSecond loadHere startHere accessHere flowOf Passes
+  unfolding AllHold Holds claimsAt numbered own only isFlow preOfPart preOfSecond loadHere inHere outHere startHere accessHere flowOf Passes
   flow-at-each-location Γ (leaf Var k v) i P before = no-part Γ _ Var k v (lastly (keeps (G .posts _ P) before))
   flow-at-each-location Γ (leaf Int k v) i P before = no-part Γ _ Int k v (lastly (keeps (G .posts _ P) before))
   flow-at-each-location Γ {x = x} (binary Let k v e₁ e₂) i P before =
@@ -163,19 +163,19 @@ module _ {ss : List Step} {S : Split} {σ : List Map} {T : Split} (G : Showing s
       (needs (G .posts _ P) (G .posts e₁ (part P)) _ _ (G .places e₁) (G .within e₁)
       1 _ (ltb-true _ _, lt-ltb _ _))
   flow-at-each-location Γ (leaf Newlock k v) i P before =
-      no-part Γ _ Newlock k v (lastly (takes (G .posts _ P) before (G .loads (leaf Newlock k v))))
+      no-part Γ _ Newlock k v (lastly (takes (G .posts _ P) before (G .outs (leaf Newlock k v))))
   flow-at-each-location Γ (unary Freelock k v e₁) i P before =
       one-part Γ _ Freelock k v e₁
       (flow-at-each-location Γ e₁ (i + 1) (part P) before)
-      (lastly (gives (G .posts _ P) (G .posts e₁ (part P)) (G .loads e₁)))
+      (lastly (gives (G .posts _ P) (G .posts e₁ (part P)) (G .ins e₁)))
   flow-at-each-location Γ (unary Lock k v e₁) i P before =
       one-part Γ _ Lock k v e₁
       (flow-at-each-location Γ e₁ (i + 1) (part P) before)
-      (lastly (gives (G .posts _ P) (G .posts e₁ (part P)) (G .loads e₁)))
+      (lastly (gives (G .posts _ P) (G .posts e₁ (part P)) (G .ins e₁)))
   flow-at-each-location Γ (unary Unlock k v e₁) i P before =
       one-part Γ _ Unlock k v e₁
       (flow-at-each-location Γ e₁ (i + 1) (part P) before)
-      (lastly (takes (G .posts _ P) (G .posts e₁ (part P)) (G .loads e₁)))
+      (lastly (takes (G .posts _ P) (G .posts e₁ (part P)) (G .outs e₁)))
   flow-at-each-location Γ (leaf Newsem k v) i P before = no-part Γ _ Newsem k v (lastly (keeps (G .posts _ P) before))
   flow-at-each-location Γ (unary Post k v e₁) i P before =
       one-part Γ _ Post k v e₁

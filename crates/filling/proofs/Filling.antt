@@ -15,7 +15,7 @@ use Rattle.spec.specs.Program.{Program}
 use Rattle.spec.specs.Split.{Map, Split}
 use Rattle.spec.specs.Maps.{share, overWhole}
 use Rattle.spec.specs.Conditions.{lineOf, startMap}
-use Rattle.spec.specs.Verdict.{refuseOver, ruled, typed, startAtMostOne}
+use Rattle.spec.specs.Verdict.{locksTakeEnough, refuseOver, ruled, typed, startAtMostOne}
 use Rattle.spec.specs.FirstFalse.{AllHold}
 use Rattle.spec.specs.WellFormed.{WellFormedProgram}
 use Rattle.spec.specs.Ranges.{InRange}
@@ -30,7 +30,7 @@ use Rattle.filling.specs.FlowOf.{flowOf}
 use Rattle.filling.specs.GreatestMaps.{postsAt, mapsOfSteps, greatestMaps}
 use Rattle.filling.proofs.Found.{some-injective, bind-finds, finds-bind}
 use Rattle.filling.proofs.Pass.{at-along, pass-length, pass-passes, found-greatest, found-solvable}
-use Rattle.filling.proofs.Kept.{start-map-kept}
+use Rattle.filling.proofs.Kept.{start-map-kept, enough-kept}
 use Rattle.filling.proofs.Types.{types-kept}
 use Rattle.filling.proofs.Sorts.{all-hold-sorts}
 use Rattle.filling.proofs.Locations.{Everywhere}
@@ -197,7 +197,10 @@ module _ {text : List ℕ} (P : Program) (S : Split) (W : WellFormedProgram text
         (λ s. all-hold-none-false _ (all-hold-sorts _ .1 (rw T (none-false-all-hold _ (s .0)), s .1))),
       )
 
-  -- 30 comes out as before
+  -- 44 and 30 come out as before
+  pub locks-kept : (σ : List Map) → locksTakeEnough (filled S σ) ≡ locksTakeEnough S
+  locks-kept σ = enough-kept R σ
+
   pub start-kept : (σ : List Map) → startAtMostOne P (filled S σ) ≡ startAtMostOne P S
   unfolding startAtMostOne filled
   start-kept σ = ap (λ m. refuseOver (lineOf (P .root)) (overWhole (S .header .denominator) 0 m)) (start-map-kept R σ)

@@ -51,7 +51,7 @@ module _ {ss : List Step} {S : Split} {σ : List Map} (G : Given ss S σ) where
     rowsCounted = rows-counted _ (S .rows) ∙ R .rowsCounted;
     mapWide = map-wide;
     refPlace = R .refPlace;
-    lockLoad = λ t k l e. more (R .lockLoad t k l e);
+    lockLoads = λ t i o l e. let (first, second) = R .lockLoads t i o l e in (more first, more second);
     tidLoad = λ t k l e. more (R .tidLoad t k l e);
     semLoad = λ t k l e. more (R .semLoad t k l e);
     rowType = λ i d l. rw (rows-kept (S .header .maps) (S .rows) i d .0) (R .rowType i d (here i l));

@@ -1,6 +1,7 @@
 -- What filling keeps of a split, and what it changes: the posts alone. Types, loads and starts show given maps, so the maps behind
 -- them are not looked at.
 use mathlib.Core.Path.{_≡_, refl, ap, sym, _∙_}
+use mathlib.Core.Bool.{Bool, _&&_}
 use mathlib.Core.List.{List, [], _∷_, _++_}
 use mathlib.Core.Option.{Option, none, some}
 use Prim.Native.Nat.{ℕ, zero, suc, _+_, _-_, _<_}
@@ -8,10 +9,12 @@ use native.Mathlib.Omega.{arith}
 use native.Mathlib.Decide.{decLt}
 use lib.ListN.{length, getD, length-replicate, List·getD-append, List·getD-eq-default}
 use lib.Seq.{getD-append-add}
+use Rattle.spec.specs.Choice.{if_then_else_}
 use Rattle.spec.specs.Expression.{Step, Expr}
 use Rattle.spec.specs.Split.{Map, Row, Split, typeAt, mapAt}
 use Rattle.spec.specs.Agreement.{Tree, plain, int, lock, tid, sem, treeOf, trees, tree, sameTree, agree}
-use Rattle.spec.specs.Conditions.{lineOf, place, load, row, type, kind, post, startIn, start, K, startMap, contains}
+use Rattle.spec.specs.Conditions.{lineOf, isLock, place, load, inLoad, outLoad, row, type, kind, post, startIn, start, K, inMap, outMap, startMap, contains, looserLock, mayShow}
+use Rattle.spec.specs.Verdict.{takesEnough, allTakeEnough, locksTakeEnough}
 use Rattle.spec.specs.Ranges.{InRange}
 use Rattle.spec.specs.declared.TypeNumber.{TypeNumber}
 use Rattle.spec.specs.declared.MapNumber.{MapNumber}
@@ -62,19 +65,50 @@ module _ {steps : List Step} {S : Split} (R : InRange steps S) where
       go (yes l) = each (t .0) l _ refl
       go (no l) = rw (List·getD-eq-default (S .types) Int {n = t .0} (omega (arith, l))) plainly
 
-  load-fits : (t : TypeNumber) → load (typeAt S t) .0 < length (S .maps)
-  unfolding load
-  load-fits = of-each-type (λ τ. load τ .0 < length (S .maps)) some-map fits
-    where
-      some-map : 0 < length (S .maps)
-      some-map = omega (arith, R .mapsCounted, R .mapsFew)
+  -- the maps of a type line are of the sheet
+  abbrev MapsFit : TypeLine → Type 0
+  MapsFit Int = Unit {0}
+  MapsFit (Ref p c) = Unit {0}
+  MapsFit (Lock i o) = (i .0 < length (S .maps)) × (o .0 < length (S .maps))
+  MapsFit (Tid k) = k .0 < length (S .maps)
+  MapsFit (Sem k) = k .0 < length (S .maps)
 
-      fits : (t : ℕ) → t < length (S .types) → (τ : TypeLine) → getD (S .types) t Int ≡ τ → load τ .0 < length (S .maps)
-      fits t l Int e = some-map
-      fits t l (Ref p c) e = some-map
-      fits t l (Lock k) e = R .lockLoad t k l e
+  maps-fit : (t : TypeNumber) → MapsFit (typeAt S t)
+  maps-fit = of-each-type MapsFit tt fits
+    where
+      fits : (t : ℕ) → t < length (S .types) → (τ : TypeLine) → getD (S .types) t Int ≡ τ → MapsFit τ
+      fits t l Int e = tt
+      fits t l (Ref p c) e = tt
+      fits t l (Lock i o) e = R .lockLoads t i o l e
       fits t l (Tid k) e = R .tidLoad t k l e
       fits t l (Sem k) e = R .semLoad t k l e
+
+  some-map : 0 < length (S .maps)
+  some-map = omega (arith, R .mapsCounted, R .mapsFew)
+
+  load-fits : (τ : TypeLine) → MapsFit τ → load τ .0 < length (S .maps)
+  unfolding load
+  load-fits Int h = some-map
+  load-fits (Ref p c) h = some-map
+  load-fits (Lock i o) h = some-map
+  load-fits (Tid k) h = h
+  load-fits (Sem k) h = h
+
+  in-fits : (τ : TypeLine) → MapsFit τ → inLoad τ .0 < length (S .maps)
+  unfolding inLoad
+  in-fits Int h = some-map
+  in-fits (Ref p c) h = some-map
+  in-fits (Lock i o) h = h .0
+  in-fits (Tid k) h = some-map
+  in-fits (Sem k) h = some-map
+
+  out-fits : (τ : TypeLine) → MapsFit τ → outLoad τ .0 < length (S .maps)
+  unfolding outLoad
+  out-fits Int h = some-map
+  out-fits (Ref p c) h = some-map
+  out-fits (Lock i o) h = h .1
+  out-fits (Tid k) h = some-map
+  out-fits (Sem k) h = some-map
 
   place-fits : (t : TypeNumber) → place (typeAt S t) .0 < S .header .locations
   unfolding place
@@ -86,7 +120,7 @@ module _ {steps : List Step} {S : Split} (R : InRange steps S) where
       fits : (t : ℕ) → t < length (S .types) → (τ : TypeLine) → getD (S .types) t Int ≡ τ → place τ .0 < S .header .locations
       fits t l Int e = some-location
       fits t l (Ref p c) e = R .refPlace t p c l e .0
-      fits t l (Lock k) e = some-location
+      fits t l (Lock i o) e = some-location
       fits t l (Tid k) e = some-location
       fits t l (Sem k) e = some-location
 
@@ -122,7 +156,15 @@ module _ {steps : List Step} {S : Split} (R : InRange steps S) where
 
   pub K-wide : (e : Expr) → length (K S e) ≡ S .header .locations
   unfolding K kind
-  K-wide e = map-wide _ (load-fits (type S e))
+  K-wide e = map-wide _ (load-fits _ (maps-fit (type S e)))
+
+  pub in-wide : (e : Expr) → length (inMap S e) ≡ S .header .locations
+  unfolding inMap kind
+  in-wide e = map-wide _ (in-fits _ (maps-fit (type S e)))
+
+  pub out-wide : (e : Expr) → length (outMap S e) ≡ S .header .locations
+  unfolding outMap kind
+  out-wide e = map-wide _ (out-fits _ (maps-fit (type S e)))
 
   pub start-map-wide : length (startMap S) ≡ S .header .locations
   unfolding startMap
@@ -151,7 +193,15 @@ module _ {steps : List Step} {S : Split} (R : InRange steps S) where
 
     pub K-kept : (e : Expr) → K (filled S σ) e ≡ K S e
     unfolding K kind
-    K-kept e = ap (λ t. mapAt (filled S σ) (load t)) (kind-kept S σ e) ∙ map-kept _ (load-fits (type S e))
+    K-kept e = ap (λ t. mapAt (filled S σ) (load t)) (kind-kept S σ e) ∙ map-kept _ (load-fits _ (maps-fit (type S e)))
+
+    pub in-kept : (e : Expr) → inMap (filled S σ) e ≡ inMap S e
+    unfolding inMap kind
+    in-kept e = ap (λ t. mapAt (filled S σ) (inLoad t)) (kind-kept S σ e) ∙ map-kept _ (in-fits _ (maps-fit (type S e)))
+
+    pub out-kept : (e : Expr) → outMap (filled S σ) e ≡ outMap S e
+    unfolding outMap kind
+    out-kept e = ap (λ t. mapAt (filled S σ) (outLoad t)) (kind-kept S σ e) ∙ map-kept _ (out-fits _ (maps-fit (type S e)))
 
     -- the step with index i shows the new map i
     pub post-new : (e : Expr) (i : ℕ) → lineOf e ≡ 2 + i → i < length (S .rows) → post (filled S σ) e ≡ getD σ i []
@@ -164,15 +214,16 @@ module _ {steps : List Step} {S : Split} (R : InRange steps S) where
 
     -- ------------------------------------------------------------------ agreement
 
-    tree-kept : (before : List Tree) (τ : TypeLine) → load τ .0 < length (S .maps) → treeOf (filled S σ) before τ ≡ treeOf S before τ
-    unfolding treeOf load
+    tree-kept : (before : List Tree) (τ : TypeLine) → MapsFit τ → treeOf (filled S σ) before τ ≡ treeOf S before τ
+    unfolding treeOf
     tree-kept before Int l = refl
     tree-kept before (Ref p c) l = refl
-    tree-kept before (Lock k) l = ap (λ m. plain lock (m ∷ [])) (map-kept k l)
+    tree-kept before (Lock i o) l =
+        ap (λ m. plain lock (m ∷ mapAt (filled S σ) o ∷ [])) (map-kept i (l .0)) ∙ ap (λ m. plain lock (mapAt S i ∷ m ∷ [])) (map-kept o (l .1))
     tree-kept before (Tid k) l = ap (λ m. plain tid (m ∷ [])) (map-kept k l)
     tree-kept before (Sem k) l = ap (λ m. plain sem (m ∷ [])) (map-kept k l)
 
-    trees-kept : (before : List Tree) (τs : List TypeLine) → ((t : ℕ) → load (getD τs t Int) .0 < length (S .maps))
+    trees-kept : (before : List Tree) (τs : List TypeLine) → ((t : ℕ) → MapsFit (getD τs t Int))
         → trees (filled S σ) before τs ≡ trees S before τs
     unfolding trees
     trees-kept before [] h = refl
@@ -183,12 +234,43 @@ module _ {steps : List Step} {S : Split} (R : InRange steps S) where
     unfolding agree tree filled typeAt
     agree-kept t u =
         ap (λ ts. sameTree (getD ts (t .0) (plain int [])) (getD ts (u .0) (plain int [])))
-        (trees-kept [] (S .types) (λ n. load-fits (record { 0 = n })))
+        (trees-kept [] (S .types) (λ n. maps-fit (record { 0 = n })))
 
     pub contains-kept : (τ : TypeLine) (u : TypeNumber) → contains (filled S σ) τ u ≡ contains S τ u
     unfolding contains
     contains-kept Int u = refl
     contains-kept (Ref p c) u = agree-kept c u
-    contains-kept (Lock k) u = refl
+    contains-kept (Lock i o) u = refl
     contains-kept (Tid k) u = refl
     contains-kept (Sem k) u = refl
+
+    looser-kept : (τ υ : TypeLine) → MapsFit τ → MapsFit υ → looserLock (filled S σ) τ υ ≡ looserLock S τ υ
+    unfolding looserLock
+    looser-kept τ υ h k =
+        rw (map-kept (inLoad τ) (in-fits τ h), map-kept (inLoad υ) (in-fits υ k), map-kept (outLoad τ) (out-fits τ h), map-kept (outLoad υ) (out-fits υ k))
+
+    pub may-show-kept : (t u : TypeNumber) → mayShow (filled S σ) t u ≡ mayShow S t u
+    unfolding mayShow typeAt filled
+    may-show-kept t u =
+        ap (λ (x : Bool). if isLock (typeAt S t) && isLock (typeAt S u) then x else agree (filled S σ) t u)
+        (looser-kept (typeAt S t) (typeAt S u) (maps-fit t) (maps-fit u))
+        ∙ ap (λ (x : Bool). if isLock (typeAt S t) && isLock (typeAt S u) then looserLock S (typeAt S t) (typeAt S u) else x) (agree-kept t u)
+
+    -- ------------------------------------------------------------------ 44
+
+    line-enough-kept : (τ : TypeLine) → MapsFit τ → takesEnough (filled S σ) τ ≡ takesEnough S τ
+    unfolding takesEnough
+    line-enough-kept Int h = refl
+    line-enough-kept (Ref p c) h = refl
+    line-enough-kept (Lock i o) h = rw (map-kept i (h .0), map-kept o (h .1))
+    line-enough-kept (Tid k) h = refl
+    line-enough-kept (Sem k) h = refl
+
+    lines-enough-kept : (k : ℕ) (τs : List TypeLine) → ((t : ℕ) → MapsFit (getD τs t Int)) → allTakeEnough (filled S σ) k τs ≡ allTakeEnough S k τs
+    unfolding allTakeEnough
+    lines-enough-kept k [] h = refl
+    lines-enough-kept k (τ ∷ τs) h = rw (line-enough-kept τ (h 0), lines-enough-kept (k + 1) τs (λ t. h (suc t)))
+
+    pub enough-kept : locksTakeEnough (filled S σ) ≡ locksTakeEnough S
+    unfolding locksTakeEnough typeAt filled
+    enough-kept = lines-enough-kept 2 (S .types) (λ n. maps-fit (record { 0 = n }))

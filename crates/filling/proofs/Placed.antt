@@ -7,7 +7,7 @@ use lib.ListN.{length, getD}
 use Rattle.spec.specs.Expression.{Step, Expr, leaf, unary, binary, size}
 use Rattle.spec.specs.WellFormed.{LinesFrom}
 use Rattle.spec.specs.Split.{Map, Row, Split, mapAt}
-use Rattle.spec.specs.Conditions.{lineOf, place, row, kind, post, start, K, startMap}
+use Rattle.spec.specs.Conditions.{lineOf, place, row, kind, post, start, K, inMap, outMap, startMap}
 use Rattle.spec.specs.Ranges.{InRange}
 use Rattle.spec.specs.declared.Location.{Location}
 use Rattle.spec.specs.declared.LeafWord.the-variants.{Var, Int, Newtid, Newlock, Newsem}
@@ -20,7 +20,7 @@ use Rattle.filling.specs.Filled.{filled}
 use Rattle.filling.specs.AfterMaps.{shownMaps}
 use Rattle.filling.specs.Flow.{steps}
 use Rattle.filling.specs.FlowOf.{flowOf}
-use Rattle.filling.proofs.Kept.{absent, kind-kept, place-within, map-wide, start-wide, K-wide, start-map-wide, start-map-kept, start-kept, K-kept, post-new}
+use Rattle.filling.proofs.Kept.{absent, kind-kept, place-within, map-wide, start-wide, K-wide, in-wide, out-wide, start-map-wide, start-map-kept, start-kept, K-kept, in-kept, out-kept, post-new}
 use Rattle.filling.proofs.Locations.{Known}
 
 -- a flow has the steps of its expression
@@ -88,6 +88,8 @@ pub record Showing (ss : List Step) (S : Split) (σ : List Map) (T : Split) : Ty
   pub posts : {i : ℕ} (e : Expr) → Placed ss i e → Known (S .header .locations) (post T e) (getD σ i [])
   pub starts : (e : Expr) → Known (S .header .locations) (start T e) (start S e)
   pub loads : (e : Expr) → Known (S .header .locations) (K T e) (K S e)
+  pub ins : (e : Expr) → Known (S .header .locations) (inMap T e) (inMap S e)
+  pub outs : (e : Expr) → Known (S .header .locations) (outMap T e) (outMap S e)
   pub places : (e : Expr) → place (kind T e) ≡ place (kind S e)
   pub within : (e : Expr) → place (kind S e) .0 < S .header .locations
   pub first : Known (S .header .locations) (startMap T) (startMap S)
@@ -108,6 +110,8 @@ filled-shows {σ = σ} G = let R = G .inRange in record {
   };
   starts = λ e. record { same = start-kept R σ e; wide = start-wide R e };
   loads = λ e. record { same = K-kept R σ e; wide = K-wide R e };
+  ins = λ e. record { same = in-kept R σ e; wide = in-wide R e };
+  outs = λ e. record { same = out-kept R σ e; wide = out-wide R e };
   places = λ e. ap place (kind-kept _ σ e);
   within = place-within R;
   first = record { same = start-map-kept R σ; wide = start-map-wide R };
@@ -135,6 +139,8 @@ split-shows R = record {
       rw index (shown-map R i (omega (arith, P .within, size-positive e, R .rowsCounted)));
   starts = λ e. record { same = refl; wide = start-wide R e };
   loads = λ e. record { same = refl; wide = K-wide R e };
+  ins = λ e. record { same = refl; wide = in-wide R e };
+  outs = λ e. record { same = refl; wide = out-wide R e };
   places = λ e. refl;
   within = place-within R;
   first = record { same = refl; wide = start-map-wide R };

@@ -46,6 +46,7 @@ module _ (S : Split) (γ : List Map) (few : S .header .maps + length γ ≤ 512)
   filled-writable {steps} counted W = record {
     inRange = filled-in-range (record { inRange = W .inRange; counted = counted; wide = wide }) few;
     rootStart = W .rootStart;
+    lockShows = W .lockShows;
     numbersSmall = maps-small (W .numbersSmall);
     rowStarts = λ i s r h.
         along (RowStarts (S .header .heading) (getD steps i s .word)) (sym (rows-kept (S .header .maps) (S .rows) i r .1)) (W .rowStarts i s r h);
@@ -60,7 +61,7 @@ module _ (S : Split) (γ : List Map) (few : S .header .maps + length γ ≤ 512)
 
 -- the lines of the types and of the given maps
 unfoldable pub keptLines : Split → List (List Field)
-keptLines S = map typeFields (S .types) ++ map mapFields (S .maps)
+keptLines S = map (typeFields (S .header .heading)) (S .types) ++ map mapFields (S .maps)
 
 -- "The rest of each line is kept": of the given text and of the whole one, these lines are the same bytes; the rows show the same t
 -- and s
@@ -71,7 +72,7 @@ pub rest-kept : {steps : List Step} {given : List ℕ} (S : Split) (γ : List Ma
     (text (keptLines S) ++ (text (map mapFields γ) ++ text (map (rowFields Check) (withPosts (S .header .maps) (S .rows))))))
 unfolding keptLines written unfilled splitLines text filled
 rest-kept S γ F =
-    let T = map typeFields (S .types) in
+    let T = map (typeFields (S .header .heading)) (S .types) in
     let M = map mapFields (S .maps) in
     let G = map mapFields γ in
     let R = map (rowFields Fill) (S .rows) in

@@ -11,7 +11,7 @@ use Rattle.spec.specs.Reading.{Out, stop, on, _>>=_, demand}
 use Rattle.spec.specs.Program.{Program, program, programLimit}
 use Rattle.spec.specs.Split.{Map, Split, split, splitLimit}
 use Rattle.spec.specs.Workspace.{workspaceSize}
-use Rattle.spec.specs.Verdict.{startAtMostOne, typed}
+use Rattle.spec.specs.Verdict.{locksTakeEnough, startAtMostOne, typed}
 use Rattle.spec.specs.declared.Purpose.the-variants.{Fill}
 use Rattle.spec.specs.declared.Refusal.{Refusal}
 use Rattle.spec.specs.declared.Refusal.the-variants.{ShortWorkspace, LongProgram, LongSplit, NoAfterMaps, TooLarge, TooManyMaps}
@@ -77,7 +77,7 @@ module _ (room buffer : ℕ) (p s : List ℕ) where
             unfolding fill demand _>>=_ workspaceSize programLimit splitLimit givenLimit
             many-maps h = rw (le-leb _ _ enough, le-leb _ _ fits, reads, le-leb _ _ fits′, splits, lt-leb _ _ h)
 
-            pub start-decides : S .header .maps ≤ 256
-                → answered ≡ (startAtMostOne P S >>= λ whole. typed P S >>= λ typesHold. filledText buffer P S)
+            pub locks-decide : S .header .maps ≤ 256
+                → answered ≡ (locksTakeEnough S >>= λ locks. startAtMostOne P S >>= λ whole. typed P S >>= λ typesHold. filledText buffer P S)
             unfolding fill demand _>>=_ workspaceSize programLimit splitLimit givenLimit
-            start-decides few = rw (le-leb _ _ enough, le-leb _ _ fits, reads, le-leb _ _ fits′, splits, le-leb _ _ few)
+            locks-decide few = rw (le-leb _ _ enough, le-leb _ _ fits, reads, le-leb _ _ fits′, splits, le-leb _ _ few)

@@ -11,7 +11,7 @@ use Rattle.spec.specs.declared.UnaryWord.the-variants.{While, Join, Ref, Read, 
 use Rattle.spec.specs.declared.BinaryWord.the-variants.{Let, If, Spawn, Write}
 use Rattle.spec.proofs.Claims.{claims-append}
 use Rattle.filling.specs.Filled.{filled}
-use Rattle.filling.proofs.Kept.{type-kept, kind-kept, agree-kept, contains-kept}
+use Rattle.filling.proofs.Kept.{type-kept, kind-kept, agree-kept, may-show-kept, contains-kept}
 use Rattle.spec.proofs.Claims.{only-append}
 
 -- two lists of sites have the same claims on types
@@ -47,7 +47,7 @@ module _ {steps : List Step} {S : Split} (R : InRange steps S) (σ : List Map) w
 
   own-kept : (Γ : Env) (pre pre′ : Map) (e : Expr) → ownTypes S′ Γ pre e ≡ ownTypes S Γ pre′ e
   unfolding claimsAt numbered own only isType
-  own-kept Γ pre pre′ (leaf Var k v) = simp (type-kept S σ, agree-kept R σ)
+  own-kept Γ pre pre′ (leaf Var k v) = simp (type-kept S σ, may-show-kept R σ)
   own-kept Γ pre pre′ (leaf Int k v) = simp (kind-kept S σ)
   own-kept Γ pre pre′ (binary Let k v e₁ e₂) = simp (type-kept S σ, agree-kept R σ)
   own-kept Γ pre pre′ (binary If k v e₁ e₂) = simp (type-kept S σ, agree-kept R σ)

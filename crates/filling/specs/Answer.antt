@@ -1,4 +1,4 @@
--- The answer of filling, in the order 1; 10 to 15; 20; 21 to 23; 43; 30; 31; 41; 42.
+-- The answer of filling, in the order 1; 10 to 15; 20; 21 to 23; 43; 44; 30; 31; 41; 42.
 use mathlib.Core.Path.{_≡_}
 use mathlib.Core.Bool.{Bool, true, _&&_}
 use mathlib.Core.List.{List, [], _∷_, _++_}
@@ -11,10 +11,10 @@ use Rattle.spec.specs.Program.{Program, program, programLimit}
 use Rattle.spec.specs.Split.{Map, Split, split, splitLimit}
 use Rattle.spec.specs.Conditions.{startMap}
 use Rattle.spec.specs.Workspace.{workspaceSize}
-use Rattle.spec.specs.Verdict.{startAtMostOne, typed, four, returned}
+use Rattle.spec.specs.Verdict.{locksTakeEnough, startAtMostOne, typed, four, returned}
 use Rattle.spec.specs.FirstFalse.{AllHold}
 use Rattle.spec.specs.WellFormed.{WellFormedProgram, WellFormedSplit}
-use Rattle.spec.specs.Accepted.{AtMost}
+use Rattle.spec.specs.Accepted.{LocksTakeEnough, AtMost}
 use Rattle.spec.specs.declared.Purpose.the-variants.{Fill}
 use Rattle.spec.specs.declared.Returned.{Returned}
 use Rattle.spec.specs.declared.Answer.the-variants.{Refuse}
@@ -64,18 +64,20 @@ fill room buffer programText splitText = do
   fits′ ← demand (leb (length splitText) splitLimit) LongSplit
   S ← split Fill (P .steps) splitText
   few ← demand (leb (S .header .maps) givenLimit) TooManyMaps
+  locks ← locksTakeEnough S
   whole ← startAtMostOne P S
   typesHold ← typed P S
   filledText buffer P S
 
 -- ------------------------------------------------------------------ when a sheet is written
 
--- nothing is refused before 41: both sheets are well formed, at most 256 maps are given, 30 and every (T) condition pass
+-- nothing is refused before 41: both sheets are well formed, at most 256 maps are given, 44, 30 and every (T) condition pass
 pub record Fillable (room : ℕ) (programText splitText : List ℕ) (P : Program) (S : Split) : Type 0 where
   pub enough : workspaceSize ≤ room
   pub program : WellFormedProgram programText P
   pub split : WellFormedSplit Fill (P .steps) splitText S
   pub few : S .header .maps ≤ givenLimit
+  pub locks : LocksTakeEnough S
   pub atMostOne : AtMost (S .header .denominator) (startMap S)
   pub typesHold : AllHold (typeClaims P S)
 

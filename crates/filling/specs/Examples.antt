@@ -61,6 +61,10 @@ examples =
     ones (0 ∷ 0 ∷ 0 ∷ 1 ∷ 0 ∷ [])) ∷
     -- a while whose part loses
     ("P,5|let,0|newlock,0|while,0|unlock,0|var,0|" with "C2,1,1,2,2,0|int,0,0|lock,1,0|3|1|0,,|1,,|0,,|0,,|1,,|" has none) ∷
+    -- newlock and unlock take out, lock and freelock give in
+    ("P,7|let,0|newlock,0|let,1|lock,0|var,0|unlock,0|var,0|" with
+    "C3,2,1,2,3,0|int,0,0|lock,1,2|4|1|2|0,,|1,,|0,,|0,,|1,,|0,,|1,,|" has ones (1 ∷ 2 ∷ 1 ∷ 3 ∷ 2 ∷ 1 ∷ 3 ∷ [])) ∷
+    ("P,4|let,0|newlock,0|freelock,0|var,0|" with "C3,2,1,2,3,0|int,0,0|lock,1,2|4|1|2|0,,|1,,|0,,|1,,|" has ones (3 ∷ 2 ∷ 3 ∷ 2 ∷ [])) ∷
     -- a post takes, a wait gives
     ("P,7|let,0|newsem,0|let,1|post,0|var,0|wait,0|var,0|" with "C2,2,1,2,2,0|int,0,0|sem,1,0|2|1|0,,|1,,|0,,|0,,|1,,|0,,|1,,|" has
     ones (2 ∷ 2 ∷ 2 ∷ 1 ∷ 2 ∷ 2 ∷ 1 ∷ [])) ∷
@@ -102,6 +106,8 @@ answers =
     ("P,1|int,0|" with "C2,1,1,1,513,0|int,0,0|1|0,,|" is four 22 1 0 0) ∷
     ("P,1|int,0|" with "C2,1,1,1,257,1|int,0,0|" ++ˢ times 257 "2|" ++ˢ "0,0,|" is four 22 260 0 0) ∷
     ("P,1|int,0|" with "C2,1,1,1,257,1|int,0,0|" ++ˢ times 257 "2|" ++ˢ "0,,|" is four 43 0 0 0) ∷
+    ("P,1|int,0|" with "C3,1,1,1,257,1|lock,0,1|" ++ˢ "1|" ++ˢ times 256 "0|" ++ˢ "0,,|" is four 43 0 0 0) ∷
+    ("P,1|int,0|" with "C3,1,1,2,2,0|int,0,0|lock,0,1|2|1|0,,|" is four 44 3 0 0) ∷
     ("P,1|int,0|" with "C2,1,1,1,256,1|lock,0,0|" ++ˢ times 256 "2|" ++ˢ "0,,|" is four 30 2 0 0) ∷
     ("P,3|let,0|newlock,0|int,0|" with "C2,1,1,2,2,0|int,0,0|lock,1,0|0|1|1,,|1,,|0,,|" is four 31 2 1 0) ∷
     ("P,3|let,0|newlock,0|int,0|" with "C2,1,1,2,2,0|int,0,0|lock,1,0|0|1|0,,|1,,|0,,|" is four 41 0 0 0) ∷
@@ -140,4 +146,7 @@ fillings =
     -- two locations, and every kind of type
     ("P,3|let,0|newlock,0|int,7|" with "C2,5,2,5,2,0|int,0,0|ref,1,0|lock,1,0|tid,0,0|sem,1,0|5,4|0,3|0,,|2,,|0,,|" becomes
     "C2,5,2,5,5,0|int,0,0|ref,1,0|lock,1,0|tid,0,0|sem,1,0|5,4|0,3|5,1|5,1|5,1|0,2,|2,3,|0,4,|") ∷
+    -- a lock line keeps its in and its out
+    ("P,7|let,0|newlock,0|let,1|lock,0|var,0|unlock,0|var,0|" with "C3,4,1,2,3,0|int,0,0|lock,1,2|4|1|2|0,,|1,,|0,,|0,,|1,,|0,,|1,,|" becomes
+    "C3,4,1,2,10,0|int,0,0|lock,1,2|4|1|2|1|2|1|3|2|1|3|0,3,|1,4,|0,5,|0,6,|1,7,|0,8,|1,9,|") ∷
     []

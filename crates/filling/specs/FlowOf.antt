@@ -5,7 +5,7 @@ use Rattle.spec.specs.Choice.{if_then_else_}
 use Rattle.spec.specs.Expression.{Expr, leaf, unary, binary}
 use Rattle.spec.specs.Split.{Split}
 use Rattle.spec.specs.Maps.{share}
-use Rattle.spec.specs.Conditions.{place, kind, start, K}
+use Rattle.spec.specs.Conditions.{place, kind, start, K, inMap, outMap}
 use Rattle.spec.specs.declared.Location.{Location}
 use Rattle.spec.specs.declared.LeafWord.the-variants.{Var, Int, Newtid, Newlock, Newsem}
 use Rattle.spec.specs.declared.UnaryWord.the-variants.{While, Join, Ref, Read, Freelock, Lock, Unlock, Post, Wait}
@@ -17,9 +17,15 @@ unfoldable pub asks : (here p : Location) → (d : ℕ) → ℕ
 asks here p d = if eqb (p .0) (here .0) then d else 0
 
 module _ (S : Split) (here : Location) where
-  -- what the load of an expression's type, and the start of its body, have here
+  -- what the load of an expression's type, in and out of its lock type, and the start of its body have here
   unfoldable pub loadHere : Expr → ℕ
   loadHere e = share (K S e) here
+
+  unfoldable pub inHere : Expr → ℕ
+  inHere e = share (inMap S e) here
+
+  unfoldable pub outHere : Expr → ℕ
+  outHere e = share (outMap S e) here
 
   unfoldable pub startHere : Expr → ℕ
   startHere e = share (start S e) here
@@ -41,10 +47,10 @@ module _ (S : Split) (here : Location) where
   flowOf (unary Ref k v e₁) = after unchanged (flowOf e₁)
   flowOf (binary Write k v e₁ e₂) = inTurn (needing (accessHere e₁ (S .header .denominator))) (flowOf e₁) (flowOf e₂)
   flowOf (unary Read k v e₁) = after (needing (accessHere e₁ 1)) (flowOf e₁)
-  flowOf (leaf Newlock k v) = alone (taking (loadHere (leaf Newlock k v)))
-  flowOf (unary Freelock k v e₁) = after (giving (loadHere e₁)) (flowOf e₁)
-  flowOf (unary Lock k v e₁) = after (giving (loadHere e₁)) (flowOf e₁)
-  flowOf (unary Unlock k v e₁) = after (taking (loadHere e₁)) (flowOf e₁)
+  flowOf (leaf Newlock k v) = alone (taking (outHere (leaf Newlock k v)))
+  flowOf (unary Freelock k v e₁) = after (giving (inHere e₁)) (flowOf e₁)
+  flowOf (unary Lock k v e₁) = after (giving (inHere e₁)) (flowOf e₁)
+  flowOf (unary Unlock k v e₁) = after (taking (outHere e₁)) (flowOf e₁)
   flowOf (leaf Newsem k v) = alone unchanged
   flowOf (unary Post k v e₁) = after (taking (loadHere e₁)) (flowOf e₁)
   flowOf (unary Wait k v e₁) = after (giving (loadHere e₁)) (flowOf e₁)

@@ -6,7 +6,7 @@ use Prim.Native.Nat.{ℕ}
 use Rattle.spec.specs.Choice.{if_then_else_}
 use Rattle.spec.specs.Text.{bytes, same, Field}
 use Rattle.spec.specs.Reading.{Seen, wrong, badForm, seen, _to_, below, numbers}
-use Rattle.spec.specs.Split.{Header, refOf, lockOf, tidOf, semOf, typeLine}
+use Rattle.spec.specs.Split.{Header, refOf, lockOf, outRange, tidOf, semOf, typeLine}
 use Rattle.spec.specs.declared.TypeLine.{TypeLine}
 use Rattle.spec.specs.declared.TypeLine.the-variants as line
 use Rattle.lexer.specs.Words.{typeWordOf}
@@ -17,7 +17,7 @@ use Rattle.lexer.specs.declared.vocabulary.TypeWord.the-variants.{Int, R
 unfoldable pub ofKind : Header → (own : ℕ) → List Field → TypeWord → Seen TypeLine
 ofKind H own fs Int = seen (λ ns. line.Int) (numbers ((0 to 0) ∷ (0 to 0) ∷ []) fs)
 ofKind H own fs Ref = seen refOf (numbers (below (H .locations) ∷ below own ∷ []) fs)
-ofKind H own fs Lock = seen lockOf (numbers (below (H .maps) ∷ (0 to 0) ∷ []) fs)
+ofKind H own fs Lock = seen (lockOf (H .heading)) (numbers (below (H .maps) ∷ outRange (H .heading) (H .maps) ∷ []) fs)
 ofKind H own fs Tid = seen tidOf (numbers (below (H .maps) ∷ (0 to 0) ∷ []) fs)
 ofKind H own fs Sem = seen semOf (numbers (below (H .maps) ∷ (0 to 0) ∷ []) fs)
 ofKind H own fs Unknown = wrong badForm

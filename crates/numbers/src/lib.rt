@@ -54,6 +54,7 @@ fn refusal_numbers(r: Refusal) -> Returned
         Refusal::NoAfterMaps => four(41, 0, 0, 0),
         Refusal::TooLarge => four(42, 0, 0, 0),
         Refusal::TooManyMaps => four(43, 0, 0, 0),
+        Refusal::LockTakesLess(k) => four(44, k, 0, 0),
     }
 }
 

@@ -6,7 +6,7 @@ use native.Mathlib.Omega.{arith}
 use lib.ListN.{length, getD}
 use Rattle.spec.specs.Expression.{Step, Expr, leaf, unary, binary, size}
 use Rattle.spec.specs.Split.{Split}
-use Rattle.spec.specs.Conditions.{lineOf, typeAt, row, type, kind, K, load}
+use Rattle.spec.specs.Conditions.{lineOf, typeAt, row, type, kind, K, inMap, outMap, load, inLoad, outLoad}
 use Rattle.spec.specs.Ranges.{InRange}
 use Rattle.spec.proofs.Listing.{size-positive}
 use Rattle.spec.specs.declared.Location.{Location}
@@ -18,12 +18,12 @@ use Rattle.spec.specs.declared.BinaryWord.{BinaryWord}
 use Rattle.spec.specs.declared.BinaryWord.the-variants.{Let, If, Spawn, Write}
 use Rattle.workspace.specs.Layout.{wordsAt, leafCode, unaryCode, binaryCode, printed, ruleOf}
 use Rattle.workspace.specs.Holds.{HoldsSplit}
-use Rattle.workspace.proofs.Shown.{type-number, noRow, type-shown, load-in, map-stands, has-shown, row-at, row-type, start-at}
+use Rattle.workspace.proofs.Shown.{type-number, noRow, type-shown, load-in, in-load-in, out-load-in, map-stands, has-shown, row-at, row-type, start-at}
 use Rattle.workspace.proofs.Expression.{Here, here-line, leaf-code, unary-code, binary-code, here-part, here-first, here-second, here-end, varsSecond}
 use Rattle.workspace.proofs.Held.{insideSecond}
 use Rattle.filling.specs.declared.Effect.{Effect}
 use Rattle.filling.specs.Flow.{unchanged, taking, giving, needing, alone, steps}
-use Rattle.filling.specs.FlowOf.{loadHere, startHere, accessHere, flowOf}
+use Rattle.filling.specs.FlowOf.{loadHere, inHere, outHere, startHere, accessHere, flowOf}
 use Rattle.filling.proofs.Placed.{flow-steps}
 use Rattle.pass.specs.declared.Column.{Column}
 use Rattle.pass.specs.declared.Way.the-variants.{Leaf, Unary, Binary}
@@ -31,7 +31,7 @@ use Rattle.pass.specs.declared.UnaryWay.{UnaryWay}
 use Rattle.pass.specs.declared.UnaryWay.the-variants.{After, Loop}
 use Rattle.pass.specs.declared.BinaryWay.{BinaryWay}
 use Rattle.pass.specs.declared.BinaryWay.the-variants.{InTurn, Branch, Fork}
-use Rattle.pass.specs.Ways.{locationOf, cellIn, typeIn, loadIn, startIn, accessIn, wayBy, wayIn}
+use Rattle.pass.specs.Ways.{locationOf, cellIn, typeIn, loadIn, inLoadIn, outLoadIn, startIn, accessIn, wayBy, wayIn}
 use Rattle.pass.specs.Shows.{unaryFlow, binaryFlow, endIn, Shows, leafShown, unaryShown, binaryShown}
 
 module _ (w : List ℕ) (column : Column) (ss : List Step) (S : Split) (H : HoldsSplit w S) (R : InRange ss S)
@@ -54,6 +54,16 @@ module _ (w : List ℕ) (column : Column) (ss : List Step) (S : Split) (H : Hold
     unfolding loadIn cellIn loadHere K kind type
     load-held =
         rw kind-held (has-shown w S ss H R p (map-stands w S ss H R (load (typeAt S (row S e .type))) (load-in w S ss H R (row S e .type) type-in)) within)
+
+    in-held : inLoadIn w column i ≡ inHere S p e
+    unfolding inLoadIn cellIn inHere inMap kind type
+    in-held =
+        rw kind-held (has-shown w S ss H R p (map-stands w S ss H R (inLoad (typeAt S (row S e .type))) (in-load-in w S ss H R (row S e .type) type-in)) within)
+
+    out-held : outLoadIn w column i ≡ outHere S p e
+    unfolding outLoadIn cellIn outHere outMap kind type
+    out-held =
+        rw kind-held (has-shown w S ss H R p (map-stands w S ss H R (outLoad (typeAt S (row S e .type))) (out-load-in w S ss H R (row S e .type) type-in)) within)
 
     start-held : startIn w column i ≡ startHere S p e
     unfolding startIn cellIn startHere
@@ -94,6 +104,12 @@ module _ (w : List ℕ) (column : Column) (ss : List Step) (S : Split) (H : Hold
     module _ (e₁ : Expr) (C : Here w (k + 1) inside vars e₁) (i : k + 1 + size e₁ ≤ length (S .rows)) where
       part-load : loadIn w column (k + 1) ≡ loadHere S p e₁
       part-load = load-held e₁ (k + 1) (here-line e₁ C) (omega (arith, size-positive e₁))
+
+      part-in : inLoadIn w column (k + 1) ≡ inHere S p e₁
+      part-in = in-held e₁ (k + 1) (here-line e₁ C) (omega (arith, size-positive e₁))
+
+      part-out : outLoadIn w column (k + 1) ≡ outHere S p e₁
+      part-out = out-held e₁ (k + 1) (here-line e₁ C) (omega (arith, size-positive e₁))
 
       part-access : (d : ℕ) → accessIn w column (k + 1) d ≡ accessHere S p e₁ d
       part-access = access-held e₁ (k + 1) (here-line e₁ C) (omega (arith, size-positive e₁))
@@ -138,16 +154,16 @@ module _ (w : List ℕ) (column : Column) (ss : List Step) (S : Split) (H : Hold
       unary-held k Read l v e₁ (After (needing (accessHere S p e₁ 1))) C (ap (λ (n : ℕ). Unary (After (needing n))) (part-access k e₁ D (omega arith) 1)) (held-shows (k + 1) inside vars e₁ D (omega arith))
   held-shows k inside vars (leaf Newlock l v) C i =
       let e = leaf Newlock l v in
-      leaf-held k Newlock l v (taking (loadHere S p e)) C (ap (λ (n : ℕ). Leaf (taking n)) (load-held e k (here-line e C) (omega arith)))
+      leaf-held k Newlock l v (taking (outHere S p e)) C (ap (λ (n : ℕ). Leaf (taking n)) (out-held e k (here-line e C) (omega arith)))
   held-shows k inside vars (unary Freelock l v e₁) C i =
       let D = here-part Freelock l v e₁ C in
-      unary-held k Freelock l v e₁ (After (giving (loadHere S p e₁))) C (ap (λ (n : ℕ). Unary (After (giving n))) (part-load k e₁ D (omega arith))) (held-shows (k + 1) inside vars e₁ D (omega arith))
+      unary-held k Freelock l v e₁ (After (giving (inHere S p e₁))) C (ap (λ (n : ℕ). Unary (After (giving n))) (part-in k e₁ D (omega arith))) (held-shows (k + 1) inside vars e₁ D (omega arith))
   held-shows k inside vars (unary Lock l v e₁) C i =
       let D = here-part Lock l v e₁ C in
-      unary-held k Lock l v e₁ (After (giving (loadHere S p e₁))) C (ap (λ (n : ℕ). Unary (After (giving n))) (part-load k e₁ D (omega arith))) (held-shows (k + 1) inside vars e₁ D (omega arith))
+      unary-held k Lock l v e₁ (After (giving (inHere S p e₁))) C (ap (λ (n : ℕ). Unary (After (giving n))) (part-in k e₁ D (omega arith))) (held-shows (k + 1) inside vars e₁ D (omega arith))
   held-shows k inside vars (unary Unlock l v e₁) C i =
       let D = here-part Unlock l v e₁ C in
-      unary-held k Unlock l v e₁ (After (taking (loadHere S p e₁))) C (ap (λ (n : ℕ). Unary (After (taking n))) (part-load k e₁ D (omega arith))) (held-shows (k + 1) inside vars e₁ D (omega arith))
+      unary-held k Unlock l v e₁ (After (taking (outHere S p e₁))) C (ap (λ (n : ℕ). Unary (After (taking n))) (part-out k e₁ D (omega arith))) (held-shows (k + 1) inside vars e₁ D (omega arith))
   held-shows k inside vars (leaf Newsem l v) C i = leaf-held k Newsem l v unchanged C refl
   held-shows k inside vars (unary Post l v e₁) C i =
       let D = here-part Post l v e₁ C in

@@ -17,7 +17,7 @@ use Rattle.pass.specs.declared.UnaryWay.{UnaryWay}
 use Rattle.pass.specs.declared.UnaryWay.the-variants.{After, Loop}
 use Rattle.pass.specs.declared.BinaryWay.{BinaryWay}
 use Rattle.pass.specs.declared.BinaryWay.the-variants.{InTurn, Branch, Fork}
-use Rattle.pass.specs.Ways.{cellIn, loadIn, startIn, wayBy, wayIn}
+use Rattle.pass.specs.Ways.{cellIn, loadIn, inLoadIn, outLoadIn, startIn, wayBy, wayIn}
 use Rattle.pass.specs.Shows.{Shows, leafShown, unaryShown, binaryShown}
 use Rattle.pass.specs.Passed.{afterUnary, secondPre, afterBinary}
 use Rattle.pass.proofs.Parts.{unary-steps, binary-steps, pass-unary, pass-binary}
@@ -59,7 +59,7 @@ second-pre-small (Fork start due) pre first b l m = omega arith
 
 module _ (w : List ℕ) (column : Column) (fits : (i : ℕ) → getD w i 0 < 4294967296) where
   rule-gives : (r : Rule) (k : ℕ) → given (wayBy r w column k) < 4294967296
-  unfolding given wayBy unchanged taking giving needing loadIn startIn cellIn mapCell
+  unfolding given wayBy unchanged taking giving needing loadIn inLoadIn outLoadIn startIn cellIn mapCell
   rule-gives VAR k = omega arith
   rule-gives INT k = omega arith
   rule-gives LET k = omega arith

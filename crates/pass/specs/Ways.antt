@@ -2,7 +2,7 @@
 use mathlib.Core.List.{List}
 use Prim.Native.Nat.{ℕ, _+_}
 use lib.ListN.{getD}
-use Rattle.spec.specs.Conditions.{load, place}
+use Rattle.spec.specs.Conditions.{load, inLoad, outLoad, place}
 use Rattle.spec.specs.declared.Location.{Location}
 use Rattle.spec.specs.declared.MapNumber.{MapNumber}
 use Rattle.spec.specs.declared.TypeLine.{TypeLine}
@@ -26,12 +26,19 @@ locationOf column = record { 0 = column .location }
 unfoldable pub cellIn : List ℕ → Column → MapNumber → ℕ
 cellIn w column m = mapCell w m (column .location)
 
--- the type of step k; what its load, the start of its body, and access through it have or need at the location
+-- the type of step k; what its load, in and out of its lock type, the start of its body, and access through it have or need at the
+-- location
 unfoldable pub typeIn : List ℕ → (k : ℕ) → TypeLine
 typeIn w k = typeAt w (record { 0 = getD w (rowTypesAt + k) 0 })
 
 unfoldable pub loadIn : List ℕ → Column → (k : ℕ) → ℕ
 loadIn w column k = cellIn w column (load (typeIn w k))
+
+unfoldable pub inLoadIn : List ℕ → Column → (k : ℕ) → ℕ
+inLoadIn w column k = cellIn w column (inLoad (typeIn w k))
+
+unfoldable pub outLoadIn : List ℕ → Column → (k : ℕ) → ℕ
+outLoadIn w column k = cellIn w column (outLoad (typeIn w k))
 
 unfoldable pub startIn : List ℕ → Column → (k : ℕ) → ℕ
 startIn w column k = cellIn w column (record { 0 = getD w (startsAt + k) 0 })
@@ -54,10 +61,10 @@ wayBy JOIN w column k = Unary (After (giving (loadIn w column (k + 1))))
 wayBy REF w column k = Unary (After unchanged)
 wayBy WRITE w column k = Binary (InTurn (needing (accessIn w column (k + 1) (column .denominator))))
 wayBy READ w column k = Unary (After (needing (accessIn w column (k + 1) 1)))
-wayBy NEWL w column k = Leaf (taking (loadIn w column k))
-wayBy FREEL w column k = Unary (After (giving (loadIn w column (k + 1))))
-wayBy LCK w column k = Unary (After (giving (loadIn w column (k + 1))))
-wayBy ULCK w column k = Unary (After (taking (loadIn w column (k + 1))))
+wayBy NEWL w column k = Leaf (taking (outLoadIn w column k))
+wayBy FREEL w column k = Unary (After (giving (inLoadIn w column (k + 1))))
+wayBy LCK w column k = Unary (After (giving (inLoadIn w column (k + 1))))
+wayBy ULCK w column k = Unary (After (taking (outLoadIn w column (k + 1))))
 wayBy NEWSEM w column k = Leaf unchanged
 wayBy POST w column k = Unary (After (taking (loadIn w column (k + 1))))
 wayBy WAIT w column k = Unary (After (giving (loadIn w column (k + 1))))

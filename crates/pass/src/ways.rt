@@ -19,9 +19,9 @@ use workspace::rule_of;
 use workspace::type_at;
 ghost use mathlib.Core.Path.{_≡_};
 ghost use Prim.Native.Nat.{_<_};
-ghost use Rattle.spec.specs.Conditions.{load, place};
+ghost use Rattle.spec.specs.Conditions.{load, inLoad, outLoad, place};
 ghost use Rattle.filling.specs.Flow.{unchanged, taking, giving, needing};
-ghost use Rattle.pass.specs.Ways.{cellIn, typeIn, loadIn, startIn, accessIn, wayBy, wayIn};
+ghost use Rattle.pass.specs.Ways.{cellIn, typeIn, loadIn, inLoadIn, outLoadIn, startIn, accessIn, wayBy, wayIn};
 
 // A step that keeps the number, takes from it, gives to it, or needs it to be large enough.
 fn unchanged() -> Effect
@@ -64,16 +64,42 @@ fn needing(k: u32) -> Effect
     }
 }
 
-// K of a lock, tid or sem type.
+// K of a tid or sem type.
 fn load_of(t: TypeLine) -> MapNumber
     ensures { λ r. ⌜ r ≡ load t ⌝ }
 {
     match t {
         TypeLine::Int => MapNumber(0),
         TypeLine::Ref(_, _) => MapNumber(0),
-        TypeLine::Lock(k) => k,
+        TypeLine::Lock(_, _) => MapNumber(0),
         TypeLine::Tid(k) => k,
         TypeLine::Sem(k) => k,
+    }
+}
+
+// In of a lock type.
+fn in_load_of(t: TypeLine) -> MapNumber
+    ensures { λ r. ⌜ r ≡ inLoad t ⌝ }
+{
+    match t {
+        TypeLine::Int => MapNumber(0),
+        TypeLine::Ref(_, _) => MapNumber(0),
+        TypeLine::Lock(k, _) => k,
+        TypeLine::Tid(_) => MapNumber(0),
+        TypeLine::Sem(_) => MapNumber(0),
+    }
+}
+
+// Out of a lock type.
+fn out_load_of(t: TypeLine) -> MapNumber
+    ensures { λ r. ⌜ r ≡ outLoad t ⌝ }
+{
+    match t {
+        TypeLine::Int => MapNumber(0),
+        TypeLine::Ref(_, _) => MapNumber(0),
+        TypeLine::Lock(_, k) => k,
+        TypeLine::Tid(_) => MapNumber(0),
+        TypeLine::Sem(_) => MapNumber(0),
     }
 }
 
@@ -84,7 +110,7 @@ fn place_of(t: TypeLine) -> Location
     match t {
         TypeLine::Int => Location(0),
         TypeLine::Ref(p, _) => p,
-        TypeLine::Lock(_) => Location(0),
+        TypeLine::Lock(_, _) => Location(0),
         TypeLine::Tid(_) => Location(0),
         TypeLine::Sem(_) => Location(0),
     }
@@ -111,6 +137,22 @@ fn load_in(work: &[u32], column: Column, k: usize) -> u32
     ensures { λ r. ⌜ r ≡ loadIn (now (work .entry)) column k ⌝ }
 {
     cell_in(work, column, load_of(type_in(work, k)))
+}
+
+// In of the type of step k, at the location.
+fn in_load_in(work: &[u32], column: Column, k: usize) -> u32
+    requires { ⌜ k < 512 ⌝ }
+    ensures { λ r. ⌜ r ≡ inLoadIn (now (work .entry)) column k ⌝ }
+{
+    cell_in(work, column, in_load_of(type_in(work, k)))
+}
+
+// Out of the type of step k, at the location.
+fn out_load_in(work: &[u32], column: Column, k: usize) -> u32
+    requires { ⌜ k < 512 ⌝ }
+    ensures { λ r. ⌜ r ≡ outLoadIn (now (work .entry)) column k ⌝ }
+{
+    cell_in(work, column, out_load_of(type_in(work, k)))
 }
 
 // The map that the body of step k starts with, at the location.
@@ -154,10 +196,10 @@ fn way_by(r: Rule, work: &[u32], column: Column, k: usize) -> Way
             Way::Binary(BinaryWay::InTurn(needing(access)))
         }
         Rule::READ => Way::Unary(UnaryWay::After(needing(access_in(work, column, part, 1)))),
-        Rule::NEWL => Way::Leaf(taking(load_in(work, column, k))),
-        Rule::FREEL => Way::Unary(UnaryWay::After(giving(load_in(work, column, part)))),
-        Rule::LCK => Way::Unary(UnaryWay::After(giving(load_in(work, column, part)))),
-        Rule::ULCK => Way::Unary(UnaryWay::After(taking(load_in(work, column, part)))),
+        Rule::NEWL => Way::Leaf(taking(out_load_in(work, column, k))),
+        Rule::FREEL => Way::Unary(UnaryWay::After(giving(in_load_in(work, column, part)))),
+        Rule::LCK => Way::Unary(UnaryWay::After(giving(in_load_in(work, column, part)))),
+        Rule::ULCK => Way::Unary(UnaryWay::After(taking(out_load_in(work, column, part)))),
         Rule::NEWSEM => Way::Leaf(unchanged()),
         Rule::POST => Way::Unary(UnaryWay::After(taking(load_in(work, column, part)))),
         Rule::WAIT => Way::Unary(UnaryWay::After(giving(load_in(work, column, part)))),

@@ -2,7 +2,7 @@
 -- work space holds.
 use mathlib.Core.Path.{_≡_, refl, sym, ap, _∙_}
 use mathlib.Core.List.{List, [], _∷_}
-use mathlib.Core.Bool.{Bool, true, false, _&&_}
+use mathlib.Core.Bool.{Bool, true, false, _&&_, and-false}
 use mathlib.Core.Option.{Option, none, some}
 use Prim.Native.Nat.{ℕ, zero, suc, _<_, _≤_}
 use native.Mathlib.Omega.{arith}
@@ -12,13 +12,14 @@ use types.Run.{OneOf, miss}
 use denote.Enum.Declared.{tagOf}
 use borrow.Author.Tests.{eq-eqb, ne-eqb, lt-ltb, le-ltb, ltb-true}
 use Rattle.spec.proofs.TypeLine as kind
-use Rattle.spec.specs.Reading.{Out, on}
+use Rattle.spec.specs.Reading.{Out, on, _>>=_}
 use Rattle.spec.specs.Expression.{Step}
 use Rattle.spec.specs.Split.{Split, typeAt, mapAt}
-use Rattle.spec.specs.Maps.{nowhere, sameNumbers}
+use Rattle.spec.specs.Maps.{nowhere, sameNumbers, _≥ᵐ_}
 use Rattle.spec.specs.Agreement.{int, code, Tree, plain, sameMaps, sameTree, treeOf, trees, tree, agree}
-use Rattle.spec.specs.Conditions.{T, F, isInt, isRef, isLock, isTid, isSem, place, load, contains}
+use Rattle.spec.specs.Conditions.{T, F, isInt, isRef, isLock, isTid, isSem, place, load, inLoad, outLoad, contains, looserLock, mayShow}
 use Rattle.spec.specs.Sites.{judge}
+use Rattle.spec.specs.Verdict.{takesEnough}
 use Rattle.spec.specs.Ranges.{InRange}
 use Rattle.spec.specs.declared.Location.{Location}
 use Rattle.spec.specs.declared.MapNumber.{MapNumber}
@@ -28,16 +29,16 @@ use Rattle.spec.specs.declared.TypeLine.{TypeLine}
 use Rattle.spec.specs.declared.TypeLine.the-variants.{Int, Ref, Lock, Tid, Sem}
 use Rattle.spec.proofs.Clashes.{true-is-not-false}
 use Rattle.spec.proofs.Outcomes.{stop-is-not-on}
-use Rattle.spec.proofs.Agreement.{same-maps-single, content-smaller, tree-of-type}
+use Rattle.spec.proofs.Agreement.{same-maps-single, same-maps-two, content-smaller, tree-of-type}
 use Rattle.workspace.specs.Layout as layout
 use Rattle.workspace.specs.Holds.{HoldsSplit}
-use Rattle.workspace.proofs.Shown.{type-shown, load-in, map-stands}
-use Rattle.rules.specs.Outcome.{outcome}
-use Rattle.rules.specs.Agreement.{content, sameNumbersIn, linesAgree, agreeBelow, agreeIn}
+use Rattle.workspace.proofs.Shown.{type-shown, in-load-in, out-load-in, map-stands}
+use Rattle.rules.specs.Outcome.{outcome, both}
+use Rattle.rules.specs.Agreement.{content, sameNumbersIn, linesAgree, agreeBelow, agreeIn, notBelowIn, mayShowIn, takesEnoughIn}
 use Rattle.rules.specs.Table.{containsIn}
 use Rattle.rules.specs.declared.Ruling.{Ruling}
 use Rattle.rules.specs.declared.Ruling.the-variants.{Met, Refused}
-use Rattle.rules.proofs.Shown.{equal-shown}
+use Rattle.rules.proofs.Shown.{equal-shown, at-least-shown}
 
 -- ------------------------------------------------------------------ conditions on types
 
@@ -46,6 +47,16 @@ module _ (line i : ℕ) where
   judged-as h e = h ∙ ap (λ x. judge line i (T x)) e
 
   -- a flow condition asked as one on types
+  -- two conditions on types as one
+  pub types-joined : (a b : Bool) {u v x : Out (Unit {0})} → x ≡ both u v → u ≡ judge line i (T a) → v ≡ judge line i (T b)
+      → x ≡ judge line i (T (a && b))
+  unfolding both judge _>>=_
+  types-joined a b e p q = e ∙ rw (p, q) (go a)
+    where
+      go : (c : Bool) → both (judge line i (T c)) (judge line i (T b)) ≡ judge line i (T (c && b))
+      go true = refl
+      go false = refl
+
   pub flow-met : (o : Option ℕ) (r : Ruling) → outcome r ≡ judge line i (F o) → r ≡ Met → on tt ≡ judge line i (T (nowhere o))
   unfolding outcome judge nowhere
   flow-met none r h e = refl
@@ -65,7 +76,7 @@ module _ (w : List ℕ) (n : ℕ) where
   unfolding linesAgree
   lines-same f g h Int y = refl
   lines-same f g h (Ref p c) y = rw (h c (content y))
-  lines-same f g h (Lock k) y = refl
+  lines-same f g h (Lock i o) y = refl
   lines-same f g h (Tid k) y = refl
   lines-same f g h (Sem k) y = refl
 
@@ -79,7 +90,7 @@ module _ (w : List ℕ) (n : ℕ) where
       either true true = refl
       either true false = refl
       either false b = refl
-  no-contents (Lock k) y h = true-is-not-false (sym h)
+  no-contents (Lock i o) y h = true-is-not-false (sym h)
   no-contents (Tid k) y h = true-is-not-false (sym h)
   no-contents (Sem k) y h = true-is-not-false (sym h)
 
@@ -88,7 +99,7 @@ module _ (w : List ℕ) (n : ℕ) where
   unfolding linesAgree
   plain-lines f g Int y h = refl
   plain-lines f g (Ref p c) y h = absurd (miss (0 ∷ 2 ∷ 3 ∷ 4 ∷ []) 1 tt h)
-  plain-lines f g (Lock k) y h = refl
+  plain-lines f g (Lock i o) y h = refl
   plain-lines f g (Tid k) y h = refl
   plain-lines f g (Sem k) y h = refl
 
@@ -131,6 +142,23 @@ module _ (w : List ℕ) (n : ℕ) where
         refs-by-contents h l =
             rw (← e, ← g, is-ref, is-ref′, eq-eqb _ _ h, lt-ltb _ _ l) (any-bound (suc (c .0)) (t .0) c d (omega arith) l)
 
+-- ------------------------------------------------------------------ what a var line may show
+
+module _ (w : List ℕ) (n : ℕ) (t u : TypeNumber) where
+  -- the shown type is no lock, the let's value is none, both are
+  pub shown-no-lock : {x : TypeLine} → x ≡ layout.typeAt w t → isLock x ≡ false → agreeIn w n t u ≡ mayShowIn w n t u
+  unfolding mayShowIn
+  shown-no-lock e h = rw (← e, h)
+
+  pub own-no-lock : {y : TypeLine} → y ≡ layout.typeAt w u → isLock y ≡ false → agreeIn w n t u ≡ mayShowIn w n t u
+  unfolding mayShowIn
+  own-no-lock e h = rw (← e, h, and-false (isLock (layout.typeAt w t)))
+
+  pub both-locks : {x y : TypeLine} {i o j p : MapNumber} → x ≡ layout.typeAt w t → y ≡ layout.typeAt w u → x ≡ Lock i o → y ≡ Lock j p
+      → (notBelowIn w n j i && notBelowIn w n o p) ≡ mayShowIn w n t u
+  unfolding mayShowIn isLock inLoad outLoad
+  both-locks e g h k = rw (← e, ← g, h, k)
+
 -- ------------------------------------------------------------------ the split that the work space holds
 
 module _ (w : List ℕ) (S : Split) (steps : List Step) (H : HoldsSplit w S) (R : InRange steps S) (n : ℕ) (located : n ≡ S .header .locations) where
@@ -139,35 +167,61 @@ module _ (w : List ℕ) (S : Split) (steps : List Step) (H : HoldsSplit w S) (R 
   unfolding sameNumbersIn sameNumbers
   same-numbers-shown k h p q = rw (located, equal-shown w S steps H R (map-stands w S steps H R k p) (map-stands w S steps H R h q))
 
+  not-below-shown : (k h : MapNumber) → k .0 < length (S .maps) → h .0 < length (S .maps)
+      → notBelowIn w n k h ≡ nowhere (mapAt S k ≥ᵐ mapAt S h)
+  unfolding notBelowIn
+  not-below-shown k h p q = rw (located, at-least-shown w S steps H R (map-stands w S steps H R k p) (map-stands w S steps H R h q))
+
+  -- the maps of a type are maps of the sheet
+  LoadsIn : TypeLine → Type 0
+  LoadsIn Int = Unit {0}
+  LoadsIn (Ref p c) = Unit {0}
+  LoadsIn (Lock i o) = (i .0 < length (S .maps)) × (o .0 < length (S .maps))
+  LoadsIn (Tid k) = k .0 < length (S .maps)
+  LoadsIn (Sem k) = k .0 < length (S .maps)
+
+  loads-in : (t : TypeNumber) → t .0 < length (S .types) → LoadsIn (typeAt S t)
+  unfolding LoadsIn typeAt
+  loads-in t h = of-line (getD (S .types) (t .0) Int) refl
+    where
+      of-line : (x : TypeLine) → getD (S .types) (t .0) Int ≡ x → LoadsIn x
+      of-line Int e = tt
+      of-line (Ref p c) e = tt
+      of-line (Lock i o) e = R .lockLoads (t .0) i o h e
+      of-line (Tid k) e = R .tidLoad (t .0) k h e
+      of-line (Sem k) e = R .semLoad (t .0) k h e
+
   -- lines whose contents and maps are shown
   lines-shown : (all : List Tree) (f : TypeNumber → TypeNumber → Bool) (x y : TypeLine)
-      → load x .0 < length (S .maps) → load y .0 < length (S .maps)
+      → LoadsIn x → LoadsIn y
       → ((p q : Location) (c d : TypeNumber) → x ≡ Ref p c → y ≡ Ref q d → f c d ≡ sameTree (getD all (c .0) (plain int [])) (getD all (d .0) (plain int [])))
       → linesAgree w n f x y ≡ sameTree (treeOf S all x) (treeOf S all y)
-  unfolding linesAgree code sameMaps sameTree treeOf isInt isRef isLock isTid isSem place load content
+  unfolding LoadsIn linesAgree code sameMaps sameTree treeOf isInt isRef isLock isTid isSem place load inLoad outLoad content
   lines-shown all f Int Int i j h = refl
   lines-shown all f Int (Ref q d) i j h = refl
-  lines-shown all f Int (Lock k) i j h = refl
+  lines-shown all f Int (Lock m o) i j h = refl
   lines-shown all f Int (Tid k) i j h = refl
   lines-shown all f Int (Sem k) i j h = refl
   lines-shown all f (Ref p c) Int i j h = refl
   lines-shown all f (Ref p c) (Ref q d) i j h = rw (h p q c d refl refl)
-  lines-shown all f (Ref p c) (Lock k) i j h = refl
+  lines-shown all f (Ref p c) (Lock m o) i j h = refl
   lines-shown all f (Ref p c) (Tid k) i j h = refl
   lines-shown all f (Ref p c) (Sem k) i j h = refl
-  lines-shown all f (Lock k) Int i j h = refl
-  lines-shown all f (Lock k) (Ref q d) i j h = refl
-  lines-shown all f (Lock k) (Lock m) i j h = same-numbers-shown k m i j ∙ sym (same-maps-single (mapAt S k) (mapAt S m))
-  lines-shown all f (Lock k) (Tid m) i j h = refl
-  lines-shown all f (Lock k) (Sem m) i j h = refl
+  lines-shown all f (Lock m o) Int i j h = refl
+  lines-shown all f (Lock m o) (Ref q d) i j h = refl
+  lines-shown all f (Lock m o) (Lock n′ p) i j h =
+      rw (same-numbers-shown m n′ (i .0) (j .0), same-numbers-shown o p (i .1) (j .1))
+      (sym (same-maps-two (mapAt S m) (mapAt S o) (mapAt S n′) (mapAt S p)))
+  lines-shown all f (Lock k o) (Tid m) i j h = refl
+  lines-shown all f (Lock k o) (Sem m) i j h = refl
   lines-shown all f (Tid k) Int i j h = refl
   lines-shown all f (Tid k) (Ref q d) i j h = refl
-  lines-shown all f (Tid k) (Lock m) i j h = refl
+  lines-shown all f (Tid k) (Lock m o) i j h = refl
   lines-shown all f (Tid k) (Tid m) i j h = same-numbers-shown k m i j ∙ sym (same-maps-single (mapAt S k) (mapAt S m))
   lines-shown all f (Tid k) (Sem m) i j h = refl
   lines-shown all f (Sem k) Int i j h = refl
   lines-shown all f (Sem k) (Ref q d) i j h = refl
-  lines-shown all f (Sem k) (Lock m) i j h = refl
+  lines-shown all f (Sem k) (Lock m o) i j h = refl
   lines-shown all f (Sem k) (Tid m) i j h = refl
   lines-shown all f (Sem k) (Sem m) i j h = same-numbers-shown k m i j ∙ sym (same-maps-single (mapAt S k) (mapAt S m))
 
@@ -182,7 +236,7 @@ module _ (w : List ℕ) (S : Split) (steps : List Step) (H : HoldsSplit w S) (R 
         tree-of-type S R t _ refl,
         tree-of-type S R u _ refl,
       )
-      (lines-shown (trees S [] (S .types)) _ (typeAt S t) (typeAt S u) (load-in w S steps H R t i) (load-in w S steps H R u j)
+      (lines-shown (trees S [] (S .types)) _ (typeAt S t) (typeAt S u) (loads-in t i) (loads-in u j)
       (λ p q c d e g. down p q c d e g (below-shown b c d)))
     where
       down : (p q : Location) (c d : TypeNumber) → typeAt S t ≡ Ref p c → typeAt S u ≡ Ref q d
@@ -197,6 +251,28 @@ module _ (w : List ℕ) (S : Split) (steps : List Step) (H : HoldsSplit w S) (R 
   unfolding agreeIn
   agree-shown t u i j = below-shown (suc (t .0)) t u (omega arith) i j
 
+  pub may-show-shown : (t u : TypeNumber) → t .0 < length (S .types) → u .0 < length (S .types) → mayShowIn w n t u ≡ mayShow S t u
+  unfolding mayShowIn mayShow looserLock
+  may-show-shown t u i j =
+      rw (
+        type-shown w S steps H R t i,
+        type-shown w S steps H R u j,
+        not-below-shown _ _ (in-load-in w S steps H R u j) (in-load-in w S steps H R t i),
+        not-below-shown _ _ (out-load-in w S steps H R t i) (out-load-in w S steps H R u j),
+        agree-shown t u i j,
+      )
+
+  pub takes-enough-shown : (t : TypeNumber) → t .0 < length (S .types) → takesEnoughIn w n (layout.typeAt w t) ≡ takesEnough S (typeAt S t)
+  unfolding LoadsIn takesEnoughIn takesEnough
+  takes-enough-shown t h = rw (type-shown w S steps H R t h) (of-line (typeAt S t) (loads-in t h))
+    where
+      of-line : (x : TypeLine) → LoadsIn x → takesEnoughIn w n x ≡ takesEnough S x
+      of-line Int l = refl
+      of-line (Ref p c) l = refl
+      of-line (Lock i o) l = not-below-shown o i (l .1) (l .0)
+      of-line (Tid k) l = refl
+      of-line (Sem k) l = refl
+
   pub contains-shown : (t u : TypeNumber) → t .0 < length (S .types) → u .0 < length (S .types)
       → containsIn w n (typeAt S t) u ≡ contains S (typeAt S t) u
   unfolding containsIn contains
@@ -205,6 +281,6 @@ module _ (w : List ℕ) (S : Split) (steps : List Step) (H : HoldsSplit w S) (R 
       of-line : (x : TypeLine) → typeAt S t ≡ x → containsIn w n x u ≡ contains S x u
       of-line Int e = refl
       of-line (Ref p c) e = let c<t = content-smaller S R t p c e in agree-shown c u (omega arith) j
-      of-line (Lock k) e = refl
+      of-line (Lock i o) e = refl
       of-line (Tid k) e = refl
       of-line (Sem k) e = refl

@@ -1,4 +1,5 @@
 pub mod Judged
+pub mod LockLines
 pub mod TypeKinds
 pub mod Relations
 pub mod Walking

@@ -9,7 +9,7 @@ use borrow.Author.Tests.{le-leb, lt-ltb}
 use Rattle.spec.specs.Expression.{Step, Expr, leaf, unary, binary}
 use Rattle.spec.specs.Split.{Map, Split}
 use Rattle.spec.specs.Maps.{_=ᵐ_, _≥ᵐ_, _+ᵐ_, share}
-use Rattle.spec.specs.Conditions.{Env, typeIn, contains, row, type, kind, post, start, K, place, load, own}
+use Rattle.spec.specs.Conditions.{Env, typeIn, mayShow, contains, row, type, kind, post, start, K, inMap, outMap, place, load, inLoad, outLoad, own}
 use Rattle.spec.specs.Agreement.{agree}
 use Rattle.spec.specs.Ranges.{InRange}
 use Rattle.spec.specs.declared.MapNumber.{MapNumber}
@@ -23,13 +23,13 @@ use Rattle.spec.specs.declared.BinaryWord.the-variants.{Let, If, Spawn, Write}
 use Rattle.workspace.specs.Layout as layout
 use Rattle.workspace.specs.Layout.{mapCell, printed, ruleOf, leafCode, unaryCode, binaryCode}
 use Rattle.workspace.specs.Holds.{HoldsSplit}
-use Rattle.workspace.proofs.Shown.{Stands, type-shown, place-in, load-in, map-stands, has-shown}
+use Rattle.workspace.proofs.Shown.{Stands, type-shown, place-in, load-in, in-load-in, out-load-in, map-stands, has-shown}
 use Rattle.rules.specs.Relation.{failsFrom}
 use Rattle.rules.specs.declared.Relation.the-variants.{Equal, AtLeast, Sum}
-use Rattle.rules.specs.Agreement.{agreeIn}
+use Rattle.rules.specs.Agreement.{agreeIn, mayShowIn}
 use Rattle.rules.specs.Table.{containsIn, ruleRow}
 use Rattle.rules.specs.declared.View.{View}
-use Rattle.rules.proofs.Agreement.{agree-shown, contains-shown}
+use Rattle.rules.proofs.Agreement.{agree-shown, may-show-shown, contains-shown}
 use Rattle.rules.proofs.Shown.{equal-shown, at-least-shown, sum-shown, is-sum-shown}
 
 -- "> 0" is "≥ 1"
@@ -64,6 +64,14 @@ module _ (w : List ℕ) (S : Split) (steps : List Step) (H : HoldsSplit w S) (R 
   unfolding kind type K
   load-stands e p = rw (typed-as e p) (map-stands w S steps H R _ (load-in w S steps H R _ (p .type-in)))
 
+  in-stands : {t : TypeNumber} {m : MapNumber} (e : Expr) → Part w S t m e → Stands w S (inLoad (layout.typeAt w t)) (inMap S e)
+  unfolding kind type inMap
+  in-stands e p = rw (typed-as e p) (map-stands w S steps H R _ (in-load-in w S steps H R _ (p .type-in)))
+
+  out-stands : {t : TypeNumber} {m : MapNumber} (e : Expr) → Part w S t m e → Stands w S (outLoad (layout.typeAt w t)) (outMap S e)
+  unfolding kind type outMap
+  out-stands e p = rw (typed-as e p) (map-stands w S steps H R _ (out-load-in w S steps H R _ (p .type-in)))
+
   -- ---------------------------------------------------------------- flow and access
 
   module _ {a b : MapNumber} {x y : Map} (p : Stands w S a x) (q : Stands w S b y) where
@@ -92,6 +100,11 @@ module _ (w : List ℕ) (S : Split) (steps : List Step) (H : HoldsSplit w S) (R 
   unfolding type
   agrees e x p q h = rw (p .typed, q) (agree-shown w S steps H R (s .locations) located _ _ (p .type-in) h)
 
+  shows : {t u : TypeNumber} {m : MapNumber} (e : Expr) (x : TypeNumber) → Part w S t m e → u ≡ x → x .0 < length (S .types)
+      → mayShowIn w (s .locations) t u ≡ mayShow S (type S e) x
+  unfolding type
+  shows e x p q h = rw (p .typed, q) (may-show-shown w S steps H R (s .locations) located _ _ (p .type-in) h)
+
   holds-content : {t u : TypeNumber} {m n : MapNumber} (e e₁ : Expr) → Part w S t m e → Part w S u n e₁
       → containsIn w (s .locations) (layout.typeAt w t) u ≡ contains S (kind S e) (type S e₁)
   unfolding type kind
@@ -102,10 +115,10 @@ module _ (w : List ℕ) (S : Split) (steps : List Step) (H : HoldsSplit w S) (R 
   pub leaf-shown : (x : LeafWord) → Part w S (s .own) (s .post) (leaf x l v) → Bound S x s Γ v
       → ruleRow (ruleOf (leafCode x)) w s (layout.typeAt w (s .own)) (layout.typeAt w (s .type1)) ≡ own S Γ pre (leaf x l v)
   unfolding printed ruleOf ruleRow own type
-  leaf-shown Var o b = rw (equal (o .posted) pre-stands, agrees _ _ o (b .0) (b .1))
+  leaf-shown Var o b = rw (equal (o .posted) pre-stands, shows _ _ o (b .0) (b .1))
   leaf-shown Int o b = rw (equal (o .posted) pre-stands, typed-as _ o)
   leaf-shown Newtid o b = rw (equal (o .posted) pre-stands, typed-as _ o)
-  leaf-shown Newlock o b = rw (sum (o .posted) (load-stands _ o) pre-stands, typed-as _ o)
+  leaf-shown Newlock o b = rw (sum (o .posted) (out-stands _ o) pre-stands, typed-as _ o)
   leaf-shown Newsem o b = rw (equal (o .posted) pre-stands, typed-as _ o)
 
   module _ (e₁ : Expr) (f : Part w S (s .type1) (s .post1) e₁) where
@@ -127,11 +140,11 @@ module _ (w : List ℕ) (S : Split) (steps : List Step) (H : HoldsSplit w S) (R 
           shares _ _ o f,
         )
     unary-shown Freelock o =
-        rw (is-sum (f .posted) (load-stands _ f) (o .posted), typed-as _ o, typed-as _ f)
+        rw (is-sum (f .posted) (in-stands _ f) (o .posted), typed-as _ o, typed-as _ f)
     unary-shown Lock o =
-        rw (is-sum (f .posted) (load-stands _ f) (o .posted), typed-as _ o, typed-as _ f)
+        rw (is-sum (f .posted) (in-stands _ f) (o .posted), typed-as _ o, typed-as _ f)
     unary-shown Unlock o =
-        rw (sum (o .posted) (load-stands _ f) (f .posted), typed-as _ o, typed-as _ f)
+        rw (sum (o .posted) (out-stands _ f) (f .posted), typed-as _ o, typed-as _ f)
     unary-shown Post o =
         rw (sum (o .posted) (load-stands _ f) (f .posted), typed-as _ o, typed-as _ f)
     unary-shown Wait o =

@@ -4,21 +4,24 @@
 use mathlib.Core.Path.{_≡_, refl, sym, ap, _∙_}
 use mathlib.Core.Logic.{inr}
 use mathlib.Core.List.{List, []}
-use Prim.Native.Nat.{ℕ, suc, _+_, _<_, _≤_}
+use Prim.Native.Nat.{ℕ, zero, suc, _+_, _<_, _≤_}
 use native.Mathlib.Omega.{arith}
-use lib.ListN.{length}
-use lib.Seq.{getD-set-same}
-use Rattle.spec.specs.Reading.{Out, _>>=_}
+use native.Mathlib.Numerals.{add-one}
+use lib.ListN.{length, getD, drop, drop-of-length-le}
+use lib.Seq.{drop-cons, getD-set-same}
+use Rattle.spec.specs.Reading.{Out, _>>=_, demand}
 use Rattle.spec.specs.Expression.{Step, Expr, leaf, unary, binary, size}
 use Rattle.spec.specs.Program.{Program}
-use Rattle.spec.specs.Split.{Map, Row, Split}
+use Rattle.spec.specs.Split.{Map, Row, Split, typeAt}
 use Rattle.spec.specs.Conditions.{Env, lineOf, startMap, type, post, start}
 use Rattle.spec.specs.Sites.{preOfPart, preOfSecond, bind, sites, claims}
-use Rattle.spec.specs.Verdict.{startAtMostOne, ruled, typed}
+use Rattle.spec.specs.Verdict.{takesEnough, allTakeEnough, locksTakeEnough, startAtMostOne, ruled, typed}
 use Rattle.spec.specs.Ranges.{InRange}
 use Rattle.spec.specs.declared.MapNumber.{MapNumber}
 use Rattle.spec.specs.declared.Purpose.{Purpose}
 use Rattle.spec.specs.declared.Purpose.the-variants.{Check, Fill}
+use Rattle.spec.specs.declared.Refusal.the-variants.{LockTakesLess}
+use Rattle.spec.specs.declared.TypeLine.the-variants.{Int}
 use Rattle.spec.specs.declared.UnaryWord.{UnaryWord}
 use Rattle.spec.specs.declared.BinaryWord.{BinaryWord}
 use Rattle.spec.proofs.Listing.{prefix-length, size-positive}
@@ -31,9 +34,10 @@ use Rattle.workspace.proofs.Region.{changed-nothing, changed-store, changed-the
 use Rattle.workspace.proofs.Shown.{map-number, Stands, stands-kept, map-stands, row-at}
 use Rattle.workspace.proofs.Expression.{Here, codes, here-kept, here-line, here-part, here-first, here-second, varsSecond}
 use Rattle.rules.specs.Outcome.{both}
-use Rattle.rules.specs.Walk.{cell, startOutcome, stepOutcome, counted, passOn, walk, atRoot}
+use Rattle.rules.specs.Walk.{cell, lockOutcome, locksOutcome, startOutcome, stepOutcome, counted, passOn, walk, atRoot}
 use Rattle.rules.specs.Contract.{ruledFor}
 use Rattle.rules.proofs.Judged.{both-met, both-assoc}
+use Rattle.rules.proofs.Agreement.{takes-enough-shown}
 use Rattle.rules.proofs.Walking.{put-before, put-at, put-other}
 use Rattle.rules.proofs.Claims.{firstAsked, claims-first, claims-one, claims-append}
 use Rattle.rules.proofs.Asked.{asked}
@@ -226,6 +230,25 @@ module _ (w : List ℕ) (steps denominator locations start : ℕ) (P : Program) 
   start-named =
       rw (map-number (H .startGiven)) (map-stands w S (P .steps) (H .split) (H .inRange) (S .header .start) (H .inRange .start))
 
+  -- 44
+  types-left : (t n : ℕ) → t + n ≡ length (S .types) → locksOutcome w locations t n ≡ allTakeEnough S (t + 2) (drop t (S .types))
+  unfolding locksOutcome lockOutcome allTakeEnough both typeAt
+  types-left t zero all = rw (drop-of-length-le (S .types) {i = t} (omega (arith, all)))
+  types-left t (suc n) all =
+      let asked = demand (takesEnough S (getD (S .types) t Int)) (LockTakesLess (t + 2)) in
+      let next : t + 1 + 2 ≡ t + 2 + 1 = omega arith in
+      ap (λ o. both o (locksOutcome w locations (t + 1) n)) (line-shown t (omega (arith, all)))
+      ∙ ap (both asked) (types-left (t + 1) n (omega (arith, all)) ∙ ap (λ k. allTakeEnough S k (drop (t + 1) (S .types))) next)
+      ∙ ap (λ k. both asked (allTakeEnough S (t + 2 + 1) (drop k (S .types)))) (add-one t)
+      ∙ sym (ap (allTakeEnough S (t + 2)) (drop-cons (S .types) t Int (omega (arith, all))))
+    where
+      line-shown : (t : ℕ) → t < length (S .types) → lockOutcome w locations t ≡ demand (takesEnough S (getD (S .types) t Int)) (LockTakesLess (t + 2))
+      line-shown t h = ap (λ b. demand b (LockTakesLess (t + 2))) (takes-enough-shown w S (P .steps) (H .split) (H .inRange) locations (H .locationsGiven) (record { 0 = t }) h)
+
+  pub locks-shown : (types : ℕ) → types ≡ S .header .types → locksOutcome w locations 0 types ≡ locksTakeEnough S
+  unfolding locksTakeEnough
+  locks-shown types counted = types-left 0 types (omega (arith, counted, H .inRange .typesCounted))
+
   -- 30
   pub start-shown : startOutcome w denominator locations (record { 0 = start }) ≡ startAtMostOne P S
   unfolding startOutcome startAtMostOne
@@ -262,8 +285,10 @@ module _ (w : List ℕ) (steps denominator locations start : ℕ) (P : Program) 
         ∙ both-met (firstAsked purpose (claims S (sites S [] (startMap S) (P .root))))
         ∙ claims-ruled purpose P S)
 
-    -- 30 to 33
-    pub sheets-shown : both (startOutcome w denominator locations (record { 0 = start })) (walk purpose locations denominator (atRoot w (record { 0 = start })) 0 steps)
-        ≡ (startAtMostOne P S >>= λ whole. ruledFor purpose P S)
+    -- 44, then 30 to 33
+    pub sheets-shown : (types : ℕ) → types ≡ S .header .types
+        → both (locksOutcome w locations 0 types)
+        (both (startOutcome w denominator locations (record { 0 = start })) (walk purpose locations denominator (atRoot w (record { 0 = start })) 0 steps))
+        ≡ (locksTakeEnough S >>= λ enough. startAtMostOne P S >>= λ whole. ruledFor purpose P S)
     unfolding both
-    sheets-shown = rw (start-shown, steps-shown)
+    sheets-shown types counted = rw (locks-shown types counted, start-shown, steps-shown)

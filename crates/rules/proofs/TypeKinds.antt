@@ -16,7 +16,7 @@ pub not-int : (t : TypeLine) → OneOf (1 ∷ 2 ∷ 3 ∷ 4 ∷ []) (tagOf kind.
 unfolding isInt
 not-int Int h = absurd (miss (1 ∷ 2 ∷ 3 ∷ 4 ∷ []) 0 tt h)
 not-int (Ref p c) h = refl
-not-int (Lock k) h = refl
+not-int (Lock i o) h = refl
 not-int (Tid k) h = refl
 not-int (Sem k) h = refl
 
@@ -24,7 +24,7 @@ pub not-ref : (t : TypeLine) → OneOf (0 ∷ 2 ∷ 3 ∷ 4 ∷ []) (tagOf kind.
 unfolding isRef
 not-ref Int h = refl
 not-ref (Ref p c) h = absurd (miss (0 ∷ 2 ∷ 3 ∷ 4 ∷ []) 1 tt h)
-not-ref (Lock k) h = refl
+not-ref (Lock i o) h = refl
 not-ref (Tid k) h = refl
 not-ref (Sem k) h = refl
 
@@ -32,7 +32,7 @@ pub not-lock : (t : TypeLine) → OneOf (0 ∷ 1 ∷ 3 ∷ 4 ∷ []) (tagOf kind
 unfolding isLock
 not-lock Int h = refl
 not-lock (Ref p c) h = refl
-not-lock (Lock k) h = absurd (miss (0 ∷ 1 ∷ 3 ∷ 4 ∷ []) 2 tt h)
+not-lock (Lock i o) h = absurd (miss (0 ∷ 1 ∷ 3 ∷ 4 ∷ []) 2 tt h)
 not-lock (Tid k) h = refl
 not-lock (Sem k) h = refl
 
@@ -40,7 +40,7 @@ pub not-tid : (t : TypeLine) → OneOf (0 ∷ 1 ∷ 2 ∷ 4 ∷ []) (tagOf kind.
 unfolding isTid
 not-tid Int h = refl
 not-tid (Ref p c) h = refl
-not-tid (Lock k) h = refl
+not-tid (Lock i o) h = refl
 not-tid (Tid k) h = absurd (miss (0 ∷ 1 ∷ 2 ∷ 4 ∷ []) 3 tt h)
 not-tid (Sem k) h = refl
 
@@ -48,7 +48,7 @@ pub not-sem : (t : TypeLine) → OneOf (0 ∷ 1 ∷ 2 ∷ 3 ∷ []) (tagOf kind.
 unfolding isSem
 not-sem Int h = refl
 not-sem (Ref p c) h = refl
-not-sem (Lock k) h = refl
+not-sem (Lock i o) h = refl
 not-sem (Tid k) h = refl
 not-sem (Sem k) h = absurd (miss (0 ∷ 1 ∷ 2 ∷ 3 ∷ []) 4 tt h)
 
@@ -57,6 +57,6 @@ pub not-contains : (w : List ℕ) (n : ℕ) (t : TypeLine) (u : TypeNumber) → 
 unfolding containsIn
 not-contains w n Int u h = refl
 not-contains w n (Ref p c) u h = absurd (miss (0 ∷ 2 ∷ 3 ∷ 4 ∷ []) 1 tt h)
-not-contains w n (Lock k) u h = refl
+not-contains w n (Lock i o) u h = refl
 not-contains w n (Tid k) u h = refl
 not-contains w n (Sem k) u h = refl

@@ -4,7 +4,7 @@ use mathlib.Core.Bool.{Bool, false}
 use mathlib.Core.List.{List, [], _∷_}
 use Prim.Native.Nat.{ℕ}
 use lib.Dec.{leb}
-use Rattle.spec.specs.Conditions.{Condition, T, F, A, isInt, isRef, isLock, isTid, isSem, place, load}
+use Rattle.spec.specs.Conditions.{Condition, T, F, A, isInt, isRef, isLock, isTid, isSem, place, load, inLoad, outLoad}
 use Rattle.spec.specs.declared.Location.{Location}
 use Rattle.spec.specs.declared.MapNumber.{MapNumber}
 use Rattle.spec.specs.declared.TypeNumber.{TypeNumber}
@@ -14,7 +14,7 @@ use Rattle.workspace.specs.Layout.{mapCell}
 use Rattle.workspace.specs.declared.Rule.{Rule}
 use Rattle.workspace.specs.declared.Rule.the-variants.{VAR, INT, LET, IF, WHILE, NEWT, SPAWN, JOIN, REF, WRITE, READ, NEWL, FREEL, LCK, ULCK, NEWSEM, POST, WAIT}
 use Rattle.rules.specs.Relation.{failsFrom}
-use Rattle.rules.specs.Agreement.{agreeIn}
+use Rattle.rules.specs.Agreement.{agreeIn, mayShowIn}
 use Rattle.rules.specs.declared.Relation.{Relation}
 use Rattle.rules.specs.declared.Relation.the-variants.{Equal, AtLeast, Sum}
 use Rattle.rules.specs.declared.View.{View}
@@ -23,7 +23,7 @@ use Rattle.rules.specs.declared.View.{View}
 unfoldable pub containsIn : (w : List ℕ) (n : ℕ) → TypeLine → TypeNumber → Bool
 containsIn w n type-line.Int t = false
 containsIn w n (type-line.Ref p c) t = agreeIn w n c t
-containsIn w n (type-line.Lock k) t = false
+containsIn w n (type-line.Lock i o) t = false
 containsIn w n (type-line.Tid k) t = false
 containsIn w n (type-line.Sem k) t = false
 
@@ -50,7 +50,7 @@ TableRow = (w : List ℕ) → View → (kind kind₁ : TypeLine) → List Condit
 
 abbrev pub varRow : TableRow
 varRow w s kind kind₁ =
-    T (agreeIn w (s .locations) (s .own) (s .bound))
+    T (mayShowIn w (s .locations) (s .own) (s .bound))
     ∷ flows w s (Equal (s .post) (s .pre))
     ∷ []
 
@@ -124,17 +124,17 @@ readRow w s kind kind₁ =
 abbrev pub newlRow : TableRow
 newlRow w s kind kind₁ =
     T (isLock kind)
-    ∷ flows w s (Sum (s .post) (load kind) (s .pre))
+    ∷ flows w s (Sum (s .post) (outLoad kind) (s .pre))
     ∷ []
 
 abbrev pub freelRow : TableRow
-freelRow w s kind kind₁ = loaded w s kind (isLock kind₁) (s .post1) (load kind₁) (s .post)
+freelRow w s kind kind₁ = loaded w s kind (isLock kind₁) (s .post1) (inLoad kind₁) (s .post)
 
 abbrev pub lckRow : TableRow
-lckRow w s kind kind₁ = loaded w s kind (isLock kind₁) (s .post1) (load kind₁) (s .post)
+lckRow w s kind kind₁ = loaded w s kind (isLock kind₁) (s .post1) (inLoad kind₁) (s .post)
 
 abbrev pub ulckRow : TableRow
-ulckRow w s kind kind₁ = loaded w s kind (isLock kind₁) (s .post) (load kind₁) (s .post1)
+ulckRow w s kind kind₁ = loaded w s kind (isLock kind₁) (s .post) (outLoad kind₁) (s .post1)
 
 -- section 3.1.4
 abbrev pub newsemRow : TableRow

@@ -1,14 +1,15 @@
--- The steps in line order: what the conditions of each look at, and the map before each, which its step hands down.
+-- The lock lines, the start, then the steps in line order: what the conditions of each look at, and the map before each, which its step hands down.
 use mathlib.Core.List.{List}
 use Prim.Native.Nat.{ℕ, zero, suc, _+_}
 use lib.Dec.{eqb, ltb}
 use lib.ListN.{getD, set}
 use Rattle.spec.specs.Choice.{if_then_else_}
-use Rattle.spec.specs.Reading.{Out, stop, on}
+use Rattle.spec.specs.Reading.{Out, stop, on, demand}
 use Rattle.spec.specs.Maps.{overWhole}
 use Rattle.spec.specs.Verdict.{refuseOver, returned}
 use Rattle.spec.specs.declared.MapNumber.{MapNumber}
 use Rattle.spec.specs.declared.Answer.the-variants.{Refuse}
+use Rattle.spec.specs.declared.Refusal.the-variants.{LockTakesLess}
 use Rattle.spec.specs.declared.Purpose.{Purpose}
 use Rattle.spec.specs.declared.Purpose.the-variants.{Check, Fill}
 use Rattle.spec.specs.declared.Word.{Word}
@@ -19,8 +20,18 @@ use Rattle.spec.specs.declared.BinaryWord.{BinaryWord}
 use Rattle.spec.specs.declared.BinaryWord.the-variants.{Let, If, Spawn, Write}
 use Rattle.workspace.specs.Layout.{wordsAt, endsAt, letsAt, rowTypesAt, postsAt, startsAt, presAt, ruleOf, wordOf, typeAt, mapIn}
 use Rattle.rules.specs.Outcome.{both, judged}
+use Rattle.rules.specs.Agreement.{takesEnoughIn}
 use Rattle.rules.specs.Table.{ruleRow}
 use Rattle.rules.specs.declared.View.{View}
+
+-- 44, at the line of type t: types begin at line 2
+unfoldable pub lockOutcome : (w : List ℕ) → (locations t : ℕ) → Out (Unit {0})
+lockOutcome w locations t = demand (takesEnoughIn w locations (typeAt w (record { 0 = t }))) (LockTakesLess (t + 2))
+
+-- n types from type t on
+unfoldable pub locksOutcome : (w : List ℕ) → (locations t n : ℕ) → Out (Unit {0})
+locksOutcome w locations t zero = on tt
+locksOutcome w locations t (suc n) = both (lockOutcome w locations t) (locksOutcome w locations (t + 1) n)
 
 -- 30, at the root's line: the lowest location at which the start is over the whole
 unfoldable pub startOutcome : (w : List ℕ) → (denominator locations : ℕ) → (start : MapNumber) → Out (Unit {0})

@@ -16,7 +16,7 @@ ghost use Rattle.spec.specs.Sites.{judge};
 ghost use Rattle.rules.specs.declared.Relation.the-variants.{Equal, AtLeast, Sum};
 ghost use Rattle.rules.specs.Outcome.{outcome, both};
 ghost use Rattle.rules.specs.Relation.{holdsAt, failsFrom};
-ghost use Rattle.rules.specs.Agreement.{sameNumbersIn, linesAgree, agreeIn};
+ghost use Rattle.rules.specs.Agreement.{sameNumbersIn, linesAgree, agreeIn, notBelowIn, mayShowIn};
 ghost use Rattle.rules.specs.Table.{hasAtLeast};
 
 // A number of the work space, so that two of them can be added.
@@ -158,11 +158,14 @@ fn agree_plain(
             Ruling::Met
         }
         TypeLine::Ref(_, _) => type_false(line, condition),
-        TypeLine::Lock(k) => {
-            let TypeLine::Lock(h) = other else {
+        TypeLine::Lock(i, o) => {
+            let TypeLine::Lock(j, p) = other else {
                 return type_false(line, condition);
             };
-            same_maps(line, condition, work, locations, k, h)
+            also(
+                same_maps(line, condition, work, locations, i, j),
+                same_maps(line, condition, work, locations, o, p),
+            )
         }
         TypeLine::Tid(k) => {
             let TypeLine::Tid(h) = other else {
@@ -206,6 +209,47 @@ pub(crate) fn agree(
         return type_false(line, condition);
     }
     agree(line, condition, work, locations, c, d)
+}
+
+// A map is nowhere below another, as a condition on types.
+fn not_below(
+    line: u32,
+    condition: u32,
+    work: &[u32],
+    locations: u32,
+    a: MapNumber,
+    b: MapNumber,
+) -> Ruling
+    ensures { λ r. ⌜ outcome r ≡ judge line condition (T (notBelowIn (now (work .entry)) locations a b)) ⌝ }
+{
+    let Ruling::Met = at_least(line, condition, work, locations, a, b) else {
+        return type_false(line, condition);
+    };
+    Ruling::Met
+}
+
+// What a var line may show of the type of its let's value: a lock type whose in is nowhere above and whose out is nowhere below; else
+// a type that agrees.
+pub(crate) fn may_show(
+    line: u32,
+    condition: u32,
+    work: &[u32],
+    locations: u32,
+    shown: TypeNumber,
+    own: TypeNumber,
+) -> Ruling
+    ensures { λ r. ⌜ outcome r ≡ judge line condition (T (mayShowIn (now (work .entry)) locations shown own)) ⌝ }
+{
+    let TypeLine::Lock(i, o) = type_at(work, shown) else {
+        return agree(line, condition, work, locations, shown, own);
+    };
+    let TypeLine::Lock(j, p) = type_at(work, own) else {
+        return agree(line, condition, work, locations, shown, own);
+    };
+    also(
+        not_below(line, condition, work, locations, j, i),
+        not_below(line, condition, work, locations, o, p),
+    )
 }
 
 // A map has at least so much of a location.

@@ -1,14 +1,18 @@
-// The conditions of Figure 5, judged over what the work space holds of a program and its split, and before them the start.
+// The conditions of Figure 5, judged over what the work space holds of a program and its split, and before them its lock lines and
+// the start.
 mod conditions;
+mod locks;
 mod steps;
 mod words;
 
+use locks::check_locks;
 use spec::Location;
 use spec::MapNumber;
 use spec::Purpose;
 use spec::Refusal;
 use spec::TypeNumber;
 use steps::check_steps;
+use workspace::Header;
 use workspace::index;
 use workspace::map_cell;
 ghost use mathlib.Core.Path.{_≡_};
@@ -68,23 +72,23 @@ fn check_start(work: &[u32], denominator: u32, locations: u32, start: MapNumber)
     Ruling::Met
 }
 
-// The first reason of 30 to 33 for the sheets that the work space holds, when filling of 30 and 31; `start` is the number of the
-// map before the root. It notes the maps before steps there, and changes nothing else.
-pub fn rule(
-    work: &mut [u32],
-    purpose: Purpose,
-    steps: usize,
-    denominator: u32,
-    locations: usize,
-    start: u32,
-) -> Ruling
-    requires { ⌜ (length (now work) ≡ 16384) × (steps ≤ 256) × (locations ≤ 16) ⌝ }
-    ensures { λ r. ⌜ Ruled (now (work .entry)) purpose steps denominator locations start r (now (work .exit)) ⌝ }
+// The first reason of 44 and 30 to 33 for the sheets that the work space holds, when filling of 44, 30 and 31. It notes the maps
+// before steps there, and changes nothing else.
+pub fn rule(work: &mut [u32], purpose: Purpose, steps: usize, header: Header) -> Ruling
+    requires { ⌜ (length (now work) ≡ 16384) × (steps ≤ 256) × (header .locations ≤ 16) × (header .types ≤ 64) ⌝ }
+    ensures { λ r. ⌜ Ruled (now (work .entry)) purpose steps header r (now (work .exit)) ⌝ }
 {
-    let n = locations as u32;
-    let first = check_start(work, denominator, n, MapNumber(start));
+    let denominator = header.denominator;
+    let start = header.start;
+    let n = header.locations as u32;
+    let types = header.types as u32;
+    let enough = check_locks(work, n, types);
+    let Ruling::Met = enough else {
+        return enough;
+    };
+    let first = check_start(work, denominator, n, start);
     let Ruling::Met = first else {
         return first;
     };
-    check_steps(work, purpose, steps as u32, denominator, n, MapNumber(start))
+    check_steps(work, purpose, steps as u32, denominator, n, start)
 }

@@ -6,6 +6,7 @@ use super::conditions::also;
 use super::conditions::at_least;
 use super::conditions::equal;
 use super::conditions::has;
+use super::conditions::may_show;
 use super::conditions::sum;
 use super::conditions::type_false;
 use spec::TypeLine;
@@ -14,12 +15,12 @@ ghost use mathlib.Core.Path.{_≡_};
 ghost use Rattle.rules.specs.Outcome.{outcome, judged};
 ghost use Rattle.rules.specs.Table.{varRow, intRow, letRow, ifRow, whileRow, newtRow, spawnRow, joinRow, refRow, writeRow, readRow, newlRow, freelRow, lckRow, ulckRow, newsemRow, postRow, waitRow, ruleRow};
 
-// VAR: 1 type is that of its let's e1; 2 post = pre.
+// VAR: 1 type is that of its let's e1, or for a lock a looser one; 2 post = pre.
 fn check_var(work: &[u32], s: View, kind: TypeLine, kind1: TypeLine) -> Ruling
     ensures { λ r. ⌜ outcome r ≡ judged (s .line) 1 (varRow (now (work .entry)) s kind kind1) ⌝ }
 {
     also(
-        agree(s.line, 1, work, s.locations, s.own, s.bound),
+        may_show(s.line, 1, work, s.locations, s.own, s.bound),
         equal(s.line, 2, work, s.locations, s.post, s.pre),
     )
 }
@@ -159,53 +160,53 @@ fn check_read(work: &[u32], s: View, kind: TypeLine, kind1: TypeLine) -> Ruling
     also(agree(s.line, 2, work, s.locations, content, s.own), access)
 }
 
-// NEWL: 1 a lock type; 2 post + K = pre.
+// NEWL: 1 a lock type; 2 post + out = pre.
 fn check_newl(work: &[u32], s: View, kind: TypeLine, kind1: TypeLine) -> Ruling
     ensures { λ r. ⌜ outcome r ≡ judged (s .line) 1 (newlRow (now (work .entry)) s kind kind1) ⌝ }
 {
-    let TypeLine::Lock(load) = kind else {
+    let TypeLine::Lock(_, out) = kind else {
         return type_false(s.line, 1);
     };
-    sum(s.line, 2, work, s.locations, s.post, load, s.pre)
+    sum(s.line, 2, work, s.locations, s.post, out, s.pre)
 }
 
-// FREEL: 1 type int; 2 part a lock; 3 post = post of part + K.
+// FREEL: 1 type int; 2 part a lock; 3 post = post of part + in.
 fn check_freel(work: &[u32], s: View, kind: TypeLine, kind1: TypeLine) -> Ruling
     ensures { λ r. ⌜ outcome r ≡ judged (s .line) 1 (freelRow (now (work .entry)) s kind kind1) ⌝ }
 {
     let TypeLine::Int = kind else {
         return type_false(s.line, 1);
     };
-    let TypeLine::Lock(load) = kind1 else {
+    let TypeLine::Lock(load, _) = kind1 else {
         return type_false(s.line, 2);
     };
     sum(s.line, 3, work, s.locations, s.post1, load, s.post)
 }
 
-// LCK: 1 type int; 2 part a lock; 3 post = post of part + K.
+// LCK: 1 type int; 2 part a lock; 3 post = post of part + in.
 fn check_lck(work: &[u32], s: View, kind: TypeLine, kind1: TypeLine) -> Ruling
     ensures { λ r. ⌜ outcome r ≡ judged (s .line) 1 (lckRow (now (work .entry)) s kind kind1) ⌝ }
 {
     let TypeLine::Int = kind else {
         return type_false(s.line, 1);
     };
-    let TypeLine::Lock(load) = kind1 else {
+    let TypeLine::Lock(load, _) = kind1 else {
         return type_false(s.line, 2);
     };
     sum(s.line, 3, work, s.locations, s.post1, load, s.post)
 }
 
-// ULCK: 1 type int; 2 part a lock; 3 post + K = post of part.
+// ULCK: 1 type int; 2 part a lock; 3 post + out = post of part.
 fn check_ulck(work: &[u32], s: View, kind: TypeLine, kind1: TypeLine) -> Ruling
     ensures { λ r. ⌜ outcome r ≡ judged (s .line) 1 (ulckRow (now (work .entry)) s kind kind1) ⌝ }
 {
     let TypeLine::Int = kind else {
         return type_false(s.line, 1);
     };
-    let TypeLine::Lock(load) = kind1 else {
+    let TypeLine::Lock(_, out) = kind1 else {
         return type_false(s.line, 2);
     };
-    sum(s.line, 3, work, s.locations, s.post, load, s.post1)
+    sum(s.line, 3, work, s.locations, s.post, out, s.post1)
 }
 
 // NEWSEM: 1 a sem type; 2 post = pre.

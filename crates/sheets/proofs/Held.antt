@@ -13,8 +13,8 @@ use Rattle.workspace.specs.Layout.{rowTypesAt, postsAt, startsAt, kindsAt, firs
 use Rattle.workspace.specs.Holds.{startNumber}
 use Rattle.workspace.proofs.Region.{column, region-part}
 use Rattle.workspace.proofs.Codes.{type-of-numbers}
-use Rattle.split.specs.Lines.{headerTold}
-use Rattle.split.specs.declared.Header.{Header as HeaderRead}
+use Rattle.workspace.specs.Sheets.{headerTold}
+use Rattle.workspace.specs.declared.Header.{Header as HeaderRead}
 use Rattle.sheets.specs.Stored.{inOrder, typeIn, mapIn, startIn, rowIn, splitIn}
 use Rattle.sheets.specs.Contract.{HoldsSheet}
 

@@ -9,7 +9,8 @@ use lib.Seq.{length-take-le}
 use borrow.Author.Tests.{eq-eqb, ne-eqb}
 use Rattle.spec.specs.Text.{bytes, Field}
 use Rattle.spec.specs.Split.{Header}
-use Rattle.spec.specs.declared.Heading.the-variants.{C, C2}
+use Rattle.spec.specs.declared.Heading.{Heading}
+use Rattle.spec.specs.declared.Heading.the-variants.{C, C2, C3}
 use Rattle.spec.specs.declared.Purpose.the-variants.{Check}
 use Rattle.spec.specs.declared.MapNumber.{MapNumber}
 use Rattle.spec.specs.declared.TypeNumber.{TypeNumber}
@@ -17,10 +18,10 @@ use Rattle.spec.specs.declared.Location.{Location}
 use Rattle.spec.specs.declared.TypeLine.{TypeLine}
 use Rattle.spec.specs.declared.TypeLine.the-variants.{Int, Ref, Lock, Tid, Sem}
 use Rattle.workspace.specs.Layout.{rowTypesAt, postsAt, startsAt, mapsAt, stride, emptyMap}
-use Rattle.split.specs.Lines.{headerTold}
-use Rattle.split.specs.declared.Header.{Header as HeaderRead}
-use Rattle.writer.specs.Text.{digit, digitsWithin, decimal, line, text}
-use Rattle.writer.specs.Sheet.{headingName, headerNumbers, headerFields, typeFields, mapFields, postShown, startShown, rowFields, splitLines, written}
+use Rattle.workspace.specs.Sheets.{headerTold}
+use Rattle.workspace.specs.declared.Header.{Header as HeaderRead}
+use Rattle.writer.specs.Text.{decimal, line, text}
+use Rattle.writer.specs.Sheet.{headingName, headerNumbers, headerFields, outNumber, typeFields, mapFields, postShown, startShown, rowFields, splitLines, written}
 use Rattle.writer.proofs.Lines.{text-append}
 use Rattle.sheets.specs.Stored.{inOrder, typeIn, mapIn, startIn, rowIn, splitIn}
 
@@ -67,26 +68,32 @@ module _ (h : HeaderRead) where
   unfolding bytes line text headerTold headingName headerNumbers headerFields
   started-header-parts e = rw e
 
+  pub in-out-header-parts : h .heading ≡ C3 → text (headerFields (headerTold h) ∷ [])
+      ≡ bytes "C3," ++ line (map decimal (h .denominator ∷ h .locations ∷ h .types ∷ h .maps ∷ h .start .0 ∷ [])) []
+  unfolding bytes line text headerTold headingName headerNumbers headerFields
+  in-out-header-parts e = rw e
+
 -- ------------------------------------------------------------------ type lines
 
-module _ {τ : TypeLine} where
-  pub int-parts : τ ≡ Int → text (typeFields τ ∷ []) ≡ bytes "int,0,0\n"
-  unfolding bytes digit digitsWithin decimal line text typeFields
+module _ (heading : Heading) {τ : TypeLine} where
+  pub int-parts : τ ≡ Int → text (typeFields heading τ ∷ []) ≡ bytes "int," ++ line (map decimal (0 ∷ 0 ∷ [])) []
+  unfolding bytes line text typeFields
   int-parts e = rw e
 
-  pub ref-parts : {p : Location} {t : TypeNumber} → τ ≡ Ref p t → text (typeFields τ ∷ []) ≡ bytes "ref," ++ line (map decimal (p .0 ∷ t .0 ∷ [])) []
+  pub ref-parts : {p : Location} {t : TypeNumber} → τ ≡ Ref p t → text (typeFields heading τ ∷ []) ≡ bytes "ref," ++ line (map decimal (p .0 ∷ t .0 ∷ [])) []
   unfolding bytes line text typeFields
   ref-parts e = rw e
 
-  pub lock-parts : {k : MapNumber} → τ ≡ Lock k → text (typeFields τ ∷ []) ≡ bytes "lock," ++ line (map decimal (k .0 ∷ 0 ∷ [])) []
+  pub lock-parts : {i o : MapNumber} {second : ℕ} → τ ≡ Lock i o → second ≡ outNumber heading o
+      → text (typeFields heading τ ∷ []) ≡ bytes "lock," ++ line (map decimal (i .0 ∷ second ∷ [])) []
   unfolding bytes line text typeFields
-  lock-parts e = rw e
+  lock-parts e s = rw (e, s)
 
-  pub tid-parts : {k : MapNumber} → τ ≡ Tid k → text (typeFields τ ∷ []) ≡ bytes "tid," ++ line (map decimal (k .0 ∷ 0 ∷ [])) []
+  pub tid-parts : {k : MapNumber} → τ ≡ Tid k → text (typeFields heading τ ∷ []) ≡ bytes "tid," ++ line (map decimal (k .0 ∷ 0 ∷ [])) []
   unfolding bytes line text typeFields
   tid-parts e = rw e
 
-  pub sem-parts : {k : MapNumber} → τ ≡ Sem k → text (typeFields τ ∷ []) ≡ bytes "sem," ++ line (map decimal (k .0 ∷ 0 ∷ [])) []
+  pub sem-parts : {k : MapNumber} → τ ≡ Sem k → text (typeFields heading τ ∷ []) ≡ bytes "sem," ++ line (map decimal (k .0 ∷ 0 ∷ [])) []
   unfolding bytes line text typeFields
   sem-parts e = rw e
 
@@ -105,11 +112,11 @@ module _ (w : List ℕ) (i : ℕ) {t m s : ℕ} (typed : t ≡ getD w (rowTypesA
 -- ------------------------------------------------------------------ the sheet
 
 pub sheet-parts : (H : Header) (steps : ℕ) (w : List ℕ) → written (splitIn H steps w)
-    ≡ text (headerFields H ∷ []) ++ (text (map typeFields (inOrder (typeIn w) 0 (H .types)))
+    ≡ text (headerFields H ∷ []) ++ (text (map (typeFields (H .heading)) (inOrder (typeIn w) 0 (H .types)))
     ++ (text (map mapFields (inOrder (mapIn (H .locations) w) 0 (H .maps))) ++ text (map (rowFields Check) (inOrder (rowIn w) 0 steps))))
 unfolding written splitLines splitIn
 sheet-parts H steps w =
-    let T = map typeFields (inOrder (typeIn w) 0 (H .types)) in
+    let T = map (typeFields (H .heading)) (inOrder (typeIn w) 0 (H .types)) in
     let M = map mapFields (inOrder (mapIn (H .locations) w) 0 (H .maps)) in
     let R = map (rowFields Check) (inOrder (rowIn w) 0 steps) in
     text-append (headerFields H ∷ []) (T ++ (M ++ R))

@@ -7,8 +7,8 @@ use Rattle.spec.specs.Expression.{Step}
 use Rattle.spec.specs.Split.{Split}
 use Rattle.spec.specs.Ranges.{InRange}
 use Rattle.workspace.specs.Holds.{HoldsSplit}
-use Rattle.split.specs.Lines.{headerTold}
-use Rattle.split.specs.declared.Header.{Header}
+use Rattle.workspace.specs.Sheets.{headerTold}
+use Rattle.workspace.specs.declared.Header.{Header}
 use Rattle.writer.specs.Buffer.{Written}
 use Rattle.writer.specs.Sheet.{written}
 

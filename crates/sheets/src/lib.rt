@@ -3,8 +3,8 @@ use spec::Heading;
 use spec::MapNumber;
 use spec::TypeLine;
 use spec::TypeNumber;
-use split::Header;
 use workspace::EMPTY_MAP;
+use workspace::Header;
 use workspace::MAPS;
 use workspace::POSTS;
 use workspace::ROW_TYPES;
@@ -15,13 +15,14 @@ use writer::write_byte;
 use writer::write_bytes;
 use writer::write_field;
 use writer::write_numbers;
+ghost use mathlib.Core.Path.{_≡_};
 ghost use mathlib.Core.List.{[], _∷_, _++_, map};
 ghost use Prim.Native.Nat.{_*_, _+_, _≤_, _<_};
 ghost use lib.ListN.{length};
-ghost use Rattle.split.specs.Lines.{headerTold};
+ghost use Rattle.workspace.specs.Sheets.{headerTold};
 ghost use Rattle.writer.specs.Text.{decimal, line, text};
 ghost use Rattle.writer.specs.Buffer.{Written};
-ghost use Rattle.writer.specs.Sheet.{headerFields, typeFields, mapFields, rowFields};
+ghost use Rattle.writer.specs.Sheet.{headerFields, outNumber, typeFields, mapFields, rowFields};
 ghost use Rattle.spec.specs.declared.Purpose.the-variants.{Check};
 ghost use Rattle.sheets.specs.Stored.{inOrder, typeIn, mapIn, rowIn};
 ghost use Rattle.sheets.specs.Contract.{HoldsSome, SheetWritten};
@@ -48,44 +49,69 @@ fn write_header(buffer: &mut [u8], header: Header) -> usize
                 &[header.denominator, locations, types, maps, header.start.0],
             )
         }
+        Heading::C3 => {
+            let named = write_bytes(buffer, 0, b"C3,");
+            write_numbers(
+                buffer,
+                named,
+                &[header.denominator, locations, types, maps, header.start.0],
+            )
+        }
     }
 }
 
-// Writes the line of a type that has a load: its word, a comma, the load's map and 0.
-fn write_load(buffer: &mut [u8], at: usize, word: &[u8], load: MapNumber) -> usize
-    ensures { λ r. ⌜ Written (now (buffer .entry)) (now (buffer .exit)) at (now (word .entry) ++ line (map decimal (load .0 ∷ 0 ∷ [])) []) r ⌝ }
+// The third number of a lock line: its out, where the heading has it.
+fn out_number(heading: Heading, out: MapNumber) -> u32
+    ensures { λ r. ⌜ r ≡ outNumber heading out ⌝ }
+{
+    match heading {
+        Heading::C => 0,
+        Heading::C2 => 0,
+        Heading::C3 => out.0,
+    }
+}
+
+// Writes a type line by its parts: its word with the comma, and two numbers.
+fn write_word(buffer: &mut [u8], at: usize, word: &[u8], first: u32, second: u32) -> usize
+    ensures { λ r. ⌜ Written (now (buffer .entry)) (now (buffer .exit)) at (now (word .entry) ++ line (map decimal (first ∷ second ∷ [])) []) r ⌝ }
 {
     let named = write_bytes(buffer, at, word);
-    write_numbers(buffer, named, &[load.0, 0])
+    write_numbers(buffer, named, &[first, second])
 }
 
-// Writes a type line.
-fn write_type(buffer: &mut [u8], at: usize, of: TypeLine) -> usize
-    ensures { λ r. ⌜ Written (now (buffer .entry)) (now (buffer .exit)) at (text (typeFields of ∷ [])) r ⌝ }
+// Writes a type line of a sheet with this heading.
+fn write_type(buffer: &mut [u8], at: usize, heading: Heading, of: TypeLine) -> usize
+    ensures { λ r. ⌜ Written (now (buffer .entry)) (now (buffer .exit)) at (text (typeFields heading of ∷ [])) r ⌝ }
 {
     match of {
-        TypeLine::Int => write_bytes(buffer, at, b"int,0,0\n"),
-        TypeLine::Ref(place, content) => {
-            let named = write_bytes(buffer, at, b"ref,");
-            write_numbers(buffer, named, &[place.0, content.0])
+        TypeLine::Int => write_word(buffer, at, b"int,", 0, 0),
+        TypeLine::Ref(place, content) => write_word(buffer, at, b"ref,", place.0, content.0),
+        TypeLine::Lock(load, out) => {
+            let second = out_number(heading, out);
+            write_word(buffer, at, b"lock,", load.0, second)
         }
-        TypeLine::Lock(load) => write_load(buffer, at, b"lock,", load),
-        TypeLine::Tid(load) => write_load(buffer, at, b"tid,", load),
-        TypeLine::Sem(load) => write_load(buffer, at, b"sem,", load),
+        TypeLine::Tid(load) => write_word(buffer, at, b"tid,", load.0, 0),
+        TypeLine::Sem(load) => write_word(buffer, at, b"sem,", load.0, 0),
     }
 }
 
-// Writes the lines of so many types.
-fn write_types(buffer: &mut [u8], at: usize, work: &[u32], types: usize) -> usize
+// Writes the lines of so many types of a sheet with this heading.
+fn write_types(
+    buffer: &mut [u8],
+    at: usize,
+    work: &[u32],
+    heading: Heading,
+    types: usize,
+) -> usize
     requires { ⌜ types < 4294967296 ⌝ }
-    ensures { λ r. ⌜ Written (now (buffer .entry)) (now (buffer .exit)) at (text (map typeFields (inOrder (typeIn (now (work .entry))) 0 types))) r ⌝ }
+    ensures { λ r. ⌜ Written (now (buffer .entry)) (now (buffer .exit)) at (text (map (typeFields heading) (inOrder (typeIn (now (work .entry))) 0 types))) r ⌝ }
 {
     let mut to = at;
     let mut t = 0;
     while t < types {
         let number = t as u32;
         let of = type_at(work, TypeNumber(number));
-        to = write_type(buffer, to, of);
+        to = write_type(buffer, to, heading, of);
         t += 1;
     }
     to
@@ -144,7 +170,8 @@ pub fn write_sheet(buffer: &mut [u8], work: &[u32], header: Header, steps: usize
     ensures { λ r. ⌜ SheetWritten (now (work .entry)) header steps (now (buffer .entry)) (now (buffer .exit)) r ⌝ }
 {
     let headed = write_header(buffer, header);
-    let typed = write_types(buffer, headed, work, header.types);
+    let heading = header.heading;
+    let typed = write_types(buffer, headed, work, heading, header.types);
     let mapped = write_maps(buffer, typed, work, header.locations, header.maps);
     write_rows(buffer, mapped, work, steps)
 }

@@ -10,6 +10,7 @@ use Rattle.spec.specs.Conditions as conditions
 use Rattle.spec.specs.WellFormed.{UsedInside}
 use Rattle.spec.specs.Ranges.{InRange}
 use Rattle.spec.specs.Figure5 as own
+use Rattle.spec.specs.Accepted.{LocksTakeEnough}
 use Rattle.spec.specs.Maps.{share}
 use Rattle.spec.specs.declared.LeafWord.the-variants.{Newlock}
 use Rattle.spec.specs.declared.UnaryWord.the-variants.{Read, Unlock, Post}
@@ -18,20 +19,20 @@ use Rattle.calculus.specs.Capability.{_≥ᶜ_, _≈_⊕_}
 use Rattle.calculus.specs.Figure5.{_∣_∣_⊢_∶_∣_, VAR, INT, LET, IF, WHILE, NEWT, SPAWN, JOIN, REF, WRITE, READ, NEWL, FREEL, LCK, ULCK, NEWSEM, POST, WAIT}
 use Rattle.soundness.specs.Erasure.{erase}
 use Rattle.soundness.proofs.Capabilities.{cap, covers-cap, sum-cap}
-use Rattle.soundness.proofs.Types.{means, environment, agree-means, means-int, means-lock, means-tid, means-sem, means-ref, post-wide, start-wide, lock-wide, tid-wide, sem-wide, variable-typed}
+use Rattle.soundness.proofs.Types.{means, environment, agree-means, means-int, means-lock, means-tid, means-sem, means-ref, shown-means, post-wide, start-wide, lock-wide, tid-wide, sem-wide, variable-typed}
 
 -- the variables in scope
 abbrev pub variables : conditions.Env → List ℕ
 variables Γ = map (λ b. b .0) Γ
 
-module _ {steps : List Step} (S : Split) (R : InRange steps S) where
+module _ {steps : List Step} (S : Split) (R : InRange steps S) (L : LocksTakeEnough S) where
   -- Γ, Ψ ⊢ e : τ, Ψ′ with the trees and capabilities of the split
   abbrev pub Figure5 : conditions.Env → Map → Expr → Type 0
   Figure5 Γ Ψ e = S .header .denominator ∣ environment S Γ ∣ cap Ψ ⊢ erase e ∶ means S (type S e) ∣ cap (post S e)
 
   pub split-derivation-is-figure-5 : {Γ : conditions.Env} {Ψ : Map} {e : Expr} → own.Derives S Γ Ψ e → UsedInside (variables Γ) e → Figure5 Γ Ψ e
   unfolding erase kind share UsedInside
-  split-derivation-is-figure-5 {Γ} (own.VAR {v = v} t m) u = rw (agree-means S _ _ t, m) (VAR (variable-typed S R Γ v u))
+  split-derivation-is-figure-5 {Γ} (own.VAR {v = v} t m) u = rw m (VAR (variable-typed S R Γ v u) (shown-means S R _ _ t))
   split-derivation-is-figure-5 (own.INT t m) u = rw (means-int S R _ t, m) INT
   split-derivation-is-figure-5 (own.LET d₁ d₂ t m) u =
       rw (agree-means S _ _ t, m) (LET (split-derivation-is-figure-5 d₁ (u .0)) (split-derivation-is-figure-5 d₂ (u .1)))
@@ -57,22 +58,23 @@ module _ {steps : List Step} (S : Split) (R : InRange steps S) where
   split-derivation-is-figure-5 (own.READ {k = k} {v = v} {ρ = ρ} {c = c} {e₁ = e₁} d t a w m) u =
       rw m
       (READ (rw (means-ref S R _ ρ c (type S (unary Read k v e₁)) t a) at (split-derivation-is-figure-5 d u)) (rw m at w))
-  split-derivation-is-figure-5 (own.NEWL {k = k} {v = v} {K = K} t m) u =
+  split-derivation-is-figure-5 (own.NEWL {k = k} {v = v} {Kᵢ = Kᵢ} {Kₒ = Kₒ} t m) u =
       let e = leaf Newlock k v in
-      rw (means-lock S R _ K t) (NEWL (sum-cap (post S e) (mapAt S K) (post-wide S R e ∙ sym (lock-wide S R _ K t)) m))
-  split-derivation-is-figure-5 (own.FREEL {K = K} {e₁ = e₁} d t i m) u =
+      rw (means-lock S R _ Kᵢ Kₒ t)
+      (NEWL (covers-cap (L _ Kᵢ Kₒ t)) (sum-cap (post S e) (mapAt S Kₒ) (post-wide S R e ∙ sym (lock-wide S R _ Kᵢ Kₒ t .1)) m))
+  split-derivation-is-figure-5 (own.FREEL {Kᵢ = Kᵢ} {Kₒ = Kₒ} {e₁ = e₁} d t i m) u =
       rw (means-int S R _ i)
-      (FREEL (rw (means-lock S R _ K t) at (split-derivation-is-figure-5 d u))
-      (sum-cap (post S e₁) (mapAt S K) (post-wide S R e₁ ∙ sym (lock-wide S R _ K t)) (sym m)))
-  split-derivation-is-figure-5 (own.LCK {K = K} {e₁ = e₁} d t i m) u =
+      (FREEL (rw (means-lock S R _ Kᵢ Kₒ t) at (split-derivation-is-figure-5 d u))
+      (sum-cap (post S e₁) (mapAt S Kᵢ) (post-wide S R e₁ ∙ sym (lock-wide S R _ Kᵢ Kₒ t .0)) (sym m)))
+  split-derivation-is-figure-5 (own.LCK {Kᵢ = Kᵢ} {Kₒ = Kₒ} {e₁ = e₁} d t i m) u =
       rw (means-int S R _ i)
-      (LCK (rw (means-lock S R _ K t) at (split-derivation-is-figure-5 d u))
-      (sum-cap (post S e₁) (mapAt S K) (post-wide S R e₁ ∙ sym (lock-wide S R _ K t)) (sym m)))
-  split-derivation-is-figure-5 (own.ULCK {k = k} {v = v} {K = K} {e₁ = e₁} d t i m) u =
+      (LCK (rw (means-lock S R _ Kᵢ Kₒ t) at (split-derivation-is-figure-5 d u))
+      (sum-cap (post S e₁) (mapAt S Kᵢ) (post-wide S R e₁ ∙ sym (lock-wide S R _ Kᵢ Kₒ t .0)) (sym m)))
+  split-derivation-is-figure-5 (own.ULCK {k = k} {v = v} {Kᵢ = Kᵢ} {Kₒ = Kₒ} {e₁ = e₁} d t i m) u =
       let e = unary Unlock k v e₁ in
       rw (means-int S R _ i)
-      (ULCK (rw (means-lock S R _ K t) at (split-derivation-is-figure-5 d u))
-      (sum-cap (post S e) (mapAt S K) (post-wide S R e ∙ sym (lock-wide S R _ K t)) m))
+      (ULCK (rw (means-lock S R _ Kᵢ Kₒ t) at (split-derivation-is-figure-5 d u))
+      (sum-cap (post S e) (mapAt S Kₒ) (post-wide S R e ∙ sym (lock-wide S R _ Kᵢ Kₒ t .1)) m))
   split-derivation-is-figure-5 (own.NEWSEM {K = K} t m) u = rw (means-sem S R _ K t, m) NEWSEM
   split-derivation-is-figure-5 (own.POST {k = k} {v = v} {K = K} {e₁ = e₁} d t i m) u =
       let e = unary Post k v e₁ in

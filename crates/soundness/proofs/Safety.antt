@@ -19,7 +19,7 @@ right-is-safe programText splitText r =
     record {
       P = r .P;
       program = r .program;
-      holds = derived-is-safe (R .denominator .0) (split-derivation-is-figure-5 (r .S) R (r .derives) (r .program .usedInside)) (at-most-cap (r .atMostOne));
+      holds = derived-is-safe (R .denominator .0) (split-derivation-is-figure-5 (r .S) R (r .locks) (r .derives) (r .program .usedInside)) (at-most-cap (r .atMostOne));
     }
 
 pub accepted-is-safe : (room : ℕ) (programText splitText : List ℕ) → verdict room programText splitText ≡ Accept → SafeText programText

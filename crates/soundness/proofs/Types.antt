@@ -12,7 +12,7 @@ use borrow.Author.Tests.{eq-eqb, ne-eqb}
 use Rattle.spec.specs.Choice.{if_then_else_}
 use Rattle.spec.specs.Expression.{Step, Expr, among}
 use Rattle.spec.specs.Split.{Row, Split}
-use Rattle.spec.specs.Conditions.{typeIn, lineOf, typeAt, mapAt, row, type, post, startIn, start}
+use Rattle.spec.specs.Conditions.{typeIn, lineOf, typeAt, mapAt, mayShow, row, type, post, startIn, start}
 use Rattle.spec.specs.Conditions as conditions
 use Rattle.spec.specs.Agreement.{int, lock, tid, sem, Tree, plain, ref, treeOf, tree, agree}
 use Rattle.spec.specs.Ranges.{InRange}
@@ -23,14 +23,15 @@ use Rattle.spec.specs.declared.TypeLine.{TypeLine}
 use Rattle.spec.specs.declared.TypeLine.the-variants as type-line
 use Rattle.spec.proofs.Clashes.{none-is-not-some}
 use Rattle.spec.proofs.Agreement.{agree-same-tree, numbered, tree-of-type}
+use Rattle.spec.proofs.Shown.{Shown, agreeing, looser, may-show-exactly}
 use Rattle.calculus.specs.Expression.{choose}
-use Rattle.calculus.specs.Figure5.{Ty, int-type, ref-type, lock-type, tid-type, sem-type, Env, empty, bind}
-use Rattle.soundness.proofs.Capabilities.{cap}
+use Rattle.calculus.specs.Figure5.{Ty, int-type, ref-type, lock-type, tid-type, sem-type, _shown-as_, as-it-is, looser as looser-lock, Env, empty, bind}
+use Rattle.soundness.proofs.Capabilities.{cap, covers-cap}
 
 -- the type of the calculus that a tree is: its maps as capabilities
 meaning : Tree → Ty
 meaning (plain int ms) = int-type
-meaning (plain lock ms) = lock-type (cap (getD ms 0 []))
+meaning (plain lock ms) = lock-type (cap (getD ms 0 [])) (cap (getD ms 1 []))
 meaning (plain tid ms) = tid-type (cap (getD ms 0 []))
 meaning (plain sem ms) = sem-type (cap (getD ms 0 []))
 meaning (ref p c) = ref-type (p .0) (meaning c)
@@ -54,9 +55,9 @@ module _ {steps : List Step} (S : Split) (R : InRange steps S) where
   unfolding means meaning treeOf
   means-int t e = ap meaning (tree-of-type S R t type-line.Int e)
 
-  pub means-lock : (t : TypeNumber) (k : MapNumber) → typeAt S t ≡ type-line.Lock k → means S t ≡ lock-type (cap (mapAt S k))
+  pub means-lock : (t : TypeNumber) (i o : MapNumber) → typeAt S t ≡ type-line.Lock i o → means S t ≡ lock-type (cap (mapAt S i)) (cap (mapAt S o))
   unfolding means meaning treeOf
-  means-lock t k e = ap meaning (tree-of-type S R t (type-line.Lock k) e)
+  means-lock t i o e = ap meaning (tree-of-type S R t (type-line.Lock i o) e)
 
   pub means-tid : (t : TypeNumber) (k : MapNumber) → typeAt S t ≡ type-line.Tid k → means S t ≡ tid-type (cap (mapAt S k))
   unfolding means meaning treeOf
@@ -65,6 +66,15 @@ module _ {steps : List Step} (S : Split) (R : InRange steps S) where
   pub means-sem : (t : TypeNumber) (k : MapNumber) → typeAt S t ≡ type-line.Sem k → means S t ≡ sem-type (cap (mapAt S k))
   unfolding means meaning treeOf
   means-sem t k e = ap meaning (tree-of-type S R t (type-line.Sem k) e)
+
+  -- what a var line may show is what a variable may be shown as
+  pub shown-means : (t u : TypeNumber) → mayShow S t u ≡ true → means S u shown-as means S t
+  shown-means t u h = by-cases (may-show-exactly S t u .0 h)
+    where
+      by-cases : Shown S t u → means S u shown-as means S t
+      by-cases (agreeing a) = rw (agree-means S t u a) as-it-is
+      by-cases (looser {i = i} {o = o} {j = j} {p = p} x y gives takes) =
+          rw (means-lock t i o x, means-lock u j p y) (looser-lock (covers-cap gives) (covers-cap takes))
 
   -- a ref to a type that agrees with its content
   pub means-ref : (t : TypeNumber) (p : Location) (c u : TypeNumber) → typeAt S t ≡ type-line.Ref p c → agree S c u ≡ true
@@ -108,10 +118,12 @@ module _ {steps : List Step} (S : Split) (R : InRange steps S) where
               let past : length (S .rows) ≤ lineOf e - 2 = omega arith in
               none-is-not-some (sym (ap (λ (r : Row). r .start) (List·getD-eq-default (S .rows) unshown past)) ∙ given)
 
-  pub lock-wide : (t : TypeNumber) (k : MapNumber) → typeAt S t ≡ type-line.Lock k → length (mapAt S k) ≡ S .header .locations
+  pub lock-wide : (t : TypeNumber) (i o : MapNumber) → typeAt S t ≡ type-line.Lock i o
+      → (length (mapAt S i) ≡ S .header .locations) × (length (mapAt S o) ≡ S .header .locations)
   unfolding typeAt
-  lock-wide t k e =
-      map-wide k (R .lockLoad (t .0) k (numbered S R t (type-line.Lock k) e (λ z. let clash : _≡_ {A = ℕ} 0 1 = cc in omega arith)) e)
+  lock-wide t i o e =
+      let (first, second) = R .lockLoads (t .0) i o (numbered S R t (type-line.Lock i o) e (λ z. let clash : _≡_ {A = ℕ} 0 1 = cc in omega arith)) e in
+      (map-wide i first, map-wide o second)
 
   pub tid-wide : (t : TypeNumber) (k : MapNumber) → typeAt S t ≡ type-line.Tid k → length (mapAt S k) ≡ S .header .locations
   unfolding typeAt

@@ -34,6 +34,7 @@ accepted-is-right room p s h =
       S = r .S;
       program = r .program;
       split = r .split;
+      locks = r .locks;
       atMostOne = r .atMostOne;
       derives = conditions-derive (r .S) [] (startMap (r .S)) (r .P .root) (r .outcome);
     }
@@ -46,6 +47,7 @@ right-is-accepted room p s enough r = ap answer (reached-checked room p s (on tt
   enough = enough;
   program = r .program;
   split = r .split;
+  locks = r .locks;
   atMostOne = r .atMostOne;
   outcome = derivation-meets-conditions (r .S) [] (startMap (r .S)) (r .P .root) (r .derives);
 }))

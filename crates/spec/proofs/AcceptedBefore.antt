@@ -13,11 +13,11 @@ use Rattle.spec.specs.Program.{program, programLimit}
 use Rattle.spec.specs.Split.{Map, Split, split, splitLimit}
 use Rattle.spec.specs.Maps.{_=ᵐ_, _≥ᵐ_, share}
 use Rattle.spec.specs.Agreement.{agree}
-use Rattle.spec.specs.Conditions.{Condition, T, F, A, Env, typeIn, lineOf, isInt, isRef, place, type, kind, post, mapAt, startMap, contains, own}
+use Rattle.spec.specs.Conditions.{Condition, T, F, A, Env, typeIn, lineOf, isInt, isRef, place, type, kind, post, mapAt, startMap, contains, mayShow, own}
 use Rattle.spec.specs.Sites.{Site, sites, Claim, numbered, claimsAt, claims, firstFalse}
 use Rattle.spec.specs.FirstFalse.{Holds, AllHold}
 use Rattle.spec.specs.Workspace.{workspaceSize}
-use Rattle.spec.specs.Verdict.{startAtMostOne, ruled, checked, answer, verdict}
+use Rattle.spec.specs.Verdict.{locksTakeEnough, startAtMostOne, ruled, checked, answer, verdict}
 use Rattle.spec.specs.declared.TypeNumber.{TypeNumber}
 use Rattle.spec.specs.declared.TypeLine.{TypeLine}
 use Rattle.spec.specs.declared.TypeLine.the-variants as type-line
@@ -30,6 +30,7 @@ use Rattle.spec.specs.declared.BinaryWord.the-variants.{Let, If, Spawn, 
 use Rattle.spec.proofs.Outcomes.{bind-goes-on, goes-on-bind}
 use Rattle.spec.proofs.Claims.{none-false-all-hold, all-hold-none-false, all-hold-parts, all-hold-append}
 use Rattle.spec.proofs.Agreement.{agree-reflexive}
+use Rattle.spec.proofs.Shown.{may-show-itself}
 use Rattle.spec.proofs.Accepted.{accept-goes-on}
 use Rattle.spec.specs.declared.Purpose.the-variants.{Check}
 
@@ -42,7 +43,7 @@ agreeBefore t u = eqb (t .0) (u .0)
 unfoldable pub containsBefore : TypeLine → TypeNumber → Bool
 containsBefore type-line.Int t = false
 containsBefore (type-line.Ref p c) t = agreeBefore c t
-containsBefore (type-line.Lock k) t = false
+containsBefore (type-line.Lock i o) t = false
 containsBefore (type-line.Tid k) t = false
 containsBefore (type-line.Sem k) t = false
 
@@ -88,6 +89,7 @@ checkedBefore room programText splitText = do
   P ← program programText
   fits′ ← demand (leb (length splitText) splitLimit) LongSplit
   S ← split Check (P .steps) splitText
+  locks ← locksTakeEnough S
   whole ← startAtMostOne P S
   firstFalse (claimsBefore S (sites S [] (startMap S) (P .root)))
 
@@ -97,23 +99,27 @@ verdictBefore room programText splitText = answer (checkedBefore room programTex
 -- ------------------------------------------------------------------ what held before holds
 
 module _ (S : Split) where
-  agreed : (t u : TypeNumber) → agreeBefore t u ≡ true → agree S t u ≡ true
+  numbered-alike : (t u : TypeNumber) → agreeBefore t u ≡ true → t ≡ u
   unfolding agreeBefore
-  agreed t u h =
-      let e : t ≡ u = ap (λ x. record { 0 = x }) (eqb-true (t .0) (u .0) h) in
-      rw e (agree-reflexive S u)
+  numbered-alike t u h = ap (λ x. record { 0 = x }) (eqb-true (t .0) (u .0) h)
+
+  agreed : (t u : TypeNumber) → agreeBefore t u ≡ true → agree S t u ≡ true
+  agreed t u h = rw (numbered-alike t u h) (agree-reflexive S u)
+
+  shown : (t u : TypeNumber) → agreeBefore t u ≡ true → mayShow S t u ≡ true
+  shown t u h = rw (numbered-alike t u h) (may-show-itself S u)
 
   contained : (x : TypeLine) (u : TypeNumber) → containsBefore x u ≡ true → contains S x u ≡ true
   unfolding containsBefore contains
   contained type-line.Int u h = h
   contained (type-line.Ref p c) u h = agreed c u h
-  contained (type-line.Lock k) u h = h
+  contained (type-line.Lock i o) u h = h
   contained (type-line.Tid k) u h = h
   contained (type-line.Sem k) u h = h
 
   own-holds : (n i : ℕ) (Γ : Env) (pre : Map) (e : Expr) → AllHold (numbered n i (ownBefore S Γ pre e)) → AllHold (numbered n i (own S Γ pre e))
   unfolding AllHold Holds numbered ownBefore own
-  own-holds n i Γ pre (leaf Var k v) h = (agreed _ _ (h .0), h .1)
+  own-holds n i Γ pre (leaf Var k v) h = (shown _ _ (h .0), h .1)
   own-holds n i Γ pre (leaf Int k v) h = h
   own-holds n i Γ pre (binary Let k v e₁ e₂) h = (agreed _ _ (h .0), h .1)
   own-holds n i Γ pre (binary If k v e₁ e₂) h = (agreed _ _ (h .0), (agreed _ _ (h .1 .0), h .1 .1))
@@ -153,6 +159,7 @@ checked-too room p s =
     goes-on-too _ _ _ λ P.
     goes-on-too _ _ _ λ _.
     goes-on-too _ _ _ λ S.
+    goes-on-too _ _ _ λ _.
     goes-on-too _ _ _ λ _ h.
     all-hold-none-false _ (claims-hold S (sites S [] (startMap S) (P .root)) (none-false-all-hold _ h))
 

@@ -3,7 +3,6 @@
 use mathlib.Core.Path.{_≡_, refl, sym, ap, _∙_}
 use mathlib.Core.List.{List, [], _∷_, _++_}
 use mathlib.Core.Bool.{true, _&&_}
-use mathlib.Core.Option.{Option, none, some}
 use mathlib.Core.Logic.{_↔_}
 use Prim.Native.Nat.{ℕ, zero, suc, _+_, _<_}
 use native.Mathlib.Omega.{arith}
@@ -24,14 +23,9 @@ use Rattle.spec.specs.declared.TypeLine.{TypeLine}
 use Rattle.spec.specs.declared.TypeLine.the-variants.{Int, Ref, Lock, Tid, Sem}
 use Rattle.spec.proofs.Clashes.{true-is-not-false}
 use Rattle.spec.proofs.Tests.{both-true, and-true}
-use Rattle.spec.proofs.Maps.{none-equal, equal-none}
+use Rattle.spec.proofs.Maps.{nowhere-none, none-equal, equal-none}
 
 -- ------------------------------------------------------------------ the same tree
-
-nowhere-none : (o : Option ℕ) → nowhere o ≡ true → o ≡ none
-unfolding nowhere
-nowhere-none none h = refl
-nowhere-none (some l) h = true-is-not-false (sym h)
 
 pub same-numbers-equal : (m n : Map) → sameNumbers m n ≡ true → m ≡ n
 unfolding sameNumbers
@@ -58,6 +52,10 @@ same-maps-itself (m ∷ ms) = rw (same-numbers-itself m) (same-maps-itself ms)
 pub same-maps-single : (m n : Map) → sameMaps (m ∷ []) (n ∷ []) ≡ sameNumbers m n
 unfolding sameMaps
 same-maps-single m n = and-true (sameNumbers m n)
+
+pub same-maps-two : (a b m n : Map) → sameMaps (a ∷ b ∷ []) (m ∷ n ∷ []) ≡ (sameNumbers a m && sameNumbers b n)
+unfolding sameMaps
+same-maps-two a b m n = ap (λ x. sameNumbers a m && x) (and-true (sameNumbers b n))
 
 -- the kind with a code
 decoded : (n : ℕ) → Kind
@@ -94,7 +92,7 @@ same-tree-itself (ref p c) = rw (eq-eqb (p .0) (p .0) refl) (same-tree-itself c)
 abbrev ContentBelow : (n : ℕ) → TypeLine → Type 0
 ContentBelow n Int = Unit {0}
 ContentBelow n (Ref p c) = c .0 < n
-ContentBelow n (Lock k) = Unit {0}
+ContentBelow n (Lock i o) = Unit {0}
 ContentBelow n (Tid k) = Unit {0}
 ContentBelow n (Sem k) = Unit {0}
 
@@ -136,7 +134,7 @@ module _ (S : Split) where
   unfolding treeOf
   tree-of-more before xs Int h = refl
   tree-of-more before xs (Ref p c) h = ap (ref p) (sym (trees-kept before xs (c .0) h))
-  tree-of-more before xs (Lock k) h = refl
+  tree-of-more before xs (Lock i o) h = refl
   tree-of-more before xs (Tid k) h = refl
   tree-of-more before xs (Sem k) h = refl
 
@@ -172,6 +170,16 @@ module _ (S : Split) where
           rw none-there
           (List·getD-eq-default (trees S [] (S .types)) (plain int []) {n = t .0} (omega (arith, trees-counted [] (S .types))))
 
+  -- two locks that agree have maps of equal numbers
+  pub locks-same-maps : (t u : TypeNumber) {i o j p : MapNumber} → typeAt S t ≡ Lock i o → typeAt S u ≡ Lock j p → agree S t u ≡ true
+      → (mapAt S i ≡ mapAt S j) × (mapAt S o ≡ mapAt S p)
+  unfolding agree sameTree treeOf sameMaps code
+  locks-same-maps t u {i} {o} {j} {p} x y h =
+      let trees-agree : sameTree (treeOf S (trees S [] (S .types)) (Lock i o)) (treeOf S (trees S [] (S .types)) (Lock j p)) ≡ true =
+      rw (tree-of-line t (rw x tt), tree-of-line u (rw y tt), x, y) at h in
+      let (first, rest) = both-true (sameNumbers (mapAt S i) (mapAt S j)) (sameNumbers (mapAt S o) (mapAt S p) && true) trees-agree in
+      (same-numbers-equal _ _ first, same-numbers-equal _ _ (both-true _ true rest .0))
+
 -- ------------------------------------------------------------------ a sheet's types
 
 module _ {steps : List Step} (S : Split) (R : InRange steps S) where
@@ -192,7 +200,7 @@ module _ {steps : List Step} (S : Split) (R : InRange steps S) where
   content-below : (t : TypeNumber) (x : TypeLine) → typeAt S t ≡ x → ContentBelow (t .0) x
   content-below t Int e = tt
   content-below t (Ref p c) e = content-smaller t p c e
-  content-below t (Lock k) e = tt
+  content-below t (Lock i o) e = tt
   content-below t (Tid k) e = tt
   content-below t (Sem k) e = tt
 
@@ -208,9 +216,11 @@ module _ {steps : List Step} (S : Split) (R : InRange steps S) where
     unfolding agree sameTree treeOf tree
     agree-refs p q c d e g = rw (tree-of-type t (Ref p c) e, tree-of-type u (Ref q d) g)
 
-    pub agree-locks : (k h : MapNumber) → typeAt S t ≡ Lock k → typeAt S u ≡ Lock h → agree S t u ≡ sameNumbers (mapAt S k) (mapAt S h)
+    pub agree-locks : (i o j p : MapNumber) → typeAt S t ≡ Lock i o → typeAt S u ≡ Lock j p
+        → agree S t u ≡ (sameNumbers (mapAt S i) (mapAt S j) && sameNumbers (mapAt S o) (mapAt S p))
     unfolding agree sameTree treeOf code
-    agree-locks k h e g = rw (tree-of-type t (Lock k) e, tree-of-type u (Lock h) g) (same-maps-single (mapAt S k) (mapAt S h))
+    agree-locks i o j p e g =
+        rw (tree-of-type t (Lock i o) e, tree-of-type u (Lock j p) g) (same-maps-two (mapAt S i) (mapAt S o) (mapAt S j) (mapAt S p))
 
     pub agree-tids : (k h : MapNumber) → typeAt S t ≡ Tid k → typeAt S u ≡ Tid h → agree S t u ≡ sameNumbers (mapAt S k) (mapAt S h)
     unfolding agree sameTree treeOf code

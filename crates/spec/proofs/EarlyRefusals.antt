@@ -11,11 +11,12 @@ use Rattle.spec.specs.Reading.{Out, stop, on, _>>=_, demand, Fault, badF
 use Rattle.spec.specs.Expression.{Step, Expr, leaf, unary, binary, size, single, among, scope}
 use Rattle.spec.specs.Program.{Program, program}
 use Rattle.spec.specs.Split.{Split, split}
-use Rattle.spec.specs.Verdict.{refuseOver, startAtMostOne, four, returned, onConditions}
+use Rattle.spec.specs.Verdict.{takesEnough, allTakeEnough, locksTakeEnough, refuseOver, startAtMostOne, four, returned, onConditions}
 use Rattle.spec.specs.declared.Answer.the-variants.{Refuse}
 use Rattle.spec.specs.declared.Purpose.{Purpose}
 use Rattle.spec.specs.declared.Refusal.{Refusal}
-use Rattle.spec.specs.declared.Refusal.the-variants.{ProgramLines, Unbound, Rebound}
+use Rattle.spec.specs.declared.Refusal.the-variants.{ProgramLines, Unbound, Rebound, LockTakesLess}
+use Rattle.spec.specs.declared.TypeLine.{TypeLine}
 use Rattle.spec.specs.declared.LeafWord.the-variants.{Var, Int, Newtid, Newlock, Newsem}
 use Rattle.spec.specs.declared.BinaryWord.the-variants.{Let, If, Spawn, Write}
 use Rattle.spec.proofs.Clashes.{true-is-not-false}
@@ -158,6 +159,16 @@ split-early purpose steps text =
     early-bind _ _ (all-early splitSheet _ (types .1)) λ maps.
     early-bind _ _ (all-early splitSheet _ (maps .1)) λ rows.
     early-bind _ _ (end-early splitSheet (rows .1)) λ done. tt
+
+all-take-enough-early : (S : Split) (k : ℕ) (xs : List TypeLine) → Early (allTakeEnough S k xs)
+unfolding allTakeEnough returned four onConditions
+all-take-enough-early S k [] = tt
+all-take-enough-early S k (x ∷ xs) =
+    early-bind _ _ (early-demand (takesEnough S x) (LockTakesLess k) refl) λ enough. all-take-enough-early S (k + 1) xs
+
+pub locks-early : (S : Split) → Early (locksTakeEnough S)
+unfolding locksTakeEnough
+locks-early S = all-take-enough-early S 2 (S .types)
 
 over-early : (k : ℕ) (o : Option ℕ) → Early (refuseOver k o)
 unfolding refuseOver returned four onConditions

@@ -8,7 +8,7 @@ use borrow.Author.Tests.{leb-true, ltb-true}
 use Rattle.spec.specs.Reading.{on}
 use Rattle.spec.specs.Expression.{Expr, leaf, unary, binary}
 use Rattle.spec.specs.Split.{Map, Split}
-use Rattle.spec.specs.Conditions.{Env, type, post, start, K, own}
+use Rattle.spec.specs.Conditions.{Env, type, post, start, K, inMap, outMap, own}
 use Rattle.spec.specs.Sites.{Site, sites, preOfPart, preOfSecond, bind, numbered, claimsAt, claims, firstFalse}
 use Rattle.spec.specs.FirstFalse.{Holds, AllHold}
 use Rattle.spec.specs.Figure5.{Derives, VAR, INT, LET, IF, WHILE, NEWT, SPAWN, JOIN, REF, WRITE, READ, NEWL, FREEL, LCK, ULCK, NEWSEM, POST, WAIT}
@@ -18,7 +18,7 @@ use Rattle.spec.specs.declared.UnaryWord.{UnaryWord}
 use Rattle.spec.specs.declared.UnaryWord.the-variants.{While, Join, Ref, Read, Freelock, Lock, Unlock, Post, Wait}
 use Rattle.spec.specs.declared.BinaryWord.{BinaryWord}
 use Rattle.spec.specs.declared.BinaryWord.the-variants.{Let, If, Spawn, Write}
-use Rattle.spec.proofs.TypeKinds.{is-int, is-tid, is-lock, is-sem, is-ref-of, int-is, tid-is, lock-is, sem-is, ref-is, ref-of-is, tid-load, lock-load, sem-load, readable, writable}
+use Rattle.spec.proofs.TypeKinds.{is-int, is-tid, is-lock, is-sem, is-ref-of, int-is, tid-is, lock-is, sem-is, ref-is, ref-of-is, tid-load, lock-in, lock-out, sem-load, readable, writable}
 use Rattle.spec.proofs.Maps.{none-equal, none-covers, equal-none, covers-none}
 use Rattle.spec.proofs.Claims.{none-false-all-hold, all-hold-none-false, all-hold-parts, all-hold-append, claims-append}
 
@@ -67,7 +67,7 @@ module _ (S : Split) where
   -- ------------------------------------------------------------------ from conditions to a derivation
 
   holding-derives : (Γ : Env) (pre : Map) (e : Expr) → AllAt (sites S Γ pre e) → Derives S Γ pre e
-  unfolding AllHold Holds claimsAt numbered own preOfPart preOfSecond bind post start K
+  unfolding AllHold Holds claimsAt numbered own preOfPart preOfSecond bind post start K inMap outMap
   holding-derives Γ pre (leaf Var k v) h =
       let c = leaf-own Γ pre Var k v h in
       VAR (c .0) (none-equal (c .1 .0))
@@ -148,7 +148,7 @@ module _ (S : Split) where
   binary-all Γ pre w k v e₁ e₂ c h₁ h₂ = parts-step _ _ c (parts-both (sites S Γ pre e₁) _ h₁ h₂)
 
   derived-holds : {Γ : Env} {Ψ : Map} {e : Expr} → Derives S Γ Ψ e → AllAt (sites S Γ Ψ e)
-  unfolding AllHold Holds claimsAt numbered own preOfPart preOfSecond bind post start K
+  unfolding AllHold Holds claimsAt numbered own preOfPart preOfSecond bind post start K inMap outMap
   derived-holds {Γ} {Ψ} (VAR {k = k} {v = v} t p) =
       leaf-all Γ Ψ Var k v (t, (equal-none p, tt))
   derived-holds {Γ} {Ψ} (INT {k = k} {v = v} t p) =
@@ -178,13 +178,13 @@ module _ (S : Split) where
       unary-all Γ Ψ Read k v e₁
       (ref-is t, (ref-of-is S _ t a, (equal-none p, (readable (post S (unary Read k v e₁)) t w, tt)))) (derived-holds d)
   derived-holds {Γ} {Ψ} (NEWL {k = k} {v = v} t p) =
-      leaf-all Γ Ψ Newlock k v (lock-is t, (equal-none (rw (lock-load S t) p), tt))
+      leaf-all Γ Ψ Newlock k v (lock-is t, (equal-none (rw (lock-out S t) p), tt))
   derived-holds {Γ} {Ψ} (FREEL {k = k} {v = v} {e₁ = e₁} d t i p) =
-      unary-all Γ Ψ Freelock k v e₁ (int-is i, (lock-is t, (equal-none (rw (lock-load S t) p), tt))) (derived-holds d)
+      unary-all Γ Ψ Freelock k v e₁ (int-is i, (lock-is t, (equal-none (rw (lock-in S t) p), tt))) (derived-holds d)
   derived-holds {Γ} {Ψ} (LCK {k = k} {v = v} {e₁ = e₁} d t i p) =
-      unary-all Γ Ψ Lock k v e₁ (int-is i, (lock-is t, (equal-none (rw (lock-load S t) p), tt))) (derived-holds d)
+      unary-all Γ Ψ Lock k v e₁ (int-is i, (lock-is t, (equal-none (rw (lock-in S t) p), tt))) (derived-holds d)
   derived-holds {Γ} {Ψ} (ULCK {k = k} {v = v} {e₁ = e₁} d t i p) =
-      unary-all Γ Ψ Unlock k v e₁ (int-is i, (lock-is t, (equal-none (rw (lock-load S t) p), tt))) (derived-holds d)
+      unary-all Γ Ψ Unlock k v e₁ (int-is i, (lock-is t, (equal-none (rw (lock-out S t) p), tt))) (derived-holds d)
   derived-holds {Γ} {Ψ} (NEWSEM {k = k} {v = v} t p) =
       leaf-all Γ Ψ Newsem k v (sem-is t, (equal-none p, tt))
   derived-holds {Γ} {Ψ} (POST {k = k} {v = v} {e₁ = e₁} d t i p) =

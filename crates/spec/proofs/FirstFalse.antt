@@ -31,6 +31,7 @@ refusal-names-first-false room p s r h late =
       S = c .S;
       program = c .program;
       split = c .split;
+      locks = c .locks;
       atMostOne = c .atMostOne;
       inOrder = claims-in-order (c .S) [] (startMap (c .S)) (c .P .root) 2 (c .program .numbering);
       first = stopped-first-false (claims (c .S) (sites (c .S) [] (startMap (c .S)) (c .P .root))) (c .outcome);
@@ -44,6 +45,7 @@ first-false-is-refused room p s r enough f = ap answer (reached-checked room p s
   enough = enough;
   program = f .program;
   split = f .split;
+  locks = f .locks;
   atMostOne = f .atMostOne;
   outcome = first-false-stopped (f .first);
 }))

@@ -15,14 +15,15 @@ use Rattle.spec.specs.Text.{bytes, same, Line, closed, unclosed, onLine,
 use Rattle.spec.specs.Reading.{splitSheet, Out, stop, on, _>>=_, demand, noStart, Seen, right, wrong, badRange, seen, insist, inRange, allInRange, withNumeral, numerals, ranged, numbers, faulty, passed, nextLine, next, nextAll, begin, end, Place}
 use Rattle.spec.specs.Expression.{Step}
 use Rattle.spec.specs.Program.{Program, programLimit, program}
-use Rattle.spec.specs.Split.{Map, Header, headings, headerRanges, mapsOf, mapsIn, startOf, headerOf, headed, headerLine, typeLine, typeLines, mapLine, Row, startRange, mayBeEmpty, postRange, rowLine, Split, splitLimit, split}
+use Rattle.spec.specs.Split.{Map, Header, headings, headerRanges, mapsOf, mapsIn, startOf, headerOf, headed, headerLine, lockOf, outRange, typeLine, typeLines, mapLine, Row, startRange, mayBeEmpty, postRange, rowLine, Split, splitLimit, split}
 use Rattle.spec.specs.Workspace.{workspaceSize}
-use Rattle.spec.specs.Verdict.{startAtMostOne, ruled, checked, answer, verdict}
+use Rattle.spec.specs.Verdict.{checked, answer, verdict}
 use Rattle.spec.specs.declared.Heading.the-variants.{C, C2}
 use Rattle.spec.specs.declared.TypeLine.{TypeLine}
 use Rattle.spec.specs.declared.Refusal.the-variants.{ShortWorkspace, LongProgram, LongSplit, NoStart}
 use Rattle.spec.specs.declared.Answer.the-variants.{Refuse}
-use Rattle.spec.proofs.NoHeading.{headedAs, under, same-start, same-ruled}
+use Rattle.spec.proofs.NoHeading.{headedAs, under, ruling, same-ruling}
+use Rattle.spec.proofs.Ranges.{seen-right}
 use Rattle.spec.specs.declared.Purpose.the-variants.{Check}
 
 -- ------------------------------------------------------------------ the numbers of the header
@@ -81,6 +82,11 @@ unfolding headerLine headings lookUp same bytes headed numbers
 header-named fs =
     ap (λ (o : Option (List ℕ)). seen (headerOf C2) (ranged (headerRanges C2 (mapsIn o)) o)) (numerals-zero fs) ∙ judged (numerals fs)
 
+-- such a header is headed `C`
+header-plain : (fs : List Field) (H : Header) → headerLine Check (bytes "C" ∷ fs) ≡ right H → H .heading ≡ C
+unfolding headerLine headings lookUp same bytes headed headerOf
+header-plain fs H h = let (ns, _, e) = seen-right _ h in sym (ap (λ (x : Header). x .heading) e)
+
 -- ------------------------------------------------------------------ line 1
 
 -- bytes without byte 10
@@ -130,23 +136,28 @@ module _ (a : List ℕ) where
   abbrev pub named : List ℕ
   named = bytes "C2," ++ a ++ bytes ",0"
 
+  line-plain : (H : Header) → headerLine Check (fields unnamed) ≡ right H → H .heading ≡ C
+  unfolding bytes fields onField
+  line-plain H h = header-plain (fields a) H h
+
   line-named : headerLine Check (fields named) ≡ seen (headedAs C2) (headerLine Check (fields unnamed))
   unfolding bytes fields onField
   line-named = ap (λ (fs : List Field). headerLine Check (bytes "C2" ∷ fs)) (fields-append a (48 ∷ [])) ∙ header-named (fields a)
 
 -- ------------------------------------------------------------------ the lines behind it
 
-module _ (H : Header) where
+module _ (H : Header) (plain : H .heading ≡ C) where
   same-type : (own : ℕ) (fs : List Field) → typeLine (headedAs C2 H) own fs ≡ typeLine H own fs
-  unfolding typeLine headedAs
+  unfolding typeLine headedAs lockOf outRange
   same-type own [] = refl
-  same-type own (f ∷ fs) = refl
+  same-type own (f ∷ fs) = rw plain
 
   same-types : (own n : ℕ) → typeLines (headedAs C2 H) own n ≡ typeLines H own n
   unfolding typeLines
   same-types own zero = refl
   same-types own (suc n) = λ i. (λ fs. same-type own fs i) ∷ same-types (own + 1) n i
 
+module _ (H : Header) where
   -- of a row that leaves out the start of a spawn
   data Alike (x y : Seen Row) : Type 0 where
     same-row : x ≡ y → Alike x y
@@ -233,20 +244,13 @@ module _ (H : Header) (steps : List Step) where
   unfoldable afterHeader : Place → Out Split
   afterHeader p = nextAll splitSheet (typeLines H 0 (H .types)) p >>= afterTypes
 
-unfoldable ruling : Program → Split → Out (Unit {0})
-ruling P S = startAtMostOne P S >>= λ whole. ruled P S
-
-ruling-same : (P : Program) (S : Split) → ruling P (under C2 S) ≡ ruling P S
-unfolding ruling
-ruling-same P S = rw (same-start C2 S P, same-ruled C2 S P)
-
-module _ (P : Program) (H : Header) (steps : List Step) where
+module _ (P : Program) (H : Header) (plain : H .heading ≡ C) (steps : List Step) where
   rows-same : (types : List TypeLine) (maps : List Map) (x : List Row × Place)
       → Started (afterRows H steps types maps x >>= ruling P)
       → (afterRows (headedAs C2 H) steps types maps x >>= ruling P) ≡ (afterRows H steps types maps x >>= ruling P)
   unfolding afterRows under _>>=_
   rows-same types maps (rows, p) =
-      same-on (end splitSheet p) _ _ (ruling P) (ruling P) (λ done started. ruling-same P (record { header = H; types = types; maps = maps; rows = rows }))
+      same-on (end splitSheet p) _ _ (ruling P) (ruling P) (λ done started. same-ruling C2 (record { header = H; types = types; maps = maps; rows = rows }) P)
 
   maps-same : (types : List TypeLine) (x : List Map × Place)
       → Started (afterMaps H steps types x >>= ruling P)
@@ -267,7 +271,7 @@ module _ (P : Program) (H : Header) (steps : List Step) where
       → (afterHeader (headedAs C2 H) steps p >>= ruling P) ≡ (afterHeader H steps p >>= ruling P)
   unfolding afterHeader headedAs
   header-same p started =
-      ap (λ (rs : List (List Field → Seen TypeLine)). nextAll splitSheet rs p >>= afterTypes (headedAs C2 H) steps >>= ruling P) (same-types H 0 (H .types))
+      ap (λ (rs : List (List Field → Seen TypeLine)). nextAll splitSheet rs p >>= afterTypes (headedAs C2 H) steps >>= ruling P) (same-types H plain 0 (H .types))
       ∙ same-on (nextAll splitSheet (typeLines H 0 (H .types)) p) _ _ (ruling P) (ruling P) types-same started
 
 -- ------------------------------------------------------------------ the sheet
@@ -281,11 +285,11 @@ unfolding split begin next nextLine _>>=_ behind afterHeader afterTypes afterMap
 by-lines steps l t one = rw (above-lines l t one)
 
 module _ (P : Program) (steps : List Step) (r : List Line) where
-  passed-same : (s : Seen Header) → Started (passed splitSheet 1 r s >>= behind steps >>= ruling P)
+  passed-same : (s : Seen Header) → ((H : Header) → s ≡ right H → H .heading ≡ C) → Started (passed splitSheet 1 r s >>= behind steps >>= ruling P)
       → (passed splitSheet 1 r (seen (headedAs C2) s) >>= behind steps >>= ruling P) ≡ (passed splitSheet 1 r s >>= behind steps >>= ruling P)
   unfolding seen passed _>>=_ behind
-  passed-same (right H) started = header-same P H steps (record { last = 1; rest = r }) started
-  passed-same (wrong w) started = refl
+  passed-same (right H) plain started = header-same P H (plain H refl) steps (record { last = 1; rest = r }) started
+  passed-same (wrong w) plain started = refl
 
 module _ (a t : List ℕ) (one : OneLine a) where
   another : (b : ℕ) → 10 < b → b ≡ 10 → ⊥
@@ -306,7 +310,7 @@ module _ (a t : List ℕ) (one : OneLine a) where
   sheet-same P started =
       ap (λ (o : Out Split). o >>= ruling P) (by-lines (P .steps) (named a) t named-line)
       ∙ ap (λ (s : Seen Header). passed splitSheet 1 (lines t) s >>= behind (P .steps) >>= ruling P) (line-named a)
-      ∙ passed-same P (P .steps) (lines t) (headerLine Check (fields (unnamed a)))
+      ∙ passed-same P (P .steps) (lines t) (headerLine Check (fields (unnamed a))) (line-plain a)
       (along Started (ap (λ (o : Out Split). o >>= ruling P) (by-lines (P .steps) (unnamed a) t unnamed-line)) started)
       ∙ sym (ap (λ (o : Out Split). o >>= ruling P) (by-lines (P .steps) (unnamed a) t unnamed-line))
 

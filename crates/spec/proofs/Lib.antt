@@ -10,6 +10,8 @@ pub mod Outcomes
 pub mod Maps
 pub mod Agreement
 pub mod TypeKinds
+pub mod Shown
+pub mod Locks
 pub mod Claims
 pub mod Figure5
 pub mod Listing
@@ -23,4 +25,5 @@ pub mod AcceptedBefore
 pub mod Order
 pub mod NoHeading
 pub mod Headings
+pub mod LocksWritten
 pub mod FirstFalse

@@ -10,12 +10,21 @@ use lib.ListN.{length, getD}
 use borrow.Author.Tests.{eqb-true, leb-true, leb-false, eq-eqb, le-leb}
 use Rattle.spec.specs.Choice.{if_then_else_}
 use Rattle.spec.specs.Split.{Map}
-use Rattle.spec.specs.Maps.{lowest, atLeast, _=ᵐ_, _≥ᵐ_, overWhole}
+use Rattle.spec.specs.Maps.{lowest, atLeast, _=ᵐ_, _≥ᵐ_, nowhere, overWhole}
 use Rattle.spec.specs.Figure5.{_⊒_, none as none⊒, more as more⊒}
 use Rattle.spec.specs.Accepted.{AtMost, none as noneAtMost, more as moreAtMost}
 use Rattle.spec.proofs.Clashes.{true-is-not-false, none-is-not-some, not-true-false}
 
 -- ------------------------------------------------------------------ nothing fails
+
+pub nowhere-none : (o : Option ℕ) → nowhere o ≡ true → o ≡ none
+unfolding nowhere
+nowhere-none none h = refl
+nowhere-none (some l) h = true-is-not-false (sym h)
+
+pub none-nowhere : (o : Option ℕ) → o ≡ none → nowhere o ≡ true
+unfolding nowhere
+none-nowhere o h = rw h
 
 if-none : (t : Bool) (x : Option ℕ) (i : ℕ) → (if t then x else some i) ≡ none → (t ≡ true) × (x ≡ none)
 if-none true x i h = (refl, h)
@@ -66,6 +75,10 @@ none-covers {m} {n} h = lowest-none-covers 0 m n h
 pub covers-none : {m n : Map} → m ⊒ n → (m ≥ᵐ n) ≡ none
 unfolding _≥ᵐ_
 covers-none c = covers-lowest-none 0 c
+
+pub covers-itself : (m : Map) → m ⊒ m
+covers-itself [] = none⊒
+covers-itself (a ∷ m) = more⊒ {a = a} {b = a} (omega arith) (covers-itself m)
 
 pub none-at-most : (d i : ℕ) (m : Map) → overWhole d i m ≡ none → AtMost d m
 unfolding overWhole

@@ -1,21 +1,25 @@
--- 30 to 33 do not look at the heading: two splits that differ in nothing else get the same outcome.
+-- 44 and 30 to 33 do not look at the heading: two splits that differ in nothing else get the same outcome.
 use mathlib.Core.Path.{_≡_, refl, ap, _∙_}
 use mathlib.Core.List.{List, [], _∷_, _++_}
-use mathlib.Core.Bool.{Bool}
+use mathlib.Core.Bool.{Bool, _&&_}
 use mathlib.Core.Option.{Option, none, some}
+use Prim.Native.Nat.{ℕ, _+_}
 use lib.ListN.{getD}
+use Rattle.spec.specs.Choice.{if_then_else_}
+use Rattle.spec.specs.Reading.{Out, _>>=_, demand}
 use Rattle.spec.specs.Expression.{Expr, leaf, unary, binary}
 use Rattle.spec.specs.Program.{Program}
 use Rattle.spec.specs.Split.{Map, Header, Split}
 use Rattle.spec.specs.Agreement.{Tree, plain, int, sameTree, treeOf, trees, tree, agree}
-use Rattle.spec.specs.Conditions.{Condition, T, Env, typeAt, mapAt, startMap, contains, row, type, kind, post, startIn, start, K, own}
+use Rattle.spec.specs.Conditions.{Condition, T, Env, typeAt, mapAt, startMap, isLock, contains, looserLock, mayShow, row, type, kind, post, startIn, start, K, inMap, outMap, own}
 use Rattle.spec.specs.Sites.{Site, preOfPart, preOfSecond, bind, sites, claimsAt, claims, firstFalse}
-use Rattle.spec.specs.Verdict.{startAtMostOne, ruled}
+use Rattle.spec.specs.Verdict.{takesEnough, allTakeEnough, locksTakeEnough, startAtMostOne, ruled}
 use Rattle.spec.specs.declared.Heading.{Heading}
 use Rattle.spec.specs.declared.MapNumber.{MapNumber}
 use Rattle.spec.specs.declared.TypeNumber.{TypeNumber}
 use Rattle.spec.specs.declared.TypeLine.{TypeLine}
 use Rattle.spec.specs.declared.TypeLine.the-variants as type-line
+use Rattle.spec.specs.declared.Refusal.the-variants.{LockTakesLess}
 use Rattle.spec.specs.declared.LeafWord.the-variants.{Var, Int, Newtid, Newlock, Newsem}
 use Rattle.spec.specs.declared.UnaryWord.the-variants.{While, Join, Ref, Read, Freelock, Lock, Unlock, Post, Wait}
 use Rattle.spec.specs.declared.BinaryWord.the-variants.{Let, If, Spawn, Write}
@@ -34,6 +38,10 @@ headedAs h H = record {
 unfoldable pub under : Heading → Split → Split
 under h S = record { header = headedAs h (S .header); types = S .types; maps = S .maps; rows = S .rows }
 
+-- 44, 30 and 31 to 33
+unfoldable pub ruling : Program → Split → Out (Unit {0})
+ruling P S = locksTakeEnough S >>= λ locks. startAtMostOne P S >>= λ whole. ruled P S
+
 module _ (h : Heading) (S : Split) where
   -- ---------------------------------------------------------------- types
 
@@ -41,7 +49,7 @@ module _ (h : Heading) (S : Split) where
   unfolding treeOf mapAt under
   same-tree-of before type-line.Int = refl
   same-tree-of before (type-line.Ref p c) = refl
-  same-tree-of before (type-line.Lock k) = refl
+  same-tree-of before (type-line.Lock i o) = refl
   same-tree-of before (type-line.Tid k) = refl
   same-tree-of before (type-line.Sem k) = refl
 
@@ -61,9 +69,33 @@ module _ (h : Heading) (S : Split) where
   unfolding contains
   same-contains type-line.Int t = refl
   same-contains (type-line.Ref p c) t = same-agree c t
-  same-contains (type-line.Lock k) t = refl
+  same-contains (type-line.Lock i o) t = refl
   same-contains (type-line.Tid k) t = refl
   same-contains (type-line.Sem k) t = refl
+
+  same-may-show : (t u : TypeNumber) → mayShow (under h S) t u ≡ mayShow S t u
+  unfolding mayShow looserLock typeAt mapAt under
+  same-may-show t u =
+      ap (λ (x : Bool). if isLock (typeAt S t) && isLock (typeAt S u) then looserLock S (typeAt S t) (typeAt S u) else x) (same-agree t u)
+
+  same-enough : (x : TypeLine) → takesEnough (under h S) x ≡ takesEnough S x
+  unfolding takesEnough mapAt under
+  same-enough type-line.Int = refl
+  same-enough (type-line.Ref p c) = refl
+  same-enough (type-line.Lock i o) = refl
+  same-enough (type-line.Tid k) = refl
+  same-enough (type-line.Sem k) = refl
+
+  same-all-enough : (k : ℕ) (xs : List TypeLine) → allTakeEnough (under h S) k xs ≡ allTakeEnough S k xs
+  unfolding allTakeEnough
+  same-all-enough k [] = refl
+  same-all-enough k (x ∷ xs) =
+      ap (λ (b : Bool). demand b (LockTakesLess k) >>= λ enough. allTakeEnough (under h S) (k + 1) xs) (same-enough x)
+      ∙ ap (λ (o : Out (Unit {0})). demand (takesEnough S x) (LockTakesLess k) >>= λ enough. o) (same-all-enough (k + 1) xs)
+
+  same-locks : locksTakeEnough (under h S) ≡ locksTakeEnough S
+  unfolding locksTakeEnough under
+  same-locks = same-all-enough 2 (S .types)
 
   -- ---------------------------------------------------------------- conditions
 
@@ -80,8 +112,8 @@ module _ (h : Heading) (S : Split) where
   same-start-in (some m) = refl
 
   same-own : (Γ : Env) (pre : Map) (e : Expr) → own (under h S) Γ pre e ≡ own S Γ pre e
-  unfolding own row type kind post start startIn K typeAt mapAt under headedAs
-  same-own Γ pre (leaf Var k v) = at-first _ (same-agree _ _)
+  unfolding own row type kind post start startIn K inMap outMap typeAt mapAt under headedAs
+  same-own Γ pre (leaf Var k v) = at-first _ (same-may-show _ _)
   same-own Γ pre (leaf Int k v) = refl
   same-own Γ pre (leaf Newtid k v) = refl
   same-own Γ pre (leaf Newlock k v) = refl
@@ -118,12 +150,16 @@ module _ (h : Heading) (S : Split) where
   same-claims [] = refl
   same-claims (s ∷ ss) = rw (same-own (s .Γ) (s .pre) (s .step), same-claims ss)
 
-  pub same-start : (P : Program) → startAtMostOne P (under h S) ≡ startAtMostOne P S
+  same-start : (P : Program) → startAtMostOne P (under h S) ≡ startAtMostOne P S
   unfolding startAtMostOne startMap mapAt under headedAs
   same-start P = refl
 
-  pub same-ruled : (P : Program) → ruled P (under h S) ≡ ruled P S
+  same-ruled : (P : Program) → ruled P (under h S) ≡ ruled P S
   unfolding ruled startMap mapAt under headedAs
   same-ruled P =
       ap (λ (ss : List Site). firstFalse (claims (under h S) ss)) (same-sites [] (startMap S) (P .root))
       ∙ ap firstFalse (same-claims (sites S [] (startMap S) (P .root)))
+
+  pub same-ruling : (P : Program) → ruling P (under h S) ≡ ruling P S
+  unfolding ruling
+  same-ruling P = rw (same-locks, same-start P, same-ruled P)

@@ -28,6 +28,12 @@ pub goes-on-bind : {A B : Type 0} {a : A} {o : Out B} (m : Out A) (f : A → Out
 unfolding _>>=_
 goes-on-bind m f e h = rw e h
 
+-- what goes on alike from whatever was found
+pub bind-alike : {A B : Type 0} (m : Out A) (f g : A → Out B) → ((a : A) → m ≡ on a → f a ≡ g a) → (m >>= f) ≡ (m >>= g)
+unfolding _>>=_
+bind-alike (stop r) f g h = refl
+bind-alike (on a) f g h = h a refl
+
 -- ------------------------------------------------------------------ demands
 
 pub demand-goes-on : {t : Unit {0}} (b : Bool) (r : Refusal) → demand b r ≡ on t → b ≡ true

@@ -10,20 +10,21 @@ use lib.Dec.{eqb}
 use lib.ListN.{length, getD, replicate, length-replicate}
 use borrow.Author.Tests.{eqb-true, leb-true, ltb-true, le-leb, lt-leb}
 use Rattle.spec.specs.Choice.{if_then_else_}
-use Rattle.spec.specs.Text.{Line, bytes, same, Field, lookUp}
-use Rattle.spec.specs.Reading.{Fault, badForm, badRange, noStart, Seen, right, wrong, seen, insist, Range, _to_, below, inRange, allInRange, numerals, ranged, numbers}
+use Rattle.spec.specs.Text.{Line, bytes, same, Field, lookUp, numeral}
+use Rattle.spec.specs.Reading.{Fault, badForm, badRange, noStart, Seen, right, wrong, seen, insist, Range, _to_, below, inRange, allInRange, withNumeral, numerals, ranged, numbers}
 use Rattle.spec.specs.Expression.{Step}
-use Rattle.spec.specs.Split.{Map, Header, headings, headerRanges, mapsOf, mapsIn, startOf, headerOf, headed, headerLine, refOf, lockOf, tidOf, semOf, typeLine, typeLines, mapLine, Row, rowOf, startGiven, takesStart, startRange, postRange, postField, rowLine, Split}
+use Rattle.spec.specs.Split.{Map, Header, headings, headerRanges, mapsOf, mapsIn, startOf, headerOf, headed, headerLine, refOf, lockOf, outRange, tidOf, semOf, typeLine, typeLines, mapLine, Row, rowOf, startGiven, takesStart, startRange, postRange, postField, rowLine, Split}
 use Rattle.spec.specs.WellFormed.{Shows, nothing, line, WellFormedSplit}
 use Rattle.spec.specs.declared.Purpose.{Purpose}
 use Rattle.spec.specs.declared.Purpose.the-variants.{Check, Fill}
 use Rattle.spec.specs.Ranges.{InRange}
 use Rattle.spec.specs.declared.Heading.{Heading}
-use Rattle.spec.specs.declared.Heading.the-variants.{C, C2}
+use Rattle.spec.specs.declared.Heading.the-variants.{C, C2, C3}
 use Rattle.spec.specs.declared.MapNumber.{MapNumber}
 use Rattle.spec.specs.declared.Word.{Word}
 use Rattle.spec.specs.declared.TypeLine.{TypeLine}
 use Rattle.spec.specs.declared.TypeLine.the-variants as type-line
+use Rattle.spec.proofs.Clashes.{none-is-not-some}
 use Rattle.spec.proofs.Tests.{both-true}
 
 -- ------------------------------------------------------------------ lines that show something
@@ -78,6 +79,24 @@ numbers-spelled rs fs ns h = spelled (numerals fs) h
     spelled none h = wrong-is-not-right h
     spelled (some ms) h = ap some (counted (eqb (length ms) (length rs)) ms h)
 
+-- there are as many as fields
+pub numerals-counted : (fs : List Field) (ns : List ℕ) → numerals fs ≡ some ns → length ns ≡ length fs
+unfolding numerals withNumeral
+numerals-counted [] ns h = sym (ap counted h)
+  where
+    counted : Option (List ℕ) → ℕ
+    counted none = 0
+    counted (some ms) = length ms
+numerals-counted (f ∷ fs) ns h = by-numeral (numeral f) (numerals fs) (numerals-counted fs) h
+  where
+    by-numeral : (n : Option ℕ) (o : Option (List ℕ)) → ((ms : List ℕ) → o ≡ some ms → length ms ≡ length fs) → withNumeral n o ≡ some ns
+        → length ns ≡ suc (length fs)
+    by-numeral none o rest h = none-is-not-some h
+    by-numeral (some n) none rest h = none-is-not-some h
+    by-numeral (some n) (some ms) rest h =
+        let same : n ∷ ms ≡ ns = cc in
+        sym (ap length same) ∙ ap suc (rest ms refl)
+
 -- ------------------------------------------------------------------ numbers in ranges
 
 pub in-to : (a b n : ℕ) → inRange (a to b) n ≡ true → (a ≤ n) × (n ≤ b)
@@ -120,7 +139,29 @@ record HeaderFits (H : Header) : Type 0 where
   maps : (1 ≤ H .maps) × (H .maps ≤ 512)
   start : H .start .0 < H .maps
 
--- the ranges of a `C` header, and of the same numbers of a `C2` header
+-- the numbers of a header that names its start
+named-fits : (h : Heading) (fs : List Field) (ns : List ℕ) → numbers (headerRanges C2 (mapsIn (numerals fs))) fs ≡ right ns
+    → HeaderFits (record {
+      heading = h;
+      denominator = getD ns 0 0;
+      locations = getD ns 1 0;
+      types = getD ns 2 0;
+      maps = mapsOf ns;
+      start = record { 0 = getD ns 4 0 };
+    })
+unfolding headerRanges mapsIn mapsOf
+named-fits h fs ns n =
+    let at = in-range-at (headerRanges C2 (mapsIn (numerals fs))) fs ns n in
+    let named : mapsIn (numerals fs) ≡ mapsOf ns = ap mapsIn (numbers-spelled (headerRanges C2 (mapsIn (numerals fs))) fs ns n) in
+    record {
+      denominator = in-to _ _ _ (at 0 (omega arith));
+      locations = in-to _ _ _ (at 1 (omega arith));
+      types = in-to _ _ _ (at 2 (omega arith));
+      maps = in-to _ _ _ (at 3 (omega arith));
+      start = omega (arith, in-below _ _ (at 4 (omega arith)), named);
+    }
+
+-- the ranges of a `C` header, and of the same numbers of the others
 headed-fits : (o : Option Heading) (fs : List Field) (H : Header) → headed o fs ≡ right H → HeaderFits H
 unfolding headed headerRanges headerOf startOf mapsIn mapsOf
 headed-fits none fs H h = wrong-is-not-right h
@@ -135,17 +176,8 @@ headed-fits (some C) fs H h =
       maps = maps;
       start = maps .0;
     })
-headed-fits (some C2) fs H h =
-    let (ns, n, e) = seen-right _ h in
-    let at = in-range-at (headerRanges C2 (mapsIn (numerals fs))) fs ns n in
-    let named : mapsIn (numerals fs) ≡ mapsOf ns = ap mapsIn (numbers-spelled (headerRanges C2 (mapsIn (numerals fs))) fs ns n) in
-    along HeaderFits e (record {
-      denominator = in-to _ _ _ (at 0 (omega arith));
-      locations = in-to _ _ _ (at 1 (omega arith));
-      types = in-to _ _ _ (at 2 (omega arith));
-      maps = in-to _ _ _ (at 3 (omega arith));
-      start = omega (arith, in-below _ _ (at 4 (omega arith)), named);
-    })
+headed-fits (some C2) fs H h = let (ns, n, e) = seen-right _ h in along HeaderFits e (named-fits C2 fs ns n)
+headed-fits (some C3) fs H h = let (ns, n, e) = seen-right _ h in along HeaderFits e (named-fits C3 fs ns n)
 
 header-fits : (purpose : Purpose) (fs : List Field) (H : Header) → headerLine purpose fs ≡ right H → HeaderFits H
 unfolding headerLine
@@ -158,7 +190,7 @@ header-fits purpose (f ∷ fs) H h = headed-fits (lookUp (headings purpose) f) f
 TypeFits : Header → (own : ℕ) → TypeLine → Type 0
 TypeFits H own type-line.Int = Unit {0}
 TypeFits H own (type-line.Ref p c) = (p .0 < H .locations) × (c .0 < own)
-TypeFits H own (type-line.Lock k) = k .0 < H .maps
+TypeFits H own (type-line.Lock i o) = (i .0 < H .maps) × (o .0 < H .maps)
 TypeFits H own (type-line.Tid k) = k .0 < H .maps
 TypeFits H own (type-line.Sem k) = k .0 < H .maps
 
@@ -174,11 +206,18 @@ module _ (H : Header) (own : ℕ) (fs : List Field) where
       let at = in-range-at (below (H .locations) ∷ below own ∷ []) fs ns n in
       along (TypeFits H own) e (in-below _ _ (at 0 (omega arith)), in-below _ _ (at 1 (omega arith)))
 
-  lock-fits : (t : TypeLine) → seen lockOf (numbers (below (H .maps) ∷ (0 to 0) ∷ []) fs) ≡ right t → TypeFits H own t
-  unfolding lockOf TypeFits
-  lock-fits t h =
-      let (ns, n, e) = seen-right _ h in
-      along (TypeFits H own) e (in-below _ _ (in-range-at (below (H .maps) ∷ (0 to 0) ∷ []) fs ns n 0 (omega arith)))
+  lock-fits : (h : Heading) (t : TypeLine) → seen (lockOf h) (numbers (below (H .maps) ∷ outRange h (H .maps) ∷ []) fs) ≡ right t → TypeFits H own t
+  unfolding lockOf outRange TypeFits
+  lock-fits h t r =
+      let (ns, n, e) = seen-right _ r in
+      let at = in-range-at (below (H .maps) ∷ outRange h (H .maps) ∷ []) fs ns n in
+      along (TypeFits H own) e (by-heading h ns (in-below _ _ (at 0 (omega arith))) (at 1 (omega arith)))
+    where
+      by-heading : (h : Heading) (ns : List ℕ) → getD ns 0 0 < H .maps → inRange (outRange h (H .maps)) (getD ns 1 0) ≡ true
+          → TypeFits H own (lockOf h ns)
+      by-heading C ns first second = (first, first)
+      by-heading C2 ns first second = (first, first)
+      by-heading C3 ns first second = (first, in-below _ _ second)
 
   tid-fits : (t : TypeLine) → seen tidOf (numbers (below (H .maps) ∷ (0 to 0) ∷ []) fs) ≡ right t → TypeFits H own t
   unfolding tidOf TypeFits
@@ -199,7 +238,7 @@ type-fits H own (f ∷ fs) t h =
     let fits = TypeFits H own in
     either-right fits (same f (bytes "int")) _ _ (int-fits H own fs)
     (either-right fits (same f (bytes "ref")) _ _ (ref-fits H own fs)
-    (either-right fits (same f (bytes "lock")) _ _ (lock-fits H own fs)
+    (either-right fits (same f (bytes "lock")) _ _ (lock-fits H own fs (H .heading))
     (either-right fits (same f (bytes "tid")) _ _ (tid-fits H own fs)
     (either-right fits (same f (bytes "sem")) _ _ (sem-fits H own fs) (λ t h. wrong-is-not-right h))))) t h
 
@@ -317,7 +356,7 @@ well-formed-in-range {purpose} {steps} {text} {S} F =
       rowsCounted = rowsCounted;
       mapWide = wide;
       refPlace = λ t p c h e. fits t (type-line.Ref p c) h e;
-      lockLoad = λ t k h e. omega (arith, mapsCounted, fits t (type-line.Lock k) h e);
+      lockLoads = λ t i o h e. let (first, second) = fits t (type-line.Lock i o) h e in (omega (arith, mapsCounted, first), omega (arith, mapsCounted, second));
       tidLoad = λ t k h e. omega (arith, mapsCounted, fits t (type-line.Tid k) h e);
       semLoad = λ t k h e. omega (arith, mapsCounted, fits t (type-line.Sem k) h e);
       rowType = λ i d h. omega (arith, typesCounted, rows i d h .0);

@@ -8,7 +8,7 @@ use Rattle.spec.specs.Reading.{stop, on, _>>=_, demand}
 use Rattle.spec.specs.Program.{Program, program, programLimit}
 use Rattle.spec.specs.Split.{Split, split, splitLimit}
 use Rattle.spec.specs.Workspace.{workspaceSize}
-use Rattle.spec.specs.Verdict.{startAtMostOne, ruled, checked, answer, verdict}
+use Rattle.spec.specs.Verdict.{locksTakeEnough, startAtMostOne, ruled, checked, answer, verdict}
 use Rattle.spec.specs.declared.Answer.the-variants.{Refuse}
 use Rattle.spec.specs.declared.Refusal.{Refusal}
 use Rattle.spec.specs.declared.Refusal.the-variants.{ShortWorkspace, LongProgram, LongSplit}
@@ -38,6 +38,6 @@ module _ (room : ℕ) (p s : List ℕ) (enough : 16384 ≤ room) where
         unfolding verdict checked answer demand _>>=_ workspaceSize programLimit splitLimit
         split-refused r e = rw (le-leb _ _ enough, le-leb _ _ fits, reads, le-leb _ _ fits′, e)
 
-        pub rules-decide : (S : Split) → split Check (P .steps) s ≡ on S → verdict room p s ≡ answer (startAtMostOne P S >>= λ whole. ruled P S)
+        pub rules-decide : (S : Split) → split Check (P .steps) s ≡ on S → verdict room p s ≡ answer (locksTakeEnough S >>= λ locks. startAtMostOne P S >>= λ whole. ruled P S)
         unfolding verdict checked demand _>>=_ workspaceSize programLimit splitLimit
         rules-decide S e = rw (le-leb _ _ enough, le-leb _ _ fits, reads, le-leb _ _ fits′, e)

@@ -16,10 +16,11 @@ use Rattle.spec.specs.Expression.{Step}
 use Rattle.spec.specs.Program.{Program, program, programLimit}
 use Rattle.spec.specs.Split.{splitLimit, Header, headerLine, typeLines, mapLine, Row, rowOf, startGiven, takesStart, startRange, postRange, postField, rowLine, Split, split}
 use Rattle.spec.specs.Workspace.{workspaceSize}
-use Rattle.spec.specs.Verdict.{startAtMostOne, ruled, checked, answer, verdict}
+use Rattle.spec.specs.Verdict.{locksTakeEnough, startAtMostOne, ruled, checked, answer, verdict}
 use Rattle.spec.specs.declared.Answer.{Answer}
 use Rattle.spec.specs.declared.Refusal.the-variants.{ShortWorkspace, LongProgram, LongSplit}
 use Rattle.spec.specs.declared.Purpose.the-variants.{Check}
+use Rattle.spec.proofs.Outcomes.{bind-alike}
 
 -- ------------------------------------------------------------------ the reading before
 
@@ -56,6 +57,7 @@ checkedFormerly room programText splitText = do
   P ← program programText
   fits′ ← demand (leb (length splitText) splitLimit) LongSplit
   S ← splitFormerly (P .steps) splitText
+  locks ← locksTakeEnough S
   whole ← startAtMostOne P S
   ruled P S
 
@@ -246,11 +248,6 @@ module _ (steps : List Step) (t t′ : List ℕ) where
 
 -- ------------------------------------------------------------------ the theorem
 
-bind-alike : {A B : Type 0} (m : Out A) (f g : A → Out B) → ((a : A) → m ≡ on a → f a ≡ g a) → (m >>= f) ≡ (m >>= g)
-unfolding _>>=_
-bind-alike (stop r) f g h = refl
-bind-alike (on a) f g h = h a refl
-
 -- t′ is t with 0 written, for the steps of the program p
 abbrev pub ZeroWritten : (p t t′ : List ℕ) → Type 0
 ZeroWritten p t t′ = (P : Program) → program p ≡ on P → lines t′ ≡ zerosWritten (P .steps) (lines t)
@@ -263,7 +260,7 @@ checked-alike room p t t′ fits fits′ written = rw (le-leb _ _ fits, le-leb _
     bind-alike _ _ _ λ _ _.
     bind-alike _ _ _ λ P reads.
     bind-alike _ _ _ λ _ _.
-    ap (_>>= λ S. startAtMostOne P S >>= λ whole. ruled P S) (sheet-alike (P .steps) t t′ (lines t) refl (written P reads)))
+    ap (_>>= λ S. locksTakeEnough S >>= λ locks. startAtMostOne P S >>= λ whole. ruled P S) (sheet-alike (P .steps) t t′ (lines t) refl (written P reads)))
 
 -- of each pair, refused or accepted, under each heading
 pub zero-written-as-formerly : (room : ℕ) (p t t′ : List ℕ) → length t ≤ splitLimit → length t′ ≤ splitLimit → ZeroWritten p t t′

@@ -7,7 +7,7 @@ use borrow.Author.Tests.{le-leb, lt-ltb}
 use Rattle.spec.specs.Split.{Map, Split}
 use Rattle.spec.specs.Maps.{share}
 use Rattle.spec.specs.Agreement.{agree}
-use Rattle.spec.specs.Conditions.{isInt, isRef, isLock, isTid, isSem, place, load, contains, mapAt}
+use Rattle.spec.specs.Conditions.{isInt, isRef, isLock, isTid, isSem, place, load, inLoad, outLoad, contains, mapAt}
 use Rattle.spec.specs.declared.TypeNumber.{TypeNumber}
 use Rattle.spec.specs.declared.MapNumber.{MapNumber}
 use Rattle.spec.specs.declared.Location.{Location}
@@ -21,7 +21,7 @@ pub is-int : (t : TypeLine) → isInt t ≡ true → t ≡ Int
 unfolding isInt
 is-int Int h = refl
 is-int (Ref p c) h = cc
-is-int (Lock k) h = cc
+is-int (Lock i o) h = cc
 is-int (Tid k) h = cc
 is-int (Sem k) h = cc
 
@@ -29,15 +29,15 @@ pub is-tid : (t : TypeLine) → isTid t ≡ true → t ≡ Tid (load t)
 unfolding isTid load
 is-tid Int h = cc
 is-tid (Ref p c) h = cc
-is-tid (Lock k) h = cc
+is-tid (Lock i o) h = cc
 is-tid (Tid k) h = refl
 is-tid (Sem k) h = cc
 
-pub is-lock : (t : TypeLine) → isLock t ≡ true → t ≡ Lock (load t)
-unfolding isLock load
+pub is-lock : (t : TypeLine) → isLock t ≡ true → t ≡ Lock (inLoad t) (outLoad t)
+unfolding isLock inLoad outLoad
 is-lock Int h = cc
 is-lock (Ref p c) h = cc
-is-lock (Lock k) h = refl
+is-lock (Lock i o) h = refl
 is-lock (Tid k) h = cc
 is-lock (Sem k) h = cc
 
@@ -45,7 +45,7 @@ pub is-sem : (t : TypeLine) → isSem t ≡ true → t ≡ Sem (load t)
 unfolding isSem load
 is-sem Int h = cc
 is-sem (Ref p c) h = cc
-is-sem (Lock k) h = cc
+is-sem (Lock i o) h = cc
 is-sem (Tid k) h = cc
 is-sem (Sem k) h = refl
 
@@ -55,7 +55,7 @@ pub is-ref-of : (S : Split) (t : TypeLine) (u : TypeNumber) → contains S t u �
 unfolding contains place
 is-ref-of S Int u h = true-is-not-false (sym h)
 is-ref-of S (Ref p c) u h = (c, refl, h)
-is-ref-of S (Lock k) u h = true-is-not-false (sym h)
+is-ref-of S (Lock i o) u h = true-is-not-false (sym h)
 is-ref-of S (Tid k) u h = true-is-not-false (sym h)
 is-ref-of S (Sem k) u h = true-is-not-false (sym h)
 
@@ -69,7 +69,7 @@ pub tid-is : {t : TypeLine} {k : MapNumber} → t ≡ Tid k → isTid t ≡ true
 unfolding isTid
 tid-is e = rw e
 
-pub lock-is : {t : TypeLine} {k : MapNumber} → t ≡ Lock k → isLock t ≡ true
+pub lock-is : {t : TypeLine} {i o : MapNumber} → t ≡ Lock i o → isLock t ≡ true
 unfolding isLock
 lock-is e = rw e
 
@@ -89,9 +89,13 @@ pub tid-load : (S : Split) {t : TypeLine} {k : MapNumber} → t ≡ Tid k → ma
 unfolding load
 tid-load S e = rw e
 
-pub lock-load : (S : Split) {t : TypeLine} {k : MapNumber} → t ≡ Lock k → mapAt S (load t) ≡ mapAt S k
-unfolding load
-lock-load S e = rw e
+pub lock-in : (S : Split) {t : TypeLine} {i o : MapNumber} → t ≡ Lock i o → mapAt S (inLoad t) ≡ mapAt S i
+unfolding inLoad
+lock-in S e = rw e
+
+pub lock-out : (S : Split) {t : TypeLine} {i o : MapNumber} → t ≡ Lock i o → mapAt S (outLoad t) ≡ mapAt S o
+unfolding outLoad
+lock-out S e = rw e
 
 pub sem-load : (S : Split) {t : TypeLine} {k : MapNumber} → t ≡ Sem k → mapAt S (load t) ≡ mapAt S k
 unfolding load

@@ -1,17 +1,25 @@
 -- Demand 2: what it is for a pair to be right.
+use mathlib.Core.Path.{_≡_}
 use mathlib.Core.List.{List, [], _∷_}
 use Prim.Native.Nat.{ℕ, _≤_}
 use Rattle.spec.specs.Program.{Program}
-use Rattle.spec.specs.Split.{Map, Split}
+use Rattle.spec.specs.Split.{Map, Split, typeAt, mapAt}
 use Rattle.spec.specs.Conditions.{startMap}
-use Rattle.spec.specs.Figure5.{Derives}
+use Rattle.spec.specs.Figure5.{_⊒_, Derives}
 use Rattle.spec.specs.WellFormed.{WellFormedProgram, WellFormedSplit}
 use Rattle.spec.specs.declared.Purpose.the-variants.{Check}
+use Rattle.spec.specs.declared.TypeNumber.{TypeNumber}
+use Rattle.spec.specs.declared.MapNumber.{MapNumber}
+use Rattle.spec.specs.declared.TypeLine.the-variants as type-line
 
 -- a map has at most d of each location
 pub data AtMost (d : ℕ) : Map → Type 0 where
   none : AtMost d []
   more : {a : ℕ} {m : Map} → a ≤ d → AtMost d m → AtMost d (a ∷ m)
+
+-- the out of each lock line is nowhere below its in, used or not
+abbrev pub LocksTakeEnough : Split → Type 0
+LocksTakeEnough S = (t : TypeNumber) (i o : MapNumber) → typeAt S t ≡ type-line.Lock i o → mapAt S o ⊒ mapAt S i
 
 -- "both sheets are well formed and the split sheet gives, step by step, a derivation [..], with the start holding at most
 -- one of each location"
@@ -20,5 +28,6 @@ pub record Right (programText splitText : List ℕ) : Type 0 where
   pub S : Split
   pub program : WellFormedProgram programText P
   pub split : WellFormedSplit Check (P .steps) splitText S
+  pub locks : LocksTakeEnough S
   pub atMostOne : AtMost (S .header .denominator) (startMap S)
   pub derives : Derives S [] (startMap S) (P .root)

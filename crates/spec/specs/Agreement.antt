@@ -50,7 +50,7 @@ module _ (S : Split) where
   unfoldable pub treeOf : (before : List Tree) → TypeLine → Tree
   treeOf before Int = plain int []
   treeOf before (Ref p c) = ref p (getD before (c .0) (plain int []))
-  treeOf before (Lock k) = plain lock (mapAt S k ∷ [])
+  treeOf before (Lock i o) = plain lock (mapAt S i ∷ mapAt S o ∷ [])
   treeOf before (Tid k) = plain tid (mapAt S k ∷ [])
   treeOf before (Sem k) = plain sem (mapAt S k ∷ [])
 

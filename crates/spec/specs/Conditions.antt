@@ -1,6 +1,6 @@
 -- The conditions, from Figure 5.
 use mathlib.Core.List.{List, [], _∷_, _++_}
-use mathlib.Core.Bool.{Bool, true, false}
+use mathlib.Core.Bool.{Bool, true, false, _&&_}
 use mathlib.Core.Option.{Option, none, some}
 use Prim.Native.Nat.{ℕ, _+_, _-_}
 use lib.Dec.{eqb, leb, ltb}
@@ -11,7 +11,7 @@ use Rattle.spec.specs.Expression.{Expr, leaf, unary, binary}
 use Rattle.spec.specs.Split.{Map, Row, Split}
 unfoldable pub use Rattle.spec.specs.Split.{typeAt, mapAt}
 use Rattle.spec.specs.Agreement.{agree}
-use Rattle.spec.specs.Maps.{_=ᵐ_, _≥ᵐ_, _+ᵐ_, share, overWhole}
+use Rattle.spec.specs.Maps.{_=ᵐ_, _≥ᵐ_, nowhere, _+ᵐ_, share, overWhole}
 use Rattle.spec.specs.declared.TypeNumber.{TypeNumber}
 use Rattle.spec.specs.declared.MapNumber.{MapNumber}
 use Rattle.spec.specs.declared.Location.{Location}
@@ -30,35 +30,35 @@ use Rattle.spec.specs.declared.BinaryWord.the-variants.{Let, If, Spawn, 
 unfoldable pub isInt : TypeLine → Bool
 isInt type-line.Int = true
 isInt (type-line.Ref p c) = false
-isInt (type-line.Lock k) = false
+isInt (type-line.Lock i o) = false
 isInt (type-line.Tid k) = false
 isInt (type-line.Sem k) = false
 
 unfoldable pub isRef : TypeLine → Bool
 isRef type-line.Int = false
 isRef (type-line.Ref p c) = true
-isRef (type-line.Lock k) = false
+isRef (type-line.Lock i o) = false
 isRef (type-line.Tid k) = false
 isRef (type-line.Sem k) = false
 
 unfoldable pub isLock : TypeLine → Bool
 isLock type-line.Int = false
 isLock (type-line.Ref p c) = false
-isLock (type-line.Lock k) = true
+isLock (type-line.Lock i o) = true
 isLock (type-line.Tid k) = false
 isLock (type-line.Sem k) = false
 
 unfoldable pub isTid : TypeLine → Bool
 isTid type-line.Int = false
 isTid (type-line.Ref p c) = false
-isTid (type-line.Lock k) = false
+isTid (type-line.Lock i o) = false
 isTid (type-line.Tid k) = true
 isTid (type-line.Sem k) = false
 
 unfoldable pub isSem : TypeLine → Bool
 isSem type-line.Int = false
 isSem (type-line.Ref p c) = false
-isSem (type-line.Lock k) = false
+isSem (type-line.Lock i o) = false
 isSem (type-line.Tid k) = false
 isSem (type-line.Sem k) = true
 
@@ -66,17 +66,32 @@ isSem (type-line.Sem k) = true
 unfoldable pub place : TypeLine → Location
 place type-line.Int = record { 0 = 0 }
 place (type-line.Ref p c) = p
-place (type-line.Lock k) = record { 0 = 0 }
+place (type-line.Lock i o) = record { 0 = 0 }
 place (type-line.Tid k) = record { 0 = 0 }
 place (type-line.Sem k) = record { 0 = 0 }
 
--- K of a lock, tid or sem type; it is asked for only where the type is one
+-- K of a tid or sem type; it is asked for only where the type is one
 unfoldable pub load : TypeLine → MapNumber
 load type-line.Int = record { 0 = 0 }
 load (type-line.Ref p c) = record { 0 = 0 }
-load (type-line.Lock k) = k
+load (type-line.Lock i o) = record { 0 = 0 }
 load (type-line.Tid k) = k
 load (type-line.Sem k) = k
+
+-- in and out of a lock type; they are asked for only where the type is one
+unfoldable pub inLoad : TypeLine → MapNumber
+inLoad type-line.Int = record { 0 = 0 }
+inLoad (type-line.Ref p c) = record { 0 = 0 }
+inLoad (type-line.Lock i o) = i
+inLoad (type-line.Tid k) = record { 0 = 0 }
+inLoad (type-line.Sem k) = record { 0 = 0 }
+
+unfoldable pub outLoad : TypeLine → MapNumber
+outLoad type-line.Int = record { 0 = 0 }
+outLoad (type-line.Ref p c) = record { 0 = 0 }
+outLoad (type-line.Lock i o) = o
+outLoad (type-line.Tid k) = record { 0 = 0 }
+outLoad (type-line.Sem k) = record { 0 = 0 }
 
 -- ------------------------------------------------------------------ conditions
 
@@ -110,15 +125,28 @@ module _ (S : Split) where
   unfoldable pub contains : TypeLine → TypeNumber → Bool
   contains type-line.Int t = false
   contains (type-line.Ref p c) t = agree S c t
-  contains (type-line.Lock k) t = false
+  contains (type-line.Lock i o) t = false
   contains (type-line.Tid k) t = false
   contains (type-line.Sem k) t = false
+
+  -- of two lock types: the in of the first is nowhere above that of the second, its out nowhere below
+  unfoldable pub looserLock : (shown own : TypeLine) → Bool
+  looserLock x y = nowhere (mapAt S (inLoad y) ≥ᵐ mapAt S (inLoad x)) && nowhere (mapAt S (outLoad x) ≥ᵐ mapAt S (outLoad y))
+
+  -- "A var line may show a lock type whose in is nowhere above and whose out is nowhere below those of its let's value; other
+  -- agreement is unchanged, including inside refs."
+  unfoldable pub mayShow : (shown own : TypeNumber) → Bool
+  mayShow t u =
+      if isLock (typeAt S t) && isLock (typeAt S u)
+      then looserLock (typeAt S t) (typeAt S u)
+      else agree S t u
 
   -- the split's row of an expression's first step: rows begin with the step at line 2
   unfoldable pub row : Expr → Row
   row e = getD (S .rows) (lineOf e - 2) (record { type = record { 0 = 0 }; post = record { 0 = 0 }; start = none })
 
-  -- of an expression: its type by number, that type's line, its post, the map that a spawned body starts with, K of its type
+  -- of an expression: its type by number, that type's line, its post, the map that a spawned body starts with, K of its type, in
+  -- and out of its type
   unfoldable pub type : Expr → TypeNumber
   type e = row e .type
 
@@ -139,10 +167,16 @@ module _ (S : Split) where
   unfoldable pub K : Expr → Map
   K e = mapAt S (load (kind e))
 
+  unfoldable pub inMap : Expr → Map
+  inMap e = mapAt S (inLoad (kind e))
+
+  unfoldable pub outMap : Expr → Map
+  outMap e = mapAt S (outLoad (kind e))
+
   -- the table, in the order of Figure 5: the conditions of a step, in order, with the types of the variables there and its pre
   unfoldable pub own : Env → (pre : Map) → Expr → List Condition
   own Γ pre (leaf Var k v) = let e = leaf Var k v in
-      T (agree S (type e) (typeIn Γ v)) ∷ F (post e =ᵐ pre) ∷ []
+      T (mayShow (type e) (typeIn Γ v)) ∷ F (post e =ᵐ pre) ∷ []
   own Γ pre (leaf Int k v) = let e = leaf Int k v in
       T (isInt (kind e)) ∷ F (post e =ᵐ pre) ∷ []
   own Γ pre (binary Let k v e₁ e₂) = let e = binary Let k v e₁ e₂ in
@@ -165,13 +199,13 @@ module _ (S : Split) where
   own Γ pre (unary Read k v e₁) = let e = unary Read k v e₁ in let p = place (kind e₁) in
       T (isRef (kind e₁)) ∷ T (contains (kind e₁) (type e)) ∷ F (post e =ᵐ post e₁) ∷ A (ltb 0 (share (post e) p)) p ∷ []
   own Γ pre (leaf Newlock k v) = let e = leaf Newlock k v in
-      T (isLock (kind e)) ∷ F (post e +ᵐ K e =ᵐ pre) ∷ []
+      T (isLock (kind e)) ∷ F (post e +ᵐ outMap e =ᵐ pre) ∷ []
   own Γ pre (unary Freelock k v e₁) = let e = unary Freelock k v e₁ in
-      T (isInt (kind e)) ∷ T (isLock (kind e₁)) ∷ F (post e =ᵐ post e₁ +ᵐ K e₁) ∷ []
+      T (isInt (kind e)) ∷ T (isLock (kind e₁)) ∷ F (post e =ᵐ post e₁ +ᵐ inMap e₁) ∷ []
   own Γ pre (unary Lock k v e₁) = let e = unary Lock k v e₁ in
-      T (isInt (kind e)) ∷ T (isLock (kind e₁)) ∷ F (post e =ᵐ post e₁ +ᵐ K e₁) ∷ []
+      T (isInt (kind e)) ∷ T (isLock (kind e₁)) ∷ F (post e =ᵐ post e₁ +ᵐ inMap e₁) ∷ []
   own Γ pre (unary Unlock k v e₁) = let e = unary Unlock k v e₁ in
-      T (isInt (kind e)) ∷ T (isLock (kind e₁)) ∷ F (post e +ᵐ K e₁ =ᵐ post e₁) ∷ []
+      T (isInt (kind e)) ∷ T (isLock (kind e₁)) ∷ F (post e +ᵐ outMap e₁ =ᵐ post e₁) ∷ []
   own Γ pre (leaf Newsem k v) = let e = leaf Newsem k v in
       T (isSem (kind e)) ∷ F (post e =ᵐ pre) ∷ []
   own Γ pre (unary Post k v e₁) = let e = unary Post k v e₁ in

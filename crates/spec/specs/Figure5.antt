@@ -1,5 +1,6 @@
 -- Figure 5 as a derivation whose judgements are the split's own: the type and the post of an expression are those of its row.
--- One constructor a printed rule, in the printed order. Types agree as Agreement.antt says; 1 is the denominator.
+-- One constructor a printed rule, in the printed order. Types agree as Agreement.antt says; 1 is the denominator. Locks are those of
+-- Section 3.1.6: what a variable may show of the type of its let's value is VAR's own premise.
 use mathlib.Core.Path.{_≡_}
 use mathlib.Core.List.{List, [], _∷_}
 use mathlib.Core.Bool.{true}
@@ -8,7 +9,7 @@ use Rattle.spec.specs.Expression.{Expr, leaf, unary, binary}
 use Rattle.spec.specs.Split.{Map, Split}
 use Rattle.spec.specs.Maps.{_+ᵐ_, share}
 use Rattle.spec.specs.Agreement.{agree}
-use Rattle.spec.specs.Conditions.{Env, typeIn, type, kind, post, start, mapAt}
+use Rattle.spec.specs.Conditions.{Env, typeIn, mayShow, type, kind, post, start, mapAt}
 use Rattle.spec.specs.declared.TypeNumber.{TypeNumber}
 use Rattle.spec.specs.declared.MapNumber.{MapNumber}
 use Rattle.spec.specs.declared.Location.{Location}
@@ -28,7 +29,7 @@ module _ (S : Split) where
   -- Derives Γ Ψ e: Γ, Ψ ⊢ e : type S e, post S e
   pub data Derives : Env → Map → Expr → Type 0 where
     VAR : {Γ : Env} {Ψ : Map} {k v : ℕ}
-        → agree S (type S (leaf Var k v)) (typeIn Γ v) ≡ true → post S (leaf Var k v) ≡ Ψ
+        → mayShow S (type S (leaf Var k v)) (typeIn Γ v) ≡ true → post S (leaf Var k v) ≡ Ψ
         → Derives Γ Ψ (leaf Var k v)
     INT : {Γ : Env} {Ψ : Map} {k v : ℕ}
         → kind S (leaf Int k v) ≡ type-line.Int → post S (leaf Int k v) ≡ Ψ
@@ -71,20 +72,20 @@ module _ (S : Split) where
         → 0 < share (post S (unary Read k v e₁)) ρ
         → post S (unary Read k v e₁) ≡ post S e₁
         → Derives Γ Ψ (unary Read k v e₁)
-    NEWL : {Γ : Env} {Ψ : Map} {k v : ℕ} {K : MapNumber}
-        → kind S (leaf Newlock k v) ≡ type-line.Lock K → post S (leaf Newlock k v) +ᵐ mapAt S K ≡ Ψ
+    NEWL : {Γ : Env} {Ψ : Map} {k v : ℕ} {Kᵢ Kₒ : MapNumber}
+        → kind S (leaf Newlock k v) ≡ type-line.Lock Kᵢ Kₒ → post S (leaf Newlock k v) +ᵐ mapAt S Kₒ ≡ Ψ
         → Derives Γ Ψ (leaf Newlock k v)
-    FREEL : {Γ : Env} {Ψ : Map} {k v : ℕ} {K : MapNumber} {e₁ : Expr}
-        → Derives Γ Ψ e₁ → kind S e₁ ≡ type-line.Lock K → kind S (unary Freelock k v e₁) ≡ type-line.Int
-        → post S (unary Freelock k v e₁) ≡ post S e₁ +ᵐ mapAt S K
+    FREEL : {Γ : Env} {Ψ : Map} {k v : ℕ} {Kᵢ Kₒ : MapNumber} {e₁ : Expr}
+        → Derives Γ Ψ e₁ → kind S e₁ ≡ type-line.Lock Kᵢ Kₒ → kind S (unary Freelock k v e₁) ≡ type-line.Int
+        → post S (unary Freelock k v e₁) ≡ post S e₁ +ᵐ mapAt S Kᵢ
         → Derives Γ Ψ (unary Freelock k v e₁)
-    LCK : {Γ : Env} {Ψ : Map} {k v : ℕ} {K : MapNumber} {e₁ : Expr}
-        → Derives Γ Ψ e₁ → kind S e₁ ≡ type-line.Lock K → kind S (unary Lock k v e₁) ≡ type-line.Int
-        → post S (unary Lock k v e₁) ≡ post S e₁ +ᵐ mapAt S K
+    LCK : {Γ : Env} {Ψ : Map} {k v : ℕ} {Kᵢ Kₒ : MapNumber} {e₁ : Expr}
+        → Derives Γ Ψ e₁ → kind S e₁ ≡ type-line.Lock Kᵢ Kₒ → kind S (unary Lock k v e₁) ≡ type-line.Int
+        → post S (unary Lock k v e₁) ≡ post S e₁ +ᵐ mapAt S Kᵢ
         → Derives Γ Ψ (unary Lock k v e₁)
-    ULCK : {Γ : Env} {Ψ : Map} {k v : ℕ} {K : MapNumber} {e₁ : Expr}
-        → Derives Γ Ψ e₁ → kind S e₁ ≡ type-line.Lock K → kind S (unary Unlock k v e₁) ≡ type-line.Int
-        → post S (unary Unlock k v e₁) +ᵐ mapAt S K ≡ post S e₁
+    ULCK : {Γ : Env} {Ψ : Map} {k v : ℕ} {Kᵢ Kₒ : MapNumber} {e₁ : Expr}
+        → Derives Γ Ψ e₁ → kind S e₁ ≡ type-line.Lock Kᵢ Kₒ → kind S (unary Unlock k v e₁) ≡ type-line.Int
+        → post S (unary Unlock k v e₁) +ᵐ mapAt S Kₒ ≡ post S e₁
         → Derives Γ Ψ (unary Unlock k v e₁)
     -- section 3.1.4
     NEWSEM : {Γ : Env} {Ψ : Map} {k v : ℕ} {K : MapNumber}

@@ -9,7 +9,7 @@ use Rattle.spec.specs.Split.{Split}
 use Rattle.spec.specs.Conditions.{Condition, T, F, A, startMap}
 use Rattle.spec.specs.Sites.{Claim, sites, claims}
 use Rattle.spec.specs.WellFormed.{WellFormedProgram, WellFormedSplit}
-use Rattle.spec.specs.Accepted.{AtMost}
+use Rattle.spec.specs.Accepted.{LocksTakeEnough, AtMost}
 use Rattle.spec.specs.declared.Location.{Location}
 use Rattle.spec.specs.declared.Refusal.{Refusal}
 use Rattle.spec.specs.declared.Refusal.the-variants.{TypeFalse, FlowFalse, AccessFalse}
@@ -60,13 +60,14 @@ InOrder (c ∷ cs) = EarlierThanAll c cs × InOrder cs
 
 -- ------------------------------------------------------------------ a pair of sheets
 
--- what a refusal 31 to 33 says of a pair: both sheets are well formed, the start holds at most one of each location, the
--- conditions stand by step line and then by number, and r names the first that is false
+-- what a refusal 31 to 33 says of a pair: both sheets are well formed, the out of each lock line is nowhere below its in, the start
+-- holds at most one of each location, the conditions stand by step line and then by number, and r names the first that is false
 pub record Refuted (programText splitText : List ℕ) (r : Refusal) : Type 0 where
   pub P : Program
   pub S : Split
   pub program : WellFormedProgram programText P
   pub split : WellFormedSplit Check (P .steps) splitText S
+  pub locks : LocksTakeEnough S
   pub atMostOne : AtMost (S .header .denominator) (startMap S)
   pub inOrder : InOrder (claims S (sites S [] (startMap S) (P .root)))
   pub first : FirstFalse (claims S (sites S [] (startMap S) (P .root))) r

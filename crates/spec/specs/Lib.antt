@@ -22,4 +22,5 @@ pub mod EdgeAgreement
 pub mod EdgeNumbers
 pub mod EdgeStart
 pub mod EdgeSemaphores
+pub mod EdgeLocks
 pub mod FirstFalse

@@ -26,8 +26,8 @@ pub record InRange (steps : List Step) (S : Split) : Type 0 where
   -- the numbers on a type line
   pub refPlace : (t : ℕ) (p : Location) (c : TypeNumber) → t < length (S .types)
       → getD (S .types) t type-line.Int ≡ type-line.Ref p c → (p .0 < S .header .locations) × (c .0 < t)
-  pub lockLoad : (t : ℕ) (k : MapNumber) → t < length (S .types)
-      → getD (S .types) t type-line.Int ≡ type-line.Lock k → k .0 < length (S .maps)
+  pub lockLoads : (t : ℕ) (i o : MapNumber) → t < length (S .types)
+      → getD (S .types) t type-line.Int ≡ type-line.Lock i o → (i .0 < length (S .maps)) × (o .0 < length (S .maps))
   pub tidLoad : (t : ℕ) (k : MapNumber) → t < length (S .types)
       → getD (S .types) t type-line.Int ≡ type-line.Tid k → k .0 < length (S .maps)
   pub semLoad : (t : ℕ) (k : MapNumber) → t < length (S .types)

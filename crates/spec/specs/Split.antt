@@ -9,7 +9,7 @@ use Rattle.spec.specs.Text.{bytes, same, lines, Field, lookUp}
 use Rattle.spec.specs.Reading.{splitSheet, Out, _>>=_, on, wrong, badForm, noStart, Seen, seen, insist, Range, _to_, below, numerals, numbers, next, nextAll, begin, end}
 use Rattle.spec.specs.Expression.{Step}
 use Rattle.spec.specs.declared.Heading.{Heading}
-use Rattle.spec.specs.declared.Heading.the-variants.{C, C2}
+use Rattle.spec.specs.declared.Heading.the-variants.{C, C2, C3}
 use Rattle.spec.specs.declared.Purpose.{Purpose}
 use Rattle.spec.specs.declared.Purpose.the-variants.{Check, Fill}
 use Rattle.spec.specs.declared.TypeNumber.{TypeNumber}
@@ -29,7 +29,7 @@ splitLimit = 65536
 abbrev pub Map : Type 0
 Map = List ℕ
 
--- `C,D,L,T,M` and `C2,D,L,T,M,r`: denominator, locations, types, maps, and the start, the map before the root
+-- `C,D,L,T,M`, `C2,D,L,T,M,r` and `C3,D,L,T,M,r`: denominator, locations, types, maps, and the start, the map before the root
 pub record Header : Type 0 where
   pub heading : Heading
   pub denominator : ℕ
@@ -40,13 +40,14 @@ pub record Header : Type 0 where
 
 -- when filling, "A `C` header is 21"
 unfoldable pub headings : Purpose → List (List ℕ × Heading)
-headings Check = (bytes "C", C) ∷ (bytes "C2", C2) ∷ []
-headings Fill = (bytes "C2", C2) ∷ []
+headings Check = (bytes "C", C) ∷ (bytes "C2", C2) ∷ (bytes "C3", C3) ∷ []
+headings Fill = (bytes "C2", C2) ∷ (bytes "C3", C3) ∷ []
 
 -- r is a map: its range ends with the M of its own line
 unfoldable pub headerRanges : Heading → (maps : ℕ) → List Range
 headerRanges C maps = (1 to 1000000000) ∷ (1 to 16) ∷ (1 to 64) ∷ (1 to 512) ∷ []
 headerRanges C2 maps = (1 to 1000000000) ∷ (1 to 16) ∷ (1 to 64) ∷ (1 to 512) ∷ below maps ∷ []
+headerRanges C3 maps = (1 to 1000000000) ∷ (1 to 16) ∷ (1 to 64) ∷ (1 to 512) ∷ below maps ∷ []
 
 -- M among the numbers of a header
 unfoldable pub mapsOf : List ℕ → ℕ
@@ -60,6 +61,7 @@ mapsIn (some ns) = mapsOf ns
 unfoldable pub startOf : Heading → List ℕ → MapNumber
 startOf C ns = record { 0 = 0 }
 startOf C2 ns = record { 0 = getD ns 4 0 }
+startOf C3 ns = record { 0 = getD ns 4 0 }
 
 unfoldable pub headerOf : Heading → List ℕ → Header
 headerOf h ns = record {
@@ -79,12 +81,21 @@ unfoldable pub headerLine : Purpose → List Field → Seen Header
 headerLine purpose [] = wrong badForm
 headerLine purpose (f ∷ fs) = headed (lookUp (headings purpose) f) fs
 
--- `int,0,0`; `ref,p,t`; `lock,k,0`; `tid,k,0`; `sem,k,0`. A content type's number is less than the type's own.
+-- `int,0,0`; `ref,p,t`; `lock,k,0`, or `lock,in,out`; `tid,k,0`; `sem,k,0`. A content type's number is less than the type's own.
 unfoldable pub refOf : List ℕ → TypeLine
 refOf ns = Ref (record { 0 = getD ns 0 0 }) (record { 0 = getD ns 1 0 })
 
-unfoldable pub lockOf : List ℕ → TypeLine
-lockOf ns = Lock (record { 0 = getD ns 0 0 })
+-- "A `C3` sheet is a `C2` sheet whose lock line is `lock,in,out`"; "older lock lines mean in = out"
+unfoldable pub lockOf : Heading → List ℕ → TypeLine
+lockOf C ns = Lock (record { 0 = getD ns 0 0 }) (record { 0 = getD ns 0 0 })
+lockOf C2 ns = Lock (record { 0 = getD ns 0 0 }) (record { 0 = getD ns 0 0 })
+lockOf C3 ns = Lock (record { 0 = getD ns 0 0 }) (record { 0 = getD ns 1 0 })
+
+-- the third field of a lock line
+unfoldable pub outRange : Heading → (maps : ℕ) → Range
+outRange C maps = 0 to 0
+outRange C2 maps = 0 to 0
+outRange C3 maps = below maps
 
 unfoldable pub tidOf : List ℕ → TypeLine
 tidOf ns = Tid (record { 0 = getD ns 0 0 })
@@ -97,7 +108,7 @@ typeLine H own [] = wrong badForm
 typeLine H own (f ∷ fs) =
     if same f (bytes "int") then seen (λ ns. Int) (numbers ((0 to 0) ∷ (0 to 0) ∷ []) fs)
     else if same f (bytes "ref") then seen refOf (numbers (below (H .locations) ∷ below own ∷ []) fs)
-    else if same f (bytes "lock") then seen lockOf (numbers (below (H .maps) ∷ (0 to 0) ∷ []) fs)
+    else if same f (bytes "lock") then seen (lockOf (H .heading)) (numbers (below (H .maps) ∷ outRange (H .heading) (H .maps) ∷ []) fs)
     else if same f (bytes "tid") then seen tidOf (numbers (below (H .maps) ∷ (0 to 0) ∷ []) fs)
     else if same f (bytes "sem") then seen semOf (numbers (below (H .maps) ∷ (0 to 0) ∷ []) fs)
     else wrong badForm
@@ -136,10 +147,11 @@ takesStart (Binary Write) = false
 unfoldable pub startRange : Word → Header → Range
 startRange w H = below (if takesStart w then H .maps else 0)
 
--- where s may be empty: on a spawn, under the heading `C2` alone
+-- where s may be empty: on a spawn, not under the heading `C`
 unfoldable pub mayBeEmpty : Heading → Word → Bool
 mayBeEmpty C w = not (takesStart w)
 mayBeEmpty C2 w = true
+mayBeEmpty C3 w = true
 
 -- "An m that is a numeral is 22, any other m that is not empty is 21": when filling, no number is in the range of m, and an empty
 -- m is read as the number of map 0, which nothing looks at

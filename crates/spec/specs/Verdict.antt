@@ -1,23 +1,45 @@
 -- The answer to a pair of sheets, in the order of document 01's reasons to stop.
-use mathlib.Core.List.{List, []}
-use mathlib.Core.Bool.{Bool, _&&_}
+use mathlib.Core.List.{List, [], _∷_}
+use mathlib.Core.Bool.{Bool, true, _&&_}
 use mathlib.Core.Option.{Option, none, some}
-use Prim.Native.Nat.{ℕ}
+use Prim.Native.Nat.{ℕ, _+_}
 use lib.Dec.{leb}
 use lib.ListN.{length}
 use Rattle.spec.specs.Reading.{Out, stop, on, _>>=_, demand}
 use Rattle.spec.specs.Program.{Program, program, programLimit}
-use Rattle.spec.specs.Split.{Split, split, splitLimit}
-use Rattle.spec.specs.Maps.{overWhole}
+use Rattle.spec.specs.Split.{Split, split, splitLimit, mapAt}
+use Rattle.spec.specs.Maps.{_≥ᵐ_, nowhere, overWhole}
 use Rattle.spec.specs.Conditions.{lineOf, startMap}
 use Rattle.spec.specs.Sites.{sites, claims, firstFalse, isType, only}
 use Rattle.spec.specs.Workspace.{workspaceSize}
 use Rattle.spec.specs.declared.Returned.{Returned}
 use Rattle.spec.specs.declared.Answer.{Answer}
 use Rattle.spec.specs.declared.Answer.the-variants.{Accept, Refuse}
+use Rattle.spec.specs.declared.TypeLine.{TypeLine}
+use Rattle.spec.specs.declared.TypeLine.the-variants as type-line
 use Rattle.spec.specs.declared.Refusal.{Refusal}
-use Rattle.spec.specs.declared.Refusal.the-variants.{ShortWorkspace, LongProgram, ProgramForm, ProgramRange, ProgramLines, Unbound, Rebound, LongSplit, SplitForm, SplitRange, SplitLines, NoStart, OverOne, TypeFalse, FlowFalse, AccessFalse, NoAfterMaps, TooLarge, TooManyMaps}
+use Rattle.spec.specs.declared.Refusal.the-variants.{ShortWorkspace, LongProgram, ProgramForm, ProgramRange, ProgramLines, Unbound, Rebound, LongSplit, SplitForm, SplitRange, SplitLines, NoStart, OverOne, TypeFalse, FlowFalse, AccessFalse, NoAfterMaps, TooLarge, TooManyMaps, LockTakesLess}
 use Rattle.spec.specs.declared.Purpose.the-variants.{Check}
+
+-- 44, at a type line: "a lock line whose out is below its in at some location"; "lowest such line first"
+module _ (S : Split) where
+  unfoldable pub takesEnough : TypeLine → Bool
+  takesEnough type-line.Int = true
+  takesEnough (type-line.Ref p c) = true
+  takesEnough (type-line.Lock i o) = nowhere (mapAt S o ≥ᵐ mapAt S i)
+  takesEnough (type-line.Tid k) = true
+  takesEnough (type-line.Sem k) = true
+
+  -- of the types from line k on
+  unfoldable pub allTakeEnough : (k : ℕ) → List TypeLine → Out (Unit {0})
+  allTakeEnough k [] = on tt
+  allTakeEnough k (x ∷ xs) = do
+    enough ← demand (takesEnough x) (LockTakesLess k)
+    allTakeEnough (k + 1) xs
+
+  -- types begin at line 2
+  unfoldable pub locksTakeEnough : Out (Unit {0})
+  locksTakeEnough = allTakeEnough 2 (S .types)
 
 -- 30, at the root's line: the start is over the whole somewhere
 unfoldable pub refuseOver : (line : ℕ) → Option ℕ → Out (Unit {0})
@@ -35,7 +57,7 @@ ruled P S = firstFalse (claims S (sites S [] (startMap S) (P .root)))
 unfoldable pub typed : Program → Split → Out (Unit {0})
 typed P S = firstFalse (only isType (claims S (sites S [] (startMap S) (P .root))))
 
--- 1; 10; 11 to 15; 20; 21 to 23 and 40; 30; 31 to 33
+-- 1; 10; 11 to 15; 20; 21 to 23 and 40; 44; 30; 31 to 33
 unfoldable pub checked : (room : ℕ) → (programText splitText : List ℕ) → Out (Unit {0})
 checked room programText splitText = do
   enough ← demand (leb workspaceSize room) ShortWorkspace
@@ -43,6 +65,7 @@ checked room programText splitText = do
   P ← program programText
   fits′ ← demand (leb (length splitText) splitLimit) LongSplit
   S ← split Check (P .steps) splitText
+  locks ← locksTakeEnough S
   whole ← startAtMostOne P S
   ruled P S
 
@@ -81,6 +104,7 @@ returned (Refuse (AccessFalse k i p)) = four 33 k i (p .0)
 returned (Refuse NoAfterMaps) = four 41 0 0 0
 returned (Refuse TooLarge) = four 42 0 0 0
 returned (Refuse TooManyMaps) = four 43 0 0 0
+returned (Refuse (LockTakesLess k)) = four 44 k 0 0
 
 -- the numbers of a refusal on the conditions: 31 (T), 32 (F), 33 (A)
 unfoldable pub onConditions : (number : ℕ) → Bool

@@ -41,10 +41,11 @@ pub struct MapNumber(pub u32);
 
 pub struct Location(pub u32);
 
-// The headings of a split sheet: `C,D,L,T,M` and `C2,D,L,T,M,r`.
+// The headings of a split sheet: `C,D,L,T,M`, `C2,D,L,T,M,r` and `C3,D,L,T,M,r`.
 pub enum Heading {
     C,
     C2,
+    C3,
 }
 
 // What a split sheet is read for: to check a program with it, or to fill in its after-maps.
@@ -53,11 +54,11 @@ pub enum Purpose {
     Fill,
 }
 
-// What a type line of a split sheet says. A content type, a map: by number.
+// What a type line of a split sheet says. A content type, a map: by number. A lock has its in and its out.
 pub enum TypeLine {
     Int,
     Ref(Location, TypeNumber),
-    Lock(MapNumber),
+    Lock(MapNumber, MapNumber),
     Tid(MapNumber),
     Sem(MapNumber),
 }
@@ -97,6 +98,7 @@ pub enum Refusal {
     NoAfterMaps,
     TooLarge,
     TooManyMaps,
+    LockTakesLess(u32),
 }
 
 // The answer to a pair of sheets.

@@ -8,10 +8,10 @@ use Rattle.spec.specs.Reading.{Out, stop, on}
 use Rattle.spec.specs.Split.{Split}
 use Rattle.spec.specs.declared.Refusal.{Refusal}
 use Rattle.workspace.specs.Holds.{HoldsSplit}
-use Rattle.split.specs.Lines.{headerTold}
+use Rattle.workspace.specs.Sheets.{headerTold}
 use Rattle.split.specs.Answers.{Small}
 use Rattle.split.specs.Sheet.{SheetAnswer}
-use Rattle.split.specs.declared.Header.{Header}
+use Rattle.workspace.specs.declared.Header.{Header}
 use Rattle.split.specs.declared.Sheet.{Sheet}
 use Rattle.split.specs.declared.Sheet.the-variants as sheet
 
@@ -31,6 +31,10 @@ denominator-told S h e = sym (ap (λ H. H .denominator) e)
 pub locations-told : (S : Split) (h : Header) → S .header ≡ headerTold h → h .locations ≡ S .header .locations
 unfolding headerTold
 locations-told S h e = sym (ap (λ H. H .locations) e)
+
+pub types-told : (S : Split) (h : Header) → S .header ≡ headerTold h → h .types ≡ S .header .types
+unfolding headerTold
+types-told S h e = sym (ap (λ H. H .types) e)
 
 pub start-told : (S : Split) (h : Header) → S .header ≡ headerTold h → h .start .0 ≡ S .header .start .0
 unfolding headerTold

@@ -14,7 +14,7 @@ use Rattle.spec.specs.Text.{bytes, same, Field, lookUp, lines}
 use Rattle.spec.specs.Reading.{splitSheet, stop, on, Seen, right, wrong, badForm, badRange, seen, _to_, inRange, allInRange, numerals, ranged, numbers, form, passed, nextLine, next}
 use Rattle.spec.specs.Split.{Header, headings, headerRanges, mapsOf, mapsIn, startOf, headerOf, headed, headerLine}
 use Rattle.spec.specs.declared.Heading.{Heading}
-use Rattle.spec.specs.declared.Heading.the-variants.{C, C2}
+use Rattle.spec.specs.declared.Heading.the-variants.{C, C2, C3}
 use Rattle.spec.specs.declared.Purpose.{Purpose}
 use Rattle.spec.specs.declared.Purpose.the-variants.{Check, Fill}
 use Rattle.spec.specs.declared.Refusal.the-variants.{SplitForm, SplitRange}
@@ -31,19 +31,20 @@ use Rattle.lexer.proofs.Lines.{next-open, next-closed}
 use Rattle.lexer.proofs.Stored.{stored-judged}
 use Rattle.lexer.proofs.Walks.{first-wrong, first-alone}
 use Rattle.lexer.proofs.Sheets.{next-at}
-use Rattle.split.specs.declared.Header.{Header as HeaderRead}
+use Rattle.workspace.specs.declared.Header.{Header as HeaderRead}
 use Rattle.split.specs.declared.first_line.FoundHeading.the-variants as found-heading
-use Rattle.split.specs.Lines.{headingFound, numeralsOf, headerTold, headerFits}
+use Rattle.workspace.specs.Sheets.{headerTold}
+use Rattle.split.specs.Lines.{headingFound, numeralsOf, headerFits}
 use Rattle.split.specs.Answers.{Small}
 use Rattle.split.proofs.LineLaws.{shows-form, shows-range, shows-entry, comma-line, comma-kept}
 
 -- ------------------------------------------------------------------ the heading
 
--- `C` is not `C2`
-lone : (f : Field) → same (bytes "C") f ≡ true → same (bytes "C2") f ≡ false
+-- `C` is neither `C2` nor `C3`
+lone : (f : Field) → same (bytes "C") f ≡ true → (same (bytes "C2") f ≡ false) × (same (bytes "C3") f ≡ false)
 unfolding bytes same
-lone [] e = refl
-lone (b ∷ []) e = and-false (eqb 67 b)
+lone [] e = (refl, refl)
+lone (b ∷ []) e = (and-false (eqb 67 b), and-false (eqb 67 b))
 lone (b ∷ c ∷ f) e = true-is-not-false (sym e ∙ and-false (eqb 67 b))
 
 module _ (f : Field) (purpose : Purpose) where
@@ -53,7 +54,7 @@ module _ (f : Field) (purpose : Purpose) where
 
   pub first-refused : same (bytes "C") f ≡ true → purpose ≡ Fill → found-heading.Unknown ≡ headingFound (lookUp (headings purpose) f)
   unfolding headings lookUp headingFound
-  first-refused e q = sym (rw (q, lone f e))
+  first-refused e q = let (second, third) = lone f e in sym (rw (q, second, third))
 
 pub second-heading : (f : Field) (purpose : Purpose) → same (bytes "C") f ≡ false → same (bytes "C2") f ≡ true
     → found-heading.Known C2 ≡ headingFound (lookUp (headings purpose) f)
@@ -61,11 +62,17 @@ unfolding headings lookUp headingFound
 second-heading f Check e e′ = sym (rw (e, e′))
 second-heading f Fill e e′ = sym (rw e′)
 
-pub other-heading : (f : Field) (purpose : Purpose) → same (bytes "C") f ≡ false → same (bytes "C2") f ≡ false
+pub third-heading : (f : Field) (purpose : Purpose) → same (bytes "C") f ≡ false → same (bytes "C2") f ≡ false → same (bytes "C3") f ≡ true
+    → found-heading.Known C3 ≡ headingFound (lookUp (headings purpose) f)
+unfolding headings lookUp headingFound
+third-heading f Check e e′ e″ = sym (rw (e, e′, e″))
+third-heading f Fill e e′ e″ = sym (rw (e′, e″))
+
+pub other-heading : (f : Field) (purpose : Purpose) → same (bytes "C") f ≡ false → same (bytes "C2") f ≡ false → same (bytes "C3") f ≡ false
     → found-heading.Unknown ≡ headingFound (lookUp (headings purpose) f)
 unfolding headings lookUp headingFound
-other-heading f Check e e′ = sym (rw (e, e′))
-other-heading f Fill e e′ = sym (rw e′)
+other-heading f Check e e′ e″ = sym (rw (e, e′, e″))
+other-heading f Fill e e′ e″ = sym (rw (e′, e″))
 
 pub heading-known : (o : Option Heading) (h : Heading) → headingFound o ≡ found-heading.Known h → o ≡ some h
 unfolding headingFound
@@ -87,15 +94,21 @@ pub five-numerals : (h : Heading) → h ≡ C2 → 5 ≡ numeralsOf h
 unfolding numeralsOf headerRanges
 five-numerals h e = sym (rw e)
 
+pub five-numerals-3 : (h : Heading) → h ≡ C3 → 5 ≡ numeralsOf h
+unfolding numeralsOf headerRanges
+five-numerals-3 h e = sym (rw e)
+
 pub few-numerals : (h : Heading) → numeralsOf h ≤ 5
 unfolding numeralsOf headerRanges
 few-numerals C = omega arith
 few-numerals C2 = omega arith
+few-numerals C3 = omega arith
 
 -- the numbers behind each heading
 data NumbersOf : Heading → List ℕ → Type 0 where
   four : (d l t m : ℕ) → NumbersOf C (d ∷ l ∷ t ∷ m ∷ [])
   five : (d l t m r : ℕ) → NumbersOf C2 (d ∷ l ∷ t ∷ m ∷ r ∷ [])
+  five-3 : (d l t m r : ℕ) → NumbersOf C3 (d ∷ l ∷ t ∷ m ∷ r ∷ [])
 
 numbers-of : (h : Heading) (ns : List ℕ) → length ns ≡ numeralsOf h → NumbersOf h ns
 unfolding numeralsOf headerRanges
@@ -112,6 +125,13 @@ numbers-of C2 (d ∷ l ∷ t ∷ []) e = absurd (omega arith)
 numbers-of C2 (d ∷ l ∷ t ∷ m ∷ []) e = absurd (omega arith)
 numbers-of C2 (d ∷ l ∷ t ∷ m ∷ r ∷ []) e = five d l t m r
 numbers-of C2 (d ∷ l ∷ t ∷ m ∷ r ∷ s ∷ ns) e = absurd (omega arith)
+numbers-of C3 [] e = absurd (omega arith)
+numbers-of C3 (d ∷ []) e = absurd (omega arith)
+numbers-of C3 (d ∷ l ∷ []) e = absurd (omega arith)
+numbers-of C3 (d ∷ l ∷ t ∷ []) e = absurd (omega arith)
+numbers-of C3 (d ∷ l ∷ t ∷ m ∷ []) e = absurd (omega arith)
+numbers-of C3 (d ∷ l ∷ t ∷ m ∷ r ∷ []) e = five-3 d l t m r
+numbers-of C3 (d ∷ l ∷ t ∷ m ∷ r ∷ s ∷ ns) e = absurd (omega arith)
 
 -- the five places that they are read into
 abbrev places : List ℕ
@@ -135,6 +155,7 @@ filled : {h : Heading} {ns : List ℕ} → NumbersOf h ns → headerOf h ns ≡ 
 unfolding numeralsOf headerRanges headerOf mapsOf startOf inPlaces
 filled (four d l t m) = refl
 filled (five d l t m r) = refl
+filled (five-3 d l t m r) = refl
 
 -- a header that is made of what stands in the places
 module _ (h : Heading) (ns : List ℕ) (n : ℕ) (l t m : ℕ) where
@@ -163,6 +184,7 @@ fits-told : {h : Heading} {ns : List ℕ} → NumbersOf h ns → allInRange (hea
 unfolding headerRanges mapsOf headerOf startOf headerFits
 fits-told (four d l t m) = first-map-fits d l t m
 fits-told (five d l t m r) = refl
+fits-told (five-3 d l t m r) = refl
 
 -- ------------------------------------------------------------------ the numbers, as they are stored
 
@@ -202,6 +224,7 @@ unfolding headerRanges
 judged-stored (four d l t m) =
     unfold judged in stored-judged (headerRanges C 0) (omega arith, (omega arith, (omega arith, (omega arith, tt)))) (d ∷ l ∷ t ∷ m ∷ []) refl
 judged-stored (five d l t m r) = named-judged d l t m r
+judged-stored (five-3 d l t m r) = unfold judged in named-judged d l t m r
 
 -- ------------------------------------------------------------------ so many numerals, against the ranges of a heading
 
@@ -209,6 +232,7 @@ as-many : (h : Heading) (m : ℕ) → length (headerRanges h m) ≡ numeralsOf h
 unfolding numeralsOf headerRanges
 as-many C m = refl
 as-many C2 m = refl
+as-many C3 m = refl
 
 module _ (h : Heading) (r : List ℕ) where
   ranged-many : (ms : List ℕ) → ranged (headerRanges h (mapsOf ms)) (some ms) ≡ (if eqb (length ms) (numeralsOf h) then judged h ms else wrong badForm)
@@ -251,6 +275,7 @@ unfolding headed headerRanges seen numbers numerals ranged
 header-alone none = refl
 header-alone (some C) = refl
 header-alone (some C2) = refl
+header-alone (some C3) = refl
 
 module _ (purpose : Purpose) (f : Field) (h : Heading) (known : lookUp (headings purpose) f ≡ some h) (k : ℕ) (t : List ℕ) where
   shows : (fs : List Field) → headerLine purpose (f ∷ fs) ≡ seen (headerOf h) (ranged (headerRanges h (mapsIn (numerals fs))) (numerals fs))

@@ -14,7 +14,7 @@ use Rattle.spec.specs.declared.Refusal.the-variants.{SplitForm, SplitRange, NoS
 use Rattle.spec.specs.declared.Word.{Word}
 use Rattle.spec.specs.declared.MapNumber.{MapNumber}
 use Rattle.spec.specs.declared.Heading.{Heading}
-use Rattle.spec.specs.declared.Heading.the-variants.{C, C2}
+use Rattle.spec.specs.declared.Heading.the-variants.{C, C2, C3}
 use Rattle.lexer.specs.Views.{endOf, firstField, lineAt}
 use Rattle.lexer.specs.Cursors.{Placed, rest, next as nextCursor, placeAt}
 use Rattle.lexer.specs.declared.Cursor.{Cursor}
@@ -49,6 +49,10 @@ start-asked h w e q = sym (rw (e, q))
 pub start-not-asked : (h : Heading) (w : Word) → h ≡ C2 → true ≡ mayBeEmpty h w
 unfolding mayBeEmpty
 start-not-asked h w e = sym (rw e)
+
+pub start-not-asked-3 : (h : Heading) (w : Word) → h ≡ C3 → true ≡ mayBeEmpty h w
+unfolding mayBeEmpty
+start-not-asked-3 h w e = sym (rw e)
 
 -- ------------------------------------------------------------------ the numbers of a row in their ranges
 

@@ -18,10 +18,10 @@ use Rattle.workspace.specs.Region.{Region, ChangedWithin}
 use Rattle.workspace.specs.Holds.{HoldsSteps, HoldsSplit}
 use Rattle.workspace.proofs.Codes.{word-of-code}
 use Rattle.workspace.proofs.Region.{region-moved, region-first, region-behind, region-kept, changed-then, changed-wider}
-use Rattle.split.specs.declared.Header.{Header as HeaderRead}
+use Rattle.workspace.specs.declared.Header.{Header as HeaderRead}
 use Rattle.split.specs.declared.LinesRead.{LinesRead}
 use Rattle.split.specs.declared.LinesRead.the-variants as lines-read
-use Rattle.split.specs.Lines.{headerTold}
+use Rattle.workspace.specs.Sheets.{headerTold}
 use Rattle.split.specs.Answers.{Small}
 use Rattle.split.specs.Stored.{HoldsTypes, HoldsRows, HoldsMaps, EmptyStored, LinesAnswer, LinesStored, stepAt, stepsFrom}
 use Rattle.split.specs.Sheet.{body, EndAnswer, BodyAnswer, BodyRead}

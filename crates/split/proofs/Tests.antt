@@ -7,7 +7,9 @@ use native.Mathlib.Omega.{arith}
 use lib.Dec.{ltb}
 use borrow.Author.Tests.{le-leb, lt-leb, lt-ltb, le-ltb}
 use Rattle.spec.specs.Reading.{Range, _to_, below, inRange, allInRange}
-use Rattle.spec.specs.Split.{Header, refOf, lockOf, tidOf, semOf}
+use Rattle.spec.specs.Split.{Header, refOf, lockOf, outRange, tidOf, semOf}
+use Rattle.spec.specs.declared.Heading.{Heading}
+use Rattle.spec.specs.declared.Heading.the-variants.{C, C2, C3}
 use Rattle.spec.specs.declared.TypeLine.{TypeLine}
 use Rattle.spec.specs.declared.TypeLine.the-variants as type-line
 use Rattle.spec.proofs.Tests.{and-true}
@@ -15,7 +17,7 @@ use Rattle.lexer.specs.declared.vocabulary.TypeWord.{TypeWord}
 use Rattle.lexer.specs.declared.vocabulary.TypeWord.the-variants as kind
 use Rattle.split.specs.declared.type_lines.TypeSeen.{TypeSeen}
 use Rattle.split.specs.declared.type_lines.TypeSeen.the-variants as type-seen
-use Rattle.split.specs.Lines.{rangedType, typeSeen}
+use Rattle.split.specs.Lines.{rangedType, lockSeen, typeSeen}
 
 -- ------------------------------------------------------------------ one number after the other
 
@@ -67,9 +69,10 @@ module _ (H : Header) (own a b : ℕ) where
   unfolding typeSeen
   ref-seen k e = rw e
 
-  pub lock-seen : (k : TypeWord) → k ≡ kind.Lock → typeSeen k H own (a ∷ b ∷ []) ≡ rangedType (below (H .maps) ∷ below 1 ∷ []) lockOf (a ∷ b ∷ [])
-  unfolding typeSeen rangedType allInRange
-  lock-seen k e = rw (e, zero-below b)
+  pub lock-seen : (k : TypeWord) → k ≡ kind.Lock → {s : TypeSeen} → s ≡ lockSeen (H .heading) (H .maps) (a ∷ b ∷ [])
+      → s ≡ typeSeen k H own (a ∷ b ∷ [])
+  unfolding typeSeen
+  lock-seen k e told = rw e told
 
   pub tid-seen : (k : TypeWord) → k ≡ kind.Tid → typeSeen k H own (a ∷ b ∷ []) ≡ rangedType (below (H .maps) ∷ below 1 ∷ []) tidOf (a ∷ b ∷ [])
   unfolding typeSeen rangedType allInRange
@@ -82,6 +85,23 @@ module _ (H : Header) (own a b : ℕ) where
   pub unknown-seen : (k : TypeWord) → k ≡ kind.Unknown → type-seen.BadForm ≡ typeSeen k H own (a ∷ b ∷ [])
   unfolding typeSeen
   unknown-seen k e = sym (rw e)
+
+-- the two numbers of a lock line, by heading
+module _ (maps a b : ℕ) where
+  pub older-seen : lockSeen C2 maps (a ∷ b ∷ []) ≡ rangedType (below maps ∷ below 1 ∷ []) (lockOf C2) (a ∷ b ∷ [])
+  unfolding lockSeen outRange rangedType allInRange
+  older-seen = rw (zero-below b)
+
+  pub first-older : {s : TypeSeen} (h : Heading) → h ≡ C → s ≡ lockSeen C2 maps (a ∷ b ∷ []) → s ≡ lockSeen h maps (a ∷ b ∷ [])
+  unfolding lockSeen outRange lockOf rangedType
+  first-older h e told = rw e told
+
+  pub second-older : {s : TypeSeen} (h : Heading) → h ≡ C2 → s ≡ lockSeen C2 maps (a ∷ b ∷ []) → s ≡ lockSeen h maps (a ∷ b ∷ [])
+  second-older h e told = rw e told
+
+  pub in-out-seen : (h : Heading) → h ≡ C3 → lockSeen h maps (a ∷ b ∷ []) ≡ rangedType (below maps ∷ below maps ∷ []) (lockOf C3) (a ∷ b ∷ [])
+  unfolding lockSeen outRange
+  in-out-seen h e = rw e
 
 module _ (rs : List Range) (f : List ℕ → TypeLine) (ns : List ℕ) {s : TypeSeen} (e : s ≡ rangedType rs f ns) where
   pub seen-in : allInRange rs ns ≡ true → type-seen.Right (f ns) ≡ s

@@ -9,7 +9,9 @@ use lib.ListN.{length, getD}
 use Rattle.spec.specs.Choice.{if_then_else_}
 use Rattle.spec.specs.Text.{Field, lines}
 use Rattle.spec.specs.Reading.{splitSheet, stop, on, right, wrong, badForm, badRange, seen, Range, _to_, below, allInRange, numerals, ranged, numbers, form, faulty, passed, nextLine, next}
-use Rattle.spec.specs.Split.{Header, refOf, lockOf, tidOf, semOf, typeLine}
+use Rattle.spec.specs.Split.{Header, refOf, lockOf, outRange, tidOf, semOf, typeLine}
+use Rattle.spec.specs.declared.Heading.{Heading}
+use Rattle.spec.specs.declared.Heading.the-variants.{C, C2, C3}
 use Rattle.spec.specs.declared.Refusal.the-variants.{SplitForm, SplitRange}
 use Rattle.spec.specs.declared.TypeLine.{TypeLine}
 use Rattle.spec.specs.declared.TypeLine.the-variants as type-line
@@ -22,11 +24,11 @@ use Rattle.lexer.specs.declared.FieldEnd.the-variants.{Comma}
 use Rattle.lexer.specs.declared.vocabulary.TypeWord.{TypeWord}
 use Rattle.lexer.specs.declared.vocabulary.TypeWord.the-variants as kind
 use Rattle.lexer.proofs.Walks.{first-wrong, first-alone}
-use Rattle.lexer.proofs.Stored.{AllNarrow}
+use Rattle.lexer.proofs.Stored.{Narrow, AllNarrow}
 use Rattle.lexer.proofs.Ranges.{tail-form, tail-read}
 use Rattle.split.specs.declared.type_lines.TypeSeen.{TypeSeen}
 use Rattle.split.specs.declared.type_lines.TypeSeen.the-variants as type-seen
-use Rattle.split.specs.Lines.{rangedType, typeSeen, typeTold}
+use Rattle.split.specs.Lines.{rangedType, lockSeen, typeSeen, typeTold}
 use Rattle.lexer.proofs.TypeLines.{ofKind, type-line as kind-line}
 use Rattle.lexer.proofs.Sheets.{next-at}
 use Rattle.lexer.proofs.LineEnds.{LineRead}
@@ -39,6 +41,12 @@ two (a ∷ b ∷ []) h = refl
 two (a ∷ b ∷ c ∷ l) h = absurd (omega arith)
 
 -- ------------------------------------------------------------------ by kind
+
+out-narrow : (h : Heading) (maps : ℕ) → maps ≤ 512 → Narrow (outRange h maps)
+unfolding outRange
+out-narrow C maps few = omega arith
+out-narrow C2 maps few = omega arith
+out-narrow C3 maps few = omega arith
 
 module _ (H : Header) (own : ℕ) where
   kind-alone : (k : TypeWord) → ofKind H own [] k ≡ wrong badForm
@@ -93,17 +101,17 @@ module _ (H : Header) (own : ℕ) (text : List ℕ) (c : Cursor) (some-left : 0 
     unfolding ofKind
     kind-form kind.Int e n = known-form ((0 to 0) ∷ (0 to 0) ∷ []) (λ ns. type-line.Int) (as-kind kind.Int e) n
     kind-form kind.Ref e n = known-form (below (H .locations) ∷ below own ∷ []) refOf (as-kind kind.Ref e) n
-    kind-form kind.Lock e n = known-form (below (H .maps) ∷ (0 to 0) ∷ []) lockOf (as-kind kind.Lock e) n
+    kind-form kind.Lock e n = known-form (below (H .maps) ∷ outRange (H .heading) (H .maps) ∷ []) (lockOf (H .heading)) (as-kind kind.Lock e) n
     kind-form kind.Tid e n = known-form (below (H .maps) ∷ (0 to 0) ∷ []) tidOf (as-kind kind.Tid e) n
     kind-form kind.Sem e n = known-form (below (H .maps) ∷ (0 to 0) ∷ []) semOf (as-kind kind.Sem e) n
     kind-form kind.Unknown e n = unknown e
 
     kind-read : (H .locations ≤ 16) × (H .maps ≤ 512) × (own < 64) → (k : TypeWord) → typeWordOf (firstField (rest text c)) ≡ k → (ns r : List ℕ) → numbersAt text d 2 ≡ some (ns, r)
         → nextLine splitSheet (typeLine H own) (c .line) (lines (rest text c)) ≡ passed splitSheet (c .line + 1) (lines r) (typeTold (typeSeen k H own ns))
-    unfolding ofKind typeSeen typeTold faulty passed form
+    unfolding ofKind typeSeen lockSeen typeTold faulty passed form
     kind-read few kind.Int e ns r n = known-read ((0 to 0) ∷ (0 to 0) ∷ []) (λ ns. type-line.Int) (as-kind kind.Int e) (omega arith, (omega arith, tt)) ns r n
     kind-read few kind.Ref e ns r n = known-read (below (H .locations) ∷ below own ∷ []) refOf (as-kind kind.Ref e) (omega arith, (omega arith, tt)) ns r n
-    kind-read few kind.Lock e ns r n = known-read (below (H .maps) ∷ (0 to 0) ∷ []) lockOf (as-kind kind.Lock e) (omega arith, (omega arith, tt)) ns r n
+    kind-read few kind.Lock e ns r n = known-read (below (H .maps) ∷ outRange (H .heading) (H .maps) ∷ []) (lockOf (H .heading)) (as-kind kind.Lock e) (omega arith, (out-narrow (H .heading) (H .maps) (few .1), tt)) ns r n
     kind-read few kind.Tid e ns r n = known-read (below (H .maps) ∷ (0 to 0) ∷ []) tidOf (as-kind kind.Tid e) (omega arith, (omega arith, tt)) ns r n
     kind-read few kind.Sem e ns r n = known-read (below (H .maps) ∷ (0 to 0) ∷ []) semOf (as-kind kind.Sem e) (omega arith, (omega arith, tt)) ns r n
     kind-read few kind.Unknown e ns r n = unknown e

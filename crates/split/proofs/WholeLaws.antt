@@ -18,13 +18,13 @@ use Rattle.lexer.proofs.Sheets.{begin-at-none, begin-at-some}
 use Rattle.lexer.proofs.Walks.{start-rest, start-placed, left-none, left-some}
 use Rattle.workspace.specs.Holds.{HoldsSteps}
 use Rattle.workspace.proofs.Region.{changed-nothing}
-use Rattle.split.specs.declared.Header.{Header as HeaderRead}
+use Rattle.workspace.specs.declared.Header.{Header as HeaderRead}
 use Rattle.split.specs.declared.first_line.HeaderLine.{HeaderLine}
 use Rattle.split.specs.declared.first_line.HeaderLine.the-variants as header-line
 use Rattle.split.specs.declared.LinesRead.{LinesRead}
 use Rattle.split.specs.declared.LinesRead.the-variants as lines-read
 use Rattle.split.specs.declared.Sheet.the-variants as sheet
-use Rattle.split.specs.Lines.{headerTold}
+use Rattle.workspace.specs.Sheets.{headerTold}
 use Rattle.split.specs.Answers.{Small, HeaderAnswer}
 use Rattle.split.specs.Stored.{stepsFrom}
 use Rattle.split.specs.Sheet.{body, BodyAnswer, BodyRead, SplitRead}

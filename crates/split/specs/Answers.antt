@@ -17,7 +17,7 @@ use Rattle.lexer.specs.Cursors.{Placed, rest, next, placeAt}
 use Rattle.lexer.specs.Numbers.{Spells, numbersAt}
 use Rattle.lexer.specs.declared.Cursor.{Cursor}
 use Rattle.lexer.specs.declared.FieldEnd.the-variants.{Comma, Newline}
-use Rattle.split.specs.declared.Header.{Header as HeaderRead}
+use Rattle.workspace.specs.declared.Header.{Header as HeaderRead}
 use Rattle.split.specs.declared.first_line.FoundHeader.{FoundHeader}
 use Rattle.split.specs.declared.first_line.FoundHeader.the-variants as found-header
 use Rattle.split.specs.declared.first_line.HeaderLine.{HeaderLine}
@@ -34,7 +34,8 @@ use Rattle.split.specs.declared.fields.Leading.{Leading}
 use Rattle.split.specs.declared.fields.Leading.the-variants as leading
 use Rattle.split.specs.declared.fields.Start.{Start}
 use Rattle.split.specs.declared.fields.Start.the-variants as start
-use Rattle.split.specs.Lines.{numeralsOf, headerTold, rowTold}
+use Rattle.workspace.specs.Sheets.{headerTold}
+use Rattle.split.specs.Lines.{numeralsOf, rowTold}
 
 -- a text that the limit lets through, and a cursor in it
 pub record Reading (text : List ℕ) (c : Cursor) : Type 0 where

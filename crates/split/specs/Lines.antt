@@ -7,7 +7,7 @@ use lib.ListN.{length, replicate}
 use Rattle.spec.specs.Choice.{if_then_else_}
 use Rattle.spec.specs.Text.{Field}
 use Rattle.spec.specs.Reading.{Seen, right, wrong, badForm, badRange, Range, _to_, below, inRange, allInRange, numbers}
-use Rattle.spec.specs.Split.{Map, Header, headerRanges, refOf, lockOf, tidOf, semOf, Row, takesStart, startRange, mayBeEmpty, rowLine}
+use Rattle.spec.specs.Split.{Map, Header, headerRanges, refOf, lockOf, outRange, tidOf, semOf, Row, takesStart, startRange, mayBeEmpty, rowLine}
 use Rattle.spec.specs.declared.Heading.{Heading}
 use Rattle.spec.specs.declared.Heading.the-variants.{C2}
 use Rattle.spec.specs.declared.Purpose.{Purpose}
@@ -19,7 +19,6 @@ use Rattle.spec.specs.declared.TypeLine.the-variants as type-line
 use Rattle.lexer.specs.declared.Cursor.{Cursor}
 use Rattle.lexer.specs.declared.vocabulary.TypeWord.{TypeWord}
 use Rattle.lexer.specs.declared.vocabulary.TypeWord.the-variants as kind
-use Rattle.split.specs.declared.Header.{Header as HeaderRead}
 use Rattle.split.specs.declared.first_line.FoundHeading.{FoundHeading}
 use Rattle.split.specs.declared.first_line.FoundHeading.the-variants as found-heading
 use Rattle.split.specs.declared.row_lines.Row.{Row as RowNumbers}
@@ -31,16 +30,6 @@ use Rattle.split.specs.declared.type_lines.TypeSeen.{TypeSeen}
 use Rattle.split.specs.declared.type_lines.TypeSeen.the-variants as type-seen
 
 -- ------------------------------------------------------------------ what the code reads, as document 01 has it
-
-unfoldable pub headerTold : HeaderRead → Header
-headerTold h = record {
-  heading = h .heading;
-  denominator = h .denominator;
-  locations = h .locations;
-  types = h .types;
-  maps = h .maps;
-  start = h .start;
-}
 
 unfoldable pub startTold : RowStart → Option MapNumber
 startTold (row-start.Given m) = some m
@@ -69,10 +58,13 @@ headerFits H = allInRange (headerRanges C2 (H .maps)) (H .denominator ∷ H .loc
 unfoldable pub rangedType : List Range → (List ℕ → TypeLine) → List ℕ → TypeSeen
 rangedType rs f ns = if allInRange rs ns then type-seen.Right (f ns) else type-seen.BadRange
 
+unfoldable pub lockSeen : Heading → (maps : ℕ) → List ℕ → TypeSeen
+lockSeen h maps ns = rangedType (below maps ∷ outRange h maps ∷ []) (lockOf h) ns
+
 unfoldable pub typeSeen : TypeWord → Header → (own : ℕ) → List ℕ → TypeSeen
 typeSeen kind.Int H own ns = rangedType ((0 to 0) ∷ (0 to 0) ∷ []) (λ ns. type-line.Int) ns
 typeSeen kind.Ref H own ns = rangedType (below (H .locations) ∷ below own ∷ []) refOf ns
-typeSeen kind.Lock H own ns = rangedType (below (H .maps) ∷ (0 to 0) ∷ []) lockOf ns
+typeSeen kind.Lock H own ns = lockSeen (H .heading) (H .maps) ns
 typeSeen kind.Tid H own ns = rangedType (below (H .maps) ∷ (0 to 0) ∷ []) tidOf ns
 typeSeen kind.Sem H own ns = rangedType (below (H .maps) ∷ (0 to 0) ∷ []) semOf ns
 typeSeen kind.Unknown H own ns = type-seen.BadForm

@@ -14,7 +14,7 @@ use Rattle.split.specs.declared.LinesRead.the-variants as lines-read
 use Rattle.split.specs.declared.Sheet.{Sheet}
 use Rattle.split.specs.declared.Sheet.the-variants as sheet
 use Rattle.split.specs.Answers.{Small}
-use Rattle.split.specs.Lines.{headerTold}
+use Rattle.workspace.specs.Sheets.{headerTold}
 use Rattle.split.specs.Stored.{stepsFrom}
 
 -- the lines behind the header

@@ -13,10 +13,10 @@ use Rattle.lexer.specs.declared.Cursor.{Cursor}
 use Rattle.workspace.specs.Layout.{wordsAt, valuesAt, rowTypesAt, kindsAt, mapsAt, stride, emptyMap, wordOf, kindOf, firstOf, secondOf}
 use Rattle.workspace.specs.Region.{Region, ChangedWithin}
 use Rattle.workspace.specs.Holds.{startNumber}
-use Rattle.split.specs.declared.Header.{Header}
+use Rattle.workspace.specs.declared.Header.{Header}
 use Rattle.split.specs.declared.LinesRead.{LinesRead}
 use Rattle.split.specs.declared.LinesRead.the-variants as lines-read
-use Rattle.split.specs.Lines.{headerTold}
+use Rattle.workspace.specs.Sheets.{headerTold}
 
 -- three numbers of each entry, in three columns with room for so many rows, one behind the other
 pub record Columns {A : Type 0} (f g h : A → ℕ) (b rows : ℕ) (w : List ℕ) (entries : List A) : Type 0 where

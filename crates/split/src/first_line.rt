@@ -1,5 +1,4 @@
-// Line 1 of the split sheet: `C,D,L,T,M` or `C2,D,L,T,M,r`.
-use crate::Header;
+// Line 1 of the split sheet: `C,D,L,T,M`, `C2,D,L,T,M,r` or `C3,D,L,T,M,r`.
 use crate::LARGEST;
 use crate::fields::Head;
 use crate::fields::first_field;
@@ -9,6 +8,7 @@ use spec::Heading;
 use spec::MapNumber;
 use spec::Purpose;
 use spec::Refusal;
+use workspace::Header;
 ghost use mathlib.Core.Path.{_≡_};
 ghost use mathlib.Core.Bool.{false};
 ghost use Rattle.spec.specs.Text.{lookUp};
@@ -16,7 +16,8 @@ ghost use Rattle.spec.specs.Reading.{splitSheet, _to_, inRange, next};
 ghost use Rattle.spec.specs.Split.{headings, headerLine};
 ghost use Rattle.lexer.specs.Views.{nothing};
 ghost use Rattle.lexer.specs.Cursors.{rest, placeAt};
-ghost use Rattle.split.specs.Lines.{headingFound, numeralsOf, headerTold, headerFits};
+ghost use Rattle.workspace.specs.Sheets.{headerTold};
+ghost use Rattle.split.specs.Lines.{headingFound, numeralsOf, headerFits};
 ghost use Rattle.split.specs.Answers.{Reading, NumbersAnswer, HeaderAnswer};
 
 // How many locations, types and maps a sheet can have.
@@ -57,6 +58,9 @@ fn heading_of(field: &[u8], purpose: Purpose) -> FoundHeading
     if lexer::same(b"C2", field) {
         return FoundHeading::Known(Heading::C2);
     }
+    if lexer::same(b"C3", field) {
+        return FoundHeading::Known(Heading::C3);
+    }
     FoundHeading::Unknown
 }
 
@@ -67,6 +71,7 @@ fn numerals_of(heading: Heading) -> usize
     match heading {
         Heading::C => 4,
         Heading::C2 => 5,
+        Heading::C3 => 5,
     }
 }
 

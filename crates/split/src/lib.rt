@@ -10,36 +10,24 @@ use first_line::header_line;
 use lexer::Cursor;
 use map_lines::read_maps;
 use row_lines::read_rows;
-use spec::Heading;
-use spec::MapNumber;
 use spec::Purpose;
 use spec::Refusal;
 use type_lines::read_types;
 use workspace::EMPTY_ROW;
+use workspace::Header;
 use workspace::STRIDE;
 ghost use mathlib.Core.Path.{_≡_};
 ghost use Prim.Native.Nat.{_≤_};
 ghost use lib.ListN.{length};
 ghost use Rattle.spec.specs.Reading.{splitSheet, end};
 ghost use Rattle.lexer.specs.Cursors.{placeAt};
-ghost use Rattle.split.specs.Lines.{headerTold};
+ghost use Rattle.workspace.specs.Sheets.{headerTold};
 ghost use Rattle.split.specs.Answers.{Reading, Small};
 ghost use Rattle.split.specs.Stored.{EmptyStored};
 ghost use Rattle.split.specs.Sheet.{EndAnswer, BodyRead, SplitRead};
 
 // The largest denominator, and the largest number of a map.
 pub(crate) const LARGEST: u32 = 1000000000;
-
-// What the header of a split sheet says: its heading, the denominator, how many locations, types and maps there are, and the
-// map before the root.
-pub struct Header {
-    pub heading: Heading,
-    pub denominator: u32,
-    pub locations: usize,
-    pub types: usize,
-    pub maps: usize,
-    pub start: MapNumber,
-}
 
 // The header of a sheet that is in the work space, or the reason to stop.
 pub enum Sheet {

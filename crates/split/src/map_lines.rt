@@ -1,10 +1,10 @@
 // The map lines of the split sheet.
-use crate::Header;
 use crate::LARGEST;
 use crate::LinesRead;
 use lexer::Cursor;
 use lexer::Numbers;
 use spec::Refusal;
+use workspace::Header;
 use workspace::MAPS;
 use workspace::STRIDE;
 ghost use mathlib.Core.Path.{_≡_};

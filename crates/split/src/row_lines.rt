@@ -1,5 +1,4 @@
 // The step lines of the split sheet: `t,m,s`.
-use crate::Header;
 use crate::LinesRead;
 use crate::fields::Leading;
 use crate::fields::Start;
@@ -16,6 +15,7 @@ use spec::Refusal;
 use spec::TypeNumber;
 use spec::Word;
 use workspace::EMPTY_MAP;
+use workspace::Header;
 use workspace::POSTS;
 use workspace::ROW_TYPES;
 use workspace::STARTS;
@@ -27,7 +27,8 @@ ghost use Rattle.spec.specs.Reading.{splitSheet, next};
 ghost use Rattle.spec.specs.Split.{takesStart, mayBeEmpty};
 ghost use Rattle.lexer.specs.Cursors.{placeAt};
 ghost use Rattle.workspace.specs.Holds.{startNumber};
-ghost use Rattle.split.specs.Lines.{headerTold, startTold, wordLine, startLimit, rowMade, rowRanged};
+ghost use Rattle.workspace.specs.Sheets.{headerTold};
+ghost use Rattle.split.specs.Lines.{startTold, wordLine, startLimit, rowMade, rowRanged};
 ghost use Rattle.split.specs.Answers.{Reading, Small, RowAnswer};
 ghost use Rattle.split.specs.Stored.{RowsRead};
 
@@ -82,6 +83,7 @@ fn may_be_empty(heading: Heading, word: Word) -> bool
     match heading {
         Heading::C => !takes_start(word),
         Heading::C2 => true,
+        Heading::C3 => true,
     }
 }
 

@@ -1,17 +1,18 @@
 // The type lines of the split sheet.
-use crate::Header;
 use crate::LinesRead;
 use crate::fields::Head;
 use crate::fields::first_field;
 use lexer::Cursor;
 use lexer::Numbers;
 use lexer::TypeWord;
+use spec::Heading;
 use spec::Location;
 use spec::MapNumber;
 use spec::Refusal;
 use spec::TypeLine;
 use spec::TypeNumber;
 use workspace::FIRSTS;
+use workspace::Header;
 use workspace::KINDS;
 use workspace::SECONDS;
 ghost use mathlib.Core.Path.{_≡_};
@@ -22,7 +23,9 @@ ghost use Rattle.spec.specs.Reading.{splitSheet, below, allInRange, next};
 ghost use Rattle.spec.specs.Split.{typeLine};
 ghost use Rattle.lexer.specs.Cursors.{placeAt};
 ghost use Rattle.workspace.specs.Layout.{kindOf, firstOf, secondOf};
-ghost use Rattle.split.specs.Lines.{headerTold, typeSeen};
+ghost use Rattle.workspace.specs.Sheets.{headerTold};
+ghost use Rattle.spec.specs.declared.Heading.the-variants.{C2};
+ghost use Rattle.split.specs.Lines.{lockSeen, typeSeen};
 ghost use Rattle.split.specs.Answers.{Reading, Small, TypeAnswer};
 ghost use Rattle.split.specs.Stored.{TypesRead};
 
@@ -48,6 +51,32 @@ pub(crate) fn both_below(first: u32, second: u32, firsts: usize, seconds: usize)
     workspace::index(second) < seconds
 }
 
+// `lock,k,0`: out is in.
+fn older_lock(first: u32, second: u32, maps: usize) -> TypeSeen
+    ensures { λ r. ⌜ r ≡ lockSeen C2 maps (first ∷ second ∷ []) ⌝ }
+{
+    if both_below(first, second, maps, 1) {
+        return TypeSeen::Right(TypeLine::Lock(MapNumber(first), MapNumber(first)));
+    }
+    TypeSeen::BadRange
+}
+
+// The lock type that two numbers make, by heading: `lock,k,0`, or `lock,in,out`.
+fn lock_of(first: u32, second: u32, heading: Heading, maps: usize) -> TypeSeen
+    ensures { λ r. ⌜ r ≡ lockSeen heading maps (first ∷ second ∷ []) ⌝ }
+{
+    match heading {
+        Heading::C => older_lock(first, second, maps),
+        Heading::C2 => older_lock(first, second, maps),
+        Heading::C3 => {
+            if both_below(first, second, maps, maps) {
+                return TypeSeen::Right(TypeLine::Lock(MapNumber(first), MapNumber(second)));
+            }
+            TypeSeen::BadRange
+        }
+    }
+}
+
 // The type that a word and two numbers make, each number in its range. Where a line shows 0, 0 is the one number.
 fn type_of(kind: TypeWord, first: u32, second: u32, own: usize, header: Header) -> TypeSeen
     ensures { λ r. ⌜ r ≡ typeSeen kind (headerTold header) own (first ∷ second ∷ []) ⌝ }
@@ -68,10 +97,8 @@ fn type_of(kind: TypeWord, first: u32, second: u32, own: usize, header: Header) 
             TypeSeen::BadRange
         }
         TypeWord::Lock => {
-            if both_below(first, second, maps, 1) {
-                return TypeSeen::Right(TypeLine::Lock(MapNumber(first)));
-            }
-            TypeSeen::BadRange
+            let heading = header.heading;
+            lock_of(first, second, heading, maps)
         }
         TypeWord::Tid => {
             if both_below(first, second, maps, 1) {

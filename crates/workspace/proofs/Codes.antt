@@ -40,6 +40,6 @@ pub type-of-numbers : (t : TypeLine) → typeOf (kindOf t) (firstOf t) (secondOf
 unfolding typeOf
 type-of-numbers type-line.Int = refl
 type-of-numbers (type-line.Ref p c) = refl
-type-of-numbers (type-line.Lock k) = refl
+type-of-numbers (type-line.Lock i o) = refl
 type-of-numbers (type-line.Tid k) = refl
 type-of-numbers (type-line.Sem k) = refl

@@ -9,7 +9,7 @@ use lib.ListN.{length, getD, replicate, length-replicate, getD-replicate}
 use Rattle.spec.specs.Expression.{Step, Expr}
 use Rattle.spec.specs.Split.{Map, Row, Split}
 use Rattle.spec.specs.Maps.{share}
-use Rattle.spec.specs.Conditions.{typeAt, mapAt, lineOf, row, post, start, startIn, place, load}
+use Rattle.spec.specs.Conditions.{typeAt, mapAt, lineOf, row, post, start, startIn, place, load, inLoad, outLoad}
 use Rattle.spec.specs.Ranges.{InRange}
 use Rattle.spec.specs.declared.Location.{Location}
 use Rattle.spec.specs.declared.MapNumber.{MapNumber}
@@ -79,7 +79,8 @@ module _ (w : List ℕ) (S : Split) (steps : List Step) (H : HoldsSplit w S) (R 
       )
       (type-of-numbers _)
 
-  -- p of a ref type is a location, K of a lock or tid type a map; where they are not asked for they are the first
+  -- p of a ref type is a location, K of a tid or sem type a map, in and out of a lock type maps; where they are not asked for they are
+  -- the first
   pub place-in : (t : TypeNumber) → t .0 < length (S .types) → place (typeAt S t) .0 < S .header .locations
   unfolding typeAt place
   place-in t h = of-line (getD (S .types) (t .0) Int) refl
@@ -87,7 +88,7 @@ module _ (w : List ℕ) (S : Split) (steps : List Step) (H : HoldsSplit w S) (R 
       of-line : (x : TypeLine) → getD (S .types) (t .0) Int ≡ x → place x .0 < S .header .locations
       of-line Int e = R .locations .0
       of-line (Ref p c) e = R .refPlace (t .0) p c h e .0
-      of-line (Lock k) e = R .locations .0
+      of-line (Lock i o) e = R .locations .0
       of-line (Tid k) e = R .locations .0
       of-line (Sem k) e = R .locations .0
 
@@ -98,9 +99,31 @@ module _ (w : List ℕ) (S : Split) (steps : List Step) (H : HoldsSplit w S) (R 
       of-line : (x : TypeLine) → getD (S .types) (t .0) Int ≡ x → load x .0 < length (S .maps)
       of-line Int e = omega (arith, R .mapsCounted, R .mapsFew .0)
       of-line (Ref p c) e = omega (arith, R .mapsCounted, R .mapsFew .0)
-      of-line (Lock k) e = R .lockLoad (t .0) k h e
+      of-line (Lock i o) e = omega (arith, R .mapsCounted, R .mapsFew .0)
       of-line (Tid k) e = R .tidLoad (t .0) k h e
       of-line (Sem k) e = R .semLoad (t .0) k h e
+
+  pub in-load-in : (t : TypeNumber) → t .0 < length (S .types) → inLoad (typeAt S t) .0 < length (S .maps)
+  unfolding typeAt inLoad
+  in-load-in t h = of-line (getD (S .types) (t .0) Int) refl
+    where
+      of-line : (x : TypeLine) → getD (S .types) (t .0) Int ≡ x → inLoad x .0 < length (S .maps)
+      of-line Int e = omega (arith, R .mapsCounted, R .mapsFew .0)
+      of-line (Ref p c) e = omega (arith, R .mapsCounted, R .mapsFew .0)
+      of-line (Lock i o) e = R .lockLoads (t .0) i o h e .0
+      of-line (Tid k) e = omega (arith, R .mapsCounted, R .mapsFew .0)
+      of-line (Sem k) e = omega (arith, R .mapsCounted, R .mapsFew .0)
+
+  pub out-load-in : (t : TypeNumber) → t .0 < length (S .types) → outLoad (typeAt S t) .0 < length (S .maps)
+  unfolding typeAt outLoad
+  out-load-in t h = of-line (getD (S .types) (t .0) Int) refl
+    where
+      of-line : (x : TypeLine) → getD (S .types) (t .0) Int ≡ x → outLoad x .0 < length (S .maps)
+      of-line Int e = omega (arith, R .mapsCounted, R .mapsFew .0)
+      of-line (Ref p c) e = omega (arith, R .mapsCounted, R .mapsFew .0)
+      of-line (Lock i o) e = R .lockLoads (t .0) i o h e .1
+      of-line (Tid k) e = omega (arith, R .mapsCounted, R .mapsFew .0)
+      of-line (Sem k) e = omega (arith, R .mapsCounted, R .mapsFew .0)
 
   -- ---------------------------------------------------------------- maps
 

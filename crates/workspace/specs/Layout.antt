@@ -136,28 +136,28 @@ codeOf (Binary w) = binaryCode w
 abbrev pub kindOf : TypeLine → ℕ
 kindOf type-line.Int = 0
 kindOf (type-line.Ref p c) = 1
-kindOf (type-line.Lock k) = 2
+kindOf (type-line.Lock i o) = 2
 kindOf (type-line.Tid k) = 3
 kindOf (type-line.Sem k) = 4
 
 abbrev pub firstOf : TypeLine → ℕ
 firstOf type-line.Int = 0
 firstOf (type-line.Ref p c) = p .0
-firstOf (type-line.Lock k) = k .0
+firstOf (type-line.Lock i o) = i .0
 firstOf (type-line.Tid k) = k .0
 firstOf (type-line.Sem k) = k .0
 
 abbrev pub secondOf : TypeLine → ℕ
 secondOf type-line.Int = 0
 secondOf (type-line.Ref p c) = c .0
-secondOf (type-line.Lock k) = 0
+secondOf (type-line.Lock i o) = o .0
 secondOf (type-line.Tid k) = 0
 secondOf (type-line.Sem k) = 0
 
 unfoldable pub typeOf : (kind first second : ℕ) → TypeLine
 typeOf kind first second =
     if eqb kind 1 then type-line.Ref (record { 0 = first }) (record { 0 = second })
-    else if eqb kind 2 then type-line.Lock (record { 0 = first })
+    else if eqb kind 2 then type-line.Lock (record { 0 = first }) (record { 0 = second })
     else if eqb kind 3 then type-line.Tid (record { 0 = first })
     else if eqb kind 4 then type-line.Sem (record { 0 = first })
     else type-line.Int

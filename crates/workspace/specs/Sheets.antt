@@ -4,10 +4,22 @@ use mathlib.Core.List.{List}
 use Prim.Native.Nat.{ℕ}
 use lib.ListN.{length}
 use Rattle.spec.specs.Program.{Program}
-use Rattle.spec.specs.Split.{Split}
+use Rattle.spec.specs.Split.{Header, Split}
 use Rattle.spec.specs.WellFormed.{WellFormedProgram}
 use Rattle.spec.specs.Ranges.{InRange}
 use Rattle.workspace.specs.Holds.{HoldsProgram, HoldsSplit}
+use Rattle.workspace.specs.declared.Header.{Header as HeaderRead}
+
+-- the header that the code reads, as document 01 has it
+unfoldable pub headerTold : HeaderRead → Header
+headerTold h = record {
+  heading = h .heading;
+  denominator = h .denominator;
+  locations = h .locations;
+  types = h .types;
+  maps = h .maps;
+  start = h .start;
+}
 
 -- the work space w holds the program P of a well-formed sheet and a split S for its steps whose numbers are in range, with
 -- so many steps, this denominator, so many locations and the start with this number

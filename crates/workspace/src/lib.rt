@@ -1,6 +1,7 @@
 // What stands where in the lent work space, once the sheets are read: the one table of offsets, the numbers that stand for
 // words and types, and reading them back.
 use spec::BinaryWord;
+use spec::Heading;
 use spec::LeafWord;
 use spec::Location;
 use spec::MapNumber;
@@ -54,6 +55,17 @@ pub const STRIDE: usize = 16;
 pub const EMPTY_MAP: u32 = 512;
 
 pub const EMPTY_ROW: usize = 12288;
+
+// What the header of a split sheet says: its heading, the denominator, how many locations, types and maps there are, and the
+// map before the root.
+pub struct Header {
+    pub heading: Heading,
+    pub denominator: u32,
+    pub locations: usize,
+    pub types: usize,
+    pub maps: usize,
+    pub start: MapNumber,
+}
 
 // The number at a place of the work space; 0 past its end.
 pub fn at(work: &[u32], i: usize) -> u32
@@ -207,7 +219,7 @@ pub fn kind_of(t: TypeLine) -> u32
     match t {
         TypeLine::Int => 0,
         TypeLine::Ref(_, _) => 1,
-        TypeLine::Lock(_) => 2,
+        TypeLine::Lock(_, _) => 2,
         TypeLine::Tid(_) => 3,
         TypeLine::Sem(_) => 4,
     }
@@ -219,7 +231,7 @@ pub fn first_of(t: TypeLine) -> u32
     match t {
         TypeLine::Int => 0,
         TypeLine::Ref(p, _) => p.0,
-        TypeLine::Lock(k) => k.0,
+        TypeLine::Lock(i, _) => i.0,
         TypeLine::Tid(k) => k.0,
         TypeLine::Sem(k) => k.0,
     }
@@ -231,7 +243,7 @@ pub fn second_of(t: TypeLine) -> u32
     match t {
         TypeLine::Int => 0,
         TypeLine::Ref(_, c) => c.0,
-        TypeLine::Lock(_) => 0,
+        TypeLine::Lock(_, o) => o.0,
         TypeLine::Tid(_) => 0,
         TypeLine::Sem(_) => 0,
     }
@@ -243,7 +255,7 @@ fn type_of(kind: u32, first: u32, second: u32) -> TypeLine
 {
     match kind {
         1 => TypeLine::Ref(Location(first), TypeNumber(second)),
-        2 => TypeLine::Lock(MapNumber(first)),
+        2 => TypeLine::Lock(MapNumber(first), MapNumber(second)),
         3 => TypeLine::Tid(MapNumber(first)),
         4 => TypeLine::Sem(MapNumber(first)),
         _ => TypeLine::Int,

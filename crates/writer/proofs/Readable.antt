@@ -5,25 +5,29 @@ use mathlib.Core.Path.{subst as along}
 use mathlib.Core.List.{List, [], _∷_, map}
 use mathlib.Core.Bool.{Bool, true, false}
 use mathlib.Core.Option.{Option, none, some}
-use Prim.Native.Nat.{ℕ, zero, suc, _<_}
+use Prim.Native.Nat.{ℕ, zero, suc, _+_, _<_}
 use native.Mathlib.Omega.{arith}
 use lib.ListN.{length, getD, replicate}
 use borrow.Author.Tests.{ltb-true}
 use Rattle.spec.specs.Choice.{if_then_else_}
-use Rattle.spec.specs.Text.{Line, Field, lookUp}
+use Rattle.spec.specs.Text.{Line, bytes, same, Field, lookUp}
 use Rattle.spec.specs.Reading.{noStart, right, _to_, below, inRange, allInRange}
 use Rattle.spec.specs.Expression.{Step}
-use Rattle.spec.specs.Split.{Map, Header, headings, startOf, headerOf, headed, headerLine, mapLine, Row, rowOf, startGiven, takesStart, startRange, mayBeEmpty, postRange, postField, rowLine, Split}
+use Rattle.spec.specs.Split.{Map, Header, headings, startOf, headerOf, headed, headerLine, refOf, lockOf, tidOf, semOf, typeLine, typeLines, mapLine, Row, rowOf, startGiven, takesStart, startRange, mayBeEmpty, postRange, postField, rowLine, Split}
 use Rattle.spec.specs.WellFormed.{Shows, nothing, line, WellFormedSplit}
 use Rattle.spec.specs.Accepted.{AtMost}
 use Rattle.spec.specs.Accepted as accepted
 use Rattle.spec.specs.declared.Heading.{Heading}
-use Rattle.spec.specs.declared.Heading.the-variants.{C, C2}
+use Rattle.spec.specs.declared.Heading.the-variants.{C, C2, C3}
 use Rattle.spec.specs.declared.Purpose.{Purpose}
+use Rattle.spec.specs.declared.MapNumber.{MapNumber}
+use Rattle.spec.specs.declared.TypeLine.{TypeLine}
+use Rattle.spec.specs.declared.TypeLine.the-variants.{Int, Ref, Lock, Tid, Sem}
 use Rattle.spec.specs.declared.Word.{Word}
 use Rattle.spec.proofs.Tests.{both-true}
 use Rattle.spec.proofs.Ranges.{wrong-is-not-right, seen-right, numbers-right, in-to, in-range-at, insist-right, well-formed-in-range}
-use Rattle.writer.specs.Writable.{RootStarts, RowStarts, Writable}
+use Rattle.writer.specs.Writable.{RootStarts, LockShows, RowStarts, Writable}
+use Rattle.writer.proofs.Spelling.{choice-right}
 
 -- ------------------------------------------------------------------ the header
 
@@ -32,11 +36,46 @@ unfolding headed headerOf startOf RootStarts
 headed-starts none fs H h = wrong-is-not-right h
 headed-starts (some C) fs H h = let (ns, n, e) = seen-right _ h in along (λ G. RootStarts (G .heading) (G .start)) e refl
 headed-starts (some C2) fs H h = let (ns, n, e) = seen-right _ h in along (λ G. RootStarts (G .heading) (G .start)) e tt
+headed-starts (some C3) fs H h = let (ns, n, e) = seen-right _ h in along (λ G. RootStarts (G .heading) (G .start)) e tt
 
 header-starts : (purpose : Purpose) (fs : List Field) (H : Header) → headerLine purpose fs ≡ right H → RootStarts (H .heading) (H .start)
 unfolding headerLine
 header-starts purpose [] H h = wrong-is-not-right h
 header-starts purpose (f ∷ fs) H h = headed-starts (lookUp (headings purpose) f) fs H h
+
+-- ------------------------------------------------------------------ types
+
+unfoldable TypeShows : Heading → TypeLine → Type 0
+TypeShows h Int = Unit {0}
+TypeShows h (Ref p c) = Unit {0}
+TypeShows h (Lock i o) = LockShows h i o
+TypeShows h (Tid k) = Unit {0}
+TypeShows h (Sem k) = Unit {0}
+
+lock-made : (h : Heading) (ns : List ℕ) → TypeShows h (lockOf h ns)
+unfolding TypeShows lockOf LockShows
+lock-made C ns = refl
+lock-made C2 ns = refl
+lock-made C3 ns = tt
+
+type-shows : (H : Header) (own : ℕ) (fs : List Field) (τ : TypeLine) → typeLine H own fs ≡ right τ → TypeShows (H .heading) τ
+unfolding typeLine TypeShows refOf tidOf semOf
+type-shows H own [] τ h = wrong-is-not-right h
+type-shows H own (f ∷ fs) τ h =
+    let Q = TypeShows (H .heading) in
+    choice-right Q (same f (bytes "int")) _ _ (λ w σ g. let (_, _, e) = seen-right _ g in along Q e tt)
+    (choice-right Q (same f (bytes "ref")) _ _ (λ w σ g. let (_, _, e) = seen-right _ g in along Q e tt)
+    (choice-right Q (same f (bytes "lock")) _ _ (λ w σ g. let (ns, _, e) = seen-right _ g in along Q e (lock-made (H .heading) ns))
+    (choice-right Q (same f (bytes "tid")) _ _ (λ w σ g. let (_, _, e) = seen-right _ g in along Q e tt)
+    (choice-right Q (same f (bytes "sem")) _ _ (λ w σ g. let (_, _, e) = seen-right _ g in along Q e tt)
+    (λ σ g. wrong-is-not-right g))))) τ h
+
+locks-show : (H : Header) (own n : ℕ) {ls rest : List Line} {τs : List TypeLine} → Shows (typeLines H own n) ls τs rest
+    → (t : ℕ) (i o : MapNumber) → t < length τs → getD τs t Int ≡ Lock i o → LockShows (H .heading) i o
+unfolding typeLines TypeShows
+locks-show H own zero nothing t i o h e = absurd (omega arith)
+locks-show H own (suc n) (line {a = a} shown others) zero i o h e = along (TypeShows (H .heading)) e (type-shows H own _ a shown)
+locks-show H own (suc n) (line shown others) (suc t) i o h e = locks-show H (own + 1) n others t i o (omega arith) e
 
 -- ------------------------------------------------------------------ maps
 
@@ -96,6 +135,7 @@ pub read-is-writable : {purpose : Purpose} {steps : List Step} {text : List ℕ}
 read-is-writable {purpose} {steps} {text} {S} F = record {
   inRange = well-formed-in-range F;
   rootStart = header-starts purpose _ (S .header) (F .headed);
+  lockShows = locks-show (S .header) 0 (S .header .types) (F .typed);
   numbersSmall = maps-small (S .header) (S .header .maps) (F .mapped);
   rowStarts = rows-start purpose (S .header) steps (F .rowed);
 }

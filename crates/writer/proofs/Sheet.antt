@@ -11,12 +11,12 @@ use lib.ListN.{length, replicate, getD, length-map, length-replicate, getD-repli
 use Rattle.spec.specs.Text.{bytes, same, lookUp, lines, Field}
 use Rattle.spec.specs.Reading.{splitSheet, on, Seen, right, seen, insist, Range, _to_, below, numbers, begin, noneLeft, end}
 use Rattle.spec.specs.Expression.{Step}
-use Rattle.spec.specs.Split.{Map, Header, headings, headerRanges, mapsIn, mapsOf, startOf, headerOf, headed, headerLine, refOf, lockOf, tidOf, semOf, typeLine, typeLines, mapLine, Row, rowOf, startGiven, startRange, postRange, postField, rowLine, Split, split}
+use Rattle.spec.specs.Split.{Map, Header, headings, headerRanges, mapsIn, mapsOf, startOf, headerOf, headed, headerLine, refOf, lockOf, outRange, tidOf, semOf, typeLine, typeLines, mapLine, Row, rowOf, startGiven, startRange, postRange, postField, rowLine, Split, split}
 use Rattle.spec.specs.Ranges.{InRange}
 use Rattle.spec.specs.Accepted.{AtMost}
 use Rattle.spec.specs.Accepted as accepted
 use Rattle.spec.specs.declared.Heading.{Heading}
-use Rattle.spec.specs.declared.Heading.the-variants.{C, C2}
+use Rattle.spec.specs.declared.Heading.the-variants.{C, C2, C3}
 use Rattle.spec.specs.declared.Purpose.the-variants.{Check}
 use Rattle.spec.specs.declared.MapNumber.{MapNumber}
 use Rattle.spec.specs.declared.Word.the-variants.{Leaf}
@@ -28,8 +28,8 @@ use Rattle.spec.proofs.Reading.{read-next, read-all}
 use Rattle.writer.specs.Text.{decimal, text}
 use Rattle.writer.specs.Plain.{Plain, PlainLine, last, next}
 use Rattle.writer.specs.Plain as plain
-use Rattle.writer.specs.Sheet.{headingName, headerNumbers, headerFields, typeFields, mapFields, postShown, startShown, rowFields, splitLines, written}
-use Rattle.writer.specs.Writable.{RootStarts, RowStarts, Writable}
+use Rattle.writer.specs.Sheet.{headingName, headerNumbers, headerFields, outNumber, typeFields, mapFields, postShown, startShown, rowFields, splitLines, written}
+use Rattle.writer.specs.Writable.{RootStarts, LockShows, RowStarts, Writable}
 use Rattle.writer.proofs.Decimal.{decimal-long}
 use Rattle.writer.proofs.Numerals.{decimal-plain}
 use Rattle.writer.proofs.Fields.{joined, fields-joined, line-closed}
@@ -45,18 +45,19 @@ header-plain H = by-heading (H .heading)
     by-heading : (h : Heading) → PlainLine (headingName h ∷ map decimal (headerNumbers h H))
     by-heading C = plain-word (H .denominator) (H .locations ∷ H .types ∷ H .maps ∷ []) (plain.more refl refl plain.none)
     by-heading C2 = plain-word (H .denominator) (H .locations ∷ H .types ∷ H .maps ∷ H .start .0 ∷ []) (plain.more refl refl (plain.more refl refl plain.none))
+    by-heading C3 = plain-word (H .denominator) (H .locations ∷ H .types ∷ H .maps ∷ H .start .0 ∷ []) (plain.more refl refl (plain.more refl refl plain.none))
 
 word-3 : {a b c : ℕ} → eqb a 44 ≡ false → eqb a 10 ≡ false → eqb b 44 ≡ false → eqb b 10 ≡ false → eqb c 44 ≡ false → eqb c 10 ≡ false
     → Plain (a ∷ b ∷ c ∷ [])
 word-3 p q r s t u = plain.more p q (plain.more r s (plain.more t u plain.none))
 
-type-plain : (τ : TypeLine) → PlainLine (typeFields τ)
+type-plain : (h : Heading) (τ : TypeLine) → PlainLine (typeFields h τ)
 unfolding typeFields bytes
-type-plain Int = plain-word 0 (0 ∷ []) (word-3 refl refl refl refl refl refl)
-type-plain (Ref p t) = plain-word (p .0) (t .0 ∷ []) (word-3 refl refl refl refl refl refl)
-type-plain (Lock k) = plain-word (k .0) (0 ∷ []) (plain.more refl refl (word-3 refl refl refl refl refl refl))
-type-plain (Tid k) = plain-word (k .0) (0 ∷ []) (word-3 refl refl refl refl refl refl)
-type-plain (Sem k) = plain-word (k .0) (0 ∷ []) (word-3 refl refl refl refl refl refl)
+type-plain h Int = plain-word 0 (0 ∷ []) (word-3 refl refl refl refl refl refl)
+type-plain h (Ref p t) = plain-word (p .0) (t .0 ∷ []) (word-3 refl refl refl refl refl refl)
+type-plain h (Lock i o) = plain-word (i .0) (outNumber h o ∷ []) (plain.more refl refl (word-3 refl refl refl refl refl refl))
+type-plain h (Tid k) = plain-word (k .0) (0 ∷ []) (word-3 refl refl refl refl refl refl)
+type-plain h (Sem k) = plain-word (k .0) (0 ∷ []) (word-3 refl refl refl refl refl refl)
 
 map-plain : (m : Map) → 1 ≤ length m → PlainLine (mapFields m)
 unfolding mapFields
@@ -121,10 +122,30 @@ module _ {steps : List Step} {S : Split} (W : Writable steps S) where
   a-map : {n : ℕ} → n < length (S .maps) → n < H .maps
   a-map h = omega (arith, R .mapsCounted)
 
+  few-maps : H .maps ≤ 1000000000
+  few-maps = omega (arith, R .mapsFew)
+
   header-back : headerLine Check (headerFields H) ≡ right H
   unfolding headerLine headings lookUp headed headerOf startOf mapsIn mapsOf headerFields headingName headerNumbers same bytes seen headerRanges RootStarts
   header-back = by-heading (H .heading) refl (W .rootStart)
     where
+      -- the numbers of a header that names its start
+      named : Within (headerRanges C2 (H .maps)) (headerNumbers C2 H)
+      named =
+          within-to (R .denominator) (omega arith) (within-to (R .locations) (omega arith)
+          (within-to (R .typesFew) (omega arith) (within-to (R .mapsFew) (omega arith)
+          (within-below (a-map (R .start)) (omega (arith, R .mapsFew)) empty))))
+
+      headed-by : Heading → Header
+      headed-by h = record {
+        heading = h;
+        denominator = H .denominator;
+        locations = H .locations;
+        types = H .types;
+        maps = H .maps;
+        start = H .start;
+      }
+
       by-heading : (h : Heading) → H .heading ≡ h → RootStarts h (H .start) → headerLine Check (headingName h ∷ map decimal (headerNumbers h H)) ≡ right H
       by-heading C e z =
           rw (numbers-back (within-to (R .denominator) (omega arith) (within-to (R .locations) (omega arith)
@@ -137,27 +158,26 @@ module _ {steps : List Step} {S : Split} (W : Writable steps S) where
             maps = H .maps;
             start = record { 0 = sym z i };
           }))
-      by-heading C2 e z =
-          let w = within-to (R .denominator) (omega arith) (within-to (R .locations) (omega arith)
-          (within-to (R .typesFew) (omega arith) (within-to (R .mapsFew) (omega arith)
-          (within-below (a-map (R .start)) (omega (arith, R .mapsFew)) empty)))) in
-          rw (numerals-back w, numbers-back w)
-          (λ i. right (record {
-            heading = sym e i;
-            denominator = H .denominator;
-            locations = H .locations;
-            types = H .types;
-            maps = H .maps;
-            start = H .start;
-          }))
+      by-heading C2 e z = rw (numerals-back named, numbers-back named) (λ i. right (headed-by (sym e i)))
+      by-heading C3 e z = rw (numerals-back named, numbers-back named) (λ i. right (headed-by (sym e i)))
 
-  type-back : (t : ℕ) (τ : TypeLine) → t < length (S .types) → getD (S .types) t Int ≡ τ → typeLine H t (typeFields τ) ≡ right τ
+  -- the numbers of a lock line, by heading
+  lock-back : (h : Heading) (i o : MapNumber) → i .0 < H .maps → o .0 < H .maps → LockShows h i o
+      → seen (lockOf h) (numbers (below (H .maps) ∷ outRange h (H .maps) ∷ []) (map decimal (i .0 ∷ outNumber h o ∷ []))) ≡ right (Lock i o)
+  unfolding seen lockOf outRange outNumber LockShows
+  lock-back C i o first second same =
+      rw (numbers-back (within-below first few-maps (zero-in empty))) (λ j. right (Lock i (record { 0 = sym same j })))
+  lock-back C2 i o first second same =
+      rw (numbers-back (within-below first few-maps (zero-in empty))) (λ j. right (Lock i (record { 0 = sym same j })))
+  lock-back C3 i o first second any = rw (numbers-back (within-below first few-maps (within-below second few-maps empty)))
+
+  type-back : (t : ℕ) (τ : TypeLine) → t < length (S .types) → getD (S .types) t Int ≡ τ → typeLine H t (typeFields (H .heading) τ) ≡ right τ
   unfolding typeLine typeFields same bytes seen refOf lockOf tidOf semOf
   type-back t Int h e = rw (numbers-back (zero-in (zero-in empty)))
   type-back t (Ref p c) h e =
       let (place, content) = R .refPlace t p c h e in
       rw (numbers-back (within-below place (omega (arith, R .locations)) (within-below content (omega (arith, R .typesFew, R .typesCounted)) empty)))
-  type-back t (Lock k) h e = rw (numbers-back (within-below (a-map (R .lockLoad t k h e)) (omega (arith, R .mapsFew)) (zero-in empty)))
+  type-back t (Lock i o) h e = let (first, second) = R .lockLoads t i o h e in lock-back (H .heading) i o (a-map first) (a-map second) (W .lockShows t i o h e)
   type-back t (Tid k) h e = rw (numbers-back (within-below (a-map (R .tidLoad t k h e)) (omega (arith, R .mapsFew)) (zero-in empty)))
   type-back t (Sem k) h e = rw (numbers-back (within-below (a-map (R .semLoad t k h e)) (omega (arith, R .mapsFew)) (zero-in empty)))
 
@@ -192,12 +212,12 @@ module _ {steps : List Step} {S : Split} (W : Writable steps S) where
 
   -- ---------------------------------------------------------------- all lines of a sort
 
-  types-back : Spells (typeLines H 0 (H .types)) (map typeFields (S .types)) (S .types)
-  types-back = each-spelled typeFields (typeLines H 0 (H .types)) (S .types) (typeLine H 0) Int (R .typesCounted ∙ sym (type-lines-length H 0 (H .types))) (λ t h.
+  types-back : Spells (typeLines H 0 (H .types)) (map (typeFields (H .heading)) (S .types)) (S .types)
+  types-back = each-spelled (typeFields (H .heading)) (typeLines H 0 (H .types)) (S .types) (typeLine H 0) Int (R .typesCounted ∙ sym (type-lines-length H 0 (H .types))) (λ t h.
       let τ = getD (S .types) t Int in
       let own : 0 + t ≡ t = omega arith in
       let read = type-lines-at H 0 (H .types) t (typeLine H 0) (omega (arith, R .typesCounted)) ∙ ap (typeLine H) own in
-      (type-plain τ, ap (λ (f : List Field → Seen TypeLine). f (typeFields τ)) read ∙ type-back t τ h refl))
+      (type-plain (H .heading) τ, ap (λ (f : List Field → Seen TypeLine). f (typeFields (H .heading) τ)) read ∙ type-back t τ h refl))
 
   maps-back : Spells (replicate (H .maps) (mapLine H)) (map mapFields (S .maps)) (S .maps)
   maps-back = each-spelled mapFields (replicate (H .maps) (mapLine H)) (S .maps) (mapLine H) [] (R .mapsCounted ∙ sym (length-replicate (H .maps) (mapLine H))) (λ n h.
@@ -220,7 +240,7 @@ module _ {steps : List Step} {S : Split} (W : Writable steps S) where
   written-reads-back =
       let rowed = map (rowFields Check) (S .rows) in
       let mapped = map mapFields (S .maps) ++ rowed in
-      let typed = map typeFields (S .types) ++ mapped in
+      let typed = map (typeFields (H .heading)) (S .types) ++ mapped in
       let (l₁, types) = read-all splitSheet (text-shows mapped types-back) 1 in
       let (l₂, maps) = read-all splitSheet (text-shows rowed maps-back) l₁ in
       let (l₃, rows) = read-all splitSheet (all-shown rows-back) l₂ in

@@ -7,27 +7,26 @@ use mathlib.Core.Bool.{Bool, true, false}
 use mathlib.Core.Option.{Option, none, some}
 use Prim.Native.Nat.{ℕ, zero, suc, _+_}
 use native.Mathlib.Omega.{arith}
-use lib.Dec.{eqb}
 use lib.ListN.{length, getD, replicate, drop, drop-of-length-le}
 use lib.Seq.{drop-cons}
-use borrow.Author.Tests.{eqb-true, ltb-true}
+use borrow.Author.Tests.{ltb-true}
 use Rattle.spec.specs.Choice.{if_then_else_}
 use Rattle.spec.specs.Text.{Line, bytes, same, Field, fields, lookUp}
 use Rattle.spec.specs.Reading.{Seen, right, noStart, seen, Range, _to_, below, inRange, numerals, numbers}
 use Rattle.spec.specs.Expression.{Step}
-use Rattle.spec.specs.Split.{Map, Header, headings, headerRanges, mapsOf, mapsIn, startOf, headerOf, headed, headerLine, refOf, lockOf, tidOf, semOf, typeLine, typeLines, mapLine, Row, rowOf, startGiven, startRange, postRange, postField, rowLine, Split}
+use Rattle.spec.specs.Split.{Map, Header, headings, headerRanges, mapsOf, mapsIn, startOf, headerOf, headed, headerLine, refOf, lockOf, outRange, tidOf, semOf, typeLine, typeLines, mapLine, Row, rowOf, startGiven, startRange, postRange, postField, rowLine, Split}
 use Rattle.spec.specs.WellFormed.{Shows, WellFormedSplit}
 use Rattle.spec.specs.WellFormed as well-formed
 use Rattle.spec.specs.declared.Heading.{Heading}
-use Rattle.spec.specs.declared.Heading.the-variants.{C, C2}
+use Rattle.spec.specs.declared.Heading.the-variants.{C, C2, C3}
 use Rattle.spec.specs.declared.Purpose.{Purpose}
 use Rattle.spec.specs.declared.Purpose.the-variants.{Check, Fill}
 use Rattle.spec.specs.declared.TypeLine.{TypeLine}
-use Rattle.spec.proofs.Clashes.{true-is-not-false, none-is-not-some}
-use Rattle.spec.proofs.Tests.{both-true}
+use Rattle.spec.proofs.Clashes.{none-is-not-some}
+use Rattle.spec.proofs.Tests.{same-equal}
 use Rattle.spec.proofs.Ranges.{wrong-is-not-right, seen-right, numbers-right, in-to, in-range-at, insist-right}
 use Rattle.writer.specs.Text.{decimal, line, text}
-use Rattle.writer.specs.Sheet.{headingName, headerNumbers, headerFields, typeFields, mapFields, postShown, startShown, rowFields, splitLines, written, unfilled}
+use Rattle.writer.specs.Sheet.{headingName, headerNumbers, headerFields, outNumber, typeFields, mapFields, postShown, startShown, rowFields, splitLines, written, unfilled}
 use Rattle.writer.proofs.Fields.{joined}
 use Rattle.writer.proofs.Lines.{text-append}
 use Rattle.writer.proofs.Canonical.{numbers-canonical, joined-fields, unlined, unlined-lines, line-joined, OneSpelling, empty, entry, shown-spelling}
@@ -50,21 +49,10 @@ line-numbers rs fs ns h = numbers-canonical rs fs ns h ∙ ap (map decimal) (ent
 
 -- ------------------------------------------------------------------ words
 
-choice-right : {A : Type 0} (Q : A → Type 0) (b : Bool) (x y : Seen A) → (b ≡ true → (a : A) → x ≡ right a → Q a) → ((a : A) → y ≡ right a → Q a)
+pub choice-right : {A : Type 0} (Q : A → Type 0) (b : Bool) (x y : Seen A) → (b ≡ true → (a : A) → x ≡ right a → Q a) → ((a : A) → y ≡ right a → Q a)
     → (a : A) → (if b then x else y) ≡ right a → Q a
 choice-right Q true x y f g a h = f refl a h
 choice-right Q false x y f g a h = g a h
-
-same-is : (s t : List ℕ) → same s t ≡ true → s ≡ t
-unfolding same
-same-is [] [] h = refl
-same-is [] (b ∷ t) h = true-is-not-false (sym h)
-same-is (a ∷ s) [] h = true-is-not-false (sym h)
-same-is (a ∷ s) (b ∷ t) h =
-    let (here, rest) = both-true (eqb a b) (same s t) h in
-    let p = eqb-true a b here in
-    let q = same-is s t rest in
-    cc
 
 -- ------------------------------------------------------------------ the header
 
@@ -80,13 +68,13 @@ named-found (w ∷ ws) f h names e = by-test (same (w .0) f) refl e (named-found
   where
     by-test : (b : Bool) → same (w .0) f ≡ b → (if b then some (w .1) else lookUp ws f) ≡ some h → (lookUp ws f ≡ some h → f ≡ headingName h)
         → f ≡ headingName h
-    by-test true t e others = let it : w .1 ≡ h = cc in sym (same-is (w .0) f t) ∙ names .0 ∙ ap headingName it
+    by-test true t e others = let it : w .1 ≡ h = cc in sym (same-equal (w .0) f t) ∙ names .0 ∙ ap headingName it
     by-test false t e others = others e
 
 headings-named : (purpose : Purpose) → Named (headings purpose)
 unfolding Named headings headingName
-headings-named Check = (refl, (refl, tt))
-headings-named Fill = (refl, tt)
+headings-named Check = (refl, (refl, (refl, tt)))
+headings-named Fill = (refl, (refl, tt))
 
 numbers-spelling : (h : Heading) (H : Header) (fs : List Field) → headed (some h) fs ≡ right H → headingName h ∷ fs ≡ headerFields H
 unfolding headed headerRanges headerOf startOf mapsOf headerFields headerNumbers entries
@@ -96,6 +84,9 @@ numbers-spelling C H fs e =
 numbers-spelling C2 H fs e =
     let (ns, n, g) = seen-right _ e in
     along (λ G. headingName C2 ∷ fs ≡ headerFields G) g (ap (λ (r : List Field). headingName C2 ∷ r) (line-numbers (headerRanges C2 (mapsIn (numerals fs))) fs ns n))
+numbers-spelling C3 H fs e =
+    let (ns, n, g) = seen-right _ e in
+    along (λ G. headingName C3 ∷ fs ≡ headerFields G) g (ap (λ (r : List Field). headingName C3 ∷ r) (line-numbers (headerRanges C3 (mapsIn (numerals fs))) fs ns n))
 
 header-spelling : (purpose : Purpose) (H : Header) (fs : List Field) → headerLine purpose fs ≡ right H → fs ≡ headerFields H
 unfolding headerLine headed
@@ -112,14 +103,14 @@ header-spelling purpose H (f ∷ fs) h = by-name (lookUp (headings purpose) f) r
 module _ (H : Header) (own : ℕ) (f : Field) (fs : List Field) where
   -- a word and its numbers, if they are what is written for the type that they make
   word-spelling : (word : Field) (rs : List Range) (made : List ℕ → TypeLine)
-      → ((ns : List ℕ) → numbers rs fs ≡ right ns → typeFields (made ns) ≡ word ∷ map decimal (entries ns 0 (length rs)))
-      → same f word ≡ true → (τ : TypeLine) → seen made (numbers rs fs) ≡ right τ → f ∷ fs ≡ typeFields τ
+      → ((ns : List ℕ) → numbers rs fs ≡ right ns → typeFields (H .heading) (made ns) ≡ word ∷ map decimal (entries ns 0 (length rs)))
+      → same f word ≡ true → (τ : TypeLine) → seen made (numbers rs fs) ≡ right τ → f ∷ fs ≡ typeFields (H .heading) τ
   word-spelling word rs made shown t τ g =
       let (ns, n, e) = seen-right _ g in
-      ap (λ (w : Field). w ∷ fs) (same-is f word t)
+      ap (λ (w : Field). w ∷ fs) (same-equal f word t)
       ∙ ap (λ (r : List Field). word ∷ r) (line-numbers rs fs ns n)
       ∙ sym (shown ns n)
-      ∙ ap typeFields e
+      ∙ ap (typeFields (H .heading)) e
 
   -- a map, then 0
   load-shown : (word : Field) (ns : List ℕ) → numbers (below (H .maps) ∷ (0 to 0) ∷ []) fs ≡ right ns
@@ -128,6 +119,14 @@ module _ (H : Header) (own : ℕ) (f : Field) (fs : List Field) where
   load-shown word ns n =
       let zero-range = in-to 0 0 (getD ns 1 0) (in-range-at (below (H .maps) ∷ (0 to 0) ∷ []) fs ns n 1 (omega arith)) in
       ap (λ (b : ℕ). word ∷ map decimal (getD ns 0 0 ∷ b ∷ [])) (omega (arith, zero-range))
+
+  -- a lock line, by heading
+  lock-shown : (h : Heading) (ns : List ℕ) → numbers (below (H .maps) ∷ outRange h (H .maps) ∷ []) fs ≡ right ns
+      → typeFields h (lockOf h ns) ≡ bytes "lock" ∷ map decimal (entries ns 0 2)
+  unfolding outRange typeFields lockOf outNumber entries
+  lock-shown C ns n = load-shown (bytes "lock") ns n
+  lock-shown C2 ns n = load-shown (bytes "lock") ns n
+  lock-shown C3 ns n = refl
 
   int-shown : (ns : List ℕ) → numbers ((0 to 0) ∷ (0 to 0) ∷ []) fs ≡ right ns
       → bytes "int" ∷ map decimal (0 ∷ 0 ∷ []) ≡ bytes "int" ∷ map decimal (entries ns 0 2)
@@ -139,21 +138,21 @@ module _ (H : Header) (own : ℕ) (f : Field) (fs : List Field) where
       ap (λ (a : ℕ). bytes "int" ∷ map decimal (a ∷ 0 ∷ [])) (omega (arith, first))
       ∙ ap (λ (b : ℕ). bytes "int" ∷ map decimal (getD ns 0 0 ∷ b ∷ [])) (omega (arith, second))
 
-type-spelling : (H : Header) (own : ℕ) (τ : TypeLine) (fs : List Field) → typeLine H own fs ≡ right τ → fs ≡ typeFields τ
+type-spelling : (H : Header) (own : ℕ) (τ : TypeLine) (fs : List Field) → typeLine H own fs ≡ right τ → fs ≡ typeFields (H .heading) τ
 unfolding typeLine typeFields refOf lockOf tidOf semOf entries
 type-spelling H own τ [] h = wrong-is-not-right h
 type-spelling H own τ (f ∷ fs) h =
-    let Q : TypeLine → Type 0 = λ σ. f ∷ fs ≡ typeFields σ in
+    let Q : TypeLine → Type 0 = λ σ. f ∷ fs ≡ typeFields (H .heading) σ in
     let spelled = word-spelling H own f fs in
     choice-right Q (same f (bytes "int")) _ _ (spelled (bytes "int") _ _ (int-shown H own f fs))
     (choice-right Q (same f (bytes "ref")) _ _ (spelled (bytes "ref") _ _ (λ ns n. refl))
-    (choice-right Q (same f (bytes "lock")) _ _ (spelled (bytes "lock") _ _ (load-shown H own f fs (bytes "lock")))
+    (choice-right Q (same f (bytes "lock")) _ _ (spelled (bytes "lock") _ _ (lock-shown H own f fs (H .heading)))
     (choice-right Q (same f (bytes "tid")) _ _ (spelled (bytes "tid") _ _ (load-shown H own f fs (bytes "tid")))
     (choice-right Q (same f (bytes "sem")) _ _ (spelled (bytes "sem") _ _ (load-shown H own f fs (bytes "sem")))
     (λ σ g. wrong-is-not-right g))))) τ h
 
 types-spelling : (H : Header) (own n : ℕ) {ls rest : List Line} {τs : List TypeLine} → Shows (typeLines H own n) ls τs rest
-    → OneSpelling (typeLines H own n) τs (map typeFields τs)
+    → OneSpelling (typeLines H own n) τs (map (typeFields (H .heading)) τs)
 unfolding typeLines
 types-spelling H own zero well-formed.nothing = empty
 types-spelling H own (suc n) (well-formed.line {a = a} h s) = entry (type-spelling H own a) (types-spelling H (own + 1) n s)
@@ -214,7 +213,7 @@ pub sheet-spelling : {purpose : Purpose} {steps : List Step} {sheet : List ℕ} 
 unfolding text splitLines unlined
 sheet-spelling {purpose} {steps} {sheet} {S} F =
     let H = S .header in
-    let T = map typeFields (S .types) in
+    let T = map (typeFields (H .heading)) (S .types) in
     let M = map mapFields (S .maps) in
     let R = map (rowFields purpose) (S .rows) in
     let first : F .first ≡ joined (headerFields H) = sym (joined-fields (F .first)) ∙ ap joined (header-spelling purpose H (fields (F .first)) (F .headed)) in

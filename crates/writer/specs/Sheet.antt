@@ -5,7 +5,7 @@ use Prim.Native.Nat.{ℕ}
 use Rattle.spec.specs.Text.{bytes, Field}
 use Rattle.spec.specs.Split.{Map, Header, Row, Split}
 use Rattle.spec.specs.declared.Heading.{Heading}
-use Rattle.spec.specs.declared.Heading.the-variants.{C, C2}
+use Rattle.spec.specs.declared.Heading.the-variants.{C, C2, C3}
 use Rattle.spec.specs.declared.Purpose.{Purpose}
 use Rattle.spec.specs.declared.Purpose.the-variants.{Check, Fill}
 use Rattle.spec.specs.declared.MapNumber.{MapNumber}
@@ -13,25 +13,33 @@ use Rattle.spec.specs.declared.TypeLine.{TypeLine}
 use Rattle.spec.specs.declared.TypeLine.the-variants.{Int, Ref, Lock, Tid, Sem}
 use Rattle.writer.specs.Text.{decimal, text}
 
--- `C,D,L,T,M` and `C2,D,L,T,M,r`
+-- `C,D,L,T,M`, `C2,D,L,T,M,r` and `C3,D,L,T,M,r`
 unfoldable pub headingName : Heading → Field
 headingName C = bytes "C"
 headingName C2 = bytes "C2"
+headingName C3 = bytes "C3"
 
 unfoldable pub headerNumbers : Heading → Header → List ℕ
 headerNumbers C H = H .denominator ∷ H .locations ∷ H .types ∷ H .maps ∷ []
 headerNumbers C2 H = H .denominator ∷ H .locations ∷ H .types ∷ H .maps ∷ H .start .0 ∷ []
+headerNumbers C3 H = H .denominator ∷ H .locations ∷ H .types ∷ H .maps ∷ H .start .0 ∷ []
 
 unfoldable pub headerFields : Header → List Field
 headerFields H = headingName (H .heading) ∷ map decimal (headerNumbers (H .heading) H)
 
--- `int,0,0`; `ref,p,t`; `lock,k,0`; `tid,k,0`; `sem,k,0`
-unfoldable pub typeFields : TypeLine → List Field
-typeFields Int = bytes "int" ∷ map decimal (0 ∷ 0 ∷ [])
-typeFields (Ref p t) = bytes "ref" ∷ map decimal (p .0 ∷ t .0 ∷ [])
-typeFields (Lock k) = bytes "lock" ∷ map decimal (k .0 ∷ 0 ∷ [])
-typeFields (Tid k) = bytes "tid" ∷ map decimal (k .0 ∷ 0 ∷ [])
-typeFields (Sem k) = bytes "sem" ∷ map decimal (k .0 ∷ 0 ∷ [])
+-- the third number of a lock line: its out, where the heading has it
+unfoldable pub outNumber : Heading → MapNumber → ℕ
+outNumber C o = 0
+outNumber C2 o = 0
+outNumber C3 o = o .0
+
+-- `int,0,0`; `ref,p,t`; `lock,k,0`, or `lock,in,out`; `tid,k,0`; `sem,k,0`
+unfoldable pub typeFields : Heading → TypeLine → List Field
+typeFields h Int = bytes "int" ∷ map decimal (0 ∷ 0 ∷ [])
+typeFields h (Ref p t) = bytes "ref" ∷ map decimal (p .0 ∷ t .0 ∷ [])
+typeFields h (Lock i o) = bytes "lock" ∷ map decimal (i .0 ∷ outNumber h o ∷ [])
+typeFields h (Tid k) = bytes "tid" ∷ map decimal (k .0 ∷ 0 ∷ [])
+typeFields h (Sem k) = bytes "sem" ∷ map decimal (k .0 ∷ 0 ∷ [])
 
 -- a numeral for each location
 unfoldable pub mapFields : Map → List Field
@@ -55,7 +63,7 @@ rowFields purpose r = decimal (r .type .0) ∷ postShown purpose (r .post) ∷ s
 unfoldable pub splitLines : Purpose → Split → List (List Field)
 splitLines purpose S =
     headerFields (S .header)
-    ∷ (map typeFields (S .types)
+    ∷ (map (typeFields (S .header .heading)) (S .types)
     ++ (map mapFields (S .maps)
     ++ map (rowFields purpose) (S .rows)))
 

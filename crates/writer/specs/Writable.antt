@@ -10,14 +10,22 @@ use Rattle.spec.specs.Split.{Row, Split, takesStart, mayBeEmpty}
 use Rattle.spec.specs.Ranges.{InRange}
 use Rattle.spec.specs.Accepted.{AtMost}
 use Rattle.spec.specs.declared.Heading.{Heading}
-use Rattle.spec.specs.declared.Heading.the-variants.{C, C2}
+use Rattle.spec.specs.declared.Heading.the-variants.{C, C2, C3}
 use Rattle.spec.specs.declared.MapNumber.{MapNumber}
+use Rattle.spec.specs.declared.TypeLine.the-variants as type-line
 use Rattle.spec.specs.declared.Word.{Word}
 
 -- the start of the root that a heading can show: map 0 where the header does not name it
 unfoldable pub RootStarts : Heading → MapNumber → Type 0
 RootStarts C m = m .0 ≡ 0
 RootStarts C2 m = Unit {0}
+RootStarts C3 m = Unit {0}
+
+-- the out of a lock that a heading can show: its in where the line does not name it
+unfoldable pub LockShows : Heading → (i o : MapNumber) → Type 0
+LockShows C i o = o .0 ≡ i .0
+LockShows C2 i o = o .0 ≡ i .0
+LockShows C3 i o = Unit {0}
 
 -- the start that a row of a step with this word can show
 unfoldable pub RowStarts : Heading → Word → Option MapNumber → Type 0
@@ -28,5 +36,7 @@ RowStarts h w (some m) = takesStart w ≡ true
 pub record Writable (steps : List Step) (S : Split) : Type 0 where
   pub inRange : InRange steps S
   pub rootStart : RootStarts (S .header .heading) (S .header .start)
+  pub lockShows : (t : ℕ) (i o : MapNumber) → t < length (S .types) → getD (S .types) t type-line.Int ≡ type-line.Lock i o
+      → LockShows (S .header .heading) i o
   pub numbersSmall : (m : ℕ) → AtMost 1000000000 (getD (S .maps) m [])
   pub rowStarts : (i : ℕ) (s : Step) (r : Row) → i < length steps → RowStarts (S .header .heading) (getD steps i s .word) (getD (S .rows) i r .start)

@@ -211,11 +211,14 @@ fn faulty_are_refused(checker: Checker) -> Result<String, String> {
     Ok(format!("{races} with a race and {halts} with an odd halt, all refused; {still_accepted} still accepted"))
 }
 
+const SLIPS: [Slip; 5] =
+    [Slip::LocksForFree, Slip::StartsForFree, Slip::WritesByFirstMap, Slip::PostsForFree, Slip::PrintedInequality];
+
 /// Drafts built with one of the mistakes that a checker may make: some of them race, and those must be
 /// refused.
 fn slips_are_refused(checker: Checker) -> Result<String, String> {
     let mut told = Vec::new();
-    for slip in [Slip::LocksForFree, Slip::StartsForFree, Slip::WritesByFirstMap, Slip::PostsForFree] {
+    for slip in SLIPS {
         let mut races = 0;
         for number in 0..300 {
             let draft = concurrent::draft_with(&mut Random::new(SEED + 3, number), Some(slip));

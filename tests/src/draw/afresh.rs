@@ -5,7 +5,7 @@ use super::draft::{Draft, Step, Type};
 use super::random::Random;
 use crate::answer::{MAPS, TYPES};
 
-/// The same `C` draft with a new line for each use while there is room for new lines; past that, a use
+/// The same draft, which starts with map 0, with a new line for each use while there is room for new lines; past that, a use
 /// shares a line that says the same.
 pub fn afresh(random: &mut Random, known: &Draft) -> Draft {
     let mut draft = Draft { types: Vec::new(), maps: vec![known.maps[0]], ..known.clone() };
@@ -41,7 +41,7 @@ impl Writer<'_> {
         let kind = match self.known.types[old] {
             Type::Int => Type::Int,
             Type::Ref { location, content } => Type::Ref { location, content: self.new_type(content) },
-            Type::Lock(map) => Type::Lock(self.new_map(map)),
+            Type::Lock { taken, given } => self.new_lock(taken, given),
             Type::Tid(map) => Type::Tid(self.new_map(map)),
             Type::Sem(map) => Type::Sem(self.new_map(map)),
         };
@@ -55,13 +55,21 @@ impl Writer<'_> {
         let kind = match self.known.types[old] {
             Type::Int => Type::Int,
             Type::Ref { location, content } => Type::Ref { location, content: self.shared_type(content) },
-            Type::Lock(map) => Type::Lock(self.new_map(map)),
+            Type::Lock { taken, given } => self.new_lock(taken, given),
             Type::Tid(map) => Type::Tid(self.new_map(map)),
             Type::Sem(map) => Type::Sem(self.new_map(map)),
         };
         let number = self.draft.add_type(kind);
         self.shared_types[old] = Some(number);
         number
+    }
+
+    fn new_lock(&mut self, taken: usize, given: usize) -> Type {
+        let taken = self.new_map(taken);
+        match self.known.has_two_loads() {
+            true => Type::Lock { taken, given: self.new_map(given) },
+            false => Type::lock(taken),
+        }
     }
 
     fn new_map(&mut self, old: usize) -> usize {

@@ -20,7 +20,7 @@ pub fn chain(random: &mut Random) -> Drawn {
     let length = 1 + random.below(longest);
     let locations = 1 + random.below(3);
     let mut draft = empty(locations);
-    let bottom = random.pick(&[Type::Int, Type::Lock(NOTHING), Type::Tid(NOTHING), Type::Sem(NOTHING)]);
+    let bottom = random.pick(&[Type::Int, Type::lock(NOTHING), Type::Tid(NOTHING), Type::Sem(NOTHING)]);
     let places: Vec<usize> = (0..length).map(|_| random.below(locations)).collect();
     let levels = write_chain(&mut draft, bottom, &places);
     let mut differs = false;
@@ -58,7 +58,7 @@ fn write_chain(draft: &mut Draft, bottom: Type, places: &[usize]) -> Vec<usize> 
 /// A type that agrees, with its map under another number.
 fn again(kind: Type) -> Type {
     match kind {
-        Type::Lock(_) => Type::Lock(NOTHING_AGAIN),
+        Type::Lock { .. } => Type::lock(NOTHING_AGAIN),
         Type::Tid(_) => Type::Tid(NOTHING_AGAIN),
         Type::Sem(_) => Type::Sem(NOTHING_AGAIN),
         other => other,
@@ -69,10 +69,10 @@ fn again(kind: Type) -> Type {
 fn differ(random: &mut Random, bottom: &mut Type, places: &mut [usize], locations: usize) -> bool {
     if random.percent(50) {
         *bottom = match *bottom {
-            Type::Int => random.pick(&[Type::Lock(NOTHING), Type::Tid(NOTHING)]),
-            Type::Lock(_) => random.pick(&[Type::Int, Type::Lock(NEARLY_NOTHING), Type::Tid(NOTHING)]),
+            Type::Int => random.pick(&[Type::lock(NOTHING), Type::Tid(NOTHING)]),
+            Type::Lock { .. } => random.pick(&[Type::Int, Type::lock(NEARLY_NOTHING), Type::Tid(NOTHING)]),
             Type::Tid(_) => random.pick(&[Type::Int, Type::Tid(NEARLY_NOTHING), Type::Sem(NOTHING)]),
-            _ => random.pick(&[Type::Int, Type::Sem(NEARLY_NOTHING), Type::Lock(NOTHING)]),
+            _ => random.pick(&[Type::Int, Type::Sem(NEARLY_NOTHING), Type::lock(NOTHING)]),
         };
         return true;
     }
@@ -89,7 +89,7 @@ fn write_steps(draft: &mut Draft, levels: &[usize], shown: usize) {
         draft.steps.push(step(Word::Ref, level));
     }
     let bottom = match draft.types[levels[0]] {
-        Type::Lock(_) => Word::Newlock,
+        Type::Lock { .. } => Word::Newlock,
         Type::Tid(_) => Word::Newtid,
         Type::Sem(_) => Word::Newsem,
         _ => Word::Int,

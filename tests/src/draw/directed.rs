@@ -4,7 +4,7 @@
 //! the step notices a change to its type or its map, and the step's own condition is the first to
 //! fail.
 
-use super::draft::{Draft, Map, Type};
+use super::draft::{Draft, Map, Step, Type};
 use super::headings::often_written_out;
 use super::honest::Builder;
 use super::random::Random;
@@ -53,7 +53,8 @@ impl Sabotage<'_> {
         use Word::*;
         let (own, e1) = (self.step, self.step + 1);
         match (self.draft.steps[own].word, condition) {
-            (Var | Let | If, 1) | (Read, 2) => self.other_type(own),
+            (Var, 1) => self.other_shown(own),
+            (Let | If, 1) | (Read, 2) => self.other_type(own),
             (Ref, 1) if self.random.percent(50) => self.other_content(own),
             (Int | While | Spawn | Join | Write | Newtid | Newlock | Newsem | Ref, 1) => self.other_kind(own),
             (Lock | Freelock | Unlock | Post | Wait, 1) => self.other_kind(own),
@@ -95,6 +96,17 @@ impl Sabotage<'_> {
         (!self.draft.agree(known, kind)).then_some(())
     }
 
+    /// A type that the variable's own may not be shown with: any other one, or a near miss.
+    fn other_shown(&mut self, step: usize) -> Option<()> {
+        let variable = self.draft.steps[step].number;
+        let binds = |step: &Step| step.word == Word::Let && step.number == variable;
+        let bound = self.draft.steps[self.draft.steps.iter().position(binds)? + 1].kind;
+        let drawn = self.random.below(self.draft.types.len());
+        let kind = if self.random.percent(50) { self.near_miss(bound) } else { drawn };
+        self.draft.steps[step].kind = kind;
+        (!self.draft.shows(kind, bound)).then_some(())
+    }
+
     /// The step's cell type with a content that does not agree.
     fn other_content(&mut self, step: usize) -> Option<()> {
         let Type::Ref { location, content } = self.draft.types[self.draft.steps[step].kind] else { return None };
@@ -108,7 +120,7 @@ impl Sabotage<'_> {
     fn near_miss(&mut self, known: usize) -> usize {
         let kind = match self.draft.types[known] {
             Type::Int => Type::Tid(0),
-            Type::Lock(map) => Type::Lock(self.near_map(map)),
+            Type::Lock { taken, given } => self.near_lock(taken, given),
             Type::Tid(map) => Type::Tid(self.near_map(map)),
             Type::Sem(map) => Type::Sem(self.near_map(map)),
             Type::Ref { location, content } if self.draft.locations > 1 && self.random.percent(40) => {
@@ -117,6 +129,24 @@ impl Sabotage<'_> {
             Type::Ref { location, content } => Type::Ref { location, content: self.near_miss(content) },
         };
         self.draft.add_type(kind)
+    }
+
+    /// A lock that differs in one load alone, where there are two: one more or one less at the last
+    /// location, as long as it takes back no less than it gives.
+    fn near_lock(&mut self, taken: usize, given: usize) -> Type {
+        if !self.draft.has_two_loads() {
+            return Type::lock(self.near_map(taken));
+        }
+        let last = self.draft.locations - 1;
+        let (mut least, mut most) = (self.draft.maps[taken], self.draft.maps[given]);
+        let apart = least[last] < most[last];
+        match self.random.below(4) {
+            0 if apart => least[last] += 1,
+            1 if apart => most[last] -= 1,
+            2 if least[last] > 0 => least[last] -= 1,
+            _ => most[last] = (most[last] + 1).min(WHOLE),
+        }
+        Type::Lock { taken: self.draft.add_map(least), given: self.draft.add_map(most) }
     }
 
     /// A map that differs from a known one at the last location alone, by 1.

@@ -10,10 +10,24 @@ pub type Map = [u32; LOCATIONS as usize];
 #[derive(Clone, Copy, PartialEq, Eq)]
 pub enum Type {
     Int,
-    Ref { location: usize, content: usize },
-    Lock(usize),
+    Ref {
+        location: usize,
+        content: usize,
+    },
+    /// What who takes the lock gets, and what the lock takes back.
+    Lock {
+        taken: usize,
+        given: usize,
+    },
     Tid(usize),
     Sem(usize),
+}
+
+impl Type {
+    /// A lock that takes back what it gives.
+    pub const fn lock(map: usize) -> Type {
+        Type::Lock { taken: map, given: map }
+    }
 }
 
 /// A line of the program with its line of the split.
@@ -31,6 +45,7 @@ pub struct Step {
 pub enum Heading {
     C,
     C2 { start: usize },
+    C3 { start: usize },
 }
 
 #[derive(Clone)]
@@ -70,18 +85,37 @@ impl Draft {
             (Type::Ref { location: one, content: left }, Type::Ref { location: other, content: right }) => {
                 one == other && self.agree(left, right)
             }
-            (Type::Lock(left), Type::Lock(right))
-            | (Type::Tid(left), Type::Tid(right))
-            | (Type::Sem(left), Type::Sem(right)) => self.maps[left] == self.maps[right],
+            (Type::Lock { taken: left, given: left_out }, Type::Lock { taken: right, given: right_out }) => {
+                self.maps[left] == self.maps[right] && self.maps[left_out] == self.maps[right_out]
+            }
+            (Type::Tid(left), Type::Tid(right)) | (Type::Sem(left), Type::Sem(right)) => {
+                self.maps[left] == self.maps[right]
+            }
             _ => false,
         }
+    }
+
+    /// Whether a variable of one type may be shown with another: one that agrees, or a lock that gives no
+    /// more and takes back no less.
+    pub fn shows(&self, shown: usize, bound: usize) -> bool {
+        match (self.types[shown], self.types[bound]) {
+            (Type::Lock { taken, given }, Type::Lock { taken: known_taken, given: known_given }) => {
+                at_least(&self.maps[known_taken], &self.maps[taken])
+                    && at_least(&self.maps[given], &self.maps[known_given])
+            }
+            _ => self.agree(shown, bound),
+        }
+    }
+
+    pub fn has_two_loads(&self) -> bool {
+        matches!(self.heading, Heading::C3 { .. })
     }
 
     /// The number of the map that the program starts with.
     pub fn start(&self) -> usize {
         match self.heading {
             Heading::C => 0,
-            Heading::C2 { start } => start,
+            Heading::C2 { start } | Heading::C3 { start } => start,
         }
     }
 
@@ -100,23 +134,25 @@ impl Draft {
         for kind in &mut self.types {
             match kind {
                 Type::Int | Type::Ref { .. } => {}
-                Type::Lock(map) | Type::Tid(map) | Type::Sem(map) => *map = new[*map],
+                Type::Lock { taken, given } => (*taken, *given) = (new[*taken], new[*given]),
+                Type::Tid(map) | Type::Sem(map) => *map = new[*map],
             }
         }
         for step in &mut self.steps {
             step.post = new[step.post];
             step.start = step.start.map(|start| new[start]);
         }
-        if let Heading::C2 { start } = &mut self.heading {
+        if let Heading::C2 { start } | Heading::C3 { start } = &mut self.heading {
             *start = new[*start];
         }
     }
 
     /// Drops the maps that only steps have afterwards; those steps get any map.
     pub fn drop_posts(&mut self) {
-        let carried = self.types.iter().filter_map(|kind| match kind {
-            Type::Int | Type::Ref { .. } => None,
-            Type::Lock(map) | Type::Tid(map) | Type::Sem(map) => Some(*map),
+        let carried = self.types.iter().flat_map(|kind| match *kind {
+            Type::Int | Type::Ref { .. } => vec![],
+            Type::Lock { taken, given } => vec![taken, given],
+            Type::Tid(map) | Type::Sem(map) => vec![map],
         });
         let starts = self.steps.iter().filter_map(|step| step.start);
         let used: BTreeSet<usize> = carried.chain(starts).chain([self.start()]).collect();
@@ -159,7 +195,8 @@ impl Draft {
             let (word, first, second): (&[u8], _, _) = match *kind {
                 Type::Int => (b"int,", 0, 0),
                 Type::Ref { location, content } => (b"ref,", location, content),
-                Type::Lock(map) => (b"lock,", map, 0),
+                Type::Lock { taken, given } if taken == given && !self.has_two_loads() => (b"lock,", taken, 0),
+                Type::Lock { taken, given } => (b"lock,", taken, given),
                 Type::Tid(map) => (b"tid,", map, 0),
                 Type::Sem(map) => (b"sem,", map, 0),
             };
@@ -181,6 +218,7 @@ impl Draft {
         match self.heading {
             Heading::C => push_fields(text, b"C,", &[self.whole, locations, types, maps]),
             Heading::C2 { .. } => push_fields(text, b"C2,", &[self.whole, locations, types, maps, start]),
+            Heading::C3 { .. } => push_fields(text, b"C3,", &[self.whole, locations, types, maps, start]),
         }
     }
 }

@@ -99,7 +99,7 @@ pub fn with_types(random: &mut Random, draft: &mut Draft, count: usize) {
         let content = random.below(draft.types.len());
         let kind = match random.below(5) {
             0 => Type::Int,
-            1 => Type::Lock(random.below(draft.maps.len())),
+            1 => Type::lock(random.below(draft.maps.len())),
             2 => Type::Tid(random.below(draft.maps.len())),
             3 => Type::Sem(random.below(draft.maps.len())),
             _ => Type::Ref { location: random.below(draft.locations), content },

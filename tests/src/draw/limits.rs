@@ -1,6 +1,6 @@
 //! Pairs at the limits of document 01 and one past them.
 
-use super::draft::{Draft, Heading};
+use super::draft::{Draft, Heading, Type};
 use super::full::{full, program_with_bytes, with_locations, with_maps, with_steps, with_types};
 use super::headings::often_written_out;
 use super::honest;
@@ -65,14 +65,19 @@ fn last_number_of_maps(random: &mut Random, draft: &mut Draft, past: usize) {
     draft.maps[last][location] = WHOLE + past as u32;
 }
 
-/// A step's type or map, or a body's or the program's start, is the last of its kind or one past.
+/// A step's type or map, a body's or the program's start, or what a lock takes back, is the last of its
+/// kind or one past.
 fn last_of_its_kind(random: &mut Random, draft: &mut Draft, past: usize) {
     let step = random.below(draft.steps.len());
     let (last_type, last_map) = (draft.types.len() - 1 + past, draft.maps.len() - 1 + past);
-    match random.below(4) {
+    match random.below(5) {
         0 => draft.steps[step].kind = last_type,
         1 => draft.steps[step].post = last_map,
         2 => draft.heading = Heading::C2 { start: last_map },
+        3 => {
+            draft.heading = Heading::C3 { start: draft.start() };
+            draft.add_type(Type::Lock { taken: draft.start(), given: last_map });
+        }
         _ => draft.steps[step].start = Some(last_map),
     }
 }

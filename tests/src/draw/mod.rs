@@ -49,7 +49,8 @@ pub fn pair(seed: u64, number: u64) -> Drawn {
     match random.below(1000) {
         0..=239 => Drawn::accepted(&honest_draft(random), "honest"),
         240..=244 => over_whole(random),
-        245..=249 => without_start(random),
+        245..=247 => without_start(random),
+        248..=249 => low_out(random),
         250..=339 => Drawn::accepted(&written_afresh(random), "afresh"),
         340..=349 => chains::chain(random),
         350..=399 => Drawn::accepted(&concurrent_draft(random), "concurrent"),
@@ -99,6 +100,16 @@ fn written_afresh(random: &mut Random) -> Draft {
 fn over_whole(random: &mut Random) -> Drawn {
     let draft = honest_draft(random);
     headings::over_whole(random, draft)
+}
+
+/// An honest `C3` draft, save that a lock line takes back less than it gives.
+fn low_out(random: &mut Random) -> Drawn {
+    loop {
+        let draft = honest_draft(random);
+        if draft.has_two_loads() {
+            return headings::low_out(random, draft);
+        }
+    }
 }
 
 /// An honest draft, save that one of its spawns lacks its start.

@@ -45,11 +45,12 @@ fn change_variable(random: &mut Random, draft: &mut Draft) {
     draft.steps[random.pick(&both)].number = draft.steps[random.pick(&lets)].number;
 }
 
-/// Another start, or the other heading.
+/// Another start, or another heading.
 fn change_heading(random: &mut Random, draft: &mut Draft) {
     draft.heading = match draft.heading {
-        Heading::C2 { .. } if random.percent(30) => Heading::C,
-        _ => Heading::C2 { start: random.below(draft.maps.len()) },
+        Heading::C2 { .. } | Heading::C3 { .. } if random.percent(30) => Heading::C,
+        _ if random.percent(50) => Heading::C2 { start: random.below(draft.maps.len()) },
+        _ => Heading::C3 { start: random.below(draft.maps.len()) },
     };
 }
 
@@ -58,7 +59,8 @@ fn change_type(random: &mut Random, draft: &mut Draft) {
     let map = random.below(draft.maps.len());
     let location = random.below(draft.locations);
     draft.types[own] = match random.below(5) {
-        0 => Type::Lock(map),
+        0 if draft.has_two_loads() => Type::Lock { taken: map, given: random.below(draft.maps.len()) },
+        0 => Type::lock(map),
         1 => Type::Tid(map),
         2 => Type::Sem(map),
         3 => Type::Ref { location, content: random.below(own.max(1)) },

@@ -15,7 +15,7 @@ pub fn noise(random: &mut Random) -> Drawn {
         1 => (honest_program, bytes(random)),
         2 => (scraps(random, b"P,"), scraps(random, b"C,")),
         3 => {
-            let heading = random.pick(&[b"C,".as_slice(), b"C2,"]);
+            let heading = random.pick(&[b"C,".as_slice(), b"C2,", b"C3,"]);
             (honest_program, scraps(random, heading))
         }
         _ => return Drawn::of(&drawn_tree(random), "noise"),
@@ -43,7 +43,8 @@ fn scraps(random: &mut Random, opening: &[u8]) -> Vec<u8> {
 /// A tree of drawn words with drawn types and maps, all of them in range.
 fn drawn_tree(random: &mut Random) -> Draft {
     let locations = 1 + random.below(3);
-    let heading = if random.percent(50) { Heading::C } else { Heading::C2 { start: random.below(3) } };
+    let start = random.below(3);
+    let heading = random.pick(&[Heading::C, Heading::C2 { start }, Heading::C3 { start }]);
     let (types, maps, steps) = (vec![Type::Int], Vec::new(), Vec::new());
     let mut draft = Draft { heading, whole: 2, locations, types, maps, steps };
     for _ in 0..3 {
@@ -54,7 +55,7 @@ fn drawn_tree(random: &mut Random) -> Draft {
     for own in 1..4 {
         let map = random.below(3);
         let cell = Type::Ref { location: random.below(locations), content: random.below(own) };
-        draft.types.push(random.pick(&[Type::Int, cell, Type::Lock(map), Type::Tid(map), Type::Sem(map)]));
+        draft.types.push(random.pick(&[Type::Int, cell, Type::lock(map), Type::Tid(map), Type::Sem(map)]));
     }
     let mut open = 1;
     while open > 0 && draft.steps.len() < 256 {

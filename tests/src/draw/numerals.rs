@@ -85,7 +85,7 @@ fn place_in_split(random: &mut Random, draft: &Draft) -> Place {
     let (types, maps) = (draft.types.len(), draft.maps.len());
     let (line, field, wide) = match random.below(7) {
         0 => (1, 1, true),
-        1 => (1, 2 + random.below(3 + usize::from(matches!(draft.heading, Heading::C2 { .. }))), false),
+        1 => (1, 2 + random.below(3 + usize::from(!matches!(draft.heading, Heading::C))), false),
         2 => (2 + drawn_type(random, draft), 1 + random.below(2), false),
         3 => (2 + types + random.below(maps), random.below(draft.locations), true),
         4 => (draft.row_of(random.below(draft.steps.len())), random.below(2), false),
@@ -98,7 +98,7 @@ fn place_in_split(random: &mut Random, draft: &Draft) -> Place {
 /// A type; each kind that there is is as likely as another.
 fn drawn_type(random: &mut Random, draft: &Draft) -> usize {
     let cell = Type::Ref { location: 0, content: 0 };
-    let wanted = random.pick(&[Type::Int, cell, Type::Lock(0), Type::Tid(0), Type::Sem(0)]);
+    let wanted = random.pick(&[Type::Int, cell, Type::lock(0), Type::Tid(0), Type::Sem(0)]);
     let alike = |kind: usize| std::mem::discriminant(&draft.types[kind]) == std::mem::discriminant(&wanted);
     drawn_where(random, 0..draft.types.len(), alike)
 }

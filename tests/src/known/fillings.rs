@@ -37,6 +37,9 @@ const UP_AND_DOWN: &str = "P,7|let,0|join,0|newtid,0|let,1|post,0|newsem,0|int,0
 /// One more of the load, then two less.
 const UP_AND_DOWN_TWICE: &str = "P,8|let,0|join,0|newtid,0|let,1|post,0|newsem,0|post,0|newsem,0|";
 
+/// A lock is made, taken and given back.
+const TAKEN: &str = "P,7|let,0|newlock,0|let,1|lock,0|var,0|unlock,0|var,0|";
+
 /// A spawned thread that does nothing.
 const IDLE: &str = "P,3|spawn,0|newtid,0|int,0|";
 
@@ -110,6 +113,27 @@ pub const SHEETS: &[Known] = &[
     pair(UP_AND_DOWN, loads!("1", "1000000000", "0,,|0,,|1,,|0,,|0,,|2,,|0,,|"), "REFUSE,42,0,0,0"),
     pair(UP_AND_DOWN_TWICE, loads!("999999999", "1000000000", "0,,|0,,|1,,|0,,|0,,|2,,|0,,|2,,|"), "REFUSE,41,0,0,0"),
     pair(UP_AND_DOWN_TWICE, loads!("1000000000", "1000000000", "0,,|0,,|1,,|0,,|0,,|2,,|0,,|2,,|"), "REFUSE,42,0,0,0"),
+    // A C3 sheet, request (ix): newlock and unlock use out, lock uses in. A looser type is shown on a var line alone.
+    pair(
+        TAKEN,
+        "C3,3,1,2,4,0|int,0,0|lock,1,2|3|1|2|0|0,,|1,,|0,,|0,,|1,,|0,,|1,,|",
+        "C3,3,1,2,11,0|int,0,0|lock,1,2|3|1|2|0|0|1|0|2|1|0|2|0,4,|1,5,|0,6,|0,7,|1,8,|0,9,|1,10,|",
+    ),
+    pair(TAKEN, "C3,3,1,2,4,1|int,0,0|lock,1,2|3|1|2|0|0,,|1,,|0,,|0,,|1,,|0,,|1,,|", "REFUSE,41,0,0,0"),
+    pair(
+        TAKEN,
+        "C3,3,1,3,3,0|int,0,0|lock,1,1|lock,2,1|3|1|0|0,,|1,,|0,,|0,,|1,,|0,,|1,,|",
+        "C3,3,1,3,10,0|int,0,0|lock,1,1|lock,2,1|3|1|0|2|2|2|3|2|2|3|0,3,|1,4,|0,5,|0,6,|1,7,|0,8,|1,9,|",
+    ),
+    pair(
+        TAKEN,
+        "C3,3,1,3,3,0|int,0,0|lock,1,1|lock,2,1|3|1|0|0,,|1,,|0,,|0,,|2,,|0,,|1,,|",
+        "C3,3,1,3,10,0|int,0,0|lock,1,1|lock,2,1|3|1|0|1|2|1|2|2|1|2|0,3,|1,4,|0,5,|0,6,|2,7,|0,8,|1,9,|",
+    ),
+    pair(TAKEN, "C3,3,1,3,3,0|int,0,0|lock,2,1|lock,1,1|3|1|0|0,,|1,,|0,,|0,,|2,,|0,,|1,,|", "REFUSE,31,6,1,0"),
+    pair(ONE, "C3,1,1,2,3,0|int,0,0|lock,1,2|2|1|0|0,,|", "REFUSE,44,3,0,0"),
+    pair(ONE, "C3,1,1,1,1,0|int,0,0|1|0,,|", "C3,1,1,1,2,0|int,0,0|1|1|0,1,|"),
+    pair(ONE, "C2,1,1,2,1,0|int,0,0|lock,0,1|1|0,,|", "REFUSE,22,3,0,0"),
     // Smaller maps would fit: the if might keep less than both of its parts leave.
     pair("P,4|if,0|join,0|newtid,0|int,0|", loads!("1", "1000000000", "0,,|0,,|1,,|0,,|"), "REFUSE,42,0,0,0"),
 ];

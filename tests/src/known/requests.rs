@@ -34,6 +34,25 @@ macro_rules! halves {
     };
 }
 
+/// Types int; locks of in and out 0 and 1, 1 and 1, 0 and 2, 2 and 2, 0 and 0, in halves; cells of the
+/// second and the first. Maps of 2, 1 and 0 halves.
+macro_rules! loads {
+    ($rows:literal) => {
+        concat!("C3,2,1,8,3,0|int,0,0|lock,2,1|lock,1,1|lock,2,0|lock,0,0|lock,2,2|ref,0,2|ref,0,1|2|1|0|", $rows)
+    };
+}
+const LOCK_TWICE: &str = "P,5|let,0|newlock,0|let,1|var,0|var,1|";
+const LOCK_IN_CELL: &str = "P,4|let,0|ref,0|newlock,0|var,0|";
+
+/// Section 3.1.6 as printed would let the thread give back nothing and go on writing.
+const GIVEN_BACK_AS_NOTHING: Known = pair(
+    "P,23|let,0|ref,0|int,0|let,1|newlock,0|let,2|spawn,0|newtid,0|let,3|lock,0|var,1|write,0|var,0|int,1|\
+     let,4|lock,0|var,1|let,5|unlock,0|var,1|write,0|var,0|int,2|",
+    "C3,1,1,5,2,0|int,0,0|ref,0,0|lock,0,0|lock,1,1|tid,1,0|1|0|0,0,|1,0,|0,0,|0,0,|2,1,|0,0,|0,1,1|4,1,|0,0,|0,0,|2,1,|\
+     0,0,|1,0,|0,0,|0,0,|0,0,|2,1,|0,0,|0,0,|3,0,|0,0,|1,0,|0,0,|",
+    "REFUSE,31,21,1,0",
+);
+
 /// One thread writes, posts, and the other waits before it writes.
 const SIGNALLED: Known = pair(
     "P,20|let,0|ref,0|int,0|let,1|newsem,0|let,2|spawn,0|newtid,0|let,3|wait,0|var,1|write,0|var,0|int,1|\
@@ -105,7 +124,6 @@ pub const PAIRS: &[Known] = &[
     split("C,1,1,1,1,0|int,0,0|0|0,0,|", "REFUSE,21,1,0,0"),
     split("C22,1,1,1,1,0|int,0,0|0|0,0,|", "REFUSE,21,1,0,0"),
     split("C1,1,1,1,1|int,0,0|0|0,0,|", "REFUSE,21,1,0,0"),
-    split("C3,1,1,1,1,0|int,0,0|0|0,0,|", "REFUSE,21,1,0,0"),
     split("C2,1,1,1,2,1|int,0,0|2|0|0,1,|", "ACCEPT"),
     split("C2,1,2,1,2,1|int,0,0|0,0|1,2|0,1,|", "REFUSE,30,2,0,1"),
     split("C2,1,1,1,2,1|int,0,0|1|0|0,0,|", "REFUSE,32,2,2,0"),
@@ -150,4 +168,45 @@ pub const PAIRS: &[Known] = &[
     pair(IDLE, "C2,2,1,2,3,0|int,0,0|tid,2,0|1|2|0|0,0,|1,0,|0,2,|", "ACCEPT"),
     pair(IDLE, "C2,2,1,2,3,0|int,0,0|tid,2,0|1|2|0|0,0,|1,0,|0,0,|", "REFUSE,32,4,2,0"),
     pair(IDLE, "C2,1,1,2,1,0|int,0,0|tid,0,0|1|0,0,|1,0,|0,0,|", "REFUSE,32,4,2,0"),
+    // Locks that take more than they give, request (ix). In a C3 sheet the third field of a lock line is a map.
+    split("C3,1,1,1,1,0|int,0,0|0|0,0,|", "ACCEPT"),
+    split("C3,1,1,1,1|int,0,0|0|0,0,|", "REFUSE,21,1,0,0"),
+    split("C3,1,1,1,1,1|int,0,0|0|0,0,|", "REFUSE,22,1,0,0"),
+    split("C4,1,1,1,1,0|int,0,0|0|0,0,|", "REFUSE,21,1,0,0"),
+    split("C32,1,1,1,1,0|int,0,0|0|0,0,|", "REFUSE,21,1,0,0"),
+    split("C3,1,1,1,2,0|lock,0,2|", "REFUSE,22,2,0,0"),
+    split("C3,1,1,1,2,0|tid,0,1|", "REFUSE,22,2,0,0"),
+    split("C2,1,1,1,2,0|lock,0,1|", "REFUSE,22,2,0,0"),
+    split("C,1,1,1,2|lock,0,1|", "REFUSE,22,2,0,0"),
+    pair("P,1|newlock,0|", "C3,1,1,1,2,0|lock,1,0|1|0|0,1,|", "ACCEPT"),
+    pair("P,1|newlock,0|", "C2,1,1,1,2,0|lock,1,0|1|0|0,1,|", "REFUSE,32,2,2,0"),
+    pair(IDLE, "C3,1,1,2,2,0|int,0,0|tid,1,0|1|0|0,0,|1,0,|0,1,|", "ACCEPT"),
+    // 44 looks at every lock line, after 23 and before 30.
+    split("C3,1,1,2,2,0|int,0,0|lock,0,1|1|0|0,0,|", "REFUSE,44,3,0,0"),
+    split("C3,1,1,2,2,0|int,0,0|lock,0,1|2|0|0,0,|", "REFUSE,44,3,0,0"),
+    split("C3,1,1,3,2,0|int,0,0|lock,0,1|lock,0,1|1|0|1,1,|", "REFUSE,44,3,0,0"),
+    split("C3,1,2,2,2,0|int,0,0|lock,0,1|1,1|2,0|0,0,|", "REFUSE,44,3,0,0"),
+    split("C3,1,1,2,2,0|int,0,0|lock,0,1|1|0|0,0,||", "REFUSE,23,7,0,0"),
+    split("C3,1,1,2,2,0|int,0,0|lock,0,1|1|0|", "REFUSE,23,5,0,0"),
+    split("C3,1,1,2,2,0|int,0,0|lock,1,0|1|0|0,0,|", "ACCEPT"),
+    // Newlock and unlock use out, lock and freelock use in.
+    pair("P,2|lock,0|newlock,0|", loads!("0,1,|1,1,|"), "ACCEPT"),
+    pair("P,2|lock,0|newlock,0|", loads!("0,0,|1,1,|"), "REFUSE,32,2,3,0"),
+    pair("P,2|freelock,0|newlock,0|", loads!("0,1,|1,1,|"), "ACCEPT"),
+    pair("P,2|freelock,0|newlock,0|", loads!("0,0,|1,1,|"), "REFUSE,32,2,3,0"),
+    pair("P,2|unlock,0|newlock,0|", loads!("0,2,|1,1,|"), "ACCEPT"),
+    pair("P,2|unlock,0|newlock,0|", loads!("0,1,|1,1,|"), "REFUSE,32,2,3,0"),
+    pair("P,1|newlock,0|", loads!("1,0,|"), "REFUSE,32,2,2,0"),
+    // A var line may show a looser lock than its own let's e1, and nothing else may.
+    pair(SAME_LOCK, loads!("3,1,|2,1,|3,1,|"), "ACCEPT"),
+    pair(SAME_LOCK, loads!("1,1,|2,1,|1,1,|"), "ACCEPT"),
+    pair(SAME_LOCK, loads!("4,1,|2,1,|4,1,|"), "REFUSE,31,4,1,0"),
+    pair(SAME_LOCK, loads!("5,1,|2,1,|5,1,|"), "REFUSE,31,4,1,0"),
+    pair(SAME_LOCK, loads!("3,1,|2,1,|2,1,|"), "REFUSE,31,2,1,0"),
+    pair(SAME_LOCK, loads!("2,1,|2,1,|3,1,|"), "REFUSE,31,2,1,0"),
+    pair(LOCK_TWICE, loads!("3,1,|2,1,|3,1,|1,1,|3,1,|"), "ACCEPT"),
+    pair(LOCK_TWICE, loads!("2,1,|2,1,|2,1,|1,1,|2,1,|"), "REFUSE,31,6,1,0"),
+    pair(LOCK_IN_CELL, loads!("6,1,|6,1,|2,1,|6,1,|"), "ACCEPT"),
+    pair(LOCK_IN_CELL, loads!("7,1,|6,1,|2,1,|7,1,|"), "REFUSE,31,5,1,0"),
+    GIVEN_BACK_AS_NOTHING,
 ];

@@ -99,8 +99,8 @@ impl<F: Flows> Judge<'_, F> {
             Word::Read => self.read(),
             Word::Write => self.write(),
             Word::Newlock => self.newlock(),
-            Word::Lock | Word::Freelock => self.take(Type::lock),
-            Word::Unlock => self.give(Type::lock),
+            Word::Lock | Word::Freelock => self.take(Type::lock_in),
+            Word::Unlock => self.give(Type::lock_out),
             Word::Newsem => self.new_free(Type::sem),
             Word::Post => self.give(Type::sem),
             Word::Wait => self.take(Type::sem),
@@ -109,7 +109,8 @@ impl<F: Flows> Judge<'_, F> {
 
     fn var(&mut self) -> Judged {
         let bound = self.steps[self.step].binder + 1;
-        self.agree(1, self.own(), self.kind(bound))?;
+        let (own, known) = (self.own(), self.kind(bound));
+        holds(1, self.split.agree(own, known) || self.split.looser(own, known))?;
         self.flows.equal(2, self.post(self.step), self.pre)
     }
 
@@ -172,7 +173,7 @@ impl<F: Flows> Judge<'_, F> {
     }
 
     fn newlock(&mut self) -> Judged {
-        let carried = self.carried(1, self.step, Type::lock)?;
+        let carried = self.carried(1, self.step, Type::lock_out)?;
         self.flows.sum(2, self.post(self.step), carried, self.pre)
     }
 

@@ -27,6 +27,7 @@ fn first_refusal(program: &[u8], split: &[u8], room: usize) -> Result<(), Return
     let steps = program::read(program)?;
     at_most(20, split.len(), SPLIT_BYTES)?;
     let split = split::read(split, &steps, Posts::Named)?;
+    split.check_loads()?;
     conditions::check(&steps, &split)
 }
 

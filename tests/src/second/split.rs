@@ -1,4 +1,4 @@
-//! The split sheet: types, maps and the three numbers of each step (refusals 21 to 23, and 40).
+//! The split sheet: types, maps and the three numbers of each step (refusals 21 to 23, 40 and 44).
 
 use super::program::Step;
 use super::text::Text;
@@ -9,16 +9,30 @@ use crate::words::Word;
 #[derive(Clone, Copy)]
 pub enum Type {
     Int,
-    Ref { location: usize, content: usize },
-    Lock(usize),
+    Ref {
+        location: usize,
+        content: usize,
+    },
+    /// The map that a lock gives to who takes it ("in"), and the one that it takes back ("out").
+    Lock {
+        taken: usize,
+        given: usize,
+    },
     Tid(usize),
     Sem(usize),
 }
 
 impl Type {
-    pub fn lock(self) -> Option<usize> {
+    pub fn lock_in(self) -> Option<usize> {
         match self {
-            Type::Lock(map) => Some(map),
+            Type::Lock { taken, .. } => Some(taken),
+            _ => None,
+        }
+    }
+
+    pub fn lock_out(self) -> Option<usize> {
+        match self {
+            Type::Lock { given, .. } => Some(given),
             _ => None,
         }
     }
@@ -82,11 +96,34 @@ impl Split {
             (Type::Ref { location: p, content: left }, Type::Ref { location: q, content: right }) => {
                 p == q && self.agree(left, right)
             }
-            (Type::Lock(left), Type::Lock(right)) => self.map(left) == self.map(right),
+            (Type::Lock { .. }, Type::Lock { .. }) => self.looser(left, right) && self.looser(right, left),
             (Type::Tid(left), Type::Tid(right)) => self.map(left) == self.map(right),
             (Type::Sem(left), Type::Sem(right)) => self.map(left) == self.map(right),
             _ => false,
         }
+    }
+
+    /// Whether a lock type's in is nowhere above, and its out nowhere below, those of another lock type.
+    pub fn looser(&self, shown: usize, known: usize) -> bool {
+        let at_least =
+            |greater, less| self.map(greater).iter().zip(self.map(less)).all(|(greater, less)| greater >= less);
+        match (self.types[shown], self.types[known]) {
+            (Type::Lock { taken, given }, Type::Lock { taken: known_in, given: known_out }) => {
+                at_least(known_in, taken) && at_least(given, known_out)
+            }
+            _ => false,
+        }
+    }
+
+    /// Refuses the first lock line whose out is below its in somewhere.
+    pub fn check_loads(&self) -> Result<(), Returned> {
+        for (own, kind) in self.types.iter().enumerate() {
+            let Type::Lock { taken, given } = *kind else { continue };
+            if self.map(given).iter().zip(self.map(taken)).any(|(given, taken)| given < taken) {
+                return Err(Returned::at_line(44, own as u32 + 2));
+            }
+        }
+        Ok(())
     }
 }
 
@@ -95,8 +132,10 @@ struct Head {
     locations: u32,
     types: u32,
     maps: u32,
-    /// What the program starts with, on a `C2` sheet.
+    /// What the program starts with, on a sheet that names it.
     start: Option<u32>,
+    /// Whether lock lines have two maps.
+    two_loads: bool,
 }
 
 /// Reads the whole sheet beside the steps of its program.
@@ -111,11 +150,13 @@ pub fn read(split: &[u8], steps: &[Step], posts: Posts) -> Result<Split, Returne
     Ok(Split { whole: head.whole, start, locations, types, marks, maps, numbers })
 }
 
-/// Reads `C,D,L,T,M`, which starts with map 0 and which no filling takes, or `C2,D,L,T,M,r`.
+/// Reads `C,D,L,T,M`, which starts with map 0 and which no filling takes, `C2,D,L,T,M,r`, or `C3` with the
+/// fields of `C2`.
 fn read_head(text: &mut Text, posts: Posts) -> Result<Head, Returned> {
     let head = text.line(|line| {
         line.byte(b'C')?;
-        let names_start = line.byte(b'2').is_some();
+        let two_loads = line.byte(b'3').is_some();
+        let names_start = two_loads || line.byte(b'2').is_some();
         if posts == Posts::Left && !names_start {
             return None;
         }
@@ -125,6 +166,7 @@ fn read_head(text: &mut Text, posts: Posts) -> Result<Head, Returned> {
             types: line.next_numeral()?,
             maps: line.next_numeral()?,
             start: if names_start { Some(line.next_numeral()?) } else { None },
+            two_loads,
         })
     })?;
     text.in_range((1..=WHOLE).contains(&head.whole))?;
@@ -154,6 +196,7 @@ fn read_type(text: &mut Text, head: &Head, own: u32) -> Result<Type, Returned> {
     let (firsts, seconds) = match word {
         b"int" => (1, 1),
         b"ref" => (head.locations, own),
+        b"lock" if head.two_loads => (head.maps, head.maps),
         _ => (head.maps, 1),
     };
     text.in_range(first < firsts && second < seconds)?;
@@ -161,7 +204,7 @@ fn read_type(text: &mut Text, head: &Head, own: u32) -> Result<Type, Returned> {
     Ok(match word {
         b"int" => Type::Int,
         b"ref" => Type::Ref { location: first, content: second },
-        b"lock" => Type::Lock(first),
+        b"lock" => Type::Lock { taken: first, given: if head.two_loads { second } else { first } },
         b"tid" => Type::Tid(first),
         _ => Type::Sem(first),
     })

@@ -66,7 +66,7 @@ class Telling:
 
     def _is_open(self, site):
         """Whether a step of WAITS can go ahead now."""
-        if not self._has_load(site):
+        if not self._has_maps(site):
             return True
         return bool(self._finished(site)) if site.word == "join" else self.counts.get(self._keeper(site), 1) > 0
 
@@ -107,18 +107,18 @@ class Telling:
         yield from self._tell(body)
         self.held.pop(own, None)
         identifier = self._made_at(site.parts["e1"])
-        if self._has_load(site):
-            self._set(Holder("identifier", identifier, site.body), self.split.load(acted_on(site).type))
+        if self._has_maps(site):
+            self._set(Holder("identifier", identifier, site.body), self._load(site))
 
     def _act(self, site):
         """The step's own effect: on the thread as its row says, on others by its word."""
         self._set(Holder("thread", site.thread), site.post)
         effect = {
-            "newlock": self._opens, "unlock": self._opens, "lock": self._takes, "freelock": self._takes, "join": self._joined,
-            "newsem": self._counts_none, "post": self._counts_up, "wait": self._takes,
+            "newlock": self._opens, "unlock": self._opens, "lock": self._closes, "freelock": self._closes, "join": self._joined,
+            "newsem": self._counts_none, "post": self._counts_up, "wait": self._counts_down,
         }.get(site.word)
-        if effect and self._has_load(site):
-            effect(site, self.split.load(acted_on(site).type))
+        if effect and self._has_maps(site):
+            effect(site)
         self._remember(site)
 
     def _remember(self, site):
@@ -127,26 +127,33 @@ class Telling:
 
     # ---- Effects on locks, semaphores and identifiers
 
-    def _opens(self, site, load):
-        self._keeps(self._keeper(site), 1, load)
+    def _opens(self, site):
+        """An open lock keeps the out that it was made with, whatever type a step shows."""
+        lock = self._keeper(site)
+        made = self.all[lock.number - 2].type
+        own = made if self.split.types[made].kind == "lock" else acted_on(site).type
+        self.counts[lock] = 1
+        self._set(lock, self.split.map_in(own, self._map_names(own)[-1]))
 
-    def _counts_none(self, site, _load):
+    def _closes(self, site):
+        lock = self._keeper(site)
+        self.counts[lock] = 0
+        self._set(lock, (0,) * self.split.locations)
+
+    def _counts_none(self, site):
         self.counts[self._keeper(site)] = 0
 
-    def _counts_up(self, site, load):
+    def _counts_up(self, site):
         semaphore = self._keeper(site)
-        self._keeps(semaphore, self.counts.get(semaphore, 0) + 1, load)
+        self.counts[semaphore] = self.counts.get(semaphore, 0) + 1
+        self._set(semaphore, tuple(a + b for a, b in zip(self._of(semaphore), self._load(site))))
 
-    def _keeps(self, keeper, count, load):
-        self.counts[keeper] = count
-        self._set(keeper, tuple(a + b for a, b in zip(self._of(keeper), load)))
+    def _counts_down(self, site):
+        semaphore = self._keeper(site)
+        self.counts[semaphore] = max(0, self.counts.get(semaphore, 1) - 1)
+        self._set(semaphore, tuple(max(0, a - b) for a, b in zip(self._of(semaphore), self._load(site))))
 
-    def _takes(self, site, load):
-        keeper = self._keeper(site)
-        self.counts[keeper] = max(0, self.counts.get(keeper, 1) - 1)
-        self._set(keeper, tuple(max(0, a - b) for a, b in zip(self._of(keeper), load)))
-
-    def _joined(self, site, _load):
+    def _joined(self, site):
         for holder in self._finished(site)[:1]:
             self.held.pop(holder)
 
@@ -168,8 +175,16 @@ class Telling:
         named = acted_on(site)
         return Holder("sem" if self.split.types[named.type].kind == "sem" else "lock", self._made_at(named))
 
-    def _has_load(self, site):
-        return KINDS[self.split.types[acted_on(site).type].kind].fields[0] == "load"
+    def _has_maps(self, site):
+        """Whether the type that a step acts on has a map, which it may lack if the step is refused."""
+        return bool(self._map_names(acted_on(site).type))
+
+    def _map_names(self, number):
+        return KINDS[self.split.types[number].kind].maps()
+
+    def _load(self, site):
+        number = acted_on(site).type
+        return self.split.map_in(number, self._map_names(number)[0])
 
     def _made_at(self, site):
         """The line where the lock, semaphore or identifier that a part stands for was made, as far as the sheets show it."""
@@ -181,11 +196,13 @@ class Telling:
 
 
 def _origin(site):
-    """The step whose value a part has, followed through variables and through cells to what they were made with."""
+    """The step whose value a part has, followed through variables, first parts of choices and cells to what they were made with."""
     if site.word == "var":
         return _origin(site.binder.parts["e1"])
     if site.word == "let":
         return _origin(site.parts["e2"])
+    if site.word == "if":
+        return _origin(site.parts["e1"])
     if site.word == "read":
         cell = _origin(site.parts["part"])
         return _origin(cell.parts["part"]) if cell.word == "ref" else site

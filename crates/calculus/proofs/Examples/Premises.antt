@@ -3,7 +3,7 @@ use mathlib.Core.Path.{refl}
 use native.Mathlib.Decide.{ℕ-discrete}
 use native.Mathlib.Omega.{arith}
 use Rattle.calculus.specs.Capability.{nothing, _≈_⊕_}
-use Rattle.calculus.specs.Figure5.{int-type, ref-type, tid-type, empty, _∣_∣_⊢_∶_∣_, VAR, INT, LET, NEWT, SPAWN, REF, WRITE, READ}
+use Rattle.calculus.specs.Figure5.{int-type, ref-type, tid-type, as-it-is, empty, _∣_∣_⊢_∶_∣_, VAR, INT, LET, NEWT, SPAWN, REF, WRITE, READ}
 use Rattle.calculus.specs.Examples.{holding, figure-2a, one-identifier}
 use Rattle.calculus.proofs.Laws.Order.{≥-refl}
 use Rattle.calculus.proofs.Examples.Derivations.{holding-sum}
@@ -14,9 +14,9 @@ unfolding ℕ-discrete
 figure-2a-derived-from-two =
     LET {τ₁ = ref-type 0 int-type} (REF INT)
     (LET {τ₁ = int-type}
-    (SPAWN {Ψ₁ = nothing} {Ψ₃ = holding 1 0} NEWT (READ {Ψ₁ = holding 1 0} {ρ = 0} (VAR refl) (omega arith))
+    (SPAWN {Ψ₁ = nothing} {Ψ₃ = holding 1 0} NEWT (READ {Ψ₁ = holding 1 0} {ρ = 0} (VAR refl as-it-is) (omega arith))
     (record { at = λ ρ. omega arith }) (holding-sum 1 0 1 0))
-    (WRITE {Ψ₂ = holding 1 0} {τ = int-type} {ρ = 0} (VAR refl) INT (omega arith)))
+    (WRITE {Ψ₂ = holding 1 0} {τ = int-type} {ρ = 0} (VAR refl as-it-is) INT (omega arith)))
 
 -- A whole of 0: nothing is enough to write.
 pub one-identifier-derived-from-nothing : 0 ∣ empty ∣ nothing ⊢ one-identifier ∶ int-type ∣ nothing
@@ -26,5 +26,5 @@ one-identifier-derived-from-nothing =
     LET {τ₁ = ref-type 0 int-type} (REF INT)
     (LET {τ₁ = tid-type nothing} NEWT
     (LET {τ₁ = int-type}
-    (SPAWN (VAR refl) (WRITE {Ψ₂ = nothing} {τ = int-type} {ρ = 0} (VAR refl) INT (omega arith)) ≥-refl none-left)
-    (SPAWN (VAR refl) (WRITE {Ψ₂ = nothing} {τ = int-type} {ρ = 0} (VAR refl) INT (omega arith)) ≥-refl none-left)))
+    (SPAWN (VAR refl as-it-is) (WRITE {Ψ₂ = nothing} {τ = int-type} {ρ = 0} (VAR refl as-it-is) INT (omega arith)) ≥-refl none-left)
+    (SPAWN (VAR refl as-it-is) (WRITE {Ψ₂ = nothing} {τ = int-type} {ρ = 0} (VAR refl as-it-is) INT (omega arith)) ≥-refl none-left)))

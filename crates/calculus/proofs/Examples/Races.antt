@@ -11,7 +11,7 @@ use Rattle.calculus.specs.Reduction.{reduce, attempt, run, start}
 use Rattle.calculus.specs.Claim.{about-to-read, about-to-write, Race, race, Safe}
 use Rattle.calculus.specs.Capability.{Cap}
 use Rattle.calculus.specs.Figure5.{Ty, empty, _∣_∣_⊢_∶_∣_}
-use Rattle.calculus.specs.Examples.{figure-2a, moves-2a, two-locks, moves-two-locks, one-identifier, moves-one-identifier, figure-7, moves-figure-7}
+use Rattle.calculus.specs.Examples.{figure-2a, moves-2a, two-locks, moves-two-locks, one-identifier, moves-one-identifier, figure-7, moves-figure-7, unlock-for-nothing, moves-unlock-for-nothing}
 use Rattle.calculus.proofs.Safety.{derived-is-safe}
 use Rattle.calculus.proofs.Examples.Claims.{race-is-not-safe}
 
@@ -50,6 +50,17 @@ figure-7-races = race 1 2 1 _ _ (omega arith) refl refl (about-to-write (int 0) 
 -- The second post would pay with what the first has paid.
 pub figure-7-has-no-derivation : HasNoDerivation figure-7
 figure-7-has-no-derivation = race-has-no-derivation figure-7 moves-figure-7 figure-7-races
+
+-- ---- Section 3.1.6: a lock that is unlocked for nothing
+
+pub unlock-for-nothing-races : Race (run moves-unlock-for-nothing (start unlock-for-nothing))
+unfolding start run attempt reduce ℕ-discrete
+unlock-for-nothing-races =
+    race 0 1 1 _ _ (omega arith) refl refl (about-to-write (int 0) (int 2) refl refl) (inr (about-to-write (int 0) (int 1) refl refl))
+
+-- With the printed out inequality Figure 5 would derive it (PrintedLocks.antt).
+pub unlock-for-nothing-has-no-derivation : HasNoDerivation unlock-for-nothing
+unlock-for-nothing-has-no-derivation = race-has-no-derivation unlock-for-nothing moves-unlock-for-nothing unlock-for-nothing-races
 
 -- ---- Two threads with one identifier are two threads
 

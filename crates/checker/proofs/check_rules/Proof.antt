@@ -26,7 +26,7 @@ same-length c = search needs
 -- src/lib.rt:21:1
 returns : tie.Need-returns
 unfolding ruledFor
-returns c P S holds = met-accepts _ (c .enum-told .given .1) (c .before .before .before .before .rule .ensures .answers P S holds)
+returns c P S holds counted = met-accepts _ (c .enum-told .given .1) (c .before .before .before .before .rule .ensures .answers P S holds counted)
 
 -- src/lib.rt:21:1
 same-length-2 : tie.Need-same-length-2
@@ -35,7 +35,7 @@ same-length-2 c = search needs
 -- src/lib.rt:21:1
 returns-2 : tie.Need-returns-2
 unfolding ruledFor
-returns-2 c P S holds = refused-refuses _ _ (c .before .r .given .1) (c .before .before .before .before .before .rule .ensures .answers P S holds)
+returns-2 c P S holds counted = refused-refuses _ _ (c .before .r .given .1) (c .before .before .before .before .before .rule .ensures .answers P S holds counted)
 
 pub check-rules-spec : {M : Type 1} → statement M
 check-rules-spec =

@@ -2,7 +2,7 @@ use mathlib.Core.Path.{sym, _∙_}
 use Rattle.spec.specs.Split.{split}
 use Rattle.spec.specs.declared.Purpose.the-variants.{Check}
 use Rattle.checker.proofs.Stages.{long-split-refused, bad-split-refused, good-split-ruled}
-use Rattle.split.proofs.Found.{split-refused-by, split-read-by, denominator-told, locations-told, start-told}
+use Rattle.split.proofs.Found.{split-refused-by, split-read-by}
 use borrow.Author.Needs.{needs}
 use Rattle.checker.proofs.check_split.Statement.{statement}
 use Rattle.checker.proofs.check_split.Tie as tie
@@ -33,7 +33,7 @@ check-rules-requires c κs =
     let (P, holds, counted) = c .before .before .before .before .before .before .before .before .before .before .before .pre .2 in
     let text = c .before .before .before .before .before .before .before .before .before .before .before .args .split .now in
     let found = split-read-by (c .before .before .before .before .before .before .read .last .1 .1 .1 .0) _ (split Check (P .steps) text) (c .before .before .before .before .before .before .read .ensures .answered (P .steps) (holds .steps) (sym counted)) (c .before .before .header .given .1) in
-    (c .before .before .before .before .before .before .read .kept .1 .1 .1 .0 ∙ c .before .before .before .before .before .before .before .before .before .before .before .pre .0, c .before .before .before .before .before .before .before .before .before .before .before .pre .1, found .4 .locations)
+    (c .before .before .before .before .before .before .read .kept .1 .1 .1 .0 ∙ c .before .before .before .before .before .before .before .before .before .before .before .pre .0, c .before .before .before .before .before .before .before .before .before .before .before .pre .1, found .4 .locations, found .4 .types)
 
 -- src/lib.rt:39:1
 same-length : tie.Need-same-length
@@ -54,8 +54,8 @@ returns-3 : tie.Need-returns-3
 returns-3 c p P F holds counted =
     let text = c .before .before .before .before .before .before .before .before .before .before .before .before .before .before .args .split .now in
     let (S, reads-on, header, holds′, small) = split-read-by (c .before .before .before .before .before .before .before .before .before .read .last .1 .1 .1 .0) _ (split Check (P .steps) text) (c .before .before .before .before .before .before .before .before .before .read .ensures .answered (P .steps) (holds .steps) (sym counted)) (c .before .before .before .before .before .header .given .1) in
-    good-split-ruled p text P F (c .before .before .before .before .before .before .before .before .before .before .before .if1 .left) S reads-on (c .before .before .before .before .before .before .before .before .before .read .ensures .changed) holds holds′ counted (c .before .before .before .before .before .before .before .before .before .before .before .before .before .before .pre .1)
-    (denominator-told S _ header) (locations-told S _ header) (start-told S _ header) (c .before .before .check-rules .ensures)
+    good-split-ruled p text P F (c .before .before .before .before .before .before .before .before .before .before .before .if1 .left) _ S reads-on (c .before .before .before .before .before .before .before .before .before .read .ensures .changed) holds holds′ counted (c .before .before .before .before .before .before .before .before .before .before .before .before .before .before .pre .1)
+    header (c .before .before .check-rules .ensures)
 
 pub check-split-spec : {M : Type 1} → statement M
 check-split-spec =

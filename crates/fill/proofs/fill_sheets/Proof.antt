@@ -23,7 +23,7 @@ fill-held-requires c κs =
       c .before .before .before .before .before .before .rule .kept .0 ∙ start .pre .0,
       start .pre .1,
       few,
-      some-kept _ _ _ few (c .before .before .before .before .before .before .rule .ensures) (start .pre .1) (start .pre .3),
+      some-kept _ _ _ few (c .before .before .before .before .before .before .rule .ensures) (start .pre .1) (start .pre .4),
     )
 
 same-length : tie.Need-same-length

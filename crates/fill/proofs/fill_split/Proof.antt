@@ -29,6 +29,7 @@ fill-sheets-requires c κs =
       read .kept .1 .1 .1 .0 ∙ start .pre .0,
       start .pre .1,
       small .locations,
+      small .types,
       some-read (X .programText) (start .args .split .now) (X .P) (X .wellFormed) (start .args .out .now) fits _ S reads (read .ensures .changed) (X .holds) holds (X .counted) (start .pre .1) headed,
     )
 

@@ -119,6 +119,12 @@ enum-told-6 c = search needs
 four-requires-19 : tie.Need-four-requires-19
 four-requires-19 c κs = search needs
 
+enum-known-r-14 : tie.Need-enum-known-r-14
+enum-known-r-14 c = search needs
+
+four-requires-20 : tie.Need-four-requires-20
+four-requires-20 c κs = search needs
+
 returns : tie.Need-returns
 unfolding returned
 returns c = c .four .ensures ∙ ap (λ r. returned (Refuse r)) (sym (c .before .enum-told .given .1))
@@ -195,6 +201,10 @@ returns-19 : tie.Need-returns-19
 unfolding returned
 returns-19 c = c .four19 .ensures ∙ ap (λ r. returned (Refuse r)) (sym (c .before .enum-told6 .given .1))
 
+returns-20 : tie.Need-returns-20
+unfolding returned
+returns-20 c = c .four20 .ensures ∙ ap (λ r. returned (Refuse r)) (sym (c .before .before .r14 .given .1))
+
 pub refusal-numbers-spec : {M : Type 1} → statement M
 refusal-numbers-spec =
     tie.close
@@ -237,6 +247,8 @@ refusal-numbers-spec =
     four-requires-18
     enum-told-6
     four-requires-19
+    enum-known-r-14
+    four-requires-20
     returns
     returns-2
     returns-3
@@ -255,4 +267,5 @@ refusal-numbers-spec =
     returns-16
     returns-17
     returns-18
-    returns-19)
+    returns-19
+    returns-20)

@@ -3,7 +3,7 @@ use lib.Dec.{lit<}
 use borrow.Author.Needs.{needs}
 use Rattle.spec.specs.Text.{bytes}
 use Rattle.writer.proofs.Buffer.{parted, onward, finish}
-use Rattle.sheets.proofs.Parts.{plain-header-parts, started-header-parts}
+use Rattle.sheets.proofs.Parts.{plain-header-parts, started-header-parts, in-out-header-parts}
 use Rattle.sheets.proofs.write_header.Statement.{statement}
 use Rattle.sheets.proofs.write_header.Tie as tie
 
@@ -46,6 +46,21 @@ slice-aggregate-write-numbers-2 c = search needs
 write-numbers-requires-2 : tie.Need-write-numbers-requires-2
 write-numbers-requires-2 c κs = search needs
 
+enum-told-3 : tie.Need-enum-told-3
+enum-told-3 c = search needs
+
+slice-aggregate-write-bytes-3 : tie.Need-slice-aggregate-write-bytes-3
+slice-aggregate-write-bytes-3 c = search needs
+
+write-bytes-requires-3 : tie.Need-write-bytes-requires-3
+write-bytes-requires-3 c κs = search needs
+
+slice-aggregate-write-numbers-3 : tie.Need-slice-aggregate-write-numbers-3
+slice-aggregate-write-numbers-3 c = search needs
+
+write-numbers-requires-3 : tie.Need-write-numbers-requires-3
+write-numbers-requires-3 c κs = search needs
+
 same-length : tie.Need-same-length
 same-length c = search needs
 
@@ -70,6 +85,18 @@ returns-2 c =
     let start = told .before .before .before .before .before .before in
     finish (onward _ _ (parted _ _ (started-header-parts _ (told .enum-told2 .given .1)) (start .good .0 .0) (lit< tt)) (c₁ .write-bytes2 .ensures)) (c₂ .write-numbers2 .ensures)
 
+same-length-3 : tie.Need-same-length-3
+same-length-3 c = search needs
+
+returns-3 : tie.Need-returns-3
+unfolding bytes
+returns-3 c =
+    let c₂ = c .before .before in
+    let c₁ = c₂ .before .before .before .before .before in
+    let told = c₁ .before .before .before in
+    let start = told .before .before .before .before .before .before in
+    finish (onward _ _ (parted _ _ (in-out-header-parts _ (told .enum-told3 .given .1)) (start .good .0 .0) (lit< tt)) (c₁ .write-bytes3 .ensures)) (c₂ .write-numbers3 .ensures)
+
 pub write-header-spec : {M : Type 1} → statement M
 write-header-spec =
     tie.close
@@ -87,7 +114,14 @@ write-header-spec =
     write-bytes-requires-2
     slice-aggregate-write-numbers-2
     write-numbers-requires-2
+    enum-told-3
+    slice-aggregate-write-bytes-3
+    write-bytes-requires-3
+    slice-aggregate-write-numbers-3
+    write-numbers-requires-3
     same-length
     returns
     same-length-2
-    returns-2)
+    returns-2
+    same-length-3
+    returns-3)

@@ -2,7 +2,7 @@
 use mathlib.Core.Path.{sym, ap, _∙_}
 use lib.Dec.{lit<}
 use borrow.Author.Needs.{needs}
-use Rattle.split.specs.Lines.{headerTold}
+use Rattle.workspace.specs.Sheets.{headerTold}
 use Rattle.writer.specs.Sheet.{written}
 use Rattle.writer.proofs.Buffer.{parted, onward, finish}
 use Rattle.sheets.specs.Contract.{SheetWritten}

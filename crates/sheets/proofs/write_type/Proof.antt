@@ -1,61 +1,58 @@
 -- The word of each kind, then its numbers.
-use borrow.Author.Needs.{needs}
 use Rattle.spec.specs.Text.{bytes}
-use Rattle.writer.proofs.Buffer.{parted, onward, finish}
+use Rattle.writer.proofs.Buffer.{parted, finish}
 use Rattle.sheets.proofs.Parts.{int-parts, ref-parts, lock-parts, tid-parts, sem-parts}
+use borrow.Author.Needs.{needs}
 use Rattle.sheets.proofs.write_type.Statement.{statement}
 use Rattle.sheets.proofs.write_type.Tie as tie
 
 enum-told : tie.Need-enum-told
 enum-told c = search needs
 
-slice-aggregate-write-bytes : tie.Need-slice-aggregate-write-bytes
-slice-aggregate-write-bytes c = search needs
+slice-aggregate-write-word : tie.Need-slice-aggregate-write-word
+slice-aggregate-write-word c = search needs
 
-write-bytes-requires : tie.Need-write-bytes-requires
-write-bytes-requires c κs = search needs
+write-word-requires : tie.Need-write-word-requires
+write-word-requires c κs = search needs
 
 enum-known-of : tie.Need-enum-known-of
 enum-known-of c = search needs
 
-slice-aggregate-write-bytes-2 : tie.Need-slice-aggregate-write-bytes-2
-slice-aggregate-write-bytes-2 c = search needs
+slice-aggregate-write-word-2 : tie.Need-slice-aggregate-write-word-2
+slice-aggregate-write-word-2 c = search needs
 
-write-bytes-requires-2 : tie.Need-write-bytes-requires-2
-write-bytes-requires-2 c κs = search needs
-
-slice-aggregate-write-numbers : tie.Need-slice-aggregate-write-numbers
-slice-aggregate-write-numbers c = search needs
-
-write-numbers-requires : tie.Need-write-numbers-requires
-write-numbers-requires c κs = search needs
+write-word-requires-2 : tie.Need-write-word-requires-2
+write-word-requires-2 c κs = search needs
 
 enum-known-of-2 : tie.Need-enum-known-of-2
 enum-known-of-2 c = search needs
 
-slice-aggregate-write-load : tie.Need-slice-aggregate-write-load
-slice-aggregate-write-load c = search needs
+out-number-requires : tie.Need-out-number-requires
+out-number-requires c κs = search needs
 
-write-load-requires : tie.Need-write-load-requires
-write-load-requires c κs = search needs
+slice-aggregate-write-word-3 : tie.Need-slice-aggregate-write-word-3
+slice-aggregate-write-word-3 c = search needs
+
+write-word-requires-3 : tie.Need-write-word-requires-3
+write-word-requires-3 c κs = search needs
 
 enum-known-of-3 : tie.Need-enum-known-of-3
 enum-known-of-3 c = search needs
 
-slice-aggregate-write-load-2 : tie.Need-slice-aggregate-write-load-2
-slice-aggregate-write-load-2 c = search needs
+slice-aggregate-write-word-4 : tie.Need-slice-aggregate-write-word-4
+slice-aggregate-write-word-4 c = search needs
 
-write-load-requires-2 : tie.Need-write-load-requires-2
-write-load-requires-2 c κs = search needs
+write-word-requires-4 : tie.Need-write-word-requires-4
+write-word-requires-4 c κs = search needs
 
 enum-known-of-4 : tie.Need-enum-known-of-4
 enum-known-of-4 c = search needs
 
-slice-aggregate-write-load-3 : tie.Need-slice-aggregate-write-load-3
-slice-aggregate-write-load-3 c = search needs
+slice-aggregate-write-word-5 : tie.Need-slice-aggregate-write-word-5
+slice-aggregate-write-word-5 c = search needs
 
-write-load-requires-3 : tie.Need-write-load-requires-3
-write-load-requires-3 c κs = search needs
+write-word-requires-5 : tie.Need-write-word-requires-5
+write-word-requires-5 c κs = search needs
 
 same-length : tie.Need-same-length
 same-length c = search needs
@@ -66,7 +63,7 @@ returns c =
     let c₁ = c .before .before in
     let told = c₁ .before .before .before in
     let start = told .before .before .before in
-    finish (parted _ _ (int-parts (told .enum-told .given .1)) (start .good .0 .0) (start .fits .at .fits)) (c₁ .write-bytes .ensures)
+    finish (parted _ _ (int-parts _ (told .enum-told .given .1)) (start .good .0 .0) (start .fits .at .fits)) (c₁ .write-word .ensures)
 
 same-length-2 : tie.Need-same-length-2
 same-length-2 c = search needs
@@ -74,11 +71,10 @@ same-length-2 c = search needs
 returns-2 : tie.Need-returns-2
 unfolding bytes
 returns-2 c =
-    let c₂ = c .before .before in
-    let c₁ = c₂ .before .before .before .before .before in
+    let c₁ = c .before .before in
     let told = c₁ .before .before .before .before in
     let start = told .before .before .before in
-    finish (onward _ _ (parted _ _ (ref-parts (told .of .given .1)) (start .good .0 .0) (start .fits .at .fits)) (c₁ .write-bytes2 .ensures)) (c₂ .write-numbers .ensures)
+    finish (parted _ _ (ref-parts _ (told .of .given .1)) (start .good .0 .0) (start .fits .at .fits)) (c₁ .write-word2 .ensures)
 
 same-length-3 : tie.Need-same-length-3
 same-length-3 c = search needs
@@ -87,9 +83,10 @@ returns-3 : tie.Need-returns-3
 unfolding bytes
 returns-3 c =
     let c₁ = c .before .before in
-    let told = c₁ .before .before .before .before in
+    let out = c₁ .before .before .before in
+    let told = out .before .before in
     let start = told .before .before .before in
-    finish (parted _ _ (lock-parts (told .of2 .given .1)) (start .good .0 .0) (start .fits .at .fits)) (c₁ .write-load .ensures)
+    finish (parted _ _ (lock-parts _ (told .of2 .given .1) (out .out-number .ensures)) (start .good .0 .0) (start .fits .at .fits)) (c₁ .write-word3 .ensures)
 
 same-length-4 : tie.Need-same-length-4
 same-length-4 c = search needs
@@ -100,7 +97,7 @@ returns-4 c =
     let c₁ = c .before .before in
     let told = c₁ .before .before .before .before in
     let start = told .before .before .before in
-    finish (parted _ _ (tid-parts (told .of3 .given .1)) (start .good .0 .0) (start .fits .at .fits)) (c₁ .write-load2 .ensures)
+    finish (parted _ _ (tid-parts _ (told .of3 .given .1)) (start .good .0 .0) (start .fits .at .fits)) (c₁ .write-word4 .ensures)
 
 same-length-5 : tie.Need-same-length-5
 same-length-5 c = search needs
@@ -111,29 +108,28 @@ returns-5 c =
     let c₁ = c .before .before in
     let told = c₁ .before .before .before .before in
     let start = told .before .before .before in
-    finish (parted _ _ (sem-parts (told .of4 .given .1)) (start .good .0 .0) (start .fits .at .fits)) (c₁ .write-load3 .ensures)
+    finish (parted _ _ (sem-parts _ (told .of4 .given .1)) (start .good .0 .0) (start .fits .at .fits)) (c₁ .write-word5 .ensures)
 
 pub write-type-spec : {M : Type 1} → statement M
 write-type-spec =
     tie.close
     (tie.spec
     enum-told
-    slice-aggregate-write-bytes
-    write-bytes-requires
+    slice-aggregate-write-word
+    write-word-requires
     enum-known-of
-    slice-aggregate-write-bytes-2
-    write-bytes-requires-2
-    slice-aggregate-write-numbers
-    write-numbers-requires
+    slice-aggregate-write-word-2
+    write-word-requires-2
     enum-known-of-2
-    slice-aggregate-write-load
-    write-load-requires
+    out-number-requires
+    slice-aggregate-write-word-3
+    write-word-requires-3
     enum-known-of-3
-    slice-aggregate-write-load-2
-    write-load-requires-2
+    slice-aggregate-write-word-4
+    write-word-requires-4
     enum-known-of-4
-    slice-aggregate-write-load-3
-    write-load-requires-3
+    slice-aggregate-write-word-5
+    write-word-requires-5
     same-length
     returns
     same-length-2

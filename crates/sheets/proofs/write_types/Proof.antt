@@ -14,11 +14,11 @@ use Rattle.sheets.proofs.write_types.Statement.{statement}
 use Rattle.sheets.proofs.write_types.Tie as tie
 
 abbrev Inv-loop : tie.InvT-loop
-Inv-loop buffer₀ at work types to₀ t₀ buffer to t =
-    Remains buffer₀ at (text (map typeFields (inOrder (typeIn work) 0 types))) buffer to (text (map typeFields (inOrder (typeIn work) t (types - t))))
+Inv-loop buffer₀ at work heading types to₀ t₀ buffer to t =
+    Remains buffer₀ at (text (map (typeFields heading) (inOrder (typeIn work) 0 types))) buffer to (text (map (typeFields heading) (inOrder (typeIn work) t (types - t))))
 
 abbrev μ-loop : tie.MeasureT-loop
-μ-loop buffer₀ at work types to₀ t₀ buffer to t = types - t
+μ-loop buffer₀ at work heading types to₀ t₀ buffer to t = types - t
 
 loop-holds : tie.Need-loop-holds Inv-loop μ-loop
 loop-holds c = rw sub-zero (parted _ _ refl (c .before .before .good .0 .0) (c .before .before .fits .at .fits))

@@ -2,12 +2,13 @@
 //! over at a join or by a semaphore.
 
 use super::{Builder, Slip};
-use crate::draw::draft::{Draft, Map, Type};
+use crate::draw::draft::{Draft, Heading, Map, Type};
 use crate::draw::random::Random;
 use crate::words::Word;
 
 /// Two locations: the lock carries the whole of the first, identifiers bring back half of the
-/// second, all of it, or nothing, and semaphores carry half of the second or all of it.
+/// second, all of it, or nothing, and semaphores carry half of the second or all of it. On a `C3` sheet
+/// the lock is also shown as one that gives less or takes back more.
 pub fn draft(random: &mut Random) -> Draft {
     draft_with(random, None)
 }
@@ -33,7 +34,7 @@ pub fn draft_with(random: &mut Random, slip: Option<Slip>) -> Draft {
             Type::Int,
             Type::Ref { location: 0, content: 0 },
             Type::Ref { location: 1, content: 0 },
-            Type::Lock(guarded),
+            Type::lock(guarded),
             Type::Tid(half),
             Type::Tid(all),
             Type::Tid(none),
@@ -41,9 +42,17 @@ pub fn draft_with(random: &mut Random, slip: Option<Slip>) -> Draft {
             Type::Sem(half),
             Type::Sem(all),
         ];
+        let as_printed = slip == Some(Slip::PrintedInequality);
+        if as_printed || builder.random.percent(30) {
+            let more = map(&mut builder, whole, whole / 2);
+            builder.draft.heading = Heading::C3 { start: 0 };
+            let locks =
+                if as_printed { &[(none, none)][..] } else { &[(guarded, more), (none, guarded), (none, none)] };
+            builder.draft.types.extend(locks.iter().map(|&(taken, given)| Type::Lock { taken, given }));
+        }
         let mut now = builder.draft.maps[0];
         let things = builder.random.pick::<&[usize]>(&[&[1, 2, 3], &[1, 2, 3, 7], &[1, 2, 3, 9], &[1, 2, 8, 9]]);
-        builder.over(things, &mut now, size);
+        builder.over(if as_printed { &[1, 3] } else { things }, &mut now, size);
         if let Some(draft) = builder.finished() {
             return draft;
         }
@@ -62,7 +71,7 @@ impl Builder<'_> {
         };
         let step = self.open_let();
         let word = match self.draft.types[first] {
-            Type::Lock(_) => Word::Newlock,
+            Type::Lock { .. } => Word::Newlock,
             Type::Sem(_) => Word::Newsem,
             _ => Word::Ref,
         };

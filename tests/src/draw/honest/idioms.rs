@@ -1,7 +1,8 @@
 //! Idioms of several words that random choice seldom hits: critical sections, forks with joins, and
 //! forks with signals.
 
-use super::Builder;
+use super::steps::moved;
+use super::{Builder, Slip};
 use crate::answer::WHOLE;
 use crate::draw::draft::{at_least, sum, Map, Type};
 use crate::words::Word;
@@ -47,26 +48,63 @@ impl Builder<'_> {
         self.close(step, kind, now)
     }
 
-    /// `let _ = lock l in let _ = e in unlock l`.
+    /// `let _ = lock l in let _ = e in unlock l`, or in the end `let _ = unlock l in e`. With two loads the
+    /// lock may be shown with another type when it is given back. The lock guards something.
     fn critical_section(&mut self, kind: usize, now: &mut Map, need: &Map, size: usize) -> bool {
-        let known = |builder: &Self, number, kind| matches!(kind, Type::Lock(_)) && builder.in_scope(number);
-        let Some(lock) = self.type_where(known) else { return false };
-        let Type::Lock(map) = self.draft.types[lock] else { return false };
+        let telling = |builder: &Self, number, kind| {
+            matches!(kind, Type::Lock { taken, .. } if builder.draft.maps[taken] != Map::default())
+                && builder.in_scope(number)
+        };
+        let Some(lock) = self.type_where(telling) else { return false };
+        let again = self.shown_anew(lock);
+        let loads = (moved(Word::Lock, self.draft.types[lock]), moved(Word::Unlock, self.draft.types[again]));
+        let (Some(map), Some(given)) = loads else { return false };
         let carried = self.draft.maps[map];
-        if sum(now, &carried).iter().any(|&number| number > WHOLE) {
+        let held = sum(now, &carried);
+        let kept = sum(need, &self.draft.maps[given]);
+        if held.iter().any(|&number| number > WHOLE) || !at_least(&held, &kept) {
             return false;
         }
         let (taken, done) = (self.open_let(), self.open_let_later());
         let int = self.int_type();
-        self.gain(Word::Lock, int, lock, map, now, need, 1);
+        let before: Map = std::array::from_fn(|place| need[place].max(kept[place].saturating_sub(carried[place])));
+        self.gain(Word::Lock, int, lock, map, now, &before, 1);
         let inner = self.open(Word::Let, done);
-        let kept = sum(need, &carried);
         if !self.random.percent(70) || !self.access(int, now, &kept) {
             self.work(now, &kept, size.saturating_sub(6));
         }
-        self.give_to(lock, Word::Unlock, kind, now, need, 1);
+        if self.random.percent(60) {
+            self.give_to(again, Word::Unlock, kind, now, need, 1);
+        } else {
+            self.unlock_and_work(again, kind, now, need);
+        }
         self.close(inner, kind, now);
         self.close(taken, kind, now)
+    }
+
+    /// The type that a lock has when it is given back: with two loads sometimes another one, and always
+    /// one that takes nothing back where the slip allows it.
+    fn shown_anew(&mut self, lock: usize) -> usize {
+        let slips = self.slip == Some(Slip::PrintedInequality);
+        if !slips && (!self.draft.has_two_loads() || self.random.percent(50)) {
+            return lock;
+        }
+        let meant = |builder: &Self, number, kind| {
+            matches!(kind, Type::Lock { given, .. } if !slips || builder.draft.maps[given] == Map::default())
+                && builder.in_scope(number)
+        };
+        self.type_where(meant).unwrap_or(lock)
+    }
+
+    /// `let _ = unlock l in e`, with an access if one can be had.
+    fn unlock_and_work(&mut self, lock: usize, kind: usize, now: &mut Map, need: &Map) {
+        let int = self.int_type();
+        let step = self.open_let();
+        self.give_to(lock, Word::Unlock, int, now, need, 1);
+        if !self.access(kind, now, need) {
+            self.leaf(Word::Int, 0, kind, now);
+        }
+        self.close(step, kind, now);
     }
 
     /// `let t = newtid in let _ = spawn(t){e} in let _ = e' in let _ = join t in e''`.

@@ -6,6 +6,7 @@
 
 pub mod concurrent;
 mod idioms;
+mod loads;
 mod steps;
 
 use super::directed::Target;
@@ -26,6 +27,8 @@ pub enum Slip {
     WritesByFirstMap,
     /// A post takes nothing from the thread.
     PostsForFree,
+    /// A variable may show a lock that takes back less, as section 3.1.6 prints it.
+    PrintedInequality,
 }
 
 pub struct Builder<'r> {
@@ -58,9 +61,12 @@ pub fn draft(random: &mut Random, size: usize, locations: usize, whole: u32) -> 
 }
 
 impl<'r> Builder<'r> {
-    /// A builder with drawn types and a drawn map 0.
+    /// A builder with drawn types and a drawn map 0, for a `C` sheet or now and then for a `C3` sheet.
     pub fn new(random: &'r mut Random, locations: usize, whole: u32) -> Builder<'r> {
         let mut builder = Builder::bare(random, locations, whole);
+        if builder.random.percent(25) {
+            builder.draft.heading = Heading::C3 { start: 0 };
+        }
         builder.draw_first_map();
         builder.draw_types();
         builder
@@ -106,7 +112,7 @@ impl<'r> Builder<'r> {
                 let content = if self.random.percent(60) { 0 } else { self.random.below(known) };
                 Type::Ref { location: self.random.below(self.draft.locations), content }
             }
-            4..=6 => Type::Lock(self.drawn_share()),
+            4..=6 => self.new_lock(),
             7..=8 => Type::Tid(self.drawn_share()),
             9..=10 => Type::Sem(self.drawn_share()),
             _ => Type::Int,
@@ -114,7 +120,7 @@ impl<'r> Builder<'r> {
     }
 
     /// A map for a lock, an identifier or a semaphore to carry: something of a few locations, or nothing.
-    fn drawn_share(&mut self) -> usize {
+    pub(super) fn drawn_share(&mut self) -> usize {
         let mut map = Map::default();
         for _ in 0..self.random.below(3) {
             let location = self.random.below(self.draft.locations);
@@ -167,15 +173,32 @@ impl<'r> Builder<'r> {
         numbers.find(|&number| meets(self, number, self.draft.types[number]))
     }
 
+    /// Whether some variable in scope may be shown with this type.
     pub(super) fn in_scope(&self, kind: usize) -> bool {
-        self.scope.iter().any(|&(_, known)| known == kind)
+        self.scope.iter().any(|&(_, known)| self.shows(kind, known))
+    }
+
+    pub(super) fn shows(&self, shown: usize, bound: usize) -> bool {
+        if shown == bound {
+            return true;
+        }
+        let loads = (self.draft.types[shown], self.draft.types[bound]);
+        match loads {
+            (Type::Lock { taken, given }, Type::Lock { taken: known_taken, given: known_given })
+                if self.slip == Some(Slip::PrintedInequality) =>
+            {
+                let maps = &self.draft.maps;
+                at_least(&maps[known_taken], &maps[taken]) && at_least(&maps[known_given], &maps[given])
+            }
+            _ => self.draft.shows(shown, bound),
+        }
     }
 
     /// What a plain expression of this type takes from the map: a new lock takes what it carries.
     pub(super) fn price(&self, kind: usize) -> Map {
         match self.draft.types[kind] {
             _ if self.in_scope(kind) => Map::default(),
-            Type::Lock(map) => self.lock_price(map),
+            Type::Lock { given, .. } => self.lock_price(given),
             Type::Ref { content, .. } => self.price(content),
             Type::Int | Type::Tid(_) | Type::Sem(_) => Map::default(),
         }
@@ -222,7 +245,7 @@ impl<'r> Builder<'r> {
                 Unlock, Freelock, Post, Post, Wait, Wait, Int, Var,
             ]),
             Type::Ref { .. } => self.random.pick(&[Let, Let, If, Ref, Ref, Read, Var]),
-            Type::Lock(_) => self.random.pick(&[Let, If, Newlock, Newlock, Read, Var]),
+            Type::Lock { .. } => self.random.pick(&[Let, If, Newlock, Newlock, Read, Var]),
             Type::Tid(_) => self.random.pick(&[Let, If, Newtid, Newtid, Read, Var]),
             Type::Sem(_) => self.random.pick(&[Let, If, Newsem, Newsem, Read, Var]),
         }
@@ -236,7 +259,7 @@ impl<'r> Builder<'r> {
         let word = match self.draft.types[kind] {
             Type::Int => Word::Int,
             Type::Ref { .. } => Word::Ref,
-            Type::Lock(_) => Word::Newlock,
+            Type::Lock { .. } => Word::Newlock,
             Type::Tid(_) => Word::Newtid,
             Type::Sem(_) => Word::Newsem,
         };

@@ -21,7 +21,7 @@ impl Builder<'_> {
                 self.leaf(Word::Int, constant, kind, now)
             }
             (Word::Newtid, Type::Tid(_)) | (Word::Newsem, Type::Sem(_)) => self.leaf(word, 0, kind, now),
-            (Word::Newlock, Type::Lock(map)) => self.newlock(kind, map, now, need),
+            (Word::Newlock, Type::Lock { given, .. }) => self.newlock(kind, given, now, need),
             (Word::Let, _) => self.binding(kind, now, need, size),
             (Word::If, _) => self.branch(kind, now, need, size),
             (Word::While, Type::Int) => self.repeat(kind, now, need, size),
@@ -53,7 +53,8 @@ impl Builder<'_> {
     }
 
     fn var(&mut self, kind: usize, now: &Map) -> bool {
-        let known: Vec<u32> = self.scope.iter().filter(|known| known.1 == kind).map(|known| known.0).collect();
+        let shown = self.scope.iter().filter(|known| self.shows(kind, known.1));
+        let known: Vec<u32> = shown.map(|known| known.0).collect();
         !known.is_empty() && {
             let variable = self.random.pick(&known);
             self.leaf(Word::Var, variable, kind, now)
@@ -267,10 +268,11 @@ impl Builder<'_> {
 }
 
 /// The map that a word takes or gives when its part has this type, if it may have it.
-fn moved(word: Word, part: Type) -> Option<usize> {
+pub(super) fn moved(word: Word, part: Type) -> Option<usize> {
     match (word, part) {
         (Word::Join, Type::Tid(map)) => Some(map),
-        (Word::Lock | Word::Freelock | Word::Unlock, Type::Lock(map)) => Some(map),
+        (Word::Lock | Word::Freelock, Type::Lock { taken, .. }) => Some(taken),
+        (Word::Unlock, Type::Lock { given, .. }) => Some(given),
         (Word::Wait | Word::Post, Type::Sem(map)) => Some(map),
         _ => None,
     }

@@ -20,7 +20,7 @@ pub fn emptied(split: &[u8], kept: Kept) -> Option<Vec<u8>> {
             head[0] = "C2".to_string();
             head.push("0".to_string());
         }
-        ("C2", 6) => {}
+        ("C2" | "C3", 6) => {}
         _ => return None,
     }
     let (types, maps) = (number(&head[3])?, number(&head[4])?);
@@ -76,11 +76,12 @@ fn drop_unused(lines: &mut Vec<Fields>, types: usize, maps: usize) -> Option<()>
 /// The fields that name maps: the start, what types carry, and the bodies' starts.
 fn names(lines: &mut [Fields], types: usize, maps: usize) -> Option<Vec<&mut String>> {
     let (head, rest) = lines.split_first_mut()?;
+    let two_loads = head[0] == "C3";
     let mut names = vec![&mut head[5]];
     for (place, line) in rest.iter_mut().enumerate() {
-        let carries = place < types && matches!(line[0].as_str(), "lock" | "tid" | "sem");
-        let fields = match place {
-            _ if carries => 1..2,
+        let fields = match line[0].as_str() {
+            "lock" if place < types && two_loads => 1..3,
+            "lock" | "tid" | "sem" if place < types => 1..2,
             _ if place >= types + maps && !line[2].is_empty() => 2..3,
             _ => 0..0,
         };

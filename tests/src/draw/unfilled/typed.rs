@@ -45,8 +45,8 @@ const KINDS: [fn(usize) -> Type; 8] = [
     |location| Type::Ref { location, content: 0 },
     Type::Tid,
     Type::Tid,
-    Type::Lock,
-    Type::Lock,
+    Type::lock,
+    Type::lock,
     Type::Sem,
     |location| Type::Ref { location, content: 4 },
 ];
@@ -69,7 +69,27 @@ impl<'r> Typed<'r> {
             types.push(kind(random.below(below)));
         }
         let draft = Draft { heading: Heading::C2 { start: first }, whole, locations, types, maps, steps: Vec::new() };
-        Typed { random, draft, scope: Vec::new(), bound: 0 }
+        let mut typed = Typed { random, draft, scope: Vec::new(), bound: 0 };
+        if typed.random.percent(50) {
+            typed.draft.heading = Heading::C3 { start: first };
+            typed.loosen_locks();
+        }
+        typed
+    }
+
+    /// Gives each lock two loads. Most often the one that is taken back is at least the other, and the locks
+    /// are looser one than the other.
+    fn loosen_locks(&mut self) {
+        let mut known = self.random.below(self.draft.maps.len());
+        for kind in 0..self.draft.types.len() {
+            let Type::Lock { taken, .. } = self.draft.types[kind] else { continue };
+            let mut map = self.draft.maps[known];
+            if self.random.percent(98) {
+                map = std::array::from_fn(|location| map[location].max(self.draft.maps[taken][location]));
+            }
+            known = self.draft.number_of(map);
+            self.draft.types[kind] = Type::Lock { taken, given: known };
+        }
     }
 
     fn push(&mut self, word: Word, number: u32, kind: usize) {
@@ -124,7 +144,7 @@ impl<'r> Typed<'r> {
                 let wanted = self.kind_where(|kind| match word {
                     Word::Join => matches!(kind, Type::Tid(_)),
                     Word::Post | Word::Wait => matches!(kind, Type::Sem(_)),
-                    _ => matches!(kind, Type::Lock(_)),
+                    _ => matches!(kind, Type::Lock { .. }),
                 });
                 self.parts(word, kind, &[(wanted, size)]);
             }
@@ -154,7 +174,8 @@ impl<'r> Typed<'r> {
 
     /// A variable of this type, or a new thing.
     fn value(&mut self, kind: usize) {
-        let known: Vec<u32> = self.scope.iter().filter(|known| known.1 == kind).map(|known| known.0).collect();
+        let shown = |known: &&(u32, usize)| self.draft.shows(kind, known.1);
+        let known: Vec<u32> = self.scope.iter().filter(shown).map(|known| known.0).collect();
         if !known.is_empty() && self.random.percent(70) {
             let variable = self.random.pick(&known);
             return self.push(Word::Var, variable, kind);
@@ -162,7 +183,7 @@ impl<'r> Typed<'r> {
         match self.draft.types[kind] {
             Type::Int => self.push(Word::Int, 0, kind),
             Type::Tid(_) => self.push(Word::Newtid, 0, kind),
-            Type::Lock(_) => self.push(Word::Newlock, 0, kind),
+            Type::Lock { .. } => self.push(Word::Newlock, 0, kind),
             Type::Sem(_) => self.push(Word::Newsem, 0, kind),
             Type::Ref { content, .. } => {
                 self.push(Word::Ref, 0, kind);

@@ -36,6 +36,7 @@ fn filled(program: &[u8], sheet: &[u8], room: usize, buffer: usize) -> Result<Ve
     at_most(20, sheet.len(), SPLIT_BYTES)?;
     let split = split::read(sheet, &steps, Posts::Left)?;
     at_most(43, split.maps, GIVEN_MAPS as usize)?;
+    split.check_loads()?;
     start_at_most_one(&split)?;
     let mut inequalities = Inequalities::new(&split);
     each_step(&steps, &split, &mut inequalities)?;

@@ -37,6 +37,12 @@ fn the_order_of_refusals() {
     assert_eq!(refused(one, &sheet(512, "0,,\n"), WORK_SPACE), "REFUSE,43,0,0,0");
     assert_eq!(refused(one, &sheet(256, "0,,\n"), WORK_SPACE), "REFUSE,30,2,0,0");
     assert_eq!(refused(b"P,1\nnewlock,0\n", &sheet(256, "0,,\n"), WORK_SPACE), "REFUSE,30,2,0,0");
+    let low_out = |maps: usize| {
+        let lines = vec!["0"; maps - 2].join("\n");
+        format!("C3,1,1,2,{maps},0\nint,0,0\nlock,0,1\n2\n1\n{lines}\n0,,\n").into_bytes()
+    };
+    assert_eq!(refused(one, &low_out(257), WORK_SPACE), "REFUSE,43,0,0,0");
+    assert_eq!(refused(one, &low_out(256), WORK_SPACE), "REFUSE,44,3,0,0");
 }
 
 #[test]

@@ -10,14 +10,14 @@ enum-told c = search needs
 enum-told-2 : tie.Need-enum-told-2
 enum-told-2 c = search needs
 
+enum-told-3 : tie.Need-enum-told-3
+enum-told-3 c = search needs
+
 enum-known-t : tie.Need-enum-known-t
 enum-known-t c = search needs
 
 enum-known-t-2 : tie.Need-enum-known-t-2
 enum-known-t-2 c = search needs
-
-enum-known-t-3 : tie.Need-enum-known-t-3
-enum-known-t-3 c = search needs
 
 returns : tie.Need-returns
 unfolding load
@@ -29,15 +29,15 @@ returns-2 c = rw (c .enum-told2 .given .1)
 
 returns-3 : tie.Need-returns-3
 unfolding load
-returns-3 c = rw (c .before .t .given .1)
+returns-3 c = rw (c .enum-told3 .given .1)
 
 returns-4 : tie.Need-returns-4
 unfolding load
-returns-4 c = rw (c .before .t2 .given .1)
+returns-4 c = rw (c .before .t .given .1)
 
 returns-5 : tie.Need-returns-5
 unfolding load
-returns-5 c = rw (c .before .t3 .given .1)
+returns-5 c = rw (c .before .t2 .given .1)
 
 pub load-of-spec : {M : Type 1} → statement M
 load-of-spec =
@@ -45,9 +45,9 @@ load-of-spec =
     (tie.spec
     enum-told
     enum-told-2
+    enum-told-3
     enum-known-t
     enum-known-t-2
-    enum-known-t-3
     returns
     returns-2
     returns-3

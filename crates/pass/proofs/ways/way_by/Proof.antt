@@ -87,8 +87,8 @@ needing-requires-2 c κs = tt
 enum-told-12 : tie.Need-enum-told-12
 enum-told-12 c = search needs
 
-load-in-requires-3 : tie.Need-load-in-requires-3
-load-in-requires-3 c κs = search needs
+out-load-in-requires : tie.Need-out-load-in-requires
+out-load-in-requires c κs = search needs
 
 taking-requires : tie.Need-taking-requires
 taking-requires c κs = tt
@@ -96,8 +96,8 @@ taking-requires c κs = tt
 enum-told-13 : tie.Need-enum-told-13
 enum-told-13 c = search needs
 
-load-in-requires-4 : tie.Need-load-in-requires-4
-load-in-requires-4 c κs = search needs
+in-load-in-requires : tie.Need-in-load-in-requires
+in-load-in-requires c κs = search needs
 
 giving-requires-2 : tie.Need-giving-requires-2
 giving-requires-2 c κs = tt
@@ -105,8 +105,8 @@ giving-requires-2 c κs = tt
 enum-told-14 : tie.Need-enum-told-14
 enum-told-14 c = search needs
 
-load-in-requires-5 : tie.Need-load-in-requires-5
-load-in-requires-5 c κs = search needs
+in-load-in-requires-2 : tie.Need-in-load-in-requires-2
+in-load-in-requires-2 c κs = search needs
 
 giving-requires-3 : tie.Need-giving-requires-3
 giving-requires-3 c κs = tt
@@ -114,8 +114,8 @@ giving-requires-3 c κs = tt
 enum-told-15 : tie.Need-enum-told-15
 enum-told-15 c = search needs
 
-load-in-requires-6 : tie.Need-load-in-requires-6
-load-in-requires-6 c κs = search needs
+out-load-in-requires-2 : tie.Need-out-load-in-requires-2
+out-load-in-requires-2 c κs = search needs
 
 taking-requires-2 : tie.Need-taking-requires-2
 taking-requires-2 c κs = tt
@@ -129,8 +129,8 @@ unchanged-requires-6 c κs = tt
 enum-told-17 : tie.Need-enum-told-17
 enum-told-17 c = search needs
 
-load-in-requires-7 : tie.Need-load-in-requires-7
-load-in-requires-7 c κs = search needs
+load-in-requires-3 : tie.Need-load-in-requires-3
+load-in-requires-3 c κs = search needs
 
 taking-requires-3 : tie.Need-taking-requires-3
 taking-requires-3 c κs = tt
@@ -138,8 +138,8 @@ taking-requires-3 c κs = tt
 enum-told-18 : tie.Need-enum-told-18
 enum-told-18 c = search needs
 
-load-in-requires-8 : tie.Need-load-in-requires-8
-load-in-requires-8 c κs = search needs
+load-in-requires-4 : tie.Need-load-in-requires-4
+load-in-requires-4 c κs = search needs
 
 giving-requires-4 : tie.Need-giving-requires-4
 giving-requires-4 c κs = tt
@@ -190,19 +190,19 @@ returns-11 c = rw (c .before .before .enum-told11 .given .1) (ap (λ E. Unary (A
 
 returns-12 : tie.Need-returns-12
 unfolding wayBy
-returns-12 c = rw (c .before .before .enum-told12 .given .1) (ap Leaf (c .taking .ensures ∙ ap taking (c .before .load-in3 .ensures)))
+returns-12 c = rw (c .before .before .enum-told12 .given .1) (ap Leaf (c .taking .ensures ∙ ap taking (c .before .out-load-in .ensures)))
 
 returns-13 : tie.Need-returns-13
 unfolding wayBy
-returns-13 c = rw (c .before .before .enum-told13 .given .1) (ap (λ E. Unary (After E)) (c .giving2 .ensures ∙ ap giving (c .before .load-in4 .ensures)))
+returns-13 c = rw (c .before .before .enum-told13 .given .1) (ap (λ E. Unary (After E)) (c .giving2 .ensures ∙ ap giving (c .before .in-load-in .ensures)))
 
 returns-14 : tie.Need-returns-14
 unfolding wayBy
-returns-14 c = rw (c .before .before .enum-told14 .given .1) (ap (λ E. Unary (After E)) (c .giving3 .ensures ∙ ap giving (c .before .load-in5 .ensures)))
+returns-14 c = rw (c .before .before .enum-told14 .given .1) (ap (λ E. Unary (After E)) (c .giving3 .ensures ∙ ap giving (c .before .in-load-in2 .ensures)))
 
 returns-15 : tie.Need-returns-15
 unfolding wayBy
-returns-15 c = rw (c .before .before .enum-told15 .given .1) (ap (λ E. Unary (After E)) (c .taking2 .ensures ∙ ap taking (c .before .load-in6 .ensures)))
+returns-15 c = rw (c .before .before .enum-told15 .given .1) (ap (λ E. Unary (After E)) (c .taking2 .ensures ∙ ap taking (c .before .out-load-in2 .ensures)))
 
 returns-16 : tie.Need-returns-16
 unfolding wayBy
@@ -210,11 +210,11 @@ returns-16 c = rw (c .before .enum-told16 .given .1) (ap Leaf (c .unchanged6 .en
 
 returns-17 : tie.Need-returns-17
 unfolding wayBy
-returns-17 c = rw (c .before .before .enum-told17 .given .1) (ap (λ E. Unary (After E)) (c .taking3 .ensures ∙ ap taking (c .before .load-in7 .ensures)))
+returns-17 c = rw (c .before .before .enum-told17 .given .1) (ap (λ E. Unary (After E)) (c .taking3 .ensures ∙ ap taking (c .before .load-in3 .ensures)))
 
 returns-18 : tie.Need-returns-18
 unfolding wayBy
-returns-18 c = rw (c .before .before .enum-told18 .given .1) (ap (λ E. Unary (After E)) (c .giving4 .ensures ∙ ap giving (c .before .load-in8 .ensures)))
+returns-18 c = rw (c .before .before .enum-told18 .given .1) (ap (λ E. Unary (After E)) (c .giving4 .ensures ∙ ap giving (c .before .load-in4 .ensures)))
 
 pub way-by-spec : {M : Type 1} → statement M
 way-by-spec =
@@ -246,24 +246,24 @@ way-by-spec =
     access-in-requires-2
     needing-requires-2
     enum-told-12
-    load-in-requires-3
+    out-load-in-requires
     taking-requires
     enum-told-13
-    load-in-requires-4
+    in-load-in-requires
     giving-requires-2
     enum-told-14
-    load-in-requires-5
+    in-load-in-requires-2
     giving-requires-3
     enum-told-15
-    load-in-requires-6
+    out-load-in-requires-2
     taking-requires-2
     enum-told-16
     unchanged-requires-6
     enum-told-17
-    load-in-requires-7
+    load-in-requires-3
     taking-requires-3
     enum-told-18
-    load-in-requires-8
+    load-in-requires-4
     giving-requires-4
     returns
     returns-2

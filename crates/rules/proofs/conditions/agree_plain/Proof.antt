@@ -1,12 +1,12 @@
 -- Each kind with itself and with any other.
-use borrow.Author.Needs.{needs}
 use mathlib.Core.Path.{sym, ap}
-use Rattle.spec.specs.Conditions.{isInt, isRef, isLock, isTid, isSem, load}
+use Rattle.spec.specs.Conditions.{isInt, isRef, isLock, isTid, isSem, load, inLoad, outLoad}
 use Rattle.spec.specs.Sites.{judge}
 use Rattle.rules.specs.Outcome.{outcome}
 use Rattle.rules.specs.Agreement.{linesAgree}
 use Rattle.rules.proofs.TypeKinds.{not-int, not-lock, not-tid, not-sem}
-use Rattle.rules.proofs.Agreement.{judged-as, no-contents}
+use Rattle.rules.proofs.Agreement.{judged-as, types-joined, no-contents}
+use borrow.Author.Needs.{needs}
 use Rattle.rules.proofs.conditions.agree_plain.Statement.{statement}
 use Rattle.rules.proofs.conditions.agree_plain.Tie as tie
 
@@ -45,6 +45,12 @@ returns-2 c = rw (c .before .before .before .kind .given .1, not-lock _ (c .befo
 same-maps-requires : tie.Need-same-maps-requires
 same-maps-requires c κs = search needs
 
+same-maps-requires-2 : tie.Need-same-maps-requires-2
+same-maps-requires-2 c κs = search needs
+
+also-requires : tie.Need-also-requires
+also-requires c κs = search needs
+
 enum-known-kind-2 : tie.Need-enum-known-kind-2
 enum-known-kind-2 c = search needs
 
@@ -58,8 +64,8 @@ returns-3 : tie.Need-returns-3
 unfolding linesAgree
 returns-3 c = rw (c .before .before .before .kind2 .given .1, not-tid _ (c .before .match4 .keys2)) (c .type-false4 .ensures)
 
-same-maps-requires-2 : tie.Need-same-maps-requires-2
-same-maps-requires-2 c κs = search needs
+same-maps-requires-3 : tie.Need-same-maps-requires-3
+same-maps-requires-3 c κs = search needs
 
 enum-known-kind-3 : tie.Need-enum-known-kind-3
 enum-known-kind-3 c = search needs
@@ -74,8 +80,8 @@ returns-4 : tie.Need-returns-4
 unfolding linesAgree
 returns-4 c = rw (c .before .before .before .kind3 .given .1, not-sem _ (c .before .match5 .keys2)) (c .type-false5 .ensures)
 
-same-maps-requires-3 : tie.Need-same-maps-requires-3
-same-maps-requires-3 c κs = search needs
+same-maps-requires-4 : tie.Need-same-maps-requires-4
+same-maps-requires-4 c κs = search needs
 
 returns-5 : tie.Need-returns-5
 unfolding linesAgree isInt outcome judge
@@ -86,16 +92,19 @@ unfolding isRef
 returns-6 c = judged-as _ _ (c .type-false2 .ensures) (sym (no-contents _ _ _ _ (ap isRef (c .before .enum-told3 .given .1))))
 
 returns-7 : tie.Need-returns-7
-unfolding linesAgree isLock load
-returns-7 c = rw (c .before .before .before .before .before .kind .given .1, c .before .before .other .given .1) (c .same-maps .ensures)
+unfolding linesAgree isLock inLoad outLoad
+returns-7 c =
+    let ins = c .before .before in
+    rw (ins .before .before .before .before .before .kind .given .1, ins .before .before .other .given .1)
+    (types-joined _ _ _ _ (c .also .ensures) (ins .same-maps .ensures) (c .before .same-maps2 .ensures))
 
 returns-8 : tie.Need-returns-8
 unfolding linesAgree isTid load
-returns-8 c = rw (c .before .before .before .before .before .kind2 .given .1, c .before .before .other2 .given .1) (c .same-maps2 .ensures)
+returns-8 c = rw (c .before .before .before .before .before .kind2 .given .1, c .before .before .other2 .given .1) (c .same-maps3 .ensures)
 
 returns-9 : tie.Need-returns-9
 unfolding linesAgree isSem load
-returns-9 c = rw (c .before .before .before .before .before .kind3 .given .1, c .before .before .other3 .given .1) (c .same-maps3 .ensures)
+returns-9 c = rw (c .before .before .before .before .before .kind3 .given .1, c .before .before .other3 .given .1) (c .same-maps4 .ensures)
 
 pub agree-plain-spec : {M : Type 1} → statement M
 agree-plain-spec =
@@ -112,16 +121,18 @@ agree-plain-spec =
     type-false-requires-3
     returns-2
     same-maps-requires
+    same-maps-requires-2
+    also-requires
     enum-known-kind-2
     enum-known-other-2
     type-false-requires-4
     returns-3
-    same-maps-requires-2
+    same-maps-requires-3
     enum-known-kind-3
     enum-known-other-3
     type-false-requires-5
     returns-4
-    same-maps-requires-3
+    same-maps-requires-4
     returns-5
     returns-6
     returns-7

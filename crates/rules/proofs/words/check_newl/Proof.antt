@@ -1,5 +1,5 @@
 use mathlib.Core.Path.{refl}
-use Rattle.spec.specs.Conditions.{isLock, load}
+use Rattle.spec.specs.Conditions.{isLock, outLoad}
 use Rattle.rules.proofs.Judged.{last, pass, fail}
 use Rattle.rules.proofs.TypeKinds.{not-lock}
 use borrow.Author.Needs.{needs}
@@ -19,7 +19,7 @@ sum-requires : tie.Need-sum-requires
 sum-requires c κs = search needs
 
 returns-2 : tie.Need-returns-2
-unfolding isLock load
+unfolding isLock outLoad
 returns-2 c = rw (c .before .before .kind .given .1) (pass _ _ _ _ refl (last _ _ _ (c .sum .ensures)))
 
 pub check-newl-spec : {M : Type 1} → statement M

@@ -2,7 +2,8 @@
 use mathlib.Core.Path.{sym, _∙_}
 use borrow.Author.Tests.{not-true, not-false}
 use Rattle.spec.specs.Split.{headerRanges}
-use Rattle.split.specs.Lines.{headerTold, headerFits}
+use Rattle.workspace.specs.Sheets.{headerTold}
+use Rattle.split.specs.Lines.{headerFits}
 use Rattle.split.proofs.Tests.{range-out, range-next, range-last, range-index, below-test}
 use borrow.Author.Needs.{needs}
 use Rattle.split.proofs.first_line.header_fits.Statement.{statement}

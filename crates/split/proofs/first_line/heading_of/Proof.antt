@@ -1,7 +1,7 @@
--- The two headings, one after the other; the first is none where a sheet is filled.
+-- The headings, one after the other; the first is none where a sheet is filled.
 use mathlib.Core.Path.{sym, _∙_}
 use Rattle.spec.specs.Text.{bytes}
-use Rattle.split.proofs.HeaderLaws.{first-heading, first-refused, second-heading, other-heading}
+use Rattle.split.proofs.HeaderLaws.{first-heading, first-refused, second-heading, third-heading, other-heading}
 use borrow.Author.Needs.{needs}
 use Rattle.split.proofs.first_line.heading_of.Statement.{statement}
 use Rattle.split.proofs.first_line.heading_of.Tie as tie
@@ -42,11 +42,27 @@ returns-3 c =
     let c1 = c .before .before .before in
     second-heading _ _ (sym (c1 .before .same .ensures) ∙ c1 .if1 .left) (sym (c .before .same2 .ensures) ∙ c .if2 .taken)
 
+slice-aggregate-same-3 : tie.Need-slice-aggregate-same-3
+slice-aggregate-same-3 c = search needs
+
+same-requires-3 : tie.Need-same-requires-3
+same-requires-3 c κs = search needs
+
 returns-4 : tie.Need-returns-4
 unfolding bytes
 returns-4 c =
-    let c1 = c .before .before .before in
-    other-heading _ _ (sym (c1 .before .same .ensures) ∙ c1 .if1 .left) (sym (c .before .same2 .ensures) ∙ c .if2 .left)
+    let c2 = c .before .before .before in
+    let c1 = c2 .before .before .before in
+    third-heading _ _ (sym (c1 .before .same .ensures) ∙ c1 .if1 .left) (sym (c2 .before .same2 .ensures) ∙ c2 .if2 .left)
+    (sym (c .before .same3 .ensures) ∙ c .if3 .taken)
+
+returns-5 : tie.Need-returns-5
+unfolding bytes
+returns-5 c =
+    let c2 = c .before .before .before in
+    let c1 = c2 .before .before .before in
+    other-heading _ _ (sym (c1 .before .same .ensures) ∙ c1 .if1 .left) (sym (c2 .before .same2 .ensures) ∙ c2 .if2 .left)
+    (sym (c .before .same3 .ensures) ∙ c .if3 .left)
 
 pub heading-of-spec : {M : Type 1} → statement M
 heading-of-spec =
@@ -61,4 +77,7 @@ heading-of-spec =
     slice-aggregate-same-2
     same-requires-2
     returns-3
-    returns-4)
+    slice-aggregate-same-3
+    same-requires-3
+    returns-4
+    returns-5)

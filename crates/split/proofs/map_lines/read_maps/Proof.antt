@@ -6,7 +6,8 @@ use native.Mathlib.Omega.{arith}
 use lib.ListN.{length, take, drop}
 use Rattle.spec.specs.Reading.{splitSheet, next}
 use Rattle.lexer.specs.Cursors.{placeAt}
-use Rattle.split.specs.Lines.{headerTold, cellLine}
+use Rattle.workspace.specs.Sheets.{headerTold}
+use Rattle.split.specs.Lines.{cellLine}
 use Rattle.split.specs.Answers.{MapAnswer}
 use Rattle.split.specs.Stored.{HoldsMaps}
 use Rattle.split.proofs.Turns.{Turn, first-turn, turns-end, maps-numbered}

@@ -1,4 +1,4 @@
-use Rattle.split.proofs.RowLaws.{start-asked, start-not-asked}
+use Rattle.split.proofs.RowLaws.{start-asked, start-not-asked, start-not-asked-3}
 use borrow.Author.Needs.{needs}
 use Rattle.split.proofs.row_lines.may_be_empty.Statement.{statement}
 use Rattle.split.proofs.row_lines.may_be_empty.Tie as tie
@@ -12,12 +12,18 @@ takes-start-requires c κs = search needs
 enum-told-2 : tie.Need-enum-told-2
 enum-told-2 c = search needs
 
+enum-told-3 : tie.Need-enum-told-3
+enum-told-3 c = search needs
+
 returns : tie.Need-returns
 returns c = start-asked _ _ (c .before .enum-told .given .1) (c .takes-start .ensures)
 
 returns-2 : tie.Need-returns-2
 returns-2 c = start-not-asked _ _ (c .enum-told2 .given .1)
 
+returns-3 : tie.Need-returns-3
+returns-3 c = start-not-asked-3 _ _ (c .enum-told3 .given .1)
+
 pub may-be-empty-spec : {M : Type 1} → statement M
 may-be-empty-spec =
-    tie.close (tie.spec enum-told takes-start-requires enum-told-2 returns returns-2)
+    tie.close (tie.spec enum-told takes-start-requires enum-told-2 enum-told-3 returns returns-2 returns-3)

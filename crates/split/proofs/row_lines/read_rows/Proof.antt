@@ -7,7 +7,8 @@ use Rattle.spec.specs.Reading.{splitSheet, next}
 use Rattle.spec.specs.Split.{Row}
 use Rattle.lexer.specs.Cursors.{placeAt}
 use Rattle.workspace.specs.Holds.{startNumber}
-use Rattle.split.specs.Lines.{headerTold, wordLine, rowTold}
+use Rattle.workspace.specs.Sheets.{headerTold}
+use Rattle.split.specs.Lines.{wordLine, rowTold}
 use Rattle.split.specs.Answers.{RowAnswer}
 use Rattle.split.specs.Stored.{HoldsRows, stepAt}
 use Rattle.split.proofs.Turns.{Turn, first-turn, turns-stop, turns-end, rows-numbered}

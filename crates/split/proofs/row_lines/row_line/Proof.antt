@@ -3,7 +3,7 @@ use borrow.Author.Needs.{needs}
 use mathlib.Core.Path.{sym, subst, _∙_}
 use Rattle.lexer.specs.Cursors.{rest}
 use Rattle.lexer.proofs.Walks.{left-some}
-use Rattle.split.specs.Lines.{headerTold}
+use Rattle.workspace.specs.Sheets.{headerTold}
 use Rattle.split.specs.Answers.{LeadingAnswer, PostAnswer, StartAnswer}
 use Rattle.split.proofs.LineLaws.{line-missing}
 use Rattle.split.proofs.RowLaws.{row-first, second-placed, row-second, third-placed, row-third, row-without, row-with-start}

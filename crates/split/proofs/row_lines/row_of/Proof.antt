@@ -3,7 +3,7 @@ use mathlib.Core.Path.{sym, _∙_}
 use native.Mathlib.Omega.{arith}
 use borrow.Author.Tests.{not-true, not-false}
 use Rattle.spec.specs.Split.{startRange}
-use Rattle.split.specs.Lines.{headerTold}
+use Rattle.workspace.specs.Sheets.{headerTold}
 use Rattle.split.proofs.Tests.{in-below, out-below}
 use Rattle.split.proofs.RowLaws.{row-out, start-out, start-in, start-wanted, start-left}
 use borrow.Author.Needs.{needs}

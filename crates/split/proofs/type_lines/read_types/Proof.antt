@@ -7,7 +7,7 @@ use Rattle.spec.specs.Reading.{splitSheet, next}
 use Rattle.spec.specs.Split.{typeLine}
 use Rattle.lexer.specs.Cursors.{placeAt}
 use Rattle.workspace.specs.Layout.{kindOf, firstOf, secondOf}
-use Rattle.split.specs.Lines.{headerTold}
+use Rattle.workspace.specs.Sheets.{headerTold}
 use Rattle.split.specs.Answers.{TypeAnswer}
 use Rattle.split.specs.Stored.{HoldsTypes}
 use Rattle.split.proofs.Turns.{Turn, first-turn, turns-stop, turns-end, types-numbered}

@@ -5,7 +5,7 @@ use Rattle.lexer.specs.Cursors.{rest}
 use Rattle.lexer.specs.Words.{typeWordOf}
 use Rattle.lexer.proofs.LineEnds.{numbers-none, numbers-read}
 use Rattle.lexer.proofs.Walks.{left-some}
-use Rattle.split.specs.Lines.{headerTold}
+use Rattle.workspace.specs.Sheets.{headerTold}
 use Rattle.split.specs.Answers.{HeadAnswer}
 use Rattle.split.proofs.LineLaws.{line-missing, comma-placed}
 use Rattle.split.proofs.TypeLaws.{no-comma, type-form, type-on, type-unknown, type-range}

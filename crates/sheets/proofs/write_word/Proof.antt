@@ -1,9 +1,9 @@
--- The word, then the load and 0.
+-- The word, then the two numbers.
 use mathlib.Core.Path.{refl}
 use borrow.Author.Needs.{needs}
 use Rattle.writer.proofs.Buffer.{parted, onward, finish}
-use Rattle.sheets.proofs.write_load.Statement.{statement}
-use Rattle.sheets.proofs.write_load.Tie as tie
+use Rattle.sheets.proofs.write_word.Statement.{statement}
+use Rattle.sheets.proofs.write_word.Tie as tie
 
 write-bytes-requires : tie.Need-write-bytes-requires
 write-bytes-requires c κs = search needs
@@ -24,8 +24,8 @@ returns c =
     let start = c₁ .before .before .before .before in
     finish (onward _ _ (parted _ _ refl (start .good .0 .0) (start .fits .at .fits)) (c₁ .write-bytes .ensures)) (c₂ .write-numbers .ensures)
 
-pub write-load-spec : {M : Type 1} → statement M
-write-load-spec =
+pub write-word-spec : {M : Type 1} → statement M
+write-word-spec =
     tie.close
     (tie.spec
     write-bytes-requires

@@ -1,0 +1,57 @@
+-- No lock, or a lock whose flow condition is asked.
+use Rattle.rules.specs.Outcome.{outcome}
+use Rattle.rules.proofs.TypeKinds.{not-lock}
+use Rattle.rules.proofs.LockLines.{no-lock-line, lock-line-met, lock-line-refused}
+use borrow.Author.Needs.{needs}
+use Rattle.rules.proofs.locks.check_lock.Statement.{statement}
+use Rattle.rules.proofs.locks.check_lock.Tie as tie
+
+add-line : tie.Need-add-line
+add-line c = search needs
+
+type-at-requires : tie.Need-type-at-requires
+type-at-requires c κs = search needs
+
+enum-known-load : tie.Need-enum-known-load
+enum-known-load c = search needs
+
+returns : tie.Need-returns
+unfolding outcome
+returns c = no-lock-line _ _ _ (c .before .type-at .ensures) (not-lock _ (c .match .keys2))
+
+at-least-requires : tie.Need-at-least-requires
+at-least-requires c κs = search needs
+
+enum-told : tie.Need-enum-told
+enum-told c = search needs
+
+enum-told-2 : tie.Need-enum-told-2
+enum-told-2 c = search needs
+
+returns-2 : tie.Need-returns-2
+unfolding outcome
+returns-2 c =
+    let asked = c .before .before in
+    let lock = asked .before .before in
+    lock-line-refused _ _ _ (lock .before .before .type-at .ensures) (lock .load .given .1) _ _ _ (asked .at-least .ensures) (c .enum-told2 .given .1)
+
+returns-3 : tie.Need-returns-3
+unfolding outcome
+returns-3 c =
+    let asked = c .before .before in
+    let lock = asked .before .before in
+    lock-line-met _ _ _ (lock .before .before .type-at .ensures) (lock .load .given .1) _ _ _ (asked .at-least .ensures) (c .enum-told .given .1)
+
+pub check-lock-spec : {M : Type 1} → statement M
+check-lock-spec =
+    tie.close
+    (tie.spec
+    add-line
+    type-at-requires
+    enum-known-load
+    returns
+    at-least-requires
+    enum-told
+    enum-told-2
+    returns-2
+    returns-3)

@@ -1,0 +1,45 @@
+// 44: a lock takes at least what it gives, used or not.
+use super::Ruling;
+use super::conditions::at_least;
+use spec::Refusal;
+use spec::TypeLine;
+use spec::TypeNumber;
+use workspace::type_at;
+ghost use mathlib.Core.Path.{_≡_};
+ghost use Prim.Native.Nat.{_≤_, _<_};
+ghost use Rattle.rules.specs.Outcome.{outcome};
+ghost use Rattle.rules.specs.Walk.{lockOutcome, locksOutcome};
+
+// The line of the split sheet's first type.
+const FIRST_LINE: u32 = 2;
+
+// At the line of a type: out of a lock is nowhere below its in.
+fn check_lock(work: &[u32], locations: u32, t: u32) -> Ruling
+    requires { ⌜ t < 64 ⌝ }
+    ensures { λ r. ⌜ outcome r ≡ lockOutcome (now (work .entry)) locations t ⌝ }
+{
+    let line = t + FIRST_LINE;
+    let TypeLine::Lock(load, out) = type_at(work, TypeNumber(t)) else {
+        return Ruling::Met;
+    };
+    let Ruling::Met = at_least(line, 1, work, locations, out, load) else {
+        return Ruling::Refused(Refusal::LockTakesLess(line));
+    };
+    Ruling::Met
+}
+
+// The lowest lock line that takes less refuses.
+pub(crate) fn check_locks(work: &[u32], locations: u32, types: u32) -> Ruling
+    requires { ⌜ types ≤ 64 ⌝ }
+    ensures { λ r. ⌜ outcome r ≡ locksOutcome (now (work .entry)) locations 0 types ⌝ }
+{
+    let mut t = 0;
+    while t < types {
+        let ruling = check_lock(work, locations, t);
+        let Ruling::Met = ruling else {
+            return ruling;
+        };
+        t += 1;
+    }
+    Ruling::Met
+}
