@@ -9,7 +9,7 @@ use std::fmt;
 
 /// What a series has to meet.
 pub struct Asked {
-    /// Every number that an answer can have.
+    /// Every number that an answer can have, in the order in which they are looked for.
     numbers: &'static [u32],
     /// How line 1 of a split can open.
     headings: &'static [&'static str],
@@ -18,14 +18,13 @@ pub struct Asked {
 }
 
 pub const CHECKING: Asked = Asked {
-    numbers: &[0, 1, 10, 11, 12, 13, 14, 15, 20, 21, 22, 23, 40, 44, 30, 31, 32, 33],
+    numbers: &[0, 1, 10, 11, 12, 45, 13, 14, 15, 20, 21, 22, 40, 23, 44, 30, 31, 32, 33],
     headings: &["C", "C2", "C3"],
     conditions: Word::conditions,
 };
 
-/// A filling has its refusals in this order.
 pub const FILLING: Asked = Asked {
-    numbers: &[0, 1, 10, 11, 12, 13, 14, 15, 20, 21, 22, 23, 43, 44, 30, 31, 41, 42],
+    numbers: &[0, 1, 10, 11, 12, 45, 13, 14, 15, 20, 21, 22, 23, 43, 44, 30, 31, 41, 42],
     headings: &["C2", "C3"],
     conditions: Word::type_conditions,
 };

@@ -1,4 +1,4 @@
-//! The words of the program sheet: those of Figure 1, and those of document 02.
+//! The words of the program sheet: those of Figure 1 but `freelock`, and those of document 02.
 
 #[derive(Clone, Copy, Debug, PartialEq, Eq, Hash, PartialOrd, Ord)]
 pub enum Word {
@@ -15,7 +15,6 @@ pub enum Word {
     Write,
     Newlock,
     Lock,
-    Freelock,
     Unlock,
     Newsem,
     Post,
@@ -25,10 +24,8 @@ pub enum Word {
 use Word::*;
 
 /// Every word, in the order of document 01's table of conditions, then of document 02.
-pub const WORDS: [Word; 18] = [
-    Var, Int, Let, If, While, Newtid, Spawn, Join, Ref, Read, Write, Newlock, Lock, Freelock, Unlock, Newsem, Post,
-    Wait,
-];
+pub const WORDS: [Word; 17] =
+    [Var, Int, Let, If, While, Newtid, Spawn, Join, Ref, Read, Write, Newlock, Lock, Unlock, Newsem, Post, Wait];
 
 impl Word {
     /// The word with this spelling, if there is one.
@@ -47,7 +44,6 @@ impl Word {
             b"write" => Write,
             b"newlock" => Newlock,
             b"lock" => Lock,
-            b"freelock" => Freelock,
             b"unlock" => Unlock,
             b"newsem" => Newsem,
             b"post" => Post,
@@ -71,7 +67,6 @@ impl Word {
             Write => "write",
             Newlock => "newlock",
             Lock => "lock",
-            Freelock => "freelock",
             Unlock => "unlock",
             Newsem => "newsem",
             Post => "post",
@@ -83,7 +78,7 @@ impl Word {
     pub fn parts(self) -> usize {
         match self {
             Var | Int | Newtid | Newlock | Newsem => 0,
-            While | Join | Ref | Read | Freelock | Lock | Unlock | Post | Wait => 1,
+            While | Join | Ref | Read | Lock | Unlock | Post | Wait => 1,
             Let | If | Spawn | Write => 2,
         }
     }
@@ -92,7 +87,7 @@ impl Word {
     pub fn type_conditions(self) -> u32 {
         match self {
             Var | Int | Let | While | Newtid | Ref | Newlock | Newsem => 1,
-            If | Spawn | Join | Read | Lock | Freelock | Unlock | Post | Wait => 2,
+            If | Spawn | Join | Read | Lock | Unlock | Post | Wait => 2,
             Write => 3,
         }
     }
@@ -101,7 +96,7 @@ impl Word {
     pub fn conditions(self) -> u32 {
         match self {
             Var | Int | Let | Newtid | Ref | Newlock | Newsem => 2,
-            While | Join | Lock | Freelock | Unlock | Post | Wait => 3,
+            While | Join | Lock | Unlock | Post | Wait => 3,
             If | Spawn | Read => 4,
             Write => 5,
         }

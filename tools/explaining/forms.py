@@ -1,9 +1,9 @@
-"""The forms and ranges of the lines of both sheets: why a line is refused with 11, 12, 21, 22 or 40."""
+"""The forms and ranges of the lines of both sheets: why a line is refused with 11, 12, 21, 22, 40 or 45."""
 import re
 from typing import NamedTuple
 
 from .showing import grouped, shown
-from .words import KINDS, MAPS, WORDS
+from .words import KINDS, MAPS, NO_STEP, WORDS
 
 DIGITS = 10
 NUMERAL = re.compile(rb"0|[1-9][0-9]{0,%d}" % (DIGITS - 1))
@@ -42,6 +42,7 @@ class OneOf(NamedTuple):
 
     what: str
     words: tuple
+    instead: dict = {}  # words that are refused after all, once the line's ranges are judged, and what to write for them
 
 
 class Absent(NamedTuple):
@@ -74,7 +75,7 @@ def program_fields(number, fields):
     if number == 1:
         return [OneOf("`P`", ("P",)), STEPS]
     word = WORDS.get(fields[0].decode("latin-1"))
-    return [OneOf("a word of the language", tuple(WORDS)), RANGES[word.number] if word else RANGES["nothing"]]
+    return [OneOf("a word of the language", (*WORDS, *NO_STEP), NO_STEP), RANGES[word.number] if word else RANGES["nothing"]]
 
 
 class Counts(NamedTuple):
@@ -131,8 +132,8 @@ def _type_fields(own, fields, counts):
 
 
 def fault(line, wanted):
-    """The first fault of a line: form before range, as document 01 orders them, then a number that lacks."""
-    return _form_fault(line, wanted) or _range_fault(line, wanted) or _lack(line, wanted)
+    """The first fault of a line: form before range, as document 01 orders them, then what is judged after both."""
+    return _form_fault(line, wanted) or _range_fault(line, wanted) or _late_fault(line, wanted)
 
 
 def _form_fault(line, wanted):
@@ -159,10 +160,12 @@ def _range_fault(line, wanted):
     return None
 
 
-def _lack(line, wanted):
+def _late_fault(line, wanted):
     for field, want in zip(line.text.split(b","), wanted):
         if isinstance(want, Optional) and not field and want.lacking:
             return Fault("lack", want.lacking)
+        if isinstance(want, OneOf) and field.decode("latin-1") in want.instead:
+            return Fault("word", f"`{shown(field)}` is no step of the machines; `{want.instead[shown(field)]}` is")
     return None
 
 

@@ -85,6 +85,9 @@ REFUSALS = {
     44: Refusal(
         "a lock takes less than it gives", "owner of the solver", SPLIT,
         "write a map for out, the last field of that line, that has at least as much as the map for in of every location"),
+    45: Refusal(
+        "the word `freelock`, which is no step of the machines", "owner of the program", PROGRAM,
+        "write `lock` in its place; the row in the split can stay as it is"),
 }
 
 # What only a caller of the library sees: no pair of sheets leads to these.
@@ -122,7 +125,6 @@ USUALLY = {
     ("spawn", 4): "what the body starts with was not taken from what is here, or more was taken than that",
     ("join", 3): _ADDS,
     ("lock", 3): _ADDS,
-    ("freelock", 3): _ADDS,
     ("wait", 3): _ADDS,
     ("newlock", 2): "two locks guard the same location, and the right was given to the first one already",
     ("unlock", 3): "the thread does not hold what the lock takes, say it unlocks twice",

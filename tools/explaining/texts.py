@@ -1,4 +1,4 @@
-"""Refusals of a sheet's text, 10 to 15, 20 to 23, 40 and 44: the sentence that says what is wrong, with this pair's numbers."""
+"""Refusals of a sheet's text, 10 to 15, 20 to 23, 40, 44 and 45: the sentence that says what is wrong, with this pair's numbers."""
 from . import forms
 from .disagreement import Disagreement, require
 from .sheets import at_least, split_of, steps_of
@@ -23,16 +23,16 @@ def text_finding(number, line, program, split):
         at, why = _lock_fault(split_of(split))
         require(at == line, f"the first lock that takes less than it gives is on line {at} here, not on {line}")
         return why
-    return _line_fault(number, line, program if number < 20 else split, program)
+    return _line_fault(number, line, program if number in (11, 12, 45) else split, program)
 
 
 def _line_fault(number, line, sheet, program):
-    kind = {11: "form", 21: "form", 12: "range", 22: "range", 40: "lack"}[number]
+    kind = {11: "form", 21: "form", 12: "range", 22: "range", 40: "lack", 45: "word"}[number]
     if not sheet.text:
         require((kind, line) == ("form", 1), f"{sheet.name} is empty")
         return "there is no line 1"
     fields = sheet.line(line).split(b",")
-    if number < 20:
+    if sheet is program:
         wanted = forms.program_fields(line, fields)
     else:
         counts = forms.counts_of(sheet.line(1)) if line > 1 else None

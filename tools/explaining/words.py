@@ -133,10 +133,6 @@ WORDS = {
         "LCK", "nothing", {"part": "pre"},
         "`int`", "take {thing} and get {in}",
         _INT, _PART_A_LOCK, _TAKES_IN),
-    "freelock": _word(
-        "FREEL", "nothing", {"part": "pre"},
-        "`int`", "take {thing} for good and get {in}",
-        _INT, _PART_A_LOCK, _TAKES_IN),
     "unlock": _word(
         "ULCK", "nothing", {"part": "pre"},
         "`int`", "give back {thing} and with it {out}",
@@ -155,6 +151,9 @@ WORDS = {
         "`int`", "wait at {thing} and get {K}",
         _INT, _PART_A_SEM, _TAKES, source="Section 3.1.4"),
 }
+
+# A word that no machine does, and the one to write in its place.
+NO_STEP = {"freelock": "lock"}
 
 # The refusal's number for a false condition of each mark.
 NUMBER_OF = {"T": 31, "F": 32, "A": 33}

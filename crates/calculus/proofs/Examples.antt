@@ -6,6 +6,5 @@ pub mod Halts
 pub mod Derivations
 pub mod PrintedLocks
 pub mod Orders
-pub mod FreedName
 pub mod NewSemaphore
 pub mod Premises

@@ -1,20 +1,20 @@
 -- A thread that halts in a well-typed state has finished, or waits: progress.
 use Prim.Native.Nat.{ℕ, zero, suc}
-use mathlib.Core.Path.{_≡_, refl, ap, _∙_}
-use mathlib.Core.Logic.{_≢_, _⊎_, inl, inr}
+use mathlib.Core.Path.{_≡_, refl, ap}
+use mathlib.Core.Logic.{_⊎_, inl, inr}
 use mathlib.Core.Option.{none, some}
 use native.Mathlib.Omega.{arith}
 use lib.ListN.{getElem?}
-use Rattle.calculus.specs.Expression.{Value, name, Unary, join, ref, read, freelock, lock, unlock, post, wait, Redex, unary-redex, Next, is-value, at-variable, at-word, next}
-use Rattle.calculus.specs.State.{LockState, opened, Slot, identifier, a-lock, semaphore, Thread, State, first, Move}
-use Rattle.calculus.specs.Reduction.{if-unused, if-identifier, content, lock-state, count, if-equal, value-of, word-of, named, taken, reduct, reduce}
-use Rattle.calculus.specs.Claim.{ThreadAt, Finished, finished, Waits, at-join, at-lock, at-freelock, at-wait, Halts, HaltsWell}
+use Rattle.calculus.specs.Expression.{Value, name, Unary, join, ref, read, lock, unlock, post, wait, Redex, unary-redex, Next, is-value, at-variable, at-word, next}
+use Rattle.calculus.specs.State.{LockState, opened, closed, Slot, identifier, a-lock, semaphore, Thread, State, first, Move}
+use Rattle.calculus.specs.Reduction.{if-unused, if-identifier, content, lock-state, count, if-equal, value-of, word-of, named, reduct, reduce}
+use Rattle.calculus.specs.Claim.{ThreadAt, Finished, finished, Waits, at-join, at-lock, at-wait, Halts, HaltsWell}
 use Rattle.calculus.specs.Capability.{Cap}
 use Rattle.calculus.specs.Figure5.{Ty, ref-type, tid-type, empty, as-it-is}
 use Rattle.calculus.proofs.Laws.Maps.{some-is-not-none, bind-goes-on}
 use Rattle.calculus.proofs.Laws.NextWord.{next-is-value}
 use Rattle.calculus.proofs.Laws.Questions.{equal-is-told}
-use Rattle.calculus.proofs.Typing.{ValueTyped, name-typed, OwnLock, own-lock, UnaryTyped, join-typed, ref-typed, read-typed, freelock-typed, lock-typed, unlock-typed, post-typed, wait-typed}
+use Rattle.calculus.proofs.Typing.{ValueTyped, name-typed, OwnLock, own-lock, UnaryTyped, join-typed, ref-typed, read-typed, lock-typed, unlock-typed, post-typed, wait-typed}
 use Rattle.calculus.proofs.Focus.{RedexTyped, let-redex-typed, if-redex-typed, while-redex-typed, spawn-redex-typed, write-redex-typed, unary-redex-typed, make-redex-typed, focus, closed-has-no-variable}
 use Rattle.calculus.proofs.Pool.{member}
 use Rattle.calculus.proofs.Invariant.{identifier-there, cell-there, lock-there, semaphore-there, WellTyped}
@@ -61,9 +61,10 @@ module _ {D : ℕ} {s : State} (I : WellTyped D s) (i : ℕ) (t : Thread) (there
   lock-named : {n : ℕ} {Ψᵢ Ψₒ : Cap} → OwnLock (I .N) n Ψᵢ Ψₒ → (l : LockState) × (s .names n ≡ a-lock l)
   lock-named {n} own = let (l, found, _) = lock-there (rw (own .known) at (I .slots n)) in (l, found)
 
-  -- A word that takes a lock goes ahead if the lock is open.
-  not-open : {l : LockState} (n : ℕ) (after : Slot) → s .names n ≡ a-lock l → taken s (listed i 0 0) t (name n) after ≡ none → l ≢ opened
-  not-open n after found h e = some-is-not-none (bind-goes-on (lock-state (s .names n)) _ (ap lock-state (found ∙ ap a-lock e)) h)
+  -- A `lock` whose lock is open goes ahead.
+  lock-waits : {n : ℕ} (l : LockState) → next (t .body) ≡ at-word (unary-redex lock (name n)) → s .names n ≡ a-lock l → Waits s t
+  lock-waits {n} opened word found = some-is-not-none (bind-goes-on (lock-state (s .names n)) _ (ap lock-state found) (no-reduct word 0 0))
+  lock-waits {n} closed word found = at-lock n word found
 
   -- A `wait` whose count is above 0 goes ahead.
   wait-waits : {n : ℕ} (c : ℕ) → next (t .body) ≡ at-word (unary-redex wait (name n)) → s .names n ≡ semaphore c → Waits s t
@@ -76,10 +77,8 @@ module _ {D : ℕ} {s : State} (I : WellTyped D s) (i : ℕ) (t : Thread) (there
   unary-halts ref word typed (ref-typed enough) = named-goes-ahead _ (no-reduct word 0 (I .top))
   unary-halts read word (name-typed {n = n} known as-it-is) (read-typed some-of-it enough) =
       some-is-not-none (bind-goes-on (content (s .names n)) _ (cell-has-content known .1) (no-reduct word 0 0))
-  unary-halts freelock word (name-typed {n = n} known shown) (freelock-typed gains) =
-      let (l, found) = lock-named {n = n} (own-lock known shown) in at-freelock n l word found (not-open n _ found (no-reduct word 0 0))
   unary-halts lock word (name-typed {n = n} known shown) (lock-typed gains) =
-      let (l, found) = lock-named {n = n} (own-lock known shown) in at-lock n l word found (not-open n _ found (no-reduct word 0 0))
+      let (l, found) = lock-named {n = n} (own-lock known shown) in lock-waits l word found
   unary-halts unlock word (name-typed {n = n} known shown) (unlock-typed pays) =
       let (l, found) = lock-named {n = n} (own-lock known shown) in
       some-is-not-none (bind-goes-on (lock-state (s .names n)) _ (ap lock-state found) (no-reduct word 0 0))

@@ -7,7 +7,7 @@ use mathlib.Core.List.{List}
 use native.Mathlib.Decide.{ℕ-discrete}
 use native.Mathlib.Omega.{arith}
 use Rattle.calculus.specs.Expression.{Value, choose}
-use Rattle.calculus.specs.State.{LockState, opened, closed, removed, Slot, unused, identifier, cell, a-lock, semaphore, Thread, State, update}
+use Rattle.calculus.specs.State.{LockState, opened, closed, Slot, unused, identifier, cell, a-lock, semaphore, Thread, State, update}
 use Rattle.calculus.specs.Capability.{Cap, nothing, _≥ᶜ_}
 use Rattle.calculus.specs.Figure5.{Ty, int-type, ref-type, lock-type, tid-type, sem-type, Env}
 use Rattle.calculus.proofs.Laws.Maps.{update-same, update-other, update-above}
@@ -19,8 +19,8 @@ use Rattle.calculus.proofs.Laws.Total.{total, total-with-one-changed}
 
 -- ---- Slots
 
--- A slot has the type that its name has; a name has none until it is used. A lock's type does not change as it opens, closes
--- and is removed, and hands out no more than it takes.
+-- A slot has the type that its name has; a name has none until it is used. A lock's type does not change as it opens and
+-- closes, and hands out no more than it takes.
 pub data SlotTyped (N : Env) : Slot → Option Ty → Type 0 where
   slot-unused : SlotTyped N unused none
   slot-identifier : {K : Cap} → SlotTyped N identifier (some (tid-type K))
@@ -65,7 +65,6 @@ keeps identifier K = nothing
 keeps (cell v) K = nothing
 keeps (a-lock opened) K = K
 keeps (a-lock closed) K = nothing
-keeps (a-lock removed) K = nothing
 keeps (semaphore c) K = c ×ᶜ K
 
 -- What the thing named n keeps of location ρ.

@@ -1,14 +1,14 @@
 -- A reduction keeps a state well typed (Lemma 2.4).
 use Prim.Native.Nat.{ℕ, suc}
-use mathlib.Core.Path.{_≡_, refl, sym, ap, _∙_}
+use mathlib.Core.Path.{_≡_, sym, ap, _∙_}
 use mathlib.Core.Logic.{_≢_}
 use mathlib.Core.Option.{Option, some}
 use native.Mathlib.Nat.{zero-mul, suc-mul}
 use native.Mathlib.Omega.{arith}
 use lib.ListN.{getElem?}
-use Rattle.calculus.specs.Expression.{Value, name, Unary, join, ref, read, freelock, lock, unlock, post, wait, newtid, newlock, newsem, Exp, value, let-in, if, while, Redex, let-redex, if-redex, while-redex, spawn-redex, write-redex, unary-redex, make-redex, is-value, at-word, next, substitute}
-use Rattle.calculus.specs.State.{LockState, opened, closed, removed, a-lock, semaphore, Thread, State, Part, first, second, Move}
-use Rattle.calculus.specs.Reduction.{if-identifier, content, lock-state, if-opened, count, one-less, if-equal, value-of, word-of, zero-exp, nowhere, part-listed, taken, unary-reduct, reduct, reduce}
+use Rattle.calculus.specs.Expression.{Value, name, Unary, join, ref, read, lock, unlock, post, wait, newtid, newlock, newsem, Exp, value, let-in, if, while, Redex, let-redex, if-redex, while-redex, spawn-redex, write-redex, unary-redex, make-redex, is-value, at-word, next, substitute}
+use Rattle.calculus.specs.State.{opened, a-lock, semaphore, Thread, State, Part, first, second, Move}
+use Rattle.calculus.specs.Reduction.{if-identifier, content, lock-state, if-opened, count, one-less, if-equal, value-of, word-of, zero-exp, nowhere, part-listed, unary-reduct, reduct, reduce}
 use Rattle.calculus.specs.Claim.{ThreadAt}
 use Rattle.calculus.specs.Capability.{Cap, _≥ᶜ_}
 use Rattle.calculus.specs.Figure5.{Ty, int-type, ref-type, lock-type, tid-type, sem-type, Env, empty, bind, as-it-is}
@@ -17,7 +17,7 @@ use Rattle.calculus.proofs.Laws.Places.{set-elsewhere}
 use Rattle.calculus.proofs.Laws.Order.{_+ᶜ_, Gains, Pays, ≥-trans, ≥-refl, gains-at-most}
 use Rattle.calculus.proofs.Laws.NextWord.{word-is-no-value}
 use Rattle.calculus.proofs.Laws.Questions.{opened-tells, one-less-tells, equal-tells, value-tells, word-tells}
-use Rattle.calculus.proofs.Typing.{ValueTyped, int-typed, name-typed, OwnLock, own-lock, UnaryTyped, join-typed, ref-typed, read-typed, freelock-typed, lock-typed, unlock-typed, post-typed, wait-typed, newtid-typed, newlock-typed, newsem-typed, Typed, value-typed, let-typed, if-typed, while-typed, typing-weakens}
+use Rattle.calculus.proofs.Typing.{ValueTyped, int-typed, name-typed, OwnLock, own-lock, UnaryTyped, join-typed, ref-typed, read-typed, lock-typed, unlock-typed, post-typed, wait-typed, newtid-typed, newlock-typed, newsem-typed, Typed, value-typed, let-typed, if-typed, while-typed, typing-weakens}
 use Rattle.calculus.proofs.Substitution.{⊆-refl, value-grows, typing-grows, bind-extends-empty, substitution-keeps}
 use Rattle.calculus.proofs.Focus.{RedexTyped, let-redex-typed, if-redex-typed, while-redex-typed, spawn-redex-typed, write-redex-typed, unary-redex-typed, make-redex-typed, focus, typed-is-value}
 use Rattle.calculus.proofs.Pool.{ThreadTyped, pool-weakens, pool-with-last, Member, member}
@@ -71,25 +71,17 @@ module _ {D : ℕ} {s : State} (I : WellTyped D s) (m : Move) (t : Thread) (h : 
       let (w, found, typed) = cell-there (rw known at (I .slots n)) in
       thread-alone-keeps M (value w) (value-typed typed enough) (bind-goes-on (content (s .names n)) _ (ap content found) q)
 
-  -- An open lock keeps what it takes, Ψₒ, and the thread takes out of it no more than it hands out, Ψᵢ; closed or removed it keeps
-  -- nothing. Here it counts that a lock hands out no more than it takes.
-  taken-keeps : {Φ Ψᵢ Ψₒ : Cap} {n : ℕ} {s′ : State} (l : LockState) → ((Ψ : Cap) (ρ : ℕ) → keeps (a-lock l) Ψ ρ ≡ 0) →
-      (M : Place D s I m t h int-type Φ) → OwnLock (I .N) n Ψᵢ Ψₒ → Gains Φ (h .own) Ψᵢ → taken s m t (name n) (a-lock l) ≡ some s′ → WellTyped D s′
-  taken-keeps {Ψᵢ} {n} after spent M own gains q =
+  -- An open lock keeps what it takes, Ψₒ, and the thread takes out of it no more than it hands out, Ψᵢ; closed it keeps nothing. Here
+  -- it counts that a lock hands out no more than it takes.
+  lock-keeps : {Φ Ψᵢ Ψₒ : Cap} {n : ℕ} {s′ : State} (M : Place D s I m t h int-type Φ) → OwnLock (I .N) n Ψᵢ Ψₒ →
+      Gains Φ (h .own) Ψᵢ → unary-reduct s m t lock (name n) ≡ some s′ → WellTyped D s′
+  lock-keeps {Ψᵢ} {n} M own gains q =
       let (l, found, covers) = lock-there (rw (own .known) at (I .slots n)) in
       let (_, o, q₁) = bind-is-some (if-opened l) (bind-goes-on (lock-state (s .names n)) _ (ap lock-state found) q) in
       let was-open : s .names n ≡ a-lock opened = found ∙ ap a-lock (opened-tells l o) in
-      slot-change-keeps M n (a-lock after) (lock-type (own .Ψᵢ) (own .Ψₒ)) (h .own +ᶜ Ψᵢ) zero-exp (own .known) (slot-lock covers)
+      slot-change-keeps M n _ (lock-type (own .Ψᵢ) (own .Ψₒ)) (h .own +ᶜ Ψᵢ) zero-exp (own .known) (slot-lock covers)
       (zero-typed-with gains)
-      (λ ρ. omega (arith, spent (own .Ψₒ) ρ, own .no-more-out .at ρ, covers .at ρ, ap (λ z. keeps z (own .Ψₒ) ρ) was-open)) q₁
-
-  freelock-keeps : {Φ Ψᵢ Ψₒ : Cap} {n : ℕ} {s′ : State} (M : Place D s I m t h int-type Φ) → OwnLock (I .N) n Ψᵢ Ψₒ →
-      Gains Φ (h .own) Ψᵢ → unary-reduct s m t freelock (name n) ≡ some s′ → WellTyped D s′
-  freelock-keeps = taken-keeps removed (λ Ψ ρ. refl)
-
-  lock-keeps : {Φ Ψᵢ Ψₒ : Cap} {n : ℕ} {s′ : State} (M : Place D s I m t h int-type Φ) → OwnLock (I .N) n Ψᵢ Ψₒ →
-      Gains Φ (h .own) Ψᵢ → unary-reduct s m t lock (name n) ≡ some s′ → WellTyped D s′
-  lock-keeps = taken-keeps closed (λ Ψ ρ. refl)
+      (λ ρ. omega (arith, own .no-more-out .at ρ, covers .at ρ, ap (λ z. keeps z (own .Ψₒ) ρ) was-open)) q₁
 
   -- Whatever the lock kept, the thread pays no less than it keeps from now on.
   unlock-keeps : {Φ Ψᵢ Ψₒ : Cap} {n : ℕ} {s′ : State} (M : Place D s I m t h int-type Φ) → OwnLock (I .N) n Ψᵢ Ψₒ →
@@ -124,7 +116,6 @@ module _ {D : ℕ} {s : State} (I : WellTyped D s) (m : Move) (t : Thread) (h : 
   unary-keeps join M there word (name-typed known as-it-is) (join-typed gains) q = join-keeps M there word known gains q
   unary-keeps ref M there word typed (ref-typed enough) q = ref-keeps M typed enough q
   unary-keeps read M there word (name-typed known as-it-is) (read-typed some-of-it enough) q = read-keeps M known enough q
-  unary-keeps freelock M there word (name-typed known shown) (freelock-typed gains) q = freelock-keeps M (own-lock known shown) gains q
   unary-keeps lock M there word (name-typed known shown) (lock-typed gains) q = lock-keeps M (own-lock known shown) gains q
   unary-keeps unlock M there word (name-typed known shown) (unlock-typed pays) q = unlock-keeps M (own-lock known shown) pays q
   unary-keeps post M there word (name-typed known as-it-is) (post-typed pays) q = post-keeps M known pays q

@@ -3,9 +3,9 @@ use Prim.Native.Nat.{ℕ, _≤_, _<_}
 use mathlib.Core.Path.{_≡_}
 use mathlib.Core.Option.{some}
 use native.Mathlib.Nat.{le-trans}
-use Rattle.calculus.specs.Expression.{Value, int, name, Unary, join, ref, read, freelock, lock, unlock, post, wait, Maker, newtid, newlock, newsem, Exp, value, var, let-in, if, while, spawn, write, unary, make}
+use Rattle.calculus.specs.Expression.{Value, int, name, Unary, join, ref, read, lock, unlock, post, wait, Maker, newtid, newlock, newsem, Exp, value, var, let-in, if, while, spawn, write, unary, make}
 use Rattle.calculus.specs.Capability.{Cap, _≥ᶜ_}
-use Rattle.calculus.specs.Figure5.{Ty, int-type, ref-type, lock-type, tid-type, sem-type, _shown-as_, as-it-is, looser, Env, bind, _∣_∣_⊢_∶_∣_, VAR, INT, LET, IF, WHILE, NEWT, SPAWN, JOIN, REF, WRITE, READ, NEWL, FREEL, LCK, ULCK, NEWSEM, POST, WAIT}
+use Rattle.calculus.specs.Figure5.{Ty, int-type, ref-type, lock-type, tid-type, sem-type, _shown-as_, as-it-is, looser, Env, bind, _∣_∣_⊢_∶_∣_, VAR, INT, LET, IF, WHILE, NEWT, SPAWN, JOIN, REF, WRITE, READ, NEWL, LCK, ULCK, NEWSEM, POST, WAIT}
 use Rattle.calculus.proofs.Laws.Order.{Gains, Pays, ≥-trans, ≥-refl, gains-weakens, pays-weakens, sum-gains, sum-pays}
 
 -- ---- Values
@@ -43,7 +43,6 @@ pub data UnaryTyped (D : ℕ) : Unary → Ty → Cap → Ty → Cap → Type 0 w
   join-typed : {K Ψ Φ : Cap} → Gains Φ Ψ K → UnaryTyped D join (tid-type K) Ψ int-type Φ
   ref-typed : {τ : Ty} {ρ : ℕ} {Ψ Φ : Cap} → Ψ ≥ᶜ Φ → UnaryTyped D ref τ Ψ (ref-type ρ τ) Φ
   read-typed : {τ : Ty} {ρ : ℕ} {Ψ Φ : Cap} → 0 < Ψ ρ → Ψ ≥ᶜ Φ → UnaryTyped D read (ref-type ρ τ) Ψ τ Φ
-  freelock-typed : {Ψᵢ Ψₒ Ψ Φ : Cap} → Gains Φ Ψ Ψᵢ → UnaryTyped D freelock (lock-type Ψᵢ Ψₒ) Ψ int-type Φ
   lock-typed : {Ψᵢ Ψₒ Ψ Φ : Cap} → Gains Φ Ψ Ψᵢ → UnaryTyped D lock (lock-type Ψᵢ Ψₒ) Ψ int-type Φ
   unlock-typed : {Ψᵢ Ψₒ Ψ Φ : Cap} → Pays Φ Ψ Ψₒ → UnaryTyped D unlock (lock-type Ψᵢ Ψₒ) Ψ int-type Φ
   post-typed : {K Ψ Φ : Cap} → Pays Φ Ψ K → UnaryTyped D post (sem-type K) Ψ int-type Φ
@@ -78,7 +77,6 @@ pub unary-weakens : {D : ℕ} {o : Unary} {σ τ : Ty} {Ψ Ψ′ Φ Φ′ : Cap}
 unary-weakens (join-typed h) a b = join-typed (gains-weakens h a b)
 unary-weakens (ref-typed h) a b = ref-typed (≥-trans a (≥-trans h b))
 unary-weakens (read-typed {ρ = ρ} g h) a b = read-typed {ρ = ρ} (le-trans g (a .at ρ)) (≥-trans a (≥-trans h b))
-unary-weakens (freelock-typed h) a b = freelock-typed (gains-weakens h a b)
 unary-weakens (lock-typed h) a b = lock-typed (gains-weakens h a b)
 unary-weakens (unlock-typed h) a b = unlock-typed (pays-weakens h a b)
 unary-weakens (post-typed h) a b = post-typed (pays-weakens h a b)
@@ -117,7 +115,6 @@ derived-is-typed N (REF e) = unary-typed (derived-is-typed N e) (ref-typed ≥-r
 derived-is-typed N (WRITE e₁ e₂ g) = write-typed (derived-is-typed N e₁) (derived-is-typed N e₂) g ≥-refl
 derived-is-typed N (READ e g) = unary-typed (derived-is-typed N e) (read-typed g ≥-refl)
 derived-is-typed N (NEWL g h) = make-typed (newlock-typed g (sum-pays h))
-derived-is-typed N (FREEL e h) = unary-typed (derived-is-typed N e) (freelock-typed (sum-gains h))
 derived-is-typed N (LCK e h) = unary-typed (derived-is-typed N e) (lock-typed (sum-gains h))
 derived-is-typed N (ULCK e h) = unary-typed (derived-is-typed N e) (unlock-typed (sum-pays h))
 derived-is-typed N NEWSEM = make-typed (newsem-typed ≥-refl)

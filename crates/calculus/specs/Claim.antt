@@ -6,8 +6,8 @@ use mathlib.Core.Logic.{_≢_, _⊎_}
 use mathlib.Core.Option.{Option, none, some}
 use mathlib.Core.List.{List, [], _∷_}
 use lib.ListN.{getElem?}
-use Rattle.calculus.specs.Expression.{Value, name, join, read, freelock, lock, wait, Exp, value, write-redex, unary-redex, at-word, next}
-use Rattle.calculus.specs.State.{LockState, opened, identifier, cell, a-lock, semaphore, Thread, State, Move}
+use Rattle.calculus.specs.Expression.{Value, name, join, read, lock, wait, Exp, value, write-redex, unary-redex, at-word, next}
+use Rattle.calculus.specs.State.{closed, identifier, cell, a-lock, semaphore, Thread, State, Move}
 use Rattle.calculus.specs.Reduction.{_>>=_, reduce, states, run, start}
 
 -- Thread t stands at place i.
@@ -38,14 +38,12 @@ RaceFree s = ¬ Race s
 pub data Finished (t : Thread) : Type 0 where
   finished : (v : Value) → t .body ≡ value v → Finished t
 
--- "It waits at a `join` on an identifier that no finished thread has, and at a `lock` or `freelock` on a lock that is not open",
--- and, by request (vi), at a `wait` on a count of 0.
+-- "It waits at a `join` on an identifier that no finished thread has, and at a `lock` [..] on a lock that is not open", and, by
+-- request (vi), at a `wait` on a count of 0.
 pub data Waits (s : State) (t : Thread) : Type 0 where
   at-join : (n : ℕ) → next (t .body) ≡ at-word (unary-redex join (name n)) → s .names n ≡ identifier →
       ((j : ℕ) (u : Thread) → ThreadAt s j u → u .tid ≡ n → ¬ Finished u) → Waits s t
-  at-lock : (n : ℕ) (l : LockState) → next (t .body) ≡ at-word (unary-redex lock (name n)) → s .names n ≡ a-lock l → l ≢ opened → Waits s t
-  at-freelock : (n : ℕ) (l : LockState) → next (t .body) ≡ at-word (unary-redex freelock (name n)) → s .names n ≡ a-lock l → l ≢ opened →
-      Waits s t
+  at-lock : (n : ℕ) → next (t .body) ≡ at-word (unary-redex lock (name n)) → s .names n ≡ a-lock closed → Waits s t
   at-wait : (n : ℕ) → next (t .body) ≡ at-word (unary-redex wait (name n)) → s .names n ≡ semaphore 0 → Waits s t
   -- No other word waits; an `unlock`, above all, goes ahead on any lock.
 

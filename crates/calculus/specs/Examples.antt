@@ -1,7 +1,7 @@
 -- Programs of the paper and a few beside them, with moves that run them. What they show is proved in proofs/Examples.
 use Prim.Native.Nat.{ℕ, zero, suc}
 use mathlib.Core.List.{List, [], _∷_}
-use Rattle.calculus.specs.Expression.{int, Unary, join, ref, read, freelock, lock, unlock, post, wait, newtid, newlock, newsem, Exp, value, var, let-in, if, while, spawn, write, unary, make}
+use Rattle.calculus.specs.Expression.{int, Unary, join, ref, read, lock, unlock, post, wait, newtid, newlock, newsem, Exp, value, var, let-in, if, while, spawn, write, unary, make}
 use Rattle.calculus.specs.State.{first, second, Move}
 use Rattle.calculus.specs.Reduction.{nowhere}
 use Rattle.calculus.specs.Capability.{Cap}
@@ -236,22 +236,3 @@ moves-post-of-lock = names 0 1 ∷ goes 0 ∷ []
 -- A word with one part on a constant.
 abbrev pub on-constant : Unary → Exp
 on-constant o = unary o (constant 0)
-
--- A lock that lends the whole of x is freed, and another, which lends nothing, is made. Then the freed one is locked.
-abbrev pub freed-lock : Exp
-freed-lock =
-    let-in 0 (unary ref (constant 0))
-    (let-in 1 (make newlock)
-    (unary freelock (var 1)
-    ⨾ let-in 2 (make newlock)
-    (unary lock (var 1)
-    ⨾ spawn (make newtid) (write (var 0) (constant 1))
-    ⨾ write (var 0) (constant 2))))
-
--- Up to the second `newlock`; the freed lock is 2.
-abbrev pub moves-freed-lock : List Move
-moves-freed-lock = names 0 1 ∷ goes 0 ∷ names 0 2 ∷ goes 0 ∷ goes 0 ∷ goes 0 ∷ []
-
--- From there, were 2 unused again: the new lock gets it, the first thread locks it, spawns, and both are about to write.
-abbrev pub moves-name-back : List Move
-moves-name-back = names 0 2 ∷ goes 0 ∷ goes 0 ∷ goes 0 ∷ names 0 3 ∷ goes 0 ∷ goes 0 ∷ []

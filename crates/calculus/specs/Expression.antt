@@ -12,7 +12,7 @@ pub data Value : Type 0 where
 
 -- The words with one part, which must be a value before they reduce. `while` has one part too, but reduces with it as it is.
 pub data Unary : Type 0 where
-  join ref read freelock lock unlock post wait : Unary
+  join ref read lock unlock post wait : Unary
 
 -- The words with no part that make a new thing.
 pub data Maker : Type 0 where

@@ -1,14 +1,14 @@
--- Figure 5: Γ, Ψ ⊢ e : τ, Ψ′, one constructor a printed rule, in the printed order and with the printed names; then the rules of
--- Section 3.1.4 for semaphores, under the names of their words. Locks are those of Section 3.1.6.
+-- Figure 5: Γ, Ψ ⊢ e : τ, Ψ′, one constructor a word, in the printed order and with the printed names; then the rules of Section 3.1.4
+-- for semaphores, under the names of their words. Locks are those of Section 3.1.6.
 use Prim.Native.Nat.{ℕ, _≤_, _<_}
 use mathlib.Core.Path.{_≡_}
 use mathlib.Core.Option.{Option, none, some}
-use Rattle.calculus.specs.Expression.{int, join, ref, read, freelock, lock, unlock, post, wait, newtid, newlock, newsem, Exp, value, var, let-in, if, while, spawn, write, unary, make}
+use Rattle.calculus.specs.Expression.{int, join, ref, read, lock, unlock, post, wait, newtid, newlock, newsem, Exp, value, var, let-in, if, while, spawn, write, unary, make}
 use Rattle.calculus.specs.State.{update}
 use Rattle.calculus.specs.Capability.{Cap, _≥ᶜ_, _≈_⊕_}
 
--- The types of Section 2.2 and of Section 3.1.4, as trees. A lock has two capabilities, Ψᵢ and Ψₒ of Section 3.1.6: `lock` and `freelock`
--- hand out Ψᵢ, `newlock` and `unlock` take Ψₒ.
+-- The types of Section 2.2 and of Section 3.1.4, as trees. A lock has two capabilities, Ψᵢ and Ψₒ of Section 3.1.6: `lock` hands out
+-- Ψᵢ, `newlock` and `unlock` take Ψₒ.
 pub data Ty : Type 0 where
   int-type : Ty
   ref-type : ℕ → Ty → Ty
@@ -70,9 +70,6 @@ pub data _∣_∣_⊢_∶_∣_ (D : ℕ) : Env → Cap → Exp → Ty → Cap �
       D ∣ Γ ∣ Ψ ⊢ e ∶ ref-type ρ τ ∣ Ψ₁ → 0 < Ψ₁ ρ →
       D ∣ Γ ∣ Ψ ⊢ unary read e ∶ τ ∣ Ψ₁
   NEWL : {Γ : Env} {Ψ Ψᵢ Ψₒ Ψ₂ : Cap} → Ψₒ ≥ᶜ Ψᵢ → Ψ ≈ Ψ₂ ⊕ Ψₒ → D ∣ Γ ∣ Ψ ⊢ make newlock ∶ lock-type Ψᵢ Ψₒ ∣ Ψ₂
-  FREEL : {Γ : Env} {Ψ Ψᵢ Ψₒ Ψ₂ Ψ₃ : Cap} {e : Exp} →
-      D ∣ Γ ∣ Ψ ⊢ e ∶ lock-type Ψᵢ Ψₒ ∣ Ψ₂ → Ψ₃ ≈ Ψ₂ ⊕ Ψᵢ →
-      D ∣ Γ ∣ Ψ ⊢ unary freelock e ∶ int-type ∣ Ψ₃
   LCK : {Γ : Env} {Ψ Ψᵢ Ψₒ Ψ₂ Ψ₃ : Cap} {e : Exp} →
       D ∣ Γ ∣ Ψ ⊢ e ∶ lock-type Ψᵢ Ψₒ ∣ Ψ₂ → Ψ₃ ≈ Ψ₂ ⊕ Ψᵢ →
       D ∣ Γ ∣ Ψ ⊢ unary lock e ∶ int-type ∣ Ψ₃

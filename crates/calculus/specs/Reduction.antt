@@ -4,8 +4,8 @@ use mathlib.Core.Option.{Option, none, some}
 use mathlib.Core.List.{List, [], _∷_, _++_}
 use native.Mathlib.Decide.{ℕ-discrete}
 use lib.ListN.{getElem?, set}
-use Rattle.calculus.specs.Expression.{Value, int, name, Unary, join, ref, read, freelock, lock, unlock, post, wait, Maker, newtid, newlock, newsem, Exp, value, let-in, if, while, Redex, let-redex, if-redex, while-redex, spawn-redex, write-redex, unary-redex, make-redex, Next, is-value, at-variable, at-word, next, plug, choose, substitute}
-use Rattle.calculus.specs.State.{LockState, opened, closed, removed, Slot, unused, identifier, cell, a-lock, semaphore, Thread, State, Part, first, second, Move, update, remove}
+use Rattle.calculus.specs.Expression.{Value, int, name, Unary, join, ref, read, lock, unlock, post, wait, Maker, newtid, newlock, newsem, Exp, value, let-in, if, while, Redex, let-redex, if-redex, while-redex, spawn-redex, write-redex, unary-redex, make-redex, Next, is-value, at-variable, at-word, next, plug, choose, substitute}
+use Rattle.calculus.specs.State.{LockState, opened, closed, Slot, unused, identifier, cell, a-lock, semaphore, Thread, State, Part, first, second, Move, update, remove}
 
 -- ---- What a word asks before it reduces: `none` where the answer is no
 
@@ -45,7 +45,7 @@ content (cell v) = some v
 content (a-lock l) = none
 content (semaphore c) = none
 
--- Whether a lock is open, closed or removed.
+-- Whether a lock is open or closed.
 abbrev pub lock-state : Slot → Option LockState
 lock-state unused = none
 lock-state identifier = none
@@ -56,7 +56,6 @@ lock-state (semaphore c) = none
 abbrev pub if-opened : LockState → Option (Unit {0})
 if-opened opened = some tt
 if-opened closed = none
-if-opened removed = none
 
 -- The count of a semaphore.
 abbrev pub count : Slot → Option ℕ
@@ -117,17 +116,9 @@ named s m t new = do
   if-unused (s .names (m .fresh))
   some (becomes s m t (update (s .names) (m .fresh) new) (value (name (m .fresh))))
 
--- `lock` and `freelock` wait unless the lock is open; what its slot is afterwards is told.
-abbrev pub taken : State → Move → Thread → Value → Slot → Option State
-taken s m t v after = do
-  n ← name-of v
-  l ← lock-state (s .names n)
-  if-opened l
-  some (becomes s m t (update (s .names) n after) zero-exp)
-
--- The words with one part, on its value. `unlock` asks for a lock and no more: it goes ahead on a closed, an open or a removed
--- one. `join` is of a finished thread, and the thread that joins has not finished, so it stays. "Post adds one and never waits";
--- `wait` "needs a count above 0 and takes one".
+-- The words with one part, on its value. `join` is of a finished thread, and the thread that joins has not finished, so it stays.
+-- `lock` waits unless the lock is open; `unlock` asks for a lock and no more: it goes ahead on an open one too. "Post adds one and
+-- never waits"; `wait` "needs a count above 0 and takes one".
 abbrev pub unary-reduct : State → Move → Thread → Unary → Value → Option State
 unary-reduct s m t join v = do
   n ← name-of v
@@ -141,8 +132,11 @@ unary-reduct s m t read v = do
   n ← name-of v
   w ← content (s .names n)
   some (becomes s m t (s .names) (value w))
-unary-reduct s m t freelock v = taken s m t v (a-lock removed)
-unary-reduct s m t lock v = taken s m t v (a-lock closed)
+unary-reduct s m t lock v = do
+  n ← name-of v
+  l ← lock-state (s .names n)
+  if-opened l
+  some (becomes s m t (update (s .names) n (a-lock closed)) zero-exp)
 unary-reduct s m t unlock v = do
   n ← name-of v
   lock-state (s .names n)

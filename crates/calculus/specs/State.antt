@@ -1,15 +1,14 @@
 -- States and moves. Document 01: "a state is threads in spawn order, each an identifier and an expression; cells with their
--- values; locks, open, closed or removed; and the names used so far". Request (vi) adds semaphores with their counts.
+-- values; locks", open or closed; "and the names used so far". Request (vi) adds semaphores with their counts.
 use Prim.Native.Nat.{ℕ, zero, suc}
 use mathlib.Core.List.{List, [], _∷_}
 use native.Mathlib.Decide.{ℕ-discrete}
 use Rattle.calculus.specs.Expression.{Value, Exp, choose}
 
 pub data LockState : Type 0 where
-  opened closed removed : LockState
+  opened closed : LockState
 
--- What a name names. A name is used so far when its slot is not `unused`; the slot of a freed lock is `a-lock removed`, so a
--- freed name stays used.
+-- What a name names. A name is used so far when its slot is not `unused`.
 pub data Slot : Type 0 where
   unused : Slot
   identifier : Slot

@@ -18,7 +18,7 @@ use Rattle.spec.specs.declared.Location.{Location}
 use Rattle.spec.specs.declared.LeafWord.{LeafWord}
 use Rattle.spec.specs.declared.LeafWord.the-variants.{Var, Int, Newtid, Newlock, Newsem}
 use Rattle.spec.specs.declared.UnaryWord.{UnaryWord}
-use Rattle.spec.specs.declared.UnaryWord.the-variants.{While, Join, Ref, Read, Freelock, Lock, Unlock, Post, Wait}
+use Rattle.spec.specs.declared.UnaryWord.the-variants.{While, Join, Ref, Read, Lock, Unlock, Post, Wait}
 use Rattle.spec.specs.declared.BinaryWord.{BinaryWord}
 use Rattle.spec.specs.declared.BinaryWord.the-variants.{Let, If, Spawn, Write}
 use Rattle.filling.specs.Flow.{taking, Flow, inTurn, branch, fork, Turns, Passes}
@@ -164,10 +164,6 @@ module _ {ss : List Step} {S : Split} {σ : List Map} {T : Split} (G : Showing s
       1 _ (ltb-true _ _, lt-ltb _ _))
   flow-at-each-location Γ (leaf Newlock k v) i P before =
       no-part Γ _ Newlock k v (lastly (takes (G .posts _ P) before (G .outs (leaf Newlock k v))))
-  flow-at-each-location Γ (unary Freelock k v e₁) i P before =
-      one-part Γ _ Freelock k v e₁
-      (flow-at-each-location Γ e₁ (i + 1) (part P) before)
-      (lastly (gives (G .posts _ P) (G .posts e₁ (part P)) (G .ins e₁)))
   flow-at-each-location Γ (unary Lock k v e₁) i P before =
       one-part Γ _ Lock k v e₁
       (flow-at-each-location Γ e₁ (i + 1) (part P) before)

@@ -12,7 +12,7 @@ use Rattle.spec.specs.Ranges.{InRange}
 use Rattle.spec.specs.declared.Location.{Location}
 use Rattle.spec.specs.declared.LeafWord.the-variants.{Var, Int, Newtid, Newlock, Newsem}
 use Rattle.spec.specs.declared.UnaryWord.{UnaryWord}
-use Rattle.spec.specs.declared.UnaryWord.the-variants.{While, Join, Ref, Read, Freelock, Lock, Unlock, Post, Wait}
+use Rattle.spec.specs.declared.UnaryWord.the-variants.{While, Join, Ref, Read, Lock, Unlock, Post, Wait}
 use Rattle.spec.specs.declared.BinaryWord.{BinaryWord}
 use Rattle.spec.specs.declared.BinaryWord.the-variants.{Let, If, Spawn, Write}
 use Rattle.spec.proofs.Listing.{size-positive}
@@ -38,7 +38,6 @@ flow-steps S p (unary Ref k v e₁) = ap suc (flow-steps S p e₁)
 flow-steps S p (binary Write k v e₁ e₂) = rw (flow-steps S p e₁, flow-steps S p e₂)
 flow-steps S p (unary Read k v e₁) = ap suc (flow-steps S p e₁)
 flow-steps S p (leaf Newlock k v) = refl
-flow-steps S p (unary Freelock k v e₁) = ap suc (flow-steps S p e₁)
 flow-steps S p (unary Lock k v e₁) = ap suc (flow-steps S p e₁)
 flow-steps S p (unary Unlock k v e₁) = ap suc (flow-steps S p e₁)
 flow-steps S p (leaf Newsem k v) = refl

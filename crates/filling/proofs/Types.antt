@@ -7,7 +7,7 @@ use Rattle.spec.specs.Conditions.{Env, type, post, start, own}
 use Rattle.spec.specs.Sites.{Site, Claim, sites, bind, preOfPart, preOfSecond, numbered, claimsAt, claims, isType, only}
 use Rattle.spec.specs.Ranges.{InRange}
 use Rattle.spec.specs.declared.LeafWord.the-variants.{Var, Int, Newtid, Newlock, Newsem}
-use Rattle.spec.specs.declared.UnaryWord.the-variants.{While, Join, Ref, Read, Freelock, Lock, Unlock, Post, Wait}
+use Rattle.spec.specs.declared.UnaryWord.the-variants.{While, Join, Ref, Read, Lock, Unlock, Post, Wait}
 use Rattle.spec.specs.declared.BinaryWord.the-variants.{Let, If, Spawn, Write}
 use Rattle.spec.proofs.Claims.{claims-append}
 use Rattle.filling.specs.Filled.{filled}
@@ -59,7 +59,6 @@ module _ {steps : List Step} {S : Split} (R : InRange steps S) (σ : List Map) w
   own-kept Γ pre pre′ (binary Write k v e₁ e₂) = simp (type-kept S σ, kind-kept S σ, contains-kept R σ)
   own-kept Γ pre pre′ (unary Read k v e₁) = simp (type-kept S σ, kind-kept S σ, contains-kept R σ)
   own-kept Γ pre pre′ (leaf Newlock k v) = simp (kind-kept S σ)
-  own-kept Γ pre pre′ (unary Freelock k v e₁) = simp (kind-kept S σ)
   own-kept Γ pre pre′ (unary Lock k v e₁) = simp (kind-kept S σ)
   own-kept Γ pre pre′ (unary Unlock k v e₁) = simp (kind-kept S σ)
   own-kept Γ pre pre′ (leaf Newsem k v) = simp (kind-kept S σ)

@@ -61,10 +61,9 @@ examples =
     ones (0 ∷ 0 ∷ 0 ∷ 1 ∷ 0 ∷ [])) ∷
     -- a while whose part loses
     ("P,5|let,0|newlock,0|while,0|unlock,0|var,0|" with "C2,1,1,2,2,0|int,0,0|lock,1,0|3|1|0,,|1,,|0,,|0,,|1,,|" has none) ∷
-    -- newlock and unlock take out, lock and freelock give in
+    -- newlock and unlock take out, lock gives in
     ("P,7|let,0|newlock,0|let,1|lock,0|var,0|unlock,0|var,0|" with
     "C3,2,1,2,3,0|int,0,0|lock,1,2|4|1|2|0,,|1,,|0,,|0,,|1,,|0,,|1,,|" has ones (1 ∷ 2 ∷ 1 ∷ 3 ∷ 2 ∷ 1 ∷ 3 ∷ [])) ∷
-    ("P,4|let,0|newlock,0|freelock,0|var,0|" with "C3,2,1,2,3,0|int,0,0|lock,1,2|4|1|2|0,,|1,,|0,,|1,,|" has ones (3 ∷ 2 ∷ 3 ∷ 2 ∷ [])) ∷
     -- a post takes, a wait gives
     ("P,7|let,0|newsem,0|let,1|post,0|var,0|wait,0|var,0|" with "C2,2,1,2,2,0|int,0,0|sem,1,0|2|1|0,,|1,,|0,,|0,,|1,,|0,,|1,,|" has
     ones (2 ∷ 2 ∷ 2 ∷ 1 ∷ 2 ∷ 2 ∷ 1 ∷ [])) ∷

@@ -8,7 +8,7 @@ use Rattle.spec.specs.Maps.{share}
 use Rattle.spec.specs.Conditions.{place, kind, start, K, inMap, outMap}
 use Rattle.spec.specs.declared.Location.{Location}
 use Rattle.spec.specs.declared.LeafWord.the-variants.{Var, Int, Newtid, Newlock, Newsem}
-use Rattle.spec.specs.declared.UnaryWord.the-variants.{While, Join, Ref, Read, Freelock, Lock, Unlock, Post, Wait}
+use Rattle.spec.specs.declared.UnaryWord.the-variants.{While, Join, Ref, Read, Lock, Unlock, Post, Wait}
 use Rattle.spec.specs.declared.BinaryWord.the-variants.{Let, If, Spawn, Write}
 use Rattle.filling.specs.Flow.{unchanged, taking, giving, needing, Flow, alone, after, inTurn, branch, loop, fork}
 
@@ -48,7 +48,6 @@ module _ (S : Split) (here : Location) where
   flowOf (binary Write k v e₁ e₂) = inTurn (needing (accessHere e₁ (S .header .denominator))) (flowOf e₁) (flowOf e₂)
   flowOf (unary Read k v e₁) = after (needing (accessHere e₁ 1)) (flowOf e₁)
   flowOf (leaf Newlock k v) = alone (taking (outHere (leaf Newlock k v)))
-  flowOf (unary Freelock k v e₁) = after (giving (inHere e₁)) (flowOf e₁)
   flowOf (unary Lock k v e₁) = after (giving (inHere e₁)) (flowOf e₁)
   flowOf (unary Unlock k v e₁) = after (taking (outHere e₁)) (flowOf e₁)
   flowOf (leaf Newsem k v) = alone unchanged

@@ -7,7 +7,7 @@ use Rattle.spec.specs.Text.{bytes, same, Field}
 use Rattle.spec.specs.declared.Word.{Word}
 use Rattle.spec.specs.declared.Word.the-variants.{Leaf, Unary, Binary}
 use Rattle.spec.specs.declared.LeafWord.the-variants.{Var, Int, Newtid, Newlock, Newsem}
-use Rattle.spec.specs.declared.UnaryWord.the-variants.{While, Join, Ref, Read, Freelock, Lock, Unlock, Post, Wait}
+use Rattle.spec.specs.declared.UnaryWord.the-variants.{While, Join, Ref, Read, Lock, Unlock, Post, Wait}
 use Rattle.spec.specs.declared.BinaryWord.the-variants.{Let, If, Spawn, Write}
 use Rattle.lexer.specs.declared.vocabulary.FoundWord.{FoundWord}
 use Rattle.lexer.specs.declared.vocabulary.FoundWord.the-variants.{Known, Unknown}
@@ -34,7 +34,6 @@ unaryWords =
     ∷ (bytes "join", Unary Join)
     ∷ (bytes "ref", Unary Ref)
     ∷ (bytes "read", Unary Read)
-    ∷ (bytes "freelock", Unary Freelock)
     ∷ (bytes "lock", Unary Lock)
     ∷ (bytes "unlock", Unary Unlock)
     ∷ (bytes "post", Unary Post)

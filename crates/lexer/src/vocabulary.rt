@@ -79,9 +79,6 @@ fn unary_word(field: &[u8]) -> FoundWord
     if same(b"read", field) {
         return FoundWord::Known(Word::Unary(UnaryWord::Read));
     }
-    if same(b"freelock", field) {
-        return FoundWord::Known(Word::Unary(UnaryWord::Freelock));
-    }
     if same(b"lock", field) {
         return FoundWord::Known(Word::Unary(UnaryWord::Lock));
     }

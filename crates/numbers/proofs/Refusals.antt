@@ -5,7 +5,7 @@ use native.Mathlib.Omega.{arith}
 use Rattle.spec.specs.Verdict.{returned, four}
 use Rattle.spec.specs.declared.Answer.the-variants.{Refuse}
 use Rattle.spec.specs.declared.Refusal.{Refusal}
-use Rattle.spec.specs.declared.Refusal.the-variants.{ShortWorkspace, LongProgram, ProgramForm, ProgramRange, ProgramLines, Unbound, Rebound, LongSplit, SplitForm, SplitRange, SplitLines, NoStart, OverOne, TypeFalse, FlowFalse, AccessFalse, NoAfterMaps, TooLarge, TooManyMaps, LockTakesLess}
+use Rattle.spec.specs.declared.Refusal.the-variants.{ShortWorkspace, LongProgram, ProgramForm, ProgramRange, ProgramLines, Unbound, Rebound, LongSplit, SplitForm, SplitRange, SplitLines, NoStart, OverOne, TypeFalse, FlowFalse, AccessFalse, NoAfterMaps, TooLarge, TooManyMaps, LockTakesLess, Freelock}
 
 -- a refusal's number is not 0
 pub refusal-number : (r : Refusal) → 1 ≤ returned (Refuse r) .number
@@ -30,6 +30,7 @@ refusal-number NoAfterMaps = omega arith
 refusal-number TooLarge = omega arith
 refusal-number TooManyMaps = omega arith
 refusal-number (LockTakesLess k) = omega arith
+refusal-number (Freelock k) = omega arith
 
 -- 41 is the number of one refusal alone
 pub only-unsolvable : (r : Refusal) → returned (Refuse r) .number ≡ 41 → r ≡ NoAfterMaps
@@ -54,3 +55,4 @@ only-unsolvable NoAfterMaps h = refl
 only-unsolvable TooLarge h = absurd (omega (arith, h))
 only-unsolvable TooManyMaps h = absurd (omega (arith, h))
 only-unsolvable (LockTakesLess k) h = absurd (omega (arith, h))
+only-unsolvable (Freelock k) h = absurd (omega (arith, h))

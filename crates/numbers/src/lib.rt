@@ -55,6 +55,7 @@ fn refusal_numbers(r: Refusal) -> Returned
         Refusal::TooLarge => four(42, 0, 0, 0),
         Refusal::TooManyMaps => four(43, 0, 0, 0),
         Refusal::LockTakesLess(k) => four(44, k, 0, 0),
+        Refusal::Freelock(k) => four(45, k, 0, 0),
     }
 }
 

@@ -13,7 +13,7 @@ use Rattle.spec.specs.declared.Location.{Location}
 use Rattle.spec.specs.declared.LeafWord.{LeafWord}
 use Rattle.spec.specs.declared.LeafWord.the-variants.{Var, Int, Newtid, Newlock, Newsem}
 use Rattle.spec.specs.declared.UnaryWord.{UnaryWord}
-use Rattle.spec.specs.declared.UnaryWord.the-variants.{While, Join, Ref, Read, Freelock, Lock, Unlock, Post, Wait}
+use Rattle.spec.specs.declared.UnaryWord.the-variants.{While, Join, Ref, Read, Lock, Unlock, Post, Wait}
 use Rattle.spec.specs.declared.BinaryWord.{BinaryWord}
 use Rattle.spec.specs.declared.BinaryWord.the-variants.{Let, If, Spawn, Write}
 use Rattle.workspace.specs.Layout.{wordsAt, leafCode, unaryCode, binaryCode, printed, ruleOf}
@@ -155,9 +155,6 @@ module _ (w : List ℕ) (column : Column) (ss : List Step) (S : Split) (H : Hold
   held-shows k inside vars (leaf Newlock l v) C i =
       let e = leaf Newlock l v in
       leaf-held k Newlock l v (taking (outHere S p e)) C (ap (λ (n : ℕ). Leaf (taking n)) (out-held e k (here-line e C) (omega arith)))
-  held-shows k inside vars (unary Freelock l v e₁) C i =
-      let D = here-part Freelock l v e₁ C in
-      unary-held k Freelock l v e₁ (After (giving (inHere S p e₁))) C (ap (λ (n : ℕ). Unary (After (giving n))) (part-in k e₁ D (omega arith))) (held-shows (k + 1) inside vars e₁ D (omega arith))
   held-shows k inside vars (unary Lock l v e₁) C i =
       let D = here-part Lock l v e₁ C in
       unary-held k Lock l v e₁ (After (giving (inHere S p e₁))) C (ap (λ (n : ℕ). Unary (After (giving n))) (part-in k e₁ D (omega arith))) (held-shows (k + 1) inside vars e₁ D (omega arith))

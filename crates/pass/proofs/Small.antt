@@ -7,7 +7,7 @@ use native.Mathlib.Omega.{arith}
 use lib.ListN.{getD}
 use Rattle.workspace.specs.Layout.{wordsAt, ruleOf, mapCell}
 use Rattle.workspace.specs.declared.Rule.{Rule}
-use Rattle.workspace.specs.declared.Rule.the-variants.{VAR, INT, LET, IF, WHILE, NEWT, SPAWN, JOIN, REF, WRITE, READ, NEWL, FREEL, LCK, ULCK, NEWSEM, POST, WAIT}
+use Rattle.workspace.specs.declared.Rule.the-variants.{VAR, INT, LET, IF, WHILE, NEWT, SPAWN, JOIN, REF, WRITE, READ, NEWL, LCK, ULCK, NEWSEM, POST, WAIT}
 use Rattle.filling.specs.Flow.{unchanged, taking, giving, needing, Flow, steps, ownPost, pass}
 use Rattle.filling.proofs.Found.{some-injective, bind-finds, turn-turns}
 use Rattle.pass.specs.declared.Column.{Column}
@@ -72,7 +72,6 @@ module _ (w : List ℕ) (column : Column) (fits : (i : ℕ) → getD w i 0 < 429
   rule-gives WRITE k = omega arith
   rule-gives READ k = omega arith
   rule-gives NEWL k = omega arith
-  rule-gives FREEL k = fits _
   rule-gives LCK k = fits _
   rule-gives ULCK k = omega arith
   rule-gives NEWSEM k = omega arith

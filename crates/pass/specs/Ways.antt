@@ -8,7 +8,7 @@ use Rattle.spec.specs.declared.MapNumber.{MapNumber}
 use Rattle.spec.specs.declared.TypeLine.{TypeLine}
 use Rattle.workspace.specs.Layout.{wordsAt, rowTypesAt, startsAt, ruleOf, typeAt, mapCell}
 use Rattle.workspace.specs.declared.Rule.{Rule}
-use Rattle.workspace.specs.declared.Rule.the-variants.{VAR, INT, LET, IF, WHILE, NEWT, SPAWN, JOIN, REF, WRITE, READ, NEWL, FREEL, LCK, ULCK, NEWSEM, POST, WAIT}
+use Rattle.workspace.specs.declared.Rule.the-variants.{VAR, INT, LET, IF, WHILE, NEWT, SPAWN, JOIN, REF, WRITE, READ, NEWL, LCK, ULCK, NEWSEM, POST, WAIT}
 use Rattle.filling.specs.Flow.{unchanged, taking, giving, needing}
 use Rattle.filling.specs.FlowOf.{asks}
 use Rattle.pass.specs.declared.Column.{Column}
@@ -62,7 +62,6 @@ wayBy REF w column k = Unary (After unchanged)
 wayBy WRITE w column k = Binary (InTurn (needing (accessIn w column (k + 1) (column .denominator))))
 wayBy READ w column k = Unary (After (needing (accessIn w column (k + 1) 1)))
 wayBy NEWL w column k = Leaf (taking (outLoadIn w column k))
-wayBy FREEL w column k = Unary (After (giving (inLoadIn w column (k + 1))))
 wayBy LCK w column k = Unary (After (giving (inLoadIn w column (k + 1))))
 wayBy ULCK w column k = Unary (After (taking (outLoadIn w column (k + 1))))
 wayBy NEWSEM w column k = Leaf unchanged

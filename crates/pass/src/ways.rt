@@ -197,7 +197,6 @@ fn way_by(r: Rule, work: &[u32], column: Column, k: usize) -> Way
         }
         Rule::READ => Way::Unary(UnaryWay::After(needing(access_in(work, column, part, 1)))),
         Rule::NEWL => Way::Leaf(taking(out_load_in(work, column, k))),
-        Rule::FREEL => Way::Unary(UnaryWay::After(giving(in_load_in(work, column, part)))),
         Rule::LCK => Way::Unary(UnaryWay::After(giving(in_load_in(work, column, part)))),
         Rule::ULCK => Way::Unary(UnaryWay::After(taking(out_load_in(work, column, part)))),
         Rule::NEWSEM => Way::Leaf(unchanged()),

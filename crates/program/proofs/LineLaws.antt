@@ -9,10 +9,10 @@ use lib.ListN.{length, getD, take, drop, length-drop}
 use borrow.Author.Tests.{le-leb, lt-leb}
 use Rattle.spec.specs.Choice.{if_then_else_}
 use Rattle.spec.specs.Text.{bytes, same, lines, Field, lookUp}
-use Rattle.spec.specs.Reading.{programSheet, stop, _>>=_, Seen, right, wrong, badForm, badRange, seen, Range, _to_, inRange, allInRange, numerals, ranged, numbers, form, outside, miscounted, faulty, passed, nextLine, next}
+use Rattle.spec.specs.Reading.{programSheet, stop, _>>=_, Seen, right, wrong, badForm, badRange, freelock, seen, wrongAfter, Range, _to_, inRange, allInRange, numerals, ranged, numbers, form, outside, miscounted, faulty, passed, nextLine, next}
 use Rattle.spec.specs.Expression.{Step}
 use Rattle.spec.specs.Program.{firstNumber, countLine, words, valueRange, stepOf, wordLine, stepLine}
-use Rattle.spec.specs.declared.Refusal.the-variants.{ProgramForm, ProgramRange, ProgramLines}
+use Rattle.spec.specs.declared.Refusal.the-variants.{ProgramForm, ProgramRange, ProgramLines, Freelock}
 use Rattle.spec.specs.declared.Word.{Word}
 use Rattle.spec.specs.declared.Word.the-variants.{Leaf, Unary, Binary}
 use Rattle.spec.specs.declared.LeafWord.the-variants.{Var, Int, Newtid, Newlock, Newsem}
@@ -33,7 +33,7 @@ use Rattle.lexer.proofs.Places.{span-field}
 use Rattle.lexer.proofs.Walks.{start-placed, start-rest, span-end, span-line-kept, span-comma, left-none, left-some, first-wrong, first-alone}
 use Rattle.lexer.proofs.Stored.{Narrow}
 use Rattle.lexer.proofs.Ranges.{tail-form, tail-read}
-use Rattle.program.specs.Lines.{TailShown, countAt, CountShown, limitOf, stepAt, StepShown}
+use Rattle.program.specs.Lines.{TailShown, countAt, CountShown, limitOf, FreelockAt, stepAt, StepShown}
 use Rattle.program.specs.declared.lines.Tail.the-variants.{Value, Malformed}
 use Rattle.program.specs.declared.lines.CountLine.the-variants as count
 use Rattle.program.specs.declared.lines.StepLine.the-variants as step
@@ -108,6 +108,41 @@ unfolding rest
 line-fits text c p e =
     omega (arith, p .line-le, p .short, left-some (drop (c .at) text) e, length-drop (c .at) text)
 
+-- whether the first field is the word w
+pub marked : (text : List ℕ) (c : Cursor) (s : Span) (r : Bool) (w : List ℕ) → s ≡ spanAt text c
+    → r ≡ same (take (s .to - s .from) (drop (s .from) text)) w → same (firstField (rest text c)) w ≡ r
+marked text c s r w is e = ap (λ f. same f w) (sym (span-field text c s is)) ∙ sym e
+
+-- ------------------------------------------------------------------ lines with the word freelock
+
+module _ (text : List ℕ) (c : Cursor) (s : Span) (f : FreelockAt text c s) where
+  some-line : 0 < length (rest text c)
+  some-line = left-some (rest text c) (f .left)
+
+  freelock-shows : (fs : List Field) → stepLine (firstField (rest text c) ∷ fs) ≡ wrongAfter freelock (numbers ((0 to 0) ∷ []) fs)
+  unfolding stepLine
+  freelock-shows fs = rw (f .word) refl
+
+  pub freelock-malformed : TailShown text (s .next) (s .end) Malformed → stepAt text c ≡ stop (ProgramForm (c .line + 1))
+  unfolding stepAt next placeAt wrongAfter
+  freelock-malformed h =
+      tail-malformed stepLine (wrongAfter freelock) refl (0 to 0) text c s (f .field) (f .placed) some-line freelock-shows h
+
+  module _ (v : ℕ) (d : Cursor) (h : TailShown text (s .next) (s .end) (Value v d)) where
+    freelock-reads : stepAt text c
+        ≡ passed programSheet (c .line + 1) (lines (rest text d)) (wrongAfter freelock (if inRange (0 to 0) v then right (v ∷ []) else wrong badRange))
+    unfolding stepAt next placeAt wrongAfter
+    freelock-reads =
+        tail-shows stepLine (wrongAfter freelock) refl (0 to 0) text c s (f .field) (f .placed) some-line freelock-shows (omega arith) v d h
+
+    pub freelock-over : 0 < v → stepAt text c ≡ stop (ProgramRange (c .line + 1))
+    unfolding faulty passed wrongAfter outside
+    freelock-over l = freelock-reads ∙ rw (up-to-out 0 v l) refl
+
+    pub freelock-named : v ≤ 0 → stepAt text c ≡ stop (Freelock (c .line + 1))
+    unfolding faulty passed wrongAfter
+    freelock-named l = freelock-reads ∙ rw (up-to-in 0 v l) refl
+
 -- ------------------------------------------------------------------ step lines
 
 range-of : (w : Word) → valueRange w ≡ (0 to limitOf w)
@@ -148,45 +183,45 @@ module _ (text : List ℕ) (c : Cursor) where
   unfolding stepAt miscounted
   step-missing e = next-at-none programSheet text stepLine c (left-none (rest text c) e)
 
-  module _ (e : nothing (rest text c) ≡ false) (s : Span) (is : s ≡ spanAt text c) (p : Placed text c) where
-    pub step-unknown : lookUp words (firstField (rest text c)) ≡ none → StepShown text c (step.Refused (ProgramForm (c .line + 1)))
-    unfolding stepAt next placeAt form stepLine wordLine
-    step-unknown u = first-wrong programSheet stepLine (c .line) (rest text c) (left-some (rest text c) e) (λ fs. rw u refl)
+  module _
+      (e : nothing (rest text c) ≡ false)
+      (s : Span)
+      (is : s ≡ spanAt text c)
+      (p : Placed text c)
+      (other : same (firstField (rest text c)) (bytes "freelock") ≡ false)
+    where
+      pub step-unknown : lookUp words (firstField (rest text c)) ≡ none → StepShown text c (step.Refused (ProgramForm (c .line + 1)))
+      unfolding stepAt next placeAt form stepLine wordLine
+      step-unknown u = first-wrong programSheet stepLine (c .line) (rest text c) (left-some (rest text c) e) (λ fs. rw (other, u) refl)
 
-    module _ (w : Word) (k : lookUp words (firstField (rest text c)) ≡ some w) where
-      step-shows : (fs : List Field) → stepLine (firstField (rest text c) ∷ fs) ≡ seen (stepOf w) (numbers (valueRange w ∷ []) fs)
-      unfolding stepLine wordLine
-      step-shows fs = rw k refl
+      module _ (w : Word) (k : lookUp words (firstField (rest text c)) ≡ some w) where
+        step-shows : (fs : List Field) → stepLine (firstField (rest text c) ∷ fs) ≡ seen (stepOf w) (numbers (valueRange w ∷ []) fs)
+        unfolding stepLine wordLine
+        step-shows fs = rw (other, k) refl
 
-      pub step-malformed : TailShown text (s .next) (s .end) Malformed → StepShown text c (step.Refused (ProgramForm (c .line + 1)))
-      unfolding stepAt next placeAt seen
-      step-malformed h =
-          tail-malformed stepLine (seen (stepOf w)) refl (valueRange w) text c s is p (left-some (rest text c) e) step-shows h
-
-      module _ (v : ℕ) (d : Cursor) (h : TailShown text (s .next) (s .end) (Value v d)) where
-        step-reads : stepAt text c
-            ≡ passed programSheet (c .line + 1) (lines (rest text d)) (seen (stepOf w) (if inRange (valueRange w) v then right (v ∷ []) else wrong badRange))
+        pub step-malformed : TailShown text (s .next) (s .end) Malformed → StepShown text c (step.Refused (ProgramForm (c .line + 1)))
         unfolding stepAt next placeAt seen
-        step-reads = tail-shows stepLine (seen (stepOf w)) refl (valueRange w) text c s is p (left-some (rest text c) e) step-shows (value-narrow w) v d h
+        step-malformed h =
+            tail-malformed stepLine (seen (stepOf w)) refl (valueRange w) text c s is p (left-some (rest text c) e) step-shows h
 
-        pub step-over : limitOf w < v → StepShown text c (step.Refused (ProgramRange (c .line + 1)))
-        unfolding faulty passed seen outside
-        step-over l = step-reads ∙ rw (over-limit w v l) refl
+        module _ (v : ℕ) (d : Cursor) (h : TailShown text (s .next) (s .end) (Value v d)) where
+          step-reads : stepAt text c
+              ≡ passed programSheet (c .line + 1) (lines (rest text d)) (seen (stepOf w) (if inRange (valueRange w) v then right (v ∷ []) else wrong badRange))
+          unfolding stepAt next placeAt seen
+          step-reads = tail-shows stepLine (seen (stepOf w)) refl (valueRange w) text c s is p (left-some (rest text c) e) step-shows (value-narrow w) v d h
 
-        pub step-right : v ≤ limitOf w → StepShown text c (step.Step w v d)
-        unfolding seen stepOf firstNumber
-        step-right l =
-            let line = tail-line text c s is v d h in
-            let one : Step = record { word = w; value = v } in
-            (step-reads ∙ rw (within-limit w v l) (passed-at programSheet text one c d line), l, h .2)
+          pub step-over : limitOf w < v → StepShown text c (step.Refused (ProgramRange (c .line + 1)))
+          unfolding faulty passed seen outside
+          step-over l = step-reads ∙ rw (over-limit w v l) refl
+
+          pub step-right : v ≤ limitOf w → StepShown text c (step.Step w v d)
+          unfolding seen stepOf firstNumber
+          step-right l =
+              let line = tail-line text c s is v d h in
+              let one : Step = record { word = w; value = v } in
+              (step-reads ∙ rw (within-limit w v l) (passed-at programSheet text one c d line), l, h .2)
 
 -- ------------------------------------------------------------------ line 1
-
--- whether the first field is `P`
-pub marked : (text : List ℕ) (c : Cursor) (s : Span) (r : Bool) → s ≡ spanAt text c
-    → r ≡ same (take (s .to - s .from) (drop (s .from) text)) (80 ∷ []) → same (firstField (rest text c)) (bytes "P") ≡ r
-unfolding bytes
-marked text c s r is e = ap (λ f. same f (80 ∷ [])) (sym (span-field text c s is)) ∙ sym e
 
 module _ (text : List ℕ) (c : Cursor) (top : c ≡ start) where
   pub placed-top : length text ≤ 16384 → Placed text c

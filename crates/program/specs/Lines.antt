@@ -1,10 +1,11 @@
 -- The lines of a program sheet at the cursor, as the shapes that the code hands back.
 use mathlib.Core.Path.{_≡_}
+use mathlib.Core.Bool.{true, false}
 use mathlib.Core.List.{List, [], _∷_}
 use mathlib.Core.Option.{none, some}
 use Prim.Native.Nat.{ℕ, _+_, _≤_}
 use lib.ListN.{length, replicate}
-use Rattle.spec.specs.Text.{lines}
+use Rattle.spec.specs.Text.{bytes, same, lines}
 use Rattle.spec.specs.Reading.{programSheet, Out, stop, on, _>>=_, Place, begin, next, nextAll}
 use Rattle.spec.specs.Expression.{Step}
 use Rattle.spec.specs.Program.{countLine, stepLine}
@@ -14,9 +15,11 @@ use Rattle.spec.specs.declared.LeafWord.{LeafWord}
 use Rattle.spec.specs.declared.LeafWord.the-variants.{Var, Int, Newtid, Newlock, Newsem}
 use Rattle.spec.specs.declared.BinaryWord.{BinaryWord}
 use Rattle.spec.specs.declared.BinaryWord.the-variants.{Let, If, Spawn, Write}
-use Rattle.lexer.specs.Cursors.{Placed, rest, placeAt}
+use Rattle.lexer.specs.Views.{firstField, nothing}
+use Rattle.lexer.specs.Cursors.{Placed, rest, placeAt, spanAt}
 use Rattle.lexer.specs.Numbers.{numbersAt}
 use Rattle.lexer.specs.declared.Cursor.{Cursor}
+use Rattle.lexer.specs.declared.Span.{Span}
 use Rattle.lexer.specs.declared.FieldEnd.{FieldEnd}
 use Rattle.lexer.specs.declared.FieldEnd.the-variants.{Comma}
 use Rattle.workspace.specs.Layout.{wordsAt, valuesAt}
@@ -71,6 +74,13 @@ limitOf (Binary w) = binaryLimit w
 
 unfoldable pub stepAt : List ℕ → Cursor → Out (Step × Place)
 stepAt text c = next programSheet stepLine (placeAt text c)
+
+-- a line is left at the cursor, and its first field, s, is the word `freelock`
+pub record FreelockAt (text : List ℕ) (c : Cursor) (s : Span) : Type 0 where
+  pub placed : Placed text c
+  pub left : nothing (rest text c) ≡ false
+  pub field : s ≡ spanAt text c
+  pub word : same (firstField (rest text c)) (bytes "freelock") ≡ true
 
 abbrev pub StepShown : List ℕ → Cursor → StepLine → Type 0
 StepShown text c (step.Step w v d) = (stepAt text c ≡ on (record { word = w; value = v }, placeAt text d)) × (v ≤ limitOf w) × Placed text d

@@ -3,6 +3,7 @@ use lexer::Cursor;
 use lexer::FieldEnd;
 use lexer::FoundWord;
 use lexer::Numbers;
+use lexer::Span;
 use spec::BinaryWord;
 use spec::LeafWord;
 use spec::Refusal;
@@ -12,8 +13,9 @@ use workspace::WORDS;
 ghost use mathlib.Core.Path.{_≡_};
 ghost use Prim.Native.Nat.{_≤_};
 ghost use lib.ListN.{length};
+ghost use Rattle.spec.specs.Reading.{stop};
 ghost use Rattle.lexer.specs.Cursors.{Placed};
-ghost use Rattle.program.specs.Lines.{leafLimit, binaryLimit, limitOf, TailShown, CountShown, StepShown, StepsShown};
+ghost use Rattle.program.specs.Lines.{leafLimit, binaryLimit, limitOf, TailShown, CountShown, FreelockAt, stepAt, StepShown, StepsShown};
 
 // The most steps that a program may have.
 const STEP_LIMIT: u32 = 256;
@@ -109,6 +111,23 @@ fn limit_of(w: Word) -> u32
     }
 }
 
+// The refusal of the line at the cursor, whose first field is the word `freelock`: 45, once form and range are right.
+fn freelock_line(text: &[u8], cursor: Cursor, field: Span) -> Refusal
+    requires { ⌜ FreelockAt (now text) cursor field ⌝ }
+    ensures { λ r. ⌜ stepAt (now (text .entry)) cursor ≡ stop r ⌝ }
+{
+    let line = cursor.line + 1;
+    let end = field.end;
+    let next = field.next;
+    let Tail::Value(v, _) = last_number(text, end, next) else {
+        return Refusal::ProgramForm(line);
+    };
+    if 0 < v {
+        return Refusal::ProgramRange(line);
+    }
+    Refusal::Freelock(line)
+}
+
 // A step and the cursor behind its line, or the refusal of that line.
 enum StepLine {
     Step(Word, u32, Cursor),
@@ -128,6 +147,9 @@ fn step_line(text: &[u8], cursor: Cursor) -> StepLine
     let field = cursor.field(text);
     let from = field.from;
     let to = field.to;
+    if lexer::same(&text[from..to], b"freelock") {
+        return StepLine::Refused(freelock_line(text, cursor, field));
+    }
     let FoundWord::Known(word) = lexer::word_of(&text[from..to]) else {
         return StepLine::Refused(Refusal::ProgramForm(line));
     };

@@ -15,7 +15,7 @@ use Rattle.spec.specs.Verdict.{four, returned}
 use Rattle.spec.specs.declared.Purpose.{Purpose}
 use Rattle.spec.specs.declared.Purpose.the-variants.{Check, Fill}
 use Rattle.spec.specs.declared.LeafWord.the-variants.{Var, Int, Newtid, Newlock, Newsem}
-use Rattle.spec.specs.declared.UnaryWord.the-variants.{While, Join, Ref, Read, Freelock, Lock, Unlock, Post, Wait}
+use Rattle.spec.specs.declared.UnaryWord.the-variants.{While, Join, Ref, Read, Lock, Unlock, Post, Wait}
 use Rattle.spec.specs.declared.BinaryWord.the-variants.{Let, If, Spawn, Write}
 use Rattle.spec.proofs.Claims.{only-append}
 use Rattle.rules.specs.Outcome.{judged}
@@ -66,7 +66,6 @@ row-types-first S Γ pre (unary Ref k v e₁) = tt
 row-types-first S Γ pre (binary Write k v e₁ e₂) = tt
 row-types-first S Γ pre (unary Read k v e₁) = tt
 row-types-first S Γ pre (leaf Newlock k v) = tt
-row-types-first S Γ pre (unary Freelock k v e₁) = tt
 row-types-first S Γ pre (unary Lock k v e₁) = tt
 row-types-first S Γ pre (unary Unlock k v e₁) = tt
 row-types-first S Γ pre (leaf Newsem k v) = tt

@@ -16,7 +16,7 @@ use Rattle.spec.specs.declared.Purpose.{Purpose}
 use Rattle.spec.specs.declared.Word.the-variants.{Leaf, Unary, Binary}
 use Rattle.spec.specs.declared.LeafWord.{LeafWord}
 use Rattle.spec.specs.declared.UnaryWord.{UnaryWord}
-use Rattle.spec.specs.declared.UnaryWord.the-variants.{While, Join, Ref, Read, Freelock, Lock, Unlock, Post, Wait}
+use Rattle.spec.specs.declared.UnaryWord.the-variants.{While, Join, Ref, Read, Lock, Unlock, Post, Wait}
 use Rattle.spec.specs.declared.BinaryWord.{BinaryWord}
 use Rattle.spec.specs.declared.BinaryWord.the-variants.{Let, If, Spawn, Write}
 use Rattle.spec.proofs.Listing.{size-positive}
@@ -55,7 +55,6 @@ of-part While p q = q
 of-part Join p q = p
 of-part Ref p q = p
 of-part Read p q = p
-of-part Freelock p q = p
 of-part Lock p q = p
 of-part Unlock p q = p
 of-part Post p q = p

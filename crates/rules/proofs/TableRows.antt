@@ -17,7 +17,7 @@ use Rattle.spec.specs.declared.TypeNumber.{TypeNumber}
 use Rattle.spec.specs.declared.LeafWord.{LeafWord}
 use Rattle.spec.specs.declared.LeafWord.the-variants.{Var, Int, Newtid, Newlock, Newsem}
 use Rattle.spec.specs.declared.UnaryWord.{UnaryWord}
-use Rattle.spec.specs.declared.UnaryWord.the-variants.{While, Join, Ref, Read, Freelock, Lock, Unlock, Post, Wait}
+use Rattle.spec.specs.declared.UnaryWord.the-variants.{While, Join, Ref, Read, Lock, Unlock, Post, Wait}
 use Rattle.spec.specs.declared.BinaryWord.{BinaryWord}
 use Rattle.spec.specs.declared.BinaryWord.the-variants.{Let, If, Spawn, Write}
 use Rattle.workspace.specs.Layout as layout
@@ -139,8 +139,6 @@ module _ (w : List ℕ) (S : Split) (steps : List Step) (H : HoldsSplit w S) (R 
           some-is-one,
           shares _ _ o f,
         )
-    unary-shown Freelock o =
-        rw (is-sum (f .posted) (in-stands _ f) (o .posted), typed-as _ o, typed-as _ f)
     unary-shown Lock o =
         rw (is-sum (f .posted) (in-stands _ f) (o .posted), typed-as _ o, typed-as _ f)
     unary-shown Unlock o =

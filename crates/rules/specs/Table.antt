@@ -12,7 +12,7 @@ use Rattle.spec.specs.declared.TypeLine.{TypeLine}
 use Rattle.spec.specs.declared.TypeLine.the-variants as type-line
 use Rattle.workspace.specs.Layout.{mapCell}
 use Rattle.workspace.specs.declared.Rule.{Rule}
-use Rattle.workspace.specs.declared.Rule.the-variants.{VAR, INT, LET, IF, WHILE, NEWT, SPAWN, JOIN, REF, WRITE, READ, NEWL, FREEL, LCK, ULCK, NEWSEM, POST, WAIT}
+use Rattle.workspace.specs.declared.Rule.the-variants.{VAR, INT, LET, IF, WHILE, NEWT, SPAWN, JOIN, REF, WRITE, READ, NEWL, LCK, ULCK, NEWSEM, POST, WAIT}
 use Rattle.rules.specs.Relation.{failsFrom}
 use Rattle.rules.specs.Agreement.{agreeIn, mayShowIn}
 use Rattle.rules.specs.declared.Relation.{Relation}
@@ -127,9 +127,6 @@ newlRow w s kind kind₁ =
     ∷ flows w s (Sum (s .post) (outLoad kind) (s .pre))
     ∷ []
 
-abbrev pub freelRow : TableRow
-freelRow w s kind kind₁ = loaded w s kind (isLock kind₁) (s .post1) (inLoad kind₁) (s .post)
-
 abbrev pub lckRow : TableRow
 lckRow w s kind kind₁ = loaded w s kind (isLock kind₁) (s .post1) (inLoad kind₁) (s .post)
 
@@ -162,7 +159,6 @@ ruleRow REF = refRow
 ruleRow WRITE = writeRow
 ruleRow READ = readRow
 ruleRow NEWL = newlRow
-ruleRow FREEL = freelRow
 ruleRow LCK = lckRow
 ruleRow ULCK = ulckRow
 ruleRow NEWSEM = newsemRow

@@ -15,7 +15,7 @@ use Rattle.spec.specs.declared.Purpose.the-variants.{Check, Fill}
 use Rattle.spec.specs.declared.Word.{Word}
 use Rattle.spec.specs.declared.Word.the-variants.{Leaf, Unary, Binary}
 use Rattle.spec.specs.declared.UnaryWord.{UnaryWord}
-use Rattle.spec.specs.declared.UnaryWord.the-variants.{While, Join, Ref, Read, Freelock, Lock, Unlock, Post, Wait}
+use Rattle.spec.specs.declared.UnaryWord.the-variants.{While, Join, Ref, Read, Lock, Unlock, Post, Wait}
 use Rattle.spec.specs.declared.BinaryWord.{BinaryWord}
 use Rattle.spec.specs.declared.BinaryWord.the-variants.{Let, If, Spawn, Write}
 use Rattle.workspace.specs.Layout.{wordsAt, endsAt, letsAt, rowTypesAt, postsAt, startsAt, presAt, ruleOf, wordOf, typeAt, mapIn}
@@ -89,7 +89,6 @@ numberOfPart While pre post = post
 numberOfPart Join pre post = pre
 numberOfPart Ref pre post = pre
 numberOfPart Read pre post = pre
-numberOfPart Freelock pre post = pre
 numberOfPart Lock pre post = pre
 numberOfPart Unlock pre post = pre
 numberOfPart Post pre post = pre

@@ -118,7 +118,6 @@ fn pre_of_part(w: UnaryWord, pre: MapNumber, post: MapNumber) -> MapNumber
         UnaryWord::Join => pre,
         UnaryWord::Ref => pre,
         UnaryWord::Read => pre,
-        UnaryWord::Freelock => pre,
         UnaryWord::Lock => pre,
         UnaryWord::Unlock => pre,
         UnaryWord::Post => pre,

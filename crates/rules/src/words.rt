@@ -13,7 +13,7 @@ use spec::TypeLine;
 use workspace::Rule;
 ghost use mathlib.Core.Path.{_≡_};
 ghost use Rattle.rules.specs.Outcome.{outcome, judged};
-ghost use Rattle.rules.specs.Table.{varRow, intRow, letRow, ifRow, whileRow, newtRow, spawnRow, joinRow, refRow, writeRow, readRow, newlRow, freelRow, lckRow, ulckRow, newsemRow, postRow, waitRow, ruleRow};
+ghost use Rattle.rules.specs.Table.{varRow, intRow, letRow, ifRow, whileRow, newtRow, spawnRow, joinRow, refRow, writeRow, readRow, newlRow, lckRow, ulckRow, newsemRow, postRow, waitRow, ruleRow};
 
 // VAR: 1 type is that of its let's e1, or for a lock a looser one; 2 post = pre.
 fn check_var(work: &[u32], s: View, kind: TypeLine, kind1: TypeLine) -> Ruling
@@ -170,19 +170,6 @@ fn check_newl(work: &[u32], s: View, kind: TypeLine, kind1: TypeLine) -> Ruling
     sum(s.line, 2, work, s.locations, s.post, out, s.pre)
 }
 
-// FREEL: 1 type int; 2 part a lock; 3 post = post of part + in.
-fn check_freel(work: &[u32], s: View, kind: TypeLine, kind1: TypeLine) -> Ruling
-    ensures { λ r. ⌜ outcome r ≡ judged (s .line) 1 (freelRow (now (work .entry)) s kind kind1) ⌝ }
-{
-    let TypeLine::Int = kind else {
-        return type_false(s.line, 1);
-    };
-    let TypeLine::Lock(load, _) = kind1 else {
-        return type_false(s.line, 2);
-    };
-    sum(s.line, 3, work, s.locations, s.post1, load, s.post)
-}
-
 // LCK: 1 type int; 2 part a lock; 3 post = post of part + in.
 fn check_lck(work: &[u32], s: View, kind: TypeLine, kind1: TypeLine) -> Ruling
     ensures { λ r. ⌜ outcome r ≡ judged (s .line) 1 (lckRow (now (work .entry)) s kind kind1) ⌝ }
@@ -262,7 +249,6 @@ pub(crate) fn check_rule(r: Rule, work: &[u32], s: View, kind: TypeLine, kind1: 
         Rule::WRITE => check_write(work, s, kind, kind1),
         Rule::READ => check_read(work, s, kind, kind1),
         Rule::NEWL => check_newl(work, s, kind, kind1),
-        Rule::FREEL => check_freel(work, s, kind, kind1),
         Rule::LCK => check_lck(work, s, kind, kind1),
         Rule::ULCK => check_ulck(work, s, kind, kind1),
         Rule::NEWSEM => check_newsem(work, s, kind, kind1),

@@ -16,7 +16,7 @@ use Rattle.spec.specs.declared.LeafWord.the-variants.{Newlock}
 use Rattle.spec.specs.declared.UnaryWord.the-variants.{Read, Unlock, Post}
 use Rattle.spec.specs.declared.BinaryWord.the-variants.{Spawn}
 use Rattle.calculus.specs.Capability.{_≥ᶜ_, _≈_⊕_}
-use Rattle.calculus.specs.Figure5.{_∣_∣_⊢_∶_∣_, VAR, INT, LET, IF, WHILE, NEWT, SPAWN, JOIN, REF, WRITE, READ, NEWL, FREEL, LCK, ULCK, NEWSEM, POST, WAIT}
+use Rattle.calculus.specs.Figure5.{_∣_∣_⊢_∶_∣_, VAR, INT, LET, IF, WHILE, NEWT, SPAWN, JOIN, REF, WRITE, READ, NEWL, LCK, ULCK, NEWSEM, POST, WAIT}
 use Rattle.soundness.specs.Erasure.{erase}
 use Rattle.soundness.proofs.Capabilities.{cap, covers-cap, sum-cap}
 use Rattle.soundness.proofs.Types.{means, environment, agree-means, means-int, means-lock, means-tid, means-sem, means-ref, shown-means, post-wide, start-wide, lock-wide, tid-wide, sem-wide, variable-typed}
@@ -62,10 +62,6 @@ module _ {steps : List Step} (S : Split) (R : InRange steps S) (L : LocksTakeEno
       let e = leaf Newlock k v in
       rw (means-lock S R _ Kᵢ Kₒ t)
       (NEWL (covers-cap (L _ Kᵢ Kₒ t)) (sum-cap (post S e) (mapAt S Kₒ) (post-wide S R e ∙ sym (lock-wide S R _ Kᵢ Kₒ t .1)) m))
-  split-derivation-is-figure-5 (own.FREEL {Kᵢ = Kᵢ} {Kₒ = Kₒ} {e₁ = e₁} d t i m) u =
-      rw (means-int S R _ i)
-      (FREEL (rw (means-lock S R _ Kᵢ Kₒ t) at (split-derivation-is-figure-5 d u))
-      (sum-cap (post S e₁) (mapAt S Kᵢ) (post-wide S R e₁ ∙ sym (lock-wide S R _ Kᵢ Kₒ t .0)) (sym m)))
   split-derivation-is-figure-5 (own.LCK {Kᵢ = Kᵢ} {Kₒ = Kₒ} {e₁ = e₁} d t i m) u =
       rw (means-int S R _ i)
       (LCK (rw (means-lock S R _ Kᵢ Kₒ t) at (split-derivation-is-figure-5 d u))

@@ -1,9 +1,9 @@
 -- The program of the calculus that a listed expression is: the same words, without lines.
 use Rattle.spec.specs.Expression.{Expr, leaf, unary, binary}
 use Rattle.spec.specs.declared.LeafWord.the-variants.{Var, Int, Newtid, Newlock, Newsem}
-use Rattle.spec.specs.declared.UnaryWord.the-variants.{While, Join, Ref, Read, Freelock, Lock, Unlock, Post, Wait}
+use Rattle.spec.specs.declared.UnaryWord.the-variants.{While, Join, Ref, Read, Lock, Unlock, Post, Wait}
 use Rattle.spec.specs.declared.BinaryWord.the-variants.{Let, If, Spawn, Write}
-use Rattle.calculus.specs.Expression.{Exp, value, int, var, let-in, if, while, spawn, write, unary as one-part, join, ref, read, freelock, lock, unlock, post, wait, make, newtid, newlock, newsem}
+use Rattle.calculus.specs.Expression.{Exp, value, int, var, let-in, if, while, spawn, write, unary as one-part, join, ref, read, lock, unlock, post, wait, make, newtid, newlock, newsem}
 
 unfoldable pub erase : Expr → Exp
 erase (leaf Var k v) = var v
@@ -15,7 +15,6 @@ erase (unary While k v e) = while (erase e)
 erase (unary Join k v e) = one-part join (erase e)
 erase (unary Ref k v e) = one-part ref (erase e)
 erase (unary Read k v e) = one-part read (erase e)
-erase (unary Freelock k v e) = one-part freelock (erase e)
 erase (unary Lock k v e) = one-part lock (erase e)
 erase (unary Unlock k v e) = one-part unlock (erase e)
 erase (unary Post k v e) = one-part post (erase e)

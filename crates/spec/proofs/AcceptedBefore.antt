@@ -25,7 +25,7 @@ use Rattle.spec.specs.declared.Answer.{Answer}
 use Rattle.spec.specs.declared.Answer.the-variants.{Accept}
 use Rattle.spec.specs.declared.Refusal.the-variants.{ShortWorkspace, LongProgram, LongSplit}
 use Rattle.spec.specs.declared.LeafWord.the-variants.{Var, Int, Newtid, Newlock, Newsem}
-use Rattle.spec.specs.declared.UnaryWord.the-variants.{While, Join, Ref, Read, Freelock, Lock, Unlock, Post, Wait}
+use Rattle.spec.specs.declared.UnaryWord.the-variants.{While, Join, Ref, Read, Lock, Unlock, Post, Wait}
 use Rattle.spec.specs.declared.BinaryWord.the-variants.{Let, If, Spawn, Write}
 use Rattle.spec.proofs.Outcomes.{bind-goes-on, goes-on-bind}
 use Rattle.spec.proofs.Claims.{none-false-all-hold, all-hold-none-false, all-hold-parts, all-hold-append}
@@ -72,7 +72,6 @@ module _ (S : Split) where
       ∷ A (leb (S .header .denominator) (share (post S e) p)) p ∷ []
   ownBefore Γ pre (leaf Newlock k v) = own S Γ pre (leaf Newlock k v)
   ownBefore Γ pre (unary Lock k v e₁) = own S Γ pre (unary Lock k v e₁)
-  ownBefore Γ pre (unary Freelock k v e₁) = own S Γ pre (unary Freelock k v e₁)
   ownBefore Γ pre (unary Unlock k v e₁) = own S Γ pre (unary Unlock k v e₁)
   ownBefore Γ pre (leaf Newsem k v) = own S Γ pre (leaf Newsem k v)
   ownBefore Γ pre (unary Post k v e₁) = own S Γ pre (unary Post k v e₁)
@@ -132,7 +131,6 @@ module _ (S : Split) where
   own-holds n i Γ pre (binary Write k v e₁ e₂) h = (h .0, (h .1 .0, (contained _ _ (h .1 .1 .0), h .1 .1 .1)))
   own-holds n i Γ pre (leaf Newlock k v) h = h
   own-holds n i Γ pre (unary Lock k v e₁) h = h
-  own-holds n i Γ pre (unary Freelock k v e₁) h = h
   own-holds n i Γ pre (unary Unlock k v e₁) h = h
   own-holds n i Γ pre (leaf Newsem k v) h = h
   own-holds n i Γ pre (unary Post k v e₁) h = h

@@ -7,7 +7,7 @@ use Prim.Native.Nat.{ℕ, _+_}
 use lib.Dec.{eqb}
 use Rattle.spec.specs.Choice.{if_then_else_}
 use Rattle.spec.specs.Text.{Line, closed, unclosed, Field, fields}
-use Rattle.spec.specs.Reading.{Out, stop, on, _>>=_, demand, Fault, badForm, badRange, noStart, Seen, right, wrong, SheetName, programSheet, splitSheet, form, outside, miscounted, faulty, Place, passed, nextLine, next, nextAll, begin, noneLeft, end}
+use Rattle.spec.specs.Reading.{Out, stop, on, _>>=_, demand, Fault, badForm, badRange, noStart, freelock, Seen, right, wrong, SheetName, programSheet, splitSheet, form, outside, miscounted, faulty, Place, passed, nextLine, next, nextAll, begin, noneLeft, end}
 use Rattle.spec.specs.Expression.{Step, Expr, leaf, unary, binary, size, single, among, scope}
 use Rattle.spec.specs.Program.{Program, program}
 use Rattle.spec.specs.Split.{Split, split}
@@ -82,6 +82,7 @@ unfolding faulty returned four onConditions
 faulty-early sheet badForm k = form-early sheet k
 faulty-early sheet badRange k = outside-early sheet k
 faulty-early sheet noStart k = refl
+faulty-early sheet freelock k = refl
 
 passed-early : {A : Type 0} (sheet : SheetName) (k : ℕ) (rest : List Line) (x : Seen A) → Early (passed sheet k rest x)
 unfolding passed

@@ -11,11 +11,11 @@ use Rattle.spec.specs.Split.{Map, Split}
 use Rattle.spec.specs.Conditions.{Env, type, post, start, K, inMap, outMap, own}
 use Rattle.spec.specs.Sites.{Site, sites, preOfPart, preOfSecond, bind, numbered, claimsAt, claims, firstFalse}
 use Rattle.spec.specs.FirstFalse.{Holds, AllHold}
-use Rattle.spec.specs.Figure5.{Derives, VAR, INT, LET, IF, WHILE, NEWT, SPAWN, JOIN, REF, WRITE, READ, NEWL, FREEL, LCK, ULCK, NEWSEM, POST, WAIT}
+use Rattle.spec.specs.Figure5.{Derives, VAR, INT, LET, IF, WHILE, NEWT, SPAWN, JOIN, REF, WRITE, READ, NEWL, LCK, ULCK, NEWSEM, POST, WAIT}
 use Rattle.spec.specs.declared.LeafWord.{LeafWord}
 use Rattle.spec.specs.declared.LeafWord.the-variants.{Var, Int, Newtid, Newlock, Newsem}
 use Rattle.spec.specs.declared.UnaryWord.{UnaryWord}
-use Rattle.spec.specs.declared.UnaryWord.the-variants.{While, Join, Ref, Read, Freelock, Lock, Unlock, Post, Wait}
+use Rattle.spec.specs.declared.UnaryWord.the-variants.{While, Join, Ref, Read, Lock, Unlock, Post, Wait}
 use Rattle.spec.specs.declared.BinaryWord.{BinaryWord}
 use Rattle.spec.specs.declared.BinaryWord.the-variants.{Let, If, Spawn, Write}
 use Rattle.spec.proofs.TypeKinds.{is-int, is-tid, is-lock, is-sem, is-ref-of, int-is, tid-is, lock-is, sem-is, ref-is, ref-of-is, tid-load, lock-in, lock-out, sem-load, readable, writable}
@@ -94,9 +94,6 @@ module _ (S : Split) where
       let (c, h₁) = unary-own Γ pre Read k v e₁ h in
       let (content, is, agrees) = is-ref-of S _ _ (c .1 .0) in
       READ (holding-derives _ _ e₁ h₁) is agrees (ltb-true _ _ (c .1 .1 .1 .0)) (none-equal (c .1 .1 .0))
-  holding-derives Γ pre (unary Freelock k v e₁) h =
-      let (c, h₁) = unary-own Γ pre Freelock k v e₁ h in
-      FREEL (holding-derives _ _ e₁ h₁) (is-lock _ (c .1 .0)) (is-int _ (c .0)) (none-equal (c .1 .1 .0))
   holding-derives Γ pre (unary Lock k v e₁) h =
       let (c, h₁) = unary-own Γ pre Lock k v e₁ h in
       LCK (holding-derives _ _ e₁ h₁) (is-lock _ (c .1 .0)) (is-int _ (c .0)) (none-equal (c .1 .1 .0))
@@ -179,8 +176,6 @@ module _ (S : Split) where
       (ref-is t, (ref-of-is S _ t a, (equal-none p, (readable (post S (unary Read k v e₁)) t w, tt)))) (derived-holds d)
   derived-holds {Γ} {Ψ} (NEWL {k = k} {v = v} t p) =
       leaf-all Γ Ψ Newlock k v (lock-is t, (equal-none (rw (lock-out S t) p), tt))
-  derived-holds {Γ} {Ψ} (FREEL {k = k} {v = v} {e₁ = e₁} d t i p) =
-      unary-all Γ Ψ Freelock k v e₁ (int-is i, (lock-is t, (equal-none (rw (lock-in S t) p), tt))) (derived-holds d)
   derived-holds {Γ} {Ψ} (LCK {k = k} {v = v} {e₁ = e₁} d t i p) =
       unary-all Γ Ψ Lock k v e₁ (int-is i, (lock-is t, (equal-none (rw (lock-in S t) p), tt))) (derived-holds d)
   derived-holds {Γ} {Ψ} (ULCK {k = k} {v = v} {e₁ = e₁} d t i p) =

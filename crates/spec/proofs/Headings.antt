@@ -7,11 +7,11 @@ use mathlib.Core.Bool.{Bool, true, false}
 use mathlib.Core.Option.{Option, none, some}
 use Prim.Native.Nat.{ℕ, zero, suc, _≤_, _<_, _+_}
 use native.Mathlib.Omega.{arith}
-use lib.Dec.{eqb, leb}
+use lib.Dec.{leb}
 use lib.ListN.{length, replicate, length-append}
 use borrow.Author.Tests.{lt-ltb, le-leb, ne-eqb}
 use Rattle.spec.specs.Choice.{if_then_else_}
-use Rattle.spec.specs.Text.{bytes, same, Line, closed, unclosed, onLine, lines, Field, onField, fields, lookUp, digitLimit, digits, leadingZero, value, numeral}
+use Rattle.spec.specs.Text.{bytes, same, Line, closed, unclosed, lines, Field, onField, fields, lookUp, digitLimit, digits, leadingZero, value, numeral}
 use Rattle.spec.specs.Reading.{splitSheet, Out, stop, on, _>>=_, demand, noStart, Seen, right, wrong, badRange, seen, insist, inRange, allInRange, withNumeral, numerals, ranged, numbers, faulty, passed, nextLine, next, nextAll, begin, end, Place}
 use Rattle.spec.specs.Expression.{Step}
 use Rattle.spec.specs.Program.{Program, programLimit, program}
@@ -22,6 +22,7 @@ use Rattle.spec.specs.declared.Heading.the-variants.{C, C2}
 use Rattle.spec.specs.declared.TypeLine.{TypeLine}
 use Rattle.spec.specs.declared.Refusal.the-variants.{ShortWorkspace, LongProgram, LongSplit, NoStart}
 use Rattle.spec.specs.declared.Answer.the-variants.{Refuse}
+use Rattle.spec.proofs.Texts.{OneLine, _above_, above-lines, fields-append}
 use Rattle.spec.proofs.NoHeading.{headedAs, under, ruling, same-ruling}
 use Rattle.spec.proofs.Ranges.{seen-right}
 use Rattle.spec.specs.declared.Purpose.the-variants.{Check}
@@ -89,45 +90,9 @@ header-plain fs H h = let (ns, _, e) = seen-right _ h in sym (ap (λ (x : Header
 
 -- ------------------------------------------------------------------ line 1
 
--- bytes without byte 10
-abbrev pub OneLine : List ℕ → Type 0
-OneLine [] = Unit {0}
-OneLine (b ∷ l) = (b ≡ 10 → ⊥) × OneLine l
-
--- a line in front of a text
-infixl 20 _above_
-unfoldable pub _above_ : List ℕ → List ℕ → List ℕ
-l above t = l ++ 10 ∷ t
-
-above-lines : (l t : List ℕ) → OneLine l → lines (l above t) ≡ closed l ∷ lines t
-unfolding _above_ lines onLine
-above-lines [] t one = refl
-above-lines (b ∷ l) t one = rw (ne-eqb b 10 (one .0), above-lines l t (one .1))
-
 one-line-append : (l k : List ℕ) → OneLine l → OneLine k → OneLine (l ++ k)
 one-line-append [] k h h′ = h′
 one-line-append (b ∷ l) k h h′ = (h .0, one-line-append l k (h .1) h′)
-
-some-fields : (l : List ℕ) → 0 < length (fields l)
-unfolding fields onField
-some-fields [] = omega arith
-some-fields (b ∷ l) = go (eqb b 44) (fields l)
-  where
-    go : (x : Bool) (fs : List Field) → 0 < length (if x then [] ∷ fs else onField b fs)
-    go true fs = omega arith
-    go false [] = omega arith
-    go false (f ∷ fs) = omega arith
-
-fields-append : (l k : List ℕ) → fields (l ++ 44 ∷ k) ≡ fields l ++ fields k
-unfolding fields onField
-fields-append [] k = refl
-fields-append (b ∷ l) k = rw (fields-append l k) (go (eqb b 44) (fields l) (some-fields l))
-  where
-    go : (x : Bool) (fs : List Field) → 0 < length fs
-        → (if x then [] ∷ (fs ++ fields k) else onField b (fs ++ fields k)) ≡ (if x then [] ∷ fs else onField b fs) ++ fields k
-    go true fs h = refl
-    go false [] h = absurd (omega arith)
-    go false (f ∷ fs) h = refl
 
 module _ (a : List ℕ) where
   abbrev pub unnamed : List ℕ

@@ -2,10 +2,13 @@ pub mod KnownPairs
 pub mod Reasons
 pub mod Clashes
 pub mod Tests
+pub mod Texts
 pub mod Ranges
 pub mod Starts
 pub mod StartsBefore
+pub mod FreelockBefore
 pub mod StartsPairs
+pub mod FreelockPairs
 pub mod Outcomes
 pub mod Maps
 pub mod Agreement

@@ -21,7 +21,7 @@ use Rattle.spec.specs.declared.TypeLine.{TypeLine}
 use Rattle.spec.specs.declared.TypeLine.the-variants as type-line
 use Rattle.spec.specs.declared.Refusal.the-variants.{LockTakesLess}
 use Rattle.spec.specs.declared.LeafWord.the-variants.{Var, Int, Newtid, Newlock, Newsem}
-use Rattle.spec.specs.declared.UnaryWord.the-variants.{While, Join, Ref, Read, Freelock, Lock, Unlock, Post, Wait}
+use Rattle.spec.specs.declared.UnaryWord.the-variants.{While, Join, Ref, Read, Lock, Unlock, Post, Wait}
 use Rattle.spec.specs.declared.BinaryWord.the-variants.{Let, If, Spawn, Write}
 
 -- a header, and a split, under another heading
@@ -122,7 +122,6 @@ module _ (h : Heading) (S : Split) where
   same-own Γ pre (unary Join k v e₁) = refl
   same-own Γ pre (unary Ref k v e₁) = at-first _ (same-contains _ _)
   same-own Γ pre (unary Read k v e₁) = later _ (at-first _ (same-contains _ _))
-  same-own Γ pre (unary Freelock k v e₁) = refl
   same-own Γ pre (unary Lock k v e₁) = refl
   same-own Γ pre (unary Unlock k v e₁) = refl
   same-own Γ pre (unary Post k v e₁) = refl

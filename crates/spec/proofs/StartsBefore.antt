@@ -21,6 +21,7 @@ use Rattle.spec.specs.declared.Answer.{Answer}
 use Rattle.spec.specs.declared.Refusal.the-variants.{ShortWorkspace, LongProgram, LongSplit}
 use Rattle.spec.specs.declared.Purpose.the-variants.{Check}
 use Rattle.spec.proofs.Outcomes.{bind-alike}
+use Rattle.spec.proofs.Texts.{onClosed}
 
 -- ------------------------------------------------------------------ the reading before
 
@@ -72,10 +73,6 @@ writeZero s l = if startLeft s (fields l) then l ++ bytes "0" else l
 
 unfoldable pub kept : List ℕ → List ℕ
 kept l = l
-
-unfoldable pub onClosed : (List ℕ → List ℕ) → Line → Line
-onClosed f (closed l) = closed (f l)
-onClosed f (unclosed l) = unclosed l
 
 -- lines changed in turn, each in its own way; those behind them stay
 unfoldable pub along : List (List ℕ → List ℕ) → List Line → List Line

@@ -1,4 +1,4 @@
--- The sheets that meet none of 10 to 15, none of 20 to 23 and 40, are the well-formed ones.
+-- The sheets that meet none of 10 to 15 and 45, none of 20 to 23 and 40, are the well-formed ones.
 use mathlib.Core.Path.{_≡_, refl, ap, sym, _∙_, subst}
 use mathlib.Core.List.{List, [], map}
 use Prim.Native.Nat.{ℕ, _≤_}

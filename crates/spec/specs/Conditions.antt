@@ -21,7 +21,7 @@ use Rattle.spec.specs.declared.Refusal.{Refusal}
 use Rattle.spec.specs.declared.Refusal.the-variants.{TypeFalse, FlowFalse, AccessFalse}
 use Rattle.spec.specs.declared.LeafWord.the-variants.{Var, Int, Newtid, Newlock, Newsem}
 use Rattle.spec.specs.declared.UnaryWord.{UnaryWord}
-use Rattle.spec.specs.declared.UnaryWord.the-variants.{While, Join, Ref, Read, Freelock, Lock, Unlock, Post, Wait}
+use Rattle.spec.specs.declared.UnaryWord.the-variants.{While, Join, Ref, Read, Lock, Unlock, Post, Wait}
 use Rattle.spec.specs.declared.BinaryWord.{BinaryWord}
 use Rattle.spec.specs.declared.BinaryWord.the-variants.{Let, If, Spawn, Write}
 
@@ -200,8 +200,6 @@ module _ (S : Split) where
       T (isRef (kind e₁)) ∷ T (contains (kind e₁) (type e)) ∷ F (post e =ᵐ post e₁) ∷ A (ltb 0 (share (post e) p)) p ∷ []
   own Γ pre (leaf Newlock k v) = let e = leaf Newlock k v in
       T (isLock (kind e)) ∷ F (post e +ᵐ outMap e =ᵐ pre) ∷ []
-  own Γ pre (unary Freelock k v e₁) = let e = unary Freelock k v e₁ in
-      T (isInt (kind e)) ∷ T (isLock (kind e₁)) ∷ F (post e =ᵐ post e₁ +ᵐ inMap e₁) ∷ []
   own Γ pre (unary Lock k v e₁) = let e = unary Lock k v e₁ in
       T (isInt (kind e)) ∷ T (isLock (kind e₁)) ∷ F (post e =ᵐ post e₁ +ᵐ inMap e₁) ∷ []
   own Γ pre (unary Unlock k v e₁) = let e = unary Unlock k v e₁ in

@@ -157,15 +157,6 @@ lockRows =
     ("P,2|lock,0|newlock,0|" with (rows "0,1,|3,1,|") is four 32 2 3 0) ∷
     []
 
--- freelock
-unfoldable pub freelockRows : List Pair
-freelockRows =
-    ("P,2|freelock,0|newlock,0|" with (rows "0,0,|3,1,|") is four 0 0 0 0) ∷
-    ("P,2|freelock,0|newlock,0|" with (rows "1,0,|3,1,|") is four 31 2 1 0) ∷
-    ("P,2|freelock,0|newlock,0|" with (rows "0,0,|2,1,|") is four 31 2 2 0) ∷
-    ("P,2|freelock,0|newlock,0|" with (rows "0,1,|3,1,|") is four 32 2 3 0) ∷
-    []
-
 -- unlock
 unfoldable pub unlockRows : List Pair
 unlockRows =
@@ -199,6 +190,5 @@ conditionEdges =
     ++ₗ postRows
     ++ₗ newlockRows
     ++ₗ lockRows
-    ++ₗ freelockRows
     ++ₗ unlockRows
     ++ₗ fullRows

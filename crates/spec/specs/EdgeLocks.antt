@@ -64,15 +64,13 @@ meetingRows =
     (unlike "0,0,|1,1,|0,0,|5,1,|0,0,|1,1,|1,1,|1,1,|") is four 31 9 1 0) ∷
     []
 
--- newlock and unlock use out, lock and freelock use in
+-- newlock and unlock use out, lock uses in
 unfoldable pub inOutRows : List Pair
 inOutRows =
     ("P,1|newlock,0|" with (unlike "2,1,|") is four 0 0 0 0) ∷
     ("P,1|newlock,0|" with (unlike "2,0,|") is four 32 2 2 0) ∷
     ("P,2|lock,0|newlock,0|" with (unlike "0,1,|2,1,|") is four 0 0 0 0) ∷
     ("P,2|lock,0|newlock,0|" with (unlike "0,0,|2,1,|") is four 32 2 3 0) ∷
-    ("P,2|freelock,0|newlock,0|" with (unlike "0,1,|2,1,|") is four 0 0 0 0) ∷
-    ("P,2|freelock,0|newlock,0|" with (unlike "0,0,|2,1,|") is four 32 2 3 0) ∷
     ("P,2|unlock,0|newlock,0|" with (unlike "0,2,|2,1,|") is four 0 0 0 0) ∷
     ("P,2|unlock,0|newlock,0|" with (unlike "0,1,|2,1,|") is four 32 2 3 0) ∷
     []

@@ -1,5 +1,5 @@
 -- Figure 5 as a derivation whose judgements are the split's own: the type and the post of an expression are those of its row.
--- One constructor a printed rule, in the printed order. Types agree as Agreement.antt says; 1 is the denominator. Locks are those of
+-- One constructor a word, in the printed order. Types agree as Agreement.antt says; 1 is the denominator. Locks are those of
 -- Section 3.1.6: what a variable may show of the type of its let's value is VAR's own premise.
 use mathlib.Core.Path.{_≡_}
 use mathlib.Core.List.{List, [], _∷_}
@@ -16,7 +16,7 @@ use Rattle.spec.specs.declared.Location.{Location}
 use Rattle.spec.specs.declared.TypeLine.{TypeLine}
 use Rattle.spec.specs.declared.TypeLine.the-variants as type-line
 use Rattle.spec.specs.declared.LeafWord.the-variants.{Var, Int, Newtid, Newlock, Newsem}
-use Rattle.spec.specs.declared.UnaryWord.the-variants.{While, Join, Ref, Read, Freelock, Lock, Unlock, Post, Wait}
+use Rattle.spec.specs.declared.UnaryWord.the-variants.{While, Join, Ref, Read, Lock, Unlock, Post, Wait}
 use Rattle.spec.specs.declared.BinaryWord.the-variants.{Let, If, Spawn, Write}
 
 -- a map is at least another, number by number
@@ -75,10 +75,6 @@ module _ (S : Split) where
     NEWL : {Γ : Env} {Ψ : Map} {k v : ℕ} {Kᵢ Kₒ : MapNumber}
         → kind S (leaf Newlock k v) ≡ type-line.Lock Kᵢ Kₒ → post S (leaf Newlock k v) +ᵐ mapAt S Kₒ ≡ Ψ
         → Derives Γ Ψ (leaf Newlock k v)
-    FREEL : {Γ : Env} {Ψ : Map} {k v : ℕ} {Kᵢ Kₒ : MapNumber} {e₁ : Expr}
-        → Derives Γ Ψ e₁ → kind S e₁ ≡ type-line.Lock Kᵢ Kₒ → kind S (unary Freelock k v e₁) ≡ type-line.Int
-        → post S (unary Freelock k v e₁) ≡ post S e₁ +ᵐ mapAt S Kᵢ
-        → Derives Γ Ψ (unary Freelock k v e₁)
     LCK : {Γ : Env} {Ψ : Map} {k v : ℕ} {Kᵢ Kₒ : MapNumber} {e₁ : Expr}
         → Derives Γ Ψ e₁ → kind S e₁ ≡ type-line.Lock Kᵢ Kₒ → kind S (unary Lock k v e₁) ≡ type-line.Int
         → post S (unary Lock k v e₁) ≡ post S e₁ +ᵐ mapAt S Kᵢ

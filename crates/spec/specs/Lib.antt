@@ -23,4 +23,5 @@ pub mod EdgeNumbers
 pub mod EdgeStart
 pub mod EdgeSemaphores
 pub mod EdgeLocks
+pub mod EdgeFreelock
 pub mod FirstFalse

@@ -6,12 +6,12 @@ use Prim.Native.Nat.{ℕ}
 use lib.ListN.{getD, replicate}
 use Rattle.spec.specs.Choice.{if_then_else_}
 use Rattle.spec.specs.Text.{bytes, same, lines, Field, lookUp}
-use Rattle.spec.specs.Reading.{programSheet, Out, _>>=_, on, Seen, wrong, badForm, seen, Range, _to_, numbers, next, nextAll, begin, end}
+use Rattle.spec.specs.Reading.{programSheet, Out, _>>=_, on, Seen, wrong, badForm, freelock, seen, wrongAfter, Range, _to_, numbers, next, nextAll, begin, end}
 use Rattle.spec.specs.Expression.{Step, Expr, listed, single, scope}
 use Rattle.spec.specs.declared.Word.{Word}
 use Rattle.spec.specs.declared.Word.the-variants.{Leaf, Unary, Binary}
 use Rattle.spec.specs.declared.LeafWord.the-variants.{Var, Int, Newtid, Newlock, Newsem}
-use Rattle.spec.specs.declared.UnaryWord.the-variants.{While, Join, Ref, Read, Freelock, Lock, Unlock, Post, Wait}
+use Rattle.spec.specs.declared.UnaryWord.the-variants.{While, Join, Ref, Read, Lock, Unlock, Post, Wait}
 use Rattle.spec.specs.declared.BinaryWord.the-variants.{Let, If, Spawn, Write}
 
 -- the most bytes that a program sheet may have
@@ -38,7 +38,6 @@ words =
     ∷ (bytes "join", Unary Join)
     ∷ (bytes "ref", Unary Ref)
     ∷ (bytes "read", Unary Read)
-    ∷ (bytes "freelock", Unary Freelock)
     ∷ (bytes "lock", Unary Lock)
     ∷ (bytes "unlock", Unary Unlock)
     ∷ (bytes "post", Unary Post)
@@ -70,16 +69,19 @@ unfoldable pub wordLine : Option Word → List Field → Seen Step
 wordLine none fs = wrong badForm
 wordLine (some w) fs = seen (stepOf w) (numbers (valueRange w ∷ []) fs)
 
+-- "45 for the word `freelock`, after 12 on its line"; its v is 0
 unfoldable pub stepLine : List Field → Seen Step
 stepLine [] = wrong badForm
-stepLine (f ∷ fs) = wordLine (lookUp words f) fs
+stepLine (f ∷ fs) =
+    if same f (bytes "freelock") then wrongAfter freelock (numbers ((0 to 0) ∷ []) fs)
+    else wordLine (lookUp words f) fs
 
 -- a program: its steps in line order, the first at line 2, and the expression that they list
 pub record Program : Type 0 where
   pub steps : List Step
   pub root : Expr
 
--- 11, 12 and 13 line by line; then 13 for the expression; then 14 and 15
+-- 11, 12, 45 and 13 line by line; then 13 for the expression; then 14 and 15
 unfoldable pub program : List ℕ → Out Program
 program text = do
   top ← begin programSheet (lines text)

@@ -8,7 +8,7 @@ use lib.ListN.{length}
 use Rattle.spec.specs.Choice.{if_then_else_}
 use Rattle.spec.specs.Text.{Line, closed, unclosed, Field, fields, numeral}
 use Rattle.spec.specs.declared.Refusal.{Refusal}
-use Rattle.spec.specs.declared.Refusal.the-variants.{ProgramForm, ProgramRange, ProgramLines, SplitForm, SplitRange, SplitLines, NoStart}
+use Rattle.spec.specs.declared.Refusal.the-variants.{ProgramForm, ProgramRange, ProgramLines, SplitForm, SplitRange, SplitLines, NoStart, Freelock}
 
 -- ------------------------------------------------------------------ outcomes
 
@@ -31,7 +31,7 @@ demand false r = stop r
 
 -- what can be wrong with a closed line
 pub data Fault : Type 0 where
-  badForm badRange noStart : Fault
+  badForm badRange noStart freelock : Fault
 
 -- what a closed line shows: form is judged before range
 pub data Seen (A : Type 0) : Type 0 where
@@ -47,6 +47,11 @@ unfoldable pub insist : {A : Type 0} → Bool → Fault → Seen A → Seen A
 insist b w (wrong v) = wrong v
 insist true w (right a) = right a
 insist false w (right a) = wrong w
+
+-- a line that is wrong whatever it shows, once its form and its ranges are right
+unfoldable pub wrongAfter : {A B : Type 0} → Fault → Seen A → Seen B
+wrongAfter w (wrong v) = wrong v
+wrongAfter w (right a) = wrong w
 
 -- the range of a number: from the first to the last, both in it; or the number of one of so many things, counted from 0
 infix 4 _to_
@@ -107,6 +112,7 @@ unfoldable pub faulty : SheetName → Fault → (line : ℕ) → Refusal
 faulty sheet badForm k = form sheet k
 faulty sheet badRange k = outside sheet k
 faulty sheet noStart k = NoStart k
+faulty sheet freelock k = Freelock k
 
 -- the reading place: the number of the last line read, 0 before the first, and the lines behind it
 pub record Place : Type 0 where

@@ -18,7 +18,7 @@ use Rattle.spec.specs.declared.Answer.the-variants.{Accept, Refuse}
 use Rattle.spec.specs.declared.TypeLine.{TypeLine}
 use Rattle.spec.specs.declared.TypeLine.the-variants as type-line
 use Rattle.spec.specs.declared.Refusal.{Refusal}
-use Rattle.spec.specs.declared.Refusal.the-variants.{ShortWorkspace, LongProgram, ProgramForm, ProgramRange, ProgramLines, Unbound, Rebound, LongSplit, SplitForm, SplitRange, SplitLines, NoStart, OverOne, TypeFalse, FlowFalse, AccessFalse, NoAfterMaps, TooLarge, TooManyMaps, LockTakesLess}
+use Rattle.spec.specs.declared.Refusal.the-variants.{ShortWorkspace, LongProgram, ProgramForm, ProgramRange, ProgramLines, Unbound, Rebound, LongSplit, SplitForm, SplitRange, SplitLines, NoStart, OverOne, TypeFalse, FlowFalse, AccessFalse, NoAfterMaps, TooLarge, TooManyMaps, LockTakesLess, Freelock}
 use Rattle.spec.specs.declared.Purpose.the-variants.{Check}
 
 -- 44, at a type line: "a lock line whose out is below its in at some location"; "lowest such line first"
@@ -57,7 +57,7 @@ ruled P S = firstFalse (claims S (sites S [] (startMap S) (P .root)))
 unfoldable pub typed : Program → Split → Out (Unit {0})
 typed P S = firstFalse (only isType (claims S (sites S [] (startMap S) (P .root))))
 
--- 1; 10; 11 to 15; 20; 21 to 23 and 40; 44; 30; 31 to 33
+-- 1; 10; 11 to 15 and 45; 20; 21 to 23 and 40; 44; 30; 31 to 33
 unfoldable pub checked : (room : ℕ) → (programText splitText : List ℕ) → Out (Unit {0})
 checked room programText splitText = do
   enough ← demand (leb workspaceSize room) ShortWorkspace
@@ -105,6 +105,7 @@ returned (Refuse NoAfterMaps) = four 41 0 0 0
 returned (Refuse TooLarge) = four 42 0 0 0
 returned (Refuse TooManyMaps) = four 43 0 0 0
 returned (Refuse (LockTakesLess k)) = four 44 k 0 0
+returned (Refuse (Freelock k)) = four 45 k 0 0
 
 -- the numbers of a refusal on the conditions: 31 (T), 32 (F), 33 (A)
 unfoldable pub onConditions : (number : ℕ) → Bool

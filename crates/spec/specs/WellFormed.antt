@@ -1,5 +1,5 @@
 -- What a well-formed sheet is, said of the text as a whole. No refusal is named here; proofs/WellFormed.antt shows that
--- these are the sheets that meet none of 10 to 15, none of 20 to 23 and 40.
+-- these are the sheets that meet none of 10 to 15 and 45, none of 20 to 23 and 40.
 use mathlib.Core.Path.{_≡_}
 use mathlib.Core.List.{List, [], _∷_, _++_, map}
 use mathlib.Core.Bool.{Bool, true, false}

@@ -14,7 +14,6 @@ pub enum UnaryWord {
     Join,
     Ref,
     Read,
-    Freelock,
     Lock,
     Unlock,
     Post,
@@ -99,6 +98,7 @@ pub enum Refusal {
     TooLarge,
     TooManyMaps,
     LockTakesLess(u32),
+    Freelock(u32),
 }
 
 // The answer to a pair of sheets.

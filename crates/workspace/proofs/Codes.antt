@@ -7,7 +7,7 @@ use Rattle.spec.specs.declared.TypeLine.the-variants as type-line
 use Rattle.spec.specs.declared.Word.{Word}
 use Rattle.spec.specs.declared.Word.the-variants.{Leaf, Unary, Binary}
 use Rattle.spec.specs.declared.LeafWord.the-variants.{Var, Int, Newtid, Newlock, Newsem}
-use Rattle.spec.specs.declared.UnaryWord.the-variants.{While, Join, Ref, Read, Freelock, Lock, Unlock, Post, Wait}
+use Rattle.spec.specs.declared.UnaryWord.the-variants.{While, Join, Ref, Read, Lock, Unlock, Post, Wait}
 use Rattle.spec.specs.declared.BinaryWord.the-variants.{Let, If, Spawn, Write}
 use Rattle.workspace.specs.Layout.{codeOf, printed, ruleOf, wordBy, wordOf, kindOf, firstOf, secondOf, typeOf}
 
@@ -26,7 +26,6 @@ word-of-code (Unary While) = refl
 word-of-code (Unary Join) = refl
 word-of-code (Unary Ref) = refl
 word-of-code (Unary Read) = refl
-word-of-code (Unary Freelock) = refl
 word-of-code (Unary Lock) = refl
 word-of-code (Unary Unlock) = refl
 word-of-code (Unary Post) = refl

@@ -14,11 +14,11 @@ use Rattle.spec.specs.declared.Word.the-variants.{Leaf, Unary, Binary}
 use Rattle.spec.specs.declared.LeafWord.{LeafWord}
 use Rattle.spec.specs.declared.LeafWord.the-variants.{Var, Int, Newtid, Newlock, Newsem}
 use Rattle.spec.specs.declared.UnaryWord.{UnaryWord}
-use Rattle.spec.specs.declared.UnaryWord.the-variants.{While, Join, Ref, Read, Freelock, Lock, Unlock, Post, Wait}
+use Rattle.spec.specs.declared.UnaryWord.the-variants.{While, Join, Ref, Read, Lock, Unlock, Post, Wait}
 use Rattle.spec.specs.declared.BinaryWord.{BinaryWord}
 use Rattle.spec.specs.declared.BinaryWord.the-variants.{Let, If, Spawn, Write}
 use Rattle.workspace.specs.declared.Rule.{Rule}
-use Rattle.workspace.specs.declared.Rule.the-variants.{VAR, INT, LET, IF, WHILE, NEWT, SPAWN, JOIN, REF, WRITE, READ, NEWL, FREEL, LCK, ULCK, NEWSEM, POST, WAIT}
+use Rattle.workspace.specs.declared.Rule.the-variants.{VAR, INT, LET, IF, WHILE, NEWT, SPAWN, JOIN, REF, WRITE, READ, NEWL, LCK, ULCK, NEWSEM, POST, WAIT}
 
 -- ------------------------------------------------------------------ offsets
 
@@ -70,9 +70,9 @@ emptyMap = 512
 
 -- ------------------------------------------------------------------ words
 
--- the rules of Figure 5, in the printed order, then those of section 3.1.4; WAIT is the last
+-- the rules, one a word: those of Figure 5 in the printed order, then those of section 3.1.4; WAIT is the last
 unfoldable pub printed : List Rule
-printed = VAR ∷ INT ∷ LET ∷ IF ∷ WHILE ∷ NEWT ∷ SPAWN ∷ JOIN ∷ REF ∷ WRITE ∷ READ ∷ NEWL ∷ FREEL ∷ LCK ∷ ULCK ∷ NEWSEM ∷ POST ∷ []
+printed = VAR ∷ INT ∷ LET ∷ IF ∷ WHILE ∷ NEWT ∷ SPAWN ∷ JOIN ∷ REF ∷ WRITE ∷ READ ∷ NEWL ∷ LCK ∷ ULCK ∷ NEWSEM ∷ POST ∷ []
 
 unfoldable pub ruleOf : ℕ → Rule
 ruleOf k = getD printed k WAIT
@@ -91,7 +91,6 @@ wordBy REF = Unary Ref
 wordBy WRITE = Binary Write
 wordBy READ = Unary Read
 wordBy NEWL = Leaf Newlock
-wordBy FREEL = Unary Freelock
 wordBy LCK = Unary Lock
 wordBy ULCK = Unary Unlock
 wordBy NEWSEM = Leaf Newsem
@@ -107,18 +106,17 @@ leafCode Var = 0
 leafCode Int = 1
 leafCode Newtid = 5
 leafCode Newlock = 11
-leafCode Newsem = 15
+leafCode Newsem = 14
 
 abbrev pub unaryCode : UnaryWord → ℕ
 unaryCode While = 4
 unaryCode Join = 7
 unaryCode Ref = 8
 unaryCode Read = 10
-unaryCode Freelock = 12
-unaryCode Lock = 13
-unaryCode Unlock = 14
-unaryCode Post = 16
-unaryCode Wait = 17
+unaryCode Lock = 12
+unaryCode Unlock = 13
+unaryCode Post = 15
+unaryCode Wait = 16
 
 abbrev pub binaryCode : BinaryWord → ℕ
 binaryCode Let = 2

@@ -81,7 +81,7 @@ pub fn index(x: u32) -> usize
     x as usize
 }
 
-// The rules of Figure 5, in the printed order, and behind them those of section 3.1.4.
+// The rules, one a word: those of Figure 5 in the printed order, and behind them those of section 3.1.4.
 pub enum Rule {
     VAR,
     INT,
@@ -95,7 +95,6 @@ pub enum Rule {
     WRITE,
     READ,
     NEWL,
-    FREEL,
     LCK,
     ULCK,
     NEWSEM,
@@ -111,7 +110,7 @@ fn leaf_code(w: LeafWord) -> u32
         LeafWord::Int => 1,
         LeafWord::Newtid => 5,
         LeafWord::Newlock => 11,
-        LeafWord::Newsem => 15,
+        LeafWord::Newsem => 14,
     }
 }
 
@@ -123,11 +122,10 @@ fn unary_code(w: UnaryWord) -> u32
         UnaryWord::Join => 7,
         UnaryWord::Ref => 8,
         UnaryWord::Read => 10,
-        UnaryWord::Freelock => 12,
-        UnaryWord::Lock => 13,
-        UnaryWord::Unlock => 14,
-        UnaryWord::Post => 16,
-        UnaryWord::Wait => 17,
+        UnaryWord::Lock => 12,
+        UnaryWord::Unlock => 13,
+        UnaryWord::Post => 15,
+        UnaryWord::Wait => 16,
     }
 }
 
@@ -170,11 +168,10 @@ pub fn rule_of(code: u32) -> Rule
         9 => Rule::WRITE,
         10 => Rule::READ,
         11 => Rule::NEWL,
-        12 => Rule::FREEL,
-        13 => Rule::LCK,
-        14 => Rule::ULCK,
-        15 => Rule::NEWSEM,
-        16 => Rule::POST,
+        12 => Rule::LCK,
+        13 => Rule::ULCK,
+        14 => Rule::NEWSEM,
+        15 => Rule::POST,
         _ => Rule::WAIT,
     }
 }
@@ -196,7 +193,6 @@ fn word_by(r: Rule) -> Word
         Rule::WRITE => Word::Binary(BinaryWord::Write),
         Rule::READ => Word::Unary(UnaryWord::Read),
         Rule::NEWL => Word::Leaf(LeafWord::Newlock),
-        Rule::FREEL => Word::Unary(UnaryWord::Freelock),
         Rule::LCK => Word::Unary(UnaryWord::Lock),
         Rule::ULCK => Word::Unary(UnaryWord::Unlock),
         Rule::NEWSEM => Word::Leaf(LeafWord::Newsem),

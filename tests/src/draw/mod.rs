@@ -4,6 +4,7 @@ mod afresh;
 mod chains;
 mod directed;
 pub mod draft;
+mod freed;
 pub mod full;
 mod headings;
 pub mod honest;
@@ -50,7 +51,8 @@ pub fn pair(seed: u64, number: u64) -> Drawn {
         0..=239 => Drawn::accepted(&honest_draft(random), "honest"),
         240..=244 => over_whole(random),
         245..=247 => without_start(random),
-        248..=249 => low_out(random),
+        248 => low_out(random),
+        249 => freelock(random),
         250..=339 => Drawn::accepted(&written_afresh(random), "afresh"),
         340..=349 => chains::chain(random),
         350..=399 => Drawn::accepted(&concurrent_draft(random), "concurrent"),
@@ -100,6 +102,12 @@ fn written_afresh(random: &mut Random) -> Draft {
 fn over_whole(random: &mut Random) -> Drawn {
     let draft = honest_draft(random);
     headings::over_whole(random, draft)
+}
+
+/// An honest draft, save that a word is `freelock`.
+fn freelock(random: &mut Random) -> Drawn {
+    let draft = honest_draft(random);
+    freed::freelock(random, &draft)
 }
 
 /// An honest `C3` draft, save that a lock line takes back less than it gives.

@@ -30,8 +30,21 @@ fn bytes(random: &mut Random) -> Vec<u8> {
 
 /// Words, numerals, commas and line ends in no order.
 fn scraps(random: &mut Random, opening: &[u8]) -> Vec<u8> {
-    let known: [&[u8]; 12] =
-        [b",", b",", b"\n", b"\n", b"0", b"1", b"2", b"int", b"ref,0,0\n", b"0,0,\n", b"int,0\n", b"int,0,0\n"];
+    let known: [&[u8]; 13] = [
+        b",",
+        b",",
+        b"\n",
+        b"\n",
+        b"0",
+        b"1",
+        b"2",
+        b"int",
+        b"ref,0,0\n",
+        b"0,0,\n",
+        b"int,0\n",
+        b"int,0,0\n",
+        b"freelock,0\n",
+    ];
     let mut text = opening.to_vec();
     for _ in 0..random.below(30) {
         let scrap = random.pick(&known);

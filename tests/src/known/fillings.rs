@@ -94,6 +94,7 @@ pub const SHEETS: &[Known] = &[
     pair(ONE, row!(""), "REFUSE,23,3,0,0"),
     pair(ONE, row!("0,,||"), "REFUSE,23,5,0,0"),
     pair("P,1|var,0|", row!("0,,|"), "REFUSE,14,2,0,0"),
+    pair("P,2|freelock,0|newlock,0|", row!("0,,|"), "REFUSE,45,2,0,0"),
     // More than 512 maps, which is judged on line 1; the head alone has no lines to fill.
     pair(ONE, "C2,1,1,1,513,0|", "REFUSE,22,1,0,0"),
     pair(ONE, "C2,1,1,1,257,0|", "REFUSE,23,1,0,0"),

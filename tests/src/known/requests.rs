@@ -189,11 +189,9 @@ pub const PAIRS: &[Known] = &[
     split("C3,1,1,2,2,0|int,0,0|lock,0,1|1|0|0,0,||", "REFUSE,23,7,0,0"),
     split("C3,1,1,2,2,0|int,0,0|lock,0,1|1|0|", "REFUSE,23,5,0,0"),
     split("C3,1,1,2,2,0|int,0,0|lock,1,0|1|0|0,0,|", "ACCEPT"),
-    // Newlock and unlock use out, lock and freelock use in.
+    // Newlock and unlock use out, lock uses in.
     pair("P,2|lock,0|newlock,0|", loads!("0,1,|1,1,|"), "ACCEPT"),
     pair("P,2|lock,0|newlock,0|", loads!("0,0,|1,1,|"), "REFUSE,32,2,3,0"),
-    pair("P,2|freelock,0|newlock,0|", loads!("0,1,|1,1,|"), "ACCEPT"),
-    pair("P,2|freelock,0|newlock,0|", loads!("0,0,|1,1,|"), "REFUSE,32,2,3,0"),
     pair("P,2|unlock,0|newlock,0|", loads!("0,2,|1,1,|"), "ACCEPT"),
     pair("P,2|unlock,0|newlock,0|", loads!("0,1,|1,1,|"), "REFUSE,32,2,3,0"),
     pair("P,1|newlock,0|", loads!("1,0,|"), "REFUSE,32,2,2,0"),
@@ -209,4 +207,19 @@ pub const PAIRS: &[Known] = &[
     pair(LOCK_IN_CELL, loads!("6,1,|6,1,|2,1,|6,1,|"), "ACCEPT"),
     pair(LOCK_IN_CELL, loads!("7,1,|6,1,|2,1,|7,1,|"), "REFUSE,31,5,1,0"),
     GIVEN_BACK_AS_NOTHING,
+    // Freelock goes, request (x): 45, after 12 on its line and before anything of a later line.
+    pair("P,2|freelock,0|newlock,0|", loads!("0,1,|1,1,|"), "REFUSE,45,2,0,0"),
+    pair("P,2|lock,0|newlock,0|", loads!("0,1,|1,1,|"), "ACCEPT"),
+    program("P,1|freelock,1|", "REFUSE,12,2,0,0"),
+    program("P,1|freelock,00|", "REFUSE,11,2,0,0"),
+    program("P,1|freelock|", "REFUSE,11,2,0,0"),
+    program("P,1|freelocks,0|", "REFUSE,11,2,0,0"),
+    program("P,1|freeloc,0|", "REFUSE,11,2,0,0"),
+    program("P,1|freelock,0", "REFUSE,11,2,0,0"),
+    program("P,1|freelock,0|", "REFUSE,45,2,0,0"),
+    program("P,2|freelock,0|bad|", "REFUSE,45,2,0,0"),
+    program("P,2|freelock,0|", "REFUSE,45,2,0,0"),
+    program("P,2|int,65536|freelock,0|", "REFUSE,12,2,0,0"),
+    program("P,1|int,0|freelock,0|", "REFUSE,13,3,0,0"),
+    program("P,2|var,0|freelock,0|", "REFUSE,45,3,0,0"),
 ];

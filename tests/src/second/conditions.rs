@@ -99,7 +99,7 @@ impl<F: Flows> Judge<'_, F> {
             Word::Read => self.read(),
             Word::Write => self.write(),
             Word::Newlock => self.newlock(),
-            Word::Lock | Word::Freelock => self.take(Type::lock_in),
+            Word::Lock => self.take(Type::lock_in),
             Word::Unlock => self.give(Type::lock_out),
             Word::Newsem => self.new_free(Type::sem),
             Word::Post => self.give(Type::sem),
@@ -177,7 +177,7 @@ impl<F: Flows> Judge<'_, F> {
         self.flows.sum(2, self.post(self.step), carried, self.pre)
     }
 
-    /// `join`, `lock`, `freelock` and `wait`: what the part carries is added.
+    /// `join`, `lock` and `wait`: what the part carries is added.
     fn take(&mut self, carried: Carried) -> Judged {
         self.is_int(1)?;
         let carried = self.carried(2, self.e1(), carried)?;

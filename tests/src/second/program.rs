@@ -1,4 +1,4 @@
-//! The program sheet: its lines, its tree and its variables (refusals 11 to 15).
+//! The program sheet: its lines, its tree and its variables (refusals 11 to 15, and 45).
 
 use super::text::Text;
 use crate::answer::{Returned, CONSTANTS, STEPS, VARIABLES};
@@ -38,12 +38,21 @@ fn read_lines(program: &[u8]) -> Result<Vec<Step>, Returned> {
     text.in_range((1..=STEPS).contains(&count))?;
     let mut steps = Vec::with_capacity(count as usize);
     for _ in 0..count {
-        let (word, number) = text.line(|line| Some((Word::spelled(line.letters())?, line.next_numeral()?)))?;
-        text.in_range(number < numbers_of(word))?;
+        let (word, number) = text.line(|line| Some((read_word(line)?, line.next_numeral()?)))?;
+        text.in_range(number < word.map_or(1, numbers_of))?;
+        let word = word.ok_or(text.refusal(45))?;
         steps.push(Step { word, number, second: 0, end: 0, binder: 0 });
     }
     text.end()?;
     Ok(steps)
+}
+
+/// Takes a word. `freelock` has the form of one and is none, request (x).
+fn read_word(line: &mut Text) -> Option<Option<Word>> {
+    match line.letters() {
+        b"freelock" => Some(None),
+        spelling => Word::spelled(spelling).map(Some),
+    }
 }
 
 /// How many numbers are in range behind this word, from 0.

@@ -38,8 +38,13 @@ impl<'a> Text<'a> {
         if yes {
             Ok(())
         } else {
-            Err(Returned::at_line(number, self.line - 1))
+            Err(self.refusal(number))
         }
+    }
+
+    /// The refusal of the line just read with this number.
+    pub fn refusal(&self, number: u32) -> Returned {
+        Returned::at_line(number, self.line - 1)
     }
 
     /// Refuses the first spare line, whatever its bytes.

@@ -47,15 +47,15 @@ fn halts(state: &State, thread: usize) -> bool {
     state.moves(thread).into_iter().all(|step| state.reduced(step).is_none())
 }
 
-/// At a `join` on an identifier that no finished thread has, at a `lock` or `freelock` on a lock that
-/// is not open, or at a `wait` on a semaphore that counts 0.
+/// At a `join` on an identifier that no finished thread has, at a `lock` on a lock that is not open, or at
+/// a `wait` on a semaphore that counts 0.
 pub fn waits(state: &State, thread: usize) -> bool {
     let Expression::Step { word, parts, .. } = state.threads[thread].expression.next_word() else { return false };
     match (word, parts.first().and_then(|part| part.value())) {
         (Word::Join, Some(Value::Identifier(identifier))) => {
             !state.threads.iter().any(|other| other.finished() && other.identifier == identifier)
         }
-        (Word::Lock | Word::Freelock, Some(Value::Lock(lock))) => state.locks.get(&lock) != Some(&LockState::Open),
+        (Word::Lock, Some(Value::Lock(lock))) => state.locks.get(&lock) != Some(&LockState::Open),
         (Word::Wait, Some(Value::Semaphore(semaphore))) => state.semaphores.get(&semaphore) == Some(&0),
         _ => false,
     }

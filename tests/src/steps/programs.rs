@@ -30,11 +30,6 @@ pub const RACY: &[(&str, &str)] = &[
          write,0|var,0|int,2|let,5|lock,0|var,1|write,0|var,0|int,1",
     ),
     (
-        "a freed lock that an unlock makes open again",
-        "let,0|ref,0|int,0|let,1|newlock,0|let,2|spawn,0|newtid,0|let,3|lock,0|var,1|write,0|var,0|int,2|\
-         let,4|freelock,0|var,1|let,5|unlock,0|var,1|write,0|var,0|int,1",
-    ),
-    (
         "Figure 7, two posts for two that wait",
         "let,0|ref,0|int,0|let,1|newsem,0|let,2|spawn,0|newtid,0|let,3|wait,0|var,1|write,0|var,0|int,1|\
          let,4|spawn,0|newtid,0|let,5|wait,0|var,1|write,0|var,0|int,1|let,6|post,0|var,1|post,0|var,1",
@@ -57,7 +52,6 @@ pub const ODD: &[&str] = &[
     "write,0|int,0|int,0",
     "lock,0|int,0",
     "unlock,0|newtid,0",
-    "freelock,0|ref,0|int,0",
     "join,0|newlock,0",
     "spawn,0|newlock,0|int,0",
     "wait,0|newlock,0",
@@ -70,8 +64,7 @@ pub const ODD: &[&str] = &[
 /// Programs that wait for ever, and show no fault for it.
 pub const WAITING: &[&str] = &[
     "join,0|newtid,0",
-    "let,0|newlock,0|let,1|lock,0|var,0|freelock,0|var,0",
-    "let,0|newlock,0|let,1|freelock,0|var,0|lock,0|var,0",
+    "let,0|newlock,0|let,1|lock,0|var,0|lock,0|var,0",
     "wait,0|newsem,0",
     "let,0|newsem,0|let,1|post,0|var,0|let,2|wait,0|var,0|wait,0|var,0",
 ];

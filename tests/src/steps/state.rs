@@ -9,7 +9,6 @@ use std::rc::Rc;
 pub enum LockState {
     Open,
     Closed,
-    Removed,
 }
 
 #[derive(Clone, Debug, PartialEq, Eq, Hash)]
@@ -25,7 +24,7 @@ impl Thread {
 }
 
 /// Threads in spawn order, cells, locks, identifiers, and semaphores with their counts. The names used
-/// so far are those listed; a removed lock stays listed, so its name stays used.
+/// so far are those listed.
 #[derive(Clone, Debug, PartialEq, Eq, Hash)]
 pub struct State {
     pub threads: Vec<Thread>,
@@ -119,8 +118,7 @@ impl State {
                 let listed = self.threads.get(step.finished)?;
                 (listed.finished() && listed.identifier == *identifier).then_some(())?;
             }
-            (Word::Lock, [Value::Lock(lock)]) => self.change_open_lock(*lock, LockState::Closed)?,
-            (Word::Freelock, [Value::Lock(lock)]) => self.change_open_lock(*lock, LockState::Removed)?,
+            (Word::Lock, [Value::Lock(lock)]) => self.close_open_lock(*lock)?,
             (Word::Unlock, [Value::Lock(lock)]) => drop(self.locks.insert(*lock, LockState::Open)),
             (Word::Post, [Value::Semaphore(semaphore)]) => *self.semaphores.get_mut(semaphore)? += 1,
             (Word::Wait, [Value::Semaphore(semaphore)]) => {
@@ -158,9 +156,9 @@ impl State {
         }
     }
 
-    /// `lock` and `freelock` wait unless the lock is open.
-    fn change_open_lock(&mut self, lock: Name, to: LockState) -> Option<()> {
+    /// `lock` waits unless the lock is open.
+    fn close_open_lock(&mut self, lock: Name) -> Option<()> {
         let known = self.locks.get_mut(&lock)?;
-        (*known == LockState::Open).then(|| *known = to)
+        (*known == LockState::Open).then(|| *known = LockState::Closed)
     }
 }

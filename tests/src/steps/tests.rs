@@ -29,20 +29,8 @@ fn the_start_identifier_is_used() {
 }
 
 #[test]
-fn a_freed_name_stays_used() {
-    let state = run_first_thread(start("let,0|newlock,0|let,1|freelock,0|var,0|lock,0|var,0"));
-    assert_eq!(state.locks[&1], LockState::Removed);
-    assert!(waits(&state, 0) && fault(&state).is_none());
-    let mut next = start("newlock,0");
-    next.locks = state.locks;
-    assert_eq!(next.reduced(Move { thread: 0, part: 0, finished: 0, name: 1 }), None);
-}
-
-#[test]
 fn unlock_goes_ahead_on_any_lock() {
-    for before in
-        ["newlock,0", "let,5|newlock,0|let,6|freelock,0|var,5|var,5", "let,5|newlock,0|let,6|lock,0|var,5|var,5"]
-    {
+    for before in ["newlock,0", "let,5|newlock,0|let,6|lock,0|var,5|var,5"] {
         let state = run_first_thread(start(&format!("unlock,0|{before}")));
         assert_eq!(first_value(&state), Some(Value::Constant(0)), "{before}");
         assert_eq!(state.locks[&1], LockState::Open, "{before}");
@@ -50,8 +38,8 @@ fn unlock_goes_ahead_on_any_lock() {
 }
 
 #[test]
-fn freelock_waits_for_an_open_lock() {
-    let state = run_first_thread(start("let,0|newlock,0|let,1|lock,0|var,0|freelock,0|var,0"));
+fn lock_waits_for_an_open_lock() {
+    let state = run_first_thread(start("let,0|newlock,0|let,1|lock,0|var,0|lock,0|var,0"));
     assert_eq!(state.locks[&1], LockState::Closed);
     assert!(waits(&state, 0) && fault(&state).is_none());
 }

@@ -17,7 +17,7 @@ SILENT = {"var", "int", "let"}
 # Steps that make a thing which keeps rights.
 MAKERS = {"newlock", "newtid", "newsem"}
 # Steps that may have to wait.
-WAITS = {"join", "lock", "freelock", "wait"}
+WAITS = {"join", "lock", "wait"}
 
 
 class Holder(NamedTuple):
@@ -114,7 +114,7 @@ class Telling:
         """The step's own effect: on the thread as its row says, on others by its word."""
         self._set(Holder("thread", site.thread), site.post)
         effect = {
-            "newlock": self._opens, "unlock": self._opens, "lock": self._closes, "freelock": self._closes, "join": self._joined,
+            "newlock": self._opens, "unlock": self._opens, "lock": self._closes, "join": self._joined,
             "newsem": self._counts_none, "post": self._counts_up, "wait": self._counts_down,
         }.get(site.word)
         if effect and self._has_maps(site):

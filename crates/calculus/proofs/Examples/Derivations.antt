@@ -6,8 +6,8 @@ use native.Mathlib.Decide.{ℕ-discrete}
 use native.Mathlib.Omega.{arith}
 use Rattle.calculus.specs.Claim.{Safe}
 use Rattle.calculus.specs.Capability.{nothing, _≥ᶜ_, _≈_⊕_}
-use Rattle.calculus.specs.Figure5.{Ty, int-type, ref-type, lock-type, tid-type, sem-type, as-it-is, looser, Env, empty, _∣_∣_⊢_∶_∣_, VAR, INT, LET, IF, WHILE, NEWT, SPAWN, JOIN, REF, WRITE, READ, NEWL, FREEL, LCK, ULCK, NEWSEM, POST, WAIT}
-use Rattle.calculus.specs.Examples.{holding, figure-2b, figure-2c, section-2-2-1-thread, section-2-2-1, handover, two-loads, freed-lock}
+use Rattle.calculus.specs.Figure5.{Ty, int-type, ref-type, lock-type, tid-type, sem-type, as-it-is, looser, Env, empty, _∣_∣_⊢_∶_∣_, VAR, INT, LET, IF, WHILE, NEWT, SPAWN, JOIN, REF, WRITE, READ, NEWL, LCK, ULCK, NEWSEM, POST, WAIT}
+use Rattle.calculus.specs.Examples.{holding, figure-2b, figure-2c, section-2-2-1-thread, section-2-2-1, handover, two-loads}
 use Rattle.calculus.proofs.Laws.Order.{≥-refl}
 use Rattle.calculus.proofs.Safety.{derived-is-safe}
 
@@ -138,21 +138,3 @@ two-loads-derived =
 
 pub two-loads-is-safe : Safe two-loads
 two-loads-is-safe = derived-is-safe (omega arith) two-loads-derived (holding-at-most 1 1 0 (omega arith) (omega arith))
-
--- ---- The lock that is locked after it was freed: Figure 5 derives it, since the thread that would gain so much waits for good
-
-pub freed-lock-derived : 1 ∣ empty ∣ holding 1 0 ⊢ freed-lock ∶ int-type ∣ holding 1 0
-unfolding ℕ-discrete
-freed-lock-derived =
-    LET {τ₁ = x-type} (REF INT)
-    (LET {τ₁ = lock-type (holding 1 0) (holding 1 0)} (NEWL ≥-refl (holding-sum 0 0 1 0))
-    (LET {τ₁ = int-type} (FREEL (VAR refl as-it-is) (holding-sum 0 0 1 0))
-    (LET {τ₁ = lock-type (holding 0 0) (holding 0 0)} (NEWL ≥-refl (holding-sum 1 0 0 0))
-    (LET {τ₁ = int-type} (LCK (VAR refl as-it-is) (holding-sum 1 0 1 0))
-    (LET {τ₁ = int-type}
-    (SPAWN {Ψ₁ = nothing} {Ψ₃ = holding 1 0} NEWT (WRITE {Ψ₂ = holding 1 0} {τ = int-type} {ρ = 0} (VAR refl as-it-is) INT (omega arith))
-    (record { at = λ ρ. omega arith }) (holding-sum 1 0 1 0))
-    (WRITE {Ψ₂ = holding 1 0} {τ = int-type} {ρ = 0} (VAR refl as-it-is) INT (omega arith)))))))
-
-pub freed-lock-is-safe : Safe freed-lock
-freed-lock-is-safe = derived-is-safe (omega arith) freed-lock-derived (holding-at-most 1 1 0 (omega arith) (omega arith))

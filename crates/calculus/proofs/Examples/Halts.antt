@@ -3,14 +3,14 @@ use Prim.Native.Nat.{ℕ, zero, suc}
 use mathlib.Core.Path.{_≡_, refl, ap, sym, _∙_}
 use mathlib.Core.Logic.{_≢_, _⊎_, inl, inr}
 use mathlib.Core.Option.{some}
-use mathlib.Core.List.{[], _∷_}
+use mathlib.Core.List.{[]}
 use native.Mathlib.Decide.{ℕ-discrete}
 use native.Mathlib.Omega.{arith}
-use Rattle.calculus.specs.Expression.{Value, int, name, Unary, join, ref, read, freelock, lock, unlock, post, wait, Exp, value, unary, unary-redex, at-word}
-use Rattle.calculus.specs.State.{LockState, closed, removed, opened, a-lock, Thread, State, Move, update}
+use Rattle.calculus.specs.Expression.{Value, int, name, Unary, join, ref, read, lock, unlock, post, wait, Exp, value, unary, unary-redex, at-word}
+use Rattle.calculus.specs.State.{LockState, opened, a-lock, Thread, State, Move, update}
 use Rattle.calculus.specs.Reduction.{_>>_, lock-state, zero-exp, becomes, unary-reduct, reduce, attempt, run, start}
-use Rattle.calculus.specs.Claim.{ThreadAt, Finished, finished, Waits, at-join, at-lock, at-freelock, at-wait, Halts, HaltsWell, Safe}
-use Rattle.calculus.specs.Examples.{goes, names, on-constant, figure-2b, moves-2b-to-join, figure-2c, moves-2c-to-lock, freed-lock, moves-freed-lock, handover, moves-handover-to-newsem, moves-handover-to-wait, post-of-lock, moves-post-of-lock}
+use Rattle.calculus.specs.Claim.{ThreadAt, Finished, finished, Waits, at-join, at-lock, at-wait, Halts, HaltsWell, Safe}
+use Rattle.calculus.specs.Examples.{names, on-constant, figure-2b, moves-2b-to-join, figure-2c, moves-2c-to-lock, handover, moves-handover-to-newsem, moves-handover-to-wait, post-of-lock, moves-post-of-lock}
 use Rattle.calculus.proofs.Laws.Maps.{some-injective, none-is-not-some}
 use Rattle.calculus.proofs.Laws.NextWord.{word-injective}
 use Rattle.calculus.proofs.Laws.Waiting.{waiting-halts, stuck-halts}
@@ -22,7 +22,6 @@ constant-stops : (o : Unary) → o ≢ ref → (s : State) (m : Move) (t : Threa
 constant-stops join d s m t s′ q = none-is-not-some q
 constant-stops ref d s m t s′ q = d refl
 constant-stops read d s m t s′ q = none-is-not-some q
-constant-stops freelock d s m t s′ q = none-is-not-some q
 constant-stops lock d s m t s′ q = none-is-not-some q
 constant-stops unlock d s m t s′ q = none-is-not-some q
 constant-stops post d s m t s′ q = none-is-not-some q
@@ -42,8 +41,7 @@ unary-is-no-value h = let z : _≡_ {A = ℕ} 0 1 = cc in absurd (omega (arith, 
 -- A thread waits on what a name names, so never on a constant.
 constant-is-not-waited-for : (s : State) (o : Unary) (i : ℕ) → ¬ Waits s (record { tid = i; body = on-constant o })
 constant-is-not-waited-for s o i (at-join n b k f) = constant-is-no-name b
-constant-is-not-waited-for s o i (at-lock n l b k f) = constant-is-no-name b
-constant-is-not-waited-for s o i (at-freelock n l b k f) = constant-is-no-name b
+constant-is-not-waited-for s o i (at-lock n b f) = constant-is-no-name b
 constant-is-not-waited-for s o i (at-wait n b e) = constant-is-no-name b
 
 pub word-on-constant-halts-oddly : (o : Unary) → o ≢ ref → ¬ HaltsWell (start (on-constant o))
@@ -76,8 +74,7 @@ about-to-post = record { tid = 0; body = unary post (value (name 1)) }
 
 post-never-waits : (s : State) → ¬ Waits s about-to-post
 post-never-waits s (at-join n b k f) = let z : _≡_ {A = ℕ} 0 1 = cc in omega (arith, z)
-post-never-waits s (at-lock n l b k f) = let z : _≡_ {A = ℕ} 0 1 = cc in omega (arith, z)
-post-never-waits s (at-freelock n l b k f) = let z : _≡_ {A = ℕ} 0 1 = cc in omega (arith, z)
+post-never-waits s (at-lock n b f) = let z : _≡_ {A = ℕ} 0 1 = cc in omega (arith, z)
 post-never-waits s (at-wait n b e) = let z : _≡_ {A = ℕ} 0 1 = cc in omega (arith, z)
 
 post-of-lock-halts : Halts lock-posted 0
@@ -106,25 +103,13 @@ pub record HaltsWaiting (s : State) (i : ℕ) : Type 0 where
   pub waits : Waits s t
   pub halts : Halts s i
 
-closed-is-not-opened : closed ≢ opened
-closed-is-not-opened h = let z : _≡_ {A = ℕ} 0 1 = cc in absurd (omega (arith, z))
-
-removed-is-not-opened : removed ≢ opened
-removed-is-not-opened h = let z : _≡_ {A = ℕ} 0 1 = cc in absurd (omega (arith, z))
-
 waiting : {t : Thread} (s : State) (i : ℕ) → ThreadAt s i t → Waits s t → HaltsWaiting s i
 waiting {t} s i there w = record { t = t; there = there; waits = w; halts = waiting-halts s i there w }
 
 -- Figure 2 (c), while the spawned thread holds the lock.
 pub figure-2c-waits-at-closed-lock : HaltsWaiting (run moves-2c-to-lock (start figure-2c)) 0
 unfolding start run attempt reduce ℕ-discrete
-figure-2c-waits-at-closed-lock = waiting (run moves-2c-to-lock (start figure-2c)) 0 refl (at-lock 2 closed refl refl closed-is-not-opened)
-
--- The lock that was freed: its name, 2, stays used, so the new lock is 3, and the thread waits at a removed lock for good.
-pub freed-lock-waits-at-removed-lock : HaltsWaiting (run (names 0 3 ∷ goes 0 ∷ []) (run moves-freed-lock (start freed-lock))) 0
-unfolding start run attempt reduce ℕ-discrete
-freed-lock-waits-at-removed-lock =
-    waiting (run (names 0 3 ∷ goes 0 ∷ []) (run moves-freed-lock (start freed-lock))) 0 refl (at-lock 2 removed refl refl removed-is-not-opened)
+figure-2c-waits-at-closed-lock = waiting (run moves-2c-to-lock (start figure-2c)) 0 refl (at-lock 2 refl refl)
 
 -- The thread that the semaphore is for, before the first thread posts.
 pub handover-waits-at-count-0 : HaltsWaiting (run moves-handover-to-wait (run moves-handover-to-newsem (start handover))) 1
@@ -142,7 +127,7 @@ figure-2b-waits-at-join = waiting (run moves-2b-to-join (start figure-2b)) 0 ref
     none-finished (suc zero) u at-u same (finished v e) = unary-is-no-value (ap (λ (x : Thread). x .body) (some-injective at-u) ∙ e)
     none-finished (suc (suc j)) u at-u same f = none-is-not-some at-u
 
--- ---- `unlock` goes ahead on any lock, held or not, and makes a removed one open
+-- ---- `unlock` goes ahead on any lock, held or not
 
 pub unlock-opens : (s : State) (m : Move) (t : Thread) (n : ℕ) (l : LockState) → s .names n ≡ a-lock l →
     unary-reduct s m t unlock (name n) ≡ some (becomes s m t (update (s .names) n (a-lock opened)) zero-exp)

@@ -8,9 +8,9 @@ use mathlib.Core.List.{List, [], _∷_}
 use native.Mathlib.Decide.{ℕ-discrete}
 use native.Mathlib.Omega.{arith}
 use lib.ListN.{getElem?}
-use Rattle.calculus.specs.Expression.{Value, Unary, join, ref, read, freelock, lock, unlock, post, wait, Maker, newtid, newlock, newsem, Exp, Redex, let-redex, if-redex, while-redex, spawn-redex, write-redex, unary-redex, make-redex, next, choose}
-use Rattle.calculus.specs.State.{LockState, opened, Slot, unused, identifier, cell, a-lock, semaphore, Thread, State, Move, update}
-use Rattle.calculus.specs.Reduction.{name-of, if-unused, if-identifier, content, lock-state, if-opened, count, one-less, if-equal, value-of, word-of, made, named, taken, unary-reduct, reduct, reduce, or-else, attempt, states, start}
+use Rattle.calculus.specs.Expression.{Value, Unary, join, ref, read, lock, unlock, post, wait, Maker, newtid, newlock, newsem, Exp, Redex, let-redex, if-redex, while-redex, spawn-redex, write-redex, unary-redex, make-redex, next, choose}
+use Rattle.calculus.specs.State.{LockState, opened, closed, Slot, unused, identifier, cell, a-lock, semaphore, Thread, State, Move, update}
+use Rattle.calculus.specs.Reduction.{name-of, if-unused, if-identifier, content, lock-state, if-opened, count, one-less, if-equal, value-of, word-of, made, named, unary-reduct, reduct, reduce, or-else, attempt, states, start}
 use Rattle.calculus.specs.Claim.{Every}
 use Rattle.calculus.proofs.Laws.Maps.{some-injective, bind-is-some, update-other, update-above}
 
@@ -48,14 +48,6 @@ module _ (s : State) (m : Move) (t : Thread) where
       let (_, _, q₁) = bind-is-some (if-unused (s .names (m .fresh))) q in
       told (one-changed (m .fresh) new used) q₁
 
-  taken-changes-one : (v : Value) (after : Slot) (s′ : State) → after ≢ unused → taken s m t v after ≡ some s′ →
-      OneChanged (s .names) (s′ .names)
-  taken-changes-one v after s′ used q =
-      let (n, _, q₁) = bind-is-some (name-of v) q in
-      let (l, _, q₂) = bind-is-some (lock-state (s .names n)) q₁ in
-      let (_, _, q₃) = bind-is-some (if-opened l) q₂ in
-      told (one-changed n after used) q₃
-
   unary-changes-one : (o : Unary) (v : Value) (s′ : State) → unary-reduct s m t o v ≡ some s′ → OneChanged (s .names) (s′ .names)
   unary-changes-one join v s′ q =
       let (n, _, q₁) = bind-is-some (name-of v) q in
@@ -69,8 +61,11 @@ module _ (s : State) (m : Move) (t : Thread) where
       let (n, _, q₁) = bind-is-some (name-of v) q in
       let (_, _, q₂) = bind-is-some (content (s .names n)) q₁ in
       told none-changed q₂
-  unary-changes-one freelock v s′ q = taken-changes-one v _ s′ lock-is-used q
-  unary-changes-one lock v s′ q = taken-changes-one v _ s′ lock-is-used q
+  unary-changes-one lock v s′ q =
+      let (n, _, q₁) = bind-is-some (name-of v) q in
+      let (l, _, q₂) = bind-is-some (lock-state (s .names n)) q₁ in
+      let (_, _, q₃) = bind-is-some (if-opened l) q₂ in
+      told (one-changed n (a-lock closed) lock-is-used) q₃
   unary-changes-one unlock v s′ q =
       let (n, _, q₁) = bind-is-some (name-of v) q in
       let (_, _, q₂) = bind-is-some (lock-state (s .names n)) q₁ in
@@ -111,7 +106,7 @@ attempt-changes-one s m = by-cases (reduce s m) refl
         let (r, _, q₂) = bind-is-some (word-of (next (t .body))) q₁ in
         reduct-changes-one s m t r s′ q₂
 
--- ---- A used name stays used, a freed one too
+-- ---- A used name stays used
 
 change-keeps-used : {f g : ℕ → Slot} → OneChanged f g → (n : ℕ) → f n ≢ unused → g n ≢ unused
 change-keeps-used none-changed n h = h

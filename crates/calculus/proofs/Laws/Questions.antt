@@ -4,7 +4,7 @@ use mathlib.Core.Path.{_≡_, refl, ap}
 use mathlib.Core.Option.{some, none}
 use native.Mathlib.Decide.{ℕ-discrete}
 use Rattle.calculus.specs.Expression.{Value, Redex, Next, is-value, at-variable, at-word, choose}
-use Rattle.calculus.specs.State.{LockState, opened, closed, removed, Slot, unused, identifier, cell, a-lock, semaphore}
+use Rattle.calculus.specs.State.{LockState, opened, closed, Slot, unused, identifier, cell, a-lock, semaphore}
 use Rattle.calculus.specs.Reduction.{if-unused, if-opened, one-less, if-equal, value-of, word-of}
 use Rattle.calculus.proofs.Laws.Maps.{some-injective, none-is-not-some}
 
@@ -18,7 +18,6 @@ unused-tells (semaphore c) h = none-is-not-some h
 pub opened-tells : {u : Unit {0}} (l : LockState) → if-opened l ≡ some u → l ≡ opened
 opened-tells opened h = refl
 opened-tells closed h = none-is-not-some h
-opened-tells removed h = none-is-not-some h
 
 pub one-less-tells : {left : ℕ} (c : ℕ) → one-less c ≡ some left → c ≡ suc left
 one-less-tells zero h = none-is-not-some h

@@ -1,16 +1,15 @@
 -- The other direction of progress, in any state: a thread that has finished, or waits, halts.
 use Prim.Native.Nat.{ℕ}
 use mathlib.Core.Path.{_≡_, refl, sym, ap, _∙_}
-use mathlib.Core.Logic.{_≢_}
 use mathlib.Core.Option.{Option, none, some}
 use lib.ListN.{getElem?}
-use Rattle.calculus.specs.Expression.{name, join, wait, Redex, at-word, next}
-use Rattle.calculus.specs.State.{LockState, opened, Slot, a-lock, Thread, State, Move}
-use Rattle.calculus.specs.Reduction.{_>>=_, if-identifier, lock-state, if-opened, count, if-equal, value-of, word-of, taken, unary-reduct, reduct, reduce}
-use Rattle.calculus.specs.Claim.{ThreadAt, Finished, finished, Waits, at-join, at-lock, at-freelock, at-wait, Halts}
+use Rattle.calculus.specs.Expression.{name, join, lock, wait, Redex, at-word, next}
+use Rattle.calculus.specs.State.{Thread, State, Move}
+use Rattle.calculus.specs.Reduction.{_>>=_, if-identifier, lock-state, count, if-equal, value-of, word-of, unary-reduct, reduct, reduce}
+use Rattle.calculus.specs.Claim.{ThreadAt, Finished, finished, Waits, at-join, at-lock, at-wait, Halts}
 use Rattle.calculus.proofs.Laws.Maps.{none-is-not-some, bind-is-some, bind-goes-on}
 use Rattle.calculus.proofs.Laws.NextWord.{word-injective, word-is-no-value, next-is-value}
-use Rattle.calculus.proofs.Laws.Questions.{opened-tells, equal-tells, value-tells, word-tells}
+use Rattle.calculus.proofs.Laws.Questions.{equal-tells, value-tells, word-tells}
 
 -- What never gives an answer gives none.
 no-answer {ℓ} : {A : Type ℓ} (o : Option A) → ((a : A) → o ≡ some a → ⊥) → o ≡ none
@@ -30,12 +29,6 @@ stuck-halts {t} s i there stuck m e =
 pub finished-halts : {t : Thread} (s : State) (i : ℕ) → ThreadAt s i t → Finished t → Halts s i
 finished-halts s i there (finished v e) = stuck-halts s i there λ m r s′ b q. word-is-no-value b (ap next e)
 
-not-open-is-not-taken : (s : State) (m : Move) (t : Thread) (n : ℕ) (l : LockState) (after : Slot) (s′ : State) → s .names n ≡ a-lock l →
-    l ≢ opened → taken s m t (name n) after ≡ some s′ → ⊥
-not-open-is-not-taken s m t n l after s′ found shut q =
-    let (_, o, _) = bind-is-some (if-opened l) (bind-goes-on (lock-state (s .names n)) _ (ap lock-state found) q) in
-    shut (opened-tells l o)
-
 pub waiting-halts : {t : Thread} (s : State) (i : ℕ) → ThreadAt s i t → Waits s t → Halts s i
 waiting-halts {t} s i there (at-join n b kind none-finished) = stuck-halts s i there λ m r s′ w q.
     let q₀ : unary-reduct s m t join (name n) ≡ some s′ = rw (word-injective (sym w ∙ b)) at q in
@@ -45,10 +38,9 @@ waiting-halts {t} s i there (at-join n b kind none-finished) = stuck-halts s i t
     let (v, ended, _) = bind-is-some (value-of (next (u .body))) q₃ in
     let is-v = next-is-value (u .body) (value-tells (next (u .body)) ended) in
     none-finished (m .finished) u at-u (equal-tells (u .tid) n same) (finished v is-v)
-waiting-halts {t} s i there (at-lock n l b found shut) =
-    stuck-halts s i there λ m r s′ w q. not-open-is-not-taken s m t n l _ s′ found shut (rw (word-injective (sym w ∙ b)) at q)
-waiting-halts {t} s i there (at-freelock n l b found shut) =
-    stuck-halts s i there λ m r s′ w q. not-open-is-not-taken s m t n l _ s′ found shut (rw (word-injective (sym w ∙ b)) at q)
+waiting-halts {t} s i there (at-lock n b found) = stuck-halts s i there λ m r s′ w q.
+    let q₀ : unary-reduct s m t lock (name n) ≡ some s′ = rw (word-injective (sym w ∙ b)) at q in
+    none-is-not-some (bind-goes-on (lock-state (s .names n)) _ (ap lock-state found) q₀)
 waiting-halts {t} s i there (at-wait n b found) = stuck-halts s i there λ m r s′ w q.
     let q₀ : unary-reduct s m t wait (name n) ≡ some s′ = rw (word-injective (sym w ∙ b)) at q in
     none-is-not-some (bind-goes-on (count (s .names n)) _ (ap count found) q₀)

@@ -125,6 +125,12 @@ enum-known-r-14 c = search needs
 four-requires-20 : tie.Need-four-requires-20
 four-requires-20 c κs = search needs
 
+enum-known-r-15 : tie.Need-enum-known-r-15
+enum-known-r-15 c = search needs
+
+four-requires-21 : tie.Need-four-requires-21
+four-requires-21 c κs = search needs
+
 returns : tie.Need-returns
 unfolding returned
 returns c = c .four .ensures ∙ ap (λ r. returned (Refuse r)) (sym (c .before .enum-told .given .1))
@@ -205,6 +211,10 @@ returns-20 : tie.Need-returns-20
 unfolding returned
 returns-20 c = c .four20 .ensures ∙ ap (λ r. returned (Refuse r)) (sym (c .before .before .r14 .given .1))
 
+returns-21 : tie.Need-returns-21
+unfolding returned
+returns-21 c = c .four21 .ensures ∙ ap (λ r. returned (Refuse r)) (sym (c .before .before .r15 .given .1))
+
 pub refusal-numbers-spec : {M : Type 1} → statement M
 refusal-numbers-spec =
     tie.close
@@ -249,6 +259,8 @@ refusal-numbers-spec =
     four-requires-19
     enum-known-r-14
     four-requires-20
+    enum-known-r-15
+    four-requires-21
     returns
     returns-2
     returns-3
@@ -268,4 +280,5 @@ refusal-numbers-spec =
     returns-17
     returns-18
     returns-19
-    returns-20)
+    returns-20
+    returns-21)

@@ -242,7 +242,7 @@ impl<'r> Builder<'r> {
             _ if size > 12 => self.random.pick(&[Let, Let, Let, If]),
             Type::Int => self.random.pick(&[
                 Let, Let, Let, If, While, Spawn, Spawn, Join, Read, Read, Write, Write, Write, Lock, Lock, Unlock,
-                Unlock, Freelock, Post, Post, Wait, Wait, Int, Var,
+                Unlock, Post, Post, Wait, Wait, Int, Var,
             ]),
             Type::Ref { .. } => self.random.pick(&[Let, Let, If, Ref, Ref, Read, Var]),
             Type::Lock { .. } => self.random.pick(&[Let, If, Newlock, Newlock, Read, Var]),

@@ -8,8 +8,8 @@ use crate::words::Word;
 impl Builder<'_> {
     /// A step with this word and type. False, with nothing built, when it cannot be had here.
     pub fn step(&mut self, word: Word, kind: usize, now: &mut Map, need: &Map, size: usize) -> bool {
-        use Word::{Freelock, Join, Lock, Post, Spawn, Unlock, Wait};
-        let moves = matches!(word, Spawn | Join | Lock | Unlock | Freelock | Post | Wait);
+        use Word::{Join, Lock, Post, Spawn, Unlock, Wait};
+        let moves = matches!(word, Spawn | Join | Lock | Unlock | Post | Wait);
         if moves && self.draft.maps.len() > MAPS_IN_USE {
             return false;
         }
@@ -29,7 +29,7 @@ impl Builder<'_> {
             (Word::Ref, Type::Ref { content, .. }) => self.new_cell(kind, content, now, need, size),
             (Word::Read, _) => self.read(kind, now, need, size),
             (Word::Write, Type::Int) => self.write(kind, now, need, size),
-            (Join | Lock | Freelock | Wait, Type::Int) => self.take(word, kind, now, need, size),
+            (Join | Lock | Wait, Type::Int) => self.take(word, kind, now, need, size),
             (Unlock | Post, Type::Int) => self.give(word, kind, now, need, size),
             _ => false,
         }
@@ -271,7 +271,7 @@ impl Builder<'_> {
 pub(super) fn moved(word: Word, part: Type) -> Option<usize> {
     match (word, part) {
         (Word::Join, Type::Tid(map)) => Some(map),
-        (Word::Lock | Word::Freelock, Type::Lock { taken, .. }) => Some(taken),
+        (Word::Lock, Type::Lock { taken, .. }) => Some(taken),
         (Word::Unlock, Type::Lock { given, .. }) => Some(given),
         (Word::Wait | Word::Post, Type::Sem(map)) => Some(map),
         _ => None,

@@ -83,7 +83,7 @@ fn of_pair(random: &mut Random, pair: Drawn) -> Unfilled {
     let promise = match pair.promise {
         Promise::Accepted if too_many => Promise::Exactly(Returned::at_line(43, 0)),
         Promise::Breaks(word, condition) if condition <= word.type_conditions() && !too_many => pair.promise,
-        Promise::Exactly(Returned { number: 10..=15, .. }) => pair.promise,
+        Promise::Exactly(Returned { number: 10..=15 | 45, .. }) => pair.promise,
         _ => Promise::Open,
     };
     let given = (pair.promise == Promise::Accepted).then(|| pair.split.clone());

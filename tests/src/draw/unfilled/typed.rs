@@ -109,10 +109,9 @@ impl<'r> Typed<'r> {
         use Word::*;
         let words: &[Word] = match (size, self.draft.types[kind]) {
             (0..=1, _) => &[],
-            (_, Type::Int) => &[
-                Let, Let, Let, Let, Let, Let, If, While, Spawn, Spawn, Join, Read, Write, Lock, Freelock, Unlock, Post,
-                Wait,
-            ],
+            (_, Type::Int) => {
+                &[Let, Let, Let, Let, Let, Let, If, While, Spawn, Spawn, Join, Read, Write, Lock, Unlock, Post, Wait]
+            }
             _ => &[Let, Let, If],
         };
         match words {

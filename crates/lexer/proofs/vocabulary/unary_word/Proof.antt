@@ -151,17 +151,10 @@ returns-8 c =
     (skip _ _ _ (sym (c7 .before .same7 .ensures) ∙ c7 .if7 .left)
     (hit _ _ _ (sym (c .before .same8 .ensures) ∙ c .if8 .taken))))))))
 
-slice-aggregate-same-9 : tie.Need-slice-aggregate-same-9
-slice-aggregate-same-9 c = search needs
-
-same-requires-9 : tie.Need-same-requires-9
-same-requires-9 c κs = search needs
-
 returns-9 : tie.Need-returns-9
 unfolding unaryWords bytes
 returns-9 c =
-    let c8 = c .before .before .before in
-    let c7 = c8 .before .before .before in
+    let c7 = c .before .before .before in
     let c6 = c7 .before .before .before in
     let c5 = c6 .before .before .before in
     let c4 = c5 .before .before .before in
@@ -175,30 +168,8 @@ returns-9 c =
     (skip _ _ _ (sym (c5 .before .same5 .ensures) ∙ c5 .if5 .left)
     (skip _ _ _ (sym (c6 .before .same6 .ensures) ∙ c6 .if6 .left)
     (skip _ _ _ (sym (c7 .before .same7 .ensures) ∙ c7 .if7 .left)
-    (skip _ _ _ (sym (c8 .before .same8 .ensures) ∙ c8 .if8 .left)
-    (hit _ _ _ (sym (c .before .same9 .ensures) ∙ c .if9 .taken)))))))))
-
-returns-10 : tie.Need-returns-10
-unfolding unaryWords bytes
-returns-10 c =
-    let c8 = c .before .before .before in
-    let c7 = c8 .before .before .before in
-    let c6 = c7 .before .before .before in
-    let c5 = c6 .before .before .before in
-    let c4 = c5 .before .before .before in
-    let c3 = c4 .before .before .before in
-    let c2 = c3 .before .before .before in
-    let c1 = c2 .before .before .before in
-    skip _ _ _ (sym (c1 .before .same .ensures) ∙ c1 .if1 .left)
-    (skip _ _ _ (sym (c2 .before .same2 .ensures) ∙ c2 .if2 .left)
-    (skip _ _ _ (sym (c3 .before .same3 .ensures) ∙ c3 .if3 .left)
-    (skip _ _ _ (sym (c4 .before .same4 .ensures) ∙ c4 .if4 .left)
-    (skip _ _ _ (sym (c5 .before .same5 .ensures) ∙ c5 .if5 .left)
-    (skip _ _ _ (sym (c6 .before .same6 .ensures) ∙ c6 .if6 .left)
-    (skip _ _ _ (sym (c7 .before .same7 .ensures) ∙ c7 .if7 .left)
-    (skip _ _ _ (sym (c8 .before .same8 .ensures) ∙ c8 .if8 .left)
-    (skip _ _ _ (sym (c .before .same9 .ensures) ∙ c .if9 .left)
-    (none-left _)))))))))
+    (skip _ _ _ (sym (c .before .same8 .ensures) ∙ c .if8 .left)
+    (none-left _))))))))
 
 pub unary-word-spec : {M : Type 1} → statement M
 unary-word-spec =
@@ -228,7 +199,4 @@ unary-word-spec =
     slice-aggregate-same-8
     same-requires-8
     returns-8
-    slice-aggregate-same-9
-    same-requires-9
-    returns-9
-    returns-10)
+    returns-9)

@@ -105,29 +105,20 @@ giving-requires-2 c κs = tt
 enum-told-14 : tie.Need-enum-told-14
 enum-told-14 c = search needs
 
-in-load-in-requires-2 : tie.Need-in-load-in-requires-2
-in-load-in-requires-2 c κs = search needs
-
-giving-requires-3 : tie.Need-giving-requires-3
-giving-requires-3 c κs = tt
-
-enum-told-15 : tie.Need-enum-told-15
-enum-told-15 c = search needs
-
 out-load-in-requires-2 : tie.Need-out-load-in-requires-2
 out-load-in-requires-2 c κs = search needs
 
 taking-requires-2 : tie.Need-taking-requires-2
 taking-requires-2 c κs = tt
 
-enum-told-16 : tie.Need-enum-told-16
-enum-told-16 c = search needs
+enum-told-15 : tie.Need-enum-told-15
+enum-told-15 c = search needs
 
 unchanged-requires-6 : tie.Need-unchanged-requires-6
 unchanged-requires-6 c κs = tt
 
-enum-told-17 : tie.Need-enum-told-17
-enum-told-17 c = search needs
+enum-told-16 : tie.Need-enum-told-16
+enum-told-16 c = search needs
 
 load-in-requires-3 : tie.Need-load-in-requires-3
 load-in-requires-3 c κs = search needs
@@ -135,14 +126,14 @@ load-in-requires-3 c κs = search needs
 taking-requires-3 : tie.Need-taking-requires-3
 taking-requires-3 c κs = tt
 
-enum-told-18 : tie.Need-enum-told-18
-enum-told-18 c = search needs
+enum-told-17 : tie.Need-enum-told-17
+enum-told-17 c = search needs
 
 load-in-requires-4 : tie.Need-load-in-requires-4
 load-in-requires-4 c κs = search needs
 
-giving-requires-4 : tie.Need-giving-requires-4
-giving-requires-4 c κs = tt
+giving-requires-3 : tie.Need-giving-requires-3
+giving-requires-3 c κs = tt
 
 returns : tie.Need-returns
 unfolding wayBy
@@ -198,23 +189,19 @@ returns-13 c = rw (c .before .before .enum-told13 .given .1) (ap (λ E. Unary (A
 
 returns-14 : tie.Need-returns-14
 unfolding wayBy
-returns-14 c = rw (c .before .before .enum-told14 .given .1) (ap (λ E. Unary (After E)) (c .giving3 .ensures ∙ ap giving (c .before .in-load-in2 .ensures)))
+returns-14 c = rw (c .before .before .enum-told14 .given .1) (ap (λ E. Unary (After E)) (c .taking2 .ensures ∙ ap taking (c .before .out-load-in2 .ensures)))
 
 returns-15 : tie.Need-returns-15
 unfolding wayBy
-returns-15 c = rw (c .before .before .enum-told15 .given .1) (ap (λ E. Unary (After E)) (c .taking2 .ensures ∙ ap taking (c .before .out-load-in2 .ensures)))
+returns-15 c = rw (c .before .enum-told15 .given .1) (ap Leaf (c .unchanged6 .ensures))
 
 returns-16 : tie.Need-returns-16
 unfolding wayBy
-returns-16 c = rw (c .before .enum-told16 .given .1) (ap Leaf (c .unchanged6 .ensures))
+returns-16 c = rw (c .before .before .enum-told16 .given .1) (ap (λ E. Unary (After E)) (c .taking3 .ensures ∙ ap taking (c .before .load-in3 .ensures)))
 
 returns-17 : tie.Need-returns-17
 unfolding wayBy
-returns-17 c = rw (c .before .before .enum-told17 .given .1) (ap (λ E. Unary (After E)) (c .taking3 .ensures ∙ ap taking (c .before .load-in3 .ensures)))
-
-returns-18 : tie.Need-returns-18
-unfolding wayBy
-returns-18 c = rw (c .before .before .enum-told18 .given .1) (ap (λ E. Unary (After E)) (c .giving4 .ensures ∙ ap giving (c .before .load-in4 .ensures)))
+returns-17 c = rw (c .before .before .enum-told17 .given .1) (ap (λ E. Unary (After E)) (c .giving3 .ensures ∙ ap giving (c .before .load-in4 .ensures)))
 
 pub way-by-spec : {M : Type 1} → statement M
 way-by-spec =
@@ -252,19 +239,16 @@ way-by-spec =
     in-load-in-requires
     giving-requires-2
     enum-told-14
-    in-load-in-requires-2
-    giving-requires-3
-    enum-told-15
     out-load-in-requires-2
     taking-requires-2
-    enum-told-16
+    enum-told-15
     unchanged-requires-6
-    enum-told-17
+    enum-told-16
     load-in-requires-3
     taking-requires-3
-    enum-told-18
+    enum-told-17
     load-in-requires-4
-    giving-requires-4
+    giving-requires-3
     returns
     returns-2
     returns-3
@@ -281,5 +265,4 @@ way-by-spec =
     returns-14
     returns-15
     returns-16
-    returns-17
-    returns-18)
+    returns-17)

@@ -5,6 +5,7 @@ use Rattle.lexer.proofs.Places.{span-le}
 use Rattle.program.proofs.LineLaws.{placed-top, marked, count-empty, count-other, count-malformed, count-none, count-many, count-right}
 use borrow.Author.Needs.{needs}
 use mathlib.Core.Path.{sym, subst, _∙_}
+use Rattle.spec.specs.Text.{bytes}
 use Rattle.program.specs.Lines.{TailShown}
 use Rattle.program.proofs.lines.count_line.Statement.{statement}
 use Rattle.program.proofs.lines.count_line.Tie as tie
@@ -46,13 +47,14 @@ same-requires : tie.Need-same-requires
 same-requires c κs = search needs
 
 returns-2 : tie.Need-returns-2
+unfolding bytes
 returns-2 c =
     let at-field = c .before .before .before .before in
     let at-if1 = at-field .before in
     let at-at-end = at-if1 .before in
     let at-start = at-at-end .before in
     let at-pre = at-start .before .before in
-    count-other _ _ (at-start .start .ensures) (sym (at-at-end .at-end .ensures) ∙ at-if1 .if1 .left) (at-field .field .result) (at-field .field .ensures) (placed-top _ _ (at-start .start .ensures) (at-pre .pre)) (marked _ _ (at-field .field .result) _ (at-field .field .ensures) (c .before .same .ensures) ∙ not-true _ (c .if2 .taken))
+    count-other _ _ (at-start .start .ensures) (sym (at-at-end .at-end .ensures) ∙ at-if1 .if1 .left) (at-field .field .result) (at-field .field .ensures) (placed-top _ _ (at-start .start .ensures) (at-pre .pre)) (marked _ _ (at-field .field .result) _ _ (at-field .field .ensures) (c .before .same .ensures) ∙ not-true _ (c .if2 .taken))
 
 last-number-requires : tie.Need-last-number-requires
 last-number-requires c κs =
@@ -68,6 +70,7 @@ enum-told : tie.Need-enum-told
 enum-told c = search needs
 
 returns-3 : tie.Need-returns-3
+unfolding bytes
 returns-3 c =
     let at-if2 = c .before .before .before .before in
     let at-same = at-if2 .before in
@@ -77,10 +80,11 @@ returns-3 c =
     let at-start = at-at-end .before in
     let at-pre = at-start .before .before in
     count-malformed _ _ (at-start .start .ensures) (sym (at-at-end .at-end .ensures) ∙ at-if1 .if1 .left) (at-field .field .result) (at-field .field .ensures) (placed-top _ _ (at-start .start .ensures) (at-pre .pre))
-    (marked _ _ (at-field .field .result) _ (at-field .field .ensures) (at-same .same .ensures) ∙ not-false _ (at-if2 .if2 .left))
+    (marked _ _ (at-field .field .result) _ _ (at-field .field .ensures) (at-same .same .ensures) ∙ not-false _ (at-if2 .if2 .left))
     (subst (TailShown _ _ _) (c .enum-told .given .1) (c .before .before .last-number .ensures))
 
 returns-4 : tie.Need-returns-4
+unfolding bytes
 returns-4 c =
     let at-last-number = c .before .before .before .before in
     let at-if2 = at-last-number .before .before in
@@ -91,13 +95,14 @@ returns-4 c =
     let at-start = at-at-end .before in
     let at-pre = at-start .before .before in
     count-none _ _ (at-start .start .ensures) (sym (at-at-end .at-end .ensures) ∙ at-if1 .if1 .left) (at-field .field .result) (at-field .field .ensures) (placed-top _ _ (at-start .start .ensures) (at-pre .pre))
-    (marked _ _ (at-field .field .result) _ (at-field .field .ensures) (at-same .same .ensures) ∙ not-false _ (at-if2 .if2 .left))
+    (marked _ _ (at-field .field .result) _ _ (at-field .field .ensures) (at-same .same .ensures) ∙ not-false _ (at-if2 .if2 .left))
     _
     _
     (subst (TailShown _ _ _) (c .before .before .n .given .1) (at-last-number .last-number .ensures))
     (c .if3 .taken)
 
 returns-5 : tie.Need-returns-5
+unfolding bytes
 returns-5 c =
     let at-n = c .before .before .before in
     let at-last-number = at-n .before .before in
@@ -109,13 +114,14 @@ returns-5 c =
     let at-start = at-at-end .before in
     let at-pre = at-start .before .before in
     count-many _ _ (at-start .start .ensures) (sym (at-at-end .at-end .ensures) ∙ at-if1 .if1 .left) (at-field .field .result) (at-field .field .ensures) (placed-top _ _ (at-start .start .ensures) (at-pre .pre))
-    (marked _ _ (at-field .field .result) _ (at-field .field .ensures) (at-same .same .ensures) ∙ not-false _ (at-if2 .if2 .left))
+    (marked _ _ (at-field .field .result) _ _ (at-field .field .ensures) (at-same .same .ensures) ∙ not-false _ (at-if2 .if2 .left))
     _
     _
     (subst (TailShown _ _ _) (at-n .n .given .1) (at-last-number .last-number .ensures))
     (c .before .if3 .left) (c .if4 .taken)
 
 returns-6 : tie.Need-returns-6
+unfolding bytes
 returns-6 c =
     let at-n = c .before .before .before in
     let at-last-number = at-n .before .before in
@@ -127,7 +133,7 @@ returns-6 c =
     let at-start = at-at-end .before in
     let at-pre = at-start .before .before in
     count-right _ _ (at-start .start .ensures) (sym (at-at-end .at-end .ensures) ∙ at-if1 .if1 .left) (at-field .field .result) (at-field .field .ensures) (placed-top _ _ (at-start .start .ensures) (at-pre .pre))
-    (marked _ _ (at-field .field .result) _ (at-field .field .ensures) (at-same .same .ensures) ∙ not-false _ (at-if2 .if2 .left))
+    (marked _ _ (at-field .field .result) _ _ (at-field .field .ensures) (at-same .same .ensures) ∙ not-false _ (at-if2 .if2 .left))
     _
     _
     (subst (TailShown _ _ _) (at-n .n .given .1) (at-last-number .last-number .ensures))

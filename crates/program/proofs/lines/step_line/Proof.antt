@@ -1,11 +1,12 @@
--- A step line in the order in which it is judged: a missing line, the word, the number behind it, its range.
+-- A step line in the order in which it is judged: a missing line, the word `freelock`, another word, the number behind it, its range.
 use Rattle.lexer.proofs.Walks.{span-placed}
 use Rattle.lexer.proofs.Places.{span-le}
 use Rattle.lexer.proofs.Words.{span-known, span-unknown}
-use Rattle.program.proofs.LineLaws.{line-fits, step-missing, step-unknown, step-malformed, step-over, step-right}
+use Rattle.program.proofs.LineLaws.{line-fits, marked, step-missing, step-unknown, step-malformed, step-over, step-right}
 use borrow.Author.Needs.{needs}
 use native.Mathlib.Omega.{arith}
 use mathlib.Core.Path.{sym, subst, _∙_}
+use Rattle.spec.specs.Text.{bytes}
 use Rattle.program.specs.Lines.{TailShown}
 use Rattle.program.proofs.lines.step_line.Statement.{statement}
 use Rattle.program.proofs.lines.step_line.Tie as tie
@@ -22,14 +23,53 @@ add-line c = omega (arith, line-fits _ _ (c .before .before .before .pre) (sym (
 field-requires : tie.Need-field-requires
 field-requires c κs = search needs
 
+sub-same : tie.Need-sub-same
+sub-same c = span-le _ _ (c .field .result) (c .field .ensures) (c .before .before .before .before .pre) .0
+
+part-same-start : tie.Need-part-same-start
+part-same-start c = span-le _ _ (c .field .result) (c .field .ensures) (c .before .before .before .before .pre) .0
+
+part-same-end : tie.Need-part-same-end
+part-same-end c = span-le _ _ (c .field .result) (c .field .ensures) (c .before .before .before .before .pre) .1
+
+slice-aggregate-same : tie.Need-slice-aggregate-same
+slice-aggregate-same c = search needs
+
+same-requires : tie.Need-same-requires
+same-requires c κs = search needs
+
+freelock-line-requires : tie.Need-freelock-line-requires
+unfolding bytes
+freelock-line-requires c κs =
+    let at-same = c .before in
+    let at-field = at-same .before .before .before in
+    let at-if1 = at-field .before in
+    let at-at-end = at-if1 .before in
+    let at-pre = at-at-end .before .before in
+    record {
+      placed = at-pre .pre;
+      left = sym (at-at-end .at-end .ensures) ∙ at-if1 .if1 .left;
+      field = at-field .field .ensures;
+      word = marked _ _ (at-field .field .result) _ _ (at-field .field .ensures) (at-same .same .ensures) ∙ c .if2 .taken;
+    }
+
+returns-2 : tie.Need-returns-2
+returns-2 c = c .freelock-line .ensures
+
 sub-word-of : tie.Need-sub-word-of
-sub-word-of c = span-le _ _ (c .field .result) (c .field .ensures) (c .before .before .before .before .pre) .0
+sub-word-of c =
+    let at-field = c .before .before .before .before in
+    span-le _ _ (at-field .field .result) (at-field .field .ensures) (at-field .before .before .before .before .pre) .0
 
 part-word-of-start : tie.Need-part-word-of-start
-part-word-of-start c = span-le _ _ (c .field .result) (c .field .ensures) (c .before .before .before .before .pre) .0
+part-word-of-start c =
+    let at-field = c .before .before .before .before in
+    span-le _ _ (at-field .field .result) (at-field .field .ensures) (at-field .before .before .before .before .pre) .0
 
 part-word-of-end : tie.Need-part-word-of-end
-part-word-of-end c = span-le _ _ (c .field .result) (c .field .ensures) (c .before .before .before .before .pre) .1
+part-word-of-end c =
+    let at-field = c .before .before .before .before in
+    span-le _ _ (at-field .field .result) (at-field .field .ensures) (at-field .before .before .before .before .pre) .1
 
 word-of-requires : tie.Need-word-of-requires
 word-of-requires c κs = search needs
@@ -40,17 +80,23 @@ enum-known-word c = search needs
 enum-told : tie.Need-enum-told
 enum-told c = search needs
 
-returns-2 : tie.Need-returns-2
-returns-2 c =
-    let at-field = c .before .before .before .before in
+returns-3 : tie.Need-returns-3
+unfolding bytes
+returns-3 c =
+    let at-if2 = c .before .before .before .before in
+    let at-same = at-if2 .before in
+    let at-field = at-same .before .before .before in
     let at-if1 = at-field .before in
     let at-at-end = at-if1 .before in
     let at-pre = at-at-end .before .before in
-    step-unknown _ _ (sym (at-at-end .at-end .ensures) ∙ at-if1 .if1 .left) (at-field .field .result) (at-field .field .ensures) (at-pre .pre) (span-unknown _ _ (at-field .field .result) (at-field .field .ensures) (sym (c .before .before .word-of .ensures) ∙ c .enum-told .given .1))
+    step-unknown _ _ (sym (at-at-end .at-end .ensures) ∙ at-if1 .if1 .left) (at-field .field .result) (at-field .field .ensures) (at-pre .pre)
+    (marked _ _ (at-field .field .result) _ _ (at-field .field .ensures) (at-same .same .ensures) ∙ at-if2 .if2 .left)
+    (span-unknown _ _ (at-field .field .result) (at-field .field .ensures) (sym (c .before .before .word-of .ensures) ∙ c .enum-told .given .1))
 
 last-number-requires : tie.Need-last-number-requires
 last-number-requires c κs =
-    let at-field = c .before .before .before .before .before .before in
+    let at-if2 = c .before .before .before .before .before .before in
+    let at-field = at-if2 .before .before .before .before in
     let at-pre = at-field .before .before .before .before in
     span-placed _ _ (at-field .field .result) (at-field .field .ensures) (at-pre .pre)
 
@@ -60,54 +106,66 @@ enum-known-v c = search needs
 enum-told-2 : tie.Need-enum-told-2
 enum-told-2 c = search needs
 
-returns-3 : tie.Need-returns-3
-returns-3 c =
+returns-4 : tie.Need-returns-4
+unfolding bytes
+returns-4 c =
     let at-word = c .before .before .before .before .before in
     let at-word-of = at-word .before .before in
-    let at-field = at-word-of .before .before in
+    let at-if2 = at-word-of .before .before in
+    let at-same = at-if2 .before in
+    let at-field = at-same .before .before .before in
     let at-if1 = at-field .before in
     let at-at-end = at-if1 .before in
     let at-pre = at-at-end .before .before in
-    step-malformed _ _ (sym (at-at-end .at-end .ensures) ∙ at-if1 .if1 .left) (at-field .field .result) (at-field .field .ensures) (at-pre .pre) _
+    step-malformed _ _ (sym (at-at-end .at-end .ensures) ∙ at-if1 .if1 .left) (at-field .field .result) (at-field .field .ensures) (at-pre .pre)
+    (marked _ _ (at-field .field .result) _ _ (at-field .field .ensures) (at-same .same .ensures) ∙ at-if2 .if2 .left) _
     (span-known _ _ (at-field .field .result) (at-field .field .ensures) _ (sym (at-word-of .word-of .ensures) ∙ at-word .word .given .1))
     (subst (TailShown _ _ _) (c .enum-told2 .given .1) (c .before .before .last-number .ensures))
 
 limit-of-requires : tie.Need-limit-of-requires
 limit-of-requires c κs = search needs
 
-returns-4 : tie.Need-returns-4
-returns-4 c =
-    let at-v = c .before .before .before in
-    let at-last-number = at-v .before .before in
-    let at-word = at-last-number .before .before .before in
-    let at-word-of = at-word .before .before in
-    let at-field = at-word-of .before .before in
-    let at-if1 = at-field .before in
-    let at-at-end = at-if1 .before in
-    let at-pre = at-at-end .before .before in
-    step-over _ _ (sym (at-at-end .at-end .ensures) ∙ at-if1 .if1 .left) (at-field .field .result) (at-field .field .ensures) (at-pre .pre) _
-    (span-known _ _ (at-field .field .result) (at-field .field .ensures) _ (sym (at-word-of .word-of .ensures) ∙ at-word .word .given .1))
-    _
-    _
-    (subst (TailShown _ _ _) (at-v .v .given .1) (at-last-number .last-number .ensures))
-    (omega (arith, c .if2 .taken, c .before .limit-of .ensures))
-
 returns-5 : tie.Need-returns-5
+unfolding bytes
 returns-5 c =
     let at-v = c .before .before .before in
     let at-last-number = at-v .before .before in
     let at-word = at-last-number .before .before .before in
     let at-word-of = at-word .before .before in
-    let at-field = at-word-of .before .before in
+    let at-if2 = at-word-of .before .before in
+    let at-same = at-if2 .before in
+    let at-field = at-same .before .before .before in
     let at-if1 = at-field .before in
     let at-at-end = at-if1 .before in
     let at-pre = at-at-end .before .before in
-    step-right _ _ (sym (at-at-end .at-end .ensures) ∙ at-if1 .if1 .left) (at-field .field .result) (at-field .field .ensures) (at-pre .pre) _
+    step-over _ _ (sym (at-at-end .at-end .ensures) ∙ at-if1 .if1 .left) (at-field .field .result) (at-field .field .ensures) (at-pre .pre)
+    (marked _ _ (at-field .field .result) _ _ (at-field .field .ensures) (at-same .same .ensures) ∙ at-if2 .if2 .left) _
     (span-known _ _ (at-field .field .result) (at-field .field .ensures) _ (sym (at-word-of .word-of .ensures) ∙ at-word .word .given .1))
     _
     _
     (subst (TailShown _ _ _) (at-v .v .given .1) (at-last-number .last-number .ensures))
-    (omega (arith, c .if2 .left, c .before .limit-of .ensures))
+    (omega (arith, c .if3 .taken, c .before .limit-of .ensures))
+
+returns-6 : tie.Need-returns-6
+unfolding bytes
+returns-6 c =
+    let at-v = c .before .before .before in
+    let at-last-number = at-v .before .before in
+    let at-word = at-last-number .before .before .before in
+    let at-word-of = at-word .before .before in
+    let at-if2 = at-word-of .before .before in
+    let at-same = at-if2 .before in
+    let at-field = at-same .before .before .before in
+    let at-if1 = at-field .before in
+    let at-at-end = at-if1 .before in
+    let at-pre = at-at-end .before .before in
+    step-right _ _ (sym (at-at-end .at-end .ensures) ∙ at-if1 .if1 .left) (at-field .field .result) (at-field .field .ensures) (at-pre .pre)
+    (marked _ _ (at-field .field .result) _ _ (at-field .field .ensures) (at-same .same .ensures) ∙ at-if2 .if2 .left) _
+    (span-known _ _ (at-field .field .result) (at-field .field .ensures) _ (sym (at-word-of .word-of .ensures) ∙ at-word .word .given .1))
+    _
+    _
+    (subst (TailShown _ _ _) (at-v .v .given .1) (at-last-number .last-number .ensures))
+    (omega (arith, c .if3 .left, c .before .limit-of .ensures))
 
 pub step-line-spec : {M : Type 1} → statement M
 step-line-spec =
@@ -117,17 +175,24 @@ step-line-spec =
     returns
     add-line
     field-requires
+    sub-same
+    part-same-start
+    part-same-end
+    slice-aggregate-same
+    same-requires
+    freelock-line-requires
+    returns-2
     sub-word-of
     part-word-of-start
     part-word-of-end
     word-of-requires
     enum-known-word
     enum-told
-    returns-2
+    returns-3
     last-number-requires
     enum-known-v
     enum-told-2
-    returns-3
-    limit-of-requires
     returns-4
-    returns-5)
+    limit-of-requires
+    returns-5
+    returns-6)

@@ -27,9 +27,6 @@ enum-told-7 c = search needs
 enum-told-8 : tie.Need-enum-told-8
 enum-told-8 c = search needs
 
-enum-told-9 : tie.Need-enum-told-9
-enum-told-9 c = search needs
-
 returns : tie.Need-returns
 unfolding numberOfPart
 returns c = rw (c .enum-told .given .1)
@@ -62,10 +59,6 @@ returns-8 : tie.Need-returns-8
 unfolding numberOfPart
 returns-8 c = rw (c .enum-told8 .given .1)
 
-returns-9 : tie.Need-returns-9
-unfolding numberOfPart
-returns-9 c = rw (c .enum-told9 .given .1)
-
 pub pre-of-part-spec : {M : Type 1} → statement M
 pre-of-part-spec =
     tie.close
@@ -78,7 +71,6 @@ pre-of-part-spec =
     enum-told-6
     enum-told-7
     enum-told-8
-    enum-told-9
     returns
     returns-2
     returns-3
@@ -86,5 +78,4 @@ pre-of-part-spec =
     returns-5
     returns-6
     returns-7
-    returns-8
-    returns-9)
+    returns-8)

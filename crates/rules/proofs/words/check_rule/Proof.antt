@@ -78,35 +78,29 @@ check-newl-requires c κs = search needs
 enum-told-13 : tie.Need-enum-told-13
 enum-told-13 c = search needs
 
-check-freel-requires : tie.Need-check-freel-requires
-check-freel-requires c κs = search needs
+check-lck-requires : tie.Need-check-lck-requires
+check-lck-requires c κs = search needs
 
 enum-told-14 : tie.Need-enum-told-14
 enum-told-14 c = search needs
 
-check-lck-requires : tie.Need-check-lck-requires
-check-lck-requires c κs = search needs
+check-ulck-requires : tie.Need-check-ulck-requires
+check-ulck-requires c κs = search needs
 
 enum-told-15 : tie.Need-enum-told-15
 enum-told-15 c = search needs
 
-check-ulck-requires : tie.Need-check-ulck-requires
-check-ulck-requires c κs = search needs
+check-newsem-requires : tie.Need-check-newsem-requires
+check-newsem-requires c κs = search needs
 
 enum-told-16 : tie.Need-enum-told-16
 enum-told-16 c = search needs
 
-check-newsem-requires : tie.Need-check-newsem-requires
-check-newsem-requires c κs = search needs
-
-enum-told-17 : tie.Need-enum-told-17
-enum-told-17 c = search needs
-
 check-post-requires : tie.Need-check-post-requires
 check-post-requires c κs = search needs
 
-enum-told-18 : tie.Need-enum-told-18
-enum-told-18 c = search needs
+enum-told-17 : tie.Need-enum-told-17
+enum-told-17 c = search needs
 
 check-wait-requires : tie.Need-check-wait-requires
 check-wait-requires c κs = search needs
@@ -161,27 +155,23 @@ returns-12 c = rw (c .before .enum-told12 .given .1) (c .check-newl .ensures)
 
 returns-13 : tie.Need-returns-13
 unfolding ruleRow
-returns-13 c = rw (c .before .enum-told13 .given .1) (c .check-freel .ensures)
+returns-13 c = rw (c .before .enum-told13 .given .1) (c .check-lck .ensures)
 
 returns-14 : tie.Need-returns-14
 unfolding ruleRow
-returns-14 c = rw (c .before .enum-told14 .given .1) (c .check-lck .ensures)
+returns-14 c = rw (c .before .enum-told14 .given .1) (c .check-ulck .ensures)
 
 returns-15 : tie.Need-returns-15
 unfolding ruleRow
-returns-15 c = rw (c .before .enum-told15 .given .1) (c .check-ulck .ensures)
+returns-15 c = rw (c .before .enum-told15 .given .1) (c .check-newsem .ensures)
 
 returns-16 : tie.Need-returns-16
 unfolding ruleRow
-returns-16 c = rw (c .before .enum-told16 .given .1) (c .check-newsem .ensures)
+returns-16 c = rw (c .before .enum-told16 .given .1) (c .check-post .ensures)
 
 returns-17 : tie.Need-returns-17
 unfolding ruleRow
-returns-17 c = rw (c .before .enum-told17 .given .1) (c .check-post .ensures)
-
-returns-18 : tie.Need-returns-18
-unfolding ruleRow
-returns-18 c = rw (c .before .enum-told18 .given .1) (c .check-wait .ensures)
+returns-17 c = rw (c .before .enum-told17 .given .1) (c .check-wait .ensures)
 
 pub check-rule-spec : {M : Type 1} → statement M
 check-rule-spec =
@@ -212,16 +202,14 @@ check-rule-spec =
     enum-told-12
     check-newl-requires
     enum-told-13
-    check-freel-requires
-    enum-told-14
     check-lck-requires
-    enum-told-15
+    enum-told-14
     check-ulck-requires
-    enum-told-16
+    enum-told-15
     check-newsem-requires
-    enum-told-17
+    enum-told-16
     check-post-requires
-    enum-told-18
+    enum-told-17
     check-wait-requires
     returns
     returns-2
@@ -239,5 +227,4 @@ check-rule-spec =
     returns-14
     returns-15
     returns-16
-    returns-17
-    returns-18)
+    returns-17)
