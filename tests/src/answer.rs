@@ -9,6 +9,8 @@ pub const SPLIT_BYTES: usize = 65_536;
 pub const STEPS: u32 = 256;
 pub const VARIABLES: u32 = 256;
 pub const CONSTANTS: u32 = 65_536;
+/// The most reading places of a read-write lock.
+pub const PLACES: u32 = 64;
 pub const LOCATIONS: u32 = 16;
 pub const TYPES: u32 = 64;
 pub const MAPS: u32 = 512;

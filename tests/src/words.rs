@@ -19,13 +19,20 @@ pub enum Word {
     Newsem,
     Post,
     Wait,
+    Newrwlock,
+    Rdlock,
+    Rdunlock,
+    Wrlock,
+    Wrunlock,
 }
 
 use Word::*;
 
 /// Every word, in the order of document 01's table of conditions, then of document 02.
-pub const WORDS: [Word; 17] =
-    [Var, Int, Let, If, While, Newtid, Spawn, Join, Ref, Read, Write, Newlock, Lock, Unlock, Newsem, Post, Wait];
+pub const WORDS: [Word; 22] = [
+    Var, Int, Let, If, While, Newtid, Spawn, Join, Ref, Read, Write, Newlock, Lock, Unlock, Newsem, Post, Wait,
+    Newrwlock, Rdlock, Rdunlock, Wrlock, Wrunlock,
+];
 
 impl Word {
     /// The word with this spelling, if there is one.
@@ -48,6 +55,11 @@ impl Word {
             b"newsem" => Newsem,
             b"post" => Post,
             b"wait" => Wait,
+            b"newrwlock" => Newrwlock,
+            b"rdlock" => Rdlock,
+            b"rdunlock" => Rdunlock,
+            b"wrlock" => Wrlock,
+            b"wrunlock" => Wrunlock,
             _ => return None,
         })
     }
@@ -71,14 +83,19 @@ impl Word {
             Newsem => "newsem",
             Post => "post",
             Wait => "wait",
+            Newrwlock => "newrwlock",
+            Rdlock => "rdlock",
+            Rdunlock => "rdunlock",
+            Wrlock => "wrlock",
+            Wrunlock => "wrunlock",
         }
     }
 
     /// How many parts a step with this word has.
     pub fn parts(self) -> usize {
         match self {
-            Var | Int | Newtid | Newlock | Newsem => 0,
-            While | Join | Ref | Read | Lock | Unlock | Post | Wait => 1,
+            Var | Int | Newtid | Newlock | Newsem | Newrwlock => 0,
+            While | Join | Ref | Read | Lock | Unlock | Post | Wait | Rdlock | Rdunlock | Wrlock | Wrunlock => 1,
             Let | If | Spawn | Write => 2,
         }
     }
@@ -86,8 +103,8 @@ impl Word {
     /// How many of this word's conditions are on types. They come first.
     pub fn type_conditions(self) -> u32 {
         match self {
-            Var | Int | Let | While | Newtid | Ref | Newlock | Newsem => 1,
-            If | Spawn | Join | Read | Lock | Unlock | Post | Wait => 2,
+            Var | Int | Let | While | Newtid | Ref | Newlock | Newsem | Newrwlock => 1,
+            If | Spawn | Join | Read | Lock | Unlock | Post | Wait | Rdlock | Rdunlock | Wrlock | Wrunlock => 2,
             Write => 3,
         }
     }
@@ -97,6 +114,7 @@ impl Word {
         match self {
             Var | Int | Let | Newtid | Ref | Newlock | Newsem => 2,
             While | Join | Lock | Unlock | Post | Wait => 3,
+            Newrwlock | Rdlock | Rdunlock | Wrlock | Wrunlock => 3,
             If | Spawn | Read => 4,
             Write => 5,
         }

@@ -18,9 +18,9 @@ from explaining.words import WORDS
 from pages import PAGES, examples, pairs_of
 
 TOOL = HOUSE / "tools" / "explain"
-DRAWN = 2000
+DRAWN = 4000
 # The examples whose pages are opened in a browser: with names and without, accepted and refused.
-SHOWN = {"refill", "refill-race", "loop-race", "canisters-race"}
+SHOWN = {"refill", "refill-race", "loop-race", "canisters-race", "colour-book"}
 GOOD = ("P,1|int,0|", "C,1,1,1,1|int,0,0|0|0,0,|")
 
 

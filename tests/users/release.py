@@ -44,7 +44,8 @@ CAUSES = [
     ("P,1|int,0||", Z, "REFUSE,13,3,0,0", "the line is empty"),
     ("P,1|\0int,0|", Z, "REFUSE,11,2,0,0", "there are bytes 0 in the line: the file is not plain text"),
     ("P,1|int,0|", "empty", "REFUSE,21,1,0,0", "split.txt is empty"),
-    ("P,1|int,0|", "C2,1,1,1,1,0|int,0,0|0|0,,|", "REFUSE,21,4,0,0", "the after-map is left empty: `racefill` fills in such a sheet"),
+    ("P,1|int,0|", "C2,1,1,1,1,0|int,0,0|0|0,,|", "REFUSE,21,4,0,0",
+     "the after-map is left empty: `racefill` fills in such a sheet"),
     ("P,1|int,0|", Z + "0,0,|", "REFUSE,23,5,0,0",
      "by its line 1 and the job's 1 steps the split should have 4 lines and has 5: it may be that of another version of the job"),
 ]

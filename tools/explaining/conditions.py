@@ -20,14 +20,16 @@ def find(site, condition, split, names):
     return {"T": _type, "F": _flow, "A": _access}[chosen.mark](site, chosen.wording, split, names)
 
 
-# ---- Flow: sums of maps, equal or at least, at every location
+# ---- Flow: sums of maps, equal, at least or at most, at every location
 
-RELATIONS = {"=": lambda one, other: one == other, "≥": lambda one, other: one >= other}
+RELATIONS = {
+    "=": lambda one, other: one == other, "≥": lambda one, other: one >= other, "≤": lambda one, other: one <= other,
+}
 
 
 def sides(wording):
     """The names of the maps summed on each side, and the relation between."""
-    one, relation, other = re.split(r" ([=≥]) ", wording)
+    one, relation, other = re.split(r" ([=≥≤]) ", wording)
     return one.split(" + "), relation, other.split(" + ")
 
 
@@ -39,11 +41,15 @@ def holds_at(site, wording, location, split):
 
 
 def equation(site, wording, location, split):
-    """A flow condition with its fractions at one location, as in 1/2 + 1/2 = 2/2."""
+    """A flow condition with its fractions at one location, as in 1/2 + 1/2 = 2/2 or 3 × 1/2 ≤ 2/2."""
     left, relation, right = sides(wording)
 
+    def term_written(term):
+        times = f"{site.number} × " if term.startswith("N × ") else ""
+        return times + fraction(map_named(site, term.removeprefix("N × "), split)[location], split.denominator)
+
     def written(terms):
-        return " + ".join(fraction(map_named(site, term, split)[location], split.denominator) for term in terms)
+        return " + ".join(map(term_written, terms))
 
     return f"{written(left)} {relation} {written(right)}"
 
@@ -87,14 +93,17 @@ def described(number, split, names):
     noun = KINDS[kind].noun
     if kind == "ref":
         return f"type {number}, {noun} of {names.location(first)} that holds type {second}"
-    maps = [
-        f"{MAP_NAMES[name]} map {split.map_number(number, name)}, which is {fractions(split.map_in(number, name), split.denominator)}"
-        for name in KINDS[kind].maps()]
+    maps = [_map_described(number, name, split) for name in KINDS[kind].maps()]
     return f"type {number}, {noun} with {' and '.join(maps)}" if maps else f"type {number}, {noun}"
 
 
+def _map_described(number, name, split):
+    content = fractions(split.map_in(number, name), split.denominator)
+    return f"{MAP_NAMES[name]} map {split.map_number(number, name)}, which is {content}"
+
+
 # What a type's maps are called where the type is told.
-MAP_NAMES = {"K": "a load of", "in": "in", "out": "out"}
+MAP_NAMES = {"K": "a load of", "in": "in", "out": "out", "r": "r", "w": "w"}
 
 
 def _type(site, wording, split, names):

@@ -26,6 +26,7 @@ RANGES = {
     "variable": Range("a variable", 0, 255),
     "constant": Range("a constant", 0, 65_535),
     "nothing": Range("the number on this word", 0, 0),
+    "places": Range("the number of reading places", 1, 64),
 }
 STEPS = Range("the number of steps", 1, 256)
 COUNTS = [

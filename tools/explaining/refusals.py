@@ -29,8 +29,8 @@ REFUSALS = {
         "write the line as `word,v` (line 1 as `P,n`): no spaces, no capitals, no leading zeros, byte 10 at its end"),
     12: Refusal(
         "a number of the program sheet is out of range", "owner of the program", PROGRAM,
-        "keep to the ranges: steps 1 to 256, variables 0 to 255, constants 0 to 65,535; on every word but `var`, `int` and `let`"
-        " the number must be 0"),
+        "keep to the ranges: steps 1 to 256, variables 0 to 255, constants 0 to 65,535, reading places 1 to 64; on every word but"
+        " `var`, `int`, `let` and `newrwlock` the number must be 0"),
     13: Refusal(
         "lines of the program sheet are missing or spare", "owner of the program", PROGRAM,
         "count the lines against line 1, and the parts of each word; look for an empty line at the end of the file"),
@@ -100,6 +100,7 @@ OF_CHECKING = set(REFUSALS) - FOR_CALLERS - OF_FILLING
 _EARLIER = "a take or give is missing before it: the row counts with a right that no step on the way has moved"
 _REPEATS = "the row does not repeat what its part leaves; a step of this word moves no rights"
 _ADDS = "the row's map is not the sum: it needs a map that holds what was there plus what comes in"
+_GUARDED = "two locks guard the same location, and the right was given to the first one already"
 _BRANCH = (
     "one branch ends with less than the row says, say a lock is given back in that branch only; after may be at most the smaller of"
     " the two")
@@ -126,9 +127,15 @@ USUALLY = {
     ("join", 3): _ADDS,
     ("lock", 3): _ADDS,
     ("wait", 3): _ADDS,
-    ("newlock", 2): "two locks guard the same location, and the right was given to the first one already",
+    ("rdlock", 3): _ADDS,
+    ("wrlock", 3): _ADDS,
+    ("newlock", 2): _GUARDED,
+    ("newrwlock", 2): "the reading places together would hold more than a writer: r is too great, or there are too many places",
+    ("newrwlock", 3): _GUARDED,
     ("unlock", 3): "the thread does not hold what the lock takes, say it unlocks twice",
     ("post", 3): "the thread does not hold what a post puts in, say it posts once more than it has something to hand on",
+    ("rdunlock", 3): "the thread does not hold a reader's share, say it gives its place back twice",
+    ("wrunlock", 3): "the thread does not hold a writer's share, say it took a reading place or gives back twice",
     ("read", 4): "the thread has nothing of the cell's location here: it was not handed any, or gave it away before",
     ("write", 5): "another thread, a lock, a semaphore or an identifier still holds some of the cell's location here",
 }

@@ -77,7 +77,7 @@ class Split(NamedTuple):
         return (0,) * self.locations if row.start is None else self.maps[row.start]
 
     def map_number(self, number, name):
-        """The number of a map in a type, by its name in the conditions: K, in or out."""
+        """The number of a map in a type, by its name in the conditions."""
         kind, *numbers = self.types[number]
         return numbers[KINDS[kind].fields.index(name)]
 
@@ -100,7 +100,7 @@ class Split(NamedTuple):
         return self.parting(this.second, that.second) if kind.fields[1] == "content" else None
 
     def may_show(self, shown, own):
-        """Whether a var line may show a type for its let's value: of a lock with no more in and no less out, else one that agrees."""
+        """Whether a var line may show a type for its let's value: a lock with no more in and no less out, else one that agrees."""
         if self.types[shown].kind == self.types[own].kind == "lock":
             return (at_least(self.map_in(own, "in"), self.map_in(shown, "in"))
                     and at_least(self.map_in(shown, "out"), self.map_in(own, "out")))

@@ -75,9 +75,11 @@ def acted_on(site):
 
 
 def map_named(site, name, split):
-    """The map that the documents call pre, post, s, "post of" a part, or K, in or out of a type."""
+    """The map that the documents call pre, post, s, "post of" a part, or one of a type: K, in, out, r, w or N × r."""
     if name in MAPS:
         return split.map_in(acted_on(site).type, name)
+    if name.startswith("N × "):
+        return tuple(site.number * a for a in map_named(site, name.removeprefix("N × "), split))
     if name.startswith("post of "):
         return site.parts[name.removeprefix("post of ")].post
     return {"pre": site.pre, "post": site.post, "s": site.start}[name]

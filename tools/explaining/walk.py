@@ -107,7 +107,7 @@ def sums(site, split, names):
         finding = find(site, number, split, names)
         if condition.mark == "T" and not finding.holds:
             return ""
-        if condition.mark == "F" and " + " in condition.wording:
+        if condition.mark == "F" and (" + " in condition.wording or " × " in condition.wording):
             told += _equations(site, condition.wording, split, names)
         if condition.mark == "A":
             told.append(access_at(site, condition.wording, split) + " is false" * (not finding.holds))

@@ -16,7 +16,7 @@ class Kind(NamedTuple):
 
 
 # The names of maps in types.
-MAPS = ("K", "in", "out")
+MAPS = ("K", "in", "out", "r", "w")
 
 KINDS = {
     "int": Kind("a number", (None, None)),
@@ -24,6 +24,7 @@ KINDS = {
     "lock": Kind("a lock", ("in", "out")),
     "tid": Kind("a thread identifier", ("K", None)),
     "sem": Kind("a semaphore", ("K", None)),
+    "rwlock": Kind("a read-write lock", ("r", "w")),
 }
 
 
@@ -52,6 +53,7 @@ _KEEPS = ("post = pre", "F", "after equals before")
 _PART_KEEPS = ("post = post of part", "F", "after equals what its part leaves")
 _PART_A_LOCK = ("part a lock", "T", "its part is a lock")
 _PART_A_SEM = ("part a sem", "T", "its part is a semaphore")
+_PART_A_RWLOCK = ("part a rwlock", "T", "its part is a read-write lock")
 _TAKES = ("post = post of part + K", "F", "after equals what its part leaves plus the load")
 _GIVES = ("post + K = post of part", "F", "after plus the load equals what its part leaves")
 _TAKES_IN = ("post = post of part + in", "F", "after equals what its part leaves plus in")
@@ -150,6 +152,32 @@ WORDS = {
         "WAIT", "nothing", {"part": "pre"},
         "`int`", "wait at {thing} and get {K}",
         _INT, _PART_A_SEM, _TAKES, source="Section 3.1.4"),
+    "newrwlock": _word(
+        "NEWRWLOCK", "places", {},
+        "a `rwlock` type", "a new read-write lock (N = {number}), which gets {w}; a reader gets {r}",
+        ("a rwlock type", "T", "its type is of the kind `rwlock`"),
+        ("N × r ≤ w", "F", "N times r is at most w"),
+        ("post + w = pre", "F", "after plus w equals before"), source="Figure 8"),
+    "rdlock": _word(
+        "RDLOCK", "nothing", {"part": "pre"},
+        "`int`", "take a reading place of {thing} and get {r}",
+        _INT, _PART_A_RWLOCK,
+        ("post = post of part + r", "F", "after equals what its part leaves plus r"), source="Figure 8"),
+    "rdunlock": _word(
+        "RDUNLOCK", "nothing", {"part": "pre"},
+        "`int`", "give back a reading place of {thing} and with it {r}",
+        _INT, _PART_A_RWLOCK,
+        ("post + r = post of part", "F", "after plus r equals what its part leaves"), source="Figure 8"),
+    "wrlock": _word(
+        "WRLOCK", "nothing", {"part": "pre"},
+        "`int`", "take {thing} for writing and get {w}",
+        _INT, _PART_A_RWLOCK,
+        ("post = post of part + w", "F", "after equals what its part leaves plus w"), source="Figure 8"),
+    "wrunlock": _word(
+        "WRUNLOCK", "nothing", {"part": "pre"},
+        "`int`", "give back {thing} after writing and with it {w}",
+        _INT, _PART_A_RWLOCK,
+        ("post + w = post of part", "F", "after plus w equals what its part leaves"), source="Figure 8"),
 }
 
 # A word that no machine does, and the one to write in its place.

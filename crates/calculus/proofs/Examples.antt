@@ -5,6 +5,7 @@ pub mod Runs
 pub mod Halts
 pub mod Derivations
 pub mod PrintedLocks
+pub mod ColourBook
 pub mod Orders
 pub mod NewSemaphore
 pub mod Premises

@@ -2,22 +2,22 @@
 use Prim.Native.Nat.{ℕ, zero, suc}
 use mathlib.Core.Path.{_≡_, refl, ap}
 use mathlib.Core.Logic.{_⊎_, inl, inr}
-use mathlib.Core.Option.{none, some}
+use mathlib.Core.Option.{Option, none, some}
 use native.Mathlib.Omega.{arith}
 use lib.ListN.{getElem?}
-use Rattle.calculus.specs.Expression.{Value, name, Unary, join, ref, read, lock, unlock, post, wait, Redex, unary-redex, Next, is-value, at-variable, at-word, next}
-use Rattle.calculus.specs.State.{LockState, opened, closed, Slot, identifier, a-lock, semaphore, Thread, State, first, Move}
-use Rattle.calculus.specs.Reduction.{if-unused, if-identifier, content, lock-state, count, if-equal, value-of, word-of, named, reduct, reduce}
-use Rattle.calculus.specs.Claim.{ThreadAt, Finished, finished, Waits, at-join, at-lock, at-wait, Halts, HaltsWell}
+use Rattle.calculus.specs.Expression.{Value, name, HoldWord, Unary, join, ref, read, lock, unlock, post, wait, hold, Redex, unary-redex, Next, is-value, at-variable, at-word, next}
+use Rattle.calculus.specs.State.{LockState, opened, closed, Inside, Slot, identifier, a-lock, semaphore, rwlock, Thread, State, first, Move}
+use Rattle.calculus.specs.Reduction.{if-unused, if-identifier, content, lock-state, count, rw-state, inside-after, if-equal, value-of, word-of, named, reduct, reduce}
+use Rattle.calculus.specs.Claim.{ThreadAt, Finished, finished, Waits, at-join, at-lock, at-wait, at-hold, Halts, HaltsWell}
 use Rattle.calculus.specs.Capability.{Cap}
 use Rattle.calculus.specs.Figure5.{Ty, ref-type, tid-type, empty, as-it-is}
 use Rattle.calculus.proofs.Laws.Maps.{some-is-not-none, bind-goes-on}
 use Rattle.calculus.proofs.Laws.NextWord.{next-is-value}
 use Rattle.calculus.proofs.Laws.Questions.{equal-is-told}
-use Rattle.calculus.proofs.Typing.{ValueTyped, name-typed, OwnLock, own-lock, UnaryTyped, join-typed, ref-typed, read-typed, lock-typed, unlock-typed, post-typed, wait-typed}
+use Rattle.calculus.proofs.Typing.{ValueTyped, name-typed, OwnLock, own-lock, UnaryTyped, join-typed, ref-typed, read-typed, lock-typed, unlock-typed, post-typed, wait-typed, hold-typed}
 use Rattle.calculus.proofs.Focus.{RedexTyped, let-redex-typed, if-redex-typed, while-redex-typed, spawn-redex-typed, write-redex-typed, unary-redex-typed, make-redex-typed, focus, closed-has-no-variable}
 use Rattle.calculus.proofs.Pool.{member}
-use Rattle.calculus.proofs.Invariant.{identifier-there, cell-there, lock-there, semaphore-there, WellTyped}
+use Rattle.calculus.proofs.Invariant.{identifier-there, cell-there, lock-there, semaphore-there, rwlock-there, WellTyped}
 
 -- ---- Halts
 
@@ -71,6 +71,14 @@ module _ {D : ℕ} {s : State} (I : WellTyped D s) (i : ℕ) (t : Thread) (there
   wait-waits {n} zero word found = at-wait n word found
   wait-waits {n} (suc c) word found = some-is-not-none (bind-goes-on (count (s .names n)) _ (ap count found) (no-reduct word 0 0))
 
+  -- A word of a read-write lock goes ahead unless the lock does not let it.
+  hold-waits : {n M : ℕ} {k : Inside} (w : HoldWord) → next (t .body) ≡ at-word (unary-redex (hold w) (name n)) → s .names n ≡ rwlock M k →
+      (o : Option Inside) → inside-after M w k ≡ o → Waits s t
+  hold-waits {n} {M} {k} w word found none stays = at-hold n M w k word found stays
+  hold-waits {n} {M} {k} w word found (some after) turned =
+      let h = bind-goes-on (rw-state (s .names n)) _ (ap rw-state found) (no-reduct word 0 0) in
+      some-is-not-none (bind-goes-on (inside-after M w k) _ turned h)
+
   unary-halts : {σ τ : Ty} {Ψ Φ : Cap} {v : Value} (o : Unary) → next (t .body) ≡ at-word (unary-redex o v) →
       ValueTyped (I .N) v σ → UnaryTyped D o σ Ψ τ Φ → Waits s t
   unary-halts join word (name-typed known as-it-is) (join-typed gains) = join-waits word known
@@ -87,6 +95,8 @@ module _ {D : ℕ} {s : State} (I : WellTyped D s) (i : ℕ) (t : Thread) (there
       some-is-not-none (bind-goes-on (count (s .names n)) _ (ap count found) (no-reduct word 0 0))
   unary-halts wait word (name-typed {n = n} known as-it-is) (wait-typed gains) =
       let (c, found) = semaphore-there (rw known at (I .slots n)) in wait-waits c word found
+  unary-halts (hold w) word (name-typed {n = n} known as-it-is) (hold-typed typed) =
+      let (M, k, found, _) = rwlock-there (rw known at (I .slots n)) in hold-waits w word found (inside-after M w k) refl
 
   redex-halts : {σ : Ty} {Ψ Φ : Cap} {r : Redex} → next (t .body) ≡ at-word r → RedexTyped D (I .N) empty Ψ Φ r σ → Waits s t
   redex-halts word (let-redex-typed v-typed e-typed) = some-is-not-none (no-reduct word 0 0)

@@ -1,5 +1,5 @@
 -- Well-typed states (Definition 2.3), and the two ways in which a change keeps them well typed.
-use Prim.Native.Nat.{ℕ, suc, _+_, _≤_, max}
+use Prim.Native.Nat.{ℕ, suc, _+_, _-_, _*_, _≤_, max}
 use mathlib.Core.Path.{_≡_, refl, ap, _∙_}
 use mathlib.Core.Logic.{_≢_}
 use mathlib.Core.Option.{Option, none, some}
@@ -7,11 +7,10 @@ use mathlib.Core.List.{List}
 use native.Mathlib.Decide.{ℕ-discrete}
 use native.Mathlib.Omega.{arith}
 use Rattle.calculus.specs.Expression.{Value, choose}
-use Rattle.calculus.specs.State.{LockState, opened, closed, Slot, unused, identifier, cell, a-lock, semaphore, Thread, State, update}
-use Rattle.calculus.specs.Capability.{Cap, nothing, _≥ᶜ_}
-use Rattle.calculus.specs.Figure5.{Ty, int-type, ref-type, lock-type, tid-type, sem-type, Env}
+use Rattle.calculus.specs.State.{LockState, opened, closed, Inside, readers, writer, Slot, unused, identifier, cell, a-lock, semaphore, rwlock, Thread, State, update}
+use Rattle.calculus.specs.Capability.{Cap, nothing, _×ᶜ_, _≥ᶜ_}
+use Rattle.calculus.specs.Figure5.{Ty, int-type, ref-type, lock-type, tid-type, sem-type, rwlock-type, Env}
 use Rattle.calculus.proofs.Laws.Maps.{update-same, update-other, update-above}
-use Rattle.calculus.proofs.Laws.Order.{_×ᶜ_}
 use Rattle.calculus.proofs.Typing.{ValueTyped}
 use Rattle.calculus.proofs.Substitution.{_⊆_, value-grows}
 use Rattle.calculus.proofs.Pool.{Pool}
@@ -20,13 +19,14 @@ use Rattle.calculus.proofs.Laws.Total.{total, total-with-one-changed}
 -- ---- Slots
 
 -- A slot has the type that its name has; a name has none until it is used. A lock's type does not change as it opens and
--- closes, and hands out no more than it takes.
+-- closes, and hands out no more than it takes; a read-write lock takes a share for each of its reading places.
 pub data SlotTyped (N : Env) : Slot → Option Ty → Type 0 where
   slot-unused : SlotTyped N unused none
   slot-identifier : {K : Cap} → SlotTyped N identifier (some (tid-type K))
   slot-cell : {v : Value} {ρ : ℕ} {τ : Ty} → ValueTyped N v τ → SlotTyped N (cell v) (some (ref-type ρ τ))
   slot-lock : {l : LockState} {Ψᵢ Ψₒ : Cap} → Ψₒ ≥ᶜ Ψᵢ → SlotTyped N (a-lock l) (some (lock-type Ψᵢ Ψₒ))
   slot-semaphore : {c : ℕ} {K : Cap} → SlotTyped N (semaphore c) (some (sem-type K))
+  slot-rwlock : {M : ℕ} {i : Inside} {Ψr Ψw : Cap} → Ψw ≥ᶜ M ×ᶜ Ψr → SlotTyped N (rwlock M i) (some (rwlock-type Ψr Ψw))
 
 slot-grows : {N N′ : Env} {sl : Slot} {o : Option Ty} → N ⊆ N′ → SlotTyped N sl o → SlotTyped N′ sl o
 slot-grows s slot-unused = slot-unused
@@ -34,6 +34,7 @@ slot-grows s slot-identifier = slot-identifier
 slot-grows s (slot-cell t) = slot-cell (value-grows s t)
 slot-grows s (slot-lock h) = slot-lock h
 slot-grows s slot-semaphore = slot-semaphore
+slot-grows s (slot-rwlock h) = slot-rwlock h
 
 -- The slot of a name, read off the name's type: one row a kind of thing.
 pub identifier-there : {N : Env} {sl : Slot} {K : Cap} → SlotTyped N sl (some (tid-type K)) → sl ≡ identifier
@@ -48,24 +49,38 @@ lock-there (slot-lock {l = l} h) = (l, refl, h)
 pub semaphore-there : {N : Env} {sl : Slot} {K : Cap} → SlotTyped N sl (some (sem-type K)) → (c : ℕ) × (sl ≡ semaphore c)
 semaphore-there (slot-semaphore {c = c}) = (c, refl)
 
--- What a thing of that type takes, once, and can hand over.
-abbrev pub load : Option Ty → Cap
-load none = nothing
-load (some int-type) = nothing
-load (some (ref-type ρ τ)) = nothing
-load (some (lock-type Ψᵢ Ψₒ)) = Ψₒ
-load (some (tid-type K)) = nothing
-load (some (sem-type K)) = K
+pub rwlock-there : {N : Env} {sl : Slot} {Ψr Ψw : Cap} → SlotTyped N sl (some (rwlock-type Ψr Ψw)) →
+    (M : ℕ) × (i : Inside) × (sl ≡ rwlock M i) × Ψw ≥ᶜ M ×ᶜ Ψr
+rwlock-there (slot-rwlock {M = M} {i = i} h) = (M, i, refl, h)
 
--- What a slot keeps, of a thing with that load: an open lock keeps its load, a semaphore keeps it as often as it counts, and nothing else
--- keeps any.
-abbrev pub keeps : Slot → Cap → Cap
+-- What a thing of that type takes and can hand over: the whole of it, and a reader's share.
+pub record Load : Type 0 where
+  pub whole : Cap
+  pub share : Cap
+
+abbrev no-load : Load
+no-load = record { whole = nothing; share = nothing }
+
+abbrev pub load : Option Ty → Load
+load none = no-load
+load (some int-type) = no-load
+load (some (ref-type ρ τ)) = no-load
+load (some (lock-type Ψᵢ Ψₒ)) = record { whole = Ψₒ; share = nothing }
+load (some (tid-type K)) = no-load
+load (some (sem-type K)) = record { whole = K; share = nothing }
+load (some (rwlock-type Ψr Ψw)) = record { whole = Ψw; share = Ψr }
+
+-- What a slot keeps, of a thing with that load: an open lock keeps it whole, a semaphore as often as it counts, a read-write lock less
+-- the shares of the reading holds that are out and nothing while a writer is in, and nothing else keeps any.
+abbrev pub keeps : Slot → Load → Cap
 keeps unused K = nothing
 keeps identifier K = nothing
 keeps (cell v) K = nothing
-keeps (a-lock opened) K = K
+keeps (a-lock opened) K = K .whole
 keeps (a-lock closed) K = nothing
-keeps (semaphore c) K = c ×ᶜ K
+keeps (semaphore c) K = c ×ᶜ K .whole
+keeps (rwlock N (readers k)) K = λ ρ. K .whole ρ - k * K .share ρ
+keeps (rwlock N writer) K = nothing
 
 -- What the thing named n keeps of location ρ.
 abbrev pub kept : (ℕ → Slot) → Env → ℕ → ℕ → ℕ

@@ -6,6 +6,7 @@ pub mod Focus
 pub mod Pool
 pub mod Invariant
 pub mod Moving
+pub mod Holds
 pub mod Preservation
 pub mod RaceFreedom
 pub mod Halting

@@ -6,22 +6,23 @@ use mathlib.Core.Option.{Option, some}
 use native.Mathlib.Nat.{zero-mul, suc-mul}
 use native.Mathlib.Omega.{arith}
 use lib.ListN.{getElem?}
-use Rattle.calculus.specs.Expression.{Value, name, Unary, join, ref, read, lock, unlock, post, wait, newtid, newlock, newsem, Exp, value, let-in, if, while, Redex, let-redex, if-redex, while-redex, spawn-redex, write-redex, unary-redex, make-redex, is-value, at-word, next, substitute}
+use Rattle.calculus.specs.Expression.{Value, name, HoldWord, Unary, join, ref, read, lock, unlock, post, wait, hold, newtid, newlock, newsem, newrwlock, Exp, value, let-in, if, while, Redex, let-redex, if-redex, while-redex, spawn-redex, write-redex, unary-redex, make-redex, is-value, at-word, next, substitute}
 use Rattle.calculus.specs.State.{opened, a-lock, semaphore, Thread, State, Part, first, second, Move}
-use Rattle.calculus.specs.Reduction.{if-identifier, content, lock-state, if-opened, count, one-less, if-equal, value-of, word-of, zero-exp, nowhere, part-listed, unary-reduct, reduct, reduce}
+use Rattle.calculus.specs.Reduction.{if-identifier, content, lock-state, if-opened, count, one-less, rw-state, inside-after, if-equal, value-of, word-of, zero-exp, nowhere, part-listed, unary-reduct, reduct, reduce}
 use Rattle.calculus.specs.Claim.{ThreadAt}
-use Rattle.calculus.specs.Capability.{Cap, _≥ᶜ_}
-use Rattle.calculus.specs.Figure5.{Ty, int-type, ref-type, lock-type, tid-type, sem-type, Env, empty, bind, as-it-is}
+use Rattle.calculus.specs.Capability.{Cap, _×ᶜ_, _≥ᶜ_}
+use Rattle.calculus.specs.Figure5.{Ty, int-type, ref-type, lock-type, tid-type, sem-type, rwlock-type, Env, empty, bind, as-it-is}
 use Rattle.calculus.proofs.Laws.Maps.{some-injective, none-is-not-some, bind-is-some, bind-goes-on}
 use Rattle.calculus.proofs.Laws.Places.{set-elsewhere}
 use Rattle.calculus.proofs.Laws.Order.{_+ᶜ_, Gains, Pays, ≥-trans, ≥-refl, gains-at-most}
 use Rattle.calculus.proofs.Laws.NextWord.{word-is-no-value}
 use Rattle.calculus.proofs.Laws.Questions.{opened-tells, one-less-tells, equal-tells, value-tells, word-tells}
-use Rattle.calculus.proofs.Typing.{ValueTyped, int-typed, name-typed, OwnLock, own-lock, UnaryTyped, join-typed, ref-typed, read-typed, lock-typed, unlock-typed, post-typed, wait-typed, newtid-typed, newlock-typed, newsem-typed, Typed, value-typed, let-typed, if-typed, while-typed, typing-weakens}
+use Rattle.calculus.proofs.Typing.{ValueTyped, int-typed, name-typed, OwnLock, own-lock, UnaryTyped, join-typed, ref-typed, read-typed, lock-typed, unlock-typed, post-typed, wait-typed, HoldTyped, hold-typed, newtid-typed, newlock-typed, newsem-typed, newrwlock-typed, Typed, value-typed, let-typed, if-typed, while-typed, typing-weakens}
 use Rattle.calculus.proofs.Substitution.{⊆-refl, value-grows, typing-grows, bind-extends-empty, substitution-keeps}
 use Rattle.calculus.proofs.Focus.{RedexTyped, let-redex-typed, if-redex-typed, while-redex-typed, spawn-redex-typed, write-redex-typed, unary-redex-typed, make-redex-typed, focus, typed-is-value}
 use Rattle.calculus.proofs.Pool.{ThreadTyped, pool-weakens, pool-with-last, Member, member}
-use Rattle.calculus.proofs.Invariant.{slot-identifier, slot-cell, slot-lock, slot-semaphore, cell-there, lock-there, semaphore-there, keeps, WellTyped, threads-change-keeps}
+use Rattle.calculus.proofs.Invariant.{slot-identifier, slot-cell, slot-lock, slot-semaphore, slot-rwlock, cell-there, lock-there, semaphore-there, rwlock-there, load, keeps, WellTyped, threads-change-keeps}
+use Rattle.calculus.proofs.Holds.{hold-balances}
 use Rattle.calculus.proofs.Moving.{Place, told, moved-pool, thread-alone-keeps, slot-change-keeps, new-name-keeps}
 
 tid-type-injective : {J K : Cap} {o : Option Ty} → o ≡ some (tid-type J) → o ≡ some (tid-type K) → J ≡ K
@@ -81,7 +82,7 @@ module _ {D : ℕ} {s : State} (I : WellTyped D s) (m : Move) (t : Thread) (h : 
       let was-open : s .names n ≡ a-lock opened = found ∙ ap a-lock (opened-tells l o) in
       slot-change-keeps M n _ (lock-type (own .Ψᵢ) (own .Ψₒ)) (h .own +ᶜ Ψᵢ) zero-exp (own .known) (slot-lock covers)
       (zero-typed-with gains)
-      (λ ρ. omega (arith, own .no-more-out .at ρ, covers .at ρ, ap (λ z. keeps z (own .Ψₒ) ρ) was-open)) q₁
+      (λ ρ. omega (arith, own .no-more-out .at ρ, covers .at ρ, ap (λ z. keeps z (load (some (lock-type (own .Ψᵢ) (own .Ψₒ)))) ρ) was-open)) q₁
 
   -- Whatever the lock kept, the thread pays no less than it keeps from now on.
   unlock-keeps : {Φ Ψᵢ Ψₒ : Cap} {n : ℕ} {s′ : State} (M : Place D s I m t h int-type Φ) → OwnLock (I .N) n Ψᵢ Ψₒ →
@@ -98,7 +99,7 @@ module _ {D : ℕ} {s : State} (I : WellTyped D s) (m : Move) (t : Thread) (h : 
   post-keeps {Φ} {K} {n} M known pays q =
       let (c, found) = semaphore-there (rw known at (I .slots n)) in
       slot-change-keeps M n _ (sem-type K) Φ zero-exp known slot-semaphore (value-typed int-typed ≥-refl)
-      (λ ρ. omega (arith, pays .at ρ, suc-mul c (K ρ), ap (λ z. keeps z K ρ) found)) (bind-goes-on (count (s .names n)) _ (ap count found) q)
+      (λ ρ. omega (arith, pays .at ρ, suc-mul c (K ρ), ap (λ z. keeps z (load (some (sem-type K))) ρ) found)) (bind-goes-on (count (s .names n)) _ (ap count found) q)
 
   -- The count falls by one, and the thread takes one load.
   wait-keeps : {Φ K : Cap} {n : ℕ} {s′ : State} (M : Place D s I m t h int-type Φ) → I .N n ≡ some (sem-type K) →
@@ -108,7 +109,16 @@ module _ {D : ℕ} {s : State} (I : WellTyped D s) (m : Move) (t : Thread) (h : 
       let (left, o, q₁) = bind-is-some (one-less c) (bind-goes-on (count (s .names n)) _ (ap count found) q) in
       let counted : s .names n ≡ semaphore (suc left) = found ∙ ap semaphore (one-less-tells c o) in
       slot-change-keeps M n _ (sem-type K) (h .own +ᶜ K) zero-exp known slot-semaphore (zero-typed-with gains)
-      (λ ρ. omega (arith, suc-mul left (K ρ), ap (λ z. keeps z K ρ) counted)) q₁
+      (λ ρ. omega (arith, suc-mul left (K ρ), ap (λ z. keeps z (load (some (sem-type K))) ρ) counted)) q₁
+
+  -- Who is in changes, and what the thread gains or pays with it.
+  hold-keeps : {Φ Ψr Ψw : Cap} {n : ℕ} {w : HoldWord} {s′ : State} (M : Place D s I m t h int-type Φ) → I .N n ≡ some (rwlock-type Ψr Ψw) →
+      HoldTyped Ψr Ψw w (h .own) Φ → unary-reduct s m t (hold w) (name n) ≡ some s′ → WellTyped D s′
+  hold-keeps {Φ} {Ψr} {Ψw} {n} {w} M known typed q =
+      let (N, i, found, covers) = rwlock-there (rw known at (I .slots n)) in
+      let (after, turned, q₁) = bind-is-some (inside-after N w i) (bind-goes-on (rw-state (s .names n)) _ (ap rw-state found) q) in
+      slot-change-keeps M n _ (rwlock-type Ψr Ψw) Φ zero-exp known (slot-rwlock covers) (value-typed int-typed ≥-refl)
+      (λ ρ. omega (arith, hold-balances Ψr Ψw N covers i typed turned ρ, ap (λ z. keeps z (load (some (rwlock-type Ψr Ψw))) ρ) found)) q₁
 
   unary-keeps : {Φ : Cap} {σ τ : Ty} {v : Value} {s′ : State} (o : Unary) (M : Place D s I m t h τ Φ) → ThreadAt s (m .thread) t →
       next (t .body) ≡ at-word (unary-redex o v) → ValueTyped (I .N) v σ → UnaryTyped D o σ (h .own) τ Φ →
@@ -120,6 +130,7 @@ module _ {D : ℕ} {s : State} (I : WellTyped D s) (m : Move) (t : Thread) (h : 
   unary-keeps unlock M there word (name-typed known shown) (unlock-typed pays) q = unlock-keeps M (own-lock known shown) pays q
   unary-keeps post M there word (name-typed known as-it-is) (post-typed pays) q = post-keeps M known pays q
   unary-keeps wait M there word (name-typed known as-it-is) (wait-typed gains) q = wait-keeps M known gains q
+  unary-keeps (hold w) M there word (name-typed known as-it-is) (hold-typed typed) q = hold-keeps M known typed q
 
   -- ---- The other words
 
@@ -172,6 +183,11 @@ module _ {D : ℕ} {s : State} (I : WellTyped D s) (m : Move) (t : Thread) (h : 
       reduct s m t (make-redex newsem) ≡ some s′ → WellTyped D s′
   newsem-keeps {K} M enough = new-name-keeps M _ (h .own) (λ grows. slot-semaphore) enough (λ ρ. omega (arith, zero-mul (K ρ)))
 
+  -- No one is in at a new read-write lock, so it keeps all of what the thread pays.
+  newrwlock-keeps : {Φ Ψr Ψw : Cap} {s′ : State} (N : ℕ) (M : Place D s I m t h (rwlock-type Ψr Ψw) Φ) → Ψw ≥ᶜ N ×ᶜ Ψr → Pays Φ (h .own) Ψw →
+      reduct s m t (make-redex (newrwlock N)) ≡ some s′ → WellTyped D s′
+  newrwlock-keeps {Φ} N M covers pays = new-name-keeps M _ Φ (λ grows. slot-rwlock covers) ≥-refl (λ ρ. omega (arith, pays .at ρ))
+
   redex-keeps : {Φ : Cap} {σ : Ty} {s′ : State} {r : Redex} (M : Place D s I m t h σ Φ) → ThreadAt s (m .thread) t →
       next (t .body) ≡ at-word r → RedexTyped D (I .N) empty (h .own) Φ r σ → reduct s m t r ≡ some s′ → WellTyped D s′
   redex-keeps M there word (let-redex-typed {x = x} v-typed e-typed) q = let-keeps x M v-typed e-typed q
@@ -183,6 +199,7 @@ module _ {D : ℕ} {s : State} (I : WellTyped D s) (m : Move) (t : Thread) (h : 
   redex-keeps M there word (make-redex-typed (newtid-typed enough)) q = newtid-keeps M enough q
   redex-keeps M there word (make-redex-typed (newlock-typed covers pays)) q = newlock-keeps M covers pays q
   redex-keeps M there word (make-redex-typed (newsem-typed enough)) q = newsem-keeps M enough q
+  redex-keeps M there word (make-redex-typed (newrwlock-typed {N = N} covers pays)) q = newrwlock-keeps N M covers pays q
 
 -- Lemma 2.4: find the thread and its next word, and look at the word.
 pub step-preserves : {D : ℕ} {s s′ : State} → WellTyped D s → (m : Move) → reduce s m ≡ some s′ → WellTyped D s′

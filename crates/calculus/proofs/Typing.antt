@@ -3,9 +3,9 @@ use Prim.Native.Nat.{ℕ, _≤_, _<_}
 use mathlib.Core.Path.{_≡_}
 use mathlib.Core.Option.{some}
 use native.Mathlib.Nat.{le-trans}
-use Rattle.calculus.specs.Expression.{Value, int, name, Unary, join, ref, read, lock, unlock, post, wait, Maker, newtid, newlock, newsem, Exp, value, var, let-in, if, while, spawn, write, unary, make}
-use Rattle.calculus.specs.Capability.{Cap, _≥ᶜ_}
-use Rattle.calculus.specs.Figure5.{Ty, int-type, ref-type, lock-type, tid-type, sem-type, _shown-as_, as-it-is, looser, Env, bind, _∣_∣_⊢_∶_∣_, VAR, INT, LET, IF, WHILE, NEWT, SPAWN, JOIN, REF, WRITE, READ, NEWL, LCK, ULCK, NEWSEM, POST, WAIT}
+use Rattle.calculus.specs.Expression.{Value, int, name, HoldWord, rdlock, rdunlock, wrlock, wrunlock, Unary, join, ref, read, lock, unlock, post, wait, hold, Maker, newtid, newlock, newsem, newrwlock, Exp, value, var, let-in, if, while, spawn, write, unary, make}
+use Rattle.calculus.specs.Capability.{Cap, _×ᶜ_, _≥ᶜ_}
+use Rattle.calculus.specs.Figure5.{Ty, int-type, ref-type, lock-type, tid-type, sem-type, rwlock-type, _shown-as_, as-it-is, looser, Env, bind, _∣_∣_⊢_∶_∣_, VAR, INT, LET, IF, WHILE, NEWT, SPAWN, JOIN, REF, WRITE, READ, NEWL, LCK, ULCK, NEWSEM, POST, WAIT, NEWRWLOCK, RDLOCK, RDUNLOCK, WRLOCK, WRUNLOCK}
 use Rattle.calculus.proofs.Laws.Order.{Gains, Pays, ≥-trans, ≥-refl, gains-weakens, pays-weakens, sum-gains, sum-pays}
 
 -- ---- Values
@@ -38,6 +38,13 @@ own-lock h (looser i o) = record { Ψᵢ = _; Ψₒ = _; known = h; no-more-out 
 
 -- ---- Expressions
 
+-- HoldTyped Ψr Ψw w Ψ Φ: on a read-write lock that lends Ψr to a reader and Ψw to a writer, with Ψ before and Φ after.
+pub data HoldTyped (Ψr Ψw : Cap) : HoldWord → Cap → Cap → Type 0 where
+  rdlock-typed : {Ψ Φ : Cap} → Gains Φ Ψ Ψr → HoldTyped Ψr Ψw rdlock Ψ Φ
+  rdunlock-typed : {Ψ Φ : Cap} → Pays Φ Ψ Ψr → HoldTyped Ψr Ψw rdunlock Ψ Φ
+  wrlock-typed : {Ψ Φ : Cap} → Gains Φ Ψ Ψw → HoldTyped Ψr Ψw wrlock Ψ Φ
+  wrunlock-typed : {Ψ Φ : Cap} → Pays Φ Ψ Ψw → HoldTyped Ψr Ψw wrunlock Ψ Φ
+
 -- UnaryTyped D o σ Ψ τ Φ: on a part of type σ, with Ψ before and Φ after, the word o has type τ.
 pub data UnaryTyped (D : ℕ) : Unary → Ty → Cap → Ty → Cap → Type 0 where
   join-typed : {K Ψ Φ : Cap} → Gains Φ Ψ K → UnaryTyped D join (tid-type K) Ψ int-type Φ
@@ -47,11 +54,13 @@ pub data UnaryTyped (D : ℕ) : Unary → Ty → Cap → Ty → Cap → Type 0 w
   unlock-typed : {Ψᵢ Ψₒ Ψ Φ : Cap} → Pays Φ Ψ Ψₒ → UnaryTyped D unlock (lock-type Ψᵢ Ψₒ) Ψ int-type Φ
   post-typed : {K Ψ Φ : Cap} → Pays Φ Ψ K → UnaryTyped D post (sem-type K) Ψ int-type Φ
   wait-typed : {K Ψ Φ : Cap} → Gains Φ Ψ K → UnaryTyped D wait (sem-type K) Ψ int-type Φ
+  hold-typed : {w : HoldWord} {Ψr Ψw Ψ Φ : Cap} → HoldTyped Ψr Ψw w Ψ Φ → UnaryTyped D (hold w) (rwlock-type Ψr Ψw) Ψ int-type Φ
 
 pub data MakerTyped : Maker → Cap → Ty → Cap → Type 0 where
   newtid-typed : {K Ψ Φ : Cap} → Ψ ≥ᶜ Φ → MakerTyped newtid Ψ (tid-type K) Φ
   newlock-typed : {Ψᵢ Ψₒ Ψ Φ : Cap} → Ψₒ ≥ᶜ Ψᵢ → Pays Φ Ψ Ψₒ → MakerTyped newlock Ψ (lock-type Ψᵢ Ψₒ) Φ
   newsem-typed : {K Ψ Φ : Cap} → Ψ ≥ᶜ Φ → MakerTyped newsem Ψ (sem-type K) Φ
+  newrwlock-typed : {N : ℕ} {Ψr Ψw Ψ Φ : Cap} → Ψw ≥ᶜ N ×ᶜ Ψr → Pays Φ Ψ Ψw → MakerTyped (newrwlock N) Ψ (rwlock-type Ψr Ψw) Φ
 
 -- Typed D N Γ Ψ e τ Φ: with these types of names and variables e has type τ, can be run with Ψ, and leaves at least Φ.
 pub data Typed (D : ℕ) (N : Env) : Env → Cap → Exp → Ty → Cap → Type 0 where
@@ -73,6 +82,12 @@ pub data Typed (D : ℕ) (N : Env) : Env → Cap → Exp → Ty → Cap → Type
 
 -- ---- Weakening: more before and less after
 
+hold-weakens : {Ψr Ψw : Cap} {w : HoldWord} {Ψ Ψ′ Φ Φ′ : Cap} → HoldTyped Ψr Ψw w Ψ Φ → Ψ′ ≥ᶜ Ψ → Φ ≥ᶜ Φ′ → HoldTyped Ψr Ψw w Ψ′ Φ′
+hold-weakens (rdlock-typed h) a b = rdlock-typed (gains-weakens h a b)
+hold-weakens (rdunlock-typed h) a b = rdunlock-typed (pays-weakens h a b)
+hold-weakens (wrlock-typed h) a b = wrlock-typed (gains-weakens h a b)
+hold-weakens (wrunlock-typed h) a b = wrunlock-typed (pays-weakens h a b)
+
 pub unary-weakens : {D : ℕ} {o : Unary} {σ τ : Ty} {Ψ Ψ′ Φ Φ′ : Cap} → UnaryTyped D o σ Ψ τ Φ → Ψ′ ≥ᶜ Ψ → Φ ≥ᶜ Φ′ → UnaryTyped D o σ Ψ′ τ Φ′
 unary-weakens (join-typed h) a b = join-typed (gains-weakens h a b)
 unary-weakens (ref-typed h) a b = ref-typed (≥-trans a (≥-trans h b))
@@ -81,11 +96,13 @@ unary-weakens (lock-typed h) a b = lock-typed (gains-weakens h a b)
 unary-weakens (unlock-typed h) a b = unlock-typed (pays-weakens h a b)
 unary-weakens (post-typed h) a b = post-typed (pays-weakens h a b)
 unary-weakens (wait-typed h) a b = wait-typed (gains-weakens h a b)
+unary-weakens (hold-typed h) a b = hold-typed (hold-weakens h a b)
 
 pub maker-weakens : {o : Maker} {τ : Ty} {Ψ Ψ′ Φ Φ′ : Cap} → MakerTyped o Ψ τ Φ → Ψ′ ≥ᶜ Ψ → Φ ≥ᶜ Φ′ → MakerTyped o Ψ′ τ Φ′
 maker-weakens (newtid-typed h) a b = newtid-typed (≥-trans a (≥-trans h b))
 maker-weakens (newlock-typed g h) a b = newlock-typed g (pays-weakens h a b)
 maker-weakens (newsem-typed h) a b = newsem-typed (≥-trans a (≥-trans h b))
+maker-weakens (newrwlock-typed g h) a b = newrwlock-typed g (pays-weakens h a b)
 
 pub typing-weakens : {D : ℕ} {N Γ : Env} {Ψ Ψ′ Φ Φ′ : Cap} {e : Exp} {τ : Ty} → Typed D N Γ Ψ e τ Φ → Ψ′ ≥ᶜ Ψ → Φ ≥ᶜ Φ′ →
     Typed D N Γ Ψ′ e τ Φ′
@@ -120,3 +137,8 @@ derived-is-typed N (ULCK e h) = unary-typed (derived-is-typed N e) (unlock-typed
 derived-is-typed N NEWSEM = make-typed (newsem-typed ≥-refl)
 derived-is-typed N (POST e h) = unary-typed (derived-is-typed N e) (post-typed (sum-pays h))
 derived-is-typed N (WAIT e h) = unary-typed (derived-is-typed N e) (wait-typed (sum-gains h))
+derived-is-typed N (NEWRWLOCK g h) = make-typed (newrwlock-typed g (sum-pays h))
+derived-is-typed N (RDLOCK e h) = unary-typed (derived-is-typed N e) (hold-typed (rdlock-typed (sum-gains h)))
+derived-is-typed N (RDUNLOCK e h) = unary-typed (derived-is-typed N e) (hold-typed (rdunlock-typed (sum-pays h)))
+derived-is-typed N (WRLOCK e h) = unary-typed (derived-is-typed N e) (hold-typed (wrlock-typed (sum-gains h)))
+derived-is-typed N (WRUNLOCK e h) = unary-typed (derived-is-typed N e) (hold-typed (wrunlock-typed (sum-pays h)))

@@ -6,9 +6,9 @@ use mathlib.Core.Logic.{_≢_, _⊎_}
 use mathlib.Core.Option.{Option, none, some}
 use mathlib.Core.List.{List, [], _∷_}
 use lib.ListN.{getElem?}
-use Rattle.calculus.specs.Expression.{Value, name, join, read, lock, wait, Exp, value, write-redex, unary-redex, at-word, next}
-use Rattle.calculus.specs.State.{closed, identifier, cell, a-lock, semaphore, Thread, State, Move}
-use Rattle.calculus.specs.Reduction.{_>>=_, reduce, states, run, start}
+use Rattle.calculus.specs.Expression.{Value, name, HoldWord, join, read, lock, wait, hold, Exp, value, write-redex, unary-redex, at-word, next}
+use Rattle.calculus.specs.State.{closed, Inside, identifier, cell, a-lock, semaphore, rwlock, Thread, State, Move}
+use Rattle.calculus.specs.Reduction.{_>>=_, inside-after, reduce, states, run, start}
 
 -- Thread t stands at place i.
 abbrev pub ThreadAt : State → ℕ → Thread → Type 0
@@ -39,12 +39,14 @@ pub data Finished (t : Thread) : Type 0 where
   finished : (v : Value) → t .body ≡ value v → Finished t
 
 -- "It waits at a `join` on an identifier that no finished thread has, and at a `lock` [..] on a lock that is not open", and, by
--- request (vi), at a `wait` on a count of 0.
+-- request (vi), at a `wait` on a count of 0. Request (xi): "waits at these four taking and giving words join the allowed halts".
 pub data Waits (s : State) (t : Thread) : Type 0 where
   at-join : (n : ℕ) → next (t .body) ≡ at-word (unary-redex join (name n)) → s .names n ≡ identifier →
       ((j : ℕ) (u : Thread) → ThreadAt s j u → u .tid ≡ n → ¬ Finished u) → Waits s t
   at-lock : (n : ℕ) → next (t .body) ≡ at-word (unary-redex lock (name n)) → s .names n ≡ a-lock closed → Waits s t
   at-wait : (n : ℕ) → next (t .body) ≡ at-word (unary-redex wait (name n)) → s .names n ≡ semaphore 0 → Waits s t
+  at-hold : (n N : ℕ) (w : HoldWord) (i : Inside) → next (t .body) ≡ at-word (unary-redex (hold w) (name n)) → s .names n ≡ rwlock N i →
+      inside-after N w i ≡ none → Waits s t
   -- No other word waits; an `unlock`, above all, goes ahead on any lock.
 
 -- "It halts in a state where no move of its own is a reduction."

@@ -1,7 +1,7 @@
 -- Programs of the paper and a few beside them, with moves that run them. What they show is proved in proofs/Examples.
 use Prim.Native.Nat.{ℕ, zero, suc}
 use mathlib.Core.List.{List, [], _∷_}
-use Rattle.calculus.specs.Expression.{int, Unary, join, ref, read, lock, unlock, post, wait, newtid, newlock, newsem, Exp, value, var, let-in, if, while, spawn, write, unary, make}
+use Rattle.calculus.specs.Expression.{int, HoldWord, rdlock, rdunlock, wrlock, wrunlock, Unary, join, ref, read, lock, unlock, post, wait, hold, newtid, newlock, newsem, newrwlock, Exp, value, var, let-in, if, while, spawn, write, unary, make}
 use Rattle.calculus.specs.State.{first, second, Move}
 use Rattle.calculus.specs.Reduction.{nowhere}
 use Rattle.calculus.specs.Capability.{Cap}
@@ -186,6 +186,64 @@ abbrev pub moves-figure-7 : List Move
 moves-figure-7 =
     names 0 1 ∷ goes 0 ∷ names 0 2 ∷ goes 0 ∷ names 0 3 ∷ goes 0 ∷ goes 0 ∷ names 0 4 ∷ goes 0 ∷ goes 0
     ∷ goes 0 ∷ goes 0 ∷ goes 0 ∷ goes 1 ∷ goes 1 ∷ goes 2 ∷ goes 2 ∷ []
+
+-- ---- Figure 8: read-write locks
+
+-- A thread that takes a reading place and reads x; x is 0 and the lock is 1.
+abbrev pub reads-the-book : Exp
+reads-the-book = unary (hold rdlock) (var 1) ⨾ unary read (var 0) ⨾ unary (hold rdunlock) (var 1)
+
+-- A book with two reading places: two threads read it, and the first thread writes it.
+abbrev pub colour-book : Exp
+colour-book =
+    let-in 0 (unary ref (constant 0))
+    (let-in 1 (make (newrwlock 2))
+    (spawn (make newtid) reads-the-book
+    ⨾ spawn (make newtid) reads-the-book
+    ⨾ unary (hold wrlock) (var 1)
+    ⨾ write (var 0) (constant 1)
+    ⨾ unary (hold wrunlock) (var 1)))
+
+-- Up to where the first thread is about to take the book for writing, and the others for reading; the book is 2.
+abbrev pub moves-to-book : List Move
+moves-to-book =
+    names 0 1 ∷ goes 0 ∷ names 0 2 ∷ goes 0 ∷ names 0 3 ∷ goes 0 ∷ goes 0 ∷ names 0 4 ∷ goes 0 ∷ goes 0 ∷ []
+
+-- Then both readers take it, and are about to read.
+abbrev pub moves-book-to-reads : List Move
+moves-book-to-reads = goes 1 ∷ goes 1 ∷ goes 2 ∷ goes 2 ∷ []
+
+-- Then both read and give back, and the first thread writes.
+abbrev pub moves-book-to-end : List Move
+moves-book-to-end = goes 1 ∷ goes 1 ∷ goes 1 ∷ goes 2 ∷ goes 2 ∷ goes 2 ∷ goes 0 ∷ goes 0 ∷ goes 0 ∷ goes 0 ∷ goes 0 ∷ []
+
+-- One thread takes the only reading place twice.
+abbrev pub reads-twice : Exp
+reads-twice = let-in 0 (make (newrwlock 1)) (unary (hold rdlock) (var 0) ⨾ unary (hold rdlock) (var 0))
+
+abbrev pub moves-reads-twice : List Move
+moves-reads-twice = names 0 1 ∷ goes 0 ∷ goes 0 ∷ goes 0 ∷ []
+
+-- A book is given back that no one has.
+abbrev pub gives-back : HoldWord → Exp
+gives-back w = let-in 0 (make (newrwlock 1)) (unary (hold w) (var 0))
+
+abbrev pub moves-gives-back : List Move
+moves-gives-back = names 0 1 ∷ goes 0 ∷ []
+
+-- The first thread takes both reading places, which is enough to write. The other takes one and reads.
+abbrev pub both-places : Exp
+both-places =
+    let-in 0 (unary ref (constant 0))
+    (let-in 1 (make (newrwlock 2))
+    (spawn (make newtid) (unary (hold rdlock) (var 1) ⨾ unary read (var 0))
+    ⨾ unary (hold rdlock) (var 1)
+    ⨾ unary (hold rdlock) (var 1)
+    ⨾ write (var 0) (constant 1)))
+
+-- Up to where the first thread is about to write, and the other to take a place.
+abbrev pub moves-both-places : List Move
+moves-both-places = names 0 1 ∷ goes 0 ∷ names 0 2 ∷ goes 0 ∷ names 0 3 ∷ goes 0 ∷ goes 0 ∷ goes 0 ∷ goes 0 ∷ goes 0 ∷ goes 0 ∷ []
 
 -- ---- Section 3.1.6: locks that take more than they give
 

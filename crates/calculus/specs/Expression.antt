@@ -10,13 +10,19 @@ pub data Value : Type 0 where
   int : ℕ → Value
   name : ℕ → Value
 
+-- The words that take and give back a hold of a read-write lock.
+pub data HoldWord : Type 0 where
+  rdlock rdunlock wrlock wrunlock : HoldWord
+
 -- The words with one part, which must be a value before they reduce. `while` has one part too, but reduces with it as it is.
 pub data Unary : Type 0 where
   join ref read lock unlock post wait : Unary
+  hold : HoldWord → Unary
 
--- The words with no part that make a new thing.
+-- The words with no part that make a new thing. A read-write lock is made with its number of reading places.
 pub data Maker : Type 0 where
   newtid newlock newsem : Maker
+  newrwlock : ℕ → Maker
 
 -- Figure 1, extended with values as in Section 2.1. A variable is a number, and a constant n is `value (int n)`.
 pub data Exp : Type 0 where

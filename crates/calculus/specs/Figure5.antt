@@ -1,11 +1,11 @@
 -- Figure 5: Γ, Ψ ⊢ e : τ, Ψ′, one constructor a word, in the printed order and with the printed names; then the rules of Section 3.1.4
--- for semaphores, under the names of their words. Locks are those of Section 3.1.6.
+-- for semaphores and of Figure 8 for read-write locks, under the names of their words. Locks are those of Section 3.1.6.
 use Prim.Native.Nat.{ℕ, _≤_, _<_}
 use mathlib.Core.Path.{_≡_}
 use mathlib.Core.Option.{Option, none, some}
-use Rattle.calculus.specs.Expression.{int, join, ref, read, lock, unlock, post, wait, newtid, newlock, newsem, Exp, value, var, let-in, if, while, spawn, write, unary, make}
+use Rattle.calculus.specs.Expression.{int, rdlock, rdunlock, wrlock, wrunlock, join, ref, read, lock, unlock, post, wait, hold, newtid, newlock, newsem, newrwlock, Exp, value, var, let-in, if, while, spawn, write, unary, make}
 use Rattle.calculus.specs.State.{update}
-use Rattle.calculus.specs.Capability.{Cap, _≥ᶜ_, _≈_⊕_}
+use Rattle.calculus.specs.Capability.{Cap, _×ᶜ_, _≥ᶜ_, _≈_⊕_}
 
 -- The types of Section 2.2 and of Section 3.1.4, as trees. A lock has two capabilities, Ψᵢ and Ψₒ of Section 3.1.6: `lock` hands out
 -- Ψᵢ, `newlock` and `unlock` take Ψₒ.
@@ -15,6 +15,7 @@ pub data Ty : Type 0 where
   lock-type : (Ψᵢ Ψₒ : Cap) → Ty
   tid-type : Cap → Ty
   sem-type : Cap → Ty
+  rwlock-type : (Ψr Ψw : Cap) → Ty
 
 -- What a variable of the first type may be shown as: a lock as one that hands out no more and takes no less, anything else as it is.
 -- Section 3.1.6 prints the second inequality the other way round; "that lets a thread lock, give back nothing and lock again, so ours
@@ -83,3 +84,19 @@ pub data _∣_∣_⊢_∶_∣_ (D : ℕ) : Env → Cap → Exp → Ty → Cap �
   WAIT : {Γ : Env} {Ψ Ψ₁ Ψ₂ Ψ₃ : Cap} {e : Exp} →
       D ∣ Γ ∣ Ψ ⊢ e ∶ sem-type Ψ₁ ∣ Ψ₂ → Ψ₃ ≈ Ψ₂ ⊕ Ψ₁ →
       D ∣ Γ ∣ Ψ ⊢ unary wait e ∶ int-type ∣ Ψ₃
+  -- N bounds the reading holds, not the threads: "one thread may read twice".
+  NEWRWLOCK : {Γ : Env} {Ψ Ψr Ψw Ψ₂ : Cap} {N : ℕ} →
+      Ψw ≥ᶜ N ×ᶜ Ψr → Ψ ≈ Ψ₂ ⊕ Ψw →
+      D ∣ Γ ∣ Ψ ⊢ make (newrwlock N) ∶ rwlock-type Ψr Ψw ∣ Ψ₂
+  RDLOCK : {Γ : Env} {Ψ Ψr Ψw Ψ₂ Ψ₃ : Cap} {e : Exp} →
+      D ∣ Γ ∣ Ψ ⊢ e ∶ rwlock-type Ψr Ψw ∣ Ψ₂ → Ψ₃ ≈ Ψ₂ ⊕ Ψr →
+      D ∣ Γ ∣ Ψ ⊢ unary (hold rdlock) e ∶ int-type ∣ Ψ₃
+  RDUNLOCK : {Γ : Env} {Ψ Ψr Ψw Ψ₂ Ψ₃ : Cap} {e : Exp} →
+      D ∣ Γ ∣ Ψ ⊢ e ∶ rwlock-type Ψr Ψw ∣ Ψ₂ → Ψ₂ ≈ Ψ₃ ⊕ Ψr →
+      D ∣ Γ ∣ Ψ ⊢ unary (hold rdunlock) e ∶ int-type ∣ Ψ₃
+  WRLOCK : {Γ : Env} {Ψ Ψr Ψw Ψ₂ Ψ₃ : Cap} {e : Exp} →
+      D ∣ Γ ∣ Ψ ⊢ e ∶ rwlock-type Ψr Ψw ∣ Ψ₂ → Ψ₃ ≈ Ψ₂ ⊕ Ψw →
+      D ∣ Γ ∣ Ψ ⊢ unary (hold wrlock) e ∶ int-type ∣ Ψ₃
+  WRUNLOCK : {Γ : Env} {Ψ Ψr Ψw Ψ₂ Ψ₃ : Cap} {e : Exp} →
+      D ∣ Γ ∣ Ψ ⊢ e ∶ rwlock-type Ψr Ψw ∣ Ψ₂ → Ψ₂ ≈ Ψ₃ ⊕ Ψw →
+      D ∣ Γ ∣ Ψ ⊢ unary (hold wrunlock) e ∶ int-type ∣ Ψ₃

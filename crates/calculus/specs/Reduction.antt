@@ -2,10 +2,10 @@
 use Prim.Native.Nat.{ℕ, zero, suc}
 use mathlib.Core.Option.{Option, none, some}
 use mathlib.Core.List.{List, [], _∷_, _++_}
-use native.Mathlib.Decide.{ℕ-discrete}
+use native.Mathlib.Decide.{ℕ-discrete, decLt}
 use lib.ListN.{getElem?, set}
-use Rattle.calculus.specs.Expression.{Value, int, name, Unary, join, ref, read, lock, unlock, post, wait, Maker, newtid, newlock, newsem, Exp, value, let-in, if, while, Redex, let-redex, if-redex, while-redex, spawn-redex, write-redex, unary-redex, make-redex, Next, is-value, at-variable, at-word, next, plug, choose, substitute}
-use Rattle.calculus.specs.State.{LockState, opened, closed, Slot, unused, identifier, cell, a-lock, semaphore, Thread, State, Part, first, second, Move, update, remove}
+use Rattle.calculus.specs.Expression.{Value, int, name, HoldWord, rdlock, rdunlock, wrlock, wrunlock, Unary, join, ref, read, lock, unlock, post, wait, hold, Maker, newtid, newlock, newsem, newrwlock, Exp, value, let-in, if, while, Redex, let-redex, if-redex, while-redex, spawn-redex, write-redex, unary-redex, make-redex, Next, is-value, at-variable, at-word, next, plug, choose, substitute}
+use Rattle.calculus.specs.State.{LockState, opened, closed, Inside, readers, writer, Slot, unused, identifier, cell, a-lock, semaphore, rwlock, Thread, State, Part, first, second, Move, update, remove}
 
 -- ---- What a word asks before it reduces: `none` where the answer is no
 
@@ -29,6 +29,7 @@ if-unused identifier = none
 if-unused (cell v) = none
 if-unused (a-lock l) = none
 if-unused (semaphore c) = none
+if-unused (rwlock N i) = none
 
 abbrev pub if-identifier : Slot → Option (Unit {0})
 if-identifier unused = none
@@ -36,6 +37,7 @@ if-identifier identifier = some tt
 if-identifier (cell v) = none
 if-identifier (a-lock l) = none
 if-identifier (semaphore c) = none
+if-identifier (rwlock N i) = none
 
 -- The value that a cell holds.
 abbrev pub content : Slot → Option Value
@@ -44,6 +46,7 @@ content identifier = none
 content (cell v) = some v
 content (a-lock l) = none
 content (semaphore c) = none
+content (rwlock N i) = none
 
 -- Whether a lock is open or closed.
 abbrev pub lock-state : Slot → Option LockState
@@ -52,6 +55,7 @@ lock-state identifier = none
 lock-state (cell v) = none
 lock-state (a-lock l) = some l
 lock-state (semaphore c) = none
+lock-state (rwlock N i) = none
 
 abbrev pub if-opened : LockState → Option (Unit {0})
 if-opened opened = some tt
@@ -64,11 +68,35 @@ count identifier = none
 count (cell v) = none
 count (a-lock l) = none
 count (semaphore c) = some c
+count (rwlock N i) = none
 
 -- The number that is one less, of a number above 0.
 abbrev pub one-less : ℕ → Option ℕ
 one-less zero = none
 one-less (suc c) = some c
+
+-- The reading places of a read-write lock, and who is in.
+abbrev pub rw-state : Slot → Option (ℕ × Inside)
+rw-state unused = none
+rw-state identifier = none
+rw-state (cell v) = none
+rw-state (a-lock l) = none
+rw-state (semaphore c) = none
+rw-state (rwlock N i) = some (N, i)
+
+-- Who is in after that word, at a lock with N reading places. "A reader waits while N holds are out or a writer is in. A writer waits
+-- while anyone is in. A give-back waits until there is a hold of that kind to give."
+abbrev pub inside-after : ℕ → HoldWord → Inside → Option Inside
+inside-after N rdlock (readers k) = choose (decLt k N) (some (readers (suc k))) none
+inside-after N rdlock writer = none
+inside-after N rdunlock (readers zero) = none
+inside-after N rdunlock (readers (suc k)) = some (readers k)
+inside-after N rdunlock writer = none
+inside-after N wrlock (readers zero) = some writer
+inside-after N wrlock (readers (suc k)) = none
+inside-after N wrlock writer = none
+inside-after N wrunlock (readers k) = none
+inside-after N wrunlock writer = some (readers 0)
 
 abbrev pub if-equal : ℕ → ℕ → Option (Unit {0})
 if-equal n m = choose (ℕ-discrete n m) (some tt) none
@@ -93,11 +121,12 @@ abbrev pub part-listed : Part → Exp → Exp → Exp
 part-listed first e₁ e₂ = e₁
 part-listed second e₁ e₂ = e₂
 
--- A new lock is open; a new semaphore counts 0.
+-- A new lock is open; a new semaphore counts 0; no one is in at a new read-write lock.
 abbrev pub made : Maker → Slot
 made newtid = identifier
 made newlock = a-lock opened
 made newsem = semaphore 0
+made (newrwlock N) = rwlock N (readers 0)
 
 -- The state in which the thread that moves, t, has e in the place of its next word, with these names.
 abbrev pub becomes : State → Move → Thread → (ℕ → Slot) → Exp → State
@@ -110,7 +139,8 @@ with-thread t s = record { threads = s .threads ++ (t ∷ []); names = s .names 
 abbrev pub without-thread : ℕ → State → State
 without-thread j s = record { threads = remove (s .threads) j; names = s .names }
 
--- "`ref`, `newtid` and `newlock` become the name listed, if unused", and so does `newsem`; what it names from now on is told.
+-- "`ref`, `newtid` and `newlock` become the name listed, if unused", and so do `newsem` and `newrwlock`; what it names from now on
+-- is told.
 abbrev pub named : State → Move → Thread → Slot → Option State
 named s m t new = do
   if-unused (s .names (m .fresh))
@@ -118,7 +148,7 @@ named s m t new = do
 
 -- The words with one part, on its value. `join` is of a finished thread, and the thread that joins has not finished, so it stays.
 -- `lock` waits unless the lock is open; `unlock` asks for a lock and no more: it goes ahead on an open one too. "Post adds one and
--- never waits"; `wait` "needs a count above 0 and takes one".
+-- never waits"; `wait` "needs a count above 0 and takes one". A word of a read-write lock changes who is in.
 abbrev pub unary-reduct : State → Move → Thread → Unary → Value → Option State
 unary-reduct s m t join v = do
   n ← name-of v
@@ -150,6 +180,11 @@ unary-reduct s m t wait v = do
   c ← count (s .names n)
   left ← one-less c
   some (becomes s m t (update (s .names) n (semaphore left)) zero-exp)
+unary-reduct s m t (hold w) v = do
+  n ← name-of v
+  (N, i) ← rw-state (s .names n)
+  after ← inside-after N w i
+  some (becomes s m t (update (s .names) n (rwlock N after)) zero-exp)
 
 -- The state after thread t of s reduces that word, if the move m makes it a reduction.
 abbrev pub reduct : State → Move → Thread → Redex → Option State

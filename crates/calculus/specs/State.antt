@@ -1,5 +1,6 @@
 -- States and moves. Document 01: "a state is threads in spawn order, each an identifier and an expression; cells with their
--- values; locks", open or closed; "and the names used so far". Request (vi) adds semaphores with their counts.
+-- values; locks", open or closed; "and the names used so far". Request (vi) adds semaphores with their counts, request
+-- (xi) read-write locks with their reading places and the holds that are out.
 use Prim.Native.Nat.{ℕ, zero, suc}
 use mathlib.Core.List.{List, [], _∷_}
 use native.Mathlib.Decide.{ℕ-discrete}
@@ -8,6 +9,11 @@ use Rattle.calculus.specs.Expression.{Value, Exp, choose}
 pub data LockState : Type 0 where
   opened closed : LockState
 
+-- Who is in at a read-write lock: so many reading holds are out, or a writer is in.
+pub data Inside : Type 0 where
+  readers : ℕ → Inside
+  writer : Inside
+
 -- What a name names. A name is used so far when its slot is not `unused`.
 pub data Slot : Type 0 where
   unused : Slot
@@ -15,6 +21,7 @@ pub data Slot : Type 0 where
   cell : Value → Slot
   a-lock : LockState → Slot
   semaphore : ℕ → Slot
+  rwlock : (N : ℕ) → Inside → Slot
 
 pub record Thread : Type 0 where
   pub tid : ℕ

@@ -16,15 +16,15 @@ use Rattle.spec.specs.Sites.{Site, sites, preOfPart, preOfSecond, bind, numbere
 use Rattle.spec.specs.FirstFalse.{Holds, AllHold}
 use Rattle.spec.specs.declared.Location.{Location}
 use Rattle.spec.specs.declared.LeafWord.{LeafWord}
-use Rattle.spec.specs.declared.LeafWord.the-variants.{Var, Int, Newtid, Newlock, Newsem}
+use Rattle.spec.specs.declared.LeafWord.the-variants.{Var, Int, Newtid, Newlock, Newsem, Newrwlock}
 use Rattle.spec.specs.declared.UnaryWord.{UnaryWord}
-use Rattle.spec.specs.declared.UnaryWord.the-variants.{While, Join, Ref, Read, Lock, Unlock, Post, Wait}
+use Rattle.spec.specs.declared.UnaryWord.the-variants.{While, Join, Ref, Read, Lock, Unlock, Post, Wait, Rdlock, Rdunlock, Wrlock, Wrunlock}
 use Rattle.spec.specs.declared.BinaryWord.{BinaryWord}
 use Rattle.spec.specs.declared.BinaryWord.the-variants.{Let, If, Spawn, Write}
 use Rattle.filling.specs.Flow.{taking, Flow, inTurn, branch, fork, Turns, Passes}
-use Rattle.filling.specs.FlowOf.{loadHere, inHere, outHere, startHere, accessHere, flowOf}
+use Rattle.filling.specs.FlowOf.{loadHere, inHere, outHere, readHere, writeHere, startHere, accessHere, flowOf}
 use Rattle.filling.specs.declared.Effect.{Effect}
-use Rattle.filling.proofs.Locations.{Everywhere, Known, together, lastly, restated, three, least-everywhere, keeps, gives, takes, needs}
+use Rattle.filling.proofs.Locations.{Everywhere, Known, together, lastly, restated, three, least-everywhere, keeps, gives, takes, lends, needs}
 use Rattle.filling.proofs.Sorts.{AllAt, OwnAt, step-parts, parts-step, both-parts, parts-both}
 use Rattle.filling.proofs.Placed.{flow-steps, Placed, part, first, second, Showing}
 
@@ -108,7 +108,7 @@ module _ {ss : List Step} {S : Split} {σ : List Map} {T : Split} (G : Showing s
   -- pre is the map x; in the order of Figure 5
   pub flow-at-each-location : (Γ : Env) {pre x : Map} (e : Expr) (i : ℕ) → Placed ss i e → Known L pre x
       → AllFlow (sites T Γ pre e) ↔ Everywhere L (λ p. Passes (at σ p) i (share x p) (flowOf S p e))
-  unfolding AllHold Holds claimsAt numbered own only isFlow preOfPart preOfSecond loadHere inHere outHere startHere accessHere flowOf Passes
+  unfolding AllHold Holds claimsAt numbered own only isFlow preOfPart preOfSecond loadHere inHere outHere readHere writeHere startHere accessHere flowOf Passes
   flow-at-each-location Γ (leaf Var k v) i P before = no-part Γ _ Var k v (lastly (keeps (G .posts _ P) before))
   flow-at-each-location Γ (leaf Int k v) i P before = no-part Γ _ Int k v (lastly (keeps (G .posts _ P) before))
   flow-at-each-location Γ {x = x} (binary Let k v e₁ e₂) i P before =
@@ -181,3 +181,22 @@ module _ {ss : List Step} {S : Split} {σ : List Map} {T : Split} (G : Showing s
       one-part Γ _ Wait k v e₁
       (flow-at-each-location Γ e₁ (i + 1) (part P) before)
       (lastly (gives (G .posts _ P) (G .posts e₁ (part P)) (G .loads e₁)))
+  flow-at-each-location Γ (leaf Newrwlock k v) i P before =
+      let e = leaf Newrwlock k v in
+      no-part Γ _ Newrwlock k v (lends v (G .posts e P) before (G .wholes e) (G .shares e))
+  flow-at-each-location Γ (unary Rdlock k v e₁) i P before =
+      one-part Γ _ Rdlock k v e₁
+      (flow-at-each-location Γ e₁ (i + 1) (part P) before)
+      (lastly (gives (G .posts _ P) (G .posts e₁ (part P)) (G .shares e₁)))
+  flow-at-each-location Γ (unary Rdunlock k v e₁) i P before =
+      one-part Γ _ Rdunlock k v e₁
+      (flow-at-each-location Γ e₁ (i + 1) (part P) before)
+      (lastly (takes (G .posts _ P) (G .posts e₁ (part P)) (G .shares e₁)))
+  flow-at-each-location Γ (unary Wrlock k v e₁) i P before =
+      one-part Γ _ Wrlock k v e₁
+      (flow-at-each-location Γ e₁ (i + 1) (part P) before)
+      (lastly (gives (G .posts _ P) (G .posts e₁ (part P)) (G .wholes e₁)))
+  flow-at-each-location Γ (unary Wrunlock k v e₁) i P before =
+      one-part Γ _ Wrunlock k v e₁
+      (flow-at-each-location Γ e₁ (i + 1) (part P) before)
+      (lastly (takes (G .posts _ P) (G .posts e₁ (part P)) (G .wholes e₁)))

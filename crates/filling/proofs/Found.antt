@@ -7,6 +7,7 @@ use native.Mathlib.Omega.{arith}
 use lib.Dec.{leb}
 use borrow.Author.Tests.{leb-true, le-leb}
 use Rattle.spec.proofs.Clashes.{none-is-not-some}
+use Rattle.spec.proofs.Tests.{both-true}
 use Rattle.spec.specs.Choice.{if_then_else_}
 use Rattle.filling.specs.Found.{_>>=_, demand}
 use Rattle.filling.specs.Flow.{Turns, turn}
@@ -45,13 +46,14 @@ chosen false x h = none-is-not-some h
 pub turn-turns : {after : ℕ} (E : Effect) (before : ℕ) → turn E before ≡ some after → Turns E before after
 unfolding turn
 turn-turns E before h =
-    let (fits, same) = chosen _ _ h in
+    let (passes, same) = chosen _ _ h in
+    let (fits, lends) = both-true _ (leb (E .lends) (E .takes)) passes in
     let enough = leb-true (E .takes + E .needs) (before + E .gives) fits in
-    record { balance = omega (arith, same, enough); enough = omega (arith, same, enough) }
+    record { balance = omega (arith, same, enough); enough = omega (arith, same, enough); lent = leb-true _ _ lends }
 
 pub turns-turn : {after : ℕ} (E : Effect) (before : ℕ) → Turns E before after → turn E before ≡ some after
 unfolding turn
 turns-turn {after} E before t =
-    let fits : E .takes + E .needs ≤ before + E .gives = omega arith in
-    let same : before + E .gives - E .takes ≡ after = omega arith in
-    rw (le-leb _ _ fits, same)
+    let fits : E .takes + E .needs ≤ before + E .gives = omega (arith, t .balance, t .enough) in
+    let same : before + E .gives - E .takes ≡ after = omega (arith, t .balance) in
+    rw (le-leb _ _ fits, le-leb _ _ (t .lent), same)

@@ -54,6 +54,7 @@ module _ {ss : List Step} {S : Split} {σ : List Map} (G : Given ss S σ) where
     lockLoads = λ t i o l e. let (first, second) = R .lockLoads t i o l e in (more first, more second);
     tidLoad = λ t k l e. more (R .tidLoad t k l e);
     semLoad = λ t k l e. more (R .semLoad t k l e);
+    rwlockLoads = λ t r w l e. let (first, second) = R .rwlockLoads t r w l e in (more first, more second);
     rowType = λ i d l. rw (rows-kept (S .header .maps) (S .rows) i d .0) (R .rowType i d (here i l));
     rowPost = λ i d l.
         rw (rows-post (S .header .maps) (S .rows) i d (here i l))

@@ -12,14 +12,14 @@ use lib.Seq.{getD-append-add}
 use Rattle.spec.specs.Choice.{if_then_else_}
 use Rattle.spec.specs.Expression.{Step, Expr}
 use Rattle.spec.specs.Split.{Map, Row, Split, typeAt, mapAt}
-use Rattle.spec.specs.Agreement.{Tree, plain, int, lock, tid, sem, treeOf, trees, tree, sameTree, agree}
-use Rattle.spec.specs.Conditions.{lineOf, isLock, place, load, inLoad, outLoad, row, type, kind, post, startIn, start, K, inMap, outMap, startMap, contains, looserLock, mayShow}
+use Rattle.spec.specs.Agreement.{Tree, plain, int, lock, tid, sem, rwlock, treeOf, trees, tree, sameTree, agree}
+use Rattle.spec.specs.Conditions.{lineOf, isLock, place, load, inLoad, outLoad, readLoad, writeLoad, row, type, kind, post, startIn, start, K, inMap, outMap, readMap, writeMap, startMap, contains, looserLock, mayShow}
 use Rattle.spec.specs.Verdict.{takesEnough, allTakeEnough, locksTakeEnough}
 use Rattle.spec.specs.Ranges.{InRange}
 use Rattle.spec.specs.declared.TypeNumber.{TypeNumber}
 use Rattle.spec.specs.declared.MapNumber.{MapNumber}
 use Rattle.spec.specs.declared.TypeLine.{TypeLine}
-use Rattle.spec.specs.declared.TypeLine.the-variants.{Int, Ref, Lock, Tid, Sem}
+use Rattle.spec.specs.declared.TypeLine.the-variants.{Int, Ref, Lock, Tid, Sem, Rwlock}
 use Rattle.spec.proofs.Clashes.{none-is-not-some}
 use Rattle.filling.specs.Filled.{withPosts, filled}
 
@@ -72,6 +72,7 @@ module _ {steps : List Step} {S : Split} (R : InRange steps S) where
   MapsFit (Lock i o) = (i .0 < length (S .maps)) × (o .0 < length (S .maps))
   MapsFit (Tid k) = k .0 < length (S .maps)
   MapsFit (Sem k) = k .0 < length (S .maps)
+  MapsFit (Rwlock r w) = (r .0 < length (S .maps)) × (w .0 < length (S .maps))
 
   maps-fit : (t : TypeNumber) → MapsFit (typeAt S t)
   maps-fit = of-each-type MapsFit tt fits
@@ -82,6 +83,7 @@ module _ {steps : List Step} {S : Split} (R : InRange steps S) where
       fits t l (Lock i o) e = R .lockLoads t i o l e
       fits t l (Tid k) e = R .tidLoad t k l e
       fits t l (Sem k) e = R .semLoad t k l e
+      fits t l (Rwlock r w) e = R .rwlockLoads t r w l e
 
   some-map : 0 < length (S .maps)
   some-map = omega (arith, R .mapsCounted, R .mapsFew)
@@ -93,6 +95,7 @@ module _ {steps : List Step} {S : Split} (R : InRange steps S) where
   load-fits (Lock i o) h = some-map
   load-fits (Tid k) h = h
   load-fits (Sem k) h = h
+  load-fits (Rwlock r w) h = some-map
 
   in-fits : (τ : TypeLine) → MapsFit τ → inLoad τ .0 < length (S .maps)
   unfolding inLoad
@@ -101,6 +104,7 @@ module _ {steps : List Step} {S : Split} (R : InRange steps S) where
   in-fits (Lock i o) h = h .0
   in-fits (Tid k) h = some-map
   in-fits (Sem k) h = some-map
+  in-fits (Rwlock r w) h = some-map
 
   out-fits : (τ : TypeLine) → MapsFit τ → outLoad τ .0 < length (S .maps)
   unfolding outLoad
@@ -109,6 +113,25 @@ module _ {steps : List Step} {S : Split} (R : InRange steps S) where
   out-fits (Lock i o) h = h .1
   out-fits (Tid k) h = some-map
   out-fits (Sem k) h = some-map
+  out-fits (Rwlock r w) h = some-map
+
+  read-fits : (τ : TypeLine) → MapsFit τ → readLoad τ .0 < length (S .maps)
+  unfolding readLoad
+  read-fits Int h = some-map
+  read-fits (Ref p c) h = some-map
+  read-fits (Lock i o) h = some-map
+  read-fits (Tid k) h = some-map
+  read-fits (Sem k) h = some-map
+  read-fits (Rwlock r w) h = h .0
+
+  write-fits : (τ : TypeLine) → MapsFit τ → writeLoad τ .0 < length (S .maps)
+  unfolding writeLoad
+  write-fits Int h = some-map
+  write-fits (Ref p c) h = some-map
+  write-fits (Lock i o) h = some-map
+  write-fits (Tid k) h = some-map
+  write-fits (Sem k) h = some-map
+  write-fits (Rwlock r w) h = h .1
 
   place-fits : (t : TypeNumber) → place (typeAt S t) .0 < S .header .locations
   unfolding place
@@ -123,6 +146,7 @@ module _ {steps : List Step} {S : Split} (R : InRange steps S) where
       fits t l (Lock i o) e = some-location
       fits t l (Tid k) e = some-location
       fits t l (Sem k) e = some-location
+      fits t l (Rwlock r w) e = some-location
 
   start-fits : (e : Expr) (m : MapNumber) → row S e .start ≡ some m → m .0 < length (S .maps)
   unfolding row
@@ -166,6 +190,14 @@ module _ {steps : List Step} {S : Split} (R : InRange steps S) where
   unfolding outMap kind
   out-wide e = map-wide _ (out-fits _ (maps-fit (type S e)))
 
+  pub read-wide : (e : Expr) → length (readMap S e) ≡ S .header .locations
+  unfolding readMap kind
+  read-wide e = map-wide _ (read-fits _ (maps-fit (type S e)))
+
+  pub write-wide : (e : Expr) → length (writeMap S e) ≡ S .header .locations
+  unfolding writeMap kind
+  write-wide e = map-wide _ (write-fits _ (maps-fit (type S e)))
+
   pub start-map-wide : length (startMap S) ≡ S .header .locations
   unfolding startMap
   start-map-wide = map-wide _ (R .start)
@@ -203,6 +235,14 @@ module _ {steps : List Step} {S : Split} (R : InRange steps S) where
     unfolding outMap kind
     out-kept e = ap (λ t. mapAt (filled S σ) (outLoad t)) (kind-kept S σ e) ∙ map-kept _ (out-fits _ (maps-fit (type S e)))
 
+    pub read-kept : (e : Expr) → readMap (filled S σ) e ≡ readMap S e
+    unfolding readMap kind
+    read-kept e = ap (λ t. mapAt (filled S σ) (readLoad t)) (kind-kept S σ e) ∙ map-kept _ (read-fits _ (maps-fit (type S e)))
+
+    pub write-kept : (e : Expr) → writeMap (filled S σ) e ≡ writeMap S e
+    unfolding writeMap kind
+    write-kept e = ap (λ t. mapAt (filled S σ) (writeLoad t)) (kind-kept S σ e) ∙ map-kept _ (write-fits _ (maps-fit (type S e)))
+
     -- the step with index i shows the new map i
     pub post-new : (e : Expr) (i : ℕ) → lineOf e ≡ 2 + i → i < length (S .rows) → post (filled S σ) e ≡ getD σ i []
     unfolding post mapAt row filled
@@ -222,6 +262,8 @@ module _ {steps : List Step} {S : Split} (R : InRange steps S) where
         ap (λ m. plain lock (m ∷ mapAt (filled S σ) o ∷ [])) (map-kept i (l .0)) ∙ ap (λ m. plain lock (mapAt S i ∷ m ∷ [])) (map-kept o (l .1))
     tree-kept before (Tid k) l = ap (λ m. plain tid (m ∷ [])) (map-kept k l)
     tree-kept before (Sem k) l = ap (λ m. plain sem (m ∷ [])) (map-kept k l)
+    tree-kept before (Rwlock r w) l =
+        ap (λ m. plain rwlock (m ∷ mapAt (filled S σ) w ∷ [])) (map-kept r (l .0)) ∙ ap (λ m. plain rwlock (mapAt S r ∷ m ∷ [])) (map-kept w (l .1))
 
     trees-kept : (before : List Tree) (τs : List TypeLine) → ((t : ℕ) → MapsFit (getD τs t Int))
         → trees (filled S σ) before τs ≡ trees S before τs
@@ -243,6 +285,7 @@ module _ {steps : List Step} {S : Split} (R : InRange steps S) where
     contains-kept (Lock i o) u = refl
     contains-kept (Tid k) u = refl
     contains-kept (Sem k) u = refl
+    contains-kept (Rwlock r w) u = refl
 
     looser-kept : (τ υ : TypeLine) → MapsFit τ → MapsFit υ → looserLock (filled S σ) τ υ ≡ looserLock S τ υ
     unfolding looserLock
@@ -265,6 +308,7 @@ module _ {steps : List Step} {S : Split} (R : InRange steps S) where
     line-enough-kept (Lock i o) h = rw (map-kept i (h .0), map-kept o (h .1))
     line-enough-kept (Tid k) h = refl
     line-enough-kept (Sem k) h = refl
+    line-enough-kept (Rwlock r w) h = refl
 
     lines-enough-kept : (k : ℕ) (τs : List TypeLine) → ((t : ℕ) → MapsFit (getD τs t Int)) → allTakeEnough (filled S σ) k τs ≡ allTakeEnough S k τs
     unfolding allTakeEnough

@@ -1,11 +1,11 @@
 -- Comparing and adding maps number by number is comparing and adding at every location; so a condition on maps holds exactly when
 -- the effect that it states turns the numbers at every location.
-use mathlib.Core.Path.{_≡_, refl, ap}
+use mathlib.Core.Path.{_≡_, refl, ap, _∙_}
 use mathlib.Core.Bool.{Bool, true, false}
 use mathlib.Core.List.{[], _∷_}
 use mathlib.Core.Logic.{_↔_}
 use mathlib.Core.Option.{none}
-use Prim.Native.Nat.{ℕ, zero, suc, _+_, _≤_, _<_}
+use Prim.Native.Nat.{ℕ, zero, suc, _+_, _*_, _≤_, _<_}
 use native.Mathlib.Omega.{arith}
 use lib.Dec.{eqb}
 use lib.ListN.{length, getD}
@@ -13,11 +13,11 @@ use lib.Seq.{ext-getD}
 use borrow.Author.Tests.{eqb-true, eq-eqb}
 use Rattle.spec.specs.Choice.{if_then_else_}
 use Rattle.spec.specs.Split.{Map}
-use Rattle.spec.specs.Maps.{_=ᵐ_, _≥ᵐ_, _+ᵐ_, share}
+use Rattle.spec.specs.Maps.{_=ᵐ_, _≥ᵐ_, _+ᵐ_, _×ᵐ_, share}
 use Rattle.spec.specs.Figure5.{_⊒_, none as none⊒, more as more⊒}
 use Rattle.spec.specs.declared.Location.{Location}
-use Rattle.spec.proofs.Maps.{none-equal, equal-none, none-covers, covers-none}
-use Rattle.filling.specs.Flow.{unchanged, taking, giving, needing, Turns}
+use Rattle.spec.proofs.Maps.{none-equal, equal-none, none-covers, covers-none, times-at}
+use Rattle.filling.specs.Flow.{unchanged, taking, giving, needing, lending, Turns}
 use Rattle.filling.specs.FlowOf.{asks}
 
 -- ------------------------------------------------------------------ two maps
@@ -46,6 +46,15 @@ sum-at [] (b ∷ n) l i = absurd (omega (arith, l))
 sum-at (a ∷ m) [] l i = absurd (omega (arith, l))
 sum-at (a ∷ m) (b ∷ n) l zero = refl
 sum-at (a ∷ m) (b ∷ n) l (suc i) = sum-at m n (omega (arith, l)) i
+
+times-length : (k : ℕ) (m : Map) → length (k ×ᵐ m) ≡ length m
+unfolding _×ᵐ_
+times-length k [] = refl
+times-length k (a ∷ m) = ap suc (times-length k m)
+
+share-times : (k : ℕ) (m : Map) (p : Location) → share (k ×ᵐ m) p ≡ k * share m p
+unfolding share
+share-times k m p = times-at k m (p .0)
 
 -- ------------------------------------------------------------------ access
 
@@ -126,7 +135,7 @@ module _ {L : ℕ} where
     -- post = before
     pub keeps : (m =ᵐ n) ≡ none ↔ Everywhere L (λ p. Turns unchanged (share n′ p) (share m′ p))
     unfolding unchanged
-    keeps = restated (λ p. (λ h. record { balance = omega arith; enough = omega arith }, λ t. omega (arith, t .balance))) (equal-everywhere after before)
+    keeps = restated (λ p. (λ h. record { balance = omega arith; enough = omega arith; lent = omega arith }, λ t. omega (arith, t .balance))) (equal-everywhere after before)
 
     module _ {k k′ : Map} (load : Known L k k′) where
       -- post = before + K
@@ -134,7 +143,7 @@ module _ {L : ℕ} where
       unfolding giving
       gives =
           restated (λ p. (
-            λ h. record { balance = omega (arith, h, share-sum before load p); enough = omega arith },
+            λ h. record { balance = omega (arith, h, share-sum before load p); enough = omega arith; lent = omega arith },
             λ t. omega (arith, t .balance, share-sum before load p),
           ))
           (equal-everywhere after (known-sum before load))
@@ -144,10 +153,25 @@ module _ {L : ℕ} where
       unfolding taking
       takes =
           restated (λ p. (
-            λ h. record { balance = omega (arith, h, share-sum after load p); enough = omega arith },
+            λ h. record { balance = omega (arith, h, share-sum after load p); enough = omega arith; lent = omega arith },
             λ t. omega (arith, t .balance, share-sum after load p),
           ))
           (equal-everywhere (known-sum after load) before)
+
+  known-times : {m m′ : Map} (v : ℕ) → Known L m m′ → Known L (v ×ᵐ m) (v ×ᵐ m′)
+  known-times {m′ = m′} v km = record { same = ap (λ x. v ×ᵐ x) (km .same); wide = times-length v m′ ∙ km .wide }
+
+  -- v times the share is at most the load, and post + load = before
+  pub lends : {m m′ n n′ k k′ r r′ : Map} (v : ℕ) (after : Known L m m′) (before : Known L n n′) (load : Known L k k′) (part : Known L r r′)
+      → (((k ≥ᵐ v ×ᵐ r) ≡ none) × (((m +ᵐ k =ᵐ n) ≡ none) × Unit {0}))
+      ↔ Everywhere L (λ p. Turns (lending (v * share r′ p) (share k′ p)) (share n′ p) (share m′ p))
+  unfolding lending taking
+  lends {r′ = r′} v after before load part =
+      restated (λ p. (
+        λ h. record { balance = h .1 .balance; enough = h .1 .enough; lent = omega (arith, h .0, share-times v r′ p) },
+        λ t. (omega (arith, t .lent, share-times v r′ p), record { balance = t .balance; enough = t .enough; lent = omega arith }),
+      ))
+      (together (least-everywhere load (known-times v part)) (lastly (takes after before load)))
 
   -- post = before, and at least d at the location q, by a test
   pub needs : {m m′ n n′ : Map} (after : Known L m m′) (before : Known L n n′) (q q′ : Location) → q ≡ q′ → q′ .0 < L
@@ -158,7 +182,7 @@ module _ {L : ℕ} where
     λ h.
         let e = equal-everywhere after before .0 (h .0) in
         let there : d ≤ share m′ q′ = rw (after .same, same) at (decides .0 (h .1 .0)) in
-        record { at = λ p l. record { balance = omega (arith, e .at p l); enough = asks-met p q′ d m′ there } },
+        record { at = λ p l. record { balance = omega (arith, e .at p l); enough = asks-met p q′ d m′ there; lent = omega arith } },
     λ t.
         let there : d ≤ share m′ q′ = rw (asked-there q′ d) at (t .at q′ within .enough) in
         (equal-everywhere after before .1 (record { at = λ p l. omega (arith, t .at p l .balance) }), (decides .1 (rw (after .same, same) there), tt)),

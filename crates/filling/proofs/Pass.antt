@@ -116,7 +116,7 @@ module _ (R : ℕ → ℕ → Type 0) (a : ℕ → ℕ) (i : ℕ) where
 -- ------------------------------------------------------------------ what the pass finds passes
 
 pub turns-along : {E : Effect} {b b′ c c′ : ℕ} → b ≡ b′ → c ≡ c′ → Turns E b′ c′ → Turns E b c
-turns-along p q t = record { balance = omega arith; enough = omega arith }
+turns-along p q t = record { balance = omega (arith, t .balance); enough = omega (arith, t .enough); lent = t .lent }
 
 -- any posts that are those of the pass from step i on
 pub pass-passes : (a : ℕ → ℕ) (i pre : ℕ) (f : Flow) {ps : List ℕ} → pass pre f ≡ some ps → Along _≡_ a i ps → Passes a i pre f
@@ -176,7 +176,7 @@ pub record Best (a : ℕ → ℕ) (i x pre : ℕ) (f : Flow) : Type 0 where
 pub turn-more : {x p : ℕ} (E : Effect) (before : ℕ) → Turns E x p → x ≤ before
     → (q : ℕ) × (turn E before ≡ some q) × (p + before ≡ q + x) × (p ≤ q)
 turn-more {x} {p} E before t l =
-    let moved : Turns E before (p + (before - x)) = record { balance = omega arith; enough = omega arith } in
+    let moved : Turns E before (p + (before - x)) = record { balance = omega (arith, t .balance); enough = omega (arith, t .enough); lent = t .lent } in
     (p + (before - x), turns-turn E before moved, omega arith, omega arith)
 
 pub passes-best : (a : ℕ → ℕ) (i x pre : ℕ) (f : Flow) → Passes a i x f → x ≤ pre → Best a i x pre f

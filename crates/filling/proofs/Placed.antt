@@ -7,12 +7,12 @@ use lib.ListN.{length, getD}
 use Rattle.spec.specs.Expression.{Step, Expr, leaf, unary, binary, size}
 use Rattle.spec.specs.WellFormed.{LinesFrom}
 use Rattle.spec.specs.Split.{Map, Row, Split, mapAt}
-use Rattle.spec.specs.Conditions.{lineOf, place, row, kind, post, start, K, inMap, outMap, startMap}
+use Rattle.spec.specs.Conditions.{lineOf, place, row, kind, post, start, K, inMap, outMap, readMap, writeMap, startMap}
 use Rattle.spec.specs.Ranges.{InRange}
 use Rattle.spec.specs.declared.Location.{Location}
-use Rattle.spec.specs.declared.LeafWord.the-variants.{Var, Int, Newtid, Newlock, Newsem}
+use Rattle.spec.specs.declared.LeafWord.the-variants.{Var, Int, Newtid, Newlock, Newsem, Newrwlock}
 use Rattle.spec.specs.declared.UnaryWord.{UnaryWord}
-use Rattle.spec.specs.declared.UnaryWord.the-variants.{While, Join, Ref, Read, Lock, Unlock, Post, Wait}
+use Rattle.spec.specs.declared.UnaryWord.the-variants.{While, Join, Ref, Read, Lock, Unlock, Post, Wait, Rdlock, Rdunlock, Wrlock, Wrunlock}
 use Rattle.spec.specs.declared.BinaryWord.{BinaryWord}
 use Rattle.spec.specs.declared.BinaryWord.the-variants.{Let, If, Spawn, Write}
 use Rattle.spec.proofs.Listing.{size-positive}
@@ -20,7 +20,7 @@ use Rattle.filling.specs.Filled.{filled}
 use Rattle.filling.specs.AfterMaps.{shownMaps}
 use Rattle.filling.specs.Flow.{steps}
 use Rattle.filling.specs.FlowOf.{flowOf}
-use Rattle.filling.proofs.Kept.{absent, kind-kept, place-within, map-wide, start-wide, K-wide, in-wide, out-wide, start-map-wide, start-map-kept, start-kept, K-kept, in-kept, out-kept, post-new}
+use Rattle.filling.proofs.Kept.{absent, kind-kept, place-within, map-wide, start-wide, K-wide, in-wide, out-wide, read-wide, write-wide, start-map-wide, start-map-kept, start-kept, K-kept, in-kept, out-kept, read-kept, write-kept, post-new}
 use Rattle.filling.proofs.Locations.{Known}
 
 -- a flow has the steps of its expression
@@ -41,8 +41,13 @@ flow-steps S p (leaf Newlock k v) = refl
 flow-steps S p (unary Lock k v e₁) = ap suc (flow-steps S p e₁)
 flow-steps S p (unary Unlock k v e₁) = ap suc (flow-steps S p e₁)
 flow-steps S p (leaf Newsem k v) = refl
+flow-steps S p (leaf Newrwlock k v) = refl
 flow-steps S p (unary Post k v e₁) = ap suc (flow-steps S p e₁)
 flow-steps S p (unary Wait k v e₁) = ap suc (flow-steps S p e₁)
+flow-steps S p (unary Rdlock k v e₁) = ap suc (flow-steps S p e₁)
+flow-steps S p (unary Rdunlock k v e₁) = ap suc (flow-steps S p e₁)
+flow-steps S p (unary Wrlock k v e₁) = ap suc (flow-steps S p e₁)
+flow-steps S p (unary Wrunlock k v e₁) = ap suc (flow-steps S p e₁)
 
 -- ------------------------------------------------------------------ places
 
@@ -89,6 +94,8 @@ pub record Showing (ss : List Step) (S : Split) (σ : List Map) (T : Split) : Ty
   pub loads : (e : Expr) → Known (S .header .locations) (K T e) (K S e)
   pub ins : (e : Expr) → Known (S .header .locations) (inMap T e) (inMap S e)
   pub outs : (e : Expr) → Known (S .header .locations) (outMap T e) (outMap S e)
+  pub shares : (e : Expr) → Known (S .header .locations) (readMap T e) (readMap S e)
+  pub wholes : (e : Expr) → Known (S .header .locations) (writeMap T e) (writeMap S e)
   pub places : (e : Expr) → place (kind T e) ≡ place (kind S e)
   pub within : (e : Expr) → place (kind S e) .0 < S .header .locations
   pub first : Known (S .header .locations) (startMap T) (startMap S)
@@ -111,6 +118,8 @@ filled-shows {σ = σ} G = let R = G .inRange in record {
   loads = λ e. record { same = K-kept R σ e; wide = K-wide R e };
   ins = λ e. record { same = in-kept R σ e; wide = in-wide R e };
   outs = λ e. record { same = out-kept R σ e; wide = out-wide R e };
+  shares = λ e. record { same = read-kept R σ e; wide = read-wide R e };
+  wholes = λ e. record { same = write-kept R σ e; wide = write-wide R e };
   places = λ e. ap place (kind-kept _ σ e);
   within = place-within R;
   first = record { same = start-map-kept R σ; wide = start-map-wide R };
@@ -140,6 +149,8 @@ split-shows R = record {
   loads = λ e. record { same = refl; wide = K-wide R e };
   ins = λ e. record { same = refl; wide = in-wide R e };
   outs = λ e. record { same = refl; wide = out-wide R e };
+  shares = λ e. record { same = refl; wide = read-wide R e };
+  wholes = λ e. record { same = refl; wide = write-wide R e };
   places = λ e. refl;
   within = place-within R;
   first = record { same = refl; wide = start-map-wide R };

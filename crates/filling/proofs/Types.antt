@@ -6,8 +6,8 @@ use Rattle.spec.specs.Split.{Map, Split}
 use Rattle.spec.specs.Conditions.{Env, type, post, start, own}
 use Rattle.spec.specs.Sites.{Site, Claim, sites, bind, preOfPart, preOfSecond, numbered, claimsAt, claims, isType, only}
 use Rattle.spec.specs.Ranges.{InRange}
-use Rattle.spec.specs.declared.LeafWord.the-variants.{Var, Int, Newtid, Newlock, Newsem}
-use Rattle.spec.specs.declared.UnaryWord.the-variants.{While, Join, Ref, Read, Lock, Unlock, Post, Wait}
+use Rattle.spec.specs.declared.LeafWord.the-variants.{Var, Int, Newtid, Newlock, Newsem, Newrwlock}
+use Rattle.spec.specs.declared.UnaryWord.the-variants.{While, Join, Ref, Read, Lock, Unlock, Post, Wait, Rdlock, Rdunlock, Wrlock, Wrunlock}
 use Rattle.spec.specs.declared.BinaryWord.the-variants.{Let, If, Spawn, Write}
 use Rattle.spec.proofs.Claims.{claims-append}
 use Rattle.filling.specs.Filled.{filled}
@@ -62,8 +62,13 @@ module _ {steps : List Step} {S : Split} (R : InRange steps S) (σ : List Map) w
   own-kept Γ pre pre′ (unary Lock k v e₁) = simp (kind-kept S σ)
   own-kept Γ pre pre′ (unary Unlock k v e₁) = simp (kind-kept S σ)
   own-kept Γ pre pre′ (leaf Newsem k v) = simp (kind-kept S σ)
+  own-kept Γ pre pre′ (leaf Newrwlock k v) = simp (kind-kept S σ)
   own-kept Γ pre pre′ (unary Post k v e₁) = simp (kind-kept S σ)
   own-kept Γ pre pre′ (unary Wait k v e₁) = simp (kind-kept S σ)
+  own-kept Γ pre pre′ (unary Rdlock k v e₁) = simp (kind-kept S σ)
+  own-kept Γ pre pre′ (unary Rdunlock k v e₁) = simp (kind-kept S σ)
+  own-kept Γ pre pre′ (unary Wrlock k v e₁) = simp (kind-kept S σ)
+  own-kept Γ pre pre′ (unary Wrunlock k v e₁) = simp (kind-kept S σ)
 
   sites-alike : (Γ : Env) (pre pre′ : Map) (e : Expr) → Alike S′ (sites S′ Γ pre e) S (sites S Γ pre′ e)
   unfolding sites claims

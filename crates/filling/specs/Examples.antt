@@ -67,6 +67,12 @@ examples =
     -- a post takes, a wait gives
     ("P,7|let,0|newsem,0|let,1|post,0|var,0|wait,0|var,0|" with "C2,2,1,2,2,0|int,0,0|sem,1,0|2|1|0,,|1,,|0,,|0,,|1,,|0,,|1,,|" has
     ones (2 ∷ 2 ∷ 2 ∷ 1 ∷ 2 ∷ 2 ∷ 1 ∷ [])) ∷
+    -- a new read-write lock takes w; a reader gets r and a writer w, and gives it back
+    ("P,13|let,0|newrwlock,2|let,1|rdlock,0|var,0|let,2|rdunlock,0|var,0|let,3|wrlock,0|var,0|wrunlock,0|var,0|" with
+    "C2,2,1,2,3,0|int,0,0|rwlock,1,0|2|1|0|0,,|1,,|0,,|0,,|1,,|0,,|0,,|1,,|0,,|0,,|1,,|0,,|1,,|" has
+    ones (0 ∷ 0 ∷ 0 ∷ 1 ∷ 0 ∷ 0 ∷ 0 ∷ 1 ∷ 0 ∷ 2 ∷ 0 ∷ 0 ∷ 2 ∷ [])) ∷
+    -- a place for each reader more than w has
+    ("P,1|newrwlock,3|" with "C2,2,1,1,2,0|rwlock,1,0|2|1|0,,|" has none) ∷
     -- numbers as large as they come
     ("P,10|" ++ˢ twoLocks "unlock,0|var,0|" with twoLocksSplit "0,,|1,,|" has
     ones (1000000000 ∷ 0 ∷ 1000000000 ∷ 1000000000 ∷ 0 ∷ 1000000000 ∷ 2000000000 ∷ 1000000000 ∷ 1000000000 ∷ 2000000000 ∷ [])) ∷
@@ -110,6 +116,7 @@ answers =
     ("P,1|int,0|" with "C2,1,1,1,256,1|lock,0,0|" ++ˢ times 256 "2|" ++ˢ "0,,|" is four 30 2 0 0) ∷
     ("P,3|let,0|newlock,0|int,0|" with "C2,1,1,2,2,0|int,0,0|lock,1,0|0|1|1,,|1,,|0,,|" is four 31 2 1 0) ∷
     ("P,3|let,0|newlock,0|int,0|" with "C2,1,1,2,2,0|int,0,0|lock,1,0|0|1|0,,|1,,|0,,|" is four 41 0 0 0) ∷
+    ("P,1|newrwlock,64|" with "C2,1,1,1,2,0|rwlock,1,0|0|67108864|0,,|" is four 41 0 0 0) ∷
     ("P,16|" ++ˢ twoLocks "let,3|unlock,0|var,0|let,4|unlock,0|var,0|unlock,0|var,0|" with
     twoLocksSplit "0,,|0,,|1,,|0,,|0,,|1,,|0,,|1,,|" is four 41 0 0 0) ∷
     ("P,10|" ++ˢ twoLocks "unlock,0|var,0|" with twoLocksSplit "0,,|1,,|" is four 42 0 0 0) ∷
@@ -143,8 +150,8 @@ fillings =
     ("P,3|spawn,0|newtid,0|int,0|" with "C2,2,1,2,3,1|int,0,0|tid,2,0|2|1|0|0,,|1,,|0,,|" becomes
     "C2,2,1,2,6,1|int,0,0|tid,2,0|2|1|0|1|1|0|0,3,|1,4,|0,5,|") ∷
     -- two locations, and every kind of type
-    ("P,3|let,0|newlock,0|int,7|" with "C2,5,2,5,2,0|int,0,0|ref,1,0|lock,1,0|tid,0,0|sem,1,0|5,4|0,3|0,,|2,,|0,,|" becomes
-    "C2,5,2,5,5,0|int,0,0|ref,1,0|lock,1,0|tid,0,0|sem,1,0|5,4|0,3|5,1|5,1|5,1|0,2,|2,3,|0,4,|") ∷
+    ("P,3|let,0|newlock,0|int,7|" with "C2,5,2,6,2,0|int,0,0|ref,1,0|lock,1,0|tid,0,0|sem,1,0|rwlock,1,0|5,4|0,3|0,,|2,,|0,,|" becomes
+    "C2,5,2,6,5,0|int,0,0|ref,1,0|lock,1,0|tid,0,0|sem,1,0|rwlock,1,0|5,4|0,3|5,1|5,1|5,1|0,2,|2,3,|0,4,|") ∷
     -- a lock line keeps its in and its out
     ("P,7|let,0|newlock,0|let,1|lock,0|var,0|unlock,0|var,0|" with "C3,4,1,2,3,0|int,0,0|lock,1,2|4|1|2|0,,|1,,|0,,|0,,|1,,|0,,|1,,|" becomes
     "C3,4,1,2,10,0|int,0,0|lock,1,2|4|1|2|1|2|1|3|2|1|3|0,3,|1,4,|0,5,|0,6,|1,7,|0,8,|1,9,|") ∷

@@ -1,6 +1,7 @@
 -- What an expression does to the number at one location: the posts that its conditions allow, and the greatest of them.
 -- Nothing here knows words or types: FlowOf.antt says which flow an expression has.
 use mathlib.Core.Path.{_≡_}
+use mathlib.Core.Bool.{_&&_}
 use mathlib.Core.List.{List, [], _∷_, _++_}
 use mathlib.Core.Option.{Option, none, some}
 use Prim.Native.Nat.{ℕ, suc, _+_, _-_, _≤_, min}
@@ -12,18 +13,21 @@ use Rattle.filling.specs.declared.Effect.{Effect}
 
 -- ------------------------------------------------------------------ effects
 
--- a step that keeps the number, takes from it, gives to it, or needs it to be large enough
+-- a step that keeps the number, takes from it, gives to it, needs it to be large enough, or takes from it what it lends
 unfoldable pub unchanged : Effect
-unchanged = record { takes = 0; gives = 0; needs = 0 }
+unchanged = record { takes = 0; gives = 0; needs = 0; lends = 0 }
 
 unfoldable pub taking : ℕ → Effect
-taking k = record { takes = k; gives = 0; needs = 0 }
+taking k = record { takes = k; gives = 0; needs = 0; lends = 0 }
 
 unfoldable pub giving : ℕ → Effect
-giving k = record { takes = 0; gives = k; needs = 0 }
+giving k = record { takes = 0; gives = k; needs = 0; lends = 0 }
 
 unfoldable pub needing : ℕ → Effect
-needing k = record { takes = 0; gives = 0; needs = k }
+needing k = record { takes = 0; gives = 0; needs = k; lends = 0 }
+
+unfoldable pub lending : (lent taken : ℕ) → Effect
+lending l k = record { takes = k; gives = 0; needs = 0; lends = l }
 
 -- ------------------------------------------------------------------ flows
 
@@ -56,6 +60,7 @@ steps (fork s k f g) = suc (steps f + steps g)
 pub record Turns (E : Effect) (before after : ℕ) : Type 0 where
   pub balance : after + E .takes ≡ before + E .gives
   pub enough : E .needs ≤ after
+  pub lent : E .lends ≤ E .takes
 
 -- Passes a i pre f: with a j for the post of step j, the steps of f, counted from i, meet their conditions from pre on.
 -- A first part stands just behind its step, a second part behind the first.
@@ -76,7 +81,7 @@ Passes a i pre (fork s k f g) = let j = i + 1 + steps f in
 -- the number after a step, if there is one
 unfoldable pub turn : Effect → (before : ℕ) → Option ℕ
 turn E before =
-    if leb (E .takes + E .needs) (before + E .gives)
+    if leb (E .takes + E .needs) (before + E .gives) && leb (E .lends) (E .takes)
     then some (before + E .gives - E .takes)
     else none
 

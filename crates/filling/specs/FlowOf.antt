@@ -1,23 +1,23 @@
 -- The flow of an expression at a location: document 01's table, its (F) and (A) conditions at that location.
-use Prim.Native.Nat.{ℕ}
+use Prim.Native.Nat.{ℕ, _*_}
 use lib.Dec.{eqb}
 use Rattle.spec.specs.Choice.{if_then_else_}
 use Rattle.spec.specs.Expression.{Expr, leaf, unary, binary}
 use Rattle.spec.specs.Split.{Split}
 use Rattle.spec.specs.Maps.{share}
-use Rattle.spec.specs.Conditions.{place, kind, start, K, inMap, outMap}
+use Rattle.spec.specs.Conditions.{place, kind, start, K, inMap, outMap, readMap, writeMap}
 use Rattle.spec.specs.declared.Location.{Location}
-use Rattle.spec.specs.declared.LeafWord.the-variants.{Var, Int, Newtid, Newlock, Newsem}
-use Rattle.spec.specs.declared.UnaryWord.the-variants.{While, Join, Ref, Read, Lock, Unlock, Post, Wait}
+use Rattle.spec.specs.declared.LeafWord.the-variants.{Var, Int, Newtid, Newlock, Newsem, Newrwlock}
+use Rattle.spec.specs.declared.UnaryWord.the-variants.{While, Join, Ref, Read, Lock, Unlock, Post, Wait, Rdlock, Rdunlock, Wrlock, Wrunlock}
 use Rattle.spec.specs.declared.BinaryWord.the-variants.{Let, If, Spawn, Write}
-use Rattle.filling.specs.Flow.{unchanged, taking, giving, needing, Flow, alone, after, inTurn, branch, loop, fork}
+use Rattle.filling.specs.Flow.{unchanged, taking, giving, needing, lending, Flow, alone, after, inTurn, branch, loop, fork}
 
 -- an access to the location p that needs d there needs nothing elsewhere
 unfoldable pub asks : (here p : Location) → (d : ℕ) → ℕ
 asks here p d = if eqb (p .0) (here .0) then d else 0
 
 module _ (S : Split) (here : Location) where
-  -- what the load of an expression's type, in and out of its lock type, and the start of its body have here
+  -- what the load of an expression's type, in and out of its lock type, r and w of its rwlock type, and the start of its body have here
   unfoldable pub loadHere : Expr → ℕ
   loadHere e = share (K S e) here
 
@@ -26,6 +26,12 @@ module _ (S : Split) (here : Location) where
 
   unfoldable pub outHere : Expr → ℕ
   outHere e = share (outMap S e) here
+
+  unfoldable pub readHere : Expr → ℕ
+  readHere e = share (readMap S e) here
+
+  unfoldable pub writeHere : Expr → ℕ
+  writeHere e = share (writeMap S e) here
 
   unfoldable pub startHere : Expr → ℕ
   startHere e = share (start S e) here
@@ -53,3 +59,8 @@ module _ (S : Split) (here : Location) where
   flowOf (leaf Newsem k v) = alone unchanged
   flowOf (unary Post k v e₁) = after (taking (loadHere e₁)) (flowOf e₁)
   flowOf (unary Wait k v e₁) = after (giving (loadHere e₁)) (flowOf e₁)
+  flowOf (leaf Newrwlock k v) = let e = leaf Newrwlock k v in alone (lending (v * readHere e) (writeHere e))
+  flowOf (unary Rdlock k v e₁) = after (giving (readHere e₁)) (flowOf e₁)
+  flowOf (unary Rdunlock k v e₁) = after (taking (readHere e₁)) (flowOf e₁)
+  flowOf (unary Wrlock k v e₁) = after (giving (writeHere e₁)) (flowOf e₁)
+  flowOf (unary Wrunlock k v e₁) = after (taking (writeHere e₁)) (flowOf e₁)

@@ -14,7 +14,7 @@ use Rattle.lexer.specs.Cursors.{rest, spanAt}
 use Rattle.lexer.specs.declared.Cursor.{Cursor}
 use Rattle.lexer.specs.declared.Span.{Span}
 use Rattle.lexer.proofs.Places.{span-field}
-use Rattle.lexer.specs.Words.{foundOf, leafWords, unaryWords, binaryWords}
+use Rattle.lexer.specs.Words.{foundOf, leafWords, unaryWords, holdWords, binaryWords}
 use Rattle.lexer.specs.declared.vocabulary.FoundWord.{FoundWord}
 use Rattle.lexer.specs.declared.vocabulary.FoundWord.the-variants.{Known, Unknown}
 
@@ -72,7 +72,7 @@ module _ (vs ws : List (List ℕ × Word)) (f : Field) where
 
 -- the words of document 01 are those without parts, then those with one, then those with two
 words-are : words ≡ leafWords ++ (unaryWords ++ binaryWords)
-unfolding words leafWords unaryWords binaryWords
+unfolding words leafWords unaryWords holdWords binaryWords
 words-are = refl
 
 module _ (f : Field) where

@@ -6,8 +6,8 @@ use Rattle.spec.specs.Choice.{if_then_else_}
 use Rattle.spec.specs.Text.{bytes, same, Field}
 use Rattle.spec.specs.declared.Word.{Word}
 use Rattle.spec.specs.declared.Word.the-variants.{Leaf, Unary, Binary}
-use Rattle.spec.specs.declared.LeafWord.the-variants.{Var, Int, Newtid, Newlock, Newsem}
-use Rattle.spec.specs.declared.UnaryWord.the-variants.{While, Join, Ref, Read, Lock, Unlock, Post, Wait}
+use Rattle.spec.specs.declared.LeafWord.the-variants.{Var, Int, Newtid, Newlock, Newsem, Newrwlock}
+use Rattle.spec.specs.declared.UnaryWord.the-variants.{While, Join, Ref, Read, Lock, Unlock, Post, Wait, Rdlock, Rdunlock, Wrlock, Wrunlock}
 use Rattle.spec.specs.declared.BinaryWord.the-variants.{Let, If, Spawn, Write}
 use Rattle.lexer.specs.declared.vocabulary.FoundWord.{FoundWord}
 use Rattle.lexer.specs.declared.vocabulary.FoundWord.the-variants.{Known, Unknown}
@@ -26,6 +26,15 @@ leafWords =
     ∷ (bytes "newtid", Leaf Newtid)
     ∷ (bytes "newlock", Leaf Newlock)
     ∷ (bytes "newsem", Leaf Newsem)
+    ∷ (bytes "newrwlock", Leaf Newrwlock)
+    ∷ []
+
+unfoldable pub holdWords : List (List ℕ × Word)
+holdWords =
+    (bytes "rdlock", Unary Rdlock)
+    ∷ (bytes "rdunlock", Unary Rdunlock)
+    ∷ (bytes "wrlock", Unary Wrlock)
+    ∷ (bytes "wrunlock", Unary Wrunlock)
     ∷ []
 
 unfoldable pub unaryWords : List (List ℕ × Word)
@@ -38,7 +47,7 @@ unaryWords =
     ∷ (bytes "unlock", Unary Unlock)
     ∷ (bytes "post", Unary Post)
     ∷ (bytes "wait", Unary Wait)
-    ∷ []
+    ∷ holdWords
 
 unfoldable pub binaryWords : List (List ℕ × Word)
 binaryWords =
@@ -56,4 +65,5 @@ typeWordOf f =
     else if same f (bytes "lock") then kind.Lock
     else if same f (bytes "tid") then kind.Tid
     else if same f (bytes "sem") then kind.Sem
+    else if same f (bytes "rwlock") then kind.Rwlock
     else kind.Unknown

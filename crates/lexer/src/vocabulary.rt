@@ -6,7 +6,7 @@ use spec::Word;
 ghost use mathlib.Core.Path.{_≡_};
 ghost use Rattle.spec.specs.Text.{same as sameBytes, lookUp};
 ghost use Rattle.spec.specs.Program.{words};
-ghost use Rattle.lexer.specs.Words.{foundOf, leafWords, unaryWords, binaryWords, typeWordOf};
+ghost use Rattle.lexer.specs.Words.{foundOf, leafWords, unaryWords, holdWords, binaryWords, typeWordOf};
 
 // The word of a step that a field spells.
 pub enum FoundWord {
@@ -21,6 +21,7 @@ pub enum TypeWord {
     Lock,
     Tid,
     Sem,
+    Rwlock,
     Unknown,
 }
 
@@ -60,6 +61,28 @@ fn leaf_word(field: &[u8]) -> FoundWord
     if same(b"newsem", field) {
         return FoundWord::Known(Word::Leaf(LeafWord::Newsem));
     }
+    if same(b"newrwlock", field) {
+        return FoundWord::Known(Word::Leaf(LeafWord::Newrwlock));
+    }
+    FoundWord::Unknown
+}
+
+// The word that takes or gives back a hold on a read-write lock that a field spells.
+fn hold_word(field: &[u8]) -> FoundWord
+    ensures { λ r. ⌜ r ≡ foundOf (lookUp holdWords (now (field .entry))) ⌝ }
+{
+    if same(b"rdlock", field) {
+        return FoundWord::Known(Word::Unary(UnaryWord::Rdlock));
+    }
+    if same(b"rdunlock", field) {
+        return FoundWord::Known(Word::Unary(UnaryWord::Rdunlock));
+    }
+    if same(b"wrlock", field) {
+        return FoundWord::Known(Word::Unary(UnaryWord::Wrlock));
+    }
+    if same(b"wrunlock", field) {
+        return FoundWord::Known(Word::Unary(UnaryWord::Wrunlock));
+    }
     FoundWord::Unknown
 }
 
@@ -91,7 +114,7 @@ fn unary_word(field: &[u8]) -> FoundWord
     if same(b"wait", field) {
         return FoundWord::Known(Word::Unary(UnaryWord::Wait));
     }
-    FoundWord::Unknown
+    hold_word(field)
 }
 
 // The word with two parts that a field spells.
@@ -146,6 +169,9 @@ pub fn type_word(field: &[u8]) -> TypeWord
     }
     if same(field, b"sem") {
         return TypeWord::Sem;
+    }
+    if same(field, b"rwlock") {
+        return TypeWord::Rwlock;
     }
     TypeWord::Unknown
 }

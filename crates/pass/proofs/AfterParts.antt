@@ -1,6 +1,8 @@
 -- What the code finds after a step is what the definitions find.
 use mathlib.Core.Path.{_≡_}
+use mathlib.Core.Bool.{and-false}
 use Prim.Native.Nat.{ℕ, _+_, _-_, _<_, _≤_}
+use lib.Dec.{leb}
 use borrow.Author.Tests.{le-leb, lt-leb}
 use Rattle.filling.specs.declared.Effect.{Effect}
 use Rattle.filling.specs.Found.{_>>=_, demand}
@@ -14,13 +16,17 @@ use Rattle.pass.specs.declared.BinaryWay.the-variants.{Fork}
 use Rattle.pass.specs.Passed.{asFound, afterUnary, afterBinary}
 
 module _ (E : Effect) (before : ℕ) where
-  pub turn-found : E .takes + E .needs ≤ before + E .gives → Number (before + E .gives - E .takes) ≡ asFound (turn E before)
+  pub turn-found : E .lends ≤ E .takes → E .takes + E .needs ≤ before + E .gives → Number (before + E .gives - E .takes) ≡ asFound (turn E before)
   unfolding turn
-  turn-found h = rw (le-leb (E .takes + E .needs) (before + E .gives) h)
+  turn-found l h = rw (le-leb (E .takes + E .needs) (before + E .gives) h, le-leb (E .lends) (E .takes) l)
 
   pub turn-missed : before + E .gives < E .takes + E .needs → Nothing ≡ asFound (turn E before)
   unfolding turn
   turn-missed h = rw (lt-leb (E .takes + E .needs) (before + E .gives) h)
+
+  pub turn-unpaid : E .takes < E .lends → Nothing ≡ asFound (turn E before)
+  unfolding turn
+  turn-unpaid h = rw (lt-leb (E .lends) (E .takes) h, and-false (leb (E .takes + E .needs) (before + E .gives)))
 
 module _ (way : UnaryWay) (pre first : ℕ) where
   pub loop-kept : way ≡ Loop → pre ≤ first → Number pre ≡ asFound (afterUnary way pre first)

@@ -1,29 +1,29 @@
 -- The flow that the work space shows is that of the sheets that it holds.
 use mathlib.Core.Path.{_≡_, refl, ap, ap₂, sym, _∙_}
 use mathlib.Core.List.{List}
-use Prim.Native.Nat.{ℕ, _+_, _≤_, _<_}
+use Prim.Native.Nat.{ℕ, _+_, _*_, _≤_, _<_}
 use native.Mathlib.Omega.{arith}
 use lib.ListN.{length, getD}
 use Rattle.spec.specs.Expression.{Step, Expr, leaf, unary, binary, size}
 use Rattle.spec.specs.Split.{Split}
-use Rattle.spec.specs.Conditions.{lineOf, typeAt, row, type, kind, K, inMap, outMap, load, inLoad, outLoad}
+use Rattle.spec.specs.Conditions.{lineOf, typeAt, row, type, kind, K, inMap, outMap, readMap, writeMap, load, inLoad, outLoad, readLoad, writeLoad}
 use Rattle.spec.specs.Ranges.{InRange}
 use Rattle.spec.proofs.Listing.{size-positive}
 use Rattle.spec.specs.declared.Location.{Location}
 use Rattle.spec.specs.declared.LeafWord.{LeafWord}
-use Rattle.spec.specs.declared.LeafWord.the-variants.{Var, Int, Newtid, Newlock, Newsem}
+use Rattle.spec.specs.declared.LeafWord.the-variants.{Var, Int, Newtid, Newlock, Newsem, Newrwlock}
 use Rattle.spec.specs.declared.UnaryWord.{UnaryWord}
-use Rattle.spec.specs.declared.UnaryWord.the-variants.{While, Join, Ref, Read, Lock, Unlock, Post, Wait}
+use Rattle.spec.specs.declared.UnaryWord.the-variants.{While, Join, Ref, Read, Lock, Unlock, Post, Wait, Rdlock, Rdunlock, Wrlock, Wrunlock}
 use Rattle.spec.specs.declared.BinaryWord.{BinaryWord}
 use Rattle.spec.specs.declared.BinaryWord.the-variants.{Let, If, Spawn, Write}
 use Rattle.workspace.specs.Layout.{wordsAt, leafCode, unaryCode, binaryCode, printed, ruleOf}
 use Rattle.workspace.specs.Holds.{HoldsSplit}
-use Rattle.workspace.proofs.Shown.{type-number, noRow, type-shown, load-in, in-load-in, out-load-in, map-stands, has-shown, row-at, row-type, start-at}
-use Rattle.workspace.proofs.Expression.{Here, here-line, leaf-code, unary-code, binary-code, here-part, here-first, here-second, here-end, varsSecond}
+use Rattle.workspace.proofs.Shown.{type-number, noRow, type-shown, load-in, in-load-in, out-load-in, read-load-in, write-load-in, map-stands, has-shown, row-at, row-type, start-at}
+use Rattle.workspace.proofs.Expression.{Here, here-line, leaf-code, leaf-number, unary-code, binary-code, here-part, here-first, here-second, here-end, varsSecond}
 use Rattle.workspace.proofs.Held.{insideSecond}
 use Rattle.filling.specs.declared.Effect.{Effect}
-use Rattle.filling.specs.Flow.{unchanged, taking, giving, needing, alone, steps}
-use Rattle.filling.specs.FlowOf.{loadHere, inHere, outHere, startHere, accessHere, flowOf}
+use Rattle.filling.specs.Flow.{unchanged, taking, giving, needing, lending, alone, steps}
+use Rattle.filling.specs.FlowOf.{loadHere, inHere, outHere, readHere, writeHere, startHere, accessHere, flowOf}
 use Rattle.filling.proofs.Placed.{flow-steps}
 use Rattle.pass.specs.declared.Column.{Column}
 use Rattle.pass.specs.declared.Way.the-variants.{Leaf, Unary, Binary}
@@ -31,7 +31,7 @@ use Rattle.pass.specs.declared.UnaryWay.{UnaryWay}
 use Rattle.pass.specs.declared.UnaryWay.the-variants.{After, Loop}
 use Rattle.pass.specs.declared.BinaryWay.{BinaryWay}
 use Rattle.pass.specs.declared.BinaryWay.the-variants.{InTurn, Branch, Fork}
-use Rattle.pass.specs.Ways.{locationOf, cellIn, typeIn, loadIn, inLoadIn, outLoadIn, startIn, accessIn, wayBy, wayIn}
+use Rattle.pass.specs.Ways.{locationOf, cellIn, typeIn, loadIn, inLoadIn, outLoadIn, readLoadIn, writeLoadIn, lendingIn, startIn, accessIn, wayBy, wayIn}
 use Rattle.pass.specs.Shows.{unaryFlow, binaryFlow, endIn, Shows, leafShown, unaryShown, binaryShown}
 
 module _ (w : List ℕ) (column : Column) (ss : List Step) (S : Split) (H : HoldsSplit w S) (R : InRange ss S)
@@ -64,6 +64,16 @@ module _ (w : List ℕ) (column : Column) (ss : List Step) (S : Split) (H : Hold
     unfolding outLoadIn cellIn outHere outMap kind type
     out-held =
         rw kind-held (has-shown w S ss H R p (map-stands w S ss H R (outLoad (typeAt S (row S e .type))) (out-load-in w S ss H R (row S e .type) type-in)) within)
+
+    read-held : readLoadIn w column i ≡ readHere S p e
+    unfolding readLoadIn cellIn readHere readMap kind type
+    read-held =
+        rw kind-held (has-shown w S ss H R p (map-stands w S ss H R (readLoad (typeAt S (row S e .type))) (read-load-in w S ss H R (row S e .type) type-in)) within)
+
+    write-held : writeLoadIn w column i ≡ writeHere S p e
+    unfolding writeLoadIn cellIn writeHere writeMap kind type
+    write-held =
+        rw kind-held (has-shown w S ss H R p (map-stands w S ss H R (writeLoad (typeAt S (row S e .type))) (write-load-in w S ss H R (row S e .type) type-in)) within)
 
     start-held : startIn w column i ≡ startHere S p e
     unfolding startIn cellIn startHere
@@ -111,6 +121,12 @@ module _ (w : List ℕ) (column : Column) (ss : List Step) (S : Split) (H : Hold
       part-out : outLoadIn w column (k + 1) ≡ outHere S p e₁
       part-out = out-held e₁ (k + 1) (here-line e₁ C) (omega (arith, size-positive e₁))
 
+      part-read : readLoadIn w column (k + 1) ≡ readHere S p e₁
+      part-read = read-held e₁ (k + 1) (here-line e₁ C) (omega (arith, size-positive e₁))
+
+      part-write : writeLoadIn w column (k + 1) ≡ writeHere S p e₁
+      part-write = write-held e₁ (k + 1) (here-line e₁ C) (omega (arith, size-positive e₁))
+
       part-access : (d : ℕ) → accessIn w column (k + 1) d ≡ accessHere S p e₁ d
       part-access = access-held e₁ (k + 1) (here-line e₁ C) (omega (arith, size-positive e₁))
 
@@ -118,7 +134,7 @@ module _ (w : List ℕ) (column : Column) (ss : List Step) (S : Split) (H : Hold
 
   pub held-shows : (k : ℕ) (inside : List (ℕ × ℕ)) (vars : List ℕ) (e : Expr) → Here w k inside vars e → k + size e ≤ length (S .rows)
       → Shows w column k (flowOf S p e)
-  unfolding flowOf size printed ruleOf wayBy unaryFlow binaryFlow
+  unfolding flowOf size printed ruleOf wayBy lendingIn unaryFlow binaryFlow
   held-shows k inside vars (leaf Var l v) C i = leaf-held k Var l v unchanged C refl
   held-shows k inside vars (leaf Int l v) C i = leaf-held k Int l v unchanged C refl
   held-shows k inside vars (binary Let l v e₁ e₂) C i =
@@ -168,3 +184,20 @@ module _ (w : List ℕ) (column : Column) (ss : List Step) (S : Split) (H : Hold
   held-shows k inside vars (unary Wait l v e₁) C i =
       let D = here-part Wait l v e₁ C in
       unary-held k Wait l v e₁ (After (giving (loadHere S p e₁))) C (ap (λ (n : ℕ). Unary (After (giving n))) (part-load k e₁ D (omega arith))) (held-shows (k + 1) inside vars e₁ D (omega arith))
+  held-shows k inside vars (leaf Newrwlock l v) C i =
+      let e = leaf Newrwlock l v in
+      leaf-held k Newrwlock l v (lending (v * readHere S p e) (writeHere S p e)) C
+      (ap₂ (λ (n m : ℕ). Leaf (lending n m)) (ap₂ _*_ (leaf-number Newrwlock l v C) (read-held e k (here-line e C) (omega arith)))
+      (write-held e k (here-line e C) (omega arith)))
+  held-shows k inside vars (unary Rdlock l v e₁) C i =
+      let D = here-part Rdlock l v e₁ C in
+      unary-held k Rdlock l v e₁ (After (giving (readHere S p e₁))) C (ap (λ (n : ℕ). Unary (After (giving n))) (part-read k e₁ D (omega arith))) (held-shows (k + 1) inside vars e₁ D (omega arith))
+  held-shows k inside vars (unary Rdunlock l v e₁) C i =
+      let D = here-part Rdunlock l v e₁ C in
+      unary-held k Rdunlock l v e₁ (After (taking (readHere S p e₁))) C (ap (λ (n : ℕ). Unary (After (taking n))) (part-read k e₁ D (omega arith))) (held-shows (k + 1) inside vars e₁ D (omega arith))
+  held-shows k inside vars (unary Wrlock l v e₁) C i =
+      let D = here-part Wrlock l v e₁ C in
+      unary-held k Wrlock l v e₁ (After (giving (writeHere S p e₁))) C (ap (λ (n : ℕ). Unary (After (giving n))) (part-write k e₁ D (omega arith))) (held-shows (k + 1) inside vars e₁ D (omega arith))
+  held-shows k inside vars (unary Wrunlock l v e₁) C i =
+      let D = here-part Wrunlock l v e₁ C in
+      unary-held k Wrunlock l v e₁ (After (taking (writeHere S p e₁))) C (ap (λ (n : ℕ). Unary (After (taking n))) (part-write k e₁ D (omega arith))) (held-shows (k + 1) inside vars e₁ D (omega arith))

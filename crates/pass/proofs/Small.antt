@@ -7,8 +7,8 @@ use native.Mathlib.Omega.{arith}
 use lib.ListN.{getD}
 use Rattle.workspace.specs.Layout.{wordsAt, ruleOf, mapCell}
 use Rattle.workspace.specs.declared.Rule.{Rule}
-use Rattle.workspace.specs.declared.Rule.the-variants.{VAR, INT, LET, IF, WHILE, NEWT, SPAWN, JOIN, REF, WRITE, READ, NEWL, LCK, ULCK, NEWSEM, POST, WAIT}
-use Rattle.filling.specs.Flow.{unchanged, taking, giving, needing, Flow, steps, ownPost, pass}
+use Rattle.workspace.specs.declared.Rule.the-variants.{VAR, INT, LET, IF, WHILE, NEWT, SPAWN, JOIN, REF, WRITE, READ, NEWL, LCK, ULCK, NEWSEM, POST, WAIT, NEWRWLOCK, RDLOCK, RDUNLOCK, WRLOCK, WRUNLOCK}
+use Rattle.filling.specs.Flow.{unchanged, taking, giving, needing, lending, Flow, steps, ownPost, pass}
 use Rattle.filling.proofs.Found.{some-injective, bind-finds, turn-turns}
 use Rattle.pass.specs.declared.Column.{Column}
 use Rattle.pass.specs.declared.Way.{Way}
@@ -17,7 +17,7 @@ use Rattle.pass.specs.declared.UnaryWay.{UnaryWay}
 use Rattle.pass.specs.declared.UnaryWay.the-variants.{After, Loop}
 use Rattle.pass.specs.declared.BinaryWay.{BinaryWay}
 use Rattle.pass.specs.declared.BinaryWay.the-variants.{InTurn, Branch, Fork}
-use Rattle.pass.specs.Ways.{cellIn, loadIn, inLoadIn, outLoadIn, startIn, wayBy, wayIn}
+use Rattle.pass.specs.Ways.{cellIn, loadIn, inLoadIn, outLoadIn, readLoadIn, writeLoadIn, lendingIn, startIn, wayBy, wayIn}
 use Rattle.pass.specs.Shows.{Shows, leafShown, unaryShown, binaryShown}
 use Rattle.pass.specs.Passed.{afterUnary, secondPre, afterBinary}
 use Rattle.pass.proofs.Parts.{unary-steps, binary-steps, pass-unary, pass-binary}
@@ -59,7 +59,7 @@ second-pre-small (Fork start due) pre first b l m = omega arith
 
 module _ (w : List ℕ) (column : Column) (fits : (i : ℕ) → getD w i 0 < 4294967296) where
   rule-gives : (r : Rule) (k : ℕ) → given (wayBy r w column k) < 4294967296
-  unfolding given wayBy unchanged taking giving needing loadIn inLoadIn outLoadIn startIn cellIn mapCell
+  unfolding given wayBy unchanged taking giving needing lending loadIn inLoadIn outLoadIn readLoadIn writeLoadIn lendingIn startIn cellIn mapCell
   rule-gives VAR k = omega arith
   rule-gives INT k = omega arith
   rule-gives LET k = omega arith
@@ -77,6 +77,11 @@ module _ (w : List ℕ) (column : Column) (fits : (i : ℕ) → getD w i 0 < 429
   rule-gives NEWSEM k = omega arith
   rule-gives POST k = omega arith
   rule-gives WAIT k = fits _
+  rule-gives NEWRWLOCK k = omega arith
+  rule-gives RDLOCK k = fits _
+  rule-gives RDUNLOCK k = omega arith
+  rule-gives WRLOCK k = fits _
+  rule-gives WRUNLOCK k = omega arith
 
   pub way-gives : (k : ℕ) {way : Way} → wayIn w column k ≡ way → given way < 4294967296
   unfolding wayIn

@@ -1,16 +1,17 @@
 -- The way in which the number at a location flows through a step, as the work space shows it: crate filling's table, by rule.
 use mathlib.Core.List.{List}
-use Prim.Native.Nat.{ℕ, _+_}
+use Prim.Native.Nat.{ℕ, _+_, _*_}
 use lib.ListN.{getD}
-use Rattle.spec.specs.Conditions.{load, inLoad, outLoad, place}
+use Rattle.spec.specs.Conditions.{load, inLoad, outLoad, readLoad, writeLoad, place}
 use Rattle.spec.specs.declared.Location.{Location}
 use Rattle.spec.specs.declared.MapNumber.{MapNumber}
 use Rattle.spec.specs.declared.TypeLine.{TypeLine}
-use Rattle.workspace.specs.Layout.{wordsAt, rowTypesAt, startsAt, ruleOf, typeAt, mapCell}
+use Rattle.workspace.specs.Layout.{wordsAt, valuesAt, rowTypesAt, startsAt, ruleOf, typeAt, mapCell}
 use Rattle.workspace.specs.declared.Rule.{Rule}
-use Rattle.workspace.specs.declared.Rule.the-variants.{VAR, INT, LET, IF, WHILE, NEWT, SPAWN, JOIN, REF, WRITE, READ, NEWL, LCK, ULCK, NEWSEM, POST, WAIT}
-use Rattle.filling.specs.Flow.{unchanged, taking, giving, needing}
+use Rattle.workspace.specs.declared.Rule.the-variants.{VAR, INT, LET, IF, WHILE, NEWT, SPAWN, JOIN, REF, WRITE, READ, NEWL, LCK, ULCK, NEWSEM, POST, WAIT, NEWRWLOCK, RDLOCK, RDUNLOCK, WRLOCK, WRUNLOCK}
+use Rattle.filling.specs.Flow.{unchanged, taking, giving, needing, lending}
 use Rattle.filling.specs.FlowOf.{asks}
+use Rattle.filling.specs.declared.Effect.{Effect}
 use Rattle.pass.specs.declared.Column.{Column}
 use Rattle.pass.specs.declared.Way.{Way}
 use Rattle.pass.specs.declared.Way.the-variants.{Leaf, Unary, Binary}
@@ -26,8 +27,8 @@ locationOf column = record { 0 = column .location }
 unfoldable pub cellIn : List ℕ → Column → MapNumber → ℕ
 cellIn w column m = mapCell w m (column .location)
 
--- the type of step k; what its load, in and out of its lock type, the start of its body, and access through it have or need at the
--- location
+-- the type of step k; what its load, in and out of its lock type, r and w of its rwlock type, the start of its body, and access through
+-- it have or need at the location
 unfoldable pub typeIn : List ℕ → (k : ℕ) → TypeLine
 typeIn w k = typeAt w (record { 0 = getD w (rowTypesAt + k) 0 })
 
@@ -40,11 +41,21 @@ inLoadIn w column k = cellIn w column (inLoad (typeIn w k))
 unfoldable pub outLoadIn : List ℕ → Column → (k : ℕ) → ℕ
 outLoadIn w column k = cellIn w column (outLoad (typeIn w k))
 
+unfoldable pub readLoadIn : List ℕ → Column → (k : ℕ) → ℕ
+readLoadIn w column k = cellIn w column (readLoad (typeIn w k))
+
+unfoldable pub writeLoadIn : List ℕ → Column → (k : ℕ) → ℕ
+writeLoadIn w column k = cellIn w column (writeLoad (typeIn w k))
+
 unfoldable pub startIn : List ℕ → Column → (k : ℕ) → ℕ
 startIn w column k = cellIn w column (record { 0 = getD w (startsAt + k) 0 })
 
 unfoldable pub accessIn : List ℕ → Column → (k d : ℕ) → ℕ
 accessIn w column k d = asks (locationOf column) (place (typeIn w k)) d
+
+-- a new read-write lock takes w, and lends r to as many readers as it has places
+unfoldable pub lendingIn : List ℕ → Column → (k : ℕ) → Effect
+lendingIn w column k = lending (getD w (valuesAt + k) 0 * readLoadIn w column k) (writeLoadIn w column k)
 
 -- ------------------------------------------------------------------ the table
 
@@ -67,6 +78,11 @@ wayBy ULCK w column k = Unary (After (taking (outLoadIn w column (k + 1))))
 wayBy NEWSEM w column k = Leaf unchanged
 wayBy POST w column k = Unary (After (taking (loadIn w column (k + 1))))
 wayBy WAIT w column k = Unary (After (giving (loadIn w column (k + 1))))
+wayBy NEWRWLOCK w column k = Leaf (lendingIn w column k)
+wayBy RDLOCK w column k = Unary (After (giving (readLoadIn w column (k + 1))))
+wayBy RDUNLOCK w column k = Unary (After (taking (readLoadIn w column (k + 1))))
+wayBy WRLOCK w column k = Unary (After (giving (writeLoadIn w column (k + 1))))
+wayBy WRUNLOCK w column k = Unary (After (taking (writeLoadIn w column (k + 1))))
 
 -- the way of step k
 unfoldable pub wayIn : List ℕ → Column → (k : ℕ) → Way

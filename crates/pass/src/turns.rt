@@ -15,9 +15,13 @@ pub(crate) fn turn(effect: Effect, before: u64) -> Found
     ensures { λ r. ⌜ r ≡ asFound (turn effect before) ⌝ }
 {
     let takes = effect.takes as u64;
+    if takes < effect.lends {
+        return Found::Nothing;
+    }
     let there = before + effect.gives as u64;
     if takes + effect.needs as u64 <= there {
-        return Found::Number(there - takes);
+        let after = there - takes;
+        return Found::Number(after);
     }
     Found::Nothing
 }

@@ -11,19 +11,21 @@ use spec::TypeNumber;
 use workspace::ROW_TYPES;
 use workspace::Rule;
 use workspace::STARTS;
+use workspace::VALUES;
 use workspace::WORDS;
 use workspace::at;
 use workspace::index;
 use workspace::map_cell;
 use workspace::rule_of;
 use workspace::type_at;
+use workspace::wide;
 ghost use mathlib.Core.Path.{_≡_};
 ghost use Prim.Native.Nat.{_<_};
-ghost use Rattle.spec.specs.Conditions.{load, inLoad, outLoad, place};
-ghost use Rattle.filling.specs.Flow.{unchanged, taking, giving, needing};
-ghost use Rattle.pass.specs.Ways.{cellIn, typeIn, loadIn, inLoadIn, outLoadIn, startIn, accessIn, wayBy, wayIn};
+ghost use Rattle.spec.specs.Conditions.{load, inLoad, outLoad, readLoad, writeLoad, place};
+ghost use Rattle.filling.specs.Flow.{unchanged, taking, giving, needing, lending};
+ghost use Rattle.pass.specs.Ways.{cellIn, typeIn, loadIn, inLoadIn, outLoadIn, readLoadIn, writeLoadIn, lendingIn, startIn, accessIn, wayBy, wayIn};
 
-// A step that keeps the number, takes from it, gives to it, or needs it to be large enough.
+// A step that keeps the number, takes from it, gives to it, needs it to be large enough, or takes from it what it lends.
 fn unchanged() -> Effect
     ensures { λ r. ⌜ r ≡ unchanged ⌝ }
 {
@@ -31,6 +33,7 @@ fn unchanged() -> Effect
         takes: 0,
         gives: 0,
         needs: 0,
+        lends: 0,
     }
 }
 
@@ -41,6 +44,7 @@ pub(crate) fn taking(k: u32) -> Effect
         takes: k,
         gives: 0,
         needs: 0,
+        lends: 0,
     }
 }
 
@@ -51,6 +55,7 @@ fn giving(k: u32) -> Effect
         takes: 0,
         gives: k,
         needs: 0,
+        lends: 0,
     }
 }
 
@@ -61,6 +66,18 @@ fn needing(k: u32) -> Effect
         takes: 0,
         gives: 0,
         needs: k,
+        lends: 0,
+    }
+}
+
+fn lending(lent: u64, taken: u32) -> Effect
+    ensures { λ r. ⌜ r ≡ lending lent taken ⌝ }
+{
+    Effect {
+        takes: taken,
+        gives: 0,
+        needs: 0,
+        lends: lent,
     }
 }
 
@@ -74,6 +91,7 @@ fn load_of(t: TypeLine) -> MapNumber
         TypeLine::Lock(_, _) => MapNumber(0),
         TypeLine::Tid(k) => k,
         TypeLine::Sem(k) => k,
+        TypeLine::Rwlock(_, _) => MapNumber(0),
     }
 }
 
@@ -87,6 +105,7 @@ fn in_load_of(t: TypeLine) -> MapNumber
         TypeLine::Lock(k, _) => k,
         TypeLine::Tid(_) => MapNumber(0),
         TypeLine::Sem(_) => MapNumber(0),
+        TypeLine::Rwlock(_, _) => MapNumber(0),
     }
 }
 
@@ -100,6 +119,35 @@ fn out_load_of(t: TypeLine) -> MapNumber
         TypeLine::Lock(_, k) => k,
         TypeLine::Tid(_) => MapNumber(0),
         TypeLine::Sem(_) => MapNumber(0),
+        TypeLine::Rwlock(_, _) => MapNumber(0),
+    }
+}
+
+// r of a rwlock type.
+fn read_load_of(t: TypeLine) -> MapNumber
+    ensures { λ r. ⌜ r ≡ readLoad t ⌝ }
+{
+    match t {
+        TypeLine::Int => MapNumber(0),
+        TypeLine::Ref(_, _) => MapNumber(0),
+        TypeLine::Lock(_, _) => MapNumber(0),
+        TypeLine::Tid(_) => MapNumber(0),
+        TypeLine::Sem(_) => MapNumber(0),
+        TypeLine::Rwlock(k, _) => k,
+    }
+}
+
+// w of a rwlock type.
+fn write_load_of(t: TypeLine) -> MapNumber
+    ensures { λ r. ⌜ r ≡ writeLoad t ⌝ }
+{
+    match t {
+        TypeLine::Int => MapNumber(0),
+        TypeLine::Ref(_, _) => MapNumber(0),
+        TypeLine::Lock(_, _) => MapNumber(0),
+        TypeLine::Tid(_) => MapNumber(0),
+        TypeLine::Sem(_) => MapNumber(0),
+        TypeLine::Rwlock(_, k) => k,
     }
 }
 
@@ -113,6 +161,7 @@ fn place_of(t: TypeLine) -> Location
         TypeLine::Lock(_, _) => Location(0),
         TypeLine::Tid(_) => Location(0),
         TypeLine::Sem(_) => Location(0),
+        TypeLine::Rwlock(_, _) => Location(0),
     }
 }
 
@@ -153,6 +202,32 @@ fn out_load_in(work: &[u32], column: Column, k: usize) -> u32
     ensures { λ r. ⌜ r ≡ outLoadIn (now (work .entry)) column k ⌝ }
 {
     cell_in(work, column, out_load_of(type_in(work, k)))
+}
+
+// r of the type of step k, at the location.
+fn read_load_in(work: &[u32], column: Column, k: usize) -> u32
+    requires { ⌜ k < 512 ⌝ }
+    ensures { λ r. ⌜ r ≡ readLoadIn (now (work .entry)) column k ⌝ }
+{
+    cell_in(work, column, read_load_of(type_in(work, k)))
+}
+
+// w of the type of step k, at the location.
+fn write_load_in(work: &[u32], column: Column, k: usize) -> u32
+    requires { ⌜ k < 512 ⌝ }
+    ensures { λ r. ⌜ r ≡ writeLoadIn (now (work .entry)) column k ⌝ }
+{
+    cell_in(work, column, write_load_of(type_in(work, k)))
+}
+
+// What the new read-write lock of step k takes, w, and what it lends to as many readers as it has places.
+fn lending_in(work: &[u32], column: Column, k: usize) -> Effect
+    requires { ⌜ k < 256 ⌝ }
+    ensures { λ r. ⌜ r ≡ lendingIn (now (work .entry)) column k ⌝ }
+{
+    let places = wide(at(work, VALUES + k));
+    let lent = places * wide(read_load_in(work, column, k));
+    lending(lent, write_load_in(work, column, k))
 }
 
 // The map that the body of step k starts with, at the location.
@@ -202,6 +277,11 @@ fn way_by(r: Rule, work: &[u32], column: Column, k: usize) -> Way
         Rule::NEWSEM => Way::Leaf(unchanged()),
         Rule::POST => Way::Unary(UnaryWay::After(taking(load_in(work, column, part)))),
         Rule::WAIT => Way::Unary(UnaryWay::After(giving(load_in(work, column, part)))),
+        Rule::NEWRWLOCK => Way::Leaf(lending_in(work, column, k)),
+        Rule::RDLOCK => Way::Unary(UnaryWay::After(giving(read_load_in(work, column, part)))),
+        Rule::RDUNLOCK => Way::Unary(UnaryWay::After(taking(read_load_in(work, column, part)))),
+        Rule::WRLOCK => Way::Unary(UnaryWay::After(giving(write_load_in(work, column, part)))),
+        Rule::WRUNLOCK => Way::Unary(UnaryWay::After(taking(write_load_in(work, column, part)))),
     }
 }
 

@@ -15,7 +15,7 @@ use Rattle.spec.specs.Program.{firstNumber, countLine, words, valueRange, stepO
 use Rattle.spec.specs.declared.Refusal.the-variants.{ProgramForm, ProgramRange, ProgramLines, Freelock}
 use Rattle.spec.specs.declared.Word.{Word}
 use Rattle.spec.specs.declared.Word.the-variants.{Leaf, Unary, Binary}
-use Rattle.spec.specs.declared.LeafWord.the-variants.{Var, Int, Newtid, Newlock, Newsem}
+use Rattle.spec.specs.declared.LeafWord.the-variants.{Var, Int, Newtid, Newlock, Newsem, Newrwlock}
 use Rattle.spec.specs.declared.BinaryWord.the-variants.{Let, If, Spawn, Write}
 use Rattle.spec.proofs.Ranges.{up-to-in, up-to-out}
 use Rattle.lexer.specs.Views.{firstField, nothing}
@@ -33,7 +33,7 @@ use Rattle.lexer.proofs.Places.{span-field}
 use Rattle.lexer.proofs.Walks.{start-placed, start-rest, span-end, span-line-kept, span-comma, left-none, left-some, first-wrong, first-alone}
 use Rattle.lexer.proofs.Stored.{Narrow}
 use Rattle.lexer.proofs.Ranges.{tail-form, tail-read}
-use Rattle.program.specs.Lines.{TailShown, countAt, CountShown, limitOf, FreelockAt, stepAt, StepShown}
+use Rattle.program.specs.Lines.{TailShown, countAt, CountShown, leastOf, limitOf, FreelockAt, stepAt, StepShown}
 use Rattle.program.specs.declared.lines.Tail.the-variants.{Value, Malformed}
 use Rattle.program.specs.declared.lines.CountLine.the-variants as count
 use Rattle.program.specs.declared.lines.StepLine.the-variants as step
@@ -145,13 +145,14 @@ module _ (text : List ℕ) (c : Cursor) (s : Span) (f : FreelockAt text c s) whe
 
 -- ------------------------------------------------------------------ step lines
 
-range-of : (w : Word) → valueRange w ≡ (0 to limitOf w)
+range-of : (w : Word) → valueRange w ≡ (leastOf w to limitOf w)
 unfolding valueRange
 range-of (Leaf Var) = refl
 range-of (Leaf Int) = refl
 range-of (Leaf Newtid) = refl
 range-of (Leaf Newlock) = refl
 range-of (Leaf Newsem) = refl
+range-of (Leaf Newrwlock) = refl
 range-of (Unary w) = refl
 range-of (Binary Let) = refl
 range-of (Binary If) = refl
@@ -165,17 +166,24 @@ value-narrow (Leaf Int) = omega arith
 value-narrow (Leaf Newtid) = omega arith
 value-narrow (Leaf Newlock) = omega arith
 value-narrow (Leaf Newsem) = omega arith
+value-narrow (Leaf Newrwlock) = omega arith
 value-narrow (Unary w) = omega arith
 value-narrow (Binary Let) = omega arith
 value-narrow (Binary If) = omega arith
 value-narrow (Binary Spawn) = omega arith
 value-narrow (Binary Write) = omega arith
 
-within-limit : (w : Word) (v : ℕ) → v ≤ limitOf w → inRange (valueRange w) v ≡ true
-within-limit w v h = rw (range-of w) (up-to-in (limitOf w) v h)
+under-least : (w : Word) (v : ℕ) → v < leastOf w → inRange (valueRange w) v ≡ false
+unfolding inRange
+under-least w v l = rw (range-of w, lt-leb (leastOf w) v l) refl
 
-over-limit : (w : Word) (v : ℕ) → limitOf w < v → inRange (valueRange w) v ≡ false
-over-limit w v h = rw (range-of w) (up-to-out (limitOf w) v h)
+within-limit : (w : Word) (v : ℕ) → leastOf w ≤ v → v ≤ limitOf w → inRange (valueRange w) v ≡ true
+unfolding inRange
+within-limit w v l h = rw (range-of w, le-leb (leastOf w) v l, le-leb v (limitOf w) h) refl
+
+over-limit : (w : Word) (v : ℕ) → leastOf w ≤ v → limitOf w < v → inRange (valueRange w) v ≡ false
+unfolding inRange
+over-limit w v l h = rw (range-of w, le-leb (leastOf w) v l, lt-leb v (limitOf w) h) refl
 
 module _ (text : List ℕ) (c : Cursor) where
   -- no line is left
@@ -210,16 +218,20 @@ module _ (text : List ℕ) (c : Cursor) where
           unfolding stepAt next placeAt seen
           step-reads = tail-shows stepLine (seen (stepOf w)) refl (valueRange w) text c s is p (left-some (rest text c) e) step-shows (value-narrow w) v d h
 
-          pub step-over : limitOf w < v → StepShown text c (step.Refused (ProgramRange (c .line + 1)))
+          pub step-under : v < leastOf w → StepShown text c (step.Refused (ProgramRange (c .line + 1)))
           unfolding faulty passed seen outside
-          step-over l = step-reads ∙ rw (over-limit w v l) refl
+          step-under l = step-reads ∙ rw (under-least w v l) refl
 
-          pub step-right : v ≤ limitOf w → StepShown text c (step.Step w v d)
+          pub step-over : leastOf w ≤ v → limitOf w < v → StepShown text c (step.Refused (ProgramRange (c .line + 1)))
+          unfolding faulty passed seen outside
+          step-over l m = step-reads ∙ rw (over-limit w v l m) refl
+
+          pub step-right : leastOf w ≤ v → v ≤ limitOf w → StepShown text c (step.Step w v d)
           unfolding seen stepOf firstNumber
-          step-right l =
+          step-right l m =
               let line = tail-line text c s is v d h in
               let one : Step = record { word = w; value = v } in
-              (step-reads ∙ rw (within-limit w v l) (passed-at programSheet text one c d line), l, h .2)
+              (step-reads ∙ rw (within-limit w v l m) (passed-at programSheet text one c d line), m, h .2)
 
 -- ------------------------------------------------------------------ line 1
 

@@ -18,7 +18,7 @@ use Rattle.spec.specs.declared.Refusal.{Refusal}
 use Rattle.spec.specs.declared.Refusal.the-variants.{ProgramLines}
 use Rattle.spec.specs.declared.Word.{Word}
 use Rattle.spec.specs.declared.Word.the-variants.{Leaf, Unary, Binary}
-use Rattle.spec.specs.declared.LeafWord.the-variants.{Var, Int, Newtid, Newlock, Newsem}
+use Rattle.spec.specs.declared.LeafWord.the-variants.{Var, Int, Newtid, Newlock, Newsem, Newrwlock}
 use Rattle.spec.specs.declared.BinaryWord.the-variants.{Let, If, Spawn, Write}
 use Rattle.lexer.specs.Views.{nothing}
 use Rattle.lexer.specs.Cursors.{rest, placeAt}
@@ -74,6 +74,7 @@ variable-limit (Leaf Int) v h = tt
 variable-limit (Leaf Newtid) v h = tt
 variable-limit (Leaf Newlock) v h = tt
 variable-limit (Leaf Newsem) v h = tt
+variable-limit (Leaf Newrwlock) v h = tt
 variable-limit (Unary x) v h = tt
 variable-limit (Binary Let) v h = omega arith
 variable-limit (Binary If) v h = tt

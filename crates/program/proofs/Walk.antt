@@ -16,7 +16,7 @@ use Rattle.spec.specs.declared.Refusal.{Refusal}
 use Rattle.spec.specs.declared.Refusal.the-variants.{Unbound, Rebound}
 use Rattle.spec.specs.declared.Word.{Word}
 use Rattle.spec.specs.declared.Word.the-variants.{Binary}
-use Rattle.spec.specs.declared.LeafWord.the-variants.{Var, Int, Newtid, Newlock, Newsem}
+use Rattle.spec.specs.declared.LeafWord.the-variants.{Var, Int, Newtid, Newlock, Newsem, Newrwlock}
 use Rattle.spec.specs.declared.BinaryWord.the-variants.{Let, If, Spawn, Write}
 use Rattle.workspace.specs.Holds.{letIn, lets}
 use Rattle.program.specs.Scopes.{roleOf, unbound, judgeLet, judgeVar, judgeBy, judgeOf, storing, judged, scopesFrom}
@@ -222,6 +222,7 @@ walk w (leaf Int l v) k m hi t ins bound h hh top a = walk-other w m k t h bound
 walk w (leaf Newtid l v) k m hi t ins bound h hh top a = walk-other w m k t h bound refl (a .long) (a .bind)
 walk w (leaf Newlock l v) k m hi t ins bound h hh top a = walk-other w m k t h bound refl (a .long) (a .bind)
 walk w (leaf Newsem l v) k m hi t ins bound h hh top a = walk-other w m k t h bound refl (a .long) (a .bind)
+walk w (leaf Newrwlock l v) k m hi t ins bound h hh top a = walk-other w m k t h bound refl (a .long) (a .bind)
 walk w (unary x l v e) k m hi t ins bound h hh top a =
     walk-one w m k (size e) (lets (k + 1) ins e) t (scope e (names ins) bound) (step-first w m k (size e) t (h .0) refl)
     (walk w e (k + 1) m hi t ins bound (h .1) (omega arith) top (agrees-narrow w k hi (k + 1) hi t ins bound (omega arith) (omega arith) a))

@@ -12,7 +12,7 @@ use Rattle.spec.specs.Program.{countLine, stepLine}
 use Rattle.spec.specs.declared.Word.{Word}
 use Rattle.spec.specs.declared.Word.the-variants.{Leaf, Unary, Binary}
 use Rattle.spec.specs.declared.LeafWord.{LeafWord}
-use Rattle.spec.specs.declared.LeafWord.the-variants.{Var, Int, Newtid, Newlock, Newsem}
+use Rattle.spec.specs.declared.LeafWord.the-variants.{Var, Int, Newtid, Newlock, Newsem, Newrwlock}
 use Rattle.spec.specs.declared.BinaryWord.{BinaryWord}
 use Rattle.spec.specs.declared.BinaryWord.the-variants.{Let, If, Spawn, Write}
 use Rattle.lexer.specs.Views.{firstField, nothing}
@@ -53,13 +53,28 @@ CountShown text (count.Refused x) = countAt text ≡ stop x
 
 -- ------------------------------------------------------------------ step lines
 
--- the largest v that a step with this word may have
+-- the smallest v that a step with this word may have
+abbrev pub leafLeast : LeafWord → ℕ
+leafLeast Var = 0
+leafLeast Int = 0
+leafLeast Newtid = 0
+leafLeast Newlock = 0
+leafLeast Newsem = 0
+leafLeast Newrwlock = 1
+
+abbrev pub leastOf : Word → ℕ
+leastOf (Leaf w) = leafLeast w
+leastOf (Unary w) = 0
+leastOf (Binary w) = 0
+
+-- the largest
 abbrev pub leafLimit : LeafWord → ℕ
 leafLimit Var = 255
 leafLimit Int = 65535
 leafLimit Newtid = 0
 leafLimit Newlock = 0
 leafLimit Newsem = 0
+leafLimit Newrwlock = 64
 
 abbrev pub binaryLimit : BinaryWord → ℕ
 binaryLimit Let = 255

@@ -9,7 +9,7 @@ use Rattle.spec.specs.declared.Refusal.the-variants.{Unbound, Rebound}
 use Rattle.spec.specs.declared.Word.{Word}
 use Rattle.spec.specs.declared.Word.the-variants.{Leaf, Unary, Binary}
 use Rattle.spec.specs.declared.LeafWord.{LeafWord}
-use Rattle.spec.specs.declared.LeafWord.the-variants.{Var, Int, Newtid, Newlock, Newsem}
+use Rattle.spec.specs.declared.LeafWord.the-variants.{Var, Int, Newtid, Newlock, Newsem, Newrwlock}
 use Rattle.spec.specs.declared.BinaryWord.{BinaryWord}
 use Rattle.spec.specs.declared.BinaryWord.the-variants.{Let, If, Spawn, Write}
 use Rattle.workspace.specs.Layout.{endsAt, letsAt}
@@ -29,6 +29,7 @@ leafRole Int = Neither
 leafRole Newtid = Neither
 leafRole Newlock = Neither
 leafRole Newsem = Neither
+leafRole Newrwlock = Neither
 
 abbrev pub binaryRole : BinaryWord → Role
 binaryRole Let = Binds

@@ -32,6 +32,7 @@ fn leaf_role(w: LeafWord) -> Role
         LeafWord::Newtid => Role::Neither,
         LeafWord::Newlock => Role::Neither,
         LeafWord::Newsem => Role::Neither,
+        LeafWord::Newrwlock => Role::Neither,
     }
 }
 

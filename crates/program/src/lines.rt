@@ -15,7 +15,7 @@ ghost use Prim.Native.Nat.{_≤_};
 ghost use lib.ListN.{length};
 ghost use Rattle.spec.specs.Reading.{stop};
 ghost use Rattle.lexer.specs.Cursors.{Placed};
-ghost use Rattle.program.specs.Lines.{leafLimit, binaryLimit, limitOf, TailShown, CountShown, FreelockAt, stepAt, StepShown, StepsShown};
+ghost use Rattle.program.specs.Lines.{leafLeast, leastOf, leafLimit, binaryLimit, limitOf, TailShown, CountShown, FreelockAt, stepAt, StepShown, StepsShown};
 
 // The most steps that a program may have.
 const STEP_LIMIT: u32 = 256;
@@ -77,6 +77,30 @@ pub fn count_line(text: &[u8]) -> CountLine
     CountLine::Count(n, behind)
 }
 
+fn leaf_least(w: LeafWord) -> u32
+    ensures { λ r. ⌜ r ≡ leafLeast w ⌝ }
+{
+    match w {
+        LeafWord::Var => 0,
+        LeafWord::Int => 0,
+        LeafWord::Newtid => 0,
+        LeafWord::Newlock => 0,
+        LeafWord::Newsem => 0,
+        LeafWord::Newrwlock => 1,
+    }
+}
+
+// The smallest v that a step with this word may have.
+fn least_of(w: Word) -> u32
+    ensures { λ r. ⌜ r ≡ leastOf w ⌝ }
+{
+    match w {
+        Word::Leaf(l) => leaf_least(l),
+        Word::Unary(_) => 0,
+        Word::Binary(_) => 0,
+    }
+}
+
 fn leaf_limit(w: LeafWord) -> u32
     ensures { λ r. ⌜ r ≡ leafLimit w ⌝ }
 {
@@ -86,6 +110,7 @@ fn leaf_limit(w: LeafWord) -> u32
         LeafWord::Newtid => 0,
         LeafWord::Newlock => 0,
         LeafWord::Newsem => 0,
+        LeafWord::Newrwlock => 64,
     }
 }
 
@@ -158,6 +183,9 @@ fn step_line(text: &[u8], cursor: Cursor) -> StepLine
     let Tail::Value(v, behind) = last_number(text, end, next) else {
         return StepLine::Refused(Refusal::ProgramForm(line));
     };
+    if v < least_of(word) {
+        return StepLine::Refused(Refusal::ProgramRange(line));
+    }
     if limit_of(word) < v {
         return StepLine::Refused(Refusal::ProgramRange(line));
     }

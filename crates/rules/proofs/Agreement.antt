@@ -17,7 +17,7 @@ use Rattle.spec.specs.Expression.{Step}
 use Rattle.spec.specs.Split.{Split, typeAt, mapAt}
 use Rattle.spec.specs.Maps.{nowhere, sameNumbers, _≥ᵐ_}
 use Rattle.spec.specs.Agreement.{int, code, Tree, plain, sameMaps, sameTree, treeOf, trees, tree, agree}
-use Rattle.spec.specs.Conditions.{T, F, isInt, isRef, isLock, isTid, isSem, place, load, inLoad, outLoad, contains, looserLock, mayShow}
+use Rattle.spec.specs.Conditions.{T, F, isInt, isRef, isLock, isTid, isSem, isRwlock, place, load, inLoad, outLoad, readLoad, writeLoad, contains, looserLock, mayShow}
 use Rattle.spec.specs.Sites.{judge}
 use Rattle.spec.specs.Verdict.{takesEnough}
 use Rattle.spec.specs.Ranges.{InRange}
@@ -26,7 +26,7 @@ use Rattle.spec.specs.declared.MapNumber.{MapNumber}
 use Rattle.spec.specs.declared.TypeNumber.{TypeNumber}
 use Rattle.spec.specs.declared.Refusal.{Refusal}
 use Rattle.spec.specs.declared.TypeLine.{TypeLine}
-use Rattle.spec.specs.declared.TypeLine.the-variants.{Int, Ref, Lock, Tid, Sem}
+use Rattle.spec.specs.declared.TypeLine.the-variants.{Int, Ref, Lock, Tid, Sem, Rwlock}
 use Rattle.spec.proofs.Clashes.{true-is-not-false}
 use Rattle.spec.proofs.Outcomes.{stop-is-not-on}
 use Rattle.spec.proofs.Agreement.{same-maps-single, same-maps-two, content-smaller, tree-of-type}
@@ -79,6 +79,7 @@ module _ (w : List ℕ) (n : ℕ) where
   lines-same f g h (Lock i o) y = refl
   lines-same f g h (Tid k) y = refl
   lines-same f g h (Sem k) y = refl
+  lines-same f g h (Rwlock rd wr) y = refl
 
   -- where no contents agree, no refs do
   pub no-contents : (x y : TypeLine) → isRef x ≡ true → linesAgree w n (λ c d. false) x y ≡ false
@@ -93,15 +94,17 @@ module _ (w : List ℕ) (n : ℕ) where
   no-contents (Lock i o) y h = true-is-not-false (sym h)
   no-contents (Tid k) y h = true-is-not-false (sym h)
   no-contents (Sem k) y h = true-is-not-false (sym h)
+  no-contents (Rwlock rd wr) y h = true-is-not-false (sym h)
 
-  plain-lines : (f g : TypeNumber → TypeNumber → Bool) (x y : TypeLine) → OneOf (0 ∷ 2 ∷ 3 ∷ 4 ∷ []) (tagOf kind.the-type x)
+  plain-lines : (f g : TypeNumber → TypeNumber → Bool) (x y : TypeLine) → OneOf (0 ∷ 2 ∷ 3 ∷ 4 ∷ 5 ∷ []) (tagOf kind.the-type x)
       → linesAgree w n f x y ≡ linesAgree w n g x y
   unfolding linesAgree
   plain-lines f g Int y h = refl
-  plain-lines f g (Ref p c) y h = absurd (miss (0 ∷ 2 ∷ 3 ∷ 4 ∷ []) 1 tt h)
+  plain-lines f g (Ref p c) y h = absurd (miss (0 ∷ 2 ∷ 3 ∷ 4 ∷ 5 ∷ []) 1 tt h)
   plain-lines f g (Lock i o) y h = refl
   plain-lines f g (Tid k) y h = refl
   plain-lines f g (Sem k) y h = refl
+  plain-lines f g (Rwlock rd wr) y h = refl
 
   -- any bound above the first type's number will do
   any-bound : (b b′ : ℕ) (t u : TypeNumber) → t .0 < b → t .0 < b′ → agreeBelow w n b t u ≡ agreeBelow w n b′ t u
@@ -118,7 +121,7 @@ module _ (w : List ℕ) (n : ℕ) where
 
   module _ (t u : TypeNumber) {x y : TypeLine} (e : x ≡ layout.typeAt w t) (g : y ≡ layout.typeAt w u) where
     -- a type that is no ref
-    pub plain-agree : OneOf (0 ∷ 2 ∷ 3 ∷ 4 ∷ []) (tagOf kind.the-type x) → linesAgree w n (λ c d. false) x y ≡ agreeIn w n t u
+    pub plain-agree : OneOf (0 ∷ 2 ∷ 3 ∷ 4 ∷ 5 ∷ []) (tagOf kind.the-type x) → linesAgree w n (λ c d. false) x y ≡ agreeIn w n t u
     unfolding agreeIn agreeBelow
     plain-agree h = rw (← e, ← g) (plain-lines _ _ x y h)
 
@@ -179,6 +182,7 @@ module _ (w : List ℕ) (S : Split) (steps : List Step) (H : HoldsSplit w S) (R 
   LoadsIn (Lock i o) = (i .0 < length (S .maps)) × (o .0 < length (S .maps))
   LoadsIn (Tid k) = k .0 < length (S .maps)
   LoadsIn (Sem k) = k .0 < length (S .maps)
+  LoadsIn (Rwlock rd wr) = (rd .0 < length (S .maps)) × (wr .0 < length (S .maps))
 
   loads-in : (t : TypeNumber) → t .0 < length (S .types) → LoadsIn (typeAt S t)
   unfolding LoadsIn typeAt
@@ -190,23 +194,26 @@ module _ (w : List ℕ) (S : Split) (steps : List Step) (H : HoldsSplit w S) (R 
       of-line (Lock i o) e = R .lockLoads (t .0) i o h e
       of-line (Tid k) e = R .tidLoad (t .0) k h e
       of-line (Sem k) e = R .semLoad (t .0) k h e
+      of-line (Rwlock rd wr) e = R .rwlockLoads (t .0) rd wr h e
 
   -- lines whose contents and maps are shown
   lines-shown : (all : List Tree) (f : TypeNumber → TypeNumber → Bool) (x y : TypeLine)
       → LoadsIn x → LoadsIn y
       → ((p q : Location) (c d : TypeNumber) → x ≡ Ref p c → y ≡ Ref q d → f c d ≡ sameTree (getD all (c .0) (plain int [])) (getD all (d .0) (plain int [])))
       → linesAgree w n f x y ≡ sameTree (treeOf S all x) (treeOf S all y)
-  unfolding LoadsIn linesAgree code sameMaps sameTree treeOf isInt isRef isLock isTid isSem place load inLoad outLoad content
+  unfolding LoadsIn linesAgree code sameMaps sameTree treeOf isInt isRef isLock isTid isSem isRwlock place load inLoad outLoad readLoad writeLoad content
   lines-shown all f Int Int i j h = refl
   lines-shown all f Int (Ref q d) i j h = refl
   lines-shown all f Int (Lock m o) i j h = refl
   lines-shown all f Int (Tid k) i j h = refl
   lines-shown all f Int (Sem k) i j h = refl
+  lines-shown all f Int (Rwlock rd wr) i j h = refl
   lines-shown all f (Ref p c) Int i j h = refl
   lines-shown all f (Ref p c) (Ref q d) i j h = rw (h p q c d refl refl)
   lines-shown all f (Ref p c) (Lock m o) i j h = refl
   lines-shown all f (Ref p c) (Tid k) i j h = refl
   lines-shown all f (Ref p c) (Sem k) i j h = refl
+  lines-shown all f (Ref p c) (Rwlock rd wr) i j h = refl
   lines-shown all f (Lock m o) Int i j h = refl
   lines-shown all f (Lock m o) (Ref q d) i j h = refl
   lines-shown all f (Lock m o) (Lock n′ p) i j h =
@@ -214,16 +221,27 @@ module _ (w : List ℕ) (S : Split) (steps : List Step) (H : HoldsSplit w S) (R 
       (sym (same-maps-two (mapAt S m) (mapAt S o) (mapAt S n′) (mapAt S p)))
   lines-shown all f (Lock k o) (Tid m) i j h = refl
   lines-shown all f (Lock k o) (Sem m) i j h = refl
+  lines-shown all f (Lock k o) (Rwlock rd wr) i j h = refl
   lines-shown all f (Tid k) Int i j h = refl
   lines-shown all f (Tid k) (Ref q d) i j h = refl
   lines-shown all f (Tid k) (Lock m o) i j h = refl
   lines-shown all f (Tid k) (Tid m) i j h = same-numbers-shown k m i j ∙ sym (same-maps-single (mapAt S k) (mapAt S m))
   lines-shown all f (Tid k) (Sem m) i j h = refl
+  lines-shown all f (Tid k) (Rwlock rd wr) i j h = refl
   lines-shown all f (Sem k) Int i j h = refl
   lines-shown all f (Sem k) (Ref q d) i j h = refl
   lines-shown all f (Sem k) (Lock m o) i j h = refl
   lines-shown all f (Sem k) (Tid m) i j h = refl
   lines-shown all f (Sem k) (Sem m) i j h = same-numbers-shown k m i j ∙ sym (same-maps-single (mapAt S k) (mapAt S m))
+  lines-shown all f (Sem k) (Rwlock rd wr) i j h = refl
+  lines-shown all f (Rwlock rd wr) Int i j h = refl
+  lines-shown all f (Rwlock rd wr) (Ref q d) i j h = refl
+  lines-shown all f (Rwlock rd wr) (Lock m o) i j h = refl
+  lines-shown all f (Rwlock rd wr) (Tid m) i j h = refl
+  lines-shown all f (Rwlock rd wr) (Sem m) i j h = refl
+  lines-shown all f (Rwlock rd wr) (Rwlock rd′ wr′) i j h =
+      rw (same-numbers-shown rd rd′ (i .0) (j .0), same-numbers-shown wr wr′ (i .1) (j .1))
+      (sym (same-maps-two (mapAt S rd) (mapAt S wr) (mapAt S rd′) (mapAt S wr′)))
 
   below-shown : (b : ℕ) (t u : TypeNumber) → t .0 < b → t .0 < length (S .types) → u .0 < length (S .types)
       → agreeBelow w n b t u ≡ agree S t u
@@ -272,6 +290,7 @@ module _ (w : List ℕ) (S : Split) (steps : List Step) (H : HoldsSplit w S) (R 
       of-line (Lock i o) l = not-below-shown o i (l .1) (l .0)
       of-line (Tid k) l = refl
       of-line (Sem k) l = refl
+      of-line (Rwlock rd wr) l = refl
 
   pub contains-shown : (t u : TypeNumber) → t .0 < length (S .types) → u .0 < length (S .types)
       → containsIn w n (typeAt S t) u ≡ contains S (typeAt S t) u
@@ -284,3 +303,4 @@ module _ (w : List ℕ) (S : Split) (steps : List Step) (H : HoldsSplit w S) (R 
       of-line (Lock i o) e = refl
       of-line (Tid k) e = refl
       of-line (Sem k) e = refl
+      of-line (Rwlock rd wr) e = refl

@@ -14,8 +14,8 @@ use Rattle.spec.specs.Sites.{Claim, numbered, judge, firstFalse, isType, only}
 use Rattle.spec.specs.Verdict.{four, returned}
 use Rattle.spec.specs.declared.Purpose.{Purpose}
 use Rattle.spec.specs.declared.Purpose.the-variants.{Check, Fill}
-use Rattle.spec.specs.declared.LeafWord.the-variants.{Var, Int, Newtid, Newlock, Newsem}
-use Rattle.spec.specs.declared.UnaryWord.the-variants.{While, Join, Ref, Read, Lock, Unlock, Post, Wait}
+use Rattle.spec.specs.declared.LeafWord.the-variants.{Var, Int, Newtid, Newlock, Newsem, Newrwlock}
+use Rattle.spec.specs.declared.UnaryWord.the-variants.{While, Join, Ref, Read, Lock, Unlock, Post, Wait, Rdlock, Rdunlock, Wrlock, Wrunlock}
 use Rattle.spec.specs.declared.BinaryWord.the-variants.{Let, If, Spawn, Write}
 use Rattle.spec.proofs.Claims.{only-append}
 use Rattle.rules.specs.Outcome.{judged}
@@ -71,6 +71,11 @@ row-types-first S Γ pre (unary Unlock k v e₁) = tt
 row-types-first S Γ pre (leaf Newsem k v) = tt
 row-types-first S Γ pre (unary Post k v e₁) = tt
 row-types-first S Γ pre (unary Wait k v e₁) = tt
+row-types-first S Γ pre (leaf Newrwlock k v) = tt
+row-types-first S Γ pre (unary Rdlock k v e₁) = tt
+row-types-first S Γ pre (unary Rdunlock k v e₁) = tt
+row-types-first S Γ pre (unary Wrlock k v e₁) = tt
+row-types-first S Γ pre (unary Wrunlock k v e₁) = tt
 
 -- ------------------------------------------------------------------ outcomes
 

@@ -13,7 +13,7 @@ use Rattle.spec.specs.declared.MapNumber.{MapNumber}
 use Rattle.spec.specs.declared.Refusal.{Refusal}
 use Rattle.spec.specs.declared.Refusal.the-variants.{LockTakesLess}
 use Rattle.spec.specs.declared.TypeLine.{TypeLine}
-use Rattle.spec.specs.declared.TypeLine.the-variants.{Int, Ref, Lock, Tid, Sem}
+use Rattle.spec.specs.declared.TypeLine.the-variants.{Int, Ref, Lock, Tid, Sem, Rwlock}
 use Rattle.spec.proofs.Clashes.{true-is-not-false}
 use Rattle.spec.proofs.Outcomes.{stop-is-not-on}
 use Rattle.workspace.specs.Layout.{typeAt}
@@ -51,6 +51,7 @@ module _ (w : List ℕ) (n t : ℕ) {x : TypeLine} (e : x ≡ typeAt w (record {
       by-kind (Lock i o) h = true-is-not-false h
       by-kind (Tid k) h = refl
       by-kind (Sem k) h = refl
+      by-kind (Rwlock rd wr) h = refl
 
   module _ {i o : MapNumber} (is-lock : x ≡ Lock i o) (line number : ℕ) (r : Ruling)
       (asked : outcome r ≡ judge line number (F (failsFrom w (AtLeast o i) 0 n))) where

@@ -16,7 +16,7 @@ use Rattle.spec.specs.declared.Purpose.{Purpose}
 use Rattle.spec.specs.declared.Word.the-variants.{Leaf, Unary, Binary}
 use Rattle.spec.specs.declared.LeafWord.{LeafWord}
 use Rattle.spec.specs.declared.UnaryWord.{UnaryWord}
-use Rattle.spec.specs.declared.UnaryWord.the-variants.{While, Join, Ref, Read, Lock, Unlock, Post, Wait}
+use Rattle.spec.specs.declared.UnaryWord.the-variants.{While, Join, Ref, Read, Lock, Unlock, Post, Wait, Rdlock, Rdunlock, Wrlock, Wrunlock}
 use Rattle.spec.specs.declared.BinaryWord.{BinaryWord}
 use Rattle.spec.specs.declared.BinaryWord.the-variants.{Let, If, Spawn, Write}
 use Rattle.spec.proofs.Listing.{size-positive}
@@ -59,6 +59,10 @@ of-part Lock p q = p
 of-part Unlock p q = p
 of-part Post p q = p
 of-part Wait p q = p
+of-part Rdlock p q = p
+of-part Rdunlock p q = p
+of-part Wrlock p q = p
+of-part Wrunlock p q = p
 
 of-second : {w : List ℕ} {S : Split} {a b c : MapNumber} {pre post₁ start : Map} (x : BinaryWord) → Stands w S a pre
     → Stands w S b post₁ → Stands w S c start → Stands w S (numberOfSecond x a b c) (preOfSecond x pre post₁ start)

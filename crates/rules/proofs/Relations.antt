@@ -7,12 +7,12 @@ use Prim.Native.Nat.{ℕ, suc, _+_, _-_, _<_, _≤_}
 use native.Mathlib.Omega.{arith}
 use lib.Dec.{leb}
 use Rattle.spec.specs.Choice.{if_then_else_}
-use Rattle.spec.specs.Maps.{lowest, atLeast, _+ᵐ_, overWhole}
+use Rattle.spec.specs.Maps.{lowest, atLeast, _+ᵐ_, _×ᵐ_, overWhole}
 use Rattle.spec.specs.declared.MapNumber.{MapNumber}
 use Rattle.workspace.specs.Layout.{mapCell, mapFrom}
 use Rattle.rules.specs.Relation.{holdsAt, failsFrom}
 use Rattle.rules.specs.declared.Relation.{Relation}
-use Rattle.rules.specs.declared.Relation.the-variants.{Equal, AtLeast, Sum}
+use Rattle.rules.specs.declared.Relation.the-variants.{Equal, AtLeast, Covers, Sum}
 
 -- what is left from location l of n on begins with l
 left : (l n : ℕ) → l < n → n - l ≡ suc (n - (l + 1))
@@ -24,15 +24,17 @@ none-left l n h = omega arith
 module _ (w : List ℕ) where
   one-more : (r : Relation) (l n : ℕ)
       → failsFrom w r l (suc n) ≡ (if holdsAt w r l then failsFrom w r (l + 1) n else some l)
-  unfolding failsFrom holdsAt mapFrom lowest atLeast _+ᵐ_
+  unfolding failsFrom holdsAt mapFrom lowest atLeast _+ᵐ_ _×ᵐ_
   one-more (Equal a b) l n = refl
   one-more (AtLeast a b) l n = refl
+  one-more (Covers a k b) l n = refl
   one-more (Sum a b c) l n = refl
 
   at-end : (r : Relation) (l : ℕ) → failsFrom w r l 0 ≡ none
-  unfolding failsFrom mapFrom lowest _+ᵐ_
+  unfolding failsFrom mapFrom lowest _+ᵐ_ _×ᵐ_
   at-end (Equal a b) l = refl
   at-end (AtLeast a b) l = refl
+  at-end (Covers a k b) l = refl
   at-end (Sum a b c) l = refl
 
   module _ (r : Relation) (l n : ℕ) where

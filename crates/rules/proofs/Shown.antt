@@ -5,7 +5,7 @@ use Prim.Native.Nat.{ℕ, _+_}
 use lib.Dec.{eqb}
 use Rattle.spec.specs.Expression.{Step}
 use Rattle.spec.specs.Split.{Map, Split}
-use Rattle.spec.specs.Maps.{lowest, _=ᵐ_, _≥ᵐ_, _+ᵐ_}
+use Rattle.spec.specs.Maps.{lowest, _=ᵐ_, _≥ᵐ_, _+ᵐ_, _×ᵐ_}
 use Rattle.spec.specs.Ranges.{InRange}
 use Rattle.spec.proofs.Tests.{eqb-sym}
 use Rattle.spec.specs.declared.MapNumber.{MapNumber}
@@ -13,7 +13,7 @@ use Rattle.workspace.specs.Layout.{mapIn}
 use Rattle.workspace.specs.Holds.{HoldsSplit}
 use Rattle.workspace.proofs.Shown.{Stands}
 use Rattle.rules.specs.Relation.{failsFrom}
-use Rattle.rules.specs.declared.Relation.the-variants.{Equal, AtLeast, Sum}
+use Rattle.rules.specs.declared.Relation.the-variants.{Equal, AtLeast, Covers, Sum}
 
 -- equality of maps may be asked either way round
 equal-sym : (i : ℕ) (m n : Map) → lowest eqb i m n ≡ lowest eqb i n m
@@ -32,6 +32,10 @@ module _ (w : List ℕ) (S : Split) (steps : List Step) (H : HoldsSplit w S) (R 
     pub at-least-shown : failsFrom w (AtLeast a b) 0 (S .header .locations) ≡ (x ≥ᵐ y)
     unfolding mapIn failsFrom _≥ᵐ_
     at-least-shown = rw (p .is, q .is)
+
+    pub covers-shown : (k : ℕ) → failsFrom w (Covers a k b) 0 (S .header .locations) ≡ (x ≥ᵐ k ×ᵐ y)
+    unfolding mapIn failsFrom _≥ᵐ_
+    covers-shown k = rw (p .is, q .is)
 
     module _ {c : MapNumber} {z : Map} (r : Stands w S c z) where
       pub sum-shown : failsFrom w (Sum a b c) 0 (S .header .locations) ≡ (x +ᵐ y =ᵐ z)

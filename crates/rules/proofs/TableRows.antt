@@ -8,29 +8,29 @@ use lib.ListN.{length}
 use borrow.Author.Tests.{le-leb, lt-ltb}
 use Rattle.spec.specs.Expression.{Step, Expr, leaf, unary, binary}
 use Rattle.spec.specs.Split.{Map, Split}
-use Rattle.spec.specs.Maps.{_=ᵐ_, _≥ᵐ_, _+ᵐ_, share}
-use Rattle.spec.specs.Conditions.{Env, typeIn, mayShow, contains, row, type, kind, post, start, K, inMap, outMap, place, load, inLoad, outLoad, own}
+use Rattle.spec.specs.Maps.{_=ᵐ_, _≥ᵐ_, _+ᵐ_, _×ᵐ_, share}
+use Rattle.spec.specs.Conditions.{Env, typeIn, mayShow, contains, row, type, kind, post, start, K, inMap, outMap, readMap, writeMap, place, load, inLoad, outLoad, readLoad, writeLoad, own}
 use Rattle.spec.specs.Agreement.{agree}
 use Rattle.spec.specs.Ranges.{InRange}
 use Rattle.spec.specs.declared.MapNumber.{MapNumber}
 use Rattle.spec.specs.declared.TypeNumber.{TypeNumber}
 use Rattle.spec.specs.declared.LeafWord.{LeafWord}
-use Rattle.spec.specs.declared.LeafWord.the-variants.{Var, Int, Newtid, Newlock, Newsem}
+use Rattle.spec.specs.declared.LeafWord.the-variants.{Var, Int, Newtid, Newlock, Newsem, Newrwlock}
 use Rattle.spec.specs.declared.UnaryWord.{UnaryWord}
-use Rattle.spec.specs.declared.UnaryWord.the-variants.{While, Join, Ref, Read, Lock, Unlock, Post, Wait}
+use Rattle.spec.specs.declared.UnaryWord.the-variants.{While, Join, Ref, Read, Lock, Unlock, Post, Wait, Rdlock, Rdunlock, Wrlock, Wrunlock}
 use Rattle.spec.specs.declared.BinaryWord.{BinaryWord}
 use Rattle.spec.specs.declared.BinaryWord.the-variants.{Let, If, Spawn, Write}
 use Rattle.workspace.specs.Layout as layout
 use Rattle.workspace.specs.Layout.{mapCell, printed, ruleOf, leafCode, unaryCode, binaryCode}
 use Rattle.workspace.specs.Holds.{HoldsSplit}
-use Rattle.workspace.proofs.Shown.{Stands, type-shown, place-in, load-in, in-load-in, out-load-in, map-stands, has-shown}
+use Rattle.workspace.proofs.Shown.{Stands, type-shown, place-in, load-in, in-load-in, out-load-in, read-load-in, write-load-in, map-stands, has-shown}
 use Rattle.rules.specs.Relation.{failsFrom}
-use Rattle.rules.specs.declared.Relation.the-variants.{Equal, AtLeast, Sum}
+use Rattle.rules.specs.declared.Relation.the-variants.{Equal, AtLeast, Covers, Sum}
 use Rattle.rules.specs.Agreement.{agreeIn, mayShowIn}
 use Rattle.rules.specs.Table.{containsIn, ruleRow}
 use Rattle.rules.specs.declared.View.{View}
 use Rattle.rules.proofs.Agreement.{agree-shown, may-show-shown, contains-shown}
-use Rattle.rules.proofs.Shown.{equal-shown, at-least-shown, sum-shown, is-sum-shown}
+use Rattle.rules.proofs.Shown.{equal-shown, at-least-shown, covers-shown, sum-shown, is-sum-shown}
 
 -- "> 0" is "≥ 1"
 some-is-one : (x : ℕ) → leb 1 x ≡ ltb 0 x
@@ -43,13 +43,14 @@ pub record Part (w : List ℕ) (S : Split) (t : TypeNumber) (m : MapNumber) (e :
   pub type-in : row S e .type .0 < length (S .types)
   pub posted : Stands w S m (post S e)
 
--- a `var` shows the type of its let's e1
+-- a `var` shows the type of its let's e1, a `newrwlock` its number of reading places
 abbrev pub Bound : Split → LeafWord → View → Env → (v : ℕ) → Type 0
 Bound S Var s Γ v = (s .bound ≡ typeIn Γ v) × (typeIn Γ v .0 < length (S .types))
 Bound S Int s Γ v = Unit {0}
 Bound S Newtid s Γ v = Unit {0}
 Bound S Newlock s Γ v = Unit {0}
 Bound S Newsem s Γ v = Unit {0}
+Bound S Newrwlock s Γ v = s .value ≡ v
 
 module _ (w : List ℕ) (S : Split) (steps : List Step) (H : HoldsSplit w S) (R : InRange steps S)
     (s : View) (located : s .locations ≡ S .header .locations) (divided : s .denominator ≡ S .header .denominator)
@@ -72,6 +73,14 @@ module _ (w : List ℕ) (S : Split) (steps : List Step) (H : HoldsSplit w S) (R 
   unfolding kind type outMap
   out-stands e p = rw (typed-as e p) (map-stands w S steps H R _ (out-load-in w S steps H R _ (p .type-in)))
 
+  read-stands : {t : TypeNumber} {m : MapNumber} (e : Expr) → Part w S t m e → Stands w S (readLoad (layout.typeAt w t)) (readMap S e)
+  unfolding kind type readMap
+  read-stands e p = rw (typed-as e p) (map-stands w S steps H R _ (read-load-in w S steps H R _ (p .type-in)))
+
+  write-stands : {t : TypeNumber} {m : MapNumber} (e : Expr) → Part w S t m e → Stands w S (writeLoad (layout.typeAt w t)) (writeMap S e)
+  unfolding kind type writeMap
+  write-stands e p = rw (typed-as e p) (map-stands w S steps H R _ (write-load-in w S steps H R _ (p .type-in)))
+
   -- ---------------------------------------------------------------- flow and access
 
   module _ {a b : MapNumber} {x y : Map} (p : Stands w S a x) (q : Stands w S b y) where
@@ -80,6 +89,9 @@ module _ (w : List ℕ) (S : Split) (steps : List Step) (H : HoldsSplit w S) (R 
 
     at-least : failsFrom w (AtLeast a b) 0 (s .locations) ≡ (x ≥ᵐ y)
     at-least = rw (located, at-least-shown w S steps H R p q)
+
+    covers : (k : ℕ) → failsFrom w (Covers a k b) 0 (s .locations) ≡ (x ≥ᵐ k ×ᵐ y)
+    covers k = rw (located, covers-shown w S steps H R p q k)
 
     module _ {c : MapNumber} {z : Map} (r : Stands w S c z) where
       sum : failsFrom w (Sum a b c) 0 (s .locations) ≡ (x +ᵐ y =ᵐ z)
@@ -120,6 +132,13 @@ module _ (w : List ℕ) (S : Split) (steps : List Step) (H : HoldsSplit w S) (R 
   leaf-shown Newtid o b = rw (equal (o .posted) pre-stands, typed-as _ o)
   leaf-shown Newlock o b = rw (sum (o .posted) (out-stands _ o) pre-stands, typed-as _ o)
   leaf-shown Newsem o b = rw (equal (o .posted) pre-stands, typed-as _ o)
+  leaf-shown Newrwlock o b =
+      rw (
+        covers (write-stands _ o) (read-stands _ o) (s .value),
+        sum (o .posted) (write-stands _ o) pre-stands,
+        typed-as _ o,
+        b,
+      )
 
   module _ (e₁ : Expr) (f : Part w S (s .type1) (s .post1) e₁) where
     pub unary-shown : (x : UnaryWord) → Part w S (s .own) (s .post) (unary x l v e₁)
@@ -147,6 +166,14 @@ module _ (w : List ℕ) (S : Split) (steps : List Step) (H : HoldsSplit w S) (R 
         rw (sum (o .posted) (load-stands _ f) (f .posted), typed-as _ o, typed-as _ f)
     unary-shown Wait o =
         rw (is-sum (f .posted) (load-stands _ f) (o .posted), typed-as _ o, typed-as _ f)
+    unary-shown Rdlock o =
+        rw (is-sum (f .posted) (read-stands _ f) (o .posted), typed-as _ o, typed-as _ f)
+    unary-shown Rdunlock o =
+        rw (sum (o .posted) (read-stands _ f) (f .posted), typed-as _ o, typed-as _ f)
+    unary-shown Wrlock o =
+        rw (is-sum (f .posted) (write-stands _ f) (o .posted), typed-as _ o, typed-as _ f)
+    unary-shown Wrunlock o =
+        rw (sum (o .posted) (write-stands _ f) (f .posted), typed-as _ o, typed-as _ f)
 
     module _ (e₂ : Expr) (g : Part w S (s .type2) (s .post2) e₂) where
       pub binary-shown : (x : BinaryWord) → Part w S (s .own) (s .post) (binary x l v e₁ e₂)

@@ -32,7 +32,8 @@ use Rattle.workspace.specs.Sheets.{HoldsSheets}
 use Rattle.workspace.proofs.Held.{insideSecond}
 use Rattle.workspace.proofs.Region.{changed-nothing, changed-store, changed-then, changed-wider}
 use Rattle.workspace.proofs.Shown.{map-number, Stands, stands-kept, map-stands, row-at}
-use Rattle.workspace.proofs.Expression.{Here, codes, here-kept, here-line, here-part, here-first, here-second, varsSecond}
+use Rattle.workspace.proofs.Expression.{Here, here-kept, here-line, here-part, here-first, here-second, varsSecond}
+use Rattle.workspace.proofs.Sheets.{root-here}
 use Rattle.rules.specs.Outcome.{both}
 use Rattle.rules.specs.Walk.{cell, lockOutcome, locksOutcome, startOutcome, stepOutcome, counted, passOn, walk, atRoot}
 use Rattle.rules.specs.Contract.{ruledFor}
@@ -214,16 +215,6 @@ claims-ruled Check P S = refl
 claims-ruled Fill P S = refl
 
 module _ (w : List ℕ) (steps denominator locations start : ℕ) (P : Program) (S : Split) (H : HoldsSheets w steps denominator locations start P S) where
-  root-here : Here w 0 [] [] (P .root)
-  unfolding codes
-  root-here = record {
-    words = rw (H .wellFormed .listing) (H .program .steps .words);
-    ended = H .program .ends;
-    bound = H .program .lets;
-    lines = H .wellFormed .numbering;
-    used = H .wellFormed .usedInside;
-  }
-
   -- the start that the header names
   start-named : Stands w S (record { 0 = start }) (startMap S)
   unfolding startMap
@@ -254,7 +245,7 @@ module _ (w : List ℕ) (steps denominator locations start : ℕ) (P : Program) 
   unfolding startOutcome startAtMostOne
   start-shown =
       rw (
-        here-line (P .root) root-here,
+        here-line (P .root) (root-here H),
         H .denominatorGiven,
         H .locationsGiven,
         start-named .is,
@@ -272,7 +263,7 @@ module _ (w : List ℕ) (steps denominator locations start : ℕ) (P : Program) 
     root-ready =
         again purpose S (P .steps) (H .inRange) rows-few (changed-store presAt (presAt + 256) w presAt start (omega arith)
         (omega arith)) (H .split) (omega arith)
-        root-here (scoped-none S) (record { 0 = start }) start-named
+        (root-here H) (scoped-none S) (record { 0 = start }) start-named
         (getD-set-same w presAt start 0 (omega arith)) (omega (arith, sized, H .stepsCounted, H .inRange .rowsCounted))
 
     -- 31 to 33

@@ -11,12 +11,12 @@ use Rattle.spec.specs.WellFormed.{UsedInside}
 use Rattle.spec.specs.Ranges.{InRange}
 use Rattle.spec.specs.declared.TypeNumber.{TypeNumber}
 use Rattle.spec.specs.declared.LeafWord.{LeafWord}
-use Rattle.spec.specs.declared.LeafWord.the-variants.{Var, Int, Newtid, Newlock, Newsem}
+use Rattle.spec.specs.declared.LeafWord.the-variants.{Var, Int, Newtid, Newlock, Newsem, Newrwlock}
 use Rattle.workspace.specs.Layout.{endsAt, rowTypesAt, postsAt}
 use Rattle.workspace.specs.Holds.{HoldsSplit, letIn}
 use Rattle.workspace.proofs.Region.{column}
 use Rattle.workspace.proofs.Shown.{noRow, Stands, row-at, row-type, post-at, start-at}
-use Rattle.workspace.proofs.Expression.{Here, here-let}
+use Rattle.workspace.proofs.Expression.{Here, leaf-number, here-let}
 use Rattle.rules.specs.Walk.{cell, viewOf}
 use Rattle.rules.proofs.TableRows.{Part, Bound}
 use Rattle.rules.proofs.Scopes.{Scoped}
@@ -73,3 +73,4 @@ module _ (w : List ℕ) (S : Split) (steps : List Step) (H : HoldsSplit w S) (R 
     bound-shown Newtid l v P C = tt
     bound-shown Newlock l v P C = tt
     bound-shown Newsem l v P C = tt
+    bound-shown Newrwlock l v P C = leaf-number Newrwlock l v P

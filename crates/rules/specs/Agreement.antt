@@ -6,7 +6,7 @@ use Prim.Native.Nat.{ℕ, zero, suc}
 use lib.Dec.{eqb, ltb}
 use Rattle.spec.specs.Choice.{if_then_else_}
 use Rattle.spec.specs.Maps.{nowhere}
-use Rattle.spec.specs.Conditions.{isInt, isRef, isLock, isTid, isSem, place, load, inLoad, outLoad}
+use Rattle.spec.specs.Conditions.{isInt, isRef, isLock, isTid, isSem, isRwlock, place, load, inLoad, outLoad, readLoad, writeLoad}
 use Rattle.spec.specs.declared.MapNumber.{MapNumber}
 use Rattle.spec.specs.declared.TypeNumber.{TypeNumber}
 use Rattle.spec.specs.declared.TypeLine.{TypeLine}
@@ -22,11 +22,16 @@ content (type-line.Ref p c) = c
 content (type-line.Lock i o) = record { 0 = 0 }
 content (type-line.Tid k) = record { 0 = 0 }
 content (type-line.Sem k) = record { 0 = 0 }
+content (type-line.Rwlock rd wr) = record { 0 = 0 }
 
 module _ (w : List ℕ) (n : ℕ) where
   -- two maps hold equal numbers
   unfoldable pub sameNumbersIn : MapNumber → MapNumber → Bool
   sameNumbersIn k h = nowhere (failsFrom w (Equal k h) 0 n)
+
+  -- a type is that of a read-write lock whose maps hold the numbers of these two
+  abbrev pub rwlockAgrees : (rd wr : MapNumber) → TypeLine → Bool
+  rwlockAgrees rd wr y = isRwlock y && (sameNumbersIn rd (readLoad y) && sameNumbersIn wr (writeLoad y))
 
   -- the types of two lines agree; `contents` says which contents do
   unfoldable pub linesAgree : (contents : TypeNumber → TypeNumber → Bool) → TypeLine → TypeLine → Bool
@@ -35,6 +40,7 @@ module _ (w : List ℕ) (n : ℕ) where
   linesAgree contents (type-line.Lock i o) y = isLock y && (sameNumbersIn i (inLoad y) && sameNumbersIn o (outLoad y))
   linesAgree contents (type-line.Tid k) y = isTid y && sameNumbersIn k (load y)
   linesAgree contents (type-line.Sem k) y = isSem y && sameNumbersIn k (load y)
+  linesAgree contents (type-line.Rwlock rd wr) y = rwlockAgrees rd wr y
 
   -- a type numbered below the bound agrees with another. A content agrees only if it is numbered below its ref, as each is in
   -- a sheet.
@@ -65,3 +71,4 @@ module _ (w : List ℕ) (n : ℕ) where
   takesEnoughIn (type-line.Lock i o) = notBelowIn o i
   takesEnoughIn (type-line.Tid k) = true
   takesEnoughIn (type-line.Sem k) = true
+  takesEnoughIn (type-line.Rwlock rd wr) = true

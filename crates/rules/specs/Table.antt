@@ -4,7 +4,7 @@ use mathlib.Core.Bool.{Bool, false}
 use mathlib.Core.List.{List, [], _∷_}
 use Prim.Native.Nat.{ℕ}
 use lib.Dec.{leb}
-use Rattle.spec.specs.Conditions.{Condition, T, F, A, isInt, isRef, isLock, isTid, isSem, place, load, inLoad, outLoad}
+use Rattle.spec.specs.Conditions.{Condition, T, F, A, isInt, isRef, isLock, isTid, isSem, isRwlock, place, load, inLoad, outLoad, readLoad, writeLoad}
 use Rattle.spec.specs.declared.Location.{Location}
 use Rattle.spec.specs.declared.MapNumber.{MapNumber}
 use Rattle.spec.specs.declared.TypeNumber.{TypeNumber}
@@ -12,11 +12,11 @@ use Rattle.spec.specs.declared.TypeLine.{TypeLine}
 use Rattle.spec.specs.declared.TypeLine.the-variants as type-line
 use Rattle.workspace.specs.Layout.{mapCell}
 use Rattle.workspace.specs.declared.Rule.{Rule}
-use Rattle.workspace.specs.declared.Rule.the-variants.{VAR, INT, LET, IF, WHILE, NEWT, SPAWN, JOIN, REF, WRITE, READ, NEWL, LCK, ULCK, NEWSEM, POST, WAIT}
+use Rattle.workspace.specs.declared.Rule.the-variants.{VAR, INT, LET, IF, WHILE, NEWT, SPAWN, JOIN, REF, WRITE, READ, NEWL, LCK, ULCK, NEWSEM, POST, WAIT, NEWRWLOCK, RDLOCK, RDUNLOCK, WRLOCK, WRUNLOCK}
 use Rattle.rules.specs.Relation.{failsFrom}
 use Rattle.rules.specs.Agreement.{agreeIn, mayShowIn}
 use Rattle.rules.specs.declared.Relation.{Relation}
-use Rattle.rules.specs.declared.Relation.the-variants.{Equal, AtLeast, Sum}
+use Rattle.rules.specs.declared.Relation.the-variants.{Equal, AtLeast, Covers, Sum}
 use Rattle.rules.specs.declared.View.{View}
 
 -- a ref type whose c agrees with the type t, in a sheet of n locations
@@ -26,6 +26,7 @@ containsIn w n (type-line.Ref p c) t = agreeIn w n c t
 containsIn w n (type-line.Lock i o) t = false
 containsIn w n (type-line.Tid k) t = false
 containsIn w n (type-line.Sem k) t = false
+containsIn w n (type-line.Rwlock rd wr) t = false
 
 -- a relation at every location of the sheet
 abbrev pub flows : (w : List ℕ) → View → Relation → Condition
@@ -146,6 +147,26 @@ postRow w s kind kind₁ = loaded w s kind (isSem kind₁) (s .post) (load kind�
 abbrev pub waitRow : TableRow
 waitRow w s kind kind₁ = loaded w s kind (isSem kind₁) (s .post1) (load kind₁) (s .post)
 
+-- document 02, request (xi)
+abbrev pub newrwlockRow : TableRow
+newrwlockRow w s kind kind₁ =
+    T (isRwlock kind)
+    ∷ flows w s (Covers (writeLoad kind) (s .value) (readLoad kind))
+    ∷ flows w s (Sum (s .post) (writeLoad kind) (s .pre))
+    ∷ []
+
+abbrev pub rdlockRow : TableRow
+rdlockRow w s kind kind₁ = loaded w s kind (isRwlock kind₁) (s .post1) (readLoad kind₁) (s .post)
+
+abbrev pub rdunlockRow : TableRow
+rdunlockRow w s kind kind₁ = loaded w s kind (isRwlock kind₁) (s .post) (readLoad kind₁) (s .post1)
+
+abbrev pub wrlockRow : TableRow
+wrlockRow w s kind kind₁ = loaded w s kind (isRwlock kind₁) (s .post1) (writeLoad kind₁) (s .post)
+
+abbrev pub wrunlockRow : TableRow
+wrunlockRow w s kind kind₁ = loaded w s kind (isRwlock kind₁) (s .post) (writeLoad kind₁) (s .post1)
+
 unfoldable pub ruleRow : Rule → TableRow
 ruleRow VAR = varRow
 ruleRow INT = intRow
@@ -164,3 +185,8 @@ ruleRow ULCK = ulckRow
 ruleRow NEWSEM = newsemRow
 ruleRow POST = postRow
 ruleRow WAIT = waitRow
+ruleRow NEWRWLOCK = newrwlockRow
+ruleRow RDLOCK = rdlockRow
+ruleRow RDUNLOCK = rdunlockRow
+ruleRow WRLOCK = wrlockRow
+ruleRow WRUNLOCK = wrunlockRow

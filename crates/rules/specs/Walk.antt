@@ -15,10 +15,10 @@ use Rattle.spec.specs.declared.Purpose.the-variants.{Check, Fill}
 use Rattle.spec.specs.declared.Word.{Word}
 use Rattle.spec.specs.declared.Word.the-variants.{Leaf, Unary, Binary}
 use Rattle.spec.specs.declared.UnaryWord.{UnaryWord}
-use Rattle.spec.specs.declared.UnaryWord.the-variants.{While, Join, Ref, Read, Lock, Unlock, Post, Wait}
+use Rattle.spec.specs.declared.UnaryWord.the-variants.{While, Join, Ref, Read, Lock, Unlock, Post, Wait, Rdlock, Rdunlock, Wrlock, Wrunlock}
 use Rattle.spec.specs.declared.BinaryWord.{BinaryWord}
 use Rattle.spec.specs.declared.BinaryWord.the-variants.{Let, If, Spawn, Write}
-use Rattle.workspace.specs.Layout.{wordsAt, endsAt, letsAt, rowTypesAt, postsAt, startsAt, presAt, ruleOf, wordOf, typeAt, mapIn}
+use Rattle.workspace.specs.Layout.{wordsAt, valuesAt, endsAt, letsAt, rowTypesAt, postsAt, startsAt, presAt, ruleOf, wordOf, typeAt, mapIn}
 use Rattle.rules.specs.Outcome.{both, judged}
 use Rattle.rules.specs.Agreement.{takesEnoughIn}
 use Rattle.rules.specs.Table.{ruleRow}
@@ -46,6 +46,7 @@ cell w b i = getD w (b + i) 0
 unfoldable pub viewOf : (w : List ℕ) → (locations denominator k : ℕ) → View
 viewOf w locations denominator k = record {
   line = k + 2;
+  value = cell w valuesAt k;
   locations = locations;
   denominator = denominator;
   own = record { 0 = cell w rowTypesAt k };
@@ -93,6 +94,10 @@ numberOfPart Lock pre post = pre
 numberOfPart Unlock pre post = pre
 numberOfPart Post pre post = pre
 numberOfPart Wait pre post = pre
+numberOfPart Rdlock pre post = pre
+numberOfPart Rdunlock pre post = pre
+numberOfPart Wrlock pre post = pre
+numberOfPart Wrunlock pre post = pre
 
 unfoldable pub numberOfSecond : BinaryWord → (pre post₁ start : MapNumber) → MapNumber
 numberOfSecond Let pre post₁ start = post₁

@@ -9,22 +9,16 @@ use spec::TypeNumber;
 use workspace::index;
 use workspace::map_cell;
 use workspace::type_at;
+use workspace::wide;
 ghost use mathlib.Core.Path.{_≡_};
 ghost use mathlib.Core.Bool.{false};
 ghost use Rattle.spec.specs.Conditions.{T, F};
 ghost use Rattle.spec.specs.Sites.{judge};
-ghost use Rattle.rules.specs.declared.Relation.the-variants.{Equal, AtLeast, Sum};
+ghost use Rattle.rules.specs.declared.Relation.the-variants.{Equal, AtLeast, Covers, Sum};
 ghost use Rattle.rules.specs.Outcome.{outcome, both};
 ghost use Rattle.rules.specs.Relation.{holdsAt, failsFrom};
-ghost use Rattle.rules.specs.Agreement.{sameNumbersIn, linesAgree, agreeIn, notBelowIn, mayShowIn};
+ghost use Rattle.rules.specs.Agreement.{sameNumbersIn, rwlockAgrees, linesAgree, agreeIn, notBelowIn, mayShowIn};
 ghost use Rattle.rules.specs.Table.{hasAtLeast};
-
-// A number of the work space, so that two of them can be added.
-fn wide(x: u32) -> u64
-    ensures { λ r. ⌜ r ≡ x ⌝ }
-{
-    x as u64
-}
 
 // The first refusal of two rulings.
 pub(crate) fn also(a: Ruling, b: Ruling) -> Ruling
@@ -54,6 +48,10 @@ fn holds_at(work: &[u32], relation: Relation, location: u32) -> bool
     match relation {
         Relation::Equal(a, b) => map_cell(work, a, l) == map_cell(work, b, l),
         Relation::AtLeast(a, b) => map_cell(work, b, l) <= map_cell(work, a, l),
+        Relation::Covers(a, n, b) => {
+            let product = wide(n) * wide(map_cell(work, b, l));
+            product <= wide(map_cell(work, a, l))
+        }
         Relation::Sum(a, b, c) => {
             let sum = wide(map_cell(work, a, l)) + wide(map_cell(work, b, l));
             sum == wide(map_cell(work, c, l))
@@ -107,6 +105,21 @@ pub(crate) fn at_least(
     flow(line, condition, work, locations, Relation::AtLeast(a, b))
 }
 
+// a ≥ n × b.
+pub(crate) fn covers(
+    line: u32,
+    condition: u32,
+    work: &[u32],
+    locations: u32,
+    a: MapNumber,
+    n: u32,
+    b: MapNumber,
+) -> Ruling
+    ensures { λ r. ⌜ outcome r ≡ judge line condition (F (failsFrom (now (work .entry)) (Covers a n b) 0 locations)) ⌝ }
+{
+    flow(line, condition, work, locations, Relation::Covers(a, n, b))
+}
+
 // a + b = c.
 pub(crate) fn sum(
     line: u32,
@@ -137,6 +150,27 @@ fn same_maps(
         return type_false(line, condition);
     };
     Ruling::Met
+}
+
+// A type is that of a read-write lock whose maps hold the numbers of these two.
+fn agree_rwlock(
+    line: u32,
+    condition: u32,
+    work: &[u32],
+    locations: u32,
+    r: MapNumber,
+    w: MapNumber,
+    other: TypeLine,
+) -> Ruling
+    ensures { λ ruling. ⌜ outcome ruling ≡ judge line condition (T (rwlockAgrees (now (work .entry)) locations r w other)) ⌝ }
+{
+    let TypeLine::Rwlock(q, v) = other else {
+        return type_false(line, condition);
+    };
+    also(
+        same_maps(line, condition, work, locations, r, q),
+        same_maps(line, condition, work, locations, w, v),
+    )
 }
 
 // Two types that hold no content agree when their kinds agree and their maps hold equal numbers.
@@ -179,6 +213,7 @@ fn agree_plain(
             };
             same_maps(line, condition, work, locations, k, h)
         }
+        TypeLine::Rwlock(r, w) => agree_rwlock(line, condition, work, locations, r, w, other),
     }
 }
 

@@ -2,6 +2,7 @@
 // the start.
 mod conditions;
 mod locks;
+mod rwlocks;
 mod steps;
 mod words;
 
@@ -31,17 +32,19 @@ pub enum Ruling {
     Refused(Refusal),
 }
 
-// What a flow condition asks of maps, number by number: a = b, a ≥ b, a + b = c.
+// What a flow condition asks of maps, number by number: a = b, a ≥ b, a ≥ n × b, a + b = c.
 enum Relation {
     Equal(MapNumber, MapNumber),
     AtLeast(MapNumber, MapNumber),
+    Covers(MapNumber, u32, MapNumber),
     Sum(MapNumber, MapNumber, MapNumber),
 }
 
-// What the conditions of a step look at: the sheet's locations and denominator, the step's line, the types and maps of the
-// step and of its parts, and for a `var` the type of its let's e1.
+// What the conditions of a step look at: the sheet's locations and denominator, the step's line and number, the types and
+// maps of the step and of its parts, and for a `var` the type of its let's e1.
 struct View {
     line: u32,
+    value: u32,
     locations: u32,
     denominator: u32,
     own: TypeNumber,

@@ -15,6 +15,7 @@ use workspace::POSTS;
 use workspace::PRES;
 use workspace::ROW_TYPES;
 use workspace::STARTS;
+use workspace::VALUES;
 use workspace::WORDS;
 use workspace::at;
 use workspace::index;
@@ -48,6 +49,7 @@ fn view_of(work: &[u32], locations: u32, denominator: u32, k: u32) -> View
     let binder = cell(work, LETS, k);
     View {
         line: k + 2,
+        value: cell(work, VALUES, k),
         locations: locations,
         denominator: denominator,
         own: TypeNumber(cell(work, ROW_TYPES, k)),
@@ -122,6 +124,10 @@ fn pre_of_part(w: UnaryWord, pre: MapNumber, post: MapNumber) -> MapNumber
         UnaryWord::Unlock => pre,
         UnaryWord::Post => pre,
         UnaryWord::Wait => pre,
+        UnaryWord::Rdlock => pre,
+        UnaryWord::Rdunlock => pre,
+        UnaryWord::Wrlock => pre,
+        UnaryWord::Wrunlock => pre,
     }
 }
 

@@ -1,4 +1,5 @@
-// The conditions of a step: the rules of Figure 5, in the printed order, and behind them those of section 3.1.4.
+// The conditions of a step: the rules of Figure 5, in the printed order, and behind them those of section 3.1.4. Those of
+// read-write locks stand in rwlocks.rt.
 use super::Ruling;
 use super::View;
 use super::conditions::agree;
@@ -9,6 +10,11 @@ use super::conditions::has;
 use super::conditions::may_show;
 use super::conditions::sum;
 use super::conditions::type_false;
+use super::rwlocks::check_newrwlock;
+use super::rwlocks::check_rdlock;
+use super::rwlocks::check_rdunlock;
+use super::rwlocks::check_wrlock;
+use super::rwlocks::check_wrunlock;
 use spec::TypeLine;
 use workspace::Rule;
 ghost use mathlib.Core.Path.{_≡_};
@@ -254,5 +260,10 @@ pub(crate) fn check_rule(r: Rule, work: &[u32], s: View, kind: TypeLine, kind1: 
         Rule::NEWSEM => check_newsem(work, s, kind, kind1),
         Rule::POST => check_post(work, s, kind, kind1),
         Rule::WAIT => check_wait(work, s, kind, kind1),
+        Rule::NEWRWLOCK => check_newrwlock(work, s, kind, kind1),
+        Rule::RDLOCK => check_rdlock(work, s, kind, kind1),
+        Rule::RDUNLOCK => check_rdunlock(work, s, kind, kind1),
+        Rule::WRLOCK => check_wrlock(work, s, kind, kind1),
+        Rule::WRUNLOCK => check_wrunlock(work, s, kind, kind1),
     }
 }

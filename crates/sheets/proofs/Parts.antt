@@ -16,7 +16,7 @@ use Rattle.spec.specs.declared.MapNumber.{MapNumber}
 use Rattle.spec.specs.declared.TypeNumber.{TypeNumber}
 use Rattle.spec.specs.declared.Location.{Location}
 use Rattle.spec.specs.declared.TypeLine.{TypeLine}
-use Rattle.spec.specs.declared.TypeLine.the-variants.{Int, Ref, Lock, Tid, Sem}
+use Rattle.spec.specs.declared.TypeLine.the-variants.{Int, Ref, Lock, Tid, Sem, Rwlock}
 use Rattle.workspace.specs.Layout.{rowTypesAt, postsAt, startsAt, mapsAt, stride, emptyMap}
 use Rattle.workspace.specs.Sheets.{headerTold}
 use Rattle.workspace.specs.declared.Header.{Header as HeaderRead}
@@ -96,6 +96,10 @@ module _ (heading : Heading) {τ : TypeLine} where
   pub sem-parts : {k : MapNumber} → τ ≡ Sem k → text (typeFields heading τ ∷ []) ≡ bytes "sem," ++ line (map decimal (k .0 ∷ 0 ∷ [])) []
   unfolding bytes line text typeFields
   sem-parts e = rw e
+
+  pub rwlock-parts : {r w : MapNumber} → τ ≡ Rwlock r w → text (typeFields heading τ ∷ []) ≡ bytes "rwlock," ++ line (map decimal (r .0 ∷ w .0 ∷ [])) []
+  unfolding bytes line text typeFields
+  rwlock-parts e = rw e
 
 -- ------------------------------------------------------------------ rows
 

@@ -92,17 +92,12 @@ fn write_type(buffer: &mut [u8], at: usize, heading: Heading, of: TypeLine) -> u
         }
         TypeLine::Tid(load) => write_word(buffer, at, b"tid,", load.0, 0),
         TypeLine::Sem(load) => write_word(buffer, at, b"sem,", load.0, 0),
+        TypeLine::Rwlock(read, write) => write_word(buffer, at, b"rwlock,", read.0, write.0),
     }
 }
 
 // Writes the lines of so many types of a sheet with this heading.
-fn write_types(
-    buffer: &mut [u8],
-    at: usize,
-    work: &[u32],
-    heading: Heading,
-    types: usize,
-) -> usize
+fn write_types(buffer: &mut [u8], at: usize, work: &[u32], heading: Heading, types: usize) -> usize
     requires { ⌜ types < 4294967296 ⌝ }
     ensures { λ r. ⌜ Written (now (buffer .entry)) (now (buffer .exit)) at (text (map (typeFields heading) (inOrder (typeIn (now (work .entry))) 0 types))) r ⌝ }
 {

@@ -5,10 +5,11 @@ use Prim.Native.Nat.{ℕ, zero, suc, _+_, _≤_}
 use native.Mathlib.Omega.{arith}
 use lib.ListN.{length, getD}
 use Rattle.spec.specs.Split.{Map}
-use Rattle.spec.specs.Maps.{_+ᵐ_}
+use Rattle.spec.specs.Maps.{_+ᵐ_, _×ᵐ_}
 use Rattle.spec.specs.Figure5.{_⊒_, none, more}
 use Rattle.spec.specs.Accepted.{AtMost, none as nothing-over, more as and-more}
-use Rattle.calculus.specs.Capability.{Cap, _≥ᶜ_, _≈_⊕_}
+use Rattle.spec.proofs.Maps.{times-at}
+use Rattle.calculus.specs.Capability.{Cap, _×ᶜ_, _≥ᶜ_, _≈_⊕_}
 
 -- a map gives a number to each location; past its end it has nothing
 abbrev pub cap : Map → Cap
@@ -33,6 +34,10 @@ sum-at (a ∷ m) (b ∷ n) l (suc ρ) = sum-at m n (omega (arith, l)) ρ
 -- a map that is the sum of two as long as each other
 pub sum-cap : {s : Map} (m n : Map) → length m ≡ length n → m +ᵐ n ≡ s → cap s ≈ cap m ⊕ cap n
 sum-cap m n l e = record { at = λ ρ. rw (← e) (sum-at m n l ρ) }
+
+-- a map that is at least k times another
+pub times-cap : {s : Map} (k : ℕ) (m : Map) → s ⊒ k ×ᵐ m → cap s ≥ᶜ k ×ᶜ cap m
+times-cap k m c = record { at = λ ρ. omega (arith, covers-at c ρ, times-at k m ρ) }
 
 pub at-most-cap : {d : ℕ} {m : Map} → AtMost d m → (ρ : ℕ) → cap m ρ ≤ d
 at-most-cap nothing-over ρ = omega arith

@@ -12,14 +12,14 @@ use Rattle.spec.specs.Ranges.{InRange}
 use Rattle.spec.specs.Figure5 as own
 use Rattle.spec.specs.Accepted.{LocksTakeEnough}
 use Rattle.spec.specs.Maps.{share}
-use Rattle.spec.specs.declared.LeafWord.the-variants.{Newlock}
-use Rattle.spec.specs.declared.UnaryWord.the-variants.{Read, Unlock, Post}
+use Rattle.spec.specs.declared.LeafWord.the-variants.{Newlock, Newrwlock}
+use Rattle.spec.specs.declared.UnaryWord.the-variants.{Read, Unlock, Post, Rdunlock, Wrunlock}
 use Rattle.spec.specs.declared.BinaryWord.the-variants.{Spawn}
 use Rattle.calculus.specs.Capability.{_≥ᶜ_, _≈_⊕_}
-use Rattle.calculus.specs.Figure5.{_∣_∣_⊢_∶_∣_, VAR, INT, LET, IF, WHILE, NEWT, SPAWN, JOIN, REF, WRITE, READ, NEWL, LCK, ULCK, NEWSEM, POST, WAIT}
+use Rattle.calculus.specs.Figure5.{_∣_∣_⊢_∶_∣_, VAR, INT, LET, IF, WHILE, NEWT, SPAWN, JOIN, REF, WRITE, READ, NEWL, LCK, ULCK, NEWSEM, POST, WAIT, NEWRWLOCK, RDLOCK, RDUNLOCK, WRLOCK, WRUNLOCK}
 use Rattle.soundness.specs.Erasure.{erase}
-use Rattle.soundness.proofs.Capabilities.{cap, covers-cap, sum-cap}
-use Rattle.soundness.proofs.Types.{means, environment, agree-means, means-int, means-lock, means-tid, means-sem, means-ref, shown-means, post-wide, start-wide, lock-wide, tid-wide, sem-wide, variable-typed}
+use Rattle.soundness.proofs.Capabilities.{cap, covers-cap, sum-cap, times-cap}
+use Rattle.soundness.proofs.Types.{means, environment, agree-means, means-int, means-lock, means-tid, means-sem, means-rwlock, means-ref, shown-means, post-wide, start-wide, lock-wide, tid-wide, sem-wide, rwlock-wide, variable-typed}
 
 -- the variables in scope
 abbrev pub variables : conditions.Env → List ℕ
@@ -81,3 +81,25 @@ module _ {steps : List Step} (S : Split) (R : InRange steps S) (L : LocksTakeEno
       rw (means-int S R _ i)
       (WAIT (rw (means-sem S R _ K t) at (split-derivation-is-figure-5 d u))
       (sum-cap (post S e₁) (mapAt S K) (post-wide S R e₁ ∙ sym (sem-wide S R _ K t)) (sym m)))
+  split-derivation-is-figure-5 (own.NEWRWLOCK {k = k} {N = N} {Kr = Kr} {Kw = Kw} t c m) u =
+      let e = leaf Newrwlock k N in
+      rw (means-rwlock S R _ Kr Kw t)
+      (NEWRWLOCK (times-cap N (mapAt S Kr) c) (sum-cap (post S e) (mapAt S Kw) (post-wide S R e ∙ sym (rwlock-wide S R _ Kr Kw t .1)) m))
+  split-derivation-is-figure-5 (own.RDLOCK {Kr = Kr} {Kw = Kw} {e₁ = e₁} d t i m) u =
+      rw (means-int S R _ i)
+      (RDLOCK (rw (means-rwlock S R _ Kr Kw t) at (split-derivation-is-figure-5 d u))
+      (sum-cap (post S e₁) (mapAt S Kr) (post-wide S R e₁ ∙ sym (rwlock-wide S R _ Kr Kw t .0)) (sym m)))
+  split-derivation-is-figure-5 (own.RDUNLOCK {k = k} {v = v} {Kr = Kr} {Kw = Kw} {e₁ = e₁} d t i m) u =
+      let e = unary Rdunlock k v e₁ in
+      rw (means-int S R _ i)
+      (RDUNLOCK (rw (means-rwlock S R _ Kr Kw t) at (split-derivation-is-figure-5 d u))
+      (sum-cap (post S e) (mapAt S Kr) (post-wide S R e ∙ sym (rwlock-wide S R _ Kr Kw t .0)) m))
+  split-derivation-is-figure-5 (own.WRLOCK {Kr = Kr} {Kw = Kw} {e₁ = e₁} d t i m) u =
+      rw (means-int S R _ i)
+      (WRLOCK (rw (means-rwlock S R _ Kr Kw t) at (split-derivation-is-figure-5 d u))
+      (sum-cap (post S e₁) (mapAt S Kw) (post-wide S R e₁ ∙ sym (rwlock-wide S R _ Kr Kw t .1)) (sym m)))
+  split-derivation-is-figure-5 (own.WRUNLOCK {k = k} {v = v} {Kr = Kr} {Kw = Kw} {e₁ = e₁} d t i m) u =
+      let e = unary Wrunlock k v e₁ in
+      rw (means-int S R _ i)
+      (WRUNLOCK (rw (means-rwlock S R _ Kr Kw t) at (split-derivation-is-figure-5 d u))
+      (sum-cap (post S e) (mapAt S Kw) (post-wide S R e ∙ sym (rwlock-wide S R _ Kr Kw t .1)) m))

@@ -14,7 +14,7 @@ use Rattle.spec.specs.Expression.{Step, Expr, among}
 use Rattle.spec.specs.Split.{Row, Split}
 use Rattle.spec.specs.Conditions.{typeIn, lineOf, typeAt, mapAt, mayShow, row, type, post, startIn, start}
 use Rattle.spec.specs.Conditions as conditions
-use Rattle.spec.specs.Agreement.{int, lock, tid, sem, Tree, plain, ref, treeOf, tree, agree}
+use Rattle.spec.specs.Agreement.{int, lock, tid, sem, rwlock, Tree, plain, ref, treeOf, tree, agree}
 use Rattle.spec.specs.Ranges.{InRange}
 use Rattle.spec.specs.declared.TypeNumber.{TypeNumber}
 use Rattle.spec.specs.declared.MapNumber.{MapNumber}
@@ -25,7 +25,7 @@ use Rattle.spec.proofs.Clashes.{none-is-not-some}
 use Rattle.spec.proofs.Agreement.{agree-same-tree, numbered, tree-of-type}
 use Rattle.spec.proofs.Shown.{Shown, agreeing, looser, may-show-exactly}
 use Rattle.calculus.specs.Expression.{choose}
-use Rattle.calculus.specs.Figure5.{Ty, int-type, ref-type, lock-type, tid-type, sem-type, _shown-as_, as-it-is, looser as looser-lock, Env, empty, bind}
+use Rattle.calculus.specs.Figure5.{Ty, int-type, ref-type, lock-type, tid-type, sem-type, rwlock-type, _shown-as_, as-it-is, looser as looser-lock, Env, empty, bind}
 use Rattle.soundness.proofs.Capabilities.{cap, covers-cap}
 
 -- the type of the calculus that a tree is: its maps as capabilities
@@ -34,6 +34,7 @@ meaning (plain int ms) = int-type
 meaning (plain lock ms) = lock-type (cap (getD ms 0 [])) (cap (getD ms 1 []))
 meaning (plain tid ms) = tid-type (cap (getD ms 0 []))
 meaning (plain sem ms) = sem-type (cap (getD ms 0 []))
+meaning (plain rwlock ms) = rwlock-type (cap (getD ms 0 [])) (cap (getD ms 1 []))
 meaning (ref p c) = ref-type (p .0) (meaning c)
 
 module _ (S : Split) where
@@ -66,6 +67,10 @@ module _ {steps : List Step} (S : Split) (R : InRange steps S) where
   pub means-sem : (t : TypeNumber) (k : MapNumber) → typeAt S t ≡ type-line.Sem k → means S t ≡ sem-type (cap (mapAt S k))
   unfolding means meaning treeOf
   means-sem t k e = ap meaning (tree-of-type S R t (type-line.Sem k) e)
+
+  pub means-rwlock : (t : TypeNumber) (r w : MapNumber) → typeAt S t ≡ type-line.Rwlock r w → means S t ≡ rwlock-type (cap (mapAt S r)) (cap (mapAt S w))
+  unfolding means meaning treeOf
+  means-rwlock t r w e = ap meaning (tree-of-type S R t (type-line.Rwlock r w) e)
 
   -- what a var line may show is what a variable may be shown as
   pub shown-means : (t u : TypeNumber) → mayShow S t u ≡ true → means S u shown-as means S t
@@ -134,6 +139,13 @@ module _ {steps : List Step} (S : Split) (R : InRange steps S) where
   unfolding typeAt
   sem-wide t k e =
       map-wide k (R .semLoad (t .0) k (numbered S R t (type-line.Sem k) e (λ z. let clash : _≡_ {A = ℕ} 0 1 = cc in omega arith)) e)
+
+  pub rwlock-wide : (t : TypeNumber) (r w : MapNumber) → typeAt S t ≡ type-line.Rwlock r w
+      → (length (mapAt S r) ≡ S .header .locations) × (length (mapAt S w) ≡ S .header .locations)
+  unfolding typeAt
+  rwlock-wide t r w e =
+      let (first, second) = R .rwlockLoads (t .0) r w (numbered S R t (type-line.Rwlock r w) e (λ z. let clash : _≡_ {A = ℕ} 0 1 = cc in omega arith)) e in
+      (map-wide r first, map-wide w second)
 
   -- ------------------------------------------------------------------ variables
 

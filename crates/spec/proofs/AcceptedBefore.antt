@@ -24,8 +24,8 @@ use Rattle.spec.specs.declared.TypeLine.the-variants as type-line
 use Rattle.spec.specs.declared.Answer.{Answer}
 use Rattle.spec.specs.declared.Answer.the-variants.{Accept}
 use Rattle.spec.specs.declared.Refusal.the-variants.{ShortWorkspace, LongProgram, LongSplit}
-use Rattle.spec.specs.declared.LeafWord.the-variants.{Var, Int, Newtid, Newlock, Newsem}
-use Rattle.spec.specs.declared.UnaryWord.the-variants.{While, Join, Ref, Read, Lock, Unlock, Post, Wait}
+use Rattle.spec.specs.declared.LeafWord.the-variants.{Var, Int, Newtid, Newlock, Newsem, Newrwlock}
+use Rattle.spec.specs.declared.UnaryWord.the-variants.{While, Join, Ref, Read, Lock, Unlock, Post, Wait, Rdlock, Rdunlock, Wrlock, Wrunlock}
 use Rattle.spec.specs.declared.BinaryWord.the-variants.{Let, If, Spawn, Write}
 use Rattle.spec.proofs.Outcomes.{bind-goes-on, goes-on-bind}
 use Rattle.spec.proofs.Claims.{none-false-all-hold, all-hold-none-false, all-hold-parts, all-hold-append}
@@ -46,6 +46,7 @@ containsBefore (type-line.Ref p c) t = agreeBefore c t
 containsBefore (type-line.Lock i o) t = false
 containsBefore (type-line.Tid k) t = false
 containsBefore (type-line.Sem k) t = false
+containsBefore (type-line.Rwlock r w) t = false
 
 module _ (S : Split) where
   -- the rows of the table that compare two types; the others are as they were
@@ -74,8 +75,13 @@ module _ (S : Split) where
   ownBefore Γ pre (unary Lock k v e₁) = own S Γ pre (unary Lock k v e₁)
   ownBefore Γ pre (unary Unlock k v e₁) = own S Γ pre (unary Unlock k v e₁)
   ownBefore Γ pre (leaf Newsem k v) = own S Γ pre (leaf Newsem k v)
+  ownBefore Γ pre (leaf Newrwlock k v) = own S Γ pre (leaf Newrwlock k v)
   ownBefore Γ pre (unary Post k v e₁) = own S Γ pre (unary Post k v e₁)
   ownBefore Γ pre (unary Wait k v e₁) = own S Γ pre (unary Wait k v e₁)
+  ownBefore Γ pre (unary Rdlock k v e₁) = own S Γ pre (unary Rdlock k v e₁)
+  ownBefore Γ pre (unary Rdunlock k v e₁) = own S Γ pre (unary Rdunlock k v e₁)
+  ownBefore Γ pre (unary Wrlock k v e₁) = own S Γ pre (unary Wrlock k v e₁)
+  ownBefore Γ pre (unary Wrunlock k v e₁) = own S Γ pre (unary Wrunlock k v e₁)
 
   unfoldable pub claimsBefore : List Site → List Claim
   claimsBefore [] = []
@@ -115,6 +121,7 @@ module _ (S : Split) where
   contained (type-line.Lock i o) u h = h
   contained (type-line.Tid k) u h = h
   contained (type-line.Sem k) u h = h
+  contained (type-line.Rwlock r w) u h = h
 
   own-holds : (n i : ℕ) (Γ : Env) (pre : Map) (e : Expr) → AllHold (numbered n i (ownBefore S Γ pre e)) → AllHold (numbered n i (own S Γ pre e))
   unfolding AllHold Holds numbered ownBefore own
@@ -133,8 +140,13 @@ module _ (S : Split) where
   own-holds n i Γ pre (unary Lock k v e₁) h = h
   own-holds n i Γ pre (unary Unlock k v e₁) h = h
   own-holds n i Γ pre (leaf Newsem k v) h = h
+  own-holds n i Γ pre (leaf Newrwlock k v) h = h
   own-holds n i Γ pre (unary Post k v e₁) h = h
   own-holds n i Γ pre (unary Wait k v e₁) h = h
+  own-holds n i Γ pre (unary Rdlock k v e₁) h = h
+  own-holds n i Γ pre (unary Rdunlock k v e₁) h = h
+  own-holds n i Γ pre (unary Wrlock k v e₁) h = h
+  own-holds n i Γ pre (unary Wrunlock k v e₁) h = h
 
   claims-hold : (ss : List Site) → AllHold (claimsBefore S ss) → AllHold (claims S ss)
   unfolding claims claimsAt claimsBefore

@@ -15,12 +15,12 @@ use Rattle.spec.specs.Expression.{Step}
 use Rattle.spec.specs.Split.{Map, Split, typeAt, mapAt}
 use Rattle.spec.specs.Ranges.{InRange}
 use Rattle.spec.specs.Maps.{_=ᵐ_, nowhere, sameNumbers}
-use Rattle.spec.specs.Agreement.{Kind, int, lock, tid, sem, code, Tree, plain, ref, sameMaps, sameTree, treeOf, trees, tree, agree}
+use Rattle.spec.specs.Agreement.{Kind, int, lock, tid, sem, rwlock, code, Tree, plain, ref, sameMaps, sameTree, treeOf, trees, tree, agree}
 use Rattle.spec.specs.declared.TypeNumber.{TypeNumber}
 use Rattle.spec.specs.declared.MapNumber.{MapNumber}
 use Rattle.spec.specs.declared.Location.{Location}
 use Rattle.spec.specs.declared.TypeLine.{TypeLine}
-use Rattle.spec.specs.declared.TypeLine.the-variants.{Int, Ref, Lock, Tid, Sem}
+use Rattle.spec.specs.declared.TypeLine.the-variants.{Int, Ref, Lock, Tid, Sem, Rwlock}
 use Rattle.spec.proofs.Clashes.{true-is-not-false}
 use Rattle.spec.proofs.Tests.{both-true, and-true}
 use Rattle.spec.proofs.Maps.{nowhere-none, none-equal, equal-none}
@@ -59,7 +59,7 @@ same-maps-two a b m n = ap (λ x. sameNumbers a m && x) (and-true (sameNumbers b
 
 -- the kind with a code
 decoded : (n : ℕ) → Kind
-decoded n = getD (int ∷ lock ∷ tid ∷ sem ∷ []) n int
+decoded n = getD (int ∷ lock ∷ tid ∷ sem ∷ rwlock ∷ []) n int
 
 code-decoded : (k : Kind) → decoded (code k) ≡ k
 unfolding decoded code
@@ -67,6 +67,7 @@ code-decoded int = refl
 code-decoded lock = refl
 code-decoded tid = refl
 code-decoded sem = refl
+code-decoded rwlock = refl
 
 same-code-equal : (k l : Kind) → code k ≡ code l → k ≡ l
 same-code-equal k l e = sym (code-decoded k) ∙ ap decoded e ∙ code-decoded l
@@ -95,6 +96,7 @@ ContentBelow n (Ref p c) = c .0 < n
 ContentBelow n (Lock i o) = Unit {0}
 ContentBelow n (Tid k) = Unit {0}
 ContentBelow n (Sem k) = Unit {0}
+ContentBelow n (Rwlock r w) = Unit {0}
 
 -- ------------------------------------------------------------------ agreement
 
@@ -137,6 +139,7 @@ module _ (S : Split) where
   tree-of-more before xs (Lock i o) h = refl
   tree-of-more before xs (Tid k) h = refl
   tree-of-more before xs (Sem k) h = refl
+  tree-of-more before xs (Rwlock r w) h = refl
 
   trees-at : (before : List Tree) (xs : List TypeLine) (j : ℕ) → j < length xs → ContentBelow (length before + j) (getD xs j Int)
       → getD (trees S before xs) (length before + j) (plain int []) ≡ treeOf S (trees S before xs) (getD xs j Int)
@@ -203,6 +206,7 @@ module _ {steps : List Step} (S : Split) (R : InRange steps S) where
   content-below t (Lock i o) e = tt
   content-below t (Tid k) e = tt
   content-below t (Sem k) e = tt
+  content-below t (Rwlock r w) e = tt
 
   -- the tree of a type is that of its line, with its content among all the trees
   pub tree-of-type : (t : TypeNumber) (x : TypeLine) → typeAt S t ≡ x → tree S t ≡ treeOf S (trees S [] (S .types)) x
@@ -229,3 +233,9 @@ module _ {steps : List Step} (S : Split) (R : InRange steps S) where
     pub agree-sems : (k h : MapNumber) → typeAt S t ≡ Sem k → typeAt S u ≡ Sem h → agree S t u ≡ sameNumbers (mapAt S k) (mapAt S h)
     unfolding agree sameTree treeOf code
     agree-sems k h e g = rw (tree-of-type t (Sem k) e, tree-of-type u (Sem h) g) (same-maps-single (mapAt S k) (mapAt S h))
+
+    pub agree-rwlocks : (r w q x : MapNumber) → typeAt S t ≡ Rwlock r w → typeAt S u ≡ Rwlock q x
+        → agree S t u ≡ (sameNumbers (mapAt S r) (mapAt S q) && sameNumbers (mapAt S w) (mapAt S x))
+    unfolding agree sameTree treeOf code
+    agree-rwlocks r w q x e g =
+        rw (tree-of-type t (Rwlock r w) e, tree-of-type u (Rwlock q x) g) (same-maps-two (mapAt S r) (mapAt S w) (mapAt S q) (mapAt S x))

@@ -8,17 +8,17 @@ use borrow.Author.Tests.{leb-true, ltb-true}
 use Rattle.spec.specs.Reading.{on}
 use Rattle.spec.specs.Expression.{Expr, leaf, unary, binary}
 use Rattle.spec.specs.Split.{Map, Split}
-use Rattle.spec.specs.Conditions.{Env, type, post, start, K, inMap, outMap, own}
+use Rattle.spec.specs.Conditions.{Env, type, post, start, K, inMap, outMap, readMap, writeMap, own}
 use Rattle.spec.specs.Sites.{Site, sites, preOfPart, preOfSecond, bind, numbered, claimsAt, claims, firstFalse}
 use Rattle.spec.specs.FirstFalse.{Holds, AllHold}
-use Rattle.spec.specs.Figure5.{Derives, VAR, INT, LET, IF, WHILE, NEWT, SPAWN, JOIN, REF, WRITE, READ, NEWL, LCK, ULCK, NEWSEM, POST, WAIT}
+use Rattle.spec.specs.Figure5.{Derives, VAR, INT, LET, IF, WHILE, NEWT, SPAWN, JOIN, REF, WRITE, READ, NEWL, LCK, ULCK, NEWSEM, POST, WAIT, NEWRWLOCK, RDLOCK, RDUNLOCK, WRLOCK, WRUNLOCK}
 use Rattle.spec.specs.declared.LeafWord.{LeafWord}
-use Rattle.spec.specs.declared.LeafWord.the-variants.{Var, Int, Newtid, Newlock, Newsem}
+use Rattle.spec.specs.declared.LeafWord.the-variants.{Var, Int, Newtid, Newlock, Newsem, Newrwlock}
 use Rattle.spec.specs.declared.UnaryWord.{UnaryWord}
-use Rattle.spec.specs.declared.UnaryWord.the-variants.{While, Join, Ref, Read, Lock, Unlock, Post, Wait}
+use Rattle.spec.specs.declared.UnaryWord.the-variants.{While, Join, Ref, Read, Lock, Unlock, Post, Wait, Rdlock, Rdunlock, Wrlock, Wrunlock}
 use Rattle.spec.specs.declared.BinaryWord.{BinaryWord}
 use Rattle.spec.specs.declared.BinaryWord.the-variants.{Let, If, Spawn, Write}
-use Rattle.spec.proofs.TypeKinds.{is-int, is-tid, is-lock, is-sem, is-ref-of, int-is, tid-is, lock-is, sem-is, ref-is, ref-of-is, tid-load, lock-in, lock-out, sem-load, readable, writable}
+use Rattle.spec.proofs.TypeKinds.{is-int, is-tid, is-lock, is-sem, is-rwlock, is-ref-of, int-is, tid-is, lock-is, sem-is, rwlock-is, ref-is, ref-of-is, tid-load, lock-in, lock-out, sem-load, rwlock-read, rwlock-write, readable, writable}
 use Rattle.spec.proofs.Maps.{none-equal, none-covers, equal-none, covers-none}
 use Rattle.spec.proofs.Claims.{none-false-all-hold, all-hold-none-false, all-hold-parts, all-hold-append, claims-append}
 
@@ -67,7 +67,7 @@ module _ (S : Split) where
   -- ------------------------------------------------------------------ from conditions to a derivation
 
   holding-derives : (Γ : Env) (pre : Map) (e : Expr) → AllAt (sites S Γ pre e) → Derives S Γ pre e
-  unfolding AllHold Holds claimsAt numbered own preOfPart preOfSecond bind post start K inMap outMap
+  unfolding AllHold Holds claimsAt numbered own preOfPart preOfSecond bind post start K inMap outMap readMap writeMap
   holding-derives Γ pre (leaf Var k v) h =
       let c = leaf-own Γ pre Var k v h in
       VAR (c .0) (none-equal (c .1 .0))
@@ -109,6 +109,21 @@ module _ (S : Split) where
   holding-derives Γ pre (unary Wait k v e₁) h =
       let (c, h₁) = unary-own Γ pre Wait k v e₁ h in
       WAIT (holding-derives _ _ e₁ h₁) (is-sem _ (c .1 .0)) (is-int _ (c .0)) (none-equal (c .1 .1 .0))
+  holding-derives Γ pre (leaf Newrwlock k v) h =
+      let c = leaf-own Γ pre Newrwlock k v h in
+      NEWRWLOCK (is-rwlock _ (c .0)) (none-covers (c .1 .0)) (none-equal (c .1 .1 .0))
+  holding-derives Γ pre (unary Rdlock k v e₁) h =
+      let (c, h₁) = unary-own Γ pre Rdlock k v e₁ h in
+      RDLOCK (holding-derives _ _ e₁ h₁) (is-rwlock _ (c .1 .0)) (is-int _ (c .0)) (none-equal (c .1 .1 .0))
+  holding-derives Γ pre (unary Rdunlock k v e₁) h =
+      let (c, h₁) = unary-own Γ pre Rdunlock k v e₁ h in
+      RDUNLOCK (holding-derives _ _ e₁ h₁) (is-rwlock _ (c .1 .0)) (is-int _ (c .0)) (none-equal (c .1 .1 .0))
+  holding-derives Γ pre (unary Wrlock k v e₁) h =
+      let (c, h₁) = unary-own Γ pre Wrlock k v e₁ h in
+      WRLOCK (holding-derives _ _ e₁ h₁) (is-rwlock _ (c .1 .0)) (is-int _ (c .0)) (none-equal (c .1 .1 .0))
+  holding-derives Γ pre (unary Wrunlock k v e₁) h =
+      let (c, h₁) = unary-own Γ pre Wrunlock k v e₁ h in
+      WRUNLOCK (holding-derives _ _ e₁ h₁) (is-rwlock _ (c .1 .0)) (is-int _ (c .0)) (none-equal (c .1 .1 .0))
   holding-derives Γ pre (binary Let k v e₁ e₂) h =
       let (c, h₁, h₂) = binary-own Γ pre Let k v e₁ e₂ h in
       LET (holding-derives _ _ e₁ h₁) (holding-derives _ _ e₂ h₂) (c .0) (none-equal (c .1 .0))
@@ -145,7 +160,7 @@ module _ (S : Split) where
   binary-all Γ pre w k v e₁ e₂ c h₁ h₂ = parts-step _ _ c (parts-both (sites S Γ pre e₁) _ h₁ h₂)
 
   derived-holds : {Γ : Env} {Ψ : Map} {e : Expr} → Derives S Γ Ψ e → AllAt (sites S Γ Ψ e)
-  unfolding AllHold Holds claimsAt numbered own preOfPart preOfSecond bind post start K inMap outMap
+  unfolding AllHold Holds claimsAt numbered own preOfPart preOfSecond bind post start K inMap outMap readMap writeMap
   derived-holds {Γ} {Ψ} (VAR {k = k} {v = v} t p) =
       leaf-all Γ Ψ Var k v (t, (equal-none p, tt))
   derived-holds {Γ} {Ψ} (INT {k = k} {v = v} t p) =
@@ -186,6 +201,17 @@ module _ (S : Split) where
       unary-all Γ Ψ Post k v e₁ (int-is i, (sem-is t, (equal-none (rw (sem-load S t) p), tt))) (derived-holds d)
   derived-holds {Γ} {Ψ} (WAIT {k = k} {v = v} {e₁ = e₁} d t i p) =
       unary-all Γ Ψ Wait k v e₁ (int-is i, (sem-is t, (equal-none (rw (sem-load S t) p), tt))) (derived-holds d)
+  derived-holds {Γ} {Ψ} (NEWRWLOCK {k = k} {N = N} t c p) =
+      leaf-all Γ Ψ Newrwlock k N
+      (rwlock-is t, (covers-none (rw (rwlock-write S t, rwlock-read S t) c), (equal-none (rw (rwlock-write S t) p), tt)))
+  derived-holds {Γ} {Ψ} (RDLOCK {k = k} {v = v} {e₁ = e₁} d t i p) =
+      unary-all Γ Ψ Rdlock k v e₁ (int-is i, (rwlock-is t, (equal-none (rw (rwlock-read S t) p), tt))) (derived-holds d)
+  derived-holds {Γ} {Ψ} (RDUNLOCK {k = k} {v = v} {e₁ = e₁} d t i p) =
+      unary-all Γ Ψ Rdunlock k v e₁ (int-is i, (rwlock-is t, (equal-none (rw (rwlock-read S t) p), tt))) (derived-holds d)
+  derived-holds {Γ} {Ψ} (WRLOCK {k = k} {v = v} {e₁ = e₁} d t i p) =
+      unary-all Γ Ψ Wrlock k v e₁ (int-is i, (rwlock-is t, (equal-none (rw (rwlock-write S t) p), tt))) (derived-holds d)
+  derived-holds {Γ} {Ψ} (WRUNLOCK {k = k} {v = v} {e₁ = e₁} d t i p) =
+      unary-all Γ Ψ Wrunlock k v e₁ (int-is i, (rwlock-is t, (equal-none (rw (rwlock-write S t) p), tt))) (derived-holds d)
 
   -- ------------------------------------------------------------------ the theorem, both ways
 

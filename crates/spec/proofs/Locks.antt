@@ -34,6 +34,7 @@ module _ (S : Split) where
   enough-line (type-line.Lock i o) h = none-nowhere (mapAt S o ≥ᵐ mapAt S i) (covers-none (h i o refl))
   enough-line (type-line.Tid k) h = refl
   enough-line (type-line.Sem k) h = refl
+  enough-line (type-line.Rwlock r w) h = refl
 
   all-enough : {t : Unit {0}} (k : ℕ) (xs : List TypeLine) → allTakeEnough S k xs ≡ on t → (n : ℕ) → Enough (getD xs n type-line.Int)
   unfolding allTakeEnough

@@ -3,14 +3,15 @@ use mathlib.Core.Path.{_≡_, refl, sym, _∙_}
 use mathlib.Core.List.{[], _∷_}
 use mathlib.Core.Bool.{Bool, true, false}
 use mathlib.Core.Option.{Option, none, some}
-use Prim.Native.Nat.{ℕ, zero, suc, _+_, _<_, _≤_, max}
+use Prim.Native.Nat.{ℕ, zero, suc, _+_, _*_, _<_, _≤_, max}
+use native.Mathlib.Nat.{mul-zero}
 use native.Mathlib.Omega.{arith}
 use lib.Dec.{eqb, leb}
 use lib.ListN.{length, getD}
 use borrow.Author.Tests.{eqb-true, leb-true, leb-false, eq-eqb, le-leb}
 use Rattle.spec.specs.Choice.{if_then_else_}
 use Rattle.spec.specs.Split.{Map}
-use Rattle.spec.specs.Maps.{lowest, atLeast, _=ᵐ_, _≥ᵐ_, nowhere, overWhole}
+use Rattle.spec.specs.Maps.{lowest, atLeast, _=ᵐ_, _≥ᵐ_, nowhere, _×ᵐ_, overWhole}
 use Rattle.spec.specs.Figure5.{_⊒_, none as none⊒, more as more⊒}
 use Rattle.spec.specs.Accepted.{AtMost, none as noneAtMost, more as moreAtMost}
 use Rattle.spec.proofs.Clashes.{true-is-not-false, none-is-not-some, not-true-false}
@@ -79,6 +80,12 @@ covers-none c = covers-lowest-none 0 c
 pub covers-itself : (m : Map) → m ⊒ m
 covers-itself [] = none⊒
 covers-itself (a ∷ m) = more⊒ {a = a} {b = a} (omega arith) (covers-itself m)
+
+pub times-at : (k : ℕ) (m : Map) (i : ℕ) → getD (k ×ᵐ m) i 0 ≡ k * getD m i 0
+unfolding _×ᵐ_
+times-at k [] i = sym (mul-zero k)
+times-at k (a ∷ m) zero = refl
+times-at k (a ∷ m) (suc i) = times-at k m i
 
 pub none-at-most : (d i : ℕ) (m : Map) → overWhole d i m ≡ none → AtMost d m
 unfolding overWhole

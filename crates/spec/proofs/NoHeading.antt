@@ -11,7 +11,7 @@ use Rattle.spec.specs.Expression.{Expr, leaf, unary, binary}
 use Rattle.spec.specs.Program.{Program}
 use Rattle.spec.specs.Split.{Map, Header, Split}
 use Rattle.spec.specs.Agreement.{Tree, plain, int, sameTree, treeOf, trees, tree, agree}
-use Rattle.spec.specs.Conditions.{Condition, T, Env, typeAt, mapAt, startMap, isLock, contains, looserLock, mayShow, row, type, kind, post, startIn, start, K, inMap, outMap, own}
+use Rattle.spec.specs.Conditions.{Condition, T, Env, typeAt, mapAt, startMap, isLock, contains, looserLock, mayShow, row, type, kind, post, startIn, start, K, inMap, outMap, readMap, writeMap, own}
 use Rattle.spec.specs.Sites.{Site, preOfPart, preOfSecond, bind, sites, claimsAt, claims, firstFalse}
 use Rattle.spec.specs.Verdict.{takesEnough, allTakeEnough, locksTakeEnough, startAtMostOne, ruled}
 use Rattle.spec.specs.declared.Heading.{Heading}
@@ -20,8 +20,8 @@ use Rattle.spec.specs.declared.TypeNumber.{TypeNumber}
 use Rattle.spec.specs.declared.TypeLine.{TypeLine}
 use Rattle.spec.specs.declared.TypeLine.the-variants as type-line
 use Rattle.spec.specs.declared.Refusal.the-variants.{LockTakesLess}
-use Rattle.spec.specs.declared.LeafWord.the-variants.{Var, Int, Newtid, Newlock, Newsem}
-use Rattle.spec.specs.declared.UnaryWord.the-variants.{While, Join, Ref, Read, Lock, Unlock, Post, Wait}
+use Rattle.spec.specs.declared.LeafWord.the-variants.{Var, Int, Newtid, Newlock, Newsem, Newrwlock}
+use Rattle.spec.specs.declared.UnaryWord.the-variants.{While, Join, Ref, Read, Lock, Unlock, Post, Wait, Rdlock, Rdunlock, Wrlock, Wrunlock}
 use Rattle.spec.specs.declared.BinaryWord.the-variants.{Let, If, Spawn, Write}
 
 -- a header, and a split, under another heading
@@ -52,6 +52,7 @@ module _ (h : Heading) (S : Split) where
   same-tree-of before (type-line.Lock i o) = refl
   same-tree-of before (type-line.Tid k) = refl
   same-tree-of before (type-line.Sem k) = refl
+  same-tree-of before (type-line.Rwlock r w) = refl
 
   same-trees : (before : List Tree) (xs : List TypeLine) → trees (under h S) before xs ≡ trees S before xs
   unfolding trees
@@ -72,6 +73,7 @@ module _ (h : Heading) (S : Split) where
   same-contains (type-line.Lock i o) t = refl
   same-contains (type-line.Tid k) t = refl
   same-contains (type-line.Sem k) t = refl
+  same-contains (type-line.Rwlock r w) t = refl
 
   same-may-show : (t u : TypeNumber) → mayShow (under h S) t u ≡ mayShow S t u
   unfolding mayShow looserLock typeAt mapAt under
@@ -85,6 +87,7 @@ module _ (h : Heading) (S : Split) where
   same-enough (type-line.Lock i o) = refl
   same-enough (type-line.Tid k) = refl
   same-enough (type-line.Sem k) = refl
+  same-enough (type-line.Rwlock r w) = refl
 
   same-all-enough : (k : ℕ) (xs : List TypeLine) → allTakeEnough (under h S) k xs ≡ allTakeEnough S k xs
   unfolding allTakeEnough
@@ -112,12 +115,13 @@ module _ (h : Heading) (S : Split) where
   same-start-in (some m) = refl
 
   same-own : (Γ : Env) (pre : Map) (e : Expr) → own (under h S) Γ pre e ≡ own S Γ pre e
-  unfolding own row type kind post start startIn K inMap outMap typeAt mapAt under headedAs
+  unfolding own row type kind post start startIn K inMap outMap readMap writeMap typeAt mapAt under headedAs
   same-own Γ pre (leaf Var k v) = at-first _ (same-may-show _ _)
   same-own Γ pre (leaf Int k v) = refl
   same-own Γ pre (leaf Newtid k v) = refl
   same-own Γ pre (leaf Newlock k v) = refl
   same-own Γ pre (leaf Newsem k v) = refl
+  same-own Γ pre (leaf Newrwlock k v) = refl
   same-own Γ pre (unary While k v e₁) = refl
   same-own Γ pre (unary Join k v e₁) = refl
   same-own Γ pre (unary Ref k v e₁) = at-first _ (same-contains _ _)
@@ -126,6 +130,10 @@ module _ (h : Heading) (S : Split) where
   same-own Γ pre (unary Unlock k v e₁) = refl
   same-own Γ pre (unary Post k v e₁) = refl
   same-own Γ pre (unary Wait k v e₁) = refl
+  same-own Γ pre (unary Rdlock k v e₁) = refl
+  same-own Γ pre (unary Rdunlock k v e₁) = refl
+  same-own Γ pre (unary Wrlock k v e₁) = refl
+  same-own Γ pre (unary Wrunlock k v e₁) = refl
   same-own Γ pre (binary Let k v e₁ e₂) = at-first _ (same-agree _ _)
   same-own Γ pre (binary If k v e₁ e₂) = at-first _ (same-agree _ _) ∙ later _ (at-first _ (same-agree _ _))
   same-own Γ pre (binary Spawn k v e₁ e₂) = rw (same-start-in (row S (binary Spawn k v e₁ e₂) .start))

@@ -13,7 +13,7 @@ use Rattle.spec.specs.Choice.{if_then_else_}
 use Rattle.spec.specs.Text.{Line, bytes, same, Field, lookUp, numeral}
 use Rattle.spec.specs.Reading.{Fault, badForm, badRange, noStart, Seen, right, wrong, seen, insist, Range, _to_, below, inRange, allInRange, withNumeral, numerals, ranged, numbers}
 use Rattle.spec.specs.Expression.{Step}
-use Rattle.spec.specs.Split.{Map, Header, headings, headerRanges, mapsOf, mapsIn, startOf, headerOf, headed, headerLine, refOf, lockOf, outRange, tidOf, semOf, typeLine, typeLines, mapLine, Row, rowOf, startGiven, takesStart, startRange, postRange, postField, rowLine, Split}
+use Rattle.spec.specs.Split.{Map, Header, headings, headerRanges, mapsOf, mapsIn, startOf, headerOf, headed, headerLine, refOf, lockOf, outRange, tidOf, semOf, rwlockOf, typeLine, typeLines, mapLine, Row, rowOf, startGiven, takesStart, startRange, postRange, postField, rowLine, Split}
 use Rattle.spec.specs.WellFormed.{Shows, nothing, line, WellFormedSplit}
 use Rattle.spec.specs.declared.Purpose.{Purpose}
 use Rattle.spec.specs.declared.Purpose.the-variants.{Check, Fill}
@@ -193,6 +193,7 @@ TypeFits H own (type-line.Ref p c) = (p .0 < H .locations) × (c .0 < own)
 TypeFits H own (type-line.Lock i o) = (i .0 < H .maps) × (o .0 < H .maps)
 TypeFits H own (type-line.Tid k) = k .0 < H .maps
 TypeFits H own (type-line.Sem k) = k .0 < H .maps
+TypeFits H own (type-line.Rwlock r w) = (r .0 < H .maps) × (w .0 < H .maps)
 
 module _ (H : Header) (own : ℕ) (fs : List Field) where
   int-fits : (t : TypeLine) → seen (λ ns. type-line.Int) (numbers ((0 to 0) ∷ (0 to 0) ∷ []) fs) ≡ right t → TypeFits H own t
@@ -231,6 +232,13 @@ module _ (H : Header) (own : ℕ) (fs : List Field) where
       let (ns, n, e) = seen-right _ h in
       along (TypeFits H own) e (in-below _ _ (in-range-at (below (H .maps) ∷ (0 to 0) ∷ []) fs ns n 0 (omega arith)))
 
+  rwlock-fits : (t : TypeLine) → seen rwlockOf (numbers (below (H .maps) ∷ below (H .maps) ∷ []) fs) ≡ right t → TypeFits H own t
+  unfolding rwlockOf TypeFits
+  rwlock-fits t h =
+      let (ns, n, e) = seen-right _ h in
+      let at = in-range-at (below (H .maps) ∷ below (H .maps) ∷ []) fs ns n in
+      along (TypeFits H own) e (in-below _ _ (at 0 (omega arith)), in-below _ _ (at 1 (omega arith)))
+
 type-fits : (H : Header) (own : ℕ) (fs : List Field) (t : TypeLine) → typeLine H own fs ≡ right t → TypeFits H own t
 unfolding typeLine
 type-fits H own [] t h = wrong-is-not-right h
@@ -240,7 +248,8 @@ type-fits H own (f ∷ fs) t h =
     (either-right fits (same f (bytes "ref")) _ _ (ref-fits H own fs)
     (either-right fits (same f (bytes "lock")) _ _ (lock-fits H own fs (H .heading))
     (either-right fits (same f (bytes "tid")) _ _ (tid-fits H own fs)
-    (either-right fits (same f (bytes "sem")) _ _ (sem-fits H own fs) (λ t h. wrong-is-not-right h))))) t h
+    (either-right fits (same f (bytes "sem")) _ _ (sem-fits H own fs)
+    (either-right fits (same f (bytes "rwlock")) _ _ (rwlock-fits H own fs) (λ t h. wrong-is-not-right h)))))) t h
 
 types-fit : (H : Header) (own n : ℕ) {ls rest : List Line} {ts : List TypeLine} → Shows (typeLines H own n) ls ts rest
     → (length ts ≡ n) × ((t : ℕ) → t < length ts → TypeFits H (own + t) (getD ts t type-line.Int))
@@ -359,6 +368,7 @@ well-formed-in-range {purpose} {steps} {text} {S} F =
       lockLoads = λ t i o h e. let (first, second) = fits t (type-line.Lock i o) h e in (omega (arith, mapsCounted, first), omega (arith, mapsCounted, second));
       tidLoad = λ t k h e. omega (arith, mapsCounted, fits t (type-line.Tid k) h e);
       semLoad = λ t k h e. omega (arith, mapsCounted, fits t (type-line.Sem k) h e);
+      rwlockLoads = λ t r w h e. let (first, second) = fits t (type-line.Rwlock r w) h e in (omega (arith, mapsCounted, first), omega (arith, mapsCounted, second));
       rowType = λ i d h. omega (arith, typesCounted, rows i d h .0);
       rowPost = λ i d h. omega (arith, mapsCounted, rows i d h .1);
       rowStart = λ i d m h e. omega (arith, mapsCounted, along (StartFits H) e (rows i d h .2));

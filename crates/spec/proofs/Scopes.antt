@@ -11,7 +11,7 @@ use Rattle.spec.specs.Reading.{Out, stop, on, _>>=_}
 use Rattle.spec.specs.Expression.{Expr, leaf, unary, binary, among, scope}
 use Rattle.spec.specs.WellFormed.{binders, Distinct, UsedInside}
 use Rattle.spec.specs.declared.Refusal.{Refusal}
-use Rattle.spec.specs.declared.LeafWord.the-variants.{Var, Int, Newtid, Newlock, Newsem}
+use Rattle.spec.specs.declared.LeafWord.the-variants.{Var, Int, Newtid, Newlock, Newsem, Newrwlock}
 use Rattle.spec.specs.declared.BinaryWord.the-variants.{Let, If, Spawn, Write}
 use Rattle.spec.proofs.Clashes.{true-is-not-false}
 use Rattle.spec.proofs.Tests.{eqb-sym}
@@ -115,6 +115,7 @@ walk (leaf Int k v) inside bound b h = (sym (on-injective h), tt, tt)
 walk (leaf Newtid k v) inside bound b h = (sym (on-injective h), tt, tt)
 walk (leaf Newlock k v) inside bound b h = (sym (on-injective h), tt, tt)
 walk (leaf Newsem k v) inside bound b h = (sym (on-injective h), tt, tt)
+walk (leaf Newrwlock k v) inside bound b h = (sym (on-injective h), tt, tt)
 walk (unary w k v e) inside bound b h = walk e inside bound b h
 walk (binary Let k v e₁ e₂) inside bound b h =
     let (new, rest) = bound-goes-on _ _ _ h in
@@ -141,6 +142,7 @@ walked (leaf Int k v) inside bound used new = refl
 walked (leaf Newtid k v) inside bound used new = refl
 walked (leaf Newlock k v) inside bound used new = refl
 walked (leaf Newsem k v) inside bound used new = refl
+walked (leaf Newrwlock k v) inside bound used new = refl
 walked (unary w k v e) inside bound used new = walked e inside bound used new
 walked (binary Let k v e₁ e₂) inside bound used new =
     rw (new .0)

@@ -7,12 +7,12 @@ use borrow.Author.Tests.{le-leb, lt-ltb}
 use Rattle.spec.specs.Split.{Map, Split}
 use Rattle.spec.specs.Maps.{share}
 use Rattle.spec.specs.Agreement.{agree}
-use Rattle.spec.specs.Conditions.{isInt, isRef, isLock, isTid, isSem, place, load, inLoad, outLoad, contains, mapAt}
+use Rattle.spec.specs.Conditions.{isInt, isRef, isLock, isTid, isSem, isRwlock, place, load, inLoad, outLoad, readLoad, writeLoad, contains, mapAt}
 use Rattle.spec.specs.declared.TypeNumber.{TypeNumber}
 use Rattle.spec.specs.declared.MapNumber.{MapNumber}
 use Rattle.spec.specs.declared.Location.{Location}
 use Rattle.spec.specs.declared.TypeLine.{TypeLine}
-use Rattle.spec.specs.declared.TypeLine.the-variants.{Int, Ref, Lock, Tid, Sem}
+use Rattle.spec.specs.declared.TypeLine.the-variants.{Int, Ref, Lock, Tid, Sem, Rwlock}
 use Rattle.spec.proofs.Clashes.{true-is-not-false}
 
 -- ------------------------------------------------------------------ from a test to a type
@@ -24,6 +24,7 @@ is-int (Ref p c) h = cc
 is-int (Lock i o) h = cc
 is-int (Tid k) h = cc
 is-int (Sem k) h = cc
+is-int (Rwlock r w) h = cc
 
 pub is-tid : (t : TypeLine) → isTid t ≡ true → t ≡ Tid (load t)
 unfolding isTid load
@@ -32,6 +33,7 @@ is-tid (Ref p c) h = cc
 is-tid (Lock i o) h = cc
 is-tid (Tid k) h = refl
 is-tid (Sem k) h = cc
+is-tid (Rwlock r w) h = cc
 
 pub is-lock : (t : TypeLine) → isLock t ≡ true → t ≡ Lock (inLoad t) (outLoad t)
 unfolding isLock inLoad outLoad
@@ -40,6 +42,7 @@ is-lock (Ref p c) h = cc
 is-lock (Lock i o) h = refl
 is-lock (Tid k) h = cc
 is-lock (Sem k) h = cc
+is-lock (Rwlock r w) h = cc
 
 pub is-sem : (t : TypeLine) → isSem t ≡ true → t ≡ Sem (load t)
 unfolding isSem load
@@ -48,6 +51,16 @@ is-sem (Ref p c) h = cc
 is-sem (Lock i o) h = cc
 is-sem (Tid k) h = cc
 is-sem (Sem k) h = refl
+is-sem (Rwlock r w) h = cc
+
+pub is-rwlock : (t : TypeLine) → isRwlock t ≡ true → t ≡ Rwlock (readLoad t) (writeLoad t)
+unfolding isRwlock readLoad writeLoad
+is-rwlock Int h = cc
+is-rwlock (Ref p c) h = cc
+is-rwlock (Lock i o) h = cc
+is-rwlock (Tid k) h = cc
+is-rwlock (Sem k) h = cc
+is-rwlock (Rwlock r w) h = refl
 
 -- a ref type, and its content agrees
 pub is-ref-of : (S : Split) (t : TypeLine) (u : TypeNumber) → contains S t u ≡ true
@@ -58,6 +71,7 @@ is-ref-of S (Ref p c) u h = (c, refl, h)
 is-ref-of S (Lock i o) u h = true-is-not-false (sym h)
 is-ref-of S (Tid k) u h = true-is-not-false (sym h)
 is-ref-of S (Sem k) u h = true-is-not-false (sym h)
+is-ref-of S (Rwlock r w) u h = true-is-not-false (sym h)
 
 -- ------------------------------------------------------------------ from a type to a test
 
@@ -76,6 +90,10 @@ lock-is e = rw e
 pub sem-is : {t : TypeLine} {k : MapNumber} → t ≡ Sem k → isSem t ≡ true
 unfolding isSem
 sem-is e = rw e
+
+pub rwlock-is : {t : TypeLine} {r w : MapNumber} → t ≡ Rwlock r w → isRwlock t ≡ true
+unfolding isRwlock
+rwlock-is e = rw e
 
 pub ref-is : {t : TypeLine} {p : Location} {c : TypeNumber} → t ≡ Ref p c → isRef t ≡ true
 unfolding isRef
@@ -100,6 +118,14 @@ lock-out S e = rw e
 pub sem-load : (S : Split) {t : TypeLine} {k : MapNumber} → t ≡ Sem k → mapAt S (load t) ≡ mapAt S k
 unfolding load
 sem-load S e = rw e
+
+pub rwlock-read : (S : Split) {t : TypeLine} {r w : MapNumber} → t ≡ Rwlock r w → mapAt S (readLoad t) ≡ mapAt S r
+unfolding readLoad
+rwlock-read S e = rw e
+
+pub rwlock-write : (S : Split) {t : TypeLine} {r w : MapNumber} → t ≡ Rwlock r w → mapAt S (writeLoad t) ≡ mapAt S w
+unfolding writeLoad
+rwlock-write S e = rw e
 
 pub ref-place : {t : TypeLine} {p : Location} {c : TypeNumber} → t ≡ Ref p c → place t ≡ p
 unfolding place

@@ -10,19 +10,20 @@ use Rattle.spec.specs.Maps.{sameNumbers}
 use Rattle.spec.specs.declared.TypeNumber.{TypeNumber}
 use Rattle.spec.specs.declared.Location.{Location}
 use Rattle.spec.specs.declared.TypeLine.{TypeLine}
-use Rattle.spec.specs.declared.TypeLine.the-variants.{Int, Ref, Lock, Tid, Sem}
+use Rattle.spec.specs.declared.TypeLine.the-variants.{Int, Ref, Lock, Tid, Sem, Rwlock}
 
 -- ------------------------------------------------------------------ types as trees
 
 -- the kinds of type without a content, each with a code of its own
 pub data Kind : Type 0 where
-  int lock tid sem : Kind
+  int lock tid sem rwlock : Kind
 
 unfoldable pub code : Kind → ℕ
 code int = 0
 code lock = 1
 code tid = 2
 code sem = 3
+code rwlock = 4
 
 -- a type without a content has the maps of its line, in their order; a ref has a location and a content
 pub data Tree : Type 0 where
@@ -53,6 +54,7 @@ module _ (S : Split) where
   treeOf before (Lock i o) = plain lock (mapAt S i ∷ mapAt S o ∷ [])
   treeOf before (Tid k) = plain tid (mapAt S k ∷ [])
   treeOf before (Sem k) = plain sem (mapAt S k ∷ [])
+  treeOf before (Rwlock r w) = plain rwlock (mapAt S r ∷ mapAt S w ∷ [])
 
   -- the trees of the lines before, then those of the lines given, one after the other
   unfoldable pub trees : (before : List Tree) → List TypeLine → List Tree

@@ -11,7 +11,7 @@ use Rattle.spec.specs.Expression.{Expr, leaf, unary, binary}
 use Rattle.spec.specs.Split.{Map, Row, Split}
 unfoldable pub use Rattle.spec.specs.Split.{typeAt, mapAt}
 use Rattle.spec.specs.Agreement.{agree}
-use Rattle.spec.specs.Maps.{_=ᵐ_, _≥ᵐ_, nowhere, _+ᵐ_, share, overWhole}
+use Rattle.spec.specs.Maps.{_=ᵐ_, _≥ᵐ_, nowhere, _+ᵐ_, _×ᵐ_, share, overWhole}
 use Rattle.spec.specs.declared.TypeNumber.{TypeNumber}
 use Rattle.spec.specs.declared.MapNumber.{MapNumber}
 use Rattle.spec.specs.declared.Location.{Location}
@@ -19,9 +19,9 @@ use Rattle.spec.specs.declared.TypeLine.{TypeLine}
 use Rattle.spec.specs.declared.TypeLine.the-variants as type-line
 use Rattle.spec.specs.declared.Refusal.{Refusal}
 use Rattle.spec.specs.declared.Refusal.the-variants.{TypeFalse, FlowFalse, AccessFalse}
-use Rattle.spec.specs.declared.LeafWord.the-variants.{Var, Int, Newtid, Newlock, Newsem}
+use Rattle.spec.specs.declared.LeafWord.the-variants.{Var, Int, Newtid, Newlock, Newsem, Newrwlock}
 use Rattle.spec.specs.declared.UnaryWord.{UnaryWord}
-use Rattle.spec.specs.declared.UnaryWord.the-variants.{While, Join, Ref, Read, Lock, Unlock, Post, Wait}
+use Rattle.spec.specs.declared.UnaryWord.the-variants.{While, Join, Ref, Read, Lock, Unlock, Post, Wait, Rdlock, Rdunlock, Wrlock, Wrunlock}
 use Rattle.spec.specs.declared.BinaryWord.{BinaryWord}
 use Rattle.spec.specs.declared.BinaryWord.the-variants.{Let, If, Spawn, Write}
 
@@ -33,6 +33,7 @@ isInt (type-line.Ref p c) = false
 isInt (type-line.Lock i o) = false
 isInt (type-line.Tid k) = false
 isInt (type-line.Sem k) = false
+isInt (type-line.Rwlock r w) = false
 
 unfoldable pub isRef : TypeLine → Bool
 isRef type-line.Int = false
@@ -40,6 +41,7 @@ isRef (type-line.Ref p c) = true
 isRef (type-line.Lock i o) = false
 isRef (type-line.Tid k) = false
 isRef (type-line.Sem k) = false
+isRef (type-line.Rwlock r w) = false
 
 unfoldable pub isLock : TypeLine → Bool
 isLock type-line.Int = false
@@ -47,6 +49,7 @@ isLock (type-line.Ref p c) = false
 isLock (type-line.Lock i o) = true
 isLock (type-line.Tid k) = false
 isLock (type-line.Sem k) = false
+isLock (type-line.Rwlock r w) = false
 
 unfoldable pub isTid : TypeLine → Bool
 isTid type-line.Int = false
@@ -54,6 +57,7 @@ isTid (type-line.Ref p c) = false
 isTid (type-line.Lock i o) = false
 isTid (type-line.Tid k) = true
 isTid (type-line.Sem k) = false
+isTid (type-line.Rwlock r w) = false
 
 unfoldable pub isSem : TypeLine → Bool
 isSem type-line.Int = false
@@ -61,6 +65,15 @@ isSem (type-line.Ref p c) = false
 isSem (type-line.Lock i o) = false
 isSem (type-line.Tid k) = false
 isSem (type-line.Sem k) = true
+isSem (type-line.Rwlock r w) = false
+
+unfoldable pub isRwlock : TypeLine → Bool
+isRwlock type-line.Int = false
+isRwlock (type-line.Ref p c) = false
+isRwlock (type-line.Lock i o) = false
+isRwlock (type-line.Tid k) = false
+isRwlock (type-line.Sem k) = false
+isRwlock (type-line.Rwlock r w) = true
 
 -- p of a ref type; it is asked for only where the type is a ref
 unfoldable pub place : TypeLine → Location
@@ -69,6 +82,7 @@ place (type-line.Ref p c) = p
 place (type-line.Lock i o) = record { 0 = 0 }
 place (type-line.Tid k) = record { 0 = 0 }
 place (type-line.Sem k) = record { 0 = 0 }
+place (type-line.Rwlock r w) = record { 0 = 0 }
 
 -- K of a tid or sem type; it is asked for only where the type is one
 unfoldable pub load : TypeLine → MapNumber
@@ -77,6 +91,7 @@ load (type-line.Ref p c) = record { 0 = 0 }
 load (type-line.Lock i o) = record { 0 = 0 }
 load (type-line.Tid k) = k
 load (type-line.Sem k) = k
+load (type-line.Rwlock r w) = record { 0 = 0 }
 
 -- in and out of a lock type; they are asked for only where the type is one
 unfoldable pub inLoad : TypeLine → MapNumber
@@ -85,6 +100,7 @@ inLoad (type-line.Ref p c) = record { 0 = 0 }
 inLoad (type-line.Lock i o) = i
 inLoad (type-line.Tid k) = record { 0 = 0 }
 inLoad (type-line.Sem k) = record { 0 = 0 }
+inLoad (type-line.Rwlock r w) = record { 0 = 0 }
 
 unfoldable pub outLoad : TypeLine → MapNumber
 outLoad type-line.Int = record { 0 = 0 }
@@ -92,6 +108,24 @@ outLoad (type-line.Ref p c) = record { 0 = 0 }
 outLoad (type-line.Lock i o) = o
 outLoad (type-line.Tid k) = record { 0 = 0 }
 outLoad (type-line.Sem k) = record { 0 = 0 }
+outLoad (type-line.Rwlock r w) = record { 0 = 0 }
+
+-- r and w of a rwlock type, what a reader and what a writer takes; they are asked for only where the type is one
+unfoldable pub readLoad : TypeLine → MapNumber
+readLoad type-line.Int = record { 0 = 0 }
+readLoad (type-line.Ref p c) = record { 0 = 0 }
+readLoad (type-line.Lock i o) = record { 0 = 0 }
+readLoad (type-line.Tid k) = record { 0 = 0 }
+readLoad (type-line.Sem k) = record { 0 = 0 }
+readLoad (type-line.Rwlock r w) = r
+
+unfoldable pub writeLoad : TypeLine → MapNumber
+writeLoad type-line.Int = record { 0 = 0 }
+writeLoad (type-line.Ref p c) = record { 0 = 0 }
+writeLoad (type-line.Lock i o) = record { 0 = 0 }
+writeLoad (type-line.Tid k) = record { 0 = 0 }
+writeLoad (type-line.Sem k) = record { 0 = 0 }
+writeLoad (type-line.Rwlock r w) = w
 
 -- ------------------------------------------------------------------ conditions
 
@@ -128,6 +162,7 @@ module _ (S : Split) where
   contains (type-line.Lock i o) t = false
   contains (type-line.Tid k) t = false
   contains (type-line.Sem k) t = false
+  contains (type-line.Rwlock r w) t = false
 
   -- of two lock types: the in of the first is nowhere above that of the second, its out nowhere below
   unfoldable pub looserLock : (shown own : TypeLine) → Bool
@@ -146,7 +181,7 @@ module _ (S : Split) where
   row e = getD (S .rows) (lineOf e - 2) (record { type = record { 0 = 0 }; post = record { 0 = 0 }; start = none })
 
   -- of an expression: its type by number, that type's line, its post, the map that a spawned body starts with, K of its type, in
-  -- and out of its type
+  -- and out of its lock type, r and w of its rwlock type
   unfoldable pub type : Expr → TypeNumber
   type e = row e .type
 
@@ -172,6 +207,12 @@ module _ (S : Split) where
 
   unfoldable pub outMap : Expr → Map
   outMap e = mapAt S (outLoad (kind e))
+
+  unfoldable pub readMap : Expr → Map
+  readMap e = mapAt S (readLoad (kind e))
+
+  unfoldable pub writeMap : Expr → Map
+  writeMap e = mapAt S (writeLoad (kind e))
 
   -- the table, in the order of Figure 5: the conditions of a step, in order, with the types of the variables there and its pre
   unfoldable pub own : Env → (pre : Map) → Expr → List Condition
@@ -210,3 +251,13 @@ module _ (S : Split) where
       T (isInt (kind e)) ∷ T (isSem (kind e₁)) ∷ F (post e +ᵐ K e₁ =ᵐ post e₁) ∷ []
   own Γ pre (unary Wait k v e₁) = let e = unary Wait k v e₁ in
       T (isInt (kind e)) ∷ T (isSem (kind e₁)) ∷ F (post e =ᵐ post e₁ +ᵐ K e₁) ∷ []
+  own Γ pre (leaf Newrwlock k v) = let e = leaf Newrwlock k v in
+      T (isRwlock (kind e)) ∷ F (writeMap e ≥ᵐ v ×ᵐ readMap e) ∷ F (post e +ᵐ writeMap e =ᵐ pre) ∷ []
+  own Γ pre (unary Rdlock k v e₁) = let e = unary Rdlock k v e₁ in
+      T (isInt (kind e)) ∷ T (isRwlock (kind e₁)) ∷ F (post e =ᵐ post e₁ +ᵐ readMap e₁) ∷ []
+  own Γ pre (unary Rdunlock k v e₁) = let e = unary Rdunlock k v e₁ in
+      T (isInt (kind e)) ∷ T (isRwlock (kind e₁)) ∷ F (post e +ᵐ readMap e₁ =ᵐ post e₁) ∷ []
+  own Γ pre (unary Wrlock k v e₁) = let e = unary Wrlock k v e₁ in
+      T (isInt (kind e)) ∷ T (isRwlock (kind e₁)) ∷ F (post e =ᵐ post e₁ +ᵐ writeMap e₁) ∷ []
+  own Γ pre (unary Wrunlock k v e₁) = let e = unary Wrunlock k v e₁ in
+      T (isInt (kind e)) ∷ T (isRwlock (kind e₁)) ∷ F (post e +ᵐ writeMap e₁ =ᵐ post e₁) ∷ []

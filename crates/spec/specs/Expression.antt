@@ -10,7 +10,7 @@ use Rattle.spec.specs.declared.Refusal.the-variants.{ProgramLines, Unbou
 use Rattle.spec.specs.declared.Word.{Word}
 use Rattle.spec.specs.declared.Word.the-variants.{Leaf, Unary, Binary}
 use Rattle.spec.specs.declared.LeafWord.{LeafWord}
-use Rattle.spec.specs.declared.LeafWord.the-variants.{Var, Int, Newtid, Newlock, Newsem}
+use Rattle.spec.specs.declared.LeafWord.the-variants.{Var, Int, Newtid, Newlock, Newsem, Newrwlock}
 use Rattle.spec.specs.declared.UnaryWord.{UnaryWord}
 use Rattle.spec.specs.declared.BinaryWord.{BinaryWord}
 use Rattle.spec.specs.declared.BinaryWord.the-variants.{Let, If, Spawn, Write}
@@ -67,6 +67,7 @@ scope (leaf Int k v) inside bound = on bound
 scope (leaf Newtid k v) inside bound = on bound
 scope (leaf Newlock k v) inside bound = on bound
 scope (leaf Newsem k v) inside bound = on bound
+scope (leaf Newrwlock k v) inside bound = on bound
 scope (unary w k v e) inside bound = scope e inside bound
 scope (binary Let k v e₁ e₂) inside bound =
     if among v bound then stop (Rebound k) else (scope e₁ inside (v ∷ bound) >>= λ b. scope e₂ (v ∷ inside) b)

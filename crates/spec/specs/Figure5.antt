@@ -7,7 +7,7 @@ use mathlib.Core.Bool.{true}
 use Prim.Native.Nat.{ℕ, _≤_, _<_}
 use Rattle.spec.specs.Expression.{Expr, leaf, unary, binary}
 use Rattle.spec.specs.Split.{Map, Split}
-use Rattle.spec.specs.Maps.{_+ᵐ_, share}
+use Rattle.spec.specs.Maps.{_+ᵐ_, _×ᵐ_, share}
 use Rattle.spec.specs.Agreement.{agree}
 use Rattle.spec.specs.Conditions.{Env, typeIn, mayShow, type, kind, post, start, mapAt}
 use Rattle.spec.specs.declared.TypeNumber.{TypeNumber}
@@ -15,8 +15,8 @@ use Rattle.spec.specs.declared.MapNumber.{MapNumber}
 use Rattle.spec.specs.declared.Location.{Location}
 use Rattle.spec.specs.declared.TypeLine.{TypeLine}
 use Rattle.spec.specs.declared.TypeLine.the-variants as type-line
-use Rattle.spec.specs.declared.LeafWord.the-variants.{Var, Int, Newtid, Newlock, Newsem}
-use Rattle.spec.specs.declared.UnaryWord.the-variants.{While, Join, Ref, Read, Lock, Unlock, Post, Wait}
+use Rattle.spec.specs.declared.LeafWord.the-variants.{Var, Int, Newtid, Newlock, Newsem, Newrwlock}
+use Rattle.spec.specs.declared.UnaryWord.the-variants.{While, Join, Ref, Read, Lock, Unlock, Post, Wait, Rdlock, Rdunlock, Wrlock, Wrunlock}
 use Rattle.spec.specs.declared.BinaryWord.the-variants.{Let, If, Spawn, Write}
 
 -- a map is at least another, number by number
@@ -95,3 +95,23 @@ module _ (S : Split) where
         → Derives Γ Ψ e₁ → kind S e₁ ≡ type-line.Sem K → kind S (unary Wait k v e₁) ≡ type-line.Int
         → post S (unary Wait k v e₁) ≡ post S e₁ +ᵐ mapAt S K
         → Derives Γ Ψ (unary Wait k v e₁)
+    -- Figure 8; N is the step's own number, and bounds the reading holds
+    NEWRWLOCK : {Γ : Env} {Ψ : Map} {k N : ℕ} {Kr Kw : MapNumber}
+        → kind S (leaf Newrwlock k N) ≡ type-line.Rwlock Kr Kw → mapAt S Kw ⊒ N ×ᵐ mapAt S Kr → post S (leaf Newrwlock k N) +ᵐ mapAt S Kw ≡ Ψ
+        → Derives Γ Ψ (leaf Newrwlock k N)
+    RDLOCK : {Γ : Env} {Ψ : Map} {k v : ℕ} {Kr Kw : MapNumber} {e₁ : Expr}
+        → Derives Γ Ψ e₁ → kind S e₁ ≡ type-line.Rwlock Kr Kw → kind S (unary Rdlock k v e₁) ≡ type-line.Int
+        → post S (unary Rdlock k v e₁) ≡ post S e₁ +ᵐ mapAt S Kr
+        → Derives Γ Ψ (unary Rdlock k v e₁)
+    RDUNLOCK : {Γ : Env} {Ψ : Map} {k v : ℕ} {Kr Kw : MapNumber} {e₁ : Expr}
+        → Derives Γ Ψ e₁ → kind S e₁ ≡ type-line.Rwlock Kr Kw → kind S (unary Rdunlock k v e₁) ≡ type-line.Int
+        → post S (unary Rdunlock k v e₁) +ᵐ mapAt S Kr ≡ post S e₁
+        → Derives Γ Ψ (unary Rdunlock k v e₁)
+    WRLOCK : {Γ : Env} {Ψ : Map} {k v : ℕ} {Kr Kw : MapNumber} {e₁ : Expr}
+        → Derives Γ Ψ e₁ → kind S e₁ ≡ type-line.Rwlock Kr Kw → kind S (unary Wrlock k v e₁) ≡ type-line.Int
+        → post S (unary Wrlock k v e₁) ≡ post S e₁ +ᵐ mapAt S Kw
+        → Derives Γ Ψ (unary Wrlock k v e₁)
+    WRUNLOCK : {Γ : Env} {Ψ : Map} {k v : ℕ} {Kr Kw : MapNumber} {e₁ : Expr}
+        → Derives Γ Ψ e₁ → kind S e₁ ≡ type-line.Rwlock Kr Kw → kind S (unary Wrunlock k v e₁) ≡ type-line.Int
+        → post S (unary Wrunlock k v e₁) +ᵐ mapAt S Kw ≡ post S e₁
+        → Derives Γ Ψ (unary Wrunlock k v e₁)

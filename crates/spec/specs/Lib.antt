@@ -24,4 +24,5 @@ pub mod EdgeStart
 pub mod EdgeSemaphores
 pub mod EdgeLocks
 pub mod EdgeFreelock
+pub mod EdgeRwlocks
 pub mod FirstFalse

@@ -2,7 +2,7 @@
 use mathlib.Core.List.{List, [], _∷_}
 use mathlib.Core.Bool.{Bool, true, false}
 use mathlib.Core.Option.{Option, none, some}
-use Prim.Native.Nat.{ℕ, _+_}
+use Prim.Native.Nat.{ℕ, _+_, _*_}
 use lib.Dec.{eqb, leb}
 use lib.ListN.{getD}
 use Rattle.spec.specs.Choice.{if_then_else_}
@@ -40,6 +40,12 @@ unfoldable pub _+ᵐ_ : Map → Map → Map
 [] +ᵐ n = []
 (a ∷ m) +ᵐ [] = []
 (a ∷ m) +ᵐ (b ∷ n) = (a + b) ∷ (m +ᵐ n)
+
+-- k times a map
+infixl 70 _×ᵐ_
+unfoldable pub _×ᵐ_ : ℕ → Map → Map
+k ×ᵐ [] = []
+k ×ᵐ (a ∷ m) = (k * a) ∷ (k ×ᵐ m)
 
 -- what a map has of a location
 unfoldable pub share : Map → Location → ℕ

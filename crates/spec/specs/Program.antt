@@ -10,8 +10,8 @@ use Rattle.spec.specs.Reading.{programSheet, Out, _>>=_, on, Seen, wrong
 use Rattle.spec.specs.Expression.{Step, Expr, listed, single, scope}
 use Rattle.spec.specs.declared.Word.{Word}
 use Rattle.spec.specs.declared.Word.the-variants.{Leaf, Unary, Binary}
-use Rattle.spec.specs.declared.LeafWord.the-variants.{Var, Int, Newtid, Newlock, Newsem}
-use Rattle.spec.specs.declared.UnaryWord.the-variants.{While, Join, Ref, Read, Lock, Unlock, Post, Wait}
+use Rattle.spec.specs.declared.LeafWord.the-variants.{Var, Int, Newtid, Newlock, Newsem, Newrwlock}
+use Rattle.spec.specs.declared.UnaryWord.the-variants.{While, Join, Ref, Read, Lock, Unlock, Post, Wait, Rdlock, Rdunlock, Wrlock, Wrunlock}
 use Rattle.spec.specs.declared.BinaryWord.the-variants.{Let, If, Spawn, Write}
 
 -- the most bytes that a program sheet may have
@@ -34,6 +34,7 @@ words =
     ∷ (bytes "newtid", Leaf Newtid)
     ∷ (bytes "newlock", Leaf Newlock)
     ∷ (bytes "newsem", Leaf Newsem)
+    ∷ (bytes "newrwlock", Leaf Newrwlock)
     ∷ (bytes "while", Unary While)
     ∷ (bytes "join", Unary Join)
     ∷ (bytes "ref", Unary Ref)
@@ -42,19 +43,24 @@ words =
     ∷ (bytes "unlock", Unary Unlock)
     ∷ (bytes "post", Unary Post)
     ∷ (bytes "wait", Unary Wait)
+    ∷ (bytes "rdlock", Unary Rdlock)
+    ∷ (bytes "rdunlock", Unary Rdunlock)
+    ∷ (bytes "wrlock", Unary Wrlock)
+    ∷ (bytes "wrunlock", Unary Wrunlock)
     ∷ (bytes "let", Binary Let)
     ∷ (bytes "if", Binary If)
     ∷ (bytes "spawn", Binary Spawn)
     ∷ (bytes "write", Binary Write)
     ∷ []
 
--- v is a variable, a constant, or 0
+-- v is a variable, a constant, the number of reading places, or 0
 unfoldable pub valueRange : Word → Range
 valueRange (Leaf Var) = 0 to 255
 valueRange (Leaf Int) = 0 to 65535
 valueRange (Leaf Newtid) = 0 to 0
 valueRange (Leaf Newlock) = 0 to 0
 valueRange (Leaf Newsem) = 0 to 0
+valueRange (Leaf Newrwlock) = 1 to 64
 valueRange (Unary w) = 0 to 0
 valueRange (Binary Let) = 0 to 255
 valueRange (Binary If) = 0 to 0

@@ -32,6 +32,8 @@ pub record InRange (steps : List Step) (S : Split) : Type 0 where
       → getD (S .types) t type-line.Int ≡ type-line.Tid k → k .0 < length (S .maps)
   pub semLoad : (t : ℕ) (k : MapNumber) → t < length (S .types)
       → getD (S .types) t type-line.Int ≡ type-line.Sem k → k .0 < length (S .maps)
+  pub rwlockLoads : (t : ℕ) (r w : MapNumber) → t < length (S .types)
+      → getD (S .types) t type-line.Int ≡ type-line.Rwlock r w → (r .0 < length (S .maps)) × (w .0 < length (S .maps))
   -- the numbers on a row
   pub rowType : (i : ℕ) (d : Row) → i < length (S .rows) → getD (S .rows) i d .type .0 < length (S .types)
   pub rowPost : (i : ℕ) (d : Row) → i < length (S .rows) → getD (S .rows) i d .post .0 < length (S .maps)

@@ -12,7 +12,7 @@ use Rattle.spec.specs.declared.TypeNumber.{TypeNumber}
 use Rattle.spec.specs.declared.Refusal.{Refusal}
 use Rattle.spec.specs.declared.Refusal.the-variants.{TypeFalse, FlowFalse, AccessFalse}
 use Rattle.spec.specs.declared.UnaryWord.{UnaryWord}
-use Rattle.spec.specs.declared.UnaryWord.the-variants.{While, Join, Ref, Read, Lock, Unlock, Post, Wait}
+use Rattle.spec.specs.declared.UnaryWord.the-variants.{While, Join, Ref, Read, Lock, Unlock, Post, Wait, Rdlock, Rdunlock, Wrlock, Wrunlock}
 use Rattle.spec.specs.declared.BinaryWord.{BinaryWord}
 use Rattle.spec.specs.declared.BinaryWord.the-variants.{Let, If, Spawn, Write}
 
@@ -28,6 +28,10 @@ preOfPart Lock pre post = pre
 preOfPart Unlock pre post = pre
 preOfPart Post pre post = pre
 preOfPart Wait pre post = pre
+preOfPart Rdlock pre post = pre
+preOfPart Rdunlock pre post = pre
+preOfPart Wrlock pre post = pre
+preOfPart Wrunlock pre post = pre
 
 -- "for `let` and `write`, [..] e2 has e1's post; both parts of `if` have its pre; [..] in `spawn`, [..] e2 has s";
 -- e1 has the step's pre on each of these words

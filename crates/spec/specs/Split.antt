@@ -16,7 +16,7 @@ use Rattle.spec.specs.declared.TypeNumber.{TypeNumber}
 use Rattle.spec.specs.declared.MapNumber.{MapNumber}
 use Rattle.spec.specs.declared.Location.{Location}
 use Rattle.spec.specs.declared.TypeLine.{TypeLine}
-use Rattle.spec.specs.declared.TypeLine.the-variants.{Int, Ref, Lock, Tid, Sem}
+use Rattle.spec.specs.declared.TypeLine.the-variants.{Int, Ref, Lock, Tid, Sem, Rwlock}
 use Rattle.spec.specs.declared.Word.{Word}
 use Rattle.spec.specs.declared.Word.the-variants.{Leaf, Unary, Binary}
 use Rattle.spec.specs.declared.BinaryWord.the-variants.{Let, If, Spawn, Write}
@@ -81,7 +81,8 @@ unfoldable pub headerLine : Purpose → List Field → Seen Header
 headerLine purpose [] = wrong badForm
 headerLine purpose (f ∷ fs) = headed (lookUp (headings purpose) f) fs
 
--- `int,0,0`; `ref,p,t`; `lock,k,0`, or `lock,in,out`; `tid,k,0`; `sem,k,0`. A content type's number is less than the type's own.
+-- `int,0,0`; `ref,p,t`; `lock,k,0`, or `lock,in,out`; `tid,k,0`; `sem,k,0`; `rwlock,r,w`. A content type's number is less than the
+-- type's own.
 unfoldable pub refOf : List ℕ → TypeLine
 refOf ns = Ref (record { 0 = getD ns 0 0 }) (record { 0 = getD ns 1 0 })
 
@@ -103,6 +104,9 @@ tidOf ns = Tid (record { 0 = getD ns 0 0 })
 unfoldable pub semOf : List ℕ → TypeLine
 semOf ns = Sem (record { 0 = getD ns 0 0 })
 
+unfoldable pub rwlockOf : List ℕ → TypeLine
+rwlockOf ns = Rwlock (record { 0 = getD ns 0 0 }) (record { 0 = getD ns 1 0 })
+
 unfoldable pub typeLine : Header → (own : ℕ) → List Field → Seen TypeLine
 typeLine H own [] = wrong badForm
 typeLine H own (f ∷ fs) =
@@ -111,6 +115,7 @@ typeLine H own (f ∷ fs) =
     else if same f (bytes "lock") then seen (lockOf (H .heading)) (numbers (below (H .maps) ∷ outRange (H .heading) (H .maps) ∷ []) fs)
     else if same f (bytes "tid") then seen tidOf (numbers (below (H .maps) ∷ (0 to 0) ∷ []) fs)
     else if same f (bytes "sem") then seen semOf (numbers (below (H .maps) ∷ (0 to 0) ∷ []) fs)
+    else if same f (bytes "rwlock") then seen rwlockOf (numbers (below (H .maps) ∷ below (H .maps) ∷ []) fs)
     else wrong badForm
 
 -- the lines of n types, numbered from `own` upward

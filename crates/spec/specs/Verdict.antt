@@ -29,6 +29,7 @@ module _ (S : Split) where
   takesEnough (type-line.Lock i o) = nowhere (mapAt S o ≥ᵐ mapAt S i)
   takesEnough (type-line.Tid k) = true
   takesEnough (type-line.Sem k) = true
+  takesEnough (type-line.Rwlock r w) = true
 
   -- of the types from line k on
   unfoldable pub allTakeEnough : (k : ℕ) → List TypeLine → Out (Unit {0})

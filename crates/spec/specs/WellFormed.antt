@@ -12,7 +12,7 @@ use Rattle.spec.specs.Program.{Program, programLimit, countLine, stepLin
 use Rattle.spec.specs.Split.{Split, splitLimit, Header, headerLine, typeLines, mapLine, rowLine}
 use Rattle.spec.specs.declared.Purpose.{Purpose}
 use Rattle.spec.specs.declared.Word.the-variants.{Leaf, Unary, Binary}
-use Rattle.spec.specs.declared.LeafWord.the-variants.{Var, Int, Newtid, Newlock, Newsem}
+use Rattle.spec.specs.declared.LeafWord.the-variants.{Var, Int, Newtid, Newlock, Newsem, Newrwlock}
 use Rattle.spec.specs.declared.BinaryWord.the-variants.{Let, If, Spawn, Write}
 
 -- Shows reads ls as rest: the lines ls begin with a closed line for each way of reading, each line shows its entry of as,
@@ -61,6 +61,7 @@ UsedInside inside (leaf Int k v) = Unit {0}
 UsedInside inside (leaf Newtid k v) = Unit {0}
 UsedInside inside (leaf Newlock k v) = Unit {0}
 UsedInside inside (leaf Newsem k v) = Unit {0}
+UsedInside inside (leaf Newrwlock k v) = Unit {0}
 UsedInside inside (unary w k v e) = UsedInside inside e
 UsedInside inside (binary Let k v e₁ e₂) = UsedInside inside e₁ × UsedInside (v ∷ inside) e₂
 UsedInside inside (binary If k v e₁ e₂) = UsedInside inside e₁ × UsedInside inside e₂

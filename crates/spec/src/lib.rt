@@ -7,6 +7,7 @@ pub enum LeafWord {
     Newtid,
     Newlock,
     Newsem,
+    Newrwlock,
 }
 
 pub enum UnaryWord {
@@ -18,6 +19,10 @@ pub enum UnaryWord {
     Unlock,
     Post,
     Wait,
+    Rdlock,
+    Rdunlock,
+    Wrlock,
+    Wrunlock,
 }
 
 pub enum BinaryWord {
@@ -53,13 +58,15 @@ pub enum Purpose {
     Fill,
 }
 
-// What a type line of a split sheet says. A content type, a map: by number. A lock has its in and its out.
+// What a type line of a split sheet says. A content type, a map: by number. A lock has its in and its out, a
+// read-write lock what a reader and a writer take.
 pub enum TypeLine {
     Int,
     Ref(Location, TypeNumber),
     Lock(MapNumber, MapNumber),
     Tid(MapNumber),
     Sem(MapNumber),
+    Rwlock(MapNumber, MapNumber),
 }
 
 // A reason to stop, with the line, the condition and the location that a person wants to know.

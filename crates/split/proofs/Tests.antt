@@ -7,7 +7,7 @@ use native.Mathlib.Omega.{arith}
 use lib.Dec.{ltb}
 use borrow.Author.Tests.{le-leb, lt-leb, lt-ltb, le-ltb}
 use Rattle.spec.specs.Reading.{Range, _to_, below, inRange, allInRange}
-use Rattle.spec.specs.Split.{Header, refOf, lockOf, outRange, tidOf, semOf}
+use Rattle.spec.specs.Split.{Header, refOf, lockOf, outRange, tidOf, semOf, rwlockOf}
 use Rattle.spec.specs.declared.Heading.{Heading}
 use Rattle.spec.specs.declared.Heading.the-variants.{C, C2, C3}
 use Rattle.spec.specs.declared.TypeLine.{TypeLine}
@@ -81,6 +81,10 @@ module _ (H : Header) (own a b : ℕ) where
   pub sem-seen : (k : TypeWord) → k ≡ kind.Sem → typeSeen k H own (a ∷ b ∷ []) ≡ rangedType (below (H .maps) ∷ below 1 ∷ []) semOf (a ∷ b ∷ [])
   unfolding typeSeen rangedType allInRange
   sem-seen k e = rw (e, zero-below b)
+
+  pub rwlock-seen : (k : TypeWord) → k ≡ kind.Rwlock → typeSeen k H own (a ∷ b ∷ []) ≡ rangedType (below (H .maps) ∷ below (H .maps) ∷ []) rwlockOf (a ∷ b ∷ [])
+  unfolding typeSeen
+  rwlock-seen k e = rw e
 
   pub unknown-seen : (k : TypeWord) → k ≡ kind.Unknown → type-seen.BadForm ≡ typeSeen k H own (a ∷ b ∷ [])
   unfolding typeSeen

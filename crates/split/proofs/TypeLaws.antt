@@ -9,7 +9,7 @@ use lib.ListN.{length, getD}
 use Rattle.spec.specs.Choice.{if_then_else_}
 use Rattle.spec.specs.Text.{Field, lines}
 use Rattle.spec.specs.Reading.{splitSheet, stop, on, right, wrong, badForm, badRange, seen, Range, _to_, below, allInRange, numerals, ranged, numbers, form, faulty, passed, nextLine, next}
-use Rattle.spec.specs.Split.{Header, refOf, lockOf, outRange, tidOf, semOf, typeLine}
+use Rattle.spec.specs.Split.{Header, refOf, lockOf, outRange, tidOf, semOf, rwlockOf, typeLine}
 use Rattle.spec.specs.declared.Heading.{Heading}
 use Rattle.spec.specs.declared.Heading.the-variants.{C, C2, C3}
 use Rattle.spec.specs.declared.Refusal.the-variants.{SplitForm, SplitRange}
@@ -56,6 +56,7 @@ module _ (H : Header) (own : ℕ) where
   kind-alone kind.Lock = refl
   kind-alone kind.Tid = refl
   kind-alone kind.Sem = refl
+  kind-alone kind.Rwlock = refl
   kind-alone kind.Unknown = refl
 
 seen-ranged : (rs : List Range) (f : List ℕ → TypeLine) (ns : List ℕ) → seen f (if allInRange rs ns then right ns else wrong badRange) ≡ typeTold (rangedType rs f ns)
@@ -104,6 +105,7 @@ module _ (H : Header) (own : ℕ) (text : List ℕ) (c : Cursor) (some-left : 0 
     kind-form kind.Lock e n = known-form (below (H .maps) ∷ outRange (H .heading) (H .maps) ∷ []) (lockOf (H .heading)) (as-kind kind.Lock e) n
     kind-form kind.Tid e n = known-form (below (H .maps) ∷ (0 to 0) ∷ []) tidOf (as-kind kind.Tid e) n
     kind-form kind.Sem e n = known-form (below (H .maps) ∷ (0 to 0) ∷ []) semOf (as-kind kind.Sem e) n
+    kind-form kind.Rwlock e n = known-form (below (H .maps) ∷ below (H .maps) ∷ []) rwlockOf (as-kind kind.Rwlock e) n
     kind-form kind.Unknown e n = unknown e
 
     kind-read : (H .locations ≤ 16) × (H .maps ≤ 512) × (own < 64) → (k : TypeWord) → typeWordOf (firstField (rest text c)) ≡ k → (ns r : List ℕ) → numbersAt text d 2 ≡ some (ns, r)
@@ -114,6 +116,7 @@ module _ (H : Header) (own : ℕ) (text : List ℕ) (c : Cursor) (some-left : 0 
     kind-read few kind.Lock e ns r n = known-read (below (H .maps) ∷ outRange (H .heading) (H .maps) ∷ []) (lockOf (H .heading)) (as-kind kind.Lock e) (omega arith, (out-narrow (H .heading) (H .maps) (few .1), tt)) ns r n
     kind-read few kind.Tid e ns r n = known-read (below (H .maps) ∷ (0 to 0) ∷ []) tidOf (as-kind kind.Tid e) (omega arith, (omega arith, tt)) ns r n
     kind-read few kind.Sem e ns r n = known-read (below (H .maps) ∷ (0 to 0) ∷ []) semOf (as-kind kind.Sem e) (omega arith, (omega arith, tt)) ns r n
+    kind-read few kind.Rwlock e ns r n = known-read (below (H .maps) ∷ below (H .maps) ∷ []) rwlockOf (as-kind kind.Rwlock e) (omega arith, (omega arith, tt)) ns r n
     kind-read few kind.Unknown e ns r n = unknown e
 
     pub type-form : numbersAt text d 2 ≡ none → next splitSheet (typeLine H own) (placeAt text c) ≡ stop (SplitForm (c .line + 1))

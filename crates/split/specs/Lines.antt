@@ -7,7 +7,7 @@ use lib.ListN.{length, replicate}
 use Rattle.spec.specs.Choice.{if_then_else_}
 use Rattle.spec.specs.Text.{Field}
 use Rattle.spec.specs.Reading.{Seen, right, wrong, badForm, badRange, Range, _to_, below, inRange, allInRange, numbers}
-use Rattle.spec.specs.Split.{Map, Header, headerRanges, refOf, lockOf, outRange, tidOf, semOf, Row, takesStart, startRange, mayBeEmpty, rowLine}
+use Rattle.spec.specs.Split.{Map, Header, headerRanges, refOf, lockOf, outRange, tidOf, semOf, rwlockOf, Row, takesStart, startRange, mayBeEmpty, rowLine}
 use Rattle.spec.specs.declared.Heading.{Heading}
 use Rattle.spec.specs.declared.Heading.the-variants.{C2}
 use Rattle.spec.specs.declared.Purpose.{Purpose}
@@ -67,6 +67,7 @@ typeSeen kind.Ref H own ns = rangedType (below (H .locations) ∷ below own ∷ 
 typeSeen kind.Lock H own ns = lockSeen (H .heading) (H .maps) ns
 typeSeen kind.Tid H own ns = rangedType (below (H .maps) ∷ (0 to 0) ∷ []) tidOf ns
 typeSeen kind.Sem H own ns = rangedType (below (H .maps) ∷ (0 to 0) ∷ []) semOf ns
+typeSeen kind.Rwlock H own ns = rangedType (below (H .maps) ∷ below (H .maps) ∷ []) rwlockOf ns
 typeSeen kind.Unknown H own ns = type-seen.BadForm
 
 unfoldable pub typeTold : TypeSeen → Seen TypeLine

@@ -25,7 +25,7 @@ ghost use Rattle.lexer.specs.Cursors.{placeAt};
 ghost use Rattle.workspace.specs.Layout.{kindOf, firstOf, secondOf};
 ghost use Rattle.workspace.specs.Sheets.{headerTold};
 ghost use Rattle.spec.specs.declared.Heading.the-variants.{C2};
-ghost use Rattle.split.specs.Lines.{lockSeen, typeSeen};
+ghost use Rattle.split.specs.Lines.{rangedType, lockSeen, typeSeen};
 ghost use Rattle.split.specs.Answers.{Reading, Small, TypeAnswer};
 ghost use Rattle.split.specs.Stored.{TypesRead};
 
@@ -51,14 +51,22 @@ pub(crate) fn both_below(first: u32, second: u32, firsts: usize, seconds: usize)
     workspace::index(second) < seconds
 }
 
+// A type, where its two numbers are numbers of so many things.
+fn ranged_type(first: u32, second: u32, firsts: usize, seconds: usize, t: TypeLine) -> TypeSeen
+    ensures { λ r. ⌜ r ≡ rangedType (below firsts ∷ below seconds ∷ []) (λ _. t) (first ∷ second ∷ []) ⌝ }
+{
+    if both_below(first, second, firsts, seconds) {
+        return TypeSeen::Right(t);
+    }
+    TypeSeen::BadRange
+}
+
 // `lock,k,0`: out is in.
 fn older_lock(first: u32, second: u32, maps: usize) -> TypeSeen
     ensures { λ r. ⌜ r ≡ lockSeen C2 maps (first ∷ second ∷ []) ⌝ }
 {
-    if both_below(first, second, maps, 1) {
-        return TypeSeen::Right(TypeLine::Lock(MapNumber(first), MapNumber(first)));
-    }
-    TypeSeen::BadRange
+    let lock = TypeLine::Lock(MapNumber(first), MapNumber(first));
+    ranged_type(first, second, maps, 1, lock)
 }
 
 // The lock type that two numbers make, by heading: `lock,k,0`, or `lock,in,out`.
@@ -69,10 +77,8 @@ fn lock_of(first: u32, second: u32, heading: Heading, maps: usize) -> TypeSeen
         Heading::C => older_lock(first, second, maps),
         Heading::C2 => older_lock(first, second, maps),
         Heading::C3 => {
-            if both_below(first, second, maps, maps) {
-                return TypeSeen::Right(TypeLine::Lock(MapNumber(first), MapNumber(second)));
-            }
-            TypeSeen::BadRange
+            let lock = TypeLine::Lock(MapNumber(first), MapNumber(second));
+            ranged_type(first, second, maps, maps, lock)
         }
     }
 }
@@ -84,33 +90,20 @@ fn type_of(kind: TypeWord, first: u32, second: u32, own: usize, header: Header) 
     let locations = header.locations;
     let maps = header.maps;
     match kind {
-        TypeWord::Int => {
-            if both_below(first, second, 1, 1) {
-                return TypeSeen::Right(TypeLine::Int);
-            }
-            TypeSeen::BadRange
-        }
+        TypeWord::Int => ranged_type(first, second, 1, 1, TypeLine::Int),
         TypeWord::Ref => {
-            if both_below(first, second, locations, own) {
-                return TypeSeen::Right(TypeLine::Ref(Location(first), TypeNumber(second)));
-            }
-            TypeSeen::BadRange
+            let cell = TypeLine::Ref(Location(first), TypeNumber(second));
+            ranged_type(first, second, locations, own, cell)
         }
         TypeWord::Lock => {
             let heading = header.heading;
             lock_of(first, second, heading, maps)
         }
-        TypeWord::Tid => {
-            if both_below(first, second, maps, 1) {
-                return TypeSeen::Right(TypeLine::Tid(MapNumber(first)));
-            }
-            TypeSeen::BadRange
-        }
-        TypeWord::Sem => {
-            if both_below(first, second, maps, 1) {
-                return TypeSeen::Right(TypeLine::Sem(MapNumber(first)));
-            }
-            TypeSeen::BadRange
+        TypeWord::Tid => ranged_type(first, second, maps, 1, TypeLine::Tid(MapNumber(first))),
+        TypeWord::Sem => ranged_type(first, second, maps, 1, TypeLine::Sem(MapNumber(first))),
+        TypeWord::Rwlock => {
+            let lock = TypeLine::Rwlock(MapNumber(first), MapNumber(second));
+            ranged_type(first, second, maps, maps, lock)
         }
         TypeWord::Unknown => TypeSeen::BadForm,
     }

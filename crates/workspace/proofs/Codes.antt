@@ -6,8 +6,8 @@ use Rattle.spec.specs.declared.TypeLine.{TypeLine}
 use Rattle.spec.specs.declared.TypeLine.the-variants as type-line
 use Rattle.spec.specs.declared.Word.{Word}
 use Rattle.spec.specs.declared.Word.the-variants.{Leaf, Unary, Binary}
-use Rattle.spec.specs.declared.LeafWord.the-variants.{Var, Int, Newtid, Newlock, Newsem}
-use Rattle.spec.specs.declared.UnaryWord.the-variants.{While, Join, Ref, Read, Lock, Unlock, Post, Wait}
+use Rattle.spec.specs.declared.LeafWord.the-variants.{Var, Int, Newtid, Newlock, Newsem, Newrwlock}
+use Rattle.spec.specs.declared.UnaryWord.the-variants.{While, Join, Ref, Read, Lock, Unlock, Post, Wait, Rdlock, Rdunlock, Wrlock, Wrunlock}
 use Rattle.spec.specs.declared.BinaryWord.the-variants.{Let, If, Spawn, Write}
 use Rattle.workspace.specs.Layout.{codeOf, printed, ruleOf, wordBy, wordOf, kindOf, firstOf, secondOf, typeOf}
 
@@ -22,6 +22,7 @@ word-of-code (Leaf Int) = refl
 word-of-code (Leaf Newtid) = refl
 word-of-code (Leaf Newlock) = refl
 word-of-code (Leaf Newsem) = refl
+word-of-code (Leaf Newrwlock) = refl
 word-of-code (Unary While) = refl
 word-of-code (Unary Join) = refl
 word-of-code (Unary Ref) = refl
@@ -30,6 +31,10 @@ word-of-code (Unary Lock) = refl
 word-of-code (Unary Unlock) = refl
 word-of-code (Unary Post) = refl
 word-of-code (Unary Wait) = refl
+word-of-code (Unary Rdlock) = refl
+word-of-code (Unary Rdunlock) = refl
+word-of-code (Unary Wrlock) = refl
+word-of-code (Unary Wrunlock) = refl
 word-of-code (Binary Let) = refl
 word-of-code (Binary If) = refl
 word-of-code (Binary Spawn) = refl
@@ -42,3 +47,4 @@ type-of-numbers (type-line.Ref p c) = refl
 type-of-numbers (type-line.Lock i o) = refl
 type-of-numbers (type-line.Tid k) = refl
 type-of-numbers (type-line.Sem k) = refl
+type-of-numbers (type-line.Rwlock r w) = refl

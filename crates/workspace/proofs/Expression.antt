@@ -14,7 +14,7 @@ use Rattle.spec.specs.declared.LeafWord.the-variants.{Var}
 use Rattle.spec.specs.declared.UnaryWord.{UnaryWord}
 use Rattle.spec.specs.declared.BinaryWord.{BinaryWord}
 use Rattle.spec.specs.declared.BinaryWord.the-variants.{Let, If, Spawn, Write}
-use Rattle.workspace.specs.Layout.{wordsAt, endsAt, letsAt, presAt, leafCode, unaryCode, binaryCode, codeOf}
+use Rattle.workspace.specs.Layout.{wordsAt, valuesAt, endsAt, letsAt, presAt, leafCode, unaryCode, binaryCode, codeOf}
 use Rattle.workspace.specs.Region.{Region, ChangedWithin}
 use Rattle.workspace.specs.Holds.{ends, lets, letIn}
 use Rattle.workspace.proofs.Region.{region-moved, region-first, region-behind, region-left, region-right, region-kept}
@@ -47,8 +47,17 @@ codes-length : (e : Expr) → length (codes e) ≡ size e
 unfolding codes
 codes-length e = length-map (prefix e) (λ (s : Step). codeOf (s .word)) ∙ prefix-length e
 
+-- and their numbers v
+unfoldable pub values : Expr → List ℕ
+values e = map (λ (s : Step). s .value) (prefix e)
+
+values-length : (e : Expr) → length (values e) ≡ size e
+unfolding values
+values-length e = length-map (prefix e) (λ (s : Step). s .value) ∙ prefix-length e
+
 pub record Here (w : List ℕ) (k : ℕ) (inside : List (ℕ × ℕ)) (vars : List ℕ) (e : Expr) : Type 0 where
   pub words : Region w (wordsAt + k) (codes e)
+  pub numbers : Region w (valuesAt + k) (values e)
   pub ended : Region w (endsAt + k) (ends k e)
   pub bound : Region w (letsAt + k) (lets k inside e)
   pub lines : LinesFrom (k + 2) e
@@ -59,6 +68,7 @@ pub here-kept : {w w′ : List ℕ} {k : ℕ} {inside : List (ℕ × ℕ)} {vars
     → ChangedWithin presAt (presAt + 256) w w′ → k + size e ≤ 256 → Here w k inside vars e → Here w′ k inside vars e
 here-kept {k = k} {inside = inside} {e = e} x h H = record {
   words = region-kept x (inl (omega (arith, codes-length e))) (H .words);
+  numbers = region-kept x (inl (omega (arith, values-length e))) (H .numbers);
   ended = region-kept x (inl (omega (arith, ends-length k e))) (H .ended);
   bound = region-kept x (inl (omega (arith, lets-length k inside e))) (H .bound);
   lines = H .lines;
@@ -89,6 +99,11 @@ module _ {w : List ℕ} {k : ℕ} {inside : List (ℕ × ℕ)} {vars : List ℕ}
   unfolding codes prefix
   binary-code x l v e₁ e₂ H = region-first (H .words)
 
+  -- the number of a step without parts
+  pub leaf-number : (x : LeafWord) (l v : ℕ) → Here w k inside vars (leaf x l v) → getD w (valuesAt + k) 0 ≡ v
+  unfolding values prefix
+  leaf-number x l v H = region-first (H .numbers)
+
   -- the let of a variable
   pub here-let : (l v : ℕ) → Here w k inside vars (leaf Var l v) → getD w (letsAt + k) 0 ≡ letIn inside v
   unfolding lets
@@ -96,9 +111,10 @@ module _ {w : List ℕ} {k : ℕ} {inside : List (ℕ × ℕ)} {vars : List ℕ}
 
   -- the one part of a step, and the first of two, stand just behind it
   pub here-part : (x : UnaryWord) (l v : ℕ) (e : Expr) → Here w k inside vars (unary x l v e) → Here w (k + 1) inside vars e
-  unfolding codes prefix ends lets LinesFrom UsedInside
+  unfolding codes values prefix ends lets LinesFrom UsedInside
   here-part x l v e H = record {
     words = region-moved _ _ (omega arith) (region-behind (H .words));
+    numbers = region-moved _ _ (omega arith) (region-behind (H .numbers));
     ended = region-moved _ _ (omega arith) (region-behind (H .ended));
     bound = region-moved _ _ (omega arith) (region-behind (H .bound));
     lines = lines-moved _ _ e (omega arith) (H .lines .1);
@@ -109,6 +125,10 @@ module _ {w : List ℕ} {k : ℕ} {inside : List (ℕ × ℕ)} {vars : List ℕ}
     codes-parts : Region w (wordsAt + k + 1) (codes e₁ ++ codes e₂)
     unfolding codes prefix
     codes-parts = rw map-append at (region-behind (H .words))
+
+    values-parts : Region w (valuesAt + k + 1) (values e₁ ++ values e₂)
+    unfolding values prefix
+    values-parts = rw map-append at (region-behind (H .numbers))
 
     ends-parts : Region w (endsAt + k + 1) (ends (k + 1) e₁ ++ ends (k + 1 + size e₁) e₂)
     unfolding ends
@@ -121,6 +141,7 @@ module _ {w : List ℕ} {k : ℕ} {inside : List (ℕ × ℕ)} {vars : List ℕ}
     unfolding LinesFrom
     here-first = record {
       words = region-moved _ _ (omega arith) (region-left _ _ codes-parts);
+      numbers = region-moved _ _ (omega arith) (region-left _ _ values-parts);
       ended = region-moved _ _ (omega arith) (region-left _ _ ends-parts);
       bound = region-moved _ _ (omega arith) (region-left _ _ lets-parts);
       lines = lines-moved _ _ e₁ (omega arith) (H .lines .1);
@@ -132,6 +153,7 @@ module _ {w : List ℕ} {k : ℕ} {inside : List (ℕ × ℕ)} {vars : List ℕ}
     unfolding LinesFrom
     here-second = record {
       words = region-moved _ _ (omega (arith, codes-length e₁)) (region-right (codes e₁) _ codes-parts);
+      numbers = region-moved _ _ (omega (arith, values-length e₁)) (region-right (values e₁) _ values-parts);
       ended = region-moved _ _ (omega (arith, ends-length (k + 1) e₁)) (region-right (ends (k + 1) e₁) _ ends-parts);
       bound = region-moved _ _
           (omega (arith, lets-length (k + 1) inside e₁)) (region-right (lets (k + 1) inside e₁) _ lets-parts);

@@ -9,7 +9,7 @@ use Rattle.spec.specs.Expression.{Step, Expr, leaf, unary, binary, size}
 use Rattle.spec.specs.Program.{Program}
 use Rattle.spec.specs.WellFormed.{prefix}
 use Rattle.spec.proofs.Listing.{prefix-length}
-use Rattle.spec.specs.declared.LeafWord.the-variants.{Var, Int, Newtid, Newlock, Newsem}
+use Rattle.spec.specs.declared.LeafWord.the-variants.{Var, Int, Newtid, Newlock, Newsem, Newrwlock}
 use Rattle.spec.specs.declared.BinaryWord.{BinaryWord}
 use Rattle.spec.specs.declared.BinaryWord.the-variants.{Let, If, Spawn, Write}
 use Rattle.workspace.specs.Layout.{codeOf}
@@ -48,6 +48,7 @@ lets-length k inside (leaf Int l v) = refl
 lets-length k inside (leaf Newtid l v) = refl
 lets-length k inside (leaf Newlock l v) = refl
 lets-length k inside (leaf Newsem l v) = refl
+lets-length k inside (leaf Newrwlock l v) = refl
 lets-length k inside (unary x l v e) = ap suc (lets-length (k + 1) inside e)
 lets-length k inside (binary x l v e₁ e₂) =
     let inside₂ = insideSecond x v k inside in

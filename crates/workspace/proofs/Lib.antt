@@ -5,3 +5,4 @@ pub mod Expression
 pub mod Shown
 pub mod Lent
 pub mod Sheets
+pub mod Products

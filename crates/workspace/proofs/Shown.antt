@@ -9,13 +9,13 @@ use lib.ListN.{length, getD, replicate, length-replicate, getD-replicate}
 use Rattle.spec.specs.Expression.{Step, Expr}
 use Rattle.spec.specs.Split.{Map, Row, Split}
 use Rattle.spec.specs.Maps.{share}
-use Rattle.spec.specs.Conditions.{typeAt, mapAt, lineOf, row, post, start, startIn, place, load, inLoad, outLoad}
+use Rattle.spec.specs.Conditions.{typeAt, mapAt, lineOf, row, post, start, startIn, place, load, inLoad, outLoad, readLoad, writeLoad}
 use Rattle.spec.specs.Ranges.{InRange}
 use Rattle.spec.specs.declared.Location.{Location}
 use Rattle.spec.specs.declared.MapNumber.{MapNumber}
 use Rattle.spec.specs.declared.TypeNumber.{TypeNumber}
 use Rattle.spec.specs.declared.TypeLine.{TypeLine}
-use Rattle.spec.specs.declared.TypeLine.the-variants.{Int, Ref, Lock, Tid, Sem}
+use Rattle.spec.specs.declared.TypeLine.the-variants.{Int, Ref, Lock, Tid, Sem, Rwlock}
 use Rattle.workspace.specs.Layout as layout
 use Rattle.workspace.specs.Region.{ChangedWithin}
 use Rattle.workspace.specs.Layout.{presAt, rowTypesAt, postsAt, startsAt, kindsAt, firstsAt, secondsAt, mapsAt, stride, emptyMap, mapCell, mapFrom, mapIn, kindOf, firstOf, secondOf}
@@ -79,8 +79,8 @@ module _ (w : List ℕ) (S : Split) (steps : List Step) (H : HoldsSplit w S) (R 
       )
       (type-of-numbers _)
 
-  -- p of a ref type is a location, K of a tid or sem type a map, in and out of a lock type maps; where they are not asked for they are
-  -- the first
+  -- p of a ref type is a location, K of a tid or sem type a map, in and out of a lock type maps, r and w of a rwlock type maps; where they
+  -- are not asked for they are the first
   pub place-in : (t : TypeNumber) → t .0 < length (S .types) → place (typeAt S t) .0 < S .header .locations
   unfolding typeAt place
   place-in t h = of-line (getD (S .types) (t .0) Int) refl
@@ -91,6 +91,7 @@ module _ (w : List ℕ) (S : Split) (steps : List Step) (H : HoldsSplit w S) (R 
       of-line (Lock i o) e = R .locations .0
       of-line (Tid k) e = R .locations .0
       of-line (Sem k) e = R .locations .0
+      of-line (Rwlock r w) e = R .locations .0
 
   pub load-in : (t : TypeNumber) → t .0 < length (S .types) → load (typeAt S t) .0 < length (S .maps)
   unfolding typeAt load
@@ -102,6 +103,7 @@ module _ (w : List ℕ) (S : Split) (steps : List Step) (H : HoldsSplit w S) (R 
       of-line (Lock i o) e = omega (arith, R .mapsCounted, R .mapsFew .0)
       of-line (Tid k) e = R .tidLoad (t .0) k h e
       of-line (Sem k) e = R .semLoad (t .0) k h e
+      of-line (Rwlock r w) e = omega (arith, R .mapsCounted, R .mapsFew .0)
 
   pub in-load-in : (t : TypeNumber) → t .0 < length (S .types) → inLoad (typeAt S t) .0 < length (S .maps)
   unfolding typeAt inLoad
@@ -113,6 +115,7 @@ module _ (w : List ℕ) (S : Split) (steps : List Step) (H : HoldsSplit w S) (R 
       of-line (Lock i o) e = R .lockLoads (t .0) i o h e .0
       of-line (Tid k) e = omega (arith, R .mapsCounted, R .mapsFew .0)
       of-line (Sem k) e = omega (arith, R .mapsCounted, R .mapsFew .0)
+      of-line (Rwlock r w) e = omega (arith, R .mapsCounted, R .mapsFew .0)
 
   pub out-load-in : (t : TypeNumber) → t .0 < length (S .types) → outLoad (typeAt S t) .0 < length (S .maps)
   unfolding typeAt outLoad
@@ -124,6 +127,31 @@ module _ (w : List ℕ) (S : Split) (steps : List Step) (H : HoldsSplit w S) (R 
       of-line (Lock i o) e = R .lockLoads (t .0) i o h e .1
       of-line (Tid k) e = omega (arith, R .mapsCounted, R .mapsFew .0)
       of-line (Sem k) e = omega (arith, R .mapsCounted, R .mapsFew .0)
+      of-line (Rwlock r w) e = omega (arith, R .mapsCounted, R .mapsFew .0)
+
+  pub read-load-in : (t : TypeNumber) → t .0 < length (S .types) → readLoad (typeAt S t) .0 < length (S .maps)
+  unfolding typeAt readLoad
+  read-load-in t h = of-line (getD (S .types) (t .0) Int) refl
+    where
+      of-line : (x : TypeLine) → getD (S .types) (t .0) Int ≡ x → readLoad x .0 < length (S .maps)
+      of-line Int e = omega (arith, R .mapsCounted, R .mapsFew .0)
+      of-line (Ref p c) e = omega (arith, R .mapsCounted, R .mapsFew .0)
+      of-line (Lock i o) e = omega (arith, R .mapsCounted, R .mapsFew .0)
+      of-line (Tid k) e = omega (arith, R .mapsCounted, R .mapsFew .0)
+      of-line (Sem k) e = omega (arith, R .mapsCounted, R .mapsFew .0)
+      of-line (Rwlock r w) e = R .rwlockLoads (t .0) r w h e .0
+
+  pub write-load-in : (t : TypeNumber) → t .0 < length (S .types) → writeLoad (typeAt S t) .0 < length (S .maps)
+  unfolding typeAt writeLoad
+  write-load-in t h = of-line (getD (S .types) (t .0) Int) refl
+    where
+      of-line : (x : TypeLine) → getD (S .types) (t .0) Int ≡ x → writeLoad x .0 < length (S .maps)
+      of-line Int e = omega (arith, R .mapsCounted, R .mapsFew .0)
+      of-line (Ref p c) e = omega (arith, R .mapsCounted, R .mapsFew .0)
+      of-line (Lock i o) e = omega (arith, R .mapsCounted, R .mapsFew .0)
+      of-line (Tid k) e = omega (arith, R .mapsCounted, R .mapsFew .0)
+      of-line (Sem k) e = omega (arith, R .mapsCounted, R .mapsFew .0)
+      of-line (Rwlock r w) e = R .rwlockLoads (t .0) r w h e .1
 
   -- ---------------------------------------------------------------- maps
 

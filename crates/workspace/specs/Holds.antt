@@ -9,7 +9,7 @@ use Rattle.spec.specs.Expression.{Step, Expr, leaf, unary, binary, size}
 use Rattle.spec.specs.Program.{Program}
 use Rattle.spec.specs.Split.{Row, Split}
 use Rattle.spec.specs.declared.MapNumber.{MapNumber}
-use Rattle.spec.specs.declared.LeafWord.the-variants.{Var, Int, Newtid, Newlock, Newsem}
+use Rattle.spec.specs.declared.LeafWord.the-variants.{Var, Int, Newtid, Newlock, Newsem, Newrwlock}
 use Rattle.spec.specs.declared.BinaryWord.the-variants.{Let, If, Spawn, Write}
 use Rattle.workspace.specs.Layout.{wordsAt, valuesAt, endsAt, letsAt, rowTypesAt, postsAt, startsAt, kindsAt, firstsAt, secondsAt, mapsAt, stride, emptyMap, codeOf, kindOf, firstOf, secondOf}
 use Rattle.workspace.specs.Region.{Region}
@@ -36,6 +36,7 @@ lets k inside (leaf Int l v) = 0 ∷ []
 lets k inside (leaf Newtid l v) = 0 ∷ []
 lets k inside (leaf Newlock l v) = 0 ∷ []
 lets k inside (leaf Newsem l v) = 0 ∷ []
+lets k inside (leaf Newrwlock l v) = 0 ∷ []
 lets k inside (unary w l v e) = 0 ∷ lets (k + 1) inside e
 lets k inside (binary Let l v e₁ e₂) = 0 ∷ (lets (k + 1) inside e₁ ++ lets (k + 1 + size e₁) ((v, k) ∷ inside) e₂)
 lets k inside (binary If l v e₁ e₂) = 0 ∷ (lets (k + 1) inside e₁ ++ lets (k + 1 + size e₁) inside e₂)

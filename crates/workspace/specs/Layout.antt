@@ -12,13 +12,13 @@ use Rattle.spec.specs.declared.TypeLine.the-variants as type-line
 use Rattle.spec.specs.declared.Word.{Word}
 use Rattle.spec.specs.declared.Word.the-variants.{Leaf, Unary, Binary}
 use Rattle.spec.specs.declared.LeafWord.{LeafWord}
-use Rattle.spec.specs.declared.LeafWord.the-variants.{Var, Int, Newtid, Newlock, Newsem}
+use Rattle.spec.specs.declared.LeafWord.the-variants.{Var, Int, Newtid, Newlock, Newsem, Newrwlock}
 use Rattle.spec.specs.declared.UnaryWord.{UnaryWord}
-use Rattle.spec.specs.declared.UnaryWord.the-variants.{While, Join, Ref, Read, Lock, Unlock, Post, Wait}
+use Rattle.spec.specs.declared.UnaryWord.the-variants.{While, Join, Ref, Read, Lock, Unlock, Post, Wait, Rdlock, Rdunlock, Wrlock, Wrunlock}
 use Rattle.spec.specs.declared.BinaryWord.{BinaryWord}
 use Rattle.spec.specs.declared.BinaryWord.the-variants.{Let, If, Spawn, Write}
 use Rattle.workspace.specs.declared.Rule.{Rule}
-use Rattle.workspace.specs.declared.Rule.the-variants.{VAR, INT, LET, IF, WHILE, NEWT, SPAWN, JOIN, REF, WRITE, READ, NEWL, LCK, ULCK, NEWSEM, POST, WAIT}
+use Rattle.workspace.specs.declared.Rule.the-variants.{VAR, INT, LET, IF, WHILE, NEWT, SPAWN, JOIN, REF, WRITE, READ, NEWL, LCK, ULCK, NEWSEM, POST, WAIT, NEWRWLOCK, RDLOCK, RDUNLOCK, WRLOCK, WRUNLOCK}
 
 -- ------------------------------------------------------------------ offsets
 
@@ -70,12 +70,15 @@ emptyMap = 512
 
 -- ------------------------------------------------------------------ words
 
--- the rules, one a word: those of Figure 5 in the printed order, then those of section 3.1.4; WAIT is the last
+-- the rules, one a word: those of Figure 5 in the printed order, then those of section 3.1.4 and those of read-write
+-- locks; WRUNLOCK is the last
 unfoldable pub printed : List Rule
-printed = VAR ∷ INT ∷ LET ∷ IF ∷ WHILE ∷ NEWT ∷ SPAWN ∷ JOIN ∷ REF ∷ WRITE ∷ READ ∷ NEWL ∷ LCK ∷ ULCK ∷ NEWSEM ∷ POST ∷ []
+printed =
+    VAR ∷ INT ∷ LET ∷ IF ∷ WHILE ∷ NEWT ∷ SPAWN ∷ JOIN ∷ REF ∷ WRITE ∷ READ ∷ NEWL ∷ LCK ∷ ULCK ∷ NEWSEM ∷ POST ∷ WAIT ∷ NEWRWLOCK ∷ RDLOCK
+    ∷ RDUNLOCK ∷ WRLOCK ∷ []
 
 unfoldable pub ruleOf : ℕ → Rule
-ruleOf k = getD printed k WAIT
+ruleOf k = getD printed k WRUNLOCK
 
 -- the word that a rule is for
 unfoldable pub wordBy : Rule → Word
@@ -96,6 +99,11 @@ wordBy ULCK = Unary Unlock
 wordBy NEWSEM = Leaf Newsem
 wordBy POST = Unary Post
 wordBy WAIT = Unary Wait
+wordBy NEWRWLOCK = Leaf Newrwlock
+wordBy RDLOCK = Unary Rdlock
+wordBy RDUNLOCK = Unary Rdunlock
+wordBy WRLOCK = Unary Wrlock
+wordBy WRUNLOCK = Unary Wrunlock
 
 unfoldable pub wordOf : ℕ → Word
 wordOf k = wordBy (ruleOf k)
@@ -107,6 +115,7 @@ leafCode Int = 1
 leafCode Newtid = 5
 leafCode Newlock = 11
 leafCode Newsem = 14
+leafCode Newrwlock = 17
 
 abbrev pub unaryCode : UnaryWord → ℕ
 unaryCode While = 4
@@ -117,6 +126,10 @@ unaryCode Lock = 12
 unaryCode Unlock = 13
 unaryCode Post = 15
 unaryCode Wait = 16
+unaryCode Rdlock = 18
+unaryCode Rdunlock = 19
+unaryCode Wrlock = 20
+unaryCode Wrunlock = 21
 
 abbrev pub binaryCode : BinaryWord → ℕ
 binaryCode Let = 2
@@ -137,6 +150,7 @@ kindOf (type-line.Ref p c) = 1
 kindOf (type-line.Lock i o) = 2
 kindOf (type-line.Tid k) = 3
 kindOf (type-line.Sem k) = 4
+kindOf (type-line.Rwlock r w) = 5
 
 abbrev pub firstOf : TypeLine → ℕ
 firstOf type-line.Int = 0
@@ -144,6 +158,7 @@ firstOf (type-line.Ref p c) = p .0
 firstOf (type-line.Lock i o) = i .0
 firstOf (type-line.Tid k) = k .0
 firstOf (type-line.Sem k) = k .0
+firstOf (type-line.Rwlock r w) = r .0
 
 abbrev pub secondOf : TypeLine → ℕ
 secondOf type-line.Int = 0
@@ -151,6 +166,7 @@ secondOf (type-line.Ref p c) = c .0
 secondOf (type-line.Lock i o) = o .0
 secondOf (type-line.Tid k) = 0
 secondOf (type-line.Sem k) = 0
+secondOf (type-line.Rwlock r w) = w .0
 
 unfoldable pub typeOf : (kind first second : ℕ) → TypeLine
 typeOf kind first second =
@@ -158,6 +174,7 @@ typeOf kind first second =
     else if eqb kind 2 then type-line.Lock (record { 0 = first }) (record { 0 = second })
     else if eqb kind 3 then type-line.Tid (record { 0 = first })
     else if eqb kind 4 then type-line.Sem (record { 0 = first })
+    else if eqb kind 5 then type-line.Rwlock (record { 0 = first }) (record { 0 = second })
     else type-line.Int
 
 unfoldable pub typeAt : List ℕ → TypeNumber → TypeLine

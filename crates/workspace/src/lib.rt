@@ -81,7 +81,15 @@ pub fn index(x: u32) -> usize
     x as usize
 }
 
-// The rules, one a word: those of Figure 5 in the printed order, and behind them those of section 3.1.4.
+// A number of the work space, so that two of them can be added or multiplied.
+pub fn wide(x: u32) -> u64
+    ensures { λ r. ⌜ (r ≡ x) × (r < 4294967296) ⌝ }
+{
+    x as u64
+}
+
+// The rules, one a word: those of Figure 5 in the printed order, behind them those of section 3.1.4 and those of read-write
+// locks.
 pub enum Rule {
     VAR,
     INT,
@@ -100,6 +108,11 @@ pub enum Rule {
     NEWSEM,
     POST,
     WAIT,
+    NEWRWLOCK,
+    RDLOCK,
+    RDUNLOCK,
+    WRLOCK,
+    WRUNLOCK,
 }
 
 fn leaf_code(w: LeafWord) -> u32
@@ -111,6 +124,7 @@ fn leaf_code(w: LeafWord) -> u32
         LeafWord::Newtid => 5,
         LeafWord::Newlock => 11,
         LeafWord::Newsem => 14,
+        LeafWord::Newrwlock => 17,
     }
 }
 
@@ -126,6 +140,10 @@ fn unary_code(w: UnaryWord) -> u32
         UnaryWord::Unlock => 13,
         UnaryWord::Post => 15,
         UnaryWord::Wait => 16,
+        UnaryWord::Rdlock => 18,
+        UnaryWord::Rdunlock => 19,
+        UnaryWord::Wrlock => 20,
+        UnaryWord::Wrunlock => 21,
     }
 }
 
@@ -172,7 +190,12 @@ pub fn rule_of(code: u32) -> Rule
         13 => Rule::ULCK,
         14 => Rule::NEWSEM,
         15 => Rule::POST,
-        _ => Rule::WAIT,
+        16 => Rule::WAIT,
+        17 => Rule::NEWRWLOCK,
+        18 => Rule::RDLOCK,
+        19 => Rule::RDUNLOCK,
+        20 => Rule::WRLOCK,
+        _ => Rule::WRUNLOCK,
     }
 }
 
@@ -198,6 +221,11 @@ fn word_by(r: Rule) -> Word
         Rule::NEWSEM => Word::Leaf(LeafWord::Newsem),
         Rule::POST => Word::Unary(UnaryWord::Post),
         Rule::WAIT => Word::Unary(UnaryWord::Wait),
+        Rule::NEWRWLOCK => Word::Leaf(LeafWord::Newrwlock),
+        Rule::RDLOCK => Word::Unary(UnaryWord::Rdlock),
+        Rule::RDUNLOCK => Word::Unary(UnaryWord::Rdunlock),
+        Rule::WRLOCK => Word::Unary(UnaryWord::Wrlock),
+        Rule::WRUNLOCK => Word::Unary(UnaryWord::Wrunlock),
     }
 }
 
@@ -218,6 +246,7 @@ pub fn kind_of(t: TypeLine) -> u32
         TypeLine::Lock(_, _) => 2,
         TypeLine::Tid(_) => 3,
         TypeLine::Sem(_) => 4,
+        TypeLine::Rwlock(_, _) => 5,
     }
 }
 
@@ -230,6 +259,7 @@ pub fn first_of(t: TypeLine) -> u32
         TypeLine::Lock(i, _) => i.0,
         TypeLine::Tid(k) => k.0,
         TypeLine::Sem(k) => k.0,
+        TypeLine::Rwlock(r, _) => r.0,
     }
 }
 
@@ -242,6 +272,7 @@ pub fn second_of(t: TypeLine) -> u32
         TypeLine::Lock(_, o) => o.0,
         TypeLine::Tid(_) => 0,
         TypeLine::Sem(_) => 0,
+        TypeLine::Rwlock(_, w) => w.0,
     }
 }
 
@@ -254,6 +285,7 @@ fn type_of(kind: u32, first: u32, second: u32) -> TypeLine
         2 => TypeLine::Lock(MapNumber(first), MapNumber(second)),
         3 => TypeLine::Tid(MapNumber(first)),
         4 => TypeLine::Sem(MapNumber(first)),
+        5 => TypeLine::Rwlock(MapNumber(first), MapNumber(second)),
         _ => TypeLine::Int,
     }
 }

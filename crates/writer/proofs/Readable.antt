@@ -13,7 +13,7 @@ use Rattle.spec.specs.Choice.{if_then_else_}
 use Rattle.spec.specs.Text.{Line, bytes, same, Field, lookUp}
 use Rattle.spec.specs.Reading.{noStart, right, _to_, below, inRange, allInRange}
 use Rattle.spec.specs.Expression.{Step}
-use Rattle.spec.specs.Split.{Map, Header, headings, startOf, headerOf, headed, headerLine, refOf, lockOf, tidOf, semOf, typeLine, typeLines, mapLine, Row, rowOf, startGiven, takesStart, startRange, mayBeEmpty, postRange, postField, rowLine, Split}
+use Rattle.spec.specs.Split.{Map, Header, headings, startOf, headerOf, headed, headerLine, refOf, lockOf, tidOf, semOf, rwlockOf, typeLine, typeLines, mapLine, Row, rowOf, startGiven, takesStart, startRange, mayBeEmpty, postRange, postField, rowLine, Split}
 use Rattle.spec.specs.WellFormed.{Shows, nothing, line, WellFormedSplit}
 use Rattle.spec.specs.Accepted.{AtMost}
 use Rattle.spec.specs.Accepted as accepted
@@ -22,7 +22,7 @@ use Rattle.spec.specs.declared.Heading.the-variants.{C, C2, C3}
 use Rattle.spec.specs.declared.Purpose.{Purpose}
 use Rattle.spec.specs.declared.MapNumber.{MapNumber}
 use Rattle.spec.specs.declared.TypeLine.{TypeLine}
-use Rattle.spec.specs.declared.TypeLine.the-variants.{Int, Ref, Lock, Tid, Sem}
+use Rattle.spec.specs.declared.TypeLine.the-variants.{Int, Ref, Lock, Tid, Sem, Rwlock}
 use Rattle.spec.specs.declared.Word.{Word}
 use Rattle.spec.proofs.Tests.{both-true}
 use Rattle.spec.proofs.Ranges.{wrong-is-not-right, seen-right, numbers-right, in-to, in-range-at, insist-right, well-formed-in-range}
@@ -51,6 +51,7 @@ TypeShows h (Ref p c) = Unit {0}
 TypeShows h (Lock i o) = LockShows h i o
 TypeShows h (Tid k) = Unit {0}
 TypeShows h (Sem k) = Unit {0}
+TypeShows h (Rwlock r w) = Unit {0}
 
 lock-made : (h : Heading) (ns : List ℕ) → TypeShows h (lockOf h ns)
 unfolding TypeShows lockOf LockShows
@@ -59,7 +60,7 @@ lock-made C2 ns = refl
 lock-made C3 ns = tt
 
 type-shows : (H : Header) (own : ℕ) (fs : List Field) (τ : TypeLine) → typeLine H own fs ≡ right τ → TypeShows (H .heading) τ
-unfolding typeLine TypeShows refOf tidOf semOf
+unfolding typeLine TypeShows refOf tidOf semOf rwlockOf
 type-shows H own [] τ h = wrong-is-not-right h
 type-shows H own (f ∷ fs) τ h =
     let Q = TypeShows (H .heading) in
@@ -68,7 +69,8 @@ type-shows H own (f ∷ fs) τ h =
     (choice-right Q (same f (bytes "lock")) _ _ (λ w σ g. let (ns, _, e) = seen-right _ g in along Q e (lock-made (H .heading) ns))
     (choice-right Q (same f (bytes "tid")) _ _ (λ w σ g. let (_, _, e) = seen-right _ g in along Q e tt)
     (choice-right Q (same f (bytes "sem")) _ _ (λ w σ g. let (_, _, e) = seen-right _ g in along Q e tt)
-    (λ σ g. wrong-is-not-right g))))) τ h
+    (choice-right Q (same f (bytes "rwlock")) _ _ (λ w σ g. let (_, _, e) = seen-right _ g in along Q e tt)
+    (λ σ g. wrong-is-not-right g)))))) τ h
 
 locks-show : (H : Header) (own n : ℕ) {ls rest : List Line} {τs : List TypeLine} → Shows (typeLines H own n) ls τs rest
     → (t : ℕ) (i o : MapNumber) → t < length τs → getD τs t Int ≡ Lock i o → LockShows (H .heading) i o

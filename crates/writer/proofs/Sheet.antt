@@ -11,7 +11,7 @@ use lib.ListN.{length, replicate, getD, length-map, length-replicate, getD-repli
 use Rattle.spec.specs.Text.{bytes, same, lookUp, lines, Field}
 use Rattle.spec.specs.Reading.{splitSheet, on, Seen, right, seen, insist, Range, _to_, below, numbers, begin, noneLeft, end}
 use Rattle.spec.specs.Expression.{Step}
-use Rattle.spec.specs.Split.{Map, Header, headings, headerRanges, mapsIn, mapsOf, startOf, headerOf, headed, headerLine, refOf, lockOf, outRange, tidOf, semOf, typeLine, typeLines, mapLine, Row, rowOf, startGiven, startRange, postRange, postField, rowLine, Split, split}
+use Rattle.spec.specs.Split.{Map, Header, headings, headerRanges, mapsIn, mapsOf, startOf, headerOf, headed, headerLine, refOf, lockOf, outRange, tidOf, semOf, rwlockOf, typeLine, typeLines, mapLine, Row, rowOf, startGiven, startRange, postRange, postField, rowLine, Split, split}
 use Rattle.spec.specs.Ranges.{InRange}
 use Rattle.spec.specs.Accepted.{AtMost}
 use Rattle.spec.specs.Accepted as accepted
@@ -22,7 +22,7 @@ use Rattle.spec.specs.declared.MapNumber.{MapNumber}
 use Rattle.spec.specs.declared.Word.the-variants.{Leaf}
 use Rattle.spec.specs.declared.LeafWord.the-variants.{Var}
 use Rattle.spec.specs.declared.TypeLine.{TypeLine}
-use Rattle.spec.specs.declared.TypeLine.the-variants.{Int, Ref, Lock, Tid, Sem}
+use Rattle.spec.specs.declared.TypeLine.the-variants.{Int, Ref, Lock, Tid, Sem, Rwlock}
 use Rattle.spec.proofs.Outcomes.{goes-on-bind}
 use Rattle.spec.proofs.Reading.{read-next, read-all}
 use Rattle.writer.specs.Text.{decimal, text}
@@ -58,6 +58,8 @@ type-plain h (Ref p t) = plain-word (p .0) (t .0 ∷ []) (word-3 refl refl refl 
 type-plain h (Lock i o) = plain-word (i .0) (outNumber h o ∷ []) (plain.more refl refl (word-3 refl refl refl refl refl refl))
 type-plain h (Tid k) = plain-word (k .0) (0 ∷ []) (word-3 refl refl refl refl refl refl)
 type-plain h (Sem k) = plain-word (k .0) (0 ∷ []) (word-3 refl refl refl refl refl refl)
+type-plain h (Rwlock r w) =
+    plain-word (r .0) (w .0 ∷ []) (plain.more refl refl (plain.more refl refl (plain.more refl refl (word-3 refl refl refl refl refl refl))))
 
 map-plain : (m : Map) → 1 ≤ length m → PlainLine (mapFields m)
 unfolding mapFields
@@ -172,7 +174,7 @@ module _ {steps : List Step} {S : Split} (W : Writable steps S) where
   lock-back C3 i o first second any = rw (numbers-back (within-below first few-maps (within-below second few-maps empty)))
 
   type-back : (t : ℕ) (τ : TypeLine) → t < length (S .types) → getD (S .types) t Int ≡ τ → typeLine H t (typeFields (H .heading) τ) ≡ right τ
-  unfolding typeLine typeFields same bytes seen refOf lockOf tidOf semOf
+  unfolding typeLine typeFields same bytes seen refOf lockOf tidOf semOf rwlockOf
   type-back t Int h e = rw (numbers-back (zero-in (zero-in empty)))
   type-back t (Ref p c) h e =
       let (place, content) = R .refPlace t p c h e in
@@ -180,6 +182,8 @@ module _ {steps : List Step} {S : Split} (W : Writable steps S) where
   type-back t (Lock i o) h e = let (first, second) = R .lockLoads t i o h e in lock-back (H .heading) i o (a-map first) (a-map second) (W .lockShows t i o h e)
   type-back t (Tid k) h e = rw (numbers-back (within-below (a-map (R .tidLoad t k h e)) (omega (arith, R .mapsFew)) (zero-in empty)))
   type-back t (Sem k) h e = rw (numbers-back (within-below (a-map (R .semLoad t k h e)) (omega (arith, R .mapsFew)) (zero-in empty)))
+  type-back t (Rwlock r w) h e =
+      let (first, second) = R .rwlockLoads t r w h e in rw (numbers-back (within-below (a-map first) few-maps (within-below (a-map second) few-maps empty)))
 
   map-back : (m : Map) → length m ≡ H .locations → AtMost 1000000000 m → mapLine H (mapFields m) ≡ right m
   unfolding mapLine mapFields

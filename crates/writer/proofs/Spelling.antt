@@ -14,7 +14,7 @@ use Rattle.spec.specs.Choice.{if_then_else_}
 use Rattle.spec.specs.Text.{Line, bytes, same, Field, fields, lookUp}
 use Rattle.spec.specs.Reading.{Seen, right, noStart, seen, Range, _to_, below, inRange, numerals, numbers}
 use Rattle.spec.specs.Expression.{Step}
-use Rattle.spec.specs.Split.{Map, Header, headings, headerRanges, mapsOf, mapsIn, startOf, headerOf, headed, headerLine, refOf, lockOf, outRange, tidOf, semOf, typeLine, typeLines, mapLine, Row, rowOf, startGiven, startRange, postRange, postField, rowLine, Split}
+use Rattle.spec.specs.Split.{Map, Header, headings, headerRanges, mapsOf, mapsIn, startOf, headerOf, headed, headerLine, refOf, lockOf, outRange, tidOf, semOf, rwlockOf, typeLine, typeLines, mapLine, Row, rowOf, startGiven, startRange, postRange, postField, rowLine, Split}
 use Rattle.spec.specs.WellFormed.{Shows, WellFormedSplit}
 use Rattle.spec.specs.WellFormed as well-formed
 use Rattle.spec.specs.declared.Heading.{Heading}
@@ -139,7 +139,7 @@ module _ (H : Header) (own : ℕ) (f : Field) (fs : List Field) where
       ∙ ap (λ (b : ℕ). bytes "int" ∷ map decimal (getD ns 0 0 ∷ b ∷ [])) (omega (arith, second))
 
 type-spelling : (H : Header) (own : ℕ) (τ : TypeLine) (fs : List Field) → typeLine H own fs ≡ right τ → fs ≡ typeFields (H .heading) τ
-unfolding typeLine typeFields refOf lockOf tidOf semOf entries
+unfolding typeLine typeFields refOf lockOf tidOf semOf rwlockOf entries
 type-spelling H own τ [] h = wrong-is-not-right h
 type-spelling H own τ (f ∷ fs) h =
     let Q : TypeLine → Type 0 = λ σ. f ∷ fs ≡ typeFields (H .heading) σ in
@@ -149,7 +149,8 @@ type-spelling H own τ (f ∷ fs) h =
     (choice-right Q (same f (bytes "lock")) _ _ (spelled (bytes "lock") _ _ (lock-shown H own f fs (H .heading)))
     (choice-right Q (same f (bytes "tid")) _ _ (spelled (bytes "tid") _ _ (load-shown H own f fs (bytes "tid")))
     (choice-right Q (same f (bytes "sem")) _ _ (spelled (bytes "sem") _ _ (load-shown H own f fs (bytes "sem")))
-    (λ σ g. wrong-is-not-right g))))) τ h
+    (choice-right Q (same f (bytes "rwlock")) _ _ (spelled (bytes "rwlock") _ _ (λ ns n. refl))
+    (λ σ g. wrong-is-not-right g)))))) τ h
 
 types-spelling : (H : Header) (own n : ℕ) {ls rest : List Line} {τs : List TypeLine} → Shows (typeLines H own n) ls τs rest
     → OneSpelling (typeLines H own n) τs (map (typeFields (H .heading)) τs)

@@ -10,7 +10,7 @@ use Rattle.spec.specs.declared.Purpose.{Purpose}
 use Rattle.spec.specs.declared.Purpose.the-variants.{Check, Fill}
 use Rattle.spec.specs.declared.MapNumber.{MapNumber}
 use Rattle.spec.specs.declared.TypeLine.{TypeLine}
-use Rattle.spec.specs.declared.TypeLine.the-variants.{Int, Ref, Lock, Tid, Sem}
+use Rattle.spec.specs.declared.TypeLine.the-variants.{Int, Ref, Lock, Tid, Sem, Rwlock}
 use Rattle.writer.specs.Text.{decimal, text}
 
 -- `C,D,L,T,M`, `C2,D,L,T,M,r` and `C3,D,L,T,M,r`
@@ -33,13 +33,14 @@ outNumber C o = 0
 outNumber C2 o = 0
 outNumber C3 o = o .0
 
--- `int,0,0`; `ref,p,t`; `lock,k,0`, or `lock,in,out`; `tid,k,0`; `sem,k,0`
+-- `int,0,0`; `ref,p,t`; `lock,k,0`, or `lock,in,out`; `tid,k,0`; `sem,k,0`; `rwlock,r,w`
 unfoldable pub typeFields : Heading → TypeLine → List Field
 typeFields h Int = bytes "int" ∷ map decimal (0 ∷ 0 ∷ [])
 typeFields h (Ref p t) = bytes "ref" ∷ map decimal (p .0 ∷ t .0 ∷ [])
 typeFields h (Lock i o) = bytes "lock" ∷ map decimal (i .0 ∷ outNumber h o ∷ [])
 typeFields h (Tid k) = bytes "tid" ∷ map decimal (k .0 ∷ 0 ∷ [])
 typeFields h (Sem k) = bytes "sem" ∷ map decimal (k .0 ∷ 0 ∷ [])
+typeFields h (Rwlock r w) = bytes "rwlock" ∷ map decimal (r .0 ∷ w .0 ∷ [])
 
 -- a numeral for each location
 unfoldable pub mapFields : Map → List Field

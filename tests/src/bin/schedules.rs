@@ -211,8 +211,14 @@ fn faulty_are_refused(checker: Checker) -> Result<String, String> {
     Ok(format!("{races} with a race and {halts} with an odd halt, all refused; {still_accepted} still accepted"))
 }
 
-const SLIPS: [Slip; 5] =
-    [Slip::LocksForFree, Slip::StartsForFree, Slip::WritesByFirstMap, Slip::PostsForFree, Slip::PrintedInequality];
+const SLIPS: [Slip; 6] = [
+    Slip::LocksForFree,
+    Slip::StartsForFree,
+    Slip::WritesByFirstMap,
+    Slip::PostsForFree,
+    Slip::PrintedInequality,
+    Slip::PlacesForFree,
+];
 
 /// Drafts built with one of the mistakes that a checker may make: some of them race, and those must be
 /// refused.
@@ -236,16 +242,18 @@ fn slips_are_refused(checker: Checker) -> Result<String, String> {
     Ok(format!("{}, all refused", told.join(", ")))
 }
 
-/// Takes away what keeps threads apart: a `lock` becomes an `unlock`, a `wait` a `post`, a `join` a mere
-/// `ref`.
+/// Takes away what keeps threads apart: a `lock` becomes an `unlock`, a `wait` a `post`, a `wrlock` a
+/// `rdlock`, a `join` or a `rdlock` a mere `ref`.
 fn loosen(random: &mut Random, draft: &mut Draft) {
-    let guard = |step: &usize| matches!(draft.steps[*step].word, Word::Lock | Word::Wait | Word::Join);
+    use Word::{Join, Lock, Rdlock, Wait, Wrlock};
+    let guard = |step: &usize| matches!(draft.steps[*step].word, Lock | Wait | Join | Rdlock | Wrlock);
     let guards: Vec<usize> = (0..draft.steps.len()).filter(guard).collect();
     if !guards.is_empty() {
         let guard = &mut draft.steps[random.pick(&guards)];
         guard.word = match guard.word {
             Word::Lock => Word::Unlock,
             Word::Wait => Word::Post,
+            Word::Wrlock => Word::Rdlock,
             _ => Word::Ref,
         };
     }

@@ -44,6 +44,9 @@ impl Writer<'_> {
             Type::Lock { taken, given } => self.new_lock(taken, given),
             Type::Tid(map) => Type::Tid(self.new_map(map)),
             Type::Sem(map) => Type::Sem(self.new_map(map)),
+            Type::Rwlock { reading, writing } => {
+                Type::Rwlock { reading: self.new_map(reading), writing: self.new_map(writing) }
+            }
         };
         self.draft.add_type(kind)
     }
@@ -58,6 +61,9 @@ impl Writer<'_> {
             Type::Lock { taken, given } => self.new_lock(taken, given),
             Type::Tid(map) => Type::Tid(self.new_map(map)),
             Type::Sem(map) => Type::Sem(self.new_map(map)),
+            Type::Rwlock { reading, writing } => {
+                Type::Rwlock { reading: self.new_map(reading), writing: self.new_map(writing) }
+            }
         };
         let number = self.draft.add_type(kind);
         self.shared_types[old] = Some(number);

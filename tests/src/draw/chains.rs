@@ -20,7 +20,13 @@ pub fn chain(random: &mut Random) -> Drawn {
     let length = 1 + random.below(longest);
     let locations = 1 + random.below(3);
     let mut draft = empty(locations);
-    let bottom = random.pick(&[Type::Int, Type::lock(NOTHING), Type::Tid(NOTHING), Type::Sem(NOTHING)]);
+    let bottom = random.pick(&[
+        Type::Int,
+        Type::lock(NOTHING),
+        Type::Tid(NOTHING),
+        Type::Sem(NOTHING),
+        readers(NOTHING, NOTHING),
+    ]);
     let places: Vec<usize> = (0..length).map(|_| random.below(locations)).collect();
     let levels = write_chain(&mut draft, bottom, &places);
     let mut differs = false;
@@ -55,12 +61,17 @@ fn write_chain(draft: &mut Draft, bottom: Type, places: &[usize]) -> Vec<usize> 
     levels
 }
 
+const fn readers(reading: usize, writing: usize) -> Type {
+    Type::Rwlock { reading, writing }
+}
+
 /// A type that agrees, with its map under another number.
 fn again(kind: Type) -> Type {
     match kind {
         Type::Lock { .. } => Type::lock(NOTHING_AGAIN),
         Type::Tid(_) => Type::Tid(NOTHING_AGAIN),
         Type::Sem(_) => Type::Sem(NOTHING_AGAIN),
+        Type::Rwlock { .. } => readers(NOTHING_AGAIN, NOTHING),
         other => other,
     }
 }
@@ -72,7 +83,8 @@ fn differ(random: &mut Random, bottom: &mut Type, places: &mut [usize], location
             Type::Int => random.pick(&[Type::lock(NOTHING), Type::Tid(NOTHING)]),
             Type::Lock { .. } => random.pick(&[Type::Int, Type::lock(NEARLY_NOTHING), Type::Tid(NOTHING)]),
             Type::Tid(_) => random.pick(&[Type::Int, Type::Tid(NEARLY_NOTHING), Type::Sem(NOTHING)]),
-            _ => random.pick(&[Type::Int, Type::Sem(NEARLY_NOTHING), Type::lock(NOTHING)]),
+            Type::Sem(_) => random.pick(&[Type::Int, Type::Sem(NEARLY_NOTHING), Type::lock(NOTHING)]),
+            _ => random.pick(&[readers(NEARLY_NOTHING, NOTHING), readers(NOTHING, NEARLY_NOTHING), Type::Sem(NOTHING)]),
         };
         return true;
     }
@@ -83,7 +95,10 @@ fn differ(random: &mut Random, bottom: &mut Type, places: &mut [usize], location
 
 /// The program with the first chain's types, and the type shown at the use.
 fn write_steps(draft: &mut Draft, levels: &[usize], shown: usize) {
-    let step = |word, kind| Step { word, number: 0, kind, post: 0, start: None };
+    let step = |word, kind| {
+        let number = u32::from(word == Word::Newrwlock);
+        Step { word, number, kind, post: 0, start: None }
+    };
     draft.steps.push(step(Word::Let, shown));
     for &level in levels[1..].iter().rev() {
         draft.steps.push(step(Word::Ref, level));
@@ -92,6 +107,7 @@ fn write_steps(draft: &mut Draft, levels: &[usize], shown: usize) {
         Type::Lock { .. } => Word::Newlock,
         Type::Tid(_) => Word::Newtid,
         Type::Sem(_) => Word::Newsem,
+        Type::Rwlock { .. } => Word::Newrwlock,
         _ => Word::Int,
     };
     draft.steps.push(step(bottom, levels[0]));

@@ -8,7 +8,7 @@ use super::draft::{Draft, Map, Step, Type};
 use super::headings::often_written_out;
 use super::honest::Builder;
 use super::random::Random;
-use crate::answer::WHOLE;
+use crate::answer::{PLACES, WHOLE};
 use crate::words::Word;
 
 /// A draft whose first false condition is this one of this word.
@@ -56,20 +56,22 @@ impl Sabotage<'_> {
             (Var, 1) => self.other_shown(own),
             (Let | If, 1) | (Read, 2) => self.other_type(own),
             (Ref, 1) if self.random.percent(50) => self.other_content(own),
-            (Int | While | Spawn | Join | Write | Newtid | Newlock | Newsem | Ref, 1) => self.other_kind(own),
-            (Lock | Unlock | Post | Wait, 1) => self.other_kind(own),
             (If, 2) | (Write, 3) => self.other_type(self.draft.second_of(own)),
-            (Spawn | Join | Write | Lock | Unlock | Post | Wait, 2) | (Read, 1) => self.other_kind(e1),
             (Var | Int | Let | Newtid | Ref | Newlock | Newsem, 2) => self.other_post(own),
-            (Join | Lock | Unlock | Post | Wait | Read, 3) => self.other_post(own),
-            (Write | Spawn, 4) => self.other_post(own),
+            (Read | Newrwlock, 3) | (Write | Spawn, 4) => self.other_post(own),
+            (Newrwlock, 2) => self.too_many_places(),
             (If, 3) => self.post_over(self.post(e1)),
             (If, 4) => self.post_over_second(),
             (While, 2) => self.post_over(self.pre),
             (While, 3) => self.post_under(e1, self.post(own)),
             (Spawn, 3) => self.body_under_identifier(),
+            (Read, 1) => self.other_kind(e1),
             (Read, 4) => self.access_under(e1, e1, 1),
             (Write, 5) => self.access_under(e1, self.draft.second_of(own), self.draft.whole),
+            // What is left are words of int type or new things, and then words whose part moves a map.
+            (_, 1) => self.other_kind(own),
+            (_, 2) => self.other_kind(e1),
+            (_, 3) => self.other_post(own),
             _ => None,
         }?;
         Some(self.draft)
@@ -123,6 +125,10 @@ impl Sabotage<'_> {
             Type::Lock { taken, given } => self.near_lock(taken, given),
             Type::Tid(map) => Type::Tid(self.near_map(map)),
             Type::Sem(map) => Type::Sem(self.near_map(map)),
+            Type::Rwlock { reading, writing } if self.random.percent(50) => {
+                Type::Rwlock { reading: self.near_map(reading), writing }
+            }
+            Type::Rwlock { reading, writing } => Type::Rwlock { reading, writing: self.near_map(writing) },
             Type::Ref { location, content } if self.draft.locations > 1 && self.random.percent(40) => {
                 Type::Ref { location: (location + 1) % self.draft.locations, content }
             }
@@ -147,6 +153,23 @@ impl Sabotage<'_> {
             _ => most[last] = (most[last] + 1).min(WHOLE),
         }
         Type::Lock { taken: self.draft.add_map(least), given: self.draft.add_map(most) }
+    }
+
+    /// A new read-write lock with one reading place too many, or with so much for each reader that 32 bits
+    /// do not hold what all of them get.
+    fn too_many_places(&mut self) -> Option<()> {
+        let Type::Rwlock { reading, writing } = self.draft.types[self.draft.steps[self.step].kind] else { return None };
+        let most = self.draft.places(reading, writing);
+        if most < PLACES && self.random.percent(70) {
+            self.draft.steps[self.step].number = most + 1;
+            return Some(());
+        }
+        let mut map = self.draft.maps[reading];
+        map[self.random.below(self.draft.locations)] = (1 << 26) * self.random.between(1, 14);
+        let reading = self.draft.add_map(map);
+        self.draft.steps[self.step].number = PLACES;
+        self.draft.steps[self.step].kind = self.draft.add_type(Type::Rwlock { reading, writing });
+        Some(())
     }
 
     /// A map that differs from a known one at the last location alone, by 1.

@@ -1,6 +1,6 @@
 //! A pair of sheets before it is written out as text.
 
-use crate::answer::LOCATIONS;
+use crate::answer::{LOCATIONS, PLACES};
 use crate::words::Word;
 use std::collections::BTreeSet;
 
@@ -21,6 +21,10 @@ pub enum Type {
     },
     Tid(usize),
     Sem(usize),
+    Rwlock {
+        reading: usize,
+        writing: usize,
+    },
 }
 
 impl Type {
@@ -88,6 +92,9 @@ impl Draft {
             (Type::Lock { taken: left, given: left_out }, Type::Lock { taken: right, given: right_out }) => {
                 self.maps[left] == self.maps[right] && self.maps[left_out] == self.maps[right_out]
             }
+            (Type::Rwlock { reading: left, writing: left_w }, Type::Rwlock { reading: right, writing: right_w }) => {
+                self.maps[left] == self.maps[right] && self.maps[left_w] == self.maps[right_w]
+            }
             (Type::Tid(left), Type::Tid(right)) | (Type::Sem(left), Type::Sem(right)) => {
                 self.maps[left] == self.maps[right]
             }
@@ -109,6 +116,13 @@ impl Draft {
 
     pub fn has_two_loads(&self) -> bool {
         matches!(self.heading, Heading::C3 { .. })
+    }
+
+    /// The most reading places whose shares are together nowhere more than the writing share.
+    pub fn places(&self, reading: usize, writing: usize) -> u32 {
+        let (reading, writing) = (self.maps[reading], self.maps[writing]);
+        let read = (0..self.locations).filter(|&location| reading[location] > 0);
+        read.map(|location| writing[location] / reading[location]).fold(PLACES, u32::min)
     }
 
     /// The number of the map that the program starts with.
@@ -135,6 +149,7 @@ impl Draft {
             match kind {
                 Type::Int | Type::Ref { .. } => {}
                 Type::Lock { taken, given } => (*taken, *given) = (new[*taken], new[*given]),
+                Type::Rwlock { reading, writing } => (*reading, *writing) = (new[*reading], new[*writing]),
                 Type::Tid(map) | Type::Sem(map) => *map = new[*map],
             }
         }
@@ -153,6 +168,7 @@ impl Draft {
             Type::Int | Type::Ref { .. } => vec![],
             Type::Lock { taken, given } => vec![taken, given],
             Type::Tid(map) | Type::Sem(map) => vec![map],
+            Type::Rwlock { reading, writing } => vec![reading, writing],
         });
         let starts = self.steps.iter().filter_map(|step| step.start);
         let used: BTreeSet<usize> = carried.chain(starts).chain([self.start()]).collect();
@@ -199,6 +215,7 @@ impl Draft {
                 Type::Lock { taken, given } => (b"lock,", taken, given),
                 Type::Tid(map) => (b"tid,", map, 0),
                 Type::Sem(map) => (b"sem,", map, 0),
+                Type::Rwlock { reading, writing } => (b"rwlock,", reading, writing),
             };
             push_fields(&mut text, word, &[first as u32, second as u32]);
         }

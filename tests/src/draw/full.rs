@@ -97,11 +97,15 @@ fn wrap(draft: &mut Draft, variable: u32, int: usize, with_loop: bool) {
 pub fn with_types(random: &mut Random, draft: &mut Draft, count: usize) {
     while draft.types.len() < count {
         let content = random.below(draft.types.len());
-        let kind = match random.below(5) {
+        let kind = match random.below(6) {
             0 => Type::Int,
             1 => Type::lock(random.below(draft.maps.len())),
             2 => Type::Tid(random.below(draft.maps.len())),
             3 => Type::Sem(random.below(draft.maps.len())),
+            4 => {
+                let (reading, writing) = (random.below(draft.maps.len()), random.below(draft.maps.len()));
+                Type::Rwlock { reading, writing }
+            }
             _ => Type::Ref { location: random.below(draft.locations), content },
         };
         draft.types.push(kind);

@@ -1,12 +1,13 @@
 //! Pairs at the limits of document 01 and one past them.
 
-use super::draft::{Draft, Heading, Type};
+use super::draft::{Draft, Heading, Map, Step, Type};
 use super::full::{full, program_with_bytes, with_locations, with_maps, with_steps, with_types};
 use super::headings::often_written_out;
 use super::honest;
+use super::promise::Promise;
 use super::random::Random;
 use super::Drawn;
-use crate::answer::{LOCATIONS, MAPS, PROGRAM_BYTES, SPLIT_BYTES, STEPS, TYPES, WHOLE, WORK_SPACE};
+use crate::answer::{Returned, LOCATIONS, MAPS, PLACES, PROGRAM_BYTES, SPLIT_BYTES, STEPS, TYPES, WHOLE, WORK_SPACE};
 use crate::words::Word;
 
 /// A pair at one of the limits, or one past it.
@@ -15,7 +16,7 @@ pub fn at_limit(random: &mut Random) -> Drawn {
     let draft = honest::draft(random, 10, 2, 4);
     let mut draft = often_written_out(random, draft);
     let mut room = WORK_SPACE;
-    match random.below(14) {
+    match random.below(15) {
         0 => drop(with_steps(random, &mut draft, STEPS as usize + past)),
         1 => with_types(random, &mut draft, TYPES as usize + past),
         2 => with_maps(&mut draft, MAPS as usize + past),
@@ -29,6 +30,7 @@ pub fn at_limit(random: &mut Random) -> Drawn {
         10 => room = random.pick(&[0, 1, WORK_SPACE - 1, WORK_SPACE + 1, WORK_SPACE + 40]),
         11 => return program_of(draft, PROGRAM_BYTES + past),
         12 => draft = smallest(random),
+        13 => return reading_places(random),
         _ => return split_of(random, past),
     }
     Drawn { room, ..Drawn::of(&draft, "limit") }
@@ -56,6 +58,17 @@ fn smallest(random: &mut Random) -> Draft {
             return draft;
         }
     }
+}
+
+/// A new read-write lock with the fewest or the most reading places, or one past them.
+fn reading_places(random: &mut Random) -> Drawn {
+    let number = random.pick(&[0, 1, PLACES, PLACES + 1]);
+    let step = Step { word: Word::Newrwlock, number, kind: 0, post: 0, start: None };
+    let (types, maps) = (vec![Type::Rwlock { reading: 0, writing: 0 }], vec![Map::default()]);
+    let draft = Draft { heading: Heading::C, whole: 1, locations: 1, types, maps, steps: vec![step] };
+    let refused = Promise::Exactly(Returned::at_line(12, 2));
+    let promise = if (1..=PLACES).contains(&number) { Promise::Accepted } else { refused };
+    Drawn { promise, ..Drawn::of(&draft, "limit") }
 }
 
 /// A number of a map at its limit or one past.

@@ -1,8 +1,8 @@
 //! Mutants: one thing changed in an honest pair, in the draft or in a sheet's text.
 
-use super::draft::{push_numeral, Draft, Heading, Type};
+use super::draft::{push_numeral, Draft, Heading, Step, Type};
 use super::random::Random;
-use crate::answer::WHOLE;
+use crate::answer::{PLACES, WHOLE};
 use crate::words::{Word, WORDS};
 
 /// Changes one word, type, map, number or share of a draft.
@@ -12,12 +12,21 @@ pub fn change_draft(random: &mut Random, draft: &mut Draft) {
         0 | 1 => draft.steps[step].kind = random.below(draft.types.len()),
         2 | 3 => draft.steps[step].post = random.below(draft.maps.len()),
         4 => draft.steps[step].start = random.percent(70).then(|| random.below(draft.maps.len())),
-        5 => draft.steps[step].word = word_like(random, draft.steps[step].word),
+        5 => change_word(random, &mut draft.steps[step]),
         6 => change_variable(random, draft),
         7 => change_type(random, draft),
         8 => change_number(random, draft),
         9 => change_heading(random, draft),
         _ => draft.whole = random.pick(&[1, 2, draft.whole + 1, draft.whole.max(2) - 1, WHOLE]),
+    }
+}
+
+/// Another word, with a number that it may have.
+fn change_word(random: &mut Random, step: &mut Step) {
+    let known = step.word;
+    step.word = word_like(random, known);
+    if step.word == Word::Newrwlock || known == Word::Newrwlock {
+        step.number = u32::from(step.word == Word::Newrwlock) * random.between(1, PLACES);
     }
 }
 
@@ -58,11 +67,12 @@ fn change_type(random: &mut Random, draft: &mut Draft) {
     let own = random.below(draft.types.len());
     let map = random.below(draft.maps.len());
     let location = random.below(draft.locations);
-    draft.types[own] = match random.below(5) {
+    draft.types[own] = match random.below(6) {
         0 if draft.has_two_loads() => Type::Lock { taken: map, given: random.below(draft.maps.len()) },
         0 => Type::lock(map),
         1 => Type::Tid(map),
         2 => Type::Sem(map),
+        4 => Type::Rwlock { reading: map, writing: random.below(draft.maps.len()) },
         3 => Type::Ref { location, content: random.below(own.max(1)) },
         _ => Type::Int,
     };

@@ -68,7 +68,8 @@ fn drawn_tree(random: &mut Random) -> Draft {
     for own in 1..4 {
         let map = random.below(3);
         let cell = Type::Ref { location: random.below(locations), content: random.below(own) };
-        draft.types.push(random.pick(&[Type::Int, cell, Type::lock(map), Type::Tid(map), Type::Sem(map)]));
+        let readers = Type::Rwlock { reading: map, writing: random.below(3) };
+        draft.types.push(random.pick(&[Type::Int, cell, Type::lock(map), Type::Tid(map), Type::Sem(map), readers]));
     }
     let mut open = 1;
     while open > 0 && draft.steps.len() < 256 {
@@ -87,6 +88,7 @@ fn drawn_step(random: &mut Random, open: usize) -> Step {
     let number = match word {
         Word::Var | Word::Let => random.between(0, 5),
         Word::Int => random.between(0, 9),
+        Word::Newrwlock => random.between(1, 3),
         _ => 0,
     };
     let start = (word == Word::Spawn && random.percent(80)).then(|| random.below(3));

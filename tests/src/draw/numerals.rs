@@ -98,7 +98,8 @@ fn place_in_split(random: &mut Random, draft: &Draft) -> Place {
 /// A type; each kind that there is is as likely as another.
 fn drawn_type(random: &mut Random, draft: &Draft) -> usize {
     let cell = Type::Ref { location: 0, content: 0 };
-    let wanted = random.pick(&[Type::Int, cell, Type::lock(0), Type::Tid(0), Type::Sem(0)]);
+    let readers = Type::Rwlock { reading: 0, writing: 0 };
+    let wanted = random.pick(&[Type::Int, cell, Type::lock(0), Type::Tid(0), Type::Sem(0), readers]);
     let alike = |kind: usize| std::mem::discriminant(&draft.types[kind]) == std::mem::discriminant(&wanted);
     drawn_where(random, 0..draft.types.len(), alike)
 }

@@ -135,6 +135,19 @@ pub const SHEETS: &[Known] = &[
     pair(ONE, "C3,1,1,2,3,0|int,0,0|lock,1,2|2|1|0|0,,|", "REFUSE,44,3,0,0"),
     pair(ONE, "C3,1,1,1,1,0|int,0,0|1|0,,|", "C3,1,1,1,2,0|int,0,0|1|1|0,1,|"),
     pair(ONE, "C2,1,1,2,1,0|int,0,0|lock,0,1|1|0,,|", "REFUSE,22,3,0,0"),
+    // Read-write locks, request (xi). A false N x r <= w leaves no maps.
+    pair("P,1|newrwlock,2|", "C2,2,1,1,2,0|rwlock,1,0|2|1|0,,|", "C2,2,1,1,3,0|rwlock,1,0|2|1|0|0,2,|"),
+    pair("P,1|newrwlock,3|", "C2,2,1,1,2,0|rwlock,1,0|2|1|0,,|", "REFUSE,41,0,0,0"),
+    pair("P,1|newrwlock,2|", "C2,2,1,1,2,1|rwlock,1,0|2|1|0,,|", "REFUSE,41,0,0,0"),
+    pair("P,1|newrwlock,64|", "C2,1000000000,1,1,2,1|rwlock,0,1|67108864|0|0,,|", "REFUSE,41,0,0,0"),
+    pair(
+        "P,10|let,0|newrwlock,2|let,1|rdlock,0|var,0|let,2|rdunlock,0|var,0|wrlock,0|var,0|",
+        "C2,2,1,2,2,0|int,0,0|rwlock,1,0|2|1|0,,|1,,|0,,|0,,|1,,|0,,|0,,|1,,|0,,|1,,|",
+        "C2,2,1,2,12,0|int,0,0|rwlock,1,0|2|1|2|0|2|1|0|2|0|1|2|0|0,2,|1,3,|0,4,|0,5,|1,6,|0,7,|0,8,|1,9,|0,10,|1,11,|",
+    ),
+    pair("P,2|wrunlock,0|newrwlock,1|", "C2,2,1,2,2,0|int,0,0|rwlock,1,1|2|1|0,,|1,,|", "C2,2,1,2,4,0|int,0,0|rwlock,1,1|2|1|0|1|0,2,|1,3,|"),
+    pair("P,2|wrunlock,0|newrwlock,1|", "C2,2,1,2,2,0|int,0,0|rwlock,1,0|2|1|0,,|1,,|", "REFUSE,41,0,0,0"),
+    pair("P,2|rdlock,0|newlock,0|", "C2,2,1,2,2,0|int,0,0|lock,1,0|2|1|0,,|1,,|", "REFUSE,31,2,2,0"),
     // Smaller maps would fit: the if might keep less than both of its parts leave.
     pair("P,4|if,0|join,0|newtid,0|int,0|", loads!("1", "1000000000", "0,,|0,,|1,,|0,,|"), "REFUSE,42,0,0,0"),
 ];

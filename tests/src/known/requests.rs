@@ -53,6 +53,32 @@ const GIVEN_BACK_AS_NOTHING: Known = pair(
     "REFUSE,31,21,1,0",
 );
 
+/// Types int; a read-write lock of 1 and 2; a lock of 1, in quarters. Maps of 4, 1, 2, 0 and 3 quarters.
+macro_rules! readers {
+    ($rows:literal) => {
+        concat!("C,4,1,3,5|int,0,0|rwlock,1,2|lock,1,0|4|1|2|0|3|", $rows)
+    };
+}
+const SAME_RWLOCK: &str = "P,3|let,0|newrwlock,1|var,0|";
+
+/// One thread reads under a reading hold, the other writes under a writing hold.
+const READ_OR_WRITTEN: Known = pair(
+    "P,25|let,0|ref,0|int,0|let,1|newrwlock,2|let,2|spawn,0|newtid,0|let,3|rdlock,0|var,1|let,4|read,0|var,0|\
+     rdunlock,0|var,1|let,5|wrlock,0|var,1|let,6|write,0|var,0|int,1|wrunlock,0|var,1|",
+    "C,2,1,4,3|int,0,0|ref,0,0|rwlock,1,0|tid,2,0|2|1|0|0,2,|1,0,|0,0,|0,2,|2,2,|0,2,|0,2,2|3,2,|0,2,|0,1,|2,2,|0,2,|\
+     0,1,|1,1,|0,2,|2,1,|0,2,|0,0,|2,2,|0,2,|0,0,|1,0,|0,0,|0,2,|2,0,|",
+    "ACCEPT",
+);
+
+/// The same with a reading hold around the write.
+const WRITTEN_BY_A_READER: Known = pair(
+    "P,25|let,0|ref,0|int,0|let,1|newrwlock,2|let,2|spawn,0|newtid,0|let,3|rdlock,0|var,1|let,4|read,0|var,0|\
+     rdunlock,0|var,1|let,5|rdlock,0|var,1|let,6|write,0|var,0|int,1|rdunlock,0|var,1|",
+    "C,2,1,4,3|int,0,0|ref,0,0|rwlock,1,0|tid,2,0|2|1|0|0,2,|1,0,|0,0,|0,2,|2,2,|0,2,|0,2,2|3,2,|0,2,|0,1,|2,2,|0,2,|\
+     0,1,|1,1,|0,2,|2,1,|0,2,|0,1,|2,2,|0,2,|0,1,|1,1,|0,1,|0,2,|2,1,|",
+    "REFUSE,33,22,5,0",
+);
+
 /// One thread writes, posts, and the other waits before it writes.
 const SIGNALLED: Known = pair(
     "P,20|let,0|ref,0|int,0|let,1|newsem,0|let,2|spawn,0|newtid,0|let,3|wait,0|var,1|write,0|var,0|int,1|\
@@ -222,4 +248,48 @@ pub const PAIRS: &[Known] = &[
     program("P,2|int,65536|freelock,0|", "REFUSE,12,2,0,0"),
     program("P,1|int,0|freelock,0|", "REFUSE,13,3,0,0"),
     program("P,2|var,0|freelock,0|", "REFUSE,45,3,0,0"),
+    // Colour book with many readers, request (xi). N × r is a product of whole numbers.
+    READ_OR_WRITTEN,
+    WRITTEN_BY_A_READER,
+    program("P,1|newrwlock,0|", "REFUSE,12,2,0,0"),
+    program("P,1|newrwlock,65|", "REFUSE,12,2,0,0"),
+    program("P,1|newrwlock|", "REFUSE,11,2,0,0"),
+    program("P,2|rdlock,1|newrwlock,1|", "REFUSE,12,2,0,0"),
+    program("P,1|wrunlock,0|", "REFUSE,13,2,0,0"),
+    pair("P,1|newrwlock,64|", "C,1,1,1,1|rwlock,0,0|0|0,0,|", "ACCEPT"),
+    pair("P,1|newrwlock,64|", "C,1,1,1,2|rwlock,1,0|0|67108864|0,0,|", "REFUSE,32,2,2,0"),
+    pair("P,1|newrwlock,64|", "C,1,1,1,2|rwlock,1,1|0|1000000000|0,0,|", "REFUSE,32,2,2,0"),
+    pair("P,1|newrwlock,2|", "C,1,2,1,2|rwlock,1,0|1,1|0,1|0,0,|", "REFUSE,32,2,2,1"),
+    split("C,1,1,1,1|rwlock,1,0|", "REFUSE,22,2,0,0"),
+    split("C,1,1,1,1|rwlock,0,1|", "REFUSE,22,2,0,0"),
+    split("C,1,1,1,1|rwlock,0|", "REFUSE,21,2,0,0"),
+    split("C3,1,1,2,2,0|int,0,0|rwlock,0,1|1|0|0,0,|", "ACCEPT"),
+    pair("P,1|newrwlock,2|", readers!("0,2,|"), "REFUSE,31,2,1,0"),
+    pair("P,1|newrwlock,2|", readers!("2,2,|"), "REFUSE,31,2,1,0"),
+    pair("P,1|newrwlock,3|", readers!("1,0,|"), "REFUSE,32,2,2,0"),
+    pair("P,1|newrwlock,2|", readers!("1,0,|"), "REFUSE,32,2,3,0"),
+    pair("P,1|newrwlock,2|", readers!("1,2,|"), "ACCEPT"),
+    pair("P,1|newrwlock,1|", readers!("1,2,|"), "ACCEPT"),
+    pair("P,2|rdlock,0|newrwlock,2|", readers!("1,4,|1,2,|"), "REFUSE,31,2,1,0"),
+    pair("P,2|rdlock,0|newrwlock,2|", readers!("0,4,|2,2,|"), "REFUSE,31,2,2,0"),
+    pair("P,2|rdlock,0|newrwlock,2|", readers!("0,0,|1,2,|"), "REFUSE,32,2,3,0"),
+    pair("P,2|rdlock,0|newrwlock,2|", readers!("0,4,|1,2,|"), "ACCEPT"),
+    pair("P,2|wrlock,0|newrwlock,2|", readers!("1,0,|1,2,|"), "REFUSE,31,2,1,0"),
+    pair("P,2|wrlock,0|newrwlock,2|", readers!("0,0,|2,2,|"), "REFUSE,31,2,2,0"),
+    pair("P,2|wrlock,0|newrwlock,2|", readers!("0,4,|1,2,|"), "REFUSE,32,2,3,0"),
+    pair("P,2|wrlock,0|newrwlock,2|", readers!("0,0,|1,2,|"), "ACCEPT"),
+    pair("P,2|rdunlock,0|newrwlock,2|", readers!("1,1,|1,2,|"), "REFUSE,31,2,1,0"),
+    pair("P,2|rdunlock,0|newrwlock,2|", readers!("0,1,|2,2,|"), "REFUSE,31,2,2,0"),
+    pair("P,2|rdunlock,0|newrwlock,2|", readers!("0,3,|1,2,|"), "REFUSE,32,2,3,0"),
+    pair("P,2|rdunlock,0|newrwlock,2|", readers!("0,1,|1,2,|"), "ACCEPT"),
+    pair("P,2|wrunlock,0|newrwlock,2|", readers!("1,3,|1,2,|"), "REFUSE,31,2,1,0"),
+    pair("P,2|wrunlock,0|newrwlock,2|", readers!("0,3,|2,2,|"), "REFUSE,31,2,2,0"),
+    pair("P,2|wrunlock,0|newrwlock,2|", readers!("0,1,|1,2,|"), "REFUSE,32,2,3,0"),
+    pair("P,2|wrunlock,0|newrwlock,2|", readers!("0,3,|1,2,|"), "ACCEPT"),
+    pair("P,2|lock,0|newrwlock,2|", readers!("0,4,|1,2,|"), "REFUSE,31,2,2,0"),
+    pair("P,2|unlock,0|newrwlock,2|", readers!("0,1,|1,2,|"), "REFUSE,31,2,2,0"),
+    pair(SAME_RWLOCK, "C,2,1,2,4|rwlock,1,2|rwlock,3,2|2|1|1|1|1,1,|0,1,|1,1,|", "ACCEPT"),
+    pair(SAME_RWLOCK, "C,2,1,2,4|rwlock,1,2|rwlock,3,2|2|1|1|0|1,1,|0,1,|1,1,|", "REFUSE,31,4,1,0"),
+    pair(SAME_RWLOCK, "C,2,1,2,4|rwlock,1,2|rwlock,1,3|2|1|1|2|1,1,|0,1,|1,1,|", "REFUSE,31,4,1,0"),
+    pair(SAME_RWLOCK, "C3,2,1,2,4,0|rwlock,1,2|lock,1,2|2|1|1|2|1,1,|0,1,|1,1,|", "REFUSE,31,4,1,0"),
 ];

@@ -104,6 +104,11 @@ impl<F: Flows> Judge<'_, F> {
             Word::Newsem => self.new_free(Type::sem),
             Word::Post => self.give(Type::sem),
             Word::Wait => self.take(Type::sem),
+            Word::Newrwlock => self.newrwlock(),
+            Word::Rdlock => self.take(Type::reading),
+            Word::Rdunlock => self.give(Type::reading),
+            Word::Wrlock => self.take(Type::writing),
+            Word::Wrunlock => self.give(Type::writing),
         }
     }
 
@@ -177,14 +182,21 @@ impl<F: Flows> Judge<'_, F> {
         self.flows.sum(2, self.post(self.step), carried, self.pre)
     }
 
-    /// `join`, `lock` and `wait`: what the part carries is added.
+    fn newrwlock(&mut self) -> Judged {
+        let reading = self.carried(1, self.step, Type::reading)?;
+        let writing = self.carried(1, self.step, Type::writing)?;
+        self.flows.shares(2, self.steps[self.step].number, reading, writing)?;
+        self.flows.sum(3, self.post(self.step), writing, self.pre)
+    }
+
+    /// Words that take: what the part carries is added.
     fn take(&mut self, carried: Carried) -> Judged {
         self.is_int(1)?;
         let carried = self.carried(2, self.e1(), carried)?;
         self.flows.sum(3, self.post(self.e1()), carried, self.post(self.step))
     }
 
-    /// `unlock` and `post`: what the part carries is taken away.
+    /// Words that give back: what the part carries is taken away.
     fn give(&mut self, carried: Carried) -> Judged {
         self.is_int(1)?;
         let carried = self.carried(2, self.e1(), carried)?;

@@ -9,6 +9,8 @@ pub trait Flows {
     fn sum(&mut self, condition: u32, left: usize, right: usize, total: usize) -> Judged;
     fn equal(&mut self, condition: u32, left: usize, right: usize) -> Judged;
     fn at_least(&mut self, condition: u32, greater: usize, less: usize) -> Judged;
+    /// So many shares are together at most the total; both are maps that the sheet gives.
+    fn shares(&mut self, condition: u32, count: u32, share: usize, total: usize) -> Judged;
     /// The map has at least this much of the location.
     fn access(&mut self, condition: u32, map: usize, location: usize, wanted: u32) -> Judged;
 }
@@ -31,6 +33,11 @@ impl Flows for Given<'_> {
     fn at_least(&mut self, condition: u32, greater: usize, less: usize) -> Judged {
         let pairs = self.0.map(greater).iter().zip(self.0.map(less));
         flows(condition, pairs.map(|(greater, less)| greater >= less))
+    }
+
+    fn shares(&mut self, condition: u32, count: u32, share: usize, total: usize) -> Judged {
+        let pairs = self.0.map(share).iter().zip(self.0.map(total));
+        flows(condition, pairs.map(|(&share, &total)| u64::from(count) * u64::from(share) <= u64::from(total)))
     }
 
     fn access(&mut self, condition: u32, map: usize, location: usize, wanted: u32) -> Judged {

@@ -1,8 +1,9 @@
 //! The program sheet: its lines, its tree and its variables (refusals 11 to 15, and 45).
 
 use super::text::Text;
-use crate::answer::{Returned, CONSTANTS, STEPS, VARIABLES};
+use crate::answer::{Returned, CONSTANTS, PLACES, STEPS, VARIABLES};
 use crate::words::Word;
+use std::ops::RangeInclusive;
 
 /// One step. Its first part, if any, is the next step; `second` is its second part, and `end` is
 /// the step after its last part. `number` is the v of its line.
@@ -39,7 +40,7 @@ fn read_lines(program: &[u8]) -> Result<Vec<Step>, Returned> {
     let mut steps = Vec::with_capacity(count as usize);
     for _ in 0..count {
         let (word, number) = text.line(|line| Some((read_word(line)?, line.next_numeral()?)))?;
-        text.in_range(number < word.map_or(1, numbers_of))?;
+        text.in_range(word.map_or(0..=0, numbers_of).contains(&number))?;
         let word = word.ok_or(text.refusal(45))?;
         steps.push(Step { word, number, second: 0, end: 0, binder: 0 });
     }
@@ -55,12 +56,13 @@ fn read_word(line: &mut Text) -> Option<Option<Word>> {
     }
 }
 
-/// How many numbers are in range behind this word, from 0.
-fn numbers_of(word: Word) -> u32 {
+/// The numbers that are in range behind this word.
+fn numbers_of(word: Word) -> RangeInclusive<u32> {
     match word {
-        Word::Var | Word::Let => VARIABLES,
-        Word::Int => CONSTANTS,
-        _ => 1,
+        Word::Var | Word::Let => 0..=VARIABLES - 1,
+        Word::Int => 0..=CONSTANTS - 1,
+        Word::Newrwlock => 1..=PLACES,
+        _ => 0..=0,
     }
 }
 

@@ -20,6 +20,10 @@ pub enum Type {
     },
     Tid(usize),
     Sem(usize),
+    Rwlock {
+        reading: usize,
+        writing: usize,
+    },
 }
 
 impl Type {
@@ -47,6 +51,20 @@ impl Type {
     pub fn sem(self) -> Option<usize> {
         match self {
             Type::Sem(map) => Some(map),
+            _ => None,
+        }
+    }
+
+    pub fn reading(self) -> Option<usize> {
+        match self {
+            Type::Rwlock { reading, .. } => Some(reading),
+            _ => None,
+        }
+    }
+
+    pub fn writing(self) -> Option<usize> {
+        match self {
+            Type::Rwlock { writing, .. } => Some(writing),
             _ => None,
         }
     }
@@ -99,6 +117,9 @@ impl Split {
             (Type::Lock { .. }, Type::Lock { .. }) => self.looser(left, right) && self.looser(right, left),
             (Type::Tid(left), Type::Tid(right)) => self.map(left) == self.map(right),
             (Type::Sem(left), Type::Sem(right)) => self.map(left) == self.map(right),
+            (Type::Rwlock { reading: r, writing: w }, Type::Rwlock { reading, writing }) => {
+                self.map(r) == self.map(reading) && self.map(w) == self.map(writing)
+            }
             _ => false,
         }
     }
@@ -189,7 +210,7 @@ fn read_types(text: &mut Text, head: &Head) -> Result<Vec<Type>, Returned> {
 fn read_type(text: &mut Text, head: &Head, own: u32) -> Result<Type, Returned> {
     let (word, first, second) = text.line(|line| {
         let word = line.letters();
-        let known: [&[u8]; 5] = [b"int", b"ref", b"lock", b"tid", b"sem"];
+        let known: [&[u8]; 6] = [b"int", b"ref", b"lock", b"tid", b"sem", b"rwlock"];
         let fields = (word, line.next_numeral()?, line.next_numeral()?);
         known.contains(&word).then_some(fields)
     })?;
@@ -197,6 +218,7 @@ fn read_type(text: &mut Text, head: &Head, own: u32) -> Result<Type, Returned> {
         b"int" => (1, 1),
         b"ref" => (head.locations, own),
         b"lock" if head.two_loads => (head.maps, head.maps),
+        b"rwlock" => (head.maps, head.maps),
         _ => (head.maps, 1),
     };
     text.in_range(first < firsts && second < seconds)?;
@@ -206,7 +228,8 @@ fn read_type(text: &mut Text, head: &Head, own: u32) -> Result<Type, Returned> {
         b"ref" => Type::Ref { location: first, content: second },
         b"lock" => Type::Lock { taken: first, given: if head.two_loads { second } else { first } },
         b"tid" => Type::Tid(first),
-        _ => Type::Sem(first),
+        b"sem" => Type::Sem(first),
+        _ => Type::Rwlock { reading: first, writing: second },
     })
 }
 

@@ -47,8 +47,9 @@ fn halts(state: &State, thread: usize) -> bool {
     state.moves(thread).into_iter().all(|step| state.reduced(step).is_none())
 }
 
-/// At a `join` on an identifier that no finished thread has, at a `lock` on a lock that is not open, or at
-/// a `wait` on a semaphore that counts 0.
+/// At a `join` on an identifier that no finished thread has, at a `lock` on a lock that is not open, at a
+/// `wait` on a semaphore that counts 0, or at a word of a read-write lock that has no room for it or no
+/// hold to give.
 pub fn waits(state: &State, thread: usize) -> bool {
     let Expression::Step { word, parts, .. } = state.threads[thread].expression.next_word() else { return false };
     match (word, parts.first().and_then(|part| part.value())) {
@@ -57,6 +58,9 @@ pub fn waits(state: &State, thread: usize) -> bool {
         }
         (Word::Lock, Some(Value::Lock(lock))) => state.locks.get(&lock) != Some(&LockState::Open),
         (Word::Wait, Some(Value::Semaphore(semaphore))) => state.semaphores.get(&semaphore) == Some(&0),
+        (Word::Rdlock | Word::Rdunlock | Word::Wrlock | Word::Wrunlock, Some(Value::RwLock(lock))) => {
+            state.rwlocks.get(&lock).is_some_and(|lock| lock.after(*word).is_none())
+        }
         _ => false,
     }
 }

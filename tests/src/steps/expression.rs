@@ -13,16 +13,18 @@ pub enum Value {
     Lock(Name),
     Identifier(Name),
     Semaphore(Name),
+    RwLock(Name),
 }
 
 #[derive(Debug, PartialEq, Eq, Hash)]
 pub enum Expression {
     Value(Value),
     Var(u32),
-    /// Any other word. The variable is the one that a `let` binds, and 0 elsewhere.
+    /// Any other word. The number is the variable that a `let` binds or the reading places of a new
+    /// read-write lock, and 0 elsewhere.
     Step {
         word: Word,
-        variable: u32,
+        number: u32,
         parts: Vec<Rc<Expression>>,
     },
 }
@@ -71,10 +73,10 @@ impl Expression {
 
     /// The same expression with something else in place of its next word.
     pub fn with_next_word(&self, replacement: Rc<Expression>) -> Rc<Expression> {
-        let (Step { word, variable, parts }, Some(part)) = (self, self.open_part()) else { return replacement };
+        let (Step { word, number, parts }, Some(part)) = (self, self.open_part()) else { return replacement };
         let mut parts = parts.clone();
         parts[part] = parts[part].with_next_word(replacement);
-        Rc::new(Step { word: *word, variable: *variable, parts })
+        Rc::new(Step { word: *word, number: *number, parts })
     }
 
     /// The expression with a value put for a variable.
@@ -83,19 +85,19 @@ impl Expression {
             Expression::Value(_) => self.clone(),
             Var(known) if *known == variable => Rc::new(Expression::Value(value)),
             Var(_) => self.clone(),
-            Step { word, variable: bound, parts } => {
+            Step { word, number, parts } => {
                 let parts = parts.iter().map(|part| part.put(variable, value)).collect();
-                Rc::new(Step { word: *word, variable: *bound, parts })
+                Rc::new(Step { word: *word, number: *number, parts })
             }
         }
     }
 
     /// What a loop becomes: an `if` of the part and then the same loop, or 0.
     pub fn unrolled(part: &Rc<Expression>) -> Rc<Expression> {
-        let again = Rc::new(Step { word: Word::While, variable: 0, parts: vec![part.clone()] });
-        let once = Step { word: Word::Let, variable: USED_NOWHERE, parts: vec![part.clone(), again] };
+        let again = Rc::new(Step { word: Word::While, number: 0, parts: vec![part.clone()] });
+        let once = Step { word: Word::Let, number: USED_NOWHERE, parts: vec![part.clone(), again] };
         let parts = vec![Rc::new(once), Expression::constant(0)];
-        Rc::new(Step { word: Word::If, variable: 0, parts })
+        Rc::new(Step { word: Word::If, number: 0, parts })
     }
 }
 
@@ -106,6 +108,6 @@ fn read_step<'a>(lines: &mut impl Iterator<Item = &'a str>) -> Option<Rc<Express
     Some(Rc::new(match word {
         Word::Var => Var(number),
         Word::Int => Expression::Value(Value::Constant(number)),
-        _ => Step { word, variable: number, parts },
+        _ => Step { word, number, parts },
     }))
 }

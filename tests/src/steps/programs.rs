@@ -44,6 +44,21 @@ pub const RACY: &[(&str, &str)] = &[
         "let,0|ref,0|int,0|let,1|newsem,0|let,2|spawn,0|newtid,0|let,3|read,0|var,0|post,0|var,1|\
          let,4|post,0|var,1|let,5|wait,0|var,1|write,0|var,0|int,2",
     ),
+    (
+        "two readers that write",
+        "let,0|ref,0|int,0|let,1|newrwlock,2|let,2|spawn,0|newtid,0|let,3|rdlock,0|var,1|write,0|var,0|int,1|\
+         let,4|rdlock,0|var,1|write,0|var,0|int,2",
+    ),
+    (
+        "a reader beside one that holds twice, and writes",
+        "let,0|ref,0|int,0|let,1|newrwlock,3|let,2|spawn,0|newtid,0|let,3|rdlock,0|var,1|read,0|var,0|\
+         let,4|rdlock,0|var,1|let,5|rdlock,0|var,1|write,0|var,0|int,2",
+    ),
+    (
+        "a writer whose hold another thread gives back",
+        "let,0|ref,0|int,0|let,1|newrwlock,1|let,2|spawn,0|newtid,0|let,3|wrunlock,0|var,1|let,4|wrlock,0|var,1|\
+         write,0|var,0|int,1|let,5|wrlock,0|var,1|write,0|var,0|int,2",
+    ),
 ];
 
 /// Programs whose one thread halts on a value of the wrong kind.
@@ -58,6 +73,10 @@ pub const ODD: &[&str] = &[
     "post,0|int,0",
     "lock,0|newsem,0",
     "join,0|newsem,0",
+    "lock,0|newrwlock,1",
+    "rdlock,0|newlock,0",
+    "wrlock,0|newsem,0",
+    "wrunlock,0|int,0",
     "let,0|newtid,0|let,1|spawn,0|var,0|read,0|int,0|join,0|var,0",
 ];
 
@@ -66,5 +85,10 @@ pub const WAITING: &[&str] = &[
     "join,0|newtid,0",
     "let,0|newlock,0|let,1|lock,0|var,0|lock,0|var,0",
     "wait,0|newsem,0",
+    "rdunlock,0|newrwlock,1",
+    "wrunlock,0|newrwlock,1",
+    "let,0|newrwlock,1|let,1|rdlock,0|var,0|rdlock,0|var,0",
+    "let,0|newrwlock,2|let,1|rdlock,0|var,0|wrlock,0|var,0",
+    "let,0|newrwlock,2|let,1|wrlock,0|var,0|rdlock,0|var,0",
     "let,0|newsem,0|let,1|post,0|var,0|let,2|wait,0|var,0|wait,0|var,0",
 ];

@@ -1,6 +1,7 @@
 //! States, moves and reductions, after "The steps, from Figures 3 and 4".
 
 use super::expression::{Expression, Name, Value};
+use super::rwlock::RwLock;
 use crate::words::Word;
 use std::collections::{BTreeMap, BTreeSet};
 use std::rc::Rc;
@@ -23,8 +24,8 @@ impl Thread {
     }
 }
 
-/// Threads in spawn order, cells, locks, identifiers, and semaphores with their counts. The names used
-/// so far are those listed.
+/// Threads in spawn order, cells, locks, identifiers, semaphores with their counts, and read-write locks.
+/// The names used so far are those listed.
 #[derive(Clone, Debug, PartialEq, Eq, Hash)]
 pub struct State {
     pub threads: Vec<Thread>,
@@ -32,6 +33,7 @@ pub struct State {
     pub locks: BTreeMap<Name, LockState>,
     pub identifiers: BTreeSet<Name>,
     pub semaphores: BTreeMap<Name, usize>,
+    pub rwlocks: BTreeMap<Name, RwLock>,
 }
 
 /// What a scheduler decides: the thread, the part for an `if`, the finished thread for a `join`
@@ -53,6 +55,7 @@ impl State {
             locks: BTreeMap::new(),
             identifiers: BTreeSet::from([0]),
             semaphores: BTreeMap::new(),
+            rwlocks: BTreeMap::new(),
         }
     }
 
@@ -61,11 +64,13 @@ impl State {
             && !self.locks.contains_key(&name)
             && !self.identifiers.contains(&name)
             && !self.semaphores.contains_key(&name)
+            && !self.rwlocks.contains_key(&name)
     }
 
     /// A name never used before. Names are given out from 0 upward, so their count is the next.
     pub fn new_name(&self) -> Name {
-        let used = self.cells.len() + self.locks.len() + self.identifiers.len() + self.semaphores.len();
+        let locks = self.locks.len() + self.semaphores.len() + self.rwlocks.len();
+        let used = self.cells.len() + self.identifiers.len() + locks;
         (used as Name..).find(|&name| self.unused(name)).expect("names never run out")
     }
 
@@ -84,12 +89,13 @@ impl State {
     /// The state after a move, if the move is a reduction.
     pub fn reduced(&self, step: Move) -> Option<State> {
         let thread = self.threads.get(step.thread)?;
-        let Expression::Step { word, variable, parts } = thread.expression.next_word() else { return None };
+        let Expression::Step { word, number, parts } = thread.expression.next_word() else { return None };
         let mut next = self.clone();
         let result = match word {
-            Word::Let => parts[1].put(*variable, parts[0].value()?),
+            Word::Let => parts[1].put(*number, parts[0].value()?),
             Word::If => parts.get(step.part)?.clone(),
             Word::While => Expression::unrolled(&parts[0]),
+            Word::Newrwlock => next.create_rwlock(*number, step.name)?,
             _ => {
                 let operands: Vec<Value> = parts.iter().map_while(|part| part.value()).collect();
                 let value = next.act(*word, &operands, parts.last(), step)?;
@@ -125,9 +131,22 @@ impl State {
                 let count = self.semaphores.get_mut(semaphore)?;
                 *count = count.checked_sub(1)?;
             }
+            (Word::Rdlock | Word::Rdunlock | Word::Wrlock | Word::Wrunlock, [Value::RwLock(name)]) => {
+                let lock = self.rwlocks.get_mut(name)?;
+                *lock = lock.after(word)?;
+            }
             _ => return None,
         }
         Some(Value::Constant(0))
+    }
+
+    /// A new read-write lock under an unused name.
+    fn create_rwlock(&mut self, places: u32, name: Name) -> Option<Rc<Expression>> {
+        if !self.unused(name) {
+            return None;
+        }
+        self.rwlocks.insert(name, RwLock::new(places));
+        Some(Rc::new(Expression::Value(Value::RwLock(name))))
     }
 
     /// A new identifier, cell, lock or semaphore under an unused name.

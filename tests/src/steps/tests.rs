@@ -74,6 +74,34 @@ fn a_new_semaphore_counts_0() {
     assert_eq!(state.reduced(Move { thread: 0, part: 0, finished: 0, name: 2 }), None);
 }
 
+/// A read-write lock of two places after these words of its one thread; whether all of them went ahead.
+fn went_ahead(words: &[&str]) -> bool {
+    let lets: Vec<String> =
+        (0..words.len()).map(|place| format!("let,{}|{},0|var,0", place + 1, words[place])).collect();
+    let state = run_first_thread(start(&format!("let,0|newrwlock,2|{}|int,7", lets.join("|"))));
+    assert!(fault(&state).is_none());
+    let done = first_value(&state) == Some(Value::Constant(7));
+    assert_eq!(waits(&state, 0), !done);
+    done
+}
+
+#[test]
+fn readers_have_places_and_writers_want_all() {
+    assert!(went_ahead(&["rdlock", "rdlock"]) && !went_ahead(&["rdlock", "rdlock", "rdlock"]));
+    assert!(!went_ahead(&["rdlock", "wrlock"]) && !went_ahead(&["wrlock", "rdlock"]));
+    assert!(!went_ahead(&["wrlock", "wrlock"]) && went_ahead(&["wrlock", "wrunlock", "wrlock"]));
+    assert!(went_ahead(&["rdlock", "rdlock", "rdunlock", "rdlock"]));
+    assert!(!went_ahead(&["rdlock", "rdlock", "rdunlock", "wrlock"]));
+    assert!(went_ahead(&["rdlock", "rdunlock", "wrlock"]));
+}
+
+#[test]
+fn a_hold_is_given_back_only_if_there_is_one_of_its_kind() {
+    assert!(!went_ahead(&["rdunlock"]) && !went_ahead(&["wrunlock"]));
+    assert!(!went_ahead(&["rdlock", "wrunlock"]) && !went_ahead(&["wrlock", "rdunlock"]));
+    assert!(!went_ahead(&["rdlock", "rdunlock", "rdunlock"]));
+}
+
 #[test]
 fn a_loop_may_end_at_once_or_go_round() {
     let state = start("while,0|newtid,0");

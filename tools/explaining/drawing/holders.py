@@ -1,32 +1,33 @@
 """Who holds how much: one telling of a job, in the order in which its steps act.
 
 A sheet says what the thread at work has before and after each step. The telling keeps beside it what the other threads, the
-locks, the semaphores and the identifiers have. A new thread is told where it is spawned, to its end or until it has to wait;
-it is told on when the thread at work has to wait or has ended. If all of them wait, the first goes on as its row says, so that
-every step is told. The share of a thread that has ended is kept for its identifier, until a join takes it. Of an `if` both
-parts are told, each from what there was before it, and the telling goes on from the one after which others hold more; of a
-`while` one round is told.
+locks, the semaphores, the read-write locks and the identifiers have. A new thread is told where it is spawned, to its end or
+until it has to wait; it is told on when the thread at work has to wait or has ended. If all of them wait, the first goes on as
+its row says, so that every step is told. The share of a thread that has ended is kept for its identifier, until a join takes
+it. Of an `if` both parts are told, each from what there was before it, and the telling goes on from the one after which others
+hold more; of a `while` one round is told.
 """
 from typing import NamedTuple
 
 from ..sites import acted_on
 from ..words import KINDS
+from .inside import HOLDS, TAKES, WRITES, Inside
 
 # Steps that neither move rights nor touch a cell. The picture leaves them out unless one is refused.
 SILENT = {"var", "int", "let"}
 # Steps that make a thing which keeps rights.
-MAKERS = {"newlock", "newtid", "newsem"}
+MAKERS = {"newlock", "newtid", "newsem", "newrwlock"}
 # Steps that may have to wait.
-WAITS = {"join", "lock", "wait"}
+WAITS = {"join", "lock", "wait", *HOLDS}
 
 
 class Holder(NamedTuple):
-    kind: str  # thread, lock, sem or identifier
-    number: int  # the thread; else the line where the lock, semaphore or identifier was made
+    kind: str  # thread, lock, sem, rwlock or identifier
+    number: int  # the thread; else the line where the lock, semaphore, read-write lock or identifier was made
     owner: int = 0  # for an identifier, the thread whose share it keeps
 
     def thread(self):
-        """The thread whose share this is or was; None for a lock or a semaphore."""
+        """The thread whose share this is or was; None for a lock, a semaphore or a read-write lock."""
         return {"thread": self.number, "identifier": self.owner}.get(self.kind)
 
 
@@ -45,6 +46,7 @@ class Telling:
         self.moments = []
         self.held = {Holder("thread", 0): explanation.sites.root.pre}
         self.counts = {}  # how often each lock or semaphore can be taken: an open lock once
+        self.inside = {}  # who is in at each read-write lock
         self.waiting = []  # the threads that wait: at which step, and the rest of their telling
         self._tell_threads(explanation.sites.root)
 
@@ -68,7 +70,11 @@ class Telling:
         """Whether a step of WAITS can go ahead now."""
         if not self._has_maps(site):
             return True
-        return bool(self._finished(site)) if site.word == "join" else self.counts.get(self._keeper(site), 1) > 0
+        if site.word == "join":
+            return bool(self._finished(site))
+        if site.word in HOLDS:
+            return self._inside(site).lets(site.word, self._places(site))
+        return self.counts.get(self._keeper(site), 1) > 0
 
     # ---- One step: its parts, then itself
 
@@ -91,13 +97,14 @@ class Telling:
             self._act(site)
 
     def _tell_choice(self, site):
-        own, before, ends = Holder("thread", site.thread), (self.held, self.counts), []
+        own, before, ends = Holder("thread", site.thread), (self.held, self.counts, self.inside), []
         self._remember(site)
         for part in site.parts.values():
-            self.held, self.counts = map(dict, before)
+            self.held, self.counts, self.inside = map(dict, before)
             yield from self._tell(part)
-            ends.append((self.held, self.counts))
-        self.held, self.counts = max(ends, key=lambda end: sum(sum(had) for holder, had in end[0].items() if holder != own))
+            ends.append((self.held, self.counts, self.inside))
+        self.held, self.counts, self.inside = max(
+            ends, key=lambda end: sum(sum(had) for holder, had in end[0].items() if holder != own))
         self._set(own, site.post)
 
     def _tell_body(self, site, body):
@@ -115,7 +122,8 @@ class Telling:
         self._set(Holder("thread", site.thread), site.post)
         effect = {
             "newlock": self._opens, "unlock": self._opens, "lock": self._closes, "join": self._joined,
-            "newsem": self._counts_none, "post": self._counts_up, "wait": self._counts_down,
+            "newsem": self._counts_none, "post": self._counts_up, "wait": self._counts_down, "newrwlock": self._keeps_whole,
+            **dict.fromkeys(HOLDS, self._holds),
         }.get(site.word)
         if effect and self._has_maps(site):
             effect(site)
@@ -153,6 +161,23 @@ class Telling:
         self.counts[semaphore] = max(0, self.counts.get(semaphore, 1) - 1)
         self._set(semaphore, tuple(max(0, a - b) for a, b in zip(self._of(semaphore), self._load(site))))
 
+    def _keeps_whole(self, site):
+        self._set(self._keeper(site), self._load(site, -1))
+
+    def _holds(self, site):
+        """A hold is taken from a read-write lock or given back to it, and with it r or w."""
+        lock, share = self._keeper(site), self._load(site, -1 if site.word in WRITES else 0)
+        self.inside[lock] = self._inside(site).after(site.word)
+        sign = -1 if site.word in TAKES else 1
+        self._set(lock, tuple(max(0, a + sign * b) for a, b in zip(self._of(lock), share)))
+
+    def _inside(self, site):
+        return self.inside.get(self._keeper(site), Inside())
+
+    def _places(self, site):
+        """How many reading places the read-write lock that a step names was made with."""
+        return self.all[self._keeper(site).number - 2].number
+
     def _joined(self, site):
         for holder in self._finished(site)[:1]:
             self.held.pop(holder)
@@ -171,9 +196,10 @@ class Telling:
         self.held[holder] = numbers
 
     def _keeper(self, site):
-        """The lock or semaphore that a step makes or names. A step that is refused may name another kind of thing."""
+        """The lock, semaphore or read-write lock that a step makes or names; a refused step may name another kind of thing."""
         named = acted_on(site)
-        return Holder("sem" if self.split.types[named.type].kind == "sem" else "lock", self._made_at(named))
+        kind = self.split.types[named.type].kind
+        return Holder(kind if kind in ("sem", "rwlock") else "lock", self._made_at(named))
 
     def _has_maps(self, site):
         """Whether the type that a step acts on has a map, which it may lack if the step is refused."""
@@ -182,12 +208,13 @@ class Telling:
     def _map_names(self, number):
         return KINDS[self.split.types[number].kind].maps()
 
-    def _load(self, site):
+    def _load(self, site, place=0):
+        """The first map in the type that a step acts on, or the last."""
         number = acted_on(site).type
-        return self.split.map_in(number, self._map_names(number)[0])
+        return self.split.map_in(number, self._map_names(number)[place])
 
     def _made_at(self, site):
-        """The line where the lock, semaphore or identifier that a part stands for was made, as far as the sheets show it."""
+        """The line where the thing that a part stands for was made, as far as the sheets show it."""
         made = _origin(site)
         if made.word in MAKERS:
             return made.line

@@ -94,6 +94,8 @@ def _legend(picture):
         rows.append((_swatch(Holder("lock", 0)), "kept in a lock that is open"))
     if "sem" in kinds:
         rows.append((_swatch(Holder("sem", 0)), "kept in a semaphore: its count times what a wait gets"))
+    if "rwlock" in kinds:
+        rows.append((_swatch(Holder("rwlock", 0)), "kept in a read-write lock: what its readers or its writer left there"))
     if "identifier" in kinds:
         owner = next(holder.owner for holder in picture.holders if holder.kind == "identifier")
         rows.append((_swatch(Holder("identifier", 0, owner)), "kept for an identifier: that thread's share until it is joined"))

@@ -21,7 +21,7 @@ LETTER, BOLD = 5.9, 6.8  # generous widths of a letter of 12 pixels
 THREADS = ["#2f6db3", "#b8720a", "#23805f", "#8e52a1", "#b54a80", "#1c88a8", "#66751f", "#7a5c2e"]
 # What keeps rights and is no thread: its fill, and what it is called if no variable has it.
 KEPT = "#8b8f99"
-KEEPERS = {"lock": "lock", "sem": "semaphore"}
+KEEPERS = {"lock": "lock", "sem": "semaphore", "rwlock": "read-write lock"}
 
 
 class Span(NamedTuple):
@@ -157,7 +157,7 @@ class Picture:
         return self.names.thread_label(holder.thread())
 
     def _made_name(self, keeper):
-        """A lock's or semaphore's name: that of the variable that its let binds, or its line."""
+        """The name of a lock, semaphore or read-write lock: that of the variable that its let binds, or its line."""
         for site in self.sites.all:
             if site.word == "let" and site.parts["e1"].line == keeper.number:
                 return self.names.variable(site.number)
@@ -199,11 +199,12 @@ def text(kind, x, y, words, room, anchor="start", letter=LETTER):
 
 
 def patterns():
-    """The fills of what no running thread has: a lock's is hatched, a semaphore's dotted, a kept share striped in its thread's
-    colour."""
+    """The fills of what no running thread has: a lock's is hatched, a semaphore's dotted, a read-write lock's ruled like a book,
+    a kept share striped in its thread's colour."""
     marks = {
         "lock": f'<path d="M0 8L8 0M-2 2L2 -2M6 10L10 6" stroke="{KEPT}" stroke-width="1.4"/>',
         "sem": f'<circle cx="4" cy="4" r="1.8" fill="{KEPT}"/>',
+        "rwlock": f'<path d="M0 2H8M0 6H8" stroke="{KEPT}" stroke-width="1.4"/>',
     }
     keepers = [
         f'<pattern id="{kind}" width="8" height="8" patternUnits="userSpaceOnUse"><rect width="8" height="8" fill="#e4e5e9"/>'

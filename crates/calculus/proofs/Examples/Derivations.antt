@@ -1,13 +1,13 @@
 -- Programs that Figure 5 derives, and that are therefore safe.
-use Prim.Native.Nat.{ℕ, zero, suc, _+_, _≤_}
+use Prim.Native.Nat.{ℕ, zero, suc, _+_, _*_, _≤_}
 use mathlib.Core.Path.{_≡_, refl}
 use mathlib.Core.Option.{some}
 use native.Mathlib.Decide.{ℕ-discrete}
 use native.Mathlib.Omega.{arith}
 use Rattle.calculus.specs.Claim.{Safe}
-use Rattle.calculus.specs.Capability.{nothing, _≥ᶜ_, _≈_⊕_}
-use Rattle.calculus.specs.Figure5.{Ty, int-type, ref-type, lock-type, tid-type, sem-type, as-it-is, looser, Env, empty, _∣_∣_⊢_∶_∣_, VAR, INT, LET, IF, WHILE, NEWT, SPAWN, JOIN, REF, WRITE, READ, NEWL, LCK, ULCK, NEWSEM, POST, WAIT}
-use Rattle.calculus.specs.Examples.{holding, figure-2b, figure-2c, section-2-2-1-thread, section-2-2-1, handover, two-loads}
+use Rattle.calculus.specs.Capability.{nothing, _×ᶜ_, _≥ᶜ_, _≈_⊕_}
+use Rattle.calculus.specs.Figure5.{Ty, int-type, ref-type, lock-type, tid-type, sem-type, rwlock-type, as-it-is, looser, Env, empty, _∣_∣_⊢_∶_∣_, VAR, INT, LET, IF, WHILE, NEWT, SPAWN, JOIN, REF, WRITE, READ, NEWL, LCK, ULCK, NEWSEM, POST, WAIT, NEWRWLOCK, RDLOCK, RDUNLOCK, WRLOCK, WRUNLOCK}
+use Rattle.calculus.specs.Examples.{holding, figure-2b, figure-2c, section-2-2-1-thread, section-2-2-1, handover, reads-the-book, colour-book, both-places, two-loads}
 use Rattle.calculus.proofs.Laws.Order.{≥-refl}
 use Rattle.calculus.proofs.Safety.{derived-is-safe}
 
@@ -123,6 +123,60 @@ handover-derived =
 
 pub handover-is-safe : Safe handover
 handover-is-safe = derived-is-safe (omega arith) handover-derived (holding-at-most 1 1 0 (omega arith) (omega arith))
+
+-- ---- Figure 8: a writer takes the whole of x, and each of two readers half of it
+
+abbrev book-type : Ty
+book-type = rwlock-type (holding 1 0) (holding 2 0)
+
+two-halves-fit : holding 2 0 ≥ᶜ 2 ×ᶜ holding 1 0
+two-halves-fit = record { at = by-location }
+  where
+    by-location : (ρ : ℕ) → 2 * holding 1 0 ρ ≤ holding 2 0 ρ
+    by-location zero = omega arith
+    by-location (suc zero) = omega arith
+    by-location (suc (suc ρ)) = omega arith
+
+reads-the-book-derived : (Γ : Env) → Γ 0 ≡ some x-type → Γ 1 ≡ some book-type → 2 ∣ Γ ∣ holding 0 0 ⊢ reads-the-book ∶ int-type ∣ holding 0 0
+unfolding ℕ-discrete
+reads-the-book-derived Γ x book =
+    let half = holding-sum 0 0 1 0 in
+    LET {τ₁ = int-type} (RDLOCK (VAR book as-it-is) half)
+    (LET {τ₁ = int-type} (READ {Ψ₁ = holding 1 0} {ρ = 0} (VAR x as-it-is) (omega arith)) (RDUNLOCK {Ψ₃ = holding 0 0} (VAR book as-it-is) half))
+
+pub colour-book-derived : 2 ∣ empty ∣ holding 2 0 ⊢ colour-book ∶ int-type ∣ holding 0 0
+unfolding ℕ-discrete
+colour-book-derived =
+    let whole = holding-sum 0 0 2 0 in
+    let none-given = holding-sum 0 0 0 0 in
+    LET {τ₁ = x-type} (REF INT)
+    (LET {τ₁ = book-type} (NEWRWLOCK two-halves-fit whole)
+    (LET {τ₁ = int-type} (SPAWN {Ψ₁ = holding 0 0} {Ψ₃ = holding 0 0} NEWT (reads-the-book-derived _ refl refl) ≥-refl none-given)
+    (LET {τ₁ = int-type} (SPAWN {Ψ₁ = holding 0 0} {Ψ₃ = holding 0 0} NEWT (reads-the-book-derived _ refl refl) ≥-refl none-given)
+    (LET {τ₁ = int-type} (WRLOCK (VAR refl as-it-is) whole)
+    (LET {τ₁ = int-type} (WRITE {Ψ₂ = holding 2 0} {τ = int-type} {ρ = 0} (VAR refl as-it-is) INT (omega arith))
+    (WRUNLOCK (VAR refl as-it-is) whole))))))
+
+pub colour-book-is-safe : Safe colour-book
+colour-book-is-safe = derived-is-safe (omega arith) colour-book-derived (holding-at-most 2 2 0 (omega arith) (omega arith))
+
+-- One thread that takes both places has the whole.
+pub both-places-derived : 2 ∣ empty ∣ holding 2 0 ⊢ both-places ∶ int-type ∣ holding 2 0
+unfolding ℕ-discrete
+both-places-derived =
+    let half = holding-sum 0 0 1 0 in
+    LET {τ₁ = x-type} (REF INT)
+    (LET {τ₁ = book-type} (NEWRWLOCK two-halves-fit (holding-sum 0 0 2 0))
+    (LET {τ₁ = int-type}
+    (SPAWN {Ψ₁ = nothing} {Ψ₃ = holding 0 0} NEWT
+    (LET {τ₁ = int-type} (RDLOCK (VAR refl as-it-is) half) (READ {Ψ₁ = holding 1 0} {ρ = 0} (VAR refl as-it-is) (omega arith)))
+    (record { at = λ ρ. omega arith }) (holding-sum 0 0 0 0))
+    (LET {τ₁ = int-type} (RDLOCK (VAR refl as-it-is) half)
+    (LET {τ₁ = int-type} (RDLOCK (VAR refl as-it-is) (holding-sum 1 0 1 0))
+    (WRITE {Ψ₂ = holding 2 0} {τ = int-type} {ρ = 0} (VAR refl as-it-is) INT (omega arith))))))
+
+pub both-places-is-safe : Safe both-places
+both-places-is-safe = derived-is-safe (omega arith) both-places-derived (holding-at-most 2 2 0 (omega arith) (omega arith))
 
 -- ---- Section 3.1.6: a lock that lends the whole of location 0, and one that lends nothing; as either of them, a lock gives nothing and
 -- takes the whole

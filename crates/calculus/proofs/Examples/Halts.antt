@@ -3,14 +3,14 @@ use Prim.Native.Nat.{ℕ, zero, suc}
 use mathlib.Core.Path.{_≡_, refl, ap, sym, _∙_}
 use mathlib.Core.Logic.{_≢_, _⊎_, inl, inr}
 use mathlib.Core.Option.{some}
-use mathlib.Core.List.{[]}
-use native.Mathlib.Decide.{ℕ-discrete}
+use mathlib.Core.List.{[], _∷_}
+use native.Mathlib.Decide.{ℕ-discrete, decLe, decLt}
 use native.Mathlib.Omega.{arith}
-use Rattle.calculus.specs.Expression.{Value, int, name, Unary, join, ref, read, lock, unlock, post, wait, Exp, value, unary, unary-redex, at-word}
-use Rattle.calculus.specs.State.{LockState, opened, a-lock, Thread, State, Move, update}
+use Rattle.calculus.specs.Expression.{Value, int, name, rdlock, rdunlock, wrlock, wrunlock, Unary, join, ref, read, lock, unlock, post, wait, hold, Exp, value, unary, unary-redex, at-word}
+use Rattle.calculus.specs.State.{LockState, opened, readers, writer, a-lock, Thread, State, Move, update}
 use Rattle.calculus.specs.Reduction.{_>>_, lock-state, zero-exp, becomes, unary-reduct, reduce, attempt, run, start}
-use Rattle.calculus.specs.Claim.{ThreadAt, Finished, finished, Waits, at-join, at-lock, at-wait, Halts, HaltsWell, Safe}
-use Rattle.calculus.specs.Examples.{names, on-constant, figure-2b, moves-2b-to-join, figure-2c, moves-2c-to-lock, handover, moves-handover-to-newsem, moves-handover-to-wait, post-of-lock, moves-post-of-lock}
+use Rattle.calculus.specs.Claim.{ThreadAt, Finished, finished, Waits, at-join, at-lock, at-wait, at-hold, Halts, HaltsWell, Safe}
+use Rattle.calculus.specs.Examples.{goes, on-constant, figure-2b, moves-2b-to-join, figure-2c, moves-2c-to-lock, handover, moves-handover-to-newsem, moves-handover-to-wait, colour-book, moves-to-book, reads-twice, moves-reads-twice, gives-back, moves-gives-back, post-of-lock, moves-post-of-lock}
 use Rattle.calculus.proofs.Laws.Maps.{some-injective, none-is-not-some}
 use Rattle.calculus.proofs.Laws.NextWord.{word-injective}
 use Rattle.calculus.proofs.Laws.Waiting.{waiting-halts, stuck-halts}
@@ -26,6 +26,7 @@ constant-stops lock d s m t s′ q = none-is-not-some q
 constant-stops unlock d s m t s′ q = none-is-not-some q
 constant-stops post d s m t s′ q = none-is-not-some q
 constant-stops wait d s m t s′ q = none-is-not-some q
+constant-stops (hold w) d s m t s′ q = none-is-not-some q
 
 pub word-on-constant-halts : (o : Unary) → o ≢ ref → Halts (start (on-constant o)) 0
 unfolding start
@@ -43,6 +44,7 @@ constant-is-not-waited-for : (s : State) (o : Unary) (i : ℕ) → ¬ Waits s (r
 constant-is-not-waited-for s o i (at-join n b k f) = constant-is-no-name b
 constant-is-not-waited-for s o i (at-lock n b f) = constant-is-no-name b
 constant-is-not-waited-for s o i (at-wait n b e) = constant-is-no-name b
+constant-is-not-waited-for s o i (at-hold n N w k b e f) = constant-is-no-name b
 
 pub word-on-constant-halts-oddly : (o : Unary) → o ≢ ref → ¬ HaltsWell (start (on-constant o))
 unfolding start
@@ -76,6 +78,7 @@ post-never-waits : (s : State) → ¬ Waits s about-to-post
 post-never-waits s (at-join n b k f) = let z : _≡_ {A = ℕ} 0 1 = cc in omega (arith, z)
 post-never-waits s (at-lock n b f) = let z : _≡_ {A = ℕ} 0 1 = cc in omega (arith, z)
 post-never-waits s (at-wait n b e) = let z : _≡_ {A = ℕ} 0 1 = cc in omega (arith, z)
+post-never-waits s (at-hold n N w k b e f) = let z : _≡_ {A = ℕ} 0 1 = cc in omega (arith, z)
 
 post-of-lock-halts : Halts lock-posted 0
 unfolding start run attempt reduce ℕ-discrete
@@ -103,7 +106,7 @@ pub record HaltsWaiting (s : State) (i : ℕ) : Type 0 where
   pub waits : Waits s t
   pub halts : Halts s i
 
-waiting : {t : Thread} (s : State) (i : ℕ) → ThreadAt s i t → Waits s t → HaltsWaiting s i
+pub waiting : {t : Thread} (s : State) (i : ℕ) → ThreadAt s i t → Waits s t → HaltsWaiting s i
 waiting {t} s i there w = record { t = t; there = there; waits = w; halts = waiting-halts s i there w }
 
 -- Figure 2 (c), while the spawned thread holds the lock.
@@ -116,6 +119,29 @@ pub handover-waits-at-count-0 : HaltsWaiting (run moves-handover-to-wait (run mo
 unfolding start run attempt reduce ℕ-discrete
 handover-waits-at-count-0 =
     waiting (run moves-handover-to-wait (run moves-handover-to-newsem (start handover))) 1 refl (at-wait 2 refl refl)
+
+-- The book: a reader while the writer is in, and the writer while a reader is in.
+pub reader-waits-for-writer : HaltsWaiting (run (goes 0 ∷ []) (run moves-to-book (start colour-book))) 1
+unfolding start run attempt reduce ℕ-discrete
+reader-waits-for-writer = waiting (run (goes 0 ∷ []) (run moves-to-book (start colour-book))) 1 refl (at-hold 2 2 rdlock writer refl refl refl)
+
+pub writer-waits-for-reader : HaltsWaiting (run (goes 1 ∷ []) (run moves-to-book (start colour-book))) 0
+unfolding start run attempt reduce ℕ-discrete decLt decLe
+writer-waits-for-reader = waiting (run (goes 1 ∷ []) (run moves-to-book (start colour-book))) 0 refl (at-hold 2 2 wrlock (readers 1) refl refl refl)
+
+-- One thread reads twice and counts twice: one hold is out, and there is one place.
+pub reader-waits-for-place : HaltsWaiting (run moves-reads-twice (start reads-twice)) 0
+unfolding start run attempt reduce ℕ-discrete decLt decLe
+reader-waits-for-place = waiting (run moves-reads-twice (start reads-twice)) 0 refl (at-hold 1 1 rdlock (readers 1) refl refl refl)
+
+-- A give-back when no hold of its kind is out.
+pub rdunlock-waits-for-hold : HaltsWaiting (run moves-gives-back (start (gives-back rdunlock))) 0
+unfolding start run attempt reduce ℕ-discrete
+rdunlock-waits-for-hold = waiting (run moves-gives-back (start (gives-back rdunlock))) 0 refl (at-hold 1 1 rdunlock (readers 0) refl refl refl)
+
+pub wrunlock-waits-for-hold : HaltsWaiting (run moves-gives-back (start (gives-back wrunlock))) 0
+unfolding start run attempt reduce ℕ-discrete
+wrunlock-waits-for-hold = waiting (run moves-gives-back (start (gives-back wrunlock))) 0 refl (at-hold 1 1 wrunlock (readers 0) refl refl refl)
 
 -- Figure 2 (b), while the spawned thread has not read: of its two threads the first has another identifier, and the second has not finished.
 pub figure-2b-waits-at-join : HaltsWaiting (run moves-2b-to-join (start figure-2b)) 0

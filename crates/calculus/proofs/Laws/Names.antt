@@ -8,9 +8,9 @@ use mathlib.Core.List.{List, [], _∷_}
 use native.Mathlib.Decide.{ℕ-discrete}
 use native.Mathlib.Omega.{arith}
 use lib.ListN.{getElem?}
-use Rattle.calculus.specs.Expression.{Value, Unary, join, ref, read, lock, unlock, post, wait, Maker, newtid, newlock, newsem, Exp, Redex, let-redex, if-redex, while-redex, spawn-redex, write-redex, unary-redex, make-redex, next, choose}
-use Rattle.calculus.specs.State.{LockState, opened, closed, Slot, unused, identifier, cell, a-lock, semaphore, Thread, State, Move, update}
-use Rattle.calculus.specs.Reduction.{name-of, if-unused, if-identifier, content, lock-state, if-opened, count, one-less, if-equal, value-of, word-of, made, named, unary-reduct, reduct, reduce, or-else, attempt, states, start}
+use Rattle.calculus.specs.Expression.{Value, Unary, join, ref, read, lock, unlock, post, wait, hold, Maker, newtid, newlock, newsem, newrwlock, Exp, Redex, let-redex, if-redex, while-redex, spawn-redex, write-redex, unary-redex, make-redex, next, choose}
+use Rattle.calculus.specs.State.{LockState, opened, closed, Inside, Slot, unused, identifier, cell, a-lock, semaphore, rwlock, Thread, State, Move, update}
+use Rattle.calculus.specs.Reduction.{name-of, if-unused, if-identifier, content, lock-state, if-opened, count, one-less, rw-state, inside-after, if-equal, value-of, word-of, made, named, unary-reduct, reduct, reduce, or-else, attempt, states, start}
 use Rattle.calculus.specs.Claim.{Every}
 use Rattle.calculus.proofs.Laws.Maps.{some-injective, bind-is-some, update-other, update-above}
 
@@ -33,10 +33,14 @@ lock-is-used h = let z : _≡_ {A = ℕ} 0 1 = cc in omega (arith, z)
 semaphore-is-used : {c : ℕ} → semaphore c ≢ unused
 semaphore-is-used h = let z : _≡_ {A = ℕ} 0 1 = cc in omega (arith, z)
 
+rwlock-is-used : {N : ℕ} {i : Inside} → rwlock N i ≢ unused
+rwlock-is-used h = let z : _≡_ {A = ℕ} 0 1 = cc in omega (arith, z)
+
 made-is-used : (o : Maker) → made o ≢ unused
 made-is-used newtid = identifier-is-used
 made-is-used newlock = lock-is-used
 made-is-used newsem = semaphore-is-used
+made-is-used (newrwlock N) = rwlock-is-used
 
 module _ (s : State) (m : Move) (t : Thread) where
   -- The state that a reduction is told to give.
@@ -79,6 +83,11 @@ module _ (s : State) (m : Move) (t : Thread) where
       let (c, _, q₂) = bind-is-some (count (s .names n)) q₁ in
       let (left, _, q₃) = bind-is-some (one-less c) q₂ in
       told (one-changed n (semaphore left) semaphore-is-used) q₃
+  unary-changes-one (hold w) v s′ q =
+      let (n, _, q₁) = bind-is-some (name-of v) q in
+      let (p, _, q₂) = bind-is-some (rw-state (s .names n)) q₁ in
+      let (after, _, q₃) = bind-is-some (inside-after (p .0) w (p .1)) q₂ in
+      told (one-changed n (rwlock (p .0) after) rwlock-is-used) q₃
 
   reduct-changes-one : (r : Redex) (s′ : State) → reduct s m t r ≡ some s′ → OneChanged (s .names) (s′ .names)
   reduct-changes-one (let-redex x v e) s′ q = told none-changed q

@@ -1,16 +1,11 @@
 -- Laws of capabilities: more and less, gains and payments.
-use Prim.Native.Nat.{ℕ, _+_, _*_, _≤_}
+use Prim.Native.Nat.{ℕ, _+_, _≤_}
 use native.Mathlib.Omega.{arith}
 use Rattle.calculus.specs.Capability.{Cap, _≥ᶜ_, _≈_⊕_}
 
 infixl 60 _+ᶜ_
 abbrev pub _+ᶜ_ : Cap → Cap → Cap
 (Ψ₁ +ᶜ Ψ₂) ρ = Ψ₁ ρ + Ψ₂ ρ
-
--- k times Ψ.
-infixl 70 _×ᶜ_
-abbrev pub _×ᶜ_ : ℕ → Cap → Cap
-(k ×ᶜ Ψ) ρ = k * Ψ ρ
 
 -- Φ is at most Ψ and K together: what a thread may have after it gains K.
 pub record Gains (Φ Ψ K : Cap) : Type 0 where

@@ -3,10 +3,10 @@ use Prim.Native.Nat.{ℕ}
 use mathlib.Core.Path.{_≡_, refl, sym, ap, _∙_}
 use mathlib.Core.Option.{Option, none, some}
 use lib.ListN.{getElem?}
-use Rattle.calculus.specs.Expression.{name, join, lock, wait, Redex, at-word, next}
+use Rattle.calculus.specs.Expression.{name, join, lock, wait, hold, Redex, at-word, next}
 use Rattle.calculus.specs.State.{Thread, State, Move}
-use Rattle.calculus.specs.Reduction.{_>>=_, if-identifier, lock-state, count, if-equal, value-of, word-of, unary-reduct, reduct, reduce}
-use Rattle.calculus.specs.Claim.{ThreadAt, Finished, finished, Waits, at-join, at-lock, at-wait, Halts}
+use Rattle.calculus.specs.Reduction.{_>>=_, if-identifier, lock-state, count, rw-state, inside-after, if-equal, value-of, word-of, unary-reduct, reduct, reduce}
+use Rattle.calculus.specs.Claim.{ThreadAt, Finished, finished, Waits, at-join, at-lock, at-wait, at-hold, Halts}
 use Rattle.calculus.proofs.Laws.Maps.{none-is-not-some, bind-is-some, bind-goes-on}
 use Rattle.calculus.proofs.Laws.NextWord.{word-injective, word-is-no-value, next-is-value}
 use Rattle.calculus.proofs.Laws.Questions.{equal-tells, value-tells, word-tells}
@@ -44,3 +44,7 @@ waiting-halts {t} s i there (at-lock n b found) = stuck-halts s i there λ m r s
 waiting-halts {t} s i there (at-wait n b found) = stuck-halts s i there λ m r s′ w q.
     let q₀ : unary-reduct s m t wait (name n) ≡ some s′ = rw (word-injective (sym w ∙ b)) at q in
     none-is-not-some (bind-goes-on (count (s .names n)) _ (ap count found) q₀)
+waiting-halts {t} s i there (at-hold n N w inside b found stays) = stuck-halts s i there λ m r s′ e q.
+    let q₀ : unary-reduct s m t (hold w) (name n) ≡ some s′ = rw (word-injective (sym e ∙ b)) at q in
+    let (_, goes, _) = bind-is-some (inside-after N w inside) (bind-goes-on (rw-state (s .names n)) _ (ap rw-state found) q₀) in
+    none-is-not-some (sym stays ∙ goes)

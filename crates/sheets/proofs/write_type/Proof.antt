@@ -1,7 +1,7 @@
 -- The word of each kind, then its numbers.
 use Rattle.spec.specs.Text.{bytes}
 use Rattle.writer.proofs.Buffer.{parted, finish}
-use Rattle.sheets.proofs.Parts.{int-parts, ref-parts, lock-parts, tid-parts, sem-parts}
+use Rattle.sheets.proofs.Parts.{int-parts, ref-parts, lock-parts, tid-parts, sem-parts, rwlock-parts}
 use borrow.Author.Needs.{needs}
 use Rattle.sheets.proofs.write_type.Statement.{statement}
 use Rattle.sheets.proofs.write_type.Tie as tie
@@ -53,6 +53,15 @@ slice-aggregate-write-word-5 c = search needs
 
 write-word-requires-5 : tie.Need-write-word-requires-5
 write-word-requires-5 c κs = search needs
+
+enum-known-of-5 : tie.Need-enum-known-of-5
+enum-known-of-5 c = search needs
+
+slice-aggregate-write-word-6 : tie.Need-slice-aggregate-write-word-6
+slice-aggregate-write-word-6 c = search needs
+
+write-word-requires-6 : tie.Need-write-word-requires-6
+write-word-requires-6 c κs = search needs
 
 same-length : tie.Need-same-length
 same-length c = search needs
@@ -110,6 +119,17 @@ returns-5 c =
     let start = told .before .before .before in
     finish (parted _ _ (sem-parts _ (told .of4 .given .1)) (start .good .0 .0) (start .fits .at .fits)) (c₁ .write-word5 .ensures)
 
+same-length-6 : tie.Need-same-length-6
+same-length-6 c = search needs
+
+returns-6 : tie.Need-returns-6
+unfolding bytes
+returns-6 c =
+    let c₁ = c .before .before in
+    let told = c₁ .before .before .before .before in
+    let start = told .before .before .before in
+    finish (parted _ _ (rwlock-parts _ (told .of5 .given .1)) (start .good .0 .0) (start .fits .at .fits)) (c₁ .write-word6 .ensures)
+
 pub write-type-spec : {M : Type 1} → statement M
 write-type-spec =
     tie.close
@@ -130,6 +150,9 @@ write-type-spec =
     enum-known-of-4
     slice-aggregate-write-word-5
     write-word-requires-5
+    enum-known-of-5
+    slice-aggregate-write-word-6
+    write-word-requires-6
     same-length
     returns
     same-length-2
@@ -139,4 +162,6 @@ write-type-spec =
     same-length-4
     returns-4
     same-length-5
-    returns-5)
+    returns-5
+    same-length-6
+    returns-6)

@@ -21,8 +21,13 @@ returns-4 c = rw (c .match .keys4)
 
 returns-5 : tie.Need-returns-5
 unfolding typeOf
-returns-5 c =
+returns-5 c = rw (c .match .keys5)
+
+returns-6 : tie.Need-returns-6
+unfolding typeOf
+returns-6 c =
     simp (
+      ne-eqb _ _ (c .match .rest .0 .0 .0 .0 .1),
       ne-eqb _ _ (c .match .rest .0 .0 .0 .1),
       ne-eqb _ _ (c .match .rest .0 .0 .1),
       ne-eqb _ _ (c .match .rest .0 .1),
@@ -30,4 +35,4 @@ returns-5 c =
     )
 
 pub type-of-spec : {M : Type 1} → statement M
-type-of-spec = tie.close (tie.spec returns returns-2 returns-3 returns-4 returns-5)
+type-of-spec = tie.close (tie.spec returns returns-2 returns-3 returns-4 returns-5 returns-6)

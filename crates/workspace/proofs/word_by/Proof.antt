@@ -54,6 +54,21 @@ enum-told-16 c = search needs
 enum-told-17 : tie.Need-enum-told-17
 enum-told-17 c = search needs
 
+enum-told-18 : tie.Need-enum-told-18
+enum-told-18 c = search needs
+
+enum-told-19 : tie.Need-enum-told-19
+enum-told-19 c = search needs
+
+enum-told-20 : tie.Need-enum-told-20
+enum-told-20 c = search needs
+
+enum-told-21 : tie.Need-enum-told-21
+enum-told-21 c = search needs
+
+enum-told-22 : tie.Need-enum-told-22
+enum-told-22 c = search needs
+
 returns : tie.Need-returns
 unfolding wordBy
 returns c = rw (c .enum-told .given .1)
@@ -122,6 +137,26 @@ returns-17 : tie.Need-returns-17
 unfolding wordBy
 returns-17 c = rw (c .enum-told17 .given .1)
 
+returns-18 : tie.Need-returns-18
+unfolding wordBy
+returns-18 c = rw (c .enum-told18 .given .1)
+
+returns-19 : tie.Need-returns-19
+unfolding wordBy
+returns-19 c = rw (c .enum-told19 .given .1)
+
+returns-20 : tie.Need-returns-20
+unfolding wordBy
+returns-20 c = rw (c .enum-told20 .given .1)
+
+returns-21 : tie.Need-returns-21
+unfolding wordBy
+returns-21 c = rw (c .enum-told21 .given .1)
+
+returns-22 : tie.Need-returns-22
+unfolding wordBy
+returns-22 c = rw (c .enum-told22 .given .1)
+
 pub word-by-spec : {M : Type 1} → statement M
 word-by-spec =
     tie.close
@@ -143,6 +178,11 @@ word-by-spec =
     enum-told-15
     enum-told-16
     enum-told-17
+    enum-told-18
+    enum-told-19
+    enum-told-20
+    enum-told-21
+    enum-told-22
     returns
     returns-2
     returns-3
@@ -159,4 +199,9 @@ word-by-spec =
     returns-14
     returns-15
     returns-16
-    returns-17)
+    returns-17
+    returns-18
+    returns-19
+    returns-20
+    returns-21
+    returns-22)

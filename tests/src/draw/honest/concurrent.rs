@@ -1,14 +1,14 @@
-//! Small honest drafts in which threads share cells: guarded by a lock, read in shares, or handed
-//! over at a join or by a semaphore.
+//! Small honest drafts in which threads share cells: guarded by a lock or a read-write lock, read in
+//! shares, or handed over at a join or by a semaphore.
 
 use super::{Builder, Slip};
 use crate::draw::draft::{Draft, Heading, Map, Type};
 use crate::draw::random::Random;
 use crate::words::Word;
 
-/// Two locations: the lock carries the whole of the first, identifiers bring back half of the
-/// second, all of it, or nothing, and semaphores carry half of the second or all of it. On a `C3` sheet
-/// the lock is also shown as one that gives less or takes back more.
+/// Two locations: the locks carry the whole of the first, or half of it for a reader, identifiers bring
+/// back half of the second, all of it, or nothing, and semaphores carry half of the second or all of it.
+/// On a `C3` sheet the lock is also shown as one that gives less or takes back more.
 pub fn draft(random: &mut Random) -> Draft {
     draft_with(random, None)
 }
@@ -30,6 +30,7 @@ pub fn draft_with(random: &mut Random, slip: Option<Slip>) -> Draft {
         let half = map(&mut builder, 0, whole / 2);
         let all = map(&mut builder, 0, whole);
         let none = map(&mut builder, 0, 0);
+        let read = map(&mut builder, whole / 2, 0);
         builder.draft.types = vec![
             Type::Int,
             Type::Ref { location: 0, content: 0 },
@@ -41,6 +42,7 @@ pub fn draft_with(random: &mut Random, slip: Option<Slip>) -> Draft {
             Type::Ref { location: 1, content: 3 },
             Type::Sem(half),
             Type::Sem(all),
+            Type::Rwlock { reading: read, writing: guarded },
         ];
         let as_printed = slip == Some(Slip::PrintedInequality);
         if as_printed || builder.random.percent(30) {
@@ -51,8 +53,19 @@ pub fn draft_with(random: &mut Random, slip: Option<Slip>) -> Draft {
             builder.draft.types.extend(locks.iter().map(|&(taken, given)| Type::Lock { taken, given }));
         }
         let mut now = builder.draft.maps[0];
-        let things = builder.random.pick::<&[usize]>(&[&[1, 2, 3], &[1, 2, 3, 7], &[1, 2, 3, 9], &[1, 2, 8, 9]]);
-        builder.over(if as_printed { &[1, 3] } else { things }, &mut now, size);
+        let things: &[usize] = match slip {
+            Some(Slip::PrintedInequality) => &[1, 3],
+            Some(Slip::PlacesForFree) => &[1, 10],
+            _ => builder.random.pick(&[
+                &[1, 2, 3],
+                &[1, 2, 3, 7],
+                &[1, 2, 3, 9],
+                &[1, 2, 8, 9],
+                &[1, 2, 10],
+                &[1, 2, 9, 10],
+            ]),
+        };
+        builder.over(things, &mut now, size);
         if let Some(draft) = builder.finished() {
             return draft;
         }
@@ -73,6 +86,7 @@ impl Builder<'_> {
         let word = match self.draft.types[first] {
             Type::Lock { .. } => Word::Newlock,
             Type::Sem(_) => Word::Newsem,
+            Type::Rwlock { .. } => Word::Newrwlock,
             _ => Word::Ref,
         };
         self.step(word, first, now, &Map::default(), 1);

@@ -7,6 +7,12 @@ use crate::answer::WHOLE;
 use crate::draw::draft::{at_least, sum, Map, Type};
 use crate::words::Word;
 
+/// The words that open and close a critical section.
+const SECTIONS: [(Word, Word); 3] =
+    [(Word::Lock, Word::Unlock), (Word::Rdlock, Word::Rdunlock), (Word::Wrlock, Word::Wrunlock)];
+/// The section of a reader.
+const READING: usize = 1;
+
 impl Builder<'_> {
     /// An idiom of int type. False, with nothing built, when it cannot be had here.
     pub(super) fn idiom(&mut self, kind: usize, now: &mut Map, need: &Map, size: usize) -> bool {
@@ -48,16 +54,12 @@ impl Builder<'_> {
         self.close(step, kind, now)
     }
 
-    /// `let _ = lock l in let _ = e in unlock l`, or in the end `let _ = unlock l in e`. With two loads the
-    /// lock may be shown with another type when it is given back. The lock guards something.
+    /// `let _ = lock l in let _ = e in unlock l`, or in the end `let _ = unlock l in e`, also with the words
+    /// of a read-write lock. With two loads the lock may be shown with another type when it is given back.
     fn critical_section(&mut self, kind: usize, now: &mut Map, need: &Map, size: usize) -> bool {
-        let telling = |builder: &Self, number, kind| {
-            matches!(kind, Type::Lock { taken, .. } if builder.draft.maps[taken] != Map::default())
-                && builder.in_scope(number)
-        };
-        let Some(lock) = self.type_where(telling) else { return false };
+        let Some((take, give, lock)) = self.guard() else { return false };
         let again = self.shown_anew(lock);
-        let loads = (moved(Word::Lock, self.draft.types[lock]), moved(Word::Unlock, self.draft.types[again]));
+        let loads = (moved(take, self.draft.types[lock]), moved(give, self.draft.types[again]));
         let (Some(map), Some(given)) = loads else { return false };
         let carried = self.draft.maps[map];
         let held = sum(now, &carried);
@@ -68,25 +70,44 @@ impl Builder<'_> {
         let (taken, done) = (self.open_let(), self.open_let_later());
         let int = self.int_type();
         let before: Map = std::array::from_fn(|place| need[place].max(kept[place].saturating_sub(carried[place])));
-        self.gain(Word::Lock, int, lock, map, now, &before, 1);
+        self.gain(take, int, lock, map, now, &before, 1);
         let inner = self.open(Word::Let, done);
-        if !self.random.percent(70) || !self.access(int, now, &kept) {
+        let nested = self.random.percent(20) && self.critical_section(int, now, &kept, size.saturating_sub(6));
+        if !nested && (!self.random.percent(70) || !self.access(int, now, &kept)) {
             self.work(now, &kept, size.saturating_sub(6));
         }
         if self.random.percent(60) {
-            self.give_to(again, Word::Unlock, kind, now, need, 1);
+            self.give_to(again, give, kind, now, need, 1);
         } else {
-            self.unlock_and_work(again, kind, now, need);
+            self.give_and_work(again, give, kind, now, need);
         }
         self.close(inner, kind, now);
         self.close(taken, kind, now)
+    }
+
+    /// A lock in scope that guards something, with the words to take it and to give it back.
+    fn guard(&mut self) -> Option<(Word, Word, usize)> {
+        let reads = self.slip == Some(Slip::PlacesForFree);
+        let first = if reads { READING } else { self.random.below(SECTIONS.len()) };
+        for place in 0..SECTIONS.len() {
+            let (take, give) = SECTIONS[(first + place) % SECTIONS.len()];
+            let telling = |builder: &Self, number, kind| {
+                moved(take, kind).is_some_and(|map| builder.draft.maps[map] != Map::default())
+                    && builder.in_scope(number)
+            };
+            if let Some(lock) = self.type_where(telling) {
+                return Some((take, give, lock));
+            }
+        }
+        None
     }
 
     /// The type that a lock has when it is given back: with two loads sometimes another one, and always
     /// one that takes nothing back where the slip allows it.
     fn shown_anew(&mut self, lock: usize) -> usize {
         let slips = self.slip == Some(Slip::PrintedInequality);
-        if !slips && (!self.draft.has_two_loads() || self.random.percent(50)) {
+        let has_two_loads = self.draft.has_two_loads() && matches!(self.draft.types[lock], Type::Lock { .. });
+        if !slips && (!has_two_loads || self.random.percent(50)) {
             return lock;
         }
         let meant = |builder: &Self, number, kind| {
@@ -97,10 +118,10 @@ impl Builder<'_> {
     }
 
     /// `let _ = unlock l in e`, with an access if one can be had.
-    fn unlock_and_work(&mut self, lock: usize, kind: usize, now: &mut Map, need: &Map) {
+    fn give_and_work(&mut self, lock: usize, give: Word, kind: usize, now: &mut Map, need: &Map) {
         let int = self.int_type();
         let step = self.open_let();
-        self.give_to(lock, Word::Unlock, int, now, need, 1);
+        self.give_to(lock, give, int, now, need, 1);
         if !self.access(kind, now, need) {
             self.leaf(Word::Int, 0, kind, now);
         }

@@ -7,6 +7,7 @@
 pub mod concurrent;
 mod idioms;
 mod loads;
+mod readers;
 mod steps;
 
 use super::directed::Target;
@@ -29,6 +30,8 @@ pub enum Slip {
     PostsForFree,
     /// A variable may show a lock that takes back less, as section 3.1.6 prints it.
     PrintedInequality,
+    /// A new read-write lock has one reading place more than its maps allow.
+    PlacesForFree,
 }
 
 pub struct Builder<'r> {
@@ -107,7 +110,7 @@ impl<'r> Builder<'r> {
 
     fn new_type(&mut self) -> Type {
         let known = self.draft.types.len();
-        match self.random.below(12) {
+        match self.random.below(14) {
             0..=3 if known > 0 => {
                 let content = if self.random.percent(60) { 0 } else { self.random.below(known) };
                 Type::Ref { location: self.random.below(self.draft.locations), content }
@@ -115,6 +118,7 @@ impl<'r> Builder<'r> {
             4..=6 => self.new_lock(),
             7..=8 => Type::Tid(self.drawn_share()),
             9..=10 => Type::Sem(self.drawn_share()),
+            11..=12 => self.new_rwlock(),
             _ => Type::Int,
         }
     }
@@ -199,6 +203,7 @@ impl<'r> Builder<'r> {
         match self.draft.types[kind] {
             _ if self.in_scope(kind) => Map::default(),
             Type::Lock { given, .. } => self.lock_price(given),
+            Type::Rwlock { writing, .. } => self.draft.maps[writing],
             Type::Ref { content, .. } => self.price(content),
             Type::Int | Type::Tid(_) | Type::Sem(_) => Map::default(),
         }
@@ -242,12 +247,13 @@ impl<'r> Builder<'r> {
             _ if size > 12 => self.random.pick(&[Let, Let, Let, If]),
             Type::Int => self.random.pick(&[
                 Let, Let, Let, If, While, Spawn, Spawn, Join, Read, Read, Write, Write, Write, Lock, Lock, Unlock,
-                Unlock, Post, Post, Wait, Wait, Int, Var,
+                Unlock, Post, Post, Wait, Wait, Rdlock, Rdlock, Rdunlock, Rdunlock, Wrlock, Wrunlock, Int, Var,
             ]),
             Type::Ref { .. } => self.random.pick(&[Let, Let, If, Ref, Ref, Read, Var]),
             Type::Lock { .. } => self.random.pick(&[Let, If, Newlock, Newlock, Read, Var]),
             Type::Tid(_) => self.random.pick(&[Let, If, Newtid, Newtid, Read, Var]),
             Type::Sem(_) => self.random.pick(&[Let, If, Newsem, Newsem, Read, Var]),
+            Type::Rwlock { .. } => self.random.pick(&[Let, If, Newrwlock, Newrwlock, Read, Var]),
         }
     }
 
@@ -262,6 +268,7 @@ impl<'r> Builder<'r> {
             Type::Lock { .. } => Word::Newlock,
             Type::Tid(_) => Word::Newtid,
             Type::Sem(_) => Word::Newsem,
+            Type::Rwlock { .. } => Word::Newrwlock,
         };
         if !self.step(word, kind, now, need, 1) {
             self.step(Word::Var, kind, now, need, 1);

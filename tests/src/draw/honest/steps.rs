@@ -8,8 +8,7 @@ use crate::words::Word;
 impl Builder<'_> {
     /// A step with this word and type. False, with nothing built, when it cannot be had here.
     pub fn step(&mut self, word: Word, kind: usize, now: &mut Map, need: &Map, size: usize) -> bool {
-        use Word::{Join, Lock, Post, Spawn, Unlock, Wait};
-        let moves = matches!(word, Spawn | Join | Lock | Unlock | Post | Wait);
+        let moves = word == Word::Spawn || TAKING.contains(&word) || GIVING.contains(&word);
         if moves && self.draft.maps.len() > MAPS_IN_USE {
             return false;
         }
@@ -22,15 +21,16 @@ impl Builder<'_> {
             }
             (Word::Newtid, Type::Tid(_)) | (Word::Newsem, Type::Sem(_)) => self.leaf(word, 0, kind, now),
             (Word::Newlock, Type::Lock { given, .. }) => self.newlock(kind, given, now, need),
+            (Word::Newrwlock, Type::Rwlock { reading, writing }) => self.newrwlock(kind, reading, writing, now, need),
             (Word::Let, _) => self.binding(kind, now, need, size),
             (Word::If, _) => self.branch(kind, now, need, size),
             (Word::While, Type::Int) => self.repeat(kind, now, need, size),
-            (Spawn, Type::Int) => self.spawn(kind, now, need, size),
+            (Word::Spawn, Type::Int) => self.spawn(kind, now, need, size),
             (Word::Ref, Type::Ref { content, .. }) => self.new_cell(kind, content, now, need, size),
             (Word::Read, _) => self.read(kind, now, need, size),
             (Word::Write, Type::Int) => self.write(kind, now, need, size),
-            (Join | Lock | Wait, Type::Int) => self.take(word, kind, now, need, size),
-            (Unlock | Post, Type::Int) => self.give(word, kind, now, need, size),
+            (_, Type::Int) if TAKING.contains(&word) => self.take(word, kind, now, need, size),
+            (_, Type::Int) if GIVING.contains(&word) => self.give(word, kind, now, need, size),
             _ => false,
         }
     }
@@ -267,6 +267,10 @@ impl Builder<'_> {
     }
 }
 
+/// Words that take what their part carries, and words that give it back.
+const TAKING: [Word; 5] = [Word::Join, Word::Lock, Word::Wait, Word::Rdlock, Word::Wrlock];
+const GIVING: [Word; 4] = [Word::Unlock, Word::Post, Word::Rdunlock, Word::Wrunlock];
+
 /// The map that a word takes or gives when its part has this type, if it may have it.
 pub(super) fn moved(word: Word, part: Type) -> Option<usize> {
     match (word, part) {
@@ -274,6 +278,8 @@ pub(super) fn moved(word: Word, part: Type) -> Option<usize> {
         (Word::Lock, Type::Lock { taken, .. }) => Some(taken),
         (Word::Unlock, Type::Lock { given, .. }) => Some(given),
         (Word::Wait | Word::Post, Type::Sem(map)) => Some(map),
+        (Word::Rdlock | Word::Rdunlock, Type::Rwlock { reading, .. }) => Some(reading),
+        (Word::Wrlock | Word::Wrunlock, Type::Rwlock { writing, .. }) => Some(writing),
         _ => None,
     }
 }

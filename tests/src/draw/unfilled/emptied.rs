@@ -81,6 +81,7 @@ fn names(lines: &mut [Fields], types: usize, maps: usize) -> Option<Vec<&mut Str
     for (place, line) in rest.iter_mut().enumerate() {
         let fields = match line[0].as_str() {
             "lock" if place < types && two_loads => 1..3,
+            "rwlock" if place < types => 1..3,
             "lock" | "tid" | "sem" if place < types => 1..2,
             _ if place >= types + maps && !line[2].is_empty() => 2..3,
             _ => 0..0,

@@ -1,6 +1,6 @@
 //! Drafts whose conditions on types hold, and whose maps nobody worked out: some can be filled in, some not.
 
-use crate::answer::{LOCATIONS, STEPS};
+use crate::answer::{LOCATIONS, PLACES, STEPS};
 use crate::draw::draft::{Draft, Heading, Map, Step, Type};
 use crate::draw::random::Random;
 use crate::words::Word;
@@ -40,7 +40,7 @@ struct Typed<'r> {
 }
 
 /// The kinds of the types, in their order; every draft has all of them.
-const KINDS: [fn(usize) -> Type; 8] = [
+const KINDS: [fn(usize) -> Type; 9] = [
     |_| Type::Int,
     |location| Type::Ref { location, content: 0 },
     Type::Tid,
@@ -49,6 +49,7 @@ const KINDS: [fn(usize) -> Type; 8] = [
     Type::lock,
     Type::Sem,
     |location| Type::Ref { location, content: 4 },
+    |map| Type::Rwlock { reading: map, writing: map },
 ];
 
 impl<'r> Typed<'r> {
@@ -70,11 +71,22 @@ impl<'r> Typed<'r> {
         }
         let draft = Draft { heading: Heading::C2 { start: first }, whole, locations, types, maps, steps: Vec::new() };
         let mut typed = Typed { random, draft, scope: Vec::new(), bound: 0 };
+        typed.part_read_write_locks();
         if typed.random.percent(50) {
             typed.draft.heading = Heading::C3 { start: first };
             typed.loosen_locks();
         }
         typed
+    }
+
+    /// Gives read-write locks a reading share of their own.
+    fn part_read_write_locks(&mut self) {
+        let share = self.random.below(self.draft.maps.len());
+        for kind in &mut self.draft.types {
+            if let Type::Rwlock { reading, .. } = kind {
+                *reading = share;
+            }
+        }
     }
 
     /// Gives each lock two loads. Most often the one that is taken back is at least the other, and the locks
@@ -109,9 +121,10 @@ impl<'r> Typed<'r> {
         use Word::*;
         let words: &[Word] = match (size, self.draft.types[kind]) {
             (0..=1, _) => &[],
-            (_, Type::Int) => {
-                &[Let, Let, Let, Let, Let, Let, If, While, Spawn, Spawn, Join, Read, Write, Lock, Unlock, Post, Wait]
-            }
+            (_, Type::Int) => &[
+                Let, Let, Let, Let, Let, Let, If, While, Spawn, Spawn, Join, Read, Write, Lock, Unlock, Rdlock,
+                Rdunlock, Wrlock, Wrunlock, Post, Wait,
+            ],
             _ => &[Let, Let, If],
         };
         match words {
@@ -143,6 +156,9 @@ impl<'r> Typed<'r> {
                 let wanted = self.kind_where(|kind| match word {
                     Word::Join => matches!(kind, Type::Tid(_)),
                     Word::Post | Word::Wait => matches!(kind, Type::Sem(_)),
+                    Word::Rdlock | Word::Rdunlock | Word::Wrlock | Word::Wrunlock => {
+                        matches!(kind, Type::Rwlock { .. })
+                    }
                     _ => matches!(kind, Type::Lock { .. }),
                 });
                 self.parts(word, kind, &[(wanted, size)]);
@@ -184,6 +200,11 @@ impl<'r> Typed<'r> {
             Type::Tid(_) => self.push(Word::Newtid, 0, kind),
             Type::Lock { .. } => self.push(Word::Newlock, 0, kind),
             Type::Sem(_) => self.push(Word::Newsem, 0, kind),
+            Type::Rwlock { reading, writing } => {
+                let most = self.draft.places(reading, writing).clamp(1, PLACES - 1);
+                let places = self.random.pick(&[1, most, most, most + 1]);
+                self.push(Word::Newrwlock, places, kind);
+            }
             Type::Ref { content, .. } => {
                 self.push(Word::Ref, 0, kind);
                 self.value(content);

@@ -100,6 +100,12 @@ impl Flows for Inequalities<'_> {
         Ok(())
     }
 
+    fn shares(&mut self, _: u32, count: u32, share: usize, total: usize) -> Judged {
+        let split = self.split;
+        self.ask(total, split.maps, |location| i128::from(count) * i128::from(split.map(share)[location]));
+        Ok(())
+    }
+
     fn access(&mut self, _: u32, map: usize, location: usize, wanted: u32) -> Judged {
         let (greater, more) = self.term(map, location);
         let margin = i128::from(wanted) - more;

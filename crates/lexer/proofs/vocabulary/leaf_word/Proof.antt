@@ -82,10 +82,17 @@ returns-5 c =
     (skip _ _ _ (sym (c4 .before .same4 .ensures) ∙ c4 .if4 .left)
     (hit _ _ _ (sym (c .before .same5 .ensures) ∙ c .if5 .taken)))))
 
+slice-aggregate-same-6 : tie.Need-slice-aggregate-same-6
+slice-aggregate-same-6 c = search needs
+
+same-requires-6 : tie.Need-same-requires-6
+same-requires-6 c κs = search needs
+
 returns-6 : tie.Need-returns-6
 unfolding leafWords bytes
 returns-6 c =
-    let c4 = c .before .before .before in
+    let c5 = c .before .before .before in
+    let c4 = c5 .before .before .before in
     let c3 = c4 .before .before .before in
     let c2 = c3 .before .before .before in
     let c1 = c2 .before .before .before in
@@ -93,8 +100,24 @@ returns-6 c =
     (skip _ _ _ (sym (c2 .before .same2 .ensures) ∙ c2 .if2 .left)
     (skip _ _ _ (sym (c3 .before .same3 .ensures) ∙ c3 .if3 .left)
     (skip _ _ _ (sym (c4 .before .same4 .ensures) ∙ c4 .if4 .left)
-    (skip _ _ _ (sym (c .before .same5 .ensures) ∙ c .if5 .left)
-    (none-left _)))))
+    (skip _ _ _ (sym (c5 .before .same5 .ensures) ∙ c5 .if5 .left)
+    (hit _ _ _ (sym (c .before .same6 .ensures) ∙ c .if6 .taken))))))
+
+returns-7 : tie.Need-returns-7
+unfolding leafWords bytes
+returns-7 c =
+    let c5 = c .before .before .before in
+    let c4 = c5 .before .before .before in
+    let c3 = c4 .before .before .before in
+    let c2 = c3 .before .before .before in
+    let c1 = c2 .before .before .before in
+    skip _ _ _ (sym (c1 .before .same .ensures) ∙ c1 .if1 .left)
+    (skip _ _ _ (sym (c2 .before .same2 .ensures) ∙ c2 .if2 .left)
+    (skip _ _ _ (sym (c3 .before .same3 .ensures) ∙ c3 .if3 .left)
+    (skip _ _ _ (sym (c4 .before .same4 .ensures) ∙ c4 .if4 .left)
+    (skip _ _ _ (sym (c5 .before .same5 .ensures) ∙ c5 .if5 .left)
+    (skip _ _ _ (sym (c .before .same6 .ensures) ∙ c .if6 .left)
+    (none-left _))))))
 
 pub leaf-word-spec : {M : Type 1} → statement M
 leaf-word-spec =
@@ -115,4 +138,7 @@ leaf-word-spec =
     slice-aggregate-same-5
     same-requires-5
     returns-5
-    returns-6)
+    slice-aggregate-same-6
+    same-requires-6
+    returns-6
+    returns-7)

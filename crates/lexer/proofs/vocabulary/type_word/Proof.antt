@@ -71,14 +71,31 @@ returns-5 c =
     let c1 = c2 .before .before .before in
     sym (rw (sym (c1 .before .same .ensures) ∙ c1 .if1 .left, sym (c2 .before .same2 .ensures) ∙ c2 .if2 .left, sym (c3 .before .same3 .ensures) ∙ c3 .if3 .left, sym (c4 .before .same4 .ensures) ∙ c4 .if4 .left, sym (c .before .same5 .ensures) ∙ c .if5 .taken))
 
+slice-aggregate-same-6 : tie.Need-slice-aggregate-same-6
+slice-aggregate-same-6 c = search needs
+
+same-requires-6 : tie.Need-same-requires-6
+same-requires-6 c κs = search needs
+
 returns-6 : tie.Need-returns-6
 unfolding typeWordOf bytes
 returns-6 c =
-    let c4 = c .before .before .before in
+    let c5 = c .before .before .before in
+    let c4 = c5 .before .before .before in
     let c3 = c4 .before .before .before in
     let c2 = c3 .before .before .before in
     let c1 = c2 .before .before .before in
-    sym (rw (sym (c1 .before .same .ensures) ∙ c1 .if1 .left, sym (c2 .before .same2 .ensures) ∙ c2 .if2 .left, sym (c3 .before .same3 .ensures) ∙ c3 .if3 .left, sym (c4 .before .same4 .ensures) ∙ c4 .if4 .left, sym (c .before .same5 .ensures) ∙ c .if5 .left))
+    sym (rw (sym (c1 .before .same .ensures) ∙ c1 .if1 .left, sym (c2 .before .same2 .ensures) ∙ c2 .if2 .left, sym (c3 .before .same3 .ensures) ∙ c3 .if3 .left, sym (c4 .before .same4 .ensures) ∙ c4 .if4 .left, sym (c5 .before .same5 .ensures) ∙ c5 .if5 .left, sym (c .before .same6 .ensures) ∙ c .if6 .taken))
+
+returns-7 : tie.Need-returns-7
+unfolding typeWordOf bytes
+returns-7 c =
+    let c5 = c .before .before .before in
+    let c4 = c5 .before .before .before in
+    let c3 = c4 .before .before .before in
+    let c2 = c3 .before .before .before in
+    let c1 = c2 .before .before .before in
+    sym (rw (sym (c1 .before .same .ensures) ∙ c1 .if1 .left, sym (c2 .before .same2 .ensures) ∙ c2 .if2 .left, sym (c3 .before .same3 .ensures) ∙ c3 .if3 .left, sym (c4 .before .same4 .ensures) ∙ c4 .if4 .left, sym (c5 .before .same5 .ensures) ∙ c5 .if5 .left, sym (c .before .same6 .ensures) ∙ c .if6 .left))
 
 pub type-word-spec : {M : Type 1} → statement M
 type-word-spec =
@@ -99,4 +116,7 @@ type-word-spec =
     slice-aggregate-same-5
     same-requires-5
     returns-5
-    returns-6)
+    slice-aggregate-same-6
+    same-requires-6
+    returns-6
+    returns-7)

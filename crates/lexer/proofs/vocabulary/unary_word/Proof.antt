@@ -3,7 +3,7 @@ use mathlib.Core.Path.{sym, _∙_}
 use borrow.Author.Needs.{needs}
 use Rattle.spec.specs.Text.{bytes}
 use Rattle.lexer.specs.Words.{unaryWords}
-use Rattle.lexer.proofs.Words.{hit, skip, none-left}
+use Rattle.lexer.proofs.Words.{hit, skip}
 use Rattle.lexer.proofs.vocabulary.unary_word.Statement.{statement}
 use Rattle.lexer.proofs.vocabulary.unary_word.Tie as tie
 
@@ -151,10 +151,14 @@ returns-8 c =
     (skip _ _ _ (sym (c7 .before .same7 .ensures) ∙ c7 .if7 .left)
     (hit _ _ _ (sym (c .before .same8 .ensures) ∙ c .if8 .taken))))))))
 
+hold-word-requires : tie.Need-hold-word-requires
+hold-word-requires c κs = search needs
+
 returns-9 : tie.Need-returns-9
 unfolding unaryWords bytes
 returns-9 c =
-    let c7 = c .before .before .before in
+    let c8 = c .before in
+    let c7 = c8 .before .before .before in
     let c6 = c7 .before .before .before in
     let c5 = c6 .before .before .before in
     let c4 = c5 .before .before .before in
@@ -168,8 +172,8 @@ returns-9 c =
     (skip _ _ _ (sym (c5 .before .same5 .ensures) ∙ c5 .if5 .left)
     (skip _ _ _ (sym (c6 .before .same6 .ensures) ∙ c6 .if6 .left)
     (skip _ _ _ (sym (c7 .before .same7 .ensures) ∙ c7 .if7 .left)
-    (skip _ _ _ (sym (c .before .same8 .ensures) ∙ c .if8 .left)
-    (none-left _))))))))
+    (skip _ _ _ (sym (c8 .before .same8 .ensures) ∙ c8 .if8 .left)
+    (c .hold-word .ensures))))))))
 
 pub unary-word-spec : {M : Type 1} → statement M
 unary-word-spec =
@@ -199,4 +203,5 @@ unary-word-spec =
     slice-aggregate-same-8
     same-requires-8
     returns-8
+    hold-word-requires
     returns-9)

@@ -19,6 +19,9 @@ enum-known-t c = search needs
 enum-known-t-2 : tie.Need-enum-known-t-2
 enum-known-t-2 c = search needs
 
+enum-told-4 : tie.Need-enum-told-4
+enum-told-4 c = search needs
+
 returns : tie.Need-returns
 unfolding load
 returns c = rw (c .enum-told .given .1)
@@ -39,6 +42,10 @@ returns-5 : tie.Need-returns-5
 unfolding load
 returns-5 c = rw (c .before .t2 .given .1)
 
+returns-6 : tie.Need-returns-6
+unfolding load
+returns-6 c = rw (c .enum-told4 .given .1)
+
 pub load-of-spec : {M : Type 1} → statement M
 load-of-spec =
     tie.close
@@ -48,8 +55,10 @@ load-of-spec =
     enum-told-3
     enum-known-t
     enum-known-t-2
+    enum-told-4
     returns
     returns-2
     returns-3
     returns-4
-    returns-5)
+    returns-5
+    returns-6)

@@ -135,6 +135,48 @@ load-in-requires-4 c κs = search needs
 giving-requires-3 : tie.Need-giving-requires-3
 giving-requires-3 c κs = tt
 
+enum-told-18 : tie.Need-enum-told-18
+enum-told-18 c = search needs
+
+lending-in-requires : tie.Need-lending-in-requires
+lending-in-requires c κs = search needs
+
+enum-told-19 : tie.Need-enum-told-19
+enum-told-19 c = search needs
+
+read-load-in-requires : tie.Need-read-load-in-requires
+read-load-in-requires c κs = search needs
+
+giving-requires-4 : tie.Need-giving-requires-4
+giving-requires-4 c κs = tt
+
+enum-told-20 : tie.Need-enum-told-20
+enum-told-20 c = search needs
+
+read-load-in-requires-2 : tie.Need-read-load-in-requires-2
+read-load-in-requires-2 c κs = search needs
+
+taking-requires-4 : tie.Need-taking-requires-4
+taking-requires-4 c κs = tt
+
+enum-told-21 : tie.Need-enum-told-21
+enum-told-21 c = search needs
+
+write-load-in-requires : tie.Need-write-load-in-requires
+write-load-in-requires c κs = search needs
+
+giving-requires-5 : tie.Need-giving-requires-5
+giving-requires-5 c κs = tt
+
+enum-told-22 : tie.Need-enum-told-22
+enum-told-22 c = search needs
+
+write-load-in-requires-2 : tie.Need-write-load-in-requires-2
+write-load-in-requires-2 c κs = search needs
+
+taking-requires-5 : tie.Need-taking-requires-5
+taking-requires-5 c κs = tt
+
 returns : tie.Need-returns
 unfolding wayBy
 returns c = rw (c .before .enum-told .given .1) (ap Leaf (c .unchanged .ensures))
@@ -203,6 +245,26 @@ returns-17 : tie.Need-returns-17
 unfolding wayBy
 returns-17 c = rw (c .before .before .enum-told17 .given .1) (ap (λ E. Unary (After E)) (c .giving3 .ensures ∙ ap giving (c .before .load-in4 .ensures)))
 
+returns-18 : tie.Need-returns-18
+unfolding wayBy
+returns-18 c = rw (c .before .enum-told18 .given .1) (ap Leaf (c .lending-in .ensures))
+
+returns-19 : tie.Need-returns-19
+unfolding wayBy
+returns-19 c = rw (c .before .before .enum-told19 .given .1) (ap (λ E. Unary (After E)) (c .giving4 .ensures ∙ ap giving (c .before .read-load-in .ensures)))
+
+returns-20 : tie.Need-returns-20
+unfolding wayBy
+returns-20 c = rw (c .before .before .enum-told20 .given .1) (ap (λ E. Unary (After E)) (c .taking4 .ensures ∙ ap taking (c .before .read-load-in2 .ensures)))
+
+returns-21 : tie.Need-returns-21
+unfolding wayBy
+returns-21 c = rw (c .before .before .enum-told21 .given .1) (ap (λ E. Unary (After E)) (c .giving5 .ensures ∙ ap giving (c .before .write-load-in .ensures)))
+
+returns-22 : tie.Need-returns-22
+unfolding wayBy
+returns-22 c = rw (c .before .before .enum-told22 .given .1) (ap (λ E. Unary (After E)) (c .taking5 .ensures ∙ ap taking (c .before .write-load-in2 .ensures)))
+
 pub way-by-spec : {M : Type 1} → statement M
 way-by-spec =
     tie.close
@@ -249,6 +311,20 @@ way-by-spec =
     enum-told-17
     load-in-requires-4
     giving-requires-3
+    enum-told-18
+    lending-in-requires
+    enum-told-19
+    read-load-in-requires
+    giving-requires-4
+    enum-told-20
+    read-load-in-requires-2
+    taking-requires-4
+    enum-told-21
+    write-load-in-requires
+    giving-requires-5
+    enum-told-22
+    write-load-in-requires-2
+    taking-requires-5
     returns
     returns-2
     returns-3
@@ -265,4 +341,9 @@ way-by-spec =
     returns-14
     returns-15
     returns-16
-    returns-17)
+    returns-17
+    returns-18
+    returns-19
+    returns-20
+    returns-21
+    returns-22)

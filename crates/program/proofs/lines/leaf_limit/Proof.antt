@@ -1,4 +1,4 @@
--- The ranges of v, word by word.
+-- The ends of the ranges of v, word by word.
 use borrow.Author.Needs.{needs}
 use Rattle.program.proofs.lines.leaf_limit.Statement.{statement}
 use Rattle.program.proofs.lines.leaf_limit.Tie as tie
@@ -18,6 +18,9 @@ enum-told-4 c = search needs
 enum-told-5 : tie.Need-enum-told-5
 enum-told-5 c = search needs
 
+enum-told-6 : tie.Need-enum-told-6
+enum-told-6 c = search needs
+
 returns : tie.Need-returns
 returns c = search needs
 
@@ -33,7 +36,22 @@ returns-4 c = search needs
 returns-5 : tie.Need-returns-5
 returns-5 c = search needs
 
+returns-6 : tie.Need-returns-6
+returns-6 c = search needs
+
 pub leaf-limit-spec : {M : Type 1} → statement M
 leaf-limit-spec =
     tie.close
-    (tie.spec enum-told enum-told-2 enum-told-3 enum-told-4 enum-told-5 returns returns-2 returns-3 returns-4 returns-5)
+    (tie.spec
+    enum-told
+    enum-told-2
+    enum-told-3
+    enum-told-4
+    enum-told-5
+    enum-told-6
+    returns
+    returns-2
+    returns-3
+    returns-4
+    returns-5
+    returns-6)

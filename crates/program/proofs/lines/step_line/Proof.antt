@@ -2,7 +2,7 @@
 use Rattle.lexer.proofs.Walks.{span-placed}
 use Rattle.lexer.proofs.Places.{span-le}
 use Rattle.lexer.proofs.Words.{span-known, span-unknown}
-use Rattle.program.proofs.LineLaws.{line-fits, marked, step-missing, step-unknown, step-malformed, step-over, step-right}
+use Rattle.program.proofs.LineLaws.{line-fits, marked, step-missing, step-unknown, step-malformed, step-under, step-over, step-right}
 use borrow.Author.Needs.{needs}
 use native.Mathlib.Omega.{arith}
 use mathlib.Core.Path.{sym, subst, _∙_}
@@ -122,13 +122,38 @@ returns-4 c =
     (span-known _ _ (at-field .field .result) (at-field .field .ensures) _ (sym (at-word-of .word-of .ensures) ∙ at-word .word .given .1))
     (subst (TailShown _ _ _) (c .enum-told2 .given .1) (c .before .before .last-number .ensures))
 
-limit-of-requires : tie.Need-limit-of-requires
-limit-of-requires c κs = search needs
+least-of-requires : tie.Need-least-of-requires
+least-of-requires c κs = search needs
 
 returns-5 : tie.Need-returns-5
 unfolding bytes
 returns-5 c =
     let at-v = c .before .before .before in
+    let at-last-number = at-v .before .before in
+    let at-word = at-last-number .before .before .before in
+    let at-word-of = at-word .before .before in
+    let at-if2 = at-word-of .before .before in
+    let at-same = at-if2 .before in
+    let at-field = at-same .before .before .before in
+    let at-if1 = at-field .before in
+    let at-at-end = at-if1 .before in
+    let at-pre = at-at-end .before .before in
+    step-under _ _ (sym (at-at-end .at-end .ensures) ∙ at-if1 .if1 .left) (at-field .field .result) (at-field .field .ensures) (at-pre .pre)
+    (marked _ _ (at-field .field .result) _ _ (at-field .field .ensures) (at-same .same .ensures) ∙ at-if2 .if2 .left) _
+    (span-known _ _ (at-field .field .result) (at-field .field .ensures) _ (sym (at-word-of .word-of .ensures) ∙ at-word .word .given .1))
+    _
+    _
+    (subst (TailShown _ _ _) (at-v .v .given .1) (at-last-number .last-number .ensures))
+    (omega (arith, c .if3 .taken, c .before .least-of .ensures))
+
+limit-of-requires : tie.Need-limit-of-requires
+limit-of-requires c κs = search needs
+
+returns-6 : tie.Need-returns-6
+unfolding bytes
+returns-6 c =
+    let at-least = c .before .before in
+    let at-v = at-least .before .before .before in
     let at-last-number = at-v .before .before in
     let at-word = at-last-number .before .before .before in
     let at-word-of = at-word .before .before in
@@ -144,12 +169,14 @@ returns-5 c =
     _
     _
     (subst (TailShown _ _ _) (at-v .v .given .1) (at-last-number .last-number .ensures))
-    (omega (arith, c .if3 .taken, c .before .limit-of .ensures))
+    (omega (arith, at-least .if3 .left, at-least .before .least-of .ensures))
+    (omega (arith, c .if4 .taken, c .before .limit-of .ensures))
 
-returns-6 : tie.Need-returns-6
+returns-7 : tie.Need-returns-7
 unfolding bytes
-returns-6 c =
-    let at-v = c .before .before .before in
+returns-7 c =
+    let at-least = c .before .before in
+    let at-v = at-least .before .before .before in
     let at-last-number = at-v .before .before in
     let at-word = at-last-number .before .before .before in
     let at-word-of = at-word .before .before in
@@ -165,7 +192,8 @@ returns-6 c =
     _
     _
     (subst (TailShown _ _ _) (at-v .v .given .1) (at-last-number .last-number .ensures))
-    (omega (arith, c .if3 .left, c .before .limit-of .ensures))
+    (omega (arith, at-least .if3 .left, at-least .before .least-of .ensures))
+    (omega (arith, c .if4 .left, c .before .limit-of .ensures))
 
 pub step-line-spec : {M : Type 1} → statement M
 step-line-spec =
@@ -193,6 +221,8 @@ step-line-spec =
     enum-known-v
     enum-told-2
     returns-4
-    limit-of-requires
+    least-of-requires
     returns-5
-    returns-6)
+    limit-of-requires
+    returns-6
+    returns-7)

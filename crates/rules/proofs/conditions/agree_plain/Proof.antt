@@ -83,6 +83,12 @@ returns-4 c = rw (c .before .before .before .kind3 .given .1, not-sem _ (c .befo
 same-maps-requires-4 : tie.Need-same-maps-requires-4
 same-maps-requires-4 c κs = search needs
 
+enum-known-kind-4 : tie.Need-enum-known-kind-4
+enum-known-kind-4 c = search needs
+
+agree-rwlock-requires : tie.Need-agree-rwlock-requires
+agree-rwlock-requires c κs = search needs
+
 returns-5 : tie.Need-returns-5
 unfolding linesAgree isInt outcome judge
 returns-5 c = rw (c .before .before .enum-told .given .1, c .enum-told2 .given .1)
@@ -105,6 +111,10 @@ returns-8 c = rw (c .before .before .before .before .before .kind2 .given .1, c 
 returns-9 : tie.Need-returns-9
 unfolding linesAgree isSem load
 returns-9 c = rw (c .before .before .before .before .before .kind3 .given .1, c .before .before .other3 .given .1) (c .same-maps4 .ensures)
+
+returns-10 : tie.Need-returns-10
+unfolding linesAgree
+returns-10 c = rw (c .before .before .kind4 .given .1) (c .agree-rwlock .ensures)
 
 pub agree-plain-spec : {M : Type 1} → statement M
 agree-plain-spec =
@@ -133,8 +143,11 @@ agree-plain-spec =
     type-false-requires-5
     returns-4
     same-maps-requires-4
+    enum-known-kind-4
+    agree-rwlock-requires
     returns-5
     returns-6
     returns-7
     returns-8
-    returns-9)
+    returns-9
+    returns-10)

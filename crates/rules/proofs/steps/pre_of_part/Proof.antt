@@ -27,6 +27,18 @@ enum-told-7 c = search needs
 enum-told-8 : tie.Need-enum-told-8
 enum-told-8 c = search needs
 
+enum-told-9 : tie.Need-enum-told-9
+enum-told-9 c = search needs
+
+enum-told-10 : tie.Need-enum-told-10
+enum-told-10 c = search needs
+
+enum-told-11 : tie.Need-enum-told-11
+enum-told-11 c = search needs
+
+enum-told-12 : tie.Need-enum-told-12
+enum-told-12 c = search needs
+
 returns : tie.Need-returns
 unfolding numberOfPart
 returns c = rw (c .enum-told .given .1)
@@ -59,6 +71,22 @@ returns-8 : tie.Need-returns-8
 unfolding numberOfPart
 returns-8 c = rw (c .enum-told8 .given .1)
 
+returns-9 : tie.Need-returns-9
+unfolding numberOfPart
+returns-9 c = rw (c .enum-told9 .given .1)
+
+returns-10 : tie.Need-returns-10
+unfolding numberOfPart
+returns-10 c = rw (c .enum-told10 .given .1)
+
+returns-11 : tie.Need-returns-11
+unfolding numberOfPart
+returns-11 c = rw (c .enum-told11 .given .1)
+
+returns-12 : tie.Need-returns-12
+unfolding numberOfPart
+returns-12 c = rw (c .enum-told12 .given .1)
+
 pub pre-of-part-spec : {M : Type 1} → statement M
 pre-of-part-spec =
     tie.close
@@ -71,6 +99,10 @@ pre-of-part-spec =
     enum-told-6
     enum-told-7
     enum-told-8
+    enum-told-9
+    enum-told-10
+    enum-told-11
+    enum-told-12
     returns
     returns-2
     returns-3
@@ -78,4 +110,8 @@ pre-of-part-spec =
     returns-5
     returns-6
     returns-7
-    returns-8)
+    returns-8
+    returns-9
+    returns-10
+    returns-11
+    returns-12)

@@ -105,6 +105,36 @@ enum-told-17 c = search needs
 check-wait-requires : tie.Need-check-wait-requires
 check-wait-requires c κs = search needs
 
+enum-told-18 : tie.Need-enum-told-18
+enum-told-18 c = search needs
+
+check-newrwlock-requires : tie.Need-check-newrwlock-requires
+check-newrwlock-requires c κs = search needs
+
+enum-told-19 : tie.Need-enum-told-19
+enum-told-19 c = search needs
+
+check-rdlock-requires : tie.Need-check-rdlock-requires
+check-rdlock-requires c κs = search needs
+
+enum-told-20 : tie.Need-enum-told-20
+enum-told-20 c = search needs
+
+check-rdunlock-requires : tie.Need-check-rdunlock-requires
+check-rdunlock-requires c κs = search needs
+
+enum-told-21 : tie.Need-enum-told-21
+enum-told-21 c = search needs
+
+check-wrlock-requires : tie.Need-check-wrlock-requires
+check-wrlock-requires c κs = search needs
+
+enum-told-22 : tie.Need-enum-told-22
+enum-told-22 c = search needs
+
+check-wrunlock-requires : tie.Need-check-wrunlock-requires
+check-wrunlock-requires c κs = search needs
+
 returns : tie.Need-returns
 unfolding ruleRow
 returns c = rw (c .before .enum-told .given .1) (c .check-var .ensures)
@@ -173,6 +203,26 @@ returns-17 : tie.Need-returns-17
 unfolding ruleRow
 returns-17 c = rw (c .before .enum-told17 .given .1) (c .check-wait .ensures)
 
+returns-18 : tie.Need-returns-18
+unfolding ruleRow
+returns-18 c = rw (c .before .enum-told18 .given .1) (c .check-newrwlock .ensures)
+
+returns-19 : tie.Need-returns-19
+unfolding ruleRow
+returns-19 c = rw (c .before .enum-told19 .given .1) (c .check-rdlock .ensures)
+
+returns-20 : tie.Need-returns-20
+unfolding ruleRow
+returns-20 c = rw (c .before .enum-told20 .given .1) (c .check-rdunlock .ensures)
+
+returns-21 : tie.Need-returns-21
+unfolding ruleRow
+returns-21 c = rw (c .before .enum-told21 .given .1) (c .check-wrlock .ensures)
+
+returns-22 : tie.Need-returns-22
+unfolding ruleRow
+returns-22 c = rw (c .before .enum-told22 .given .1) (c .check-wrunlock .ensures)
+
 pub check-rule-spec : {M : Type 1} → statement M
 check-rule-spec =
     tie.close
@@ -211,6 +261,16 @@ check-rule-spec =
     check-post-requires
     enum-told-17
     check-wait-requires
+    enum-told-18
+    check-newrwlock-requires
+    enum-told-19
+    check-rdlock-requires
+    enum-told-20
+    check-rdunlock-requires
+    enum-told-21
+    check-wrlock-requires
+    enum-told-22
+    check-wrunlock-requires
     returns
     returns-2
     returns-3
@@ -227,4 +287,9 @@ check-rule-spec =
     returns-14
     returns-15
     returns-16
-    returns-17)
+    returns-17
+    returns-18
+    returns-19
+    returns-20
+    returns-21
+    returns-22)

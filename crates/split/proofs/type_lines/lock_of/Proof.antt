@@ -1,6 +1,7 @@
 use mathlib.Core.Path.{sym, _∙_}
 use Rattle.spec.specs.Split.{lockOf}
-use Rattle.split.proofs.Tests.{first-older, second-older, in-out-seen, seen-in, seen-out}
+use Rattle.split.specs.Lines.{rangedType}
+use Rattle.split.proofs.Tests.{first-older, second-older, in-out-seen}
 use borrow.Author.Needs.{needs}
 use Rattle.split.proofs.type_lines.lock_of.Statement.{statement}
 use Rattle.split.proofs.type_lines.lock_of.Tie as tie
@@ -20,21 +21,18 @@ older-lock-requires-2 c κs = search needs
 enum-told-3 : tie.Need-enum-told-3
 enum-told-3 c = search needs
 
-both-below-requires : tie.Need-both-below-requires
-both-below-requires c κs = search needs
+ranged-type-requires : tie.Need-ranged-type-requires
+ranged-type-requires c κs = search needs
 
 returns : tie.Need-returns
-unfolding lockOf
-returns c = seen-in _ _ _ (in-out-seen _ _ _ _ (c .before .before .enum-told3 .given .1)) (sym (c .before .both-below .ensures) ∙ c .if1 .taken)
+returns c = first-older _ _ _ _ (c .before .enum-told .given .1) (c .older-lock .ensures)
 
 returns-2 : tie.Need-returns-2
-returns-2 c = first-older _ _ _ _ (c .before .enum-told .given .1) (c .older-lock .ensures)
+returns-2 c = second-older _ _ _ _ (c .before .enum-told2 .given .1) (c .older-lock2 .ensures)
 
 returns-3 : tie.Need-returns-3
-returns-3 c = second-older _ _ _ _ (c .before .enum-told2 .given .1) (c .older-lock2 .ensures)
-
-returns-4 : tie.Need-returns-4
-returns-4 c = seen-out _ _ _ (in-out-seen _ _ _ _ (c .before .before .enum-told3 .given .1)) (sym (c .before .both-below .ensures) ∙ c .if1 .left)
+unfolding lockOf rangedType
+returns-3 c = c .ranged-type .ensures ∙ sym (in-out-seen _ _ _ _ (c .before .enum-told3 .given .1))
 
 pub lock-of-spec : {M : Type 1} → statement M
 lock-of-spec =
@@ -45,8 +43,7 @@ lock-of-spec =
     enum-told-2
     older-lock-requires-2
     enum-told-3
-    both-below-requires
+    ranged-type-requires
     returns
     returns-2
-    returns-3
-    returns-4)
+    returns-3)

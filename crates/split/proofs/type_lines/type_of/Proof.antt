@@ -1,7 +1,8 @@
 use mathlib.Core.Path.{sym, _∙_}
-use Rattle.spec.specs.Split.{refOf, tidOf, semOf}
+use Rattle.spec.specs.Split.{refOf, tidOf, semOf, rwlockOf}
 use Rattle.workspace.specs.Sheets.{headerTold}
-use Rattle.split.proofs.Tests.{int-seen, ref-seen, lock-seen, tid-seen, sem-seen, unknown-seen, seen-in, seen-out}
+use Rattle.split.specs.Lines.{rangedType}
+use Rattle.split.proofs.Tests.{int-seen, ref-seen, lock-seen, tid-seen, sem-seen, rwlock-seen, unknown-seen}
 use borrow.Author.Needs.{needs}
 use Rattle.split.proofs.type_lines.type_of.Statement.{statement}
 use Rattle.split.proofs.type_lines.type_of.Tie as tie
@@ -9,21 +10,14 @@ use Rattle.split.proofs.type_lines.type_of.Tie as tie
 enum-told : tie.Need-enum-told
 enum-told c = search needs
 
-both-below-requires : tie.Need-both-below-requires
-both-below-requires c κs = search needs
-
-returns : tie.Need-returns
-returns c = seen-in _ _ _ (int-seen _ _ _ _ _ (c .before .before .enum-told .given .1)) (sym (c .before .both-below .ensures) ∙ c .if1 .taken)
+ranged-type-requires : tie.Need-ranged-type-requires
+ranged-type-requires c κs = search needs
 
 enum-told-2 : tie.Need-enum-told-2
 enum-told-2 c = search needs
 
-both-below-requires-2 : tie.Need-both-below-requires-2
-both-below-requires-2 c κs = search needs
-
-returns-2 : tie.Need-returns-2
-unfolding refOf headerTold
-returns-2 c = seen-in _ _ _ (ref-seen (headerTold (c .before .before .before .before .args .header)) _ _ _ _ (c .before .before .enum-told2 .given .1)) (sym (c .before .both-below2 .ensures) ∙ c .if2 .taken)
+ranged-type-requires-2 : tie.Need-ranged-type-requires-2
+ranged-type-requires-2 c κs = search needs
 
 enum-told-3 : tie.Need-enum-told-3
 enum-told-3 c = search needs
@@ -34,70 +28,72 @@ lock-of-requires c κs = search needs
 enum-told-4 : tie.Need-enum-told-4
 enum-told-4 c = search needs
 
-both-below-requires-3 : tie.Need-both-below-requires-3
-both-below-requires-3 c κs = search needs
-
-returns-3 : tie.Need-returns-3
-unfolding tidOf headerTold
-returns-3 c = seen-in _ _ _ (tid-seen (headerTold (c .before .before .before .before .args .header)) _ _ _ _ (c .before .before .enum-told4 .given .1)) (sym (c .before .both-below3 .ensures) ∙ c .if3 .taken)
+ranged-type-requires-3 : tie.Need-ranged-type-requires-3
+ranged-type-requires-3 c κs = search needs
 
 enum-told-5 : tie.Need-enum-told-5
 enum-told-5 c = search needs
 
-both-below-requires-4 : tie.Need-both-below-requires-4
-both-below-requires-4 c κs = search needs
-
-returns-4 : tie.Need-returns-4
-unfolding semOf headerTold
-returns-4 c = seen-in _ _ _ (sem-seen (headerTold (c .before .before .before .before .args .header)) _ _ _ _ (c .before .before .enum-told5 .given .1)) (sym (c .before .both-below4 .ensures) ∙ c .if4 .taken)
+ranged-type-requires-4 : tie.Need-ranged-type-requires-4
+ranged-type-requires-4 c κs = search needs
 
 enum-told-6 : tie.Need-enum-told-6
 enum-told-6 c = search needs
 
+ranged-type-requires-5 : tie.Need-ranged-type-requires-5
+ranged-type-requires-5 c κs = search needs
+
+enum-told-7 : tie.Need-enum-told-7
+enum-told-7 c = search needs
+
+returns : tie.Need-returns
+unfolding rangedType
+returns c = c .ranged-type .ensures ∙ sym (int-seen _ _ _ _ _ (c .before .enum-told .given .1))
+
+returns-2 : tie.Need-returns-2
+unfolding refOf rangedType headerTold
+returns-2 c = c .ranged-type2 .ensures ∙ sym (ref-seen (headerTold (c .before .before .before .args .header)) _ _ _ _ (c .before .enum-told2 .given .1))
+
+returns-3 : tie.Need-returns-3
+unfolding headerTold
+returns-3 c = lock-seen (headerTold (c .before .before .before .args .header)) _ _ _ _ (c .before .enum-told3 .given .1) (c .lock-of .ensures)
+
+returns-4 : tie.Need-returns-4
+unfolding tidOf rangedType headerTold
+returns-4 c = c .ranged-type3 .ensures ∙ sym (tid-seen (headerTold (c .before .before .before .args .header)) _ _ _ _ (c .before .enum-told4 .given .1))
+
 returns-5 : tie.Need-returns-5
-returns-5 c = seen-out _ _ _ (int-seen _ _ _ _ _ (c .before .before .enum-told .given .1)) (sym (c .before .both-below .ensures) ∙ c .if1 .left)
+unfolding semOf rangedType headerTold
+returns-5 c = c .ranged-type4 .ensures ∙ sym (sem-seen (headerTold (c .before .before .before .args .header)) _ _ _ _ (c .before .enum-told5 .given .1))
 
 returns-6 : tie.Need-returns-6
-unfolding headerTold
-returns-6 c = seen-out _ _ _ (ref-seen (headerTold (c .before .before .before .before .args .header)) _ _ _ _ (c .before .before .enum-told2 .given .1)) (sym (c .before .both-below2 .ensures) ∙ c .if2 .left)
+unfolding rwlockOf rangedType headerTold
+returns-6 c = c .ranged-type5 .ensures ∙ sym (rwlock-seen (headerTold (c .before .before .before .args .header)) _ _ _ _ (c .before .enum-told6 .given .1))
 
 returns-7 : tie.Need-returns-7
-unfolding headerTold
-returns-7 c = lock-seen (headerTold (c .before .before .before .args .header)) _ _ _ _ (c .before .enum-told3 .given .1) (c .lock-of .ensures)
-
-returns-8 : tie.Need-returns-8
-unfolding headerTold
-returns-8 c = seen-out _ _ _ (tid-seen (headerTold (c .before .before .before .before .args .header)) _ _ _ _ (c .before .before .enum-told4 .given .1)) (sym (c .before .both-below3 .ensures) ∙ c .if3 .left)
-
-returns-9 : tie.Need-returns-9
-unfolding headerTold
-returns-9 c = seen-out _ _ _ (sem-seen (headerTold (c .before .before .before .before .args .header)) _ _ _ _ (c .before .before .enum-told5 .given .1)) (sym (c .before .both-below4 .ensures) ∙ c .if4 .left)
-
-returns-10 : tie.Need-returns-10
-returns-10 c = unknown-seen _ _ _ _ _ (c .enum-told6 .given .1)
+returns-7 c = unknown-seen _ _ _ _ _ (c .enum-told7 .given .1)
 
 pub type-of-spec : {M : Type 1} → statement M
 type-of-spec =
     tie.close
     (tie.spec
     enum-told
-    both-below-requires
-    returns
+    ranged-type-requires
     enum-told-2
-    both-below-requires-2
-    returns-2
+    ranged-type-requires-2
     enum-told-3
     lock-of-requires
     enum-told-4
-    both-below-requires-3
-    returns-3
+    ranged-type-requires-3
     enum-told-5
-    both-below-requires-4
-    returns-4
+    ranged-type-requires-4
     enum-told-6
+    ranged-type-requires-5
+    enum-told-7
+    returns
+    returns-2
+    returns-3
+    returns-4
     returns-5
     returns-6
-    returns-7
-    returns-8
-    returns-9
-    returns-10)
+    returns-7)

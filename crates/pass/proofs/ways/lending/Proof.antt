@@ -1,0 +1,11 @@
+use mathlib.Core.Path.{refl}
+use Rattle.filling.specs.Flow.{lending}
+use Rattle.pass.proofs.ways.lending.Statement.{statement}
+use Rattle.pass.proofs.ways.lending.Tie as tie
+
+returns : tie.Need-returns
+unfolding lending
+returns c = refl
+
+pub lending-spec : {M : Type 1} → statement M
+lending-spec = tie.close (tie.spec returns)

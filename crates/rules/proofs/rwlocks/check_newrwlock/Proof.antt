@@ -1,0 +1,45 @@
+use mathlib.Core.Path.{refl}
+use Rattle.spec.specs.Conditions.{isRwlock, readLoad, writeLoad}
+use Rattle.rules.proofs.Judged.{last, next, pass, fail}
+use Rattle.rules.proofs.TypeKinds.{not-rwlock}
+use borrow.Author.Needs.{needs}
+use Rattle.rules.proofs.rwlocks.check_newrwlock.Statement.{statement}
+use Rattle.rules.proofs.rwlocks.check_newrwlock.Tie as tie
+
+enum-known-kind : tie.Need-enum-known-kind
+enum-known-kind c = search needs
+
+type-false-requires : tie.Need-type-false-requires
+type-false-requires c κs = search needs
+
+returns : tie.Need-returns
+returns c = fail _ _ _ _ (not-rwlock _ (c .before .match .keys2)) (c .type-false .ensures)
+
+covers-requires : tie.Need-covers-requires
+covers-requires c κs = search needs
+
+sum-requires : tie.Need-sum-requires
+sum-requires c κs = search needs
+
+also-requires : tie.Need-also-requires
+also-requires c κs = search needs
+
+returns-2 : tie.Need-returns-2
+unfolding isRwlock readLoad writeLoad
+returns-2 c =
+    rw (c .before .before .before .before .kind .given .1)
+    (pass _ _ _ _ refl
+    (next _ _ _ _ _ _ (c .also .ensures) (c .before .before .covers .ensures)
+    (last _ _ _ (c .before .sum .ensures))))
+
+pub check-newrwlock-spec : {M : Type 1} → statement M
+check-newrwlock-spec =
+    tie.close
+    (tie.spec
+    enum-known-kind
+    type-false-requires
+    returns
+    covers-requires
+    sum-requires
+    also-requires
+    returns-2)

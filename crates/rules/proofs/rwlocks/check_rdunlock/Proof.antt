@@ -1,0 +1,52 @@
+use mathlib.Core.Path.{refl, ap}
+use Rattle.spec.specs.Conditions.{isInt, isRwlock, readLoad}
+use Rattle.rules.proofs.Judged.{last, pass, fail}
+use Rattle.rules.proofs.TypeKinds.{not-int, not-rwlock}
+use borrow.Author.Needs.{needs}
+use Rattle.rules.proofs.rwlocks.check_rdunlock.Statement.{statement}
+use Rattle.rules.proofs.rwlocks.check_rdunlock.Tie as tie
+
+enum-told : tie.Need-enum-told
+enum-told c = search needs
+
+type-false-requires : tie.Need-type-false-requires
+type-false-requires c κs = search needs
+
+returns : tie.Need-returns
+returns c = fail _ _ _ _ (not-int _ (c .before .match .keys2)) (c .type-false .ensures)
+
+enum-known-kind1 : tie.Need-enum-known-kind1
+enum-known-kind1 c = search needs
+
+type-false-requires-2 : tie.Need-type-false-requires-2
+type-false-requires-2 c κs = search needs
+
+returns-2 : tie.Need-returns-2
+unfolding isInt
+returns-2 c =
+    pass _ _ _ _ (ap isInt (c .before .before .enum-told .given .1))
+    (fail _ _ _ _ (not-rwlock _ (c .before .match2 .keys2)) (c .type-false2 .ensures))
+
+sum-requires : tie.Need-sum-requires
+sum-requires c κs = search needs
+
+returns-3 : tie.Need-returns-3
+unfolding isInt isRwlock readLoad
+returns-3 c =
+    rw (c .before .before .before .before .enum-told .given .1, c .before .before .kind1 .given .1)
+    (pass _ _ _ _ refl
+    (pass _ _ _ _ refl
+    (last _ _ _ (c .sum .ensures))))
+
+pub check-rdunlock-spec : {M : Type 1} → statement M
+check-rdunlock-spec =
+    tie.close
+    (tie.spec
+    enum-told
+    type-false-requires
+    returns
+    enum-known-kind1
+    type-false-requires-2
+    returns-2
+    sum-requires
+    returns-3)
