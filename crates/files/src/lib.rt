@@ -2,10 +2,10 @@
 // bytes to a descriptor.
 mod retry;
 
-pub use retry::write_all;
 use libc::STDOUT_FILENO;
 use report::Outcome;
 use report::write_line;
+pub use retry::write_all;
 ghost use Prim.Native.Nat.{_≤_};
 ghost use lib.ListN.{length};
 ghost use Rattle.files.specs.Files.{Within};

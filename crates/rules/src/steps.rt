@@ -81,7 +81,8 @@ fn on_types(refusal: Refusal) -> Ruling
     let Refusal::TypeFalse {
         line: _,
         condition: _,
-    } = refusal else {
+    } = refusal
+    else {
         return Ruling::Met;
     };
     Ruling::Refused(refusal)
