@@ -12,40 +12,19 @@ use Rattle.checker.proofs.check.Lts as lts
 use Rattle.checker.proofs.check_program.Reads as check-program-reads
 use Rattle.workspace.proofs.clear.Reads as clear-reads
 
--- src/lib.rt:54:9
 returns : tie.Need-returns
 returns c = promises-kept _ _ _ _ _ (sym (short-workspace _ _ _ (c .if1 .taken))) (short-kept _ (c .if1 .taken)) (refl, refl)
 
--- src/lib.rt:56:43
-slice-relend-prefix-check-program : tie.Need-slice-relend-prefix-check-program
-slice-relend-prefix-check-program c = search needs
-
--- src/lib.rt:56:43
 slice-aggregate-check-program : tie.Need-slice-aggregate-check-program
 slice-aggregate-check-program c = sym (length-take-le 16384 (c .before .before .before .before .before .args .work .now) (c .before .if1 .left))
 
--- src/lib.rt:56:9
 check-program-requires : tie.Need-check-program-requires
 check-program-requires c κs = length-take-le 16384 (c .before .before .before .before .before .args .work .now) (c .before .if1 .left)
 
--- src/lib.rt:57:22
-slice-relend-prefix-clear : tie.Need-slice-relend-prefix-clear
-slice-relend-prefix-clear c = search needs
-
--- src/lib.rt:57:22
 slice-aggregate-clear : tie.Need-slice-aggregate-clear
 slice-aggregate-clear c =
     sym (first-again 16384 (c .before .before .before .before .before .before .before .before .before .args .work .now) (c .before .before .before .check-program .last .1 .1 .0) (c .before .before .before .before .before .if1 .left) (c .before .before .before .check-program .kept .1 .1 .0))
 
--- src/lib.rt:57:5
-clear-requires : tie.Need-clear-requires
-clear-requires c κs = search needs
-
--- src/lib.rt:46:1
-same-length : tie.Need-same-length
-same-length c = search needs
-
--- src/lib.rt:46:1
 returns-2 : tie.Need-returns-2
 returns-2 c =
     let enough = c .before .before .before .before .before .before .before .before .if1 .left in
@@ -61,11 +40,11 @@ check-spec =
     tie.close
     (tie.spec
     returns
-    slice-relend-prefix-check-program
+    (λ c. search needs)
     slice-aggregate-check-program
     check-program-requires
-    slice-relend-prefix-clear
+    (λ c. search needs)
     slice-aggregate-clear
-    clear-requires
-    same-length
+    (λ c κs. search needs)
+    (λ c. search needs)
     returns-2)

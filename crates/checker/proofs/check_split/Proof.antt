@@ -11,23 +11,9 @@ use Rattle.checker.proofs.check_split.Lts as lts
 use Rattle.checker.proofs.check_rules.Reads as check-rules-reads
 use Rattle.split.proofs.read.Reads as read-reads
 
--- src/lib.rt:44:9
 returns : tie.Need-returns
 returns c p P F holds counted = long-split-refused p _ P F (c .if1 .taken)
 
--- src/lib.rt:46:11
-read-requires : tie.Need-read-requires
-read-requires c κs = search needs
-
--- src/lib.rt:47:24
-enum-known-r : tie.Need-enum-known-r
-enum-known-r c = search needs
-
--- src/lib.rt:48:21
-enum-known-header : tie.Need-enum-known-header
-enum-known-header c = search needs
-
--- src/lib.rt:48:32
 check-rules-requires : tie.Need-check-rules-requires
 check-rules-requires c κs =
     let (P, holds, counted) = c .before .before .before .before .before .before .before .before .before .before .before .pre .2 in
@@ -35,21 +21,11 @@ check-rules-requires c κs =
     let found = split-read-by (c .before .before .before .before .before .before .read .last .1 .1 .1 .0) _ (split Check (P .steps) text) (c .before .before .before .before .before .before .read .ensures .answered (P .steps) (holds .steps) (sym counted)) (c .before .before .header .given .1) in
     (c .before .before .before .before .before .before .read .kept .1 .1 .1 .0 ∙ c .before .before .before .before .before .before .before .before .before .before .before .pre .0, c .before .before .before .before .before .before .before .before .before .before .before .pre .1, found .4 .locations, found .4 .types)
 
--- src/lib.rt:39:1
-same-length : tie.Need-same-length
-same-length c = search needs
-
--- src/lib.rt:39:1
 returns-2 : tie.Need-returns-2
 returns-2 c p P F holds counted =
     bad-split-refused p _ P F (c .before .before .before .before .before .before .before .if1 .left) _
     (split-refused-by (c .before .before .before .before .before .read .last .1 .1 .1 .0) _ _ (c .before .before .before .before .before .read .ensures .answered (P .steps) (holds .steps) (sym counted)) (c .before .r .given .1))
 
--- src/lib.rt:39:1
-same-length-2 : tie.Need-same-length-2
-same-length-2 c = search needs
-
--- src/lib.rt:39:1
 returns-3 : tie.Need-returns-3
 returns-3 c p P F holds counted =
     let text = c .before .before .before .before .before .before .before .before .before .before .before .before .before .before .args .split .now in
@@ -62,11 +38,11 @@ check-split-spec =
     tie.close
     (tie.spec
     returns
-    read-requires
-    enum-known-r
-    enum-known-header
+    (λ c κs. search needs)
+    (λ c. search needs)
+    (λ c. search needs)
     check-rules-requires
-    same-length
+    (λ c. search needs)
     returns-2
-    same-length-2
+    (λ c. search needs)
     returns-3)

@@ -7,20 +7,11 @@ use Rattle.drill.proofs.Drilling.{program-of, split-of, program-short, 
 use Rattle.drill.proofs.drill.Statement.{statement}
 use Rattle.drill.proofs.drill.Tie as tie
 
-draw-requires : tie.Need-draw-requires
-draw-requires c κs = search needs
-
-readers-requires : tie.Need-readers-requires
-readers-requires c κs = search needs
-
 program-length-requires : tie.Need-program-length-requires
 program-length-requires c κs = rw (c .readers .ensures) (readers-drawable _)
 
 split-length-requires : tie.Need-split-length-requires
 split-length-requires c κs = rw (c .before .readers .ensures) (readers-drawable _)
-
-cast-if1 : tie.Need-cast-if1
-cast-if1 c = search needs
 
 returns : tie.Need-returns
 returns c =
@@ -28,9 +19,6 @@ returns c =
     let k = sizes .before .before in
     let p = program-of _ _ _ (k .before .draw .ensures) (k .readers .ensures) in
     program-short _ _ _ (omega (arith, sizes .before .program-length .ensures, ap length p))
-
-cast-if2 : tie.Need-cast-if2
-cast-if2 c = search needs
 
 returns-2 : tie.Need-returns-2
 returns-2 c =
@@ -44,12 +32,6 @@ write-program-requires c κs = rw (c .before .before .before .before .before .re
 
 write-split-requires : tie.Need-write-split-requires
 write-split-requires c κs = rw (c .before .before .before .before .before .before .before .before .before .readers .ensures) (readers-drawable _)
-
-same-length : tie.Need-same-length
-same-length c = search needs
-
-same-length-2 : tie.Need-same-length-2
-same-length-2 c = search needs
 
 returns-3 : tie.Need-returns-3
 returns-3 c =
@@ -71,16 +53,16 @@ pub drill-spec : {M : Type 1} → statement M
 drill-spec =
     tie.close
     (tie.spec
-    draw-requires
-    readers-requires
+    (λ c κs. search needs)
+    (λ c κs. search needs)
     program-length-requires
     split-length-requires
-    cast-if1
+    (λ c. search needs)
     returns
-    cast-if2
+    (λ c. search needs)
     returns-2
     write-program-requires
     write-split-requires
-    same-length
-    same-length-2
+    (λ c. search needs)
+    (λ c. search needs)
     returns-3)

@@ -5,12 +5,6 @@ use Rattle.drill.proofs.Drilling.{program-within}
 use Rattle.drill.proofs.program_length.Statement.{statement}
 use Rattle.drill.proofs.program_length.Tie as tie
 
-slice-aggregate-write-program : tie.Need-slice-aggregate-write-program
-slice-aggregate-write-program c = search needs
-
-write-program-requires : tie.Need-write-program-requires
-write-program-requires c κs = search needs
-
 cast-result : tie.Need-cast-result
 cast-result c =
     let l = program-within (c .before .before .before .pre) in
@@ -20,4 +14,4 @@ returns : tie.Need-returns
 returns c = let l = program-within (c .before .before .before .pre) in omega (arith, c .before .write-program .ensures .moved)
 
 pub program-length-spec : {M : Type 1} → statement M
-program-length-spec = tie.close (tie.spec slice-aggregate-write-program write-program-requires cast-result returns)
+program-length-spec = tie.close (tie.spec (λ c. search needs) (λ c κs. search needs) cast-result returns)

@@ -5,12 +5,6 @@ use Rattle.drill.proofs.Drilling.{split-within}
 use Rattle.drill.proofs.split_length.Statement.{statement}
 use Rattle.drill.proofs.split_length.Tie as tie
 
-slice-aggregate-write-split : tie.Need-slice-aggregate-write-split
-slice-aggregate-write-split c = search needs
-
-write-split-requires : tie.Need-write-split-requires
-write-split-requires c κs = search needs
-
 cast-result : tie.Need-cast-result
 cast-result c =
     let l = split-within (c .before .before .before .pre) in
@@ -20,4 +14,4 @@ returns : tie.Need-returns
 returns c = let l = split-within (c .before .before .before .pre) in omega (arith, c .before .write-split .ensures .moved)
 
 pub split-length-spec : {M : Type 1} → statement M
-split-length-spec = tie.close (tie.spec slice-aggregate-write-split write-split-requires cast-result returns)
+split-length-spec = tie.close (tie.spec (λ c. search needs) (λ c κs. search needs) cast-result returns)

@@ -7,35 +7,11 @@ use borrow.Author.Needs.{needs}
 use Rattle.entries.proofs.racecheck_fill.Statement.{statement}
 use Rattle.entries.proofs.racecheck_fill.Tie as tie
 
-fill-requires : tie.Need-fill-requires
-fill-requires c κs = search needs
-
-enum-known-length : tie.Need-enum-known-length
-enum-known-length c = search needs
-
-enum-known-r : tie.Need-enum-known-r
-enum-known-r c = search needs
-
-numbers-of-requires : tie.Need-numbers-of-requires
-numbers-of-requires c κs = search needs
-
-same-length : tie.Need-same-length
-same-length c = search needs
-
-same-length-2 : tie.Need-same-length-2
-same-length-2 c = search needs
-
 returns : tie.Need-returns
 unfolding numbered four
 returns c =
     let told = rw (c .before .length .given .1) at (c .before .before .before .before .before .before .before .fill .ensures) in
     (told .0, (told .1 .0, (told .1 .1 .0, ((refl, refl), told .1 .1 .1 .1 .1 .1))))
-
-same-length-3 : tie.Need-same-length-3
-same-length-3 c = search needs
-
-same-length-4 : tie.Need-same-length-4
-same-length-4 c = search needs
 
 returns-2 : tie.Need-returns-2
 unfolding numbered four
@@ -48,13 +24,13 @@ pub racecheck-fill-spec : {M : Type 1} → statement M
 racecheck-fill-spec =
     tie.close
     (tie.spec
-    fill-requires
-    enum-known-length
-    enum-known-r
-    numbers-of-requires
-    same-length
-    same-length-2
+    (λ c κs. search needs)
+    (λ c. search needs)
+    (λ c. search needs)
+    (λ c κs. search needs)
+    (λ c. search needs)
+    (λ c. search needs)
     returns
-    same-length-3
-    same-length-4
+    (λ c. search needs)
+    (λ c. search needs)
     returns-2)

@@ -13,31 +13,16 @@ returns : tie.Need-returns
 returns c =
     promises-kept _ _ _ _ _ _ _ (told-as (sym (short-workspace _ _ _ _ (c .if1 .taken))) (refusal-told ShortWorkspace _)) (short-kept _ (c .if1 .taken)) (refl, refl)
 
-slice-relend-prefix-fill-program : tie.Need-slice-relend-prefix-fill-program
-slice-relend-prefix-fill-program c = search needs
-
 slice-aggregate-fill-program : tie.Need-slice-aggregate-fill-program
 slice-aggregate-fill-program c = sym (length-take-le 16384 (c .before .before .before .before .before .before .args .work .now) (c .before .if1 .left))
 
 fill-program-requires : tie.Need-fill-program-requires
 fill-program-requires c κs = length-take-le 16384 (c .before .before .before .before .before .before .before .args .work .now) (c .before .before .if1 .left)
 
-slice-relend-prefix-clear : tie.Need-slice-relend-prefix-clear
-slice-relend-prefix-clear c = search needs
-
 slice-aggregate-clear : tie.Need-slice-aggregate-clear
 slice-aggregate-clear c =
     let filled = c .before .before .before .before .before .fill-program in
     sym (first-again 16384 (c .before .before .before .before .before .before .before .before .before .before .before .before .before .args .work .now) (filled .last .1 .1 .0) (c .before .before .before .before .before .before .before .before .if1 .left) (filled .kept .1 .1 .0))
-
-clear-requires : tie.Need-clear-requires
-clear-requires c κs = search needs
-
-same-length : tie.Need-same-length
-same-length c = search needs
-
-same-length-2 : tie.Need-same-length-2
-same-length-2 c = search needs
 
 returns-2 : tie.Need-returns-2
 returns-2 c =
@@ -52,12 +37,12 @@ fill-spec =
     tie.close
     (tie.spec
     returns
-    slice-relend-prefix-fill-program
+    (λ c. search needs)
     slice-aggregate-fill-program
     fill-program-requires
-    slice-relend-prefix-clear
+    (λ c. search needs)
     slice-aggregate-clear
-    clear-requires
-    same-length
-    same-length-2
+    (λ c κs. search needs)
+    (λ c. search needs)
+    (λ c. search needs)
     returns-2)

@@ -8,39 +8,15 @@ fill-maps-requires c κs =
     let start = c .before .before .before in
     some-given (start .pre .3) (start .pre .2) (start .pre .0)
 
-enum-told : tie.Need-enum-told
-enum-told c = search needs
-
-enum-told-2 : tie.Need-enum-told-2
-enum-told-2 c = search needs
-
-enum-told-3 : tie.Need-enum-told-3
-enum-told-3 c = search needs
-
-grown-requires : tie.Need-grown-requires
-grown-requires c κs = search needs
-
 write-filled-requires : tie.Need-write-filled-requires
 write-filled-requires c κs =
     some-filled _ (c .before .before .before .before .before .before .before .fill-maps .ensures) (c .before .before .before .enum-told3 .given .1) (c .before .before .grown .ensures) (c .before .before .before .before .before .before .before .before .before .before .before .pre .3)
 
-same-length : tie.Need-same-length
-same-length c = search needs
-
 returns : tie.Need-returns
 returns c = nothing-told _ (c .before .before .before .before .fill-maps .ensures) _ (c .enum-told .given .1)
 
-same-length-2 : tie.Need-same-length-2
-same-length-2 c = search needs
-
 returns-2 : tie.Need-returns-2
 returns-2 c = large-told _ (c .before .before .before .before .fill-maps .ensures) _ (c .enum-told2 .given .1)
-
-same-length-3 : tie.Need-same-length-3
-same-length-3 c = search needs
-
-same-length-4 : tie.Need-same-length-4
-same-length-4 c = search needs
 
 returns-3 : tie.Need-returns-3
 returns-3 c =
@@ -51,15 +27,15 @@ fill-held-spec =
     tie.close
     (tie.spec
     fill-maps-requires
-    enum-told
-    enum-told-2
-    enum-told-3
-    grown-requires
+    (λ c. search needs)
+    (λ c. search needs)
+    (λ c. search needs)
+    (λ c κs. search needs)
     write-filled-requires
-    same-length
+    (λ c. search needs)
     returns
-    same-length-2
+    (λ c. search needs)
     returns-2
-    same-length-3
-    same-length-4
+    (λ c. search needs)
+    (λ c. search needs)
     returns-3)

@@ -10,15 +10,6 @@ use Rattle.fill.proofs.fill_program.Tie as tie
 returns : tie.Need-returns
 returns c = long-program-told _ _ _ (c .if1 .taken)
 
-read-requires : tie.Need-read-requires
-read-requires c κs = search needs
-
-enum-known-r : tie.Need-enum-known-r
-enum-known-r c = search needs
-
-enum-known-steps : tie.Need-enum-known-steps
-enum-known-steps c = search needs
-
 fill-split-requires : tie.Need-fill-split-requires
 fill-split-requires c κs =
     let start = c .before .before .before .before .before .before .before .before .before .before .before .before .before .before in
@@ -30,19 +21,10 @@ fill-split-requires c κs =
       record { programText = text; P = P; wellFormed = good-program text (c .before .before .before .before .before .before .before .before .before .if1 .left) reads; holds = holds; counted = counted },
     )
 
-same-length : tie.Need-same-length
-same-length c = search needs
-
 returns-2 : tie.Need-returns-2
 returns-2 c =
     let read = c .before .before .before .before .before .read in
     bad-program-told _ _ _ (c .before .before .before .before .before .before .before .if1 .left) _ (program-refused-by _ _ _ (read .ensures .answer) (c .before .r .given .1))
-
-same-length-2 : tie.Need-same-length-2
-same-length-2 c = search needs
-
-same-length-3 : tie.Need-same-length-3
-same-length-3 c = search needs
 
 returns-3 : tie.Need-returns-3
 returns-3 c =
@@ -57,12 +39,12 @@ fill-program-spec =
     tie.close
     (tie.spec
     returns
-    read-requires
-    enum-known-r
-    enum-known-steps
+    (λ c κs. search needs)
+    (λ c. search needs)
+    (λ c. search needs)
     fill-split-requires
-    same-length
+    (λ c. search needs)
     returns-2
-    same-length-2
-    same-length-3
+    (λ c. search needs)
+    (λ c. search needs)
     returns-3)

@@ -7,15 +7,6 @@ use Rattle.fill.proofs.fill_sheets.Tie as tie
 returns : tie.Need-returns
 returns c = many-told _ _ _ _ (c .if1 .taken)
 
-rule-requires : tie.Need-rule-requires
-rule-requires c κs = search needs
-
-enum-known-r : tie.Need-enum-known-r
-enum-known-r c = search needs
-
-enum-told : tie.Need-enum-told
-enum-told c = search needs
-
 fill-held-requires : tie.Need-fill-held-requires
 fill-held-requires c κs =
     let start = c .before .before .before .before .before .before .before .before .before .before .before .before in
@@ -26,17 +17,8 @@ fill-held-requires c κs =
       some-kept _ _ _ few (c .before .before .before .before .before .before .rule .ensures) (start .pre .1) (start .pre .4),
     )
 
-same-length : tie.Need-same-length
-same-length c = search needs
-
 returns-2 : tie.Need-returns-2
 returns-2 c = rule-refused _ _ _ (c .before .before .before .before .before .before .before .if1 .left) (c .before .before .before .before .before .rule .ensures) _ _ (c .before .r .given .1)
-
-same-length-2 : tie.Need-same-length-2
-same-length-2 c = search needs
-
-same-length-3 : tie.Need-same-length-3
-same-length-3 c = search needs
 
 returns-3 : tie.Need-returns-3
 returns-3 c =
@@ -48,12 +30,12 @@ fill-sheets-spec =
     tie.close
     (tie.spec
     returns
-    rule-requires
-    enum-known-r
-    enum-told
+    (λ c κs. search needs)
+    (λ c. search needs)
+    (λ c. search needs)
     fill-held-requires
-    same-length
+    (λ c. search needs)
     returns-2
-    same-length-2
-    same-length-3
+    (λ c. search needs)
+    (λ c. search needs)
     returns-3)

@@ -10,15 +10,6 @@ use Rattle.fill.proofs.fill_split.Tie as tie
 returns : tie.Need-returns
 returns c p P F holds counted = long-split-told p _ P F _ (c .if1 .taken)
 
-read-requires : tie.Need-read-requires
-read-requires c κs = search needs
-
-enum-known-r : tie.Need-enum-known-r
-enum-known-r c = search needs
-
-enum-known-header : tie.Need-enum-known-header
-enum-known-header c = search needs
-
 fill-sheets-requires : tie.Need-fill-sheets-requires
 fill-sheets-requires c κs =
     let start = c .before .before .before .before .before .before .before .before .before .before .before .before .before in
@@ -33,19 +24,10 @@ fill-sheets-requires c κs =
       some-read (X .programText) (start .args .split .now) (X .P) (X .wellFormed) (start .args .out .now) fits _ S reads (read .ensures .changed) (X .holds) holds (X .counted) (start .pre .1) headed,
     )
 
-same-length : tie.Need-same-length
-same-length c = search needs
-
 returns-2 : tie.Need-returns-2
 returns-2 c p P F holds counted =
     let read = c .before .before .before .before .before .read in
     bad-split-told p _ P F _ (c .before .before .before .before .before .before .before .if1 .left) _ (split-refused-by (read .last .1 .1 .1 .0) _ _ (read .ensures .answered (P .steps) (holds .steps) (sym counted)) (c .before .r .given .1))
-
-same-length-2 : tie.Need-same-length-2
-same-length-2 c = search needs
-
-same-length-3 : tie.Need-same-length-3
-same-length-3 c = search needs
 
 returns-3 : tie.Need-returns-3
 returns-3 c p P F holds counted =
@@ -59,12 +41,12 @@ fill-split-spec =
     tie.close
     (tie.spec
     returns
-    read-requires
-    enum-known-r
-    enum-known-header
+    (λ c κs. search needs)
+    (λ c. search needs)
+    (λ c. search needs)
     fill-sheets-requires
-    same-length
+    (λ c. search needs)
     returns-2
-    same-length-2
-    same-length-3
+    (λ c. search needs)
+    (λ c. search needs)
     returns-3)

@@ -4,12 +4,9 @@ use borrow.Author.Needs.{needs}
 use Rattle.fill.proofs.grown.Statement.{statement}
 use Rattle.fill.proofs.grown.Tie as tie
 
-add-t5 : tie.Need-add-t5
-add-t5 c = search needs
-
 returns : tie.Need-returns
 unfolding grownBy
 returns c = refl
 
 pub grown-spec : {M : Type 1} → statement M
-grown-spec = tie.close (tie.spec add-t5 returns)
+grown-spec = tie.close (tie.spec (λ c. search needs) returns)

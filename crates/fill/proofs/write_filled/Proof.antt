@@ -6,12 +6,6 @@ use Rattle.fill.proofs.Told.{too-long, no-room, fits-told}
 use Rattle.fill.proofs.write_filled.Statement.{statement}
 use Rattle.fill.proofs.write_filled.Tie as tie
 
-slice-aggregate-write-sheet : tie.Need-slice-aggregate-write-sheet
-slice-aggregate-write-sheet c = search needs
-
-write-sheet-requires : tie.Need-write-sheet-requires
-write-sheet-requires c κs = search needs
-
 returns : tie.Need-returns
 unfolding SheetWritten
 returns c S holds = too-long _ _ (c .before .before .write-sheet .ensures S holds .moved) (c .if1 .taken)
@@ -19,15 +13,6 @@ returns c S holds = too-long _ _ (c .before .before .write-sheet .ensures S hold
 returns-2 : tie.Need-returns-2
 unfolding SheetWritten
 returns-2 c S holds = no-room _ _ (c .before .before .before .write-sheet .ensures S holds .moved) (search needs) (c .if2 .taken)
-
-write-sheet-requires-2 : tie.Need-write-sheet-requires-2
-write-sheet-requires-2 c κs = search needs
-
-cast-t15 : tie.Need-cast-t15
-cast-t15 c = search needs
-
-same-length : tie.Need-same-length
-same-length c = search needs
 
 returns-3 : tie.Need-returns-3
 unfolding SheetWritten
@@ -38,11 +23,11 @@ pub write-filled-spec : {M : Type 1} → statement M
 write-filled-spec =
     tie.close
     (tie.spec
-    slice-aggregate-write-sheet
-    write-sheet-requires
+    (λ c. search needs)
+    (λ c κs. search needs)
     returns
     returns-2
-    write-sheet-requires-2
-    cast-t15
-    same-length
+    (λ c κs. search needs)
+    (λ c. search needs)
+    (λ c. search needs)
     returns-3)

@@ -5,19 +5,13 @@ use Rattle.lexer.specs.Numbers.{stored}
 use Rattle.lexer.proofs.narrow.Statement.{statement}
 use Rattle.lexer.proofs.narrow.Tie as tie
 
-cast-result : tie.Need-cast-result
-cast-result c = search needs
-
 returns : tie.Need-returns
 unfolding stored
 returns c = simp (lt-leb _ _ (c .if1 .taken))
-
-cast-result-2 : tie.Need-cast-result-2
-cast-result-2 c = search needs
 
 returns-2 : tie.Need-returns-2
 unfolding stored
 returns-2 c = simp (le-leb _ _ (c .if1 .left))
 
 pub narrow-spec : {M : Type 1} → statement M
-narrow-spec = tie.close (tie.spec cast-result returns cast-result-2 returns-2)
+narrow-spec = tie.close (tie.spec (λ c. search needs) returns (λ c. search needs) returns-2)

@@ -5,132 +5,6 @@ use borrow.Author.Needs.{needs}
 use Rattle.numbers.proofs.refusal_numbers.Statement.{statement}
 use Rattle.numbers.proofs.refusal_numbers.Tie as tie
 
-enum-told : tie.Need-enum-told
-enum-told c = search needs
-
-four-requires : tie.Need-four-requires
-four-requires c κs = search needs
-
-enum-told-2 : tie.Need-enum-told-2
-enum-told-2 c = search needs
-
-four-requires-2 : tie.Need-four-requires-2
-four-requires-2 c κs = search needs
-
-enum-known-r : tie.Need-enum-known-r
-enum-known-r c = search needs
-
-four-requires-3 : tie.Need-four-requires-3
-four-requires-3 c κs = search needs
-
-enum-known-r-2 : tie.Need-enum-known-r-2
-enum-known-r-2 c = search needs
-
-four-requires-4 : tie.Need-four-requires-4
-four-requires-4 c κs = search needs
-
-enum-known-r-3 : tie.Need-enum-known-r-3
-enum-known-r-3 c = search needs
-
-four-requires-5 : tie.Need-four-requires-5
-four-requires-5 c κs = search needs
-
-enum-known-r-4 : tie.Need-enum-known-r-4
-enum-known-r-4 c = search needs
-
-four-requires-6 : tie.Need-four-requires-6
-four-requires-6 c κs = search needs
-
-enum-known-r-5 : tie.Need-enum-known-r-5
-enum-known-r-5 c = search needs
-
-four-requires-7 : tie.Need-four-requires-7
-four-requires-7 c κs = search needs
-
-enum-told-3 : tie.Need-enum-told-3
-enum-told-3 c = search needs
-
-four-requires-8 : tie.Need-four-requires-8
-four-requires-8 c κs = search needs
-
-enum-known-r-6 : tie.Need-enum-known-r-6
-enum-known-r-6 c = search needs
-
-four-requires-9 : tie.Need-four-requires-9
-four-requires-9 c κs = search needs
-
-enum-known-r-7 : tie.Need-enum-known-r-7
-enum-known-r-7 c = search needs
-
-four-requires-10 : tie.Need-four-requires-10
-four-requires-10 c κs = search needs
-
-enum-known-r-8 : tie.Need-enum-known-r-8
-enum-known-r-8 c = search needs
-
-four-requires-11 : tie.Need-four-requires-11
-four-requires-11 c κs = search needs
-
-enum-known-r-9 : tie.Need-enum-known-r-9
-enum-known-r-9 c = search needs
-
-four-requires-12 : tie.Need-four-requires-12
-four-requires-12 c κs = search needs
-
-enum-known-r-10 : tie.Need-enum-known-r-10
-enum-known-r-10 c = search needs
-
-four-requires-13 : tie.Need-four-requires-13
-four-requires-13 c κs = search needs
-
-enum-known-r-11 : tie.Need-enum-known-r-11
-enum-known-r-11 c = search needs
-
-four-requires-14 : tie.Need-four-requires-14
-four-requires-14 c κs = search needs
-
-enum-known-r-12 : tie.Need-enum-known-r-12
-enum-known-r-12 c = search needs
-
-four-requires-15 : tie.Need-four-requires-15
-four-requires-15 c κs = search needs
-
-enum-known-r-13 : tie.Need-enum-known-r-13
-enum-known-r-13 c = search needs
-
-four-requires-16 : tie.Need-four-requires-16
-four-requires-16 c κs = search needs
-
-enum-told-4 : tie.Need-enum-told-4
-enum-told-4 c = search needs
-
-four-requires-17 : tie.Need-four-requires-17
-four-requires-17 c κs = search needs
-
-enum-told-5 : tie.Need-enum-told-5
-enum-told-5 c = search needs
-
-four-requires-18 : tie.Need-four-requires-18
-four-requires-18 c κs = search needs
-
-enum-told-6 : tie.Need-enum-told-6
-enum-told-6 c = search needs
-
-four-requires-19 : tie.Need-four-requires-19
-four-requires-19 c κs = search needs
-
-enum-known-r-14 : tie.Need-enum-known-r-14
-enum-known-r-14 c = search needs
-
-four-requires-20 : tie.Need-four-requires-20
-four-requires-20 c κs = search needs
-
-enum-known-r-15 : tie.Need-enum-known-r-15
-enum-known-r-15 c = search needs
-
-four-requires-21 : tie.Need-four-requires-21
-four-requires-21 c κs = search needs
-
 returns : tie.Need-returns
 unfolding returned
 returns c = c .four .ensures ∙ ap (λ r. returned (Refuse r)) (sym (c .before .enum-told .given .1))
@@ -219,48 +93,48 @@ pub refusal-numbers-spec : {M : Type 1} → statement M
 refusal-numbers-spec =
     tie.close
     (tie.spec
-    enum-told
-    four-requires
-    enum-told-2
-    four-requires-2
-    enum-known-r
-    four-requires-3
-    enum-known-r-2
-    four-requires-4
-    enum-known-r-3
-    four-requires-5
-    enum-known-r-4
-    four-requires-6
-    enum-known-r-5
-    four-requires-7
-    enum-told-3
-    four-requires-8
-    enum-known-r-6
-    four-requires-9
-    enum-known-r-7
-    four-requires-10
-    enum-known-r-8
-    four-requires-11
-    enum-known-r-9
-    four-requires-12
-    enum-known-r-10
-    four-requires-13
-    enum-known-r-11
-    four-requires-14
-    enum-known-r-12
-    four-requires-15
-    enum-known-r-13
-    four-requires-16
-    enum-told-4
-    four-requires-17
-    enum-told-5
-    four-requires-18
-    enum-told-6
-    four-requires-19
-    enum-known-r-14
-    four-requires-20
-    enum-known-r-15
-    four-requires-21
+    (λ c. search needs)
+    (λ c κs. search needs)
+    (λ c. search needs)
+    (λ c κs. search needs)
+    (λ c. search needs)
+    (λ c κs. search needs)
+    (λ c. search needs)
+    (λ c κs. search needs)
+    (λ c. search needs)
+    (λ c κs. search needs)
+    (λ c. search needs)
+    (λ c κs. search needs)
+    (λ c. search needs)
+    (λ c κs. search needs)
+    (λ c. search needs)
+    (λ c κs. search needs)
+    (λ c. search needs)
+    (λ c κs. search needs)
+    (λ c. search needs)
+    (λ c κs. search needs)
+    (λ c. search needs)
+    (λ c κs. search needs)
+    (λ c. search needs)
+    (λ c κs. search needs)
+    (λ c. search needs)
+    (λ c κs. search needs)
+    (λ c. search needs)
+    (λ c κs. search needs)
+    (λ c. search needs)
+    (λ c κs. search needs)
+    (λ c. search needs)
+    (λ c κs. search needs)
+    (λ c. search needs)
+    (λ c κs. search needs)
+    (λ c. search needs)
+    (λ c κs. search needs)
+    (λ c. search needs)
+    (λ c κs. search needs)
+    (λ c. search needs)
+    (λ c κs. search needs)
+    (λ c. search needs)
+    (λ c κs. search needs)
     returns
     returns-2
     returns-3

@@ -8,31 +8,16 @@ use Rattle.pass.proofs.fill_location.Tie as tie
 cell-in-requires : tie.Need-cell-in-requires
 cell-in-requires c κs = tt
 
-cast-pre : tie.Need-cast-pre
-cast-pre c = search needs
-
 pass-step-requires : tie.Need-pass-step-requires
 pass-step-requires c κs =
     let at-cell = c .before in
     let known = at-cell .before .before in
     fillable-ready _ _ _ _ _ (known .before .pre) (λ i. omega (arith, known .shared-slice-known .given i)) (at-cell .cell-in .ensures)
 
-enum-told : tie.Need-enum-told
-enum-told c = search needs
-
-enum-told-2 : tie.Need-enum-told-2
-enum-told-2 c = search needs
-
-same-length : tie.Need-same-length
-same-length c = search needs
-
 returns : tie.Need-returns
 returns c =
     let at-pass = c .before .before .before .before in
     posts-missed _ _ _ _ _ _ _ (at-pass .before .before .cell-in .ensures) (at-pass .pass-step .ensures) (c .enum-told2 .given .1)
-
-same-length-2 : tie.Need-same-length-2
-same-length-2 c = search needs
 
 returns-2 : tie.Need-returns-2
 returns-2 c =
@@ -44,11 +29,11 @@ fill-location-spec =
     tie.close
     (tie.spec
     cell-in-requires
-    cast-pre
+    (λ c. search needs)
     pass-step-requires
-    enum-told
-    enum-told-2
-    same-length
+    (λ c. search needs)
+    (λ c. search needs)
+    (λ c. search needs)
     returns
-    same-length-2
+    (λ c. search needs)
     returns-2)

@@ -6,30 +6,12 @@ use Rattle.program.proofs.Sheets.{expression-refused, expression-scoped
 use Rattle.program.proofs.expression.Statement.{statement}
 use Rattle.program.proofs.expression.Tie as tie
 
-structure-requires : tie.Need-structure-requires
-structure-requires c κs = search needs
-
-enum-told : tie.Need-enum-told
-enum-told c = search needs
-
-scopes-requires : tie.Need-scopes-requires
-scopes-requires c κs = search needs
-
-enum-known-refusal : tie.Need-enum-known-refusal
-enum-known-refusal c = search needs
-
-same-length : tie.Need-same-length
-same-length c = search needs
-
 returns : tie.Need-returns
 returns c =
     let at-enum-told = c .before .before .before .before in
     let at-structure = at-enum-told .before .before .before .before in
     let at-pre = at-structure .before .before .before in
     expression-scoped _ _ _ (at-pre .pre .1) (at-pre .pre .2) (subst (Structured _ _ _) (at-enum-told .enum-told .given .1) (at-structure .structure .ensures)) _ _ (c .before .before .scopes .ensures)
-
-same-length-2 : tie.Need-same-length-2
-same-length-2 c = search needs
 
 returns-2 : tie.Need-returns-2
 returns-2 c = expression-refused _ _ _ _ (subst (Structured _ _ _) (c .before .refusal .given .1) (c .before .before .before .before .before .structure .ensures))
@@ -38,11 +20,11 @@ pub expression-spec : {M : Type 1} → statement M
 expression-spec =
     tie.close
     (tie.spec
-    structure-requires
-    enum-told
-    scopes-requires
-    enum-known-refusal
-    same-length
+    (λ c κs. search needs)
+    (λ c. search needs)
+    (λ c κs. search needs)
+    (λ c. search needs)
+    (λ c. search needs)
     returns
-    same-length-2
+    (λ c. search needs)
     returns-2)

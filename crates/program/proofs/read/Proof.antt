@@ -7,18 +7,6 @@ use Rattle.program.proofs.Sheets.{sheet-refused, sheet-read}
 use Rattle.program.proofs.read.Statement.{statement}
 use Rattle.program.proofs.read.Tie as tie
 
-count-line-requires : tie.Need-count-line-requires
-count-line-requires c κs = search needs
-
-enum-known-refusal : tie.Need-enum-known-refusal
-enum-known-refusal c = search needs
-
-enum-known-n : tie.Need-enum-known-n
-enum-known-n c = search needs
-
-index-requires : tie.Need-index-requires
-index-requires c κs = search needs
-
 read-steps-requires : tie.Need-read-steps-requires
 read-steps-requires c κs =
     let at-n = c .before .before .before in
@@ -28,9 +16,6 @@ read-steps-requires c κs =
 
 returns : tie.Need-returns
 returns c = sheet-refused _ _ _ _ (subst (CountShown _) (c .before .refusal .given .1) (c .before .before .before .count-line .ensures)) refl
-
-same-length : tie.Need-same-length
-same-length c = search needs
 
 returns-2 : tie.Need-returns-2
 returns-2 c =
@@ -43,11 +28,11 @@ pub read-spec : {M : Type 1} → statement M
 read-spec =
     tie.close
     (tie.spec
-    count-line-requires
-    enum-known-refusal
-    enum-known-n
-    index-requires
+    (λ c κs. search needs)
+    (λ c. search needs)
+    (λ c. search needs)
+    (λ c κs. search needs)
     read-steps-requires
     returns
-    same-length
+    (λ c. search needs)
     returns-2)

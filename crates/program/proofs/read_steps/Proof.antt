@@ -9,27 +9,12 @@ use Rattle.program.proofs.Sheets.{steps-variables, steps-refused, steps
 use Rattle.program.proofs.read_steps.Statement.{statement}
 use Rattle.program.proofs.read_steps.Tie as tie
 
-step-lines-requires : tie.Need-step-lines-requires
-step-lines-requires c κs = search needs
-
-enum-known-refusal : tie.Need-enum-known-refusal
-enum-known-refusal c = search needs
-
-enum-known-behind : tie.Need-enum-known-behind
-enum-known-behind c = search needs
-
-at-end-requires : tie.Need-at-end-requires
-at-end-requires c κs = search needs
-
 add-spare : tie.Need-add-spare
 add-spare c =
     let at-behind = c .before .before .before .before in
     let at-step-lines = at-behind .before .before .before .before in
     let s = subst (StepsShown _ _ _ _ _) (at-behind .behind .given .1) (at-step-lines .step-lines .ensures) in
     omega (arith, line-fits _ _ (s .found .placed) (sym (c .before .before .at-end .ensures) ∙ not-true _ (c .before .if1 .taken)))
-
-same-length : tie.Need-same-length
-same-length c = search needs
 
 returns : tie.Need-returns
 returns c =
@@ -46,20 +31,8 @@ expression-requires c κs =
     let s = subst (StepsShown _ _ _ _ _) (at-behind .behind .given .1) (at-step-lines .step-lines .ensures) in
     (s .changed .long ∙ at-pre .pre .0, at-pre .pre .1, steps-variables _ _ _ _ _ _ s)
 
-enum-told : tie.Need-enum-told
-enum-told c = search needs
-
-enum-known-refusal-2 : tie.Need-enum-known-refusal-2
-enum-known-refusal-2 c = search needs
-
-same-length-2 : tie.Need-same-length-2
-same-length-2 c = search needs
-
 returns-2 : tie.Need-returns-2
 returns-2 c = steps-refused _ _ _ _ _ _ (subst (StepsShown _ _ _ _ _) (c .before .refusal .given .1) (c .before .before .before .before .before .step-lines .ensures))
-
-same-length-3 : tie.Need-same-length-3
-same-length-3 c = search needs
 
 returns-3 : tie.Need-returns-3
 returns-3 c =
@@ -75,9 +48,6 @@ returns-3 c =
     _
     (at-expression .expression .ensures)
     (c .enum-told .given .1)
-
-same-length-4 : tie.Need-same-length-4
-same-length-4 c = search needs
 
 returns-4 : tie.Need-returns-4
 returns-4 c =
@@ -99,19 +69,19 @@ pub read-steps-spec : {M : Type 1} → statement M
 read-steps-spec =
     tie.close
     (tie.spec
-    step-lines-requires
-    enum-known-refusal
-    enum-known-behind
-    at-end-requires
+    (λ c κs. search needs)
+    (λ c. search needs)
+    (λ c. search needs)
+    (λ c κs. search needs)
     add-spare
-    same-length
+    (λ c. search needs)
     returns
     expression-requires
-    enum-told
-    enum-known-refusal-2
-    same-length-2
+    (λ c. search needs)
+    (λ c. search needs)
+    (λ c. search needs)
     returns-2
-    same-length-3
+    (λ c. search needs)
     returns-3
-    same-length-4
+    (λ c. search needs)
     returns-4)

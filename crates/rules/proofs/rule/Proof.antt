@@ -10,24 +10,6 @@ use borrow.Author.Needs.{needs}
 use Rattle.rules.proofs.rule.Statement.{statement}
 use Rattle.rules.proofs.rule.Tie as tie
 
-cast-n : tie.Need-cast-n
-cast-n c = search needs
-
-cast-types : tie.Need-cast-types
-cast-types c = search needs
-
-check-locks-requires : tie.Need-check-locks-requires
-check-locks-requires c κs = search needs
-
-enum-told : tie.Need-enum-told
-enum-told c = search needs
-
-enum-told-2 : tie.Need-enum-told-2
-enum-told-2 c = search needs
-
-same-length : tie.Need-same-length
-same-length c = search needs
-
 returns : tie.Need-returns
 unfolding both
 returns c =
@@ -37,18 +19,6 @@ returns c =
           rw (← locks-shown _ _ _ _ _ P S H _ counted, ← locks .check-locks .ensures) (sym (refused-stops _ _ (c .enum-told2 .given .1)));
       changed = changed-nothing presAt (presAt + 256) _;
     }
-
-check-start-requires : tie.Need-check-start-requires
-check-start-requires c κs = search needs
-
-enum-told-3 : tie.Need-enum-told-3
-enum-told-3 c = search needs
-
-enum-told-4 : tie.Need-enum-told-4
-enum-told-4 c = search needs
-
-same-length-2 : tie.Need-same-length-2
-same-length-2 c = search needs
 
 returns-2 : tie.Need-returns-2
 unfolding both
@@ -67,15 +37,6 @@ returns-2 c =
           (sym (met-goes-on _ _ (enough .enum-told .given .1) ∙ refused-stops _ _ (c .enum-told4 .given .1)));
       changed = changed-nothing presAt (presAt + 256) _;
     }
-
-cast-check-steps : tie.Need-cast-check-steps
-cast-check-steps c = search needs
-
-check-steps-requires : tie.Need-check-steps-requires
-check-steps-requires c κs = search needs
-
-same-length-3 : tie.Need-same-length-3
-same-length-3 c = search needs
 
 returns-3 : tie.Need-returns-3
 returns-3 c =
@@ -99,19 +60,19 @@ pub rule-spec : {M : Type 1} → statement M
 rule-spec =
     tie.close
     (tie.spec
-    cast-n
-    cast-types
-    check-locks-requires
-    enum-told
-    enum-told-2
-    same-length
+    (λ c. search needs)
+    (λ c. search needs)
+    (λ c κs. search needs)
+    (λ c. search needs)
+    (λ c. search needs)
+    (λ c. search needs)
     returns
-    check-start-requires
-    enum-told-3
-    enum-told-4
-    same-length-2
+    (λ c κs. search needs)
+    (λ c. search needs)
+    (λ c. search needs)
+    (λ c. search needs)
     returns-2
-    cast-check-steps
-    check-steps-requires
-    same-length-3
+    (λ c. search needs)
+    (λ c κs. search needs)
+    (λ c. search needs)
     returns-3)

@@ -31,9 +31,6 @@ write-rows-requires c κs =
     let start = c .before .before .before .before .before .before .before .before .before .before .before .before .before .before .before in
     rows-stand (start .pre .holds)
 
-same-length : tie.Need-same-length
-same-length c = search needs
-
 returns : tie.Need-returns
 unfolding SheetWritten headerTold
 returns c S holds =
@@ -56,5 +53,5 @@ write-sheet-spec =
     write-types-requires
     write-maps-requires
     write-rows-requires
-    same-length
+    (λ c. search needs)
     returns)

@@ -6,12 +6,6 @@ use Rattle.split.proofs.WholeLaws.{top-placed, read-empty, read-header-
 use Rattle.split.proofs.read.Statement.{statement}
 use Rattle.split.proofs.read.Tie as tie
 
-start-requires : tie.Need-start-requires
-start-requires c κs = search needs
-
-at-end-requires : tie.Need-at-end-requires
-at-end-requires c κs = search needs
-
 returns : tie.Need-returns
 returns c =
     let at-end = c .before in
@@ -27,9 +21,6 @@ header-line-requires c κs =
     let left = sym (at-end .at-end .ensures) ∙ c .if1 .left in
     (record { placed = top-placed (entry .args .text .now) (start .start .result) (start .start .ensures) (omega (arith, entry .pre .0)); fits = entry .pre .0 }, left)
 
-enum-known-first : tie.Need-enum-known-first
-enum-known-first c = search needs
-
 read-body-requires : tie.Need-read-body-requires
 read-body-requires c κs =
     let first = c .before .before in
@@ -40,18 +31,6 @@ read-body-requires c κs =
     let entry = start .before .before .before in
     let left = sym (at-end .at-end .ensures) ∙ else1 .if1 .left in
     (record { placed = header-placed (entry .args .text .now) (start .start .result) (start .start .ensures) left (entry .args .purpose) (header-line .header-line .result) (header-line .header-line .ensures) (first .first .given .0 .0) (first .first .given .0 .1 .0) (first .first .given .1); fits = entry .pre .0 }, header-small (entry .args .text .now) (start .start .result) (start .start .ensures) left (entry .args .purpose) (header-line .header-line .result) (header-line .header-line .ensures) (first .first .given .0 .0) (first .first .given .0 .1 .0) (first .first .given .1), entry .pre .1, entry .pre .2)
-
-enum-told : tie.Need-enum-told
-enum-told c = search needs
-
-enum-known-body : tie.Need-enum-known-body
-enum-known-body c = search needs
-
-enum-known-first-2 : tie.Need-enum-known-first-2
-enum-known-first-2 c = search needs
-
-same-length : tie.Need-same-length
-same-length c = search needs
 
 returns-2 : tie.Need-returns-2
 returns-2 c =
@@ -64,9 +43,6 @@ returns-2 c =
     let entry = start .before .before .before in
     let left = sym (at-end .at-end .ensures) ∙ else1 .if1 .left in
     read-whole (entry .args .text .now) (start .start .result) (start .start .ensures) left (entry .args .purpose) (header-line .header-line .result) (header-line .header-line .ensures) (first .first .given .0 .0) (first .first .given .0 .1 .0) (first .first .given .1) (entry .args .steps) (entry .args .work .now) (read-body .read-body .last .1 .1 .1 .1 .1 .0) (read-body .read-body .result) (read-body .read-body .ensures) _ (c .enum-told .given .1)
-
-same-length-2 : tie.Need-same-length-2
-same-length-2 c = search needs
 
 returns-3 : tie.Need-returns-3
 returns-3 c =
@@ -96,17 +72,17 @@ pub read-spec : {M : Type 1} → statement M
 read-spec =
     tie.close
     (tie.spec
-    start-requires
-    at-end-requires
+    (λ c κs. search needs)
+    (λ c κs. search needs)
     returns
     header-line-requires
-    enum-known-first
+    (λ c. search needs)
     read-body-requires
-    enum-told
-    enum-known-body
-    enum-known-first-2
-    same-length
+    (λ c. search needs)
+    (λ c. search needs)
+    (λ c. search needs)
+    (λ c. search needs)
     returns-2
-    same-length-2
+    (λ c. search needs)
     returns-3
     returns-4)

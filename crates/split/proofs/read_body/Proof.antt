@@ -5,18 +5,6 @@ use Rattle.split.proofs.SheetLaws.{types-stop, types-placed, maps-stop,
 use Rattle.split.proofs.read_body.Statement.{statement}
 use Rattle.split.proofs.read_body.Tie as tie
 
-read-types-requires : tie.Need-read-types-requires
-read-types-requires c κs = search needs
-
-enum-known-types : tie.Need-enum-known-types
-enum-known-types c = search needs
-
-enum-told : tie.Need-enum-told
-enum-told c = search needs
-
-same-length : tie.Need-same-length
-same-length c = search needs
-
 returns : tie.Need-returns
 returns c =
     let read-types = c .before .before .before .before in
@@ -29,15 +17,6 @@ read-maps-requires c κs =
     let read-types = types .before .before .before .before in
     let entry = read-types .before .before .before .before in
     (record { placed = types-placed (entry .args .purpose) (entry .args .header) (entry .pre .1) (entry .args .steps) (entry .pre .2) (entry .args .text .now) (entry .args .from) (entry .args .work .now) (read-types .read-types .last .1 .1 .1 .0) (read-types .read-types .result) (read-types .read-types .ensures) (types .types .given .0 .0) (types .types .given .1); fits = entry .pre .0 .fits }, entry .pre .1, read-types .read-types .ensures .changed .long ∙ entry .pre .3)
-
-enum-known-maps : tie.Need-enum-known-maps
-enum-known-maps c = search needs
-
-enum-told-2 : tie.Need-enum-told-2
-enum-told-2 c = search needs
-
-same-length-2 : tie.Need-same-length-2
-same-length-2 c = search needs
 
 returns-2 : tie.Need-returns-2
 returns-2 c =
@@ -65,15 +44,6 @@ read-rows-requires c κs =
     let entry = read-types .before .before .before .before in
     (record { placed = maps-placed (entry .args .purpose) (entry .args .header) (entry .pre .1) (entry .args .steps) (entry .pre .2) (entry .args .text .now) (entry .args .from) (entry .args .work .now) (read-types .read-types .last .1 .1 .1 .0) (read-types .read-types .result) (read-types .read-types .ensures) (types .types .given .0 .0) (types .types .given .1) (read-maps .read-maps .last .1 .1 .1 .0) (read-maps .read-maps .result) (read-maps .read-maps .ensures) (maps .maps .given .0 .0) (maps .maps .given .1); fits = entry .pre .0 .fits }, entry .pre .1, entry .pre .2, store-empty .store-empty .ensures .changed .long ∙ read-maps .read-maps .ensures .changed .long ∙ read-types .read-types .ensures .changed .long ∙ entry .pre .3)
 
-enum-known-rows : tie.Need-enum-known-rows
-enum-known-rows c = search needs
-
-enum-told-3 : tie.Need-enum-told-3
-enum-told-3 c = search needs
-
-same-length-3 : tie.Need-same-length-3
-same-length-3 c = search needs
-
 returns-3 : tie.Need-returns-3
 returns-3 c =
     let read-rows = c .before .before .before .before in
@@ -97,9 +67,6 @@ finish-requires c κs =
     let entry = read-types .before .before .before .before in
     record { placed = rows-placed (entry .args .purpose) (entry .args .header) (entry .pre .1) (entry .args .steps) (entry .pre .2) (entry .args .text .now) (entry .args .from) (entry .args .work .now) (read-types .read-types .last .1 .1 .1 .0) (read-types .read-types .result) (read-types .read-types .ensures) (types .types .given .0 .0) (types .types .given .1) (read-maps .read-maps .last .1 .1 .1 .0) (read-maps .read-maps .result) (read-maps .read-maps .ensures) (maps .maps .given .0 .0) (maps .maps .given .1) _ (store-empty .store-empty .ensures) (read-rows .read-rows .last .1 .1 .1 .1 .1 .0) (read-rows .read-rows .result) (read-rows .read-rows .ensures) (rows .rows .given .0 .0) (rows .rows .given .1); fits = entry .pre .0 .fits }
 
-same-length-4 : tie.Need-same-length-4
-same-length-4 c = search needs
-
 returns-4 : tie.Need-returns-4
 returns-4 c =
     let rows = c .before .before in
@@ -116,22 +83,22 @@ pub read-body-spec : {M : Type 1} → statement M
 read-body-spec =
     tie.close
     (tie.spec
-    read-types-requires
-    enum-known-types
-    enum-told
-    same-length
+    (λ c κs. search needs)
+    (λ c. search needs)
+    (λ c. search needs)
+    (λ c. search needs)
     returns
     read-maps-requires
-    enum-known-maps
-    enum-told-2
-    same-length-2
+    (λ c. search needs)
+    (λ c. search needs)
+    (λ c. search needs)
     returns-2
     store-empty-requires
     read-rows-requires
-    enum-known-rows
-    enum-told-3
-    same-length-3
+    (λ c. search needs)
+    (λ c. search needs)
+    (λ c. search needs)
     returns-3
     finish-requires
-    same-length-4
+    (λ c. search needs)
     returns-4)

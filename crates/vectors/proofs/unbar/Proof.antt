@@ -15,39 +15,30 @@ Inv-loop text₀ i₀ text i = length text ≡ length text₀
 abbrev μ-loop : tie.MeasureT-loop
 μ-loop text₀ i₀ text i = length text₀ - i
 
--- src/main.rt:42:5
 loop-holds : tie.Need-loop-holds Inv-loop μ-loop
 loop-holds c = search needs
 
--- src/main.rt:43:25
 slice-read-meant : tie.Need-slice-read-meant Inv-loop μ-loop
 slice-read-meant c = search needs
 
--- src/main.rt:43:19
 meant-requires : tie.Need-meant-requires Inv-loop μ-loop
 meant-requires c κs = search needs
 
--- src/main.rt:43:9
 slice-write-text : tie.Need-slice-write-text Inv-loop μ-loop
 slice-write-text c = search needs
 
--- src/main.rt:44:9
 add-i : tie.Need-add-i Inv-loop μ-loop
 add-i c = search needs
 
--- src/main.rt:42:5
 loop-less : tie.Need-loop-less Inv-loop μ-loop
 loop-less c = search needs
 
--- src/main.rt:42:5
 loop-again : tie.Need-loop-again Inv-loop μ-loop
 loop-again c = search needs
 
--- src/main.rt:40:1
 same-length : tie.Need-same-length Inv-loop μ-loop
 same-length c = search needs
 
--- src/main.rt:40:1
 returns : tie.Need-returns Inv-loop μ-loop
 returns c = search needs
 

@@ -7,54 +7,6 @@ use Rattle.writer.proofs.Buffer.{parted, onward, finish}
 use Rattle.drill.proofs.program_sheet.write_program.Statement.{statement}
 use Rattle.drill.proofs.program_sheet.write_program.Tie as tie
 
-add-spawned : tie.Need-add-spawned
-add-spawned c = search needs
-
-slice-aggregate-write-bytes : tie.Need-slice-aggregate-write-bytes
-slice-aggregate-write-bytes c = search needs
-
-write-bytes-requires : tie.Need-write-bytes-requires
-write-bytes-requires c κs = search needs
-
-mul-write-field : tie.Need-mul-write-field
-mul-write-field c = search needs
-
-add-write-field : tie.Need-add-write-field
-add-write-field c = search needs
-
-write-field-requires : tie.Need-write-field-requires
-write-field-requires c κs = search needs
-
-slice-aggregate-write-bytes-2 : tie.Need-slice-aggregate-write-bytes-2
-slice-aggregate-write-bytes-2 c = search needs
-
-write-bytes-requires-2 : tie.Need-write-bytes-requires-2
-write-bytes-requires-2 c κs = search needs
-
-slice-aggregate-write-lets : tie.Need-slice-aggregate-write-lets
-slice-aggregate-write-lets c = search needs
-
-write-lets-requires : tie.Need-write-lets-requires
-write-lets-requires c κs = search needs
-
-add-write-lets : tie.Need-add-write-lets
-add-write-lets c = search needs
-
-slice-aggregate-write-lets-2 : tie.Need-slice-aggregate-write-lets-2
-slice-aggregate-write-lets-2 c = search needs
-
-write-lets-requires-2 : tie.Need-write-lets-requires-2
-write-lets-requires-2 c κs = search needs
-
-slice-aggregate-write-bytes-3 : tie.Need-slice-aggregate-write-bytes-3
-slice-aggregate-write-bytes-3 c = search needs
-
-write-bytes-requires-3 : tie.Need-write-bytes-requires-3
-write-bytes-requires-3 c κs = search needs
-
-same-length : tie.Need-same-length
-same-length c = search needs
-
 returns : tie.Need-returns
 unfolding bytes
 returns c =
@@ -77,20 +29,20 @@ pub write-program-spec : {M : Type 1} → statement M
 write-program-spec =
     tie.close
     (tie.spec
-    add-spawned
-    slice-aggregate-write-bytes
-    write-bytes-requires
-    mul-write-field
-    add-write-field
-    write-field-requires
-    slice-aggregate-write-bytes-2
-    write-bytes-requires-2
-    slice-aggregate-write-lets
-    write-lets-requires
-    slice-aggregate-write-lets-2
-    add-write-lets
-    write-lets-requires-2
-    slice-aggregate-write-bytes-3
-    write-bytes-requires-3
-    same-length
+    (λ c. search needs)
+    (λ c. search needs)
+    (λ c κs. search needs)
+    (λ c. search needs)
+    (λ c. search needs)
+    (λ c κs. search needs)
+    (λ c. search needs)
+    (λ c κs. search needs)
+    (λ c. search needs)
+    (λ c κs. search needs)
+    (λ c. search needs)
+    (λ c. search needs)
+    (λ c κs. search needs)
+    (λ c. search needs)
+    (λ c κs. search needs)
+    (λ c. search needs)
     returns)

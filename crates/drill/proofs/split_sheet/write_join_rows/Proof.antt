@@ -5,21 +5,6 @@ use Rattle.writer.proofs.Buffer.{parted, onward, finish}
 use Rattle.drill.proofs.split_sheet.write_join_rows.Statement.{statement}
 use Rattle.drill.proofs.split_sheet.write_join_rows.Tie as tie
 
-write-row-requires : tie.Need-write-row-requires
-write-row-requires c κs = search needs
-
-write-row-requires-2 : tie.Need-write-row-requires-2
-write-row-requires-2 c κs = search needs
-
-add-write-row : tie.Need-add-write-row
-add-write-row c = search needs
-
-write-row-requires-3 : tie.Need-write-row-requires-3
-write-row-requires-3 c κs = search needs
-
-same-length : tie.Need-same-length
-same-length c = search needs
-
 returns : tie.Need-returns
 returns c =
     let c₃ = c .before .before in
@@ -35,9 +20,9 @@ pub write-join-rows-spec : {M : Type 1} → statement M
 write-join-rows-spec =
     tie.close
     (tie.spec
-    write-row-requires
-    write-row-requires-2
-    add-write-row
-    write-row-requires-3
-    same-length
+    (λ c κs. search needs)
+    (λ c κs. search needs)
+    (λ c. search needs)
+    (λ c κs. search needs)
+    (λ c. search needs)
     returns)

@@ -5,27 +5,6 @@ use Rattle.writer.proofs.Buffer.{parted, onward, finish}
 use Rattle.drill.proofs.split_sheet.write_spawn_rows.Statement.{statement}
 use Rattle.drill.proofs.split_sheet.write_spawn_rows.Tie as tie
 
-write-row-requires : tie.Need-write-row-requires
-write-row-requires c κs = search needs
-
-add-write-start-row : tie.Need-add-write-start-row
-add-write-start-row c = search needs
-
-write-start-row-requires : tie.Need-write-start-row-requires
-write-start-row-requires c κs = search needs
-
-write-row-requires-2 : tie.Need-write-row-requires-2
-write-row-requires-2 c κs = search needs
-
-write-row-requires-3 : tie.Need-write-row-requires-3
-write-row-requires-3 c κs = search needs
-
-write-row-requires-4 : tie.Need-write-row-requires-4
-write-row-requires-4 c κs = search needs
-
-same-length : tie.Need-same-length
-same-length c = search needs
-
 returns : tie.Need-returns
 returns c =
     let c₅ = c .before .before in
@@ -45,11 +24,11 @@ pub write-spawn-rows-spec : {M : Type 1} → statement M
 write-spawn-rows-spec =
     tie.close
     (tie.spec
-    write-row-requires
-    add-write-start-row
-    write-start-row-requires
-    write-row-requires-2
-    write-row-requires-3
-    write-row-requires-4
-    same-length
+    (λ c κs. search needs)
+    (λ c. search needs)
+    (λ c κs. search needs)
+    (λ c κs. search needs)
+    (λ c κs. search needs)
+    (λ c κs. search needs)
+    (λ c. search needs)
     returns)

@@ -7,17 +7,8 @@ use borrow.Author.Tests.{not-true, not-false}
 use Rattle.fill.proofs.maps.fill_column.Statement.{statement}
 use Rattle.fill.proofs.maps.fill_column.Tie as tie
 
-cast-t9 : tie.Need-cast-t9
-cast-t9 c = search needs
-
-slice-aggregate-fill-location : tie.Need-slice-aggregate-fill-location
-slice-aggregate-fill-location c = search needs
-
 fill-location-requires : tie.Need-fill-location-requires
 fill-location-requires c κs = column-fillable _ _ _ _ _ _ _ (c .before .before .before .pre) refl
-
-same-length : tie.Need-same-length
-same-length c = search needs
 
 returns : tie.Need-returns
 returns c =
@@ -41,9 +32,6 @@ store-posts-requires c κs =
     let start = at-location .before .before .before .before in
     column-room _ _ _ _ _ _ _ (start .pre) (front-long _ _ (start .pre .given) (at-location .fill-location .kept .1 .0))
 
-same-length-2 : tie.Need-same-length-2
-same-length-2 c = search needs
-
 returns-2 : tie.Need-returns-2
 returns-2 c =
     let at-posts = c .before .before .before in
@@ -51,9 +39,6 @@ returns-2 c =
     let at-location = found .before .before in
     column-large _ _ _ _ _ _ _ _ (at-location .fill-location .ensures) (not-false _ (found .if1 .left)) _ _ (at-posts .store-posts .ensures)
     (not-true _ (c .if2 .taken))
-
-same-length-3 : tie.Need-same-length-3
-same-length-3 c = search needs
 
 returns-3 : tie.Need-returns-3
 returns-3 c =
@@ -67,15 +52,15 @@ pub fill-column-spec : {M : Type 1} → statement M
 fill-column-spec =
     tie.close
     (tie.spec
-    cast-t9
-    slice-aggregate-fill-location
+    (λ c. search needs)
+    (λ c. search needs)
     fill-location-requires
-    same-length
+    (λ c. search needs)
     returns
     array-share-prefix-posts
     slice-aggregate-store-posts
     store-posts-requires
-    same-length-2
+    (λ c. search needs)
     returns-2
-    same-length-3
+    (λ c. search needs)
     returns-3)

@@ -13,9 +13,6 @@ store-column-requires c κs =
     let at-fit = test .before in
     (at-fit .before .before .before .pre, sym (at-fit .posts-fit .ensures) ∙ test .if1 .taken)
 
-same-length : tie.Need-same-length
-same-length c = search needs
-
 returns : tie.Need-returns
 returns c =
     let at-store = c .before .before in
@@ -28,4 +25,4 @@ returns-2 c = nothing-stored _ _ _ _ (sym (c .if1 .left) ∙ c .before .posts-fi
 
 pub store-posts-spec : {M : Type 1} → statement M
 store-posts-spec =
-    tie.close (tie.spec posts-fit-requires store-column-requires same-length returns returns-2)
+    tie.close (tie.spec posts-fit-requires store-column-requires (λ c. search needs) returns returns-2)

@@ -9,22 +9,10 @@ use Rattle.lexer.proofs.FirstDigits.{digits-none, digits-padded, digits
 use Rattle.lexer.proofs.Cursor.number.Statement.{statement}
 use Rattle.lexer.proofs.Cursor.number.Tie as tie
 
-take-digits-requires : tie.Need-take-digits-requires
-take-digits-requires c κs = search needs
-
 returns : tie.Need-returns
 returns c =
     let read = c .before .take-digits in
     digits-none _ _ (read .result) (read .ensures) (c .if1 .taken)
-
-sub-width : tie.Need-sub-width
-sub-width c = search needs
-
-shared-slice-read-first : tie.Need-shared-slice-read-first
-shared-slice-read-first c = search needs
-
-zero-leads-requires : tie.Need-zero-leads-requires
-zero-leads-requires c κs = search needs
 
 returns-2 : tie.Need-returns-2
 returns-2 c =
@@ -43,12 +31,6 @@ returns-3 c =
     let bare = sym (here .before .zero-leads .ensures) ∙ here .if2 .left in
     digits-closed _ _ (read .result) (read .ensures) (digit .if1 .left) bare (text-width text to (c .if3 .taken)) Text (text-end text to (c .if3 .taken))
 
-shared-slice-read-b : tie.Need-shared-slice-read-b
-shared-slice-read-b c = search needs
-
-add-at : tie.Need-add-at
-add-at c = search needs
-
 returns-4 : tie.Need-returns-4
 unfolding past
 returns-4 c =
@@ -59,12 +41,6 @@ returns-4 c =
     let to = read .result .to in
     let bare = sym (here .before .zero-leads .ensures) ∙ here .if2 .left in
     digits-closed _ _ (read .result) (read .ensures) (digit .if1 .left) bare (comma-width text to (search needs) (c .if4 .taken)) Comma (comma-end text to (search needs) (c .if4 .taken))
-
-add-at-2 : tie.Need-add-at-2
-add-at-2 c = search needs
-
-add-line : tie.Need-add-line
-add-line c = search needs
 
 returns-5 : tie.Need-returns-5
 unfolding past
@@ -86,17 +62,17 @@ pub number-spec : {M : Type 1} → statement M
 number-spec =
     tie.close
     (tie.spec
-    take-digits-requires
+    (λ c κs. search needs)
     returns
-    sub-width
-    shared-slice-read-first
-    zero-leads-requires
+    (λ c. search needs)
+    (λ c. search needs)
+    (λ c κs. search needs)
     returns-2
     returns-3
-    shared-slice-read-b
-    add-at
+    (λ c. search needs)
+    (λ c. search needs)
     returns-4
-    add-at-2
-    add-line
+    (λ c. search needs)
+    (λ c. search needs)
     returns-5
     returns-6)

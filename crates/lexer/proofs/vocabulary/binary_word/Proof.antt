@@ -7,22 +7,10 @@ use Rattle.lexer.proofs.Words.{hit, skip, none-left}
 use Rattle.lexer.proofs.vocabulary.binary_word.Statement.{statement}
 use Rattle.lexer.proofs.vocabulary.binary_word.Tie as tie
 
-slice-aggregate-same : tie.Need-slice-aggregate-same
-slice-aggregate-same c = search needs
-
-same-requires : tie.Need-same-requires
-same-requires c κs = search needs
-
 returns : tie.Need-returns
 unfolding binaryWords bytes
 returns c =
     hit _ _ _ (sym (c .before .same .ensures) ∙ c .if1 .taken)
-
-slice-aggregate-same-2 : tie.Need-slice-aggregate-same-2
-slice-aggregate-same-2 c = search needs
-
-same-requires-2 : tie.Need-same-requires-2
-same-requires-2 c κs = search needs
 
 returns-2 : tie.Need-returns-2
 unfolding binaryWords bytes
@@ -30,12 +18,6 @@ returns-2 c =
     let c1 = c .before .before .before in
     skip _ _ _ (sym (c1 .before .same .ensures) ∙ c1 .if1 .left)
     (hit _ _ _ (sym (c .before .same2 .ensures) ∙ c .if2 .taken))
-
-slice-aggregate-same-3 : tie.Need-slice-aggregate-same-3
-slice-aggregate-same-3 c = search needs
-
-same-requires-3 : tie.Need-same-requires-3
-same-requires-3 c κs = search needs
 
 returns-3 : tie.Need-returns-3
 unfolding binaryWords bytes
@@ -45,12 +27,6 @@ returns-3 c =
     skip _ _ _ (sym (c1 .before .same .ensures) ∙ c1 .if1 .left)
     (skip _ _ _ (sym (c2 .before .same2 .ensures) ∙ c2 .if2 .left)
     (hit _ _ _ (sym (c .before .same3 .ensures) ∙ c .if3 .taken)))
-
-slice-aggregate-same-4 : tie.Need-slice-aggregate-same-4
-slice-aggregate-same-4 c = search needs
-
-same-requires-4 : tie.Need-same-requires-4
-same-requires-4 c κs = search needs
 
 returns-4 : tie.Need-returns-4
 unfolding binaryWords bytes
@@ -79,16 +55,16 @@ pub binary-word-spec : {M : Type 1} → statement M
 binary-word-spec =
     tie.close
     (tie.spec
-    slice-aggregate-same
-    same-requires
+    (λ c. search needs)
+    (λ c κs. search needs)
     returns
-    slice-aggregate-same-2
-    same-requires-2
+    (λ c. search needs)
+    (λ c κs. search needs)
     returns-2
-    slice-aggregate-same-3
-    same-requires-3
+    (λ c. search needs)
+    (λ c κs. search needs)
     returns-3
-    slice-aggregate-same-4
-    same-requires-4
+    (λ c. search needs)
+    (λ c κs. search needs)
     returns-4
     returns-5)

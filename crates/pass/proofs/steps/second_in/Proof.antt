@@ -7,12 +7,6 @@ use borrow.Author.Needs.{needs}
 use Rattle.pass.proofs.steps.second_in.Statement.{statement}
 use Rattle.pass.proofs.steps.second_in.Tie as tie
 
-add-at : tie.Need-add-at
-add-at c = search needs
-
-add-at-2 : tie.Need-add-at-2
-add-at-2 c = search needs
-
 at-requires : tie.Need-at-requires
 at-requires c κs = tt
 
@@ -27,4 +21,4 @@ returns c =
     c .index .ensures .0 ∙ rw place at (c .before .at .ensures)
 
 pub second-in-spec : {M : Type 1} → statement M
-second-in-spec = tie.close (tie.spec add-at add-at-2 at-requires index-requires returns)
+second-in-spec = tie.close (tie.spec (λ c. search needs) (λ c. search needs) at-requires index-requires returns)

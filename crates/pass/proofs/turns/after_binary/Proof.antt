@@ -5,29 +5,11 @@ use borrow.Author.Needs.{needs}
 use Rattle.pass.proofs.turns.after_binary.Statement.{statement}
 use Rattle.pass.proofs.turns.after_binary.Tie as tie
 
-enum-known-way : tie.Need-enum-known-way
-enum-known-way c = search needs
-
-turn-requires : tie.Need-turn-requires
-turn-requires c κs = search needs
-
-enum-told : tie.Need-enum-told
-enum-told c = search needs
-
 least-requires : tie.Need-least-requires
 least-requires c κs = tt
 
-enum-known-way-2 : tie.Need-enum-known-way-2
-enum-known-way-2 c = search needs
-
-cast-if1 : tie.Need-cast-if1
-cast-if1 c = search needs
-
 taking-requires : tie.Need-taking-requires
 taking-requires c κs = tt
-
-turn-requires-2 : tie.Need-turn-requires-2
-turn-requires-2 c κs = search needs
 
 returns : tie.Need-returns
 returns c =
@@ -49,14 +31,14 @@ pub after-binary-spec : {M : Type 1} → statement M
 after-binary-spec =
     tie.close
     (tie.spec
-    enum-known-way
-    turn-requires
-    enum-told
+    (λ c. search needs)
+    (λ c κs. search needs)
+    (λ c. search needs)
     least-requires
-    enum-known-way-2
-    cast-if1
+    (λ c. search needs)
+    (λ c. search needs)
     taking-requires
-    turn-requires-2
+    (λ c κs. search needs)
     returns
     returns-2
     returns-3

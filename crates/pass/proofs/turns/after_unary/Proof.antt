@@ -4,15 +4,6 @@ use borrow.Author.Needs.{needs}
 use Rattle.pass.proofs.turns.after_unary.Statement.{statement}
 use Rattle.pass.proofs.turns.after_unary.Tie as tie
 
-enum-known-way : tie.Need-enum-known-way
-enum-known-way c = search needs
-
-turn-requires : tie.Need-turn-requires
-turn-requires c κs = search needs
-
-enum-told : tie.Need-enum-told
-enum-told c = search needs
-
 returns : tie.Need-returns
 returns c = loop-kept _ _ _ (c .before .enum-told .given .1) (c .if1 .taken)
 
@@ -25,4 +16,4 @@ returns-3 c = loop-lost _ _ _ (c .before .enum-told .given .1) (c .if1 .left)
 
 pub after-unary-spec : {M : Type 1} → statement M
 after-unary-spec =
-    tie.close (tie.spec enum-known-way turn-requires enum-told returns returns-2 returns-3)
+    tie.close (tie.spec (λ c. search needs) (λ c κs. search needs) (λ c. search needs) returns returns-2 returns-3)

@@ -4,18 +4,6 @@ use borrow.Author.Needs.{needs}
 use Rattle.pass.proofs.turns.second_pre.Statement.{statement}
 use Rattle.pass.proofs.turns.second_pre.Tie as tie
 
-enum-told : tie.Need-enum-told
-enum-told c = search needs
-
-enum-told-2 : tie.Need-enum-told-2
-enum-told-2 c = search needs
-
-enum-known-way : tie.Need-enum-known-way
-enum-known-way c = search needs
-
-cast-result : tie.Need-cast-result
-cast-result c = search needs
-
 returns : tie.Need-returns
 unfolding secondPre
 returns c = rw (c .enum-told .given .1)
@@ -31,4 +19,4 @@ returns-3 c = rw (c .before .way .given .1)
 pub second-pre-spec : {M : Type 1} → statement M
 second-pre-spec =
     tie.close
-    (tie.spec enum-told enum-told-2 enum-known-way cast-result returns returns-2 returns-3)
+    (tie.spec (λ c. search needs) (λ c. search needs) (λ c. search needs) (λ c. search needs) returns returns-2 returns-3)

@@ -3,9 +3,6 @@ use borrow.Author.Needs.{needs}
 use Rattle.pass.proofs.ways.access_in.Statement.{statement}
 use Rattle.pass.proofs.ways.access_in.Tie as tie
 
-type-in-requires : tie.Need-type-in-requires
-type-in-requires c κs = search needs
-
 place-of-requires : tie.Need-place-of-requires
 place-of-requires c κs = tt
 
@@ -16,4 +13,4 @@ returns-2 : tie.Need-returns-2
 returns-2 c = let at-place = c .before .before .before in access-elsewhere _ _ _ _ (at-place .before .type-in .ensures) (at-place .place-of .ensures) (c .if1 .left)
 
 pub access-in-spec : {M : Type 1} → statement M
-access-in-spec = tie.close (tie.spec type-in-requires place-of-requires returns returns-2)
+access-in-spec = tie.close (tie.spec (λ c κs. search needs) place-of-requires returns returns-2)

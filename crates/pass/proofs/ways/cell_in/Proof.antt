@@ -8,12 +8,9 @@ use Rattle.pass.proofs.ways.cell_in.Tie as tie
 index-requires : tie.Need-index-requires
 index-requires c κs = tt
 
-map-cell-requires : tie.Need-map-cell-requires
-map-cell-requires c κs = search needs
-
 returns : tie.Need-returns
 unfolding cellIn
 returns c = c .map-cell .ensures ∙ ap (mapCell _ _) (c .before .index .ensures .0)
 
 pub cell-in-spec : {M : Type 1} → statement M
-cell-in-spec = tie.close (tie.spec index-requires map-cell-requires returns)
+cell-in-spec = tie.close (tie.spec index-requires (λ c κs. search needs) returns)

@@ -3,9 +3,6 @@ use borrow.Author.Needs.{needs}
 use Rattle.pass.proofs.ways.in_load_in.Statement.{statement}
 use Rattle.pass.proofs.ways.in_load_in.Tie as tie
 
-type-in-requires : tie.Need-type-in-requires
-type-in-requires c κs = search needs
-
 in-load-of-requires : tie.Need-in-load-of-requires
 in-load-of-requires c κs = tt
 
@@ -17,4 +14,4 @@ unfolding inLoadIn
 returns c = rw (← c .before .before .type-in .ensures, ← c .before .in-load-of .ensures) (c .cell-in .ensures)
 
 pub in-load-in-spec : {M : Type 1} → statement M
-in-load-in-spec = tie.close (tie.spec type-in-requires in-load-of-requires cell-in-requires returns)
+in-load-in-spec = tie.close (tie.spec (λ c κs. search needs) in-load-of-requires cell-in-requires returns)

@@ -7,26 +7,17 @@ use Rattle.pass.specs.Ways.{lendingIn}
 use Rattle.pass.proofs.ways.lending_in.Statement.{statement}
 use Rattle.pass.proofs.ways.lending_in.Tie as tie
 
-add-at : tie.Need-add-at
-add-at c = search needs
-
 at-requires : tie.Need-at-requires
 at-requires c κs = tt
 
 wide-requires : tie.Need-wide-requires
 wide-requires c κs = tt
 
-read-load-in-requires : tie.Need-read-load-in-requires
-read-load-in-requires c κs = search needs
-
 wide-requires-2 : tie.Need-wide-requires-2
 wide-requires-2 c κs = tt
 
 mul-lent : tie.Need-mul-lent
 mul-lent c = product-fits (c .before .before .wide .ensures .1) (c .wide2 .ensures .1)
-
-write-load-in-requires : tie.Need-write-load-in-requires
-write-load-in-requires c κs = search needs
 
 lending-requires : tie.Need-lending-requires
 lending-requires c κs = tt
@@ -46,12 +37,12 @@ pub lending-in-spec : {M : Type 1} → statement M
 lending-in-spec =
     tie.close
     (tie.spec
-    add-at
+    (λ c. search needs)
     at-requires
     wide-requires
-    read-load-in-requires
+    (λ c κs. search needs)
     wide-requires-2
     mul-lent
-    write-load-in-requires
+    (λ c κs. search needs)
     lending-requires
     returns)

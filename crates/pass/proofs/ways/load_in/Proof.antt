@@ -3,9 +3,6 @@ use borrow.Author.Needs.{needs}
 use Rattle.pass.proofs.ways.load_in.Statement.{statement}
 use Rattle.pass.proofs.ways.load_in.Tie as tie
 
-type-in-requires : tie.Need-type-in-requires
-type-in-requires c κs = search needs
-
 load-of-requires : tie.Need-load-of-requires
 load-of-requires c κs = tt
 
@@ -17,4 +14,4 @@ unfolding loadIn
 returns c = rw (← c .before .before .type-in .ensures, ← c .before .load-of .ensures) (c .cell-in .ensures)
 
 pub load-in-spec : {M : Type 1} → statement M
-load-in-spec = tie.close (tie.spec type-in-requires load-of-requires cell-in-requires returns)
+load-in-spec = tie.close (tie.spec (λ c κs. search needs) load-of-requires cell-in-requires returns)

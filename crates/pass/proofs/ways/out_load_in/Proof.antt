@@ -3,9 +3,6 @@ use borrow.Author.Needs.{needs}
 use Rattle.pass.proofs.ways.out_load_in.Statement.{statement}
 use Rattle.pass.proofs.ways.out_load_in.Tie as tie
 
-type-in-requires : tie.Need-type-in-requires
-type-in-requires c κs = search needs
-
 out-load-of-requires : tie.Need-out-load-of-requires
 out-load-of-requires c κs = tt
 
@@ -17,4 +14,4 @@ unfolding outLoadIn
 returns c = rw (← c .before .before .type-in .ensures, ← c .before .out-load-of .ensures) (c .cell-in .ensures)
 
 pub out-load-in-spec : {M : Type 1} → statement M
-out-load-in-spec = tie.close (tie.spec type-in-requires out-load-of-requires cell-in-requires returns)
+out-load-in-spec = tie.close (tie.spec (λ c κs. search needs) out-load-of-requires cell-in-requires returns)

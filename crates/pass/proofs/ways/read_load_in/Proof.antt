@@ -3,9 +3,6 @@ use borrow.Author.Needs.{needs}
 use Rattle.pass.proofs.ways.read_load_in.Statement.{statement}
 use Rattle.pass.proofs.ways.read_load_in.Tie as tie
 
-type-in-requires : tie.Need-type-in-requires
-type-in-requires c κs = search needs
-
 read-load-of-requires : tie.Need-read-load-of-requires
 read-load-of-requires c κs = tt
 
@@ -17,4 +14,4 @@ unfolding readLoadIn
 returns c = rw (← c .before .before .type-in .ensures, ← c .before .read-load-of .ensures) (c .cell-in .ensures)
 
 pub read-load-in-spec : {M : Type 1} → statement M
-read-load-in-spec = tie.close (tie.spec type-in-requires read-load-of-requires cell-in-requires returns)
+read-load-in-spec = tie.close (tie.spec (λ c κs. search needs) read-load-of-requires cell-in-requires returns)

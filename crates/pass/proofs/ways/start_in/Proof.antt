@@ -3,9 +3,6 @@ use borrow.Author.Needs.{needs}
 use Rattle.pass.proofs.ways.start_in.Statement.{statement}
 use Rattle.pass.proofs.ways.start_in.Tie as tie
 
-add-at : tie.Need-add-at
-add-at c = search needs
-
 at-requires : tie.Need-at-requires
 at-requires c κs = tt
 
@@ -17,4 +14,4 @@ unfolding startIn
 returns c = rw (← c .before .at .ensures) (c .cell-in .ensures)
 
 pub start-in-spec : {M : Type 1} → statement M
-start-in-spec = tie.close (tie.spec add-at at-requires cell-in-requires returns)
+start-in-spec = tie.close (tie.spec (λ c. search needs) at-requires cell-in-requires returns)

@@ -3,9 +3,6 @@ use borrow.Author.Needs.{needs}
 use Rattle.pass.proofs.ways.type_in.Statement.{statement}
 use Rattle.pass.proofs.ways.type_in.Tie as tie
 
-add-at : tie.Need-add-at
-add-at c = search needs
-
 at-requires : tie.Need-at-requires
 at-requires c κs = tt
 
@@ -17,4 +14,4 @@ unfolding typeIn
 returns c = cc
 
 pub type-in-spec : {M : Type 1} → statement M
-type-in-spec = tie.close (tie.spec add-at at-requires type-at-requires returns)
+type-in-spec = tie.close (tie.spec (λ c. search needs) at-requires type-at-requires returns)

@@ -9,170 +9,56 @@ use borrow.Author.Needs.{needs}
 use Rattle.pass.proofs.ways.way_by.Statement.{statement}
 use Rattle.pass.proofs.ways.way_by.Tie as tie
 
-add-part : tie.Need-add-part
-add-part c = search needs
-
-enum-told : tie.Need-enum-told
-enum-told c = search needs
-
 unchanged-requires : tie.Need-unchanged-requires
 unchanged-requires c κs = tt
-
-enum-told-2 : tie.Need-enum-told-2
-enum-told-2 c = search needs
 
 unchanged-requires-2 : tie.Need-unchanged-requires-2
 unchanged-requires-2 c κs = tt
 
-enum-told-3 : tie.Need-enum-told-3
-enum-told-3 c = search needs
-
 unchanged-requires-3 : tie.Need-unchanged-requires-3
 unchanged-requires-3 c κs = tt
-
-enum-told-4 : tie.Need-enum-told-4
-enum-told-4 c = search needs
-
-enum-told-5 : tie.Need-enum-told-5
-enum-told-5 c = search needs
-
-enum-told-6 : tie.Need-enum-told-6
-enum-told-6 c = search needs
 
 unchanged-requires-4 : tie.Need-unchanged-requires-4
 unchanged-requires-4 c κs = tt
 
-enum-told-7 : tie.Need-enum-told-7
-enum-told-7 c = search needs
-
-start-in-requires : tie.Need-start-in-requires
-start-in-requires c κs = search needs
-
-load-in-requires : tie.Need-load-in-requires
-load-in-requires c κs = search needs
-
-enum-told-8 : tie.Need-enum-told-8
-enum-told-8 c = search needs
-
-load-in-requires-2 : tie.Need-load-in-requires-2
-load-in-requires-2 c κs = search needs
-
 giving-requires : tie.Need-giving-requires
 giving-requires c κs = tt
-
-enum-told-9 : tie.Need-enum-told-9
-enum-told-9 c = search needs
 
 unchanged-requires-5 : tie.Need-unchanged-requires-5
 unchanged-requires-5 c κs = tt
 
-enum-told-10 : tie.Need-enum-told-10
-enum-told-10 c = search needs
-
-access-in-requires : tie.Need-access-in-requires
-access-in-requires c κs = search needs
-
 needing-requires : tie.Need-needing-requires
 needing-requires c κs = tt
-
-enum-told-11 : tie.Need-enum-told-11
-enum-told-11 c = search needs
-
-access-in-requires-2 : tie.Need-access-in-requires-2
-access-in-requires-2 c κs = search needs
 
 needing-requires-2 : tie.Need-needing-requires-2
 needing-requires-2 c κs = tt
 
-enum-told-12 : tie.Need-enum-told-12
-enum-told-12 c = search needs
-
-out-load-in-requires : tie.Need-out-load-in-requires
-out-load-in-requires c κs = search needs
-
 taking-requires : tie.Need-taking-requires
 taking-requires c κs = tt
-
-enum-told-13 : tie.Need-enum-told-13
-enum-told-13 c = search needs
-
-in-load-in-requires : tie.Need-in-load-in-requires
-in-load-in-requires c κs = search needs
 
 giving-requires-2 : tie.Need-giving-requires-2
 giving-requires-2 c κs = tt
 
-enum-told-14 : tie.Need-enum-told-14
-enum-told-14 c = search needs
-
-out-load-in-requires-2 : tie.Need-out-load-in-requires-2
-out-load-in-requires-2 c κs = search needs
-
 taking-requires-2 : tie.Need-taking-requires-2
 taking-requires-2 c κs = tt
-
-enum-told-15 : tie.Need-enum-told-15
-enum-told-15 c = search needs
 
 unchanged-requires-6 : tie.Need-unchanged-requires-6
 unchanged-requires-6 c κs = tt
 
-enum-told-16 : tie.Need-enum-told-16
-enum-told-16 c = search needs
-
-load-in-requires-3 : tie.Need-load-in-requires-3
-load-in-requires-3 c κs = search needs
-
 taking-requires-3 : tie.Need-taking-requires-3
 taking-requires-3 c κs = tt
-
-enum-told-17 : tie.Need-enum-told-17
-enum-told-17 c = search needs
-
-load-in-requires-4 : tie.Need-load-in-requires-4
-load-in-requires-4 c κs = search needs
 
 giving-requires-3 : tie.Need-giving-requires-3
 giving-requires-3 c κs = tt
 
-enum-told-18 : tie.Need-enum-told-18
-enum-told-18 c = search needs
-
-lending-in-requires : tie.Need-lending-in-requires
-lending-in-requires c κs = search needs
-
-enum-told-19 : tie.Need-enum-told-19
-enum-told-19 c = search needs
-
-read-load-in-requires : tie.Need-read-load-in-requires
-read-load-in-requires c κs = search needs
-
 giving-requires-4 : tie.Need-giving-requires-4
 giving-requires-4 c κs = tt
-
-enum-told-20 : tie.Need-enum-told-20
-enum-told-20 c = search needs
-
-read-load-in-requires-2 : tie.Need-read-load-in-requires-2
-read-load-in-requires-2 c κs = search needs
 
 taking-requires-4 : tie.Need-taking-requires-4
 taking-requires-4 c κs = tt
 
-enum-told-21 : tie.Need-enum-told-21
-enum-told-21 c = search needs
-
-write-load-in-requires : tie.Need-write-load-in-requires
-write-load-in-requires c κs = search needs
-
 giving-requires-5 : tie.Need-giving-requires-5
 giving-requires-5 c κs = tt
-
-enum-told-22 : tie.Need-enum-told-22
-enum-told-22 c = search needs
-
-write-load-in-requires-2 : tie.Need-write-load-in-requires-2
-write-load-in-requires-2 c κs = search needs
 
 taking-requires-5 : tie.Need-taking-requires-5
 taking-requires-5 c κs = tt
@@ -269,61 +155,61 @@ pub way-by-spec : {M : Type 1} → statement M
 way-by-spec =
     tie.close
     (tie.spec
-    add-part
-    enum-told
+    (λ c. search needs)
+    (λ c. search needs)
     unchanged-requires
-    enum-told-2
+    (λ c. search needs)
     unchanged-requires-2
-    enum-told-3
+    (λ c. search needs)
     unchanged-requires-3
-    enum-told-4
-    enum-told-5
-    enum-told-6
+    (λ c. search needs)
+    (λ c. search needs)
+    (λ c. search needs)
     unchanged-requires-4
-    enum-told-7
-    start-in-requires
-    load-in-requires
-    enum-told-8
-    load-in-requires-2
+    (λ c. search needs)
+    (λ c κs. search needs)
+    (λ c κs. search needs)
+    (λ c. search needs)
+    (λ c κs. search needs)
     giving-requires
-    enum-told-9
+    (λ c. search needs)
     unchanged-requires-5
-    enum-told-10
-    access-in-requires
+    (λ c. search needs)
+    (λ c κs. search needs)
     needing-requires
-    enum-told-11
-    access-in-requires-2
+    (λ c. search needs)
+    (λ c κs. search needs)
     needing-requires-2
-    enum-told-12
-    out-load-in-requires
+    (λ c. search needs)
+    (λ c κs. search needs)
     taking-requires
-    enum-told-13
-    in-load-in-requires
+    (λ c. search needs)
+    (λ c κs. search needs)
     giving-requires-2
-    enum-told-14
-    out-load-in-requires-2
+    (λ c. search needs)
+    (λ c κs. search needs)
     taking-requires-2
-    enum-told-15
+    (λ c. search needs)
     unchanged-requires-6
-    enum-told-16
-    load-in-requires-3
+    (λ c. search needs)
+    (λ c κs. search needs)
     taking-requires-3
-    enum-told-17
-    load-in-requires-4
+    (λ c. search needs)
+    (λ c κs. search needs)
     giving-requires-3
-    enum-told-18
-    lending-in-requires
-    enum-told-19
-    read-load-in-requires
+    (λ c. search needs)
+    (λ c κs. search needs)
+    (λ c. search needs)
+    (λ c κs. search needs)
     giving-requires-4
-    enum-told-20
-    read-load-in-requires-2
+    (λ c. search needs)
+    (λ c κs. search needs)
     taking-requires-4
-    enum-told-21
-    write-load-in-requires
+    (λ c. search needs)
+    (λ c κs. search needs)
     giving-requires-5
-    enum-told-22
-    write-load-in-requires-2
+    (λ c. search needs)
+    (λ c κs. search needs)
     taking-requires-5
     returns
     returns-2

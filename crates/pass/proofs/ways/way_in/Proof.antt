@@ -3,21 +3,15 @@ use borrow.Author.Needs.{needs}
 use Rattle.pass.proofs.ways.way_in.Statement.{statement}
 use Rattle.pass.proofs.ways.way_in.Tie as tie
 
-add-at : tie.Need-add-at
-add-at c = search needs
-
 at-requires : tie.Need-at-requires
 at-requires c κs = tt
 
 rule-of-requires : tie.Need-rule-of-requires
 rule-of-requires c κs = tt
 
-way-by-requires : tie.Need-way-by-requires
-way-by-requires c κs = search needs
-
 returns : tie.Need-returns
 unfolding wayIn
 returns c = rw (← c .before .before .at .ensures, ← c .before .rule-of .ensures) (c .way-by .ensures)
 
 pub way-in-spec : {M : Type 1} → statement M
-way-in-spec = tie.close (tie.spec add-at at-requires rule-of-requires way-by-requires returns)
+way-in-spec = tie.close (tie.spec (λ c. search needs) at-requires rule-of-requires (λ c κs. search needs) returns)

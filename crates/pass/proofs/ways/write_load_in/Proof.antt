@@ -3,9 +3,6 @@ use borrow.Author.Needs.{needs}
 use Rattle.pass.proofs.ways.write_load_in.Statement.{statement}
 use Rattle.pass.proofs.ways.write_load_in.Tie as tie
 
-type-in-requires : tie.Need-type-in-requires
-type-in-requires c κs = search needs
-
 write-load-of-requires : tie.Need-write-load-of-requires
 write-load-of-requires c κs = tt
 
@@ -17,4 +14,4 @@ unfolding writeLoadIn
 returns c = rw (← c .before .before .type-in .ensures, ← c .before .write-load-of .ensures) (c .cell-in .ensures)
 
 pub write-load-in-spec : {M : Type 1} → statement M
-write-load-in-spec = tie.close (tie.spec type-in-requires write-load-of-requires cell-in-requires returns)
+write-load-in-spec = tie.close (tie.spec (λ c κs. search needs) write-load-of-requires cell-in-requires returns)

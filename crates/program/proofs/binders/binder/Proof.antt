@@ -6,12 +6,6 @@ use Rattle.program.proofs.ScopeLaws.{getD-any}
 use Rattle.program.proofs.binders.binder.Statement.{statement}
 use Rattle.program.proofs.binders.binder.Tie as tie
 
-mul-result : tie.Need-mul-result
-mul-result c = search needs
-
-shared-slice-read-result : tie.Need-shared-slice-read-result
-shared-slice-read-result c = search needs
-
 returns : tie.Need-returns
 returns c =
     getD-any (c .before .before .args .table .now) (c .before .before .args .v) 0 256 (c .before .if1 .taken)
@@ -20,4 +14,4 @@ returns-2 : tie.Need-returns-2
 returns-2 c = sym (List·getD-eq-default (c .before .args .table .now) 256 (c .if1 .left))
 
 pub binder-spec : {M : Type 1} → statement M
-binder-spec = tie.close (tie.spec mul-result shared-slice-read-result returns returns-2)
+binder-spec = tie.close (tie.spec (λ c. search needs) (λ c. search needs) returns returns-2)

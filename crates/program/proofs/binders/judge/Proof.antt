@@ -5,36 +5,6 @@ use mathlib.Core.Path.{_∙_}
 use Rattle.program.proofs.binders.judge.Statement.{statement}
 use Rattle.program.proofs.binders.judge.Tie as tie
 
-add-word-of : tie.Need-add-word-of
-add-word-of c = search needs
-
-mul-word-of : tie.Need-mul-word-of
-mul-word-of c = search needs
-
-shared-slice-read-word-of : tie.Need-shared-slice-read-word-of
-shared-slice-read-word-of c = search needs
-
-word-of-requires : tie.Need-word-of-requires
-word-of-requires c κs = search needs
-
-role-of-requires : tie.Need-role-of-requires
-role-of-requires c κs = search needs
-
-enum-told : tie.Need-enum-told
-enum-told c = search needs
-
-judge-let-requires : tie.Need-judge-let-requires
-judge-let-requires c κs = search needs
-
-enum-told-2 : tie.Need-enum-told-2
-enum-told-2 c = search needs
-
-judge-var-requires : tie.Need-judge-var-requires
-judge-var-requires c κs = search needs
-
-enum-told-3 : tie.Need-enum-told-3
-enum-told-3 c = search needs
-
 returns : tie.Need-returns
 returns c =
     let at-role-of = c .before .before .before in
@@ -54,16 +24,16 @@ pub judge-spec : {M : Type 1} → statement M
 judge-spec =
     tie.close
     (tie.spec
-    add-word-of
-    mul-word-of
-    shared-slice-read-word-of
-    word-of-requires
-    role-of-requires
-    enum-told
-    judge-let-requires
-    enum-told-2
-    judge-var-requires
-    enum-told-3
+    (λ c. search needs)
+    (λ c. search needs)
+    (λ c. search needs)
+    (λ c κs. search needs)
+    (λ c κs. search needs)
+    (λ c. search needs)
+    (λ c κs. search needs)
+    (λ c. search needs)
+    (λ c κs. search needs)
+    (λ c. search needs)
     returns
     returns-2
     returns-3)

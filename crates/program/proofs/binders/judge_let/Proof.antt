@@ -9,15 +9,9 @@ returns : tie.Need-returns
 unfolding judgeLet
 returns c = simp (le-leb _ _ (c .if1 .taken))
 
-cast-line : tie.Need-cast-line
-cast-line c = search needs
-
-add-line : tie.Need-add-line
-add-line c = search needs
-
 returns-2 : tie.Need-returns-2
 unfolding judgeLet
 returns-2 c = simp (lt-leb _ _ (c .if1 .left))
 
 pub judge-let-spec : {M : Type 1} → statement M
-judge-let-spec = tie.close (tie.spec returns cast-line add-line returns-2)
+judge-let-spec = tie.close (tie.spec returns (λ c. search needs) (λ c. search needs) returns-2)

@@ -10,12 +10,6 @@ use Rattle.program.specs.Lines.{TailShown}
 use Rattle.program.proofs.lines.count_line.Statement.{statement}
 use Rattle.program.proofs.lines.count_line.Tie as tie
 
-start-requires : tie.Need-start-requires
-start-requires c κs = search needs
-
-at-end-requires : tie.Need-at-end-requires
-at-end-requires c κs = search needs
-
 returns : tie.Need-returns
 returns c = count-empty _ _ (c .before .before .start .ensures) (sym (c .before .at-end .ensures) ∙ c .if1 .taken)
 
@@ -40,12 +34,6 @@ part-same-end c =
     let at-pre = at-start .before .before in
     span-le _ _ (c .field .result) (c .field .ensures) (placed-top _ _ (at-start .start .ensures) (at-pre .pre)) .1
 
-slice-aggregate-same : tie.Need-slice-aggregate-same
-slice-aggregate-same c = search needs
-
-same-requires : tie.Need-same-requires
-same-requires c κs = search needs
-
 returns-2 : tie.Need-returns-2
 unfolding bytes
 returns-2 c =
@@ -62,12 +50,6 @@ last-number-requires c κs =
     let at-start = at-field .before .before .before in
     let at-pre = at-start .before .before in
     span-placed _ _ (at-field .field .result) (at-field .field .ensures) (placed-top _ _ (at-start .start .ensures) (at-pre .pre))
-
-enum-known-n : tie.Need-enum-known-n
-enum-known-n c = search needs
-
-enum-told : tie.Need-enum-told
-enum-told c = search needs
 
 returns-3 : tie.Need-returns-3
 unfolding bytes
@@ -143,19 +125,19 @@ pub count-line-spec : {M : Type 1} → statement M
 count-line-spec =
     tie.close
     (tie.spec
-    start-requires
-    at-end-requires
+    (λ c κs. search needs)
+    (λ c κs. search needs)
     returns
     field-requires
     sub-same
     part-same-start
     part-same-end
-    slice-aggregate-same
-    same-requires
+    (λ c. search needs)
+    (λ c κs. search needs)
     returns-2
     last-number-requires
-    enum-known-n
-    enum-told
+    (λ c. search needs)
+    (λ c. search needs)
     returns-3
     returns-4
     returns-5

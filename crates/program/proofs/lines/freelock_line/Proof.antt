@@ -18,12 +18,6 @@ last-number-requires c κs =
     let at-pre = c .before .before .before in
     span-placed _ _ _ (at-pre .pre .field) (at-pre .pre .placed)
 
-enum-known-v : tie.Need-enum-known-v
-enum-known-v c = search needs
-
-enum-told : tie.Need-enum-told
-enum-told c = search needs
-
 returns : tie.Need-returns
 returns c =
     let at-last-number = c .before .before in
@@ -50,8 +44,8 @@ freelock-line-spec =
     (tie.spec
     add-line
     last-number-requires
-    enum-known-v
-    enum-told
+    (λ c. search needs)
+    (λ c. search needs)
     returns
     returns-2
     returns-3)

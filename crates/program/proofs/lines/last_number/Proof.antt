@@ -6,26 +6,8 @@ use mathlib.Core.Path.{refl}
 use Rattle.program.proofs.lines.last_number.Statement.{statement}
 use Rattle.program.proofs.lines.last_number.Tie as tie
 
-enum-told : tie.Need-enum-told
-enum-told c = search needs
-
 returns : tie.Need-returns
 returns c = λ e. absurd (not-comma _ (c .match .keys2) e)
-
-slice-aggregate-numbers : tie.Need-slice-aggregate-numbers
-slice-aggregate-numbers c = search needs
-
-numbers-requires : tie.Need-numbers-requires
-numbers-requires c κs = search needs
-
-enum-known-behind : tie.Need-enum-known-behind
-enum-known-behind c = search needs
-
-array-read-t12 : tie.Need-array-read-t12
-array-read-t12 c = search needs
-
-enum-told-2 : tie.Need-enum-told-2
-enum-told-2 c = search needs
 
 returns-2 : tie.Need-returns-2
 returns-2 c =
@@ -41,12 +23,12 @@ pub last-number-spec : {M : Type 1} → statement M
 last-number-spec =
     tie.close
     (tie.spec
-    enum-told
+    (λ c. search needs)
     returns
-    slice-aggregate-numbers
-    numbers-requires
-    enum-known-behind
-    array-read-t12
-    enum-told-2
+    (λ c. search needs)
+    (λ c κs. search needs)
+    (λ c. search needs)
+    (λ c. search needs)
+    (λ c. search needs)
     returns-2
     returns-3)

@@ -11,17 +11,11 @@ use Rattle.program.specs.Lines.{TailShown}
 use Rattle.program.proofs.lines.step_line.Statement.{statement}
 use Rattle.program.proofs.lines.step_line.Tie as tie
 
-at-end-requires : tie.Need-at-end-requires
-at-end-requires c κs = search needs
-
 returns : tie.Need-returns
 returns c = step-missing _ _ (sym (c .before .at-end .ensures) ∙ c .if1 .taken)
 
 add-line : tie.Need-add-line
 add-line c = omega (arith, line-fits _ _ (c .before .before .before .pre) (sym (c .before .at-end .ensures) ∙ c .if1 .left))
-
-field-requires : tie.Need-field-requires
-field-requires c κs = search needs
 
 sub-same : tie.Need-sub-same
 sub-same c = span-le _ _ (c .field .result) (c .field .ensures) (c .before .before .before .before .pre) .0
@@ -31,12 +25,6 @@ part-same-start c = span-le _ _ (c .field .result) (c .field .ensures) (c .befor
 
 part-same-end : tie.Need-part-same-end
 part-same-end c = span-le _ _ (c .field .result) (c .field .ensures) (c .before .before .before .before .pre) .1
-
-slice-aggregate-same : tie.Need-slice-aggregate-same
-slice-aggregate-same c = search needs
-
-same-requires : tie.Need-same-requires
-same-requires c κs = search needs
 
 freelock-line-requires : tie.Need-freelock-line-requires
 unfolding bytes
@@ -71,15 +59,6 @@ part-word-of-end c =
     let at-field = c .before .before .before .before in
     span-le _ _ (at-field .field .result) (at-field .field .ensures) (at-field .before .before .before .before .pre) .1
 
-word-of-requires : tie.Need-word-of-requires
-word-of-requires c κs = search needs
-
-enum-known-word : tie.Need-enum-known-word
-enum-known-word c = search needs
-
-enum-told : tie.Need-enum-told
-enum-told c = search needs
-
 returns-3 : tie.Need-returns-3
 unfolding bytes
 returns-3 c =
@@ -100,12 +79,6 @@ last-number-requires c κs =
     let at-pre = at-field .before .before .before .before in
     span-placed _ _ (at-field .field .result) (at-field .field .ensures) (at-pre .pre)
 
-enum-known-v : tie.Need-enum-known-v
-enum-known-v c = search needs
-
-enum-told-2 : tie.Need-enum-told-2
-enum-told-2 c = search needs
-
 returns-4 : tie.Need-returns-4
 unfolding bytes
 returns-4 c =
@@ -121,9 +94,6 @@ returns-4 c =
     (marked _ _ (at-field .field .result) _ _ (at-field .field .ensures) (at-same .same .ensures) ∙ at-if2 .if2 .left) _
     (span-known _ _ (at-field .field .result) (at-field .field .ensures) _ (sym (at-word-of .word-of .ensures) ∙ at-word .word .given .1))
     (subst (TailShown _ _ _) (c .enum-told2 .given .1) (c .before .before .last-number .ensures))
-
-least-of-requires : tie.Need-least-of-requires
-least-of-requires c κs = search needs
 
 returns-5 : tie.Need-returns-5
 unfolding bytes
@@ -145,9 +115,6 @@ returns-5 c =
     _
     (subst (TailShown _ _ _) (at-v .v .given .1) (at-last-number .last-number .ensures))
     (omega (arith, c .if3 .taken, c .before .least-of .ensures))
-
-limit-of-requires : tie.Need-limit-of-requires
-limit-of-requires c κs = search needs
 
 returns-6 : tie.Need-returns-6
 unfolding bytes
@@ -199,30 +166,30 @@ pub step-line-spec : {M : Type 1} → statement M
 step-line-spec =
     tie.close
     (tie.spec
-    at-end-requires
+    (λ c κs. search needs)
     returns
     add-line
-    field-requires
+    (λ c κs. search needs)
     sub-same
     part-same-start
     part-same-end
-    slice-aggregate-same
-    same-requires
+    (λ c. search needs)
+    (λ c κs. search needs)
     freelock-line-requires
     returns-2
     sub-word-of
     part-word-of-start
     part-word-of-end
-    word-of-requires
-    enum-known-word
-    enum-told
+    (λ c κs. search needs)
+    (λ c. search needs)
+    (λ c. search needs)
     returns-3
     last-number-requires
-    enum-known-v
-    enum-told-2
+    (λ c. search needs)
+    (λ c. search needs)
     returns-4
-    least-of-requires
+    (λ c κs. search needs)
     returns-5
-    limit-of-requires
+    (λ c κs. search needs)
     returns-6
     returns-7)

@@ -6,15 +6,6 @@ use Rattle.racedrill.proofs.Seeds.{no-numeral, too-large, given}
 use Rattle.racedrill.proofs.seed.seed_of.Statement.{statement}
 use Rattle.racedrill.proofs.seed.seed_of.Tie as tie
 
-numeral-of-requires : tie.Need-numeral-of-requires
-numeral-of-requires c κs = search needs
-
-enum-known-n : tie.Need-enum-known-n
-enum-known-n c = search needs
-
-enum-told : tie.Need-enum-told
-enum-told c = search needs
-
 returns : tie.Need-returns
 unfolding seedOf
 returns c = no-numeral _ (sym (c .before .before .numeral-of .ensures) ∙ c .enum-told .given .1)
@@ -25,9 +16,6 @@ returns-2 c =
     let read = c .before .before in
     too-large _ _ (sym (read .before .before .numeral-of .ensures) ∙ read .n .given .1) (c .if1 .taken)
 
-cast-seed : tie.Need-cast-seed
-cast-seed c = search needs
-
 returns-3 : tie.Need-returns-3
 unfolding seedOf
 returns-3 c =
@@ -37,4 +25,4 @@ returns-3 c =
 pub seed-of-spec : {M : Type 1} → statement M
 seed-of-spec =
     tie.close
-    (tie.spec numeral-of-requires enum-known-n enum-told returns returns-2 cast-seed returns-3)
+    (tie.spec (λ c κs. search needs) (λ c. search needs) (λ c. search needs) returns returns-2 (λ c. search needs) returns-3)

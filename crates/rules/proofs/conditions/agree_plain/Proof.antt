@@ -10,84 +10,21 @@ use borrow.Author.Needs.{needs}
 use Rattle.rules.proofs.conditions.agree_plain.Statement.{statement}
 use Rattle.rules.proofs.conditions.agree_plain.Tie as tie
 
-enum-told : tie.Need-enum-told
-enum-told c = search needs
-
-enum-told-2 : tie.Need-enum-told-2
-enum-told-2 c = search needs
-
-type-false-requires : tie.Need-type-false-requires
-type-false-requires c κs = search needs
-
 returns : tie.Need-returns
 unfolding linesAgree
 returns c = rw (c .before .before .enum-told .given .1, not-int _ (c .before .match2 .keys2)) (c .type-false .ensures)
-
-enum-told-3 : tie.Need-enum-told-3
-enum-told-3 c = search needs
-
-type-false-requires-2 : tie.Need-type-false-requires-2
-type-false-requires-2 c κs = search needs
-
-enum-known-kind : tie.Need-enum-known-kind
-enum-known-kind c = search needs
-
-enum-known-other : tie.Need-enum-known-other
-enum-known-other c = search needs
-
-type-false-requires-3 : tie.Need-type-false-requires-3
-type-false-requires-3 c κs = search needs
 
 returns-2 : tie.Need-returns-2
 unfolding linesAgree
 returns-2 c = rw (c .before .before .before .kind .given .1, not-lock _ (c .before .match3 .keys2)) (c .type-false3 .ensures)
 
-same-maps-requires : tie.Need-same-maps-requires
-same-maps-requires c κs = search needs
-
-same-maps-requires-2 : tie.Need-same-maps-requires-2
-same-maps-requires-2 c κs = search needs
-
-also-requires : tie.Need-also-requires
-also-requires c κs = search needs
-
-enum-known-kind-2 : tie.Need-enum-known-kind-2
-enum-known-kind-2 c = search needs
-
-enum-known-other-2 : tie.Need-enum-known-other-2
-enum-known-other-2 c = search needs
-
-type-false-requires-4 : tie.Need-type-false-requires-4
-type-false-requires-4 c κs = search needs
-
 returns-3 : tie.Need-returns-3
 unfolding linesAgree
 returns-3 c = rw (c .before .before .before .kind2 .given .1, not-tid _ (c .before .match4 .keys2)) (c .type-false4 .ensures)
 
-same-maps-requires-3 : tie.Need-same-maps-requires-3
-same-maps-requires-3 c κs = search needs
-
-enum-known-kind-3 : tie.Need-enum-known-kind-3
-enum-known-kind-3 c = search needs
-
-enum-known-other-3 : tie.Need-enum-known-other-3
-enum-known-other-3 c = search needs
-
-type-false-requires-5 : tie.Need-type-false-requires-5
-type-false-requires-5 c κs = search needs
-
 returns-4 : tie.Need-returns-4
 unfolding linesAgree
 returns-4 c = rw (c .before .before .before .kind3 .given .1, not-sem _ (c .before .match5 .keys2)) (c .type-false5 .ensures)
-
-same-maps-requires-4 : tie.Need-same-maps-requires-4
-same-maps-requires-4 c κs = search needs
-
-enum-known-kind-4 : tie.Need-enum-known-kind-4
-enum-known-kind-4 c = search needs
-
-agree-rwlock-requires : tie.Need-agree-rwlock-requires
-agree-rwlock-requires c κs = search needs
 
 returns-5 : tie.Need-returns-5
 unfolding linesAgree isInt outcome judge
@@ -120,31 +57,31 @@ pub agree-plain-spec : {M : Type 1} → statement M
 agree-plain-spec =
     tie.close
     (tie.spec
-    enum-told
-    enum-told-2
-    type-false-requires
+    (λ c. search needs)
+    (λ c. search needs)
+    (λ c κs. search needs)
     returns
-    enum-told-3
-    type-false-requires-2
-    enum-known-kind
-    enum-known-other
-    type-false-requires-3
+    (λ c. search needs)
+    (λ c κs. search needs)
+    (λ c. search needs)
+    (λ c. search needs)
+    (λ c κs. search needs)
     returns-2
-    same-maps-requires
-    same-maps-requires-2
-    also-requires
-    enum-known-kind-2
-    enum-known-other-2
-    type-false-requires-4
+    (λ c κs. search needs)
+    (λ c κs. search needs)
+    (λ c κs. search needs)
+    (λ c. search needs)
+    (λ c. search needs)
+    (λ c κs. search needs)
     returns-3
-    same-maps-requires-3
-    enum-known-kind-3
-    enum-known-other-3
-    type-false-requires-5
+    (λ c κs. search needs)
+    (λ c. search needs)
+    (λ c. search needs)
+    (λ c κs. search needs)
     returns-4
-    same-maps-requires-4
-    enum-known-kind-4
-    agree-rwlock-requires
+    (λ c κs. search needs)
+    (λ c. search needs)
+    (λ c κs. search needs)
     returns-5
     returns-6
     returns-7

@@ -5,23 +5,8 @@ use borrow.Author.Needs.{needs}
 use Rattle.rules.proofs.conditions.agree_rwlock.Statement.{statement}
 use Rattle.rules.proofs.conditions.agree_rwlock.Tie as tie
 
-enum-known-other : tie.Need-enum-known-other
-enum-known-other c = search needs
-
-type-false-requires : tie.Need-type-false-requires
-type-false-requires c κs = search needs
-
 returns : tie.Need-returns
 returns c = rw (not-rwlock _ (c .before .match .keys2)) (c .type-false .ensures)
-
-same-maps-requires : tie.Need-same-maps-requires
-same-maps-requires c κs = search needs
-
-same-maps-requires-2 : tie.Need-same-maps-requires-2
-same-maps-requires-2 c κs = search needs
-
-also-requires : tie.Need-also-requires
-also-requires c κs = search needs
 
 returns-2 : tie.Need-returns-2
 unfolding isRwlock readLoad writeLoad
@@ -34,10 +19,10 @@ pub agree-rwlock-spec : {M : Type 1} → statement M
 agree-rwlock-spec =
     tie.close
     (tie.spec
-    enum-known-other
-    type-false-requires
+    (λ c. search needs)
+    (λ c κs. search needs)
     returns
-    same-maps-requires
-    same-maps-requires-2
-    also-requires
+    (λ c κs. search needs)
+    (λ c κs. search needs)
+    (λ c κs. search needs)
     returns-2)

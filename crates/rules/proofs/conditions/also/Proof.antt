@@ -4,12 +4,6 @@ use borrow.Author.Needs.{needs}
 use Rattle.rules.proofs.conditions.also.Statement.{statement}
 use Rattle.rules.proofs.conditions.also.Tie as tie
 
-enum-told : tie.Need-enum-told
-enum-told c = search needs
-
-enum-told-2 : tie.Need-enum-told-2
-enum-told-2 c = search needs
-
 returns : tie.Need-returns
 unfolding outcome both _>>=_
 returns c = search needs
@@ -19,4 +13,4 @@ unfolding outcome both _>>=_
 returns-2 c = search needs
 
 pub also-spec : {M : Type 1} → statement M
-also-spec = tie.close (tie.spec enum-told enum-told-2 returns returns-2)
+also-spec = tie.close (tie.spec (λ c. search needs) (λ c. search needs) returns returns-2)

@@ -7,12 +7,6 @@ use borrow.Author.Needs.{needs}
 use Rattle.rules.proofs.conditions.has.Statement.{statement}
 use Rattle.rules.proofs.conditions.has.Tie as tie
 
-index-requires : tie.Need-index-requires
-index-requires c κs = search needs
-
-map-cell-requires : tie.Need-map-cell-requires
-map-cell-requires c κs = search needs
-
 returns : tie.Need-returns
 unfolding outcome judge
 returns c =
@@ -32,4 +26,4 @@ returns-2 c =
     )
 
 pub has-spec : {M : Type 1} → statement M
-has-spec = tie.close (tie.spec index-requires map-cell-requires returns returns-2)
+has-spec = tie.close (tie.spec (λ c κs. search needs) (λ c κs. search needs) returns returns-2)

@@ -5,38 +5,11 @@ use borrow.Author.Needs.{needs}
 use Rattle.rules.proofs.conditions.may_show.Statement.{statement}
 use Rattle.rules.proofs.conditions.may_show.Tie as tie
 
-type-at-requires : tie.Need-type-at-requires
-type-at-requires c κs = search needs
-
-enum-known-i : tie.Need-enum-known-i
-enum-known-i c = search needs
-
-agree-requires : tie.Need-agree-requires
-agree-requires c κs = search needs
-
 returns : tie.Need-returns
 returns c = judged-as _ _ (c .agree .ensures) (shown-no-lock _ _ _ _ (c .before .before .type-at .ensures) (not-lock _ (c .before .match .keys2)))
 
-type-at-requires-2 : tie.Need-type-at-requires-2
-type-at-requires-2 c κs = search needs
-
-enum-known-j : tie.Need-enum-known-j
-enum-known-j c = search needs
-
-agree-requires-2 : tie.Need-agree-requires-2
-agree-requires-2 c κs = search needs
-
 returns-2 : tie.Need-returns-2
 returns-2 c = judged-as _ _ (c .agree2 .ensures) (own-no-lock _ _ _ _ (c .before .before .type-at2 .ensures) (not-lock _ (c .before .match2 .keys2)))
-
-not-below-requires : tie.Need-not-below-requires
-not-below-requires c κs = search needs
-
-not-below-requires-2 : tie.Need-not-below-requires-2
-not-below-requires-2 c κs = search needs
-
-also-requires : tie.Need-also-requires
-also-requires c κs = search needs
 
 returns-3 : tie.Need-returns-3
 returns-3 c =
@@ -49,15 +22,15 @@ pub may-show-spec : {M : Type 1} → statement M
 may-show-spec =
     tie.close
     (tie.spec
-    type-at-requires
-    enum-known-i
-    agree-requires
+    (λ c κs. search needs)
+    (λ c. search needs)
+    (λ c κs. search needs)
     returns
-    type-at-requires-2
-    enum-known-j
-    agree-requires-2
+    (λ c κs. search needs)
+    (λ c. search needs)
+    (λ c κs. search needs)
     returns-2
-    not-below-requires
-    not-below-requires-2
-    also-requires
+    (λ c κs. search needs)
+    (λ c κs. search needs)
+    (λ c κs. search needs)
     returns-3)

@@ -5,18 +5,6 @@ use borrow.Author.Needs.{needs}
 use Rattle.rules.proofs.conditions.not_below.Statement.{statement}
 use Rattle.rules.proofs.conditions.not_below.Tie as tie
 
-at-least-requires : tie.Need-at-least-requires
-at-least-requires c κs = search needs
-
-enum-told : tie.Need-enum-told
-enum-told c = search needs
-
-enum-told-2 : tie.Need-enum-told-2
-enum-told-2 c = search needs
-
-type-false-requires : tie.Need-type-false-requires
-type-false-requires c κs = search needs
-
 returns : tie.Need-returns
 unfolding notBelowIn
 returns c = flow-refused _ _ _ _ (c .before .before .before .at-least .ensures) (c .before .enum-told2 .given .1) (c .type-false .ensures)
@@ -28,4 +16,4 @@ returns-2 c = flow-met _ _ _ _ (c .before .before .at-least .ensures) (c .enum-t
 pub not-below-spec : {M : Type 1} → statement M
 not-below-spec =
     tie.close
-    (tie.spec at-least-requires enum-told enum-told-2 type-false-requires returns returns-2)
+    (tie.spec (λ c κs. search needs) (λ c. search needs) (λ c. search needs) (λ c κs. search needs) returns returns-2)

@@ -5,18 +5,6 @@ use Rattle.rules.proofs.Agreement.{flow-met, flow-refused}
 use Rattle.rules.proofs.conditions.same_maps.Statement.{statement}
 use Rattle.rules.proofs.conditions.same_maps.Tie as tie
 
-equal-requires : tie.Need-equal-requires
-equal-requires c κs = search needs
-
-enum-told : tie.Need-enum-told
-enum-told c = search needs
-
-enum-told-2 : tie.Need-enum-told-2
-enum-told-2 c = search needs
-
-type-false-requires : tie.Need-type-false-requires
-type-false-requires c κs = search needs
-
 returns : tie.Need-returns
 unfolding sameNumbersIn
 returns c = flow-refused _ _ _ _ (c .before .before .before .equal .ensures) (c .before .enum-told2 .given .1) (c .type-false .ensures)
@@ -27,4 +15,4 @@ returns-2 c = flow-met _ _ _ _ (c .before .before .equal .ensures) (c .enum-told
 
 pub same-maps-spec : {M : Type 1} → statement M
 same-maps-spec =
-    tie.close (tie.spec equal-requires enum-told enum-told-2 type-false-requires returns returns-2)
+    tie.close (tie.spec (λ c κs. search needs) (λ c. search needs) (λ c. search needs) (λ c κs. search needs) returns returns-2)

@@ -2,11 +2,8 @@ use borrow.Author.Needs.{needs}
 use Rattle.rules.proofs.conditions.sum.Statement.{statement}
 use Rattle.rules.proofs.conditions.sum.Tie as tie
 
-flow-requires : tie.Need-flow-requires
-flow-requires c κs = search needs
-
 returns : tie.Need-returns
 returns c = c .flow .ensures
 
 pub sum-spec : {M : Type 1} → statement M
-sum-spec = tie.close (tie.spec flow-requires returns)
+sum-spec = tie.close (tie.spec (λ c κs. search needs) returns)

@@ -6,27 +6,9 @@ use borrow.Author.Needs.{needs}
 use Rattle.rules.proofs.locks.check_lock.Statement.{statement}
 use Rattle.rules.proofs.locks.check_lock.Tie as tie
 
-add-line : tie.Need-add-line
-add-line c = search needs
-
-type-at-requires : tie.Need-type-at-requires
-type-at-requires c κs = search needs
-
-enum-known-load : tie.Need-enum-known-load
-enum-known-load c = search needs
-
 returns : tie.Need-returns
 unfolding outcome
 returns c = no-lock-line _ _ _ (c .before .type-at .ensures) (not-lock _ (c .match .keys2))
-
-at-least-requires : tie.Need-at-least-requires
-at-least-requires c κs = search needs
-
-enum-told : tie.Need-enum-told
-enum-told c = search needs
-
-enum-told-2 : tie.Need-enum-told-2
-enum-told-2 c = search needs
 
 returns-2 : tie.Need-returns-2
 unfolding outcome
@@ -46,12 +28,12 @@ pub check-lock-spec : {M : Type 1} → statement M
 check-lock-spec =
     tie.close
     (tie.spec
-    add-line
-    type-at-requires
-    enum-known-load
+    (λ c. search needs)
+    (λ c κs. search needs)
+    (λ c. search needs)
     returns
-    at-least-requires
-    enum-told
-    enum-told-2
+    (λ c κs. search needs)
+    (λ c. search needs)
+    (λ c. search needs)
     returns-2
     returns-3)

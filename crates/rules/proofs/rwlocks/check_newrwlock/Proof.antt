@@ -6,23 +6,8 @@ use borrow.Author.Needs.{needs}
 use Rattle.rules.proofs.rwlocks.check_newrwlock.Statement.{statement}
 use Rattle.rules.proofs.rwlocks.check_newrwlock.Tie as tie
 
-enum-known-kind : tie.Need-enum-known-kind
-enum-known-kind c = search needs
-
-type-false-requires : tie.Need-type-false-requires
-type-false-requires c κs = search needs
-
 returns : tie.Need-returns
 returns c = fail _ _ _ _ (not-rwlock _ (c .before .match .keys2)) (c .type-false .ensures)
-
-covers-requires : tie.Need-covers-requires
-covers-requires c κs = search needs
-
-sum-requires : tie.Need-sum-requires
-sum-requires c κs = search needs
-
-also-requires : tie.Need-also-requires
-also-requires c κs = search needs
 
 returns-2 : tie.Need-returns-2
 unfolding isRwlock readLoad writeLoad
@@ -36,10 +21,10 @@ pub check-newrwlock-spec : {M : Type 1} → statement M
 check-newrwlock-spec =
     tie.close
     (tie.spec
-    enum-known-kind
-    type-false-requires
+    (λ c. search needs)
+    (λ c κs. search needs)
     returns
-    covers-requires
-    sum-requires
-    also-requires
+    (λ c κs. search needs)
+    (λ c κs. search needs)
+    (λ c κs. search needs)
     returns-2)

@@ -4,24 +4,6 @@ use borrow.Author.Needs.{needs}
 use Rattle.rules.proofs.steps.check_step.Statement.{statement}
 use Rattle.rules.proofs.steps.check_step.Tie as tie
 
-cell-requires : tie.Need-cell-requires
-cell-requires c κs = search needs
-
-rule-of-requires : tie.Need-rule-of-requires
-rule-of-requires c κs = search needs
-
-view-of-requires : tie.Need-view-of-requires
-view-of-requires c κs = search needs
-
-type-at-requires : tie.Need-type-at-requires
-type-at-requires c κs = search needs
-
-type-at-requires-2 : tie.Need-type-at-requires-2
-type-at-requires-2 c κs = search needs
-
-check-rule-requires : tie.Need-check-rule-requires
-check-rule-requires c κs = search needs
-
 returns : tie.Need-returns
 unfolding stepOutcome viewOf
 returns c =
@@ -38,10 +20,10 @@ pub check-step-spec : {M : Type 1} → statement M
 check-step-spec =
     tie.close
     (tie.spec
-    cell-requires
-    rule-of-requires
-    view-of-requires
-    type-at-requires
-    type-at-requires-2
-    check-rule-requires
+    (λ c κs. search needs)
+    (λ c κs. search needs)
+    (λ c κs. search needs)
+    (λ c κs. search needs)
+    (λ c κs. search needs)
+    (λ c κs. search needs)
     returns)

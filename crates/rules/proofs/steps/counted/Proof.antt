@@ -4,21 +4,6 @@ use borrow.Author.Needs.{needs}
 use Rattle.rules.proofs.steps.counted.Statement.{statement}
 use Rattle.rules.proofs.steps.counted.Tie as tie
 
-enum-told : tie.Need-enum-told
-enum-told c = search needs
-
-enum-told-2 : tie.Need-enum-told-2
-enum-told-2 c = search needs
-
-enum-told-3 : tie.Need-enum-told-3
-enum-told-3 c = search needs
-
-enum-known-r : tie.Need-enum-known-r
-enum-known-r c = search needs
-
-on-types-requires : tie.Need-on-types-requires
-on-types-requires c κs = search needs
-
 returns : tie.Need-returns
 unfolding counted
 returns c = rw (c .enum-told .given .1)
@@ -35,11 +20,11 @@ pub counted-spec : {M : Type 1} → statement M
 counted-spec =
     tie.close
     (tie.spec
-    enum-told
-    enum-told-2
-    enum-told-3
-    enum-known-r
-    on-types-requires
+    (λ c. search needs)
+    (λ c. search needs)
+    (λ c. search needs)
+    (λ c. search needs)
+    (λ c κs. search needs)
     returns
     returns-2
     returns-3)

@@ -7,9 +7,6 @@ use borrow.Author.Needs.{needs}
 use Rattle.rules.proofs.steps.on_types.Statement.{statement}
 use Rattle.rules.proofs.steps.on_types.Tie as tie
 
-enum-told : tie.Need-enum-told
-enum-told c = search needs
-
 returns : tie.Need-returns
 unfolding outcome
 returns c = sym (not-on-types _ (c .match .keys2))
@@ -19,4 +16,4 @@ unfolding outcome onTypes returned four
 returns-2 c = rw (c .enum-told .given .1)
 
 pub on-types-spec : {M : Type 1} → statement M
-on-types-spec = tie.close (tie.spec enum-told returns returns-2)
+on-types-spec = tie.close (tie.spec (λ c. search needs) returns returns-2)

@@ -5,62 +5,11 @@ use borrow.Author.Needs.{needs}
 use Rattle.rules.proofs.steps.pass_on.Statement.{statement}
 use Rattle.rules.proofs.steps.pass_on.Tie as tie
 
-view-of-requires : tie.Need-view-of-requires
-view-of-requires c κs = search needs
-
-add-cell : tie.Need-add-cell
-add-cell c = search needs
-
-cell-requires : tie.Need-cell-requires
-cell-requires c κs = search needs
-
-cell-requires-2 : tie.Need-cell-requires-2
-cell-requires-2 c κs = search needs
-
-word-of-requires : tie.Need-word-of-requires
-word-of-requires c κs = search needs
-
-enum-told : tie.Need-enum-told
-enum-told c = search needs
-
-enum-known-u : tie.Need-enum-known-u
-enum-known-u c = search needs
-
-add-put-pre : tie.Need-add-put-pre
-add-put-pre c = search needs
-
-pre-of-part-requires : tie.Need-pre-of-part-requires
-pre-of-part-requires c κs = search needs
-
-put-pre-requires : tie.Need-put-pre-requires
-put-pre-requires c κs = search needs
-
-enum-known-b : tie.Need-enum-known-b
-enum-known-b c = search needs
-
-add-put-pre-2 : tie.Need-add-put-pre-2
-add-put-pre-2 c = search needs
-
-put-pre-requires-2 : tie.Need-put-pre-requires-2
-put-pre-requires-2 c κs = search needs
-
-pre-of-second-requires : tie.Need-pre-of-second-requires
-pre-of-second-requires c κs = search needs
-
-put-pre-requires-3 : tie.Need-put-pre-requires-3
-put-pre-requires-3 c κs = search needs
-
-same-length : tie.Need-same-length
-same-length c = search needs
-
 returns : tie.Need-returns
 unfolding passOn passWord
 returns c =
     rw (sym (c .before .before .word-of .ensures
     ∙ ap wordOf (c .before .before .before .cell2 .ensures)) ∙ c .enum-told .given .1)
-
-same-length-2 : tie.Need-same-length-2
-same-length-2 c = search needs
 
 returns-2 : tie.Need-returns-2
 unfolding passOn passWord viewOf
@@ -73,9 +22,6 @@ returns-2 c =
           ∙ ap wordOf (c .before .before .before .before .before .before .before .before .before .cell2 .ensures))
           ∙ c .before .before .before .before .before .before .u .given .1,
     )
-
-same-length-3 : tie.Need-same-length-3
-same-length-3 c = search needs
 
 returns-3 : tie.Need-returns-3
 unfolding passOn passWord viewOf
@@ -94,24 +40,24 @@ pub pass-on-spec : {M : Type 1} → statement M
 pass-on-spec =
     tie.close
     (tie.spec
-    view-of-requires
-    add-cell
-    cell-requires
-    cell-requires-2
-    word-of-requires
-    enum-told
-    enum-known-u
-    add-put-pre
-    pre-of-part-requires
-    put-pre-requires
-    enum-known-b
-    add-put-pre-2
-    put-pre-requires-2
-    pre-of-second-requires
-    put-pre-requires-3
-    same-length
+    (λ c κs. search needs)
+    (λ c. search needs)
+    (λ c κs. search needs)
+    (λ c κs. search needs)
+    (λ c κs. search needs)
+    (λ c. search needs)
+    (λ c. search needs)
+    (λ c. search needs)
+    (λ c κs. search needs)
+    (λ c κs. search needs)
+    (λ c. search needs)
+    (λ c. search needs)
+    (λ c κs. search needs)
+    (λ c κs. search needs)
+    (λ c κs. search needs)
+    (λ c. search needs)
     returns
-    same-length-2
+    (λ c. search needs)
     returns-2
-    same-length-3
+    (λ c. search needs)
     returns-3)

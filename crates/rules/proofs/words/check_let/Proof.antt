@@ -3,17 +3,8 @@ use borrow.Author.Needs.{needs}
 use Rattle.rules.proofs.words.check_let.Statement.{statement}
 use Rattle.rules.proofs.words.check_let.Tie as tie
 
-agree-requires : tie.Need-agree-requires
-agree-requires c κs = search needs
-
-equal-requires : tie.Need-equal-requires
-equal-requires c κs = search needs
-
-also-requires : tie.Need-also-requires
-also-requires c κs = search needs
-
 returns : tie.Need-returns
 returns c = next _ _ _ _ _ _ (c .also .ensures) (c .before .before .agree .ensures) (last _ _ _ (c .before .equal .ensures))
 
 pub check-let-spec : {M : Type 1} → statement M
-check-let-spec = tie.close (tie.spec agree-requires equal-requires also-requires returns)
+check-let-spec = tie.close (tie.spec (λ c κs. search needs) (λ c κs. search needs) (λ c κs. search needs) returns)

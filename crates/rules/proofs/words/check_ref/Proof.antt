@@ -5,23 +5,8 @@ use borrow.Author.Needs.{needs}
 use Rattle.rules.proofs.words.check_ref.Statement.{statement}
 use Rattle.rules.proofs.words.check_ref.Tie as tie
 
-enum-known-kind : tie.Need-enum-known-kind
-enum-known-kind c = search needs
-
-type-false-requires : tie.Need-type-false-requires
-type-false-requires c κs = search needs
-
 returns : tie.Need-returns
 returns c = fail _ _ _ _ (not-contains _ _ _ _ (c .before .match .keys2)) (c .type-false .ensures)
-
-agree-requires : tie.Need-agree-requires
-agree-requires c κs = search needs
-
-equal-requires : tie.Need-equal-requires
-equal-requires c κs = search needs
-
-also-requires : tie.Need-also-requires
-also-requires c κs = search needs
 
 returns-2 : tie.Need-returns-2
 unfolding containsIn
@@ -34,10 +19,10 @@ pub check-ref-spec : {M : Type 1} → statement M
 check-ref-spec =
     tie.close
     (tie.spec
-    enum-known-kind
-    type-false-requires
+    (λ c. search needs)
+    (λ c κs. search needs)
     returns
-    agree-requires
-    equal-requires
-    also-requires
+    (λ c κs. search needs)
+    (λ c κs. search needs)
+    (λ c κs. search needs)
     returns-2)

@@ -6,23 +6,8 @@ use borrow.Author.Needs.{needs}
 use Rattle.rules.proofs.words.check_while.Statement.{statement}
 use Rattle.rules.proofs.words.check_while.Tie as tie
 
-enum-told : tie.Need-enum-told
-enum-told c = search needs
-
-type-false-requires : tie.Need-type-false-requires
-type-false-requires c κs = search needs
-
 returns : tie.Need-returns
 returns c = fail _ _ _ _ (not-int _ (c .before .match .keys2)) (c .type-false .ensures)
-
-at-least-requires : tie.Need-at-least-requires
-at-least-requires c κs = search needs
-
-at-least-requires-2 : tie.Need-at-least-requires-2
-at-least-requires-2 c κs = search needs
-
-also-requires : tie.Need-also-requires
-also-requires c κs = search needs
 
 returns-2 : tie.Need-returns-2
 unfolding isInt
@@ -35,10 +20,10 @@ pub check-while-spec : {M : Type 1} → statement M
 check-while-spec =
     tie.close
     (tie.spec
-    enum-told
-    type-false-requires
+    (λ c. search needs)
+    (λ c κs. search needs)
     returns
-    at-least-requires
-    at-least-requires-2
-    also-requires
+    (λ c κs. search needs)
+    (λ c κs. search needs)
+    (λ c κs. search needs)
     returns-2)

@@ -7,41 +7,14 @@ use borrow.Author.Needs.{needs}
 use Rattle.rules.proofs.words.check_write.Statement.{statement}
 use Rattle.rules.proofs.words.check_write.Tie as tie
 
-enum-told : tie.Need-enum-told
-enum-told c = search needs
-
-type-false-requires : tie.Need-type-false-requires
-type-false-requires c κs = search needs
-
 returns : tie.Need-returns
 returns c = fail _ _ _ _ (not-int _ (c .before .match .keys2)) (c .type-false .ensures)
-
-enum-known-kind1 : tie.Need-enum-known-kind1
-enum-known-kind1 c = search needs
-
-type-false-requires-2 : tie.Need-type-false-requires-2
-type-false-requires-2 c κs = search needs
 
 returns-2 : tie.Need-returns-2
 unfolding isInt
 returns-2 c =
     pass _ _ _ _ (ap isInt (c .before .before .enum-told .given .1))
     (fail _ _ _ _ (not-ref _ (c .before .match2 .keys2)) (c .type-false2 .ensures))
-
-equal-requires : tie.Need-equal-requires
-equal-requires c κs = search needs
-
-has-requires : tie.Need-has-requires
-has-requires c κs = search needs
-
-also-requires : tie.Need-also-requires
-also-requires c κs = search needs
-
-agree-requires : tie.Need-agree-requires
-agree-requires c κs = search needs
-
-also-requires-2 : tie.Need-also-requires-2
-also-requires-2 c κs = search needs
 
 returns-3 : tie.Need-returns-3
 unfolding isInt isRef place containsIn
@@ -60,15 +33,15 @@ pub check-write-spec : {M : Type 1} → statement M
 check-write-spec =
     tie.close
     (tie.spec
-    enum-told
-    type-false-requires
+    (λ c. search needs)
+    (λ c κs. search needs)
     returns
-    enum-known-kind1
-    type-false-requires-2
+    (λ c. search needs)
+    (λ c κs. search needs)
     returns-2
-    equal-requires
-    has-requires
-    also-requires
-    agree-requires
-    also-requires-2
+    (λ c κs. search needs)
+    (λ c κs. search needs)
+    (λ c κs. search needs)
+    (λ c κs. search needs)
+    (λ c κs. search needs)
     returns-3)

@@ -7,15 +7,6 @@ use borrow.Author.Needs.{needs}
 use Rattle.split.proofs.fields.empty_post.Statement.{statement}
 use Rattle.split.proofs.fields.empty_post.Tie as tie
 
-first-field-requires : tie.Need-first-field-requires
-first-field-requires c κs = search needs
-
-enum-known-from : tie.Need-enum-known-from
-enum-known-from c = search needs
-
-enum-told : tie.Need-enum-told
-enum-told c = search needs
-
 returns : tie.Need-returns
 returns c =
     let first-field = c .before .before in
@@ -26,15 +17,6 @@ returns-2 c =
     let from = c .before .before in
     let first-field = from .before .before in
     post-empty _ _ _ _ _ (subst (HeadAnswer _ _) (from .from .given .1) (first-field .first-field .ensures)) (c .if1 .taken)
-
-leading-number-requires : tie.Need-leading-number-requires
-leading-number-requires c κs = search needs
-
-enum-known-behind : tie.Need-enum-known-behind
-enum-known-behind c = search needs
-
-enum-told-2 : tie.Need-enum-told-2
-enum-told-2 c = search needs
 
 returns-3 : tie.Need-returns-3
 returns-3 c =
@@ -54,13 +36,13 @@ pub empty-post-spec : {M : Type 1} → statement M
 empty-post-spec =
     tie.close
     (tie.spec
-    first-field-requires
-    enum-known-from
-    enum-told
+    (λ c κs. search needs)
+    (λ c. search needs)
+    (λ c. search needs)
     returns
     returns-2
-    leading-number-requires
-    enum-known-behind
-    enum-told-2
+    (λ c κs. search needs)
+    (λ c. search needs)
+    (λ c. search needs)
     returns-3
     returns-4)

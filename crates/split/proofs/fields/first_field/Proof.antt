@@ -5,18 +5,6 @@ use Rattle.split.proofs.FieldLaws.{ends-apart, comma-text, head-field, 
 use Rattle.split.proofs.fields.first_field.Statement.{statement}
 use Rattle.split.proofs.fields.first_field.Tie as tie
 
-field-requires : tie.Need-field-requires
-field-requires c κs = search needs
-
-enum-told : tie.Need-enum-told
-enum-told c = search needs
-
-enum-told-2 : tie.Need-enum-told-2
-enum-told-2 c = search needs
-
-enum-told-3 : tie.Need-enum-told-3
-enum-told-3 c = search needs
-
 returns : tie.Need-returns
 returns c =
     let field = c .before .before .before in
@@ -36,4 +24,4 @@ returns-3 c =
 pub first-field-spec : {M : Type 1} → statement M
 first-field-spec =
     tie.close
-    (tie.spec field-requires enum-told enum-told-2 enum-told-3 returns returns-2 returns-3)
+    (tie.spec (λ c κs. search needs) (λ c. search needs) (λ c. search needs) (λ c. search needs) returns returns-2 returns-3)

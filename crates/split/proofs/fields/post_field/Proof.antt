@@ -6,18 +6,6 @@ use borrow.Author.Needs.{needs}
 use Rattle.split.proofs.fields.post_field.Statement.{statement}
 use Rattle.split.proofs.fields.post_field.Tie as tie
 
-enum-told : tie.Need-enum-told
-enum-told c = search needs
-
-leading-number-requires : tie.Need-leading-number-requires
-leading-number-requires c κs = search needs
-
-enum-told-2 : tie.Need-enum-told-2
-enum-told-2 c = search needs
-
-empty-post-requires : tie.Need-empty-post-requires
-empty-post-requires c κs = search needs
-
 returns : tie.Need-returns
 returns c =
     let told = c .before in
@@ -35,4 +23,4 @@ returns-2 c =
 pub post-field-spec : {M : Type 1} → statement M
 post-field-spec =
     tie.close
-    (tie.spec enum-told leading-number-requires enum-told-2 empty-post-requires returns returns-2)
+    (tie.spec (λ c. search needs) (λ c κs. search needs) (λ c. search needs) (λ c κs. search needs) returns returns-2)

@@ -7,15 +7,6 @@ use Rattle.split.proofs.FieldLaws.{ends-apart, newline-text, other-end,
 use Rattle.split.proofs.fields.start_field.Statement.{statement}
 use Rattle.split.proofs.fields.start_field.Tie as tie
 
-field-requires : tie.Need-field-requires
-field-requires c κs = search needs
-
-enum-told : tie.Need-enum-told
-enum-told c = search needs
-
-enum-told-2 : tie.Need-enum-told-2
-enum-told-2 c = search needs
-
 returns : tie.Need-returns
 returns c =
     let enum-told2 = c .before in
@@ -42,21 +33,6 @@ part-numeral-of-end c =
     let entry = field .before .before in
     let bounds = span-le _ _ (field .field .result) (field .field .ensures) (entry .pre .placed) in
     bounds .1
-
-numeral-of-requires : tie.Need-numeral-of-requires
-numeral-of-requires c κs = search needs
-
-enum-known-found : tie.Need-enum-known-found
-enum-known-found c = search needs
-
-narrow-requires : tie.Need-narrow-requires
-narrow-requires c κs = search needs
-
-enum-told-3 : tie.Need-enum-told-3
-enum-told-3 c = search needs
-
-enum-told-4 : tie.Need-enum-told-4
-enum-told-4 c = search needs
 
 returns-2 : tie.Need-returns-2
 returns-2 c =
@@ -88,18 +64,18 @@ pub start-field-spec : {M : Type 1} → statement M
 start-field-spec =
     tie.close
     (tie.spec
-    field-requires
-    enum-told
-    enum-told-2
+    (λ c κs. search needs)
+    (λ c. search needs)
+    (λ c. search needs)
     returns
     sub-numeral-of
     part-numeral-of-start
     part-numeral-of-end
-    numeral-of-requires
-    enum-known-found
-    narrow-requires
-    enum-told-3
-    enum-told-4
+    (λ c κs. search needs)
+    (λ c. search needs)
+    (λ c κs. search needs)
+    (λ c. search needs)
+    (λ c. search needs)
     returns-2
     returns-3
     returns-4

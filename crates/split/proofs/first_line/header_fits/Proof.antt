@@ -9,15 +9,6 @@ use borrow.Author.Needs.{needs}
 use Rattle.split.proofs.first_line.header_fits.Statement.{statement}
 use Rattle.split.proofs.first_line.header_fits.Tie as tie
 
-index-requires : tie.Need-index-requires
-index-requires c κs = search needs
-
-index-requires-2 : tie.Need-index-requires-2
-index-requires-2 c κs = search needs
-
-within-requires : tie.Need-within-requires
-within-requires c κs = search needs
-
 returns : tie.Need-returns
 unfolding headerFits headerTold headerRanges
 returns c =
@@ -25,9 +16,6 @@ returns c =
     let index2 = within .before in
     let index = index2 .before in
     range-out _ _ _ _ (range-index 1 (index2 .index2 .ensures .0) (index .index .ensures .0) (within .within .ensures) ∙ not-true _ (c .if1 .taken))
-
-within-requires-2 : tie.Need-within-requires-2
-within-requires-2 c κs = search needs
 
 returns-2 : tie.Need-returns-2
 unfolding headerFits headerTold headerRanges
@@ -39,9 +27,6 @@ returns-2 c =
     let index = index2 .before in
     let in1 = range-index 1 (index2 .index2 .ensures .0) (index .index .ensures .0) (within .within .ensures) ∙ not-false _ (else1 .if1 .left) in
     range-next _ _ _ _ in1 (range-out _ _ _ _ (sym (within2 .within2 .ensures) ∙ not-true _ (c .if2 .taken)))
-
-within-requires-3 : tie.Need-within-requires-3
-within-requires-3 c κs = search needs
 
 returns-3 : tie.Need-returns-3
 unfolding headerFits headerTold headerRanges
@@ -56,9 +41,6 @@ returns-3 c =
     let in1 = range-index 1 (index2 .index2 .ensures .0) (index .index .ensures .0) (within .within .ensures) ∙ not-false _ (else1 .if1 .left) in
     let in2 = sym (within2 .within2 .ensures) ∙ not-false _ (else2 .if2 .left) in
     range-next _ _ _ _ in1 (range-next _ _ _ _ in2 (range-out _ _ _ _ (sym (within3 .within3 .ensures) ∙ not-true _ (c .if3 .taken))))
-
-within-requires-4 : tie.Need-within-requires-4
-within-requires-4 c κs = search needs
 
 returns-4 : tie.Need-returns-4
 unfolding headerFits headerTold headerRanges
@@ -76,9 +58,6 @@ returns-4 c =
     let in2 = sym (within2 .within2 .ensures) ∙ not-false _ (else2 .if2 .left) in
     let in3 = sym (within3 .within3 .ensures) ∙ not-false _ (else3 .if3 .left) in
     range-next _ _ _ _ in1 (range-next _ _ _ _ in2 (range-next _ _ _ _ in3 (range-out _ _ _ _ (sym (within4 .within4 .ensures) ∙ not-true _ (c .if4 .taken)))))
-
-index-requires-3 : tie.Need-index-requires-3
-index-requires-3 c κs = search needs
 
 returns-5 : tie.Need-returns-5
 unfolding headerFits headerTold headerRanges
@@ -104,15 +83,15 @@ pub header-fits-spec : {M : Type 1} → statement M
 header-fits-spec =
     tie.close
     (tie.spec
-    index-requires
-    index-requires-2
-    within-requires
+    (λ c κs. search needs)
+    (λ c κs. search needs)
+    (λ c κs. search needs)
     returns
-    within-requires-2
+    (λ c κs. search needs)
     returns-2
-    within-requires-3
+    (λ c κs. search needs)
     returns-3
-    within-requires-4
+    (λ c κs. search needs)
     returns-4
-    index-requires-3
+    (λ c κs. search needs)
     returns-5)

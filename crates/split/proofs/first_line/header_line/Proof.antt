@@ -12,18 +12,6 @@ use borrow.Author.Needs.{needs}
 use Rattle.split.proofs.first_line.header_line.Statement.{statement}
 use Rattle.split.proofs.first_line.header_line.Tie as tie
 
-add-line : tie.Need-add-line
-add-line c = search needs
-
-first-field-requires : tie.Need-first-field-requires
-first-field-requires c κs = search needs
-
-enum-known-from : tie.Need-enum-known-from
-enum-known-from c = search needs
-
-enum-told : tie.Need-enum-told
-enum-told c = search needs
-
 returns : tie.Need-returns
 returns c =
     let first-field = c .before .before in
@@ -55,15 +43,6 @@ part-heading-of-end c =
     let head = subst (HeadAnswer (entry .args .text .now) (entry .args .cursor)) (from .from .given .1) (first-field .first-field .ensures) in
     head .1
 
-heading-of-requires : tie.Need-heading-of-requires
-heading-of-requires c κs = search needs
-
-enum-known-heading : tie.Need-enum-known-heading
-enum-known-heading c = search needs
-
-enum-told-2 : tie.Need-enum-told-2
-enum-told-2 c = search needs
-
 returns-2 : tie.Need-returns-2
 returns-2 c =
     let heading-of = c .before .before in
@@ -83,12 +62,6 @@ header-numbers-requires c κs =
     let head = subst (HeadAnswer (entry .args .text .now) (entry .args .cursor)) (from .from .given .1) (first-field .first-field .ensures) in
     record { placed = comma-placed _ _ _ (entry .pre .0 .placed) (head .3) (head .4); fits = entry .pre .0 .fits }
 
-enum-known-header : tie.Need-enum-known-header
-enum-known-header c = search needs
-
-enum-told-3 : tie.Need-enum-told-3
-enum-told-3 c = search needs
-
 returns-3 : tie.Need-returns-3
 returns-3 c =
     let header-numbers = c .before .before in
@@ -102,9 +75,6 @@ returns-3 c =
     let known = ap (lookUp (headings (entry .args .purpose))) (sym (head .2)) ∙ heading-known _ _ (sym (heading-of .heading-of .ensures) ∙ heading .heading .given .1) in
     let answer = subst (NumbersAnswer (entry .args .text .now) _ _) (c .enum-told3 .given .1) (header-numbers .header-numbers .ensures) in
     header-form (entry .args .purpose) (entry .args .text .now) (entry .args .cursor) left (entry .pre .0 .placed) (head .3) _ (head .4) _ known answer
-
-header-fits-requires : tie.Need-header-fits-requires
-header-fits-requires c κs = search needs
 
 returns-4 : tie.Need-returns-4
 returns-4 c =
@@ -143,22 +113,22 @@ pub header-line-spec : {M : Type 1} → statement M
 header-line-spec =
     tie.close
     (tie.spec
-    add-line
-    first-field-requires
-    enum-known-from
-    enum-told
+    (λ c. search needs)
+    (λ c κs. search needs)
+    (λ c. search needs)
+    (λ c. search needs)
     returns
     sub-heading-of
     part-heading-of-start
     part-heading-of-end
-    heading-of-requires
-    enum-known-heading
-    enum-told-2
+    (λ c κs. search needs)
+    (λ c. search needs)
+    (λ c. search needs)
     returns-2
     header-numbers-requires
-    enum-known-header
-    enum-told-3
+    (λ c. search needs)
+    (λ c. search needs)
     returns-3
-    header-fits-requires
+    (λ c κs. search needs)
     returns-4
     returns-5)

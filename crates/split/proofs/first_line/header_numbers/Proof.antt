@@ -8,9 +8,6 @@ use borrow.Author.Needs.{needs}
 use Rattle.split.proofs.first_line.header_numbers.Statement.{statement}
 use Rattle.split.proofs.first_line.header_numbers.Tie as tie
 
-numerals-of-requires : tie.Need-numerals-of-requires
-numerals-of-requires c κs = search needs
-
 array-borrow-prefix-found : tie.Need-array-borrow-prefix-found
 array-borrow-prefix-found c = omega (arith, c .numerals-of .ensures, few-numerals (c .before .before .args .heading))
 
@@ -19,15 +16,6 @@ slice-aggregate-numbers c =
     let entry = c .before .before .before in
     sym (places-lent (entry .args .heading) _ (c .before .numerals-of .ensures))
 
-numbers-requires : tie.Need-numbers-requires
-numbers-requires c κs = search needs
-
-enum-known-read : tie.Need-enum-known-read
-enum-known-read c = search needs
-
-enum-told : tie.Need-enum-told
-enum-told c = search needs
-
 returns : tie.Need-returns
 returns c =
     let numbers = c .before .before .before in
@@ -35,30 +23,6 @@ returns c =
     let numerals-of = numbers .before .before in
     let count = numerals-of .numerals-of .ensures in
     numbers-none (numbers .numbers .ensures) (numeralsOf (entry .args .heading)) (places-lent _ _ count ∙ count) (c .enum-told .given .1) .0
-
-array-read-t13 : tie.Need-array-read-t13
-array-read-t13 c = search needs
-
-array-read-index : tie.Need-array-read-index
-array-read-index c = search needs
-
-index-requires : tie.Need-index-requires
-index-requires c κs = search needs
-
-array-read-index-2 : tie.Need-array-read-index-2
-array-read-index-2 c = search needs
-
-index-requires-2 : tie.Need-index-requires-2
-index-requires-2 c κs = search needs
-
-array-read-index-3 : tie.Need-array-read-index-3
-array-read-index-3 c = search needs
-
-index-requires-3 : tie.Need-index-requires-3
-index-requires-3 c κs = search needs
-
-array-read-t28 : tie.Need-array-read-t28
-array-read-t28 c = search needs
 
 returns-2 : tie.Need-returns-2
 returns-2 c =
@@ -77,19 +41,19 @@ pub header-numbers-spec : {M : Type 1} → statement M
 header-numbers-spec =
     tie.close
     (tie.spec
-    numerals-of-requires
+    (λ c κs. search needs)
     array-borrow-prefix-found
     slice-aggregate-numbers
-    numbers-requires
-    enum-known-read
-    enum-told
+    (λ c κs. search needs)
+    (λ c. search needs)
+    (λ c. search needs)
     returns
-    array-read-t13
-    array-read-index
-    index-requires
-    array-read-index-2
-    index-requires-2
-    array-read-index-3
-    index-requires-3
-    array-read-t28
+    (λ c. search needs)
+    (λ c. search needs)
+    (λ c κs. search needs)
+    (λ c. search needs)
+    (λ c κs. search needs)
+    (λ c. search needs)
+    (λ c κs. search needs)
+    (λ c. search needs)
     returns-2)

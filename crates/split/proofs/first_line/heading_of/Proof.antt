@@ -6,18 +6,6 @@ use borrow.Author.Needs.{needs}
 use Rattle.split.proofs.first_line.heading_of.Statement.{statement}
 use Rattle.split.proofs.first_line.heading_of.Tie as tie
 
-slice-aggregate-same : tie.Need-slice-aggregate-same
-slice-aggregate-same c = search needs
-
-same-requires : tie.Need-same-requires
-same-requires c κs = search needs
-
-enum-told : tie.Need-enum-told
-enum-told c = search needs
-
-enum-told-2 : tie.Need-enum-told-2
-enum-told-2 c = search needs
-
 returns : tie.Need-returns
 unfolding bytes
 returns c =
@@ -30,23 +18,11 @@ returns-2 c =
     let c1 = c .before .before in
     first-refused _ _ (sym (c1 .before .same .ensures) ∙ c1 .if1 .taken) (c .enum-told2 .given .1)
 
-slice-aggregate-same-2 : tie.Need-slice-aggregate-same-2
-slice-aggregate-same-2 c = search needs
-
-same-requires-2 : tie.Need-same-requires-2
-same-requires-2 c κs = search needs
-
 returns-3 : tie.Need-returns-3
 unfolding bytes
 returns-3 c =
     let c1 = c .before .before .before in
     second-heading _ _ (sym (c1 .before .same .ensures) ∙ c1 .if1 .left) (sym (c .before .same2 .ensures) ∙ c .if2 .taken)
-
-slice-aggregate-same-3 : tie.Need-slice-aggregate-same-3
-slice-aggregate-same-3 c = search needs
-
-same-requires-3 : tie.Need-same-requires-3
-same-requires-3 c κs = search needs
 
 returns-4 : tie.Need-returns-4
 unfolding bytes
@@ -68,16 +44,16 @@ pub heading-of-spec : {M : Type 1} → statement M
 heading-of-spec =
     tie.close
     (tie.spec
-    slice-aggregate-same
-    same-requires
-    enum-told
-    enum-told-2
+    (λ c. search needs)
+    (λ c κs. search needs)
+    (λ c. search needs)
+    (λ c. search needs)
     returns
     returns-2
-    slice-aggregate-same-2
-    same-requires-2
+    (λ c. search needs)
+    (λ c κs. search needs)
     returns-3
-    slice-aggregate-same-3
-    same-requires-3
+    (λ c. search needs)
+    (λ c κs. search needs)
     returns-4
     returns-5)

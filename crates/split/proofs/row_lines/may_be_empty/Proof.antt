@@ -3,18 +3,6 @@ use borrow.Author.Needs.{needs}
 use Rattle.split.proofs.row_lines.may_be_empty.Statement.{statement}
 use Rattle.split.proofs.row_lines.may_be_empty.Tie as tie
 
-enum-told : tie.Need-enum-told
-enum-told c = search needs
-
-takes-start-requires : tie.Need-takes-start-requires
-takes-start-requires c κs = search needs
-
-enum-told-2 : tie.Need-enum-told-2
-enum-told-2 c = search needs
-
-enum-told-3 : tie.Need-enum-told-3
-enum-told-3 c = search needs
-
 returns : tie.Need-returns
 returns c = start-asked _ _ (c .before .enum-told .given .1) (c .takes-start .ensures)
 
@@ -26,4 +14,4 @@ returns-3 c = start-not-asked-3 _ _ (c .enum-told3 .given .1)
 
 pub may-be-empty-spec : {M : Type 1} → statement M
 may-be-empty-spec =
-    tie.close (tie.spec enum-told takes-start-requires enum-told-2 enum-told-3 returns returns-2 returns-3)
+    tie.close (tie.spec (λ c. search needs) (λ c κs. search needs) (λ c. search needs) (λ c. search needs) returns returns-2 returns-3)

@@ -10,25 +10,10 @@ use Rattle.split.proofs.RowLaws.{row-first, second-placed, row-second, 
 use Rattle.split.proofs.row_lines.row_line.Statement.{statement}
 use Rattle.split.proofs.row_lines.row_line.Tie as tie
 
-at-end-requires : tie.Need-at-end-requires
-at-end-requires c κs = search needs
-
 returns : tie.Need-returns
 returns c =
     let at-end = c .before in
     line-missing _ _ _ (sym (at-end .at-end .ensures) ∙ c .if1 .taken)
-
-add-line : tie.Need-add-line
-add-line c = search needs
-
-leading-number-requires : tie.Need-leading-number-requires
-leading-number-requires c κs = search needs
-
-enum-known-typed : tie.Need-enum-known-typed
-enum-known-typed c = search needs
-
-enum-told : tie.Need-enum-told
-enum-told c = search needs
 
 returns-2 : tie.Need-returns-2
 returns-2 c =
@@ -49,12 +34,6 @@ post-field-requires c κs =
     let left = left-some (rest (entry .args .text .now) (entry .args .cursor)) (sym (at-end .at-end .ensures) ∙ else1 .if1 .left) in
     let type = subst (LeadingAnswer (entry .args .text .now) (entry .args .cursor)) (typed .typed .given .1) (leading-number .leading-number .ensures) in
     record { placed = second-placed (entry .args .purpose) (headerTold (entry .args .header)) (entry .args .word) (entry .args .text .now) (entry .args .cursor) (entry .pre .0 .placed) left _ (typed .typed .given .0 .1 .0) type; fits = entry .pre .0 .fits }
-
-enum-known-post : tie.Need-enum-known-post
-enum-known-post c = search needs
-
-enum-told-2 : tie.Need-enum-told-2
-enum-told-2 c = search needs
 
 returns-3 : tie.Need-returns-3
 returns-3 c =
@@ -81,27 +60,6 @@ start-field-requires c κs =
     let type = subst (LeadingAnswer (entry .args .text .now) (entry .args .cursor)) (typed .typed .given .1) (leading-number .leading-number .ensures) in
     let map = subst (PostAnswer (entry .args .purpose) (entry .args .text .now) (typed .typed .given .0 .1 .0)) (post .post .given .1) (post-field .post-field .ensures) in
     record { placed = third-placed (entry .args .purpose) (headerTold (entry .args .header)) (entry .args .word) (entry .args .text .now) (entry .args .cursor) (entry .pre .0 .placed) left _ (typed .typed .given .0 .1 .0) type _ (post .post .given .0 .1 .0) map; fits = entry .pre .0 .fits }
-
-enum-known-start : tie.Need-enum-known-start
-enum-known-start c = search needs
-
-row-with-requires : tie.Need-row-with-requires
-row-with-requires c κs = search needs
-
-row-of-requires : tie.Need-row-of-requires
-row-of-requires c κs = search needs
-
-enum-known-start-2 : tie.Need-enum-known-start-2
-enum-known-start-2 c = search needs
-
-row-with-requires-2 : tie.Need-row-with-requires-2
-row-with-requires-2 c κs = search needs
-
-row-of-requires-2 : tie.Need-row-of-requires-2
-row-of-requires-2 c κs = search needs
-
-enum-told-3 : tie.Need-enum-told-3
-enum-told-3 c = search needs
 
 returns-4 : tie.Need-returns-4
 unfolding headerTold
@@ -160,25 +118,25 @@ pub row-line-spec : {M : Type 1} → statement M
 row-line-spec =
     tie.close
     (tie.spec
-    at-end-requires
+    (λ c κs. search needs)
     returns
-    add-line
-    leading-number-requires
-    enum-known-typed
-    enum-told
+    (λ c. search needs)
+    (λ c κs. search needs)
+    (λ c. search needs)
+    (λ c. search needs)
     returns-2
     post-field-requires
-    enum-known-post
-    enum-told-2
+    (λ c. search needs)
+    (λ c. search needs)
     returns-3
     start-field-requires
-    enum-known-start
-    row-with-requires
-    row-of-requires
-    enum-known-start-2
-    row-with-requires-2
-    row-of-requires-2
-    enum-told-3
+    (λ c. search needs)
+    (λ c κs. search needs)
+    (λ c κs. search needs)
+    (λ c. search needs)
+    (λ c κs. search needs)
+    (λ c κs. search needs)
+    (λ c. search needs)
     returns-4
     returns-5
     returns-6)

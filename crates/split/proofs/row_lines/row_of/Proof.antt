@@ -10,24 +10,12 @@ use borrow.Author.Needs.{needs}
 use Rattle.split.proofs.row_lines.row_of.Statement.{statement}
 use Rattle.split.proofs.row_lines.row_of.Tie as tie
 
-both-below-requires : tie.Need-both-below-requires
-both-below-requires c κs = search needs
-
 returns : tie.Need-returns
 unfolding headerTold startRange
 returns c =
     let both-below = c .before in
     let entry = both-below .before .before .before in
     row-out _ (entry .args .row) (entry .args .word) (headerTold (entry .args .header)) _ (sym (both-below .both-below .ensures) ∙ not-true _ (c .if1 .taken))
-
-enum-known-start : tie.Need-enum-known-start
-enum-known-start c = search needs
-
-start-limit-requires : tie.Need-start-limit-requires
-start-limit-requires c κs = search needs
-
-index-requires : tie.Need-index-requires
-index-requires c κs = search needs
 
 returns-2 : tie.Need-returns-2
 unfolding headerTold startRange
@@ -43,9 +31,6 @@ returns-2 c =
 
 enum-told : tie.Need-enum-told
 enum-told c = search needs
-
-may-be-empty-requires : tie.Need-may-be-empty-requires
-may-be-empty-requires c κs = search needs
 
 returns-3 : tie.Need-returns-3
 unfolding headerTold startRange
@@ -85,14 +70,14 @@ pub row-of-spec : {M : Type 1} → statement M
 row-of-spec =
     tie.close
     (tie.spec
-    both-below-requires
+    (λ c κs. search needs)
     returns
-    enum-known-start
-    start-limit-requires
-    index-requires
+    (λ c. search needs)
+    (λ c κs. search needs)
+    (λ c κs. search needs)
     returns-2
     enum-told
-    may-be-empty-requires
+    (λ c κs. search needs)
     returns-3
     returns-4
     returns-5)

@@ -4,9 +4,6 @@ use borrow.Author.Needs.{needs}
 use Rattle.split.proofs.row_lines.start_limit.Statement.{statement}
 use Rattle.split.proofs.row_lines.start_limit.Tie as tie
 
-takes-start-requires : tie.Need-takes-start-requires
-takes-start-requires c κs = search needs
-
 returns : tie.Need-returns
 returns c = limit-all _ _ (sym (c .before .takes-start .ensures) ∙ c .if1 .taken)
 
@@ -14,4 +11,4 @@ returns-2 : tie.Need-returns-2
 returns-2 c = limit-none _ _ (sym (c .before .takes-start .ensures) ∙ c .if1 .left)
 
 pub start-limit-spec : {M : Type 1} → statement M
-start-limit-spec = tie.close (tie.spec takes-start-requires returns returns-2)
+start-limit-spec = tie.close (tie.spec (λ c κs. search needs) returns returns-2)

@@ -4,12 +4,6 @@ use borrow.Author.Needs.{needs}
 use Rattle.split.proofs.row_lines.start_number.Statement.{statement}
 use Rattle.split.proofs.row_lines.start_number.Tie as tie
 
-enum-known-start : tie.Need-enum-known-start
-enum-known-start c = search needs
-
-enum-told : tie.Need-enum-told
-enum-told c = search needs
-
 returns : tie.Need-returns
 unfolding startNumber startTold
 returns c = search needs
@@ -19,4 +13,4 @@ unfolding startNumber startTold
 returns-2 c = search needs
 
 pub start-number-spec : {M : Type 1} → statement M
-start-number-spec = tie.close (tie.spec enum-known-start enum-told returns returns-2)
+start-number-spec = tie.close (tie.spec (λ c. search needs) (λ c. search needs) returns returns-2)

@@ -4,38 +4,11 @@ use borrow.Author.Needs.{needs}
 use Rattle.split.proofs.row_lines.store_row.Statement.{statement}
 use Rattle.split.proofs.row_lines.store_row.Tie as tie
 
-start-number-requires : tie.Need-start-number-requires
-start-number-requires c κs = search needs
-
-add-work : tie.Need-add-work
-add-work c = search needs
-
-mul-work : tie.Need-mul-work
-mul-work c = search needs
-
-slice-write-work : tie.Need-slice-write-work
-slice-write-work c = search needs
-
-add-work-2 : tie.Need-add-work-2
-add-work-2 c = search needs
-
-mul-work-2 : tie.Need-mul-work-2
-mul-work-2 c = search needs
-
 slice-write-work-2 : tie.Need-slice-write-work-2
 slice-write-work-2 c = simp length-set (omega arith)
 
-add-work-3 : tie.Need-add-work-3
-add-work-3 c = search needs
-
-mul-work-3 : tie.Need-mul-work-3
-mul-work-3 c = search needs
-
 slice-write-work-3 : tie.Need-slice-write-work-3
 slice-write-work-3 c = simp length-set (omega arith)
-
-same-length : tie.Need-same-length
-same-length c = search needs
 
 returns : tie.Need-returns
 returns c = rw (c .start-number .ensures)
@@ -44,15 +17,15 @@ pub store-row-spec : {M : Type 1} → statement M
 store-row-spec =
     tie.close
     (tie.spec
-    start-number-requires
-    add-work
-    mul-work
-    slice-write-work
-    add-work-2
-    mul-work-2
+    (λ c κs. search needs)
+    (λ c. search needs)
+    (λ c. search needs)
+    (λ c. search needs)
+    (λ c. search needs)
+    (λ c. search needs)
     slice-write-work-2
-    add-work-3
-    mul-work-3
+    (λ c. search needs)
+    (λ c. search needs)
     slice-write-work-3
-    same-length
+    (λ c. search needs)
     returns)

@@ -3,27 +3,6 @@ use borrow.Author.Needs.{needs}
 use Rattle.split.proofs.row_lines.takes_start.Statement.{statement}
 use Rattle.split.proofs.row_lines.takes_start.Tie as tie
 
-enum-told : tie.Need-enum-told
-enum-told c = search needs
-
-enum-told-2 : tie.Need-enum-told-2
-enum-told-2 c = search needs
-
-enum-known-word : tie.Need-enum-known-word
-enum-known-word c = search needs
-
-enum-told-3 : tie.Need-enum-told-3
-enum-told-3 c = search needs
-
-enum-told-4 : tie.Need-enum-told-4
-enum-told-4 c = search needs
-
-enum-told-5 : tie.Need-enum-told-5
-enum-told-5 c = search needs
-
-enum-told-6 : tie.Need-enum-told-6
-enum-told-6 c = search needs
-
 returns : tie.Need-returns
 unfolding takesStart
 returns c = search needs
@@ -52,13 +31,13 @@ pub takes-start-spec : {M : Type 1} → statement M
 takes-start-spec =
     tie.close
     (tie.spec
-    enum-told
-    enum-told-2
-    enum-known-word
-    enum-told-3
-    enum-told-4
-    enum-told-5
-    enum-told-6
+    (λ c. search needs)
+    (λ c. search needs)
+    (λ c. search needs)
+    (λ c. search needs)
+    (λ c. search needs)
+    (λ c. search needs)
+    (λ c. search needs)
     returns
     returns-2
     returns-3

@@ -6,24 +6,6 @@ use borrow.Author.Needs.{needs}
 use Rattle.split.proofs.type_lines.lock_of.Statement.{statement}
 use Rattle.split.proofs.type_lines.lock_of.Tie as tie
 
-enum-told : tie.Need-enum-told
-enum-told c = search needs
-
-older-lock-requires : tie.Need-older-lock-requires
-older-lock-requires c κs = search needs
-
-enum-told-2 : tie.Need-enum-told-2
-enum-told-2 c = search needs
-
-older-lock-requires-2 : tie.Need-older-lock-requires-2
-older-lock-requires-2 c κs = search needs
-
-enum-told-3 : tie.Need-enum-told-3
-enum-told-3 c = search needs
-
-ranged-type-requires : tie.Need-ranged-type-requires
-ranged-type-requires c κs = search needs
-
 returns : tie.Need-returns
 returns c = first-older _ _ _ _ (c .before .enum-told .given .1) (c .older-lock .ensures)
 
@@ -38,12 +20,12 @@ pub lock-of-spec : {M : Type 1} → statement M
 lock-of-spec =
     tie.close
     (tie.spec
-    enum-told
-    older-lock-requires
-    enum-told-2
-    older-lock-requires-2
-    enum-told-3
-    ranged-type-requires
+    (λ c. search needs)
+    (λ c κs. search needs)
+    (λ c. search needs)
+    (λ c κs. search needs)
+    (λ c. search needs)
+    (λ c κs. search needs)
     returns
     returns-2
     returns-3)

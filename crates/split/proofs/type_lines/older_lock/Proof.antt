@@ -6,12 +6,9 @@ use borrow.Author.Needs.{needs}
 use Rattle.split.proofs.type_lines.older_lock.Statement.{statement}
 use Rattle.split.proofs.type_lines.older_lock.Tie as tie
 
-ranged-type-requires : tie.Need-ranged-type-requires
-ranged-type-requires c κs = search needs
-
 returns : tie.Need-returns
 unfolding lockOf rangedType
 returns c = c .ranged-type .ensures ∙ sym (older-seen _ _ _)
 
 pub older-lock-spec : {M : Type 1} → statement M
-older-lock-spec = tie.close (tie.spec ranged-type-requires returns)
+older-lock-spec = tie.close (tie.spec (λ c κs. search needs) returns)

@@ -4,9 +4,6 @@ use borrow.Author.Needs.{needs}
 use Rattle.split.proofs.type_lines.ranged_type.Statement.{statement}
 use Rattle.split.proofs.type_lines.ranged_type.Tie as tie
 
-both-below-requires : tie.Need-both-below-requires
-both-below-requires c κs = search needs
-
 returns : tie.Need-returns
 returns c = seen-in _ _ _ refl (sym (c .before .both-below .ensures) ∙ c .if1 .taken)
 
@@ -14,4 +11,4 @@ returns-2 : tie.Need-returns-2
 returns-2 c = seen-out _ _ _ refl (sym (c .before .both-below .ensures) ∙ c .if1 .left)
 
 pub ranged-type-spec : {M : Type 1} → statement M
-ranged-type-spec = tie.close (tie.spec both-below-requires returns returns-2)
+ranged-type-spec = tie.close (tie.spec (λ c κs. search needs) returns returns-2)

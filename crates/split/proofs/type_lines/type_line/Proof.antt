@@ -12,25 +12,10 @@ use Rattle.split.proofs.TypeLaws.{no-comma, type-form, type-on, type-un
 use Rattle.split.proofs.type_lines.type_line.Statement.{statement}
 use Rattle.split.proofs.type_lines.type_line.Tie as tie
 
-at-end-requires : tie.Need-at-end-requires
-at-end-requires c κs = search needs
-
 returns : tie.Need-returns
 returns c =
     let at-end = c .before in
     line-missing _ _ _ (sym (at-end .at-end .ensures) ∙ c .if1 .taken)
-
-add-line : tie.Need-add-line
-add-line c = search needs
-
-first-field-requires : tie.Need-first-field-requires
-first-field-requires c κs = search needs
-
-enum-known-from : tie.Need-enum-known-from
-enum-known-from c = search needs
-
-enum-told : tie.Need-enum-told
-enum-told c = search needs
 
 returns-2 : tie.Need-returns-2
 returns-2 c =
@@ -65,12 +50,6 @@ part-type-word-end c =
     let head = subst (HeadAnswer (entry .args .text .now) (entry .args .cursor)) (from .from .given .1) (first-field .first-field .ensures) in
     head .1
 
-type-word-requires : tie.Need-type-word-requires
-type-word-requires c κs = search needs
-
-slice-aggregate-numbers : tie.Need-slice-aggregate-numbers
-slice-aggregate-numbers c = search needs
-
 numbers-requires : tie.Need-numbers-requires
 numbers-requires c κs =
     let from = c .before .before .before .before in
@@ -78,12 +57,6 @@ numbers-requires c κs =
     let entry = first-field .before .before .before .before .before in
     let head = subst (HeadAnswer (entry .args .text .now) (entry .args .cursor)) (from .from .given .1) (first-field .first-field .ensures) in
     comma-placed _ _ _ (entry .pre .0 .placed) (head .3) (head .4)
-
-enum-known-read : tie.Need-enum-known-read
-enum-known-read c = search needs
-
-enum-told-2 : tie.Need-enum-told-2
-enum-told-2 c = search needs
 
 returns-3 : tie.Need-returns-3
 returns-3 c =
@@ -96,24 +69,6 @@ returns-3 c =
     let left = left-some (rest (entry .args .text .now) (entry .args .cursor)) (sym (at-end .at-end .ensures) ∙ else1 .if1 .left) in
     let head = subst (HeadAnswer (entry .args .text .now) (entry .args .cursor)) (from .from .given .1) (first-field .first-field .ensures) in
     type-form (headerTold (entry .args .header)) (entry .args .own) (entry .args .text .now) (entry .args .cursor) left (entry .pre .0 .placed) (head .3) _ (head .4) (numbers-none (numbers .numbers .ensures) 2 refl (c .enum-told2 .given .1) .0)
-
-array-read-type-of : tie.Need-array-read-type-of
-array-read-type-of c = search needs
-
-array-read-type-of-2 : tie.Need-array-read-type-of-2
-array-read-type-of-2 c = search needs
-
-type-of-requires : tie.Need-type-of-requires
-type-of-requires c κs = search needs
-
-enum-known-seen : tie.Need-enum-known-seen
-enum-known-seen c = search needs
-
-enum-told-3 : tie.Need-enum-told-3
-enum-told-3 c = search needs
-
-enum-told-4 : tie.Need-enum-told-4
-enum-told-4 c = search needs
 
 returns-4 : tie.Need-returns-4
 unfolding headerTold
@@ -177,28 +132,28 @@ pub type-line-spec : {M : Type 1} → statement M
 type-line-spec =
     tie.close
     (tie.spec
-    at-end-requires
+    (λ c κs. search needs)
     returns
-    add-line
-    first-field-requires
-    enum-known-from
-    enum-told
+    (λ c. search needs)
+    (λ c κs. search needs)
+    (λ c. search needs)
+    (λ c. search needs)
     returns-2
     sub-type-word
     part-type-word-start
     part-type-word-end
-    type-word-requires
-    slice-aggregate-numbers
+    (λ c κs. search needs)
+    (λ c. search needs)
     numbers-requires
-    enum-known-read
-    enum-told-2
+    (λ c. search needs)
+    (λ c. search needs)
     returns-3
-    array-read-type-of
-    array-read-type-of-2
-    type-of-requires
-    enum-known-seen
-    enum-told-3
-    enum-told-4
+    (λ c. search needs)
+    (λ c. search needs)
+    (λ c κs. search needs)
+    (λ c. search needs)
+    (λ c. search needs)
+    (λ c. search needs)
     returns-4
     returns-5
     returns-6)

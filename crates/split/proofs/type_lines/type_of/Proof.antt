@@ -7,45 +7,6 @@ use borrow.Author.Needs.{needs}
 use Rattle.split.proofs.type_lines.type_of.Statement.{statement}
 use Rattle.split.proofs.type_lines.type_of.Tie as tie
 
-enum-told : tie.Need-enum-told
-enum-told c = search needs
-
-ranged-type-requires : tie.Need-ranged-type-requires
-ranged-type-requires c κs = search needs
-
-enum-told-2 : tie.Need-enum-told-2
-enum-told-2 c = search needs
-
-ranged-type-requires-2 : tie.Need-ranged-type-requires-2
-ranged-type-requires-2 c κs = search needs
-
-enum-told-3 : tie.Need-enum-told-3
-enum-told-3 c = search needs
-
-lock-of-requires : tie.Need-lock-of-requires
-lock-of-requires c κs = search needs
-
-enum-told-4 : tie.Need-enum-told-4
-enum-told-4 c = search needs
-
-ranged-type-requires-3 : tie.Need-ranged-type-requires-3
-ranged-type-requires-3 c κs = search needs
-
-enum-told-5 : tie.Need-enum-told-5
-enum-told-5 c = search needs
-
-ranged-type-requires-4 : tie.Need-ranged-type-requires-4
-ranged-type-requires-4 c κs = search needs
-
-enum-told-6 : tie.Need-enum-told-6
-enum-told-6 c = search needs
-
-ranged-type-requires-5 : tie.Need-ranged-type-requires-5
-ranged-type-requires-5 c κs = search needs
-
-enum-told-7 : tie.Need-enum-told-7
-enum-told-7 c = search needs
-
 returns : tie.Need-returns
 unfolding rangedType
 returns c = c .ranged-type .ensures ∙ sym (int-seen _ _ _ _ _ (c .before .enum-told .given .1))
@@ -77,19 +38,19 @@ pub type-of-spec : {M : Type 1} → statement M
 type-of-spec =
     tie.close
     (tie.spec
-    enum-told
-    ranged-type-requires
-    enum-told-2
-    ranged-type-requires-2
-    enum-told-3
-    lock-of-requires
-    enum-told-4
-    ranged-type-requires-3
-    enum-told-5
-    ranged-type-requires-4
-    enum-told-6
-    ranged-type-requires-5
-    enum-told-7
+    (λ c. search needs)
+    (λ c κs. search needs)
+    (λ c. search needs)
+    (λ c κs. search needs)
+    (λ c. search needs)
+    (λ c κs. search needs)
+    (λ c. search needs)
+    (λ c κs. search needs)
+    (λ c. search needs)
+    (λ c κs. search needs)
+    (λ c. search needs)
+    (λ c κs. search needs)
+    (λ c. search needs)
     returns
     returns-2
     returns-3
