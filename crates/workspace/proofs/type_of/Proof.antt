@@ -3,26 +3,6 @@ use borrow.Author.Tests.{ne-eqb}
 use Rattle.workspace.proofs.type_of.Statement.{statement}
 use Rattle.workspace.proofs.type_of.Tie as tie
 
-returns : tie.Need-returns
-unfolding typeOf
-returns c = rw (c .match .keys1)
-
-returns-2 : tie.Need-returns-2
-unfolding typeOf
-returns-2 c = rw (c .match .keys2)
-
-returns-3 : tie.Need-returns-3
-unfolding typeOf
-returns-3 c = rw (c .match .keys3)
-
-returns-4 : tie.Need-returns-4
-unfolding typeOf
-returns-4 c = rw (c .match .keys4)
-
-returns-5 : tie.Need-returns-5
-unfolding typeOf
-returns-5 c = rw (c .match .keys5)
-
 returns-6 : tie.Need-returns-6
 unfolding typeOf
 returns-6 c =
@@ -35,4 +15,5 @@ returns-6 c =
     )
 
 pub type-of-spec : {M : Type 1} → statement M
-type-of-spec = tie.close (tie.spec returns returns-2 returns-3 returns-4 returns-5 returns-6)
+unfolding typeOf
+type-of-spec = tie.close (tie.spec (λ c. rw (c .match .keys1)) (λ c. rw (c .match .keys2)) (λ c. rw (c .match .keys3)) (λ c. rw (c .match .keys4)) (λ c. rw (c .match .keys5)) returns-6)

@@ -10,22 +10,6 @@ use borrow.Author.Needs.{needs}
 use Rattle.rules.proofs.conditions.agree_plain.Statement.{statement}
 use Rattle.rules.proofs.conditions.agree_plain.Tie as tie
 
-returns : tie.Need-returns
-unfolding linesAgree
-returns c = rw (c .before .before .enum-told .given .1, not-int _ (c .before .match2 .keys2)) (c .type-false .ensures)
-
-returns-2 : tie.Need-returns-2
-unfolding linesAgree
-returns-2 c = rw (c .before .before .before .kind .given .1, not-lock _ (c .before .match3 .keys2)) (c .type-false3 .ensures)
-
-returns-3 : tie.Need-returns-3
-unfolding linesAgree
-returns-3 c = rw (c .before .before .before .kind2 .given .1, not-tid _ (c .before .match4 .keys2)) (c .type-false4 .ensures)
-
-returns-4 : tie.Need-returns-4
-unfolding linesAgree
-returns-4 c = rw (c .before .before .before .kind3 .given .1, not-sem _ (c .before .match5 .keys2)) (c .type-false5 .ensures)
-
 returns-5 : tie.Need-returns-5
 unfolding linesAgree isInt outcome judge
 returns-5 c = rw (c .before .before .enum-told .given .1, c .enum-told2 .given .1)
@@ -49,36 +33,33 @@ returns-9 : tie.Need-returns-9
 unfolding linesAgree isSem load
 returns-9 c = rw (c .before .before .before .before .before .kind3 .given .1, c .before .before .other3 .given .1) (c .same-maps4 .ensures)
 
-returns-10 : tie.Need-returns-10
-unfolding linesAgree
-returns-10 c = rw (c .before .before .kind4 .given .1) (c .agree-rwlock .ensures)
-
 pub agree-plain-spec : {M : Type 1} → statement M
+unfolding linesAgree
 agree-plain-spec =
     tie.close
     (tie.spec
     (λ c. search needs)
     (λ c. search needs)
     (λ c κs. search needs)
-    returns
+    (λ c. rw (c .before .before .enum-told .given .1, not-int _ (c .before .match2 .keys2)) (c .type-false .ensures))
     (λ c. search needs)
     (λ c κs. search needs)
     (λ c. search needs)
     (λ c. search needs)
     (λ c κs. search needs)
-    returns-2
+    (λ c. rw (c .before .before .before .kind .given .1, not-lock _ (c .before .match3 .keys2)) (c .type-false3 .ensures))
     (λ c κs. search needs)
     (λ c κs. search needs)
     (λ c κs. search needs)
     (λ c. search needs)
     (λ c. search needs)
     (λ c κs. search needs)
-    returns-3
+    (λ c. rw (c .before .before .before .kind2 .given .1, not-tid _ (c .before .match4 .keys2)) (c .type-false4 .ensures))
     (λ c κs. search needs)
     (λ c. search needs)
     (λ c. search needs)
     (λ c κs. search needs)
-    returns-4
+    (λ c. rw (c .before .before .before .kind3 .given .1, not-sem _ (c .before .match5 .keys2)) (c .type-false5 .ensures))
     (λ c κs. search needs)
     (λ c. search needs)
     (λ c κs. search needs)
@@ -87,4 +68,4 @@ agree-plain-spec =
     returns-7
     returns-8
     returns-9
-    returns-10)
+    (λ c. rw (c .before .before .kind4 .given .1) (c .agree-rwlock .ensures)))
