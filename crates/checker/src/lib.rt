@@ -1,10 +1,9 @@
 // The offered call: two texts and a lent work space in, one answer out.
-use program::ProgramRead;
+use reading::Reading;
 use rules::Ruling;
 use spec::Answer;
 use spec::Purpose;
 use spec::Refusal;
-use split::Sheet;
 use workspace::Header;
 ghost use mathlib.Core.Path.{_≡_};
 ghost use mathlib.Core.List.{List};
@@ -18,16 +17,11 @@ ghost use Rattle.spec.specs.Accepted.{Right};
 ghost use Rattle.soundness.specs.SafeText.{SafeText};
 ghost use Rattle.soundness.specs.EitherOrderText.{EitherOrderText};
 ghost use Rattle.checker.specs.Promise.{RefutedBy};
-ghost use Rattle.checker.specs.Stages.{RulesAnswered, HoldsSome, SplitAnswered};
-
-// The most bytes that each sheet may have.
-const PROGRAM_LIMIT: usize = 16384;
-
-const SPLIT_LIMIT: usize = 65536;
+ghost use Rattle.checker.specs.Stages.{RulesAsked, RulesAnswered};
 
 // 44 and 30 to 33, for the sheets that the work space holds.
 fn check_rules(work: &mut [u32], steps: usize, header: Header) -> Answer
-    requires { ⌜ (length (now work) ≡ 16384) × (steps ≤ 256) × (header .locations ≤ 16) × (header .types ≤ 64) ⌝ }
+    requires { ⌜ RulesAsked (now work) steps header ⌝ }
     ensures { λ a. ⌜ RulesAnswered (now (work .entry)) steps header a ⌝ }
 {
     match rules::rule(work, Purpose::Check, steps, header) {
@@ -36,31 +30,14 @@ fn check_rules(work: &mut [u32], steps: usize, header: Header) -> Answer
     }
 }
 
-// 20 and on, for the program that the work space holds.
-fn check_split(split: &[u8], steps: usize, work: &mut [u32]) -> Answer
-    requires { ⌜ (length (now work) ≡ 16384) × (steps ≤ 256) × HoldsSome (now work) steps ⌝ }
-    ensures { λ a. ⌜ SplitAnswered (now (work .entry)) steps (now (split .entry)) a ⌝ }
-{
-    if SPLIT_LIMIT < split.len() {
-        return Answer::Refuse(Refusal::LongSplit);
-    }
-    match split::read(split, Purpose::Check, steps, work) {
-        Sheet::Refused(r) => Answer::Refuse(r),
-        Sheet::Read(header) => check_rules(work, steps, header),
-    }
-}
-
-// 10 and on, in a work space that is as long as document 01 wants.
-fn check_program(program: &[u8], split: &[u8], work: &mut [u32]) -> Answer
+// The answer to a pair of texts, in a work space that is as long as document 01 wants.
+fn check_texts(program: &[u8], split: &[u8], work: &mut [u32]) -> Answer
     requires { ⌜ length (now work) ≡ 16384 ⌝ }
     ensures { λ a. ⌜ a ≡ verdict workspaceSize (now (program .entry)) (now (split .entry)) ⌝ }
 {
-    if PROGRAM_LIMIT < program.len() {
-        return Answer::Refuse(Refusal::LongProgram);
-    }
-    match program::read(program, work) {
-        ProgramRead::Refused(r) => Answer::Refuse(r),
-        ProgramRead::Read(steps) => check_split(split, steps, work),
+    match reading::read(program, split, Purpose::Check, work) {
+        Reading::Refused(r) => Answer::Refuse(r),
+        Reading::Held(steps, header) => check_rules(work, steps, header),
     }
 }
 
@@ -86,7 +63,7 @@ pub fn check(program: &[u8], split: &[u8], work: &mut [u32]) -> Answer
     if work.len() < workspace::SIZE {
         return Answer::Refuse(Refusal::ShortWorkspace);
     }
-    let a = check_program(program, split, &mut work[..16384]);
+    let a = check_texts(program, split, &mut work[..16384]);
     workspace::clear(&mut work[..16384]);
     a
 }

@@ -3,32 +3,30 @@ use mathlib.Core.Path.{_≡_, refl, sym, ap, _∙_}
 use mathlib.Core.Path.{subst as along}
 use mathlib.Core.List.{List}
 use mathlib.Core.Option.{some}
+use mathlib.Core.Bool.{true}
 use Prim.Native.Nat.{ℕ, _+_, _≤_, _<_}
 use native.Mathlib.Omega.{arith}
 use lib.Dec.{leb}
 use lib.ListN.{length}
-use mathlib.Core.Bool.{true}
 use borrow.Author.Tests.{le-leb, lt-leb}
 use Rattle.spec.specs.Reading.{Out, stop, on, _>>=_, demand}
-use Rattle.spec.specs.Program.{Program, programLimit, program}
-use Rattle.spec.specs.Split.{Map, Split, splitLimit, split}
-use Rattle.spec.specs.WellFormed.{WellFormedProgram}
+use Rattle.spec.specs.Program.{Program}
+use Rattle.spec.specs.Split.{Map, Split}
 use Rattle.spec.specs.Workspace.{workspaceSize}
 use Rattle.spec.specs.Verdict.{locksTakeEnough, startAtMostOne, typed}
 use Rattle.spec.specs.declared.Purpose.the-variants.{Fill}
 use Rattle.spec.specs.declared.Refusal.{Refusal}
-use Rattle.spec.specs.declared.Refusal.the-variants.{ShortWorkspace, LongProgram, LongSplit, NoAfterMaps, TooLarge, TooManyMaps}
-use Rattle.spec.proofs.WellFormed.{well-formed-program, split-well-formed}
-use Rattle.spec.proofs.Outcomes.{goes-on-bind}
-use Rattle.spec.proofs.Ranges.{well-formed-in-range}
-use Rattle.workspace.specs.Layout.{presAt}
-use Rattle.workspace.specs.Region.{ChangedWithin}
-use Rattle.workspace.specs.Holds.{HoldsProgram, HoldsSplit}
+use Rattle.spec.specs.declared.Refusal.the-variants.{ShortWorkspace, NoAfterMaps, TooLarge, TooManyMaps}
+use Rattle.spec.proofs.Outcomes.{bind-bind, goes-on-bind}
 use Rattle.workspace.specs.Sheets.{headerTold, HoldsSheets}
 use Rattle.workspace.proofs.Region.{changed-wider}
 use Rattle.workspace.proofs.Held.{program-kept}
 use Rattle.workspace.specs.declared.Header.{Header}
-use Rattle.split.proofs.Found.{denominator-told, locations-told, types-told, start-told}
+use Rattle.split.proofs.Found.{types-told}
+use Rattle.reading.specs.Answers.{HoldsBoth, SheetsAnswered}
+use Rattle.reading.specs.declared.Reading.{Reading}
+use Rattle.reading.specs.declared.Reading.the-variants as reading
+use Rattle.reading.proofs.Found.{refused-by, held-by}
 use Rattle.rules.specs.Outcome.{outcome}
 use Rattle.rules.specs.Contract.{ruledFor, Ruled}
 use Rattle.rules.specs.declared.Ruling.{Ruling}
@@ -40,9 +38,9 @@ use Rattle.filling.specs.Filled.{filled}
 use Rattle.filling.specs.GreatestMaps.{greatestMaps}
 use Rattle.filling.specs.Answer.{givenLimit, numberLimit, allAtMost, foundOr, filledText, fill}
 use Rattle.filling.proofs.Filling.{found-exactly-greatest}
-use Rattle.filling.proofs.Reasons.{no-after-maps, large-number, long-program, program-refused, long-split, split-refused}
+use Rattle.filling.proofs.Reasons.{no-after-maps, large-number, sheets-refused}
 use Rattle.fill.specs.FilledMaps.{HoldsGiven, Given, FilledAs, FilledMaps}
-use Rattle.fill.specs.Stages.{Tells, grownBy, fitted, SheetTold, HoldsBoth, HoldsSome, TextTold, afterReading, SheetsTold, SplitTold}
+use Rattle.fill.specs.Stages.{Tells, grownBy, fitted, SheetTold, SheetsGiven, MapsGiven, TextTold, afterReading, SheetsTold}
 use Rattle.fill.specs.declared.Filled.{Filled}
 use Rattle.fill.specs.declared.Filled.the-variants.{Refused}
 use Rattle.fill.specs.declared.maps.Found.{Found}
@@ -64,9 +62,9 @@ pub given-held : {w : List ℕ} {header : Header} {steps : ℕ} {P : Program} {S
     → HoldsGiven w steps (header .denominator) (header .locations) (header .maps) (header .start .0) P S
 given-held {header = header} {S = S} B = record { sheets = B .sheets; mapsGiven = maps-told S header (B .headed) }
 
-pub some-given : {w : List ℕ} {header : Header} {steps : ℕ} → HoldsSome w header steps → header .maps ≤ 256 → length w ≡ 16384
+pub maps-given : {w : List ℕ} {header : Header} {steps : ℕ} → MapsGiven w header steps
     → Given w steps (header .denominator) (header .locations) (header .maps) (header .start .0)
-some-given X few long = record { P = X .P; S = X .S; held = given-held (X .holds); few = few; long = long }
+maps-given G = let X = G .sheets in record { P = X .P; S = X .S; held = given-held (X .holds); few = G .fewMaps; long = X .long }
 
 -- the split with its greatest after-maps, once the work space holds it
 module _ {w w′ : List ℕ} {header : Header} {steps : ℕ} {P : Program} {S : Split} (B : HoldsBoth w header steps P S)
@@ -110,8 +108,9 @@ module _ {w w′ : List ℕ} (header : Header) {steps : ℕ} {r : Found}
       let (γ, found, large) = filled-as e P S B in
       told-as (sym (large-number _ P S γ found large)) (refusal-told TooLarge buffer)
 
-  pub some-filled : {whole : Header} → r ≡ Maps → whole ≡ grownBy steps header → HoldsSome w header steps → HoldsSheetOfSome w′ whole steps
-  some-filled e is X =
+  pub some-filled : {whole : Header} → r ≡ Maps → whole ≡ grownBy steps header → MapsGiven w header steps → HoldsSheetOfSome w′ whole steps
+  some-filled e is G =
+      let X = G .sheets in
       let (γ, found, small, H) = filled-as e (X .P) (X .S) (X .holds) in
       rw is (record { S = filled (X .S) γ; holds = filled-held (X .holds) γ found H })
 
@@ -123,11 +122,6 @@ module _ {w w′ : List ℕ} (header : Header) {steps : ℕ} {r : Found}
 
 -- ------------------------------------------------------------------ 43, 44, 30 and 31
 
-bind-parts : {A : Type 0} (a b : Out (Unit {0})) (c : Out A) → ((a >>= λ first. b) >>= λ both. c) ≡ (a >>= λ first. b >>= λ both. c)
-unfolding _>>=_
-bind-parts (stop x) b c = refl
-bind-parts (on x) b c = refl
-
 module _ (buffer : ℕ) (P : Program) (S : Split) where
   many : 256 < S .header .maps → afterReading buffer P S ≡ stop TooManyMaps
   unfolding afterReading demand _>>=_ givenLimit
@@ -138,8 +132,8 @@ module _ (buffer : ℕ) (P : Program) (S : Split) where
   unfolding afterReading demand givenLimit ruledFor _>>=_
   few-maps h =
       rw (le-leb _ _ h)
-      (sym (bind-parts (locksTakeEnough S) (startAtMostOne P S >>= λ whole. typed P S) (filledText buffer P S)
-      ∙ ap (λ o. locksTakeEnough S >>= λ enough. o) (bind-parts (startAtMostOne P S) (typed P S) (filledText buffer P S))))
+      (sym (bind-bind (locksTakeEnough S) (λ enough. startAtMostOne P S >>= λ whole. typed P S) (λ holds. filledText buffer P S)
+      ∙ ap (λ o. locksTakeEnough S >>= λ enough. o) (bind-bind (startAtMostOne P S) (λ whole. typed P S) (λ holds. filledText buffer P S))))
 
   after-rules : {r r′ : Ruling} → S .header .maps ≤ 256
       → outcome r ≡ (locksTakeEnough S >>= λ enough. startAtMostOne P S >>= λ whole. ruledFor Fill P S) → r ≡ r′
@@ -176,8 +170,11 @@ module _ (w : List ℕ) (header : Header) (steps : ℕ) where
           headed = B .headed;
         }
 
-    pub some-kept : steps ≤ 256 → HoldsSome w header steps → HoldsSome w′ header steps
-    some-kept short X = record { P = X .P; S = X .S; holds = both-kept short (X .holds) }
+    pub maps-kept : length w′ ≡ length w → SheetsGiven w header steps → MapsGiven w′ header steps
+    maps-kept same X = record {
+      sheets = record { long = same ∙ X .long; few = X .few; small = X .small; P = X .P; S = X .S; holds = both-kept (X .few) (X .holds) };
+      fewMaps = few;
+    }
 
     pub rule-refused : (buffer : List ℕ) (x : Refusal) → r ≡ ruling.Refused x → SheetsTold w header steps buffer buffer (Refused x)
     unfolding outcome _>>=_
@@ -190,70 +187,24 @@ module _ (w : List ℕ) (header : Header) (steps : ℕ) where
     rules-met short e told P S B =
         told-as (sym (after-rules _ P S (given-few B) (R .answers P S (B .sheets) (types-told S header (B .headed))) e)) (told P S (both-kept short B))
 
--- ------------------------------------------------------------------ the split
+-- ------------------------------------------------------------------ the sheets
 
--- a program that is well formed, and the split's text
-module _ (p s : List ℕ) (P : Program) (F : WellFormedProgram p P) where
-  reads : program p ≡ on P
-  reads = well-formed-program p F
+module _ (p s w : List ℕ) (answered : Reading) (told : SheetsAnswered Fill p s w answered) where
+  pub sheets-given : {steps : ℕ} {header : Header} → answered ≡ reading.Held steps header → length w ≡ 16384 → SheetsGiven w header steps
+  sheets-given e long =
+      let H = held-by Fill p s w answered told e in
+      record { long = long; few = H .few; small = H .small; P = H .P; S = H .S; holds = H .holds }
 
   module _ (before : List ℕ) where
-    pub long-split-told : 65536 < length s → Tells (fill workspaceSize (length before) p s) before before (Refused LongSplit)
-    unfolding workspaceSize programLimit
-    long-split-told h =
-        told-as (sym (long-split 16384 (length before) p s (omega arith) (F .fits) P reads h)) (refusal-told LongSplit before)
+    pub sheet-refused : {r : Refusal} → answered ≡ reading.Refused r → Tells (fill workspaceSize (length before) p s) before before (Refused r)
+    unfolding workspaceSize
+    sheet-refused e =
+        told-as (sym (sheets-refused 16384 (length before) p s (omega arith) _ (refused-by Fill p s w answered told e))) (refusal-told _ before)
 
-    module _ (fits : length s ≤ 65536) where
-      pub bad-split-told : (r : Refusal) → split Fill (P .steps) s ≡ stop r → Tells (fill workspaceSize (length before) p s) before before (Refused r)
-      unfolding workspaceSize programLimit
-      bad-split-told r e =
-          told-as (sym (split-refused 16384 (length before) p s (omega arith) (F .fits) P reads fits r e)) (refusal-told r before)
-
-      reading-done : (S : Split) → split Fill (P .steps) s ≡ on S → fill workspaceSize (length before) p s ≡ afterReading (length before) P S
-      unfolding fill afterReading workspaceSize programLimit splitLimit
-      reading-done S e =
-          goes-on-bind _ _ (passed 16384 16384 ShortWorkspace (omega arith))
-          (goes-on-bind _ _ (passed (length p) 16384 LongProgram (F .fits))
-          (goes-on-bind _ _ reads
-          (goes-on-bind _ _ (passed (length s) 65536 LongSplit fits)
-          (goes-on-bind _ _ e refl))))
-
-      -- the work space after reading, with the header that was read
-      module _ {w w′ : List ℕ} (header : Header) {steps : ℕ} (S : Split) (e : split Fill (P .steps) s ≡ on S)
-          (changed : ChangedWithin 1024 16384 w w′) (holds : HoldsProgram w P) (holds′ : HoldsSplit w′ S) (counted : steps ≡ length (P .steps))
-          (short : steps ≤ 256) (headed : S .header ≡ headerTold header) where
-        read-held : HoldsBoth w′ header steps P S
-        unfolding splitLimit
-        read-held = record {
-          sheets = record {
-            programText = p;
-            wellFormed = F;
-            inRange = well-formed-in-range (split-well-formed Fill (P .steps) s fits e);
-            program = program-kept changed (F .listing) (omega (arith, counted, short)) holds;
-            split = holds′;
-            stepsCounted = counted;
-            denominatorGiven = denominator-told S header headed;
-            locationsGiven = locations-told S header headed;
-            startGiven = start-told S header headed;
-          };
-          headed = headed;
-        }
-
-        pub some-read : HoldsSome w′ header steps
-        some-read = record { P = P; S = S; holds = read-held }
-
-        pub good-split-told : {after : List ℕ} {f : Filled} → SheetsTold w′ header steps before after f
-            → Tells (fill workspaceSize (length before) p s) before after f
-        good-split-told told = told-as (sym (reading-done S e)) (told P S read-held)
-
--- ------------------------------------------------------------------ the program
-
-module _ (p s before : List ℕ) where
-  pub long-program-told : 16384 < length p → Tells (fill workspaceSize (length before) p s) before before (Refused LongProgram)
-  unfolding workspaceSize
-  long-program-told h = told-as (sym (long-program 16384 (length before) p s (omega arith) h)) (refusal-told LongProgram before)
-
-  pub bad-program-told : length p ≤ 16384 → (r : Refusal) → program p ≡ stop r → Tells (fill workspaceSize (length before) p s) before before (Refused r)
-  unfolding workspaceSize
-  bad-program-told fits r e =
-      told-as (sym (program-refused 16384 (length before) p s (omega arith) fits r e)) (refusal-told r before)
+    pub sheets-filled : {steps : ℕ} {header : Header} {after : List ℕ} {f : Filled} → answered ≡ reading.Held steps header
+        → SheetsTold w header steps before after f → Tells (fill workspaceSize (length before) p s) before after f
+    unfolding fill afterReading workspaceSize
+    sheets-filled e filled =
+        let H = held-by Fill p s w answered told e in
+        told-as (sym (goes-on-bind _ _ (passed 16384 16384 ShortWorkspace (omega arith)) (goes-on-bind _ _ (H .read) refl)))
+        (filled (H .P) (H .S) (H .holds))

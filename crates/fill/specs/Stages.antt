@@ -1,22 +1,20 @@
 -- What each stage of filling promises the one before it.
 use mathlib.Core.Path.{_≡_}
 use mathlib.Core.List.{List}
-use Prim.Native.Nat.{ℕ, _+_, min}
+use Prim.Native.Nat.{ℕ, _+_, _≤_, min}
 use lib.Dec.{leb}
 use lib.ListN.{length}
 use Rattle.spec.specs.Reading.{Out, on, _>>=_, demand}
 use Rattle.spec.specs.Program.{Program}
 use Rattle.spec.specs.Split.{Split, splitLimit}
-use Rattle.spec.specs.WellFormed.{WellFormedProgram}
-use Rattle.spec.specs.Workspace.{workspaceSize}
 use Rattle.spec.specs.Verdict.{locksTakeEnough, startAtMostOne, typed}
 use Rattle.spec.specs.declared.Refusal.the-variants.{TooLarge, TooManyMaps}
-use Rattle.workspace.specs.Holds.{HoldsProgram}
-use Rattle.workspace.specs.Sheets.{headerTold, HoldsSheets}
 use Rattle.workspace.specs.declared.Header.{Header}
+use Rattle.split.specs.Answers.{Small}
+use Rattle.reading.specs.Answers.{HoldsBoth}
 use Rattle.writer.specs.Sheet.{written}
 use Rattle.sheets.specs.Contract.{HoldsSheet}
-use Rattle.filling.specs.Answer.{givenLimit, filledText, fill, numbersOf, bufferAfter}
+use Rattle.filling.specs.Answer.{givenLimit, filledText, numbersOf, bufferAfter}
 use Rattle.fill.specs.declared.Filled.{Filled}
 use Rattle.fill.specs.Numbers.{numbered}
 
@@ -45,16 +43,19 @@ abbrev pub SheetTold : (w : List ℕ) (header : Header) (steps : ℕ) (before af
 SheetTold w header steps before after f =
     (S : Split) → HoldsSheet w header steps S → Tells (fitted (length before) (written S)) before after f
 
--- the work space holds both sheets, and the split has this header
-pub record HoldsBoth (w : List ℕ) (header : Header) (steps : ℕ) (P : Program) (S : Split) : Type 0 where
-  pub sheets : HoldsSheets w steps (header .denominator) (header .locations) (header .start .0) P S
-  pub headed : S .header ≡ headerTold header
-
--- it holds some
-pub record HoldsSome (w : List ℕ) (header : Header) (steps : ℕ) : Type 0 where
+-- the work space has its size and holds both sheets, of so many steps and with this header
+pub record SheetsGiven (w : List ℕ) (header : Header) (steps : ℕ) : Type 0 where
+  pub long : length w ≡ 16384
+  pub few : steps ≤ 256
+  pub small : Small header
   pub P : Program
   pub S : Split
   pub holds : HoldsBoth w header steps P S
+
+-- and the split gives at most 256 maps
+pub record MapsGiven (w : List ℕ) (header : Header) (steps : ℕ) : Type 0 where
+  pub sheets : SheetsGiven w header steps
+  pub fewMaps : header .maps ≤ 256
 
 -- 41 and 42, for whichever sheets the work space holds
 abbrev pub TextTold : (w : List ℕ) (header : Header) (steps : ℕ) (before after : List ℕ) → Filled → Type 0
@@ -73,17 +74,3 @@ afterReading buffer P S = do
 abbrev pub SheetsTold : (w : List ℕ) (header : Header) (steps : ℕ) (before after : List ℕ) → Filled → Type 0
 SheetsTold w header steps before after f =
     (P : Program) (S : Split) → HoldsBoth w header steps P S → Tells (afterReading (length before) P S) before after f
-
--- the program of a well-formed sheet, with so many steps, stands in the work space
-pub record HoldsProgramOfSome (w : List ℕ) (steps : ℕ) : Type 0 where
-  pub programText : List ℕ
-  pub P : Program
-  pub wellFormed : WellFormedProgram programText P
-  pub holds : HoldsProgram w P
-  pub counted : steps ≡ length (P .steps)
-
--- 20 and on, for whichever program the work space holds
-abbrev pub SplitTold : (w : List ℕ) (steps : ℕ) (splitText : List ℕ) (before after : List ℕ) → Filled → Type 0
-SplitTold w steps splitText before after f =
-    (programText : List ℕ) (P : Program) → WellFormedProgram programText P → HoldsProgram w P → steps ≡ length (P .steps)
-    → Tells (fill workspaceSize (length before) programText splitText) before after f

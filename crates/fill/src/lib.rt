@@ -3,12 +3,11 @@ mod maps;
 
 use maps::Found;
 use maps::fill_maps;
-use program::ProgramRead;
+use reading::Reading;
 use rules::Ruling;
 use sheets::write_sheet;
 use spec::Purpose;
 use spec::Refusal;
-use split::Sheet;
 use workspace::Header;
 ghost use mathlib.Core.Path.{_≡_};
 ghost use mathlib.Core.List.{List};
@@ -24,11 +23,9 @@ ghost use Rattle.filling.specs.AfterMaps.{AfterMaps};
 ghost use Rattle.filling.specs.Answer.{fill as filling, numbersOf, bufferAfter, Fillable, Written};
 ghost use Rattle.sheets.specs.Contract.{HoldsSome as HoldsSheetOfSome};
 ghost use Rattle.fill.specs.Numbers.{numbered};
-ghost use Rattle.fill.specs.Stages.{Tells, grownBy, HoldsSome, HoldsProgramOfSome, SheetTold, TextTold, SheetsTold, SplitTold};
+ghost use Rattle.fill.specs.Stages.{Tells, grownBy, SheetsGiven, MapsGiven, SheetTold, TextTold, SheetsTold};
 
-// The most bytes that each sheet may have.
-const PROGRAM_LIMIT: usize = 16384;
-
+// The most bytes that a split sheet may have.
 const SPLIT_LIMIT: usize = 65536;
 
 // The most maps that a sheet may give: one is added for each of up to 256 steps.
@@ -76,7 +73,7 @@ fn write_filled(work: &[u32], header: Header, steps: usize, out: &mut [u8]) -> F
 
 // 41 and 42, for the sheets that the work space holds.
 fn fill_held(work: &mut [u32], header: Header, steps: usize, out: &mut [u8]) -> Filled
-    requires { ⌜ (length (now work) ≡ 16384) × (steps ≤ 256) × (header .maps ≤ 256) × HoldsSome (now work) header steps ⌝ }
+    requires { ⌜ MapsGiven (now work) header steps ⌝ }
     ensures { λ f. ⌜ TextTold (now (work .entry)) header steps (now (out .entry)) (now (out .exit)) f ⌝ }
 {
     match fill_maps(
@@ -98,7 +95,7 @@ fn fill_held(work: &mut [u32], header: Header, steps: usize, out: &mut [u8]) -> 
 
 // 43 and on, for the sheets that the work space holds.
 fn fill_sheets(work: &mut [u32], header: Header, steps: usize, out: &mut [u8]) -> Filled
-    requires { ⌜ (length (now work) ≡ 16384) × (steps ≤ 256) × (header .locations ≤ 16) × (header .types ≤ 64) × HoldsSome (now work) header steps ⌝ }
+    requires { ⌜ SheetsGiven (now work) header steps ⌝ }
     ensures { λ f. ⌜ SheetsTold (now (work .entry)) header steps (now (out .entry)) (now (out .exit)) f ⌝ }
 {
     if GIVEN_LIMIT < header.maps {
@@ -110,31 +107,14 @@ fn fill_sheets(work: &mut [u32], header: Header, steps: usize, out: &mut [u8]) -
     }
 }
 
-// 20 and on, for the program that the work space holds.
-fn fill_split(split: &[u8], steps: usize, work: &mut [u32], out: &mut [u8]) -> Filled
-    requires { ⌜ (length (now work) ≡ 16384) × (steps ≤ 256) × HoldsProgramOfSome (now work) steps ⌝ }
-    ensures { λ f. ⌜ SplitTold (now (work .entry)) steps (now (split .entry)) (now (out .entry)) (now (out .exit)) f ⌝ }
-{
-    if SPLIT_LIMIT < split.len() {
-        return Filled::Refused(Refusal::LongSplit);
-    }
-    match split::read(split, Purpose::Fill, steps, work) {
-        Sheet::Refused(r) => Filled::Refused(r),
-        Sheet::Read(header) => fill_sheets(work, header, steps, out),
-    }
-}
-
-// 10 and on, in a work space that is as long as document 01 wants.
-fn fill_program(program: &[u8], split: &[u8], work: &mut [u32], out: &mut [u8]) -> Filled
+// The answer to a pair of texts, in a work space that is as long as document 01 wants.
+fn fill_texts(program: &[u8], split: &[u8], work: &mut [u32], out: &mut [u8]) -> Filled
     requires { ⌜ length (now work) ≡ 16384 ⌝ }
     ensures { λ f. ⌜ Tells (filling workspaceSize (length (now (out .entry))) (now (program .entry)) (now (split .entry))) (now (out .entry)) (now (out .exit)) f ⌝ }
 {
-    if PROGRAM_LIMIT < program.len() {
-        return Filled::Refused(Refusal::LongProgram);
-    }
-    match program::read(program, work) {
-        ProgramRead::Refused(r) => Filled::Refused(r),
-        ProgramRead::Read(steps) => fill_split(split, steps, work, out),
+    match reading::read(program, split, Purpose::Fill, work) {
+        Reading::Refused(r) => Filled::Refused(r),
+        Reading::Held(steps, header) => fill_sheets(work, header, steps, out),
     }
 }
 
@@ -159,7 +139,7 @@ pub fn fill(program: &[u8], split: &[u8], work: &mut [u32], out: &mut [u8]) -> F
     if work.len() < workspace::SIZE {
         return Filled::Refused(Refusal::ShortWorkspace);
     }
-    let f = fill_program(program, split, &mut work[..16384], out);
+    let f = fill_texts(program, split, &mut work[..16384], out);
     workspace::clear(&mut work[..16384]);
     f
 }

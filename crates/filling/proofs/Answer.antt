@@ -20,7 +20,8 @@ use Rattle.spec.specs.declared.Answer.the-variants.{Accept, Refuse}
 use Rattle.spec.specs.declared.Refusal.the-variants.{NoAfterMaps, TooLarge}
 use Rattle.spec.proofs.Clashes.{true-is-not-false}
 use Rattle.spec.proofs.Outcomes.{stop-is-not-on, on-injective, stop-injective, bind-goes-on, goes-on-bind, demand-goes-on}
-use Rattle.spec.proofs.WellFormed.{program-well-formed, well-formed-program, split-well-formed, well-formed-split}
+use Rattle.spec.proofs.WellFormed.{well-formed-program}
+use Rattle.spec.proofs.Sheets.{sheets-well-formed, well-formed-sheets, sheets-read}
 use Rattle.spec.proofs.Ranges.{well-formed-in-range}
 use Rattle.spec.proofs.Reached.{start-at-most-one, at-most-one-start}
 use Rattle.spec.proofs.Locks.{locks-take-enough, enough-taken}
@@ -101,7 +102,7 @@ module _ (room buffer : ℕ) (p s : List ℕ) where
   pub fillable-decides : (P : Program) (S : Split) → Fillable room p s P S → answered ≡ filledText buffer P S
   unfolding workspaceSize programLimit splitLimit givenLimit typed typeClaims allClaims
   fillable-decides P S F =
-      locks-decide room buffer p s (F .enough) (F .program .fits) P (well-formed-program p (F .program)) (F .split .fits) S (well-formed-split Fill (P .steps) s (F .split)) (F .few)
+      locks-decide room buffer p s (F .enough) P S (well-formed-sheets Fill p s (F .sheets)) (F .few)
       ∙ goes-on-bind _ _ (enough-taken S (F .locks))
       (goes-on-bind _ _ (at-most-one-start P S (F .atMostOne)) (goes-on-bind _ _ (all-hold-none-false _ (F .typesHold)) refl))
 
@@ -111,26 +112,22 @@ module _ (room buffer : ℕ) (p s : List ℕ) where
   unfolding fill typed typeClaims allClaims
   written-fillable h =
       let (_, enough, r₁) = bind-goes-on _ _ h in
-      let (_, fits, r₂) = bind-goes-on _ _ r₁ in
-      let (P, reads, r₃) = bind-goes-on _ _ r₂ in
-      let (_, fits′, r₄) = bind-goes-on _ _ r₃ in
-      let (S, splits, r₅) = bind-goes-on _ _ r₄ in
-      let (_, few, r₆) = bind-goes-on _ _ r₅ in
-      let (_, locks, r₇) = bind-goes-on _ _ r₆ in
-      let (_, whole, r₈) = bind-goes-on _ _ r₇ in
-      let (_, types, r₉) = bind-goes-on _ _ r₈ in (
+      let ((P, S), reads, r₂) = bind-goes-on _ _ r₁ in
+      let (_, few, r₃) = bind-goes-on _ _ r₂ in
+      let (_, locks, r₄) = bind-goes-on _ _ r₃ in
+      let (_, whole, r₅) = bind-goes-on _ _ r₄ in
+      let (_, types, r₆) = bind-goes-on _ _ r₅ in (
         P,
         S,
         record {
           enough = leb-true _ _ (demand-goes-on _ _ enough);
-          program = program-well-formed p (leb-true _ _ (demand-goes-on _ _ fits)) reads;
-          split = split-well-formed Fill (P .steps) s (leb-true _ _ (demand-goes-on _ _ fits′)) splits;
+          sheets = sheets-well-formed Fill p s reads;
           few = leb-true _ _ (demand-goes-on _ _ few);
           locks = locks-take-enough S locks;
           atMostOne = start-at-most-one P S whole;
           typesHold = none-false-all-hold _ types;
         },
-        r₉,
+        r₆,
       )
 
   -- "41 if no such maps exist"
@@ -142,14 +139,14 @@ module _ (room buffer : ℕ) (p s : List ℕ) where
   )
     where
       solves : ((γ : List Map) × (greatestMaps P S ≡ some γ)) ↔ ((σ : List Map) × AfterMaps P S σ)
-      solves = solvable P S (F .program) (well-formed-in-range (F .split))
+      solves = solvable P S (F .sheets .program) (well-formed-in-range (F .sheets .split))
 
       go : (o : Option (List Map)) → greatestMaps P S ≡ o → ((σ : List Map) → AfterMaps P S σ → ⊥) → o ≡ none
       go none e unsolvable = refl
       go (some γ) e unsolvable = let (σ, A) = solves .0 (γ, e) in absurd (unsolvable σ A)
 
   greatest : (P : Program) (S : Split) → Fillable room p s P S → (γ : List Map) → greatestMaps P S ≡ some γ ↔ GreatestMaps P S γ
-  greatest P S F = found-exactly-greatest P S (F .program) (well-formed-in-range (F .split))
+  greatest P S F = found-exactly-greatest P S (F .sheets .program) (well-formed-in-range (F .sheets .split))
 
   -- "42 if the greatest has a number above 1,000,000,000 or the filled sheet is over 65,536 bytes or over the buffer"
   pub refused-exactly-too-large : (P : Program) (S : Split) → Fillable room p s P S
@@ -186,10 +183,11 @@ module _ (room buffer : ℕ) (p s : List ℕ) where
       let F = W .fillable in
       let S = W .S in
       let A = W .greatest .afterMaps in
-      let R = well-formed-in-range (F .split) in
+      let R = well-formed-in-range (F .sheets .split) in
       let found = greatest (W .P) S F (W .γ) .1 (W .greatest) in
-      let reads = filled-reads-back S (W .γ) (omega (arith, A .counted, F .few, steps-few (W .P) (F .program))) (A .wide) (W .limits .small) (A .counted) (F .split) in
-      rules-decide room p t (F .enough) (F .program .fits) (W .P) (well-formed-program p (F .program)) (omega (arith, ap length (W .isText), W .limits .notLong)) (filled S (W .γ)) (ap (split Check (W .P .steps)) (W .isText) ∙ reads)
-      ∙ ap answer (goes-on-bind _ _ (locks-kept (W .P) S (F .program) R (W .γ) ∙ enough-taken S (F .locks))
-      (goes-on-bind _ _ (start-kept (W .P) S (F .program) R (W .γ) ∙ at-most-one-start (W .P) S (F .atMostOne))
-      (filled-accepted (W .P) S (F .program) R (W .γ) (all-hold-none-false _ (F .typesHold)) found)))
+      let reads = filled-reads-back S (W .γ) (omega (arith, A .counted, F .few, steps-few (W .P) (F .sheets .program))) (A .wide) (W .limits .small) (A .counted) (F .sheets .split) in
+      rules-decide room p t (F .enough) (W .P) (filled S (W .γ))
+      (sheets-read Check p t (F .sheets .program .fits) (W .P) (well-formed-program p (F .sheets .program)) (omega (arith, ap length (W .isText), W .limits .notLong)) (filled S (W .γ)) (ap (split Check (W .P .steps)) (W .isText) ∙ reads))
+      ∙ ap answer (goes-on-bind _ _ (locks-kept (W .P) S (F .sheets .program) R (W .γ) ∙ enough-taken S (F .locks))
+      (goes-on-bind _ _ (start-kept (W .P) S (F .sheets .program) R (W .γ) ∙ at-most-one-start (W .P) S (F .atMostOne))
+      (filled-accepted (W .P) S (F .sheets .program) R (W .γ) (all-hold-none-false _ (F .typesHold)) found)))

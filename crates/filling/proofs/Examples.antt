@@ -11,7 +11,7 @@ use Rattle.spec.specs.Conditions.{isInt, isRef, isLock, isTid, isSem, isRwlock,
 use Rattle.spec.specs.Agreement.{code, sameMaps, sameTree, treeOf, trees, tree, agree}
 use Rattle.spec.specs.Sites.{preOfPart, preOfSecond, bind, sites, numbered, claimsAt, claims, judge, firstFalse, isType, only}
 use Rattle.spec.specs.Workspace.{workspaceSize}
-use Rattle.spec.specs.Verdict.{takesEnough, allTakeEnough, locksTakeEnough, refuseOver, startAtMostOne, typed, four, returned}
+use Rattle.spec.specs.Verdict.{takesEnough, allTakeEnough, locksTakeEnough, refuseOver, startAtMostOne, typed, sheets, four, returned}
 use Rattle.spec.specs.KnownPairs.{barred, _with_is_, P}
 use Rattle.spec.specs.EdgeSheets.{times}
 use Rattle.writer.specs.Text.{digit, digitsWithin, decimal, line, text}
@@ -30,9 +30,9 @@ unfolding bytes same onLine lines onField fields lookUp digitLimit digits leadin
 examples-found = refl
 
 pub answers-given : AllAnswered 30 answers
-unfolding bytes same onLine lines onField fields lookUp digitLimit digits leadingZero value numeral _>>=_ demand seen insist wrongAfter inRange allInRange withNumeral numerals ranged numbers form outside miscounted faulty passed nextLine next nextAll begin noneLeft end size withParts listed single among scope programLimit firstNumber countLine words valueRange stepOf wordLine stepLine program splitLimit headings headerRanges mapsOf mapsIn startOf headerOf headed headerLine refOf lockOf outRange tidOf semOf rwlockOf typeLine typeLines mapLine rowOf startGiven takesStart startRange mayBeEmpty postRange postField rowLine split lowest atLeast _=ᵐ_ _≥ᵐ_ nowhere sameNumbers _+ᵐ_ _×ᵐ_ share overWhole isInt isRef isLock isTid isSem isRwlock place load inLoad outLoad readLoad writeLoad typeIn lineOf startMap typeAt mapAt contains looserLock mayShow row type kind post startIn start K inMap outMap readMap writeMap own code sameMaps sameTree treeOf trees tree agree preOfPart preOfSecond bind sites numbered claimsAt claims judge firstFalse workspaceSize takesEnough allTakeEnough locksTakeEnough refuseOver startAtMostOne four returned barred _with_is_ times withPosts filled isType only allClaims typeClaims typed found._>>=_ found.demand found.forEach unchanged taking giving needing lending turn ownPost pass asks loadHere inHere outHere readHere writeHere startHere accessHere flowOf postsAt mapOfStep mapsOfSteps greatestMaps givenLimit numberLimit mapAtMost allAtMost foundOr filledText fill numbersOf twoLocks twoLocksSplit digit digitsWithin decimal line text headingName headerNumbers headerFields outNumber typeFields mapFields postShown startShown rowFields splitLines written answered AllAnswered answers
+unfolding bytes same onLine lines onField fields lookUp digitLimit digits leadingZero value numeral _>>=_ demand seen insist wrongAfter inRange allInRange withNumeral numerals ranged numbers form outside miscounted faulty passed nextLine next nextAll begin noneLeft end size withParts listed single among scope programLimit firstNumber countLine words valueRange stepOf wordLine stepLine program splitLimit headings headerRanges mapsOf mapsIn startOf headerOf headed headerLine refOf lockOf outRange tidOf semOf rwlockOf typeLine typeLines mapLine rowOf startGiven takesStart startRange mayBeEmpty postRange postField rowLine split lowest atLeast _=ᵐ_ _≥ᵐ_ nowhere sameNumbers _+ᵐ_ _×ᵐ_ share overWhole isInt isRef isLock isTid isSem isRwlock place load inLoad outLoad readLoad writeLoad typeIn lineOf startMap typeAt mapAt contains looserLock mayShow row type kind post startIn start K inMap outMap readMap writeMap own code sameMaps sameTree treeOf trees tree agree preOfPart preOfSecond bind sites numbered claimsAt claims judge firstFalse workspaceSize takesEnough allTakeEnough locksTakeEnough refuseOver startAtMostOne four returned barred _with_is_ times withPosts filled isType only allClaims typeClaims typed found._>>=_ found.demand found.forEach unchanged taking giving needing lending turn ownPost pass asks loadHere inHere outHere readHere writeHere startHere accessHere flowOf postsAt mapOfStep mapsOfSteps greatestMaps givenLimit numberLimit mapAtMost allAtMost foundOr filledText sheets fill numbersOf twoLocks twoLocksSplit digit digitsWithin decimal line text headingName headerNumbers headerFields outNumber typeFields mapFields postShown startShown rowFields splitLines written answered AllAnswered answers
 answers-given = refl
 
 pub fillings-written : AllWritten fillings
-unfolding bytes same onLine lines onField fields lookUp digitLimit digits leadingZero value numeral _>>=_ demand seen insist wrongAfter inRange allInRange withNumeral numerals ranged numbers form outside miscounted faulty passed nextLine next nextAll begin noneLeft end size withParts listed single among scope programLimit firstNumber countLine words valueRange stepOf wordLine stepLine program splitLimit headings headerRanges mapsOf mapsIn startOf headerOf headed headerLine refOf lockOf outRange tidOf semOf rwlockOf typeLine typeLines mapLine rowOf startGiven takesStart startRange mayBeEmpty postRange postField rowLine split lowest atLeast _=ᵐ_ _≥ᵐ_ nowhere sameNumbers _+ᵐ_ _×ᵐ_ share overWhole isInt isRef isLock isTid isSem isRwlock place load inLoad outLoad readLoad writeLoad typeIn lineOf startMap typeAt mapAt contains looserLock mayShow row type kind post startIn start K inMap outMap readMap writeMap own code sameMaps sameTree treeOf trees tree agree preOfPart preOfSecond bind sites numbered claimsAt claims judge firstFalse workspaceSize takesEnough allTakeEnough locksTakeEnough refuseOver startAtMostOne four returned barred times withPosts filled isType only allClaims typeClaims typed found._>>=_ found.demand found.forEach unchanged taking giving needing lending turn ownPost pass asks loadHere inHere outHere readHere writeHere startHere accessHere flowOf postsAt mapOfStep mapsOfSteps greatestMaps givenLimit numberLimit mapAtMost allAtMost foundOr filledText fill numbersOf twoLocks twoLocksSplit digit digitsWithin decimal line text headingName headerNumbers headerFields outNumber typeFields mapFields postShown startShown rowFields splitLines written P unfilled _with_becomes_ wholeOf AllWritten fillings
+unfolding bytes same onLine lines onField fields lookUp digitLimit digits leadingZero value numeral _>>=_ demand seen insist wrongAfter inRange allInRange withNumeral numerals ranged numbers form outside miscounted faulty passed nextLine next nextAll begin noneLeft end size withParts listed single among scope programLimit firstNumber countLine words valueRange stepOf wordLine stepLine program splitLimit headings headerRanges mapsOf mapsIn startOf headerOf headed headerLine refOf lockOf outRange tidOf semOf rwlockOf typeLine typeLines mapLine rowOf startGiven takesStart startRange mayBeEmpty postRange postField rowLine split lowest atLeast _=ᵐ_ _≥ᵐ_ nowhere sameNumbers _+ᵐ_ _×ᵐ_ share overWhole isInt isRef isLock isTid isSem isRwlock place load inLoad outLoad readLoad writeLoad typeIn lineOf startMap typeAt mapAt contains looserLock mayShow row type kind post startIn start K inMap outMap readMap writeMap own code sameMaps sameTree treeOf trees tree agree preOfPart preOfSecond bind sites numbered claimsAt claims judge firstFalse workspaceSize takesEnough allTakeEnough locksTakeEnough refuseOver startAtMostOne four returned barred times withPosts filled isType only allClaims typeClaims typed found._>>=_ found.demand found.forEach unchanged taking giving needing lending turn ownPost pass asks loadHere inHere outHere readHere writeHere startHere accessHere flowOf postsAt mapOfStep mapsOfSteps greatestMaps givenLimit numberLimit mapAtMost allAtMost foundOr filledText sheets fill numbersOf twoLocks twoLocksSplit digit digitsWithin decimal line text headingName headerNumbers headerFields outNumber typeFields mapFields postShown startShown rowFields splitLines written P unfilled _with_becomes_ wholeOf AllWritten fillings
 fillings-written = refl

@@ -8,13 +8,13 @@ use Prim.Native.Nat.{ℕ, _≤_, _<_, min}
 use lib.ListN.{length}
 use borrow.Author.Tests.{le-leb, lt-leb}
 use Rattle.spec.specs.Reading.{Out, stop, on, _>>=_, demand}
-use Rattle.spec.specs.Program.{Program, program, programLimit}
-use Rattle.spec.specs.Split.{Map, Split, split, splitLimit}
+use Rattle.spec.specs.Program.{Program}
+use Rattle.spec.specs.Split.{Map, Split, splitLimit}
 use Rattle.spec.specs.Workspace.{workspaceSize}
-use Rattle.spec.specs.Verdict.{locksTakeEnough, startAtMostOne, typed}
+use Rattle.spec.specs.Verdict.{sheets, locksTakeEnough, startAtMostOne, typed}
 use Rattle.spec.specs.declared.Purpose.the-variants.{Fill}
 use Rattle.spec.specs.declared.Refusal.{Refusal}
-use Rattle.spec.specs.declared.Refusal.the-variants.{ShortWorkspace, LongProgram, LongSplit, NoAfterMaps, TooLarge, TooManyMaps}
+use Rattle.spec.specs.declared.Refusal.the-variants.{ShortWorkspace, NoAfterMaps, TooLarge, TooManyMaps}
 use Rattle.writer.specs.Sheet.{written}
 use Rattle.filling.specs.Filled.{filled}
 use Rattle.filling.specs.GreatestMaps.{greatestMaps}
@@ -53,31 +53,16 @@ module _ (room buffer : ℕ) (p s : List ℕ) where
   short-workspace h = rw (lt-leb _ _ h)
 
   module _ (enough : 16384 ≤ room) where
-    pub long-program : 16384 < length p → answered ≡ stop LongProgram
-    unfolding fill demand _>>=_ workspaceSize programLimit
-    long-program h = rw (le-leb _ _ enough, lt-leb _ _ h)
+    pub sheets-refused : (r : Refusal) → sheets Fill p s ≡ stop r → answered ≡ stop r
+    unfolding fill demand _>>=_ workspaceSize
+    sheets-refused r e = rw (le-leb _ _ enough, e)
 
-    module _ (fits : length p ≤ 16384) where
-      pub program-refused : (r : Refusal) → program p ≡ stop r → answered ≡ stop r
-      unfolding fill demand _>>=_ workspaceSize programLimit
-      program-refused r e = rw (le-leb _ _ enough, le-leb _ _ fits, e)
+    module _ (P : Program) (S : Split) (reads : sheets Fill p s ≡ on (P, S)) where
+      pub many-maps : 256 < S .header .maps → answered ≡ stop TooManyMaps
+      unfolding fill demand _>>=_ workspaceSize givenLimit
+      many-maps h = rw (le-leb _ _ enough, reads, lt-leb _ _ h)
 
-      module _ (P : Program) (reads : program p ≡ on P) where
-        pub long-split : 65536 < length s → answered ≡ stop LongSplit
-        unfolding fill demand _>>=_ workspaceSize programLimit splitLimit
-        long-split h = rw (le-leb _ _ enough, le-leb _ _ fits, reads, lt-leb _ _ h)
-
-        module _ (fits′ : length s ≤ 65536) where
-          pub split-refused : (r : Refusal) → split Fill (P .steps) s ≡ stop r → answered ≡ stop r
-          unfolding fill demand _>>=_ workspaceSize programLimit splitLimit
-          split-refused r e = rw (le-leb _ _ enough, le-leb _ _ fits, reads, le-leb _ _ fits′, e)
-
-          module _ (S : Split) (splits : split Fill (P .steps) s ≡ on S) where
-            pub many-maps : 256 < S .header .maps → answered ≡ stop TooManyMaps
-            unfolding fill demand _>>=_ workspaceSize programLimit splitLimit givenLimit
-            many-maps h = rw (le-leb _ _ enough, le-leb _ _ fits, reads, le-leb _ _ fits′, splits, lt-leb _ _ h)
-
-            pub locks-decide : S .header .maps ≤ 256
-                → answered ≡ (locksTakeEnough S >>= λ locks. startAtMostOne P S >>= λ whole. typed P S >>= λ typesHold. filledText buffer P S)
-            unfolding fill demand _>>=_ workspaceSize programLimit splitLimit givenLimit
-            locks-decide few = rw (le-leb _ _ enough, le-leb _ _ fits, reads, le-leb _ _ fits′, splits, le-leb _ _ few)
+      pub locks-decide : S .header .maps ≤ 256
+          → answered ≡ (locksTakeEnough S >>= λ locks. startAtMostOne P S >>= λ whole. typed P S >>= λ typesHold. filledText buffer P S)
+      unfolding fill demand _>>=_ workspaceSize givenLimit
+      locks-decide few = rw (le-leb _ _ enough, reads, le-leb _ _ few)

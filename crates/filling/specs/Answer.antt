@@ -7,19 +7,19 @@ use Prim.Native.Nat.{ℕ, _≤_, min}
 use lib.Dec.{leb}
 use lib.ListN.{length, getD, drop}
 use Rattle.spec.specs.Reading.{Out, stop, on, _>>=_, demand}
-use Rattle.spec.specs.Program.{Program, program, programLimit}
-use Rattle.spec.specs.Split.{Map, Split, split, splitLimit}
+use Rattle.spec.specs.Program.{Program}
+use Rattle.spec.specs.Split.{Map, Split, splitLimit}
 use Rattle.spec.specs.Conditions.{startMap}
 use Rattle.spec.specs.Workspace.{workspaceSize}
-use Rattle.spec.specs.Verdict.{locksTakeEnough, startAtMostOne, typed, four, returned}
+use Rattle.spec.specs.Verdict.{sheets, locksTakeEnough, startAtMostOne, typed, four, returned}
 use Rattle.spec.specs.FirstFalse.{AllHold}
-use Rattle.spec.specs.WellFormed.{WellFormedProgram, WellFormedSplit}
+use Rattle.spec.specs.WellFormed.{WellFormedSheets}
 use Rattle.spec.specs.Accepted.{LocksTakeEnough, AtMost}
 use Rattle.spec.specs.declared.Purpose.the-variants.{Fill}
 use Rattle.spec.specs.declared.Returned.{Returned}
 use Rattle.spec.specs.declared.Answer.the-variants.{Refuse}
 use Rattle.spec.specs.declared.Refusal.{Refusal}
-use Rattle.spec.specs.declared.Refusal.the-variants.{ShortWorkspace, LongProgram, LongSplit, NoAfterMaps, TooLarge, TooManyMaps}
+use Rattle.spec.specs.declared.Refusal.the-variants.{ShortWorkspace, NoAfterMaps, TooLarge, TooManyMaps}
 use Rattle.writer.specs.Sheet.{written}
 use Rattle.filling.specs.Filled.{filled}
 use Rattle.filling.specs.AfterMaps.{typeClaims, GreatestMaps}
@@ -59,10 +59,7 @@ filledText buffer P S = do
 unfoldable pub fill : (room buffer : ℕ) → (programText splitText : List ℕ) → Out (List ℕ)
 fill room buffer programText splitText = do
   enough ← demand (leb workspaceSize room) ShortWorkspace
-  fits ← demand (leb (length programText) programLimit) LongProgram
-  P ← program programText
-  fits′ ← demand (leb (length splitText) splitLimit) LongSplit
-  S ← split Fill (P .steps) splitText
+  (P, S) ← sheets Fill programText splitText
   few ← demand (leb (S .header .maps) givenLimit) TooManyMaps
   locks ← locksTakeEnough S
   whole ← startAtMostOne P S
@@ -74,8 +71,7 @@ fill room buffer programText splitText = do
 -- nothing is refused before 41: both sheets are well formed, at most 256 maps are given, 44, 30 and every (T) condition pass
 pub record Fillable (room : ℕ) (programText splitText : List ℕ) (P : Program) (S : Split) : Type 0 where
   pub enough : workspaceSize ≤ room
-  pub program : WellFormedProgram programText P
-  pub split : WellFormedSplit Fill (P .steps) splitText S
+  pub sheets : WellFormedSheets Fill programText splitText P S
   pub few : S .header .maps ≤ givenLimit
   pub locks : LocksTakeEnough S
   pub atMostOne : AtMost (S .header .denominator) (startMap S)

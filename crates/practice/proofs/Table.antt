@@ -14,7 +14,7 @@ use Rattle.spec.specs.Agreement.{code, sameMaps, sameTree, treeOf, trees, tree,
 use Rattle.spec.specs.Conditions.{isInt, isRef, isLock, isTid, isSem, isRwlock, place, load, inLoad, outLoad, readLoad, writeLoad, typeIn, lineOf, startMap, typeAt, mapAt, contains, looserLock, mayShow, row, type, kind, post, startIn, start, K, inMap, outMap, readMap, writeMap, own}
 use Rattle.spec.specs.Sites.{preOfPart, preOfSecond, bind, sites, numbered, claimsAt, claims, judge, firstFalse}
 use Rattle.spec.specs.Workspace.{workspaceSize}
-use Rattle.spec.specs.Verdict.{takesEnough, allTakeEnough, locksTakeEnough, refuseOver, startAtMostOne, ruled, checked, answer, verdict}
+use Rattle.spec.specs.Verdict.{takesEnough, allTakeEnough, locksTakeEnough, refuseOver, startAtMostOne, ruled, sheets, checked, answer, verdict}
 use Rattle.spec.specs.declared.Answer.{Answer}
 use Rattle.spec.specs.declared.Answer.the-variants.{Accept}
 use Rattle.writer.specs.Text.{digit, digitsWithin, decimal, line, text}
@@ -23,7 +23,7 @@ use Rattle.practice.specs.Pair as pair
 
 -- the answers to n pairs, of k readers and upward; to unfold it is to unfold every definition on the way from k to an answer
 unfoldable pub answers : (k n : ℕ) → List Answer
-unfolding bytes same onLine lines onField fields digitLimit digits leadingZero value numeral _>>=_ demand seen insist wrongAfter inRange allInRange withNumeral numerals ranged numbers form outside miscounted faulty passed nextLine next nextAll begin noneLeft end size withParts listed single among scope programLimit firstNumber countLine words lookUp valueRange stepOf wordLine stepLine program splitLimit headings headerRanges mapsOf mapsIn startOf headerOf headed headerLine refOf lockOf outRange tidOf semOf rwlockOf typeLine typeLines mapLine rowOf startGiven takesStart startRange mayBeEmpty postRange postField rowLine split lowest atLeast _=ᵐ_ _≥ᵐ_ nowhere sameNumbers _+ᵐ_ _×ᵐ_ share overWhole isInt isRef isLock isTid isSem isRwlock place load inLoad outLoad readLoad writeLoad typeIn lineOf startMap typeAt mapAt code sameMaps sameTree treeOf trees tree agree contains looserLock mayShow row type kind post startIn start K inMap outMap readMap writeMap own preOfPart preOfSecond bind sites numbered claimsAt claims judge firstFalse workspaceSize takesEnough allTakeEnough locksTakeEnough refuseOver startAtMostOne ruled checked answer verdict digit digitsWithin decimal line text pair.step pair.lets pair.spawn pair.join pair.programSteps pair.programLines programText pair.header pair.typeLine pair.typeLines pair.fallingMaps pair.row pair.startRow pair.spawnRows pair.allSpawnRows pair.joinRows pair.allJoinRows pair.rows pair.splitLines splitText
+unfolding bytes same onLine lines onField fields digitLimit digits leadingZero value numeral _>>=_ demand seen insist wrongAfter inRange allInRange withNumeral numerals ranged numbers form outside miscounted faulty passed nextLine next nextAll begin noneLeft end size withParts listed single among scope programLimit firstNumber countLine words lookUp valueRange stepOf wordLine stepLine program splitLimit headings headerRanges mapsOf mapsIn startOf headerOf headed headerLine refOf lockOf outRange tidOf semOf rwlockOf typeLine typeLines mapLine rowOf startGiven takesStart startRange mayBeEmpty postRange postField rowLine split lowest atLeast _=ᵐ_ _≥ᵐ_ nowhere sameNumbers _+ᵐ_ _×ᵐ_ share overWhole isInt isRef isLock isTid isSem isRwlock place load inLoad outLoad readLoad writeLoad typeIn lineOf startMap typeAt mapAt code sameMaps sameTree treeOf trees tree agree contains looserLock mayShow row type kind post startIn start K inMap outMap readMap writeMap own preOfPart preOfSecond bind sites numbered claimsAt claims judge firstFalse workspaceSize takesEnough allTakeEnough locksTakeEnough refuseOver startAtMostOne ruled sheets checked answer verdict digit digitsWithin decimal line text pair.step pair.lets pair.spawn pair.join pair.programSteps pair.programLines programText pair.header pair.typeLine pair.typeLines pair.fallingMaps pair.row pair.startRow pair.spawnRows pair.allSpawnRows pair.joinRows pair.allJoinRows pair.rows pair.splitLines splitText
 answers k zero = []
 answers k (suc n) = verdict workspaceSize (programText k) (splitText k) ∷ answers (k + 1) n
 

@@ -15,11 +15,11 @@ use Rattle.soundness.proofs.Derivation.{split-derivation-is-figure-5}
 -- a pair that is right lists a safe program: its split's derivation is one of Figure 5, and what Figure 5 derives is safe
 pub right-is-safe : (programText splitText : List ℕ) → Right programText splitText → SafeText programText
 right-is-safe programText splitText r =
-    let R = well-formed-in-range (r .split) in
+    let R = well-formed-in-range (r .sheets .split) in
     record {
       P = r .P;
-      program = r .program;
-      holds = derived-is-safe (R .denominator .0) (split-derivation-is-figure-5 (r .S) R (r .locks) (r .derives) (r .program .usedInside)) (at-most-cap (r .atMostOne));
+      program = r .sheets .program;
+      holds = derived-is-safe (R .denominator .0) (split-derivation-is-figure-5 (r .S) R (r .locks) (r .derives) (r .sheets .program .usedInside)) (at-most-cap (r .atMostOne));
     }
 
 pub accepted-is-safe : (room : ℕ) (programText splitText : List ℕ) → verdict room programText splitText ≡ Accept → SafeText programText

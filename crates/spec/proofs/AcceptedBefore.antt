@@ -17,7 +17,7 @@ use Rattle.spec.specs.Conditions.{Condition, T, F, A, Env, typeIn, lineO
 use Rattle.spec.specs.Sites.{Site, sites, Claim, numbered, claimsAt, claims, firstFalse}
 use Rattle.spec.specs.FirstFalse.{Holds, AllHold}
 use Rattle.spec.specs.Workspace.{workspaceSize}
-use Rattle.spec.specs.Verdict.{locksTakeEnough, startAtMostOne, ruled, checked, answer, verdict}
+use Rattle.spec.specs.Verdict.{sheets, locksTakeEnough, startAtMostOne, ruled, checked, answer, verdict}
 use Rattle.spec.specs.declared.TypeNumber.{TypeNumber}
 use Rattle.spec.specs.declared.TypeLine.{TypeLine}
 use Rattle.spec.specs.declared.TypeLine.the-variants as type-line
@@ -90,10 +90,7 @@ module _ (S : Split) where
 unfoldable pub checkedBefore : (room : ℕ) → (programText splitText : List ℕ) → Out (Unit {0})
 checkedBefore room programText splitText = do
   enough ← demand (leb workspaceSize room) ShortWorkspace
-  fits ← demand (leb (length programText) programLimit) LongProgram
-  P ← program programText
-  fits′ ← demand (leb (length splitText) splitLimit) LongSplit
-  S ← split Check (P .steps) splitText
+  (P, S) ← sheets Check programText splitText
   locks ← locksTakeEnough S
   whole ← startAtMostOne P S
   firstFalse (claimsBefore S (sites S [] (startMap S) (P .root)))
@@ -165,12 +162,10 @@ checked-too : (room : ℕ) (p s : List ℕ) → checkedBefore room p s ≡ on tt
 unfolding checkedBefore checked ruled
 checked-too room p s =
     goes-on-too _ _ _ λ _.
-    goes-on-too _ _ _ λ _.
-    goes-on-too _ _ _ λ P.
-    goes-on-too _ _ _ λ _.
-    goes-on-too _ _ _ λ S.
+    goes-on-too _ _ _ λ found.
     goes-on-too _ _ _ λ _.
     goes-on-too _ _ _ λ _ h.
+    let (P, S) = found in
     all-hold-none-false _ (claims-hold S (sites S [] (startMap S) (P .root)) (none-false-all-hold _ h))
 
 -- ------------------------------------------------------------------ the theorem

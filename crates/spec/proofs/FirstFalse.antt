@@ -29,11 +29,10 @@ refusal-names-first-false room p s r h late =
     record {
       P = c .P;
       S = c .S;
-      program = c .program;
-      split = c .split;
+      sheets = c .sheets;
       locks = c .locks;
       atMostOne = c .atMostOne;
-      inOrder = claims-in-order (c .S) [] (startMap (c .S)) (c .P .root) 2 (c .program .numbering);
+      inOrder = claims-in-order (c .S) [] (startMap (c .S)) (c .P .root) 2 (c .sheets .program .numbering);
       first = stopped-first-false (claims (c .S) (sites (c .S) [] (startMap (c .S)) (c .P .root))) (c .outcome);
     }
 
@@ -43,8 +42,7 @@ first-false-is-refused room p s r enough f = ap answer (reached-checked room p s
   P = f .P;
   S = f .S;
   enough = enough;
-  program = f .program;
-  split = f .split;
+  sheets = f .sheets;
   locks = f .locks;
   atMostOne = f .atMostOne;
   outcome = first-false-stopped (f .first);

@@ -14,9 +14,9 @@ use Rattle.spec.specs.Text.{bytes, same, Line, closed, unclosed, lines, 
 use Rattle.spec.specs.Reading.{Out, stop, on, _>>=_, demand, Seen, right, wrong, badForm, programSheet, Place, passed, nextLine, next, nextAll, begin, noneLeft, end}
 use Rattle.spec.specs.Expression.{Step, listed, single, scope}
 use Rattle.spec.specs.Program.{programLimit, countLine, words, wordLine, stepLine, Program, program}
-use Rattle.spec.specs.Split.{split, splitLimit}
+use Rattle.spec.specs.Split.{Split, split, splitLimit}
 use Rattle.spec.specs.Workspace.{workspaceSize}
-use Rattle.spec.specs.Verdict.{locksTakeEnough, startAtMostOne, ruled, checked, answer, verdict, four, returned}
+use Rattle.spec.specs.Verdict.{sheets, locksTakeEnough, startAtMostOne, ruled, checked, answer, verdict, four, returned}
 use Rattle.spec.specs.declared.Answer.{Answer}
 use Rattle.spec.specs.declared.Word.the-variants.{Unary}
 use Rattle.spec.specs.declared.UnaryWord.the-variants.{Lock}
@@ -45,13 +45,18 @@ programFormerly text = do
   bound ← scope e [] []
   on (record { steps = steps; root = e })
 
-unfoldable pub checkedFormerly : (room : ℕ) → (programText splitText : List ℕ) → Out (Unit {0})
-checkedFormerly room programText splitText = do
-  enough ← demand (leb workspaceSize room) ShortWorkspace
+unfoldable pub sheetsFormerly : (programText splitText : List ℕ) → Out (Program × Split)
+sheetsFormerly programText splitText = do
   fits ← demand (leb (length programText) programLimit) LongProgram
   P ← programFormerly programText
   fits′ ← demand (leb (length splitText) splitLimit) LongSplit
   S ← split Check (P .steps) splitText
+  on (P, S)
+
+unfoldable pub checkedFormerly : (room : ℕ) → (programText splitText : List ℕ) → Out (Unit {0})
+checkedFormerly room programText splitText = do
+  enough ← demand (leb workspaceSize room) ShortWorkspace
+  (P, S) ← sheetsFormerly programText splitText
   locks ← locksTakeEnough S
   whole ← startAtMostOne P S
   ruled P S
@@ -259,7 +264,7 @@ text-no-longer p = omega (arith, lines-no-longer (lines p), ap length (joined-li
 -- ------------------------------------------------------------------ the theorem
 
 checked-alike : (room : ℕ) (p s : List ℕ) → length p ≤ programLimit → checked room (locksInstead p) s ≡ checkedFormerly room p s
-unfolding checked checkedFormerly
+unfolding sheets checked sheetsFormerly checkedFormerly
 checked-alike room p s fits =
     let fits′ : length (locksInstead p) ≤ programLimit = omega (arith, fits, text-no-longer p) in
     rw (le-leb _ _ fits, le-leb _ _ fits′, program-alike p (locksInstead p) (lines-instead p))
@@ -273,15 +278,15 @@ lock-instead-as-formerly room p s fits = ap answer (checked-alike room p s fits)
 unfoldable pub judgedByRules : Answer → Bool
 judgedByRules a = let n = returned a .number in eqb n 0 || (leb 30 n && leb n 33)
 
-long-refused : (b : Bool) (o : Out (Unit {0}))
-    → judgedByRules (answer (demand b ShortWorkspace >>= λ enough. demand false LongProgram >>= λ fits. o)) ≡ false
+long-refused : (b : Bool) (m : Out (Program × Split)) (f : Program × Split → Out (Unit {0}))
+    → judgedByRules (answer (demand b ShortWorkspace >>= λ enough. (demand false LongProgram >>= λ fits. m) >>= f)) ≡ false
 unfolding judgedByRules answer returned four demand _>>=_
-long-refused true o = refl
-long-refused false o = refl
+long-refused true m f = refl
+long-refused false m f = refl
 
 long-not-judged : (room : ℕ) (p s : List ℕ) → leb (length p) programLimit ≡ false → judgedByRules (verdictFormerly room p s) ≡ false
-unfolding verdictFormerly checkedFormerly
-long-not-judged room p s long = rw long (long-refused (leb workspaceSize room) _)
+unfolding verdictFormerly checkedFormerly sheetsFormerly
+long-not-judged room p s long = rw long (long-refused (leb workspaceSize room) _ _)
 
 -- "a pair that used to get ACCEPT or 30 to 33 gets that same answer with each such word changed"
 pub judged-as-formerly : (room : ℕ) (p s : List ℕ) → judgedByRules (verdictFormerly room p s) ≡ true

@@ -11,14 +11,14 @@ use Rattle.spec.specs.Conditions.{isInt, isRef, isLock, isTid, isSem, is
 use Rattle.spec.specs.Agreement.{code, sameMaps, sameTree, treeOf, trees, tree, agree}
 use Rattle.spec.specs.Sites.{preOfPart, preOfSecond, bind, sites, numbered, claimsAt, claims, judge, firstFalse}
 use Rattle.spec.specs.Workspace.{workspaceSize}
-use Rattle.spec.specs.Verdict.{takesEnough, allTakeEnough, locksTakeEnough, refuseOver, startAtMostOne, ruled, checked, answer, verdict, four, returned}
+use Rattle.spec.specs.Verdict.{takesEnough, allTakeEnough, locksTakeEnough, refuseOver, startAtMostOne, ruled, sheets, checked, answer, verdict, four, returned}
 use Rattle.spec.specs.EdgeConditions.{rows}
 use Rattle.spec.specs.declared.Returned.{Returned}
 use Rattle.spec.specs.Text.{bytes, same, onLine, lines, onField, fields, lookUp, digitLimit, digits, leadingZero, value, numeral}
 use Rattle.spec.specs.Reading.{_>>=_, demand, seen, insist, wrongAfter, inRange, allInRange, withNumeral, numerals, ranged, numbers, form, outside, miscounted, faulty, passed, nextLine, next, nextAll, begin, noneLeft, end}
 use Rattle.spec.specs.KnownPairs.{Pair, barred, _with_is_, found, Answered}
 use Rattle.spec.proofs.Texts.{_above_, joined, onClosed}
-use Rattle.spec.proofs.FreelockBefore.{stepLineFormerly, programFormerly, checkedFormerly, verdictFormerly, freelockFirst, lockInstead, locksInstead}
+use Rattle.spec.proofs.FreelockBefore.{stepLineFormerly, programFormerly, sheetsFormerly, checkedFormerly, verdictFormerly, freelockFirst, lockInstead, locksInstead}
 
 -- a lock taken by the word w; with `freelock` each used to get the answer listed
 unfoldable pub frees : String → List Pair
@@ -43,5 +43,5 @@ pub record FreesAnswered : Type 0 where
   pub written : map locksInstead (textsOf (frees "freelock")) ≡ textsOf (frees "lock")
 
 pub frees-answered : FreesAnswered
-unfolding bytes same onLine lines onField fields digitLimit digits leadingZero value numeral _>>=_ demand seen insist wrongAfter inRange allInRange withNumeral numerals ranged numbers form outside miscounted faulty passed nextLine next nextAll begin noneLeft end size withParts listed single among scope programLimit firstNumber countLine words lookUp valueRange stepOf wordLine stepLine program splitLimit headings headerRanges mapsOf mapsIn startOf headerOf headed headerLine refOf lockOf outRange tidOf semOf rwlockOf typeLine typeLines mapLine rowOf startGiven takesStart startRange mayBeEmpty postRange postField rowLine split lowest atLeast _=ᵐ_ _≥ᵐ_ nowhere sameNumbers _+ᵐ_ _×ᵐ_ share overWhole isInt isRef isLock isTid isSem isRwlock place load inLoad outLoad readLoad writeLoad typeIn lineOf startMap typeAt mapAt code sameMaps sameTree treeOf trees tree agree contains looserLock mayShow row type kind post startIn start K inMap outMap readMap writeMap own preOfPart preOfSecond bind sites numbered claimsAt claims judge firstFalse workspaceSize takesEnough allTakeEnough locksTakeEnough refuseOver startAtMostOne ruled checked answer verdict four returned barred _with_is_ found Answered rows stepLineFormerly programFormerly checkedFormerly verdictFormerly freelockFirst lockInstead locksInstead joined _above_ onClosed frees answeredFormerly textsOf
+unfolding bytes same onLine lines onField fields digitLimit digits leadingZero value numeral _>>=_ demand seen insist wrongAfter inRange allInRange withNumeral numerals ranged numbers form outside miscounted faulty passed nextLine next nextAll begin noneLeft end size withParts listed single among scope programLimit firstNumber countLine words lookUp valueRange stepOf wordLine stepLine program splitLimit headings headerRanges mapsOf mapsIn startOf headerOf headed headerLine refOf lockOf outRange tidOf semOf rwlockOf typeLine typeLines mapLine rowOf startGiven takesStart startRange mayBeEmpty postRange postField rowLine split lowest atLeast _=ᵐ_ _≥ᵐ_ nowhere sameNumbers _+ᵐ_ _×ᵐ_ share overWhole isInt isRef isLock isTid isSem isRwlock place load inLoad outLoad readLoad writeLoad typeIn lineOf startMap typeAt mapAt code sameMaps sameTree treeOf trees tree agree contains looserLock mayShow row type kind post startIn start K inMap outMap readMap writeMap own preOfPart preOfSecond bind sites numbered claimsAt claims judge firstFalse workspaceSize takesEnough allTakeEnough locksTakeEnough refuseOver startAtMostOne ruled sheets checked answer verdict four returned barred _with_is_ found Answered rows stepLineFormerly programFormerly sheetsFormerly checkedFormerly verdictFormerly freelockFirst lockInstead locksInstead joined _above_ onClosed frees answeredFormerly textsOf
 frees-answered = record { formerly = refl; now = refl; withLock = refl; written = refl }

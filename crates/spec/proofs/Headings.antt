@@ -23,6 +23,7 @@ use Rattle.spec.specs.declared.TypeLine.{TypeLine}
 use Rattle.spec.specs.declared.Refusal.the-variants.{ShortWorkspace, LongProgram, LongSplit, NoStart}
 use Rattle.spec.specs.declared.Answer.the-variants.{Refuse}
 use Rattle.spec.proofs.Texts.{OneLine, _above_, above-lines, fields-append}
+use Rattle.spec.proofs.Sheets.{sheets-then}
 use Rattle.spec.proofs.NoHeading.{headedAs, under, ruling, same-ruling}
 use Rattle.spec.proofs.Ranges.{seen-right}
 use Rattle.spec.specs.declared.Purpose.the-variants.{Check}
@@ -299,5 +300,5 @@ module _ (a t : List ℕ) (one : OneLine a) where
     start-written-out room p started =
         ap answer
         (same-then (demand (leb workspaceSize room) ShortWorkspace) _ _
-        (λ enough. same-then (demand (leb (length p) programLimit) LongProgram) _ _
-        (λ fits. same-then (program p) _ _ answer-same)) (λ k e. started k (ap answer e)))
+        (rw (sheets-then Check p (unnamed a above t), sheets-then Check p (named a above t)) (λ enough. same-then (demand (leb (length p) programLimit) LongProgram) _ _
+        (λ fits. same-then (program p) _ _ answer-same))) (λ k e. started k (ap answer e)))

@@ -22,6 +22,7 @@ pub mod Scopes
 pub mod Reading
 pub mod WellFormed
 pub mod EarlyRefusals
+pub mod Sheets
 pub mod Reached
 pub mod Accepted
 pub mod AcceptedBefore

@@ -25,6 +25,7 @@ use Rattle.spec.proofs.Tests.{same-equal}
 use Rattle.spec.proofs.Outcomes.{bind-alike}
 use Rattle.spec.proofs.Ranges.{wrong-is-not-right, seen-right, numbers-right, numbers-spelled, numerals-counted}
 use Rattle.spec.proofs.WellFormed.{split-well-formed, well-formed-split}
+use Rattle.spec.proofs.Sheets.{sheets-then}
 use Rattle.spec.proofs.NoHeading.{headedAs, under, ruling, same-ruling}
 
 -- ------------------------------------------------------------------ the change
@@ -184,8 +185,7 @@ LocksWritten p t t′ = (P : Program) → program p ≡ on P → (S : Split) × 
 checked-alike : (room : ℕ) (p t t′ : List ℕ) → length t ≤ splitLimit → length t′ ≤ splitLimit → LocksWritten p t t′
     → checked room p t ≡ checked room p t′
 unfolding checked ruling
-checked-alike room p t t′ fits fits′ written = rw (le-leb _ _ fits, le-leb _ _ fits′) (
-    bind-alike _ _ _ λ _ _.
+checked-alike room p t t′ fits fits′ written = bind-alike _ _ _ λ _ _. rw (sheets-then Check p t, sheets-then Check p t′, le-leb _ _ fits, le-leb _ _ fits′) (
     bind-alike _ _ _ λ _ _.
     bind-alike _ _ _ λ P reads.
     bind-alike _ _ _ λ _ _.

@@ -28,6 +28,16 @@ pub goes-on-bind : {A B : Type 0} {a : A} {o : Out B} (m : Out A) (f : A → Out
 unfolding _>>=_
 goes-on-bind m f e h = rw e h
 
+pub bind-on : {A B : Type 0} (a : A) (f : A → Out B) → (on a >>= f) ≡ f a
+unfolding _>>=_
+bind-on a f = refl
+
+-- it does not matter which two of three are joined first
+pub bind-bind : {A B C : Type 0} (m : Out A) (f : A → Out B) (g : B → Out C) → (m >>= f >>= g) ≡ (m >>= λ a. f a >>= g)
+unfolding _>>=_
+bind-bind (stop r) f g = refl
+bind-bind (on a) f g = refl
+
 -- what goes on alike from whatever was found
 pub bind-alike : {A B : Type 0} (m : Out A) (f g : A → Out B) → ((a : A) → m ≡ on a → f a ≡ g a) → (m >>= f) ≡ (m >>= g)
 unfolding _>>=_

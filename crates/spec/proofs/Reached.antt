@@ -10,12 +10,12 @@ use Rattle.spec.specs.Split.{Split}
 use Rattle.spec.specs.Conditions.{startMap}
 use Rattle.spec.specs.Workspace.{workspaceSize}
 use Rattle.spec.specs.Verdict.{refuseOver, startAtMostOne, ruled, checked, four, returned, onConditions}
-use Rattle.spec.specs.WellFormed.{WellFormedProgram, WellFormedSplit}
+use Rattle.spec.specs.WellFormed.{WellFormedSheets}
 use Rattle.spec.specs.Accepted.{LocksTakeEnough, AtMost}
 use Rattle.spec.proofs.Outcomes.{stop-is-not-on, goes-on-bind, demand-goes-on, goes-on-demand}
 use Rattle.spec.proofs.Maps.{none-at-most, at-most-none}
-use Rattle.spec.proofs.WellFormed.{program-well-formed, well-formed-program, split-well-formed, well-formed-split}
-use Rattle.spec.proofs.EarlyRefusals.{Late, past, early-demand, program-early, split-early, locks-early, start-early}
+use Rattle.spec.proofs.EarlyRefusals.{Late, past, early-demand, locks-early, start-early}
+use Rattle.spec.proofs.Sheets.{sheets-well-formed, well-formed-sheets, sheets-early}
 use Rattle.spec.specs.declared.Purpose.the-variants.{Check}
 use Rattle.spec.proofs.Locks.{locks-take-enough, enough-taken}
 
@@ -45,8 +45,7 @@ pub record Reached (room : ℕ) (p s : List ℕ) (o : Out (Unit {0})) : Type 0 w
   pub P : Program
   pub S : Split
   pub enough : workspaceSize ≤ room
-  pub program : WellFormedProgram p P
-  pub split : WellFormedSplit Check (P .steps) s S
+  pub sheets : WellFormedSheets Check p s P S
   pub locks : LocksTakeEnough S
   pub atMostOne : AtMost (S .header .denominator) (startMap S)
   pub outcome : ruled P S ≡ o
@@ -55,29 +54,23 @@ pub reached : (room : ℕ) (p s : List ℕ) (o : Out (Unit {0})) → Late o → 
 unfolding checked returned four onConditions
 reached room p s o late h =
     past o _ _ (early-demand _ _ refl) late h λ _ enough r₁.
-    past o _ _ (early-demand _ _ refl) late r₁ λ _ fits r₂.
-    past o _ _ (program-early p) late r₂ λ P reads r₃.
-    past o _ _ (early-demand _ _ refl) late r₃ λ _ splitFits r₄.
-    past o _ _ (split-early Check (P .steps) s) late r₄ λ S splits r₅.
-    past o _ _ (locks-early S) late r₅ λ _ locks r₆.
-    past o _ _ (start-early P S) late r₆ λ _ whole r₇. record {
+    past o _ _ (sheets-early Check p s) late r₁ λ found reads r₂.
+    let (P, S) = found in
+    past o _ _ (locks-early S) late r₂ λ _ locks r₃.
+    past o _ _ (start-early P S) late r₃ λ _ whole r₄. record {
       P = P;
       S = S;
       enough = leb-true _ _ (demand-goes-on _ _ enough);
-      program = program-well-formed p (leb-true _ _ (demand-goes-on _ _ fits)) reads;
-      split = split-well-formed Check (P .steps) s (leb-true _ _ (demand-goes-on _ _ splitFits)) splits;
+      sheets = sheets-well-formed Check p s reads;
       locks = locks-take-enough S locks;
       atMostOne = start-at-most-one P S whole;
-      outcome = r₇;
+      outcome = r₄;
     }
 
 pub reached-checked : (room : ℕ) (p s : List ℕ) (o : Out (Unit {0})) → Reached room p s o → checked room p s ≡ o
 unfolding checked
 reached-checked room p s o r =
     goes-on-bind _ _ (goes-on-demand _ _ (le-leb _ _ (r .enough)))
-    (goes-on-bind _ _ (goes-on-demand _ _ (le-leb _ _ (r .program .fits)))
-    (goes-on-bind _ _ (well-formed-program p (r .program))
-    (goes-on-bind _ _ (goes-on-demand _ _ (le-leb _ _ (r .split .fits)))
-    (goes-on-bind _ _ (well-formed-split Check (r .P .steps) s (r .split))
+    (goes-on-bind _ _ (well-formed-sheets Check p s (r .sheets))
     (goes-on-bind _ _ (enough-taken (r .S) (r .locks))
-    (goes-on-bind _ _ (at-most-one-start (r .P) (r .S) (r .atMostOne)) (r .outcome)))))))
+    (goes-on-bind _ _ (at-most-one-start (r .P) (r .S) (r .atMostOne)) (r .outcome))))

@@ -16,7 +16,7 @@ use Rattle.spec.specs.Expression.{Step}
 use Rattle.spec.specs.Program.{Program, program, programLimit}
 use Rattle.spec.specs.Split.{splitLimit, Header, headerLine, typeLines, mapLine, Row, rowOf, startGiven, takesStart, startRange, postRange, postField, rowLine, Split, split}
 use Rattle.spec.specs.Workspace.{workspaceSize}
-use Rattle.spec.specs.Verdict.{locksTakeEnough, startAtMostOne, ruled, checked, answer, verdict}
+use Rattle.spec.specs.Verdict.{sheets, locksTakeEnough, startAtMostOne, ruled, checked, answer, verdict}
 use Rattle.spec.specs.declared.Answer.{Answer}
 use Rattle.spec.specs.declared.Refusal.the-variants.{ShortWorkspace, LongProgram, LongSplit}
 use Rattle.spec.specs.declared.Purpose.the-variants.{Check}
@@ -51,13 +51,18 @@ splitFormerly steps text = do
   done ← end splitSheet p₄
   on (record { header = H; types = types; maps = maps; rows = rows })
 
-unfoldable pub checkedFormerly : (room : ℕ) → (programText splitText : List ℕ) → Out (Unit {0})
-checkedFormerly room programText splitText = do
-  enough ← demand (leb workspaceSize room) ShortWorkspace
+unfoldable pub sheetsFormerly : (programText splitText : List ℕ) → Out (Program × Split)
+sheetsFormerly programText splitText = do
   fits ← demand (leb (length programText) programLimit) LongProgram
   P ← program programText
   fits′ ← demand (leb (length splitText) splitLimit) LongSplit
   S ← splitFormerly (P .steps) splitText
+  on (P, S)
+
+unfoldable pub checkedFormerly : (room : ℕ) → (programText splitText : List ℕ) → Out (Unit {0})
+checkedFormerly room programText splitText = do
+  enough ← demand (leb workspaceSize room) ShortWorkspace
+  (P, S) ← sheetsFormerly programText splitText
   locks ← locksTakeEnough S
   whole ← startAtMostOne P S
   ruled P S
@@ -249,18 +254,16 @@ module _ (steps : List Step) (t t′ : List ℕ) where
 abbrev pub ZeroWritten : (p t t′ : List ℕ) → Type 0
 ZeroWritten p t t′ = (P : Program) → program p ≡ on P → lines t′ ≡ zerosWritten (P .steps) (lines t)
 
-checked-alike : (room : ℕ) (p t t′ : List ℕ) → length t ≤ splitLimit → length t′ ≤ splitLimit → ZeroWritten p t t′
-    → checkedFormerly room p t ≡ checked room p t′
-unfolding checkedFormerly checked
-checked-alike room p t t′ fits fits′ written = rw (le-leb _ _ fits, le-leb _ _ fits′) (
-    bind-alike _ _ _ λ _ _.
+sheets-alike : (p t t′ : List ℕ) → length t ≤ splitLimit → length t′ ≤ splitLimit → ZeroWritten p t t′ → sheetsFormerly p t ≡ sheets Check p t′
+unfolding sheetsFormerly sheets
+sheets-alike p t t′ fits fits′ written = rw (le-leb _ _ fits, le-leb _ _ fits′) (
     bind-alike _ _ _ λ _ _.
     bind-alike _ _ _ λ P reads.
     bind-alike _ _ _ λ _ _.
-    ap (_>>= λ S. locksTakeEnough S >>= λ locks. startAtMostOne P S >>= λ whole. ruled P S) (sheet-alike (P .steps) t t′ (lines t) refl (written P reads)))
+    ap (_>>= λ S. on (P, S)) (sheet-alike (P .steps) t t′ (lines t) refl (written P reads)))
 
 -- of each pair, refused or accepted, under each heading
 pub zero-written-as-formerly : (room : ℕ) (p t t′ : List ℕ) → length t ≤ splitLimit → length t′ ≤ splitLimit → ZeroWritten p t t′
     → verdictFormerly room p t ≡ verdict room p t′
-unfolding verdictFormerly verdict
-zero-written-as-formerly room p t t′ fits fits′ written = ap answer (checked-alike room p t t′ fits fits′ written)
+unfolding verdictFormerly verdict checkedFormerly checked
+zero-written-as-formerly room p t t′ fits fits′ written = rw (sheets-alike p t t′ fits fits′ written)

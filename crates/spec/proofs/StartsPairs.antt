@@ -12,13 +12,13 @@ use Rattle.spec.specs.Conditions.{isInt, isRef, isLock, isTid, isSem, is
 use Rattle.spec.specs.Agreement.{code, sameMaps, sameTree, treeOf, trees, tree, agree}
 use Rattle.spec.specs.Sites.{preOfPart, preOfSecond, bind, sites, numbered, claimsAt, claims, judge, firstFalse}
 use Rattle.spec.specs.Workspace.{workspaceSize}
-use Rattle.spec.specs.Verdict.{takesEnough, allTakeEnough, locksTakeEnough, refuseOver, startAtMostOne, ruled, checked, answer, verdict, four, returned}
+use Rattle.spec.specs.Verdict.{takesEnough, allTakeEnough, locksTakeEnough, refuseOver, startAtMostOne, ruled, sheets, checked, answer, verdict, four, returned}
 use Rattle.spec.specs.KnownPairs.{Pair, barred, _with_is_, found, Answered, P, S}
 use Rattle.spec.specs.EdgeConditions.{rows}
 use Rattle.spec.specs.EdgeSpawns.{spawning, naming}
 use Rattle.spec.specs.declared.Returned.{Returned}
 use Rattle.spec.proofs.Texts.{onClosed}
-use Rattle.spec.proofs.StartsBefore.{startLeft, rowLineFormerly, splitFormerly, checkedFormerly, verdictFormerly, writeZero, kept, along, zerosBehind, zerosWritten}
+use Rattle.spec.proofs.StartsBefore.{startLeft, rowLineFormerly, splitFormerly, sheetsFormerly, checkedFormerly, verdictFormerly, writeZero, kept, along, zerosBehind, zerosWritten}
 
 -- pairs with one spawn, by what its row has for s; with nothing there, each used to get the answer listed
 unfoldable pub spawns : String → List Pair
@@ -43,5 +43,5 @@ pub record SpawnsAnswered : Type 0 where
   pub written : map linesWritten (spawns "") ≡ map (λ (r : Pair). on (lines (barred (r .split)))) (spawns "0")
 
 pub spawns-answered : SpawnsAnswered
-unfolding bytes same onLine lines onField fields digitLimit digits leadingZero value numeral _>>=_ demand seen insist wrongAfter inRange allInRange withNumeral numerals ranged numbers form outside miscounted faulty passed nextLine next nextAll begin noneLeft end size withParts listed single among scope programLimit firstNumber countLine words lookUp valueRange stepOf wordLine stepLine program splitLimit headings headerRanges mapsOf mapsIn startOf headerOf headed headerLine refOf lockOf outRange tidOf semOf rwlockOf typeLine typeLines mapLine rowOf startGiven takesStart startRange mayBeEmpty postRange postField rowLine split startLeft rowLineFormerly splitFormerly lowest atLeast _=ᵐ_ _≥ᵐ_ nowhere sameNumbers _+ᵐ_ _×ᵐ_ share overWhole isInt isRef isLock isTid isSem isRwlock place load inLoad outLoad readLoad writeLoad typeIn lineOf startMap typeAt mapAt code sameMaps sameTree treeOf trees tree agree contains looserLock mayShow row type kind post startIn start K inMap outMap readMap writeMap own preOfPart preOfSecond bind sites numbered claimsAt claims judge firstFalse workspaceSize takesEnough allTakeEnough locksTakeEnough refuseOver startAtMostOne ruled checked checkedFormerly answer verdict verdictFormerly four returned barred _with_is_ found Answered P S rows spawning naming spawns answeredFormerly writeZero kept onClosed along zerosBehind zerosWritten linesWritten
+unfolding bytes same onLine lines onField fields digitLimit digits leadingZero value numeral _>>=_ demand seen insist wrongAfter inRange allInRange withNumeral numerals ranged numbers form outside miscounted faulty passed nextLine next nextAll begin noneLeft end size withParts listed single among scope programLimit firstNumber countLine words lookUp valueRange stepOf wordLine stepLine program splitLimit headings headerRanges mapsOf mapsIn startOf headerOf headed headerLine refOf lockOf outRange tidOf semOf rwlockOf typeLine typeLines mapLine rowOf startGiven takesStart startRange mayBeEmpty postRange postField rowLine split startLeft rowLineFormerly splitFormerly lowest atLeast _=ᵐ_ _≥ᵐ_ nowhere sameNumbers _+ᵐ_ _×ᵐ_ share overWhole isInt isRef isLock isTid isSem isRwlock place load inLoad outLoad readLoad writeLoad typeIn lineOf startMap typeAt mapAt code sameMaps sameTree treeOf trees tree agree contains looserLock mayShow row type kind post startIn start K inMap outMap readMap writeMap own preOfPart preOfSecond bind sites numbered claimsAt claims judge firstFalse workspaceSize takesEnough allTakeEnough locksTakeEnough refuseOver startAtMostOne ruled sheets checked sheetsFormerly checkedFormerly answer verdict verdictFormerly four returned barred _with_is_ found Answered P S rows spawning naming spawns answeredFormerly writeZero kept onClosed along zerosBehind zerosWritten linesWritten
 spawns-answered = record { formerly = refl; now = refl; withZero = refl; written = refl }

@@ -6,7 +6,7 @@ use Rattle.spec.specs.Program.{Program}
 use Rattle.spec.specs.Split.{Map, Split, typeAt, mapAt}
 use Rattle.spec.specs.Conditions.{startMap}
 use Rattle.spec.specs.Figure5.{_⊒_, Derives}
-use Rattle.spec.specs.WellFormed.{WellFormedProgram, WellFormedSplit}
+use Rattle.spec.specs.WellFormed.{WellFormedSheets}
 use Rattle.spec.specs.declared.Purpose.the-variants.{Check}
 use Rattle.spec.specs.declared.TypeNumber.{TypeNumber}
 use Rattle.spec.specs.declared.MapNumber.{MapNumber}
@@ -26,8 +26,7 @@ LocksTakeEnough S = (t : TypeNumber) (i o : MapNumber) → typeAt S t ≡ type-l
 pub record Right (programText splitText : List ℕ) : Type 0 where
   pub P : Program
   pub S : Split
-  pub program : WellFormedProgram programText P
-  pub split : WellFormedSplit Check (P .steps) splitText S
+  pub sheets : WellFormedSheets Check programText splitText P S
   pub locks : LocksTakeEnough S
   pub atMostOne : AtMost (S .header .denominator) (startMap S)
   pub derives : Derives S [] (startMap S) (P .root)

@@ -8,7 +8,7 @@ use Rattle.spec.specs.Program.{Program}
 use Rattle.spec.specs.Split.{Split}
 use Rattle.spec.specs.Conditions.{Condition, T, F, A, startMap}
 use Rattle.spec.specs.Sites.{Claim, sites, claims}
-use Rattle.spec.specs.WellFormed.{WellFormedProgram, WellFormedSplit}
+use Rattle.spec.specs.WellFormed.{WellFormedSheets}
 use Rattle.spec.specs.Accepted.{LocksTakeEnough, AtMost}
 use Rattle.spec.specs.declared.Location.{Location}
 use Rattle.spec.specs.declared.Refusal.{Refusal}
@@ -65,8 +65,7 @@ InOrder (c ∷ cs) = EarlierThanAll c cs × InOrder cs
 pub record Refuted (programText splitText : List ℕ) (r : Refusal) : Type 0 where
   pub P : Program
   pub S : Split
-  pub program : WellFormedProgram programText P
-  pub split : WellFormedSplit Check (P .steps) splitText S
+  pub sheets : WellFormedSheets Check programText splitText P S
   pub locks : LocksTakeEnough S
   pub atMostOne : AtMost (S .header .denominator) (startMap S)
   pub inOrder : InOrder (claims S (sites S [] (startMap S) (P .root)))

@@ -19,6 +19,7 @@ use Rattle.spec.specs.declared.TypeLine.{TypeLine}
 use Rattle.spec.specs.declared.TypeLine.the-variants as type-line
 use Rattle.spec.specs.declared.Refusal.{Refusal}
 use Rattle.spec.specs.declared.Refusal.the-variants.{ShortWorkspace, LongProgram, ProgramForm, ProgramRange, ProgramLines, Unbound, Rebound, LongSplit, SplitForm, SplitRange, SplitLines, NoStart, OverOne, TypeFalse, FlowFalse, AccessFalse, NoAfterMaps, TooLarge, TooManyMaps, LockTakesLess, Freelock}
+use Rattle.spec.specs.declared.Purpose.{Purpose}
 use Rattle.spec.specs.declared.Purpose.the-variants.{Check}
 
 -- 44, at a type line: "a lock line whose out is below its in at some location"; "lowest such line first"
@@ -58,14 +59,20 @@ ruled P S = firstFalse (claims S (sites S [] (startMap S) (P .root)))
 unfoldable pub typed : Program → Split → Out (Unit {0})
 typed P S = firstFalse (only isType (claims S (sites S [] (startMap S) (P .root))))
 
--- 1; 10; 11 to 15 and 45; 20; 21 to 23 and 40; 44; 30; 31 to 33
-unfoldable pub checked : (room : ℕ) → (programText splitText : List ℕ) → Out (Unit {0})
-checked room programText splitText = do
-  enough ← demand (leb workspaceSize room) ShortWorkspace
+-- both sheets, 10; 11 to 15 and 45; 20; 21 to 23 and 40
+unfoldable pub sheets : Purpose → (programText splitText : List ℕ) → Out (Program × Split)
+sheets purpose programText splitText = do
   fits ← demand (leb (length programText) programLimit) LongProgram
   P ← program programText
   fits′ ← demand (leb (length splitText) splitLimit) LongSplit
-  S ← split Check (P .steps) splitText
+  S ← split purpose (P .steps) splitText
+  on (P, S)
+
+-- 1; both sheets; 44; 30; 31 to 33
+unfoldable pub checked : (room : ℕ) → (programText splitText : List ℕ) → Out (Unit {0})
+checked room programText splitText = do
+  enough ← demand (leb workspaceSize room) ShortWorkspace
+  (P, S) ← sheets Check programText splitText
   locks ← locksTakeEnough S
   whole ← startAtMostOne P S
   ruled P S

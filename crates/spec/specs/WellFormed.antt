@@ -95,3 +95,8 @@ pub record WellFormedSplit (purpose : Purpose) (steps : List Step) (text : List 
   pub typed : Shows (typeLines (S .header) 0 (S .header .types)) others (S .types) afterTypes
   pub mapped : Shows (replicate (S .header .maps) (mapLine (S .header))) afterTypes (S .maps) afterMaps
   pub rowed : Shows (map (rowLine purpose (S .header)) steps) afterMaps (S .rows) []
+
+-- "both sheets are well formed", and what they say
+pub record WellFormedSheets (purpose : Purpose) (programText splitText : List ℕ) (P : Program) (S : Split) : Type 0 where
+  pub program : WellFormedProgram programText P
+  pub split : WellFormedSplit purpose (P .steps) splitText S

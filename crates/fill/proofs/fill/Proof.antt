@@ -13,21 +13,21 @@ returns : tie.Need-returns
 returns c =
     promises-kept _ _ _ _ _ _ _ (told-as (sym (short-workspace _ _ _ _ (c .if1 .taken))) (refusal-told ShortWorkspace _)) (short-kept _ (c .if1 .taken)) (refl, refl)
 
-slice-aggregate-fill-program : tie.Need-slice-aggregate-fill-program
-slice-aggregate-fill-program c = sym (length-take-le 16384 (c .before .before .before .before .before .before .args .work .now) (c .before .if1 .left))
+slice-aggregate-fill-texts : tie.Need-slice-aggregate-fill-texts
+slice-aggregate-fill-texts c = sym (length-take-le 16384 (c .before .before .before .before .before .before .args .work .now) (c .before .if1 .left))
 
-fill-program-requires : tie.Need-fill-program-requires
-fill-program-requires c κs = length-take-le 16384 (c .before .before .before .before .before .before .before .args .work .now) (c .before .before .if1 .left)
+fill-texts-requires : tie.Need-fill-texts-requires
+fill-texts-requires c κs = length-take-le 16384 (c .before .before .before .before .before .before .before .args .work .now) (c .before .before .if1 .left)
 
 slice-aggregate-clear : tie.Need-slice-aggregate-clear
 slice-aggregate-clear c =
-    let filled = c .before .before .before .before .before .fill-program in
+    let filled = c .before .before .before .before .before .fill-texts in
     sym (first-again 16384 (c .before .before .before .before .before .before .before .before .before .before .before .before .before .args .work .now) (filled .last .1 .1 .0) (c .before .before .before .before .before .before .before .before .if1 .left) (filled .kept .1 .1 .0))
 
 returns-2 : tie.Need-returns-2
 returns-2 c =
     let enough = c .before .before .before .before .before .before .before .before .before .before .before .if1 .left in
-    let filled = c .before .before .before .before .before .before .before .before .fill-program in
+    let filled = c .before .before .before .before .before .before .before .before .fill-texts in
     promises-kept _ _ _ _ _ _ _ (told-as (room-enough _ _ _ _ enough) (filled .ensures))
     (long-cleared _ _ enough (then-cleared 16384 (c .before .before .before .before .before .before .before .before .before .before .before .before .before .before .before .before .args .work .now) (filled .last .1 .1 .0) enough (filled .kept .1 .1 .0) _ (c .before .before .clear .ensures)))
     (refl, refl)
@@ -38,8 +38,8 @@ fill-spec =
     (tie.spec
     returns
     (λ c. search needs)
-    slice-aggregate-fill-program
-    fill-program-requires
+    slice-aggregate-fill-texts
+    fill-texts-requires
     (λ c. search needs)
     slice-aggregate-clear
     (λ c κs. search needs)

@@ -1,16 +1,15 @@
-use Rattle.fill.proofs.Stages.{some-given, nothing-told, large-told, some-filled, maps-filled}
+use Rattle.fill.proofs.Stages.{maps-given, nothing-told, large-told, some-filled, maps-filled}
 use borrow.Author.Needs.{needs}
 use Rattle.fill.proofs.fill_held.Statement.{statement}
 use Rattle.fill.proofs.fill_held.Tie as tie
 
 fill-maps-requires : tie.Need-fill-maps-requires
 fill-maps-requires c κs =
-    let start = c .before .before .before in
-    some-given (start .pre .3) (start .pre .2) (start .pre .0)
+    maps-given (c .before .before .before .pre)
 
 write-filled-requires : tie.Need-write-filled-requires
 write-filled-requires c κs =
-    some-filled _ (c .before .before .before .before .before .before .before .fill-maps .ensures) (c .before .before .before .enum-told3 .given .1) (c .before .before .grown .ensures) (c .before .before .before .before .before .before .before .before .before .before .before .pre .3)
+    some-filled _ (c .before .before .before .before .before .before .before .fill-maps .ensures) (c .before .before .before .enum-told3 .given .1) (c .before .before .grown .ensures) (c .before .before .before .before .before .before .before .before .before .before .before .pre)
 
 returns : tie.Need-returns
 returns c = nothing-told _ (c .before .before .before .before .fill-maps .ensures) _ (c .enum-told .given .1)

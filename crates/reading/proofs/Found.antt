@@ -1,0 +1,75 @@
+-- What the readers of the two sheets found, put together.
+use mathlib.Core.Path.{_≡_, sym, ap, _∙_}
+use mathlib.Core.Path.{subst as along}
+use mathlib.Core.List.{List}
+use Prim.Native.Nat.{ℕ, _≤_, _<_}
+use native.Mathlib.Omega.{arith}
+use lib.ListN.{length}
+use Rattle.spec.specs.Reading.{Out, stop, on}
+use Rattle.spec.specs.Program.{Program, programLimit}
+use Rattle.spec.specs.Split.{Split, splitLimit, split}
+use Rattle.spec.specs.WellFormed.{WellFormedProgram}
+use Rattle.spec.specs.Verdict.{sheets}
+use Rattle.spec.specs.declared.Purpose.{Purpose}
+use Rattle.spec.specs.declared.Refusal.{Refusal}
+use Rattle.spec.specs.declared.Refusal.the-variants.{LongSplit}
+use Rattle.spec.proofs.WellFormed.{well-formed-program, split-well-formed}
+use Rattle.spec.proofs.Sheets.{long-split, split-refused, sheets-read}
+use Rattle.spec.proofs.Ranges.{well-formed-in-range}
+use Rattle.workspace.specs.Region.{ChangedWithin}
+use Rattle.workspace.specs.Holds.{HoldsProgram, HoldsSplit}
+use Rattle.workspace.specs.Sheets.{headerTold}
+use Rattle.workspace.proofs.Held.{program-kept}
+use Rattle.workspace.specs.declared.Header.{Header}
+use Rattle.split.specs.Answers.{Small}
+use Rattle.split.proofs.Found.{denominator-told, locations-told, start-told}
+use Rattle.reading.specs.Answers.{HoldsBoth, SheetsHeld, SheetsAnswered}
+use Rattle.reading.specs.declared.Reading.{Reading}
+use Rattle.reading.specs.declared.Reading.the-variants.{Held, Refused}
+
+-- a program that is well formed, and the split's text
+module _ (purpose : Purpose) (p s : List ℕ) {P : Program} (F : WellFormedProgram p P) where
+  pub too-long : 65536 < length s → sheets purpose p s ≡ stop LongSplit
+  unfolding programLimit
+  too-long h = long-split purpose p s (F .fits) P (well-formed-program p F) h
+
+  module _ (fits : length s ≤ 65536) where
+    pub split-stops : {r : Refusal} → split purpose (P .steps) s ≡ stop r → sheets purpose p s ≡ stop r
+    unfolding programLimit
+    split-stops e = split-refused purpose p s (F .fits) P (well-formed-program p F) fits _ e
+
+    -- the split is read into the work space behind the program
+    pub both-held : {w w′ : List ℕ} {n : ℕ} (header : Header) {S : Split} → split purpose (P .steps) s ≡ on S
+        → ChangedWithin 1024 16384 w w′ → HoldsProgram w P → HoldsSplit w′ S → n ≡ length (P .steps) → n ≤ 256
+        → S .header ≡ headerTold header → Small header → SheetsHeld purpose p s w′ n header
+    unfolding programLimit splitLimit
+    both-held header {S} e changed holds holds′ counted few headed small = record {
+      P = P;
+      S = S;
+      read = sheets-read purpose p s (F .fits) P (well-formed-program p F) fits S e;
+      holds = record {
+        sheets = record {
+          programText = p;
+          wellFormed = F;
+          inRange = well-formed-in-range (split-well-formed purpose (P .steps) s fits e);
+          program = program-kept changed (F .listing) (omega (arith, counted, few)) holds;
+          split = holds′;
+          stepsCounted = counted;
+          denominatorGiven = denominator-told S header headed;
+          locationsGiven = locations-told S header headed;
+          startGiven = start-told S header headed;
+        };
+        headed = headed;
+      };
+      few = few;
+      small = small;
+    }
+
+-- ------------------------------------------------------------------ what an answer says
+
+module _ (purpose : Purpose) (p s w : List ℕ) (answer : Reading) (told : SheetsAnswered purpose p s w answer) where
+  pub refused-by : {r : Refusal} → answer ≡ Refused r → sheets purpose p s ≡ stop r
+  refused-by e = along (SheetsAnswered purpose p s w) e told
+
+  pub held-by : {n : ℕ} {header : Header} → answer ≡ Held n header → SheetsHeld purpose p s w n header
+  held-by e = along (SheetsAnswered purpose p s w) e told

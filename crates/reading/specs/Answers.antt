@@ -1,0 +1,51 @@
+-- What the answer to both sheets means: a refusal is that of the definition; else the work space holds what they say.
+use mathlib.Core.Path.{_≡_}
+use mathlib.Core.List.{List}
+use Prim.Native.Nat.{ℕ, _≤_}
+use lib.ListN.{length}
+use Rattle.spec.specs.Reading.{stop, on}
+use Rattle.spec.specs.Program.{Program}
+use Rattle.spec.specs.Split.{Split}
+use Rattle.spec.specs.WellFormed.{WellFormedProgram}
+use Rattle.spec.specs.Verdict.{sheets}
+use Rattle.spec.specs.declared.Purpose.{Purpose}
+use Rattle.workspace.specs.Holds.{HoldsProgram}
+use Rattle.workspace.specs.Sheets.{headerTold, HoldsSheets}
+use Rattle.workspace.specs.declared.Header.{Header}
+use Rattle.split.specs.Answers.{Small}
+use Rattle.reading.specs.declared.Reading.{Reading}
+use Rattle.reading.specs.declared.Reading.the-variants.{Held, Refused}
+
+-- the work space holds both sheets, and the split has this header
+pub record HoldsBoth (w : List ℕ) (header : Header) (steps : ℕ) (P : Program) (S : Split) : Type 0 where
+  pub sheets : HoldsSheets w steps (header .denominator) (header .locations) (header .start .0) P S
+  pub headed : S .header ≡ headerTold header
+
+-- both sheets are read, and the work space w holds them
+pub record SheetsHeld (purpose : Purpose) (programText splitText w : List ℕ) (steps : ℕ) (header : Header) : Type 0 where
+  pub P : Program
+  pub S : Split
+  pub read : sheets purpose programText splitText ≡ on (P, S)
+  pub holds : HoldsBoth w header steps P S
+  pub few : steps ≤ 256
+  pub small : Small header
+
+abbrev pub SheetsAnswered : Purpose → (programText splitText w : List ℕ) → Reading → Type 0
+SheetsAnswered purpose programText splitText w (Held steps header) = SheetsHeld purpose programText splitText w steps header
+SheetsAnswered purpose programText splitText w (Refused r) = sheets purpose programText splitText ≡ stop r
+
+-- ------------------------------------------------------------------ the split, for a program that is held
+
+-- the work space has its size and holds a program of so many steps
+pub record ProgramHeld (w : List ℕ) (steps : ℕ) : Type 0 where
+  pub long : length w ≡ 16384
+  pub few : steps ≤ 256
+  pub P : Program
+  pub holds : HoldsProgram w P
+  pub counted : steps ≡ length (P .steps)
+
+-- for whichever program of so many steps the work space w holds
+abbrev pub SplitAnswered : Purpose → (splitText : List ℕ) (steps : ℕ) (w w′ : List ℕ) → Reading → Type 0
+SplitAnswered purpose splitText steps w w′ answer =
+    (programText : List ℕ) (P : Program) → WellFormedProgram programText P → HoldsProgram w P → steps ≡ length (P .steps)
+    → SheetsAnswered purpose programText splitText w′ answer

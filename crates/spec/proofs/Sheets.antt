@@ -1,0 +1,85 @@
+-- Both sheets, read in turn: they are read exactly when both are well formed, and else the first reason stops them. The limits are
+-- written out.
+use mathlib.Core.Path.{_≡_, refl, _∙_}
+use mathlib.Core.Path.{subst as along}
+use mathlib.Core.List.{List}
+use Prim.Native.Nat.{ℕ, _≤_, _<_}
+use lib.Dec.{leb}
+use lib.ListN.{length}
+use borrow.Author.Tests.{leb-true, le-leb, lt-leb}
+use Rattle.spec.specs.Reading.{Out, stop, on, _>>=_, demand}
+use Rattle.spec.specs.Program.{Program, program, programLimit}
+use Rattle.spec.specs.Split.{Split, split, splitLimit}
+use Rattle.spec.specs.WellFormed.{WellFormedSheets}
+use Rattle.spec.specs.Verdict.{sheets, four, returned, onConditions}
+use Rattle.spec.specs.declared.Purpose.{Purpose}
+use Rattle.spec.specs.declared.Refusal.{Refusal}
+use Rattle.spec.specs.declared.Refusal.the-variants.{LongProgram, LongSplit}
+use Rattle.spec.proofs.Outcomes.{on-injective, bind-on, bind-bind, bind-alike, bind-goes-on, goes-on-bind, demand-goes-on, goes-on-demand}
+use Rattle.spec.proofs.WellFormed.{program-well-formed, well-formed-program, split-well-formed, well-formed-split}
+use Rattle.spec.proofs.EarlyRefusals.{Early, early-bind, early-demand, program-early, split-early}
+
+module _ (purpose : Purpose) (p s : List ℕ) where
+  pub sheets-well-formed : {P : Program} {S : Split} → sheets purpose p s ≡ on (P, S) → WellFormedSheets purpose p s P S
+  unfolding sheets
+  sheets-well-formed h =
+      let (fits, small, h₁) = bind-goes-on _ _ h in
+      let (P, reads, h₂) = bind-goes-on _ _ h₁ in
+      let (fits′, small′, h₃) = bind-goes-on _ _ h₂ in
+      let (S, splits, h₄) = bind-goes-on _ _ h₃ in
+      let formed : WellFormedSheets purpose p s P S = record {
+        program = program-well-formed p (leb-true _ _ (demand-goes-on _ _ small)) reads;
+        split = split-well-formed purpose (P .steps) s (leb-true _ _ (demand-goes-on _ _ small′)) splits;
+      } in
+      along (λ found. WellFormedSheets purpose p s (found .0) (found .1)) (on-injective h₄) formed
+
+  pub well-formed-sheets : {P : Program} {S : Split} → WellFormedSheets purpose p s P S → sheets purpose p s ≡ on (P, S)
+  unfolding sheets
+  well-formed-sheets {P} {S} F =
+      goes-on-bind _ _ (goes-on-demand _ _ (le-leb _ _ (F .program .fits)))
+      (goes-on-bind _ _ (well-formed-program p (F .program))
+      (goes-on-bind _ _ (goes-on-demand _ _ (le-leb _ _ (F .split .fits)))
+      (goes-on-bind _ _ (well-formed-split purpose (P .steps) s (F .split)) refl)))
+
+  -- what is judged of both, once they are read
+  pub sheets-then : {A : Type 0} (f : Program × Split → Out A) → (sheets purpose p s >>= f)
+      ≡ (demand (leb (length p) programLimit) LongProgram >>= λ fits. program p >>= λ P.
+      demand (leb (length s) splitLimit) LongSplit >>= λ fits′. split purpose (P .steps) s >>= λ S. f (P, S))
+  unfolding sheets
+  sheets-then f =
+      bind-bind _ _ f ∙ bind-alike _ _ _ λ _ _.
+      bind-bind _ _ f ∙ bind-alike _ _ _ λ P _.
+      bind-bind _ _ f ∙ bind-alike _ _ _ λ _ _.
+      bind-bind _ _ f ∙ bind-alike _ _ _ λ S _. bind-on (P, S) f
+
+  -- what stops them is no condition
+  pub sheets-early : Early (sheets purpose p s)
+  unfolding sheets returned four onConditions
+  sheets-early =
+      early-bind _ _ (early-demand _ _ refl) λ fits.
+      early-bind _ _ (program-early p) λ P.
+      early-bind _ _ (early-demand _ _ refl) λ fits′.
+      early-bind _ _ (split-early purpose (P .steps) s) λ S. tt
+
+  pub long-program : 16384 < length p → sheets purpose p s ≡ stop LongProgram
+  unfolding sheets demand _>>=_ programLimit
+  long-program h = rw (lt-leb _ _ h)
+
+  module _ (fits : length p ≤ 16384) where
+    pub program-refused : (r : Refusal) → program p ≡ stop r → sheets purpose p s ≡ stop r
+    unfolding sheets demand _>>=_ programLimit
+    program-refused r e = rw (le-leb _ _ fits, e)
+
+    module _ (P : Program) (reads : program p ≡ on P) where
+      pub long-split : 65536 < length s → sheets purpose p s ≡ stop LongSplit
+      unfolding sheets demand _>>=_ programLimit splitLimit
+      long-split h = rw (le-leb _ _ fits, reads, lt-leb _ _ h)
+
+      module _ (fits′ : length s ≤ 65536) where
+        pub split-refused : (r : Refusal) → split purpose (P .steps) s ≡ stop r → sheets purpose p s ≡ stop r
+        unfolding sheets demand _>>=_ programLimit splitLimit
+        split-refused r e = rw (le-leb _ _ fits, reads, le-leb _ _ fits′, e)
+
+        pub sheets-read : (S : Split) → split purpose (P .steps) s ≡ on S → sheets purpose p s ≡ on (P, S)
+        unfolding sheets demand _>>=_ programLimit splitLimit
+        sheets-read S e = rw (le-leb _ _ fits, reads, le-leb _ _ fits′, e)
