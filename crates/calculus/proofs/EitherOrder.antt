@@ -5,10 +5,10 @@ use mathlib.Core.Logic.{_≢_, _⊎_, inl, inr}
 use mathlib.Core.Option.{some}
 use mathlib.Core.List.{List, _∷_, _++_}
 use native.Mathlib.Decide.{ℕ-discrete}
-use Rattle.calculus.specs.Expression.{Value, name, read, Exp, value, write-redex, unary-redex, Next, at-word, next, choose}
+use Rattle.calculus.specs.Expression.{Value, name, read, Exp, value, writeRedex, unaryRedex, Next, atWord, nextWord, choose}
 use Rattle.calculus.specs.State.{Slot, cell, Thread, State, Move, update}
-use Rattle.calculus.specs.Reduction.{_>>=_, content, zero-exp, becomes, word-of, reduct, reduce, or-else, attempt, run, start}
-use Rattle.calculus.specs.Claim.{ThreadAt, AboutToRead, about-to-read, AboutToWrite, about-to-write, race, RaceFree, Safe, reached, AboutToUse, about-to-use, SameEitherWay, CellStepsSwap, InEitherOrder}
+use Rattle.calculus.specs.Reduction.{_>>=_, content, zeroExp, becomes, wordOf, reduct, reduce, orElse, attempt, run, startState}
+use Rattle.calculus.specs.Claim.{ThreadAt, AboutToRead, aboutToRead, AboutToWrite, aboutToWrite, race, RaceFree, Safe, reached, AboutToUse, aboutToUse, SameEitherWay, CellStepsSwap, InEitherOrder}
 use Rattle.calculus.proofs.Laws.Maps.{update-other, updates-swap}
 use Rattle.calculus.proofs.Laws.Places.{set-elsewhere, sets-swap}
 use Rattle.calculus.proofs.Laws.Runs.{last-is-on-the-way, run-of-both, run-goes-on}
@@ -21,25 +21,25 @@ record CellStep (m : Move) (t : Thread) (n : ℕ) (v : Value) (change : (ℕ →
   e : Exp
   goes : (s : State) → ThreadAt s (m .thread) t → s .names n ≡ cell v → reduce s m ≡ some (becomes s m t (change (s .names)) e)
 
-word-found : (s : State) (m : Move) (t : Thread) {q : Next} → ThreadAt s (m .thread) t → next (t .body) ≡ q →
-    reduce s m ≡ (word-of q >>= reduct s m t)
+word-found : (s : State) (m : Move) (t : Thread) {q : Next} → ThreadAt s (m .thread) t → nextWord (t .body) ≡ q →
+    reduce s m ≡ (wordOf q >>= reduct s m t)
 unfolding reduce
 word-found s m t there word =
-    ap (λ o. o >>= λ u. word-of (next (u .body)) >>= reduct s m u) there ∙ ap (λ q. word-of q >>= reduct s m t) word
+    ap (λ o. o >>= λ u. wordOf (nextWord (u .body)) >>= reduct s m u) there ∙ ap (λ q. wordOf q >>= reduct s m t) word
 
-read-step : (m : Move) (t : Thread) (n : ℕ) (v : Value) → next (t .body) ≡ at-word (unary-redex read (name n)) →
+read-step : (m : Move) (t : Thread) (n : ℕ) (v : Value) → nextWord (t .body) ≡ atWord (unaryRedex read (name n)) →
     CellStep m t n v (λ names. names)
 read-step m t n v word = record {
   e = value v;
   goes = λ s there holds. word-found s m t there word ∙ ap (λ sl. content sl >>= λ w. some (becomes s m t (s .names) (value w))) holds;
 }
 
-write-step : (m : Move) (t : Thread) (n : ℕ) (v w : Value) → next (t .body) ≡ at-word (write-redex (name n) w) →
+write-step : (m : Move) (t : Thread) (n : ℕ) (v w : Value) → nextWord (t .body) ≡ atWord (writeRedex (name n) w) →
     CellStep m t n v (λ names. update names n (cell w))
 write-step m t n v w word = record {
-  e = zero-exp;
+  e = zeroExp;
   goes = λ s there holds. word-found s m t there word
-      ∙ ap (λ sl. content sl >>= λ z. some (becomes s m t (update (s .names) n (cell w)) zero-exp)) holds;
+      ∙ ap (λ sl. content sl >>= λ z. some (becomes s m t (update (s .names) n (cell w)) zeroExp)) holds;
 }
 
 -- ---- Two steps
@@ -67,41 +67,41 @@ module _ (s : State) (m k : Move) (t u : Thread) (apart : m .thread ≢ k .threa
       let same = same-state (sets-swap (s .threads) (m .thread) (k .thread) _ _ apart) swap in
       record {
         after = becomes s₁ k u (g (f (s .names))) (b .e);
-        one-way = ap (λ o. o >>= λ z. reduce z k) m-first ∙ then-k;
-        other-way = ap (λ o. o >>= λ z. reduce z m) k-first ∙ then-m ∙ ap some (sym same);
+        oneWay = ap (λ o. o >>= λ z. reduce z k) m-first ∙ then-k;
+        otherWay = ap (λ o. o >>= λ z. reduce z m) k-first ∙ then-m ∙ ap some (sym same);
       }
 
   race-free-swap : {n l : ℕ} → RaceFree s → AboutToRead s t n ⊎ AboutToWrite s t n → AboutToRead s u l ⊎ AboutToWrite s u l → SameEitherWay s m k
-  race-free-swap {n} {l} free (inl (about-to-read v c e)) (inl (about-to-read v′ c′ e′)) =
+  race-free-swap {n} {l} free (inl (aboutToRead v c e)) (inl (aboutToRead v′ c′ e′)) =
       steps-swap (read-step m t n v e) (read-step k u l v′ e′) c c′ refl refl refl
-  race-free-swap {n} {l} free (inl (about-to-read v c e)) (inr (about-to-write v′ w′ c′ e′)) =
-      let d : n ≢ l = cells-differ _ _ free (λ z. apart (sym z)) at-u at-t (about-to-write v′ w′ c′ e′) (inl (about-to-read v c e)) in
+  race-free-swap {n} {l} free (inl (aboutToRead v c e)) (inr (aboutToWrite v′ w′ c′ e′)) =
+      let d : n ≢ l = cells-differ _ _ free (λ z. apart (sym z)) at-u at-t (aboutToWrite v′ w′ c′ e′) (inl (aboutToRead v c e)) in
       steps-swap (read-step m t n v e) (write-step k u l v′ w′ e′) c c′ (update-other (s .names) l n _ d) refl refl
-  race-free-swap {n} {l} free (inr (about-to-write v w c e)) (inl (about-to-read v′ c′ e′)) =
-      let d : l ≢ n = cells-differ _ _ free apart at-t at-u (about-to-write v w c e) (inl (about-to-read v′ c′ e′)) in
+  race-free-swap {n} {l} free (inr (aboutToWrite v w c e)) (inl (aboutToRead v′ c′ e′)) =
+      let d : l ≢ n = cells-differ _ _ free apart at-t at-u (aboutToWrite v w c e) (inl (aboutToRead v′ c′ e′)) in
       steps-swap (write-step m t n v w e) (read-step k u l v′ e′) c c′ refl (update-other (s .names) n l _ d) refl
-  race-free-swap {n} {l} free (inr (about-to-write v w c e)) (inr (about-to-write v′ w′ c′ e′)) =
-      let d : l ≢ n = cells-differ _ _ free apart at-t at-u (about-to-write v w c e) (inr (about-to-write v′ w′ c′ e′)) in
+  race-free-swap {n} {l} free (inr (aboutToWrite v w c e)) (inr (aboutToWrite v′ w′ c′ e′)) =
+      let d : l ≢ n = cells-differ _ _ free apart at-t at-u (aboutToWrite v w c e) (inr (aboutToWrite v′ w′ c′ e′)) in
       let d′ : n ≢ l = λ z. d (sym z) in
       steps-swap (write-step m t n v w e) (write-step k u l v′ w′ e′) c c′ (update-other (s .names) l n _ d′)
       (update-other (s .names) n l _ d) (updates-swap (s .names) n l _ _ d′)
 
 pub cell-steps-swap : {s : State} → RaceFree s → CellStepsSwap s
-cell-steps-swap {s} free m k t u apart at-t at-u (about-to-use n a) (about-to-use l b) = race-free-swap s m k t u apart at-t at-u free a b
+cell-steps-swap {s} free m k t u apart at-t at-u (aboutToUse n a) (aboutToUse l b) = race-free-swap s m k t u apart at-t at-u free a b
 
 -- ---- The claim
 
 -- It follows from safety alone: no typing is looked at.
 pub safe-is-in-either-order : (e : Exp) → Safe e → InEitherOrder e
-safe-is-in-either-order e safe s (reached ms) = cell-steps-swap (last-is-on-the-way _ ms (start e) (safe ms) .0)
+safe-is-in-either-order e safe s (reached ms) = cell-steps-swap (last-is-on-the-way _ ms (startState e) (safe ms) .0)
 
 -- ---- Two neighbouring moves of a list
 
 -- A thread that can use a cell in s′ could in s, if every cell of s′ is one of s.
 uses-before : {s s′ : State} {u : Thread} → ((l : ℕ) (v : Value) → s′ .names l ≡ cell v → (w : Value) × (s .names l ≡ cell w)) →
     AboutToUse s′ u → AboutToUse s u
-uses-before cells (about-to-use l (inl (about-to-read v c e))) = let (w, h) = cells l v c in about-to-use l (inl (about-to-read w h e))
-uses-before cells (about-to-use l (inr (about-to-write v x c e))) = let (w, h) = cells l v c in about-to-use l (inr (about-to-write w x h e))
+uses-before cells (aboutToUse l (inl (aboutToRead v c e))) = let (w, h) = cells l v c in aboutToUse l (inl (aboutToRead w h e))
+uses-before cells (aboutToUse l (inr (aboutToWrite v x c e))) = let (w, h) = cells l v c in aboutToUse l (inr (aboutToWrite w x h e))
 
 -- A write makes no new cell.
 written-was-cell : {v : Value} (names : ℕ → Slot) (n : ℕ) (w : Value) → names n ≡ cell v → (l : ℕ) (z : Value) → update names n (cell w) l ≡ cell z →
@@ -119,24 +119,24 @@ module _ (s : State) (m k : Move) (t u : Thread) (apart : m .thread ≢ k .threa
       ((l : ℕ) (z : Value) → f (s .names) l ≡ cell z → (y : Value) × (s .names l ≡ cell y)) → ThreadAt s (k .thread) u × AboutToUse s u
   unfolding attempt
   before-step {f} a holds cells =
-      let done : attempt s m ≡ becomes s m t (f (s .names)) (a .e) = ap (λ o. or-else o s) (a .goes s at-t holds) in
+      let done : attempt s m ≡ becomes s m t (f (s .names)) (a .e) = ap (λ o. orElse o s) (a .goes s at-t holds) in
       (sym (set-elsewhere (s .threads) (m .thread) (k .thread) _ apart) ∙ rw done at at-u, uses-before cells (rw done at uses-u))
 
   before-use : AboutToUse s t → ThreadAt s (k .thread) u × AboutToUse s u
-  before-use (about-to-use n (inl (about-to-read v c e))) = before-step (read-step m t n v e) c (λ l z h. (z, h))
-  before-use (about-to-use n (inr (about-to-write v w c e))) = before-step (write-step m t n v w e) c (written-was-cell (s .names) n w c)
+  before-use (aboutToUse n (inl (aboutToRead v c e))) = before-step (read-step m t n v e) c (λ l z h. (z, h))
+  before-use (aboutToUse n (inr (aboutToWrite v w c e))) = before-step (write-step m t n v w e) c (written-was-cell (s .names) n w c)
 
 -- What the claim gives for a list of moves: where a step on a cell comes right after one of another thread, the two may be swapped, and the
 -- list ends in the same state, whatever stands before and behind them.
 pub neighbours-swap : {e : Exp} {t u : Thread} (ms rest : List Move) (m k : Move) → InEitherOrder e → m .thread ≢ k .thread →
-    ThreadAt (run ms (start e)) (m .thread) t → AboutToUse (run ms (start e)) t →
-    ThreadAt (attempt (run ms (start e)) m) (k .thread) u → AboutToUse (attempt (run ms (start e)) m) u →
-    run (ms ++ (m ∷ k ∷ rest)) (start e) ≡ run (ms ++ (k ∷ m ∷ rest)) (start e)
+    ThreadAt (run ms (startState e)) (m .thread) t → AboutToUse (run ms (startState e)) t →
+    ThreadAt (attempt (run ms (startState e)) m) (k .thread) u → AboutToUse (attempt (run ms (startState e)) m) u →
+    run (ms ++ (m ∷ k ∷ rest)) (startState e) ≡ run (ms ++ (k ∷ m ∷ rest)) (startState e)
 neighbours-swap {e} {t} {u} ms rest m k claim apart at-t uses-t at-u uses-u =
-    let s = run ms (start e) in
+    let s = run ms (startState e) in
     let (was-at-u, could-use-u) = before-use s m k t u apart at-t at-u uses-u uses-t in
     let same = claim s (reached ms) m k t u apart at-t was-at-u uses-t could-use-u in
-    run-of-both ms (m ∷ k ∷ rest) (start e)
-    ∙ run-goes-on s (same .after) m k rest (same .one-way)
-    ∙ sym (run-goes-on s (same .after) k m rest (same .other-way))
-    ∙ sym (run-of-both ms (k ∷ m ∷ rest) (start e))
+    run-of-both ms (m ∷ k ∷ rest) (startState e)
+    ∙ run-goes-on s (same .after) m k rest (same .oneWay)
+    ∙ sym (run-goes-on s (same .after) k m rest (same .otherWay))
+    ∙ sym (run-of-both ms (k ∷ m ∷ rest) (startState e))

@@ -3,9 +3,9 @@ use Prim.Native.Nat.{ℕ, _≤_}
 use mathlib.Core.Path.{_≡_, refl, sym, ap, _∙_}
 use mathlib.Core.Option.{none}
 use native.Mathlib.Nat.{le-trans}
-use Rattle.calculus.specs.Expression.{Value, Unary, Maker, Exp, value, let-in, if, while, spawn, write, unary, make, Redex, let-redex, if-redex, while-redex, spawn-redex, write-redex, unary-redex, make-redex, Next, is-value, at-variable, at-word, next, if-value, plug}
+use Rattle.calculus.specs.Expression.{Value, Unary, Maker, Exp, value, letIn, if, while, spawn, write, unary, make, Redex, letRedex, ifRedex, whileRedex, spawnRedex, writeRedex, unaryRedex, makeRedex, Next, isValue, atVariable, atWord, nextWord, ifValue, plug}
 use Rattle.calculus.specs.Capability.{Cap, _≥ᶜ_}
-use Rattle.calculus.specs.Figure5.{Ty, int-type, ref-type, tid-type, Env, bind}
+use Rattle.calculus.specs.Figure5.{Ty, intType, refType, tidType, Env, bind}
 use Rattle.calculus.proofs.Laws.Maps.{none-is-not-some}
 use Rattle.calculus.proofs.Laws.Order.{Pays, ≥-trans, ≥-refl, pays-weakens}
 use Rattle.calculus.proofs.Laws.NextWord.{word-injective, word-is-no-value, variable-is-no-value, variable-is-no-word, next-is-value, once-is-word, once-is-variable}
@@ -18,7 +18,7 @@ pub typed-value : {D : ℕ} {N Γ : Env} {Ψ Φ : Cap} {v : Value} {τ : Ty} →
 typed-value (value-typed t h) = (t, h)
 
 -- A typed expression that is a value: it is that value, of that type, and leaves what it has.
-pub typed-is-value : {D : ℕ} {N Γ : Env} {Ψ Φ : Cap} {e : Exp} {τ : Ty} {v : Value} → Typed D N Γ Ψ e τ Φ → next e ≡ is-value v →
+pub typed-is-value : {D : ℕ} {N Γ : Env} {Ψ Φ : Cap} {e : Exp} {τ : Ty} {v : Value} → Typed D N Γ Ψ e τ Φ → nextWord e ≡ isValue v →
     (e ≡ value v) × ValueTyped N v τ × (Ψ ≥ᶜ Φ)
 typed-is-value {e} h q = let w = next-is-value e q in let t = typed-value (rw w at h) in (w, t .0, t .1)
 
@@ -27,18 +27,18 @@ typed-is-value {e} h q = let w = next-is-value e q in let t = typed-value (rw w 
 -- RedexTyped D N Γ Ψ Φ r τ: the word r has type τ, with Ψ before and Φ after.
 pub data RedexTyped (D : ℕ) (N Γ : Env) (Ψ Φ : Cap) : Redex → Ty → Type 0 where
   let-redex-typed : {x : ℕ} {v : Value} {e : Exp} {σ τ : Ty} →
-      ValueTyped N v σ → Typed D N (bind Γ x σ) Ψ e τ Φ → RedexTyped D N Γ Ψ Φ (let-redex x v e) τ
+      ValueTyped N v σ → Typed D N (bind Γ x σ) Ψ e τ Φ → RedexTyped D N Γ Ψ Φ (letRedex x v e) τ
   if-redex-typed : {e₁ e₂ : Exp} {τ : Ty} →
-      Typed D N Γ Ψ e₁ τ Φ → Typed D N Γ Ψ e₂ τ Φ → RedexTyped D N Γ Ψ Φ (if-redex e₁ e₂) τ
+      Typed D N Γ Ψ e₁ τ Φ → Typed D N Γ Ψ e₂ τ Φ → RedexTyped D N Γ Ψ Φ (ifRedex e₁ e₂) τ
   while-redex-typed : {e : Exp} {Ψ₁ : Cap} {σ : Ty} →
-      Typed D N Γ Ψ₁ e σ Ψ₁ → Ψ ≥ᶜ Ψ₁ → Ψ₁ ≥ᶜ Φ → RedexTyped D N Γ Ψ Φ (while-redex e) int-type
+      Typed D N Γ Ψ₁ e σ Ψ₁ → Ψ ≥ᶜ Ψ₁ → Ψ₁ ≥ᶜ Φ → RedexTyped D N Γ Ψ Φ (whileRedex e) intType
   spawn-redex-typed : {v : Value} {e : Exp} {K Ψ₃ : Cap} {σ : Ty} →
-      ValueTyped N v (tid-type K) → Typed D N Γ Ψ₃ e σ K → Pays Φ Ψ Ψ₃ → RedexTyped D N Γ Ψ Φ (spawn-redex v e) int-type
+      ValueTyped N v (tidType K) → Typed D N Γ Ψ₃ e σ K → Pays Φ Ψ Ψ₃ → RedexTyped D N Γ Ψ Φ (spawnRedex v e) intType
   write-redex-typed : {v w : Value} {ρ : ℕ} {σ : Ty} →
-      ValueTyped N v (ref-type ρ σ) → ValueTyped N w σ → D ≤ Ψ ρ → Ψ ≥ᶜ Φ → RedexTyped D N Γ Ψ Φ (write-redex v w) int-type
+      ValueTyped N v (refType ρ σ) → ValueTyped N w σ → D ≤ Ψ ρ → Ψ ≥ᶜ Φ → RedexTyped D N Γ Ψ Φ (writeRedex v w) intType
   unary-redex-typed : {o : Unary} {v : Value} {σ τ : Ty} →
-      ValueTyped N v σ → UnaryTyped D o σ Ψ τ Φ → RedexTyped D N Γ Ψ Φ (unary-redex o v) τ
-  make-redex-typed : {o : Maker} {τ : Ty} → MakerTyped o Ψ τ Φ → RedexTyped D N Γ Ψ Φ (make-redex o) τ
+      ValueTyped N v σ → UnaryTyped D o σ Ψ τ Φ → RedexTyped D N Γ Ψ Φ (unaryRedex o v) τ
+  make-redex-typed : {o : Maker} {τ : Ty} → MakerTyped o Ψ τ Φ → RedexTyped D N Γ Ψ Φ (makeRedex o) τ
 
 redex-weakens : {D : ℕ} {N Γ : Env} {Ψ Ψ′ Φ : Cap} {τ : Ty} {r : Redex} → Ψ′ ≥ᶜ Ψ → RedexTyped D N Γ Ψ Φ r τ → RedexTyped D N Γ Ψ′ Φ r τ
 redex-weakens a (let-redex-typed t e) = let-redex-typed t (typing-weakens e a ≥-refl)
@@ -80,32 +80,32 @@ inside e d c h around place = record {
 
 -- By induction on the typing. Where a word wants a part to be a value there are two cases: the part is one, and the expression
 -- is the word itself, or the word is the part's and the rest of the expression stands around it.
-pub focus : {D : ℕ} {N Γ : Env} {Ψ Φ : Cap} {e : Exp} {τ : Ty} {r : Redex} → Typed D N Γ Ψ e τ Φ → next e ≡ at-word r →
+pub focus : {D : ℕ} {N Γ : Env} {Ψ Φ : Cap} {e : Exp} {τ : Ty} {r : Redex} → Typed D N Γ Ψ e τ Φ → nextWord e ≡ atWord r →
     Focus D N Γ Ψ e τ Φ r
 focus (value-typed t h) q = word-is-no-value q refl
 focus (var-typed t f h) q = variable-is-no-word refl q
 focus (let-typed {x = x} {e₁ = e₁} {e₂ = e₂} a b) q =
-    let place : Exp → Next → Exp = λ e′ k. if-value k e′ (let-in x (plug e₁ e′) e₂) in
-    once-is-word (next e₁) _ q
+    let place : Exp → Next → Exp = λ e′ k. ifValue k e′ (letIn x (plug e₁ e′) e₂) in
+    once-is-word (nextWord e₁) _ q
     (λ v n z. let (_, t, g) = typed-is-value a n in
-    whole (let-in x e₁ e₂) (let-redex-typed t (typing-weakens b g ≥-refl)) (word-injective z) (λ e′. ap (place e′) n))
-    (λ n. inside (let-in x e₁ e₂) e₁ (λ d. let-in x d e₂) (focus a n) (λ N′ Ψ′ e′ s k. let-typed k (typing-grows s (⊆-refl _) b))
+    whole (letIn x e₁ e₂) (let-redex-typed t (typing-weakens b g ≥-refl)) (word-injective z) (λ e′. ap (place e′) n))
+    (λ n. inside (letIn x e₁ e₂) e₁ (λ d. letIn x d e₂) (focus a n) (λ N′ Ψ′ e′ s k. let-typed k (typing-grows s (⊆-refl _) b))
     (λ e′. ap (place e′) n))
 focus (if-typed {e₁ = e₁} {e₂ = e₂} a b) q = whole (if e₁ e₂) (if-redex-typed a b) (word-injective q) (λ e′. refl)
 focus (while-typed {e = e} a g h) q = whole (while e) (while-redex-typed a g h) (word-injective q) (λ e′. refl)
 focus (spawn-typed {e₁ = e₁} {e₂ = e₂} a b h) q =
-    let place : Exp → Next → Exp = λ e′ k. if-value k e′ (spawn (plug e₁ e′) e₂) in
-    once-is-word (next e₁) _ q
+    let place : Exp → Next → Exp = λ e′ k. ifValue k e′ (spawn (plug e₁ e′) e₂) in
+    once-is-word (nextWord e₁) _ q
     (λ v n z. let (_, t, g) = typed-is-value a n in
     whole (spawn e₁ e₂) (spawn-redex-typed t b (pays-weakens h g ≥-refl)) (word-injective z) (λ e′. ap (place e′) n))
     (λ n. inside (spawn e₁ e₂) e₁ (λ d. spawn d e₂) (focus a n) (λ N′ Ψ′ e′ s k. spawn-typed k (typing-grows s (⊆-refl _) b) h)
     (λ e′. ap (place e′) n))
 focus (write-typed {e₁ = e₁} {e₂ = e₂} {ρ = ρ} a b g h) q =
-    let first-place : Exp → Next → Exp = λ e′ k. if-value k (if-value (next e₂) e′ (write e₁ (plug e₂ e′))) (write (plug e₁ e′) e₂) in
-    let second-place : Exp → Next → Exp = λ e′ k. if-value k e′ (write e₁ (plug e₂ e′)) in
-    once-is-word (next e₁) _ q
+    let first-place : Exp → Next → Exp = λ e′ k. ifValue k (ifValue (nextWord e₂) e′ (write e₁ (plug e₂ e′))) (write (plug e₁ e′) e₂) in
+    let second-place : Exp → Next → Exp = λ e′ k. ifValue k e′ (write e₁ (plug e₂ e′)) in
+    once-is-word (nextWord e₁) _ q
     (λ v n z. let (is-v, t, i) = typed-is-value a n in
-    once-is-word (next e₂) _ z
+    once-is-word (nextWord e₂) _ z
     (λ w m y. let (_, u, j) = typed-is-value b m in
     whole (write e₁ e₂) (write-redex-typed t u (le-trans g (le-trans (j .at ρ) (i .at ρ))) (≥-trans i (≥-trans j h))) (word-injective y)
     (λ e′. ap (first-place e′) n ∙ ap (second-place e′) m))
@@ -115,8 +115,8 @@ focus (write-typed {e₁ = e₁} {e₂ = e₂} {ρ = ρ} a b g h) q =
     (λ n. inside (write e₁ e₂) e₁ (λ d. write d e₂) (focus a n) (λ N′ Ψ′ e′ s k. write-typed k (typing-grows s (⊆-refl _) b) g h)
     (λ e′. ap (first-place e′) n))
 focus (unary-typed {o = o} {e = e} a b) q =
-    let place : Exp → Next → Exp = λ e′ k. if-value k e′ (unary o (plug e e′)) in
-    once-is-word (next e) _ q
+    let place : Exp → Next → Exp = λ e′ k. ifValue k e′ (unary o (plug e e′)) in
+    once-is-word (nextWord e) _ q
     (λ v n z. let (_, t, g) = typed-is-value a n in
     whole (unary o e) (unary-redex-typed t (unary-weakens b g ≥-refl)) (word-injective z) (λ e′. ap (place e′) n))
     (λ n. inside (unary o e) e (λ d. unary o d) (focus a n) (λ N′ Ψ′ e′ s k. unary-typed k b) (λ e′. ap (place e′) n))
@@ -124,18 +124,18 @@ focus (make-typed {o = o} b) q = whole (make o) (make-redex-typed b) (word-injec
 
 -- A typed expression with no free variable does not come to one.
 pub closed-has-no-variable : {D : ℕ} {N Γ : Env} {Ψ Φ : Cap} {e : Exp} {τ : Ty} {x : ℕ} → ((y : ℕ) → Γ y ≡ none) →
-    Typed D N Γ Ψ e τ Φ → next e ≡ at-variable x → ⊥
+    Typed D N Γ Ψ e τ Φ → nextWord e ≡ atVariable x → ⊥
 closed-has-no-variable c (value-typed t h) q = variable-is-no-value q refl
 closed-has-no-variable c (var-typed {x = y} t f h) q = none-is-not-some (sym (c y) ∙ t)
 closed-has-no-variable c (let-typed {e₁ = e₁} a b) q =
-    once-is-variable (next e₁) _ q (λ v z. variable-is-no-word z refl) (closed-has-no-variable c a)
+    once-is-variable (nextWord e₁) _ q (λ v z. variable-is-no-word z refl) (closed-has-no-variable c a)
 closed-has-no-variable c (if-typed a b) q = variable-is-no-word q refl
 closed-has-no-variable c (while-typed a g h) q = variable-is-no-word q refl
 closed-has-no-variable c (spawn-typed {e₁ = e₁} a b h) q =
-    once-is-variable (next e₁) _ q (λ v z. variable-is-no-word z refl) (closed-has-no-variable c a)
+    once-is-variable (nextWord e₁) _ q (λ v z. variable-is-no-word z refl) (closed-has-no-variable c a)
 closed-has-no-variable c (write-typed {e₁ = e₁} {e₂ = e₂} a b g h) q =
-    once-is-variable (next e₁) _ q
-    (λ v z. once-is-variable (next e₂) _ z (λ w y. variable-is-no-word y refl) (closed-has-no-variable c b)) (closed-has-no-variable c a)
+    once-is-variable (nextWord e₁) _ q
+    (λ v z. once-is-variable (nextWord e₂) _ z (λ w y. variable-is-no-word y refl) (closed-has-no-variable c b)) (closed-has-no-variable c a)
 closed-has-no-variable c (unary-typed {e = e} a o) q =
-    once-is-variable (next e) _ q (λ v z. variable-is-no-word z refl) (closed-has-no-variable c a)
+    once-is-variable (nextWord e) _ q (λ v z. variable-is-no-word z refl) (closed-has-no-variable c a)
 closed-has-no-variable c (make-typed o) q = variable-is-no-word q refl

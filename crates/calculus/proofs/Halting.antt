@@ -5,12 +5,12 @@ use mathlib.Core.Logic.{_⊎_, inl, inr}
 use mathlib.Core.Option.{Option, none, some}
 use native.Mathlib.Omega.{arith}
 use lib.ListN.{getElem?}
-use Rattle.calculus.specs.Expression.{Value, name, HoldWord, Unary, join, ref, read, lock, unlock, post, wait, hold, Redex, unary-redex, Next, is-value, at-variable, at-word, next}
-use Rattle.calculus.specs.State.{LockState, opened, closed, Inside, Slot, identifier, a-lock, semaphore, rwlock, Thread, State, first, Move}
-use Rattle.calculus.specs.Reduction.{if-unused, if-identifier, content, lock-state, count, rw-state, inside-after, if-equal, value-of, word-of, named, reduct, reduce}
-use Rattle.calculus.specs.Claim.{ThreadAt, Finished, finished, Waits, at-join, at-lock, at-wait, at-hold, Halts, HaltsWell}
+use Rattle.calculus.specs.Expression.{Value, name, HoldWord, Unary, join, ref, read, lock, unlock, post, wait, hold, Redex, unaryRedex, Next, isValue, atVariable, atWord, nextWord}
+use Rattle.calculus.specs.State.{LockState, opened, closed, Inside, Slot, identifier, aLock, semaphore, rwlock, Thread, State, first, Move}
+use Rattle.calculus.specs.Reduction.{ifUnused, ifIdentifier, content, lockState, count, rwState, insideAfter, ifEqual, valueOf, wordOf, named, reduct, reduce}
+use Rattle.calculus.specs.Claim.{ThreadAt, Finished, finished, Waits, atJoin, atLock, atWait, atHold, Halts, HaltsWell}
 use Rattle.calculus.specs.Capability.{Cap}
-use Rattle.calculus.specs.Figure5.{Ty, ref-type, tid-type, empty, as-it-is}
+use Rattle.calculus.specs.Figure5.{Ty, refType, tidType, empty, asItIs}
 use Rattle.calculus.proofs.Laws.Maps.{some-is-not-none, bind-goes-on}
 use Rattle.calculus.proofs.Laws.NextWord.{next-is-value}
 use Rattle.calculus.proofs.Laws.Questions.{equal-is-told}
@@ -29,91 +29,91 @@ listed i j n = record { thread = i; part = first; finished = j; fresh = n }
 -- thread waits.
 module _ {D : ℕ} {s : State} (I : WellTyped D s) (i : ℕ) (t : Thread) (there : ThreadAt s i t) (halts : Halts s i) where
   -- Whatever a move of the thread lists, its next word does not reduce.
-  no-reduct : {r : Redex} → next (t .body) ≡ at-word r → (j n : ℕ) → reduct s (listed i j n) t r ≡ none
+  no-reduct : {r : Redex} → nextWord (t .body) ≡ atWord r → (j n : ℕ) → reduct s (listed i j n) t r ≡ none
   unfolding reduce
   no-reduct word j n =
       let from-here = bind-goes-on (getElem? (s .threads) i) _ there (halts (listed i j n) refl) in
-      bind-goes-on (word-of (next (t .body))) _ (ap word-of word) from-here
+      bind-goes-on (wordOf (nextWord (t .body))) _ (ap wordOf word) from-here
 
   -- A word that makes a new thing goes ahead: some name is unused.
   named-goes-ahead : {A : Type 0} (new : Slot) → named s (listed i 0 (I .top)) t new ≡ none → A
   named-goes-ahead new h =
-      some-is-not-none (bind-goes-on (if-unused (s .names (I .top))) _ (ap if-unused (I .above (I .top) (omega arith))) h)
+      some-is-not-none (bind-goes-on (ifUnused (s .names (I .top))) _ (ap ifUnused (I .above (I .top) (omega arith))) h)
 
   -- So does a word on a cell.
-  cell-has-content : {ρ n : ℕ} {τ : Ty} → I .N n ≡ some (ref-type ρ τ) → (v : Value) × (content (s .names n) ≡ some v)
+  cell-has-content : {ρ n : ℕ} {τ : Ty} → I .N n ≡ some (refType ρ τ) → (v : Value) × (content (s .names n) ≡ some v)
   cell-has-content {n} known = let (v, found, _) = cell-there (rw known at (I .slots n)) in (v, ap content found)
 
-  join-waits : {K : Cap} {n : ℕ} → next (t .body) ≡ at-word (unary-redex join (name n)) → I .N n ≡ some (tid-type K) → Waits s t
-  join-waits {n} word known = at-join n word kind none-finished
+  join-waits : {K : Cap} {n : ℕ} → nextWord (t .body) ≡ atWord (unaryRedex join (name n)) → I .N n ≡ some (tidType K) → Waits s t
+  join-waits {n} word known = atJoin n word kind none-finished
     where
       kind : s .names n ≡ identifier
       kind = identifier-there (rw known at (I .slots n))
 
       none-finished : (j : ℕ) (u : Thread) → ThreadAt s j u → u .tid ≡ n → ¬ Finished u
       none-finished j u at-j same (finished v ended) =
-          let h₁ = bind-goes-on (if-identifier (s .names n)) _ (ap if-identifier kind) (no-reduct word j 0) in
+          let h₁ = bind-goes-on (ifIdentifier (s .names n)) _ (ap ifIdentifier kind) (no-reduct word j 0) in
           let h₂ = bind-goes-on (getElem? (s .threads) j) _ at-j h₁ in
-          let h₃ = bind-goes-on (if-equal (u .tid) n) _ (equal-is-told (u .tid) n same) h₂ in
-          some-is-not-none (bind-goes-on (value-of (next (u .body))) _ (ap (λ e. value-of (next e)) ended) h₃)
+          let h₃ = bind-goes-on (ifEqual (u .tid) n) _ (equal-is-told (u .tid) n same) h₂ in
+          some-is-not-none (bind-goes-on (valueOf (nextWord (u .body))) _ (ap (λ e. valueOf (nextWord e)) ended) h₃)
 
   -- A name that is shown as a lock is one.
-  lock-named : {n : ℕ} {Ψᵢ Ψₒ : Cap} → OwnLock (I .N) n Ψᵢ Ψₒ → (l : LockState) × (s .names n ≡ a-lock l)
+  lock-named : {n : ℕ} {Ψᵢ Ψₒ : Cap} → OwnLock (I .N) n Ψᵢ Ψₒ → (l : LockState) × (s .names n ≡ aLock l)
   lock-named {n} own = let (l, found, _) = lock-there (rw (own .known) at (I .slots n)) in (l, found)
 
   -- A `lock` whose lock is open goes ahead.
-  lock-waits : {n : ℕ} (l : LockState) → next (t .body) ≡ at-word (unary-redex lock (name n)) → s .names n ≡ a-lock l → Waits s t
-  lock-waits {n} opened word found = some-is-not-none (bind-goes-on (lock-state (s .names n)) _ (ap lock-state found) (no-reduct word 0 0))
-  lock-waits {n} closed word found = at-lock n word found
+  lock-waits : {n : ℕ} (l : LockState) → nextWord (t .body) ≡ atWord (unaryRedex lock (name n)) → s .names n ≡ aLock l → Waits s t
+  lock-waits {n} opened word found = some-is-not-none (bind-goes-on (lockState (s .names n)) _ (ap lockState found) (no-reduct word 0 0))
+  lock-waits {n} closed word found = atLock n word found
 
   -- A `wait` whose count is above 0 goes ahead.
-  wait-waits : {n : ℕ} (c : ℕ) → next (t .body) ≡ at-word (unary-redex wait (name n)) → s .names n ≡ semaphore c → Waits s t
-  wait-waits {n} zero word found = at-wait n word found
+  wait-waits : {n : ℕ} (c : ℕ) → nextWord (t .body) ≡ atWord (unaryRedex wait (name n)) → s .names n ≡ semaphore c → Waits s t
+  wait-waits {n} zero word found = atWait n word found
   wait-waits {n} (suc c) word found = some-is-not-none (bind-goes-on (count (s .names n)) _ (ap count found) (no-reduct word 0 0))
 
   -- A word of a read-write lock goes ahead unless the lock does not let it.
-  hold-waits : {n M : ℕ} {k : Inside} (w : HoldWord) → next (t .body) ≡ at-word (unary-redex (hold w) (name n)) → s .names n ≡ rwlock M k →
-      (o : Option Inside) → inside-after M w k ≡ o → Waits s t
-  hold-waits {n} {M} {k} w word found none stays = at-hold n M w k word found stays
+  hold-waits : {n M : ℕ} {k : Inside} (w : HoldWord) → nextWord (t .body) ≡ atWord (unaryRedex (hold w) (name n)) → s .names n ≡ rwlock M k →
+      (o : Option Inside) → insideAfter M w k ≡ o → Waits s t
+  hold-waits {n} {M} {k} w word found none stays = atHold n M w k word found stays
   hold-waits {n} {M} {k} w word found (some after) turned =
-      let h = bind-goes-on (rw-state (s .names n)) _ (ap rw-state found) (no-reduct word 0 0) in
-      some-is-not-none (bind-goes-on (inside-after M w k) _ turned h)
+      let h = bind-goes-on (rwState (s .names n)) _ (ap rwState found) (no-reduct word 0 0) in
+      some-is-not-none (bind-goes-on (insideAfter M w k) _ turned h)
 
-  unary-halts : {σ τ : Ty} {Ψ Φ : Cap} {v : Value} (o : Unary) → next (t .body) ≡ at-word (unary-redex o v) →
+  unary-halts : {σ τ : Ty} {Ψ Φ : Cap} {v : Value} (o : Unary) → nextWord (t .body) ≡ atWord (unaryRedex o v) →
       ValueTyped (I .N) v σ → UnaryTyped D o σ Ψ τ Φ → Waits s t
-  unary-halts join word (name-typed known as-it-is) (join-typed gains) = join-waits word known
+  unary-halts join word (name-typed known asItIs) (join-typed gains) = join-waits word known
   unary-halts ref word typed (ref-typed enough) = named-goes-ahead _ (no-reduct word 0 (I .top))
-  unary-halts read word (name-typed {n = n} known as-it-is) (read-typed some-of-it enough) =
+  unary-halts read word (name-typed {n = n} known asItIs) (read-typed some-of-it enough) =
       some-is-not-none (bind-goes-on (content (s .names n)) _ (cell-has-content known .1) (no-reduct word 0 0))
   unary-halts lock word (name-typed {n = n} known shown) (lock-typed gains) =
       let (l, found) = lock-named {n = n} (own-lock known shown) in lock-waits l word found
   unary-halts unlock word (name-typed {n = n} known shown) (unlock-typed pays) =
       let (l, found) = lock-named {n = n} (own-lock known shown) in
-      some-is-not-none (bind-goes-on (lock-state (s .names n)) _ (ap lock-state found) (no-reduct word 0 0))
-  unary-halts post word (name-typed {n = n} known as-it-is) (post-typed pays) =
+      some-is-not-none (bind-goes-on (lockState (s .names n)) _ (ap lockState found) (no-reduct word 0 0))
+  unary-halts post word (name-typed {n = n} known asItIs) (post-typed pays) =
       let (c, found) = semaphore-there (rw known at (I .slots n)) in
       some-is-not-none (bind-goes-on (count (s .names n)) _ (ap count found) (no-reduct word 0 0))
-  unary-halts wait word (name-typed {n = n} known as-it-is) (wait-typed gains) =
+  unary-halts wait word (name-typed {n = n} known asItIs) (wait-typed gains) =
       let (c, found) = semaphore-there (rw known at (I .slots n)) in wait-waits c word found
-  unary-halts (hold w) word (name-typed {n = n} known as-it-is) (hold-typed typed) =
-      let (M, k, found, _) = rwlock-there (rw known at (I .slots n)) in hold-waits w word found (inside-after M w k) refl
+  unary-halts (hold w) word (name-typed {n = n} known asItIs) (hold-typed typed) =
+      let (M, k, found, _) = rwlock-there (rw known at (I .slots n)) in hold-waits w word found (insideAfter M w k) refl
 
-  redex-halts : {σ : Ty} {Ψ Φ : Cap} {r : Redex} → next (t .body) ≡ at-word r → RedexTyped D (I .N) empty Ψ Φ r σ → Waits s t
+  redex-halts : {σ : Ty} {Ψ Φ : Cap} {r : Redex} → nextWord (t .body) ≡ atWord r → RedexTyped D (I .N) empty Ψ Φ r σ → Waits s t
   redex-halts word (let-redex-typed v-typed e-typed) = some-is-not-none (no-reduct word 0 0)
   redex-halts word (if-redex-typed e₁-typed e₂-typed) = some-is-not-none (no-reduct word 0 0)
   redex-halts word (while-redex-typed typed enough left) = some-is-not-none (no-reduct word 0 0)
-  redex-halts word (spawn-redex-typed (name-typed {n = n} known as-it-is) typed pays) =
-      let kind = ap if-identifier (identifier-there (rw known at (I .slots n))) in
-      some-is-not-none (bind-goes-on (if-identifier (s .names n)) _ kind (no-reduct word 0 0))
-  redex-halts word (write-redex-typed (name-typed {n = n} known as-it-is) typed whole enough) =
+  redex-halts word (spawn-redex-typed (name-typed {n = n} known asItIs) typed pays) =
+      let kind = ap ifIdentifier (identifier-there (rw known at (I .slots n))) in
+      some-is-not-none (bind-goes-on (ifIdentifier (s .names n)) _ kind (no-reduct word 0 0))
+  redex-halts word (write-redex-typed (name-typed {n = n} known asItIs) typed whole enough) =
       some-is-not-none (bind-goes-on (content (s .names n)) _ (cell-has-content known .1) (no-reduct word 0 0))
   redex-halts word (unary-redex-typed {o = o} v-typed o-typed) = unary-halts o word v-typed o-typed
   redex-halts word (make-redex-typed o-typed) = named-goes-ahead _ (no-reduct word 0 (I .top))
 
-  next-halts : (q : Next) → next (t .body) ≡ q → Finished t ⊎ Waits s t
-  next-halts (is-value v) b = inl (finished v (next-is-value (t .body) b))
-  next-halts (at-variable x) b = absurd (closed-has-no-variable (λ y. refl) (member i (I .pool) there .ok .typed) b)
-  next-halts (at-word r) b = inr (redex-halts b (focus (member i (I .pool) there .ok .typed) b .word))
+  next-halts : (q : Next) → nextWord (t .body) ≡ q → Finished t ⊎ Waits s t
+  next-halts (isValue v) b = inl (finished v (next-is-value (t .body) b))
+  next-halts (atVariable x) b = absurd (closed-has-no-variable (λ y. refl) (member i (I .pool) there .ok .typed) b)
+  next-halts (atWord r) b = inr (redex-halts b (focus (member i (I .pool) there .ok .typed) b .word))
 
 pub well-typed-halts-well : {D : ℕ} {s : State} → WellTyped D s → HaltsWell s
-well-typed-halts-well I i t there halts = next-halts I i t there halts (next (t .body)) refl
+well-typed-halts-well I i t there halts = next-halts I i t there halts (nextWord (t .body)) refl

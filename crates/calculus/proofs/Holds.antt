@@ -7,9 +7,9 @@ use native.Mathlib.Nat.{zero-mul, suc-mul, mul-le-mul-right}
 use native.Mathlib.Omega.{arith}
 use Rattle.calculus.specs.Expression.{HoldWord, rdlock, choose}
 use Rattle.calculus.specs.State.{Inside, readers, writer, rwlock}
-use Rattle.calculus.specs.Reduction.{inside-after}
+use Rattle.calculus.specs.Reduction.{insideAfter}
 use Rattle.calculus.specs.Capability.{Cap, _≥ᶜ_, _×ᶜ_}
-use Rattle.calculus.specs.Figure5.{rwlock-type}
+use Rattle.calculus.specs.Figure5.{rwlockType}
 use Rattle.calculus.proofs.Laws.Maps.{some-injective, none-is-not-some}
 use Rattle.calculus.proofs.Typing.{HoldTyped, rdlock-typed, rdunlock-typed, wrlock-typed, wrunlock-typed}
 use Rattle.calculus.proofs.Invariant.{load, keeps}
@@ -17,7 +17,7 @@ use Rattle.calculus.proofs.Invariant.{load, keeps}
 module _ (Ψr Ψw : Cap) (M : ℕ) (covers : Ψw ≥ᶜ M ×ᶜ Ψr) where
   -- What the lock keeps of location ρ.
   abbrev left : Inside → ℕ → ℕ
-  left i = keeps (rwlock M i) (load (some (rwlock-type Ψr Ψw)))
+  left i = keeps (rwlock M i) (load (some (rwlockType Ψr Ψw)))
 
   -- With k < M holds out, the shares of k + 1 are at most what the lock takes: here N × r ≤ w counts.
   rdlock-balances : {Ψ Φ : Cap} {after : Inside} (k : ℕ) → HoldTyped Ψr Ψw rdlock Ψ Φ → (d : Dec (k < M)) →
@@ -27,7 +27,7 @@ module _ (Ψr Ψw : Cap) (M : ℕ) (covers : Ψw ≥ᶜ M ×ᶜ Ψr) where
       omega (arith, gains .at ρ, covers .at ρ, suc-mul k (Ψr ρ), mul-le-mul-right (Ψr ρ) p, kept)
   rdlock-balances k t (no p) e ρ = none-is-not-some e
 
-  pub hold-balances : {Ψ Φ : Cap} {after : Inside} {w : HoldWord} (i : Inside) → HoldTyped Ψr Ψw w Ψ Φ → inside-after M w i ≡ some after →
+  pub hold-balances : {Ψ Φ : Cap} {after : Inside} {w : HoldWord} (i : Inside) → HoldTyped Ψr Ψw w Ψ Φ → insideAfter M w i ≡ some after →
       (ρ : ℕ) → Φ ρ + left after ρ ≤ Ψ ρ + left i ρ
   hold-balances (readers k) (rdlock-typed gains) e ρ = rdlock-balances k (rdlock-typed gains) (decLt k M) e ρ
   hold-balances writer (rdlock-typed gains) e ρ = none-is-not-some e

@@ -7,9 +7,9 @@ use mathlib.Core.List.{List}
 use native.Mathlib.Decide.{ℕ-discrete}
 use native.Mathlib.Omega.{arith}
 use Rattle.calculus.specs.Expression.{Value, choose}
-use Rattle.calculus.specs.State.{LockState, opened, closed, Inside, readers, writer, Slot, unused, identifier, cell, a-lock, semaphore, rwlock, Thread, State, update}
+use Rattle.calculus.specs.State.{LockState, opened, closed, Inside, readers, writer, Slot, unused, identifier, cell, aLock, semaphore, rwlock, Thread, State, update}
 use Rattle.calculus.specs.Capability.{Cap, nothing, _×ᶜ_, _≥ᶜ_}
-use Rattle.calculus.specs.Figure5.{Ty, int-type, ref-type, lock-type, tid-type, sem-type, rwlock-type, Env}
+use Rattle.calculus.specs.Figure5.{Ty, intType, refType, lockType, tidType, semType, rwlockType, Env}
 use Rattle.calculus.proofs.Laws.Maps.{update-same, update-other, update-above}
 use Rattle.calculus.proofs.Typing.{ValueTyped}
 use Rattle.calculus.proofs.Substitution.{_⊆_, value-grows}
@@ -22,11 +22,11 @@ use Rattle.calculus.proofs.Laws.Total.{total, total-with-one-changed}
 -- closes, and hands out no more than it takes; a read-write lock takes a share for each of its reading places.
 pub data SlotTyped (N : Env) : Slot → Option Ty → Type 0 where
   slot-unused : SlotTyped N unused none
-  slot-identifier : {K : Cap} → SlotTyped N identifier (some (tid-type K))
-  slot-cell : {v : Value} {ρ : ℕ} {τ : Ty} → ValueTyped N v τ → SlotTyped N (cell v) (some (ref-type ρ τ))
-  slot-lock : {l : LockState} {Ψᵢ Ψₒ : Cap} → Ψₒ ≥ᶜ Ψᵢ → SlotTyped N (a-lock l) (some (lock-type Ψᵢ Ψₒ))
-  slot-semaphore : {c : ℕ} {K : Cap} → SlotTyped N (semaphore c) (some (sem-type K))
-  slot-rwlock : {M : ℕ} {i : Inside} {Ψr Ψw : Cap} → Ψw ≥ᶜ M ×ᶜ Ψr → SlotTyped N (rwlock M i) (some (rwlock-type Ψr Ψw))
+  slot-identifier : {K : Cap} → SlotTyped N identifier (some (tidType K))
+  slot-cell : {v : Value} {ρ : ℕ} {τ : Ty} → ValueTyped N v τ → SlotTyped N (cell v) (some (refType ρ τ))
+  slot-lock : {l : LockState} {Ψᵢ Ψₒ : Cap} → Ψₒ ≥ᶜ Ψᵢ → SlotTyped N (aLock l) (some (lockType Ψᵢ Ψₒ))
+  slot-semaphore : {c : ℕ} {K : Cap} → SlotTyped N (semaphore c) (some (semType K))
+  slot-rwlock : {M : ℕ} {i : Inside} {Ψr Ψw : Cap} → Ψw ≥ᶜ M ×ᶜ Ψr → SlotTyped N (rwlock M i) (some (rwlockType Ψr Ψw))
 
 slot-grows : {N N′ : Env} {sl : Slot} {o : Option Ty} → N ⊆ N′ → SlotTyped N sl o → SlotTyped N′ sl o
 slot-grows s slot-unused = slot-unused
@@ -37,19 +37,19 @@ slot-grows s slot-semaphore = slot-semaphore
 slot-grows s (slot-rwlock h) = slot-rwlock h
 
 -- The slot of a name, read off the name's type: one row a kind of thing.
-pub identifier-there : {N : Env} {sl : Slot} {K : Cap} → SlotTyped N sl (some (tid-type K)) → sl ≡ identifier
+pub identifier-there : {N : Env} {sl : Slot} {K : Cap} → SlotTyped N sl (some (tidType K)) → sl ≡ identifier
 identifier-there slot-identifier = refl
 
-pub cell-there : {N : Env} {sl : Slot} {ρ : ℕ} {τ : Ty} → SlotTyped N sl (some (ref-type ρ τ)) → (v : Value) × (sl ≡ cell v) × ValueTyped N v τ
+pub cell-there : {N : Env} {sl : Slot} {ρ : ℕ} {τ : Ty} → SlotTyped N sl (some (refType ρ τ)) → (v : Value) × (sl ≡ cell v) × ValueTyped N v τ
 cell-there (slot-cell {v = v} t) = (v, refl, t)
 
-pub lock-there : {N : Env} {sl : Slot} {Ψᵢ Ψₒ : Cap} → SlotTyped N sl (some (lock-type Ψᵢ Ψₒ)) → (l : LockState) × (sl ≡ a-lock l) × Ψₒ ≥ᶜ Ψᵢ
+pub lock-there : {N : Env} {sl : Slot} {Ψᵢ Ψₒ : Cap} → SlotTyped N sl (some (lockType Ψᵢ Ψₒ)) → (l : LockState) × (sl ≡ aLock l) × Ψₒ ≥ᶜ Ψᵢ
 lock-there (slot-lock {l = l} h) = (l, refl, h)
 
-pub semaphore-there : {N : Env} {sl : Slot} {K : Cap} → SlotTyped N sl (some (sem-type K)) → (c : ℕ) × (sl ≡ semaphore c)
+pub semaphore-there : {N : Env} {sl : Slot} {K : Cap} → SlotTyped N sl (some (semType K)) → (c : ℕ) × (sl ≡ semaphore c)
 semaphore-there (slot-semaphore {c = c}) = (c, refl)
 
-pub rwlock-there : {N : Env} {sl : Slot} {Ψr Ψw : Cap} → SlotTyped N sl (some (rwlock-type Ψr Ψw)) →
+pub rwlock-there : {N : Env} {sl : Slot} {Ψr Ψw : Cap} → SlotTyped N sl (some (rwlockType Ψr Ψw)) →
     (M : ℕ) × (i : Inside) × (sl ≡ rwlock M i) × Ψw ≥ᶜ M ×ᶜ Ψr
 rwlock-there (slot-rwlock {M = M} {i = i} h) = (M, i, refl, h)
 
@@ -63,12 +63,12 @@ no-load = record { whole = nothing; share = nothing }
 
 abbrev pub load : Option Ty → Load
 load none = no-load
-load (some int-type) = no-load
-load (some (ref-type ρ τ)) = no-load
-load (some (lock-type Ψᵢ Ψₒ)) = record { whole = Ψₒ; share = nothing }
-load (some (tid-type K)) = no-load
-load (some (sem-type K)) = record { whole = K; share = nothing }
-load (some (rwlock-type Ψr Ψw)) = record { whole = Ψw; share = Ψr }
+load (some intType) = no-load
+load (some (refType ρ τ)) = no-load
+load (some (lockType Ψᵢ Ψₒ)) = record { whole = Ψₒ; share = nothing }
+load (some (tidType K)) = no-load
+load (some (semType K)) = record { whole = K; share = nothing }
+load (some (rwlockType Ψr Ψw)) = record { whole = Ψw; share = Ψr }
 
 -- What a slot keeps, of a thing with that load: an open lock keeps it whole, a semaphore as often as it counts, a read-write lock less
 -- the shares of the reading holds that are out and nothing while a writer is in, and nothing else keeps any.
@@ -76,8 +76,8 @@ abbrev pub keeps : Slot → Load → Cap
 keeps unused K = nothing
 keeps identifier K = nothing
 keeps (cell v) K = nothing
-keeps (a-lock opened) K = K .whole
-keeps (a-lock closed) K = nothing
+keeps (aLock opened) K = K .whole
+keeps (aLock closed) K = nothing
 keeps (semaphore c) K = c ×ᶜ K .whole
 keeps (rwlock N (readers k)) K = λ ρ. K .whole ρ - k * K .share ρ
 keeps (rwlock N writer) K = nothing

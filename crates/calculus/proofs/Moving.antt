@@ -8,9 +8,9 @@ use native.Mathlib.Omega.{arith}
 use lib.ListN.{set}
 use Rattle.calculus.specs.Expression.{name, Exp, value, plug, choose}
 use Rattle.calculus.specs.State.{Slot, unused, Thread, State, Move, update}
-use Rattle.calculus.specs.Reduction.{if-unused, becomes, named}
+use Rattle.calculus.specs.Reduction.{ifUnused, becomes, named}
 use Rattle.calculus.specs.Capability.{Cap, _≥ᶜ_}
-use Rattle.calculus.specs.Figure5.{Ty, tid-type, Env, empty, bind, as-it-is}
+use Rattle.calculus.specs.Figure5.{Ty, tidType, Env, empty, bind, asItIs}
 use Rattle.calculus.proofs.Laws.Maps.{some-injective, none-is-not-some, bind-is-some, update-same, update-other}
 use Rattle.calculus.proofs.Laws.Order.{_+ᶜ_}
 use Rattle.calculus.proofs.Laws.Questions.{unused-tells}
@@ -50,7 +50,7 @@ module _ {D : ℕ} {s : State} {I : WellTyped D s} {m : Move} {t : Thread} {h : 
       (record {
         K = h .ok .K;
         τ = h .ok .τ;
-        known = grows (t .tid) (tid-type (h .ok .K)) (h .ok .known);
+        known = grows (t .tid) (tidType (h .ok .K)) (h .ok .known);
         typed = M .back N′ Ψ′ e′ grows typed;
       })
       (record { at = λ ρ. omega arith })
@@ -79,9 +79,9 @@ module _ {D : ℕ} {s : State} {I : WellTyped D s} {m : Move} {t : Thread} {h : 
   new-name-keeps new Ψ′ ok enough no-more q =
       let n = m .fresh in
       let N′ = bind (I .N) n σ in
-      let (_, e, q₁) = bind-is-some (if-unused (s .names n)) q in
+      let (_, e, q₁) = bind-is-some (ifUnused (s .names n)) q in
       let known : N′ n ≡ some σ = update-same (I .N) n (some σ) in
       let grows : I .N ⊆ N′ = fresh-grows (I .N) n σ (unused-has-no-type (rw (unused-tells (s .names n) e) at (I .slots n))) in
       told (name-change-keeps I n new N′ (Ψ′ +ᶜ h .rest) grows (λ x z. update-other (I .N) n x (some σ) z) (rw known (ok grows))
       (λ ρ. omega (arith, no-more ρ, h .split .at ρ, ap (λ o. keeps new (load o) ρ) known))
-      (moved-pool N′ Ψ′ (value (name n)) grows (value-typed (name-typed known as-it-is) enough))) q₁
+      (moved-pool N′ Ψ′ (value (name n)) grows (value-typed (name-typed known asItIs) enough))) q₁

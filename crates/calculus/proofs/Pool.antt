@@ -8,7 +8,7 @@ use native.Mathlib.Omega.{arith}
 use lib.ListN.{getElem?, set}
 use Rattle.calculus.specs.State.{Thread, remove}
 use Rattle.calculus.specs.Capability.{Cap, nothing, _≥ᶜ_}
-use Rattle.calculus.specs.Figure5.{Ty, tid-type, Env, empty}
+use Rattle.calculus.specs.Figure5.{Ty, tidType, Env, empty}
 use Rattle.calculus.proofs.Laws.Maps.{some-injective, none-is-not-some}
 use Rattle.calculus.proofs.Laws.Order.{_+ᶜ_, Pays, ≥-refl, pays-weakens}
 use Rattle.calculus.proofs.Typing.{Typed}
@@ -20,14 +20,14 @@ use Rattle.calculus.proofs.Substitution.{_⊆_, ⊆-refl, typing-grows}
 pub record ThreadTyped (D : ℕ) (N : Env) (t : Thread) (Ψ : Cap) : Type 0 where
   pub K : Cap
   pub τ : Ty
-  pub known : N (t .tid) ≡ some (tid-type K)
+  pub known : N (t .tid) ≡ some (tidType K)
   pub typed : Typed D N empty Ψ (t .body) τ K
 
 thread-grows : {D : ℕ} {N N′ : Env} {t : Thread} {Ψ : Cap} → N ⊆ N′ → ThreadTyped D N t Ψ → ThreadTyped D N′ t Ψ
 thread-grows {t} s h = record {
   K = h .K;
   τ = h .τ;
-  known = s (t .tid) (tid-type (h .K)) (h .known);
+  known = s (t .tid) (tidType (h .K)) (h .known);
   typed = typing-grows s (⊆-refl empty) (h .typed);
 }
 

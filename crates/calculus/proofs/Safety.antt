@@ -8,10 +8,10 @@ use native.Mathlib.Decide.{ℕ-discrete}
 use native.Mathlib.Omega.{arith}
 use Rattle.calculus.specs.Expression.{Exp, choose}
 use Rattle.calculus.specs.State.{unused, identifier, State, Move, update}
-use Rattle.calculus.specs.Reduction.{reduce, or-else, attempt, states, start}
+use Rattle.calculus.specs.Reduction.{reduce, orElse, attempt, states, startState}
 use Rattle.calculus.specs.Claim.{Every, RaceFree, HaltsWell, Safe, InEitherOrder}
 use Rattle.calculus.specs.Capability.{Cap, nothing}
-use Rattle.calculus.specs.Figure5.{Ty, tid-type, Env, empty, bind, _∣_∣_⊢_∶_∣_}
+use Rattle.calculus.specs.Figure5.{Ty, tidType, Env, empty, bind, _∣_∣_⊢_∶_∣_}
 use Rattle.calculus.proofs.Laws.Maps.{update-same, update-other}
 use Rattle.calculus.proofs.Laws.Order.{≥-refl}
 use Rattle.calculus.proofs.Typing.{Typed, typing-weakens, derived-is-typed}
@@ -23,37 +23,37 @@ use Rattle.calculus.proofs.RaceFreedom.{well-typed-is-race-free}
 use Rattle.calculus.proofs.Halting.{well-typed-halts-well}
 use Rattle.calculus.proofs.EitherOrder.{safe-is-in-either-order}
 
--- ---- The start
+-- ---- The start state
 
-start-slots : (N : Env) (n : ℕ) → SlotTyped N (update (λ m. unused) 0 identifier n) (bind empty 0 (tid-type nothing) n)
-start-slots N n = by-cases (ℕ-discrete n 0)
+start-state-slots : (N : Env) (n : ℕ) → SlotTyped N (update (λ m. unused) 0 identifier n) (bind empty 0 (tidType nothing) n)
+start-state-slots N n = by-cases (ℕ-discrete n 0)
   where
-    by-cases : (d : Dec (n ≡ 0)) → SlotTyped N (choose d identifier unused) (choose d (some (tid-type nothing)) none)
+    by-cases : (d : Dec (n ≡ 0)) → SlotTyped N (choose d identifier unused) (choose d (some (tidType nothing)) none)
     by-cases (yes e) = slot-identifier
     by-cases (no e) = slot-unused
 
-start-keeps-nothing : (ρ n : ℕ) → kept (update (λ m. unused) 0 identifier) (bind empty 0 (tid-type nothing)) ρ n ≡ 0
-start-keeps-nothing ρ n = by-cases (ℕ-discrete n 0)
+start-state-keeps-nothing : (ρ n : ℕ) → kept (update (λ m. unused) 0 identifier) (bind empty 0 (tidType nothing)) ρ n ≡ 0
+start-state-keeps-nothing ρ n = by-cases (ℕ-discrete n 0)
   where
-    by-cases : (d : Dec (n ≡ 0)) → keeps (choose d identifier unused) (load (choose d (some (tid-type nothing)) none)) ρ ≡ 0
+    by-cases : (d : Dec (n ≡ 0)) → keeps (choose d identifier unused) (load (choose d (some (tidType nothing)) none)) ρ ≡ 0
     by-cases (yes e) = refl
     by-cases (no e) = refl
 
 -- The one thread holds the start; its identifier lends nothing.
-pub start-is-well-typed : {D : ℕ} {Ψ Φ : Cap} {e : Exp} {τ : Ty} → ((N : Env) → Typed D N empty Ψ e τ Φ) → ((ρ : ℕ) → Ψ ρ ≤ D) →
-    WellTyped D (start e)
-unfolding start
-start-is-well-typed {Ψ} {e} {τ} typed at-most-whole =
-    let N : Env = bind empty 0 (tid-type nothing) in
+pub start-state-is-well-typed : {D : ℕ} {Ψ Φ : Cap} {e : Exp} {τ : Ty} → ((N : Env) → Typed D N empty Ψ e τ Φ) → ((ρ : ℕ) → Ψ ρ ≤ D) →
+    WellTyped D (startState e)
+unfolding startState
+start-state-is-well-typed {Ψ} {e} {τ} typed at-most-whole =
+    let N : Env = bind empty 0 (tidType nothing) in
     let body = typing-weakens {Φ′ = nothing} (typed N) ≥-refl (record { at = λ ρ. omega arith }) in
     let thread : ThreadTyped _ N (record { tid = 0; body = e }) Ψ =
-    record { K = nothing; τ = τ; known = update-same empty 0 (some (tid-type nothing)); typed = body } in
+    record { K = nothing; τ = τ; known = update-same empty 0 (some (tidType nothing)); typed = body } in
     record {
       N = N;
       held = Ψ;
       pool = pool-cons {Φ = nothing} {Ω = Ψ} thread pool-nil (record { at = λ ρ. omega arith });
-      slots = start-slots N;
-      budget = λ ρ b. omega (arith, at-most-whole ρ, total-of-zeros _ (start-keeps-nothing ρ) b);
+      slots = start-state-slots N;
+      budget = λ ρ b. omega (arith, at-most-whole ρ, total-of-zeros _ (start-state-keeps-nothing ρ) b);
       top = 1;
       above = λ n h. update-other (λ m. unused) 0 n identifier (omega arith);
     }
@@ -64,7 +64,7 @@ pub attempt-preserves : {D : ℕ} {s : State} (m : Move) → WellTyped D s → W
 unfolding attempt
 attempt-preserves {D} {s} m I = by-cases (reduce s m) refl
   where
-    by-cases : (o : Option State) → reduce s m ≡ o → WellTyped D (or-else o s)
+    by-cases : (o : Option State) → reduce s m ≡ o → WellTyped D (orElse o s)
     by-cases none e = I
     by-cases (some s′) e = step-preserves I m e
 
@@ -79,7 +79,7 @@ run-preserves P f (m ∷ ms) s I = (f s I, run-preserves P f ms (attempt s m) (a
 pub typed-is-safe : {D : ℕ} {Ψ Φ : Cap} {e : Exp} {τ : Ty} → 0 < D → ((N : Env) → Typed D N empty Ψ e τ Φ) → ((ρ : ℕ) → Ψ ρ ≤ D) → Safe e
 typed-is-safe {e} positive typed at-most-whole ms =
     run-preserves (λ s. RaceFree s × HaltsWell s) (λ s I. (well-typed-is-race-free positive I, well-typed-halts-well I))
-    ms (start e) (start-is-well-typed typed at-most-whole)
+    ms (startState e) (start-state-is-well-typed typed at-most-whole)
 
 -- The main theorem. With D = 0 everything would be allowed to write; a sheet's D is 1 or more.
 pub derived-is-safe : {D : ℕ} {Ψ Φ : Cap} {e : Exp} {τ : Ty} → 0 < D → D ∣ empty ∣ Ψ ⊢ e ∶ τ ∣ Φ → ((ρ : ℕ) → Ψ ρ ≤ D) → Safe e

@@ -3,37 +3,37 @@ use Prim.Native.Nat.{ℕ, _≤_, _<_}
 use mathlib.Core.Path.{_≡_}
 use mathlib.Core.Option.{some}
 use native.Mathlib.Nat.{le-trans}
-use Rattle.calculus.specs.Expression.{Value, int, name, HoldWord, rdlock, rdunlock, wrlock, wrunlock, Unary, join, ref, read, lock, unlock, post, wait, hold, Maker, newtid, newlock, newsem, newrwlock, Exp, value, var, let-in, if, while, spawn, write, unary, make}
+use Rattle.calculus.specs.Expression.{Value, int, name, HoldWord, rdlock, rdunlock, wrlock, wrunlock, Unary, join, ref, read, lock, unlock, post, wait, hold, Maker, newtid, newlock, newsem, newrwlock, Exp, value, var, letIn, if, while, spawn, write, unary, make}
 use Rattle.calculus.specs.Capability.{Cap, _×ᶜ_, _≥ᶜ_}
-use Rattle.calculus.specs.Figure5.{Ty, int-type, ref-type, lock-type, tid-type, sem-type, rwlock-type, _shown-as_, as-it-is, looser, Env, bind, _∣_∣_⊢_∶_∣_, VAR, INT, LET, IF, WHILE, NEWT, SPAWN, JOIN, REF, WRITE, READ, NEWL, LCK, ULCK, NEWSEM, POST, WAIT, NEWRWLOCK, RDLOCK, RDUNLOCK, WRLOCK, WRUNLOCK}
+use Rattle.calculus.specs.Figure5.{Ty, intType, refType, lockType, tidType, semType, rwlockType, _shown-as_, asItIs, looser, Env, bind, _∣_∣_⊢_∶_∣_, VAR, INT, LET, IF, WHILE, NEWT, SPAWN, JOIN, REF, WRITE, READ, NEWL, LCK, ULCK, NEWSEM, POST, WAIT, NEWRWLOCK, RDLOCK, RDUNLOCK, WRLOCK, WRUNLOCK}
 use Rattle.calculus.proofs.Laws.Order.{Gains, Pays, ≥-trans, ≥-refl, gains-weakens, pays-weakens, sum-gains, sum-pays}
 
 -- ---- Values
 
 pub shown-as-trans : {σ τ υ : Ty} → σ shown-as τ → τ shown-as υ → σ shown-as υ
-shown-as-trans as-it-is g = g
-shown-as-trans (looser i o) as-it-is = looser i o
+shown-as-trans asItIs g = g
+shown-as-trans (looser i o) asItIs = looser i o
 shown-as-trans (looser i o) (looser i′ o′) = looser (≥-trans i i′) (≥-trans o′ o)
 
 -- N has the types of the names. A name may be shown as a variable of its type may.
 pub data ValueTyped (N : Env) : Value → Ty → Type 0 where
-  int-typed : {k : ℕ} → ValueTyped N (int k) int-type
+  int-typed : {k : ℕ} → ValueTyped N (int k) intType
   name-typed : {n : ℕ} {σ τ : Ty} → N n ≡ some σ → σ shown-as τ → ValueTyped N (name n) τ
 
 pub value-shown-as : {N : Env} {v : Value} {σ τ : Ty} → ValueTyped N v σ → σ shown-as τ → ValueTyped N v τ
-value-shown-as int-typed as-it-is = int-typed
+value-shown-as int-typed asItIs = int-typed
 value-shown-as (name-typed h f) g = name-typed h (shown-as-trans f g)
 
 -- The own type of a name that is shown as a lock.
 pub record OwnLock (N : Env) (n : ℕ) (Ψᵢ′ Ψₒ′ : Cap) : Type 0 where
   pub Ψᵢ : Cap
   pub Ψₒ : Cap
-  pub known : N n ≡ some (lock-type Ψᵢ Ψₒ)
+  pub known : N n ≡ some (lockType Ψᵢ Ψₒ)
   pub no-more-out : Ψᵢ ≥ᶜ Ψᵢ′
   pub no-less-in : Ψₒ′ ≥ᶜ Ψₒ
 
-pub own-lock : {N : Env} {n : ℕ} {σ : Ty} {Ψᵢ′ Ψₒ′ : Cap} → N n ≡ some σ → σ shown-as lock-type Ψᵢ′ Ψₒ′ → OwnLock N n Ψᵢ′ Ψₒ′
-own-lock h as-it-is = record { Ψᵢ = _; Ψₒ = _; known = h; no-more-out = ≥-refl; no-less-in = ≥-refl }
+pub own-lock : {N : Env} {n : ℕ} {σ : Ty} {Ψᵢ′ Ψₒ′ : Cap} → N n ≡ some σ → σ shown-as lockType Ψᵢ′ Ψₒ′ → OwnLock N n Ψᵢ′ Ψₒ′
+own-lock h asItIs = record { Ψᵢ = _; Ψₒ = _; known = h; no-more-out = ≥-refl; no-less-in = ≥-refl }
 own-lock h (looser i o) = record { Ψᵢ = _; Ψₒ = _; known = h; no-more-out = i; no-less-in = o }
 
 -- ---- Expressions
@@ -47,35 +47,35 @@ pub data HoldTyped (Ψr Ψw : Cap) : HoldWord → Cap → Cap → Type 0 where
 
 -- UnaryTyped D o σ Ψ τ Φ: on a part of type σ, with Ψ before and Φ after, the word o has type τ.
 pub data UnaryTyped (D : ℕ) : Unary → Ty → Cap → Ty → Cap → Type 0 where
-  join-typed : {K Ψ Φ : Cap} → Gains Φ Ψ K → UnaryTyped D join (tid-type K) Ψ int-type Φ
-  ref-typed : {τ : Ty} {ρ : ℕ} {Ψ Φ : Cap} → Ψ ≥ᶜ Φ → UnaryTyped D ref τ Ψ (ref-type ρ τ) Φ
-  read-typed : {τ : Ty} {ρ : ℕ} {Ψ Φ : Cap} → 0 < Ψ ρ → Ψ ≥ᶜ Φ → UnaryTyped D read (ref-type ρ τ) Ψ τ Φ
-  lock-typed : {Ψᵢ Ψₒ Ψ Φ : Cap} → Gains Φ Ψ Ψᵢ → UnaryTyped D lock (lock-type Ψᵢ Ψₒ) Ψ int-type Φ
-  unlock-typed : {Ψᵢ Ψₒ Ψ Φ : Cap} → Pays Φ Ψ Ψₒ → UnaryTyped D unlock (lock-type Ψᵢ Ψₒ) Ψ int-type Φ
-  post-typed : {K Ψ Φ : Cap} → Pays Φ Ψ K → UnaryTyped D post (sem-type K) Ψ int-type Φ
-  wait-typed : {K Ψ Φ : Cap} → Gains Φ Ψ K → UnaryTyped D wait (sem-type K) Ψ int-type Φ
-  hold-typed : {w : HoldWord} {Ψr Ψw Ψ Φ : Cap} → HoldTyped Ψr Ψw w Ψ Φ → UnaryTyped D (hold w) (rwlock-type Ψr Ψw) Ψ int-type Φ
+  join-typed : {K Ψ Φ : Cap} → Gains Φ Ψ K → UnaryTyped D join (tidType K) Ψ intType Φ
+  ref-typed : {τ : Ty} {ρ : ℕ} {Ψ Φ : Cap} → Ψ ≥ᶜ Φ → UnaryTyped D ref τ Ψ (refType ρ τ) Φ
+  read-typed : {τ : Ty} {ρ : ℕ} {Ψ Φ : Cap} → 0 < Ψ ρ → Ψ ≥ᶜ Φ → UnaryTyped D read (refType ρ τ) Ψ τ Φ
+  lock-typed : {Ψᵢ Ψₒ Ψ Φ : Cap} → Gains Φ Ψ Ψᵢ → UnaryTyped D lock (lockType Ψᵢ Ψₒ) Ψ intType Φ
+  unlock-typed : {Ψᵢ Ψₒ Ψ Φ : Cap} → Pays Φ Ψ Ψₒ → UnaryTyped D unlock (lockType Ψᵢ Ψₒ) Ψ intType Φ
+  post-typed : {K Ψ Φ : Cap} → Pays Φ Ψ K → UnaryTyped D post (semType K) Ψ intType Φ
+  wait-typed : {K Ψ Φ : Cap} → Gains Φ Ψ K → UnaryTyped D wait (semType K) Ψ intType Φ
+  hold-typed : {w : HoldWord} {Ψr Ψw Ψ Φ : Cap} → HoldTyped Ψr Ψw w Ψ Φ → UnaryTyped D (hold w) (rwlockType Ψr Ψw) Ψ intType Φ
 
 pub data MakerTyped : Maker → Cap → Ty → Cap → Type 0 where
-  newtid-typed : {K Ψ Φ : Cap} → Ψ ≥ᶜ Φ → MakerTyped newtid Ψ (tid-type K) Φ
-  newlock-typed : {Ψᵢ Ψₒ Ψ Φ : Cap} → Ψₒ ≥ᶜ Ψᵢ → Pays Φ Ψ Ψₒ → MakerTyped newlock Ψ (lock-type Ψᵢ Ψₒ) Φ
-  newsem-typed : {K Ψ Φ : Cap} → Ψ ≥ᶜ Φ → MakerTyped newsem Ψ (sem-type K) Φ
-  newrwlock-typed : {N : ℕ} {Ψr Ψw Ψ Φ : Cap} → Ψw ≥ᶜ N ×ᶜ Ψr → Pays Φ Ψ Ψw → MakerTyped (newrwlock N) Ψ (rwlock-type Ψr Ψw) Φ
+  newtid-typed : {K Ψ Φ : Cap} → Ψ ≥ᶜ Φ → MakerTyped newtid Ψ (tidType K) Φ
+  newlock-typed : {Ψᵢ Ψₒ Ψ Φ : Cap} → Ψₒ ≥ᶜ Ψᵢ → Pays Φ Ψ Ψₒ → MakerTyped newlock Ψ (lockType Ψᵢ Ψₒ) Φ
+  newsem-typed : {K Ψ Φ : Cap} → Ψ ≥ᶜ Φ → MakerTyped newsem Ψ (semType K) Φ
+  newrwlock-typed : {N : ℕ} {Ψr Ψw Ψ Φ : Cap} → Ψw ≥ᶜ N ×ᶜ Ψr → Pays Φ Ψ Ψw → MakerTyped (newrwlock N) Ψ (rwlockType Ψr Ψw) Φ
 
 -- Typed D N Γ Ψ e τ Φ: with these types of names and variables e has type τ, can be run with Ψ, and leaves at least Φ.
 pub data Typed (D : ℕ) (N : Env) : Env → Cap → Exp → Ty → Cap → Type 0 where
   value-typed : {Γ : Env} {Ψ Φ : Cap} {v : Value} {τ : Ty} → ValueTyped N v τ → Ψ ≥ᶜ Φ → Typed D N Γ Ψ (value v) τ Φ
   var-typed : {Γ : Env} {Ψ Φ : Cap} {x : ℕ} {σ τ : Ty} → Γ x ≡ some σ → σ shown-as τ → Ψ ≥ᶜ Φ → Typed D N Γ Ψ (var x) τ Φ
   let-typed : {Γ : Env} {Ψ Ψ₁ Φ : Cap} {x : ℕ} {e₁ e₂ : Exp} {σ τ : Ty} →
-      Typed D N Γ Ψ e₁ σ Ψ₁ → Typed D N (bind Γ x σ) Ψ₁ e₂ τ Φ → Typed D N Γ Ψ (let-in x e₁ e₂) τ Φ
+      Typed D N Γ Ψ e₁ σ Ψ₁ → Typed D N (bind Γ x σ) Ψ₁ e₂ τ Φ → Typed D N Γ Ψ (letIn x e₁ e₂) τ Φ
   if-typed : {Γ : Env} {Ψ Φ : Cap} {e₁ e₂ : Exp} {τ : Ty} →
       Typed D N Γ Ψ e₁ τ Φ → Typed D N Γ Ψ e₂ τ Φ → Typed D N Γ Ψ (if e₁ e₂) τ Φ
   while-typed : {Γ : Env} {Ψ Ψ₁ Φ : Cap} {e : Exp} {τ : Ty} →
-      Typed D N Γ Ψ₁ e τ Ψ₁ → Ψ ≥ᶜ Ψ₁ → Ψ₁ ≥ᶜ Φ → Typed D N Γ Ψ (while e) int-type Φ
+      Typed D N Γ Ψ₁ e τ Ψ₁ → Ψ ≥ᶜ Ψ₁ → Ψ₁ ≥ᶜ Φ → Typed D N Γ Ψ (while e) intType Φ
   spawn-typed : {Γ : Env} {Ψ Ψ₂ Ψ₃ Φ K : Cap} {e₁ e₂ : Exp} {τ : Ty} →
-      Typed D N Γ Ψ e₁ (tid-type K) Ψ₂ → Typed D N Γ Ψ₃ e₂ τ K → Pays Φ Ψ₂ Ψ₃ → Typed D N Γ Ψ (spawn e₁ e₂) int-type Φ
+      Typed D N Γ Ψ e₁ (tidType K) Ψ₂ → Typed D N Γ Ψ₃ e₂ τ K → Pays Φ Ψ₂ Ψ₃ → Typed D N Γ Ψ (spawn e₁ e₂) intType Φ
   write-typed : {Γ : Env} {Ψ Ψ₁ Ψ₂ Φ : Cap} {e₁ e₂ : Exp} {τ : Ty} {ρ : ℕ} →
-      Typed D N Γ Ψ e₁ (ref-type ρ τ) Ψ₁ → Typed D N Γ Ψ₁ e₂ τ Ψ₂ → D ≤ Ψ₂ ρ → Ψ₂ ≥ᶜ Φ → Typed D N Γ Ψ (write e₁ e₂) int-type Φ
+      Typed D N Γ Ψ e₁ (refType ρ τ) Ψ₁ → Typed D N Γ Ψ₁ e₂ τ Ψ₂ → D ≤ Ψ₂ ρ → Ψ₂ ≥ᶜ Φ → Typed D N Γ Ψ (write e₁ e₂) intType Φ
   unary-typed : {Γ : Env} {Ψ Ψ₁ Φ : Cap} {o : Unary} {e : Exp} {σ τ : Ty} →
       Typed D N Γ Ψ e σ Ψ₁ → UnaryTyped D o σ Ψ₁ τ Φ → Typed D N Γ Ψ (unary o e) τ Φ
   make-typed : {Γ : Env} {Ψ Φ : Cap} {o : Maker} {τ : Ty} → MakerTyped o Ψ τ Φ → Typed D N Γ Ψ (make o) τ Φ

@@ -6,9 +6,9 @@ use mathlib.Core.Logic.{_≢_, _⊎_}
 use mathlib.Core.Option.{Option, none, some}
 use mathlib.Core.List.{List, [], _∷_}
 use lib.ListN.{getElem?}
-use Rattle.calculus.specs.Expression.{Value, name, HoldWord, join, read, lock, wait, hold, Exp, value, write-redex, unary-redex, at-word, next}
-use Rattle.calculus.specs.State.{closed, Inside, identifier, cell, a-lock, semaphore, rwlock, Thread, State, Move}
-use Rattle.calculus.specs.Reduction.{_>>=_, inside-after, reduce, states, run, start}
+use Rattle.calculus.specs.Expression.{Value, name, HoldWord, join, read, lock, wait, hold, Exp, value, writeRedex, unaryRedex, atWord, nextWord}
+use Rattle.calculus.specs.State.{closed, Inside, identifier, cell, aLock, semaphore, rwlock, Thread, State, Move}
+use Rattle.calculus.specs.Reduction.{_>>=_, insideAfter, reduce, states, run, startState}
 
 -- Thread t stands at place i.
 abbrev pub ThreadAt : State → ℕ → Thread → Type 0
@@ -18,10 +18,10 @@ ThreadAt s i t = getElem? (s .threads) i ≡ some t
 
 -- "It is about to read or write a cell when its next word is a `read` or `write` of that cell."
 pub data AboutToRead (s : State) (t : Thread) (n : ℕ) : Type 0 where
-  about-to-read : (v : Value) → s .names n ≡ cell v → next (t .body) ≡ at-word (unary-redex read (name n)) → AboutToRead s t n
+  aboutToRead : (v : Value) → s .names n ≡ cell v → nextWord (t .body) ≡ atWord (unaryRedex read (name n)) → AboutToRead s t n
 
 pub data AboutToWrite (s : State) (t : Thread) (n : ℕ) : Type 0 where
-  about-to-write : (v w : Value) → s .names n ≡ cell v → next (t .body) ≡ at-word (write-redex (name n) w) → AboutToWrite s t n
+  aboutToWrite : (v w : Value) → s .names n ≡ cell v → nextWord (t .body) ≡ atWord (writeRedex (name n) w) → AboutToWrite s t n
 
 -- Definition 2.1: one thread is about to write a cell that another is about to read or write. Two threads are different when
 -- they stand at different places; they may share an identifier.
@@ -41,12 +41,12 @@ pub data Finished (t : Thread) : Type 0 where
 -- "It waits at a `join` on an identifier that no finished thread has, and at a `lock` [..] on a lock that is not open", and, by
 -- request (vi), at a `wait` on a count of 0. Request (xi): "waits at these four taking and giving words join the allowed halts".
 pub data Waits (s : State) (t : Thread) : Type 0 where
-  at-join : (n : ℕ) → next (t .body) ≡ at-word (unary-redex join (name n)) → s .names n ≡ identifier →
+  atJoin : (n : ℕ) → nextWord (t .body) ≡ atWord (unaryRedex join (name n)) → s .names n ≡ identifier →
       ((j : ℕ) (u : Thread) → ThreadAt s j u → u .tid ≡ n → ¬ Finished u) → Waits s t
-  at-lock : (n : ℕ) → next (t .body) ≡ at-word (unary-redex lock (name n)) → s .names n ≡ a-lock closed → Waits s t
-  at-wait : (n : ℕ) → next (t .body) ≡ at-word (unary-redex wait (name n)) → s .names n ≡ semaphore 0 → Waits s t
-  at-hold : (n N : ℕ) (w : HoldWord) (i : Inside) → next (t .body) ≡ at-word (unary-redex (hold w) (name n)) → s .names n ≡ rwlock N i →
-      inside-after N w i ≡ none → Waits s t
+  atLock : (n : ℕ) → nextWord (t .body) ≡ atWord (unaryRedex lock (name n)) → s .names n ≡ aLock closed → Waits s t
+  atWait : (n : ℕ) → nextWord (t .body) ≡ atWord (unaryRedex wait (name n)) → s .names n ≡ semaphore 0 → Waits s t
+  atHold : (n N : ℕ) (w : HoldWord) (i : Inside) → nextWord (t .body) ≡ atWord (unaryRedex (hold w) (name n)) → s .names n ≡ rwlock N i →
+      insideAfter N w i ≡ none → Waits s t
   -- No other word waits; an `unlock`, above all, goes ahead on any lock.
 
 -- "It halts in a state where no move of its own is a reduction."
@@ -65,28 +65,28 @@ Every P (x ∷ xs) = P x × Every P xs
 
 -- One claim about the list of moves as a whole.
 abbrev pub Safe : Exp → Type 0
-Safe e = (ms : List Move) → Every (λ s. RaceFree s × HaltsWell s) (states ms (start e))
+Safe e = (ms : List Move) → Every (λ s. RaceFree s × HaltsWell s) (states ms (startState e))
 
 -- ---- Cell steps in either order: request (xiii)
 
 -- "Any state that an accepted job can reach": some list of moves leads there from the start.
 pub data Reachable (e : Exp) : State → Type 0 where
-  reached : (ms : List Move) → Reachable e (run ms (start e))
+  reached : (ms : List Move) → Reachable e (run ms (startState e))
 
 -- A thread that "can read or write a cell next".
 pub data AboutToUse (s : State) (t : Thread) : Type 0 where
-  about-to-use : (n : ℕ) → AboutToRead s t n ⊎ AboutToWrite s t n → AboutToUse s t
+  aboutToUse : (n : ℕ) → AboutToRead s t n ⊎ AboutToWrite s t n → AboutToUse s t
 
 -- The state after the move m and then k, if both are reductions.
-abbrev pub taking-both : State → Move → Move → Option State
-taking-both s m k = reduce s m >>= λ s′. reduce s′ k
+abbrev pub takingBoth : State → Move → Move → Option State
+takingBoth s m k = reduce s m >>= λ s′. reduce s′ k
 
 -- "Taking both steps in either order must give the same state": in either order both moves are reductions, and the state after them is one
 -- and the same, in its threads and in its names.
 pub record SameEitherWay (s : State) (m k : Move) : Type 0 where
   pub after : State
-  pub one-way : taking-both s m k ≡ some after
-  pub other-way : taking-both s k m ≡ some after
+  pub oneWay : takingBoth s m k ≡ some after
+  pub otherWay : takingBoth s k m ≡ some after
 
 -- "If two different threads can each read or write a cell next": the moves m and k are theirs.
 abbrev pub CellStepsSwap : State → Type 0

@@ -1,7 +1,7 @@
 -- Programs of the paper and a few beside them, with moves that run them. What they show is proved in proofs/Examples.
 use Prim.Native.Nat.{ℕ, zero, suc}
 use mathlib.Core.List.{List, [], _∷_}
-use Rattle.calculus.specs.Expression.{int, HoldWord, rdlock, rdunlock, wrlock, wrunlock, Unary, join, ref, read, lock, unlock, post, wait, hold, newtid, newlock, newsem, newrwlock, Exp, value, var, let-in, if, while, spawn, write, unary, make}
+use Rattle.calculus.specs.Expression.{int, HoldWord, rdlock, rdunlock, wrlock, wrunlock, Unary, join, ref, read, lock, unlock, post, wait, hold, newtid, newlock, newsem, newrwlock, Exp, value, var, letIn, if, while, spawn, write, unary, make}
 use Rattle.calculus.specs.State.{first, second, Move}
 use Rattle.calculus.specs.Reduction.{nowhere}
 use Rattle.calculus.specs.Capability.{Cap}
@@ -14,7 +14,7 @@ constant k = value (int k)
 -- The paper's e₁; e₂, a `let` of a variable that e₂ does not use.
 infixr 10 _⨾_
 abbrev pub _⨾_ : Exp → Exp → Exp
-e₁ ⨾ e₂ = let-in nowhere e₁ e₂
+e₁ ⨾ e₂ = letIn nowhere e₁ e₂
 
 -- Thread i moves, and its word needs nothing else.
 abbrev pub goes : ℕ → Move
@@ -41,256 +41,256 @@ holding a b (suc (suc ρ)) = 0
 -- ---- Figure 2
 
 -- (a) A race: the spawned thread reads x while the other writes it.
-abbrev pub figure-2a : Exp
-figure-2a =
-    let-in 0 (unary ref (constant 0))
+abbrev pub figure2a : Exp
+figure2a =
+    letIn 0 (unary ref (constant 0))
     (spawn (make newtid) (unary read (var 0))
     ⨾ write (var 0) (constant 1))
 
 -- The first thread makes x, 1, and an identifier, 2, spawns, and is about to write; so is the other to read.
-abbrev pub moves-2a : List Move
-moves-2a = names 0 1 ∷ goes 0 ∷ names 0 2 ∷ goes 0 ∷ goes 0 ∷ []
+abbrev pub moves2a : List Move
+moves2a = names 0 1 ∷ goes 0 ∷ names 0 2 ∷ goes 0 ∷ goes 0 ∷ []
 
 -- (b) The same with a join.
-abbrev pub figure-2b : Exp
-figure-2b =
-    let-in 0 (unary ref (constant 0))
-    (let-in 1 (make newtid)
+abbrev pub figure2b : Exp
+figure2b =
+    letIn 0 (unary ref (constant 0))
+    (letIn 1 (make newtid)
     (spawn (var 1) (unary read (var 0))
     ⨾ unary join (var 1)
     ⨾ write (var 0) (constant 1)))
 
 -- Up to the join, with the other thread still about to read.
-abbrev pub moves-2b-to-join : List Move
-moves-2b-to-join = names 0 1 ∷ goes 0 ∷ names 0 2 ∷ goes 0 ∷ goes 0 ∷ goes 0 ∷ []
+abbrev pub moves2bToJoin : List Move
+moves2bToJoin = names 0 1 ∷ goes 0 ∷ names 0 2 ∷ goes 0 ∷ goes 0 ∷ goes 0 ∷ []
 
 -- Then the other reads, and the first joins and writes.
-abbrev pub moves-2b-to-end : List Move
-moves-2b-to-end = goes 1 ∷ joins 0 1 ∷ goes 0 ∷ goes 0 ∷ []
+abbrev pub moves2bToEnd : List Move
+moves2bToEnd = goes 1 ∷ joins 0 1 ∷ goes 0 ∷ goes 0 ∷ []
 
 -- (c) The same with a lock.
-abbrev pub figure-2c : Exp
-figure-2c =
-    let-in 0 (unary ref (constant 0))
-    (let-in 1 (make newlock)
+abbrev pub figure2c : Exp
+figure2c =
+    letIn 0 (unary ref (constant 0))
+    (letIn 1 (make newlock)
     (spawn (make newtid) (unary lock (var 1) ⨾ unary read (var 0) ⨾ unary unlock (var 1))
     ⨾ unary lock (var 1)
     ⨾ write (var 0) (constant 1)
     ⨾ unary unlock (var 1)))
 
 -- Up to where both threads are about to lock, and the spawned one does.
-abbrev pub moves-2c-to-lock : List Move
-moves-2c-to-lock = names 0 1 ∷ goes 0 ∷ names 0 2 ∷ goes 0 ∷ names 0 3 ∷ goes 0 ∷ goes 0 ∷ goes 1 ∷ []
+abbrev pub moves2cToLock : List Move
+moves2cToLock = names 0 1 ∷ goes 0 ∷ names 0 2 ∷ goes 0 ∷ names 0 3 ∷ goes 0 ∷ goes 0 ∷ goes 1 ∷ []
 
 -- Then it reads and unlocks, and the first locks, writes and unlocks.
-abbrev pub moves-2c-to-end : List Move
-moves-2c-to-end = goes 1 ∷ goes 1 ∷ goes 1 ∷ goes 1 ∷ goes 0 ∷ goes 0 ∷ goes 0 ∷ goes 0 ∷ goes 0 ∷ []
+abbrev pub moves2cToEnd : List Move
+moves2cToEnd = goes 1 ∷ goes 1 ∷ goes 1 ∷ goes 1 ∷ goes 0 ∷ goes 0 ∷ goes 0 ∷ goes 0 ∷ goes 0 ∷ []
 
 -- ---- Section 2.2: two locks for one cell. With NEWL-unsound each would lend the whole of x.
 
-abbrev pub two-locks : Exp
-two-locks =
-    let-in 0 (unary ref (constant 0))
-    (let-in 1 (make newlock)
-    (let-in 2 (make newlock)
+abbrev pub twoLocks : Exp
+twoLocks =
+    letIn 0 (unary ref (constant 0))
+    (letIn 1 (make newlock)
+    (letIn 2 (make newlock)
     (spawn (make newtid) (unary lock (var 1) ⨾ unary read (var 0) ⨾ unary unlock (var 1))
     ⨾ unary lock (var 2)
     ⨾ write (var 0) (constant 1)
     ⨾ unary unlock (var 2))))
 
 -- Each thread takes its lock and is about to use x.
-abbrev pub moves-two-locks : List Move
-moves-two-locks =
+abbrev pub movesTwoLocks : List Move
+movesTwoLocks =
     names 0 1 ∷ goes 0 ∷ names 0 2 ∷ goes 0 ∷ names 0 3 ∷ goes 0 ∷ names 0 4 ∷ goes 0 ∷ goes 0
     ∷ goes 0 ∷ goes 0 ∷ goes 1 ∷ goes 1 ∷ []
 
 -- ---- Section 2.2.1: threads in a loop that share one identifier; x is 0, y is 1, t is 2, l is 3 and z is 4.
 
-abbrev pub section-2-2-1-thread : Exp
-section-2-2-1-thread =
-    let-in 4 (unary read (var 1))
+abbrev pub section221Thread : Exp
+section221Thread =
+    letIn 4 (unary read (var 1))
     (unary lock (var 3)
     ⨾ write (var 0) (var 4)
     ⨾ unary unlock (var 3))
 
-abbrev pub section-2-2-1 : Exp
-section-2-2-1 =
-    let-in 0 (unary ref (constant 0))
-    (let-in 1 (unary ref (constant 0))
-    (let-in 2 (make newtid)
-    (let-in 3 (make newlock)
+abbrev pub section221 : Exp
+section221 =
+    letIn 0 (unary ref (constant 0))
+    (letIn 1 (unary ref (constant 0))
+    (letIn 2 (make newtid)
+    (letIn 3 (make newlock)
     (while
-    (spawn (var 2) section-2-2-1-thread
-    ⨾ spawn (var 2) section-2-2-1-thread
+    (spawn (var 2) section221Thread
+    ⨾ spawn (var 2) section221Thread
     ⨾ unary join (var 2)
     ⨾ unary join (var 2)
     ⨾ write (var 1) (constant 1))))))
 
 -- x, y, t and l get the names 1 to 4, and the loop is entered.
-abbrev pub moves-2-2-1-to-loop : List Move
-moves-2-2-1-to-loop = names 0 1 ∷ goes 0 ∷ names 0 2 ∷ goes 0 ∷ names 0 3 ∷ goes 0 ∷ names 0 4 ∷ goes 0 ∷ goes 0 ∷ goes 0 ∷ []
+abbrev pub moves221ToLoop : List Move
+moves221ToLoop = names 0 1 ∷ goes 0 ∷ names 0 2 ∷ goes 0 ∷ names 0 3 ∷ goes 0 ∷ names 0 4 ∷ goes 0 ∷ goes 0 ∷ goes 0 ∷ []
 
 -- Two threads are spawned; the second runs to its end, then the first.
-abbrev pub moves-2-2-1-threads : List Move
-moves-2-2-1-threads =
+abbrev pub moves221Threads : List Move
+moves221Threads =
     goes 0 ∷ goes 0 ∷ goes 0 ∷ goes 0
     ∷ goes 2 ∷ goes 2 ∷ goes 2 ∷ goes 2 ∷ goes 2 ∷ goes 2 ∷ goes 2
     ∷ goes 1 ∷ goes 1 ∷ goes 1 ∷ goes 1 ∷ goes 1 ∷ goes 1 ∷ goes 1 ∷ []
 
 -- Both are joined, the second first; then y is written, and the loop left at its second turn.
-abbrev pub moves-2-2-1-to-end : List Move
-moves-2-2-1-to-end = joins 0 2 ∷ goes 0 ∷ joins 0 1 ∷ goes 0 ∷ goes 0 ∷ goes 0 ∷ goes 0 ∷ leaves 0 ∷ []
+abbrev pub moves221ToEnd : List Move
+moves221ToEnd = joins 0 2 ∷ goes 0 ∷ joins 0 1 ∷ goes 0 ∷ goes 0 ∷ goes 0 ∷ goes 0 ∷ leaves 0 ∷ []
 
 -- ---- Section 3.1.4: semaphores
 
 -- A thread that waits for a post and then writes x; x is 0 and the semaphore is 1.
-abbrev pub waits-and-writes : Exp
-waits-and-writes = unary wait (var 1) ⨾ write (var 0) (constant 1)
+abbrev pub waitsAndWrites : Exp
+waitsAndWrites = unary wait (var 1) ⨾ write (var 0) (constant 1)
 
 -- The first thread writes x and hands it over to such a thread.
 abbrev pub handover : Exp
 handover =
-    let-in 0 (unary ref (constant 0))
-    (let-in 1 (make newsem)
-    (spawn (make newtid) waits-and-writes
+    letIn 0 (unary ref (constant 0))
+    (letIn 1 (make newsem)
+    (spawn (make newtid) waitsAndWrites
     ⨾ write (var 0) (constant 2)
     ⨾ unary post (var 1)))
 
 -- Up to where the first thread is about to make the semaphore.
-abbrev pub moves-handover-to-newsem : List Move
-moves-handover-to-newsem = names 0 1 ∷ goes 0 ∷ []
+abbrev pub movesHandoverToNewsem : List Move
+movesHandoverToNewsem = names 0 1 ∷ goes 0 ∷ []
 
 -- Then the other thread is spawned and is about to wait on a count of 0.
-abbrev pub moves-handover-to-wait : List Move
-moves-handover-to-wait = names 0 2 ∷ goes 0 ∷ names 0 3 ∷ goes 0 ∷ goes 0 ∷ []
+abbrev pub movesHandoverToWait : List Move
+movesHandoverToWait = names 0 2 ∷ goes 0 ∷ names 0 3 ∷ goes 0 ∷ goes 0 ∷ []
 
 -- Then the first writes and posts.
-abbrev pub moves-handover-to-post : List Move
-moves-handover-to-post = goes 0 ∷ goes 0 ∷ goes 0 ∷ []
+abbrev pub movesHandoverToPost : List Move
+movesHandoverToPost = goes 0 ∷ goes 0 ∷ goes 0 ∷ []
 
 -- Then the other waits and writes.
-abbrev pub moves-handover-to-end : List Move
-moves-handover-to-end = goes 1 ∷ goes 1 ∷ goes 1 ∷ []
+abbrev pub movesHandoverToEnd : List Move
+movesHandoverToEnd = goes 1 ∷ goes 1 ∷ goes 1 ∷ []
 
 -- Figure 7: two posts let two threads write. Unlike an `unlock`, a post is not idempotent.
-abbrev pub figure-7 : Exp
-figure-7 =
-    let-in 0 (unary ref (constant 0))
-    (let-in 1 (make newsem)
-    (spawn (make newtid) waits-and-writes
-    ⨾ spawn (make newtid) waits-and-writes
+abbrev pub figure7 : Exp
+figure7 =
+    letIn 0 (unary ref (constant 0))
+    (letIn 1 (make newsem)
+    (spawn (make newtid) waitsAndWrites
+    ⨾ spawn (make newtid) waitsAndWrites
     ⨾ unary post (var 1)
     ⨾ unary post (var 1)))
 
-abbrev pub moves-figure-7 : List Move
-moves-figure-7 =
+abbrev pub movesFigure7 : List Move
+movesFigure7 =
     names 0 1 ∷ goes 0 ∷ names 0 2 ∷ goes 0 ∷ names 0 3 ∷ goes 0 ∷ goes 0 ∷ names 0 4 ∷ goes 0 ∷ goes 0
     ∷ goes 0 ∷ goes 0 ∷ goes 0 ∷ goes 1 ∷ goes 1 ∷ goes 2 ∷ goes 2 ∷ []
 
 -- ---- Figure 8: read-write locks
 
 -- A thread that takes a reading place and reads x; x is 0 and the lock is 1.
-abbrev pub reads-the-book : Exp
-reads-the-book = unary (hold rdlock) (var 1) ⨾ unary read (var 0) ⨾ unary (hold rdunlock) (var 1)
+abbrev pub readsTheBook : Exp
+readsTheBook = unary (hold rdlock) (var 1) ⨾ unary read (var 0) ⨾ unary (hold rdunlock) (var 1)
 
 -- A book with two reading places: two threads read it, and the first thread writes it.
-abbrev pub colour-book : Exp
-colour-book =
-    let-in 0 (unary ref (constant 0))
-    (let-in 1 (make (newrwlock 2))
-    (spawn (make newtid) reads-the-book
-    ⨾ spawn (make newtid) reads-the-book
+abbrev pub colourBook : Exp
+colourBook =
+    letIn 0 (unary ref (constant 0))
+    (letIn 1 (make (newrwlock 2))
+    (spawn (make newtid) readsTheBook
+    ⨾ spawn (make newtid) readsTheBook
     ⨾ unary (hold wrlock) (var 1)
     ⨾ write (var 0) (constant 1)
     ⨾ unary (hold wrunlock) (var 1)))
 
 -- Up to where the first thread is about to take the book for writing, and the others for reading; the book is 2.
-abbrev pub moves-to-book : List Move
-moves-to-book =
+abbrev pub movesToBook : List Move
+movesToBook =
     names 0 1 ∷ goes 0 ∷ names 0 2 ∷ goes 0 ∷ names 0 3 ∷ goes 0 ∷ goes 0 ∷ names 0 4 ∷ goes 0 ∷ goes 0 ∷ []
 
 -- Then both readers take it, and are about to read.
-abbrev pub moves-book-to-reads : List Move
-moves-book-to-reads = goes 1 ∷ goes 1 ∷ goes 2 ∷ goes 2 ∷ []
+abbrev pub movesBookToReads : List Move
+movesBookToReads = goes 1 ∷ goes 1 ∷ goes 2 ∷ goes 2 ∷ []
 
 -- Then both read and give back, and the first thread writes.
-abbrev pub moves-book-to-end : List Move
-moves-book-to-end = goes 1 ∷ goes 1 ∷ goes 1 ∷ goes 2 ∷ goes 2 ∷ goes 2 ∷ goes 0 ∷ goes 0 ∷ goes 0 ∷ goes 0 ∷ goes 0 ∷ []
+abbrev pub movesBookToEnd : List Move
+movesBookToEnd = goes 1 ∷ goes 1 ∷ goes 1 ∷ goes 2 ∷ goes 2 ∷ goes 2 ∷ goes 0 ∷ goes 0 ∷ goes 0 ∷ goes 0 ∷ goes 0 ∷ []
 
 -- One thread takes the only reading place twice.
-abbrev pub reads-twice : Exp
-reads-twice = let-in 0 (make (newrwlock 1)) (unary (hold rdlock) (var 0) ⨾ unary (hold rdlock) (var 0))
+abbrev pub readsTwice : Exp
+readsTwice = letIn 0 (make (newrwlock 1)) (unary (hold rdlock) (var 0) ⨾ unary (hold rdlock) (var 0))
 
-abbrev pub moves-reads-twice : List Move
-moves-reads-twice = names 0 1 ∷ goes 0 ∷ goes 0 ∷ goes 0 ∷ []
+abbrev pub movesReadsTwice : List Move
+movesReadsTwice = names 0 1 ∷ goes 0 ∷ goes 0 ∷ goes 0 ∷ []
 
 -- A book is given back that no one has.
-abbrev pub gives-back : HoldWord → Exp
-gives-back w = let-in 0 (make (newrwlock 1)) (unary (hold w) (var 0))
+abbrev pub givesBack : HoldWord → Exp
+givesBack w = letIn 0 (make (newrwlock 1)) (unary (hold w) (var 0))
 
-abbrev pub moves-gives-back : List Move
-moves-gives-back = names 0 1 ∷ goes 0 ∷ []
+abbrev pub movesGivesBack : List Move
+movesGivesBack = names 0 1 ∷ goes 0 ∷ []
 
 -- The first thread takes both reading places, which is enough to write. The other takes one and reads.
-abbrev pub both-places : Exp
-both-places =
-    let-in 0 (unary ref (constant 0))
-    (let-in 1 (make (newrwlock 2))
+abbrev pub bothPlaces : Exp
+bothPlaces =
+    letIn 0 (unary ref (constant 0))
+    (letIn 1 (make (newrwlock 2))
     (spawn (make newtid) (unary (hold rdlock) (var 1) ⨾ unary read (var 0))
     ⨾ unary (hold rdlock) (var 1)
     ⨾ unary (hold rdlock) (var 1)
     ⨾ write (var 0) (constant 1)))
 
 -- Up to where the first thread is about to write, and the other to take a place.
-abbrev pub moves-both-places : List Move
-moves-both-places = names 0 1 ∷ goes 0 ∷ names 0 2 ∷ goes 0 ∷ names 0 3 ∷ goes 0 ∷ goes 0 ∷ goes 0 ∷ goes 0 ∷ goes 0 ∷ goes 0 ∷ []
+abbrev pub movesBothPlaces : List Move
+movesBothPlaces = names 0 1 ∷ goes 0 ∷ names 0 2 ∷ goes 0 ∷ names 0 3 ∷ goes 0 ∷ goes 0 ∷ goes 0 ∷ goes 0 ∷ goes 0 ∷ goes 0 ∷ []
 
 -- ---- Section 3.1.6: locks that take more than they give
 
 -- Two locks with unlike loads meet in one variable.
-abbrev pub two-loads : Exp
-two-loads =
-    let-in 0 (make newlock)
-    (let-in 1 (make newlock)
-    (let-in 2 (if (var 0) (var 1))
+abbrev pub twoLoads : Exp
+twoLoads =
+    letIn 0 (make newlock)
+    (letIn 1 (make newlock)
+    (letIn 2 (if (var 0) (var 1))
     (unary lock (var 2))))
 
 -- With the printed out inequality the first thread could lock, give back nothing, and write.
-abbrev pub unlock-for-nothing : Exp
-unlock-for-nothing =
-    let-in 0 (unary ref (constant 0))
-    (let-in 1 (make newlock)
+abbrev pub unlockForNothing : Exp
+unlockForNothing =
+    letIn 0 (unary ref (constant 0))
+    (letIn 1 (make newlock)
     (spawn (make newtid) (unary lock (var 1) ⨾ write (var 0) (constant 1))
     ⨾ unary lock (var 1)
     ⨾ unary unlock (var 1)
     ⨾ write (var 0) (constant 2)))
 
 -- It locks and unlocks; then the other locks, and both are about to write.
-abbrev pub moves-unlock-for-nothing : List Move
-moves-unlock-for-nothing =
+abbrev pub movesUnlockForNothing : List Move
+movesUnlockForNothing =
     names 0 1 ∷ goes 0 ∷ names 0 2 ∷ goes 0 ∷ names 0 3 ∷ goes 0 ∷ goes 0 ∷ goes 0 ∷ goes 0 ∷ goes 0 ∷ goes 0 ∷ goes 1 ∷ goes 1 ∷ []
 
 -- ---- Beside the paper
 
 -- Two threads with one identifier that write one cell.
-abbrev pub one-identifier : Exp
-one-identifier =
-    let-in 0 (unary ref (constant 0))
-    (let-in 1 (make newtid)
+abbrev pub oneIdentifier : Exp
+oneIdentifier =
+    letIn 0 (unary ref (constant 0))
+    (letIn 1 (make newtid)
     (spawn (var 1) (write (var 0) (constant 1))
     ⨾ spawn (var 1) (write (var 0) (constant 2))))
 
-abbrev pub moves-one-identifier : List Move
-moves-one-identifier = names 0 1 ∷ goes 0 ∷ names 0 2 ∷ goes 0 ∷ goes 0 ∷ goes 0 ∷ goes 0 ∷ []
+abbrev pub movesOneIdentifier : List Move
+movesOneIdentifier = names 0 1 ∷ goes 0 ∷ names 0 2 ∷ goes 0 ∷ goes 0 ∷ goes 0 ∷ goes 0 ∷ []
 
 -- A `post` of a lock.
-abbrev pub post-of-lock : Exp
-post-of-lock = let-in 0 (make newlock) (unary post (var 0))
+abbrev pub postOfLock : Exp
+postOfLock = letIn 0 (make newlock) (unary post (var 0))
 
 -- The lock gets the name 1, and is about to be posted.
-abbrev pub moves-post-of-lock : List Move
-moves-post-of-lock = names 0 1 ∷ goes 0 ∷ []
+abbrev pub movesPostOfLock : List Move
+movesPostOfLock = names 0 1 ∷ goes 0 ∷ []
 
 -- A word with one part on a constant.
-abbrev pub on-constant : Unary → Exp
-on-constant o = unary o (constant 0)
+abbrev pub onConstant : Unary → Exp
+onConstant o = unary o (constant 0)

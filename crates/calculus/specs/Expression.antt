@@ -28,7 +28,7 @@ pub data Maker : Type 0 where
 pub data Exp : Type 0 where
   value : Value → Exp
   var : ℕ → Exp
-  let-in : ℕ → Exp → Exp → Exp
+  letIn : ℕ → Exp → Exp → Exp
   if : Exp → Exp → Exp
   while : Exp → Exp
   spawn : Exp → Exp → Exp
@@ -41,57 +41,57 @@ pub data Exp : Type 0 where
 -- A word whose parts that must be values are values: e1 of `let` and `spawn`, e1 and e2 of `write`, none of `if` and
 -- `while`, the part of any other word.
 pub data Redex : Type 0 where
-  let-redex : ℕ → Value → Exp → Redex
-  if-redex : Exp → Exp → Redex
-  while-redex : Exp → Redex
-  spawn-redex : Value → Exp → Redex
-  write-redex : Value → Value → Redex
-  unary-redex : Unary → Value → Redex
-  make-redex : Maker → Redex
+  letRedex : ℕ → Value → Exp → Redex
+  ifRedex : Exp → Exp → Redex
+  whileRedex : Exp → Redex
+  spawnRedex : Value → Exp → Redex
+  writeRedex : Value → Value → Redex
+  unaryRedex : Unary → Value → Redex
+  makeRedex : Maker → Redex
 
 -- What an expression does next: nothing, for it is a value; nothing, for it has come to a variable that no value was put
 -- for; or a word.
 pub data Next : Type 0 where
-  is-value : Value → Next
-  at-variable : ℕ → Next
-  at-word : Redex → Next
+  isValue : Value → Next
+  atVariable : ℕ → Next
+  atWord : Redex → Next
 
 -- The next word of a word that wants a part to be a value: once it is one, as told, and else the part's own next word.
 abbrev pub once : Next → (Value → Next) → Next
-once (is-value v) k = k v
-once (at-variable x) k = at-variable x
-once (at-word r) k = at-word r
+once (isValue v) k = k v
+once (atVariable x) k = atVariable x
+once (atWord r) k = atWord r
 
 -- Document 01: "its first word if those parts are values, else the next word of the first of them that is not". The
 -- evaluation contexts of Figure 3 say the same: parts are evaluated left to right.
-abbrev pub next : Exp → Next
-next (value v) = is-value v
-next (var x) = at-variable x
-next (let-in x e₁ e₂) = once (next e₁) λ v. at-word (let-redex x v e₂)
-next (if e₁ e₂) = at-word (if-redex e₁ e₂)
-next (while e) = at-word (while-redex e)
-next (spawn e₁ e₂) = once (next e₁) λ v. at-word (spawn-redex v e₂)
-next (write e₁ e₂) = once (next e₁) λ v. once (next e₂) λ w. at-word (write-redex v w)
-next (unary o e) = once (next e) λ v. at-word (unary-redex o v)
-next (make o) = at-word (make-redex o)
+abbrev pub nextWord : Exp → Next
+nextWord (value v) = isValue v
+nextWord (var x) = atVariable x
+nextWord (letIn x e₁ e₂) = once (nextWord e₁) λ v. atWord (letRedex x v e₂)
+nextWord (if e₁ e₂) = atWord (ifRedex e₁ e₂)
+nextWord (while e) = atWord (whileRedex e)
+nextWord (spawn e₁ e₂) = once (nextWord e₁) λ v. atWord (spawnRedex v e₂)
+nextWord (write e₁ e₂) = once (nextWord e₁) λ v. once (nextWord e₂) λ w. atWord (writeRedex v w)
+nextWord (unary o e) = once (nextWord e) λ v. atWord (unaryRedex o v)
+nextWord (make o) = atWord (makeRedex o)
 
 -- ---- Putting a reduct back
 
-abbrev pub if-value : Next → Exp → Exp → Exp
-if-value (is-value v) a b = a
-if-value (at-variable x) a b = b
-if-value (at-word r) a b = b
+abbrev pub ifValue : Next → Exp → Exp → Exp
+ifValue (isValue v) a b = a
+ifValue (atVariable x) a b = b
+ifValue (atWord r) a b = b
 
--- The expression with r in the place of its next word: E[r] of Figure 3, for the E that `next` has found.
+-- The expression with r in the place of its next word: E[r] of Figure 3, for the E that `nextWord` has found.
 abbrev pub plug : Exp → Exp → Exp
 plug (value v) r = r
 plug (var x) r = r
-plug (let-in x e₁ e₂) r = if-value (next e₁) r (let-in x (plug e₁ r) e₂)
+plug (letIn x e₁ e₂) r = ifValue (nextWord e₁) r (letIn x (plug e₁ r) e₂)
 plug (if e₁ e₂) r = r
 plug (while e) r = r
-plug (spawn e₁ e₂) r = if-value (next e₁) r (spawn (plug e₁ r) e₂)
-plug (write e₁ e₂) r = if-value (next e₁) (if-value (next e₂) r (write e₁ (plug e₂ r))) (write (plug e₁ r) e₂)
-plug (unary o e) r = if-value (next e) r (unary o (plug e r))
+plug (spawn e₁ e₂) r = ifValue (nextWord e₁) r (spawn (plug e₁ r) e₂)
+plug (write e₁ e₂) r = ifValue (nextWord e₁) (ifValue (nextWord e₂) r (write e₁ (plug e₂ r))) (write (plug e₁ r) e₂)
+plug (unary o e) r = ifValue (nextWord e) r (unary o (plug e r))
 plug (make o) r = r
 
 -- ---- Substitution
@@ -105,7 +105,7 @@ choose (no p) a b = b
 abbrev pub substitute : ℕ → Value → Exp → Exp
 substitute x v (value w) = value w
 substitute x v (var y) = choose (ℕ-discrete y x) (value v) (var y)
-substitute x v (let-in y e₁ e₂) = let-in y (substitute x v e₁) (choose (ℕ-discrete y x) e₂ (substitute x v e₂))
+substitute x v (letIn y e₁ e₂) = letIn y (substitute x v e₁) (choose (ℕ-discrete y x) e₂ (substitute x v e₂))
 substitute x v (if e₁ e₂) = if (substitute x v e₁) (substitute x v e₂)
 substitute x v (while e) = while (substitute x v e)
 substitute x v (spawn e₁ e₂) = spawn (substitute x v e₁) (substitute x v e₂)

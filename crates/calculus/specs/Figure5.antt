@@ -3,27 +3,27 @@
 use Prim.Native.Nat.{ℕ, _≤_, _<_}
 use mathlib.Core.Path.{_≡_}
 use mathlib.Core.Option.{Option, none, some}
-use Rattle.calculus.specs.Expression.{int, rdlock, rdunlock, wrlock, wrunlock, join, ref, read, lock, unlock, post, wait, hold, newtid, newlock, newsem, newrwlock, Exp, value, var, let-in, if, while, spawn, write, unary, make}
+use Rattle.calculus.specs.Expression.{int, rdlock, rdunlock, wrlock, wrunlock, join, ref, read, lock, unlock, post, wait, hold, newtid, newlock, newsem, newrwlock, Exp, value, var, letIn, if, while, spawn, write, unary, make}
 use Rattle.calculus.specs.State.{update}
 use Rattle.calculus.specs.Capability.{Cap, _×ᶜ_, _≥ᶜ_, _≈_⊕_}
 
 -- The types of Section 2.2 and of Section 3.1.4, as trees. A lock has two capabilities, Ψᵢ and Ψₒ of Section 3.1.6: `lock` hands out
 -- Ψᵢ, `newlock` and `unlock` take Ψₒ.
 pub data Ty : Type 0 where
-  int-type : Ty
-  ref-type : ℕ → Ty → Ty
-  lock-type : (Ψᵢ Ψₒ : Cap) → Ty
-  tid-type : Cap → Ty
-  sem-type : Cap → Ty
-  rwlock-type : (Ψr Ψw : Cap) → Ty
+  intType : Ty
+  refType : ℕ → Ty → Ty
+  lockType : (Ψᵢ Ψₒ : Cap) → Ty
+  tidType : Cap → Ty
+  semType : Cap → Ty
+  rwlockType : (Ψr Ψw : Cap) → Ty
 
 -- What a variable of the first type may be shown as: a lock as one that hands out no more and takes no less, anything else as it is.
 -- Section 3.1.6 prints the second inequality the other way round; "that lets a thread lock, give back nothing and lock again, so ours
 -- holds" (request (ix)).
 infix 40 _shown-as_
 pub data _shown-as_ : Ty → Ty → Type 0 where
-  as-it-is : {τ : Ty} → τ shown-as τ
-  looser : {Ψᵢ Ψₒ Ψᵢ′ Ψₒ′ : Cap} → Ψᵢ ≥ᶜ Ψᵢ′ → Ψₒ′ ≥ᶜ Ψₒ → lock-type Ψᵢ Ψₒ shown-as lock-type Ψᵢ′ Ψₒ′
+  asItIs : {τ : Ty} → τ shown-as τ
+  looser : {Ψᵢ Ψₒ Ψᵢ′ Ψₒ′ : Cap} → Ψᵢ ≥ᶜ Ψᵢ′ → Ψₒ′ ≥ᶜ Ψₒ → lockType Ψᵢ Ψₒ shown-as lockType Ψᵢ′ Ψₒ′
 
 -- Γ, the types of the variables that are bound.
 abbrev pub Env : Type 0
@@ -44,59 +44,59 @@ bind Γ x τ = update Γ x (some τ)
 infix 20 _∣_∣_⊢_∶_∣_
 pub data _∣_∣_⊢_∶_∣_ (D : ℕ) : Env → Cap → Exp → Ty → Cap → Type 0 where
   VAR : {Γ : Env} {Ψ : Cap} {x : ℕ} {σ τ : Ty} → Γ x ≡ some σ → σ shown-as τ → D ∣ Γ ∣ Ψ ⊢ var x ∶ τ ∣ Ψ
-  INT : {Γ : Env} {Ψ : Cap} {n : ℕ} → D ∣ Γ ∣ Ψ ⊢ value (int n) ∶ int-type ∣ Ψ
+  INT : {Γ : Env} {Ψ : Cap} {n : ℕ} → D ∣ Γ ∣ Ψ ⊢ value (int n) ∶ intType ∣ Ψ
   LET : {Γ : Env} {Ψ Ψ₁ Ψ₂ : Cap} {x : ℕ} {e₁ e₂ : Exp} {τ₁ τ₂ : Ty} →
       D ∣ Γ ∣ Ψ ⊢ e₁ ∶ τ₁ ∣ Ψ₁ → D ∣ bind Γ x τ₁ ∣ Ψ₁ ⊢ e₂ ∶ τ₂ ∣ Ψ₂ →
-      D ∣ Γ ∣ Ψ ⊢ let-in x e₁ e₂ ∶ τ₂ ∣ Ψ₂
+      D ∣ Γ ∣ Ψ ⊢ letIn x e₁ e₂ ∶ τ₂ ∣ Ψ₂
   IF : {Γ : Env} {Ψ Ψ₁ Ψ₂ Ψ₃ : Cap} {e₁ e₂ : Exp} {τ : Ty} →
       D ∣ Γ ∣ Ψ ⊢ e₁ ∶ τ ∣ Ψ₁ → Ψ₁ ≥ᶜ Ψ₃ → D ∣ Γ ∣ Ψ ⊢ e₂ ∶ τ ∣ Ψ₂ → Ψ₂ ≥ᶜ Ψ₃ →
       D ∣ Γ ∣ Ψ ⊢ if e₁ e₂ ∶ τ ∣ Ψ₃
   WHILE : {Γ : Env} {Ψ Ψ₁ Ψ₂ : Cap} {e : Exp} {τ : Ty} →
       D ∣ Γ ∣ Ψ₁ ⊢ e ∶ τ ∣ Ψ₂ → Ψ₂ ≥ᶜ Ψ₁ → Ψ ≥ᶜ Ψ₁ →
-      D ∣ Γ ∣ Ψ ⊢ while e ∶ int-type ∣ Ψ₁
-  NEWT : {Γ : Env} {Ψ Ψ₁ : Cap} → D ∣ Γ ∣ Ψ ⊢ make newtid ∶ tid-type Ψ₁ ∣ Ψ
+      D ∣ Γ ∣ Ψ ⊢ while e ∶ intType ∣ Ψ₁
+  NEWT : {Γ : Env} {Ψ Ψ₁ : Cap} → D ∣ Γ ∣ Ψ ⊢ make newtid ∶ tidType Ψ₁ ∣ Ψ
   SPAWN : {Γ : Env} {Ψ Ψ₁ Ψ₂ Ψ₃ Ψ₄ Ψ₅ : Cap} {e₁ e₂ : Exp} {τ : Ty} →
-      D ∣ Γ ∣ Ψ ⊢ e₁ ∶ tid-type Ψ₁ ∣ Ψ₂ → D ∣ Γ ∣ Ψ₃ ⊢ e₂ ∶ τ ∣ Ψ₄ → Ψ₄ ≥ᶜ Ψ₁ → Ψ₂ ≈ Ψ₅ ⊕ Ψ₃ →
-      D ∣ Γ ∣ Ψ ⊢ spawn e₁ e₂ ∶ int-type ∣ Ψ₅
+      D ∣ Γ ∣ Ψ ⊢ e₁ ∶ tidType Ψ₁ ∣ Ψ₂ → D ∣ Γ ∣ Ψ₃ ⊢ e₂ ∶ τ ∣ Ψ₄ → Ψ₄ ≥ᶜ Ψ₁ → Ψ₂ ≈ Ψ₅ ⊕ Ψ₃ →
+      D ∣ Γ ∣ Ψ ⊢ spawn e₁ e₂ ∶ intType ∣ Ψ₅
   JOIN : {Γ : Env} {Ψ Ψ₁ Ψ₂ Ψ₃ : Cap} {e : Exp} →
-      D ∣ Γ ∣ Ψ ⊢ e ∶ tid-type Ψ₁ ∣ Ψ₂ → Ψ₃ ≈ Ψ₂ ⊕ Ψ₁ →
-      D ∣ Γ ∣ Ψ ⊢ unary join e ∶ int-type ∣ Ψ₃
+      D ∣ Γ ∣ Ψ ⊢ e ∶ tidType Ψ₁ ∣ Ψ₂ → Ψ₃ ≈ Ψ₂ ⊕ Ψ₁ →
+      D ∣ Γ ∣ Ψ ⊢ unary join e ∶ intType ∣ Ψ₃
   REF : {Γ : Env} {Ψ Ψ₁ : Cap} {e : Exp} {τ : Ty} {ρ : ℕ} →
       D ∣ Γ ∣ Ψ ⊢ e ∶ τ ∣ Ψ₁ →
-      D ∣ Γ ∣ Ψ ⊢ unary ref e ∶ ref-type ρ τ ∣ Ψ₁
+      D ∣ Γ ∣ Ψ ⊢ unary ref e ∶ refType ρ τ ∣ Ψ₁
   WRITE : {Γ : Env} {Ψ Ψ₁ Ψ₂ : Cap} {e₁ e₂ : Exp} {τ : Ty} {ρ : ℕ} →
-      D ∣ Γ ∣ Ψ ⊢ e₁ ∶ ref-type ρ τ ∣ Ψ₁ → D ∣ Γ ∣ Ψ₁ ⊢ e₂ ∶ τ ∣ Ψ₂ → D ≤ Ψ₂ ρ →
-      D ∣ Γ ∣ Ψ ⊢ write e₁ e₂ ∶ int-type ∣ Ψ₂
+      D ∣ Γ ∣ Ψ ⊢ e₁ ∶ refType ρ τ ∣ Ψ₁ → D ∣ Γ ∣ Ψ₁ ⊢ e₂ ∶ τ ∣ Ψ₂ → D ≤ Ψ₂ ρ →
+      D ∣ Γ ∣ Ψ ⊢ write e₁ e₂ ∶ intType ∣ Ψ₂
   READ : {Γ : Env} {Ψ Ψ₁ : Cap} {e : Exp} {τ : Ty} {ρ : ℕ} →
-      D ∣ Γ ∣ Ψ ⊢ e ∶ ref-type ρ τ ∣ Ψ₁ → 0 < Ψ₁ ρ →
+      D ∣ Γ ∣ Ψ ⊢ e ∶ refType ρ τ ∣ Ψ₁ → 0 < Ψ₁ ρ →
       D ∣ Γ ∣ Ψ ⊢ unary read e ∶ τ ∣ Ψ₁
-  NEWL : {Γ : Env} {Ψ Ψᵢ Ψₒ Ψ₂ : Cap} → Ψₒ ≥ᶜ Ψᵢ → Ψ ≈ Ψ₂ ⊕ Ψₒ → D ∣ Γ ∣ Ψ ⊢ make newlock ∶ lock-type Ψᵢ Ψₒ ∣ Ψ₂
+  NEWL : {Γ : Env} {Ψ Ψᵢ Ψₒ Ψ₂ : Cap} → Ψₒ ≥ᶜ Ψᵢ → Ψ ≈ Ψ₂ ⊕ Ψₒ → D ∣ Γ ∣ Ψ ⊢ make newlock ∶ lockType Ψᵢ Ψₒ ∣ Ψ₂
   LCK : {Γ : Env} {Ψ Ψᵢ Ψₒ Ψ₂ Ψ₃ : Cap} {e : Exp} →
-      D ∣ Γ ∣ Ψ ⊢ e ∶ lock-type Ψᵢ Ψₒ ∣ Ψ₂ → Ψ₃ ≈ Ψ₂ ⊕ Ψᵢ →
-      D ∣ Γ ∣ Ψ ⊢ unary lock e ∶ int-type ∣ Ψ₃
+      D ∣ Γ ∣ Ψ ⊢ e ∶ lockType Ψᵢ Ψₒ ∣ Ψ₂ → Ψ₃ ≈ Ψ₂ ⊕ Ψᵢ →
+      D ∣ Γ ∣ Ψ ⊢ unary lock e ∶ intType ∣ Ψ₃
   ULCK : {Γ : Env} {Ψ Ψᵢ Ψₒ Ψ₂ Ψ₃ : Cap} {e : Exp} →
-      D ∣ Γ ∣ Ψ ⊢ e ∶ lock-type Ψᵢ Ψₒ ∣ Ψ₂ → Ψ₂ ≈ Ψ₃ ⊕ Ψₒ →
-      D ∣ Γ ∣ Ψ ⊢ unary unlock e ∶ int-type ∣ Ψ₃
-  NEWSEM : {Γ : Env} {Ψ Ψ₁ : Cap} → D ∣ Γ ∣ Ψ ⊢ make newsem ∶ sem-type Ψ₁ ∣ Ψ
+      D ∣ Γ ∣ Ψ ⊢ e ∶ lockType Ψᵢ Ψₒ ∣ Ψ₂ → Ψ₂ ≈ Ψ₃ ⊕ Ψₒ →
+      D ∣ Γ ∣ Ψ ⊢ unary unlock e ∶ intType ∣ Ψ₃
+  NEWSEM : {Γ : Env} {Ψ Ψ₁ : Cap} → D ∣ Γ ∣ Ψ ⊢ make newsem ∶ semType Ψ₁ ∣ Ψ
   POST : {Γ : Env} {Ψ Ψ₁ Ψ₂ Ψ₃ : Cap} {e : Exp} →
-      D ∣ Γ ∣ Ψ ⊢ e ∶ sem-type Ψ₁ ∣ Ψ₂ → Ψ₂ ≈ Ψ₃ ⊕ Ψ₁ →
-      D ∣ Γ ∣ Ψ ⊢ unary post e ∶ int-type ∣ Ψ₃
+      D ∣ Γ ∣ Ψ ⊢ e ∶ semType Ψ₁ ∣ Ψ₂ → Ψ₂ ≈ Ψ₃ ⊕ Ψ₁ →
+      D ∣ Γ ∣ Ψ ⊢ unary post e ∶ intType ∣ Ψ₃
   WAIT : {Γ : Env} {Ψ Ψ₁ Ψ₂ Ψ₃ : Cap} {e : Exp} →
-      D ∣ Γ ∣ Ψ ⊢ e ∶ sem-type Ψ₁ ∣ Ψ₂ → Ψ₃ ≈ Ψ₂ ⊕ Ψ₁ →
-      D ∣ Γ ∣ Ψ ⊢ unary wait e ∶ int-type ∣ Ψ₃
+      D ∣ Γ ∣ Ψ ⊢ e ∶ semType Ψ₁ ∣ Ψ₂ → Ψ₃ ≈ Ψ₂ ⊕ Ψ₁ →
+      D ∣ Γ ∣ Ψ ⊢ unary wait e ∶ intType ∣ Ψ₃
   -- N bounds the reading holds, not the threads: "one thread may read twice".
   NEWRWLOCK : {Γ : Env} {Ψ Ψr Ψw Ψ₂ : Cap} {N : ℕ} →
       Ψw ≥ᶜ N ×ᶜ Ψr → Ψ ≈ Ψ₂ ⊕ Ψw →
-      D ∣ Γ ∣ Ψ ⊢ make (newrwlock N) ∶ rwlock-type Ψr Ψw ∣ Ψ₂
+      D ∣ Γ ∣ Ψ ⊢ make (newrwlock N) ∶ rwlockType Ψr Ψw ∣ Ψ₂
   RDLOCK : {Γ : Env} {Ψ Ψr Ψw Ψ₂ Ψ₃ : Cap} {e : Exp} →
-      D ∣ Γ ∣ Ψ ⊢ e ∶ rwlock-type Ψr Ψw ∣ Ψ₂ → Ψ₃ ≈ Ψ₂ ⊕ Ψr →
-      D ∣ Γ ∣ Ψ ⊢ unary (hold rdlock) e ∶ int-type ∣ Ψ₃
+      D ∣ Γ ∣ Ψ ⊢ e ∶ rwlockType Ψr Ψw ∣ Ψ₂ → Ψ₃ ≈ Ψ₂ ⊕ Ψr →
+      D ∣ Γ ∣ Ψ ⊢ unary (hold rdlock) e ∶ intType ∣ Ψ₃
   RDUNLOCK : {Γ : Env} {Ψ Ψr Ψw Ψ₂ Ψ₃ : Cap} {e : Exp} →
-      D ∣ Γ ∣ Ψ ⊢ e ∶ rwlock-type Ψr Ψw ∣ Ψ₂ → Ψ₂ ≈ Ψ₃ ⊕ Ψr →
-      D ∣ Γ ∣ Ψ ⊢ unary (hold rdunlock) e ∶ int-type ∣ Ψ₃
+      D ∣ Γ ∣ Ψ ⊢ e ∶ rwlockType Ψr Ψw ∣ Ψ₂ → Ψ₂ ≈ Ψ₃ ⊕ Ψr →
+      D ∣ Γ ∣ Ψ ⊢ unary (hold rdunlock) e ∶ intType ∣ Ψ₃
   WRLOCK : {Γ : Env} {Ψ Ψr Ψw Ψ₂ Ψ₃ : Cap} {e : Exp} →
-      D ∣ Γ ∣ Ψ ⊢ e ∶ rwlock-type Ψr Ψw ∣ Ψ₂ → Ψ₃ ≈ Ψ₂ ⊕ Ψw →
-      D ∣ Γ ∣ Ψ ⊢ unary (hold wrlock) e ∶ int-type ∣ Ψ₃
+      D ∣ Γ ∣ Ψ ⊢ e ∶ rwlockType Ψr Ψw ∣ Ψ₂ → Ψ₃ ≈ Ψ₂ ⊕ Ψw →
+      D ∣ Γ ∣ Ψ ⊢ unary (hold wrlock) e ∶ intType ∣ Ψ₃
   WRUNLOCK : {Γ : Env} {Ψ Ψr Ψw Ψ₂ Ψ₃ : Cap} {e : Exp} →
-      D ∣ Γ ∣ Ψ ⊢ e ∶ rwlock-type Ψr Ψw ∣ Ψ₂ → Ψ₂ ≈ Ψ₃ ⊕ Ψw →
-      D ∣ Γ ∣ Ψ ⊢ unary (hold wrunlock) e ∶ int-type ∣ Ψ₃
+      D ∣ Γ ∣ Ψ ⊢ e ∶ rwlockType Ψr Ψw ∣ Ψ₂ → Ψ₂ ≈ Ψ₃ ⊕ Ψw →
+      D ∣ Γ ∣ Ψ ⊢ unary (hold wrunlock) e ∶ intType ∣ Ψ₃

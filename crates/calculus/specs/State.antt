@@ -19,7 +19,7 @@ pub data Slot : Type 0 where
   unused : Slot
   identifier : Slot
   cell : Value → Slot
-  a-lock : LockState → Slot
+  aLock : LockState → Slot
   semaphore : ℕ → Slot
   rwlock : (N : ℕ) → Inside → Slot
 

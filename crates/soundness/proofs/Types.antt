@@ -25,17 +25,17 @@ use Rattle.spec.proofs.Clashes.{none-is-not-some}
 use Rattle.spec.proofs.Agreement.{agree-same-tree, numbered, tree-of-type}
 use Rattle.spec.proofs.Shown.{Shown, agreeing, looser, may-show-exactly}
 use Rattle.calculus.specs.Expression.{choose}
-use Rattle.calculus.specs.Figure5.{Ty, int-type, ref-type, lock-type, tid-type, sem-type, rwlock-type, _shown-as_, as-it-is, looser as looser-lock, Env, empty, bind}
+use Rattle.calculus.specs.Figure5.{Ty, intType, refType, lockType, tidType, semType, rwlockType, _shown-as_, asItIs, looser as looser-lock, Env, empty, bind}
 use Rattle.soundness.proofs.Capabilities.{cap, covers-cap}
 
 -- the type of the calculus that a tree is: its maps as capabilities
 meaning : Tree → Ty
-meaning (plain int ms) = int-type
-meaning (plain lock ms) = lock-type (cap (getD ms 0 [])) (cap (getD ms 1 []))
-meaning (plain tid ms) = tid-type (cap (getD ms 0 []))
-meaning (plain sem ms) = sem-type (cap (getD ms 0 []))
-meaning (plain rwlock ms) = rwlock-type (cap (getD ms 0 [])) (cap (getD ms 1 []))
-meaning (ref p c) = ref-type (p .0) (meaning c)
+meaning (plain int ms) = intType
+meaning (plain lock ms) = lockType (cap (getD ms 0 [])) (cap (getD ms 1 []))
+meaning (plain tid ms) = tidType (cap (getD ms 0 []))
+meaning (plain sem ms) = semType (cap (getD ms 0 []))
+meaning (plain rwlock ms) = rwlockType (cap (getD ms 0 [])) (cap (getD ms 1 []))
+meaning (ref p c) = refType (p .0) (meaning c)
 
 module _ (S : Split) where
   pub means : TypeNumber → Ty
@@ -52,23 +52,23 @@ module _ (S : Split) where
   environment (b ∷ Γ) = bind (environment Γ) (b .0) (means (b .1))
 
 module _ {steps : List Step} (S : Split) (R : InRange steps S) where
-  pub means-int : (t : TypeNumber) → typeAt S t ≡ type-line.Int → means S t ≡ int-type
+  pub means-int : (t : TypeNumber) → typeAt S t ≡ type-line.Int → means S t ≡ intType
   unfolding means meaning treeOf
   means-int t e = ap meaning (tree-of-type S R t type-line.Int e)
 
-  pub means-lock : (t : TypeNumber) (i o : MapNumber) → typeAt S t ≡ type-line.Lock i o → means S t ≡ lock-type (cap (mapAt S i)) (cap (mapAt S o))
+  pub means-lock : (t : TypeNumber) (i o : MapNumber) → typeAt S t ≡ type-line.Lock i o → means S t ≡ lockType (cap (mapAt S i)) (cap (mapAt S o))
   unfolding means meaning treeOf
   means-lock t i o e = ap meaning (tree-of-type S R t (type-line.Lock i o) e)
 
-  pub means-tid : (t : TypeNumber) (k : MapNumber) → typeAt S t ≡ type-line.Tid k → means S t ≡ tid-type (cap (mapAt S k))
+  pub means-tid : (t : TypeNumber) (k : MapNumber) → typeAt S t ≡ type-line.Tid k → means S t ≡ tidType (cap (mapAt S k))
   unfolding means meaning treeOf
   means-tid t k e = ap meaning (tree-of-type S R t (type-line.Tid k) e)
 
-  pub means-sem : (t : TypeNumber) (k : MapNumber) → typeAt S t ≡ type-line.Sem k → means S t ≡ sem-type (cap (mapAt S k))
+  pub means-sem : (t : TypeNumber) (k : MapNumber) → typeAt S t ≡ type-line.Sem k → means S t ≡ semType (cap (mapAt S k))
   unfolding means meaning treeOf
   means-sem t k e = ap meaning (tree-of-type S R t (type-line.Sem k) e)
 
-  pub means-rwlock : (t : TypeNumber) (r w : MapNumber) → typeAt S t ≡ type-line.Rwlock r w → means S t ≡ rwlock-type (cap (mapAt S r)) (cap (mapAt S w))
+  pub means-rwlock : (t : TypeNumber) (r w : MapNumber) → typeAt S t ≡ type-line.Rwlock r w → means S t ≡ rwlockType (cap (mapAt S r)) (cap (mapAt S w))
   unfolding means meaning treeOf
   means-rwlock t r w e = ap meaning (tree-of-type S R t (type-line.Rwlock r w) e)
 
@@ -77,15 +77,15 @@ module _ {steps : List Step} (S : Split) (R : InRange steps S) where
   shown-means t u h = by-cases (may-show-exactly S t u .0 h)
     where
       by-cases : Shown S t u → means S u shown-as means S t
-      by-cases (agreeing a) = rw (agree-means S t u a) as-it-is
+      by-cases (agreeing a) = rw (agree-means S t u a) asItIs
       by-cases (looser {i = i} {o = o} {j = j} {p = p} x y gives takes) =
           rw (means-lock t i o x, means-lock u j p y) (looser-lock (covers-cap gives) (covers-cap takes))
 
   -- a ref to a type that agrees with its content
   pub means-ref : (t : TypeNumber) (p : Location) (c u : TypeNumber) → typeAt S t ≡ type-line.Ref p c → agree S c u ≡ true
-      → means S t ≡ ref-type (p .0) (means S u)
+      → means S t ≡ refType (p .0) (means S u)
   unfolding means meaning treeOf tree
-  means-ref t p c u e h = ap meaning (tree-of-type S R t (type-line.Ref p c) e) ∙ ap (ref-type (p .0)) (agree-means S c u h)
+  means-ref t p c u e h = ap meaning (tree-of-type S R t (type-line.Ref p c) e) ∙ ap (refType (p .0)) (agree-means S c u h)
 
   -- ------------------------------------------------------------------ every map has every location
 

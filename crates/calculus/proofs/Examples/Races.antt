@@ -7,11 +7,11 @@ use native.Mathlib.Decide.{ℕ-discrete}
 use native.Mathlib.Omega.{arith}
 use Rattle.calculus.specs.Expression.{int, Exp}
 use Rattle.calculus.specs.State.{Move}
-use Rattle.calculus.specs.Reduction.{reduce, attempt, run, start}
-use Rattle.calculus.specs.Claim.{about-to-read, about-to-write, Race, race, Safe}
+use Rattle.calculus.specs.Reduction.{reduce, attempt, run, startState}
+use Rattle.calculus.specs.Claim.{aboutToRead, aboutToWrite, Race, race, Safe}
 use Rattle.calculus.specs.Capability.{Cap}
 use Rattle.calculus.specs.Figure5.{Ty, empty, _∣_∣_⊢_∶_∣_}
-use Rattle.calculus.specs.Examples.{figure-2a, moves-2a, two-locks, moves-two-locks, one-identifier, moves-one-identifier, figure-7, moves-figure-7, unlock-for-nothing, moves-unlock-for-nothing}
+use Rattle.calculus.specs.Examples.{figure2a, moves2a, twoLocks, movesTwoLocks, oneIdentifier, movesOneIdentifier, figure7, movesFigure7, unlockForNothing, movesUnlockForNothing}
 use Rattle.calculus.proofs.Safety.{derived-is-safe}
 use Rattle.calculus.proofs.Examples.Claims.{race-is-not-safe}
 
@@ -19,53 +19,53 @@ use Rattle.calculus.proofs.Examples.Claims.{race-is-not-safe}
 abbrev pub HasNoDerivation : Exp → Type 0
 HasNoDerivation e = (D : ℕ) (Ψ Φ : Cap) (τ : Ty) → 0 < D → ((ρ : ℕ) → Ψ ρ ≤ D) → ¬ (D ∣ empty ∣ Ψ ⊢ e ∶ τ ∣ Φ)
 
-race-has-no-derivation : (e : Exp) (ms : List Move) → Race (run ms (start e)) → HasNoDerivation e
+race-has-no-derivation : (e : Exp) (ms : List Move) → Race (run ms (startState e)) → HasNoDerivation e
 race-has-no-derivation e ms r D Ψ Φ τ positive at-most-whole derived = race-is-not-safe e ms r (derived-is-safe positive derived at-most-whole)
 
 -- ---- Figure 2 (a)
 
-pub figure-2a-races : Race (run moves-2a (start figure-2a))
-unfolding start run attempt reduce ℕ-discrete
-figure-2a-races = race 0 1 1 _ _ (omega arith) refl refl (about-to-write (int 0) (int 1) refl refl) (inl (about-to-read (int 0) refl refl))
+pub figure-2a-races : Race (run moves2a (startState figure2a))
+unfolding startState run attempt reduce ℕ-discrete
+figure-2a-races = race 0 1 1 _ _ (omega arith) refl refl (aboutToWrite (int 0) (int 1) refl refl) (inl (aboutToRead (int 0) refl refl))
 
-pub figure-2a-is-not-safe : ¬ Safe figure-2a
-figure-2a-is-not-safe = race-is-not-safe figure-2a moves-2a figure-2a-races
+pub figure-2a-is-not-safe : ¬ Safe figure2a
+figure-2a-is-not-safe = race-is-not-safe figure2a moves2a figure-2a-races
 
 -- ---- Two locks for one cell
 
-pub two-locks-race : Race (run moves-two-locks (start two-locks))
-unfolding start run attempt reduce ℕ-discrete
-two-locks-race = race 0 1 1 _ _ (omega arith) refl refl (about-to-write (int 0) (int 1) refl refl) (inl (about-to-read (int 0) refl refl))
+pub two-locks-race : Race (run movesTwoLocks (startState twoLocks))
+unfolding startState run attempt reduce ℕ-discrete
+two-locks-race = race 0 1 1 _ _ (omega arith) refl refl (aboutToWrite (int 0) (int 1) refl refl) (inl (aboutToRead (int 0) refl refl))
 
 -- With NEWL-unsound Figure 5 would derive it: each lock would lend the whole of x.
-pub two-locks-has-no-derivation : HasNoDerivation two-locks
-two-locks-has-no-derivation = race-has-no-derivation two-locks moves-two-locks two-locks-race
+pub two-locks-has-no-derivation : HasNoDerivation twoLocks
+two-locks-has-no-derivation = race-has-no-derivation twoLocks movesTwoLocks two-locks-race
 
 -- ---- Figure 7: two posts
 
-pub figure-7-races : Race (run moves-figure-7 (start figure-7))
-unfolding start run attempt reduce ℕ-discrete
-figure-7-races = race 1 2 1 _ _ (omega arith) refl refl (about-to-write (int 0) (int 1) refl refl) (inr (about-to-write (int 0) (int 1) refl refl))
+pub figure-7-races : Race (run movesFigure7 (startState figure7))
+unfolding startState run attempt reduce ℕ-discrete
+figure-7-races = race 1 2 1 _ _ (omega arith) refl refl (aboutToWrite (int 0) (int 1) refl refl) (inr (aboutToWrite (int 0) (int 1) refl refl))
 
 -- The second post would pay with what the first has paid.
-pub figure-7-has-no-derivation : HasNoDerivation figure-7
-figure-7-has-no-derivation = race-has-no-derivation figure-7 moves-figure-7 figure-7-races
+pub figure-7-has-no-derivation : HasNoDerivation figure7
+figure-7-has-no-derivation = race-has-no-derivation figure7 movesFigure7 figure-7-races
 
 -- ---- Section 3.1.6: a lock that is unlocked for nothing
 
-pub unlock-for-nothing-races : Race (run moves-unlock-for-nothing (start unlock-for-nothing))
-unfolding start run attempt reduce ℕ-discrete
+pub unlock-for-nothing-races : Race (run movesUnlockForNothing (startState unlockForNothing))
+unfolding startState run attempt reduce ℕ-discrete
 unlock-for-nothing-races =
-    race 0 1 1 _ _ (omega arith) refl refl (about-to-write (int 0) (int 2) refl refl) (inr (about-to-write (int 0) (int 1) refl refl))
+    race 0 1 1 _ _ (omega arith) refl refl (aboutToWrite (int 0) (int 2) refl refl) (inr (aboutToWrite (int 0) (int 1) refl refl))
 
 -- With the printed out inequality Figure 5 would derive it (PrintedLocks.antt).
-pub unlock-for-nothing-has-no-derivation : HasNoDerivation unlock-for-nothing
-unlock-for-nothing-has-no-derivation = race-has-no-derivation unlock-for-nothing moves-unlock-for-nothing unlock-for-nothing-races
+pub unlock-for-nothing-has-no-derivation : HasNoDerivation unlockForNothing
+unlock-for-nothing-has-no-derivation = race-has-no-derivation unlockForNothing movesUnlockForNothing unlock-for-nothing-races
 
 -- ---- Two threads with one identifier are two threads
 
-pub one-identifier-races : Race (run moves-one-identifier (start one-identifier))
-unfolding start run attempt reduce ℕ-discrete
+pub one-identifier-races : Race (run movesOneIdentifier (startState oneIdentifier))
+unfolding startState run attempt reduce ℕ-discrete
 one-identifier-races =
     race 1 2 1 (record { tid = 2; body = _ }) (record { tid = 2; body = _ }) (omega arith) refl refl
-    (about-to-write (int 0) (int 1) refl refl) (inr (about-to-write (int 0) (int 2) refl refl))
+    (aboutToWrite (int 0) (int 1) refl refl) (inr (aboutToWrite (int 0) (int 2) refl refl))

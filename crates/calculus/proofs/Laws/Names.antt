@@ -8,9 +8,9 @@ use mathlib.Core.List.{List, [], _∷_}
 use native.Mathlib.Decide.{ℕ-discrete}
 use native.Mathlib.Omega.{arith}
 use lib.ListN.{getElem?}
-use Rattle.calculus.specs.Expression.{Value, Unary, join, ref, read, lock, unlock, post, wait, hold, Maker, newtid, newlock, newsem, newrwlock, Exp, Redex, let-redex, if-redex, while-redex, spawn-redex, write-redex, unary-redex, make-redex, next, choose}
-use Rattle.calculus.specs.State.{LockState, opened, closed, Inside, Slot, unused, identifier, cell, a-lock, semaphore, rwlock, Thread, State, Move, update}
-use Rattle.calculus.specs.Reduction.{name-of, if-unused, if-identifier, content, lock-state, if-opened, count, one-less, rw-state, inside-after, if-equal, value-of, word-of, made, named, unary-reduct, reduct, reduce, or-else, attempt, states, start}
+use Rattle.calculus.specs.Expression.{Value, Unary, join, ref, read, lock, unlock, post, wait, hold, Maker, newtid, newlock, newsem, newrwlock, Exp, Redex, letRedex, ifRedex, whileRedex, spawnRedex, writeRedex, unaryRedex, makeRedex, nextWord, choose}
+use Rattle.calculus.specs.State.{LockState, opened, closed, Inside, Slot, unused, identifier, cell, aLock, semaphore, rwlock, Thread, State, Move, update}
+use Rattle.calculus.specs.Reduction.{nameOf, ifUnused, ifIdentifier, content, lockState, ifOpened, count, oneLess, rwState, insideAfter, ifEqual, valueOf, wordOf, made, named, unaryReduct, reduct, reduce, orElse, attempt, states, startState}
 use Rattle.calculus.specs.Claim.{Every}
 use Rattle.calculus.proofs.Laws.Maps.{some-injective, bind-is-some, update-other, update-above}
 
@@ -27,7 +27,7 @@ identifier-is-used h = let z : _≡_ {A = ℕ} 0 1 = cc in omega (arith, z)
 cell-is-used : {v : Value} → cell v ≢ unused
 cell-is-used h = let z : _≡_ {A = ℕ} 0 1 = cc in omega (arith, z)
 
-lock-is-used : {l : LockState} → a-lock l ≢ unused
+lock-is-used : {l : LockState} → aLock l ≢ unused
 lock-is-used h = let z : _≡_ {A = ℕ} 0 1 = cc in omega (arith, z)
 
 semaphore-is-used : {c : ℕ} → semaphore c ≢ unused
@@ -49,70 +49,70 @@ module _ (s : State) (m : Move) (t : Thread) where
 
   named-changes-one : (new : Slot) (s′ : State) → new ≢ unused → named s m t new ≡ some s′ → OneChanged (s .names) (s′ .names)
   named-changes-one new s′ used q =
-      let (_, _, q₁) = bind-is-some (if-unused (s .names (m .fresh))) q in
+      let (_, _, q₁) = bind-is-some (ifUnused (s .names (m .fresh))) q in
       told (one-changed (m .fresh) new used) q₁
 
-  unary-changes-one : (o : Unary) (v : Value) (s′ : State) → unary-reduct s m t o v ≡ some s′ → OneChanged (s .names) (s′ .names)
+  unary-changes-one : (o : Unary) (v : Value) (s′ : State) → unaryReduct s m t o v ≡ some s′ → OneChanged (s .names) (s′ .names)
   unary-changes-one join v s′ q =
-      let (n, _, q₁) = bind-is-some (name-of v) q in
-      let (_, _, q₂) = bind-is-some (if-identifier (s .names n)) q₁ in
+      let (n, _, q₁) = bind-is-some (nameOf v) q in
+      let (_, _, q₂) = bind-is-some (ifIdentifier (s .names n)) q₁ in
       let (u, _, q₃) = bind-is-some (getElem? (s .threads) (m .finished)) q₂ in
-      let (_, _, q₄) = bind-is-some (if-equal (u .tid) n) q₃ in
-      let (_, _, q₅) = bind-is-some (value-of (next (u .body))) q₄ in
+      let (_, _, q₄) = bind-is-some (ifEqual (u .tid) n) q₃ in
+      let (_, _, q₅) = bind-is-some (valueOf (nextWord (u .body))) q₄ in
       told none-changed q₅
   unary-changes-one ref v s′ q = named-changes-one _ s′ cell-is-used q
   unary-changes-one read v s′ q =
-      let (n, _, q₁) = bind-is-some (name-of v) q in
+      let (n, _, q₁) = bind-is-some (nameOf v) q in
       let (_, _, q₂) = bind-is-some (content (s .names n)) q₁ in
       told none-changed q₂
   unary-changes-one lock v s′ q =
-      let (n, _, q₁) = bind-is-some (name-of v) q in
-      let (l, _, q₂) = bind-is-some (lock-state (s .names n)) q₁ in
-      let (_, _, q₃) = bind-is-some (if-opened l) q₂ in
-      told (one-changed n (a-lock closed) lock-is-used) q₃
+      let (n, _, q₁) = bind-is-some (nameOf v) q in
+      let (l, _, q₂) = bind-is-some (lockState (s .names n)) q₁ in
+      let (_, _, q₃) = bind-is-some (ifOpened l) q₂ in
+      told (one-changed n (aLock closed) lock-is-used) q₃
   unary-changes-one unlock v s′ q =
-      let (n, _, q₁) = bind-is-some (name-of v) q in
-      let (_, _, q₂) = bind-is-some (lock-state (s .names n)) q₁ in
-      told (one-changed n (a-lock opened) lock-is-used) q₂
+      let (n, _, q₁) = bind-is-some (nameOf v) q in
+      let (_, _, q₂) = bind-is-some (lockState (s .names n)) q₁ in
+      told (one-changed n (aLock opened) lock-is-used) q₂
   unary-changes-one post v s′ q =
-      let (n, _, q₁) = bind-is-some (name-of v) q in
+      let (n, _, q₁) = bind-is-some (nameOf v) q in
       let (c, _, q₂) = bind-is-some (count (s .names n)) q₁ in
       told (one-changed n (semaphore (suc c)) semaphore-is-used) q₂
   unary-changes-one wait v s′ q =
-      let (n, _, q₁) = bind-is-some (name-of v) q in
+      let (n, _, q₁) = bind-is-some (nameOf v) q in
       let (c, _, q₂) = bind-is-some (count (s .names n)) q₁ in
-      let (left, _, q₃) = bind-is-some (one-less c) q₂ in
+      let (left, _, q₃) = bind-is-some (oneLess c) q₂ in
       told (one-changed n (semaphore left) semaphore-is-used) q₃
   unary-changes-one (hold w) v s′ q =
-      let (n, _, q₁) = bind-is-some (name-of v) q in
-      let (p, _, q₂) = bind-is-some (rw-state (s .names n)) q₁ in
-      let (after, _, q₃) = bind-is-some (inside-after (p .0) w (p .1)) q₂ in
+      let (n, _, q₁) = bind-is-some (nameOf v) q in
+      let (p, _, q₂) = bind-is-some (rwState (s .names n)) q₁ in
+      let (after, _, q₃) = bind-is-some (insideAfter (p .0) w (p .1)) q₂ in
       told (one-changed n (rwlock (p .0) after) rwlock-is-used) q₃
 
   reduct-changes-one : (r : Redex) (s′ : State) → reduct s m t r ≡ some s′ → OneChanged (s .names) (s′ .names)
-  reduct-changes-one (let-redex x v e) s′ q = told none-changed q
-  reduct-changes-one (if-redex e₁ e₂) s′ q = told none-changed q
-  reduct-changes-one (while-redex e) s′ q = told none-changed q
-  reduct-changes-one (spawn-redex v e) s′ q =
-      let (n, _, q₁) = bind-is-some (name-of v) q in
-      let (_, _, q₂) = bind-is-some (if-identifier (s .names n)) q₁ in
+  reduct-changes-one (letRedex x v e) s′ q = told none-changed q
+  reduct-changes-one (ifRedex e₁ e₂) s′ q = told none-changed q
+  reduct-changes-one (whileRedex e) s′ q = told none-changed q
+  reduct-changes-one (spawnRedex v e) s′ q =
+      let (n, _, q₁) = bind-is-some (nameOf v) q in
+      let (_, _, q₂) = bind-is-some (ifIdentifier (s .names n)) q₁ in
       told none-changed q₂
-  reduct-changes-one (write-redex v w) s′ q =
-      let (n, _, q₁) = bind-is-some (name-of v) q in
+  reduct-changes-one (writeRedex v w) s′ q =
+      let (n, _, q₁) = bind-is-some (nameOf v) q in
       let (_, _, q₂) = bind-is-some (content (s .names n)) q₁ in
       told (one-changed n (cell w) cell-is-used) q₂
-  reduct-changes-one (unary-redex o v) s′ q = unary-changes-one o v s′ q
-  reduct-changes-one (make-redex o) s′ q = named-changes-one _ s′ (made-is-used o) q
+  reduct-changes-one (unaryRedex o v) s′ q = unary-changes-one o v s′ q
+  reduct-changes-one (makeRedex o) s′ q = named-changes-one _ s′ (made-is-used o) q
 
 pub attempt-changes-one : (s : State) (m : Move) → OneChanged (s .names) (attempt s m .names)
 unfolding attempt reduce
 attempt-changes-one s m = by-cases (reduce s m) refl
   where
-    by-cases : (o : Option State) → reduce s m ≡ o → OneChanged (s .names) (or-else o s .names)
+    by-cases : (o : Option State) → reduce s m ≡ o → OneChanged (s .names) (orElse o s .names)
     by-cases none q = none-changed
     by-cases (some s′) q =
         let (t, _, q₁) = bind-is-some (getElem? (s .threads) (m .thread)) q in
-        let (r, _, q₂) = bind-is-some (word-of (next (t .body))) q₁ in
+        let (r, _, q₂) = bind-is-some (wordOf (nextWord (t .body))) q₁ in
         reduct-changes-one s m t r s′ q₂
 
 -- ---- A used name stays used
@@ -146,7 +146,7 @@ run-has-unused-names (m ∷ ms) s B =
     ((B .top, B .above (B .top) (omega arith)), run-has-unused-names ms (attempt s m) (change-keeps-bound (attempt-changes-one s m) B))
 
 -- In every state on the way some name is unused.
-pub names-never-run-out : (e : Exp) (ms : List Move) → Every (λ s. (n : ℕ) × (s .names n ≡ unused)) (states ms (start e))
-unfolding start
+pub names-never-run-out : (e : Exp) (ms : List Move) → Every (λ s. (n : ℕ) × (s .names n ≡ unused)) (states ms (startState e))
+unfolding startState
 names-never-run-out e ms =
-    run-has-unused-names ms (start e) (record { top = 1; above = λ n h. update-other (λ k. unused) 0 n identifier (omega arith) })
+    run-has-unused-names ms (startState e) (record { top = 1; above = λ n h. update-other (λ k. unused) 0 n identifier (omega arith) })

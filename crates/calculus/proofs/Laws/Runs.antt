@@ -3,8 +3,8 @@ use mathlib.Core.Path.{_≡_, refl, ap, _∙_}
 use mathlib.Core.Option.{some}
 use mathlib.Core.List.{List, [], _∷_, _++_}
 use Rattle.calculus.specs.State.{State, Move}
-use Rattle.calculus.specs.Reduction.{reduce, or-else, attempt, states, run}
-use Rattle.calculus.specs.Claim.{Every, taking-both}
+use Rattle.calculus.specs.Reduction.{reduce, orElse, attempt, states, run}
+use Rattle.calculus.specs.Claim.{Every, takingBoth}
 use Rattle.calculus.proofs.Laws.Maps.{bind-is-some}
 
 -- What holds of every state on the way holds of the last.
@@ -19,8 +19,8 @@ run-of-both [] ns s = refl
 run-of-both (m ∷ ms) ns s = run-of-both ms ns (attempt s m)
 
 -- A run whose first two moves are reductions goes on from the state after them.
-pub run-goes-on : (s s′ : State) (m k : Move) (ms : List Move) → taking-both s m k ≡ some s′ → run (m ∷ k ∷ ms) s ≡ run ms s′
+pub run-goes-on : (s s′ : State) (m k : Move) (ms : List Move) → takingBoth s m k ≡ some s′ → run (m ∷ k ∷ ms) s ≡ run ms s′
 unfolding run attempt
 run-goes-on s s′ m k ms q =
     let (s₁, e, q₁) = bind-is-some (reduce s m) q in
-    ap (λ o. run ms (or-else (reduce (or-else o s) k) (or-else o s))) e ∙ ap (λ o. run ms (or-else o s₁)) q₁
+    ap (λ o. run ms (orElse (reduce (orElse o s) k) (orElse o s))) e ∙ ap (λ o. run ms (orElse o s₁)) q₁
