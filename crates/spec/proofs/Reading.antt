@@ -84,6 +84,30 @@ all-shown sheet (read ∷ reads) place h =
     subst (λ r. Shows (read ∷ reads) (place .rest) (r .0) (r .1 .rest)) (on-injective h₄)
     (subst (λ ls. Shows (read ∷ reads) ls (r₁ .0 ∷ r₂ .0) (r₂ .1 .rest)) (sym (b .lined)) shown)
 
+-- the lines read are counted
+passed-last : {A : Type 0} {a : A} {p : Place} (sheet : SheetName) (k : ℕ) (rest : List Line) (x : Seen A)
+    → passed sheet k rest x ≡ on (a, p) → p .last ≡ k
+unfolding passed
+passed-last sheet k rest (right a) h = sym (ap (λ r. r .1 .last) (on-injective h))
+passed-last sheet k rest (wrong w) h = stop-is-not-on h
+
+line-last : {A : Type 0} {a : A} {p : Place} (sheet : SheetName) (read : List Field → Seen A) (k : ℕ) (ls : List Line)
+    → nextLine sheet read k ls ≡ on (a, p) → p .last ≡ k + 1
+unfolding nextLine
+line-last sheet read k [] h = stop-is-not-on h
+line-last sheet read k (unclosed l ∷ rest) h = stop-is-not-on h
+line-last sheet read k (closed l ∷ rest) h = passed-last sheet (k + 1) rest (read (fields l)) h
+
+pub next-last : {A : Type 0} {a : A} {p : Place} (sheet : SheetName) (read : List Field → Seen A) (place : Place)
+    → next sheet read place ≡ on (a, p) → p .last ≡ place .last + 1
+unfolding next
+next-last sheet read place h = line-last sheet read (place .last) (place .rest) h
+
+pub begun-last : {p : Place} (sheet : SheetName) (ls : List Line) → begin sheet ls ≡ on p → p .last ≡ 0
+unfolding begin
+begun-last sheet [] h = stop-is-not-on h
+begun-last sheet (l ∷ rest) h = sym (ap (λ r. r .last) (on-injective h))
+
 pub begun : {p : Place} (sheet : SheetName) (ls : List Line) → begin sheet ls ≡ on p → ls ≡ p .rest
 unfolding begin
 begun sheet [] h = stop-is-not-on h

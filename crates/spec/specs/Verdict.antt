@@ -6,10 +6,11 @@ use Prim.Native.Nat.{ℕ, _+_}
 use lib.Dec.{leb}
 use lib.ListN.{length}
 use Rattle.spec.specs.Reading.{Out, stop, on, _>>=_, demand}
+use Rattle.spec.specs.Expression.{lineOf}
 use Rattle.spec.specs.Program.{Program, program, programLimit}
 use Rattle.spec.specs.Split.{Split, split, splitLimit, mapAt}
 use Rattle.spec.specs.Maps.{_≥ᵐ_, nowhere, overWhole}
-use Rattle.spec.specs.Conditions.{lineOf, startMap}
+use Rattle.spec.specs.Conditions.{startMap}
 use Rattle.spec.specs.Sites.{sites, claims, firstFalse, isType, only}
 use Rattle.spec.specs.Workspace.{workspaceSize}
 use Rattle.spec.specs.declared.Returned.{Returned}
