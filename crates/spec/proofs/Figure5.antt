@@ -1,7 +1,7 @@
 -- No condition is false exactly when the split's types and maps are derived by Figure 5.
 -- A step's own conditions and those of its parts are taken apart and put together by the two laws below; each rule then
 -- is its row of the table, read one way or the other.
-use mathlib.Core.Path.{_≡_, refl, subst, sym, _∙_}
+use mathlib.Core.Path.{_≡_, subst, sym}
 use mathlib.Core.List.{List, [], _∷_, _++_}
 use Prim.Native.Nat.{ℕ}
 use borrow.Author.Tests.{leb-true, ltb-true}

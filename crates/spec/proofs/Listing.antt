@@ -5,7 +5,7 @@ use Prim.Native.Nat.{ℕ, suc, _+_, _≤_}
 use native.Mathlib.Omega.{arith}
 use lib.ListN.{length, drop, length-append, drop-of-length-le}
 use lib.Seq.{drop-append-seam}
-use Rattle.spec.specs.Reading.{stop, on}
+use Rattle.spec.specs.Reading.{on}
 use Rattle.spec.specs.Expression.{Step, Expr, leaf, unary, binary, size, withParts, listed, whole, single}
 use Rattle.spec.specs.WellFormed.{prefix, IndexesFrom}
 use Rattle.spec.specs.declared.Word.{Word}

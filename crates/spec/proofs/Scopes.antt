@@ -8,7 +8,7 @@ use Prim.Native.Nat.{ℕ}
 use lib.Dec.{eqb}
 use Rattle.spec.specs.Choice.{if_then_else_}
 use Rattle.spec.specs.Reading.{Out, stop, on, _>>=_}
-use Rattle.spec.specs.Words.{role, binding}
+use Rattle.spec.specs.Words.{binding}
 use Rattle.spec.specs.Expression.{Expr, leaf, unary, binary, among, scopeStep, scope}
 use Rattle.spec.specs.WellFormed.{binders, Distinct, StepInside, UsedInside}
 use Rattle.spec.specs.declared.Refusal.{Refusal}

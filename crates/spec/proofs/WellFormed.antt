@@ -5,14 +5,14 @@ use Prim.Native.Nat.{ℕ, _+_, _≤_}
 use native.Mathlib.Omega.{arith}
 use lib.ListN.{length}
 use Rattle.spec.specs.Text.{lines}
-use Rattle.spec.specs.Reading.{on, programSheet, splitSheet, right, begin, noneLeft, end}
+use Rattle.spec.specs.Reading.{on, programSheet, splitSheet, right, Place, begin, noneLeft, end}
 use Rattle.spec.specs.Expression.{Step}
 use Rattle.spec.specs.Program.{Program, program, programLimit, countLine, stepLines}
 use Rattle.spec.specs.Split.{Split, split, splitLimit, headerLine, rowLine}
 use Rattle.spec.specs.WellFormed.{Shows, firstStepLine, WellFormedProgram, WellFormedSplit}
 use Rattle.spec.specs.declared.Purpose.{Purpose}
 use Rattle.spec.proofs.Outcomes.{on-injective, bind-goes-on, goes-on-bind}
-use Rattle.spec.proofs.Reading.{next-begins, next-last, begun-last, all-shown, begun, ended, shown-length, read-next, read-all}
+use Rattle.spec.proofs.Reading.{next-begins, all-shown, begun, ended, shown-length, read-next, read-all}
 use Rattle.spec.proofs.StepLines.{step-lines-counted}
 use Rattle.spec.proofs.Listing.{listed-expression, expression-listed}
 use Rattle.spec.proofs.Scopes.{scoped-once-inside, once-inside-scoped}
@@ -29,7 +29,7 @@ program-well-formed text fits h =
     let (e, h₅, r₅) = bind-goes-on _ _ r₄ in
     let (bound, h₆, r₆) = bind-goes-on _ _ r₅ in
     let b = next-begins programSheet countLine top h₂ in
-    let from : nf .1 .last + 1 ≡ 2 = omega (arith, next-last programSheet countLine top h₂, begun-last programSheet (lines text) h₁) in
+    let from : nf .1 .last + 1 ≡ 2 = omega (arith, b .counted, ap (λ (p : Place). p .last) (begun programSheet (lines text) h₁)) in
     let s = all-shown programSheet (stepLines (nf .1 .last + 1) (nf .0)) (nf .1) h₃ in
     let count : nf .0 ≡ length (sl .0) = sym (shown-length s ∙ step-lines-counted (nf .1 .last + 1) (nf .0)) in
     let l = listed-expression (sl .1 .last) (sl .0) h₅ in
@@ -38,7 +38,7 @@ program-well-formed text fits h =
       fits = fits;
       first = b .first;
       others = nf .1 .rest;
-      lined = begun programSheet (lines text) h₁ ∙ b .lined;
+      lined = ap (λ (p : Place). p .rest) (begun programSheet (lines text) h₁) ∙ b .lined;
       counted = b .shown ∙ ap right count;
       stepped = rw (← from, ← count, ← ended programSheet (sl .1) h₄) s;
       listing = l .0;
@@ -78,7 +78,7 @@ split-well-formed purpose steps text fits h =
       others = Hp .1 .rest;
       afterTypes = tp .1 .rest;
       afterMaps = mp .1 .rest;
-      lined = begun splitSheet (lines text) h₁ ∙ b .lined;
+      lined = ap (λ (p : Place). p .rest) (begun splitSheet (lines text) h₁) ∙ b .lined;
       headed = b .shown;
       typed = all-shown splitSheet _ (Hp .1) h₃;
       mapped = all-shown splitSheet _ (tp .1) h₄;

@@ -1,28 +1,23 @@
 -- The conditions, from Figure 5.
-use mathlib.Core.List.{List, [], _∷_, _++_}
+use mathlib.Core.List.{List, [], _∷_}
 use mathlib.Core.Bool.{Bool, true, false, _&&_}
 use mathlib.Core.Option.{Option, none, some}
 use Prim.Native.Nat.{ℕ}
 use lib.Dec.{eqb, leb, ltb}
 use lib.ListN.{getD, replicate}
 use Rattle.spec.specs.Choice.{if_then_else_}
-use Rattle.spec.specs.Reading.{Out, stop, on, _>>=_}
 use Rattle.spec.specs.Expression.{Expr, leaf, unary, binary, indexOf}
 use Rattle.spec.specs.Split.{Map, Row, Split}
 unfoldable pub use Rattle.spec.specs.Split.{typeAt, mapAt}
 use Rattle.spec.specs.Agreement.{agree}
-use Rattle.spec.specs.Maps.{_=ᵐ_, _≥ᵐ_, nowhere, _+ᵐ_, _×ᵐ_, share, overWhole}
+use Rattle.spec.specs.Maps.{_=ᵐ_, _≥ᵐ_, nowhere, _+ᵐ_, _×ᵐ_, share}
 use Rattle.spec.specs.declared.TypeNumber.{TypeNumber}
 use Rattle.spec.specs.declared.MapNumber.{MapNumber}
 use Rattle.spec.specs.declared.Location.{Location}
 use Rattle.spec.specs.declared.TypeLine.{TypeLine}
 use Rattle.spec.specs.declared.TypeLine.the-variants as type-line
-use Rattle.spec.specs.declared.Refusal.{Refusal}
-use Rattle.spec.specs.declared.Refusal.the-variants.{TypeFalse, FlowFalse, AccessFalse}
 use Rattle.spec.specs.declared.LeafWord.the-variants.{Var, Int, Newtid, Newlock, Newsem, Newrwlock}
-use Rattle.spec.specs.declared.UnaryWord.{UnaryWord}
 use Rattle.spec.specs.declared.UnaryWord.the-variants.{While, Join, Ref, Read, Lock, Unlock, Post, Wait, Rdlock, Rdunlock, Wrlock, Wrunlock}
-use Rattle.spec.specs.declared.BinaryWord.{BinaryWord}
 use Rattle.spec.specs.declared.BinaryWord.the-variants.{Let, If, Spawn, Write}
 
 -- ------------------------------------------------------------------ kinds of type

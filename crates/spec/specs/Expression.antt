@@ -1,6 +1,6 @@
 -- The expression that steps list in prefix order, and where its variables are bound.
-use mathlib.Core.List.{List, [], _∷_, _++_}
-use mathlib.Core.Bool.{Bool, true, false, _||_}
+use mathlib.Core.List.{List, [], _∷_}
+use mathlib.Core.Bool.{Bool, false, _||_}
 use Prim.Native.Nat.{ℕ, suc, _+_}
 use lib.Dec.{eqb}
 use lib.ListN.{drop}
@@ -9,7 +9,6 @@ use Rattle.spec.specs.Reading.{Out, stop, on, _>>=_}
 use Rattle.spec.specs.Words.{role, binding}
 use Rattle.spec.specs.declared.Role.{Role}
 use Rattle.spec.specs.declared.Role.the-variants.{Binds, Uses, Neither}
-use Rattle.spec.specs.declared.Refusal.{Refusal}
 use Rattle.spec.specs.declared.Refusal.the-variants.{ProgramLines, Unbound, Rebound}
 use Rattle.spec.specs.declared.Word.{Word}
 use Rattle.spec.specs.declared.Word.the-variants.{Leaf, Unary, Binary}

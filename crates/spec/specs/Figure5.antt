@@ -2,7 +2,7 @@
 -- One constructor a word, in the printed order. Types agree as Agreement.antt says; 1 is the denominator. Locks are those of
 -- Section 3.1.6: what a variable may show of the type of its let's value is VAR's own premise.
 use mathlib.Core.Path.{_≡_}
-use mathlib.Core.List.{List, [], _∷_}
+use mathlib.Core.List.{[], _∷_}
 use mathlib.Core.Bool.{true}
 use Prim.Native.Nat.{ℕ, _≤_, _<_}
 use Rattle.spec.specs.Expression.{Position, Expr, leaf, unary, binary}
@@ -13,7 +13,6 @@ use Rattle.spec.specs.Conditions.{Env, typeIn, mayShow, type, kind, post
 use Rattle.spec.specs.declared.TypeNumber.{TypeNumber}
 use Rattle.spec.specs.declared.MapNumber.{MapNumber}
 use Rattle.spec.specs.declared.Location.{Location}
-use Rattle.spec.specs.declared.TypeLine.{TypeLine}
 use Rattle.spec.specs.declared.TypeLine.the-variants as type-line
 use Rattle.spec.specs.declared.LeafWord.the-variants.{Var, Int, Newtid, Newlock, Newsem, Newrwlock}
 use Rattle.spec.specs.declared.UnaryWord.the-variants.{While, Join, Ref, Read, Lock, Unlock, Post, Wait, Rdlock, Rdunlock, Wrlock, Wrunlock}

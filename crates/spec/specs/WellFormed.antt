@@ -2,7 +2,7 @@
 -- these are the sheets that meet none of 10 to 15 and 45, none of 20 to 23 and 40.
 use mathlib.Core.Path.{_≡_}
 use mathlib.Core.List.{List, [], _∷_, _++_, map}
-use mathlib.Core.Bool.{Bool, true, false}
+use mathlib.Core.Bool.{true, false}
 use Prim.Native.Nat.{ℕ, _+_, _≤_}
 use lib.ListN.{length, replicate}
 use Rattle.spec.specs.Text.{Line, closed, lines, Field, fields}
@@ -10,7 +10,7 @@ use Rattle.spec.specs.Reading.{Seen, right}
 use Rattle.spec.specs.Words.{role, binding}
 use Rattle.spec.specs.Expression.{Step, Expr, leaf, unary, binary, size, among}
 use Rattle.spec.specs.Program.{Program, programLimit, countLine, stepLines}
-use Rattle.spec.specs.Split.{Split, splitLimit, Header, headerLine, typeLines, mapLine, rowLine}
+use Rattle.spec.specs.Split.{Split, splitLimit, headerLine, typeLines, mapLine, rowLine}
 use Rattle.spec.specs.declared.Purpose.{Purpose}
 use Rattle.spec.specs.declared.Role.{Role}
 use Rattle.spec.specs.declared.Role.the-variants.{Binds, Uses, Neither}
