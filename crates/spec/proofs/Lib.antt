@@ -26,6 +26,7 @@ pub mod Sheets
 pub mod Reached
 pub mod Accepted
 pub mod AcceptedBefore
+pub mod StepLines
 pub mod Order
 pub mod NoHeading
 pub mod Headings
