@@ -11,7 +11,7 @@ use Rattle.spec.specs.Expression.{Expr, size, withParts, listed, single}
 use Rattle.spec.specs.declared.Refusal.the-variants.{ProgramLines}
 use Rattle.spec.specs.declared.Word.{Word}
 use Rattle.spec.specs.declared.Word.the-variants.{Leaf, Unary, Binary}
-use Rattle.workspace.specs.Layout.{wordsAt, valuesAt, endsAt, wordOf, workSize}
+use Rattle.workspace.specs.Layout.{wordsAt, endsAt, wordOf, workSize}
 use Rattle.workspace.specs.Holds.{ends}
 use Rattle.spec.proofs.Listing.{size-positive}
 use Rattle.workspace.proofs.Held.{ends-length}

@@ -109,13 +109,17 @@ pub data Limited : List Step → Type 0 where
 unfoldable pub stepsAt : List ℕ → (n : ℕ) → Cursor → Out (List Step × Place)
 stepsAt text n c = nextAll programSheet (replicate n stepLine) (placeAt text c)
 
--- n steps are read and stored
-pub record StepsHeld (text : List ℕ) (n : ℕ) (c : Cursor) (w : List ℕ) (d : Cursor) : Type 0 where
+-- the work space holds n steps, and no number is larger than its word allows
+pub record StepsStored (n : ℕ) (w : List ℕ) : Type 0 where
   pub steps : List Step
-  pub shown : stepsAt text n c ≡ on (steps, placeAt text d)
   pub counted : length steps ≡ n
   pub held : HoldsSteps w steps
   pub limited : Limited steps
+
+-- n steps are read and stored
+pub record StepsHeld (text : List ℕ) (n : ℕ) (c : Cursor) (w : List ℕ) (d : Cursor) : Type 0 where
+  pub stored : StepsStored n w
+  pub shown : stepsAt text n c ≡ on (stored .steps, placeAt text d)
   pub placed : Placed text d
 
 abbrev pub StepsFound : List ℕ → (n : ℕ) → Cursor → (w : List ℕ) → StepLines → Type 0

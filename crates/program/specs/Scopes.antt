@@ -1,6 +1,6 @@
 -- Scopes in line order: a table has, for each variable, the index of the let that binds it.
 use mathlib.Core.List.{List, [], _∷_}
-use Prim.Native.Nat.{ℕ, suc, zero, _+_, _<_}
+use Prim.Native.Nat.{ℕ, suc, zero, _+_}
 use lib.Dec.{leb, ltb}
 use lib.ListN.{getD, set, replicate}
 use Rattle.spec.specs.Choice.{if_then_else_}
@@ -41,16 +41,6 @@ abbrev pub roleOf : Word → Role
 roleOf (Leaf w) = leafRole w
 roleOf (Unary w) = Neither
 roleOf (Binary w) = binaryRole w
-
--- a variable is below 256
-abbrev pub Variable : Role → ℕ → Type 0
-Variable Binds v = v < 256
-Variable Uses v = v < 256
-Variable Neither v = Unit {0}
-
--- the variables of the first n steps stored are
-abbrev pub Variables : ℕ → List ℕ → Type 0
-Variables n w = (i : ℕ) → i < n → Variable (roleOf (wordAt w i)) (valueAt w i)
 
 -- no variable has a let yet: 256 is no index
 unfoldable pub unbound : List ℕ

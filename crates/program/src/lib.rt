@@ -12,7 +12,7 @@ ghost use Prim.Native.Nat.{_≤_};
 ghost use lib.ListN.{length};
 ghost use Rattle.lexer.specs.Cursors.{Placed};
 ghost use Rattle.workspace.specs.Layout.{workSize};
-ghost use Rattle.program.specs.Scopes.{Variables};
+ghost use Rattle.program.specs.Lines.{StepsStored};
 ghost use Rattle.program.specs.Sheet.{ExpressionRead, StepsRead, ProgramIs};
 
 // Nothing to refuse, or the refusal.
@@ -24,7 +24,7 @@ enum Outcome {
 // Whether the n steps stored list one expression, and its variables are in scope; stores where its steps end and which
 // let each `var` means.
 fn expression(work: &mut [u32], n: usize) -> Outcome
-    requires { ⌜ (length (now work) ≡ workSize) × (n ≤ 256) × Variables n (now work) ⌝ }
+    requires { ⌜ (length (now work) ≡ workSize) × (n ≤ 256) × StepsStored n (now work) ⌝ }
     ensures { λ r. ⌜ ExpressionRead n (now (work .entry)) (now (work .exit)) r ⌝ }
 {
     match tree::structure(work, n) {

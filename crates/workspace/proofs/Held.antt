@@ -12,9 +12,9 @@ use Rattle.spec.proofs.Listing.{prefix-length}
 use Rattle.spec.specs.declared.LeafWord.the-variants.{Var, Int, Newtid, Newlock, Newsem, Newrwlock}
 use Rattle.spec.specs.declared.BinaryWord.{BinaryWord}
 use Rattle.spec.specs.declared.BinaryWord.the-variants.{Let, If, Spawn, Write}
-use Rattle.workspace.specs.Layout.{codeOf, rowTypesAt, workSize}
+use Rattle.workspace.specs.Layout.{endsAt, codeOf, rowTypesAt, workSize}
 use Rattle.workspace.specs.Region.{ChangedWithin}
-use Rattle.workspace.specs.Holds.{ends, lets, HoldsProgram}
+use Rattle.workspace.specs.Holds.{ends, lets, HoldsSteps, HoldsProgram}
 use Rattle.workspace.proofs.Region.{region-kept}
 
 -- ------------------------------------------------------------------ columns have an entry a step
@@ -59,16 +59,20 @@ lets-length k inside (binary x l v e₁ e₂) =
 
 -- ------------------------------------------------------------------ a program stays
 
--- the program stands below place 1,024
+pub steps-stay : {a b : ℕ} {w w′ : List ℕ} {steps : List Step} → ChangedWithin a b w w′ → endsAt ≤ a → length steps ≤ 256
+    → HoldsSteps w steps → HoldsSteps w′ steps
+steps-stay {steps = steps} c h few H = record {
+  words = region-kept c (inl (omega (arith, length-map steps (λ (s : Step). codeOf (s .word))))) (H .words);
+  values = region-kept c (inl (omega (arith, length-map steps (λ (s : Step). s .value)))) (H .values);
+}
+
+-- the program stands in front of the rows
 pub program-kept : {w w′ : List ℕ} {P : Program} → ChangedWithin rowTypesAt workSize w w′ → prefix (P .root) ≡ P .steps → length (P .steps) ≤ 256
     → HoldsProgram w P → HoldsProgram w′ P
 program-kept {w} {w′} {P} c listing few H =
     let sized : size (P .root) ≡ length (P .steps) = sym (prefix-length (P .root)) ∙ ap length listing in
     record {
-      steps = record {
-        words = region-kept c (inl (omega (arith, few, length-map (P .steps) (λ (s : Step). codeOf (s .word))))) (H .steps .words);
-        values = region-kept c (inl (omega (arith, few, length-map (P .steps) (λ (s : Step). s .value)))) (H .steps .values);
-      };
+      steps = steps-stay c (omega arith) few (H .steps);
       ends = region-kept c (inl (omega (arith, few, sized, ends-length 0 (P .root)))) (H .ends);
       lets = region-kept c (inl (omega (arith, few, sized, lets-length 0 [] (P .root)))) (H .lets);
     }
