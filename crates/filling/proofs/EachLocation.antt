@@ -8,13 +8,15 @@ use Prim.Native.Nat.{ℕ, _+_, _≤_}
 use lib.Dec.{leb}
 use lib.ListN.{getD}
 use borrow.Author.Tests.{leb-true, ltb-true, le-leb, lt-ltb}
+use Rattle.spec.specs.Words.{role, binding, preOfPart, preOfSecond}
 use Rattle.spec.specs.Expression.{Step, Expr, leaf, unary, binary, size}
 use Rattle.spec.specs.Split.{Map, Split}
 use Rattle.spec.specs.Maps.{share}
 use Rattle.spec.specs.Conditions.{Env, type, post, start, own}
-use Rattle.spec.specs.Sites.{Site, sites, preOfPart, preOfSecond, bind, numbered, claimsAt, claims, isFlow, only}
+use Rattle.spec.specs.Sites.{Site, sites, numbered, claimsAt, claims, isFlow, only}
 use Rattle.spec.specs.FirstFalse.{Holds, AllHold}
 use Rattle.spec.specs.declared.Location.{Location}
+use Rattle.spec.specs.declared.Word.the-variants.{Binary}
 use Rattle.spec.specs.declared.LeafWord.{LeafWord}
 use Rattle.spec.specs.declared.LeafWord.the-variants.{Var, Int, Newtid, Newlock, Newsem, Newrwlock}
 use Rattle.spec.specs.declared.UnaryWord.{UnaryWord}
@@ -62,7 +64,7 @@ module _ {ss : List Step} {S : Split} {σ : List Map} {T : Split} (G : Showing s
 
     two-parts : {B C : Location → Type 0} (w : BinaryWord) (k v : ℕ) (e₁ e₂ : Expr)
         → AllFlow (sites T Γ pre e₁) ↔ Everywhere L A
-        → AllFlow (sites T (bind w v (type T e₁) Γ) (preOfSecond w pre (post T e₁) (start T (binary w k v e₁ e₂))) e₂) ↔ Everywhere L B
+        → AllFlow (sites T (binding (role (Binary w)) (v, type T e₁) Γ) (preOfSecond w pre (post T e₁) (start T (binary w k v e₁ e₂))) e₂) ↔ Everywhere L B
         → OwnFlow Γ pre (binary w k v e₁ e₂) ↔ Everywhere L C
         → AllFlow (sites T Γ pre (binary w k v e₁ e₂)) ↔ Everywhere L (λ p. A p × B p × C p)
     unfolding sites

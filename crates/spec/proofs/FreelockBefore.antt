@@ -12,8 +12,9 @@ use borrow.Author.Tests.{leb-true, le-leb}
 use Rattle.spec.specs.Choice.{if_then_else_}
 use Rattle.spec.specs.Text.{bytes, same, Line, closed, unclosed, lines, Field, fields, lookUp}
 use Rattle.spec.specs.Reading.{Out, stop, on, _>>=_, demand, Seen, right, wrong, badForm, programSheet, Place, passed, nextLine, next, nextAll, begin, noneLeft, end}
+use Rattle.spec.specs.Words.{leafWords, cellWords, lockWords, unaryWords, words}
 use Rattle.spec.specs.Expression.{Step, listed, single, scope}
-use Rattle.spec.specs.Program.{programLimit, countLine, words, wordLine, stepLine, Program, program}
+use Rattle.spec.specs.Program.{programLimit, countLine, wordLine, stepLine, Program, program}
 use Rattle.spec.specs.Split.{split, splitLimit}
 use Rattle.spec.specs.Workspace.{workspaceSize}
 use Rattle.spec.specs.Verdict.{locksTakeEnough, startAtMostOne, ruled, checked, answer, verdict, four, returned}
@@ -110,7 +111,7 @@ step-alike = changed-alike stepLineFormerly stepLine no-fields changed other
     no-fields = unfold stepLineFormerly stepLine in refl
 
     changed : (fs : List Field) → stepLineFormerly (bytes "freelock" ∷ fs) ≡ stepLine (bytes "lock" ∷ fs)
-    changed fs = unfold stepLineFormerly stepLine lookUp words same bytes in refl
+    changed fs = unfold stepLineFormerly stepLine lookUp words leafWords unaryWords cellWords lockWords same bytes in refl
 
     other : (f : Field) (fs : List Field) → same f (bytes "freelock") ≡ false → stepLineFormerly (f ∷ fs) ≡ stepLine (f ∷ fs)
     other f fs w = unfold stepLineFormerly stepLine in rw w

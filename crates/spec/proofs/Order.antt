@@ -4,12 +4,14 @@ use mathlib.Core.Path.{_≡_, refl, subst}
 use mathlib.Core.List.{List, [], _∷_, _++_}
 use Prim.Native.Nat.{ℕ, suc, _+_, _≤_, _<_}
 use native.Mathlib.Omega.{arith}
+use Rattle.spec.specs.Words.{role, binding, preOfPart, preOfSecond}
 use Rattle.spec.specs.Expression.{Expr, leaf, unary, binary, size}
 use Rattle.spec.specs.Split.{Map, Split}
 use Rattle.spec.specs.Conditions.{Condition, Env, lineOf, type, post, start}
-use Rattle.spec.specs.Sites.{Site, sites, preOfPart, preOfSecond, bind, Claim, numbered, claimsAt, claims}
+use Rattle.spec.specs.Sites.{Site, sites, Claim, numbered, claimsAt, claims}
 use Rattle.spec.specs.WellFormed.{LinesFrom}
 use Rattle.spec.specs.FirstFalse.{byLine, byNumber, EarlierThanAll, InOrder}
+use Rattle.spec.specs.declared.Word.the-variants.{Binary}
 use Rattle.spec.proofs.Claims.{claims-append}
 
 -- the lines of the claims, from lo on and below hi
@@ -106,7 +108,7 @@ module _ (S : Split) where
       let pre₂ = preOfSecond w pre (post S e₁) (start S (binary w k v e₁ e₂)) in
       step-first-span _ _ n (size e₁ + size e₂) (h .0)
       (parts-span _ _ (n + 1) (size e₁) (size e₂) (expression-span Γ pre e₁ (n + 1) (h .1))
-      (expression-span (bind w v (type S e₁) Γ) pre₂ e₂ (n + 1 + size e₁) (h .2)))
+      (expression-span (binding (role (Binary w)) (v, type S e₁) Γ) pre₂ e₂ (n + 1 + size e₁) (h .2)))
 
   pub claims-in-order : (Γ : Env) (pre : Map) (e : Expr) (n : ℕ) → LinesFrom n e → InOrder (claims S (sites S Γ pre e))
   claims-in-order Γ pre e n h = expression-span Γ pre e n h .0

@@ -5,15 +5,16 @@ use Prim.Native.Nat.{ℕ, suc, _+_}
 use lib.Dec.{eqb}
 use Rattle.spec.specs.Choice.{if_then_else_}
 use Rattle.spec.specs.Reading.{Out, stop, on, _>>=_}
+use Rattle.spec.specs.Words.{role, binding}
+use Rattle.spec.specs.declared.Role.{Role}
+use Rattle.spec.specs.declared.Role.the-variants.{Binds, Uses, Neither}
 use Rattle.spec.specs.declared.Refusal.{Refusal}
 use Rattle.spec.specs.declared.Refusal.the-variants.{ProgramLines, Unbound, Rebound}
 use Rattle.spec.specs.declared.Word.{Word}
 use Rattle.spec.specs.declared.Word.the-variants.{Leaf, Unary, Binary}
 use Rattle.spec.specs.declared.LeafWord.{LeafWord}
-use Rattle.spec.specs.declared.LeafWord.the-variants.{Var, Int, Newtid, Newlock, Newsem, Newrwlock}
 use Rattle.spec.specs.declared.UnaryWord.{UnaryWord}
 use Rattle.spec.specs.declared.BinaryWord.{BinaryWord}
-use Rattle.spec.specs.declared.BinaryWord.the-variants.{Let, If, Spawn, Write}
 
 -- a step: its word and its number v
 pub record Step : Type 0 where
@@ -59,18 +60,20 @@ unfoldable pub among : ℕ → List ℕ → Bool
 among v [] = false
 among v (x ∷ xs) = eqb v x || among v xs
 
+-- 14 and 15 of a step, by its role; what comes out is the variables bound by then
+unfoldable pub scopeStep : Role → (line v : ℕ) → (inside bound : List ℕ) → Out (List ℕ)
+scopeStep Binds k v inside bound = if among v bound then stop (Rebound k) else on (v ∷ bound)
+scopeStep Uses k v inside bound = if among v inside then on bound else stop (Unbound k)
+scopeStep Neither k v inside bound = on bound
+
 -- 14 and 15 in line order. `inside`: the variables whose let's e2 this is in. `bound`: those that a let of an earlier
 -- line binds; what comes out is those that a let up to the end of this expression binds.
 unfoldable pub scope : Expr → (inside bound : List ℕ) → Out (List ℕ)
-scope (leaf Var k v) inside bound = if among v inside then on bound else stop (Unbound k)
-scope (leaf Int k v) inside bound = on bound
-scope (leaf Newtid k v) inside bound = on bound
-scope (leaf Newlock k v) inside bound = on bound
-scope (leaf Newsem k v) inside bound = on bound
-scope (leaf Newrwlock k v) inside bound = on bound
-scope (unary w k v e) inside bound = scope e inside bound
-scope (binary Let k v e₁ e₂) inside bound =
-    if among v bound then stop (Rebound k) else (scope e₁ inside (v ∷ bound) >>= λ b. scope e₂ (v ∷ inside) b)
-scope (binary If k v e₁ e₂) inside bound = scope e₁ inside bound >>= λ b. scope e₂ inside b
-scope (binary Spawn k v e₁ e₂) inside bound = scope e₁ inside bound >>= λ b. scope e₂ inside b
-scope (binary Write k v e₁ e₂) inside bound = scope e₁ inside bound >>= λ b. scope e₂ inside b
+scope (leaf w k v) inside bound = scopeStep (role (Leaf w)) k v inside bound
+scope (unary w k v e) inside bound = do
+  b ← scopeStep (role (Unary w)) k v inside bound
+  scope e inside b
+scope (binary w k v e₁ e₂) inside bound = do
+  b ← scopeStep (role (Binary w)) k v inside bound
+  b₁ ← scope e₁ inside b
+  scope e₂ (binding (role (Binary w)) v inside) b₁

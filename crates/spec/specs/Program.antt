@@ -7,12 +7,9 @@ use lib.ListN.{getD, replicate}
 use Rattle.spec.specs.Choice.{if_then_else_}
 use Rattle.spec.specs.Text.{bytes, same, lines, Field, lookUp}
 use Rattle.spec.specs.Reading.{programSheet, Out, _>>=_, on, Seen, wrong, badForm, freelock, seen, wrongAfter, Range, _to_, numbers, next, nextAll, begin, end}
+use Rattle.spec.specs.Words.{words, valueRange}
 use Rattle.spec.specs.Expression.{Step, Expr, listed, single, scope}
 use Rattle.spec.specs.declared.Word.{Word}
-use Rattle.spec.specs.declared.Word.the-variants.{Leaf, Unary, Binary}
-use Rattle.spec.specs.declared.LeafWord.the-variants.{Var, Int, Newtid, Newlock, Newsem, Newrwlock}
-use Rattle.spec.specs.declared.UnaryWord.the-variants.{While, Join, Ref, Read, Lock, Unlock, Post, Wait, Rdlock, Rdunlock, Wrlock, Wrunlock}
-use Rattle.spec.specs.declared.BinaryWord.the-variants.{Let, If, Spawn, Write}
 
 -- the most bytes that a program sheet may have
 unfoldable pub programLimit : ℕ
@@ -25,47 +22,6 @@ firstNumber ns = getD ns 0 0
 unfoldable pub countLine : List Field → Seen ℕ
 countLine [] = wrong badForm
 countLine (f ∷ fs) = if same f (bytes "P") then seen firstNumber (numbers ((1 to 256) ∷ []) fs) else wrong badForm
-
--- the words, by their number of parts
-unfoldable pub words : List (List ℕ × Word)
-words =
-    (bytes "var", Leaf Var)
-    ∷ (bytes "int", Leaf Int)
-    ∷ (bytes "newtid", Leaf Newtid)
-    ∷ (bytes "newlock", Leaf Newlock)
-    ∷ (bytes "newsem", Leaf Newsem)
-    ∷ (bytes "newrwlock", Leaf Newrwlock)
-    ∷ (bytes "while", Unary While)
-    ∷ (bytes "join", Unary Join)
-    ∷ (bytes "ref", Unary Ref)
-    ∷ (bytes "read", Unary Read)
-    ∷ (bytes "lock", Unary Lock)
-    ∷ (bytes "unlock", Unary Unlock)
-    ∷ (bytes "post", Unary Post)
-    ∷ (bytes "wait", Unary Wait)
-    ∷ (bytes "rdlock", Unary Rdlock)
-    ∷ (bytes "rdunlock", Unary Rdunlock)
-    ∷ (bytes "wrlock", Unary Wrlock)
-    ∷ (bytes "wrunlock", Unary Wrunlock)
-    ∷ (bytes "let", Binary Let)
-    ∷ (bytes "if", Binary If)
-    ∷ (bytes "spawn", Binary Spawn)
-    ∷ (bytes "write", Binary Write)
-    ∷ []
-
--- v is a variable, a constant, the number of reading places, or 0
-unfoldable pub valueRange : Word → Range
-valueRange (Leaf Var) = 0 to 255
-valueRange (Leaf Int) = 0 to 65535
-valueRange (Leaf Newtid) = 0 to 0
-valueRange (Leaf Newlock) = 0 to 0
-valueRange (Leaf Newsem) = 0 to 0
-valueRange (Leaf Newrwlock) = 1 to 64
-valueRange (Unary w) = 0 to 0
-valueRange (Binary Let) = 0 to 255
-valueRange (Binary If) = 0 to 0
-valueRange (Binary Spawn) = 0 to 0
-valueRange (Binary Write) = 0 to 0
 
 -- `word,v`
 unfoldable pub stepOf : Word → List ℕ → Step

@@ -7,6 +7,7 @@ use lib.ListN.{getD, replicate}
 use Rattle.spec.specs.Choice.{if_then_else_}
 use Rattle.spec.specs.Text.{bytes, same, lines, Field, lookUp}
 use Rattle.spec.specs.Reading.{splitSheet, Out, _>>=_, on, wrong, badForm, noStart, Seen, seen, insist, Range, _to_, below, numerals, numbers, next, nextAll, begin, end}
+use Rattle.spec.specs.Words.{takesStart}
 use Rattle.spec.specs.Expression.{Step}
 use Rattle.spec.specs.declared.Heading.{Heading}
 use Rattle.spec.specs.declared.Heading.the-variants.{C, C2, C3}
@@ -18,8 +19,6 @@ use Rattle.spec.specs.declared.Location.{Location}
 use Rattle.spec.specs.declared.TypeLine.{TypeLine}
 use Rattle.spec.specs.declared.TypeLine.the-variants.{Int, Ref, Lock, Tid, Sem, Rwlock}
 use Rattle.spec.specs.declared.Word.{Word}
-use Rattle.spec.specs.declared.Word.the-variants.{Leaf, Unary, Binary}
-use Rattle.spec.specs.declared.BinaryWord.the-variants.{Let, If, Spawn, Write}
 
 -- the most bytes that a split sheet may have
 unfoldable pub splitLimit : ℕ
@@ -138,15 +137,6 @@ rowOf start ns = record { type = record { 0 = getD ns 0 0 }; post = record { 0 =
 
 unfoldable pub startGiven : List ℕ → MapNumber
 startGiven ns = record { 0 = getD ns 2 0 }
-
--- the word whose row has a start
-unfoldable pub takesStart : Word → Bool
-takesStart (Leaf w) = false
-takesStart (Unary w) = false
-takesStart (Binary Let) = false
-takesStart (Binary If) = false
-takesStart (Binary Spawn) = true
-takesStart (Binary Write) = false
 
 -- "On any other word s is empty": there, no number is in its range
 unfoldable pub startRange : Word → Header → Range

@@ -7,13 +7,14 @@ use Prim.Native.Nat.{ℕ, _+_, _≤_}
 use lib.ListN.{length, replicate}
 use Rattle.spec.specs.Text.{Line, closed, lines, Field, fields}
 use Rattle.spec.specs.Reading.{Seen, right}
+use Rattle.spec.specs.Words.{role, binding}
 use Rattle.spec.specs.Expression.{Step, Expr, leaf, unary, binary, size, among}
 use Rattle.spec.specs.Program.{Program, programLimit, countLine, stepLine}
 use Rattle.spec.specs.Split.{Split, splitLimit, Header, headerLine, typeLines, mapLine, rowLine}
 use Rattle.spec.specs.declared.Purpose.{Purpose}
+use Rattle.spec.specs.declared.Role.{Role}
+use Rattle.spec.specs.declared.Role.the-variants.{Binds, Uses, Neither}
 use Rattle.spec.specs.declared.Word.the-variants.{Leaf, Unary, Binary}
-use Rattle.spec.specs.declared.LeafWord.the-variants.{Var, Int, Newtid, Newlock, Newsem, Newrwlock}
-use Rattle.spec.specs.declared.BinaryWord.the-variants.{Let, If, Spawn, Write}
 
 -- Shows reads ls as rest: the lines ls begin with a closed line for each way of reading, each line shows its entry of as,
 -- and rest is behind them
@@ -40,33 +41,29 @@ LinesFrom n (binary w k v e₁ e₂) = (k ≡ n) × LinesFrom (n + 1) e₁ × Li
 
 -- ------------------------------------------------------------------ variables
 
--- the variables that lets bind, in line order
+-- the variables that steps bind, in line order
 unfoldable pub binders : Expr → List ℕ
-binders (leaf w k v) = []
-binders (unary w k v e) = binders e
-binders (binary Let k v e₁ e₂) = v ∷ (binders e₁ ++ binders e₂)
-binders (binary If k v e₁ e₂) = binders e₁ ++ binders e₂
-binders (binary Spawn k v e₁ e₂) = binders e₁ ++ binders e₂
-binders (binary Write k v e₁ e₂) = binders e₁ ++ binders e₂
+binders (leaf w k v) = binding (role (Leaf w)) v []
+binders (unary w k v e) = binding (role (Unary w)) v (binders e)
+binders (binary w k v e₁ e₂) = binding (role (Binary w)) v (binders e₁ ++ binders e₂)
 
 -- no variable twice
 unfoldable pub Distinct : List ℕ → Type 0
 Distinct [] = Unit {0}
 Distinct (v ∷ vs) = (among v vs ≡ false) × Distinct vs
 
--- each variable is used only inside its let's e2; `inside` has those whose e2 this is in
+-- a step that uses a variable is inside its let's e2; `inside` has those whose e2 this is in
+unfoldable pub StepInside : (inside : List ℕ) → Role → (v : ℕ) → Type 0
+StepInside inside Binds v = Unit {0}
+StepInside inside Uses v = among v inside ≡ true
+StepInside inside Neither v = Unit {0}
+
+-- each variable is used only inside its let's e2
 unfoldable pub UsedInside : (inside : List ℕ) → Expr → Type 0
-UsedInside inside (leaf Var k v) = among v inside ≡ true
-UsedInside inside (leaf Int k v) = Unit {0}
-UsedInside inside (leaf Newtid k v) = Unit {0}
-UsedInside inside (leaf Newlock k v) = Unit {0}
-UsedInside inside (leaf Newsem k v) = Unit {0}
-UsedInside inside (leaf Newrwlock k v) = Unit {0}
-UsedInside inside (unary w k v e) = UsedInside inside e
-UsedInside inside (binary Let k v e₁ e₂) = UsedInside inside e₁ × UsedInside (v ∷ inside) e₂
-UsedInside inside (binary If k v e₁ e₂) = UsedInside inside e₁ × UsedInside inside e₂
-UsedInside inside (binary Spawn k v e₁ e₂) = UsedInside inside e₁ × UsedInside inside e₂
-UsedInside inside (binary Write k v e₁ e₂) = UsedInside inside e₁ × UsedInside inside e₂
+UsedInside inside (leaf w k v) = StepInside inside (role (Leaf w)) v
+UsedInside inside (unary w k v e) = StepInside inside (role (Unary w)) v × UsedInside inside e
+UsedInside inside (binary w k v e₁ e₂) =
+    StepInside inside (role (Binary w)) v × UsedInside inside e₁ × UsedInside (binding (role (Binary w)) v inside) e₂
 
 -- ------------------------------------------------------------------ the sheets
 
