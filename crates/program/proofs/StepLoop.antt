@@ -9,6 +9,7 @@ use lib.ListN.{length, set, replicate, length-append, length-map, length-set}
 use Rattle.spec.specs.Reading.{programSheet, on, nextAll}
 use Rattle.spec.specs.Expression.{Step}
 use Rattle.spec.specs.Program.{stepLine}
+use Rattle.spec.specs.Words.{largestValue}
 use Rattle.spec.specs.declared.Refusal.{Refusal}
 use Rattle.spec.specs.declared.Word.{Word}
 use Rattle.spec.proofs.Reading.{front, front-none, all-stop, all-on, all-done}
@@ -17,11 +18,11 @@ use Rattle.lexer.specs.declared.Cursor.{Cursor}
 use Rattle.workspace.specs.Layout.{wordsAt, valuesAt, codeOf, workSize}
 use Rattle.workspace.specs.Region.{Region, ChangedWithin}
 use Rattle.workspace.proofs.Region.{region-empty, region-apart, column-push, changed-nothing, changed-store, changed-then}
-use Rattle.program.specs.Lines.{limitOf, stepAt, StepShown, Limited, none-limited, more-limited, stepsAt, StepsStored, StepsShown}
+use Rattle.program.specs.Lines.{stepAt, StepShown, Limited, none-limited, more-limited, stepsAt, StepsStored, StepsShown}
 use Rattle.program.specs.declared.lines.StepLine.the-variants as step
 use Rattle.program.specs.declared.lines.StepLines.the-variants as steps
 
-limited-snoc : {ss : List Step} (s : Step) → Limited ss → s .value ≤ limitOf (s .word) → Limited (ss ++ (s ∷ []))
+limited-snoc : {ss : List Step} (s : Step) → Limited ss → s .value ≤ largestValue (s .word) → Limited (ss ++ (s ∷ []))
 limited-snoc s none-limited h = more-limited h none-limited
 limited-snoc s (more-limited l r) h = more-limited l (limited-snoc s r h)
 

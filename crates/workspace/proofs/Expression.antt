@@ -1,11 +1,12 @@
 -- Where an expression stands in the work space: its steps from index k on, its parts behind them.
 use mathlib.Core.Path.{_≡_, ap, _∙_}
 use mathlib.Core.Logic.{inl}
-use mathlib.Core.List.{List, _∷_, _++_, map, map-append}
+use mathlib.Core.List.{List, _++_, map, map-append}
 use Prim.Native.Nat.{ℕ, _+_, _≤_}
 use native.Mathlib.Omega.{arith}
 use lib.ListN.{length, getD, length-map}
 use Rattle.spec.specs.Expression.{Step, Expr, leaf, unary, binary, size}
+use Rattle.spec.specs.Words.{role, binding}
 use Rattle.spec.specs.Conditions.{lineOf}
 use Rattle.spec.specs.WellFormed.{prefix, LinesFrom, UsedInside}
 use Rattle.spec.proofs.Listing.{prefix-length}
@@ -15,31 +16,11 @@ use Rattle.spec.specs.declared.LeafWord.{LeafWord}
 use Rattle.spec.specs.declared.LeafWord.the-variants.{Var}
 use Rattle.spec.specs.declared.UnaryWord.{UnaryWord}
 use Rattle.spec.specs.declared.BinaryWord.{BinaryWord}
-use Rattle.spec.specs.declared.BinaryWord.the-variants.{Let, If, Spawn, Write}
 use Rattle.workspace.specs.Layout.{wordsAt, valuesAt, endsAt, letsAt, presAt, leafCode, unaryCode, binaryCode, codeOf}
 use Rattle.workspace.specs.Region.{Region, ChangedWithin}
-use Rattle.workspace.specs.Holds.{ends, lets, letIn, HoldsSteps}
+use Rattle.workspace.specs.Holds.{ends, letIn, letOf, lets, HoldsSteps}
 use Rattle.workspace.proofs.Region.{region-moved, region-first, region-behind, region-left, region-right, region-kept}
-use Rattle.workspace.proofs.Held.{ends-length, insideSecond, lets-binary, lets-length}
-
--- ------------------------------------------------------------------ the second of two parts
-
--- the variables whose let's e2 it is in
-unfoldable pub varsSecond : BinaryWord → (v : ℕ) → List ℕ → List ℕ
-varsSecond Let v vars = v ∷ vars
-varsSecond If v vars = vars
-varsSecond Spawn v vars = vars
-varsSecond Write v vars = vars
-
-used-binary : (x : BinaryWord) (vars : List ℕ) (l v : ℕ) (e₁ e₂ : Expr)
-    → UsedInside vars (binary x l v e₁ e₂) → UsedInside vars e₁ × UsedInside (varsSecond x v vars) e₂
-unfolding UsedInside varsSecond
-used-binary Let vars l v e₁ e₂ u = u
-used-binary If vars l v e₁ e₂ u = u
-used-binary Spawn vars l v e₁ e₂ u = u
-used-binary Write vars l v e₁ e₂ u = u
-
--- ------------------------------------------------------------------ where an expression stands
+use Rattle.workspace.proofs.Held.{ends-length, lets-length}
 
 -- the codes of an expression's words, in line order
 unfoldable pub codes : Expr → List ℕ
@@ -184,7 +165,7 @@ module _ {w : List ℕ} {k : ℕ} {inside : List (ℕ × ℕ)} {vars : List ℕ}
 
   -- the let of a variable
   pub here-let : (l v : ℕ) → Here w k inside vars (leaf Var l v) → getD w (letsAt + k) 0 ≡ letIn inside v
-  unfolding lets
+  unfolding lets letOf role
   here-let l v H = region-first (H .bound)
 
   pub here-part : (x : UnaryWord) (l v : ℕ) (e : Expr) → Here w k inside vars (unary x l v e) → Here w (k + 1) inside vars e
@@ -192,26 +173,29 @@ module _ {w : List ℕ} {k : ℕ} {inside : List (ℕ × ℕ)} {vars : List ℕ}
   here-part x l v e H = record {
     standing = standing-part x l v e (H .standing);
     bound = region-moved _ _ (omega arith) (region-behind (H .bound));
-    used = H .used;
+    used = H .used .1;
   }
 
   module _ (x : BinaryWord) (l v : ℕ) (e₁ e₂ : Expr) (H : Here w k inside vars (binary x l v e₁ e₂)) where
-    lets-parts : Region w (letsAt + k + 1) (lets (k + 1) inside e₁ ++ lets (k + 1 + size e₁) (insideSecond x v k inside) e₂)
-    lets-parts = region-behind (rw (lets-binary x k inside l v e₁ e₂) at (H .bound))
+    lets-parts : Region w (letsAt + k + 1) (lets (k + 1) inside e₁ ++ lets (k + 1 + size e₁) (binding (role (Binary x)) (v, k) inside) e₂)
+    unfolding lets
+    lets-parts = region-behind (H .bound)
 
     pub here-first : Here w (k + 1) inside vars e₁
+    unfolding UsedInside
     here-first = record {
       standing = standing-first x l v e₁ e₂ (H .standing);
       bound = region-moved _ _ (omega arith) (region-left _ _ lets-parts);
-      used = used-binary x vars l v e₁ e₂ (H .used) .0;
+      used = H .used .1;
     }
 
-    pub here-second : Here w (k + 1 + size e₁) (insideSecond x v k inside) (varsSecond x v vars) e₂
+    pub here-second : Here w (k + 1 + size e₁) (binding (role (Binary x)) (v, k) inside) (binding (role (Binary x)) v vars) e₂
+    unfolding UsedInside
     here-second = record {
       standing = standing-second x l v e₁ e₂ (H .standing);
       bound = region-moved _ _
           (omega (arith, lets-length (k + 1) inside e₁)) (region-right (lets (k + 1) inside e₁) _ lets-parts);
-      used = used-binary x vars l v e₁ e₂ (H .used) .1;
+      used = H .used .2;
     }
 
   pub here-end : (e : Expr) → Here w k inside vars e → getD w (endsAt + k) 0 ≡ k + size e
