@@ -8,7 +8,7 @@ use Prim.Native.Nat.{ℕ}
 use lib.Dec.{eqb}
 use Rattle.spec.specs.Choice.{if_then_else_}
 use Rattle.spec.specs.Reading.{Out, stop, on, _>>=_}
-use Rattle.spec.specs.Words.{role, binding}
+use Rattle.spec.specs.Words.{binding}
 use Rattle.spec.specs.Expression.{Expr, leaf, unary, binary, among, scopeStep, scope}
 use Rattle.spec.specs.WellFormed.{binders, Distinct, StepInside, UsedInside}
 use Rattle.spec.specs.declared.Refusal.{Refusal}
@@ -128,16 +128,16 @@ parts-walked e₁ e₂ in₁ in₂ bound {b} first second h =
 walk : (e : Expr) (inside bound b : List ℕ) → scope e inside bound ≡ on b → Walked e inside bound b
 unfolding scope binders after EachNew UsedInside
 walk (leaf w k v) inside bound b h =
-    let (used, behind) = step-walked _ k v inside bound b h in
+    let (used, behind) = step-walked _ (k .line) v inside bound b h in
     (behind [] .0, behind [] .1 tt, used)
 walk (unary w k v e) inside bound b h =
     let (c, h₁, h₂) = bind-goes-on _ _ h in
-    let (used, behind) = step-walked _ k v inside bound c h₁ in
+    let (used, behind) = step-walked _ (k .line) v inside bound c h₁ in
     let (b-is, news, used′) = walk e inside c b h₂ in
     (b-is ∙ behind _ .0, behind _ .1 news, (used, used′))
 walk (binary w k v e₁ e₂) inside bound b h =
     let (c, h₁, h₂) = bind-goes-on _ _ h in
-    let (used, behind) = step-walked _ k v inside bound c h₁ in
+    let (used, behind) = step-walked _ (k .line) v inside bound c h₁ in
     let (b-is, news, used₁, used₂) = parts-walked e₁ e₂ inside _ c (walk e₁ inside c) (walk e₂ _) h₂ in
     (b-is ∙ behind _ .0, behind _ .1 news, (used, used₁, used₂))
 
@@ -161,13 +161,13 @@ step-walk Neither k v inside bound vs used new = (bound, refl, new, refl)
 walked : (e : Expr) (inside bound : List ℕ) → UsedInside inside e → EachNew (binders e) bound → scope e inside bound ≡ on (after (binders e) bound)
 unfolding scope binders after EachNew UsedInside
 walked (leaf w k v) inside bound used new =
-    let (b, here, _, same) = step-walk _ k v inside bound [] used new in
+    let (b, here, _, same) = step-walk _ (k .line) v inside bound [] used new in
     here ∙ ap on same
 walked (unary w k v e) inside bound used new =
-    let (b, here, news, same) = step-walk _ k v inside bound (binders e) (used .0) new in
+    let (b, here, news, same) = step-walk _ (k .line) v inside bound (binders e) (used .0) new in
     goes-on-bind _ _ here (walked e inside b (used .1) news ∙ ap on same)
 walked (binary w k v e₁ e₂) inside bound used new =
-    let (b, here, news, same) = step-walk _ k v inside bound (binders e₁ ++ binders e₂) (used .0) new in
+    let (b, here, news, same) = step-walk _ (k .line) v inside bound (binders e₁ ++ binders e₂) (used .0) new in
     goes-on-bind _ _ here
     (parts-walk e₁ e₂ inside _ b (walked e₁ inside b (used .1)) (λ c. walked e₂ _ c (used .2)) news ∙ ap on same)
 

@@ -1,16 +1,15 @@
 -- Every step of an expression in line order, with what surrounds it, and the first condition that is false.
 use mathlib.Core.List.{List, [], _∷_, _++_}
 use mathlib.Core.Bool.{Bool, true, false}
-use mathlib.Core.Option.{Option, none, some}
+use mathlib.Core.Option.{none, some}
 use Prim.Native.Nat.{ℕ, _+_}
 use Rattle.spec.specs.Choice.{if_then_else_}
 use Rattle.spec.specs.Reading.{Out, stop, on, _>>=_}
 use Rattle.spec.specs.Words.{role, binding, preOfPart, preOfSecond}
-use Rattle.spec.specs.Expression.{Expr, leaf, unary, binary}
+use Rattle.spec.specs.Expression.{Expr, leaf, unary, binary, lineOf}
 use Rattle.spec.specs.Split.{Map, Split}
-use Rattle.spec.specs.Conditions.{Condition, T, F, A, Env, lineOf, type, post, start, own}
+use Rattle.spec.specs.Conditions.{Condition, T, F, A, Env, type, post, start, own}
 use Rattle.spec.specs.declared.Word.the-variants.{Binary}
-use Rattle.spec.specs.declared.Refusal.{Refusal}
 use Rattle.spec.specs.declared.Refusal.the-variants.{TypeFalse, FlowFalse, AccessFalse}
 
 -- ------------------------------------------------------------------ steps in line order

@@ -2,15 +2,15 @@
 -- these are the sheets that meet none of 10 to 15 and 45, none of 20 to 23 and 40.
 use mathlib.Core.Path.{_≡_}
 use mathlib.Core.List.{List, [], _∷_, _++_, map}
-use mathlib.Core.Bool.{Bool, true, false}
+use mathlib.Core.Bool.{true, false}
 use Prim.Native.Nat.{ℕ, _+_, _≤_}
 use lib.ListN.{length, replicate}
 use Rattle.spec.specs.Text.{Line, closed, lines, Field, fields}
 use Rattle.spec.specs.Reading.{Seen, right}
 use Rattle.spec.specs.Words.{role, binding}
 use Rattle.spec.specs.Expression.{Step, Expr, leaf, unary, binary, size, among}
-use Rattle.spec.specs.Program.{Program, programLimit, countLine, stepLine}
-use Rattle.spec.specs.Split.{Split, splitLimit, Header, headerLine, typeLines, mapLine, rowLine}
+use Rattle.spec.specs.Program.{Program, programLimit, countLine, stepLines}
+use Rattle.spec.specs.Split.{Split, splitLimit, headerLine, typeLines, mapLine, rowLine}
 use Rattle.spec.specs.declared.Purpose.{Purpose}
 use Rattle.spec.specs.declared.Role.{Role}
 use Rattle.spec.specs.declared.Role.the-variants.{Binds, Uses, Neither}
@@ -29,15 +29,15 @@ pub data Shows {A : Type 0} : List (List Field → Seen A) → List Line → Lis
 
 -- the steps of an expression in prefix order
 unfoldable pub prefix : Expr → List Step
-prefix (leaf w k v) = record { word = Leaf w; value = v } ∷ []
-prefix (unary w k v e) = record { word = Unary w; value = v } ∷ prefix e
-prefix (binary w k v e₁ e₂) = record { word = Binary w; value = v } ∷ (prefix e₁ ++ prefix e₂)
+prefix (leaf w k v) = record { word = Leaf w; value = v; line = k .line } ∷ []
+prefix (unary w k v e) = record { word = Unary w; value = v; line = k .line } ∷ prefix e
+prefix (binary w k v e₁ e₂) = record { word = Binary w; value = v; line = k .line } ∷ (prefix e₁ ++ prefix e₂)
 
--- the lines of an expression count up from n, in prefix order
-unfoldable pub LinesFrom : (n : ℕ) → Expr → Type 0
-LinesFrom n (leaf w k v) = k ≡ n
-LinesFrom n (unary w k v e) = (k ≡ n) × LinesFrom (n + 1) e
-LinesFrom n (binary w k v e₁ e₂) = (k ≡ n) × LinesFrom (n + 1) e₁ × LinesFrom (n + 1 + size e₁) e₂
+-- the indexes of an expression's steps count up from i, in prefix order
+unfoldable pub IndexesFrom : (i : ℕ) → Expr → Type 0
+IndexesFrom i (leaf w k v) = k .index ≡ i
+IndexesFrom i (unary w k v e) = (k .index ≡ i) × IndexesFrom (i + 1) e
+IndexesFrom i (binary w k v e₁ e₂) = (k .index ≡ i) × IndexesFrom (i + 1) e₁ × IndexesFrom (i + 1 + size e₁) e₂
 
 -- ------------------------------------------------------------------ variables
 
@@ -67,6 +67,10 @@ UsedInside inside (binary w k v e₁ e₂) =
 
 -- ------------------------------------------------------------------ the sheets
 
+-- "Line 1 is `P,n` [..]. Then come n lines `word,v`"
+unfoldable pub firstStepLine : ℕ
+firstStepLine = 2
+
 -- a well-formed program sheet, and the program that it lists
 pub record WellFormedProgram (text : List ℕ) (P : Program) : Type 0 where
   pub fits : length text ≤ programLimit
@@ -74,9 +78,9 @@ pub record WellFormedProgram (text : List ℕ) (P : Program) : Type 0 where
   pub others : List Line
   pub lined : lines text ≡ closed first ∷ others
   pub counted : countLine (fields first) ≡ right (length (P .steps))
-  pub stepped : Shows (replicate (length (P .steps)) stepLine) others (P .steps) []
+  pub stepped : Shows (stepLines firstStepLine (length (P .steps))) others (P .steps) []
   pub listing : prefix (P .root) ≡ P .steps
-  pub numbering : LinesFrom 2 (P .root)
+  pub numbering : IndexesFrom 0 (P .root)
   pub boundOnce : Distinct (binders (P .root))
   pub usedInside : UsedInside [] (P .root)
 
