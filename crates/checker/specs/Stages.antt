@@ -8,13 +8,14 @@ use Rattle.spec.specs.Program.{Program}
 use Rattle.spec.specs.Split.{Split}
 use Rattle.spec.specs.Verdict.{locksTakeEnough, startAtMostOne, ruled, answer}
 use Rattle.spec.specs.declared.Answer.{Answer}
+use Rattle.workspace.specs.Layout.{workSize}
 use Rattle.workspace.specs.declared.Header.{Header}
 use Rattle.split.specs.Answers.{Small}
 use Rattle.reading.specs.Answers.{HoldsBoth}
 
 -- the sizes that the rules rely on
 pub record RulesAsked (w : List ℕ) (steps : ℕ) (header : Header) : Type 0 where
-  pub long : length w ≡ 16384
+  pub long : length w ≡ workSize
   pub few : steps ≤ 256
   pub small : Small header
 

@@ -16,6 +16,7 @@ ghost use Rattle.spec.specs.Workspace.{workspaceSize, workspaceAfter};
 ghost use Rattle.spec.specs.Accepted.{Right};
 ghost use Rattle.soundness.specs.SafeText.{SafeText};
 ghost use Rattle.soundness.specs.EitherOrderText.{EitherOrderText};
+ghost use Rattle.workspace.specs.Layout.{workSize};
 ghost use Rattle.checker.specs.Promise.{RefutedBy};
 ghost use Rattle.checker.specs.Stages.{RulesAsked, RulesAnswered};
 
@@ -32,7 +33,7 @@ fn check_rules(work: &mut [u32], steps: usize, header: Header) -> Answer
 
 // The answer to a pair of texts, in a work space that is as long as document 01 wants.
 fn check_texts(program: &[u8], split: &[u8], work: &mut [u32]) -> Answer
-    requires { ⌜ length (now work) ≡ 16384 ⌝ }
+    requires { ⌜ length (now work) ≡ workSize ⌝ }
     ensures { λ a. ⌜ a ≡ verdict workspaceSize (now (program .entry)) (now (split .entry)) ⌝ }
 {
     match reading::read(program, split, Purpose::Check, work) {

@@ -18,6 +18,7 @@ use Rattle.spec.specs.declared.Purpose.the-variants.{Fill}
 use Rattle.spec.specs.declared.Refusal.{Refusal}
 use Rattle.spec.specs.declared.Refusal.the-variants.{ShortWorkspace, NoAfterMaps, TooLarge, TooManyMaps}
 use Rattle.spec.proofs.Outcomes.{bind-bind, goes-on-bind}
+use Rattle.workspace.specs.Layout.{rowTypesAt, workSize}
 use Rattle.workspace.specs.Sheets.{headerTold, HoldsSheets}
 use Rattle.workspace.proofs.Region.{changed-wider}
 use Rattle.workspace.proofs.Held.{program-kept}
@@ -160,7 +161,7 @@ module _ (w : List ℕ) (header : Header) (steps : ℕ) where
             programText = H .programText;
             wellFormed = H .wellFormed;
             inRange = H .inRange;
-            program = program-kept (changed-wider 1024 16384 (omega arith) (omega arith) (R .changed)) (H .wellFormed .listing) (omega (arith, H .stepsCounted)) (H .program);
+            program = program-kept (changed-wider rowTypesAt workSize (omega arith) (omega arith) (R .changed)) (H .wellFormed .listing) (omega (arith, H .stepsCounted)) (H .program);
             split = split-kept S (P .steps) (H .inRange) rows (R .changed) (H .split);
             stepsCounted = H .stepsCounted;
             denominatorGiven = H .denominatorGiven;
@@ -190,7 +191,7 @@ module _ (w : List ℕ) (header : Header) (steps : ℕ) where
 -- ------------------------------------------------------------------ the sheets
 
 module _ (p s w : List ℕ) (answered : Reading) (told : SheetsAnswered Fill p s w answered) where
-  pub sheets-given : {steps : ℕ} {header : Header} → answered ≡ reading.Held steps header → length w ≡ 16384 → SheetsGiven w header steps
+  pub sheets-given : {steps : ℕ} {header : Header} → answered ≡ reading.Held steps header → length w ≡ workSize → SheetsGiven w header steps
   sheets-given e long =
       let H = held-by Fill p s w answered told e in
       record { long = long; few = H .few; small = H .small; P = H .P; S = H .S; holds = H .holds }

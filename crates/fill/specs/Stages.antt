@@ -9,6 +9,7 @@ use Rattle.spec.specs.Program.{Program}
 use Rattle.spec.specs.Split.{Split, splitLimit}
 use Rattle.spec.specs.Verdict.{locksTakeEnough, startAtMostOne, typed}
 use Rattle.spec.specs.declared.Refusal.the-variants.{TooLarge, TooManyMaps}
+use Rattle.workspace.specs.Layout.{workSize}
 use Rattle.workspace.specs.declared.Header.{Header}
 use Rattle.split.specs.Answers.{Small}
 use Rattle.reading.specs.Answers.{HoldsBoth}
@@ -45,7 +46,7 @@ SheetTold w header steps before after f =
 
 -- the work space has its size and holds both sheets, of so many steps and with this header
 pub record SheetsGiven (w : List ℕ) (header : Header) (steps : ℕ) : Type 0 where
-  pub long : length w ≡ 16384
+  pub long : length w ≡ workSize
   pub few : steps ≤ 256
   pub small : Small header
   pub P : Program

@@ -22,6 +22,7 @@ ghost use Rattle.spec.specs.declared.Answer.the-variants.{Accept};
 ghost use Rattle.filling.specs.AfterMaps.{AfterMaps};
 ghost use Rattle.filling.specs.Answer.{fill as filling, numbersOf, bufferAfter, Fillable, Written};
 ghost use Rattle.sheets.specs.Contract.{HoldsSome as HoldsSheetOfSome};
+ghost use Rattle.workspace.specs.Layout.{workSize};
 ghost use Rattle.fill.specs.Numbers.{numbered};
 ghost use Rattle.fill.specs.Stages.{Tells, grownBy, SheetsGiven, MapsGiven, SheetTold, TextTold, SheetsTold};
 
@@ -109,7 +110,7 @@ fn fill_sheets(work: &mut [u32], header: Header, steps: usize, out: &mut [u8]) -
 
 // The answer to a pair of texts, in a work space that is as long as document 01 wants.
 fn fill_texts(program: &[u8], split: &[u8], work: &mut [u32], out: &mut [u8]) -> Filled
-    requires { ⌜ length (now work) ≡ 16384 ⌝ }
+    requires { ⌜ length (now work) ≡ workSize ⌝ }
     ensures { λ f. ⌜ Tells (filling workspaceSize (length (now (out .entry))) (now (program .entry)) (now (split .entry))) (now (out .entry)) (now (out .exit)) f ⌝ }
 {
     match reading::read(program, split, Purpose::Fill, work) {

@@ -19,8 +19,7 @@ use Rattle.spec.specs.declared.BinaryWord.the-variants.{Let, If, Spawn, Write}
 use Rattle.workspace.specs.Layout.{wordsAt, leafCode, unaryCode, binaryCode, printed, ruleOf}
 use Rattle.workspace.specs.Holds.{HoldsSplit}
 use Rattle.workspace.proofs.Shown.{type-number, noRow, type-shown, load-in, in-load-in, out-load-in, read-load-in, write-load-in, map-stands, has-shown, row-at, row-type, start-at}
-use Rattle.workspace.proofs.Expression.{Here, here-line, leaf-code, leaf-number, unary-code, binary-code, here-part, here-first, here-second, here-end, varsSecond}
-use Rattle.workspace.proofs.Held.{insideSecond}
+use Rattle.workspace.proofs.Expression.{Here, here-line, leaf-code, leaf-number, unary-code, binary-code, here-part, here-first, here-second, here-end}
 use Rattle.filling.specs.declared.Effect.{Effect}
 use Rattle.filling.specs.Flow.{unchanged, taking, giving, needing, lending, alone, steps}
 use Rattle.filling.specs.FlowOf.{loadHere, inHere, outHere, readHere, writeHere, startHere, accessHere, flowOf}
@@ -140,11 +139,11 @@ module _ (w : List ℕ) (column : Column) (ss : List Step) (S : Split) (H : Hold
   held-shows k inside vars (binary Let l v e₁ e₂) C i =
       let D = here-first Let l v e₁ e₂ C in
       binary-held k Let l v e₁ e₂ (InTurn unchanged) C refl (held-shows (k + 1) inside vars e₁ D (omega arith))
-      (held-shows (k + 1 + size e₁) (insideSecond Let v k inside) (varsSecond Let v vars) e₂ (here-second Let l v e₁ e₂ C) (omega arith))
+      (held-shows (k + 1 + size e₁) _ _ e₂ (here-second Let l v e₁ e₂ C) (omega arith))
   held-shows k inside vars (binary If l v e₁ e₂) C i =
       let D = here-first If l v e₁ e₂ C in
       binary-held k If l v e₁ e₂ Branch C refl (held-shows (k + 1) inside vars e₁ D (omega arith))
-      (held-shows (k + 1 + size e₁) (insideSecond If v k inside) (varsSecond If v vars) e₂ (here-second If l v e₁ e₂ C) (omega arith))
+      (held-shows (k + 1 + size e₁) _ _ e₂ (here-second If l v e₁ e₂ C) (omega arith))
   held-shows k inside vars (unary While l v e₁) C i =
       let D = here-part While l v e₁ C in
       unary-held k While l v e₁ Loop C refl (held-shows (k + 1) inside vars e₁ D (omega arith))
@@ -153,7 +152,7 @@ module _ (w : List ℕ) (column : Column) (ss : List Step) (S : Split) (H : Hold
       let D = here-first Spawn l v e₁ e₂ C in
       binary-held k Spawn l v e₁ e₂ (Fork (startHere S p (binary Spawn l v e₁ e₂)) (loadHere S p e₁)) C
       (ap₂ (λ (n m : ℕ). Binary (Fork n m)) (start-held (binary Spawn l v e₁ e₂) k (here-line (binary Spawn l v e₁ e₂) C) (omega arith)) (part-load k e₁ D (omega arith))) (held-shows (k + 1) inside vars e₁ D (omega arith))
-      (held-shows (k + 1 + size e₁) (insideSecond Spawn v k inside) (varsSecond Spawn v vars) e₂ (here-second Spawn l v e₁ e₂ C) (omega arith))
+      (held-shows (k + 1 + size e₁) _ _ e₂ (here-second Spawn l v e₁ e₂ C) (omega arith))
   held-shows k inside vars (unary Join l v e₁) C i =
       let D = here-part Join l v e₁ C in
       unary-held k Join l v e₁ (After (giving (loadHere S p e₁))) C (ap (λ (n : ℕ). Unary (After (giving n))) (part-load k e₁ D (omega arith))) (held-shows (k + 1) inside vars e₁ D (omega arith))
@@ -164,7 +163,7 @@ module _ (w : List ℕ) (column : Column) (ss : List Step) (S : Split) (H : Hold
       let D = here-first Write l v e₁ e₂ C in
       binary-held k Write l v e₁ e₂ (InTurn (needing (accessHere S p e₁ (S .header .denominator)))) C
       (ap (λ (n : ℕ). Binary (InTurn (needing n))) (part-access k e₁ D (omega arith) (column .denominator) ∙ ap (accessHere S p e₁) given)) (held-shows (k + 1) inside vars e₁ D (omega arith))
-      (held-shows (k + 1 + size e₁) (insideSecond Write v k inside) (varsSecond Write v vars) e₂ (here-second Write l v e₁ e₂ C) (omega arith))
+      (held-shows (k + 1 + size e₁) _ _ e₂ (here-second Write l v e₁ e₂ C) (omega arith))
   held-shows k inside vars (unary Read l v e₁) C i =
       let D = here-part Read l v e₁ C in
       unary-held k Read l v e₁ (After (needing (accessHere S p e₁ 1))) C (ap (λ (n : ℕ). Unary (After (needing n))) (part-access k e₁ D (omega arith) 1)) (held-shows (k + 1) inside vars e₁ D (omega arith))

@@ -11,7 +11,8 @@ use Rattle.spec.specs.Choice.{if_then_else_}
 use Rattle.spec.specs.Text.{bytes, same, lines, Field, lookUp}
 use Rattle.spec.specs.Reading.{programSheet, stop, _>>=_, Seen, right, wrong, badForm, badRange, freelock, seen, wrongAfter, Range, _to_, inRange, allInRange, numerals, ranged, numbers, form, outside, miscounted, faulty, passed, nextLine, next}
 use Rattle.spec.specs.Expression.{Step}
-use Rattle.spec.specs.Program.{firstNumber, countLine, words, valueRange, stepOf, wordLine, stepLine}
+use Rattle.spec.specs.Program.{firstNumber, countLine, stepOf, wordLine, stepLine}
+use Rattle.spec.specs.Words.{words, leastValue, largestValue, valueRange}
 use Rattle.spec.specs.declared.Refusal.the-variants.{ProgramForm, ProgramRange, ProgramLines, Freelock}
 use Rattle.spec.specs.declared.Word.{Word}
 use Rattle.spec.specs.declared.Word.the-variants.{Leaf, Unary, Binary}
@@ -33,7 +34,7 @@ use Rattle.lexer.proofs.Places.{span-field}
 use Rattle.lexer.proofs.Walks.{start-placed, start-rest, span-end, span-line-kept, span-comma, left-none, left-some, first-wrong, first-alone}
 use Rattle.lexer.proofs.Stored.{Narrow}
 use Rattle.lexer.proofs.Ranges.{tail-form, tail-read}
-use Rattle.program.specs.Lines.{TailShown, countAt, CountShown, leastOf, limitOf, FreelockAt, stepAt, StepShown}
+use Rattle.program.specs.Lines.{TailShown, countAt, CountShown, FreelockAt, stepAt, StepShown}
 use Rattle.program.specs.declared.lines.Tail.the-variants.{Value, Malformed}
 use Rattle.program.specs.declared.lines.CountLine.the-variants as count
 use Rattle.program.specs.declared.lines.StepLine.the-variants as step
@@ -145,22 +146,8 @@ module _ (text : List ℕ) (c : Cursor) (s : Span) (f : FreelockAt text c s) whe
 
 -- ------------------------------------------------------------------ step lines
 
-range-of : (w : Word) → valueRange w ≡ (leastOf w to limitOf w)
-unfolding valueRange
-range-of (Leaf Var) = refl
-range-of (Leaf Int) = refl
-range-of (Leaf Newtid) = refl
-range-of (Leaf Newlock) = refl
-range-of (Leaf Newsem) = refl
-range-of (Leaf Newrwlock) = refl
-range-of (Unary w) = refl
-range-of (Binary Let) = refl
-range-of (Binary If) = refl
-range-of (Binary Spawn) = refl
-range-of (Binary Write) = refl
-
 value-narrow : (w : Word) → Narrow (valueRange w)
-unfolding valueRange
+unfolding valueRange largestValue
 value-narrow (Leaf Var) = omega arith
 value-narrow (Leaf Int) = omega arith
 value-narrow (Leaf Newtid) = omega arith
@@ -173,17 +160,17 @@ value-narrow (Binary If) = omega arith
 value-narrow (Binary Spawn) = omega arith
 value-narrow (Binary Write) = omega arith
 
-under-least : (w : Word) (v : ℕ) → v < leastOf w → inRange (valueRange w) v ≡ false
-unfolding inRange
-under-least w v l = rw (range-of w, lt-leb (leastOf w) v l) refl
+under-least : (w : Word) (v : ℕ) → v < leastValue w → inRange (valueRange w) v ≡ false
+unfolding inRange valueRange
+under-least w v l = rw (lt-leb (leastValue w) v l) refl
 
-within-limit : (w : Word) (v : ℕ) → leastOf w ≤ v → v ≤ limitOf w → inRange (valueRange w) v ≡ true
-unfolding inRange
-within-limit w v l h = rw (range-of w, le-leb (leastOf w) v l, le-leb v (limitOf w) h) refl
+within-limit : (w : Word) (v : ℕ) → leastValue w ≤ v → v ≤ largestValue w → inRange (valueRange w) v ≡ true
+unfolding inRange valueRange
+within-limit w v l h = rw (le-leb (leastValue w) v l, le-leb v (largestValue w) h) refl
 
-over-limit : (w : Word) (v : ℕ) → leastOf w ≤ v → limitOf w < v → inRange (valueRange w) v ≡ false
-unfolding inRange
-over-limit w v l h = rw (range-of w, le-leb (leastOf w) v l, lt-leb v (limitOf w) h) refl
+over-limit : (w : Word) (v : ℕ) → leastValue w ≤ v → largestValue w < v → inRange (valueRange w) v ≡ false
+unfolding inRange valueRange
+over-limit w v l h = rw (le-leb (leastValue w) v l, lt-leb v (largestValue w) h) refl
 
 module _ (text : List ℕ) (c : Cursor) where
   -- no line is left
@@ -218,15 +205,15 @@ module _ (text : List ℕ) (c : Cursor) where
           unfolding stepAt next placeAt seen
           step-reads = tail-shows stepLine (seen (stepOf w)) refl (valueRange w) text c s is p (left-some (rest text c) e) step-shows (value-narrow w) v d h
 
-          pub step-under : v < leastOf w → StepShown text c (step.Refused (ProgramRange (c .line + 1)))
+          pub step-under : v < leastValue w → StepShown text c (step.Refused (ProgramRange (c .line + 1)))
           unfolding faulty passed seen outside
           step-under l = step-reads ∙ rw (under-least w v l) refl
 
-          pub step-over : leastOf w ≤ v → limitOf w < v → StepShown text c (step.Refused (ProgramRange (c .line + 1)))
+          pub step-over : leastValue w ≤ v → largestValue w < v → StepShown text c (step.Refused (ProgramRange (c .line + 1)))
           unfolding faulty passed seen outside
           step-over l m = step-reads ∙ rw (over-limit w v l m) refl
 
-          pub step-right : leastOf w ≤ v → v ≤ limitOf w → StepShown text c (step.Step w v d)
+          pub step-right : leastValue w ≤ v → v ≤ largestValue w → StepShown text c (step.Step w v d)
           unfolding seen stepOf firstNumber
           step-right l m =
               let line = tail-line text c s is v d h in

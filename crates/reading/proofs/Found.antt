@@ -16,6 +16,7 @@ use Rattle.spec.specs.declared.Refusal.the-variants.{LongSplit}
 use Rattle.spec.proofs.WellFormed.{well-formed-program, split-well-formed}
 use Rattle.spec.proofs.Sheets.{long-split, split-refused, sheets-read}
 use Rattle.spec.proofs.Ranges.{well-formed-in-range}
+use Rattle.workspace.specs.Layout.{rowTypesAt, workSize}
 use Rattle.workspace.specs.Region.{ChangedWithin}
 use Rattle.workspace.specs.Holds.{HoldsProgram, HoldsSplit}
 use Rattle.workspace.specs.Sheets.{headerTold}
@@ -40,7 +41,7 @@ module _ (purpose : Purpose) (p s : List ℕ) {P : Program} (F : WellFormedProgr
 
     -- the split is read into the work space behind the program
     pub both-held : {w w′ : List ℕ} {n : ℕ} (header : Header) {S : Split} → split purpose (P .steps) s ≡ on S
-        → ChangedWithin 1024 16384 w w′ → HoldsProgram w P → HoldsSplit w′ S → n ≡ length (P .steps) → n ≤ 256
+        → ChangedWithin rowTypesAt workSize w w′ → HoldsProgram w P → HoldsSplit w′ S → n ≡ length (P .steps) → n ≤ 256
         → S .header ≡ headerTold header → Small header → SheetsHeld purpose p s w′ n header
     unfolding programLimit splitLimit
     both-held header {S} e changed holds holds′ counted few headed small = record {

@@ -9,6 +9,7 @@ use Rattle.spec.specs.Split.{Split}
 use Rattle.spec.specs.WellFormed.{WellFormedProgram}
 use Rattle.spec.specs.Verdict.{sheets}
 use Rattle.spec.specs.declared.Purpose.{Purpose}
+use Rattle.workspace.specs.Layout.{workSize}
 use Rattle.workspace.specs.Holds.{HoldsProgram}
 use Rattle.workspace.specs.Sheets.{headerTold, HoldsSheets}
 use Rattle.workspace.specs.declared.Header.{Header}
@@ -38,7 +39,7 @@ SheetsAnswered purpose programText splitText w (Refused r) = sheets purpose prog
 
 -- the work space has its size and holds a program of so many steps
 pub record ProgramHeld (w : List ℕ) (steps : ℕ) : Type 0 where
-  pub long : length w ≡ 16384
+  pub long : length w ≡ workSize
   pub few : steps ≤ 256
   pub P : Program
   pub holds : HoldsProgram w P

@@ -6,6 +6,7 @@ use split::Sheet;
 use workspace::Header;
 ghost use mathlib.Core.Path.{_≡_};
 ghost use lib.ListN.{length};
+ghost use Rattle.workspace.specs.Layout.{workSize};
 ghost use Rattle.reading.specs.Answers.{ProgramHeld, SplitAnswered, SheetsAnswered};
 
 // The most bytes that each sheet may have.
@@ -35,7 +36,7 @@ fn read_split(split: &[u8], purpose: Purpose, steps: usize, work: &mut [u32]) ->
 
 // Reads both sheets into the work space, to check or to fill: what they say, or the first reason to refuse one of them.
 pub fn read(program: &[u8], split: &[u8], purpose: Purpose, work: &mut [u32]) -> Reading
-    requires { ⌜ length (now work) ≡ 16384 ⌝ }
+    requires { ⌜ length (now work) ≡ workSize ⌝ }
     ensures { λ r. ⌜ SheetsAnswered purpose (now (program .entry)) (now (split .entry)) (now (work .exit)) r ⌝ }
 {
     if PROGRAM_LIMIT < program.len() {

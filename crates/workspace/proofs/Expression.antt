@@ -1,43 +1,26 @@
--- Where an expression of the program that the work space holds stands: its steps from index k on, its parts behind them.
+-- Where an expression stands in the work space: its steps from index k on, its parts behind them.
 use mathlib.Core.Path.{_≡_, ap, _∙_}
 use mathlib.Core.Logic.{inl}
-use mathlib.Core.List.{List, _∷_, _++_, map, map-append}
+use mathlib.Core.List.{List, _++_, map, map-append}
 use Prim.Native.Nat.{ℕ, _+_, _≤_}
 use native.Mathlib.Omega.{arith}
 use lib.ListN.{length, getD, length-map}
 use Rattle.spec.specs.Expression.{Step, Expr, leaf, unary, binary, size}
+use Rattle.spec.specs.Words.{role, binding}
 use Rattle.spec.specs.Conditions.{lineOf}
 use Rattle.spec.specs.WellFormed.{prefix, LinesFrom, UsedInside}
 use Rattle.spec.proofs.Listing.{prefix-length}
+use Rattle.spec.specs.declared.Word.{Word}
+use Rattle.spec.specs.declared.Word.the-variants.{Leaf, Unary, Binary}
 use Rattle.spec.specs.declared.LeafWord.{LeafWord}
 use Rattle.spec.specs.declared.LeafWord.the-variants.{Var}
 use Rattle.spec.specs.declared.UnaryWord.{UnaryWord}
 use Rattle.spec.specs.declared.BinaryWord.{BinaryWord}
-use Rattle.spec.specs.declared.BinaryWord.the-variants.{Let, If, Spawn, Write}
 use Rattle.workspace.specs.Layout.{wordsAt, valuesAt, endsAt, letsAt, presAt, leafCode, unaryCode, binaryCode, codeOf}
 use Rattle.workspace.specs.Region.{Region, ChangedWithin}
-use Rattle.workspace.specs.Holds.{ends, lets, letIn}
+use Rattle.workspace.specs.Holds.{ends, letIn, letOf, lets, HoldsSteps}
 use Rattle.workspace.proofs.Region.{region-moved, region-first, region-behind, region-left, region-right, region-kept}
-use Rattle.workspace.proofs.Held.{ends-length, insideSecond, lets-binary, lets-length}
-
--- ------------------------------------------------------------------ the second of two parts
-
--- the variables whose let's e2 it is in
-unfoldable pub varsSecond : BinaryWord → (v : ℕ) → List ℕ → List ℕ
-varsSecond Let v vars = v ∷ vars
-varsSecond If v vars = vars
-varsSecond Spawn v vars = vars
-varsSecond Write v vars = vars
-
-used-binary : (x : BinaryWord) (vars : List ℕ) (l v : ℕ) (e₁ e₂ : Expr)
-    → UsedInside vars (binary x l v e₁ e₂) → UsedInside vars e₁ × UsedInside (varsSecond x v vars) e₂
-unfolding UsedInside varsSecond
-used-binary Let vars l v e₁ e₂ u = u
-used-binary If vars l v e₁ e₂ u = u
-used-binary Spawn vars l v e₁ e₂ u = u
-used-binary Write vars l v e₁ e₂ u = u
-
--- ------------------------------------------------------------------ where an expression stands
+use Rattle.workspace.proofs.Held.{ends-length, lets-length}
 
 -- the codes of an expression's words, in line order
 unfoldable pub codes : Expr → List ℕ
@@ -55,120 +38,183 @@ values-length : (e : Expr) → length (values e) ≡ size e
 unfolding values
 values-length e = length-map (prefix e) (λ (s : Step). s .value) ∙ prefix-length e
 
-pub record Here (w : List ℕ) (k : ℕ) (inside : List (ℕ × ℕ)) (vars : List ℕ) (e : Expr) : Type 0 where
+-- an expression stands at index k: its words and numbers, where its steps end, and its lines
+pub record Standing (w : List ℕ) (k : ℕ) (e : Expr) : Type 0 where
   pub words : Region w (wordsAt + k) (codes e)
   pub numbers : Region w (valuesAt + k) (values e)
   pub ended : Region w (endsAt + k) (ends k e)
-  pub bound : Region w (letsAt + k) (lets k inside e)
   pub lines : LinesFrom (k + 2) e
+
+-- and its variables have their lets
+pub record Here (w : List ℕ) (k : ℕ) (inside : List (ℕ × ℕ)) (vars : List ℕ) (e : Expr) : Type 0 where
+  pub standing : Standing w k e
+  pub bound : Region w (letsAt + k) (lets k inside e)
   pub used : UsedInside vars e
 
 -- the expression stays where only maps before steps are changed
 pub here-kept : {w w′ : List ℕ} {k : ℕ} {inside : List (ℕ × ℕ)} {vars : List ℕ} {e : Expr}
     → ChangedWithin presAt (presAt + 256) w w′ → k + size e ≤ 256 → Here w k inside vars e → Here w′ k inside vars e
 here-kept {k = k} {inside = inside} {e = e} x h H = record {
-  words = region-kept x (inl (omega (arith, codes-length e))) (H .words);
-  numbers = region-kept x (inl (omega (arith, values-length e))) (H .numbers);
-  ended = region-kept x (inl (omega (arith, ends-length k e))) (H .ended);
+  standing = record {
+    words = region-kept x (inl (omega (arith, codes-length e))) (H .standing .words);
+    numbers = region-kept x (inl (omega (arith, values-length e))) (H .standing .numbers);
+    ended = region-kept x (inl (omega (arith, ends-length k e))) (H .standing .ended);
+    lines = H .standing .lines;
+  };
   bound = region-kept x (inl (omega (arith, lets-length k inside e))) (H .bound);
-  lines = H .lines;
   used = H .used;
 }
 
 lines-moved : (m n : ℕ) (e : Expr) → m ≡ n → LinesFrom m e → LinesFrom n e
 lines-moved m n e h r = rw (← h) r
 
-module _ {w : List ℕ} {k : ℕ} {inside : List (ℕ × ℕ)} {vars : List ℕ} where
-  -- the line and the code of an expression
-  pub here-line : (e : Expr) → Here w k inside vars e → lineOf e ≡ k + 2
-  unfolding LinesFrom lineOf
-  here-line (leaf x l v) H = H .lines
-  here-line (unary x l v e) H = H .lines .0
-  here-line (binary x l v e₁ e₂) H = H .lines .0
+-- ------------------------------------------------------------------ its first step
 
-  pub leaf-code : (x : LeafWord) (l v : ℕ) → Here w k inside vars (leaf x l v) → getD w (wordsAt + k) 0 ≡ leafCode x
-  unfolding codes prefix
-  leaf-code x l v H = region-first (H .words)
+-- the step with word x, line l and number v is stored at index k
+pub record Head (w : List ℕ) (k : ℕ) (x : Word) (l v : ℕ) : Type 0 where
+  pub code : getD w (wordsAt + k) 0 ≡ codeOf x
+  pub value : getD w (valuesAt + k) 0 ≡ v
+  pub line : l ≡ k + 2
 
-  pub unary-code : (x : UnaryWord) (l v : ℕ) (e : Expr) → Here w k inside vars (unary x l v e) → getD w (wordsAt + k) 0 ≡ unaryCode x
-  unfolding codes prefix
-  unary-code x l v e H = region-first (H .words)
+module _ {w : List ℕ} {k : ℕ} where
+  pub leaf-head : (x : LeafWord) (l v : ℕ) → Standing w k (leaf x l v) → Head w k (Leaf x) l v
+  unfolding codes values prefix LinesFrom
+  leaf-head x l v s = record { code = region-first (s .words); value = region-first (s .numbers); line = s .lines }
 
-  pub binary-code : (x : BinaryWord) (l v : ℕ) (e₁ e₂ : Expr) → Here w k inside vars (binary x l v e₁ e₂)
-      → getD w (wordsAt + k) 0 ≡ binaryCode x
-  unfolding codes prefix
-  binary-code x l v e₁ e₂ H = region-first (H .words)
+  pub unary-head : (x : UnaryWord) (l v : ℕ) (e : Expr) → Standing w k (unary x l v e) → Head w k (Unary x) l v
+  unfolding codes values prefix LinesFrom
+  unary-head x l v e s = record { code = region-first (s .words); value = region-first (s .numbers); line = s .lines .0 }
 
-  -- the number of a step without parts
-  pub leaf-number : (x : LeafWord) (l v : ℕ) → Here w k inside vars (leaf x l v) → getD w (valuesAt + k) 0 ≡ v
-  unfolding values prefix
-  leaf-number x l v H = region-first (H .numbers)
+  pub binary-head : (x : BinaryWord) (l v : ℕ) (e₁ e₂ : Expr) → Standing w k (binary x l v e₁ e₂) → Head w k (Binary x) l v
+  unfolding codes values prefix LinesFrom
+  binary-head x l v e₁ e₂ s = record { code = region-first (s .words); value = region-first (s .numbers); line = s .lines .0 }
 
-  -- the let of a variable
-  pub here-let : (l v : ℕ) → Here w k inside vars (leaf Var l v) → getD w (letsAt + k) 0 ≡ letIn inside v
-  unfolding lets
-  here-let l v H = region-first (H .bound)
+  -- the end of an expression
+  pub standing-end : (e : Expr) → Standing w k e → getD w (endsAt + k) 0 ≡ k + size e
+  unfolding ends size
+  standing-end (leaf x l v) s = region-first (s .ended)
+  standing-end (unary x l v e) s = region-first (s .ended)
+  standing-end (binary x l v e₁ e₂) s = region-first (s .ended)
+
+  -- ---------------------------------------------------------------- its parts
 
   -- the one part of a step, and the first of two, stand just behind it
-  pub here-part : (x : UnaryWord) (l v : ℕ) (e : Expr) → Here w k inside vars (unary x l v e) → Here w (k + 1) inside vars e
-  unfolding codes values prefix ends lets LinesFrom UsedInside
-  here-part x l v e H = record {
-    words = region-moved _ _ (omega arith) (region-behind (H .words));
-    numbers = region-moved _ _ (omega arith) (region-behind (H .numbers));
-    ended = region-moved _ _ (omega arith) (region-behind (H .ended));
-    bound = region-moved _ _ (omega arith) (region-behind (H .bound));
-    lines = lines-moved _ _ e (omega arith) (H .lines .1);
-    used = H .used;
+  pub standing-part : (x : UnaryWord) (l v : ℕ) (e : Expr) → Standing w k (unary x l v e) → Standing w (k + 1) e
+  unfolding codes values prefix ends LinesFrom
+  standing-part x l v e s = record {
+    words = region-moved _ _ (omega arith) (region-behind (s .words));
+    numbers = region-moved _ _ (omega arith) (region-behind (s .numbers));
+    ended = region-moved _ _ (omega arith) (region-behind (s .ended));
+    lines = lines-moved _ _ e (omega arith) (s .lines .1);
   }
 
-  module _ (x : BinaryWord) (l v : ℕ) (e₁ e₂ : Expr) (H : Here w k inside vars (binary x l v e₁ e₂)) where
+  module _ (x : BinaryWord) (l v : ℕ) (e₁ e₂ : Expr) (s : Standing w k (binary x l v e₁ e₂)) where
     codes-parts : Region w (wordsAt + k + 1) (codes e₁ ++ codes e₂)
     unfolding codes prefix
-    codes-parts = rw map-append at (region-behind (H .words))
+    codes-parts = rw map-append at (region-behind (s .words))
 
     values-parts : Region w (valuesAt + k + 1) (values e₁ ++ values e₂)
     unfolding values prefix
-    values-parts = rw map-append at (region-behind (H .numbers))
+    values-parts = rw map-append at (region-behind (s .numbers))
 
     ends-parts : Region w (endsAt + k + 1) (ends (k + 1) e₁ ++ ends (k + 1 + size e₁) e₂)
     unfolding ends
-    ends-parts = region-behind (H .ended)
+    ends-parts = region-behind (s .ended)
 
-    lets-parts : Region w (letsAt + k + 1) (lets (k + 1) inside e₁ ++ lets (k + 1 + size e₁) (insideSecond x v k inside) e₂)
-    lets-parts = region-behind (rw (lets-binary x k inside l v e₁ e₂) at (H .bound))
-
-    pub here-first : Here w (k + 1) inside vars e₁
+    pub standing-first : Standing w (k + 1) e₁
     unfolding LinesFrom
-    here-first = record {
+    standing-first = record {
       words = region-moved _ _ (omega arith) (region-left _ _ codes-parts);
       numbers = region-moved _ _ (omega arith) (region-left _ _ values-parts);
       ended = region-moved _ _ (omega arith) (region-left _ _ ends-parts);
-      bound = region-moved _ _ (omega arith) (region-left _ _ lets-parts);
-      lines = lines-moved _ _ e₁ (omega arith) (H .lines .1);
-      used = used-binary x vars l v e₁ e₂ (H .used) .0;
+      lines = lines-moved _ _ e₁ (omega arith) (s .lines .1);
     }
 
     -- the second part stands at the end of the first
-    pub here-second : Here w (k + 1 + size e₁) (insideSecond x v k inside) (varsSecond x v vars) e₂
+    pub standing-second : Standing w (k + 1 + size e₁) e₂
     unfolding LinesFrom
-    here-second = record {
+    standing-second = record {
       words = region-moved _ _ (omega (arith, codes-length e₁)) (region-right (codes e₁) _ codes-parts);
       numbers = region-moved _ _ (omega (arith, values-length e₁)) (region-right (values e₁) _ values-parts);
       ended = region-moved _ _ (omega (arith, ends-length (k + 1) e₁)) (region-right (ends (k + 1) e₁) _ ends-parts);
-      bound = region-moved _ _
-          (omega (arith, lets-length (k + 1) inside e₁)) (region-right (lets (k + 1) inside e₁) _ lets-parts);
-      lines = lines-moved _ _ e₂ (omega arith) (H .lines .2);
-      used = used-binary x vars l v e₁ e₂ (H .used) .1;
+      lines = lines-moved _ _ e₂ (omega arith) (s .lines .2);
     }
 
-  -- the end of an expression
+-- ------------------------------------------------------------------ with its lets
+
+module _ {w : List ℕ} {k : ℕ} {inside : List (ℕ × ℕ)} {vars : List ℕ} where
+  pub here-line : (e : Expr) → Here w k inside vars e → lineOf e ≡ k + 2
+  unfolding lineOf
+  here-line (leaf x l v) H = leaf-head x l v (H .standing) .line
+  here-line (unary x l v e) H = unary-head x l v e (H .standing) .line
+  here-line (binary x l v e₁ e₂) H = binary-head x l v e₁ e₂ (H .standing) .line
+
+  pub leaf-code : (x : LeafWord) (l v : ℕ) → Here w k inside vars (leaf x l v) → getD w (wordsAt + k) 0 ≡ leafCode x
+  leaf-code x l v H = leaf-head x l v (H .standing) .code
+
+  pub unary-code : (x : UnaryWord) (l v : ℕ) (e : Expr) → Here w k inside vars (unary x l v e) → getD w (wordsAt + k) 0 ≡ unaryCode x
+  unary-code x l v e H = unary-head x l v e (H .standing) .code
+
+  pub binary-code : (x : BinaryWord) (l v : ℕ) (e₁ e₂ : Expr) → Here w k inside vars (binary x l v e₁ e₂)
+      → getD w (wordsAt + k) 0 ≡ binaryCode x
+  binary-code x l v e₁ e₂ H = binary-head x l v e₁ e₂ (H .standing) .code
+
+  -- the number of a step without parts
+  pub leaf-number : (x : LeafWord) (l v : ℕ) → Here w k inside vars (leaf x l v) → getD w (valuesAt + k) 0 ≡ v
+  leaf-number x l v H = leaf-head x l v (H .standing) .value
+
+  -- the let of a variable
+  pub here-let : (l v : ℕ) → Here w k inside vars (leaf Var l v) → getD w (letsAt + k) 0 ≡ letIn inside v
+  unfolding lets letOf role
+  here-let l v H = region-first (H .bound)
+
+  pub here-part : (x : UnaryWord) (l v : ℕ) (e : Expr) → Here w k inside vars (unary x l v e) → Here w (k + 1) inside vars e
+  unfolding lets UsedInside
+  here-part x l v e H = record {
+    standing = standing-part x l v e (H .standing);
+    bound = region-moved _ _ (omega arith) (region-behind (H .bound));
+    used = H .used .1;
+  }
+
+  module _ (x : BinaryWord) (l v : ℕ) (e₁ e₂ : Expr) (H : Here w k inside vars (binary x l v e₁ e₂)) where
+    lets-parts : Region w (letsAt + k + 1) (lets (k + 1) inside e₁ ++ lets (k + 1 + size e₁) (binding (role (Binary x)) (v, k) inside) e₂)
+    unfolding lets
+    lets-parts = region-behind (H .bound)
+
+    pub here-first : Here w (k + 1) inside vars e₁
+    unfolding UsedInside
+    here-first = record {
+      standing = standing-first x l v e₁ e₂ (H .standing);
+      bound = region-moved _ _ (omega arith) (region-left _ _ lets-parts);
+      used = H .used .1;
+    }
+
+    pub here-second : Here w (k + 1 + size e₁) (binding (role (Binary x)) (v, k) inside) (binding (role (Binary x)) v vars) e₂
+    unfolding UsedInside
+    here-second = record {
+      standing = standing-second x l v e₁ e₂ (H .standing);
+      bound = region-moved _ _
+          (omega (arith, lets-length (k + 1) inside e₁)) (region-right (lets (k + 1) inside e₁) _ lets-parts);
+      used = H .used .2;
+    }
+
   pub here-end : (e : Expr) → Here w k inside vars e → getD w (endsAt + k) 0 ≡ k + size e
-  unfolding ends size
-  here-end (leaf x l v) H = region-first (H .ended)
-  here-end (unary x l v e) H = region-first (H .ended)
-  here-end (binary x l v e₁ e₂) H = region-first (H .ended)
+  here-end e H = standing-end e (H .standing)
 
 -- where the second of two parts stands, by the end of the first
 pub here-second-at : {w : List ℕ} {k : ℕ} {inside : List (ℕ × ℕ)} {vars : List ℕ} (x : BinaryWord) (l v : ℕ) (e₁ e₂ : Expr)
     → Here w k inside vars (binary x l v e₁ e₂) → getD w (endsAt + 1 + k) 0 ≡ k + 1 + size e₁
 here-second-at {w} x l v e₁ e₂ H = ap (λ (i : ℕ). getD w i 0) (omega arith) ∙ here-end e₁ (here-first x l v e₁ e₂ H)
+
+-- ------------------------------------------------------------------ the root
+
+-- the one expression that the steps that the work space holds list
+pub root-standing : (w : List ℕ) (steps : List Step) (e : Expr) → HoldsSteps w steps → Region w endsAt (ends 0 e) → prefix e ≡ steps → LinesFrom 2 e
+    → Standing w 0 e
+unfolding codes values
+root-standing w steps e held ended listing numbered = record {
+  words = rw listing (held .words);
+  numbers = rw listing (held .values);
+  ended = ended;
+  lines = numbered;
+}
