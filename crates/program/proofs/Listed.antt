@@ -8,7 +8,7 @@ use lib.ListN.{length, drop}
 use Rattle.spec.specs.Expression.{Step, Expr, size, withParts, listed}
 use Rattle.spec.specs.declared.Word.{Word}
 use Rattle.spec.specs.declared.Word.the-variants.{Leaf, Unary, Binary}
-use Rattle.program.specs.Stored.{partsOf, stepsIn}
+use Rattle.program.specs.Structure.{partsOf}
 
 -- the steps of the first m of some expressions
 unfoldable pub total : ℕ → List Expr → ℕ
@@ -104,19 +104,3 @@ pub first-fits : (l : ℕ) (ss : List Step) (e : Expr) (es : List Expr) → list
 first-fits l ss e es p =
     let t : total 1 (listed l ss) ≡ size e = rw p (total-one e es) in
     omega (arith, total-listed l ss 1)
-
--- ------------------------------------------------------------------ stored steps
-
-pub steps-length : (w : List ℕ) (k m : ℕ) → length (stepsIn w k m) ≡ m
-unfolding stepsIn
-steps-length w k zero = refl
-steps-length w k (suc m) = ap suc (steps-length w (k + 1) m)
-
-pub steps-drop : (w : List ℕ) (k m j : ℕ) → drop j (stepsIn w k m) ≡ stepsIn w (k + j) (m - j)
-unfolding stepsIn
-steps-drop w k m zero = let e : m - 0 ≡ m = omega arith in let f : k + 0 ≡ k = omega arith in rw (e, f) refl
-steps-drop w k zero (suc j) = let e : 0 - suc j ≡ 0 = omega arith in rw e refl
-steps-drop w k (suc m) (suc j) =
-    let e : suc m - suc j ≡ m - j = omega arith in
-    let f : k + suc j ≡ k + 1 + j = omega arith in
-    rw (e, f) (steps-drop w (k + 1) m j)

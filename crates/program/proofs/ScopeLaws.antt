@@ -13,10 +13,10 @@ use Rattle.spec.specs.Reading.{Out, stop, on}
 use Rattle.spec.specs.declared.Refusal.{Refusal}
 use Rattle.spec.specs.declared.Refusal.the-variants.{Unbound}
 use Rattle.spec.specs.declared.Word.{Word}
-use Rattle.workspace.specs.Layout.{wordsAt, valuesAt, endsAt, letsAt, wordOf}
+use Rattle.workspace.specs.Layout.{wordsAt, valuesAt, endsAt, letsAt, wordOf, workSize}
 use Rattle.workspace.specs.Region.{Region, ChangedWithin}
 use Rattle.workspace.proofs.Region.{region-empty, region-push, changed-nothing, changed-store, changed-then}
-use Rattle.program.specs.Stored.{wordAt, valueAt}
+use Rattle.workspace.specs.Steps.{wordAt, valueAt}
 use Rattle.program.specs.Scopes.{roleOf, unbound, judgeLet, judgeVar, judgeBy, judgeOf, storing, judged, scopesFrom, Scoped}
 use Rattle.program.specs.declared.Outcome.the-variants as outcome
 use Rattle.program.specs.declared.binders.Role.{Role}
@@ -109,7 +109,7 @@ pub record ScopesSoFar (n : ℕ) (w₀ w t : List ℕ) (k : ℕ) : Type 0 where
   pub changed : ChangedWithin letsAt (letsAt + 256) w₀ w
   pub rest : scopesFrom w₀ n 0 unbound ≡ after stored (scopesFrom w₀ (n - k) k t)
 
-pub start : (n : ℕ) (w : List ℕ) → length w ≡ 16384 → ScopesSoFar n w w unbound 0
+pub start : (n : ℕ) (w : List ℕ) → length w ≡ workSize → ScopesSoFar n w w unbound 0
 unfolding unbound after
 start n w h = record {
   few = omega arith;
@@ -134,7 +134,7 @@ module _ (n : ℕ) (w₀ w t : List ℕ) (k : ℕ) (s : ScopesSoFar n w₀ w t k
       ∙ ap on (append-nil (s .stored)) in
       record { found = rw f (refl, s .held); changed = s .changed }
 
-  module _ (v b : ℕ) (j : Judged) (hw : length w₀ ≡ 16384) (hn : n ≤ 256) (h : k < n) (hv : v ≡ getD w (valuesAt + k) 0)
+  module _ (v b : ℕ) (j : Judged) (hw : length w₀ ≡ workSize) (hn : n ≤ 256) (h : k < n) (hv : v ≡ getD w (valuesAt + k) 0)
       (hb : b ≡ getD t v 256) (hj : j ≡ judgeOf w k b) where
     step : scopesFrom w₀ (n - k) k t ≡ judged (λ u. scopesFrom w₀ (n - (k + 1)) (k + 1) u) k t v j
     unfolding scopesFrom valueAt

@@ -28,9 +28,9 @@ use Rattle.lexer.proofs.Walks.{left-none, left-some}
 use Rattle.workspace.specs.Layout.{wordsAt, valuesAt, endsAt, letsAt, codeOf}
 use Rattle.workspace.specs.Holds.{ends, lets, HoldsSteps}
 use Rattle.workspace.specs.Region.{Region, ChangedWithin}
-use Rattle.workspace.proofs.Codes.{word-of-code}
+use Rattle.workspace.proofs.Steps.{steps-kept, steps-held}
 use Rattle.workspace.proofs.Region.{region-moved, region-first, region-behind, region-kept, changed-then, changed-wider}
-use Rattle.program.specs.Stored.{wordAt, valueAt, stepsIn}
+use Rattle.workspace.specs.Steps.{wordAt, valueAt, stepsFrom}
 use Rattle.program.specs.Outcomes.{Answers}
 use Rattle.program.specs.Structure.{Structured}
 use Rattle.program.specs.Scopes.{roleOf, Variable, Variables, Scoped}
@@ -44,28 +44,10 @@ use Rattle.program.specs.declared.ProgramRead.{ProgramRead}
 use Rattle.program.specs.declared.ProgramRead.the-variants.{Read, Refused}
 use Rattle.workspace.proofs.Held.{ends-length}
 use Rattle.spec.proofs.Outcomes.{stop-is-not-on}
-use Rattle.program.proofs.StructureLaws.{steps-kept}
 use Rattle.program.proofs.Standing.{Stands, root-stands}
 use Rattle.program.proofs.Walk.{root-stops, root-goes-on}
 
 -- ------------------------------------------------------------------ the steps stored
-
--- the steps that the work space holds are those that it stores
-steps-held-from : (w : List ℕ) (k : ℕ) (ss : List Step) → Region w (wordsAt + k) (map (λ (s : Step). codeOf (s .word)) ss)
-    → Region w (valuesAt + k) (map (λ (s : Step). s .value) ss) → stepsIn w k (length ss) ≡ ss
-unfolding stepsIn wordAt valueAt
-steps-held-from w k [] r q = refl
-steps-held-from w k (s ∷ ss) r q =
-    let a : wordsAt + k + 1 ≡ wordsAt + (k + 1) = omega arith in
-    let b : valuesAt + k + 1 ≡ valuesAt + (k + 1) = omega arith in
-    rw (region-first r, region-first q, word-of-code (s .word))
-    (ap (λ l. s ∷ l)
-    (steps-held-from w (k + 1) ss
-    (region-moved _ _ a (region-behind r))
-    (region-moved _ _ b (region-behind q))))
-
-steps-held : (w : List ℕ) (n : ℕ) (ss : List Step) → length ss ≡ n → HoldsSteps w ss → stepsIn w 0 n ≡ ss
-steps-held w n ss e h = rw (← e) (steps-held-from w 0 ss (h .words) (h .values))
 
 -- their variables are below 256
 variable-limit : (x : Word) (v : ℕ) → v ≤ limitOf x → Variable (roleOf x) v
@@ -87,8 +69,8 @@ limited-first (more-limited l r) = l
 limited-behind : {s : Step} {ss : List Step} → Limited (s ∷ ss) → Limited ss
 limited-behind (more-limited l r) = r
 
-variables-from : (w : List ℕ) (m k : ℕ) → Limited (stepsIn w k m) → (i : ℕ) → k ≤ i → i < k + m → Variable (roleOf (wordAt w i)) (valueAt w i)
-unfolding stepsIn
+variables-from : (w : List ℕ) (m k : ℕ) → Limited (stepsFrom w k m) → (i : ℕ) → k ≤ i → i < k + m → Variable (roleOf (wordAt w i)) (valueAt w i)
+unfolding stepsFrom
 variables-from w zero k l i h g = absurd (omega arith)
 variables-from w (suc m) k l i h g =
     ⊎-elim
@@ -98,7 +80,7 @@ variables-from w (suc m) k l i h g =
 
 pub variables-of : (w : List ℕ) (n : ℕ) (ss : List Step) → length ss ≡ n → HoldsSteps w ss → Limited ss → Variables n w
 variables-of w n ss e h l i g =
-    variables-from w n 0 (subst Limited (sym (steps-held w n ss e h)) l) i (omega arith) (omega arith)
+    variables-from w n 0 (subst Limited (sym (steps-held w ss n h e)) l) i (omega arith) (omega arith)
 
 -- ------------------------------------------------------------------ the expression
 
@@ -119,7 +101,7 @@ module _ (n : ℕ) (w w₁ : List ℕ) where
   pub expression-refused : (x : Refusal) → Structured n w w₁ (outcome.Refused x) → ExpressionRead n w w₁ (outcome.Refused x)
   unfolding expressionOf _>>=_
   expression-refused x s = record {
-    found = from (single n (listed 2 (stepsIn w 0 n))) (s .found);
+    found = from (single n (listed 2 (stepsFrom w 0 n))) (s .found);
     changed = changed-wider endsAt (letsAt + 256) (omega arith) (omega arith) (s .changed);
   }
     where
@@ -129,8 +111,8 @@ module _ (n : ℕ) (w w₁ : List ℕ) where
       from (on e) f = absurd (refused-passed (f .0))
 
   module _ (few : n ≤ 256) (vars : Variables n w) (s : Structured n w w₁ outcome.Passed) (w₂ : List ℕ) (r : Outcome) (q : Scoped n w₁ w₂ r) where
-    kept-steps : stepsIn w₁ 0 n ≡ stepsIn w 0 n
-    kept-steps = steps-kept w w₁ 0 (s .changed) 0 n (omega arith)
+    kept-steps : stepsFrom w₁ 0 n ≡ stepsFrom w 0 n
+    kept-steps = steps-kept (s .changed) (omega arith) 0 n (omega arith)
 
     kept-variables : Variables n w₁
     unfolding wordAt valueAt
@@ -143,9 +125,9 @@ module _ (n : ℕ) (w w₁ : List ℕ) where
         (changed-wider endsAt (letsAt + 256) (omega arith) (omega arith) (s .changed))
         (changed-wider endsAt (letsAt + 256) (omega arith) (omega arith) (q .changed))
 
-    module _ (e : Expr) (p : single n (listed 2 (stepsIn w 0 n)) ≡ on e) (m : Region w₁ endsAt (ends 0 e)) where
-      one : (fs : List Expr) × (listed 2 (stepsIn w 0 n) ≡ e ∷ fs) × (size e ≡ n)
-      one = single-on n (listed 2 (stepsIn w 0 n)) e p
+    module _ (e : Expr) (p : single n (listed 2 (stepsFrom w 0 n)) ≡ on e) (m : Region w₁ endsAt (ends 0 e)) where
+      one : (fs : List Expr) × (listed 2 (stepsFrom w 0 n) ≡ e ∷ fs) × (size e ≡ n)
+      one = single-on n (listed 2 (stepsFrom w 0 n)) e p
 
       stands : Stands w₁ 0 e
       stands = root-stands w₁ n e (one .0) (ap (listed 2) kept-steps ∙ one .1) m kept-variables
@@ -163,9 +145,9 @@ module _ (n : ℕ) (w w₁ : List ℕ) where
 
     pub expression-scoped : ExpressionRead n w w₂ r
     unfolding expressionOf _>>=_
-    expression-scoped = record { found = from (single n (listed 2 (stepsIn w 0 n))) refl (s .found); changed = both }
+    expression-scoped = record { found = from (single n (listed 2 (stepsFrom w 0 n))) refl (s .found); changed = both }
       where
-        from : (o : Out Expr) → single n (listed 2 (stepsIn w 0 n)) ≡ o → Answers (λ e. Region w₁ endsAt (ends 0 e)) outcome.Passed o
+        from : (o : Out Expr) → single n (listed 2 (stepsFrom w 0 n)) ≡ o → Answers (λ e. Region w₁ endsAt (ends 0 e)) outcome.Passed o
             → Answers (λ e. Region w₂ endsAt (ends 0 e) × Region w₂ letsAt (lets 0 [] e)) r (o >>= λ e. scope e [] [] >>= λ bound. on e)
         from (stop y) p f = absurd (refused-passed (sym f))
         from (on e) p f = scoped e p (f .1) (scope e [] []) refl
@@ -247,7 +229,7 @@ module _ (text : List ℕ) (n : ℕ) (c : Cursor) (w w₁ : List ℕ) where
           subst (Answered w₂ (answerOf n r)) (sym all-lines)
           (answers (expressionOf n (s .found .steps))
           (subst (λ ss. Answers (λ e. Region w₂ endsAt (ends 0 e) × Region w₂ letsAt (lets 0 [] e)) r (expressionOf n ss))
-          (steps-held w₁ n (s .found .steps) (s .found .counted) (s .found .held))
+          (steps-held w₁ (s .found .steps) n (s .found .held) (s .found .counted))
           (x .found)))
 
       pub steps-read : r ≡ outcome.Passed → StepsRead text n c w₂ (Read n)

@@ -12,7 +12,7 @@ use Rattle.workspace.specs.Holds.{ends}
 use Rattle.workspace.proofs.Held.{ends-length}
 use Rattle.workspace.specs.Region.{Region}
 use Rattle.workspace.proofs.Region.{region-moved, region-first, region-behind, region-left, region-right}
-use Rattle.program.specs.Stored.{wordAt, valueAt, stepsIn}
+use Rattle.workspace.specs.Steps.{wordAt, valueAt, stepsFrom}
 use Rattle.program.specs.Scopes.{roleOf, Variable}
 
 -- the step at index k: its word, its line, its number v
@@ -58,12 +58,12 @@ parts-written w k (Binary x) l v (e₁ ∷ e₂ ∷ es) h a =
     ((h, a .0, a .1 .0), subst (λ i. AllWritten w i es) q (a .1 .1))
 
 listed-written : (w : List ℕ) (m k : ℕ) → ((i : ℕ) → i < k + m → Variable (roleOf (wordAt w i)) (valueAt w i))
-    → AllWritten w k (listed (k + 2) (stepsIn w k m))
-unfolding listed stepsIn
+    → AllWritten w k (listed (k + 2) (stepsFrom w k m))
+unfolding listed stepsFrom
 listed-written w zero k h = tt
 listed-written w (suc m) k h =
     let q : k + 2 + 1 ≡ k + 1 + 2 = omega arith in
-    parts-written w k (wordAt w k) (k + 2) (valueAt w k) (listed (k + 2 + 1) (stepsIn w (k + 1) m))
+    parts-written w k (wordAt w k) (k + 2) (valueAt w k) (listed (k + 2 + 1) (stepsFrom w (k + 1) m))
     (record { word = refl; value = refl; line = refl; variable = h k (omega arith) })
     (rw q (listed-written w m (k + 1) (λ i l. h i (omega arith))))
 
@@ -93,7 +93,7 @@ stands w k (binary x l v e₁ e₂) h r =
     )
 
 -- the expression that n stored steps list stands at index 0
-pub root-stands : (w : List ℕ) (n : ℕ) (e : Expr) (es : List Expr) → listed 2 (stepsIn w 0 n) ≡ e ∷ es → Region w endsAt (ends 0 e)
+pub root-stands : (w : List ℕ) (n : ℕ) (e : Expr) (es : List Expr) → listed 2 (stepsFrom w 0 n) ≡ e ∷ es → Region w endsAt (ends 0 e)
     → ((i : ℕ) → i < n → Variable (roleOf (wordAt w i)) (valueAt w i)) → Stands w 0 e
 root-stands w n e es p r h =
     stands w 0 e (subst (AllWritten w 0) p (listed-written w n 0 (λ i l. h i (omega arith))) .0) r

@@ -14,7 +14,7 @@ use Rattle.spec.specs.declared.Word.{Word}
 use Rattle.spec.proofs.Reading.{front, front-none, all-stop, all-on, all-done}
 use Rattle.lexer.specs.Cursors.{Placed, placeAt}
 use Rattle.lexer.specs.declared.Cursor.{Cursor}
-use Rattle.workspace.specs.Layout.{wordsAt, valuesAt, codeOf}
+use Rattle.workspace.specs.Layout.{wordsAt, valuesAt, codeOf, workSize}
 use Rattle.workspace.specs.Holds.{HoldsSteps}
 use Rattle.workspace.specs.Region.{Region, ChangedWithin}
 use Rattle.workspace.proofs.Region.{region-empty, region-apart, column-push, changed-nothing, changed-store, changed-then}
@@ -39,7 +39,7 @@ pub record StepsSoFar (text : List ℕ) (n : ℕ) (c₀ : Cursor) (w₀ w : List
   pub rest : stepsAt text n c₀ ≡ front read (stepsAt text (n - k) c)
   pub changed : ChangedWithin wordsAt (valuesAt + 256) w₀ w
 
-pub start : (text : List ℕ) (n : ℕ) (c : Cursor) (w : List ℕ) → length w ≡ 16384 → Placed text c → StepsSoFar text n c w w c 0
+pub start : (text : List ℕ) (n : ℕ) (c : Cursor) (w : List ℕ) → length w ≡ workSize → Placed text c → StepsSoFar text n c w w c 0
 start text n c w h p = record {
   few = omega arith;
   read = [];
@@ -88,13 +88,13 @@ module _ (text : List ℕ) (n : ℕ) (c₀ : Cursor) (w₀ w : List ℕ) (c : Cu
         let stopped = all-stop programSheet stepLine (replicate (n - (k + 1)) stepLine) (placeAt text c) x p in
         record { found = s .rest ∙ ap (front (s .read)) (left ∙ stopped); changed = s .changed }
 
-    pub more : (x : Word) (v code : ℕ) (d : Cursor) → length w₀ ≡ 16384 → n ≤ 256 → StepShown text c (step.Step x v d) → code ≡ codeOf x
+    pub more : (x : Word) (v code : ℕ) (d : Cursor) → length w₀ ≡ workSize → n ≤ 256 → StepShown text c (step.Step x v d) → code ≡ codeOf x
         → StepsSoFar text n c₀ w₀ (set (set w (wordsAt + k) code) (valuesAt + k) v) d (k + 1)
     more x v code d hw hn p e =
         let one : Step = record { word = x; value = v } in
         let w₁ : List ℕ = set w (wordsAt + k) code in
-        let long : length w ≡ 16384 = s .changed .long ∙ hw in
-        let long₁ : length w₁ ≡ 16384 = length-set w (wordsAt + k) code ∙ long in
+        let long : length w ≡ workSize = s .changed .long ∙ hw in
+        let long₁ : length w₁ ≡ workSize = length-set w (wordsAt + k) code ∙ long in
         let words : Region w₁ wordsAt (map (λ (s : Step). codeOf (s .word)) (s .read ++ (one ∷ []))) =
         rw e
         (column-push w wordsAt (λ (s : Step). codeOf (s .word)) (s .read) one k (s .counted) (omega arith) (s .held .words)) in

@@ -11,20 +11,21 @@ use Rattle.spec.specs.Expression.{Expr, size, withParts, listed, single}
 use Rattle.spec.specs.declared.Refusal.the-variants.{ProgramLines}
 use Rattle.spec.specs.declared.Word.{Word}
 use Rattle.spec.specs.declared.Word.the-variants.{Leaf, Unary, Binary}
-use Rattle.workspace.specs.Layout.{wordsAt, valuesAt, endsAt, wordOf}
+use Rattle.workspace.specs.Layout.{wordsAt, valuesAt, endsAt, wordOf, workSize}
 use Rattle.workspace.specs.Holds.{ends}
 use Rattle.spec.proofs.Listing.{size-positive}
 use Rattle.workspace.proofs.Held.{ends-length}
 use Rattle.workspace.specs.Region.{Region, ChangedWithin}
+use Rattle.workspace.proofs.Steps.{steps-length, steps-drop, steps-kept}
 use Rattle.workspace.proofs.Region.{region-empty, region-front, region-append, region-kept, changed-nothing, changed-store, changed-then, changed-wider}
-use Rattle.program.specs.Stored.{partsOf, wordAt, valueAt, stepsIn}
-use Rattle.program.specs.Structure.{listedFrom, reached, endsOf, Ended, Structured}
+use Rattle.workspace.specs.Steps.{wordAt, valueAt, stepsFrom}
+use Rattle.program.specs.Structure.{partsOf, listedFrom, reached, endsOf, Ended, Structured}
 use Rattle.program.specs.Outcomes.{Answers}
 use Rattle.program.specs.declared.Outcome.{Outcome}
 use Rattle.program.specs.declared.Outcome.the-variants.{Passed, Refused}
 use Rattle.program.specs.declared.tree.Ending.{Ending}
 use Rattle.program.specs.declared.tree.Ending.the-variants.{Reached, Unfinished}
-use Rattle.program.proofs.Listed.{total, total-listed, behind-first, first-fits, steps-length, steps-drop}
+use Rattle.program.proofs.Listed.{total, total-listed, behind-first, first-fits}
 
 never : {e : ℕ} → Unfinished ≡ Reached e → ⊥
 never {e} p = let z : _≡_ {A = ℕ} 0 1 = cc in omega arith
@@ -68,14 +69,14 @@ step-unended (Binary w) l v k (x ∷ y ∷ es) p = absurd (never (sym p))
 
 listed-step : (w : List ℕ) (n k : ℕ) → k < n
     → listedFrom w n k ≡ withParts (wordAt w k) (k + 2) (valueAt w k) (listedFrom w n (k + 1))
-unfolding listedFrom stepsIn listed
+unfolding listedFrom stepsFrom listed
 listed-step w n k h =
     let e : n - k ≡ suc (n - (k + 1)) = omega arith in
     let f : k + 2 + 1 ≡ k + 1 + 2 = omega arith in
     rw (e, f) refl
 
 listed-none : (w : List ℕ) (n k : ℕ) → n ≤ k → listedFrom w n k ≡ []
-unfolding listedFrom stepsIn listed
+unfolding listedFrom stepsFrom listed
 listed-none w n k h = let e : n - k ≡ 0 = omega arith in rw e refl
 
 listed-behind : (w : List ℕ) (n k : ℕ) (e : Expr) (es : List Expr) → listedFrom w n k ≡ e ∷ es → es ≡ listedFrom w n (k + size e)
@@ -83,26 +84,18 @@ unfolding listedFrom
 listed-behind w n k e es p =
     let q : k + 2 + size e ≡ k + size e + 2 = omega arith in
     let m : n - k - size e ≡ n - (k + size e) = omega arith in
-    behind-first (k + 2) (stepsIn w k (n - k)) e es p ∙ rw (steps-drop w k (n - k) (size e), q, m) refl
+    behind-first (k + 2) (stepsFrom w k (n - k)) e es p ∙ rw (steps-drop w k (n - k) (size e), q, m) refl
 
 listed-fits : (w : List ℕ) (n k : ℕ) (e : Expr) (es : List Expr) → k ≤ n → listedFrom w n k ≡ e ∷ es → k + size e ≤ n
 unfolding listedFrom
 listed-fits w n k e es h p =
-    omega (arith, first-fits (k + 2) (stepsIn w k (n - k)) e es p, steps-length w k (n - k))
+    omega (arith, first-fits (k + 2) (stepsFrom w k (n - k)) e es p, steps-length w k (n - k))
 
--- storing ends leaves the steps as they are
-module _ (w w′ : List ℕ) (a : ℕ) (x : ChangedWithin (endsAt + a) (endsAt + 256) w w′) where
-  pub steps-kept : (k m : ℕ) → k + m ≤ 256 → stepsIn w′ k m ≡ stepsIn w k m
-  unfolding stepsIn wordAt valueAt
-  steps-kept k zero h = refl
-  steps-kept k (suc m) h =
-      rw
-      (x .kept (wordsAt + k) (inl (omega arith)), x .kept (valuesAt + k) (inl (omega arith)), steps-kept (k + 1) m (omega arith))
-      refl
-
-  pub listed-kept : (n k : ℕ) → n ≤ 256 → k ≤ n → listedFrom w′ n k ≡ listedFrom w n k
-  unfolding listedFrom
-  listed-kept n k h l = rw (steps-kept k (n - k) (omega arith)) refl
+-- storing ends leaves what is listed as it is
+listed-kept : (w w′ : List ℕ) (a : ℕ) → ChangedWithin (endsAt + a) (endsAt + 256) w w′ → (n k : ℕ) → n ≤ 256 → k ≤ n
+    → listedFrom w′ n k ≡ listedFrom w n k
+unfolding listedFrom
+listed-kept w w′ a x n k h l = rw (steps-kept x (omega arith) k (n - k) (omega arith)) refl
 
 -- ------------------------------------------------------------------ where reading ends
 
@@ -129,7 +122,7 @@ pub within : (n m k e : ℕ) (w w′ : List ℕ) (r : Ending) → k ≤ n → En
 unfolding listedFrom
 within n m k e w w′ r h x p =
     let t : e ≡ k + total m (listedFrom w n k) = reached-total m k e (listedFrom w n k) (sym (x .answer) ∙ p) in
-    let l : total m (listedFrom w n k) ≤ n - k = omega (arith, total-listed (k + 2) (stepsIn w k (n - k)) m, steps-length w k (n - k)) in
+    let l : total m (listedFrom w n k) ≤ n - k = omega (arith, total-listed (k + 2) (stepsFrom w k (n - k)) m, steps-length w k (n - k)) in
     (omega arith, omega arith)
 
 pub past : (n k e : ℕ) (w w′ : List ℕ) (r : Ending) → Ended n 1 k w w′ r → r ≡ Reached e → k < e
@@ -141,7 +134,7 @@ past n k e w w′ r x p =
 one-less : (m : ℕ) → (m ≡ 0 → ⊥) → m ≡ suc (m - 1)
 one-less m z = omega arith
 
-module _ (n m k : ℕ) (w : List ℕ) (hw : length w ≡ 16384) (hn : n ≤ 256) (hk : k ≤ n) where
+module _ (n m k : ℕ) (w : List ℕ) (hw : length w ≡ workSize) (hn : n ≤ 256) (hk : k ≤ n) where
   pub parts-none : m ≡ 0 → Ended n m k w w (Reached k)
   unfolding reached endsOf
   parts-none z = record {
@@ -206,7 +199,7 @@ module _ (n m k : ℕ) (w : List ℕ) (hw : length w ≡ 16384) (hn : n ≤ 256)
 
 -- ------------------------------------------------------------------ reading one step
 
-module _ (n k : ℕ) (w : List ℕ) (hw : length w ≡ 16384) (hn : n ≤ 256) where
+module _ (n k : ℕ) (w : List ℕ) (hw : length w ≡ workSize) (hn : n ≤ 256) where
   pub step-none : k ≤ n → n ≤ k → Ended n 1 k w w Unfinished
   unfolding reached endsOf
   step-none l h = record {

@@ -14,7 +14,7 @@ use Rattle.spec.specs.declared.BinaryWord.{BinaryWord}
 use Rattle.spec.specs.declared.BinaryWord.the-variants.{Let, If, Spawn, Write}
 use Rattle.workspace.specs.Layout.{endsAt, letsAt}
 use Rattle.workspace.specs.Region.{Region, ChangedWithin}
-use Rattle.program.specs.Stored.{wordAt, valueAt}
+use Rattle.workspace.specs.Steps.{wordAt, valueAt}
 use Rattle.program.specs.Outcomes.{Answers}
 use Rattle.program.specs.declared.Outcome.{Outcome}
 use Rattle.program.specs.declared.binders.Role.{Role}

@@ -11,7 +11,7 @@ use Rattle.lexer.specs.declared.Cursor.{Cursor}
 use Rattle.workspace.specs.Layout.{endsAt, letsAt}
 use Rattle.workspace.specs.Holds.{ends, lets, HoldsProgram}
 use Rattle.workspace.specs.Region.{Region, ChangedWithin}
-use Rattle.program.specs.Stored.{stepsIn}
+use Rattle.workspace.specs.Steps.{stepsFrom}
 use Rattle.program.specs.Outcomes.{Answers}
 use Rattle.program.specs.declared.Outcome.{Outcome}
 use Rattle.program.specs.declared.ProgramRead.{ProgramRead}
@@ -24,7 +24,7 @@ unfoldable pub expressionOf : (n : ℕ) → List Step → Out Expr
 expressionOf n steps = single n (listed 2 steps) >>= λ e. scope e [] [] >>= λ bound. on e
 
 pub record ExpressionRead (n : ℕ) (w w′ : List ℕ) (r : Outcome) : Type 0 where
-  pub found : Answers (λ e. Region w′ endsAt (ends 0 e) × Region w′ letsAt (lets 0 [] e)) r (expressionOf n (stepsIn w 0 n))
+  pub found : Answers (λ e. Region w′ endsAt (ends 0 e) × Region w′ letsAt (lets 0 [] e)) r (expressionOf n (stepsFrom w 0 n))
   pub changed : ChangedWithin endsAt (letsAt + 256) w w′
 
 -- ------------------------------------------------------------------ the program

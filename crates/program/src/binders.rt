@@ -11,6 +11,7 @@ use workspace::WORDS;
 ghost use mathlib.Core.Path.{_≡_};
 ghost use Prim.Native.Nat.{_<_, _≤_};
 ghost use lib.ListN.{length, getD, set};
+ghost use Rattle.workspace.specs.Layout.{workSize};
 ghost use Rattle.program.specs.Scopes.{leafRole, binaryRole, roleOf, judgeLet, judgeVar, judgeOf, Scoped};
 
 // The mark of a variable that no let binds.
@@ -79,7 +80,7 @@ fn judge_let(k: usize, b: u32) -> Judged
 
 // A use at index k of the variable whose let is at b: it must stand past that let's e1 and before its end.
 fn judge_var(work: &[u32], k: usize, b: u32) -> Judged
-    requires { ⌜ (length (now work) ≡ 16384) × (k < 256) ⌝ }
+    requires { ⌜ (length (now work) ≡ workSize) × (k < 256) ⌝ }
     ensures { λ r. ⌜ r ≡ judgeVar (now (work .entry)) k b ⌝ }
 {
     let line = k as u32 + 2;
@@ -98,7 +99,7 @@ fn judge_var(work: &[u32], k: usize, b: u32) -> Judged
 
 // The step at index k, whose number v has its let at b.
 fn judge(work: &[u32], k: usize, b: u32) -> Judged
-    requires { ⌜ (length (now work) ≡ 16384) × (k < 256) ⌝ }
+    requires { ⌜ (length (now work) ≡ workSize) × (k < 256) ⌝ }
     ensures { λ r. ⌜ r ≡ judgeOf (now (work .entry)) k b ⌝ }
 {
     match role_of(workspace::word_of(work[WORDS + k])) {
@@ -126,7 +127,7 @@ fn bind(table: &mut [u32], v: usize, k: u32)
 
 // Whether each variable is bound once and used only in its let's e2, judged in line order; stores which let each `var` means.
 pub fn scopes(work: &mut [u32], n: usize) -> Outcome
-    requires { ⌜ (length (now work) ≡ 16384) × (n ≤ 256) ⌝ }
+    requires { ⌜ (length (now work) ≡ workSize) × (n ≤ 256) ⌝ }
     ensures { λ r. ⌜ Scoped n (now (work .entry)) (now (work .exit)) r ⌝ }
 {
     let mut table = [UNBOUND; 256];

@@ -15,6 +15,7 @@ ghost use Prim.Native.Nat.{_≤_};
 ghost use lib.ListN.{length};
 ghost use Rattle.spec.specs.Reading.{stop};
 ghost use Rattle.lexer.specs.Cursors.{Placed};
+ghost use Rattle.workspace.specs.Layout.{workSize};
 ghost use Rattle.program.specs.Lines.{leafLeast, leastOf, leafLimit, binaryLimit, limitOf, TailShown, CountShown, FreelockAt, stepAt, StepShown, StepsShown};
 
 // The most steps that a program may have.
@@ -200,7 +201,7 @@ pub enum StepLines {
 
 // The n step lines from the cursor on, stored in line order.
 pub fn step_lines(text: &[u8], work: &mut [u32], n: usize, start: Cursor) -> StepLines
-    requires { ⌜ (length (now work) ≡ 16384) × (n ≤ 256) × Placed (now text) start ⌝ }
+    requires { ⌜ (length (now work) ≡ workSize) × (n ≤ 256) × Placed (now text) start ⌝ }
     ensures { λ r. ⌜ StepsShown (now (text .entry)) n start (now (work .entry)) (now (work .exit)) r ⌝ }
 {
     let mut cursor = start;

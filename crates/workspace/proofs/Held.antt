@@ -12,7 +12,7 @@ use Rattle.spec.proofs.Listing.{prefix-length}
 use Rattle.spec.specs.declared.LeafWord.the-variants.{Var, Int, Newtid, Newlock, Newsem, Newrwlock}
 use Rattle.spec.specs.declared.BinaryWord.{BinaryWord}
 use Rattle.spec.specs.declared.BinaryWord.the-variants.{Let, If, Spawn, Write}
-use Rattle.workspace.specs.Layout.{codeOf}
+use Rattle.workspace.specs.Layout.{codeOf, rowTypesAt, workSize}
 use Rattle.workspace.specs.Region.{ChangedWithin}
 use Rattle.workspace.specs.Holds.{ends, lets, HoldsProgram}
 use Rattle.workspace.proofs.Region.{region-kept}
@@ -60,7 +60,7 @@ lets-length k inside (binary x l v e₁ e₂) =
 -- ------------------------------------------------------------------ a program stays
 
 -- the program stands below place 1,024
-pub program-kept : {w w′ : List ℕ} {P : Program} → ChangedWithin 1024 16384 w w′ → prefix (P .root) ≡ P .steps → length (P .steps) ≤ 256
+pub program-kept : {w w′ : List ℕ} {P : Program} → ChangedWithin rowTypesAt workSize w w′ → prefix (P .root) ≡ P .steps → length (P .steps) ≤ 256
     → HoldsProgram w P → HoldsProgram w′ P
 program-kept {w} {w′} {P} c listing few H =
     let sized : size (P .root) ≡ length (P .steps) = sym (prefix-length (P .root)) ∙ ap length listing in

@@ -12,7 +12,7 @@ use Rattle.spec.specs.Split.{Row, Split}
 use Rattle.spec.specs.Conditions.{startMap}
 use Rattle.spec.specs.Ranges.{InRange}
 use Rattle.spec.proofs.Listing.{prefix-length}
-use Rattle.workspace.specs.Layout.{mapsAt, stride, emptyMap, kindOf, firstOf, secondOf}
+use Rattle.workspace.specs.Layout.{mapsAt, stride, emptyMap, kindOf, firstOf, secondOf, rowTypesAt, workSize}
 use Rattle.workspace.specs.Region.{ChangedWithin}
 use Rattle.workspace.specs.Holds.{startNumber, HoldsSplit}
 use Rattle.workspace.specs.Sheets.{HoldsSheets}
@@ -69,7 +69,7 @@ module _ {w w′ : List ℕ} {maps : ℕ} (c : ChangedWithin (mapsAt + stride * 
     programText = H .programText;
     wellFormed = H .wellFormed;
     inRange = H .inRange;
-    program = program-kept (changed-wider 1024 16384 (omega arith) (omega arith) c) (H .wellFormed .listing) (omega (arith, H .stepsCounted)) (H .program);
+    program = program-kept (changed-wider rowTypesAt workSize (omega arith) (omega arith) c) (H .wellFormed .listing) (omega (arith, H .stepsCounted)) (H .program);
     split = split-kept (H .inRange) given (omega (arith, H .stepsCounted)) (H .split);
     stepsCounted = H .stepsCounted;
     denominatorGiven = H .denominatorGiven;

@@ -22,6 +22,10 @@ use Rattle.workspace.specs.declared.Rule.the-variants.{VAR, INT, LET, IF
 
 -- ------------------------------------------------------------------ offsets
 
+-- how many numbers a check works in
+abbrev pub workSize : ℕ
+workSize = 16384
+
 -- the offsets of src/lib.rt, by their names there
 abbrev pub wordsAt : ℕ
 wordsAt = 0
