@@ -14,12 +14,13 @@ use Rattle.spec.specs.declared.Refusal.{Refusal}
 use Rattle.spec.specs.declared.Word.{Word}
 use Rattle.lexer.specs.Cursors.{Placed, placeAt}
 use Rattle.lexer.specs.declared.Cursor.{Cursor}
-use Rattle.workspace.specs.Layout.{wordsAt, rowTypesAt, presAt, mapsAt, stride, spaceSize, wordOf}
+use Rattle.workspace.specs.Layout.{wordsAt, rowTypesAt, presAt, mapsAt, stride, workSize, wordOf}
 use Rattle.workspace.specs.Region.{ChangedWithin}
+use Rattle.workspace.specs.Steps.{wordAt, stepAt}
 use Rattle.workspace.proofs.Region.{changed-then}
-use Rattle.split.specs.Lines.{cellLine, wordLine}
-use Rattle.split.specs.Stored.{Columns, HoldsMaps, LinesStored, stepAt}
-use Rattle.split.specs.declared.LinesRead.the-variants as lines-read
+use Rattle.lines.specs.Lines.{cellLine, wordLine}
+use Rattle.split.specs.Stored.{Columns, HoldsMaps, LinesStored}
+use Rattle.lines.specs.declared.LinesRead.the-variants as lines-read
 use Rattle.split.proofs.Turns.{numbered, Turn, next-turn, turns-stop}
 use Rattle.split.proofs.Stores.{columns-push, columns-changed, filled-changed, filled-region, maps-push}
 
@@ -42,15 +43,15 @@ module _
 -- the word that a row is read for is that of its step, which no row has changed
 pub row-here : (purpose : Purpose) (H : Header) (text : List ℕ) (c : Cursor) (w₀ w : List ℕ) (k : ℕ) (word : Word) → word ≡ wordOf (getD w (wordsAt + k) 0) → k < 256 → ChangedWithin rowTypesAt presAt w₀ w
     → next splitSheet (wordLine purpose H (stepAt w₀ k .word)) (placeAt text c) ≡ next splitSheet (wordLine purpose H word) (placeAt text c)
-unfolding stepAt
+unfolding wordAt
 row-here purpose H text c w₀ w k word e l x =
     let same : getD w (wordsAt + k) 0 ≡ getD w₀ (wordsAt + k) 0 = x .kept (wordsAt + k) (inl (omega arith)) in
     ap (λ (v : Word). next splitSheet (wordLine purpose H v) (placeAt text c)) (ap wordOf (sym same) ∙ sym e)
 
 -- a map line, whose numbers are read into their part of the work space
 module _
-    (locations n : ℕ) (narrow : locations ≤ 16) (few : n ≤ 512) (text w₀ : List ℕ) (c₀ : Cursor) (long : length w₀ ≡ spaceSize) (w : List ℕ) (c : Cursor) (i : ℕ)
-    (t : Turn (λ m. cellLine locations) (HoldsMaps locations) mapsAt spaceSize n text w₀ (placeAt text c₀) w c i) (less : i < n)
+    (locations n : ℕ) (narrow : locations ≤ 16) (few : n ≤ 512) (text w₀ : List ℕ) (c₀ : Cursor) (long : length w₀ ≡ workSize) (w : List ℕ) (c : Cursor) (i : ℕ)
+    (t : Turn (λ m. cellLine locations) (HoldsMaps locations) mapsAt workSize n text w₀ (placeAt text c₀) w c i) (less : i < n)
   where
     abbrev at : ℕ
     at = mapsAt + stride * i
@@ -78,24 +79,24 @@ module _
       whole : length ys ≡ past - at
       whole = kept ∙ part-long ∙ sym wide
 
-      put-changed : ChangedWithin mapsAt spaceSize w (put ys)
-      put-changed = filled-changed w at ys (past - at) whole room mapsAt spaceSize (omega arith) (omega (arith, wide))
+      put-changed : ChangedWithin mapsAt workSize w (put ys)
+      put-changed = filled-changed w at ys (past - at) whole room mapsAt workSize (omega arith) (omega (arith, wide))
 
       pub map-long : length (put ys) ≡ length w₀
       map-long = put-changed .long ∙ t .changed .long
 
       pub map-stop : (reads : List (List Field → Seen Map)) → reads ≡ numbered (λ m. cellLine locations) 0 n → (r : Refusal)
           → next splitSheet (cellLine (length part)) (placeAt text c) ≡ stop r
-          → LinesStored mapsAt spaceSize n (HoldsMaps locations) text (nextAll splitSheet reads (placeAt text c₀)) w₀ (put ys) (lines-read.Refused r)
+          → LinesStored mapsAt workSize n (HoldsMaps locations) text (nextAll splitSheet reads (placeAt text c₀)) w₀ (put ys) (lines-read.Refused r)
       map-stop reads q r e = record {
-        answered = turns-stop (λ m. cellLine locations) (HoldsMaps locations) mapsAt spaceSize n text w₀ c₀ w c i t reads q less r (rw (← part-long) e) .answered;
-        changed = changed-then mapsAt spaceSize (t .changed) put-changed;
+        answered = turns-stop (λ m. cellLine locations) (HoldsMaps locations) mapsAt workSize n text w₀ c₀ w c i t reads q less r (rw (← part-long) e) .answered;
+        changed = changed-then mapsAt workSize (t .changed) put-changed;
       }
 
       pub map-turn : (d : Cursor) → next splitSheet (cellLine (length part)) (placeAt text c) ≡ on (ys, placeAt text d) → Placed text d
-          → Turn (λ m. cellLine locations) (HoldsMaps locations) mapsAt spaceSize n text w₀ (placeAt text c₀) (put ys) d (i + 1)
+          → Turn (λ m. cellLine locations) (HoldsMaps locations) mapsAt workSize n text w₀ (placeAt text c₀) (put ys) d (i + 1)
       map-turn d e p =
-          next-turn (λ m. cellLine locations) (HoldsMaps locations) mapsAt spaceSize n text w₀ c₀ w c i t less (put ys) ys d (rw (← part-long) e) p
+          next-turn (λ m. cellLine locations) (HoldsMaps locations) mapsAt workSize n text w₀ c₀ w c i t less (put ys) ys d (rw (← part-long) e) p
           (maps-push locations narrow w (put ys) (t .entries) ys (kept ∙ part-long) i (t .count) (t .stored)
           (filled-changed w at ys (past - at) whole room at past (omega arith) (omega (arith, wide)))
           (filled-region w at ys (past - at) whole room))

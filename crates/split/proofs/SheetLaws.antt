@@ -1,10 +1,10 @@
 -- The whole sheet: its parts one after the other, and what the work space holds once all of them are read.
 use mathlib.Core.Path.{_≡_, refl, sym, ap, subst, _∙_}
 use mathlib.Core.Logic.{inl, inr}
-use mathlib.Core.List.{List, [], _∷_, map}
-use Prim.Native.Nat.{ℕ, zero, suc, _+_, _≤_, _<_}
+use mathlib.Core.List.{List, map}
+use Prim.Native.Nat.{ℕ, _+_, _≤_}
 use native.Mathlib.Omega.{arith}
-use lib.ListN.{length, getD, replicate, length-map}
+use lib.ListN.{replicate, length-map}
 use Rattle.spec.specs.Reading.{splitSheet, Out, _>>=_, Place, nextAll, end}
 use Rattle.spec.specs.Expression.{Step}
 use Rattle.spec.specs.Split.{Map, Header, Row, Split, typeLines, mapLine, rowLine}
@@ -13,46 +13,18 @@ use Rattle.spec.specs.declared.Refusal.{Refusal}
 use Rattle.spec.specs.declared.TypeLine.{TypeLine}
 use Rattle.lexer.specs.Cursors.{Placed, placeAt}
 use Rattle.lexer.specs.declared.Cursor.{Cursor}
-use Rattle.workspace.specs.Layout.{wordsAt, valuesAt, rowTypesAt, presAt, kindsAt, firstsAt, secondsAt, lineAt, mapsAt, spaceSize, codeOf}
+use Rattle.workspace.specs.Layout.{rowTypesAt, presAt, kindsAt, firstsAt, secondsAt, lineAt, mapsAt, workSize}
 use Rattle.workspace.specs.Region.{Region, ChangedWithin}
-use Rattle.workspace.specs.Holds.{HoldsSteps, HoldsSplit}
-use Rattle.workspace.proofs.Codes.{word-of-code}
-use Rattle.workspace.proofs.Region.{region-moved, region-first, region-behind, region-kept, changed-then, changed-wider}
+use Rattle.workspace.specs.Holds.{HoldsSplit}
+use Rattle.workspace.specs.Steps.{stepsFrom}
+use Rattle.workspace.proofs.Region.{region-kept, changed-then, changed-wider}
+use Rattle.workspace.proofs.Steps.{steps-kept}
 use Rattle.workspace.specs.declared.Header.{Header as HeaderRead}
-use Rattle.split.specs.declared.LinesRead.{LinesRead}
-use Rattle.split.specs.declared.LinesRead.the-variants as lines-read
-use Rattle.workspace.specs.Sheets.{headerTold}
-use Rattle.split.specs.Answers.{Small}
-use Rattle.split.specs.Stored.{HoldsTypes, HoldsRows, HoldsMaps, EmptyStored, LinesAnswer, LinesStored, stepAt, stepsFrom}
+use Rattle.lines.specs.declared.LinesRead.{LinesRead}
+use Rattle.lines.specs.declared.LinesRead.the-variants as lines-read
+use Rattle.workspace.specs.Sheets.{headerTold, Small}
+use Rattle.split.specs.Stored.{HoldsTypes, HoldsRows, HoldsMaps, EmptyStored, LinesAnswer, LinesStored}
 use Rattle.split.specs.Sheet.{body, EndAnswer, BodyAnswer, BodyRead}
-
--- ------------------------------------------------------------------ the steps in the work space
-
-step-kept : (w w′ : List ℕ) (k : ℕ) → k < 256 → ChangedWithin rowTypesAt spaceSize w w′ → stepAt w′ k ≡ stepAt w k
-unfolding stepAt
-step-kept w w′ k h x =
-    let a : getD w′ (wordsAt + k) 0 ≡ getD w (wordsAt + k) 0 = x .kept (wordsAt + k) (inl (omega arith)) in
-    let b : getD w′ (valuesAt + k) 0 ≡ getD w (valuesAt + k) 0 = x .kept (valuesAt + k) (inl (omega arith)) in
-    rw (a, b)
-
-steps-kept : (w w′ : List ℕ) (k n : ℕ) → k + n ≤ 256 → ChangedWithin rowTypesAt spaceSize w w′ → stepsFrom w′ k n ≡ stepsFrom w k n
-unfolding stepsFrom
-steps-kept w w′ k zero h x = refl
-steps-kept w w′ k (suc n) h x = rw (step-kept w w′ k (omega arith) x, steps-kept w w′ (k + 1) n (omega arith) x)
-
--- the steps that the work space holds are those that it is read for
-steps-from : (w : List ℕ) (k : ℕ) (steps : List Step) → Region w (wordsAt + k) (map (λ (s : Step). codeOf (s .word)) steps)
-    → Region w (valuesAt + k) (map (λ (s : Step). s .value) steps) → stepsFrom w k (length steps) ≡ steps
-unfolding stepsFrom stepAt
-steps-from w k [] r q = refl
-steps-from w k (s ∷ steps) r q =
-    let a : wordsAt + k + 1 ≡ wordsAt + (k + 1) = omega arith in
-    let b : valuesAt + k + 1 ≡ valuesAt + (k + 1) = omega arith in
-    rw (region-first r, region-first q, word-of-code (s .word))
-    (ap (λ (l : List Step). s ∷ l) (steps-from w (k + 1) steps (region-moved _ _ a (region-behind r)) (region-moved _ _ b (region-behind q))))
-
-pub steps-held : (w : List ℕ) (steps : List Step) (n : ℕ) → HoldsSteps w steps → length steps ≡ n → stepsFrom w 0 n ≡ steps
-steps-held w steps n h e = rw (← e) (steps-from w 0 steps (h .words) (h .values))
 
 -- ------------------------------------------------------------------ the lines behind the header
 
@@ -68,8 +40,8 @@ module _ (purpose : Purpose) (h : HeaderRead) (small : Small h) (n : ℕ) (few :
     abbrev types-out : Out (List TypeLine × Place)
     types-out = nextAll splitSheet (typeLines H 0 (h .types)) (placeAt text c)
 
-    changed-one : ChangedWithin rowTypesAt spaceSize w w₁
-    changed-one = changed-wider rowTypesAt spaceSize (omega arith) (omega arith) (read-types .changed)
+    changed-one : ChangedWithin rowTypesAt workSize w w₁
+    changed-one = changed-wider rowTypesAt workSize (omega arith) (omega arith) (read-types .changed)
 
     pub types-stop : (r : Refusal) → types ≡ lines-read.Refused r → BodyRead purpose H n (placeAt text c) w w₁ types
     unfolding body headerTold _>>=_
@@ -88,9 +60,9 @@ module _ (purpose : Purpose) (h : HeaderRead) (small : Small h) (n : ℕ) (few :
       abbrev maps-out : Out (List Map × Place)
       maps-out = nextAll splitSheet (replicate (h .maps) (mapLine H)) (placeAt text c₂)
 
-      module _ (w₂ : List ℕ) (maps : LinesRead) (read-maps : LinesStored mapsAt spaceSize (h .maps) (HoldsMaps (h .locations)) text maps-out w₁ w₂ maps) where
-        changed-two : ChangedWithin rowTypesAt spaceSize w w₂
-        changed-two = changed-then rowTypesAt spaceSize changed-one (changed-wider rowTypesAt spaceSize (omega arith) (omega arith) (read-maps .changed))
+      module _ (w₂ : List ℕ) (maps : LinesRead) (read-maps : LinesStored mapsAt workSize (h .maps) (HoldsMaps (h .locations)) text maps-out w₁ w₂ maps) where
+        changed-two : ChangedWithin rowTypesAt workSize w w₂
+        changed-two = changed-then rowTypesAt workSize changed-one (changed-wider rowTypesAt workSize (omega arith) (omega arith) (read-maps .changed))
 
         pub maps-stop : (r : Refusal) → maps ≡ lines-read.Refused r → BodyRead purpose H n (placeAt text c) w w₂ maps
         unfolding body headerTold _>>=_
@@ -114,14 +86,14 @@ module _ (purpose : Purpose) (h : HeaderRead) (small : Small h) (n : ℕ) (few :
             abbrev rows-out : Out (List Row × Place)
             rows-out = rows-from v
 
-            changed-empty : ChangedWithin rowTypesAt spaceSize w v
-            changed-empty = changed-then rowTypesAt spaceSize changed-two (changed-wider rowTypesAt spaceSize (omega arith) (omega arith) (emptied .changed))
+            changed-empty : ChangedWithin rowTypesAt workSize w v
+            changed-empty = changed-then rowTypesAt workSize changed-two (changed-wider rowTypesAt workSize (omega arith) (omega arith) (emptied .changed))
 
-            changed-three : ChangedWithin rowTypesAt spaceSize w w₃
-            changed-three = changed-then rowTypesAt spaceSize changed-empty (changed-wider rowTypesAt spaceSize (omega arith) (omega arith) (read-rows .changed))
+            changed-three : ChangedWithin rowTypesAt workSize w w₃
+            changed-three = changed-then rowTypesAt workSize changed-empty (changed-wider rowTypesAt workSize (omega arith) (omega arith) (read-rows .changed))
 
             same-rows : nextAll splitSheet (map (rowLine purpose H) (stepsFrom w 0 n)) (placeAt text c₃) ≡ rows-out
-            same-rows = ap (λ (l : List Step). nextAll splitSheet (map (rowLine purpose H) l) (placeAt text c₃)) (sym (steps-kept w v 0 n (omega arith) changed-empty))
+            same-rows = ap (λ (l : List Step). nextAll splitSheet (map (rowLine purpose H) l) (placeAt text c₃)) (sym (steps-kept changed-empty (omega arith) 0 n (omega arith)))
 
             pub rows-stop : (r : Refusal) → rows ≡ lines-read.Refused r → BodyRead purpose H n (placeAt text c) w w₃ rows
             unfolding body headerTold _>>=_

@@ -14,10 +14,11 @@ use Rattle.spec.proofs.Reading.{front, front-none, all-stop, all-on, all-done}
 use Rattle.lexer.specs.Cursors.{Placed, placeAt}
 use Rattle.lexer.specs.declared.Cursor.{Cursor}
 use Rattle.workspace.specs.Region.{ChangedWithin}
+use Rattle.workspace.specs.Steps.{stepAt, stepsFrom}
 use Rattle.workspace.proofs.Region.{changed-nothing, changed-then}
-use Rattle.split.specs.Lines.{cells, cellLine, wordLine}
-use Rattle.split.specs.Stored.{stepAt, stepsFrom, LinesStored}
-use Rattle.split.specs.declared.LinesRead.the-variants as lines-read
+use Rattle.lines.specs.Lines.{cells, cellLine, wordLine}
+use Rattle.split.specs.Stored.{LinesStored}
+use Rattle.lines.specs.declared.LinesRead.the-variants as lines-read
 
 -- ------------------------------------------------------------------ ways of reading, by number
 

@@ -1,21 +1,21 @@
 -- What lines leave in the work space, and what the answers of the readers of many lines mean.
 use mathlib.Core.Path.{_≡_}
-use mathlib.Core.List.{List, [], _∷_, map}
-use Prim.Native.Nat.{ℕ, suc, zero, _+_, _*_, _<_}
+use mathlib.Core.List.{List, [], map}
+use Prim.Native.Nat.{ℕ, _+_, _*_, _<_}
 use lib.ListN.{length, getD, replicate}
 use Rattle.spec.specs.Reading.{splitSheet, Out, stop, on, Place, nextAll}
-use Rattle.spec.specs.Expression.{Step}
 use Rattle.spec.specs.Split.{Map, Row, typeLines, mapLine, rowLine}
 use Rattle.spec.specs.declared.Purpose.{Purpose}
 use Rattle.spec.specs.declared.TypeLine.{TypeLine}
 use Rattle.lexer.specs.Cursors.{Placed, placeAt}
 use Rattle.lexer.specs.declared.Cursor.{Cursor}
-use Rattle.workspace.specs.Layout.{wordsAt, valuesAt, rowTypesAt, presAt, kindsAt, lineAt, mapsAt, stride, emptyMap, emptyRowAt, spaceSize, wordOf, kindOf, firstOf, secondOf}
+use Rattle.workspace.specs.Layout.{rowTypesAt, presAt, kindsAt, lineAt, mapsAt, stride, emptyMap, emptyRowAt, workSize, kindOf, firstOf, secondOf}
 use Rattle.workspace.specs.Region.{Region, ChangedWithin}
 use Rattle.workspace.specs.Holds.{startNumber}
+use Rattle.workspace.specs.Steps.{stepsFrom}
 use Rattle.workspace.specs.declared.Header.{Header}
-use Rattle.split.specs.declared.LinesRead.{LinesRead}
-use Rattle.split.specs.declared.LinesRead.the-variants as lines-read
+use Rattle.lines.specs.declared.LinesRead.{LinesRead}
+use Rattle.lines.specs.declared.LinesRead.the-variants as lines-read
 use Rattle.workspace.specs.Sheets.{headerTold}
 
 -- three numbers of each entry, in three columns with room for so many rows, one behind the other
@@ -50,16 +50,6 @@ pub record LinesStored {A : Type 0} (a b n : ℕ) (Stored : List ℕ → List A 
   pub answered : LinesAnswer n (Stored w′) text out answer
   pub changed : ChangedWithin a b w w′
 
--- ------------------------------------------------------------------ the steps in the work space
-
-unfoldable pub stepAt : List ℕ → ℕ → Step
-stepAt w k = record { word = wordOf (getD w (wordsAt + k) 0); value = getD w (valuesAt + k) 0 }
-
--- n steps from index k on
-unfoldable pub stepsFrom : List ℕ → (k n : ℕ) → List Step
-stepsFrom w k zero = []
-stepsFrom w k (suc n) = stepAt w k ∷ stepsFrom w (k + 1) n
-
 -- ------------------------------------------------------------------ what the three loops over lines leave and answer
 
 -- the type lines from a cursor on
@@ -70,7 +60,7 @@ TypesRead text c h w w′ answer =
 -- the map lines
 abbrev pub MapsRead : List ℕ → Cursor → Header → (w w′ : List ℕ) → LinesRead → Type 0
 MapsRead text c h w w′ answer =
-    LinesStored mapsAt spaceSize (h .maps) (HoldsMaps (h .locations)) text (nextAll splitSheet (replicate (h .maps) (mapLine (headerTold h))) (placeAt text c)) w w′ answer
+    LinesStored mapsAt workSize (h .maps) (HoldsMaps (h .locations)) text (nextAll splitSheet (replicate (h .maps) (mapLine (headerTold h))) (placeAt text c)) w w′ answer
 
 -- the rows of the first n steps in the work space
 abbrev pub RowsRead : Purpose → List ℕ → Cursor → Header → (n : ℕ) → (w w′ : List ℕ) → LinesRead → Type 0

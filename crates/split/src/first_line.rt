@@ -1,9 +1,9 @@
 // Line 1 of the split sheet: `C,D,L,T,M`, `C2,D,L,T,M,r` or `C3,D,L,T,M,r`.
-use crate::LARGEST;
-use crate::fields::Head;
-use crate::fields::first_field;
 use lexer::Cursor;
 use lexer::Numbers;
+use lines::Head;
+use lines::LARGEST;
+use lines::first_field;
 use spec::Heading;
 use spec::MapNumber;
 use spec::Purpose;
@@ -17,8 +17,8 @@ ghost use Rattle.spec.specs.Split.{headings, headerLine};
 ghost use Rattle.lexer.specs.Views.{nothing};
 ghost use Rattle.lexer.specs.Cursors.{rest, placeAt};
 ghost use Rattle.workspace.specs.Sheets.{headerTold};
-ghost use Rattle.split.specs.Lines.{headingFound, numeralsOf, headerFits};
-ghost use Rattle.split.specs.Answers.{Reading, NumbersAnswer, HeaderAnswer};
+ghost use Rattle.lines.specs.Answers.{Reading};
+ghost use Rattle.split.specs.Header.{headingFound, numeralsOf, headerFits, NumbersAnswer, HeaderAnswer};
 
 // How many locations, types and maps a sheet can have.
 const MOST_LOCATIONS: usize = 16;

@@ -5,8 +5,9 @@ use Rattle.spec.specs.Text.{lookUp}
 use Rattle.spec.specs.Split.{headings}
 use Rattle.lexer.specs.Cursors.{rest}
 use Rattle.lexer.proofs.Walks.{left-some}
-use Rattle.split.specs.Answers.{HeadAnswer, NumbersAnswer}
-use Rattle.split.proofs.LineLaws.{comma-placed}
+use Rattle.lines.specs.Answers.{HeadAnswer}
+use Rattle.split.specs.Header.{NumbersAnswer}
+use Rattle.lines.proofs.LineLaws.{comma-placed}
 use Rattle.split.proofs.HeaderLaws.{heading-known, heading-unknown, header-small, no-comma, no-header, header-form, header-range, header-on}
 use borrow.Author.Needs.{needs}
 use Rattle.split.proofs.first_line.header_line.Statement.{statement}

@@ -6,10 +6,10 @@ use native.Mathlib.Omega.{arith}
 use lib.ListN.{length, take, drop}
 use Rattle.spec.specs.Reading.{splitSheet, next}
 use Rattle.lexer.specs.Cursors.{placeAt}
-use Rattle.workspace.specs.Layout.{mapsAt, stride, spaceSize}
+use Rattle.workspace.specs.Layout.{mapsAt, stride, workSize}
 use Rattle.workspace.specs.Sheets.{headerTold}
-use Rattle.split.specs.Lines.{cellLine}
-use Rattle.split.specs.Answers.{MapAnswer}
+use Rattle.lines.specs.Lines.{cellLine}
+use Rattle.lines.specs.Answers.{MapAnswer}
 use Rattle.split.specs.Stored.{HoldsMaps}
 use Rattle.split.proofs.Turns.{Turn, first-turn, turns-end, maps-numbered}
 use Rattle.split.proofs.Stores.{maps-empty}
@@ -18,7 +18,7 @@ use Rattle.split.proofs.map_lines.read_maps.Statement.{statement}
 use Rattle.split.proofs.map_lines.read_maps.Tie as tie
 
 abbrev Inv-loop : tie.InvT-loop
-Inv-loop text work₀ locations maps cursor₀ m₀ work cursor m = Turn (λ i. cellLine locations) (HoldsMaps locations) mapsAt spaceSize maps text work₀ (placeAt text cursor₀) work cursor m
+Inv-loop text work₀ locations maps cursor₀ m₀ work cursor m = Turn (λ i. cellLine locations) (HoldsMaps locations) mapsAt workSize maps text work₀ (placeAt text cursor₀) work cursor m
 
 abbrev μ-loop : tie.MeasureT-loop
 μ-loop text work₀ locations maps cursor₀ m₀ work cursor m = maps - m
@@ -26,7 +26,7 @@ abbrev μ-loop : tie.MeasureT-loop
 loop-holds : tie.Need-loop-holds Inv-loop μ-loop
 loop-holds c =
     let entry = c .before .before in
-    first-turn (λ i. cellLine (entry .args .header .locations)) (HoldsMaps (entry .args .header .locations)) mapsAt spaceSize (entry .args .header .maps) (entry .args .text .now) (entry .args .work .now) (entry .args .from) (maps-empty (entry .args .header .locations) (entry .args .work .now)) (entry .pre .0 .placed)
+    first-turn (λ i. cellLine (entry .args .header .locations)) (HoldsMaps (entry .args .header .locations)) mapsAt workSize (entry .args .header .maps) (entry .args .text .now) (entry .args .work .now) (entry .args .from) (maps-empty (entry .args .header .locations) (entry .args .work .now)) (entry .pre .0 .placed)
 
 mul-first : tie.Need-mul-first Inv-loop μ-loop
 mul-first c = search needs
@@ -117,7 +117,7 @@ unfolding headerTold
 returns-2 c =
     let turn = c .before in
     let entry = turn .before .before .before in
-    turns-end (λ i. cellLine (entry .args .header .locations)) (HoldsMaps (entry .args .header .locations)) mapsAt spaceSize (entry .args .header .maps) (entry .args .text .now) (entry .args .work .now) (entry .args .from) (turn .loop .work) (turn .loop .cursor) (turn .loop .m) (turn .loop .inv) _ (maps-numbered (headerTold (entry .args .header)) 0 (entry .args .header .maps)) (c .loop-test .left)
+    turns-end (λ i. cellLine (entry .args .header .locations)) (HoldsMaps (entry .args .header .locations)) mapsAt workSize (entry .args .header .maps) (entry .args .text .now) (entry .args .work .now) (entry .args .from) (turn .loop .work) (turn .loop .cursor) (turn .loop .m) (turn .loop .inv) _ (maps-numbered (headerTold (entry .args .header)) 0 (entry .args .header .maps)) (c .loop-test .left)
 
 pub read-maps-spec : {M : Type 1} → statement M
 read-maps-spec =

@@ -9,9 +9,10 @@ use Rattle.lexer.specs.Cursors.{placeAt}
 use Rattle.workspace.specs.Layout.{rowTypesAt, presAt}
 use Rattle.workspace.specs.Holds.{startNumber}
 use Rattle.workspace.specs.Sheets.{headerTold}
-use Rattle.split.specs.Lines.{wordLine, rowTold}
-use Rattle.split.specs.Answers.{RowAnswer}
-use Rattle.split.specs.Stored.{HoldsRows, stepAt}
+use Rattle.workspace.specs.Steps.{stepAt}
+use Rattle.lines.specs.Lines.{wordLine, rowTold}
+use Rattle.lines.specs.Answers.{RowAnswer}
+use Rattle.split.specs.Stored.{HoldsRows}
 use Rattle.split.proofs.Turns.{Turn, first-turn, turns-stop, turns-end, rows-numbered}
 use Rattle.split.proofs.Stores.{columns-empty}
 use Rattle.split.proofs.Loops.{columns-turn, row-here}

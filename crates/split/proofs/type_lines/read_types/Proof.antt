@@ -8,7 +8,7 @@ use Rattle.spec.specs.Split.{typeLine}
 use Rattle.lexer.specs.Cursors.{placeAt}
 use Rattle.workspace.specs.Layout.{kindsAt, lineAt, kindOf, firstOf, secondOf}
 use Rattle.workspace.specs.Sheets.{headerTold}
-use Rattle.split.specs.Answers.{TypeAnswer}
+use Rattle.lines.specs.Answers.{TypeAnswer}
 use Rattle.split.specs.Stored.{HoldsTypes}
 use Rattle.split.proofs.Turns.{Turn, first-turn, turns-stop, turns-end, types-numbered}
 use Rattle.split.proofs.Stores.{columns-empty}
