@@ -116,7 +116,7 @@ module _ (purpose : Purpose) (H : Header) (w : Word) (text : List ℕ) (c : Curs
     abbrev behind-one : List Field → Seen Row
     behind-one fs = wordLine purpose H w (firstField (rest text c) ∷ fs)
 
-    pub second-placed : Placed text c₂
+    second-placed : Placed text c₂
     second-placed = comma-placed text c c₂ p (lead .1) (lead .2)
 
     peeled : out ≡ shown behind-one (c .line + 1) (lineAt (rest text c₂))
@@ -139,7 +139,7 @@ module _ (purpose : Purpose) (H : Header) (w : Word) (text : List ℕ) (c : Curs
       abbrev behind-two : List Field → Seen Row
       behind-two fs = wordLine purpose H w (firstField (rest text c) ∷ firstField (rest text c₂) ∷ fs)
 
-      pub third-placed : Placed text c₃
+      third-placed : Placed text c₃
       third-placed = comma-placed text c₂ c₃ second-placed (lead₂ .1) (lead₂ .2)
 
       peeled-two : out ≡ shown behind-two (c .line + 1) (lineAt (rest text c₃))

@@ -26,9 +26,12 @@ use Rattle.lexer.specs.declared.vocabulary.TypeWord.the-variants as kind
 use Rattle.lexer.proofs.Walks.{first-wrong, first-alone}
 use Rattle.lexer.proofs.Stored.{Narrow, AllNarrow}
 use Rattle.lexer.proofs.Ranges.{tail-form, tail-read}
+use Rattle.lines.specs.declared.types.TypeRead.{TypeRead}
+use Rattle.lines.specs.declared.types.TypeRead.the-variants as type-read
 use Rattle.lines.specs.declared.types.TypeSeen.{TypeSeen}
 use Rattle.lines.specs.declared.types.TypeSeen.the-variants as type-seen
 use Rattle.lines.specs.Lines.{rangedType, lockSeen, typeSeen, typeTold}
+use Rattle.lines.specs.Answers.{TypeAnswer}
 use Rattle.lexer.proofs.TypeLines.{ofKind, type-line as kind-line}
 use Rattle.lexer.proofs.Sheets.{next-at}
 use Rattle.lexer.proofs.LineEnds.{LineRead}
@@ -68,6 +71,12 @@ seen-ranged rs f ns = go (allInRange rs ns)
     go false = refl
 
 -- ------------------------------------------------------------------ the line
+
+-- what is answered to a line whose word and numbers come to this, with the cursor behind it
+unfoldable pub typeAnswer : TypeSeen → (line : ℕ) → Cursor → TypeRead
+typeAnswer (type-seen.Right t) k d = type-read.Read t d
+typeAnswer type-seen.BadForm k d = type-read.Refused (SplitForm k)
+typeAnswer type-seen.BadRange k d = type-read.Refused (SplitRange k)
 
 module _ (H : Header) (own : ℕ) (text : List ℕ) (c : Cursor) (some-left : 0 < length (rest text c)) where
   pub no-comma : (endOf (rest text c) ≡ Comma → ⊥) → next splitSheet (typeLine H own) (placeAt text c) ≡ stop (SplitForm (c .line + 1))
@@ -132,15 +141,9 @@ module _ (H : Header) (own : ℕ) (text : List ℕ) (c : Cursor) (some-left : 0 
           ∙ ap (λ (l : List ℕ). passed splitSheet (c .line + 1) (lines (rest text e)) (typeTold (typeSeen k H own l))) (two ns (h .long))
           ∙ ap (λ (x : TypeSeen). passed splitSheet (c .line + 1) (lines (rest text e)) (typeTold x)) (sym told)
 
-      pub type-on : (t : TypeLine) → s ≡ type-seen.Right t → next splitSheet (typeLine H own) (placeAt text c) ≡ on (t, placeAt text e)
-      unfolding typeTold
-      type-on t q =
-          reads ∙ shows-entry text c e t (ap typeTold q) (h .line ∙ ap (λ (k : ℕ). k + 1) (comma-kept text c d p comma is))
-
-      pub type-unknown : s ≡ type-seen.BadForm → next splitSheet (typeLine H own) (placeAt text c) ≡ stop (SplitForm (c .line + 1))
-      unfolding typeTold
-      type-unknown q = reads ∙ shows-form (c .line + 1) (lines (rest text e)) (ap typeTold q)
-
-      pub type-range : s ≡ type-seen.BadRange → next splitSheet (typeLine H own) (placeAt text c) ≡ stop (SplitRange (c .line + 1))
-      unfolding typeTold
-      type-range q = reads ∙ shows-range (c .line + 1) (lines (rest text e)) (ap typeTold q)
+      pub type-answered : (x : TypeSeen) → s ≡ x → TypeAnswer text (next splitSheet (typeLine H own) (placeAt text c)) (typeAnswer x (c .line + 1) e)
+      unfolding typeTold typeAnswer
+      type-answered (type-seen.Right t) q =
+          (reads ∙ shows-entry text c e t (ap typeTold q) (h .line ∙ ap (λ (k : ℕ). k + 1) (comma-kept text c d p comma is)), h .placed)
+      type-answered type-seen.BadForm q = reads ∙ shows-form (c .line + 1) (lines (rest text e)) (ap typeTold q)
+      type-answered type-seen.BadRange q = reads ∙ shows-range (c .line + 1) (lines (rest text e)) (ap typeTold q)

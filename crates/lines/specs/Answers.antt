@@ -3,7 +3,7 @@ use mathlib.Core.Path.{_≡_}
 use mathlib.Core.Logic.{_⊎_}
 use mathlib.Core.List.{List, [], _∷_}
 use mathlib.Core.Option.{none, some}
-use Prim.Native.Nat.{ℕ, _≤_, _-_}
+use Prim.Native.Nat.{ℕ, _≤_, _<_, _-_}
 use lib.ListN.{length, take, drop}
 use Rattle.spec.specs.Text.{Field, numeral}
 use Rattle.spec.specs.Reading.{Out, stop, on, Place}
@@ -16,6 +16,8 @@ use Rattle.lexer.specs.Cursors.{Placed, rest, next, placeAt}
 use Rattle.lexer.specs.Numbers.{Spells}
 use Rattle.lexer.specs.declared.Cursor.{Cursor}
 use Rattle.lexer.specs.declared.FieldEnd.the-variants.{Comma, Newline}
+use Rattle.workspace.specs.declared.Header.{Header as HeaderRead}
+use Rattle.workspace.specs.Sheets.{Small}
 use Rattle.lines.specs.declared.types.TypeRead.{TypeRead}
 use Rattle.lines.specs.declared.types.TypeRead.the-variants as type-read
 use Rattle.lines.specs.declared.rows.RowRead.{RowRead}
@@ -34,6 +36,17 @@ use Rattle.lines.specs.Lines.{rowTold}
 pub record Reading (text : List ℕ) (c : Cursor) : Type 0 where
   pub placed : Placed text c
   pub fits : length text ≤ 65536
+
+-- a cursor where the line of the type with the number own may stand, in a sheet with this header
+pub record AtType (text : List ℕ) (c : Cursor) (h : HeaderRead) (own : ℕ) : Type 0 where
+  pub reading : Reading text c
+  pub small : Small h
+  pub numbered : own < 64
+
+-- a cursor where a row may stand
+pub record AtRow (text : List ℕ) (c : Cursor) (h : HeaderRead) : Type 0 where
+  pub reading : Reading text c
+  pub small : Small h
 
 -- ------------------------------------------------------------------ fields
 

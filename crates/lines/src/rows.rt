@@ -18,9 +18,9 @@ ghost use mathlib.Core.Path.{_≡_};
 ghost use Rattle.spec.specs.Reading.{splitSheet, next};
 ghost use Rattle.spec.specs.Split.{takesStart, mayBeEmpty};
 ghost use Rattle.lexer.specs.Cursors.{placeAt};
-ghost use Rattle.workspace.specs.Sheets.{headerTold, Small};
+ghost use Rattle.workspace.specs.Sheets.{headerTold};
 ghost use Rattle.lines.specs.Lines.{wordLine, startLimit, rowMade, rowRanged};
-ghost use Rattle.lines.specs.Answers.{Reading, RowAnswer};
+ghost use Rattle.lines.specs.Answers.{AtRow, RowAnswer};
 
 // What a row says of the map that a body starts with: which, or nothing.
 pub enum RowStart {
@@ -117,8 +117,14 @@ fn row_of(line: u32, row: Row, word: Word, header: Header, next: Cursor) -> RowR
 }
 
 // The line `t,m,s` at a cursor, of a step with this word.
-pub fn row_line(text: &[u8], cursor: Cursor, purpose: Purpose, word: Word, header: Header) -> RowRead
-    requires { ⌜ Reading (now text) cursor × Small header ⌝ }
+pub fn row_line(
+    text: &[u8],
+    cursor: Cursor,
+    purpose: Purpose,
+    word: Word,
+    header: Header,
+) -> RowRead
+    requires { ⌜ AtRow (now text) cursor header ⌝ }
     ensures { λ r. ⌜ RowAnswer (now (text .entry)) (next splitSheet (wordLine purpose (headerTold header) word) (placeAt (now (text .entry)) cursor)) r ⌝ }
 {
     if cursor.at_end(text) {

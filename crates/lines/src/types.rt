@@ -13,14 +13,13 @@ use spec::TypeNumber;
 use workspace::Header;
 ghost use mathlib.Core.Path.{_≡_};
 ghost use mathlib.Core.List.{[], _∷_};
-ghost use Prim.Native.Nat.{_<_};
 ghost use Rattle.spec.specs.Reading.{splitSheet, below, allInRange, next};
 ghost use Rattle.spec.specs.Split.{typeLine};
 ghost use Rattle.spec.specs.declared.Heading.the-variants.{C2};
 ghost use Rattle.lexer.specs.Cursors.{placeAt};
-ghost use Rattle.workspace.specs.Sheets.{headerTold, Small};
+ghost use Rattle.workspace.specs.Sheets.{headerTold};
 ghost use Rattle.lines.specs.Lines.{rangedType, lockSeen, typeSeen};
-ghost use Rattle.lines.specs.Answers.{Reading, TypeAnswer};
+ghost use Rattle.lines.specs.Answers.{AtType, TypeAnswer};
 
 // A type and the cursor behind its line, or the reason to stop.
 pub enum TypeRead {
@@ -105,7 +104,7 @@ fn type_of(kind: TypeWord, first: u32, second: u32, own: usize, header: Header) 
 
 // The line of the type with the number `own`, at a cursor.
 pub fn type_line(text: &[u8], cursor: Cursor, own: usize, header: Header) -> TypeRead
-    requires { ⌜ Reading (now text) cursor × Small header × (own < 64) ⌝ }
+    requires { ⌜ AtType (now text) cursor header own ⌝ }
     ensures { λ r. ⌜ TypeAnswer (now (text .entry)) (next splitSheet (typeLine (headerTold header) own) (placeAt (now (text .entry)) cursor)) r ⌝ }
 {
     if cursor.at_end(text) {

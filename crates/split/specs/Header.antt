@@ -1,7 +1,7 @@
 -- Line 1 of a split sheet, as its reader sees it, and what the reader's answers mean.
 use mathlib.Core.Path.{_≡_}
 use mathlib.Core.List.{List, [], _∷_}
-use mathlib.Core.Bool.{Bool}
+use mathlib.Core.Bool.{Bool, false}
 use mathlib.Core.Option.{Option, none, some}
 use Prim.Native.Nat.{ℕ, _+_}
 use lib.ListN.{length}
@@ -9,10 +9,12 @@ use Rattle.spec.specs.Reading.{Out, stop, on, Place, allInRange}
 use Rattle.spec.specs.Split.{Header, headerRanges, headerOf}
 use Rattle.spec.specs.declared.Heading.{Heading}
 use Rattle.spec.specs.declared.Heading.the-variants.{C2}
+use Rattle.lexer.specs.Views.{nothing}
 use Rattle.lexer.specs.Cursors.{Placed, rest, placeAt}
 use Rattle.lexer.specs.Numbers.{numbersAt}
 use Rattle.lexer.specs.declared.Cursor.{Cursor}
 use Rattle.workspace.specs.Sheets.{headerTold, Small}
+use Rattle.lines.specs.Answers.{Reading}
 use Rattle.split.specs.declared.first_line.FoundHeading.{FoundHeading}
 use Rattle.split.specs.declared.first_line.FoundHeading.the-variants as found-heading
 use Rattle.split.specs.declared.first_line.FoundHeader.{FoundHeader}
@@ -23,6 +25,11 @@ use Rattle.split.specs.declared.first_line.HeaderLine.the-variants as he
 unfoldable pub headingFound : Option Heading → FoundHeading
 headingFound none = found-heading.Unknown
 headingFound (some h) = found-heading.Known h
+
+-- a cursor where line 1 stands
+pub record AtHeader (text : List ℕ) (c : Cursor) : Type 0 where
+  pub reading : Reading text c
+  pub some : nothing (rest text c) ≡ false
 
 -- how many numerals stand behind a heading
 unfoldable pub numeralsOf : Heading → ℕ

@@ -1,7 +1,7 @@
 -- What the answer to a whole split sheet means.
 use mathlib.Core.Path.{_≡_}
 use mathlib.Core.List.{List, map}
-use Prim.Native.Nat.{ℕ}
+use Prim.Native.Nat.{ℕ, _≤_}
 use lib.ListN.{length, replicate}
 use Rattle.spec.specs.Reading.{splitSheet, Out, stop, on, _>>=_, Place, nextAll, end}
 use Rattle.spec.specs.Expression.{Step}
@@ -16,6 +16,12 @@ use Rattle.lines.specs.declared.LinesRead.the-variants as lines-read
 use Rattle.split.specs.declared.Sheet.{Sheet}
 use Rattle.split.specs.declared.Sheet.the-variants as sheet
 use Rattle.workspace.specs.Sheets.{headerTold, Small}
+
+-- a text that the limit lets through, as many steps as a program may have, and a work space to store a sheet in
+pub record Readable (text : List ℕ) (steps : ℕ) (w : List ℕ) : Type 0 where
+  pub short : length text ≤ 65536
+  pub few : steps ≤ 256
+  pub whole : length w ≡ workSize
 
 -- the lines behind the header
 unfoldable pub body : Purpose → Header → List Step → Place → Out Split

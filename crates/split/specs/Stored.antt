@@ -1,7 +1,7 @@
 -- What lines leave in the work space, and what the answers of the readers of many lines mean.
 use mathlib.Core.Path.{_≡_}
 use mathlib.Core.List.{List, [], map}
-use Prim.Native.Nat.{ℕ, _+_, _*_, _<_}
+use Prim.Native.Nat.{ℕ, _+_, _*_, _<_, _≤_}
 use lib.ListN.{length, getD, replicate}
 use Rattle.spec.specs.Reading.{splitSheet, Out, stop, on, Place, nextAll}
 use Rattle.spec.specs.Split.{Map, Row, typeLines, mapLine, rowLine}
@@ -16,7 +16,8 @@ use Rattle.workspace.specs.Steps.{stepsFrom}
 use Rattle.workspace.specs.declared.Header.{Header}
 use Rattle.lines.specs.declared.LinesRead.{LinesRead}
 use Rattle.lines.specs.declared.LinesRead.the-variants as lines-read
-use Rattle.workspace.specs.Sheets.{headerTold}
+use Rattle.workspace.specs.Sheets.{headerTold, Small}
+use Rattle.lines.specs.Answers.{Reading}
 
 -- three numbers of each entry, in three columns with room for so many rows, one behind the other
 pub record Columns {A : Type 0} (f g h : A → ℕ) (b rows : ℕ) (w : List ℕ) (entries : List A) : Type 0 where
@@ -39,6 +40,17 @@ pub record HoldsMaps (locations : ℕ) (w : List ℕ) (ms : List Map) : Type 0 w
 pub record EmptyStored (w w′ : List ℕ) : Type 0 where
   pub empty : Region w′ (mapsAt + stride * emptyMap) (replicate stride 0)
   pub changed : ChangedWithin emptyRowAt (emptyRowAt + stride) w w′
+
+-- a cursor behind which lines of a sheet with this header may stand, and a work space to store them in
+pub record Storing (text : List ℕ) (c : Cursor) (h : Header) (w : List ℕ) : Type 0 where
+  pub reading : Reading text c
+  pub small : Small h
+  pub whole : length w ≡ workSize
+
+-- the same, with rows of so many steps among them
+pub record StoringRows (text : List ℕ) (c : Cursor) (h : Header) (steps : ℕ) (w : List ℕ) : Type 0 where
+  pub storing : Storing text c h w
+  pub few : steps ≤ 256
 
 -- n lines read one after the other: what they say is in the work space
 abbrev pub LinesAnswer : {A : Type 0} → (n : ℕ) → (Stored : List A → Type 0) → List ℕ → Out (List A × Place) → LinesRead → Type 0

@@ -17,15 +17,14 @@ use workspace::EMPTY_ROW;
 use workspace::Header;
 use workspace::STRIDE;
 ghost use mathlib.Core.Path.{_≡_};
-ghost use Prim.Native.Nat.{_≤_};
 ghost use lib.ListN.{length};
 ghost use Rattle.spec.specs.Reading.{splitSheet, end};
 ghost use Rattle.lexer.specs.Cursors.{placeAt};
 ghost use Rattle.workspace.specs.Layout.{workSize};
-ghost use Rattle.workspace.specs.Sheets.{headerTold, Small};
+ghost use Rattle.workspace.specs.Sheets.{headerTold};
 ghost use Rattle.lines.specs.Answers.{Reading};
-ghost use Rattle.split.specs.Stored.{EmptyStored};
-ghost use Rattle.split.specs.Sheet.{EndAnswer, BodyRead, SplitRead};
+ghost use Rattle.split.specs.Stored.{StoringRows, EmptyStored};
+ghost use Rattle.split.specs.Sheet.{Readable, EndAnswer, BodyRead, SplitRead};
 
 // The header of a sheet that is in the work space, or the reason to stop.
 pub enum Sheet {
@@ -63,7 +62,7 @@ fn read_body(
     steps: usize,
     work: &mut [u32],
 ) -> LinesRead
-    requires { ⌜ Reading (now text) from × Small header × (steps ≤ 256) × (length (now work) ≡ workSize) ⌝ }
+    requires { ⌜ StoringRows (now text) from header steps (now work) ⌝ }
     ensures { λ r. ⌜ BodyRead purpose (headerTold header) steps (placeAt (now (text .entry)) from) (now (work .entry)) (now (work .exit)) r ⌝ }
 {
     let types = read_types(text, from, header, work);
@@ -84,7 +83,7 @@ fn read_body(
 
 // Reads a split sheet, to check or to fill, for the steps of the program that the work space holds.
 pub fn read(text: &[u8], purpose: Purpose, steps: usize, work: &mut [u32]) -> Sheet
-    requires { ⌜ (length (now text) ≤ 65536) × (steps ≤ 256) × (length (now work) ≡ workSize) ⌝ }
+    requires { ⌜ Readable (now text) steps (now work) ⌝ }
     ensures { λ r. ⌜ SplitRead purpose (now (text .entry)) steps (now (work .entry)) (now (work .exit)) r ⌝ }
 {
     let top = Cursor::start();

@@ -5,16 +5,11 @@ use lines::map_line;
 use workspace::Header;
 use workspace::MAPS;
 use workspace::STRIDE;
-ghost use mathlib.Core.Path.{_≡_};
-ghost use lib.ListN.{length};
-ghost use Rattle.workspace.specs.Layout.{workSize};
-ghost use Rattle.workspace.specs.Sheets.{Small};
-ghost use Rattle.lines.specs.Answers.{Reading};
-ghost use Rattle.split.specs.Stored.{MapsRead};
+ghost use Rattle.split.specs.Stored.{Storing, MapsRead};
 
 // The map lines, from a cursor on.
 pub(crate) fn read_maps(text: &[u8], from: Cursor, header: Header, work: &mut [u32]) -> LinesRead
-    requires { ⌜ Reading (now text) from × Small header × (length (now work) ≡ workSize) ⌝ }
+    requires { ⌜ Storing (now text) from header (now work) ⌝ }
     ensures { λ r. ⌜ MapsRead (now (text .entry)) from header (now (work .entry)) (now (work .exit)) r ⌝ }
 {
     let locations = header.locations;

@@ -13,14 +13,12 @@ use workspace::ROW_TYPES;
 use workspace::STARTS;
 use workspace::WORDS;
 ghost use mathlib.Core.Path.{_≡_};
-ghost use Prim.Native.Nat.{_+_, _<_, _≤_};
+ghost use Prim.Native.Nat.{_+_, _<_};
 ghost use lib.ListN.{length, set};
 ghost use Rattle.workspace.specs.Layout.{rowTypesAt, postsAt, startsAt, workSize};
 ghost use Rattle.workspace.specs.Holds.{startNumber};
 ghost use Rattle.lines.specs.Lines.{startTold};
-ghost use Rattle.workspace.specs.Sheets.{Small};
-ghost use Rattle.lines.specs.Answers.{Reading};
-ghost use Rattle.split.specs.Stored.{RowsRead};
+ghost use Rattle.split.specs.Stored.{StoringRows, RowsRead};
 
 // The number that stands for a start in the work space.
 fn start_number(start: RowStart) -> u32
@@ -55,7 +53,7 @@ pub(crate) fn read_rows(
     steps: usize,
     work: &mut [u32],
 ) -> LinesRead
-    requires { ⌜ Reading (now text) from × Small header × (steps ≤ 256) × (length (now work) ≡ workSize) ⌝ }
+    requires { ⌜ StoringRows (now text) from header steps (now work) ⌝ }
     ensures { λ r. ⌜ RowsRead purpose (now (text .entry)) from header steps (now (work .entry)) (now (work .exit)) r ⌝ }
 {
     let mut cursor = from;

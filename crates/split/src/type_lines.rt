@@ -12,9 +12,7 @@ ghost use mathlib.Core.Path.{_≡_};
 ghost use Prim.Native.Nat.{_+_, _<_};
 ghost use lib.ListN.{length, set};
 ghost use Rattle.workspace.specs.Layout.{kindsAt, firstsAt, secondsAt, workSize, kindOf, firstOf, secondOf};
-ghost use Rattle.workspace.specs.Sheets.{Small};
-ghost use Rattle.lines.specs.Answers.{Reading};
-ghost use Rattle.split.specs.Stored.{TypesRead};
+ghost use Rattle.split.specs.Stored.{Storing, TypesRead};
 
 // Stores a type in the three columns of types.
 fn store_type(work: &mut [u32], own: usize, t: TypeLine)
@@ -28,7 +26,7 @@ fn store_type(work: &mut [u32], own: usize, t: TypeLine)
 
 // The type lines, from a cursor on.
 pub(crate) fn read_types(text: &[u8], from: Cursor, header: Header, work: &mut [u32]) -> LinesRead
-    requires { ⌜ Reading (now text) from × Small header × (length (now work) ≡ workSize) ⌝ }
+    requires { ⌜ Storing (now text) from header (now work) ⌝ }
     ensures { λ r. ⌜ TypesRead (now (text .entry)) from header (now (work .entry)) (now (work .exit)) r ⌝ }
 {
     let types = header.types;
