@@ -11,7 +11,7 @@ use Rattle.spec.specs.Verdict.{locksTakeEnough, startAtMostOne, typed}
 use Rattle.spec.specs.declared.Refusal.the-variants.{TooLarge, TooManyMaps}
 use Rattle.workspace.specs.Layout.{workSize}
 use Rattle.workspace.specs.declared.Header.{Header}
-use Rattle.split.specs.Answers.{Small}
+use Rattle.workspace.specs.Sheets.{Small}
 use Rattle.reading.specs.Answers.{HoldsBoth}
 use Rattle.writer.specs.Sheet.{written}
 use Rattle.sheets.specs.Contract.{HoldsSheet}

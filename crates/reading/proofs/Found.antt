@@ -22,7 +22,7 @@ use Rattle.workspace.specs.Holds.{HoldsProgram, HoldsSplit}
 use Rattle.workspace.specs.Sheets.{headerTold}
 use Rattle.workspace.proofs.Held.{program-kept}
 use Rattle.workspace.specs.declared.Header.{Header}
-use Rattle.split.specs.Answers.{Small}
+use Rattle.workspace.specs.Sheets.{Small}
 use Rattle.split.proofs.Found.{denominator-told, locations-told, start-told}
 use Rattle.reading.specs.Answers.{HoldsBoth, SheetsHeld, SheetsAnswered}
 use Rattle.reading.specs.declared.Reading.{Reading}

@@ -13,7 +13,7 @@ use Rattle.workspace.specs.Layout.{workSize}
 use Rattle.workspace.specs.Holds.{HoldsProgram}
 use Rattle.workspace.specs.Sheets.{headerTold, HoldsSheets}
 use Rattle.workspace.specs.declared.Header.{Header}
-use Rattle.split.specs.Answers.{Small}
+use Rattle.workspace.specs.Sheets.{Small}
 use Rattle.reading.specs.declared.Reading.{Reading}
 use Rattle.reading.specs.declared.Reading.the-variants.{Held, Refused}
 

@@ -33,10 +33,9 @@ use Rattle.lexer.proofs.Walks.{first-wrong, first-alone}
 use Rattle.lexer.proofs.Sheets.{next-at}
 use Rattle.workspace.specs.declared.Header.{Header as HeaderRead}
 use Rattle.split.specs.declared.first_line.FoundHeading.the-variants as found-heading
-use Rattle.workspace.specs.Sheets.{headerTold}
-use Rattle.split.specs.Lines.{headingFound, numeralsOf, headerFits}
-use Rattle.split.specs.Answers.{Small}
-use Rattle.split.proofs.LineLaws.{shows-form, shows-range, shows-entry, comma-line, comma-kept}
+use Rattle.workspace.specs.Sheets.{headerTold, Small}
+use Rattle.split.specs.Header.{headingFound, numeralsOf, headerFits}
+use Rattle.lines.proofs.LineLaws.{shows-form, shows-range, shows-entry, comma-line, comma-kept}
 
 -- ------------------------------------------------------------------ the heading
 

@@ -3,8 +3,8 @@ use mathlib.Core.Path.{sym, _∙_}
 use borrow.Author.Tests.{not-true, not-false}
 use Rattle.spec.specs.Split.{headerRanges}
 use Rattle.workspace.specs.Sheets.{headerTold}
-use Rattle.split.specs.Lines.{headerFits}
-use Rattle.split.proofs.Tests.{range-out, range-next, range-last, range-index, below-test}
+use Rattle.split.specs.Header.{headerFits}
+use Rattle.lines.proofs.Tests.{range-out, range-next, range-last, range-index, below-test}
 use borrow.Author.Needs.{needs}
 use Rattle.split.proofs.first_line.header_fits.Statement.{statement}
 use Rattle.split.proofs.first_line.header_fits.Tie as tie

@@ -5,8 +5,9 @@ use Rattle.spec.specs.Text.{lookUp}
 use Rattle.spec.specs.Split.{headings}
 use Rattle.lexer.specs.Cursors.{rest}
 use Rattle.lexer.proofs.Walks.{left-some}
-use Rattle.split.specs.Answers.{HeadAnswer, NumbersAnswer}
-use Rattle.split.proofs.LineLaws.{comma-placed}
+use Rattle.lines.specs.Answers.{HeadAnswer}
+use Rattle.split.specs.Header.{NumbersAnswer}
+use Rattle.lines.proofs.LineLaws.{comma-placed}
 use Rattle.split.proofs.HeaderLaws.{heading-known, heading-unknown, header-small, no-comma, no-header, header-form, header-range, header-on}
 use borrow.Author.Needs.{needs}
 use Rattle.split.proofs.first_line.header_line.Statement.{statement}
@@ -16,7 +17,7 @@ returns : tie.Need-returns
 returns c =
     let first-field = c .before .before in
     let entry = first-field .before .before .before in
-    let left = left-some (rest (entry .args .text .now) (entry .args .cursor)) (entry .pre .1) in
+    let left = left-some (rest (entry .args .text .now) (entry .args .cursor)) (entry .pre .some) in
     no-comma (entry .args .purpose) (entry .args .text .now) (entry .args .cursor) left (subst (HeadAnswer (entry .args .text .now) (entry .args .cursor)) (c .enum-told .given .1) (first-field .first-field .ensures))
 
 sub-heading-of : tie.Need-sub-heading-of
@@ -49,7 +50,7 @@ returns-2 c =
     let from = heading-of .before .before .before in
     let first-field = from .before .before in
     let entry = first-field .before .before .before in
-    let left = left-some (rest (entry .args .text .now) (entry .args .cursor)) (entry .pre .1) in
+    let left = left-some (rest (entry .args .text .now) (entry .args .cursor)) (entry .pre .some) in
     let head = subst (HeadAnswer (entry .args .text .now) (entry .args .cursor)) (from .from .given .1) (first-field .first-field .ensures) in
     no-header (entry .args .purpose) (entry .args .text .now) (entry .args .cursor) left (ap (lookUp (headings (entry .args .purpose))) (sym (head .2)) ∙ heading-unknown _ (sym (heading-of .heading-of .ensures) ∙ c .enum-told2 .given .1))
 
@@ -60,7 +61,7 @@ header-numbers-requires c κs =
     let first-field = from .before .before in
     let entry = first-field .before .before .before in
     let head = subst (HeadAnswer (entry .args .text .now) (entry .args .cursor)) (from .from .given .1) (first-field .first-field .ensures) in
-    record { placed = comma-placed _ _ _ (entry .pre .0 .placed) (head .3) (head .4); fits = entry .pre .0 .fits }
+    record { placed = comma-placed _ _ _ (entry .pre .reading .placed) (head .3) (head .4); fits = entry .pre .reading .fits }
 
 returns-3 : tie.Need-returns-3
 returns-3 c =
@@ -70,11 +71,11 @@ returns-3 c =
     let from = heading-of .before .before .before in
     let first-field = from .before .before in
     let entry = first-field .before .before .before in
-    let left = left-some (rest (entry .args .text .now) (entry .args .cursor)) (entry .pre .1) in
+    let left = left-some (rest (entry .args .text .now) (entry .args .cursor)) (entry .pre .some) in
     let head = subst (HeadAnswer (entry .args .text .now) (entry .args .cursor)) (from .from .given .1) (first-field .first-field .ensures) in
     let known = ap (lookUp (headings (entry .args .purpose))) (sym (head .2)) ∙ heading-known _ _ (sym (heading-of .heading-of .ensures) ∙ heading .heading .given .1) in
     let answer = subst (NumbersAnswer (entry .args .text .now) _ _) (c .enum-told3 .given .1) (header-numbers .header-numbers .ensures) in
-    header-form (entry .args .purpose) (entry .args .text .now) (entry .args .cursor) left (entry .pre .0 .placed) (head .3) _ (head .4) _ known answer
+    header-form (entry .args .purpose) (entry .args .text .now) (entry .args .cursor) left (entry .pre .reading .placed) (head .3) _ (head .4) _ known answer
 
 returns-4 : tie.Need-returns-4
 returns-4 c =
@@ -86,11 +87,11 @@ returns-4 c =
     let from = heading-of .before .before .before in
     let first-field = from .before .before in
     let entry = first-field .before .before .before in
-    let left = left-some (rest (entry .args .text .now) (entry .args .cursor)) (entry .pre .1) in
+    let left = left-some (rest (entry .args .text .now) (entry .args .cursor)) (entry .pre .some) in
     let head = subst (HeadAnswer (entry .args .text .now) (entry .args .cursor)) (from .from .given .1) (first-field .first-field .ensures) in
     let known = ap (lookUp (headings (entry .args .purpose))) (sym (head .2)) ∙ heading-known _ _ (sym (heading-of .heading-of .ensures) ∙ heading .heading .given .1) in
     let answer = subst (NumbersAnswer (entry .args .text .now) _ _) (header .header .given .1) (header-numbers .header-numbers .ensures) in
-    header-range (entry .args .purpose) (entry .args .text .now) (entry .args .cursor) left (entry .pre .0 .placed) (head .3) _ (head .4) _ known (answer .0) _ (answer .1) _ (answer .2) (sym (header-fits .header-fits .ensures) ∙ not-true _ (c .if1 .taken))
+    header-range (entry .args .purpose) (entry .args .text .now) (entry .args .cursor) left (entry .pre .reading .placed) (head .3) _ (head .4) _ known (answer .0) _ (answer .1) _ (answer .2) (sym (header-fits .header-fits .ensures) ∙ not-true _ (c .if1 .taken))
 
 returns-5 : tie.Need-returns-5
 returns-5 c =
@@ -102,12 +103,12 @@ returns-5 c =
     let from = heading-of .before .before .before in
     let first-field = from .before .before in
     let entry = first-field .before .before .before in
-    let left = left-some (rest (entry .args .text .now) (entry .args .cursor)) (entry .pre .1) in
+    let left = left-some (rest (entry .args .text .now) (entry .args .cursor)) (entry .pre .some) in
     let head = subst (HeadAnswer (entry .args .text .now) (entry .args .cursor)) (from .from .given .1) (first-field .first-field .ensures) in
     let known = ap (lookUp (headings (entry .args .purpose))) (sym (head .2)) ∙ heading-known _ _ (sym (heading-of .heading-of .ensures) ∙ heading .heading .given .1) in
     let answer = subst (NumbersAnswer (entry .args .text .now) _ _) (header .header .given .1) (header-numbers .header-numbers .ensures) in
     let fits = sym (header-fits .header-fits .ensures) ∙ not-false _ (c .if1 .left) in
-    (header-on (entry .args .purpose) (entry .args .text .now) (entry .args .cursor) left (entry .pre .0 .placed) (head .3) _ (head .4) _ known (answer .0) _ (answer .1) _ (answer .2) fits (answer .4), answer .3, header-small _ fits)
+    (header-on (entry .args .purpose) (entry .args .text .now) (entry .args .cursor) left (entry .pre .reading .placed) (head .3) _ (head .4) _ known (answer .0) _ (answer .1) _ (answer .2) fits (answer .4), answer .3, header-small _ fits)
 
 pub header-line-spec : {M : Type 1} → statement M
 header-line-spec =
