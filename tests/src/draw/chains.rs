@@ -1,11 +1,12 @@
 //! Long types: chains of refs that are written twice and agree down to the last, or differ in one spot.
 
-use super::draft::{Draft, Heading, Map, Step, Type};
+use super::draft::{Draft, Heading, Map, Step};
 use super::headings::often_written_out;
 use super::promise::Promise;
 use super::random::Random;
 use super::Drawn;
 use crate::answer::TYPES;
+use crate::types::Type;
 use crate::words::Word;
 
 /// Map 0 holds the whole of each location, these hold nothing, and the last one a little at the end.

@@ -39,6 +39,8 @@ pub(crate) const P: &str = "P,16|let,0|ref,0|int,0|let,1|newtid,0|let,2|spawn,0|
 const Z: &str = "C,1,1,1,1|int,0,0|0|0,0,|";
 /// The tiny split's program.
 const ONE: &str = "P,1|int,0|";
+/// A spawned thread that does nothing.
+const IDLE: &str = "P,3|spawn,0|newtid,0|int,0|";
 
 const fn pair(program: &'static str, split: &'static str, answer: &'static str) -> Known {
     Known { program, split, answer }

@@ -1,6 +1,6 @@
 //! Pairs for the requests of document 02, in their order.
 
-use super::{pair, program, split, Known, P};
+use super::{pair, program, split, Known, IDLE, P};
 
 /// Document 01's S with types and maps written anew for each use, the last row's first.
 const P_AFRESH: &str = "C,2,1,20,20|int,0,0|int,0,0|ref,0,1|int,0,0|tid,3,0|int,0,0|int,0,0|int,0,0|ref,0,7|int,0,0|\
@@ -23,9 +23,6 @@ macro_rules! split_from_map_1 {
         )
     };
 }
-
-/// A thread that does nothing.
-const IDLE: &str = "P,3|spawn,0|newtid,0|int,0|";
 
 /// Types int, sem and lock, the last two with one half; maps of 2, 1, 0 and 3 halves.
 macro_rules! halves {
@@ -61,49 +58,72 @@ macro_rules! readers {
 }
 const SAME_RWLOCK: &str = "P,3|let,0|newrwlock,1|var,0|";
 
-/// One thread reads under a reading hold, the other writes under a writing hold.
-const READ_OR_WRITTEN: Known = pair(
-    "P,25|let,0|ref,0|int,0|let,1|newrwlock,2|let,2|spawn,0|newtid,0|let,3|rdlock,0|var,1|let,4|read,0|var,0|\
-     rdunlock,0|var,1|let,5|wrlock,0|var,1|let,6|write,0|var,0|int,1|wrunlock,0|var,1|",
-    "C,2,1,4,3|int,0,0|ref,0,0|rwlock,1,0|tid,2,0|2|1|0|0,2,|1,0,|0,0,|0,2,|2,2,|0,2,|0,2,2|3,2,|0,2,|0,1,|2,2,|0,2,|\
-     0,1,|1,1,|0,2,|2,1,|0,2,|0,0,|2,2,|0,2,|0,0,|1,0,|0,0,|0,2,|2,0,|",
-    "ACCEPT",
+/// A cell under a read-write lock. A thread reads it under a reading hold; then the rest of the first thread.
+macro_rules! read_by_one {
+    ($rest:literal, $rows:literal, $answer:literal) => {
+        pair(
+            concat!(
+                "P,25|let,0|ref,0|int,0|let,1|newrwlock,2|let,2|spawn,0|newtid,0|let,3|rdlock,0|var,1|let,4|read,0|var,0|\
+                 rdunlock,0|var,1|let,5|",
+                $rest
+            ),
+            concat!(
+                "C,2,1,4,3|int,0,0|ref,0,0|rwlock,1,0|tid,2,0|2|1|0|0,2,|1,0,|0,0,|0,2,|2,2,|0,2,|0,2,2|3,2,|0,2,|0,1,|\
+                 2,2,|0,2,|0,1,|1,1,|0,2,|2,1,|0,2,|",
+                $rows
+            ),
+            $answer,
+        )
+    };
+}
+
+/// The first thread writes under a writing hold.
+const READ_OR_WRITTEN: Known = read_by_one!(
+    "wrlock,0|var,1|let,6|write,0|var,0|int,1|wrunlock,0|var,1|",
+    "0,0,|2,2,|0,2,|0,0,|1,0,|0,0,|0,2,|2,0,|",
+    "ACCEPT"
 );
 
-/// The same with a reading hold around the write.
-const WRITTEN_BY_A_READER: Known = pair(
-    "P,25|let,0|ref,0|int,0|let,1|newrwlock,2|let,2|spawn,0|newtid,0|let,3|rdlock,0|var,1|let,4|read,0|var,0|\
-     rdunlock,0|var,1|let,5|rdlock,0|var,1|let,6|write,0|var,0|int,1|rdunlock,0|var,1|",
-    "C,2,1,4,3|int,0,0|ref,0,0|rwlock,1,0|tid,2,0|2|1|0|0,2,|1,0,|0,0,|0,2,|2,2,|0,2,|0,2,2|3,2,|0,2,|0,1,|2,2,|0,2,|\
-     0,1,|1,1,|0,2,|2,1,|0,2,|0,1,|2,2,|0,2,|0,1,|1,1,|0,1,|0,2,|2,1,|",
-    "REFUSE,33,22,5,0",
+/// It writes under a reading hold.
+const WRITTEN_BY_A_READER: Known = read_by_one!(
+    "rdlock,0|var,1|let,6|write,0|var,0|int,1|rdunlock,0|var,1|",
+    "0,1,|2,2,|0,2,|0,1,|1,1,|0,1,|0,2,|2,1,|",
+    "REFUSE,33,22,5,0"
 );
 
-/// One thread writes, posts, and the other waits before it writes.
-const SIGNALLED: Known = pair(
-    "P,20|let,0|ref,0|int,0|let,1|newsem,0|let,2|spawn,0|newtid,0|let,3|wait,0|var,1|write,0|var,0|int,1|\
-     let,4|write,0|var,0|int,2|post,0|var,1|",
-    "C,1,1,4,2|int,0,0|ref,0,0|sem,0,0|tid,1,0|1|0|0,1,|1,0,|0,0,|0,1,|2,0,|0,1,|0,0,1|3,0,|0,0,|0,0,|2,1,|0,0,|1,0,|\
-     0,0,|0,1,|0,0,|1,0,|0,0,|0,1,|2,0,|",
-    "ACCEPT",
-);
+/// A cell and a semaphore. A thread waits before it writes; then the rest of the first thread.
+macro_rules! waited_for {
+    ($steps:literal, $rest:literal, $rows:literal, $answer:literal) => {
+        pair(
+            concat!(
+                "P,",
+                $steps,
+                "|let,0|ref,0|int,0|let,1|newsem,0|let,2|spawn,0|newtid,0|let,3|wait,0|var,1|write,0|var,0|int,1|let,4|",
+                $rest
+            ),
+            concat!(
+                "C,1,1,4,2|int,0,0|ref,0,0|sem,0,0|tid,1,0|1|0|0,1,|1,0,|0,0,|0,1,|2,0,|0,1,|0,0,1|3,0,|0,0,|0,0,|2,1,|\
+                 0,0,|1,0,|0,0,|0,1,|",
+                $rows
+            ),
+            $answer,
+        )
+    };
+}
 
-/// The same with the post before the write.
-const SIGNALLED_EARLY: Known = pair(
-    "P,20|let,0|ref,0|int,0|let,1|newsem,0|let,2|spawn,0|newtid,0|let,3|wait,0|var,1|write,0|var,0|int,1|\
-     let,4|post,0|var,1|write,0|var,0|int,2|",
-    "C,1,1,4,2|int,0,0|ref,0,0|sem,0,0|tid,1,0|1|0|0,1,|1,0,|0,0,|0,1,|2,0,|0,1,|0,0,1|3,0,|0,0,|0,0,|2,1,|0,0,|1,0,|\
-     0,0,|0,1,|0,1,|2,0,|0,1,|1,1,|0,1,|",
-    "REFUSE,33,19,5,0",
-);
+/// The first thread writes and then posts.
+const SIGNALLED: Known = waited_for!("20", "write,0|var,0|int,2|post,0|var,1|", "0,0,|1,0,|0,0,|0,1,|2,0,|", "ACCEPT");
+
+/// It posts and then writes.
+const SIGNALLED_EARLY: Known =
+    waited_for!("20", "post,0|var,1|write,0|var,0|int,2|", "0,1,|2,0,|0,1,|1,1,|0,1,|", "REFUSE,33,19,5,0");
 
 /// Figure 7: two threads wait, and the second post has nothing left to give.
-const TWO_POSTS: Known = pair(
-    "P,28|let,0|ref,0|int,0|let,1|newsem,0|let,2|spawn,0|newtid,0|let,3|wait,0|var,1|write,0|var,0|int,1|\
-     let,4|spawn,0|newtid,0|let,5|wait,0|var,1|write,0|var,0|int,1|let,6|post,0|var,1|post,0|var,1|",
-    "C,1,1,4,2|int,0,0|ref,0,0|sem,0,0|tid,1,0|1|0|0,1,|1,0,|0,0,|0,1,|2,0,|0,1,|0,0,1|3,0,|0,0,|0,0,|2,1,|0,0,|1,0,|\
-     0,0,|0,1,|0,0,1|3,0,|0,0,|0,0,|2,1,|0,0,|1,0,|0,0,|0,1,|0,1,|2,0,|0,1,|2,1,|",
-    "REFUSE,32,28,3,0",
+const TWO_POSTS: Known = waited_for!(
+    "28",
+    "spawn,0|newtid,0|let,5|wait,0|var,1|write,0|var,0|int,1|let,6|post,0|var,1|post,0|var,1|",
+    "0,0,1|3,0,|0,0,|0,0,|2,1,|0,0,|1,0,|0,0,|0,1,|0,1,|2,0,|0,1,|2,1,|",
+    "REFUSE,32,28,3,0"
 );
 
 pub const PAIRS: &[Known] = &[

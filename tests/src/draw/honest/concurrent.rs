@@ -2,8 +2,9 @@
 //! shares, or handed over at a join or by a semaphore.
 
 use super::{Builder, Slip};
-use crate::draw::draft::{Draft, Heading, Map, Type};
+use crate::draw::draft::{Draft, Heading, Map};
 use crate::draw::random::Random;
+use crate::types::Type;
 use crate::words::Word;
 
 /// Two locations: the locks carry the whole of the first, or half of it for a reader, identifiers bring

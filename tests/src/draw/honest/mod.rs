@@ -11,9 +11,10 @@ mod readers;
 mod steps;
 
 use super::directed::Target;
-use super::draft::{at_least, sum, Draft, Heading, Map, Type};
+use super::draft::{at_least, sum, Draft, Heading, Map};
 use super::random::Random;
 use crate::answer::{STEPS, VARIABLES, WHOLE};
+use crate::types::Type;
 use crate::words::Word;
 
 /// A mistake of document 01's "Bugs we expect", or one like them. A builder that makes it builds what a

@@ -1,8 +1,9 @@
 //! Drafts whose conditions on types hold, and whose maps nobody worked out: some can be filled in, some not.
 
 use crate::answer::{LOCATIONS, PLACES, STEPS};
-use crate::draw::draft::{Draft, Heading, Map, Step, Type};
+use crate::draw::draft::{Draft, Heading, Map, Step};
 use crate::draw::random::Random;
+use crate::types::Type;
 use crate::words::Word;
 
 /// A draft of drawn size.
