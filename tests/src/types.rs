@@ -1,5 +1,7 @@
 //! The types of the split sheet.
 
+use crate::words::Word;
+
 /// A type line. Locations, types and maps are held as indices.
 #[derive(Clone, Copy, PartialEq, Eq)]
 pub enum Type {
@@ -25,6 +27,18 @@ impl Type {
     /// A lock that takes back what it gives.
     pub const fn lock(map: usize) -> Type {
         Type::Lock { taken: map, given: map }
+    }
+
+    /// The word that makes a thing of this type.
+    pub fn maker(self) -> Word {
+        match self {
+            Type::Int => Word::Int,
+            Type::Ref { .. } => Word::Ref,
+            Type::Lock { .. } => Word::Newlock,
+            Type::Tid(_) => Word::Newtid,
+            Type::Sem(_) => Word::Newsem,
+            Type::Rwlock { .. } => Word::Newrwlock,
+        }
     }
 
     pub fn lock_in(self) -> Option<usize> {

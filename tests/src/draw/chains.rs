@@ -104,13 +104,6 @@ fn write_steps(draft: &mut Draft, levels: &[usize], shown: usize) {
     for &level in levels[1..].iter().rev() {
         draft.steps.push(step(Word::Ref, level));
     }
-    let bottom = match draft.types[levels[0]] {
-        Type::Lock { .. } => Word::Newlock,
-        Type::Tid(_) => Word::Newtid,
-        Type::Sem(_) => Word::Newsem,
-        Type::Rwlock { .. } => Word::Newrwlock,
-        _ => Word::Int,
-    };
-    draft.steps.push(step(bottom, levels[0]));
+    draft.steps.push(step(draft.types[levels[0]].maker(), levels[0]));
     draft.steps.push(step(Word::Var, shown));
 }
