@@ -2,11 +2,13 @@
 import os
 import shutil
 import signal
+import subprocess
+import sys
 import tempfile
 import time
 from pathlib import Path
 
-from checks import check, contents, make_pair
+from checks import check, contents, make_pair, user_environment
 from desk import TOOLS, Desk, make_release, wanted_report
 
 Z = "C,1,1,1,1|int,0,0|0|0,0,|"
@@ -145,6 +147,16 @@ def check_stopped(desk):
         desk.check_nothing_left(number.name)
 
 
+def check_late(desk):
+    """A run that starts while the others are ended ends with them."""
+    slow = desk.binary("late", "exec sleep 30")
+    script = "import sys; from explaining.running import run_in, stop_all; stop_all(); print(run_in(*sys.argv[1:]).answer)"
+    begun = time.monotonic()
+    done = subprocess.run(
+        [sys.executable, "-B", "-c", script, slow, desk.scratch], env=user_environment(PYTHONPATH=TOOLS), stdout=subprocess.PIPE)
+    check("a late run", (done.stdout, time.monotonic() - begun < 5), (b"FAILED\n", True))
+
+
 def check_outputs(desk, binary):
     """Counts or a report that cannot be written give status 2; what is no plain file is not replaced."""
     with open("/dev/full", "w") as full:
@@ -244,6 +256,7 @@ def check_release_tool(binary):
         check_nonsense(desk)
         check_liar(desk)
         check_stopped(desk)
+        check_late(desk)
         check_outputs(desk, binary)
         check_which_binary(desk)
         check_errors(desk, binary)
