@@ -5,9 +5,10 @@
 //! timed twice: alone, and with 16,384 numbers cleared after it.
 
 use evidence::answer::{Returned, LOCATIONS, SPLIT_BYTES, STEPS, TYPES, WHOLE, WORK_SPACE};
-use evidence::draw::draft::{Draft, Heading, Map, Step, Type};
+use evidence::draw::draft::{Draft, Heading, Map, Step};
 use evidence::draw::random::Random;
 use evidence::draw::{full, honest, unfilled};
+use evidence::types::Type;
 use evidence::words::Word;
 use evidence::{known, product, second};
 use std::hint::black_box;

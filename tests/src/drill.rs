@@ -74,6 +74,7 @@ mod beside {
     use super::*;
     use crate::answer::{Returned, WORK_SPACE};
     use crate::draw::random::Random;
+    use crate::filling::{garbage, MARK};
     use crate::{product, second};
 
     /// A seed for each number of readers, 1 to 31.
@@ -85,12 +86,6 @@ mod beside {
     struct Buffers {
         room: [usize; 2],
         bytes: [Vec<u8>; 2],
-    }
-
-    const MARK: usize = 16;
-
-    fn garbage(length: usize) -> Vec<u8> {
-        (0..length).map(|place| 0xA5 ^ place as u8).collect()
     }
 
     impl Buffers {

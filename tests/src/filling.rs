@@ -26,9 +26,10 @@ struct Outcome {
 }
 
 /// How many bytes stand behind the buffer lent, to show a write past its end.
-const MARK: usize = 16;
+pub const MARK: usize = 16;
 
-fn garbage(length: usize) -> Vec<u8> {
+/// What stands in a buffer before it is lent.
+pub fn garbage(length: usize) -> Vec<u8> {
     (0..length).map(|place| 0xA5 ^ place as u8).collect()
 }
 

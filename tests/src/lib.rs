@@ -11,6 +11,8 @@ pub mod filling;
 pub mod known;
 pub mod product;
 pub mod second;
+pub mod series;
 pub mod steps;
 pub mod tally;
+pub mod types;
 pub mod words;

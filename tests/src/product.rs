@@ -1,34 +1,32 @@
 //! The calls of the product through its C entries, where the library is linked (see `build.rs`).
 
-use crate::comparison::Checker;
-use crate::drill::Driller;
-use crate::filling::Filler;
-
-/// The product's check, if the library is linked.
-#[cfg(product)]
-pub const CHECK: Option<Checker> = Some(linked::check);
-#[cfg(not(product))]
-pub const CHECK: Option<Checker> = None;
-
-/// The product's drill, if the library is linked.
-#[cfg(product)]
-pub const DRILL: Option<Driller> = Some(linked::drill);
-#[cfg(not(product))]
-pub const DRILL: Option<Driller> = None;
-
-/// The product's filling, if the library is linked.
-#[cfg(product)]
-pub const FILL: Option<Filler> = Some(linked::fill);
-#[cfg(not(product))]
-pub const FILL: Option<Filler> = None;
+pub use calls::{CHECK, DRILL, FILL};
 
 /// What a command that needs the product says before it fails without it.
 pub const NOT_LINKED: &str = "the product is not linked: name the folder of its library in RACECHECK_LIB_DIR";
 
+/// Without the library there is nothing to call.
+#[cfg(not(product))]
+mod calls {
+    use crate::comparison::Checker;
+    use crate::drill::Driller;
+    use crate::filling::Filler;
+
+    pub const CHECK: Option<Checker> = None;
+    pub const DRILL: Option<Driller> = None;
+    pub const FILL: Option<Filler> = None;
+}
+
 #[cfg(product)]
-mod linked {
+mod calls {
     use crate::answer::Returned;
-    use crate::drill::Drilled;
+    use crate::comparison::Checker;
+    use crate::drill::{Drilled, Driller};
+    use crate::filling::Filler;
+
+    pub const CHECK: Option<Checker> = Some(check);
+    pub const DRILL: Option<Driller> = Some(drill);
+    pub const FILL: Option<Filler> = Some(fill);
 
     extern "C" {
         fn racecheck_check(
@@ -70,7 +68,7 @@ mod linked {
     }
 
     /// Calls the product on a pair and a lent work space.
-    pub fn check(program: &[u8], split: &[u8], work: &mut [u32]) -> Returned {
+    fn check(program: &[u8], split: &[u8], work: &mut [u32]) -> Returned {
         let mut returned = Returned::ACCEPT;
         // The three slices and the three places are live and apart for the whole call.
         returned.number = unsafe {
@@ -90,7 +88,7 @@ mod linked {
     }
 
     /// Calls the product's drill on two lent buffers.
-    pub fn drill(seed: u32, program: &mut [u8], split: &mut [u8]) -> Drilled {
+    fn drill(seed: u32, program: &mut [u8], split: &mut [u8]) -> Drilled {
         // What is stored must overwrite this.
         let mut drilled = Drilled { number: 1, next: 1, program: 1, split: 1 };
         // The two slices and the three places are live and apart for the whole call.
@@ -110,7 +108,7 @@ mod linked {
     }
 
     /// Calls the product's filling on a pair, a lent work space and a lent buffer.
-    pub fn fill(program: &[u8], split: &[u8], work: &mut [u32], out: &mut [u8]) -> Returned {
+    fn fill(program: &[u8], split: &[u8], work: &mut [u32], out: &mut [u8]) -> Returned {
         // What is stored must overwrite this.
         let mut returned = Returned { number: 1, line: 1, condition: 1, location: 1 };
         // The four slices and the three places are live and apart for the whole call.

@@ -1,96 +1,69 @@
 //! The words of the program sheet: those of Figure 1 but `freelock`, and those of document 02.
 
-#[derive(Clone, Copy, Debug, PartialEq, Eq, Hash, PartialOrd, Ord)]
-pub enum Word {
-    Var,
-    Int,
-    Let,
-    If,
-    While,
-    Newtid,
-    Spawn,
-    Join,
-    Ref,
-    Read,
-    Write,
-    Newlock,
-    Lock,
-    Unlock,
-    Newsem,
-    Post,
-    Wait,
-    Newrwlock,
-    Rdlock,
-    Rdunlock,
-    Wrlock,
-    Wrunlock,
+/// Makes the type of words and the list of them from one table.
+macro_rules! words {
+    ($count:literal: $($word:ident $spelling:literal,)*) => {
+        #[derive(Clone, Copy, Debug, PartialEq, Eq, Hash, PartialOrd, Ord)]
+        pub enum Word {
+            $($word,)*
+        }
+
+        /// Every word, in the order of document 01's table of conditions, then of document 02.
+        pub const WORDS: [Word; $count] = [$(Word::$word,)*];
+
+        impl Word {
+            /// The word with this spelling, if there is one.
+            pub fn spelled(spelling: &[u8]) -> Option<Word> {
+                match spelling {
+                    $($spelling => Some(Word::$word),)*
+                    _ => None,
+                }
+            }
+
+            pub fn spelling(self) -> &'static str {
+                match self {
+                    $(Word::$word => const { text($spelling) },)*
+                }
+            }
+        }
+    };
+}
+
+words! { 22:
+    Var b"var",
+    Int b"int",
+    Let b"let",
+    If b"if",
+    While b"while",
+    Newtid b"newtid",
+    Spawn b"spawn",
+    Join b"join",
+    Ref b"ref",
+    Read b"read",
+    Write b"write",
+    Newlock b"newlock",
+    Lock b"lock",
+    Unlock b"unlock",
+    Newsem b"newsem",
+    Post b"post",
+    Wait b"wait",
+    Newrwlock b"newrwlock",
+    Rdlock b"rdlock",
+    Rdunlock b"rdunlock",
+    Wrlock b"wrlock",
+    Wrunlock b"wrunlock",
 }
 
 use Word::*;
 
-/// Every word, in the order of document 01's table of conditions, then of document 02.
-pub const WORDS: [Word; 22] = [
-    Var, Int, Let, If, While, Newtid, Spawn, Join, Ref, Read, Write, Newlock, Lock, Unlock, Newsem, Post, Wait,
-    Newrwlock, Rdlock, Rdunlock, Wrlock, Wrunlock,
-];
+const fn text(spelling: &'static [u8]) -> &'static str {
+    match std::str::from_utf8(spelling) {
+        Ok(text) => text,
+        Err(_) => panic!("a word is spelled in letters"),
+    }
+}
 
 impl Word {
-    /// The word with this spelling, if there is one.
-    pub fn spelled(spelling: &[u8]) -> Option<Word> {
-        Some(match spelling {
-            b"var" => Var,
-            b"int" => Int,
-            b"let" => Let,
-            b"if" => If,
-            b"while" => While,
-            b"newtid" => Newtid,
-            b"spawn" => Spawn,
-            b"join" => Join,
-            b"ref" => Ref,
-            b"read" => Read,
-            b"write" => Write,
-            b"newlock" => Newlock,
-            b"lock" => Lock,
-            b"unlock" => Unlock,
-            b"newsem" => Newsem,
-            b"post" => Post,
-            b"wait" => Wait,
-            b"newrwlock" => Newrwlock,
-            b"rdlock" => Rdlock,
-            b"rdunlock" => Rdunlock,
-            b"wrlock" => Wrlock,
-            b"wrunlock" => Wrunlock,
-            _ => return None,
-        })
-    }
-
-    pub fn spelling(self) -> &'static str {
-        match self {
-            Var => "var",
-            Int => "int",
-            Let => "let",
-            If => "if",
-            While => "while",
-            Newtid => "newtid",
-            Spawn => "spawn",
-            Join => "join",
-            Ref => "ref",
-            Read => "read",
-            Write => "write",
-            Newlock => "newlock",
-            Lock => "lock",
-            Unlock => "unlock",
-            Newsem => "newsem",
-            Post => "post",
-            Wait => "wait",
-            Newrwlock => "newrwlock",
-            Rdlock => "rdlock",
-            Rdunlock => "rdunlock",
-            Wrlock => "wrlock",
-            Wrunlock => "wrunlock",
-        }
-    }
-
     /// How many parts a step with this word has.
     pub fn parts(self) -> usize {
         match self {

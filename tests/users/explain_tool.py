@@ -146,7 +146,7 @@ def check_drawn(binary):
 # ---- Racechecks that lie, and what explain cannot do
 
 
-def check_lies(binary):
+def check_lies():
     """An answer that the numbers do not bear out is told loudly, with a status of its own."""
     join, join_race = HOUSE / "examples" / "join", HOUSE / "examples" / "join-race"
     lies = [(join, f"REFUSE,{rest}") for rest in [
@@ -214,7 +214,7 @@ def check_explain_tool(binary):
     check_examples(binary)
     check_tellings(binary)
     check_pages(binary)
-    check_lies(binary)
+    check_lies()
     check_errors(binary)
     check_names(binary)
     check_drawn(binary)

@@ -4,6 +4,7 @@ import re
 import selectors
 import shutil
 import subprocess
+import threading
 import time
 from pathlib import Path
 from typing import NamedTuple
@@ -12,8 +13,9 @@ SECONDS = 10
 MOST_BYTES = 4096
 ANSWER = re.compile(r"ACCEPT|UNREAD|REFUSE(,[0-9]{1,10}){4}")
 
-# The runs under way, so that a tool that is stopped can end them.
+# The runs under way, and whether they are being ended: a run that is just starting then has to end too.
 under_way = set()
+ending = threading.Event()
 
 
 class NotFound(Exception):
@@ -52,6 +54,8 @@ def run_in(binary, folder):
     except OSError as error:
         return Run("FAILED", f"racecheck could not be started: {error.strerror}")
     under_way.add(process)
+    if ending.is_set():
+        process.kill()
     try:
         return _answer(process)
     finally:
@@ -91,5 +95,7 @@ def _written(process, until):
 
 
 def stop_all():
+    """Ends the runs under way, for a tool that is stopped or has done."""
+    ending.set()
     for process in list(under_way):
         process.kill()

@@ -51,13 +51,25 @@ def _word(rule, number, parts, result, does, *conditions, source="Figure 5"):
 _INT = ("type int", "T", "its type is of the kind `int`")
 _KEEPS = ("post = pre", "F", "after equals before")
 _PART_KEEPS = ("post = post of part", "F", "after equals what its part leaves")
-_PART_A_LOCK = ("part a lock", "T", "its part is a lock")
-_PART_A_SEM = ("part a sem", "T", "its part is a semaphore")
-_PART_A_RWLOCK = ("part a rwlock", "T", "its part is a read-write lock")
-_TAKES = ("post = post of part + K", "F", "after equals what its part leaves plus the load")
-_GIVES = ("post + K = post of part", "F", "after plus the load equals what its part leaves")
-_TAKES_IN = ("post = post of part + in", "F", "after equals what its part leaves plus in")
-_GIVES_OUT = ("post + out = post of part", "F", "after plus out equals what its part leaves")
+
+
+def _takes(load, plain=None):
+    """The load of its part comes in."""
+    return f"post = post of part + {load}", "F", f"after equals what its part leaves plus {plain or load}"
+
+
+def _gives(load, plain=None):
+    """The load of its part goes out."""
+    return f"post + {load} = post of part", "F", f"after plus {plain or load} equals what its part leaves"
+
+
+def _moves(rule, kind, does, moved, **source):
+    """A word whose one part is of that kind, and that takes or gives its load."""
+    part = (f"part a {kind}", "T", f"its part is {KINDS[kind].noun}")
+    return _word(rule, "nothing", {"part": "pre"}, "`int`", does, _INT, part, moved, **source)
+
+
+_TAKES, _GIVES = _takes("K", "the load"), _gives("K", "the load")
 
 WORDS = {
     "var": _word(
@@ -100,12 +112,7 @@ WORDS = {
         ("e1 a tid", "T", "its first part is a thread identifier"),
         ("post of e2 ≥ K", "F", "the body leaves at least the load of the identifier"),
         ("post + s = post of e1", "F", "after plus what the body starts with equals what the first part leaves")),
-    "join": _word(
-        "JOIN", "nothing", {"part": "pre"},
-        "`int`", "wait for a thread of {thing} and get {K}",
-        _INT,
-        ("part a tid", "T", "its part is a thread identifier"),
-        _TAKES),
+    "join": _moves("JOIN", "tid", "wait for a thread of {thing} and get {K}", _TAKES),
     "ref": _word(
         "REF", "nothing", {"part": "pre"},
         "a `ref` type that holds its part's type", "a new cell of {location}",
@@ -131,53 +138,29 @@ WORDS = {
         "a `lock` type", "a new lock, which gets {out}",
         ("a lock type", "T", "its type is of the kind `lock`"),
         ("post + out = pre", "F", "after plus out equals before")),
-    "lock": _word(
-        "LCK", "nothing", {"part": "pre"},
-        "`int`", "take {thing} and get {in}",
-        _INT, _PART_A_LOCK, _TAKES_IN),
-    "unlock": _word(
-        "ULCK", "nothing", {"part": "pre"},
-        "`int`", "give back {thing} and with it {out}",
-        _INT, _PART_A_LOCK, _GIVES_OUT),
+    "lock": _moves("LCK", "lock", "take {thing} and get {in}", _takes("in")),
+    "unlock": _moves("ULCK", "lock", "give back {thing} and with it {out}", _gives("out")),
     "newsem": _word(
         "NEWSEM", "nothing", {},
         "a `sem` type", "a new semaphore; each post puts in {K}",
         ("a sem type", "T", "its type is of the kind `sem`"),
         _KEEPS, source="Section 3.1.4"),
-    "post": _word(
-        "POST", "nothing", {"part": "pre"},
-        "`int`", "post {thing}, which gets {K}",
-        _INT, _PART_A_SEM, _GIVES, source="Section 3.1.4"),
-    "wait": _word(
-        "WAIT", "nothing", {"part": "pre"},
-        "`int`", "wait at {thing} and get {K}",
-        _INT, _PART_A_SEM, _TAKES, source="Section 3.1.4"),
+    "post": _moves("POST", "sem", "post {thing}, which gets {K}", _GIVES, source="Section 3.1.4"),
+    "wait": _moves("WAIT", "sem", "wait at {thing} and get {K}", _TAKES, source="Section 3.1.4"),
     "newrwlock": _word(
         "NEWRWLOCK", "places", {},
         "a `rwlock` type", "a new read-write lock (N = {number}), which gets {w}; a reader gets {r}",
         ("a rwlock type", "T", "its type is of the kind `rwlock`"),
         ("N × r ≤ w", "F", "N times r is at most w"),
         ("post + w = pre", "F", "after plus w equals before"), source="Figure 8"),
-    "rdlock": _word(
-        "RDLOCK", "nothing", {"part": "pre"},
-        "`int`", "take a reading place of {thing} and get {r}",
-        _INT, _PART_A_RWLOCK,
-        ("post = post of part + r", "F", "after equals what its part leaves plus r"), source="Figure 8"),
-    "rdunlock": _word(
-        "RDUNLOCK", "nothing", {"part": "pre"},
-        "`int`", "give back a reading place of {thing} and with it {r}",
-        _INT, _PART_A_RWLOCK,
-        ("post + r = post of part", "F", "after plus r equals what its part leaves"), source="Figure 8"),
-    "wrlock": _word(
-        "WRLOCK", "nothing", {"part": "pre"},
-        "`int`", "take {thing} for writing and get {w}",
-        _INT, _PART_A_RWLOCK,
-        ("post = post of part + w", "F", "after equals what its part leaves plus w"), source="Figure 8"),
-    "wrunlock": _word(
-        "WRUNLOCK", "nothing", {"part": "pre"},
-        "`int`", "give back {thing} after writing and with it {w}",
-        _INT, _PART_A_RWLOCK,
-        ("post + w = post of part", "F", "after plus w equals what its part leaves"), source="Figure 8"),
+    "rdlock": _moves(
+        "RDLOCK", "rwlock", "take a reading place of {thing} and get {r}", _takes("r"), source="Figure 8"),
+    "rdunlock": _moves(
+        "RDUNLOCK", "rwlock", "give back a reading place of {thing} and with it {r}", _gives("r"), source="Figure 8"),
+    "wrlock": _moves(
+        "WRLOCK", "rwlock", "take {thing} for writing and get {w}", _takes("w"), source="Figure 8"),
+    "wrunlock": _moves(
+        "WRUNLOCK", "rwlock", "give back {thing} after writing and with it {w}", _gives("w"), source="Figure 8"),
 }
 
 # A word that no machine does, and the one to write in its place.

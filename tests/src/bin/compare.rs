@@ -5,19 +5,15 @@
 
 use evidence::answer::WORK_SPACE;
 use evidence::comparison::{difference, Checker, WorkSpace};
-use evidence::draw::{self, Drawn};
 use evidence::tally::{Tally, CHECKING};
-use evidence::{known, product, second};
+use evidence::{draw, known, product, second, series};
 use std::process::ExitCode;
 use std::time::Instant;
 
 const PAIRS: u64 = 200_000;
-const SEED: u64 = 2008;
 
 fn main() -> ExitCode {
-    let mut arguments = std::env::args().skip(1).map(|argument| argument.parse::<u64>());
-    let pairs = arguments.next().and_then(Result::ok).unwrap_or(PAIRS);
-    let seed = arguments.next().and_then(Result::ok).unwrap_or(SEED);
+    let (pairs, seed) = series::asked(PAIRS);
     let Some(product) = product::CHECK else {
         println!("{}", product::NOT_LINKED);
         return ExitCode::FAILURE;
@@ -30,8 +26,7 @@ fn main() -> ExitCode {
         let drawn = draw::pair(seed, number);
         let expected = second::check(&drawn.program, &drawn.split, drawn.room);
         if let Some(difference) = difference(product, &drawn, expected, &mut work) {
-            save(&drawn, number);
-            println!("pair {number} of seed {seed} ({}): {difference}", drawn.origin);
+            println!("pair {number} of seed {seed} ({}): {difference}; {}", drawn.origin, series::kept(&drawn, number));
             return ExitCode::FAILURE;
         }
         tally.count(&drawn, expected);
@@ -67,14 +62,4 @@ fn known_pairs_agree(product: Checker, work: &mut WorkSpace) -> bool {
         }
     }
     agree
-}
-
-/// Keeps the pair for a closer look.
-fn save(drawn: &Drawn, number: u64) {
-    let (program, split) = (format!("mismatch-{number}-program.txt"), format!("mismatch-{number}-split.txt"));
-    let saved = std::fs::write(&program, &drawn.program).and_then(|()| std::fs::write(&split, &drawn.split));
-    match saved {
-        Ok(()) => println!("saved as {program} and {split}"),
-        Err(error) => println!("not saved: {error}"),
-    }
 }

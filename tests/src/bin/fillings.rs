@@ -5,20 +5,17 @@
 
 use evidence::answer::{Returned, SPLIT_BYTES, WORK_SPACE};
 use evidence::comparison::{Checker, WorkSpace};
-use evidence::draw::unfilled::{self, Unfilled};
+use evidence::draw::unfilled;
 use evidence::filling::{agreed, Filler};
 use evidence::tally::{Tally, FILLING};
-use evidence::{known, product};
+use evidence::{known, product, series};
 use std::process::ExitCode;
 use std::time::Instant;
 
 const SHEETS: u64 = 50_000;
-const SEED: u64 = 2008;
 
 fn main() -> ExitCode {
-    let mut arguments = std::env::args().skip(1).map(|argument| argument.parse::<u64>());
-    let sheets = arguments.next().and_then(Result::ok).unwrap_or(SHEETS);
-    let seed = arguments.next().and_then(Result::ok).unwrap_or(SEED);
+    let (sheets, seed) = series::asked(SHEETS);
     let (Some(filler), Some(checker)) = (product::FILL, product::CHECK) else {
         println!("{}", product::NOT_LINKED);
         return ExitCode::FAILURE;
@@ -46,8 +43,8 @@ fn drawn_sheets(filler: Filler, checker: Checker, sheets: u64, seed: u64) -> Res
     for number in 0..sheets {
         let drawn = unfilled::sheet(seed, number);
         let returned = agreed(filler, checker, &drawn, &mut work).map_err(|difference| {
-            let saved = save(&drawn, number);
-            format!("sheet {number} of seed {seed} ({}): {difference}; {saved}", drawn.pair.origin)
+            let kept = series::kept(&drawn.pair, number);
+            format!("sheet {number} of seed {seed} ({}): {difference}; {kept}", drawn.pair.origin)
         })?;
         tally.count(&drawn.pair, returned);
     }
@@ -87,15 +84,5 @@ fn told(returned: Returned, out: &[u8]) -> String {
     match returned.number {
         0 => String::from_utf8_lossy(&out[..returned.line as usize]).replace('\n', "|"),
         _ => returned.to_string(),
-    }
-}
-
-/// Keeps the pair for a closer look.
-fn save(drawn: &Unfilled, number: u64) -> String {
-    let (program, split) = (format!("unlike-{number}-program.txt"), format!("unlike-{number}-split.txt"));
-    let saved = std::fs::write(&program, &drawn.pair.program).and_then(|()| std::fs::write(&split, &drawn.pair.split));
-    match saved {
-        Ok(()) => format!("saved as {program} and {split}"),
-        Err(error) => format!("not saved: {error}"),
     }
 }

@@ -1,10 +1,9 @@
 //! Writes drawn pairs as files: `pairs FOLDER COUNT [SEED]` makes FOLDER/0, FOLDER/1, .., each with both sheets.
 
 use evidence::draw;
+use evidence::series::SEED;
 use std::path::Path;
 use std::process::ExitCode;
-
-const SEED: u64 = 2008;
 
 fn main() -> ExitCode {
     let arguments: Vec<String> = std::env::args().skip(1).collect();

@@ -11,6 +11,7 @@ use evidence::draw::draft::Draft;
 use evidence::draw::honest::{self, concurrent, Slip};
 use evidence::draw::random::Random;
 use evidence::draw::{self, mutants, Drawn};
+use evidence::series::SEED;
 use evidence::steps::claims::Fault;
 use evidence::steps::expression::Expression;
 use evidence::steps::programs::{ODD, RACY, WAITING};
@@ -21,7 +22,6 @@ use std::process::ExitCode;
 use std::rc::Rc;
 use std::time::Instant;
 
-const SEED: u64 = 2008;
 /// How many states an exhaustive search visits before it gives up on the rest.
 const BOUND: usize = 4_000;
 

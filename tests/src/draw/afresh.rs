@@ -1,9 +1,10 @@
 //! A draft written afresh, as solvers do: each use of a type or of a map has a line of its own, under
 //! a new number. Types agree by structure, so an honest draft stays one.
 
-use super::draft::{Draft, Step, Type};
+use super::draft::{Draft, Step};
 use super::random::Random;
 use crate::answer::{MAPS, TYPES};
+use crate::types::Type;
 
 /// The same draft, which starts with map 0, with a new line for each use while there is room for new lines; past that, a use
 /// shares a line that says the same.
@@ -38,9 +39,23 @@ impl Writer<'_> {
         if self.draft.types.len() + self.depth(old) + kept_free > TYPES as usize {
             return self.shared_type(old);
         }
+        self.add_type(old, Writer::new_type)
+    }
+
+    fn shared_type(&mut self, old: usize) -> usize {
+        if let Some(number) = self.shared_types[old] {
+            return number;
+        }
+        let number = self.add_type(old, Writer::shared_type);
+        self.shared_types[old] = Some(number);
+        number
+    }
+
+    /// A line for a type with new maps, whose content is written as told.
+    fn add_type(&mut self, old: usize, written: fn(&mut Self, usize) -> usize) -> usize {
         let kind = match self.known.types[old] {
             Type::Int => Type::Int,
-            Type::Ref { location, content } => Type::Ref { location, content: self.new_type(content) },
+            Type::Ref { location, content } => Type::Ref { location, content: written(self, content) },
             Type::Lock { taken, given } => self.new_lock(taken, given),
             Type::Tid(map) => Type::Tid(self.new_map(map)),
             Type::Sem(map) => Type::Sem(self.new_map(map)),
@@ -49,25 +64,6 @@ impl Writer<'_> {
             }
         };
         self.draft.add_type(kind)
-    }
-
-    fn shared_type(&mut self, old: usize) -> usize {
-        if let Some(number) = self.shared_types[old] {
-            return number;
-        }
-        let kind = match self.known.types[old] {
-            Type::Int => Type::Int,
-            Type::Ref { location, content } => Type::Ref { location, content: self.shared_type(content) },
-            Type::Lock { taken, given } => self.new_lock(taken, given),
-            Type::Tid(map) => Type::Tid(self.new_map(map)),
-            Type::Sem(map) => Type::Sem(self.new_map(map)),
-            Type::Rwlock { reading, writing } => {
-                Type::Rwlock { reading: self.new_map(reading), writing: self.new_map(writing) }
-            }
-        };
-        let number = self.draft.add_type(kind);
-        self.shared_types[old] = Some(number);
-        number
     }
 
     fn new_lock(&mut self, taken: usize, given: usize) -> Type {

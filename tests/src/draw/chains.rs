@@ -1,11 +1,12 @@
 //! Long types: chains of refs that are written twice and agree down to the last, or differ in one spot.
 
-use super::draft::{Draft, Heading, Map, Step, Type};
+use super::draft::{Draft, Heading, Map, Step};
 use super::headings::often_written_out;
 use super::promise::Promise;
 use super::random::Random;
 use super::Drawn;
 use crate::answer::TYPES;
+use crate::types::Type;
 use crate::words::Word;
 
 /// Map 0 holds the whole of each location, these hold nothing, and the last one a little at the end.
@@ -103,13 +104,6 @@ fn write_steps(draft: &mut Draft, levels: &[usize], shown: usize) {
     for &level in levels[1..].iter().rev() {
         draft.steps.push(step(Word::Ref, level));
     }
-    let bottom = match draft.types[levels[0]] {
-        Type::Lock { .. } => Word::Newlock,
-        Type::Tid(_) => Word::Newtid,
-        Type::Sem(_) => Word::Newsem,
-        Type::Rwlock { .. } => Word::Newrwlock,
-        _ => Word::Int,
-    };
-    draft.steps.push(step(bottom, levels[0]));
+    draft.steps.push(step(draft.types[levels[0]].maker(), levels[0]));
     draft.steps.push(step(Word::Var, shown));
 }

@@ -4,11 +4,12 @@
 //! the step notices a change to its type or its map, and the step's own condition is the first to
 //! fail.
 
-use super::draft::{Draft, Map, Step, Type};
+use super::draft::{Draft, Map, Step};
 use super::headings::often_written_out;
 use super::honest::Builder;
 use super::random::Random;
 use crate::answer::{PLACES, WHOLE};
+use crate::types::Type;
 use crate::words::Word;
 
 /// A draft whose first false condition is this one of this word.

@@ -1,38 +1,12 @@
 //! A pair of sheets before it is written out as text.
 
 use crate::answer::{LOCATIONS, PLACES};
+use crate::types::Type;
 use crate::words::Word;
 use std::collections::BTreeSet;
 
 /// A capability mapping, document 01's "map"; numbers past the last location are 0.
 pub type Map = [u32; LOCATIONS as usize];
-
-#[derive(Clone, Copy, PartialEq, Eq)]
-pub enum Type {
-    Int,
-    Ref {
-        location: usize,
-        content: usize,
-    },
-    /// What who takes the lock gets, and what the lock takes back.
-    Lock {
-        taken: usize,
-        given: usize,
-    },
-    Tid(usize),
-    Sem(usize),
-    Rwlock {
-        reading: usize,
-        writing: usize,
-    },
-}
-
-impl Type {
-    /// A lock that takes back what it gives.
-    pub const fn lock(map: usize) -> Type {
-        Type::Lock { taken: map, given: map }
-    }
-}
 
 /// A line of the program with its line of the split.
 #[derive(Clone, Copy)]

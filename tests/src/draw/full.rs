@@ -1,10 +1,11 @@
 //! Drafts brought to an exact size: so many steps, types, maps, locations or bytes of split.
 
-use super::draft::{push_numeral, Draft, Map, Step, Type};
+use super::draft::{push_numeral, Draft, Map, Step};
 use super::headings::often_written_out;
 use super::honest;
 use super::random::Random;
 use crate::answer::{LOCATIONS, MAPS, SPLIT_BYTES, STEPS, TYPES, WHOLE};
+use crate::types::Type;
 use crate::words::Word;
 
 /// An honest draft at every limit at once, its split `bytes` long.

@@ -1,10 +1,11 @@
 //! The same draft under another heading, and drafts at fault in what their heading asks for.
 
-use super::draft::{Draft, Heading, Map, Step, Type};
+use super::draft::{Draft, Heading, Map, Step};
 use super::promise::Promise;
 use super::random::Random;
 use super::Drawn;
 use crate::answer::{Returned, MAPS, TYPES, WHOLE};
+use crate::types::Type;
 use crate::words::Word;
 
 /// Now and then a `C` draft with its start written out; a `C3` draft always. What was accepted stays

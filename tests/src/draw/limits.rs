@@ -1,6 +1,6 @@
 //! Pairs at the limits of document 01 and one past them.
 
-use super::draft::{Draft, Heading, Map, Step, Type};
+use super::draft::{Draft, Heading, Map, Step};
 use super::full::{full, program_with_bytes, with_locations, with_maps, with_steps, with_types};
 use super::headings::often_written_out;
 use super::honest;
@@ -8,6 +8,7 @@ use super::promise::Promise;
 use super::random::Random;
 use super::Drawn;
 use crate::answer::{Returned, LOCATIONS, MAPS, PLACES, PROGRAM_BYTES, SPLIT_BYTES, STEPS, TYPES, WHOLE, WORK_SPACE};
+use crate::types::Type;
 use crate::words::Word;
 
 /// A pair at one of the limits, or one past it.

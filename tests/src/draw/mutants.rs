@@ -1,8 +1,9 @@
 //! Mutants: one thing changed in an honest pair, in the draft or in a sheet's text.
 
-use super::draft::{push_numeral, Draft, Heading, Step, Type};
+use super::draft::{push_numeral, Draft, Heading, Step};
 use super::random::Random;
 use crate::answer::{PLACES, WHOLE};
+use crate::types::Type;
 use crate::words::{Word, WORDS};
 
 /// Changes one word, type, map, number or share of a draft.

@@ -1,10 +1,11 @@
 //! Noise: bytes, scraps of the formats, and drawn trees with drawn splits.
 
-use super::draft::{Draft, Heading, Map, Step, Type};
+use super::draft::{Draft, Heading, Map, Step};
 use super::promise::Promise;
 use super::random::Random;
 use super::Drawn;
 use crate::answer::WORK_SPACE;
+use crate::types::Type;
 use crate::words::{Word, WORDS};
 
 /// A pair that nobody worked out.

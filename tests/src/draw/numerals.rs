@@ -3,11 +3,12 @@
 //! Only D and the numbers of maps go that far, up to 1,000,000,000. So elsewhere the answer is known:
 //! out of range up to ten digits, the wrong form past them.
 
-use super::draft::{Draft, Heading, Type};
+use super::draft::{Draft, Heading};
 use super::promise::Promise;
 use super::random::Random;
 use super::Drawn;
 use crate::answer::{Returned, WHOLE};
+use crate::types::Type;
 use crate::words::Word;
 
 /// The least number of eleven digits.

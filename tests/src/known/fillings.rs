@@ -1,6 +1,6 @@
 //! Sheets for filling, request (viii), with what is written or the refusal.
 
-use super::{pair, Known, ONE, P};
+use super::{pair, Known, IDLE, ONE, P};
 
 /// Document 01's S with its maps afterwards taken out, with another head, tid line or spawn line.
 macro_rules! unfilled_p {
@@ -39,9 +39,6 @@ const UP_AND_DOWN_TWICE: &str = "P,8|let,0|join,0|newtid,0|let,1|post,0|newsem,0
 
 /// A lock is made, taken and given back.
 const TAKEN: &str = "P,7|let,0|newlock,0|let,1|lock,0|var,0|unlock,0|var,0|";
-
-/// A spawned thread that does nothing.
-const IDLE: &str = "P,3|spawn,0|newtid,0|int,0|";
 
 pub const SHEETS: &[Known] = &[
     pair(ONE, row!("0,,|"), "C2,1,1,1,2,0|int,0,0|1|1|0,1,|"),

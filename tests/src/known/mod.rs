@@ -3,6 +3,7 @@
 
 mod base;
 mod fillings;
+mod locks;
 mod requests;
 
 /// A program sheet, a split sheet, and the line that `racecheck` writes for them.
@@ -24,7 +25,7 @@ fn bytes(sheet: &str) -> Vec<u8> {
 
 /// Every known pair; the first is document 01's P with its S.
 pub fn all() -> impl Iterator<Item = &'static Known> {
-    base::PAIRS.iter().chain(requests::PAIRS)
+    base::PAIRS.iter().chain(requests::PAIRS).chain(locks::PAIRS)
 }
 
 /// Every known sheet for filling. The answer is the filled sheet, or the refusal as `racefill` writes it.
@@ -39,6 +40,10 @@ pub(crate) const P: &str = "P,16|let,0|ref,0|int,0|let,1|newtid,0|let,2|spawn,0|
 const Z: &str = "C,1,1,1,1|int,0,0|0|0,0,|";
 /// The tiny split's program.
 const ONE: &str = "P,1|int,0|";
+/// A lock, whose type may stand under one number where it is made and under another where it is used.
+const SAME_LOCK: &str = "P,3|let,0|newlock,0|var,0|";
+/// A spawned thread that does nothing.
+const IDLE: &str = "P,3|spawn,0|newtid,0|int,0|";
 
 const fn pair(program: &'static str, split: &'static str, answer: &'static str) -> Known {
     Known { program, split, answer }

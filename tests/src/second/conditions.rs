@@ -2,8 +2,9 @@
 
 use super::flows::{Flows, Given};
 use super::program::{line_of, Step};
-use super::split::{Split, Type};
+use super::split::Split;
 use crate::answer::{Returned, STEPS};
+use crate::types::Type;
 use crate::words::Word;
 
 /// The start, then the first false condition, by step line and then by number.

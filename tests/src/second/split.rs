@@ -3,72 +3,8 @@
 use super::program::Step;
 use super::text::Text;
 use crate::answer::{Returned, LOCATIONS, MAPS, TYPES, WHOLE};
+use crate::types::Type;
 use crate::words::Word;
-
-/// A type line. Locations, types and maps are held as indices.
-#[derive(Clone, Copy)]
-pub enum Type {
-    Int,
-    Ref {
-        location: usize,
-        content: usize,
-    },
-    /// The map that a lock gives to who takes it ("in"), and the one that it takes back ("out").
-    Lock {
-        taken: usize,
-        given: usize,
-    },
-    Tid(usize),
-    Sem(usize),
-    Rwlock {
-        reading: usize,
-        writing: usize,
-    },
-}
-
-impl Type {
-    pub fn lock_in(self) -> Option<usize> {
-        match self {
-            Type::Lock { taken, .. } => Some(taken),
-            _ => None,
-        }
-    }
-
-    pub fn lock_out(self) -> Option<usize> {
-        match self {
-            Type::Lock { given, .. } => Some(given),
-            _ => None,
-        }
-    }
-
-    pub fn tid(self) -> Option<usize> {
-        match self {
-            Type::Tid(map) => Some(map),
-            _ => None,
-        }
-    }
-
-    pub fn sem(self) -> Option<usize> {
-        match self {
-            Type::Sem(map) => Some(map),
-            _ => None,
-        }
-    }
-
-    pub fn reading(self) -> Option<usize> {
-        match self {
-            Type::Rwlock { reading, .. } => Some(reading),
-            _ => None,
-        }
-    }
-
-    pub fn writing(self) -> Option<usize> {
-        match self {
-            Type::Rwlock { writing, .. } => Some(writing),
-            _ => None,
-        }
-    }
-}
 
 /// Whether the step lines name the maps afterwards, or leave them to be filled in (request (viii)).
 #[derive(Clone, Copy, PartialEq, Eq)]

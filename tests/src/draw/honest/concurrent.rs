@@ -2,9 +2,9 @@
 //! shares, or handed over at a join or by a semaphore.
 
 use super::{Builder, Slip};
-use crate::draw::draft::{Draft, Heading, Map, Type};
+use crate::draw::draft::{Draft, Heading, Map};
 use crate::draw::random::Random;
-use crate::words::Word;
+use crate::types::Type;
 
 /// Two locations: the locks carry the whole of the first, or half of it for a reader, identifiers bring
 /// back half of the second, all of it, or nothing, and semaphores carry half of the second or all of it.
@@ -20,18 +20,27 @@ pub fn draft_with(random: &mut Random, slip: Option<Slip>) -> Draft {
         let size = 16 + random.below(24);
         let mut builder = Builder::bare(random, 2, whole);
         builder.slip = slip;
-        let map = |builder: &mut Builder, first, second| {
-            let mut map = Map::default();
-            (map[0], map[1]) = (first, second);
-            builder.draft.add_map(map)
-        };
-        map(&mut builder, whole, whole);
-        let guarded = map(&mut builder, whole, 0);
-        let half = map(&mut builder, 0, whole / 2);
-        let all = map(&mut builder, 0, whole);
-        let none = map(&mut builder, 0, 0);
-        let read = map(&mut builder, whole / 2, 0);
-        builder.draft.types = vec![
+        builder.divide();
+        let mut now = builder.draft.maps[0];
+        let things = builder.drawn_things();
+        builder.over(things, &mut now, size);
+        if let Some(draft) = builder.finished() {
+            return draft;
+        }
+    }
+}
+
+impl Builder<'_> {
+    /// The maps and the types of such a draft.
+    fn divide(&mut self) {
+        let whole = self.draft.whole;
+        self.add_map(whole, whole);
+        let guarded = self.add_map(whole, 0);
+        let half = self.add_map(0, whole / 2);
+        let all = self.add_map(0, whole);
+        let none = self.add_map(0, 0);
+        let read = self.add_map(whole / 2, 0);
+        self.draft.types = vec![
             Type::Int,
             Type::Ref { location: 0, content: 0 },
             Type::Ref { location: 1, content: 0 },
@@ -44,19 +53,29 @@ pub fn draft_with(random: &mut Random, slip: Option<Slip>) -> Draft {
             Type::Sem(all),
             Type::Rwlock { reading: read, writing: guarded },
         ];
-        let as_printed = slip == Some(Slip::PrintedInequality);
-        if as_printed || builder.random.percent(30) {
-            let more = map(&mut builder, whole, whole / 2);
-            builder.draft.heading = Heading::C3 { start: 0 };
+        let as_printed = self.slip == Some(Slip::PrintedInequality);
+        if as_printed || self.random.percent(30) {
+            let more = self.add_map(whole, whole / 2);
+            self.draft.heading = Heading::C3 { start: 0 };
             let locks =
                 if as_printed { &[(none, none)][..] } else { &[(guarded, more), (none, guarded), (none, none)] };
-            builder.draft.types.extend(locks.iter().map(|&(taken, given)| Type::Lock { taken, given }));
+            self.draft.types.extend(locks.iter().map(|&(taken, given)| Type::Lock { taken, given }));
         }
-        let mut now = builder.draft.maps[0];
-        let things: &[usize] = match slip {
+    }
+
+    /// A map of so much of each of the two locations.
+    fn add_map(&mut self, first: u32, second: u32) -> usize {
+        let mut map = Map::default();
+        (map[0], map[1]) = (first, second);
+        self.draft.add_map(map)
+    }
+
+    /// The types of the things that the threads share.
+    fn drawn_things(&mut self) -> &'static [usize] {
+        match self.slip {
             Some(Slip::PrintedInequality) => &[1, 3],
             Some(Slip::PlacesForFree) => &[1, 10],
-            _ => builder.random.pick(&[
+            _ => self.random.pick(&[
                 &[1, 2, 3],
                 &[1, 2, 3, 7],
                 &[1, 2, 3, 9],
@@ -64,15 +83,9 @@ pub fn draft_with(random: &mut Random, slip: Option<Slip>) -> Draft {
                 &[1, 2, 10],
                 &[1, 2, 9, 10],
             ]),
-        };
-        builder.over(things, &mut now, size);
-        if let Some(draft) = builder.finished() {
-            return draft;
         }
     }
-}
 
-impl Builder<'_> {
     /// Binds a new thing of each of these types, and then forks.
     fn over(&mut self, things: &[usize], now: &mut Map, size: usize) {
         let Some((&first, rest)) = things.split_first() else {
@@ -83,13 +96,8 @@ impl Builder<'_> {
             return;
         };
         let step = self.open_let();
-        let word = match self.draft.types[first] {
-            Type::Lock { .. } => Word::Newlock,
-            Type::Sem(_) => Word::Newsem,
-            Type::Rwlock { .. } => Word::Newrwlock,
-            _ => Word::Ref,
-        };
-        self.step(word, first, now, &Map::default(), 1);
+        let maker = self.draft.types[first].maker();
+        self.step(maker, first, now, &Map::default(), 1);
         self.scope.push((self.draft.steps[step].number, first));
         self.over(rest, now, size);
         self.scope.pop();

@@ -4,7 +4,8 @@
 use super::steps::moved;
 use super::{Builder, Slip};
 use crate::answer::WHOLE;
-use crate::draw::draft::{at_least, sum, Map, Type};
+use crate::draw::draft::{at_least, sum, Map};
+use crate::types::Type;
 use crate::words::Word;
 
 /// The words that open and close a critical section.

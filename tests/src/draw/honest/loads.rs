@@ -1,7 +1,8 @@
 //! Locks with two loads, for `C3` sheets: what a lock gives to who takes it, and what it takes back.
 
 use super::Builder;
-use crate::draw::draft::{Map, Type};
+use crate::draw::draft::Map;
+use crate::types::Type;
 
 impl Builder<'_> {
     /// A lock's type. On a `C3` sheet its loads may differ, and it may be looser than the last lock's.

@@ -4,16 +4,17 @@
 //! of the expression being built. It only takes a word that leaves at least that much, so every
 //! condition of Figure 5 holds of what it builds.
 
+mod around;
 pub mod concurrent;
 mod idioms;
 mod loads;
 mod readers;
 mod steps;
 
-use super::directed::Target;
-use super::draft::{at_least, sum, Draft, Heading, Map, Type};
+use super::draft::{at_least, sum, Draft, Heading, Map};
 use super::random::Random;
 use crate::answer::{STEPS, VARIABLES, WHOLE};
+use crate::types::Type;
 use crate::words::Word;
 
 /// A mistake of document 01's "Bugs we expect", or one like them. A builder that makes it builds what a
@@ -171,10 +172,14 @@ impl<'r> Builder<'r> {
 
     /// A type drawn among those that meet a test on its number and its line.
     pub(super) fn type_where(&mut self, meets: impl Fn(&Self, usize, Type) -> bool) -> Option<usize> {
+        self.types_in_turn().find(|&number| meets(self, number, self.draft.types[number]))
+    }
+
+    /// The numbers of all types, from a drawn one on.
+    fn types_in_turn(&mut self) -> impl Iterator<Item = usize> {
         let count = self.draft.types.len();
         let first = self.random.below(count);
-        let mut numbers = (0..count).map(|place| (first + place) % count);
-        numbers.find(|&number| meets(self, number, self.draft.types[number]))
+        (0..count).map(move |place| (first + place) % count)
     }
 
     /// Whether some variable in scope may be shown with this type.
@@ -262,55 +267,9 @@ impl<'r> Builder<'r> {
         if self.random.percent(94) && self.step(Word::Var, kind, now, need, 1) {
             return;
         }
-        let word = match self.draft.types[kind] {
-            Type::Int => Word::Int,
-            Type::Ref { .. } => Word::Ref,
-            Type::Lock { .. } => Word::Newlock,
-            Type::Tid(_) => Word::Newtid,
-            Type::Sem(_) => Word::Newsem,
-            Type::Rwlock { .. } => Word::Newrwlock,
-        };
-        if !self.step(word, kind, now, need, 1) {
+        let maker = self.draft.types[kind].maker();
+        if !self.step(maker, kind, now, need, 1) {
             self.step(Word::Var, kind, now, need, 1);
         }
-    }
-
-    /// A chain of `let`s of which the one at depth `above` has a step with this word as its e1.
-    /// None when the word cannot be had there.
-    pub fn chain_around(
-        &mut self,
-        word: Word,
-        above: usize,
-        kind: usize,
-        now: &mut Map,
-        size: usize,
-    ) -> Option<Target> {
-        let kept = self.price(kind);
-        let variable = self.unbound.pop()?;
-        let step = self.open(Word::Let, variable);
-        let mut target = None;
-        let mut bound = self.drawn_type(now, &kept);
-        if above == 0 {
-            target = Some(Target { step: self.draft.steps.len(), pre: *now });
-            bound = self.bound_by(word, now, &kept, size)?;
-        } else {
-            self.expression(bound, now, &kept, 1 + size / 4);
-        }
-        self.scope.push((variable, bound));
-        match above {
-            0 => self.expression(kind, now, &Map::default(), size),
-            _ => target = self.chain_around(word, above - 1, kind, now, size),
-        }
-        self.scope.pop();
-        self.close(step, kind, now);
-        target
-    }
-
-    /// Builds a step with this word, of the first drawn type that it can have; gives that type.
-    fn bound_by(&mut self, word: Word, now: &mut Map, need: &Map, size: usize) -> Option<usize> {
-        let count = self.draft.types.len();
-        let first = self.random.below(count);
-        let mut kinds = (0..count).map(|place| (first + place) % count);
-        kinds.find(|&kind| self.can_make(kind, now, need) && self.step(word, kind, now, need, size))
     }
 }

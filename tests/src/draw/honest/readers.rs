@@ -2,7 +2,8 @@
 
 use super::{Builder, Slip};
 use crate::answer::PLACES;
-use crate::draw::draft::{at_least, difference, sum, Map, Type};
+use crate::draw::draft::{at_least, difference, sum, Map};
+use crate::types::Type;
 use crate::words::Word;
 
 impl Builder<'_> {

@@ -2,7 +2,8 @@
 
 use super::{Builder, Slip, MAPS_IN_USE};
 use crate::answer::{CONSTANTS, WHOLE};
-use crate::draw::draft::{at_least, difference, lower, sum, Map, Step, Type};
+use crate::draw::draft::{at_least, difference, lower, sum, Map, Step};
+use crate::types::Type;
 use crate::words::Word;
 
 impl Builder<'_> {

@@ -1,8 +1,9 @@
 //! Numbers past every limit: a chain of steps that add much, and of steps that take it away again.
 
 use crate::answer::WHOLE;
-use crate::draw::draft::{Draft, Heading, Map, Step, Type};
+use crate::draw::draft::{Draft, Heading, Map, Step};
 use crate::draw::random::Random;
+use crate::types::Type;
 use crate::words::Word;
 
 /// How many steps that add or take away there are at most: each has three lines.

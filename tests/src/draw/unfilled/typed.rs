@@ -1,8 +1,9 @@
 //! Drafts whose conditions on types hold, and whose maps nobody worked out: some can be filled in, some not.
 
 use crate::answer::{LOCATIONS, PLACES, STEPS};
-use crate::draw::draft::{Draft, Heading, Map, Step, Type};
+use crate::draw::draft::{Draft, Heading, Map, Step};
 use crate::draw::random::Random;
+use crate::types::Type;
 use crate::words::Word;
 
 /// A draft of drawn size.
@@ -195,20 +196,18 @@ impl<'r> Typed<'r> {
             let variable = self.random.pick(&known);
             return self.push(Word::Var, variable, kind);
         }
+        let maker = self.draft.types[kind].maker();
         match self.draft.types[kind] {
-            Type::Int => self.push(Word::Int, 0, kind),
-            Type::Tid(_) => self.push(Word::Newtid, 0, kind),
-            Type::Lock { .. } => self.push(Word::Newlock, 0, kind),
-            Type::Sem(_) => self.push(Word::Newsem, 0, kind),
             Type::Rwlock { reading, writing } => {
                 let most = self.draft.places(reading, writing).clamp(1, PLACES - 1);
                 let places = self.random.pick(&[1, most, most, most + 1]);
-                self.push(Word::Newrwlock, places, kind);
+                self.push(maker, places, kind);
             }
             Type::Ref { content, .. } => {
-                self.push(Word::Ref, 0, kind);
+                self.push(maker, 0, kind);
                 self.value(content);
             }
+            _ => self.push(maker, 0, kind),
         }
     }
 }

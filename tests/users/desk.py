@@ -1,0 +1,74 @@
+"""Where check-release is tried: releases made for it, the reports that it should write, and a scratch folder to run it in."""
+import subprocess
+
+from checks import HOUSE, check, make_pair, user_environment
+
+TOOLS = HOUSE / "tools"
+TOOL = TOOLS / "check-release"
+NAMES = [
+    "job {:03}", "job {:03}-b", "job-{:03}", "{:03} pump  and stirrer ", "refill's \"{:03}\" $x *", "-{:03}", "screen\\n{:03}",
+    "Füllstand {:03}",
+]
+
+
+def make_release(folder, count, kinds):
+    """A folder of pairs, and its report's entries: name, answer and details."""
+    folder.mkdir()
+    entries = []
+    for i in range(count):
+        name = NAMES[i % len(NAMES)].format(i // 2)
+        program, split, answer, details = kinds[i % len(kinds)]
+        make_pair(folder / name, program, split)
+        entries.append((name, answer, details))
+    return sorted(entries, key=lambda entry: entry[0].encode())
+
+
+def wanted_counts(entries):
+    answers = [answer for _, answer, _ in entries]
+    refusals = [int(a.split(",")[1]) for a in answers if a.startswith("REFUSE")]
+    counts = [("ACCEPT", answers.count("ACCEPT")), ("REFUSE", len(refusals))]
+    counts += [(f"REFUSE,{n}", refusals.count(n)) for n in sorted(set(refusals))]
+    counts += [("UNREAD", answers.count("UNREAD")), ("FAILED", answers.count("FAILED"))]
+    return "".join(f"count\t{answer}\t{count}\n" for answer, count in counts)
+
+
+def wanted_report(entries):
+    text = wanted_counts(entries)
+    for kind, title in [("REFUSE", "Refused"), ("UNREAD", "Not read"), ("FAILED", "No answer"), ("ACCEPT", "Accepted")]:
+        chosen = [entry for entry in entries if entry[1].startswith(kind)]
+        text += f"\n{title}: {len(chosen)}\n" if chosen else ""
+        for name, answer, details in chosen:
+            text += f"{name}\t{answer}\n" + "".join(f"    {line}\n" for line in details)
+    return text
+
+
+class Desk:
+    """A scratch folder to run check-release in."""
+
+    def __init__(self, scratch):
+        self.scratch = scratch
+        self.temporary = scratch / "temporary"
+        self.temporary.mkdir()
+
+    def start(self, *arguments, tool=TOOL, before=(), output=subprocess.PIPE, error=subprocess.PIPE, **environment):
+        environment = user_environment(TMPDIR=self.temporary, **environment)
+        return subprocess.Popen(
+            [*before, tool, *arguments], cwd=self.scratch, env=environment, stdin=subprocess.DEVNULL, stdout=output,
+            stderr=error, text=True)
+
+    def run(self, *arguments, **how):
+        process = self.start(*arguments, **how)
+        out, error = process.communicate()
+        self.check_nothing_left(arguments)
+        return subprocess.CompletedProcess(arguments, process.returncode, out, error)
+
+    def check_nothing_left(self, what):
+        left = list(self.temporary.iterdir()) + list(self.scratch.glob(".*"))
+        check(f"check-release {what}: no temporary files left", left, [])
+
+    def binary(self, name, script):
+        path = self.scratch / name
+        path.parent.mkdir(parents=True, exist_ok=True)
+        path.write_text("#!/bin/sh\n" + script + "\n")
+        path.chmod(0o755)
+        return path
