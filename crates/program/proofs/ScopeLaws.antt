@@ -14,10 +14,10 @@ use Rattle.spec.specs.Words.{role}
 use Rattle.spec.specs.declared.Refusal.{Refusal}
 use Rattle.spec.specs.declared.Refusal.the-variants.{Unbound}
 use Rattle.spec.specs.declared.Word.{Word}
-use Rattle.workspace.specs.Layout.{wordsAt, valuesAt, endsAt, letsAt, wordOf, workSize}
+use Rattle.workspace.specs.Layout.{wordsAt, valuesAt, endsAt, letsAt, wordOf, workSize, linesAt}
 use Rattle.workspace.specs.Region.{Region, ChangedWithin}
 use Rattle.workspace.proofs.Region.{region-empty, region-push, changed-nothing, changed-store, changed-then}
-use Rattle.workspace.specs.Steps.{wordAt, valueAt}
+use Rattle.workspace.specs.Steps.{wordAt, valueAt, lineAt}
 use Rattle.program.specs.Scopes.{unbound, judgeLet, judgeVar, judgeBy, judgeOf, storing, judged, scopesFrom, Scoped}
 use Rattle.program.specs.declared.Outcome.the-variants as outcome
 use Rattle.spec.specs.declared.Role.{Role}
@@ -40,13 +40,13 @@ replicate-any (suc n) (suc v) x = replicate-any n v x
 
 -- a use of a variable whose let is at b, as the code tells its cases apart
 module _ (w : List ℕ) (k b at x : ℕ) (lb : b < 256) (ea : at ≡ b) (ex : x ≡ getD w (endsAt + (at + 1)) 0) where
-  pub used-early : k < x → Refused (Unbound (k + 2)) ≡ judgeVar w k b
-  unfolding judgeVar
+  pub used-early : k < x → Refused (Unbound (getD w (linesAt + k) 0)) ≡ judgeVar w k b
+  unfolding judgeVar lineAt
   used-early h = simp (lt-leb _ _ lb, ← ea, ← ex, lt-ltb _ _ h)
 
   module _ (y : ℕ) (hx : x ≤ k) (ey : y ≡ getD w (endsAt + at) 0) where
-    pub used-late : y ≤ k → Refused (Unbound (k + 2)) ≡ judgeVar w k b
-    unfolding judgeVar
+    pub used-late : y ≤ k → Refused (Unbound (getD w (linesAt + k) 0)) ≡ judgeVar w k b
+    unfolding judgeVar lineAt
     used-late h = rw (lt-leb _ _ lb, ← ea, ← ex, ← ey, le-ltb _ _ hx, le-leb _ _ h)
 
     pub used-inside : k < y → Store b ≡ judgeVar w k b
@@ -55,17 +55,21 @@ module _ (w : List ℕ) (k b at x : ℕ) (lb : b < 256) (ea : at ≡ b) (ex : x 
 
 -- what is judged does not depend on what is stored of lets
 module _ (w w′ : List ℕ) (x : ChangedWithin letsAt (letsAt + 256) w w′) (k b : ℕ) (h : k < 256) (o : (b ≡ 256) ⊎ (b < k)) where
+  line-kept : lineAt w′ k ≡ lineAt w k
+  unfolding lineAt
+  line-kept = x .kept (linesAt + k) (inr (omega arith))
+
   judge-var-kept : judgeVar w′ k b ≡ judgeVar w k b
   unfolding judgeVar
   judge-var-kept =
       ⊎-elim
-      (λ e. rw e refl)
-      (λ l. rw (x .kept (endsAt + (b + 1)) (inl (omega arith)), x .kept (endsAt + b) (inl (omega arith))) refl)
+      (λ e. rw e (ap (λ i. Refused (Unbound i)) line-kept))
+      (λ l. rw (line-kept, x .kept (endsAt + (b + 1)) (inl (omega arith)), x .kept (endsAt + b) (inl (omega arith))) refl)
       o
 
   judge-by-kept : (r : Role) → judgeBy w′ k b r ≡ judgeBy w k b r
   unfolding judgeBy
-  judge-by-kept Binds = refl
+  judge-by-kept Binds = ap (λ i. judgeLet i b) line-kept
   judge-by-kept Uses = judge-var-kept
   judge-by-kept Neither = refl
 
@@ -204,8 +208,8 @@ module _ (w : List ℕ) (k b : ℕ) {x : Word} {r : Role} (e : x ≡ wordOf (get
   unfolding judgeOf wordAt
   judged-by s g = ap (judgeBy w k b) (sym g ∙ f ∙ ap role e)
 
-  pub judged-let : r ≡ Binds → judgeLet k b ≡ judgeOf w k b
-  unfolding judgeBy
+  pub judged-let : r ≡ Binds → judgeLet (getD w (linesAt + k) 0) b ≡ judgeOf w k b
+  unfolding judgeBy lineAt
   judged-let = judged-by Binds
 
   pub judged-var : r ≡ Uses → judgeVar w k b ≡ judgeOf w k b

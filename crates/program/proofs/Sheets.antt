@@ -37,7 +37,7 @@ use Rattle.program.specs.declared.ProgramRead.the-variants.{Read, Refuse
 use Rattle.workspace.proofs.Held.{ends-length, steps-stay}
 use Rattle.workspace.proofs.Expression.{Standing, root-standing}
 use Rattle.spec.proofs.Listing.{prefix-length, listed-expression}
-use Rattle.spec.specs.WellFormed.{prefix, LinesFrom}
+use Rattle.spec.specs.WellFormed.{prefix, IndexesFrom}
 use Rattle.program.proofs.Walk.{root-stops, root-goes-on}
 
 -- ------------------------------------------------------------------ the expression
@@ -45,11 +45,11 @@ use Rattle.program.proofs.Walk.{root-stops, root-goes-on}
 refused-passed : {x : Refusal} → outcome.Refused x ≡ outcome.Passed → ⊥
 refused-passed {x} e = let z : _≡_ {A = ℕ} 0 1 = cc in omega arith
 
-module _ (n : ℕ) (w w₁ : List ℕ) where
-  pub expression-refused : (x : Refusal) → Structured n w w₁ (outcome.Refused x) → ExpressionRead n w w₁ (outcome.Refused x)
+module _ (n last : ℕ) (w w₁ : List ℕ) where
+  pub expression-refused : (x : Refusal) → Structured n last w w₁ (outcome.Refused x) → ExpressionRead n last w w₁ (outcome.Refused x)
   unfolding expressionOf _>>=_
   expression-refused x s = record {
-    found = from (single n (listed 2 (stepsFrom w 0 n))) (s .found);
+    found = from (single last (stepsFrom w 0 n) (listed 0 (stepsFrom w 0 n))) (s .found);
     changed = changed-wider endsAt (letsAt + 256) (omega arith) (omega arith) (s .changed);
   }
     where
@@ -58,25 +58,25 @@ module _ (n : ℕ) (w w₁ : List ℕ) where
       from (stop y) f = f
       from (on e) f = absurd (refused-passed (f .0))
 
-  module _ (few : n ≤ 256) (stored : StepsStored n w) (s : Structured n w w₁ outcome.Passed) (w₂ : List ℕ) (r : Outcome) (q : Scoped n w₁ w₂ r) where
+  module _ (few : n ≤ 256) (stored : StepsStored n w) (s : Structured n last w w₁ outcome.Passed) (w₂ : List ℕ) (r : Outcome) (q : Scoped n w₁ w₂ r) where
     both : ChangedWithin endsAt (letsAt + 256) w w₂
     both =
         changed-then endsAt (letsAt + 256)
         (changed-wider endsAt (letsAt + 256) (omega arith) (omega arith) (s .changed))
         (changed-wider endsAt (letsAt + 256) (omega arith) (omega arith) (q .changed))
 
-    module _ (e : Expr) (p : single n (listed 2 (stepsFrom w 0 n)) ≡ on e) (m : Region w₁ endsAt (ends 0 e)) where
-      listing : (prefix e ≡ stored .steps) × LinesFrom 2 e
+    module _ (e : Expr) (p : single last (stepsFrom w 0 n) (listed 0 (stepsFrom w 0 n)) ≡ on e) (m : Region w₁ endsAt (ends 0 e)) where
+      listing : (prefix e ≡ stored .steps) × IndexesFrom 0 e
       listing =
           let same : stepsFrom w 0 n ≡ stored .steps = steps-held w (stored .steps) n (stored .held) (stored .counted) in
-          listed-expression (stored .steps) (rw (stored .counted, ← same) p)
+          listed-expression last (stored .steps) (rw (← same) p)
 
       sized : size e ≡ n
       sized = sym (prefix-length e) ∙ ap length (listing .0) ∙ stored .counted
 
       standing : Standing w₁ 0 e
       standing =
-          root-standing w₁ (stored .steps) e (steps-stay (s .changed) (omega arith) (omega (arith, stored .counted)) (stored .held)) m
+          root-standing w₁ (stored .steps) e (steps-stay (s .changed) (inl (omega arith, omega arith)) (omega (arith, stored .counted)) (stored .held)) m
           (listing .0)
           (listing .1)
 
@@ -94,11 +94,11 @@ module _ (n : ℕ) (w w₁ : List ℕ) where
           let a = subst (Answers (Region w₂ letsAt) r) (root-goes-on w₁ n e standing limited sized few bound f) (q .found) in
           (a .0, (ends-kept, a .1))
 
-    pub expression-scoped : ExpressionRead n w w₂ r
+    pub expression-scoped : ExpressionRead n last w w₂ r
     unfolding expressionOf _>>=_
-    expression-scoped = record { found = from (single n (listed 2 (stepsFrom w 0 n))) refl (s .found); changed = both }
+    expression-scoped = record { found = from (single last (stepsFrom w 0 n) (listed 0 (stepsFrom w 0 n))) refl (s .found); changed = both }
       where
-        from : (o : Out Expr) → single n (listed 2 (stepsFrom w 0 n)) ≡ o → Answers (λ e. Region w₁ endsAt (ends 0 e)) outcome.Passed o
+        from : (o : Out Expr) → single last (stepsFrom w 0 n) (listed 0 (stepsFrom w 0 n)) ≡ o → Answers (λ e. Region w₁ endsAt (ends 0 e)) outcome.Passed o
             → Answers (λ e. Region w₂ endsAt (ends 0 e) × Region w₂ letsAt (lets 0 [] e)) r (o >>= λ e. scope e [] [] >>= λ bound. on e)
         from (stop y) p f = absurd (refused-passed (sym f))
         from (on e) p f = scoped e p (f .1) (scope e [] []) refl
@@ -110,7 +110,7 @@ unfolding _>>=_
 then-then (stop x) f g = refl
 then-then (on a) f g = refl
 
-module _ (n : ℕ) (ss : List Step) where
+module _ (last : ℕ) (ss : List Step) where
   with-steps : Expr → Out Program
   with-steps e = on (record { steps = ss; root = e })
 
@@ -124,9 +124,9 @@ module _ (n : ℕ) (ss : List Step) where
   one-expression (stop x) = refl
   one-expression (on e) = in-scope (scope e [] []) e
 
-  from-expression : (single n (listed 2 ss) >>= λ e. scope e [] [] >>= λ bound. with-steps e) ≡ (expressionOf n ss >>= with-steps)
+  from-expression : (single last ss (listed 0 ss) >>= λ e. scope e [] [] >>= λ bound. with-steps e) ≡ (expressionOf last ss >>= with-steps)
   unfolding expressionOf
-  from-expression = one-expression (single n (listed 2 ss))
+  from-expression = one-expression (single last ss (listed 0 ss))
 
 -- the answer to the steps is that to the expression
 abbrev answerOf : (n : ℕ) → Outcome → ProgramRead
@@ -135,8 +135,8 @@ answerOf n (outcome.Refused x) = Refused x
 
 module _ (text : List ℕ) (n : ℕ) (c : Cursor) (w w₁ : List ℕ) where
   behind-steps : (o : Out (List Step × Place)) → stepsAt text n c ≡ o
-      → behindCount n (placeAt text c) ≡ (o >>= λ r. end programSheet (r .1) >>= λ done. single n (listed 2 (r .0)) >>= λ e. scope e [] [] >>= λ bound. with-steps n (r .0) e)
-  unfolding behindCount stepsAt with-steps
+      → behindCount n (placeAt text c) ≡ (o >>= λ r. end programSheet (r .1) >>= λ done. single (r .1 .last) (r .0) (listed 0 (r .0)) >>= λ e. scope e [] [] >>= λ bound. with-steps (r .1 .last) (r .0) e)
+  unfolding behindCount stepsAt placeAt with-steps
   behind-steps o p = rw p refl
 
   pub steps-refused : (x : Refusal) → StepsShown text n c w w₁ (step-lines.Refused x) → StepsRead text n c w₁ (Refused x)
@@ -152,25 +152,25 @@ module _ (text : List ℕ) (n : ℕ) (c : Cursor) (w w₁ : List ℕ) where
         let g : behindCount n (placeAt text c) ≡ stop (ProgramLines (d .line + 1)) = behind-steps o (s .found .shown) ∙ rw f refl in
         subst (Answered w₁ (Refused (ProgramLines (d .line + 1)))) (sym g) refl
 
-    module _ (few : n ≤ 256) (e : nothing (rest text d) ≡ true) (w₂ : List ℕ) (r : Outcome) (x : ExpressionRead n w₁ w₂ r) where
-      all-lines : behindCount n (placeAt text c) ≡ (expressionOf n (s .found .stored .steps) >>= with-steps n (s .found .stored .steps))
-      unfolding _>>=_
+    module _ (few : n ≤ 256) (e : nothing (rest text d) ≡ true) (w₂ : List ℕ) (r : Outcome) (x : ExpressionRead n (d .line) w₁ w₂ r) where
+      all-lines : behindCount n (placeAt text c) ≡ (expressionOf (d .line) (s .found .stored .steps) >>= with-steps (d .line) (s .found .stored .steps))
+      unfolding _>>=_ placeAt
       all-lines =
           let o : Out (List Step × Place) = on (s .found .stored .steps, placeAt text d) in
-          behind-steps o (s .found .shown) ∙ rw (end-at-none programSheet text d (left-none (rest text d) e)) (from-expression n (s .found .stored .steps))
+          behind-steps o (s .found .shown) ∙ rw (end-at-none programSheet text d (left-none (rest text d) e)) (from-expression (d .line) (s .found .stored .steps))
 
       answers : (o : Out Expr) → Answers (λ e. Region w₂ endsAt (ends 0 e) × Region w₂ letsAt (lets 0 [] e)) r o
-          → Answered w₂ (answerOf n r) (o >>= with-steps n (s .found .stored .steps))
+          → Answered w₂ (answerOf n r) (o >>= with-steps (d .line) (s .found .stored .steps))
       unfolding _>>=_ with-steps
       answers (stop y) a = rw a refl
       answers (on e) a =
-          (rw (a .0, s .found .stored .counted) refl, record { steps = steps-stay (x .changed) (omega arith) (omega (arith, s .found .stored .counted)) (s .found .stored .held); ends = a .1 .0; lets = a .1 .1 }, omega (arith, s .found .stored .counted))
+          (rw (a .0, s .found .stored .counted) refl, record { steps = steps-stay (x .changed) (inl (omega arith, omega arith)) (omega (arith, s .found .stored .counted)) (s .found .stored .held); ends = a .1 .0; lets = a .1 .1 }, omega (arith, s .found .stored .counted))
 
       whole : StepsRead text n c w₂ (answerOf n r)
       whole =
           subst (Answered w₂ (answerOf n r)) (sym all-lines)
-          (answers (expressionOf n (s .found .stored .steps))
-          (subst (λ ss. Answers (λ e. Region w₂ endsAt (ends 0 e) × Region w₂ letsAt (lets 0 [] e)) r (expressionOf n ss))
+          (answers (expressionOf (d .line) (s .found .stored .steps))
+          (subst (λ ss. Answers (λ e. Region w₂ endsAt (ends 0 e) × Region w₂ letsAt (lets 0 [] e)) r (expressionOf (d .line) ss))
           (steps-held w₁ (s .found .stored .steps) n (s .found .stored .held) (s .found .stored .counted))
           (x .found)))
 

@@ -11,7 +11,7 @@ use lib.ListN.{length, getD, set}
 use borrow.Author.Tests.{le-leb, lt-leb, lt-ltb, le-ltb, ltb-true, ltb-false}
 use Rattle.spec.specs.Choice.{if_then_else_}
 use Rattle.spec.specs.Reading.{Out, stop, on, _>>=_}
-use Rattle.spec.specs.Expression.{Step, Expr, leaf, unary, binary, size, among, scopeStep, scope}
+use Rattle.spec.specs.Expression.{Step, Position, Expr, leaf, unary, binary, size, among, scopeStep, scope}
 use Rattle.spec.specs.Words.{role, binding, largestValue}
 use Rattle.spec.specs.declared.Refusal.{Refusal}
 use Rattle.spec.specs.declared.Refusal.the-variants.{Unbound, Rebound}
@@ -20,7 +20,7 @@ use Rattle.spec.specs.declared.Word.the-variants.{Binary}
 use Rattle.spec.specs.declared.LeafWord.the-variants.{Var, Int, Newtid, Newlock, Newsem, Newrwlock}
 use Rattle.spec.specs.declared.BinaryWord.the-variants.{Let, If, Spawn, Write}
 use Rattle.spec.specs.WellFormed.{prefix}
-use Rattle.workspace.specs.Steps.{wordAt, valueAt}
+use Rattle.workspace.specs.Steps.{wordAt, valueAt, lineAt}
 use Rattle.workspace.specs.Holds.{letIn, letOf, lets}
 use Rattle.workspace.proofs.Codes.{word-of-code}
 use Rattle.workspace.proofs.Expression.{Standing, Head, leaf-head, unary-head, binary-head, standing-end, standing-part, standing-first, standing-second}
@@ -59,16 +59,16 @@ one-of r s false false true o = refl
 one-of r s false false false o =
     absurd (⊎-elim (λ e. false≢true e) (λ p. ⊎-elim (λ e. false≢true e) (λ e. false≢true e) p) o)
 
-var-refused : (w : List ℕ) (k b : ℕ) → (256 ≤ b) ⊎ ((k < endAt w (b + 1)) ⊎ (endAt w b ≤ k)) → judgeVar w k b ≡ Refused (Unbound (k + 2))
+var-refused : (w : List ℕ) (k b : ℕ) → (256 ≤ b) ⊎ ((k < endAt w (b + 1)) ⊎ (endAt w b ≤ k)) → judgeVar w k b ≡ Refused (Unbound (lineAt w k))
 unfolding judgeVar
 var-refused w k b o =
-    one-of (Refused (Unbound (k + 2))) (Store b) (leb 256 b) (ltb k (endAt w (b + 1))) (leb (endAt w b) k)
+    one-of (Refused (Unbound (lineAt w k))) (Store b) (leb 256 b) (ltb k (endAt w (b + 1))) (leb (endAt w b) k)
     (⊎-elim
     (λ h. inl (le-leb 256 b h))
     (λ p. inr (⊎-elim (λ h. inl (lt-ltb k (endAt w (b + 1)) h)) (λ h. inr (le-leb (endAt w b) k h)) p))
     o)
 
-module _ (w : List ℕ) (m k : ℕ) (t : List ℕ) {x : Word} {l v : ℕ} (h : Head w k x l v) where
+module _ (w : List ℕ) (m k : ℕ) (t : List ℕ) {x : Word} {l : Position} {v : ℕ} (h : Head w k x l v) where
   step : scopesFrom w (suc m) k t ≡ judged (λ u. scopesFrom w m (k + 1) u) k t v (judgeBy w k (getD t v 256) (role x))
   unfolding scopesFrom judgeOf wordAt valueAt
   step = rw (h .code, h .value, word-of-code x) refl
@@ -102,17 +102,17 @@ module _ (w : List ℕ) (m k : ℕ) (t : List ℕ) {x : Word} {l v : ℕ} (h : H
         let till : k < endAt w b = omega (arith, r .3) in
         step-use ∙ rw (← q, lt-leb 256 b low, le-ltb k (endAt w (b + 1)) from, lt-leb (endAt w b) k till, r .0) refl
 
-    outside : (i b : ℕ) → b ≡ getD t v 256 → Right w k hi false i b → scopesFrom w (suc m) k t ≡ stop (Unbound l)
-    unfolding judged
+    outside : (i b : ℕ) → b ≡ getD t v 256 → Right w k hi false i b → scopesFrom w (suc m) k t ≡ stop (Unbound (l .line))
+    unfolding judged lineAt
     outside i b q r =
         let o : (256 ≤ b) ⊎ ((k < endAt w (b + 1)) ⊎ (endAt w b ≤ k)) =
         ⊎-elim (λ p. inl p) (λ p. inr (⊎-elim (λ f. inl (omega arith)) (λ f. inr f) p)) r in
         step-use
         ∙ ap (judged (λ u. scopesFrom w m (k + 1) u) k t v)
-        (ap (judgeVar w k) (sym q) ∙ var-refused w k b o ∙ ap (λ i. Refused (Unbound i)) (sym (h .line)))
+        (ap (judgeVar w k) (sym q) ∙ var-refused w k b o ∙ ap (λ i. Refused (Unbound i)) (h .line))
 
     walk-use : (y : Bool) → Right w k hi y (letIn ins v) (getD t v 256)
-        → Walked w m k 1 (letIn ins v ∷ []) t (if y then on bound else stop (Unbound l))
+        → Walked w m k 1 (letIn ins v ∷ []) t (if y then on bound else stop (Unbound (l .line)))
     unfolding after
     walk-use true r = record {
       table = t;
@@ -170,9 +170,9 @@ module _ (w : List ℕ) (m k s₁ s₂ : ℕ) (ls₁ ls₂ t t₀ : List ℕ)
   walk-two (on b₁) more x₁ x₂ = behind b₁ x₁ (more b₁) (x₂ b₁ x₁)
 
 -- a let, and then its two parts
-module _ (w : List ℕ) (m k s₁ s₂ : ℕ) (ls₁ ls₂ t : List ℕ) {l v : ℕ} (h : Head w k (Binary Let) l v) (bound : List ℕ)
+module _ (w : List ℕ) (m k s₁ s₂ : ℕ) (ls₁ ls₂ t : List ℕ) {l : Position} {v : ℕ} (h : Head w k (Binary Let) l v) (bound : List ℕ)
     (end : endAt w k ≡ k + suc (s₁ + s₂)) (small : v < 256) (long : length t ≡ 256) (bind : Bound t bound) where
-  step-let : scopesFrom w (suc (s₁ + s₂) + m) k t ≡ judged (λ u. scopesFrom w (s₁ + (s₂ + m)) (k + 1) u) k t v (judgeLet k (getD t v 256))
+  step-let : scopesFrom w (suc (s₁ + s₂) + m) k t ≡ judged (λ u. scopesFrom w (s₁ + (s₂ + m)) (k + 1) u) k t v (judgeLet (lineAt w k) (getD t v 256))
   unfolding judgeBy role
   step-let = let q : suc (s₁ + s₂) + m ≡ suc (s₁ + (s₂ + m)) = omega arith in rw q (step w (s₁ + (s₂ + m)) k t h)
 
@@ -181,8 +181,8 @@ module _ (w : List ℕ) (m k s₁ s₂ : ℕ) (ls₁ ls₂ t : List ℕ) {l v : 
       → (among v bound ≡ false → Walked w (s₂ + m) (k + 1) s₁ ls₁ (set t v k) (o₁ (v ∷ bound)))
       → (among v bound ≡ false → (b₁ : List ℕ) (x₁ : Gone w (s₂ + m) (k + 1) s₁ ls₁ (set t v k) b₁) → Walked w m (k + 1 + s₁) s₂ ls₂ (x₁ .table) (more b₁))
       → (y : Bool) → among v bound ≡ y
-      → Walked w m k (suc (s₁ + s₂)) (0 ∷ (ls₁ ++ ls₂)) t ((if y then stop (Rebound l) else on (v ∷ bound)) >>= λ b. o₁ b >>= more)
-  unfolding judged judgeLet _>>=_
+      → Walked w m k (suc (s₁ + s₂)) (0 ∷ (ls₁ ++ ls₂)) t ((if y then stop (Rebound (l .line)) else on (v ∷ bound)) >>= λ b. o₁ b >>= more)
+  unfolding judged judgeLet lineAt _>>=_
   walk-let x₀ o₁ more x₁ x₂ true e =
       let low : getD t v 256 < 256 = ltb-true (getD t v 256) 256 (sym (bind v small) ∙ e) in
       step-let ∙ rw (lt-leb 256 (getD t v 256) low, h .line) refl
@@ -192,16 +192,16 @@ module _ (w : List ℕ) (m k s₁ s₂ : ℕ) (ls₁ ls₂ t : List ℕ) {l v : 
 
 -- ------------------------------------------------------------------ an expression
 
-step-first : (w : List ℕ) (m k s : ℕ) (t : List ℕ) {x : Word} {l v : ℕ} → Head w k x l v → role x ≡ Neither
+step-first : (w : List ℕ) (m k s : ℕ) (t : List ℕ) {x : Word} {l : Position} {v : ℕ} → Head w k x l v → role x ≡ Neither
     → scopesFrom w (suc s + m) k t ≡ storing 0 (scopesFrom w (s + m) (k + 1) t)
 step-first w m k s t h e = let q : suc s + m ≡ suc (s + m) = omega arith in rw q (step-other w (s + m) k t h e)
 
-step-pair : (w : List ℕ) (m k s₁ s₂ : ℕ) (t : List ℕ) {x : Word} {l v : ℕ} → Head w k x l v → role x ≡ Neither
+step-pair : (w : List ℕ) (m k s₁ s₂ : ℕ) (t : List ℕ) {x : Word} {l : Position} {v : ℕ} → Head w k x l v → role x ≡ Neither
     → scopesFrom w (suc (s₁ + s₂) + m) k t ≡ storing 0 (scopesFrom w (s₁ + (s₂ + m)) (k + 1) t)
 step-pair w m k s₁ s₂ t h e = let q : s₁ + s₂ + m ≡ s₁ + (s₂ + m) = omega arith in step-first w m k (s₁ + s₂) t h e ∙ rw q refl
 
 -- a step of two parts that binds nothing, from its parts
-walk-pair : (w : List ℕ) (m k hi : ℕ) (t : List ℕ) (ins : List (ℕ × ℕ)) (bound : List ℕ) (e₁ e₂ : Expr) {x : Word} {l v : ℕ}
+walk-pair : (w : List ℕ) (m k hi : ℕ) (t : List ℕ) (ins : List (ℕ × ℕ)) (bound : List ℕ) (e₁ e₂ : Expr) {x : Word} {l : Position} {v : ℕ}
     → Head w k x l v → role x ≡ Neither → Agrees w k hi t ins bound
     → (Agrees w (k + 1) hi t ins bound → Walked w (size e₂ + m) (k + 1) (size e₁) (lets (k + 1) ins e₁) t (scope e₁ (names ins) bound))
     → ((b u : List ℕ) → Agrees w (k + 1 + size e₁) hi u ins b → Walked w m (k + 1 + size e₁) (size e₂) (lets (k + 1 + size e₁) ins e₂) u (scope e₂ (names ins) b))

@@ -9,7 +9,7 @@ use Rattle.spec.specs.Words.{role}
 use Rattle.spec.specs.declared.Refusal.the-variants.{Unbound, Rebound}
 use Rattle.workspace.specs.Layout.{endsAt, letsAt}
 use Rattle.workspace.specs.Region.{Region, ChangedWithin}
-use Rattle.workspace.specs.Steps.{wordAt, valueAt}
+use Rattle.workspace.specs.Steps.{wordAt, valueAt, lineAt}
 use Rattle.program.specs.Outcomes.{Answers}
 use Rattle.program.specs.declared.Outcome.{Outcome}
 use Rattle.spec.specs.declared.Role.{Role}
@@ -21,20 +21,20 @@ use Rattle.program.specs.declared.binders.Judged.the-variants.{Bind, Sto
 unfoldable pub unbound : List ℕ
 unbound = replicate 256 256
 
--- a let at index k whose variable has its let at b
-unfoldable pub judgeLet : (k b : ℕ) → Judged
-judgeLet k b = if leb 256 b then Bind else Refused (Rebound (k + 2))
+-- a let at a line whose variable has its let at b
+unfoldable pub judgeLet : (line b : ℕ) → Judged
+judgeLet l b = if leb 256 b then Bind else Refused (Rebound l)
 
 -- a use at index k of the variable whose let is at b: past the end of its e1, before its own end
 unfoldable pub judgeVar : List ℕ → (k b : ℕ) → Judged
 judgeVar w k b =
-    if leb 256 b then Refused (Unbound (k + 2))
-    else if ltb k (getD w (endsAt + (b + 1)) 0) then Refused (Unbound (k + 2))
-    else if leb (getD w (endsAt + b) 0) k then Refused (Unbound (k + 2))
+    if leb 256 b then Refused (Unbound (lineAt w k))
+    else if ltb k (getD w (endsAt + (b + 1)) 0) then Refused (Unbound (lineAt w k))
+    else if leb (getD w (endsAt + b) 0) k then Refused (Unbound (lineAt w k))
     else Store b
 
 unfoldable pub judgeBy : List ℕ → (k b : ℕ) → Role → Judged
-judgeBy w k b Binds = judgeLet k b
+judgeBy w k b Binds = judgeLet (lineAt w k) b
 judgeBy w k b Uses = judgeVar w k b
 judgeBy w k b Neither = Store 0
 

@@ -7,6 +7,7 @@ use spec::Role;
 use spec::Word;
 use workspace::ENDS;
 use workspace::LETS;
+use workspace::LINES;
 use workspace::VALUES;
 use workspace::WORDS;
 ghost use mathlib.Core.Path.{_≡_};
@@ -50,15 +51,13 @@ enum Judged {
     Refused(Refusal),
 }
 
-// A let at index k whose variable has its let at b.
-fn judge_let(k: usize, b: u32) -> Judged
-    requires { ⌜ k < 256 ⌝ }
-    ensures { λ r. ⌜ r ≡ judgeLet k b ⌝ }
+// A let at a line whose variable has its let at b.
+fn judge_let(line: u32, b: u32) -> Judged
+    ensures { λ r. ⌜ r ≡ judgeLet line b ⌝ }
 {
     if UNBOUND <= b {
         return Judged::Bind;
     }
-    let line = k as u32 + 2;
     Judged::Refused(Refusal::Rebound(line))
 }
 
@@ -67,7 +66,7 @@ fn judge_var(work: &[u32], k: usize, b: u32) -> Judged
     requires { ⌜ (length (now work) ≡ workSize) × (k < 256) ⌝ }
     ensures { λ r. ⌜ r ≡ judgeVar (now (work .entry)) k b ⌝ }
 {
-    let line = k as u32 + 2;
+    let line = work[LINES + k];
     if UNBOUND <= b {
         return Judged::Refused(Refusal::Unbound(line));
     }
@@ -87,7 +86,10 @@ fn judge(work: &[u32], k: usize, b: u32) -> Judged
     ensures { λ r. ⌜ r ≡ judgeOf (now (work .entry)) k b ⌝ }
 {
     match role_of(workspace::word_of(work[WORDS + k])) {
-        Role::Binds => judge_let(k, b),
+        Role::Binds => {
+            let line = work[LINES + k];
+            judge_let(line, b)
+        }
         Role::Uses => judge_var(work, k, b),
         Role::Neither => Judged::Store(0),
     }

@@ -8,6 +8,7 @@ use spec::BinaryWord;
 use spec::LeafWord;
 use spec::Refusal;
 use spec::Word;
+use workspace::LINES;
 use workspace::VALUES;
 use workspace::WORDS;
 ghost use mathlib.Core.Path.{_≡_};
@@ -194,6 +195,7 @@ pub fn step_lines(text: &[u8], work: &mut [u32], n: usize, start: Cursor) -> Ste
             StepLine::Step(word, v, behind) => {
                 work[WORDS + k] = workspace::code_of(word);
                 work[VALUES + k] = v;
+                work[LINES + k] = behind.line;
                 cursor = behind;
             }
             StepLine::Refused(refusal) => {

@@ -5,10 +5,9 @@ use mathlib.Core.List.{List, _++_, map, map-append}
 use Prim.Native.Nat.{ℕ, _+_, _≤_}
 use native.Mathlib.Omega.{arith}
 use lib.ListN.{length, getD, length-map}
-use Rattle.spec.specs.Expression.{Step, Expr, leaf, unary, binary, size}
+use Rattle.spec.specs.Expression.{Step, Position, Expr, leaf, unary, binary, size, indexOf, lineOf}
 use Rattle.spec.specs.Words.{role, binding}
-use Rattle.spec.specs.Conditions.{lineOf}
-use Rattle.spec.specs.WellFormed.{prefix, LinesFrom, UsedInside}
+use Rattle.spec.specs.WellFormed.{prefix, IndexesFrom, UsedInside}
 use Rattle.spec.proofs.Listing.{prefix-length}
 use Rattle.spec.specs.declared.Word.{Word}
 use Rattle.spec.specs.declared.Word.the-variants.{Leaf, Unary, Binary}
@@ -16,7 +15,7 @@ use Rattle.spec.specs.declared.LeafWord.{LeafWord}
 use Rattle.spec.specs.declared.LeafWord.the-variants.{Var}
 use Rattle.spec.specs.declared.UnaryWord.{UnaryWord}
 use Rattle.spec.specs.declared.BinaryWord.{BinaryWord}
-use Rattle.workspace.specs.Layout.{wordsAt, valuesAt, endsAt, letsAt, presAt, leafCode, unaryCode, binaryCode, codeOf}
+use Rattle.workspace.specs.Layout.{wordsAt, valuesAt, endsAt, letsAt, linesAt, presAt, leafCode, unaryCode, binaryCode, codeOf}
 use Rattle.workspace.specs.Region.{Region, ChangedWithin}
 use Rattle.workspace.specs.Holds.{ends, letIn, letOf, lets, HoldsSteps}
 use Rattle.workspace.proofs.Region.{region-moved, region-first, region-behind, region-left, region-right, region-kept}
@@ -38,12 +37,21 @@ values-length : (e : Expr) → length (values e) ≡ size e
 unfolding values
 values-length e = length-map (prefix e) (λ (s : Step). s .value) ∙ prefix-length e
 
--- an expression stands at index k: its words and numbers, where its steps end, and its lines
+-- and their lines
+unfoldable pub linesOf : Expr → List ℕ
+linesOf e = map (λ (s : Step). s .line) (prefix e)
+
+lines-length : (e : Expr) → length (linesOf e) ≡ size e
+unfolding linesOf
+lines-length e = length-map (prefix e) (λ (s : Step). s .line) ∙ prefix-length e
+
+-- an expression stands at index k: its words, numbers and lines, where its steps end, and that it says so
 pub record Standing (w : List ℕ) (k : ℕ) (e : Expr) : Type 0 where
   pub words : Region w (wordsAt + k) (codes e)
   pub numbers : Region w (valuesAt + k) (values e)
+  pub lined : Region w (linesAt + k) (linesOf e)
   pub ended : Region w (endsAt + k) (ends k e)
-  pub lines : LinesFrom (k + 2) e
+  pub indexed : IndexesFrom k e
 
 -- and its variables have their lets
 pub record Here (w : List ℕ) (k : ℕ) (inside : List (ℕ × ℕ)) (vars : List ℕ) (e : Expr) : Type 0 where
@@ -58,57 +66,72 @@ here-kept {k = k} {inside = inside} {e = e} x h H = record {
   standing = record {
     words = region-kept x (inl (omega (arith, codes-length e))) (H .standing .words);
     numbers = region-kept x (inl (omega (arith, values-length e))) (H .standing .numbers);
+    lined = region-kept x (inl (omega (arith, lines-length e))) (H .standing .lined);
     ended = region-kept x (inl (omega (arith, ends-length k e))) (H .standing .ended);
-    lines = H .standing .lines;
+    indexed = H .standing .indexed;
   };
   bound = region-kept x (inl (omega (arith, lets-length k inside e))) (H .bound);
   used = H .used;
 }
 
-lines-moved : (m n : ℕ) (e : Expr) → m ≡ n → LinesFrom m e → LinesFrom n e
-lines-moved m n e h r = rw (← h) r
-
 -- ------------------------------------------------------------------ its first step
 
--- the step with word x, line l and number v is stored at index k
-pub record Head (w : List ℕ) (k : ℕ) (x : Word) (l v : ℕ) : Type 0 where
+-- the step with word x, position p and number v is stored at index k
+pub record Head (w : List ℕ) (k : ℕ) (x : Word) (p : Position) (v : ℕ) : Type 0 where
   pub code : getD w (wordsAt + k) 0 ≡ codeOf x
   pub value : getD w (valuesAt + k) 0 ≡ v
-  pub line : l ≡ k + 2
+  pub line : getD w (linesAt + k) 0 ≡ p .line
+  pub index : p .index ≡ k
 
 module _ {w : List ℕ} {k : ℕ} where
-  pub leaf-head : (x : LeafWord) (l v : ℕ) → Standing w k (leaf x l v) → Head w k (Leaf x) l v
-  unfolding codes values prefix LinesFrom
-  leaf-head x l v s = record { code = region-first (s .words); value = region-first (s .numbers); line = s .lines }
+  pub leaf-head : (x : LeafWord) (p : Position) (v : ℕ) → Standing w k (leaf x p v) → Head w k (Leaf x) p v
+  unfolding codes values linesOf prefix IndexesFrom
+  leaf-head x p v s = record {
+    code = region-first (s .words);
+    value = region-first (s .numbers);
+    line = region-first (s .lined);
+    index = s .indexed;
+  }
 
-  pub unary-head : (x : UnaryWord) (l v : ℕ) (e : Expr) → Standing w k (unary x l v e) → Head w k (Unary x) l v
-  unfolding codes values prefix LinesFrom
-  unary-head x l v e s = record { code = region-first (s .words); value = region-first (s .numbers); line = s .lines .0 }
+  pub unary-head : (x : UnaryWord) (p : Position) (v : ℕ) (e : Expr) → Standing w k (unary x p v e) → Head w k (Unary x) p v
+  unfolding codes values linesOf prefix IndexesFrom
+  unary-head x p v e s = record {
+    code = region-first (s .words);
+    value = region-first (s .numbers);
+    line = region-first (s .lined);
+    index = s .indexed .0;
+  }
 
-  pub binary-head : (x : BinaryWord) (l v : ℕ) (e₁ e₂ : Expr) → Standing w k (binary x l v e₁ e₂) → Head w k (Binary x) l v
-  unfolding codes values prefix LinesFrom
-  binary-head x l v e₁ e₂ s = record { code = region-first (s .words); value = region-first (s .numbers); line = s .lines .0 }
+  pub binary-head : (x : BinaryWord) (p : Position) (v : ℕ) (e₁ e₂ : Expr) → Standing w k (binary x p v e₁ e₂) → Head w k (Binary x) p v
+  unfolding codes values linesOf prefix IndexesFrom
+  binary-head x p v e₁ e₂ s = record {
+    code = region-first (s .words);
+    value = region-first (s .numbers);
+    line = region-first (s .lined);
+    index = s .indexed .0;
+  }
 
   -- the end of an expression
   pub standing-end : (e : Expr) → Standing w k e → getD w (endsAt + k) 0 ≡ k + size e
   unfolding ends size
-  standing-end (leaf x l v) s = region-first (s .ended)
-  standing-end (unary x l v e) s = region-first (s .ended)
-  standing-end (binary x l v e₁ e₂) s = region-first (s .ended)
+  standing-end (leaf x p v) s = region-first (s .ended)
+  standing-end (unary x p v e) s = region-first (s .ended)
+  standing-end (binary x p v e₁ e₂) s = region-first (s .ended)
 
   -- ---------------------------------------------------------------- its parts
 
   -- the one part of a step, and the first of two, stand just behind it
-  pub standing-part : (x : UnaryWord) (l v : ℕ) (e : Expr) → Standing w k (unary x l v e) → Standing w (k + 1) e
-  unfolding codes values prefix ends LinesFrom
-  standing-part x l v e s = record {
+  pub standing-part : (x : UnaryWord) (p : Position) (v : ℕ) (e : Expr) → Standing w k (unary x p v e) → Standing w (k + 1) e
+  unfolding codes values linesOf prefix ends IndexesFrom
+  standing-part x p v e s = record {
     words = region-moved _ _ (omega arith) (region-behind (s .words));
     numbers = region-moved _ _ (omega arith) (region-behind (s .numbers));
+    lined = region-moved _ _ (omega arith) (region-behind (s .lined));
     ended = region-moved _ _ (omega arith) (region-behind (s .ended));
-    lines = lines-moved _ _ e (omega arith) (s .lines .1);
+    indexed = s .indexed .1;
   }
 
-  module _ (x : BinaryWord) (l v : ℕ) (e₁ e₂ : Expr) (s : Standing w k (binary x l v e₁ e₂)) where
+  module _ (x : BinaryWord) (p : Position) (v : ℕ) (e₁ e₂ : Expr) (s : Standing w k (binary x p v e₁ e₂)) where
     codes-parts : Region w (wordsAt + k + 1) (codes e₁ ++ codes e₂)
     unfolding codes prefix
     codes-parts = rw map-append at (region-behind (s .words))
@@ -117,66 +140,79 @@ module _ {w : List ℕ} {k : ℕ} where
     unfolding values prefix
     values-parts = rw map-append at (region-behind (s .numbers))
 
+    lines-parts : Region w (linesAt + k + 1) (linesOf e₁ ++ linesOf e₂)
+    unfolding linesOf prefix
+    lines-parts = rw map-append at (region-behind (s .lined))
+
     ends-parts : Region w (endsAt + k + 1) (ends (k + 1) e₁ ++ ends (k + 1 + size e₁) e₂)
     unfolding ends
     ends-parts = region-behind (s .ended)
 
     pub standing-first : Standing w (k + 1) e₁
-    unfolding LinesFrom
+    unfolding IndexesFrom
     standing-first = record {
       words = region-moved _ _ (omega arith) (region-left _ _ codes-parts);
       numbers = region-moved _ _ (omega arith) (region-left _ _ values-parts);
+      lined = region-moved _ _ (omega arith) (region-left _ _ lines-parts);
       ended = region-moved _ _ (omega arith) (region-left _ _ ends-parts);
-      lines = lines-moved _ _ e₁ (omega arith) (s .lines .1);
+      indexed = s .indexed .1;
     }
 
     -- the second part stands at the end of the first
     pub standing-second : Standing w (k + 1 + size e₁) e₂
-    unfolding LinesFrom
+    unfolding IndexesFrom
     standing-second = record {
       words = region-moved _ _ (omega (arith, codes-length e₁)) (region-right (codes e₁) _ codes-parts);
       numbers = region-moved _ _ (omega (arith, values-length e₁)) (region-right (values e₁) _ values-parts);
+      lined = region-moved _ _ (omega (arith, lines-length e₁)) (region-right (linesOf e₁) _ lines-parts);
       ended = region-moved _ _ (omega (arith, ends-length (k + 1) e₁)) (region-right (ends (k + 1) e₁) _ ends-parts);
-      lines = lines-moved _ _ e₂ (omega arith) (s .lines .2);
+      indexed = s .indexed .2;
     }
 
 -- ------------------------------------------------------------------ with its lets
 
 module _ {w : List ℕ} {k : ℕ} {inside : List (ℕ × ℕ)} {vars : List ℕ} where
-  pub here-line : (e : Expr) → Here w k inside vars e → lineOf e ≡ k + 2
+  -- the index and the line of an expression
+  pub here-index : (e : Expr) → Here w k inside vars e → indexOf e ≡ k
+  unfolding indexOf
+  here-index (leaf x p v) H = leaf-head x p v (H .standing) .index
+  here-index (unary x p v e) H = unary-head x p v e (H .standing) .index
+  here-index (binary x p v e₁ e₂) H = binary-head x p v e₁ e₂ (H .standing) .index
+
+  pub here-line : (e : Expr) → Here w k inside vars e → getD w (linesAt + k) 0 ≡ lineOf e
   unfolding lineOf
-  here-line (leaf x l v) H = leaf-head x l v (H .standing) .line
-  here-line (unary x l v e) H = unary-head x l v e (H .standing) .line
-  here-line (binary x l v e₁ e₂) H = binary-head x l v e₁ e₂ (H .standing) .line
+  here-line (leaf x p v) H = leaf-head x p v (H .standing) .line
+  here-line (unary x p v e) H = unary-head x p v e (H .standing) .line
+  here-line (binary x p v e₁ e₂) H = binary-head x p v e₁ e₂ (H .standing) .line
 
-  pub leaf-code : (x : LeafWord) (l v : ℕ) → Here w k inside vars (leaf x l v) → getD w (wordsAt + k) 0 ≡ leafCode x
-  leaf-code x l v H = leaf-head x l v (H .standing) .code
+  pub leaf-code : (x : LeafWord) (p : Position) (v : ℕ) → Here w k inside vars (leaf x p v) → getD w (wordsAt + k) 0 ≡ leafCode x
+  leaf-code x p v H = leaf-head x p v (H .standing) .code
 
-  pub unary-code : (x : UnaryWord) (l v : ℕ) (e : Expr) → Here w k inside vars (unary x l v e) → getD w (wordsAt + k) 0 ≡ unaryCode x
-  unary-code x l v e H = unary-head x l v e (H .standing) .code
+  pub unary-code : (x : UnaryWord) (p : Position) (v : ℕ) (e : Expr) → Here w k inside vars (unary x p v e) → getD w (wordsAt + k) 0 ≡ unaryCode x
+  unary-code x p v e H = unary-head x p v e (H .standing) .code
 
-  pub binary-code : (x : BinaryWord) (l v : ℕ) (e₁ e₂ : Expr) → Here w k inside vars (binary x l v e₁ e₂)
+  pub binary-code : (x : BinaryWord) (p : Position) (v : ℕ) (e₁ e₂ : Expr) → Here w k inside vars (binary x p v e₁ e₂)
       → getD w (wordsAt + k) 0 ≡ binaryCode x
-  binary-code x l v e₁ e₂ H = binary-head x l v e₁ e₂ (H .standing) .code
+  binary-code x p v e₁ e₂ H = binary-head x p v e₁ e₂ (H .standing) .code
 
   -- the number of a step without parts
-  pub leaf-number : (x : LeafWord) (l v : ℕ) → Here w k inside vars (leaf x l v) → getD w (valuesAt + k) 0 ≡ v
-  leaf-number x l v H = leaf-head x l v (H .standing) .value
+  pub leaf-number : (x : LeafWord) (p : Position) (v : ℕ) → Here w k inside vars (leaf x p v) → getD w (valuesAt + k) 0 ≡ v
+  leaf-number x p v H = leaf-head x p v (H .standing) .value
 
   -- the let of a variable
-  pub here-let : (l v : ℕ) → Here w k inside vars (leaf Var l v) → getD w (letsAt + k) 0 ≡ letIn inside v
+  pub here-let : (p : Position) (v : ℕ) → Here w k inside vars (leaf Var p v) → getD w (letsAt + k) 0 ≡ letIn inside v
   unfolding lets letOf role
-  here-let l v H = region-first (H .bound)
+  here-let p v H = region-first (H .bound)
 
-  pub here-part : (x : UnaryWord) (l v : ℕ) (e : Expr) → Here w k inside vars (unary x l v e) → Here w (k + 1) inside vars e
+  pub here-part : (x : UnaryWord) (p : Position) (v : ℕ) (e : Expr) → Here w k inside vars (unary x p v e) → Here w (k + 1) inside vars e
   unfolding lets UsedInside
-  here-part x l v e H = record {
-    standing = standing-part x l v e (H .standing);
+  here-part x p v e H = record {
+    standing = standing-part x p v e (H .standing);
     bound = region-moved _ _ (omega arith) (region-behind (H .bound));
     used = H .used .1;
   }
 
-  module _ (x : BinaryWord) (l v : ℕ) (e₁ e₂ : Expr) (H : Here w k inside vars (binary x l v e₁ e₂)) where
+  module _ (x : BinaryWord) (p : Position) (v : ℕ) (e₁ e₂ : Expr) (H : Here w k inside vars (binary x p v e₁ e₂)) where
     lets-parts : Region w (letsAt + k + 1) (lets (k + 1) inside e₁ ++ lets (k + 1 + size e₁) (binding (role (Binary x)) (v, k) inside) e₂)
     unfolding lets
     lets-parts = region-behind (H .bound)
@@ -184,7 +220,7 @@ module _ {w : List ℕ} {k : ℕ} {inside : List (ℕ × ℕ)} {vars : List ℕ}
     pub here-first : Here w (k + 1) inside vars e₁
     unfolding UsedInside
     here-first = record {
-      standing = standing-first x l v e₁ e₂ (H .standing);
+      standing = standing-first x p v e₁ e₂ (H .standing);
       bound = region-moved _ _ (omega arith) (region-left _ _ lets-parts);
       used = H .used .1;
     }
@@ -192,7 +228,7 @@ module _ {w : List ℕ} {k : ℕ} {inside : List (ℕ × ℕ)} {vars : List ℕ}
     pub here-second : Here w (k + 1 + size e₁) (binding (role (Binary x)) (v, k) inside) (binding (role (Binary x)) v vars) e₂
     unfolding UsedInside
     here-second = record {
-      standing = standing-second x l v e₁ e₂ (H .standing);
+      standing = standing-second x p v e₁ e₂ (H .standing);
       bound = region-moved _ _
           (omega (arith, lets-length (k + 1) inside e₁)) (region-right (lets (k + 1) inside e₁) _ lets-parts);
       used = H .used .2;
@@ -202,19 +238,20 @@ module _ {w : List ℕ} {k : ℕ} {inside : List (ℕ × ℕ)} {vars : List ℕ}
   here-end e H = standing-end e (H .standing)
 
 -- where the second of two parts stands, by the end of the first
-pub here-second-at : {w : List ℕ} {k : ℕ} {inside : List (ℕ × ℕ)} {vars : List ℕ} (x : BinaryWord) (l v : ℕ) (e₁ e₂ : Expr)
-    → Here w k inside vars (binary x l v e₁ e₂) → getD w (endsAt + 1 + k) 0 ≡ k + 1 + size e₁
-here-second-at {w} x l v e₁ e₂ H = ap (λ (i : ℕ). getD w i 0) (omega arith) ∙ here-end e₁ (here-first x l v e₁ e₂ H)
+pub here-second-at : {w : List ℕ} {k : ℕ} {inside : List (ℕ × ℕ)} {vars : List ℕ} (x : BinaryWord) (p : Position) (v : ℕ) (e₁ e₂ : Expr)
+    → Here w k inside vars (binary x p v e₁ e₂) → getD w (endsAt + 1 + k) 0 ≡ k + 1 + size e₁
+here-second-at {w} x p v e₁ e₂ H = ap (λ (i : ℕ). getD w i 0) (omega arith) ∙ here-end e₁ (here-first x p v e₁ e₂ H)
 
 -- ------------------------------------------------------------------ the root
 
 -- the one expression that the steps that the work space holds list
-pub root-standing : (w : List ℕ) (steps : List Step) (e : Expr) → HoldsSteps w steps → Region w endsAt (ends 0 e) → prefix e ≡ steps → LinesFrom 2 e
+pub root-standing : (w : List ℕ) (steps : List Step) (e : Expr) → HoldsSteps w steps → Region w endsAt (ends 0 e) → prefix e ≡ steps → IndexesFrom 0 e
     → Standing w 0 e
-unfolding codes values
-root-standing w steps e held ended listing numbered = record {
+unfolding codes values linesOf
+root-standing w steps e held ended listing indexed = record {
   words = rw listing (held .words);
   numbers = rw listing (held .values);
+  lined = rw listing (held .lines);
   ended = ended;
-  lines = numbered;
+  indexed = indexed;
 }

@@ -1,6 +1,6 @@
 -- Laws of what the work space holds: how long its columns are, and that a program stays while what is behind it changes.
 use mathlib.Core.Path.{_≡_, refl, sym, ap, _∙_}
-use mathlib.Core.Logic.{inl}
+use mathlib.Core.Logic.{inl, inr}
 use mathlib.Core.List.{List, []}
 use Prim.Native.Nat.{ℕ, suc, _+_, _≤_}
 use native.Mathlib.Omega.{arith}
@@ -11,10 +11,11 @@ use Rattle.spec.specs.WellFormed.{prefix}
 use Rattle.spec.proofs.Listing.{prefix-length}
 use Rattle.spec.specs.Words.{role, binding}
 use Rattle.spec.specs.declared.Word.the-variants.{Binary}
-use Rattle.workspace.specs.Layout.{endsAt, codeOf, rowTypesAt, workSize}
+use Rattle.workspace.specs.Layout.{codeOf, rowTypesAt, workSize}
 use Rattle.workspace.specs.Region.{ChangedWithin}
 use Rattle.workspace.specs.Holds.{ends, lets, HoldsSteps, HoldsProgram}
 use Rattle.workspace.proofs.Region.{region-kept}
+use Rattle.workspace.proofs.Steps.{NoStep, beside-words, beside-lines}
 
 -- ------------------------------------------------------------------ columns have an entry a step
 
@@ -40,11 +41,12 @@ lets-length k inside (binary x l v e₁ e₂) =
 
 -- ------------------------------------------------------------------ a program stays
 
-pub steps-stay : {a b : ℕ} {w w′ : List ℕ} {steps : List Step} → ChangedWithin a b w w′ → endsAt ≤ a → length steps ≤ 256
+pub steps-stay : {a b : ℕ} {w w′ : List ℕ} {steps : List Step} → ChangedWithin a b w w′ → NoStep a b → length steps ≤ 256
     → HoldsSteps w steps → HoldsSteps w′ steps
-steps-stay {steps = steps} c h few H = record {
-  words = region-kept c (inl (omega (arith, length-map steps (λ (s : Step). codeOf (s .word))))) (H .words);
-  values = region-kept c (inl (omega (arith, length-map steps (λ (s : Step). s .value)))) (H .values);
+steps-stay {steps = steps} c o few H = record {
+  words = region-kept c (inl (beside-words _ (omega (arith, length-map steps (λ (s : Step). codeOf (s .word)))) o)) (H .words);
+  values = region-kept c (inl (beside-words _ (omega (arith, length-map steps (λ (s : Step). s .value))) o)) (H .values);
+  lines = region-kept c (beside-lines _ _ (omega arith) (omega (arith, length-map steps (λ (s : Step). s .line))) o) (H .lines);
 }
 
 -- the program stands in front of the rows
@@ -53,7 +55,7 @@ pub program-kept : {w w′ : List ℕ} {P : Program} → ChangedWithin rowTypesA
 program-kept {w} {w′} {P} c listing few H =
     let sized : size (P .root) ≡ length (P .steps) = sym (prefix-length (P .root)) ∙ ap length listing in
     record {
-      steps = steps-stay c (omega arith) few (H .steps);
+      steps = steps-stay c (inr (omega arith)) few (H .steps);
       ends = region-kept c (inl (omega (arith, few, sized, ends-length 0 (P .root)))) (H .ends);
       lets = region-kept c (inl (omega (arith, few, sized, lets-length 0 [] (P .root)))) (H .lets);
     }

@@ -13,12 +13,12 @@ use Rattle.spec.specs.declared.MapNumber.{MapNumber}
 use Rattle.spec.specs.declared.Role.{Role}
 use Rattle.spec.specs.declared.Role.the-variants.{Binds, Uses, Neither}
 use Rattle.spec.specs.declared.Word.the-variants.{Leaf, Unary, Binary}
-use Rattle.workspace.specs.Layout.{wordsAt, valuesAt, endsAt, letsAt, rowTypesAt, postsAt, startsAt, kindsAt, firstsAt, secondsAt, mapsAt, stride, emptyMap, codeOf, kindOf, firstOf, secondOf}
+use Rattle.workspace.specs.Layout.{wordsAt, valuesAt, endsAt, letsAt, linesAt, rowTypesAt, postsAt, startsAt, kindsAt, firstsAt, secondsAt, mapsAt, stride, emptyMap, codeOf, kindOf, firstOf, secondOf}
 use Rattle.workspace.specs.Region.{Region}
 
 -- ------------------------------------------------------------------ programs
 
--- Steps are counted from 0 in line order: the step at line k + 2 has index k.
+-- Steps are counted from 0 in line order; the count is a step's index.
 
 -- for each step of an expression in line order, the index just past it; k is the index of its first step
 unfoldable pub ends : (k : ℕ) → Expr → List ℕ
@@ -45,10 +45,11 @@ lets k inside (binary w l v e₁ e₂) =
     letOf (role (Binary w)) inside v
     ∷ (lets (k + 1) inside e₁ ++ lets (k + 1 + size e₁) (binding (role (Binary w)) (v, k) inside) e₂)
 
--- the lines of a program sheet: words and numbers v
+-- the step lines of a program sheet: words, numbers v, and which lines they are
 pub record HoldsSteps (w : List ℕ) (steps : List Step) : Type 0 where
   pub words : Region w wordsAt (map (λ (s : Step). codeOf (s .word)) steps)
   pub values : Region w valuesAt (map (λ (s : Step). s .value) steps)
+  pub lines : Region w linesAt (map (λ (s : Step). s .line) steps)
 
 -- a program: its lines, where its steps end, which let a variable means
 pub record HoldsProgram (w : List ℕ) (P : Program) : Type 0 where
