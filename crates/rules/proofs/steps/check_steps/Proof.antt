@@ -9,9 +9,9 @@ use lib.ListN.{length, length-set}
 use Rattle.workspace.specs.Layout.{presAt}
 use Rattle.workspace.specs.Region.{ChangedWithin}
 use Rattle.workspace.proofs.Region.{changed-nothing, changed-store, changed-then}
-use Rattle.rules.specs.Outcome.{outcome}
+use Rattle.conditions.specs.Outcome.{outcome}
 use Rattle.rules.specs.Walk.{atRoot, walk}
-use Rattle.rules.proofs.Judged.{refused-stops, met-goes-on}
+use Rattle.conditions.proofs.FirstFalse.{refused-stops, met-goes-on}
 use Rattle.rules.proofs.Walking.{walk-more, walk-end, pass-within}
 use Rattle.rules.proofs.steps.check_steps.Statement.{statement}
 use Rattle.rules.proofs.steps.check_steps.Tie as tie
