@@ -1,12 +1,11 @@
 -- What counts of a step when only its types are asked for: since a row has its conditions on types in front, the first false
 -- condition of the row is on types, or no condition on types is false.
 use mathlib.Core.Path.{_≡_, refl, ap}
-use mathlib.Core.Bool.{Bool, true, false}
+use mathlib.Core.Bool.{true, false}
 use mathlib.Core.List.{List, [], _∷_, _++_}
-use mathlib.Core.Option.{Option, none, some}
+use mathlib.Core.Option.{none, some}
 use Prim.Native.Nat.{ℕ, _+_}
-use Rattle.spec.specs.Choice.{if_then_else_}
-use Rattle.spec.specs.Reading.{Out, on, _>>=_}
+use Rattle.spec.specs.Reading.{on, _>>=_}
 use Rattle.spec.specs.Expression.{Expr, leaf, unary, binary}
 use Rattle.spec.specs.Split.{Map, Split}
 use Rattle.spec.specs.Conditions.{Condition, T, F, A, Env, own}

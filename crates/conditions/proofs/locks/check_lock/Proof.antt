@@ -1,5 +1,4 @@
 -- No lock, or a lock whose out and in are compared.
-use mathlib.Core.Path.{sym}
 use Rattle.spec.specs.Reading.{demand}
 use Rattle.conditions.specs.Outcome.{outcome}
 use Rattle.conditions.proofs.TypeKinds.{not-lock}

@@ -1,5 +1,5 @@
 -- Each kind with itself and with any other.
-use mathlib.Core.Path.{sym, ap, _∙_}
+use mathlib.Core.Path.{sym, ap}
 use Rattle.spec.specs.Conditions.{isInt, isRef, isLock, isTid, isSem, isRwlock, load, inLoad, outLoad, readLoad, writeLoad}
 use Rattle.conditions.specs.Agreement.{linesAgree}
 use Rattle.conditions.proofs.TypeKinds.{not-int, not-lock, not-tid, not-sem, not-rwlock}
