@@ -17,9 +17,9 @@ use Rattle.reading.specs.Answers.{SheetsAnswered}
 use Rattle.reading.specs.declared.Reading.{Reading}
 use Rattle.reading.specs.declared.Reading.the-variants as reading
 use Rattle.reading.proofs.Found.{refused-by, held-by}
-use Rattle.rules.specs.Outcome.{outcome}
-use Rattle.rules.specs.declared.Ruling.{Ruling}
-use Rattle.rules.specs.declared.Ruling.the-variants.{Met, Refused}
+use Rattle.conditions.specs.Outcome.{outcome}
+use Rattle.conditions.specs.declared.Ruling.{Ruling}
+use Rattle.conditions.specs.declared.Ruling.the-variants.{Met, Refused}
 use Rattle.checker.specs.Stages.{RulesAnswered}
 
 -- ------------------------------------------------------------------ the rules

@@ -28,10 +28,10 @@ use Rattle.reading.specs.Answers.{HoldsBoth, SheetsAnswered}
 use Rattle.reading.specs.declared.Reading.{Reading}
 use Rattle.reading.specs.declared.Reading.the-variants as reading
 use Rattle.reading.proofs.Found.{refused-by, held-by}
-use Rattle.rules.specs.Outcome.{outcome}
+use Rattle.conditions.specs.Outcome.{outcome}
 use Rattle.rules.specs.Contract.{ruledFor, Ruled}
-use Rattle.rules.specs.declared.Ruling.{Ruling}
-use Rattle.rules.specs.declared.Ruling.the-variants as ruling
+use Rattle.conditions.specs.declared.Ruling.{Ruling}
+use Rattle.conditions.specs.declared.Ruling.the-variants as ruling
 use Rattle.rules.proofs.OneStep.{split-kept}
 use Rattle.writer.specs.Sheet.{written}
 use Rattle.sheets.specs.Contract.{HoldsSheet, HoldsSome as HoldsSheetOfSome}

@@ -28,9 +28,9 @@ use Rattle.workspace.proofs.Region.{region-kept}
 use Rattle.workspace.proofs.Codes.{word-of-code}
 use Rattle.workspace.proofs.Shown.{Stands, post-at, start-at}
 use Rattle.workspace.proofs.Expression.{Here, here-line, leaf-code, unary-code, binary-code, here-part, here-first, here-second, here-second-at}
-use Rattle.rules.specs.Table.{ruleRow}
+use Rattle.words.specs.Table.{ruleRow}
 use Rattle.rules.specs.Walk.{cell, viewOf, stepOutcome, counted, putPre, numberOfPart, numberOfSecond, passWord, passOn}
-use Rattle.rules.proofs.TableRows.{leaf-shown, unary-shown, binary-shown}
+use Rattle.words.proofs.TableRows.{leaf-shown, unary-shown, binary-shown}
 use Rattle.rules.proofs.Scopes.{Scoped}
 use Rattle.rules.proofs.Asked.{row-counted}
 use Rattle.rules.proofs.Claims.{firstAsked}
@@ -114,7 +114,7 @@ module _ (S : Split) (steps : List Step) (R : InRange steps S) (few : length (S 
 
     conditions-shown : (e : Expr) → Ready w k inside vars Γ pre e
         → (let s = viewOf w (S .header .locations) (S .header .denominator) k in
-        ruleRow (ruleOf (cell w wordsAt k)) w s (layout.typeAt w (s .own)) (layout.typeAt w (s .type1)))
+        ruleRow (ruleOf (cell w wordsAt k)) w s (layout.typeAt w (s .typed)) (layout.typeAt w (s .type1)))
         ≡ own S Γ pre e
     unfolding size
     conditions-shown (leaf x l v) r =

@@ -15,14 +15,11 @@ use Rattle.spec.specs.declared.LeafWord.the-variants.{Var, Int, Newtid, Newlock
 use Rattle.workspace.specs.Layout.{endsAt, rowTypesAt, postsAt}
 use Rattle.workspace.specs.Holds.{HoldsSplit, letIn}
 use Rattle.workspace.proofs.Region.{column}
-use Rattle.workspace.proofs.Shown.{noRow, Stands, row-at, row-type, post-at, start-at}
+use Rattle.workspace.proofs.Shown.{type-number, noRow, Stands, row-at, row-type, post-at, start-at}
 use Rattle.workspace.proofs.Expression.{Here, leaf-number, here-let}
 use Rattle.rules.specs.Walk.{cell, viewOf}
-use Rattle.rules.proofs.TableRows.{Part, Bound}
+use Rattle.words.proofs.TableRows.{Part, Bound}
 use Rattle.rules.proofs.Scopes.{Scoped}
-
-pub type-number : {x : ℕ} {t : TypeNumber} → x ≡ t .0 → _≡_ {A = TypeNumber} (record { 0 = x }) t
-type-number e = rw e
 
 module _ (w : List ℕ) (S : Split) (steps : List Step) (H : HoldsSplit w S) (R : InRange steps S) where
   -- the numbers of a row are in range
@@ -38,7 +35,7 @@ module _ (w : List ℕ) (S : Split) (steps : List Step) (H : HoldsSplit w S) (R 
     }
 
   module _ (n d k : ℕ) where
-    pub own-part : (e : Expr) → lineOf e ≡ k + 2 → k < length (S .rows) → Part w S (viewOf w n d k .own) (viewOf w n d k .post) e
+    pub own-part : (e : Expr) → lineOf e ≡ k + 2 → k < length (S .rows) → Part w S (viewOf w n d k .typed) (viewOf w n d k .post) e
     unfolding viewOf
     own-part e line h = part-at e k line h refl refl
 

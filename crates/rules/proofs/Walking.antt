@@ -17,7 +17,7 @@ use Rattle.spec.specs.declared.Word.the-variants.{Leaf, Unary, Binary}
 use Rattle.workspace.specs.Layout.{wordsAt, presAt, wordOf}
 use Rattle.workspace.specs.Region.{ChangedWithin}
 use Rattle.workspace.proofs.Region.{changed-nothing, changed-store, changed-then}
-use Rattle.rules.specs.Outcome.{both}
+use Rattle.conditions.specs.Outcome.{both}
 use Rattle.rules.specs.Walk.{cell, stepOutcome, counted, putPre, numberOfPart, numberOfSecond, passWord, passOn, walk}
 
 module _ (purpose : Purpose) (locations denominator : ℕ) (w : List ℕ) (k n : ℕ) where

@@ -1,15 +1,13 @@
--- The lock lines, the start, then the steps in line order: what the conditions of each look at, and the map before each, which its step hands down.
+-- The steps in line order: what the conditions of each look at, and the map before each, which its step hands down.
 use mathlib.Core.List.{List}
 use Prim.Native.Nat.{ℕ, zero, suc, _+_}
 use lib.Dec.{eqb, ltb}
 use lib.ListN.{getD, set}
 use Rattle.spec.specs.Choice.{if_then_else_}
-use Rattle.spec.specs.Reading.{Out, stop, on, demand}
-use Rattle.spec.specs.Maps.{overWhole}
-use Rattle.spec.specs.Verdict.{refuseOver, returned}
+use Rattle.spec.specs.Reading.{Out, stop, on}
+use Rattle.spec.specs.Verdict.{returned}
 use Rattle.spec.specs.declared.MapNumber.{MapNumber}
 use Rattle.spec.specs.declared.Answer.the-variants.{Refuse}
-use Rattle.spec.specs.declared.Refusal.the-variants.{LockTakesLess}
 use Rattle.spec.specs.declared.Purpose.{Purpose}
 use Rattle.spec.specs.declared.Purpose.the-variants.{Check, Fill}
 use Rattle.spec.specs.declared.Word.{Word}
@@ -18,24 +16,10 @@ use Rattle.spec.specs.declared.UnaryWord.{UnaryWord}
 use Rattle.spec.specs.declared.UnaryWord.the-variants.{While, Join, Ref, Read, Lock, Unlock, Post, Wait, Rdlock, Rdunlock, Wrlock, Wrunlock}
 use Rattle.spec.specs.declared.BinaryWord.{BinaryWord}
 use Rattle.spec.specs.declared.BinaryWord.the-variants.{Let, If, Spawn, Write}
-use Rattle.workspace.specs.Layout.{wordsAt, valuesAt, endsAt, letsAt, rowTypesAt, postsAt, startsAt, presAt, ruleOf, wordOf, typeAt, mapIn}
-use Rattle.rules.specs.Outcome.{both, judged}
-use Rattle.rules.specs.Agreement.{takesEnoughIn}
-use Rattle.rules.specs.Table.{ruleRow}
-use Rattle.rules.specs.declared.View.{View}
-
--- 44, at the line of type t: types begin at line 2
-unfoldable pub lockOutcome : (w : List ℕ) → (locations t : ℕ) → Out (Unit {0})
-lockOutcome w locations t = demand (takesEnoughIn w locations (typeAt w (record { 0 = t }))) (LockTakesLess (t + 2))
-
--- n types from type t on
-unfoldable pub locksOutcome : (w : List ℕ) → (locations t n : ℕ) → Out (Unit {0})
-locksOutcome w locations t zero = on tt
-locksOutcome w locations t (suc n) = both (lockOutcome w locations t) (locksOutcome w locations (t + 1) n)
-
--- 30, at the root's line: the lowest location at which the start is over the whole
-unfoldable pub startOutcome : (w : List ℕ) → (denominator locations : ℕ) → (start : MapNumber) → Out (Unit {0})
-startOutcome w denominator locations start = refuseOver 2 (overWhole denominator 0 (mapIn w locations start))
+use Rattle.workspace.specs.Layout.{wordsAt, valuesAt, endsAt, letsAt, rowTypesAt, postsAt, startsAt, presAt, ruleOf, wordOf, typeAt}
+use Rattle.conditions.specs.Outcome.{both, firstFalseFrom}
+use Rattle.words.specs.Table.{ruleRow}
+use Rattle.words.specs.declared.View.{View}
 
 -- entry i of the column that begins at b
 abbrev pub cell : (w : List ℕ) → (b i : ℕ) → ℕ
@@ -49,7 +33,7 @@ viewOf w locations denominator k = record {
   value = cell w valuesAt k;
   locations = locations;
   denominator = denominator;
-  own = record { 0 = cell w rowTypesAt k };
+  typed = record { 0 = cell w rowTypesAt k };
   type1 = record { 0 = cell w (rowTypesAt + 1) k };
   type2 = record { 0 = cell w rowTypesAt (cell w (endsAt + 1) k) };
   bound = record { 0 = cell w (rowTypesAt + 1) (cell w letsAt k) };
@@ -64,7 +48,7 @@ viewOf w locations denominator k = record {
 unfoldable pub stepOutcome : (w : List ℕ) → (locations denominator k : ℕ) → Out (Unit {0})
 stepOutcome w locations denominator k =
     let s = viewOf w locations denominator k in
-    judged (k + 2) 1 (ruleRow (ruleOf (cell w wordsAt k)) w s (typeAt w (s .own)) (typeAt w (s .type1)))
+    firstFalseFrom (k + 2) 1 (ruleRow (ruleOf (cell w wordsAt k)) w s (typeAt w (s .typed)) (typeAt w (s .type1)))
 
 -- what an outcome says of types: a refusal on flow or access, 32 or 33, is none
 unfoldable pub onTypes : Out (Unit {0}) → Out (Unit {0})

@@ -1,7 +1,5 @@
 // The steps in line order. Each is judged once the map before it is known, and hands down the maps before its parts.
-use super::Ruling;
-use super::View;
-use super::words::check_rule;
+use conditions::Ruling;
 use spec::BinaryWord;
 use spec::MapNumber;
 use spec::Purpose;
@@ -9,6 +7,8 @@ use spec::Refusal;
 use spec::TypeNumber;
 use spec::UnaryWord;
 use spec::Word;
+use words::View;
+use words::check_rule;
 use workspace::ENDS;
 use workspace::LETS;
 use workspace::POSTS;
@@ -28,7 +28,7 @@ ghost use lib.ListN.{length};
 ghost use Rattle.spec.specs.Reading.{stop};
 ghost use Rattle.workspace.specs.Layout.{presAt};
 ghost use Rattle.workspace.specs.Region.{ChangedWithin};
-ghost use Rattle.rules.specs.Outcome.{outcome};
+ghost use Rattle.conditions.specs.Outcome.{outcome};
 ghost use Rattle.rules.specs.Walk.{cell, viewOf, atRoot, stepOutcome, onTypes, counted, putPre, numberOfPart, numberOfSecond, passOn, walk};
 
 // Entry i of the column that begins at base.
@@ -52,7 +52,7 @@ fn view_of(work: &[u32], locations: u32, denominator: u32, k: u32) -> View
         value: cell(work, VALUES, k),
         locations: locations,
         denominator: denominator,
-        own: TypeNumber(cell(work, ROW_TYPES, k)),
+        typed: TypeNumber(cell(work, ROW_TYPES, k)),
         type1: TypeNumber(cell(work, ROW_TYPES + 1, k)),
         type2: TypeNumber(cell(work, ROW_TYPES, second)),
         bound: TypeNumber(cell(work, ROW_TYPES + 1, binder)),
@@ -71,7 +71,7 @@ fn check_step(work: &[u32], locations: u32, denominator: u32, k: u32) -> Ruling
 {
     let r = rule_of(cell(work, WORDS, k));
     let s = view_of(work, locations, denominator, k);
-    check_rule(r, work, s, type_at(work, s.own), type_at(work, s.type1))
+    check_rule(r, work, s, type_at(work, s.typed), type_at(work, s.type1))
 }
 
 // A refusal on types; one on flow or access does not count.

@@ -3,9 +3,10 @@ use Prim.Native.Nat.{_+_}
 use mathlib.Core.Path.{sym, _∙_}
 use Rattle.workspace.specs.Layout.{presAt}
 use Rattle.workspace.proofs.Region.{changed-nothing}
-use Rattle.rules.specs.Outcome.{both}
-use Rattle.rules.proofs.Judged.{refused-stops, met-goes-on}
-use Rattle.rules.proofs.Transfer.{locks-shown, start-shown, sheets-shown}
+use Rattle.conditions.specs.Outcome.{both}
+use Rattle.conditions.proofs.FirstFalse.{refused-stops, met-goes-on}
+use Rattle.conditions.proofs.LockLines.{locks-shown}
+use Rattle.rules.proofs.Transfer.{start-shown, sheets-shown}
 use borrow.Author.Needs.{needs}
 use Rattle.rules.proofs.rule.Statement.{statement}
 use Rattle.rules.proofs.rule.Tie as tie
@@ -16,7 +17,7 @@ returns c =
     let locks = c .before .before in
     record {
       answers = λ P S H counted.
-          rw (← locks-shown _ _ _ _ _ P S H _ counted, ← locks .check-locks .ensures) (sym (refused-stops _ _ (c .enum-told2 .given .1)));
+          rw (← locks-shown _ S _ (H .split) (H .inRange) _ (H .locationsGiven) _ counted, ← locks .check-locks .ensures) (sym (refused-stops _ _ (c .enum-told2 .given .1)));
       changed = changed-nothing presAt (presAt + 256) _;
     }
 
@@ -29,7 +30,7 @@ returns-2 c =
     record {
       answers = λ P S H counted.
           rw (
-            ← locks-shown _ _ _ _ _ P S H _ counted,
+            ← locks-shown _ S _ (H .split) (H .inRange) _ (H .locationsGiven) _ counted,
             ← start-shown _ _ _ _ _ P S H,
             ← locks .check-locks .ensures,
             ← start .check-start .ensures,
