@@ -18,10 +18,10 @@ abbrev μ-loop : tie.MeasureT-loop
 
 loop-holds : tie.Need-loop-holds Inv-loop μ-loop
 unfolding unbound
-loop-holds c = start _ _ (c .before .pre .0)
+loop-holds c = start _ _ (c .before .pre .long)
 
 slice-read-index : tie.Need-slice-read-index Inv-loop μ-loop
-slice-read-index c = omega (arith, c .before .before .before .before .pre, c .before .before .loop .inv .changed .long)
+slice-read-index c = omega (arith, c .before .before .before .before .pre .long, c .before .before .before .before .pre .few, c .before .before .loop .inv .changed .long)
 
 slice-aggregate-binder : tie.Need-slice-aggregate-binder Inv-loop μ-loop
 slice-aggregate-binder c = sym (c .before .before .before .before .loop .inv .long)
@@ -31,7 +31,7 @@ judge-requires c κs =
     let at-loop-test = c .before .before .before .before .before in
     let at-loop = at-loop-test .before in
     let at-pre = at-loop .before .before in
-    (at-loop .loop .inv .changed .long ∙ at-pre .pre .0, omega (arith, at-pre .pre .1, at-loop-test .loop-test .taken))
+    (at-loop .loop .inv .changed .long ∙ at-pre .pre .long, omega (arith, at-pre .pre .few, at-loop-test .loop-test .taken))
 
 same-length : tie.Need-same-length Inv-loop μ-loop
 same-length c =
@@ -46,7 +46,7 @@ returns c =
     let at-loop-test = at-index .before .before in
     let at-loop = at-loop-test .before in
     let at-pre = at-loop .before .before in
-    refuses _ _ _ _ _ (at-loop .loop .inv) _ _ _ (at-pre .pre .0) (at-pre .pre .1) (at-loop-test .loop-test .taken) (at-index .index .ensures .0) (at-binder .binder .ensures) (at-judge .judge .ensures) _ (c .before .refusal .given .1)
+    refuses _ _ _ _ _ (at-loop .loop .inv) _ _ _ (at-pre .pre .long) (at-pre .pre .few) (at-loop-test .loop-test .taken) (at-index .index .ensures .0) (at-binder .binder .ensures) (at-judge .judge .ensures) _ (c .before .refusal .given .1)
 
 slice-aggregate-bind : tie.Need-slice-aggregate-bind Inv-loop μ-loop
 slice-aggregate-bind c =
@@ -57,7 +57,7 @@ slice-write-work : tie.Need-slice-write-work Inv-loop μ-loop
 slice-write-work c =
     let at-loop = c .before .before .before .before .before .before .before .before in
     let at-pre = at-loop .before .before in
-    omega (arith, at-pre .pre, at-loop .loop .inv .changed .long)
+    omega (arith, at-pre .pre .long, at-pre .pre .few, at-loop .loop .inv .changed .long)
 
 loop-again : tie.Need-loop-again Inv-loop μ-loop
 loop-again c =
@@ -68,11 +68,11 @@ loop-again c =
     let at-pre = at-loop .before .before in
     ⊎-elim
     (λ u.
-    binds _ _ _ _ _ (at-loop .loop .inv) _ _ _ (at-pre .pre .0) (at-pre .pre .1) (at-loop-test .loop-test .taken) (at-index .index .ensures .0) (at-binder .binder .ensures) (c .before .judge .ensures) _ _ (u .6)
+    binds _ _ _ _ _ (at-loop .loop .inv) _ _ _ (at-pre .pre .long) (at-pre .pre .few) (at-loop-test .loop-test .taken) (at-index .index .ensures .0) (at-binder .binder .ensures) (c .before .judge .ensures) _ _ (u .6)
     (u .5 ∙ u .3 .ensures)
     (u .1 .given .1))
     (λ u.
-    stores _ _ _ _ _ (at-loop .loop .inv) _ _ _ (at-pre .pre .0) (at-pre .pre .1) (at-loop-test .loop-test .taken) (at-index .index .ensures .0) (at-binder .binder .ensures) (c .before .judge .ensures) _ _ _ (u .4) (u .3)
+    stores _ _ _ _ _ (at-loop .loop .inv) _ _ _ (at-pre .pre .long) (at-pre .pre .few) (at-loop-test .loop-test .taken) (at-index .index .ensures .0) (at-binder .binder .ensures) (c .before .judge .ensures) _ _ _ (u .4) (u .3)
     (u .1 .given .1))
     (c .match .came)
 

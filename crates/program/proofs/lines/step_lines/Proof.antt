@@ -17,7 +17,7 @@ abbrev μ-loop : tie.MeasureT-loop
 μ-loop text work₀ n cursor₀ k₀ work cursor k = n - k
 
 loop-holds : tie.Need-loop-holds Inv-loop μ-loop
-loop-holds c = start _ _ _ _ (c .before .before .pre .0) (c .before .before .pre .2)
+loop-holds c = start _ _ _ _ (c .before .before .pre .0 .long) (c .before .before .pre .1)
 
 step-line-requires : tie.Need-step-line-requires Inv-loop μ-loop
 step-line-requires c κs = c .before .loop .inv .placed
@@ -26,19 +26,19 @@ slice-write-work : tie.Need-slice-write-work Inv-loop μ-loop
 slice-write-work c =
     let at-loop = c .before .before .before .before .before .before in
     let at-pre = at-loop .before .before .before in
-    omega (arith, at-pre .pre, at-loop .loop .inv .changed .long)
+    omega (arith, at-pre .pre .0 .long, at-pre .pre .0 .few, at-loop .loop .inv .changed .long)
 
 slice-write-work-2 : tie.Need-slice-write-work-2 Inv-loop μ-loop
 slice-write-work-2 c =
     let at-loop = c .before .before .before .before .before .before in
     let at-pre = at-loop .before .before .before in
-    simp length-set (omega (arith, at-pre .pre, at-loop .loop .inv .changed .long))
+    simp length-set (omega (arith, at-pre .pre .0 .long, at-pre .pre .0 .few, at-loop .loop .inv .changed .long))
 
 slice-write-work-3 : tie.Need-slice-write-work-3 Inv-loop μ-loop
 slice-write-work-3 c =
     let at-loop = c .before .before .before .before .before .before in
     let at-pre = at-loop .before .before .before in
-    simp length-set (omega (arith, at-pre .pre, at-loop .loop .inv .changed .long))
+    simp length-set (omega (arith, at-pre .pre .0 .long, at-pre .pre .0 .few, at-loop .loop .inv .changed .long))
 
 same-length : tie.Need-same-length Inv-loop μ-loop
 same-length c = c .before .before .before .before .before .loop .inv .changed .long
@@ -56,7 +56,7 @@ loop-again c =
     let at-loop-test = at-step-line .before in
     let at-loop = at-loop-test .before in
     let at-pre = at-loop .before .before .before in
-    more _ _ _ _ _ _ _ (at-loop .loop .inv) (at-loop-test .loop-test .taken) _ _ _ _ (at-pre .pre .0) (at-pre .pre .1)
+    more _ _ _ _ _ _ _ (at-loop .loop .inv) (at-loop-test .loop-test .taken) _ _ _ _ (at-pre .pre .0 .long) (at-pre .pre .0 .few)
     (subst (StepShown _ _) (c .before .before .word .given .1) (at-step-line .step-line .ensures))
     (c .code-of .ensures)
 

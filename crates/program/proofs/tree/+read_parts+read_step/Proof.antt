@@ -49,7 +49,7 @@ step-calls t =
     (word-of-reads.Asked, word-of-reads.Learnt, parts-of-reads.Asked, parts-of-reads.Learnt, read-parts-below t, read-parts.Post)
 
 read-parts-returns : (t : ℕ) → read-parts-lts.Need-returns (parts-calls t) (read-parts-at t) read-parts.Post
-read-parts-returns t c = parts-none _ _ _ _ (c .before .before .pre .1 .0) (c .before .before .pre .1 .1) (c .before .before .pre .1 .2) (c .if1 .taken)
+read-parts-returns t c = parts-none _ _ _ _ (c .before .before .pre .1 .0 .long) (c .before .before .pre .1 .0 .few) (c .before .before .pre .1 .1) (c .if1 .taken)
 
 read-parts-read-step-requires : (t : ℕ) → read-parts-lts.Need-read-step-requires (parts-calls t) (read-parts-at t) read-parts.Post
 read-parts-read-step-requires t c κs =
@@ -60,9 +60,9 @@ read-parts-read-parts-requires : (t : ℕ) → read-parts-lts.Need-read-parts-re
 read-parts-read-parts-requires t c κs =
     let at-read-step = c .before .before .before .before .before .before in
     let at-pre = at-read-step .before .before .before .before in
-    let q = within _ 1 _ _ _ _ _ (at-pre .pre .1 .2) (at-read-step .read-step .ensures) (c .before .before .e .given .1) in
+    let q = within _ 1 _ _ _ _ _ (at-pre .pre .1 .1) (at-read-step .read-step .ensures) (c .before .before .e .given .1) in
     let l = past _ _ _ _ _ _ (at-read-step .read-step .ensures) (c .before .before .e .given .1) in
-    (omega (arith, l, q .1, at-pre .pre .0), (at-read-step .read-step .kept .0 ∙ at-pre .pre .1 .0, at-pre .pre .1 .1, q .1))
+    (omega (arith, l, q .1, at-pre .pre .0), (record { long = at-read-step .read-step .kept .0 ∙ at-pre .pre .1 .0 .long; few = at-pre .pre .1 .0 .few }, q .1))
 
 read-parts-returns-2 : (t : ℕ) → read-parts-lts.Need-returns-2 (parts-calls t) (read-parts-at t) read-parts.Post
 read-parts-returns-2 t c =
@@ -70,30 +70,30 @@ read-parts-returns-2 t c =
     let at-read-step = at-e .before .before .before .before in
     let at-if1 = at-read-step .before .before in
     let at-pre = at-if1 .before .before in
-    parts-more _ _ _ _ (at-pre .pre .1 .0) (at-pre .pre .1 .1) (at-pre .pre .1 .2) _ _ (at-if1 .if1 .left) (at-read-step .read-step .ensures) _ _ _ (at-e .e .given .1) (c .before .before .read-parts .ensures)
+    parts-more _ _ _ _ (at-pre .pre .1 .0 .long) (at-pre .pre .1 .0 .few) (at-pre .pre .1 .1) _ _ (at-if1 .if1 .left) (at-read-step .read-step .ensures) _ _ _ (at-e .e .given .1) (c .before .before .read-parts .ensures)
 
 read-parts-returns-3 : (t : ℕ) → read-parts-lts.Need-returns-3 (parts-calls t) (read-parts-at t) read-parts.Post
 read-parts-returns-3 t c =
     let at-read-step = c .before .before .before .before in
     let at-if1 = at-read-step .before .before in
     let at-pre = at-if1 .before .before in
-    parts-open _ _ _ _ (at-pre .pre .1 .0) (at-pre .pre .1 .1) (at-pre .pre .1 .2) _ _ (at-if1 .if1 .left) (at-read-step .read-step .ensures) (c .enum-told .given .1)
+    parts-open _ _ _ _ (at-pre .pre .1 .0 .long) (at-pre .pre .1 .0 .few) (at-pre .pre .1 .1) _ _ (at-if1 .if1 .left) (at-read-step .read-step .ensures) (c .enum-told .given .1)
 
 read-step-returns : (t : ℕ) → read-step-lts.Need-returns (step-calls t) (read-step-at t) read-step.Post
-read-step-returns t c = step-none _ _ _ (c .before .before .pre .1 .0) (c .before .before .pre .1 .1) (c .before .before .pre .1 .2) (c .if1 .taken)
+read-step-returns t c = step-none _ _ _ (c .before .before .pre .1 .0 .long) (c .before .before .pre .1 .0 .few) (c .before .before .pre .1 .1) (c .if1 .taken)
 
 read-step-read-parts-requires : (t : ℕ) → read-step-lts.Need-read-parts-requires (step-calls t) (read-step-at t) read-step.Post
 read-step-read-parts-requires t c κs =
     let at-if1 = c .before .before .before .before in
     let at-pre = at-if1 .before .before in
-    (omega (arith, at-pre .pre .0, at-if1 .if1 .left), (at-pre .pre .1 .0, at-pre .pre .1 .1, omega (arith, at-if1 .if1 .left)))
+    (omega (arith, at-pre .pre .0, at-if1 .if1 .left), (at-pre .pre .1 .0, omega (arith, at-if1 .if1 .left)))
 
 read-step-cast-work : (t : ℕ) → read-step-lts.Need-cast-work (step-calls t) (read-step-at t) read-step.Post
 read-step-cast-work t c =
     let at-read-parts = c .before .before .before .before .before in
     let at-if1 = at-read-parts .before .before .before .before .before in
     let at-pre = at-if1 .before .before in
-    omega (arith, at-pre .pre .1 .1, within _ _ _ _ _ _ _ (omega (arith, at-if1 .if1 .left)) (at-read-parts .read-parts .ensures) (c .before .e .given .1) .1)
+    omega (arith, at-pre .pre .1 .0 .few, within _ _ _ _ _ _ _ (omega (arith, at-if1 .if1 .left)) (at-read-parts .read-parts .ensures) (c .before .e .given .1) .1)
 
 read-step-returns-2 : (t : ℕ) → read-step-lts.Need-returns-2 (step-calls t) (read-step-at t) read-step.Post
 read-step-returns-2 t c =
@@ -102,7 +102,7 @@ read-step-returns-2 t c =
     let at-word-of = at-parts-of .before in
     let at-if1 = at-word-of .before .before in
     let at-pre = at-if1 .before .before in
-    step-more _ _ _ (at-pre .pre .1 .0) (at-pre .pre .1 .1) _ _ _ (at-if1 .if1 .left) (at-parts-of .parts-of .ensures ∙ ap partsOf (at-word-of .word-of .ensures)) (at-read-parts .read-parts .ensures) _ (c .before .e .given .1)
+    step-more _ _ _ (at-pre .pre .1 .0 .long) (at-pre .pre .1 .0 .few) _ _ _ (at-if1 .if1 .left) (at-parts-of .parts-of .ensures ∙ ap partsOf (at-word-of .word-of .ensures)) (at-read-parts .read-parts .ensures) _ (c .before .e .given .1)
 
 read-step-returns-3 : (t : ℕ) → read-step-lts.Need-returns-3 (step-calls t) (read-step-at t) read-step.Post
 read-step-returns-3 t c =
@@ -111,7 +111,7 @@ read-step-returns-3 t c =
     let at-word-of = at-parts-of .before in
     let at-if1 = at-word-of .before .before in
     let at-pre = at-if1 .before .before in
-    step-open _ _ _ (at-pre .pre .1 .0) (at-pre .pre .1 .1) _ _ _ (at-if1 .if1 .left) (at-parts-of .parts-of .ensures ∙ ap partsOf (at-word-of .word-of .ensures)) (at-read-parts .read-parts .ensures) (c .enum-told .given .1)
+    step-open _ _ _ (at-pre .pre .1 .0 .long) (at-pre .pre .1 .0 .few) _ _ _ (at-if1 .if1 .left) (at-parts-of .parts-of .ensures ∙ ap partsOf (at-word-of .word-of .ensures)) (at-read-parts .read-parts .ensures) (c .enum-told .given .1)
 
 pub +read-parts+read-step-spec : {M : Type 1} → statement M
 +read-parts+read-step-spec = close μ-read-parts μ-read-step (λ t. read-parts-lts.spec (parts-calls t)
