@@ -12,7 +12,7 @@ ghost use Prim.Native.Nat.{_≤_};
 ghost use lib.ListN.{length};
 ghost use Rattle.lexer.specs.Cursors.{Placed};
 ghost use Rattle.workspace.specs.Layout.{workSize};
-ghost use Rattle.program.specs.Scopes.{Variables};
+ghost use Rattle.program.specs.Lines.{StepsStored};
 ghost use Rattle.program.specs.Sheet.{ExpressionRead, StepsRead, ProgramIs};
 
 // Nothing to refuse, or the refusal.
@@ -22,12 +22,12 @@ enum Outcome {
 }
 
 // Whether the n steps stored list one expression, and its variables are in scope; stores where its steps end and which
-// let each `var` means.
-fn expression(work: &mut [u32], n: usize) -> Outcome
-    requires { ⌜ (length (now work) ≡ workSize) × (n ≤ 256) × Variables n (now work) ⌝ }
-    ensures { λ r. ⌜ ExpressionRead n (now (work .entry)) (now (work .exit)) r ⌝ }
+// let each `var` means. `last` is the last line read.
+fn expression(work: &mut [u32], n: usize, last: u32) -> Outcome
+    requires { ⌜ (length (now work) ≡ workSize) × (n ≤ 256) × StepsStored n (now work) ⌝ }
+    ensures { λ r. ⌜ ExpressionRead n last (now (work .entry)) (now (work .exit)) r ⌝ }
 {
-    match tree::structure(work, n) {
+    match tree::structure(work, n, last) {
         Outcome::Passed => binders::scopes(work, n),
         Outcome::Refused(refusal) => Outcome::Refused(refusal),
     }
@@ -51,7 +51,7 @@ fn read_steps(text: &[u8], work: &mut [u32], n: usize, start: Cursor) -> Program
                 let spare = behind.line + 1;
                 return ProgramRead::Refused(Refusal::ProgramLines(spare));
             }
-            match expression(work, n) {
+            match expression(work, n, behind.line) {
                 Outcome::Passed => ProgramRead::Read(n),
                 Outcome::Refused(refusal) => ProgramRead::Refused(refusal),
             }

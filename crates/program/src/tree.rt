@@ -3,6 +3,7 @@ use crate::Outcome;
 use spec::Refusal;
 use spec::Word;
 use workspace::ENDS;
+use workspace::LINES;
 use workspace::WORDS;
 ghost use mathlib.Core.Path.{_≡_};
 ghost use Prim.Native.Nat.{_≤_};
@@ -60,22 +61,19 @@ fn read_parts(work: &mut [u32], n: usize, m: usize, k: usize) -> Ending
     }
 }
 
-// Whether the n steps stored list one expression.
-pub fn structure(work: &mut [u32], n: usize) -> Outcome
+// Whether the n steps stored list one expression; `last` is the last line read.
+pub fn structure(work: &mut [u32], n: usize, last: u32) -> Outcome
     requires { ⌜ (length (now work) ≡ workSize) × (n ≤ 256) ⌝ }
-    ensures { λ r. ⌜ Structured n (now (work .entry)) (now (work .exit)) r ⌝ }
+    ensures { λ r. ⌜ Structured n last (now (work .entry)) (now (work .exit)) r ⌝ }
 {
     match read_step(work, n, 0) {
         Ending::Reached(e) => {
-            if e == n {
+            if n <= e {
                 return Outcome::Passed;
             }
-            let line = e as u32 + 2;
+            let line = work[LINES + e];
             Outcome::Refused(Refusal::ProgramLines(line))
         }
-        Ending::Unfinished => {
-            let line = n as u32 + 1;
-            Outcome::Refused(Refusal::ProgramLines(line))
-        }
+        Ending::Unfinished => Outcome::Refused(Refusal::ProgramLines(last)),
     }
 }

@@ -1,10 +1,9 @@
 -- The first numbers of a work space, lent to a call and then cleared. How many, N, is a variable here, since `take 16384` would
 -- be computed.
-use mathlib.Core.Path.{_≡_, refl, sym, ap, _∙_}
+use mathlib.Core.Path.{_≡_, _∙_}
 use mathlib.Core.List.{List, _++_}
 use Prim.Native.Nat.{ℕ, _≤_, _<_}
 use native.Mathlib.Omega.{arith}
-use lib.Dec.{leb}
 use lib.ListN.{length, take, drop, replicate, length-append}
 use lib.Seq.{length-take-le, drop-at}
 use borrow.Author.Tests.{le-leb, lt-leb}

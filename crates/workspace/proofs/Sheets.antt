@@ -18,18 +18,14 @@ use Rattle.workspace.specs.Holds.{startNumber, HoldsSplit}
 use Rattle.workspace.specs.Sheets.{HoldsSheets}
 use Rattle.workspace.proofs.Region.{changed-wider, region-kept}
 use Rattle.workspace.proofs.Held.{program-kept}
-use Rattle.workspace.proofs.Expression.{codes, values, Here}
+use Rattle.workspace.proofs.Expression.{Here, root-standing}
 use Rattle.workspace.proofs.Shown.{map-number, Stands, map-stands}
 
 module _ {w : List ℕ} {steps denominator locations start : ℕ} {P : Program} {S : Split} (H : HoldsSheets w steps denominator locations start P S) where
   pub root-here : Here w 0 [] [] (P .root)
-  unfolding codes values
   root-here = record {
-    words = rw (H .wellFormed .listing) (H .program .steps .words);
-    numbers = rw (H .wellFormed .listing) (H .program .steps .values);
-    ended = H .program .ends;
+    standing = root-standing w (P .steps) (P .root) (H .program .steps) (H .program .ends) (H .wellFormed .listing) (H .wellFormed .numbering);
     bound = H .program .lets;
-    lines = H .wellFormed .numbering;
     used = H .wellFormed .usedInside;
   }
 

@@ -39,29 +39,32 @@ endsAt = 512
 abbrev pub letsAt : ℕ
 letsAt = 768
 
+abbrev pub linesAt : ℕ
+linesAt = 1024
+
 abbrev pub rowTypesAt : ℕ
-rowTypesAt = 1024
+rowTypesAt = 1280
 
 abbrev pub postsAt : ℕ
-postsAt = 1280
+postsAt = 1536
 
 abbrev pub startsAt : ℕ
-startsAt = 1536
+startsAt = 1792
 
 abbrev pub presAt : ℕ
-presAt = 1792
+presAt = 2048
 
 abbrev pub kindsAt : ℕ
-kindsAt = 2048
+kindsAt = 2304
 
 abbrev pub firstsAt : ℕ
-firstsAt = 2112
+firstsAt = 2368
 
 abbrev pub secondsAt : ℕ
-secondsAt = 2176
+secondsAt = 2432
 
 abbrev pub lineAt : ℕ
-lineAt = 2240
+lineAt = 2496
 
 abbrev pub mapsAt : ℕ
 mapsAt = 4096

@@ -1,7 +1,6 @@
 -- A variable is bound once.
 use borrow.Author.Tests.{le-leb, lt-leb}
 use Rattle.program.specs.Scopes.{judgeLet}
-use borrow.Author.Needs.{needs}
 use Rattle.program.proofs.binders.judge_let.Statement.{statement}
 use Rattle.program.proofs.binders.judge_let.Tie as tie
 
@@ -14,4 +13,4 @@ unfolding judgeLet
 returns-2 c = simp (lt-leb _ _ (c .if1 .left))
 
 pub judge-let-spec : {M : Type 1} → statement M
-judge-let-spec = tie.close (tie.spec returns (λ c. search needs) (λ c. search needs) returns-2)
+judge-let-spec = tie.close (tie.spec returns returns-2)
