@@ -27,14 +27,13 @@ use Rattle.workspace.proofs.Held.{program-kept}
 use Rattle.program.specs.Sheet.{Answered}
 use Rattle.program.specs.declared.ProgramRead.{ProgramRead}
 use Rattle.program.specs.declared.ProgramRead.the-variants as program-read
-use Rattle.split.specs.Answers.{Small}
 use Rattle.split.proofs.Found.{denominator-told, locations-told, types-told, start-told}
 use Rattle.split.specs.Sheet.{SheetAnswer}
 use Rattle.workspace.specs.declared.Header.{Header}
 use Rattle.split.specs.declared.Sheet.{Sheet}
 use Rattle.split.specs.declared.Sheet.the-variants as sheet
 use Rattle.rules.specs.Outcome.{outcome}
-use Rattle.workspace.specs.Sheets.{headerTold, HoldsSheets}
+use Rattle.workspace.specs.Sheets.{headerTold, Small, HoldsSheets}
 use Rattle.rules.specs.declared.Ruling.{Ruling}
 use Rattle.rules.specs.declared.Ruling.the-variants.{Met, Refused}
 use Rattle.checker.specs.Stages.{RulesAnswered}

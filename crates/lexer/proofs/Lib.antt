@@ -13,3 +13,4 @@ pub mod Stored
 pub mod Ranges
 pub mod Words
 pub mod TypeLines
+pub mod Turns

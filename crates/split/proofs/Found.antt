@@ -8,8 +8,7 @@ use Rattle.spec.specs.Reading.{Out, stop, on}
 use Rattle.spec.specs.Split.{Split}
 use Rattle.spec.specs.declared.Refusal.{Refusal}
 use Rattle.workspace.specs.Holds.{HoldsSplit}
-use Rattle.workspace.specs.Sheets.{headerTold}
-use Rattle.split.specs.Answers.{Small}
+use Rattle.workspace.specs.Sheets.{headerTold, Small}
 use Rattle.split.specs.Sheet.{SheetAnswer}
 use Rattle.workspace.specs.declared.Header.{Header}
 use Rattle.split.specs.declared.Sheet.{Sheet}

@@ -1,13 +1,5 @@
 pub mod Turns
-pub mod Tests
-pub mod FieldLaws
-pub mod LineLaws
-pub mod FieldsInTurn
 pub mod HeaderLaws
-pub mod TypeLaws
-pub mod MapLaws
-pub mod RowFields
-pub mod RowLaws
 pub mod Stores
 pub mod Loops
 pub mod SheetLaws

@@ -7,50 +7,52 @@ use native.Mathlib.Omega.{arith}
 use lib.ListN.{length, getD, set, take, drop, length-drop}
 use lib.Seq.{length-take-le}
 use Rattle.spec.specs.Text.{Field}
-use Rattle.spec.specs.Reading.{splitSheet, stop, on, Seen, next, nextAll}
+use Rattle.spec.specs.Reading.{splitSheet, stop, on, Seen, Place, next, nextAll}
 use Rattle.spec.specs.Split.{Map, Header}
 use Rattle.spec.specs.declared.Purpose.{Purpose}
 use Rattle.spec.specs.declared.Refusal.{Refusal}
 use Rattle.spec.specs.declared.Word.{Word}
 use Rattle.lexer.specs.Cursors.{Placed, placeAt}
 use Rattle.lexer.specs.declared.Cursor.{Cursor}
-use Rattle.workspace.specs.Layout.{wordsAt, rowTypesAt, presAt, mapsAt, stride, spaceSize, wordOf}
+use Rattle.lexer.proofs.Turns.{numbered}
+use Rattle.workspace.specs.Layout.{wordsAt, rowTypesAt, presAt, mapsAt, stride, workSize, wordOf}
 use Rattle.workspace.specs.Region.{ChangedWithin}
-use Rattle.workspace.proofs.Region.{changed-then}
-use Rattle.split.specs.Lines.{cellLine, wordLine}
-use Rattle.split.specs.Stored.{Columns, HoldsMaps, LinesStored, stepAt}
-use Rattle.split.specs.declared.LinesRead.the-variants as lines-read
-use Rattle.split.proofs.Turns.{numbered, Turn, next-turn, turns-stop}
+use Rattle.workspace.specs.Steps.{wordAt, stepAt}
+use Rattle.lines.specs.Lines.{cellLine, wordLine}
+use Rattle.lines.specs.declared.LinesRead.the-variants as lines-read
+use Rattle.split.specs.Stored.{Columns, HoldsMaps, LinesStored}
+use Rattle.split.proofs.Turns.{Stage, stage-on, stage-stops}
 use Rattle.split.proofs.Stores.{columns-push, columns-changed, filled-changed, filled-region, maps-push}
 
 -- a line whose three numbers go into three columns
 module _
-    {A : Type 0} (f g h : A → ℕ) (b rows n : ℕ) (read : ℕ → List Field → Seen A) (text w₀ : List ℕ) (c₀ : Cursor)
-    (few : n ≤ rows) (room : b + rows + rows + rows ≤ length w₀) (w : List ℕ) (c : Cursor) (i : ℕ)
-    (t : Turn read (Columns f g h b rows) b (b + rows + rows + rows) n text w₀ (placeAt text c₀) w c i)
+    {A : Type 0} (f g h : A → ℕ) (b rows : ℕ) {n : ℕ} {read : ℕ → List Field → Seen A} {text w₀ : List ℕ} {from : Place} {w : List ℕ} {c : Cursor} {i : ℕ}
+    (few : n ≤ rows) (room : b + rows + rows + rows ≤ length w₀)
+    (s : Stage read (Columns f g h b rows) b (b + rows + rows + rows) n text w₀ from w c i)
   where
-    pub columns-turn : i < n → (w′ : List ℕ) (entry : A) (d : Cursor) → next splitSheet (read i) (placeAt text c) ≡ on (entry, placeAt text d) → Placed text d
+    pub columns-on : i < n → {w′ : List ℕ} {entry : A} {d : Cursor} → next splitSheet (read i) (placeAt text c) ≡ on (entry, placeAt text d) → Placed text d
         → w′ ≡ set (set (set w (b + i) (f entry)) (b + rows + i) (g entry)) (b + rows + rows + i) (h entry)
-        → Turn read (Columns f g h b rows) b (b + rows + rows + rows) n text w₀ (placeAt text c₀) w′ d (i + 1)
-    columns-turn l w′ entry d e p q =
-        let r : b + rows + rows + rows ≤ length w = omega (arith, t .changed .long) in
-        next-turn read (Columns f g h b rows) b (b + rows + rows + rows) n text w₀ c₀ w c i t l w′ entry d e p
-        (subst (λ (x : List ℕ). Columns f g h b rows x (t .entries ++ (entry ∷ []))) (sym q)
-        (columns-push f g h b rows w (t .entries) entry i (t .count) (omega arith) r (t .stored)))
-        (subst (ChangedWithin b (b + rows + rows + rows) w) (sym q) (columns-changed f g h b rows w (t .entries) entry i (t .count) (omega arith) r))
+        → Stage read (Columns f g h b rows) b (b + rows + rows + rows) n text w₀ from w′ d (i + 1)
+    columns-on l {entry = entry} e p q =
+        let r : b + rows + rows + rows ≤ length w = omega (arith, s .changed .long) in
+        stage-on s l e p
+        (subst (λ (x : List ℕ). Columns f g h b rows x (s .entries ++ (entry ∷ []))) (sym q)
+        (columns-push f g h b rows w (s .entries) entry i (s .turn .count) (omega arith) r (s .stored)))
+        (subst (ChangedWithin b (b + rows + rows + rows) w) (sym q) (columns-changed f g h b rows w (s .entries) entry i (s .turn .count) (omega arith) r))
 
 -- the word that a row is read for is that of its step, which no row has changed
-pub row-here : (purpose : Purpose) (H : Header) (text : List ℕ) (c : Cursor) (w₀ w : List ℕ) (k : ℕ) (word : Word) → word ≡ wordOf (getD w (wordsAt + k) 0) → k < 256 → ChangedWithin rowTypesAt presAt w₀ w
+pub row-here : (purpose : Purpose) (H : Header) (text : List ℕ) (c : Cursor) {w₀ w : List ℕ} (k : ℕ) {word : Word} → word ≡ wordOf (getD w (wordsAt + k) 0) → k < 256 → ChangedWithin rowTypesAt presAt w₀ w
     → next splitSheet (wordLine purpose H (stepAt w₀ k .word)) (placeAt text c) ≡ next splitSheet (wordLine purpose H word) (placeAt text c)
-unfolding stepAt
-row-here purpose H text c w₀ w k word e l x =
+unfolding wordAt
+row-here purpose H text c {w₀ = w₀} {w = w} k e l x =
     let same : getD w (wordsAt + k) 0 ≡ getD w₀ (wordsAt + k) 0 = x .kept (wordsAt + k) (inl (omega arith)) in
     ap (λ (v : Word). next splitSheet (wordLine purpose H v) (placeAt text c)) (ap wordOf (sym same) ∙ sym e)
 
 -- a map line, whose numbers are read into their part of the work space
 module _
-    (locations n : ℕ) (narrow : locations ≤ 16) (few : n ≤ 512) (text w₀ : List ℕ) (c₀ : Cursor) (long : length w₀ ≡ spaceSize) (w : List ℕ) (c : Cursor) (i : ℕ)
-    (t : Turn (λ m. cellLine locations) (HoldsMaps locations) mapsAt spaceSize n text w₀ (placeAt text c₀) w c i) (less : i < n)
+    {locations n : ℕ} {text w₀ : List ℕ} {from : Place} {w : List ℕ} {c : Cursor} {i : ℕ}
+    (narrow : locations ≤ 16) (few : n ≤ 512) (long : length w₀ ≡ workSize)
+    (s : Stage (λ m. cellLine locations) (HoldsMaps locations) mapsAt workSize n text w₀ from w c i) (less : i < n)
   where
     abbrev at : ℕ
     at = mapsAt + stride * i
@@ -69,7 +71,7 @@ module _
     wide = omega arith
 
     room : at + (past - at) ≤ length w
-    room = omega (arith, wide, t .changed .long)
+    room = omega (arith, wide, s .changed .long)
 
     part-long : length part ≡ locations
     part-long = length-take-le (past - at) (drop at w) (omega (arith, room, length-drop at w)) ∙ wide
@@ -78,25 +80,22 @@ module _
       whole : length ys ≡ past - at
       whole = kept ∙ part-long ∙ sym wide
 
-      put-changed : ChangedWithin mapsAt spaceSize w (put ys)
-      put-changed = filled-changed w at ys (past - at) whole room mapsAt spaceSize (omega arith) (omega (arith, wide))
+      put-changed : ChangedWithin mapsAt workSize w (put ys)
+      put-changed = filled-changed w at ys (past - at) whole room mapsAt workSize (omega arith) (omega (arith, wide))
 
       pub map-long : length (put ys) ≡ length w₀
-      map-long = put-changed .long ∙ t .changed .long
+      map-long = put-changed .long ∙ s .changed .long
 
-      pub map-stop : (reads : List (List Field → Seen Map)) → reads ≡ numbered (λ m. cellLine locations) 0 n → (r : Refusal)
+      pub map-stops : {reads : List (List Field → Seen Map)} → reads ≡ numbered (λ m. cellLine locations) 0 n → {r : Refusal}
           → next splitSheet (cellLine (length part)) (placeAt text c) ≡ stop r
-          → LinesStored mapsAt spaceSize n (HoldsMaps locations) text (nextAll splitSheet reads (placeAt text c₀)) w₀ (put ys) (lines-read.Refused r)
-      map-stop reads q r e = record {
-        answered = turns-stop (λ m. cellLine locations) (HoldsMaps locations) mapsAt spaceSize n text w₀ c₀ w c i t reads q less r (rw (← part-long) e) .answered;
-        changed = changed-then mapsAt spaceSize (t .changed) put-changed;
-      }
+          → LinesStored mapsAt workSize n (HoldsMaps locations) text (nextAll splitSheet reads from) w₀ (put ys) (lines-read.Refused r)
+      map-stops q e = stage-stops s q less (rw (← part-long) e) put-changed
 
-      pub map-turn : (d : Cursor) → next splitSheet (cellLine (length part)) (placeAt text c) ≡ on (ys, placeAt text d) → Placed text d
-          → Turn (λ m. cellLine locations) (HoldsMaps locations) mapsAt spaceSize n text w₀ (placeAt text c₀) (put ys) d (i + 1)
-      map-turn d e p =
-          next-turn (λ m. cellLine locations) (HoldsMaps locations) mapsAt spaceSize n text w₀ c₀ w c i t less (put ys) ys d (rw (← part-long) e) p
-          (maps-push locations narrow w (put ys) (t .entries) ys (kept ∙ part-long) i (t .count) (t .stored)
+      pub map-on : {d : Cursor} → next splitSheet (cellLine (length part)) (placeAt text c) ≡ on (ys, placeAt text d) → Placed text d
+          → Stage (λ m. cellLine locations) (HoldsMaps locations) mapsAt workSize n text w₀ from (put ys) d (i + 1)
+      map-on e p =
+          stage-on s less (rw (← part-long) e) p
+          (maps-push locations narrow w (put ys) (s .entries) ys (kept ∙ part-long) i (s .turn .count) (s .stored)
           (filled-changed w at ys (past - at) whole room at past (omega arith) (omega (arith, wide)))
           (filled-region w at ys (past - at) whole room))
           put-changed

@@ -8,7 +8,7 @@ use native.Mathlib.Nat.{eq-or-lt-of-le}
 use lib.ListN.{length, getD, take, drop, replicate, set, length-set, length-map, length-append, length-drop, List·getD-append}
 use lib.Seq.{getD-take, getD-drop, length-take-le, getD-append-add, getD-append-seam}
 use Rattle.spec.specs.Split.{Map}
-use Rattle.workspace.specs.Layout.{mapsAt, stride, emptyRowAt, spaceSize}
+use Rattle.workspace.specs.Layout.{mapsAt, stride, emptyRowAt, workSize}
 use Rattle.workspace.specs.Region.{Region, ChangedWithin}
 use Rattle.workspace.proofs.Region.{region-empty, region-apart, column-push, region-kept, changed-store, changed-then}
 use Rattle.split.specs.Stored.{Columns, EmptyStored, HoldsMaps}
@@ -106,7 +106,7 @@ module _ (w : List ℕ) (at : ℕ) (xs : List ℕ) (n : ℕ) (count : length xs 
   filled-region = record { fits = omega (arith, filled-long); at = filled-at }
 
 -- the empty map
-pub empty-stored : (w xs : List ℕ) → length w ≡ spaceSize → xs ≡ replicate (length (take 16 (drop emptyRowAt w))) 0
+pub empty-stored : (w xs : List ℕ) → length w ≡ workSize → xs ≡ replicate (length (take 16 (drop emptyRowAt w))) 0
     → EmptyStored w (take emptyRowAt w ++ (xs ++ drop 16 (drop emptyRowAt w)))
 empty-stored w xs long e =
     let part = length-take-le 16 (drop emptyRowAt w) (omega (arith, length-drop emptyRowAt w, long)) in

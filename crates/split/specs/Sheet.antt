@@ -1,22 +1,27 @@
 -- What the answer to a whole split sheet means.
 use mathlib.Core.Path.{_≡_}
 use mathlib.Core.List.{List, map}
-use Prim.Native.Nat.{ℕ}
+use Prim.Native.Nat.{ℕ, _≤_}
 use lib.ListN.{length, replicate}
 use Rattle.spec.specs.Reading.{splitSheet, Out, stop, on, _>>=_, Place, nextAll, end}
 use Rattle.spec.specs.Expression.{Step}
 use Rattle.spec.specs.Split.{Header, Split, typeLines, mapLine, rowLine, split}
 use Rattle.spec.specs.declared.Purpose.{Purpose}
-use Rattle.workspace.specs.Layout.{rowTypesAt, spaceSize}
+use Rattle.workspace.specs.Layout.{rowTypesAt, workSize}
 use Rattle.workspace.specs.Region.{ChangedWithin}
 use Rattle.workspace.specs.Holds.{HoldsSteps, HoldsSplit}
-use Rattle.split.specs.declared.LinesRead.{LinesRead}
-use Rattle.split.specs.declared.LinesRead.the-variants as lines-read
+use Rattle.workspace.specs.Steps.{stepsFrom}
+use Rattle.lines.specs.declared.LinesRead.{LinesRead}
+use Rattle.lines.specs.declared.LinesRead.the-variants as lines-read
 use Rattle.split.specs.declared.Sheet.{Sheet}
 use Rattle.split.specs.declared.Sheet.the-variants as sheet
-use Rattle.split.specs.Answers.{Small}
-use Rattle.workspace.specs.Sheets.{headerTold}
-use Rattle.split.specs.Stored.{stepsFrom}
+use Rattle.workspace.specs.Sheets.{headerTold, Small}
+
+-- a text that the limit lets through, as many steps as a program may have, and a work space to store a sheet in
+pub record Readable (text : List ℕ) (steps : ℕ) (w : List ℕ) : Type 0 where
+  pub short : length text ≤ 65536
+  pub few : steps ≤ 256
+  pub whole : length w ≡ workSize
 
 -- the lines behind the header
 unfoldable pub body : Purpose → Header → List Step → Place → Out Split
@@ -37,7 +42,7 @@ BodyAnswer H out w′ (lines-read.Read c) = (S : Split) × (out ≡ on S) × (S 
 
 pub record BodyRead (purpose : Purpose) (H : Header) (n : ℕ) (from : Place) (w w′ : List ℕ) (answer : LinesRead) : Type 0 where
   pub answered : BodyAnswer H (body purpose H (stepsFrom w 0 n) from) w′ answer
-  pub changed : ChangedWithin rowTypesAt spaceSize w w′
+  pub changed : ChangedWithin rowTypesAt workSize w w′
 
 -- a refusal is that of document 01; else the header is that of the split, which the work space holds
 abbrev pub SheetAnswer : Out Split → (w′ : List ℕ) → Sheet → Type 0
@@ -47,4 +52,4 @@ SheetAnswer out w′ (sheet.Read h) = (S : Split) × (out ≡ on S) × (S .heade
 -- reading a split sheet, to check or to fill, for the n steps of a program that the work space holds: only places from the rows on change
 pub record SplitRead (purpose : Purpose) (text : List ℕ) (n : ℕ) (w w′ : List ℕ) (answer : Sheet) : Type 0 where
   pub answered : (steps : List Step) → HoldsSteps w steps → length steps ≡ n → SheetAnswer (split purpose steps text) w′ answer
-  pub changed : ChangedWithin rowTypesAt spaceSize w w′
+  pub changed : ChangedWithin rowTypesAt workSize w w′

@@ -1,22 +1,23 @@
 -- What lines leave in the work space, and what the answers of the readers of many lines mean.
 use mathlib.Core.Path.{_≡_}
-use mathlib.Core.List.{List, [], _∷_, map}
-use Prim.Native.Nat.{ℕ, suc, zero, _+_, _*_, _<_}
+use mathlib.Core.List.{List, [], map}
+use Prim.Native.Nat.{ℕ, _+_, _*_, _<_, _≤_}
 use lib.ListN.{length, getD, replicate}
 use Rattle.spec.specs.Reading.{splitSheet, Out, stop, on, Place, nextAll}
-use Rattle.spec.specs.Expression.{Step}
 use Rattle.spec.specs.Split.{Map, Row, typeLines, mapLine, rowLine}
 use Rattle.spec.specs.declared.Purpose.{Purpose}
 use Rattle.spec.specs.declared.TypeLine.{TypeLine}
 use Rattle.lexer.specs.Cursors.{Placed, placeAt}
 use Rattle.lexer.specs.declared.Cursor.{Cursor}
-use Rattle.workspace.specs.Layout.{wordsAt, valuesAt, rowTypesAt, presAt, kindsAt, lineAt, mapsAt, stride, emptyMap, emptyRowAt, spaceSize, wordOf, kindOf, firstOf, secondOf}
+use Rattle.workspace.specs.Layout.{rowTypesAt, presAt, kindsAt, lineAt, mapsAt, stride, emptyMap, emptyRowAt, workSize, kindOf, firstOf, secondOf}
 use Rattle.workspace.specs.Region.{Region, ChangedWithin}
 use Rattle.workspace.specs.Holds.{startNumber}
+use Rattle.workspace.specs.Steps.{stepsFrom}
 use Rattle.workspace.specs.declared.Header.{Header}
-use Rattle.split.specs.declared.LinesRead.{LinesRead}
-use Rattle.split.specs.declared.LinesRead.the-variants as lines-read
-use Rattle.workspace.specs.Sheets.{headerTold}
+use Rattle.lines.specs.declared.LinesRead.{LinesRead}
+use Rattle.lines.specs.declared.LinesRead.the-variants as lines-read
+use Rattle.workspace.specs.Sheets.{headerTold, Small}
+use Rattle.lines.specs.Answers.{Reading}
 
 -- three numbers of each entry, in three columns with room for so many rows, one behind the other
 pub record Columns {A : Type 0} (f g h : A → ℕ) (b rows : ℕ) (w : List ℕ) (entries : List A) : Type 0 where
@@ -40,6 +41,17 @@ pub record EmptyStored (w w′ : List ℕ) : Type 0 where
   pub empty : Region w′ (mapsAt + stride * emptyMap) (replicate stride 0)
   pub changed : ChangedWithin emptyRowAt (emptyRowAt + stride) w w′
 
+-- a cursor behind which lines of a sheet with this header may stand, and a work space to store them in
+pub record Storing (text : List ℕ) (c : Cursor) (h : Header) (w : List ℕ) : Type 0 where
+  pub reading : Reading text c
+  pub small : Small h
+  pub whole : length w ≡ workSize
+
+-- the same, with rows of so many steps among them
+pub record StoringRows (text : List ℕ) (c : Cursor) (h : Header) (steps : ℕ) (w : List ℕ) : Type 0 where
+  pub storing : Storing text c h w
+  pub few : steps ≤ 256
+
 -- n lines read one after the other: what they say is in the work space
 abbrev pub LinesAnswer : {A : Type 0} → (n : ℕ) → (Stored : List A → Type 0) → List ℕ → Out (List A × Place) → LinesRead → Type 0
 LinesAnswer n Stored text out (lines-read.Refused r) = out ≡ stop r
@@ -49,16 +61,6 @@ LinesAnswer n Stored text out (lines-read.Read c) =
 pub record LinesStored {A : Type 0} (a b n : ℕ) (Stored : List ℕ → List A → Type 0) (text : List ℕ) (out : Out (List A × Place)) (w w′ : List ℕ) (answer : LinesRead) : Type 0 where
   pub answered : LinesAnswer n (Stored w′) text out answer
   pub changed : ChangedWithin a b w w′
-
--- ------------------------------------------------------------------ the steps in the work space
-
-unfoldable pub stepAt : List ℕ → ℕ → Step
-stepAt w k = record { word = wordOf (getD w (wordsAt + k) 0); value = getD w (valuesAt + k) 0 }
-
--- n steps from index k on
-unfoldable pub stepsFrom : List ℕ → (k n : ℕ) → List Step
-stepsFrom w k zero = []
-stepsFrom w k (suc n) = stepAt w k ∷ stepsFrom w (k + 1) n
 
 -- ------------------------------------------------------------------ what the three loops over lines leave and answer
 
@@ -70,7 +72,7 @@ TypesRead text c h w w′ answer =
 -- the map lines
 abbrev pub MapsRead : List ℕ → Cursor → Header → (w w′ : List ℕ) → LinesRead → Type 0
 MapsRead text c h w w′ answer =
-    LinesStored mapsAt spaceSize (h .maps) (HoldsMaps (h .locations)) text (nextAll splitSheet (replicate (h .maps) (mapLine (headerTold h))) (placeAt text c)) w w′ answer
+    LinesStored mapsAt workSize (h .maps) (HoldsMaps (h .locations)) text (nextAll splitSheet (replicate (h .maps) (mapLine (headerTold h))) (placeAt text c)) w w′ answer
 
 -- the rows of the first n steps in the work space
 abbrev pub RowsRead : Purpose → List ℕ → Cursor → Header → (n : ℕ) → (w w′ : List ℕ) → LinesRead → Type 0

@@ -1,24 +1,22 @@
 // Line 1 of the split sheet: `C,D,L,T,M`, `C2,D,L,T,M,r` or `C3,D,L,T,M,r`.
-use crate::LARGEST;
-use crate::fields::Head;
-use crate::fields::first_field;
 use lexer::Cursor;
 use lexer::Numbers;
+use lines::Head;
+use lines::LARGEST;
+use lines::first_field;
 use spec::Heading;
 use spec::MapNumber;
 use spec::Purpose;
 use spec::Refusal;
 use workspace::Header;
 ghost use mathlib.Core.Path.{_≡_};
-ghost use mathlib.Core.Bool.{false};
 ghost use Rattle.spec.specs.Text.{lookUp};
 ghost use Rattle.spec.specs.Reading.{splitSheet, _to_, inRange, next};
 ghost use Rattle.spec.specs.Split.{headings, headerLine};
-ghost use Rattle.lexer.specs.Views.{nothing};
-ghost use Rattle.lexer.specs.Cursors.{rest, placeAt};
+ghost use Rattle.lexer.specs.Cursors.{placeAt};
 ghost use Rattle.workspace.specs.Sheets.{headerTold};
-ghost use Rattle.split.specs.Lines.{headingFound, numeralsOf, headerFits};
-ghost use Rattle.split.specs.Answers.{Reading, NumbersAnswer, HeaderAnswer};
+ghost use Rattle.lines.specs.Answers.{Reading};
+ghost use Rattle.split.specs.Header.{headingFound, numeralsOf, headerFits, AtHeader, NumbersAnswer, HeaderAnswer};
 
 // How many locations, types and maps a sheet can have.
 const MOST_LOCATIONS: usize = 16;
@@ -133,7 +131,7 @@ fn header_fits(header: Header) -> bool
 
 // The header at a cursor.
 pub(crate) fn header_line(text: &[u8], cursor: Cursor, purpose: Purpose) -> HeaderLine
-    requires { ⌜ Reading (now text) cursor × (nothing (rest (now text) cursor) ≡ false) ⌝ }
+    requires { ⌜ AtHeader (now text) cursor ⌝ }
     ensures { λ r. ⌜ HeaderAnswer (now (text .entry)) (next splitSheet (headerLine purpose) (placeAt (now (text .entry)) cursor)) r ⌝ }
 {
     let line = cursor.line + 1;

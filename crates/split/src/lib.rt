@@ -1,5 +1,4 @@
 // The split sheet, read into the work space line by line: its header, types, maps and rows.
-mod fields;
 mod first_line;
 mod map_lines;
 mod row_lines;
@@ -8,6 +7,7 @@ mod type_lines;
 use first_line::HeaderLine;
 use first_line::header_line;
 use lexer::Cursor;
+use lines::LinesRead;
 use map_lines::read_maps;
 use row_lines::read_rows;
 use spec::Purpose;
@@ -17,28 +17,18 @@ use workspace::EMPTY_ROW;
 use workspace::Header;
 use workspace::STRIDE;
 ghost use mathlib.Core.Path.{_≡_};
-ghost use Prim.Native.Nat.{_≤_};
 ghost use lib.ListN.{length};
 ghost use Rattle.spec.specs.Reading.{splitSheet, end};
 ghost use Rattle.lexer.specs.Cursors.{placeAt};
-ghost use Rattle.workspace.specs.Layout.{spaceSize};
+ghost use Rattle.workspace.specs.Layout.{workSize};
 ghost use Rattle.workspace.specs.Sheets.{headerTold};
-ghost use Rattle.split.specs.Answers.{Reading, Small};
-ghost use Rattle.split.specs.Stored.{EmptyStored};
-ghost use Rattle.split.specs.Sheet.{EndAnswer, BodyRead, SplitRead};
-
-// The largest denominator, and the largest number of a map.
-pub(crate) const LARGEST: u32 = 1000000000;
+ghost use Rattle.lines.specs.Answers.{Reading};
+ghost use Rattle.split.specs.Stored.{StoringRows, EmptyStored};
+ghost use Rattle.split.specs.Sheet.{Readable, EndAnswer, BodyRead, SplitRead};
 
 // The header of a sheet that is in the work space, or the reason to stop.
 pub enum Sheet {
     Read(Header),
-    Refused(Refusal),
-}
-
-// The cursor behind lines whose numbers are in the work space, or the reason to stop.
-pub(crate) enum LinesRead {
-    Read(Cursor),
     Refused(Refusal),
 }
 
@@ -56,7 +46,7 @@ fn finish(text: &[u8], cursor: Cursor) -> LinesRead
 
 // The empty map, behind the last that a sheet can have: nothing of any location.
 fn store_empty(work: &mut [u32])
-    requires { ⌜ length (now work) ≡ spaceSize ⌝ }
+    requires { ⌜ length (now work) ≡ workSize ⌝ }
     ensures { λ _. ⌜ EmptyStored (now (work .entry)) (now (work .exit)) ⌝ }
 {
     let past = EMPTY_ROW + STRIDE;
@@ -72,7 +62,7 @@ fn read_body(
     steps: usize,
     work: &mut [u32],
 ) -> LinesRead
-    requires { ⌜ Reading (now text) from × Small header × (steps ≤ 256) × (length (now work) ≡ spaceSize) ⌝ }
+    requires { ⌜ StoringRows (now text) from header steps (now work) ⌝ }
     ensures { λ r. ⌜ BodyRead purpose (headerTold header) steps (placeAt (now (text .entry)) from) (now (work .entry)) (now (work .exit)) r ⌝ }
 {
     let types = read_types(text, from, header, work);
@@ -93,7 +83,7 @@ fn read_body(
 
 // Reads a split sheet, to check or to fill, for the steps of the program that the work space holds.
 pub fn read(text: &[u8], purpose: Purpose, steps: usize, work: &mut [u32]) -> Sheet
-    requires { ⌜ (length (now text) ≤ 65536) × (steps ≤ 256) × (length (now work) ≡ spaceSize) ⌝ }
+    requires { ⌜ Readable (now text) steps (now work) ⌝ }
     ensures { λ r. ⌜ SplitRead purpose (now (text .entry)) steps (now (work .entry)) (now (work .exit)) r ⌝ }
 {
     let top = Cursor::start();

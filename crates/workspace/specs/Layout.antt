@@ -78,10 +78,6 @@ emptyMap = 512
 abbrev pub emptyRowAt : ℕ
 emptyRowAt = 12288
 
--- spec's workspaceSize, as a number that arithmetic sees
-abbrev pub spaceSize : ℕ
-spaceSize = 16384
-
 -- ------------------------------------------------------------------ words
 
 -- the rules, one a word: those of Figure 5 in the printed order, then those of section 3.1.4 and those of read-write

@@ -1,7 +1,7 @@
 -- What it is for the work space to hold both sheets, once they are read.
 use mathlib.Core.Path.{_≡_}
 use mathlib.Core.List.{List}
-use Prim.Native.Nat.{ℕ}
+use Prim.Native.Nat.{ℕ, _≤_}
 use lib.ListN.{length}
 use Rattle.spec.specs.Program.{Program}
 use Rattle.spec.specs.Split.{Header, Split}
@@ -20,6 +20,12 @@ headerTold h = record {
   maps = h .maps;
   start = h .start;
 }
+
+-- the numbers of a header that the work space has room for
+pub record Small (h : HeaderRead) : Type 0 where
+  pub locations : h .locations ≤ 16
+  pub types : h .types ≤ 64
+  pub maps : h .maps ≤ 512
 
 -- the work space w holds the program P of a well-formed sheet and a split S for its steps whose numbers are in range, with
 -- so many steps, this denominator, so many locations and the start with this number

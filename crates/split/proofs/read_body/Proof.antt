@@ -1,83 +1,86 @@
 -- The parts behind the header, one after the other: each begins where the one before it ends.
 use borrow.Author.Needs.{needs}
-use mathlib.Core.Path.{_∙_}
-use Rattle.split.proofs.SheetLaws.{types-stop, types-placed, maps-stop, maps-placed, rows-stop, rows-placed, body-read}
+use Rattle.split.proofs.SheetLaws.{types-stop, maps-ready, maps-stop, empty-ready, rows-ready, rows-stop, end-ready, body-read}
 use Rattle.split.proofs.read_body.Statement.{statement}
 use Rattle.split.proofs.read_body.Tie as tie
 
+-- each part, from the one behind it
+abbrev start : tie.After-read-types → tie.Start
+start s = s .before .before .before .before
+
+abbrev types : tie.After-types → tie.After-read-types
+types s = s .before .before .before .before
+
+abbrev typed : tie.After-read-maps → tie.After-types
+typed s = s .before .before .before
+
+abbrev maps : tie.After-maps → tie.After-read-maps
+maps s = s .before .before .before .before
+
+abbrev mapped : tie.After-store-empty → tie.After-maps
+mapped s = s .before .before .before
+
+abbrev emptied : tie.After-read-rows → tie.After-store-empty
+emptied s = s .before .before .before .before
+
+abbrev rows : tie.After-rows → tie.After-read-rows
+rows s = s .before .before .before .before
+
 returns : tie.Need-returns
 returns c =
-    let read-types = c .before .before .before .before in
-    let entry = read-types .before .before .before .before in
-    types-stop (entry .args .purpose) (entry .args .header) (entry .pre .1) (entry .args .steps) (entry .pre .2) (entry .args .text .now) (entry .args .from) (entry .args .work .now) (read-types .read-types .last .1 .1 .1 .0) (read-types .read-types .result) (read-types .read-types .ensures) _ (c .enum-told .given .1)
+    let t = c .before .before .before .before in
+    types-stop (start t .args .purpose) (start t .pre) (t .read-types .ensures) (c .enum-told .given .1)
 
 read-maps-requires : tie.Need-read-maps-requires
 read-maps-requires c κs =
-    let types = c .before .before in
-    let read-types = types .before .before .before .before in
-    let entry = read-types .before .before .before .before in
-    (record { placed = types-placed (entry .args .purpose) (entry .args .header) (entry .pre .1) (entry .args .steps) (entry .pre .2) (entry .args .text .now) (entry .args .from) (entry .args .work .now) (read-types .read-types .last .1 .1 .1 .0) (read-types .read-types .result) (read-types .read-types .ensures) (types .types .given .0 .0) (types .types .given .1); fits = entry .pre .0 .fits }, entry .pre .1, read-types .read-types .ensures .changed .long ∙ entry .pre .3)
+    let t = types (c .before .before) in
+    maps-ready (start t .args .purpose) (start t .pre) (t .read-types .ensures) (c .before .before .types .given .1)
 
 returns-2 : tie.Need-returns-2
 returns-2 c =
-    let read-maps = c .before .before .before .before in
-    let types = read-maps .before .before .before in
-    let read-types = types .before .before .before .before in
-    let entry = read-types .before .before .before .before in
-    maps-stop (entry .args .purpose) (entry .args .header) (entry .pre .1) (entry .args .steps) (entry .pre .2) (entry .args .text .now) (entry .args .from) (entry .args .work .now) (read-types .read-types .last .1 .1 .1 .0) (read-types .read-types .result) (read-types .read-types .ensures) (types .types .given .0 .0) (types .types .given .1) (read-maps .read-maps .last .1 .1 .1 .0) (read-maps .read-maps .result) (read-maps .read-maps .ensures) _ (c .enum-told2 .given .1)
+    let m = c .before .before .before .before in
+    let t = types (typed m) in
+    maps-stop (start t .args .purpose) (start t .pre) (t .read-types .ensures) (typed m .types .given .1) (m .read-maps .ensures) (c .enum-told2 .given .1)
 
 store-empty-requires : tie.Need-store-empty-requires
 store-empty-requires c κs =
-    let read-maps = c .before .before .before .before .before .before in
-    let types = read-maps .before .before .before in
-    let read-types = types .before .before .before .before in
-    let entry = read-types .before .before .before .before in
-    read-maps .read-maps .ensures .changed .long ∙ read-types .read-types .ensures .changed .long ∙ entry .pre .3
+    let m = c .before .before .before .before .before .before in
+    let t = types (typed m) in
+    empty-ready (start t .args .purpose) (start t .pre) (t .read-types .ensures) (typed m .types .given .1) (m .read-maps .ensures)
 
 read-rows-requires : tie.Need-read-rows-requires
 read-rows-requires c κs =
-    let store-empty = c .before .before .before in
-    let maps = store-empty .before .before .before in
-    let read-maps = maps .before .before .before .before in
-    let types = read-maps .before .before .before in
-    let read-types = types .before .before .before .before in
-    let entry = read-types .before .before .before .before in
-    (record { placed = maps-placed (entry .args .purpose) (entry .args .header) (entry .pre .1) (entry .args .steps) (entry .pre .2) (entry .args .text .now) (entry .args .from) (entry .args .work .now) (read-types .read-types .last .1 .1 .1 .0) (read-types .read-types .result) (read-types .read-types .ensures) (types .types .given .0 .0) (types .types .given .1) (read-maps .read-maps .last .1 .1 .1 .0) (read-maps .read-maps .result) (read-maps .read-maps .ensures) (maps .maps .given .0 .0) (maps .maps .given .1); fits = entry .pre .0 .fits }, entry .pre .1, entry .pre .2, store-empty .store-empty .ensures .changed .long ∙ read-maps .read-maps .ensures .changed .long ∙ read-types .read-types .ensures .changed .long ∙ entry .pre .3)
+    let e = c .before .before .before in
+    let m = maps (mapped e) in
+    let t = types (typed m) in
+    rows-ready (start t .args .purpose) (start t .pre) (t .read-types .ensures) (typed m .types .given .1) (m .read-maps .ensures) (mapped e .maps .given .1) (e .store-empty .ensures)
 
 returns-3 : tie.Need-returns-3
 returns-3 c =
-    let read-rows = c .before .before .before .before in
-    let store-empty = read-rows .before .before .before .before in
-    let maps = store-empty .before .before .before in
-    let read-maps = maps .before .before .before .before in
-    let types = read-maps .before .before .before in
-    let read-types = types .before .before .before .before in
-    let entry = read-types .before .before .before .before in
-    rows-stop (entry .args .purpose) (entry .args .header) (entry .pre .1) (entry .args .steps) (entry .pre .2) (entry .args .text .now) (entry .args .from) (entry .args .work .now) (read-types .read-types .last .1 .1 .1 .0) (read-types .read-types .result) (read-types .read-types .ensures) (types .types .given .0 .0) (types .types .given .1) (read-maps .read-maps .last .1 .1 .1 .0) (read-maps .read-maps .result) (read-maps .read-maps .ensures) (maps .maps .given .0 .0) (maps .maps .given .1) _ (store-empty .store-empty .ensures) (read-rows .read-rows .last .1 .1 .1 .1 .1 .0) (read-rows .read-rows .result) (read-rows .read-rows .ensures) _ (c .enum-told3 .given .1)
+    let r = c .before .before .before .before in
+    let e = emptied r in
+    let m = maps (mapped e) in
+    let t = types (typed m) in
+    rows-stop (start t .args .purpose) (start t .pre) (t .read-types .ensures) (typed m .types .given .1) (m .read-maps .ensures) (mapped e .maps .given .1) (e .store-empty .ensures)
+    (r .read-rows .ensures) (c .enum-told3 .given .1)
 
 finish-requires : tie.Need-finish-requires
 finish-requires c κs =
-    let rows = c .before in
-    let read-rows = rows .before .before .before .before in
-    let store-empty = read-rows .before .before .before .before in
-    let maps = store-empty .before .before .before in
-    let read-maps = maps .before .before .before .before in
-    let types = read-maps .before .before .before in
-    let read-types = types .before .before .before .before in
-    let entry = read-types .before .before .before .before in
-    record { placed = rows-placed (entry .args .purpose) (entry .args .header) (entry .pre .1) (entry .args .steps) (entry .pre .2) (entry .args .text .now) (entry .args .from) (entry .args .work .now) (read-types .read-types .last .1 .1 .1 .0) (read-types .read-types .result) (read-types .read-types .ensures) (types .types .given .0 .0) (types .types .given .1) (read-maps .read-maps .last .1 .1 .1 .0) (read-maps .read-maps .result) (read-maps .read-maps .ensures) (maps .maps .given .0 .0) (maps .maps .given .1) _ (store-empty .store-empty .ensures) (read-rows .read-rows .last .1 .1 .1 .1 .1 .0) (read-rows .read-rows .result) (read-rows .read-rows .ensures) (rows .rows .given .0 .0) (rows .rows .given .1); fits = entry .pre .0 .fits }
+    let r = rows (c .before) in
+    let e = emptied r in
+    let m = maps (mapped e) in
+    let t = types (typed m) in
+    end-ready (start t .args .purpose) (start t .pre) (t .read-types .ensures) (typed m .types .given .1) (m .read-maps .ensures) (mapped e .maps .given .1) (e .store-empty .ensures)
+    (r .read-rows .ensures) (c .before .rows .given .1)
 
 returns-4 : tie.Need-returns-4
 returns-4 c =
-    let rows = c .before .before in
-    let read-rows = rows .before .before .before .before in
-    let store-empty = read-rows .before .before .before .before in
-    let maps = store-empty .before .before .before in
-    let read-maps = maps .before .before .before .before in
-    let types = read-maps .before .before .before in
-    let read-types = types .before .before .before .before in
-    let entry = read-types .before .before .before .before in
-    body-read (entry .args .purpose) (entry .args .header) (entry .pre .1) (entry .args .steps) (entry .pre .2) (entry .args .text .now) (entry .args .from) (entry .args .work .now) (read-types .read-types .last .1 .1 .1 .0) (read-types .read-types .result) (read-types .read-types .ensures) (types .types .given .0 .0) (types .types .given .1) (read-maps .read-maps .last .1 .1 .1 .0) (read-maps .read-maps .result) (read-maps .read-maps .ensures) (maps .maps .given .0 .0) (maps .maps .given .1) _ (store-empty .store-empty .ensures) (read-rows .read-rows .last .1 .1 .1 .1 .1 .0) (read-rows .read-rows .result) (read-rows .read-rows .ensures) (rows .rows .given .0 .0) (rows .rows .given .1) (c .finish .result) (c .finish .ensures)
+    let r = rows (c .before .before) in
+    let e = emptied r in
+    let m = maps (mapped e) in
+    let t = types (typed m) in
+    body-read (start t .args .purpose) (start t .pre) (t .read-types .ensures) (typed m .types .given .1) (m .read-maps .ensures) (mapped e .maps .given .1) (e .store-empty .ensures)
+    (r .read-rows .ensures) (c .before .before .rows .given .1) (c .finish .result) (c .finish .ensures)
 
 pub read-body-spec : {M : Type 1} → statement M
 read-body-spec =

@@ -2,7 +2,7 @@
 use mathlib.Core.Path.{sym, _∙_}
 use native.Mathlib.Omega.{arith}
 use Rattle.lexer.proofs.LineEnds.{numbers-none, numbers-read}
-use Rattle.split.specs.Lines.{numeralsOf}
+use Rattle.split.specs.Header.{numeralsOf}
 use Rattle.split.proofs.HeaderLaws.{few-numerals, places-lent, header-told}
 use borrow.Author.Needs.{needs}
 use Rattle.split.proofs.first_line.header_numbers.Statement.{statement}

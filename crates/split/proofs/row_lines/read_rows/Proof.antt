@@ -1,6 +1,6 @@
--- The loop's invariant is a turn of it. The words that it reads stand below what it stores.
+-- The loop's invariant is a stage of it. The words that it reads stand below what it stores.
 use borrow.Author.Needs.{needs}
-use mathlib.Core.Path.{subst, _∙_}
+use mathlib.Core.Path.{_≡_, subst, _∙_}
 use Prim.Native.Nat.{_-_}
 use native.Mathlib.Omega.{arith}
 use Rattle.spec.specs.Reading.{splitSheet, next}
@@ -9,106 +9,77 @@ use Rattle.lexer.specs.Cursors.{placeAt}
 use Rattle.workspace.specs.Layout.{rowTypesAt, presAt}
 use Rattle.workspace.specs.Holds.{startNumber}
 use Rattle.workspace.specs.Sheets.{headerTold}
-use Rattle.split.specs.Lines.{wordLine, rowTold}
-use Rattle.split.specs.Answers.{RowAnswer}
-use Rattle.split.specs.Stored.{HoldsRows, stepAt}
-use Rattle.split.proofs.Turns.{Turn, first-turn, turns-stop, turns-end, rows-numbered}
+use Rattle.workspace.specs.Steps.{stepAt}
+use Rattle.workspace.proofs.Region.{changed-nothing}
+use Rattle.lines.specs.Lines.{wordLine, rowTold}
+use Rattle.lines.specs.Answers.{RowAnswer}
+use Rattle.split.specs.Stored.{HoldsRows}
+use Rattle.split.proofs.Turns.{Stage, first-stage, stage-stops, stages-done, rows-numbered}
 use Rattle.split.proofs.Stores.{columns-empty}
-use Rattle.split.proofs.Loops.{columns-turn, row-here}
+use Rattle.split.proofs.Loops.{columns-on, row-here}
 use Rattle.split.proofs.row_lines.read_rows.Statement.{statement}
 use Rattle.split.proofs.row_lines.read_rows.Tie as tie
 
 abbrev Inv-loop : tie.InvT-loop
-Inv-loop text purpose header steps work₀ cursor₀ k₀ work cursor k = Turn (λ i. wordLine purpose (headerTold header) (stepAt work₀ i .word)) HoldsRows rowTypesAt presAt steps text work₀ (placeAt text cursor₀) work cursor k
+Inv-loop text purpose header steps work₀ cursor₀ k₀ work cursor k = Stage (λ i. wordLine purpose (headerTold header) (stepAt work₀ i .word)) HoldsRows rowTypesAt presAt steps text work₀ (placeAt text cursor₀) work cursor k
 
 abbrev μ-loop : tie.MeasureT-loop
 μ-loop text purpose header steps work₀ cursor₀ k₀ work cursor k = steps - k
 
+abbrev start : tie.At-loop Inv-loop μ-loop → tie.Start Inv-loop μ-loop
+start s = s .before .before .before
+
+-- the line is that of its step's word
+module _ (s : tie.After-word-of Inv-loop μ-loop) where
+  abbrev turn : tie.At-loop Inv-loop μ-loop
+  turn = s .before .before .before
+
+  word-here : next splitSheet (wordLine (start turn .args .purpose) (headerTold (start turn .args .header)) (stepAt (start turn .args .work .now) (turn .loop .k) .word)) (placeAt (start turn .args .text .now) (turn .loop .cursor))
+      ≡ next splitSheet (wordLine (start turn .args .purpose) (headerTold (start turn .args .header)) (s .word-of .result)) (placeAt (start turn .args .text .now) (turn .loop .cursor))
+  word-here = row-here _ _ _ _ _ (s .word-of .ensures) (omega (arith, s .before .before .loop-test .taken, start turn .pre .few)) (turn .loop .inv .changed)
+
 loop-holds : tie.Need-loop-holds Inv-loop μ-loop
 loop-holds c =
     let entry = c .before .before in
-    first-turn (λ i. wordLine (entry .args .purpose) (headerTold (entry .args .header)) (stepAt (entry .args .work .now) i .word)) HoldsRows rowTypesAt presAt (entry .args .steps) (entry .args .text .now) (entry .args .work .now) (entry .args .from) (columns-empty (λ (r : Row). r .type .0) (λ (r : Row). r .post .0) (λ (r : Row). startNumber (r .start)) rowTypesAt 256 (entry .args .work .now) (omega arith)) (entry .pre .0 .placed)
-
-add-word-of : tie.Need-add-word-of Inv-loop μ-loop
-add-word-of c = search needs
-
-mul-word-of : tie.Need-mul-word-of Inv-loop μ-loop
-mul-word-of c = search needs
-
-slice-read-word-of : tie.Need-slice-read-word-of Inv-loop μ-loop
-slice-read-word-of c = search needs
-
-word-of-requires : tie.Need-word-of-requires Inv-loop μ-loop
-word-of-requires c κs = search needs
+    first-stage
+    (columns-empty (λ (r : Row). r .type .0) (λ (r : Row). r .post .0) (λ (r : Row). startNumber (r .start)) rowTypesAt 256 (entry .args .work .now) (omega (arith, entry .pre .storing .whole)))
+    (entry .pre .storing .reading .placed)
 
 row-line-requires : tie.Need-row-line-requires Inv-loop μ-loop
 row-line-requires c κs =
     let turn = c .before .before .before in
-    let entry = turn .before .before .before in
-    (record { placed = turn .loop .inv .placed; fits = entry .pre .0 .fits }, entry .pre .1)
-
-enum-known-found : tie.Need-enum-known-found Inv-loop μ-loop
-enum-known-found c = search needs
+    let storing = start turn .pre .storing in
+    record { reading = record { placed = turn .loop .inv .turn .placed; fits = storing .reading .fits }; small = storing .small }
 
 store-row-requires : tie.Need-store-row-requires Inv-loop μ-loop
 store-row-requires c κs =
     let inside = c .before .before .before .before .before .before .before in
-    let turn = inside .before in
-    let entry = turn .before .before .before in
-    (turn .loop .inv .changed .long ∙ entry .pre .3, omega (arith, inside .loop-test .taken, entry .pre .2))
-
-enum-known-found-2 : tie.Need-enum-known-found-2 Inv-loop μ-loop
-enum-known-found-2 c = search needs
-
-same-length : tie.Need-same-length Inv-loop μ-loop
-same-length c =
-    let turn = c .before .before .before .before .before .before .before in
-    turn .loop .inv .changed .long
+    let pre = start (inside .before) .pre in
+    (inside .before .loop .inv .changed .long ∙ pre .storing .whole, omega (arith, inside .loop-test .taken, pre .few))
 
 returns : tie.Need-returns Inv-loop μ-loop
 returns c =
-    let found2 = c .before in
-    let row-line = found2 .before .before in
-    let word-of = row-line .before in
-    let inside = word-of .before .before in
-    let turn = inside .before in
-    let entry = turn .before .before .before in
-    let out = next splitSheet (wordLine (entry .args .purpose) (headerTold (entry .args .header)) (word-of .word-of .result)) (placeAt (entry .args .text .now) (turn .loop .cursor)) in
-    let answer = subst (RowAnswer (entry .args .text .now) out) (found2 .found2 .given .1) (row-line .row-line .ensures) in
-    let same = row-here (entry .args .purpose) (headerTold (entry .args .header)) (entry .args .text .now) (turn .loop .cursor) (entry .args .work .now) (turn .loop .work) (turn .loop .k) _ (word-of .word-of .ensures) (omega (arith, inside .loop-test .taken, entry .pre .2)) (turn .loop .inv .changed) in
-    turns-stop (λ i. wordLine (entry .args .purpose) (headerTold (entry .args .header)) (stepAt (entry .args .work .now) i .word)) HoldsRows rowTypesAt presAt (entry .args .steps) (entry .args .text .now) (entry .args .work .now) (entry .args .from) (turn .loop .work) (turn .loop .cursor) (turn .loop .k) (turn .loop .inv) _ (rows-numbered (entry .args .purpose) (headerTold (entry .args .header)) (entry .args .work .now) 0 (entry .args .steps)) (inside .loop-test .taken) _ (same ∙ answer)
-
-add-k : tie.Need-add-k Inv-loop μ-loop
-add-k c = search needs
-
-loop-less : tie.Need-loop-less Inv-loop μ-loop
-loop-less c = search needs
+    let line = c .before .before .before in
+    let word = line .before in
+    let entry = start (turn word) in
+    stage-stops (turn word .loop .inv) (rows-numbered (entry .args .purpose) (headerTold (entry .args .header)) (entry .args .work .now) 0 (entry .args .steps)) (word .before .before .loop-test .taken)
+    (word-here word ∙ subst (RowAnswer _ _) (c .before .found2 .given .1) (line .row-line .ensures)) (changed-nothing rowTypesAt presAt (turn word .loop .work))
 
 loop-again : tie.Need-loop-again Inv-loop μ-loop
 unfolding rowTold
 loop-again c =
-    let store-row = c .before .before in
-    let found = store-row .before .before .before in
-    let row-line = found .before .before in
-    let word-of = row-line .before in
-    let inside = word-of .before .before in
-    let turn = inside .before in
-    let entry = turn .before .before .before in
-    let out = next splitSheet (wordLine (entry .args .purpose) (headerTold (entry .args .header)) (word-of .word-of .result)) (placeAt (entry .args .text .now) (turn .loop .cursor)) in
-    let answer = subst (RowAnswer (entry .args .text .now) out) (found .found .given .1) (row-line .row-line .ensures) in
-    let same = row-here (entry .args .purpose) (headerTold (entry .args .header)) (entry .args .text .now) (turn .loop .cursor) (entry .args .work .now) (turn .loop .work) (turn .loop .k) _ (word-of .word-of .ensures) (omega (arith, inside .loop-test .taken, entry .pre .2)) (turn .loop .inv .changed) in
-    columns-turn (λ (r : Row). r .type .0) (λ (r : Row). r .post .0) (λ (r : Row). startNumber (r .start)) rowTypesAt 256 (entry .args .steps) (λ i. wordLine (entry .args .purpose) (headerTold (entry .args .header)) (stepAt (entry .args .work .now) i .word)) (entry .args .text .now) (entry .args .work .now) (entry .args .from) (entry .pre .2) (omega arith) (turn .loop .work) (turn .loop .cursor) (turn .loop .k) (turn .loop .inv) (inside .loop-test .taken) _ (rowTold _) _ (same ∙ answer .0) (answer .1) (store-row .store-row .ensures)
-
-same-length-2 : tie.Need-same-length-2 Inv-loop μ-loop
-same-length-2 c =
-    let turn = c .before in
-    turn .loop .inv .changed .long
+    let stored = c .before .before in
+    let found = stored .before .before .before in
+    let line = found .before .before in
+    let word = line .before in
+    let pre = start (turn word) .pre in
+    let answer = subst (RowAnswer _ _) (found .found .given .1) (line .row-line .ensures) in
+    columns-on (λ (r : Row). r .type .0) (λ (r : Row). r .post .0) (λ (r : Row). startNumber (r .start)) rowTypesAt 256 (pre .few) (omega (arith, pre .storing .whole)) (turn word .loop .inv) (word .before .before .loop-test .taken) {entry = rowTold _} (word-here word ∙ answer .0) (answer .1) (stored .store-row .ensures)
 
 returns-2 : tie.Need-returns-2 Inv-loop μ-loop
 returns-2 c =
-    let turn = c .before in
-    let entry = turn .before .before .before in
-    turns-end (λ i. wordLine (entry .args .purpose) (headerTold (entry .args .header)) (stepAt (entry .args .work .now) i .word)) HoldsRows rowTypesAt presAt (entry .args .steps) (entry .args .text .now) (entry .args .work .now) (entry .args .from) (turn .loop .work) (turn .loop .cursor) (turn .loop .k) (turn .loop .inv) _ (rows-numbered (entry .args .purpose) (headerTold (entry .args .header)) (entry .args .work .now) 0 (entry .args .steps)) (c .loop-test .left)
+    let entry = start (c .before) in
+    stages-done (c .before .loop .inv) (rows-numbered (entry .args .purpose) (headerTold (entry .args .header)) (entry .args .work .now) 0 (entry .args .steps)) (c .loop-test .left)
 
 pub read-rows-spec : {M : Type 1} → statement M
 read-rows-spec =
@@ -117,18 +88,18 @@ read-rows-spec =
     Inv-loop
     μ-loop
     loop-holds
-    add-word-of
-    mul-word-of
-    slice-read-word-of
-    word-of-requires
+    (λ c. search needs)
+    (λ c. search needs)
+    (λ c. search needs)
+    (λ c κs. search needs)
     row-line-requires
-    enum-known-found
+    (λ c. search needs)
     store-row-requires
-    enum-known-found-2
-    same-length
+    (λ c. search needs)
+    (λ c. c .before .before .before .before .before .before .before .loop .inv .changed .long)
     returns
-    add-k
-    loop-less
+    (λ c. search needs)
+    (λ c. search needs)
     loop-again
-    same-length-2
+    (λ c. c .before .loop .inv .changed .long)
     returns-2)

@@ -1,0 +1,73 @@
+-- Counted lines in turn, whatever is read on each: what a loop over them knows after some of them, and what it knows at its end.
+use mathlib.Core.Path.{_≡_, refl, sym, ap, _∙_}
+use mathlib.Core.List.{List, [], _∷_, _++_}
+use Prim.Native.Nat.{ℕ, zero, suc, _+_, _-_, _≤_, _<_}
+use native.Mathlib.Omega.{arith}
+use lib.ListN.{length, length-append, replicate}
+use Rattle.spec.specs.Text.{Field}
+use Rattle.spec.specs.Reading.{SheetName, stop, on, Seen, Place, next, nextAll}
+use Rattle.spec.specs.declared.Refusal.{Refusal}
+use Rattle.spec.proofs.Reading.{front, front-none, all-stop, all-on, all-done}
+use Rattle.lexer.specs.Cursors.{Placed, placeAt}
+use Rattle.lexer.specs.declared.Cursor.{Cursor}
+
+-- the ways of reading n lines, numbered from k on
+unfoldable pub numbered : {A : Type 0} → (ℕ → List Field → Seen A) → (k n : ℕ) → List (List Field → Seen A)
+numbered read k zero = []
+numbered read k (suc n) = read k ∷ numbered read (k + 1) n
+
+-- one way for all of them
+pub same-numbered : {A : Type 0} (read : List Field → Seen A) (k n : ℕ) → replicate n read ≡ numbered (λ i. read) k n
+unfolding numbered
+same-numbered read k zero = refl
+same-numbered read k (suc n) = ap (λ (l : List _). read ∷ l) (same-numbered read (k + 1) n)
+
+-- After i of n lines, with the cursor at c: what all of them show is what was read, and then what the rest shows.
+pub record Turn {A : Type 0} (sheet : SheetName) (read : ℕ → List Field → Seen A) (n : ℕ) (text : List ℕ) (from : Place) (c : Cursor) (i : ℕ) (entries : List A) : Type 0 where
+  pub count : length entries ≡ i
+  pub few : i ≤ n
+  pub placed : Placed text c
+  pub rest : nextAll sheet (numbered read 0 n) from ≡ front entries (nextAll sheet (numbered read i (n - i)) (placeAt text c))
+
+pub first-turn : {A : Type 0} {sheet : SheetName} {read : ℕ → List Field → Seen A} {n : ℕ} {text : List ℕ} {c : Cursor} → Placed text c
+    → Turn sheet read n text (placeAt text c) c 0 []
+first-turn {sheet = sheet} {read = read} {text = text} {c = c} p = record {
+  count = refl;
+  few = omega arith;
+  placed = p;
+  rest = sym (ap (λ (k : ℕ). front [] (nextAll sheet (numbered read 0 k) (placeAt text c))) (omega arith) ∙ front-none _);
+}
+
+module _
+    {A : Type 0} {sheet : SheetName} {read : ℕ → List Field → Seen A} {n : ℕ} {text : List ℕ} {from : Place} {c : Cursor} {i : ℕ} {entries : List A}
+    (t : Turn sheet read n text from c i entries)
+  where
+    left : i < n → numbered read i (n - i) ≡ read i ∷ numbered read (i + 1) (n - (i + 1))
+    unfolding numbered
+    left h = let e : n - i ≡ suc (n - (i + 1)) = omega arith in rw e
+
+    -- the next line is read
+    pub turn-on : i < n → {entry : A} {d : Cursor} → next sheet (read i) (placeAt text c) ≡ on (entry, placeAt text d) → Placed text d
+        → Turn sheet read n text from d (i + 1) (entries ++ (entry ∷ []))
+    turn-on h {entry} {d} e p = record {
+      count = omega (arith, length-append entries (entry ∷ []), t .count);
+      few = omega arith;
+      placed = p;
+      rest = t .rest ∙ ap (λ (l : List _). front entries (nextAll sheet l (placeAt text c))) (left h)
+          ∙ all-on sheet (read i) (numbered read (i + 1) (n - (i + 1))) (placeAt text c) entries entry (placeAt text d) e;
+    }
+
+    -- it is refused
+    pub turn-stops : i < n → {r : Refusal} → next sheet (read i) (placeAt text c) ≡ stop r → nextAll sheet (numbered read 0 n) from ≡ stop r
+    unfolding front
+    turn-stops h {r} e =
+        t .rest ∙ ap (λ (l : List _). front entries (nextAll sheet l (placeAt text c))) (left h)
+        ∙ ap (front entries) (all-stop sheet (read i) (numbered read (i + 1) (n - (i + 1))) (placeAt text c) r e)
+
+    -- all of them are read
+    pub turns-done : n ≤ i → nextAll sheet (numbered read 0 n) from ≡ on (entries, placeAt text c)
+    unfolding numbered
+    turns-done h = let e : n - i ≡ 0 = omega (arith, t .few) in t .rest ∙ rw e (all-done sheet entries (placeAt text c))
+
+    pub turns-counted : n ≤ i → length entries ≡ n
+    turns-counted h = omega (arith, t .count, t .few)
