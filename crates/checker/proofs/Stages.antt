@@ -20,6 +20,7 @@ use Rattle.spec.specs.declared.Refusal.the-variants.{LongProgram, LongSplit}
 use Rattle.spec.proofs.WellFormed.{program-well-formed, well-formed-program, split-well-formed}
 use Rattle.spec.proofs.Ranges.{well-formed-in-range}
 use Rattle.spec.proofs.Reasons.{long-program, program-refused, long-split, split-refused, rules-decide}
+use Rattle.workspace.specs.Layout.{rowTypesAt, workSize}
 use Rattle.workspace.specs.Region.{ChangedWithin}
 use Rattle.workspace.specs.Holds.{HoldsProgram, HoldsSplit}
 use Rattle.workspace.proofs.Held.{program-kept}
@@ -65,7 +66,7 @@ module _ (p s : List ℕ) (P : Program) (F : WellFormedProgram p P) where
     bad-split-refused r e = sym (split-refused 16384 p s (omega arith) (F .fits) P reads fits r e)
 
     pub good-split-ruled : {w w′ : List ℕ} {n : ℕ} {a : Answer} (h : Header) (S : Split) → split Check (P .steps) s ≡ on S
-        → ChangedWithin 1024 16384 w w′ → HoldsProgram w P → HoldsSplit w′ S → n ≡ length (P .steps) → n ≤ 256
+        → ChangedWithin rowTypesAt workSize w w′ → HoldsProgram w P → HoldsSplit w′ S → n ≡ length (P .steps) → n ≤ 256
         → S .header ≡ headerTold h → RulesAnswered w′ n h a → a ≡ verdict workspaceSize p s
     unfolding workspaceSize programLimit splitLimit
     good-split-ruled h S e changed holds holds′ counted few headed rules =

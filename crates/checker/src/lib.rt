@@ -17,6 +17,7 @@ ghost use Rattle.spec.specs.Workspace.{workspaceSize, workspaceAfter};
 ghost use Rattle.spec.specs.Accepted.{Right};
 ghost use Rattle.soundness.specs.SafeText.{SafeText};
 ghost use Rattle.soundness.specs.EitherOrderText.{EitherOrderText};
+ghost use Rattle.workspace.specs.Layout.{workSize};
 ghost use Rattle.checker.specs.Promise.{RefutedBy};
 ghost use Rattle.checker.specs.Stages.{RulesAnswered, HoldsSome, SplitAnswered};
 
@@ -27,7 +28,7 @@ const SPLIT_LIMIT: usize = 65536;
 
 // 44 and 30 to 33, for the sheets that the work space holds.
 fn check_rules(work: &mut [u32], steps: usize, header: Header) -> Answer
-    requires { ⌜ (length (now work) ≡ 16384) × (steps ≤ 256) × (header .locations ≤ 16) × (header .types ≤ 64) ⌝ }
+    requires { ⌜ (length (now work) ≡ workSize) × (steps ≤ 256) × (header .locations ≤ 16) × (header .types ≤ 64) ⌝ }
     ensures { λ a. ⌜ RulesAnswered (now (work .entry)) steps header a ⌝ }
 {
     match rules::rule(work, Purpose::Check, steps, header) {
@@ -38,7 +39,7 @@ fn check_rules(work: &mut [u32], steps: usize, header: Header) -> Answer
 
 // 20 and on, for the program that the work space holds.
 fn check_split(split: &[u8], steps: usize, work: &mut [u32]) -> Answer
-    requires { ⌜ (length (now work) ≡ 16384) × (steps ≤ 256) × HoldsSome (now work) steps ⌝ }
+    requires { ⌜ (length (now work) ≡ workSize) × (steps ≤ 256) × HoldsSome (now work) steps ⌝ }
     ensures { λ a. ⌜ SplitAnswered (now (work .entry)) steps (now (split .entry)) a ⌝ }
 {
     if SPLIT_LIMIT < split.len() {
@@ -52,7 +53,7 @@ fn check_split(split: &[u8], steps: usize, work: &mut [u32]) -> Answer
 
 // 10 and on, in a work space that is as long as document 01 wants.
 fn check_program(program: &[u8], split: &[u8], work: &mut [u32]) -> Answer
-    requires { ⌜ length (now work) ≡ 16384 ⌝ }
+    requires { ⌜ length (now work) ≡ workSize ⌝ }
     ensures { λ a. ⌜ a ≡ verdict workspaceSize (now (program .entry)) (now (split .entry)) ⌝ }
 {
     if PROGRAM_LIMIT < program.len() {

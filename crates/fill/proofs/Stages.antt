@@ -21,7 +21,7 @@ use Rattle.spec.specs.declared.Refusal.the-variants.{ShortWorkspace, LongProgra
 use Rattle.spec.proofs.WellFormed.{well-formed-program, split-well-formed}
 use Rattle.spec.proofs.Outcomes.{goes-on-bind}
 use Rattle.spec.proofs.Ranges.{well-formed-in-range}
-use Rattle.workspace.specs.Layout.{presAt}
+use Rattle.workspace.specs.Layout.{presAt, rowTypesAt, workSize}
 use Rattle.workspace.specs.Region.{ChangedWithin}
 use Rattle.workspace.specs.Holds.{HoldsProgram, HoldsSplit}
 use Rattle.workspace.specs.Sheets.{headerTold, HoldsSheets}
@@ -64,7 +64,7 @@ pub given-held : {w : List ℕ} {header : Header} {steps : ℕ} {P : Program} {S
     → HoldsGiven w steps (header .denominator) (header .locations) (header .maps) (header .start .0) P S
 given-held {header = header} {S = S} B = record { sheets = B .sheets; mapsGiven = maps-told S header (B .headed) }
 
-pub some-given : {w : List ℕ} {header : Header} {steps : ℕ} → HoldsSome w header steps → header .maps ≤ 256 → length w ≡ 16384
+pub some-given : {w : List ℕ} {header : Header} {steps : ℕ} → HoldsSome w header steps → header .maps ≤ 256 → length w ≡ workSize
     → Given w steps (header .denominator) (header .locations) (header .maps) (header .start .0)
 some-given X few long = record { P = X .P; S = X .S; held = given-held (X .holds); few = few; long = long }
 
@@ -166,7 +166,7 @@ module _ (w : List ℕ) (header : Header) (steps : ℕ) where
             programText = H .programText;
             wellFormed = H .wellFormed;
             inRange = H .inRange;
-            program = program-kept (changed-wider 1024 16384 (omega arith) (omega arith) (R .changed)) (H .wellFormed .listing) (omega (arith, H .stepsCounted)) (H .program);
+            program = program-kept (changed-wider rowTypesAt workSize (omega arith) (omega arith) (R .changed)) (H .wellFormed .listing) (omega (arith, H .stepsCounted)) (H .program);
             split = split-kept S (P .steps) (H .inRange) rows (R .changed) (H .split);
             stepsCounted = H .stepsCounted;
             denominatorGiven = H .denominatorGiven;
@@ -220,7 +220,7 @@ module _ (p s : List ℕ) (P : Program) (F : WellFormedProgram p P) where
 
       -- the work space after reading, with the header that was read
       module _ {w w′ : List ℕ} (header : Header) {steps : ℕ} (S : Split) (e : split Fill (P .steps) s ≡ on S)
-          (changed : ChangedWithin 1024 16384 w w′) (holds : HoldsProgram w P) (holds′ : HoldsSplit w′ S) (counted : steps ≡ length (P .steps))
+          (changed : ChangedWithin rowTypesAt workSize w w′) (holds : HoldsProgram w P) (holds′ : HoldsSplit w′ S) (counted : steps ≡ length (P .steps))
           (short : steps ≤ 256) (headed : S .header ≡ headerTold header) where
         read-held : HoldsBoth w′ header steps P S
         unfolding splitLimit

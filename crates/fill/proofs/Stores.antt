@@ -8,7 +8,7 @@ use native.Mathlib.Omega.{arith}
 use native.Mathlib.Nat.{eq-or-lt-of-le}
 use lib.ListN.{length, getD, set}
 use lib.Seq.{getD-set-same, getD-set-other}
-use Rattle.workspace.specs.Layout.{postsAt, mapsAt, stride, emptyMap, mapCell}
+use Rattle.workspace.specs.Layout.{postsAt, mapsAt, stride, emptyMap, mapCell, workSize}
 use Rattle.workspace.proofs.Region.{changed-nothing, changed-store, changed-then}
 use Rattle.filling.specs.Answer.{numberLimit, mapAtMost}
 use Rattle.fill.specs.Columns.{OneColumn, PostsStored, PostsShown}
@@ -26,7 +26,7 @@ none-stored w posts maps location = (
 )
 
 module _ (w₀ w : List ℕ) (maps location i : ℕ) (O : OneColumn maps location w₀ w) (within : location < stride) (room : maps + i < emptyMap)
-    (long : length w ≡ 16384) (x : ℕ) where
+    (long : length w ≡ workSize) (x : ℕ) where
   abbrev place : ℕ
   place = mapsAt + stride * (maps + i) + location
 
@@ -61,7 +61,7 @@ nothing-stored w posts maps location e = record {
 pub none-shown : (w : List ℕ) (maps : ℕ) → PostsShown 0 maps w w
 none-shown w maps = record { changed = changed-nothing _ _ w; shown = λ i h. absurd (omega arith) }
 
-pub shown-again : (w₀ w : List ℕ) (maps i x : ℕ) → i < 256 → length w ≡ 16384 → x ≡ maps + i → PostsShown i maps w₀ w
+pub shown-again : (w₀ w : List ℕ) (maps i x : ℕ) → i < 256 → length w ≡ workSize → x ≡ maps + i → PostsShown i maps w₀ w
     → PostsShown (i + 1) maps w₀ (set w (postsAt + i) x)
 shown-again w₀ w maps i x few long e T = record {
   changed = changed-then _ _ (T .changed) (changed-store _ _ w (postsAt + i) x (omega arith) (omega arith));

@@ -11,7 +11,7 @@ use lib.ListN.{length, getD, length-map, length-append, List·getD-append, List�
 use lib.Seq.{getD-append-add}
 use Rattle.spec.specs.Program.{Program}
 use Rattle.spec.specs.Split.{Map, Row, Split}
-use Rattle.workspace.specs.Layout.{postsAt as postsColumn, mapsAt, stride, mapCell}
+use Rattle.workspace.specs.Layout.{postsAt as postsColumn, mapsAt, stride, mapCell, rowTypesAt, workSize}
 use Rattle.workspace.specs.Region.{Region}
 use Rattle.workspace.specs.Holds.{startNumber, HoldsSplit}
 use Rattle.workspace.specs.Sheets.{HoldsSheets}
@@ -50,7 +50,7 @@ starts-same m (r ∷ rs) = ap (startNumber (r .start) ∷_) (starts-same (m + 1)
 
 -- the maps γ stand behind the given ones in w, and from w to w′ the steps are made to show them
 module _ (w w′ : List ℕ) (steps denominator locations maps start : ℕ) (P : Program) (S : Split) (γ : List Map)
-    (H : HoldsGiven w steps denominator locations maps start P S) (T : PostsShown steps maps w w′) (few : maps ≤ 256) (long : length w ≡ 16384)
+    (H : HoldsGiven w steps denominator locations maps start P S) (T : PostsShown steps maps w w′) (few : maps ≤ 256) (long : length w ≡ workSize)
     (counted : length γ ≡ length (P .steps)) (wide : (i : ℕ) → i < length γ → length (getD γ i []) ≡ S .header .locations)
     (stands : (i : ℕ) → i < length γ → (j : ℕ) → j < S .header .locations → mapCell w (record { 0 = maps + i }) j ≡ getD (getD γ i []) j 0) where
   steps-within : length (P .steps) ≤ 256
@@ -117,7 +117,7 @@ module _ (w w′ : List ℕ) (steps denominator locations maps start : ℕ) (P :
     wellFormed = H .sheets .wellFormed;
     inRange = filled-in-range (record { inRange = H .sheets .inRange; counted = counted; wide = wide })
         (omega (arith, H .mapsGiven, steps-within));
-    program = program-kept (changed-wider 1024 16384 (omega arith) (omega arith) (T .changed)) (H .sheets .wellFormed .listing) steps-within
+    program = program-kept (changed-wider rowTypesAt workSize (omega arith) (omega arith) (T .changed)) (H .sheets .wellFormed .listing) steps-within
         (H .sheets .program);
     split = split-held;
     stepsCounted = H .sheets .stepsCounted;
@@ -190,7 +190,7 @@ module _ (w₀ w : List ℕ) (steps denominator locations maps start l : ℕ) wh
     pub filled-large : large ≡ true → FilledMaps w₀ steps denominator locations maps start Large w
     filled-large e = record { answers = λ P S H. (made (columns P S H) (n P S H), greatest-found P S H, too-large P S H e) }
 
-    pub filled-maps : large ≡ false → maps ≤ 256 → length w₀ ≡ 16384 → (w′ : List ℕ) → PostsShown steps maps w w′
+    pub filled-maps : large ≡ false → maps ≤ 256 → length w₀ ≡ workSize → (w′ : List ℕ) → PostsShown steps maps w w′
         → FilledMaps w₀ steps denominator locations maps start Maps w′
     filled-maps e few long w′ T = record {
       answers = λ P S H. (

@@ -7,7 +7,7 @@ use Prim.Native.Nat.{ℕ, _+_, _*_, _≤_, _<_}
 use lib.ListN.{length, getD}
 use Rattle.spec.specs.Program.{Program}
 use Rattle.spec.specs.Split.{Split}
-use Rattle.workspace.specs.Layout.{postsAt, mapsAt, stride, emptyMap, mapCell}
+use Rattle.workspace.specs.Layout.{postsAt, mapsAt, stride, emptyMap, mapCell, workSize}
 use Rattle.workspace.specs.Region.{ChangedWithin}
 use Rattle.workspace.specs.Sheets.{HoldsSheets}
 use Rattle.filling.specs.GreatestMaps as greatest
@@ -20,7 +20,7 @@ use Rattle.fill.specs.FilledMaps.{Given}
 
 -- there is room for the new maps
 pub record Room (w posts : List ℕ) (maps location : ℕ) : Type 0 where
-  pub long : length w ≡ 16384
+  pub long : length w ≡ workSize
   pub room : maps + length posts ≤ emptyMap
   pub within : location < stride
 

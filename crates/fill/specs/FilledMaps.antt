@@ -7,6 +7,7 @@ use Prim.Native.Nat.{ℕ, _≤_}
 use lib.ListN.{length}
 use Rattle.spec.specs.Program.{Program}
 use Rattle.spec.specs.Split.{Map, Split}
+use Rattle.workspace.specs.Layout.{workSize}
 use Rattle.workspace.specs.Sheets.{HoldsSheets}
 use Rattle.filling.specs.Filled.{filled}
 use Rattle.filling.specs.GreatestMaps.{greatestMaps}
@@ -25,7 +26,7 @@ pub record Given (w : List ℕ) (steps denominator locations maps start : ℕ) :
   pub S : Split
   pub held : HoldsGiven w steps denominator locations maps start P S
   pub few : maps ≤ 256
-  pub long : length w ≡ 16384
+  pub long : length w ≡ workSize
 
 -- 41; 42, for a number; or the sheets with the greatest after-maps filled in
 module _ (steps denominator locations start : ℕ) (P : Program) (S : Split) (w : List ℕ) where

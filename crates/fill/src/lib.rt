@@ -23,6 +23,7 @@ ghost use Rattle.spec.specs.declared.Answer.the-variants.{Accept};
 ghost use Rattle.filling.specs.AfterMaps.{AfterMaps};
 ghost use Rattle.filling.specs.Answer.{fill as filling, numbersOf, bufferAfter, Fillable, Written};
 ghost use Rattle.sheets.specs.Contract.{HoldsSome as HoldsSheetOfSome};
+ghost use Rattle.workspace.specs.Layout.{workSize};
 ghost use Rattle.fill.specs.Numbers.{numbered};
 ghost use Rattle.fill.specs.Stages.{Tells, grownBy, HoldsSome, HoldsProgramOfSome, SheetTold, TextTold, SheetsTold, SplitTold};
 
@@ -76,7 +77,7 @@ fn write_filled(work: &[u32], header: Header, steps: usize, out: &mut [u8]) -> F
 
 // 41 and 42, for the sheets that the work space holds.
 fn fill_held(work: &mut [u32], header: Header, steps: usize, out: &mut [u8]) -> Filled
-    requires { ⌜ (length (now work) ≡ 16384) × (steps ≤ 256) × (header .maps ≤ 256) × HoldsSome (now work) header steps ⌝ }
+    requires { ⌜ (length (now work) ≡ workSize) × (steps ≤ 256) × (header .maps ≤ 256) × HoldsSome (now work) header steps ⌝ }
     ensures { λ f. ⌜ TextTold (now (work .entry)) header steps (now (out .entry)) (now (out .exit)) f ⌝ }
 {
     match fill_maps(
@@ -98,7 +99,7 @@ fn fill_held(work: &mut [u32], header: Header, steps: usize, out: &mut [u8]) -> 
 
 // 43 and on, for the sheets that the work space holds.
 fn fill_sheets(work: &mut [u32], header: Header, steps: usize, out: &mut [u8]) -> Filled
-    requires { ⌜ (length (now work) ≡ 16384) × (steps ≤ 256) × (header .locations ≤ 16) × (header .types ≤ 64) × HoldsSome (now work) header steps ⌝ }
+    requires { ⌜ (length (now work) ≡ workSize) × (steps ≤ 256) × (header .locations ≤ 16) × (header .types ≤ 64) × HoldsSome (now work) header steps ⌝ }
     ensures { λ f. ⌜ SheetsTold (now (work .entry)) header steps (now (out .entry)) (now (out .exit)) f ⌝ }
 {
     if GIVEN_LIMIT < header.maps {
@@ -112,7 +113,7 @@ fn fill_sheets(work: &mut [u32], header: Header, steps: usize, out: &mut [u8]) -
 
 // 20 and on, for the program that the work space holds.
 fn fill_split(split: &[u8], steps: usize, work: &mut [u32], out: &mut [u8]) -> Filled
-    requires { ⌜ (length (now work) ≡ 16384) × (steps ≤ 256) × HoldsProgramOfSome (now work) steps ⌝ }
+    requires { ⌜ (length (now work) ≡ workSize) × (steps ≤ 256) × HoldsProgramOfSome (now work) steps ⌝ }
     ensures { λ f. ⌜ SplitTold (now (work .entry)) steps (now (split .entry)) (now (out .entry)) (now (out .exit)) f ⌝ }
 {
     if SPLIT_LIMIT < split.len() {
@@ -126,7 +127,7 @@ fn fill_split(split: &[u8], steps: usize, work: &mut [u32], out: &mut [u8]) -> F
 
 // 10 and on, in a work space that is as long as document 01 wants.
 fn fill_program(program: &[u8], split: &[u8], work: &mut [u32], out: &mut [u8]) -> Filled
-    requires { ⌜ length (now work) ≡ 16384 ⌝ }
+    requires { ⌜ length (now work) ≡ workSize ⌝ }
     ensures { λ f. ⌜ Tells (filling workspaceSize (length (now (out .entry))) (now (program .entry)) (now (split .entry))) (now (out .entry)) (now (out .exit)) f ⌝ }
 {
     if PROGRAM_LIMIT < program.len() {

@@ -9,6 +9,7 @@ ghost use mathlib.Core.Bool.{true};
 ghost use Prim.Native.Nat.{_+_, _≤_, _<_};
 ghost use lib.ListN.{length};
 ghost use Rattle.filling.specs.Answer.{numberLimit, mapAtMost};
+ghost use Rattle.workspace.specs.Layout.{workSize};
 ghost use Rattle.fill.specs.Columns.{Room, ColumnStored, OneColumn, PostsStored, ColumnGiven, ColumnFilled, PostsShown};
 ghost use Rattle.fill.specs.FilledMaps.{Given, FilledMaps};
 
@@ -89,7 +90,7 @@ fn fill_column(
 
 // Each step shows a new map of its own.
 fn show_maps(work: &mut [u32], steps: usize, maps: usize)
-    requires { ⌜ (length (now work) ≡ 16384) × (steps ≤ 256) × (maps ≤ 256) ⌝ }
+    requires { ⌜ (length (now work) ≡ workSize) × (steps ≤ 256) × (maps ≤ 256) ⌝ }
     ensures { λ _. ⌜ PostsShown steps maps (now (work .entry)) (now (work .exit)) ⌝ }
 {
     let mut i = 0;

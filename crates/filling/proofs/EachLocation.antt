@@ -8,13 +8,15 @@ use Prim.Native.Nat.{ℕ, _+_, _≤_}
 use lib.Dec.{leb}
 use lib.ListN.{getD}
 use borrow.Author.Tests.{leb-true, ltb-true, le-leb, lt-ltb}
-use Rattle.spec.specs.Expression.{Step, Expr, leaf, unary, binary, size}
+use Rattle.spec.specs.Words.{role, binding, preOfPart, preOfSecond}
+use Rattle.spec.specs.Expression.{Step, Position, Expr, leaf, unary, binary, size}
 use Rattle.spec.specs.Split.{Map, Split}
 use Rattle.spec.specs.Maps.{share}
 use Rattle.spec.specs.Conditions.{Env, type, post, start, own}
-use Rattle.spec.specs.Sites.{Site, sites, preOfPart, preOfSecond, bind, numbered, claimsAt, claims, isFlow, only}
+use Rattle.spec.specs.Sites.{Site, sites, numbered, claimsAt, claims, isFlow, only}
 use Rattle.spec.specs.FirstFalse.{Holds, AllHold}
 use Rattle.spec.specs.declared.Location.{Location}
+use Rattle.spec.specs.declared.Word.the-variants.{Binary}
 use Rattle.spec.specs.declared.LeafWord.{LeafWord}
 use Rattle.spec.specs.declared.LeafWord.the-variants.{Var, Int, Newtid, Newlock, Newsem, Newrwlock}
 use Rattle.spec.specs.declared.UnaryWord.{UnaryWord}
@@ -45,11 +47,11 @@ module _ {ss : List Step} {S : Split} {σ : List Map} {T : Split} (G : Showing s
   -- ------------------------------------------------------------------ a step and its parts
 
   module _ (Γ : Env) (pre : Map) {A : Location → Type 0} where
-    no-part : (w : LeafWord) (k v : ℕ) → OwnFlow Γ pre (leaf w k v) ↔ Everywhere L A → AllFlow (sites T Γ pre (leaf w k v)) ↔ Everywhere L A
+    no-part : (w : LeafWord) (k : Position) (v : ℕ) → OwnFlow Γ pre (leaf w k v) ↔ Everywhere L A → AllFlow (sites T Γ pre (leaf w k v)) ↔ Everywhere L A
     unfolding sites AllHold claims only
     no-part w k v owns = (λ h. owns .0 (step-parts isFlow T _ [] h .0), λ h. parts-step isFlow T _ [] (owns .1 h) tt)
 
-    one-part : {B : Location → Type 0} (w : UnaryWord) (k v : ℕ) (e₁ : Expr)
+    one-part : {B : Location → Type 0} (w : UnaryWord) (k : Position) (v : ℕ) (e₁ : Expr)
         → AllFlow (sites T Γ (preOfPart w pre (post T (unary w k v e₁))) e₁) ↔ Everywhere L A
         → OwnFlow Γ pre (unary w k v e₁) ↔ Everywhere L B
         → AllFlow (sites T Γ pre (unary w k v e₁)) ↔ Everywhere L (λ p. A p × B p)
@@ -60,9 +62,9 @@ module _ {ss : List Step} {S : Split} {σ : List Map} {T : Split} (G : Showing s
           λ h. let s = both .1 h in parts-step isFlow T _ _ (s .1) (s .0),
         )
 
-    two-parts : {B C : Location → Type 0} (w : BinaryWord) (k v : ℕ) (e₁ e₂ : Expr)
+    two-parts : {B C : Location → Type 0} (w : BinaryWord) (k : Position) (v : ℕ) (e₁ e₂ : Expr)
         → AllFlow (sites T Γ pre e₁) ↔ Everywhere L A
-        → AllFlow (sites T (bind w v (type T e₁) Γ) (preOfSecond w pre (post T e₁) (start T (binary w k v e₁ e₂))) e₂) ↔ Everywhere L B
+        → AllFlow (sites T (binding (role (Binary w)) (v, type T e₁) Γ) (preOfSecond w pre (post T e₁) (start T (binary w k v e₁ e₂))) e₂) ↔ Everywhere L B
         → OwnFlow Γ pre (binary w k v e₁ e₂) ↔ Everywhere L C
         → AllFlow (sites T Γ pre (binary w k v e₁ e₂)) ↔ Everywhere L (λ p. A p × B p × C p)
     unfolding sites

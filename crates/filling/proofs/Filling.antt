@@ -10,11 +10,11 @@ use native.Mathlib.Decide.{decLt}
 use lib.ListN.{length, getD, length-map, List·getD-eq-default}
 use lib.Seq.{ext-getD}
 use Rattle.spec.specs.Reading.{on}
-use Rattle.spec.specs.Expression.{size}
+use Rattle.spec.specs.Expression.{size, lineOf}
 use Rattle.spec.specs.Program.{Program}
 use Rattle.spec.specs.Split.{Map, Split}
 use Rattle.spec.specs.Maps.{share, overWhole}
-use Rattle.spec.specs.Conditions.{lineOf, startMap}
+use Rattle.spec.specs.Conditions.{startMap}
 use Rattle.spec.specs.Verdict.{locksTakeEnough, refuseOver, ruled, typed, startAtMostOne}
 use Rattle.spec.specs.FirstFalse.{AllHold}
 use Rattle.spec.specs.WellFormed.{WellFormedProgram}
@@ -64,7 +64,7 @@ module _ {text : List ℕ} (P : Program) (S : Split) (W : WellFormedProgram text
   -- ------------------------------------------------------------------ after-maps, location by location
 
   root-placed : Placed (P .steps) 0 (P .root)
-  root-placed = record { line = 2; lined = W .numbering; indexed = omega arith; within = omega (arith, counted-steps) }
+  root-placed = record { indexed = W .numbering; within = omega (arith, counted-steps) }
 
   -- the conditions of a split that shows the maps σ
   flow-claims-at : {σ : List Map} {T : Split} → Showing (P .steps) S σ T → AllHold (flowClaims P T) ↔ Everywhere L (λ p. PassesAt p (at σ p))

@@ -4,16 +4,16 @@ use mathlib.Core.Path.{_≡_, refl, ap, sym, _∙_}
 use mathlib.Core.Bool.{Bool, _&&_}
 use mathlib.Core.List.{List, [], _∷_, _++_}
 use mathlib.Core.Option.{Option, none, some}
-use Prim.Native.Nat.{ℕ, zero, suc, _+_, _-_, _<_}
+use Prim.Native.Nat.{ℕ, zero, suc, _+_, _<_}
 use native.Mathlib.Omega.{arith}
 use native.Mathlib.Decide.{decLt}
 use lib.ListN.{length, getD, length-replicate, List·getD-append, List·getD-eq-default}
 use lib.Seq.{getD-append-add}
 use Rattle.spec.specs.Choice.{if_then_else_}
-use Rattle.spec.specs.Expression.{Step, Expr}
+use Rattle.spec.specs.Expression.{Step, Expr, indexOf}
 use Rattle.spec.specs.Split.{Map, Row, Split, typeAt, mapAt}
 use Rattle.spec.specs.Agreement.{Tree, plain, int, lock, tid, sem, rwlock, treeOf, trees, tree, sameTree, agree}
-use Rattle.spec.specs.Conditions.{lineOf, isLock, place, load, inLoad, outLoad, readLoad, writeLoad, row, type, kind, post, startIn, start, K, inMap, outMap, readMap, writeMap, startMap, contains, looserLock, mayShow}
+use Rattle.spec.specs.Conditions.{isLock, place, load, inLoad, outLoad, readLoad, writeLoad, row, type, kind, post, startIn, start, K, inMap, outMap, readMap, writeMap, startMap, contains, looserLock, mayShow}
 use Rattle.spec.specs.Verdict.{takesEnough, allTakeEnough, locksTakeEnough}
 use Rattle.spec.specs.Ranges.{InRange}
 use Rattle.spec.specs.declared.TypeNumber.{TypeNumber}
@@ -46,7 +46,7 @@ absent = record { type = record { 0 = 0 }; post = record { 0 = 0 }; start = none
 module _ (S : Split) (σ : List Map) where
   pub type-kept : (e : Expr) → type (filled S σ) e ≡ type S e
   unfolding type row filled
-  type-kept e = rows-kept _ (S .rows) (lineOf e - 2) _ .0
+  type-kept e = rows-kept _ (S .rows) (indexOf e) _ .0
 
   pub kind-kept : (e : Expr) → kind (filled S σ) e ≡ kind S e
   unfolding kind typeAt filled
@@ -150,12 +150,12 @@ module _ {steps : List Step} {S : Split} (R : InRange steps S) where
 
   start-fits : (e : Expr) (m : MapNumber) → row S e .start ≡ some m → m .0 < length (S .maps)
   unfolding row
-  start-fits e m h = go (decLt (lineOf e - 2) (length (S .rows)))
+  start-fits e m h = go (decLt (indexOf e) (length (S .rows)))
     where
-      go : Dec (lineOf e - 2 < length (S .rows)) → m .0 < length (S .maps)
+      go : Dec (indexOf e < length (S .rows)) → m .0 < length (S .maps)
       go (yes q) = R .rowStart _ absent m q h
       go (no q) =
-          let none-there = List·getD-eq-default (S .rows) absent {n = lineOf e - 2} (omega (arith, q)) in
+          let none-there = List·getD-eq-default (S .rows) absent {n = indexOf e} (omega (arith, q)) in
           none-is-not-some (sym (ap (λ (r : Row). r .start) none-there) ∙ h)
 
   pub place-within : (e : Expr) → place (kind S e) .0 < S .header .locations
@@ -221,7 +221,7 @@ module _ {steps : List Step} {S : Split} (R : InRange steps S) where
     pub start-kept : (e : Expr) → start (filled S σ) e ≡ start S e
     unfolding start row filled
     start-kept e =
-        ap (startIn (filled S σ)) (rows-kept _ (S .rows) (lineOf e - 2) _ .1) ∙ start-in-kept (row S e .start) (start-fits e)
+        ap (startIn (filled S σ)) (rows-kept _ (S .rows) (indexOf e) _ .1) ∙ start-in-kept (row S e .start) (start-fits e)
 
     pub K-kept : (e : Expr) → K (filled S σ) e ≡ K S e
     unfolding K kind
@@ -244,11 +244,10 @@ module _ {steps : List Step} {S : Split} (R : InRange steps S) where
     write-kept e = ap (λ t. mapAt (filled S σ) (writeLoad t)) (kind-kept S σ e) ∙ map-kept _ (write-fits _ (maps-fit (type S e)))
 
     -- the step with index i shows the new map i
-    pub post-new : (e : Expr) (i : ℕ) → lineOf e ≡ 2 + i → i < length (S .rows) → post (filled S σ) e ≡ getD σ i []
+    pub post-new : (e : Expr) (i : ℕ) → indexOf e ≡ i → i < length (S .rows) → post (filled S σ) e ≡ getD σ i []
     unfolding post mapAt row filled
-    post-new e i at l =
-        let index : lineOf e - 2 ≡ i = omega arith in
-        let shown : getD (withPosts (S .header .maps) (S .rows)) (lineOf e - 2) absent .post .0 ≡ length (S .maps) + i =
+    post-new e i index l =
+        let shown : getD (withPosts (S .header .maps) (S .rows)) (indexOf e) absent .post .0 ≡ length (S .maps) + i =
         rw index (rows-post (S .header .maps) (S .rows) i absent l ∙ omega (arith, R .mapsCounted)) in
         rw shown (getD-append-add (S .maps) σ i [])
 

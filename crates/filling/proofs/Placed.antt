@@ -1,13 +1,13 @@
 -- Where an expression stands among the steps of a program, and what a split shows there: one with maps filled in, or a whole one.
-use mathlib.Core.Path.{_≡_, refl, ap, _∙_}
+use mathlib.Core.Path.{_≡_, refl, ap}
 use mathlib.Core.List.{List, [], _∷_, map}
-use Prim.Native.Nat.{ℕ, zero, suc, _+_, _-_, _≤_, _<_}
+use Prim.Native.Nat.{ℕ, zero, suc, _+_, _≤_, _<_}
 use native.Mathlib.Omega.{arith}
 use lib.ListN.{length, getD}
-use Rattle.spec.specs.Expression.{Step, Expr, leaf, unary, binary, size}
-use Rattle.spec.specs.WellFormed.{LinesFrom}
+use Rattle.spec.specs.Expression.{Step, Position, Expr, leaf, unary, binary, size, indexOf}
+use Rattle.spec.specs.WellFormed.{IndexesFrom}
 use Rattle.spec.specs.Split.{Map, Row, Split, mapAt}
-use Rattle.spec.specs.Conditions.{lineOf, place, row, kind, post, start, K, inMap, outMap, readMap, writeMap, startMap}
+use Rattle.spec.specs.Conditions.{place, row, kind, post, start, K, inMap, outMap, readMap, writeMap, startMap}
 use Rattle.spec.specs.Ranges.{InRange}
 use Rattle.spec.specs.declared.Location.{Location}
 use Rattle.spec.specs.declared.LeafWord.the-variants.{Var, Int, Newtid, Newlock, Newsem, Newrwlock}
@@ -53,37 +53,27 @@ flow-steps S p (unary Wrunlock k v e₁) = ap suc (flow-steps S p e₁)
 
 -- in a program with the steps ss, the first step of e has index i
 pub record Placed (ss : List Step) (i : ℕ) (e : Expr) : Type 0 where
-  pub line : ℕ
-  pub lined : LinesFrom line e
-  pub indexed : line ≡ 2 + i
+  pub indexed : IndexesFrom i e
   pub within : i + size e ≤ length ss
 
-line-of : (n : ℕ) (e : Expr) → LinesFrom n e → lineOf e ≡ n
-unfolding LinesFrom lineOf
-line-of n (leaf w k v) h = h
-line-of n (unary w k v e) h = h .0
-line-of n (binary w k v e₁ e₂) h = h .0
+index-at : {ss : List Step} {i : ℕ} {e : Expr} → Placed ss i e → indexOf e ≡ i
+unfolding IndexesFrom indexOf
+index-at {e = leaf w k v} P = P .indexed
+index-at {e = unary w k v e} P = P .indexed .0
+index-at {e = binary w k v e₁ e₂} P = P .indexed .0
 
-line-at : {ss : List Step} {i : ℕ} {e : Expr} → Placed ss i e → lineOf e ≡ 2 + i
-line-at {e = e} P = line-of (P .line) e (P .lined) ∙ P .indexed
-
-module _ {ss : List Step} {i k v : ℕ} where
+module _ {ss : List Step} {i : ℕ} {k : Position} {v : ℕ} where
   pub part : {w : UnaryWord} {e₁ : Expr} → Placed ss i (unary w k v e₁) → Placed ss (i + 1) e₁
-  unfolding LinesFrom size
-  part P = record { line = P .line + 1; lined = P .lined .1; indexed = omega (arith, P .indexed); within = omega (arith, P .within) }
+  unfolding IndexesFrom size
+  part P = record { indexed = P .indexed .1; within = omega (arith, P .within) }
 
   pub first : {w : BinaryWord} {e₁ e₂ : Expr} → Placed ss i (binary w k v e₁ e₂) → Placed ss (i + 1) e₁
-  unfolding LinesFrom size
-  first P = record { line = P .line + 1; lined = P .lined .1; indexed = omega (arith, P .indexed); within = omega (arith, P .within) }
+  unfolding IndexesFrom size
+  first P = record { indexed = P .indexed .1; within = omega (arith, P .within) }
 
   pub second : {w : BinaryWord} {e₁ e₂ : Expr} → Placed ss i (binary w k v e₁ e₂) → Placed ss (i + 1 + size e₁) e₂
-  unfolding LinesFrom size
-  second {e₁ = e₁} P = record {
-    line = P .line + 1 + size e₁;
-    lined = P .lined .2;
-    indexed = omega (arith, P .indexed);
-    within = omega (arith, P .within);
-  }
+  unfolding IndexesFrom size
+  second P = record { indexed = P .indexed .2; within = omega (arith, P .within) }
 
 -- ------------------------------------------------------------------ what a split shows
 
@@ -111,7 +101,7 @@ pub filled-shows : {ss : List Step} {S : Split} {σ : List Map} → Given ss S �
 unfolding filled
 filled-shows {σ = σ} G = let R = G .inRange in record {
   posts = λ {i} e P. record {
-    same = post-new R σ e i (line-at P) (omega (arith, P .within, size-positive e, R .rowsCounted));
+    same = post-new R σ e i (index-at P) (omega (arith, P .within, size-positive e, R .rowsCounted));
     wide = G .wide i (omega (arith, P .within, size-positive e, G .counted));
   };
   starts = λ e. record { same = start-kept R σ e; wide = start-wide R e };
@@ -143,8 +133,7 @@ pub split-shows : {ss : List Step} {S : Split} → InRange ss S → Showing ss S
 unfolding post row
 split-shows R = record {
   posts = λ {i} e P.
-      let index : lineOf e - 2 ≡ i = omega (arith, line-at P) in
-      rw index (shown-map R i (omega (arith, P .within, size-positive e, R .rowsCounted)));
+      rw (index-at P) (shown-map R i (omega (arith, P .within, size-positive e, R .rowsCounted)));
   starts = λ e. record { same = refl; wide = start-wide R e };
   loads = λ e. record { same = refl; wide = K-wide R e };
   ins = λ e. record { same = refl; wide = in-wide R e };

@@ -1,11 +1,13 @@
 -- Filling changes no (T) condition.
 use mathlib.Core.Path.{_≡_, refl, ap₂, sym, _∙_}
 use mathlib.Core.List.{List, _∷_, _++_}
+use Rattle.spec.specs.Words.{role, binding, preOfPart, preOfSecond}
 use Rattle.spec.specs.Expression.{Step, Expr, leaf, unary, binary}
 use Rattle.spec.specs.Split.{Map, Split}
 use Rattle.spec.specs.Conditions.{Env, type, post, start, own}
-use Rattle.spec.specs.Sites.{Site, Claim, sites, bind, preOfPart, preOfSecond, numbered, claimsAt, claims, isType, only}
+use Rattle.spec.specs.Sites.{Site, Claim, sites, numbered, claimsAt, claims, isType, only}
 use Rattle.spec.specs.Ranges.{InRange}
+use Rattle.spec.specs.declared.Word.the-variants.{Binary}
 use Rattle.spec.specs.declared.LeafWord.the-variants.{Var, Int, Newtid, Newlock, Newsem, Newrwlock}
 use Rattle.spec.specs.declared.UnaryWord.the-variants.{While, Join, Ref, Read, Lock, Unlock, Post, Wait, Rdlock, Rdunlock, Wrlock, Wrunlock}
 use Rattle.spec.specs.declared.BinaryWord.the-variants.{Let, If, Spawn, Write}
@@ -80,7 +82,7 @@ module _ {steps : List Step} {S : Split} (R : InRange steps S) (σ : List Map) w
   sites-alike Γ pre pre′ (binary w k v e₁ e₂) =
       let e = binary w k v e₁ e₂ in
       let of-second : Split → Map → Map = λ T pre. preOfSecond w pre (post T e₁) (start T e) in
-      let second = sites-alike (bind w v (type S e₁) Γ) (of-second S′ pre) (of-second S pre′) e₂ in
+      let second = sites-alike (binding (role (Binary w)) (v, type S e₁) Γ) (of-second S′ pre) (of-second S pre′) e₂ in
       step-alike _ _ (own-kept Γ pre pre′ e) (both-alike (sites-alike Γ pre pre′ e₁) (rw (type-kept S σ e₁) second))
 
   pub types-kept : (Γ : Env) (pre pre′ : Map) (e : Expr) → only isType (claims S′ (sites S′ Γ pre e)) ≡ only isType (claims S (sites S Γ pre′ e))

@@ -1,4 +1,4 @@
--- Laws of the tables of words.
+-- Laws of looking a field up in the tables of words.
 use mathlib.Core.Path.{_≡_, refl, sym, ap, _∙_}
 use mathlib.Core.List.{List, [], _∷_, _++_}
 use mathlib.Core.Bool.{Bool, true, false}
@@ -7,84 +7,72 @@ use Prim.Native.Nat.{ℕ, _-_}
 use lib.ListN.{take, drop}
 use Rattle.spec.specs.Choice.{if_then_else_}
 use Rattle.spec.specs.Text.{same, Field, lookUp}
-use Rattle.spec.specs.Program.{words}
+use Rattle.spec.specs.Words.{words}
 use Rattle.spec.specs.declared.Word.{Word}
 use Rattle.lexer.specs.Views.{firstField}
 use Rattle.lexer.specs.Cursors.{rest, spanAt}
 use Rattle.lexer.specs.declared.Cursor.{Cursor}
 use Rattle.lexer.specs.declared.Span.{Span}
 use Rattle.lexer.proofs.Places.{span-field}
-use Rattle.lexer.specs.Words.{foundOf, leafWords, unaryWords, holdWords, binaryWords}
+use Rattle.lexer.specs.Words.{foundOf, spelledOr, eitherOf}
 use Rattle.lexer.specs.declared.vocabulary.FoundWord.{FoundWord}
 use Rattle.lexer.specs.declared.vocabulary.FoundWord.the-variants.{Known, Unknown}
 
--- ------------------------------------------------------------------ one word of a table
+pub is-spelled : {b : Bool} (w : Word) (r : FoundWord) → b ≡ true → Known w ≡ spelledOr b w r
+unfolding spelledOr
+is-spelled w r e = rw e refl
 
-module _ (w : List ℕ × Word) (ws : List (List ℕ × Word)) (f : Field) where
-  -- the field spells it
-  pub hit : same (w .0) f ≡ true → Known (w .1) ≡ foundOf (lookUp (w ∷ ws) f)
-  unfolding lookUp foundOf
-  hit e = sym (rw e)
+pub not-spelled : {b : Bool} (w : Word) (r : FoundWord) → b ≡ false → r ≡ spelledOr b w r
+unfolding spelledOr
+not-spelled w r e = rw e refl
 
-  -- the field spells another
-  pub skip : same (w .0) f ≡ false → {r : FoundWord} → r ≡ foundOf (lookUp ws f) → r ≡ foundOf (lookUp (w ∷ ws) f)
-  unfolding lookUp
-  skip e h = rw e h
+pub first-known : {a : FoundWord} (w : Word) (r : FoundWord) → a ≡ Known w → Known w ≡ eitherOf a r
+unfolding eitherOf
+first-known w r e = rw e refl
+
+pub first-unknown : {a : FoundWord} (r : FoundWord) → a ≡ Unknown → r ≡ eitherOf a r
+unfolding eitherOf
+first-unknown r e = rw e refl
+
+-- one word of a table, in front of the words behind it
+spelled-found : (b : Bool) (w : Word) (o : Option Word) → spelledOr b w (foundOf o) ≡ foundOf (if b then some w else o)
+unfolding spelledOr foundOf
+spelled-found true w o = refl
+spelled-found false w o = refl
+
+pub spelled-first : (s : List ℕ) (w : Word) (ws : List (List ℕ × Word)) (f : Field) {r r′ : FoundWord} → r′ ≡ spelledOr (same s f) w r
+    → r ≡ foundOf (lookUp ws f) → r′ ≡ foundOf (lookUp ((s, w) ∷ ws) f)
+unfolding lookUp
+spelled-first s w ws f e h = e ∙ ap (spelledOr (same s f) w) h ∙ spelled-found (same s f) w (lookUp ws f)
 
 pub none-left : (f : Field) → Unknown ≡ foundOf (lookUp [] f)
 unfolding lookUp foundOf
 none-left f = refl
 
--- ------------------------------------------------------------------ one table after the other
-
-unfoldable orElse : Option Word → Option Word → Option Word
-orElse none b = b
-orElse (some w) b = some w
-
-lookUp-append : (vs ws : List (List ℕ × Word)) (f : Field) → lookUp (vs ++ ws) f ≡ orElse (lookUp vs f) (lookUp ws f)
-unfolding lookUp orElse
-lookUp-append [] ws f = refl
-lookUp-append (v ∷ vs) ws f = go (lookUp-append vs ws f) (same (v .0) f)
+-- one table after the other
+either-found : (vs ws : List (List ℕ × Word)) (f : Field) → foundOf (lookUp (vs ++ ws) f) ≡ eitherOf (foundOf (lookUp vs f)) (foundOf (lookUp ws f))
+unfolding lookUp foundOf eitherOf
+either-found [] ws f = refl
+either-found (v ∷ vs) ws f = by-test (either-found vs ws f) (same (v .0) f)
   where
-    go : lookUp (vs ++ ws) f ≡ orElse (lookUp vs f) (lookUp ws f) → (x : Bool)
-        → (if x then some (v .1) else lookUp (vs ++ ws) f) ≡ orElse (if x then some (v .1) else lookUp vs f) (lookUp ws f)
-    go e true = refl
-    go e false = e
+    by-test : foundOf (lookUp (vs ++ ws) f) ≡ eitherOf (foundOf (lookUp vs f)) (foundOf (lookUp ws f)) → (x : Bool)
+        → foundOf (if x then some (v .1) else lookUp (vs ++ ws) f) ≡ eitherOf (foundOf (if x then some (v .1) else lookUp vs f)) (foundOf (lookUp ws f))
+    by-test e true = refl
+    by-test e false = e
 
-pub known : (o : Option Word) (w : Word) → foundOf o ≡ Known w → o ≡ some w
+pub table-first : (vs ws : List (List ℕ × Word)) (f : Field) {r r₁ r₂ : FoundWord} → r ≡ eitherOf r₁ r₂
+    → r₁ ≡ foundOf (lookUp vs f) → r₂ ≡ foundOf (lookUp ws f) → r ≡ foundOf (lookUp (vs ++ ws) f)
+table-first vs ws f e h₁ h₂ = e ∙ rw (h₁, h₂) (sym (either-found vs ws f))
+
+known : (o : Option Word) (w : Word) → foundOf o ≡ Known w → o ≡ some w
 unfolding foundOf
 known none w e = cc
 known (some v) w e = cc
 
-pub unknown : (o : Option Word) → foundOf o ≡ Unknown → o ≡ none
+unknown : (o : Option Word) → foundOf o ≡ Unknown → o ≡ none
 unfolding foundOf
 unknown none e = refl
 unknown (some v) e = cc
-
-module _ (vs ws : List (List ℕ × Word)) (f : Field) where
-  first-table : {w : Word} → foundOf (lookUp vs f) ≡ Known w → foundOf (lookUp (vs ++ ws) f) ≡ Known w
-  unfolding orElse foundOf
-  first-table {w} e = rw (lookUp-append vs ws f, known (lookUp vs f) w e)
-
-  next-table : foundOf (lookUp vs f) ≡ Unknown → foundOf (lookUp (vs ++ ws) f) ≡ foundOf (lookUp ws f)
-  unfolding orElse
-  next-table e = rw (lookUp-append vs ws f, unknown (lookUp vs f) e)
-
--- the words of document 01 are those without parts, then those with one, then those with two
-words-are : words ≡ leafWords ++ (unaryWords ++ binaryWords)
-unfolding words leafWords unaryWords holdWords binaryWords
-words-are = refl
-
-module _ (f : Field) where
-  pub leaf-found : {w : Word} → foundOf (lookUp leafWords f) ≡ Known w → Known w ≡ foundOf (lookUp words f)
-  leaf-found e = rw words-are (sym (first-table leafWords (unaryWords ++ binaryWords) f e))
-
-  module _ (no-leaf : foundOf (lookUp leafWords f) ≡ Unknown) where
-    pub unary-found : {w : Word} → foundOf (lookUp unaryWords f) ≡ Known w → Known w ≡ foundOf (lookUp words f)
-    unary-found e = rw words-are (sym (next-table leafWords (unaryWords ++ binaryWords) f no-leaf ∙ first-table unaryWords binaryWords f e))
-
-    pub binary-left : foundOf (lookUp unaryWords f) ≡ Unknown → foundOf (lookUp binaryWords f) ≡ foundOf (lookUp words f)
-    binary-left e = rw words-are (sym (next-table leafWords (unaryWords ++ binaryWords) f no-leaf ∙ next-table unaryWords binaryWords f e))
 
 -- ------------------------------------------------------------------ the word at a cursor
 

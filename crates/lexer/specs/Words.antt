@@ -1,14 +1,9 @@
--- The words of document 01, as the shapes that the code hands back.
-use mathlib.Core.List.{List, [], _∷_}
+-- What a field spells, as the shapes that the code hands back.
+use mathlib.Core.Bool.{Bool, true, false}
 use mathlib.Core.Option.{Option, none, some}
-use Prim.Native.Nat.{ℕ}
 use Rattle.spec.specs.Choice.{if_then_else_}
 use Rattle.spec.specs.Text.{bytes, same, Field}
 use Rattle.spec.specs.declared.Word.{Word}
-use Rattle.spec.specs.declared.Word.the-variants.{Leaf, Unary, Binary}
-use Rattle.spec.specs.declared.LeafWord.the-variants.{Var, Int, Newtid, Newlock, Newsem, Newrwlock}
-use Rattle.spec.specs.declared.UnaryWord.the-variants.{While, Join, Ref, Read, Lock, Unlock, Post, Wait, Rdlock, Rdunlock, Wrlock, Wrunlock}
-use Rattle.spec.specs.declared.BinaryWord.the-variants.{Let, If, Spawn, Write}
 use Rattle.lexer.specs.declared.vocabulary.FoundWord.{FoundWord}
 use Rattle.lexer.specs.declared.vocabulary.FoundWord.the-variants.{Known, Unknown}
 use Rattle.lexer.specs.declared.vocabulary.TypeWord.{TypeWord}
@@ -18,44 +13,15 @@ unfoldable pub foundOf : Option Word → FoundWord
 foundOf none = Unknown
 foundOf (some w) = Known w
 
--- the words by their number of parts: one after the other they are the table of document 01
-unfoldable pub leafWords : List (List ℕ × Word)
-leafWords =
-    (bytes "var", Leaf Var)
-    ∷ (bytes "int", Leaf Int)
-    ∷ (bytes "newtid", Leaf Newtid)
-    ∷ (bytes "newlock", Leaf Newlock)
-    ∷ (bytes "newsem", Leaf Newsem)
-    ∷ (bytes "newrwlock", Leaf Newrwlock)
-    ∷ []
+-- a word, if it is spelled; else what is found otherwise
+unfoldable pub spelledOr : Bool → Word → FoundWord → FoundWord
+spelledOr true w r = Known w
+spelledOr false w r = r
 
-unfoldable pub holdWords : List (List ℕ × Word)
-holdWords =
-    (bytes "rdlock", Unary Rdlock)
-    ∷ (bytes "rdunlock", Unary Rdunlock)
-    ∷ (bytes "wrlock", Unary Wrlock)
-    ∷ (bytes "wrunlock", Unary Wrunlock)
-    ∷ []
-
-unfoldable pub unaryWords : List (List ℕ × Word)
-unaryWords =
-    (bytes "while", Unary While)
-    ∷ (bytes "join", Unary Join)
-    ∷ (bytes "ref", Unary Ref)
-    ∷ (bytes "read", Unary Read)
-    ∷ (bytes "lock", Unary Lock)
-    ∷ (bytes "unlock", Unary Unlock)
-    ∷ (bytes "post", Unary Post)
-    ∷ (bytes "wait", Unary Wait)
-    ∷ holdWords
-
-unfoldable pub binaryWords : List (List ℕ × Word)
-binaryWords =
-    (bytes "let", Binary Let)
-    ∷ (bytes "if", Binary If)
-    ∷ (bytes "spawn", Binary Spawn)
-    ∷ (bytes "write", Binary Write)
-    ∷ []
+-- the first of two finds that is a word
+unfoldable pub eitherOf : FoundWord → FoundWord → FoundWord
+eitherOf (Known w) r = Known w
+eitherOf Unknown r = r
 
 -- the kind that a type line names
 unfoldable pub typeWordOf : Field → TypeWord

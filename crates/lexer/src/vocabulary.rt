@@ -5,8 +5,8 @@ use spec::UnaryWord;
 use spec::Word;
 ghost use mathlib.Core.Path.{_≡_};
 ghost use Rattle.spec.specs.Text.{same as sameBytes, lookUp};
-ghost use Rattle.spec.specs.Program.{words};
-ghost use Rattle.lexer.specs.Words.{foundOf, leafWords, unaryWords, holdWords, binaryWords, typeWordOf};
+ghost use Rattle.spec.specs.Words.{leafWords, cellWords, lockWords, holdWords, unaryWords, binaryWords, words};
+ghost use Rattle.lexer.specs.Words.{foundOf, spelledOr, eitherOf, typeWordOf};
 
 // The word of a step that a field spells.
 pub enum FoundWord {
@@ -42,113 +42,102 @@ pub fn same(a: &[u8], b: &[u8]) -> bool
     true
 }
 
-// The word without parts that a field spells.
+// A word, if the field spells it; else what is found otherwise.
+fn spelled(field: &[u8], spelling: &[u8], word: Word, otherwise: FoundWord) -> FoundWord
+    ensures { λ r. ⌜ r ≡ spelledOr (sameBytes (now (spelling .entry)) (now (field .entry))) word otherwise ⌝ }
+{
+    if same(spelling, field) {
+        return FoundWord::Known(word);
+    }
+    otherwise
+}
+
+// The first of two finds that is a word.
+fn either(first: FoundWord, second: FoundWord) -> FoundWord
+    ensures { λ r. ⌜ r ≡ eitherOf first second ⌝ }
+{
+    match first {
+        FoundWord::Known(w) => FoundWord::Known(w),
+        FoundWord::Unknown => second,
+    }
+}
+
+// The word without parts that a field spells; here and below the last word is tried first, and no two are spelled alike.
 fn leaf_word(field: &[u8]) -> FoundWord
     ensures { λ r. ⌜ r ≡ foundOf (lookUp leafWords (now (field .entry))) ⌝ }
 {
-    if same(b"var", field) {
-        return FoundWord::Known(Word::Leaf(LeafWord::Var));
-    }
-    if same(b"int", field) {
-        return FoundWord::Known(Word::Leaf(LeafWord::Int));
-    }
-    if same(b"newtid", field) {
-        return FoundWord::Known(Word::Leaf(LeafWord::Newtid));
-    }
-    if same(b"newlock", field) {
-        return FoundWord::Known(Word::Leaf(LeafWord::Newlock));
-    }
-    if same(b"newsem", field) {
-        return FoundWord::Known(Word::Leaf(LeafWord::Newsem));
-    }
-    if same(b"newrwlock", field) {
-        return FoundWord::Known(Word::Leaf(LeafWord::Newrwlock));
-    }
-    FoundWord::Unknown
+    let found = FoundWord::Unknown;
+    let found = spelled(field, b"newrwlock", Word::Leaf(LeafWord::Newrwlock), found);
+    let found = spelled(field, b"newsem", Word::Leaf(LeafWord::Newsem), found);
+    let found = spelled(field, b"newlock", Word::Leaf(LeafWord::Newlock), found);
+    let found = spelled(field, b"newtid", Word::Leaf(LeafWord::Newtid), found);
+    let found = spelled(field, b"int", Word::Leaf(LeafWord::Int), found);
+    let found = spelled(field, b"var", Word::Leaf(LeafWord::Var), found);
+    found
 }
 
-// The word that takes or gives back a hold on a read-write lock that a field spells.
+// The word with one part, of loops, threads and cells, that a field spells.
+fn cell_word(field: &[u8]) -> FoundWord
+    ensures { λ r. ⌜ r ≡ foundOf (lookUp cellWords (now (field .entry))) ⌝ }
+{
+    let found = FoundWord::Unknown;
+    let found = spelled(field, b"read", Word::Unary(UnaryWord::Read), found);
+    let found = spelled(field, b"ref", Word::Unary(UnaryWord::Ref), found);
+    let found = spelled(field, b"join", Word::Unary(UnaryWord::Join), found);
+    let found = spelled(field, b"while", Word::Unary(UnaryWord::While), found);
+    found
+}
+
+// The word with one part, of locks and semaphores, that a field spells.
+fn lock_word(field: &[u8]) -> FoundWord
+    ensures { λ r. ⌜ r ≡ foundOf (lookUp lockWords (now (field .entry))) ⌝ }
+{
+    let found = FoundWord::Unknown;
+    let found = spelled(field, b"wait", Word::Unary(UnaryWord::Wait), found);
+    let found = spelled(field, b"post", Word::Unary(UnaryWord::Post), found);
+    let found = spelled(field, b"unlock", Word::Unary(UnaryWord::Unlock), found);
+    let found = spelled(field, b"lock", Word::Unary(UnaryWord::Lock), found);
+    found
+}
+
+// The word with one part, of read-write locks, that a field spells.
 fn hold_word(field: &[u8]) -> FoundWord
     ensures { λ r. ⌜ r ≡ foundOf (lookUp holdWords (now (field .entry))) ⌝ }
 {
-    if same(b"rdlock", field) {
-        return FoundWord::Known(Word::Unary(UnaryWord::Rdlock));
-    }
-    if same(b"rdunlock", field) {
-        return FoundWord::Known(Word::Unary(UnaryWord::Rdunlock));
-    }
-    if same(b"wrlock", field) {
-        return FoundWord::Known(Word::Unary(UnaryWord::Wrlock));
-    }
-    if same(b"wrunlock", field) {
-        return FoundWord::Known(Word::Unary(UnaryWord::Wrunlock));
-    }
-    FoundWord::Unknown
+    let found = FoundWord::Unknown;
+    let found = spelled(field, b"wrunlock", Word::Unary(UnaryWord::Wrunlock), found);
+    let found = spelled(field, b"wrlock", Word::Unary(UnaryWord::Wrlock), found);
+    let found = spelled(field, b"rdunlock", Word::Unary(UnaryWord::Rdunlock), found);
+    let found = spelled(field, b"rdlock", Word::Unary(UnaryWord::Rdlock), found);
+    found
 }
 
 // The word with one part that a field spells.
 fn unary_word(field: &[u8]) -> FoundWord
     ensures { λ r. ⌜ r ≡ foundOf (lookUp unaryWords (now (field .entry))) ⌝ }
 {
-    if same(b"while", field) {
-        return FoundWord::Known(Word::Unary(UnaryWord::While));
-    }
-    if same(b"join", field) {
-        return FoundWord::Known(Word::Unary(UnaryWord::Join));
-    }
-    if same(b"ref", field) {
-        return FoundWord::Known(Word::Unary(UnaryWord::Ref));
-    }
-    if same(b"read", field) {
-        return FoundWord::Known(Word::Unary(UnaryWord::Read));
-    }
-    if same(b"lock", field) {
-        return FoundWord::Known(Word::Unary(UnaryWord::Lock));
-    }
-    if same(b"unlock", field) {
-        return FoundWord::Known(Word::Unary(UnaryWord::Unlock));
-    }
-    if same(b"post", field) {
-        return FoundWord::Known(Word::Unary(UnaryWord::Post));
-    }
-    if same(b"wait", field) {
-        return FoundWord::Known(Word::Unary(UnaryWord::Wait));
-    }
-    hold_word(field)
+    let locks = either(lock_word(field), hold_word(field));
+    either(cell_word(field), locks)
 }
 
 // The word with two parts that a field spells.
 fn binary_word(field: &[u8]) -> FoundWord
     ensures { λ r. ⌜ r ≡ foundOf (lookUp binaryWords (now (field .entry))) ⌝ }
 {
-    if same(b"let", field) {
-        return FoundWord::Known(Word::Binary(BinaryWord::Let));
-    }
-    if same(b"if", field) {
-        return FoundWord::Known(Word::Binary(BinaryWord::If));
-    }
-    if same(b"spawn", field) {
-        return FoundWord::Known(Word::Binary(BinaryWord::Spawn));
-    }
-    if same(b"write", field) {
-        return FoundWord::Known(Word::Binary(BinaryWord::Write));
-    }
-    FoundWord::Unknown
+    let found = FoundWord::Unknown;
+    let found = spelled(field, b"write", Word::Binary(BinaryWord::Write), found);
+    let found = spelled(field, b"spawn", Word::Binary(BinaryWord::Spawn), found);
+    let found = spelled(field, b"if", Word::Binary(BinaryWord::If), found);
+    let found = spelled(field, b"let", Word::Binary(BinaryWord::Let), found);
+    found
 }
 
 // The word of a step that a field spells.
 pub fn word_of(field: &[u8]) -> FoundWord
     ensures { λ r. ⌜ r ≡ foundOf (lookUp words (now (field .entry))) ⌝ }
 {
-    let leaf = leaf_word(field);
-    if let FoundWord::Known(w) = leaf {
-        return FoundWord::Known(w);
-    }
-    let unary = unary_word(field);
-    if let FoundWord::Known(w) = unary {
-        return FoundWord::Known(w);
-    }
-    binary_word(field)
+    let parts = either(unary_word(field), binary_word(field));
+    either(leaf_word(field), parts)
 }
 
 // The kind of a type line that a field spells.

@@ -4,9 +4,9 @@ use mathlib.Core.List.{List}
 use Prim.Native.Nat.{ℕ, _+_, _*_, _≤_, _<_}
 use native.Mathlib.Omega.{arith}
 use lib.ListN.{length, getD}
-use Rattle.spec.specs.Expression.{Step, Expr, leaf, unary, binary, size}
+use Rattle.spec.specs.Expression.{Step, Expr, leaf, unary, binary, size, Position, indexOf}
 use Rattle.spec.specs.Split.{Split}
-use Rattle.spec.specs.Conditions.{lineOf, typeAt, mapAt, row, type, kind, K, inMap, outMap, readMap, writeMap, load, inLoad, outLoad, readLoad, writeLoad}
+use Rattle.spec.specs.Conditions.{typeAt, mapAt, row, type, kind, K, inMap, outMap, readMap, writeMap, load, inLoad, outLoad, readLoad, writeLoad}
 use Rattle.spec.specs.Ranges.{InRange}
 use Rattle.spec.proofs.Listing.{size-positive}
 use Rattle.spec.specs.Maps.{share}
@@ -22,8 +22,7 @@ use Rattle.spec.specs.declared.BinaryWord.the-variants.{Let, If, Spawn, Write}
 use Rattle.workspace.specs.Layout.{wordsAt, leafCode, unaryCode, binaryCode, printed, ruleOf}
 use Rattle.workspace.specs.Holds.{HoldsSplit}
 use Rattle.workspace.proofs.Shown.{type-number, noRow, type-shown, LoadsIn, loads-in, map-stands, has-shown, row-at, row-type, start-at}
-use Rattle.workspace.proofs.Expression.{Here, here-line, leaf-code, leaf-number, unary-code, binary-code, here-part, here-first, here-second, here-end, varsSecond}
-use Rattle.workspace.proofs.Held.{insideSecond}
+use Rattle.workspace.proofs.Expression.{Here, here-index, leaf-code, leaf-number, unary-code, binary-code, here-part, here-first, here-second, here-end}
 use Rattle.filling.specs.declared.Effect.{Effect}
 use Rattle.filling.specs.Flow.{unchanged, taking, giving, needing, lending, alone, steps}
 use Rattle.filling.specs.FlowOf.{loadHere, inHere, outHere, readHere, writeHere, startHere, accessHere, flowOf}
@@ -45,13 +44,13 @@ module _ (w : List ℕ) (column : Column) (ss : List Step) (S : Split) (H : Hold
   -- ------------------------------------------------------------------ constants
 
   -- the step with index i
-  module _ (e : Expr) (i : ℕ) (line : lineOf e ≡ i + 2) (h : i < length (S .rows)) where
+  module _ (e : Expr) (i : ℕ) (index : indexOf e ≡ i) (h : i < length (S .rows)) where
     type-in : row S e .type .0 < length (S .types)
-    type-in = rw (row-at w S ss H R e i line h) at (R .rowType i noRow h)
+    type-in = rw (row-at w S ss H R e i index h) at (R .rowType i noRow h)
 
     kind-held : typeIn w i ≡ kind S e
     unfolding typeIn kind type
-    kind-held = rw (type-number (row-type w S ss H R e i line h)) (type-shown w S ss H R (row S e .type) type-in)
+    kind-held = rw (type-number (row-type w S ss H R e i index h)) (type-shown w S ss H R (row S e .type) type-in)
 
     -- a map that the type gives, at the location
     map-held : (reader : TypeLine → MapNumber) → reader (typeAt S (row S e .type)) .0 < length (S .maps)
@@ -84,7 +83,7 @@ module _ (w : List ℕ) (column : Column) (ss : List Step) (S : Split) (H : Hold
 
     start-held : startIn w column i ≡ startHere S p e
     unfolding startIn cellIn startHere
-    start-held = has-shown w S ss H R p (start-at w S ss H R e i line h) within
+    start-held = has-shown w S ss H R p (start-at w S ss H R e i index h) within
 
     access-held : (d : ℕ) → accessIn w column i d ≡ accessHere S p e d
     unfolding accessIn accessHere
@@ -98,16 +97,16 @@ module _ (w : List ℕ) (column : Column) (ss : List Step) (S : Split) (H : Hold
   by-code k e = ap (λ (code : ℕ). wayBy (ruleOf code) w column k) e
 
   module _ (k : ℕ) {inside : List (ℕ × ℕ)} {vars : List ℕ} where
-    leaf-held : (x : LeafWord) (l v : ℕ) (E : Effect) → Here w k inside vars (leaf x l v)
+    leaf-held : (x : LeafWord) (l : Position) (v : ℕ) (E : Effect) → Here w k inside vars (leaf x l v)
         → wayBy (ruleOf (leafCode x)) w column k ≡ Leaf E → Shows w column k (alone E)
     leaf-held x l v E C e = leafShown (by-code k (leaf-code x l v C) ∙ e)
 
-    unary-held : (x : UnaryWord) (l v : ℕ) (e₁ : Expr) (way : UnaryWay) → Here w k inside vars (unary x l v e₁)
+    unary-held : (x : UnaryWord) (l : Position) (v : ℕ) (e₁ : Expr) (way : UnaryWay) → Here w k inside vars (unary x l v e₁)
         → wayBy (ruleOf (unaryCode x)) w column k ≡ Unary way → Shows w column (k + 1) (flowOf S p e₁)
         → Shows w column k (unaryFlow way (flowOf S p e₁))
     unary-held x l v e₁ way C e s = unaryShown way (by-code k (unary-code x l v e₁ C) ∙ e) s
 
-    binary-held : (x : BinaryWord) (l v : ℕ) (e₁ e₂ : Expr) (way : BinaryWay) → Here w k inside vars (binary x l v e₁ e₂)
+    binary-held : (x : BinaryWord) (l : Position) (v : ℕ) (e₁ e₂ : Expr) (way : BinaryWay) → Here w k inside vars (binary x l v e₁ e₂)
         → wayBy (ruleOf (binaryCode x)) w column k ≡ Binary way → Shows w column (k + 1) (flowOf S p e₁)
         → Shows w column (k + 1 + size e₁) (flowOf S p e₂)
         → Shows w column k (binaryFlow way (flowOf S p e₁) (flowOf S p e₂))
@@ -120,22 +119,22 @@ module _ (w : List ℕ) (column : Column) (ss : List Step) (S : Split) (H : Hold
     -- the constants of its first part
     module _ (e₁ : Expr) (C : Here w (k + 1) inside vars e₁) (i : k + 1 + size e₁ ≤ length (S .rows)) where
       part-load : loadIn w column (k + 1) ≡ loadHere S p e₁
-      part-load = load-held e₁ (k + 1) (here-line e₁ C) (omega (arith, size-positive e₁))
+      part-load = load-held e₁ (k + 1) (here-index e₁ C) (omega (arith, size-positive e₁))
 
       part-in : inLoadIn w column (k + 1) ≡ inHere S p e₁
-      part-in = in-held e₁ (k + 1) (here-line e₁ C) (omega (arith, size-positive e₁))
+      part-in = in-held e₁ (k + 1) (here-index e₁ C) (omega (arith, size-positive e₁))
 
       part-out : outLoadIn w column (k + 1) ≡ outHere S p e₁
-      part-out = out-held e₁ (k + 1) (here-line e₁ C) (omega (arith, size-positive e₁))
+      part-out = out-held e₁ (k + 1) (here-index e₁ C) (omega (arith, size-positive e₁))
 
       part-read : readLoadIn w column (k + 1) ≡ readHere S p e₁
-      part-read = read-held e₁ (k + 1) (here-line e₁ C) (omega (arith, size-positive e₁))
+      part-read = read-held e₁ (k + 1) (here-index e₁ C) (omega (arith, size-positive e₁))
 
       part-write : writeLoadIn w column (k + 1) ≡ writeHere S p e₁
-      part-write = write-held e₁ (k + 1) (here-line e₁ C) (omega (arith, size-positive e₁))
+      part-write = write-held e₁ (k + 1) (here-index e₁ C) (omega (arith, size-positive e₁))
 
       part-access : (d : ℕ) → accessIn w column (k + 1) d ≡ accessHere S p e₁ d
-      part-access = access-held e₁ (k + 1) (here-line e₁ C) (omega (arith, size-positive e₁))
+      part-access = access-held e₁ (k + 1) (here-index e₁ C) (omega (arith, size-positive e₁))
 
   -- ------------------------------------------------------------------ the flow
 
@@ -147,11 +146,11 @@ module _ (w : List ℕ) (column : Column) (ss : List Step) (S : Split) (H : Hold
   held-shows k inside vars (binary Let l v e₁ e₂) C i =
       let D = here-first Let l v e₁ e₂ C in
       binary-held k Let l v e₁ e₂ (InTurn unchanged) C refl (held-shows (k + 1) inside vars e₁ D (omega arith))
-      (held-shows (k + 1 + size e₁) (insideSecond Let v k inside) (varsSecond Let v vars) e₂ (here-second Let l v e₁ e₂ C) (omega arith))
+      (held-shows (k + 1 + size e₁) _ _ e₂ (here-second Let l v e₁ e₂ C) (omega arith))
   held-shows k inside vars (binary If l v e₁ e₂) C i =
       let D = here-first If l v e₁ e₂ C in
       binary-held k If l v e₁ e₂ Branch C refl (held-shows (k + 1) inside vars e₁ D (omega arith))
-      (held-shows (k + 1 + size e₁) (insideSecond If v k inside) (varsSecond If v vars) e₂ (here-second If l v e₁ e₂ C) (omega arith))
+      (held-shows (k + 1 + size e₁) _ _ e₂ (here-second If l v e₁ e₂ C) (omega arith))
   held-shows k inside vars (unary While l v e₁) C i =
       let D = here-part While l v e₁ C in
       unary-held k While l v e₁ Loop C refl (held-shows (k + 1) inside vars e₁ D (omega arith))
@@ -159,8 +158,8 @@ module _ (w : List ℕ) (column : Column) (ss : List Step) (S : Split) (H : Hold
   held-shows k inside vars (binary Spawn l v e₁ e₂) C i =
       let D = here-first Spawn l v e₁ e₂ C in
       binary-held k Spawn l v e₁ e₂ (Fork (startHere S p (binary Spawn l v e₁ e₂)) (loadHere S p e₁)) C
-      (ap₂ (λ (n m : ℕ). Binary (Fork n m)) (start-held (binary Spawn l v e₁ e₂) k (here-line (binary Spawn l v e₁ e₂) C) (omega arith)) (part-load k e₁ D (omega arith))) (held-shows (k + 1) inside vars e₁ D (omega arith))
-      (held-shows (k + 1 + size e₁) (insideSecond Spawn v k inside) (varsSecond Spawn v vars) e₂ (here-second Spawn l v e₁ e₂ C) (omega arith))
+      (ap₂ (λ (n m : ℕ). Binary (Fork n m)) (start-held (binary Spawn l v e₁ e₂) k (here-index (binary Spawn l v e₁ e₂) C) (omega arith)) (part-load k e₁ D (omega arith))) (held-shows (k + 1) inside vars e₁ D (omega arith))
+      (held-shows (k + 1 + size e₁) _ _ e₂ (here-second Spawn l v e₁ e₂ C) (omega arith))
   held-shows k inside vars (unary Join l v e₁) C i =
       let D = here-part Join l v e₁ C in
       unary-held k Join l v e₁ (After (giving (loadHere S p e₁))) C (ap (λ (n : ℕ). Unary (After (giving n))) (part-load k e₁ D (omega arith))) (held-shows (k + 1) inside vars e₁ D (omega arith))
@@ -171,13 +170,13 @@ module _ (w : List ℕ) (column : Column) (ss : List Step) (S : Split) (H : Hold
       let D = here-first Write l v e₁ e₂ C in
       binary-held k Write l v e₁ e₂ (InTurn (needing (accessHere S p e₁ (S .header .denominator)))) C
       (ap (λ (n : ℕ). Binary (InTurn (needing n))) (part-access k e₁ D (omega arith) (column .denominator) ∙ ap (accessHere S p e₁) given)) (held-shows (k + 1) inside vars e₁ D (omega arith))
-      (held-shows (k + 1 + size e₁) (insideSecond Write v k inside) (varsSecond Write v vars) e₂ (here-second Write l v e₁ e₂ C) (omega arith))
+      (held-shows (k + 1 + size e₁) _ _ e₂ (here-second Write l v e₁ e₂ C) (omega arith))
   held-shows k inside vars (unary Read l v e₁) C i =
       let D = here-part Read l v e₁ C in
       unary-held k Read l v e₁ (After (needing (accessHere S p e₁ 1))) C (ap (λ (n : ℕ). Unary (After (needing n))) (part-access k e₁ D (omega arith) 1)) (held-shows (k + 1) inside vars e₁ D (omega arith))
   held-shows k inside vars (leaf Newlock l v) C i =
       let e = leaf Newlock l v in
-      leaf-held k Newlock l v (taking (outHere S p e)) C (ap (λ (n : ℕ). Leaf (taking n)) (out-held e k (here-line e C) (omega arith)))
+      leaf-held k Newlock l v (taking (outHere S p e)) C (ap (λ (n : ℕ). Leaf (taking n)) (out-held e k (here-index e C) (omega arith)))
   held-shows k inside vars (unary Lock l v e₁) C i =
       let D = here-part Lock l v e₁ C in
       unary-held k Lock l v e₁ (After (giving (inHere S p e₁))) C (ap (λ (n : ℕ). Unary (After (giving n))) (part-in k e₁ D (omega arith))) (held-shows (k + 1) inside vars e₁ D (omega arith))
@@ -194,8 +193,8 @@ module _ (w : List ℕ) (column : Column) (ss : List Step) (S : Split) (H : Hold
   held-shows k inside vars (leaf Newrwlock l v) C i =
       let e = leaf Newrwlock l v in
       leaf-held k Newrwlock l v (lending (v * readHere S p e) (writeHere S p e)) C
-      (ap₂ (λ (n m : ℕ). Leaf (lending n m)) (ap₂ _*_ (leaf-number Newrwlock l v C) (read-held e k (here-line e C) (omega arith)))
-      (write-held e k (here-line e C) (omega arith)))
+      (ap₂ (λ (n m : ℕ). Leaf (lending n m)) (ap₂ _*_ (leaf-number Newrwlock l v C) (read-held e k (here-index e C) (omega arith)))
+      (write-held e k (here-index e C) (omega arith)))
   held-shows k inside vars (unary Rdlock l v e₁) C i =
       let D = here-part Rdlock l v e₁ C in
       unary-held k Rdlock l v e₁ (After (giving (readHere S p e₁))) C (ap (λ (n : ℕ). Unary (After (giving n))) (part-read k e₁ D (omega arith))) (held-shows (k + 1) inside vars e₁ D (omega arith))

@@ -1,7 +1,6 @@
 pub mod Listed
 pub mod StructureLaws
 pub mod ScopeLaws
-pub mod Standing
 pub mod Tables
 pub mod Walk
 pub mod LineLaws

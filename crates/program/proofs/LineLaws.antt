@@ -9,9 +9,10 @@ use lib.ListN.{length, getD, take, drop, length-drop}
 use borrow.Author.Tests.{le-leb, lt-leb}
 use Rattle.spec.specs.Choice.{if_then_else_}
 use Rattle.spec.specs.Text.{bytes, same, lines, Field, lookUp}
-use Rattle.spec.specs.Reading.{programSheet, stop, _>>=_, Seen, right, wrong, badForm, badRange, freelock, seen, wrongAfter, Range, _to_, inRange, allInRange, numerals, ranged, numbers, form, outside, miscounted, faulty, passed, nextLine, next}
+use Rattle.spec.specs.Reading.{programSheet, stop, on, _>>=_, Seen, right, wrong, badForm, badRange, freelock, seen, wrongAfter, Range, _to_, inRange, allInRange, numerals, ranged, numbers, form, outside, miscounted, faulty, passed, nextLine, next}
 use Rattle.spec.specs.Expression.{Step}
-use Rattle.spec.specs.Program.{firstNumber, countLine, words, valueRange, stepOf, wordLine, stepLine}
+use Rattle.spec.specs.Program.{firstNumber, countLine, stepOf, wordLine, stepLine}
+use Rattle.spec.specs.Words.{words, leastValue, largestValue, valueRange}
 use Rattle.spec.specs.declared.Refusal.the-variants.{ProgramForm, ProgramRange, ProgramLines, Freelock}
 use Rattle.spec.specs.declared.Word.{Word}
 use Rattle.spec.specs.declared.Word.the-variants.{Leaf, Unary, Binary}
@@ -33,7 +34,7 @@ use Rattle.lexer.proofs.Places.{span-field}
 use Rattle.lexer.proofs.Walks.{start-placed, start-rest, span-end, span-line-kept, span-comma, left-none, left-some, first-wrong, first-alone}
 use Rattle.lexer.proofs.Stored.{Narrow}
 use Rattle.lexer.proofs.Ranges.{tail-form, tail-read}
-use Rattle.program.specs.Lines.{TailShown, countAt, CountShown, leastOf, limitOf, FreelockAt, stepAt, StepShown}
+use Rattle.program.specs.Lines.{TailShown, countAt, CountShown, FreelockAt, stepAt, StepShown}
 use Rattle.program.specs.declared.lines.Tail.the-variants.{Value, Malformed}
 use Rattle.program.specs.declared.lines.CountLine.the-variants as count
 use Rattle.program.specs.declared.lines.StepLine.the-variants as step
@@ -119,21 +120,21 @@ module _ (text : List ℕ) (c : Cursor) (s : Span) (f : FreelockAt text c s) whe
   some-line : 0 < length (rest text c)
   some-line = left-some (rest text c) (f .left)
 
-  freelock-shows : (fs : List Field) → stepLine (firstField (rest text c) ∷ fs) ≡ wrongAfter freelock (numbers ((0 to 0) ∷ []) fs)
+  freelock-shows : (fs : List Field) → stepLine (c .line + 1) (firstField (rest text c) ∷ fs) ≡ wrongAfter freelock (numbers ((0 to 0) ∷ []) fs)
   unfolding stepLine
   freelock-shows fs = rw (f .word) refl
 
   pub freelock-malformed : TailShown text (s .next) (s .end) Malformed → stepAt text c ≡ stop (ProgramForm (c .line + 1))
   unfolding stepAt next placeAt wrongAfter
   freelock-malformed h =
-      tail-malformed stepLine (wrongAfter freelock) refl (0 to 0) text c s (f .field) (f .placed) some-line freelock-shows h
+      tail-malformed (stepLine (c .line + 1)) (wrongAfter freelock) refl (0 to 0) text c s (f .field) (f .placed) some-line freelock-shows h
 
   module _ (v : ℕ) (d : Cursor) (h : TailShown text (s .next) (s .end) (Value v d)) where
     freelock-reads : stepAt text c
         ≡ passed programSheet (c .line + 1) (lines (rest text d)) (wrongAfter freelock (if inRange (0 to 0) v then right (v ∷ []) else wrong badRange))
     unfolding stepAt next placeAt wrongAfter
     freelock-reads =
-        tail-shows stepLine (wrongAfter freelock) refl (0 to 0) text c s (f .field) (f .placed) some-line freelock-shows (omega arith) v d h
+        tail-shows (stepLine (c .line + 1)) (wrongAfter freelock) refl (0 to 0) text c s (f .field) (f .placed) some-line freelock-shows (omega arith) v d h
 
     pub freelock-over : 0 < v → stepAt text c ≡ stop (ProgramRange (c .line + 1))
     unfolding faulty passed wrongAfter outside
@@ -145,22 +146,8 @@ module _ (text : List ℕ) (c : Cursor) (s : Span) (f : FreelockAt text c s) whe
 
 -- ------------------------------------------------------------------ step lines
 
-range-of : (w : Word) → valueRange w ≡ (leastOf w to limitOf w)
-unfolding valueRange
-range-of (Leaf Var) = refl
-range-of (Leaf Int) = refl
-range-of (Leaf Newtid) = refl
-range-of (Leaf Newlock) = refl
-range-of (Leaf Newsem) = refl
-range-of (Leaf Newrwlock) = refl
-range-of (Unary w) = refl
-range-of (Binary Let) = refl
-range-of (Binary If) = refl
-range-of (Binary Spawn) = refl
-range-of (Binary Write) = refl
-
 value-narrow : (w : Word) → Narrow (valueRange w)
-unfolding valueRange
+unfolding valueRange largestValue
 value-narrow (Leaf Var) = omega arith
 value-narrow (Leaf Int) = omega arith
 value-narrow (Leaf Newtid) = omega arith
@@ -173,23 +160,23 @@ value-narrow (Binary If) = omega arith
 value-narrow (Binary Spawn) = omega arith
 value-narrow (Binary Write) = omega arith
 
-under-least : (w : Word) (v : ℕ) → v < leastOf w → inRange (valueRange w) v ≡ false
-unfolding inRange
-under-least w v l = rw (range-of w, lt-leb (leastOf w) v l) refl
+under-least : (w : Word) (v : ℕ) → v < leastValue w → inRange (valueRange w) v ≡ false
+unfolding inRange valueRange
+under-least w v l = rw (lt-leb (leastValue w) v l) refl
 
-within-limit : (w : Word) (v : ℕ) → leastOf w ≤ v → v ≤ limitOf w → inRange (valueRange w) v ≡ true
-unfolding inRange
-within-limit w v l h = rw (range-of w, le-leb (leastOf w) v l, le-leb v (limitOf w) h) refl
+within-limit : (w : Word) (v : ℕ) → leastValue w ≤ v → v ≤ largestValue w → inRange (valueRange w) v ≡ true
+unfolding inRange valueRange
+within-limit w v l h = rw (le-leb (leastValue w) v l, le-leb v (largestValue w) h) refl
 
-over-limit : (w : Word) (v : ℕ) → leastOf w ≤ v → limitOf w < v → inRange (valueRange w) v ≡ false
-unfolding inRange
-over-limit w v l h = rw (range-of w, le-leb (leastOf w) v l, lt-leb v (limitOf w) h) refl
+over-limit : (w : Word) (v : ℕ) → leastValue w ≤ v → largestValue w < v → inRange (valueRange w) v ≡ false
+unfolding inRange valueRange
+over-limit w v l h = rw (le-leb (leastValue w) v l, lt-leb v (largestValue w) h) refl
 
 module _ (text : List ℕ) (c : Cursor) where
   -- no line is left
   pub step-missing : nothing (rest text c) ≡ true → StepShown text c (step.Refused (ProgramLines (c .line)))
   unfolding stepAt miscounted
-  step-missing e = next-at-none programSheet text stepLine c (left-none (rest text c) e)
+  step-missing e = next-at-none programSheet text (stepLine (c .line + 1)) c (left-none (rest text c) e)
 
   module _
       (e : nothing (rest text c) ≡ false)
@@ -200,38 +187,39 @@ module _ (text : List ℕ) (c : Cursor) where
     where
       pub step-unknown : lookUp words (firstField (rest text c)) ≡ none → StepShown text c (step.Refused (ProgramForm (c .line + 1)))
       unfolding stepAt next placeAt form stepLine wordLine
-      step-unknown u = first-wrong programSheet stepLine (c .line) (rest text c) (left-some (rest text c) e) (λ fs. rw (other, u) refl)
+      step-unknown u = first-wrong programSheet (stepLine (c .line + 1)) (c .line) (rest text c) (left-some (rest text c) e) (λ fs. rw (other, u) refl)
 
       module _ (w : Word) (k : lookUp words (firstField (rest text c)) ≡ some w) where
-        step-shows : (fs : List Field) → stepLine (firstField (rest text c) ∷ fs) ≡ seen (stepOf w) (numbers (valueRange w ∷ []) fs)
+        step-shows : (fs : List Field) → stepLine (c .line + 1) (firstField (rest text c) ∷ fs) ≡ seen (stepOf (c .line + 1) w) (numbers (valueRange w ∷ []) fs)
         unfolding stepLine wordLine
         step-shows fs = rw (other, k) refl
 
         pub step-malformed : TailShown text (s .next) (s .end) Malformed → StepShown text c (step.Refused (ProgramForm (c .line + 1)))
         unfolding stepAt next placeAt seen
         step-malformed h =
-            tail-malformed stepLine (seen (stepOf w)) refl (valueRange w) text c s is p (left-some (rest text c) e) step-shows h
+            tail-malformed (stepLine (c .line + 1)) (seen (stepOf (c .line + 1) w)) refl (valueRange w) text c s is p (left-some (rest text c) e) step-shows h
 
         module _ (v : ℕ) (d : Cursor) (h : TailShown text (s .next) (s .end) (Value v d)) where
           step-reads : stepAt text c
-              ≡ passed programSheet (c .line + 1) (lines (rest text d)) (seen (stepOf w) (if inRange (valueRange w) v then right (v ∷ []) else wrong badRange))
+              ≡ passed programSheet (c .line + 1) (lines (rest text d)) (seen (stepOf (c .line + 1) w) (if inRange (valueRange w) v then right (v ∷ []) else wrong badRange))
           unfolding stepAt next placeAt seen
-          step-reads = tail-shows stepLine (seen (stepOf w)) refl (valueRange w) text c s is p (left-some (rest text c) e) step-shows (value-narrow w) v d h
+          step-reads = tail-shows (stepLine (c .line + 1)) (seen (stepOf (c .line + 1) w)) refl (valueRange w) text c s is p (left-some (rest text c) e) step-shows (value-narrow w) v d h
 
-          pub step-under : v < leastOf w → StepShown text c (step.Refused (ProgramRange (c .line + 1)))
+          pub step-under : v < leastValue w → StepShown text c (step.Refused (ProgramRange (c .line + 1)))
           unfolding faulty passed seen outside
           step-under l = step-reads ∙ rw (under-least w v l) refl
 
-          pub step-over : leastOf w ≤ v → limitOf w < v → StepShown text c (step.Refused (ProgramRange (c .line + 1)))
+          pub step-over : leastValue w ≤ v → largestValue w < v → StepShown text c (step.Refused (ProgramRange (c .line + 1)))
           unfolding faulty passed seen outside
           step-over l m = step-reads ∙ rw (over-limit w v l m) refl
 
-          pub step-right : leastOf w ≤ v → v ≤ limitOf w → StepShown text c (step.Step w v d)
+          pub step-right : leastValue w ≤ v → v ≤ largestValue w → StepShown text c (step.Step w v d)
           unfolding seen stepOf firstNumber
           step-right l m =
               let line = tail-line text c s is v d h in
-              let one : Step = record { word = w; value = v } in
-              (step-reads ∙ rw (within-limit w v l m) (passed-at programSheet text one c d line), m, h .2)
+              let one : Step = record { word = w; value = v; line = c .line + 1 } in
+              let told : stepAt text c ≡ on (one, placeAt text d) = step-reads ∙ rw (within-limit w v l m) (passed-at programSheet text one c d line) in
+              (told ∙ ap (λ i. on (record { word = w; value = v; line = i }, placeAt text d)) (sym line), m, h .2, line)
 
 -- ------------------------------------------------------------------ line 1
 

@@ -10,17 +10,18 @@ use lib.ListN.{length, getD, set, replicate, length-set, length-append}
 use lib.Seq.{getD-set-same, getD-set-other, set-out}
 use borrow.Author.Tests.{le-leb, lt-leb, le-ltb, lt-ltb}
 use Rattle.spec.specs.Reading.{Out, stop, on}
+use Rattle.spec.specs.Words.{role}
 use Rattle.spec.specs.declared.Refusal.{Refusal}
 use Rattle.spec.specs.declared.Refusal.the-variants.{Unbound}
 use Rattle.spec.specs.declared.Word.{Word}
-use Rattle.workspace.specs.Layout.{wordsAt, valuesAt, endsAt, letsAt, wordOf}
+use Rattle.workspace.specs.Layout.{wordsAt, valuesAt, endsAt, letsAt, wordOf, workSize, linesAt}
 use Rattle.workspace.specs.Region.{Region, ChangedWithin}
 use Rattle.workspace.proofs.Region.{region-empty, region-push, changed-nothing, changed-store, changed-then}
-use Rattle.program.specs.Stored.{wordAt, valueAt}
-use Rattle.program.specs.Scopes.{roleOf, unbound, judgeLet, judgeVar, judgeBy, judgeOf, storing, judged, scopesFrom, Scoped}
+use Rattle.workspace.specs.Steps.{wordAt, valueAt, lineAt}
+use Rattle.program.specs.Scopes.{unbound, judgeLet, judgeVar, judgeBy, judgeOf, storing, judged, scopesFrom, Scoped}
 use Rattle.program.specs.declared.Outcome.the-variants as outcome
-use Rattle.program.specs.declared.binders.Role.{Role}
-use Rattle.program.specs.declared.binders.Role.the-variants.{Binds, Uses, Neither}
+use Rattle.spec.specs.declared.Role.{Role}
+use Rattle.spec.specs.declared.Role.the-variants.{Binds, Uses, Neither}
 use Rattle.program.specs.declared.binders.Judged.{Judged}
 use Rattle.program.specs.declared.binders.Judged.the-variants.{Bind, Store, Refused}
 
@@ -39,13 +40,13 @@ replicate-any (suc n) (suc v) x = replicate-any n v x
 
 -- a use of a variable whose let is at b, as the code tells its cases apart
 module _ (w : List ℕ) (k b at x : ℕ) (lb : b < 256) (ea : at ≡ b) (ex : x ≡ getD w (endsAt + (at + 1)) 0) where
-  pub used-early : k < x → Refused (Unbound (k + 2)) ≡ judgeVar w k b
-  unfolding judgeVar
+  pub used-early : k < x → Refused (Unbound (getD w (linesAt + k) 0)) ≡ judgeVar w k b
+  unfolding judgeVar lineAt
   used-early h = simp (lt-leb _ _ lb, ← ea, ← ex, lt-ltb _ _ h)
 
   module _ (y : ℕ) (hx : x ≤ k) (ey : y ≡ getD w (endsAt + at) 0) where
-    pub used-late : y ≤ k → Refused (Unbound (k + 2)) ≡ judgeVar w k b
-    unfolding judgeVar
+    pub used-late : y ≤ k → Refused (Unbound (getD w (linesAt + k) 0)) ≡ judgeVar w k b
+    unfolding judgeVar lineAt
     used-late h = rw (lt-leb _ _ lb, ← ea, ← ex, ← ey, le-ltb _ _ hx, le-leb _ _ h)
 
     pub used-inside : k < y → Store b ≡ judgeVar w k b
@@ -54,23 +55,27 @@ module _ (w : List ℕ) (k b at x : ℕ) (lb : b < 256) (ea : at ≡ b) (ex : x 
 
 -- what is judged does not depend on what is stored of lets
 module _ (w w′ : List ℕ) (x : ChangedWithin letsAt (letsAt + 256) w w′) (k b : ℕ) (h : k < 256) (o : (b ≡ 256) ⊎ (b < k)) where
+  line-kept : lineAt w′ k ≡ lineAt w k
+  unfolding lineAt
+  line-kept = x .kept (linesAt + k) (inr (omega arith))
+
   judge-var-kept : judgeVar w′ k b ≡ judgeVar w k b
   unfolding judgeVar
   judge-var-kept =
       ⊎-elim
-      (λ e. rw e refl)
-      (λ l. rw (x .kept (endsAt + (b + 1)) (inl (omega arith)), x .kept (endsAt + b) (inl (omega arith))) refl)
+      (λ e. rw e (ap (λ i. Refused (Unbound i)) line-kept))
+      (λ l. rw (line-kept, x .kept (endsAt + (b + 1)) (inl (omega arith)), x .kept (endsAt + b) (inl (omega arith))) refl)
       o
 
   judge-by-kept : (r : Role) → judgeBy w′ k b r ≡ judgeBy w k b r
   unfolding judgeBy
-  judge-by-kept Binds = refl
+  judge-by-kept Binds = ap (λ i. judgeLet i b) line-kept
   judge-by-kept Uses = judge-var-kept
   judge-by-kept Neither = refl
 
   judge-kept : judgeOf w′ k b ≡ judgeOf w k b
   unfolding judgeOf wordAt
-  judge-kept = rw (x .kept (wordsAt + k) (inl (omega arith))) (judge-by-kept (roleOf (wordOf (getD w (wordsAt + k) 0))))
+  judge-kept = rw (x .kept (wordsAt + k) (inl (omega arith))) (judge-by-kept (role (wordOf (getD w (wordsAt + k) 0))))
 
 -- ------------------------------------------------------------------ the steps so far
 
@@ -109,7 +114,7 @@ pub record ScopesSoFar (n : ℕ) (w₀ w t : List ℕ) (k : ℕ) : Type 0 where
   pub changed : ChangedWithin letsAt (letsAt + 256) w₀ w
   pub rest : scopesFrom w₀ n 0 unbound ≡ after stored (scopesFrom w₀ (n - k) k t)
 
-pub start : (n : ℕ) (w : List ℕ) → length w ≡ 16384 → ScopesSoFar n w w unbound 0
+pub start : (n : ℕ) (w : List ℕ) → length w ≡ workSize → ScopesSoFar n w w unbound 0
 unfolding unbound after
 start n w h = record {
   few = omega arith;
@@ -134,7 +139,7 @@ module _ (n : ℕ) (w₀ w t : List ℕ) (k : ℕ) (s : ScopesSoFar n w₀ w t k
       ∙ ap on (append-nil (s .stored)) in
       record { found = rw f (refl, s .held); changed = s .changed }
 
-  module _ (v b : ℕ) (j : Judged) (hw : length w₀ ≡ 16384) (hn : n ≤ 256) (h : k < n) (hv : v ≡ getD w (valuesAt + k) 0)
+  module _ (v b : ℕ) (j : Judged) (hw : length w₀ ≡ workSize) (hn : n ≤ 256) (h : k < n) (hv : v ≡ getD w (valuesAt + k) 0)
       (hb : b ≡ getD t v 256) (hj : j ≡ judgeOf w k b) where
     step : scopesFrom w₀ (n - k) k t ≡ judged (λ u. scopesFrom w₀ (n - (k + 1)) (k + 1) u) k t v j
     unfolding scopesFrom valueAt
@@ -198,13 +203,13 @@ module _ (n : ℕ) (w₀ w t : List ℕ) (k : ℕ) (s : ScopesSoFar n w₀ w t k
         (step ∙ ap (judged (λ u. scopesFrom w₀ (n - (k + 1)) (k + 1) u) k t v) p))
 
 -- a step judged by what its word does
-module _ (w : List ℕ) (k b : ℕ) {x : Word} {r : Role} (e : x ≡ wordOf (getD w (wordsAt + k) 0)) (f : r ≡ roleOf x) where
+module _ (w : List ℕ) (k b : ℕ) {x : Word} {r : Role} (e : x ≡ wordOf (getD w (wordsAt + k) 0)) (f : r ≡ role x) where
   judged-by : (s : Role) → r ≡ s → judgeBy w k b s ≡ judgeOf w k b
   unfolding judgeOf wordAt
-  judged-by s g = ap (judgeBy w k b) (sym g ∙ f ∙ ap roleOf e)
+  judged-by s g = ap (judgeBy w k b) (sym g ∙ f ∙ ap role e)
 
-  pub judged-let : r ≡ Binds → judgeLet k b ≡ judgeOf w k b
-  unfolding judgeBy
+  pub judged-let : r ≡ Binds → judgeLet (getD w (linesAt + k) 0) b ≡ judgeOf w k b
+  unfolding judgeBy lineAt
   judged-let = judged-by Binds
 
   pub judged-var : r ≡ Uses → judgeVar w k b ≡ judgeOf w k b

@@ -1,30 +1,30 @@
 -- Laws of where stored steps end. A step ends where its parts end; steps one after the other end where the last one ends.
 use mathlib.Core.Path.{_≡_, refl, sym, ap, subst, _∙_}
-use mathlib.Core.Logic.{inl}
+use mathlib.Core.Logic.{inl, inr}
 use mathlib.Core.List.{List, [], _∷_, _++_, append-nil}
 use Prim.Native.Nat.{ℕ, suc, zero, _+_, _-_, _<_, _≤_}
 use native.Mathlib.Omega.{arith}
 use native.Mathlib.Nat.{sub-zero}
-use lib.ListN.{length, getD, set}
-use borrow.Author.Tests.{eq-eqb, ne-eqb}
-use Rattle.spec.specs.Expression.{Expr, size, withParts, listed, single}
+use lib.ListN.{length, getD, drop, set}
+use Rattle.spec.specs.Expression.{Position, Expr, size, withParts, listed, whole, single}
 use Rattle.spec.specs.declared.Refusal.the-variants.{ProgramLines}
 use Rattle.spec.specs.declared.Word.{Word}
 use Rattle.spec.specs.declared.Word.the-variants.{Leaf, Unary, Binary}
-use Rattle.workspace.specs.Layout.{wordsAt, valuesAt, endsAt, wordOf}
+use Rattle.workspace.specs.Layout.{endsAt, linesAt, wordOf, wordsAt, workSize}
 use Rattle.workspace.specs.Holds.{ends}
 use Rattle.spec.proofs.Listing.{size-positive}
 use Rattle.workspace.proofs.Held.{ends-length}
 use Rattle.workspace.specs.Region.{Region, ChangedWithin}
+use Rattle.workspace.proofs.Steps.{steps-length, steps-drop, steps-kept-beside}
 use Rattle.workspace.proofs.Region.{region-empty, region-front, region-append, region-kept, changed-nothing, changed-store, changed-then, changed-wider}
-use Rattle.program.specs.Stored.{partsOf, wordAt, valueAt, stepsIn}
-use Rattle.program.specs.Structure.{listedFrom, reached, endsOf, Ended, Structured}
+use Rattle.workspace.specs.Steps.{wordAt, valueAt, lineAt, stepsFrom}
+use Rattle.program.specs.Structure.{partsOf, listedFrom, reached, endsOf, Ended, Structured}
 use Rattle.program.specs.Outcomes.{Answers}
 use Rattle.program.specs.declared.Outcome.{Outcome}
 use Rattle.program.specs.declared.Outcome.the-variants.{Passed, Refused}
 use Rattle.program.specs.declared.tree.Ending.{Ending}
 use Rattle.program.specs.declared.tree.Ending.the-variants.{Reached, Unfinished}
-use Rattle.program.proofs.Listed.{total, total-listed, behind-first, first-fits, steps-length, steps-drop}
+use Rattle.program.proofs.Listed.{total, total-listed, behind-first}
 
 never : {e : ℕ} → Unfinished ≡ Reached e → ⊥
 never {e} p = let z : _≡_ {A = ℕ} 0 1 = cc in omega arith
@@ -34,7 +34,7 @@ same-end {d} {e} p = cc
 
 -- ------------------------------------------------------------------ a step and its parts
 
-step-reached : (x : Word) (l v k : ℕ) (es : List Expr) → reached 1 k (withParts x l v es) ≡ reached (partsOf x) (k + 1) es
+step-reached : (x : Word) (l : Position) (v k : ℕ) (es : List Expr) → reached 1 k (withParts x l v es) ≡ reached (partsOf x) (k + 1) es
 unfolding withParts reached size
 step-reached (Leaf w) l v k es = refl
 step-reached (Unary w) l v k [] = refl
@@ -43,7 +43,7 @@ step-reached (Binary w) l v k [] = refl
 step-reached (Binary w) l v k (e₁ ∷ []) = refl
 step-reached (Binary w) l v k (e₁ ∷ e₂ ∷ es) = ap Reached (omega arith)
 
-step-ends : (x : Word) (l v k : ℕ) (es : List Expr) (e : ℕ) → reached (partsOf x) (k + 1) es ≡ Reached e
+step-ends : (x : Word) (l : Position) (v k : ℕ) (es : List Expr) (e : ℕ) → reached (partsOf x) (k + 1) es ≡ Reached e
     → endsOf 1 k (withParts x l v es) ≡ e ∷ endsOf (partsOf x) (k + 1) es
 unfolding withParts reached endsOf ends size
 step-ends (Leaf w) l v k es e p = ap (λ i. i ∷ []) (same-end p)
@@ -55,7 +55,7 @@ step-ends (Binary w) l v k (x ∷ y ∷ es) e p =
     let q : k + suc (size x + size y) ≡ e = omega (arith, same-end p) in
     rw (q, append-nil (ends (k + 1) x ++ ends (k + 1 + size x) y), append-nil (ends (k + 1 + size x) y)) refl
 
-step-unended : (x : Word) (l v k : ℕ) (es : List Expr) → reached (partsOf x) (k + 1) es ≡ Unfinished → endsOf 1 k (withParts x l v es) ≡ []
+step-unended : (x : Word) (l : Position) (v k : ℕ) (es : List Expr) → reached (partsOf x) (k + 1) es ≡ Unfinished → endsOf 1 k (withParts x l v es) ≡ []
 unfolding withParts reached endsOf
 step-unended (Leaf w) l v k es p = absurd (never (sym p))
 step-unended (Unary w) l v k [] p = refl
@@ -66,43 +66,30 @@ step-unended (Binary w) l v k (x ∷ y ∷ es) p = absurd (never (sym p))
 
 -- ------------------------------------------------------------------ what is stored
 
+-- where the step at index k stands
+abbrev positionAt : List ℕ → (k : ℕ) → Position
+positionAt w k = record { index = k; line = lineAt w k }
+
 listed-step : (w : List ℕ) (n k : ℕ) → k < n
-    → listedFrom w n k ≡ withParts (wordAt w k) (k + 2) (valueAt w k) (listedFrom w n (k + 1))
-unfolding listedFrom stepsIn listed
-listed-step w n k h =
-    let e : n - k ≡ suc (n - (k + 1)) = omega arith in
-    let f : k + 2 + 1 ≡ k + 1 + 2 = omega arith in
-    rw (e, f) refl
+    → listedFrom w n k ≡ withParts (wordAt w k) (positionAt w k) (valueAt w k) (listedFrom w n (k + 1))
+unfolding listedFrom stepsFrom listed
+listed-step w n k h = let e : n - k ≡ suc (n - (k + 1)) = omega arith in rw e refl
 
 listed-none : (w : List ℕ) (n k : ℕ) → n ≤ k → listedFrom w n k ≡ []
-unfolding listedFrom stepsIn listed
+unfolding listedFrom stepsFrom listed
 listed-none w n k h = let e : n - k ≡ 0 = omega arith in rw e refl
 
 listed-behind : (w : List ℕ) (n k : ℕ) (e : Expr) (es : List Expr) → listedFrom w n k ≡ e ∷ es → es ≡ listedFrom w n (k + size e)
 unfolding listedFrom
 listed-behind w n k e es p =
-    let q : k + 2 + size e ≡ k + size e + 2 = omega arith in
     let m : n - k - size e ≡ n - (k + size e) = omega arith in
-    behind-first (k + 2) (stepsIn w k (n - k)) e es p ∙ rw (steps-drop w k (n - k) (size e), q, m) refl
+    behind-first k (stepsFrom w k (n - k)) e es p ∙ rw (steps-drop w k (n - k) (size e), m) refl
 
-listed-fits : (w : List ℕ) (n k : ℕ) (e : Expr) (es : List Expr) → k ≤ n → listedFrom w n k ≡ e ∷ es → k + size e ≤ n
+-- storing ends leaves what is listed as it is
+listed-kept : (w w′ : List ℕ) (a : ℕ) → ChangedWithin (endsAt + a) (endsAt + 256) w w′ → (n k : ℕ) → n ≤ 256 → k ≤ n
+    → listedFrom w′ n k ≡ listedFrom w n k
 unfolding listedFrom
-listed-fits w n k e es h p =
-    omega (arith, first-fits (k + 2) (stepsIn w k (n - k)) e es p, steps-length w k (n - k))
-
--- storing ends leaves the steps as they are
-module _ (w w′ : List ℕ) (a : ℕ) (x : ChangedWithin (endsAt + a) (endsAt + 256) w w′) where
-  pub steps-kept : (k m : ℕ) → k + m ≤ 256 → stepsIn w′ k m ≡ stepsIn w k m
-  unfolding stepsIn wordAt valueAt
-  steps-kept k zero h = refl
-  steps-kept k (suc m) h =
-      rw
-      (x .kept (wordsAt + k) (inl (omega arith)), x .kept (valuesAt + k) (inl (omega arith)), steps-kept (k + 1) m (omega arith))
-      refl
-
-  pub listed-kept : (n k : ℕ) → n ≤ 256 → k ≤ n → listedFrom w′ n k ≡ listedFrom w n k
-  unfolding listedFrom
-  listed-kept n k h l = rw (steps-kept k (n - k) (omega arith)) refl
+listed-kept w w′ a x n k h l = rw (steps-kept-beside x (inl (omega arith, omega arith)) k (n - k) (omega arith)) refl
 
 -- ------------------------------------------------------------------ where reading ends
 
@@ -129,7 +116,7 @@ pub within : (n m k e : ℕ) (w w′ : List ℕ) (r : Ending) → k ≤ n → En
 unfolding listedFrom
 within n m k e w w′ r h x p =
     let t : e ≡ k + total m (listedFrom w n k) = reached-total m k e (listedFrom w n k) (sym (x .answer) ∙ p) in
-    let l : total m (listedFrom w n k) ≤ n - k = omega (arith, total-listed (k + 2) (stepsIn w k (n - k)) m, steps-length w k (n - k)) in
+    let l : total m (listedFrom w n k) ≤ n - k = omega (arith, total-listed k (stepsFrom w k (n - k)) m, steps-length w k (n - k)) in
     (omega arith, omega arith)
 
 pub past : (n k e : ℕ) (w w′ : List ℕ) (r : Ending) → Ended n 1 k w w′ r → r ≡ Reached e → k < e
@@ -141,7 +128,7 @@ past n k e w w′ r x p =
 one-less : (m : ℕ) → (m ≡ 0 → ⊥) → m ≡ suc (m - 1)
 one-less m z = omega arith
 
-module _ (n m k : ℕ) (w : List ℕ) (hw : length w ≡ 16384) (hn : n ≤ 256) (hk : k ≤ n) where
+module _ (n m k : ℕ) (w : List ℕ) (hw : length w ≡ workSize) (hn : n ≤ 256) (hk : k ≤ n) where
   pub parts-none : m ≡ 0 → Ended n m k w w (Reached k)
   unfolding reached endsOf
   parts-none z = record {
@@ -206,7 +193,7 @@ module _ (n m k : ℕ) (w : List ℕ) (hw : length w ≡ 16384) (hn : n ≤ 256)
 
 -- ------------------------------------------------------------------ reading one step
 
-module _ (n k : ℕ) (w : List ℕ) (hw : length w ≡ 16384) (hn : n ≤ 256) where
+module _ (n k : ℕ) (w : List ℕ) (hw : length w ≡ workSize) (hn : n ≤ 256) where
   pub step-none : k ≤ n → n ≤ k → Ended n 1 k w w Unfinished
   unfolding reached endsOf
   step-none l h = record {
@@ -216,7 +203,7 @@ module _ (n k : ℕ) (w : List ℕ) (hw : length w ≡ 16384) (hn : n ≤ 256) w
   }
 
   module _ (m : ℕ) (w₁ : List ℕ) (r : Ending) (l : k < n) (a : m ≡ partsOf (wordOf (getD w (wordsAt + k) 0))) (x : Ended n m (k + 1) w w₁ r) where
-    parts : listedFrom w n k ≡ withParts (wordAt w k) (k + 2) (valueAt w k) (listedFrom w n (k + 1))
+    parts : listedFrom w n k ≡ withParts (wordAt w k) (positionAt w k) (valueAt w k) (listedFrom w n (k + 1))
     parts = listed-step w n k l
 
     read : r ≡ reached (partsOf (wordAt w k)) (k + 1) (listedFrom w n (k + 1))
@@ -224,7 +211,7 @@ module _ (n k : ℕ) (w : List ℕ) (hw : length w ≡ 16384) (hn : n ≤ 256) w
     read = x .answer ∙ ap (λ i. reached i (k + 1) (listedFrom w n (k + 1))) a
 
     answer : r ≡ reached 1 k (listedFrom w n k)
-    answer = read ∙ sym (ap (reached 1 k) parts ∙ step-reached (wordAt w k) (k + 2) (valueAt w k) k (listedFrom w n (k + 1)))
+    answer = read ∙ sym (ap (reached 1 k) parts ∙ step-reached (wordAt w k) (positionAt w k) (valueAt w k) k (listedFrom w n (k + 1)))
 
     near : ChangedWithin (endsAt + k) (endsAt + 256) w w₁
     near = changed-wider (endsAt + k) (endsAt + 256) (omega arith) (omega arith) (x .changed)
@@ -232,7 +219,7 @@ module _ (n k : ℕ) (w : List ℕ) (hw : length w ≡ 16384) (hn : n ≤ 256) w
     pub step-open : r ≡ Unfinished → Ended n 1 k w w₁ Unfinished
     step-open p = record {
       answer = sym p ∙ answer;
-      marks = rw (parts, step-unended (wordAt w k) (k + 2) (valueAt w k) k (listedFrom w n (k + 1)) (sym read ∙ p))
+      marks = rw (parts, step-unended (wordAt w k) (positionAt w k) (valueAt w k) k (listedFrom w n (k + 1)) (sym read ∙ p))
           (region-empty w₁ (endsAt + k) (omega (arith, near .long)));
       changed = near;
     }
@@ -241,7 +228,7 @@ module _ (n k : ℕ) (w : List ℕ) (hw : length w ≡ 16384) (hn : n ≤ 256) w
     unfolding wordAt
     step-more e p = record {
       answer = sym p ∙ answer;
-      marks = rw (parts, step-ends (wordAt w k) (k + 2) (valueAt w k) k (listedFrom w n (k + 1)) e (sym read ∙ p), ← a)
+      marks = rw (parts, step-ends (wordAt w k) (positionAt w k) (valueAt w k) k (listedFrom w n (k + 1)) e (sym read ∙ p), ← a)
           (region-front w₁ (endsOf m (k + 1) (listedFrom w n (k + 1))) (endsAt + k) e (omega (arith, near .long)) inner);
       changed = changed-then (endsAt + k) (endsAt + 256) near
           (changed-store (endsAt + k) (endsAt + 256) w₁ (endsAt + k) e (omega arith) (omega arith));
@@ -252,35 +239,39 @@ module _ (n k : ℕ) (w : List ℕ) (hw : length w ≡ 16384) (hn : n ≤ 256) w
 
 -- ------------------------------------------------------------------ the one expression
 
-module _ (n : ℕ) (w w′ : List ℕ) (r : Ending) (x : Ended n 1 0 w w′ r) where
+module _ (n last : ℕ) (w w′ : List ℕ) (r : Ending) (x : Ended n 1 0 w w′ r) where
   -- a Structured answer, from what is listed from the first step on
-  structured : (o : Outcome) (es : List Expr) → listedFrom w n 0 ≡ es → Answers (λ e. Region w′ endsAt (ends 0 e)) o (single n es)
-      → Structured n w w′ o
+  structured : (o : Outcome) (es : List Expr) → listedFrom w n 0 ≡ es
+      → Answers (λ e. Region w′ endsAt (ends 0 e)) o (single last (stepsFrom w 0 n) es) → Structured n last w w′ o
   unfolding listedFrom
   structured o es q a = record {
-    found = subst (λ l. Answers (λ e. Region w′ endsAt (ends 0 e)) o (single n l)) (sym q ∙ rw sub-zero refl) a;
+    found = subst (λ l. Answers (λ e. Region w′ endsAt (ends 0 e)) o (single last (stepsFrom w 0 n) l)) (sym q ∙ rw sub-zero refl) a;
     changed = x .changed;
   }
 
-  pub unfinished : r ≡ Unfinished → Structured n w w′ (Refused (ProgramLines (n + 1)))
+  pub unfinished : r ≡ Unfinished → Structured n last w w′ (Refused (ProgramLines last))
   unfolding single
-  unfinished p = structured (Refused (ProgramLines (n + 1))) [] (none-of 0 (listedFrom w n 0) (sym (x .answer) ∙ p)) refl
+  unfinished p = structured (Refused (ProgramLines last)) [] (none-of 0 (listedFrom w n 0) (sym (x .answer) ∙ p)) refl
 
   module _ (e : ℕ) (p : r ≡ Reached e) where
     first : (f : Expr) × (fs : List Expr) × (listedFrom w n 0 ≡ f ∷ fs) × (e ≡ 0 + size f)
     first = first-of 0 e (listedFrom w n 0) (sym (x .answer) ∙ p)
 
-    pub whole : e ≡ n → Structured n w w′ Passed
-    unfolding single endsOf
-    whole h =
-        let s : size (first .0) ≡ n = omega (arith, first .3) in
+    -- the steps behind the first expression
+    behind : drop (size (first .0)) (stepsFrom w 0 n) ≡ stepsFrom w e (n - e)
+    behind = let s : 0 + size (first .0) ≡ e = omega (arith, first .3) in let t : size (first .0) ≡ e = omega (arith, first .3) in steps-drop w 0 n (size (first .0)) ∙ rw (s, t) refl
+
+    pub all-listed : n ≤ e → Structured n last w w′ Passed
+    unfolding single whole endsOf stepsFrom
+    all-listed h =
+        let none-left : n - e ≡ 0 = omega arith in
         let m : Region w′ endsAt (ends 0 (first .0)) =
         subst (Region w′ endsAt) (ap (endsOf 1 0) (first .2) ∙ append-nil (ends 0 (first .0))) (x .marks) in
-        structured Passed (first .0 ∷ first .1) (first .2) (rw (eq-eqb _ _ s) (refl, m))
+        structured Passed (first .0 ∷ first .1) (first .2) (rw (behind, none-left) (refl, m))
 
-    pub early : (e ≡ n → ⊥) → Structured n w w′ (Refused (ProgramLines (e + 2)))
-    unfolding single
-    early h =
-        let s : size (first .0) ≡ n → ⊥ = λ q. h (omega (arith, first .3)) in
-        let l : e + 2 ≡ size (first .0) + 2 = omega (arith, first .3) in
-        structured (Refused (ProgramLines (e + 2))) (first .0 ∷ first .1) (first .2) (rw (ne-eqb _ _ s, l) refl)
+    pub early : e < n → n ≤ 256 → Structured n last w w′ (Refused (ProgramLines (getD w′ (linesAt + e) 0)))
+    unfolding single whole stepsFrom lineAt
+    early h few =
+        let some-left : n - e ≡ suc (n - (e + 1)) = omega arith in
+        let line : getD w′ (linesAt + e) 0 ≡ getD w (linesAt + e) 0 = x .changed .kept (linesAt + e) (inr (omega arith)) in
+        structured (Refused (ProgramLines (getD w′ (linesAt + e) 0))) (first .0 ∷ first .1) (first .2) (rw (behind, some-left, line) refl)

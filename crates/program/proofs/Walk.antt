@@ -11,19 +11,24 @@ use lib.ListN.{length, getD, set}
 use borrow.Author.Tests.{le-leb, lt-leb, lt-ltb, le-ltb, ltb-true, ltb-false}
 use Rattle.spec.specs.Choice.{if_then_else_}
 use Rattle.spec.specs.Reading.{Out, stop, on, _>>=_}
-use Rattle.spec.specs.Expression.{Expr, leaf, unary, binary, size, among, scope}
+use Rattle.spec.specs.Expression.{Step, Position, Expr, leaf, unary, binary, size, among, scopeStep, scope}
+use Rattle.spec.specs.Words.{role, binding, largestValue}
 use Rattle.spec.specs.declared.Refusal.{Refusal}
 use Rattle.spec.specs.declared.Refusal.the-variants.{Unbound, Rebound}
 use Rattle.spec.specs.declared.Word.{Word}
 use Rattle.spec.specs.declared.Word.the-variants.{Binary}
 use Rattle.spec.specs.declared.LeafWord.the-variants.{Var, Int, Newtid, Newlock, Newsem, Newrwlock}
 use Rattle.spec.specs.declared.BinaryWord.the-variants.{Let, If, Spawn, Write}
-use Rattle.workspace.specs.Holds.{letIn, lets}
-use Rattle.program.specs.Scopes.{roleOf, unbound, judgeLet, judgeVar, judgeBy, judgeOf, storing, judged, scopesFrom}
-use Rattle.program.specs.declared.binders.Role.the-variants.{Uses, Neither}
+use Rattle.spec.specs.WellFormed.{prefix}
+use Rattle.workspace.specs.Steps.{wordAt, valueAt, lineAt}
+use Rattle.workspace.specs.Holds.{letIn, letOf, lets}
+use Rattle.workspace.proofs.Codes.{word-of-code}
+use Rattle.workspace.proofs.Expression.{Standing, Head, leaf-head, unary-head, binary-head, standing-end, standing-part, standing-first, standing-second}
+use Rattle.program.specs.Lines.{Limited, none-limited, more-limited}
+use Rattle.program.specs.Scopes.{unbound, judgeLet, judgeVar, judgeBy, judgeOf, storing, judged, scopesFrom}
+use Rattle.spec.specs.declared.Role.the-variants.{Uses, Neither}
 use Rattle.program.specs.declared.binders.Judged.the-variants.{Store, Refused}
 use Rattle.program.proofs.ScopeLaws.{after, after-append, after-stop, after-on, replicate-any}
-use Rattle.program.proofs.Standing.{Head, Stands}
 use Rattle.program.proofs.Tables.{endAt, names, Right, Bound, Extends, Agrees, extends-same, extends-then, agrees-narrow, agrees-onward, let-extends, let-first, let-second}
 
 joined : (xs ys : List ℕ) (o : Out (List ℕ)) → storing 0 (after xs (after ys o)) ≡ after (0 ∷ (xs ++ ys)) o
@@ -54,26 +59,26 @@ one-of r s false false true o = refl
 one-of r s false false false o =
     absurd (⊎-elim (λ e. false≢true e) (λ p. ⊎-elim (λ e. false≢true e) (λ e. false≢true e) p) o)
 
-var-refused : (w : List ℕ) (k b : ℕ) → (256 ≤ b) ⊎ ((k < endAt w (b + 1)) ⊎ (endAt w b ≤ k)) → judgeVar w k b ≡ Refused (Unbound (k + 2))
+var-refused : (w : List ℕ) (k b : ℕ) → (256 ≤ b) ⊎ ((k < endAt w (b + 1)) ⊎ (endAt w b ≤ k)) → judgeVar w k b ≡ Refused (Unbound (lineAt w k))
 unfolding judgeVar
 var-refused w k b o =
-    one-of (Refused (Unbound (k + 2))) (Store b) (leb 256 b) (ltb k (endAt w (b + 1))) (leb (endAt w b) k)
+    one-of (Refused (Unbound (lineAt w k))) (Store b) (leb 256 b) (ltb k (endAt w (b + 1))) (leb (endAt w b) k)
     (⊎-elim
     (λ h. inl (le-leb 256 b h))
     (λ p. inr (⊎-elim (λ h. inl (lt-ltb k (endAt w (b + 1)) h)) (λ h. inr (le-leb (endAt w b) k h)) p))
     o)
 
-module _ (w : List ℕ) (m k : ℕ) (t : List ℕ) {x : Word} {l v : ℕ} (h : Head w k x l v) where
-  step : scopesFrom w (suc m) k t ≡ judged (λ u. scopesFrom w m (k + 1) u) k t v (judgeBy w k (getD t v 256) (roleOf x))
-  unfolding scopesFrom judgeOf
-  step = rw (h .word, h .value) refl
+module _ (w : List ℕ) (m k : ℕ) (t : List ℕ) {x : Word} {l : Position} {v : ℕ} (h : Head w k x l v) where
+  step : scopesFrom w (suc m) k t ≡ judged (λ u. scopesFrom w m (k + 1) u) k t v (judgeBy w k (getD t v 256) (role x))
+  unfolding scopesFrom judgeOf wordAt valueAt
+  step = rw (h .code, h .value, word-of-code x) refl
 
-  step-other : roleOf x ≡ Neither → scopesFrom w (suc m) k t ≡ storing 0 (scopesFrom w m (k + 1) t)
+  step-other : role x ≡ Neither → scopesFrom w (suc m) k t ≡ storing 0 (scopesFrom w m (k + 1) t)
   unfolding judged judgeBy
   step-other e = step ∙ ap (λ r. judged (λ u. scopesFrom w m (k + 1) u) k t v (judgeBy w k (getD t v 256) r)) e
 
   -- a step that neither binds nor uses a variable, alone
-  walk-other : (bound : List ℕ) → roleOf x ≡ Neither → length t ≡ 256 → Bound t bound → Gone w m k 1 (0 ∷ []) t bound
+  walk-other : (bound : List ℕ) → role x ≡ Neither → length t ≡ 256 → Bound t bound → Gone w m k 1 (0 ∷ []) t bound
   unfolding after
   walk-other bound e long b = record {
     table = t;
@@ -84,7 +89,7 @@ module _ (w : List ℕ) (m k : ℕ) (t : List ℕ) {x : Word} {l v : ℕ} (h : H
   }
 
   -- a use of a variable
-  module _ (hi : ℕ) (ins : List (ℕ × ℕ)) (bound : List ℕ) (e : roleOf x ≡ Uses) (hh : k + 1 ≤ hi) (a : Agrees w k hi t ins bound) where
+  module _ (hi : ℕ) (ins : List (ℕ × ℕ)) (bound : List ℕ) (e : role x ≡ Uses) (hh : k + 1 ≤ hi) (a : Agrees w k hi t ins bound) where
     step-use : scopesFrom w (suc m) k t ≡ judged (λ u. scopesFrom w m (k + 1) u) k t v (judgeVar w k (getD t v 256))
     unfolding judgeBy
     step-use = step ∙ ap (λ r. judged (λ u. scopesFrom w m (k + 1) u) k t v (judgeBy w k (getD t v 256) r)) e
@@ -97,17 +102,17 @@ module _ (w : List ℕ) (m k : ℕ) (t : List ℕ) {x : Word} {l v : ℕ} (h : H
         let till : k < endAt w b = omega (arith, r .3) in
         step-use ∙ rw (← q, lt-leb 256 b low, le-ltb k (endAt w (b + 1)) from, lt-leb (endAt w b) k till, r .0) refl
 
-    outside : (i b : ℕ) → b ≡ getD t v 256 → Right w k hi false i b → scopesFrom w (suc m) k t ≡ stop (Unbound l)
-    unfolding judged
+    outside : (i b : ℕ) → b ≡ getD t v 256 → Right w k hi false i b → scopesFrom w (suc m) k t ≡ stop (Unbound (l .line))
+    unfolding judged lineAt
     outside i b q r =
         let o : (256 ≤ b) ⊎ ((k < endAt w (b + 1)) ⊎ (endAt w b ≤ k)) =
         ⊎-elim (λ p. inl p) (λ p. inr (⊎-elim (λ f. inl (omega arith)) (λ f. inr f) p)) r in
         step-use
         ∙ ap (judged (λ u. scopesFrom w m (k + 1) u) k t v)
-        (ap (judgeVar w k) (sym q) ∙ var-refused w k b o ∙ ap (λ i. Refused (Unbound i)) (sym (h .line)))
+        (ap (judgeVar w k) (sym q) ∙ var-refused w k b o ∙ ap (λ i. Refused (Unbound i)) (h .line))
 
     walk-use : (y : Bool) → Right w k hi y (letIn ins v) (getD t v 256)
-        → Walked w m k 1 (letIn ins v ∷ []) t (if y then on bound else stop (Unbound l))
+        → Walked w m k 1 (letIn ins v ∷ []) t (if y then on bound else stop (Unbound (l .line)))
     unfolding after
     walk-use true r = record {
       table = t;
@@ -165,39 +170,39 @@ module _ (w : List ℕ) (m k s₁ s₂ : ℕ) (ls₁ ls₂ t t₀ : List ℕ)
   walk-two (on b₁) more x₁ x₂ = behind b₁ x₁ (more b₁) (x₂ b₁ x₁)
 
 -- a let, and then its two parts
-module _ (w : List ℕ) (m k s₁ s₂ : ℕ) (ls₁ ls₂ t : List ℕ) {l v : ℕ} (h : Head w k (Binary Let) l v) (bound : List ℕ)
-    (end : endAt w k ≡ k + suc (s₁ + s₂)) (long : length t ≡ 256) (bind : Bound t bound) where
-  step-let : scopesFrom w (suc (s₁ + s₂) + m) k t ≡ judged (λ u. scopesFrom w (s₁ + (s₂ + m)) (k + 1) u) k t v (judgeLet k (getD t v 256))
-  unfolding judgeBy
+module _ (w : List ℕ) (m k s₁ s₂ : ℕ) (ls₁ ls₂ t : List ℕ) {l : Position} {v : ℕ} (h : Head w k (Binary Let) l v) (bound : List ℕ)
+    (end : endAt w k ≡ k + suc (s₁ + s₂)) (small : v < 256) (long : length t ≡ 256) (bind : Bound t bound) where
+  step-let : scopesFrom w (suc (s₁ + s₂) + m) k t ≡ judged (λ u. scopesFrom w (s₁ + (s₂ + m)) (k + 1) u) k t v (judgeLet (lineAt w k) (getD t v 256))
+  unfolding judgeBy role
   step-let = let q : suc (s₁ + s₂) + m ≡ suc (s₁ + (s₂ + m)) = omega arith in rw q (step w (s₁ + (s₂ + m)) k t h)
 
   walk-let : (x₀ : among v bound ≡ false → Extends w (k + suc (s₁ + s₂)) t (set t v k))
-      → (o₁ : Out (List ℕ)) (more : List ℕ → Out (List ℕ))
-      → (among v bound ≡ false → Walked w (s₂ + m) (k + 1) s₁ ls₁ (set t v k) o₁)
+      → (o₁ : List ℕ → Out (List ℕ)) (more : List ℕ → Out (List ℕ))
+      → (among v bound ≡ false → Walked w (s₂ + m) (k + 1) s₁ ls₁ (set t v k) (o₁ (v ∷ bound)))
       → (among v bound ≡ false → (b₁ : List ℕ) (x₁ : Gone w (s₂ + m) (k + 1) s₁ ls₁ (set t v k) b₁) → Walked w m (k + 1 + s₁) s₂ ls₂ (x₁ .table) (more b₁))
       → (y : Bool) → among v bound ≡ y
-      → Walked w m k (suc (s₁ + s₂)) (0 ∷ (ls₁ ++ ls₂)) t (if y then stop (Rebound l) else (o₁ >>= more))
-  unfolding judged judgeLet
+      → Walked w m k (suc (s₁ + s₂)) (0 ∷ (ls₁ ++ ls₂)) t ((if y then stop (Rebound (l .line)) else on (v ∷ bound)) >>= λ b. o₁ b >>= more)
+  unfolding judged judgeLet lineAt _>>=_
   walk-let x₀ o₁ more x₁ x₂ true e =
-      let low : getD t v 256 < 256 = ltb-true (getD t v 256) 256 (sym (bind v (h .variable)) ∙ e) in
+      let low : getD t v 256 < 256 = ltb-true (getD t v 256) 256 (sym (bind v small) ∙ e) in
       step-let ∙ rw (lt-leb 256 (getD t v 256) low, h .line) refl
   walk-let x₀ o₁ more x₁ x₂ false e =
-      let free : 256 ≤ getD t v 256 = ltb-false (getD t v 256) 256 (sym (bind v (h .variable)) ∙ e) in
-      walk-two w m k s₁ s₂ ls₁ ls₂ t (set t v k) (step-let ∙ rw (le-leb 256 (getD t v 256) free) refl) (x₀ e) o₁ more (x₁ e) (x₂ e)
+      let free : 256 ≤ getD t v 256 = ltb-false (getD t v 256) 256 (sym (bind v small) ∙ e) in
+      walk-two w m k s₁ s₂ ls₁ ls₂ t (set t v k) (step-let ∙ rw (le-leb 256 (getD t v 256) free) refl) (x₀ e) (o₁ (v ∷ bound)) more (x₁ e) (x₂ e)
 
 -- ------------------------------------------------------------------ an expression
 
-step-first : (w : List ℕ) (m k s : ℕ) (t : List ℕ) {x : Word} {l v : ℕ} → Head w k x l v → roleOf x ≡ Neither
+step-first : (w : List ℕ) (m k s : ℕ) (t : List ℕ) {x : Word} {l : Position} {v : ℕ} → Head w k x l v → role x ≡ Neither
     → scopesFrom w (suc s + m) k t ≡ storing 0 (scopesFrom w (s + m) (k + 1) t)
 step-first w m k s t h e = let q : suc s + m ≡ suc (s + m) = omega arith in rw q (step-other w (s + m) k t h e)
 
-step-pair : (w : List ℕ) (m k s₁ s₂ : ℕ) (t : List ℕ) {x : Word} {l v : ℕ} → Head w k x l v → roleOf x ≡ Neither
+step-pair : (w : List ℕ) (m k s₁ s₂ : ℕ) (t : List ℕ) {x : Word} {l : Position} {v : ℕ} → Head w k x l v → role x ≡ Neither
     → scopesFrom w (suc (s₁ + s₂) + m) k t ≡ storing 0 (scopesFrom w (s₁ + (s₂ + m)) (k + 1) t)
 step-pair w m k s₁ s₂ t h e = let q : s₁ + s₂ + m ≡ s₁ + (s₂ + m) = omega arith in step-first w m k (s₁ + s₂) t h e ∙ rw q refl
 
 -- a step of two parts that binds nothing, from its parts
-walk-pair : (w : List ℕ) (m k hi : ℕ) (t : List ℕ) (ins : List (ℕ × ℕ)) (bound : List ℕ) (e₁ e₂ : Expr) {x : Word} {l v : ℕ}
-    → Head w k x l v → roleOf x ≡ Neither → Agrees w k hi t ins bound
+walk-pair : (w : List ℕ) (m k hi : ℕ) (t : List ℕ) (ins : List (ℕ × ℕ)) (bound : List ℕ) (e₁ e₂ : Expr) {x : Word} {l : Position} {v : ℕ}
+    → Head w k x l v → role x ≡ Neither → Agrees w k hi t ins bound
     → (Agrees w (k + 1) hi t ins bound → Walked w (size e₂ + m) (k + 1) (size e₁) (lets (k + 1) ins e₁) t (scope e₁ (names ins) bound))
     → ((b u : List ℕ) → Agrees w (k + 1 + size e₁) hi u ins b → Walked w m (k + 1 + size e₁) (size e₂) (lets (k + 1 + size e₁) ins e₂) u (scope e₂ (names ins) b))
     → Walked w m k (suc (size e₁ + size e₂)) (0 ∷ (lets (k + 1) ins e₁ ++ lets (k + 1 + size e₁) ins e₂)) t
@@ -213,49 +218,71 @@ walk-pair w m k hi t ins bound e₁ e₂ h role a x₁ x₂ =
     x₂ b (y .table)
     (agrees-onward w k hi (k + 1 + size e₁) t (y .table) ins bound b (omega arith) a (y .long) (y .extends) (y .bind)))
 
-walk : (w : List ℕ) (e : Expr) (k m hi : ℕ) (t : List ℕ) (ins : List (ℕ × ℕ)) (bound : List ℕ) → Stands w k e → k + size e ≤ hi → hi ≤ 256
-    → Agrees w k hi t ins bound → Walked w m k (size e) (lets k ins e) t (scope e (names ins) bound)
-unfolding scope lets size names
-walk w (leaf Var l v) k m hi t ins bound h hh top a =
-    walk-use w m k t h hi ins bound refl hh a (among v (names ins)) (a .at v (h .variable))
-walk w (leaf Int l v) k m hi t ins bound h hh top a = walk-other w m k t h bound refl (a .long) (a .bind)
-walk w (leaf Newtid l v) k m hi t ins bound h hh top a = walk-other w m k t h bound refl (a .long) (a .bind)
-walk w (leaf Newlock l v) k m hi t ins bound h hh top a = walk-other w m k t h bound refl (a .long) (a .bind)
-walk w (leaf Newsem l v) k m hi t ins bound h hh top a = walk-other w m k t h bound refl (a .long) (a .bind)
-walk w (leaf Newrwlock l v) k m hi t ins bound h hh top a = walk-other w m k t h bound refl (a .long) (a .bind)
-walk w (unary x l v e) k m hi t ins bound h hh top a =
-    walk-one w m k (size e) (lets (k + 1) ins e) t (scope e (names ins) bound) (step-first w m k (size e) t (h .0) refl)
-    (walk w e (k + 1) m hi t ins bound (h .1) (omega arith) top (agrees-narrow w k hi (k + 1) hi t ins bound (omega arith) (omega arith) a))
-walk w (binary Let l v e₁ e₂) k m hi t ins bound h hh top a =
+-- no number of an expression and of its parts is larger than its word allows
+limited-first : {s : Step} {ss : List Step} → Limited (s ∷ ss) → s .value ≤ largestValue (s .word)
+limited-first (more-limited l r) = l
+
+limited-behind : {s : Step} {ss : List Step} → Limited (s ∷ ss) → Limited ss
+limited-behind (more-limited l r) = r
+
+limited-parts : (ss ts : List Step) → Limited (ss ++ ts) → Limited ss × Limited ts
+limited-parts [] ts r = (none-limited, r)
+limited-parts (s ∷ ss) ts (more-limited l r) = let p = limited-parts ss ts r in (more-limited l (p .0), p .1)
+
+walk : (w : List ℕ) (e : Expr) (k m hi : ℕ) (t : List ℕ) (ins : List (ℕ × ℕ)) (bound : List ℕ) → Standing w k e → Limited (prefix e)
+    → k + size e ≤ hi → hi ≤ 256 → Agrees w k hi t ins bound → Walked w m k (size e) (lets k ins e) t (scope e (names ins) bound)
+unfolding scope scopeStep _>>=_ role binding largestValue letOf lets size names prefix
+walk w (leaf Var l v) k m hi t ins bound s r hh top a =
+    walk-use w m k t (leaf-head Var l v s) hi ins bound refl hh a (among v (names ins)) (a .at v (omega (arith, limited-first r)))
+walk w (leaf Int l v) k m hi t ins bound s r hh top a = walk-other w m k t (leaf-head Int l v s) bound refl (a .long) (a .bind)
+walk w (leaf Newtid l v) k m hi t ins bound s r hh top a = walk-other w m k t (leaf-head Newtid l v s) bound refl (a .long) (a .bind)
+walk w (leaf Newlock l v) k m hi t ins bound s r hh top a = walk-other w m k t (leaf-head Newlock l v s) bound refl (a .long) (a .bind)
+walk w (leaf Newsem l v) k m hi t ins bound s r hh top a = walk-other w m k t (leaf-head Newsem l v s) bound refl (a .long) (a .bind)
+walk w (leaf Newrwlock l v) k m hi t ins bound s r hh top a = walk-other w m k t (leaf-head Newrwlock l v s) bound refl (a .long) (a .bind)
+walk w (unary x l v e) k m hi t ins bound s r hh top a =
+    walk-one w m k (size e) (lets (k + 1) ins e) t (scope e (names ins) bound) (step-first w m k (size e) t (unary-head x l v e s) refl)
+    (walk w e (k + 1) m hi t ins bound (standing-part x l v e s) (limited-behind r) (omega arith) top
+    (agrees-narrow w k hi (k + 1) hi t ins bound (omega arith) (omega arith) a))
+walk w (binary Let l v e₁ e₂) k m hi t ins bound s r hh top a =
     let mid = k + 1 + size e₁ in
     let end = k + suc (size e₁ + size e₂) in
+    let first = standing-first Let l v e₁ e₂ s in
+    let ended : endAt w k ≡ end = standing-end (binary Let l v e₁ e₂) s in
+    let divided : endAt w (k + 1) ≡ mid = standing-end e₁ first in
+    let parts = limited-parts (prefix e₁) (prefix e₂) (limited-behind r) in
+    let variable : v < 256 = omega (arith, limited-first r) in
     let inner : Agrees w k end t ins bound = agrees-narrow w k hi k end t ins bound (omega arith) hh a in
     let order : (k ≤ mid) × (mid ≤ end) = (omega arith, omega arith) in
     let small : k < 256 = omega arith in
-    walk-let w m k (size e₁) (size e₂) (lets (k + 1) ins e₁) (lets mid ((v, k) ∷ ins) e₂) t (h .0) bound (h .1) (a .long) (a .bind)
-    (let-extends w k mid end v t ins bound (h .0 .variable) small (h .2) (h .1) order inner)
-    (scope e₁ (names ins) (v ∷ bound))
+    walk-let w m k (size e₁) (size e₂) (lets (k + 1) ins e₁) (lets mid ((v, k) ∷ ins) e₂) t (binary-head Let l v e₁ e₂ s) bound ended variable
+    (a .long)
+    (a .bind)
+    (let-extends w k mid end v t ins bound variable small divided ended order inner)
+    (λ b. scope e₁ (names ins) b)
     (λ b. scope e₂ (v ∷ names ins) b)
     (λ free.
-    walk w e₁ (k + 1) (size e₂ + m) mid (set t v k) ins (v ∷ bound) (h .3) (omega arith) (omega arith)
-    (let-first w k mid end v t ins bound (h .0 .variable) small (h .2) (h .1) order inner free))
+    walk w e₁ (k + 1) (size e₂ + m) mid (set t v k) ins (v ∷ bound) first (parts .0) (omega arith) (omega arith)
+    (let-first w k mid end v t ins bound variable small divided ended order inner free))
     (λ free b₁ x₁.
-    walk w e₂ mid m end (x₁ .table) ((v, k) ∷ ins) b₁ (h .4) (omega arith) (omega arith)
-    (let-second w k mid end v t ins bound (h .0 .variable) small (h .2) (h .1) order inner free (x₁ .table) b₁ (x₁ .long) (x₁ .extends) (x₁ .bind)))
+    walk w e₂ mid m end (x₁ .table) ((v, k) ∷ ins) b₁ (standing-second Let l v e₁ e₂ s) (parts .1) (omega arith) (omega arith)
+    (let-second w k mid end v t ins bound variable small divided ended order inner free (x₁ .table) b₁ (x₁ .long) (x₁ .extends) (x₁ .bind)))
     (among v bound)
     refl
-walk w (binary If l v e₁ e₂) k m hi t ins bound h hh top a =
-    walk-pair w m k hi t ins bound e₁ e₂ (h .0) refl a
-    (walk w e₁ (k + 1) (size e₂ + m) hi t ins bound (h .3) (omega arith) top)
-    (λ b u. walk w e₂ (k + 1 + size e₁) m hi u ins b (h .4) (omega arith) top)
-walk w (binary Spawn l v e₁ e₂) k m hi t ins bound h hh top a =
-    walk-pair w m k hi t ins bound e₁ e₂ (h .0) refl a
-    (walk w e₁ (k + 1) (size e₂ + m) hi t ins bound (h .3) (omega arith) top)
-    (λ b u. walk w e₂ (k + 1 + size e₁) m hi u ins b (h .4) (omega arith) top)
-walk w (binary Write l v e₁ e₂) k m hi t ins bound h hh top a =
-    walk-pair w m k hi t ins bound e₁ e₂ (h .0) refl a
-    (walk w e₁ (k + 1) (size e₂ + m) hi t ins bound (h .3) (omega arith) top)
-    (λ b u. walk w e₂ (k + 1 + size e₁) m hi u ins b (h .4) (omega arith) top)
+walk w (binary If l v e₁ e₂) k m hi t ins bound s r hh top a =
+    let parts = limited-parts (prefix e₁) (prefix e₂) (limited-behind r) in
+    walk-pair w m k hi t ins bound e₁ e₂ (binary-head If l v e₁ e₂ s) refl a
+    (walk w e₁ (k + 1) (size e₂ + m) hi t ins bound (standing-first If l v e₁ e₂ s) (parts .0) (omega arith) top)
+    (λ b u. walk w e₂ (k + 1 + size e₁) m hi u ins b (standing-second If l v e₁ e₂ s) (parts .1) (omega arith) top)
+walk w (binary Spawn l v e₁ e₂) k m hi t ins bound s r hh top a =
+    let parts = limited-parts (prefix e₁) (prefix e₂) (limited-behind r) in
+    walk-pair w m k hi t ins bound e₁ e₂ (binary-head Spawn l v e₁ e₂ s) refl a
+    (walk w e₁ (k + 1) (size e₂ + m) hi t ins bound (standing-first Spawn l v e₁ e₂ s) (parts .0) (omega arith) top)
+    (λ b u. walk w e₂ (k + 1 + size e₁) m hi u ins b (standing-second Spawn l v e₁ e₂ s) (parts .1) (omega arith) top)
+walk w (binary Write l v e₁ e₂) k m hi t ins bound s r hh top a =
+    let parts = limited-parts (prefix e₁) (prefix e₂) (limited-behind r) in
+    walk-pair w m k hi t ins bound e₁ e₂ (binary-head Write l v e₁ e₂ s) refl a
+    (walk w e₁ (k + 1) (size e₂ + m) hi t ins bound (standing-first Write l v e₁ e₂ s) (parts .0) (omega arith) top)
+    (λ b u. walk w e₂ (k + 1 + size e₁) m hi u ins b (standing-second Write l v e₁ e₂ s) (parts .1) (omega arith) top)
 
 -- ------------------------------------------------------------------ a whole program
 
@@ -268,10 +295,10 @@ none-agrees w n = record {
   at = λ v l. inl (rw (replicate-any 256 v 256) (omega arith));
 }
 
-module _ (w : List ℕ) (n : ℕ) (e : Expr) (h : Stands w 0 e) (s : size e ≡ n) (few : n ≤ 256) where
+module _ (w : List ℕ) (n : ℕ) (e : Expr) (h : Standing w 0 e) (r : Limited (prefix e)) (s : size e ≡ n) (few : n ≤ 256) where
   from-root : Walked w 0 0 (size e) (lets 0 [] e) unbound (scope e [] [])
   unfolding names
-  from-root = walk w e 0 0 n unbound [] [] h (omega arith) few (none-agrees w n)
+  from-root = walk w e 0 0 n unbound [] [] h r (omega arith) few (none-agrees w n)
 
   pub root-stops : (r : Refusal) → scope e [] [] ≡ stop r → scopesFrom w n 0 unbound ≡ stop r
   root-stops r p = let q : size e + 0 ≡ n = omega arith in rw q at (subst (Walked w 0 0 (size e) (lets 0 [] e) unbound) p from-root)

@@ -4,17 +4,12 @@ use mathlib.Core.Bool.{true, false}
 use mathlib.Core.List.{List, [], _∷_}
 use mathlib.Core.Option.{none, some}
 use Prim.Native.Nat.{ℕ, _+_, _≤_}
-use lib.ListN.{length, replicate}
+use lib.ListN.{length}
 use Rattle.spec.specs.Text.{bytes, same, lines}
 use Rattle.spec.specs.Reading.{programSheet, Out, stop, on, _>>=_, Place, begin, next, nextAll}
 use Rattle.spec.specs.Expression.{Step}
-use Rattle.spec.specs.Program.{countLine, stepLine}
-use Rattle.spec.specs.declared.Word.{Word}
-use Rattle.spec.specs.declared.Word.the-variants.{Leaf, Unary, Binary}
-use Rattle.spec.specs.declared.LeafWord.{LeafWord}
-use Rattle.spec.specs.declared.LeafWord.the-variants.{Var, Int, Newtid, Newlock, Newsem, Newrwlock}
-use Rattle.spec.specs.declared.BinaryWord.{BinaryWord}
-use Rattle.spec.specs.declared.BinaryWord.the-variants.{Let, If, Spawn, Write}
+use Rattle.spec.specs.Words.{largestValue}
+use Rattle.spec.specs.Program.{countLine, stepLine, stepLines}
 use Rattle.lexer.specs.Views.{firstField, nothing}
 use Rattle.lexer.specs.Cursors.{Placed, rest, placeAt, spanAt}
 use Rattle.lexer.specs.Numbers.{numbersAt}
@@ -22,7 +17,7 @@ use Rattle.lexer.specs.declared.Cursor.{Cursor}
 use Rattle.lexer.specs.declared.Span.{Span}
 use Rattle.lexer.specs.declared.FieldEnd.{FieldEnd}
 use Rattle.lexer.specs.declared.FieldEnd.the-variants.{Comma}
-use Rattle.workspace.specs.Layout.{wordsAt, valuesAt}
+use Rattle.workspace.specs.Layout.{wordsAt, rowTypesAt}
 use Rattle.workspace.specs.Holds.{HoldsSteps}
 use Rattle.workspace.specs.Region.{ChangedWithin}
 use Rattle.program.specs.declared.lines.Tail.{Tail}
@@ -53,42 +48,8 @@ CountShown text (count.Refused x) = countAt text ≡ stop x
 
 -- ------------------------------------------------------------------ step lines
 
--- the smallest v that a step with this word may have
-abbrev pub leafLeast : LeafWord → ℕ
-leafLeast Var = 0
-leafLeast Int = 0
-leafLeast Newtid = 0
-leafLeast Newlock = 0
-leafLeast Newsem = 0
-leafLeast Newrwlock = 1
-
-abbrev pub leastOf : Word → ℕ
-leastOf (Leaf w) = leafLeast w
-leastOf (Unary w) = 0
-leastOf (Binary w) = 0
-
--- the largest
-abbrev pub leafLimit : LeafWord → ℕ
-leafLimit Var = 255
-leafLimit Int = 65535
-leafLimit Newtid = 0
-leafLimit Newlock = 0
-leafLimit Newsem = 0
-leafLimit Newrwlock = 64
-
-abbrev pub binaryLimit : BinaryWord → ℕ
-binaryLimit Let = 255
-binaryLimit If = 0
-binaryLimit Spawn = 0
-binaryLimit Write = 0
-
-abbrev pub limitOf : Word → ℕ
-limitOf (Leaf w) = leafLimit w
-limitOf (Unary w) = 0
-limitOf (Binary w) = binaryLimit w
-
 unfoldable pub stepAt : List ℕ → Cursor → Out (Step × Place)
-stepAt text c = next programSheet stepLine (placeAt text c)
+stepAt text c = next programSheet (stepLine (c .line + 1)) (placeAt text c)
 
 -- a line is left at the cursor, and its first field, s, is the word `freelock`
 pub record FreelockAt (text : List ℕ) (c : Cursor) (s : Span) : Type 0 where
@@ -98,24 +59,32 @@ pub record FreelockAt (text : List ℕ) (c : Cursor) (s : Span) : Type 0 where
   pub word : same (firstField (rest text c)) (bytes "freelock") ≡ true
 
 abbrev pub StepShown : List ℕ → Cursor → StepLine → Type 0
-StepShown text c (step.Step w v d) = (stepAt text c ≡ on (record { word = w; value = v }, placeAt text d)) × (v ≤ limitOf w) × Placed text d
+StepShown text c (step.Step w v d) =
+    (stepAt text c ≡ on (record { word = w; value = v; line = d .line }, placeAt text d))
+    × (v ≤ largestValue w)
+    × Placed text d
+    × (d .line ≡ c .line + 1)
 StepShown text c (step.Refused x) = stepAt text c ≡ stop x
 
 -- no number is larger than its word allows
 pub data Limited : List Step → Type 0 where
   none-limited : Limited []
-  more-limited : {s : Step} {ss : List Step} → s .value ≤ limitOf (s .word) → Limited ss → Limited (s ∷ ss)
+  more-limited : {s : Step} {ss : List Step} → s .value ≤ largestValue (s .word) → Limited ss → Limited (s ∷ ss)
 
 unfoldable pub stepsAt : List ℕ → (n : ℕ) → Cursor → Out (List Step × Place)
-stepsAt text n c = nextAll programSheet (replicate n stepLine) (placeAt text c)
+stepsAt text n c = nextAll programSheet (stepLines (c .line + 1) n) (placeAt text c)
 
--- n steps are read and stored
-pub record StepsHeld (text : List ℕ) (n : ℕ) (c : Cursor) (w : List ℕ) (d : Cursor) : Type 0 where
+-- the work space holds n steps, and no number is larger than its word allows
+pub record StepsStored (n : ℕ) (w : List ℕ) : Type 0 where
   pub steps : List Step
-  pub shown : stepsAt text n c ≡ on (steps, placeAt text d)
   pub counted : length steps ≡ n
   pub held : HoldsSteps w steps
   pub limited : Limited steps
+
+-- n steps are read and stored
+pub record StepsHeld (text : List ℕ) (n : ℕ) (c : Cursor) (w : List ℕ) (d : Cursor) : Type 0 where
+  pub stored : StepsStored n w
+  pub shown : stepsAt text n c ≡ on (stored .steps, placeAt text d)
   pub placed : Placed text d
 
 abbrev pub StepsFound : List ℕ → (n : ℕ) → Cursor → (w : List ℕ) → StepLines → Type 0
@@ -124,4 +93,4 @@ StepsFound text n c w (steps.Refused x) = stepsAt text n c ≡ stop x
 
 pub record StepsShown (text : List ℕ) (n : ℕ) (c : Cursor) (w w′ : List ℕ) (r : StepLines) : Type 0 where
   pub found : StepsFound text n c w′ r
-  pub changed : ChangedWithin wordsAt (valuesAt + 256) w w′
+  pub changed : ChangedWithin wordsAt rowTypesAt w w′

@@ -1,80 +1,45 @@
 -- Scopes in line order: a table has, for each variable, the index of the let that binds it.
 use mathlib.Core.List.{List, [], _∷_}
-use Prim.Native.Nat.{ℕ, suc, zero, _+_, _<_}
+use Prim.Native.Nat.{ℕ, suc, zero, _+_}
 use lib.Dec.{leb, ltb}
 use lib.ListN.{getD, set, replicate}
 use Rattle.spec.specs.Choice.{if_then_else_}
 use Rattle.spec.specs.Reading.{Out, stop, on}
+use Rattle.spec.specs.Words.{role}
 use Rattle.spec.specs.declared.Refusal.the-variants.{Unbound, Rebound}
-use Rattle.spec.specs.declared.Word.{Word}
-use Rattle.spec.specs.declared.Word.the-variants.{Leaf, Unary, Binary}
-use Rattle.spec.specs.declared.LeafWord.{LeafWord}
-use Rattle.spec.specs.declared.LeafWord.the-variants.{Var, Int, Newtid, Newlock, Newsem, Newrwlock}
-use Rattle.spec.specs.declared.BinaryWord.{BinaryWord}
-use Rattle.spec.specs.declared.BinaryWord.the-variants.{Let, If, Spawn, Write}
 use Rattle.workspace.specs.Layout.{endsAt, letsAt}
 use Rattle.workspace.specs.Region.{Region, ChangedWithin}
-use Rattle.program.specs.Stored.{wordAt, valueAt}
+use Rattle.workspace.specs.Steps.{wordAt, valueAt, lineAt}
 use Rattle.program.specs.Outcomes.{Answers}
 use Rattle.program.specs.declared.Outcome.{Outcome}
-use Rattle.program.specs.declared.binders.Role.{Role}
-use Rattle.program.specs.declared.binders.Role.the-variants.{Binds, Uses, Neither}
+use Rattle.spec.specs.declared.Role.{Role}
+use Rattle.spec.specs.declared.Role.the-variants.{Binds, Uses, Neither}
 use Rattle.program.specs.declared.binders.Judged.{Judged}
 use Rattle.program.specs.declared.binders.Judged.the-variants.{Bind, Store, Refused}
-
--- what a step with this word does with its number v
-abbrev pub leafRole : LeafWord → Role
-leafRole Var = Uses
-leafRole Int = Neither
-leafRole Newtid = Neither
-leafRole Newlock = Neither
-leafRole Newsem = Neither
-leafRole Newrwlock = Neither
-
-abbrev pub binaryRole : BinaryWord → Role
-binaryRole Let = Binds
-binaryRole If = Neither
-binaryRole Spawn = Neither
-binaryRole Write = Neither
-
-abbrev pub roleOf : Word → Role
-roleOf (Leaf w) = leafRole w
-roleOf (Unary w) = Neither
-roleOf (Binary w) = binaryRole w
-
--- a variable is below 256
-abbrev pub Variable : Role → ℕ → Type 0
-Variable Binds v = v < 256
-Variable Uses v = v < 256
-Variable Neither v = Unit {0}
-
--- the variables of the first n steps stored are
-abbrev pub Variables : ℕ → List ℕ → Type 0
-Variables n w = (i : ℕ) → i < n → Variable (roleOf (wordAt w i)) (valueAt w i)
 
 -- no variable has a let yet: 256 is no index
 unfoldable pub unbound : List ℕ
 unbound = replicate 256 256
 
--- a let at index k whose variable has its let at b
-unfoldable pub judgeLet : (k b : ℕ) → Judged
-judgeLet k b = if leb 256 b then Bind else Refused (Rebound (k + 2))
+-- a let at a line whose variable has its let at b
+unfoldable pub judgeLet : (line b : ℕ) → Judged
+judgeLet l b = if leb 256 b then Bind else Refused (Rebound l)
 
 -- a use at index k of the variable whose let is at b: past the end of its e1, before its own end
 unfoldable pub judgeVar : List ℕ → (k b : ℕ) → Judged
 judgeVar w k b =
-    if leb 256 b then Refused (Unbound (k + 2))
-    else if ltb k (getD w (endsAt + (b + 1)) 0) then Refused (Unbound (k + 2))
-    else if leb (getD w (endsAt + b) 0) k then Refused (Unbound (k + 2))
+    if leb 256 b then Refused (Unbound (lineAt w k))
+    else if ltb k (getD w (endsAt + (b + 1)) 0) then Refused (Unbound (lineAt w k))
+    else if leb (getD w (endsAt + b) 0) k then Refused (Unbound (lineAt w k))
     else Store b
 
 unfoldable pub judgeBy : List ℕ → (k b : ℕ) → Role → Judged
-judgeBy w k b Binds = judgeLet k b
+judgeBy w k b Binds = judgeLet (lineAt w k) b
 judgeBy w k b Uses = judgeVar w k b
 judgeBy w k b Neither = Store 0
 
 unfoldable pub judgeOf : List ℕ → (k b : ℕ) → Judged
-judgeOf w k b = judgeBy w k b (roleOf (wordAt w k))
+judgeOf w k b = judgeBy w k b (role (wordAt w k))
 
 -- a number stored in front of those of the steps behind
 unfoldable pub storing : ℕ → Out (List ℕ) → Out (List ℕ)

@@ -2,16 +2,16 @@
 use mathlib.Core.Path.{_≡_}
 use mathlib.Core.List.{List, []}
 use Prim.Native.Nat.{ℕ, _+_, _≤_}
-use lib.ListN.{length, replicate}
+use lib.ListN.{length}
 use Rattle.spec.specs.Reading.{programSheet, Out, stop, on, _>>=_, Place, nextAll, end}
 use Rattle.spec.specs.Expression.{Step, Expr, listed, single, scope}
-use Rattle.spec.specs.Program.{Program, stepLine, program}
+use Rattle.spec.specs.Program.{Program, stepLines, program}
 use Rattle.lexer.specs.Cursors.{placeAt}
 use Rattle.lexer.specs.declared.Cursor.{Cursor}
 use Rattle.workspace.specs.Layout.{endsAt, letsAt}
 use Rattle.workspace.specs.Holds.{ends, lets, HoldsProgram}
 use Rattle.workspace.specs.Region.{Region, ChangedWithin}
-use Rattle.program.specs.Stored.{stepsIn}
+use Rattle.workspace.specs.Steps.{stepsFrom}
 use Rattle.program.specs.Outcomes.{Answers}
 use Rattle.program.specs.declared.Outcome.{Outcome}
 use Rattle.program.specs.declared.ProgramRead.{ProgramRead}
@@ -19,12 +19,12 @@ use Rattle.program.specs.declared.ProgramRead.the-variants.{Read, Refuse
 
 -- ------------------------------------------------------------------ the expression
 
--- the expression that n steps list, with its variables in scope
-unfoldable pub expressionOf : (n : ℕ) → List Step → Out Expr
-expressionOf n steps = single n (listed 2 steps) >>= λ e. scope e [] [] >>= λ bound. on e
+-- the expression that steps list, with its variables in scope; `last` is the last line read
+unfoldable pub expressionOf : (last : ℕ) → List Step → Out Expr
+expressionOf last steps = single last steps (listed 0 steps) >>= λ e. scope e [] [] >>= λ bound. on e
 
-pub record ExpressionRead (n : ℕ) (w w′ : List ℕ) (r : Outcome) : Type 0 where
-  pub found : Answers (λ e. Region w′ endsAt (ends 0 e) × Region w′ letsAt (lets 0 [] e)) r (expressionOf n (stepsIn w 0 n))
+pub record ExpressionRead (n last : ℕ) (w w′ : List ℕ) (r : Outcome) : Type 0 where
+  pub found : Answers (λ e. Region w′ endsAt (ends 0 e) × Region w′ letsAt (lets 0 [] e)) r (expressionOf last (stepsFrom w 0 n))
   pub changed : ChangedWithin endsAt (letsAt + 256) w w′
 
 -- ------------------------------------------------------------------ the program
@@ -38,9 +38,9 @@ Answered w r (on P) = (r ≡ Read (length (P .steps))) × HoldsProgram w P × (l
 -- what stands behind line 1
 unfoldable pub behindCount : (n : ℕ) → Place → Out Program
 behindCount n first = do
-  (steps, last) ← nextAll programSheet (replicate n stepLine) first
+  (steps, last) ← nextAll programSheet (stepLines (first .last + 1) n) first
   done ← end programSheet last
-  e ← single n (listed 2 steps)
+  e ← single (last .last) steps (listed 0 steps)
   bound ← scope e [] []
   on (record { steps = steps; root = e })
 

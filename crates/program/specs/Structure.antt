@@ -3,18 +3,26 @@ use mathlib.Core.Path.{_≡_}
 use mathlib.Core.List.{List, [], _∷_, _++_}
 use Prim.Native.Nat.{ℕ, suc, zero, _+_, _-_}
 use Rattle.spec.specs.Expression.{Expr, size, listed, single}
+use Rattle.spec.specs.declared.Word.{Word}
+use Rattle.spec.specs.declared.Word.the-variants.{Leaf, Unary, Binary}
 use Rattle.workspace.specs.Layout.{endsAt}
 use Rattle.workspace.specs.Holds.{ends}
 use Rattle.workspace.specs.Region.{Region, ChangedWithin}
-use Rattle.program.specs.Stored.{stepsIn}
+use Rattle.workspace.specs.Steps.{stepsFrom}
 use Rattle.program.specs.Outcomes.{Answers}
 use Rattle.program.specs.declared.Outcome.{Outcome}
 use Rattle.program.specs.declared.tree.Ending.{Ending}
 use Rattle.program.specs.declared.tree.Ending.the-variants.{Reached, Unfinished}
 
--- the expressions that the steps from index k on list, one after the other; the step with index k is at line k + 2
+-- how many parts a step with this word has
+abbrev pub partsOf : Word → ℕ
+partsOf (Leaf w) = 0
+partsOf (Unary w) = 1
+partsOf (Binary w) = 2
+
+-- the expressions that the steps from index k on list, one after the other
 unfoldable pub listedFrom : List ℕ → (n k : ℕ) → List Expr
-listedFrom w n k = listed (k + 2) (stepsIn w k (n - k))
+listedFrom w n k = listed k (stepsFrom w k (n - k))
 
 -- where the first m of some expressions end, of which the first begins at index k
 unfoldable pub reached : (m k : ℕ) → List Expr → Ending
@@ -34,7 +42,7 @@ pub record Ended (n m k : ℕ) (w w′ : List ℕ) (r : Ending) : Type 0 where
   pub marks : Region w′ (endsAt + k) (endsOf m k (listedFrom w n k))
   pub changed : ChangedWithin (endsAt + k) (endsAt + 256) w w′
 
--- what reading the one expression that n steps are to list answers, and what it leaves in the work space
-pub record Structured (n : ℕ) (w w′ : List ℕ) (r : Outcome) : Type 0 where
-  pub found : Answers (λ e. Region w′ endsAt (ends 0 e)) r (single n (listed 2 (stepsIn w 0 n)))
+-- what reading the one expression that n steps are to list answers, and what it leaves in the work space; `last` is the last line read
+pub record Structured (n last : ℕ) (w w′ : List ℕ) (r : Outcome) : Type 0 where
+  pub found : Answers (λ e. Region w′ endsAt (ends 0 e)) r (single last (stepsFrom w 0 n) (listed 0 (stepsFrom w 0 n)))
   pub changed : ChangedWithin endsAt (endsAt + 256) w w′

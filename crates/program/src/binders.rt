@@ -3,57 +3,43 @@ use crate::Outcome;
 use spec::BinaryWord;
 use spec::LeafWord;
 use spec::Refusal;
+use spec::Role;
 use spec::Word;
 use workspace::ENDS;
 use workspace::LETS;
+use workspace::LINES;
 use workspace::VALUES;
 use workspace::WORDS;
 ghost use mathlib.Core.Path.{_≡_};
 ghost use Prim.Native.Nat.{_<_, _≤_};
 ghost use lib.ListN.{length, getD, set};
-ghost use Rattle.program.specs.Scopes.{leafRole, binaryRole, roleOf, judgeLet, judgeVar, judgeOf, Scoped};
+ghost use Rattle.spec.specs.Words.{role};
+ghost use Rattle.workspace.specs.Layout.{workSize};
+ghost use Rattle.program.specs.Scopes.{judgeLet, judgeVar, judgeOf, Scoped};
 
 // The mark of a variable that no let binds.
 const UNBOUND: u32 = 256;
 
-// What a step does with its number v, if that is a variable.
-enum Role {
-    Binds,
-    Uses,
-    Neither,
-}
-
-fn leaf_role(w: LeafWord) -> Role
-    ensures { λ r. ⌜ r ≡ leafRole w ⌝ }
-{
-    match w {
-        LeafWord::Var => Role::Uses,
-        LeafWord::Int => Role::Neither,
-        LeafWord::Newtid => Role::Neither,
-        LeafWord::Newlock => Role::Neither,
-        LeafWord::Newsem => Role::Neither,
-        LeafWord::Newrwlock => Role::Neither,
-    }
-}
-
-fn binary_role(w: BinaryWord) -> Role
-    ensures { λ r. ⌜ r ≡ binaryRole w ⌝ }
-{
-    match w {
-        BinaryWord::Let => Role::Binds,
-        BinaryWord::If => Role::Neither,
-        BinaryWord::Spawn => Role::Neither,
-        BinaryWord::Write => Role::Neither,
-    }
-}
-
+// What a step with this word does with its number v.
 fn role_of(w: Word) -> Role
-    ensures { λ r. ⌜ r ≡ roleOf w ⌝ }
+    ensures { λ r. ⌜ r ≡ role w ⌝ }
 {
     match w {
-        Word::Leaf(l) => leaf_role(l),
+        Word::Leaf(l) => match l {
+            LeafWord::Var => Role::Uses,
+            LeafWord::Int => Role::Neither,
+            LeafWord::Newtid => Role::Neither,
+            LeafWord::Newlock => Role::Neither,
+            LeafWord::Newsem => Role::Neither,
+            LeafWord::Newrwlock => Role::Neither,
+        },
         Word::Unary(_) => Role::Neither,
-        Word::Binary(b) => binary_role(b),
+        Word::Binary(b) => match b {
+            BinaryWord::Let => Role::Binds,
+            BinaryWord::If => Role::Neither,
+            BinaryWord::Spawn => Role::Neither,
+            BinaryWord::Write => Role::Neither,
+        },
     }
 }
 
@@ -65,24 +51,22 @@ enum Judged {
     Refused(Refusal),
 }
 
-// A let at index k whose variable has its let at b.
-fn judge_let(k: usize, b: u32) -> Judged
-    requires { ⌜ k < 256 ⌝ }
-    ensures { λ r. ⌜ r ≡ judgeLet k b ⌝ }
+// A let at a line whose variable has its let at b.
+fn judge_let(line: u32, b: u32) -> Judged
+    ensures { λ r. ⌜ r ≡ judgeLet line b ⌝ }
 {
     if UNBOUND <= b {
         return Judged::Bind;
     }
-    let line = k as u32 + 2;
     Judged::Refused(Refusal::Rebound(line))
 }
 
 // A use at index k of the variable whose let is at b: it must stand past that let's e1 and before its end.
 fn judge_var(work: &[u32], k: usize, b: u32) -> Judged
-    requires { ⌜ (length (now work) ≡ 16384) × (k < 256) ⌝ }
+    requires { ⌜ (length (now work) ≡ workSize) × (k < 256) ⌝ }
     ensures { λ r. ⌜ r ≡ judgeVar (now (work .entry)) k b ⌝ }
 {
-    let line = k as u32 + 2;
+    let line = work[LINES + k];
     if UNBOUND <= b {
         return Judged::Refused(Refusal::Unbound(line));
     }
@@ -98,11 +82,14 @@ fn judge_var(work: &[u32], k: usize, b: u32) -> Judged
 
 // The step at index k, whose number v has its let at b.
 fn judge(work: &[u32], k: usize, b: u32) -> Judged
-    requires { ⌜ (length (now work) ≡ 16384) × (k < 256) ⌝ }
+    requires { ⌜ (length (now work) ≡ workSize) × (k < 256) ⌝ }
     ensures { λ r. ⌜ r ≡ judgeOf (now (work .entry)) k b ⌝ }
 {
     match role_of(workspace::word_of(work[WORDS + k])) {
-        Role::Binds => judge_let(k, b),
+        Role::Binds => {
+            let line = work[LINES + k];
+            judge_let(line, b)
+        }
         Role::Uses => judge_var(work, k, b),
         Role::Neither => Judged::Store(0),
     }
@@ -126,7 +113,7 @@ fn bind(table: &mut [u32], v: usize, k: u32)
 
 // Whether each variable is bound once and used only in its let's e2, judged in line order; stores which let each `var` means.
 pub fn scopes(work: &mut [u32], n: usize) -> Outcome
-    requires { ⌜ (length (now work) ≡ 16384) × (n ≤ 256) ⌝ }
+    requires { ⌜ (length (now work) ≡ workSize) × (n ≤ 256) ⌝ }
     ensures { λ r. ⌜ Scoped n (now (work .entry)) (now (work .exit)) r ⌝ }
 {
     let mut table = [UNBOUND; 256];

@@ -11,7 +11,8 @@ ghost use mathlib.Core.Path.{_≡_};
 ghost use Prim.Native.Nat.{_≤_};
 ghost use lib.ListN.{length};
 ghost use Rattle.lexer.specs.Cursors.{Placed};
-ghost use Rattle.program.specs.Scopes.{Variables};
+ghost use Rattle.workspace.specs.Layout.{workSize};
+ghost use Rattle.program.specs.Lines.{StepsStored};
 ghost use Rattle.program.specs.Sheet.{ExpressionRead, StepsRead, ProgramIs};
 
 // Nothing to refuse, or the refusal.
@@ -21,12 +22,12 @@ enum Outcome {
 }
 
 // Whether the n steps stored list one expression, and its variables are in scope; stores where its steps end and which
-// let each `var` means.
-fn expression(work: &mut [u32], n: usize) -> Outcome
-    requires { ⌜ (length (now work) ≡ 16384) × (n ≤ 256) × Variables n (now work) ⌝ }
-    ensures { λ r. ⌜ ExpressionRead n (now (work .entry)) (now (work .exit)) r ⌝ }
+// let each `var` means. `last` is the last line read.
+fn expression(work: &mut [u32], n: usize, last: u32) -> Outcome
+    requires { ⌜ (length (now work) ≡ workSize) × (n ≤ 256) × StepsStored n (now work) ⌝ }
+    ensures { λ r. ⌜ ExpressionRead n last (now (work .entry)) (now (work .exit)) r ⌝ }
 {
-    match tree::structure(work, n) {
+    match tree::structure(work, n, last) {
         Outcome::Passed => binders::scopes(work, n),
         Outcome::Refused(refusal) => Outcome::Refused(refusal),
     }
@@ -40,7 +41,7 @@ pub enum ProgramRead {
 
 // What stands behind line 1, which counts n steps.
 fn read_steps(text: &[u8], work: &mut [u32], n: usize, start: Cursor) -> ProgramRead
-    requires { ⌜ (length (now work) ≡ 16384) × (n ≤ 256) × Placed (now text) start ⌝ }
+    requires { ⌜ (length (now work) ≡ workSize) × (n ≤ 256) × Placed (now text) start ⌝ }
     ensures { λ r. ⌜ StepsRead (now (text .entry)) n start (now (work .exit)) r ⌝ }
 {
     match lines::step_lines(text, work, n, start) {
@@ -50,7 +51,7 @@ fn read_steps(text: &[u8], work: &mut [u32], n: usize, start: Cursor) -> Program
                 let spare = behind.line + 1;
                 return ProgramRead::Refused(Refusal::ProgramLines(spare));
             }
-            match expression(work, n) {
+            match expression(work, n, behind.line) {
                 Outcome::Passed => ProgramRead::Read(n),
                 Outcome::Refused(refusal) => ProgramRead::Refused(refusal),
             }
@@ -60,7 +61,7 @@ fn read_steps(text: &[u8], work: &mut [u32], n: usize, start: Cursor) -> Program
 
 // Reads a program sheet into the work space: the number of its steps, or the first refusal that it meets.
 pub fn read(text: &[u8], work: &mut [u32]) -> ProgramRead
-    requires { ⌜ (length (now work) ≡ 16384) × (length (now text) ≤ 16384) ⌝ }
+    requires { ⌜ (length (now work) ≡ workSize) × (length (now text) ≤ 16384) ⌝ }
     ensures { λ r. ⌜ ProgramIs (now (text .entry)) (now (work .entry)) (now (work .exit)) r ⌝ }
 {
     match lines::count_line(text) {

@@ -8,14 +8,17 @@ use spec::BinaryWord;
 use spec::LeafWord;
 use spec::Refusal;
 use spec::Word;
+use workspace::LINES;
 use workspace::VALUES;
 use workspace::WORDS;
 ghost use mathlib.Core.Path.{_≡_};
 ghost use Prim.Native.Nat.{_≤_};
 ghost use lib.ListN.{length};
 ghost use Rattle.spec.specs.Reading.{stop};
+ghost use Rattle.spec.specs.Words.{leastValue, largestValue};
 ghost use Rattle.lexer.specs.Cursors.{Placed};
-ghost use Rattle.program.specs.Lines.{leafLeast, leastOf, leafLimit, binaryLimit, limitOf, TailShown, CountShown, FreelockAt, stepAt, StepShown, StepsShown};
+ghost use Rattle.workspace.specs.Layout.{workSize};
+ghost use Rattle.program.specs.Lines.{TailShown, CountShown, FreelockAt, stepAt, StepShown, StepsShown};
 
 // The most steps that a program may have.
 const STEP_LIMIT: u32 = 256;
@@ -77,62 +80,44 @@ pub fn count_line(text: &[u8]) -> CountLine
     CountLine::Count(n, behind)
 }
 
-fn leaf_least(w: LeafWord) -> u32
-    ensures { λ r. ⌜ r ≡ leafLeast w ⌝ }
-{
-    match w {
-        LeafWord::Var => 0,
-        LeafWord::Int => 0,
-        LeafWord::Newtid => 0,
-        LeafWord::Newlock => 0,
-        LeafWord::Newsem => 0,
-        LeafWord::Newrwlock => 1,
-    }
-}
-
 // The smallest v that a step with this word may have.
 fn least_of(w: Word) -> u32
-    ensures { λ r. ⌜ r ≡ leastOf w ⌝ }
+    ensures { λ r. ⌜ r ≡ leastValue w ⌝ }
 {
     match w {
-        Word::Leaf(l) => leaf_least(l),
+        Word::Leaf(l) => match l {
+            LeafWord::Var => 0,
+            LeafWord::Int => 0,
+            LeafWord::Newtid => 0,
+            LeafWord::Newlock => 0,
+            LeafWord::Newsem => 0,
+            LeafWord::Newrwlock => 1,
+        },
         Word::Unary(_) => 0,
         Word::Binary(_) => 0,
     }
 }
 
-fn leaf_limit(w: LeafWord) -> u32
-    ensures { λ r. ⌜ r ≡ leafLimit w ⌝ }
-{
-    match w {
-        LeafWord::Var => 255,
-        LeafWord::Int => 65535,
-        LeafWord::Newtid => 0,
-        LeafWord::Newlock => 0,
-        LeafWord::Newsem => 0,
-        LeafWord::Newrwlock => 64,
-    }
-}
-
-fn binary_limit(w: BinaryWord) -> u32
-    ensures { λ r. ⌜ r ≡ binaryLimit w ⌝ }
-{
-    match w {
-        BinaryWord::Let => 255,
-        BinaryWord::If => 0,
-        BinaryWord::Spawn => 0,
-        BinaryWord::Write => 0,
-    }
-}
-
 // The largest v that a step with this word may have.
 fn limit_of(w: Word) -> u32
-    ensures { λ r. ⌜ r ≡ limitOf w ⌝ }
+    ensures { λ r. ⌜ r ≡ largestValue w ⌝ }
 {
     match w {
-        Word::Leaf(l) => leaf_limit(l),
+        Word::Leaf(l) => match l {
+            LeafWord::Var => 255,
+            LeafWord::Int => 65535,
+            LeafWord::Newtid => 0,
+            LeafWord::Newlock => 0,
+            LeafWord::Newsem => 0,
+            LeafWord::Newrwlock => 64,
+        },
         Word::Unary(_) => 0,
-        Word::Binary(b) => binary_limit(b),
+        Word::Binary(b) => match b {
+            BinaryWord::Let => 255,
+            BinaryWord::If => 0,
+            BinaryWord::Spawn => 0,
+            BinaryWord::Write => 0,
+        },
     }
 }
 
@@ -200,7 +185,7 @@ pub enum StepLines {
 
 // The n step lines from the cursor on, stored in line order.
 pub fn step_lines(text: &[u8], work: &mut [u32], n: usize, start: Cursor) -> StepLines
-    requires { ⌜ (length (now work) ≡ 16384) × (n ≤ 256) × Placed (now text) start ⌝ }
+    requires { ⌜ (length (now work) ≡ workSize) × (n ≤ 256) × Placed (now text) start ⌝ }
     ensures { λ r. ⌜ StepsShown (now (text .entry)) n start (now (work .entry)) (now (work .exit)) r ⌝ }
 {
     let mut cursor = start;
@@ -210,6 +195,7 @@ pub fn step_lines(text: &[u8], work: &mut [u32], n: usize, start: Cursor) -> Ste
             StepLine::Step(word, v, behind) => {
                 work[WORDS + k] = workspace::code_of(word);
                 work[VALUES + k] = v;
+                work[LINES + k] = behind.line;
                 cursor = behind;
             }
             StepLine::Refused(refusal) => {

@@ -3,12 +3,13 @@ use crate::Outcome;
 use spec::Refusal;
 use spec::Word;
 use workspace::ENDS;
+use workspace::LINES;
 use workspace::WORDS;
 ghost use mathlib.Core.Path.{_≡_};
 ghost use Prim.Native.Nat.{_≤_};
 ghost use lib.ListN.{length};
-ghost use Rattle.program.specs.Stored.{partsOf};
-ghost use Rattle.program.specs.Structure.{Ended, Structured};
+ghost use Rattle.workspace.specs.Layout.{workSize};
+ghost use Rattle.program.specs.Structure.{partsOf, Ended, Structured};
 
 // Where steps that are read one after the other end, or that a part is missing at the last line.
 enum Ending {
@@ -30,7 +31,7 @@ fn parts_of(w: Word) -> usize
 // Reads the step at index k, and stores the index just past it and past each step in it. "Each part is again a step": it
 // reads its parts, which reads steps; the lines left fall.
 fn read_step(work: &mut [u32], n: usize, k: usize) -> Ending
-    requires { ⌜ (length (now work) ≡ 16384) × (n ≤ 256) × (k ≤ n) ⌝ }
+    requires { ⌜ (length (now work) ≡ workSize) × (n ≤ 256) × (k ≤ n) ⌝ }
     ensures { λ r. ⌜ Ended n 1 k (now (work .entry)) (now (work .exit)) r ⌝ }
 {
     if n <= k {
@@ -48,7 +49,7 @@ fn read_step(work: &mut [u32], n: usize, k: usize) -> Ending
 
 // Reads m steps, one after the other, from index k on.
 fn read_parts(work: &mut [u32], n: usize, m: usize, k: usize) -> Ending
-    requires { ⌜ (length (now work) ≡ 16384) × (n ≤ 256) × (k ≤ n) ⌝ }
+    requires { ⌜ (length (now work) ≡ workSize) × (n ≤ 256) × (k ≤ n) ⌝ }
     ensures { λ r. ⌜ Ended n m k (now (work .entry)) (now (work .exit)) r ⌝ }
 {
     if m == 0 {
@@ -60,22 +61,19 @@ fn read_parts(work: &mut [u32], n: usize, m: usize, k: usize) -> Ending
     }
 }
 
-// Whether the n steps stored list one expression.
-pub fn structure(work: &mut [u32], n: usize) -> Outcome
-    requires { ⌜ (length (now work) ≡ 16384) × (n ≤ 256) ⌝ }
-    ensures { λ r. ⌜ Structured n (now (work .entry)) (now (work .exit)) r ⌝ }
+// Whether the n steps stored list one expression; `last` is the last line read.
+pub fn structure(work: &mut [u32], n: usize, last: u32) -> Outcome
+    requires { ⌜ (length (now work) ≡ workSize) × (n ≤ 256) ⌝ }
+    ensures { λ r. ⌜ Structured n last (now (work .entry)) (now (work .exit)) r ⌝ }
 {
     match read_step(work, n, 0) {
         Ending::Reached(e) => {
-            if e == n {
+            if n <= e {
                 return Outcome::Passed;
             }
-            let line = e as u32 + 2;
+            let line = work[LINES + e];
             Outcome::Refused(Refusal::ProgramLines(line))
         }
-        Ending::Unfinished => {
-            let line = n as u32 + 1;
-            Outcome::Refused(Refusal::ProgramLines(line))
-        }
+        Ending::Unfinished => Outcome::Refused(Refusal::ProgramLines(last)),
     }
 }

@@ -92,7 +92,7 @@ module _ {w : List ℕ} {header : HeaderRead} {steps : ℕ} {S : Split} (K : Hol
     omega (arith, head (λ H. H .maps), K .inRange .mapsFew),
   )
 
-  pub maps-stand : (1 ≤ header .locations) × (header .locations ≤ 16) × (4096 + 16 * header .maps ≤ length w)
+  pub maps-stand : (1 ≤ header .locations) × (header .locations ≤ 16) × (mapsAt + stride * header .maps ≤ length w)
   unfolding headerTold
   maps-stand = (
     omega (arith, head (λ H. H .locations), K .inRange .locations),
@@ -100,5 +100,5 @@ module _ {w : List ℕ} {header : HeaderRead} {steps : ℕ} {S : Split} (K : Hol
     omega (arith, head (λ H. H .maps), K .inRange .mapsFew, K .split .empty .fits),
   )
 
-  pub rows-stand : 1536 + steps ≤ length w
+  pub rows-stand : startsAt + steps ≤ length w
   rows-stand = omega (arith, K .split .starts .fits, length-map (S .rows) (λ (r : Row). startNumber (r .start)), K .inRange .rowsCounted, K .counted)

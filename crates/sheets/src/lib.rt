@@ -19,6 +19,7 @@ ghost use mathlib.Core.Path.{_≡_};
 ghost use mathlib.Core.List.{[], _∷_, _++_, map};
 ghost use Prim.Native.Nat.{_*_, _+_, _≤_, _<_};
 ghost use lib.ListN.{length};
+ghost use Rattle.workspace.specs.Layout.{startsAt, mapsAt, stride};
 ghost use Rattle.workspace.specs.Sheets.{headerTold};
 ghost use Rattle.writer.specs.Text.{decimal, line, text};
 ghost use Rattle.writer.specs.Buffer.{Written};
@@ -114,7 +115,7 @@ fn write_types(buffer: &mut [u8], at: usize, work: &[u32], heading: Heading, typ
 
 // Writes the lines of so many maps, each with a number for each location.
 fn write_maps(buffer: &mut [u8], at: usize, work: &[u32], locations: usize, maps: usize) -> usize
-    requires { ⌜ (1 ≤ locations) × (locations ≤ 16) × (4096 + 16 * maps ≤ length (now work)) ⌝ }
+    requires { ⌜ (1 ≤ locations) × (locations ≤ 16) × (mapsAt + stride * maps ≤ length (now work)) ⌝ }
     ensures { λ r. ⌜ Written (now (buffer .entry)) (now (buffer .exit)) at (text (map mapFields (inOrder (mapIn locations (now (work .entry))) 0 maps))) r ⌝ }
 {
     let mut to = at;
@@ -130,7 +131,7 @@ fn write_maps(buffer: &mut [u8], at: usize, work: &[u32], locations: usize, maps
 
 // Writes the row of a step.
 fn write_row(buffer: &mut [u8], at: usize, work: &[u32], step: usize) -> usize
-    requires { ⌜ 1536 + step < length (now work) ⌝ }
+    requires { ⌜ startsAt + step < length (now work) ⌝ }
     ensures { λ r. ⌜ Written (now (buffer .entry)) (now (buffer .exit)) at (text (rowFields Check (rowIn (now (work .entry)) step) ∷ [])) r ⌝ }
 {
     let of = workspace::at(work, ROW_TYPES + step);
@@ -146,7 +147,7 @@ fn write_row(buffer: &mut [u8], at: usize, work: &[u32], step: usize) -> usize
 
 // Writes the rows of so many steps.
 fn write_rows(buffer: &mut [u8], at: usize, work: &[u32], steps: usize) -> usize
-    requires { ⌜ 1536 + steps ≤ length (now work) ⌝ }
+    requires { ⌜ startsAt + steps ≤ length (now work) ⌝ }
     ensures { λ r. ⌜ Written (now (buffer .entry)) (now (buffer .exit)) at (text (map (rowFields Check) (inOrder (rowIn (now (work .entry))) 0 steps))) r ⌝ }
 {
     let mut to = at;

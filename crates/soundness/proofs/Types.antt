@@ -3,16 +3,16 @@ use mathlib.Core.Path.{_≡_, refl, sym, ap, _∙_}
 use mathlib.Core.List.{List, [], _∷_, map}
 use mathlib.Core.Bool.{true}
 use mathlib.Core.Option.{Option, none, some}
-use Prim.Native.Nat.{ℕ, _-_, _≤_, _<_}
+use Prim.Native.Nat.{ℕ, _≤_, _<_}
 use native.Mathlib.Omega.{arith}
 use native.Mathlib.Decide.{ℕ-discrete, decLt}
 use lib.Dec.{eqb}
 use lib.ListN.{length, getD, List·getD-eq-default, length-replicate}
 use borrow.Author.Tests.{eq-eqb, ne-eqb}
 use Rattle.spec.specs.Choice.{if_then_else_}
-use Rattle.spec.specs.Expression.{Step, Expr, among}
+use Rattle.spec.specs.Expression.{Step, Expr, among, indexOf}
 use Rattle.spec.specs.Split.{Row, Split}
-use Rattle.spec.specs.Conditions.{typeIn, lineOf, typeAt, mapAt, mayShow, row, type, post, startIn, start}
+use Rattle.spec.specs.Conditions.{typeIn, typeAt, mapAt, mayShow, row, type, post, startIn, start}
 use Rattle.spec.specs.Conditions as conditions
 use Rattle.spec.specs.Agreement.{int, lock, tid, sem, rwlock, Tree, plain, ref, treeOf, tree, agree}
 use Rattle.spec.specs.Ranges.{InRange}
@@ -99,12 +99,12 @@ module _ {steps : List Step} (S : Split) (R : InRange steps S) where
 
   pub post-wide : (e : Expr) → length (post S e) ≡ S .header .locations
   unfolding post row unshown
-  post-wide e = map-wide (row S e .post) (by-cases (decLt (lineOf e - 2) (length (S .rows))))
+  post-wide e = map-wide (row S e .post) (by-cases (decLt (indexOf e) (length (S .rows))))
     where
-      by-cases : Dec (lineOf e - 2 < length (S .rows)) → row S e .post .0 < length (S .maps)
-      by-cases (yes l) = R .rowPost (lineOf e - 2) _ l
+      by-cases : Dec (indexOf e < length (S .rows)) → row S e .post .0 < length (S .maps)
+      by-cases (yes l) = R .rowPost (indexOf e) _ l
       by-cases (no l) =
-          let past : length (S .rows) ≤ lineOf e - 2 = omega arith in
+          let past : length (S .rows) ≤ indexOf e = omega arith in
           let map-0 : row S e .post .0 ≡ 0 = ap (λ (r : Row). r .post .0) (List·getD-eq-default (S .rows) unshown past) in
           omega (arith, map-0, R .mapsCounted, R .mapsFew .0)
 
@@ -115,12 +115,12 @@ module _ {steps : List Step} (S : Split) (R : InRange steps S) where
     where
       by-cases : (o : Option MapNumber) → row S e .start ≡ o → length (startIn S o) ≡ S .header .locations
       by-cases none given = length-replicate (S .header .locations) 0
-      by-cases (some m) given = map-wide m (in-sheet (decLt (lineOf e - 2) (length (S .rows))))
+      by-cases (some m) given = map-wide m (in-sheet (decLt (indexOf e) (length (S .rows))))
         where
-          in-sheet : Dec (lineOf e - 2 < length (S .rows)) → m .0 < length (S .maps)
-          in-sheet (yes l) = R .rowStart (lineOf e - 2) _ m l given
+          in-sheet : Dec (indexOf e < length (S .rows)) → m .0 < length (S .maps)
+          in-sheet (yes l) = R .rowStart (indexOf e) _ m l given
           in-sheet (no l) =
-              let past : length (S .rows) ≤ lineOf e - 2 = omega arith in
+              let past : length (S .rows) ≤ indexOf e = omega arith in
               none-is-not-some (sym (ap (λ (r : Row). r .start) (List·getD-eq-default (S .rows) unshown past)) ∙ given)
 
   pub lock-wide : (t : TypeNumber) (i o : MapNumber) → typeAt S t ≡ type-line.Lock i o

@@ -8,12 +8,12 @@ use lib.Dec.{eqb, leb, ltb}
 use lib.ListN.{length}
 use borrow.Author.Tests.{eqb-true}
 use Rattle.spec.specs.Reading.{Out, on, _>>=_, demand}
-use Rattle.spec.specs.Expression.{Expr, leaf, unary, binary}
+use Rattle.spec.specs.Expression.{Expr, leaf, unary, binary, lineOf}
 use Rattle.spec.specs.Program.{program, programLimit}
 use Rattle.spec.specs.Split.{Map, Split, split, splitLimit}
 use Rattle.spec.specs.Maps.{_=ᵐ_, _≥ᵐ_, share}
 use Rattle.spec.specs.Agreement.{agree}
-use Rattle.spec.specs.Conditions.{Condition, T, F, A, Env, typeIn, lineOf, isInt, isRef, place, type, kind, post, mapAt, startMap, contains, mayShow, own}
+use Rattle.spec.specs.Conditions.{Condition, T, F, A, Env, typeIn, isInt, isRef, place, type, kind, post, startMap, contains, mayShow, own}
 use Rattle.spec.specs.Sites.{Site, sites, Claim, numbered, claimsAt, claims, firstFalse}
 use Rattle.spec.specs.FirstFalse.{Holds, AllHold}
 use Rattle.spec.specs.Workspace.{workspaceSize}

@@ -4,21 +4,20 @@ use mathlib.Core.List.{List, [], _∷_}
 use mathlib.Core.Bool.{Bool, true, false}
 use mathlib.Core.Option.{Option, none, some}
 use Prim.Native.Nat.{ℕ, _+_}
-use lib.Dec.{eqb}
 use Rattle.spec.specs.Choice.{if_then_else_}
 use Rattle.spec.specs.Text.{Line, closed, unclosed, Field, fields}
 use Rattle.spec.specs.Reading.{Out, stop, on, _>>=_, demand, Fault, badForm, badRange, noStart, freelock, Seen, right, wrong, SheetName, programSheet, splitSheet, form, outside, miscounted, faulty, Place, passed, nextLine, next, nextAll, begin, noneLeft, end}
-use Rattle.spec.specs.Expression.{Step, Expr, leaf, unary, binary, size, single, among, scope}
+use Rattle.spec.specs.Expression.{Step, Expr, leaf, unary, binary, whole, single, among, scopeStep, scope}
 use Rattle.spec.specs.Program.{Program, program}
 use Rattle.spec.specs.Split.{Split, split}
 use Rattle.spec.specs.Verdict.{takesEnough, allTakeEnough, locksTakeEnough, refuseOver, startAtMostOne, four, returned, onConditions}
 use Rattle.spec.specs.declared.Answer.the-variants.{Refuse}
 use Rattle.spec.specs.declared.Purpose.{Purpose}
 use Rattle.spec.specs.declared.Refusal.{Refusal}
-use Rattle.spec.specs.declared.Refusal.the-variants.{ProgramLines, Unbound, Rebound, LockTakesLess}
+use Rattle.spec.specs.declared.Refusal.the-variants.{Unbound, Rebound, LockTakesLess}
 use Rattle.spec.specs.declared.TypeLine.{TypeLine}
-use Rattle.spec.specs.declared.LeafWord.the-variants.{Var, Int, Newtid, Newlock, Newsem, Newrwlock}
-use Rattle.spec.specs.declared.BinaryWord.the-variants.{Let, If, Spawn, Write}
+use Rattle.spec.specs.declared.Role.{Role}
+use Rattle.spec.specs.declared.Role.the-variants.{Binds, Uses, Neither}
 use Rattle.spec.proofs.Clashes.{true-is-not-false}
 use Rattle.spec.proofs.Outcomes.{stop-is-not-on, stop-injective}
 
@@ -121,26 +120,29 @@ end-early sheet place = none-left-early sheet (place .last) (place .rest)
 
 -- ------------------------------------------------------------------ the sheets
 
-single-early : (n : ℕ) (es : List Expr) → Early (single n es)
+whole-early : (e : Expr) (left : List Step) → Early (whole e left)
+unfolding whole returned four onConditions
+whole-early e [] = tt
+whole-early e (s ∷ left) = refl
+
+single-early : (last : ℕ) (steps : List Step) (es : List Expr) → Early (single last steps es)
 unfolding single returned four onConditions
-single-early n [] = refl
-single-early n (e ∷ es) = early-choice (eqb (size e) n) (on e) (stop (ProgramLines (size e + 2))) tt (refl)
+single-early last steps [] = refl
+single-early last steps (e ∷ es) = whole-early e _
+
+step-early : (r : Role) (k v : ℕ) (inside bound : List ℕ) → Early (scopeStep r k v inside bound)
+unfolding scopeStep returned four onConditions
+step-early Binds k v inside bound = early-choice (among v bound) (stop (Rebound k)) (on (v ∷ bound)) refl tt
+step-early Uses k v inside bound = early-choice (among v inside) (on bound) (stop (Unbound k)) tt refl
+step-early Neither k v inside bound = tt
 
 scope-early : (e : Expr) (inside bound : List ℕ) → Early (scope e inside bound)
-unfolding scope returned four onConditions
-scope-early (leaf Var k v) inside bound = early-choice (among v inside) (on bound) (stop (Unbound k)) tt (refl)
-scope-early (leaf Int k v) inside bound = tt
-scope-early (leaf Newtid k v) inside bound = tt
-scope-early (leaf Newlock k v) inside bound = tt
-scope-early (leaf Newsem k v) inside bound = tt
-scope-early (leaf Newrwlock k v) inside bound = tt
-scope-early (unary w k v e) inside bound = scope-early e inside bound
-scope-early (binary Let k v e₁ e₂) inside bound =
-    early-choice (among v bound) (stop (Rebound k)) _ (refl)
-    (early-bind _ _ (scope-early e₁ inside (v ∷ bound)) λ b. scope-early e₂ (v ∷ inside) b)
-scope-early (binary If k v e₁ e₂) inside bound = early-bind _ _ (scope-early e₁ inside bound) λ b. scope-early e₂ inside b
-scope-early (binary Spawn k v e₁ e₂) inside bound = early-bind _ _ (scope-early e₁ inside bound) λ b. scope-early e₂ inside b
-scope-early (binary Write k v e₁ e₂) inside bound = early-bind _ _ (scope-early e₁ inside bound) λ b. scope-early e₂ inside b
+unfolding scope
+scope-early (leaf w k v) inside bound = step-early _ (k .line) v inside bound
+scope-early (unary w k v e) inside bound = early-bind _ _ (step-early _ (k .line) v inside bound) λ b. scope-early e inside b
+scope-early (binary w k v e₁ e₂) inside bound =
+    early-bind _ _ (step-early _ (k .line) v inside bound) λ b.
+    early-bind _ _ (scope-early e₁ inside b) λ b₁. scope-early e₂ _ b₁
 
 pub program-early : (text : List ℕ) → Early (program text)
 unfolding program
@@ -149,7 +151,7 @@ program-early text =
     early-bind _ _ (next-early programSheet _ top) λ n.
     early-bind _ _ (all-early programSheet _ (n .1)) λ s.
     early-bind _ _ (end-early programSheet (s .1)) λ done.
-    early-bind _ _ (single-early (n .0) _) λ e.
+    early-bind _ _ (single-early (s .1 .last) (s .0) _) λ e.
     early-bind _ _ (scope-early e [] []) λ bound. tt
 
 pub split-early : (purpose : Purpose) (steps : List Step) (text : List ℕ) → Early (split purpose steps text)

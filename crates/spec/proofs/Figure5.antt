@@ -1,17 +1,19 @@
 -- No condition is false exactly when the split's types and maps are derived by Figure 5.
 -- A step's own conditions and those of its parts are taken apart and put together by the two laws below; each rule then
 -- is its row of the table, read one way or the other.
-use mathlib.Core.Path.{_≡_, refl, subst, sym, _∙_}
+use mathlib.Core.Path.{_≡_, subst, sym}
 use mathlib.Core.List.{List, [], _∷_, _++_}
 use Prim.Native.Nat.{ℕ}
 use borrow.Author.Tests.{leb-true, ltb-true}
 use Rattle.spec.specs.Reading.{on}
-use Rattle.spec.specs.Expression.{Expr, leaf, unary, binary}
+use Rattle.spec.specs.Words.{role, binding, preOfPart, preOfSecond}
+use Rattle.spec.specs.Expression.{Position, Expr, leaf, unary, binary}
 use Rattle.spec.specs.Split.{Map, Split}
 use Rattle.spec.specs.Conditions.{Env, type, post, start, K, inMap, outMap, readMap, writeMap, own}
-use Rattle.spec.specs.Sites.{Site, sites, preOfPart, preOfSecond, bind, numbered, claimsAt, claims, firstFalse}
+use Rattle.spec.specs.Sites.{Site, sites, numbered, claimsAt, claims, firstFalse}
 use Rattle.spec.specs.FirstFalse.{Holds, AllHold}
 use Rattle.spec.specs.Figure5.{Derives, VAR, INT, LET, IF, WHILE, NEWT, SPAWN, JOIN, REF, WRITE, READ, NEWL, LCK, ULCK, NEWSEM, POST, WAIT, NEWRWLOCK, RDLOCK, RDUNLOCK, WRLOCK, WRUNLOCK}
+use Rattle.spec.specs.declared.Word.the-variants.{Binary}
 use Rattle.spec.specs.declared.LeafWord.{LeafWord}
 use Rattle.spec.specs.declared.LeafWord.the-variants.{Var, Int, Newtid, Newlock, Newsem, Newrwlock}
 use Rattle.spec.specs.declared.UnaryWord.{UnaryWord}
@@ -46,18 +48,18 @@ module _ (S : Split) where
   parts-both : (xs ys : List Site) → AllAt xs → AllAt ys → AllAt (xs ++ ys)
   parts-both xs ys p q = subst AllHold (sym (claims-append S xs ys)) (all-hold-append (claims S xs) (claims S ys) p q)
 
-  leaf-own : (Γ : Env) (pre : Map) (w : LeafWord) (k v : ℕ) → AllAt (sites S Γ pre (leaf w k v)) → OwnAt Γ pre (leaf w k v)
+  leaf-own : (Γ : Env) (pre : Map) (w : LeafWord) (k : Position) (v : ℕ) → AllAt (sites S Γ pre (leaf w k v)) → OwnAt Γ pre (leaf w k v)
   unfolding sites
   leaf-own Γ pre w k v h = step-parts _ [] h .0
 
-  unary-own : (Γ : Env) (pre : Map) (w : UnaryWord) (k v : ℕ) (e₁ : Expr) → AllAt (sites S Γ pre (unary w k v e₁))
+  unary-own : (Γ : Env) (pre : Map) (w : UnaryWord) (k : Position) (v : ℕ) (e₁ : Expr) → AllAt (sites S Γ pre (unary w k v e₁))
       → OwnAt Γ pre (unary w k v e₁) × AllAt (sites S Γ (preOfPart w pre (post S (unary w k v e₁))) e₁)
   unfolding sites
   unary-own Γ pre w k v e₁ h = step-parts _ _ h
 
-  binary-own : (Γ : Env) (pre : Map) (w : BinaryWord) (k v : ℕ) (e₁ e₂ : Expr) → AllAt (sites S Γ pre (binary w k v e₁ e₂))
+  binary-own : (Γ : Env) (pre : Map) (w : BinaryWord) (k : Position) (v : ℕ) (e₁ e₂ : Expr) → AllAt (sites S Γ pre (binary w k v e₁ e₂))
       → OwnAt Γ pre (binary w k v e₁ e₂) × AllAt (sites S Γ pre e₁)
-      × AllAt (sites S (bind w v (type S e₁) Γ) (preOfSecond w pre (post S e₁) (start S (binary w k v e₁ e₂))) e₂)
+      × AllAt (sites S (binding (role (Binary w)) (v, type S e₁) Γ) (preOfSecond w pre (post S e₁) (start S (binary w k v e₁ e₂))) e₂)
   unfolding sites
   binary-own Γ pre w k v e₁ e₂ h =
       let s = step-parts _ _ h in
@@ -67,7 +69,7 @@ module _ (S : Split) where
   -- ------------------------------------------------------------------ from conditions to a derivation
 
   holding-derives : (Γ : Env) (pre : Map) (e : Expr) → AllAt (sites S Γ pre e) → Derives S Γ pre e
-  unfolding AllHold Holds claimsAt numbered own preOfPart preOfSecond bind post start K inMap outMap readMap writeMap
+  unfolding AllHold Holds claimsAt numbered own preOfPart preOfSecond role binding post start K inMap outMap readMap writeMap
   holding-derives Γ pre (leaf Var k v) h =
       let c = leaf-own Γ pre Var k v h in
       VAR (c .0) (none-equal (c .1 .0))
@@ -143,24 +145,24 @@ module _ (S : Split) where
 
   -- ------------------------------------------------------------------ from a derivation to conditions
 
-  leaf-all : (Γ : Env) (pre : Map) (w : LeafWord) (k v : ℕ) → OwnAt Γ pre (leaf w k v) → AllAt (sites S Γ pre (leaf w k v))
+  leaf-all : (Γ : Env) (pre : Map) (w : LeafWord) (k : Position) (v : ℕ) → OwnAt Γ pre (leaf w k v) → AllAt (sites S Γ pre (leaf w k v))
   unfolding sites claims AllHold
   leaf-all Γ pre w k v c = parts-step _ [] c tt
 
-  unary-all : (Γ : Env) (pre : Map) (w : UnaryWord) (k v : ℕ) (e₁ : Expr) → OwnAt Γ pre (unary w k v e₁)
+  unary-all : (Γ : Env) (pre : Map) (w : UnaryWord) (k : Position) (v : ℕ) (e₁ : Expr) → OwnAt Γ pre (unary w k v e₁)
       → AllAt (sites S Γ (preOfPart w pre (post S (unary w k v e₁))) e₁) → AllAt (sites S Γ pre (unary w k v e₁))
   unfolding sites
   unary-all Γ pre w k v e₁ c h₁ = parts-step _ _ c h₁
 
-  binary-all : (Γ : Env) (pre : Map) (w : BinaryWord) (k v : ℕ) (e₁ e₂ : Expr) → OwnAt Γ pre (binary w k v e₁ e₂)
+  binary-all : (Γ : Env) (pre : Map) (w : BinaryWord) (k : Position) (v : ℕ) (e₁ e₂ : Expr) → OwnAt Γ pre (binary w k v e₁ e₂)
       → AllAt (sites S Γ pre e₁)
-      → AllAt (sites S (bind w v (type S e₁) Γ) (preOfSecond w pre (post S e₁) (start S (binary w k v e₁ e₂))) e₂)
+      → AllAt (sites S (binding (role (Binary w)) (v, type S e₁) Γ) (preOfSecond w pre (post S e₁) (start S (binary w k v e₁ e₂))) e₂)
       → AllAt (sites S Γ pre (binary w k v e₁ e₂))
   unfolding sites
   binary-all Γ pre w k v e₁ e₂ c h₁ h₂ = parts-step _ _ c (parts-both (sites S Γ pre e₁) _ h₁ h₂)
 
   derived-holds : {Γ : Env} {Ψ : Map} {e : Expr} → Derives S Γ Ψ e → AllAt (sites S Γ Ψ e)
-  unfolding AllHold Holds claimsAt numbered own preOfPart preOfSecond bind post start K inMap outMap readMap writeMap
+  unfolding AllHold Holds claimsAt numbered own preOfPart preOfSecond role binding post start K inMap outMap readMap writeMap
   derived-holds {Γ} {Ψ} (VAR {k = k} {v = v} t p) =
       leaf-all Γ Ψ Var k v (t, (equal-none p, tt))
   derived-holds {Γ} {Ψ} (INT {k = k} {v = v} t p) =

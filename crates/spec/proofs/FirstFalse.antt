@@ -9,10 +9,12 @@ use Rattle.spec.specs.Conditions.{startMap}
 use Rattle.spec.specs.Sites.{sites, claims}
 use Rattle.spec.specs.Workspace.{workspaceSize}
 use Rattle.spec.specs.Verdict.{ruled, checked, answer, verdict, returned, onConditions}
+use Rattle.spec.specs.WellFormed.{firstStepLine}
 use Rattle.spec.specs.FirstFalse.{Refuted}
 use Rattle.spec.specs.declared.Answer.the-variants.{Refuse}
 use Rattle.spec.specs.declared.Refusal.{Refusal}
 use Rattle.spec.proofs.Claims.{stopped-first-false, first-false-stopped}
+use Rattle.spec.proofs.StepLines.{steps-rise}
 use Rattle.spec.proofs.Order.{claims-in-order}
 use Rattle.spec.proofs.Reached.{reached, reached-checked}
 
@@ -33,7 +35,7 @@ refusal-names-first-false room p s r h late =
       split = c .split;
       locks = c .locks;
       atMostOne = c .atMostOne;
-      inOrder = claims-in-order (c .S) [] (startMap (c .S)) (c .P .root) 2 (c .program .numbering);
+      inOrder = claims-in-order (c .S) [] (startMap (c .S)) (c .P .root) firstStepLine (rw (c .program .listing) (steps-rise firstStepLine _ (c .program .stepped)));
       first = stopped-first-false (claims (c .S) (sites (c .S) [] (startMap (c .S)) (c .P .root))) (c .outcome);
     }
 

@@ -7,13 +7,14 @@ use mathlib.Core.Option.{some}
 use Prim.Native.Nat.{ℕ, zero, suc, _+_, _≤_}
 use native.Mathlib.Omega.{arith}
 use lib.Dec.{eqb, leb}
-use lib.ListN.{length, replicate, drop, length-append, length-drop}
+use lib.ListN.{length, drop, length-append, length-drop}
 use borrow.Author.Tests.{leb-true, le-leb}
 use Rattle.spec.specs.Choice.{if_then_else_}
 use Rattle.spec.specs.Text.{bytes, same, Line, closed, unclosed, lines, Field, fields, lookUp}
 use Rattle.spec.specs.Reading.{Out, stop, on, _>>=_, demand, Seen, right, wrong, badForm, programSheet, Place, passed, nextLine, next, nextAll, begin, noneLeft, end}
+use Rattle.spec.specs.Words.{leafWords, cellWords, lockWords, unaryWords, words}
 use Rattle.spec.specs.Expression.{Step, listed, single, scope}
-use Rattle.spec.specs.Program.{programLimit, countLine, words, wordLine, stepLine, Program, program}
+use Rattle.spec.specs.Program.{programLimit, countLine, wordLine, stepLine, stepLines, Program, program}
 use Rattle.spec.specs.Split.{split, splitLimit}
 use Rattle.spec.specs.Workspace.{workspaceSize}
 use Rattle.spec.specs.Verdict.{locksTakeEnough, startAtMostOne, ruled, checked, answer, verdict, four, returned}
@@ -29,19 +30,23 @@ use Rattle.spec.proofs.Texts.{OneLine, _above_, joined, Lined, no-line,
 -- ------------------------------------------------------------------ the reading before
 
 -- `freelock,v` had the conditions of `lock,v`; other lines are read as they are now
-unfoldable pub stepLineFormerly : List Field → Seen Step
-stepLineFormerly [] = wrong badForm
-stepLineFormerly (f ∷ fs) =
-    if same f (bytes "freelock") then wordLine (some (Unary Lock)) fs
-    else wordLine (lookUp words f) fs
+unfoldable pub stepLineFormerly : (line : ℕ) → List Field → Seen Step
+stepLineFormerly k [] = wrong badForm
+stepLineFormerly k (f ∷ fs) =
+    if same f (bytes "freelock") then wordLine k (some (Unary Lock)) fs
+    else wordLine k (lookUp words f) fs
+
+unfoldable pub stepLinesFormerly : (line n : ℕ) → List (List Field → Seen Step)
+stepLinesFormerly k zero = []
+stepLinesFormerly k (suc n) = stepLineFormerly k ∷ stepLinesFormerly (k + 1) n
 
 unfoldable pub programFormerly : List ℕ → Out Program
 programFormerly text = do
   top ← begin programSheet (lines text)
   (n, first) ← next programSheet countLine top
-  (steps, last) ← nextAll programSheet (replicate n stepLineFormerly) first
+  (steps, last) ← nextAll programSheet (stepLinesFormerly (first .last + 1) n) first
   done ← end programSheet last
-  e ← single n (listed 2 steps)
+  e ← single (last .last) steps (listed 0 steps)
   bound ← scope e [] []
   on (record { steps = steps; root = e })
 
@@ -103,16 +108,16 @@ changed-alike read read′ empty gone other l = by-fields (fields l) refl
     by-fields [] e = empty ∙ sym (ap read′ e)
     by-fields (f ∷ fs) e = by-word f fs e (same f (bytes "freelock")) refl
 
-step-alike : (l : List ℕ) → stepLineFormerly (fields l) ≡ stepLine (fields (lockInstead l))
-step-alike = changed-alike stepLineFormerly stepLine no-fields changed other
+step-alike : (k : ℕ) (l : List ℕ) → stepLineFormerly k (fields l) ≡ stepLine k (fields (lockInstead l))
+step-alike k = changed-alike (stepLineFormerly k) (stepLine k) no-fields changed other
   where
-    no-fields : stepLineFormerly [] ≡ stepLine []
+    no-fields : stepLineFormerly k [] ≡ stepLine k []
     no-fields = unfold stepLineFormerly stepLine in refl
 
-    changed : (fs : List Field) → stepLineFormerly (bytes "freelock" ∷ fs) ≡ stepLine (bytes "lock" ∷ fs)
-    changed fs = unfold stepLineFormerly stepLine lookUp words same bytes in refl
+    changed : (fs : List Field) → stepLineFormerly k (bytes "freelock" ∷ fs) ≡ stepLine k (bytes "lock" ∷ fs)
+    changed fs = unfold stepLineFormerly stepLine lookUp words leafWords unaryWords cellWords lockWords same bytes in refl
 
-    other : (f : Field) (fs : List Field) → same f (bytes "freelock") ≡ false → stepLineFormerly (f ∷ fs) ≡ stepLine (f ∷ fs)
+    other : (f : Field) (fs : List Field) → same f (bytes "freelock") ≡ false → stepLineFormerly k (f ∷ fs) ≡ stepLine k (f ∷ fs)
     other f fs w = unfold stepLineFormerly stepLine in rw w
 
 count-alike : (l : List ℕ) → countLine (fields l) ≡ countLine (fields (lockInstead l))
@@ -159,12 +164,13 @@ module _ {A : Type 0} where
         behind (stop r) = refl
         behind (on (as′, q)) = refl
 
-    all-moved : (n : ℕ) (p : Place) → nextAll programSheet (replicate n read′) (changedPlace p) ≡ (nextAll programSheet (replicate n read) p >>= moved)
-    unfolding nextAll
-    all-moved zero p = unfold _>>=_ moved in refl
-    all-moved (suc n) p =
-        rw (next-moved p)
-        (then-moved (next programSheet read p) (nextAll programSheet (replicate n read)) (nextAll programSheet (replicate n read′)) (all-moved n))
+steps-moved : (k n : ℕ) (p : Place) → nextAll programSheet (stepLines k n) (changedPlace p) ≡ (nextAll programSheet (stepLinesFormerly k n) p >>= moved)
+unfolding nextAll stepLines stepLinesFormerly
+steps-moved k zero p = unfold _>>=_ moved in refl
+steps-moved k (suc n) p =
+    rw (next-moved (stepLineFormerly k) (stepLine k) (step-alike k) p)
+    (then-moved (stepLineFormerly k) (stepLine k) (step-alike k) (next programSheet (stepLineFormerly k) p)
+    (nextAll programSheet (stepLinesFormerly (k + 1) n)) (nextAll programSheet (stepLines (k + 1) n)) (steps-moved (k + 1) n))
 
 end-moved : (p : Place) → end programSheet (changedPlace p) ≡ end programSheet p
 unfolding end changedPlace
@@ -177,25 +183,26 @@ end-moved p = by-lines (p .rest)
 -- ------------------------------------------------------------------ the sheet
 
 -- behind the steps, and behind the header
-unfoldable afterSteps : (n : ℕ) → List Step × Place → Out Program
-afterSteps n (steps, last) = do
+unfoldable afterSteps : List Step × Place → Out Program
+afterSteps (steps, last) = do
   done ← end programSheet last
-  e ← single n (listed 2 steps)
+  e ← single (last .last) steps (listed 0 steps)
   bound ← scope e [] []
   on (record { steps = steps; root = e })
 
-unfoldable afterCount : (List Field → Seen Step) → ℕ × Place → Out Program
-afterCount read (n, first) = nextAll programSheet (replicate n read) first >>= afterSteps n
+unfoldable afterCount : ((line n : ℕ) → List (List Field → Seen Step)) → ℕ × Place → Out Program
+afterCount reads (n, first) = nextAll programSheet (reads (first .last + 1) n) first >>= afterSteps
 
-steps-moved : (n : ℕ) (o : Out (List Step × Place)) → (o >>= moved >>= afterSteps n) ≡ (o >>= afterSteps n)
+tree-moved : (o : Out (List Step × Place)) → (o >>= moved >>= afterSteps) ≡ (o >>= afterSteps)
 unfolding _>>=_ moved afterSteps
-steps-moved n (stop r) = refl
-steps-moved n (on (steps, p)) = rw (end-moved p)
+tree-moved (stop r) = refl
+tree-moved (on (steps, p)) = rw (end-moved p) (unfold changedPlace in refl)
 
-count-moved : (o : Out (ℕ × Place)) → (o >>= moved >>= afterCount stepLine) ≡ (o >>= afterCount stepLineFormerly)
+count-moved : (o : Out (ℕ × Place)) → (o >>= moved >>= afterCount stepLines) ≡ (o >>= afterCount stepLinesFormerly)
 unfolding _>>=_ moved afterCount
 count-moved (stop r) = refl
-count-moved (on (n, p)) = rw (all-moved stepLineFormerly stepLine step-alike n p) (steps-moved n (nextAll programSheet (replicate n stepLineFormerly) p))
+count-moved (on (n, p)) = unfold changedPlace in
+    ap (_>>= afterSteps) (steps-moved (p .last + 1) n p) ∙ tree-moved (nextAll programSheet (stepLinesFormerly (p .last + 1) n) p)
 
 program-alike : (p p′ : List ℕ) → lines p′ ≡ map (onClosed lockInstead) (lines p) → program p′ ≡ programFormerly p
 unfolding program programFormerly afterCount afterSteps
@@ -206,10 +213,10 @@ program-alike p p′ e = by-lines (lines p) refl
     by-lines (l ∷ ls) h = rw (e, h) (begun l ls)
       where
         begun : (l : Line) (ls : List Line)
-            → (begin programSheet (map (onClosed lockInstead) (l ∷ ls)) >>= λ top. next programSheet countLine top >>= afterCount stepLine)
-            ≡ (begin programSheet (l ∷ ls) >>= λ top. next programSheet countLine top >>= afterCount stepLineFormerly)
+            → (begin programSheet (map (onClosed lockInstead) (l ∷ ls)) >>= λ top. next programSheet countLine top >>= afterCount stepLines)
+            ≡ (begin programSheet (l ∷ ls) >>= λ top. next programSheet countLine top >>= afterCount stepLinesFormerly)
         begun l ls = unfold begin _>>=_ changedPlace in
-            ap (_>>= afterCount stepLine) (next-moved countLine countLine count-alike (record { last = 0; rest = l ∷ ls }))
+            ap (_>>= afterCount stepLines) (next-moved countLine countLine count-alike (record { last = 0; rest = l ∷ ls }))
             ∙ count-moved (next programSheet countLine (record { last = 0; rest = l ∷ ls }))
 
 -- ------------------------------------------------------------------ the text

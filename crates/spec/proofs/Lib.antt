@@ -25,6 +25,7 @@ pub mod EarlyRefusals
 pub mod Reached
 pub mod Accepted
 pub mod AcceptedBefore
+pub mod StepLines
 pub mod Order
 pub mod NoHeading
 pub mod Headings

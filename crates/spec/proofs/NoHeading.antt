@@ -7,12 +7,13 @@ use Prim.Native.Nat.{ℕ, _+_}
 use lib.ListN.{getD}
 use Rattle.spec.specs.Choice.{if_then_else_}
 use Rattle.spec.specs.Reading.{Out, _>>=_, demand}
+use Rattle.spec.specs.Words.{role, binding, preOfPart, preOfSecond}
 use Rattle.spec.specs.Expression.{Expr, leaf, unary, binary}
 use Rattle.spec.specs.Program.{Program}
 use Rattle.spec.specs.Split.{Map, Header, Split}
 use Rattle.spec.specs.Agreement.{Tree, plain, int, sameTree, treeOf, trees, tree, agree}
 use Rattle.spec.specs.Conditions.{Condition, T, Env, typeAt, mapAt, startMap, isLock, contains, looserLock, mayShow, row, type, kind, post, startIn, start, K, inMap, outMap, readMap, writeMap, own}
-use Rattle.spec.specs.Sites.{Site, preOfPart, preOfSecond, bind, sites, claimsAt, claims, firstFalse}
+use Rattle.spec.specs.Sites.{Site, sites, claimsAt, claims, firstFalse}
 use Rattle.spec.specs.Verdict.{takesEnough, allTakeEnough, locksTakeEnough, startAtMostOne, ruled}
 use Rattle.spec.specs.declared.Heading.{Heading}
 use Rattle.spec.specs.declared.MapNumber.{MapNumber}
@@ -20,6 +21,7 @@ use Rattle.spec.specs.declared.TypeNumber.{TypeNumber}
 use Rattle.spec.specs.declared.TypeLine.{TypeLine}
 use Rattle.spec.specs.declared.TypeLine.the-variants as type-line
 use Rattle.spec.specs.declared.Refusal.the-variants.{LockTakesLess}
+use Rattle.spec.specs.declared.Word.the-variants.{Binary}
 use Rattle.spec.specs.declared.LeafWord.the-variants.{Var, Int, Newtid, Newlock, Newsem, Newrwlock}
 use Rattle.spec.specs.declared.UnaryWord.the-variants.{While, Join, Ref, Read, Lock, Unlock, Post, Wait, Rdlock, Rdunlock, Wrlock, Wrunlock}
 use Rattle.spec.specs.declared.BinaryWord.the-variants.{Let, If, Spawn, Write}
@@ -149,7 +151,7 @@ module _ (h : Heading) (S : Split) where
       rw (
         same-start-in (row S (binary w k v e₁ e₂) .start),
         same-sites Γ pre e₁,
-        same-sites (bind w v (type S e₁) Γ) (preOfSecond w pre (post S e₁) (start S (binary w k v e₁ e₂))) e₂,
+        same-sites (binding (role (Binary w)) (v, type S e₁) Γ) (preOfSecond w pre (post S e₁) (start S (binary w k v e₁ e₂))) e₂,
       )
 
   same-claims : (ss : List Site) → claims (under h S) ss ≡ claims S ss

@@ -12,8 +12,9 @@ use borrow.Author.Tests.{eqb-true, leb-true, ltb-true, le-leb, lt-leb}
 use Rattle.spec.specs.Choice.{if_then_else_}
 use Rattle.spec.specs.Text.{Line, bytes, same, Field, lookUp, numeral}
 use Rattle.spec.specs.Reading.{Fault, badForm, badRange, noStart, Seen, right, wrong, seen, insist, Range, _to_, below, inRange, allInRange, withNumeral, numerals, ranged, numbers}
+use Rattle.spec.specs.Words.{takesStart}
 use Rattle.spec.specs.Expression.{Step}
-use Rattle.spec.specs.Split.{Map, Header, headings, headerRanges, mapsOf, mapsIn, startOf, headerOf, headed, headerLine, refOf, lockOf, outRange, tidOf, semOf, rwlockOf, typeLine, typeLines, mapLine, Row, rowOf, startGiven, takesStart, startRange, postRange, postField, rowLine, Split}
+use Rattle.spec.specs.Split.{Map, Header, headings, headerRanges, mapsOf, mapsIn, startOf, headerOf, headed, headerLine, refOf, lockOf, outRange, tidOf, semOf, rwlockOf, typeLine, typeLines, mapLine, Row, rowOf, startGiven, startRange, postRange, postField, rowLine, Split}
 use Rattle.spec.specs.WellFormed.{Shows, nothing, line, WellFormedSplit}
 use Rattle.spec.specs.declared.Purpose.{Purpose}
 use Rattle.spec.specs.declared.Purpose.the-variants.{Check, Fill}

@@ -47,28 +47,29 @@ module _ {A : Type 0} where
 -- ------------------------------------------------------------------ from reading to lines
 
 passed-right : {A : Type 0} {a : A} {p : Place} (sheet : SheetName) (k : ℕ) (rest : List Line) (x : Seen A)
-    → passed sheet k rest x ≡ on (a, p) → (x ≡ right a) × (rest ≡ p .rest)
+    → passed sheet k rest x ≡ on (a, p) → (x ≡ right a) × (record { last = k; rest = rest } ≡ p)
 unfolding passed
-passed-right sheet k rest (right a) h = (ap (λ r. right (r .0)) (on-injective h), ap (λ r. r .1 .rest) (on-injective h))
+passed-right sheet k rest (right a) h = (ap (λ r. right (r .0)) (on-injective h), ap (λ r. r .1) (on-injective h))
 passed-right sheet k rest (wrong w) h = stop-is-not-on h
 
--- the lines ls begin with a closed one that shows a, and rest is behind it
-pub record Begins {A : Type 0} (read : List Field → Seen A) (ls : List Line) (a : A) (rest : List Line) : Type 0 where
+-- the lines ls behind line k begin with a closed one that shows a, and p is the place behind it
+pub record Begins {A : Type 0} (read : List Field → Seen A) (k : ℕ) (ls : List Line) (a : A) (p : Place) : Type 0 where
   pub first : List ℕ
-  pub lined : ls ≡ closed first ∷ rest
+  pub lined : ls ≡ closed first ∷ p .rest
   pub shown : read (fields first) ≡ right a
+  pub counted : p .last ≡ k + 1
 
 line-begins : {A : Type 0} {a : A} {p : Place} (sheet : SheetName) (read : List Field → Seen A) (k : ℕ) (ls : List Line)
-    → nextLine sheet read k ls ≡ on (a, p) → Begins read ls a (p .rest)
+    → nextLine sheet read k ls ≡ on (a, p) → Begins read k ls a p
 unfolding nextLine
 line-begins sheet read k [] h = stop-is-not-on h
 line-begins sheet read k (unclosed l ∷ rest) h = stop-is-not-on h
 line-begins sheet read k (closed l ∷ rest) h =
     let (shown, behind) = passed-right sheet (k + 1) rest (read (fields l)) h in
-    record { first = l; lined = ap (closed l ∷_) behind; shown = shown }
+    record { first = l; lined = ap (λ (q : Place). closed l ∷ q .rest) behind; shown = shown; counted = sym (ap (λ (q : Place). q .last) behind) }
 
 pub next-begins : {A : Type 0} {a : A} {p : Place} (sheet : SheetName) (read : List Field → Seen A) (place : Place)
-    → next sheet read place ≡ on (a, p) → Begins read (place .rest) a (p .rest)
+    → next sheet read place ≡ on (a, p) → Begins read (place .last) (place .rest) a p
 unfolding next
 next-begins sheet read place h = line-begins sheet read (place .last) (place .rest) h
 
@@ -84,10 +85,10 @@ all-shown sheet (read ∷ reads) place h =
     subst (λ r. Shows (read ∷ reads) (place .rest) (r .0) (r .1 .rest)) (on-injective h₄)
     (subst (λ ls. Shows (read ∷ reads) ls (r₁ .0 ∷ r₂ .0) (r₂ .1 .rest)) (sym (b .lined)) shown)
 
-pub begun : {p : Place} (sheet : SheetName) (ls : List Line) → begin sheet ls ≡ on p → ls ≡ p .rest
+pub begun : {p : Place} (sheet : SheetName) (ls : List Line) → begin sheet ls ≡ on p → record { last = 0; rest = ls } ≡ p
 unfolding begin
 begun sheet [] h = stop-is-not-on h
-begun sheet (l ∷ rest) h = ap (λ r. r .rest) (on-injective h)
+begun sheet (l ∷ rest) h = on-injective h
 
 none-left : {t : Unit {0}} (sheet : SheetName) (k : ℕ) (ls : List Line) → noneLeft sheet k ls ≡ on t → ls ≡ []
 unfolding noneLeft

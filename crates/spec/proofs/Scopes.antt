@@ -8,11 +8,12 @@ use Prim.Native.Nat.{ℕ}
 use lib.Dec.{eqb}
 use Rattle.spec.specs.Choice.{if_then_else_}
 use Rattle.spec.specs.Reading.{Out, stop, on, _>>=_}
-use Rattle.spec.specs.Expression.{Expr, leaf, unary, binary, among, scope}
-use Rattle.spec.specs.WellFormed.{binders, Distinct, UsedInside}
+use Rattle.spec.specs.Words.{binding}
+use Rattle.spec.specs.Expression.{Expr, leaf, unary, binary, among, scopeStep, scope}
+use Rattle.spec.specs.WellFormed.{binders, Distinct, StepInside, UsedInside}
 use Rattle.spec.specs.declared.Refusal.{Refusal}
-use Rattle.spec.specs.declared.LeafWord.the-variants.{Var, Int, Newtid, Newlock, Newsem, Newrwlock}
-use Rattle.spec.specs.declared.BinaryWord.the-variants.{Let, If, Spawn, Write}
+use Rattle.spec.specs.declared.Role.{Role}
+use Rattle.spec.specs.declared.Role.the-variants.{Binds, Uses, Neither}
 use Rattle.spec.proofs.Clashes.{true-is-not-false}
 use Rattle.spec.proofs.Tests.{eqb-sym}
 use Rattle.spec.proofs.Outcomes.{stop-is-not-on, bind-goes-on, goes-on-bind, on-injective}
@@ -91,39 +92,54 @@ bound-goes-on : {A : Type 0} {a : A} (b : Bool) (o : Out A) (r : Refusal) → (i
 bound-goes-on true o r h = stop-is-not-on h
 bound-goes-on false o r h = (refl, h)
 
+-- a step is walked, and then, with what it has bound, those that bind vs
+step-walked : (r : Role) (k v : ℕ) (inside bound b : List ℕ) → scopeStep r k v inside bound ≡ on b
+    → StepInside inside r v
+    × ((vs : List ℕ) → (after vs b ≡ after (binding r v vs) bound) × (EachNew vs b → EachNew (binding r v vs) bound))
+unfolding scopeStep StepInside binding after EachNew
+step-walked Binds k v inside bound b h =
+    let (new, same) = bound-goes-on _ _ _ h in
+    let is : v ∷ bound ≡ b = on-injective same in
+    (tt, λ vs. rw (← is) (refl, λ news. (new, news)))
+step-walked Uses k v inside bound b h =
+    let (used, same) = used-goes-on _ _ _ h in
+    let is : bound ≡ b = on-injective same in
+    (used, λ vs. rw is (refl, λ news. news))
+step-walked Neither k v inside bound b h =
+    let is : bound ≡ b = on-injective h in
+    (tt, λ vs. rw is (refl, λ news. news))
+
 -- e₂ is walked with what e₁ has bound
 parts-walked : (e₁ e₂ : Expr) (in₁ in₂ bound : List ℕ) {b : List ℕ}
     → ((b : List ℕ) → scope e₁ in₁ bound ≡ on b → Walked e₁ in₁ bound b)
     → ((c b : List ℕ) → scope e₂ in₂ c ≡ on b → Walked e₂ in₂ c b)
     → (scope e₁ in₁ bound >>= λ c. scope e₂ in₂ c) ≡ on b
-    → (b ≡ after (binders e₁ ++ binders e₂) bound) × EachNew (binders e₁ ++ binders e₂) bound × (UsedInside in₁ e₁ × UsedInside in₂ e₂)
+    → (b ≡ after (binders e₁ ++ binders e₂) bound) × EachNew (binders e₁ ++ binders e₂) bound × UsedInside in₁ e₁ × UsedInside in₂ e₂
 parts-walked e₁ e₂ in₁ in₂ bound {b} first second h =
     let (c, h₁, h₂) = bind-goes-on _ _ h in
     let (c-is, new₁, used₁) = first c h₁ in
     let (b-is, new₂, used₂) = second c b h₂ in (
       b-is ∙ ap (after (binders e₂)) c-is ∙ sym (after-append (binders e₁) (binders e₂) bound),
       new-parts (binders e₁) (binders e₂) bound .1 (new₁, subst (EachNew (binders e₂)) c-is new₂),
-      (used₁, used₂),
+      used₁,
+      used₂,
     )
 
 walk : (e : Expr) (inside bound b : List ℕ) → scope e inside bound ≡ on b → Walked e inside bound b
 unfolding scope binders after EachNew UsedInside
-walk (leaf Var k v) inside bound b h =
-    let (used, same) = used-goes-on _ _ _ h in
-    (sym (on-injective same), tt, used)
-walk (leaf Int k v) inside bound b h = (sym (on-injective h), tt, tt)
-walk (leaf Newtid k v) inside bound b h = (sym (on-injective h), tt, tt)
-walk (leaf Newlock k v) inside bound b h = (sym (on-injective h), tt, tt)
-walk (leaf Newsem k v) inside bound b h = (sym (on-injective h), tt, tt)
-walk (leaf Newrwlock k v) inside bound b h = (sym (on-injective h), tt, tt)
-walk (unary w k v e) inside bound b h = walk e inside bound b h
-walk (binary Let k v e₁ e₂) inside bound b h =
-    let (new, rest) = bound-goes-on _ _ _ h in
-    let (b-is, news, used) = parts-walked e₁ e₂ inside (v ∷ inside) (v ∷ bound) (walk e₁ inside (v ∷ bound)) (walk e₂ (v ∷ inside)) rest in
-    (b-is, (new, news), used)
-walk (binary If k v e₁ e₂) inside bound b h = parts-walked e₁ e₂ inside inside bound (walk e₁ inside bound) (walk e₂ inside) h
-walk (binary Spawn k v e₁ e₂) inside bound b h = parts-walked e₁ e₂ inside inside bound (walk e₁ inside bound) (walk e₂ inside) h
-walk (binary Write k v e₁ e₂) inside bound b h = parts-walked e₁ e₂ inside inside bound (walk e₁ inside bound) (walk e₂ inside) h
+walk (leaf w k v) inside bound b h =
+    let (used, behind) = step-walked _ (k .line) v inside bound b h in
+    (behind [] .0, behind [] .1 tt, used)
+walk (unary w k v e) inside bound b h =
+    let (c, h₁, h₂) = bind-goes-on _ _ h in
+    let (used, behind) = step-walked _ (k .line) v inside bound c h₁ in
+    let (b-is, news, used′) = walk e inside c b h₂ in
+    (b-is ∙ behind _ .0, behind _ .1 news, (used, used′))
+walk (binary w k v e₁ e₂) inside bound b h =
+    let (c, h₁, h₂) = bind-goes-on _ _ h in
+    let (used, behind) = step-walked _ (k .line) v inside bound c h₁ in
+    let (b-is, news, used₁, used₂) = parts-walked e₁ e₂ inside _ c (walk e₁ inside c) (walk e₂ _) h₂ in
+    (b-is ∙ behind _ .0, behind _ .1 news, (used, used₁, used₂))
 
 -- and back
 parts-walk : (e₁ e₂ : Expr) (in₁ in₂ bound : List ℕ)
@@ -135,24 +151,25 @@ parts-walk e₁ e₂ in₁ in₂ bound first second new =
     let (new₁, new₂) = new-parts (binders e₁) (binders e₂) bound .0 new in
     goes-on-bind _ _ (first new₁) (second _ new₂ ∙ ap on (sym (after-append (binders e₁) (binders e₂) bound)))
 
+step-walk : (r : Role) (k v : ℕ) (inside bound vs : List ℕ) → StepInside inside r v → EachNew (binding r v vs) bound
+    → (b : List ℕ) × (scopeStep r k v inside bound ≡ on b) × EachNew vs b × (after vs b ≡ after (binding r v vs) bound)
+unfolding scopeStep StepInside binding after EachNew
+step-walk Binds k v inside bound vs used new = (v ∷ bound, rw (new .0), new .1, refl)
+step-walk Uses k v inside bound vs used new = (bound, rw used, new, refl)
+step-walk Neither k v inside bound vs used new = (bound, refl, new, refl)
+
 walked : (e : Expr) (inside bound : List ℕ) → UsedInside inside e → EachNew (binders e) bound → scope e inside bound ≡ on (after (binders e) bound)
 unfolding scope binders after EachNew UsedInside
-walked (leaf Var k v) inside bound used new = rw used
-walked (leaf Int k v) inside bound used new = refl
-walked (leaf Newtid k v) inside bound used new = refl
-walked (leaf Newlock k v) inside bound used new = refl
-walked (leaf Newsem k v) inside bound used new = refl
-walked (leaf Newrwlock k v) inside bound used new = refl
-walked (unary w k v e) inside bound used new = walked e inside bound used new
-walked (binary Let k v e₁ e₂) inside bound used new =
-    rw (new .0)
-    (parts-walk e₁ e₂ inside (v ∷ inside) (v ∷ bound) (walked e₁ inside (v ∷ bound) (used .0)) (λ c. walked e₂ (v ∷ inside) c (used .1)) (new .1))
-walked (binary If k v e₁ e₂) inside bound used new =
-    parts-walk e₁ e₂ inside inside bound (walked e₁ inside bound (used .0)) (λ c. walked e₂ inside c (used .1)) new
-walked (binary Spawn k v e₁ e₂) inside bound used new =
-    parts-walk e₁ e₂ inside inside bound (walked e₁ inside bound (used .0)) (λ c. walked e₂ inside c (used .1)) new
-walked (binary Write k v e₁ e₂) inside bound used new =
-    parts-walk e₁ e₂ inside inside bound (walked e₁ inside bound (used .0)) (λ c. walked e₂ inside c (used .1)) new
+walked (leaf w k v) inside bound used new =
+    let (b, here, _, same) = step-walk _ (k .line) v inside bound [] used new in
+    here ∙ ap on same
+walked (unary w k v e) inside bound used new =
+    let (b, here, news, same) = step-walk _ (k .line) v inside bound (binders e) (used .0) new in
+    goes-on-bind _ _ here (walked e inside b (used .1) news ∙ ap on same)
+walked (binary w k v e₁ e₂) inside bound used new =
+    let (b, here, news, same) = step-walk _ (k .line) v inside bound (binders e₁ ++ binders e₂) (used .0) new in
+    goes-on-bind _ _ here
+    (parts-walk e₁ e₂ inside _ b (walked e₁ inside b (used .1)) (λ c. walked e₂ _ c (used .2)) news ∙ ap on same)
 
 -- ------------------------------------------------------------------ a whole program's expression
 

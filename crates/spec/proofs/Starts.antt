@@ -8,8 +8,9 @@ use native.Mathlib.Omega.{arith}
 use lib.ListN.{length, getD}
 use Rattle.spec.specs.Text.{Line, Field}
 use Rattle.spec.specs.Reading.{noStart, right}
+use Rattle.spec.specs.Words.{takesStart}
 use Rattle.spec.specs.Expression.{Step}
-use Rattle.spec.specs.Split.{Header, Row, rowOf, startGiven, takesStart, mayBeEmpty, rowLine, Split}
+use Rattle.spec.specs.Split.{Header, Row, rowOf, startGiven, mayBeEmpty, rowLine, Split}
 use Rattle.spec.specs.WellFormed.{Shows, nothing, line, WellFormedSplit}
 use Rattle.spec.specs.declared.Purpose.{Purpose}
 use Rattle.spec.specs.declared.Heading.the-variants.{C}

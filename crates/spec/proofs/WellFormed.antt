@@ -1,24 +1,26 @@
 -- The sheets that meet none of 10 to 15 and 45, none of 20 to 23 and 40, are the well-formed ones.
 use mathlib.Core.Path.{_≡_, refl, ap, sym, _∙_, subst}
 use mathlib.Core.List.{List, [], map}
-use Prim.Native.Nat.{ℕ, _≤_}
-use lib.ListN.{length, replicate, length-replicate}
+use Prim.Native.Nat.{ℕ, _+_, _≤_}
+use native.Mathlib.Omega.{arith}
+use lib.ListN.{length}
 use Rattle.spec.specs.Text.{lines}
-use Rattle.spec.specs.Reading.{on, programSheet, splitSheet, right, begin, noneLeft, end}
-use Rattle.spec.specs.Expression.{Step, listed, single}
-use Rattle.spec.specs.Program.{Program, program, programLimit, countLine, stepLine}
+use Rattle.spec.specs.Reading.{on, programSheet, splitSheet, right, Place, begin, noneLeft, end}
+use Rattle.spec.specs.Expression.{Step}
+use Rattle.spec.specs.Program.{Program, program, programLimit, countLine, stepLines}
 use Rattle.spec.specs.Split.{Split, split, splitLimit, headerLine, rowLine}
-use Rattle.spec.specs.WellFormed.{Shows, WellFormedProgram, WellFormedSplit}
+use Rattle.spec.specs.WellFormed.{Shows, firstStepLine, WellFormedProgram, WellFormedSplit}
 use Rattle.spec.specs.declared.Purpose.{Purpose}
 use Rattle.spec.proofs.Outcomes.{on-injective, bind-goes-on, goes-on-bind}
 use Rattle.spec.proofs.Reading.{next-begins, all-shown, begun, ended, shown-length, read-next, read-all}
+use Rattle.spec.proofs.StepLines.{step-lines-counted}
 use Rattle.spec.proofs.Listing.{listed-expression, expression-listed}
 use Rattle.spec.proofs.Scopes.{scoped-once-inside, once-inside-scoped}
 
 -- ------------------------------------------------------------------ the program sheet
 
 pub program-well-formed : {P : Program} (text : List ℕ) → length text ≤ programLimit → program text ≡ on P → WellFormedProgram text P
-unfolding program
+unfolding program firstStepLine
 program-well-formed text fits h =
     let (top, h₁, r₁) = bind-goes-on _ _ h in
     let (nf, h₂, r₂) = bind-goes-on _ _ r₁ in
@@ -27,18 +29,18 @@ program-well-formed text fits h =
     let (e, h₅, r₅) = bind-goes-on _ _ r₄ in
     let (bound, h₆, r₆) = bind-goes-on _ _ r₅ in
     let b = next-begins programSheet countLine top h₂ in
-    let s = all-shown programSheet (replicate (nf .0) stepLine) (nf .1) h₃ in
-    let count : nf .0 ≡ length (sl .0) = sym (shown-length s ∙ length-replicate (nf .0) stepLine) in
-    let l = listed-expression (sl .0) (subst (λ n. single n (listed 2 (sl .0)) ≡ on e) count h₅) in
+    let from : nf .1 .last + 1 ≡ 2 = omega (arith, b .counted, ap (λ (p : Place). p .last) (begun programSheet (lines text) h₁)) in
+    let s = all-shown programSheet (stepLines (nf .1 .last + 1) (nf .0)) (nf .1) h₃ in
+    let count : nf .0 ≡ length (sl .0) = sym (shown-length s ∙ step-lines-counted (nf .1 .last + 1) (nf .0)) in
+    let l = listed-expression (sl .1 .last) (sl .0) h₅ in
     let v = scoped-once-inside e h₆ in
     subst (WellFormedProgram text) (on-injective r₆) (record {
       fits = fits;
       first = b .first;
       others = nf .1 .rest;
-      lined = begun programSheet (lines text) h₁ ∙ b .lined;
+      lined = ap (λ (p : Place). p .rest) (begun programSheet (lines text) h₁) ∙ b .lined;
       counted = b .shown ∙ ap right count;
-      stepped = subst (λ n. Shows (replicate n stepLine) (nf .1 .rest) (sl .0) []) count
-          (subst (λ rest. Shows (replicate (nf .0) stepLine) (nf .1 .rest) (sl .0) rest) (ended programSheet (sl .1) h₄) s);
+      stepped = rw (← from, ← count, ← ended programSheet (sl .1) h₄) s;
       listing = l .0;
       numbering = l .1;
       boundOnce = v .0;
@@ -46,7 +48,7 @@ program-well-formed text fits h =
     })
 
 pub well-formed-program : {P : Program} (text : List ℕ) → WellFormedProgram text P → program text ≡ on P
-unfolding program begin end noneLeft
+unfolding program begin end noneLeft firstStepLine
 well-formed-program {P} text w =
     let (last, steps) = read-all programSheet (w .stepped) 1 in
     let (bound, scoped) = once-inside-scoped (P .root) (w .boundOnce) (w .usedInside) in
@@ -54,7 +56,7 @@ well-formed-program {P} text w =
     (goes-on-bind _ _ (read-next programSheet countLine 0 (w .first) (w .others) (w .counted))
     (goes-on-bind _ _ steps
     (goes-on-bind _ _ refl
-    (goes-on-bind _ _ (expression-listed (P .steps) (P .root) (w .listing) (w .numbering))
+    (goes-on-bind _ _ (expression-listed last (P .steps) (P .root) (w .listing) (w .numbering))
     (goes-on-bind _ _ scoped refl)))))
 
 -- ------------------------------------------------------------------ the split sheet
@@ -76,7 +78,7 @@ split-well-formed purpose steps text fits h =
       others = Hp .1 .rest;
       afterTypes = tp .1 .rest;
       afterMaps = mp .1 .rest;
-      lined = begun splitSheet (lines text) h₁ ∙ b .lined;
+      lined = ap (λ (p : Place). p .rest) (begun splitSheet (lines text) h₁) ∙ b .lined;
       headed = b .shown;
       typed = all-shown splitSheet _ (Hp .1) h₃;
       mapped = all-shown splitSheet _ (tp .1) h₄;

@@ -1,28 +1,23 @@
 -- The conditions, from Figure 5.
-use mathlib.Core.List.{List, [], _∷_, _++_}
+use mathlib.Core.List.{List, [], _∷_}
 use mathlib.Core.Bool.{Bool, true, false, _&&_}
 use mathlib.Core.Option.{Option, none, some}
-use Prim.Native.Nat.{ℕ, _+_, _-_}
+use Prim.Native.Nat.{ℕ}
 use lib.Dec.{eqb, leb, ltb}
 use lib.ListN.{getD, replicate}
 use Rattle.spec.specs.Choice.{if_then_else_}
-use Rattle.spec.specs.Reading.{Out, stop, on, _>>=_}
-use Rattle.spec.specs.Expression.{Expr, leaf, unary, binary}
+use Rattle.spec.specs.Expression.{Expr, leaf, unary, binary, indexOf}
 use Rattle.spec.specs.Split.{Map, Row, Split}
 unfoldable pub use Rattle.spec.specs.Split.{typeAt, mapAt}
 use Rattle.spec.specs.Agreement.{agree}
-use Rattle.spec.specs.Maps.{_=ᵐ_, _≥ᵐ_, nowhere, _+ᵐ_, _×ᵐ_, share, overWhole}
+use Rattle.spec.specs.Maps.{_=ᵐ_, _≥ᵐ_, nowhere, _+ᵐ_, _×ᵐ_, share}
 use Rattle.spec.specs.declared.TypeNumber.{TypeNumber}
 use Rattle.spec.specs.declared.MapNumber.{MapNumber}
 use Rattle.spec.specs.declared.Location.{Location}
 use Rattle.spec.specs.declared.TypeLine.{TypeLine}
 use Rattle.spec.specs.declared.TypeLine.the-variants as type-line
-use Rattle.spec.specs.declared.Refusal.{Refusal}
-use Rattle.spec.specs.declared.Refusal.the-variants.{TypeFalse, FlowFalse, AccessFalse}
 use Rattle.spec.specs.declared.LeafWord.the-variants.{Var, Int, Newtid, Newlock, Newsem, Newrwlock}
-use Rattle.spec.specs.declared.UnaryWord.{UnaryWord}
 use Rattle.spec.specs.declared.UnaryWord.the-variants.{While, Join, Ref, Read, Lock, Unlock, Post, Wait, Rdlock, Rdunlock, Wrlock, Wrunlock}
-use Rattle.spec.specs.declared.BinaryWord.{BinaryWord}
 use Rattle.spec.specs.declared.BinaryWord.the-variants.{Let, If, Spawn, Write}
 
 -- ------------------------------------------------------------------ kinds of type
@@ -144,12 +139,6 @@ unfoldable pub typeIn : Env → (v : ℕ) → TypeNumber
 typeIn [] v = record { 0 = 0 }
 typeIn (b ∷ Γ) v = if eqb (b .0) v then b .1 else typeIn Γ v
 
--- the line of an expression's first step
-unfoldable pub lineOf : Expr → ℕ
-lineOf (leaf w k v) = k
-lineOf (unary w k v e) = k
-lineOf (binary w k v e₁ e₂) = k
-
 module _ (S : Split) where
   -- the start, which a program's first step has for its pre
   unfoldable pub startMap : Map
@@ -176,9 +165,9 @@ module _ (S : Split) where
       then looserLock (typeAt S t) (typeAt S u)
       else agree S t u
 
-  -- the split's row of an expression's first step: rows begin with the step at line 2
+  -- the split's row of an expression's first step
   unfoldable pub row : Expr → Row
-  row e = getD (S .rows) (lineOf e - 2) (record { type = record { 0 = 0 }; post = record { 0 = 0 }; start = none })
+  row e = getD (S .rows) (indexOf e) (record { type = record { 0 = 0 }; post = record { 0 = 0 }; start = none })
 
   -- of an expression: its type by number, that type's line, its post, the map that a spawned body starts with, K of its type, in
   -- and out of its lock type, r and w of its rwlock type

@@ -2,10 +2,10 @@
 -- One constructor a word, in the printed order. Types agree as Agreement.antt says; 1 is the denominator. Locks are those of
 -- Section 3.1.6: what a variable may show of the type of its let's value is VAR's own premise.
 use mathlib.Core.Path.{_≡_}
-use mathlib.Core.List.{List, [], _∷_}
+use mathlib.Core.List.{[], _∷_}
 use mathlib.Core.Bool.{true}
 use Prim.Native.Nat.{ℕ, _≤_, _<_}
-use Rattle.spec.specs.Expression.{Expr, leaf, unary, binary}
+use Rattle.spec.specs.Expression.{Position, Expr, leaf, unary, binary}
 use Rattle.spec.specs.Split.{Map, Split}
 use Rattle.spec.specs.Maps.{_+ᵐ_, _×ᵐ_, share}
 use Rattle.spec.specs.Agreement.{agree}
@@ -13,7 +13,6 @@ use Rattle.spec.specs.Conditions.{Env, typeIn, mayShow, type, kind, post
 use Rattle.spec.specs.declared.TypeNumber.{TypeNumber}
 use Rattle.spec.specs.declared.MapNumber.{MapNumber}
 use Rattle.spec.specs.declared.Location.{Location}
-use Rattle.spec.specs.declared.TypeLine.{TypeLine}
 use Rattle.spec.specs.declared.TypeLine.the-variants as type-line
 use Rattle.spec.specs.declared.LeafWord.the-variants.{Var, Int, Newtid, Newlock, Newsem, Newrwlock}
 use Rattle.spec.specs.declared.UnaryWord.the-variants.{While, Join, Ref, Read, Lock, Unlock, Post, Wait, Rdlock, Rdunlock, Wrlock, Wrunlock}
@@ -28,90 +27,90 @@ pub data _⊒_ : Map → Map → Type 0 where
 module _ (S : Split) where
   -- Derives Γ Ψ e: Γ, Ψ ⊢ e : type S e, post S e
   pub data Derives : Env → Map → Expr → Type 0 where
-    VAR : {Γ : Env} {Ψ : Map} {k v : ℕ}
+    VAR : {Γ : Env} {Ψ : Map} {k : Position} {v : ℕ}
         → mayShow S (type S (leaf Var k v)) (typeIn Γ v) ≡ true → post S (leaf Var k v) ≡ Ψ
         → Derives Γ Ψ (leaf Var k v)
-    INT : {Γ : Env} {Ψ : Map} {k v : ℕ}
+    INT : {Γ : Env} {Ψ : Map} {k : Position} {v : ℕ}
         → kind S (leaf Int k v) ≡ type-line.Int → post S (leaf Int k v) ≡ Ψ
         → Derives Γ Ψ (leaf Int k v)
-    LET : {Γ : Env} {Ψ : Map} {k v : ℕ} {e₁ e₂ : Expr}
+    LET : {Γ : Env} {Ψ : Map} {k : Position} {v : ℕ} {e₁ e₂ : Expr}
         → Derives Γ Ψ e₁ → Derives ((v, type S e₁) ∷ Γ) (post S e₁) e₂ → agree S (type S (binary Let k v e₁ e₂)) (type S e₂) ≡ true
         → post S (binary Let k v e₁ e₂) ≡ post S e₂
         → Derives Γ Ψ (binary Let k v e₁ e₂)
-    IF : {Γ : Env} {Ψ : Map} {k v : ℕ} {e₁ e₂ : Expr}
+    IF : {Γ : Env} {Ψ : Map} {k : Position} {v : ℕ} {e₁ e₂ : Expr}
         → Derives Γ Ψ e₁ → agree S (type S (binary If k v e₁ e₂)) (type S e₁) ≡ true → post S e₁ ⊒ post S (binary If k v e₁ e₂)
         → Derives Γ Ψ e₂ → agree S (type S (binary If k v e₁ e₂)) (type S e₂) ≡ true → post S e₂ ⊒ post S (binary If k v e₁ e₂)
         → Derives Γ Ψ (binary If k v e₁ e₂)
-    WHILE : {Γ : Env} {Ψ : Map} {k v : ℕ} {e₁ : Expr}
+    WHILE : {Γ : Env} {Ψ : Map} {k : Position} {v : ℕ} {e₁ : Expr}
         → Derives Γ (post S (unary While k v e₁)) e₁ → post S e₁ ⊒ post S (unary While k v e₁)
         → Ψ ⊒ post S (unary While k v e₁) → kind S (unary While k v e₁) ≡ type-line.Int
         → Derives Γ Ψ (unary While k v e₁)
-    NEWT : {Γ : Env} {Ψ : Map} {k v : ℕ} {K : MapNumber}
+    NEWT : {Γ : Env} {Ψ : Map} {k : Position} {v : ℕ} {K : MapNumber}
         → kind S (leaf Newtid k v) ≡ type-line.Tid K → post S (leaf Newtid k v) ≡ Ψ
         → Derives Γ Ψ (leaf Newtid k v)
-    SPAWN : {Γ : Env} {Ψ : Map} {k v : ℕ} {K : MapNumber} {e₁ e₂ : Expr}
+    SPAWN : {Γ : Env} {Ψ : Map} {k : Position} {v : ℕ} {K : MapNumber} {e₁ e₂ : Expr}
         → Derives Γ Ψ e₁ → kind S e₁ ≡ type-line.Tid K → Derives Γ (start S (binary Spawn k v e₁ e₂)) e₂
         → post S e₂ ⊒ mapAt S K → kind S (binary Spawn k v e₁ e₂) ≡ type-line.Int
         → post S (binary Spawn k v e₁ e₂) +ᵐ start S (binary Spawn k v e₁ e₂) ≡ post S e₁
         → Derives Γ Ψ (binary Spawn k v e₁ e₂)
-    JOIN : {Γ : Env} {Ψ : Map} {k v : ℕ} {K : MapNumber} {e₁ : Expr}
+    JOIN : {Γ : Env} {Ψ : Map} {k : Position} {v : ℕ} {K : MapNumber} {e₁ : Expr}
         → Derives Γ Ψ e₁ → kind S e₁ ≡ type-line.Tid K → kind S (unary Join k v e₁) ≡ type-line.Int
         → post S (unary Join k v e₁) ≡ post S e₁ +ᵐ mapAt S K
         → Derives Γ Ψ (unary Join k v e₁)
-    REF : {Γ : Env} {Ψ : Map} {k v : ℕ} {ρ : Location} {c : TypeNumber} {e₁ : Expr}
+    REF : {Γ : Env} {Ψ : Map} {k : Position} {v : ℕ} {ρ : Location} {c : TypeNumber} {e₁ : Expr}
         → Derives Γ Ψ e₁ → kind S (unary Ref k v e₁) ≡ type-line.Ref ρ c → agree S c (type S e₁) ≡ true
         → post S (unary Ref k v e₁) ≡ post S e₁
         → Derives Γ Ψ (unary Ref k v e₁)
-    WRITE : {Γ : Env} {Ψ : Map} {k v : ℕ} {ρ : Location} {c : TypeNumber} {e₁ e₂ : Expr}
+    WRITE : {Γ : Env} {Ψ : Map} {k : Position} {v : ℕ} {ρ : Location} {c : TypeNumber} {e₁ e₂ : Expr}
         → Derives Γ Ψ e₁ → kind S e₁ ≡ type-line.Ref ρ c → Derives Γ (post S e₁) e₂ → agree S c (type S e₂) ≡ true
         → S .header .denominator ≤ share (post S (binary Write k v e₁ e₂)) ρ → kind S (binary Write k v e₁ e₂) ≡ type-line.Int
         → post S (binary Write k v e₁ e₂) ≡ post S e₂
         → Derives Γ Ψ (binary Write k v e₁ e₂)
-    READ : {Γ : Env} {Ψ : Map} {k v : ℕ} {ρ : Location} {c : TypeNumber} {e₁ : Expr}
+    READ : {Γ : Env} {Ψ : Map} {k : Position} {v : ℕ} {ρ : Location} {c : TypeNumber} {e₁ : Expr}
         → Derives Γ Ψ e₁ → kind S e₁ ≡ type-line.Ref ρ c → agree S c (type S (unary Read k v e₁)) ≡ true
         → 0 < share (post S (unary Read k v e₁)) ρ
         → post S (unary Read k v e₁) ≡ post S e₁
         → Derives Γ Ψ (unary Read k v e₁)
-    NEWL : {Γ : Env} {Ψ : Map} {k v : ℕ} {Kᵢ Kₒ : MapNumber}
+    NEWL : {Γ : Env} {Ψ : Map} {k : Position} {v : ℕ} {Kᵢ Kₒ : MapNumber}
         → kind S (leaf Newlock k v) ≡ type-line.Lock Kᵢ Kₒ → post S (leaf Newlock k v) +ᵐ mapAt S Kₒ ≡ Ψ
         → Derives Γ Ψ (leaf Newlock k v)
-    LCK : {Γ : Env} {Ψ : Map} {k v : ℕ} {Kᵢ Kₒ : MapNumber} {e₁ : Expr}
+    LCK : {Γ : Env} {Ψ : Map} {k : Position} {v : ℕ} {Kᵢ Kₒ : MapNumber} {e₁ : Expr}
         → Derives Γ Ψ e₁ → kind S e₁ ≡ type-line.Lock Kᵢ Kₒ → kind S (unary Lock k v e₁) ≡ type-line.Int
         → post S (unary Lock k v e₁) ≡ post S e₁ +ᵐ mapAt S Kᵢ
         → Derives Γ Ψ (unary Lock k v e₁)
-    ULCK : {Γ : Env} {Ψ : Map} {k v : ℕ} {Kᵢ Kₒ : MapNumber} {e₁ : Expr}
+    ULCK : {Γ : Env} {Ψ : Map} {k : Position} {v : ℕ} {Kᵢ Kₒ : MapNumber} {e₁ : Expr}
         → Derives Γ Ψ e₁ → kind S e₁ ≡ type-line.Lock Kᵢ Kₒ → kind S (unary Unlock k v e₁) ≡ type-line.Int
         → post S (unary Unlock k v e₁) +ᵐ mapAt S Kₒ ≡ post S e₁
         → Derives Γ Ψ (unary Unlock k v e₁)
     -- section 3.1.4
-    NEWSEM : {Γ : Env} {Ψ : Map} {k v : ℕ} {K : MapNumber}
+    NEWSEM : {Γ : Env} {Ψ : Map} {k : Position} {v : ℕ} {K : MapNumber}
         → kind S (leaf Newsem k v) ≡ type-line.Sem K → post S (leaf Newsem k v) ≡ Ψ
         → Derives Γ Ψ (leaf Newsem k v)
-    POST : {Γ : Env} {Ψ : Map} {k v : ℕ} {K : MapNumber} {e₁ : Expr}
+    POST : {Γ : Env} {Ψ : Map} {k : Position} {v : ℕ} {K : MapNumber} {e₁ : Expr}
         → Derives Γ Ψ e₁ → kind S e₁ ≡ type-line.Sem K → kind S (unary Post k v e₁) ≡ type-line.Int
         → post S (unary Post k v e₁) +ᵐ mapAt S K ≡ post S e₁
         → Derives Γ Ψ (unary Post k v e₁)
-    WAIT : {Γ : Env} {Ψ : Map} {k v : ℕ} {K : MapNumber} {e₁ : Expr}
+    WAIT : {Γ : Env} {Ψ : Map} {k : Position} {v : ℕ} {K : MapNumber} {e₁ : Expr}
         → Derives Γ Ψ e₁ → kind S e₁ ≡ type-line.Sem K → kind S (unary Wait k v e₁) ≡ type-line.Int
         → post S (unary Wait k v e₁) ≡ post S e₁ +ᵐ mapAt S K
         → Derives Γ Ψ (unary Wait k v e₁)
     -- Figure 8; N is the step's own number, and bounds the reading holds
-    NEWRWLOCK : {Γ : Env} {Ψ : Map} {k N : ℕ} {Kr Kw : MapNumber}
+    NEWRWLOCK : {Γ : Env} {Ψ : Map} {k : Position} {N : ℕ} {Kr Kw : MapNumber}
         → kind S (leaf Newrwlock k N) ≡ type-line.Rwlock Kr Kw → mapAt S Kw ⊒ N ×ᵐ mapAt S Kr → post S (leaf Newrwlock k N) +ᵐ mapAt S Kw ≡ Ψ
         → Derives Γ Ψ (leaf Newrwlock k N)
-    RDLOCK : {Γ : Env} {Ψ : Map} {k v : ℕ} {Kr Kw : MapNumber} {e₁ : Expr}
+    RDLOCK : {Γ : Env} {Ψ : Map} {k : Position} {v : ℕ} {Kr Kw : MapNumber} {e₁ : Expr}
         → Derives Γ Ψ e₁ → kind S e₁ ≡ type-line.Rwlock Kr Kw → kind S (unary Rdlock k v e₁) ≡ type-line.Int
         → post S (unary Rdlock k v e₁) ≡ post S e₁ +ᵐ mapAt S Kr
         → Derives Γ Ψ (unary Rdlock k v e₁)
-    RDUNLOCK : {Γ : Env} {Ψ : Map} {k v : ℕ} {Kr Kw : MapNumber} {e₁ : Expr}
+    RDUNLOCK : {Γ : Env} {Ψ : Map} {k : Position} {v : ℕ} {Kr Kw : MapNumber} {e₁ : Expr}
         → Derives Γ Ψ e₁ → kind S e₁ ≡ type-line.Rwlock Kr Kw → kind S (unary Rdunlock k v e₁) ≡ type-line.Int
         → post S (unary Rdunlock k v e₁) +ᵐ mapAt S Kr ≡ post S e₁
         → Derives Γ Ψ (unary Rdunlock k v e₁)
-    WRLOCK : {Γ : Env} {Ψ : Map} {k v : ℕ} {Kr Kw : MapNumber} {e₁ : Expr}
+    WRLOCK : {Γ : Env} {Ψ : Map} {k : Position} {v : ℕ} {Kr Kw : MapNumber} {e₁ : Expr}
         → Derives Γ Ψ e₁ → kind S e₁ ≡ type-line.Rwlock Kr Kw → kind S (unary Wrlock k v e₁) ≡ type-line.Int
         → post S (unary Wrlock k v e₁) ≡ post S e₁ +ᵐ mapAt S Kw
         → Derives Γ Ψ (unary Wrlock k v e₁)
-    WRUNLOCK : {Γ : Env} {Ψ : Map} {k v : ℕ} {Kr Kw : MapNumber} {e₁ : Expr}
+    WRUNLOCK : {Γ : Env} {Ψ : Map} {k : Position} {v : ℕ} {Kr Kw : MapNumber} {e₁ : Expr}
         → Derives Γ Ψ e₁ → kind S e₁ ≡ type-line.Rwlock Kr Kw → kind S (unary Wrunlock k v e₁) ≡ type-line.Int
         → post S (unary Wrunlock k v e₁) +ᵐ mapAt S Kw ≡ post S e₁
         → Derives Γ Ψ (unary Wrunlock k v e₁)

@@ -1,6 +1,7 @@
 pub mod Choice
 pub mod Text
 pub mod Reading
+pub mod Words
 pub mod Expression
 pub mod Program
 pub mod Split

@@ -1,18 +1,14 @@
 -- The program sheet.
 use mathlib.Core.List.{List, [], _∷_}
-use mathlib.Core.Bool.{Bool, true, false}
 use mathlib.Core.Option.{Option, none, some}
-use Prim.Native.Nat.{ℕ}
-use lib.ListN.{getD, replicate}
+use Prim.Native.Nat.{ℕ, zero, suc, _+_}
+use lib.ListN.{getD}
 use Rattle.spec.specs.Choice.{if_then_else_}
 use Rattle.spec.specs.Text.{bytes, same, lines, Field, lookUp}
-use Rattle.spec.specs.Reading.{programSheet, Out, _>>=_, on, Seen, wrong, badForm, freelock, seen, wrongAfter, Range, _to_, numbers, next, nextAll, begin, end}
+use Rattle.spec.specs.Reading.{programSheet, Out, _>>=_, on, Seen, wrong, badForm, freelock, seen, wrongAfter, _to_, numbers, next, nextAll, begin, end}
+use Rattle.spec.specs.Words.{words, valueRange}
 use Rattle.spec.specs.Expression.{Step, Expr, listed, single, scope}
 use Rattle.spec.specs.declared.Word.{Word}
-use Rattle.spec.specs.declared.Word.the-variants.{Leaf, Unary, Binary}
-use Rattle.spec.specs.declared.LeafWord.the-variants.{Var, Int, Newtid, Newlock, Newsem, Newrwlock}
-use Rattle.spec.specs.declared.UnaryWord.the-variants.{While, Join, Ref, Read, Lock, Unlock, Post, Wait, Rdlock, Rdunlock, Wrlock, Wrunlock}
-use Rattle.spec.specs.declared.BinaryWord.the-variants.{Let, If, Spawn, Write}
 
 -- the most bytes that a program sheet may have
 unfoldable pub programLimit : ℕ
@@ -26,63 +22,27 @@ unfoldable pub countLine : List Field → Seen ℕ
 countLine [] = wrong badForm
 countLine (f ∷ fs) = if same f (bytes "P") then seen firstNumber (numbers ((1 to 256) ∷ []) fs) else wrong badForm
 
--- the words, by their number of parts
-unfoldable pub words : List (List ℕ × Word)
-words =
-    (bytes "var", Leaf Var)
-    ∷ (bytes "int", Leaf Int)
-    ∷ (bytes "newtid", Leaf Newtid)
-    ∷ (bytes "newlock", Leaf Newlock)
-    ∷ (bytes "newsem", Leaf Newsem)
-    ∷ (bytes "newrwlock", Leaf Newrwlock)
-    ∷ (bytes "while", Unary While)
-    ∷ (bytes "join", Unary Join)
-    ∷ (bytes "ref", Unary Ref)
-    ∷ (bytes "read", Unary Read)
-    ∷ (bytes "lock", Unary Lock)
-    ∷ (bytes "unlock", Unary Unlock)
-    ∷ (bytes "post", Unary Post)
-    ∷ (bytes "wait", Unary Wait)
-    ∷ (bytes "rdlock", Unary Rdlock)
-    ∷ (bytes "rdunlock", Unary Rdunlock)
-    ∷ (bytes "wrlock", Unary Wrlock)
-    ∷ (bytes "wrunlock", Unary Wrunlock)
-    ∷ (bytes "let", Binary Let)
-    ∷ (bytes "if", Binary If)
-    ∷ (bytes "spawn", Binary Spawn)
-    ∷ (bytes "write", Binary Write)
-    ∷ []
-
--- v is a variable, a constant, the number of reading places, or 0
-unfoldable pub valueRange : Word → Range
-valueRange (Leaf Var) = 0 to 255
-valueRange (Leaf Int) = 0 to 65535
-valueRange (Leaf Newtid) = 0 to 0
-valueRange (Leaf Newlock) = 0 to 0
-valueRange (Leaf Newsem) = 0 to 0
-valueRange (Leaf Newrwlock) = 1 to 64
-valueRange (Unary w) = 0 to 0
-valueRange (Binary Let) = 0 to 255
-valueRange (Binary If) = 0 to 0
-valueRange (Binary Spawn) = 0 to 0
-valueRange (Binary Write) = 0 to 0
-
 -- `word,v`
-unfoldable pub stepOf : Word → List ℕ → Step
-stepOf w ns = record { word = w; value = firstNumber ns }
+unfoldable pub stepOf : (line : ℕ) → Word → List ℕ → Step
+stepOf k w ns = record { word = w; value = firstNumber ns; line = k }
 
-unfoldable pub wordLine : Option Word → List Field → Seen Step
-wordLine none fs = wrong badForm
-wordLine (some w) fs = seen (stepOf w) (numbers (valueRange w ∷ []) fs)
+unfoldable pub wordLine : (line : ℕ) → Option Word → List Field → Seen Step
+wordLine k none fs = wrong badForm
+wordLine k (some w) fs = seen (stepOf k w) (numbers (valueRange w ∷ []) fs)
 
 -- "45 for the word `freelock`, after 12 on its line"; its v is 0
-unfoldable pub stepLine : List Field → Seen Step
-stepLine [] = wrong badForm
-stepLine (f ∷ fs) =
+unfoldable pub stepLine : (line : ℕ) → List Field → Seen Step
+stepLine k [] = wrong badForm
+stepLine k (f ∷ fs) =
     if same f (bytes "freelock") then wrongAfter freelock (numbers ((0 to 0) ∷ []) fs)
-    else wordLine (lookUp words f) fs
+    else wordLine k (lookUp words f) fs
 
--- a program: its steps in line order, the first at line 2, and the expression that they list
+-- n step lines, numbered from `line` upward
+unfoldable pub stepLines : (line n : ℕ) → List (List Field → Seen Step)
+stepLines k zero = []
+stepLines k (suc n) = stepLine k ∷ stepLines (k + 1) n
+
+-- a program: its steps in line order, and the expression that they list
 pub record Program : Type 0 where
   pub steps : List Step
   pub root : Expr
@@ -92,8 +52,8 @@ unfoldable pub program : List ℕ → Out Program
 program text = do
   top ← begin programSheet (lines text)
   (n, first) ← next programSheet countLine top
-  (steps, last) ← nextAll programSheet (replicate n stepLine) first
+  (steps, last) ← nextAll programSheet (stepLines (first .last + 1) n) first
   done ← end programSheet last
-  e ← single n (listed 2 steps)
+  e ← single (last .last) steps (listed 0 steps)
   bound ← scope e [] []
   on (record { steps = steps; root = e })

@@ -1,52 +1,18 @@
 -- Every step of an expression in line order, with what surrounds it, and the first condition that is false.
 use mathlib.Core.List.{List, [], _∷_, _++_}
 use mathlib.Core.Bool.{Bool, true, false}
-use mathlib.Core.Option.{Option, none, some}
+use mathlib.Core.Option.{none, some}
 use Prim.Native.Nat.{ℕ, _+_}
 use Rattle.spec.specs.Choice.{if_then_else_}
 use Rattle.spec.specs.Reading.{Out, stop, on, _>>=_}
-use Rattle.spec.specs.Expression.{Expr, leaf, unary, binary}
+use Rattle.spec.specs.Words.{role, binding, preOfPart, preOfSecond}
+use Rattle.spec.specs.Expression.{Expr, leaf, unary, binary, lineOf}
 use Rattle.spec.specs.Split.{Map, Split}
-use Rattle.spec.specs.Conditions.{Condition, T, F, A, Env, lineOf, type, post, start, own}
-use Rattle.spec.specs.declared.TypeNumber.{TypeNumber}
-use Rattle.spec.specs.declared.Refusal.{Refusal}
+use Rattle.spec.specs.Conditions.{Condition, T, F, A, Env, type, post, start, own}
+use Rattle.spec.specs.declared.Word.the-variants.{Binary}
 use Rattle.spec.specs.declared.Refusal.the-variants.{TypeFalse, FlowFalse, AccessFalse}
-use Rattle.spec.specs.declared.UnaryWord.{UnaryWord}
-use Rattle.spec.specs.declared.UnaryWord.the-variants.{While, Join, Ref, Read, Lock, Unlock, Post, Wait, Rdlock, Rdunlock, Wrlock, Wrunlock}
-use Rattle.spec.specs.declared.BinaryWord.{BinaryWord}
-use Rattle.spec.specs.declared.BinaryWord.the-variants.{Let, If, Spawn, Write}
 
--- ------------------------------------------------------------------ the map before a step
-
--- "the part of `while` has the `while`'s own post; [..] any other part has its step's pre"
-unfoldable pub preOfPart : UnaryWord → (pre post : Map) → Map
-preOfPart While pre post = post
-preOfPart Join pre post = pre
-preOfPart Ref pre post = pre
-preOfPart Read pre post = pre
-preOfPart Lock pre post = pre
-preOfPart Unlock pre post = pre
-preOfPart Post pre post = pre
-preOfPart Wait pre post = pre
-preOfPart Rdlock pre post = pre
-preOfPart Rdunlock pre post = pre
-preOfPart Wrlock pre post = pre
-preOfPart Wrunlock pre post = pre
-
--- "for `let` and `write`, [..] e2 has e1's post; both parts of `if` have its pre; [..] in `spawn`, [..] e2 has s";
--- e1 has the step's pre on each of these words
-unfoldable pub preOfSecond : BinaryWord → (pre post₁ start : Map) → Map
-preOfSecond Let pre post₁ start = post₁
-preOfSecond If pre post₁ start = pre
-preOfSecond Spawn pre post₁ start = start
-preOfSecond Write pre post₁ start = post₁
-
--- a let's variable has the type of e1, and only inside e2
-unfoldable pub bind : BinaryWord → (v : ℕ) → TypeNumber → Env → Env
-bind Let v t Γ = (v, t) ∷ Γ
-bind If v t Γ = Γ
-bind Spawn v t Γ = Γ
-bind Write v t Γ = Γ
+-- ------------------------------------------------------------------ steps in line order
 
 -- a step, with the types of the variables there and the map before it
 pub record Site : Type 0 where
@@ -55,13 +21,14 @@ pub record Site : Type 0 where
   pub step : Expr
 
 module _ (S : Split) where
+  -- a let's variable has the type of e1, and only inside e2
   unfoldable pub sites : Env → (pre : Map) → Expr → List Site
   sites Γ pre (leaf w k v) = record { Γ = Γ; pre = pre; step = leaf w k v } ∷ []
   sites Γ pre (unary w k v e₁) = let e = unary w k v e₁ in
       record { Γ = Γ; pre = pre; step = e } ∷ sites Γ (preOfPart w pre (post S e)) e₁
   sites Γ pre (binary w k v e₁ e₂) = let e = binary w k v e₁ e₂ in
       record { Γ = Γ; pre = pre; step = e }
-      ∷ (sites Γ pre e₁ ++ sites (bind w v (type S e₁) Γ) (preOfSecond w pre (post S e₁) (start S e)) e₂)
+      ∷ (sites Γ pre e₁ ++ sites (binding (role (Binary w)) (v, type S e₁) Γ) (preOfSecond w pre (post S e₁) (start S e)) e₂)
 
 -- ------------------------------------------------------------------ the first false condition
 

@@ -1,12 +1,13 @@
 -- The split sheet.
 use mathlib.Core.List.{List, [], _∷_, map}
-use mathlib.Core.Bool.{Bool, true, false, not}
+use mathlib.Core.Bool.{Bool, true, not}
 use mathlib.Core.Option.{Option, none, some}
 use Prim.Native.Nat.{ℕ, zero, suc, _+_}
 use lib.ListN.{getD, replicate}
 use Rattle.spec.specs.Choice.{if_then_else_}
 use Rattle.spec.specs.Text.{bytes, same, lines, Field, lookUp}
 use Rattle.spec.specs.Reading.{splitSheet, Out, _>>=_, on, wrong, badForm, noStart, Seen, seen, insist, Range, _to_, below, numerals, numbers, next, nextAll, begin, end}
+use Rattle.spec.specs.Words.{takesStart}
 use Rattle.spec.specs.Expression.{Step}
 use Rattle.spec.specs.declared.Heading.{Heading}
 use Rattle.spec.specs.declared.Heading.the-variants.{C, C2, C3}
@@ -14,12 +15,9 @@ use Rattle.spec.specs.declared.Purpose.{Purpose}
 use Rattle.spec.specs.declared.Purpose.the-variants.{Check, Fill}
 use Rattle.spec.specs.declared.TypeNumber.{TypeNumber}
 use Rattle.spec.specs.declared.MapNumber.{MapNumber}
-use Rattle.spec.specs.declared.Location.{Location}
 use Rattle.spec.specs.declared.TypeLine.{TypeLine}
 use Rattle.spec.specs.declared.TypeLine.the-variants.{Int, Ref, Lock, Tid, Sem, Rwlock}
 use Rattle.spec.specs.declared.Word.{Word}
-use Rattle.spec.specs.declared.Word.the-variants.{Leaf, Unary, Binary}
-use Rattle.spec.specs.declared.BinaryWord.the-variants.{Let, If, Spawn, Write}
 
 -- the most bytes that a split sheet may have
 unfoldable pub splitLimit : ℕ
@@ -138,15 +136,6 @@ rowOf start ns = record { type = record { 0 = getD ns 0 0 }; post = record { 0 =
 
 unfoldable pub startGiven : List ℕ → MapNumber
 startGiven ns = record { 0 = getD ns 2 0 }
-
--- the word whose row has a start
-unfoldable pub takesStart : Word → Bool
-takesStart (Leaf w) = false
-takesStart (Unary w) = false
-takesStart (Binary Let) = false
-takesStart (Binary If) = false
-takesStart (Binary Spawn) = true
-takesStart (Binary Write) = false
 
 -- "On any other word s is empty": there, no number is in its range
 unfoldable pub startRange : Word → Header → Range

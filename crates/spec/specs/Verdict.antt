@@ -6,10 +6,11 @@ use Prim.Native.Nat.{ℕ, _+_}
 use lib.Dec.{leb}
 use lib.ListN.{length}
 use Rattle.spec.specs.Reading.{Out, stop, on, _>>=_, demand}
+use Rattle.spec.specs.Expression.{lineOf}
 use Rattle.spec.specs.Program.{Program, program, programLimit}
 use Rattle.spec.specs.Split.{Split, split, splitLimit, mapAt}
 use Rattle.spec.specs.Maps.{_≥ᵐ_, nowhere, overWhole}
-use Rattle.spec.specs.Conditions.{lineOf, startMap}
+use Rattle.spec.specs.Conditions.{startMap}
 use Rattle.spec.specs.Sites.{sites, claims, firstFalse, isType, only}
 use Rattle.spec.specs.Workspace.{workspaceSize}
 use Rattle.spec.specs.declared.Returned.{Returned}
@@ -17,7 +18,6 @@ use Rattle.spec.specs.declared.Answer.{Answer}
 use Rattle.spec.specs.declared.Answer.the-variants.{Accept, Refuse}
 use Rattle.spec.specs.declared.TypeLine.{TypeLine}
 use Rattle.spec.specs.declared.TypeLine.the-variants as type-line
-use Rattle.spec.specs.declared.Refusal.{Refusal}
 use Rattle.spec.specs.declared.Refusal.the-variants.{ShortWorkspace, LongProgram, ProgramForm, ProgramRange, ProgramLines, Unbound, Rebound, LongSplit, SplitForm, SplitRange, SplitLines, NoStart, OverOne, TypeFalse, FlowFalse, AccessFalse, NoAfterMaps, TooLarge, TooManyMaps, LockTakesLess, Freelock}
 use Rattle.spec.specs.declared.Purpose.the-variants.{Check}
 

@@ -38,6 +38,13 @@ pub enum Word {
     Binary(BinaryWord),
 }
 
+// What a step does with its number v: a variable is bound or used, any other number is neither.
+pub enum Role {
+    Binds,
+    Uses,
+    Neither,
+}
+
 // The numbers of types, maps and locations, each counted from 0: three sorts that never mix.
 pub struct TypeNumber(pub u32);
 

@@ -14,7 +14,7 @@ use Rattle.spec.specs.declared.Refusal.{Refusal}
 use Rattle.spec.specs.declared.Word.{Word}
 use Rattle.lexer.specs.Cursors.{Placed, placeAt}
 use Rattle.lexer.specs.declared.Cursor.{Cursor}
-use Rattle.workspace.specs.Layout.{wordsAt, wordOf}
+use Rattle.workspace.specs.Layout.{wordsAt, rowTypesAt, presAt, mapsAt, stride, spaceSize, wordOf}
 use Rattle.workspace.specs.Region.{ChangedWithin}
 use Rattle.workspace.proofs.Region.{changed-then}
 use Rattle.split.specs.Lines.{cellLine, wordLine}
@@ -40,7 +40,7 @@ module _
         (subst (ChangedWithin b (b + rows + rows + rows) w) (sym q) (columns-changed f g h b rows w (t .entries) entry i (t .count) (omega arith) r))
 
 -- the word that a row is read for is that of its step, which no row has changed
-pub row-here : (purpose : Purpose) (H : Header) (text : List ℕ) (c : Cursor) (w₀ w : List ℕ) (k : ℕ) (word : Word) → word ≡ wordOf (getD w (wordsAt + k) 0) → k < 256 → ChangedWithin 1024 1792 w₀ w
+pub row-here : (purpose : Purpose) (H : Header) (text : List ℕ) (c : Cursor) (w₀ w : List ℕ) (k : ℕ) (word : Word) → word ≡ wordOf (getD w (wordsAt + k) 0) → k < 256 → ChangedWithin rowTypesAt presAt w₀ w
     → next splitSheet (wordLine purpose H (stepAt w₀ k .word)) (placeAt text c) ≡ next splitSheet (wordLine purpose H word) (placeAt text c)
 unfolding stepAt
 row-here purpose H text c w₀ w k word e l x =
@@ -49,11 +49,11 @@ row-here purpose H text c w₀ w k word e l x =
 
 -- a map line, whose numbers are read into their part of the work space
 module _
-    (locations n : ℕ) (narrow : locations ≤ 16) (few : n ≤ 512) (text w₀ : List ℕ) (c₀ : Cursor) (long : length w₀ ≡ 16384) (w : List ℕ) (c : Cursor) (i : ℕ)
-    (t : Turn (λ m. cellLine locations) (HoldsMaps locations) 4096 16384 n text w₀ (placeAt text c₀) w c i) (less : i < n)
+    (locations n : ℕ) (narrow : locations ≤ 16) (few : n ≤ 512) (text w₀ : List ℕ) (c₀ : Cursor) (long : length w₀ ≡ spaceSize) (w : List ℕ) (c : Cursor) (i : ℕ)
+    (t : Turn (λ m. cellLine locations) (HoldsMaps locations) mapsAt spaceSize n text w₀ (placeAt text c₀) w c i) (less : i < n)
   where
     abbrev at : ℕ
-    at = 4096 + 16 * i
+    at = mapsAt + stride * i
 
     abbrev past : ℕ
     past = at + locations
@@ -78,24 +78,24 @@ module _
       whole : length ys ≡ past - at
       whole = kept ∙ part-long ∙ sym wide
 
-      put-changed : ChangedWithin 4096 16384 w (put ys)
-      put-changed = filled-changed w at ys (past - at) whole room 4096 16384 (omega arith) (omega (arith, wide))
+      put-changed : ChangedWithin mapsAt spaceSize w (put ys)
+      put-changed = filled-changed w at ys (past - at) whole room mapsAt spaceSize (omega arith) (omega (arith, wide))
 
       pub map-long : length (put ys) ≡ length w₀
       map-long = put-changed .long ∙ t .changed .long
 
       pub map-stop : (reads : List (List Field → Seen Map)) → reads ≡ numbered (λ m. cellLine locations) 0 n → (r : Refusal)
           → next splitSheet (cellLine (length part)) (placeAt text c) ≡ stop r
-          → LinesStored 4096 16384 n (HoldsMaps locations) text (nextAll splitSheet reads (placeAt text c₀)) w₀ (put ys) (lines-read.Refused r)
+          → LinesStored mapsAt spaceSize n (HoldsMaps locations) text (nextAll splitSheet reads (placeAt text c₀)) w₀ (put ys) (lines-read.Refused r)
       map-stop reads q r e = record {
-        answered = turns-stop (λ m. cellLine locations) (HoldsMaps locations) 4096 16384 n text w₀ c₀ w c i t reads q less r (rw (← part-long) e) .answered;
-        changed = changed-then 4096 16384 (t .changed) put-changed;
+        answered = turns-stop (λ m. cellLine locations) (HoldsMaps locations) mapsAt spaceSize n text w₀ c₀ w c i t reads q less r (rw (← part-long) e) .answered;
+        changed = changed-then mapsAt spaceSize (t .changed) put-changed;
       }
 
       pub map-turn : (d : Cursor) → next splitSheet (cellLine (length part)) (placeAt text c) ≡ on (ys, placeAt text d) → Placed text d
-          → Turn (λ m. cellLine locations) (HoldsMaps locations) 4096 16384 n text w₀ (placeAt text c₀) (put ys) d (i + 1)
+          → Turn (λ m. cellLine locations) (HoldsMaps locations) mapsAt spaceSize n text w₀ (placeAt text c₀) (put ys) d (i + 1)
       map-turn d e p =
-          next-turn (λ m. cellLine locations) (HoldsMaps locations) 4096 16384 n text w₀ c₀ w c i t less (put ys) ys d (rw (← part-long) e) p
+          next-turn (λ m. cellLine locations) (HoldsMaps locations) mapsAt spaceSize n text w₀ c₀ w c i t less (put ys) ys d (rw (← part-long) e) p
           (maps-push locations narrow w (put ys) (t .entries) ys (kept ∙ part-long) i (t .count) (t .stored)
           (filled-changed w at ys (past - at) whole room at past (omega arith) (omega (arith, wide)))
           (filled-region w at ys (past - at) whole room))

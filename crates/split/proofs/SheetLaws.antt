@@ -13,7 +13,7 @@ use Rattle.spec.specs.declared.Refusal.{Refusal}
 use Rattle.spec.specs.declared.TypeLine.{TypeLine}
 use Rattle.lexer.specs.Cursors.{Placed, placeAt}
 use Rattle.lexer.specs.declared.Cursor.{Cursor}
-use Rattle.workspace.specs.Layout.{wordsAt, valuesAt, codeOf}
+use Rattle.workspace.specs.Layout.{wordsAt, valuesAt, rowTypesAt, presAt, kindsAt, firstsAt, secondsAt, lineAt, mapsAt, spaceSize, codeOf}
 use Rattle.workspace.specs.Region.{Region, ChangedWithin}
 use Rattle.workspace.specs.Holds.{HoldsSteps, HoldsSplit}
 use Rattle.workspace.proofs.Codes.{word-of-code}
@@ -28,14 +28,14 @@ use Rattle.split.specs.Sheet.{body, EndAnswer, BodyAnswer, BodyRead}
 
 -- ------------------------------------------------------------------ the steps in the work space
 
-step-kept : (w w′ : List ℕ) (k : ℕ) → k < 256 → ChangedWithin 1024 16384 w w′ → stepAt w′ k ≡ stepAt w k
+step-kept : (w w′ : List ℕ) (k : ℕ) → k < 256 → ChangedWithin rowTypesAt spaceSize w w′ → stepAt w′ k ≡ stepAt w k
 unfolding stepAt
 step-kept w w′ k h x =
     let a : getD w′ (wordsAt + k) 0 ≡ getD w (wordsAt + k) 0 = x .kept (wordsAt + k) (inl (omega arith)) in
     let b : getD w′ (valuesAt + k) 0 ≡ getD w (valuesAt + k) 0 = x .kept (valuesAt + k) (inl (omega arith)) in
     rw (a, b)
 
-steps-kept : (w w′ : List ℕ) (k n : ℕ) → k + n ≤ 256 → ChangedWithin 1024 16384 w w′ → stepsFrom w′ k n ≡ stepsFrom w k n
+steps-kept : (w w′ : List ℕ) (k n : ℕ) → k + n ≤ 256 → ChangedWithin rowTypesAt spaceSize w w′ → stepsFrom w′ k n ≡ stepsFrom w k n
 unfolding stepsFrom
 steps-kept w w′ k zero h x = refl
 steps-kept w w′ k (suc n) h x = rw (step-kept w w′ k (omega arith) x, steps-kept w w′ (k + 1) n (omega arith) x)
@@ -57,7 +57,7 @@ steps-held w steps n h e = rw (← e) (steps-from w 0 steps (h .words) (h .value
 -- ------------------------------------------------------------------ the lines behind the header
 
 module _ (purpose : Purpose) (h : HeaderRead) (small : Small h) (n : ℕ) (few : n ≤ 256) (text : List ℕ) (c : Cursor) (w w₁ : List ℕ) (types : LinesRead)
-    (read-types : LinesStored 2048 2240 (h .types) HoldsTypes text (nextAll splitSheet (typeLines (headerTold h) 0 (h .types)) (placeAt text c)) w w₁ types)
+    (read-types : LinesStored kindsAt lineAt (h .types) HoldsTypes text (nextAll splitSheet (typeLines (headerTold h) 0 (h .types)) (placeAt text c)) w w₁ types)
   where
     abbrev H : Header
     H = headerTold h
@@ -68,8 +68,8 @@ module _ (purpose : Purpose) (h : HeaderRead) (small : Small h) (n : ℕ) (few :
     abbrev types-out : Out (List TypeLine × Place)
     types-out = nextAll splitSheet (typeLines H 0 (h .types)) (placeAt text c)
 
-    changed-one : ChangedWithin 1024 16384 w w₁
-    changed-one = changed-wider 1024 16384 (omega arith) (omega arith) (read-types .changed)
+    changed-one : ChangedWithin rowTypesAt spaceSize w w₁
+    changed-one = changed-wider rowTypesAt spaceSize (omega arith) (omega arith) (read-types .changed)
 
     pub types-stop : (r : Refusal) → types ≡ lines-read.Refused r → BodyRead purpose H n (placeAt text c) w w₁ types
     unfolding body headerTold _>>=_
@@ -88,9 +88,9 @@ module _ (purpose : Purpose) (h : HeaderRead) (small : Small h) (n : ℕ) (few :
       abbrev maps-out : Out (List Map × Place)
       maps-out = nextAll splitSheet (replicate (h .maps) (mapLine H)) (placeAt text c₂)
 
-      module _ (w₂ : List ℕ) (maps : LinesRead) (read-maps : LinesStored 4096 16384 (h .maps) (HoldsMaps (h .locations)) text maps-out w₁ w₂ maps) where
-        changed-two : ChangedWithin 1024 16384 w w₂
-        changed-two = changed-then 1024 16384 changed-one (changed-wider 1024 16384 (omega arith) (omega arith) (read-maps .changed))
+      module _ (w₂ : List ℕ) (maps : LinesRead) (read-maps : LinesStored mapsAt spaceSize (h .maps) (HoldsMaps (h .locations)) text maps-out w₁ w₂ maps) where
+        changed-two : ChangedWithin rowTypesAt spaceSize w w₂
+        changed-two = changed-then rowTypesAt spaceSize changed-one (changed-wider rowTypesAt spaceSize (omega arith) (omega arith) (read-maps .changed))
 
         pub maps-stop : (r : Refusal) → maps ≡ lines-read.Refused r → BodyRead purpose H n (placeAt text c) w w₂ maps
         unfolding body headerTold _>>=_
@@ -110,15 +110,15 @@ module _ (purpose : Purpose) (h : HeaderRead) (small : Small h) (n : ℕ) (few :
           abbrev rows-from : List ℕ → Out (List Row × Place)
           rows-from v = nextAll splitSheet (map (rowLine purpose H) (stepsFrom v 0 n)) (placeAt text c₃)
 
-          module _ (v : List ℕ) (emptied : EmptyStored w₂ v) (w₃ : List ℕ) (rows : LinesRead) (read-rows : LinesStored 1024 1792 n HoldsRows text (rows-from v) v w₃ rows) where
+          module _ (v : List ℕ) (emptied : EmptyStored w₂ v) (w₃ : List ℕ) (rows : LinesRead) (read-rows : LinesStored rowTypesAt presAt n HoldsRows text (rows-from v) v w₃ rows) where
             abbrev rows-out : Out (List Row × Place)
             rows-out = rows-from v
 
-            changed-empty : ChangedWithin 1024 16384 w v
-            changed-empty = changed-then 1024 16384 changed-two (changed-wider 1024 16384 (omega arith) (omega arith) (emptied .changed))
+            changed-empty : ChangedWithin rowTypesAt spaceSize w v
+            changed-empty = changed-then rowTypesAt spaceSize changed-two (changed-wider rowTypesAt spaceSize (omega arith) (omega arith) (emptied .changed))
 
-            changed-three : ChangedWithin 1024 16384 w w₃
-            changed-three = changed-then 1024 16384 changed-empty (changed-wider 1024 16384 (omega arith) (omega arith) (read-rows .changed))
+            changed-three : ChangedWithin rowTypesAt spaceSize w w₃
+            changed-three = changed-then rowTypesAt spaceSize changed-empty (changed-wider rowTypesAt spaceSize (omega arith) (omega arith) (read-rows .changed))
 
             same-rows : nextAll splitSheet (map (rowLine purpose H) (stepsFrom w 0 n)) (placeAt text c₃) ≡ rows-out
             same-rows = ap (λ (l : List Step). nextAll splitSheet (map (rowLine purpose H) l) (placeAt text c₃)) (sym (steps-kept w v 0 n (omega arith) changed-empty))
@@ -142,7 +142,7 @@ module _ (purpose : Purpose) (h : HeaderRead) (small : Small h) (n : ℕ) (few :
               found = record { header = H; types = types-got .0; maps = maps-got .0; rows = rows-got .0 }
 
               -- types and maps stand where rows, and types where maps, do not
-              types-kept : (at : ℕ) (f : TypeLine → ℕ) → 1792 ≤ at → at + 64 ≤ 4096 → Region w₁ at (map f (types-got .0)) → Region w₃ at (map f (types-got .0))
+              types-kept : (at : ℕ) (f : TypeLine → ℕ) → presAt ≤ at → at + 64 ≤ mapsAt → Region w₁ at (map f (types-got .0)) → Region w₃ at (map f (types-got .0))
               types-kept at f low high r =
                   let l = length-map (types-got .0) f in
                   region-kept (read-rows .changed) (inr low)
@@ -151,9 +151,9 @@ module _ (purpose : Purpose) (h : HeaderRead) (small : Small h) (n : ℕ) (few :
 
               holds : HoldsSplit w₃ found
               holds = record {
-                kinds = types-kept 2048 _ (omega arith) (omega arith) (types-got .3 .first);
-                firsts = types-kept 2112 _ (omega arith) (omega arith) (types-got .3 .second);
-                seconds = types-kept 2176 _ (omega arith) (omega arith) (types-got .3 .third);
+                kinds = types-kept kindsAt _ (omega arith) (omega arith) (types-got .3 .first);
+                firsts = types-kept firstsAt _ (omega arith) (omega arith) (types-got .3 .second);
+                seconds = types-kept secondsAt _ (omega arith) (omega arith) (types-got .3 .third);
                 maps = λ m l. region-kept (read-rows .changed) (inr (omega arith))
                     (region-kept (emptied .changed) (inl (omega (arith, maps-got .3 .wide m l, maps-got .2, small .locations, small .maps))) (maps-got .3 .maps m l));
                 empty = region-kept (read-rows .changed) (inr (omega arith)) (emptied .empty);

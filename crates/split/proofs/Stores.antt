@@ -8,7 +8,7 @@ use native.Mathlib.Nat.{eq-or-lt-of-le}
 use lib.ListN.{length, getD, take, drop, replicate, set, length-set, length-map, length-append, length-drop, List·getD-append}
 use lib.Seq.{getD-take, getD-drop, length-take-le, getD-append-add, getD-append-seam}
 use Rattle.spec.specs.Split.{Map}
-use Rattle.workspace.specs.Layout.{mapsAt, stride}
+use Rattle.workspace.specs.Layout.{mapsAt, stride, emptyRowAt, spaceSize}
 use Rattle.workspace.specs.Region.{Region, ChangedWithin}
 use Rattle.workspace.proofs.Region.{region-empty, region-apart, column-push, region-kept, changed-store, changed-then}
 use Rattle.split.specs.Stored.{Columns, EmptyStored, HoldsMaps}
@@ -106,15 +106,15 @@ module _ (w : List ℕ) (at : ℕ) (xs : List ℕ) (n : ℕ) (count : length xs 
   filled-region = record { fits = omega (arith, filled-long); at = filled-at }
 
 -- the empty map
-pub empty-stored : (w xs : List ℕ) → length w ≡ 16384 → xs ≡ replicate (length (take 16 (drop 12288 w))) 0
-    → EmptyStored w (take 12288 w ++ (xs ++ drop 16 (drop 12288 w)))
+pub empty-stored : (w xs : List ℕ) → length w ≡ spaceSize → xs ≡ replicate (length (take 16 (drop emptyRowAt w))) 0
+    → EmptyStored w (take emptyRowAt w ++ (xs ++ drop 16 (drop emptyRowAt w)))
 empty-stored w xs long e =
-    let part = length-take-le 16 (drop 12288 w) (omega (arith, length-drop 12288 w, long)) in
+    let part = length-take-le 16 (drop emptyRowAt w) (omega (arith, length-drop emptyRowAt w, long)) in
     let is : xs ≡ replicate 16 0 = e ∙ ap (λ (n : ℕ). replicate n 0) part in
     let count : length xs ≡ 16 = ap length is in
     record {
-      empty = subst (Region (take 12288 w ++ (xs ++ drop 16 (drop 12288 w))) 12288) is (filled-region w 12288 xs 16 count (omega arith));
-      changed = filled-changed w 12288 xs 16 count (omega arith) 12288 12304 (omega arith) (omega arith);
+      empty = subst (Region (take emptyRowAt w ++ (xs ++ drop 16 (drop emptyRowAt w))) emptyRowAt) is (filled-region w emptyRowAt xs 16 count (omega arith));
+      changed = filled-changed w emptyRowAt xs 16 count (omega arith) emptyRowAt (emptyRowAt + stride) (omega arith) (omega arith);
     }
 
 pub maps-empty : (locations : ℕ) (w : List ℕ) → HoldsMaps locations w []
@@ -122,8 +122,8 @@ maps-empty locations w = record { wide = λ m h. absurd (omega arith); maps = λ
 
 -- one map more
 module _ (locations : ℕ) (narrow : locations ≤ 16) (w w′ : List ℕ) (ms : List Map) (m : Map) (wide : length m ≡ locations) (n : ℕ) (count : length ms ≡ n) where
-  pub maps-push : HoldsMaps locations w ms → ChangedWithin (4096 + 16 * n) (4096 + 16 * n + locations) w w′
-      → Region w′ (4096 + 16 * n) m → HoldsMaps locations w′ (ms ++ (m ∷ []))
+  pub maps-push : HoldsMaps locations w ms → ChangedWithin (mapsAt + stride * n) (mapsAt + stride * n + locations) w w′
+      → Region w′ (mapsAt + stride * n) m → HoldsMaps locations w′ (ms ++ (m ∷ []))
   maps-push h x r = record {
     wide = λ i l. at (λ (n : Map) (j : ℕ). length n ≡ locations) (h .wide) wide i l;
     maps = λ i l. at (λ (n : Map) (j : ℕ). Region w′ (mapsAt + stride * j) n)

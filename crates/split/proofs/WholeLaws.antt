@@ -16,6 +16,7 @@ use Rattle.lexer.specs.Cursors.{Placed, start, rest, placeAt}
 use Rattle.lexer.specs.declared.Cursor.{Cursor}
 use Rattle.lexer.proofs.Sheets.{begin-at-none, begin-at-some}
 use Rattle.lexer.proofs.Walks.{start-rest, start-placed, left-none, left-some}
+use Rattle.workspace.specs.Layout.{rowTypesAt, spaceSize}
 use Rattle.workspace.specs.Holds.{HoldsSteps}
 use Rattle.workspace.proofs.Region.{changed-nothing}
 use Rattle.workspace.specs.declared.Header.{Header as HeaderRead}
@@ -43,7 +44,7 @@ module _ (text : List ℕ) (top : Cursor) (is : top ≡ start) where
 
   pub read-empty : nothing (rest text top) ≡ true → (purpose : Purpose) (n : ℕ) (w : List ℕ) → SplitRead purpose text n w w (sheet.Refused (SplitForm 1))
   unfolding split _>>=_
-  read-empty e purpose n w = record { answered = λ steps held count. rw (empty-begin e); changed = changed-nothing 1024 16384 w }
+  read-empty e purpose n w = record { answered = λ steps held count. rw (empty-begin e); changed = changed-nothing rowTypesAt spaceSize w }
 
   module _ (some-left : nothing (rest text top) ≡ false) where
     top-place : begin splitSheet (lines text) ≡ on (placeAt text top)
@@ -55,7 +56,7 @@ module _ (text : List ℕ) (top : Cursor) (is : top ≡ start) where
       unfolding split _>>=_
       read-header-stop r e n w =
           let h = subst (HeaderAnswer text (next splitSheet (headerLine purpose) (placeAt text top))) e header in
-          record { answered = λ steps held count. rw (top-place, h); changed = changed-nothing 1024 16384 w }
+          record { answered = λ steps held count. rw (top-place, h); changed = changed-nothing rowTypesAt spaceSize w }
 
       module _ (h : HeaderRead) (c : Cursor) (told : answer ≡ header-line.Read h c) where
         header-got : HeaderAnswer text (next splitSheet (headerLine purpose) (placeAt text top)) (header-line.Read h c)

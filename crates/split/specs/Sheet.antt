@@ -7,6 +7,7 @@ use Rattle.spec.specs.Reading.{splitSheet, Out, stop, on, _>>=_, Place, nextAll
 use Rattle.spec.specs.Expression.{Step}
 use Rattle.spec.specs.Split.{Header, Split, typeLines, mapLine, rowLine, split}
 use Rattle.spec.specs.declared.Purpose.{Purpose}
+use Rattle.workspace.specs.Layout.{rowTypesAt, spaceSize}
 use Rattle.workspace.specs.Region.{ChangedWithin}
 use Rattle.workspace.specs.Holds.{HoldsSteps, HoldsSplit}
 use Rattle.split.specs.declared.LinesRead.{LinesRead}
@@ -36,14 +37,14 @@ BodyAnswer H out w′ (lines-read.Read c) = (S : Split) × (out ≡ on S) × (S 
 
 pub record BodyRead (purpose : Purpose) (H : Header) (n : ℕ) (from : Place) (w w′ : List ℕ) (answer : LinesRead) : Type 0 where
   pub answered : BodyAnswer H (body purpose H (stepsFrom w 0 n) from) w′ answer
-  pub changed : ChangedWithin 1024 16384 w w′
+  pub changed : ChangedWithin rowTypesAt spaceSize w w′
 
 -- a refusal is that of document 01; else the header is that of the split, which the work space holds
 abbrev pub SheetAnswer : Out Split → (w′ : List ℕ) → Sheet → Type 0
 SheetAnswer out w′ (sheet.Refused r) = out ≡ stop r
 SheetAnswer out w′ (sheet.Read h) = (S : Split) × (out ≡ on S) × (S .header ≡ headerTold h) × HoldsSplit w′ S × Small h
 
--- reading a split sheet, to check or to fill, for the n steps of a program that the work space holds: only places from 1024 on change
+-- reading a split sheet, to check or to fill, for the n steps of a program that the work space holds: only places from the rows on change
 pub record SplitRead (purpose : Purpose) (text : List ℕ) (n : ℕ) (w w′ : List ℕ) (answer : Sheet) : Type 0 where
   pub answered : (steps : List Step) → HoldsSteps w steps → length steps ≡ n → SheetAnswer (split purpose steps text) w′ answer
-  pub changed : ChangedWithin 1024 16384 w w′
+  pub changed : ChangedWithin rowTypesAt spaceSize w w′

@@ -10,7 +10,7 @@ use Rattle.spec.specs.declared.Purpose.{Purpose}
 use Rattle.spec.specs.declared.TypeLine.{TypeLine}
 use Rattle.lexer.specs.Cursors.{Placed, placeAt}
 use Rattle.lexer.specs.declared.Cursor.{Cursor}
-use Rattle.workspace.specs.Layout.{wordsAt, valuesAt, rowTypesAt, kindsAt, mapsAt, stride, emptyMap, wordOf, kindOf, firstOf, secondOf}
+use Rattle.workspace.specs.Layout.{wordsAt, valuesAt, rowTypesAt, presAt, kindsAt, lineAt, mapsAt, stride, emptyMap, emptyRowAt, spaceSize, wordOf, kindOf, firstOf, secondOf}
 use Rattle.workspace.specs.Region.{Region, ChangedWithin}
 use Rattle.workspace.specs.Holds.{startNumber}
 use Rattle.workspace.specs.declared.Header.{Header}
@@ -38,7 +38,7 @@ pub record HoldsMaps (locations : ℕ) (w : List ℕ) (ms : List Map) : Type 0 w
 -- the empty map
 pub record EmptyStored (w w′ : List ℕ) : Type 0 where
   pub empty : Region w′ (mapsAt + stride * emptyMap) (replicate stride 0)
-  pub changed : ChangedWithin 12288 12304 w w′
+  pub changed : ChangedWithin emptyRowAt (emptyRowAt + stride) w w′
 
 -- n lines read one after the other: what they say is in the work space
 abbrev pub LinesAnswer : {A : Type 0} → (n : ℕ) → (Stored : List A → Type 0) → List ℕ → Out (List A × Place) → LinesRead → Type 0
@@ -65,14 +65,14 @@ stepsFrom w k (suc n) = stepAt w k ∷ stepsFrom w (k + 1) n
 -- the type lines from a cursor on
 abbrev pub TypesRead : List ℕ → Cursor → Header → (w w′ : List ℕ) → LinesRead → Type 0
 TypesRead text c h w w′ answer =
-    LinesStored 2048 2240 (h .types) HoldsTypes text (nextAll splitSheet (typeLines (headerTold h) 0 (h .types)) (placeAt text c)) w w′ answer
+    LinesStored kindsAt lineAt (h .types) HoldsTypes text (nextAll splitSheet (typeLines (headerTold h) 0 (h .types)) (placeAt text c)) w w′ answer
 
 -- the map lines
 abbrev pub MapsRead : List ℕ → Cursor → Header → (w w′ : List ℕ) → LinesRead → Type 0
 MapsRead text c h w w′ answer =
-    LinesStored 4096 16384 (h .maps) (HoldsMaps (h .locations)) text (nextAll splitSheet (replicate (h .maps) (mapLine (headerTold h))) (placeAt text c)) w w′ answer
+    LinesStored mapsAt spaceSize (h .maps) (HoldsMaps (h .locations)) text (nextAll splitSheet (replicate (h .maps) (mapLine (headerTold h))) (placeAt text c)) w w′ answer
 
 -- the rows of the first n steps in the work space
 abbrev pub RowsRead : Purpose → List ℕ → Cursor → Header → (n : ℕ) → (w w′ : List ℕ) → LinesRead → Type 0
 RowsRead purpose text c h n w w′ answer =
-    LinesStored 1024 1792 n HoldsRows text (nextAll splitSheet (map (rowLine purpose (headerTold h)) (stepsFrom w 0 n)) (placeAt text c)) w w′ answer
+    LinesStored rowTypesAt presAt n HoldsRows text (nextAll splitSheet (map (rowLine purpose (headerTold h)) (stepsFrom w 0 n)) (placeAt text c)) w w′ answer

@@ -21,6 +21,7 @@ ghost use Prim.Native.Nat.{_≤_};
 ghost use lib.ListN.{length};
 ghost use Rattle.spec.specs.Reading.{splitSheet, end};
 ghost use Rattle.lexer.specs.Cursors.{placeAt};
+ghost use Rattle.workspace.specs.Layout.{spaceSize};
 ghost use Rattle.workspace.specs.Sheets.{headerTold};
 ghost use Rattle.split.specs.Answers.{Reading, Small};
 ghost use Rattle.split.specs.Stored.{EmptyStored};
@@ -55,7 +56,7 @@ fn finish(text: &[u8], cursor: Cursor) -> LinesRead
 
 // The empty map, behind the last that a sheet can have: nothing of any location.
 fn store_empty(work: &mut [u32])
-    requires { ⌜ length (now work) ≡ 16384 ⌝ }
+    requires { ⌜ length (now work) ≡ spaceSize ⌝ }
     ensures { λ _. ⌜ EmptyStored (now (work .entry)) (now (work .exit)) ⌝ }
 {
     let past = EMPTY_ROW + STRIDE;
@@ -71,7 +72,7 @@ fn read_body(
     steps: usize,
     work: &mut [u32],
 ) -> LinesRead
-    requires { ⌜ Reading (now text) from × Small header × (steps ≤ 256) × (length (now work) ≡ 16384) ⌝ }
+    requires { ⌜ Reading (now text) from × Small header × (steps ≤ 256) × (length (now work) ≡ spaceSize) ⌝ }
     ensures { λ r. ⌜ BodyRead purpose (headerTold header) steps (placeAt (now (text .entry)) from) (now (work .entry)) (now (work .exit)) r ⌝ }
 {
     let types = read_types(text, from, header, work);
@@ -92,7 +93,7 @@ fn read_body(
 
 // Reads a split sheet, to check or to fill, for the steps of the program that the work space holds.
 pub fn read(text: &[u8], purpose: Purpose, steps: usize, work: &mut [u32]) -> Sheet
-    requires { ⌜ (length (now text) ≤ 65536) × (steps ≤ 256) × (length (now work) ≡ 16384) ⌝ }
+    requires { ⌜ (length (now text) ≤ 65536) × (steps ≤ 256) × (length (now work) ≡ spaceSize) ⌝ }
     ensures { λ r. ⌜ SplitRead purpose (now (text .entry)) steps (now (work .entry)) (now (work .exit)) r ⌝ }
 {
     let top = Cursor::start();

@@ -11,6 +11,7 @@ ghost use mathlib.Core.Path.{_≡_};
 ghost use lib.ListN.{length};
 ghost use Rattle.spec.specs.Reading.{splitSheet, allInRange, next};
 ghost use Rattle.lexer.specs.Cursors.{placeAt};
+ghost use Rattle.workspace.specs.Layout.{spaceSize};
 ghost use Rattle.split.specs.Lines.{cells, cellLine};
 ghost use Rattle.split.specs.Answers.{Reading, Small, MapAnswer};
 ghost use Rattle.split.specs.Stored.{MapsRead};
@@ -50,7 +51,7 @@ fn map_line(text: &[u8], cursor: Cursor, into: &mut [u32]) -> LinesRead
 
 // The map lines, from a cursor on.
 pub(crate) fn read_maps(text: &[u8], from: Cursor, header: Header, work: &mut [u32]) -> LinesRead
-    requires { ⌜ Reading (now text) from × Small header × (length (now work) ≡ 16384) ⌝ }
+    requires { ⌜ Reading (now text) from × Small header × (length (now work) ≡ spaceSize) ⌝ }
     ensures { λ r. ⌜ MapsRead (now (text .entry)) from header (now (work .entry)) (now (work .exit)) r ⌝ }
 {
     let locations = header.locations;

@@ -26,6 +26,7 @@ ghost use lib.ListN.{length, set};
 ghost use Rattle.spec.specs.Reading.{splitSheet, next};
 ghost use Rattle.spec.specs.Split.{takesStart, mayBeEmpty};
 ghost use Rattle.lexer.specs.Cursors.{placeAt};
+ghost use Rattle.workspace.specs.Layout.{rowTypesAt, postsAt, startsAt, spaceSize};
 ghost use Rattle.workspace.specs.Holds.{startNumber};
 ghost use Rattle.workspace.specs.Sheets.{headerTold};
 ghost use Rattle.split.specs.Lines.{startTold, wordLine, startLimit, rowMade, rowRanged};
@@ -166,8 +167,8 @@ fn start_number(start: RowStart) -> u32
 
 // Stores a row in the three columns of rows.
 fn store_row(work: &mut [u32], k: usize, row: Row)
-    requires { ⌜ (length (now work) ≡ 16384) × (k < 256) ⌝ }
-    ensures { λ _. ⌜ now (work .exit) ≡ set (set (set (now (work .entry)) (1024 + k) (row .typed .0)) (1280 + k) (row .post .0)) (1536 + k) (startNumber (startTold (row .start))) ⌝ }
+    requires { ⌜ (length (now work) ≡ spaceSize) × (k < 256) ⌝ }
+    ensures { λ _. ⌜ now (work .exit) ≡ set (set (set (now (work .entry)) (rowTypesAt + k) (row .typed .0)) (postsAt + k) (row .post .0)) (startsAt + k) (startNumber (startTold (row .start))) ⌝ }
 {
     let typed = row.typed;
     let post = row.post;
@@ -187,7 +188,7 @@ pub(crate) fn read_rows(
     steps: usize,
     work: &mut [u32],
 ) -> LinesRead
-    requires { ⌜ Reading (now text) from × Small header × (steps ≤ 256) × (length (now work) ≡ 16384) ⌝ }
+    requires { ⌜ Reading (now text) from × Small header × (steps ≤ 256) × (length (now work) ≡ spaceSize) ⌝ }
     ensures { λ r. ⌜ RowsRead purpose (now (text .entry)) from header steps (now (work .entry)) (now (work .exit)) r ⌝ }
 {
     let mut cursor = from;

@@ -22,7 +22,7 @@ ghost use lib.ListN.{length, set};
 ghost use Rattle.spec.specs.Reading.{splitSheet, below, allInRange, next};
 ghost use Rattle.spec.specs.Split.{typeLine};
 ghost use Rattle.lexer.specs.Cursors.{placeAt};
-ghost use Rattle.workspace.specs.Layout.{kindOf, firstOf, secondOf};
+ghost use Rattle.workspace.specs.Layout.{kindsAt, firstsAt, secondsAt, spaceSize, kindOf, firstOf, secondOf};
 ghost use Rattle.workspace.specs.Sheets.{headerTold};
 ghost use Rattle.spec.specs.declared.Heading.the-variants.{C2};
 ghost use Rattle.split.specs.Lines.{rangedType, lockSeen, typeSeen};
@@ -137,8 +137,8 @@ fn type_line(text: &[u8], cursor: Cursor, own: usize, header: Header) -> TypeRea
 
 // Stores a type in the three columns of types.
 fn store_type(work: &mut [u32], own: usize, t: TypeLine)
-    requires { ⌜ (length (now work) ≡ 16384) × (own < 64) ⌝ }
-    ensures { λ _. ⌜ now (work .exit) ≡ set (set (set (now (work .entry)) (2048 + own) (kindOf t)) (2112 + own) (firstOf t)) (2176 + own) (secondOf t) ⌝ }
+    requires { ⌜ (length (now work) ≡ spaceSize) × (own < 64) ⌝ }
+    ensures { λ _. ⌜ now (work .exit) ≡ set (set (set (now (work .entry)) (kindsAt + own) (kindOf t)) (firstsAt + own) (firstOf t)) (secondsAt + own) (secondOf t) ⌝ }
 {
     work[KINDS + own] = workspace::kind_of(t);
     work[FIRSTS + own] = workspace::first_of(t);
@@ -147,7 +147,7 @@ fn store_type(work: &mut [u32], own: usize, t: TypeLine)
 
 // The type lines, from a cursor on.
 pub(crate) fn read_types(text: &[u8], from: Cursor, header: Header, work: &mut [u32]) -> LinesRead
-    requires { ⌜ Reading (now text) from × Small header × (length (now work) ≡ 16384) ⌝ }
+    requires { ⌜ Reading (now text) from × Small header × (length (now work) ≡ spaceSize) ⌝ }
     ensures { λ r. ⌜ TypesRead (now (text .entry)) from header (now (work .entry)) (now (work .exit)) r ⌝ }
 {
     let types = header.types;

@@ -1,43 +1,25 @@
--- Where an expression of the program that the work space holds stands: its steps from index k on, its parts behind them.
+-- Where an expression stands in the work space: its steps from index k on, its parts behind them.
 use mathlib.Core.Path.{_≡_, ap, _∙_}
 use mathlib.Core.Logic.{inl}
-use mathlib.Core.List.{List, _∷_, _++_, map, map-append}
+use mathlib.Core.List.{List, _++_, map, map-append}
 use Prim.Native.Nat.{ℕ, _+_, _≤_}
 use native.Mathlib.Omega.{arith}
 use lib.ListN.{length, getD, length-map}
-use Rattle.spec.specs.Expression.{Step, Expr, leaf, unary, binary, size}
-use Rattle.spec.specs.Conditions.{lineOf}
-use Rattle.spec.specs.WellFormed.{prefix, LinesFrom, UsedInside}
+use Rattle.spec.specs.Expression.{Step, Position, Expr, leaf, unary, binary, size, indexOf, lineOf}
+use Rattle.spec.specs.Words.{role, binding}
+use Rattle.spec.specs.WellFormed.{prefix, IndexesFrom, UsedInside}
 use Rattle.spec.proofs.Listing.{prefix-length}
+use Rattle.spec.specs.declared.Word.{Word}
+use Rattle.spec.specs.declared.Word.the-variants.{Leaf, Unary, Binary}
 use Rattle.spec.specs.declared.LeafWord.{LeafWord}
 use Rattle.spec.specs.declared.LeafWord.the-variants.{Var}
 use Rattle.spec.specs.declared.UnaryWord.{UnaryWord}
 use Rattle.spec.specs.declared.BinaryWord.{BinaryWord}
-use Rattle.spec.specs.declared.BinaryWord.the-variants.{Let, If, Spawn, Write}
-use Rattle.workspace.specs.Layout.{wordsAt, valuesAt, endsAt, letsAt, presAt, leafCode, unaryCode, binaryCode, codeOf}
+use Rattle.workspace.specs.Layout.{wordsAt, valuesAt, endsAt, letsAt, linesAt, presAt, leafCode, unaryCode, binaryCode, codeOf}
 use Rattle.workspace.specs.Region.{Region, ChangedWithin}
-use Rattle.workspace.specs.Holds.{ends, lets, letIn}
+use Rattle.workspace.specs.Holds.{ends, letIn, letOf, lets, HoldsSteps}
 use Rattle.workspace.proofs.Region.{region-moved, region-first, region-behind, region-left, region-right, region-kept}
-use Rattle.workspace.proofs.Held.{ends-length, insideSecond, lets-binary, lets-length}
-
--- ------------------------------------------------------------------ the second of two parts
-
--- the variables whose let's e2 it is in
-unfoldable pub varsSecond : BinaryWord → (v : ℕ) → List ℕ → List ℕ
-varsSecond Let v vars = v ∷ vars
-varsSecond If v vars = vars
-varsSecond Spawn v vars = vars
-varsSecond Write v vars = vars
-
-used-binary : (x : BinaryWord) (vars : List ℕ) (l v : ℕ) (e₁ e₂ : Expr)
-    → UsedInside vars (binary x l v e₁ e₂) → UsedInside vars e₁ × UsedInside (varsSecond x v vars) e₂
-unfolding UsedInside varsSecond
-used-binary Let vars l v e₁ e₂ u = u
-used-binary If vars l v e₁ e₂ u = u
-used-binary Spawn vars l v e₁ e₂ u = u
-used-binary Write vars l v e₁ e₂ u = u
-
--- ------------------------------------------------------------------ where an expression stands
+use Rattle.workspace.proofs.Held.{ends-length, lets-length}
 
 -- the codes of an expression's words, in line order
 unfoldable pub codes : Expr → List ℕ
@@ -55,120 +37,221 @@ values-length : (e : Expr) → length (values e) ≡ size e
 unfolding values
 values-length e = length-map (prefix e) (λ (s : Step). s .value) ∙ prefix-length e
 
-pub record Here (w : List ℕ) (k : ℕ) (inside : List (ℕ × ℕ)) (vars : List ℕ) (e : Expr) : Type 0 where
+-- and their lines
+unfoldable pub linesOf : Expr → List ℕ
+linesOf e = map (λ (s : Step). s .line) (prefix e)
+
+lines-length : (e : Expr) → length (linesOf e) ≡ size e
+unfolding linesOf
+lines-length e = length-map (prefix e) (λ (s : Step). s .line) ∙ prefix-length e
+
+-- an expression stands at index k: its words, numbers and lines, where its steps end, and that it says so
+pub record Standing (w : List ℕ) (k : ℕ) (e : Expr) : Type 0 where
   pub words : Region w (wordsAt + k) (codes e)
   pub numbers : Region w (valuesAt + k) (values e)
+  pub lined : Region w (linesAt + k) (linesOf e)
   pub ended : Region w (endsAt + k) (ends k e)
+  pub indexed : IndexesFrom k e
+
+-- and its variables have their lets
+pub record Here (w : List ℕ) (k : ℕ) (inside : List (ℕ × ℕ)) (vars : List ℕ) (e : Expr) : Type 0 where
+  pub standing : Standing w k e
   pub bound : Region w (letsAt + k) (lets k inside e)
-  pub lines : LinesFrom (k + 2) e
   pub used : UsedInside vars e
 
 -- the expression stays where only maps before steps are changed
 pub here-kept : {w w′ : List ℕ} {k : ℕ} {inside : List (ℕ × ℕ)} {vars : List ℕ} {e : Expr}
     → ChangedWithin presAt (presAt + 256) w w′ → k + size e ≤ 256 → Here w k inside vars e → Here w′ k inside vars e
 here-kept {k = k} {inside = inside} {e = e} x h H = record {
-  words = region-kept x (inl (omega (arith, codes-length e))) (H .words);
-  numbers = region-kept x (inl (omega (arith, values-length e))) (H .numbers);
-  ended = region-kept x (inl (omega (arith, ends-length k e))) (H .ended);
+  standing = record {
+    words = region-kept x (inl (omega (arith, codes-length e))) (H .standing .words);
+    numbers = region-kept x (inl (omega (arith, values-length e))) (H .standing .numbers);
+    lined = region-kept x (inl (omega (arith, lines-length e))) (H .standing .lined);
+    ended = region-kept x (inl (omega (arith, ends-length k e))) (H .standing .ended);
+    indexed = H .standing .indexed;
+  };
   bound = region-kept x (inl (omega (arith, lets-length k inside e))) (H .bound);
-  lines = H .lines;
   used = H .used;
 }
 
-lines-moved : (m n : ℕ) (e : Expr) → m ≡ n → LinesFrom m e → LinesFrom n e
-lines-moved m n e h r = rw (← h) r
+-- ------------------------------------------------------------------ its first step
 
-module _ {w : List ℕ} {k : ℕ} {inside : List (ℕ × ℕ)} {vars : List ℕ} where
-  -- the line and the code of an expression
-  pub here-line : (e : Expr) → Here w k inside vars e → lineOf e ≡ k + 2
-  unfolding LinesFrom lineOf
-  here-line (leaf x l v) H = H .lines
-  here-line (unary x l v e) H = H .lines .0
-  here-line (binary x l v e₁ e₂) H = H .lines .0
+-- the step with word x, position p and number v is stored at index k
+pub record Head (w : List ℕ) (k : ℕ) (x : Word) (p : Position) (v : ℕ) : Type 0 where
+  pub code : getD w (wordsAt + k) 0 ≡ codeOf x
+  pub value : getD w (valuesAt + k) 0 ≡ v
+  pub line : getD w (linesAt + k) 0 ≡ p .line
+  pub index : p .index ≡ k
 
-  pub leaf-code : (x : LeafWord) (l v : ℕ) → Here w k inside vars (leaf x l v) → getD w (wordsAt + k) 0 ≡ leafCode x
-  unfolding codes prefix
-  leaf-code x l v H = region-first (H .words)
-
-  pub unary-code : (x : UnaryWord) (l v : ℕ) (e : Expr) → Here w k inside vars (unary x l v e) → getD w (wordsAt + k) 0 ≡ unaryCode x
-  unfolding codes prefix
-  unary-code x l v e H = region-first (H .words)
-
-  pub binary-code : (x : BinaryWord) (l v : ℕ) (e₁ e₂ : Expr) → Here w k inside vars (binary x l v e₁ e₂)
-      → getD w (wordsAt + k) 0 ≡ binaryCode x
-  unfolding codes prefix
-  binary-code x l v e₁ e₂ H = region-first (H .words)
-
-  -- the number of a step without parts
-  pub leaf-number : (x : LeafWord) (l v : ℕ) → Here w k inside vars (leaf x l v) → getD w (valuesAt + k) 0 ≡ v
-  unfolding values prefix
-  leaf-number x l v H = region-first (H .numbers)
-
-  -- the let of a variable
-  pub here-let : (l v : ℕ) → Here w k inside vars (leaf Var l v) → getD w (letsAt + k) 0 ≡ letIn inside v
-  unfolding lets
-  here-let l v H = region-first (H .bound)
-
-  -- the one part of a step, and the first of two, stand just behind it
-  pub here-part : (x : UnaryWord) (l v : ℕ) (e : Expr) → Here w k inside vars (unary x l v e) → Here w (k + 1) inside vars e
-  unfolding codes values prefix ends lets LinesFrom UsedInside
-  here-part x l v e H = record {
-    words = region-moved _ _ (omega arith) (region-behind (H .words));
-    numbers = region-moved _ _ (omega arith) (region-behind (H .numbers));
-    ended = region-moved _ _ (omega arith) (region-behind (H .ended));
-    bound = region-moved _ _ (omega arith) (region-behind (H .bound));
-    lines = lines-moved _ _ e (omega arith) (H .lines .1);
-    used = H .used;
+module _ {w : List ℕ} {k : ℕ} where
+  pub leaf-head : (x : LeafWord) (p : Position) (v : ℕ) → Standing w k (leaf x p v) → Head w k (Leaf x) p v
+  unfolding codes values linesOf prefix IndexesFrom
+  leaf-head x p v s = record {
+    code = region-first (s .words);
+    value = region-first (s .numbers);
+    line = region-first (s .lined);
+    index = s .indexed;
   }
 
-  module _ (x : BinaryWord) (l v : ℕ) (e₁ e₂ : Expr) (H : Here w k inside vars (binary x l v e₁ e₂)) where
+  pub unary-head : (x : UnaryWord) (p : Position) (v : ℕ) (e : Expr) → Standing w k (unary x p v e) → Head w k (Unary x) p v
+  unfolding codes values linesOf prefix IndexesFrom
+  unary-head x p v e s = record {
+    code = region-first (s .words);
+    value = region-first (s .numbers);
+    line = region-first (s .lined);
+    index = s .indexed .0;
+  }
+
+  pub binary-head : (x : BinaryWord) (p : Position) (v : ℕ) (e₁ e₂ : Expr) → Standing w k (binary x p v e₁ e₂) → Head w k (Binary x) p v
+  unfolding codes values linesOf prefix IndexesFrom
+  binary-head x p v e₁ e₂ s = record {
+    code = region-first (s .words);
+    value = region-first (s .numbers);
+    line = region-first (s .lined);
+    index = s .indexed .0;
+  }
+
+  -- the end of an expression
+  pub standing-end : (e : Expr) → Standing w k e → getD w (endsAt + k) 0 ≡ k + size e
+  unfolding ends size
+  standing-end (leaf x p v) s = region-first (s .ended)
+  standing-end (unary x p v e) s = region-first (s .ended)
+  standing-end (binary x p v e₁ e₂) s = region-first (s .ended)
+
+  -- ---------------------------------------------------------------- its parts
+
+  -- the one part of a step, and the first of two, stand just behind it
+  pub standing-part : (x : UnaryWord) (p : Position) (v : ℕ) (e : Expr) → Standing w k (unary x p v e) → Standing w (k + 1) e
+  unfolding codes values linesOf prefix ends IndexesFrom
+  standing-part x p v e s = record {
+    words = region-moved _ _ (omega arith) (region-behind (s .words));
+    numbers = region-moved _ _ (omega arith) (region-behind (s .numbers));
+    lined = region-moved _ _ (omega arith) (region-behind (s .lined));
+    ended = region-moved _ _ (omega arith) (region-behind (s .ended));
+    indexed = s .indexed .1;
+  }
+
+  module _ (x : BinaryWord) (p : Position) (v : ℕ) (e₁ e₂ : Expr) (s : Standing w k (binary x p v e₁ e₂)) where
     codes-parts : Region w (wordsAt + k + 1) (codes e₁ ++ codes e₂)
     unfolding codes prefix
-    codes-parts = rw map-append at (region-behind (H .words))
+    codes-parts = rw map-append at (region-behind (s .words))
 
     values-parts : Region w (valuesAt + k + 1) (values e₁ ++ values e₂)
     unfolding values prefix
-    values-parts = rw map-append at (region-behind (H .numbers))
+    values-parts = rw map-append at (region-behind (s .numbers))
+
+    lines-parts : Region w (linesAt + k + 1) (linesOf e₁ ++ linesOf e₂)
+    unfolding linesOf prefix
+    lines-parts = rw map-append at (region-behind (s .lined))
 
     ends-parts : Region w (endsAt + k + 1) (ends (k + 1) e₁ ++ ends (k + 1 + size e₁) e₂)
     unfolding ends
-    ends-parts = region-behind (H .ended)
+    ends-parts = region-behind (s .ended)
 
-    lets-parts : Region w (letsAt + k + 1) (lets (k + 1) inside e₁ ++ lets (k + 1 + size e₁) (insideSecond x v k inside) e₂)
-    lets-parts = region-behind (rw (lets-binary x k inside l v e₁ e₂) at (H .bound))
-
-    pub here-first : Here w (k + 1) inside vars e₁
-    unfolding LinesFrom
-    here-first = record {
+    pub standing-first : Standing w (k + 1) e₁
+    unfolding IndexesFrom
+    standing-first = record {
       words = region-moved _ _ (omega arith) (region-left _ _ codes-parts);
       numbers = region-moved _ _ (omega arith) (region-left _ _ values-parts);
+      lined = region-moved _ _ (omega arith) (region-left _ _ lines-parts);
       ended = region-moved _ _ (omega arith) (region-left _ _ ends-parts);
-      bound = region-moved _ _ (omega arith) (region-left _ _ lets-parts);
-      lines = lines-moved _ _ e₁ (omega arith) (H .lines .1);
-      used = used-binary x vars l v e₁ e₂ (H .used) .0;
+      indexed = s .indexed .1;
     }
 
     -- the second part stands at the end of the first
-    pub here-second : Here w (k + 1 + size e₁) (insideSecond x v k inside) (varsSecond x v vars) e₂
-    unfolding LinesFrom
-    here-second = record {
+    pub standing-second : Standing w (k + 1 + size e₁) e₂
+    unfolding IndexesFrom
+    standing-second = record {
       words = region-moved _ _ (omega (arith, codes-length e₁)) (region-right (codes e₁) _ codes-parts);
       numbers = region-moved _ _ (omega (arith, values-length e₁)) (region-right (values e₁) _ values-parts);
+      lined = region-moved _ _ (omega (arith, lines-length e₁)) (region-right (linesOf e₁) _ lines-parts);
       ended = region-moved _ _ (omega (arith, ends-length (k + 1) e₁)) (region-right (ends (k + 1) e₁) _ ends-parts);
-      bound = region-moved _ _
-          (omega (arith, lets-length (k + 1) inside e₁)) (region-right (lets (k + 1) inside e₁) _ lets-parts);
-      lines = lines-moved _ _ e₂ (omega arith) (H .lines .2);
-      used = used-binary x vars l v e₁ e₂ (H .used) .1;
+      indexed = s .indexed .2;
     }
 
-  -- the end of an expression
+-- ------------------------------------------------------------------ with its lets
+
+module _ {w : List ℕ} {k : ℕ} {inside : List (ℕ × ℕ)} {vars : List ℕ} where
+  -- the index and the line of an expression
+  pub here-index : (e : Expr) → Here w k inside vars e → indexOf e ≡ k
+  unfolding indexOf
+  here-index (leaf x p v) H = leaf-head x p v (H .standing) .index
+  here-index (unary x p v e) H = unary-head x p v e (H .standing) .index
+  here-index (binary x p v e₁ e₂) H = binary-head x p v e₁ e₂ (H .standing) .index
+
+  pub here-line : (e : Expr) → Here w k inside vars e → getD w (linesAt + k) 0 ≡ lineOf e
+  unfolding lineOf
+  here-line (leaf x p v) H = leaf-head x p v (H .standing) .line
+  here-line (unary x p v e) H = unary-head x p v e (H .standing) .line
+  here-line (binary x p v e₁ e₂) H = binary-head x p v e₁ e₂ (H .standing) .line
+
+  pub leaf-code : (x : LeafWord) (p : Position) (v : ℕ) → Here w k inside vars (leaf x p v) → getD w (wordsAt + k) 0 ≡ leafCode x
+  leaf-code x p v H = leaf-head x p v (H .standing) .code
+
+  pub unary-code : (x : UnaryWord) (p : Position) (v : ℕ) (e : Expr) → Here w k inside vars (unary x p v e) → getD w (wordsAt + k) 0 ≡ unaryCode x
+  unary-code x p v e H = unary-head x p v e (H .standing) .code
+
+  pub binary-code : (x : BinaryWord) (p : Position) (v : ℕ) (e₁ e₂ : Expr) → Here w k inside vars (binary x p v e₁ e₂)
+      → getD w (wordsAt + k) 0 ≡ binaryCode x
+  binary-code x p v e₁ e₂ H = binary-head x p v e₁ e₂ (H .standing) .code
+
+  -- the number of a step without parts
+  pub leaf-number : (x : LeafWord) (p : Position) (v : ℕ) → Here w k inside vars (leaf x p v) → getD w (valuesAt + k) 0 ≡ v
+  leaf-number x p v H = leaf-head x p v (H .standing) .value
+
+  -- the let of a variable
+  pub here-let : (p : Position) (v : ℕ) → Here w k inside vars (leaf Var p v) → getD w (letsAt + k) 0 ≡ letIn inside v
+  unfolding lets letOf role
+  here-let p v H = region-first (H .bound)
+
+  pub here-part : (x : UnaryWord) (p : Position) (v : ℕ) (e : Expr) → Here w k inside vars (unary x p v e) → Here w (k + 1) inside vars e
+  unfolding lets UsedInside
+  here-part x p v e H = record {
+    standing = standing-part x p v e (H .standing);
+    bound = region-moved _ _ (omega arith) (region-behind (H .bound));
+    used = H .used .1;
+  }
+
+  module _ (x : BinaryWord) (p : Position) (v : ℕ) (e₁ e₂ : Expr) (H : Here w k inside vars (binary x p v e₁ e₂)) where
+    lets-parts : Region w (letsAt + k + 1) (lets (k + 1) inside e₁ ++ lets (k + 1 + size e₁) (binding (role (Binary x)) (v, k) inside) e₂)
+    unfolding lets
+    lets-parts = region-behind (H .bound)
+
+    pub here-first : Here w (k + 1) inside vars e₁
+    unfolding UsedInside
+    here-first = record {
+      standing = standing-first x p v e₁ e₂ (H .standing);
+      bound = region-moved _ _ (omega arith) (region-left _ _ lets-parts);
+      used = H .used .1;
+    }
+
+    pub here-second : Here w (k + 1 + size e₁) (binding (role (Binary x)) (v, k) inside) (binding (role (Binary x)) v vars) e₂
+    unfolding UsedInside
+    here-second = record {
+      standing = standing-second x p v e₁ e₂ (H .standing);
+      bound = region-moved _ _
+          (omega (arith, lets-length (k + 1) inside e₁)) (region-right (lets (k + 1) inside e₁) _ lets-parts);
+      used = H .used .2;
+    }
+
   pub here-end : (e : Expr) → Here w k inside vars e → getD w (endsAt + k) 0 ≡ k + size e
-  unfolding ends size
-  here-end (leaf x l v) H = region-first (H .ended)
-  here-end (unary x l v e) H = region-first (H .ended)
-  here-end (binary x l v e₁ e₂) H = region-first (H .ended)
+  here-end e H = standing-end e (H .standing)
 
 -- where the second of two parts stands, by the end of the first
-pub here-second-at : {w : List ℕ} {k : ℕ} {inside : List (ℕ × ℕ)} {vars : List ℕ} (x : BinaryWord) (l v : ℕ) (e₁ e₂ : Expr)
-    → Here w k inside vars (binary x l v e₁ e₂) → getD w (endsAt + 1 + k) 0 ≡ k + 1 + size e₁
-here-second-at {w} x l v e₁ e₂ H = ap (λ (i : ℕ). getD w i 0) (omega arith) ∙ here-end e₁ (here-first x l v e₁ e₂ H)
+pub here-second-at : {w : List ℕ} {k : ℕ} {inside : List (ℕ × ℕ)} {vars : List ℕ} (x : BinaryWord) (p : Position) (v : ℕ) (e₁ e₂ : Expr)
+    → Here w k inside vars (binary x p v e₁ e₂) → getD w (endsAt + 1 + k) 0 ≡ k + 1 + size e₁
+here-second-at {w} x p v e₁ e₂ H = ap (λ (i : ℕ). getD w i 0) (omega arith) ∙ here-end e₁ (here-first x p v e₁ e₂ H)
+
+-- ------------------------------------------------------------------ the root
+
+-- the one expression that the steps that the work space holds list
+pub root-standing : (w : List ℕ) (steps : List Step) (e : Expr) → HoldsSteps w steps → Region w endsAt (ends 0 e) → prefix e ≡ steps → IndexesFrom 0 e
+    → Standing w 0 e
+unfolding codes values linesOf
+root-standing w steps e held ended listing indexed = record {
+  words = rw listing (held .words);
+  numbers = rw listing (held .values);
+  lined = rw listing (held .lines);
+  ended = ended;
+  indexed = indexed;
+}

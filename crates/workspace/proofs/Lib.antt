@@ -1,5 +1,6 @@
 pub mod Codes
 pub mod Region
+pub mod Steps
 pub mod Held
 pub mod Expression
 pub mod Shown

@@ -12,24 +12,20 @@ use Rattle.spec.specs.Split.{Row, Split}
 use Rattle.spec.specs.Conditions.{startMap}
 use Rattle.spec.specs.Ranges.{InRange}
 use Rattle.spec.proofs.Listing.{prefix-length}
-use Rattle.workspace.specs.Layout.{mapsAt, stride, emptyMap, kindOf, firstOf, secondOf}
+use Rattle.workspace.specs.Layout.{mapsAt, stride, emptyMap, kindOf, firstOf, secondOf, rowTypesAt, workSize}
 use Rattle.workspace.specs.Region.{ChangedWithin}
 use Rattle.workspace.specs.Holds.{startNumber, HoldsSplit}
 use Rattle.workspace.specs.Sheets.{HoldsSheets}
 use Rattle.workspace.proofs.Region.{changed-wider, region-kept}
 use Rattle.workspace.proofs.Held.{program-kept}
-use Rattle.workspace.proofs.Expression.{codes, values, Here}
+use Rattle.workspace.proofs.Expression.{Here, root-standing}
 use Rattle.workspace.proofs.Shown.{map-number, Stands, map-stands}
 
 module _ {w : List ℕ} {steps denominator locations start : ℕ} {P : Program} {S : Split} (H : HoldsSheets w steps denominator locations start P S) where
   pub root-here : Here w 0 [] [] (P .root)
-  unfolding codes values
   root-here = record {
-    words = rw (H .wellFormed .listing) (H .program .steps .words);
-    numbers = rw (H .wellFormed .listing) (H .program .steps .values);
-    ended = H .program .ends;
+    standing = root-standing w (P .steps) (P .root) (H .program .steps) (H .program .ends) (H .wellFormed .listing) (H .wellFormed .numbering);
     bound = H .program .lets;
-    lines = H .wellFormed .numbering;
     used = H .wellFormed .usedInside;
   }
 
@@ -69,7 +65,7 @@ module _ {w w′ : List ℕ} {maps : ℕ} (c : ChangedWithin (mapsAt + stride * 
     programText = H .programText;
     wellFormed = H .wellFormed;
     inRange = H .inRange;
-    program = program-kept (changed-wider 1024 16384 (omega arith) (omega arith) c) (H .wellFormed .listing) (omega (arith, H .stepsCounted)) (H .program);
+    program = program-kept (changed-wider rowTypesAt workSize (omega arith) (omega arith) c) (H .wellFormed .listing) (omega (arith, H .stepsCounted)) (H .program);
     split = split-kept (H .inRange) given (omega (arith, H .stepsCounted)) (H .split);
     stepsCounted = H .stepsCounted;
     denominatorGiven = H .denominatorGiven;

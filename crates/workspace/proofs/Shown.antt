@@ -6,10 +6,10 @@ use mathlib.Core.Option.{Option, none, some}
 use Prim.Native.Nat.{ℕ, zero, suc, _+_, _-_, _*_, _<_}
 use native.Mathlib.Omega.{arith}
 use lib.ListN.{length, getD, replicate, length-replicate, getD-replicate}
-use Rattle.spec.specs.Expression.{Step, Expr}
+use Rattle.spec.specs.Expression.{Step, Expr, indexOf}
 use Rattle.spec.specs.Split.{Map, Row, Split}
 use Rattle.spec.specs.Maps.{share}
-use Rattle.spec.specs.Conditions.{typeAt, mapAt, lineOf, row, post, start, startIn, place, load, inLoad, outLoad, readLoad, writeLoad}
+use Rattle.spec.specs.Conditions.{typeAt, mapAt, row, post, start, startIn, place, load, inLoad, outLoad, readLoad, writeLoad}
 use Rattle.spec.specs.Ranges.{InRange}
 use Rattle.spec.specs.declared.Location.{Location}
 use Rattle.spec.specs.declared.MapNumber.{MapNumber}
@@ -165,12 +165,10 @@ module _ (w : List ℕ) (S : Split) (steps : List Step) (H : HoldsSplit w S) (R 
   -- ---------------------------------------------------------------- rows
 
   -- the row of a step that stands at index i
-  module _ (e : Expr) (i : ℕ) (line : lineOf e ≡ i + 2) (h : i < length (S .rows)) where
+  module _ (e : Expr) (i : ℕ) (index : indexOf e ≡ i) (h : i < length (S .rows)) where
     pub row-at : getD (S .rows) i noRow ≡ row S e
     unfolding row
-    row-at =
-        let z : lineOf e - 2 ≡ i = omega arith in
-        rw z
+    row-at = rw index
 
     pub row-type : getD w (rowTypesAt + i) 0 ≡ row S e .type .0
     row-type = column w rowTypesAt (λ (r : Row). r .type .0) (S .rows) noRow i (H .rowTypes) h

@@ -6,17 +6,19 @@ use lib.Dec.{eqb}
 use lib.ListN.{length, getD, replicate}
 use Rattle.spec.specs.Choice.{if_then_else_}
 use Rattle.spec.specs.Expression.{Step, Expr, leaf, unary, binary, size}
+use Rattle.spec.specs.Words.{role, binding}
 use Rattle.spec.specs.Program.{Program}
 use Rattle.spec.specs.Split.{Row, Split}
 use Rattle.spec.specs.declared.MapNumber.{MapNumber}
-use Rattle.spec.specs.declared.LeafWord.the-variants.{Var, Int, Newtid, Newlock, Newsem, Newrwlock}
-use Rattle.spec.specs.declared.BinaryWord.the-variants.{Let, If, Spawn, Write}
-use Rattle.workspace.specs.Layout.{wordsAt, valuesAt, endsAt, letsAt, rowTypesAt, postsAt, startsAt, kindsAt, firstsAt, secondsAt, mapsAt, stride, emptyMap, codeOf, kindOf, firstOf, secondOf}
+use Rattle.spec.specs.declared.Role.{Role}
+use Rattle.spec.specs.declared.Role.the-variants.{Binds, Uses, Neither}
+use Rattle.spec.specs.declared.Word.the-variants.{Leaf, Unary, Binary}
+use Rattle.workspace.specs.Layout.{wordsAt, valuesAt, endsAt, letsAt, linesAt, rowTypesAt, postsAt, startsAt, kindsAt, firstsAt, secondsAt, mapsAt, stride, emptyMap, codeOf, kindOf, firstOf, secondOf}
 use Rattle.workspace.specs.Region.{Region}
 
 -- ------------------------------------------------------------------ programs
 
--- Steps are counted from 0 in line order: the step at line k + 2 has index k.
+-- Steps are counted from 0 in line order; the count is a step's index.
 
 -- for each step of an expression in line order, the index just past it; k is the index of its first step
 unfoldable pub ends : (k : ℕ) → Expr → List ℕ
@@ -29,24 +31,25 @@ unfoldable pub letIn : List (ℕ × ℕ) → (v : ℕ) → ℕ
 letIn [] v = 0
 letIn (b ∷ inside) v = if eqb (b .0) v then b .1 else letIn inside v
 
--- for each step of an expression in line order, the index of its variable's let if it is a `var`, else 0
-unfoldable pub lets : (k : ℕ) → (inside : List (ℕ × ℕ)) → Expr → List ℕ
-lets k inside (leaf Var l v) = letIn inside v ∷ []
-lets k inside (leaf Int l v) = 0 ∷ []
-lets k inside (leaf Newtid l v) = 0 ∷ []
-lets k inside (leaf Newlock l v) = 0 ∷ []
-lets k inside (leaf Newsem l v) = 0 ∷ []
-lets k inside (leaf Newrwlock l v) = 0 ∷ []
-lets k inside (unary w l v e) = 0 ∷ lets (k + 1) inside e
-lets k inside (binary Let l v e₁ e₂) = 0 ∷ (lets (k + 1) inside e₁ ++ lets (k + 1 + size e₁) ((v, k) ∷ inside) e₂)
-lets k inside (binary If l v e₁ e₂) = 0 ∷ (lets (k + 1) inside e₁ ++ lets (k + 1 + size e₁) inside e₂)
-lets k inside (binary Spawn l v e₁ e₂) = 0 ∷ (lets (k + 1) inside e₁ ++ lets (k + 1 + size e₁) inside e₂)
-lets k inside (binary Write l v e₁ e₂) = 0 ∷ (lets (k + 1) inside e₁ ++ lets (k + 1 + size e₁) inside e₂)
+-- the index of the let of a step's variable, if the step uses one, else 0
+unfoldable pub letOf : Role → List (ℕ × ℕ) → (v : ℕ) → ℕ
+letOf Binds inside v = 0
+letOf Uses inside v = letIn inside v
+letOf Neither inside v = 0
 
--- the lines of a program sheet: words and numbers v
+-- for each step of an expression in line order
+unfoldable pub lets : (k : ℕ) → (inside : List (ℕ × ℕ)) → Expr → List ℕ
+lets k inside (leaf w l v) = letOf (role (Leaf w)) inside v ∷ []
+lets k inside (unary w l v e) = letOf (role (Unary w)) inside v ∷ lets (k + 1) inside e
+lets k inside (binary w l v e₁ e₂) =
+    letOf (role (Binary w)) inside v
+    ∷ (lets (k + 1) inside e₁ ++ lets (k + 1 + size e₁) (binding (role (Binary w)) (v, k) inside) e₂)
+
+-- the step lines of a program sheet: words, numbers v, and which lines they are
 pub record HoldsSteps (w : List ℕ) (steps : List Step) : Type 0 where
   pub words : Region w wordsAt (map (λ (s : Step). codeOf (s .word)) steps)
   pub values : Region w valuesAt (map (λ (s : Step). s .value) steps)
+  pub lines : Region w linesAt (map (λ (s : Step). s .line) steps)
 
 -- a program: its lines, where its steps end, which let a variable means
 pub record HoldsProgram (w : List ℕ) (P : Program) : Type 0 where

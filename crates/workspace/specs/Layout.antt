@@ -22,6 +22,10 @@ use Rattle.workspace.specs.declared.Rule.the-variants.{VAR, INT, LET, IF
 
 -- ------------------------------------------------------------------ offsets
 
+-- how many numbers a check works in
+abbrev pub workSize : ℕ
+workSize = 16384
+
 -- the offsets of src/lib.rt, by their names there
 abbrev pub wordsAt : ℕ
 wordsAt = 0
@@ -35,29 +39,32 @@ endsAt = 512
 abbrev pub letsAt : ℕ
 letsAt = 768
 
+abbrev pub linesAt : ℕ
+linesAt = 1024
+
 abbrev pub rowTypesAt : ℕ
-rowTypesAt = 1024
+rowTypesAt = 1280
 
 abbrev pub postsAt : ℕ
-postsAt = 1280
+postsAt = 1536
 
 abbrev pub startsAt : ℕ
-startsAt = 1536
+startsAt = 1792
 
 abbrev pub presAt : ℕ
-presAt = 1792
+presAt = 2048
 
 abbrev pub kindsAt : ℕ
-kindsAt = 2048
+kindsAt = 2304
 
 abbrev pub firstsAt : ℕ
-firstsAt = 2112
+firstsAt = 2368
 
 abbrev pub secondsAt : ℕ
-secondsAt = 2176
+secondsAt = 2432
 
 abbrev pub lineAt : ℕ
-lineAt = 2240
+lineAt = 2496
 
 abbrev pub mapsAt : ℕ
 mapsAt = 4096
@@ -67,6 +74,13 @@ stride = 16
 
 abbrev pub emptyMap : ℕ
 emptyMap = 512
+
+abbrev pub emptyRowAt : ℕ
+emptyRowAt = 12288
+
+-- spec's workspaceSize, as a number that arithmetic sees
+abbrev pub spaceSize : ℕ
+spaceSize = 16384
 
 -- ------------------------------------------------------------------ words
 

@@ -17,7 +17,7 @@ ghost use Rattle.workspace.specs.Layout.{codeOf, leafCode, unaryCode, bi
 // How many 32-bit numbers a check works in.
 pub const SIZE: usize = 16384;
 
-// Steps in line order, up to 256: word, number v, the index past the step, for a `var` the index of its let.
+// Steps in line order, up to 256: word, number v, the index past the step, for a `var` the index of its let, line in the sheet.
 pub const WORDS: usize = 0;
 
 pub const VALUES: usize = 256;
@@ -26,25 +26,27 @@ pub const ENDS: usize = 512;
 
 pub const LETS: usize = 768;
 
+pub const LINES: usize = 1024;
+
 // Rows in line order, up to 256: type, post, the map that a spawned body starts with, which is the empty map where none is
 // given; and the map before the step.
-pub const ROW_TYPES: usize = 1024;
+pub const ROW_TYPES: usize = 1280;
 
-pub const POSTS: usize = 1280;
+pub const POSTS: usize = 1536;
 
-pub const STARTS: usize = 1536;
+pub const STARTS: usize = 1792;
 
-pub const PRES: usize = 1792;
+pub const PRES: usize = 2048;
 
 // Types by number, up to 64: kind and the two numbers of the type line.
-pub const KINDS: usize = 2048;
+pub const KINDS: usize = 2304;
 
-pub const FIRSTS: usize = 2112;
+pub const FIRSTS: usize = 2368;
 
-pub const SECONDS: usize = 2176;
+pub const SECONDS: usize = 2432;
 
 // The numbers of the line that is being read.
-pub const LINE: usize = 2240;
+pub const LINE: usize = 2496;
 
 // Maps by number, up to 512, each in a row of 16.
 pub const MAPS: usize = 4096;

@@ -109,7 +109,7 @@ third-numeral H s t m (b ∷ f) h = refl
 
 -- defaults of lists
 abbrev aStep : Step
-aStep = record { word = Leaf Var; value = 0 }
+aStep = record { word = Leaf Var; value = 0; line = 0 }
 
 abbrev aRow : Row
 aRow = record { type = record { 0 = 0 }; post = record { 0 = 0 }; start = none }

@@ -5,8 +5,9 @@ use mathlib.Core.Bool.{true}
 use mathlib.Core.Option.{Option, none, some}
 use Prim.Native.Nat.{ℕ, _<_}
 use lib.ListN.{length, getD}
+use Rattle.spec.specs.Words.{takesStart}
 use Rattle.spec.specs.Expression.{Step}
-use Rattle.spec.specs.Split.{Row, Split, takesStart, mayBeEmpty}
+use Rattle.spec.specs.Split.{Row, Split, mayBeEmpty}
 use Rattle.spec.specs.Ranges.{InRange}
 use Rattle.spec.specs.Accepted.{AtMost}
 use Rattle.spec.specs.declared.Heading.{Heading}

@@ -5,7 +5,7 @@ use mathlib.Core.Path.{sym, subst, _∙_}
 use Rattle.program.specs.Lines.{StepsShown}
 use borrow.Author.Tests.{not-true, not-false}
 use Rattle.program.proofs.LineLaws.{line-fits}
-use Rattle.program.proofs.Sheets.{steps-variables, steps-refused, steps-spare, steps-read, steps-unscoped}
+use Rattle.program.proofs.Sheets.{steps-refused, steps-spare, steps-read, steps-unscoped}
 use Rattle.program.proofs.read_steps.Statement.{statement}
 use Rattle.program.proofs.read_steps.Tie as tie
 
@@ -29,7 +29,7 @@ expression-requires c κs =
     let at-step-lines = at-behind .before .before .before .before in
     let at-pre = at-step-lines .before .before .before .before in
     let s = subst (StepsShown _ _ _ _ _) (at-behind .behind .given .1) (at-step-lines .step-lines .ensures) in
-    (s .changed .long ∙ at-pre .pre .0, at-pre .pre .1, steps-variables _ _ _ _ _ _ s)
+    (s .changed .long ∙ at-pre .pre .0, at-pre .pre .1, s .found .stored)
 
 returns-2 : tie.Need-returns-2
 returns-2 c = steps-refused _ _ _ _ _ _ (subst (StepsShown _ _ _ _ _) (c .before .refusal .given .1) (c .before .before .before .before .before .step-lines .ensures))

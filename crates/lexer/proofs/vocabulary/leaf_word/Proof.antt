@@ -1,86 +1,25 @@
--- A test that fails passes one word of the table over; the test that holds finds its word.
-use mathlib.Core.Path.{sym, _∙_}
+-- Each call puts one word in front of the words behind it.
 use borrow.Author.Needs.{needs}
 use Rattle.spec.specs.Text.{bytes}
-use Rattle.lexer.specs.Words.{leafWords}
-use Rattle.lexer.proofs.Words.{hit, skip, none-left}
+use Rattle.spec.specs.Words.{leafWords}
+use Rattle.lexer.proofs.Words.{spelled-first, none-left}
 use Rattle.lexer.proofs.vocabulary.leaf_word.Statement.{statement}
 use Rattle.lexer.proofs.vocabulary.leaf_word.Tie as tie
 
 returns : tie.Need-returns
 unfolding leafWords bytes
 returns c =
-    hit _ _ _ (sym (c .before .same .ensures) ∙ c .if1 .taken)
-
-returns-2 : tie.Need-returns-2
-unfolding leafWords bytes
-returns-2 c =
-    let c1 = c .before .before .before in
-    skip _ _ _ (sym (c1 .before .same .ensures) ∙ c1 .if1 .left)
-    (hit _ _ _ (sym (c .before .same2 .ensures) ∙ c .if2 .taken))
-
-returns-3 : tie.Need-returns-3
-unfolding leafWords bytes
-returns-3 c =
-    let c2 = c .before .before .before in
-    let c1 = c2 .before .before .before in
-    skip _ _ _ (sym (c1 .before .same .ensures) ∙ c1 .if1 .left)
-    (skip _ _ _ (sym (c2 .before .same2 .ensures) ∙ c2 .if2 .left)
-    (hit _ _ _ (sym (c .before .same3 .ensures) ∙ c .if3 .taken)))
-
-returns-4 : tie.Need-returns-4
-unfolding leafWords bytes
-returns-4 c =
-    let c3 = c .before .before .before in
-    let c2 = c3 .before .before .before in
-    let c1 = c2 .before .before .before in
-    skip _ _ _ (sym (c1 .before .same .ensures) ∙ c1 .if1 .left)
-    (skip _ _ _ (sym (c2 .before .same2 .ensures) ∙ c2 .if2 .left)
-    (skip _ _ _ (sym (c3 .before .same3 .ensures) ∙ c3 .if3 .left)
-    (hit _ _ _ (sym (c .before .same4 .ensures) ∙ c .if4 .taken))))
-
-returns-5 : tie.Need-returns-5
-unfolding leafWords bytes
-returns-5 c =
-    let c4 = c .before .before .before in
-    let c3 = c4 .before .before .before in
-    let c2 = c3 .before .before .before in
-    let c1 = c2 .before .before .before in
-    skip _ _ _ (sym (c1 .before .same .ensures) ∙ c1 .if1 .left)
-    (skip _ _ _ (sym (c2 .before .same2 .ensures) ∙ c2 .if2 .left)
-    (skip _ _ _ (sym (c3 .before .same3 .ensures) ∙ c3 .if3 .left)
-    (skip _ _ _ (sym (c4 .before .same4 .ensures) ∙ c4 .if4 .left)
-    (hit _ _ _ (sym (c .before .same5 .ensures) ∙ c .if5 .taken)))))
-
-returns-6 : tie.Need-returns-6
-unfolding leafWords bytes
-returns-6 c =
-    let c5 = c .before .before .before in
-    let c4 = c5 .before .before .before in
-    let c3 = c4 .before .before .before in
-    let c2 = c3 .before .before .before in
-    let c1 = c2 .before .before .before in
-    skip _ _ _ (sym (c1 .before .same .ensures) ∙ c1 .if1 .left)
-    (skip _ _ _ (sym (c2 .before .same2 .ensures) ∙ c2 .if2 .left)
-    (skip _ _ _ (sym (c3 .before .same3 .ensures) ∙ c3 .if3 .left)
-    (skip _ _ _ (sym (c4 .before .same4 .ensures) ∙ c4 .if4 .left)
-    (skip _ _ _ (sym (c5 .before .same5 .ensures) ∙ c5 .if5 .left)
-    (hit _ _ _ (sym (c .before .same6 .ensures) ∙ c .if6 .taken))))))
-
-returns-7 : tie.Need-returns-7
-unfolding leafWords bytes
-returns-7 c =
-    let c5 = c .before .before .before in
-    let c4 = c5 .before .before .before in
-    let c3 = c4 .before .before .before in
-    let c2 = c3 .before .before .before in
-    let c1 = c2 .before .before .before in
-    skip _ _ _ (sym (c1 .before .same .ensures) ∙ c1 .if1 .left)
-    (skip _ _ _ (sym (c2 .before .same2 .ensures) ∙ c2 .if2 .left)
-    (skip _ _ _ (sym (c3 .before .same3 .ensures) ∙ c3 .if3 .left)
-    (skip _ _ _ (sym (c4 .before .same4 .ensures) ∙ c4 .if4 .left)
-    (skip _ _ _ (sym (c5 .before .same5 .ensures) ∙ c5 .if5 .left)
-    (skip _ _ _ (sym (c .before .same6 .ensures) ∙ c .if6 .left)
+    let c5 = c .before .before in
+    let c4 = c5 .before .before in
+    let c3 = c4 .before .before in
+    let c2 = c3 .before .before in
+    let c1 = c2 .before .before in
+    spelled-first _ _ _ _ (c .spelled6 .ensures)
+    (spelled-first _ _ _ _ (c5 .spelled5 .ensures)
+    (spelled-first _ _ _ _ (c4 .spelled4 .ensures)
+    (spelled-first _ _ _ _ (c3 .spelled3 .ensures)
+    (spelled-first _ _ _ _ (c2 .spelled2 .ensures)
+    (spelled-first _ _ _ _ (c1 .spelled .ensures)
     (none-left _))))))
 
 pub leaf-word-spec : {M : Type 1} → statement M
@@ -89,20 +28,14 @@ leaf-word-spec =
     (tie.spec
     (λ c. search needs)
     (λ c κs. search needs)
-    returns
     (λ c. search needs)
     (λ c κs. search needs)
-    returns-2
     (λ c. search needs)
     (λ c κs. search needs)
-    returns-3
     (λ c. search needs)
     (λ c κs. search needs)
-    returns-4
     (λ c. search needs)
     (λ c κs. search needs)
-    returns-5
     (λ c. search needs)
     (λ c κs. search needs)
-    returns-6
-    returns-7)
+    returns)

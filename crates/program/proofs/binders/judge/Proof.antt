@@ -7,9 +7,10 @@ use Rattle.program.proofs.binders.judge.Tie as tie
 
 returns : tie.Need-returns
 returns c =
-    let at-role-of = c .before .before .before in
+    let at-enum-told = c .before .before in
+    let at-role-of = at-enum-told .before .before in
     let at-word-of = at-role-of .before in
-    c .judge-let .ensures ∙ judged-let _ _ _ (at-word-of .word-of .ensures) (at-role-of .role-of .ensures) (c .before .enum-told .given .1)
+    c .judge-let .ensures ∙ judged-let _ _ _ (at-word-of .word-of .ensures) (at-role-of .role-of .ensures) (at-enum-told .enum-told .given .1)
 
 returns-2 : tie.Need-returns-2
 returns-2 c =
@@ -29,6 +30,9 @@ judge-spec =
     (λ c. search needs)
     (λ c κs. search needs)
     (λ c κs. search needs)
+    (λ c. search needs)
+    (λ c. search needs)
+    (λ c. search needs)
     (λ c. search needs)
     (λ c κs. search needs)
     (λ c. search needs)

@@ -14,4 +14,4 @@ unfolding judgeLet
 returns-2 c = simp (lt-leb _ _ (c .if1 .left))
 
 pub judge-let-spec : {M : Type 1} → statement M
-judge-let-spec = tie.close (tie.spec returns (λ c. search needs) (λ c. search needs) returns-2)
+judge-let-spec = tie.close (tie.spec returns returns-2)

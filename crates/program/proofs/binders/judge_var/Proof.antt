@@ -1,5 +1,6 @@
 -- A variable is used in its let's e2: bound, past the end of e1, before the let's end.
 use borrow.Author.Tests.{le-leb}
+use Rattle.workspace.specs.Steps.{lineAt}
 use Rattle.program.specs.Scopes.{judgeVar}
 use Rattle.program.proofs.ScopeLaws.{used-early, used-late, used-inside}
 use borrow.Author.Needs.{needs}
@@ -7,7 +8,7 @@ use Rattle.program.proofs.binders.judge_var.Statement.{statement}
 use Rattle.program.proofs.binders.judge_var.Tie as tie
 
 returns : tie.Need-returns
-unfolding judgeVar
+unfolding judgeVar lineAt
 returns c = simp (le-leb _ _ (c .if1 .taken))
 
 returns-2 : tie.Need-returns-2
@@ -36,6 +37,7 @@ pub judge-var-spec : {M : Type 1} → statement M
 judge-var-spec =
     tie.close
     (tie.spec
+    (λ c. search needs)
     (λ c. search needs)
     (λ c. search needs)
     returns

@@ -52,6 +52,12 @@ slice-write-work-2 c =
     let at-pre = at-loop .before .before .before in
     simp length-set (omega (arith, at-pre .pre, at-loop .loop .inv .changed .long))
 
+slice-write-work-3 : tie.Need-slice-write-work-3 Inv-loop μ-loop
+slice-write-work-3 c =
+    let at-loop = c .before .before .before .before .before .before in
+    let at-pre = at-loop .before .before .before in
+    simp length-set (omega (arith, at-pre .pre, at-loop .loop .inv .changed .long))
+
 enum-known-refusal : tie.Need-enum-known-refusal Inv-loop μ-loop
 enum-known-refusal c = search needs
 
@@ -103,6 +109,9 @@ step-lines-spec =
     add-work-2
     mul-work-2
     slice-write-work-2
+    (λ c. search needs)
+    (λ c. search needs)
+    slice-write-work-3
     enum-known-refusal
     same-length
     returns

@@ -4,7 +4,7 @@ use borrow.Author.Needs.{needs}
 use native.Mathlib.Omega.{arith}
 use mathlib.Core.Path.{ap, _∙_}
 use Prim.Native.Nat.{ℕ, _<_, _+_, _-_, _*_}
-use Rattle.program.specs.Stored.{partsOf}
+use Rattle.program.specs.Structure.{partsOf}
 use Rattle.program.proofs.StructureLaws.{within, past, parts-none, parts-open, parts-more, step-none, step-open, step-more}
 use borrow.Fn.Kinds.{In}
 use borrow.Fn.PlainCycle.{Measures, is, falls, and}

@@ -6,6 +6,7 @@ use native.Mathlib.Omega.{arith}
 use lib.ListN.{length, take, drop}
 use Rattle.spec.specs.Reading.{splitSheet, next}
 use Rattle.lexer.specs.Cursors.{placeAt}
+use Rattle.workspace.specs.Layout.{mapsAt, stride, spaceSize}
 use Rattle.workspace.specs.Sheets.{headerTold}
 use Rattle.split.specs.Lines.{cellLine}
 use Rattle.split.specs.Answers.{MapAnswer}
@@ -17,7 +18,7 @@ use Rattle.split.proofs.map_lines.read_maps.Statement.{statement}
 use Rattle.split.proofs.map_lines.read_maps.Tie as tie
 
 abbrev Inv-loop : tie.InvT-loop
-Inv-loop text work₀ locations maps cursor₀ m₀ work cursor m = Turn (λ i. cellLine locations) (HoldsMaps locations) 4096 16384 maps text work₀ (placeAt text cursor₀) work cursor m
+Inv-loop text work₀ locations maps cursor₀ m₀ work cursor m = Turn (λ i. cellLine locations) (HoldsMaps locations) mapsAt spaceSize maps text work₀ (placeAt text cursor₀) work cursor m
 
 abbrev μ-loop : tie.MeasureT-loop
 μ-loop text work₀ locations maps cursor₀ m₀ work cursor m = maps - m
@@ -25,7 +26,7 @@ abbrev μ-loop : tie.MeasureT-loop
 loop-holds : tie.Need-loop-holds Inv-loop μ-loop
 loop-holds c =
     let entry = c .before .before in
-    first-turn (λ i. cellLine (entry .args .header .locations)) (HoldsMaps (entry .args .header .locations)) 4096 16384 (entry .args .header .maps) (entry .args .text .now) (entry .args .work .now) (entry .args .from) (maps-empty (entry .args .header .locations) (entry .args .work .now)) (entry .pre .0 .placed)
+    first-turn (λ i. cellLine (entry .args .header .locations)) (HoldsMaps (entry .args .header .locations)) mapsAt spaceSize (entry .args .header .maps) (entry .args .text .now) (entry .args .work .now) (entry .args .from) (maps-empty (entry .args .header .locations) (entry .args .work .now)) (entry .pre .0 .placed)
 
 mul-first : tie.Need-mul-first Inv-loop μ-loop
 mul-first c = search needs
@@ -83,7 +84,7 @@ returns c =
     let inside = map-line .before .before in
     let turn = inside .before in
     let entry = turn .before .before .before in
-    let first = 4096 + 16 * turn .loop .m in
+    let first = mapsAt + stride * turn .loop .m in
     let out = next splitSheet (cellLine (length (take (first + (entry .args .header .locations) - first) (drop first (turn .loop .work))))) (placeAt (entry .args .text .now) (turn .loop .cursor)) in
     let answer = subst (MapAnswer (entry .args .text .now) (map-line .map-line .last .1 .1 .0) out) (found2 .found2 .given .1) (map-line .map-line .ensures) in
     map-stop (entry .args .header .locations) (entry .args .header .maps) (entry .pre .1 .locations) (entry .pre .1 .maps) (entry .args .text .now) (entry .args .work .now) (entry .args .from) (entry .pre .2) (turn .loop .work) (turn .loop .cursor) (turn .loop .m) (turn .loop .inv) (inside .loop-test .taken) (map-line .map-line .last .1 .1 .0) (map-line .map-line .kept .1 .1 .0) _ (maps-numbered (headerTold (entry .args .header)) 0 (entry .args .header .maps)) _ answer
@@ -101,7 +102,7 @@ loop-again c =
     let inside = map-line .before .before in
     let turn = inside .before in
     let entry = turn .before .before .before in
-    let first = 4096 + 16 * turn .loop .m in
+    let first = mapsAt + stride * turn .loop .m in
     let out = next splitSheet (cellLine (length (take (first + (entry .args .header .locations) - first) (drop first (turn .loop .work))))) (placeAt (entry .args .text .now) (turn .loop .cursor)) in
     let answer = subst (MapAnswer (entry .args .text .now) (map-line .map-line .last .1 .1 .0) out) (found .found .given .1) (map-line .map-line .ensures) in
     map-turn (entry .args .header .locations) (entry .args .header .maps) (entry .pre .1 .locations) (entry .pre .1 .maps) (entry .args .text .now) (entry .args .work .now) (entry .args .from) (entry .pre .2) (turn .loop .work) (turn .loop .cursor) (turn .loop .m) (turn .loop .inv) (inside .loop-test .taken) (map-line .map-line .last .1 .1 .0) (map-line .map-line .kept .1 .1 .0) _ (answer .0) (answer .1)
@@ -116,7 +117,7 @@ unfolding headerTold
 returns-2 c =
     let turn = c .before in
     let entry = turn .before .before .before in
-    turns-end (λ i. cellLine (entry .args .header .locations)) (HoldsMaps (entry .args .header .locations)) 4096 16384 (entry .args .header .maps) (entry .args .text .now) (entry .args .work .now) (entry .args .from) (turn .loop .work) (turn .loop .cursor) (turn .loop .m) (turn .loop .inv) _ (maps-numbered (headerTold (entry .args .header)) 0 (entry .args .header .maps)) (c .loop-test .left)
+    turns-end (λ i. cellLine (entry .args .header .locations)) (HoldsMaps (entry .args .header .locations)) mapsAt spaceSize (entry .args .header .maps) (entry .args .text .now) (entry .args .work .now) (entry .args .from) (turn .loop .work) (turn .loop .cursor) (turn .loop .m) (turn .loop .inv) _ (maps-numbered (headerTold (entry .args .header)) 0 (entry .args .header .maps)) (c .loop-test .left)
 
 pub read-maps-spec : {M : Type 1} → statement M
 read-maps-spec =

@@ -6,6 +6,7 @@ use native.Mathlib.Omega.{arith}
 use Rattle.spec.specs.Reading.{splitSheet, next}
 use Rattle.spec.specs.Split.{Row}
 use Rattle.lexer.specs.Cursors.{placeAt}
+use Rattle.workspace.specs.Layout.{rowTypesAt, presAt}
 use Rattle.workspace.specs.Holds.{startNumber}
 use Rattle.workspace.specs.Sheets.{headerTold}
 use Rattle.split.specs.Lines.{wordLine, rowTold}
@@ -18,7 +19,7 @@ use Rattle.split.proofs.row_lines.read_rows.Statement.{statement}
 use Rattle.split.proofs.row_lines.read_rows.Tie as tie
 
 abbrev Inv-loop : tie.InvT-loop
-Inv-loop text purpose header steps work₀ cursor₀ k₀ work cursor k = Turn (λ i. wordLine purpose (headerTold header) (stepAt work₀ i .word)) HoldsRows 1024 1792 steps text work₀ (placeAt text cursor₀) work cursor k
+Inv-loop text purpose header steps work₀ cursor₀ k₀ work cursor k = Turn (λ i. wordLine purpose (headerTold header) (stepAt work₀ i .word)) HoldsRows rowTypesAt presAt steps text work₀ (placeAt text cursor₀) work cursor k
 
 abbrev μ-loop : tie.MeasureT-loop
 μ-loop text purpose header steps work₀ cursor₀ k₀ work cursor k = steps - k
@@ -26,7 +27,7 @@ abbrev μ-loop : tie.MeasureT-loop
 loop-holds : tie.Need-loop-holds Inv-loop μ-loop
 loop-holds c =
     let entry = c .before .before in
-    first-turn (λ i. wordLine (entry .args .purpose) (headerTold (entry .args .header)) (stepAt (entry .args .work .now) i .word)) HoldsRows 1024 1792 (entry .args .steps) (entry .args .text .now) (entry .args .work .now) (entry .args .from) (columns-empty (λ (r : Row). r .type .0) (λ (r : Row). r .post .0) (λ (r : Row). startNumber (r .start)) 1024 256 (entry .args .work .now) (omega arith)) (entry .pre .0 .placed)
+    first-turn (λ i. wordLine (entry .args .purpose) (headerTold (entry .args .header)) (stepAt (entry .args .work .now) i .word)) HoldsRows rowTypesAt presAt (entry .args .steps) (entry .args .text .now) (entry .args .work .now) (entry .args .from) (columns-empty (λ (r : Row). r .type .0) (λ (r : Row). r .post .0) (λ (r : Row). startNumber (r .start)) rowTypesAt 256 (entry .args .work .now) (omega arith)) (entry .pre .0 .placed)
 
 add-word-of : tie.Need-add-word-of Inv-loop μ-loop
 add-word-of c = search needs
@@ -75,7 +76,7 @@ returns c =
     let out = next splitSheet (wordLine (entry .args .purpose) (headerTold (entry .args .header)) (word-of .word-of .result)) (placeAt (entry .args .text .now) (turn .loop .cursor)) in
     let answer = subst (RowAnswer (entry .args .text .now) out) (found2 .found2 .given .1) (row-line .row-line .ensures) in
     let same = row-here (entry .args .purpose) (headerTold (entry .args .header)) (entry .args .text .now) (turn .loop .cursor) (entry .args .work .now) (turn .loop .work) (turn .loop .k) _ (word-of .word-of .ensures) (omega (arith, inside .loop-test .taken, entry .pre .2)) (turn .loop .inv .changed) in
-    turns-stop (λ i. wordLine (entry .args .purpose) (headerTold (entry .args .header)) (stepAt (entry .args .work .now) i .word)) HoldsRows 1024 1792 (entry .args .steps) (entry .args .text .now) (entry .args .work .now) (entry .args .from) (turn .loop .work) (turn .loop .cursor) (turn .loop .k) (turn .loop .inv) _ (rows-numbered (entry .args .purpose) (headerTold (entry .args .header)) (entry .args .work .now) 0 (entry .args .steps)) (inside .loop-test .taken) _ (same ∙ answer)
+    turns-stop (λ i. wordLine (entry .args .purpose) (headerTold (entry .args .header)) (stepAt (entry .args .work .now) i .word)) HoldsRows rowTypesAt presAt (entry .args .steps) (entry .args .text .now) (entry .args .work .now) (entry .args .from) (turn .loop .work) (turn .loop .cursor) (turn .loop .k) (turn .loop .inv) _ (rows-numbered (entry .args .purpose) (headerTold (entry .args .header)) (entry .args .work .now) 0 (entry .args .steps)) (inside .loop-test .taken) _ (same ∙ answer)
 
 add-k : tie.Need-add-k Inv-loop μ-loop
 add-k c = search needs
@@ -96,7 +97,7 @@ loop-again c =
     let out = next splitSheet (wordLine (entry .args .purpose) (headerTold (entry .args .header)) (word-of .word-of .result)) (placeAt (entry .args .text .now) (turn .loop .cursor)) in
     let answer = subst (RowAnswer (entry .args .text .now) out) (found .found .given .1) (row-line .row-line .ensures) in
     let same = row-here (entry .args .purpose) (headerTold (entry .args .header)) (entry .args .text .now) (turn .loop .cursor) (entry .args .work .now) (turn .loop .work) (turn .loop .k) _ (word-of .word-of .ensures) (omega (arith, inside .loop-test .taken, entry .pre .2)) (turn .loop .inv .changed) in
-    columns-turn (λ (r : Row). r .type .0) (λ (r : Row). r .post .0) (λ (r : Row). startNumber (r .start)) 1024 256 (entry .args .steps) (λ i. wordLine (entry .args .purpose) (headerTold (entry .args .header)) (stepAt (entry .args .work .now) i .word)) (entry .args .text .now) (entry .args .work .now) (entry .args .from) (entry .pre .2) (omega arith) (turn .loop .work) (turn .loop .cursor) (turn .loop .k) (turn .loop .inv) (inside .loop-test .taken) _ (rowTold _) _ (same ∙ answer .0) (answer .1) (store-row .store-row .ensures)
+    columns-turn (λ (r : Row). r .type .0) (λ (r : Row). r .post .0) (λ (r : Row). startNumber (r .start)) rowTypesAt 256 (entry .args .steps) (λ i. wordLine (entry .args .purpose) (headerTold (entry .args .header)) (stepAt (entry .args .work .now) i .word)) (entry .args .text .now) (entry .args .work .now) (entry .args .from) (entry .pre .2) (omega arith) (turn .loop .work) (turn .loop .cursor) (turn .loop .k) (turn .loop .inv) (inside .loop-test .taken) _ (rowTold _) _ (same ∙ answer .0) (answer .1) (store-row .store-row .ensures)
 
 same-length-2 : tie.Need-same-length-2 Inv-loop μ-loop
 same-length-2 c =
@@ -107,7 +108,7 @@ returns-2 : tie.Need-returns-2 Inv-loop μ-loop
 returns-2 c =
     let turn = c .before in
     let entry = turn .before .before .before in
-    turns-end (λ i. wordLine (entry .args .purpose) (headerTold (entry .args .header)) (stepAt (entry .args .work .now) i .word)) HoldsRows 1024 1792 (entry .args .steps) (entry .args .text .now) (entry .args .work .now) (entry .args .from) (turn .loop .work) (turn .loop .cursor) (turn .loop .k) (turn .loop .inv) _ (rows-numbered (entry .args .purpose) (headerTold (entry .args .header)) (entry .args .work .now) 0 (entry .args .steps)) (c .loop-test .left)
+    turns-end (λ i. wordLine (entry .args .purpose) (headerTold (entry .args .header)) (stepAt (entry .args .work .now) i .word)) HoldsRows rowTypesAt presAt (entry .args .steps) (entry .args .text .now) (entry .args .work .now) (entry .args .from) (turn .loop .work) (turn .loop .cursor) (turn .loop .k) (turn .loop .inv) _ (rows-numbered (entry .args .purpose) (headerTold (entry .args .header)) (entry .args .work .now) 0 (entry .args .steps)) (c .loop-test .left)
 
 pub read-rows-spec : {M : Type 1} → statement M
 read-rows-spec =

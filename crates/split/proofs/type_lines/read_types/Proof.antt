@@ -6,7 +6,7 @@ use native.Mathlib.Omega.{arith}
 use Rattle.spec.specs.Reading.{splitSheet, next}
 use Rattle.spec.specs.Split.{typeLine}
 use Rattle.lexer.specs.Cursors.{placeAt}
-use Rattle.workspace.specs.Layout.{kindOf, firstOf, secondOf}
+use Rattle.workspace.specs.Layout.{kindsAt, lineAt, kindOf, firstOf, secondOf}
 use Rattle.workspace.specs.Sheets.{headerTold}
 use Rattle.split.specs.Answers.{TypeAnswer}
 use Rattle.split.specs.Stored.{HoldsTypes}
@@ -17,7 +17,7 @@ use Rattle.split.proofs.type_lines.read_types.Statement.{statement}
 use Rattle.split.proofs.type_lines.read_types.Tie as tie
 
 abbrev Inv-loop : tie.InvT-loop
-Inv-loop text header work₀ types cursor₀ own₀ work cursor own = Turn (typeLine (headerTold header)) HoldsTypes 2048 2240 (header .types) text work₀ (placeAt text cursor₀) work cursor own
+Inv-loop text header work₀ types cursor₀ own₀ work cursor own = Turn (typeLine (headerTold header)) HoldsTypes kindsAt lineAt (header .types) text work₀ (placeAt text cursor₀) work cursor own
 
 abbrev μ-loop : tie.MeasureT-loop
 μ-loop text header work₀ types cursor₀ own₀ work cursor own = header .types - own
@@ -25,7 +25,7 @@ abbrev μ-loop : tie.MeasureT-loop
 loop-holds : tie.Need-loop-holds Inv-loop μ-loop
 loop-holds c =
     let entry = c .before .before in
-    first-turn (typeLine (headerTold (entry .args .header))) HoldsTypes 2048 2240 (entry .args .header .types) (entry .args .text .now) (entry .args .work .now) (entry .args .from) (columns-empty kindOf firstOf secondOf 2048 64 (entry .args .work .now) (omega arith)) (entry .pre .0 .placed)
+    first-turn (typeLine (headerTold (entry .args .header))) HoldsTypes kindsAt lineAt (entry .args .header .types) (entry .args .text .now) (entry .args .work .now) (entry .args .from) (columns-empty kindOf firstOf secondOf kindsAt 64 (entry .args .work .now) (omega arith)) (entry .pre .0 .placed)
 
 type-line-requires : tie.Need-type-line-requires Inv-loop μ-loop
 type-line-requires c κs =
@@ -60,7 +60,7 @@ returns c =
     let entry = turn .before .before .before in
     let out = next splitSheet (typeLine (headerTold (entry .args .header)) (turn .loop .own)) (placeAt (entry .args .text .now) (turn .loop .cursor)) in
     let answer = subst (TypeAnswer (entry .args .text .now) out) (found2 .found2 .given .1) (type-line .type-line .ensures) in
-    turns-stop (typeLine (headerTold (entry .args .header))) HoldsTypes 2048 2240 (entry .args .header .types) (entry .args .text .now) (entry .args .work .now) (entry .args .from) (turn .loop .work) (turn .loop .cursor) (turn .loop .own) (turn .loop .inv) _ (types-numbered (headerTold (entry .args .header)) 0 (entry .args .header .types)) (inside .loop-test .taken) _ answer
+    turns-stop (typeLine (headerTold (entry .args .header))) HoldsTypes kindsAt lineAt (entry .args .header .types) (entry .args .text .now) (entry .args .work .now) (entry .args .from) (turn .loop .work) (turn .loop .cursor) (turn .loop .own) (turn .loop .inv) _ (types-numbered (headerTold (entry .args .header)) 0 (entry .args .header .types)) (inside .loop-test .taken) _ answer
 
 add-own : tie.Need-add-own Inv-loop μ-loop
 add-own c = search needs
@@ -78,7 +78,7 @@ loop-again c =
     let entry = turn .before .before .before in
     let out = next splitSheet (typeLine (headerTold (entry .args .header)) (turn .loop .own)) (placeAt (entry .args .text .now) (turn .loop .cursor)) in
     let answer = subst (TypeAnswer (entry .args .text .now) out) (found .found .given .1) (type-line .type-line .ensures) in
-    columns-turn kindOf firstOf secondOf 2048 64 (entry .args .header .types) (typeLine (headerTold (entry .args .header))) (entry .args .text .now) (entry .args .work .now) (entry .args .from) (entry .pre .1 .types) (omega arith) (turn .loop .work) (turn .loop .cursor) (turn .loop .own) (turn .loop .inv) (inside .loop-test .taken) _ _ _ (answer .0) (answer .1) (store-type .store-type .ensures)
+    columns-turn kindOf firstOf secondOf kindsAt 64 (entry .args .header .types) (typeLine (headerTold (entry .args .header))) (entry .args .text .now) (entry .args .work .now) (entry .args .from) (entry .pre .1 .types) (omega arith) (turn .loop .work) (turn .loop .cursor) (turn .loop .own) (turn .loop .inv) (inside .loop-test .taken) _ _ _ (answer .0) (answer .1) (store-type .store-type .ensures)
 
 same-length-2 : tie.Need-same-length-2 Inv-loop μ-loop
 same-length-2 c =
@@ -89,7 +89,7 @@ returns-2 : tie.Need-returns-2 Inv-loop μ-loop
 returns-2 c =
     let turn = c .before in
     let entry = turn .before .before .before in
-    turns-end (typeLine (headerTold (entry .args .header))) HoldsTypes 2048 2240 (entry .args .header .types) (entry .args .text .now) (entry .args .work .now) (entry .args .from) (turn .loop .work) (turn .loop .cursor) (turn .loop .own) (turn .loop .inv) _ (types-numbered (headerTold (entry .args .header)) 0 (entry .args .header .types)) (c .loop-test .left)
+    turns-end (typeLine (headerTold (entry .args .header))) HoldsTypes kindsAt lineAt (entry .args .header .types) (entry .args .text .now) (entry .args .work .now) (entry .args .from) (turn .loop .work) (turn .loop .cursor) (turn .loop .own) (turn .loop .inv) _ (types-numbered (headerTold (entry .args .header)) 0 (entry .args .header .types)) (c .loop-test .left)
 
 pub read-types-spec : {M : Type 1} → statement M
 read-types-spec =
