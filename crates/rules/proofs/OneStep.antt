@@ -87,6 +87,12 @@ module _ (S : Split) (steps : List Step) (R : InRange steps S) (few : length (S 
     starts = region-kept x (inl (omega (arith, length-map (S .rows) (λ (r : Row). startNumber (r .start))))) (H .starts);
   }
 
+  abbrev n : ℕ
+  n = S .header .locations
+
+  abbrev d : ℕ
+  d = S .header .denominator
+
   -- all that the walk through an expression starts from
   pub record Ready (w : List ℕ) (k : ℕ) (inside : List (ℕ × ℕ)) (vars : List ℕ) (Γ : Env) (pre : Map) (e : Expr) : Type 0 where
     pub split : HoldsSplit w S
@@ -96,67 +102,47 @@ module _ (S : Split) (steps : List Step) (R : InRange steps S) (few : length (S 
     pub room : k + size e ≤ length (S .rows)
     pub long : presAt + 256 ≤ length w
 
-  view-line : (w : List ℕ) (n d k : ℕ) → viewOf w n d k .line ≡ cell w linesAt k
-  unfolding viewOf
-  view-line w n d k = refl
-
-  view-located : (w : List ℕ) (n d k : ℕ) → viewOf w n d k .locations ≡ n
-  unfolding viewOf
-  view-located w n d k = refl
-
-  view-divided : (w : List ℕ) (n d k : ℕ) → viewOf w n d k .denominator ≡ d
-  unfolding viewOf
-  view-divided w n d k = refl
-
-  view-pre : (w : List ℕ) (n d k : ℕ) {pre : Map} → Stands w S (record { 0 = cell w presAt k }) pre
-      → Stands w S (viewOf w n d k .pre) pre
-  unfolding viewOf
-  view-pre w n d k p = p
-
   module _ {w : List ℕ} {k : ℕ} {inside : List (ℕ × ℕ)} {vars : List ℕ} {Γ : Env} {pre : Map} where
     pub below : (e : Expr) → Ready w k inside vars Γ pre e → k < length (S .rows)
     below e r = omega (arith, size-positive e, r .room)
 
     conditions-shown : (e : Expr) → Ready w k inside vars Γ pre e
-        → (let s = viewOf w (S .header .locations) (S .header .denominator) k in
+        → (let s = viewOf w n d k in
         ruleRow (ruleOf (cell w wordsAt k)) w s (layout.typeAt w (s .typed)) (layout.typeAt w (s .type1)))
         ≡ own S Γ pre e
     unfolding size
     conditions-shown (leaf x l v) r =
         rw (leaf-code x l v (r .here))
-        (leaf-shown w S steps (r .split) R (viewOf w _ _ k) (view-located w _ _ k)
-        (view-divided w _ _ k) Γ pre (view-pre w _ _ k (r .pre-stands))
+        (leaf-shown w S steps (r .split) R (viewOf w n d k) refl refl Γ pre (r .pre-stands)
         l v x
-        (own-part w S steps (r .split) R _ _ k (leaf x l v) (here-index _ (r .here)) (below _ r))
-        (bound-shown w S steps (r .split) R _ _ k x l v (r .here) (r .scoped)))
+        (own-part w S steps (r .split) R n d k (leaf x l v) (here-index _ (r .here)) (below _ r))
+        (bound-shown w S steps (r .split) R n d k x l v (r .here) (r .scoped)))
     conditions-shown (unary x l v e₁) r =
         rw (unary-code x l v e₁ (r .here))
-        (unary-shown w S steps (r .split) R (viewOf w _ _ k) (view-located w _ _ k)
-        (view-divided w _ _ k) Γ pre (view-pre w _ _ k (r .pre-stands))
+        (unary-shown w S steps (r .split) R (viewOf w n d k) refl refl Γ pre (r .pre-stands)
         l v e₁
-        (first-part w S steps (r .split) R _ _ k e₁ (here-index e₁ (here-part x l v e₁ (r .here)))
+        (first-part w S steps (r .split) R n d k e₁ (here-index e₁ (here-part x l v e₁ (r .here)))
         (omega (arith, size-positive e₁, r .room)))
         x
-        (own-part w S steps (r .split) R _ _ k _ (here-index _ (r .here)) (below _ r)))
+        (own-part w S steps (r .split) R n d k _ (here-index _ (r .here)) (below _ r)))
     conditions-shown (binary x l v e₁ e₂) r =
         rw (binary-code x l v e₁ e₂ (r .here))
-        (binary-shown w S steps (r .split) R (viewOf w _ _ k) (view-located w _ _ k)
-        (view-divided w _ _ k) Γ pre (view-pre w _ _ k (r .pre-stands))
+        (binary-shown w S steps (r .split) R (viewOf w n d k) refl refl Γ pre (r .pre-stands)
         l v e₁
-        (first-part w S steps (r .split) R _ _ k e₁ (here-index e₁ (here-first x l v e₁ e₂ (r .here)))
+        (first-part w S steps (r .split) R n d k e₁ (here-index e₁ (here-first x l v e₁ e₂ (r .here)))
         (omega (arith, size-positive e₁, r .room)))
         e₂
-        (second-part w S steps (r .split) R _ _ k e₂ (k + 1 + size e₁) (here-second-at x l v e₁ e₂ (r .here))
+        (second-part w S steps (r .split) R n d k e₂ (k + 1 + size e₁) (here-second-at x l v e₁ e₂ (r .here))
         (here-index e₂ (here-second x l v e₁ e₂ (r .here))) (omega (arith, size-positive e₂, r .room)))
         x
-        (own-part w S steps (r .split) R _ _ k _ (here-index _ (r .here)) (below _ r))
-        (started w S steps (r .split) R _ _ k _ (here-index _ (r .here)) (below _ r)))
+        (own-part w S steps (r .split) R n d k _ (here-index _ (r .here)) (below _ r))
+        (started w S steps (r .split) R n d k _ (here-index _ (r .here)) (below _ r)))
 
     pub step-shown : (purpose : Purpose) (e : Expr) → Ready w k inside vars Γ pre e
         → counted purpose (stepOutcome w (S .header .locations) (S .header .denominator) k)
         ≡ firstAsked purpose (claimsAt S (record { Γ = Γ; pre = pre; step = e }))
     unfolding stepOutcome claimsAt
-    step-shown purpose e r = rw (conditions-shown e r, view-line w _ _ k, here-line e (r .here)) (row-counted (lineOf e) purpose S Γ pre e)
+    step-shown purpose e r = rw (conditions-shown e r, here-line e (r .here)) (row-counted (lineOf e) purpose S Γ pre e)
 
     -- ---------------------------------------------------------------- what a step hands down
 

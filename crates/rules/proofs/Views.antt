@@ -37,27 +37,23 @@ module _ (w : List ℕ) (S : Split) (steps : List Step) (H : HoldsSplit w S) (R 
 
   module _ (n d k : ℕ) where
     pub own-part : (e : Expr) → indexOf e ≡ k → k < length (S .rows) → Part w S (viewOf w n d k .typed) (viewOf w n d k .post) e
-    unfolding viewOf
     own-part e index h = part-at e k index h refl refl
 
     pub first-part : (e : Expr) → indexOf e ≡ k + 1 → k + 1 < length (S .rows)
         → Part w S (viewOf w n d k .type1) (viewOf w n d k .post1) e
-    unfolding viewOf
     first-part e index h =
         part-at e (k + 1) index h (ap (λ (i : ℕ). getD w i 0) (omega arith)) (ap (λ (i : ℕ). getD w i 0) (omega arith))
 
     pub second-part : (e : Expr) (j : ℕ) → cell w (endsAt + 1) k ≡ j → indexOf e ≡ j → j < length (S .rows)
         → Part w S (viewOf w n d k .type2) (viewOf w n d k .post2) e
-    unfolding viewOf
     second-part e j q index h = part-at e j index h (ap (cell w rowTypesAt) q) (ap (cell w postsAt) q)
 
     pub started : (e : Expr) → indexOf e ≡ k → k < length (S .rows) → Stands w S (viewOf w n d k .start) (start S e)
-    unfolding viewOf
     started e index h = start-at w S steps H R e k index h
 
     pub bound-shown : (x : LeafWord) (l : Position) (v : ℕ) {Γ : Env} {inside : List (ℕ × ℕ)} {vars : List ℕ}
         → Here w k inside vars (leaf x l v) → Scoped S Γ inside vars → Bound S x (viewOf w n d k) Γ v
-    unfolding viewOf UsedInside StepInside role
+    unfolding UsedInside StepInside role
     bound-shown Var l v {Γ} {inside} P C = (
       type-number
           (ap (cell w (rowTypesAt + 1)) (here-let l v P)

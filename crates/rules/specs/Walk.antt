@@ -24,7 +24,7 @@ cell w b i = getD w (b + i) 0
 
 -- what the conditions of step k look at: a first part stands just behind its step, a second part at the end of the first,
 -- the e1 of a let just behind the let
-unfoldable pub viewOf : (w : List ℕ) → (locations denominator k : ℕ) → View
+abbrev pub viewOf : (w : List ℕ) → (locations denominator k : ℕ) → View
 viewOf w locations denominator k = record {
   line = cell w linesAt k;
   value = cell w valuesAt k;

@@ -1,6 +1,7 @@
 -- The lock lines, the start, then the walk over the steps; proofs/Transfer.antt says what they come to for the sheets.
 use Prim.Native.Nat.{_+_}
 use mathlib.Core.Path.{sym, _∙_}
+use native.Mathlib.Omega.{arith}
 use Rattle.workspace.specs.Layout.{presAt}
 use Rattle.workspace.proofs.Region.{changed-nothing}
 use Rattle.conditions.specs.Outcome.{both}
@@ -56,7 +57,7 @@ returns-3 c =
           ∙ sym (met-goes-on _ _ (whole .enum-told3 .given .1))
           ∙ sym (met-goes-on _ _ (enough .enum-told .given .1))
           ∙ rw (locks .check-locks .ensures, start .check-start .ensures, line .at .ensures)
-          (sheets-shown _ _ _ _ _ P S H _ (entry .pre .0) (entry .pre .1) _ counted);
+          (sheets-shown _ _ _ _ _ P S H _ (omega arith) (omega arith) _ counted);
       changed = steps .check-steps .ensures .1;
     }
 

@@ -34,7 +34,7 @@ abbrev μ-loop : tie.MeasureT-loop
 loop-holds : tie.Need-loop-holds Inv-loop μ-loop
 loop-holds c = record {
   inside = omega arith;
-  long = simp length-set (c .before .pre .0);
+  long = simp length-set (omega arith);
   changed = changed-nothing presAt (presAt + 256) _;
   rest = rw sub-zero refl;
 }

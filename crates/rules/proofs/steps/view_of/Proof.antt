@@ -1,10 +1,8 @@
-use Rattle.rules.specs.Walk.{viewOf}
 use borrow.Author.Needs.{needs}
 use Rattle.rules.proofs.steps.view_of.Statement.{statement}
 use Rattle.rules.proofs.steps.view_of.Tie as tie
 
 returns : tie.Need-returns
-unfolding viewOf
 returns c =
     let post₁ = c .before in
     let start = post₁ .before in
