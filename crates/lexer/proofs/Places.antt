@@ -8,7 +8,7 @@ use Rattle.spec.specs.Choice.{if_then_else_}
 use lib.Dec.{eqb, leb, leb·suc-suc}
 use borrow.Author.Tests.{le-leb, lt-leb}
 use lib.ListN.{length, take, drop, drop-of-length-le, length-drop}
-use lib.Seq.{drop-drop, length-take-le}
+use lib.Seq.{drop-drop}
 use Rattle.lexer.specs.Views.{width, endOf, firstField, behind, nothing}
 use Rattle.lexer.specs.Cursors.{Placed, rest, past, next, spanTo, spanAt}
 use Rattle.lexer.specs.declared.Cursor.{Cursor}
@@ -121,13 +121,3 @@ module _ (text : List ℕ) (c : Cursor) where
   pub span-le : (s : Span) → s ≡ spanAt text c → Placed text c → (s .from ≤ s .to) × (s .to ≤ length text)
   unfolding spanAt spanTo rest
   span-le s e p = rw e (omega arith, omega (arith, width-le (drop (c .at) text), length-drop (c .at) text, p .at-le))
-
-  -- a field is empty where it ends at the byte that it starts at
-  pub span-empty : (s : Span) → s ≡ spanAt text c → s .from ≡ s .to → firstField (rest text c) ≡ []
-  span-empty s e h = sym (span-field s e) ∙ (let z : s .to - s .from ≡ 0 = omega arith in rw z)
-
-  pub span-filled : (s : Span) → s ≡ spanAt text c → (s .from ≡ s .to → ⊥) → 0 < length (firstField (rest text c))
-  unfolding spanAt spanTo firstField rest
-  span-filled s e h =
-      let w : width (drop (c .at) text) ≡ 0 → ⊥ = λ z. h (rw e (omega arith)) in
-      rw (length-take-le (width (drop (c .at) text)) (drop (c .at) text) (width-le (drop (c .at) text))) (omega (arith, w))

@@ -23,11 +23,11 @@ AllNarrow (r ∷ rs) = Narrow r × AllNarrow rs
 
 -- ------------------------------------------------------------------ one number
 
-kept : (n : ℕ) → leb n 4294967295 ≡ true → stored n ≡ n
+pub kept : (n : ℕ) → leb n 4294967295 ≡ true → stored n ≡ n
 unfolding stored
 kept n e = simp e
 
-cut : (n : ℕ) → leb n 4294967295 ≡ false → stored n ≡ 4294967295
+pub cut : (n : ℕ) → leb n 4294967295 ≡ false → stored n ≡ 4294967295
 unfolding stored
 cut n e = simp e
 

@@ -5,7 +5,7 @@ use mathlib.Core.Bool.{true, false}
 use mathlib.Core.Option.{Option, none, some}
 use Prim.Native.Nat.{ℕ, _+_, _-_, _<_}
 use native.Mathlib.Omega.{arith}
-use lib.ListN.{length, take, drop}
+use lib.ListN.{length}
 use Rattle.spec.specs.Text.{lines, Field, numeral}
 use Rattle.spec.specs.Reading.{SheetName, stop, Seen, wrong, badForm, form, faulty, passed, nextLine}
 use Rattle.lexer.specs.Views.{endOf, firstField, behind, nothing, withField, lineAt}
@@ -22,7 +22,7 @@ use Rattle.lexer.proofs.Lines.{next-open, next-closed}
 use Rattle.lexer.specs.Numbers.{numberAt}
 use Rattle.lexer.specs.declared.Number.the-variants as number-is
 use Rattle.lexer.proofs.Numerals.{value-at-cursor}
-use Rattle.lexer.proofs.Places.{span-field, next-rest, next-placed, line-kept, line-passed}
+use Rattle.lexer.proofs.Places.{next-rest, next-placed, line-kept, line-passed}
 
 -- ------------------------------------------------------------------ at a cursor
 
@@ -55,21 +55,8 @@ module _ (text : List ℕ) (c : Cursor) (s : Span) (is : s ≡ spanAt text c) wh
     pub span-comma : s .end ≡ Comma → lineAt (rest text c) ≡ withField (firstField (rest text c)) (lineAt (rest text (s .next)))
     span-comma e = rw (← span-behind) (line-comma (rest text c) (sym span-end ∙ e))
 
-    pub span-newline : s .end ≡ Newline → lineAt (rest text c) ≡ some (firstField (rest text c) ∷ [], rest text (s .next))
-    span-newline e = rw (← span-behind) (line-newline (rest text c) (sym span-end ∙ e))
-
-    pub span-text : s .end ≡ Text → lineAt (rest text c) ≡ none
-    span-text e = line-text (rest text c) (sym span-end ∙ e)
-
-  -- what is asked of the field's bytes, as `same` and `type_word` ask it, is asked of the first field
-  pub span-bytes : {A : Type 0} (g : List ℕ → A) → g (take (s .to - s .from) (drop (s .from) text)) ≡ g (firstField (rest text c))
-  span-bytes g = ap g (span-field text c s is)
-
   pub span-line-kept : s .end ≡ Comma → s .next .line ≡ c .line
   span-line-kept e = ap (λ (d : Cursor). d .line) span-next ∙ line-kept text c (sym span-end ∙ e)
-
-  pub span-line-passed : s .end ≡ Newline → s .next .line ≡ c .line + 1
-  span-line-passed e = ap (λ (d : Cursor). d .line) span-next ∙ line-passed text c (sym span-end ∙ e)
 
 -- what the numeral at a cursor says of the line there
 module _ (text : List ℕ) (c : Cursor) (n : ℕ) (e : FieldEnd) (d : Cursor) (is : numberAt text c ≡ number-is.Value n e d) where
@@ -109,11 +96,6 @@ pub not-comma : (e : FieldEnd) → OneOf (1 ∷ 2 ∷ []) (tagOf field-end.the-t
 not-comma Comma h p = miss (1 ∷ 2 ∷ []) 0 tt h
 not-comma Newline h p = let z : _≡_ {A = ℕ} 0 1 = cc in omega arith
 not-comma Text h p = let z : _≡_ {A = ℕ} 0 1 = cc in omega arith
-
-pub not-newline : (e : FieldEnd) → OneOf (0 ∷ 2 ∷ []) (tagOf field-end.the-type e) → e ≡ Newline → ⊥
-not-newline Comma h p = let z : _≡_ {A = ℕ} 0 1 = cc in omega arith
-not-newline Newline h p = miss (0 ∷ 2 ∷ []) 1 tt h
-not-newline Text h p = let z : _≡_ {A = ℕ} 0 1 = cc in omega arith
 
 -- whether something is left
 pub left-none : (t : List ℕ) → nothing t ≡ true → t ≡ []

@@ -8,7 +8,8 @@ use lib.ListN.{length}
 use Rattle.spec.specs.Choice.{if_then_else_}
 use Rattle.spec.specs.Text.{lines, Field}
 use Rattle.spec.specs.Reading.{splitSheet, Out, stop, Place, Seen, right, wrong, badRange, noStart, insist, below, inRange, allInRange, passed, next}
-use Rattle.spec.specs.Split.{Header, Row, rowOf, takesStart, startRange, mayBeEmpty}
+use Rattle.spec.specs.Split.{Header, Row, rowOf, startRange, mayBeEmpty}
+use Rattle.spec.specs.Words.{takesStart}
 use Rattle.spec.specs.declared.Purpose.{Purpose}
 use Rattle.spec.specs.declared.Refusal.the-variants.{SplitForm, SplitRange, NoStart}
 use Rattle.spec.specs.declared.Word.{Word}

@@ -25,7 +25,7 @@ use Rattle.lexer.specs.declared.vocabulary.TypeWord.{TypeWord}
 use Rattle.lexer.specs.declared.vocabulary.TypeWord.the-variants as kind
 use Rattle.lexer.proofs.Walks.{first-wrong, first-alone}
 use Rattle.lexer.proofs.Stored.{Narrow, AllNarrow}
-use Rattle.lexer.proofs.Ranges.{tail-form, tail-read}
+use Rattle.lexer.proofs.Ranges.{tail-form, tail-read, numbersFrom, one-by-one}
 use Rattle.lines.specs.declared.types.TypeRead.{TypeRead}
 use Rattle.lines.specs.declared.types.TypeRead.the-variants as type-read
 use Rattle.lines.specs.declared.types.TypeSeen.{TypeSeen}
@@ -36,12 +36,6 @@ use Rattle.lexer.proofs.TypeLines.{ofKind, type-line as kind-line}
 use Rattle.lexer.proofs.Sheets.{next-at}
 use Rattle.lexer.proofs.LineEnds.{LineRead}
 use Rattle.lines.proofs.LineLaws.{shows-form, shows-range, shows-entry, comma-line, comma-kept}
-
-pub two : (l : List ℕ) → length l ≡ 2 → l ≡ getD l 0 0 ∷ getD l 1 0 ∷ []
-two [] h = absurd (omega arith)
-two (a ∷ []) h = absurd (omega arith)
-two (a ∷ b ∷ []) h = refl
-two (a ∷ b ∷ c ∷ l) h = absurd (omega arith)
 
 -- ------------------------------------------------------------------ by kind
 
@@ -136,9 +130,10 @@ module _ (H : Header) (own : ℕ) (text : List ℕ) (c : Cursor) (some-left : 0 
         (s : TypeSeen) (told : s ≡ typeSeen k H own (getD ns 0 0 ∷ getD ns 1 0 ∷ [])) where
       reads : next splitSheet (typeLine H own) (placeAt text c)
           ≡ passed splitSheet (c .line + 1) (lines (rest text e)) (typeTold s)
+      unfolding numbersFrom
       reads =
           next-at splitSheet text (typeLine H own) c ∙ kind-read few k (sym word) ns (rest text e) (h .numbers)
-          ∙ ap (λ (l : List ℕ). passed splitSheet (c .line + 1) (lines (rest text e)) (typeTold (typeSeen k H own l))) (two ns (h .long))
+          ∙ ap (λ (l : List ℕ). passed splitSheet (c .line + 1) (lines (rest text e)) (typeTold (typeSeen k H own l))) (one-by-one 2 ns (h .long))
           ∙ ap (λ (x : TypeSeen). passed splitSheet (c .line + 1) (lines (rest text e)) (typeTold x)) (sym told)
 
       pub type-answered : (x : TypeSeen) → s ≡ x → TypeAnswer text (next splitSheet (typeLine H own) (placeAt text c)) (typeAnswer x (c .line + 1) e)

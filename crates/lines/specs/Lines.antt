@@ -7,7 +7,8 @@ use lib.ListN.{replicate}
 use Rattle.spec.specs.Choice.{if_then_else_}
 use Rattle.spec.specs.Text.{Field}
 use Rattle.spec.specs.Reading.{Seen, right, wrong, badForm, badRange, Range, _to_, below, inRange, allInRange, numbers}
-use Rattle.spec.specs.Split.{Map, Header, refOf, lockOf, outRange, tidOf, semOf, rwlockOf, Row, takesStart, startRange, mayBeEmpty, rowLine}
+use Rattle.spec.specs.Split.{Map, Header, refOf, lockOf, outRange, tidOf, semOf, rwlockOf, Row, startRange, mayBeEmpty, rowLine}
+use Rattle.spec.specs.Words.{takesStart}
 use Rattle.spec.specs.declared.Heading.{Heading}
 use Rattle.spec.specs.declared.Purpose.{Purpose}
 use Rattle.spec.specs.declared.Refusal.the-variants.{SplitRange, NoStart}
@@ -72,7 +73,7 @@ cellLine n fs = numbers (cells n) fs
 
 -- the row of a step with this word
 unfoldable pub wordLine : Purpose → Header → Word → List Field → Seen Row
-wordLine purpose H w fs = rowLine purpose H (record { word = w; value = 0 }) fs
+wordLine purpose H w fs = rowLine purpose H (record { word = w; value = 0; line = 0 }) fs
 
 -- how many of the maps can be the s of a step with this word
 abbrev pub startLimit : Word → (maps : ℕ) → ℕ

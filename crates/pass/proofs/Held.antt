@@ -22,8 +22,7 @@ use Rattle.spec.specs.declared.BinaryWord.the-variants.{Let, If, Spawn, Write}
 use Rattle.workspace.specs.Layout.{wordsAt, leafCode, unaryCode, binaryCode, printed, ruleOf}
 use Rattle.workspace.specs.Holds.{HoldsSplit}
 use Rattle.workspace.proofs.Shown.{type-number, noRow, type-shown, LoadsIn, loads-in, map-stands, has-shown, row-at, row-type, start-at}
-use Rattle.workspace.proofs.Expression.{Here, here-index, leaf-code, leaf-number, unary-code, binary-code, here-part, here-first, here-second, here-end, varsSecond}
-use Rattle.workspace.proofs.Held.{insideSecond}
+use Rattle.workspace.proofs.Expression.{Here, here-index, leaf-code, leaf-number, unary-code, binary-code, here-part, here-first, here-second, here-end}
 use Rattle.filling.specs.declared.Effect.{Effect}
 use Rattle.filling.specs.Flow.{unchanged, taking, giving, needing, lending, alone, steps}
 use Rattle.filling.specs.FlowOf.{loadHere, inHere, outHere, readHere, writeHere, startHere, accessHere, flowOf}

@@ -17,8 +17,8 @@ use Rattle.spec.specs.declared.Word.{Word}
 use Rattle.workspace.specs.Layout.{wordsAt, valuesAt, endsAt, letsAt, wordOf, workSize, linesAt}
 use Rattle.workspace.specs.Region.{Region, ChangedWithin}
 use Rattle.workspace.proofs.Region.{region-empty, region-push, changed-nothing, changed-store, changed-then}
-use Rattle.workspace.specs.Steps.{wordAt, valueAt, lineAt}
-use Rattle.program.specs.Scopes.{unbound, judgeLet, judgeVar, judgeBy, judgeOf, storing, judged, scopesFrom, Scoped}
+use Rattle.workspace.specs.Steps.{wordAt, valueAt, stepLineAt}
+use Rattle.program.specs.Scopes.{unbound, judgeLet, judgeVar, judgeBy, judgeOf, storing, continued, scopesFrom, Scoped}
 use Rattle.program.specs.declared.Outcome.the-variants as outcome
 use Rattle.spec.specs.declared.Role.{Role}
 use Rattle.spec.specs.declared.Role.the-variants.{Binds, Uses, Neither}
@@ -41,12 +41,12 @@ replicate-any (suc n) (suc v) x = replicate-any n v x
 -- a use of a variable whose let is at b, as the code tells its cases apart
 module _ (w : List ℕ) (k b at x : ℕ) (lb : b < 256) (ea : at ≡ b) (ex : x ≡ getD w (endsAt + (at + 1)) 0) where
   pub used-early : k < x → Refused (Unbound (getD w (linesAt + k) 0)) ≡ judgeVar w k b
-  unfolding judgeVar lineAt
+  unfolding judgeVar stepLineAt
   used-early h = simp (lt-leb _ _ lb, ← ea, ← ex, lt-ltb _ _ h)
 
   module _ (y : ℕ) (hx : x ≤ k) (ey : y ≡ getD w (endsAt + at) 0) where
     pub used-late : y ≤ k → Refused (Unbound (getD w (linesAt + k) 0)) ≡ judgeVar w k b
-    unfolding judgeVar lineAt
+    unfolding judgeVar stepLineAt
     used-late h = rw (lt-leb _ _ lb, ← ea, ← ex, ← ey, le-ltb _ _ hx, le-leb _ _ h)
 
     pub used-inside : k < y → Store b ≡ judgeVar w k b
@@ -55,8 +55,8 @@ module _ (w : List ℕ) (k b at x : ℕ) (lb : b < 256) (ea : at ≡ b) (ex : x 
 
 -- what is judged does not depend on what is stored of lets
 module _ (w w′ : List ℕ) (x : ChangedWithin letsAt (letsAt + 256) w w′) (k b : ℕ) (h : k < 256) (o : (b ≡ 256) ⊎ (b < k)) where
-  line-kept : lineAt w′ k ≡ lineAt w k
-  unfolding lineAt
+  line-kept : stepLineAt w′ k ≡ stepLineAt w k
+  unfolding stepLineAt
   line-kept = x .kept (linesAt + k) (inr (omega arith))
 
   judge-var-kept : judgeVar w′ k b ≡ judgeVar w k b
@@ -141,7 +141,7 @@ module _ (n : ℕ) (w₀ w t : List ℕ) (k : ℕ) (s : ScopesSoFar n w₀ w t k
 
   module _ (v b : ℕ) (j : Judged) (hw : length w₀ ≡ workSize) (hn : n ≤ 256) (h : k < n) (hv : v ≡ getD w (valuesAt + k) 0)
       (hb : b ≡ getD t v 256) (hj : j ≡ judgeOf w k b) where
-    step : scopesFrom w₀ (n - k) k t ≡ judged (λ u. scopesFrom w₀ (n - (k + 1)) (k + 1) u) k t v j
+    step : scopesFrom w₀ (n - k) k t ≡ continued (λ u. scopesFrom w₀ (n - (k + 1)) (k + 1) u) k t v j
     unfolding scopesFrom valueAt
     step =
         let e : n - k ≡ suc (n - (k + 1)) = omega arith in
@@ -150,11 +150,11 @@ module _ (n : ℕ) (w₀ w t : List ℕ) (k : ℕ) (s : ScopesSoFar n w₀ w t k
         rw (e, hj, judge-kept w₀ w (s .changed) k b (omega arith) below, hb, hv′) refl
 
     pub refuses : (x : Refusal) → j ≡ Refused x → Scoped n w₀ w (outcome.Refused x)
-    unfolding judged
+    unfolding continued
     refuses x p =
         let f : scopesFrom w₀ n 0 unbound ≡ stop x =
         s .rest
-        ∙ ap (after (s .stored)) (step ∙ ap (judged (λ u. scopesFrom w₀ (n - (k + 1)) (k + 1) u) k t v) p)
+        ∙ ap (after (s .stored)) (step ∙ ap (continued (λ u. scopesFrom w₀ (n - (k + 1)) (k + 1) u) k t v) p)
         ∙ after-stop (s .stored) x in
         record { found = rw f refl; changed = s .changed }
 
@@ -175,11 +175,11 @@ module _ (n : ℕ) (w₀ w t : List ℕ) (k : ℕ) (s : ScopesSoFar n w₀ w t k
     }
 
     pub binds : (x : ℕ) (t′ : List ℕ) → x ≡ 0 → t′ ≡ set t v k → j ≡ Bind → ScopesSoFar n w₀ (set w (letsAt + k) x) t′ (k + 1)
-    unfolding judged
+    unfolding continued
     binds x t′ e f p =
         rw (e, f)
         (more 0 (set t v k) (length-set t v k ∙ s .long) below
-        (step ∙ ap (judged (λ u. scopesFrom w₀ (n - (k + 1)) (k + 1) u) k t v) p))
+        (step ∙ ap (continued (λ u. scopesFrom w₀ (n - (k + 1)) (k + 1) u) k t v) p))
       where
         below : (u : ℕ) → (getD (set t v k) u 256 ≡ 256) ⊎ (getD (set t v k) u 256 < k + 1)
         below u = from (ℕ-discrete u v)
@@ -196,11 +196,11 @@ module _ (n : ℕ) (w₀ w t : List ℕ) (k : ℕ) (s : ScopesSoFar n w₀ w t k
             from (no f) = rw (getD-set-other t v u k 256 f) old
 
     pub stores : (x y : ℕ) (t′ : List ℕ) → x ≡ y → t′ ≡ t → j ≡ Store y → ScopesSoFar n w₀ (set w (letsAt + k) x) t′ (k + 1)
-    unfolding judged
+    unfolding continued
     stores x y t′ e f p =
         rw (e, f)
         (more y t (s .long) (λ u. ⊎-elim (λ e. inl e) (λ l. inr (omega arith)) (s .below u))
-        (step ∙ ap (judged (λ u. scopesFrom w₀ (n - (k + 1)) (k + 1) u) k t v) p))
+        (step ∙ ap (continued (λ u. scopesFrom w₀ (n - (k + 1)) (k + 1) u) k t v) p))
 
 -- a step judged by what its word does
 module _ (w : List ℕ) (k b : ℕ) {x : Word} {r : Role} (e : x ≡ wordOf (getD w (wordsAt + k) 0)) (f : r ≡ role x) where
@@ -209,7 +209,7 @@ module _ (w : List ℕ) (k b : ℕ) {x : Word} {r : Role} (e : x ≡ wordOf (get
   judged-by s g = ap (judgeBy w k b) (sym g ∙ f ∙ ap role e)
 
   pub judged-let : r ≡ Binds → judgeLet (getD w (linesAt + k) 0) b ≡ judgeOf w k b
-  unfolding judgeBy lineAt
+  unfolding judgeBy stepLineAt
   judged-let = judged-by Binds
 
   pub judged-var : r ≡ Uses → judgeVar w k b ≡ judgeOf w k b

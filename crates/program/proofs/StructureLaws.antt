@@ -17,7 +17,7 @@ use Rattle.workspace.proofs.Held.{ends-length}
 use Rattle.workspace.specs.Region.{Region, ChangedWithin}
 use Rattle.workspace.proofs.Steps.{steps-length, steps-drop, steps-kept-beside}
 use Rattle.workspace.proofs.Region.{region-empty, region-front, region-append, region-kept, changed-nothing, changed-store, changed-then, changed-wider}
-use Rattle.workspace.specs.Steps.{wordAt, valueAt, lineAt, stepsFrom}
+use Rattle.workspace.specs.Steps.{wordAt, valueAt, stepLineAt, stepsFrom}
 use Rattle.program.specs.Structure.{partsOf, listedFrom, reached, endsOf, Ended, Structured}
 use Rattle.program.specs.Outcomes.{Answers}
 use Rattle.program.specs.declared.Outcome.{Outcome}
@@ -68,7 +68,7 @@ step-unended (Binary w) l v k (x ∷ y ∷ es) p = absurd (never (sym p))
 
 -- where the step at index k stands
 abbrev positionAt : List ℕ → (k : ℕ) → Position
-positionAt w k = record { index = k; line = lineAt w k }
+positionAt w k = record { index = k; line = stepLineAt w k }
 
 listed-step : (w : List ℕ) (n k : ℕ) → k < n
     → listedFrom w n k ≡ withParts (wordAt w k) (positionAt w k) (valueAt w k) (listedFrom w n (k + 1))
@@ -270,7 +270,7 @@ module _ (n last : ℕ) (w w′ : List ℕ) (r : Ending) (x : Ended n 1 0 w w′
         structured Passed (first .0 ∷ first .1) (first .2) (rw (behind, none-left) (refl, m))
 
     pub early : e < n → n ≤ 256 → Structured n last w w′ (Refused (ProgramLines (getD w′ (linesAt + e) 0)))
-    unfolding single whole stepsFrom lineAt
+    unfolding single whole stepsFrom stepLineAt
     early h few =
         let some-left : n - e ≡ suc (n - (e + 1)) = omega arith in
         let line : getD w′ (linesAt + e) 0 ≡ getD w (linesAt + e) 0 = x .changed .kept (linesAt + e) (inr (omega arith)) in

@@ -20,12 +20,12 @@ use Rattle.spec.specs.declared.Word.the-variants.{Binary}
 use Rattle.spec.specs.declared.LeafWord.the-variants.{Var, Int, Newtid, Newlock, Newsem, Newrwlock}
 use Rattle.spec.specs.declared.BinaryWord.the-variants.{Let, If, Spawn, Write}
 use Rattle.spec.specs.WellFormed.{prefix}
-use Rattle.workspace.specs.Steps.{wordAt, valueAt, lineAt}
+use Rattle.workspace.specs.Steps.{wordAt, valueAt, stepLineAt}
 use Rattle.workspace.specs.Holds.{letIn, letOf, lets}
 use Rattle.workspace.proofs.Codes.{word-of-code}
 use Rattle.workspace.proofs.Expression.{Standing, Head, leaf-head, unary-head, binary-head, standing-end, standing-part, standing-first, standing-second}
 use Rattle.program.specs.Lines.{Limited, none-limited, more-limited}
-use Rattle.program.specs.Scopes.{unbound, judgeLet, judgeVar, judgeBy, judgeOf, storing, judged, scopesFrom}
+use Rattle.program.specs.Scopes.{unbound, judgeLet, judgeVar, judgeBy, judgeOf, storing, continued, scopesFrom}
 use Rattle.spec.specs.declared.Role.the-variants.{Uses, Neither}
 use Rattle.program.specs.declared.binders.Judged.the-variants.{Store, Refused}
 use Rattle.program.proofs.ScopeLaws.{after, after-append, after-stop, after-on, replicate-any}
@@ -59,23 +59,23 @@ one-of r s false false true o = refl
 one-of r s false false false o =
     absurd (⊎-elim (λ e. false≢true e) (λ p. ⊎-elim (λ e. false≢true e) (λ e. false≢true e) p) o)
 
-var-refused : (w : List ℕ) (k b : ℕ) → (256 ≤ b) ⊎ ((k < endAt w (b + 1)) ⊎ (endAt w b ≤ k)) → judgeVar w k b ≡ Refused (Unbound (lineAt w k))
+var-refused : (w : List ℕ) (k b : ℕ) → (256 ≤ b) ⊎ ((k < endAt w (b + 1)) ⊎ (endAt w b ≤ k)) → judgeVar w k b ≡ Refused (Unbound (stepLineAt w k))
 unfolding judgeVar
 var-refused w k b o =
-    one-of (Refused (Unbound (lineAt w k))) (Store b) (leb 256 b) (ltb k (endAt w (b + 1))) (leb (endAt w b) k)
+    one-of (Refused (Unbound (stepLineAt w k))) (Store b) (leb 256 b) (ltb k (endAt w (b + 1))) (leb (endAt w b) k)
     (⊎-elim
     (λ h. inl (le-leb 256 b h))
     (λ p. inr (⊎-elim (λ h. inl (lt-ltb k (endAt w (b + 1)) h)) (λ h. inr (le-leb (endAt w b) k h)) p))
     o)
 
 module _ (w : List ℕ) (m k : ℕ) (t : List ℕ) {x : Word} {l : Position} {v : ℕ} (h : Head w k x l v) where
-  step : scopesFrom w (suc m) k t ≡ judged (λ u. scopesFrom w m (k + 1) u) k t v (judgeBy w k (getD t v 256) (role x))
+  step : scopesFrom w (suc m) k t ≡ continued (λ u. scopesFrom w m (k + 1) u) k t v (judgeBy w k (getD t v 256) (role x))
   unfolding scopesFrom judgeOf wordAt valueAt
   step = rw (h .code, h .value, word-of-code x) refl
 
   step-other : role x ≡ Neither → scopesFrom w (suc m) k t ≡ storing 0 (scopesFrom w m (k + 1) t)
-  unfolding judged judgeBy
-  step-other e = step ∙ ap (λ r. judged (λ u. scopesFrom w m (k + 1) u) k t v (judgeBy w k (getD t v 256) r)) e
+  unfolding continued judgeBy
+  step-other e = step ∙ ap (λ r. continued (λ u. scopesFrom w m (k + 1) u) k t v (judgeBy w k (getD t v 256) r)) e
 
   -- a step that neither binds nor uses a variable, alone
   walk-other : (bound : List ℕ) → role x ≡ Neither → length t ≡ 256 → Bound t bound → Gone w m k 1 (0 ∷ []) t bound
@@ -90,12 +90,12 @@ module _ (w : List ℕ) (m k : ℕ) (t : List ℕ) {x : Word} {l : Position} {v 
 
   -- a use of a variable
   module _ (hi : ℕ) (ins : List (ℕ × ℕ)) (bound : List ℕ) (e : role x ≡ Uses) (hh : k + 1 ≤ hi) (a : Agrees w k hi t ins bound) where
-    step-use : scopesFrom w (suc m) k t ≡ judged (λ u. scopesFrom w m (k + 1) u) k t v (judgeVar w k (getD t v 256))
+    step-use : scopesFrom w (suc m) k t ≡ continued (λ u. scopesFrom w m (k + 1) u) k t v (judgeVar w k (getD t v 256))
     unfolding judgeBy
-    step-use = step ∙ ap (λ r. judged (λ u. scopesFrom w m (k + 1) u) k t v (judgeBy w k (getD t v 256) r)) e
+    step-use = step ∙ ap (λ r. continued (λ u. scopesFrom w m (k + 1) u) k t v (judgeBy w k (getD t v 256) r)) e
 
     inside : (i b : ℕ) → b ≡ getD t v 256 → Right w k hi true i b → scopesFrom w (suc m) k t ≡ storing i (scopesFrom w m (k + 1) t)
-    unfolding judgeVar judged
+    unfolding judgeVar continued
     inside i b q r =
         let low : b < 256 = r .1 in
         let from : endAt w (b + 1) ≤ k = r .2 in
@@ -103,12 +103,12 @@ module _ (w : List ℕ) (m k : ℕ) (t : List ℕ) {x : Word} {l : Position} {v 
         step-use ∙ rw (← q, lt-leb 256 b low, le-ltb k (endAt w (b + 1)) from, lt-leb (endAt w b) k till, r .0) refl
 
     outside : (i b : ℕ) → b ≡ getD t v 256 → Right w k hi false i b → scopesFrom w (suc m) k t ≡ stop (Unbound (l .line))
-    unfolding judged lineAt
+    unfolding continued stepLineAt
     outside i b q r =
         let o : (256 ≤ b) ⊎ ((k < endAt w (b + 1)) ⊎ (endAt w b ≤ k)) =
         ⊎-elim (λ p. inl p) (λ p. inr (⊎-elim (λ f. inl (omega arith)) (λ f. inr f) p)) r in
         step-use
-        ∙ ap (judged (λ u. scopesFrom w m (k + 1) u) k t v)
+        ∙ ap (continued (λ u. scopesFrom w m (k + 1) u) k t v)
         (ap (judgeVar w k) (sym q) ∙ var-refused w k b o ∙ ap (λ i. Refused (Unbound i)) (h .line))
 
     walk-use : (y : Bool) → Right w k hi y (letIn ins v) (getD t v 256)
@@ -172,7 +172,7 @@ module _ (w : List ℕ) (m k s₁ s₂ : ℕ) (ls₁ ls₂ t t₀ : List ℕ)
 -- a let, and then its two parts
 module _ (w : List ℕ) (m k s₁ s₂ : ℕ) (ls₁ ls₂ t : List ℕ) {l : Position} {v : ℕ} (h : Head w k (Binary Let) l v) (bound : List ℕ)
     (end : endAt w k ≡ k + suc (s₁ + s₂)) (small : v < 256) (long : length t ≡ 256) (bind : Bound t bound) where
-  step-let : scopesFrom w (suc (s₁ + s₂) + m) k t ≡ judged (λ u. scopesFrom w (s₁ + (s₂ + m)) (k + 1) u) k t v (judgeLet (lineAt w k) (getD t v 256))
+  step-let : scopesFrom w (suc (s₁ + s₂) + m) k t ≡ continued (λ u. scopesFrom w (s₁ + (s₂ + m)) (k + 1) u) k t v (judgeLet (stepLineAt w k) (getD t v 256))
   unfolding judgeBy role
   step-let = let q : suc (s₁ + s₂) + m ≡ suc (s₁ + (s₂ + m)) = omega arith in rw q (step w (s₁ + (s₂ + m)) k t h)
 
@@ -182,7 +182,7 @@ module _ (w : List ℕ) (m k s₁ s₂ : ℕ) (ls₁ ls₂ t : List ℕ) {l : Po
       → (among v bound ≡ false → (b₁ : List ℕ) (x₁ : Gone w (s₂ + m) (k + 1) s₁ ls₁ (set t v k) b₁) → Walked w m (k + 1 + s₁) s₂ ls₂ (x₁ .table) (more b₁))
       → (y : Bool) → among v bound ≡ y
       → Walked w m k (suc (s₁ + s₂)) (0 ∷ (ls₁ ++ ls₂)) t ((if y then stop (Rebound (l .line)) else on (v ∷ bound)) >>= λ b. o₁ b >>= more)
-  unfolding judged judgeLet lineAt _>>=_
+  unfolding continued judgeLet stepLineAt _>>=_
   walk-let x₀ o₁ more x₁ x₂ true e =
       let low : getD t v 256 < 256 = ltb-true (getD t v 256) 256 (sym (bind v small) ∙ e) in
       step-let ∙ rw (lt-leb 256 (getD t v 256) low, h .line) refl

@@ -1,11 +1,12 @@
 -- Where the steps that the work space stores end.
 use mathlib.Core.Path.{_≡_}
 use mathlib.Core.List.{List, [], _∷_, _++_}
-use Prim.Native.Nat.{ℕ, suc, zero, _+_, _-_}
+use Prim.Native.Nat.{ℕ, suc, zero, _+_, _-_, _≤_}
+use lib.ListN.{length}
 use Rattle.spec.specs.Expression.{Expr, size, listed, single}
 use Rattle.spec.specs.declared.Word.{Word}
 use Rattle.spec.specs.declared.Word.the-variants.{Leaf, Unary, Binary}
-use Rattle.workspace.specs.Layout.{endsAt}
+use Rattle.workspace.specs.Layout.{workSize, endsAt}
 use Rattle.workspace.specs.Holds.{ends}
 use Rattle.workspace.specs.Region.{Region, ChangedWithin}
 use Rattle.workspace.specs.Steps.{stepsFrom}
@@ -13,6 +14,11 @@ use Rattle.program.specs.Outcomes.{Answers}
 use Rattle.program.specs.declared.Outcome.{Outcome}
 use Rattle.program.specs.declared.tree.Ending.{Ending}
 use Rattle.program.specs.declared.tree.Ending.the-variants.{Reached, Unfinished}
+
+-- a work space of its size, with room for n steps
+pub record RoomFor (n : ℕ) (w : List ℕ) : Type 0 where
+  pub long : length w ≡ workSize
+  pub few : n ≤ 256
 
 -- how many parts a step with this word has
 abbrev pub partsOf : Word → ℕ

@@ -11,10 +11,11 @@ use workspace::LINES;
 use workspace::VALUES;
 use workspace::WORDS;
 ghost use mathlib.Core.Path.{_≡_};
-ghost use Prim.Native.Nat.{_<_, _≤_};
+ghost use Prim.Native.Nat.{_<_};
 ghost use lib.ListN.{length, getD, set};
 ghost use Rattle.spec.specs.Words.{role};
 ghost use Rattle.workspace.specs.Layout.{workSize};
+ghost use Rattle.program.specs.Structure.{RoomFor};
 ghost use Rattle.program.specs.Scopes.{judgeLet, judgeVar, judgeOf, Scoped};
 
 // The mark of a variable that no let binds.
@@ -113,7 +114,7 @@ fn bind(table: &mut [u32], v: usize, k: u32)
 
 // Whether each variable is bound once and used only in its let's e2, judged in line order; stores which let each `var` means.
 pub fn scopes(work: &mut [u32], n: usize) -> Outcome
-    requires { ⌜ (length (now work) ≡ workSize) × (n ≤ 256) ⌝ }
+    requires { ⌜ RoomFor n (now work) ⌝ }
     ensures { λ r. ⌜ Scoped n (now (work .entry)) (now (work .exit)) r ⌝ }
 {
     let mut table = [UNBOUND; 256];

@@ -13,6 +13,7 @@ ghost use lib.ListN.{length};
 ghost use Rattle.lexer.specs.Cursors.{Placed};
 ghost use Rattle.workspace.specs.Layout.{workSize};
 ghost use Rattle.program.specs.Lines.{StepsStored};
+ghost use Rattle.program.specs.Structure.{RoomFor};
 ghost use Rattle.program.specs.Sheet.{ExpressionRead, StepsRead, ProgramIs};
 
 // Nothing to refuse, or the refusal.
@@ -24,7 +25,7 @@ enum Outcome {
 // Whether the n steps stored list one expression, and its variables are in scope; stores where its steps end and which
 // let each `var` means. `last` is the last line read.
 fn expression(work: &mut [u32], n: usize, last: u32) -> Outcome
-    requires { ⌜ (length (now work) ≡ workSize) × (n ≤ 256) × StepsStored n (now work) ⌝ }
+    requires { ⌜ RoomFor n (now work) × StepsStored n (now work) ⌝ }
     ensures { λ r. ⌜ ExpressionRead n last (now (work .entry)) (now (work .exit)) r ⌝ }
 {
     match tree::structure(work, n, last) {
@@ -41,7 +42,7 @@ pub enum ProgramRead {
 
 // What stands behind line 1, which counts n steps.
 fn read_steps(text: &[u8], work: &mut [u32], n: usize, start: Cursor) -> ProgramRead
-    requires { ⌜ (length (now work) ≡ workSize) × (n ≤ 256) × Placed (now text) start ⌝ }
+    requires { ⌜ RoomFor n (now work) × Placed (now text) start ⌝ }
     ensures { λ r. ⌜ StepsRead (now (text .entry)) n start (now (work .exit)) r ⌝ }
 {
     match lines::step_lines(text, work, n, start) {

@@ -17,7 +17,7 @@ ghost use lib.ListN.{length};
 ghost use Rattle.spec.specs.Reading.{stop};
 ghost use Rattle.spec.specs.Words.{leastValue, largestValue};
 ghost use Rattle.lexer.specs.Cursors.{Placed};
-ghost use Rattle.workspace.specs.Layout.{workSize};
+ghost use Rattle.program.specs.Structure.{RoomFor};
 ghost use Rattle.program.specs.Lines.{TailShown, CountShown, FreelockAt, stepAt, StepShown, StepsShown};
 
 // The most steps that a program may have.
@@ -185,7 +185,7 @@ pub enum StepLines {
 
 // The n step lines from the cursor on, stored in line order.
 pub fn step_lines(text: &[u8], work: &mut [u32], n: usize, start: Cursor) -> StepLines
-    requires { ⌜ (length (now work) ≡ workSize) × (n ≤ 256) × Placed (now text) start ⌝ }
+    requires { ⌜ RoomFor n (now work) × Placed (now text) start ⌝ }
     ensures { λ r. ⌜ StepsShown (now (text .entry)) n start (now (work .entry)) (now (work .exit)) r ⌝ }
 {
     let mut cursor = start;

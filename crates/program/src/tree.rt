@@ -7,9 +7,7 @@ use workspace::LINES;
 use workspace::WORDS;
 ghost use mathlib.Core.Path.{_≡_};
 ghost use Prim.Native.Nat.{_≤_};
-ghost use lib.ListN.{length};
-ghost use Rattle.workspace.specs.Layout.{workSize};
-ghost use Rattle.program.specs.Structure.{partsOf, Ended, Structured};
+ghost use Rattle.program.specs.Structure.{RoomFor, partsOf, Ended, Structured};
 
 // Where steps that are read one after the other end, or that a part is missing at the last line.
 enum Ending {
@@ -31,7 +29,7 @@ fn parts_of(w: Word) -> usize
 // Reads the step at index k, and stores the index just past it and past each step in it. "Each part is again a step": it
 // reads its parts, which reads steps; the lines left fall.
 fn read_step(work: &mut [u32], n: usize, k: usize) -> Ending
-    requires { ⌜ (length (now work) ≡ workSize) × (n ≤ 256) × (k ≤ n) ⌝ }
+    requires { ⌜ RoomFor n (now work) × (k ≤ n) ⌝ }
     ensures { λ r. ⌜ Ended n 1 k (now (work .entry)) (now (work .exit)) r ⌝ }
 {
     if n <= k {
@@ -49,7 +47,7 @@ fn read_step(work: &mut [u32], n: usize, k: usize) -> Ending
 
 // Reads m steps, one after the other, from index k on.
 fn read_parts(work: &mut [u32], n: usize, m: usize, k: usize) -> Ending
-    requires { ⌜ (length (now work) ≡ workSize) × (n ≤ 256) × (k ≤ n) ⌝ }
+    requires { ⌜ RoomFor n (now work) × (k ≤ n) ⌝ }
     ensures { λ r. ⌜ Ended n m k (now (work .entry)) (now (work .exit)) r ⌝ }
 {
     if m == 0 {
@@ -63,7 +61,7 @@ fn read_parts(work: &mut [u32], n: usize, m: usize, k: usize) -> Ending
 
 // Whether the n steps stored list one expression; `last` is the last line read.
 pub fn structure(work: &mut [u32], n: usize, last: u32) -> Outcome
-    requires { ⌜ (length (now work) ≡ workSize) × (n ≤ 256) ⌝ }
+    requires { ⌜ RoomFor n (now work) ⌝ }
     ensures { λ r. ⌜ Structured n last (now (work .entry)) (now (work .exit)) r ⌝ }
 {
     match read_step(work, n, 0) {

@@ -5,6 +5,7 @@ use lib.Dec.{eqb, ltb}
 use lib.ListN.{getD, set}
 use Rattle.spec.specs.Choice.{if_then_else_}
 use Rattle.spec.specs.Reading.{Out, stop, on}
+use Rattle.spec.specs.Words.{preOfPart, preOfSecond}
 use Rattle.spec.specs.Verdict.{returned}
 use Rattle.spec.specs.declared.MapNumber.{MapNumber}
 use Rattle.spec.specs.declared.Answer.the-variants.{Refuse}
@@ -12,11 +13,7 @@ use Rattle.spec.specs.declared.Purpose.{Purpose}
 use Rattle.spec.specs.declared.Purpose.the-variants.{Check, Fill}
 use Rattle.spec.specs.declared.Word.{Word}
 use Rattle.spec.specs.declared.Word.the-variants.{Leaf, Unary, Binary}
-use Rattle.spec.specs.declared.UnaryWord.{UnaryWord}
-use Rattle.spec.specs.declared.UnaryWord.the-variants.{While, Join, Ref, Read, Lock, Unlock, Post, Wait, Rdlock, Rdunlock, Wrlock, Wrunlock}
-use Rattle.spec.specs.declared.BinaryWord.{BinaryWord}
-use Rattle.spec.specs.declared.BinaryWord.the-variants.{Let, If, Spawn, Write}
-use Rattle.workspace.specs.Layout.{wordsAt, valuesAt, endsAt, letsAt, rowTypesAt, postsAt, startsAt, presAt, ruleOf, wordOf, typeAt}
+use Rattle.workspace.specs.Layout.{wordsAt, valuesAt, endsAt, letsAt, linesAt, rowTypesAt, postsAt, startsAt, presAt, ruleOf, wordOf, typeAt}
 use Rattle.conditions.specs.Outcome.{both, firstFalseFrom}
 use Rattle.words.specs.Table.{ruleRow}
 use Rattle.words.specs.declared.View.{View}
@@ -27,9 +24,9 @@ cell w b i = getD w (b + i) 0
 
 -- what the conditions of step k look at: a first part stands just behind its step, a second part at the end of the first,
 -- the e1 of a let just behind the let
-unfoldable pub viewOf : (w : List ℕ) → (locations denominator k : ℕ) → View
+abbrev pub viewOf : (w : List ℕ) → (locations denominator k : ℕ) → View
 viewOf w locations denominator k = record {
-  line = k + 2;
+  line = cell w linesAt k;
   value = cell w valuesAt k;
   locations = locations;
   denominator = denominator;
@@ -48,7 +45,7 @@ viewOf w locations denominator k = record {
 unfoldable pub stepOutcome : (w : List ℕ) → (locations denominator k : ℕ) → Out (Unit {0})
 stepOutcome w locations denominator k =
     let s = viewOf w locations denominator k in
-    firstFalseFrom (k + 2) 1 (ruleRow (ruleOf (cell w wordsAt k)) w s (typeAt w (s .typed)) (typeAt w (s .type1)))
+    firstFalseFrom (s .line) 1 (ruleRow (ruleOf (cell w wordsAt k)) w s (typeAt w (s .typed)) (typeAt w (s .type1)))
 
 -- what an outcome says of types: a refusal on flow or access, 32 or 33, is none
 unfoldable pub onTypes : Out (Unit {0}) → Out (Unit {0})
@@ -68,32 +65,11 @@ atRoot w start = set w presAt (start .0)
 unfoldable pub putPre : (w : List ℕ) → (i : ℕ) → MapNumber → List ℕ
 putPre w i m = if ltb i 256 then set w (presAt + i) (m .0) else w
 
--- the maps before the parts of a step, as document 01's preOfPart and preOfSecond have them, by number
-unfoldable pub numberOfPart : UnaryWord → (pre post : MapNumber) → MapNumber
-numberOfPart While pre post = post
-numberOfPart Join pre post = pre
-numberOfPart Ref pre post = pre
-numberOfPart Read pre post = pre
-numberOfPart Lock pre post = pre
-numberOfPart Unlock pre post = pre
-numberOfPart Post pre post = pre
-numberOfPart Wait pre post = pre
-numberOfPart Rdlock pre post = pre
-numberOfPart Rdunlock pre post = pre
-numberOfPart Wrlock pre post = pre
-numberOfPart Wrunlock pre post = pre
-
-unfoldable pub numberOfSecond : BinaryWord → (pre post₁ start : MapNumber) → MapNumber
-numberOfSecond Let pre post₁ start = post₁
-numberOfSecond If pre post₁ start = pre
-numberOfSecond Spawn pre post₁ start = start
-numberOfSecond Write pre post₁ start = post₁
-
 unfoldable pub passWord : Word → (w : List ℕ) → (k : ℕ) → (pre post post₁ start : MapNumber) → (second : ℕ) → List ℕ
 passWord (Leaf l) w k pre post post₁ start second = w
-passWord (Unary u) w k pre post post₁ start second = putPre w (k + 1) (numberOfPart u pre post)
+passWord (Unary u) w k pre post post₁ start second = putPre w (k + 1) (preOfPart u pre post)
 passWord (Binary b) w k pre post post₁ start second =
-    putPre (putPre w (k + 1) pre) second (numberOfSecond b pre post₁ start)
+    putPre (putPre w (k + 1) pre) second (preOfSecond b pre post₁ start)
 
 -- the maps before the parts of step k
 unfoldable pub passOn : (w : List ℕ) → (k : ℕ) → List ℕ

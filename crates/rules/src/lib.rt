@@ -9,18 +9,18 @@ use spec::MapNumber;
 use spec::Purpose;
 use steps::check_steps;
 use workspace::Header;
+use workspace::LINES;
+use workspace::at;
 ghost use mathlib.Core.Path.{_≡_};
 ghost use Prim.Native.Nat.{_≤_};
 ghost use lib.ListN.{length};
+ghost use Rattle.workspace.specs.Layout.{workSize};
 ghost use Rattle.rules.specs.Contract.{Ruled};
-
-// The root's line.
-const ROOT_LINE: u32 = 2;
 
 // The first reason of 44 and 30 to 33 for the sheets that the work space holds, when filling of 44, 30 and 31. It notes the maps
 // before steps there, and changes nothing else.
 pub fn rule(work: &mut [u32], purpose: Purpose, steps: usize, header: Header) -> Ruling
-    requires { ⌜ (length (now work) ≡ 16384) × (steps ≤ 256) × (header .locations ≤ 16) × (header .types ≤ 64) ⌝ }
+    requires { ⌜ (length (now work) ≡ workSize) × (steps ≤ 256) × (header .locations ≤ 16) × (header .types ≤ 64) ⌝ }
     ensures { λ r. ⌜ Ruled (now (work .entry)) purpose steps header r (now (work .exit)) ⌝ }
 {
     let denominator = header.denominator;
@@ -31,7 +31,8 @@ pub fn rule(work: &mut [u32], purpose: Purpose, steps: usize, header: Header) ->
     let Ruling::Met = enough else {
         return enough;
     };
-    let first = check_start(ROOT_LINE, work, denominator, n, start);
+    let line = at(work, LINES);
+    let first = check_start(line, work, denominator, n, start);
     let Ruling::Met = first else {
         return first;
     };

@@ -7,12 +7,13 @@ use native.Mathlib.Omega.{arith}
 use lib.ListN.{length, getD, take, drop, length-map}
 use borrow.Author.Tests.{ne-eqb}
 use Rattle.spec.specs.Split.{Header, Row, Split}
+use Rattle.spec.specs.Conditions.{typeAt}
 use Rattle.spec.specs.declared.MapNumber.{MapNumber}
 use Rattle.spec.specs.declared.TypeLine.the-variants.{Int}
-use Rattle.workspace.specs.Layout.{rowTypesAt, postsAt, startsAt, kindsAt, firstsAt, secondsAt, mapsAt, stride, emptyMap, kindOf, firstOf, secondOf, typeAt}
+use Rattle.workspace.specs.Layout.{rowTypesAt, postsAt, startsAt, mapsAt, stride, emptyMap}
 use Rattle.workspace.specs.Holds.{startNumber}
 use Rattle.workspace.proofs.Region.{column, region-part}
-use Rattle.workspace.proofs.Codes.{type-of-numbers}
+use Rattle.workspace.proofs.Shown.{noRow, type-shown}
 use Rattle.workspace.specs.Sheets.{headerTold}
 use Rattle.workspace.specs.declared.Header.{Header as HeaderRead}
 use Rattle.sheets.specs.Stored.{inOrder, typeIn, mapIn, startIn, rowIn, splitIn}
@@ -36,20 +37,10 @@ unfolding startIn startNumber
 start-told none few = refl
 start-told (some m) few = rw (ne-eqb (m .0) emptyMap (λ e. omega (arith, few m refl)))
 
--- a row of nothing
-abbrev noRow : Row
-noRow = record { type = record { 0 = 0 }; post = record { 0 = 0 }; start = none }
-
 module _ {w : List ℕ} {header : HeaderRead} {steps : ℕ} {S : Split} (K : HoldsSheet w header steps S) where
   type-held : (t : ℕ) → t < length (S .types) → typeIn w t ≡ getD (S .types) t Int
   unfolding typeIn typeAt
-  type-held t h =
-      rw (
-        column w kindsAt kindOf (S .types) Int t (K .split .kinds) h,
-        column w firstsAt firstOf (S .types) Int t (K .split .firsts) h,
-        column w secondsAt secondOf (S .types) Int t (K .split .seconds) h,
-      )
-      (type-of-numbers _)
+  type-held t h = type-shown w S (K .program) (K .split) (K .inRange) (record { 0 = t }) h
 
   map-held : (m : ℕ) → m < length (S .maps) → mapIn (S .header .locations) w m ≡ getD (S .maps) m []
   unfolding mapIn

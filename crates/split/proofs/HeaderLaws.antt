@@ -1,5 +1,5 @@
 -- The header line, by its heading and the numerals behind it.
-use mathlib.Core.Path.{_≡_, refl, sym, ap, _∙_}
+use mathlib.Core.Path.{_≡_, refl, sym, ap, subst, _∙_}
 use mathlib.Core.List.{List, [], _∷_, _++_, map}
 use mathlib.Core.Bool.{Bool, true, false, and-false}
 use mathlib.Core.Option.{Option, none, some}
@@ -8,7 +8,7 @@ use native.Mathlib.Omega.{arith}
 use lib.Dec.{eqb, leb}
 use lib.ListN.{length, take, drop, getD, length-map}
 use lib.Seq.{length-take-le}
-use borrow.Author.Tests.{leb-true, leb-false, eqb-true, lt-leb}
+use borrow.Author.Tests.{leb-true, leb-false, lt-leb}
 use Rattle.spec.specs.Choice.{if_then_else_}
 use Rattle.spec.specs.Text.{bytes, same, Field, lookUp, lines}
 use Rattle.spec.specs.Reading.{splitSheet, stop, on, Seen, right, wrong, badForm, badRange, seen, _to_, inRange, allInRange, numerals, ranged, numbers, form, passed, nextLine, next}
@@ -22,20 +22,20 @@ use Rattle.spec.proofs.Clashes.{true-is-not-false}
 use Rattle.spec.proofs.Headings.{first-map-fits}
 use Rattle.spec.proofs.Ranges.{in-to}
 use Rattle.spec.proofs.Tests.{both-true}
-use Rattle.lexer.specs.Views.{endOf, firstField, withField, lineAt}
+use Rattle.lexer.specs.Views.{endOf, firstField}
 use Rattle.lexer.specs.Cursors.{Placed, rest, next as nextCursor, placeAt}
-use Rattle.lexer.specs.Numbers.{stored, withRest, numbersIn, counted, numbersAt}
+use Rattle.lexer.specs.Numbers.{stored, numbersAt}
 use Rattle.lexer.specs.declared.Cursor.{Cursor}
 use Rattle.lexer.specs.declared.FieldEnd.the-variants.{Comma}
-use Rattle.lexer.proofs.Lines.{next-open, next-closed}
-use Rattle.lexer.proofs.Stored.{stored-judged}
+use Rattle.lexer.proofs.Stored.{kept, cut, stored-judged}
+use Rattle.lexer.proofs.Ranges.{many, many-form, many-read, numbersFrom, one-by-one}
 use Rattle.lexer.proofs.Walks.{first-wrong, first-alone}
 use Rattle.lexer.proofs.Sheets.{next-at}
 use Rattle.workspace.specs.declared.Header.{Header as HeaderRead}
 use Rattle.split.specs.declared.first_line.FoundHeading.the-variants as found-heading
 use Rattle.workspace.specs.Sheets.{headerTold, Small}
 use Rattle.split.specs.Header.{headingFound, numeralsOf, headerFits}
-use Rattle.lines.proofs.LineLaws.{shows-form, shows-range, shows-entry, comma-line, comma-kept}
+use Rattle.lines.proofs.LineLaws.{shows-range, shows-entry, comma-line, comma-kept}
 
 -- ------------------------------------------------------------------ the heading
 
@@ -85,18 +85,6 @@ heading-unknown (some k) e = cc
 
 -- ------------------------------------------------------------------ the numerals behind it
 
-pub four-numerals : (h : Heading) → h ≡ C → 4 ≡ numeralsOf h
-unfolding numeralsOf headerRanges
-four-numerals h e = sym (rw e)
-
-pub five-numerals : (h : Heading) → h ≡ C2 → 5 ≡ numeralsOf h
-unfolding numeralsOf headerRanges
-five-numerals h e = sym (rw e)
-
-pub five-numerals-3 : (h : Heading) → h ≡ C3 → 5 ≡ numeralsOf h
-unfolding numeralsOf headerRanges
-five-numerals-3 h e = sym (rw e)
-
 pub few-numerals : (h : Heading) → numeralsOf h ≤ 5
 unfolding numeralsOf headerRanges
 few-numerals C = omega arith
@@ -110,27 +98,10 @@ data NumbersOf : Heading → List ℕ → Type 0 where
   five-3 : (d l t m r : ℕ) → NumbersOf C3 (d ∷ l ∷ t ∷ m ∷ r ∷ [])
 
 numbers-of : (h : Heading) (ns : List ℕ) → length ns ≡ numeralsOf h → NumbersOf h ns
-unfolding numeralsOf headerRanges
-numbers-of C [] e = absurd (omega arith)
-numbers-of C (d ∷ []) e = absurd (omega arith)
-numbers-of C (d ∷ l ∷ []) e = absurd (omega arith)
-numbers-of C (d ∷ l ∷ t ∷ []) e = absurd (omega arith)
-numbers-of C (d ∷ l ∷ t ∷ m ∷ []) e = four d l t m
-numbers-of C (d ∷ l ∷ t ∷ m ∷ r ∷ ns) e = absurd (omega arith)
-numbers-of C2 [] e = absurd (omega arith)
-numbers-of C2 (d ∷ []) e = absurd (omega arith)
-numbers-of C2 (d ∷ l ∷ []) e = absurd (omega arith)
-numbers-of C2 (d ∷ l ∷ t ∷ []) e = absurd (omega arith)
-numbers-of C2 (d ∷ l ∷ t ∷ m ∷ []) e = absurd (omega arith)
-numbers-of C2 (d ∷ l ∷ t ∷ m ∷ r ∷ []) e = five d l t m r
-numbers-of C2 (d ∷ l ∷ t ∷ m ∷ r ∷ s ∷ ns) e = absurd (omega arith)
-numbers-of C3 [] e = absurd (omega arith)
-numbers-of C3 (d ∷ []) e = absurd (omega arith)
-numbers-of C3 (d ∷ l ∷ []) e = absurd (omega arith)
-numbers-of C3 (d ∷ l ∷ t ∷ []) e = absurd (omega arith)
-numbers-of C3 (d ∷ l ∷ t ∷ m ∷ []) e = absurd (omega arith)
-numbers-of C3 (d ∷ l ∷ t ∷ m ∷ r ∷ []) e = five-3 d l t m r
-numbers-of C3 (d ∷ l ∷ t ∷ m ∷ r ∷ s ∷ ns) e = absurd (omega arith)
+unfolding numeralsOf headerRanges numbersFrom
+numbers-of C ns e = subst (NumbersOf C) (sym (one-by-one 4 ns e)) (four _ _ _ _)
+numbers-of C2 ns e = subst (NumbersOf C2) (sym (one-by-one 5 ns e)) (five _ _ _ _ _)
+numbers-of C3 ns e = subst (NumbersOf C3) (sym (one-by-one 5 ns e)) (five-3 _ _ _ _ _)
 
 -- the five places that they are read into
 abbrev places : List ℕ
@@ -187,14 +158,6 @@ fits-told (five-3 d l t m r) = refl
 
 -- ------------------------------------------------------------------ the numbers, as they are stored
 
-kept : (n : ℕ) → leb n 4294967295 ≡ true → stored n ≡ n
-unfolding stored
-kept n e = simp e
-
-cut : (n : ℕ) → leb n 4294967295 ≡ false → stored n ≡ 4294967295
-unfolding stored
-cut n e = simp e
-
 -- what the numbers behind a heading come to
 unfoldable judged : Heading → List ℕ → Seen (List ℕ)
 judged h ns = if allInRange (headerRanges h (mapsOf ns)) ns then right ns else wrong badRange
@@ -225,47 +188,8 @@ judged-stored (four d l t m) =
 judged-stored (five d l t m r) = named-judged d l t m r
 judged-stored (five-3 d l t m r) = unfold judged in named-judged d l t m r
 
--- ------------------------------------------------------------------ so many numerals, against the ranges of a heading
-
-as-many : (h : Heading) (m : ℕ) → length (headerRanges h m) ≡ numeralsOf h
-unfolding numeralsOf headerRanges
-as-many C m = refl
-as-many C2 m = refl
-as-many C3 m = refl
-
-module _ (h : Heading) (r : List ℕ) where
-  ranged-many : (ms : List ℕ) → ranged (headerRanges h (mapsOf ms)) (some ms) ≡ (if eqb (length ms) (numeralsOf h) then judged h ms else wrong badForm)
-  unfolding ranged judged
-  ranged-many ms = ap (λ (n : ℕ). if eqb (length ms) n then judged h ms else wrong badForm) (as-many h (mapsOf ms))
-
-  ranged-none : (o : Option (List ℕ)) → counted (numeralsOf h) (withRest o r) ≡ none → ranged (headerRanges h (mapsIn o)) o ≡ wrong badForm
-  unfolding counted withRest ranged mapsIn
-  ranged-none none e = refl
-  ranged-none (some ms) e = ranged-many ms ∙ go (eqb (length ms) (numeralsOf h)) (rw (length-map ms stored) at e)
-    where
-      go : (x : Bool) → if_then_else_ {A = Option (List ℕ × List ℕ)} x (some (map stored ms, r)) none ≡ none
-          → (if x then judged h ms else wrong badForm) ≡ wrong badForm
-      go true e = cc
-      go false e = refl
-
-  ranged-some : (o : Option (List ℕ)) (ns r′ : List ℕ) → counted (numeralsOf h) (withRest o r) ≡ some (ns, r′)
-      → (ranged (headerRanges h (mapsIn o)) o ≡ judged h ns) × (length ns ≡ numeralsOf h) × (r ≡ r′)
-  unfolding counted withRest mapsIn
-  ranged-some none ns r′ e = let z : _≡_ {A = ℕ} 0 1 = cc in absurd (omega arith)
-  ranged-some (some ms) ns r′ e =
-      let found = go (eqb (length ms) (numeralsOf h)) refl (rw (length-map ms stored) at e) in
-      (ranged-many ms ∙ found .0, found .1, found .2)
-    where
-      go : (x : Bool) → eqb (length ms) (numeralsOf h) ≡ x → if_then_else_ {A = Option (List ℕ × List ℕ)} x (some (map stored ms, r)) none ≡ some (ns, r′)
-          → ((if x then judged h ms else wrong badForm) ≡ judged h ns) × (length ns ≡ numeralsOf h) × (r ≡ r′)
-      go true q e =
-          let p : _≡_ {A = List ℕ × List ℕ} (map stored ms, r) (ns, r′) = cc in
-          let l = eqb-true (length ms) (numeralsOf h) q in (
-            judged-stored (numbers-of h ms l) ∙ ap (λ (q : List ℕ × List ℕ). judged h (q .0)) p,
-            sym (ap (λ (q : List ℕ × List ℕ). length (q .0)) p) ∙ length-map ms stored ∙ l,
-            ap (λ (q : List ℕ × List ℕ). q .1) p,
-          )
-      go false q e = let z : _≡_ {A = ℕ} 0 1 = cc in absurd (omega arith)
+header-by-stored : (h : Heading) (ms : List ℕ) → length ms ≡ numeralsOf h → seen (headerOf h) (judged h ms) ≡ seen (headerOf h) (judged h (map stored ms))
+header-by-stored h ms l = ap (seen (headerOf h)) (judged-stored (numbers-of h ms l))
 
 -- ------------------------------------------------------------------ the line
 
@@ -276,30 +200,26 @@ header-alone (some C) = refl
 header-alone (some C2) = refl
 header-alone (some C3) = refl
 
-module _ (purpose : Purpose) (f : Field) (h : Heading) (known : lookUp (headings purpose) f ≡ some h) (k : ℕ) (t : List ℕ) where
-  shows : (fs : List Field) → headerLine purpose (f ∷ fs) ≡ seen (headerOf h) (ranged (headerRanges h (mapsIn (numerals fs))) (numerals fs))
-  unfolding headerLine headed numbers
-  shows fs = rw known
+as-many : (h : Heading) (m : ℕ) → length (headerRanges h m) ≡ numeralsOf h
+unfolding numeralsOf headerRanges
+as-many C m = refl
+as-many C2 m = refl
+as-many C3 m = refl
 
-  line-form : (o : Option (List Field × List ℕ)) → lineAt t ≡ withField f o → counted (numeralsOf h) (numbersIn o) ≡ none → 0 < length t
-      → nextLine splitSheet (headerLine purpose) k (lines t) ≡ stop (SplitForm (k + 1))
-  unfolding withField numbersIn form seen
-  line-form none e n l = next-open splitSheet (headerLine purpose) k t l e
-  line-form (some line) e n l =
-      next-closed splitSheet (headerLine purpose) k t (f ∷ line .0) (line .1) e
-      ∙ shows-form (k + 1) (lines (line .1)) (shows (line .0) ∙ ap (seen (headerOf h)) (ranged-none h (line .1) (numerals (line .0)) n))
+-- the fields behind a heading show what their numerals come to
+heading-shows : (h : Heading) (fs : List Field) → headed (some h) fs ≡ many (numeralsOf h) (λ ns. seen (headerOf h) (judged h ns)) (wrong badForm) (numerals fs)
+unfolding headed numbers ranged mapsIn many judged
+heading-shows h fs = go (numerals fs)
+  where
+    counts : (x : Bool) (ns : List ℕ) → seen (headerOf h) (if x then judged h ns else wrong badForm) ≡ (if x then seen (headerOf h) (judged h ns) else wrong badForm)
+    counts true ns = refl
+    counts false ns = unfold seen in refl
 
-  line-read : (o : Option (List Field × List ℕ)) → lineAt t ≡ withField f o → (ns r : List ℕ) → counted (numeralsOf h) (numbersIn o) ≡ some (ns, r)
-      → (nextLine splitSheet (headerLine purpose) k (lines t) ≡ passed splitSheet (k + 1) (lines r) (seen (headerOf h) (judged h ns))) × (length ns ≡ numeralsOf h)
-  unfolding withField numbersIn counted
-  line-read none e ns r n = let z : _≡_ {A = ℕ} 0 1 = cc in absurd (omega arith)
-  line-read (some line) e ns r n =
-      let found = ranged-some h (line .1) (numerals (line .0)) ns r n in (
-        next-closed splitSheet (headerLine purpose) k t (f ∷ line .0) (line .1) e
-            ∙ ap (passed splitSheet (k + 1) (lines (line .1))) (shows (line .0) ∙ ap (seen (headerOf h)) (found .0))
-            ∙ ap (λ (x : List ℕ). passed splitSheet (k + 1) (lines x) (seen (headerOf h) (judged h ns))) (found .2),
-        found .1,
-      )
+    go : (o : Option (List ℕ)) → seen (headerOf h) (ranged (headerRanges h (mapsIn o)) o) ≡ many (numeralsOf h) (λ ns. seen (headerOf h) (judged h ns)) (wrong badForm) o
+    go none = unfold seen in refl
+    go (some ns) =
+        ap (λ (n : ℕ). seen (headerOf h) (if eqb (length ns) n then judged h ns else wrong badForm)) (as-many h (mapsOf ns))
+        ∙ counts (eqb (length ns) (numeralsOf h)) ns
 
 module _ (purpose : Purpose) (text : List ℕ) (c : Cursor) (some-left : 0 < length (rest text c)) where
   -- no comma behind the first field
@@ -320,11 +240,15 @@ module _ (purpose : Purpose) (text : List ℕ) (c : Cursor) (some-left : 0 < len
       (p : Placed text c) (comma : endOf (rest text c) ≡ Comma) (d : Cursor) (is : nextCursor text c ≡ d)
       (h : Heading) (known : lookUp (headings purpose) (firstField (rest text c)) ≡ some h)
     where
+      shows : (fs : List Field) → headerLine purpose (firstField (rest text c) ∷ fs) ≡ many (numeralsOf h) (λ ns. seen (headerOf h) (judged h ns)) (wrong badForm) (numerals fs)
+      unfolding headerLine
+      shows fs = ap (λ (o : Option Heading). headed o fs) known ∙ heading-shows h fs
+
       pub header-form : numbersAt text d (numeralsOf h) ≡ none → next splitSheet (headerLine purpose) (placeAt text c) ≡ stop (SplitForm (c .line + 1))
-      unfolding numbersAt
+      unfolding form
       header-form n =
           next-at splitSheet text (headerLine purpose) c
-          ∙ line-form purpose (firstField (rest text c)) h known (c .line) (rest text c) (lineAt (rest text d)) (comma-line text c d p comma is) n some-left
+          ∙ many-form splitSheet (headerLine purpose) (c .line) (numeralsOf h) (λ ns. seen (headerOf h) (judged h ns)) (wrong badForm) text c (firstField (rest text c)) d (comma-line text c d p comma is) shows refl some-left n
 
       module _
           (ns : List ℕ) (e : Cursor) (found : numbersAt text d (numeralsOf h) ≡ some (ns, rest text e))
@@ -332,8 +256,9 @@ module _ (purpose : Purpose) (text : List ℕ) (c : Cursor) (some-left : 0 < len
         where
           reads : (nextLine splitSheet (headerLine purpose) (c .line) (lines (rest text c)) ≡ passed splitSheet (c .line + 1) (lines (rest text e)) (seen (headerOf h) (judged h ns)))
               × (length ns ≡ numeralsOf h)
-          unfolding numbersAt
-          reads = line-read purpose (firstField (rest text c)) h known (c .line) (rest text c) (lineAt (rest text d)) (comma-line text c d p comma is) ns (rest text e) found
+          reads =
+              many-read splitSheet (headerLine purpose) (c .line) (numeralsOf h) (λ ns. seen (headerOf h) (judged h ns)) (wrong badForm) text c (firstField (rest text c)) d (comma-line text c d p comma is) shows
+              (λ ms l. header-by-stored h ms l) ns (rest text e) found
 
           fits : allInRange (headerRanges h (mapsOf ns)) ns ≡ headerFits (headerTold H)
           fits = fits-told (numbers-of h ns (reads .1)) ∙ ap headerFits told

@@ -6,7 +6,7 @@ use native.Mathlib.Omega.{arith}
 use lib.Dec.{leb, ltb}
 use lib.ListN.{length}
 use borrow.Author.Tests.{le-leb, lt-ltb}
-use Rattle.spec.specs.Expression.{Step, Expr, leaf, unary, binary}
+use Rattle.spec.specs.Expression.{Step, Expr, leaf, unary, binary, Position}
 use Rattle.spec.specs.Split.{Map, Split}
 use Rattle.spec.specs.Maps.{_=ᵐ_, _≥ᵐ_, _+ᵐ_, _×ᵐ_, share}
 use Rattle.spec.specs.Conditions.{Env, typeAt, mapAt, typeIn, mayShow, contains, row, type, kind, post, start, K, inMap, outMap, readMap, writeMap, place, load, inLoad, outLoad, readLoad, writeLoad, own}
@@ -55,7 +55,7 @@ Bound S Newrwlock s Γ v = s .value ≡ v
 
 module _ (w : List ℕ) (S : Split) (steps : List Step) (H : HoldsSplit w S) (R : InRange steps S)
     (s : View) (located : s .locations ≡ S .header .locations) (divided : s .denominator ≡ S .header .denominator)
-    (Γ : Env) (pre : Map) (pre-stands : Stands w S (s .pre) pre) (l v : ℕ) where
+    (Γ : Env) (pre : Map) (pre-stands : Stands w S (s .pre) pre) (l : Position) (v : ℕ) where
   -- ---------------------------------------------------------------- types and maps that the view shows
 
   typed-as : {t : TypeNumber} {m : MapNumber} (e : Expr) → Part w S t m e → layout.typeAt w t ≡ kind S e

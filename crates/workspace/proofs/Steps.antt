@@ -9,7 +9,7 @@ use lib.ListN.{length, drop, set, length-set, length-append, length-map}
 use Rattle.spec.specs.Expression.{Step}
 use Rattle.workspace.specs.Layout.{workSize, wordsAt, valuesAt, endsAt, linesAt, rowTypesAt, codeOf}
 use Rattle.workspace.specs.Region.{Region, ChangedWithin}
-use Rattle.workspace.specs.Steps.{wordAt, valueAt, lineAt, stepsFrom}
+use Rattle.workspace.specs.Steps.{wordAt, valueAt, stepLineAt, stepsFrom}
 use Rattle.workspace.specs.Holds.{HoldsSteps}
 use Rattle.workspace.proofs.Codes.{word-of-code}
 use Rattle.workspace.proofs.Region.{column-push, region-apart, region-moved, region-first, region-behind}
@@ -42,7 +42,7 @@ module _ {a b : ℕ} where
 
 -- the steps stay where only such a part changes
 pub steps-kept-beside : {a b : ℕ} {w w′ : List ℕ} → ChangedWithin a b w w′ → NoStep a b → (k n : ℕ) → k + n ≤ 256 → stepsFrom w′ k n ≡ stepsFrom w k n
-unfolding stepsFrom wordAt valueAt lineAt
+unfolding stepsFrom wordAt valueAt stepLineAt
 steps-kept-beside c o k zero l = refl
 steps-kept-beside {a} {b} c o k (suc n) l =
     rw (
@@ -60,7 +60,7 @@ steps-kept c h = steps-kept-beside c (inr h)
 held-from : (w : List ℕ) (k : ℕ) (steps : List Step) → Region w (wordsAt + k) (map (λ (s : Step). codeOf (s .word)) steps)
     → Region w (valuesAt + k) (map (λ (s : Step). s .value) steps) → Region w (linesAt + k) (map (λ (s : Step). s .line) steps)
     → stepsFrom w k (length steps) ≡ steps
-unfolding stepsFrom wordAt valueAt lineAt
+unfolding stepsFrom wordAt valueAt stepLineAt
 held-from w k [] r q p = refl
 held-from w k (s ∷ steps) r q p =
     rw (region-first r, region-first q, region-first p, word-of-code (s .word))

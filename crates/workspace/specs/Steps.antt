@@ -13,12 +13,12 @@ wordAt w k = wordOf (getD w (wordsAt + k) 0)
 unfoldable pub valueAt : List ℕ → (k : ℕ) → ℕ
 valueAt w k = getD w (valuesAt + k) 0
 
-unfoldable pub lineAt : List ℕ → (k : ℕ) → ℕ
-lineAt w k = getD w (linesAt + k) 0
+unfoldable pub stepLineAt : List ℕ → (k : ℕ) → ℕ
+stepLineAt w k = getD w (linesAt + k) 0
 
 -- the step at index k
 abbrev pub stepAt : List ℕ → (k : ℕ) → Step
-stepAt w k = record { word = wordAt w k; value = valueAt w k; line = lineAt w k }
+stepAt w k = record { word = wordAt w k; value = valueAt w k; line = stepLineAt w k }
 
 -- n steps from index k on
 unfoldable pub stepsFrom : List ℕ → (k n : ℕ) → List Step

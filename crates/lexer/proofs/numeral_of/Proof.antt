@@ -26,18 +26,12 @@ returns-2 : tie.Need-returns-2 Inv-loop μ-loop
 unfolding numeralOf digitLimit
 returns-2 c = sym (ap numeralOf (not-long _ (search needs)))
 
-leading-zero-requires : tie.Need-leading-zero-requires Inv-loop μ-loop
-leading-zero-requires c κs = search needs
-
 returns-3 : tie.Need-returns-3 Inv-loop μ-loop
 unfolding numeralOf
 returns-3 c = sym (ap numeralOf (not-leading _ (sym (c .before .leading-zero .ensures) ∙ c .if3 .taken)))
 
 loop-holds : tie.Need-loop-holds Inv-loop μ-loop
 loop-holds c = (search needs, omega arith, refl, refl)
-
-shared-slice-read-b : tie.Need-shared-slice-read-b Inv-loop μ-loop
-shared-slice-read-b c = search needs
 
 returns-4 : tie.Need-returns-4 Inv-loop μ-loop
 unfolding numeralOf
@@ -73,12 +67,6 @@ add-value c =
     let small = ten-limit (at .loop .i) (at .loop .value) (at .loop .inv .1) (omega arith) in
     omega arith
 
-add-i : tie.Need-add-i Inv-loop μ-loop
-add-i c = search needs
-
-loop-less : tie.Need-loop-less Inv-loop μ-loop
-loop-less c = search needs
-
 loop-again : tie.Need-loop-again Inv-loop μ-loop
 loop-again c =
     let at = c .before .before .before .before in
@@ -109,17 +97,17 @@ numeral-of-spec =
     μ-loop
     returns
     returns-2
-    leading-zero-requires
+    (λ c κs. search needs)
     returns-3
     loop-holds
-    shared-slice-read-b
+    (λ c. search needs)
     returns-4
     returns-5
     mul-value
     cast-value
     sub-value
     add-value
-    add-i
-    loop-less
+    (λ c. search needs)
+    (λ c. search needs)
     loop-again
     returns-6)

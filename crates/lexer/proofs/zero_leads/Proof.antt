@@ -1,5 +1,4 @@
 -- Both tests are asked in the order of the definition.
-use mathlib.Core.Path.{sym}
 use borrow.Author.Tests.{eq-eqb, ne-eqb}
 use Rattle.lexer.specs.Numbers.{zeroLeads}
 use Rattle.lexer.proofs.zero_leads.Statement.{statement}

@@ -11,7 +11,7 @@ returns c =
     let at-enum-told = c .before .before .before .before in
     let at-structure = at-enum-told .before .before .before .before in
     let at-pre = at-structure .before .before .before in
-    expression-scoped _ _ _ _ (at-pre .pre .1) (at-pre .pre .2) (subst (Structured _ _ _ _) (at-enum-told .enum-told .given .1) (at-structure .structure .ensures)) _ _ (c .before .before .scopes .ensures)
+    expression-scoped _ _ _ _ (at-pre .pre .0 .few) (at-pre .pre .1) (subst (Structured _ _ _ _) (at-enum-told .enum-told .given .1) (at-structure .structure .ensures)) _ _ (c .before .before .scopes .ensures)
 
 returns-2 : tie.Need-returns-2
 returns-2 c = expression-refused _ _ _ _ _ (subst (Structured _ _ _ _) (c .before .refusal .given .1) (c .before .before .before .before .before .structure .ensures))

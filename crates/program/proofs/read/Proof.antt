@@ -12,7 +12,7 @@ read-steps-requires c κs =
     let at-n = c .before .before .before in
     let at-count-line = at-n .before .before in
     let at-pre = at-count-line .before .before .before in
-    let s = subst (CountShown _) (at-n .n .given .1) (at-count-line .count-line .ensures) in (at-pre .pre .0, omega (arith, s .1, c .index .ensures .0), s .2)
+    let s = subst (CountShown _) (at-n .n .given .1) (at-count-line .count-line .ensures) in (record { long = at-pre .pre .0; few = omega (arith, s .1, c .index .ensures .0) }, s .2)
 
 returns : tie.Need-returns
 returns c = sheet-refused _ _ _ _ (subst (CountShown _) (c .before .refusal .given .1) (c .before .before .before .count-line .ensures)) refl

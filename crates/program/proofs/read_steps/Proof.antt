@@ -29,7 +29,7 @@ expression-requires c κs =
     let at-step-lines = at-behind .before .before .before .before in
     let at-pre = at-step-lines .before .before .before .before in
     let s = subst (StepsShown _ _ _ _ _) (at-behind .behind .given .1) (at-step-lines .step-lines .ensures) in
-    (s .changed .long ∙ at-pre .pre .0, at-pre .pre .1, s .found .stored)
+    (record { long = s .changed .long ∙ at-pre .pre .0 .long; few = at-pre .pre .0 .few }, s .found .stored)
 
 returns-2 : tie.Need-returns-2
 returns-2 c = steps-refused _ _ _ _ _ _ (subst (StepsShown _ _ _ _ _) (c .before .refusal .given .1) (c .before .before .before .before .before .step-lines .ensures))
@@ -42,7 +42,7 @@ returns-3 c =
     let at-behind = at-at-end .before .before in
     let at-step-lines = at-behind .before .before .before .before in
     let at-pre = at-step-lines .before .before .before .before in
-    steps-read _ _ _ _ _ _ (subst (StepsShown _ _ _ _ _) (at-behind .behind .given .1) (at-step-lines .step-lines .ensures)) (at-pre .pre .1)
+    steps-read _ _ _ _ _ _ (subst (StepsShown _ _ _ _ _) (at-behind .behind .given .1) (at-step-lines .step-lines .ensures)) (at-pre .pre .0 .few)
     (sym (at-at-end .at-end .ensures) ∙ not-false _ (at-if1 .if1 .left))
     _
     _
@@ -57,7 +57,7 @@ returns-4 c =
     let at-behind = at-at-end .before .before in
     let at-step-lines = at-behind .before .before .before .before in
     let at-pre = at-step-lines .before .before .before .before in
-    steps-unscoped _ _ _ _ _ _ (subst (StepsShown _ _ _ _ _) (at-behind .behind .given .1) (at-step-lines .step-lines .ensures)) (at-pre .pre .1)
+    steps-unscoped _ _ _ _ _ _ (subst (StepsShown _ _ _ _ _) (at-behind .behind .given .1) (at-step-lines .step-lines .ensures)) (at-pre .pre .0 .few)
     (sym (at-at-end .at-end .ensures) ∙ not-false _ (at-if1 .if1 .left))
     _
     _

@@ -25,30 +25,12 @@ fill-column-requires c κs =
     let (_, Z) = turn .before .loop .inv in
     record { locations = _; given = given-still (Z .behind) (turn .before .before .before .pre); within = turn .loop-test .taken }
 
-enum-told : tie.Need-enum-told Inv-loop μ-loop
-enum-told c = search needs
-
-same-length : tie.Need-same-length Inv-loop μ-loop
-same-length c = search needs
-
 returns : tie.Need-returns Inv-loop μ-loop
 returns c =
     let at-column = c .before .before .before .before in
     let turn = at-column .before .before in
     let (_, Z) = turn .before .loop .inv in
     filled-nothing _ _ _ _ _ _ _ _ _ Z (turn .loop-test .taken) (rw (c .enum-told .given .1) at (at-column .fill-column .ensures))
-
-enum-told-2 : tie.Need-enum-told-2 Inv-loop μ-loop
-enum-told-2 c = search needs
-
-enum-told-3 : tie.Need-enum-told-3 Inv-loop μ-loop
-enum-told-3 c = search needs
-
-add-l : tie.Need-add-l Inv-loop μ-loop
-add-l c = search needs
-
-loop-less : tie.Need-loop-less Inv-loop μ-loop
-loop-less c = search needs
 
 loop-again : tie.Need-loop-again Inv-loop μ-loop
 loop-again c =
@@ -63,9 +45,6 @@ loop-again c =
           (c .match .came),
     )
 
-same-length-2 : tie.Need-same-length-2 Inv-loop μ-loop
-same-length-2 c = search needs
-
 returns-2 : tie.Need-returns-2 Inv-loop μ-loop
 returns-2 c =
     let (at-most, Z) = c .before .before .loop .inv in
@@ -76,9 +55,6 @@ show-maps-requires c κs =
     let (at-most, Z) = c .before .before .before .loop .inv in
     let G = c .before .before .before .before .before .pre in
     (Z .behind .long ∙ G .long, given-few G, G .few)
-
-same-length-3 : tie.Need-same-length-3 Inv-loop μ-loop
-same-length-3 c = search needs
 
 returns-3 : tie.Need-returns-3 Inv-loop μ-loop
 returns-3 c =
@@ -97,16 +73,16 @@ fill-maps-spec =
     μ-loop
     loop-holds
     fill-column-requires
-    enum-told
-    same-length
+    (λ c. search needs)
+    (λ c. search needs)
     returns
-    enum-told-2
-    enum-told-3
-    add-l
-    loop-less
+    (λ c. search needs)
+    (λ c. search needs)
+    (λ c. search needs)
+    (λ c. search needs)
     loop-again
-    same-length-2
+    (λ c. search needs)
     returns-2
     show-maps-requires
-    same-length-3
+    (λ c. search needs)
     returns-3)

@@ -22,12 +22,6 @@ abbrev μ-loop : tie.MeasureT-loop
 loop-holds : tie.Need-loop-holds Inv-loop μ-loop
 loop-holds c = (omega arith, search needs, refl, refl)
 
-shared-slice-read-b : tie.Need-shared-slice-read-b Inv-loop μ-loop
-shared-slice-read-b c = search needs
-
-add-at : tie.Need-add-at Inv-loop μ-loop
-add-at c = search needs
-
 returns : tie.Need-returns Inv-loop μ-loop
 unfolding rest past spanTo
 returns c =
@@ -37,12 +31,6 @@ returns c =
     let w = comma-width text to (omega arith) (c .if1 .taken) in
     span-is text _ Comma to (here .loop .inv .3 ∙ comma-end text to (omega arith) (c .if1 .taken)) (omega arith)
 
-add-at-2 : tie.Need-add-at-2 Inv-loop μ-loop
-add-at-2 c = search needs
-
-add-line : tie.Need-add-line Inv-loop μ-loop
-add-line c = search needs
-
 returns-2 : tie.Need-returns-2 Inv-loop μ-loop
 unfolding rest past spanTo
 returns-2 c =
@@ -51,12 +39,6 @@ returns-2 c =
     let to = here .loop .to in
     let w = newline-width text to (omega arith) (c .before .if1 .left) (c .if2 .taken) in
     span-is text _ Newline to (here .loop .inv .3 ∙ newline-end text to (omega arith) (c .before .if1 .left) (c .if2 .taken)) (omega arith)
-
-add-to : tie.Need-add-to Inv-loop μ-loop
-add-to c = search needs
-
-loop-less : tie.Need-loop-less Inv-loop μ-loop
-loop-less c = search needs
 
 loop-again : tie.Need-loop-again Inv-loop μ-loop
 loop-again c =
@@ -82,13 +64,13 @@ field-spec =
     Inv-loop
     μ-loop
     loop-holds
-    shared-slice-read-b
-    add-at
+    (λ c. search needs)
+    (λ c. search needs)
     returns
-    add-at-2
-    add-line
+    (λ c. search needs)
+    (λ c. search needs)
     returns-2
-    add-to
-    loop-less
+    (λ c. search needs)
+    (λ c. search needs)
     loop-again
     returns-3)

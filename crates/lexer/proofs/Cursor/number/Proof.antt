@@ -1,6 +1,5 @@
 -- The digits at the cursor are all of a field where the byte behind them ends one.
 use mathlib.Core.Path.{sym, _∙_}
-use native.Mathlib.Omega.{arith}
 use borrow.Author.Needs.{needs}
 use Rattle.lexer.specs.Cursors.{past}
 use Rattle.lexer.specs.declared.FieldEnd.the-variants.{Comma, Newline, Text}

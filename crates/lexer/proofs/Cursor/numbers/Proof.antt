@@ -29,38 +29,11 @@ loop-holds c = (omega arith, refl, c .before .before .pre, refl, sym (ahead-none
 number-requires : tie.Need-number-requires Inv-loop μ-loop
 number-requires c κs = c .before .loop .inv .2
 
-enum-known-found : tie.Need-enum-known-found Inv-loop μ-loop
-enum-known-found c = search needs
-
-enum-told : tie.Need-enum-told Inv-loop μ-loop
-enum-told c = search needs
-
-same-length : tie.Need-same-length Inv-loop μ-loop
-same-length c = search needs
-
 returns : tie.Need-returns Inv-loop μ-loop
 returns c =
     let here = c .before .before .before .before in
     let h = sym (c .before .before .number .ensures) ∙ c .enum-told .given .1 in
     refused _ _ _ _ (stop-malformed _ _ _ _ (here .loop .inv .4) _ h) (here .loop .inv .1)
-
-narrow-requires : tie.Need-narrow-requires Inv-loop μ-loop
-narrow-requires c κs = search needs
-
-mul-into : tie.Need-mul-into Inv-loop μ-loop
-mul-into c = search needs
-
-slice-write-into : tie.Need-slice-write-into Inv-loop μ-loop
-slice-write-into c = search needs
-
-add-i : tie.Need-add-i Inv-loop μ-loop
-add-i c = search needs
-
-enum-told-2 : tie.Need-enum-told-2 Inv-loop μ-loop
-enum-told-2 c = search needs
-
-loop-less : tie.Need-loop-less Inv-loop μ-loop
-loop-less c = search needs
 
 loop-again : tie.Need-loop-again Inv-loop μ-loop
 loop-again c =
@@ -81,12 +54,6 @@ loop-again c =
       rw (so-far, narrow .ensures) (after-comma _ _ _ _ (here .loop .inv .4) _ _ _ h (here .loop .inv .2) comma),
     )
 
-enum-told-3 : tie.Need-enum-told-3 Inv-loop μ-loop
-enum-told-3 c = search needs
-
-same-length-2 : tie.Need-same-length-2 Inv-loop μ-loop
-same-length-2 c = search needs
-
 returns-2 : tie.Need-returns-2 Inv-loop μ-loop
 returns-2 c =
     let narrow = c .before .before .before .narrow in
@@ -103,9 +70,6 @@ returns-2 c =
     accepted _ _ _ _ _ _ _ (all-counted _ _ _ _ _ found (l ∙ here .loop .inv .1)) w
     (stands _ _ _ (number-placed _ _ _ _ _ h (here .loop .inv .2)) (number-line-passed _ _ _ _ _ h newline ∙ ap (λ (x : ℕ). x + 1) (here .loop .inv .3)))
 
-same-length-3 : tie.Need-same-length-3 Inv-loop μ-loop
-same-length-3 c = search needs
-
 returns-3 : tie.Need-returns-3 Inv-loop μ-loop
 returns-3 c =
     let narrow = c .before .before .before .narrow in
@@ -119,12 +83,6 @@ returns-3 c =
     let m = length-take-le i into (omega arith) in
     refused _ _ _ _ (few-counted _ _ _ _ _ found (λ e. c .if1 .left (omega arith))) (length-set into i (narrow .result) ∙ here .loop .inv .1)
 
-enum-told-4 : tie.Need-enum-told-4 Inv-loop μ-loop
-enum-told-4 c = search needs
-
-same-length-4 : tie.Need-same-length-4 Inv-loop μ-loop
-same-length-4 c = search needs
-
 returns-4 : tie.Need-returns-4 Inv-loop μ-loop
 returns-4 c =
     let narrow = c .before .before .narrow in
@@ -133,9 +91,6 @@ returns-4 c =
     let h = sym (k .before .before .before .number .ensures) ∙ k .before .found .given .1 in
     refused _ _ _ _ (stop-text _ _ _ _ (here .loop .inv .4) _ _ _ h _ (c .enum-told4 .given .1))
     (length-set (here .loop .into) (here .loop .i) (narrow .result) ∙ here .loop .inv .1)
-
-same-length-5 : tie.Need-same-length-5 Inv-loop μ-loop
-same-length-5 c = search needs
 
 returns-5 : tie.Need-returns-5 Inv-loop μ-loop
 returns-5 c =
@@ -151,24 +106,24 @@ numbers-spec =
     μ-loop
     loop-holds
     number-requires
-    enum-known-found
-    enum-told
-    same-length
+    (λ c. search needs)
+    (λ c. search needs)
+    (λ c. search needs)
     returns
-    narrow-requires
-    mul-into
-    slice-write-into
-    add-i
-    enum-told-2
-    loop-less
+    (λ c κs. search needs)
+    (λ c. search needs)
+    (λ c. search needs)
+    (λ c. search needs)
+    (λ c. search needs)
+    (λ c. search needs)
     loop-again
-    enum-told-3
-    same-length-2
+    (λ c. search needs)
+    (λ c. search needs)
     returns-2
-    same-length-3
+    (λ c. search needs)
     returns-3
-    enum-told-4
-    same-length-4
+    (λ c. search needs)
+    (λ c. search needs)
     returns-4
-    same-length-5
+    (λ c. search needs)
     returns-5)

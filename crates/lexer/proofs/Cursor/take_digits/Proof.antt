@@ -15,23 +15,11 @@ Inv-loop text from left stop to₀ value₀ to value = (from ≤ to) × (to ≤ 
 abbrev μ-loop : tie.MeasureT-loop
 μ-loop text from left stop to₀ value₀ to value = stop - to
 
-sub-left : tie.Need-sub-left Inv-loop μ-loop
-sub-left c = search needs
-
-lower-requires : tie.Need-lower-requires Inv-loop μ-loop
-lower-requires c κs = search needs
-
-add-stop : tie.Need-add-stop Inv-loop μ-loop
-add-stop c = search needs
-
 loop-holds : tie.Need-loop-holds Inv-loop μ-loop
 loop-holds c =
     let at = c .before .before .args .self .at in
     let none : at - at ≡ 0 = omega arith in
     (omega arith, omega arith, rw none (omega arith), (refl, refl, refl, refl))
-
-shared-slice-read-b : tie.Need-shared-slice-read-b Inv-loop μ-loop
-shared-slice-read-b c = search needs
 
 returns : tie.Need-returns Inv-loop μ-loop
 unfolding digitLimit
@@ -69,12 +57,6 @@ add-value c =
     let small = ten-limit (here .loop .to - _) (here .loop .value) (here .loop .inv .2) (omega (arith, here .before .lower .ensures .second-le)) in
     omega arith
 
-add-to : tie.Need-add-to Inv-loop μ-loop
-add-to c = search needs
-
-loop-less : tie.Need-loop-less Inv-loop μ-loop
-loop-less c = search needs
-
 loop-again : tie.Need-loop-again Inv-loop μ-loop
 loop-again c =
     let here = c .before .before .before .before in
@@ -102,18 +84,18 @@ take-digits-spec =
     (tie.spec
     Inv-loop
     μ-loop
-    sub-left
-    lower-requires
-    add-stop
+    (λ c. search needs)
+    (λ c κs. search needs)
+    (λ c. search needs)
     loop-holds
-    shared-slice-read-b
+    (λ c. search needs)
     returns
     returns-2
     mul-value
     cast-value
     sub-value
     add-value
-    add-to
-    loop-less
+    (λ c. search needs)
+    (λ c. search needs)
     loop-again
     returns-3)

@@ -1,4 +1,4 @@
-use Rattle.spec.specs.Split.{takesStart}
+use Rattle.spec.specs.Words.{takesStart}
 use borrow.Author.Needs.{needs}
 use Rattle.lines.proofs.rows.takes_start.Statement.{statement}
 use Rattle.lines.proofs.rows.takes_start.Tie as tie

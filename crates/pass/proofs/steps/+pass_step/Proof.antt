@@ -57,9 +57,6 @@ pass-step-way-in-requires t c κs =
     let start = c .before .before in
     step-inside (start .pre .1)
 
-pass-step-enum-known-effect : (t : ℕ) → pass-step-lts.Need-enum-known-effect (calls t) (pass-step-at t) pass-step.Post
-pass-step-enum-known-effect t c = search needs
-
 pass-step-turn-requires : (t : ℕ) → pass-step-lts.Need-turn-requires (calls t) (pass-step-at t) pass-step.Post
 pass-step-turn-requires t c κs =
     let start = c .before .before .before .before .before .before .before in
@@ -69,9 +66,6 @@ pass-step-settle-requires : (t : ℕ) → pass-step-lts.Need-settle-requires (ca
 pass-step-settle-requires t c κs =
     let start = c .before .before .before .before .before .before .before .before in
     step-stored (start .pre .1)
-
-pass-step-enum-known-way : (t : ℕ) → pass-step-lts.Need-enum-known-way (calls t) (pass-step-at t) pass-step.Post
-pass-step-enum-known-way t c = search needs
 
 pass-step-add-pass-step : (t : ℕ) → pass-step-lts.Need-add-pass-step (calls t) (pass-step-at t) pass-step.Post
 pass-step-add-pass-step t c =
@@ -86,15 +80,6 @@ pass-step-pass-step-requires t c κs =
     let seen = sym (at-in .way-in .ensures) ∙ at-way .way .given .1 in
     let R = start .pre .1 in
     (omega (arith, start .pre .0, step-inside R), unary-ready R _ seen)
-
-pass-step-enum-known-first : (t : ℕ) → pass-step-lts.Need-enum-known-first (calls t) (pass-step-at t) pass-step.Post
-pass-step-enum-known-first t c = search needs
-
-pass-step-enum-told : (t : ℕ) → pass-step-lts.Need-enum-told (calls t) (pass-step-at t) pass-step.Post
-pass-step-enum-told t c = search needs
-
-pass-step-same-length : (t : ℕ) → pass-step-lts.Need-same-length (calls t) (pass-step-at t) pass-step.Post
-pass-step-same-length t c = search needs
 
 pass-step-returns : (t : ℕ) → pass-step-lts.Need-returns (calls t) (pass-step-at t) pass-step.Post
 pass-step-returns t c =
@@ -120,9 +105,6 @@ pass-step-settle-requires-2 t c κs =
     let start = at-part .before .before .before .before .before .before .before .before in
     omega (arith, at-part .pass-step .kept .1 .0, step-stored (start .pre .1))
 
-pass-step-enum-known-way-2 : (t : ℕ) → pass-step-lts.Need-enum-known-way-2 (calls t) (pass-step-at t) pass-step.Post
-pass-step-enum-known-way-2 t c = search needs
-
 pass-step-add-pass-step-2 : (t : ℕ) → pass-step-lts.Need-add-pass-step-2 (calls t) (pass-step-at t) pass-step.Post
 pass-step-add-pass-step-2 t c =
     let start = c .before .before .before .before .before .before .before in
@@ -136,15 +118,6 @@ pass-step-pass-step-requires-2 t c κs =
     let seen = sym (at-in .way-in .ensures) ∙ at-way .way2 .given .1 in
     let R = start .pre .1 in
     (omega (arith, start .pre .0, step-inside R), first-ready R _ seen)
-
-pass-step-enum-known-first-2 : (t : ℕ) → pass-step-lts.Need-enum-known-first-2 (calls t) (pass-step-at t) pass-step.Post
-pass-step-enum-known-first-2 t c = search needs
-
-pass-step-enum-told-2 : (t : ℕ) → pass-step-lts.Need-enum-told-2 (calls t) (pass-step-at t) pass-step.Post
-pass-step-enum-told-2 t c = search needs
-
-pass-step-same-length-2 : (t : ℕ) → pass-step-lts.Need-same-length-2 (calls t) (pass-step-at t) pass-step.Post
-pass-step-same-length-2 t c = search needs
 
 pass-step-returns-2 : (t : ℕ) → pass-step-lts.Need-returns-2 (calls t) (pass-step-at t) pass-step.Post
 pass-step-returns-2 t c =
@@ -175,15 +148,6 @@ pass-step-pass-step-requires-3 t c κs =
     let (behind, S) = second-ready (start .pre .1) _ seen (at-first .pass-step2 .ensures) _ _ _ (at-number .first2 .given .1) (at-place .second-in .ensures)
     (at-next .second-pre .ensures) (at-first .pass-step2 .kept .1 .0) in
     (omega (arith, start .pre .0, step-inside (start .pre .1), behind), S)
-
-pass-step-enum-known-last : (t : ℕ) → pass-step-lts.Need-enum-known-last (calls t) (pass-step-at t) pass-step.Post
-pass-step-enum-known-last t c = search needs
-
-pass-step-enum-told-3 : (t : ℕ) → pass-step-lts.Need-enum-told-3 (calls t) (pass-step-at t) pass-step.Post
-pass-step-enum-told-3 t c = search needs
-
-pass-step-same-length-3 : (t : ℕ) → pass-step-lts.Need-same-length-3 (calls t) (pass-step-at t) pass-step.Post
-pass-step-same-length-3 t c = search needs
 
 pass-step-returns-3 : (t : ℕ) → pass-step-lts.Need-returns-3 (calls t) (pass-step-at t) pass-step.Post
 pass-step-returns-3 t c =
@@ -223,9 +187,6 @@ pass-step-settle-requires-3 t c κs =
     let start = at-first .before .before .before .before .before .before .before .before in
     omega (arith, at-second .pass-step3 .kept .1 .0, at-first .pass-step2 .kept .1 .0, step-stored (start .pre .1))
 
-pass-step-same-length-4 : (t : ℕ) → pass-step-lts.Need-same-length-4 (calls t) (pass-step-at t) pass-step.Post
-pass-step-same-length-4 t c = search needs
-
 pass-step-returns-4 : (t : ℕ) → pass-step-lts.Need-returns-4 (calls t) (pass-step-at t) pass-step.Post
 pass-step-returns-4 t c =
     let at-settle = c .before .before in
@@ -235,9 +196,6 @@ pass-step-returns-4 t c =
     let start = at-in .before .before .before in
     let seen = sym (at-in .way-in .ensures) ∙ at-way .effect .given .1 in
     leaf-passed _ _ _ _ _ _ seen _ _ _ (step-stored (start .pre .1)) (at-turn .turn .ensures) (at-settle .settle .ensures .0) (at-settle .settle .ensures .1)
-
-pass-step-same-length-5 : (t : ℕ) → pass-step-lts.Need-same-length-5 (calls t) (pass-step-at t) pass-step.Post
-pass-step-same-length-5 t c = search needs
 
 pass-step-returns-5 : (t : ℕ) → pass-step-lts.Need-returns-5 (calls t) (pass-step-at t) pass-step.Post
 pass-step-returns-5 t c =
@@ -252,9 +210,6 @@ pass-step-returns-5 t c =
     unary-passed _ _ _ _ _ _ seen _ _ (at-part .pass-step .ensures) _ _ _ _ (at-number .first .given .1)
     (omega (arith, at-part .pass-step .kept .1 .0, step-stored (start .pre .1)))
     (at-after .after-unary .ensures) (at-settle .settle2 .ensures .0) (at-settle .settle2 .ensures .1)
-
-pass-step-same-length-6 : (t : ℕ) → pass-step-lts.Need-same-length-6 (calls t) (pass-step-at t) pass-step.Post
-pass-step-same-length-6 t c = search needs
 
 pass-step-returns-6 : (t : ℕ) → pass-step-lts.Need-returns-6 (calls t) (pass-step-at t) pass-step.Post
 pass-step-returns-6 t c =
@@ -280,37 +235,37 @@ pub +pass-step-spec : {M : Type 1} → statement M
     (pass-step-at t)
     pass-step.Post
     (pass-step-way-in-requires t)
-    (pass-step-enum-known-effect t)
+    (λ c. search needs)
     (pass-step-turn-requires t)
     (pass-step-settle-requires t)
-    (pass-step-enum-known-way t)
+    (λ c. search needs)
     (pass-step-add-pass-step t)
     (pass-step-pass-step-requires t)
-    (pass-step-enum-known-first t)
-    (pass-step-enum-told t)
-    (pass-step-same-length t)
+    (λ c. search needs)
+    (λ c. search needs)
+    (λ c. search needs)
     (pass-step-returns t)
     (pass-step-after-unary-requires t)
     (pass-step-settle-requires-2 t)
-    (pass-step-enum-known-way-2 t)
+    (λ c. search needs)
     (pass-step-add-pass-step-2 t)
     (pass-step-pass-step-requires-2 t)
-    (pass-step-enum-known-first-2 t)
-    (pass-step-enum-told-2 t)
-    (pass-step-same-length-2 t)
+    (λ c. search needs)
+    (λ c. search needs)
+    (λ c. search needs)
     (pass-step-returns-2 t)
     (pass-step-second-in-requires t)
     (pass-step-second-pre-requires t)
     (pass-step-pass-step-requires-3 t)
-    (pass-step-enum-known-last t)
-    (pass-step-enum-told-3 t)
-    (pass-step-same-length-3 t)
+    (λ c. search needs)
+    (λ c. search needs)
+    (λ c. search needs)
     (pass-step-returns-3 t)
     (pass-step-after-binary-requires t)
     (pass-step-settle-requires-3 t)
-    (pass-step-same-length-4 t)
+    (λ c. search needs)
     (pass-step-returns-4 t)
-    (pass-step-same-length-5 t)
+    (λ c. search needs)
     (pass-step-returns-5 t)
-    (pass-step-same-length-6 t)
+    (λ c. search needs)
     (pass-step-returns-6 t)

@@ -1,7 +1,6 @@
 -- A variable is bound once.
 use borrow.Author.Tests.{le-leb, lt-leb}
 use Rattle.program.specs.Scopes.{judgeLet}
-use borrow.Author.Needs.{needs}
 use Rattle.program.proofs.binders.judge_let.Statement.{statement}
 use Rattle.program.proofs.binders.judge_let.Tie as tie
 

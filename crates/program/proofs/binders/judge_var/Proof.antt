@@ -1,6 +1,6 @@
 -- A variable is used in its let's e2: bound, past the end of e1, before the let's end.
 use borrow.Author.Tests.{le-leb}
-use Rattle.workspace.specs.Steps.{lineAt}
+use Rattle.workspace.specs.Steps.{stepLineAt}
 use Rattle.program.specs.Scopes.{judgeVar}
 use Rattle.program.proofs.ScopeLaws.{used-early, used-late, used-inside}
 use borrow.Author.Needs.{needs}
@@ -8,7 +8,7 @@ use Rattle.program.proofs.binders.judge_var.Statement.{statement}
 use Rattle.program.proofs.binders.judge_var.Tie as tie
 
 returns : tie.Need-returns
-unfolding judgeVar lineAt
+unfolding judgeVar stepLineAt
 returns c = simp (le-leb _ _ (c .if1 .taken))
 
 returns-2 : tie.Need-returns-2

@@ -18,35 +18,20 @@ abbrev μ-loop : tie.MeasureT-loop
 
 loop-holds : tie.Need-loop-holds Inv-loop μ-loop
 unfolding unbound
-loop-holds c = start _ _ (c .before .pre .0)
-
-add-index : tie.Need-add-index Inv-loop μ-loop
-add-index c = search needs
-
-mul-index : tie.Need-mul-index Inv-loop μ-loop
-mul-index c = search needs
+loop-holds c = start _ _ (c .before .pre .long)
 
 slice-read-index : tie.Need-slice-read-index Inv-loop μ-loop
-slice-read-index c = omega (arith, c .before .before .before .before .pre, c .before .before .loop .inv .changed .long)
-
-index-requires : tie.Need-index-requires Inv-loop μ-loop
-index-requires c κs = search needs
+slice-read-index c = omega (arith, c .before .before .before .before .pre .long, c .before .before .before .before .pre .few, c .before .before .loop .inv .changed .long)
 
 slice-aggregate-binder : tie.Need-slice-aggregate-binder Inv-loop μ-loop
 slice-aggregate-binder c = sym (c .before .before .before .before .loop .inv .long)
-
-binder-requires : tie.Need-binder-requires Inv-loop μ-loop
-binder-requires c κs = search needs
 
 judge-requires : tie.Need-judge-requires Inv-loop μ-loop
 judge-requires c κs =
     let at-loop-test = c .before .before .before .before .before in
     let at-loop = at-loop-test .before in
     let at-pre = at-loop .before .before in
-    (at-loop .loop .inv .changed .long ∙ at-pre .pre .0, omega (arith, at-pre .pre .1, at-loop-test .loop-test .taken))
-
-enum-known-refusal : tie.Need-enum-known-refusal Inv-loop μ-loop
-enum-known-refusal c = search needs
+    (at-loop .loop .inv .changed .long ∙ at-pre .pre .long, omega (arith, at-pre .pre .few, at-loop-test .loop-test .taken))
 
 same-length : tie.Need-same-length Inv-loop μ-loop
 same-length c =
@@ -61,42 +46,18 @@ returns c =
     let at-loop-test = at-index .before .before in
     let at-loop = at-loop-test .before in
     let at-pre = at-loop .before .before in
-    refuses _ _ _ _ _ (at-loop .loop .inv) _ _ _ (at-pre .pre .0) (at-pre .pre .1) (at-loop-test .loop-test .taken) (at-index .index .ensures .0) (at-binder .binder .ensures) (at-judge .judge .ensures) _ (c .before .refusal .given .1)
-
-enum-told : tie.Need-enum-told Inv-loop μ-loop
-enum-told c = search needs
+    refuses _ _ _ _ _ (at-loop .loop .inv) _ _ _ (at-pre .pre .long) (at-pre .pre .few) (at-loop-test .loop-test .taken) (at-index .index .ensures .0) (at-binder .binder .ensures) (at-judge .judge .ensures) _ (c .before .refusal .given .1)
 
 slice-aggregate-bind : tie.Need-slice-aggregate-bind Inv-loop μ-loop
 slice-aggregate-bind c =
     let at-loop = c .before .before .before .before .before .before .before .before .before .before in
     sym (at-loop .loop .inv .long)
 
-cast-bind : tie.Need-cast-bind Inv-loop μ-loop
-cast-bind c = search needs
-
-bind-requires : tie.Need-bind-requires Inv-loop μ-loop
-bind-requires c κs = search needs
-
-enum-known-x : tie.Need-enum-known-x Inv-loop μ-loop
-enum-known-x c = search needs
-
-add-work : tie.Need-add-work Inv-loop μ-loop
-add-work c = search needs
-
-mul-work : tie.Need-mul-work Inv-loop μ-loop
-mul-work c = search needs
-
 slice-write-work : tie.Need-slice-write-work Inv-loop μ-loop
 slice-write-work c =
     let at-loop = c .before .before .before .before .before .before .before .before in
     let at-pre = at-loop .before .before in
-    omega (arith, at-pre .pre, at-loop .loop .inv .changed .long)
-
-add-k : tie.Need-add-k Inv-loop μ-loop
-add-k c = search needs
-
-loop-less : tie.Need-loop-less Inv-loop μ-loop
-loop-less c = search needs
+    omega (arith, at-pre .pre .long, at-pre .pre .few, at-loop .loop .inv .changed .long)
 
 loop-again : tie.Need-loop-again Inv-loop μ-loop
 loop-again c =
@@ -107,11 +68,11 @@ loop-again c =
     let at-pre = at-loop .before .before in
     ⊎-elim
     (λ u.
-    binds _ _ _ _ _ (at-loop .loop .inv) _ _ _ (at-pre .pre .0) (at-pre .pre .1) (at-loop-test .loop-test .taken) (at-index .index .ensures .0) (at-binder .binder .ensures) (c .before .judge .ensures) _ _ (u .6)
+    binds _ _ _ _ _ (at-loop .loop .inv) _ _ _ (at-pre .pre .long) (at-pre .pre .few) (at-loop-test .loop-test .taken) (at-index .index .ensures .0) (at-binder .binder .ensures) (c .before .judge .ensures) _ _ (u .6)
     (u .5 ∙ u .3 .ensures)
     (u .1 .given .1))
     (λ u.
-    stores _ _ _ _ _ (at-loop .loop .inv) _ _ _ (at-pre .pre .0) (at-pre .pre .1) (at-loop-test .loop-test .taken) (at-index .index .ensures .0) (at-binder .binder .ensures) (c .before .judge .ensures) _ _ _ (u .4) (u .3)
+    stores _ _ _ _ _ (at-loop .loop .inv) _ _ _ (at-pre .pre .long) (at-pre .pre .few) (at-loop-test .loop-test .taken) (at-index .index .ensures .0) (at-binder .binder .ensures) (c .before .judge .ensures) _ _ _ (u .4) (u .3)
     (u .1 .given .1))
     (c .match .came)
 
@@ -128,26 +89,26 @@ scopes-spec =
     Inv-loop
     μ-loop
     loop-holds
-    add-index
-    mul-index
+    (λ c. search needs)
+    (λ c. search needs)
     slice-read-index
-    index-requires
+    (λ c κs. search needs)
     slice-aggregate-binder
-    binder-requires
+    (λ c κs. search needs)
     judge-requires
-    enum-known-refusal
+    (λ c. search needs)
     same-length
     returns
-    enum-told
+    (λ c. search needs)
     slice-aggregate-bind
-    cast-bind
-    bind-requires
-    enum-known-x
-    add-work
-    mul-work
+    (λ c. search needs)
+    (λ c κs. search needs)
+    (λ c. search needs)
+    (λ c. search needs)
+    (λ c. search needs)
     slice-write-work
-    add-k
-    loop-less
+    (λ c. search needs)
+    (λ c. search needs)
     loop-again
     same-length-2
     returns-2)

@@ -17,49 +17,28 @@ abbrev μ-loop : tie.MeasureT-loop
 μ-loop text work₀ n cursor₀ k₀ work cursor k = n - k
 
 loop-holds : tie.Need-loop-holds Inv-loop μ-loop
-loop-holds c = start _ _ _ _ (c .before .before .pre .0) (c .before .before .pre .2)
+loop-holds c = start _ _ _ _ (c .before .before .pre .0 .long) (c .before .before .pre .1)
 
 step-line-requires : tie.Need-step-line-requires Inv-loop μ-loop
 step-line-requires c κs = c .before .loop .inv .placed
-
-enum-known-word : tie.Need-enum-known-word Inv-loop μ-loop
-enum-known-word c = search needs
-
-code-of-requires : tie.Need-code-of-requires Inv-loop μ-loop
-code-of-requires c κs = search needs
-
-add-work : tie.Need-add-work Inv-loop μ-loop
-add-work c = search needs
-
-mul-work : tie.Need-mul-work Inv-loop μ-loop
-mul-work c = search needs
 
 slice-write-work : tie.Need-slice-write-work Inv-loop μ-loop
 slice-write-work c =
     let at-loop = c .before .before .before .before .before .before in
     let at-pre = at-loop .before .before .before in
-    omega (arith, at-pre .pre, at-loop .loop .inv .changed .long)
-
-add-work-2 : tie.Need-add-work-2 Inv-loop μ-loop
-add-work-2 c = search needs
-
-mul-work-2 : tie.Need-mul-work-2 Inv-loop μ-loop
-mul-work-2 c = search needs
+    omega (arith, at-pre .pre .0 .long, at-pre .pre .0 .few, at-loop .loop .inv .changed .long)
 
 slice-write-work-2 : tie.Need-slice-write-work-2 Inv-loop μ-loop
 slice-write-work-2 c =
     let at-loop = c .before .before .before .before .before .before in
     let at-pre = at-loop .before .before .before in
-    simp length-set (omega (arith, at-pre .pre, at-loop .loop .inv .changed .long))
+    simp length-set (omega (arith, at-pre .pre .0 .long, at-pre .pre .0 .few, at-loop .loop .inv .changed .long))
 
 slice-write-work-3 : tie.Need-slice-write-work-3 Inv-loop μ-loop
 slice-write-work-3 c =
     let at-loop = c .before .before .before .before .before .before in
     let at-pre = at-loop .before .before .before in
-    simp length-set (omega (arith, at-pre .pre, at-loop .loop .inv .changed .long))
-
-enum-known-refusal : tie.Need-enum-known-refusal Inv-loop μ-loop
-enum-known-refusal c = search needs
+    simp length-set (omega (arith, at-pre .pre .0 .long, at-pre .pre .0 .few, at-loop .loop .inv .changed .long))
 
 same-length : tie.Need-same-length Inv-loop μ-loop
 same-length c = c .before .before .before .before .before .loop .inv .changed .long
@@ -71,19 +50,13 @@ returns c =
     let at-loop = at-loop-test .before in
     refuses _ _ _ _ _ _ _ (at-loop .loop .inv) (at-loop-test .loop-test .taken) _ (subst (StepShown _ _) (c .before .refusal .given .1) (at-step-line .step-line .ensures))
 
-add-k : tie.Need-add-k Inv-loop μ-loop
-add-k c = search needs
-
-loop-less : tie.Need-loop-less Inv-loop μ-loop
-loop-less c = search needs
-
 loop-again : tie.Need-loop-again Inv-loop μ-loop
 loop-again c =
     let at-step-line = c .before .before .before .before in
     let at-loop-test = at-step-line .before in
     let at-loop = at-loop-test .before in
     let at-pre = at-loop .before .before .before in
-    more _ _ _ _ _ _ _ (at-loop .loop .inv) (at-loop-test .loop-test .taken) _ _ _ _ (at-pre .pre .0) (at-pre .pre .1)
+    more _ _ _ _ _ _ _ (at-loop .loop .inv) (at-loop-test .loop-test .taken) _ _ _ _ (at-pre .pre .0 .long) (at-pre .pre .0 .few)
     (subst (StepShown _ _) (c .before .before .word .given .1) (at-step-line .step-line .ensures))
     (c .code-of .ensures)
 
@@ -101,22 +74,22 @@ step-lines-spec =
     μ-loop
     loop-holds
     step-line-requires
-    enum-known-word
-    code-of-requires
-    add-work
-    mul-work
+    (λ c. search needs)
+    (λ c κs. search needs)
+    (λ c. search needs)
+    (λ c. search needs)
     slice-write-work
-    add-work-2
-    mul-work-2
+    (λ c. search needs)
+    (λ c. search needs)
     slice-write-work-2
     (λ c. search needs)
     (λ c. search needs)
     slice-write-work-3
-    enum-known-refusal
+    (λ c. search needs)
     same-length
     returns
-    add-k
-    loop-less
+    (λ c. search needs)
+    (λ c. search needs)
     loop-again
     same-length-2
     returns-2)

@@ -40,345 +40,111 @@ abbrev read-step-below : ℕ → In 1 read-step-kinds.ps
 read-step-below t =
     and 1 read-step-kinds.ps (falls 1 read-step-kinds.ps _<_ μ-read-step t) read-step.Pre
 
-read-parts-returns : (t : ℕ) → read-parts-lts.Need-returns (
-  read-step-below t,
-  read-step.Post,
-  read-parts-below t,
-  read-parts.Post,
-) (read-parts-at t) read-parts.Post
-read-parts-returns t c = parts-none _ _ _ _ (c .before .before .pre .1 .0) (c .before .before .pre .1 .1) (c .before .before .pre .1 .2) (c .if1 .taken)
+-- the contracts of the functions that each calls, those of the two below the measure t
+abbrev parts-calls : ℕ → read-parts-lts.Claims
+parts-calls t = (read-step-below t, read-step.Post, read-parts-below t, read-parts.Post)
 
-read-parts-read-step-requires : (t : ℕ) → read-parts-lts.Need-read-step-requires (
-  read-step-below t,
-  read-step.Post,
-  read-parts-below t,
-  read-parts.Post,
-) (read-parts-at t) read-parts.Post
+abbrev step-calls : ℕ → read-step-lts.Claims
+step-calls t =
+    (word-of-reads.Asked, word-of-reads.Learnt, parts-of-reads.Asked, parts-of-reads.Learnt, read-parts-below t, read-parts.Post)
+
+read-parts-returns : (t : ℕ) → read-parts-lts.Need-returns (parts-calls t) (read-parts-at t) read-parts.Post
+read-parts-returns t c = parts-none _ _ _ _ (c .before .before .pre .1 .0 .long) (c .before .before .pre .1 .0 .few) (c .before .before .pre .1 .1) (c .if1 .taken)
+
+read-parts-read-step-requires : (t : ℕ) → read-parts-lts.Need-read-step-requires (parts-calls t) (read-parts-at t) read-parts.Post
 read-parts-read-step-requires t c κs =
     let at-pre = c .before .before .before in
     (omega (arith, at-pre .pre .0), at-pre .pre .1)
 
-read-parts-enum-known-e : (t : ℕ) → read-parts-lts.Need-enum-known-e (
-  read-step-below t,
-  read-step.Post,
-  read-parts-below t,
-  read-parts.Post,
-) (read-parts-at t) read-parts.Post
-read-parts-enum-known-e t c = search needs
-
-read-parts-sub-read-parts : (t : ℕ) → read-parts-lts.Need-sub-read-parts (
-  read-step-below t,
-  read-step.Post,
-  read-parts-below t,
-  read-parts.Post,
-) (read-parts-at t) read-parts.Post
-read-parts-sub-read-parts t c = search needs
-
-read-parts-read-parts-requires : (t : ℕ) → read-parts-lts.Need-read-parts-requires (
-  read-step-below t,
-  read-step.Post,
-  read-parts-below t,
-  read-parts.Post,
-) (read-parts-at t) read-parts.Post
+read-parts-read-parts-requires : (t : ℕ) → read-parts-lts.Need-read-parts-requires (parts-calls t) (read-parts-at t) read-parts.Post
 read-parts-read-parts-requires t c κs =
     let at-read-step = c .before .before .before .before .before .before in
     let at-pre = at-read-step .before .before .before .before in
-    let q = within _ 1 _ _ _ _ _ (at-pre .pre .1 .2) (at-read-step .read-step .ensures) (c .before .before .e .given .1) in
+    let q = within _ 1 _ _ _ _ _ (at-pre .pre .1 .1) (at-read-step .read-step .ensures) (c .before .before .e .given .1) in
     let l = past _ _ _ _ _ _ (at-read-step .read-step .ensures) (c .before .before .e .given .1) in
-    (omega (arith, l, q .1, at-pre .pre .0), (at-read-step .read-step .kept .0 ∙ at-pre .pre .1 .0, at-pre .pre .1 .1, q .1))
+    (omega (arith, l, q .1, at-pre .pre .0), (record { long = at-read-step .read-step .kept .0 ∙ at-pre .pre .1 .0 .long; few = at-pre .pre .1 .0 .few }, q .1))
 
-read-parts-enum-told : (t : ℕ) → read-parts-lts.Need-enum-told (
-  read-step-below t,
-  read-step.Post,
-  read-parts-below t,
-  read-parts.Post,
-) (read-parts-at t) read-parts.Post
-read-parts-enum-told t c = search needs
-
-read-parts-same-length : (t : ℕ) → read-parts-lts.Need-same-length (
-  read-step-below t,
-  read-step.Post,
-  read-parts-below t,
-  read-parts.Post,
-) (read-parts-at t) read-parts.Post
-read-parts-same-length t c = search needs
-
-read-parts-returns-2 : (t : ℕ) → read-parts-lts.Need-returns-2 (
-  read-step-below t,
-  read-step.Post,
-  read-parts-below t,
-  read-parts.Post,
-) (read-parts-at t) read-parts.Post
+read-parts-returns-2 : (t : ℕ) → read-parts-lts.Need-returns-2 (parts-calls t) (read-parts-at t) read-parts.Post
 read-parts-returns-2 t c =
     let at-e = c .before .before .before .before .before in
     let at-read-step = at-e .before .before .before .before in
     let at-if1 = at-read-step .before .before in
     let at-pre = at-if1 .before .before in
-    parts-more _ _ _ _ (at-pre .pre .1 .0) (at-pre .pre .1 .1) (at-pre .pre .1 .2) _ _ (at-if1 .if1 .left) (at-read-step .read-step .ensures) _ _ _ (at-e .e .given .1) (c .before .before .read-parts .ensures)
+    parts-more _ _ _ _ (at-pre .pre .1 .0 .long) (at-pre .pre .1 .0 .few) (at-pre .pre .1 .1) _ _ (at-if1 .if1 .left) (at-read-step .read-step .ensures) _ _ _ (at-e .e .given .1) (c .before .before .read-parts .ensures)
 
-read-parts-same-length-2 : (t : ℕ) → read-parts-lts.Need-same-length-2 (
-  read-step-below t,
-  read-step.Post,
-  read-parts-below t,
-  read-parts.Post,
-) (read-parts-at t) read-parts.Post
-read-parts-same-length-2 t c = search needs
-
-read-parts-returns-3 : (t : ℕ) → read-parts-lts.Need-returns-3 (
-  read-step-below t,
-  read-step.Post,
-  read-parts-below t,
-  read-parts.Post,
-) (read-parts-at t) read-parts.Post
+read-parts-returns-3 : (t : ℕ) → read-parts-lts.Need-returns-3 (parts-calls t) (read-parts-at t) read-parts.Post
 read-parts-returns-3 t c =
     let at-read-step = c .before .before .before .before in
     let at-if1 = at-read-step .before .before in
     let at-pre = at-if1 .before .before in
-    parts-open _ _ _ _ (at-pre .pre .1 .0) (at-pre .pre .1 .1) (at-pre .pre .1 .2) _ _ (at-if1 .if1 .left) (at-read-step .read-step .ensures) (c .enum-told .given .1)
+    parts-open _ _ _ _ (at-pre .pre .1 .0 .long) (at-pre .pre .1 .0 .few) (at-pre .pre .1 .1) _ _ (at-if1 .if1 .left) (at-read-step .read-step .ensures) (c .enum-told .given .1)
 
-read-step-returns : (t : ℕ) → read-step-lts.Need-returns (
-  word-of-reads.Asked,
-  word-of-reads.Learnt,
-  parts-of-reads.Asked,
-  parts-of-reads.Learnt,
-  read-parts-below t,
-  read-parts.Post,
-) (read-step-at t) read-step.Post
-read-step-returns t c = step-none _ _ _ (c .before .before .pre .1 .0) (c .before .before .pre .1 .1) (c .before .before .pre .1 .2) (c .if1 .taken)
+read-step-returns : (t : ℕ) → read-step-lts.Need-returns (step-calls t) (read-step-at t) read-step.Post
+read-step-returns t c = step-none _ _ _ (c .before .before .pre .1 .0 .long) (c .before .before .pre .1 .0 .few) (c .before .before .pre .1 .1) (c .if1 .taken)
 
-read-step-add-word-of : (t : ℕ) → read-step-lts.Need-add-word-of (
-  word-of-reads.Asked,
-  word-of-reads.Learnt,
-  parts-of-reads.Asked,
-  parts-of-reads.Learnt,
-  read-parts-below t,
-  read-parts.Post,
-) (read-step-at t) read-step.Post
-read-step-add-word-of t c = search needs
-
-read-step-mul-word-of : (t : ℕ) → read-step-lts.Need-mul-word-of (
-  word-of-reads.Asked,
-  word-of-reads.Learnt,
-  parts-of-reads.Asked,
-  parts-of-reads.Learnt,
-  read-parts-below t,
-  read-parts.Post,
-) (read-step-at t) read-step.Post
-read-step-mul-word-of t c = search needs
-
-read-step-slice-read-word-of : (t : ℕ) → read-step-lts.Need-slice-read-word-of (
-  word-of-reads.Asked,
-  word-of-reads.Learnt,
-  parts-of-reads.Asked,
-  parts-of-reads.Learnt,
-  read-parts-below t,
-  read-parts.Post,
-) (read-step-at t) read-step.Post
-read-step-slice-read-word-of t c = search needs
-
-read-step-word-of-requires : (t : ℕ) → read-step-lts.Need-word-of-requires (
-  word-of-reads.Asked,
-  word-of-reads.Learnt,
-  parts-of-reads.Asked,
-  parts-of-reads.Learnt,
-  read-parts-below t,
-  read-parts.Post,
-) (read-step-at t) read-step.Post
-read-step-word-of-requires t c κs = search needs
-
-read-step-parts-of-requires : (t : ℕ) → read-step-lts.Need-parts-of-requires (
-  word-of-reads.Asked,
-  word-of-reads.Learnt,
-  parts-of-reads.Asked,
-  parts-of-reads.Learnt,
-  read-parts-below t,
-  read-parts.Post,
-) (read-step-at t) read-step.Post
-read-step-parts-of-requires t c κs = search needs
-
-read-step-add-read-parts : (t : ℕ) → read-step-lts.Need-add-read-parts (
-  word-of-reads.Asked,
-  word-of-reads.Learnt,
-  parts-of-reads.Asked,
-  parts-of-reads.Learnt,
-  read-parts-below t,
-  read-parts.Post,
-) (read-step-at t) read-step.Post
-read-step-add-read-parts t c = search needs
-
-read-step-read-parts-requires : (t : ℕ) → read-step-lts.Need-read-parts-requires (
-  word-of-reads.Asked,
-  word-of-reads.Learnt,
-  parts-of-reads.Asked,
-  parts-of-reads.Learnt,
-  read-parts-below t,
-  read-parts.Post,
-) (read-step-at t) read-step.Post
+read-step-read-parts-requires : (t : ℕ) → read-step-lts.Need-read-parts-requires (step-calls t) (read-step-at t) read-step.Post
 read-step-read-parts-requires t c κs =
     let at-if1 = c .before .before .before .before in
     let at-pre = at-if1 .before .before in
-    (omega (arith, at-pre .pre .0, at-if1 .if1 .left), (at-pre .pre .1 .0, at-pre .pre .1 .1, omega (arith, at-if1 .if1 .left)))
+    (omega (arith, at-pre .pre .0, at-if1 .if1 .left), (at-pre .pre .1 .0, omega (arith, at-if1 .if1 .left)))
 
-read-step-enum-known-e : (t : ℕ) → read-step-lts.Need-enum-known-e (
-  word-of-reads.Asked,
-  word-of-reads.Learnt,
-  parts-of-reads.Asked,
-  parts-of-reads.Learnt,
-  read-parts-below t,
-  read-parts.Post,
-) (read-step-at t) read-step.Post
-read-step-enum-known-e t c = search needs
-
-read-step-cast-work : (t : ℕ) → read-step-lts.Need-cast-work (
-  word-of-reads.Asked,
-  word-of-reads.Learnt,
-  parts-of-reads.Asked,
-  parts-of-reads.Learnt,
-  read-parts-below t,
-  read-parts.Post,
-) (read-step-at t) read-step.Post
+read-step-cast-work : (t : ℕ) → read-step-lts.Need-cast-work (step-calls t) (read-step-at t) read-step.Post
 read-step-cast-work t c =
     let at-read-parts = c .before .before .before .before .before in
     let at-if1 = at-read-parts .before .before .before .before .before in
     let at-pre = at-if1 .before .before in
-    omega (arith, at-pre .pre .1 .1, within _ _ _ _ _ _ _ (omega (arith, at-if1 .if1 .left)) (at-read-parts .read-parts .ensures) (c .before .e .given .1) .1)
+    omega (arith, at-pre .pre .1 .0 .few, within _ _ _ _ _ _ _ (omega (arith, at-if1 .if1 .left)) (at-read-parts .read-parts .ensures) (c .before .e .given .1) .1)
 
-read-step-add-work : (t : ℕ) → read-step-lts.Need-add-work (
-  word-of-reads.Asked,
-  word-of-reads.Learnt,
-  parts-of-reads.Asked,
-  parts-of-reads.Learnt,
-  read-parts-below t,
-  read-parts.Post,
-) (read-step-at t) read-step.Post
-read-step-add-work t c = search needs
-
-read-step-mul-work : (t : ℕ) → read-step-lts.Need-mul-work (
-  word-of-reads.Asked,
-  word-of-reads.Learnt,
-  parts-of-reads.Asked,
-  parts-of-reads.Learnt,
-  read-parts-below t,
-  read-parts.Post,
-) (read-step-at t) read-step.Post
-read-step-mul-work t c = search needs
-
-read-step-slice-write-work : (t : ℕ) → read-step-lts.Need-slice-write-work (
-  word-of-reads.Asked,
-  word-of-reads.Learnt,
-  parts-of-reads.Asked,
-  parts-of-reads.Learnt,
-  read-parts-below t,
-  read-parts.Post,
-) (read-step-at t) read-step.Post
-read-step-slice-write-work t c = search needs
-
-read-step-enum-told : (t : ℕ) → read-step-lts.Need-enum-told (
-  word-of-reads.Asked,
-  word-of-reads.Learnt,
-  parts-of-reads.Asked,
-  parts-of-reads.Learnt,
-  read-parts-below t,
-  read-parts.Post,
-) (read-step-at t) read-step.Post
-read-step-enum-told t c = search needs
-
-read-step-same-length : (t : ℕ) → read-step-lts.Need-same-length (
-  word-of-reads.Asked,
-  word-of-reads.Learnt,
-  parts-of-reads.Asked,
-  parts-of-reads.Learnt,
-  read-parts-below t,
-  read-parts.Post,
-) (read-step-at t) read-step.Post
-read-step-same-length t c = search needs
-
-read-step-returns-2 : (t : ℕ) → read-step-lts.Need-returns-2 (
-  word-of-reads.Asked,
-  word-of-reads.Learnt,
-  parts-of-reads.Asked,
-  parts-of-reads.Learnt,
-  read-parts-below t,
-  read-parts.Post,
-) (read-step-at t) read-step.Post
+read-step-returns-2 : (t : ℕ) → read-step-lts.Need-returns-2 (step-calls t) (read-step-at t) read-step.Post
 read-step-returns-2 t c =
     let at-read-parts = c .before .before .before .before .before in
     let at-parts-of = at-read-parts .before .before in
     let at-word-of = at-parts-of .before in
     let at-if1 = at-word-of .before .before in
     let at-pre = at-if1 .before .before in
-    step-more _ _ _ (at-pre .pre .1 .0) (at-pre .pre .1 .1) _ _ _ (at-if1 .if1 .left) (at-parts-of .parts-of .ensures ∙ ap partsOf (at-word-of .word-of .ensures)) (at-read-parts .read-parts .ensures) _ (c .before .e .given .1)
+    step-more _ _ _ (at-pre .pre .1 .0 .long) (at-pre .pre .1 .0 .few) _ _ _ (at-if1 .if1 .left) (at-parts-of .parts-of .ensures ∙ ap partsOf (at-word-of .word-of .ensures)) (at-read-parts .read-parts .ensures) _ (c .before .e .given .1)
 
-read-step-same-length-2 : (t : ℕ) → read-step-lts.Need-same-length-2 (
-  word-of-reads.Asked,
-  word-of-reads.Learnt,
-  parts-of-reads.Asked,
-  parts-of-reads.Learnt,
-  read-parts-below t,
-  read-parts.Post,
-) (read-step-at t) read-step.Post
-read-step-same-length-2 t c = search needs
-
-read-step-returns-3 : (t : ℕ) → read-step-lts.Need-returns-3 (
-  word-of-reads.Asked,
-  word-of-reads.Learnt,
-  parts-of-reads.Asked,
-  parts-of-reads.Learnt,
-  read-parts-below t,
-  read-parts.Post,
-) (read-step-at t) read-step.Post
+read-step-returns-3 : (t : ℕ) → read-step-lts.Need-returns-3 (step-calls t) (read-step-at t) read-step.Post
 read-step-returns-3 t c =
     let at-read-parts = c .before .before .before .before in
     let at-parts-of = at-read-parts .before .before in
     let at-word-of = at-parts-of .before in
     let at-if1 = at-word-of .before .before in
     let at-pre = at-if1 .before .before in
-    step-open _ _ _ (at-pre .pre .1 .0) (at-pre .pre .1 .1) _ _ _ (at-if1 .if1 .left) (at-parts-of .parts-of .ensures ∙ ap partsOf (at-word-of .word-of .ensures)) (at-read-parts .read-parts .ensures) (c .enum-told .given .1)
+    step-open _ _ _ (at-pre .pre .1 .0 .long) (at-pre .pre .1 .0 .few) _ _ _ (at-if1 .if1 .left) (at-parts-of .parts-of .ensures ∙ ap partsOf (at-word-of .word-of .ensures)) (at-read-parts .read-parts .ensures) (c .enum-told .given .1)
 
 pub +read-parts+read-step-spec : {M : Type 1} → statement M
-+read-parts+read-step-spec = close μ-read-parts μ-read-step (λ t. read-parts-lts.spec (
-  read-step-below t,
-  read-step.Post,
-  read-parts-below t,
-  read-parts.Post,
-)
++read-parts+read-step-spec = close μ-read-parts μ-read-step (λ t. read-parts-lts.spec (parts-calls t)
     (read-parts-at t)
     read-parts.Post
     (read-parts-returns t)
     (read-parts-read-step-requires t)
-    (read-parts-enum-known-e t)
-    (read-parts-sub-read-parts t)
+    (λ c. search needs)
+    (λ c. search needs)
     (read-parts-read-parts-requires t)
-    (read-parts-enum-told t)
-    (read-parts-same-length t)
+    (λ c. search needs)
+    (λ c. search needs)
     (read-parts-returns-2 t)
-    (read-parts-same-length-2 t)
+    (λ c. search needs)
     (read-parts-returns-3 t))
-    λ t. read-step-lts.spec (
-      word-of-reads.Asked,
-      word-of-reads.Learnt,
-      parts-of-reads.Asked,
-      parts-of-reads.Learnt,
-      read-parts-below t,
-      read-parts.Post,
-    )
+    λ t. read-step-lts.spec (step-calls t)
     (read-step-at t)
     read-step.Post
     (read-step-returns t)
-    (read-step-add-word-of t)
-    (read-step-mul-word-of t)
-    (read-step-slice-read-word-of t)
-    (read-step-word-of-requires t)
-    (read-step-parts-of-requires t)
-    (read-step-add-read-parts t)
+    (λ c. search needs)
+    (λ c. search needs)
+    (λ c. search needs)
+    (λ c κs. search needs)
+    (λ c κs. search needs)
+    (λ c. search needs)
     (read-step-read-parts-requires t)
-    (read-step-enum-known-e t)
+    (λ c. search needs)
     (read-step-cast-work t)
-    (read-step-add-work t)
-    (read-step-mul-work t)
-    (read-step-slice-write-work t)
-    (read-step-enum-told t)
-    (read-step-same-length t)
+    (λ c. search needs)
+    (λ c. search needs)
+    (λ c. search needs)
+    (λ c. search needs)
+    (λ c. search needs)
     (read-step-returns-2 t)
-    (read-step-same-length-2 t)
+    (λ c. search needs)
     (read-step-returns-3 t)

@@ -15,14 +15,14 @@ slice-read-line c =
     let at-if1 = c .before in
     let at-read-step = at-if1 .before .before .before .before .before .before in
     let at-pre = at-read-step .before .before .before in
-    omega (arith, at-pre .pre, at-if1 .if1 .left, at-read-step .read-step .ensures .changed .long)
+    omega (arith, at-pre .pre .long, at-pre .pre .few, at-if1 .if1 .left, at-read-step .read-step .ensures .changed .long)
 
 returns-2 : tie.Need-returns-2
 returns-2 c =
     let at-if1 = c .before in
     let at-read-step = at-if1 .before .before .before .before .before .before in
     let at-pre = at-read-step .before .before .before in
-    early _ _ _ _ _ (at-read-step .read-step .ensures) _ (at-if1 .before .before .e .given .1) (at-if1 .if1 .left) (at-pre .pre .1)
+    early _ _ _ _ _ (at-read-step .read-step .ensures) _ (at-if1 .before .before .e .given .1) (at-if1 .if1 .left) (at-pre .pre .few)
 
 returns-3 : tie.Need-returns-3
 returns-3 c = unfinished _ _ _ _ _ (c .before .before .before .before .read-step .ensures) (c .enum-told .given .1)

@@ -1,11 +1,11 @@
 use mathlib.Core.Path.{_∙_}
-use Rattle.rules.specs.Walk.{viewOf, stepOutcome}
+use Rattle.rules.specs.Walk.{stepOutcome}
 use borrow.Author.Needs.{needs}
 use Rattle.rules.proofs.steps.check_step.Statement.{statement}
 use Rattle.rules.proofs.steps.check_step.Tie as tie
 
 returns : tie.Need-returns
-unfolding stepOutcome viewOf
+unfolding stepOutcome
 returns c =
     let kind₁ = c .before in
     let kind = kind₁ .before in

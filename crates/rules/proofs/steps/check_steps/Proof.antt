@@ -8,7 +8,7 @@ use native.Mathlib.Nat.{sub-zero}
 use borrow.Author.Needs.{needs}
 use lib.ListN.{length, length-set}
 use Rattle.spec.specs.declared.Purpose.{Purpose}
-use Rattle.workspace.specs.Layout.{presAt}
+use Rattle.workspace.specs.Layout.{presAt, workSize}
 use Rattle.workspace.specs.Region.{ChangedWithin}
 use Rattle.workspace.proofs.Region.{changed-nothing, changed-store, changed-then}
 use Rattle.conditions.specs.Outcome.{outcome}
@@ -21,7 +21,7 @@ use Rattle.rules.proofs.steps.check_steps.Tie as tie
 -- k steps are walked through, from w₀ to w
 record Walking (purpose : Purpose) (locations denominator steps : ℕ) (w₀ w : List ℕ) (k : ℕ) : Type 0 where
   pub inside : k ≤ steps
-  pub long : length w ≡ 16384
+  pub long : length w ≡ workSize
   pub changed : ChangedWithin presAt (presAt + 256) w₀ w
   pub rest : walk purpose locations denominator w₀ 0 steps ≡ walk purpose locations denominator w k (steps - k)
 
@@ -34,7 +34,7 @@ abbrev μ-loop : tie.MeasureT-loop
 loop-holds : tie.Need-loop-holds Inv-loop μ-loop
 loop-holds c = record {
   inside = omega arith;
-  long = simp length-set (c .before .pre .0);
+  long = simp length-set (omega arith);
   changed = changed-nothing presAt (presAt + 256) _;
   rest = rw sub-zero refl;
 }

@@ -1,6 +1,6 @@
 use mathlib.Core.Path.{sym, ap, _∙_}
 use Rattle.workspace.specs.Layout.{wordOf}
-use Rattle.rules.specs.Walk.{viewOf, passWord, passOn}
+use Rattle.rules.specs.Walk.{passWord, passOn}
 use borrow.Author.Needs.{needs}
 use Rattle.rules.proofs.steps.pass_on.Statement.{statement}
 use Rattle.rules.proofs.steps.pass_on.Tie as tie
@@ -12,7 +12,7 @@ returns c =
     rw (sym (word .word-of .ensures ∙ ap wordOf (word .before .cell2 .ensures)) ∙ c .enum-told .given .1)
 
 returns-2 : tie.Need-returns-2
-unfolding passOn passWord viewOf
+unfolding passOn passWord
 returns-2 c =
     let put = c .before .before in
     let part = put .before in
@@ -27,7 +27,7 @@ returns-2 c =
     )
 
 returns-3 : tie.Need-returns-3
-unfolding passOn passWord viewOf
+unfolding passOn passWord
 returns-3 c =
     let put = c .before .before in
     let second = put .before in

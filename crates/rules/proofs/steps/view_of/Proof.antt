@@ -1,10 +1,8 @@
-use Rattle.rules.specs.Walk.{viewOf}
 use borrow.Author.Needs.{needs}
 use Rattle.rules.proofs.steps.view_of.Statement.{statement}
 use Rattle.rules.proofs.steps.view_of.Tie as tie
 
 returns : tie.Need-returns
-unfolding viewOf
 returns c =
     let post₁ = c .before in
     let start = post₁ .before in
@@ -15,19 +13,21 @@ returns c =
     let type₁ = type₂ .before in
     let typed = type₁ .before in
     let value = typed .before in
-    let binder = value .before in
+    let line = value .before in
+    let binder = line .before in
     let second = binder .before in
     rw (
-      c .cell12 .ensures,
-      post₁ .cell11 .ensures,
-      start .cell10 .ensures,
-      post .cell9 .ensures,
-      pre .cell8 .ensures,
-      bound .cell7 .ensures,
-      type₂ .cell6 .ensures,
-      type₁ .cell5 .ensures,
-      typed .cell4 .ensures,
-      value .cell3 .ensures,
+      c .cell13 .ensures,
+      post₁ .cell12 .ensures,
+      start .cell11 .ensures,
+      post .cell10 .ensures,
+      pre .cell9 .ensures,
+      bound .cell8 .ensures,
+      type₂ .cell7 .ensures,
+      type₁ .cell6 .ensures,
+      typed .cell5 .ensures,
+      value .cell4 .ensures,
+      line .cell3 .ensures,
       binder .cell2 .ensures,
       second .cell .ensures,
     )
@@ -39,7 +39,7 @@ view-of-spec =
     (λ c. search needs)
     (λ c κs. search needs)
     (λ c κs. search needs)
-    (λ c. search needs)
+    (λ c κs. search needs)
     (λ c κs. search needs)
     (λ c κs. search needs)
     (λ c. search needs)

@@ -1,6 +1,8 @@
 -- Each number of a header is tested against its range.
-use mathlib.Core.Path.{sym, _∙_}
+use mathlib.Core.Path.{_≡_, sym, _∙_}
+use mathlib.Core.Bool.{true}
 use borrow.Author.Tests.{not-true, not-false}
+use Rattle.spec.specs.Reading.{_to_, inRange}
 use Rattle.spec.specs.Split.{headerRanges}
 use Rattle.workspace.specs.Sheets.{headerTold}
 use Rattle.split.specs.Header.{headerFits}
@@ -9,75 +11,57 @@ use borrow.Author.Needs.{needs}
 use Rattle.split.proofs.first_line.header_fits.Statement.{statement}
 use Rattle.split.proofs.first_line.header_fits.Tie as tie
 
+-- the numbers in front are in their ranges
+in-denominator : (s : tie.Else1) → inRange (1 to 1000000000) (s .before .before .before .before .before .args .header .denominator) ≡ true
+in-denominator s =
+    let limit = s .before .before in
+    range-index 1 (limit .index2 .ensures .0) (limit .before .index .ensures .0) (s .before .within .ensures) ∙ not-false _ (s .if1 .left)
+
+in-locations : (s : tie.Else2) → inRange (1 to 16) (s .before .before .before .before .before .before .before .args .header .locations) ≡ true
+in-locations s = sym (s .before .within2 .ensures) ∙ not-false _ (s .if2 .left)
+
+in-types : (s : tie.Else3) → inRange (1 to 64) (s .before .before .before .before .before .before .before .before .before .args .header .types) ≡ true
+in-types s = sym (s .before .within3 .ensures) ∙ not-false _ (s .if3 .left)
+
+in-maps : (s : tie.Else4) → inRange (1 to 512) (s .before .before .before .before .before .before .before .before .before .before .before .args .header .maps) ≡ true
+in-maps s = sym (s .before .within4 .ensures) ∙ not-false _ (s .if4 .left)
+
 returns : tie.Need-returns
 unfolding headerFits headerTold headerRanges
 returns c =
-    let within = c .before in
-    let index2 = within .before in
-    let index = index2 .before in
-    range-out _ _ _ _ (range-index 1 (index2 .index2 .ensures .0) (index .index .ensures .0) (within .within .ensures) ∙ not-true _ (c .if1 .taken))
+    let limit = c .before .before in
+    range-out _ _ _ _ (range-index 1 (limit .index2 .ensures .0) (limit .before .index .ensures .0) (c .before .within .ensures) ∙ not-true _ (c .if1 .taken))
 
 returns-2 : tie.Need-returns-2
 unfolding headerFits headerTold headerRanges
-returns-2 c =
-    let within2 = c .before in
-    let else1 = within2 .before in
-    let within = else1 .before in
-    let index2 = within .before in
-    let index = index2 .before in
-    let in1 = range-index 1 (index2 .index2 .ensures .0) (index .index .ensures .0) (within .within .ensures) ∙ not-false _ (else1 .if1 .left) in
-    range-next _ _ _ _ in1 (range-out _ _ _ _ (sym (within2 .within2 .ensures) ∙ not-true _ (c .if2 .taken)))
+returns-2 c = range-next _ _ _ _ (in-denominator (c .before .before)) (range-out _ _ _ _ (sym (c .before .within2 .ensures) ∙ not-true _ (c .if2 .taken)))
 
 returns-3 : tie.Need-returns-3
 unfolding headerFits headerTold headerRanges
 returns-3 c =
-    let within3 = c .before in
-    let else2 = within3 .before in
-    let within2 = else2 .before in
-    let else1 = within2 .before in
-    let within = else1 .before in
-    let index2 = within .before in
-    let index = index2 .before in
-    let in1 = range-index 1 (index2 .index2 .ensures .0) (index .index .ensures .0) (within .within .ensures) ∙ not-false _ (else1 .if1 .left) in
-    let in2 = sym (within2 .within2 .ensures) ∙ not-false _ (else2 .if2 .left) in
-    range-next _ _ _ _ in1 (range-next _ _ _ _ in2 (range-out _ _ _ _ (sym (within3 .within3 .ensures) ∙ not-true _ (c .if3 .taken))))
+    let two = c .before .before in
+    range-next _ _ _ _ (in-denominator (two .before .before))
+    (range-next _ _ _ _ (in-locations two) (range-out _ _ _ _ (sym (c .before .within3 .ensures) ∙ not-true _ (c .if3 .taken))))
 
 returns-4 : tie.Need-returns-4
 unfolding headerFits headerTold headerRanges
 returns-4 c =
-    let within4 = c .before in
-    let else3 = within4 .before in
-    let within3 = else3 .before in
-    let else2 = within3 .before in
-    let within2 = else2 .before in
-    let else1 = within2 .before in
-    let within = else1 .before in
-    let index2 = within .before in
-    let index = index2 .before in
-    let in1 = range-index 1 (index2 .index2 .ensures .0) (index .index .ensures .0) (within .within .ensures) ∙ not-false _ (else1 .if1 .left) in
-    let in2 = sym (within2 .within2 .ensures) ∙ not-false _ (else2 .if2 .left) in
-    let in3 = sym (within3 .within3 .ensures) ∙ not-false _ (else3 .if3 .left) in
-    range-next _ _ _ _ in1 (range-next _ _ _ _ in2 (range-next _ _ _ _ in3 (range-out _ _ _ _ (sym (within4 .within4 .ensures) ∙ not-true _ (c .if4 .taken)))))
+    let three = c .before .before in
+    let two = three .before .before in
+    range-next _ _ _ _ (in-denominator (two .before .before))
+    (range-next _ _ _ _ (in-locations two)
+    (range-next _ _ _ _ (in-types three) (range-out _ _ _ _ (sym (c .before .within4 .ensures) ∙ not-true _ (c .if4 .taken)))))
 
 returns-5 : tie.Need-returns-5
 unfolding headerFits headerTold headerRanges
 returns-5 c =
-    let index3 = c .before in
-    let else4 = index3 .before in
-    let within4 = else4 .before in
-    let else3 = within4 .before in
-    let within3 = else3 .before in
-    let else2 = within3 .before in
-    let within2 = else2 .before in
-    let else1 = within2 .before in
-    let within = else1 .before in
-    let index2 = within .before in
-    let index = index2 .before in
-    let in1 = range-index 1 (index2 .index2 .ensures .0) (index .index .ensures .0) (within .within .ensures) ∙ not-false _ (else1 .if1 .left) in
-    let in2 = sym (within2 .within2 .ensures) ∙ not-false _ (else2 .if2 .left) in
-    let in3 = sym (within3 .within3 .ensures) ∙ not-false _ (else3 .if3 .left) in
-    let in4 = sym (within4 .within4 .ensures) ∙ not-false _ (else4 .if4 .left) in
-    range-next _ _ _ _ in1 (range-next _ _ _ _ in2 (range-next _ _ _ _ in3 (range-next _ _ _ _ in4 (range-last _ _ (below-test _ _ (index3 .index3 .ensures .0))))))
+    let four = c .before .before in
+    let three = four .before .before in
+    let two = three .before .before in
+    range-next _ _ _ _ (in-denominator (two .before .before))
+    (range-next _ _ _ _ (in-locations two)
+    (range-next _ _ _ _ (in-types three)
+    (range-next _ _ _ _ (in-maps four) (range-last _ _ (below-test _ _ (c .before .index3 .ensures .0))))))
 
 pub header-fits-spec : {M : Type 1} → statement M
 header-fits-spec =

@@ -1,114 +1,110 @@
 -- The header line: its heading, its numerals, their ranges.
-use mathlib.Core.Path.{sym, ap, subst, _∙_}
+use borrow.Author.Needs.{needs}
 use borrow.Author.Tests.{not-true, not-false}
+use mathlib.Core.Path.{_≡_, sym, ap, subst, _∙_}
+use mathlib.Core.List.{List}
+use mathlib.Core.Option.{some}
+use Prim.Native.Nat.{ℕ, _<_}
+use lib.ListN.{length}
 use Rattle.spec.specs.Text.{lookUp}
 use Rattle.spec.specs.Split.{headings}
-use Rattle.lexer.specs.Cursors.{rest}
+use Rattle.lexer.specs.Views.{firstField}
+use Rattle.lexer.specs.Cursors.{Placed, rest}
+use Rattle.lexer.specs.declared.Cursor.{Cursor}
 use Rattle.lexer.proofs.Walks.{left-some}
 use Rattle.lines.specs.Answers.{HeadAnswer}
-use Rattle.split.specs.Header.{NumbersAnswer}
+use Rattle.lines.specs.declared.fields.Head.the-variants as head
 use Rattle.lines.proofs.LineLaws.{comma-placed}
+use Rattle.split.specs.Header.{NumbersAnswer}
+use Rattle.split.specs.declared.first_line.FoundHeader.the-variants as found-header
 use Rattle.split.proofs.HeaderLaws.{heading-known, heading-unknown, header-small, no-comma, no-header, header-form, header-range, header-on}
-use borrow.Author.Needs.{needs}
 use Rattle.split.proofs.first_line.header_line.Statement.{statement}
 use Rattle.split.proofs.first_line.header_line.Tie as tie
 
+module _ (s : tie.After-first-field) where
+  abbrev start : tie.Start
+  start = s .before .before .before
+
+  abbrev text : List ℕ
+  text = start .args .text .now
+
+  abbrev cursor : Cursor
+  cursor = start .args .cursor
+
+  left : 0 < length (rest text cursor)
+  left = left-some (rest text cursor) (start .pre .some)
+
+-- a comma ends the heading
+module _ (s : tie.After-from) where
+  abbrev first : tie.After-first-field
+  first = s .before .before
+
+  abbrev second : Cursor
+  second = s .from .given .0 .1 .1 .0
+
+  field : HeadAnswer (text first) (cursor first) (head.Field (s .from .given .0 .0) (s .from .given .0 .1 .0) second)
+  field = subst (HeadAnswer (text first) (cursor first)) (s .from .given .1) (first .first-field .ensures)
+
+  behind : Placed (text first) second
+  behind = comma-placed _ _ _ (start first .pre .reading .placed) (field .3) (field .4)
+
+-- the heading is known
+module _ (s : tie.After-heading) where
+  abbrev from : tie.After-from
+  from = s .before .before .before .before .before
+
+  known : lookUp (headings (start (first from) .args .purpose)) (firstField (rest (text (first from)) (cursor (first from)))) ≡ some (s .heading .given .0 .0)
+  known = ap (lookUp (headings (start (first from) .args .purpose))) (sym (field from .2)) ∙ heading-known _ _ (sym (s .before .before .heading-of .ensures) ∙ s .heading .given .1)
+
+-- its numerals are read
+module _ (s : tie.After-header) where
+  abbrev heading : tie.After-heading
+  heading = s .before .before .before .before
+
+  numbers : NumbersAnswer (text (first (from heading))) (second (from heading)) (heading .heading .given .0 .0) (found-header.Read (s .header .given .0 .0) (s .header .given .0 .1 .0))
+  numbers = subst (NumbersAnswer (text (first (from heading))) (second (from heading)) (heading .heading .given .0 .0)) (s .header .given .1) (s .before .before .header-numbers .ensures)
+
 returns : tie.Need-returns
 returns c =
-    let first-field = c .before .before in
-    let entry = first-field .before .before .before in
-    let left = left-some (rest (entry .args .text .now) (entry .args .cursor)) (entry .pre .some) in
-    no-comma (entry .args .purpose) (entry .args .text .now) (entry .args .cursor) left (subst (HeadAnswer (entry .args .text .now) (entry .args .cursor)) (c .enum-told .given .1) (first-field .first-field .ensures))
-
-sub-heading-of : tie.Need-sub-heading-of
-sub-heading-of c =
-    let from = c .before in
-    let first-field = from .before .before in
-    let entry = first-field .before .before .before in
-    let head = subst (HeadAnswer (entry .args .text .now) (entry .args .cursor)) (from .from .given .1) (first-field .first-field .ensures) in
-    head .0
-
-part-heading-of-start : tie.Need-part-heading-of-start
-part-heading-of-start c =
-    let from = c .before in
-    let first-field = from .before .before in
-    let entry = first-field .before .before .before in
-    let head = subst (HeadAnswer (entry .args .text .now) (entry .args .cursor)) (from .from .given .1) (first-field .first-field .ensures) in
-    head .0
-
-part-heading-of-end : tie.Need-part-heading-of-end
-part-heading-of-end c =
-    let from = c .before in
-    let first-field = from .before .before in
-    let entry = first-field .before .before .before in
-    let head = subst (HeadAnswer (entry .args .text .now) (entry .args .cursor)) (from .from .given .1) (first-field .first-field .ensures) in
-    head .1
+    let s = c .before .before in
+    no-comma (start s .args .purpose) (text s) (cursor s) (left s) (subst (HeadAnswer (text s) (cursor s)) (c .enum-told .given .1) (s .first-field .ensures))
 
 returns-2 : tie.Need-returns-2
 returns-2 c =
-    let heading-of = c .before .before in
-    let from = heading-of .before .before .before in
-    let first-field = from .before .before in
-    let entry = first-field .before .before .before in
-    let left = left-some (rest (entry .args .text .now) (entry .args .cursor)) (entry .pre .some) in
-    let head = subst (HeadAnswer (entry .args .text .now) (entry .args .cursor)) (from .from .given .1) (first-field .first-field .ensures) in
-    no-header (entry .args .purpose) (entry .args .text .now) (entry .args .cursor) left (ap (lookUp (headings (entry .args .purpose))) (sym (head .2)) ∙ heading-unknown _ (sym (heading-of .heading-of .ensures) ∙ c .enum-told2 .given .1))
-
-header-numbers-requires : tie.Need-header-numbers-requires
-header-numbers-requires c κs =
-    let heading-of = c .before .before .before in
-    let from = heading-of .before .before .before in
-    let first-field = from .before .before in
-    let entry = first-field .before .before .before in
-    let head = subst (HeadAnswer (entry .args .text .now) (entry .args .cursor)) (from .from .given .1) (first-field .first-field .ensures) in
-    record { placed = comma-placed _ _ _ (entry .pre .reading .placed) (head .3) (head .4); fits = entry .pre .reading .fits }
+    let heading = c .before .before in
+    let from = heading .before .before .before in
+    let s = first from in
+    no-header (start s .args .purpose) (text s) (cursor s) (left s)
+    (ap (lookUp (headings (start s .args .purpose))) (sym (field from .2)) ∙ heading-unknown _ (sym (heading .heading-of .ensures) ∙ c .enum-told2 .given .1))
 
 returns-3 : tie.Need-returns-3
 returns-3 c =
-    let header-numbers = c .before .before in
-    let heading = header-numbers .before .before in
-    let heading-of = heading .before .before in
-    let from = heading-of .before .before .before in
-    let first-field = from .before .before in
-    let entry = first-field .before .before .before in
-    let left = left-some (rest (entry .args .text .now) (entry .args .cursor)) (entry .pre .some) in
-    let head = subst (HeadAnswer (entry .args .text .now) (entry .args .cursor)) (from .from .given .1) (first-field .first-field .ensures) in
-    let known = ap (lookUp (headings (entry .args .purpose))) (sym (head .2)) ∙ heading-known _ _ (sym (heading-of .heading-of .ensures) ∙ heading .heading .given .1) in
-    let answer = subst (NumbersAnswer (entry .args .text .now) _ _) (c .enum-told3 .given .1) (header-numbers .header-numbers .ensures) in
-    header-form (entry .args .purpose) (entry .args .text .now) (entry .args .cursor) left (entry .pre .reading .placed) (head .3) _ (head .4) _ known answer
+    let numbers = c .before .before in
+    let heading = numbers .before .before in
+    let s = first (from heading) in
+    header-form (start s .args .purpose) (text s) (cursor s) (left s) (start s .pre .reading .placed) (field (from heading) .3) _ (field (from heading) .4) _ (known heading)
+    (subst (NumbersAnswer (text s) _ _) (c .enum-told3 .given .1) (numbers .header-numbers .ensures))
 
 returns-4 : tie.Need-returns-4
 returns-4 c =
-    let header-fits = c .before in
-    let header = header-fits .before .before in
-    let header-numbers = header .before .before in
-    let heading = header-numbers .before .before in
-    let heading-of = heading .before .before in
-    let from = heading-of .before .before .before in
-    let first-field = from .before .before in
-    let entry = first-field .before .before .before in
-    let left = left-some (rest (entry .args .text .now) (entry .args .cursor)) (entry .pre .some) in
-    let head = subst (HeadAnswer (entry .args .text .now) (entry .args .cursor)) (from .from .given .1) (first-field .first-field .ensures) in
-    let known = ap (lookUp (headings (entry .args .purpose))) (sym (head .2)) ∙ heading-known _ _ (sym (heading-of .heading-of .ensures) ∙ heading .heading .given .1) in
-    let answer = subst (NumbersAnswer (entry .args .text .now) _ _) (header .header .given .1) (header-numbers .header-numbers .ensures) in
-    header-range (entry .args .purpose) (entry .args .text .now) (entry .args .cursor) left (entry .pre .reading .placed) (head .3) _ (head .4) _ known (answer .0) _ (answer .1) _ (answer .2) (sym (header-fits .header-fits .ensures) ∙ not-true _ (c .if1 .taken))
+    let header = c .before .before .before in
+    let from = from (heading header) in
+    let s = first from in
+    let (ns, found, told, placed, line) = numbers header in
+    header-range (start s .args .purpose) (text s) (cursor s) (left s) (start s .pre .reading .placed) (field from .3) _ (field from .4) _ (known (heading header)) ns _ found _ told
+    (sym (c .before .header-fits .ensures) ∙ not-true _ (c .if1 .taken))
 
 returns-5 : tie.Need-returns-5
 returns-5 c =
-    let header-fits = c .before in
-    let header = header-fits .before .before in
-    let header-numbers = header .before .before in
-    let heading = header-numbers .before .before in
-    let heading-of = heading .before .before in
-    let from = heading-of .before .before .before in
-    let first-field = from .before .before in
-    let entry = first-field .before .before .before in
-    let left = left-some (rest (entry .args .text .now) (entry .args .cursor)) (entry .pre .some) in
-    let head = subst (HeadAnswer (entry .args .text .now) (entry .args .cursor)) (from .from .given .1) (first-field .first-field .ensures) in
-    let known = ap (lookUp (headings (entry .args .purpose))) (sym (head .2)) ∙ heading-known _ _ (sym (heading-of .heading-of .ensures) ∙ heading .heading .given .1) in
-    let answer = subst (NumbersAnswer (entry .args .text .now) _ _) (header .header .given .1) (header-numbers .header-numbers .ensures) in
-    let fits = sym (header-fits .header-fits .ensures) ∙ not-false _ (c .if1 .left) in
-    (header-on (entry .args .purpose) (entry .args .text .now) (entry .args .cursor) left (entry .pre .reading .placed) (head .3) _ (head .4) _ known (answer .0) _ (answer .1) _ (answer .2) fits (answer .4), answer .3, header-small _ fits)
+    let header = c .before .before .before in
+    let from = from (heading header) in
+    let s = first from in
+    let (ns, found, told, placed, line) = numbers header in
+    let fits = sym (c .before .header-fits .ensures) ∙ not-false _ (c .if1 .left) in (
+      header-on (start s .args .purpose) (text s) (cursor s) (left s) (start s .pre .reading .placed) (field from .3) _ (field from .4) _ (known (heading header)) ns _ found _ told fits line,
+      placed,
+      header-small _ fits,
+    )
 
 pub header-line-spec : {M : Type 1} → statement M
 header-line-spec =
@@ -119,14 +115,14 @@ header-line-spec =
     (λ c. search needs)
     (λ c. search needs)
     returns
-    sub-heading-of
-    part-heading-of-start
-    part-heading-of-end
+    (λ c. field (c .before) .0)
+    (λ c. field (c .before) .0)
+    (λ c. field (c .before) .1)
     (λ c κs. search needs)
     (λ c. search needs)
     (λ c. search needs)
     returns-2
-    header-numbers-requires
+    (λ c κs. let from = c .before .before .before .before .before .before in record { placed = behind from; fits = start (first from) .pre .reading .fits })
     (λ c. search needs)
     (λ c. search needs)
     returns-3
