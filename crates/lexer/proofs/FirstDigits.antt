@@ -14,7 +14,7 @@ use borrow.Author.Tests.{ne-eqb, le-leb, lt-leb, lt-ltb, ltb-true, ltb-false}
 use Rattle.spec.specs.Choice.{if_then_else_}
 use Rattle.spec.specs.Text.{digitLimit, digits, value, leadingZero, numeral}
 use Rattle.lexer.specs.Views.{width, endOf, firstField}
-use Rattle.lexer.specs.Cursors.{rest, past, next}
+use Rattle.lexer.specs.Cursors.{rest, past, behindField}
 use Rattle.lexer.specs.Numbers.{Lower, zeroLeads, digitFirst, DigitsTaken, numberOf, numberAt}
 use Rattle.lexer.specs.declared.Cursor.{Cursor}
 use Rattle.lexer.specs.declared.Taken.{Taken}
@@ -140,7 +140,7 @@ module _ (text : List ℕ) (c : Cursor) where
 
   valued : (n : ℕ) (e : FieldEnd) (to : ℕ) → numeral (firstField (rest text c)) ≡ some n → endOf (rest text c) ≡ e → c .at + width (rest text c) ≡ to
       → number-is.Value n e (past e to (c .line)) ≡ numberAt text c
-  unfolding numberAt numberOf next
+  unfolding numberAt numberOf behindField
   valued n e to f g h = rw (f, g, h)
 
   module _ (d : Taken) (taken : DigitsTaken text c d) where

@@ -6,7 +6,7 @@ use Prim.Native.Nat.{ℕ}
 use native.Mathlib.Omega.{arith}
 use Rattle.spec.specs.Text.{numeral}
 use Rattle.lexer.specs.Views.{endOf, firstField}
-use Rattle.lexer.specs.Cursors.{rest, next}
+use Rattle.lexer.specs.Cursors.{rest, behindField}
 use Rattle.lexer.specs.Numbers.{numeralOf, numberOf, numberAt}
 use Rattle.lexer.specs.declared.Cursor.{Cursor}
 use Rattle.lexer.specs.declared.FieldEnd.{FieldEnd}
@@ -39,7 +39,7 @@ none-parts (some m) e d h = cc
 -- what a number at a cursor says of the text
 module _ (text : List ℕ) (c : Cursor) where
   pub value-at-cursor : (n : ℕ) (e : FieldEnd) (d : Cursor) → numberAt text c ≡ number-is.Value n e d
-      → (numeral (firstField (rest text c)) ≡ some n) × (endOf (rest text c) ≡ e) × (next text c ≡ d)
+      → (numeral (firstField (rest text c)) ≡ some n) × (endOf (rest text c) ≡ e) × (behindField text c ≡ d)
   unfolding numberAt
   value-at-cursor n e d h = value-parts _ _ _ n e d h
 

@@ -10,7 +10,7 @@ use borrow.Author.Tests.{le-leb, lt-leb}
 use lib.ListN.{length, take, drop, drop-of-length-le, length-drop}
 use lib.Seq.{drop-drop}
 use Rattle.lexer.specs.Views.{width, endOf, firstField, behind, nothing}
-use Rattle.lexer.specs.Cursors.{Placed, rest, past, next, spanTo, spanAt}
+use Rattle.lexer.specs.Cursors.{Placed, rest, past, behindField, spanTo, spanAt}
 use Rattle.lexer.specs.declared.Cursor.{Cursor}
 use Rattle.lexer.specs.declared.Span.{Span}
 use Rattle.lexer.specs.declared.FieldEnd.{FieldEnd}
@@ -93,22 +93,22 @@ module _ (text : List ℕ) (c : Cursor) (p : Placed text c) where
   past-placed Text h = let l = rest-length in record { line-le = omega (arith, p .line-le); at-le = omega (arith, p .at-le); short = p .short }
 
   -- what is left behind the field at a cursor
-  pub next-rest : rest text (next text c) ≡ behind (rest text c)
-  unfolding next rest
+  pub next-rest : rest text (behindField text c) ≡ behind (rest text c)
+  unfolding behindField rest
   next-rest = past-rest (endOf (rest text c)) (field-fits (rest text c))
 
   -- and the cursor behind it stands in the text again
-  pub next-placed : Placed text (next text c)
-  unfolding next
+  pub next-placed : Placed text (behindField text c)
+  unfolding behindField
   next-placed = past-placed (endOf (rest text c)) (field-fits (rest text c))
 
 module _ (text : List ℕ) (c : Cursor) where
-  pub line-kept : endOf (rest text c) ≡ Comma → next text c .line ≡ c .line
-  unfolding next past
+  pub line-kept : endOf (rest text c) ≡ Comma → behindField text c .line ≡ c .line
+  unfolding behindField past
   line-kept e = rw e
 
-  pub line-passed : endOf (rest text c) ≡ Newline → next text c .line ≡ c .line + 1
-  unfolding next past
+  pub line-passed : endOf (rest text c) ≡ Newline → behindField text c .line ≡ c .line + 1
+  unfolding behindField past
   line-passed e = rw e
 
 -- ------------------------------------------------------------------ the bytes of a field

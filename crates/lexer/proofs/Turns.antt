@@ -5,7 +5,7 @@ use Prim.Native.Nat.{ℕ, zero, suc, _+_, _-_, _≤_, _<_}
 use native.Mathlib.Omega.{arith}
 use lib.ListN.{length, length-append, replicate}
 use Rattle.spec.specs.Text.{Field}
-use Rattle.spec.specs.Reading.{SheetName, stop, on, Seen, Place, next, nextAll}
+use Rattle.spec.specs.Reading.{SheetName, stop, on, Seen, Place, readLine, readLines}
 use Rattle.spec.specs.declared.Refusal.{Refusal}
 use Rattle.spec.proofs.Reading.{front, front-none, all-stop, all-on, all-done}
 use Rattle.lexer.specs.Cursors.{Placed, placeAt}
@@ -27,7 +27,7 @@ pub record Turn {A : Type 0} (sheet : SheetName) (read : ℕ → List Field → 
   pub count : length entries ≡ i
   pub few : i ≤ n
   pub placed : Placed text c
-  pub rest : nextAll sheet (numbered read 0 n) from ≡ front entries (nextAll sheet (numbered read i (n - i)) (placeAt text c))
+  pub rest : readLines sheet (numbered read 0 n) from ≡ front entries (readLines sheet (numbered read i (n - i)) (placeAt text c))
 
 pub first-turn : {A : Type 0} {sheet : SheetName} {read : ℕ → List Field → Seen A} {n : ℕ} {text : List ℕ} {c : Cursor} → Placed text c
     → Turn sheet read n text (placeAt text c) c 0 []
@@ -35,7 +35,7 @@ first-turn {sheet = sheet} {read = read} {text = text} {c = c} p = record {
   count = refl;
   few = omega arith;
   placed = p;
-  rest = sym (ap (λ (k : ℕ). front [] (nextAll sheet (numbered read 0 k) (placeAt text c))) (omega arith) ∙ front-none _);
+  rest = sym (ap (λ (k : ℕ). front [] (readLines sheet (numbered read 0 k) (placeAt text c))) (omega arith) ∙ front-none _);
 }
 
 module _
@@ -46,26 +46,26 @@ module _
     unfolding numbered
     left h = let e : n - i ≡ suc (n - (i + 1)) = omega arith in rw e
 
-    -- the next line is read
-    pub turn-on : i < n → {entry : A} {d : Cursor} → next sheet (read i) (placeAt text c) ≡ on (entry, placeAt text d) → Placed text d
+    -- the readLine line is read
+    pub turn-on : i < n → {entry : A} {d : Cursor} → readLine sheet (read i) (placeAt text c) ≡ on (entry, placeAt text d) → Placed text d
         → Turn sheet read n text from d (i + 1) (entries ++ (entry ∷ []))
     turn-on h {entry} {d} e p = record {
       count = omega (arith, length-append entries (entry ∷ []), t .count);
       few = omega arith;
       placed = p;
-      rest = t .rest ∙ ap (λ (l : List _). front entries (nextAll sheet l (placeAt text c))) (left h)
+      rest = t .rest ∙ ap (λ (l : List _). front entries (readLines sheet l (placeAt text c))) (left h)
           ∙ all-on sheet (read i) (numbered read (i + 1) (n - (i + 1))) (placeAt text c) entries entry (placeAt text d) e;
     }
 
     -- it is refused
-    pub turn-stops : i < n → {r : Refusal} → next sheet (read i) (placeAt text c) ≡ stop r → nextAll sheet (numbered read 0 n) from ≡ stop r
+    pub turn-stops : i < n → {r : Refusal} → readLine sheet (read i) (placeAt text c) ≡ stop r → readLines sheet (numbered read 0 n) from ≡ stop r
     unfolding front
     turn-stops h {r} e =
-        t .rest ∙ ap (λ (l : List _). front entries (nextAll sheet l (placeAt text c))) (left h)
+        t .rest ∙ ap (λ (l : List _). front entries (readLines sheet l (placeAt text c))) (left h)
         ∙ ap (front entries) (all-stop sheet (read i) (numbered read (i + 1) (n - (i + 1))) (placeAt text c) r e)
 
     -- all of them are read
-    pub turns-done : n ≤ i → nextAll sheet (numbered read 0 n) from ≡ on (entries, placeAt text c)
+    pub turns-done : n ≤ i → readLines sheet (numbered read 0 n) from ≡ on (entries, placeAt text c)
     unfolding numbered
     turns-done h = let e : n - i ≡ 0 = omega (arith, t .few) in t .rest ∙ rw e (all-done sheet entries (placeAt text c))
 

@@ -9,7 +9,7 @@ use lib.ListN.{length}
 use Rattle.spec.specs.Text.{lines, Field, numeral}
 use Rattle.spec.specs.Reading.{SheetName, stop, Seen, wrong, badForm, form, faulty, passed, nextLine}
 use Rattle.lexer.specs.Views.{endOf, firstField, behind, nothing, withField, lineAt}
-use Rattle.lexer.specs.Cursors.{Placed, start, rest, next, spanTo, spanAt}
+use Rattle.lexer.specs.Cursors.{Placed, start, rest, behindField, spanTo, spanAt}
 use types.Run.{OneOf, miss}
 use denote.Enum.Declared.{tagOf}
 use Rattle.lexer.proofs.FieldEnd as field-end
@@ -41,8 +41,8 @@ module _ (text : List ℕ) (c : Cursor) (s : Span) (is : s ≡ spanAt text c) wh
   unfolding spanAt spanTo
   span-end = rw is
 
-  pub span-next : s .next ≡ next text c
-  unfolding spanAt spanTo next
+  pub span-next : s .next ≡ behindField text c
+  unfolding spanAt spanTo behindField
   span-next = rw is
 
   module _ (p : Placed text c) where
@@ -66,7 +66,7 @@ module _ (text : List ℕ) (c : Cursor) (n : ℕ) (e : FieldEnd) (d : Cursor) (i
   pub number-end : endOf (rest text c) ≡ e
   number-end = value-at-cursor text c n e d is .1
 
-  pub number-next : next text c ≡ d
+  pub number-next : behindField text c ≡ d
   number-next = value-at-cursor text c n e d is .2
 
   pub number-line-kept : e ≡ Comma → d .line ≡ c .line

@@ -35,8 +35,8 @@ past Newline to line = record { at = to + 1; line = line + 1 }
 past Text to line = record { at = to; line = line }
 
 -- the cursor behind the field at a cursor
-unfoldable pub next : List ℕ → Cursor → Cursor
-next text c = past (endOf (rest text c)) (c .at + width (rest text c)) (c .line)
+unfoldable pub behindField : List ℕ → Cursor → Cursor
+behindField text c = past (endOf (rest text c)) (c .at + width (rest text c)) (c .line)
 
 -- the field from a cursor to a byte, with its end
 unfoldable pub spanTo : FieldEnd → (to : ℕ) → Cursor → Span

@@ -10,7 +10,7 @@ use Rattle.spec.specs.Choice.{if_then_else_}
 use Rattle.spec.specs.Text.{Field, digitLimit, digits, value as valueOf, numeral}
 use Rattle.spec.specs.Reading.{numerals}
 use Rattle.lexer.specs.Views.{width, endOf, firstField, lineAt}
-use Rattle.lexer.specs.Cursors.{rest, next}
+use Rattle.lexer.specs.Cursors.{rest, behindField}
 use Rattle.lexer.specs.declared.Cursor.{Cursor}
 use Rattle.lexer.specs.declared.FieldEnd.{FieldEnd}
 use Rattle.lexer.specs.declared.Numeral.{Numeral}
@@ -33,7 +33,7 @@ numberOf (some n) e c = number-is.Value n e c
 
 -- the numeral at a cursor, what ends it, and the cursor behind it
 unfoldable pub numberAt : List ℕ → Cursor → Number
-numberAt text c = numberOf (numeral (firstField (rest text c))) (endOf (rest text c)) (next text c)
+numberAt text c = numberOf (numeral (firstField (rest text c))) (endOf (rest text c)) (behindField text c)
 
 -- ------------------------------------------------------------------ the digits in front
 

@@ -7,7 +7,7 @@ use Prim.Native.Nat.{ℕ, _+_, _≤_, _<_}
 use lib.ListN.{length}
 use Rattle.spec.specs.Choice.{if_then_else_}
 use Rattle.spec.specs.Text.{lines, Field}
-use Rattle.spec.specs.Reading.{splitSheet, Out, stop, Place, Seen, right, wrong, badRange, noStart, insist, below, inRange, allInRange, passed, next}
+use Rattle.spec.specs.Reading.{splitSheet, Out, stop, Place, Seen, right, wrong, badRange, noStart, insist, below, inRange, allInRange, passed, readLine}
 use Rattle.spec.specs.Split.{Header, Row, rowOf, startRange, mayBeEmpty}
 use Rattle.spec.specs.Words.{takesStart}
 use Rattle.spec.specs.declared.Purpose.{Purpose}
@@ -17,7 +17,7 @@ use Rattle.spec.specs.declared.MapNumber.{MapNumber}
 use Rattle.spec.specs.declared.Heading.{Heading}
 use Rattle.spec.specs.declared.Heading.the-variants.{C, C2, C3}
 use Rattle.lexer.specs.Views.{endOf, firstField, lineAt}
-use Rattle.lexer.specs.Cursors.{Placed, rest, next as nextCursor, placeAt}
+use Rattle.lexer.specs.Cursors.{Placed, rest, behindField, placeAt}
 use Rattle.lexer.specs.declared.Cursor.{Cursor}
 use Rattle.lexer.specs.declared.FieldEnd.the-variants.{Newline}
 use Rattle.lexer.proofs.Fields.{line-newline}
@@ -102,7 +102,7 @@ three-tested H w a b n = go (inRange (below (H .types)) a) (inRange (below (H .m
 
 module _ (purpose : Purpose) (H : Header) (w : Word) (text : List ℕ) (c : Cursor) (p : Placed text c) (some-left : 0 < length (rest text c)) where
   abbrev out : Out (Row × Place)
-  out = next splitSheet (wordLine purpose H w) (placeAt text c)
+  out = readLine splitSheet (wordLine purpose H w) (placeAt text c)
 
   pub row-first : LeadingAnswer text c leading.Malformed → out ≡ stop (SplitForm (c .line + 1))
   row-first h =
@@ -159,7 +159,7 @@ module _ (purpose : Purpose) (H : Header) (w : Word) (text : List ℕ) (c : Curs
           (λ n. field-more behind-two (c .line + 1) (rest text c₃) n (fourth-bad purpose H w f g (firstField (rest text c₃))))
           h
 
-      module _ (d : Cursor) (newline : endOf (rest text c₃) ≡ Newline) (is : nextCursor text c₃ ≡ d) where
+      module _ (d : Cursor) (newline : endOf (rest text c₃) ≡ Newline) (is : behindField text c₃ ≡ d) where
         row-closed : out ≡ passed splitSheet (c .line + 1) (lines (rest text d)) (behind-two (firstField (rest text c₃) ∷ []))
         unfolding shown
         row-closed =

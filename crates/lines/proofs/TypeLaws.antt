@@ -8,7 +8,7 @@ use native.Mathlib.Omega.{arith}
 use lib.ListN.{length, getD}
 use Rattle.spec.specs.Choice.{if_then_else_}
 use Rattle.spec.specs.Text.{Field, lines}
-use Rattle.spec.specs.Reading.{splitSheet, stop, on, right, wrong, badForm, badRange, seen, Range, _to_, below, allInRange, numerals, ranged, numbers, form, faulty, passed, nextLine, next}
+use Rattle.spec.specs.Reading.{splitSheet, stop, on, right, wrong, badForm, badRange, seen, Range, _to_, below, allInRange, numerals, ranged, numbers, form, faulty, passed, nextLine, readLine}
 use Rattle.spec.specs.Split.{Header, refOf, lockOf, outRange, tidOf, semOf, rwlockOf, typeLine}
 use Rattle.spec.specs.declared.Heading.{Heading}
 use Rattle.spec.specs.declared.Heading.the-variants.{C, C2, C3}
@@ -16,7 +16,7 @@ use Rattle.spec.specs.declared.Refusal.the-variants.{SplitForm, SplitRange}
 use Rattle.spec.specs.declared.TypeLine.{TypeLine}
 use Rattle.spec.specs.declared.TypeLine.the-variants as type-line
 use Rattle.lexer.specs.Views.{endOf, firstField}
-use Rattle.lexer.specs.Cursors.{Placed, rest, next as nextCursor, placeAt}
+use Rattle.lexer.specs.Cursors.{Placed, rest, behindField, placeAt}
 use Rattle.lexer.specs.Numbers.{numbersAt}
 use Rattle.lexer.specs.Words.{typeWordOf}
 use Rattle.lexer.specs.declared.Cursor.{Cursor}
@@ -73,14 +73,14 @@ typeAnswer type-seen.BadForm k d = type-read.Refused (SplitForm k)
 typeAnswer type-seen.BadRange k d = type-read.Refused (SplitRange k)
 
 module _ (H : Header) (own : ℕ) (text : List ℕ) (c : Cursor) (some-left : 0 < length (rest text c)) where
-  pub no-comma : (endOf (rest text c) ≡ Comma → ⊥) → next splitSheet (typeLine H own) (placeAt text c) ≡ stop (SplitForm (c .line + 1))
+  pub no-comma : (endOf (rest text c) ≡ Comma → ⊥) → readLine splitSheet (typeLine H own) (placeAt text c) ≡ stop (SplitForm (c .line + 1))
   unfolding form
   no-comma n =
       let f = firstField (rest text c) in
       next-at splitSheet text (typeLine H own) c
       ∙ first-alone splitSheet (typeLine H own) (c .line) (rest text c) some-left n (kind-line H own f [] ∙ kind-alone H own (typeWordOf f))
 
-  module _ (p : Placed text c) (comma : endOf (rest text c) ≡ Comma) (d : Cursor) (is : nextCursor text c ≡ d) where
+  module _ (p : Placed text c) (comma : endOf (rest text c) ≡ Comma) (d : Cursor) (is : behindField text c ≡ d) where
     as-kind : (k : TypeWord) → typeWordOf (firstField (rest text c)) ≡ k → (fs : List Field) → typeLine H own (firstField (rest text c) ∷ fs) ≡ ofKind H own fs k
     as-kind k e fs = kind-line H own (firstField (rest text c)) fs ∙ ap (ofKind H own fs) e
 
@@ -122,13 +122,13 @@ module _ (H : Header) (own : ℕ) (text : List ℕ) (c : Cursor) (some-left : 0 
     kind-read few kind.Rwlock e ns r n = known-read (below (H .maps) ∷ below (H .maps) ∷ []) rwlockOf (as-kind kind.Rwlock e) (omega arith, (omega arith, tt)) ns r n
     kind-read few kind.Unknown e ns r n = unknown e
 
-    pub type-form : numbersAt text d 2 ≡ none → next splitSheet (typeLine H own) (placeAt text c) ≡ stop (SplitForm (c .line + 1))
+    pub type-form : numbersAt text d 2 ≡ none → readLine splitSheet (typeLine H own) (placeAt text c) ≡ stop (SplitForm (c .line + 1))
     type-form n = next-at splitSheet text (typeLine H own) c ∙ kind-form (typeWordOf (firstField (rest text c))) refl n
 
     -- the word and the numbers are read: what they come to
     module _ (few : (H .locations ≤ 16) × (H .maps ≤ 512) × (own < 64)) (k : TypeWord) (word : k ≡ typeWordOf (firstField (rest text c))) (ns : List ℕ) (e : Cursor) (h : LineRead text d 2 ns e)
         (s : TypeSeen) (told : s ≡ typeSeen k H own (getD ns 0 0 ∷ getD ns 1 0 ∷ [])) where
-      reads : next splitSheet (typeLine H own) (placeAt text c)
+      reads : readLine splitSheet (typeLine H own) (placeAt text c)
           ≡ passed splitSheet (c .line + 1) (lines (rest text e)) (typeTold s)
       unfolding numbersFrom
       reads =
@@ -136,7 +136,7 @@ module _ (H : Header) (own : ℕ) (text : List ℕ) (c : Cursor) (some-left : 0 
           ∙ ap (λ (l : List ℕ). passed splitSheet (c .line + 1) (lines (rest text e)) (typeTold (typeSeen k H own l))) (one-by-one 2 ns (h .long))
           ∙ ap (λ (x : TypeSeen). passed splitSheet (c .line + 1) (lines (rest text e)) (typeTold x)) (sym told)
 
-      pub type-answered : (x : TypeSeen) → s ≡ x → TypeAnswer text (next splitSheet (typeLine H own) (placeAt text c)) (typeAnswer x (c .line + 1) e)
+      pub type-answered : (x : TypeSeen) → s ≡ x → TypeAnswer text (readLine splitSheet (typeLine H own) (placeAt text c)) (typeAnswer x (c .line + 1) e)
       unfolding typeTold typeAnswer
       type-answered (type-seen.Right t) q =
           (reads ∙ shows-entry text c e t (ap typeTold q) (h .line ∙ ap (λ (k : ℕ). k + 1) (comma-kept text c d p comma is)), h .placed)

@@ -12,7 +12,7 @@ use Rattle.spec.specs.declared.Purpose.{Purpose}
 use Rattle.spec.specs.declared.Purpose.the-variants.{Check, Fill}
 use Rattle.spec.specs.declared.TypeLine.{TypeLine}
 use Rattle.lexer.specs.Views.{endOf, firstField}
-use Rattle.lexer.specs.Cursors.{Placed, rest, next, placeAt}
+use Rattle.lexer.specs.Cursors.{Placed, rest, behindField, placeAt}
 use Rattle.lexer.specs.Numbers.{Spells}
 use Rattle.lexer.specs.declared.Cursor.{Cursor}
 use Rattle.lexer.specs.declared.FieldEnd.the-variants.{Comma, Newline}
@@ -54,12 +54,12 @@ pub record AtRow (text : List ℕ) (c : Cursor) (h : HeaderRead) : Type 0 where
 abbrev pub HeadAnswer : List ℕ → Cursor → Head → Type 0
 HeadAnswer text c (head.Field from to d) =
     (from ≤ to) × (to ≤ length text)
-    × (take (to - from) (drop from text) ≡ firstField (rest text c)) × (endOf (rest text c) ≡ Comma) × (next text c ≡ d)
+    × (take (to - from) (drop from text) ≡ firstField (rest text c)) × (endOf (rest text c) ≡ Comma) × (behindField text c ≡ d)
 HeadAnswer text c head.Alone = endOf (rest text c) ≡ Comma → ⊥
 
 -- a numeral with a comma behind it
 abbrev pub LeadingAnswer : List ℕ → Cursor → Leading → Type 0
-LeadingAnswer text c (leading.Value n d) = Spells (firstField (rest text c)) n × (endOf (rest text c) ≡ Comma) × (next text c ≡ d)
+LeadingAnswer text c (leading.Value n d) = Spells (firstField (rest text c)) n × (endOf (rest text c) ≡ Comma) × (behindField text c ≡ d)
 LeadingAnswer text c leading.Malformed = (numeral (firstField (rest text c)) ≡ none) ⊎ (endOf (rest text c) ≡ Comma → ⊥)
 
 -- the number that is handed on for an m: when filling, that of map 0 for nothing, and for a numeral one that is in no range
@@ -70,13 +70,13 @@ PostSpells Fill (b ∷ m) n = (k : ℕ) × (numeral (b ∷ m) ≡ some k) × (n 
 
 -- an m with a comma behind it
 abbrev pub PostAnswer : Purpose → List ℕ → Cursor → Leading → Type 0
-PostAnswer purpose text c (leading.Value n d) = PostSpells purpose (firstField (rest text c)) n × (endOf (rest text c) ≡ Comma) × (next text c ≡ d)
+PostAnswer purpose text c (leading.Value n d) = PostSpells purpose (firstField (rest text c)) n × (endOf (rest text c) ≡ Comma) × (behindField text c ≡ d)
 PostAnswer purpose text c leading.Malformed = (numeral (postField purpose (firstField (rest text c))) ≡ none) ⊎ (endOf (rest text c) ≡ Comma → ⊥)
 
 -- the last field of a row
 abbrev pub StartAnswer : List ℕ → Cursor → Start → Type 0
-StartAnswer text c (start.Empty d) = (firstField (rest text c) ≡ []) × (endOf (rest text c) ≡ Newline) × (next text c ≡ d)
-StartAnswer text c (start.Given n d) = Spells (firstField (rest text c)) n × (endOf (rest text c) ≡ Newline) × (next text c ≡ d)
+StartAnswer text c (start.Empty d) = (firstField (rest text c) ≡ []) × (endOf (rest text c) ≡ Newline) × (behindField text c ≡ d)
+StartAnswer text c (start.Given n d) = Spells (firstField (rest text c)) n × (endOf (rest text c) ≡ Newline) × (behindField text c ≡ d)
 StartAnswer text c start.Malformed = ((numeral (firstField (rest text c)) ≡ none) × (firstField (rest text c) ≡ [] → ⊥)) ⊎ (endOf (rest text c) ≡ Newline → ⊥)
 
 -- ------------------------------------------------------------------ lines

@@ -6,7 +6,7 @@ use lexer::Numbers;
 use spec::Refusal;
 ghost use mathlib.Core.Path.{_≡_};
 ghost use lib.ListN.{length};
-ghost use Rattle.spec.specs.Reading.{splitSheet, allInRange, next};
+ghost use Rattle.spec.specs.Reading.{splitSheet, allInRange, readLine};
 ghost use Rattle.lexer.specs.Cursors.{placeAt};
 ghost use Rattle.lines.specs.Lines.{cells, cellLine};
 ghost use Rattle.lines.specs.Answers.{Reading, MapAnswer};
@@ -28,18 +28,18 @@ fn cells_fit(map: &[u32]) -> bool
 // The map line at a cursor, into as many places as there are locations.
 pub fn map_line(text: &[u8], cursor: Cursor, into: &mut [u32]) -> LinesRead
     requires { ⌜ Reading (now text) cursor ⌝ }
-    ensures { λ r. ⌜ MapAnswer (now (text .entry)) (now (into .exit)) (next splitSheet (cellLine (length (now (into .entry)))) (placeAt (now (text .entry)) cursor)) r ⌝ }
+    ensures { λ r. ⌜ MapAnswer (now (text .entry)) (now (into .exit)) (readLine splitSheet (cellLine (length (now (into .entry)))) (placeAt (now (text .entry)) cursor)) r ⌝ }
 {
     if cursor.at_end(text) {
         return LinesRead::Refused(Refusal::SplitLines(cursor.line));
     }
     let line = cursor.line + 1;
     let read = cursor.numbers(text, into);
-    let Numbers::Read(next) = read else {
+    let Numbers::Read(readLine) = read else {
         return LinesRead::Refused(Refusal::SplitForm(line));
     };
     if !cells_fit(into) {
         return LinesRead::Refused(Refusal::SplitRange(line));
     }
-    LinesRead::Read(next)
+    LinesRead::Read(readLine)
 }

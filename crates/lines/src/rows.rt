@@ -15,7 +15,7 @@ use spec::TypeNumber;
 use spec::Word;
 use workspace::Header;
 ghost use mathlib.Core.Path.{_≡_};
-ghost use Rattle.spec.specs.Reading.{splitSheet, next};
+ghost use Rattle.spec.specs.Reading.{splitSheet, readLine};
 ghost use Rattle.spec.specs.Split.{mayBeEmpty};
 ghost use Rattle.spec.specs.Words.{takesStart};
 ghost use Rattle.lexer.specs.Cursors.{placeAt};
@@ -91,8 +91,8 @@ fn row_with(typed: u32, post: u32, start: RowStart) -> Row
 }
 
 // A row whose numbers are in their ranges, and which has a start where the sheet wants one.
-fn row_of(line: u32, row: Row, word: Word, header: Header, next: Cursor) -> RowRead
-    ensures { λ r. ⌜ r ≡ rowRanged line row word (headerTold header) next ⌝ }
+fn row_of(line: u32, row: Row, word: Word, header: Header, readLine: Cursor) -> RowRead
+    ensures { λ r. ⌜ r ≡ rowRanged line row word (headerTold header) readLine ⌝ }
 {
     let typed = row.typed;
     let post = row.post;
@@ -106,13 +106,13 @@ fn row_of(line: u32, row: Row, word: Word, header: Header, next: Cursor) -> RowR
             if start_limit(word, header.maps) <= workspace::index(m.0) {
                 return RowRead::Refused(Refusal::SplitRange(line));
             }
-            RowRead::Read(row, next)
+            RowRead::Read(row, readLine)
         }
         RowStart::Empty => {
             if !may_be_empty(heading, word) {
                 return RowRead::Refused(Refusal::NoStart(line));
             }
-            RowRead::Read(row, next)
+            RowRead::Read(row, readLine)
         }
     }
 }
@@ -126,7 +126,7 @@ pub fn row_line(
     header: Header,
 ) -> RowRead
     requires { ⌜ AtRow (now text) cursor header ⌝ }
-    ensures { λ r. ⌜ RowAnswer (now (text .entry)) (next splitSheet (wordLine purpose (headerTold header) word) (placeAt (now (text .entry)) cursor)) r ⌝ }
+    ensures { λ r. ⌜ RowAnswer (now (text .entry)) (readLine splitSheet (wordLine purpose (headerTold header) word) (placeAt (now (text .entry)) cursor)) r ⌝ }
 {
     if cursor.at_end(text) {
         return RowRead::Refused(Refusal::SplitLines(cursor.line));
@@ -140,13 +140,13 @@ pub fn row_line(
     };
     let start = start_field(text, third);
     match start {
-        Start::Empty(next) => {
+        Start::Empty(readLine) => {
             let row = row_with(typed, post, RowStart::Empty);
-            row_of(line, row, word, header, next)
+            row_of(line, row, word, header, readLine)
         }
-        Start::Given(s, next) => {
+        Start::Given(s, readLine) => {
             let row = row_with(typed, post, RowStart::Given(MapNumber(s)));
-            row_of(line, row, word, header, next)
+            row_of(line, row, word, header, readLine)
         }
         Start::Malformed => RowRead::Refused(Refusal::SplitForm(line)),
     }

@@ -13,7 +13,7 @@ use spec::TypeNumber;
 use workspace::Header;
 ghost use mathlib.Core.Path.{_≡_};
 ghost use mathlib.Core.List.{[], _∷_};
-ghost use Rattle.spec.specs.Reading.{splitSheet, below, allInRange, next};
+ghost use Rattle.spec.specs.Reading.{splitSheet, below, allInRange, readLine};
 ghost use Rattle.spec.specs.Split.{typeLine};
 ghost use Rattle.spec.specs.declared.Heading.the-variants.{C2};
 ghost use Rattle.lexer.specs.Cursors.{placeAt};
@@ -105,7 +105,7 @@ fn type_of(kind: TypeWord, first: u32, second: u32, own: usize, header: Header) 
 // The line of the type with the number `own`, at a cursor.
 pub fn type_line(text: &[u8], cursor: Cursor, own: usize, header: Header) -> TypeRead
     requires { ⌜ AtType (now text) cursor header own ⌝ }
-    ensures { λ r. ⌜ TypeAnswer (now (text .entry)) (next splitSheet (typeLine (headerTold header) own) (placeAt (now (text .entry)) cursor)) r ⌝ }
+    ensures { λ r. ⌜ TypeAnswer (now (text .entry)) (readLine splitSheet (typeLine (headerTold header) own) (placeAt (now (text .entry)) cursor)) r ⌝ }
 {
     if cursor.at_end(text) {
         return TypeRead::Refused(Refusal::SplitLines(cursor.line));
@@ -117,12 +117,12 @@ pub fn type_line(text: &[u8], cursor: Cursor, own: usize, header: Header) -> Typ
     let kind = lexer::type_word(&text[from..to]);
     let mut found = [0u32; 2];
     let read = numbers.numbers(text, &mut found);
-    let Numbers::Read(next) = read else {
+    let Numbers::Read(readLine) = read else {
         return TypeRead::Refused(Refusal::SplitForm(line));
     };
     let seen = type_of(kind, found[0], found[1], own, header);
     match seen {
-        TypeSeen::Right(t) => TypeRead::Read(t, next),
+        TypeSeen::Right(t) => TypeRead::Read(t, readLine),
         TypeSeen::BadForm => TypeRead::Refused(Refusal::SplitForm(line)),
         TypeSeen::BadRange => TypeRead::Refused(Refusal::SplitRange(line)),
     }

@@ -5,7 +5,7 @@ use Prim.Native.Nat.{ℕ, suc, _+_, _-_, _<_, _≤_}
 use native.Mathlib.Omega.{arith}
 use native.Mathlib.Nat.{sub-zero}
 use lib.ListN.{length, set, length-append}
-use Rattle.spec.specs.Reading.{programSheet, on, nextAll}
+use Rattle.spec.specs.Reading.{programSheet, on, readLines}
 use Rattle.spec.specs.Expression.{Step}
 use Rattle.spec.specs.Program.{stepLine, stepLines}
 use Rattle.spec.specs.Words.{largestValue}
@@ -72,7 +72,7 @@ module _ (text : List ℕ) (n : ℕ) (c₀ : Cursor) (w₀ w : List ℕ) (c : Cu
       }
 
   module _ (h : k < n) where
-    left : stepsAt text (n - k) c ≡ nextAll programSheet (stepLine (c .line + 1) ∷ stepLines (c .line + 1 + 1) (n - (k + 1))) (placeAt text c)
+    left : stepsAt text (n - k) c ≡ readLines programSheet (stepLine (c .line + 1) ∷ stepLines (c .line + 1 + 1) (n - (k + 1))) (placeAt text c)
     unfolding stepsAt stepLines
     left = let e : n - k ≡ suc (n - (k + 1)) = omega arith in rw e
 
@@ -82,7 +82,7 @@ module _ (text : List ℕ) (n : ℕ) (c₀ : Cursor) (w₀ w : List ℕ) (c : Cu
     reads one d p line =
         ap (front (s .stored .steps)) left
         ∙ all-on programSheet (stepLine (c .line + 1)) (stepLines (c .line + 1 + 1) (n - (k + 1))) (placeAt text c) (s .stored .steps) one (placeAt text d) p
-        ∙ ap (λ i. front (s .stored .steps ++ (one ∷ [])) (nextAll programSheet (stepLines (i + 1) (n - (k + 1))) (placeAt text d))) (sym line)
+        ∙ ap (λ i. front (s .stored .steps ++ (one ∷ [])) (readLines programSheet (stepLines (i + 1) (n - (k + 1))) (placeAt text d))) (sym line)
 
     pub refuses : (x : Refusal) → StepShown text c (step.Refused x) → StepsShown text n c₀ w₀ w (steps.Refused x)
     unfolding front stepAt

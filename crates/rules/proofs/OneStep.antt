@@ -8,7 +8,7 @@ use native.Mathlib.Omega.{arith}
 use lib.ListN.{length, getD, length-map}
 use Rattle.spec.specs.Expression.{Step, Position, Expr, leaf, unary, binary, size, lineOf}
 use Rattle.spec.specs.Split.{Map, Row, Split}
-use Rattle.spec.specs.Conditions.{Env, post, start, own}
+use Rattle.spec.specs.Conditions.{Env, post, bodyStart, conditionsOf}
 use Rattle.spec.specs.Words.{preOfPart, preOfSecond}
 use Rattle.spec.specs.Sites.{claimsAt}
 use Rattle.spec.specs.Ranges.{InRange}
@@ -65,8 +65,8 @@ of-part Rdunlock p q = p
 of-part Wrlock p q = p
 of-part Wrunlock p q = p
 
-of-second : {w : List ℕ} {S : Split} {a b c : MapNumber} {pre post₁ start : Map} (x : BinaryWord) → Stands w S a pre
-    → Stands w S b post₁ → Stands w S c start → Stands w S (preOfSecond x a b c) (preOfSecond x pre post₁ start)
+of-second : {w : List ℕ} {S : Split} {a b c : MapNumber} {pre post₁ bodyStart : Map} (x : BinaryWord) → Stands w S a pre
+    → Stands w S b post₁ → Stands w S c bodyStart → Stands w S (preOfSecond x a b c) (preOfSecond x pre post₁ bodyStart)
 unfolding preOfSecond
 of-second Let p q r = q
 of-second If p q r = p
@@ -109,7 +109,7 @@ module _ (S : Split) (steps : List Step) (R : InRange steps S) (few : length (S 
     conditions-shown : (e : Expr) → Ready w k inside vars Γ pre e
         → (let s = viewOf w n d k in
         ruleRow (ruleOf (cell w wordsAt k)) w s (layout.typeAt w (s .typed)) (layout.typeAt w (s .type1)))
-        ≡ own S Γ pre e
+        ≡ conditionsOf S Γ pre e
     unfolding size
     conditions-shown (leaf x l v) r =
         rw (leaf-code x l v (r .here))
@@ -168,7 +168,7 @@ module _ (S : Split) (steps : List Step) (R : InRange steps S) (few : length (S 
         of-part x (r .pre-stands) (post-at w S steps (r .split) R (unary x l v e₁) k (here-index _ (r .here)) (below _ r) refl)
 
     pub second-stands : (x : BinaryWord) (l : Position) (v : ℕ) (e₁ e₂ : Expr) → Ready w k inside vars Γ pre (binary x l v e₁ e₂)
-        → Stands w S (secondNumber w k x) (preOfSecond x pre (post S e₁) (start S (binary x l v e₁ e₂)))
+        → Stands w S (secondNumber w k x) (preOfSecond x pre (post S e₁) (bodyStart S (binary x l v e₁ e₂)))
     unfolding size
     second-stands x l v e₁ e₂ r =
         of-second x (r .pre-stands)

@@ -12,7 +12,7 @@ use Rattle.spec.specs.Reading.{Out, _>>=_}
 use Rattle.spec.specs.Expression.{Step, Position, Expr, leaf, unary, binary, size, indexOf, lineOf}
 use Rattle.spec.specs.Program.{Program}
 use Rattle.spec.specs.Split.{Map, Row, Split}
-use Rattle.spec.specs.Conditions.{Env, startMap, type, post, start}
+use Rattle.spec.specs.Conditions.{Env, startMap, type, post, bodyStart}
 use Rattle.spec.specs.Words.{role, binding, preOfPart, preOfSecond}
 use Rattle.spec.specs.Sites.{sites, claims}
 use Rattle.spec.specs.Verdict.{locksTakeEnough, refuseOver, startAtMostOne, ruled, typed}
@@ -141,7 +141,7 @@ module _ (purpose : Purpose) (S : Split) (steps : List Step) (R : InRange steps 
 
       -- the map before the second part, and the types of the variables there
       abbrev pre₂ : Map
-      pre₂ = preOfSecond x pre (post S e₁) (start S (binary x l v e₁ e₂))
+      pre₂ = preOfSecond x pre (post S e₁) (bodyStart S (binary x l v e₁ e₂))
 
       abbrev Γ₂ : Env
       Γ₂ = binding (role (Binary x)) (v, type S e₁) Γ
@@ -214,9 +214,9 @@ unfolding asked ruledFor ruled typed
 claims-ruled Check P S = refl
 claims-ruled Fill P S = refl
 
-module _ (w : List ℕ) (steps denominator locations start : ℕ) (P : Program) (S : Split) (H : HoldsSheets w steps denominator locations start P S) where
+module _ (w : List ℕ) (steps denominator locations bodyStart : ℕ) (P : Program) (S : Split) (H : HoldsSheets w steps denominator locations bodyStart P S) where
   -- 30, at the root's line
-  pub start-shown : startOutcome (getD w linesAt 0) w denominator locations (record { 0 = start }) ≡ startAtMostOne P S
+  pub start-shown : startOutcome (getD w linesAt 0) w denominator locations (record { 0 = bodyStart }) ≡ startAtMostOne P S
   unfolding startOutcome startAtMostOne
   start-shown =
       rw (here-line (P .root) (root-here H), H .denominatorGiven, H .locationsGiven)
@@ -226,16 +226,16 @@ module _ (w : List ℕ) (steps denominator locations start : ℕ) (P : Program) 
     rows-few : length (S .rows) ≤ 256
     rows-few = omega (arith, H .inRange .rowsCounted, H .stepsCounted)
 
-    root-ready : Ready S (P .steps) (H .inRange) rows-few (atRoot w (record { 0 = start })) 0 [] [] [] (startMap S) (P .root)
+    root-ready : Ready S (P .steps) (H .inRange) rows-few (atRoot w (record { 0 = bodyStart })) 0 [] [] [] (startMap S) (P .root)
     unfolding atRoot
     root-ready =
-        again purpose S (P .steps) (H .inRange) rows-few (changed-store presAt (presAt + 256) w presAt start (omega arith)
+        again purpose S (P .steps) (H .inRange) rows-few (changed-store presAt (presAt + 256) w presAt bodyStart (omega arith)
         (omega arith)) (H .split) (omega arith)
-        (root-here H) (scoped-none S) (record { 0 = start }) (header-start-stands H)
-        (getD-set-same w presAt start 0 (omega arith)) (omega (arith, root-sized H, H .stepsCounted, H .inRange .rowsCounted))
+        (root-here H) (scoped-none S) (record { 0 = bodyStart }) (header-start-stands H)
+        (getD-set-same w presAt bodyStart 0 (omega arith)) (omega (arith, root-sized H, H .stepsCounted, H .inRange .rowsCounted))
 
     -- 31 to 33
-    pub steps-shown : walk purpose locations denominator (atRoot w (record { 0 = start })) 0 steps ≡ ruledFor purpose P S
+    pub steps-shown : walk purpose locations denominator (atRoot w (record { 0 = bodyStart })) 0 steps ≡ ruledFor purpose P S
     unfolding walk
     steps-shown =
         let end : steps ≡ size (P .root) + 0 = omega (arith, root-sized H) in
@@ -247,7 +247,7 @@ module _ (w : List ℕ) (steps denominator locations start : ℕ) (P : Program) 
     -- 44, then 30 to 33
     pub sheets-shown : (types : ℕ) → types ≡ S .header .types
         → both (locksOutcome w locations 0 types)
-        (both (startOutcome (getD w linesAt 0) w denominator locations (record { 0 = start })) (walk purpose locations denominator (atRoot w (record { 0 = start })) 0 steps))
+        (both (startOutcome (getD w linesAt 0) w denominator locations (record { 0 = bodyStart })) (walk purpose locations denominator (atRoot w (record { 0 = bodyStart })) 0 steps))
         ≡ (locksTakeEnough S >>= λ enough. startAtMostOne P S >>= λ whole. ruledFor purpose P S)
     unfolding both
     sheets-shown types counted = rw (locks-shown w S (P .steps) (H .split) (H .inRange) locations (H .locationsGiven) types counted, start-shown, steps-shown)

@@ -6,7 +6,7 @@ use native.Mathlib.Omega.{arith}
 use lib.ListN.{length, getD}
 use Rattle.spec.specs.Expression.{Step, Position, Expr, leaf, indexOf}
 use Rattle.spec.specs.Split.{Row, Split}
-use Rattle.spec.specs.Conditions.{Env, row, start}
+use Rattle.spec.specs.Conditions.{Env, row, bodyStart}
 use Rattle.spec.specs.Words.{role}
 use Rattle.spec.specs.WellFormed.{StepInside, UsedInside}
 use Rattle.spec.specs.Ranges.{InRange}
@@ -48,7 +48,7 @@ module _ (w : List ℕ) (S : Split) (steps : List Step) (H : HoldsSplit w S) (R 
         → Part w S (viewOf w n d k .type2) (viewOf w n d k .post2) e
     second-part e j q index h = part-at e j index h (ap (cell w rowTypesAt) q) (ap (cell w postsAt) q)
 
-    pub started : (e : Expr) → indexOf e ≡ k → k < length (S .rows) → Stands w S (viewOf w n d k .start) (start S e)
+    pub started : (e : Expr) → indexOf e ≡ k → k < length (S .rows) → Stands w S (viewOf w n d k .start) (bodyStart S e)
     started e index h = start-at w S steps H R e k index h
 
     pub bound-shown : (x : LeafWord) (l : Position) (v : ℕ) {Γ : Env} {inside : List (ℕ × ℕ)} {vars : List ℕ}

@@ -7,7 +7,7 @@ use native.Mathlib.Omega.{arith}
 use lib.ListN.{length, getD, set, take, drop, length-drop}
 use lib.Seq.{length-take-le}
 use Rattle.spec.specs.Text.{Field}
-use Rattle.spec.specs.Reading.{splitSheet, stop, on, Seen, Place, next, nextAll}
+use Rattle.spec.specs.Reading.{splitSheet, stop, on, Seen, Place, readLine, readLines}
 use Rattle.spec.specs.Split.{Map, Header}
 use Rattle.spec.specs.declared.Purpose.{Purpose}
 use Rattle.spec.specs.declared.Refusal.{Refusal}
@@ -30,7 +30,7 @@ module _
     (few : n ≤ rows) (room : b + rows + rows + rows ≤ length w₀)
     (s : Stage read (Columns f g h b rows) b (b + rows + rows + rows) n text w₀ from w c i)
   where
-    pub columns-on : i < n → {w′ : List ℕ} {entry : A} {d : Cursor} → next splitSheet (read i) (placeAt text c) ≡ on (entry, placeAt text d) → Placed text d
+    pub columns-on : i < n → {w′ : List ℕ} {entry : A} {d : Cursor} → readLine splitSheet (read i) (placeAt text c) ≡ on (entry, placeAt text d) → Placed text d
         → w′ ≡ set (set (set w (b + i) (f entry)) (b + rows + i) (g entry)) (b + rows + rows + i) (h entry)
         → Stage read (Columns f g h b rows) b (b + rows + rows + rows) n text w₀ from w′ d (i + 1)
     columns-on l {entry = entry} e p q =
@@ -42,11 +42,11 @@ module _
 
 -- the word that a row is read for is that of its step, which no row has changed
 pub row-here : (purpose : Purpose) (H : Header) (text : List ℕ) (c : Cursor) {w₀ w : List ℕ} (k : ℕ) {word : Word} → word ≡ wordOf (getD w (wordsAt + k) 0) → k < 256 → ChangedWithin rowTypesAt presAt w₀ w
-    → next splitSheet (wordLine purpose H (stepAt w₀ k .word)) (placeAt text c) ≡ next splitSheet (wordLine purpose H word) (placeAt text c)
+    → readLine splitSheet (wordLine purpose H (stepAt w₀ k .word)) (placeAt text c) ≡ readLine splitSheet (wordLine purpose H word) (placeAt text c)
 unfolding wordAt
 row-here purpose H text c {w₀ = w₀} {w = w} k e l x =
     let same : getD w (wordsAt + k) 0 ≡ getD w₀ (wordsAt + k) 0 = x .kept (wordsAt + k) (inl (omega arith)) in
-    ap (λ (v : Word). next splitSheet (wordLine purpose H v) (placeAt text c)) (ap wordOf (sym same) ∙ sym e)
+    ap (λ (v : Word). readLine splitSheet (wordLine purpose H v) (placeAt text c)) (ap wordOf (sym same) ∙ sym e)
 
 -- a map line, whose numbers are read into their part of the work space
 module _
@@ -87,11 +87,11 @@ module _
       map-long = put-changed .long ∙ s .changed .long
 
       pub map-stops : {reads : List (List Field → Seen Map)} → reads ≡ numbered (λ m. cellLine locations) 0 n → {r : Refusal}
-          → next splitSheet (cellLine (length part)) (placeAt text c) ≡ stop r
-          → LinesStored mapsAt workSize n (HoldsMaps locations) text (nextAll splitSheet reads from) w₀ (put ys) (lines-read.Refused r)
+          → readLine splitSheet (cellLine (length part)) (placeAt text c) ≡ stop r
+          → LinesStored mapsAt workSize n (HoldsMaps locations) text (readLines splitSheet reads from) w₀ (put ys) (lines-read.Refused r)
       map-stops q e = stage-stops s q less (rw (← part-long) e) put-changed
 
-      pub map-on : {d : Cursor} → next splitSheet (cellLine (length part)) (placeAt text c) ≡ on (ys, placeAt text d) → Placed text d
+      pub map-on : {d : Cursor} → readLine splitSheet (cellLine (length part)) (placeAt text c) ≡ on (ys, placeAt text d) → Placed text d
           → Stage (λ m. cellLine locations) (HoldsMaps locations) mapsAt workSize n text w₀ from (put ys) d (i + 1)
       map-on e p =
           stage-on s less (rw (← part-long) e) p

@@ -5,7 +5,7 @@ use mathlib.Core.List.{List, map}
 use Prim.Native.Nat.{ℕ, _+_, _≤_}
 use native.Mathlib.Omega.{arith}
 use lib.ListN.{length, replicate, length-map}
-use Rattle.spec.specs.Reading.{splitSheet, Out, _>>=_, Place, nextAll, end}
+use Rattle.spec.specs.Reading.{splitSheet, Out, _>>=_, Place, readLines, end}
 use Rattle.spec.specs.Expression.{Step}
 use Rattle.spec.specs.Split.{Map, Header, Row, Split, typeLines, mapLine, rowLine}
 use Rattle.spec.specs.declared.Purpose.{Purpose}
@@ -37,7 +37,7 @@ module _ (purpose : Purpose) {text : List ℕ} {c : Cursor} {h : HeaderRead} {n 
     whole = body purpose H (stepsFrom w 0 n) (placeAt text c)
 
     abbrev types-out : Out (List TypeLine × Place)
-    types-out = nextAll splitSheet (typeLines H 0 (h .types)) (placeAt text c)
+    types-out = readLines splitSheet (typeLines H 0 (h .types)) (placeAt text c)
 
     changed-one : ChangedWithin rowTypesAt workSize w w₁
     changed-one = changed-wider rowTypesAt workSize (omega arith) (omega arith) (read-types .changed)
@@ -61,7 +61,7 @@ module _ (purpose : Purpose) {text : List ℕ} {c : Cursor} {h : HeaderRead} {n 
       }
 
       abbrev maps-out : Out (List Map × Place)
-      maps-out = nextAll splitSheet (replicate (h .maps) (mapLine H)) (placeAt text c₂)
+      maps-out = readLines splitSheet (replicate (h .maps) (mapLine H)) (placeAt text c₂)
 
       module _ {w₂ : List ℕ} {maps : LinesRead} (read-maps : MapsRead text c₂ h w₁ w₂ maps) where
         changed-two : ChangedWithin rowTypesAt workSize w w₂
@@ -96,15 +96,15 @@ module _ (purpose : Purpose) {text : List ℕ} {c : Cursor} {h : HeaderRead} {n 
           }
 
           abbrev rows-out : Out (List Row × Place)
-          rows-out = nextAll splitSheet (map (rowLine purpose H) (stepsFrom v 0 n)) (placeAt text c₃)
+          rows-out = readLines splitSheet (map (rowLine purpose H) (stepsFrom v 0 n)) (placeAt text c₃)
 
           module _ {w₃ : List ℕ} {rows : LinesRead} (read-rows : RowsRead purpose text c₃ h n v w₃ rows) where
             changed-three : ChangedWithin rowTypesAt workSize w w₃
             changed-three = changed-then rowTypesAt workSize changed-empty (changed-wider rowTypesAt workSize (omega arith) (omega arith) (read-rows .changed))
 
-            same-rows : nextAll splitSheet (map (rowLine purpose H) (stepsFrom w 0 n)) (placeAt text c₃) ≡ rows-out
+            same-rows : readLines splitSheet (map (rowLine purpose H) (stepsFrom w 0 n)) (placeAt text c₃) ≡ rows-out
             same-rows =
-                ap (λ (l : List Step). nextAll splitSheet (map (rowLine purpose H) l) (placeAt text c₃))
+                ap (λ (l : List Step). readLines splitSheet (map (rowLine purpose H) l) (placeAt text c₃))
                 (sym (steps-kept changed-empty (omega arith) 0 n (omega (arith, pre .few))))
 
             pub rows-stop : {r : Refusal} → rows ≡ lines-read.Refused r → BodyRead purpose H n (placeAt text c) w w₃ rows

@@ -4,7 +4,7 @@ use mathlib.Core.List.{List, [], _∷_, _++_, map}
 use Prim.Native.Nat.{ℕ, zero, suc, _+_, _≤_, _<_}
 use lib.ListN.{replicate}
 use Rattle.spec.specs.Text.{Field}
-use Rattle.spec.specs.Reading.{splitSheet, stop, on, Seen, Place, next, nextAll}
+use Rattle.spec.specs.Reading.{splitSheet, stop, on, Seen, Place, readLine, readLines}
 use Rattle.spec.specs.Expression.{Step}
 use Rattle.spec.specs.Split.{Header, typeLine, typeLines, mapLine, rowLine}
 use Rattle.spec.specs.declared.Purpose.{Purpose}
@@ -65,18 +65,18 @@ module _
     {A : Type 0} {read : ℕ → List Field → Seen A} {Stored : List ℕ → List A → Type 0} {a b n : ℕ} {text w₀ : List ℕ} {from : Place} {w : List ℕ} {c : Cursor} {i : ℕ}
     (s : Stage read Stored a b n text w₀ from w c i)
   where
-    pub stage-on : i < n → {w′ : List ℕ} {entry : A} {d : Cursor} → next splitSheet (read i) (placeAt text c) ≡ on (entry, placeAt text d) → Placed text d
+    pub stage-on : i < n → {w′ : List ℕ} {entry : A} {d : Cursor} → readLine splitSheet (read i) (placeAt text c) ≡ on (entry, placeAt text d) → Placed text d
         → Stored w′ (s .entries ++ (entry ∷ [])) → ChangedWithin a b w w′ → Stage read Stored a b n text w₀ from w′ d (i + 1)
     stage-on h {entry = entry} e p t x = record { entries = s .entries ++ (entry ∷ []); turn = turn-on (s .turn) h e p; stored = t; changed = changed-then a b (s .changed) x }
 
     module _ {reads : List (List Field → Seen A)} (q : reads ≡ numbered read 0 n) where
       -- a line is refused, whatever was stored of it
-      pub stage-stops : i < n → {r : Refusal} → next splitSheet (read i) (placeAt text c) ≡ stop r → {w′ : List ℕ} → ChangedWithin a b w w′
-          → LinesStored a b n Stored text (nextAll splitSheet reads from) w₀ w′ (lines-read.Refused r)
+      pub stage-stops : i < n → {r : Refusal} → readLine splitSheet (read i) (placeAt text c) ≡ stop r → {w′ : List ℕ} → ChangedWithin a b w w′
+          → LinesStored a b n Stored text (readLines splitSheet reads from) w₀ w′ (lines-read.Refused r)
       stage-stops h e x = record { answered = rw q (turn-stops (s .turn) h e); changed = changed-then a b (s .changed) x }
 
       -- all of them are read
-      pub stages-done : n ≤ i → LinesStored a b n Stored text (nextAll splitSheet reads from) w₀ w (lines-read.Read c)
+      pub stages-done : n ≤ i → LinesStored a b n Stored text (readLines splitSheet reads from) w₀ w (lines-read.Read c)
       stages-done h = record {
         answered = (s .entries, rw q (turns-done (s .turn) h), turns-counted (s .turn) h, s .stored, s .turn .placed);
         changed = s .changed;

@@ -6,7 +6,7 @@ use Prim.Native.Nat.{ℕ, _<_}
 use native.Mathlib.Omega.{arith}
 use lib.ListN.{length}
 use Rattle.spec.specs.Text.{lines}
-use Rattle.spec.specs.Reading.{splitSheet, Out, stop, on, _>>=_, form, next, begin}
+use Rattle.spec.specs.Reading.{splitSheet, Out, stop, on, _>>=_, form, readLine, begin}
 use Rattle.spec.specs.Expression.{Step}
 use Rattle.spec.specs.Split.{Split, headerLine, split}
 use Rattle.spec.specs.declared.Purpose.{Purpose}
@@ -55,17 +55,17 @@ module _ {text : List ℕ} {n : ℕ} {w : List ℕ} (pre : Readable text n w) (p
     top-place : begin splitSheet (lines text) ≡ on (placeAt text top)
     top-place = begin-at-some splitSheet text (subst (λ (t : List ℕ). 0 < length t) top-rest (left-some (rest text top) some-left)) ∙ rw is
 
-    module _ (answer : HeaderLine) (header : HeaderAnswer text (next splitSheet (headerLine purpose) (placeAt text top)) answer) where
+    module _ (answer : HeaderLine) (header : HeaderAnswer text (readLine splitSheet (headerLine purpose) (placeAt text top)) answer) where
       -- the header is refused
       pub read-header-stop : {r : Refusal} → answer ≡ header-line.Refused r → SplitRead purpose text n w w (sheet.Refused r)
       unfolding split _>>=_
       read-header-stop e =
-          let h = subst (HeaderAnswer text (next splitSheet (headerLine purpose) (placeAt text top))) e header in
+          let h = subst (HeaderAnswer text (readLine splitSheet (headerLine purpose) (placeAt text top))) e header in
           record { answered = λ steps held count. rw (top-place, h); changed = changed-nothing rowTypesAt workSize w }
 
       module _ {h : HeaderRead} {c : Cursor} (told : answer ≡ header-line.Read h c) where
-        header-got : HeaderAnswer text (next splitSheet (headerLine purpose) (placeAt text top)) (header-line.Read h c)
-        header-got = subst (HeaderAnswer text (next splitSheet (headerLine purpose) (placeAt text top))) told header
+        header-got : HeaderAnswer text (readLine splitSheet (headerLine purpose) (placeAt text top)) (header-line.Read h c)
+        header-got = subst (HeaderAnswer text (readLine splitSheet (headerLine purpose) (placeAt text top))) told header
 
         pub behind-header : StoringRows text c h n w
         behind-header = record {

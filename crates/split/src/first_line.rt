@@ -11,7 +11,7 @@ use spec::Refusal;
 use workspace::Header;
 ghost use mathlib.Core.Path.{_≡_};
 ghost use Rattle.spec.specs.Text.{lookUp};
-ghost use Rattle.spec.specs.Reading.{splitSheet, _to_, inRange, next};
+ghost use Rattle.spec.specs.Reading.{splitSheet, _to_, inRange, readLine};
 ghost use Rattle.spec.specs.Split.{headings, headerLine};
 ghost use Rattle.lexer.specs.Cursors.{placeAt};
 ghost use Rattle.workspace.specs.Sheets.{headerTold};
@@ -81,7 +81,7 @@ fn header_numbers(text: &[u8], cursor: Cursor, heading: Heading) -> FoundHeader
     let mut found = [0u32; 5];
     let count = numerals_of(heading);
     let read = cursor.numbers(text, &mut found[..count]);
-    let Numbers::Read(next) = read else {
+    let Numbers::Read(readLine) = read else {
         return FoundHeader::Malformed;
     };
     let header = Header {
@@ -92,7 +92,7 @@ fn header_numbers(text: &[u8], cursor: Cursor, heading: Heading) -> FoundHeader
         maps: workspace::index(found[3]),
         start: MapNumber(found[4]),
     };
-    FoundHeader::Read(header, next)
+    FoundHeader::Read(header, readLine)
 }
 
 // Whether a number is in a range, both ends in it.
@@ -132,7 +132,7 @@ fn header_fits(header: Header) -> bool
 // The header at a cursor.
 pub(crate) fn header_line(text: &[u8], cursor: Cursor, purpose: Purpose) -> HeaderLine
     requires { ⌜ AtHeader (now text) cursor ⌝ }
-    ensures { λ r. ⌜ HeaderAnswer (now (text .entry)) (next splitSheet (headerLine purpose) (placeAt (now (text .entry)) cursor)) r ⌝ }
+    ensures { λ r. ⌜ HeaderAnswer (now (text .entry)) (readLine splitSheet (headerLine purpose) (placeAt (now (text .entry)) cursor)) r ⌝ }
 {
     let line = cursor.line + 1;
     let Head::Field(from, to, numbers) = first_field(text, cursor) else {
@@ -141,11 +141,11 @@ pub(crate) fn header_line(text: &[u8], cursor: Cursor, purpose: Purpose) -> Head
     let FoundHeading::Known(heading) = heading_of(&text[from..to], purpose) else {
         return HeaderLine::Refused(Refusal::SplitForm(line));
     };
-    let FoundHeader::Read(header, next) = header_numbers(text, numbers, heading) else {
+    let FoundHeader::Read(header, readLine) = header_numbers(text, numbers, heading) else {
         return HeaderLine::Refused(Refusal::SplitForm(line));
     };
     if !header_fits(header) {
         return HeaderLine::Refused(Refusal::SplitRange(line));
     }
-    HeaderLine::Read(header, next)
+    HeaderLine::Read(header, readLine)
 }

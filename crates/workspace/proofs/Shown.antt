@@ -9,7 +9,7 @@ use lib.ListN.{length, getD, replicate, length-replicate, getD-replicate}
 use Rattle.spec.specs.Expression.{Step, Expr, indexOf}
 use Rattle.spec.specs.Split.{Map, Row, Split}
 use Rattle.spec.specs.Maps.{share}
-use Rattle.spec.specs.Conditions.{typeAt, mapAt, row, post, start, startIn, place, load, inLoad, outLoad, readLoad, writeLoad}
+use Rattle.spec.specs.Conditions.{typeAt, mapAt, row, post, bodyStart, startIn, refLocation, load, inLoad, outLoad, readLoad, writeLoad}
 use Rattle.spec.specs.Ranges.{InRange}
 use Rattle.spec.specs.declared.Location.{Location}
 use Rattle.spec.specs.declared.MapNumber.{MapNumber}
@@ -31,7 +31,7 @@ type-number e = rw e
 
 -- a row that no step has
 abbrev pub noRow : Row
-noRow = record { type = record { 0 = 0 }; post = record { 0 = 0 }; start = none }
+noRow = record { type = record { 0 = 0 }; post = record { 0 = 0 }; bodyStart = none }
 
 -- the numbers of a map, one after the other
 cells : (w : List ℕ) (m : MapNumber) (l : ℕ) (xs : List ℕ)
@@ -57,7 +57,7 @@ from-kept {w} {w′} x m l (suc n) =
     let e : mapCell w′ m l ≡ mapCell w m l = x .kept (mapsAt + stride * (m .0) + l) (inr (omega arith)) in
     rw (e, from-kept x m (l + 1) n)
 
--- the map x stands at the place of the number m
+-- the map x stands at the refLocation of the number m
 pub record Stands (w : List ℕ) (S : Split) (m : MapNumber) (x : Map) : Type 0 where
   pub is : mapIn w (S .header .locations) m ≡ x
 
@@ -89,11 +89,11 @@ module _ (w : List ℕ) (S : Split) (steps : List Step) (H : HoldsSplit w S) (R 
       (type-of-numbers _)
 
   -- p of a ref type is a location; where it is not asked for it is the first
-  pub place-in : (t : TypeNumber) → t .0 < length (S .types) → place (typeAt S t) .0 < S .header .locations
-  unfolding typeAt place
+  pub place-in : (t : TypeNumber) → t .0 < length (S .types) → refLocation (typeAt S t) .0 < S .header .locations
+  unfolding typeAt refLocation
   place-in t h = of-line (getD (S .types) (t .0) Int) refl
     where
-      of-line : (x : TypeLine) → getD (S .types) (t .0) Int ≡ x → place x .0 < S .header .locations
+      of-line : (x : TypeLine) → getD (S .types) (t .0) Int ≡ x → refLocation x .0 < S .header .locations
       of-line Int e = R .locations .0
       of-line (Ref p c) e = R .refPlace (t .0) p c h e .0
       of-line (Lock i o) e = R .locations .0
@@ -186,6 +186,6 @@ module _ (w : List ℕ) (S : Split) (steps : List Step) (H : HoldsSplit w S) (R 
     row-start = column w startsAt (λ (r : Row). startNumber (r .start)) (S .rows) noRow i (H .starts) h
         ∙ ap (λ (r : Row). startNumber (r .start)) row-at
 
-    pub start-at : Stands w S (record { 0 = getD w (startsAt + i) 0 }) (start S e)
-    unfolding start
+    pub start-at : Stands w S (record { 0 = getD w (startsAt + i) 0 }) (bodyStart S e)
+    unfolding bodyStart
     start-at = rw (map-number row-start) (start-stands _ (λ m q. R .rowStart i noRow m h (ap (λ (r : Row). r .start) row-at ∙ q)))

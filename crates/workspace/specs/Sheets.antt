@@ -18,7 +18,7 @@ headerTold h = record {
   locations = h .locations;
   types = h .types;
   maps = h .maps;
-  start = h .start;
+  rootStart = h .start;
 }
 
 -- the numbers of a header that the work space has room for
@@ -38,4 +38,4 @@ pub record HoldsSheets (w : List ℕ) (steps denominator locations start : ℕ) 
   pub stepsCounted : steps ≡ length (P .steps)
   pub denominatorGiven : denominator ≡ S .header .denominator
   pub locationsGiven : locations ≡ S .header .locations
-  pub startGiven : start ≡ S .header .start .0
+  pub startGiven : start ≡ S .header .rootStart .0

@@ -4,7 +4,7 @@ use mathlib.Core.Path.{_≡_, refl, sym, ap, subst, _∙_}
 use mathlib.Core.List.{List}
 use Prim.Native.Nat.{ℕ, _+_, _<_}
 use lib.ListN.{length}
-use Rattle.spec.specs.Reading.{splitSheet, next}
+use Rattle.spec.specs.Reading.{splitSheet, readLine}
 use Rattle.spec.specs.Split.{typeLine}
 use Rattle.lexer.specs.Cursors.{rest, placeAt}
 use Rattle.lexer.specs.Words.{typeWordOf}
@@ -61,7 +61,7 @@ module _ (s : tie.After-type-of) where
   line = some-line field
 
   answered : (x : TypeSeen) → s .type-of .result ≡ x
-      → TypeAnswer (text line) (next splitSheet (typeLine (headerTold (start line .args .header)) (start line .args .own)) (placeAt (text line) (cursor line))) (typeAnswer x (cursor line .line + 1) (read .read .given .0 .0))
+      → TypeAnswer (text line) (readLine splitSheet (typeLine (headerTold (start line .args .header)) (start line .args .own)) (placeAt (text line) (cursor line))) (typeAnswer x (cursor line .line + 1) (read .read .given .0 .0))
   unfolding headerTold
   answered =
       let pre = start line .pre in

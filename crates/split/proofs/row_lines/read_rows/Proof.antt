@@ -3,7 +3,7 @@ use borrow.Author.Needs.{needs}
 use mathlib.Core.Path.{_≡_, subst, _∙_}
 use Prim.Native.Nat.{_-_}
 use native.Mathlib.Omega.{arith}
-use Rattle.spec.specs.Reading.{splitSheet, next}
+use Rattle.spec.specs.Reading.{splitSheet, readLine}
 use Rattle.spec.specs.Split.{Row}
 use Rattle.lexer.specs.Cursors.{placeAt}
 use Rattle.workspace.specs.Layout.{rowTypesAt, presAt}
@@ -34,8 +34,8 @@ module _ (s : tie.After-word-of Inv-loop μ-loop) where
   abbrev turn : tie.At-loop Inv-loop μ-loop
   turn = s .before .before .before
 
-  word-here : next splitSheet (wordLine (start turn .args .purpose) (headerTold (start turn .args .header)) (stepAt (start turn .args .work .now) (turn .loop .k) .word)) (placeAt (start turn .args .text .now) (turn .loop .cursor))
-      ≡ next splitSheet (wordLine (start turn .args .purpose) (headerTold (start turn .args .header)) (s .word-of .result)) (placeAt (start turn .args .text .now) (turn .loop .cursor))
+  word-here : readLine splitSheet (wordLine (start turn .args .purpose) (headerTold (start turn .args .header)) (stepAt (start turn .args .work .now) (turn .loop .k) .word)) (placeAt (start turn .args .text .now) (turn .loop .cursor))
+      ≡ readLine splitSheet (wordLine (start turn .args .purpose) (headerTold (start turn .args .header)) (s .word-of .result)) (placeAt (start turn .args .text .now) (turn .loop .cursor))
   word-here = row-here _ _ _ _ _ (s .word-of .ensures) (omega (arith, s .before .before .loop-test .taken, start turn .pre .few)) (turn .loop .inv .changed)
 
 loop-holds : tie.Need-loop-holds Inv-loop μ-loop

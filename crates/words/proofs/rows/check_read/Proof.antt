@@ -1,5 +1,5 @@
 use mathlib.Core.Path.{refl}
-use Rattle.spec.specs.Conditions.{isRef, place}
+use Rattle.spec.specs.Conditions.{isRef, refLocation}
 use Rattle.conditions.proofs.FirstFalse.{last, next, pass, fail, asked-as}
 use Rattle.conditions.proofs.TypeKinds.{not-ref}
 use Rattle.conditions.specs.Agreement.{containsIn}
@@ -8,7 +8,7 @@ use Rattle.words.proofs.rows.check_read.Statement.{statement}
 use Rattle.words.proofs.rows.check_read.Tie as tie
 
 returns-2 : tie.Need-returns-2
-unfolding isRef place containsIn
+unfolding isRef refLocation containsIn
 returns-2 c =
     let content = c .before in
     let access = content .before .before in

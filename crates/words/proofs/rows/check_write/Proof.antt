@@ -1,5 +1,5 @@
 use mathlib.Core.Path.{refl, ap}
-use Rattle.spec.specs.Conditions.{isInt, isRef, place}
+use Rattle.spec.specs.Conditions.{isInt, isRef, refLocation}
 use Rattle.conditions.proofs.FirstFalse.{last, next, pass, fail, asked-as}
 use Rattle.conditions.proofs.TypeKinds.{not-int, not-ref}
 use Rattle.conditions.specs.Agreement.{containsIn}
@@ -14,7 +14,7 @@ returns-2 c =
     (fail _ _ _ _ (not-ref _ (c .before .match2 .keys2)) (c .type-false2 .ensures))
 
 returns-3 : tie.Need-returns-3
-unfolding isInt isRef place containsIn
+unfolding isInt isRef refLocation containsIn
 returns-3 c =
     let content = c .before in
     let access = content .before .before in
