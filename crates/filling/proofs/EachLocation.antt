@@ -12,7 +12,7 @@ use Rattle.spec.specs.Words.{role, binding, preOfPart, preOfSecond}
 use Rattle.spec.specs.Expression.{Step, Position, Expr, leaf, unary, binary, size}
 use Rattle.spec.specs.Split.{Map, Split}
 use Rattle.spec.specs.Maps.{share}
-use Rattle.spec.specs.Conditions.{Env, type, post, start, own}
+use Rattle.spec.specs.Conditions.{Env, type, post, bodyStart, conditionsOf}
 use Rattle.spec.specs.Sites.{Site, sites, numbered, claimsAt, claims, isFlow, only}
 use Rattle.spec.specs.FirstFalse.{Holds, AllHold}
 use Rattle.spec.specs.declared.Location.{Location}
@@ -64,7 +64,7 @@ module _ {ss : List Step} {S : Split} {σ : List Map} {T : Split} (G : Showing s
 
     two-parts : {B C : Location → Type 0} (w : BinaryWord) (k : Position) (v : ℕ) (e₁ e₂ : Expr)
         → AllFlow (sites T Γ pre e₁) ↔ Everywhere L A
-        → AllFlow (sites T (binding (role (Binary w)) (v, type T e₁) Γ) (preOfSecond w pre (post T e₁) (start T (binary w k v e₁ e₂))) e₂) ↔ Everywhere L B
+        → AllFlow (sites T (binding (role (Binary w)) (v, type T e₁) Γ) (preOfSecond w pre (post T e₁) (bodyStart T (binary w k v e₁ e₂))) e₂) ↔ Everywhere L B
         → OwnFlow Γ pre (binary w k v e₁ e₂) ↔ Everywhere L C
         → AllFlow (sites T Γ pre (binary w k v e₁ e₂)) ↔ Everywhere L (λ p. A p × B p × C p)
     unfolding sites
@@ -110,7 +110,7 @@ module _ {ss : List Step} {S : Split} {σ : List Map} {T : Split} (G : Showing s
   -- pre is the map x; in the order of Figure 5
   pub flow-at-each-location : (Γ : Env) {pre x : Map} (e : Expr) (i : ℕ) → Placed ss i e → Known L pre x
       → AllFlow (sites T Γ pre e) ↔ Everywhere L (λ p. Passes (at σ p) i (share x p) (flowOf S p e))
-  unfolding AllHold Holds claimsAt numbered own only isFlow preOfPart preOfSecond loadHere inHere outHere readHere writeHere startHere accessHere flowOf Passes
+  unfolding AllHold Holds claimsAt numbered conditionsOf only isFlow preOfPart preOfSecond loadHere inHere outHere readHere writeHere startHere accessHere flowOf Passes
   flow-at-each-location Γ (leaf Var k v) i P before = no-part Γ _ Var k v (lastly (keeps (G .posts _ P) before))
   flow-at-each-location Γ (leaf Int k v) i P before = no-part Γ _ Int k v (lastly (keeps (G .posts _ P) before))
   flow-at-each-location Γ {x = x} (binary Let k v e₁ e₂) i P before =

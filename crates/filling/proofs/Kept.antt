@@ -13,7 +13,7 @@ use Rattle.spec.specs.Choice.{if_then_else_}
 use Rattle.spec.specs.Expression.{Step, Expr, indexOf}
 use Rattle.spec.specs.Split.{Map, Row, Split, typeAt, mapAt}
 use Rattle.spec.specs.Agreement.{Tree, plain, int, lock, tid, sem, rwlock, treeOf, trees, tree, sameTree, agree}
-use Rattle.spec.specs.Conditions.{isLock, place, load, inLoad, outLoad, readLoad, writeLoad, row, type, kind, post, startIn, start, K, inMap, outMap, readMap, writeMap, startMap, contains, looserLock, mayShow}
+use Rattle.spec.specs.Conditions.{isLock, refLocation, load, inLoad, outLoad, readLoad, writeLoad, row, type, kind, post, startIn, bodyStart, K, inMap, outMap, readMap, writeMap, startMap, contains, looserLock, mayShow}
 use Rattle.spec.specs.Verdict.{takesEnough, allTakeEnough, locksTakeEnough}
 use Rattle.spec.specs.Ranges.{InRange}
 use Rattle.spec.specs.declared.TypeNumber.{TypeNumber}
@@ -133,14 +133,14 @@ module _ {steps : List Step} {S : Split} (R : InRange steps S) where
   write-fits (Sem k) h = some-map
   write-fits (Rwlock r w) h = h .1
 
-  place-fits : (t : TypeNumber) → place (typeAt S t) .0 < S .header .locations
-  unfolding place
-  place-fits = of-each-type (λ τ. place τ .0 < S .header .locations) some-location fits
+  place-fits : (t : TypeNumber) → refLocation (typeAt S t) .0 < S .header .locations
+  unfolding refLocation
+  place-fits = of-each-type (λ τ. refLocation τ .0 < S .header .locations) some-location fits
     where
       some-location : 0 < S .header .locations
       some-location = omega (arith, R .locations)
 
-      fits : (t : ℕ) → t < length (S .types) → (τ : TypeLine) → getD (S .types) t Int ≡ τ → place τ .0 < S .header .locations
+      fits : (t : ℕ) → t < length (S .types) → (τ : TypeLine) → getD (S .types) t Int ≡ τ → refLocation τ .0 < S .header .locations
       fits t l Int e = some-location
       fits t l (Ref p c) e = R .refPlace t p c l e .0
       fits t l (Lock i o) e = some-location
@@ -158,7 +158,7 @@ module _ {steps : List Step} {S : Split} (R : InRange steps S) where
           let none-there = List·getD-eq-default (S .rows) absent {n = indexOf e} (omega (arith, q)) in
           none-is-not-some (sym (ap (λ (r : Row). r .start) none-there) ∙ h)
 
-  pub place-within : (e : Expr) → place (kind S e) .0 < S .header .locations
+  pub place-within : (e : Expr) → refLocation (kind S e) .0 < S .header .locations
   unfolding kind
   place-within e = place-fits (type S e)
 
@@ -174,8 +174,8 @@ module _ {steps : List Step} {S : Split} (R : InRange steps S) where
   start-in-wide none h = length-replicate (S .header .locations) 0
   start-in-wide (some m) h = map-wide m (h m refl)
 
-  pub start-wide : (e : Expr) → length (start S e) ≡ S .header .locations
-  unfolding start
+  pub start-wide : (e : Expr) → length (bodyStart S e) ≡ S .header .locations
+  unfolding bodyStart
   start-wide e = start-in-wide (row S e .start) (start-fits e)
 
   pub K-wide : (e : Expr) → length (K S e) ≡ S .header .locations
@@ -218,8 +218,8 @@ module _ {steps : List Step} {S : Split} (R : InRange steps S) where
     start-in-kept none h = refl
     start-in-kept (some m) h = map-kept m (h m refl)
 
-    pub start-kept : (e : Expr) → start (filled S σ) e ≡ start S e
-    unfolding start row filled
+    pub start-kept : (e : Expr) → bodyStart (filled S σ) e ≡ bodyStart S e
+    unfolding bodyStart row filled
     start-kept e =
         ap (startIn (filled S σ)) (rows-kept _ (S .rows) (indexOf e) _ .1) ∙ start-in-kept (row S e .start) (start-fits e)
 

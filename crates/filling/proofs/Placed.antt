@@ -7,7 +7,7 @@ use lib.ListN.{length, getD}
 use Rattle.spec.specs.Expression.{Step, Position, Expr, leaf, unary, binary, size, indexOf}
 use Rattle.spec.specs.WellFormed.{IndexesFrom}
 use Rattle.spec.specs.Split.{Map, Row, Split, mapAt}
-use Rattle.spec.specs.Conditions.{place, row, kind, post, start, K, inMap, outMap, readMap, writeMap, startMap}
+use Rattle.spec.specs.Conditions.{refLocation, row, kind, post, bodyStart, K, inMap, outMap, readMap, writeMap, startMap}
 use Rattle.spec.specs.Ranges.{InRange}
 use Rattle.spec.specs.declared.Location.{Location}
 use Rattle.spec.specs.declared.LeafWord.the-variants.{Var, Int, Newtid, Newlock, Newsem, Newrwlock}
@@ -80,14 +80,14 @@ module _ {ss : List Step} {i : ℕ} {k : Position} {v : ℕ} where
 -- after step i the split T shows the map i of σ, and otherwise what S shows: each with a number for each location
 pub record Showing (ss : List Step) (S : Split) (σ : List Map) (T : Split) : Type 0 where
   pub posts : {i : ℕ} (e : Expr) → Placed ss i e → Known (S .header .locations) (post T e) (getD σ i [])
-  pub starts : (e : Expr) → Known (S .header .locations) (start T e) (start S e)
+  pub starts : (e : Expr) → Known (S .header .locations) (bodyStart T e) (bodyStart S e)
   pub loads : (e : Expr) → Known (S .header .locations) (K T e) (K S e)
   pub ins : (e : Expr) → Known (S .header .locations) (inMap T e) (inMap S e)
   pub outs : (e : Expr) → Known (S .header .locations) (outMap T e) (outMap S e)
   pub shares : (e : Expr) → Known (S .header .locations) (readMap T e) (readMap S e)
   pub wholes : (e : Expr) → Known (S .header .locations) (writeMap T e) (writeMap S e)
-  pub places : (e : Expr) → place (kind T e) ≡ place (kind S e)
-  pub within : (e : Expr) → place (kind S e) .0 < S .header .locations
+  pub places : (e : Expr) → refLocation (kind T e) ≡ refLocation (kind S e)
+  pub within : (e : Expr) → refLocation (kind S e) .0 < S .header .locations
   pub first : Known (S .header .locations) (startMap T) (startMap S)
   pub denominator : T .header .denominator ≡ S .header .denominator
 
@@ -110,7 +110,7 @@ filled-shows {σ = σ} G = let R = G .inRange in record {
   outs = λ e. record { same = out-kept R σ e; wide = out-wide R e };
   shares = λ e. record { same = read-kept R σ e; wide = read-wide R e };
   wholes = λ e. record { same = write-kept R σ e; wide = write-wide R e };
-  places = λ e. ap place (kind-kept _ σ e);
+  places = λ e. ap refLocation (kind-kept _ σ e);
   within = place-within R;
   first = record { same = start-map-kept R σ; wide = start-map-wide R };
   denominator = refl;

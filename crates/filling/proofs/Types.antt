@@ -4,7 +4,7 @@ use mathlib.Core.List.{List, _∷_, _++_}
 use Rattle.spec.specs.Words.{role, binding, preOfPart, preOfSecond}
 use Rattle.spec.specs.Expression.{Step, Expr, leaf, unary, binary}
 use Rattle.spec.specs.Split.{Map, Split}
-use Rattle.spec.specs.Conditions.{Env, type, post, start, own}
+use Rattle.spec.specs.Conditions.{Env, type, post, bodyStart, conditionsOf}
 use Rattle.spec.specs.Sites.{Site, Claim, sites, numbered, claimsAt, claims, isType, only}
 use Rattle.spec.specs.Ranges.{InRange}
 use Rattle.spec.specs.declared.Word.the-variants.{Binary}
@@ -48,7 +48,7 @@ module _ {steps : List Step} {S : Split} (R : InRange steps S) (σ : List Map) w
   ownTypes T Γ pre e = only isType (claimsAt T (record { Γ = Γ; pre = pre; step = e }))
 
   own-kept : (Γ : Env) (pre pre′ : Map) (e : Expr) → ownTypes S′ Γ pre e ≡ ownTypes S Γ pre′ e
-  unfolding claimsAt numbered own only isType
+  unfolding claimsAt numbered conditionsOf only isType
   own-kept Γ pre pre′ (leaf Var k v) = simp (type-kept S σ, may-show-kept R σ)
   own-kept Γ pre pre′ (leaf Int k v) = simp (kind-kept S σ)
   own-kept Γ pre pre′ (binary Let k v e₁ e₂) = simp (type-kept S σ, agree-kept R σ)
@@ -81,7 +81,7 @@ module _ {steps : List Step} {S : Split} (R : InRange steps S) (σ : List Map) w
       step-alike _ _ (own-kept Γ pre pre′ e) (sites-alike Γ (of-part S′ pre) (of-part S pre′) e₁)
   sites-alike Γ pre pre′ (binary w k v e₁ e₂) =
       let e = binary w k v e₁ e₂ in
-      let of-second : Split → Map → Map = λ T pre. preOfSecond w pre (post T e₁) (start T e) in
+      let of-second : Split → Map → Map = λ T pre. preOfSecond w pre (post T e₁) (bodyStart T e) in
       let second = sites-alike (binding (role (Binary w)) (v, type S e₁) Γ) (of-second S′ pre) (of-second S pre′) e₂ in
       step-alike _ _ (own-kept Γ pre pre′ e) (both-alike (sites-alike Γ pre pre′ e₁) (rw (type-kept S σ e₁) second))
 

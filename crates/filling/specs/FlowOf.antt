@@ -5,7 +5,7 @@ use Rattle.spec.specs.Choice.{if_then_else_}
 use Rattle.spec.specs.Expression.{Expr, leaf, unary, binary}
 use Rattle.spec.specs.Split.{Split}
 use Rattle.spec.specs.Maps.{share}
-use Rattle.spec.specs.Conditions.{place, kind, start, K, inMap, outMap, readMap, writeMap}
+use Rattle.spec.specs.Conditions.{refLocation, kind, bodyStart, K, inMap, outMap, readMap, writeMap}
 use Rattle.spec.specs.declared.Location.{Location}
 use Rattle.spec.specs.declared.LeafWord.the-variants.{Var, Int, Newtid, Newlock, Newsem, Newrwlock}
 use Rattle.spec.specs.declared.UnaryWord.the-variants.{While, Join, Ref, Read, Lock, Unlock, Post, Wait, Rdlock, Rdunlock, Wrlock, Wrunlock}
@@ -34,11 +34,11 @@ module _ (S : Split) (here : Location) where
   writeHere e = share (writeMap S e) here
 
   unfoldable pub startHere : Expr → ℕ
-  startHere e = share (start S e) here
+  startHere e = share (bodyStart S e) here
 
   -- what an access through the ref type of an expression needs here, if it needs d at its location
   unfoldable pub accessHere : Expr → (d : ℕ) → ℕ
-  accessHere e d = asks here (place (kind S e)) d
+  accessHere e d = asks here (refLocation (kind S e)) d
 
   -- in the order of Figure 5
   unfoldable pub flowOf : Expr → Flow

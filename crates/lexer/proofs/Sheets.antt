@@ -4,7 +4,7 @@ use mathlib.Core.List.{List, []}
 use Prim.Native.Nat.{ℕ, _+_, _<_}
 use lib.ListN.{length}
 use Rattle.spec.specs.Text.{lines, Field}
-use Rattle.spec.specs.Reading.{SheetName, stop, on, Seen, right, form, miscounted, faulty, passed, nextLine, next, begin, noneLeft, end}
+use Rattle.spec.specs.Reading.{SheetName, stop, on, Seen, right, form, miscounted, faulty, passed, nextLine, readLine, begin, noneLeft, end}
 use Rattle.lexer.specs.Cursors.{start, rest, placeAt}
 use Rattle.lexer.specs.declared.Cursor.{Cursor}
 use Rattle.lexer.proofs.Lines.{next-missing, begin-empty, begin-some, end-none, end-spare}
@@ -20,11 +20,11 @@ module _ (sheet : SheetName) (text : List ℕ) where
 
   module _ {A : Type 0} (read : List Field → Seen A) (c : Cursor) where
     -- a counted line
-    pub next-at : next sheet read (placeAt text c) ≡ nextLine sheet read (c .line) (lines (rest text c))
-    unfolding next placeAt
+    pub next-at : readLine sheet read (placeAt text c) ≡ nextLine sheet read (c .line) (lines (rest text c))
+    unfolding readLine placeAt
     next-at = refl
 
-    pub next-at-none : rest text c ≡ [] → next sheet read (placeAt text c) ≡ stop (miscounted sheet (c .line))
+    pub next-at-none : rest text c ≡ [] → readLine sheet read (placeAt text c) ≡ stop (miscounted sheet (c .line))
     next-at-none e = next-at ∙ ap (λ (t : List ℕ). nextLine sheet read (c .line) (lines t)) e ∙ next-missing sheet read (c .line)
 
   -- what is found on a line, and the cursor behind the line

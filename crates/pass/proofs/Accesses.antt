@@ -3,14 +3,14 @@ use mathlib.Core.Path.{_≡_}
 use mathlib.Core.List.{List}
 use Prim.Native.Nat.{ℕ}
 use borrow.Author.Tests.{eq-eqb, ne-eqb}
-use Rattle.spec.specs.Conditions.{place}
+use Rattle.spec.specs.Conditions.{refLocation}
 use Rattle.spec.specs.declared.Location.{Location}
 use Rattle.spec.specs.declared.TypeLine.{TypeLine}
 use Rattle.filling.specs.FlowOf.{asks}
 use Rattle.pass.specs.declared.Column.{Column}
 use Rattle.pass.specs.Ways.{typeIn, accessIn}
 
-module _ (w : List ℕ) (column : Column) (k d : ℕ) {t : TypeLine} {p : Location} (typed : t ≡ typeIn w k) (placed : p ≡ place t) where
+module _ (w : List ℕ) (column : Column) (k d : ℕ) {t : TypeLine} {p : Location} (typed : t ≡ typeIn w k) (placed : p ≡ refLocation t) where
   pub access-here : p .0 ≡ column .location → d ≡ accessIn w column k d
   unfolding accessIn asks
   access-here e = rw (← typed, ← placed, eq-eqb _ _ e)

@@ -2,7 +2,7 @@
 use mathlib.Core.List.{List}
 use Prim.Native.Nat.{ℕ, _+_, _*_}
 use lib.ListN.{getD}
-use Rattle.spec.specs.Conditions.{load, inLoad, outLoad, readLoad, writeLoad, place}
+use Rattle.spec.specs.Conditions.{load, inLoad, outLoad, readLoad, writeLoad, refLocation}
 use Rattle.spec.specs.declared.Location.{Location}
 use Rattle.spec.specs.declared.MapNumber.{MapNumber}
 use Rattle.spec.specs.declared.TypeLine.{TypeLine}
@@ -51,7 +51,7 @@ unfoldable pub startIn : List ℕ → Column → (k : ℕ) → ℕ
 startIn w column k = cellIn w column (record { 0 = getD w (startsAt + k) 0 })
 
 unfoldable pub accessIn : List ℕ → Column → (k d : ℕ) → ℕ
-accessIn w column k d = asks (locationOf column) (place (typeIn w k)) d
+accessIn w column k d = asks (locationOf column) (refLocation (typeIn w k)) d
 
 -- a new read-write lock takes w, and lends r to as many readers as it has places
 unfoldable pub lendingIn : List ℕ → Column → (k : ℕ) → Effect

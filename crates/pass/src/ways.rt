@@ -21,7 +21,7 @@ use workspace::type_at;
 use workspace::wide;
 ghost use mathlib.Core.Path.{_≡_};
 ghost use Prim.Native.Nat.{_<_};
-ghost use Rattle.spec.specs.Conditions.{load, inLoad, outLoad, readLoad, writeLoad, place};
+ghost use Rattle.spec.specs.Conditions.{load, inLoad, outLoad, readLoad, writeLoad, refLocation};
 ghost use Rattle.filling.specs.Flow.{unchanged, taking, giving, needing, lending};
 ghost use Rattle.pass.specs.Ways.{cellIn, typeIn, loadIn, inLoadIn, outLoadIn, readLoadIn, writeLoadIn, lendingIn, startIn, accessIn, wayBy, wayIn};
 
@@ -153,7 +153,7 @@ fn write_load_of(t: TypeLine) -> MapNumber
 
 // p of a ref type.
 fn place_of(t: TypeLine) -> Location
-    ensures { λ r. ⌜ r ≡ place t ⌝ }
+    ensures { λ r. ⌜ r ≡ refLocation t ⌝ }
 {
     match t {
         TypeLine::Int => Location(0),

@@ -9,7 +9,7 @@ use lib.ListN.{length, getD, take, drop, length-drop}
 use borrow.Author.Tests.{le-leb, lt-leb}
 use Rattle.spec.specs.Choice.{if_then_else_}
 use Rattle.spec.specs.Text.{bytes, same, lines, Field, lookUp}
-use Rattle.spec.specs.Reading.{programSheet, stop, _>>=_, Seen, right, wrong, badForm, badRange, freelock, seen, wrongAfter, Range, _to_, inRange, allInRange, numerals, ranged, numbers, form, outside, miscounted, faulty, passed, nextLine, next}
+use Rattle.spec.specs.Reading.{programSheet, stop, _>>=_, Seen, right, wrong, badForm, badRange, freelock, seen, wrongAfter, Range, _to_, inRange, allInRange, numerals, ranged, numbers, form, outside, miscounted, faulty, passed, nextLine, readLine}
 use Rattle.spec.specs.Expression.{Step}
 use Rattle.spec.specs.Program.{firstNumber, countLine, words, valueRange, stepOf, wordLine, stepLine}
 use Rattle.spec.specs.declared.Refusal.the-variants.{ProgramForm, ProgramRange, ProgramLines, Freelock}
@@ -124,14 +124,14 @@ module _ (text : List ℕ) (c : Cursor) (s : Span) (f : FreelockAt text c s) whe
   freelock-shows fs = rw (f .word) refl
 
   pub freelock-malformed : TailShown text (s .next) (s .end) Malformed → stepAt text c ≡ stop (ProgramForm (c .line + 1))
-  unfolding stepAt next placeAt wrongAfter
+  unfolding stepAt readLine placeAt wrongAfter
   freelock-malformed h =
       tail-malformed stepLine (wrongAfter freelock) refl (0 to 0) text c s (f .field) (f .placed) some-line freelock-shows h
 
   module _ (v : ℕ) (d : Cursor) (h : TailShown text (s .next) (s .end) (Value v d)) where
     freelock-reads : stepAt text c
         ≡ passed programSheet (c .line + 1) (lines (rest text d)) (wrongAfter freelock (if inRange (0 to 0) v then right (v ∷ []) else wrong badRange))
-    unfolding stepAt next placeAt wrongAfter
+    unfolding stepAt readLine placeAt wrongAfter
     freelock-reads =
         tail-shows stepLine (wrongAfter freelock) refl (0 to 0) text c s (f .field) (f .placed) some-line freelock-shows (omega arith) v d h
 
@@ -199,7 +199,7 @@ module _ (text : List ℕ) (c : Cursor) where
       (other : same (firstField (rest text c)) (bytes "freelock") ≡ false)
     where
       pub step-unknown : lookUp words (firstField (rest text c)) ≡ none → StepShown text c (step.Refused (ProgramForm (c .line + 1)))
-      unfolding stepAt next placeAt form stepLine wordLine
+      unfolding stepAt readLine placeAt form stepLine wordLine
       step-unknown u = first-wrong programSheet stepLine (c .line) (rest text c) (left-some (rest text c) e) (λ fs. rw (other, u) refl)
 
       module _ (w : Word) (k : lookUp words (firstField (rest text c)) ≡ some w) where
@@ -208,14 +208,14 @@ module _ (text : List ℕ) (c : Cursor) where
         step-shows fs = rw (other, k) refl
 
         pub step-malformed : TailShown text (s .next) (s .end) Malformed → StepShown text c (step.Refused (ProgramForm (c .line + 1)))
-        unfolding stepAt next placeAt seen
+        unfolding stepAt readLine placeAt seen
         step-malformed h =
             tail-malformed stepLine (seen (stepOf w)) refl (valueRange w) text c s is p (left-some (rest text c) e) step-shows h
 
         module _ (v : ℕ) (d : Cursor) (h : TailShown text (s .next) (s .end) (Value v d)) where
           step-reads : stepAt text c
               ≡ passed programSheet (c .line + 1) (lines (rest text d)) (seen (stepOf w) (if inRange (valueRange w) v then right (v ∷ []) else wrong badRange))
-          unfolding stepAt next placeAt seen
+          unfolding stepAt readLine placeAt seen
           step-reads = tail-shows stepLine (seen (stepOf w)) refl (valueRange w) text c s is p (left-some (rest text c) e) step-shows (value-narrow w) v d h
 
           pub step-under : v < leastOf w → StepShown text c (step.Refused (ProgramRange (c .line + 1)))

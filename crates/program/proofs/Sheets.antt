@@ -11,7 +11,7 @@ use lib.ListN.{length, length-map}
 use borrow.Author.Tests.{eqb-true}
 use Rattle.spec.specs.Choice.{if_then_else_}
 use Rattle.spec.specs.Text.{lines}
-use Rattle.spec.specs.Reading.{programSheet, Out, stop, on, _>>=_, Place, miscounted, begin, next, end}
+use Rattle.spec.specs.Reading.{programSheet, Out, stop, on, _>>=_, Place, miscounted, begin, readLine, end}
 use Rattle.spec.specs.Expression.{Step, Expr, size, listed, single, scope}
 use Rattle.spec.specs.Program.{Program, countLine, program}
 use Rattle.spec.specs.declared.Refusal.{Refusal}
@@ -261,7 +261,7 @@ module _ (text : List ℕ) (n : ℕ) (c : Cursor) (w w₁ : List ℕ) where
 module _ (text w w′ : List ℕ) where
   by-count : program text ≡ (countAt text >>= λ r. behindCount (r .0) (r .1))
   unfolding program countAt behindCount
-  by-count = sym (then-then (begin programSheet (lines text)) (λ top. next programSheet countLine top) (λ r. behindCount (r .0) (r .1)))
+  by-count = sym (then-then (begin programSheet (lines text)) (λ top. readLine programSheet countLine top) (λ r. behindCount (r .0) (r .1)))
 
   counted : (o : Out (ℕ × Place)) (r : ProgramRead) → countAt text ≡ o → length w′ ≡ length w
       → Answered w′ r (o >>= λ r. behindCount (r .0) (r .1)) → ProgramIs text w w′ r

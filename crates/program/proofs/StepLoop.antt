@@ -6,7 +6,7 @@ use Prim.Native.Nat.{ℕ, suc, _+_, _-_, _<_, _≤_}
 use native.Mathlib.Omega.{arith}
 use native.Mathlib.Nat.{sub-zero}
 use lib.ListN.{length, set, replicate, length-append, length-map, length-set}
-use Rattle.spec.specs.Reading.{programSheet, on, nextAll}
+use Rattle.spec.specs.Reading.{programSheet, on, readLines}
 use Rattle.spec.specs.Expression.{Step}
 use Rattle.spec.specs.Program.{stepLine}
 use Rattle.spec.specs.declared.Refusal.{Refusal}
@@ -71,7 +71,7 @@ module _ (text : List ℕ) (n : ℕ) (c₀ : Cursor) (w₀ w : List ℕ) (c : Cu
       }
 
   module _ (h : k < n) where
-    left : stepsAt text (n - k) c ≡ nextAll programSheet (stepLine ∷ replicate (n - (k + 1)) stepLine) (placeAt text c)
+    left : stepsAt text (n - k) c ≡ readLines programSheet (stepLine ∷ replicate (n - (k + 1)) stepLine) (placeAt text c)
     unfolding stepsAt
     left = let e : n - k ≡ suc (n - (k + 1)) = omega arith in rw e
 

@@ -6,7 +6,7 @@ use mathlib.Core.Option.{none, some}
 use Prim.Native.Nat.{ℕ, _+_, _≤_}
 use lib.ListN.{length, replicate}
 use Rattle.spec.specs.Text.{bytes, same, lines}
-use Rattle.spec.specs.Reading.{programSheet, Out, stop, on, _>>=_, Place, begin, next, nextAll}
+use Rattle.spec.specs.Reading.{programSheet, Out, stop, on, _>>=_, Place, begin, readLine, readLines}
 use Rattle.spec.specs.Expression.{Step}
 use Rattle.spec.specs.Program.{countLine, stepLine}
 use Rattle.spec.specs.declared.Word.{Word}
@@ -45,7 +45,7 @@ TailShown text c e Malformed = e ≡ Comma → numbersAt text c 1 ≡ none
 -- ------------------------------------------------------------------ line 1
 
 unfoldable pub countAt : List ℕ → Out (ℕ × Place)
-countAt text = begin programSheet (lines text) >>= λ top. next programSheet countLine top
+countAt text = begin programSheet (lines text) >>= λ top. readLine programSheet countLine top
 
 abbrev pub CountShown : List ℕ → CountLine → Type 0
 CountShown text (count.Count n d) = (countAt text ≡ on (n, placeAt text d)) × (n ≤ 256) × Placed text d
@@ -88,7 +88,7 @@ limitOf (Unary w) = 0
 limitOf (Binary w) = binaryLimit w
 
 unfoldable pub stepAt : List ℕ → Cursor → Out (Step × Place)
-stepAt text c = next programSheet stepLine (placeAt text c)
+stepAt text c = readLine programSheet stepLine (placeAt text c)
 
 -- a line is left at the cursor, and its first field, s, is the word `freelock`
 pub record FreelockAt (text : List ℕ) (c : Cursor) (s : Span) : Type 0 where
@@ -107,7 +107,7 @@ pub data Limited : List Step → Type 0 where
   more-limited : {s : Step} {ss : List Step} → s .value ≤ limitOf (s .word) → Limited ss → Limited (s ∷ ss)
 
 unfoldable pub stepsAt : List ℕ → (n : ℕ) → Cursor → Out (List Step × Place)
-stepsAt text n c = nextAll programSheet (replicate n stepLine) (placeAt text c)
+stepsAt text n c = readLines programSheet (replicate n stepLine) (placeAt text c)
 
 -- n steps are read and stored
 pub record StepsHeld (text : List ℕ) (n : ℕ) (c : Cursor) (w : List ℕ) (d : Cursor) : Type 0 where

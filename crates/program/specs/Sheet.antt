@@ -3,7 +3,7 @@ use mathlib.Core.Path.{_≡_}
 use mathlib.Core.List.{List, []}
 use Prim.Native.Nat.{ℕ, _+_, _≤_}
 use lib.ListN.{length, replicate}
-use Rattle.spec.specs.Reading.{programSheet, Out, stop, on, _>>=_, Place, nextAll, end}
+use Rattle.spec.specs.Reading.{programSheet, Out, stop, on, _>>=_, Place, readLines, end}
 use Rattle.spec.specs.Expression.{Step, Expr, listed, single, scope}
 use Rattle.spec.specs.Program.{Program, stepLine, program}
 use Rattle.lexer.specs.Cursors.{placeAt}
@@ -38,7 +38,7 @@ Answered w r (on P) = (r ≡ Read (length (P .steps))) × HoldsProgram w P × (l
 -- what stands behind line 1
 unfoldable pub behindCount : (n : ℕ) → Place → Out Program
 behindCount n first = do
-  (steps, last) ← nextAll programSheet (replicate n stepLine) first
+  (steps, last) ← readLines programSheet (replicate n stepLine) first
   done ← end programSheet last
   e ← single n (listed 2 steps)
   bound ← scope e [] []

@@ -17,7 +17,7 @@ use Rattle.spec.specs.Expression.{Step}
 use Rattle.spec.specs.Split.{Split, typeAt, mapAt}
 use Rattle.spec.specs.Maps.{nowhere, sameNumbers, _≥ᵐ_}
 use Rattle.spec.specs.Agreement.{int, code, Tree, plain, sameMaps, sameTree, treeOf, trees, tree, agree}
-use Rattle.spec.specs.Conditions.{T, F, isInt, isRef, isLock, isTid, isSem, isRwlock, place, load, inLoad, outLoad, readLoad, writeLoad, contains, looserLock, mayShow}
+use Rattle.spec.specs.Conditions.{T, F, isInt, isRef, isLock, isTid, isSem, isRwlock, refLocation, load, inLoad, outLoad, readLoad, writeLoad, contains, looserLock, mayShow}
 use Rattle.spec.specs.Sites.{judge}
 use Rattle.spec.specs.Verdict.{takesEnough}
 use Rattle.spec.specs.Ranges.{InRange}
@@ -85,7 +85,7 @@ module _ (w : List ℕ) (n : ℕ) where
   pub no-contents : (x y : TypeLine) → isRef x ≡ true → linesAgree w n (λ c d. false) x y ≡ false
   unfolding isRef linesAgree
   no-contents Int y h = true-is-not-false (sym h)
-  no-contents (Ref p c) y h = either (isRef y) (eqb (p .0) (place y .0))
+  no-contents (Ref p c) y h = either (isRef y) (eqb (p .0) (refLocation y .0))
     where
       either : (a b : Bool) → (a && (b && false)) ≡ false
       either true true = refl
@@ -133,15 +133,15 @@ module _ (w : List ℕ) (n : ℕ) where
 
       module _ {q : Location} {d : TypeNumber} (is-ref′ : y ≡ Ref q d) where
         pub refs-apart : (p .0 ≡ q .0 → ⊥) → agreeIn w n t u ≡ false
-        unfolding agreeIn agreeBelow linesAgree isRef place
+        unfolding agreeIn agreeBelow linesAgree isRef refLocation
         refs-apart h = rw (← e, ← g, is-ref, is-ref′, ne-eqb _ _ h)
 
         pub refs-not-smaller : p .0 ≡ q .0 → t .0 ≤ c .0 → agreeIn w n t u ≡ false
-        unfolding agreeIn agreeBelow linesAgree isRef place
+        unfolding agreeIn agreeBelow linesAgree isRef refLocation
         refs-not-smaller h l = rw (← e, ← g, is-ref, is-ref′, eq-eqb _ _ h, le-ltb _ _ l)
 
         pub refs-by-contents : p .0 ≡ q .0 → c .0 < t .0 → agreeIn w n c d ≡ agreeIn w n t u
-        unfolding agreeIn agreeBelow linesAgree isRef place content
+        unfolding agreeIn agreeBelow linesAgree isRef refLocation content
         refs-by-contents h l =
             rw (← e, ← g, is-ref, is-ref′, eq-eqb _ _ h, lt-ltb _ _ l) (any-bound (suc (c .0)) (t .0) c d (omega arith) l)
 
@@ -201,7 +201,7 @@ module _ (w : List ℕ) (S : Split) (steps : List Step) (H : HoldsSplit w S) (R 
       → LoadsIn x → LoadsIn y
       → ((p q : Location) (c d : TypeNumber) → x ≡ Ref p c → y ≡ Ref q d → f c d ≡ sameTree (getD all (c .0) (plain int [])) (getD all (d .0) (plain int [])))
       → linesAgree w n f x y ≡ sameTree (treeOf S all x) (treeOf S all y)
-  unfolding LoadsIn linesAgree code sameMaps sameTree treeOf isInt isRef isLock isTid isSem isRwlock place load inLoad outLoad readLoad writeLoad content
+  unfolding LoadsIn linesAgree code sameMaps sameTree treeOf isInt isRef isLock isTid isSem isRwlock refLocation load inLoad outLoad readLoad writeLoad content
   lines-shown all f Int Int i j h = refl
   lines-shown all f Int (Ref q d) i j h = refl
   lines-shown all f Int (Lock m o) i j h = refl

@@ -9,7 +9,7 @@ use Rattle.spec.specs.Choice.{if_then_else_}
 use Rattle.spec.specs.Reading.{Out, on, _>>=_}
 use Rattle.spec.specs.Expression.{Expr, leaf, unary, binary}
 use Rattle.spec.specs.Split.{Map, Split}
-use Rattle.spec.specs.Conditions.{Condition, T, F, A, Env, own}
+use Rattle.spec.specs.Conditions.{Condition, T, F, A, Env, conditionsOf}
 use Rattle.spec.specs.Sites.{Claim, numbered, judge, firstFalse, isType, only}
 use Rattle.spec.specs.Verdict.{four, returned}
 use Rattle.spec.specs.declared.Purpose.{Purpose}
@@ -52,8 +52,8 @@ TypesFirst (T b ∷ cs) = TypesFirst cs
 TypesFirst (F o ∷ cs) = NoTypes cs
 TypesFirst (A b p ∷ cs) = NoTypes cs
 
-row-types-first : (S : Split) (Γ : Env) (pre : Map) (e : Expr) → TypesFirst (own S Γ pre e)
-unfolding own TypesFirst NoTypes
+row-types-first : (S : Split) (Γ : Env) (pre : Map) (e : Expr) → TypesFirst (conditionsOf S Γ pre e)
+unfolding conditionsOf TypesFirst NoTypes
 row-types-first S Γ pre (leaf Var k v) = tt
 row-types-first S Γ pre (leaf Int k v) = tt
 row-types-first S Γ pre (binary Let k v e₁ e₂) = tt
@@ -109,7 +109,7 @@ module _ (line : ℕ) where
 
   -- what counts of a row is its first false claim of those that are asked for
   pub row-counted : (purpose : Purpose) (S : Split) (Γ : Env) (pre : Map) (e : Expr)
-      → counted purpose (judged line 1 (own S Γ pre e)) ≡ firstFalse (asked purpose (numbered line 1 (own S Γ pre e)))
+      → counted purpose (judged line 1 (conditionsOf S Γ pre e)) ≡ firstFalse (asked purpose (numbered line 1 (conditionsOf S Γ pre e)))
   unfolding counted asked judged
   row-counted Check S Γ pre e = refl
-  row-counted Fill S Γ pre e = types-counted 1 (own S Γ pre e) (row-types-first S Γ pre e)
+  row-counted Fill S Γ pre e = types-counted 1 (conditionsOf S Γ pre e) (row-types-first S Γ pre e)

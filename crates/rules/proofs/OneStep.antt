@@ -8,7 +8,7 @@ use native.Mathlib.Omega.{arith}
 use lib.ListN.{length, getD, length-map}
 use Rattle.spec.specs.Expression.{Step, Expr, leaf, unary, binary, size}
 use Rattle.spec.specs.Split.{Map, Row, Split}
-use Rattle.spec.specs.Conditions.{Env, post, start, own}
+use Rattle.spec.specs.Conditions.{Env, post, bodyStart, conditionsOf}
 use Rattle.spec.specs.Sites.{preOfPart, preOfSecond, claimsAt}
 use Rattle.spec.specs.Ranges.{InRange}
 use Rattle.spec.specs.declared.MapNumber.{MapNumber}
@@ -115,7 +115,7 @@ module _ (S : Split) (steps : List Step) (R : InRange steps S) (few : length (S 
     conditions-shown : (e : Expr) → Ready w k inside vars Γ pre e
         → (let s = viewOf w (S .header .locations) (S .header .denominator) k in
         ruleRow (ruleOf (cell w wordsAt k)) w s (layout.typeAt w (s .own)) (layout.typeAt w (s .type1)))
-        ≡ own S Γ pre e
+        ≡ conditionsOf S Γ pre e
     unfolding size
     conditions-shown (leaf x l v) r =
         rw (leaf-code x l v (r .here))
@@ -177,7 +177,7 @@ module _ (S : Split) (steps : List Step) (R : InRange steps S) (few : length (S 
         of-part x (r .pre-stands) (post-at w S steps (r .split) R (unary x l v e₁) k (here-line _ (r .here)) (below _ r) refl)
 
     pub second-stands : (x : BinaryWord) (l v : ℕ) (e₁ e₂ : Expr) → Ready w k inside vars Γ pre (binary x l v e₁ e₂)
-        → Stands w S (secondNumber w k x) (preOfSecond x pre (post S e₁) (start S (binary x l v e₁ e₂)))
+        → Stands w S (secondNumber w k x) (preOfSecond x pre (post S e₁) (bodyStart S (binary x l v e₁ e₂)))
     unfolding size
     second-stands x l v e₁ e₂ r =
         of-second x (r .pre-stands)

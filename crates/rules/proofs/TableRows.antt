@@ -9,7 +9,7 @@ use borrow.Author.Tests.{le-leb, lt-ltb}
 use Rattle.spec.specs.Expression.{Step, Expr, leaf, unary, binary}
 use Rattle.spec.specs.Split.{Map, Split}
 use Rattle.spec.specs.Maps.{_=ᵐ_, _≥ᵐ_, _+ᵐ_, _×ᵐ_, share}
-use Rattle.spec.specs.Conditions.{Env, typeIn, mayShow, contains, row, type, kind, post, start, K, inMap, outMap, readMap, writeMap, place, load, inLoad, outLoad, readLoad, writeLoad, own}
+use Rattle.spec.specs.Conditions.{Env, typeIn, mayShow, contains, row, type, kind, post, bodyStart, K, inMap, outMap, readMap, writeMap, refLocation, load, inLoad, outLoad, readLoad, writeLoad, conditionsOf}
 use Rattle.spec.specs.Agreement.{agree}
 use Rattle.spec.specs.Ranges.{InRange}
 use Rattle.spec.specs.declared.MapNumber.{MapNumber}
@@ -101,7 +101,7 @@ module _ (w : List ℕ) (S : Split) (steps : List Step) (H : HoldsSplit w S) (R 
       is-sum = rw (located, is-sum-shown w S steps H R p q r)
 
   shares : {t u : TypeNumber} {m n : MapNumber} (e e₁ : Expr) → Part w S t m e → Part w S u n e₁
-      → mapCell w m (place (kind S e₁) .0) ≡ share (post S e) (place (kind S e₁))
+      → mapCell w m (refLocation (kind S e₁) .0) ≡ share (post S e) (refLocation (kind S e₁))
   unfolding kind type
   shares e e₁ o f = has-shown w S steps H R _ (o .posted) (place-in w S steps H R _ (f .type-in))
 
@@ -125,8 +125,8 @@ module _ (w : List ℕ) (S : Split) (steps : List Step) (H : HoldsSplit w S) (R 
   -- ---------------------------------------------------------------- the table
 
   pub leaf-shown : (x : LeafWord) → Part w S (s .own) (s .post) (leaf x l v) → Bound S x s Γ v
-      → ruleRow (ruleOf (leafCode x)) w s (layout.typeAt w (s .own)) (layout.typeAt w (s .type1)) ≡ own S Γ pre (leaf x l v)
-  unfolding printed ruleOf ruleRow own type
+      → ruleRow (ruleOf (leafCode x)) w s (layout.typeAt w (s .own)) (layout.typeAt w (s .type1)) ≡ conditionsOf S Γ pre (leaf x l v)
+  unfolding printed ruleOf ruleRow conditionsOf type
   leaf-shown Var o b = rw (equal (o .posted) pre-stands, shows _ _ o (b .0) (b .1))
   leaf-shown Int o b = rw (equal (o .posted) pre-stands, typed-as _ o)
   leaf-shown Newtid o b = rw (equal (o .posted) pre-stands, typed-as _ o)
@@ -142,8 +142,8 @@ module _ (w : List ℕ) (S : Split) (steps : List Step) (H : HoldsSplit w S) (R 
 
   module _ (e₁ : Expr) (f : Part w S (s .type1) (s .post1) e₁) where
     pub unary-shown : (x : UnaryWord) → Part w S (s .own) (s .post) (unary x l v e₁)
-        → ruleRow (ruleOf (unaryCode x)) w s (layout.typeAt w (s .own)) (layout.typeAt w (s .type1)) ≡ own S Γ pre (unary x l v e₁)
-    unfolding printed ruleOf ruleRow own type
+        → ruleRow (ruleOf (unaryCode x)) w s (layout.typeAt w (s .own)) (layout.typeAt w (s .type1)) ≡ conditionsOf S Γ pre (unary x l v e₁)
+    unfolding printed ruleOf ruleRow conditionsOf type
     unary-shown While o =
         rw (at-least pre-stands (o .posted), at-least (f .posted) (o .posted), typed-as _ o)
     unary-shown Join o =
@@ -177,9 +177,9 @@ module _ (w : List ℕ) (S : Split) (steps : List Step) (H : HoldsSplit w S) (R 
 
     module _ (e₂ : Expr) (g : Part w S (s .type2) (s .post2) e₂) where
       pub binary-shown : (x : BinaryWord) → Part w S (s .own) (s .post) (binary x l v e₁ e₂)
-          → Stands w S (s .start) (start S (binary x l v e₁ e₂))
-          → ruleRow (ruleOf (binaryCode x)) w s (layout.typeAt w (s .own)) (layout.typeAt w (s .type1)) ≡ own S Γ pre (binary x l v e₁ e₂)
-      unfolding printed ruleOf ruleRow own type
+          → Stands w S (s .start) (bodyStart S (binary x l v e₁ e₂))
+          → ruleRow (ruleOf (binaryCode x)) w s (layout.typeAt w (s .own)) (layout.typeAt w (s .type1)) ≡ conditionsOf S Γ pre (binary x l v e₁ e₂)
+      unfolding printed ruleOf ruleRow conditionsOf type
       binary-shown Let o b =
           rw (equal (o .posted) (g .posted), agrees _ _ o (g .typed) (g .type-in))
       binary-shown If o b =

@@ -13,7 +13,7 @@ use Rattle.spec.specs.Reading.{Out, _>>=_, demand}
 use Rattle.spec.specs.Expression.{Step, Expr, leaf, unary, binary, size}
 use Rattle.spec.specs.Program.{Program}
 use Rattle.spec.specs.Split.{Map, Row, Split, typeAt}
-use Rattle.spec.specs.Conditions.{Env, lineOf, startMap, type, post, start}
+use Rattle.spec.specs.Conditions.{Env, lineOf, startMap, type, post, bodyStart}
 use Rattle.spec.specs.Sites.{preOfPart, preOfSecond, bind, sites, claims}
 use Rattle.spec.specs.Verdict.{takesEnough, allTakeEnough, locksTakeEnough, startAtMostOne, ruled, typed}
 use Rattle.spec.specs.Ranges.{InRange}
@@ -141,7 +141,7 @@ module _ (purpose : Purpose) (S : Split) (steps : List Step) (R : InRange steps 
 
       -- the map before the second part, and the types of the variables there
       abbrev pre₂ : Map
-      pre₂ = preOfSecond x pre (post S e₁) (start S (binary x l v e₁ e₂))
+      pre₂ = preOfSecond x pre (post S e₁) (bodyStart S (binary x l v e₁ e₂))
 
       abbrev Γ₂ : Env
       Γ₂ = bind x v (type S e₁) Γ
@@ -219,7 +219,7 @@ module _ (w : List ℕ) (steps denominator locations start : ℕ) (P : Program) 
   start-named : Stands w S (record { 0 = start }) (startMap S)
   unfolding startMap
   start-named =
-      rw (map-number (H .startGiven)) (map-stands w S (P .steps) (H .split) (H .inRange) (S .header .start) (H .inRange .start))
+      rw (map-number (H .startGiven)) (map-stands w S (P .steps) (H .split) (H .inRange) (S .header .rootStart) (H .inRange .start))
 
   -- 44
   types-left : (t n : ℕ) → t + n ≡ length (S .types) → locksOutcome w locations t n ≡ allTakeEnough S (t + 2) (drop t (S .types))

@@ -6,7 +6,7 @@ use native.Mathlib.Omega.{arith}
 use lib.ListN.{length, getD}
 use Rattle.spec.specs.Expression.{Step, Expr, leaf}
 use Rattle.spec.specs.Split.{Row, Split}
-use Rattle.spec.specs.Conditions.{Env, lineOf, row, start}
+use Rattle.spec.specs.Conditions.{Env, lineOf, row, bodyStart}
 use Rattle.spec.specs.WellFormed.{UsedInside}
 use Rattle.spec.specs.Ranges.{InRange}
 use Rattle.spec.specs.declared.TypeNumber.{TypeNumber}
@@ -53,7 +53,7 @@ module _ (w : List ℕ) (S : Split) (steps : List Step) (H : HoldsSplit w S) (R 
     unfolding viewOf
     second-part e j q line h = part-at e j line h (ap (cell w rowTypesAt) q) (ap (cell w postsAt) q)
 
-    pub started : (e : Expr) → lineOf e ≡ k + 2 → k < length (S .rows) → Stands w S (viewOf w n d k .start) (start S e)
+    pub started : (e : Expr) → lineOf e ≡ k + 2 → k < length (S .rows) → Stands w S (viewOf w n d k .start) (bodyStart S e)
     unfolding viewOf
     started e line h = start-at w S steps H R e k line h
 

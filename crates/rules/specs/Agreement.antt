@@ -6,7 +6,7 @@ use Prim.Native.Nat.{ℕ, zero, suc}
 use lib.Dec.{eqb, ltb}
 use Rattle.spec.specs.Choice.{if_then_else_}
 use Rattle.spec.specs.Maps.{nowhere}
-use Rattle.spec.specs.Conditions.{isInt, isRef, isLock, isTid, isSem, isRwlock, place, load, inLoad, outLoad, readLoad, writeLoad}
+use Rattle.spec.specs.Conditions.{isInt, isRef, isLock, isTid, isSem, isRwlock, refLocation, load, inLoad, outLoad, readLoad, writeLoad}
 use Rattle.spec.specs.declared.MapNumber.{MapNumber}
 use Rattle.spec.specs.declared.TypeNumber.{TypeNumber}
 use Rattle.spec.specs.declared.TypeLine.{TypeLine}
@@ -36,7 +36,7 @@ module _ (w : List ℕ) (n : ℕ) where
   -- the types of two lines agree; `contents` says which contents do
   unfoldable pub linesAgree : (contents : TypeNumber → TypeNumber → Bool) → TypeLine → TypeLine → Bool
   linesAgree contents type-line.Int y = isInt y
-  linesAgree contents (type-line.Ref p c) y = isRef y && (eqb (p .0) (place y .0) && contents c (content y))
+  linesAgree contents (type-line.Ref p c) y = isRef y && (eqb (p .0) (refLocation y .0) && contents c (content y))
   linesAgree contents (type-line.Lock i o) y = isLock y && (sameNumbersIn i (inLoad y) && sameNumbersIn o (outLoad y))
   linesAgree contents (type-line.Tid k) y = isTid y && sameNumbersIn k (load y)
   linesAgree contents (type-line.Sem k) y = isSem y && sameNumbersIn k (load y)

@@ -4,7 +4,7 @@ use mathlib.Core.Bool.{Bool, false}
 use mathlib.Core.List.{List, [], _∷_}
 use Prim.Native.Nat.{ℕ}
 use lib.Dec.{leb}
-use Rattle.spec.specs.Conditions.{Condition, T, F, A, isInt, isRef, isLock, isTid, isSem, isRwlock, place, load, inLoad, outLoad, readLoad, writeLoad}
+use Rattle.spec.specs.Conditions.{Condition, T, F, A, isInt, isRef, isLock, isTid, isSem, isRwlock, refLocation, load, inLoad, outLoad, readLoad, writeLoad}
 use Rattle.spec.specs.declared.Location.{Location}
 use Rattle.spec.specs.declared.MapNumber.{MapNumber}
 use Rattle.spec.specs.declared.TypeNumber.{TypeNumber}
@@ -111,7 +111,7 @@ writeRow w s kind kind₁ =
     ∷ T (isRef kind₁)
     ∷ T (containsIn w (s .locations) kind₁ (s .type2))
     ∷ flows w s (Equal (s .post) (s .post2))
-    ∷ hasAtLeast w (s .post) (place kind₁) (s .denominator)
+    ∷ hasAtLeast w (s .post) (refLocation kind₁) (s .denominator)
     ∷ []
 
 abbrev pub readRow : TableRow
@@ -119,7 +119,7 @@ readRow w s kind kind₁ =
     T (isRef kind₁)
     ∷ T (containsIn w (s .locations) kind₁ (s .own))
     ∷ flows w s (Equal (s .post) (s .post1))
-    ∷ hasAtLeast w (s .post) (place kind₁) 1
+    ∷ hasAtLeast w (s .post) (refLocation kind₁) 1
     ∷ []
 
 abbrev pub newlRow : TableRow

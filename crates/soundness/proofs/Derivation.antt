@@ -6,7 +6,7 @@ use Prim.Native.Nat.{ℕ}
 use Rattle.spec.specs.Words.{role, binding}
 use Rattle.spec.specs.Expression.{Step, Expr, leaf, unary, binary}
 use Rattle.spec.specs.Split.{Map, Split}
-use Rattle.spec.specs.Conditions.{type, kind, post, start, mapAt}
+use Rattle.spec.specs.Conditions.{type, kind, post, bodyStart, mapAt}
 use Rattle.spec.specs.Conditions as conditions
 use Rattle.spec.specs.WellFormed.{StepInside, UsedInside}
 use Rattle.spec.specs.Ranges.{InRange}
@@ -46,7 +46,7 @@ module _ {steps : List Step} (S : Split) (R : InRange steps S) (L : LocksTakeEno
       let e = binary Spawn k v e₁ e₂ in
       rw (means-int S R _ i)
       (SPAWN (rw (means-tid S R _ K t) at (split-derivation-is-figure-5 d₁ (u .1))) (split-derivation-is-figure-5 d₂ (u .2)) (covers-cap c)
-      (sum-cap (post S e) (start S e) (post-wide S R e ∙ sym (start-wide S R e)) m))
+      (sum-cap (post S e) (bodyStart S e) (post-wide S R e ∙ sym (start-wide S R e)) m))
   split-derivation-is-figure-5 (own.JOIN {K = K} {e₁ = e₁} d t i m) u =
       rw (means-int S R _ i)
       (JOIN (rw (means-tid S R _ K t) at (split-derivation-is-figure-5 d (u .1)))

@@ -12,7 +12,7 @@ use borrow.Author.Tests.{eq-eqb, ne-eqb}
 use Rattle.spec.specs.Choice.{if_then_else_}
 use Rattle.spec.specs.Expression.{Step, Expr, among, indexOf}
 use Rattle.spec.specs.Split.{Row, Split}
-use Rattle.spec.specs.Conditions.{typeIn, typeAt, mapAt, mayShow, row, type, post, startIn, start}
+use Rattle.spec.specs.Conditions.{typeIn, typeAt, mapAt, mayShow, row, type, post, startIn, bodyStart}
 use Rattle.spec.specs.Conditions as conditions
 use Rattle.spec.specs.Agreement.{int, lock, tid, sem, rwlock, Tree, plain, ref, treeOf, tree, agree}
 use Rattle.spec.specs.Ranges.{InRange}
@@ -109,8 +109,8 @@ module _ {steps : List Step} (S : Split) (R : InRange steps S) where
           omega (arith, map-0, R .mapsCounted, R .mapsFew .0)
 
   -- a start that is not given has every location too
-  pub start-wide : (e : Expr) → length (start S e) ≡ S .header .locations
-  unfolding start startIn row unshown
+  pub start-wide : (e : Expr) → length (bodyStart S e) ≡ S .header .locations
+  unfolding bodyStart startIn row unshown
   start-wide e = by-cases (row S e .start) refl
     where
       by-cases : (o : Option MapNumber) → row S e .start ≡ o → length (startIn S o) ≡ S .header .locations

@@ -13,7 +13,7 @@ use Rattle.spec.specs.Program.{program, programLimit}
 use Rattle.spec.specs.Split.{Map, Split, split, splitLimit}
 use Rattle.spec.specs.Maps.{_=ᵐ_, _≥ᵐ_, share}
 use Rattle.spec.specs.Agreement.{agree}
-use Rattle.spec.specs.Conditions.{Condition, T, F, A, Env, typeIn, isInt, isRef, place, type, kind, post, startMap, contains, mayShow, own}
+use Rattle.spec.specs.Conditions.{Condition, T, F, A, Env, typeIn, isInt, isRef, refLocation, type, kind, post, startMap, contains, mayShow, conditionsOf}
 use Rattle.spec.specs.Sites.{Site, sites, Claim, numbered, claimsAt, claims, firstFalse}
 use Rattle.spec.specs.FirstFalse.{Holds, AllHold}
 use Rattle.spec.specs.Workspace.{workspaceSize}
@@ -50,42 +50,42 @@ containsBefore (type-line.Rwlock r w) t = false
 
 module _ (S : Split) where
   -- the rows of the table that compare two types; the others are as they were
-  unfoldable pub ownBefore : Env → (pre : Map) → Expr → List Condition
-  ownBefore Γ pre (leaf Var k v) = let e = leaf Var k v in
+  unfoldable pub conditionsBefore : Env → (pre : Map) → Expr → List Condition
+  conditionsBefore Γ pre (leaf Var k v) = let e = leaf Var k v in
       T (agreeBefore (type S e) (typeIn Γ v)) ∷ F (post S e =ᵐ pre) ∷ []
-  ownBefore Γ pre (leaf Int k v) = own S Γ pre (leaf Int k v)
-  ownBefore Γ pre (binary Let k v e₁ e₂) = let e = binary Let k v e₁ e₂ in
+  conditionsBefore Γ pre (leaf Int k v) = conditionsOf S Γ pre (leaf Int k v)
+  conditionsBefore Γ pre (binary Let k v e₁ e₂) = let e = binary Let k v e₁ e₂ in
       T (agreeBefore (type S e) (type S e₂)) ∷ F (post S e =ᵐ post S e₂) ∷ []
-  ownBefore Γ pre (binary If k v e₁ e₂) = let e = binary If k v e₁ e₂ in
+  conditionsBefore Γ pre (binary If k v e₁ e₂) = let e = binary If k v e₁ e₂ in
       T (agreeBefore (type S e) (type S e₁)) ∷ T (agreeBefore (type S e) (type S e₂))
       ∷ F (post S e₁ ≥ᵐ post S e) ∷ F (post S e₂ ≥ᵐ post S e) ∷ []
-  ownBefore Γ pre (unary While k v e₁) = own S Γ pre (unary While k v e₁)
-  ownBefore Γ pre (leaf Newtid k v) = own S Γ pre (leaf Newtid k v)
-  ownBefore Γ pre (binary Spawn k v e₁ e₂) = own S Γ pre (binary Spawn k v e₁ e₂)
-  ownBefore Γ pre (unary Join k v e₁) = own S Γ pre (unary Join k v e₁)
-  ownBefore Γ pre (unary Ref k v e₁) = let e = unary Ref k v e₁ in
+  conditionsBefore Γ pre (unary While k v e₁) = conditionsOf S Γ pre (unary While k v e₁)
+  conditionsBefore Γ pre (leaf Newtid k v) = conditionsOf S Γ pre (leaf Newtid k v)
+  conditionsBefore Γ pre (binary Spawn k v e₁ e₂) = conditionsOf S Γ pre (binary Spawn k v e₁ e₂)
+  conditionsBefore Γ pre (unary Join k v e₁) = conditionsOf S Γ pre (unary Join k v e₁)
+  conditionsBefore Γ pre (unary Ref k v e₁) = let e = unary Ref k v e₁ in
       T (containsBefore (kind S e) (type S e₁)) ∷ F (post S e =ᵐ post S e₁) ∷ []
-  ownBefore Γ pre (unary Read k v e₁) = let e = unary Read k v e₁ in let p = place (kind S e₁) in
+  conditionsBefore Γ pre (unary Read k v e₁) = let e = unary Read k v e₁ in let p = refLocation (kind S e₁) in
       T (isRef (kind S e₁)) ∷ T (containsBefore (kind S e₁) (type S e)) ∷ F (post S e =ᵐ post S e₁)
       ∷ A (ltb 0 (share (post S e) p)) p ∷ []
-  ownBefore Γ pre (binary Write k v e₁ e₂) = let e = binary Write k v e₁ e₂ in let p = place (kind S e₁) in
+  conditionsBefore Γ pre (binary Write k v e₁ e₂) = let e = binary Write k v e₁ e₂ in let p = refLocation (kind S e₁) in
       T (isInt (kind S e)) ∷ T (isRef (kind S e₁)) ∷ T (containsBefore (kind S e₁) (type S e₂)) ∷ F (post S e =ᵐ post S e₂)
       ∷ A (leb (S .header .denominator) (share (post S e) p)) p ∷ []
-  ownBefore Γ pre (leaf Newlock k v) = own S Γ pre (leaf Newlock k v)
-  ownBefore Γ pre (unary Lock k v e₁) = own S Γ pre (unary Lock k v e₁)
-  ownBefore Γ pre (unary Unlock k v e₁) = own S Γ pre (unary Unlock k v e₁)
-  ownBefore Γ pre (leaf Newsem k v) = own S Γ pre (leaf Newsem k v)
-  ownBefore Γ pre (leaf Newrwlock k v) = own S Γ pre (leaf Newrwlock k v)
-  ownBefore Γ pre (unary Post k v e₁) = own S Γ pre (unary Post k v e₁)
-  ownBefore Γ pre (unary Wait k v e₁) = own S Γ pre (unary Wait k v e₁)
-  ownBefore Γ pre (unary Rdlock k v e₁) = own S Γ pre (unary Rdlock k v e₁)
-  ownBefore Γ pre (unary Rdunlock k v e₁) = own S Γ pre (unary Rdunlock k v e₁)
-  ownBefore Γ pre (unary Wrlock k v e₁) = own S Γ pre (unary Wrlock k v e₁)
-  ownBefore Γ pre (unary Wrunlock k v e₁) = own S Γ pre (unary Wrunlock k v e₁)
+  conditionsBefore Γ pre (leaf Newlock k v) = conditionsOf S Γ pre (leaf Newlock k v)
+  conditionsBefore Γ pre (unary Lock k v e₁) = conditionsOf S Γ pre (unary Lock k v e₁)
+  conditionsBefore Γ pre (unary Unlock k v e₁) = conditionsOf S Γ pre (unary Unlock k v e₁)
+  conditionsBefore Γ pre (leaf Newsem k v) = conditionsOf S Γ pre (leaf Newsem k v)
+  conditionsBefore Γ pre (leaf Newrwlock k v) = conditionsOf S Γ pre (leaf Newrwlock k v)
+  conditionsBefore Γ pre (unary Post k v e₁) = conditionsOf S Γ pre (unary Post k v e₁)
+  conditionsBefore Γ pre (unary Wait k v e₁) = conditionsOf S Γ pre (unary Wait k v e₁)
+  conditionsBefore Γ pre (unary Rdlock k v e₁) = conditionsOf S Γ pre (unary Rdlock k v e₁)
+  conditionsBefore Γ pre (unary Rdunlock k v e₁) = conditionsOf S Γ pre (unary Rdunlock k v e₁)
+  conditionsBefore Γ pre (unary Wrlock k v e₁) = conditionsOf S Γ pre (unary Wrlock k v e₁)
+  conditionsBefore Γ pre (unary Wrunlock k v e₁) = conditionsOf S Γ pre (unary Wrunlock k v e₁)
 
   unfoldable pub claimsBefore : List Site → List Claim
   claimsBefore [] = []
-  claimsBefore (s ∷ ss) = numbered (lineOf (s .step)) 1 (ownBefore (s .Γ) (s .pre) (s .step)) ++ claimsBefore ss
+  claimsBefore (s ∷ ss) = numbered (lineOf (s .step)) 1 (conditionsBefore (s .Γ) (s .pre) (s .step)) ++ claimsBefore ss
 
 unfoldable pub checkedBefore : (room : ℕ) → (programText splitText : List ℕ) → Out (Unit {0})
 checkedBefore room programText splitText = do
@@ -123,8 +123,8 @@ module _ (S : Split) where
   contained (type-line.Sem k) u h = h
   contained (type-line.Rwlock r w) u h = h
 
-  own-holds : (n i : ℕ) (Γ : Env) (pre : Map) (e : Expr) → AllHold (numbered n i (ownBefore S Γ pre e)) → AllHold (numbered n i (own S Γ pre e))
-  unfolding AllHold Holds numbered ownBefore own
+  own-holds : (n i : ℕ) (Γ : Env) (pre : Map) (e : Expr) → AllHold (numbered n i (conditionsBefore S Γ pre e)) → AllHold (numbered n i (conditionsOf S Γ pre e))
+  unfolding AllHold Holds numbered conditionsBefore conditionsOf
   own-holds n i Γ pre (leaf Var k v) h = (shown _ _ (h .0), h .1)
   own-holds n i Γ pre (leaf Int k v) h = h
   own-holds n i Γ pre (binary Let k v e₁ e₂) h = (agreed _ _ (h .0), h .1)

@@ -6,7 +6,7 @@ use mathlib.Core.Option.{Option, none, some}
 use Prim.Native.Nat.{ℕ, _+_}
 use Rattle.spec.specs.Choice.{if_then_else_}
 use Rattle.spec.specs.Text.{Line, closed, unclosed, Field, fields}
-use Rattle.spec.specs.Reading.{Out, stop, on, _>>=_, demand, Fault, badForm, badRange, noStart, freelock, Seen, right, wrong, SheetName, programSheet, splitSheet, form, outside, miscounted, faulty, Place, passed, nextLine, next, nextAll, begin, noneLeft, end}
+use Rattle.spec.specs.Reading.{Out, stop, on, _>>=_, demand, Fault, badForm, badRange, noStart, freelock, Seen, right, wrong, SheetName, programSheet, splitSheet, form, outside, miscounted, faulty, Place, passed, nextLine, readLine, readLines, begin, noneLeft, end}
 use Rattle.spec.specs.Expression.{Step, Expr, leaf, unary, binary, whole, single, among, scopeStep, scope}
 use Rattle.spec.specs.Program.{Program, program}
 use Rattle.spec.specs.Split.{Split, split}
@@ -94,12 +94,12 @@ line-early sheet read k [] = miscounted-early sheet k
 line-early sheet read k (unclosed l ∷ rest) = form-early sheet (k + 1)
 line-early sheet read k (closed l ∷ rest) = passed-early sheet (k + 1) rest (read (fields l))
 
-next-early : {A : Type 0} (sheet : SheetName) (read : List Field → Seen A) (place : Place) → Early (next sheet read place)
-unfolding next
+next-early : {A : Type 0} (sheet : SheetName) (read : List Field → Seen A) (place : Place) → Early (readLine sheet read place)
+unfolding readLine
 next-early sheet read place = line-early sheet read (place .last) (place .rest)
 
-all-early : {A : Type 0} (sheet : SheetName) (reads : List (List Field → Seen A)) (place : Place) → Early (nextAll sheet reads place)
-unfolding nextAll
+all-early : {A : Type 0} (sheet : SheetName) (reads : List (List Field → Seen A)) (place : Place) → Early (readLines sheet reads place)
+unfolding readLines
 all-early sheet [] place = tt
 all-early sheet (read ∷ reads) place =
     early-bind _ _ (next-early sheet read place) λ a. early-bind _ _ (all-early sheet reads (a .1)) λ as′. tt

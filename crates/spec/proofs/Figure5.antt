@@ -9,7 +9,7 @@ use Rattle.spec.specs.Reading.{on}
 use Rattle.spec.specs.Words.{role, binding, preOfPart, preOfSecond}
 use Rattle.spec.specs.Expression.{Position, Expr, leaf, unary, binary}
 use Rattle.spec.specs.Split.{Map, Split}
-use Rattle.spec.specs.Conditions.{Env, type, post, start, K, inMap, outMap, readMap, writeMap, own}
+use Rattle.spec.specs.Conditions.{Env, type, post, bodyStart, K, inMap, outMap, readMap, writeMap, conditionsOf}
 use Rattle.spec.specs.Sites.{Site, sites, numbered, claimsAt, claims, firstFalse}
 use Rattle.spec.specs.FirstFalse.{Holds, AllHold}
 use Rattle.spec.specs.Figure5.{Derives, VAR, INT, LET, IF, WHILE, NEWT, SPAWN, JOIN, REF, WRITE, READ, NEWL, LCK, ULCK, NEWSEM, POST, WAIT, NEWRWLOCK, RDLOCK, RDUNLOCK, WRLOCK, WRUNLOCK}
@@ -59,7 +59,7 @@ module _ (S : Split) where
 
   binary-own : (Γ : Env) (pre : Map) (w : BinaryWord) (k : Position) (v : ℕ) (e₁ e₂ : Expr) → AllAt (sites S Γ pre (binary w k v e₁ e₂))
       → OwnAt Γ pre (binary w k v e₁ e₂) × AllAt (sites S Γ pre e₁)
-      × AllAt (sites S (binding (role (Binary w)) (v, type S e₁) Γ) (preOfSecond w pre (post S e₁) (start S (binary w k v e₁ e₂))) e₂)
+      × AllAt (sites S (binding (role (Binary w)) (v, type S e₁) Γ) (preOfSecond w pre (post S e₁) (bodyStart S (binary w k v e₁ e₂))) e₂)
   unfolding sites
   binary-own Γ pre w k v e₁ e₂ h =
       let s = step-parts _ _ h in
@@ -69,7 +69,7 @@ module _ (S : Split) where
   -- ------------------------------------------------------------------ from conditions to a derivation
 
   holding-derives : (Γ : Env) (pre : Map) (e : Expr) → AllAt (sites S Γ pre e) → Derives S Γ pre e
-  unfolding AllHold Holds claimsAt numbered own preOfPart preOfSecond role binding post start K inMap outMap readMap writeMap
+  unfolding AllHold Holds claimsAt numbered conditionsOf preOfPart preOfSecond role binding post bodyStart K inMap outMap readMap writeMap
   holding-derives Γ pre (leaf Var k v) h =
       let c = leaf-own Γ pre Var k v h in
       VAR (c .0) (none-equal (c .1 .0))
@@ -156,13 +156,13 @@ module _ (S : Split) where
 
   binary-all : (Γ : Env) (pre : Map) (w : BinaryWord) (k : Position) (v : ℕ) (e₁ e₂ : Expr) → OwnAt Γ pre (binary w k v e₁ e₂)
       → AllAt (sites S Γ pre e₁)
-      → AllAt (sites S (binding (role (Binary w)) (v, type S e₁) Γ) (preOfSecond w pre (post S e₁) (start S (binary w k v e₁ e₂))) e₂)
+      → AllAt (sites S (binding (role (Binary w)) (v, type S e₁) Γ) (preOfSecond w pre (post S e₁) (bodyStart S (binary w k v e₁ e₂))) e₂)
       → AllAt (sites S Γ pre (binary w k v e₁ e₂))
   unfolding sites
   binary-all Γ pre w k v e₁ e₂ c h₁ h₂ = parts-step _ _ c (parts-both (sites S Γ pre e₁) _ h₁ h₂)
 
   derived-holds : {Γ : Env} {Ψ : Map} {e : Expr} → Derives S Γ Ψ e → AllAt (sites S Γ Ψ e)
-  unfolding AllHold Holds claimsAt numbered own preOfPart preOfSecond role binding post start K inMap outMap readMap writeMap
+  unfolding AllHold Holds claimsAt numbered conditionsOf preOfPart preOfSecond role binding post bodyStart K inMap outMap readMap writeMap
   derived-holds {Γ} {Ψ} (VAR {k = k} {v = v} t p) =
       leaf-all Γ Ψ Var k v (t, (equal-none p, tt))
   derived-holds {Γ} {Ψ} (INT {k = k} {v = v} t p) =

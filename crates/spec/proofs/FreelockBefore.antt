@@ -11,7 +11,7 @@ use lib.ListN.{length, drop, length-append, length-drop}
 use borrow.Author.Tests.{leb-true, le-leb}
 use Rattle.spec.specs.Choice.{if_then_else_}
 use Rattle.spec.specs.Text.{bytes, same, Line, closed, unclosed, lines, Field, fields, lookUp}
-use Rattle.spec.specs.Reading.{Out, stop, on, _>>=_, demand, Seen, right, wrong, badForm, programSheet, Place, passed, nextLine, next, nextAll, begin, noneLeft, end}
+use Rattle.spec.specs.Reading.{Out, stop, on, _>>=_, demand, Seen, right, wrong, badForm, programSheet, Place, passed, nextLine, readLine, readLines, begin, noneLeft, end}
 use Rattle.spec.specs.Words.{leafWords, cellWords, lockWords, unaryWords, words}
 use Rattle.spec.specs.Expression.{Step, listed, single, scope}
 use Rattle.spec.specs.Program.{programLimit, countLine, wordLine, stepLine, stepLines, Program, program}
@@ -43,8 +43,8 @@ stepLinesFormerly k (suc n) = stepLineFormerly k ∷ stepLinesFormerly (k + 1) n
 unfoldable pub programFormerly : List ℕ → Out Program
 programFormerly text = do
   top ← begin programSheet (lines text)
-  (n, first) ← next programSheet countLine top
-  (steps, last) ← nextAll programSheet (stepLinesFormerly (first .last + 1) n) first
+  (n, first) ← readLine programSheet countLine top
+  (steps, last) ← readLines programSheet (stepLinesFormerly (first .last + 1) n) first
   done ← end programSheet last
   e ← single (last .last) steps (listed 0 steps)
   bound ← scope e [] []
@@ -147,8 +147,8 @@ module _ {A : Type 0} where
     line-moved k (closed l ∷ ls) =
         ap (passed programSheet (k + 1) (map (onClosed lockInstead) ls)) (sym (alike l)) ∙ passed-moved (k + 1) ls (read (fields l))
 
-    next-moved : (p : Place) → next programSheet read′ (changedPlace p) ≡ (next programSheet read p >>= moved)
-    unfolding next changedPlace
+    next-moved : (p : Place) → readLine programSheet read′ (changedPlace p) ≡ (readLine programSheet read p >>= moved)
+    unfolding readLine changedPlace
     next-moved p = line-moved (p .last) (p .rest)
 
     then-moved : (o : Out (A × Place)) (more more′ : Place → Out (List A × Place))
@@ -164,13 +164,13 @@ module _ {A : Type 0} where
         behind (stop r) = refl
         behind (on (as′, q)) = refl
 
-steps-moved : (k n : ℕ) (p : Place) → nextAll programSheet (stepLines k n) (changedPlace p) ≡ (nextAll programSheet (stepLinesFormerly k n) p >>= moved)
-unfolding nextAll stepLines stepLinesFormerly
+steps-moved : (k n : ℕ) (p : Place) → readLines programSheet (stepLines k n) (changedPlace p) ≡ (readLines programSheet (stepLinesFormerly k n) p >>= moved)
+unfolding readLines stepLines stepLinesFormerly
 steps-moved k zero p = unfold _>>=_ moved in refl
 steps-moved k (suc n) p =
     rw (next-moved (stepLineFormerly k) (stepLine k) (step-alike k) p)
-    (then-moved (stepLineFormerly k) (stepLine k) (step-alike k) (next programSheet (stepLineFormerly k) p)
-    (nextAll programSheet (stepLinesFormerly (k + 1) n)) (nextAll programSheet (stepLines (k + 1) n)) (steps-moved (k + 1) n))
+    (then-moved (stepLineFormerly k) (stepLine k) (step-alike k) (readLine programSheet (stepLineFormerly k) p)
+    (readLines programSheet (stepLinesFormerly (k + 1) n)) (readLines programSheet (stepLines (k + 1) n)) (steps-moved (k + 1) n))
 
 end-moved : (p : Place) → end programSheet (changedPlace p) ≡ end programSheet p
 unfolding end changedPlace
@@ -191,7 +191,7 @@ afterSteps (steps, last) = do
   on (record { steps = steps; root = e })
 
 unfoldable afterCount : ((line n : ℕ) → List (List Field → Seen Step)) → ℕ × Place → Out Program
-afterCount reads (n, first) = nextAll programSheet (reads (first .last + 1) n) first >>= afterSteps
+afterCount reads (n, first) = readLines programSheet (reads (first .last + 1) n) first >>= afterSteps
 
 tree-moved : (o : Out (List Step × Place)) → (o >>= moved >>= afterSteps) ≡ (o >>= afterSteps)
 unfolding _>>=_ moved afterSteps
@@ -202,7 +202,7 @@ count-moved : (o : Out (ℕ × Place)) → (o >>= moved >>= afterCount stepLines
 unfolding _>>=_ moved afterCount
 count-moved (stop r) = refl
 count-moved (on (n, p)) = unfold changedPlace in
-    ap (_>>= afterSteps) (steps-moved (p .last + 1) n p) ∙ tree-moved (nextAll programSheet (stepLinesFormerly (p .last + 1) n) p)
+    ap (_>>= afterSteps) (steps-moved (p .last + 1) n p) ∙ tree-moved (readLines programSheet (stepLinesFormerly (p .last + 1) n) p)
 
 program-alike : (p p′ : List ℕ) → lines p′ ≡ map (onClosed lockInstead) (lines p) → program p′ ≡ programFormerly p
 unfolding program programFormerly afterCount afterSteps
@@ -213,11 +213,11 @@ program-alike p p′ e = by-lines (lines p) refl
     by-lines (l ∷ ls) h = rw (e, h) (begun l ls)
       where
         begun : (l : Line) (ls : List Line)
-            → (begin programSheet (map (onClosed lockInstead) (l ∷ ls)) >>= λ top. next programSheet countLine top >>= afterCount stepLines)
-            ≡ (begin programSheet (l ∷ ls) >>= λ top. next programSheet countLine top >>= afterCount stepLinesFormerly)
+            → (begin programSheet (map (onClosed lockInstead) (l ∷ ls)) >>= λ top. readLine programSheet countLine top >>= afterCount stepLines)
+            ≡ (begin programSheet (l ∷ ls) >>= λ top. readLine programSheet countLine top >>= afterCount stepLinesFormerly)
         begun l ls = unfold begin _>>=_ changedPlace in
             ap (_>>= afterCount stepLines) (next-moved countLine countLine count-alike (record { last = 0; rest = l ∷ ls }))
-            ∙ count-moved (next programSheet countLine (record { last = 0; rest = l ∷ ls }))
+            ∙ count-moved (readLine programSheet countLine (record { last = 0; rest = l ∷ ls }))
 
 -- ------------------------------------------------------------------ the text
 

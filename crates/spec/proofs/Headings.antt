@@ -12,7 +12,7 @@ use lib.ListN.{length, replicate, length-append}
 use borrow.Author.Tests.{lt-ltb, le-leb, ne-eqb}
 use Rattle.spec.specs.Choice.{if_then_else_}
 use Rattle.spec.specs.Text.{bytes, same, Line, closed, unclosed, lines, Field, onField, fields, lookUp, digitLimit, digits, leadingZero, value, numeral}
-use Rattle.spec.specs.Reading.{splitSheet, Out, stop, on, _>>=_, demand, noStart, Seen, right, wrong, badRange, seen, insist, inRange, allInRange, withNumeral, numerals, ranged, numbers, faulty, passed, nextLine, next, nextAll, begin, end, Place}
+use Rattle.spec.specs.Reading.{splitSheet, Out, stop, on, _>>=_, demand, noStart, Seen, right, wrong, badRange, seen, insist, inRange, allInRange, withNumeral, numerals, ranged, numbers, faulty, passed, nextLine, readLine, readLines, begin, end, Place}
 use Rattle.spec.specs.Expression.{Step}
 use Rattle.spec.specs.Program.{Program, programLimit, program}
 use Rattle.spec.specs.Split.{Map, Header, headings, headerRanges, mapsOf, mapsIn, startOf, headerOf, headed, headerLine, lockOf, outRange, typeLine, typeLines, mapLine, Row, startRange, mayBeEmpty, postRange, rowLine, Split, splitLimit, split}
@@ -182,9 +182,9 @@ module _ (H : Header) where
       by-cases (same-row e) = ap (passed splitSheet (k + 1) ls) e
       by-cases (turned-away e) = absurd (started (k + 1) (away (k + 1) ls e))
 
-  rows-alike : (steps : List Step) (p : Place) → Started (nextAll splitSheet (map (rowLine Check H) steps) p)
-      → nextAll splitSheet (map (rowLine Check (headedAs C2 H)) steps) p ≡ nextAll splitSheet (map (rowLine Check H) steps) p
-  unfolding nextAll next
+  rows-alike : (steps : List Step) (p : Place) → Started (readLines splitSheet (map (rowLine Check H) steps) p)
+      → readLines splitSheet (map (rowLine Check (headedAs C2 H)) steps) p ≡ readLines splitSheet (map (rowLine Check H) steps) p
+  unfolding readLines readLine
   rows-alike [] p started = refl
   rows-alike (s ∷ steps) p started =
       rw (line-alike s (p .last) (p .rest) (first-started _ _ started))
@@ -201,13 +201,13 @@ module _ (H : Header) (steps : List Step) where
     on (record { header = H; types = types; maps = maps; rows = rows })
 
   unfoldable afterMaps : List TypeLine → List Map × Place → Out Split
-  afterMaps types (maps, p) = nextAll splitSheet (map (rowLine Check H) steps) p >>= afterRows types maps
+  afterMaps types (maps, p) = readLines splitSheet (map (rowLine Check H) steps) p >>= afterRows types maps
 
   unfoldable afterTypes : List TypeLine × Place → Out Split
-  afterTypes (types, p) = nextAll splitSheet (replicate (H .maps) (mapLine H)) p >>= afterMaps types
+  afterTypes (types, p) = readLines splitSheet (replicate (H .maps) (mapLine H)) p >>= afterMaps types
 
   unfoldable afterHeader : Place → Out Split
-  afterHeader p = nextAll splitSheet (typeLines H 0 (H .types)) p >>= afterTypes
+  afterHeader p = readLines splitSheet (typeLines H 0 (H .types)) p >>= afterTypes
 
 module _ (P : Program) (H : Header) (plain : H .heading ≡ C) (steps : List Step) where
   rows-same : (types : List TypeLine) (maps : List Map) (x : List Row × Place)
@@ -224,20 +224,20 @@ module _ (P : Program) (H : Header) (plain : H .heading ≡ C) (steps : List Ste
   maps-same types (maps, p) started =
       ap (λ (o : Out (List Row × Place)). o >>= afterRows (headedAs C2 H) steps types maps >>= ruling P)
       (rows-alike H steps p (first-started _ _ (first-started _ (ruling P) started)))
-      ∙ same-on (nextAll splitSheet (map (rowLine Check H) steps) p) _ _ (ruling P) (ruling P) (rows-same types maps) started
+      ∙ same-on (readLines splitSheet (map (rowLine Check H) steps) p) _ _ (ruling P) (ruling P) (rows-same types maps) started
 
   types-same : (x : List TypeLine × Place) → Started (afterTypes H steps x >>= ruling P)
       → (afterTypes (headedAs C2 H) steps x >>= ruling P) ≡ (afterTypes H steps x >>= ruling P)
   unfolding afterTypes mapLine headedAs
   types-same (types, p) =
-      same-on (nextAll splitSheet (replicate (H .maps) (mapLine H)) p) _ _ (ruling P) (ruling P) (maps-same types)
+      same-on (readLines splitSheet (replicate (H .maps) (mapLine H)) p) _ _ (ruling P) (ruling P) (maps-same types)
 
   header-same : (p : Place) → Started (afterHeader H steps p >>= ruling P)
       → (afterHeader (headedAs C2 H) steps p >>= ruling P) ≡ (afterHeader H steps p >>= ruling P)
   unfolding afterHeader headedAs
   header-same p started =
-      ap (λ (rs : List (List Field → Seen TypeLine)). nextAll splitSheet rs p >>= afterTypes (headedAs C2 H) steps >>= ruling P) (same-types H plain 0 (H .types))
-      ∙ same-on (nextAll splitSheet (typeLines H 0 (H .types)) p) _ _ (ruling P) (ruling P) types-same started
+      ap (λ (rs : List (List Field → Seen TypeLine)). readLines splitSheet rs p >>= afterTypes (headedAs C2 H) steps >>= ruling P) (same-types H plain 0 (H .types))
+      ∙ same-on (readLines splitSheet (typeLines H 0 (H .types)) p) _ _ (ruling P) (ruling P) types-same started
 
 -- ------------------------------------------------------------------ the sheet
 
@@ -246,7 +246,7 @@ behind steps (H, p) = afterHeader H steps p
 
 by-lines : (steps : List Step) (l t : List ℕ) → OneLine l
     → split Check steps (l above t) ≡ (passed splitSheet 1 (lines t) (headerLine Check (fields l)) >>= behind steps)
-unfolding split begin next nextLine _>>=_ behind afterHeader afterTypes afterMaps afterRows
+unfolding split begin readLine nextLine _>>=_ behind afterHeader afterTypes afterMaps afterRows
 by-lines steps l t one = rw (above-lines l t one)
 
 module _ (P : Program) (steps : List Step) (r : List Line) where

@@ -12,7 +12,7 @@ use Rattle.spec.specs.Expression.{Expr, leaf, unary, binary}
 use Rattle.spec.specs.Program.{Program}
 use Rattle.spec.specs.Split.{Map, Header, Split}
 use Rattle.spec.specs.Agreement.{Tree, plain, int, sameTree, treeOf, trees, tree, agree}
-use Rattle.spec.specs.Conditions.{Condition, T, Env, typeAt, mapAt, startMap, isLock, contains, looserLock, mayShow, row, type, kind, post, startIn, start, K, inMap, outMap, readMap, writeMap, own}
+use Rattle.spec.specs.Conditions.{Condition, T, Env, typeAt, mapAt, startMap, isLock, contains, looserLock, mayShow, row, type, kind, post, startIn, bodyStart, K, inMap, outMap, readMap, writeMap, conditionsOf}
 use Rattle.spec.specs.Sites.{Site, sites, claimsAt, claims, firstFalse}
 use Rattle.spec.specs.Verdict.{takesEnough, allTakeEnough, locksTakeEnough, startAtMostOne, ruled}
 use Rattle.spec.specs.declared.Heading.{Heading}
@@ -34,7 +34,7 @@ headedAs h H = record {
   locations = H .locations;
   types = H .types;
   maps = H .maps;
-  start = H .start;
+  rootStart = H .rootStart;
 }
 
 unfoldable pub under : Heading → Split → Split
@@ -116,8 +116,8 @@ module _ (h : Heading) (S : Split) where
   same-start-in none = refl
   same-start-in (some m) = refl
 
-  same-own : (Γ : Env) (pre : Map) (e : Expr) → own (under h S) Γ pre e ≡ own S Γ pre e
-  unfolding own row type kind post start startIn K inMap outMap readMap writeMap typeAt mapAt under headedAs
+  same-own : (Γ : Env) (pre : Map) (e : Expr) → conditionsOf (under h S) Γ pre e ≡ conditionsOf S Γ pre e
+  unfolding conditionsOf row type kind post bodyStart startIn K inMap outMap readMap writeMap typeAt mapAt under headedAs
   same-own Γ pre (leaf Var k v) = at-first _ (same-may-show _ _)
   same-own Γ pre (leaf Int k v) = refl
   same-own Γ pre (leaf Newtid k v) = refl
@@ -144,14 +144,14 @@ module _ (h : Heading) (S : Split) where
   -- ---------------------------------------------------------------- all of them
 
   same-sites : (Γ : Env) (pre : Map) (e : Expr) → sites (under h S) Γ pre e ≡ sites S Γ pre e
-  unfolding sites row type post start mapAt under
+  unfolding sites row type post bodyStart mapAt under
   same-sites Γ pre (leaf w k v) = refl
   same-sites Γ pre (unary w k v e₁) = rw (same-sites Γ (preOfPart w pre (post S (unary w k v e₁))) e₁)
   same-sites Γ pre (binary w k v e₁ e₂) =
       rw (
         same-start-in (row S (binary w k v e₁ e₂) .start),
         same-sites Γ pre e₁,
-        same-sites (binding (role (Binary w)) (v, type S e₁) Γ) (preOfSecond w pre (post S e₁) (start S (binary w k v e₁ e₂))) e₂,
+        same-sites (binding (role (Binary w)) (v, type S e₁) Γ) (preOfSecond w pre (post S e₁) (bodyStart S (binary w k v e₁ e₂))) e₂,
       )
 
   same-claims : (ss : List Site) → claims (under h S) ss ≡ claims S ss

@@ -5,7 +5,7 @@ use Prim.Native.Nat.{ℕ, _+_, _≤_, _<_}
 use native.Mathlib.Omega.{arith}
 use Rattle.spec.specs.Expression.{Expr, leaf, unary, binary, lineOf}
 use Rattle.spec.specs.Split.{Map, Split}
-use Rattle.spec.specs.Conditions.{Condition, Env, own}
+use Rattle.spec.specs.Conditions.{Condition, Env, conditionsOf}
 use Rattle.spec.specs.Sites.{Site, sites, Claim, numbered, claimsAt, claims}
 use Rattle.spec.specs.WellFormed.{prefix}
 use Rattle.spec.specs.FirstFalse.{byLine, byNumber, EarlierThanAll, InOrder}
@@ -55,7 +55,7 @@ unfolding Rising claims claimsAt InOrder From
 rising-in-order S lo [] h = (tt, tt)
 rising-in-order S lo (s ∷ ss) h =
     let k = lineOf (s .step) in
-    let cs = own S (s .Γ) (s .pre) (s .step) in
+    let cs = conditionsOf S (s .Γ) (s .pre) (s .step) in
     let (order, from) = rising-in-order S (k + 1) ss (h .1) in
     (numbered-in-order k (claims S ss) from 1 cs order, from-lower lo k (numbered k 1 cs ++ claims S ss) (h .0) (numbered-from k (claims S ss) from 1 cs))
 

@@ -138,7 +138,7 @@ record HeaderFits (H : Header) : Type 0 where
   locations : (1 ≤ H .locations) × (H .locations ≤ 16)
   types : (1 ≤ H .types) × (H .types ≤ 64)
   maps : (1 ≤ H .maps) × (H .maps ≤ 512)
-  start : H .start .0 < H .maps
+  rootStart : H .rootStart .0 < H .maps
 
 -- the numbers of a header that names its start
 named-fits : (h : Heading) (fs : List Field) (ns : List ℕ) → numbers (headerRanges C2 (mapsIn (numerals fs))) fs ≡ right ns
@@ -148,7 +148,7 @@ named-fits : (h : Heading) (fs : List Field) (ns : List ℕ) → numbers (header
       locations = getD ns 1 0;
       types = getD ns 2 0;
       maps = mapsOf ns;
-      start = record { 0 = getD ns 4 0 };
+      rootStart = record { 0 = getD ns 4 0 };
     })
 unfolding headerRanges mapsIn mapsOf
 named-fits h fs ns n =
@@ -159,7 +159,7 @@ named-fits h fs ns n =
       locations = in-to _ _ _ (at 1 (omega arith));
       types = in-to _ _ _ (at 2 (omega arith));
       maps = in-to _ _ _ (at 3 (omega arith));
-      start = omega (arith, in-below _ _ (at 4 (omega arith)), named);
+      rootStart = omega (arith, in-below _ _ (at 4 (omega arith)), named);
     }
 
 -- the ranges of a `C` header, and of the same numbers of the others
@@ -175,7 +175,7 @@ headed-fits (some C) fs H h =
       locations = in-to _ _ _ (at 1 (omega arith));
       types = in-to _ _ _ (at 2 (omega arith));
       maps = maps;
-      start = maps .0;
+      rootStart = maps .0;
     })
 headed-fits (some C2) fs H h = let (ns, n, e) = seen-right _ h in along HeaderFits e (named-fits C2 fs ns n)
 headed-fits (some C3) fs H h = let (ns, n, e) = seen-right _ h in along HeaderFits e (named-fits C3 fs ns n)
@@ -362,7 +362,7 @@ well-formed-in-range {purpose} {steps} {text} {S} F =
       typesFew = head .types;
       mapsCounted = mapsCounted;
       mapsFew = head .maps;
-      start = omega (arith, mapsCounted, head .start);
+      start = omega (arith, mapsCounted, head .rootStart);
       rowsCounted = rowsCounted;
       mapWide = wide;
       refPlace = λ t p c h e. fits t (type-line.Ref p c) h e;

@@ -4,7 +4,7 @@ use mathlib.Core.List.{List, [], _∷_, _++_, append-assoc, append-nil}
 use Prim.Native.Nat.{ℕ, suc, _+_}
 use lib.ListN.{length}
 use Rattle.spec.specs.Text.{Line, closed, unclosed, Field, fields}
-use Rattle.spec.specs.Reading.{Out, stop, on, _>>=_, Seen, right, wrong, SheetName, Place, passed, nextLine, next, nextAll, begin, noneLeft, end}
+use Rattle.spec.specs.Reading.{Out, stop, on, _>>=_, Seen, right, wrong, SheetName, Place, passed, nextLine, readLine, readLines, begin, noneLeft, end}
 use Rattle.spec.specs.WellFormed.{Shows, nothing, line}
 use Rattle.spec.specs.declared.Refusal.{Refusal}
 use Rattle.spec.proofs.Outcomes.{stop-is-not-on, on-injective, bind-goes-on, goes-on-bind}
@@ -30,18 +30,18 @@ module _ {A : Type 0} where
 
   -- what is read is what was read before, then a line, then the rest
   module _ (sheet : SheetName) (read : List Field → Seen A) (reads : List (List Field → Seen A)) (place : Place) where
-    pub all-stop : (r : Refusal) → next sheet read place ≡ stop r → nextAll sheet (read ∷ reads) place ≡ stop r
-    unfolding nextAll _>>=_
+    pub all-stop : (r : Refusal) → readLine sheet read place ≡ stop r → readLines sheet (read ∷ reads) place ≡ stop r
+    unfolding readLines _>>=_
     all-stop r e = rw e
 
-    pub all-on : (done : List A) (a : A) (after : Place) → next sheet read place ≡ on (a, after)
-        → front done (nextAll sheet (read ∷ reads) place) ≡ front (done ++ (a ∷ [])) (nextAll sheet reads after)
-    unfolding nextAll _>>=_
-    all-on done a after e = rw e (front-one done a (nextAll sheet reads after))
+    pub all-on : (done : List A) (a : A) (after : Place) → readLine sheet read place ≡ on (a, after)
+        → front done (readLines sheet (read ∷ reads) place) ≡ front (done ++ (a ∷ [])) (readLines sheet reads after)
+    unfolding readLines _>>=_
+    all-on done a after e = rw e (front-one done a (readLines sheet reads after))
 
   -- no line is left
-  pub all-done : (sheet : SheetName) (done : List A) (place : Place) → front done (nextAll sheet [] place) ≡ on (done, place)
-  unfolding nextAll front
+  pub all-done : (sheet : SheetName) (done : List A) (place : Place) → front done (readLines sheet [] place) ≡ on (done, place)
+  unfolding readLines front
   all-done sheet done place = ap (λ (l : List A). on (l, place)) (append-nil done)
 
 -- ------------------------------------------------------------------ from reading to lines
@@ -69,13 +69,13 @@ line-begins sheet read k (closed l ∷ rest) h =
     record { first = l; lined = ap (λ (q : Place). closed l ∷ q .rest) behind; shown = shown; counted = sym (ap (λ (q : Place). q .last) behind) }
 
 pub next-begins : {A : Type 0} {a : A} {p : Place} (sheet : SheetName) (read : List Field → Seen A) (place : Place)
-    → next sheet read place ≡ on (a, p) → Begins read (place .last) (place .rest) a p
-unfolding next
+    → readLine sheet read place ≡ on (a, p) → Begins read (place .last) (place .rest) a p
+unfolding readLine
 next-begins sheet read place h = line-begins sheet read (place .last) (place .rest) h
 
 pub all-shown : {A : Type 0} {as′ : List A} {p : Place} (sheet : SheetName) (reads : List (List Field → Seen A)) (place : Place)
-    → nextAll sheet reads place ≡ on (as′, p) → Shows reads (place .rest) as′ (p .rest)
-unfolding nextAll
+    → readLines sheet reads place ≡ on (as′, p) → Shows reads (place .rest) as′ (p .rest)
+unfolding readLines
 all-shown sheet [] place h = subst (λ r. Shows [] (place .rest) (r .0) (r .1 .rest)) (on-injective h) nothing
 all-shown sheet (read ∷ reads) place h =
     let (r₁, h₁, h₂) = bind-goes-on _ _ h in
@@ -107,14 +107,14 @@ shown-length (line h s) = ap suc (shown-length s)
 -- ------------------------------------------------------------------ from lines to reading
 
 pub read-next : {A : Type 0} {a : A} (sheet : SheetName) (read : List Field → Seen A) (k : ℕ) (l : List ℕ) (rest : List Line)
-    → read (fields l) ≡ right a → next sheet read (record { last = k; rest = closed l ∷ rest }) ≡ on (a, record { last = k + 1; rest = rest })
-unfolding next nextLine passed
+    → read (fields l) ≡ right a → readLine sheet read (record { last = k; rest = closed l ∷ rest }) ≡ on (a, record { last = k + 1; rest = rest })
+unfolding readLine nextLine passed
 read-next sheet read k l rest h = rw h
 
 pub read-all : {A : Type 0} {reads : List (List Field → Seen A)} {ls rest : List Line} {as′ : List A} (sheet : SheetName)
     → Shows reads ls as′ rest → (k : ℕ)
-    → (last : ℕ) × (nextAll sheet reads (record { last = k; rest = ls }) ≡ on (as′, record { last = last; rest = rest }))
-unfolding nextAll
+    → (last : ℕ) × (readLines sheet reads (record { last = k; rest = ls }) ≡ on (as′, record { last = last; rest = rest }))
+unfolding readLines
 read-all sheet nothing k = (k, refl)
 read-all sheet (line {read} {reads} {l} {ls} h s) k =
     let (last, r) = read-all sheet s (k + 1) in

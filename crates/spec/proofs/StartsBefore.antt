@@ -11,7 +11,7 @@ use lib.ListN.{length, replicate, take}
 use borrow.Author.Tests.{ltb-true, lt-ltb, le-leb}
 use Rattle.spec.specs.Choice.{if_then_else_}
 use Rattle.spec.specs.Text.{bytes, Line, closed, unclosed, lines, Field, onField, fields, digitLimit, digits, leadingZero, value, numeral}
-use Rattle.spec.specs.Reading.{Out, stop, on, _>>=_, demand, Seen, right, wrong, badRange, seen, below, inRange, allInRange, withNumeral, numerals, ranged, numbers, splitSheet, Place, passed, nextLine, next, nextAll, begin, end}
+use Rattle.spec.specs.Reading.{Out, stop, on, _>>=_, demand, Seen, right, wrong, badRange, seen, below, inRange, allInRange, withNumeral, numerals, ranged, numbers, splitSheet, Place, passed, nextLine, readLine, readLines, begin, end}
 use Rattle.spec.specs.Words.{takesStart}
 use Rattle.spec.specs.Expression.{Step}
 use Rattle.spec.specs.Program.{Program, program, programLimit}
@@ -45,10 +45,10 @@ rowLineFormerly H s fs =
 unfoldable pub splitFormerly : List Step → List ℕ → Out Split
 splitFormerly steps text = do
   top ← begin splitSheet (lines text)
-  (H, p₁) ← next splitSheet (headerLine Check) top
-  (types, p₂) ← nextAll splitSheet (typeLines H 0 (H .types)) p₁
-  (maps, p₃) ← nextAll splitSheet (replicate (H .maps) (mapLine H)) p₂
-  (rows, p₄) ← nextAll splitSheet (map (rowLineFormerly H) steps) p₃
+  (H, p₁) ← readLine splitSheet (headerLine Check) top
+  (types, p₂) ← readLines splitSheet (typeLines H 0 (H .types)) p₁
+  (maps, p₃) ← readLines splitSheet (replicate (H .maps) (mapLine H)) p₂
+  (rows, p₄) ← readLines splitSheet (map (rowLineFormerly H) steps) p₃
   done ← end splitSheet p₄
   on (record { header = H; types = types; maps = maps; rows = rows })
 
@@ -201,14 +201,14 @@ module _ {A B : Type 0} where
   all-alike : {reads reads′ : List (List Field → Seen A)} {fs gs : List (List ℕ → List ℕ)} → Alike reads reads′ fs gs
       → (k : ℕ) (ls : List Line) (go go′ : List A × Place → Out B)
       → ((as′ : List A) (k : ℕ) (rest : List Line) → go (as′, record { last = k; rest = rest }) ≡ go′ (as′, record { last = k; rest = along gs rest }))
-      → (nextAll splitSheet reads (record { last = k; rest = ls }) >>= go)
-      ≡ (nextAll splitSheet reads′ (record { last = k; rest = along fs ls }) >>= go′)
-  unfolding nextAll next nextLine passed _>>=_ along onClosed
+      → (readLines splitSheet reads (record { last = k; rest = ls }) >>= go)
+      ≡ (readLines splitSheet reads′ (record { last = k; rest = along fs ls }) >>= go′)
+  unfolding readLines readLine nextLine passed _>>=_ along onClosed
   all-alike nothing k ls go go′ h = h [] k ls
   all-alike (line e more) k [] go go′ h = refl
   all-alike (line e more) k (unclosed l ∷ ls) go go′ h = refl
   all-alike (line {read′ = read′} {f} {reads} {reads′} {fs} e more) k (closed l ∷ ls) go go′ h =
-      rw (e l) (one-alike (read′ (fields (f l))) (k + 1) ls (along fs ls) (nextAll splitSheet reads) (nextAll splitSheet reads′) go go′
+      rw (e l) (one-alike (read′ (fields (f l))) (k + 1) ls (along fs ls) (readLines splitSheet reads) (readLines splitSheet reads′) go go′
       (λ a. all-alike more (k + 1) ls (λ (as′, end). go (a ∷ as′, end)) (λ (as′, end). go′ (a ∷ as′, end)) (λ as′. h (a ∷ as′))))
 
 -- ------------------------------------------------------------------ the sheet
@@ -231,7 +231,7 @@ rows-alike H (s ∷ steps) = line (row-alike H s) (rows-alike H steps)
 module _ (steps : List Step) (t t′ : List ℕ) where
   header-alike : (l : List ℕ) (ls : List Line) (x : Seen Header) → headerLine Check (fields l) ≡ x
       → lines t ≡ closed l ∷ ls → lines t′ ≡ closed l ∷ zerosBehind x steps ls → splitFormerly steps t ≡ split Check steps t′
-  unfolding splitFormerly split begin next nextLine passed _>>=_ zerosBehind along
+  unfolding splitFormerly split begin readLine nextLine passed _>>=_ zerosBehind along
   header-alike l ls (wrong w) h e e′ = rw (e, e′, h)
   header-alike l ls (right H) h e e′ = rw (e, e′, h) (
       all-alike (types-alike H 0 (H .types)) 1 ls _ _ λ types k₁ rest₁.
@@ -239,7 +239,7 @@ module _ (steps : List Step) (t t′ : List ℕ) where
       all-alike (rows-alike H steps) k₂ rest₂ _ _ λ rows k₃ rest₃. refl)
 
   sheet-alike : (ls : List Line) → lines t ≡ ls → lines t′ ≡ zerosWritten steps ls → splitFormerly steps t ≡ split Check steps t′
-  unfolding splitFormerly split begin next nextLine _>>=_ zerosWritten
+  unfolding splitFormerly split begin readLine nextLine _>>=_ zerosWritten
   sheet-alike [] e e′ = rw (e, e′)
   sheet-alike (unclosed l ∷ ls) e e′ = rw (e, e′)
   sheet-alike (closed l ∷ ls) e e′ = header-alike l ls _ refl e e′

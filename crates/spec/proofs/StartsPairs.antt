@@ -3,13 +3,13 @@ use mathlib.Core.Path.{_≡_, refl}
 use mathlib.Core.List.{List, [], _∷_, map}
 use Prim.Native.String.{String, _++_}
 use Rattle.spec.specs.Text.{bytes, same, Line, onLine, lines, onField, fields, lookUp, digitLimit, digits, leadingZero, value, numeral}
-use Rattle.spec.specs.Reading.{Out, on, _>>=_, demand, seen, insist, wrongAfter, inRange, allInRange, withNumeral, numerals, ranged, numbers, form, outside, miscounted, faulty, passed, nextLine, next, nextAll, begin, noneLeft, end}
+use Rattle.spec.specs.Reading.{Out, on, _>>=_, demand, seen, insist, wrongAfter, inRange, allInRange, withNumeral, numerals, ranged, numbers, form, outside, miscounted, faulty, passed, nextLine, readLine, readLines, begin, noneLeft, end}
 use Rattle.spec.specs.Words.{leafWords, cellWords, lockWords, holdWords, unaryWords, binaryWords, words, leastValue, largestValue, valueRange, role, binding, takesStart, preOfPart, preOfSecond}
 use Rattle.spec.specs.Expression.{size, withParts, listed, whole, single, among, scopeStep, scope, indexOf, lineOf}
 use Rattle.spec.specs.Program.{programLimit, firstNumber, countLine, stepOf, wordLine, stepLine, stepLines, program}
 use Rattle.spec.specs.Split.{splitLimit, headings, headerRanges, mapsOf, mapsIn, startOf, headerOf, headed, headerLine, refOf, lockOf, outRange, tidOf, semOf, rwlockOf, typeLine, typeLines, mapLine, rowOf, startGiven, startRange, mayBeEmpty, postRange, postField, rowLine, split}
 use Rattle.spec.specs.Maps.{lowest, atLeast, _=ᵐ_, _≥ᵐ_, nowhere, sameNumbers, _+ᵐ_, _×ᵐ_, share, overWhole}
-use Rattle.spec.specs.Conditions.{isInt, isRef, isLock, isTid, isSem, isRwlock, place, load, inLoad, outLoad, readLoad, writeLoad, typeIn, startMap, typeAt, mapAt, contains, looserLock, mayShow, row, type, kind, post, startIn, start, K, inMap, outMap, readMap, writeMap, own}
+use Rattle.spec.specs.Conditions.{isInt, isRef, isLock, isTid, isSem, isRwlock, refLocation, load, inLoad, outLoad, readLoad, writeLoad, typeIn, startMap, typeAt, mapAt, contains, looserLock, mayShow, row, type, kind, post, startIn, bodyStart, K, inMap, outMap, readMap, writeMap, conditionsOf}
 use Rattle.spec.specs.Agreement.{code, sameMaps, sameTree, treeOf, trees, tree, agree}
 use Rattle.spec.specs.Sites.{sites, numbered, claimsAt, claims, judge, firstFalse}
 use Rattle.spec.specs.Workspace.{workspaceSize}
@@ -44,5 +44,5 @@ pub record SpawnsAnswered : Type 0 where
   pub written : map linesWritten (spawns "") ≡ map (λ (r : Pair). on (lines (barred (r .split)))) (spawns "0")
 
 pub spawns-answered : SpawnsAnswered
-unfolding bytes same onLine lines onField fields digitLimit digits leadingZero value numeral _>>=_ demand seen insist wrongAfter inRange allInRange withNumeral numerals ranged numbers form outside miscounted faulty passed nextLine next nextAll begin noneLeft end size withParts listed whole single among scopeStep scope programLimit firstNumber countLine leafWords cellWords lockWords holdWords unaryWords binaryWords words lookUp leastValue largestValue valueRange stepOf wordLine stepLine stepLines program splitLimit headings headerRanges mapsOf mapsIn startOf headerOf headed headerLine refOf lockOf outRange tidOf semOf rwlockOf typeLine typeLines mapLine rowOf startGiven takesStart startRange mayBeEmpty postRange postField rowLine split startLeft rowLineFormerly splitFormerly lowest atLeast _=ᵐ_ _≥ᵐ_ nowhere sameNumbers _+ᵐ_ _×ᵐ_ share overWhole isInt isRef isLock isTid isSem isRwlock place load inLoad outLoad readLoad writeLoad typeIn indexOf lineOf startMap typeAt mapAt code sameMaps sameTree treeOf trees tree agree contains looserLock mayShow row type kind post startIn start K inMap outMap readMap writeMap own preOfPart preOfSecond role binding sites numbered claimsAt claims judge firstFalse workspaceSize takesEnough allTakeEnough locksTakeEnough refuseOver startAtMostOne ruled checked checkedFormerly answer verdict verdictFormerly four returned barred _with_is_ found Answered P S rows spawning naming spawns answeredFormerly writeZero kept onClosed along zerosBehind zerosWritten linesWritten
+unfolding bytes same onLine lines onField fields digitLimit digits leadingZero value numeral _>>=_ demand seen insist wrongAfter inRange allInRange withNumeral numerals ranged numbers form outside miscounted faulty passed nextLine readLine readLines begin noneLeft end size withParts listed whole single among scopeStep scope programLimit firstNumber countLine leafWords cellWords lockWords holdWords unaryWords binaryWords words lookUp leastValue largestValue valueRange stepOf wordLine stepLine stepLines program splitLimit headings headerRanges mapsOf mapsIn startOf headerOf headed headerLine refOf lockOf outRange tidOf semOf rwlockOf typeLine typeLines mapLine rowOf startGiven takesStart startRange mayBeEmpty postRange postField rowLine split startLeft rowLineFormerly splitFormerly lowest atLeast _=ᵐ_ _≥ᵐ_ nowhere sameNumbers _+ᵐ_ _×ᵐ_ share overWhole isInt isRef isLock isTid isSem isRwlock refLocation load inLoad outLoad readLoad writeLoad typeIn indexOf lineOf startMap typeAt mapAt code sameMaps sameTree treeOf trees tree agree contains looserLock mayShow row type kind post startIn bodyStart K inMap outMap readMap writeMap conditionsOf preOfPart preOfSecond role binding sites numbered claimsAt claims judge firstFalse workspaceSize takesEnough allTakeEnough locksTakeEnough refuseOver startAtMostOne ruled checked checkedFormerly answer verdict verdictFormerly four returned barred _with_is_ found Answered P S rows spawning naming spawns answeredFormerly writeZero kept onClosed along zerosBehind zerosWritten linesWritten
 spawns-answered = record { formerly = refl; now = refl; withZero = refl; written = refl }

@@ -7,7 +7,7 @@ use borrow.Author.Tests.{le-leb, lt-ltb}
 use Rattle.spec.specs.Split.{Map, Split}
 use Rattle.spec.specs.Maps.{share}
 use Rattle.spec.specs.Agreement.{agree}
-use Rattle.spec.specs.Conditions.{isInt, isRef, isLock, isTid, isSem, isRwlock, place, load, inLoad, outLoad, readLoad, writeLoad, contains, mapAt}
+use Rattle.spec.specs.Conditions.{isInt, isRef, isLock, isTid, isSem, isRwlock, refLocation, load, inLoad, outLoad, readLoad, writeLoad, contains, mapAt}
 use Rattle.spec.specs.declared.TypeNumber.{TypeNumber}
 use Rattle.spec.specs.declared.MapNumber.{MapNumber}
 use Rattle.spec.specs.declared.Location.{Location}
@@ -64,8 +64,8 @@ is-rwlock (Rwlock r w) h = refl
 
 -- a ref type, and its content agrees
 pub is-ref-of : (S : Split) (t : TypeLine) (u : TypeNumber) → contains S t u ≡ true
-    → (c : TypeNumber) × (t ≡ Ref (place t) c) × (agree S c u ≡ true)
-unfolding contains place
+    → (c : TypeNumber) × (t ≡ Ref (refLocation t) c) × (agree S c u ≡ true)
+unfolding contains refLocation
 is-ref-of S Int u h = true-is-not-false (sym h)
 is-ref-of S (Ref p c) u h = (c, refl, h)
 is-ref-of S (Lock i o) u h = true-is-not-false (sym h)
@@ -127,13 +127,13 @@ pub rwlock-write : (S : Split) {t : TypeLine} {r w : MapNumber} → t ≡ Rwlock
 unfolding writeLoad
 rwlock-write S e = rw e
 
-pub ref-place : {t : TypeLine} {p : Location} {c : TypeNumber} → t ≡ Ref p c → place t ≡ p
-unfolding place
+pub ref-place : {t : TypeLine} {p : Location} {c : TypeNumber} → t ≡ Ref p c → refLocation t ≡ p
+unfolding refLocation
 ref-place e = rw e
 
-pub readable : (m : Map) {t : TypeLine} {p : Location} {c : TypeNumber} → t ≡ Ref p c → 0 < share m p → ltb 0 (share m (place t)) ≡ true
+pub readable : (m : Map) {t : TypeLine} {p : Location} {c : TypeNumber} → t ≡ Ref p c → 0 < share m p → ltb 0 (share m (refLocation t)) ≡ true
 readable m e w = rw (ref-place e) (lt-ltb _ _ w)
 
 pub writable : (d : ℕ) (m : Map) {t : TypeLine} {p : Location} {c : TypeNumber} → t ≡ Ref p c → d ≤ share m p
-    → leb d (share m (place t)) ≡ true
+    → leb d (share m (refLocation t)) ≡ true
 writable d m e w = rw (ref-place e) (le-leb _ _ w)

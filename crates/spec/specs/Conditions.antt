@@ -71,13 +71,13 @@ isRwlock (type-line.Sem k) = false
 isRwlock (type-line.Rwlock r w) = true
 
 -- p of a ref type; it is asked for only where the type is a ref
-unfoldable pub place : TypeLine → Location
-place type-line.Int = record { 0 = 0 }
-place (type-line.Ref p c) = p
-place (type-line.Lock i o) = record { 0 = 0 }
-place (type-line.Tid k) = record { 0 = 0 }
-place (type-line.Sem k) = record { 0 = 0 }
-place (type-line.Rwlock r w) = record { 0 = 0 }
+unfoldable pub refLocation : TypeLine → Location
+refLocation type-line.Int = record { 0 = 0 }
+refLocation (type-line.Ref p c) = p
+refLocation (type-line.Lock i o) = record { 0 = 0 }
+refLocation (type-line.Tid k) = record { 0 = 0 }
+refLocation (type-line.Sem k) = record { 0 = 0 }
+refLocation (type-line.Rwlock r w) = record { 0 = 0 }
 
 -- K of a tid or sem type; it is asked for only where the type is one
 unfoldable pub load : TypeLine → MapNumber
@@ -142,7 +142,7 @@ typeIn (b ∷ Γ) v = if eqb (b .0) v then b .1 else typeIn Γ v
 module _ (S : Split) where
   -- the start, which a program's first step has for its pre
   unfoldable pub startMap : Map
-  startMap = mapAt S (S .header .start)
+  startMap = mapAt S (S .header .rootStart)
 
   -- a ref type whose c agrees with the type t
   unfoldable pub contains : TypeLine → TypeNumber → Bool
@@ -185,8 +185,8 @@ module _ (S : Split) where
   startIn none = replicate (S .header .locations) 0
   startIn (some m) = mapAt S m
 
-  unfoldable pub start : Expr → Map
-  start e = startIn (row e .start)
+  unfoldable pub bodyStart : Expr → Map
+  bodyStart e = startIn (row e .start)
 
   unfoldable pub K : Expr → Map
   K e = mapAt S (load (kind e))
@@ -204,49 +204,49 @@ module _ (S : Split) where
   writeMap e = mapAt S (writeLoad (kind e))
 
   -- the table, in the order of Figure 5: the conditions of a step, in order, with the types of the variables there and its pre
-  unfoldable pub own : Env → (pre : Map) → Expr → List Condition
-  own Γ pre (leaf Var k v) = let e = leaf Var k v in
+  unfoldable pub conditionsOf : Env → (pre : Map) → Expr → List Condition
+  conditionsOf Γ pre (leaf Var k v) = let e = leaf Var k v in
       T (mayShow (type e) (typeIn Γ v)) ∷ F (post e =ᵐ pre) ∷ []
-  own Γ pre (leaf Int k v) = let e = leaf Int k v in
+  conditionsOf Γ pre (leaf Int k v) = let e = leaf Int k v in
       T (isInt (kind e)) ∷ F (post e =ᵐ pre) ∷ []
-  own Γ pre (binary Let k v e₁ e₂) = let e = binary Let k v e₁ e₂ in
+  conditionsOf Γ pre (binary Let k v e₁ e₂) = let e = binary Let k v e₁ e₂ in
       T (agree S (type e) (type e₂)) ∷ F (post e =ᵐ post e₂) ∷ []
-  own Γ pre (binary If k v e₁ e₂) = let e = binary If k v e₁ e₂ in
+  conditionsOf Γ pre (binary If k v e₁ e₂) = let e = binary If k v e₁ e₂ in
       T (agree S (type e) (type e₁)) ∷ T (agree S (type e) (type e₂)) ∷ F (post e₁ ≥ᵐ post e) ∷ F (post e₂ ≥ᵐ post e) ∷ []
-  own Γ pre (unary While k v e₁) = let e = unary While k v e₁ in
+  conditionsOf Γ pre (unary While k v e₁) = let e = unary While k v e₁ in
       T (isInt (kind e)) ∷ F (pre ≥ᵐ post e) ∷ F (post e₁ ≥ᵐ post e) ∷ []
-  own Γ pre (leaf Newtid k v) = let e = leaf Newtid k v in
+  conditionsOf Γ pre (leaf Newtid k v) = let e = leaf Newtid k v in
       T (isTid (kind e)) ∷ F (post e =ᵐ pre) ∷ []
-  own Γ pre (binary Spawn k v e₁ e₂) = let e = binary Spawn k v e₁ e₂ in
-      T (isInt (kind e)) ∷ T (isTid (kind e₁)) ∷ F (post e₂ ≥ᵐ K e₁) ∷ F (post e +ᵐ start e =ᵐ post e₁) ∷ []
-  own Γ pre (unary Join k v e₁) = let e = unary Join k v e₁ in
+  conditionsOf Γ pre (binary Spawn k v e₁ e₂) = let e = binary Spawn k v e₁ e₂ in
+      T (isInt (kind e)) ∷ T (isTid (kind e₁)) ∷ F (post e₂ ≥ᵐ K e₁) ∷ F (post e +ᵐ bodyStart e =ᵐ post e₁) ∷ []
+  conditionsOf Γ pre (unary Join k v e₁) = let e = unary Join k v e₁ in
       T (isInt (kind e)) ∷ T (isTid (kind e₁)) ∷ F (post e =ᵐ post e₁ +ᵐ K e₁) ∷ []
-  own Γ pre (unary Ref k v e₁) = let e = unary Ref k v e₁ in
+  conditionsOf Γ pre (unary Ref k v e₁) = let e = unary Ref k v e₁ in
       T (contains (kind e) (type e₁)) ∷ F (post e =ᵐ post e₁) ∷ []
-  own Γ pre (binary Write k v e₁ e₂) = let e = binary Write k v e₁ e₂ in let p = place (kind e₁) in
+  conditionsOf Γ pre (binary Write k v e₁ e₂) = let e = binary Write k v e₁ e₂ in let p = refLocation (kind e₁) in
       T (isInt (kind e)) ∷ T (isRef (kind e₁)) ∷ T (contains (kind e₁) (type e₂)) ∷ F (post e =ᵐ post e₂)
       ∷ A (leb (S .header .denominator) (share (post e) p)) p ∷ []
-  own Γ pre (unary Read k v e₁) = let e = unary Read k v e₁ in let p = place (kind e₁) in
+  conditionsOf Γ pre (unary Read k v e₁) = let e = unary Read k v e₁ in let p = refLocation (kind e₁) in
       T (isRef (kind e₁)) ∷ T (contains (kind e₁) (type e)) ∷ F (post e =ᵐ post e₁) ∷ A (ltb 0 (share (post e) p)) p ∷ []
-  own Γ pre (leaf Newlock k v) = let e = leaf Newlock k v in
+  conditionsOf Γ pre (leaf Newlock k v) = let e = leaf Newlock k v in
       T (isLock (kind e)) ∷ F (post e +ᵐ outMap e =ᵐ pre) ∷ []
-  own Γ pre (unary Lock k v e₁) = let e = unary Lock k v e₁ in
+  conditionsOf Γ pre (unary Lock k v e₁) = let e = unary Lock k v e₁ in
       T (isInt (kind e)) ∷ T (isLock (kind e₁)) ∷ F (post e =ᵐ post e₁ +ᵐ inMap e₁) ∷ []
-  own Γ pre (unary Unlock k v e₁) = let e = unary Unlock k v e₁ in
+  conditionsOf Γ pre (unary Unlock k v e₁) = let e = unary Unlock k v e₁ in
       T (isInt (kind e)) ∷ T (isLock (kind e₁)) ∷ F (post e +ᵐ outMap e₁ =ᵐ post e₁) ∷ []
-  own Γ pre (leaf Newsem k v) = let e = leaf Newsem k v in
+  conditionsOf Γ pre (leaf Newsem k v) = let e = leaf Newsem k v in
       T (isSem (kind e)) ∷ F (post e =ᵐ pre) ∷ []
-  own Γ pre (unary Post k v e₁) = let e = unary Post k v e₁ in
+  conditionsOf Γ pre (unary Post k v e₁) = let e = unary Post k v e₁ in
       T (isInt (kind e)) ∷ T (isSem (kind e₁)) ∷ F (post e +ᵐ K e₁ =ᵐ post e₁) ∷ []
-  own Γ pre (unary Wait k v e₁) = let e = unary Wait k v e₁ in
+  conditionsOf Γ pre (unary Wait k v e₁) = let e = unary Wait k v e₁ in
       T (isInt (kind e)) ∷ T (isSem (kind e₁)) ∷ F (post e =ᵐ post e₁ +ᵐ K e₁) ∷ []
-  own Γ pre (leaf Newrwlock k v) = let e = leaf Newrwlock k v in
+  conditionsOf Γ pre (leaf Newrwlock k v) = let e = leaf Newrwlock k v in
       T (isRwlock (kind e)) ∷ F (writeMap e ≥ᵐ v ×ᵐ readMap e) ∷ F (post e +ᵐ writeMap e =ᵐ pre) ∷ []
-  own Γ pre (unary Rdlock k v e₁) = let e = unary Rdlock k v e₁ in
+  conditionsOf Γ pre (unary Rdlock k v e₁) = let e = unary Rdlock k v e₁ in
       T (isInt (kind e)) ∷ T (isRwlock (kind e₁)) ∷ F (post e =ᵐ post e₁ +ᵐ readMap e₁) ∷ []
-  own Γ pre (unary Rdunlock k v e₁) = let e = unary Rdunlock k v e₁ in
+  conditionsOf Γ pre (unary Rdunlock k v e₁) = let e = unary Rdunlock k v e₁ in
       T (isInt (kind e)) ∷ T (isRwlock (kind e₁)) ∷ F (post e +ᵐ readMap e₁ =ᵐ post e₁) ∷ []
-  own Γ pre (unary Wrlock k v e₁) = let e = unary Wrlock k v e₁ in
+  conditionsOf Γ pre (unary Wrlock k v e₁) = let e = unary Wrlock k v e₁ in
       T (isInt (kind e)) ∷ T (isRwlock (kind e₁)) ∷ F (post e =ᵐ post e₁ +ᵐ writeMap e₁) ∷ []
-  own Γ pre (unary Wrunlock k v e₁) = let e = unary Wrunlock k v e₁ in
+  conditionsOf Γ pre (unary Wrunlock k v e₁) = let e = unary Wrunlock k v e₁ in
       T (isInt (kind e)) ∷ T (isRwlock (kind e₁)) ∷ F (post e +ᵐ writeMap e₁ =ᵐ post e₁) ∷ []

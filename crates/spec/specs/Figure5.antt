@@ -9,7 +9,7 @@ use Rattle.spec.specs.Expression.{Position, Expr, leaf, unary, binary}
 use Rattle.spec.specs.Split.{Map, Split}
 use Rattle.spec.specs.Maps.{_+ᵐ_, _×ᵐ_, share}
 use Rattle.spec.specs.Agreement.{agree}
-use Rattle.spec.specs.Conditions.{Env, typeIn, mayShow, type, kind, post, start, mapAt}
+use Rattle.spec.specs.Conditions.{Env, typeIn, mayShow, type, kind, post, bodyStart, mapAt}
 use Rattle.spec.specs.declared.TypeNumber.{TypeNumber}
 use Rattle.spec.specs.declared.MapNumber.{MapNumber}
 use Rattle.spec.specs.declared.Location.{Location}
@@ -49,9 +49,9 @@ module _ (S : Split) where
         → kind S (leaf Newtid k v) ≡ type-line.Tid K → post S (leaf Newtid k v) ≡ Ψ
         → Derives Γ Ψ (leaf Newtid k v)
     SPAWN : {Γ : Env} {Ψ : Map} {k : Position} {v : ℕ} {K : MapNumber} {e₁ e₂ : Expr}
-        → Derives Γ Ψ e₁ → kind S e₁ ≡ type-line.Tid K → Derives Γ (start S (binary Spawn k v e₁ e₂)) e₂
+        → Derives Γ Ψ e₁ → kind S e₁ ≡ type-line.Tid K → Derives Γ (bodyStart S (binary Spawn k v e₁ e₂)) e₂
         → post S e₂ ⊒ mapAt S K → kind S (binary Spawn k v e₁ e₂) ≡ type-line.Int
-        → post S (binary Spawn k v e₁ e₂) +ᵐ start S (binary Spawn k v e₁ e₂) ≡ post S e₁
+        → post S (binary Spawn k v e₁ e₂) +ᵐ bodyStart S (binary Spawn k v e₁ e₂) ≡ post S e₁
         → Derives Γ Ψ (binary Spawn k v e₁ e₂)
     JOIN : {Γ : Env} {Ψ : Map} {k : Position} {v : ℕ} {K : MapNumber} {e₁ : Expr}
         → Derives Γ Ψ e₁ → kind S e₁ ≡ type-line.Tid K → kind S (unary Join k v e₁) ≡ type-line.Int

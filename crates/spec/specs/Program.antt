@@ -5,7 +5,7 @@ use Prim.Native.Nat.{ℕ, zero, suc, _+_}
 use lib.ListN.{getD}
 use Rattle.spec.specs.Choice.{if_then_else_}
 use Rattle.spec.specs.Text.{bytes, same, lines, Field, lookUp}
-use Rattle.spec.specs.Reading.{programSheet, Out, _>>=_, on, Seen, wrong, badForm, freelock, seen, wrongAfter, _to_, numbers, next, nextAll, begin, end}
+use Rattle.spec.specs.Reading.{programSheet, Out, _>>=_, on, Seen, wrong, badForm, freelock, seen, wrongAfter, _to_, numbers, readLine, readLines, begin, end}
 use Rattle.spec.specs.Words.{words, valueRange}
 use Rattle.spec.specs.Expression.{Step, Expr, listed, single, scope}
 use Rattle.spec.specs.declared.Word.{Word}
@@ -51,8 +51,8 @@ pub record Program : Type 0 where
 unfoldable pub program : List ℕ → Out Program
 program text = do
   top ← begin programSheet (lines text)
-  (n, first) ← next programSheet countLine top
-  (steps, last) ← nextAll programSheet (stepLines (first .last + 1) n) first
+  (n, first) ← readLine programSheet countLine top
+  (steps, last) ← readLines programSheet (stepLines (first .last + 1) n) first
   done ← end programSheet last
   e ← single (last .last) steps (listed 0 steps)
   bound ← scope e [] []

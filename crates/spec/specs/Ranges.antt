@@ -19,7 +19,7 @@ pub record InRange (steps : List Step) (S : Split) : Type 0 where
   pub typesFew : (1 ≤ S .header .types) × (S .header .types ≤ 64)
   pub mapsCounted : length (S .maps) ≡ S .header .maps
   pub mapsFew : (1 ≤ S .header .maps) × (S .header .maps ≤ 512)
-  pub start : S .header .start .0 < length (S .maps)
+  pub start : S .header .rootStart .0 < length (S .maps)
   pub rowsCounted : length (S .rows) ≡ length steps
   -- a map has a number for each location
   pub mapWide : (m : ℕ) → m < length (S .maps) → length (getD (S .maps) m []) ≡ S .header .locations

@@ -129,15 +129,15 @@ nextLine sheet read k [] = stop (miscounted sheet k)
 nextLine sheet read k (unclosed l ∷ rest) = stop (form sheet (k + 1))
 nextLine sheet read k (closed l ∷ rest) = passed sheet (k + 1) rest (read (fields l))
 
-unfoldable pub next : {A : Type 0} → SheetName → (List Field → Seen A) → Place → Out (A × Place)
-next sheet read place = nextLine sheet read (place .last) (place .rest)
+unfoldable pub readLine : {A : Type 0} → SheetName → (List Field → Seen A) → Place → Out (A × Place)
+readLine sheet read place = nextLine sheet read (place .last) (place .rest)
 
 -- counted lines in turn, each read in its own way
-unfoldable pub nextAll : {A : Type 0} → SheetName → List (List Field → Seen A) → Place → Out (List A × Place)
-nextAll sheet [] place = on ([], place)
-nextAll sheet (read ∷ reads) place = do
-  (a, after) ← next sheet read place
-  (as′, end) ← nextAll sheet reads after
+unfoldable pub readLines : {A : Type 0} → SheetName → List (List Field → Seen A) → Place → Out (List A × Place)
+readLines sheet [] place = on ([], place)
+readLines sheet (read ∷ reads) place = do
+  (a, after) ← readLine sheet read place
+  (as′, end) ← readLines sheet reads after
   on (a ∷ as′, end)
 
 -- an empty text is of the wrong form at line 1

@@ -8,7 +8,7 @@ use Rattle.spec.specs.Reading.{Out, stop, on, _>>=_}
 use Rattle.spec.specs.Words.{role, binding, preOfPart, preOfSecond}
 use Rattle.spec.specs.Expression.{Expr, leaf, unary, binary, lineOf}
 use Rattle.spec.specs.Split.{Map, Split}
-use Rattle.spec.specs.Conditions.{Condition, T, F, A, Env, type, post, start, own}
+use Rattle.spec.specs.Conditions.{Condition, T, F, A, Env, type, post, bodyStart, conditionsOf}
 use Rattle.spec.specs.declared.Word.the-variants.{Binary}
 use Rattle.spec.specs.declared.Refusal.the-variants.{TypeFalse, FlowFalse, AccessFalse}
 
@@ -28,7 +28,7 @@ module _ (S : Split) where
       record { Γ = Γ; pre = pre; step = e } ∷ sites Γ (preOfPart w pre (post S e)) e₁
   sites Γ pre (binary w k v e₁ e₂) = let e = binary w k v e₁ e₂ in
       record { Γ = Γ; pre = pre; step = e }
-      ∷ (sites Γ pre e₁ ++ sites (binding (role (Binary w)) (v, type S e₁) Γ) (preOfSecond w pre (post S e₁) (start S e)) e₂)
+      ∷ (sites Γ pre e₁ ++ sites (binding (role (Binary w)) (v, type S e₁) Γ) (preOfSecond w pre (post S e₁) (bodyStart S e)) e₂)
 
 -- ------------------------------------------------------------------ the first false condition
 
@@ -45,7 +45,7 @@ numbered k i (c ∷ cs) = record { line = k; number = i; condition = c } ∷ num
 -- "conditions by step line, then by number"
 module _ (S : Split) where
   unfoldable pub claimsAt : Site → List Claim
-  claimsAt s = numbered (lineOf (s .step)) 1 (own S (s .Γ) (s .pre) (s .step))
+  claimsAt s = numbered (lineOf (s .step)) 1 (conditionsOf S (s .Γ) (s .pre) (s .step))
 
   unfoldable pub claims : List Site → List Claim
   claims [] = []

@@ -6,7 +6,7 @@ use Prim.Native.Nat.{ℕ, zero, suc, _+_}
 use lib.ListN.{getD, replicate}
 use Rattle.spec.specs.Choice.{if_then_else_}
 use Rattle.spec.specs.Text.{bytes, same, lines, Field, lookUp}
-use Rattle.spec.specs.Reading.{splitSheet, Out, _>>=_, on, wrong, badForm, noStart, Seen, seen, insist, Range, _to_, below, numerals, numbers, next, nextAll, begin, end}
+use Rattle.spec.specs.Reading.{splitSheet, Out, _>>=_, on, wrong, badForm, noStart, Seen, seen, insist, Range, _to_, below, numerals, numbers, readLine, readLines, begin, end}
 use Rattle.spec.specs.Words.{takesStart}
 use Rattle.spec.specs.Expression.{Step}
 use Rattle.spec.specs.declared.Heading.{Heading}
@@ -34,7 +34,7 @@ pub record Header : Type 0 where
   pub locations : ℕ
   pub types : ℕ
   pub maps : ℕ
-  pub start : MapNumber
+  pub rootStart : MapNumber
 
 -- when filling, "A `C` header is 21"
 unfoldable pub headings : Purpose → List (List ℕ × Heading)
@@ -68,7 +68,7 @@ headerOf h ns = record {
   locations = getD ns 1 0;
   types = getD ns 2 0;
   maps = mapsOf ns;
-  start = startOf h ns;
+  rootStart = startOf h ns;
 }
 
 unfoldable pub headed : Option Heading → List Field → Seen Header
@@ -183,10 +183,10 @@ pub record Split : Type 0 where
 unfoldable pub split : Purpose → List Step → List ℕ → Out Split
 split purpose steps text = do
   top ← begin splitSheet (lines text)
-  (H, p₁) ← next splitSheet (headerLine purpose) top
-  (types, p₂) ← nextAll splitSheet (typeLines H 0 (H .types)) p₁
-  (maps, p₃) ← nextAll splitSheet (replicate (H .maps) (mapLine H)) p₂
-  (rows, p₄) ← nextAll splitSheet (map (rowLine purpose H) steps) p₃
+  (H, p₁) ← readLine splitSheet (headerLine purpose) top
+  (types, p₂) ← readLines splitSheet (typeLines H 0 (H .types)) p₁
+  (maps, p₃) ← readLines splitSheet (replicate (H .maps) (mapLine H)) p₂
+  (rows, p₄) ← readLines splitSheet (map (rowLine purpose H) steps) p₃
   done ← end splitSheet p₄
   on (record { header = H; types = types; maps = maps; rows = rows })
 

@@ -6,7 +6,7 @@ use Prim.Native.Nat.{ℕ, _+_, _<_}
 use native.Mathlib.Omega.{arith}
 use lib.ListN.{length}
 use Rattle.spec.specs.Text.{lines, Field}
-use Rattle.spec.specs.Reading.{splitSheet, Out, stop, Place, Seen, wrong, badForm, form, faulty, passed, nextLine, next}
+use Rattle.spec.specs.Reading.{splitSheet, Out, stop, Place, Seen, wrong, badForm, form, faulty, passed, nextLine, readLine}
 use Rattle.spec.specs.declared.Refusal.the-variants.{SplitForm}
 use Rattle.lexer.specs.Views.{endOf, firstField, behind, withField, lineAt}
 use Rattle.lexer.specs.Cursors.{rest, placeAt}
@@ -74,7 +74,7 @@ module _ {A : Type 0} (read : List Field → Seen A) (k : ℕ) where
         (λ e. absurd (n e))
 
 pub at-cursor : {A : Type 0} (read : List Field → Seen A) (text : List ℕ) (c : Cursor) → 0 < length (rest text c)
-    → next splitSheet read (placeAt text c) ≡ shown read (c .line + 1) (lineAt (rest text c))
+    → readLine splitSheet read (placeAt text c) ≡ shown read (c .line + 1) (lineAt (rest text c))
 unfolding shown form
 at-cursor read text c l = next-at splitSheet text read c ∙ go (lineAt (rest text c)) refl
   where

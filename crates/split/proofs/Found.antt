@@ -36,6 +36,6 @@ pub types-told : (S : Split) (h : Header) → S .header ≡ headerTold h → h .
 unfolding headerTold
 types-told S h e = sym (ap (λ H. H .types) e)
 
-pub start-told : (S : Split) (h : Header) → S .header ≡ headerTold h → h .start .0 ≡ S .header .start .0
+pub start-told : (S : Split) (h : Header) → S .header ≡ headerTold h → h .start .0 ≡ S .header .rootStart .0
 unfolding headerTold
-start-told S h e = sym (ap (λ H. H .start .0) e)
+start-told S h e = sym (ap (λ H. H .rootStart .0) e)

@@ -11,7 +11,7 @@ use lib.Seq.{length-take-le}
 use borrow.Author.Tests.{leb-true, leb-false, eqb-true, lt-leb}
 use Rattle.spec.specs.Choice.{if_then_else_}
 use Rattle.spec.specs.Text.{bytes, same, Field, lookUp, lines}
-use Rattle.spec.specs.Reading.{splitSheet, stop, on, Seen, right, wrong, badForm, badRange, seen, _to_, inRange, allInRange, numerals, ranged, numbers, form, passed, nextLine, next}
+use Rattle.spec.specs.Reading.{splitSheet, stop, on, Seen, right, wrong, badForm, badRange, seen, _to_, inRange, allInRange, numerals, ranged, numbers, form, passed, nextLine, readLine}
 use Rattle.spec.specs.Split.{Header, headings, headerRanges, mapsOf, mapsIn, startOf, headerOf, headed, headerLine}
 use Rattle.spec.specs.declared.Heading.{Heading}
 use Rattle.spec.specs.declared.Heading.the-variants.{C, C2, C3}
@@ -147,7 +147,7 @@ inPlaces h l = record {
   locations = getD l 1 0;
   types = getD l 2 0;
   maps = getD l 3 0;
-  start = record { 0 = getD l 4 0 };
+  rootStart = record { 0 = getD l 4 0 };
 }
 
 -- a place that none is read into holds 0, the start of a `C` sheet
@@ -304,14 +304,14 @@ module _ (purpose : Purpose) (f : Field) (h : Heading) (known : lookUp (headings
 
 module _ (purpose : Purpose) (text : List ℕ) (c : Cursor) (some-left : 0 < length (rest text c)) where
   -- no comma behind the first field
-  pub no-comma : (endOf (rest text c) ≡ Comma → ⊥) → next splitSheet (headerLine purpose) (placeAt text c) ≡ stop (SplitForm (c .line + 1))
+  pub no-comma : (endOf (rest text c) ≡ Comma → ⊥) → readLine splitSheet (headerLine purpose) (placeAt text c) ≡ stop (SplitForm (c .line + 1))
   unfolding form headerLine
   no-comma n =
       next-at splitSheet text (headerLine purpose) c
       ∙ first-alone splitSheet (headerLine purpose) (c .line) (rest text c) some-left n (header-alone (lookUp (headings purpose) (firstField (rest text c))))
 
   -- no heading
-  pub no-header : lookUp (headings purpose) (firstField (rest text c)) ≡ none → next splitSheet (headerLine purpose) (placeAt text c) ≡ stop (SplitForm (c .line + 1))
+  pub no-header : lookUp (headings purpose) (firstField (rest text c)) ≡ none → readLine splitSheet (headerLine purpose) (placeAt text c) ≡ stop (SplitForm (c .line + 1))
   unfolding form headerLine headed
   no-header e =
       next-at splitSheet text (headerLine purpose) c
@@ -321,7 +321,7 @@ module _ (purpose : Purpose) (text : List ℕ) (c : Cursor) (some-left : 0 < len
       (p : Placed text c) (comma : endOf (rest text c) ≡ Comma) (d : Cursor) (is : nextCursor text c ≡ d)
       (h : Heading) (known : lookUp (headings purpose) (firstField (rest text c)) ≡ some h)
     where
-      pub header-form : numbersAt text d (numeralsOf h) ≡ none → next splitSheet (headerLine purpose) (placeAt text c) ≡ stop (SplitForm (c .line + 1))
+      pub header-form : numbersAt text d (numeralsOf h) ≡ none → readLine splitSheet (headerLine purpose) (placeAt text c) ≡ stop (SplitForm (c .line + 1))
       unfolding numbersAt
       header-form n =
           next-at splitSheet text (headerLine purpose) c
@@ -343,13 +343,13 @@ module _ (purpose : Purpose) (text : List ℕ) (c : Cursor) (some-left : 0 < len
           unfolding judged
           judged-as q = ap (λ (x : Bool). if x then right ns else wrong badRange) (fits ∙ q)
 
-          pub header-range : headerFits (headerTold H) ≡ false → next splitSheet (headerLine purpose) (placeAt text c) ≡ stop (SplitRange (c .line + 1))
+          pub header-range : headerFits (headerTold H) ≡ false → readLine splitSheet (headerLine purpose) (placeAt text c) ≡ stop (SplitRange (c .line + 1))
           unfolding seen
           header-range q =
               next-at splitSheet text (headerLine purpose) c ∙ reads .0
               ∙ shows-range (c .line + 1) (lines (rest text e)) (ap (seen (headerOf h)) (judged-as q))
 
-          pub header-on : headerFits (headerTold H) ≡ true → e .line ≡ d .line + 1 → next splitSheet (headerLine purpose) (placeAt text c) ≡ on (headerTold H, placeAt text e)
+          pub header-on : headerFits (headerTold H) ≡ true → e .line ≡ d .line + 1 → readLine splitSheet (headerLine purpose) (placeAt text c) ≡ on (headerTold H, placeAt text e)
           unfolding seen
           header-on q l =
               next-at splitSheet text (headerLine purpose) c ∙ reads .0

@@ -4,7 +4,7 @@ use mathlib.Core.List.{List}
 use mathlib.Core.Bool.{true, false}
 use Prim.Native.Nat.{ℕ, _+_}
 use Rattle.spec.specs.Text.{lines, Line, Field}
-use Rattle.spec.specs.Reading.{splitSheet, stop, on, Seen, right, wrong, badForm, badRange, noStart, form, outside, miscounted, faulty, passed, next, end}
+use Rattle.spec.specs.Reading.{splitSheet, stop, on, Seen, right, wrong, badForm, badRange, noStart, form, outside, miscounted, faulty, passed, readLine, end}
 use Rattle.spec.specs.declared.Refusal.the-variants.{SplitForm, SplitRange, SplitLines, NoStart}
 use Rattle.lexer.specs.Views.{endOf, firstField, nothing, withField, lineAt}
 use Rattle.lexer.specs.Cursors.{Placed, rest, next as nextCursor, placeAt}
@@ -18,7 +18,7 @@ use Rattle.lexer.proofs.Walks.{left-none, left-some}
 -- ------------------------------------------------------------------ none, and none left
 
 module _ (text : List ℕ) (c : Cursor) where
-  pub line-missing : {A : Type 0} (read : List Field → Seen A) → nothing (rest text c) ≡ true → next splitSheet read (placeAt text c) ≡ stop (SplitLines (c .line))
+  pub line-missing : {A : Type 0} (read : List Field → Seen A) → nothing (rest text c) ≡ true → readLine splitSheet read (placeAt text c) ≡ stop (SplitLines (c .line))
   unfolding miscounted
   line-missing read e = next-at-none splitSheet text read c (left-none (rest text c) e)
 

@@ -7,7 +7,7 @@ use native.Mathlib.Omega.{arith}
 use lib.ListN.{length, getD, set, take, drop, length-drop}
 use lib.Seq.{length-take-le}
 use Rattle.spec.specs.Text.{Field}
-use Rattle.spec.specs.Reading.{splitSheet, stop, on, Seen, next, nextAll}
+use Rattle.spec.specs.Reading.{splitSheet, stop, on, Seen, readLine, readLines}
 use Rattle.spec.specs.Split.{Map, Header}
 use Rattle.spec.specs.declared.Purpose.{Purpose}
 use Rattle.spec.specs.declared.Refusal.{Refusal}
@@ -29,7 +29,7 @@ module _
     (few : n ≤ rows) (room : b + rows + rows + rows ≤ length w₀) (w : List ℕ) (c : Cursor) (i : ℕ)
     (t : Turn read (Columns f g h b rows) b (b + rows + rows + rows) n text w₀ (placeAt text c₀) w c i)
   where
-    pub columns-turn : i < n → (w′ : List ℕ) (entry : A) (d : Cursor) → next splitSheet (read i) (placeAt text c) ≡ on (entry, placeAt text d) → Placed text d
+    pub columns-turn : i < n → (w′ : List ℕ) (entry : A) (d : Cursor) → readLine splitSheet (read i) (placeAt text c) ≡ on (entry, placeAt text d) → Placed text d
         → w′ ≡ set (set (set w (b + i) (f entry)) (b + rows + i) (g entry)) (b + rows + rows + i) (h entry)
         → Turn read (Columns f g h b rows) b (b + rows + rows + rows) n text w₀ (placeAt text c₀) w′ d (i + 1)
     columns-turn l w′ entry d e p q =
@@ -41,11 +41,11 @@ module _
 
 -- the word that a row is read for is that of its step, which no row has changed
 pub row-here : (purpose : Purpose) (H : Header) (text : List ℕ) (c : Cursor) (w₀ w : List ℕ) (k : ℕ) (word : Word) → word ≡ wordOf (getD w (wordsAt + k) 0) → k < 256 → ChangedWithin 1024 1792 w₀ w
-    → next splitSheet (wordLine purpose H (stepAt w₀ k .word)) (placeAt text c) ≡ next splitSheet (wordLine purpose H word) (placeAt text c)
+    → readLine splitSheet (wordLine purpose H (stepAt w₀ k .word)) (placeAt text c) ≡ readLine splitSheet (wordLine purpose H word) (placeAt text c)
 unfolding stepAt
 row-here purpose H text c w₀ w k word e l x =
     let same : getD w (wordsAt + k) 0 ≡ getD w₀ (wordsAt + k) 0 = x .kept (wordsAt + k) (inl (omega arith)) in
-    ap (λ (v : Word). next splitSheet (wordLine purpose H v) (placeAt text c)) (ap wordOf (sym same) ∙ sym e)
+    ap (λ (v : Word). readLine splitSheet (wordLine purpose H v) (placeAt text c)) (ap wordOf (sym same) ∙ sym e)
 
 -- a map line, whose numbers are read into their part of the work space
 module _
@@ -85,14 +85,14 @@ module _
       map-long = put-changed .long ∙ t .changed .long
 
       pub map-stop : (reads : List (List Field → Seen Map)) → reads ≡ numbered (λ m. cellLine locations) 0 n → (r : Refusal)
-          → next splitSheet (cellLine (length part)) (placeAt text c) ≡ stop r
-          → LinesStored 4096 16384 n (HoldsMaps locations) text (nextAll splitSheet reads (placeAt text c₀)) w₀ (put ys) (lines-read.Refused r)
+          → readLine splitSheet (cellLine (length part)) (placeAt text c) ≡ stop r
+          → LinesStored 4096 16384 n (HoldsMaps locations) text (readLines splitSheet reads (placeAt text c₀)) w₀ (put ys) (lines-read.Refused r)
       map-stop reads q r e = record {
         answered = turns-stop (λ m. cellLine locations) (HoldsMaps locations) 4096 16384 n text w₀ c₀ w c i t reads q less r (rw (← part-long) e) .answered;
         changed = changed-then 4096 16384 (t .changed) put-changed;
       }
 
-      pub map-turn : (d : Cursor) → next splitSheet (cellLine (length part)) (placeAt text c) ≡ on (ys, placeAt text d) → Placed text d
+      pub map-turn : (d : Cursor) → readLine splitSheet (cellLine (length part)) (placeAt text c) ≡ on (ys, placeAt text d) → Placed text d
           → Turn (λ m. cellLine locations) (HoldsMaps locations) 4096 16384 n text w₀ (placeAt text c₀) (put ys) d (i + 1)
       map-turn d e p =
           next-turn (λ m. cellLine locations) (HoldsMaps locations) 4096 16384 n text w₀ c₀ w c i t less (put ys) ys d (rw (← part-long) e) p

@@ -10,7 +10,7 @@ use lib.ListN.{length, getD, drop, drop-of-length-le, length-replicate}
 use lib.Seq.{drop-cons}
 use Rattle.spec.specs.Choice.{if_then_else_}
 use Rattle.spec.specs.Text.{Field, lines}
-use Rattle.spec.specs.Reading.{splitSheet, stop, on, right, wrong, badRange, _to_, inRange, allInRange, numbers, form, next}
+use Rattle.spec.specs.Reading.{splitSheet, stop, on, right, wrong, badRange, _to_, inRange, allInRange, numbers, form, readLine}
 use Rattle.spec.specs.declared.Refusal.the-variants.{SplitForm, SplitRange}
 use Rattle.spec.proofs.Ranges.{up-to-in, up-to-out}
 use Rattle.lexer.specs.Cursors.{rest, placeAt}
@@ -67,21 +67,21 @@ module _ (text : List ℕ) (c : Cursor) (n : ℕ) where
   unfolding cells
   counts = length-replicate n (0 to 1000000000)
 
-  pub map-form : 0 < length (rest text c) → numbersAt text c n ≡ none → next splitSheet (cellLine n) (placeAt text c) ≡ stop (SplitForm (c .line + 1))
+  pub map-form : 0 < length (rest text c) → numbersAt text c n ≡ none → readLine splitSheet (cellLine n) (placeAt text c) ≡ stop (SplitForm (c .line + 1))
   unfolding form
   map-form l e =
       next-at splitSheet text (cellLine n) c
       ∙ numerals-form splitSheet (cellLine n) (c .line) (cells n) (λ s. s) text c shows refl l (ap (numbersAt text c) counts ∙ e)
 
   module _ (ns : List ℕ) (d : Cursor) (h : LineRead text c n ns d) where
-    reads : next splitSheet (cellLine n) (placeAt text c)
+    reads : readLine splitSheet (cellLine n) (placeAt text c)
         ≡ Rattle.spec.specs.Reading.passed splitSheet (c .line + 1) (lines (rest text d)) (if allInRange (cells n) ns then right ns else wrong badRange)
     reads =
         next-at splitSheet text (cellLine n) c
         ∙ numerals-read splitSheet (cellLine n) (c .line) (cells n) (λ s. s) text c shows (cells-narrow n) ns (rest text d) (ap (numbersAt text c) counts ∙ h .numbers)
 
-    pub map-range : allInRange (cells n) ns ≡ false → next splitSheet (cellLine n) (placeAt text c) ≡ stop (SplitRange (c .line + 1))
+    pub map-range : allInRange (cells n) ns ≡ false → readLine splitSheet (cellLine n) (placeAt text c) ≡ stop (SplitRange (c .line + 1))
     map-range e = reads ∙ shows-range (c .line + 1) (lines (rest text d)) (rw e)
 
-    pub map-on : allInRange (cells n) ns ≡ true → next splitSheet (cellLine n) (placeAt text c) ≡ on (ns, placeAt text d)
+    pub map-on : allInRange (cells n) ns ≡ true → readLine splitSheet (cellLine n) (placeAt text c) ≡ on (ns, placeAt text d)
     map-on e = reads ∙ shows-entry text c d ns (rw e) (h .line)

@@ -7,7 +7,7 @@ use Prim.Native.Nat.{ℕ, _+_, _≤_, _<_}
 use lib.ListN.{length}
 use Rattle.spec.specs.Choice.{if_then_else_}
 use Rattle.spec.specs.Text.{lines, Field}
-use Rattle.spec.specs.Reading.{splitSheet, Out, stop, Place, Seen, right, wrong, badRange, noStart, insist, below, inRange, allInRange, passed, next}
+use Rattle.spec.specs.Reading.{splitSheet, Out, stop, Place, Seen, right, wrong, badRange, noStart, insist, below, inRange, allInRange, passed, readLine}
 use Rattle.spec.specs.Split.{Header, Row, rowOf, takesStart, startRange, mayBeEmpty}
 use Rattle.spec.specs.declared.Purpose.{Purpose}
 use Rattle.spec.specs.declared.Refusal.the-variants.{SplitForm, SplitRange, NoStart}
@@ -101,7 +101,7 @@ three-tested H w a b n = go (inRange (below (H .types)) a) (inRange (below (H .m
 
 module _ (purpose : Purpose) (H : Header) (w : Word) (text : List ℕ) (c : Cursor) (p : Placed text c) (some-left : 0 < length (rest text c)) where
   abbrev out : Out (Row × Place)
-  out = next splitSheet (wordLine purpose H w) (placeAt text c)
+  out = readLine splitSheet (wordLine purpose H w) (placeAt text c)
 
   pub row-first : LeadingAnswer text c leading.Malformed → out ≡ stop (SplitForm (c .line + 1))
   row-first h =

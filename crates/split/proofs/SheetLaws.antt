@@ -5,7 +5,7 @@ use mathlib.Core.List.{List, [], _∷_, map}
 use Prim.Native.Nat.{ℕ, zero, suc, _+_, _≤_, _<_}
 use native.Mathlib.Omega.{arith}
 use lib.ListN.{length, getD, replicate, length-map}
-use Rattle.spec.specs.Reading.{splitSheet, Out, _>>=_, Place, nextAll, end}
+use Rattle.spec.specs.Reading.{splitSheet, Out, _>>=_, Place, readLines, end}
 use Rattle.spec.specs.Expression.{Step}
 use Rattle.spec.specs.Split.{Map, Header, Row, Split, typeLines, mapLine, rowLine}
 use Rattle.spec.specs.declared.Purpose.{Purpose}
@@ -57,7 +57,7 @@ steps-held w steps n h e = rw (← e) (steps-from w 0 steps (h .words) (h .value
 -- ------------------------------------------------------------------ the lines behind the header
 
 module _ (purpose : Purpose) (h : HeaderRead) (small : Small h) (n : ℕ) (few : n ≤ 256) (text : List ℕ) (c : Cursor) (w w₁ : List ℕ) (types : LinesRead)
-    (read-types : LinesStored 2048 2240 (h .types) HoldsTypes text (nextAll splitSheet (typeLines (headerTold h) 0 (h .types)) (placeAt text c)) w w₁ types)
+    (read-types : LinesStored 2048 2240 (h .types) HoldsTypes text (readLines splitSheet (typeLines (headerTold h) 0 (h .types)) (placeAt text c)) w w₁ types)
   where
     abbrev H : Header
     H = headerTold h
@@ -66,7 +66,7 @@ module _ (purpose : Purpose) (h : HeaderRead) (small : Small h) (n : ℕ) (few :
     whole = body purpose H (stepsFrom w 0 n) (placeAt text c)
 
     abbrev types-out : Out (List TypeLine × Place)
-    types-out = nextAll splitSheet (typeLines H 0 (h .types)) (placeAt text c)
+    types-out = readLines splitSheet (typeLines H 0 (h .types)) (placeAt text c)
 
     changed-one : ChangedWithin 1024 16384 w w₁
     changed-one = changed-wider 1024 16384 (omega arith) (omega arith) (read-types .changed)
@@ -86,7 +86,7 @@ module _ (purpose : Purpose) (h : HeaderRead) (small : Small h) (n : ℕ) (few :
       types-placed = types-got .4
 
       abbrev maps-out : Out (List Map × Place)
-      maps-out = nextAll splitSheet (replicate (h .maps) (mapLine H)) (placeAt text c₂)
+      maps-out = readLines splitSheet (replicate (h .maps) (mapLine H)) (placeAt text c₂)
 
       module _ (w₂ : List ℕ) (maps : LinesRead) (read-maps : LinesStored 4096 16384 (h .maps) (HoldsMaps (h .locations)) text maps-out w₁ w₂ maps) where
         changed-two : ChangedWithin 1024 16384 w w₂
@@ -108,7 +108,7 @@ module _ (purpose : Purpose) (h : HeaderRead) (small : Small h) (n : ℕ) (few :
           maps-placed = maps-got .4
 
           abbrev rows-from : List ℕ → Out (List Row × Place)
-          rows-from v = nextAll splitSheet (map (rowLine purpose H) (stepsFrom v 0 n)) (placeAt text c₃)
+          rows-from v = readLines splitSheet (map (rowLine purpose H) (stepsFrom v 0 n)) (placeAt text c₃)
 
           module _ (v : List ℕ) (emptied : EmptyStored w₂ v) (w₃ : List ℕ) (rows : LinesRead) (read-rows : LinesStored 1024 1792 n HoldsRows text (rows-from v) v w₃ rows) where
             abbrev rows-out : Out (List Row × Place)
@@ -120,8 +120,8 @@ module _ (purpose : Purpose) (h : HeaderRead) (small : Small h) (n : ℕ) (few :
             changed-three : ChangedWithin 1024 16384 w w₃
             changed-three = changed-then 1024 16384 changed-empty (changed-wider 1024 16384 (omega arith) (omega arith) (read-rows .changed))
 
-            same-rows : nextAll splitSheet (map (rowLine purpose H) (stepsFrom w 0 n)) (placeAt text c₃) ≡ rows-out
-            same-rows = ap (λ (l : List Step). nextAll splitSheet (map (rowLine purpose H) l) (placeAt text c₃)) (sym (steps-kept w v 0 n (omega arith) changed-empty))
+            same-rows : readLines splitSheet (map (rowLine purpose H) (stepsFrom w 0 n)) (placeAt text c₃) ≡ rows-out
+            same-rows = ap (λ (l : List Step). readLines splitSheet (map (rowLine purpose H) l) (placeAt text c₃)) (sym (steps-kept w v 0 n (omega arith) changed-empty))
 
             pub rows-stop : (r : Refusal) → rows ≡ lines-read.Refused r → BodyRead purpose H n (placeAt text c) w w₃ rows
             unfolding body headerTold _>>=_

@@ -5,7 +5,7 @@ use Prim.Native.Nat.{ℕ, zero, suc, _+_, _-_, _≤_, _<_}
 use native.Mathlib.Omega.{arith}
 use lib.ListN.{length, length-append, replicate}
 use Rattle.spec.specs.Text.{Field}
-use Rattle.spec.specs.Reading.{splitSheet, stop, on, Seen, Place, next, nextAll}
+use Rattle.spec.specs.Reading.{splitSheet, stop, on, Seen, Place, readLine, readLines}
 use Rattle.spec.specs.Expression.{Step}
 use Rattle.spec.specs.Split.{Header, typeLine, typeLines, mapLine, rowLine}
 use Rattle.spec.specs.declared.Purpose.{Purpose}
@@ -64,7 +64,7 @@ pub record Turn
     pub stored : Stored w entries
     pub changed : ChangedWithin a b w₀ w
     pub placed : Placed text c
-    pub rest : nextAll splitSheet (numbered read 0 n) from ≡ front entries (nextAll splitSheet (numbered read i (n - i)) (placeAt text c))
+    pub rest : readLines splitSheet (numbered read 0 n) from ≡ front entries (readLines splitSheet (numbered read i (n - i)) (placeAt text c))
 
 module _ {A : Type 0} (read : ℕ → List Field → Seen A) (Stored : List ℕ → List A → Type 0) (a b n : ℕ) (text w₀ : List ℕ) (c₀ : Cursor) where
   pub first-turn : Stored w₀ [] → Placed text c₀ → Turn read Stored a b n text w₀ (placeAt text c₀) w₀ c₀ 0
@@ -75,7 +75,7 @@ module _ {A : Type 0} (read : ℕ → List Field → Seen A) (Stored : List ℕ 
     stored = s;
     changed = changed-nothing a b w₀;
     placed = p;
-    rest = sym (ap (λ (k : ℕ). front [] (nextAll splitSheet (numbered read 0 k) (placeAt text c₀))) (omega arith) ∙ front-none _);
+    rest = sym (ap (λ (k : ℕ). front [] (readLines splitSheet (numbered read 0 k) (placeAt text c₀))) (omega arith) ∙ front-none _);
   }
 
   module _ (w : List ℕ) (c : Cursor) (i : ℕ) (t : Turn read Stored a b n text w₀ (placeAt text c₀) w c i) where
@@ -83,13 +83,13 @@ module _ {A : Type 0} (read : ℕ → List Field → Seen A) (Stored : List ℕ 
     unfolding numbered
     left h = let e : n - i ≡ suc (n - (i + 1)) = omega arith in rw e
 
-    turn-stops : i < n → (r : Refusal) → next splitSheet (read i) (placeAt text c) ≡ stop r
-        → nextAll splitSheet (numbered read 0 n) (placeAt text c₀) ≡ stop r
+    turn-stops : i < n → (r : Refusal) → readLine splitSheet (read i) (placeAt text c) ≡ stop r
+        → readLines splitSheet (numbered read 0 n) (placeAt text c₀) ≡ stop r
     unfolding front
-    turn-stops h r e = t .rest ∙ ap (λ (l : List _). front (t .entries) (nextAll splitSheet l (placeAt text c))) (left h)
+    turn-stops h r e = t .rest ∙ ap (λ (l : List _). front (t .entries) (readLines splitSheet l (placeAt text c))) (left h)
         ∙ ap (front (t .entries)) (all-stop splitSheet (read i) (numbered read (i + 1) (n - (i + 1))) (placeAt text c) r e)
 
-    pub next-turn : i < n → (w′ : List ℕ) (entry : A) (d : Cursor) → next splitSheet (read i) (placeAt text c) ≡ on (entry, placeAt text d) → Placed text d
+    pub next-turn : i < n → (w′ : List ℕ) (entry : A) (d : Cursor) → readLine splitSheet (read i) (placeAt text c) ≡ on (entry, placeAt text d) → Placed text d
         → Stored w′ (t .entries ++ (entry ∷ [])) → ChangedWithin a b w w′
         → Turn read Stored a b n text w₀ (placeAt text c₀) w′ d (i + 1)
     next-turn h w′ entry d e p s x = record {
@@ -99,31 +99,31 @@ module _ {A : Type 0} (read : ℕ → List Field → Seen A) (Stored : List ℕ 
       stored = s;
       changed = changed-then a b (t .changed) x;
       placed = p;
-      rest = t .rest ∙ ap (λ (l : List _). front (t .entries) (nextAll splitSheet l (placeAt text c))) (left h)
+      rest = t .rest ∙ ap (λ (l : List _). front (t .entries) (readLines splitSheet l (placeAt text c))) (left h)
           ∙ all-on splitSheet (read i) (numbered read (i + 1) (n - (i + 1))) (placeAt text c) (t .entries) entry (placeAt text d) e;
     }
 
-    ended : n - i ≡ 0 → front (t .entries) (nextAll splitSheet (numbered read i (n - i)) (placeAt text c)) ≡ on (t .entries, placeAt text c)
+    ended : n - i ≡ 0 → front (t .entries) (readLines splitSheet (numbered read i (n - i)) (placeAt text c)) ≡ on (t .entries, placeAt text c)
     unfolding numbered
     ended e = rw e (all-done splitSheet (t .entries) (placeAt text c))
 
     last-turn : n ≤ i
-        → (entries : List A) × (nextAll splitSheet (numbered read 0 n) (placeAt text c₀) ≡ on (entries, placeAt text c)) × (length entries ≡ n) × Stored w entries × Placed text c
+        → (entries : List A) × (readLines splitSheet (numbered read 0 n) (placeAt text c₀) ≡ on (entries, placeAt text c)) × (length entries ≡ n) × Stored w entries × Placed text c
     last-turn h =
         let e : n - i ≡ 0 = omega arith in
         (t .entries, t .rest ∙ ended e, omega (arith, t .count, t .few), t .stored, t .placed)
 
     -- a line is refused
-    pub turns-stop : (reads : List (List Field → Seen A)) → reads ≡ numbered read 0 n → i < n → (r : Refusal) → next splitSheet (read i) (placeAt text c) ≡ stop r
-        → LinesStored a b n Stored text (nextAll splitSheet reads (placeAt text c₀)) w₀ w (lines-read.Refused r)
-    turns-stop reads q h r e = record { answered = ap (λ (l : List _). nextAll splitSheet l (placeAt text c₀)) q ∙ turn-stops h r e; changed = t .changed }
+    pub turns-stop : (reads : List (List Field → Seen A)) → reads ≡ numbered read 0 n → i < n → (r : Refusal) → readLine splitSheet (read i) (placeAt text c) ≡ stop r
+        → LinesStored a b n Stored text (readLines splitSheet reads (placeAt text c₀)) w₀ w (lines-read.Refused r)
+    turns-stop reads q h r e = record { answered = ap (λ (l : List _). readLines splitSheet l (placeAt text c₀)) q ∙ turn-stops h r e; changed = t .changed }
 
     -- all of them are read
     pub turns-end : (reads : List (List Field → Seen A)) → reads ≡ numbered read 0 n → n ≤ i
-        → LinesStored a b n Stored text (nextAll splitSheet reads (placeAt text c₀)) w₀ w (lines-read.Read c)
+        → LinesStored a b n Stored text (readLines splitSheet reads (placeAt text c₀)) w₀ w (lines-read.Read c)
     turns-end reads q h =
         let (entries, e, count, stored, placed) = last-turn h in
         record {
-          answered = (entries, ap (λ (l : List _). nextAll splitSheet l (placeAt text c₀)) q ∙ e, count, stored, placed);
+          answered = (entries, ap (λ (l : List _). readLines splitSheet l (placeAt text c₀)) q ∙ e, count, stored, placed);
           changed = t .changed;
         }

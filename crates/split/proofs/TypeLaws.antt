@@ -8,7 +8,7 @@ use native.Mathlib.Omega.{arith}
 use lib.ListN.{length, getD}
 use Rattle.spec.specs.Choice.{if_then_else_}
 use Rattle.spec.specs.Text.{Field, lines}
-use Rattle.spec.specs.Reading.{splitSheet, stop, on, right, wrong, badForm, badRange, seen, Range, _to_, below, allInRange, numerals, ranged, numbers, form, faulty, passed, nextLine, next}
+use Rattle.spec.specs.Reading.{splitSheet, stop, on, right, wrong, badForm, badRange, seen, Range, _to_, below, allInRange, numerals, ranged, numbers, form, faulty, passed, nextLine, readLine}
 use Rattle.spec.specs.Split.{Header, refOf, lockOf, outRange, tidOf, semOf, rwlockOf, typeLine}
 use Rattle.spec.specs.declared.Heading.{Heading}
 use Rattle.spec.specs.declared.Heading.the-variants.{C, C2, C3}
@@ -70,7 +70,7 @@ seen-ranged rs f ns = go (allInRange rs ns)
 -- ------------------------------------------------------------------ the line
 
 module _ (H : Header) (own : ℕ) (text : List ℕ) (c : Cursor) (some-left : 0 < length (rest text c)) where
-  pub no-comma : (endOf (rest text c) ≡ Comma → ⊥) → next splitSheet (typeLine H own) (placeAt text c) ≡ stop (SplitForm (c .line + 1))
+  pub no-comma : (endOf (rest text c) ≡ Comma → ⊥) → readLine splitSheet (typeLine H own) (placeAt text c) ≡ stop (SplitForm (c .line + 1))
   unfolding form
   no-comma n =
       let f = firstField (rest text c) in
@@ -119,28 +119,28 @@ module _ (H : Header) (own : ℕ) (text : List ℕ) (c : Cursor) (some-left : 0 
     kind-read few kind.Rwlock e ns r n = known-read (below (H .maps) ∷ below (H .maps) ∷ []) rwlockOf (as-kind kind.Rwlock e) (omega arith, (omega arith, tt)) ns r n
     kind-read few kind.Unknown e ns r n = unknown e
 
-    pub type-form : numbersAt text d 2 ≡ none → next splitSheet (typeLine H own) (placeAt text c) ≡ stop (SplitForm (c .line + 1))
+    pub type-form : numbersAt text d 2 ≡ none → readLine splitSheet (typeLine H own) (placeAt text c) ≡ stop (SplitForm (c .line + 1))
     type-form n = next-at splitSheet text (typeLine H own) c ∙ kind-form (typeWordOf (firstField (rest text c))) refl n
 
     -- the word and the numbers are read: what they come to
     module _ (few : (H .locations ≤ 16) × (H .maps ≤ 512) × (own < 64)) (k : TypeWord) (word : k ≡ typeWordOf (firstField (rest text c))) (ns : List ℕ) (e : Cursor) (h : LineRead text d 2 ns e)
         (s : TypeSeen) (told : s ≡ typeSeen k H own (getD ns 0 0 ∷ getD ns 1 0 ∷ [])) where
-      reads : next splitSheet (typeLine H own) (placeAt text c)
+      reads : readLine splitSheet (typeLine H own) (placeAt text c)
           ≡ passed splitSheet (c .line + 1) (lines (rest text e)) (typeTold s)
       reads =
           next-at splitSheet text (typeLine H own) c ∙ kind-read few k (sym word) ns (rest text e) (h .numbers)
           ∙ ap (λ (l : List ℕ). passed splitSheet (c .line + 1) (lines (rest text e)) (typeTold (typeSeen k H own l))) (two ns (h .long))
           ∙ ap (λ (x : TypeSeen). passed splitSheet (c .line + 1) (lines (rest text e)) (typeTold x)) (sym told)
 
-      pub type-on : (t : TypeLine) → s ≡ type-seen.Right t → next splitSheet (typeLine H own) (placeAt text c) ≡ on (t, placeAt text e)
+      pub type-on : (t : TypeLine) → s ≡ type-seen.Right t → readLine splitSheet (typeLine H own) (placeAt text c) ≡ on (t, placeAt text e)
       unfolding typeTold
       type-on t q =
           reads ∙ shows-entry text c e t (ap typeTold q) (h .line ∙ ap (λ (k : ℕ). k + 1) (comma-kept text c d p comma is))
 
-      pub type-unknown : s ≡ type-seen.BadForm → next splitSheet (typeLine H own) (placeAt text c) ≡ stop (SplitForm (c .line + 1))
+      pub type-unknown : s ≡ type-seen.BadForm → readLine splitSheet (typeLine H own) (placeAt text c) ≡ stop (SplitForm (c .line + 1))
       unfolding typeTold
       type-unknown q = reads ∙ shows-form (c .line + 1) (lines (rest text e)) (ap typeTold q)
 
-      pub type-range : s ≡ type-seen.BadRange → next splitSheet (typeLine H own) (placeAt text c) ≡ stop (SplitRange (c .line + 1))
+      pub type-range : s ≡ type-seen.BadRange → readLine splitSheet (typeLine H own) (placeAt text c) ≡ stop (SplitRange (c .line + 1))
       unfolding typeTold
       type-range q = reads ∙ shows-range (c .line + 1) (lines (rest text e)) (ap typeTold q)

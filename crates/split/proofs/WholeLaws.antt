@@ -5,7 +5,7 @@ use mathlib.Core.Bool.{true, false}
 use Prim.Native.Nat.{ℕ, _<_}
 use lib.ListN.{length}
 use Rattle.spec.specs.Text.{lines}
-use Rattle.spec.specs.Reading.{splitSheet, Out, stop, on, _>>=_, form, next, begin}
+use Rattle.spec.specs.Reading.{splitSheet, Out, stop, on, _>>=_, form, readLine, begin}
 use Rattle.spec.specs.Expression.{Step}
 use Rattle.spec.specs.Split.{Split, headerLine, split}
 use Rattle.spec.specs.declared.Purpose.{Purpose}
@@ -49,17 +49,17 @@ module _ (text : List ℕ) (top : Cursor) (is : top ≡ start) where
     top-place : begin splitSheet (lines text) ≡ on (placeAt text top)
     top-place = begin-at-some splitSheet text (subst (λ (t : List ℕ). 0 < length t) top-rest (left-some (rest text top) some-left)) ∙ rw is
 
-    module _ (purpose : Purpose) (answer : HeaderLine) (header : HeaderAnswer text (next splitSheet (headerLine purpose) (placeAt text top)) answer) where
+    module _ (purpose : Purpose) (answer : HeaderLine) (header : HeaderAnswer text (readLine splitSheet (headerLine purpose) (placeAt text top)) answer) where
       -- the header is refused
       pub read-header-stop : (r : Refusal) → answer ≡ header-line.Refused r → (n : ℕ) (w : List ℕ) → SplitRead purpose text n w w (sheet.Refused r)
       unfolding split _>>=_
       read-header-stop r e n w =
-          let h = subst (HeaderAnswer text (next splitSheet (headerLine purpose) (placeAt text top))) e header in
+          let h = subst (HeaderAnswer text (readLine splitSheet (headerLine purpose) (placeAt text top))) e header in
           record { answered = λ steps held count. rw (top-place, h); changed = changed-nothing 1024 16384 w }
 
       module _ (h : HeaderRead) (c : Cursor) (told : answer ≡ header-line.Read h c) where
-        header-got : HeaderAnswer text (next splitSheet (headerLine purpose) (placeAt text top)) (header-line.Read h c)
-        header-got = subst (HeaderAnswer text (next splitSheet (headerLine purpose) (placeAt text top))) told header
+        header-got : HeaderAnswer text (readLine splitSheet (headerLine purpose) (placeAt text top)) (header-line.Read h c)
+        header-got = subst (HeaderAnswer text (readLine splitSheet (headerLine purpose) (placeAt text top))) told header
 
         pub header-placed : Placed text c
         header-placed = header-got .1

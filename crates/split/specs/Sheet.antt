@@ -3,7 +3,7 @@ use mathlib.Core.Path.{_≡_}
 use mathlib.Core.List.{List, map}
 use Prim.Native.Nat.{ℕ}
 use lib.ListN.{length, replicate}
-use Rattle.spec.specs.Reading.{splitSheet, Out, stop, on, _>>=_, Place, nextAll, end}
+use Rattle.spec.specs.Reading.{splitSheet, Out, stop, on, _>>=_, Place, readLines, end}
 use Rattle.spec.specs.Expression.{Step}
 use Rattle.spec.specs.Split.{Header, Split, typeLines, mapLine, rowLine, split}
 use Rattle.spec.specs.declared.Purpose.{Purpose}
@@ -20,9 +20,9 @@ use Rattle.split.specs.Stored.{stepsFrom}
 -- the lines behind the header
 unfoldable pub body : Purpose → Header → List Step → Place → Out Split
 body purpose H steps p₁ = do
-  (types, p₂) ← nextAll splitSheet (typeLines H 0 (H .types)) p₁
-  (maps, p₃) ← nextAll splitSheet (replicate (H .maps) (mapLine H)) p₂
-  (rows, p₄) ← nextAll splitSheet (map (rowLine purpose H) steps) p₃
+  (types, p₂) ← readLines splitSheet (typeLines H 0 (H .types)) p₁
+  (maps, p₃) ← readLines splitSheet (replicate (H .maps) (mapLine H)) p₂
+  (rows, p₄) ← readLines splitSheet (map (rowLine purpose H) steps) p₃
   done ← end splitSheet p₄
   on (record { header = H; types = types; maps = maps; rows = rows })
 

@@ -3,7 +3,7 @@ use mathlib.Core.Path.{_≡_}
 use mathlib.Core.List.{List, [], _∷_, map}
 use Prim.Native.Nat.{ℕ, suc, zero, _+_, _*_, _<_}
 use lib.ListN.{length, getD, replicate}
-use Rattle.spec.specs.Reading.{splitSheet, Out, stop, on, Place, nextAll}
+use Rattle.spec.specs.Reading.{splitSheet, Out, stop, on, Place, readLines}
 use Rattle.spec.specs.Expression.{Step}
 use Rattle.spec.specs.Split.{Map, Row, typeLines, mapLine, rowLine}
 use Rattle.spec.specs.declared.Purpose.{Purpose}
@@ -65,14 +65,14 @@ stepsFrom w k (suc n) = stepAt w k ∷ stepsFrom w (k + 1) n
 -- the type lines from a cursor on
 abbrev pub TypesRead : List ℕ → Cursor → Header → (w w′ : List ℕ) → LinesRead → Type 0
 TypesRead text c h w w′ answer =
-    LinesStored 2048 2240 (h .types) HoldsTypes text (nextAll splitSheet (typeLines (headerTold h) 0 (h .types)) (placeAt text c)) w w′ answer
+    LinesStored 2048 2240 (h .types) HoldsTypes text (readLines splitSheet (typeLines (headerTold h) 0 (h .types)) (placeAt text c)) w w′ answer
 
 -- the map lines
 abbrev pub MapsRead : List ℕ → Cursor → Header → (w w′ : List ℕ) → LinesRead → Type 0
 MapsRead text c h w w′ answer =
-    LinesStored 4096 16384 (h .maps) (HoldsMaps (h .locations)) text (nextAll splitSheet (replicate (h .maps) (mapLine (headerTold h))) (placeAt text c)) w w′ answer
+    LinesStored 4096 16384 (h .maps) (HoldsMaps (h .locations)) text (readLines splitSheet (replicate (h .maps) (mapLine (headerTold h))) (placeAt text c)) w w′ answer
 
 -- the rows of the first n steps in the work space
 abbrev pub RowsRead : Purpose → List ℕ → Cursor → Header → (n : ℕ) → (w w′ : List ℕ) → LinesRead → Type 0
 RowsRead purpose text c h n w w′ answer =
-    LinesStored 1024 1792 n HoldsRows text (nextAll splitSheet (map (rowLine purpose (headerTold h)) (stepsFrom w 0 n)) (placeAt text c)) w w′ answer
+    LinesStored 1024 1792 n HoldsRows text (readLines splitSheet (map (rowLine purpose (headerTold h)) (stepsFrom w 0 n)) (placeAt text c)) w w′ answer

@@ -12,7 +12,7 @@ use workspace::Header;
 ghost use mathlib.Core.Path.{_≡_};
 ghost use mathlib.Core.Bool.{false};
 ghost use Rattle.spec.specs.Text.{lookUp};
-ghost use Rattle.spec.specs.Reading.{splitSheet, _to_, inRange, next};
+ghost use Rattle.spec.specs.Reading.{splitSheet, _to_, inRange, readLine};
 ghost use Rattle.spec.specs.Split.{headings, headerLine};
 ghost use Rattle.lexer.specs.Views.{nothing};
 ghost use Rattle.lexer.specs.Cursors.{rest, placeAt};
@@ -134,7 +134,7 @@ fn header_fits(header: Header) -> bool
 // The header at a cursor.
 pub(crate) fn header_line(text: &[u8], cursor: Cursor, purpose: Purpose) -> HeaderLine
     requires { ⌜ Reading (now text) cursor × (nothing (rest (now text) cursor) ≡ false) ⌝ }
-    ensures { λ r. ⌜ HeaderAnswer (now (text .entry)) (next splitSheet (headerLine purpose) (placeAt (now (text .entry)) cursor)) r ⌝ }
+    ensures { λ r. ⌜ HeaderAnswer (now (text .entry)) (readLine splitSheet (headerLine purpose) (placeAt (now (text .entry)) cursor)) r ⌝ }
 {
     let line = cursor.line + 1;
     let Head::Field(from, to, numbers) = first_field(text, cursor) else {

@@ -9,7 +9,7 @@ use workspace::MAPS;
 use workspace::STRIDE;
 ghost use mathlib.Core.Path.{_≡_};
 ghost use lib.ListN.{length};
-ghost use Rattle.spec.specs.Reading.{splitSheet, allInRange, next};
+ghost use Rattle.spec.specs.Reading.{splitSheet, allInRange, readLine};
 ghost use Rattle.lexer.specs.Cursors.{placeAt};
 ghost use Rattle.split.specs.Lines.{cells, cellLine};
 ghost use Rattle.split.specs.Answers.{Reading, Small, MapAnswer};
@@ -32,7 +32,7 @@ fn cells_fit(map: &[u32]) -> bool
 // The map line at a cursor, into as many places as there are locations.
 fn map_line(text: &[u8], cursor: Cursor, into: &mut [u32]) -> LinesRead
     requires { ⌜ Reading (now text) cursor ⌝ }
-    ensures { λ r. ⌜ MapAnswer (now (text .entry)) (now (into .exit)) (next splitSheet (cellLine (length (now (into .entry)))) (placeAt (now (text .entry)) cursor)) r ⌝ }
+    ensures { λ r. ⌜ MapAnswer (now (text .entry)) (now (into .exit)) (readLine splitSheet (cellLine (length (now (into .entry)))) (placeAt (now (text .entry)) cursor)) r ⌝ }
 {
     if cursor.at_end(text) {
         return LinesRead::Refused(Refusal::SplitLines(cursor.line));

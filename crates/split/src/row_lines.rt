@@ -23,7 +23,7 @@ use workspace::WORDS;
 ghost use mathlib.Core.Path.{_≡_};
 ghost use Prim.Native.Nat.{_+_, _<_, _≤_};
 ghost use lib.ListN.{length, set};
-ghost use Rattle.spec.specs.Reading.{splitSheet, next};
+ghost use Rattle.spec.specs.Reading.{splitSheet, readLine};
 ghost use Rattle.spec.specs.Split.{takesStart, mayBeEmpty};
 ghost use Rattle.lexer.specs.Cursors.{placeAt};
 ghost use Rattle.workspace.specs.Holds.{startNumber};
@@ -128,7 +128,7 @@ fn row_of(line: u32, row: Row, word: Word, header: Header, next: Cursor) -> RowR
 // The line `t,m,s` at a cursor, of a step with this word.
 fn row_line(text: &[u8], cursor: Cursor, purpose: Purpose, word: Word, header: Header) -> RowRead
     requires { ⌜ Reading (now text) cursor × Small header ⌝ }
-    ensures { λ r. ⌜ RowAnswer (now (text .entry)) (next splitSheet (wordLine purpose (headerTold header) word) (placeAt (now (text .entry)) cursor)) r ⌝ }
+    ensures { λ r. ⌜ RowAnswer (now (text .entry)) (readLine splitSheet (wordLine purpose (headerTold header) word) (placeAt (now (text .entry)) cursor)) r ⌝ }
 {
     if cursor.at_end(text) {
         return RowRead::Refused(Refusal::SplitLines(cursor.line));

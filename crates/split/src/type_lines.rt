@@ -19,7 +19,7 @@ ghost use mathlib.Core.Path.{_≡_};
 ghost use mathlib.Core.List.{[], _∷_};
 ghost use Prim.Native.Nat.{_+_, _<_};
 ghost use lib.ListN.{length, set};
-ghost use Rattle.spec.specs.Reading.{splitSheet, below, allInRange, next};
+ghost use Rattle.spec.specs.Reading.{splitSheet, below, allInRange, readLine};
 ghost use Rattle.spec.specs.Split.{typeLine};
 ghost use Rattle.lexer.specs.Cursors.{placeAt};
 ghost use Rattle.workspace.specs.Layout.{kindOf, firstOf, secondOf};
@@ -112,7 +112,7 @@ fn type_of(kind: TypeWord, first: u32, second: u32, own: usize, header: Header) 
 // The line of the type with the number `own`, at a cursor.
 fn type_line(text: &[u8], cursor: Cursor, own: usize, header: Header) -> TypeRead
     requires { ⌜ Reading (now text) cursor × Small header × (own < 64) ⌝ }
-    ensures { λ r. ⌜ TypeAnswer (now (text .entry)) (next splitSheet (typeLine (headerTold header) own) (placeAt (now (text .entry)) cursor)) r ⌝ }
+    ensures { λ r. ⌜ TypeAnswer (now (text .entry)) (readLine splitSheet (typeLine (headerTold header) own) (placeAt (now (text .entry)) cursor)) r ⌝ }
 {
     if cursor.at_end(text) {
         return TypeRead::Refused(Refusal::SplitLines(cursor.line));

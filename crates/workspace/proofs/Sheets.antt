@@ -39,7 +39,7 @@ module _ {w : List ℕ} {steps denominator locations start : ℕ} {P : Program} 
   pub header-start-stands : Stands w S (record { 0 = start }) (startMap S)
   unfolding startMap
   header-start-stands =
-      rw (map-number (H .startGiven)) (map-stands w S (P .steps) (H .split) (H .inRange) (S .header .start) (H .inRange .start))
+      rw (map-number (H .startGiven)) (map-stands w S (P .steps) (H .split) (H .inRange) (S .header .rootStart) (H .inRange .start))
 
 -- ------------------------------------------------------------------ the sheets stay
 

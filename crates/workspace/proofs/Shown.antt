@@ -9,7 +9,7 @@ use lib.ListN.{length, getD, replicate, length-replicate, getD-replicate}
 use Rattle.spec.specs.Expression.{Step, Expr}
 use Rattle.spec.specs.Split.{Map, Row, Split}
 use Rattle.spec.specs.Maps.{share}
-use Rattle.spec.specs.Conditions.{typeAt, mapAt, lineOf, row, post, start, startIn, place, load, inLoad, outLoad, readLoad, writeLoad}
+use Rattle.spec.specs.Conditions.{typeAt, mapAt, lineOf, row, post, bodyStart, startIn, refLocation, load, inLoad, outLoad, readLoad, writeLoad}
 use Rattle.spec.specs.Ranges.{InRange}
 use Rattle.spec.specs.declared.Location.{Location}
 use Rattle.spec.specs.declared.MapNumber.{MapNumber}
@@ -81,11 +81,11 @@ module _ (w : List ℕ) (S : Split) (steps : List Step) (H : HoldsSplit w S) (R 
 
   -- p of a ref type is a location, K of a tid or sem type a map, in and out of a lock type maps, r and w of a rwlock type maps; where they
   -- are not asked for they are the first
-  pub place-in : (t : TypeNumber) → t .0 < length (S .types) → place (typeAt S t) .0 < S .header .locations
-  unfolding typeAt place
+  pub place-in : (t : TypeNumber) → t .0 < length (S .types) → refLocation (typeAt S t) .0 < S .header .locations
+  unfolding typeAt refLocation
   place-in t h = of-line (getD (S .types) (t .0) Int) refl
     where
-      of-line : (x : TypeLine) → getD (S .types) (t .0) Int ≡ x → place x .0 < S .header .locations
+      of-line : (x : TypeLine) → getD (S .types) (t .0) Int ≡ x → refLocation x .0 < S .header .locations
       of-line Int e = R .locations .0
       of-line (Ref p c) e = R .refPlace (t .0) p c h e .0
       of-line (Lock i o) e = R .locations .0
@@ -216,6 +216,6 @@ module _ (w : List ℕ) (S : Split) (steps : List Step) (H : HoldsSplit w S) (R 
     row-start = column w startsAt (λ (r : Row). startNumber (r .start)) (S .rows) noRow i (H .starts) h
         ∙ ap (λ (r : Row). startNumber (r .start)) row-at
 
-    pub start-at : Stands w S (record { 0 = getD w (startsAt + i) 0 }) (start S e)
-    unfolding start
+    pub start-at : Stands w S (record { 0 = getD w (startsAt + i) 0 }) (bodyStart S e)
+    unfolding bodyStart
     start-at = rw (map-number row-start) (start-stands _ (λ m q. R .rowStart i noRow m h (ap (λ (r : Row). r .start) row-at ∙ q)))

@@ -18,7 +18,7 @@ headerTold h = record {
   locations = h .locations;
   types = h .types;
   maps = h .maps;
-  start = h .start;
+  rootStart = h .start;
 }
 
 -- the work space w holds the program P of a well-formed sheet and a split S for its steps whose numbers are in range, with
@@ -32,4 +32,4 @@ pub record HoldsSheets (w : List ℕ) (steps denominator locations start : ℕ) 
   pub stepsCounted : steps ≡ length (P .steps)
   pub denominatorGiven : denominator ≡ S .header .denominator
   pub locationsGiven : locations ≡ S .header .locations
-  pub startGiven : start ≡ S .header .start .0
+  pub startGiven : start ≡ S .header .rootStart .0

@@ -32,14 +32,14 @@ use Rattle.writer.proofs.Spelling.{choice-right}
 
 -- ------------------------------------------------------------------ the header
 
-headed-starts : (o : Option Heading) (fs : List Field) (H : Header) → headed o fs ≡ right H → RootStarts (H .heading) (H .start)
+headed-starts : (o : Option Heading) (fs : List Field) (H : Header) → headed o fs ≡ right H → RootStarts (H .heading) (H .rootStart)
 unfolding headed headerOf startOf RootStarts
 headed-starts none fs H h = wrong-is-not-right h
-headed-starts (some C) fs H h = let (ns, n, e) = seen-right _ h in along (λ G. RootStarts (G .heading) (G .start)) e refl
-headed-starts (some C2) fs H h = let (ns, n, e) = seen-right _ h in along (λ G. RootStarts (G .heading) (G .start)) e tt
-headed-starts (some C3) fs H h = let (ns, n, e) = seen-right _ h in along (λ G. RootStarts (G .heading) (G .start)) e tt
+headed-starts (some C) fs H h = let (ns, n, e) = seen-right _ h in along (λ G. RootStarts (G .heading) (G .rootStart)) e refl
+headed-starts (some C2) fs H h = let (ns, n, e) = seen-right _ h in along (λ G. RootStarts (G .heading) (G .rootStart)) e tt
+headed-starts (some C3) fs H h = let (ns, n, e) = seen-right _ h in along (λ G. RootStarts (G .heading) (G .rootStart)) e tt
 
-header-starts : (purpose : Purpose) (fs : List Field) (H : Header) → headerLine purpose fs ≡ right H → RootStarts (H .heading) (H .start)
+header-starts : (purpose : Purpose) (fs : List Field) (H : Header) → headerLine purpose fs ≡ right H → RootStarts (H .heading) (H .rootStart)
 unfolding headerLine
 header-starts purpose [] H h = wrong-is-not-right h
 header-starts purpose (f ∷ fs) H h = headed-starts (lookUp (headings purpose) f) fs H h

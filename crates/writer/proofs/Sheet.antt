@@ -44,8 +44,8 @@ header-plain H = by-heading (H .heading)
   where
     by-heading : (h : Heading) → PlainLine (headingName h ∷ map decimal (headerNumbers h H))
     by-heading C = plain-word (H .denominator) (H .locations ∷ H .types ∷ H .maps ∷ []) (plain.more refl refl plain.none)
-    by-heading C2 = plain-word (H .denominator) (H .locations ∷ H .types ∷ H .maps ∷ H .start .0 ∷ []) (plain.more refl refl (plain.more refl refl plain.none))
-    by-heading C3 = plain-word (H .denominator) (H .locations ∷ H .types ∷ H .maps ∷ H .start .0 ∷ []) (plain.more refl refl (plain.more refl refl plain.none))
+    by-heading C2 = plain-word (H .denominator) (H .locations ∷ H .types ∷ H .maps ∷ H .rootStart .0 ∷ []) (plain.more refl refl (plain.more refl refl plain.none))
+    by-heading C3 = plain-word (H .denominator) (H .locations ∷ H .types ∷ H .maps ∷ H .rootStart .0 ∷ []) (plain.more refl refl (plain.more refl refl plain.none))
 
 word-3 : {a b c : ℕ} → eqb a 44 ≡ false → eqb a 10 ≡ false → eqb b 44 ≡ false → eqb b 10 ≡ false → eqb c 44 ≡ false → eqb c 10 ≡ false
     → Plain (a ∷ b ∷ c ∷ [])
@@ -145,10 +145,10 @@ module _ {steps : List Step} {S : Split} (W : Writable steps S) where
         locations = H .locations;
         types = H .types;
         maps = H .maps;
-        start = H .start;
+        rootStart = H .rootStart;
       }
 
-      by-heading : (h : Heading) → H .heading ≡ h → RootStarts h (H .start) → headerLine Check (headingName h ∷ map decimal (headerNumbers h H)) ≡ right H
+      by-heading : (h : Heading) → H .heading ≡ h → RootStarts h (H .rootStart) → headerLine Check (headingName h ∷ map decimal (headerNumbers h H)) ≡ right H
       by-heading C e z =
           rw (numbers-back (within-to (R .denominator) (omega arith) (within-to (R .locations) (omega arith)
           (within-to (R .typesFew) (omega arith) (within-to (R .mapsFew) (omega arith) empty)))))
@@ -158,7 +158,7 @@ module _ {steps : List Step} {S : Split} (W : Writable steps S) where
             locations = H .locations;
             types = H .types;
             maps = H .maps;
-            start = record { 0 = sym z i };
+            rootStart = record { 0 = sym z i };
           }))
       by-heading C2 e z = rw (numerals-back named, numbers-back named) (λ i. right (headed-by (sym e i)))
       by-heading C3 e z = rw (numerals-back named, numbers-back named) (λ i. right (headed-by (sym e i)))

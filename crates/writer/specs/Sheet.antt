@@ -21,8 +21,8 @@ headingName C3 = bytes "C3"
 
 unfoldable pub headerNumbers : Heading → Header → List ℕ
 headerNumbers C H = H .denominator ∷ H .locations ∷ H .types ∷ H .maps ∷ []
-headerNumbers C2 H = H .denominator ∷ H .locations ∷ H .types ∷ H .maps ∷ H .start .0 ∷ []
-headerNumbers C3 H = H .denominator ∷ H .locations ∷ H .types ∷ H .maps ∷ H .start .0 ∷ []
+headerNumbers C2 H = H .denominator ∷ H .locations ∷ H .types ∷ H .maps ∷ H .rootStart .0 ∷ []
+headerNumbers C3 H = H .denominator ∷ H .locations ∷ H .types ∷ H .maps ∷ H .rootStart .0 ∷ []
 
 unfoldable pub headerFields : Header → List Field
 headerFields H = headingName (H .heading) ∷ map decimal (headerNumbers (H .heading) H)

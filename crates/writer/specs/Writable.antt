@@ -36,7 +36,7 @@ RowStarts h w (some m) = takesStart w ≡ true
 -- a split that can be written for the steps of a program
 pub record Writable (steps : List Step) (S : Split) : Type 0 where
   pub inRange : InRange steps S
-  pub rootStart : RootStarts (S .header .heading) (S .header .start)
+  pub rootStart : RootStarts (S .header .heading) (S .header .rootStart)
   pub lockShows : (t : ℕ) (i o : MapNumber) → t < length (S .types) → getD (S .types) t type-line.Int ≡ type-line.Lock i o
       → LockShows (S .header .heading) i o
   pub numbersSmall : (m : ℕ) → AtMost 1000000000 (getD (S .maps) m [])

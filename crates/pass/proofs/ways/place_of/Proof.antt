@@ -1,11 +1,11 @@
 -- A row for each kind of type.
-use Rattle.spec.specs.Conditions.{place}
+use Rattle.spec.specs.Conditions.{refLocation}
 use borrow.Author.Needs.{needs}
 use Rattle.pass.proofs.ways.place_of.Statement.{statement}
 use Rattle.pass.proofs.ways.place_of.Tie as tie
 
 pub place-of-spec : {M : Type 1} → statement M
-unfolding place
+unfolding refLocation
 place-of-spec =
     tie.close
     (tie.spec

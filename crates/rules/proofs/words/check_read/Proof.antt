@@ -1,5 +1,5 @@
 use mathlib.Core.Path.{refl}
-use Rattle.spec.specs.Conditions.{isRef, place}
+use Rattle.spec.specs.Conditions.{isRef, refLocation}
 use Rattle.rules.proofs.Judged.{last, next, pass, fail}
 use Rattle.rules.proofs.TypeKinds.{not-ref}
 use Rattle.rules.specs.Table.{containsIn}
@@ -11,7 +11,7 @@ returns : tie.Need-returns
 returns c = fail _ _ _ _ (not-ref _ (c .before .match .keys2)) (c .type-false .ensures)
 
 returns-2 : tie.Need-returns-2
-unfolding isRef place containsIn
+unfolding isRef refLocation containsIn
 returns-2 c =
     rw (c .before .before .before .before .before .before .kind1 .given .1)
     (pass _ _ _ _ refl

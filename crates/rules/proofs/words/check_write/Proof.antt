@@ -1,5 +1,5 @@
 use mathlib.Core.Path.{refl, ap}
-use Rattle.spec.specs.Conditions.{isInt, isRef, place}
+use Rattle.spec.specs.Conditions.{isInt, isRef, refLocation}
 use Rattle.rules.proofs.Judged.{last, next, pass, fail}
 use Rattle.rules.proofs.TypeKinds.{not-int, not-ref}
 use Rattle.rules.specs.Table.{containsIn}
@@ -17,7 +17,7 @@ returns-2 c =
     (fail _ _ _ _ (not-ref _ (c .before .match2 .keys2)) (c .type-false2 .ensures))
 
 returns-3 : tie.Need-returns-3
-unfolding isInt isRef place containsIn
+unfolding isInt isRef refLocation containsIn
 returns-3 c =
     rw (
       c .before .before .before .before .before .before .before .before .enum-told .given .1,

@@ -4,7 +4,7 @@ use mathlib.Core.Path.{subst}
 use Prim.Native.Nat.{_+_, _-_, _*_}
 use native.Mathlib.Omega.{arith}
 use lib.ListN.{length, take, drop}
-use Rattle.spec.specs.Reading.{splitSheet, next}
+use Rattle.spec.specs.Reading.{splitSheet, readLine}
 use Rattle.lexer.specs.Cursors.{placeAt}
 use Rattle.workspace.specs.Sheets.{headerTold}
 use Rattle.split.specs.Lines.{cellLine}
@@ -84,7 +84,7 @@ returns c =
     let turn = inside .before in
     let entry = turn .before .before .before in
     let first = 4096 + 16 * turn .loop .m in
-    let out = next splitSheet (cellLine (length (take (first + (entry .args .header .locations) - first) (drop first (turn .loop .work))))) (placeAt (entry .args .text .now) (turn .loop .cursor)) in
+    let out = readLine splitSheet (cellLine (length (take (first + (entry .args .header .locations) - first) (drop first (turn .loop .work))))) (placeAt (entry .args .text .now) (turn .loop .cursor)) in
     let answer = subst (MapAnswer (entry .args .text .now) (map-line .map-line .last .1 .1 .0) out) (found2 .found2 .given .1) (map-line .map-line .ensures) in
     map-stop (entry .args .header .locations) (entry .args .header .maps) (entry .pre .1 .locations) (entry .pre .1 .maps) (entry .args .text .now) (entry .args .work .now) (entry .args .from) (entry .pre .2) (turn .loop .work) (turn .loop .cursor) (turn .loop .m) (turn .loop .inv) (inside .loop-test .taken) (map-line .map-line .last .1 .1 .0) (map-line .map-line .kept .1 .1 .0) _ (maps-numbered (headerTold (entry .args .header)) 0 (entry .args .header .maps)) _ answer
 
@@ -102,7 +102,7 @@ loop-again c =
     let turn = inside .before in
     let entry = turn .before .before .before in
     let first = 4096 + 16 * turn .loop .m in
-    let out = next splitSheet (cellLine (length (take (first + (entry .args .header .locations) - first) (drop first (turn .loop .work))))) (placeAt (entry .args .text .now) (turn .loop .cursor)) in
+    let out = readLine splitSheet (cellLine (length (take (first + (entry .args .header .locations) - first) (drop first (turn .loop .work))))) (placeAt (entry .args .text .now) (turn .loop .cursor)) in
     let answer = subst (MapAnswer (entry .args .text .now) (map-line .map-line .last .1 .1 .0) out) (found .found .given .1) (map-line .map-line .ensures) in
     map-turn (entry .args .header .locations) (entry .args .header .maps) (entry .pre .1 .locations) (entry .pre .1 .maps) (entry .args .text .now) (entry .args .work .now) (entry .args .from) (entry .pre .2) (turn .loop .work) (turn .loop .cursor) (turn .loop .m) (turn .loop .inv) (inside .loop-test .taken) (map-line .map-line .last .1 .1 .0) (map-line .map-line .kept .1 .1 .0) _ (answer .0) (answer .1)
 

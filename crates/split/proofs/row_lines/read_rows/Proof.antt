@@ -3,7 +3,7 @@ use borrow.Author.Needs.{needs}
 use mathlib.Core.Path.{subst, _∙_}
 use Prim.Native.Nat.{_-_}
 use native.Mathlib.Omega.{arith}
-use Rattle.spec.specs.Reading.{splitSheet, next}
+use Rattle.spec.specs.Reading.{splitSheet, readLine}
 use Rattle.spec.specs.Split.{Row}
 use Rattle.lexer.specs.Cursors.{placeAt}
 use Rattle.workspace.specs.Holds.{startNumber}
@@ -72,7 +72,7 @@ returns c =
     let inside = word-of .before .before in
     let turn = inside .before in
     let entry = turn .before .before .before in
-    let out = next splitSheet (wordLine (entry .args .purpose) (headerTold (entry .args .header)) (word-of .word-of .result)) (placeAt (entry .args .text .now) (turn .loop .cursor)) in
+    let out = readLine splitSheet (wordLine (entry .args .purpose) (headerTold (entry .args .header)) (word-of .word-of .result)) (placeAt (entry .args .text .now) (turn .loop .cursor)) in
     let answer = subst (RowAnswer (entry .args .text .now) out) (found2 .found2 .given .1) (row-line .row-line .ensures) in
     let same = row-here (entry .args .purpose) (headerTold (entry .args .header)) (entry .args .text .now) (turn .loop .cursor) (entry .args .work .now) (turn .loop .work) (turn .loop .k) _ (word-of .word-of .ensures) (omega (arith, inside .loop-test .taken, entry .pre .2)) (turn .loop .inv .changed) in
     turns-stop (λ i. wordLine (entry .args .purpose) (headerTold (entry .args .header)) (stepAt (entry .args .work .now) i .word)) HoldsRows 1024 1792 (entry .args .steps) (entry .args .text .now) (entry .args .work .now) (entry .args .from) (turn .loop .work) (turn .loop .cursor) (turn .loop .k) (turn .loop .inv) _ (rows-numbered (entry .args .purpose) (headerTold (entry .args .header)) (entry .args .work .now) 0 (entry .args .steps)) (inside .loop-test .taken) _ (same ∙ answer)
@@ -93,7 +93,7 @@ loop-again c =
     let inside = word-of .before .before in
     let turn = inside .before in
     let entry = turn .before .before .before in
-    let out = next splitSheet (wordLine (entry .args .purpose) (headerTold (entry .args .header)) (word-of .word-of .result)) (placeAt (entry .args .text .now) (turn .loop .cursor)) in
+    let out = readLine splitSheet (wordLine (entry .args .purpose) (headerTold (entry .args .header)) (word-of .word-of .result)) (placeAt (entry .args .text .now) (turn .loop .cursor)) in
     let answer = subst (RowAnswer (entry .args .text .now) out) (found .found .given .1) (row-line .row-line .ensures) in
     let same = row-here (entry .args .purpose) (headerTold (entry .args .header)) (entry .args .text .now) (turn .loop .cursor) (entry .args .work .now) (turn .loop .work) (turn .loop .k) _ (word-of .word-of .ensures) (omega (arith, inside .loop-test .taken, entry .pre .2)) (turn .loop .inv .changed) in
     columns-turn (λ (r : Row). r .type .0) (λ (r : Row). r .post .0) (λ (r : Row). startNumber (r .start)) 1024 256 (entry .args .steps) (λ i. wordLine (entry .args .purpose) (headerTold (entry .args .header)) (stepAt (entry .args .work .now) i .word)) (entry .args .text .now) (entry .args .work .now) (entry .args .from) (entry .pre .2) (omega arith) (turn .loop .work) (turn .loop .cursor) (turn .loop .k) (turn .loop .inv) (inside .loop-test .taken) _ (rowTold _) _ (same ∙ answer .0) (answer .1) (store-row .store-row .ensures)

@@ -3,7 +3,7 @@ use borrow.Author.Needs.{needs}
 use mathlib.Core.Path.{subst, _∙_}
 use Prim.Native.Nat.{_-_}
 use native.Mathlib.Omega.{arith}
-use Rattle.spec.specs.Reading.{splitSheet, next}
+use Rattle.spec.specs.Reading.{splitSheet, readLine}
 use Rattle.spec.specs.Split.{typeLine}
 use Rattle.lexer.specs.Cursors.{placeAt}
 use Rattle.workspace.specs.Layout.{kindOf, firstOf, secondOf}
@@ -58,7 +58,7 @@ returns c =
     let inside = type-line .before in
     let turn = inside .before in
     let entry = turn .before .before .before in
-    let out = next splitSheet (typeLine (headerTold (entry .args .header)) (turn .loop .own)) (placeAt (entry .args .text .now) (turn .loop .cursor)) in
+    let out = readLine splitSheet (typeLine (headerTold (entry .args .header)) (turn .loop .own)) (placeAt (entry .args .text .now) (turn .loop .cursor)) in
     let answer = subst (TypeAnswer (entry .args .text .now) out) (found2 .found2 .given .1) (type-line .type-line .ensures) in
     turns-stop (typeLine (headerTold (entry .args .header))) HoldsTypes 2048 2240 (entry .args .header .types) (entry .args .text .now) (entry .args .work .now) (entry .args .from) (turn .loop .work) (turn .loop .cursor) (turn .loop .own) (turn .loop .inv) _ (types-numbered (headerTold (entry .args .header)) 0 (entry .args .header .types)) (inside .loop-test .taken) _ answer
 
@@ -76,7 +76,7 @@ loop-again c =
     let inside = type-line .before in
     let turn = inside .before in
     let entry = turn .before .before .before in
-    let out = next splitSheet (typeLine (headerTold (entry .args .header)) (turn .loop .own)) (placeAt (entry .args .text .now) (turn .loop .cursor)) in
+    let out = readLine splitSheet (typeLine (headerTold (entry .args .header)) (turn .loop .own)) (placeAt (entry .args .text .now) (turn .loop .cursor)) in
     let answer = subst (TypeAnswer (entry .args .text .now) out) (found .found .given .1) (type-line .type-line .ensures) in
     columns-turn kindOf firstOf secondOf 2048 64 (entry .args .header .types) (typeLine (headerTold (entry .args .header))) (entry .args .text .now) (entry .args .work .now) (entry .args .from) (entry .pre .1 .types) (omega arith) (turn .loop .work) (turn .loop .cursor) (turn .loop .own) (turn .loop .inv) (inside .loop-test .taken) _ _ _ (answer .0) (answer .1) (store-type .store-type .ensures)
 
