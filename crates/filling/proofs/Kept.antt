@@ -1,17 +1,17 @@
 -- What filling keeps of a split, and what it changes: the posts alone. Types, loads and starts show given maps, so the maps behind
 -- them are not looked at.
-use mathlib.Core.Path.{_≡_, refl, ap, sym, _∙_}
+use mathlib.Core.Path.{_≡_, refl, ap, _∙_}
 use mathlib.Core.Bool.{Bool, _&&_}
 use mathlib.Core.List.{List, [], _∷_, _++_}
 use mathlib.Core.Option.{Option, none, some}
 use Prim.Native.Nat.{ℕ, zero, suc, _+_, _<_}
 use native.Mathlib.Omega.{arith}
 use native.Mathlib.Decide.{decLt}
-use lib.ListN.{length, getD, length-replicate, List·getD-append, List·getD-eq-default}
+use lib.ListN.{length, getD, List·getD-append, List·getD-eq-default}
 use lib.Seq.{getD-append-add}
 use Rattle.spec.specs.Choice.{if_then_else_}
 use Rattle.spec.specs.Expression.{Step, Expr, indexOf}
-use Rattle.spec.specs.Split.{Map, Row, Split, typeAt, mapAt}
+use Rattle.spec.specs.Split.{Map, Row, noRow, Split, typeAt, mapAt}
 use Rattle.spec.specs.Agreement.{Tree, plain, int, lock, tid, sem, rwlock, treeOf, trees, tree, sameTree, agree}
 use Rattle.spec.specs.Conditions.{isLock, refLocation, load, inLoad, outLoad, readLoad, writeLoad, row, type, kind, post, startIn, bodyStart, K, inMap, outMap, readMap, writeMap, startMap, contains, looserLock, mayShow}
 use Rattle.spec.specs.Verdict.{takesEnough, allTakeEnough, locksTakeEnough}
@@ -20,7 +20,7 @@ use Rattle.spec.specs.declared.TypeNumber.{TypeNumber}
 use Rattle.spec.specs.declared.MapNumber.{MapNumber}
 use Rattle.spec.specs.declared.TypeLine.{TypeLine}
 use Rattle.spec.specs.declared.TypeLine.the-variants.{Int, Ref, Lock, Tid, Sem, Rwlock}
-use Rattle.spec.proofs.Clashes.{none-is-not-some}
+use Rattle.spec.proofs.Wide.{map-wide, start-fits}
 use Rattle.filling.specs.Filled.{withPosts, filled}
 
 -- ------------------------------------------------------------------ rows
@@ -38,10 +38,6 @@ unfolding withPosts
 rows-post m [] i d l = absurd (omega arith)
 rows-post m (r ∷ rs) zero d l = omega arith
 rows-post m (r ∷ rs) (suc i) d l = rows-post (m + 1) rs i d (omega arith) ∙ omega arith
-
--- the row of a step that is not there
-abbrev pub absent : Row
-absent = record { type = record { 0 = 0 }; post = record { 0 = 0 }; start = none }
 
 module _ (S : Split) (σ : List Map) where
   pub type-kept : (e : Expr) → type (filled S σ) e ≡ type S e
@@ -148,59 +144,35 @@ module _ {steps : List Step} {S : Split} (R : InRange steps S) where
       fits t l (Sem k) e = some-location
       fits t l (Rwlock r w) e = some-location
 
-  start-fits : (e : Expr) (m : MapNumber) → row S e .start ≡ some m → m .0 < length (S .maps)
-  unfolding row
-  start-fits e m h = go (decLt (indexOf e) (length (S .rows)))
-    where
-      go : Dec (indexOf e < length (S .rows)) → m .0 < length (S .maps)
-      go (yes q) = R .rowStart _ absent m q h
-      go (no q) =
-          let none-there = List·getD-eq-default (S .rows) absent {n = indexOf e} (omega (arith, q)) in
-          none-is-not-some (sym (ap (λ (r : Row). r .start) none-there) ∙ h)
-
   pub place-within : (e : Expr) → refLocation (kind S e) .0 < S .header .locations
   unfolding kind
   place-within e = place-fits (type S e)
 
   -- ------------------------------------------------------------------ each map has a number for each location
 
-  pub map-wide : (m : MapNumber) → m .0 < length (S .maps) → length (mapAt S m) ≡ S .header .locations
-  unfolding mapAt
-  map-wide m l = R .mapWide (m .0) l
-
-  start-in-wide : (o : Option MapNumber) → ((m : MapNumber) → o ≡ some m → m .0 < length (S .maps))
-      → length (startIn S o) ≡ S .header .locations
-  unfolding startIn
-  start-in-wide none h = length-replicate (S .header .locations) 0
-  start-in-wide (some m) h = map-wide m (h m refl)
-
-  pub start-wide : (e : Expr) → length (bodyStart S e) ≡ S .header .locations
-  unfolding bodyStart
-  start-wide e = start-in-wide (row S e .start) (start-fits e)
-
   pub K-wide : (e : Expr) → length (K S e) ≡ S .header .locations
   unfolding K kind
-  K-wide e = map-wide _ (load-fits _ (maps-fit (type S e)))
+  K-wide e = map-wide R _ (load-fits _ (maps-fit (type S e)))
 
   pub in-wide : (e : Expr) → length (inMap S e) ≡ S .header .locations
   unfolding inMap kind
-  in-wide e = map-wide _ (in-fits _ (maps-fit (type S e)))
+  in-wide e = map-wide R _ (in-fits _ (maps-fit (type S e)))
 
   pub out-wide : (e : Expr) → length (outMap S e) ≡ S .header .locations
   unfolding outMap kind
-  out-wide e = map-wide _ (out-fits _ (maps-fit (type S e)))
+  out-wide e = map-wide R _ (out-fits _ (maps-fit (type S e)))
 
   pub read-wide : (e : Expr) → length (readMap S e) ≡ S .header .locations
   unfolding readMap kind
-  read-wide e = map-wide _ (read-fits _ (maps-fit (type S e)))
+  read-wide e = map-wide R _ (read-fits _ (maps-fit (type S e)))
 
   pub write-wide : (e : Expr) → length (writeMap S e) ≡ S .header .locations
   unfolding writeMap kind
-  write-wide e = map-wide _ (write-fits _ (maps-fit (type S e)))
+  write-wide e = map-wide R _ (write-fits _ (maps-fit (type S e)))
 
   pub start-map-wide : length (startMap S) ≡ S .header .locations
   unfolding startMap
-  start-map-wide = map-wide _ (R .start)
+  start-map-wide = map-wide R _ (R .start)
 
   -- ------------------------------------------------------------------ given maps are kept
 
@@ -221,7 +193,7 @@ module _ {steps : List Step} {S : Split} (R : InRange steps S) where
     pub start-kept : (e : Expr) → bodyStart (filled S σ) e ≡ bodyStart S e
     unfolding bodyStart row filled
     start-kept e =
-        ap (startIn (filled S σ)) (rows-kept _ (S .rows) (indexOf e) _ .1) ∙ start-in-kept (row S e .start) (start-fits e)
+        ap (startIn (filled S σ)) (rows-kept _ (S .rows) (indexOf e) _ .1) ∙ start-in-kept (row S e .start) (start-fits R e)
 
     pub K-kept : (e : Expr) → K (filled S σ) e ≡ K S e
     unfolding K kind
@@ -247,8 +219,8 @@ module _ {steps : List Step} {S : Split} (R : InRange steps S) where
     pub post-new : (e : Expr) (i : ℕ) → indexOf e ≡ i → i < length (S .rows) → post (filled S σ) e ≡ getD σ i []
     unfolding post mapAt row filled
     post-new e i index l =
-        let shown : getD (withPosts (S .header .maps) (S .rows)) (indexOf e) absent .post .0 ≡ length (S .maps) + i =
-        rw index (rows-post (S .header .maps) (S .rows) i absent l ∙ omega (arith, R .mapsCounted)) in
+        let shown : getD (withPosts (S .header .maps) (S .rows)) (indexOf e) noRow .post .0 ≡ length (S .maps) + i =
+        rw index (rows-post (S .header .maps) (S .rows) i noRow l ∙ omega (arith, R .mapsCounted)) in
         rw shown (getD-append-add (S .maps) σ i [])
 
     -- ------------------------------------------------------------------ agreement

@@ -6,7 +6,7 @@ use native.Mathlib.Omega.{arith}
 use lib.ListN.{length, getD}
 use Rattle.spec.specs.Expression.{Step, Position, Expr, leaf, unary, binary, size, indexOf}
 use Rattle.spec.specs.WellFormed.{IndexesFrom}
-use Rattle.spec.specs.Split.{Map, Row, Split, mapAt}
+use Rattle.spec.specs.Split.{Map, Row, noRow, Split, mapAt}
 use Rattle.spec.specs.Conditions.{refLocation, row, kind, post, bodyStart, K, inMap, outMap, readMap, writeMap, startMap}
 use Rattle.spec.specs.Ranges.{InRange}
 use Rattle.spec.specs.declared.Location.{Location}
@@ -15,12 +15,13 @@ use Rattle.spec.specs.declared.UnaryWord.{UnaryWord}
 use Rattle.spec.specs.declared.UnaryWord.the-variants.{While, Join, Ref, Read, Lock, Unlock, Post, Wait, Rdlock, Rdunlock, Wrlock, Wrunlock}
 use Rattle.spec.specs.declared.BinaryWord.{BinaryWord}
 use Rattle.spec.specs.declared.BinaryWord.the-variants.{Let, If, Spawn, Write}
+use Rattle.spec.proofs.Wide.{map-wide, start-wide}
 use Rattle.spec.proofs.Listing.{size-positive}
 use Rattle.filling.specs.Filled.{filled}
 use Rattle.filling.specs.AfterMaps.{shownMaps}
 use Rattle.filling.specs.Flow.{steps}
 use Rattle.filling.specs.FlowOf.{flowOf}
-use Rattle.filling.proofs.Kept.{absent, kind-kept, place-within, map-wide, start-wide, K-wide, in-wide, out-wide, read-wide, write-wide, start-map-wide, start-map-kept, start-kept, K-kept, in-kept, out-kept, read-kept, write-kept, post-new}
+use Rattle.filling.proofs.Kept.{kind-kept, place-within, K-wide, in-wide, out-wide, read-wide, write-wide, start-map-wide, start-map-kept, start-kept, K-kept, in-kept, out-kept, read-kept, write-kept, post-new}
 use Rattle.filling.proofs.Locations.{Known}
 
 -- a flow has the steps of its expression
@@ -123,11 +124,11 @@ map-at f (x ∷ xs) (suc i) d d′ l = map-at f xs i d d′ (omega arith)
 
 -- a whole sheet shows its own maps
 pub shown-map : {ss : List Step} {S : Split} → InRange ss S → (i : ℕ) → i < length (S .rows)
-    → Known (S .header .locations) (mapAt S (getD (S .rows) i absent .post)) (getD (shownMaps S) i [])
+    → Known (S .header .locations) (mapAt S (getD (S .rows) i noRow .post)) (getD (shownMaps S) i [])
 unfolding shownMaps
 shown-map {S = S} R i here =
-    rw (map-at (λ (r : Row). mapAt S (r .post)) (S .rows) i absent [] here)
-    (record { same = refl; wide = map-wide R _ (R .rowPost i absent here) })
+    rw (map-at (λ (r : Row). mapAt S (r .post)) (S .rows) i noRow [] here)
+    (record { same = refl; wide = map-wide R _ (R .rowPost i noRow here) })
 
 pub split-shows : {ss : List Step} {S : Split} → InRange ss S → Showing ss S (shownMaps S) S
 unfolding post row

@@ -1,7 +1,7 @@
 -- A split's own derivation is one of Figure 5: read each type number as the tree that it stands for, each map as the capability
 -- that it gives, and every rule of the one is the rule of that name of the other.
-use mathlib.Core.Path.{_≡_, refl, sym, ap, _∙_}
-use mathlib.Core.List.{List, [], _∷_, map}
+use mathlib.Core.Path.{sym, _∙_}
+use mathlib.Core.List.{List, map}
 use Prim.Native.Nat.{ℕ}
 use Rattle.spec.specs.Words.{role, binding}
 use Rattle.spec.specs.Expression.{Step, Expr, leaf, unary, binary}
@@ -16,11 +16,11 @@ use Rattle.spec.specs.Maps.{share}
 use Rattle.spec.specs.declared.LeafWord.the-variants.{Newlock, Newrwlock}
 use Rattle.spec.specs.declared.UnaryWord.the-variants.{Read, Unlock, Post, Rdunlock, Wrunlock}
 use Rattle.spec.specs.declared.BinaryWord.the-variants.{Spawn}
-use Rattle.calculus.specs.Capability.{_≥ᶜ_, _≈_⊕_}
+use Rattle.spec.proofs.Wide.{post-wide, start-wide}
 use Rattle.calculus.specs.Figure5.{_∣_∣_⊢_∶_∣_, VAR, INT, LET, IF, WHILE, NEWT, SPAWN, JOIN, REF, WRITE, READ, NEWL, LCK, ULCK, NEWSEM, POST, WAIT, NEWRWLOCK, RDLOCK, RDUNLOCK, WRLOCK, WRUNLOCK}
 use Rattle.soundness.specs.Erasure.{erase}
 use Rattle.soundness.proofs.Capabilities.{cap, covers-cap, sum-cap, times-cap}
-use Rattle.soundness.proofs.Types.{means, environment, agree-means, means-int, means-lock, means-tid, means-sem, means-rwlock, means-ref, shown-means, post-wide, start-wide, lock-wide, tid-wide, sem-wide, rwlock-wide, variable-typed}
+use Rattle.soundness.proofs.Types.{means, environment, agree-means, means-int, means-lock, means-tid, means-sem, means-rwlock, means-ref, shown-means, lock-wide, tid-wide, sem-wide, rwlock-wide, variable-typed}
 
 -- the variables in scope
 abbrev pub variables : conditions.Env → List ℕ
@@ -46,11 +46,11 @@ module _ {steps : List Step} (S : Split) (R : InRange steps S) (L : LocksTakeEno
       let e = binary Spawn k v e₁ e₂ in
       rw (means-int S R _ i)
       (SPAWN (rw (means-tid S R _ K t) at (split-derivation-is-figure-5 d₁ (u .1))) (split-derivation-is-figure-5 d₂ (u .2)) (covers-cap c)
-      (sum-cap (post S e) (bodyStart S e) (post-wide S R e ∙ sym (start-wide S R e)) m))
+      (sum-cap (post S e) (bodyStart S e) (post-wide R e ∙ sym (start-wide R e)) m))
   split-derivation-is-figure-5 (own.JOIN {K = K} {e₁ = e₁} d t i m) u =
       rw (means-int S R _ i)
       (JOIN (rw (means-tid S R _ K t) at (split-derivation-is-figure-5 d (u .1)))
-      (sum-cap (post S e₁) (mapAt S K) (post-wide S R e₁ ∙ sym (tid-wide S R _ K t)) (sym m)))
+      (sum-cap (post S e₁) (mapAt S K) (post-wide R e₁ ∙ sym (tid-wide S R _ K t)) (sym m)))
   split-derivation-is-figure-5 (own.REF {ρ = ρ} {c = c} {e₁ = e₁} d t a m) u =
       rw (means-ref S R _ ρ c (type S e₁) t a, m) (REF (split-derivation-is-figure-5 d (u .1)))
   split-derivation-is-figure-5 (own.WRITE {ρ = ρ} {c = c} {e₂ = e₂} d₁ t d₂ a w i m) u =
@@ -62,45 +62,45 @@ module _ {steps : List Step} (S : Split) (R : InRange steps S) (L : LocksTakeEno
   split-derivation-is-figure-5 (own.NEWL {k = k} {v = v} {Kᵢ = Kᵢ} {Kₒ = Kₒ} t m) u =
       let e = leaf Newlock k v in
       rw (means-lock S R _ Kᵢ Kₒ t)
-      (NEWL (covers-cap (L _ Kᵢ Kₒ t)) (sum-cap (post S e) (mapAt S Kₒ) (post-wide S R e ∙ sym (lock-wide S R _ Kᵢ Kₒ t .1)) m))
+      (NEWL (covers-cap (L _ Kᵢ Kₒ t)) (sum-cap (post S e) (mapAt S Kₒ) (post-wide R e ∙ sym (lock-wide S R _ Kᵢ Kₒ t .1)) m))
   split-derivation-is-figure-5 (own.LCK {Kᵢ = Kᵢ} {Kₒ = Kₒ} {e₁ = e₁} d t i m) u =
       rw (means-int S R _ i)
       (LCK (rw (means-lock S R _ Kᵢ Kₒ t) at (split-derivation-is-figure-5 d (u .1)))
-      (sum-cap (post S e₁) (mapAt S Kᵢ) (post-wide S R e₁ ∙ sym (lock-wide S R _ Kᵢ Kₒ t .0)) (sym m)))
+      (sum-cap (post S e₁) (mapAt S Kᵢ) (post-wide R e₁ ∙ sym (lock-wide S R _ Kᵢ Kₒ t .0)) (sym m)))
   split-derivation-is-figure-5 (own.ULCK {k = k} {v = v} {Kᵢ = Kᵢ} {Kₒ = Kₒ} {e₁ = e₁} d t i m) u =
       let e = unary Unlock k v e₁ in
       rw (means-int S R _ i)
       (ULCK (rw (means-lock S R _ Kᵢ Kₒ t) at (split-derivation-is-figure-5 d (u .1)))
-      (sum-cap (post S e) (mapAt S Kₒ) (post-wide S R e ∙ sym (lock-wide S R _ Kᵢ Kₒ t .1)) m))
+      (sum-cap (post S e) (mapAt S Kₒ) (post-wide R e ∙ sym (lock-wide S R _ Kᵢ Kₒ t .1)) m))
   split-derivation-is-figure-5 (own.NEWSEM {K = K} t m) u = rw (means-sem S R _ K t, m) NEWSEM
   split-derivation-is-figure-5 (own.POST {k = k} {v = v} {K = K} {e₁ = e₁} d t i m) u =
       let e = unary Post k v e₁ in
       rw (means-int S R _ i)
       (POST (rw (means-sem S R _ K t) at (split-derivation-is-figure-5 d (u .1)))
-      (sum-cap (post S e) (mapAt S K) (post-wide S R e ∙ sym (sem-wide S R _ K t)) m))
+      (sum-cap (post S e) (mapAt S K) (post-wide R e ∙ sym (sem-wide S R _ K t)) m))
   split-derivation-is-figure-5 (own.WAIT {K = K} {e₁ = e₁} d t i m) u =
       rw (means-int S R _ i)
       (WAIT (rw (means-sem S R _ K t) at (split-derivation-is-figure-5 d (u .1)))
-      (sum-cap (post S e₁) (mapAt S K) (post-wide S R e₁ ∙ sym (sem-wide S R _ K t)) (sym m)))
+      (sum-cap (post S e₁) (mapAt S K) (post-wide R e₁ ∙ sym (sem-wide S R _ K t)) (sym m)))
   split-derivation-is-figure-5 (own.NEWRWLOCK {k = k} {N = N} {Kr = Kr} {Kw = Kw} t c m) u =
       let e = leaf Newrwlock k N in
       rw (means-rwlock S R _ Kr Kw t)
-      (NEWRWLOCK (times-cap N (mapAt S Kr) c) (sum-cap (post S e) (mapAt S Kw) (post-wide S R e ∙ sym (rwlock-wide S R _ Kr Kw t .1)) m))
+      (NEWRWLOCK (times-cap N (mapAt S Kr) c) (sum-cap (post S e) (mapAt S Kw) (post-wide R e ∙ sym (rwlock-wide S R _ Kr Kw t .1)) m))
   split-derivation-is-figure-5 (own.RDLOCK {Kr = Kr} {Kw = Kw} {e₁ = e₁} d t i m) u =
       rw (means-int S R _ i)
       (RDLOCK (rw (means-rwlock S R _ Kr Kw t) at (split-derivation-is-figure-5 d (u .1)))
-      (sum-cap (post S e₁) (mapAt S Kr) (post-wide S R e₁ ∙ sym (rwlock-wide S R _ Kr Kw t .0)) (sym m)))
+      (sum-cap (post S e₁) (mapAt S Kr) (post-wide R e₁ ∙ sym (rwlock-wide S R _ Kr Kw t .0)) (sym m)))
   split-derivation-is-figure-5 (own.RDUNLOCK {k = k} {v = v} {Kr = Kr} {Kw = Kw} {e₁ = e₁} d t i m) u =
       let e = unary Rdunlock k v e₁ in
       rw (means-int S R _ i)
       (RDUNLOCK (rw (means-rwlock S R _ Kr Kw t) at (split-derivation-is-figure-5 d (u .1)))
-      (sum-cap (post S e) (mapAt S Kr) (post-wide S R e ∙ sym (rwlock-wide S R _ Kr Kw t .0)) m))
+      (sum-cap (post S e) (mapAt S Kr) (post-wide R e ∙ sym (rwlock-wide S R _ Kr Kw t .0)) m))
   split-derivation-is-figure-5 (own.WRLOCK {Kr = Kr} {Kw = Kw} {e₁ = e₁} d t i m) u =
       rw (means-int S R _ i)
       (WRLOCK (rw (means-rwlock S R _ Kr Kw t) at (split-derivation-is-figure-5 d (u .1)))
-      (sum-cap (post S e₁) (mapAt S Kw) (post-wide S R e₁ ∙ sym (rwlock-wide S R _ Kr Kw t .1)) (sym m)))
+      (sum-cap (post S e₁) (mapAt S Kw) (post-wide R e₁ ∙ sym (rwlock-wide S R _ Kr Kw t .1)) (sym m)))
   split-derivation-is-figure-5 (own.WRUNLOCK {k = k} {v = v} {Kr = Kr} {Kw = Kw} {e₁ = e₁} d t i m) u =
       let e = unary Wrunlock k v e₁ in
       rw (means-int S R _ i)
       (WRUNLOCK (rw (means-rwlock S R _ Kr Kw t) at (split-derivation-is-figure-5 d (u .1)))
-      (sum-cap (post S e) (mapAt S Kw) (post-wide S R e ∙ sym (rwlock-wide S R _ Kr Kw t .1)) m))
+      (sum-cap (post S e) (mapAt S Kw) (post-wide R e ∙ sym (rwlock-wide S R _ Kr Kw t .1)) m))

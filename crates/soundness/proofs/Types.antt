@@ -1,27 +1,26 @@
 -- The type of the calculus that a type's number stands for.
-use mathlib.Core.Path.{_≡_, refl, sym, ap, _∙_}
+use mathlib.Core.Path.{_≡_, sym, ap, _∙_}
 use mathlib.Core.List.{List, [], _∷_, map}
 use mathlib.Core.Bool.{true}
-use mathlib.Core.Option.{Option, none, some}
-use Prim.Native.Nat.{ℕ, _≤_, _<_}
+use mathlib.Core.Option.{some}
+use Prim.Native.Nat.{ℕ}
 use native.Mathlib.Omega.{arith}
-use native.Mathlib.Decide.{ℕ-discrete, decLt}
+use native.Mathlib.Decide.{ℕ-discrete}
 use lib.Dec.{eqb}
-use lib.ListN.{length, getD, List·getD-eq-default, length-replicate}
+use lib.ListN.{length, getD}
 use borrow.Author.Tests.{eq-eqb, ne-eqb}
 use Rattle.spec.specs.Choice.{if_then_else_}
-use Rattle.spec.specs.Expression.{Step, Expr, among, indexOf}
-use Rattle.spec.specs.Split.{Row, Split}
-use Rattle.spec.specs.Conditions.{typeIn, typeAt, mapAt, mayShow, row, type, post, startIn, bodyStart}
+use Rattle.spec.specs.Expression.{Step, among}
+use Rattle.spec.specs.Split.{Split}
+use Rattle.spec.specs.Conditions.{typeIn, typeAt, mapAt, mayShow}
 use Rattle.spec.specs.Conditions as conditions
 use Rattle.spec.specs.Agreement.{int, lock, tid, sem, rwlock, Tree, plain, ref, treeOf, tree, agree}
 use Rattle.spec.specs.Ranges.{InRange}
 use Rattle.spec.specs.declared.TypeNumber.{TypeNumber}
 use Rattle.spec.specs.declared.MapNumber.{MapNumber}
 use Rattle.spec.specs.declared.Location.{Location}
-use Rattle.spec.specs.declared.TypeLine.{TypeLine}
 use Rattle.spec.specs.declared.TypeLine.the-variants as type-line
-use Rattle.spec.proofs.Clashes.{none-is-not-some}
+use Rattle.spec.proofs.Wide.{map-wide}
 use Rattle.spec.proofs.Agreement.{agree-same-tree, numbered, tree-of-type}
 use Rattle.spec.proofs.Shown.{Shown, agreeing, looser, may-show-exactly}
 use Rattle.calculus.specs.Expression.{choose}
@@ -89,63 +88,29 @@ module _ {steps : List Step} (S : Split) (R : InRange steps S) where
 
   -- ------------------------------------------------------------------ every map has every location
 
-  map-wide : (m : MapNumber) → m .0 < length (S .maps) → length (mapAt S m) ≡ S .header .locations
-  unfolding mapAt
-  map-wide m h = R .mapWide (m .0) h
-
-  -- the row of an expression that has none
-  unshown : Row
-  unshown = record { type = record { 0 = 0 }; post = record { 0 = 0 }; start = none }
-
-  pub post-wide : (e : Expr) → length (post S e) ≡ S .header .locations
-  unfolding post row unshown
-  post-wide e = map-wide (row S e .post) (by-cases (decLt (indexOf e) (length (S .rows))))
-    where
-      by-cases : Dec (indexOf e < length (S .rows)) → row S e .post .0 < length (S .maps)
-      by-cases (yes l) = R .rowPost (indexOf e) _ l
-      by-cases (no l) =
-          let past : length (S .rows) ≤ indexOf e = omega arith in
-          let map-0 : row S e .post .0 ≡ 0 = ap (λ (r : Row). r .post .0) (List·getD-eq-default (S .rows) unshown past) in
-          omega (arith, map-0, R .mapsCounted, R .mapsFew .0)
-
-  -- a start that is not given has every location too
-  pub start-wide : (e : Expr) → length (bodyStart S e) ≡ S .header .locations
-  unfolding bodyStart startIn row unshown
-  start-wide e = by-cases (row S e .start) refl
-    where
-      by-cases : (o : Option MapNumber) → row S e .start ≡ o → length (startIn S o) ≡ S .header .locations
-      by-cases none given = length-replicate (S .header .locations) 0
-      by-cases (some m) given = map-wide m (in-sheet (decLt (indexOf e) (length (S .rows))))
-        where
-          in-sheet : Dec (indexOf e < length (S .rows)) → m .0 < length (S .maps)
-          in-sheet (yes l) = R .rowStart (indexOf e) _ m l given
-          in-sheet (no l) =
-              let past : length (S .rows) ≤ indexOf e = omega arith in
-              none-is-not-some (sym (ap (λ (r : Row). r .start) (List·getD-eq-default (S .rows) unshown past)) ∙ given)
-
   pub lock-wide : (t : TypeNumber) (i o : MapNumber) → typeAt S t ≡ type-line.Lock i o
       → (length (mapAt S i) ≡ S .header .locations) × (length (mapAt S o) ≡ S .header .locations)
   unfolding typeAt
   lock-wide t i o e =
       let (first, second) = R .lockLoads (t .0) i o (numbered S R t (type-line.Lock i o) e (λ z. let clash : _≡_ {A = ℕ} 0 1 = cc in omega arith)) e in
-      (map-wide i first, map-wide o second)
+      (map-wide R i first, map-wide R o second)
 
   pub tid-wide : (t : TypeNumber) (k : MapNumber) → typeAt S t ≡ type-line.Tid k → length (mapAt S k) ≡ S .header .locations
   unfolding typeAt
   tid-wide t k e =
-      map-wide k (R .tidLoad (t .0) k (numbered S R t (type-line.Tid k) e (λ z. let clash : _≡_ {A = ℕ} 0 1 = cc in omega arith)) e)
+      map-wide R k (R .tidLoad (t .0) k (numbered S R t (type-line.Tid k) e (λ z. let clash : _≡_ {A = ℕ} 0 1 = cc in omega arith)) e)
 
   pub sem-wide : (t : TypeNumber) (k : MapNumber) → typeAt S t ≡ type-line.Sem k → length (mapAt S k) ≡ S .header .locations
   unfolding typeAt
   sem-wide t k e =
-      map-wide k (R .semLoad (t .0) k (numbered S R t (type-line.Sem k) e (λ z. let clash : _≡_ {A = ℕ} 0 1 = cc in omega arith)) e)
+      map-wide R k (R .semLoad (t .0) k (numbered S R t (type-line.Sem k) e (λ z. let clash : _≡_ {A = ℕ} 0 1 = cc in omega arith)) e)
 
   pub rwlock-wide : (t : TypeNumber) (r w : MapNumber) → typeAt S t ≡ type-line.Rwlock r w
       → (length (mapAt S r) ≡ S .header .locations) × (length (mapAt S w) ≡ S .header .locations)
   unfolding typeAt
   rwlock-wide t r w e =
       let (first, second) = R .rwlockLoads (t .0) r w (numbered S R t (type-line.Rwlock r w) e (λ z. let clash : _≡_ {A = ℕ} 0 1 = cc in omega arith)) e in
-      (map-wide r first, map-wide w second)
+      (map-wide R r first, map-wide R w second)
 
   -- ------------------------------------------------------------------ variables
 

@@ -4,6 +4,7 @@ pub mod Clashes
 pub mod Tests
 pub mod Texts
 pub mod Ranges
+pub mod Wide
 pub mod Starts
 pub mod StartsBefore
 pub mod FreelockBefore

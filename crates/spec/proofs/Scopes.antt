@@ -1,17 +1,18 @@
 -- 14 and 15 are met by no step exactly when no variable is bound twice and each is used only inside its let's e2.
 -- The walk in line order carries the variables bound so far; what it asks of them comes to `Distinct` in the end.
-use mathlib.Core.Path.{_≡_, refl, ap, sym, _∙_, subst}
-use mathlib.Core.List.{List, [], _∷_, _++_}
+use mathlib.Core.Path.{_≡_, refl, sym, _∙_, subst}
+use mathlib.Core.List.{List, [], _∷_, _++_, append-assoc, append-nil}
 use mathlib.Core.Bool.{Bool, true, false, _||_}
 use mathlib.Core.Logic.{_↔_}
 use Prim.Native.Nat.{ℕ}
 use lib.Dec.{eqb}
 use Rattle.spec.specs.Choice.{if_then_else_}
-use Rattle.spec.specs.Reading.{Out, stop, on, _>>=_}
-use Rattle.spec.specs.Words.{binding}
+use Rattle.spec.specs.Reading.{Out, stop, on}
+use Rattle.spec.specs.Words.{role, binding}
 use Rattle.spec.specs.Expression.{Expr, leaf, unary, binary, among, scopeStep, scope}
 use Rattle.spec.specs.WellFormed.{binders, Distinct, StepInside, UsedInside}
 use Rattle.spec.specs.declared.Refusal.{Refusal}
+use Rattle.spec.specs.declared.Word.the-variants.{Leaf, Unary, Binary}
 use Rattle.spec.specs.declared.Role.{Role}
 use Rattle.spec.specs.declared.Role.the-variants.{Binds, Uses, Neither}
 use Rattle.spec.proofs.Clashes.{true-is-not-false}
@@ -20,26 +21,10 @@ use Rattle.spec.proofs.Outcomes.{stop-is-not-on, bind-goes-on, goes-on-
 
 -- ------------------------------------------------------------------ variables bound one after the other
 
--- those bound once the lets of vs are past, and that each let of vs binds one that is not bound yet
-unfoldable after : (vs bound : List ℕ) → List ℕ
-after [] bound = bound
-after (v ∷ vs) bound = after vs (v ∷ bound)
-
+-- each of vs is not bound yet when its let comes
 unfoldable EachNew : (vs bound : List ℕ) → Type 0
 EachNew [] bound = Unit {0}
 EachNew (v ∷ vs) bound = (among v bound ≡ false) × EachNew vs (v ∷ bound)
-
-after-append : (xs ys bound : List ℕ) → after (xs ++ ys) bound ≡ after ys (after xs bound)
-unfolding after
-after-append [] ys bound = refl
-after-append (x ∷ xs) ys bound = after-append xs ys (x ∷ bound)
-
-new-parts : (xs ys bound : List ℕ) → EachNew (xs ++ ys) bound ↔ (EachNew xs bound × EachNew ys (after xs bound))
-unfolding after EachNew
-new-parts [] ys bound = (λ h. (tt, h), λ h. h .1)
-new-parts (x ∷ xs) ys bound =
-    let r = new-parts xs ys (x ∷ bound) in
-    (λ h. (let q = r .0 (h .1) in ((h .0, q .0), q .1)), λ h. (h .0 .0, r .1 (h .0 .1, h .1)))
 
 -- ------------------------------------------------------------------ bound one after the other: distinct
 
@@ -80,10 +65,6 @@ none-among-nothing (v ∷ vs) = (refl, none-among-nothing vs)
 
 -- ------------------------------------------------------------------ the walk
 
--- what is known of an expression when the walk over it goes on: b has the variables bound by then
-abbrev Walked : Expr → (inside bound b : List ℕ) → Type 0
-Walked e inside bound b = (b ≡ after (binders e) bound) × EachNew (binders e) bound × UsedInside inside e
-
 used-goes-on : {A : Type 0} {a : A} (b : Bool) (o : Out A) (r : Refusal) → (if b then o else stop r) ≡ on a → (b ≡ true) × (o ≡ on a)
 used-goes-on true o r h = (refl, h)
 used-goes-on false o r h = stop-is-not-on h
@@ -92,91 +73,80 @@ bound-goes-on : {A : Type 0} {a : A} (b : Bool) (o : Out A) (r : Refusal) → (i
 bound-goes-on true o r h = stop-is-not-on h
 bound-goes-on false o r h = (refl, h)
 
--- a step is walked, and then, with what it has bound, those that bind vs
-step-walked : (r : Role) (k v : ℕ) (inside bound b : List ℕ) → scopeStep r k v inside bound ≡ on b
-    → StepInside inside r v
-    × ((vs : List ℕ) → (after vs b ≡ after (binding r v vs) bound) × (EachNew vs b → EachNew (binding r v vs) bound))
-unfolding scopeStep StepInside binding after EachNew
-step-walked Binds k v inside bound b h =
+binding-append : (r : Role) (v : ℕ) (xs ys : List ℕ) → binding r v xs ++ ys ≡ binding r v (xs ++ ys)
+unfolding binding
+binding-append Binds v xs ys = refl
+binding-append Uses v xs ys = refl
+binding-append Neither v xs ys = refl
+
+-- when the walk over a step goes on, and when that over an expression does: what is bound behind it, vs, is new after all that it binds
+step-walk : (r : Role) (k v : ℕ) (inside bound b : List ℕ) → scopeStep r k v inside bound ≡ on b
+    → StepInside inside r v × ((vs : List ℕ) → EachNew vs b → EachNew (binding r v vs) bound)
+unfolding scopeStep StepInside binding EachNew
+step-walk Binds k v inside bound b h =
     let (new, same) = bound-goes-on _ _ _ h in
-    let is : v ∷ bound ≡ b = on-injective same in
-    (tt, λ vs. rw (← is) (refl, λ news. (new, news)))
-step-walked Uses k v inside bound b h =
+    (tt, λ vs news. (new, subst (EachNew vs) (sym (on-injective same)) news))
+step-walk Uses k v inside bound b h =
     let (used, same) = used-goes-on _ _ _ h in
-    let is : bound ≡ b = on-injective same in
-    (used, λ vs. rw is (refl, λ news. news))
-step-walked Neither k v inside bound b h =
-    let is : bound ≡ b = on-injective h in
-    (tt, λ vs. rw is (refl, λ news. news))
+    (used, λ vs news. subst (EachNew vs) (sym (on-injective same)) news)
+step-walk Neither k v inside bound b h = (tt, λ vs news. subst (EachNew vs) (sym (on-injective h)) news)
 
--- e₂ is walked with what e₁ has bound
-parts-walked : (e₁ e₂ : Expr) (in₁ in₂ bound : List ℕ) {b : List ℕ}
-    → ((b : List ℕ) → scope e₁ in₁ bound ≡ on b → Walked e₁ in₁ bound b)
-    → ((c b : List ℕ) → scope e₂ in₂ c ≡ on b → Walked e₂ in₂ c b)
-    → (scope e₁ in₁ bound >>= λ c. scope e₂ in₂ c) ≡ on b
-    → (b ≡ after (binders e₁ ++ binders e₂) bound) × EachNew (binders e₁ ++ binders e₂) bound × UsedInside in₁ e₁ × UsedInside in₂ e₂
-parts-walked e₁ e₂ in₁ in₂ bound {b} first second h =
-    let (c, h₁, h₂) = bind-goes-on _ _ h in
-    let (c-is, new₁, used₁) = first c h₁ in
-    let (b-is, new₂, used₂) = second c b h₂ in (
-      b-is ∙ ap (after (binders e₂)) c-is ∙ sym (after-append (binders e₁) (binders e₂) bound),
-      new-parts (binders e₁) (binders e₂) bound .1 (new₁, subst (EachNew (binders e₂)) c-is new₂),
-      used₁,
-      used₂,
-    )
-
-walk : (e : Expr) (inside bound b : List ℕ) → scope e inside bound ≡ on b → Walked e inside bound b
-unfolding scope binders after EachNew UsedInside
+walk : (e : Expr) (inside bound b : List ℕ) → scope e inside bound ≡ on b
+    → UsedInside inside e × ((vs : List ℕ) → EachNew vs b → EachNew (binders e ++ vs) bound)
+unfolding scope binders UsedInside
 walk (leaf w k v) inside bound b h =
-    let (used, behind) = step-walked _ (k .line) v inside bound b h in
-    (behind [] .0, behind [] .1 tt, used)
+    let (used, new) = step-walk _ (k .line) v inside bound b h in
+    (used, λ vs news. rw (binding-append (role (Leaf w)) v [] vs) (new vs news))
 walk (unary w k v e) inside bound b h =
     let (c, h₁, h₂) = bind-goes-on _ _ h in
-    let (used, behind) = step-walked _ (k .line) v inside bound c h₁ in
-    let (b-is, news, used′) = walk e inside c b h₂ in
-    (b-is ∙ behind _ .0, behind _ .1 news, (used, used′))
+    let (used, new) = step-walk _ (k .line) v inside bound c h₁ in
+    let (used₁, new₁) = walk e inside c b h₂ in
+    ((used, used₁), λ vs news. rw (binding-append (role (Unary w)) v (binders e) vs) (new _ (new₁ vs news)))
 walk (binary w k v e₁ e₂) inside bound b h =
-    let (c, h₁, h₂) = bind-goes-on _ _ h in
-    let (used, behind) = step-walked _ (k .line) v inside bound c h₁ in
-    let (b-is, news, used₁, used₂) = parts-walked e₁ e₂ inside _ c (walk e₁ inside c) (walk e₂ _) h₂ in
-    (b-is ∙ behind _ .0, behind _ .1 news, (used, used₁, used₂))
+    let (c, h₁, h′) = bind-goes-on _ _ h in
+    let (d, h₂, h₃) = bind-goes-on _ _ h′ in
+    let (used, new) = step-walk _ (k .line) v inside bound c h₁ in
+    let (used₁, new₁) = walk e₁ inside c d h₂ in
+    let (used₂, new₂) = walk e₂ (binding (role (Binary w)) v inside) d b h₃ in (
+      (used, used₁, used₂),
+      λ vs news. rw (binding-append (role (Binary w)) v (binders e₁ ++ binders e₂) vs, append-assoc (binders e₁) (binders e₂) vs)
+          (new _ (new₁ _ (new₂ vs news))),
+    )
 
 -- and back
-parts-walk : (e₁ e₂ : Expr) (in₁ in₂ bound : List ℕ)
-    → (EachNew (binders e₁) bound → scope e₁ in₁ bound ≡ on (after (binders e₁) bound))
-    → ((c : List ℕ) → EachNew (binders e₂) c → scope e₂ in₂ c ≡ on (after (binders e₂) c))
-    → EachNew (binders e₁ ++ binders e₂) bound
-    → (scope e₁ in₁ bound >>= λ c. scope e₂ in₂ c) ≡ on (after (binders e₁ ++ binders e₂) bound)
-parts-walk e₁ e₂ in₁ in₂ bound first second new =
-    let (new₁, new₂) = new-parts (binders e₁) (binders e₂) bound .0 new in
-    goes-on-bind _ _ (first new₁) (second _ new₂ ∙ ap on (sym (after-append (binders e₁) (binders e₂) bound)))
+step-walked : (r : Role) (k v : ℕ) (inside bound vs : List ℕ) → StepInside inside r v → EachNew (binding r v vs) bound
+    → (b : List ℕ) × (scopeStep r k v inside bound ≡ on b) × EachNew vs b
+unfolding scopeStep StepInside binding EachNew
+step-walked Binds k v inside bound vs used new = (v ∷ bound, rw (new .0), new .1)
+step-walked Uses k v inside bound vs used new = (bound, rw used, new)
+step-walked Neither k v inside bound vs used new = (bound, refl, new)
 
-step-walk : (r : Role) (k v : ℕ) (inside bound vs : List ℕ) → StepInside inside r v → EachNew (binding r v vs) bound
-    → (b : List ℕ) × (scopeStep r k v inside bound ≡ on b) × EachNew vs b × (after vs b ≡ after (binding r v vs) bound)
-unfolding scopeStep StepInside binding after EachNew
-step-walk Binds k v inside bound vs used new = (v ∷ bound, rw (new .0), new .1, refl)
-step-walk Uses k v inside bound vs used new = (bound, rw used, new, refl)
-step-walk Neither k v inside bound vs used new = (bound, refl, new, refl)
-
-walked : (e : Expr) (inside bound : List ℕ) → UsedInside inside e → EachNew (binders e) bound → scope e inside bound ≡ on (after (binders e) bound)
-unfolding scope binders after EachNew UsedInside
-walked (leaf w k v) inside bound used new =
-    let (b, here, _, same) = step-walk _ (k .line) v inside bound [] used new in
-    here ∙ ap on same
-walked (unary w k v e) inside bound used new =
-    let (b, here, news, same) = step-walk _ (k .line) v inside bound (binders e) (used .0) new in
-    goes-on-bind _ _ here (walked e inside b (used .1) news ∙ ap on same)
-walked (binary w k v e₁ e₂) inside bound used new =
-    let (b, here, news, same) = step-walk _ (k .line) v inside bound (binders e₁ ++ binders e₂) (used .0) new in
-    goes-on-bind _ _ here
-    (parts-walk e₁ e₂ inside _ b (walked e₁ inside b (used .1)) (λ c. walked e₂ _ c (used .2)) news ∙ ap on same)
+walked : (e : Expr) (inside bound vs : List ℕ) → UsedInside inside e → EachNew (binders e ++ vs) bound
+    → (b : List ℕ) × (scope e inside bound ≡ on b) × EachNew vs b
+unfolding scope binders UsedInside
+walked (leaf w k v) inside bound vs used new =
+    step-walked _ (k .line) v inside bound vs used (rw (binding-append (role (Leaf w)) v [] vs) at new)
+walked (unary w k v e) inside bound vs used new =
+    let (c, h₁, new₁) = step-walked _ (k .line) v inside bound (binders e ++ vs) (used .0) (rw (binding-append (role (Unary w)) v (binders e) vs) at new) in
+    let (b, h₂, news) = walked e inside c vs (used .1) new₁ in
+    (b, goes-on-bind _ _ h₁ h₂, news)
+walked (binary w k v e₁ e₂) inside bound vs used new =
+    let (c, h₁, new₁) = step-walked _ (k .line) v inside bound (binders e₁ ++ (binders e₂ ++ vs)) (used .0)
+    (rw (binding-append (role (Binary w)) v (binders e₁ ++ binders e₂) vs, append-assoc (binders e₁) (binders e₂) vs) at new) in
+    let (d, h₂, new₂) = walked e₁ inside c (binders e₂ ++ vs) (used .1) new₁ in
+    let (b, h₃, news) = walked e₂ (binding (role (Binary w)) v inside) d vs (used .2) new₂ in
+    (b, goes-on-bind _ _ h₁ (goes-on-bind _ _ h₂ h₃), news)
 
 -- ------------------------------------------------------------------ a whole program's expression
 
 pub scoped-once-inside : {b : List ℕ} (e : Expr) → scope e [] [] ≡ on b → Distinct (binders e) × UsedInside [] e
+unfolding EachNew
 scoped-once-inside {b} e h =
-    let (b-is, new, used) = walk e [] [] b h in
-    (new-distinct (binders e) [] .0 new .0, used)
+    let (used, new) = walk e [] [] b h in
+    (new-distinct (binders e) [] .0 (subst (λ vs. EachNew vs []) (append-nil (binders e)) (new [] tt)) .0, used)
 
 pub once-inside-scoped : (e : Expr) → Distinct (binders e) → UsedInside [] e → (b : List ℕ) × (scope e [] [] ≡ on b)
-once-inside-scoped e once used = (after (binders e) [], walked e [] [] used (new-distinct (binders e) [] .1 (once, none-among-nothing (binders e))))
+once-inside-scoped e once used =
+    let new = new-distinct (binders e) [] .1 (once, none-among-nothing (binders e)) in
+    let (b, scoped, _) = walked e [] [] [] used (subst (λ vs. EachNew vs []) (sym (append-nil (binders e))) new) in
+    (b, scoped)

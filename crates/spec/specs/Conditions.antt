@@ -7,7 +7,7 @@ use lib.Dec.{eqb, leb, ltb}
 use lib.ListN.{getD, replicate}
 use Rattle.spec.specs.Choice.{if_then_else_}
 use Rattle.spec.specs.Expression.{Expr, leaf, unary, binary, indexOf}
-use Rattle.spec.specs.Split.{Map, Row, Split}
+use Rattle.spec.specs.Split.{Map, Row, noRow, Split}
 unfoldable pub use Rattle.spec.specs.Split.{typeAt, mapAt}
 use Rattle.spec.specs.Agreement.{agree}
 use Rattle.spec.specs.Maps.{_=ᵐ_, _≥ᵐ_, nowhere, _+ᵐ_, _×ᵐ_, share}
@@ -167,7 +167,7 @@ module _ (S : Split) where
 
   -- the split's row of an expression's first step
   unfoldable pub row : Expr → Row
-  row e = getD (S .rows) (indexOf e) (record { type = record { 0 = 0 }; post = record { 0 = 0 }; start = none })
+  row e = getD (S .rows) (indexOf e) noRow
 
   -- of an expression: its type by number, that type's line, its post, the map that a spawned body starts with, K of its type, in
   -- and out of its lock type, r and w of its rwlock type

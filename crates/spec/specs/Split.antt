@@ -131,6 +131,10 @@ pub record Row : Type 0 where
   pub post : MapNumber
   pub start : Option MapNumber
 
+-- the row of a step that is not there
+abbrev pub noRow : Row
+noRow = record { type = record { 0 = 0 }; post = record { 0 = 0 }; start = none }
+
 unfoldable pub rowOf : Option MapNumber → List ℕ → Row
 rowOf start ns = record { type = record { 0 = getD ns 0 0 }; post = record { 0 = getD ns 1 0 }; start = start }
 

@@ -11,7 +11,7 @@ use lib.ListN.{length, replicate, getD, length-map, length-replicate, getD-repli
 use Rattle.spec.specs.Text.{bytes, same, lookUp, lines, Field}
 use Rattle.spec.specs.Reading.{splitSheet, on, Seen, right, seen, insist, Range, _to_, below, numbers, begin, noneLeft, end}
 use Rattle.spec.specs.Expression.{Step}
-use Rattle.spec.specs.Split.{Map, Header, headings, headerRanges, mapsIn, mapsOf, startOf, headerOf, headed, headerLine, refOf, lockOf, outRange, tidOf, semOf, rwlockOf, typeLine, typeLines, mapLine, Row, rowOf, startGiven, startRange, postRange, postField, rowLine, Split, split}
+use Rattle.spec.specs.Split.{Map, Header, headings, headerRanges, mapsIn, mapsOf, startOf, headerOf, headed, headerLine, refOf, lockOf, outRange, tidOf, semOf, rwlockOf, typeLine, typeLines, mapLine, Row, noRow, rowOf, startGiven, startRange, postRange, postField, rowLine, Split, split}
 use Rattle.spec.specs.Ranges.{InRange}
 use Rattle.spec.specs.Accepted.{AtMost}
 use Rattle.spec.specs.Accepted as accepted
@@ -107,12 +107,9 @@ unfolding rowLine postRange postField
 third-numeral H s t m [] h = absurd (omega arith)
 third-numeral H s t m (b ∷ f) h = refl
 
--- defaults of lists
+-- the default of a list of steps
 abbrev aStep : Step
 aStep = record { word = Leaf Var; value = 0; line = 0 }
-
-abbrev aRow : Row
-aRow = record { type = record { 0 = 0 }; post = record { 0 = 0 }; start = none }
 
 module _ {steps : List Step} {S : Split} (W : Writable steps S) where
   abbrev H : Header
@@ -231,11 +228,11 @@ module _ {steps : List Step} {S : Split} (W : Writable steps S) where
       (map-plain m (omega (arith, wide, R .locations)), ap (λ (f : List Field → Seen Map). f (mapFields m)) read ∙ map-back m wide (W .numbersSmall n)))
 
   rows-back : Spells (map (rowLine Check H) steps) (map (rowFields Check) (S .rows)) (S .rows)
-  rows-back = each-spelled (rowFields Check) (map (rowLine Check H) steps) (S .rows) (rowLine Check H aStep) aRow (R .rowsCounted ∙ sym (length-map steps (rowLine Check H))) (λ i h.
-      let row = getD (S .rows) i aRow in
+  rows-back = each-spelled (rowFields Check) (map (rowLine Check H) steps) (S .rows) (rowLine Check H aStep) noRow (R .rowsCounted ∙ sym (length-map steps (rowLine Check H))) (λ i h.
+      let row = getD (S .rows) i noRow in
       let read = List·getD-map (rowLine Check H) steps i aStep in
-      let starts = W .rowStarts i aStep aRow (omega (arith, R .rowsCounted)) in
-      (row-plain row, ap (λ (f : List Field → Seen Row). f (rowFields Check row)) read ∙ row-back (getD steps i aStep) row (R .rowType i aRow h) (R .rowPost i aRow h) (λ m. R .rowStart i aRow m h) starts))
+      let starts = W .rowStarts i aStep noRow (omega (arith, R .rowsCounted)) in
+      (row-plain row, ap (λ (f : List Field → Seen Row). f (rowFields Check row)) read ∙ row-back (getD steps i aStep) row (R .rowType i noRow h) (R .rowPost i noRow h) (λ m. R .rowStart i noRow m h) starts))
 
   -- ---------------------------------------------------------------- the sheet
 

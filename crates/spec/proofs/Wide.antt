@@ -1,0 +1,50 @@
+-- In a split whose numbers are in range every map has a number for each location, and so have the post and the start that an
+-- expression's row shows.
+use mathlib.Core.Path.{_≡_, refl}
+use mathlib.Core.List.{List}
+use mathlib.Core.Option.{Option, none, some}
+use Prim.Native.Nat.{_<_}
+use native.Mathlib.Omega.{arith}
+use native.Mathlib.Decide.{decLt}
+use lib.ListN.{length, length-replicate, List·getD-eq-default}
+use Rattle.spec.specs.Expression.{Step, Expr, indexOf}
+use Rattle.spec.specs.Split.{Row, noRow, Split, mapAt}
+use Rattle.spec.specs.Conditions.{row, post, startIn, bodyStart}
+use Rattle.spec.specs.Ranges.{InRange}
+use Rattle.spec.specs.declared.MapNumber.{MapNumber}
+use Rattle.spec.proofs.Clashes.{none-is-not-some}
+
+module _ {steps : List Step} {S : Split} (R : InRange steps S) where
+  pub map-wide : (m : MapNumber) → m .0 < length (S .maps) → length (mapAt S m) ≡ S .header .locations
+  unfolding mapAt
+  map-wide m l = R .mapWide (m .0) l
+
+  -- what holds of each row of the sheet, and of none, holds of the row of an expression
+  of-row : (Q : Row → Type 0) → Q noRow → (e : Expr) → (indexOf e < length (S .rows) → Q (row S e)) → Q (row S e)
+  unfolding row
+  of-row Q absent e each = by-cases (decLt (indexOf e) (length (S .rows)))
+    where
+      by-cases : Dec (indexOf e < length (S .rows)) → Q (row S e)
+      by-cases (yes l) = each l
+      by-cases (no l) = rw (List·getD-eq-default (S .rows) noRow {n = indexOf e} (omega (arith, l))) absent
+
+  pub post-wide : (e : Expr) → length (post S e) ≡ S .header .locations
+  unfolding post row
+  post-wide e =
+      map-wide (row S e .post)
+      (of-row (λ r. r .post .0 < length (S .maps)) (omega (arith, R .mapsCounted, R .mapsFew .0)) e (R .rowPost (indexOf e) noRow))
+
+  -- a start that is given is the number of a map
+  pub start-fits : (e : Expr) (m : MapNumber) → row S e .start ≡ some m → m .0 < length (S .maps)
+  unfolding row
+  start-fits e m =
+      of-row (λ r. r .start ≡ some m → m .0 < length (S .maps)) (λ h. none-is-not-some h) e (λ l. R .rowStart (indexOf e) noRow m l)
+
+  -- one that is not given has each location too
+  pub start-wide : (e : Expr) → length (bodyStart S e) ≡ S .header .locations
+  unfolding bodyStart startIn
+  start-wide e = by-cases (row S e .start) refl
+    where
+      by-cases : (o : Option MapNumber) → row S e .start ≡ o → length (startIn S o) ≡ S .header .locations
+      by-cases none given = length-replicate (S .header .locations) 0
+      by-cases (some m) given = map-wide m (start-fits e m given)
