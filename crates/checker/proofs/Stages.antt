@@ -32,10 +32,10 @@ use Rattle.split.specs.Sheet.{SheetAnswer}
 use Rattle.workspace.specs.declared.Header.{Header}
 use Rattle.split.specs.declared.Sheet.{Sheet}
 use Rattle.split.specs.declared.Sheet.the-variants as sheet
-use Rattle.rules.specs.Outcome.{outcome}
+use Rattle.conditions.specs.Outcome.{outcome}
 use Rattle.workspace.specs.Sheets.{headerTold, Small, HoldsSheets}
-use Rattle.rules.specs.declared.Ruling.{Ruling}
-use Rattle.rules.specs.declared.Ruling.the-variants.{Met, Refused}
+use Rattle.conditions.specs.declared.Ruling.{Ruling}
+use Rattle.conditions.specs.declared.Ruling.the-variants.{Met, Refused}
 use Rattle.checker.specs.Stages.{RulesAnswered}
 
 -- ------------------------------------------------------------------ the rules

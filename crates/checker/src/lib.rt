@@ -1,6 +1,6 @@
 // The offered call: two texts and a lent work space in, one answer out.
+use conditions::Ruling;
 use program::ProgramRead;
-use rules::Ruling;
 use spec::Answer;
 use spec::Purpose;
 use spec::Refusal;

@@ -29,10 +29,10 @@ use Rattle.workspace.proofs.Region.{changed-wider}
 use Rattle.workspace.proofs.Held.{program-kept}
 use Rattle.workspace.specs.declared.Header.{Header}
 use Rattle.split.proofs.Found.{denominator-told, locations-told, types-told, start-told}
-use Rattle.rules.specs.Outcome.{outcome}
+use Rattle.conditions.specs.Outcome.{outcome}
 use Rattle.rules.specs.Contract.{ruledFor, Ruled}
-use Rattle.rules.specs.declared.Ruling.{Ruling}
-use Rattle.rules.specs.declared.Ruling.the-variants as ruling
+use Rattle.conditions.specs.declared.Ruling.{Ruling}
+use Rattle.conditions.specs.declared.Ruling.the-variants as ruling
 use Rattle.rules.proofs.OneStep.{split-kept}
 use Rattle.writer.specs.Sheet.{written}
 use Rattle.sheets.specs.Contract.{HoldsSheet, HoldsSome as HoldsSheetOfSome}

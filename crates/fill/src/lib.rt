@@ -1,10 +1,10 @@
 // The offered call of filling, request (viii): a program and a split whose step lines leave their maps out in, the whole sheet out.
 mod maps;
 
+use conditions::Ruling;
 use maps::Found;
 use maps::fill_maps;
 use program::ProgramRead;
-use rules::Ruling;
 use sheets::write_sheet;
 use spec::Purpose;
 use spec::Refusal;

@@ -6,10 +6,13 @@ use native.Mathlib.Omega.{arith}
 use lib.ListN.{length, getD}
 use Rattle.spec.specs.Expression.{Step, Expr, leaf, unary, binary, size, Position, indexOf}
 use Rattle.spec.specs.Split.{Split}
-use Rattle.spec.specs.Conditions.{typeAt, row, type, kind, K, inMap, outMap, readMap, writeMap, load, inLoad, outLoad, readLoad, writeLoad}
+use Rattle.spec.specs.Conditions.{typeAt, mapAt, row, type, kind, K, inMap, outMap, readMap, writeMap, load, inLoad, outLoad, readLoad, writeLoad}
 use Rattle.spec.specs.Ranges.{InRange}
 use Rattle.spec.proofs.Listing.{size-positive}
+use Rattle.spec.specs.Maps.{share}
 use Rattle.spec.specs.declared.Location.{Location}
+use Rattle.spec.specs.declared.MapNumber.{MapNumber}
+use Rattle.spec.specs.declared.TypeLine.{TypeLine}
 use Rattle.spec.specs.declared.LeafWord.{LeafWord}
 use Rattle.spec.specs.declared.LeafWord.the-variants.{Var, Int, Newtid, Newlock, Newsem, Newrwlock}
 use Rattle.spec.specs.declared.UnaryWord.{UnaryWord}
@@ -18,7 +21,7 @@ use Rattle.spec.specs.declared.BinaryWord.{BinaryWord}
 use Rattle.spec.specs.declared.BinaryWord.the-variants.{Let, If, Spawn, Write}
 use Rattle.workspace.specs.Layout.{wordsAt, leafCode, unaryCode, binaryCode, printed, ruleOf}
 use Rattle.workspace.specs.Holds.{HoldsSplit}
-use Rattle.workspace.proofs.Shown.{type-number, noRow, type-shown, load-in, in-load-in, out-load-in, read-load-in, write-load-in, map-stands, has-shown, row-at, row-type, start-at}
+use Rattle.workspace.proofs.Shown.{type-number, noRow, type-shown, LoadsIn, loads-in, map-stands, has-shown, row-at, row-type, start-at}
 use Rattle.workspace.proofs.Expression.{Here, here-index, leaf-code, leaf-number, unary-code, binary-code, here-part, here-first, here-second, here-end}
 use Rattle.filling.specs.declared.Effect.{Effect}
 use Rattle.filling.specs.Flow.{unchanged, taking, giving, needing, lending, alone, steps}
@@ -49,30 +52,34 @@ module _ (w : List ℕ) (column : Column) (ss : List Step) (S : Split) (H : Hold
     unfolding typeIn kind type
     kind-held = rw (type-number (row-type w S ss H R e i index h)) (type-shown w S ss H R (row S e .type) type-in)
 
+    -- a map that the type gives, at the location
+    map-held : (reader : TypeLine → MapNumber) → reader (typeAt S (row S e .type)) .0 < length (S .maps)
+        → cellIn w column (reader (typeIn w i)) ≡ share (mapAt S (reader (kind S e))) p
+    unfolding cellIn kind type
+    map-held reader l = rw kind-held (has-shown w S ss H R p (map-stands w S ss H R (reader (typeAt S (row S e .type))) l) within)
+
+    loads : LoadsIn S (typeAt S (row S e .type))
+    loads = loads-in w S ss H R (row S e .type) type-in
+
     load-held : loadIn w column i ≡ loadHere S p e
-    unfolding loadIn cellIn loadHere K kind type
-    load-held =
-        rw kind-held (has-shown w S ss H R p (map-stands w S ss H R (load (typeAt S (row S e .type))) (load-in w S ss H R (row S e .type) type-in)) within)
+    unfolding loadIn loadHere K
+    load-held = map-held load (loads .load-in)
 
     in-held : inLoadIn w column i ≡ inHere S p e
-    unfolding inLoadIn cellIn inHere inMap kind type
-    in-held =
-        rw kind-held (has-shown w S ss H R p (map-stands w S ss H R (inLoad (typeAt S (row S e .type))) (in-load-in w S ss H R (row S e .type) type-in)) within)
+    unfolding inLoadIn inHere inMap
+    in-held = map-held inLoad (loads .in-load-in)
 
     out-held : outLoadIn w column i ≡ outHere S p e
-    unfolding outLoadIn cellIn outHere outMap kind type
-    out-held =
-        rw kind-held (has-shown w S ss H R p (map-stands w S ss H R (outLoad (typeAt S (row S e .type))) (out-load-in w S ss H R (row S e .type) type-in)) within)
+    unfolding outLoadIn outHere outMap
+    out-held = map-held outLoad (loads .out-load-in)
 
     read-held : readLoadIn w column i ≡ readHere S p e
-    unfolding readLoadIn cellIn readHere readMap kind type
-    read-held =
-        rw kind-held (has-shown w S ss H R p (map-stands w S ss H R (readLoad (typeAt S (row S e .type))) (read-load-in w S ss H R (row S e .type) type-in)) within)
+    unfolding readLoadIn readHere readMap
+    read-held = map-held readLoad (loads .read-load-in)
 
     write-held : writeLoadIn w column i ≡ writeHere S p e
-    unfolding writeLoadIn cellIn writeHere writeMap kind type
-    write-held =
-        rw kind-held (has-shown w S ss H R p (map-stands w S ss H R (writeLoad (typeAt S (row S e .type))) (write-load-in w S ss H R (row S e .type) type-in)) within)
+    unfolding writeLoadIn writeHere writeMap
+    write-held = map-held writeLoad (loads .write-load-in)
 
     start-held : startIn w column i ≡ startHere S p e
     unfolding startIn cellIn startHere

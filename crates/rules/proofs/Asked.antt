@@ -1,12 +1,11 @@
 -- What counts of a step when only its types are asked for: since a row has its conditions on types in front, the first false
 -- condition of the row is on types, or no condition on types is false.
 use mathlib.Core.Path.{_≡_, refl, ap}
-use mathlib.Core.Bool.{Bool, true, false}
+use mathlib.Core.Bool.{true, false}
 use mathlib.Core.List.{List, [], _∷_, _++_}
-use mathlib.Core.Option.{Option, none, some}
+use mathlib.Core.Option.{none, some}
 use Prim.Native.Nat.{ℕ, _+_}
-use Rattle.spec.specs.Choice.{if_then_else_}
-use Rattle.spec.specs.Reading.{Out, on, _>>=_}
+use Rattle.spec.specs.Reading.{on, _>>=_}
 use Rattle.spec.specs.Expression.{Expr, leaf, unary, binary}
 use Rattle.spec.specs.Split.{Map, Split}
 use Rattle.spec.specs.Conditions.{Condition, T, F, A, Env, own}
@@ -18,7 +17,7 @@ use Rattle.spec.specs.declared.LeafWord.the-variants.{Var, Int, Newtid, Newlock
 use Rattle.spec.specs.declared.UnaryWord.the-variants.{While, Join, Ref, Read, Lock, Unlock, Post, Wait, Rdlock, Rdunlock, Wrlock, Wrunlock}
 use Rattle.spec.specs.declared.BinaryWord.the-variants.{Let, If, Spawn, Write}
 use Rattle.spec.proofs.Claims.{only-append}
-use Rattle.rules.specs.Outcome.{judged}
+use Rattle.conditions.specs.Outcome.{firstFalseFrom}
 use Rattle.rules.specs.Walk.{onTypes, counted}
 
 -- the claims that are asked for
@@ -88,8 +87,8 @@ module _ (line : ℕ) where
   no-types-asked i (F o ∷ cs) h = no-types-asked (i + 1) cs h
   no-types-asked i (A b p ∷ cs) h = no-types-asked (i + 1) cs h
 
-  no-types-counted : (i : ℕ) (cs : List Condition) → NoTypes cs → onTypes (judged line i cs) ≡ on tt
-  unfolding NoTypes onTypes judged numbered firstFalse judge _>>=_ returned four
+  no-types-counted : (i : ℕ) (cs : List Condition) → NoTypes cs → onTypes (firstFalseFrom line i cs) ≡ on tt
+  unfolding NoTypes onTypes firstFalseFrom numbered firstFalse judge _>>=_ returned four
   no-types-counted i [] h = refl
   no-types-counted i (T b ∷ cs) h = absurd h
   no-types-counted i (F none ∷ cs) h = no-types-counted (i + 1) cs h
@@ -97,8 +96,8 @@ module _ (line : ℕ) where
   no-types-counted i (A true p ∷ cs) h = no-types-counted (i + 1) cs h
   no-types-counted i (A false p ∷ cs) h = refl
 
-  types-counted : (i : ℕ) (cs : List Condition) → TypesFirst cs → onTypes (judged line i cs) ≡ firstFalse (only isType (numbered line i cs))
-  unfolding TypesFirst onTypes judged numbered firstFalse judge only isType _>>=_ returned four
+  types-counted : (i : ℕ) (cs : List Condition) → TypesFirst cs → onTypes (firstFalseFrom line i cs) ≡ firstFalse (only isType (numbered line i cs))
+  unfolding TypesFirst onTypes firstFalseFrom numbered firstFalse judge only isType _>>=_ returned four
   types-counted i [] h = refl
   types-counted i (T true ∷ cs) h = types-counted (i + 1) cs h
   types-counted i (T false ∷ cs) h = refl
@@ -109,7 +108,7 @@ module _ (line : ℕ) where
 
   -- what counts of a row is its first false claim of those that are asked for
   pub row-counted : (purpose : Purpose) (S : Split) (Γ : Env) (pre : Map) (e : Expr)
-      → counted purpose (judged line 1 (own S Γ pre e)) ≡ firstFalse (asked purpose (numbered line 1 (own S Γ pre e)))
-  unfolding counted asked judged
+      → counted purpose (firstFalseFrom line 1 (own S Γ pre e)) ≡ firstFalse (asked purpose (numbered line 1 (own S Γ pre e)))
+  unfolding counted asked firstFalseFrom
   row-counted Check S Γ pre e = refl
   row-counted Fill S Γ pre e = types-counted 1 (own S Γ pre e) (row-types-first S Γ pre e)

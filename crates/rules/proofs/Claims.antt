@@ -6,8 +6,8 @@ use Rattle.spec.specs.Split.{Split}
 use Rattle.spec.specs.Sites.{Site, Claim, claimsAt, claims, judge, firstFalse}
 use Rattle.spec.specs.declared.Purpose.{Purpose}
 use Rattle.spec.proofs.Claims.{claims-append as sites-append}
-use Rattle.rules.specs.Outcome.{both}
-use Rattle.rules.proofs.Judged.{both-met, both-assoc}
+use Rattle.conditions.specs.Outcome.{both}
+use Rattle.conditions.proofs.FirstFalse.{both-met, both-assoc}
 use Rattle.rules.proofs.Asked.{asked, asked-append, asked-none}
 
 first-append : (xs ys : List Claim) → firstFalse (xs ++ ys) ≡ both (firstFalse xs) (firstFalse ys)

@@ -1,14 +1,7 @@
-pub mod Judged
-pub mod LockLines
-pub mod TypeKinds
-pub mod Relations
 pub mod Walking
 pub mod OnTypes
 pub mod Asked
 pub mod Claims
-pub mod Shown
-pub mod Agreement
-pub mod TableRows
 pub mod Scopes
 pub mod Views
 pub mod OneStep

@@ -6,10 +6,11 @@ use mathlib.Core.List.{List}
 use Prim.Native.Nat.{ℕ, _+_, _<_, _≤_}
 use native.Mathlib.Omega.{arith}
 use lib.ListN.{length, getD, length-map}
-use Rattle.spec.specs.Expression.{Step, Expr, leaf, unary, binary, size}
+use Rattle.spec.specs.Expression.{Step, Position, Expr, leaf, unary, binary, size, lineOf}
 use Rattle.spec.specs.Split.{Map, Row, Split}
 use Rattle.spec.specs.Conditions.{Env, post, start, own}
-use Rattle.spec.specs.Sites.{preOfPart, preOfSecond, claimsAt}
+use Rattle.spec.specs.Words.{preOfPart, preOfSecond}
+use Rattle.spec.specs.Sites.{claimsAt}
 use Rattle.spec.specs.Ranges.{InRange}
 use Rattle.spec.specs.declared.MapNumber.{MapNumber}
 use Rattle.spec.specs.declared.Purpose.{Purpose}
@@ -21,16 +22,16 @@ use Rattle.spec.specs.declared.BinaryWord.{BinaryWord}
 use Rattle.spec.specs.declared.BinaryWord.the-variants.{Let, If, Spawn, Write}
 use Rattle.spec.proofs.Listing.{size-positive}
 use Rattle.workspace.specs.Layout as layout
-use Rattle.workspace.specs.Layout.{wordsAt, postsAt, startsAt, presAt, ruleOf}
+use Rattle.workspace.specs.Layout.{wordsAt, linesAt, postsAt, startsAt, presAt, ruleOf}
 use Rattle.workspace.specs.Region.{ChangedWithin}
 use Rattle.workspace.specs.Holds.{HoldsSplit, startNumber}
 use Rattle.workspace.proofs.Region.{region-kept}
 use Rattle.workspace.proofs.Codes.{word-of-code}
 use Rattle.workspace.proofs.Shown.{Stands, post-at, start-at}
-use Rattle.workspace.proofs.Expression.{Here, here-line, leaf-code, unary-code, binary-code, here-part, here-first, here-second, here-second-at}
-use Rattle.rules.specs.Table.{ruleRow}
-use Rattle.rules.specs.Walk.{cell, viewOf, stepOutcome, counted, putPre, numberOfPart, numberOfSecond, passWord, passOn}
-use Rattle.rules.proofs.TableRows.{leaf-shown, unary-shown, binary-shown}
+use Rattle.workspace.proofs.Expression.{Here, here-index, here-line, leaf-code, unary-code, binary-code, here-part, here-first, here-second, here-second-at}
+use Rattle.words.specs.Table.{ruleRow}
+use Rattle.rules.specs.Walk.{cell, viewOf, stepOutcome, counted, putPre, passWord, passOn}
+use Rattle.words.proofs.TableRows.{leaf-shown, unary-shown, binary-shown}
 use Rattle.rules.proofs.Scopes.{Scoped}
 use Rattle.rules.proofs.Asked.{row-counted}
 use Rattle.rules.proofs.Claims.{firstAsked}
@@ -41,16 +42,16 @@ abbrev pub preNumber : (w : List ℕ) (k : ℕ) → MapNumber
 preNumber w k = record { 0 = cell w presAt k }
 
 abbrev pub partNumber : (w : List ℕ) (k : ℕ) → UnaryWord → MapNumber
-partNumber w k x = numberOfPart x (preNumber w k) (record { 0 = cell w postsAt k })
+partNumber w k x = preOfPart x (preNumber w k) (record { 0 = cell w postsAt k })
 
 abbrev pub secondNumber : (w : List ℕ) (k : ℕ) → BinaryWord → MapNumber
 secondNumber w k x =
-    numberOfSecond x (preNumber w k) (record { 0 = cell w (postsAt + 1) k }) (record { 0 = cell w startsAt k })
+    preOfSecond x (preNumber w k) (record { 0 = cell w (postsAt + 1) k }) (record { 0 = cell w startsAt k })
 
 -- handed down by number or as maps, they are the same
 of-part : {w : List ℕ} {S : Split} {a b : MapNumber} {pre post : Map} (x : UnaryWord) → Stands w S a pre → Stands w S b post
-    → Stands w S (numberOfPart x a b) (preOfPart x pre post)
-unfolding numberOfPart preOfPart
+    → Stands w S (preOfPart x a b) (preOfPart x pre post)
+unfolding preOfPart
 of-part While p q = q
 of-part Join p q = p
 of-part Ref p q = p
@@ -65,8 +66,8 @@ of-part Wrlock p q = p
 of-part Wrunlock p q = p
 
 of-second : {w : List ℕ} {S : Split} {a b c : MapNumber} {pre post₁ start : Map} (x : BinaryWord) → Stands w S a pre
-    → Stands w S b post₁ → Stands w S c start → Stands w S (numberOfSecond x a b c) (preOfSecond x pre post₁ start)
-unfolding numberOfSecond preOfSecond
+    → Stands w S b post₁ → Stands w S c start → Stands w S (preOfSecond x a b c) (preOfSecond x pre post₁ start)
+unfolding preOfSecond
 of-second Let p q r = q
 of-second If p q r = p
 of-second Spawn p q r = r
@@ -86,6 +87,12 @@ module _ (S : Split) (steps : List Step) (R : InRange steps S) (few : length (S 
     starts = region-kept x (inl (omega (arith, length-map (S .rows) (λ (r : Row). startNumber (r .start))))) (H .starts);
   }
 
+  abbrev n : ℕ
+  n = S .header .locations
+
+  abbrev d : ℕ
+  d = S .header .denominator
+
   -- all that the walk through an expression starts from
   pub record Ready (w : List ℕ) (k : ℕ) (inside : List (ℕ × ℕ)) (vars : List ℕ) (Γ : Env) (pre : Map) (e : Expr) : Type 0 where
     pub split : HoldsSplit w S
@@ -95,92 +102,76 @@ module _ (S : Split) (steps : List Step) (R : InRange steps S) (few : length (S 
     pub room : k + size e ≤ length (S .rows)
     pub long : presAt + 256 ≤ length w
 
-  view-located : (w : List ℕ) (n d k : ℕ) → viewOf w n d k .locations ≡ n
-  unfolding viewOf
-  view-located w n d k = refl
-
-  view-divided : (w : List ℕ) (n d k : ℕ) → viewOf w n d k .denominator ≡ d
-  unfolding viewOf
-  view-divided w n d k = refl
-
-  view-pre : (w : List ℕ) (n d k : ℕ) {pre : Map} → Stands w S (record { 0 = cell w presAt k }) pre
-      → Stands w S (viewOf w n d k .pre) pre
-  unfolding viewOf
-  view-pre w n d k p = p
-
   module _ {w : List ℕ} {k : ℕ} {inside : List (ℕ × ℕ)} {vars : List ℕ} {Γ : Env} {pre : Map} where
     pub below : (e : Expr) → Ready w k inside vars Γ pre e → k < length (S .rows)
     below e r = omega (arith, size-positive e, r .room)
 
     conditions-shown : (e : Expr) → Ready w k inside vars Γ pre e
-        → (let s = viewOf w (S .header .locations) (S .header .denominator) k in
-        ruleRow (ruleOf (cell w wordsAt k)) w s (layout.typeAt w (s .own)) (layout.typeAt w (s .type1)))
+        → (let s = viewOf w n d k in
+        ruleRow (ruleOf (cell w wordsAt k)) w s (layout.typeAt w (s .typed)) (layout.typeAt w (s .type1)))
         ≡ own S Γ pre e
     unfolding size
     conditions-shown (leaf x l v) r =
         rw (leaf-code x l v (r .here))
-        (leaf-shown w S steps (r .split) R (viewOf w _ _ k) (view-located w _ _ k)
-        (view-divided w _ _ k) Γ pre (view-pre w _ _ k (r .pre-stands))
+        (leaf-shown w S steps (r .split) R (viewOf w n d k) refl refl Γ pre (r .pre-stands)
         l v x
-        (own-part w S steps (r .split) R _ _ k (leaf x l v) (here-line _ (r .here)) (below _ r))
-        (bound-shown w S steps (r .split) R _ _ k x l v (r .here) (r .scoped)))
+        (own-part w S steps (r .split) R n d k (leaf x l v) (here-index _ (r .here)) (below _ r))
+        (bound-shown w S steps (r .split) R n d k x l v (r .here) (r .scoped)))
     conditions-shown (unary x l v e₁) r =
         rw (unary-code x l v e₁ (r .here))
-        (unary-shown w S steps (r .split) R (viewOf w _ _ k) (view-located w _ _ k)
-        (view-divided w _ _ k) Γ pre (view-pre w _ _ k (r .pre-stands))
+        (unary-shown w S steps (r .split) R (viewOf w n d k) refl refl Γ pre (r .pre-stands)
         l v e₁
-        (first-part w S steps (r .split) R _ _ k e₁ (here-line e₁ (here-part x l v e₁ (r .here)))
+        (first-part w S steps (r .split) R n d k e₁ (here-index e₁ (here-part x l v e₁ (r .here)))
         (omega (arith, size-positive e₁, r .room)))
         x
-        (own-part w S steps (r .split) R _ _ k _ (here-line _ (r .here)) (below _ r)))
+        (own-part w S steps (r .split) R n d k _ (here-index _ (r .here)) (below _ r)))
     conditions-shown (binary x l v e₁ e₂) r =
         rw (binary-code x l v e₁ e₂ (r .here))
-        (binary-shown w S steps (r .split) R (viewOf w _ _ k) (view-located w _ _ k)
-        (view-divided w _ _ k) Γ pre (view-pre w _ _ k (r .pre-stands))
+        (binary-shown w S steps (r .split) R (viewOf w n d k) refl refl Γ pre (r .pre-stands)
         l v e₁
-        (first-part w S steps (r .split) R _ _ k e₁ (here-line e₁ (here-first x l v e₁ e₂ (r .here)))
+        (first-part w S steps (r .split) R n d k e₁ (here-index e₁ (here-first x l v e₁ e₂ (r .here)))
         (omega (arith, size-positive e₁, r .room)))
         e₂
-        (second-part w S steps (r .split) R _ _ k e₂ (k + 1 + size e₁) (here-second-at x l v e₁ e₂ (r .here))
-        (here-line e₂ (here-second x l v e₁ e₂ (r .here))) (omega (arith, size-positive e₂, r .room)))
+        (second-part w S steps (r .split) R n d k e₂ (k + 1 + size e₁) (here-second-at x l v e₁ e₂ (r .here))
+        (here-index e₂ (here-second x l v e₁ e₂ (r .here))) (omega (arith, size-positive e₂, r .room)))
         x
-        (own-part w S steps (r .split) R _ _ k _ (here-line _ (r .here)) (below _ r))
-        (started w S steps (r .split) R _ _ k _ (here-line _ (r .here)) (below _ r)))
+        (own-part w S steps (r .split) R n d k _ (here-index _ (r .here)) (below _ r))
+        (started w S steps (r .split) R n d k _ (here-index _ (r .here)) (below _ r)))
 
     pub step-shown : (purpose : Purpose) (e : Expr) → Ready w k inside vars Γ pre e
         → counted purpose (stepOutcome w (S .header .locations) (S .header .denominator) k)
         ≡ firstAsked purpose (claimsAt S (record { Γ = Γ; pre = pre; step = e }))
     unfolding stepOutcome claimsAt
-    step-shown purpose e r = rw (conditions-shown e r, here-line e (r .here)) (row-counted (k + 2) purpose S Γ pre e)
+    step-shown purpose e r = rw (conditions-shown e r, here-line e (r .here)) (row-counted (lineOf e) purpose S Γ pre e)
 
     -- ---------------------------------------------------------------- what a step hands down
 
-    pub leaf-passes : (x : LeafWord) (l v : ℕ) → Ready w k inside vars Γ pre (leaf x l v) → passOn w k ≡ w
+    pub leaf-passes : (x : LeafWord) (l : Position) (v : ℕ) → Ready w k inside vars Γ pre (leaf x l v) → passOn w k ≡ w
     unfolding passOn passWord
     leaf-passes x l v r = rw (leaf-code x l v (r .here), word-of-code (Leaf x))
 
-    pub unary-passes : (x : UnaryWord) (l v : ℕ) (e₁ : Expr) → Ready w k inside vars Γ pre (unary x l v e₁)
+    pub unary-passes : (x : UnaryWord) (l : Position) (v : ℕ) (e₁ : Expr) → Ready w k inside vars Γ pre (unary x l v e₁)
         → passOn w k ≡ putPre w (k + 1) (partNumber w k x)
     unfolding passOn passWord
     unary-passes x l v e₁ r = rw (unary-code x l v e₁ (r .here), word-of-code (Unary x))
 
-    pub binary-passes : (x : BinaryWord) (l v : ℕ) (e₁ e₂ : Expr) → Ready w k inside vars Γ pre (binary x l v e₁ e₂)
+    pub binary-passes : (x : BinaryWord) (l : Position) (v : ℕ) (e₁ e₂ : Expr) → Ready w k inside vars Γ pre (binary x l v e₁ e₂)
         → passOn w k ≡ putPre (putPre w (k + 1) (preNumber w k)) (k + 1 + size e₁) (secondNumber w k x)
     unfolding passOn passWord
     binary-passes x l v e₁ e₂ r =
         rw (binary-code x l v e₁ e₂ (r .here), word-of-code (Binary x), here-second-at x l v e₁ e₂ (r .here))
 
     -- the numbers handed down stand for the maps before the parts
-    pub part-stands : (x : UnaryWord) (l v : ℕ) (e₁ : Expr) → Ready w k inside vars Γ pre (unary x l v e₁)
+    pub part-stands : (x : UnaryWord) (l : Position) (v : ℕ) (e₁ : Expr) → Ready w k inside vars Γ pre (unary x l v e₁)
         → Stands w S (partNumber w k x) (preOfPart x pre (post S (unary x l v e₁)))
     part-stands x l v e₁ r =
-        of-part x (r .pre-stands) (post-at w S steps (r .split) R (unary x l v e₁) k (here-line _ (r .here)) (below _ r) refl)
+        of-part x (r .pre-stands) (post-at w S steps (r .split) R (unary x l v e₁) k (here-index _ (r .here)) (below _ r) refl)
 
-    pub second-stands : (x : BinaryWord) (l v : ℕ) (e₁ e₂ : Expr) → Ready w k inside vars Γ pre (binary x l v e₁ e₂)
+    pub second-stands : (x : BinaryWord) (l : Position) (v : ℕ) (e₁ e₂ : Expr) → Ready w k inside vars Γ pre (binary x l v e₁ e₂)
         → Stands w S (secondNumber w k x) (preOfSecond x pre (post S e₁) (start S (binary x l v e₁ e₂)))
     unfolding size
     second-stands x l v e₁ e₂ r =
         of-second x (r .pre-stands)
-        (post-at w S steps (r .split) R e₁ (k + 1) (here-line e₁ (here-first x l v e₁ e₂ (r .here)))
+        (post-at w S steps (r .split) R e₁ (k + 1) (here-index e₁ (here-first x l v e₁ e₂ (r .here)))
         (omega (arith, size-positive e₁, r .room)) (ap (λ (i : ℕ). getD w i 0) (omega arith)))
-        (start-at w S steps (r .split) R (binary x l v e₁ e₂) k (here-line _ (r .here)) (below _ r))
+        (start-at w S steps (r .split) R (binary x l v e₁ e₂) k (here-index _ (r .here)) (below _ r))

@@ -9,16 +9,14 @@ use Rattle.spec.specs.Choice.{if_then_else_}
 use Rattle.spec.specs.Expression.{among}
 use Rattle.spec.specs.Split.{Split}
 use Rattle.spec.specs.Conditions.{Env, typeIn}
-use Rattle.spec.specs.Sites.{bind}
+use Rattle.spec.specs.Words.{binding}
 use Rattle.spec.specs.declared.TypeNumber.{TypeNumber}
-use Rattle.spec.specs.declared.BinaryWord.{BinaryWord}
-use Rattle.spec.specs.declared.BinaryWord.the-variants.{Let, If, Spawn, Write}
+use Rattle.spec.specs.declared.Role.{Role}
+use Rattle.spec.specs.declared.Role.the-variants.{Binds, Uses, Neither}
 use Rattle.spec.proofs.Clashes.{true-is-not-false}
 use Rattle.spec.proofs.Tests.{eqb-sym}
 use Rattle.workspace.specs.Holds.{letIn}
-use Rattle.workspace.proofs.Held.{insideSecond}
 use Rattle.workspace.proofs.Shown.{noRow}
-use Rattle.workspace.proofs.Expression.{varsSecond}
 
 -- each variable of vars has in Γ the type of the row just behind its let
 pub record Scoped (S : Split) (Γ : Env) (inside : List (ℕ × ℕ)) (vars : List ℕ) : Type 0 where
@@ -53,9 +51,8 @@ module _ (S : Split) (Γ : Env) (inside : List (ℕ × ℕ)) (vars : List ℕ) (
       either true q = e
       either false q = C .typed u (rw (eqb-sym u v, q) at a)
 
-  pub scoped-second : (x : BinaryWord) → Scoped S (bind x v t Γ) (insideSecond x v k inside) (varsSecond x v vars)
-  unfolding bind insideSecond varsSecond
-  scoped-second Let = record { within = let-within; typed = let-typed }
-  scoped-second If = C
-  scoped-second Spawn = C
-  scoped-second Write = C
+  pub scoped-second : (r : Role) → Scoped S (binding r (v, t) Γ) (binding r (v, k) inside) (binding r v vars)
+  unfolding binding
+  scoped-second Binds = record { within = let-within; typed = let-typed }
+  scoped-second Uses = C
+  scoped-second Neither = C

@@ -4,41 +4,41 @@
 use mathlib.Core.Path.{_≡_, refl, sym, ap, _∙_}
 use mathlib.Core.Logic.{inr}
 use mathlib.Core.List.{List, []}
-use Prim.Native.Nat.{ℕ, zero, suc, _+_, _<_, _≤_}
+use Prim.Native.Nat.{ℕ, suc, _+_, _<_, _≤_}
 use native.Mathlib.Omega.{arith}
-use native.Mathlib.Numerals.{add-one}
-use lib.ListN.{length, getD, drop, drop-of-length-le}
-use lib.Seq.{drop-cons, getD-set-same}
-use Rattle.spec.specs.Reading.{Out, _>>=_, demand}
-use Rattle.spec.specs.Expression.{Step, Expr, leaf, unary, binary, size}
+use lib.ListN.{length, getD}
+use lib.Seq.{getD-set-same}
+use Rattle.spec.specs.Reading.{Out, _>>=_}
+use Rattle.spec.specs.Expression.{Step, Position, Expr, leaf, unary, binary, size, indexOf, lineOf}
 use Rattle.spec.specs.Program.{Program}
-use Rattle.spec.specs.Split.{Map, Row, Split, typeAt}
-use Rattle.spec.specs.Conditions.{Env, lineOf, startMap, type, post, start}
-use Rattle.spec.specs.Sites.{preOfPart, preOfSecond, bind, sites, claims}
-use Rattle.spec.specs.Verdict.{takesEnough, allTakeEnough, locksTakeEnough, startAtMostOne, ruled, typed}
+use Rattle.spec.specs.Split.{Map, Row, Split}
+use Rattle.spec.specs.Conditions.{Env, startMap, type, post, start}
+use Rattle.spec.specs.Words.{role, binding, preOfPart, preOfSecond}
+use Rattle.spec.specs.Sites.{sites, claims}
+use Rattle.spec.specs.Verdict.{locksTakeEnough, refuseOver, startAtMostOne, ruled, typed}
 use Rattle.spec.specs.Ranges.{InRange}
 use Rattle.spec.specs.declared.MapNumber.{MapNumber}
 use Rattle.spec.specs.declared.Purpose.{Purpose}
 use Rattle.spec.specs.declared.Purpose.the-variants.{Check, Fill}
-use Rattle.spec.specs.declared.Refusal.the-variants.{LockTakesLess}
-use Rattle.spec.specs.declared.TypeLine.the-variants.{Int}
+use Rattle.spec.specs.declared.Word.the-variants.{Binary}
 use Rattle.spec.specs.declared.UnaryWord.{UnaryWord}
 use Rattle.spec.specs.declared.BinaryWord.{BinaryWord}
-use Rattle.spec.proofs.Listing.{prefix-length, size-positive}
-use Rattle.workspace.specs.Layout.{presAt}
+use Rattle.spec.proofs.Listing.{size-positive}
+use Rattle.workspace.specs.Layout.{linesAt, presAt, workSize}
 use Rattle.workspace.specs.Region.{ChangedWithin}
 use Rattle.workspace.specs.Holds.{HoldsSplit}
 use Rattle.workspace.specs.Sheets.{HoldsSheets}
-use Rattle.workspace.proofs.Held.{insideSecond}
 use Rattle.workspace.proofs.Region.{changed-nothing, changed-store, changed-then, changed-wider}
-use Rattle.workspace.proofs.Shown.{map-number, Stands, stands-kept, map-stands, row-at}
-use Rattle.workspace.proofs.Expression.{Here, here-kept, here-line, here-part, here-first, here-second, varsSecond}
-use Rattle.workspace.proofs.Sheets.{root-here}
-use Rattle.rules.specs.Outcome.{both}
-use Rattle.rules.specs.Walk.{cell, lockOutcome, locksOutcome, startOutcome, stepOutcome, counted, passOn, walk, atRoot}
+use Rattle.workspace.proofs.Shown.{map-number, Stands, stands-kept, row-at}
+use Rattle.workspace.proofs.Expression.{Here, here-kept, here-index, here-line, here-part, here-first, here-second}
+use Rattle.workspace.proofs.Sheets.{root-here, root-sized, header-start-stands}
+use Rattle.conditions.specs.Outcome.{both}
+use Rattle.conditions.specs.SheetOutcomes.{locksOutcome, startOutcome}
+use Rattle.rules.specs.Walk.{cell, stepOutcome, counted, passOn, walk, atRoot}
 use Rattle.rules.specs.Contract.{ruledFor}
-use Rattle.rules.proofs.Judged.{both-met, both-assoc}
-use Rattle.rules.proofs.Agreement.{takes-enough-shown}
+use Rattle.conditions.proofs.FirstFalse.{both-met, both-assoc}
+use Rattle.conditions.proofs.Shown.{within-shown}
+use Rattle.conditions.proofs.LockLines.{locks-shown}
 use Rattle.rules.proofs.Walking.{put-before, put-at, put-other}
 use Rattle.rules.proofs.Claims.{firstAsked, claims-first, claims-one, claims-append}
 use Rattle.rules.proofs.Asked.{asked}
@@ -81,7 +81,7 @@ module _ (purpose : Purpose) (S : Split) (steps : List Step) (R : InRange steps 
   }
 
   module _ {w : List ℕ} {k : ℕ} {inside : List (ℕ × ℕ)} {vars : List ℕ} {Γ : Env} {pre : Map} where
-    module _ (x : UnaryWord) (l v : ℕ) (e₁ : Expr) (r : Ready S steps R few w k inside vars Γ pre (unary x l v e₁)) where
+    module _ (x : UnaryWord) (l : Position) (v : ℕ) (e₁ : Expr) (r : Ready S steps R few w k inside vars Γ pre (unary x l v e₁)) where
       unary-changed : ChangedWithin presAt (presAt + (k + size (unary x l v e₁))) w (passOn w k)
       unfolding size
       unary-changed =
@@ -117,7 +117,7 @@ module _ (purpose : Purpose) (S : Split) (steps : List Step) (R : InRange steps 
             );
       }
 
-    module _ (x : BinaryWord) (l v : ℕ) (e₁ e₂ : Expr) (r : Ready S steps R few w k inside vars Γ pre (binary x l v e₁ e₂)) where
+    module _ (x : BinaryWord) (l : Position) (v : ℕ) (e₁ e₂ : Expr) (r : Ready S steps R few w k inside vars Γ pre (binary x l v e₁ e₂)) where
       binary-changed : ChangedWithin presAt (presAt + (k + size (binary x l v e₁ e₂))) w (passOn w k)
       unfolding size
       binary-changed =
@@ -144,20 +144,20 @@ module _ (purpose : Purpose) (S : Split) (steps : List Step) (R : InRange steps 
       pre₂ = preOfSecond x pre (post S e₁) (start S (binary x l v e₁ e₂))
 
       abbrev Γ₂ : Env
-      Γ₂ = bind x v (type S e₁) Γ
+      Γ₂ = binding (role (Binary x)) (v, type S e₁) Γ
 
       second-ready : (m : ℕ) → (t : Walked (passOn w k) (k + 1) m Γ pre e₁)
-          → Ready S steps R few (t .after) (k + 1 + size e₁) (insideSecond x v k inside) (varsSecond x v vars) Γ₂ pre₂ e₂
+          → Ready S steps R few (t .after) (k + 1 + size e₁) (binding (role (Binary x)) (v, k) inside) (binding (role (Binary x)) v vars) Γ₂ pre₂ e₂
       unfolding size type
       second-ready m t =
           let h₁ : k + 1 < length (S .rows) = omega (arith, size-positive e₁, r .room) in
-          let line₁ : lineOf e₁ ≡ k + 1 + 2 = here-line e₁ (here-first x l v e₁ e₂ (r .here)) in
+          let index₁ : indexOf e₁ ≡ k + 1 = here-index e₁ (here-first x l v e₁ e₂ (r .here)) in
           again
           (changed-then presAt (presAt + 256) binary-within
           (changed-wider presAt (presAt + 256) (omega arith) (omega (arith, r .room)) (t .changed)))
           (r .split) (r .long) (here-second x l v e₁ e₂ (r .here))
           (scoped-second S Γ inside vars (r .scoped) v k (type S e₁) h₁
-          (ap (λ (d : Row). d .type) (sym (row-at w S steps (r .split) R e₁ (k + 1) line₁ h₁))) x)
+          (ap (λ (d : Row). d .type) (sym (row-at w S steps (r .split) R e₁ (k + 1) index₁ h₁))) (role (Binary x)))
           (secondNumber w k x) (second-stands S steps R few x l v e₁ e₂ r)
           (t .changed .kept (presAt + (k + 1 + size e₁)) (inr (omega arith))
           ∙ rw (binary-passes S steps R few x l v e₁ e₂ r)
@@ -215,62 +215,30 @@ claims-ruled Check P S = refl
 claims-ruled Fill P S = refl
 
 module _ (w : List ℕ) (steps denominator locations start : ℕ) (P : Program) (S : Split) (H : HoldsSheets w steps denominator locations start P S) where
-  -- the start that the header names
-  start-named : Stands w S (record { 0 = start }) (startMap S)
-  unfolding startMap
-  start-named =
-      rw (map-number (H .startGiven)) (map-stands w S (P .steps) (H .split) (H .inRange) (S .header .start) (H .inRange .start))
-
-  -- 44
-  types-left : (t n : ℕ) → t + n ≡ length (S .types) → locksOutcome w locations t n ≡ allTakeEnough S (t + 2) (drop t (S .types))
-  unfolding locksOutcome lockOutcome allTakeEnough both typeAt
-  types-left t zero all = rw (drop-of-length-le (S .types) {i = t} (omega (arith, all)))
-  types-left t (suc n) all =
-      let asked = demand (takesEnough S (getD (S .types) t Int)) (LockTakesLess (t + 2)) in
-      let next : t + 1 + 2 ≡ t + 2 + 1 = omega arith in
-      ap (λ o. both o (locksOutcome w locations (t + 1) n)) (line-shown t (omega (arith, all)))
-      ∙ ap (both asked) (types-left (t + 1) n (omega (arith, all)) ∙ ap (λ k. allTakeEnough S k (drop (t + 1) (S .types))) next)
-      ∙ ap (λ k. both asked (allTakeEnough S (t + 2 + 1) (drop k (S .types)))) (add-one t)
-      ∙ sym (ap (allTakeEnough S (t + 2)) (drop-cons (S .types) t Int (omega (arith, all))))
-    where
-      line-shown : (t : ℕ) → t < length (S .types) → lockOutcome w locations t ≡ demand (takesEnough S (getD (S .types) t Int)) (LockTakesLess (t + 2))
-      line-shown t h = ap (λ b. demand b (LockTakesLess (t + 2))) (takes-enough-shown w S (P .steps) (H .split) (H .inRange) locations (H .locationsGiven) (record { 0 = t }) h)
-
-  pub locks-shown : (types : ℕ) → types ≡ S .header .types → locksOutcome w locations 0 types ≡ locksTakeEnough S
-  unfolding locksTakeEnough
-  locks-shown types counted = types-left 0 types (omega (arith, counted, H .inRange .typesCounted))
-
-  -- 30
-  pub start-shown : startOutcome w denominator locations (record { 0 = start }) ≡ startAtMostOne P S
+  -- 30, at the root's line
+  pub start-shown : startOutcome (getD w linesAt 0) w denominator locations (record { 0 = start }) ≡ startAtMostOne P S
   unfolding startOutcome startAtMostOne
   start-shown =
-      rw (
-        here-line (P .root) (root-here H),
-        H .denominatorGiven,
-        H .locationsGiven,
-        start-named .is,
-      )
+      rw (here-line (P .root) (root-here H), H .denominatorGiven, H .locationsGiven)
+      (ap (refuseOver (lineOf (P .root))) (within-shown w S (P .steps) (H .split) (H .inRange) (header-start-stands H) _))
 
-  module _ (purpose : Purpose) (long : length w ≡ 16384) (fewSteps : steps ≤ 256) where
+  module _ (purpose : Purpose) (long : length w ≡ workSize) (fewSteps : steps ≤ 256) where
     rows-few : length (S .rows) ≤ 256
     rows-few = omega (arith, H .inRange .rowsCounted, H .stepsCounted)
-
-    sized : size (P .root) ≡ steps
-    sized = sym (prefix-length (P .root)) ∙ ap length (H .wellFormed .listing) ∙ sym (H .stepsCounted)
 
     root-ready : Ready S (P .steps) (H .inRange) rows-few (atRoot w (record { 0 = start })) 0 [] [] [] (startMap S) (P .root)
     unfolding atRoot
     root-ready =
         again purpose S (P .steps) (H .inRange) rows-few (changed-store presAt (presAt + 256) w presAt start (omega arith)
         (omega arith)) (H .split) (omega arith)
-        (root-here H) (scoped-none S) (record { 0 = start }) start-named
-        (getD-set-same w presAt start 0 (omega arith)) (omega (arith, sized, H .stepsCounted, H .inRange .rowsCounted))
+        (root-here H) (scoped-none S) (record { 0 = start }) (header-start-stands H)
+        (getD-set-same w presAt start 0 (omega arith)) (omega (arith, root-sized H, H .stepsCounted, H .inRange .rowsCounted))
 
     -- 31 to 33
     pub steps-shown : walk purpose locations denominator (atRoot w (record { 0 = start })) 0 steps ≡ ruledFor purpose P S
     unfolding walk
     steps-shown =
-        let end : steps ≡ size (P .root) + 0 = omega (arith, sized) in
+        let end : steps ≡ size (P .root) + 0 = omega (arith, root-sized H) in
         rw (H .denominatorGiven, H .locationsGiven, end)
         (walked purpose S (P .steps) (H .inRange) rows-few (P .root) 0 root-ready .walks
         ∙ both-met (firstAsked purpose (claims S (sites S [] (startMap S) (P .root))))
@@ -279,7 +247,7 @@ module _ (w : List ℕ) (steps denominator locations start : ℕ) (P : Program) 
     -- 44, then 30 to 33
     pub sheets-shown : (types : ℕ) → types ≡ S .header .types
         → both (locksOutcome w locations 0 types)
-        (both (startOutcome w denominator locations (record { 0 = start })) (walk purpose locations denominator (atRoot w (record { 0 = start })) 0 steps))
+        (both (startOutcome (getD w linesAt 0) w denominator locations (record { 0 = start })) (walk purpose locations denominator (atRoot w (record { 0 = start })) 0 steps))
         ≡ (locksTakeEnough S >>= λ enough. startAtMostOne P S >>= λ whole. ruledFor purpose P S)
     unfolding both
-    sheets-shown types counted = rw (locks-shown types counted, start-shown, steps-shown)
+    sheets-shown types counted = rw (locks-shown w S (P .steps) (H .split) (H .inRange) locations (H .locationsGiven) types counted, start-shown, steps-shown)

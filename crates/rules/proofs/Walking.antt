@@ -10,6 +10,7 @@ use lib.Seq.{getD-set-same, getD-set-other}
 use borrow.Author.Tests.{lt-ltb, ltb-true}
 use Rattle.spec.specs.Choice.{if_then_else_}
 use Rattle.spec.specs.Reading.{on}
+use Rattle.spec.specs.Words.{preOfPart, preOfSecond}
 use Rattle.spec.specs.declared.MapNumber.{MapNumber}
 use Rattle.spec.specs.declared.Purpose.{Purpose}
 use Rattle.spec.specs.declared.Word.{Word}
@@ -17,8 +18,8 @@ use Rattle.spec.specs.declared.Word.the-variants.{Leaf, Unary, Binary}
 use Rattle.workspace.specs.Layout.{wordsAt, presAt, wordOf}
 use Rattle.workspace.specs.Region.{ChangedWithin}
 use Rattle.workspace.proofs.Region.{changed-nothing, changed-store, changed-then}
-use Rattle.rules.specs.Outcome.{both}
-use Rattle.rules.specs.Walk.{cell, stepOutcome, counted, putPre, numberOfPart, numberOfSecond, passWord, passOn, walk}
+use Rattle.conditions.specs.Outcome.{both}
+use Rattle.rules.specs.Walk.{cell, stepOutcome, counted, putPre, passWord, passOn, walk}
 
 module _ (purpose : Purpose) (locations denominator : ℕ) (w : List ℕ) (k n : ℕ) where
   pub walk-more : k < n
@@ -61,9 +62,9 @@ pass-within w k = word (wordOf (cell w wordsAt k)) _ _ _ _ _
     word : (x : Word) (pre post post₁ start : MapNumber) (second : ℕ)
         → ChangedWithin presAt (presAt + 256) w (passWord x w k pre post post₁ start second)
     word (Leaf l) pre post post₁ start second = changed-nothing presAt (presAt + 256) w
-    word (Unary u) pre post post₁ start second = put-within w (k + 1) (numberOfPart u pre post)
+    word (Unary u) pre post post₁ start second = put-within w (k + 1) (preOfPart u pre post)
     word (Binary b) pre post post₁ start second =
-        changed-then presAt (presAt + 256) (put-within w (k + 1) pre) (put-within _ second (numberOfSecond b pre post₁ start))
+        changed-then presAt (presAt + 256) (put-within w (k + 1) pre) (put-within _ second (preOfSecond b pre post₁ start))
 
 -- a map before a step, once it is put there, and another step's
 pub put-at : (w : List ℕ) (i : ℕ) (m : MapNumber) → i < 256 → presAt + 256 ≤ length w → cell (putPre w i m) presAt i ≡ m .0

@@ -12,8 +12,8 @@ use Rattle.workspace.specs.Layout.{presAt}
 use Rattle.workspace.specs.Region.{ChangedWithin}
 use Rattle.workspace.specs.Sheets.{HoldsSheets}
 use Rattle.workspace.specs.declared.Header.{Header}
-use Rattle.rules.specs.Outcome.{outcome}
-use Rattle.rules.specs.declared.Ruling.{Ruling}
+use Rattle.conditions.specs.Outcome.{outcome}
+use Rattle.conditions.specs.declared.Ruling.{Ruling}
 
 -- the conditions by purpose: all of them, 31 to 33, or those on types, 31
 unfoldable pub ruledFor : Purpose → Program → Split → Out (Unit {0})

@@ -1,41 +1,22 @@
--- The lock lines, the start, then the steps in line order: what the conditions of each look at, and the map before each, which its step hands down.
+-- The steps in line order: what the conditions of each look at, and the map before each, which its step hands down.
 use mathlib.Core.List.{List}
 use Prim.Native.Nat.{ℕ, zero, suc, _+_}
 use lib.Dec.{eqb, ltb}
 use lib.ListN.{getD, set}
 use Rattle.spec.specs.Choice.{if_then_else_}
-use Rattle.spec.specs.Reading.{Out, stop, on, demand}
-use Rattle.spec.specs.Maps.{overWhole}
-use Rattle.spec.specs.Verdict.{refuseOver, returned}
+use Rattle.spec.specs.Reading.{Out, stop, on}
+use Rattle.spec.specs.Words.{preOfPart, preOfSecond}
+use Rattle.spec.specs.Verdict.{returned}
 use Rattle.spec.specs.declared.MapNumber.{MapNumber}
 use Rattle.spec.specs.declared.Answer.the-variants.{Refuse}
-use Rattle.spec.specs.declared.Refusal.the-variants.{LockTakesLess}
 use Rattle.spec.specs.declared.Purpose.{Purpose}
 use Rattle.spec.specs.declared.Purpose.the-variants.{Check, Fill}
 use Rattle.spec.specs.declared.Word.{Word}
 use Rattle.spec.specs.declared.Word.the-variants.{Leaf, Unary, Binary}
-use Rattle.spec.specs.declared.UnaryWord.{UnaryWord}
-use Rattle.spec.specs.declared.UnaryWord.the-variants.{While, Join, Ref, Read, Lock, Unlock, Post, Wait, Rdlock, Rdunlock, Wrlock, Wrunlock}
-use Rattle.spec.specs.declared.BinaryWord.{BinaryWord}
-use Rattle.spec.specs.declared.BinaryWord.the-variants.{Let, If, Spawn, Write}
-use Rattle.workspace.specs.Layout.{wordsAt, valuesAt, endsAt, letsAt, rowTypesAt, postsAt, startsAt, presAt, ruleOf, wordOf, typeAt, mapIn}
-use Rattle.rules.specs.Outcome.{both, judged}
-use Rattle.rules.specs.Agreement.{takesEnoughIn}
-use Rattle.rules.specs.Table.{ruleRow}
-use Rattle.rules.specs.declared.View.{View}
-
--- 44, at the line of type t: types begin at line 2
-unfoldable pub lockOutcome : (w : List ℕ) → (locations t : ℕ) → Out (Unit {0})
-lockOutcome w locations t = demand (takesEnoughIn w locations (typeAt w (record { 0 = t }))) (LockTakesLess (t + 2))
-
--- n types from type t on
-unfoldable pub locksOutcome : (w : List ℕ) → (locations t n : ℕ) → Out (Unit {0})
-locksOutcome w locations t zero = on tt
-locksOutcome w locations t (suc n) = both (lockOutcome w locations t) (locksOutcome w locations (t + 1) n)
-
--- 30, at the root's line: the lowest location at which the start is over the whole
-unfoldable pub startOutcome : (w : List ℕ) → (denominator locations : ℕ) → (start : MapNumber) → Out (Unit {0})
-startOutcome w denominator locations start = refuseOver 2 (overWhole denominator 0 (mapIn w locations start))
+use Rattle.workspace.specs.Layout.{wordsAt, valuesAt, endsAt, letsAt, linesAt, rowTypesAt, postsAt, startsAt, presAt, ruleOf, wordOf, typeAt}
+use Rattle.conditions.specs.Outcome.{both, firstFalseFrom}
+use Rattle.words.specs.Table.{ruleRow}
+use Rattle.words.specs.declared.View.{View}
 
 -- entry i of the column that begins at b
 abbrev pub cell : (w : List ℕ) → (b i : ℕ) → ℕ
@@ -43,13 +24,13 @@ cell w b i = getD w (b + i) 0
 
 -- what the conditions of step k look at: a first part stands just behind its step, a second part at the end of the first,
 -- the e1 of a let just behind the let
-unfoldable pub viewOf : (w : List ℕ) → (locations denominator k : ℕ) → View
+abbrev pub viewOf : (w : List ℕ) → (locations denominator k : ℕ) → View
 viewOf w locations denominator k = record {
-  line = k + 2;
+  line = cell w linesAt k;
   value = cell w valuesAt k;
   locations = locations;
   denominator = denominator;
-  own = record { 0 = cell w rowTypesAt k };
+  typed = record { 0 = cell w rowTypesAt k };
   type1 = record { 0 = cell w (rowTypesAt + 1) k };
   type2 = record { 0 = cell w rowTypesAt (cell w (endsAt + 1) k) };
   bound = record { 0 = cell w (rowTypesAt + 1) (cell w letsAt k) };
@@ -64,7 +45,7 @@ viewOf w locations denominator k = record {
 unfoldable pub stepOutcome : (w : List ℕ) → (locations denominator k : ℕ) → Out (Unit {0})
 stepOutcome w locations denominator k =
     let s = viewOf w locations denominator k in
-    judged (k + 2) 1 (ruleRow (ruleOf (cell w wordsAt k)) w s (typeAt w (s .own)) (typeAt w (s .type1)))
+    firstFalseFrom (s .line) 1 (ruleRow (ruleOf (cell w wordsAt k)) w s (typeAt w (s .typed)) (typeAt w (s .type1)))
 
 -- what an outcome says of types: a refusal on flow or access, 32 or 33, is none
 unfoldable pub onTypes : Out (Unit {0}) → Out (Unit {0})
@@ -84,32 +65,11 @@ atRoot w start = set w presAt (start .0)
 unfoldable pub putPre : (w : List ℕ) → (i : ℕ) → MapNumber → List ℕ
 putPre w i m = if ltb i 256 then set w (presAt + i) (m .0) else w
 
--- the maps before the parts of a step, as document 01's preOfPart and preOfSecond have them, by number
-unfoldable pub numberOfPart : UnaryWord → (pre post : MapNumber) → MapNumber
-numberOfPart While pre post = post
-numberOfPart Join pre post = pre
-numberOfPart Ref pre post = pre
-numberOfPart Read pre post = pre
-numberOfPart Lock pre post = pre
-numberOfPart Unlock pre post = pre
-numberOfPart Post pre post = pre
-numberOfPart Wait pre post = pre
-numberOfPart Rdlock pre post = pre
-numberOfPart Rdunlock pre post = pre
-numberOfPart Wrlock pre post = pre
-numberOfPart Wrunlock pre post = pre
-
-unfoldable pub numberOfSecond : BinaryWord → (pre post₁ start : MapNumber) → MapNumber
-numberOfSecond Let pre post₁ start = post₁
-numberOfSecond If pre post₁ start = pre
-numberOfSecond Spawn pre post₁ start = start
-numberOfSecond Write pre post₁ start = post₁
-
 unfoldable pub passWord : Word → (w : List ℕ) → (k : ℕ) → (pre post post₁ start : MapNumber) → (second : ℕ) → List ℕ
 passWord (Leaf l) w k pre post post₁ start second = w
-passWord (Unary u) w k pre post post₁ start second = putPre w (k + 1) (numberOfPart u pre post)
+passWord (Unary u) w k pre post post₁ start second = putPre w (k + 1) (preOfPart u pre post)
 passWord (Binary b) w k pre post post₁ start second =
-    putPre (putPre w (k + 1) pre) second (numberOfSecond b pre post₁ start)
+    putPre (putPre w (k + 1) pre) second (preOfSecond b pre post₁ start)
 
 -- the maps before the parts of step k
 unfoldable pub passOn : (w : List ℕ) → (k : ℕ) → List ℕ

@@ -1,7 +1,5 @@
 // The steps in line order. Each is judged once the map before it is known, and hands down the maps before its parts.
-use super::Ruling;
-use super::View;
-use super::words::check_rule;
+use conditions::Ruling;
 use spec::BinaryWord;
 use spec::MapNumber;
 use spec::Purpose;
@@ -9,8 +7,11 @@ use spec::Refusal;
 use spec::TypeNumber;
 use spec::UnaryWord;
 use spec::Word;
+use words::View;
+use words::check_rule;
 use workspace::ENDS;
 use workspace::LETS;
+use workspace::LINES;
 use workspace::POSTS;
 use workspace::PRES;
 use workspace::ROW_TYPES;
@@ -26,14 +27,15 @@ ghost use mathlib.Core.Path.{_≡_};
 ghost use Prim.Native.Nat.{_+_, _≤_, _<_};
 ghost use lib.ListN.{length};
 ghost use Rattle.spec.specs.Reading.{stop};
-ghost use Rattle.workspace.specs.Layout.{presAt};
+ghost use Rattle.spec.specs.Words.{preOfPart, preOfSecond};
+ghost use Rattle.workspace.specs.Layout.{presAt, workSize};
 ghost use Rattle.workspace.specs.Region.{ChangedWithin};
-ghost use Rattle.rules.specs.Outcome.{outcome};
-ghost use Rattle.rules.specs.Walk.{cell, viewOf, atRoot, stepOutcome, onTypes, counted, putPre, numberOfPart, numberOfSecond, passOn, walk};
+ghost use Rattle.conditions.specs.Outcome.{outcome};
+ghost use Rattle.rules.specs.Walk.{cell, viewOf, atRoot, stepOutcome, onTypes, counted, putPre, passOn, walk};
 
 // Entry i of the column that begins at base.
 fn cell(work: &[u32], base: usize, i: u32) -> u32
-    requires { ⌜ base < 16384 ⌝ }
+    requires { ⌜ base < workSize ⌝ }
     ensures { λ r. ⌜ r ≡ cell (now (work .entry)) base i ⌝ }
 {
     at(work, base + index(i))
@@ -48,11 +50,11 @@ fn view_of(work: &[u32], locations: u32, denominator: u32, k: u32) -> View
     let second = cell(work, ENDS + 1, k);
     let binder = cell(work, LETS, k);
     View {
-        line: k + 2,
+        line: cell(work, LINES, k),
         value: cell(work, VALUES, k),
         locations: locations,
         denominator: denominator,
-        own: TypeNumber(cell(work, ROW_TYPES, k)),
+        typed: TypeNumber(cell(work, ROW_TYPES, k)),
         type1: TypeNumber(cell(work, ROW_TYPES + 1, k)),
         type2: TypeNumber(cell(work, ROW_TYPES, second)),
         bound: TypeNumber(cell(work, ROW_TYPES + 1, binder)),
@@ -71,7 +73,7 @@ fn check_step(work: &[u32], locations: u32, denominator: u32, k: u32) -> Ruling
 {
     let r = rule_of(cell(work, WORDS, k));
     let s = view_of(work, locations, denominator, k);
-    check_rule(r, work, s, type_at(work, s.own), type_at(work, s.type1))
+    check_rule(r, work, s, type_at(work, s.typed), type_at(work, s.type1))
 }
 
 // A refusal on types; one on flow or access does not count.
@@ -103,7 +105,7 @@ fn counted(purpose: Purpose, r: Ruling) -> Ruling
 
 // The map before a step, for one of the 256 that there may be.
 fn put_pre(work: &mut [u32], i: u32, m: MapNumber)
-    requires { ⌜ length (now work) ≡ 16384 ⌝ }
+    requires { ⌜ length (now work) ≡ workSize ⌝ }
     ensures { λ _. ⌜ now (work .exit) ≡ putPre (now (work .entry)) i m ⌝ }
 {
     if i < 256 {
@@ -114,7 +116,7 @@ fn put_pre(work: &mut [u32], i: u32, m: MapNumber)
 
 // The map before the part of a step with one part.
 fn pre_of_part(w: UnaryWord, pre: MapNumber, post: MapNumber) -> MapNumber
-    ensures { λ r. ⌜ r ≡ numberOfPart w pre post ⌝ }
+    ensures { λ r. ⌜ r ≡ preOfPart w pre post ⌝ }
 {
     match w {
         UnaryWord::While => post,
@@ -134,7 +136,7 @@ fn pre_of_part(w: UnaryWord, pre: MapNumber, post: MapNumber) -> MapNumber
 
 // The map before the second part of a step with two.
 fn pre_of_second(w: BinaryWord, pre: MapNumber, post1: MapNumber, start: MapNumber) -> MapNumber
-    ensures { λ r. ⌜ r ≡ numberOfSecond w pre post1 start ⌝ }
+    ensures { λ r. ⌜ r ≡ preOfSecond w pre post1 start ⌝ }
 {
     match w {
         BinaryWord::Let => post1,
@@ -146,7 +148,7 @@ fn pre_of_second(w: BinaryWord, pre: MapNumber, post1: MapNumber, start: MapNumb
 
 // The maps before the parts of step k. The sheet's locations and denominator play no part in them.
 fn pass_on(work: &mut [u32], k: u32)
-    requires { ⌜ (length (now work) ≡ 16384) × (k < 256) ⌝ }
+    requires { ⌜ (length (now work) ≡ workSize) × (k < 256) ⌝ }
     ensures { λ _. ⌜ now (work .exit) ≡ passOn (now (work .entry)) k ⌝ }
 {
     let s = view_of(work, 0, 0, k);
@@ -170,7 +172,7 @@ pub(crate) fn check_steps(
     locations: u32,
     start: MapNumber,
 ) -> Ruling
-    requires { ⌜ (length (now work) ≡ 16384) × (steps ≤ 256) ⌝ }
+    requires { ⌜ (length (now work) ≡ workSize) × (steps ≤ 256) ⌝ }
     ensures { λ r. ⌜ (outcome r ≡ walk purpose locations denominator (atRoot (now (work .entry)) start) 0 steps) × ChangedWithin presAt (presAt + 256) (now (work .entry)) (now (work .exit)) ⌝ }
 {
     work[PRES] = start.0;

@@ -66,6 +66,15 @@ pub stands-kept : {w w′ : List ℕ} {S : Split} {m : MapNumber} {x : Map} → 
 unfolding mapIn
 stands-kept {m = m} c p = record { is = from-kept c m 0 _ ∙ p .is }
 
+-- K of a tid or sem type, in and out of a lock type, r and w of a rwlock type are maps of the sheet; where they are not asked for they
+-- are the first
+pub record LoadsIn (S : Split) (x : TypeLine) : Type 0 where
+  pub load-in : load x .0 < length (S .maps)
+  pub in-load-in : inLoad x .0 < length (S .maps)
+  pub out-load-in : outLoad x .0 < length (S .maps)
+  pub read-load-in : readLoad x .0 < length (S .maps)
+  pub write-load-in : writeLoad x .0 < length (S .maps)
+
 module _ (w : List ℕ) (S : Split) (steps : List Step) (H : HoldsSplit w S) (R : InRange steps S) where
   -- ---------------------------------------------------------------- types
 
@@ -79,8 +88,7 @@ module _ (w : List ℕ) (S : Split) (steps : List Step) (H : HoldsSplit w S) (R 
       )
       (type-of-numbers _)
 
-  -- p of a ref type is a location, K of a tid or sem type a map, in and out of a lock type maps, r and w of a rwlock type maps; where they
-  -- are not asked for they are the first
+  -- p of a ref type is a location; where it is not asked for it is the first
   pub place-in : (t : TypeNumber) → t .0 < length (S .types) → place (typeAt S t) .0 < S .header .locations
   unfolding typeAt place
   place-in t h = of-line (getD (S .types) (t .0) Int) refl
@@ -93,65 +101,24 @@ module _ (w : List ℕ) (S : Split) (steps : List Step) (H : HoldsSplit w S) (R 
       of-line (Sem k) e = R .locations .0
       of-line (Rwlock r w) e = R .locations .0
 
-  pub load-in : (t : TypeNumber) → t .0 < length (S .types) → load (typeAt S t) .0 < length (S .maps)
-  unfolding typeAt load
-  load-in t h = of-line (getD (S .types) (t .0) Int) refl
+  pub loads-in : (t : TypeNumber) → t .0 < length (S .types) → LoadsIn S (typeAt S t)
+  unfolding typeAt load inLoad outLoad readLoad writeLoad
+  loads-in t h = of-line (getD (S .types) (t .0) Int) refl
     where
-      of-line : (x : TypeLine) → getD (S .types) (t .0) Int ≡ x → load x .0 < length (S .maps)
-      of-line Int e = omega (arith, R .mapsCounted, R .mapsFew .0)
-      of-line (Ref p c) e = omega (arith, R .mapsCounted, R .mapsFew .0)
-      of-line (Lock i o) e = omega (arith, R .mapsCounted, R .mapsFew .0)
-      of-line (Tid k) e = R .tidLoad (t .0) k h e
-      of-line (Sem k) e = R .semLoad (t .0) k h e
-      of-line (Rwlock r w) e = omega (arith, R .mapsCounted, R .mapsFew .0)
+      first : 0 < length (S .maps)
+      first = omega (arith, R .mapsCounted, R .mapsFew .0)
 
-  pub in-load-in : (t : TypeNumber) → t .0 < length (S .types) → inLoad (typeAt S t) .0 < length (S .maps)
-  unfolding typeAt inLoad
-  in-load-in t h = of-line (getD (S .types) (t .0) Int) refl
-    where
-      of-line : (x : TypeLine) → getD (S .types) (t .0) Int ≡ x → inLoad x .0 < length (S .maps)
-      of-line Int e = omega (arith, R .mapsCounted, R .mapsFew .0)
-      of-line (Ref p c) e = omega (arith, R .mapsCounted, R .mapsFew .0)
-      of-line (Lock i o) e = R .lockLoads (t .0) i o h e .0
-      of-line (Tid k) e = omega (arith, R .mapsCounted, R .mapsFew .0)
-      of-line (Sem k) e = omega (arith, R .mapsCounted, R .mapsFew .0)
-      of-line (Rwlock r w) e = omega (arith, R .mapsCounted, R .mapsFew .0)
-
-  pub out-load-in : (t : TypeNumber) → t .0 < length (S .types) → outLoad (typeAt S t) .0 < length (S .maps)
-  unfolding typeAt outLoad
-  out-load-in t h = of-line (getD (S .types) (t .0) Int) refl
-    where
-      of-line : (x : TypeLine) → getD (S .types) (t .0) Int ≡ x → outLoad x .0 < length (S .maps)
-      of-line Int e = omega (arith, R .mapsCounted, R .mapsFew .0)
-      of-line (Ref p c) e = omega (arith, R .mapsCounted, R .mapsFew .0)
-      of-line (Lock i o) e = R .lockLoads (t .0) i o h e .1
-      of-line (Tid k) e = omega (arith, R .mapsCounted, R .mapsFew .0)
-      of-line (Sem k) e = omega (arith, R .mapsCounted, R .mapsFew .0)
-      of-line (Rwlock r w) e = omega (arith, R .mapsCounted, R .mapsFew .0)
-
-  pub read-load-in : (t : TypeNumber) → t .0 < length (S .types) → readLoad (typeAt S t) .0 < length (S .maps)
-  unfolding typeAt readLoad
-  read-load-in t h = of-line (getD (S .types) (t .0) Int) refl
-    where
-      of-line : (x : TypeLine) → getD (S .types) (t .0) Int ≡ x → readLoad x .0 < length (S .maps)
-      of-line Int e = omega (arith, R .mapsCounted, R .mapsFew .0)
-      of-line (Ref p c) e = omega (arith, R .mapsCounted, R .mapsFew .0)
-      of-line (Lock i o) e = omega (arith, R .mapsCounted, R .mapsFew .0)
-      of-line (Tid k) e = omega (arith, R .mapsCounted, R .mapsFew .0)
-      of-line (Sem k) e = omega (arith, R .mapsCounted, R .mapsFew .0)
-      of-line (Rwlock r w) e = R .rwlockLoads (t .0) r w h e .0
-
-  pub write-load-in : (t : TypeNumber) → t .0 < length (S .types) → writeLoad (typeAt S t) .0 < length (S .maps)
-  unfolding typeAt writeLoad
-  write-load-in t h = of-line (getD (S .types) (t .0) Int) refl
-    where
-      of-line : (x : TypeLine) → getD (S .types) (t .0) Int ≡ x → writeLoad x .0 < length (S .maps)
-      of-line Int e = omega (arith, R .mapsCounted, R .mapsFew .0)
-      of-line (Ref p c) e = omega (arith, R .mapsCounted, R .mapsFew .0)
-      of-line (Lock i o) e = omega (arith, R .mapsCounted, R .mapsFew .0)
-      of-line (Tid k) e = omega (arith, R .mapsCounted, R .mapsFew .0)
-      of-line (Sem k) e = omega (arith, R .mapsCounted, R .mapsFew .0)
-      of-line (Rwlock r w) e = R .rwlockLoads (t .0) r w h e .1
+      of-line : (x : TypeLine) → getD (S .types) (t .0) Int ≡ x → LoadsIn S x
+      of-line Int e = record { load-in = first; in-load-in = first; out-load-in = first; read-load-in = first; write-load-in = first }
+      of-line (Ref p c) e = record { load-in = first; in-load-in = first; out-load-in = first; read-load-in = first; write-load-in = first }
+      of-line (Lock i o) e =
+          let l = R .lockLoads (t .0) i o h e in
+          record { load-in = first; in-load-in = l .0; out-load-in = l .1; read-load-in = first; write-load-in = first }
+      of-line (Tid k) e = record { load-in = R .tidLoad (t .0) k h e; in-load-in = first; out-load-in = first; read-load-in = first; write-load-in = first }
+      of-line (Sem k) e = record { load-in = R .semLoad (t .0) k h e; in-load-in = first; out-load-in = first; read-load-in = first; write-load-in = first }
+      of-line (Rwlock r w) e =
+          let l = R .rwlockLoads (t .0) r w h e in
+          record { load-in = first; in-load-in = first; out-load-in = first; read-load-in = l .0; write-load-in = l .1 }
 
   -- ---------------------------------------------------------------- maps
 
@@ -160,6 +127,11 @@ module _ (w : List ℕ) (S : Split) (steps : List Step) (H : HoldsSplit w S) (R 
   map-stands m h =
       let e : length (mapAt S m) ≡ S .header .locations = R .mapWide (m .0) h in
       record { is = rw (← e) (cells w m 0 (mapAt S m) (λ i l. ap (mapCell w m) (omega arith) ∙ H .maps (m .0) h .at i l)) }
+
+  -- the map that a type line gives, by some reader of type lines
+  pub given-stands : (reader : TypeLine → MapNumber) (t : TypeNumber) → t .0 < length (S .types) → reader (typeAt S t) .0 < length (S .maps)
+      → Stands w S (reader (layout.typeAt w t)) (mapAt S (reader (typeAt S t)))
+  given-stands reader t h l = rw (type-shown t h) (map-stands (reader (typeAt S t)) l)
 
   -- the empty map
   empty-stands : Stands w S (record { 0 = emptyMap }) (replicate (S .header .locations) 0)

@@ -1,20 +1,19 @@
 use mathlib.Core.Path.{_∙_}
-use Rattle.rules.specs.Walk.{viewOf, stepOutcome}
+use Rattle.rules.specs.Walk.{stepOutcome}
 use borrow.Author.Needs.{needs}
 use Rattle.rules.proofs.steps.check_step.Statement.{statement}
 use Rattle.rules.proofs.steps.check_step.Tie as tie
 
 returns : tie.Need-returns
-unfolding stepOutcome viewOf
+unfolding stepOutcome
 returns c =
+    let kind₁ = c .before in
+    let kind = kind₁ .before in
+    let view = kind .before in
+    let rule = view .before in
+    let word = rule .before in
     c .check-rule .ensures
-    ∙ rw (
-      c .before .type-at2 .ensures,
-      c .before .before .type-at .ensures,
-      c .before .before .before .view-of .ensures,
-      c .before .before .before .before .rule-of .ensures,
-      c .before .before .before .before .before .cell .ensures,
-    )
+    ∙ rw (kind₁ .type-at2 .ensures, kind .type-at .ensures, view .view-of .ensures, rule .rule-of .ensures, word .cell .ensures)
 
 pub check-step-spec : {M : Type 1} → statement M
 check-step-spec =

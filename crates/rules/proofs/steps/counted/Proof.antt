@@ -1,4 +1,4 @@
-use Rattle.rules.specs.Outcome.{outcome}
+use Rattle.conditions.specs.Outcome.{outcome}
 use Rattle.rules.specs.Walk.{onTypes, counted}
 use borrow.Author.Needs.{needs}
 use Rattle.rules.proofs.steps.counted.Statement.{statement}

@@ -1,6 +1,6 @@
 use mathlib.Core.Path.{sym}
 use Rattle.spec.specs.Verdict.{four, returned}
-use Rattle.rules.specs.Outcome.{outcome}
+use Rattle.conditions.specs.Outcome.{outcome}
 use Rattle.rules.specs.Walk.{onTypes}
 use Rattle.rules.proofs.OnTypes.{not-on-types}
 use borrow.Author.Needs.{needs}

@@ -1,6 +1,6 @@
 use mathlib.Core.Path.{sym, ap, _∙_}
 use Rattle.workspace.specs.Layout.{wordOf}
-use Rattle.rules.specs.Walk.{viewOf, passWord, passOn}
+use Rattle.rules.specs.Walk.{passWord, passOn}
 use borrow.Author.Needs.{needs}
 use Rattle.rules.proofs.steps.pass_on.Statement.{statement}
 use Rattle.rules.proofs.steps.pass_on.Tie as tie
@@ -8,32 +8,41 @@ use Rattle.rules.proofs.steps.pass_on.Tie as tie
 returns : tie.Need-returns
 unfolding passOn passWord
 returns c =
-    rw (sym (c .before .before .word-of .ensures
-    ∙ ap wordOf (c .before .before .before .cell2 .ensures)) ∙ c .enum-told .given .1)
+    let word = c .before .before in
+    rw (sym (word .word-of .ensures ∙ ap wordOf (word .before .cell2 .ensures)) ∙ c .enum-told .given .1)
 
 returns-2 : tie.Need-returns-2
-unfolding passOn passWord viewOf
+unfolding passOn passWord
 returns-2 c =
-    c .before .before .put-pre .ensures
+    let put = c .before .before in
+    let part = put .before in
+    let told = part .before .before .before in
+    let word = told .before .before in
+    let view = word .before .before .before .before .before in
+    put .put-pre .ensures
     ∙ rw (
-      c .before .before .before .pre-of-part .ensures,
-      c .before .before .before .before .before .before .before .before .before .before .before .before .before .view-of .ensures,
-      sym (c .before .before .before .before .before .before .before .before .word-of .ensures
-          ∙ ap wordOf (c .before .before .before .before .before .before .before .before .before .cell2 .ensures))
-          ∙ c .before .before .before .before .before .before .u .given .1,
+      part .pre-of-part .ensures,
+      view .view-of .ensures,
+      sym (word .word-of .ensures ∙ ap wordOf (word .before .cell2 .ensures)) ∙ told .u .given .1,
     )
 
 returns-3 : tie.Need-returns-3
-unfolding passOn passWord viewOf
+unfolding passOn passWord
 returns-3 c =
-    c .before .before .put-pre3 .ensures
+    let put = c .before .before in
+    let second = put .before in
+    let first = second .before .before .before .before in
+    let told = first .before .before .before in
+    let word = told .before .before in
+    let ended = word .before .before .before in
+    let view = ended .before .before in
+    put .put-pre3 .ensures
     ∙ rw (
-      c .before .before .before .before .before .before .before .put-pre2 .ensures,
-      c .before .before .before .pre-of-second .ensures,
-      c .before .before .before .before .before .before .before .before .before .before .before .before .before .before .before .cell .ensures,
-      c .before .before .before .before .before .before .before .before .before .before .before .before .before .before .before .before .before .view-of .ensures,
-      sym (c .before .before .before .before .before .before .before .before .before .before .before .before .word-of .ensures
-          ∙ ap wordOf (c .before .before .before .before .before .before .before .before .before .before .before .before .before .cell2 .ensures)) ∙ c .before .before .before .before .before .before .before .before .before .before .b .given .1,
+      first .put-pre2 .ensures,
+      second .pre-of-second .ensures,
+      ended .cell .ensures,
+      view .view-of .ensures,
+      sym (word .word-of .ensures ∙ ap wordOf (word .before .cell2 .ensures)) ∙ told .b .given .1,
     )
 
 pub pass-on-spec : {M : Type 1} → statement M

@@ -1,10 +1,10 @@
-use Rattle.rules.specs.Walk.{numberOfPart}
+use Rattle.spec.specs.Words.{preOfPart}
 use borrow.Author.Needs.{needs}
 use Rattle.rules.proofs.steps.pre_of_part.Statement.{statement}
 use Rattle.rules.proofs.steps.pre_of_part.Tie as tie
 
 pub pre-of-part-spec : {M : Type 1} → statement M
-unfolding numberOfPart
+unfolding preOfPart
 pre-of-part-spec =
     tie.close
     (tie.spec

@@ -1,24 +1,35 @@
-use Rattle.rules.specs.Walk.{viewOf}
 use borrow.Author.Needs.{needs}
 use Rattle.rules.proofs.steps.view_of.Statement.{statement}
 use Rattle.rules.proofs.steps.view_of.Tie as tie
 
 returns : tie.Need-returns
-unfolding viewOf
 returns c =
+    let post₁ = c .before in
+    let start = post₁ .before in
+    let post = start .before in
+    let pre = post .before in
+    let bound = pre .before in
+    let type₂ = bound .before in
+    let type₁ = type₂ .before in
+    let typed = type₁ .before in
+    let value = typed .before in
+    let line = value .before in
+    let binder = line .before in
+    let second = binder .before in
     rw (
-      c .cell12 .ensures,
-      c .before .cell11 .ensures,
-      c .before .before .cell10 .ensures,
-      c .before .before .before .cell9 .ensures,
-      c .before .before .before .before .cell8 .ensures,
-      c .before .before .before .before .before .cell7 .ensures,
-      c .before .before .before .before .before .before .cell6 .ensures,
-      c .before .before .before .before .before .before .before .cell5 .ensures,
-      c .before .before .before .before .before .before .before .before .cell4 .ensures,
-      c .before .before .before .before .before .before .before .before .before .cell3 .ensures,
-      c .before .before .before .before .before .before .before .before .before .before .cell2 .ensures,
-      c .before .before .before .before .before .before .before .before .before .before .before .cell .ensures,
+      c .cell13 .ensures,
+      post₁ .cell12 .ensures,
+      start .cell11 .ensures,
+      post .cell10 .ensures,
+      pre .cell9 .ensures,
+      bound .cell8 .ensures,
+      type₂ .cell7 .ensures,
+      type₁ .cell6 .ensures,
+      typed .cell5 .ensures,
+      value .cell4 .ensures,
+      line .cell3 .ensures,
+      binder .cell2 .ensures,
+      second .cell .ensures,
     )
 
 pub view-of-spec : {M : Type 1} → statement M
@@ -28,7 +39,7 @@ view-of-spec =
     (λ c. search needs)
     (λ c κs. search needs)
     (λ c κs. search needs)
-    (λ c. search needs)
+    (λ c κs. search needs)
     (λ c κs. search needs)
     (λ c κs. search needs)
     (λ c. search needs)

@@ -1,0 +1,70 @@
+-- The first false one of a step's conditions, one condition at a time, as the code of a word goes through them.
+use mathlib.Core.Path.{_≡_, refl, sym, ap, _∙_}
+use mathlib.Core.Bool.{Bool, true, false}
+use mathlib.Core.List.{List, [], _∷_}
+use Prim.Native.Nat.{ℕ, _+_}
+use Rattle.spec.specs.Reading.{Out, stop, on, _>>=_}
+use Rattle.spec.specs.Conditions.{Condition, T}
+use Rattle.spec.specs.Sites.{judge, numbered, firstFalse}
+use Rattle.spec.specs.declared.Refusal.{Refusal}
+use Rattle.conditions.specs.Outcome.{outcome, both, firstFalseFrom}
+use Rattle.conditions.specs.declared.Ruling.{Ruling}
+use Rattle.conditions.specs.declared.Ruling.the-variants.{Met, Refused}
+
+pub both-met : (a : Out (Unit {0})) → both a (on tt) ≡ a
+unfolding both _>>=_
+both-met (stop r) = refl
+both-met (on a) = refl
+
+pub both-assoc : (a b c : Out (Unit {0})) → both (both a b) c ≡ both a (both b c)
+unfolding both _>>=_
+both-assoc (stop r) b c = refl
+both-assoc (on a) b c = refl
+
+module _ (line i : ℕ) where
+  pub first-false-cons : (c : Condition) (cs : List Condition)
+      → firstFalseFrom line i (c ∷ cs) ≡ both (judge line i c) (firstFalseFrom line (i + 1) cs)
+  unfolding firstFalseFrom numbered firstFalse both
+  first-false-cons c cs = refl
+
+  -- the last condition
+  pub last : (c : Condition) {v : Out (Unit {0})} → v ≡ judge line i c → v ≡ firstFalseFrom line i (c ∷ [])
+  unfolding firstFalseFrom numbered firstFalse
+  last c e = e ∙ sym (both-met (judge line i c)) ∙ sym (first-false-cons c [])
+
+  -- a condition and those after it, as `also` joins them
+  pub next : (c : Condition) (cs : List Condition) {v : Out (Unit {0})} (a b : Out (Unit {0}))
+      → v ≡ both a b → a ≡ judge line i c → b ≡ firstFalseFrom line (i + 1) cs → v ≡ firstFalseFrom line i (c ∷ cs)
+  next c cs a b e p q = e ∙ rw (p, q) (sym (first-false-cons c cs))
+
+  -- two conditions that `also` joins, and those after them
+  pub next-two : (c d : Condition) (cs : List Condition) {v u : Out (Unit {0})} (a b f : Out (Unit {0}))
+      → v ≡ both u f → u ≡ both a b → a ≡ judge line i c → b ≡ judge line (i + 1) d → f ≡ firstFalseFrom line (i + 1 + 1) cs
+      → v ≡ firstFalseFrom line i (c ∷ d ∷ cs)
+  unfolding firstFalseFrom numbered firstFalse both
+  next-two c d cs a b f e h p q r =
+      e ∙ rw (h, p, q, r) (both-assoc (judge line i c) (judge line (i + 1) d) (firstFalseFrom line (i + 1 + 1) cs))
+
+  -- a condition on types, by what its test comes to
+  pub asked-as : {a b : Bool} {v : Out (Unit {0})} → v ≡ judge line i (T a) → a ≡ b → v ≡ judge line i (T b)
+  asked-as h e = h ∙ ap (λ x. judge line i (T x)) e
+
+  -- one that holds, one that fails
+  pub pass : (b : Bool) (cs : List Condition) {v : Out (Unit {0})} → b ≡ true → v ≡ firstFalseFrom line (i + 1) cs
+      → v ≡ firstFalseFrom line i (T b ∷ cs)
+  unfolding firstFalseFrom numbered firstFalse judge _>>=_
+  pass b cs e p = rw e p
+
+  pub fail : (b : Bool) (cs : List Condition) {v : Out (Unit {0})} → b ≡ false → v ≡ judge line i (T false)
+      → v ≡ firstFalseFrom line i (T b ∷ cs)
+  unfolding firstFalseFrom numbered firstFalse judge _>>=_
+  fail b cs e p = rw e p
+
+-- a ruling that refuses is the first of two, one that is met is not
+pub refused-stops : (r : Ruling) {x : Refusal} (b : Out (Unit {0})) → r ≡ Refused x → both (outcome r) b ≡ outcome r
+unfolding both outcome _>>=_
+refused-stops r b e = rw e
+
+pub met-goes-on : (r : Ruling) (b : Out (Unit {0})) → r ≡ Met → both (outcome r) b ≡ b
+unfolding both outcome _>>=_
+met-goes-on r b e = rw e

@@ -1,0 +1,31 @@
+-- No lock, or a lock whose out and in are compared.
+use Rattle.spec.specs.Reading.{demand}
+use Rattle.conditions.specs.Outcome.{outcome}
+use Rattle.conditions.proofs.TypeKinds.{not-lock}
+use Rattle.conditions.proofs.LockLines.{no-lock-line, lock-line}
+use borrow.Author.Needs.{needs}
+use Rattle.conditions.proofs.locks.check_lock.Statement.{statement}
+use Rattle.conditions.proofs.locks.check_lock.Tie as tie
+
+returns : tie.Need-returns
+unfolding outcome
+returns c = no-lock-line _ _ _ (c .before .type-at .ensures) (not-lock _ (c .match .keys2))
+
+returns-2 : tie.Need-returns-2
+unfolding outcome demand
+returns-2 c =
+    let asked = c .before in
+    let lock = asked .before .before in
+    rw (lock-line _ _ _ (lock .before .before .type-at .ensures) (lock .load .given .1) _ (asked .everywhere .ensures), c .if1 .taken)
+
+returns-3 : tie.Need-returns-3
+unfolding outcome demand
+returns-3 c =
+    let asked = c .before in
+    let lock = asked .before .before in
+    rw (lock-line _ _ _ (lock .before .before .type-at .ensures) (lock .load .given .1) _ (asked .everywhere .ensures), c .if1 .left)
+
+pub check-lock-spec : {M : Type 1} → statement M
+check-lock-spec =
+    tie.close
+    (tie.spec (λ c. search needs) (λ c κs. search needs) (λ c. search needs) returns (λ c κs. search needs) returns-2 returns-3)

@@ -1,0 +1,4 @@
+pub mod Outcome
+pub mod Relation
+pub mod Agreement
+pub mod SheetOutcomes

@@ -1,0 +1,20 @@
+-- A ruling as an outcome of document 01's definitions, and conditions judged in order.
+use mathlib.Core.List.{List}
+use Prim.Native.Nat.{ℕ}
+use Rattle.spec.specs.Reading.{Out, stop, on, _>>=_}
+use Rattle.spec.specs.Conditions.{Condition}
+use Rattle.spec.specs.Sites.{numbered, firstFalse}
+use Rattle.conditions.specs.declared.Ruling.{Ruling}
+use Rattle.conditions.specs.declared.Ruling.the-variants.{Met, Refused}
+
+unfoldable pub outcome : Ruling → Out (Unit {0})
+outcome Met = on tt
+outcome (Refused r) = stop r
+
+-- the first refusal of two outcomes
+unfoldable pub both : Out (Unit {0}) → Out (Unit {0}) → Out (Unit {0})
+both a b = a >>= λ holds. b
+
+-- the first false one of a step's conditions, which are numbered from i on
+unfoldable pub firstFalseFrom : (line i : ℕ) → List Condition → Out (Unit {0})
+firstFalseFrom line i cs = firstFalse (numbered line i cs)

@@ -1,0 +1,44 @@
+-- Relations between maps that stand in the work space, location by location, and access to one location.
+use mathlib.Core.Bool.{Bool}
+use mathlib.Core.List.{List}
+use mathlib.Core.Option.{Option, none, some}
+use Prim.Native.Nat.{ℕ, _+_, _*_}
+use lib.Dec.{eqb, leb}
+use Rattle.spec.specs.Maps.{lowest, atLeast, _+ᵐ_, _×ᵐ_, overWhole, nowhere}
+use Rattle.spec.specs.Conditions.{Condition, A}
+use Rattle.spec.specs.declared.Location.{Location}
+use Rattle.spec.specs.declared.MapNumber.{MapNumber}
+use Rattle.workspace.specs.Layout.{mapCell, mapFrom}
+use Rattle.conditions.specs.declared.Failing.{Failing}
+use Rattle.conditions.specs.declared.Failing.the-variants.{Nowhere, At}
+use Rattle.conditions.specs.declared.Relation.{Relation}
+use Rattle.conditions.specs.declared.Relation.the-variants.{Equal, AtLeast, Covers, Sum, Within}
+
+-- whether a relation holds at a location
+unfoldable pub holdsAt : (w : List ℕ) → Relation → (l : ℕ) → Bool
+holdsAt w (Equal a b) l = eqb (mapCell w a l) (mapCell w b l)
+holdsAt w (AtLeast a b) l = leb (mapCell w b l) (mapCell w a l)
+holdsAt w (Covers a k b) l = leb (k * mapCell w b l) (mapCell w a l)
+holdsAt w (Sum a b c) l = eqb (mapCell w a l + mapCell w b l) (mapCell w c l)
+holdsAt w (Within a d) l = leb (mapCell w a l) d
+
+-- the lowest of n locations from l on at which a relation fails
+unfoldable pub failsFrom : (w : List ℕ) → Relation → (l n : ℕ) → Option ℕ
+failsFrom w (Equal a b) l n = lowest eqb l (mapFrom w a l n) (mapFrom w b l n)
+failsFrom w (AtLeast a b) l n = lowest atLeast l (mapFrom w a l n) (mapFrom w b l n)
+failsFrom w (Covers a k b) l n = lowest atLeast l (mapFrom w a l n) (k ×ᵐ mapFrom w b l n)
+failsFrom w (Sum a b c) l n = lowest eqb l (mapFrom w a l n +ᵐ mapFrom w b l n) (mapFrom w c l n)
+failsFrom w (Within a d) l n = overWhole d l (mapFrom w a l n)
+
+-- what the code says of that location
+unfoldable pub failsAt : Failing → Option ℕ
+failsAt Nowhere = none
+failsAt (At l) = some l
+
+-- whether a relation holds at each of n locations
+unfoldable pub everywhere : (w : List ℕ) (n : ℕ) → Relation → Bool
+everywhere w n r = nowhere (failsFrom w r 0 n)
+
+-- a map has at least so much of a location
+abbrev pub hasAtLeast : (w : List ℕ) → MapNumber → Location → (least : ℕ) → Condition
+hasAtLeast w m p least = A (leb least (mapCell w m (p .0))) p

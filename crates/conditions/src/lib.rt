@@ -1,0 +1,164 @@
+// What one condition asks of the sheets that the work space holds, judged with its line and its number: on types, on flow, on
+// access. Before those of the steps come 44, of the lock lines, and 30, of the start.
+mod locks;
+mod types;
+
+pub use locks::check_locks;
+use spec::Location;
+use spec::MapNumber;
+use spec::Refusal;
+pub use types::agree;
+pub use types::may_show;
+use workspace::index;
+use workspace::map_cell;
+use workspace::wide;
+ghost use mathlib.Core.Path.{_≡_};
+ghost use mathlib.Core.Bool.{false};
+ghost use Rattle.spec.specs.Conditions.{T, F};
+ghost use Rattle.spec.specs.Sites.{judge};
+ghost use Rattle.conditions.specs.Outcome.{outcome, both};
+ghost use Rattle.conditions.specs.SheetOutcomes.{startOutcome};
+ghost use Rattle.conditions.specs.Relation.{holdsAt, failsFrom, failsAt, everywhere, hasAtLeast};
+
+// Every condition is met, or the first that is not refuses.
+pub enum Ruling {
+    Met,
+    Refused(Refusal),
+}
+
+// What is asked of maps, number by number: a = b, a ≥ b, a ≥ n × b, a + b = c, a ≤ n.
+pub enum Relation {
+    Equal(MapNumber, MapNumber),
+    AtLeast(MapNumber, MapNumber),
+    Covers(MapNumber, u32, MapNumber),
+    Sum(MapNumber, MapNumber, MapNumber),
+    Within(MapNumber, u32),
+}
+
+// The lowest location at which a relation fails.
+enum Failing {
+    Nowhere,
+    At(u32),
+}
+
+// The first refusal of two rulings.
+pub fn also(a: Ruling, b: Ruling) -> Ruling
+    ensures { λ r. ⌜ outcome r ≡ both (outcome a) (outcome b) ⌝ }
+{
+    let Ruling::Met = a else {
+        return a;
+    };
+    b
+}
+
+// A condition on types that fails.
+pub fn type_false(line: u32, condition: u32) -> Ruling
+    ensures { λ r. ⌜ outcome r ≡ judge line condition (T false) ⌝ }
+{
+    Ruling::Refused(Refusal::TypeFalse {
+        line: line,
+        condition: condition,
+    })
+}
+
+// A condition on types.
+pub fn on_types(line: u32, condition: u32, holds: bool) -> Ruling
+    ensures { λ r. ⌜ outcome r ≡ judge line condition (T holds) ⌝ }
+{
+    if holds {
+        Ruling::Met
+    } else {
+        type_false(line, condition)
+    }
+}
+
+// Whether a relation holds at a location.
+fn holds_at(work: &[u32], relation: Relation, location: u32) -> bool
+    ensures { λ ok. ⌜ ok ≡ holdsAt (now (work .entry)) relation location ⌝ }
+{
+    let l = index(location);
+    match relation {
+        Relation::Equal(a, b) => map_cell(work, a, l) == map_cell(work, b, l),
+        Relation::AtLeast(a, b) => map_cell(work, b, l) <= map_cell(work, a, l),
+        Relation::Covers(a, n, b) => {
+            let product = wide(n) * wide(map_cell(work, b, l));
+            product <= wide(map_cell(work, a, l))
+        }
+        Relation::Sum(a, b, c) => {
+            let sum = wide(map_cell(work, a, l)) + wide(map_cell(work, b, l));
+            sum == wide(map_cell(work, c, l))
+        }
+        Relation::Within(a, n) => map_cell(work, a, l) <= n,
+    }
+}
+
+// Where a relation fails first.
+fn lowest_failing(work: &[u32], locations: u32, relation: Relation) -> Failing
+    ensures { λ r. ⌜ failsAt r ≡ failsFrom (now (work .entry)) relation 0 locations ⌝ }
+{
+    let mut l = 0;
+    while l < locations {
+        if !holds_at(work, relation, l) {
+            return Failing::At(l);
+        }
+        l += 1;
+    }
+    Failing::Nowhere
+}
+
+// Whether a relation holds at every location.
+fn everywhere(work: &[u32], locations: u32, relation: Relation) -> bool
+    ensures { λ ok. ⌜ ok ≡ everywhere (now (work .entry)) locations relation ⌝ }
+{
+    match lowest_failing(work, locations, relation) {
+        Failing::Nowhere => true,
+        Failing::At(_) => false,
+    }
+}
+
+// A flow condition, refused at the lowest location at which it fails.
+pub fn flow(line: u32, condition: u32, work: &[u32], locations: u32, relation: Relation) -> Ruling
+    ensures { λ r. ⌜ outcome r ≡ judge line condition (F (failsFrom (now (work .entry)) relation 0 locations)) ⌝ }
+{
+    match lowest_failing(work, locations, relation) {
+        Failing::Nowhere => Ruling::Met,
+        Failing::At(l) => Ruling::Refused(Refusal::FlowFalse {
+            line: line,
+            condition: condition,
+            location: Location(l),
+        }),
+    }
+}
+
+// A map has at least so much of a location.
+pub fn has(line: u32, condition: u32, work: &[u32], m: MapNumber, p: Location, least: u32) -> Ruling
+    ensures { λ r. ⌜ outcome r ≡ judge line condition (hasAtLeast (now (work .entry)) m p least) ⌝ }
+{
+    if least <= map_cell(work, m, index(p.0)) {
+        return Ruling::Met;
+    }
+    Ruling::Refused(Refusal::AccessFalse {
+        line: line,
+        condition: condition,
+        location: p,
+    })
+}
+
+// 30: the start has at most the whole of each location.
+pub fn check_start(
+    line: u32,
+    work: &[u32],
+    denominator: u32,
+    locations: u32,
+    start: MapNumber,
+) -> Ruling
+    ensures { λ r. ⌜ outcome r ≡ startOutcome line (now (work .entry)) denominator locations start ⌝ }
+{
+    match lowest_failing(work, locations, Relation::Within(start, denominator)) {
+        Failing::Nowhere => Ruling::Met,
+        Failing::At(l) => Ruling::Refused(Refusal::OverOne {
+            line: line,
+            location: Location(l),
+        }),
+    }
+}

@@ -1,0 +1,2 @@
+pub mod LoadedParts
+pub mod TableRows

@@ -1,0 +1,217 @@
+-- The conditions of each word, from what the work space shows of a step, are those of document 01's table.
+use mathlib.Core.Path.{_≡_, refl, sym, ap, _∙_}
+use mathlib.Core.List.{List}
+use Prim.Native.Nat.{ℕ, zero, suc, _<_}
+use native.Mathlib.Omega.{arith}
+use lib.Dec.{leb, ltb}
+use lib.ListN.{length}
+use borrow.Author.Tests.{le-leb, lt-ltb}
+use Rattle.spec.specs.Expression.{Step, Expr, leaf, unary, binary, Position}
+use Rattle.spec.specs.Split.{Map, Split}
+use Rattle.spec.specs.Maps.{_=ᵐ_, _≥ᵐ_, _+ᵐ_, _×ᵐ_, share}
+use Rattle.spec.specs.Conditions.{Env, typeAt, mapAt, typeIn, mayShow, contains, row, type, kind, post, start, K, inMap, outMap, readMap, writeMap, place, load, inLoad, outLoad, readLoad, writeLoad, own}
+use Rattle.spec.specs.Agreement.{agree}
+use Rattle.spec.specs.Ranges.{InRange}
+use Rattle.spec.specs.declared.MapNumber.{MapNumber}
+use Rattle.spec.specs.declared.TypeNumber.{TypeNumber}
+use Rattle.spec.specs.declared.TypeLine.{TypeLine}
+use Rattle.spec.specs.declared.LeafWord.{LeafWord}
+use Rattle.spec.specs.declared.LeafWord.the-variants.{Var, Int, Newtid, Newlock, Newsem, Newrwlock}
+use Rattle.spec.specs.declared.UnaryWord.{UnaryWord}
+use Rattle.spec.specs.declared.UnaryWord.the-variants.{While, Join, Ref, Read, Lock, Unlock, Post, Wait, Rdlock, Rdunlock, Wrlock, Wrunlock}
+use Rattle.spec.specs.declared.BinaryWord.{BinaryWord}
+use Rattle.spec.specs.declared.BinaryWord.the-variants.{Let, If, Spawn, Write}
+use Rattle.workspace.specs.Layout as layout
+use Rattle.workspace.specs.Layout.{mapCell, printed, ruleOf, leafCode, unaryCode, binaryCode}
+use Rattle.workspace.specs.Holds.{HoldsSplit}
+use Rattle.workspace.proofs.Shown.{Stands, type-shown, place-in, LoadsIn, loads-in, given-stands, has-shown}
+use Rattle.conditions.specs.Relation.{failsFrom}
+use Rattle.conditions.specs.declared.Relation.the-variants.{Equal, AtLeast, Covers, Sum}
+use Rattle.conditions.specs.Agreement.{agreeIn, mayShowIn, containsIn}
+use Rattle.words.specs.Table.{ruleRow}
+use Rattle.words.specs.declared.View.{View}
+use Rattle.conditions.proofs.Agreement.{agree-shown, may-show-shown, contains-shown}
+use Rattle.conditions.proofs.Shown.{equal-shown, at-least-shown, covers-shown, sum-shown, is-sum-shown}
+
+-- "> 0" is "≥ 1"
+some-is-one : (x : ℕ) → leb 1 x ≡ ltb 0 x
+some-is-one zero = refl
+some-is-one (suc x) = le-leb 1 (suc x) (omega arith) ∙ sym (lt-ltb 0 (suc x) (omega arith))
+
+-- a type and a map that a view shows are the type and the post of an expression
+pub record Part (w : List ℕ) (S : Split) (t : TypeNumber) (m : MapNumber) (e : Expr) : Type 0 where
+  pub typed : t ≡ row S e .type
+  pub type-in : row S e .type .0 < length (S .types)
+  pub posted : Stands w S m (post S e)
+
+-- a `var` shows the type of its let's e1, a `newrwlock` its number of reading places
+abbrev pub Bound : Split → LeafWord → View → Env → (v : ℕ) → Type 0
+Bound S Var s Γ v = (s .bound ≡ typeIn Γ v) × (typeIn Γ v .0 < length (S .types))
+Bound S Int s Γ v = Unit {0}
+Bound S Newtid s Γ v = Unit {0}
+Bound S Newlock s Γ v = Unit {0}
+Bound S Newsem s Γ v = Unit {0}
+Bound S Newrwlock s Γ v = s .value ≡ v
+
+module _ (w : List ℕ) (S : Split) (steps : List Step) (H : HoldsSplit w S) (R : InRange steps S)
+    (s : View) (located : s .locations ≡ S .header .locations) (divided : s .denominator ≡ S .header .denominator)
+    (Γ : Env) (pre : Map) (pre-stands : Stands w S (s .pre) pre) (l : Position) (v : ℕ) where
+  -- ---------------------------------------------------------------- types and maps that the view shows
+
+  typed-as : {t : TypeNumber} {m : MapNumber} (e : Expr) → Part w S t m e → layout.typeAt w t ≡ kind S e
+  unfolding kind type
+  typed-as e p = ap (layout.typeAt w) (p .typed) ∙ type-shown w S steps H R _ (p .type-in)
+
+  -- a map that a part's type gives, by some reader of type lines
+  gives : {t : TypeNumber} {m : MapNumber} (reader : TypeLine → MapNumber) (e : Expr) → Part w S t m e
+      → reader (typeAt S (row S e .type)) .0 < length (S .maps) → Stands w S (reader (layout.typeAt w t)) (mapAt S (reader (kind S e)))
+  unfolding kind type
+  gives reader e p h = rw (p .typed) (given-stands w S steps H R reader _ (p .type-in) h)
+
+  loads : {t : TypeNumber} {m : MapNumber} (e : Expr) → Part w S t m e → LoadsIn S (typeAt S (row S e .type))
+  loads e p = loads-in w S steps H R _ (p .type-in)
+
+  load-stands : {t : TypeNumber} {m : MapNumber} (e : Expr) → Part w S t m e → Stands w S (load (layout.typeAt w t)) (K S e)
+  unfolding K
+  load-stands e p = gives load e p (loads e p .load-in)
+
+  in-stands : {t : TypeNumber} {m : MapNumber} (e : Expr) → Part w S t m e → Stands w S (inLoad (layout.typeAt w t)) (inMap S e)
+  unfolding inMap
+  in-stands e p = gives inLoad e p (loads e p .in-load-in)
+
+  out-stands : {t : TypeNumber} {m : MapNumber} (e : Expr) → Part w S t m e → Stands w S (outLoad (layout.typeAt w t)) (outMap S e)
+  unfolding outMap
+  out-stands e p = gives outLoad e p (loads e p .out-load-in)
+
+  read-stands : {t : TypeNumber} {m : MapNumber} (e : Expr) → Part w S t m e → Stands w S (readLoad (layout.typeAt w t)) (readMap S e)
+  unfolding readMap
+  read-stands e p = gives readLoad e p (loads e p .read-load-in)
+
+  write-stands : {t : TypeNumber} {m : MapNumber} (e : Expr) → Part w S t m e → Stands w S (writeLoad (layout.typeAt w t)) (writeMap S e)
+  unfolding writeMap
+  write-stands e p = gives writeLoad e p (loads e p .write-load-in)
+
+  -- ---------------------------------------------------------------- flow and access
+
+  module _ {a b : MapNumber} {x y : Map} (p : Stands w S a x) (q : Stands w S b y) where
+    equal : failsFrom w (Equal a b) 0 (s .locations) ≡ (x =ᵐ y)
+    equal = rw (located, equal-shown w S steps H R p q)
+
+    at-least : failsFrom w (AtLeast a b) 0 (s .locations) ≡ (x ≥ᵐ y)
+    at-least = rw (located, at-least-shown w S steps H R p q)
+
+    covers : (k : ℕ) → failsFrom w (Covers a k b) 0 (s .locations) ≡ (x ≥ᵐ k ×ᵐ y)
+    covers k = rw (located, covers-shown w S steps H R p q k)
+
+    module _ {c : MapNumber} {z : Map} (r : Stands w S c z) where
+      sum : failsFrom w (Sum a b c) 0 (s .locations) ≡ (x +ᵐ y =ᵐ z)
+      sum = rw (located, sum-shown w S steps H R p q r)
+
+      is-sum : failsFrom w (Sum a b c) 0 (s .locations) ≡ (z =ᵐ x +ᵐ y)
+      is-sum = rw (located, is-sum-shown w S steps H R p q r)
+
+  shares : {t u : TypeNumber} {m n : MapNumber} (e e₁ : Expr) → Part w S t m e → Part w S u n e₁
+      → mapCell w m (place (kind S e₁) .0) ≡ share (post S e) (place (kind S e₁))
+  unfolding kind type
+  shares e e₁ o f = has-shown w S steps H R _ (o .posted) (place-in w S steps H R _ (f .type-in))
+
+  -- ---------------------------------------------------------------- agreement
+
+  agrees : {t u : TypeNumber} {m : MapNumber} (e : Expr) (x : TypeNumber) → Part w S t m e → u ≡ x → x .0 < length (S .types)
+      → agreeIn w (s .locations) t u ≡ agree S (type S e) x
+  unfolding type
+  agrees e x p q h = rw (p .typed, q) (agree-shown w S steps H R (s .locations) located _ _ (p .type-in) h)
+
+  shows : {t u : TypeNumber} {m : MapNumber} (e : Expr) (x : TypeNumber) → Part w S t m e → u ≡ x → x .0 < length (S .types)
+      → mayShowIn w (s .locations) t u ≡ mayShow S (type S e) x
+  unfolding type
+  shows e x p q h = rw (p .typed, q) (may-show-shown w S steps H R (s .locations) located _ _ (p .type-in) h)
+
+  holds-content : {t u : TypeNumber} {m n : MapNumber} (e e₁ : Expr) → Part w S t m e → Part w S u n e₁
+      → containsIn w (s .locations) (layout.typeAt w t) u ≡ contains S (kind S e) (type S e₁)
+  unfolding type kind
+  holds-content e e₁ p q = rw (typed-as e p, q .typed) (contains-shown w S steps H R (s .locations) located _ _ (p .type-in) (q .type-in))
+
+  -- ---------------------------------------------------------------- the table
+
+  pub leaf-shown : (x : LeafWord) → Part w S (s .typed) (s .post) (leaf x l v) → Bound S x s Γ v
+      → ruleRow (ruleOf (leafCode x)) w s (layout.typeAt w (s .typed)) (layout.typeAt w (s .type1)) ≡ own S Γ pre (leaf x l v)
+  unfolding printed ruleOf ruleRow own type
+  leaf-shown Var o b = rw (equal (o .posted) pre-stands, shows _ _ o (b .0) (b .1))
+  leaf-shown Int o b = rw (equal (o .posted) pre-stands, typed-as _ o)
+  leaf-shown Newtid o b = rw (equal (o .posted) pre-stands, typed-as _ o)
+  leaf-shown Newlock o b = rw (sum (o .posted) (out-stands _ o) pre-stands, typed-as _ o)
+  leaf-shown Newsem o b = rw (equal (o .posted) pre-stands, typed-as _ o)
+  leaf-shown Newrwlock o b =
+      rw (
+        covers (write-stands _ o) (read-stands _ o) (s .value),
+        sum (o .posted) (write-stands _ o) pre-stands,
+        typed-as _ o,
+        b,
+      )
+
+  module _ (e₁ : Expr) (f : Part w S (s .type1) (s .post1) e₁) where
+    pub unary-shown : (x : UnaryWord) → Part w S (s .typed) (s .post) (unary x l v e₁)
+        → ruleRow (ruleOf (unaryCode x)) w s (layout.typeAt w (s .typed)) (layout.typeAt w (s .type1)) ≡ own S Γ pre (unary x l v e₁)
+    unfolding printed ruleOf ruleRow own type
+    unary-shown While o =
+        rw (at-least pre-stands (o .posted), at-least (f .posted) (o .posted), typed-as _ o)
+    unary-shown Join o =
+        rw (is-sum (f .posted) (load-stands _ f) (o .posted), typed-as _ o, typed-as _ f)
+    unary-shown Ref o =
+        rw (equal (o .posted) (f .posted), holds-content _ _ o f)
+    unary-shown Read o =
+        rw (
+          equal (o .posted) (f .posted),
+          holds-content _ _ f o,
+          typed-as _ f,
+          some-is-one,
+          shares _ _ o f,
+        )
+    unary-shown Lock o =
+        rw (is-sum (f .posted) (in-stands _ f) (o .posted), typed-as _ o, typed-as _ f)
+    unary-shown Unlock o =
+        rw (sum (o .posted) (out-stands _ f) (f .posted), typed-as _ o, typed-as _ f)
+    unary-shown Post o =
+        rw (sum (o .posted) (load-stands _ f) (f .posted), typed-as _ o, typed-as _ f)
+    unary-shown Wait o =
+        rw (is-sum (f .posted) (load-stands _ f) (o .posted), typed-as _ o, typed-as _ f)
+    unary-shown Rdlock o =
+        rw (is-sum (f .posted) (read-stands _ f) (o .posted), typed-as _ o, typed-as _ f)
+    unary-shown Rdunlock o =
+        rw (sum (o .posted) (read-stands _ f) (f .posted), typed-as _ o, typed-as _ f)
+    unary-shown Wrlock o =
+        rw (is-sum (f .posted) (write-stands _ f) (o .posted), typed-as _ o, typed-as _ f)
+    unary-shown Wrunlock o =
+        rw (sum (o .posted) (write-stands _ f) (f .posted), typed-as _ o, typed-as _ f)
+
+    module _ (e₂ : Expr) (g : Part w S (s .type2) (s .post2) e₂) where
+      pub binary-shown : (x : BinaryWord) → Part w S (s .typed) (s .post) (binary x l v e₁ e₂)
+          → Stands w S (s .start) (start S (binary x l v e₁ e₂))
+          → ruleRow (ruleOf (binaryCode x)) w s (layout.typeAt w (s .typed)) (layout.typeAt w (s .type1)) ≡ own S Γ pre (binary x l v e₁ e₂)
+      unfolding printed ruleOf ruleRow own type
+      binary-shown Let o b =
+          rw (equal (o .posted) (g .posted), agrees _ _ o (g .typed) (g .type-in))
+      binary-shown If o b =
+          rw (
+            at-least (f .posted) (o .posted),
+            at-least (g .posted) (o .posted),
+            agrees _ _ o (f .typed) (f .type-in),
+            agrees _ _ o (g .typed) (g .type-in),
+          )
+      binary-shown Spawn o b =
+          rw (
+            at-least (g .posted) (load-stands _ f),
+            sum (o .posted) b (f .posted),
+            typed-as _ o,
+            typed-as _ f,
+          )
+      binary-shown Write o b =
+          rw (
+            equal (o .posted) (g .posted),
+            divided,
+            holds-content _ _ f g,
+            typed-as _ o,
+            typed-as _ f,
+            shares _ _ o f,
+          )

@@ -1,0 +1,45 @@
+use mathlib.Core.Path.{refl, ap}
+use Rattle.spec.specs.Conditions.{isInt, isRef, place}
+use Rattle.conditions.proofs.FirstFalse.{last, next, pass, fail, asked-as}
+use Rattle.conditions.proofs.TypeKinds.{not-int, not-ref}
+use Rattle.conditions.specs.Agreement.{containsIn}
+use borrow.Author.Needs.{needs}
+use Rattle.words.proofs.rows.check_write.Statement.{statement}
+use Rattle.words.proofs.rows.check_write.Tie as tie
+
+returns-2 : tie.Need-returns-2
+unfolding isInt
+returns-2 c =
+    pass _ _ _ _ (ap isInt (c .before .before .enum-told .given .1))
+    (fail _ _ _ _ (not-ref _ (c .before .match2 .keys2)) (c .type-false2 .ensures))
+
+returns-3 : tie.Need-returns-3
+unfolding isInt isRef place containsIn
+returns-3 c =
+    let content = c .before in
+    let access = content .before .before in
+    let part = access .before .before .before .before in
+    rw (part .before .before .enum-told .given .1, part .kind1 .given .1)
+    (pass _ _ _ _ refl
+    (pass _ _ _ _ refl
+    (next _ _ _ _ _ _ (c .also2 .ensures) (asked-as _ _ (content .on-types .ensures) (content .before .agree .ensures))
+    (next _ _ _ _ _ _ (access .also .ensures) (access .before .before .equal .ensures)
+    (last _ _ _ (access .before .has .ensures))))))
+
+pub check-write-spec : {M : Type 1} → statement M
+check-write-spec =
+    tie.close
+    (tie.spec
+    (λ c. search needs)
+    (λ c κs. search needs)
+    (λ c. fail _ _ _ _ (not-int _ (c .before .match .keys2)) (c .type-false .ensures))
+    (λ c. search needs)
+    (λ c κs. search needs)
+    returns-2
+    (λ c κs. search needs)
+    (λ c κs. search needs)
+    (λ c κs. search needs)
+    (λ c κs. search needs)
+    (λ c κs. search needs)
+    (λ c κs. search needs)
+    returns-3)

@@ -1,0 +1,267 @@
+// The conditions of a step: the rules of Figure 5, in the printed order, and behind them those of section 3.1.4 and those of
+// read-write locks, document 02, request (xi).
+use super::View;
+use super::loads::check_loaded;
+use super::loads::lock_in;
+use super::loads::lock_out;
+use super::loads::read_load;
+use super::loads::sem_load;
+use super::loads::tid_load;
+use super::loads::write_load;
+use conditions::Relation;
+use conditions::Ruling;
+use conditions::agree;
+use conditions::also;
+use conditions::flow;
+use conditions::has;
+use conditions::may_show;
+use conditions::on_types;
+use conditions::type_false;
+use spec::MapNumber;
+use spec::TypeLine;
+use workspace::Rule;
+ghost use mathlib.Core.Path.{_≡_};
+ghost use Rattle.spec.specs.Sites.{judge};
+ghost use Rattle.conditions.specs.declared.Relation.the-variants.{Equal, AtLeast, Sum};
+ghost use Rattle.conditions.specs.Outcome.{outcome, firstFalseFrom};
+ghost use Rattle.words.specs.Table.{flows, varRow, intRow, letRow, ifRow, whileRow, newtRow, spawnRow, refRow, writeRow, readRow, newlRow, newsemRow, newrwlockRow, ruleRow};
+
+// a = b.
+fn equal(work: &[u32], s: View, condition: u32, a: MapNumber, b: MapNumber) -> Ruling
+    ensures { λ r. ⌜ outcome r ≡ judge (s .line) condition (flows (now (work .entry)) s (Equal a b)) ⌝ }
+{
+    flow(s.line, condition, work, s.locations, Relation::Equal(a, b))
+}
+
+// a ≥ b.
+fn at_least(work: &[u32], s: View, condition: u32, a: MapNumber, b: MapNumber) -> Ruling
+    ensures { λ r. ⌜ outcome r ≡ judge (s .line) condition (flows (now (work .entry)) s (AtLeast a b)) ⌝ }
+{
+    flow(
+        s.line,
+        condition,
+        work,
+        s.locations,
+        Relation::AtLeast(a, b),
+    )
+}
+
+// a + b = c.
+fn sum(work: &[u32], s: View, condition: u32, a: MapNumber, b: MapNumber, c: MapNumber) -> Ruling
+    ensures { λ r. ⌜ outcome r ≡ judge (s .line) condition (flows (now (work .entry)) s (Sum a b c)) ⌝ }
+{
+    flow(s.line, condition, work, s.locations, Relation::Sum(a, b, c))
+}
+
+// VAR: 1 type is that of its let's e1, or for a lock a looser one; 2 post = pre.
+fn check_var(work: &[u32], s: View, kind: TypeLine, kind1: TypeLine) -> Ruling
+    ensures { λ r. ⌜ outcome r ≡ firstFalseFrom (s .line) 1 (varRow (now (work .entry)) s kind kind1) ⌝ }
+{
+    also(
+        on_types(s.line, 1, may_show(work, s.locations, s.typed, s.bound)),
+        equal(work, s, 2, s.post, s.pre),
+    )
+}
+
+// INT: 1 type int; 2 post = pre.
+fn check_int(work: &[u32], s: View, kind: TypeLine, kind1: TypeLine) -> Ruling
+    ensures { λ r. ⌜ outcome r ≡ firstFalseFrom (s .line) 1 (intRow (now (work .entry)) s kind kind1) ⌝ }
+{
+    let TypeLine::Int = kind else {
+        return type_false(s.line, 1);
+    };
+    equal(work, s, 2, s.post, s.pre)
+}
+
+// LET: 1 type of e2; 2 post = post of e2.
+fn check_let(work: &[u32], s: View, kind: TypeLine, kind1: TypeLine) -> Ruling
+    ensures { λ r. ⌜ outcome r ≡ firstFalseFrom (s .line) 1 (letRow (now (work .entry)) s kind kind1) ⌝ }
+{
+    also(
+        on_types(s.line, 1, agree(work, s.locations, s.typed, s.type2)),
+        equal(work, s, 2, s.post, s.post2),
+    )
+}
+
+// IF: 1 type of e1; 2 type of e2; 3 post of e1 ≥ post; 4 post of e2 ≥ post.
+fn check_if(work: &[u32], s: View, kind: TypeLine, kind1: TypeLine) -> Ruling
+    ensures { λ r. ⌜ outcome r ≡ firstFalseFrom (s .line) 1 (ifRow (now (work .entry)) s kind kind1) ⌝ }
+{
+    let types = also(
+        on_types(s.line, 1, agree(work, s.locations, s.typed, s.type1)),
+        on_types(s.line, 2, agree(work, s.locations, s.typed, s.type2)),
+    );
+    let flows = also(
+        at_least(work, s, 3, s.post1, s.post),
+        at_least(work, s, 4, s.post2, s.post),
+    );
+    also(types, flows)
+}
+
+// WHILE: 1 type int; 2 pre ≥ post; 3 post of part ≥ post.
+fn check_while(work: &[u32], s: View, kind: TypeLine, kind1: TypeLine) -> Ruling
+    ensures { λ r. ⌜ outcome r ≡ firstFalseFrom (s .line) 1 (whileRow (now (work .entry)) s kind kind1) ⌝ }
+{
+    let TypeLine::Int = kind else {
+        return type_false(s.line, 1);
+    };
+    let body = s.post1;
+    also(
+        at_least(work, s, 2, s.pre, s.post),
+        at_least(work, s, 3, body, s.post),
+    )
+}
+
+// NEWT: 1 a tid type; 2 post = pre.
+fn check_newt(work: &[u32], s: View, kind: TypeLine, kind1: TypeLine) -> Ruling
+    ensures { λ r. ⌜ outcome r ≡ firstFalseFrom (s .line) 1 (newtRow (now (work .entry)) s kind kind1) ⌝ }
+{
+    let TypeLine::Tid(_) = kind else {
+        return type_false(s.line, 1);
+    };
+    equal(work, s, 2, s.post, s.pre)
+}
+
+// SPAWN: 1 type int; 2 e1 a tid; 3 post of e2 ≥ K; 4 post + s = post of e1.
+fn check_spawn(work: &[u32], s: View, kind: TypeLine, kind1: TypeLine) -> Ruling
+    ensures { λ r. ⌜ outcome r ≡ firstFalseFrom (s .line) 1 (spawnRow (now (work .entry)) s kind kind1) ⌝ }
+{
+    let TypeLine::Int = kind else {
+        return type_false(s.line, 1);
+    };
+    let TypeLine::Tid(load) = kind1 else {
+        return type_false(s.line, 2);
+    };
+    also(
+        at_least(work, s, 3, s.post2, load),
+        sum(work, s, 4, s.post, s.start, s.post1),
+    )
+}
+
+// REF: 1 a ref type whose c is the part's type; 2 post = post of part.
+fn check_ref(work: &[u32], s: View, kind: TypeLine, kind1: TypeLine) -> Ruling
+    ensures { λ r. ⌜ outcome r ≡ firstFalseFrom (s .line) 1 (refRow (now (work .entry)) s kind kind1) ⌝ }
+{
+    let TypeLine::Ref(_, content) = kind else {
+        return type_false(s.line, 1);
+    };
+    also(
+        on_types(s.line, 1, agree(work, s.locations, content, s.type1)),
+        equal(work, s, 2, s.post, s.post1),
+    )
+}
+
+// WRITE: 1 type int; 2 e1 a ref; 3 type of e2 is c; 4 post = post of e2; 5 post at p ≥ D.
+fn check_write(work: &[u32], s: View, kind: TypeLine, kind1: TypeLine) -> Ruling
+    ensures { λ r. ⌜ outcome r ≡ firstFalseFrom (s .line) 1 (writeRow (now (work .entry)) s kind kind1) ⌝ }
+{
+    let TypeLine::Int = kind else {
+        return type_false(s.line, 1);
+    };
+    let TypeLine::Ref(p, content) = kind1 else {
+        return type_false(s.line, 2);
+    };
+    let access = also(
+        equal(work, s, 4, s.post, s.post2),
+        has(s.line, 5, work, s.post, p, s.denominator),
+    );
+    also(
+        on_types(s.line, 3, agree(work, s.locations, content, s.type2)),
+        access,
+    )
+}
+
+// READ: 1 part a ref; 2 type is c; 3 post = post of part; 4 post at p > 0.
+fn check_read(work: &[u32], s: View, kind: TypeLine, kind1: TypeLine) -> Ruling
+    ensures { λ r. ⌜ outcome r ≡ firstFalseFrom (s .line) 1 (readRow (now (work .entry)) s kind kind1) ⌝ }
+{
+    let TypeLine::Ref(p, content) = kind1 else {
+        return type_false(s.line, 1);
+    };
+    let access = also(
+        equal(work, s, 3, s.post, s.post1),
+        has(s.line, 4, work, s.post, p, 1),
+    );
+    also(
+        on_types(s.line, 2, agree(work, s.locations, content, s.typed)),
+        access,
+    )
+}
+
+// NEWL: 1 a lock type; 2 post + out = pre.
+fn check_newl(work: &[u32], s: View, kind: TypeLine, kind1: TypeLine) -> Ruling
+    ensures { λ r. ⌜ outcome r ≡ firstFalseFrom (s .line) 1 (newlRow (now (work .entry)) s kind kind1) ⌝ }
+{
+    let TypeLine::Lock(_, out) = kind else {
+        return type_false(s.line, 1);
+    };
+    sum(work, s, 2, s.post, out, s.pre)
+}
+
+// NEWSEM: 1 a sem type; 2 post = pre.
+fn check_newsem(work: &[u32], s: View, kind: TypeLine, kind1: TypeLine) -> Ruling
+    ensures { λ r. ⌜ outcome r ≡ firstFalseFrom (s .line) 1 (newsemRow (now (work .entry)) s kind kind1) ⌝ }
+{
+    let TypeLine::Sem(_) = kind else {
+        return type_false(s.line, 1);
+    };
+    equal(work, s, 2, s.post, s.pre)
+}
+
+// NEWRWLOCK: 1 a rwlock type; 2 N × r ≤ w; 3 post + w = pre.
+fn check_newrwlock(work: &[u32], s: View, kind: TypeLine, kind1: TypeLine) -> Ruling
+    ensures { λ r. ⌜ outcome r ≡ firstFalseFrom (s .line) 1 (newrwlockRow (now (work .entry)) s kind kind1) ⌝ }
+{
+    let TypeLine::Rwlock(read, write) = kind else {
+        return type_false(s.line, 1);
+    };
+    also(
+        flow(
+            s.line,
+            2,
+            work,
+            s.locations,
+            Relation::Covers(write, s.value, read),
+        ),
+        sum(work, s, 3, s.post, write, s.pre),
+    )
+}
+
+// The conditions of a step with the rule r.
+pub fn check_rule(r: Rule, work: &[u32], s: View, kind: TypeLine, kind1: TypeLine) -> Ruling
+    ensures { λ ruling. ⌜ outcome ruling ≡ firstFalseFrom (s .line) 1 (ruleRow r (now (work .entry)) s kind kind1) ⌝ }
+{
+    match r {
+        Rule::VAR => check_var(work, s, kind, kind1),
+        Rule::INT => check_int(work, s, kind, kind1),
+        Rule::LET => check_let(work, s, kind, kind1),
+        Rule::IF => check_if(work, s, kind, kind1),
+        Rule::WHILE => check_while(work, s, kind, kind1),
+        Rule::NEWT => check_newt(work, s, kind, kind1),
+        Rule::SPAWN => check_spawn(work, s, kind, kind1),
+        // JOIN: 1 type int; 2 part a tid; 3 post = post of part + K.
+        Rule::JOIN => check_loaded(work, s, kind, tid_load(kind1), s.post1, s.post),
+        Rule::REF => check_ref(work, s, kind, kind1),
+        Rule::WRITE => check_write(work, s, kind, kind1),
+        Rule::READ => check_read(work, s, kind, kind1),
+        Rule::NEWL => check_newl(work, s, kind, kind1),
+        // LCK: 1 type int; 2 part a lock; 3 post = post of part + in.
+        Rule::LCK => check_loaded(work, s, kind, lock_in(kind1), s.post1, s.post),
+        // ULCK: 1 type int; 2 part a lock; 3 post + out = post of part.
+        Rule::ULCK => check_loaded(work, s, kind, lock_out(kind1), s.post, s.post1),
+        Rule::NEWSEM => check_newsem(work, s, kind, kind1),
+        // POST: 1 type int; 2 part a sem; 3 post + K = post of part.
+        Rule::POST => check_loaded(work, s, kind, sem_load(kind1), s.post, s.post1),
+        // WAIT: 1 type int; 2 part a sem; 3 post = post of part + K.
+        Rule::WAIT => check_loaded(work, s, kind, sem_load(kind1), s.post1, s.post),
+        Rule::NEWRWLOCK => check_newrwlock(work, s, kind, kind1),
+        // RDLOCK: 1 type int; 2 part a rwlock; 3 post = post of part + r.
+        Rule::RDLOCK => check_loaded(work, s, kind, read_load(kind1), s.post1, s.post),
+        // RDUNLOCK: 1 type int; 2 part a rwlock; 3 post + r = post of part.
+        Rule::RDUNLOCK => check_loaded(work, s, kind, read_load(kind1), s.post, s.post1),
+        // WRLOCK: 1 type int; 2 part a rwlock; 3 post = post of part + w.
+        Rule::WRLOCK => check_loaded(work, s, kind, write_load(kind1), s.post1, s.post),
+        // WRUNLOCK: 1 type int; 2 part a rwlock; 3 post + w = post of part.
+        Rule::WRUNLOCK => check_loaded(work, s, kind, write_load(kind1), s.post, s.post1),
+    }
+}
