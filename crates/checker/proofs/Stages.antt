@@ -57,12 +57,12 @@ module _ (p s : List ℕ) (P : Program) (F : WellFormedProgram p P) where
 
   pub long-split-refused : 65536 < length s → Refuse LongSplit ≡ verdict workspaceSize p s
   unfolding workspaceSize programLimit
-  long-split-refused h = sym (long-split 16384 p s (omega arith) (F .fits) P reads h)
+  long-split-refused h = sym (long-split workSize p s (omega arith) (F .fits) P reads h)
 
   module _ (fits : length s ≤ 65536) where
     pub bad-split-refused : (r : Refusal) → split Check (P .steps) s ≡ stop r → Refuse r ≡ verdict workspaceSize p s
     unfolding workspaceSize programLimit
-    bad-split-refused r e = sym (split-refused 16384 p s (omega arith) (F .fits) P reads fits r e)
+    bad-split-refused r e = sym (split-refused workSize p s (omega arith) (F .fits) P reads fits r e)
 
     pub good-split-ruled : {w w′ : List ℕ} {n : ℕ} {a : Answer} (h : Header) (S : Split) → split Check (P .steps) s ≡ on S
         → ChangedWithin rowTypesAt workSize w w′ → HoldsProgram w P → HoldsSplit w′ S → n ≡ length (P .steps) → n ≤ 256
@@ -82,23 +82,23 @@ module _ (p s : List ℕ) (P : Program) (F : WellFormedProgram p P) where
           startGiven = start-told S h headed;
         })
         (types-told S h headed)
-        ∙ sym (rules-decide 16384 p s (omega arith) (F .fits) P reads fits S e)
+        ∙ sym (rules-decide workSize p s (omega arith) (F .fits) P reads fits S e)
 
 -- ------------------------------------------------------------------ the program
 
 module _ (p s : List ℕ) where
   pub long-program-refused : 16384 < length p → Refuse LongProgram ≡ verdict workspaceSize p s
   unfolding workspaceSize
-  long-program-refused h = sym (long-program 16384 p s (omega arith) h)
+  long-program-refused h = sym (long-program workSize p s (omega arith) h)
 
   module _ (fits : length p ≤ 16384) where
     pub bad-program-refused : (r : Refusal) → program p ≡ stop r → Refuse r ≡ verdict workspaceSize p s
     unfolding workspaceSize
-    bad-program-refused r e = sym (program-refused 16384 p s (omega arith) fits r e)
+    bad-program-refused r e = sym (program-refused workSize p s (omega arith) fits r e)
 
 -- ------------------------------------------------------------------ the work space
 
 -- any work space that is long enough gives the same verdict
-pub room-enough : (room : ℕ) (p s : List ℕ) → 16384 ≤ room → verdict workspaceSize p s ≡ verdict room p s
+pub room-enough : (room : ℕ) (p s : List ℕ) → workSize ≤ room → verdict workspaceSize p s ≡ verdict room p s
 unfolding verdict checked demand _>>=_ workspaceSize
 room-enough room p s h = rw (le-leb _ _ h)

@@ -201,18 +201,18 @@ module _ (p s : List ℕ) (P : Program) (F : WellFormedProgram p P) where
     pub long-split-told : 65536 < length s → Tells (fill workspaceSize (length before) p s) before before (Refused LongSplit)
     unfolding workspaceSize programLimit
     long-split-told h =
-        told-as (sym (long-split 16384 (length before) p s (omega arith) (F .fits) P reads h)) (refusal-told LongSplit before)
+        told-as (sym (long-split workSize (length before) p s (omega arith) (F .fits) P reads h)) (refusal-told LongSplit before)
 
     module _ (fits : length s ≤ 65536) where
       pub bad-split-told : (r : Refusal) → split Fill (P .steps) s ≡ stop r → Tells (fill workspaceSize (length before) p s) before before (Refused r)
       unfolding workspaceSize programLimit
       bad-split-told r e =
-          told-as (sym (split-refused 16384 (length before) p s (omega arith) (F .fits) P reads fits r e)) (refusal-told r before)
+          told-as (sym (split-refused workSize (length before) p s (omega arith) (F .fits) P reads fits r e)) (refusal-told r before)
 
       reading-done : (S : Split) → split Fill (P .steps) s ≡ on S → fill workspaceSize (length before) p s ≡ afterReading (length before) P S
       unfolding fill afterReading workspaceSize programLimit splitLimit
       reading-done S e =
-          goes-on-bind _ _ (passed 16384 16384 ShortWorkspace (omega arith))
+          goes-on-bind _ _ (passed workSize workSize ShortWorkspace (omega arith))
           (goes-on-bind _ _ (passed (length p) 16384 LongProgram (F .fits))
           (goes-on-bind _ _ reads
           (goes-on-bind _ _ (passed (length s) 65536 LongSplit fits)
@@ -251,9 +251,9 @@ module _ (p s : List ℕ) (P : Program) (F : WellFormedProgram p P) where
 module _ (p s before : List ℕ) where
   pub long-program-told : 16384 < length p → Tells (fill workspaceSize (length before) p s) before before (Refused LongProgram)
   unfolding workspaceSize
-  long-program-told h = told-as (sym (long-program 16384 (length before) p s (omega arith) h)) (refusal-told LongProgram before)
+  long-program-told h = told-as (sym (long-program workSize (length before) p s (omega arith) h)) (refusal-told LongProgram before)
 
   pub bad-program-told : length p ≤ 16384 → (r : Refusal) → program p ≡ stop r → Tells (fill workspaceSize (length before) p s) before before (Refused r)
   unfolding workspaceSize
   bad-program-told fits r e =
-      told-as (sym (program-refused 16384 (length before) p s (omega arith) fits r e)) (refusal-told r before)
+      told-as (sym (program-refused workSize (length before) p s (omega arith) fits r e)) (refusal-told r before)

@@ -10,20 +10,21 @@ use Rattle.checker.proofs.check.Tie as tie
 use Rattle.checker.proofs.check.Reads as reads
 use Rattle.checker.proofs.check.Lts as lts
 use Rattle.checker.proofs.check_program.Reads as check-program-reads
+use Rattle.workspace.specs.Layout.{workSize}
 use Rattle.workspace.proofs.clear.Reads as clear-reads
 
 returns : tie.Need-returns
 returns c = promises-kept _ _ _ _ _ (sym (short-workspace _ _ _ (c .if1 .taken))) (short-kept _ (c .if1 .taken)) (refl, refl)
 
 slice-aggregate-check-program : tie.Need-slice-aggregate-check-program
-slice-aggregate-check-program c = sym (length-take-le 16384 (c .before .before .before .before .before .args .work .now) (c .before .if1 .left))
+slice-aggregate-check-program c = sym (length-take-le workSize (c .before .before .before .before .before .args .work .now) (c .before .if1 .left))
 
 check-program-requires : tie.Need-check-program-requires
-check-program-requires c κs = length-take-le 16384 (c .before .before .before .before .before .args .work .now) (c .before .if1 .left)
+check-program-requires c κs = length-take-le workSize (c .before .before .before .before .before .args .work .now) (c .before .if1 .left)
 
 slice-aggregate-clear : tie.Need-slice-aggregate-clear
 slice-aggregate-clear c =
-    sym (first-again 16384 (c .before .before .before .before .before .before .before .before .before .args .work .now) (c .before .before .before .check-program .last .1 .1 .0) (c .before .before .before .before .before .if1 .left) (c .before .before .before .check-program .kept .1 .1 .0))
+    sym (first-again workSize (c .before .before .before .before .before .before .before .before .before .args .work .now) (c .before .before .before .check-program .last .1 .1 .0) (c .before .before .before .before .before .if1 .left) (c .before .before .before .check-program .kept .1 .1 .0))
 
 returns-2 : tie.Need-returns-2
 returns-2 c =
@@ -31,7 +32,7 @@ returns-2 c =
     promises-kept _ _ _ _ _
     (c .before .before .before .before .before .before .check-program .ensures ∙ room-enough _ _ _ enough)
     (long-cleared _ _ enough
-    (then-cleared 16384 (c .before .before .before .before .before .before .before .before .before .before .before .before .args .work .now) (c .before .before .before .before .before .before .check-program .last .1 .1 .0) enough (c .before .before .before .before .before .before .check-program .kept .1 .1 .0) _
+    (then-cleared workSize (c .before .before .before .before .before .before .before .before .before .before .before .before .args .work .now) (c .before .before .before .before .before .before .check-program .last .1 .1 .0) enough (c .before .before .before .before .before .before .check-program .kept .1 .1 .0) _
     (c .before .before .clear .ensures)))
     (refl, refl)
 
