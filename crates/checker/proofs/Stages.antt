@@ -37,18 +37,18 @@ refused-refuses r x e h = ap answer (sym (ap outcome e) ∙ h)
 module _ (p s w : List ℕ) (answered : Reading) (told : SheetsAnswered Check p s w answered) where
   pub sheet-refused : {r : Refusal} → answered ≡ reading.Refused r → Refuse r ≡ verdict workspaceSize p s
   unfolding workspaceSize
-  sheet-refused e = sym (sheets-refused 16384 p s (omega arith) _ (refused-by Check p s w answered told e))
+  sheet-refused e = sym (sheets-refused workSize p s (omega arith) _ (refused-by Check p s w answered told e))
 
   pub sheets-ruled : {n : ℕ} {header : Header} {a : Answer} → answered ≡ reading.Held n header → RulesAnswered w n header a
       → a ≡ verdict workspaceSize p s
   unfolding workspaceSize
   sheets-ruled e rules =
       let H = held-by Check p s w answered told e in
-      rules (H .P) (H .S) (H .holds) ∙ sym (rules-decide 16384 p s (omega arith) (H .P) (H .S) (H .read))
+      rules (H .P) (H .S) (H .holds) ∙ sym (rules-decide workSize p s (omega arith) (H .P) (H .S) (H .read))
 
 -- ------------------------------------------------------------------ the work space
 
 -- any work space that is long enough gives the same verdict
-pub room-enough : (room : ℕ) (p s : List ℕ) → 16384 ≤ room → verdict workspaceSize p s ≡ verdict room p s
+pub room-enough : (room : ℕ) (p s : List ℕ) → workSize ≤ room → verdict workspaceSize p s ≡ verdict room p s
 unfolding verdict checked demand _>>=_ workspaceSize
 room-enough room p s h = rw (le-leb _ _ h)

@@ -23,10 +23,11 @@ use Rattle.filling.proofs.Answer.{refused-exactly-unsolvable, written-exactly, 
 use Rattle.fill.specs.Numbers.{numbered}
 use Rattle.fill.specs.Stages.{Tells}
 use Rattle.fill.specs.declared.Filled.{Filled}
+use Rattle.workspace.specs.Layout.{workSize}
 use Rattle.fill.specs.declared.Filled.the-variants.{Written as WrittenSheet}
 
 -- any work space that is long enough gives the same
-pub room-enough : (room buffer : ℕ) (p s : List ℕ) → 16384 ≤ room → fill workspaceSize buffer p s ≡ fill room buffer p s
+pub room-enough : (room buffer : ℕ) (p s : List ℕ) → workSize ≤ room → fill workspaceSize buffer p s ≡ fill room buffer p s
 unfolding fill demand _>>=_ workspaceSize
 room-enough room buffer p s h = rw (le-leb _ _ h)
 

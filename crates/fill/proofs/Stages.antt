@@ -200,12 +200,12 @@ module _ (p s w : List ℕ) (answered : Reading) (told : SheetsAnswered Fill p s
     pub sheet-refused : {r : Refusal} → answered ≡ reading.Refused r → Tells (fill workspaceSize (length before) p s) before before (Refused r)
     unfolding workspaceSize
     sheet-refused e =
-        told-as (sym (sheets-refused 16384 (length before) p s (omega arith) _ (refused-by Fill p s w answered told e))) (refusal-told _ before)
+        told-as (sym (sheets-refused workSize (length before) p s (omega arith) _ (refused-by Fill p s w answered told e))) (refusal-told _ before)
 
     pub sheets-filled : {steps : ℕ} {header : Header} {after : List ℕ} {f : Filled} → answered ≡ reading.Held steps header
         → SheetsTold w header steps before after f → Tells (fill workspaceSize (length before) p s) before after f
     unfolding fill afterReading workspaceSize
     sheets-filled e filled =
         let H = held-by Fill p s w answered told e in
-        told-as (sym (goes-on-bind _ _ (passed 16384 16384 ShortWorkspace (omega arith)) (goes-on-bind _ _ (H .read) refl)))
+        told-as (sym (goes-on-bind _ _ (passed workSize workSize ShortWorkspace (omega arith)) (goes-on-bind _ _ (H .read) refl)))
         (filled (H .P) (H .S) (H .holds))

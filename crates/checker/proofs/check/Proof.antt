@@ -1,38 +1,48 @@
+-- A short work space is refused as it is; of a longer one the first numbers are lent on and then cleared.
 use mathlib.Core.Path.{refl, sym, _∙_}
 use lib.Seq.{length-take-le}
 use Rattle.spec.proofs.Reasons.{short-workspace}
 use Rattle.checker.proofs.Promises.{promises-kept}
+use Rattle.workspace.specs.Layout.{workSize}
 use Rattle.workspace.proofs.Lent.{first-again, then-cleared, short-kept, long-cleared}
 use Rattle.checker.proofs.Stages.{room-enough}
 use borrow.Author.Needs.{needs}
 use Rattle.checker.proofs.check.Statement.{statement}
 use Rattle.checker.proofs.check.Tie as tie
-use Rattle.checker.proofs.check.Reads as reads
-use Rattle.checker.proofs.check.Lts as lts
-use Rattle.checker.proofs.check_texts.Reads as check-texts-reads
-use Rattle.workspace.proofs.clear.Reads as clear-reads
 
 returns : tie.Need-returns
 returns c = promises-kept _ _ _ _ _ (sym (short-workspace _ _ _ (c .if1 .taken))) (short-kept _ (c .if1 .taken)) (refl, refl)
 
 slice-aggregate-check-texts : tie.Need-slice-aggregate-check-texts
-slice-aggregate-check-texts c = sym (length-take-le 16384 (c .before .before .before .before .before .args .work .now) (c .before .if1 .left))
+slice-aggregate-check-texts c =
+    let at-if1 = c .before in
+    let start = at-if1 .before .before .before .before in
+    sym (length-take-le workSize (start .args .work .now) (at-if1 .if1 .left))
 
 check-texts-requires : tie.Need-check-texts-requires
-check-texts-requires c κs = length-take-le 16384 (c .before .before .before .before .before .args .work .now) (c .before .if1 .left)
+check-texts-requires c κs =
+    let at-if1 = c .before in
+    let start = at-if1 .before .before .before .before in
+    length-take-le workSize (start .args .work .now) (at-if1 .if1 .left)
 
 slice-aggregate-clear : tie.Need-slice-aggregate-clear
 slice-aggregate-clear c =
-    sym (first-again 16384 (c .before .before .before .before .before .before .before .before .before .args .work .now) (c .before .before .before .check-texts .last .1 .1 .0) (c .before .before .before .before .before .if1 .left) (c .before .before .before .check-texts .kept .1 .1 .0))
+    let at-check = c .before .before .before in
+    let at-if1 = at-check .before .before in
+    let start = at-if1 .before .before .before .before in
+    sym (first-again workSize (start .args .work .now) (at-check .check-texts .last .1 .1 .0) (at-if1 .if1 .left) (at-check .check-texts .kept .1 .1 .0))
 
 returns-2 : tie.Need-returns-2
 returns-2 c =
-    let enough = c .before .before .before .before .before .before .before .before .if1 .left in
-    promises-kept _ _ _ _ _
-    (c .before .before .before .before .before .before .check-texts .ensures ∙ room-enough _ _ _ enough)
+    let at-clear = c .before .before in
+    let at-check = at-clear .before .before .before .before in
+    let at-if1 = at-check .before .before in
+    let start = at-if1 .before .before .before .before in
+    let enough = at-if1 .if1 .left in
+    promises-kept _ _ _ _ _ (at-check .check-texts .ensures ∙ room-enough _ _ _ enough)
     (long-cleared _ _ enough
-    (then-cleared 16384 (c .before .before .before .before .before .before .before .before .before .before .before .before .args .work .now) (c .before .before .before .before .before .before .check-texts .last .1 .1 .0) enough (c .before .before .before .before .before .before .check-texts .kept .1 .1 .0) _
-    (c .before .before .clear .ensures)))
+    (then-cleared workSize (start .args .work .now) (at-check .check-texts .last .1 .1 .0) enough (at-check .check-texts .kept .1 .1 .0) _
+    (at-clear .clear .ensures)))
     (refl, refl)
 
 pub check-spec : {M : Type 1} → statement M

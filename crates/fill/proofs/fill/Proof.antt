@@ -1,5 +1,7 @@
-use mathlib.Core.Path.{refl, sym, ap, _∙_}
+-- A short work space is refused as it is; of a longer one the first numbers are lent on and then cleared.
+use mathlib.Core.Path.{refl, sym}
 use lib.Seq.{length-take-le}
+use Rattle.workspace.specs.Layout.{workSize}
 use Rattle.workspace.proofs.Lent.{first-again, then-cleared, short-kept, long-cleared}
 use Rattle.filling.proofs.Reasons.{short-workspace}
 use Rattle.spec.specs.declared.Refusal.the-variants.{ShortWorkspace}
@@ -14,22 +16,35 @@ returns c =
     promises-kept _ _ _ _ _ _ _ (told-as (sym (short-workspace _ _ _ _ (c .if1 .taken))) (refusal-told ShortWorkspace _)) (short-kept _ (c .if1 .taken)) (refl, refl)
 
 slice-aggregate-fill-texts : tie.Need-slice-aggregate-fill-texts
-slice-aggregate-fill-texts c = sym (length-take-le 16384 (c .before .before .before .before .before .before .args .work .now) (c .before .if1 .left))
+slice-aggregate-fill-texts c =
+    let at-if1 = c .before in
+    let start = at-if1 .before .before .before .before .before in
+    sym (length-take-le workSize (start .args .work .now) (at-if1 .if1 .left))
 
 fill-texts-requires : tie.Need-fill-texts-requires
-fill-texts-requires c κs = length-take-le 16384 (c .before .before .before .before .before .before .before .args .work .now) (c .before .before .if1 .left)
+fill-texts-requires c κs =
+    let at-if1 = c .before .before in
+    let start = at-if1 .before .before .before .before .before in
+    length-take-le workSize (start .args .work .now) (at-if1 .if1 .left)
 
 slice-aggregate-clear : tie.Need-slice-aggregate-clear
 slice-aggregate-clear c =
-    let filled = c .before .before .before .before .before .fill-texts in
-    sym (first-again 16384 (c .before .before .before .before .before .before .before .before .before .before .before .before .before .args .work .now) (filled .last .1 .1 .0) (c .before .before .before .before .before .before .before .before .if1 .left) (filled .kept .1 .1 .0))
+    let at-fill = c .before .before .before .before .before in
+    let at-if1 = at-fill .before .before .before in
+    let start = at-if1 .before .before .before .before .before in
+    sym (first-again workSize (start .args .work .now) (at-fill .fill-texts .last .1 .1 .0) (at-if1 .if1 .left) (at-fill .fill-texts .kept .1 .1 .0))
 
 returns-2 : tie.Need-returns-2
 returns-2 c =
-    let enough = c .before .before .before .before .before .before .before .before .before .before .before .if1 .left in
-    let filled = c .before .before .before .before .before .before .before .before .fill-texts in
-    promises-kept _ _ _ _ _ _ _ (told-as (room-enough _ _ _ _ enough) (filled .ensures))
-    (long-cleared _ _ enough (then-cleared 16384 (c .before .before .before .before .before .before .before .before .before .before .before .before .before .before .before .before .args .work .now) (filled .last .1 .1 .0) enough (filled .kept .1 .1 .0) _ (c .before .before .clear .ensures)))
+    let at-clear = c .before .before in
+    let at-fill = at-clear .before .before .before .before .before .before in
+    let at-if1 = at-fill .before .before .before in
+    let start = at-if1 .before .before .before .before .before in
+    let enough = at-if1 .if1 .left in
+    promises-kept _ _ _ _ _ _ _ (told-as (room-enough _ _ _ _ enough) (at-fill .fill-texts .ensures))
+    (long-cleared _ _ enough
+    (then-cleared workSize (start .args .work .now) (at-fill .fill-texts .last .1 .1 .0) enough (at-fill .fill-texts .kept .1 .1 .0) _
+    (at-clear .clear .ensures)))
     (refl, refl)
 
 pub fill-spec : {M : Type 1} → statement M
