@@ -1,12 +1,14 @@
 // Which types agree, and which a var line may show.
 use super::Relation;
 use super::everywhere;
+use spec::MapNumber;
 use spec::TypeLine;
 use spec::TypeNumber;
 use workspace::type_at;
 ghost use mathlib.Core.Path.{_≡_};
 ghost use mathlib.Core.Bool.{false, _&&_};
 ghost use Rattle.conditions.specs.Relation.{everywhere};
+ghost use Rattle.conditions.specs.declared.Relation.the-variants.{Equal};
 ghost use Rattle.conditions.specs.Agreement.{linesAgree, agreeIn, mayShowIn};
 
 // Whether two relations hold at every location.
@@ -18,6 +20,25 @@ fn both_everywhere(work: &[u32], locations: u32, first: Relation, second: Relati
     } else {
         false
     }
+}
+
+// Two maps hold equal numbers, and so do two others.
+fn same_pairs(
+    work: &[u32],
+    locations: u32,
+    a: MapNumber,
+    b: MapNumber,
+    c: MapNumber,
+    d: MapNumber,
+) -> bool
+    ensures { λ ok. ⌜ ok ≡ (everywhere (now (work .entry)) locations (Equal a b) && everywhere (now (work .entry)) locations (Equal c d)) ⌝ }
+{
+    both_everywhere(
+        work,
+        locations,
+        Relation::Equal(a, b),
+        Relation::Equal(c, d),
+    )
 }
 
 // Two types that hold no content agree when their kinds agree and their maps hold equal numbers.
@@ -36,12 +57,7 @@ fn agree_plain(work: &[u32], locations: u32, kind: TypeLine, other: TypeLine) ->
             let TypeLine::Lock(j, p) = other else {
                 return false;
             };
-            both_everywhere(
-                work,
-                locations,
-                Relation::Equal(i, j),
-                Relation::Equal(o, p),
-            )
+            same_pairs(work, locations, i, j, o, p)
         }
         TypeLine::Tid(k) => {
             let TypeLine::Tid(h) = other else {
@@ -59,12 +75,7 @@ fn agree_plain(work: &[u32], locations: u32, kind: TypeLine, other: TypeLine) ->
             let TypeLine::Rwlock(q, v) = other else {
                 return false;
             };
-            both_everywhere(
-                work,
-                locations,
-                Relation::Equal(r, q),
-                Relation::Equal(w, v),
-            )
+            same_pairs(work, locations, r, q, w, v)
         }
     }
 }

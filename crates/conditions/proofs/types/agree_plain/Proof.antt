@@ -18,7 +18,7 @@ refs c = sym (no-contents _ _ _ _ (ap isRef (c .enum-told3 .given .1)))
 
 locks : tie.Need-returns-8
 unfolding linesAgree isLock inLoad outLoad
-locks c = rw (c .before .before .before .before .before .kind .given .1, c .before .before .other .given .1) (c .both-everywhere .ensures)
+locks c = rw (c .before .before .before .before .before .kind .given .1, c .before .before .other .given .1) (c .same-pairs .ensures)
 
 tids : tie.Need-returns-9
 unfolding linesAgree isTid load
@@ -30,7 +30,7 @@ sems c = rw (c .before .before .before .before .before .kind3 .given .1, c .befo
 
 rwlocks : tie.Need-returns-11
 unfolding linesAgree isRwlock readLoad writeLoad
-rwlocks c = rw (c .before .before .before .before .before .kind4 .given .1, c .before .before .other4 .given .1) (c .both-everywhere2 .ensures)
+rwlocks c = rw (c .before .before .before .before .before .kind4 .given .1, c .before .before .other4 .given .1) (c .same-pairs2 .ensures)
 
 pub agree-plain-spec : {M : Type 1} → statement M
 unfolding linesAgree
