@@ -100,7 +100,7 @@ three-tested H w a b n = go (inRange (below (H .types)) a) (inRange (below (H .m
     go true false z = refl
     go false y z = refl
 
-module _ (purpose : Purpose) (H : Header) (w : Word) (text : List ℕ) (c : Cursor) (p : Placed text c) (some-left : 0 < length (rest text c)) where
+module _ (purpose : Purpose) (H : Header) (w : Word) {text : List ℕ} {c : Cursor} (p : Placed text c) (some-left : 0 < length (rest text c)) where
   abbrev out : Out (Row × Place)
   out = readLine splitSheet (wordLine purpose H w) (placeAt text c)
 
@@ -113,7 +113,7 @@ module _ (purpose : Purpose) (H : Header) (w : Word) (text : List ℕ) (c : Curs
       (λ n. field-last (wordLine purpose H w) (c .line + 1) (rest text c) n (first-alone purpose H w f))
       h
 
-  module _ (a : ℕ) (c₂ : Cursor) (lead : LeadingAnswer text c (leading.Value a c₂)) where
+  module _ {a : ℕ} {c₂ : Cursor} (lead : LeadingAnswer text c (leading.Value a c₂)) where
     abbrev behind-one : List Field → Seen Row
     behind-one fs = wordLine purpose H w (firstField (rest text c) ∷ fs)
 
@@ -136,7 +136,7 @@ module _ (purpose : Purpose) (H : Header) (w : Word) (text : List ℕ) (c : Curs
         (λ n. field-last behind-one (c .line + 1) (rest text c₂) n (second-alone purpose H w f g))
         h
 
-    module _ (b : ℕ) (c₃ : Cursor) (lead₂ : PostAnswer purpose text c₂ (leading.Value b c₃)) where
+    module _ (b : ℕ) {c₃ : Cursor} (lead₂ : PostAnswer purpose text c₂ (leading.Value b c₃)) where
       abbrev behind-two : List Field → Seen Row
       behind-two fs = wordLine purpose H w (firstField (rest text c) ∷ firstField (rest text c₂) ∷ fs)
 

@@ -12,7 +12,7 @@ use Rattle.spec.specs.declared.Heading.{Heading}
 use Rattle.spec.specs.declared.Heading.the-variants.{C, C2, C3}
 use Rattle.spec.specs.declared.TypeLine.{TypeLine}
 use Rattle.spec.specs.declared.TypeLine.the-variants as type-line
-use Rattle.spec.proofs.Tests.{and-true}
+use Rattle.spec.proofs.Tests.{both-true, and-true}
 use Rattle.lexer.specs.declared.vocabulary.TypeWord.{TypeWord}
 use Rattle.lexer.specs.declared.vocabulary.TypeWord.the-variants as kind
 use Rattle.lines.specs.declared.types.TypeSeen.{TypeSeen}
@@ -29,6 +29,10 @@ module _ (r : Range) (rs : List Range) (n : ℕ) (ns : List ℕ) where
   pub range-next : inRange r n ≡ true → {x : Bool} → x ≡ allInRange rs ns → x ≡ allInRange (r ∷ rs) (n ∷ ns)
   unfolding allInRange
   range-next e h = rw e h
+
+  pub range-parts : allInRange (r ∷ rs) (n ∷ ns) ≡ true → (inRange r n ≡ true) × (allInRange rs ns ≡ true)
+  unfolding allInRange
+  range-parts h = both-true (inRange r n) (allInRange rs ns) h
 
 pub range-last : (r : Range) (n : ℕ) {x : Bool} → x ≡ inRange r n → x ≡ allInRange (r ∷ []) (n ∷ [])
 unfolding allInRange
@@ -52,7 +56,7 @@ module _ (k n : ℕ) where
   below-test e = rw e
 
 -- "any other number where a line form above shows 0" is out of range: 0 is the one number below 1
-pub zero-below : (n : ℕ) → inRange (0 to 0) n ≡ inRange (below 1) n
+zero-below : (n : ℕ) → inRange (0 to 0) n ≡ inRange (below 1) n
 unfolding inRange
 zero-below zero = refl
 zero-below (suc n) = simp (le-leb 0 (suc n) (omega arith), lt-leb (suc n) 0 (omega arith), le-ltb (suc n) 1 (omega arith))

@@ -85,7 +85,7 @@ abbrev pub TypeAnswer : List ℕ → Out (TypeLine × Place) → TypeRead → Ty
 TypeAnswer text out (type-read.Refused r) = out ≡ stop r
 TypeAnswer text out (type-read.Read t c) = (out ≡ on (t, placeAt text c)) × Placed text c
 
--- a map line, with what its lent slice holds afterwards
+-- a map line, with what its lent slice holds afterwards: its numbers, or whatever a refused line leaves
 abbrev pub MapAnswer : List ℕ → (into : List ℕ) → Out (Map × Place) → LinesRead → Type 0
 MapAnswer text into out (lines-read.Refused r) = out ≡ stop r
 MapAnswer text into out (lines-read.Read c) = (out ≡ on (into, placeAt text c)) × Placed text c

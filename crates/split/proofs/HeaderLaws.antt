@@ -21,7 +21,6 @@ use Rattle.spec.specs.declared.Refusal.the-variants.{SplitForm, SplitRange}
 use Rattle.spec.proofs.Clashes.{true-is-not-false}
 use Rattle.spec.proofs.Headings.{first-map-fits}
 use Rattle.spec.proofs.Ranges.{in-to}
-use Rattle.spec.proofs.Tests.{both-true}
 use Rattle.lexer.specs.Views.{endOf, firstField}
 use Rattle.lexer.specs.Cursors.{Placed, rest, behindField, placeAt}
 use Rattle.lexer.specs.Numbers.{stored, numbersAt}
@@ -35,6 +34,7 @@ use Rattle.workspace.specs.declared.Header.{Header as HeaderRead}
 use Rattle.split.specs.declared.first_line.FoundHeading.the-variants as found-heading
 use Rattle.workspace.specs.Sheets.{headerTold, Small}
 use Rattle.split.specs.Header.{headingFound, numeralsOf, headerFits}
+use Rattle.lines.proofs.Tests.{range-parts}
 use Rattle.lines.proofs.LineLaws.{shows-range, shows-entry, comma-line, comma-kept}
 
 -- ------------------------------------------------------------------ the heading
@@ -141,13 +141,13 @@ module _ (h : Heading) (ns : List ℕ) (n : ℕ) (l t m : ℕ) where
 -- ------------------------------------------------------------------ the ranges
 
 pub header-small : (h : HeaderRead) → headerFits (headerTold h) ≡ true → Small h
-unfolding headerFits headerRanges headerTold allInRange
+unfolding headerFits headerRanges headerTold
 header-small h e =
-    let h₁ = both-true (inRange (1 to 1000000000) (h .denominator)) _ e .1 in
-    let h₂ = both-true (inRange (1 to 16) (h .locations)) _ h₁ in
-    let h₃ = both-true (inRange (1 to 64) (h .types)) _ (h₂ .1) in
-    let h₄ = both-true (inRange (1 to 512) (h .maps)) _ (h₃ .1) in
-    record { locations = in-to 1 16 _ (h₂ .0) .1; types = in-to 1 64 _ (h₃ .0) .1; maps = in-to 1 512 _ (h₄ .0) .1 }
+    let (denominator, e₁) = range-parts _ _ _ _ e in
+    let (locations, e₂) = range-parts _ _ _ _ e₁ in
+    let (types, e₃) = range-parts _ _ _ _ e₂ in
+    let (maps, e₄) = range-parts _ _ _ _ e₃ in
+    record { locations = in-to _ _ _ locations .1; types = in-to _ _ _ types .1; maps = in-to _ _ _ maps .1 }
 
 -- the numbers behind a heading are in their ranges where the header that they make is
 fits-told : {h : Heading} {ns : List ℕ} → NumbersOf h ns → allInRange (headerRanges h (mapsOf ns)) ns ≡ headerFits (headerOf h ns)

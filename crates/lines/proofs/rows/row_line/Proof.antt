@@ -71,7 +71,7 @@ returns-2 : tie.Need-returns-2
 returns-2 c =
     let number = c .before .before in
     let line = number .before .before in
-    row-first (start line .args .purpose) (header line) (start line .args .word) (text line) (cursor line) (start line .pre .reading .placed) (left line)
+    row-first (start line .args .purpose) (header line) (start line .args .word) (start line .pre .reading .placed) (left line)
     (subst (LeadingAnswer (text line) (cursor line)) (c .enum-told .given .1) (number .leading-number .ensures))
 
 returns-3 : tie.Need-returns-3
@@ -79,7 +79,7 @@ returns-3 c =
     let field = c .before .before in
     let typed = field .before .before in
     let line = typed-line typed in
-    row-second (start line .args .purpose) (header line) (start line .args .word) (text line) (cursor line) (start line .pre .reading .placed) (left line) _ (second typed) (type typed)
+    row-second (start line .args .purpose) (header line) (start line .args .word) (start line .pre .reading .placed) (left line) (type typed)
     (subst (PostAnswer (start line .args .purpose) (text line) (second typed)) (c .enum-told2 .given .1) (field .post-field .ensures))
 
 returns-4 : tie.Need-returns-4
@@ -89,7 +89,7 @@ returns-4 c =
     let field = made .before .before in
     let post = field .before .before .before .before in
     let line = post-line post in
-    row-without (start line .args .purpose) (header line) (start line .args .word) (text line) (cursor line) (start line .pre .reading .placed) (left line) _ (second (typed post)) (type (typed post)) _ (third post) (map post)
+    row-without (start line .args .purpose) (header line) (start line .args .word) (start line .pre .reading .placed) (left line) (type (typed post)) _ (map post)
     (start line .pre .small .types, start line .pre .small .maps) _
     (subst (StartAnswer (text line) (third post)) (field .start .given .1) (field .before .before .start-field .ensures))
     (made .row-with .result) (made .row-with .ensures) (c .row-of .result) (c .row-of .ensures)
@@ -101,7 +101,7 @@ returns-5 c =
     let field = made .before .before in
     let post = field .before .before .before .before in
     let line = post-line post in
-    row-with-start (start line .args .purpose) (header line) (start line .args .word) (text line) (cursor line) (start line .pre .reading .placed) (left line) _ (second (typed post)) (type (typed post)) _ (third post) (map post)
+    row-with-start (start line .args .purpose) (header line) (start line .args .word) (start line .pre .reading .placed) (left line) (type (typed post)) _ (map post)
     (start line .pre .small .types, start line .pre .small .maps) _ _
     (subst (StartAnswer (text line) (third post)) (field .start2 .given .1) (field .before .before .start-field .ensures))
     (made .row-with2 .result) (made .row-with2 .ensures) (c .row-of2 .result) (c .row-of2 .ensures)
@@ -111,7 +111,7 @@ returns-6 c =
     let field = c .before .before in
     let post = field .before .before in
     let line = post-line post in
-    row-third (start line .args .purpose) (header line) (start line .args .word) (text line) (cursor line) (start line .pre .reading .placed) (left line) _ (second (typed post)) (type (typed post)) _ (third post) (map post)
+    row-third (start line .args .purpose) (header line) (start line .args .word) (start line .pre .reading .placed) (left line) (type (typed post)) _ (map post)
     (subst (StartAnswer (text line) (third post)) (c .enum-told3 .given .1) (field .start-field .ensures))
 
 pub row-line-spec : {M : Type 1} → statement M

@@ -2,8 +2,11 @@
 use mathlib.Core.Path.{_≡_, sym, _∙_}
 use mathlib.Core.Bool.{true}
 use borrow.Author.Tests.{not-true, not-false}
-use Rattle.spec.specs.Reading.{_to_, inRange}
+use Prim.Native.Nat.{ℕ}
+use lib.ListN.{getD}
+use Rattle.spec.specs.Reading.{Range, below, inRange}
 use Rattle.spec.specs.Split.{headerRanges}
+use Rattle.spec.specs.declared.Heading.the-variants.{C2}
 use Rattle.workspace.specs.Sheets.{headerTold}
 use Rattle.split.specs.Header.{headerFits}
 use Rattle.lines.proofs.Tests.{range-out, range-next, range-last, range-index, below-test}
@@ -11,19 +14,27 @@ use borrow.Author.Needs.{needs}
 use Rattle.split.proofs.first_line.header_fits.Statement.{statement}
 use Rattle.split.proofs.first_line.header_fits.Tie as tie
 
+-- the range of the i-th number of a header
+abbrev nth : ℕ → Range
+nth i = getD (headerRanges C2 0) i (below 0)
+
 -- the numbers in front are in their ranges
-in-denominator : (s : tie.Else1) → inRange (1 to 1000000000) (s .before .before .before .before .before .args .header .denominator) ≡ true
+in-denominator : (s : tie.Else1) → inRange (nth 0) (s .before .before .before .before .before .args .header .denominator) ≡ true
+unfolding headerRanges
 in-denominator s =
     let limit = s .before .before in
     range-index 1 (limit .index2 .ensures .0) (limit .before .index .ensures .0) (s .before .within .ensures) ∙ not-false _ (s .if1 .left)
 
-in-locations : (s : tie.Else2) → inRange (1 to 16) (s .before .before .before .before .before .before .before .args .header .locations) ≡ true
+in-locations : (s : tie.Else2) → inRange (nth 1) (s .before .before .before .before .before .before .before .args .header .locations) ≡ true
+unfolding headerRanges
 in-locations s = sym (s .before .within2 .ensures) ∙ not-false _ (s .if2 .left)
 
-in-types : (s : tie.Else3) → inRange (1 to 64) (s .before .before .before .before .before .before .before .before .before .args .header .types) ≡ true
+in-types : (s : tie.Else3) → inRange (nth 2) (s .before .before .before .before .before .before .before .before .before .args .header .types) ≡ true
+unfolding headerRanges
 in-types s = sym (s .before .within3 .ensures) ∙ not-false _ (s .if3 .left)
 
-in-maps : (s : tie.Else4) → inRange (1 to 512) (s .before .before .before .before .before .before .before .before .before .before .before .args .header .maps) ≡ true
+in-maps : (s : tie.Else4) → inRange (nth 3) (s .before .before .before .before .before .before .before .before .before .before .before .args .header .maps) ≡ true
+unfolding headerRanges
 in-maps s = sym (s .before .within4 .ensures) ∙ not-false _ (s .if4 .left)
 
 returns : tie.Need-returns
