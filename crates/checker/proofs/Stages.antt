@@ -12,6 +12,7 @@ use Rattle.spec.specs.declared.Answer.the-variants.{Accept, Refuse}
 use Rattle.spec.specs.declared.Purpose.the-variants.{Check}
 use Rattle.spec.specs.declared.Refusal.{Refusal}
 use Rattle.spec.proofs.Reasons.{sheets-refused, rules-decide}
+use Rattle.workspace.specs.Layout.{workSize}
 use Rattle.workspace.specs.declared.Header.{Header}
 use Rattle.reading.specs.Answers.{SheetsAnswered}
 use Rattle.reading.specs.declared.Reading.{Reading}

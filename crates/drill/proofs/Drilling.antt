@@ -37,11 +37,11 @@ module _ (seed x k : ℕ) (drew : x ≡ drawn seed) (counted : k ≡ readers x) 
 module _ {k : ℕ} (drawable : Drawable k) where
   pub program-within : length (programText k) ≤ 16384
   unfolding programLimit
-  program-within = accepted-is-right _ _ _ (pair-accepted drawable) .program .fits
+  program-within = accepted-is-right _ _ _ (pair-accepted drawable) .sheets .program .fits
 
   pub split-within : length (splitText k) ≤ 65536
   unfolding splitLimit
-  split-within = accepted-is-right _ _ _ (pair-accepted drawable) .split .fits
+  split-within = accepted-is-right _ _ _ (pair-accepted drawable) .sheets .split .fits
 
 -- ------------------------------------------------------------------ the promise
 

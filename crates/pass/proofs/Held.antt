@@ -5,7 +5,7 @@ use Prim.Native.Nat.{ℕ, _+_, _*_, _≤_, _<_}
 use native.Mathlib.Omega.{arith}
 use lib.ListN.{length, getD}
 use Rattle.spec.specs.Expression.{Step, Expr, leaf, unary, binary, size, Position, indexOf}
-use Rattle.spec.specs.Split.{Split}
+use Rattle.spec.specs.Split.{Split, noRow}
 use Rattle.spec.specs.Conditions.{typeAt, mapAt, row, type, kind, K, inMap, outMap, readMap, writeMap, load, inLoad, outLoad, readLoad, writeLoad}
 use Rattle.spec.specs.Ranges.{InRange}
 use Rattle.spec.proofs.Listing.{size-positive}
@@ -21,7 +21,7 @@ use Rattle.spec.specs.declared.BinaryWord.{BinaryWord}
 use Rattle.spec.specs.declared.BinaryWord.the-variants.{Let, If, Spawn, Write}
 use Rattle.workspace.specs.Layout.{wordsAt, leafCode, unaryCode, binaryCode, printed, ruleOf}
 use Rattle.workspace.specs.Holds.{HoldsSplit}
-use Rattle.workspace.proofs.Shown.{type-number, noRow, type-shown, LoadsIn, loads-in, map-stands, has-shown, row-at, row-type, start-at}
+use Rattle.workspace.proofs.Shown.{type-number, type-shown, LoadsIn, loads-in, map-stands, has-shown, row-at, row-type, start-at}
 use Rattle.workspace.proofs.Expression.{Here, here-index, leaf-code, leaf-number, unary-code, binary-code, here-part, here-first, here-second, here-end}
 use Rattle.filling.specs.declared.Effect.{Effect}
 use Rattle.filling.specs.Flow.{unchanged, taking, giving, needing, lending, alone, steps}

@@ -7,7 +7,7 @@ use lib.Dec.{eqb}
 use lib.ListN.{length, getD}
 use Rattle.spec.specs.Choice.{if_then_else_}
 use Rattle.spec.specs.Expression.{among}
-use Rattle.spec.specs.Split.{Split}
+use Rattle.spec.specs.Split.{Split, noRow}
 use Rattle.spec.specs.Conditions.{Env, typeIn}
 use Rattle.spec.specs.Words.{binding}
 use Rattle.spec.specs.declared.TypeNumber.{TypeNumber}
@@ -16,7 +16,6 @@ use Rattle.spec.specs.declared.Role.the-variants.{Binds, Uses, Neither}
 use Rattle.spec.proofs.Clashes.{true-is-not-false}
 use Rattle.spec.proofs.Tests.{eqb-sym}
 use Rattle.workspace.specs.Holds.{letIn}
-use Rattle.workspace.proofs.Shown.{noRow}
 
 -- each variable of vars has in Γ the type of the row just behind its let
 pub record Scoped (S : Split) (Γ : Env) (inside : List (ℕ × ℕ)) (vars : List ℕ) : Type 0 where

@@ -5,7 +5,7 @@ use Prim.Native.Nat.{ℕ, _+_, _<_}
 use native.Mathlib.Omega.{arith}
 use lib.ListN.{length, getD}
 use Rattle.spec.specs.Expression.{Step, Position, Expr, leaf, indexOf}
-use Rattle.spec.specs.Split.{Row, Split}
+use Rattle.spec.specs.Split.{Row, Split, noRow}
 use Rattle.spec.specs.Conditions.{Env, row, bodyStart}
 use Rattle.spec.specs.Words.{role}
 use Rattle.spec.specs.WellFormed.{StepInside, UsedInside}
@@ -16,7 +16,7 @@ use Rattle.spec.specs.declared.LeafWord.the-variants.{Var, Int, Newtid, Newlock
 use Rattle.workspace.specs.Layout.{endsAt, rowTypesAt, postsAt}
 use Rattle.workspace.specs.Holds.{HoldsSplit, letIn}
 use Rattle.workspace.proofs.Region.{column}
-use Rattle.workspace.proofs.Shown.{type-number, noRow, Stands, row-at, row-type, post-at, start-at}
+use Rattle.workspace.proofs.Shown.{type-number, Stands, row-at, row-type, post-at, start-at}
 use Rattle.workspace.proofs.Expression.{Here, leaf-number, here-let}
 use Rattle.rules.specs.Walk.{cell, viewOf}
 use Rattle.words.proofs.TableRows.{Part, Bound}

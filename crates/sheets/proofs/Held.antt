@@ -6,14 +6,14 @@ use Prim.Native.Nat.{ℕ, zero, suc, _+_, _*_, _≤_, _<_}
 use native.Mathlib.Omega.{arith}
 use lib.ListN.{length, getD, take, drop, length-map}
 use borrow.Author.Tests.{ne-eqb}
-use Rattle.spec.specs.Split.{Header, Row, Split}
+use Rattle.spec.specs.Split.{Header, Row, Split, noRow}
 use Rattle.spec.specs.Conditions.{typeAt}
 use Rattle.spec.specs.declared.MapNumber.{MapNumber}
 use Rattle.spec.specs.declared.TypeLine.the-variants.{Int}
 use Rattle.workspace.specs.Layout.{rowTypesAt, postsAt, startsAt, mapsAt, stride, emptyMap}
 use Rattle.workspace.specs.Holds.{startNumber}
 use Rattle.workspace.proofs.Region.{column, region-part}
-use Rattle.workspace.proofs.Shown.{noRow, type-shown}
+use Rattle.workspace.proofs.Shown.{type-shown}
 use Rattle.workspace.specs.Sheets.{headerTold}
 use Rattle.workspace.specs.declared.Header.{Header as HeaderRead}
 use Rattle.sheets.specs.Stored.{inOrder, typeIn, mapIn, startIn, rowIn, splitIn}

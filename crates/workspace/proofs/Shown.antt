@@ -7,7 +7,7 @@ use Prim.Native.Nat.{ℕ, zero, suc, _+_, _-_, _*_, _<_}
 use native.Mathlib.Omega.{arith}
 use lib.ListN.{length, getD, replicate, length-replicate, getD-replicate}
 use Rattle.spec.specs.Expression.{Step, Expr, indexOf}
-use Rattle.spec.specs.Split.{Map, Row, Split}
+use Rattle.spec.specs.Split.{Map, Row, noRow, Split}
 use Rattle.spec.specs.Maps.{share}
 use Rattle.spec.specs.Conditions.{typeAt, mapAt, row, post, bodyStart, startIn, refLocation, load, inLoad, outLoad, readLoad, writeLoad}
 use Rattle.spec.specs.Ranges.{InRange}
@@ -28,10 +28,6 @@ map-number e = rw e
 
 pub type-number : {x : ℕ} {t : TypeNumber} → x ≡ t .0 → _≡_ {A = TypeNumber} (record { 0 = x }) t
 type-number e = rw e
-
--- a row that no step has
-abbrev pub noRow : Row
-noRow = record { type = record { 0 = 0 }; post = record { 0 = 0 }; bodyStart = none }
 
 -- the numbers of a map, one after the other
 cells : (w : List ℕ) (m : MapNumber) (l : ℕ) (xs : List ℕ)
