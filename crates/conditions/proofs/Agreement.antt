@@ -133,12 +133,12 @@ module _ (w : List ℕ) (S : Split) (steps : List Step) (H : HoldsSplit w S) (R 
   same-numbers-shown : (k h : MapNumber) → k .0 < length (S .maps) → h .0 < length (S .maps)
       → everywhere w n (Equal k h) ≡ sameNumbers (mapAt S k) (mapAt S h)
   unfolding everywhere sameNumbers
-  same-numbers-shown k h p q = rw (located, equal-shown w S steps H R (map-stands w S steps H R k p) (map-stands w S steps H R h q))
+  same-numbers-shown k h p q = rw (equal-shown located (map-stands w S steps H R k p) (map-stands w S steps H R h q))
 
   not-below-shown : (k h : MapNumber) → k .0 < length (S .maps) → h .0 < length (S .maps)
       → everywhere w n (AtLeast k h) ≡ nowhere (mapAt S k ≥ᵐ mapAt S h)
   unfolding everywhere
-  not-below-shown k h p q = rw (located, at-least-shown w S steps H R (map-stands w S steps H R k p) (map-stands w S steps H R h q))
+  not-below-shown k h p q = rw (at-least-shown located (map-stands w S steps H R k p) (map-stands w S steps H R h q))
 
   -- lines whose contents and maps are shown
   lines-shown : (all : List Tree) (f : TypeNumber → TypeNumber → Bool) (x y : TypeLine)

@@ -35,11 +35,11 @@ pub fn map_line(text: &[u8], cursor: Cursor, into: &mut [u32]) -> LinesRead
     }
     let line = cursor.line + 1;
     let read = cursor.numbers(text, into);
-    let Numbers::Read(readLine) = read else {
+    let Numbers::Read(next) = read else {
         return LinesRead::Refused(Refusal::SplitForm(line));
     };
     if !cells_fit(into) {
         return LinesRead::Refused(Refusal::SplitRange(line));
     }
-    LinesRead::Read(readLine)
+    LinesRead::Read(next)
 }

@@ -91,7 +91,7 @@ fn row_with(typed: u32, post: u32, start: RowStart) -> Row
 }
 
 // A row whose numbers are in their ranges, and which has a start where the sheet wants one.
-fn row_of(line: u32, row: Row, word: Word, header: Header, readLine: Cursor) -> RowRead
+fn row_of(line: u32, row: Row, word: Word, header: Header, next: Cursor) -> RowRead
     ensures { λ r. ⌜ r ≡ rowRanged line row word (headerTold header) readLine ⌝ }
 {
     let typed = row.typed;
@@ -106,13 +106,13 @@ fn row_of(line: u32, row: Row, word: Word, header: Header, readLine: Cursor) -> 
             if start_limit(word, header.maps) <= workspace::index(m.0) {
                 return RowRead::Refused(Refusal::SplitRange(line));
             }
-            RowRead::Read(row, readLine)
+            RowRead::Read(row, next)
         }
         RowStart::Empty => {
             if !may_be_empty(heading, word) {
                 return RowRead::Refused(Refusal::NoStart(line));
             }
-            RowRead::Read(row, readLine)
+            RowRead::Read(row, next)
         }
     }
 }
@@ -140,13 +140,13 @@ pub fn row_line(
     };
     let start = start_field(text, third);
     match start {
-        Start::Empty(readLine) => {
+        Start::Empty(next) => {
             let row = row_with(typed, post, RowStart::Empty);
-            row_of(line, row, word, header, readLine)
+            row_of(line, row, word, header, next)
         }
-        Start::Given(s, readLine) => {
+        Start::Given(s, next) => {
             let row = row_with(typed, post, RowStart::Given(MapNumber(s)));
-            row_of(line, row, word, header, readLine)
+            row_of(line, row, word, header, next)
         }
         Start::Malformed => RowRead::Refused(Refusal::SplitForm(line)),
     }

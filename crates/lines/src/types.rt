@@ -117,12 +117,12 @@ pub fn type_line(text: &[u8], cursor: Cursor, own: usize, header: Header) -> Typ
     let kind = lexer::type_word(&text[from..to]);
     let mut found = [0u32; 2];
     let read = numbers.numbers(text, &mut found);
-    let Numbers::Read(readLine) = read else {
+    let Numbers::Read(next) = read else {
         return TypeRead::Refused(Refusal::SplitForm(line));
     };
     let seen = type_of(kind, found[0], found[1], own, header);
     match seen {
-        TypeSeen::Right(t) => TypeRead::Read(t, readLine),
+        TypeSeen::Right(t) => TypeRead::Read(t, next),
         TypeSeen::BadForm => TypeRead::Refused(Refusal::SplitForm(line)),
         TypeSeen::BadRange => TypeRead::Refused(Refusal::SplitRange(line)),
     }

@@ -22,7 +22,7 @@ use Rattle.spec.specs.declared.BinaryWord.{BinaryWord}
 use Rattle.spec.specs.declared.BinaryWord.the-variants.{Let, If, Spawn, Write}
 use Rattle.spec.proofs.Listing.{size-positive}
 use Rattle.workspace.specs.Layout as layout
-use Rattle.workspace.specs.Layout.{wordsAt, linesAt, postsAt, startsAt, presAt, ruleOf}
+use Rattle.workspace.specs.Layout.{wordsAt, postsAt, startsAt, presAt, ruleOf}
 use Rattle.workspace.specs.Region.{ChangedWithin}
 use Rattle.workspace.specs.Holds.{HoldsSplit, startNumber}
 use Rattle.workspace.proofs.Region.{region-kept}

@@ -219,8 +219,8 @@ module _ (w : List ℕ) (steps denominator locations bodyStart : ℕ) (P : Progr
   pub start-shown : startOutcome (getD w linesAt 0) w denominator locations (record { 0 = bodyStart }) ≡ startAtMostOne P S
   unfolding startOutcome startAtMostOne
   start-shown =
-      rw (here-line (P .root) (root-here H), H .denominatorGiven, H .locationsGiven)
-      (ap (refuseOver (lineOf (P .root))) (within-shown w S (P .steps) (H .split) (H .inRange) (header-start-stands H) _))
+      rw (here-line (P .root) (root-here H), H .denominatorGiven)
+      (ap (refuseOver (lineOf (P .root))) (within-shown (H .locationsGiven) (header-start-stands H) _))
 
   module _ (purpose : Purpose) (long : length w ≡ workSize) (fewSteps : steps ≤ 256) where
     rows-few : length (S .rows) ≤ 256

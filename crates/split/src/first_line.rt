@@ -81,7 +81,7 @@ fn header_numbers(text: &[u8], cursor: Cursor, heading: Heading) -> FoundHeader
     let mut found = [0u32; 5];
     let count = numerals_of(heading);
     let read = cursor.numbers(text, &mut found[..count]);
-    let Numbers::Read(readLine) = read else {
+    let Numbers::Read(next) = read else {
         return FoundHeader::Malformed;
     };
     let header = Header {
@@ -92,7 +92,7 @@ fn header_numbers(text: &[u8], cursor: Cursor, heading: Heading) -> FoundHeader
         maps: workspace::index(found[3]),
         start: MapNumber(found[4]),
     };
-    FoundHeader::Read(header, readLine)
+    FoundHeader::Read(header, next)
 }
 
 // Whether a number is in a range, both ends in it.
@@ -141,11 +141,11 @@ pub(crate) fn header_line(text: &[u8], cursor: Cursor, purpose: Purpose) -> Head
     let FoundHeading::Known(heading) = heading_of(&text[from..to], purpose) else {
         return HeaderLine::Refused(Refusal::SplitForm(line));
     };
-    let FoundHeader::Read(header, readLine) = header_numbers(text, numbers, heading) else {
+    let FoundHeader::Read(header, next) = header_numbers(text, numbers, heading) else {
         return HeaderLine::Refused(Refusal::SplitForm(line));
     };
     if !header_fits(header) {
         return HeaderLine::Refused(Refusal::SplitRange(line));
     }
-    HeaderLine::Read(header, readLine)
+    HeaderLine::Read(header, next)
 }

@@ -8,7 +8,7 @@ use lib.ListN.{length}
 use borrow.Author.Tests.{le-leb, lt-ltb}
 use Rattle.spec.specs.Expression.{Step, Expr, leaf, unary, binary, Position}
 use Rattle.spec.specs.Split.{Map, Split}
-use Rattle.spec.specs.Maps.{_=ᵐ_, _≥ᵐ_, _+ᵐ_, _×ᵐ_, share}
+use Rattle.spec.specs.Maps.{share}
 use Rattle.spec.specs.Conditions.{Env, typeAt, mapAt, typeIn, mayShow, contains, row, type, kind, post, bodyStart, K, inMap, outMap, readMap, writeMap, refLocation, load, inLoad, outLoad, readLoad, writeLoad, conditionsOf}
 use Rattle.spec.specs.Agreement.{agree}
 use Rattle.spec.specs.Ranges.{InRange}
@@ -25,13 +25,11 @@ use Rattle.workspace.specs.Layout as layout
 use Rattle.workspace.specs.Layout.{mapCell, printed, ruleOf, leafCode, unaryCode, binaryCode}
 use Rattle.workspace.specs.Holds.{HoldsSplit}
 use Rattle.workspace.proofs.Shown.{Stands, type-shown, place-in, LoadsIn, loads-in, given-stands, has-shown}
-use Rattle.conditions.specs.Relation.{failsFrom}
-use Rattle.conditions.specs.declared.Relation.the-variants.{Equal, AtLeast, Covers, Sum}
 use Rattle.conditions.specs.Agreement.{agreeIn, mayShowIn, containsIn}
 use Rattle.words.specs.Table.{ruleRow}
 use Rattle.words.specs.declared.View.{View}
 use Rattle.conditions.proofs.Agreement.{agree-shown, may-show-shown, contains-shown}
-use Rattle.conditions.proofs.Shown.{equal-shown, at-least-shown, covers-shown, sum-shown, is-sum-shown}
+use Rattle.conditions.proofs.Shown.{equal-shown as equal, at-least-shown as at-least, covers-shown as covers, sum-shown as sum, is-sum-shown as is-sum}
 
 -- "> 0" is "≥ 1"
 some-is-one : (x : ℕ) → leb 1 x ≡ ltb 0 x
@@ -93,23 +91,6 @@ module _ (w : List ℕ) (S : Split) (steps : List Step) (H : HoldsSplit w S) (R 
 
   -- ---------------------------------------------------------------- flow and access
 
-  module _ {a b : MapNumber} {x y : Map} (p : Stands w S a x) (q : Stands w S b y) where
-    equal : failsFrom w (Equal a b) 0 (s .locations) ≡ (x =ᵐ y)
-    equal = rw (located, equal-shown w S steps H R p q)
-
-    at-least : failsFrom w (AtLeast a b) 0 (s .locations) ≡ (x ≥ᵐ y)
-    at-least = rw (located, at-least-shown w S steps H R p q)
-
-    covers : (k : ℕ) → failsFrom w (Covers a k b) 0 (s .locations) ≡ (x ≥ᵐ k ×ᵐ y)
-    covers k = rw (located, covers-shown w S steps H R p q k)
-
-    module _ {c : MapNumber} {z : Map} (r : Stands w S c z) where
-      sum : failsFrom w (Sum a b c) 0 (s .locations) ≡ (x +ᵐ y =ᵐ z)
-      sum = rw (located, sum-shown w S steps H R p q r)
-
-      is-sum : failsFrom w (Sum a b c) 0 (s .locations) ≡ (z =ᵐ x +ᵐ y)
-      is-sum = rw (located, is-sum-shown w S steps H R p q r)
-
   shares : {t u : TypeNumber} {m n : MapNumber} (e e₁ : Expr) → Part w S t m e → Part w S u n e₁
       → mapCell w m (refLocation (kind S e₁) .0) ≡ share (post S e) (refLocation (kind S e₁))
   unfolding kind type
@@ -137,15 +118,15 @@ module _ (w : List ℕ) (S : Split) (steps : List Step) (H : HoldsSplit w S) (R 
   pub leaf-shown : (x : LeafWord) → Part w S (s .typed) (s .post) (leaf x l v) → Bound S x s Γ v
       → ruleRow (ruleOf (leafCode x)) w s (layout.typeAt w (s .typed)) (layout.typeAt w (s .type1)) ≡ conditionsOf S Γ pre (leaf x l v)
   unfolding printed ruleOf ruleRow conditionsOf type
-  leaf-shown Var o b = rw (equal (o .posted) pre-stands, shows _ _ o (b .0) (b .1))
-  leaf-shown Int o b = rw (equal (o .posted) pre-stands, typed-as _ o)
-  leaf-shown Newtid o b = rw (equal (o .posted) pre-stands, typed-as _ o)
-  leaf-shown Newlock o b = rw (sum (o .posted) (out-stands _ o) pre-stands, typed-as _ o)
-  leaf-shown Newsem o b = rw (equal (o .posted) pre-stands, typed-as _ o)
+  leaf-shown Var o b = rw (equal located (o .posted) pre-stands, shows _ _ o (b .0) (b .1))
+  leaf-shown Int o b = rw (equal located (o .posted) pre-stands, typed-as _ o)
+  leaf-shown Newtid o b = rw (equal located (o .posted) pre-stands, typed-as _ o)
+  leaf-shown Newlock o b = rw (sum located (o .posted) (out-stands _ o) pre-stands, typed-as _ o)
+  leaf-shown Newsem o b = rw (equal located (o .posted) pre-stands, typed-as _ o)
   leaf-shown Newrwlock o b =
       rw (
-        covers (write-stands _ o) (read-stands _ o) (s .value),
-        sum (o .posted) (write-stands _ o) pre-stands,
+        covers located (write-stands _ o) (read-stands _ o) (s .value),
+        sum located (o .posted) (write-stands _ o) pre-stands,
         typed-as _ o,
         b,
       )
@@ -155,35 +136,35 @@ module _ (w : List ℕ) (S : Split) (steps : List Step) (H : HoldsSplit w S) (R 
         → ruleRow (ruleOf (unaryCode x)) w s (layout.typeAt w (s .typed)) (layout.typeAt w (s .type1)) ≡ conditionsOf S Γ pre (unary x l v e₁)
     unfolding printed ruleOf ruleRow conditionsOf type
     unary-shown While o =
-        rw (at-least pre-stands (o .posted), at-least (f .posted) (o .posted), typed-as _ o)
+        rw (at-least located pre-stands (o .posted), at-least located (f .posted) (o .posted), typed-as _ o)
     unary-shown Join o =
-        rw (is-sum (f .posted) (load-stands _ f) (o .posted), typed-as _ o, typed-as _ f)
+        rw (is-sum located (f .posted) (load-stands _ f) (o .posted), typed-as _ o, typed-as _ f)
     unary-shown Ref o =
-        rw (equal (o .posted) (f .posted), holds-content _ _ o f)
+        rw (equal located (o .posted) (f .posted), holds-content _ _ o f)
     unary-shown Read o =
         rw (
-          equal (o .posted) (f .posted),
+          equal located (o .posted) (f .posted),
           holds-content _ _ f o,
           typed-as _ f,
           some-is-one,
           shares _ _ o f,
         )
     unary-shown Lock o =
-        rw (is-sum (f .posted) (in-stands _ f) (o .posted), typed-as _ o, typed-as _ f)
+        rw (is-sum located (f .posted) (in-stands _ f) (o .posted), typed-as _ o, typed-as _ f)
     unary-shown Unlock o =
-        rw (sum (o .posted) (out-stands _ f) (f .posted), typed-as _ o, typed-as _ f)
+        rw (sum located (o .posted) (out-stands _ f) (f .posted), typed-as _ o, typed-as _ f)
     unary-shown Post o =
-        rw (sum (o .posted) (load-stands _ f) (f .posted), typed-as _ o, typed-as _ f)
+        rw (sum located (o .posted) (load-stands _ f) (f .posted), typed-as _ o, typed-as _ f)
     unary-shown Wait o =
-        rw (is-sum (f .posted) (load-stands _ f) (o .posted), typed-as _ o, typed-as _ f)
+        rw (is-sum located (f .posted) (load-stands _ f) (o .posted), typed-as _ o, typed-as _ f)
     unary-shown Rdlock o =
-        rw (is-sum (f .posted) (read-stands _ f) (o .posted), typed-as _ o, typed-as _ f)
+        rw (is-sum located (f .posted) (read-stands _ f) (o .posted), typed-as _ o, typed-as _ f)
     unary-shown Rdunlock o =
-        rw (sum (o .posted) (read-stands _ f) (f .posted), typed-as _ o, typed-as _ f)
+        rw (sum located (o .posted) (read-stands _ f) (f .posted), typed-as _ o, typed-as _ f)
     unary-shown Wrlock o =
-        rw (is-sum (f .posted) (write-stands _ f) (o .posted), typed-as _ o, typed-as _ f)
+        rw (is-sum located (f .posted) (write-stands _ f) (o .posted), typed-as _ o, typed-as _ f)
     unary-shown Wrunlock o =
-        rw (sum (o .posted) (write-stands _ f) (f .posted), typed-as _ o, typed-as _ f)
+        rw (sum located (o .posted) (write-stands _ f) (f .posted), typed-as _ o, typed-as _ f)
 
     module _ (e₂ : Expr) (g : Part w S (s .type2) (s .post2) e₂) where
       pub binary-shown : (x : BinaryWord) → Part w S (s .typed) (s .post) (binary x l v e₁ e₂)
@@ -191,24 +172,24 @@ module _ (w : List ℕ) (S : Split) (steps : List Step) (H : HoldsSplit w S) (R 
           → ruleRow (ruleOf (binaryCode x)) w s (layout.typeAt w (s .typed)) (layout.typeAt w (s .type1)) ≡ conditionsOf S Γ pre (binary x l v e₁ e₂)
       unfolding printed ruleOf ruleRow conditionsOf type
       binary-shown Let o b =
-          rw (equal (o .posted) (g .posted), agrees _ _ o (g .typed) (g .type-in))
+          rw (equal located (o .posted) (g .posted), agrees _ _ o (g .typed) (g .type-in))
       binary-shown If o b =
           rw (
-            at-least (f .posted) (o .posted),
-            at-least (g .posted) (o .posted),
+            at-least located (f .posted) (o .posted),
+            at-least located (g .posted) (o .posted),
             agrees _ _ o (f .typed) (f .type-in),
             agrees _ _ o (g .typed) (g .type-in),
           )
       binary-shown Spawn o b =
           rw (
-            at-least (g .posted) (load-stands _ f),
-            sum (o .posted) b (f .posted),
+            at-least located (g .posted) (load-stands _ f),
+            sum located (o .posted) b (f .posted),
             typed-as _ o,
             typed-as _ f,
           )
       binary-shown Write o b =
           rw (
-            equal (o .posted) (g .posted),
+            equal located (o .posted) (g .posted),
             divided,
             holds-content _ _ f g,
             typed-as _ o,
