@@ -34,7 +34,7 @@ use Rattle.lexer.proofs.Places.{span-field}
 use Rattle.lexer.proofs.Walks.{start-placed, start-rest, span-end, span-line-kept, span-comma, left-none, left-some, first-wrong, first-alone}
 use Rattle.lexer.proofs.Stored.{Narrow}
 use Rattle.lexer.proofs.Ranges.{tail-form, tail-read}
-use Rattle.program.specs.Lines.{TailShown, countAt, CountShown, FreelockAt, stepAt, StepShown}
+use Rattle.program.specs.Lines.{TailShown, countAt, CountShown, FreelockAt, stepAt, StepShown, FieldAt, WordAt}
 use Rattle.program.specs.declared.lines.Tail.the-variants.{Value, Malformed}
 use Rattle.program.specs.declared.lines.CountLine.the-variants as count
 use Rattle.program.specs.declared.lines.StepLine.the-variants as step
@@ -118,23 +118,23 @@ marked text c s r w is e = ap (λ f. same f w) (sym (span-field text c s is)) �
 
 module _ (text : List ℕ) (c : Cursor) (s : Span) (f : FreelockAt text c s) where
   some-line : 0 < length (rest text c)
-  some-line = left-some (rest text c) (f .left)
+  some-line = left-some (rest text c) (f .here .left)
 
   freelock-shows : (fs : List Field) → stepLine (c .line + 1) (firstField (rest text c) ∷ fs) ≡ wrongAfter freelock (numbers ((0 to 0) ∷ []) fs)
   unfolding stepLine
-  freelock-shows fs = rw (f .word) refl
+  freelock-shows fs = rw (f .freelock) refl
 
   pub freelock-malformed : TailShown text (s .next) (s .end) Malformed → stepAt text c ≡ stop (ProgramForm (c .line + 1))
   unfolding stepAt readLine placeAt wrongAfter
   freelock-malformed h =
-      tail-malformed (stepLine (c .line + 1)) (wrongAfter freelock) refl (0 to 0) text c s (f .field) (f .placed) some-line freelock-shows h
+      tail-malformed (stepLine (c .line + 1)) (wrongAfter freelock) refl (0 to 0) text c s (f .here .field) (f .here .placed) some-line freelock-shows h
 
   module _ (v : ℕ) (d : Cursor) (h : TailShown text (s .next) (s .end) (Value v d)) where
     freelock-reads : stepAt text c
         ≡ passed programSheet (c .line + 1) (lines (rest text d)) (wrongAfter freelock (if inRange (0 to 0) v then right (v ∷ []) else wrong badRange))
     unfolding stepAt readLine placeAt wrongAfter
     freelock-reads =
-        tail-shows (stepLine (c .line + 1)) (wrongAfter freelock) refl (0 to 0) text c s (f .field) (f .placed) some-line freelock-shows (omega arith) v d h
+        tail-shows (stepLine (c .line + 1)) (wrongAfter freelock) refl (0 to 0) text c s (f .here .field) (f .here .placed) some-line freelock-shows (omega arith) v d h
 
     pub freelock-over : 0 < v → stepAt text c ≡ stop (ProgramRange (c .line + 1))
     unfolding faulty passed wrongAfter outside
@@ -178,48 +178,53 @@ module _ (text : List ℕ) (c : Cursor) where
   unfolding stepAt miscounted
   step-missing e = next-at-none programSheet text (stepLine (c .line + 1)) c (left-none (rest text c) e)
 
-  module _
-      (e : nothing (rest text c) ≡ false)
-      (s : Span)
-      (is : s ≡ spanAt text c)
-      (p : Placed text c)
-      (other : same (firstField (rest text c)) (bytes "freelock") ≡ false)
-    where
-      pub step-unknown : lookUp words (firstField (rest text c)) ≡ none → StepShown text c (step.Refused (ProgramForm (c .line + 1)))
-      unfolding stepAt readLine placeAt form stepLine wordLine
-      step-unknown u = first-wrong programSheet (stepLine (c .line + 1)) (c .line) (rest text c) (left-some (rest text c) e) (λ fs. rw (other, u) refl)
+  -- no word of a step
+  pub step-unknown : {s : Span} → FieldAt text c s → same (firstField (rest text c)) (bytes "freelock") ≡ false
+      → lookUp words (firstField (rest text c)) ≡ none → StepShown text c (step.Refused (ProgramForm (c .line + 1)))
+  unfolding stepAt readLine placeAt form stepLine wordLine
+  step-unknown f other u = first-wrong programSheet (stepLine (c .line + 1)) (c .line) (rest text c) (left-some (rest text c) (f .left)) (λ fs. rw (other, u) refl)
 
-      module _ (w : Word) (k : lookUp words (firstField (rest text c)) ≡ some w) where
-        step-shows : (fs : List Field) → stepLine (c .line + 1) (firstField (rest text c) ∷ fs) ≡ seen (stepOf (c .line + 1) w) (numbers (valueRange w ∷ []) fs)
-        unfolding stepLine wordLine
-        step-shows fs = rw (other, k) refl
+module _ (text : List ℕ) (c : Cursor) (s : Span) (w : Word) (f : WordAt text c s w) where
+  step-shows : (fs : List Field) → stepLine (c .line + 1) (firstField (rest text c) ∷ fs) ≡ seen (stepOf (c .line + 1) w) (numbers (valueRange w ∷ []) fs)
+  unfolding stepLine wordLine
+  step-shows fs = rw (f .other, f .spelled) refl
 
-        pub step-malformed : TailShown text (s .next) (s .end) Malformed → StepShown text c (step.Refused (ProgramForm (c .line + 1)))
-        unfolding stepAt readLine placeAt seen
-        step-malformed h =
-            tail-malformed (stepLine (c .line + 1)) (seen (stepOf (c .line + 1) w)) refl (valueRange w) text c s is p (left-some (rest text c) e) step-shows h
+  pub step-malformed : TailShown text (s .next) (s .end) Malformed → StepShown text c (step.Refused (ProgramForm (c .line + 1)))
+  unfolding stepAt readLine placeAt seen
+  step-malformed h =
+      tail-malformed (stepLine (c .line + 1)) (seen (stepOf (c .line + 1) w)) refl (valueRange w) text c s (f .here .field) (f .here .placed)
+      (left-some (rest text c) (f .here .left))
+      step-shows
+      h
 
-        module _ (v : ℕ) (d : Cursor) (h : TailShown text (s .next) (s .end) (Value v d)) where
-          step-reads : stepAt text c
-              ≡ passed programSheet (c .line + 1) (lines (rest text d)) (seen (stepOf (c .line + 1) w) (if inRange (valueRange w) v then right (v ∷ []) else wrong badRange))
-          unfolding stepAt readLine placeAt seen
-          step-reads = tail-shows (stepLine (c .line + 1)) (seen (stepOf (c .line + 1) w)) refl (valueRange w) text c s is p (left-some (rest text c) e) step-shows (value-narrow w) v d h
+  module _ (v : ℕ) (d : Cursor) (h : TailShown text (s .next) (s .end) (Value v d)) where
+    step-reads : stepAt text c
+        ≡ passed programSheet (c .line + 1) (lines (rest text d)) (seen (stepOf (c .line + 1) w) (if inRange (valueRange w) v then right (v ∷ []) else wrong badRange))
+    unfolding stepAt readLine placeAt seen
+    step-reads =
+        tail-shows (stepLine (c .line + 1)) (seen (stepOf (c .line + 1) w)) refl (valueRange w) text c s (f .here .field) (f .here .placed)
+        (left-some (rest text c) (f .here .left))
+        step-shows
+        (value-narrow w)
+        v
+        d
+        h
 
-          pub step-under : v < leastValue w → StepShown text c (step.Refused (ProgramRange (c .line + 1)))
-          unfolding faulty passed seen outside
-          step-under l = step-reads ∙ rw (under-least w v l) refl
+    pub step-under : v < leastValue w → StepShown text c (step.Refused (ProgramRange (c .line + 1)))
+    unfolding faulty passed seen outside
+    step-under l = step-reads ∙ rw (under-least w v l) refl
 
-          pub step-over : leastValue w ≤ v → largestValue w < v → StepShown text c (step.Refused (ProgramRange (c .line + 1)))
-          unfolding faulty passed seen outside
-          step-over l m = step-reads ∙ rw (over-limit w v l m) refl
+    pub step-over : leastValue w ≤ v → largestValue w < v → StepShown text c (step.Refused (ProgramRange (c .line + 1)))
+    unfolding faulty passed seen outside
+    step-over l m = step-reads ∙ rw (over-limit w v l m) refl
 
-          pub step-right : leastValue w ≤ v → v ≤ largestValue w → StepShown text c (step.Step w v d)
-          unfolding seen stepOf firstNumber
-          step-right l m =
-              let line = tail-line text c s is v d h in
-              let one : Step = record { word = w; value = v; line = c .line + 1 } in
-              let told : stepAt text c ≡ on (one, placeAt text d) = step-reads ∙ rw (within-limit w v l m) (passed-at programSheet text one c d line) in
-              (told ∙ ap (λ i. on (record { word = w; value = v; line = i }, placeAt text d)) (sym line), m, h .2, line)
+    pub step-right : leastValue w ≤ v → v ≤ largestValue w → StepShown text c (step.Step w v d)
+    unfolding seen stepOf firstNumber
+    step-right l m =
+        let line = tail-line text c s (f .here .field) v d h in
+        let one : Step = record { word = w; value = v; line = c .line + 1 } in
+        let told : stepAt text c ≡ on (one, placeAt text d) = step-reads ∙ rw (within-limit w v l m) (passed-at programSheet text one c d line) in
+        (told ∙ ap (λ i. on (record { word = w; value = v; line = i }, placeAt text d)) (sym line), m, h .2, line)
 
 -- ------------------------------------------------------------------ line 1
 

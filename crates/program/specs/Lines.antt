@@ -5,11 +5,12 @@ use mathlib.Core.List.{List, [], _∷_}
 use mathlib.Core.Option.{none, some}
 use Prim.Native.Nat.{ℕ, _+_, _≤_}
 use lib.ListN.{length}
-use Rattle.spec.specs.Text.{bytes, same, lines}
+use Rattle.spec.specs.Text.{bytes, same, lines, lookUp}
 use Rattle.spec.specs.Reading.{programSheet, Out, stop, on, _>>=_, Place, begin, readLine, readLines}
 use Rattle.spec.specs.Expression.{Step}
-use Rattle.spec.specs.Words.{largestValue}
+use Rattle.spec.specs.Words.{words, largestValue}
 use Rattle.spec.specs.Program.{countLine, stepLine, stepLines}
+use Rattle.spec.specs.declared.Word.{Word}
 use Rattle.lexer.specs.Views.{firstField, nothing}
 use Rattle.lexer.specs.Cursors.{Placed, rest, placeAt, spanAt}
 use Rattle.lexer.specs.Numbers.{numbersAt}
@@ -51,12 +52,22 @@ CountShown text (count.Refused x) = countAt text ≡ stop x
 unfoldable pub stepAt : List ℕ → Cursor → Out (Step × Place)
 stepAt text c = readLine programSheet (stepLine (c .line + 1)) (placeAt text c)
 
--- a line is left at the cursor, and its first field, s, is the word `freelock`
-pub record FreelockAt (text : List ℕ) (c : Cursor) (s : Span) : Type 0 where
+-- a line is left at the cursor, and s is its first field
+pub record FieldAt (text : List ℕ) (c : Cursor) (s : Span) : Type 0 where
   pub placed : Placed text c
   pub left : nothing (rest text c) ≡ false
   pub field : s ≡ spanAt text c
-  pub word : same (firstField (rest text c)) (bytes "freelock") ≡ true
+
+-- the field is the word `freelock`
+pub record FreelockAt (text : List ℕ) (c : Cursor) (s : Span) : Type 0 where
+  pub here : FieldAt text c s
+  pub freelock : same (firstField (rest text c)) (bytes "freelock") ≡ true
+
+-- the field spells the word w of a step
+pub record WordAt (text : List ℕ) (c : Cursor) (s : Span) (w : Word) : Type 0 where
+  pub here : FieldAt text c s
+  pub other : same (firstField (rest text c)) (bytes "freelock") ≡ false
+  pub spelled : lookUp words (firstField (rest text c)) ≡ some w
 
 abbrev pub StepShown : List ℕ → Cursor → StepLine → Type 0
 StepShown text c (step.Step w v d) =

@@ -18,7 +18,7 @@ ghost use Rattle.spec.specs.Reading.{stop};
 ghost use Rattle.spec.specs.Words.{leastValue, largestValue};
 ghost use Rattle.lexer.specs.Cursors.{Placed};
 ghost use Rattle.program.specs.Structure.{RoomFor};
-ghost use Rattle.program.specs.Lines.{TailShown, CountShown, FreelockAt, stepAt, StepShown, StepsShown};
+ghost use Rattle.program.specs.Lines.{TailShown, CountShown, FreelockAt, WordAt, stepAt, StepShown, StepsShown};
 
 // The most steps that a program may have.
 const STEP_LIMIT: u32 = 256;
@@ -144,6 +144,26 @@ enum StepLine {
     Refused(Refusal),
 }
 
+// The line at the cursor, whose first field is a word of a step: the number behind it, and its range.
+fn word_line(text: &[u8], cursor: Cursor, field: Span, word: Word) -> StepLine
+    requires { ⌜ WordAt (now text) cursor field word ⌝ }
+    ensures { λ r. ⌜ StepShown (now (text .entry)) cursor r ⌝ }
+{
+    let line = cursor.line + 1;
+    let end = field.end;
+    let next = field.next;
+    let Tail::Value(v, behind) = last_number(text, end, next) else {
+        return StepLine::Refused(Refusal::ProgramForm(line));
+    };
+    if v < least_of(word) {
+        return StepLine::Refused(Refusal::ProgramRange(line));
+    }
+    if limit_of(word) < v {
+        return StepLine::Refused(Refusal::ProgramRange(line));
+    }
+    StepLine::Step(word, v, behind)
+}
+
 // The line at the cursor, `word,v`.
 fn step_line(text: &[u8], cursor: Cursor) -> StepLine
     requires { ⌜ Placed (now text) cursor ⌝ }
@@ -163,18 +183,7 @@ fn step_line(text: &[u8], cursor: Cursor) -> StepLine
     let FoundWord::Known(word) = lexer::word_of(&text[from..to]) else {
         return StepLine::Refused(Refusal::ProgramForm(line));
     };
-    let end = field.end;
-    let next = field.next;
-    let Tail::Value(v, behind) = last_number(text, end, next) else {
-        return StepLine::Refused(Refusal::ProgramForm(line));
-    };
-    if v < least_of(word) {
-        return StepLine::Refused(Refusal::ProgramRange(line));
-    }
-    if limit_of(word) < v {
-        return StepLine::Refused(Refusal::ProgramRange(line));
-    }
-    StepLine::Step(word, v, behind)
+    word_line(text, cursor, field, word)
 }
 
 // The cursor behind the step lines, or the refusal of one of them.

@@ -11,12 +11,12 @@ use Rattle.program.proofs.lines.freelock_line.Tie as tie
 add-line : tie.Need-add-line
 add-line c =
     let at-pre = c .before .before in
-    omega (arith, line-fits _ _ (at-pre .pre .placed) (at-pre .pre .left))
+    omega (arith, line-fits _ _ (at-pre .pre .here .placed) (at-pre .pre .here .left))
 
 last-number-requires : tie.Need-last-number-requires
 last-number-requires c κs =
     let at-pre = c .before .before .before in
-    span-placed _ _ _ (at-pre .pre .field) (at-pre .pre .placed)
+    span-placed _ _ _ (at-pre .pre .here .field) (at-pre .pre .here .placed)
 
 returns : tie.Need-returns
 returns c =

@@ -1,13 +1,11 @@
 -- A step line in the order in which it is judged: a missing line, the word `freelock`, another word, the number behind it, its range.
-use Rattle.lexer.proofs.Walks.{span-placed}
 use Rattle.lexer.proofs.Places.{span-le}
 use Rattle.lexer.proofs.Words.{span-known, span-unknown}
-use Rattle.program.proofs.LineLaws.{line-fits, marked, step-missing, step-unknown, step-malformed, step-under, step-over, step-right}
+use Rattle.program.proofs.LineLaws.{line-fits, marked, step-missing, step-unknown}
 use borrow.Author.Needs.{needs}
 use native.Mathlib.Omega.{arith}
-use mathlib.Core.Path.{sym, subst, _∙_}
+use mathlib.Core.Path.{sym, _∙_}
 use Rattle.spec.specs.Text.{bytes}
-use Rattle.program.specs.Lines.{TailShown}
 use Rattle.program.proofs.lines.step_line.Statement.{statement}
 use Rattle.program.proofs.lines.step_line.Tie as tie
 
@@ -35,10 +33,8 @@ freelock-line-requires c κs =
     let at-at-end = at-if1 .before in
     let at-pre = at-at-end .before .before in
     record {
-      placed = at-pre .pre;
-      left = sym (at-at-end .at-end .ensures) ∙ at-if1 .if1 .left;
-      field = at-field .field .ensures;
-      word = marked _ _ (at-field .field .result) _ _ (at-field .field .ensures) (at-same .same .ensures) ∙ c .if2 .taken;
+      here = record { placed = at-pre .pre; left = sym (at-at-end .at-end .ensures) ∙ at-if1 .if1 .left; field = at-field .field .ensures };
+      freelock = marked _ _ (at-field .field .result) _ _ (at-field .field .ensures) (at-same .same .ensures) ∙ c .if2 .taken;
     }
 
 returns-2 : tie.Need-returns-2
@@ -68,99 +64,29 @@ returns-3 c =
     let at-if1 = at-field .before in
     let at-at-end = at-if1 .before in
     let at-pre = at-at-end .before .before in
-    step-unknown _ _ (sym (at-at-end .at-end .ensures) ∙ at-if1 .if1 .left) (at-field .field .result) (at-field .field .ensures) (at-pre .pre)
+    step-unknown _ _ (record { placed = at-pre .pre; left = sym (at-at-end .at-end .ensures) ∙ at-if1 .if1 .left; field = at-field .field .ensures })
     (marked _ _ (at-field .field .result) _ _ (at-field .field .ensures) (at-same .same .ensures) ∙ at-if2 .if2 .left)
     (span-unknown _ _ (at-field .field .result) (at-field .field .ensures) (sym (c .before .before .word-of .ensures) ∙ c .enum-told .given .1))
 
-last-number-requires : tie.Need-last-number-requires
-last-number-requires c κs =
-    let at-if2 = c .before .before .before .before .before .before in
-    let at-field = at-if2 .before .before .before .before in
-    let at-pre = at-field .before .before .before .before in
-    span-placed _ _ (at-field .field .result) (at-field .field .ensures) (at-pre .pre)
+word-line-requires : tie.Need-word-line-requires
+unfolding bytes
+word-line-requires c κs =
+    let at-word = c .before in
+    let at-word-of = at-word .before .before in
+    let at-if2 = at-word-of .before .before in
+    let at-same = at-if2 .before in
+    let at-field = at-same .before .before .before in
+    let at-if1 = at-field .before in
+    let at-at-end = at-if1 .before in
+    let at-pre = at-at-end .before .before in
+    record {
+      here = record { placed = at-pre .pre; left = sym (at-at-end .at-end .ensures) ∙ at-if1 .if1 .left; field = at-field .field .ensures };
+      other = marked _ _ (at-field .field .result) _ _ (at-field .field .ensures) (at-same .same .ensures) ∙ at-if2 .if2 .left;
+      spelled = span-known _ _ (at-field .field .result) (at-field .field .ensures) _ (sym (at-word-of .word-of .ensures) ∙ at-word .word .given .1);
+    }
 
 returns-4 : tie.Need-returns-4
-unfolding bytes
-returns-4 c =
-    let at-word = c .before .before .before .before .before in
-    let at-word-of = at-word .before .before in
-    let at-if2 = at-word-of .before .before in
-    let at-same = at-if2 .before in
-    let at-field = at-same .before .before .before in
-    let at-if1 = at-field .before in
-    let at-at-end = at-if1 .before in
-    let at-pre = at-at-end .before .before in
-    step-malformed _ _ (sym (at-at-end .at-end .ensures) ∙ at-if1 .if1 .left) (at-field .field .result) (at-field .field .ensures) (at-pre .pre)
-    (marked _ _ (at-field .field .result) _ _ (at-field .field .ensures) (at-same .same .ensures) ∙ at-if2 .if2 .left) _
-    (span-known _ _ (at-field .field .result) (at-field .field .ensures) _ (sym (at-word-of .word-of .ensures) ∙ at-word .word .given .1))
-    (subst (TailShown _ _ _) (c .enum-told2 .given .1) (c .before .before .last-number .ensures))
-
-returns-5 : tie.Need-returns-5
-unfolding bytes
-returns-5 c =
-    let at-v = c .before .before .before in
-    let at-last-number = at-v .before .before in
-    let at-word = at-last-number .before .before .before in
-    let at-word-of = at-word .before .before in
-    let at-if2 = at-word-of .before .before in
-    let at-same = at-if2 .before in
-    let at-field = at-same .before .before .before in
-    let at-if1 = at-field .before in
-    let at-at-end = at-if1 .before in
-    let at-pre = at-at-end .before .before in
-    step-under _ _ (sym (at-at-end .at-end .ensures) ∙ at-if1 .if1 .left) (at-field .field .result) (at-field .field .ensures) (at-pre .pre)
-    (marked _ _ (at-field .field .result) _ _ (at-field .field .ensures) (at-same .same .ensures) ∙ at-if2 .if2 .left) _
-    (span-known _ _ (at-field .field .result) (at-field .field .ensures) _ (sym (at-word-of .word-of .ensures) ∙ at-word .word .given .1))
-    _
-    _
-    (subst (TailShown _ _ _) (at-v .v .given .1) (at-last-number .last-number .ensures))
-    (omega (arith, c .if3 .taken, c .before .least-of .ensures))
-
-returns-6 : tie.Need-returns-6
-unfolding bytes
-returns-6 c =
-    let at-least = c .before .before in
-    let at-v = at-least .before .before .before in
-    let at-last-number = at-v .before .before in
-    let at-word = at-last-number .before .before .before in
-    let at-word-of = at-word .before .before in
-    let at-if2 = at-word-of .before .before in
-    let at-same = at-if2 .before in
-    let at-field = at-same .before .before .before in
-    let at-if1 = at-field .before in
-    let at-at-end = at-if1 .before in
-    let at-pre = at-at-end .before .before in
-    step-over _ _ (sym (at-at-end .at-end .ensures) ∙ at-if1 .if1 .left) (at-field .field .result) (at-field .field .ensures) (at-pre .pre)
-    (marked _ _ (at-field .field .result) _ _ (at-field .field .ensures) (at-same .same .ensures) ∙ at-if2 .if2 .left) _
-    (span-known _ _ (at-field .field .result) (at-field .field .ensures) _ (sym (at-word-of .word-of .ensures) ∙ at-word .word .given .1))
-    _
-    _
-    (subst (TailShown _ _ _) (at-v .v .given .1) (at-last-number .last-number .ensures))
-    (omega (arith, at-least .if3 .left, at-least .before .least-of .ensures))
-    (omega (arith, c .if4 .taken, c .before .limit-of .ensures))
-
-returns-7 : tie.Need-returns-7
-unfolding bytes
-returns-7 c =
-    let at-least = c .before .before in
-    let at-v = at-least .before .before .before in
-    let at-last-number = at-v .before .before in
-    let at-word = at-last-number .before .before .before in
-    let at-word-of = at-word .before .before in
-    let at-if2 = at-word-of .before .before in
-    let at-same = at-if2 .before in
-    let at-field = at-same .before .before .before in
-    let at-if1 = at-field .before in
-    let at-at-end = at-if1 .before in
-    let at-pre = at-at-end .before .before in
-    step-right _ _ (sym (at-at-end .at-end .ensures) ∙ at-if1 .if1 .left) (at-field .field .result) (at-field .field .ensures) (at-pre .pre)
-    (marked _ _ (at-field .field .result) _ _ (at-field .field .ensures) (at-same .same .ensures) ∙ at-if2 .if2 .left) _
-    (span-known _ _ (at-field .field .result) (at-field .field .ensures) _ (sym (at-word-of .word-of .ensures) ∙ at-word .word .given .1))
-    _
-    _
-    (subst (TailShown _ _ _) (at-v .v .given .1) (at-last-number .last-number .ensures))
-    (omega (arith, at-least .if3 .left, at-least .before .least-of .ensures))
-    (omega (arith, c .if4 .left, c .before .limit-of .ensures))
+returns-4 c = c .word-line .ensures
 
 pub step-line-spec : {M : Type 1} → statement M
 step-line-spec =
@@ -184,12 +110,5 @@ step-line-spec =
     (λ c. search needs)
     (λ c. search needs)
     returns-3
-    last-number-requires
-    (λ c. search needs)
-    (λ c. search needs)
-    returns-4
-    (λ c κs. search needs)
-    returns-5
-    (λ c κs. search needs)
-    returns-6
-    returns-7)
+    word-line-requires
+    returns-4)
