@@ -92,7 +92,7 @@ fn row_with(typed: u32, post: u32, start: RowStart) -> Row
 
 // A row whose numbers are in their ranges, and which has a start where the sheet wants one.
 fn row_of(line: u32, row: Row, word: Word, header: Header, next: Cursor) -> RowRead
-    ensures { λ r. ⌜ r ≡ rowRanged line row word (headerTold header) readLine ⌝ }
+    ensures { λ r. ⌜ r ≡ rowRanged line row word (headerTold header) next ⌝ }
 {
     let typed = row.typed;
     let post = row.post;

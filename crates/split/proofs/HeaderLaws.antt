@@ -117,7 +117,7 @@ inPlaces h l = record {
   locations = getD l 1 0;
   types = getD l 2 0;
   maps = getD l 3 0;
-  start = record { 0 = getD l 4 0 };
+  rootStart = record { 0 = getD l 4 0 };
 }
 
 -- a place that none is read into holds 0, the start of a `C` sheet
