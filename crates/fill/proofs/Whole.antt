@@ -10,7 +10,7 @@ use native.Mathlib.Decide.{decLt}
 use lib.ListN.{length, getD, length-map, length-append, List·getD-append, List·getD-map}
 use lib.Seq.{getD-append-add}
 use Rattle.spec.specs.Program.{Program}
-use Rattle.spec.specs.Split.{Map, Row, Split}
+use Rattle.spec.specs.Split.{Map, Row, noRow, Split}
 use Rattle.workspace.specs.Layout.{postsAt as postsColumn, mapsAt, stride, mapCell, rowTypesAt, workSize}
 use Rattle.workspace.specs.Region.{Region}
 use Rattle.workspace.specs.Holds.{startNumber, HoldsSplit}
@@ -22,7 +22,7 @@ use Rattle.filling.specs.Found.{_>>=_, forEach}
 use Rattle.filling.specs.GreatestMaps.{postsAt, greatestMaps}
 use Rattle.filling.specs.Answer.{numberLimit, mapAtMost, allAtMost}
 use Rattle.filling.proofs.Found.{some-injective, finds-bind}
-use Rattle.filling.proofs.Kept.{absent, rows-post}
+use Rattle.filling.proofs.Kept.{rows-post}
 use Rattle.filling.proofs.InRange.{rows-counted, filled-in-range}
 use Rattle.filling.proofs.Limits.{steps-few}
 use Rattle.filling.proofs.Columns.{each-found, find-each, miss-one, maps-counted, maps-wide}
@@ -85,8 +85,8 @@ module _ (w w′ : List ℕ) (steps denominator locations maps start : ℕ) (P :
         let l : i < length (S .rows) = omega (arith, rows) in
         T .shown i (omega (arith, H .sheets .inRange .rowsCounted, H .sheets .stepsCounted))
         ∙ ap (_+ i) (H .mapsGiven)
-        ∙ sym (List·getD-map (λ (r : Row). r .post .0) (withPosts (S .header .maps) (S .rows)) i absent
-        ∙ rows-post (S .header .maps) (S .rows) i absent l);
+        ∙ sym (List·getD-map (λ (r : Row). r .post .0) (withPosts (S .header .maps) (S .rows)) i noRow
+        ∙ rows-post (S .header .maps) (S .rows) i noRow l);
   }
     where
       rows : length (map (λ (r : Row). r .post .0) (withPosts (S .header .maps) (S .rows))) ≡ length (S .rows)
