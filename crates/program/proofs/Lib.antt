@@ -1,4 +1,5 @@
 pub mod Listed
+pub mod Limits
 pub mod StructureLaws
 pub mod ScopeLaws
 pub mod Tables

@@ -8,7 +8,6 @@ use Rattle.spec.specs.Text.{Field}
 use Rattle.spec.specs.Reading.{programSheet, Out, Seen, Place, readLine, readLines}
 use Rattle.spec.specs.Expression.{Step}
 use Rattle.spec.specs.Program.{stepLine, stepLines}
-use Rattle.spec.specs.Words.{largestValue}
 use Rattle.spec.specs.declared.Refusal.{Refusal}
 use Rattle.spec.specs.declared.Word.{Word}
 use Rattle.lexer.specs.Cursors.{Placed, placeAt}
@@ -18,13 +17,10 @@ use Rattle.workspace.specs.Layout.{wordsAt, valuesAt, linesAt, rowTypesAt, code
 use Rattle.workspace.specs.Region.{ChangedWithin}
 use Rattle.workspace.proofs.Region.{region-empty, changed-nothing, changed-store, changed-then}
 use Rattle.workspace.proofs.Steps.{steps-push}
-use Rattle.program.specs.Lines.{stepAt, StepShown, Limited, none-limited, more-limited, stepsAt, StepsStored, StepsShown}
+use Rattle.program.specs.Lines.{stepAt, StepShown, none-limited, stepsAt, StepsStored, StepsShown}
+use Rattle.program.proofs.Limits.{limited-snoc}
 use Rattle.program.specs.declared.lines.StepLine.the-variants as step
 use Rattle.program.specs.declared.lines.StepLines.the-variants as steps
-
-limited-snoc : {ss : List Step} (s : Step) → Limited ss → s .value ≤ largestValue (s .word) → Limited (ss ++ (s ∷ []))
-limited-snoc s none-limited h = more-limited h none-limited
-limited-snoc s (more-limited l r) h = more-limited l (limited-snoc s r h)
 
 -- ------------------------------------------------------------------ the loop
 

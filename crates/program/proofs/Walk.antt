@@ -11,7 +11,7 @@ use lib.ListN.{length, getD, set}
 use borrow.Author.Tests.{le-leb, lt-leb, lt-ltb, le-ltb, ltb-true, ltb-false}
 use Rattle.spec.specs.Choice.{if_then_else_}
 use Rattle.spec.specs.Reading.{Out, stop, on, _>>=_}
-use Rattle.spec.specs.Expression.{Step, Position, Expr, leaf, unary, binary, size, among, scopeStep, scope}
+use Rattle.spec.specs.Expression.{Position, Expr, leaf, unary, binary, size, among, scopeStep, scope}
 use Rattle.spec.specs.Words.{role, binding, largestValue}
 use Rattle.spec.specs.declared.Refusal.{Refusal}
 use Rattle.spec.specs.declared.Refusal.the-variants.{Unbound, Rebound}
@@ -24,10 +24,11 @@ use Rattle.workspace.specs.Steps.{wordAt, valueAt, stepLineAt}
 use Rattle.workspace.specs.Holds.{letIn, letOf, lets}
 use Rattle.workspace.proofs.Codes.{word-of-code}
 use Rattle.workspace.proofs.Expression.{Standing, Head, leaf-head, unary-head, binary-head, standing-end, standing-part, standing-first, standing-second}
-use Rattle.program.specs.Lines.{Limited, none-limited, more-limited}
+use Rattle.program.specs.Lines.{Limited}
 use Rattle.program.specs.Scopes.{unbound, judgeLet, judgeVar, judgeBy, judgeOf, storing, continued, scopesFrom}
 use Rattle.spec.specs.declared.Role.the-variants.{Uses, Neither}
 use Rattle.program.specs.declared.binders.Judged.the-variants.{Store, Refused}
+use Rattle.program.proofs.Limits.{limited-first, limited-behind, limited-parts}
 use Rattle.program.proofs.ScopeLaws.{after, after-append, after-stop, after-on, replicate-any}
 use Rattle.program.proofs.Tables.{endAt, names, Right, Bound, Extends, Agrees, extends-same, extends-then, agrees-narrow, agrees-onward, let-extends, let-first, let-second}
 
@@ -217,17 +218,6 @@ walk-pair w m k hi t ins bound e₁ e₂ h role a x₁ x₂ =
     (λ b y.
     x₂ b (y .table)
     (agrees-onward w k hi (k + 1 + size e₁) t (y .table) ins bound b (omega arith) a (y .long) (y .extends) (y .bind)))
-
--- no number of an expression and of its parts is larger than its word allows
-limited-first : {s : Step} {ss : List Step} → Limited (s ∷ ss) → s .value ≤ largestValue (s .word)
-limited-first (more-limited l r) = l
-
-limited-behind : {s : Step} {ss : List Step} → Limited (s ∷ ss) → Limited ss
-limited-behind (more-limited l r) = r
-
-limited-parts : (ss ts : List Step) → Limited (ss ++ ts) → Limited ss × Limited ts
-limited-parts [] ts r = (none-limited, r)
-limited-parts (s ∷ ss) ts (more-limited l r) = let p = limited-parts ss ts r in (more-limited l (p .0), p .1)
 
 walk : (w : List ℕ) (e : Expr) (k m hi : ℕ) (t : List ℕ) (ins : List (ℕ × ℕ)) (bound : List ℕ) → Standing w k e → Limited (prefix e)
     → k + size e ≤ hi → hi ≤ 256 → Agrees w k hi t ins bound → Walked w m k (size e) (lets k ins e) t (scope e (names ins) bound)
