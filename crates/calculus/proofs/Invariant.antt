@@ -108,7 +108,7 @@ threads-change-keeps I P = record { N = I .N; held = I .held; pool = P; slots = 
 -- This is the one place that looks into the sum over the names.
 module _ {D : ℕ} {s : State} (I : WellTyped D s) (n : ℕ) (sl : Slot) (N′ : Env) (held′ : Cap)
     (grows : I .N ⊆ N′) (elsewhere : (m : ℕ) → m ≢ n → N′ m ≡ I .N m) (ok : SlotTyped N′ sl (N′ n))
-    (no-more : (ρ : ℕ) → held′ ρ + keeps sl (load (N′ n)) ρ ≤ I .held ρ + kept (s .names) (I .N) ρ n) where
+    (noMore : (ρ : ℕ) → held′ ρ + keeps sl (load (N′ n)) ρ ≤ I .held ρ + kept (s .names) (I .N) ρ n) where
   changed-slots : (m : ℕ) → SlotTyped N′ (update (s .names) n sl m) (N′ m)
   changed-slots m = by-cases (ℕ-discrete m n)
     where
@@ -128,7 +128,7 @@ module _ {D : ℕ} {s : State} (I : WellTyped D s) (n : ℕ) (sl : Slot) (N′ :
       let before = kept (s .names) (I .N) ρ in
       let after = kept (update (s .names) n sl) N′ ρ in
       let (c, sum) = total-with-one-changed before after n (λ m e. omega (arith, kept-elsewhere ρ m e)) b in
-      omega (arith, sum, kept-there ρ, no-more ρ, I .budget ρ c)
+      omega (arith, sum, kept-there ρ, noMore ρ, I .budget ρ c)
 
   pub name-change-keeps : {ts : List Thread} → Pool D N′ ts held′ → WellTyped D (record { threads = ts; names = update (s .names) n sl })
   name-change-keeps P = record {

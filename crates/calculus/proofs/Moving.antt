@@ -67,21 +67,21 @@ module _ {D : ℕ} {s : State} {I : WellTyped D s} {m : Move} {t : Thread} {h : 
       Typed D (I .N) empty Ψ′ e′ σ Φ →
       ((ρ : ℕ) → Ψ′ ρ + keeps after (load (some τ)) ρ ≤ h .own ρ + keeps (s .names n) (load (some τ)) ρ) →
       some (becomes s m t (update (s .names) n after) e′) ≡ some s′ → WellTyped D s′
-  slot-change-keeps n after τ Ψ′ e′ known ok typed no-more =
+  slot-change-keeps n after τ Ψ′ e′ known ok typed noMore =
       told (name-change-keeps I n after (I .N) (Ψ′ +ᶜ h .rest) (⊆-refl (I .N)) (λ x z. refl) (rw known ok)
-      (λ ρ. omega (arith, no-more ρ, h .split .at ρ, ap (λ o. keeps after (load o) ρ) known, ap (λ o. keeps (s .names n) (load o) ρ) known))
+      (λ ρ. omega (arith, noMore ρ, h .split .at ρ, ap (λ o. keeps after (load o) ρ) known, ap (λ o. keeps (s .names n) (load o) ρ) known))
       (moved-pool (I .N) Ψ′ e′ (⊆-refl (I .N)) typed))
 
   -- The word becomes the name listed, of a new thing. What the new thing keeps, the thread pays.
   pub new-name-keeps : {s′ : State} (new : Slot) (Ψ′ : Cap) →
       (I .N ⊆ bind (I .N) (m .fresh) σ → SlotTyped (bind (I .N) (m .fresh) σ) new (some σ)) → Ψ′ ≥ᶜ Φ →
       ((ρ : ℕ) → Ψ′ ρ + keeps new (load (some σ)) ρ ≤ h .own ρ) → named s m t new ≡ some s′ → WellTyped D s′
-  new-name-keeps new Ψ′ ok enough no-more q =
+  new-name-keeps new Ψ′ ok enough noMore q =
       let n = m .fresh in
       let N′ = bind (I .N) n σ in
       let (_, e, q₁) = bind-is-some (ifUnused (s .names n)) q in
       let known : N′ n ≡ some σ = update-same (I .N) n (some σ) in
       let grows : I .N ⊆ N′ = fresh-grows (I .N) n σ (unused-has-no-type (rw (unused-tells (s .names n) e) at (I .slots n))) in
       told (name-change-keeps I n new N′ (Ψ′ +ᶜ h .rest) grows (λ x z. update-other (I .N) n x (some σ) z) (rw known (ok grows))
-      (λ ρ. omega (arith, no-more ρ, h .split .at ρ, ap (λ o. keeps new (load o) ρ) known))
+      (λ ρ. omega (arith, noMore ρ, h .split .at ρ, ap (λ o. keeps new (load o) ρ) known))
       (moved-pool N′ Ψ′ (value (name n)) grows (value-typed (name-typed known asItIs) enough))) q₁

@@ -90,20 +90,20 @@ module _ (text : List ℕ) (from to so-far : ℕ) (r : Reached text from to so-f
         r .3 ∙ digit-value text to h low high so-far,
       )
 
-module _ (text : List ℕ) (c : Cursor) (left : ℕ) (few : Lower (length text - c .at) digitLimit left) (at-le : c .at ≤ length text) where
+module _ (text : List ℕ) (c : Cursor) (left : ℕ) (few : Lower (length text - c .at) digitLimit left) (placed : c .at ≤ length text) where
   pub digits-taken : (d : Taken) → c .at ≤ d .to → d .to ≤ c .at + left → Reached text (c .at) (d .to) (d .value)
       → (d .to < c .at + digitLimit → digitFirst (drop (d .to) text) ≡ false) → DigitsTaken text c d
   unfolding rest
-  digits-taken d from-le to-le r no-more =
+  digits-taken d forward within r noMore =
       record {
-        from-le = from-le;
-        to-le = omega (arith, few .first-le);
-        limit = omega (arith, few .second-le);
+        forward = forward;
+        inText = omega (arith, few .belowFirst);
+        limit = omega (arith, few .belowSecond);
         ahead = r .0;
         end = r .1;
         all = r .2;
-        comes-to = r .3;
-        no-more = no-more;
+        comesTo = r .3;
+        noMore = noMore;
       }
 
 -- ------------------------------------------------------------------ the numeral at a cursor
@@ -147,17 +147,17 @@ module _ (text : List ℕ) (c : Cursor) where
     field-length : length (firstField (rest text c)) ≡ d .to - c .at + width (drop (d .to) text)
     unfolding firstField
     field-length =
-        length-take-le (width (rest text c)) (rest text c) (width-le (rest text c)) ∙ omega (arith, taken .ahead, taken .from-le)
+        length-take-le (width (rest text c)) (rest text c) (width-le (rest text c)) ∙ omega (arith, taken .ahead, taken .forward)
 
     pub digits-none : d .to ≡ c .at → number-is.Malformed ≡ numberAt text c
     unfolding rest digitLimit
-    digits-none e = malformed (no-digits (rest text c) (rw e at (taken .no-more (omega arith))))
+    digits-none e = malformed (no-digits (rest text c) (rw e at (taken .noMore (omega arith))))
 
     module _ (some-taken : d .to ≡ c .at → ⊥) where
       field-first : getD (firstField (rest text c)) 0 0 ≡ getD text (c .at) 0
       unfolding firstField rest
       field-first =
-          getD-take (width (rest text c)) (rest text c) 0 0 (omega (arith, taken .ahead, taken .from-le, some-taken))
+          getD-take (width (rest text c)) (rest text c) 0 0 (omega (arith, taken .ahead, taken .forward, some-taken))
           ∙ getD-drop (c .at) text 0 0
           ∙ ap (λ (i : ℕ). getD text i 0) (add-zero (c .at))
 
@@ -186,11 +186,11 @@ module _ (text : List ℕ) (c : Cursor) where
 
         field-value : value 0 (firstField (rest text c)) ≡ d .value
         unfolding value
-        field-value = taken .comes-to ∙ ap (value (d .value)) none-left
+        field-value = taken .comesTo ∙ ap (value (d .value)) none-left
 
         field-numeral : numeral (firstField (rest text c)) ≡ some (d .value)
         field-numeral =
-            is-numeral (firstField (rest text c)) (omega (arith, field-width, taken .from-le, some-taken)) (omega (arith, field-width, taken .limit)) field-bare
+            is-numeral (firstField (rest text c)) (omega (arith, field-width, taken .forward, some-taken)) (omega (arith, field-width, taken .limit)) field-bare
             field-digits
             ∙ ap some field-value
 
@@ -203,7 +203,7 @@ module _ (text : List ℕ) (c : Cursor) where
       where
         go : (x : Bool) → ltb (d .to) (c .at + digitLimit) ≡ x → number-is.Malformed ≡ numberAt text c
         go true e =
-            let more = taken .no-more (ltb-true (d .to) (c .at + digitLimit) e) in
+            let more = taken .noMore (ltb-true (d .to) (c .at + digitLimit) e) in
             malformed (not-digits (firstField (rest text c)) (taken .all ∙ field-spoilt text (d .to) h n m more))
         go false e =
             let full = ltb-false (d .to) (c .at + digitLimit) e in

@@ -61,7 +61,7 @@ module _ (text : List ℕ) (c : Cursor) (p : Placed text c) (r : List ℕ) (b : 
   behind-at : behindLine text c r .at ≡ c .at + b .by
   unfolding behindLine rest
   behind-at =
-      omega (arith, sym (ap length (b .left)) ∙ length-drop (b .by) (drop (c .at) text), length-drop (c .at) text, b .by-le, p .at-le)
+      omega (arith, sym (ap length (b .left)) ∙ length-drop (b .by) (drop (c .at) text), length-drop (c .at) text, b .by-le, p .inText)
 
   behind-rest : rest text (behindLine text c r) ≡ r
   unfolding rest
@@ -71,8 +71,8 @@ module _ (text : List ℕ) (c : Cursor) (p : Placed text c) (r : List ℕ) (b : 
   unfolding rest behindLine
   behind-placed =
       record {
-        line-le = omega (arith, behind-at, b .some-by, p .line-le);
-        at-le = omega (arith, behind-at, b .by-le, length-drop (c .at) text, p .at-le);
+        lineSmall = omega (arith, behind-at, b .some-by, p .lineSmall);
+        inText = omega (arith, behind-at, b .by-le, length-drop (c .at) text, p .inText);
         short = p .short;
       }
 

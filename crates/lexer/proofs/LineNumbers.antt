@@ -166,7 +166,7 @@ whole into i n h =
 pub stands : (text : List ℕ) (c d : Cursor) → Placed text d → d .line ≡ c .line + 1 → d ≡ behindLine text c (rest text d)
 unfolding behindLine rest
 stands text c d p h =
-    let e : length text - length (drop (d .at) text) ≡ d .at = omega (arith, length-drop (d .at) text, p .at-le) in
+    let e : length text - length (drop (d .at) text) ≡ d .at = omega (arith, length-drop (d .at) text, p .inText) in
     sym (rw (e, sym h))
 
 module _ (text : List ℕ) (c : Cursor) (before after : List ℕ) where

@@ -9,21 +9,21 @@ use lib.Dec.{eqb, leb, leb·suc-suc}
 use borrow.Author.Tests.{le-leb, lt-leb}
 use lib.ListN.{length, take, drop, drop-of-length-le, length-drop}
 use lib.Seq.{drop-drop}
-use Rattle.lexer.specs.Views.{width, endOf, firstField, behind, nothing}
+use Rattle.lexer.specs.Views.{width, endOf, firstField, behind, textEnded}
 use Rattle.lexer.specs.Cursors.{Placed, rest, past, behindField, spanTo, spanAt}
 use Rattle.lexer.specs.declared.Cursor.{Cursor}
 use Rattle.lexer.specs.declared.Span.{Span}
 use Rattle.lexer.specs.declared.FieldEnd.{FieldEnd}
 use Rattle.lexer.specs.declared.FieldEnd.the-variants.{Comma, Newline, Text}
 
-nothing-drop : (t : List ℕ) (i : ℕ) → nothing (drop i t) ≡ leb (length t) i
-unfolding nothing
+nothing-drop : (t : List ℕ) (i : ℕ) → textEnded (drop i t) ≡ leb (length t) i
+unfolding textEnded
 nothing-drop [] zero = refl
 nothing-drop [] (suc i) = sym (le-leb 0 (suc i) (omega arith))
 nothing-drop (b ∷ t) zero = sym (lt-leb (suc (length t)) 0 (omega arith))
 nothing-drop (b ∷ t) (suc i) = nothing-drop t i ∙ sym (leb·suc-suc (length t) i)
 
-pub nothing-left : (text : List ℕ) (c : Cursor) → nothing (rest text c) ≡ leb (length text) (c .at)
+pub nothing-left : (text : List ℕ) (c : Cursor) → textEnded (rest text c) ≡ leb (length text) (c .at)
 unfolding rest
 nothing-left text c = nothing-drop text (c .at)
 
@@ -83,14 +83,14 @@ module _ (text : List ℕ) (c : Cursor) (p : Placed text c) where
   past-rest Newline h = past-byte
   past-rest Text h =
       let l = rest-length in
-      drop-of-length-le text {i = c .at + width (drop (c .at) text)} (omega (arith, p .at-le))
+      drop-of-length-le text {i = c .at + width (drop (c .at) text)} (omega (arith, p .inText))
       ∙ sym (drop-of-length-le (drop (c .at) text) {i = suc (width (drop (c .at) text))} (omega arith))
 
   past-placed : (e : FieldEnd) → Fits e (width (rest text c)) (length (rest text c)) → Placed text (past e (c .at + width (rest text c)) (c .line))
   unfolding past
-  past-placed Comma h = let l = rest-length in record { line-le = omega (arith, p .line-le); at-le = omega (arith, p .at-le); short = p .short }
-  past-placed Newline h = let l = rest-length in record { line-le = omega (arith, p .line-le); at-le = omega (arith, p .at-le); short = p .short }
-  past-placed Text h = let l = rest-length in record { line-le = omega (arith, p .line-le); at-le = omega (arith, p .at-le); short = p .short }
+  past-placed Comma h = let l = rest-length in record { lineSmall = omega (arith, p .lineSmall); inText = omega (arith, p .inText); short = p .short }
+  past-placed Newline h = let l = rest-length in record { lineSmall = omega (arith, p .lineSmall); inText = omega (arith, p .inText); short = p .short }
+  past-placed Text h = let l = rest-length in record { lineSmall = omega (arith, p .lineSmall); inText = omega (arith, p .inText); short = p .short }
 
   -- what is left behind the field at a cursor
   pub next-rest : rest text (behindField text c) ≡ behind (rest text c)
@@ -120,4 +120,4 @@ module _ (text : List ℕ) (c : Cursor) where
 
   pub span-le : (s : Span) → s ≡ spanAt text c → Placed text c → (s .from ≤ s .to) × (s .to ≤ length text)
   unfolding spanAt spanTo rest
-  span-le s e p = rw e (omega arith, omega (arith, width-le (drop (c .at) text), length-drop (c .at) text, p .at-le))
+  span-le s e p = rw e (omega arith, omega (arith, width-le (drop (c .at) text), length-drop (c .at) text, p .inText))

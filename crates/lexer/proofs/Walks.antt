@@ -8,7 +8,7 @@ use native.Mathlib.Omega.{arith}
 use lib.ListN.{length}
 use Rattle.spec.specs.Text.{lines, Field, numeral}
 use Rattle.spec.specs.Reading.{SheetName, stop, Seen, wrong, badForm, form, faulty, passed, nextLine}
-use Rattle.lexer.specs.Views.{endOf, firstField, behind, nothing, withField, lineAt}
+use Rattle.lexer.specs.Views.{endOf, firstField, behind, textEnded, withField, lineAt}
 use Rattle.lexer.specs.Cursors.{Placed, start, rest, behindField, spanTo, spanAt}
 use types.Run.{OneOf, miss}
 use denote.Enum.Declared.{tagOf}
@@ -29,7 +29,7 @@ use Rattle.lexer.proofs.Places.{next-rest, next-placed, line-kept, line
 -- in front of a text
 pub start-placed : (text : List ℕ) → length text < 4294967296 → Placed text start
 unfolding start
-start-placed text h = record { line-le = omega arith; at-le = omega arith; short = h }
+start-placed text h = record { lineSmall = omega arith; inText = omega arith; short = h }
 
 pub start-rest : (text : List ℕ) → rest text start ≡ text
 unfolding start rest
@@ -98,13 +98,13 @@ not-comma Newline h p = let z : _≡_ {A = ℕ} 0 1 = cc in omega arith
 not-comma Text h p = let z : _≡_ {A = ℕ} 0 1 = cc in omega arith
 
 -- whether something is left
-pub left-none : (t : List ℕ) → nothing t ≡ true → t ≡ []
-unfolding nothing
+pub left-none : (t : List ℕ) → textEnded t ≡ true → t ≡ []
+unfolding textEnded
 left-none [] e = refl
 left-none (b ∷ t) e = cc
 
-pub left-some : (t : List ℕ) → nothing t ≡ false → 0 < length t
-unfolding nothing
+pub left-some : (t : List ℕ) → textEnded t ≡ false → 0 < length t
+unfolding textEnded
 left-some [] e = let z : _≡_ {A = ℕ} 0 1 = cc in absurd (omega arith)
 left-some (b ∷ t) e = omega arith
 

@@ -12,8 +12,8 @@ use Rattle.lexer.specs.declared.FieldEnd.the-variants.{Comma, Newline, T
 
 -- a cursor that stands in a text or at its end, with no more lines than bytes behind it; the lines of the text can be counted in 32 bits
 pub record Placed (text : List ℕ) (c : Cursor) : Type 0 where
-  pub line-le : c .line ≤ c .at
-  pub at-le : c .at ≤ length text
+  pub lineSmall : c .line ≤ c .at
+  pub inText : c .at ≤ length text
   pub short : length text < 4294967296
 
 -- in front of the first line

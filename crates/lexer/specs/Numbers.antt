@@ -38,8 +38,8 @@ numberAt text c = numberOf (numeral (firstField (rest text c))) (endOf (rest tex
 -- ------------------------------------------------------------------ the digits in front
 
 pub record Lower (a b r : ℕ) : Type 0 where
-  pub first-le : r ≤ a
-  pub second-le : r ≤ b
+  pub belowFirst : r ≤ a
+  pub belowSecond : r ≤ b
   pub one : r < b → r ≡ a
 
 -- whether the first of so many digits is a 0 in front of others
@@ -52,14 +52,14 @@ digitFirst (b ∷ t) = leb 48 b && leb b 57
 
 -- the digits in front of the field at a cursor, all of them or as many as a numeral can have: with what is left of the field behind them, they are the field
 pub record DigitsTaken (text : List ℕ) (c : Cursor) (d : Taken) : Type 0 where
-  pub from-le : c .at ≤ d .to
-  pub to-le : d .to ≤ length text
+  pub forward : c .at ≤ d .to
+  pub inText : d .to ≤ length text
   pub limit : d .to ≤ c .at + digitLimit
   pub ahead : c .at + width (rest text c) ≡ d .to + width (drop (d .to) text)
   pub end : endOf (rest text c) ≡ endOf (drop (d .to) text)
   pub all : digits (firstField (rest text c)) ≡ digits (firstField (drop (d .to) text))
-  pub comes-to : valueOf 0 (firstField (rest text c)) ≡ valueOf (d .value) (firstField (drop (d .to) text))
-  pub no-more : d .to < c .at + digitLimit → digitFirst (drop (d .to) text) ≡ false
+  pub comesTo : valueOf 0 (firstField (rest text c)) ≡ valueOf (d .value) (firstField (drop (d .to) text))
+  pub noMore : d .to < c .at + digitLimit → digitFirst (drop (d .to) text) ≡ false
 
 -- ------------------------------------------------------------------ stored numbers
 

@@ -30,9 +30,9 @@ unfoldable pub behind : List ℕ → List ℕ
 behind t = drop (suc (width t)) t
 
 -- whether nothing is left
-unfoldable pub nothing : List ℕ → Bool
-nothing [] = true
-nothing (b ∷ t) = false
+unfoldable pub textEnded : List ℕ → Bool
+textEnded [] = true
+textEnded (b ∷ t) = false
 
 -- ------------------------------------------------------------------ the first line
 

@@ -8,7 +8,7 @@ pub use vocabulary::type_word;
 pub use vocabulary::word_of;
 ghost use mathlib.Core.Path.{_≡_};
 ghost use Rattle.spec.specs.Text.{leadingZero, numeral};
-ghost use Rattle.lexer.specs.Views.{nothing};
+ghost use Rattle.lexer.specs.Views.{textEnded};
 ghost use Rattle.lexer.specs.Cursors.{Placed, start as startOf, rest, spanAt};
 ghost use Rattle.lexer.specs.Numbers.{numeralOf, Lower, zeroLeads, DigitsTaken, numberAt, stored, NumbersRead};
 
@@ -144,7 +144,7 @@ impl Cursor {
 
     // Whether nothing is left of the text.
     pub fn at_end(self, text: &[u8]) -> bool
-        ensures { λ r. ⌜ r ≡ nothing (rest (now (text .entry)) self) ⌝ }
+        ensures { λ r. ⌜ r ≡ textEnded (rest (now (text .entry)) self) ⌝ }
     {
         let at = self.at;
         text.len() <= at

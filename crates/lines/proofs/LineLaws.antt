@@ -6,7 +6,7 @@ use Prim.Native.Nat.{ℕ, _+_}
 use Rattle.spec.specs.Text.{lines, Line, Field}
 use Rattle.spec.specs.Reading.{splitSheet, stop, on, Seen, right, wrong, badForm, badRange, noStart, form, outside, miscounted, faulty, passed, readLine, end}
 use Rattle.spec.specs.declared.Refusal.the-variants.{SplitForm, SplitRange, SplitLines, NoStart}
-use Rattle.lexer.specs.Views.{endOf, firstField, nothing, withField, lineAt}
+use Rattle.lexer.specs.Views.{endOf, firstField, textEnded, withField, lineAt}
 use Rattle.lexer.specs.Cursors.{Placed, rest, behindField, placeAt}
 use Rattle.lexer.specs.declared.Cursor.{Cursor}
 use Rattle.lexer.specs.declared.FieldEnd.the-variants.{Comma}
@@ -18,14 +18,14 @@ use Rattle.lexer.proofs.Walks.{left-none, left-some}
 -- ------------------------------------------------------------------ none, and none left
 
 module _ (text : List ℕ) (c : Cursor) where
-  pub line-missing : {A : Type 0} (read : List Field → Seen A) → nothing (rest text c) ≡ true → readLine splitSheet read (placeAt text c) ≡ stop (SplitLines (c .line))
+  pub line-missing : {A : Type 0} (read : List Field → Seen A) → textEnded (rest text c) ≡ true → readLine splitSheet read (placeAt text c) ≡ stop (SplitLines (c .line))
   unfolding miscounted
   line-missing read e = next-at-none splitSheet text read c (left-none (rest text c) e)
 
-  pub end-reached : nothing (rest text c) ≡ true → end splitSheet (placeAt text c) ≡ on tt
+  pub end-reached : textEnded (rest text c) ≡ true → end splitSheet (placeAt text c) ≡ on tt
   end-reached e = end-at-none splitSheet text c (left-none (rest text c) e)
 
-  pub line-spare : nothing (rest text c) ≡ false → end splitSheet (placeAt text c) ≡ stop (SplitLines (c .line + 1))
+  pub line-spare : textEnded (rest text c) ≡ false → end splitSheet (placeAt text c) ≡ stop (SplitLines (c .line + 1))
   unfolding miscounted
   line-spare e = end-at-some splitSheet text c (left-some (rest text c) e)
 

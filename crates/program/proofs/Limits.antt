@@ -3,18 +3,18 @@ use mathlib.Core.List.{List, [], _∷_, _++_}
 use Prim.Native.Nat.{_≤_}
 use Rattle.spec.specs.Words.{largestValue}
 use Rattle.spec.specs.Expression.{Step}
-use Rattle.program.specs.Lines.{Limited, none-limited, more-limited}
+use Rattle.program.specs.Lines.{Limited, noneLimited, moreLimited}
 
 pub limited-snoc : {ss : List Step} (s : Step) → Limited ss → s .value ≤ largestValue (s .word) → Limited (ss ++ (s ∷ []))
-limited-snoc s none-limited h = more-limited h none-limited
-limited-snoc s (more-limited l r) h = more-limited l (limited-snoc s r h)
+limited-snoc s noneLimited h = moreLimited h noneLimited
+limited-snoc s (moreLimited l r) h = moreLimited l (limited-snoc s r h)
 
 pub limited-first : {s : Step} {ss : List Step} → Limited (s ∷ ss) → s .value ≤ largestValue (s .word)
-limited-first (more-limited l r) = l
+limited-first (moreLimited l r) = l
 
 pub limited-behind : {s : Step} {ss : List Step} → Limited (s ∷ ss) → Limited ss
-limited-behind (more-limited l r) = r
+limited-behind (moreLimited l r) = r
 
 pub limited-parts : (ss ts : List Step) → Limited (ss ++ ts) → Limited ss × Limited ts
-limited-parts [] ts r = (none-limited, r)
-limited-parts (s ∷ ss) ts (more-limited l r) = let p = limited-parts ss ts r in (more-limited l (p .0), p .1)
+limited-parts [] ts r = (noneLimited, r)
+limited-parts (s ∷ ss) ts (moreLimited l r) = let p = limited-parts ss ts r in (moreLimited l (p .0), p .1)

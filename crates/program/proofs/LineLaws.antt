@@ -19,7 +19,7 @@ use Rattle.spec.specs.declared.Word.the-variants.{Leaf, Unary, Binary}
 use Rattle.spec.specs.declared.LeafWord.the-variants.{Var, Int, Newtid, Newlock, Newsem, Newrwlock}
 use Rattle.spec.specs.declared.BinaryWord.the-variants.{Let, If, Spawn, Write}
 use Rattle.spec.proofs.Ranges.{up-to-in, up-to-out}
-use Rattle.lexer.specs.Views.{firstField, nothing}
+use Rattle.lexer.specs.Views.{firstField, textEnded}
 use Rattle.lexer.specs.Cursors.{Placed, start, rest, placeAt, spanAt}
 use Rattle.lexer.specs.Numbers.{NumbersRead}
 use Rattle.lexer.specs.declared.Cursor.{Cursor}
@@ -104,10 +104,10 @@ module _
           ∙ ap (λ b. passed programSheet (c .line + 1) (lines (rest text d)) (g (if b then right (v ∷ []) else wrong badRange))) (and-true (inRange range v))
 
 -- the number of a line can be counted
-pub line-fits : (text : List ℕ) (c : Cursor) → Placed text c → nothing (rest text c) ≡ false → c .line + 1 < 4294967296
+pub line-fits : (text : List ℕ) (c : Cursor) → Placed text c → textEnded (rest text c) ≡ false → c .line + 1 < 4294967296
 unfolding rest
 line-fits text c p e =
-    omega (arith, p .line-le, p .short, left-some (drop (c .at) text) e, length-drop (c .at) text)
+    omega (arith, p .lineSmall, p .short, left-some (drop (c .at) text) e, length-drop (c .at) text)
 
 -- whether the first field is the word w
 pub marked : (text : List ℕ) (c : Cursor) (s : Span) (r : Bool) (w : List ℕ) → s ≡ spanAt text c
@@ -174,7 +174,7 @@ over-limit w v l h = rw (le-leb (leastValue w) v l, lt-leb v (largestValue w) h)
 
 module _ (text : List ℕ) (c : Cursor) where
   -- no line is left
-  pub step-missing : nothing (rest text c) ≡ true → StepShown text c (step.Refused (ProgramLines (c .line)))
+  pub step-missing : textEnded (rest text c) ≡ true → StepShown text c (step.Refused (ProgramLines (c .line)))
   unfolding stepAt miscounted
   step-missing e = next-at-none programSheet text (stepLine (c .line + 1)) c (left-none (rest text c) e)
 
@@ -239,11 +239,11 @@ module _ (text : List ℕ) (c : Cursor) (top : c ≡ start) where
   at-text : rest text c ≡ text
   at-text = ap (rest text) top ∙ start-rest text
 
-  pub count-empty : nothing (rest text c) ≡ true → CountShown text (count.Refused (ProgramForm 1))
+  pub count-empty : textEnded (rest text c) ≡ true → CountShown text (count.Refused (ProgramForm 1))
   unfolding countAt _>>=_ form
   count-empty e = rw (begin-at-none programSheet text (sym at-text ∙ left-none (rest text c) e)) refl
 
-  module _ (e : nothing (rest text c) ≡ false) (s : Span) (is : s ≡ spanAt text c) (p : Placed text c) where
+  module _ (e : textEnded (rest text c) ≡ false) (s : Span) (is : s ≡ spanAt text c) (p : Placed text c) where
     counts : countAt text ≡ nextLine programSheet countLine (c .line) (lines (rest text c))
     unfolding countAt _>>=_
     counts =

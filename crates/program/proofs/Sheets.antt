@@ -12,7 +12,7 @@ use Rattle.spec.specs.Expression.{Step, Expr, size, listed, single, scope}
 use Rattle.spec.specs.Program.{Program, countLine, program}
 use Rattle.spec.specs.declared.Refusal.{Refusal}
 use Rattle.spec.specs.declared.Refusal.the-variants.{ProgramLines}
-use Rattle.lexer.specs.Views.{nothing}
+use Rattle.lexer.specs.Views.{textEnded}
 use Rattle.lexer.specs.Cursors.{rest, placeAt}
 use Rattle.lexer.specs.declared.Cursor.{Cursor}
 use Rattle.lexer.proofs.Sheets.{end-at-none, end-at-some}
@@ -144,7 +144,7 @@ module _ (text : List ℕ) (n : ℕ) (c : Cursor) (w w₁ : List ℕ) where
   steps-refused x s = subst (Answered w₁ (Refused x)) (sym (behind-steps (stop x) (s .found))) refl
 
   module _ (d : Cursor) (s : StepsShown text n c w w₁ (step-lines.Read d)) where
-    pub steps-spare : nothing (rest text d) ≡ false → StepsRead text n c w₁ (Refused (ProgramLines (d .line + 1)))
+    pub steps-spare : textEnded (rest text d) ≡ false → StepsRead text n c w₁ (Refused (ProgramLines (d .line + 1)))
     unfolding _>>=_ miscounted
     steps-spare e =
         let f = end-at-some programSheet text d (left-some (rest text d) e) in
@@ -152,7 +152,7 @@ module _ (text : List ℕ) (n : ℕ) (c : Cursor) (w w₁ : List ℕ) where
         let g : behindCount n (placeAt text c) ≡ stop (ProgramLines (d .line + 1)) = behind-steps o (s .found .shown) ∙ rw f refl in
         subst (Answered w₁ (Refused (ProgramLines (d .line + 1)))) (sym g) refl
 
-    module _ (few : n ≤ 256) (e : nothing (rest text d) ≡ true) (w₂ : List ℕ) (r : Outcome) (x : ExpressionRead n (d .line) w₁ w₂ r) where
+    module _ (few : n ≤ 256) (e : textEnded (rest text d) ≡ true) (w₂ : List ℕ) (r : Outcome) (x : ExpressionRead n (d .line) w₁ w₂ r) where
       all-lines : behindCount n (placeAt text c) ≡ (expressionOf (d .line) (s .found .stored .steps) >>= with-steps (d .line) (s .found .stored .steps))
       unfolding _>>=_ placeAt
       all-lines =

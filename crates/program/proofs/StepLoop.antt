@@ -17,7 +17,7 @@ use Rattle.workspace.specs.Layout.{wordsAt, valuesAt, linesAt, rowTypesAt, code
 use Rattle.workspace.specs.Region.{ChangedWithin}
 use Rattle.workspace.proofs.Region.{region-empty, changed-nothing, changed-store, changed-then}
 use Rattle.workspace.proofs.Steps.{steps-push}
-use Rattle.program.specs.Lines.{stepAt, StepShown, none-limited, stepsAt, StepsStored, StepsShown}
+use Rattle.program.specs.Lines.{stepAt, StepShown, noneLimited, stepsAt, StepsStored, StepsShown}
 use Rattle.program.proofs.Limits.{limited-snoc}
 use Rattle.program.specs.declared.lines.StepLine.the-variants as step
 use Rattle.program.specs.declared.lines.StepLines.the-variants as steps
@@ -48,7 +48,7 @@ start text n c w h p = record {
     steps = [];
     counted = refl;
     held = record { words = region-empty w wordsAt (omega arith); values = region-empty w valuesAt (omega arith); lines = region-empty w linesAt (omega arith) };
-    limited = none-limited;
+    limited = noneLimited;
   };
   turn = first-turn p;
   lined = omega arith;

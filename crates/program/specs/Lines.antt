@@ -11,7 +11,7 @@ use Rattle.spec.specs.Expression.{Step}
 use Rattle.spec.specs.Words.{words, largestValue}
 use Rattle.spec.specs.Program.{countLine, stepLine, stepLines}
 use Rattle.spec.specs.declared.Word.{Word}
-use Rattle.lexer.specs.Views.{firstField, nothing}
+use Rattle.lexer.specs.Views.{firstField, textEnded}
 use Rattle.lexer.specs.Cursors.{Placed, rest, placeAt, spanAt}
 use Rattle.lexer.specs.Numbers.{numbersAt}
 use Rattle.lexer.specs.declared.Cursor.{Cursor}
@@ -55,7 +55,7 @@ stepAt text c = readLine programSheet (stepLine (c .line + 1)) (placeAt text c)
 -- a line is left at the cursor, and s is its first field
 pub record FieldAt (text : List ℕ) (c : Cursor) (s : Span) : Type 0 where
   pub placed : Placed text c
-  pub left : nothing (rest text c) ≡ false
+  pub left : textEnded (rest text c) ≡ false
   pub field : s ≡ spanAt text c
 
 -- the field is the word `freelock`
@@ -79,8 +79,8 @@ StepShown text c (step.Refused x) = stepAt text c ≡ stop x
 
 -- no number is larger than its word allows
 pub data Limited : List Step → Type 0 where
-  none-limited : Limited []
-  more-limited : {s : Step} {ss : List Step} → s .value ≤ largestValue (s .word) → Limited ss → Limited (s ∷ ss)
+  noneLimited : Limited []
+  moreLimited : {s : Step} {ss : List Step} → s .value ≤ largestValue (s .word) → Limited ss → Limited (s ∷ ss)
 
 unfoldable pub stepsAt : List ℕ → (n : ℕ) → Cursor → Out (List Step × Place)
 stepsAt text n c = readLines programSheet (stepLines (c .line + 1) n) (placeAt text c)

@@ -12,7 +12,7 @@ use Rattle.spec.specs.Split.{Split, headerLine, split}
 use Rattle.spec.specs.declared.Purpose.{Purpose}
 use Rattle.spec.specs.declared.Refusal.{Refusal}
 use Rattle.spec.specs.declared.Refusal.the-variants.{SplitForm}
-use Rattle.lexer.specs.Views.{nothing}
+use Rattle.lexer.specs.Views.{textEnded}
 use Rattle.lexer.specs.Cursors.{Placed, start, rest, placeAt}
 use Rattle.lexer.specs.declared.Cursor.{Cursor}
 use Rattle.lexer.proofs.Sheets.{begin-at-none, begin-at-some}
@@ -37,15 +37,15 @@ module _ {text : List ℕ} {n : ℕ} {w : List ℕ} (pre : Readable text n w) (p
   top-rest : rest text top ≡ text
   top-rest = ap (rest text) is ∙ start-rest text
 
-  empty-begin : nothing (rest text top) ≡ true → begin splitSheet (lines text) ≡ stop (SplitForm 1)
+  empty-begin : textEnded (rest text top) ≡ true → begin splitSheet (lines text) ≡ stop (SplitForm 1)
   unfolding form
   empty-begin e = begin-at-none splitSheet text (sym top-rest ∙ left-none (rest text top) e)
 
-  pub read-empty : nothing (rest text top) ≡ true → SplitRead purpose text n w w (sheet.Refused (SplitForm 1))
+  pub read-empty : textEnded (rest text top) ≡ true → SplitRead purpose text n w w (sheet.Refused (SplitForm 1))
   unfolding split _>>=_
   read-empty e = record { answered = λ steps held count. rw (empty-begin e); changed = changed-nothing rowTypesAt workSize w }
 
-  module _ (some-left : nothing (rest text top) ≡ false) where
+  module _ (some-left : textEnded (rest text top) ≡ false) where
     pub at-header : AtHeader text top
     at-header = record {
       reading = record { placed = subst (Placed text) (sym is) (start-placed text (omega (arith, pre .short))); fits = pre .short };

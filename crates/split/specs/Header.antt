@@ -9,7 +9,7 @@ use Rattle.spec.specs.Reading.{Out, stop, on, Place, allInRange}
 use Rattle.spec.specs.Split.{Header, headerRanges, headerOf}
 use Rattle.spec.specs.declared.Heading.{Heading}
 use Rattle.spec.specs.declared.Heading.the-variants.{C2}
-use Rattle.lexer.specs.Views.{nothing}
+use Rattle.lexer.specs.Views.{textEnded}
 use Rattle.lexer.specs.Cursors.{Placed, rest, placeAt}
 use Rattle.lexer.specs.Numbers.{numbersAt}
 use Rattle.lexer.specs.declared.Cursor.{Cursor}
@@ -29,7 +29,7 @@ headingFound (some h) = found-heading.Known h
 -- a cursor where line 1 stands
 pub record AtHeader (text : List ℕ) (c : Cursor) : Type 0 where
   pub reading : Reading text c
-  pub some : nothing (rest text c) ≡ false
+  pub some : textEnded (rest text c) ≡ false
 
 -- how many numerals stand behind a heading
 unfoldable pub numeralsOf : Heading → ℕ

@@ -1,3 +1,4 @@
+-- A relation a line: the test at one location is the definition's.
 use Rattle.conditions.specs.Relation.{holdsAt}
 use Rattle.workspace.proofs.Products.{product-fits}
 use borrow.Author.Needs.{needs}

@@ -1,3 +1,4 @@
+-- By what the maps came to: none, one too large, or all found, and then the sheet with them is written.
 use Rattle.fill.proofs.Stages.{maps-given, nothing-told, large-told, some-filled, maps-filled}
 use borrow.Author.Needs.{needs}
 use Rattle.fill.proofs.fill_held.Statement.{statement}

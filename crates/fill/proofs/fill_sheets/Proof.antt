@@ -1,3 +1,4 @@
+-- 43 first, then the rules; they leave the sheets as they stand, so the maps are found for the same ones.
 use Rattle.fill.proofs.Stages.{many-told, maps-kept, rule-refused, rules-met}
 use borrow.Author.Needs.{needs}
 use Rattle.fill.proofs.fill_sheets.Statement.{statement}

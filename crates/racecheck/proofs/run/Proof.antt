@@ -1,3 +1,4 @@
+-- Two files in, one line out.
 use borrow.Author.Needs.{needs}
 use Rattle.files.proofs.Buffers.{bytes-within, bytes-part}
 use Rattle.racecheck.proofs.run.Statement.{statement}

@@ -1,3 +1,4 @@
+-- The lengths that the drill tells are within the buffers, so both texts can be lent on.
 use mathlib.Core.Path.{sym}
 use native.Mathlib.Omega.{arith}
 use lib.Seq.{length-take-le}

@@ -1,3 +1,4 @@
+-- Two files in, then the sheet or one line out.
 use Rattle.files.proofs.Buffers.{bytes-within, bytes-part}
 use borrow.Author.Needs.{needs}
 use Rattle.racefill.proofs.run.Statement.{statement}

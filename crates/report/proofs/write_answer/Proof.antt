@@ -1,3 +1,4 @@
+-- ACCEPT, or the line of a refusal.
 use borrow.Author.Needs.{needs}
 use Rattle.spec.specs.Text.{bytes}
 use Rattle.report.proofs.Lines.{accept-written, refuse-written}

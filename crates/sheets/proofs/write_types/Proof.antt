@@ -26,12 +26,6 @@ loop-holds c = rw sub-zero (parted _ _ refl (c .before .before .good .0 .0) (c .
 cast-number : tie.Need-cast-number Inv-loop μ-loop
 cast-number c = omega arith
 
-type-at-requires : tie.Need-type-at-requires Inv-loop μ-loop
-type-at-requires c κs = search needs
-
-write-type-requires : tie.Need-write-type-requires Inv-loop μ-loop
-write-type-requires c κs = search needs
-
 add-t : tie.Need-add-t Inv-loop μ-loop
 add-t c = omega arith
 
@@ -60,8 +54,8 @@ write-types-spec =
     μ-loop
     loop-holds
     cast-number
-    type-at-requires
-    write-type-requires
+    (λ c κs. search needs)
+    (λ c κs. search needs)
     add-t
     loop-less
     loop-again

@@ -2,7 +2,7 @@
 use borrow.Author.Needs.{needs}
 use mathlib.Core.Path.{_≡_, sym, _∙_}
 use mathlib.Core.Bool.{false}
-use Rattle.lexer.specs.Views.{nothing}
+use Rattle.lexer.specs.Views.{textEnded}
 use Rattle.lexer.specs.Cursors.{rest}
 use Rattle.split.proofs.WholeLaws.{read-empty, at-header, read-header-stop, behind-header, read-body-stop, read-whole}
 use Rattle.split.proofs.read.Statement.{statement}
@@ -12,7 +12,7 @@ abbrev start : tie.After-at-end → tie.Start
 start s = s .before .before .before .before
 
 -- there is a first line
-left : (s : tie.Else1) → nothing (rest (start (s .before) .args .text .now) (s .before .before .start .result)) ≡ false
+left : (s : tie.Else1) → textEnded (rest (start (s .before) .args .text .now) (s .before .before .start .result)) ≡ false
 left s = sym (s .before .at-end .ensures) ∙ s .if1 .left
 
 returns : tie.Need-returns

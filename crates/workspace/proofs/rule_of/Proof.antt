@@ -1,3 +1,4 @@
+-- A code a line: the rule at that place of the printed list.
 use mathlib.Core.Path.{sym}
 use Prim.Native.Nat.{zero-le}
 use lib.ListN.{List·getD-eq-default}

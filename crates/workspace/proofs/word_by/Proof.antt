@@ -1,3 +1,4 @@
+-- A rule a line: the word that it is for.
 use Rattle.workspace.specs.Layout.{wordBy}
 use borrow.Author.Needs.{needs}
 use Rattle.workspace.proofs.word_by.Statement.{statement}

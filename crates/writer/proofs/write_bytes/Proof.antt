@@ -30,9 +30,6 @@ loop-holds c =
 shared-slice-read-byte : tie.Need-shared-slice-read-byte Inv-loop μ-loop
 shared-slice-read-byte c = omega arith
 
-write-byte-requires : tie.Need-write-byte-requires Inv-loop μ-loop
-write-byte-requires c κs = search needs
-
 add-i : tie.Need-add-i Inv-loop μ-loop
 add-i c = omega arith
 
@@ -58,7 +55,7 @@ write-bytes-spec =
     μ-loop
     loop-holds
     shared-slice-read-byte
-    write-byte-requires
+    (λ c κs. search needs)
     add-i
     loop-less
     loop-again

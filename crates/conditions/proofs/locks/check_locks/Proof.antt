@@ -23,12 +23,6 @@ loop-holds c = (omega arith, rw sub-zero refl)
 check-lock-requires : tie.Need-check-lock-requires Inv-loop μ-loop
 check-lock-requires c κs = omega (arith, c .loop-test .taken, c .before .before .before .pre)
 
-enum-told : tie.Need-enum-told Inv-loop μ-loop
-enum-told c = search needs
-
-enum-told-2 : tie.Need-enum-told-2 Inv-loop μ-loop
-enum-told-2 c = search needs
-
 returns : tie.Need-returns Inv-loop μ-loop
 returns c =
     let turn = c .before .before .before in
@@ -59,8 +53,8 @@ check-locks-spec =
     μ-loop
     loop-holds
     check-lock-requires
-    enum-told
-    enum-told-2
+    (λ c. search needs)
+    (λ c. search needs)
     returns
     add-t
     loop-less

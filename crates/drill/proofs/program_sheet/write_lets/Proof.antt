@@ -19,9 +19,6 @@ abbrev μ-loop : tie.MeasureT-loop
 loop-holds : tie.Need-loop-holds Inv-loop μ-loop
 loop-holds c = parted _ _ refl (c .before .before .good .0 .0) (c .before .before .fits .at .fits)
 
-write-let-requires : tie.Need-write-let-requires Inv-loop μ-loop
-write-let-requires c κs = search needs
-
 add-v : tie.Need-add-v Inv-loop μ-loop
 add-v c = omega arith
 
@@ -41,4 +38,4 @@ returns c = done (restated (lets-none _ _ _ (c .loop-test .left)) (c .before .lo
 
 pub write-lets-spec : {M : Type 1} → statement M
 write-lets-spec =
-    tie.close (tie.spec Inv-loop μ-loop loop-holds write-let-requires add-v loop-less loop-again same-length returns)
+    tie.close (tie.spec Inv-loop μ-loop loop-holds (λ c κs. search needs) add-v loop-less loop-again same-length returns)

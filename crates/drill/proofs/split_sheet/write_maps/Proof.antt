@@ -21,9 +21,6 @@ loop-holds c = parted _ _ refl (c .before .good .0 .0) (c .before .fits .at .fit
 sub-n : tie.Need-sub-n Inv-loop μ-loop
 sub-n c = omega arith
 
-write-field-requires : tie.Need-write-field-requires Inv-loop μ-loop
-write-field-requires c κs = search needs
-
 loop-less : tie.Need-loop-less Inv-loop μ-loop
 loop-less c = omega arith
 
@@ -40,4 +37,4 @@ returns c = done (restated (maps-none _ (c .loop-test .left)) (c .before .loop .
 
 pub write-maps-spec : {M : Type 1} → statement M
 write-maps-spec =
-    tie.close (tie.spec Inv-loop μ-loop loop-holds sub-n write-field-requires loop-less loop-again same-length returns)
+    tie.close (tie.spec Inv-loop μ-loop loop-holds sub-n (λ c κs. search needs) loop-less loop-again same-length returns)

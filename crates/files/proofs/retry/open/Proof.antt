@@ -1,3 +1,4 @@
+-- A call that a signal interrupts is made again while tries are left.
 use borrow.Author.Needs.{needs}
 use Rattle.files.proofs.retry.open.Statement.{statement}
 use Rattle.files.proofs.retry.open.Tie as tie
@@ -11,27 +12,6 @@ abbrev μ-loop : tie.MeasureT-loop
 loop-holds : tie.Need-loop-holds Inv-loop μ-loop
 loop-holds c = tt
 
-open-read-requires : tie.Need-open-read-requires Inv-loop μ-loop
-open-read-requires c κs = search needs
-
-is-over-requires : tie.Need-is-over-requires Inv-loop μ-loop
-is-over-requires c κs = search needs
-
-returns : tie.Need-returns Inv-loop μ-loop
-returns c = search needs
-
-sub-tries : tie.Need-sub-tries Inv-loop μ-loop
-sub-tries c = search needs
-
-loop-less : tie.Need-loop-less Inv-loop μ-loop
-loop-less c = search needs
-
-loop-again : tie.Need-loop-again Inv-loop μ-loop
-loop-again c = search needs
-
-returns-2 : tie.Need-returns-2 Inv-loop μ-loop
-returns-2 c = search needs
-
 pub open-spec : {M : Type 1} → statement M
 open-spec =
     tie.close
@@ -39,10 +19,10 @@ open-spec =
     Inv-loop
     μ-loop
     loop-holds
-    open-read-requires
-    is-over-requires
-    returns
-    sub-tries
-    loop-less
-    loop-again
-    returns-2)
+    (λ c κs. search needs)
+    (λ c κs. search needs)
+    (λ c. search needs)
+    (λ c. search needs)
+    (λ c. search needs)
+    (λ c. search needs)
+    (λ c. search needs))

@@ -26,22 +26,22 @@ unfolding digitLimit
 returns c =
     let here = c .before .before .before in
     let lower = here .before .lower .ensures in
-    digits-taken _ _ _ lower (here .before .before .before .pre .at-le) _ (omega arith) (omega arith) (here .loop .inv .3)
-    (λ h. low-first _ (here .loop .to) (omega (arith, lower .first-le)) (c .if1 .taken))
+    digits-taken _ _ _ lower (here .before .before .before .pre .inText) _ (omega arith) (omega arith) (here .loop .inv .3)
+    (λ h. low-first _ (here .loop .to) (omega (arith, lower .belowFirst)) (c .if1 .taken))
 
 returns-2 : tie.Need-returns-2 Inv-loop μ-loop
 unfolding digitLimit
 returns-2 c =
     let here = c .before .before .before .before in
     let lower = here .before .lower .ensures in
-    digits-taken _ _ _ lower (here .before .before .before .pre .at-le) _ (omega arith) (omega arith) (here .loop .inv .3)
-    (λ h. high-first _ (here .loop .to) (omega (arith, lower .first-le)) (c .if2 .taken))
+    digits-taken _ _ _ lower (here .before .before .before .pre .inText) _ (omega arith) (omega arith) (here .loop .inv .3)
+    (λ h. high-first _ (here .loop .to) (omega (arith, lower .belowFirst)) (c .if2 .taken))
 
 mul-value : tie.Need-mul-value Inv-loop μ-loop
 unfolding digitLimit
 mul-value c =
     let here = c .before .before .before .before in
-    let small = ten-limit (here .loop .to - _) (here .loop .value) (here .loop .inv .2) (omega (arith, here .before .lower .ensures .second-le)) in
+    let small = ten-limit (here .loop .to - _) (here .loop .value) (here .loop .inv .2) (omega (arith, here .before .lower .ensures .belowSecond)) in
     omega arith
 
 cast-value : tie.Need-cast-value Inv-loop μ-loop
@@ -54,7 +54,7 @@ add-value : tie.Need-add-value Inv-loop μ-loop
 unfolding digitLimit
 add-value c =
     let here = c .before .before .before .before in
-    let small = ten-limit (here .loop .to - _) (here .loop .value) (here .loop .inv .2) (omega (arith, here .before .lower .ensures .second-le)) in
+    let small = ten-limit (here .loop .to - _) (here .loop .value) (here .loop .inv .2) (omega (arith, here .before .lower .ensures .belowSecond)) in
     omega arith
 
 loop-again : tie.Need-loop-again Inv-loop μ-loop
@@ -67,7 +67,7 @@ loop-again c =
       omega arith,
       omega arith,
       rw more (ten-more (to - from) value _ (here .loop .inv .2) (omega arith)),
-      reached-more _ from to value (here .loop .inv .3) (omega (arith, here .before .lower .ensures .first-le)) (omega arith) (omega arith),
+      reached-more _ from to value (here .loop .inv .3) (omega (arith, here .before .lower .ensures .belowFirst)) (omega arith) (omega arith),
     )
 
 returns-3 : tie.Need-returns-3 Inv-loop μ-loop
@@ -75,7 +75,7 @@ unfolding digitLimit
 returns-3 c =
     let here = c .before in
     let lower = here .before .lower .ensures in
-    digits-taken _ _ _ lower (here .before .before .before .pre .at-le) _ (omega arith) (omega arith) (here .loop .inv .3)
+    digits-taken _ _ _ lower (here .before .before .before .pre .inText) _ (omega arith) (omega arith) (here .loop .inv .3)
     (λ h. none-first _ (here .loop .to) (omega (arith, lower .one (omega arith))))
 
 pub take-digits-spec : {M : Type 1} → statement M

@@ -1,3 +1,4 @@
+-- By heading: a lock line with two maps, or with one that is both.
 use mathlib.Core.Path.{sym, _∙_}
 use Rattle.spec.specs.Split.{lockOf}
 use Rattle.lines.specs.Lines.{rangedType}

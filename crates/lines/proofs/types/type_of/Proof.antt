@@ -1,3 +1,4 @@
+-- A kind a line: its two numbers in their ranges, or out of them.
 use mathlib.Core.Path.{sym, _∙_}
 use Rattle.spec.specs.Split.{refOf, tidOf, semOf, rwlockOf}
 use Rattle.workspace.specs.Sheets.{headerTold}

@@ -1,3 +1,4 @@
+-- Places times r fits 64 bits, so the product is the number that is meant.
 use mathlib.Core.Path.{ap₂, _∙_}
 use Prim.Native.Nat.{_*_}
 use borrow.Author.Needs.{needs}

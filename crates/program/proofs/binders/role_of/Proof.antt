@@ -1,3 +1,4 @@
+-- A word a line: what it does with v.
 use Rattle.spec.specs.Words.{role}
 use borrow.Author.Needs.{needs}
 use Rattle.program.proofs.binders.role_of.Statement.{statement}

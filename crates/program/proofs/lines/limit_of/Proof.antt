@@ -1,3 +1,4 @@
+-- A word a line: the largest v that it allows.
 use Rattle.spec.specs.Words.{largestValue}
 use borrow.Author.Needs.{needs}
 use Rattle.program.proofs.lines.limit_of.Statement.{statement}

@@ -1,3 +1,4 @@
+-- The maps before the parts of a step, by the number of its parts.
 use mathlib.Core.Path.{sym, ap, _∙_}
 use Rattle.workspace.specs.Layout.{wordOf}
 use Rattle.rules.specs.Walk.{passWord, passOn}

@@ -1,3 +1,4 @@
+-- Each number of a view is the cell that the definition names; indexes stay within the columns.
 use borrow.Author.Needs.{needs}
 use Rattle.rules.proofs.steps.view_of.Statement.{statement}
 use Rattle.rules.proofs.steps.view_of.Tie as tie

@@ -1,3 +1,4 @@
+-- The four conditions of `read`, each told by the test or the call that judges it.
 use mathlib.Core.Path.{refl}
 use Rattle.spec.specs.Conditions.{isRef, refLocation}
 use Rattle.conditions.proofs.FirstFalse.{last, next, pass, fail, asked-as}

@@ -1,3 +1,4 @@
+-- A rule a line: what its function answers is the row of the table.
 use Rattle.words.specs.Table.{ruleRow}
 use borrow.Author.Needs.{needs}
 use Rattle.words.proofs.rows.check_rule.Statement.{statement}

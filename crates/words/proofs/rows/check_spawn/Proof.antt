@@ -1,3 +1,4 @@
+-- The four conditions of `spawn`, each told by the test or the call that judges it.
 use mathlib.Core.Path.{refl, ap}
 use Rattle.spec.specs.Conditions.{isInt, isTid, load}
 use Rattle.conditions.proofs.FirstFalse.{last, next, pass, fail}

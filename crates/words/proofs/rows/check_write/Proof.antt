@@ -1,3 +1,4 @@
+-- The five conditions of `write`, each told by the test or the call that judges it.
 use mathlib.Core.Path.{refl, ap}
 use Rattle.spec.specs.Conditions.{isInt, isRef, refLocation}
 use Rattle.conditions.proofs.FirstFalse.{last, next, pass, fail, asked-as}
