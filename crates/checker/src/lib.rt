@@ -46,8 +46,8 @@ fn check_texts(program: &[u8], split: &[u8], work: &mut [u32]) -> Answer
 // answer: it is the one that document 01 gives, for every input;
 // cleared: the first 16,384 numbers of the work space are 0 afterwards and the rest is as before; a shorter one is as it was;
 // unchanged: both texts are as they were;
-// derivation (demand 2): accepted exactly when both sheets are well formed, the start holds at most one of each location, and
-// the split gives a derivation;
+// derivation (demand 2): accepted exactly when both sheets are well formed, no lock takes less than it gives, the start holds at most
+// one of each location, and the split gives a derivation;
 // first_false (demand 2): a refusal on the rules names the first condition that is false;
 // safe (demand 3): an accepted program has no race and no odd halt in any state, for every list of moves;
 // either_order (request (xiii)): in every state that an accepted program can reach, two steps on cells, of different threads, give

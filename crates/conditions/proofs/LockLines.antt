@@ -14,6 +14,7 @@ use Rattle.spec.specs.Conditions.{isLock}
 use Rattle.spec.specs.Ranges.{InRange}
 use Rattle.spec.specs.Verdict.{takesEnough, allTakeEnough, locksTakeEnough}
 use Rattle.spec.specs.declared.MapNumber.{MapNumber}
+use Rattle.spec.specs.declared.TypeNumber.{TypeNumber}
 use Rattle.spec.specs.declared.Refusal.{Refusal}
 use Rattle.spec.specs.declared.Refusal.the-variants.{LockTakesLess}
 use Rattle.spec.specs.declared.TypeLine.{TypeLine}
@@ -33,12 +34,12 @@ use Rattle.conditions.proofs.Agreement.{takes-enough-shown}
 
 -- ------------------------------------------------------------------ a line
 
-module _ (w : List ℕ) (n t : ℕ) {x : TypeLine} (e : x ≡ layout.typeAt w (record { 0 = t })) where
+module _ (w : List ℕ) (n : ℕ) (t : TypeNumber) {x : TypeLine} (e : x ≡ layout.typeAt w t) where
   pub no-lock-line : isLock x ≡ false → on tt ≡ lockOutcome w n t
   unfolding lockOutcome demand takesEnoughIn isLock
   no-lock-line h = rw (← e) (by-kind x h)
     where
-      by-kind : (y : TypeLine) → isLock y ≡ false → on tt ≡ demand (takesEnoughIn w n y) (LockTakesLess (t + 2))
+      by-kind : (y : TypeLine) → isLock y ≡ false → on tt ≡ demand (takesEnoughIn w n y) (LockTakesLess (t .0 + 2))
       by-kind Int h = refl
       by-kind (Ref p c) h = refl
       by-kind (Lock i o) h = true-is-not-false h
@@ -47,20 +48,20 @@ module _ (w : List ℕ) (n t : ℕ) {x : TypeLine} (e : x ≡ layout.typeAt w (r
       by-kind (Rwlock rd wr) h = refl
 
   pub lock-line : {i o : MapNumber} → x ≡ Lock i o → (b : Bool) → b ≡ everywhere w n (AtLeast o i)
-      → lockOutcome w n t ≡ demand b (LockTakesLess (t + 2))
+      → lockOutcome w n t ≡ demand b (LockTakesLess (t .0 + 2))
   unfolding lockOutcome takesEnoughIn
   lock-line is-lock b q = rw (← e, is-lock, q)
 
 -- ------------------------------------------------------------------ the lines
 
 module _ (w : List ℕ) (n t types : ℕ) where
-  locks-next : t < types → locksOutcome w n t (types - t) ≡ both (lockOutcome w n t) (locksOutcome w n (t + 1) (types - (t + 1)))
+  locks-next : t < types → locksOutcome w n t (types - t) ≡ both (lockOutcome w n (record { 0 = t })) (locksOutcome w n (t + 1) (types - (t + 1)))
   unfolding locksOutcome
   locks-next h =
       let one : types - t ≡ suc (types - (t + 1)) = omega arith in
       ap (locksOutcome w n t) one
 
-  module _ (h : t < types) (r : Ruling) (ruled : outcome r ≡ lockOutcome w n t) where
+  module _ (h : t < types) (r : Ruling) (ruled : outcome r ≡ lockOutcome w n (record { 0 = t })) where
     here : both (outcome r) (locksOutcome w n (t + 1) (types - (t + 1))) ≡ locksOutcome w n t (types - t)
     here = ap (λ o. both o (locksOutcome w n (t + 1) (types - (t + 1)))) ruled ∙ sym (locks-next h)
 
@@ -90,7 +91,7 @@ module _ (w : List ℕ) (S : Split) (steps : List Step) (H : HoldsSplit w S) (R 
       ∙ ap (λ l. both asked (allTakeEnough S (t + 2 + 1) (drop l (S .types)))) (add-one t)
       ∙ sym (ap (allTakeEnough S (t + 2)) (drop-cons (S .types) t Int (omega (arith, all))))
     where
-      line-shown : (t : ℕ) → t < length (S .types) → lockOutcome w n t ≡ demand (takesEnough S (getD (S .types) t Int)) (LockTakesLess (t + 2))
+      line-shown : (t : ℕ) → t < length (S .types) → lockOutcome w n (record { 0 = t }) ≡ demand (takesEnough S (getD (S .types) t Int)) (LockTakesLess (t + 2))
       line-shown t h = ap (λ b. demand b (LockTakesLess (t + 2))) (takes-enough-shown w S steps H R n located (record { 0 = t }) h)
 
   pub locks-shown : (types : ℕ) → types ≡ S .header .types → locksOutcome w n 0 types ≡ locksTakeEnough S

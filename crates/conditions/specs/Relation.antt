@@ -33,7 +33,7 @@ failsFrom w (Within a d) l n = overWhole d l (mapFrom w a l n)
 -- what the code says of that location
 unfoldable pub failsAt : Failing → Option ℕ
 failsAt Nowhere = none
-failsAt (At l) = some l
+failsAt (At p) = some (p .0)
 
 -- whether a relation holds at each of n locations
 unfoldable pub everywhere : (w : List ℕ) (n : ℕ) → Relation → Bool

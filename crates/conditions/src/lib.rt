@@ -38,7 +38,7 @@ pub enum Relation {
 // The lowest location at which a relation fails.
 enum Failing {
     Nowhere,
-    At(u32),
+    At(Location),
 }
 
 // The first refusal of two rulings.
@@ -73,10 +73,10 @@ pub fn on_types(line: u32, condition: u32, holds: bool) -> Ruling
 }
 
 // Whether a relation holds at a location.
-fn holds_at(work: &[u32], relation: Relation, location: u32) -> bool
-    ensures { λ ok. ⌜ ok ≡ holdsAt (now (work .entry)) relation location ⌝ }
+fn holds_at(work: &[u32], relation: Relation, p: Location) -> bool
+    ensures { λ ok. ⌜ ok ≡ holdsAt (now (work .entry)) relation (p .0) ⌝ }
 {
-    let l = index(location);
+    let l = index(p.0);
     match relation {
         Relation::Equal(a, b) => map_cell(work, a, l) == map_cell(work, b, l),
         Relation::AtLeast(a, b) => map_cell(work, b, l) <= map_cell(work, a, l),
@@ -98,8 +98,9 @@ fn lowest_failing(work: &[u32], locations: u32, relation: Relation) -> Failing
 {
     let mut l = 0;
     while l < locations {
-        if !holds_at(work, relation, l) {
-            return Failing::At(l);
+        let p = Location(l);
+        if !holds_at(work, relation, p) {
+            return Failing::At(p);
         }
         l += 1;
     }
@@ -122,10 +123,10 @@ pub fn flow(line: u32, condition: u32, work: &[u32], locations: u32, relation: R
 {
     match lowest_failing(work, locations, relation) {
         Failing::Nowhere => Ruling::Met,
-        Failing::At(l) => Ruling::Refused(Refusal::FlowFalse {
+        Failing::At(p) => Ruling::Refused(Refusal::FlowFalse {
             line: line,
             condition: condition,
-            location: Location(l),
+            location: p,
         }),
     }
 }
@@ -156,9 +157,9 @@ pub fn check_start(
 {
     match lowest_failing(work, locations, Relation::Within(start, denominator)) {
         Failing::Nowhere => Ruling::Met,
-        Failing::At(l) => Ruling::Refused(Refusal::OverOne {
+        Failing::At(p) => Ruling::Refused(Refusal::OverOne {
             line: line,
-            location: Location(l),
+            location: p,
         }),
     }
 }

@@ -15,12 +15,12 @@ ghost use Rattle.conditions.specs.SheetOutcomes.{lockOutcome, locksOutco
 const FIRST_LINE: u32 = 2;
 
 // At the line of a type: out of a lock is nowhere below its in.
-fn check_lock(work: &[u32], locations: u32, t: u32) -> Ruling
-    requires { ⌜ t < 64 ⌝ }
+fn check_lock(work: &[u32], locations: u32, t: TypeNumber) -> Ruling
+    requires { ⌜ t .0 < 64 ⌝ }
     ensures { λ r. ⌜ outcome r ≡ lockOutcome (now (work .entry)) locations t ⌝ }
 {
-    let line = t + FIRST_LINE;
-    let TypeLine::Lock(load, out) = type_at(work, TypeNumber(t)) else {
+    let line = t.0 + FIRST_LINE;
+    let TypeLine::Lock(load, out) = type_at(work, t) else {
         return Ruling::Met;
     };
     if everywhere(work, locations, Relation::AtLeast(out, load)) {
@@ -37,7 +37,7 @@ pub fn check_locks(work: &[u32], locations: u32, types: u32) -> Ruling
 {
     let mut t = 0;
     while t < types {
-        let ruling = check_lock(work, locations, t);
+        let ruling = check_lock(work, locations, TypeNumber(t));
         let Ruling::Met = ruling else {
             return ruling;
         };

@@ -9,6 +9,8 @@ use lib.ListN.{length, take}
 use lib.Seq.{length-take-le}
 use Rattle.spec.specs.Program.{Program}
 use Rattle.spec.specs.Split.{Split}
+use Rattle.spec.specs.declared.Location.{Location}
+use Rattle.spec.specs.declared.MapNumber.{MapNumber}
 use Rattle.workspace.specs.Sheets.{HoldsSheets}
 use Rattle.workspace.proofs.Region.{region-part, changed-nothing}
 use Rattle.workspace.proofs.Sheets.{root-sized}
@@ -37,12 +39,12 @@ pub front-long : {w : List ℕ} {denominator locations maps start : ℕ} (steps 
 front-long steps q G long = length-take-le steps q (omega (arith, given-few G))
 
 -- the column of a location in sheets with this denominator
-abbrev columnOf : (location denominator : ℕ) → Column
-columnOf location denominator = record { location = location; denominator = denominator }
+abbrev columnOf : Location → (denominator : ℕ) → Column
+columnOf p denominator = record { location = p; denominator = denominator }
 
-module _ (w : List ℕ) (steps denominator maps start location : ℕ) where
-  pub column-fillable : (q : List ℕ) → ColumnGiven w steps denominator maps start location → length q ≡ 256
-      → Fillable w (columnOf location denominator) start q
+module _ (w : List ℕ) (steps denominator maps : ℕ) (start : MapNumber) (p : Location) where
+  pub column-fillable : (q : List ℕ) → ColumnGiven w steps denominator maps (start .0) (p .0) → length q ≡ 256
+      → Fillable w (columnOf p denominator) start q
   column-fillable q G long = record {
     P = G .given .P;
     S = G .given .S;
@@ -50,7 +52,7 @@ module _ (w : List ℕ) (steps denominator maps start location : ℕ) where
     long = long;
   }
 
-  pub column-room : (posts : List ℕ) → ColumnGiven w steps denominator maps start location → length posts ≡ steps → Room w posts maps location
+  pub column-room : (posts : List ℕ) → ColumnGiven w steps denominator maps (start .0) (p .0) → length posts ≡ steps → Room w posts maps (p .0)
   column-room posts G long =
       let sheets = G .given .held .sheets in
       record {
@@ -59,15 +61,15 @@ module _ (w : List ℕ) (steps denominator maps start location : ℕ) where
         within = omega (arith, G .within, sheets .locationsGiven, sheets .inRange .locations);
       }
 
-  module _ (q : List ℕ) (r : Bool) (F : FilledHere w (columnOf location denominator) start q r) where
-    posts-here : (P : Program) (S : Split) (locations : ℕ) → HoldsSheets w steps denominator locations start P S → location < locations
-        → Stored (postsAt P S location) q r
+  module _ (q : List ℕ) (r : Bool) (F : FilledHere w (columnOf p denominator) start q r) where
+    posts-here : (P : Program) (S : Split) (locations : ℕ) → HoldsSheets w steps denominator locations (start .0) P S → (p .0) < locations
+        → Stored (postsAt P S (p .0)) q r
     posts-here P S locations H l = F .answers P S (record { steps = steps; locations = locations; sheets = H; within = l })
 
-    pub column-nothing : r ≡ false → ColumnFilled w steps denominator maps start location Nothing w
+    pub column-nothing : r ≡ false → ColumnFilled w steps denominator maps (start .0) (p .0) Nothing w
     column-nothing e = record {
       one = record { behind = changed-nothing _ _ w; others = λ m l h n. refl };
-      answers = λ P S locations H l. not-found (postsAt P S location) (posts-here P S locations H l);
+      answers = λ P S locations H l. not-found (postsAt P S (p .0)) (posts-here P S locations H l);
     }
       where
         not-found : (o : Option (List ℕ)) → Stored o q r → o ≡ none
@@ -76,16 +78,16 @@ module _ (w : List ℕ) (steps denominator maps start location : ℕ) where
 
     -- the posts that are found stand in front
     module _ (e : r ≡ true) where
-      found-here : (P : Program) (S : Split) (locations : ℕ) → HoldsSheets w steps denominator locations start P S → location < locations
-          → (ps : List ℕ) × (postsAt P S location ≡ some ps) × (take steps q ≡ ps)
-      found-here P S locations H l = go (postsAt P S location) refl (posts-here P S locations H l)
+      found-here : (P : Program) (S : Split) (locations : ℕ) → HoldsSheets w steps denominator locations (start .0) P S → (p .0) < locations
+          → (ps : List ℕ) × (postsAt P S (p .0) ≡ some ps) × (take steps q ≡ ps)
+      found-here P S locations H l = go (postsAt P S (p .0)) refl (posts-here P S locations H l)
         where
-          go : (o : Option (List ℕ)) → postsAt P S location ≡ o → Stored o q r → (ps : List ℕ) × (postsAt P S location ≡ some ps) × (take steps q ≡ ps)
+          go : (o : Option (List ℕ)) → postsAt P S (p .0) ≡ o → Stored o q r → (ps : List ℕ) × (postsAt P S (p .0) ≡ some ps) × (take steps q ≡ ps)
           go none h s = let clash : _≡_ {A = ℕ} 0 1 = cc in absurd (omega arith)
-          go (some ps) h s = (ps, h, ap (λ (n : ℕ). take n q) (sym (posts-counted P S location H h)) ∙ region-part q 0 ps (s .1))
+          go (some ps) h s = (ps, h, ap (λ (n : ℕ). take n q) (sym (posts-counted P S (p .0) H h)) ∙ region-part q 0 ps (s .1))
 
-      module _ (w′ : List ℕ) (s : Bool) (T : PostsStored (take steps q) maps location s w w′) where
-        pub column-large : s ≡ false → ColumnFilled w steps denominator maps start location Large w′
+      module _ (w′ : List ℕ) (s : Bool) (T : PostsStored (take steps q) maps (p .0) s w w′) where
+        pub column-large : s ≡ false → ColumnFilled w steps denominator maps (start .0) (p .0) Large w′
         column-large f = record {
           one = T .one;
           answers = λ P S locations H l.
@@ -93,7 +95,7 @@ module _ (w : List ℕ) (steps denominator maps start location : ℕ) where
               (ps, found, rw front at (sym (T .fits) ∙ f));
         }
 
-        pub column-maps : s ≡ true → ColumnFilled w steps denominator maps start location Maps w′
+        pub column-maps : s ≡ true → ColumnFilled w steps denominator maps (start .0) (p .0) Maps w′
         column-maps f = record {
           one = T .one;
           answers = λ P S locations H l.

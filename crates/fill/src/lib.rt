@@ -83,7 +83,7 @@ fn fill_held(work: &mut [u32], header: Header, steps: usize, out: &mut [u8]) -> 
         header.denominator,
         header.locations,
         header.maps,
-        header.start.0,
+        header.start,
     ) {
         Found::Nothing => Filled::Refused(Refusal::NoAfterMaps),
         Found::Large => Filled::Refused(Refusal::TooLarge),

@@ -1,9 +1,12 @@
 // The greatest after-maps, one location after the other, stored as maps behind the given ones.
 use pass::Column;
 use pass::fill_location;
+use spec::Location;
+use spec::MapNumber;
 use workspace::MAPS;
 use workspace::POSTS;
 use workspace::STRIDE;
+use workspace::index;
 ghost use mathlib.Core.Path.{_≡_};
 ghost use mathlib.Core.Bool.{true};
 ghost use Prim.Native.Nat.{_+_, _≤_, _<_};
@@ -37,26 +40,27 @@ fn posts_fit(posts: &[u64]) -> bool
     true
 }
 
-// Stores the posts at a location in the new maps, the first of which has the number `maps`.
-fn store_column(work: &mut [u32], posts: &[u64], maps: usize, location: usize)
-    requires { ⌜ Room (now work) (now posts) maps location × (mapAtMost numberLimit (now posts) ≡ true) ⌝ }
-    ensures { λ _. ⌜ OneColumn maps location (now (work .entry)) (now (work .exit)) × ColumnStored (now (work .exit)) maps location (now (posts .entry)) ⌝ }
+// Stores the posts at a location in the new maps, which stand behind the `maps` given ones.
+fn store_column(work: &mut [u32], posts: &[u64], maps: usize, p: Location)
+    requires { ⌜ Room (now work) (now posts) maps (p .0) × (mapAtMost numberLimit (now posts) ≡ true) ⌝ }
+    ensures { λ _. ⌜ OneColumn maps (p .0) (now (work .entry)) (now (work .exit)) × ColumnStored (now (work .exit)) maps (p .0) (now (posts .entry)) ⌝ }
 {
+    let l = index(p.0);
     let mut i = 0;
     while i < posts.len() {
-        let place = MAPS + STRIDE * (maps + i) + location;
+        let place = MAPS + STRIDE * (maps + i) + l;
         work[place] = posts[i] as u32;
         i += 1;
     }
 }
 
 // Stores the posts at a location in the new maps, if no post is larger than a map can have; whether that is so.
-fn store_posts(work: &mut [u32], posts: &[u64], maps: usize, location: usize) -> bool
-    requires { ⌜ Room (now work) (now posts) maps location ⌝ }
-    ensures { λ r. ⌜ PostsStored (now (posts .entry)) maps location r (now (work .entry)) (now (work .exit)) ⌝ }
+fn store_posts(work: &mut [u32], posts: &[u64], maps: usize, p: Location) -> bool
+    requires { ⌜ Room (now work) (now posts) maps (p .0) ⌝ }
+    ensures { λ r. ⌜ PostsStored (now (posts .entry)) maps (p .0) r (now (work .entry)) (now (work .exit)) ⌝ }
 {
     if posts_fit(posts) {
-        store_column(work, posts, maps, location);
+        store_column(work, posts, maps, p);
         return true;
     }
     false
@@ -68,21 +72,21 @@ fn fill_column(
     steps: usize,
     denominator: u32,
     maps: usize,
-    start: u32,
-    location: usize,
+    start: MapNumber,
+    p: Location,
 ) -> Found
-    requires { ⌜ ColumnGiven (now work) steps denominator maps start location ⌝ }
-    ensures { λ r. ⌜ ColumnFilled (now (work .entry)) steps denominator maps start location r (now (work .exit)) ⌝ }
+    requires { ⌜ ColumnGiven (now work) steps denominator maps (start .0) (p .0) ⌝ }
+    ensures { λ r. ⌜ ColumnFilled (now (work .entry)) steps denominator maps (start .0) (p .0) r (now (work .exit)) ⌝ }
 {
     let mut posts = [0u64; 256];
     let column = Column {
-        location: location as u32,
+        location: p,
         denominator: denominator,
     };
     if !fill_location(work, &mut posts, column, start) {
         return Found::Nothing;
     }
-    if !store_posts(work, &posts[..steps], maps, location) {
+    if !store_posts(work, &posts[..steps], maps, p) {
         return Found::Large;
     }
     Found::Maps
@@ -109,15 +113,16 @@ pub fn fill_maps(
     denominator: u32,
     locations: usize,
     maps: usize,
-    start: u32,
+    start: MapNumber,
 ) -> Found
-    requires { ⌜ Given (now work) steps denominator locations maps start ⌝ }
-    ensures { λ r. ⌜ FilledMaps (now (work .entry)) steps denominator locations maps start r (now (work .exit)) ⌝ }
+    requires { ⌜ Given (now work) steps denominator locations maps (start .0) ⌝ }
+    ensures { λ r. ⌜ FilledMaps (now (work .entry)) steps denominator locations maps (start .0) r (now (work .exit)) ⌝ }
 {
     let mut large = false;
     let mut l = 0;
     while l < locations {
-        match fill_column(work, steps, denominator, maps, start, l) {
+        let number = l as u32;
+        match fill_column(work, steps, denominator, maps, start, Location(number)) {
             Found::Nothing => {
                 return Found::Nothing;
             }

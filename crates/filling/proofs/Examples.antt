@@ -1,6 +1,6 @@
 -- The definitions give each example its maps and each pair its answer. A table is one equation that computes; `unfolding` names every
 -- definition on the way.
-use mathlib.Core.Path.{refl}
+use mathlib.Core.Path.{_≡_, refl}
 use Rattle.spec.specs.Text.{bytes, same, onLine, lines, onField, fields, lookUp, digitLimit, digits, leadingZero, value, numeral}
 use Rattle.spec.specs.Reading.{_>>=_, demand, seen, insist, wrongAfter, inRange, allInRange, withNumeral, numerals, ranged, numbers, form, outside, miscounted, faulty, passed, nextLine, readLine, readLines, begin, noneLeft, end}
 use Rattle.spec.specs.Words.{leafWords, cellWords, lockWords, holdWords, unaryWords, binaryWords, words, leastValue, largestValue, valueRange, role, binding, takesStart, preOfPart, preOfSecond}
@@ -24,7 +24,7 @@ use Rattle.filling.specs.Flow.{unchanged, taking, giving, needing, lendi
 use Rattle.filling.specs.FlowOf.{asks, loadHere, inHere, outHere, readHere, writeHere, startHere, accessHere, flowOf}
 use Rattle.filling.specs.GreatestMaps.{postsAt, mapOfStep, mapsOfSteps, greatestMaps}
 use Rattle.filling.specs.Answer.{givenLimit, numberLimit, mapAtMost, allAtMost, foundOr, filledText, fill, numbersOf}
-use Rattle.filling.specs.Examples.{_with_has_, mapsFound, ones, unfilled, twoLocks, twoLocksSplit, examples, AllFound, answered, AllAnswered, answers, _with_becomes_, wholeOf, AllWritten, fillings}
+use Rattle.filling.specs.Examples.{_with_has_, mapsFound, ones, unfilled, twoLocks, twoLocksSplit, examples, AllFound, answered, AllAnswered, answers, overLargest, _with_becomes_, wholeOf, AllWritten, fillings}
 
 pub examples-found : AllFound examples
 unfolding bytes same onLine lines onField fields lookUp digitLimit digits leadingZero value numeral _>>=_ seen insist wrongAfter inRange allInRange withNumeral numerals ranged numbers passed nextLine readLine readLines begin noneLeft end size withParts listed whole single among scopeStep scope firstNumber countLine leafWords cellWords lockWords holdWords unaryWords binaryWords words leastValue largestValue valueRange role binding stepOf wordLine stepLine stepLines program headings headerRanges mapsOf mapsIn startOf headerOf headed headerLine refOf lockOf outRange tidOf semOf rwlockOf typeLine typeLines mapLine rowOf startGiven takesStart startRange mayBeEmpty postRange postField rowLine split share refLocation load inLoad outLoad readLoad writeLoad indexOf lineOf startMap typeAt mapAt row type kind startIn bodyStart K inMap outMap readMap writeMap barred P found._>>=_ found.demand found.forEach unchanged taking giving needing lending turn ownPost pass asks loadHere inHere outHere readHere writeHere startHere accessHere flowOf postsAt mapOfStep mapsOfSteps greatestMaps _with_has_ mapsFound ones unfilled twoLocks twoLocksSplit examples AllFound
@@ -33,6 +33,10 @@ examples-found = refl
 pub answers-given : AllAnswered 30 answers
 unfolding bytes same onLine lines onField fields lookUp digitLimit digits leadingZero value numeral _>>=_ demand seen insist wrongAfter inRange allInRange withNumeral numerals ranged numbers form outside miscounted faulty passed nextLine readLine readLines begin noneLeft end size withParts listed whole single among scopeStep scope programLimit firstNumber countLine leafWords cellWords lockWords holdWords unaryWords binaryWords words leastValue largestValue valueRange stepOf wordLine stepLine stepLines program splitLimit headings headerRanges mapsOf mapsIn startOf headerOf headed headerLine refOf lockOf outRange tidOf semOf rwlockOf typeLine typeLines mapLine rowOf startGiven takesStart startRange mayBeEmpty postRange postField rowLine split lowest atLeast _=ᵐ_ _≥ᵐ_ nowhere sameNumbers _+ᵐ_ _×ᵐ_ share overWhole isInt isRef isLock isTid isSem isRwlock refLocation load inLoad outLoad readLoad writeLoad typeIn indexOf lineOf startMap typeAt mapAt contains looserLock mayShow row type kind post startIn bodyStart K inMap outMap readMap writeMap conditionsOf code sameMaps sameTree treeOf trees tree agree preOfPart preOfSecond role binding sites numbered claimsAt claims judge firstFalse workspaceSize takesEnough allTakeEnough locksTakeEnough refuseOver startAtMostOne four returned barred _with_is_ times withPosts filled isType only allClaims typeClaims typed found._>>=_ found.demand found.forEach unchanged taking giving needing lending turn ownPost pass asks loadHere inHere outHere readHere writeHere startHere accessHere flowOf postsAt mapOfStep mapsOfSteps greatestMaps givenLimit numberLimit mapAtMost allAtMost foundOr filledText sheets fill numbersOf twoLocks twoLocksSplit digit digitsWithin decimal line text headingName headerNumbers headerFields outNumber typeFields mapFields postShown startShown rowFields splitLines written answered AllAnswered answers
 answers-given = refl
+
+pub over-largest : answered splitLimit overLargest ≡ overLargest .expected
+unfolding bytes same onLine lines onField fields lookUp digitLimit digits leadingZero value numeral _>>=_ demand seen insist wrongAfter inRange allInRange withNumeral numerals ranged numbers form outside miscounted faulty passed nextLine readLine readLines begin noneLeft end size withParts listed whole single among scopeStep scope programLimit firstNumber countLine leafWords cellWords lockWords holdWords unaryWords binaryWords words leastValue largestValue valueRange stepOf wordLine stepLine stepLines program splitLimit headings headerRanges mapsOf mapsIn startOf headerOf headed headerLine refOf lockOf outRange tidOf semOf rwlockOf typeLine typeLines mapLine rowOf startGiven takesStart startRange mayBeEmpty postRange postField rowLine split lowest atLeast _=ᵐ_ _≥ᵐ_ nowhere sameNumbers _+ᵐ_ _×ᵐ_ share overWhole isInt isRef isLock isTid isSem isRwlock refLocation load inLoad outLoad readLoad writeLoad typeIn indexOf lineOf startMap typeAt mapAt contains looserLock mayShow row type kind post startIn bodyStart K inMap outMap readMap writeMap conditionsOf code sameMaps sameTree treeOf trees tree agree preOfPart preOfSecond role binding sites numbered claimsAt claims judge firstFalse workspaceSize takesEnough allTakeEnough locksTakeEnough refuseOver startAtMostOne four returned barred _with_is_ withPosts filled isType only allClaims typeClaims typed found._>>=_ found.demand found.forEach unchanged taking giving needing lending turn ownPost pass asks loadHere inHere outHere readHere writeHere startHere accessHere flowOf postsAt mapOfStep mapsOfSteps greatestMaps givenLimit numberLimit mapAtMost allAtMost foundOr filledText sheets fill numbersOf digit digitsWithin decimal line text headingName headerNumbers headerFields outNumber typeFields mapFields postShown startShown rowFields splitLines written answered overLargest
+over-largest = refl
 
 pub fillings-written : AllWritten fillings
 unfolding bytes same onLine lines onField fields lookUp digitLimit digits leadingZero value numeral _>>=_ demand seen insist wrongAfter inRange allInRange withNumeral numerals ranged numbers form outside miscounted faulty passed nextLine readLine readLines begin noneLeft end size withParts listed whole single among scopeStep scope programLimit firstNumber countLine leafWords cellWords lockWords holdWords unaryWords binaryWords words leastValue largestValue valueRange stepOf wordLine stepLine stepLines program splitLimit headings headerRanges mapsOf mapsIn startOf headerOf headed headerLine refOf lockOf outRange tidOf semOf rwlockOf typeLine typeLines mapLine rowOf startGiven takesStart startRange mayBeEmpty postRange postField rowLine split lowest atLeast _=ᵐ_ _≥ᵐ_ nowhere sameNumbers _+ᵐ_ _×ᵐ_ share overWhole isInt isRef isLock isTid isSem isRwlock refLocation load inLoad outLoad readLoad writeLoad typeIn indexOf lineOf startMap typeAt mapAt contains looserLock mayShow row type kind post startIn bodyStart K inMap outMap readMap writeMap conditionsOf code sameMaps sameTree treeOf trees tree agree preOfPart preOfSecond role binding sites numbered claimsAt claims judge firstFalse workspaceSize takesEnough allTakeEnough locksTakeEnough refuseOver startAtMostOne four returned barred times withPosts filled isType only allClaims typeClaims typed found._>>=_ found.demand found.forEach unchanged taking giving needing lending turn ownPost pass asks loadHere inHere outHere readHere writeHere startHere accessHere flowOf postsAt mapOfStep mapsOfSteps greatestMaps givenLimit numberLimit mapAtMost allAtMost foundOr filledText sheets fill numbersOf twoLocks twoLocksSplit digit digitsWithin decimal line text headingName headerNumbers headerFields outNumber typeFields mapFields postShown startShown rowFields splitLines written P unfilled _with_becomes_ wholeOf AllWritten fillings

@@ -10,6 +10,8 @@ pub mod EachLocation
 pub mod Columns
 pub mod Filling
 pub mod Reasons
+pub mod AtLimit
+pub mod Buffer
 pub mod Limits
 pub mod ReadBack
 pub mod Answer

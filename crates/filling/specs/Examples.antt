@@ -107,7 +107,7 @@ answers =
     -- t and s keep their ranges
     ("P,1|int,0|" with "C2,1,1,1,1,0|int,0,0|1|1,,|" is four 22 4 0 0) ∷
     ("P,1|int,0|" with "C2,1,1,1,1,0|int,0,0|1|0,,0|" is four 22 4 0 0) ∷
-    -- each reason comes before the next; M has its range, and 43 is for a sheet that is well formed
+    -- each reason comes before the next; M has its range, and 43 is for a sheet that is well formed; 256 maps are not too many
     ("P,1|int,0|" with "C2,1,1,1,513,0|int,0,0|1|0,,|" is four 22 1 0 0) ∷
     ("P,1|int,0|" with "C2,1,1,1,257,1|int,0,0|" ++ˢ times 257 "2|" ++ˢ "0,0,|" is four 22 260 0 0) ∷
     ("P,1|int,0|" with "C2,1,1,1,257,1|int,0,0|" ++ˢ times 257 "2|" ++ˢ "0,,|" is four 43 0 0 0) ∷
@@ -122,6 +122,12 @@ answers =
     ("P,10|" ++ˢ twoLocks "unlock,0|var,0|" with twoLocksSplit "0,,|1,,|" is four 42 0 0 0) ∷
     ("P,1|int,0|" with "C2,1,1,1,2,0|int,0,0|1|1|0,,|" is four 42 0 0 0) ∷
     []
+
+-- with a buffer as long as a sheet may be: two locks on one lock of a single part bring the whole to one over the largest number
+unfoldable pub overLargest : Pair
+overLargest =
+    "P,7|let,0|newlock,0|let,1|lock,0|var,0|lock,0|var,0|" with
+    "C2,1000000000,1,2,2,0|int,0,0|lock,1,0|1000000000|1|0,,|1,,|0,,|0,,|1,,|0,,|1,,|" is four 42 0 0 0
 
 -- ------------------------------------------------------------------ sheets before and after
 

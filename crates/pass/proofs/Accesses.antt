@@ -11,10 +11,10 @@ use Rattle.pass.specs.declared.Column.{Column}
 use Rattle.pass.specs.Ways.{typeIn, accessIn}
 
 module _ (w : List ℕ) (column : Column) (k d : ℕ) {t : TypeLine} {p : Location} (typed : t ≡ typeIn w k) (placed : p ≡ refLocation t) where
-  pub access-here : p .0 ≡ column .location → d ≡ accessIn w column k d
+  pub access-here : p .0 ≡ column .location .0 → d ≡ accessIn w column k d
   unfolding accessIn asks
   access-here e = rw (← typed, ← placed, eq-eqb _ _ e)
 
-  pub access-elsewhere : (p .0 ≡ column .location → ⊥) → 0 ≡ accessIn w column k d
+  pub access-elsewhere : (p .0 ≡ column .location .0 → ⊥) → 0 ≡ accessIn w column k d
   unfolding accessIn asks
   access-elsewhere e = rw (← typed, ← placed, ne-eqb _ _ e)

@@ -33,13 +33,13 @@ use Rattle.pass.specs.declared.UnaryWay.{UnaryWay}
 use Rattle.pass.specs.declared.UnaryWay.the-variants.{After, Loop}
 use Rattle.pass.specs.declared.BinaryWay.{BinaryWay}
 use Rattle.pass.specs.declared.BinaryWay.the-variants.{InTurn, Branch, Fork}
-use Rattle.pass.specs.Ways.{locationOf, cellIn, typeIn, loadIn, inLoadIn, outLoadIn, readLoadIn, writeLoadIn, lendingIn, startIn, accessIn, wayBy, wayIn}
+use Rattle.pass.specs.Ways.{cellIn, typeIn, loadIn, inLoadIn, outLoadIn, readLoadIn, writeLoadIn, lendingIn, startIn, accessIn, wayBy, wayIn}
 use Rattle.pass.specs.Shows.{unaryFlow, binaryFlow, endIn, Shows, leafShown, unaryShown, binaryShown}
 
 module _ (w : List ℕ) (column : Column) (ss : List Step) (S : Split) (H : HoldsSplit w S) (R : InRange ss S)
-    (within : column .location < S .header .locations) (given : column .denominator ≡ S .header .denominator) where
+    (within : column .location .0 < S .header .locations) (given : column .denominator ≡ S .header .denominator) where
   abbrev p : Location
-  p = locationOf column
+  p = column .location
 
   -- ------------------------------------------------------------------ constants
 

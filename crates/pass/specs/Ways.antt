@@ -3,7 +3,6 @@ use mathlib.Core.List.{List}
 use Prim.Native.Nat.{ℕ, _+_, _*_}
 use lib.ListN.{getD}
 use Rattle.spec.specs.Conditions.{load, inLoad, outLoad, readLoad, writeLoad, refLocation}
-use Rattle.spec.specs.declared.Location.{Location}
 use Rattle.spec.specs.declared.MapNumber.{MapNumber}
 use Rattle.spec.specs.declared.TypeLine.{TypeLine}
 use Rattle.workspace.specs.Layout.{wordsAt, valuesAt, rowTypesAt, startsAt, ruleOf, typeAt, mapCell}
@@ -20,12 +19,9 @@ use Rattle.pass.specs.declared.BinaryWay.the-variants.{InTurn, Branch, F
 
 -- ------------------------------------------------------------------ constants
 
-abbrev pub locationOf : Column → Location
-locationOf column = record { 0 = column .location }
-
 -- what a map has at the location
 unfoldable pub cellIn : List ℕ → Column → MapNumber → ℕ
-cellIn w column m = mapCell w m (column .location)
+cellIn w column m = mapCell w m (column .location .0)
 
 -- the type of step k; what its load, in and out of its lock type, r and w of its rwlock type, the start of its body, and access through
 -- it have or need at the location
@@ -51,7 +47,7 @@ unfoldable pub startIn : List ℕ → Column → (k : ℕ) → ℕ
 startIn w column k = cellIn w column (record { 0 = getD w (startsAt + k) 0 })
 
 unfoldable pub accessIn : List ℕ → Column → (k d : ℕ) → ℕ
-accessIn w column k d = asks (locationOf column) (refLocation (typeIn w k)) d
+accessIn w column k d = asks (column .location) (refLocation (typeIn w k)) d
 
 -- a new read-write lock takes w, and lends r to as many readers as it has places
 unfoldable pub lendingIn : List ℕ → Column → (k : ℕ) → Effect

@@ -5,6 +5,7 @@ mod turns;
 mod ways;
 
 use filling::Effect;
+use spec::Location;
 use spec::MapNumber;
 use steps::pass_step;
 use ways::cell_in;
@@ -12,7 +13,7 @@ ghost use Rattle.pass.specs.Contract.{Fillable, FilledHere};
 
 // The location that is filled, and the sheet's denominator.
 pub struct Column {
-    pub location: u32,
+    pub location: Location,
     pub denominator: u32,
 }
 
@@ -44,12 +45,12 @@ enum BinaryWay {
 }
 
 // Whether there are posts that pass at the location; if so, the greatest stand in front of `posts`, in step order. `start` is the
-// number of the map before the root.
-pub fn fill_location(work: &[u32], posts: &mut [u64], column: Column, start: u32) -> bool
+// map before the root.
+pub fn fill_location(work: &[u32], posts: &mut [u64], column: Column, start: MapNumber) -> bool
     requires { ⌜ Fillable (now work) column start (now posts) ⌝ }
     ensures { λ r. ⌜ FilledHere (now (work .entry)) column start (now (posts .exit)) r ⌝ }
 {
-    let pre = cell_in(work, column, MapNumber(start)) as u64;
+    let pre = cell_in(work, column, start) as u64;
     let Found::Number(_) = pass_step(work, posts, column, 0, pre) else {
         return false;
     };

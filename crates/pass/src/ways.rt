@@ -169,7 +169,7 @@ fn place_of(t: TypeLine) -> Location
 pub(crate) fn cell_in(work: &[u32], column: Column, m: MapNumber) -> u32
     ensures { λ r. ⌜ r ≡ cellIn (now (work .entry)) column m ⌝ }
 {
-    map_cell(work, m, index(column.location))
+    map_cell(work, m, index(column.location.0))
 }
 
 // The type of step k.
@@ -244,7 +244,7 @@ fn access_in(work: &[u32], column: Column, k: usize, d: u32) -> u32
     ensures { λ r. ⌜ r ≡ accessIn (now (work .entry)) column k d ⌝ }
 {
     let p = place_of(type_in(work, k));
-    if p.0 == column.location { d } else { 0 }
+    if p.0 == column.location.0 { d } else { 0 }
 }
 
 // The way of step k, whose word has the rule r. A first part stands just behind its step.

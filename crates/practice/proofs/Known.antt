@@ -11,6 +11,15 @@ pub seed-0 : (drawn 0 ≡ 1013904223) × (readersOf 0 ≡ 2)
 unfolding drawn readers readersOf
 seed-0 = (refl, refl)
 
+-- where the multiplier counts, and where the number wraps
+pub seed-1 : (drawn 1 ≡ 1015568748) × (readersOf 1 ≡ 28)
+unfolding drawn readers readersOf
+seed-1 = (refl, refl)
+
+pub last-seed : (drawn 4294967295 ≡ 1012239698) × (readersOf 4294967295 ≡ 8)
+unfolding drawn readers readersOf
+last-seed = (refl, refl)
+
 -- one reader: document 01's P, byte for byte
 pub one-reader-is-P : programText 1 ≡ barred P
 unfolding bytes barred P digit digitsWithin decimal line text step lets spawn join programSteps programLines programText

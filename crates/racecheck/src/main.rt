@@ -6,9 +6,16 @@ use files::tell;
 use files::write_all;
 use libc::STDERR_FILENO;
 use report::Outcome;
+ghost use mathlib.Core.Path.{_≡_};
+ghost use mathlib.Core.Option.{some};
+ghost use Rattle.spec.specs.Verdict.{verdict, returned};
+ghost use Rattle.spec.specs.Workspace.{workspaceSize};
+ghost use Rattle.racecheck.specs.Told.{told};
 
 // Judges two texts in a work space of its own.
-fn judge(program: &[u8], split: &[u8]) -> Outcome {
+fn judge(program: &[u8], split: &[u8]) -> Outcome
+    ensures { λ o. ⌜ told o ≡ some (returned (verdict workspaceSize (now (program .entry)) (now (split .entry)))) ⌝ }
+{
     let mut work = [0u32; 16384];
     Outcome::Answered(checker::check(program, split, &mut work))
 }

@@ -3,3 +3,4 @@ pub mod Types
 pub mod Derivation
 pub mod Safety
 pub mod EitherOrder
+pub mod Known

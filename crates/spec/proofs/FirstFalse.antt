@@ -1,16 +1,16 @@
 -- A refusal 31 to 33 names the first condition, by step line and then by number, that is false; and each such pair gets one.
-use mathlib.Core.Path.{_≡_, ap}
+use mathlib.Core.Path.{_≡_, refl, ap}
 use mathlib.Core.List.{List, []}
 use mathlib.Core.Bool.{true}
 use Prim.Native.Nat.{ℕ, _≤_}
 use native.Mathlib.Omega.{arith}
 use Rattle.spec.specs.Reading.{Out, stop, on}
-use Rattle.spec.specs.Conditions.{startMap}
+use Rattle.spec.specs.Conditions.{Condition, startMap}
 use Rattle.spec.specs.Sites.{sites, claims}
 use Rattle.spec.specs.Workspace.{workspaceSize}
-use Rattle.spec.specs.Verdict.{ruled, checked, answer, verdict, returned, onConditions}
+use Rattle.spec.specs.Verdict.{ruled, checked, answer, verdict, four, returned, onConditions}
 use Rattle.spec.specs.WellFormed.{firstStepLine}
-use Rattle.spec.specs.FirstFalse.{Refuted}
+use Rattle.spec.specs.FirstFalse.{Names, type, flow, access, Refuted}
 use Rattle.spec.specs.declared.Answer.the-variants.{Refuse}
 use Rattle.spec.specs.declared.Refusal.{Refusal}
 use Rattle.spec.proofs.Claims.{stopped-first-false, first-false-stopped}
@@ -49,3 +49,13 @@ first-false-is-refused room p s r enough f = ap answer (reached-checked room p s
   atMostOne = f .atMostOne;
   outcome = first-false-stopped (f .first);
 }))
+
+-- what names a condition is one of 31 to 33, so that the promise of a first false condition is about each of them
+named-on-conditions : {k i : ℕ} {c : Condition} {r : Refusal} → Names k i c r → onConditions (returned (Refuse r) .number) ≡ true
+unfolding returned four onConditions
+named-on-conditions type = refl
+named-on-conditions flow = refl
+named-on-conditions access = refl
+
+pub refuted-on-conditions : {p s : List ℕ} {r : Refusal} → Refuted p s r → onConditions (returned (Refuse r) .number) ≡ true
+refuted-on-conditions f = named-on-conditions (f .first .named)

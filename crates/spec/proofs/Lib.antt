@@ -1,4 +1,5 @@
 pub mod KnownPairs
+pub mod Workspace
 pub mod Reasons
 pub mod Clashes
 pub mod Tests

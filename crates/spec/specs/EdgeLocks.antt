@@ -36,11 +36,13 @@ shownRows =
     ("P,3|let,0|newlock,0|var,0|" with (unlikeLast "4,1,|1,1,|4,1,|") is four 31 4 1 0) ∷
     []
 
--- elsewhere both maps hold equal numbers: at let, if, ref, read and write, and inside a ref that a var line shows
+-- elsewhere both maps hold equal numbers, in and out alike: at let, if, ref, read and write, and inside a ref that a var line shows
 unfoldable pub unlikeElsewhere : List Pair
 unlikeElsewhere =
     ("P,3|let,0|newlock,0|var,0|" with (unlike "2,1,|1,1,|1,1,|") is four 31 2 1 0) ∷
     ("P,3|let,0|newlock,0|var,0|" with (unlike "1,1,|1,1,|2,1,|") is four 31 2 1 0) ∷
+    ("P,3|let,0|newlock,0|var,0|" with (unlike "3,1,|1,1,|1,1,|") is four 31 2 1 0) ∷
+    ("P,3|let,0|newlock,0|var,0|" with (unlike "1,1,|1,1,|3,1,|") is four 31 2 1 0) ∷
     ("P,5|let,0|newlock,0|if,0|var,0|var,0|" with (unlike "2,1,|1,1,|2,1,|2,1,|2,1,|") is four 0 0 0 0) ∷
     ("P,5|let,0|newlock,0|if,0|var,0|var,0|" with (unlike "2,1,|1,1,|2,1,|1,1,|2,1,|") is four 31 4 1 0) ∷
     ("P,5|let,0|newlock,0|if,0|var,0|var,0|" with (unlike "2,1,|1,1,|2,1,|2,1,|1,1,|") is four 31 4 2 0) ∷

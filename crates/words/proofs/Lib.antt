@@ -1,2 +1,1 @@
-pub mod LoadedParts
 pub mod TableRows

@@ -1,32 +1,22 @@
 -- The conditions of each rule, from what the work space shows of a step. proofs/TableRows.antt shows that these are
 -- document 01's for the sheets that the work space holds.
-use mathlib.Core.Path.{_≡_}
-use mathlib.Core.Bool.{Bool, true, false}
+use mathlib.Core.Bool.{Bool}
 use mathlib.Core.List.{List, [], _∷_}
 use Prim.Native.Nat.{ℕ}
-use Rattle.spec.specs.Reading.{Out}
 use Rattle.spec.specs.Conditions.{Condition, T, F, isInt, isRef, isLock, isTid, isSem, isRwlock, refLocation, load, inLoad, outLoad, readLoad, writeLoad}
 use Rattle.spec.specs.declared.MapNumber.{MapNumber}
 use Rattle.spec.specs.declared.TypeLine.{TypeLine}
 use Rattle.workspace.specs.declared.Rule.{Rule}
 use Rattle.workspace.specs.declared.Rule.the-variants.{VAR, INT, LET, IF, WHILE, NEWT, SPAWN, JOIN, REF, WRITE, READ, NEWL, LCK, ULCK, NEWSEM, POST, WAIT, NEWRWLOCK, RDLOCK, RDUNLOCK, WRLOCK, WRUNLOCK}
-use Rattle.conditions.specs.Outcome.{firstFalseFrom}
 use Rattle.conditions.specs.Relation.{failsFrom, hasAtLeast}
 use Rattle.conditions.specs.Agreement.{agreeIn, mayShowIn, containsIn}
 use Rattle.conditions.specs.declared.Relation.{Relation}
 use Rattle.conditions.specs.declared.Relation.the-variants.{Equal, AtLeast, Covers, Sum}
-use Rattle.words.specs.declared.Load.{Load}
-use Rattle.words.specs.declared.Load.the-variants.{Of, None}
 use Rattle.words.specs.declared.View.{View}
 
 -- a relation at every location of the sheet
 abbrev pub flows : (w : List ℕ) → View → Relation → Condition
 flows w s r = F (failsFrom w r 0 (s .locations))
-
--- what a type hands over if it is of the kind that is asked for
-unfoldable pub loadIf : (fits : Bool) → MapNumber → Load
-loadIf true k = Of k
-loadIf false k = None
 
 -- a part of some kind, with a load: the type is int, the part is of that kind, and less + load = more
 abbrev pub loaded : (w : List ℕ) → View → (kind : TypeLine) → (fits : Bool) → (less load more : MapNumber) → List Condition
@@ -35,10 +25,6 @@ loaded w s kind fits less load more =
     ∷ T fits
     ∷ flows w s (Sum less load more)
     ∷ []
-
--- the outcome o on a part that hands over this load, of whichever kind it was asked to be
-pub record LoadJudged (w : List ℕ) (s : View) (kind : TypeLine) (part : Load) (less more : MapNumber) (o : Out (Unit {0})) : Type 0 where
-  pub for : (fits : Bool) (load : MapNumber) → part ≡ loadIf fits load → o ≡ firstFalseFrom (s .line) 1 (loaded w s kind fits less load more)
 
 -- ------------------------------------------------------------------ the rows, in the printed order
 

@@ -1,4 +1,5 @@
 // What each word asks of its step: the rules of Figure 5, a row of conditions each, judged over a view of the step.
+mod flows;
 mod loads;
 mod rows;
 
@@ -22,10 +23,4 @@ pub struct View {
     pub start: MapNumber,
     pub post1: MapNumber,
     pub post2: MapNumber,
-}
-
-// What a type hands over at a step: one of its maps, or nothing where it is of another kind.
-enum Load {
-    Of(MapNumber),
-    None,
 }

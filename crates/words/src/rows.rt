@@ -1,13 +1,15 @@
 // The conditions of a step: the rules of Figure 5, in the printed order, and behind them those of section 3.1.4 and those of
 // read-write locks, document 02, request (xi).
 use super::View;
-use super::loads::check_loaded;
-use super::loads::lock_in;
-use super::loads::lock_out;
-use super::loads::read_load;
-use super::loads::sem_load;
-use super::loads::tid_load;
-use super::loads::write_load;
+use super::flows::at_least;
+use super::flows::equal;
+use super::flows::sum;
+use super::loads::check_lock_in;
+use super::loads::check_lock_out;
+use super::loads::check_rwlock_read;
+use super::loads::check_rwlock_write;
+use super::loads::check_sem;
+use super::loads::check_tid;
 use conditions::Relation;
 use conditions::Ruling;
 use conditions::agree;
@@ -17,41 +19,11 @@ use conditions::has;
 use conditions::may_show;
 use conditions::on_types;
 use conditions::type_false;
-use spec::MapNumber;
 use spec::TypeLine;
 use workspace::Rule;
 ghost use mathlib.Core.Path.{_≡_};
-ghost use Rattle.spec.specs.Sites.{judge};
-ghost use Rattle.conditions.specs.declared.Relation.the-variants.{Equal, AtLeast, Sum};
 ghost use Rattle.conditions.specs.Outcome.{outcome, firstFalseFrom};
-ghost use Rattle.words.specs.Table.{flows, varRow, intRow, letRow, ifRow, whileRow, newtRow, spawnRow, refRow, writeRow, readRow, newlRow, newsemRow, newrwlockRow, ruleRow};
-
-// a = b.
-fn equal(work: &[u32], s: View, condition: u32, a: MapNumber, b: MapNumber) -> Ruling
-    ensures { λ r. ⌜ outcome r ≡ judge (s .line) condition (flows (now (work .entry)) s (Equal a b)) ⌝ }
-{
-    flow(s.line, condition, work, s.locations, Relation::Equal(a, b))
-}
-
-// a ≥ b.
-fn at_least(work: &[u32], s: View, condition: u32, a: MapNumber, b: MapNumber) -> Ruling
-    ensures { λ r. ⌜ outcome r ≡ judge (s .line) condition (flows (now (work .entry)) s (AtLeast a b)) ⌝ }
-{
-    flow(
-        s.line,
-        condition,
-        work,
-        s.locations,
-        Relation::AtLeast(a, b),
-    )
-}
-
-// a + b = c.
-fn sum(work: &[u32], s: View, condition: u32, a: MapNumber, b: MapNumber, c: MapNumber) -> Ruling
-    ensures { λ r. ⌜ outcome r ≡ judge (s .line) condition (flows (now (work .entry)) s (Sum a b c)) ⌝ }
-{
-    flow(s.line, condition, work, s.locations, Relation::Sum(a, b, c))
-}
+ghost use Rattle.words.specs.Table.{varRow, intRow, letRow, ifRow, whileRow, newtRow, spawnRow, refRow, writeRow, readRow, newlRow, newsemRow, newrwlockRow, ruleRow};
 
 // VAR: 1 type is that of its let's e1, or for a lock a looser one; 2 post = pre.
 fn check_var(work: &[u32], s: View, kind: TypeLine, kind1: TypeLine) -> Ruling
@@ -240,28 +212,28 @@ pub fn check_rule(r: Rule, work: &[u32], s: View, kind: TypeLine, kind1: TypeLin
         Rule::NEWT => check_newt(work, s, kind, kind1),
         Rule::SPAWN => check_spawn(work, s, kind, kind1),
         // JOIN: 1 type int; 2 part a tid; 3 post = post of part + K.
-        Rule::JOIN => check_loaded(work, s, kind, tid_load(kind1), s.post1, s.post),
+        Rule::JOIN => check_tid(work, s, kind, kind1, s.post1, s.post),
         Rule::REF => check_ref(work, s, kind, kind1),
         Rule::WRITE => check_write(work, s, kind, kind1),
         Rule::READ => check_read(work, s, kind, kind1),
         Rule::NEWL => check_newl(work, s, kind, kind1),
         // LCK: 1 type int; 2 part a lock; 3 post = post of part + in.
-        Rule::LCK => check_loaded(work, s, kind, lock_in(kind1), s.post1, s.post),
+        Rule::LCK => check_lock_in(work, s, kind, kind1, s.post1, s.post),
         // ULCK: 1 type int; 2 part a lock; 3 post + out = post of part.
-        Rule::ULCK => check_loaded(work, s, kind, lock_out(kind1), s.post, s.post1),
+        Rule::ULCK => check_lock_out(work, s, kind, kind1, s.post, s.post1),
         Rule::NEWSEM => check_newsem(work, s, kind, kind1),
         // POST: 1 type int; 2 part a sem; 3 post + K = post of part.
-        Rule::POST => check_loaded(work, s, kind, sem_load(kind1), s.post, s.post1),
+        Rule::POST => check_sem(work, s, kind, kind1, s.post, s.post1),
         // WAIT: 1 type int; 2 part a sem; 3 post = post of part + K.
-        Rule::WAIT => check_loaded(work, s, kind, sem_load(kind1), s.post1, s.post),
+        Rule::WAIT => check_sem(work, s, kind, kind1, s.post1, s.post),
         Rule::NEWRWLOCK => check_newrwlock(work, s, kind, kind1),
         // RDLOCK: 1 type int; 2 part a rwlock; 3 post = post of part + r.
-        Rule::RDLOCK => check_loaded(work, s, kind, read_load(kind1), s.post1, s.post),
+        Rule::RDLOCK => check_rwlock_read(work, s, kind, kind1, s.post1, s.post),
         // RDUNLOCK: 1 type int; 2 part a rwlock; 3 post + r = post of part.
-        Rule::RDUNLOCK => check_loaded(work, s, kind, read_load(kind1), s.post, s.post1),
+        Rule::RDUNLOCK => check_rwlock_read(work, s, kind, kind1, s.post, s.post1),
         // WRLOCK: 1 type int; 2 part a rwlock; 3 post = post of part + w.
-        Rule::WRLOCK => check_loaded(work, s, kind, write_load(kind1), s.post1, s.post),
+        Rule::WRLOCK => check_rwlock_write(work, s, kind, kind1, s.post1, s.post),
         // WRUNLOCK: 1 type int; 2 part a rwlock; 3 post + w = post of part.
-        Rule::WRUNLOCK => check_loaded(work, s, kind, write_load(kind1), s.post, s.post1),
+        Rule::WRUNLOCK => check_rwlock_write(work, s, kind, kind1, s.post, s.post1),
     }
 }

@@ -14,4 +14,4 @@ flow-spec =
     (λ c. search needs)
     (λ c. search needs)
     (λ c. rw (← c .before .before .lowest-failing .ensures, c .enum-told .given .1))
-    (λ c. rw (← c .before .before .before .lowest-failing .ensures, c .before .l .given .1)))
+    (λ c. rw (← c .before .before .before .lowest-failing .ensures, c .before .p .given .1)))

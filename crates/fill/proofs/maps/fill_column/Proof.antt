@@ -53,7 +53,6 @@ fill-column-spec =
     tie.close
     (tie.spec
     (λ c. search needs)
-    (λ c. search needs)
     fill-location-requires
     (λ c. search needs)
     returns

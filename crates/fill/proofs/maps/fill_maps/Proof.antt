@@ -11,13 +11,18 @@ use Rattle.fill.proofs.maps.fill_maps.Statement.{statement}
 use Rattle.fill.proofs.maps.fill_maps.Tie as tie
 
 abbrev Inv-loop : tie.InvT-loop
-Inv-loop work₀ steps denominator locations maps start large₀ l₀ work large l = (l ≤ locations) × SoFar work₀ work steps denominator locations maps start l large
+Inv-loop work₀ steps denominator locations maps start large₀ l₀ work large l = (l ≤ locations) × SoFar work₀ work steps denominator locations maps (start .0) l large
 
 abbrev μ-loop : tie.MeasureT-loop
 μ-loop work₀ steps denominator locations maps start large₀ l₀ work large l = locations - l
 
 loop-holds : tie.Need-loop-holds Inv-loop μ-loop
 loop-holds c = (omega arith, none-so-far _ _ _ _ _ _)
+
+cast-number : tie.Need-cast-number Inv-loop μ-loop
+cast-number c =
+    let sheets = c .before .before .before .pre .held .sheets in
+    omega (arith, c .loop-test .taken, sheets .locationsGiven, sheets .inRange .locations)
 
 fill-column-requires : tie.Need-fill-column-requires Inv-loop μ-loop
 fill-column-requires c κs =
@@ -72,6 +77,7 @@ fill-maps-spec =
     Inv-loop
     μ-loop
     loop-holds
+    cast-number
     fill-column-requires
     (λ c. search needs)
     (λ c. search needs)
