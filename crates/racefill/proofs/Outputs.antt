@@ -1,5 +1,5 @@
 -- From what filling tells to what is written.
-use mathlib.Core.Path.{_≡_, refl, sym, ap, _∙_}
+use mathlib.Core.Path.{_≡_, sym, ap, _∙_}
 use mathlib.Core.Path.{subst as along}
 use mathlib.Core.List.{List}
 use Prim.Native.Nat.{ℕ, _≤_}
@@ -15,7 +15,7 @@ use Rattle.spec.specs.declared.Answer.the-variants.{Refuse}
 use Rattle.spec.specs.declared.Refusal.{Refusal}
 use Rattle.numbers.proofs.Refusals.{refusal-number}
 use Rattle.writer.specs.Buffer.{Written}
-use Rattle.writer.proofs.Buffer.{overwrite-front, written-length}
+use Rattle.writer.proofs.Buffer.{overwrite-front}
 use Rattle.report.specs.Line.{refusalLine, answerLine, lineOf}
 use Rattle.report.specs.declared.Outcome.the-variants.{Answered}
 use Rattle.filling.specs.Answer.{fill, numbersOf, bufferAfter}
