@@ -4,12 +4,17 @@ use mathlib.Core.List.{List}
 use Prim.Native.Nat.{ℕ}
 use Rattle.spec.specs.Verdict.{returned}
 use Rattle.spec.specs.FirstFalse.{Refuted}
+use Rattle.spec.specs.declared.Returned.{Returned}
 use Rattle.spec.specs.declared.Answer.{Answer}
 use Rattle.spec.specs.declared.Answer.the-variants.{Refuse}
 use Rattle.spec.specs.declared.Refusal.{Refusal}
 
--- the answer's numbers are those of a refusal that names the first false condition of the pair
-pub record RefutedBy (programText splitText : List ℕ) (a : Answer) : Type 0 where
+-- four numbers are those of a refusal that names the first false condition of the pair
+pub record RefutedAs (programText splitText : List ℕ) (n : Returned) : Type 0 where
   pub refusal : Refusal
-  pub numbers : returned a ≡ returned (Refuse refusal)
+  pub numbers : n ≡ returned (Refuse refusal)
   pub refuted : Refuted programText splitText refusal
+
+-- the answer's numbers are
+abbrev pub RefutedBy : (programText splitText : List ℕ) → Answer → Type 0
+RefutedBy programText splitText a = RefutedAs programText splitText (returned a)

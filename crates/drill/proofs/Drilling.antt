@@ -70,7 +70,7 @@ split-short seed program split h = short seed program split (simp (lt-leb (lengt
 -- ------------------------------------------------------------------ both have room
 
 -- the text is found again in front of the buffer
-front-back : (n : ℕ) (d s b : List ℕ) → n ≡ length s → d ≡ inFront s b → take n d ≡ s
+pub front-back : (n : ℕ) (d s b : List ℕ) → n ≡ length s → d ≡ inFront s b → take n d ≡ s
 unfolding inFront
 front-back n d s b e h = rw (e, h) (take-append-seam s (drop (length s) b))
 

@@ -4,15 +4,26 @@ use drill::Drilled;
 use fill::Filled;
 use spec::Answer;
 ghost use mathlib.Core.Path.{_≡_};
+ghost use mathlib.Core.List.{List};
+ghost use mathlib.Core.Bool.{true};
+ghost use mathlib.Core.Logic.{_↔_};
+ghost use Prim.Native.Nat.{ℕ, _≤_};
 ghost use lib.ListN.{length, take};
-ghost use Rattle.spec.specs.Verdict.{verdict, returned, four};
+ghost use Rattle.spec.specs.Program.{Program};
+ghost use Rattle.spec.specs.Split.{Map, Split};
+ghost use Rattle.spec.specs.Accepted.{Right};
+ghost use Rattle.spec.specs.Verdict.{verdict, returned, four, onConditions};
 ghost use Rattle.spec.specs.Workspace.{workspaceSize, workspaceAfter};
 ghost use Rattle.spec.specs.declared.Answer.the-variants.{Accept};
 ghost use Rattle.practice.specs.Pair.{programOf, splitOf};
 ghost use Rattle.drill.specs.Answer.{numbered, answerOf, inFront};
-ghost use Rattle.filling.specs.Answer.{fill as filling, numbersOf, bufferAfter};
+ghost use Rattle.soundness.specs.SafeText.{SafeText};
+ghost use Rattle.soundness.specs.EitherOrderText.{EitherOrderText};
+ghost use Rattle.checker.specs.Promise.{RefutedAs};
+ghost use Rattle.filling.specs.AfterMaps.{AfterMaps};
+ghost use Rattle.filling.specs.Answer.{fill as filling, numbersOf, bufferAfter, Fillable, Written, GreatestOverLimits};
 
-// The answer to a pair of texts: `check` of the crate `checker`.
+// The answer to a pair of texts: `check` of the crate `checker`, clause by clause.
 #[no_mangle]
 pub extern "C" fn racecheck_check(
     program: &[u8],
@@ -25,6 +36,10 @@ pub extern "C" fn racecheck_check(
     ensures answer { λ n. ⌜ four n (now (line .exit)) (now (condition .exit)) (now (location .exit)) ≡ returned (verdict (length (now (work .entry))) (now (program .entry)) (now (split .entry))) ⌝ }
     ensures cleared { λ n. ⌜ now (work .exit) ≡ workspaceAfter (now (work .entry)) ⌝ }
     ensures unchanged { λ n. ⌜ (now (program .exit) ≡ now (program .entry)) × (now (split .exit) ≡ now (split .entry)) ⌝ }
+    ensures derivation { λ n. ⌜ (workspaceSize ≤ length (now (work .entry)) → (four n (now (line .exit)) (now (condition .exit)) (now (location .exit)) ≡ four 0 0 0 0) ↔ Right (now (program .entry)) (now (split .entry))) ⌝ }
+    ensures first_false { λ n. ⌜ (onConditions n ≡ true → RefutedAs (now (program .entry)) (now (split .entry)) (four n (now (line .exit)) (now (condition .exit)) (now (location .exit)))) ⌝ }
+    ensures safe { λ n. ⌜ (four n (now (line .exit)) (now (condition .exit)) (now (location .exit)) ≡ four 0 0 0 0 → SafeText (now (program .entry))) ⌝ }
+    ensures either_order { λ n. ⌜ (four n (now (line .exit)) (now (condition .exit)) (now (location .exit)) ≡ four 0 0 0 0 → EitherOrderText (now (program .entry))) ⌝ }
 {
     let four = numbers::numbers_of(checker::check(program, split, work));
     *line = four.line;
@@ -33,7 +48,7 @@ pub extern "C" fn racecheck_check(
     four.number
 }
 
-// The practice pair of a seed: `drill` of the crate `drill`. On 38 the three numbers stored are 0.
+// The practice pair of a seed: `drill` of the crate `drill`, clause by clause. On 38 the three numbers stored are 0.
 #[no_mangle]
 pub extern "C" fn racecheck_drill(
     seed: u32,
@@ -68,7 +83,7 @@ pub extern "C" fn racecheck_drill(
     }
 }
 
-// The whole sheet for a pair of texts whose split leaves its after-maps out: `fill` of the crate `fill`.
+// The whole sheet for a pair of texts whose split leaves its after-maps out: `fill` of the crate `fill`, clause by clause.
 #[no_mangle]
 pub extern "C" fn racecheck_fill(
     program: &[u8],
@@ -83,6 +98,9 @@ pub extern "C" fn racecheck_fill(
     ensures written { λ n. ⌜ now (out .exit) ≡ bufferAfter (filling (length (now (work .entry))) (length (now (out .entry))) (now (program .entry)) (now (split .entry))) (now (out .entry)) ⌝ }
     ensures cleared { λ n. ⌜ now (work .exit) ≡ workspaceAfter (now (work .entry)) ⌝ }
     ensures unchanged { λ n. ⌜ (now (program .exit) ≡ now (program .entry)) × (now (split .exit) ≡ now (split .entry)) ⌝ }
+    ensures solvable { λ n. ⌜ ((P : Program) (S : Split) → Fillable (length (now (work .entry))) (now (program .entry)) (now (split .entry)) P S → (four n (now («length_or_line» .exit)) (now (condition .exit)) (now (location .exit)) ≡ four 41 0 0 0) ↔ ((σ : List Map) → AfterMaps P S σ → ⊥)) ⌝ }
+    ensures too_large { λ n. ⌜ ((P : Program) (S : Split) → Fillable (length (now (work .entry))) (now (program .entry)) (now (split .entry)) P S → (four n (now («length_or_line» .exit)) (now (condition .exit)) (now (location .exit)) ≡ four 42 0 0 0) ↔ GreatestOverLimits (length (now (out .entry))) P S) ⌝ }
+    ensures greatest { λ n. ⌜ (n ≡ 0 → Written (length (now (work .entry))) (length (now (out .entry))) (now (program .entry)) (now (split .entry)) (take (now («length_or_line» .exit)) (now (out .exit)))) ⌝ }
     ensures accepted { λ n. ⌜ (n ≡ 0 → verdict (length (now (work .entry))) (now (program .entry)) (take (now («length_or_line» .exit)) (now (out .exit))) ≡ Accept) ⌝ }
 {
     match fill::fill(program, split, work, out) {

@@ -1,8 +1,12 @@
-// What the programs of the house share of the outside: reading a file into a lent buffer, telling an outcome in one line, writing
-// bytes to a descriptor.
+// What the programs of the house share of the outside: reading a file into a lent buffer, making a file, telling an outcome in one
+// line, writing bytes to a descriptor.
+mod making;
 mod retry;
 
 use libc::STDOUT_FILENO;
+pub use making::Making;
+pub use making::make_file;
+pub use making::remove_file;
 use report::Outcome;
 use report::write_line;
 pub use retry::write_all;

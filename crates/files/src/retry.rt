@@ -28,6 +28,32 @@ pub(crate) fn open(name: &[u8]) -> i32 {
     -1
 }
 
+// Makes a file that is not there, open for writing, and hands back a descriptor, or -1.
+pub(crate) fn create(name: &[u8]) -> i32 {
+    let mut tries = TRIES;
+    while 0 < tries {
+        let fd = os::create(name);
+        if is_over(0 <= fd) {
+            return fd;
+        }
+        tries -= 1;
+    }
+    -1
+}
+
+// Removes a file, and hands back 0, or -1.
+pub(crate) fn unlink(name: &[u8]) -> i32 {
+    let mut tries = TRIES;
+    while 0 < tries {
+        let gone = os::unlink(name);
+        if is_over(gone == 0) {
+            return gone;
+        }
+        tries -= 1;
+    }
+    -1
+}
+
 // Reads once, and hands back how many bytes came, or -1.
 pub(crate) fn read(fd: i32, buffer: &mut [u8]) -> isize {
     let mut tries = TRIES;
@@ -54,15 +80,17 @@ fn write(fd: i32, bytes: &[u8]) -> isize {
     -1
 }
 
-// Writes bytes by one call. If it takes only a part, the rest follows from where it stopped, until a call fails.
-pub fn write_all(fd: i32, bytes: &[u8]) {
+// Writes bytes by one call. If it takes only a part, the rest follows from where it stopped, until a call fails. Hands back whether
+// all were taken.
+pub fn write_all(fd: i32, bytes: &[u8]) -> bool {
     let mut n: usize = 0;
     while n < bytes.len() {
         let put = write(fd, &bytes[n..]);
         let more = io::count(put, &bytes[n..]);
         if more == 0 {
-            return;
+            return false;
         }
         n += more;
     }
+    true
 }

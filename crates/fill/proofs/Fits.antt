@@ -1,16 +1,14 @@
 -- Whether posts fit into maps, one after the other, as the loop over them goes.
 use mathlib.Core.Path.{_≡_}
 use mathlib.Core.Bool.{true, false}
-use mathlib.Core.List.{List, [], _∷_}
-use Prim.Native.Nat.{ℕ, zero, suc, _+_, _<_, _≤_}
-use native.Mathlib.Omega.{arith}
+use mathlib.Core.List.{List}
+use Prim.Native.Nat.{ℕ, _+_, _<_, _≤_}
 use native.Mathlib.Numerals.{add-one}
 use lib.ListN.{length, getD, drop, drop-of-length-le}
 use lib.Seq.{drop-cons}
 use borrow.Author.Tests.{le-leb, lt-leb}
-use Rattle.spec.specs.Accepted.{AtMost, none as noneAtMost, more as moreAtMost}
 use Rattle.filling.specs.Answer.{numberLimit, mapAtMost}
-use Rattle.filling.proofs.Limits.{map-at-most}
+use Rattle.filling.proofs.Limits.{at-most-at, map-at-most}
 
 module _ (posts : List ℕ) (i : ℕ) where
   pub fits-on : i < length posts → getD posts i 0 ≤ 1000000000
@@ -25,16 +23,6 @@ module _ (posts : List ℕ) (i : ℕ) where
   pub fits-end : length posts ≤ i → mapAtMost numberLimit (drop i posts) ≡ true
   unfolding mapAtMost
   fits-end h = rw (drop-of-length-le posts h)
-
--- at most d at each place
-pub at-most-at : {d : ℕ} (m : List ℕ) → AtMost d m → (i : ℕ) → getD m i 0 ≤ d
-at-most-at [] noneAtMost i = omega arith
-at-most-at (a ∷ m) (moreAtMost l r) zero = l
-at-most-at (a ∷ m) (moreAtMost l r) (suc i) = at-most-at m r i
-
-pub at-at-most : {d : ℕ} (m : List ℕ) → ((i : ℕ) → getD m i 0 ≤ d) → AtMost d m
-at-at-most [] h = noneAtMost
-at-at-most (a ∷ m) h = moreAtMost (h 0) (at-at-most m (λ i. h (suc i)))
 
 -- a post that fits is at most the limit
 pub fits-each : (posts : List ℕ) → mapAtMost numberLimit posts ≡ true → (i : ℕ) → i < length posts → getD posts i 0 ≤ 1000000000

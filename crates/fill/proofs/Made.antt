@@ -10,9 +10,8 @@ use Rattle.spec.specs.Split.{Map}
 use Rattle.spec.specs.Maps.{share}
 use Rattle.filling.specs.GreatestMaps.{mapsOfSteps}
 use Rattle.filling.specs.Answer.{numberLimit, mapAtMost, allAtMost}
-use Rattle.filling.proofs.Limits.{map-at-most, all-at-most}
+use Rattle.filling.proofs.Limits.{at-most-at, at-at-most, map-at-most, all-at-most}
 use Rattle.filling.proofs.Columns.{maps-counted, maps-share}
-use Rattle.fill.proofs.Fits.{at-most-at, at-at-most}
 
 module _ (columns : List (List ℕ)) (n : ℕ) where
   abbrev pub made : List Map

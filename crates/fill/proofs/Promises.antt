@@ -15,11 +15,11 @@ use Rattle.spec.specs.Verdict.{checked, verdict, four, returned}
 use Rattle.spec.specs.declared.Returned.{Returned}
 use Rattle.spec.specs.declared.Answer.the-variants.{Accept, Refuse}
 use Rattle.spec.specs.declared.Refusal.{Refusal}
-use Rattle.spec.specs.declared.Refusal.the-variants.{NoAfterMaps}
-use Rattle.numbers.proofs.Refusals.{refusal-number, only-unsolvable}
+use Rattle.spec.specs.declared.Refusal.the-variants.{NoAfterMaps, TooLarge}
+use Rattle.numbers.proofs.Refusals.{refusal-number}
 use Rattle.filling.specs.AfterMaps.{AfterMaps}
-use Rattle.filling.specs.Answer.{fill, numbersOf, bufferAfter, Fillable, Written}
-use Rattle.filling.proofs.Answer.{refused-exactly-unsolvable, written-exactly, written-accepted}
+use Rattle.filling.specs.Answer.{fill, numbersOf, bufferAfter, Fillable, Written, GreatestOverLimits}
+use Rattle.filling.proofs.Answer.{Decided, refusedUnsolvable, refusedTooLarge, wroteText, fillable-decided, refused-exactly-unsolvable, refused-exactly-too-large, written-exactly, written-accepted}
 use Rattle.fill.specs.Numbers.{numbered}
 use Rattle.fill.specs.Stages.{Tells}
 use Rattle.fill.specs.declared.Filled.{Filled}
@@ -33,10 +33,18 @@ room-enough room buffer p s h = rw (le-leb _ _ h)
 
 -- ------------------------------------------------------------------ the numbers of an outcome
 
-unsolvable-alone : (o : Out (List ℕ)) → numbersOf o .number ≡ 41 → o ≡ stop NoAfterMaps
-unfolding numbersOf four
-unsolvable-alone (stop r) h = ap stop (only-unsolvable r h)
-unsolvable-alone (on t) h = absurd (omega (arith, h))
+-- 41 and 42 are the numbers of one refusal each, of those that are left
+unsolvable-alone : {o : Out (List ℕ)} → Decided o → numbersOf o .number ≡ 41 → o ≡ stop NoAfterMaps
+unfolding numbersOf returned four
+unsolvable-alone refusedUnsolvable h = refl
+unsolvable-alone refusedTooLarge h = absurd (omega (arith, h))
+unsolvable-alone (wroteText t) h = absurd (omega (arith, h))
+
+too-large-alone : {o : Out (List ℕ)} → Decided o → numbersOf o .number ≡ 42 → o ≡ stop TooLarge
+unfolding numbersOf returned four
+too-large-alone refusedUnsolvable h = absurd (omega (arith, h))
+too-large-alone refusedTooLarge h = refl
+too-large-alone (wroteText t) h = absurd (omega (arith, h))
 
 refused-number : (r : Refusal) → returned (Refuse r) .number ≡ numbersOf (stop r) .number
 unfolding numbersOf
@@ -47,7 +55,7 @@ unfolding numbersOf four
 text-line t = refl
 
 -- 0 is the number of a text alone, and the buffer begins with it
-record Begins (o : Out (List ℕ)) (line : ℕ) (after : List ℕ) : Type 0 where
+pub record Begins (o : Out (List ℕ)) (line : ℕ) (after : List ℕ) : Type 0 where
   pub text : List ℕ
   pub is : o ≡ on text
   pub taken : take line after ≡ text
@@ -65,11 +73,19 @@ module _ (room : ℕ) (p s before after : List ℕ) (f : Filled) (told : Tells (
   unfolding numbersOf returned four
   solvable-kept P S F =
       let decides = refused-exactly-unsolvable room (length before) p s P S F in (
-        λ h. decides .0 (unsolvable-alone _ (ap (λ (r : Returned). r .number) (sym (told .numbers) ∙ h))),
+        λ h. decides .0 (unsolvable-alone (fillable-decided room (length before) p s P S F) (ap (λ (r : Returned). r .number) (sym (told .numbers) ∙ h))),
         λ unsolvable. told .numbers ∙ ap numbersOf (decides .1 unsolvable),
       )
 
-  begins : numbered f .number ≡ 0 → Begins (fill room (length before) p s) (numbered f .line) after
+  too-large-kept : (P : Program) (S : Split) → Fillable room p s P S → (numbered f ≡ four 42 0 0 0) ↔ GreatestOverLimits (length before) P S
+  unfolding numbersOf returned four
+  too-large-kept P S F =
+      let decides = refused-exactly-too-large room (length before) p s P S F in (
+        λ h. decides .0 (too-large-alone (fillable-decided room (length before) p s P S F) (ap (λ (r : Returned). r .number) (sym (told .numbers) ∙ h))),
+        λ over. told .numbers ∙ ap numbersOf (decides .1 over),
+      )
+
+  pub begins : numbered f .number ≡ 0 → Begins (fill room (length before) p s) (numbered f .line) after
   begins h = rw (told .numbers) (text-begins _ before after (told .buffer) (ap (λ (r : Returned). r .number) (sym (told .numbers)) ∙ h))
 
   greatest-kept : numbered f .number ≡ 0 → Written room (length before) p s (take (numbered f .line) after)
@@ -109,11 +125,13 @@ pub promises-kept : {U : Type 0} (w w′ p s before after : List ℕ) (f : Fille
     × ((w′ ≡ workspaceAfter w)
     × (U
     × (((P : Program) (S : Split) → Fillable (length w) p s P S → (numbered f ≡ four 41 0 0 0) ↔ ((σ : List Map) → AfterMaps P S σ → ⊥))
+    × (((P : Program) (S : Split) → Fillable (length w) p s P S → (numbered f ≡ four 42 0 0 0) ↔ GreatestOverLimits (length before) P S)
     × ((numbered f .number ≡ 0 → Written (length w) (length before) p s (take (numbered f .line) after))
-    × (numbered f .number ≡ 0 → verdict (length w) p (take (numbered f .line) after) ≡ Accept))))))
+    × (numbered f .number ≡ 0 → verdict (length w) p (take (numbered f .line) after) ≡ Accept)))))))
 promises-kept w w′ p s before after f told c u =
     let room = length w in
     let solvable = solvable-kept room p s before after f told in
+    let too-large = too-large-kept room p s before after f told in
     let greatest = greatest-kept room p s before after f told in
     let accepted = accepted-kept room p s before after f told in
-    (told .numbers, (told .buffer, (c, (u, (solvable, (greatest, accepted))))))
+    (told .numbers, (told .buffer, (c, (u, (solvable, (too-large, (greatest, accepted)))))))

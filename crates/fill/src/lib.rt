@@ -20,7 +20,7 @@ ghost use Rattle.spec.specs.Verdict.{verdict, four};
 ghost use Rattle.spec.specs.Workspace.{workspaceSize, workspaceAfter};
 ghost use Rattle.spec.specs.declared.Answer.the-variants.{Accept};
 ghost use Rattle.filling.specs.AfterMaps.{AfterMaps};
-ghost use Rattle.filling.specs.Answer.{fill as filling, numbersOf, bufferAfter, Fillable, Written};
+ghost use Rattle.filling.specs.Answer.{fill as filling, numbersOf, bufferAfter, Fillable, Written, GreatestOverLimits};
 ghost use Rattle.sheets.specs.Contract.{HoldsSome as HoldsSheetOfSome};
 ghost use Rattle.workspace.specs.Layout.{workSize};
 ghost use Rattle.fill.specs.Numbers.{numbered};
@@ -126,6 +126,8 @@ fn fill_texts(program: &[u8], split: &[u8], work: &mut [u32], out: &mut [u8]) ->
 // unchanged: both texts are as they were;
 // solvable: with both sheets well formed, at most 256 maps, 44, 30 and every (T) condition met, the answer is 41 exactly when no maps of
 // whole numbers, however large, pass all flow and access conditions;
+// too_large: under the same, the answer is 42 exactly when the greatest such maps have a number above 1,000,000,000, or the sheet with
+// them is over 65,536 bytes or over the buffer;
 // greatest: the text written is that of the split with the greatest such maps;
 // accepted: document 01's answer to the program and the text written is ACCEPT.
 pub fn fill(program: &[u8], split: &[u8], work: &mut [u32], out: &mut [u8]) -> Filled
@@ -134,6 +136,7 @@ pub fn fill(program: &[u8], split: &[u8], work: &mut [u32], out: &mut [u8]) -> F
     ensures cleared { λ f. ⌜ now (work .exit) ≡ workspaceAfter (now (work .entry)) ⌝ }
     ensures unchanged { λ f. ⌜ (now (program .exit) ≡ now (program .entry)) × (now (split .exit) ≡ now (split .entry)) ⌝ }
     ensures solvable { λ f. ⌜ ((P : Program) (S : Split) → Fillable (length (now (work .entry))) (now (program .entry)) (now (split .entry)) P S → (numbered f ≡ four 41 0 0 0) ↔ ((σ : List Map) → AfterMaps P S σ → ⊥)) ⌝ }
+    ensures too_large { λ f. ⌜ ((P : Program) (S : Split) → Fillable (length (now (work .entry))) (now (program .entry)) (now (split .entry)) P S → (numbered f ≡ four 42 0 0 0) ↔ GreatestOverLimits (length (now (out .entry))) P S) ⌝ }
     ensures greatest { λ f. ⌜ (numbered f .number ≡ 0 → Written (length (now (work .entry))) (length (now (out .entry))) (now (program .entry)) (now (split .entry)) (take (numbered f .line) (now (out .exit)))) ⌝ }
     ensures accepted { λ f. ⌜ (numbered f .number ≡ 0 → verdict (length (now (work .entry))) (now (program .entry)) (take (numbered f .line) (now (out .exit))) ≡ Accept) ⌝ }
 {

@@ -1,24 +1,25 @@
 -- What the answer of filling says of a pair of sheets: 41 exactly when there are no after-maps, a text exactly when the greatest
 -- after-maps keep the size limits, and then the pair with that text is accepted.
 use mathlib.Core.Path.{_≡_, refl, ap, sym, _∙_}
+use mathlib.Core.Path.{subst as along}
 use mathlib.Core.Bool.{Bool, true, false}
-use mathlib.Core.List.{List}
+use mathlib.Core.List.{List, []}
 use mathlib.Core.Logic.{_↔_, _⊎_, inl, inr, ⊎-elim}
 use mathlib.Core.Option.{Option, none, some}
 use Prim.Native.Nat.{ℕ, _≤_, min}
 use native.Mathlib.Omega.{arith}
 use native.Mathlib.Decide.{decLe}
-use lib.ListN.{length}
+use lib.ListN.{length, getD}
 use borrow.Author.Tests.{leb-true}
 use Rattle.spec.specs.Reading.{Out, stop, on}
 use Rattle.spec.specs.Program.{Program, program, programLimit}
 use Rattle.spec.specs.Split.{Map, Split, split, splitLimit}
+use Rattle.spec.specs.Maps.{share}
 use Rattle.spec.specs.Workspace.{workspaceSize}
 use Rattle.spec.specs.Verdict.{typed, answer, verdict, four, returned}
 use Rattle.spec.specs.declared.Purpose.the-variants.{Check, Fill}
 use Rattle.spec.specs.declared.Answer.the-variants.{Accept, Refuse}
 use Rattle.spec.specs.declared.Refusal.the-variants.{NoAfterMaps, TooLarge}
-use Rattle.spec.proofs.Clashes.{true-is-not-false}
 use Rattle.spec.proofs.Outcomes.{stop-is-not-on, on-injective, stop-injective, bind-goes-on, goes-on-bind, demand-goes-on}
 use Rattle.spec.proofs.WellFormed.{well-formed-program}
 use Rattle.spec.proofs.Sheets.{sheets-well-formed, well-formed-sheets, sheets-read}
@@ -31,10 +32,10 @@ use Rattle.writer.specs.Sheet.{written}
 use Rattle.filling.specs.Filled.{filled}
 use Rattle.filling.specs.AfterMaps.{allClaims, typeClaims, AfterMaps, GreatestMaps}
 use Rattle.filling.specs.GreatestMaps.{greatestMaps}
-use Rattle.filling.specs.Answer.{givenLimit, numberLimit, allAtMost, filledText, WithinLimits, fill, Fillable, Written}
+use Rattle.filling.specs.Answer.{givenLimit, numberLimit, allAtMost, filledText, WithinLimits, OverLimits, largeNumber, longSheet, shortBuffer, GreatestOverLimits, fill, Fillable, Written}
 use Rattle.filling.proofs.Reasons.{no-after-maps, large-number, long-text, text-written, locks-decide}
 use Rattle.filling.proofs.ReadBack.{filled-reads-back}
-use Rattle.filling.proofs.Limits.{all-at-most, steps-few}
+use Rattle.filling.proofs.Limits.{at-most-at, all-at-most, some-above, steps-few}
 use Rattle.filling.proofs.Filling.{solvable, found-exactly-greatest, locks-kept, start-kept, filled-accepted}
 
 -- ------------------------------------------------------------------ refusals
@@ -48,40 +49,71 @@ too-large-is-not-none h =
 
 -- ------------------------------------------------------------------ the answer
 
+-- 41, 42 or a text
+pub data Decided : Out (List ℕ) → Type 0 where
+  refusedUnsolvable : Decided (stop NoAfterMaps)
+  refusedTooLarge : Decided (stop TooLarge)
+  wroteText : (t : List ℕ) → Decided (on t)
+
 module _ (buffer : ℕ) (P : Program) (S : Split) where
   abbrev text : Out (List ℕ)
   text = filledText buffer P S
 
+  -- no maps keep the limits and go over one
+  not-over : (γ : List Map) → WithinLimits buffer S γ → OverLimits buffer S γ → ⊥
+  unfolding share
+  not-over γ limits (largeNumber i p above) = omega (arith, above, at-most-at (getD γ i []) (limits .small i) (p .0))
+  not-over γ limits (longSheet h) = omega (arith, h, limits .notLong)
+  not-over γ limits (shortBuffer h) = omega (arith, h, limits .hasRoom)
+
   -- once the greatest maps are found, the split with them is written, or it goes over a limit
   Settled : List Map → Type 0
-  Settled γ = (WithinLimits buffer S γ × (text ≡ on (written (filled S γ)))) ⊎ ((WithinLimits buffer S γ → ⊥) × (text ≡ stop TooLarge))
+  Settled γ = (WithinLimits buffer S γ × (text ≡ on (written (filled S γ)))) ⊎ (OverLimits buffer S γ × (text ≡ stop TooLarge))
 
   settled : (γ : List Map) → greatestMaps P S ≡ some γ → Settled γ
-  unfolding Settled numberLimit splitLimit
+  unfolding Settled numberLimit splitLimit share
   settled γ e = go (allAtMost numberLimit γ) refl (decLe (length (written (filled S γ))) (min splitLimit buffer))
     where
+      too-long : Dec (length (written (filled S γ)) ≤ buffer) → (length (written (filled S γ)) ≤ min splitLimit buffer → ⊥) → OverLimits buffer S γ
+      too-long (yes room) long = longSheet (omega (arith, long))
+      too-long (no room) long = shortBuffer (omega (arith, room))
+
       go : (b : Bool) → allAtMost numberLimit γ ≡ b → Dec (length (written (filled S γ)) ≤ min splitLimit buffer) → Settled γ
       go false large d =
-          inr (λ limits. true-is-not-false (sym (all-at-most numberLimit γ .1 (limits .small)) ∙ large), large-number buffer P S γ e large)
+          let (i, l, above) = some-above numberLimit γ large in
+          inr (largeNumber i (record { 0 = l }) above, large-number buffer P S γ e large)
       go true small (yes short) =
           inl (
             record { small = all-at-most numberLimit γ .0 small; notLong = omega (arith, short); hasRoom = omega (arith, short) },
             text-written buffer P S γ e small short,
           )
       go true small (no long) =
-          inr (λ limits. long (omega (arith, limits .notLong, limits .hasRoom)), long-text buffer P S γ e small (omega (arith, long)))
+          inr (too-long (decLe (length (written (filled S γ))) buffer) long, long-text buffer P S γ e small (omega (arith, long)))
 
   within-limits : (γ : List Map) → greatestMaps P S ≡ some γ → WithinLimits buffer S γ → text ≡ on (written (filled S γ))
   unfolding Settled
-  within-limits γ e limits = ⊎-elim (λ w. w .1) (λ o. absurd (o .0 limits)) (settled γ e)
+  within-limits γ e limits = ⊎-elim (λ w. w .1) (λ o. absurd (not-over γ limits (o .0))) (settled γ e)
 
-  over-limits : (γ : List Map) → greatestMaps P S ≡ some γ → (WithinLimits buffer S γ → ⊥) → text ≡ stop TooLarge
+  over-limits : (γ : List Map) → greatestMaps P S ≡ some γ → OverLimits buffer S γ → text ≡ stop TooLarge
   unfolding Settled
-  over-limits γ e large = ⊎-elim (λ w. absurd (large (w .0))) (λ o. o .1) (settled γ e)
+  over-limits γ e over = ⊎-elim (λ w. absurd (not-over γ (w .0) over)) (λ o. o .1) (settled γ e)
+
+  refused-over : (γ : List Map) → greatestMaps P S ≡ some γ → text ≡ stop TooLarge → OverLimits buffer S γ
+  unfolding Settled
+  refused-over γ e h = ⊎-elim (λ w. stop-is-not-on (sym h ∙ w .1)) (λ o. o .0) (settled γ e)
 
   found-not-refused : {C : Type 0} (γ : List Map) → greatestMaps P S ≡ some γ → text ≡ stop NoAfterMaps → C
   unfolding Settled
   found-not-refused γ e h = ⊎-elim (λ w. stop-is-not-on (sym h ∙ w .1)) (λ o. too-large-is-not-none (sym (o .1) ∙ h)) (settled γ e)
+
+  filled-decided : Decided text
+  unfolding Settled
+  filled-decided = go (greatestMaps P S) refl
+    where
+      go : (o : Option (List Map)) → greatestMaps P S ≡ o → Decided text
+      go none e = along Decided (sym (no-after-maps buffer P S e)) refusedUnsolvable
+      go (some γ) e =
+          ⊎-elim (λ w. along Decided (sym (w .1)) (wroteText (written (filled S γ)))) (λ o. along Decided (sym (o .1)) refusedTooLarge) (settled γ e)
 
   -- a text that is written, and what it has
   text-has : (t : List ℕ) → text ≡ on t
@@ -105,6 +137,10 @@ module _ (room buffer : ℕ) (p s : List ℕ) where
       locks-decide room buffer p s (F .enough) P S (well-formed-sheets Fill p s (F .sheets)) (F .few)
       ∙ goes-on-bind _ _ (enough-taken S (F .locks))
       (goes-on-bind _ _ (at-most-one-start P S (F .atMostOne)) (goes-on-bind _ _ (all-hold-none-false _ (F .typesHold)) refl))
+
+  -- and nothing else is told then
+  pub fillable-decided : (P : Program) (S : Split) → Fillable room p s P S → Decided answered
+  fillable-decided P S F = along Decided (sym (fillable-decides P S F)) (filled-decided buffer P S)
 
   -- a text is written only then
   written-fillable : {t : List ℕ} → answered ≡ on t
@@ -150,16 +186,16 @@ module _ (room buffer : ℕ) (p s : List ℕ) where
 
   -- "42 if the greatest has a number above 1,000,000,000 or the filled sheet is over 65,536 bytes or over the buffer"
   pub refused-exactly-too-large : (P : Program) (S : Split) → Fillable room p s P S
-      → (answered ≡ stop TooLarge) ↔ ((γ : List Map) × GreatestMaps P S γ × (WithinLimits buffer S γ → ⊥))
+      → (answered ≡ stop TooLarge) ↔ GreatestOverLimits buffer P S
   refused-exactly-too-large P S F = rw (fillable-decides P S F) (
     λ h. found (greatestMaps P S) refl h,
-    λ (γ, G, large). over-limits buffer P S γ (greatest P S F γ .1 G) large,
+    λ G. over-limits buffer P S (G .γ) (greatest P S F (G .γ) .1 (G .greatest)) (G .over),
   )
     where
       found : (o : Option (List Map)) → greatestMaps P S ≡ o → filledText buffer P S ≡ stop TooLarge
-          → (γ : List Map) × GreatestMaps P S γ × (WithinLimits buffer S γ → ⊥)
+          → GreatestOverLimits buffer P S
       found none e h = too-large-is-not-none (sym h ∙ no-after-maps buffer P S e)
-      found (some γ) e h = (γ, greatest P S F γ .0 e, λ limits. stop-is-not-on (sym h ∙ within-limits buffer P S γ e limits))
+      found (some γ) e h = record { γ = γ; greatest = greatest P S F γ .0 e; over = refused-over buffer P S γ e h }
 
   -- "It is written exactly when .., apart from the size limits": with the greatest after-maps
   pub written-exactly : (t : List ℕ) → answered ≡ on t ↔ Written room buffer p s t

@@ -3,11 +3,11 @@ use mathlib.Core.Path.{_≡_, refl}
 use mathlib.Core.Bool.{Bool, true, false, _&&_}
 use mathlib.Core.List.{List, [], _∷_}
 use mathlib.Core.Logic.{_↔_}
-use Prim.Native.Nat.{ℕ, zero, suc, _≤_}
+use Prim.Native.Nat.{ℕ, zero, suc, _≤_, _<_}
 use native.Mathlib.Omega.{arith}
 use lib.Dec.{leb}
 use lib.ListN.{length, getD}
-use borrow.Author.Tests.{leb-true, le-leb}
+use borrow.Author.Tests.{leb-true, leb-false, le-leb}
 use Rattle.spec.specs.Choice.{if_then_else_}
 use Rattle.spec.specs.Text.{Field, bytes, same, fields}
 use Rattle.spec.specs.Reading.{right, wrong, badForm, seen, _to_, numbers}
@@ -15,9 +15,20 @@ use Rattle.spec.specs.Program.{Program, firstNumber, countLine}
 use Rattle.spec.specs.Split.{Map}
 use Rattle.spec.specs.WellFormed.{WellFormedProgram}
 use Rattle.spec.specs.Accepted.{AtMost, none as noneAtMost, more as moreAtMost}
+use Rattle.spec.proofs.Clashes.{true-is-not-false}
 use Rattle.spec.proofs.Tests.{both-true}
 use Rattle.spec.proofs.Ranges.{wrong-is-not-right, seen-right, in-range-at, in-to}
 use Rattle.filling.specs.Answer.{mapAtMost, allAtMost}
+
+-- at most d at each place
+pub at-most-at : {d : ℕ} (m : List ℕ) → AtMost d m → (i : ℕ) → getD m i 0 ≤ d
+at-most-at [] noneAtMost i = omega arith
+at-most-at (a ∷ m) (moreAtMost l r) zero = l
+at-most-at (a ∷ m) (moreAtMost l r) (suc i) = at-most-at m r i
+
+pub at-at-most : {d : ℕ} (m : List ℕ) → ((i : ℕ) → getD m i 0 ≤ d) → AtMost d m
+at-at-most [] h = noneAtMost
+at-at-most (a ∷ m) h = moreAtMost (h 0) (at-at-most m (λ i. h (suc i)))
 
 pub map-at-most : (limit : ℕ) (m : Map) → mapAtMost limit m ≡ true ↔ AtMost limit m
 unfolding mapAtMost
@@ -41,6 +52,28 @@ all-at-most limit (m ∷ ms) = (
     each : AtMost limit m → ((i : ℕ) → AtMost limit (getD ms i [])) → (i : ℕ) → AtMost limit (getD (m ∷ ms) i [])
     each h r zero = h
     each h r (suc i) = r i
+
+-- some number above the limit, where not all are at most it
+map-above : (limit : ℕ) (m : Map) → mapAtMost limit m ≡ false → (l : ℕ) × (limit < getD m l 0)
+unfolding mapAtMost
+map-above limit [] h = true-is-not-false h
+map-above limit (a ∷ m) h = go (leb a limit) refl h (map-above limit m)
+  where
+    go : (b : Bool) → leb a limit ≡ b → (b && mapAtMost limit m) ≡ false → (mapAtMost limit m ≡ false → (l : ℕ) × (limit < getD m l 0))
+        → (l : ℕ) × (limit < getD (a ∷ m) l 0)
+    go false e h rest = (0, leb-false a limit e)
+    go true e h rest = let (l, above) = rest h in (suc l, above)
+
+pub some-above : (limit : ℕ) (ms : List Map) → allAtMost limit ms ≡ false → (i l : ℕ) × (limit < getD (getD ms i []) l 0)
+unfolding allAtMost
+some-above limit [] h = true-is-not-false h
+some-above limit (m ∷ ms) h = go (mapAtMost limit m) refl h (some-above limit ms)
+  where
+    go : (b : Bool) → mapAtMost limit m ≡ b → (b && allAtMost limit ms) ≡ false
+        → (allAtMost limit ms ≡ false → (i l : ℕ) × (limit < getD (getD ms i []) l 0))
+        → (i l : ℕ) × (limit < getD (getD (m ∷ ms) i []) l 0)
+    go false e h rest = let (l, above) = map-above limit m e in (0, l, above)
+    go true e h rest = let (i, l, above) = rest h in (suc i, l, above)
 
 -- a program has at most 256 steps
 count-few : (fs : List Field) (n : ℕ) → countLine fs ≡ right n → n ≤ 256

@@ -3,18 +3,20 @@ use mathlib.Core.Path.{_≡_}
 use mathlib.Core.Bool.{Bool, true, _&&_}
 use mathlib.Core.List.{List, [], _∷_, _++_}
 use mathlib.Core.Option.{Option, none, some}
-use Prim.Native.Nat.{ℕ, _≤_, min}
+use Prim.Native.Nat.{ℕ, _≤_, _<_, min}
 use lib.Dec.{leb}
 use lib.ListN.{length, getD, drop}
 use Rattle.spec.specs.Reading.{Out, stop, on, _>>=_, demand}
 use Rattle.spec.specs.Program.{Program}
 use Rattle.spec.specs.Split.{Map, Split, splitLimit}
+use Rattle.spec.specs.Maps.{share}
 use Rattle.spec.specs.Conditions.{startMap}
 use Rattle.spec.specs.Workspace.{workspaceSize}
 use Rattle.spec.specs.Verdict.{sheets, locksTakeEnough, startAtMostOne, typed, four, returned}
 use Rattle.spec.specs.FirstFalse.{AllHold}
 use Rattle.spec.specs.WellFormed.{WellFormedSheets}
 use Rattle.spec.specs.Accepted.{LocksTakeEnough, AtMost}
+use Rattle.spec.specs.declared.Location.{Location}
 use Rattle.spec.specs.declared.Purpose.the-variants.{Fill}
 use Rattle.spec.specs.declared.Returned.{Returned}
 use Rattle.spec.specs.declared.Answer.the-variants.{Refuse}
@@ -92,6 +94,19 @@ pub record Written (room buffer : ℕ) (programText splitText text : List ℕ) :
   pub greatest : GreatestMaps P S γ
   pub limits : WithinLimits buffer S γ
   pub isText : text ≡ written (filled S γ)
+
+-- the split with the maps γ filled in goes over a size limit: a number of some step and location above 1,000,000,000, or a sheet over
+-- 65,536 bytes, or over the buffer
+pub data OverLimits (buffer : ℕ) (S : Split) (γ : List Map) : Type 0 where
+  largeNumber : (i : ℕ) (p : Location) → numberLimit < share (getD γ i []) p → OverLimits buffer S γ
+  longSheet : splitLimit < length (written (filled S γ)) → OverLimits buffer S γ
+  shortBuffer : buffer < length (written (filled S γ)) → OverLimits buffer S γ
+
+-- "42 if the greatest has a number above 1,000,000,000 or the filled sheet is over 65,536 bytes or over the buffer"
+pub record GreatestOverLimits (buffer : ℕ) (P : Program) (S : Split) : Type 0 where
+  pub γ : List Map
+  pub greatest : GreatestMaps P S γ
+  pub over : OverLimits buffer S γ
 
 -- ------------------------------------------------------------------ what is returned
 

@@ -1,5 +1,4 @@
 -- The numbers of refusals.
-use mathlib.Core.Path.{_≡_, refl}
 use Prim.Native.Nat.{ℕ, _≤_}
 use native.Mathlib.Omega.{arith}
 use Rattle.spec.specs.Verdict.{returned, four}
@@ -31,28 +30,3 @@ refusal-number TooLarge = omega arith
 refusal-number TooManyMaps = omega arith
 refusal-number (LockTakesLess k) = omega arith
 refusal-number (Freelock k) = omega arith
-
--- 41 is the number of one refusal alone
-pub only-unsolvable : (r : Refusal) → returned (Refuse r) .number ≡ 41 → r ≡ NoAfterMaps
-unfolding returned four
-only-unsolvable ShortWorkspace h = absurd (omega (arith, h))
-only-unsolvable LongProgram h = absurd (omega (arith, h))
-only-unsolvable (ProgramForm k) h = absurd (omega (arith, h))
-only-unsolvable (ProgramRange k) h = absurd (omega (arith, h))
-only-unsolvable (ProgramLines k) h = absurd (omega (arith, h))
-only-unsolvable (Unbound k) h = absurd (omega (arith, h))
-only-unsolvable (Rebound k) h = absurd (omega (arith, h))
-only-unsolvable LongSplit h = absurd (omega (arith, h))
-only-unsolvable (SplitForm k) h = absurd (omega (arith, h))
-only-unsolvable (SplitRange k) h = absurd (omega (arith, h))
-only-unsolvable (SplitLines k) h = absurd (omega (arith, h))
-only-unsolvable (NoStart k) h = absurd (omega (arith, h))
-only-unsolvable (OverOne k l) h = absurd (omega (arith, h))
-only-unsolvable (TypeFalse k i) h = absurd (omega (arith, h))
-only-unsolvable (FlowFalse k i l) h = absurd (omega (arith, h))
-only-unsolvable (AccessFalse k i p) h = absurd (omega (arith, h))
-only-unsolvable NoAfterMaps h = refl
-only-unsolvable TooLarge h = absurd (omega (arith, h))
-only-unsolvable TooManyMaps h = absurd (omega (arith, h))
-only-unsolvable (LockTakesLess k) h = absurd (omega (arith, h))
-only-unsolvable (Freelock k) h = absurd (omega (arith, h))

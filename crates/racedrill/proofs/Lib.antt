@@ -1,3 +1,3 @@
 pub mod Lines
 pub mod Seeds
-pub mod Rooms
+pub mod Pairs

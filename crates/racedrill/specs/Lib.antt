@@ -1,2 +1,3 @@
 pub mod Seed
+pub mod Pair
 pub mod Line

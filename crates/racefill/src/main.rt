@@ -10,18 +10,34 @@ use fill::fill;
 use libc::STDERR_FILENO;
 use libc::STDOUT_FILENO;
 use report::Outcome;
+use report::write_line;
 use spec::Answer;
+ghost use mathlib.Core.Path.{_≡_};
+ghost use lib.ListN.{length};
+ghost use Rattle.spec.specs.Split.{splitLimit};
+ghost use Rattle.spec.specs.Workspace.{workspaceSize};
+ghost use Rattle.filling.specs.Answer.{fill as filling};
+ghost use Rattle.racefill.specs.Output.{outputOf, InFront};
 
-// Fills in the after-maps of two texts, in a work space and a buffer of its own, and writes what that comes to.
-fn fill_texts(program: &[u8], split: &[u8]) {
+// Makes what is written for two texts, in front of a buffer that has room for any sheet, and hands back its length.
+fn fill_texts(program: &[u8], split: &[u8], out: &mut [u8]) -> usize
+    requires { ⌜ length (now out) ≡ splitLimit ⌝ }
+    ensures { λ n. ⌜ InFront (outputOf (filling workspaceSize splitLimit (now (program .entry)) (now (split .entry)))) n (now (out .exit)) ⌝ }
+{
     let mut work = [0u32; 16384];
-    let mut out = [0u8; 65536];
-    match fill(program, split, &mut work, &mut out) {
-        Filled::Written(length) => {
-            let n = length as usize;
-            write_all(STDOUT_FILENO, &out[..n]);
-        }
-        Filled::Refused(r) => tell(Outcome::Answered(Answer::Refuse(r))),
+    match fill(program, split, &mut work, out) {
+        Filled::Written(length) => length as usize,
+        Filled::Refused(r) => write_line(out, Outcome::Answered(Answer::Refuse(r))),
+    }
+}
+
+// A sheet or a line that standard output does not take to its end is not to be taken for a whole one.
+fn write_output(output: &[u8]) {
+    if !write_all(STDOUT_FILENO, output) {
+        write_all(
+            STDERR_FILENO,
+            b"racefill: standard output did not take all that was written\n",
+        );
     }
 }
 
@@ -38,7 +54,9 @@ fn run() {
         tell(Outcome::Unread);
         return;
     };
-    fill_texts(&program[..p], &split[..s]);
+    let mut out = [0u8; 65536];
+    let n = fill_texts(&program[..p], &split[..s], &mut out);
+    write_output(&out[..n]);
 }
 
 // An argument is refused: who names a folder would take the sheet for that folder's.

@@ -1,7 +1,6 @@
 -- Each arm stores the numbers of its answer, so every promise of `fill` is one of the entry.
-use mathlib.Core.Path.{refl, sym, ap, _∙_}
+use mathlib.Core.Path.{refl, sym}
 use Rattle.spec.specs.Verdict.{four}
-use Rattle.spec.specs.declared.Returned.{Returned}
 use Rattle.fill.specs.Numbers.{numbered}
 use borrow.Author.Needs.{needs}
 use Rattle.entries.proofs.racecheck_fill.Statement.{statement}
@@ -11,14 +10,13 @@ returns : tie.Need-returns
 unfolding numbered four
 returns c =
     let told = rw (c .before .length .given .1) at (c .before .before .before .before .before .before .before .fill .ensures) in
-    (told .0, (told .1 .0, (told .1 .1 .0, ((refl, refl), told .1 .1 .1 .1 .1 .1))))
+    (told .0, (told .1 .0, (told .1 .1 .0, ((refl, refl), told .1 .1 .1 .1))))
 
 returns-2 : tie.Need-returns-2
 unfolding numbered four
 returns-2 c =
     let told = rw (c .before .before .r .given .1) at (c .before .before .before .before .before .before .before .before .fill .ensures) in
-    let same = c .numbers-of .ensures in
-    (same ∙ told .0, (told .1 .0, (told .1 .1 .0, ((refl, refl), λ zero. rw same (told .1 .1 .1 .1 .1 .1 (ap (λ (r : Returned). r .number) (sym same) ∙ zero))))))
+    rw (sym (c .numbers-of .ensures)) at told
 
 pub racecheck-fill-spec : {M : Type 1} → statement M
 racecheck-fill-spec =

@@ -1,31 +1,37 @@
--- The lengths that the drill tells are within the buffers, so both texts can be lent on.
+-- The lengths of the pair are within the buffers, so both texts can be lent on.
 use mathlib.Core.Path.{sym}
 use native.Mathlib.Omega.{arith}
 use lib.Seq.{length-take-le}
 use borrow.Author.Needs.{needs}
-use Rattle.racedrill.proofs.Rooms.{made-fits}
+use Rattle.spec.specs.Program.{programLimit}
+use Rattle.spec.specs.Split.{splitLimit}
+use Rattle.racedrill.proofs.Pairs.{shown-within}
 use Rattle.racedrill.proofs.run.Statement.{statement}
 use Rattle.racedrill.proofs.run.Tie as tie
+
+pair-of-requires : tie.Need-pair-of-requires
+unfolding programLimit splitLimit
+pair-of-requires c κs = search needs
 
 array-share-prefix-program : tie.Need-array-share-prefix-program
 array-share-prefix-program c =
     let call = c .before .before .before .before .before in
-    omega (arith, call .drill .kept, made-fits _ _ _ _ _ _ _ (c .before .x .given .1) (call .drill .ensures .0) .0)
+    omega (arith, call .pair-of .kept, shown-within _ _ _ _ (c .before .x .given .1) (call .pair-of .ensures) .0)
 
 slice-aggregate-make-both : tie.Need-slice-aggregate-make-both
 slice-aggregate-make-both c =
     let call = c .before .before .before .before .before .before in
-    sym (length-take-le _ _ (omega (arith, call .drill .kept, made-fits _ _ _ _ _ _ _ (c .before .before .x .given .1) (call .drill .ensures .0) .0)))
+    sym (length-take-le _ _ (omega (arith, call .pair-of .kept, shown-within _ _ _ _ (c .before .before .x .given .1) (call .pair-of .ensures) .0)))
 
 array-share-prefix-split : tie.Need-array-share-prefix-split
 array-share-prefix-split c =
     let call = c .before .before .before .before .before .before in
-    omega (arith, call .drill .kept, made-fits _ _ _ _ _ _ _ (c .before .before .x .given .1) (call .drill .ensures .0) .1)
+    omega (arith, call .pair-of .kept, shown-within _ _ _ _ (c .before .before .x .given .1) (call .pair-of .ensures) .1)
 
 slice-aggregate-make-both-2 : tie.Need-slice-aggregate-make-both-2
 slice-aggregate-make-both-2 c =
     let call = c .before .before .before .before .before .before .before in
-    sym (length-take-le _ _ (omega (arith, call .drill .kept, made-fits _ _ _ _ _ _ _ (c .before .before .before .x .given .1) (call .drill .ensures .0) .1)))
+    sym (length-take-le _ _ (omega (arith, call .pair-of .kept, shown-within _ _ _ _ (c .before .before .before .x .given .1) (call .pair-of .ensures) .1)))
 
 pub run-spec : {M : Type 1} → statement M
 run-spec =
@@ -33,10 +39,7 @@ run-spec =
     (tie.spec
     (λ c. search needs)
     (λ c. search needs)
-    (λ c κs. search needs)
-    (λ c. search needs)
-    (λ c. search needs)
-    (λ c κs. search needs)
+    pair-of-requires
     (λ c. search needs)
     (λ c. search needs)
     array-share-prefix-program
@@ -47,5 +50,11 @@ run-spec =
     (λ c κs. search needs)
     (λ c κs. search needs)
     (λ c κs. search needs)
+    (λ c. search needs)
+    (λ c. search needs)
+    (λ c. search needs)
+    (λ c κs. search needs)
+    (λ c κs. search needs)
+    (λ c. search needs)
     (λ c. search needs)
     (λ c. search needs))

@@ -1,0 +1,75 @@
+-- From what filling tells to what is written.
+use mathlib.Core.Path.{_≡_, sym, ap, _∙_}
+use mathlib.Core.Path.{subst as along}
+use mathlib.Core.List.{List}
+use Prim.Native.Nat.{ℕ, _≤_}
+use native.Mathlib.Omega.{arith}
+use lib.ListN.{length, take, drop, length-take}
+use lib.Seq.{take-append-seam}
+use Rattle.spec.specs.Reading.{Out, stop, on}
+use Rattle.spec.specs.Split.{splitLimit}
+use Rattle.spec.specs.Workspace.{workspaceSize}
+use Rattle.spec.specs.Verdict.{four, returned}
+use Rattle.spec.specs.declared.Returned.{Returned}
+use Rattle.spec.specs.declared.Answer.the-variants.{Refuse}
+use Rattle.spec.specs.declared.Refusal.{Refusal}
+use Rattle.numbers.proofs.Refusals.{refusal-number}
+use Rattle.writer.specs.Buffer.{Written}
+use Rattle.writer.proofs.Buffer.{overwrite-front}
+use Rattle.report.specs.Line.{refusalLine, answerLine, lineOf}
+use Rattle.report.specs.declared.Outcome.the-variants.{Answered}
+use Rattle.filling.specs.Answer.{fill, numbersOf, bufferAfter}
+use Rattle.fill.specs.Numbers.{numbered}
+use Rattle.fill.specs.Stages.{Tells}
+use Rattle.fill.specs.declared.Filled.{Filled}
+use Rattle.fill.specs.declared.Filled.the-variants as filled
+use Rattle.fill.proofs.Promises.{begins}
+use Rattle.racefill.specs.Output.{outputOf, InFront}
+
+-- in a work space and a buffer of the lengths that are wanted
+pub same-fill : {room buffer : ℕ} (p s : List ℕ) → room ≡ workspaceSize → buffer ≡ splitLimit → fill room buffer p s ≡ fill workspaceSize splitLimit p s
+same-fill p s enough fits = λ i. fill (enough i) (fits i) p s
+
+-- a text in front, by its length
+front : {text : List ℕ} {n : ℕ} (buffer : List ℕ) → n ≡ length text → take n buffer ≡ text → InFront text n buffer
+front {n = n} buffer e h = record { within = omega (arith, length-take n buffer, ap length h, e); are = h }
+
+-- ------------------------------------------------------------------ a sheet
+
+text-length : (o : Out (List ℕ)) (text : List ℕ) → o ≡ on text → numbersOf o .line ≡ length text
+unfolding numbersOf four
+text-length o text e = rw e
+
+pub sheet-in-front : {n : ℕ} (room : ℕ) (p s before after : List ℕ) (f : Filled) {o : Out (List ℕ)} → fill room (length before) p s ≡ o
+    → numbered f ≡ numbersOf (fill room (length before) p s) → after ≡ bufferAfter (fill room (length before) p s) before
+    → f ≡ filled.Written n → InFront (outputOf o) n after
+unfolding numbered four outputOf
+sheet-in-front {n} room p s before after f same numbers buffer is =
+    let told : Tells (fill room (length before) p s) before after f = record { numbers = numbers; buffer = buffer } in
+    let zero : numbered f .number ≡ 0 = rw is in
+    let line : numbered f .line ≡ n = rw is in
+    let B = begins room p s before after f told zero in
+    let long = sym line ∙ ap (λ (r : Returned). r .line) (told .numbers) ∙ text-length _ (B .text) (B .is) in
+    rw (sym same ∙ B .is) (front after long (along (λ (m : ℕ). take m after ≡ B .text) line (B .taken)))
+
+-- ------------------------------------------------------------------ a refusal
+
+refusal-output : (o : Out (List ℕ)) (r : Refusal) → returned (Refuse r) ≡ numbersOf o → lineOf (Answered (Refuse r)) ≡ outputOf o
+unfolding numbersOf outputOf lineOf answerLine four
+refusal-output (stop q) r e = ap refusalLine e
+refusal-output (on t) r e = absurd (omega (arith, refusal-number r, ap (λ (n : Returned). n .number) e))
+
+-- a line of at most 51 bytes
+line-in-front : {line : List ℕ} {n : ℕ} (before after : List ℕ) → Written before after 0 line n → n ≤ 51 → 51 ≤ length before
+    → InFront line n after
+line-in-front {line} {n} before after w short room =
+    let long : n ≡ length line = omega (arith, w .moved, short) in
+    let is = w .holds ∙ overwrite-front before line (omega (arith, long, short, room)) in
+    front after long (rw (long, is) (take-append-seam line (drop (length line) before)))
+
+pub refusal-in-front : {n : ℕ} {r : Refusal} (o : Out (List ℕ)) (before after : List ℕ) (f : Filled) {o′ : Out (List ℕ)} → o ≡ o′ → numbered f ≡ numbersOf o
+    → f ≡ filled.Refused r → Written before after 0 (lineOf (Answered (Refuse r))) n → n ≤ 51 → 51 ≤ length before
+    → InFront (outputOf o′) n after
+unfolding numbered
+refusal-in-front {n} {r} o before after f same told is w short room =
+    along (λ (line : List ℕ). InFront line n after) (refusal-output o r (sym (ap numbered is) ∙ told) ∙ ap outputOf same) (line-in-front before after w short room)
