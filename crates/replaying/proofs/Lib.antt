@@ -1,0 +1,12 @@
+pub mod Lists
+pub mod Changes
+pub mod Proper
+pub mod Complete
+pub mod Records
+pub mod Races
+pub mod Lowest
+pub mod Pairs
+pub mod Way
+pub mod Answer
+pub mod Reported
+pub mod Examples
