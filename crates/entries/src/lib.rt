@@ -10,6 +10,11 @@ ghost use Rattle.spec.specs.Workspace.{workspaceSize, workspaceAfter};
 ghost use Rattle.spec.specs.declared.Answer.the-variants.{Accept};
 ghost use Rattle.practice.specs.Pair.{programOf, splitOf};
 ghost use Rattle.drill.specs.Answer.{numbered, answerOf, inFront};
+ghost use Rattle.soundness.specs.SafeText.{SafeText};
+ghost use Rattle.replaying.specs.declared.FirstRace.the-variants.{None};
+ghost use Rattle.replaying.specs.Replay.{replaySpace, replay as replayed, numbersOf as endingNumbers};
+ghost use Rattle.replay.specs.Numbers.{raceNumbers, raceTold};
+ghost use Prim.Native.Nat.{_<_};
 ghost use Rattle.filling.specs.Answer.{fill as filling, numbersOf, bufferAfter};
 
 // The answer to a pair of texts: `check` of the crate `checker`.
@@ -100,4 +105,36 @@ pub extern "C" fn racecheck_fill(
             four.number
         }
     }
+}
+
+// The replay of a program and a trace: `replay` of the crate `replay`. Without a race, its three numbers are the largest of their kinds.
+#[no_mangle]
+pub extern "C" fn racecheck_replay(
+    program: &[u8],
+    trace: &[u8],
+    space: &mut [u32],
+    line: &mut u64,
+    steps: &mut u64,
+    state: &mut u64,
+    first: &mut u32,
+    second: &mut u32,
+) -> u32
+    ensures answer { λ n. ⌜ (n ≡ endingNumbers (replayed (length (now (space .entry))) (now (program .entry)) (now (trace .entry)) .ending) .number) × (now (line .exit) ≡ endingNumbers (replayed (length (now (space .entry))) (now (program .entry)) (now (trace .entry)) .ending) .line) ⌝ }
+    ensures report { λ n. ⌜ (now (steps .exit) ≡ replayed (length (now (space .entry))) (now (program .entry)) (now (trace .entry)) .report .steps) × (raceTold (now (state .exit)) (now (first .exit)) (now (second .exit)) ≡ raceNumbers (replayed (length (now (space .entry))) (now (program .entry)) (now (trace .entry)) .report .race)) ⌝ }
+    ensures unchanged { λ n. ⌜ (now (program .exit) ≡ now (program .entry)) × (now (trace .exit) ≡ now (trace .entry)) ⌝ }
+    ensures kept { λ n. ⌜ (length (now (space .entry)) < replaySpace → now (space .exit) ≡ now (space .entry)) ⌝ }
+    ensures safe { λ n. ⌜ (SafeText (now (program .entry)) → raceTold (now (state .exit)) (now (first .exit)) (now (second .exit)) ≡ raceNumbers None) ⌝ }
+{
+    let r = replay::replay(program, trace, space);
+    let ending = r.ending;
+    let report = r.report;
+    let race = report.race;
+    let four = replay::ending_numbers(ending);
+    let pair = replay::race_numbers(race);
+    *line = four.line as u64;
+    *steps = report.steps as u64;
+    *state = pair.state as u64;
+    *first = pair.first;
+    *second = pair.second;
+    four.number
 }

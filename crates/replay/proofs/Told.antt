@@ -1,0 +1,47 @@
+-- An ending and a race in numbers, case by case.
+use Prim.Native.Nat.{ℕ}
+use mathlib.Core.Path.{_≡_, refl, sym, _∙_, ap}
+use Rattle.spec.specs.Verdict.{returned}
+use Rattle.spec.specs.declared.Answer.the-variants.{Refuse}
+use Rattle.spec.specs.declared.Refusal.{Refusal}
+use Rattle.spec.specs.declared.Returned.{Returned}
+use Rattle.replaying.specs.declared.Ending.{Ending}
+use Rattle.replaying.specs.declared.Ending.the-variants.{Done, Refused, TraceForm, NoStep, PastLimit}
+use Rattle.replaying.specs.declared.FirstRace.{FirstRace}
+use Rattle.replaying.specs.declared.FirstRace.the-variants.{None, Found}
+use Rattle.replaying.specs.declared.Numbers.{Numbers}
+use Rattle.replaying.specs.Replay.{lineNumbers, sheetNumbers, numbersOf}
+use Rattle.replay.specs.Numbers.{raceTold, raceNumbers}
+
+pub no-race-told : (race : FirstRace) → race ≡ None → raceTold 18446744073709551615 4294967295 4294967295 ≡ raceNumbers race
+unfolding raceNumbers
+no-race-told race e = rw e refl
+
+pub race-told : (race : FirstRace) (n i j : ℕ) → race ≡ Found n i j → raceTold n i j ≡ raceNumbers race
+unfolding raceNumbers
+race-told race n i j e = rw e refl
+
+pub sheet-told : (r : Refusal) (n : Returned) (line : ℕ) → n ≡ returned (Refuse r) → line ≡ n .line →
+    record { number = n .number; line = line; condition = n .condition; location = n .location } ≡ numbersOf (Refused r)
+unfolding numbersOf sheetNumbers
+sheet-told r n line e l = rw l (ap sheetNumbers e)
+
+module _ (e : Ending) (n : Numbers) where
+  pub done-told : e ≡ Done → n ≡ lineNumbers 0 0 → n ≡ numbersOf e
+  unfolding numbersOf
+  done-told h q = rw h q
+
+  pub refused-told : (r : Refusal) → e ≡ Refused r → n ≡ numbersOf (Refused r) → n ≡ numbersOf e
+  refused-told r h q = rw h q
+
+  pub form-told : (k : ℕ) → e ≡ TraceForm k → n ≡ lineNumbers 46 k → n ≡ numbersOf e
+  unfolding numbersOf
+  form-told k h q = rw h q
+
+  pub no-step-told : (k : ℕ) → e ≡ NoStep k → n ≡ lineNumbers 47 k → n ≡ numbersOf e
+  unfolding numbersOf
+  no-step-told k h q = rw h q
+
+  pub past-limit-told : (k : ℕ) → e ≡ PastLimit k → n ≡ lineNumbers 48 k → n ≡ numbersOf e
+  unfolding numbersOf
+  past-limit-told k h q = rw h q
