@@ -13,9 +13,9 @@ use Rattle.spec.specs.WellFormed.{WellFormedProgram}
 use Rattle.spec.proofs.Tests.{both-true}
 use Rattle.calculus.specs.Expression.{Redex}
 use Rattle.replaying.specs.Trace.{TraceLine}
-use Rattle.replaying.specs.Run.{Kind, cells, locks, rwlocks, semaphores, identifiers, Effect, effect, oneMore, threadLimit, thingLimit, withinLimits}
+use Rattle.replaying.specs.Run.{Kind, cells, locks, rwlocks, semaphores, identifiers, Effect, effect, thingsAfter, oneMore, threadLimit, thingLimit, withinLimits}
 use Rattle.machine.specs.State.{Machine, startMachine}
-use Rattle.machine.specs.Replay.{Replay, startReplay, countMade, stepped, within}
+use Rattle.machine.specs.Replay.{Replay, startReplay, stepped, within}
 use Rattle.machine.specs.Counted.{total, Counted}
 use Rattle.machine.proofs.After.{After, goes, made, spawned, joined}
 use Rattle.machine.proofs.Stepped.{step-taken}
@@ -32,13 +32,13 @@ one-more-in-all identifiers things = omega arith
 
 -- A name for each thing made.
 names-grow : (M N : Machine) (i tid : ℕ) (w : Redex) (things : Kind → ℕ) → M .next ≡ suc (total things) → After M i tid w N →
-    N .next ≡ suc (total (countMade (effect w) things))
-unfolding countMade
-names-grow M N i tid w things h (goes names b e u ok) = h ∙ ap (λ (f : Effect). suc (total (countMade f things))) (sym e)
+    N .next ≡ suc (total (thingsAfter (effect w) things))
+unfolding thingsAfter
+names-grow M N i tid w things h (goes names b e u ok) = h ∙ ap (λ (f : Effect). suc (total (thingsAfter f things))) (sym e)
 names-grow M N i tid w things h (made k new b e ok) =
-    ap suc (h ∙ sym (one-more-in-all k things)) ∙ ap (λ (f : Effect). suc (total (countMade f things))) (sym e)
-names-grow M N i tid w things h (spawned n b b′ e ok ok′) = h ∙ ap (λ (f : Effect). suc (total (countMade f things))) (sym e)
-names-grow M N i tid w things h (joined n j u b e named found there ok) = h ∙ ap (λ (f : Effect). suc (total (countMade f things))) (sym e)
+    ap suc (h ∙ sym (one-more-in-all k things)) ∙ ap (λ (f : Effect). suc (total (thingsAfter f things))) (sym e)
+names-grow M N i tid w things h (spawned n b b′ e ok ok′) = h ∙ ap (λ (f : Effect). suc (total (thingsAfter f things))) (sym e)
+names-grow M N i tid w things h (joined n j u b e named found there ok) = h ∙ ap (λ (f : Effect). suc (total (thingsAfter f things))) (sym e)
 
 pub stepped-counted : (R R′ : Replay) (l : TraceLine) → Counted R → stepped R l ≡ some R′ → within R′ ≡ true → Counted R′
 stepped-counted R R′ l C q limited =
@@ -47,7 +47,7 @@ stepped-counted R R′ l C q limited =
     let named = names-grow (R .machine) (S .machine) (l .thread) (D .thread .tid) (D .word) (R .things) (C .named) (D .after) in
     subst Counted (S .is) (record {
       kept = step-kept (R .machine) (l .thread) (S .part) (S .machine) (C .kept) (S .moves);
-      named = named ∙ ap (λ (x : Redex). suc (total (countMade (effect x) (R .things)))) (S .word-is);
+      named = named ∙ ap (λ (x : Redex). suc (total (thingsAfter (effect x) (R .things)))) (S .word-is);
       limited = ap within (S .is) ∙ limited;
     })
 

@@ -22,7 +22,7 @@ use Rattle.machine.proofs.Closing.{substitute-hidden, substitute-closed
 use Rattle.machine.proofs.Decoding.{return-keeps, enter-keeps, run-part-keeps, word-of-decoded, plug-decoded}
 use Rattle.machine.proofs.Agreeing.{fill-agree}
 use Rattle.machine.proofs.Places.{LiveAt, live-at, live-set, live-join, live-append, rank-set}
-use Rattle.machine.proofs.Joining.{Lowest, lowest-found, joiner-is-another, no-join}
+use Rattle.machine.proofs.Joining.{JoinableAt, lowest-found, joiner-is-another, no-join}
 
 ask : {A : Type 0} (o : Option A) (f : A → Option State) (g : A → Option Machine) → ((a : A) → f a ≡ Option·map decodeState (g a)) →
     (o >>= f) ≡ Option·map decodeState (o >>= g)
@@ -94,7 +94,7 @@ module _ (M : Machine) (i tid : ℕ) (σ : Env) (w : Word) (K : List Frame) (her
   joinedAt p = withoutThread p (becomes (decodeState M) m thread (M .names) zeroExp)
 
   -- The thread that is joined leaves the calculus, and is marked in the machine. The one that joins is at a word, so it is another.
-  joined-leaves : (n j : ℕ) (L : Lowest n (M .threads) j) →
+  joined-leaves : (n j : ℕ) (L : JoinableAt n (M .threads) j) →
       joinedAt (rank (M .threads) j) ≡ decodeState (markJoined j (L .thread) (gives M i tid σ K (M .names) zeroValue))
   joined-leaves n j L = state-is (M .names) (
       ap (λ (l : List Thread). remove l (rank ts j)) (threads-go-on (return σ zeroValue K) zeroExp (return-keeps σ zeroValue K))

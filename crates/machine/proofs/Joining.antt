@@ -43,29 +43,29 @@ joinable-tells n t h =
     let (v, q) = done-tells (t .control) d in
     record { not-joined = not-true (t .joined) j; same = eqb-true (t .tid) n e; result = v; finished = q }
 
--- What is found can be joined.
-pub record Lowest (n : ℕ) (ts : List MachineThread) (j : ℕ) : Type 0 where
+-- The thread at that place can be joined. What is found is such a place; that it is the lowest is told by lowest-is-first, in Books.
+pub record JoinableAt (n : ℕ) (ts : List MachineThread) (j : ℕ) : Type 0 where
   pub thread : MachineThread
   pub there : getElem? ts j ≡ some thread
   pub can : Joinable n thread
 
-found-past : (b : Bool) (n : ℕ) (t : MachineThread) (ts : List MachineThread) (j : ℕ) → joinable n t ≡ b → ((k : ℕ) → lowest n ts ≡ some k → Lowest n ts k) →
-    firstOr b (lowest n ts) ≡ some j → Lowest n (t ∷ ts) j
-found-past true n t ts j e rec h = subst (Lowest n (t ∷ ts)) (some-injective h) (record { thread = t; there = refl; can = joinable-tells n t e })
+found-past : (b : Bool) (n : ℕ) (t : MachineThread) (ts : List MachineThread) (j : ℕ) → joinable n t ≡ b → ((k : ℕ) → lowest n ts ≡ some k → JoinableAt n ts k) →
+    firstOr b (lowest n ts) ≡ some j → JoinableAt n (t ∷ ts) j
+found-past true n t ts j e rec h = subst (JoinableAt n (t ∷ ts)) (some-injective h) (record { thread = t; there = refl; can = joinable-tells n t e })
 found-past false n t ts j e rec h = later (lowest n ts) refl h
   where
-    later : (o : Option ℕ) → lowest n ts ≡ o → Option·map suc o ≡ some j → Lowest n (t ∷ ts) j
+    later : (o : Option ℕ) → lowest n ts ≡ o → Option·map suc o ≡ some j → JoinableAt n (t ∷ ts) j
     later none q z = none-is-not-some z
-    later (some k) q z = let r = rec k q in subst (Lowest n (t ∷ ts)) (some-injective z) (record { thread = r .thread; there = r .there; can = r .can })
+    later (some k) q z = let r = rec k q in subst (JoinableAt n (t ∷ ts)) (some-injective z) (record { thread = r .thread; there = r .there; can = r .can })
 
-pub lowest-found : (n : ℕ) (ts : List MachineThread) (j : ℕ) → lowest n ts ≡ some j → Lowest n ts j
+pub lowest-found : (n : ℕ) (ts : List MachineThread) (j : ℕ) → lowest n ts ≡ some j → JoinableAt n ts j
 unfolding lowest
 lowest-found n [] j h = none-is-not-some h
 lowest-found n (t ∷ ts) j h = found-past (joinable n t) n t ts j refl (lowest-found n ts) h
 
 -- A thread that joins has not finished, so it is another.
 pub joiner-is-another : (n : ℕ) (ts : List MachineThread) (i j : ℕ) (t : MachineThread) → getElem? ts i ≡ some t → isDone (t .control) ≡ false →
-    Lowest n ts j → i ≢ j
+    JoinableAt n ts j → i ≢ j
 joiner-is-another n ts i j t there running-one L q =
     true-is-not-false (sym (ap isDone (L .can .finished))
     ∙ ap (λ (u : MachineThread). isDone (u .control)) (some-injective (sym (L .there) ∙ ap (getElem? ts) (sym q) ∙ there))

@@ -13,14 +13,14 @@ use Rattle.calculus.proofs.Laws.Maps.{some-injective, none-is-not-some}
 use Rattle.calculus.proofs.Laws.Places.{set-elsewhere}
 use Rattle.replaying.specs.Trace.{TraceLine}
 use Rattle.replaying.specs.Run as run
-use Rattle.replaying.specs.Run.{Run, placeOf, partChosen, finishedFor, nameIn, moveOf, Effect, plain, spawns, joins, makes, effect, after, ofUnary}
+use Rattle.replaying.specs.Run.{Run, placeOf, partChosen, finishedFor, nameIn, moveOf, Effect, plain, spawns, joins, makes, effect, numbersAfter, threadsAfter, thingsAfter, nextAfter, after, ofUnary}
 use Rattle.replaying.proofs.Lists.{length-set, length-append}
 use Rattle.machine.specs.Environment.{Env}
 use Rattle.machine.specs.Control.{Frame, Word, redex, Control, done, at, nextRedex}
 use Rattle.machine.specs.State.{MachineThread, Machine, decodeThread, live, rank, decodeState, running}
 use Rattle.machine.specs.Step.{isDone, goesTo, addThread, asJoined, markJoined, lowest, step}
 use Rattle.machine.specs.Kept.{ThreadKept, Kept}
-use Rattle.machine.specs.Replay.{Replay, wordOf as wordOfThread, countMade, stepped}
+use Rattle.machine.specs.Replay.{Replay, wordOf as wordOfThread, stepped}
 use Rattle.machine.proofs.Questions.{asks}
 use Rattle.machine.proofs.Decoding.{word-of-decoded}
 use Rattle.replaying.proofs.Lists.{every-at}
@@ -53,7 +53,7 @@ module _ (R : Replay) (i : ℕ) (t : MachineThread) (h : LiveAt (R .machine .thr
   m = moveOf (runOf R) (rank ts i) w c
 
   abbrev Same : Effect → Machine → Type 0
-  Same e N = after (runOf R) m e (decodeState N) ≡ runOf (record { machine = N; things = countMade e (R .things) })
+  Same e N = after (runOf R) m e (decodeState N) ≡ runOf (record { machine = N; things = thingsAfter e (R .things) })
 
   -- Of a join, the move lists the lowest finished thread.
   lists-lowest : (n j : ℕ) → nameIn w ≡ some n → lowest n ts ≡ some j → m .finished ≡ rank ts j
@@ -82,7 +82,7 @@ module _ (R : Replay) (i : ℕ) (t : MachineThread) (h : LiveAt (R .machine .thr
   with-effect N e is same = subst (λ (f : Effect). Same f N) (sym is) same
 
   books-alike : {N : Machine} → After M i (t .tid) w N → Same (effect w) N
-  unfolding after countMade
+  unfolding after numbersAfter threadsAfter thingsAfter nextAfter
   books-alike (goes names b e u ok) =
       with-effect (goesTo M i (t .tid) names b) plain e (same-run refl (sym (numbers-stay b)) (sym (length-set ts i (moved b))) refl refl)
   books-alike (made k new b e ok) =
@@ -113,7 +113,7 @@ module _ (R : Replay) (kept : Kept (R .machine)) (l : TraceLine) where
 
   abbrev onMachine : Redex → Option Replay
   onMachine w = partChosen w (l .choice) >>= λ c. step here (l .thread) c >>= λ N.
-      some (record { machine = N; things = countMade (effect w) (R .things) })
+      some (record { machine = N; things = thingsAfter (effect w) (R .things) })
 
   module _ (t : MachineThread) (h : LiveAt (here .threads) (l .thread) t) where
     lowest-listed : (w : Redex) (c : Part) → nextRedex (t .control) ≡ some w → (σ : Env) (x : Word) (K : List Frame) → t .control ≡ at σ x K →
@@ -134,7 +134,7 @@ module _ (R : Replay) (kept : Kept (R .machine)) (l : TraceLine) where
       where
         stepped-alike : (c : Part) (o : Option Machine) → step here (l .thread) c ≡ o →
             (Option·map decodeState o >>= λ s. some (after (runOf R) (moveOf (runOf R) (rank (here .threads) (l .thread)) w c) (effect w) s))
-            ≡ Option·map runOf (o >>= λ N. some (record { machine = N; things = countMade (effect w) (R .things) }))
+            ≡ Option·map runOf (o >>= λ N. some (record { machine = N; things = thingsAfter (effect w) (R .things) }))
         stepped-alike c none q = refl
         stepped-alike c (some N) q = ap some (books-alike R (l .thread) t h w next c (moved-after c N q))
           where

@@ -7,12 +7,12 @@ use Rattle.calculus.specs.Expression.{Redex}
 use Rattle.calculus.specs.State.{Part}
 use Rattle.calculus.proofs.Laws.Maps.{some-injective, none-is-not-some, bind-is-some}
 use Rattle.replaying.specs.Trace.{TraceLine}
-use Rattle.replaying.specs.Run.{partChosen, effect}
+use Rattle.replaying.specs.Run.{partChosen, effect, thingsAfter}
 use Rattle.machine.specs.Control.{nextRedex}
 use Rattle.machine.specs.State.{MachineThread, Machine}
 use Rattle.machine.specs.Step.{step}
 use Rattle.machine.specs.Kept.{Kept}
-use Rattle.machine.specs.Replay.{Replay, wordOf, countMade, stepped}
+use Rattle.machine.specs.Replay.{Replay, wordOf, stepped}
 use Rattle.machine.proofs.After.{Moved, step-moves}
 
 pub record Stepped (R R′ : Replay) (l : TraceLine) : Type 0 where
@@ -22,7 +22,7 @@ pub record Stepped (R R′ : Replay) (l : TraceLine) : Type 0 where
   pub moves : step (R .machine) (l .thread) part ≡ some machine
   pub moved : Moved (R .machine) (l .thread) machine
   pub word-is : moved .word ≡ word
-  pub is : record { machine = machine; things = countMade (effect word) (R .things) } ≡ R′
+  pub is : record { machine = machine; things = thingsAfter (effect word) (R .things) } ≡ R′
 
 word-is-next : (t : MachineThread) (b : Bool) (w : Redex) → wordOf b t ≡ some w → nextRedex (t .control) ≡ some w
 unfolding wordOf
@@ -49,5 +49,5 @@ step-taken R R′ l kept q =
       moves = moves;
       moved = D;
       word-is = same-word {N = N} l D t there (word-is-next t (t .joined) w next);
-      is = some-injective {a = record { machine = N; things = countMade (effect w) (R .things) }} q₄;
+      is = some-injective {a = record { machine = N; things = thingsAfter (effect w) (R .things) }} q₄;
     }

@@ -12,7 +12,7 @@ use Rattle.spec.specs.Program.{Program}
 use Rattle.calculus.specs.Expression.{Redex}
 use Rattle.calculus.specs.Reduction.{_>>=_}
 use Rattle.replaying.specs.Trace.{TraceLine, traceLine}
-use Rattle.replaying.specs.Run.{Kind, partChosen, Effect, plain, spawns, joins, makes, effect, oneMore, withinLimits}
+use Rattle.replaying.specs.Run.{Kind, partChosen, effect, thingsAfter, withinLimits}
 use Rattle.replaying.specs.LowestPair.{Uses, usesOf, lowestAmong}
 use Rattle.replaying.specs.Replay.{Outcome, badForm, noStep, pastLimit, step as stepOf, onLine, raceOr, refused, judged}
 use Rattle.replaying.specs.declared.Status.{Status}
@@ -47,19 +47,13 @@ unfoldable pub wordOf : (joined : Bool) → MachineThread → Option Redex
 wordOf true t = none
 wordOf false t = nextRedex (t .control)
 
-unfoldable pub countMade : Effect → (Kind → ℕ) → Kind → ℕ
-countMade plain things = things
-countMade spawns things = things
-countMade joins things = things
-countMade (makes k) things = oneMore k things
-
 unfoldable pub stepped : Replay → TraceLine → Option Replay
 stepped R l = do
   t ← getElem? (R .machine .threads) (l .thread)
   w ← wordOf (t .joined) t
   c ← partChosen w (l .choice)
   M ← step (R .machine) (l .thread) c
-  some (record { machine = M; things = countMade (effect w) (R .things) })
+  some (record { machine = M; things = thingsAfter (effect w) (R .things) })
 
 unfoldable pub within : Replay → Bool
 within R = withinLimits (length (R .machine .threads)) (R .things)

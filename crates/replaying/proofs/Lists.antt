@@ -28,6 +28,14 @@ length-remove (x ∷ xs) [] i h = absurd (omega (arith, h))
 length-remove (x ∷ xs) (y ∷ ys) zero h = omega (arith, h)
 length-remove (x ∷ xs) (y ∷ ys) (suc i) h = ap suc (length-remove xs ys i (omega (arith, h)))
 
+-- Of two lists of one length, one has an element wherever the other has.
+pub there-in-both : {A B : Type 0} {y : B} (xs : List A) (ys : List B) (p : ℕ) → length xs ≡ length ys → getElem? ys p ≡ some y →
+    (x : A) × (getElem? xs p ≡ some x)
+there-in-both xs [] p e h = none-is-not-some h
+there-in-both [] (y ∷ ys) p e h = absurd (omega (arith, e))
+there-in-both (x ∷ xs) (y ∷ ys) zero e h = (x, refl)
+there-in-both (x ∷ xs) (y ∷ ys) (suc p) e h = there-in-both xs ys p (omega (arith, e)) h
+
 -- ---- Lists whose every element has a property
 
 pub every-at : {A : Type 0} (P : A → Type 0) (xs : List A) (i : ℕ) (x : A) → Every P xs → getElem? xs i ≡ some x → P x

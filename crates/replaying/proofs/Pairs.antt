@@ -17,7 +17,8 @@ use Rattle.calculus.proofs.Laws.Maps.{some-injective, none-is-not-some}
 use Rattle.replaying.specs.Run.{Run}
 use Rattle.replaying.specs.LowestPair.{Uses, usesOf, clash, usesIn, lowestAmong, lowestPair}
 use Rattle.replaying.specs.Claim.{Meet, writesIt, readsIt, Racing}
-use Rattle.replaying.proofs.Proper.{Rising, Proper}
+use Rattle.replaying.proofs.Proper.{Proper}
+use Rattle.replaying.proofs.Order.{order, same-place, place-order, not-below}
 use Rattle.replaying.proofs.Races.{clash-tells, clash-is-told, meet-is-race}
 use Rattle.replaying.proofs.Lowest.{LowestPlaces, lowest-found, no-pair-clashes}
 
@@ -48,25 +49,11 @@ placed names [] (u ∷ ts) p t e h = absurd (omega (arith, e))
 placed names (n ∷ ns) (u ∷ ts) zero t e h = (n, refl, ap (λ (z : Thread). some (n, usesOf names (wordOf (nextWord (z .body))))) (some-injective h))
 placed names (n ∷ ns) (u ∷ ts) (suc p) t e h = placed names ns ts p t (omega (arith, e)) h
 
--- ---- Numbers and places
-
-rising-above : (low high : ℕ) (ns : List ℕ) (p i : ℕ) → Rising low ns high → getElem? ns p ≡ some i → low ≤ i
-rising-above low high [] p i r h = none-is-not-some h
-rising-above low high (n ∷ ns) zero i r h = let first = r .0 in let same = some-injective h in omega (arith, first, same)
-rising-above low high (n ∷ ns) (suc p) i r h = let first = r .0 in let above = rising-above (suc n) high ns p i (r .1) h in omega (arith, first, above)
-
-rising-order : (low high : ℕ) (ns : List ℕ) (p q i j : ℕ) → Rising low ns high → p < q → getElem? ns p ≡ some i → getElem? ns q ≡ some j → i < j
-rising-order low high [] p q i j r l h k = none-is-not-some h
-rising-order low high (n ∷ ns) p zero i j r l h k = absurd (omega (arith, l))
-rising-order low high (n ∷ ns) zero (suc q) i j r l h k =
-    let same = some-injective h in let above = rising-above (suc n) high ns q j (r .1) k in omega (arith, same, above)
-rising-order low high (n ∷ ns) (suc p) (suc q) i j r l h k = rising-order (suc n) high ns p q i j (r .1) (omega (arith, l)) h k
-
 -- ---- Threads that race
 
 pub racing-is-race : {r : Run} {i j : ℕ} → i ≢ j → Racing r i j → Race (r .state)
 racing-is-race {r} apart R = meet-is-race (r .state) (R .p) (R .q) (R .t) (R .u)
-    (λ e. apart (some-injective (sym (R .iPlaced) ∙ ap (getElem? (r .numbers)) e ∙ R .jPlaced))) (R .tThere) (R .uThere) (R .meet)
+    (λ e. apart (some-injective (sym (R .iThere .number) ∙ ap (getElem? (r .numbers)) e ∙ R .jThere .number))) (R .iThere .thread) (R .jThere .thread) (R .meet)
 
 module _ (r : Run) where
   abbrev us : List (ℕ × Uses)
@@ -81,10 +68,8 @@ module _ (r : Run) where
         q = q;
         t = A .thread;
         u = B .thread;
-        iPlaced = A .number-there;
-        jPlaced = B .number-there;
-        tThere = A .thread-there;
-        uThere = B .thread-there;
+        iThere = record { number = A .number-there; thread = A .thread-there };
+        jThere = record { number = B .number-there; thread = B .thread-there };
         meet = clash-tells (r .state) (A .thread) (B .thread) ((λ z. clash (sym (A .its-uses) z) (sym (B .its-uses) z)) ∙ c);
       }
 
@@ -123,40 +108,18 @@ module _ (r : Run) where
         by-order (yes l) = clash-at p q t u l a b (writesIt n w x) free
         by-order (no l) = clash-at q p u t (omega (arith, l, d)) b a (turned x) free
 
-    order : (p q i j : ℕ) → p < q → getElem? (r .numbers) p ≡ some i → getElem? (r .numbers) q ≡ some j → i < j
-    order p q i j = rising-order 0 (r .threads) (r .numbers) p q i j (proper .rising)
-
-    same-place : (p q i j : ℕ) → p ≡ q → getElem? (r .numbers) p ≡ some i → getElem? (r .numbers) q ≡ some j → i ≡ j
-    same-place p q i j e h k = some-injective (sym h ∙ ap (getElem? (r .numbers)) e ∙ k)
-
-    -- Numbers are in the order of their places.
-    place-order : (p q i j : ℕ) → i < j → getElem? (r .numbers) p ≡ some i → getElem? (r .numbers) q ≡ some j → p < q
-    place-order p q i j l h k = by-cases (decLt p q) (decLt q p)
-      where
-        by-cases : Dec (p < q) → Dec (q < p) → p < q
-        by-cases (yes b) c = b
-        by-cases (no b) (yes c) = let back = order q p j i c k h in absurd (omega (arith, l, back))
-        by-cases (no b) (no c) = let same = same-place p q i j (omega (arith, b, c)) h k in absurd (omega (arith, l, same))
-
-    not-below : (p q i j : ℕ) → p ≤ q → getElem? (r .numbers) p ≡ some i → getElem? (r .numbers) q ≡ some j → i ≤ j
-    not-below p q i j l h k = by-cases (decLt p q)
-      where
-        by-cases : Dec (p < q) → i ≤ j
-        by-cases (yes b) = let less = order p q i j b h k in omega (arith, less)
-        by-cases (no b) = let same = same-place p q i j (omega (arith, l, b)) h k in omega (arith, same)
-
     -- A pair that races is told by its places, so the lowest places have the lowest numbers.
     lowest-number : (i j : ℕ) (L : LowestPlaces us i j) → getElem? (r .numbers) (L .p) ≡ some i → getElem? (r .numbers) (L .q) ≡ some j →
         (i′ j′ : ℕ) → i′ < j′ → Racing r i′ j′ → (i < i′) ⊎ ((i ≡ i′) × (j ≤ j′))
     lowest-number i j L i-there j-there i′ j′ l R =
-        let (k, _, s) = placed (r .state .names) (r .numbers) (r .state .threads) (R .p) (R .t) (proper .counted) (R .tThere) in
-        let (m, _, z) = placed (r .state .names) (r .numbers) (r .state .threads) (R .q) (R .u) (proper .counted) (R .uThere) in
-        by-places (L .least (R .p) (R .q) _ _ (place-order (R .p) (R .q) i′ j′ l (R .iPlaced) (R .jPlaced)) s z
+        let (k, _, s) = placed (r .state .names) (r .numbers) (r .state .threads) (R .p) (R .t) (proper .counted) (R .iThere .thread) in
+        let (m, _, z) = placed (r .state .names) (r .numbers) (r .state .threads) (R .q) (R .u) (proper .counted) (R .jThere .thread) in
+        by-places (L .least (R .p) (R .q) _ _ (place-order r proper (R .p) (R .q) i′ j′ l (R .iThere .number) (R .jThere .number)) s z
         (clash-is-told (r .state) (R .t) (R .u) (R .meet)))
       where
         by-places : (L .p < R .p) ⊎ ((L .p ≡ R .p) × (L .q ≤ R .q)) → (i < i′) ⊎ ((i ≡ i′) × (j ≤ j′))
-        by-places (inl b) = inl (order (L .p) (R .p) i i′ b i-there (R .iPlaced))
-        by-places (inr (e, b)) = inr (same-place (L .p) (R .p) i i′ e i-there (R .iPlaced), not-below (L .q) (R .q) j j′ b j-there (R .jPlaced))
+        by-places (inl b) = inl (order r proper (L .p) (R .p) i i′ b i-there (R .iThere .number))
+        by-places (inr (e, b)) = inr (same-place r proper (L .p) (R .p) i i′ e i-there (R .iThere .number), not-below r proper (L .q) (R .q) j j′ b j-there (R .jThere .number))
 
     -- The pair that is found races, the smaller thread first, and is the lowest of those that do.
     pub pair-is-lowest : (i j : ℕ) → lowestPair r ≡ some (i, j) → (i < j) × Racing r i j
@@ -165,4 +128,4 @@ module _ (r : Run) where
     pair-is-lowest i j h =
         let L = lowest-found us i j h in
         let R = places-race (L .p) (L .q) i j (L .a) (L .b) (L .p-there) (L .q-there) (L .clashes) in
-        (order (L .p) (L .q) i j (L .before) (R .iPlaced) (R .jPlaced), R, lowest-number i j L (R .iPlaced) (R .jPlaced))
+        (order r proper (L .p) (L .q) i j (L .before) (R .iThere .number) (R .jThere .number), R, lowest-number i j L (R .iThere .number) (R .jThere .number))

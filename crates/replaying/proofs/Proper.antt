@@ -7,10 +7,10 @@ use native.Mathlib.Omega.{arith}
 use lib.ListN.{getElem?, set, length}
 use Rattle.calculus.specs.Expression.{Exp, Redex, nextWord}
 use Rattle.calculus.specs.State.{unused, identifier, Thread, State, Part, Move, remove}
-use Rattle.calculus.specs.Reduction.{wordOf, reduce, startState}
+use Rattle.calculus.specs.Reduction.{wordOf, reduct, reduce, startState}
 use Rattle.calculus.proofs.Laws.Maps.{some-injective, bind-is-some, bind-goes-on, update-other}
 use Rattle.replaying.specs.Trace.{TraceLine}
-use Rattle.replaying.specs.Run.{Run, startRun, placeOf, partChosen, moveOf, Effect, effect, after, stepped}
+use Rattle.replaying.specs.Run.{Run, startRun, placeOf, partChosen, moveOf, Effect, effect, numbersAfter, threadsAfter, nextAfter, after, stepped}
 use Rattle.replaying.proofs.Lists.{length-set, length-append, length-remove}
 use Rattle.replaying.proofs.Changes.{Changed, goes, made, spawned, joined, reduct-changes}
 
@@ -51,11 +51,20 @@ step-taken r r′ l q =
       is-after = some-injective {a = after r (moveOf r p w c) (effect w) s} q₅;
     }
 
+pub state-after : {r r′ : Run} {l : TraceLine} (S : Stepped r l r′) → S .state ≡ r′ .state
+unfolding after
+state-after S = ap (λ (z : Run). z .state) (S .is-after)
+
+-- The word that is next reduces.
+pub step-reduces : {r r′ : Run} {l : TraceLine} (S : Stepped r l r′) →
+    reduct (r .state) (moveOf r (S .place) (S .word) (S .part)) (S .thread) (S .word) ≡ some (S .state)
+unfolding reduce moveOf
+step-reduces {r} S = bind-goes-on (wordOf (nextWord (S .thread .body))) _ (S .is-next)
+    (bind-goes-on (getElem? (r .state .threads) (S .place)) _ (S .thread-there) (S .reduces))
+
 pub step-changes : {r r′ : Run} {l : TraceLine} (S : Stepped r l r′) →
     Changed (r .state) (moveOf r (S .place) (S .word) (S .part)) (effect (S .word)) (S .state)
-unfolding reduce moveOf
-step-changes {r} S = reduct-changes (r .state) _ (S .thread) (S .word) (S .state)
-    (bind-goes-on (wordOf (nextWord (S .thread .body))) _ (S .is-next) (bind-goes-on (getElem? (r .state .threads) (S .place)) _ (S .thread-there) (S .reduces)))
+step-changes {r} S = reduct-changes (r .state) _ (S .thread) (S .word) (S .state) (step-reduces S)
 
 -- ---- Numbers that rise
 
@@ -97,7 +106,7 @@ module _ (r : Run) (proper : Proper r) (m : Move) (fresh : m .fresh ≡ r .next)
   set-counted t = proper .counted ∙ sym (length-set (r .state .threads) (m .thread) t)
 
   change-keeps-proper : {e : Effect} {s : State} → Changed (r .state) m e s → Proper (after r m e s)
-  unfolding after
+  unfolding after numbersAfter threadsAfter nextAfter
   change-keeps-proper (goes names t stays) = record {
     unused-from = λ n h. stays n (proper .unused-from n h);
     counted = set-counted t;

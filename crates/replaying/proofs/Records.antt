@@ -12,7 +12,7 @@ use Rattle.calculus.proofs.Laws.Maps.{none-is-not-some}
 use Rattle.replaying.specs.Trace.{TraceLine}
 use Rattle.replaying.specs.Run.{Run, placeOf, hasFinished, recordFor, recordOf, stepped}
 use Rattle.replaying.specs.declared.Status.the-variants.{Running}
-use Rattle.replaying.proofs.Proper.{step-taken}
+use Rattle.replaying.proofs.Proper.{Stepped, step-taken}
 
 word-has-not-finished : {w : Redex} (q : Next) → wordOf q ≡ some w → hasFinished q ≡ false
 unfolding hasFinished
@@ -20,10 +20,9 @@ word-has-not-finished (isValue v) h = none-is-not-some h
 word-has-not-finished (atVariable x) h = refl
 word-has-not-finished (atWord w) h = refl
 
-pub step-is-of-running : (r r′ : Run) (l : TraceLine) → stepped r l ≡ some r′ → recordOf r (l .thread) ≡ some Running
+pub step-is-of-running : {r r′ : Run} {l : TraceLine} → Stepped r l r′ → recordOf r (l .thread) ≡ some Running
 unfolding recordOf recordFor
-step-is-of-running r r′ l q =
-    let S = step-taken r r′ l q in
+step-is-of-running {r} {l = l} S =
     let there : (placeOf (l .thread) (r .numbers) >>= getElem? (r .state .threads)) ≡ some (S .thread) =
     ap (λ (o : Option ℕ). o >>= getElem? (r .state .threads)) (S .there) ∙ S .thread-there in
     ap (recordFor (ltb (l .thread) (r .threads))) there ∙ rw (word-has-not-finished (nextWord (S .thread .body)) (S .is-next)) refl
@@ -34,4 +33,4 @@ others-do-not-step r l h = by-cases (stepped r l) refl
   where
     by-cases : (o : Option Run) → stepped r l ≡ o → o ≡ none
     by-cases none e = refl
-    by-cases (some r′) e = absurd (h (step-is-of-running r r′ l e))
+    by-cases (some r′) e = absurd (h (step-is-of-running (step-taken r r′ l e)))

@@ -1,16 +1,13 @@
 -- What a report says: the first state with a race of the calculus, with its lowest pair; and none for a job that is accepted.
-use Prim.Native.Nat.{ℕ, _+_}
+use Prim.Native.Nat.{ℕ}
 use mathlib.Core.Path.{_≡_, refl, sym, _∙_, ap, subst}
-use mathlib.Core.Logic.{_≢_}
-use mathlib.Core.Option.{Option, none}
+use mathlib.Core.Option.{none}
 use mathlib.Core.List.{List, [], _∷_}
 use native.Mathlib.Omega.{arith}
 use lib.ListN.{getElem?}
 use Rattle.spec.specs.Text.{Line, lines}
 use Rattle.spec.specs.Reading.{Out, stop, on}
 use Rattle.spec.specs.Program.{Program}
-use Rattle.spec.specs.Verdict.{verdict}
-use Rattle.spec.specs.declared.Answer.the-variants.{Accept}
 use Rattle.spec.proofs.Outcomes.{on-injective}
 use Rattle.spec.proofs.WellFormed.{well-formed-program}
 use Rattle.calculus.specs.Expression.{Exp}
@@ -22,17 +19,16 @@ use Rattle.soundness.specs.SafeText.{SafeText}
 use Rattle.soundness.proofs.Safety.{accepted-is-safe}
 use Rattle.replaying.specs.Run.{Run, startRun}
 use Rattle.replaying.specs.LowestPair.{usesIn, clashing, pairOr, lowestAmong, lowestPair}
-use Rattle.replaying.specs.Replay.{way, reported, refused, judged, played, replay}
-use Rattle.replaying.specs.Claim.{runsAlong, lastRun, Stops, allDone, notALine, cannotStep, tooMany, NoReduction, FirstRaceIs}
-use Rattle.replaying.specs.declared.Ending.{Ending}
-use Rattle.replaying.specs.declared.Ending.the-variants.{Done, Refused, TraceForm, NoStep, PastLimit}
+use Rattle.replaying.specs.Replay.{way, reported, refused, judged, played, replay, numbersOf}
+use Rattle.replaying.specs.Claim.{runsAlong, runsOf, Follows, FirstRaceIs, RaceTold, TraceFollowed, RaceFound, NoneIfAccepted}
+use Rattle.replaying.specs.declared.FirstRace.{FirstRace}
 use Rattle.replaying.specs.declared.FirstRace.the-variants.{None, Found}
 use Rattle.replaying.proofs.Lists.{every-at, every-both}
 use Rattle.replaying.specs.declared.Replayed.{Replayed}
 use Rattle.replaying.proofs.Proper.{Proper, start-is-proper}
-use Rattle.replaying.proofs.Complete.{no-step-exactly}
 use Rattle.replaying.proofs.Pairs.{racing-is-race, race-free-has-no-pair, no-pair-is-race-free, pair-is-lowest}
-use Rattle.replaying.proofs.Way.{OnTheWay, way-is-proper, way-is-in-runs, race-is-first, no-race-is-none, none-is-no-race, way-stops}
+use Rattle.replaying.proofs.Way.{OnTheWay, way-is-proper, way-is-in-runs, race-is-first, no-race-is-none, none-is-no-race}
+use Rattle.replaying.proofs.Followed.{replay-follows}
 use Rattle.replaying.proofs.Answer.{judged-well-formed}
 
 -- ---- The race of a report
@@ -41,7 +37,7 @@ module _ (r : Run) (proper : Proper r) (ls : List Line) where
   all-proper : Every Proper (runsAlong r ls)
   all-proper = (proper, way-is-proper ls 1 r proper)
 
-  pub reported-race-is-first : (n i j : ℕ) → reported r (way 1 r ls) .report .race ≡ Found n i j → FirstRaceIs (runsAlong r ls) n i j
+  reported-race-is-first : (n i j : ℕ) → reported r (way 1 r ls) .report .race ≡ Found n i j → FirstRaceIs (runsAlong r ls) n i j
   unfolding reported
   reported-race-is-first n i j h =
       let F = race-is-first (runsAlong r ls) 0 n i j h in
@@ -59,36 +55,19 @@ module _ (r : Run) (proper : Proper r) (ls : List Line) where
         before = λ m x l there. no-pair-is-race-free x (every-at Proper (runsAlong r ls) m x all-proper there) (F .before m x (omega (arith, l, index-is)) there);
       }
 
-  pub no-race-reported-is-none : reported r (way 1 r ls) .report .race ≡ None → Every (λ x. RaceFree (x .state)) (runsAlong r ls)
+  no-race-reported-is-none : reported r (way 1 r ls) .report .race ≡ None → Every (λ x. RaceFree (x .state)) (runsAlong r ls)
   unfolding reported
   no-race-reported-is-none h = every-both (runsAlong r ls) no-pair-is-race-free all-proper (no-race-is-none (runsAlong r ls) 0 h)
 
--- ---- 47
-
-tag : Ending → ℕ
-tag Done = 0
-tag (Refused r) = 1
-tag (TraceForm k) = 2
-tag (NoStep k) = 3
-tag (PastLimit k) = 4
-
-ending-clash : {A : Type 0} {e : Ending} (k : ℕ) → tag e ≢ tag (NoStep k) → e ≡ NoStep k → A
-ending-clash k apart h = absurd (apart (ap tag h))
-
-stops-with-47 : {r : Run} {o : Option Line} {k n : ℕ} {e : Ending} → Proper r → Stops r o n e → e ≡ NoStep k → NoReduction r o
-unfolding tag
-stops-with-47 {k = k} proper allDone h = ending-clash k (λ z. omega (arith, z)) h
-stops-with-47 {k = k} proper (notALine l q) h = ending-clash k (λ z. omega (arith, z)) h
-stops-with-47 {r} proper (cannotStep l t shown q) h = record { line = l; there = refl; read = t; shown = shown; noneReduces = no-step-exactly r t proper .0 q }
-stops-with-47 {k = k} proper (tooMany l t r′ shown q w) h = ending-clash k (λ z. omega (arith, z)) h
-
-last-proper : (r : Run) (rs : List Run) → Proper r → Every Proper rs → Proper (lastRun r rs)
-last-proper r [] proper all = proper
-last-proper r (r′ ∷ rs) proper all = last-proper r′ rs (all .0) (all .1)
+  pub reported-race-is-told : RaceTold (runsAlong r ls) (reported r (way 1 r ls) .report .race)
+  reported-race-is-told = by-cases (reported r (way 1 r ls) .report .race) refl
+    where
+      by-cases : (f : FirstRace) → reported r (way 1 r ls) .report .race ≡ f → RaceTold (runsAlong r ls) f
+      by-cases None h = no-race-reported-is-none h
+      by-cases (Found n i j) h = reported-race-is-first n i j h
 
 -- ---- Of two texts
 
--- The report's race is the first of the program that the text lists, and the trace stops for what its next line is.
 module _ (room : ℕ) (programText traceText : List ℕ) (P : Program) (read : judged room programText ≡ on P) where
   abbrev start : Run
   start = startRun (erase (P .root))
@@ -97,29 +76,26 @@ module _ (room : ℕ) (programText traceText : List ℕ) (P : Program) (read : j
   unfolding replay played
   played-as = ap (λ (o : Out Program). played o (lines traceText)) read
 
-  pub race-is-the-first : (n i j : ℕ) → replay room programText traceText .report .race ≡ Found n i j →
-      FirstRaceIs (runsAlong start (lines traceText)) n i j
-  race-is-the-first n i j h =
-      reported-race-is-first start (start-is-proper (erase (P .root))) (lines traceText) n i j (sym (ap (λ (a : Replayed). a .report .race) played-as) ∙ h)
-
-  pub no-race-is-in-no-state : replay room programText traceText .report .race ≡ None →
-      Every (λ x. RaceFree (x .state)) (runsAlong start (lines traceText))
-  no-race-is-in-no-state h =
-      no-race-reported-is-none start (start-is-proper (erase (P .root))) (lines traceText) (sym (ap (λ (a : Replayed). a .report .race) played-as) ∙ h)
-
-  pub stops-at-next-line : Stops (lastRun start (way 1 start (lines traceText) .0))
-      (getElem? (lines traceText) (replay room programText traceText .report .steps))
-      (1 + replay room programText traceText .report .steps) (replay room programText traceText .ending)
+  follows : Follows (runsOf P traceText) (lines traceText) (replay room programText traceText .report .steps)
+      (numbersOf (replay room programText traceText .ending))
   unfolding reported
-  stops-at-next-line =
-      subst (λ (a : Replayed). Stops (lastRun start (way 1 start (lines traceText) .0)) (getElem? (lines traceText) (a .report .steps))
-      (1 + a .report .steps) (a .ending)) (sym played-as) (way-stops (lines traceText) 1 start)
+  follows =
+      subst (λ (a : Replayed). Follows (runsOf P traceText) (lines traceText) (a .report .steps) (numbersOf (a .ending))) (sym played-as)
+      (replay-follows (erase (P .root)) (lines traceText))
 
-  pub ends-with-47-for-no-reduction : (k : ℕ) → replay room programText traceText .ending ≡ NoStep k →
-      NoReduction (lastRun start (way 1 start (lines traceText) .0)) (getElem? (lines traceText) (replay room programText traceText .report .steps))
-  ends-with-47-for-no-reduction k h =
-      let proper = start-is-proper (erase (P .root)) in
-      stops-with-47 (last-proper start (way 1 start (lines traceText) .0) proper (way-is-proper (lines traceText) 1 start proper)) stops-at-next-line h
+  race-is-first-of-all : RaceTold (runsOf P traceText) (replay room programText traceText .report .race)
+  race-is-first-of-all =
+      subst (λ (a : Replayed). RaceTold (runsOf P traceText) (a .report .race)) (sym played-as)
+      (reported-race-is-told start (start-is-proper (erase (P .root))) (lines traceText))
+
+-- A replay does the language's steps and stops for what the next line is, and its race is the first.
+module _ (room : ℕ) (programText traceText : List ℕ) where
+  pub trace-is-followed : TraceFollowed room programText traceText (replay room programText traceText .report .steps)
+      (numbersOf (replay room programText traceText .ending))
+  trace-is-followed = follows room programText traceText
+
+  pub race-is-found : RaceFound room programText traceText (replay room programText traceText .report .race)
+  race-is-found = race-is-first-of-all room programText traceText
 
 -- The start has one thread, so no race is ever found in state 0.
 pub start-has-no-pair : (e : Exp) → lowestPair (startRun e) ≡ none
@@ -162,6 +138,6 @@ safe-text-has-no-race programText safe room traceText = by-cases (judged room pr
         on-injective (sym (well-formed-program programText (judged-well-formed room programText q)) ∙ well-formed-program programText (safe .program)) in
         safe-replay-has-no-race (erase (P .root)) (subst (λ (Q : Program). Safe (erase (Q .root))) (sym same) (safe .holds)) (lines traceText)
 
-pub accepted-replay-has-no-race : (room : ℕ) (programText splitText : List ℕ) → verdict room programText splitText ≡ Accept →
-    (space : ℕ) (traceText : List ℕ) → replay space programText traceText .report .race ≡ None
-accepted-replay-has-no-race room programText splitText h = safe-text-has-no-race programText (accepted-is-safe room programText splitText h)
+pub none-if-accepted : (room : ℕ) (programText traceText : List ℕ) → NoneIfAccepted programText (replay room programText traceText .report .race)
+none-if-accepted room programText traceText space splitText h =
+    safe-text-has-no-race programText (accepted-is-safe space programText splitText h) room traceText

@@ -5,7 +5,7 @@ use mathlib.Core.Bool.{Bool, true, false}
 use mathlib.Core.Option.{Option, none, some}
 use mathlib.Core.List.{List, [], _∷_}
 use native.Mathlib.Omega.{arith}
-use lib.ListN.{getElem?, length}
+use lib.ListN.{getElem?}
 use Rattle.spec.specs.Choice.{if_then_else_}
 use Rattle.spec.specs.Text.{Line}
 use Rattle.calculus.specs.State.{State, Move}
@@ -13,54 +13,40 @@ use Rattle.calculus.specs.Reduction.{orElse, attempt, states}
 use Rattle.calculus.specs.Claim.{Every}
 use Rattle.calculus.proofs.Laws.Maps.{some-injective}
 use Rattle.replaying.specs.Trace.{TraceLine, traceLine}
-use Rattle.replaying.specs.Run.{Run, stepped, within}
+use Rattle.replaying.specs.Run.{Run, moveOf, stepped, within}
 use Rattle.replaying.specs.LowestPair.{lowestPair}
 use Rattle.replaying.specs.Replay.{pastLimit, step, limited, onLine, goesOn, way, raceOr, firstRace}
-use Rattle.replaying.specs.Claim.{lastRun, Stops, allDone, notALine, cannotStep, tooMany}
 use Rattle.replaying.specs.declared.Ending.{Ending}
+use Rattle.replaying.specs.declared.Ending.the-variants.{TraceForm, NoStep, PastLimit}
 use Rattle.replaying.specs.declared.FirstRace.the-variants.{None, Found}
-use Rattle.replaying.proofs.Proper.{Proper, step-keeps-proper}
-use Rattle.replaying.proofs.Complete.{reduction-when-step}
+use Rattle.replaying.proofs.Proper.{Proper, step-taken, state-after, step-keeps-proper}
 
--- ---- Where a trace stops
+-- ---- A line
 
--- What the lines from l on come to: they stop at once, or l is a step.
+-- What the lines from l on come to: they stop at once, for one of three reasons, or l is a step.
 pub data Goes (k : ℕ) (r : Run) (l : Line) (rest : Run → List Run × Ending) : List Run × Ending → Type 0 where
-  stops : {e : Ending} → Stops r (some l) k e → Goes k r l rest ([], e)
-  steps : (t : TraceLine) (r′ : Run) → stepped r t ≡ some r′ → Goes k r l rest (r′ ∷ rest r′ .0, rest r′ .1)
+  isNoLine : traceLine l ≡ none → Goes k r l rest ([], TraceForm k)
+  isNoStep : (t : TraceLine) → traceLine l ≡ some t → stepped r t ≡ none → Goes k r l rest ([], NoStep k)
+  isPastLimit : (t : TraceLine) (r′ : Run) → traceLine l ≡ some t → stepped r t ≡ some r′ → within r′ ≡ false → Goes k r l rest ([], PastLimit k)
+  isStep : (t : TraceLine) (r′ : Run) → traceLine l ≡ some t → stepped r t ≡ some r′ → within r′ ≡ true →
+      Goes k r l rest (r′ ∷ rest r′ .0, rest r′ .1)
 
-line-goes : (k : ℕ) (r : Run) (l : Line) (rest : Run → List Run × Ending) → Goes k r l rest (goesOn k (onLine (stepped r) within (traceLine l)) rest)
+pub line-goes : (k : ℕ) (r : Run) (l : Line) (rest : Run → List Run × Ending) → Goes k r l rest (goesOn k (onLine (stepped r) within (traceLine l)) rest)
 unfolding goesOn onLine limited
 line-goes k r l rest = by-line (traceLine l) refl
   where
     by-limit : (t : TraceLine) (r′ : Run) (b : Bool) → traceLine l ≡ some t → stepped r t ≡ some r′ → within r′ ≡ b →
         Goes k r l rest (goesOn k (if b then step r′ else pastLimit) rest)
-    by-limit t r′ true q e w = steps t r′ e
-    by-limit t r′ false q e w = stops (tooMany l t r′ q e w)
+    by-limit t r′ true q e w = isStep t r′ q e w
+    by-limit t r′ false q e w = isPastLimit t r′ q e w
 
     by-step : (t : TraceLine) (o : Option Run) → traceLine l ≡ some t → stepped r t ≡ o → Goes k r l rest (goesOn k (limited within o) rest)
-    by-step t none q e = stops (cannotStep l t q e)
+    by-step t none q e = isNoStep t q e
     by-step t (some r′) q e = by-limit t r′ (within r′) q e refl
 
     by-line : (o : Option TraceLine) → traceLine l ≡ o → Goes k r l rest (goesOn k (onLine (stepped r) within o) rest)
-    by-line none q = stops (notALine l q)
+    by-line none q = isNoLine q
     by-line (some t) q = by-step t (stepped r t) q refl
-
-abbrev StopsAfter : (k : ℕ) → Run → List Line → List Run × Ending → Type 0
-StopsAfter k r ls w = Stops (lastRun r (w .0)) (getElem? ls (length (w .0))) (k + length (w .0)) (w .1)
-
--- After n steps the trace stops at line n + 1, counted from line k, for what that line is in the run then reached.
-pub way-stops : (ls : List Line) (k : ℕ) (r : Run) → StopsAfter k r ls (way k r ls)
-unfolding way
-way-stops [] k r = allDone
-way-stops (l ∷ ls) k r = by-line _ (line-goes k r l (λ r′. way (k + 1) r′ ls)) (way-stops ls (k + 1))
-  where
-    by-line : (w : List Run × Ending) → Goes k r l (λ r′. way (k + 1) r′ ls) w → ((r′ : Run) → StopsAfter (k + 1) r′ ls (way (k + 1) r′ ls)) →
-        StopsAfter k r (l ∷ ls) w
-    by-line w (stops {e} h) later = subst (λ (n : ℕ). Stops r (some l) n e) (omega arith) h
-    by-line w (steps t r′ e) later =
-        let rest = way (k + 1) r′ ls in
-        subst (λ (n : ℕ). Stops (lastRun r′ (rest .0)) (getElem? ls (length (rest .0))) n (rest .1)) (omega arith) (later r′)
 
 -- ---- What every step keeps, every run on the way has
 
@@ -71,8 +57,10 @@ module _ (P : Run → Type 0) (keeps : (r r′ : Run) (l : TraceLine) → P r �
   every-on-the-way (l ∷ ls) k r h = by-line _ (line-goes k r l (λ r′. way (k + 1) r′ ls)) (every-on-the-way ls (k + 1))
     where
       by-line : (w : List Run × Ending) → Goes k r l (λ r′. way (k + 1) r′ ls) w → ((r′ : Run) → P r′ → Every P (way (k + 1) r′ ls .0)) → Every P (w .0)
-      by-line w (stops e) later = tt
-      by-line w (steps t r′ e) later = let h′ = keeps r r′ t h e in (h′, later r′ h′)
+      by-line w (isNoLine q) later = tt
+      by-line w (isNoStep t q e) later = tt
+      by-line w (isPastLimit t r′ q e b) later = tt
+      by-line w (isStep t r′ q e b) later = let h′ = keeps r r′ t h e in (h′, later r′ h′)
 
 pub way-is-proper : (ls : List Line) (k : ℕ) (r : Run) → Proper r → Every Proper (way k r ls .0)
 way-is-proper ls k r proper = every-on-the-way Proper step-keeps-proper ls k r proper
@@ -85,7 +73,8 @@ OnTheWay P s = (ms : List Move) → Every P (states ms s)
 
 step-is-attempt : (r r′ : Run) (l : TraceLine) → stepped r l ≡ some r′ → (m : Move) × (attempt (r .state) m ≡ r′ .state)
 unfolding attempt
-step-is-attempt r r′ l q = let (m, _, reduces) = reduction-when-step r r′ l q in (m, ap (λ (o : Option State). orElse o (r .state)) reduces)
+step-is-attempt r r′ l q =
+    let S = step-taken r r′ l q in (moveOf r (S .place) (S .word) (S .part), ap (λ (o : Option State). orElse o (r .state)) (S .reduces) ∙ state-after S)
 
 on-the-way-keeps : (P : State → Type 0) (r r′ : Run) (l : TraceLine) → OnTheWay P (r .state) → stepped r l ≡ some r′ → OnTheWay P (r′ .state)
 unfolding states

@@ -140,12 +140,17 @@ lineRows =
 unfoldable pub spawning : String
 spawning = "P,6|let,0|newtid,0|while,0|spawn,0|var,0|int,0|"
 
+-- each joined before the next is spawned: joined threads count too
+unfoldable pub joining : String
+joining = "P,9|let,0|newtid,0|while,0|let,1|spawn,0|var,0|int,0|join,0|var,0|"
+
 unfoldable pub limitRows : List Recorded
 limitRows =
     (spawning along times 64 "0,0|" is whole after 64 and None)
     ∷ (spawning along times 65 "0,0|" is lineNumbers 48 65 after 64 and None)
     ∷ (spawning along (times 64 "0,0|" ++ "0,1|") is lineNumbers 47 65 after 64 and None)
     ∷ (spawning along (times 64 "0,0|" ++ "0|") is lineNumbers 46 65 after 64 and None)
+    ∷ (joining along times 120 "0,0|" is lineNumbers 48 95 after 94 and None)
     ∷ []
 
 -- things in a loop, four steps each: 64 of a kind go, the 65th does not
@@ -158,15 +163,25 @@ thingRows =
     ∷ ("P,2|while,0|newtid,0|" along times 259 "0,0|" is lineNumbers 48 259 after 258 and None)
     ∷ []
 
+-- a lock and a semaphore in a loop, six steps: "each kind counted by itself"
+unfoldable pub twoKinds : String
+twoKinds = "P,4|while,0|let,0|newlock,0|newsem,0|"
+
+unfoldable pub kindRows : List Recorded
+kindRows =
+    (twoKinds along times 386 "0,0|" is whole after 386 and None)
+    ∷ (twoKinds along times 387 "0,0|" is lineNumbers 48 387 after 386 and None)
+    ∷ []
+
 -- ------------------------------------------------------------------ joins
 
 -- two finished threads with one identifier
 unfoldable pub twoFinished : String
 twoFinished = "P,12|let,0|newtid,0|let,1|spawn,0|var,0|int,0|let,2|spawn,0|var,0|int,0|join,0|var,0|"
 
-unfoldable pub runsOf : Out Program → List Line → List Run
-runsOf (stop r) ls = []
-runsOf (on P) ls = way 1 (startRun (erase (P .root))) ls .0
+unfoldable pub stepsFrom : Out Program → List Line → List Run
+stepsFrom (stop r) ls = []
+stepsFrom (on P) ls = way 1 (startRun (erase (P .root))) ls .0
 
 -- the records of threads 0 to 3 in the last state of a replay
 unfoldable pub lastRecords : List Run → List (Option Status)
@@ -175,7 +190,7 @@ lastRecords (r ∷ []) = map (recordOf r) (0 ∷ 1 ∷ 2 ∷ 3 ∷ [])
 lastRecords (r ∷ r′ ∷ rs) = lastRecords (r′ ∷ rs)
 
 unfoldable pub recordsAlong : (program trace : String) → List (Option Status)
-recordsAlong p t = lastRecords (runsOf (judged replaySpace (barred p)) (lines (barred t)))
+recordsAlong p t = lastRecords (stepsFrom (judged replaySpace (barred p)) (lines (barred t)))
 
 -- before the join and after it
 unfoldable pub joinRecords : List (List (Option Status))

@@ -22,7 +22,7 @@ pub data Kind : Type 0 where
 
 -- A run so far: `numbers` has the numbers of the threads that are in the state, place by place, and none of a joined one; then how many
 -- threads there have been, and things of each kind, "each kind counted by itself over the whole run"; the names used are those below
--- `next`. The calls of request (xiv) would stand here: those that are open, thread by thread.
+-- `next`.
 pub record Run : Type 0 where
   pub state : State
   pub numbers : List ℕ
@@ -46,10 +46,11 @@ hasFinished (isValue v) = true
 hasFinished (atVariable x) = false
 hasFinished (atWord w) = false
 
--- "Each thread has one record: running, finished or joined"; there is none of a thread that is not there
-unfoldable pub recordFor : (was : Bool) → Option Thread → Option Status
-recordFor was (some t) = some (if hasFinished (nextWord (t .body)) then Finished else Running)
-recordFor was none = if was then some Joined else none
+-- "Each thread has one record: running, finished or joined"; a thread that has begun and is not in the state is joined, and of one that has
+-- not begun there is no record
+unfoldable pub recordFor : (begun : Bool) → Option Thread → Option Status
+recordFor begun (some t) = some (if hasFinished (nextWord (t .body)) then Finished else Running)
+recordFor begun none = if begun then some Joined else none
 
 unfoldable pub recordOf : Run → (i : ℕ) → Option Status
 recordOf r i = recordFor (ltb i (r .threads)) (placeOf i (r .numbers) >>= getElem? (r .state .threads))
@@ -76,11 +77,13 @@ partChosen (writeRedex v w) c = noChoice c
 partChosen (unaryRedex o v) c = noChoice c
 partChosen (makeRedex o) c = noChoice c
 
--- "Among several finished threads a join takes the lowest": the first place of a finished thread with the identifier n
+-- "Among several finished threads a join takes the lowest": the first place of a finished thread with the identifier n. If there is none, this
+-- is the place behind the last, where no thread stands, and the join is no reduction.
 unfoldable pub lowestFinished : (n : ℕ) → List Thread → ℕ
 lowestFinished n [] = 0
 lowestFinished n (t ∷ ts) = if eqb (t .tid) n && hasFinished (nextWord (t .body)) then 0 else suc (lowestFinished n ts)
 
+-- a join of no name is no reduction, and every other word ignores the finished thread that a move lists
 unfoldable pub finishedFor : Option ℕ → List Thread → ℕ
 finishedFor none ts = 0
 finishedFor (some n) ts = lowestFinished n ts
@@ -108,6 +111,7 @@ moveOf r p w c = record { thread = p; part = c; finished = finishedFor (nameIn w
 pub data Effect : Type 0 where
   plain spawns joins : Effect
   makes : Kind → Effect
+  deriving Discrete as sameEffect
 
 unfoldable pub unaryEffect : Unary → Effect
 unaryEffect join = joins
@@ -134,32 +138,42 @@ effect (writeRedex v w) = plain
 effect (unaryRedex o v) = unaryEffect o
 effect (makeRedex o) = makes (kindMade o)
 
+-- a spawned thread stands last and its number is how many there were before it; a joined one is left out
+unfoldable pub numbersAfter : Run → Move → Effect → List ℕ
+numbersAfter r m plain = r .numbers
+numbersAfter r m spawns = r .numbers ++ (r .threads ∷ [])
+numbersAfter r m joins = remove (r .numbers) (m .finished)
+numbersAfter r m (makes k) = r .numbers
+
+unfoldable pub threadsAfter : Effect → (threads : ℕ) → ℕ
+threadsAfter plain n = n
+threadsAfter spawns n = suc n
+threadsAfter joins n = n
+threadsAfter (makes k) n = n
+
 unfoldable pub oneMore : Kind → (Kind → ℕ) → Kind → ℕ
 oneMore k things l = choose (sameKind l k) (suc (things l)) (things l)
 
+unfoldable pub thingsAfter : Effect → (things : Kind → ℕ) → Kind → ℕ
+thingsAfter plain things = things
+thingsAfter spawns things = things
+thingsAfter joins things = things
+thingsAfter (makes k) things = oneMore k things
+
+unfoldable pub nextAfter : Effect → (next : ℕ) → ℕ
+nextAfter plain n = n
+nextAfter spawns n = n
+nextAfter joins n = n
+nextAfter (makes k) n = suc n
+
 -- the run whose state is s after the move m
 unfoldable pub after : Run → Move → Effect → State → Run
-after r m plain s = record { state = s; numbers = r .numbers; threads = r .threads; things = r .things; next = r .next }
-after r m spawns s = record {
+after r m e s = record {
   state = s;
-  numbers = r .numbers ++ (r .threads ∷ []);
-  threads = suc (r .threads);
-  things = r .things;
-  next = r .next;
-}
-after r m joins s = record {
-  state = s;
-  numbers = remove (r .numbers) (m .finished);
-  threads = r .threads;
-  things = r .things;
-  next = r .next;
-}
-after r m (makes k) s = record {
-  state = s;
-  numbers = r .numbers;
-  threads = r .threads;
-  things = oneMore k (r .things);
-  next = suc (r .next);
+  numbers = numbersAfter r m e;
+  threads = threadsAfter e (r .threads);
+  things = thingsAfter e (r .things);
+  next = nextAfter e (r .next);
 }
 
 -- the run after "exactly the language's step", if thread i can take one with that choice

@@ -35,7 +35,7 @@ use Rattle.machine.specs.Control.{Frame, unaryWord, Control, done, at, return}
 use Rattle.machine.specs.State.{MachineThread, Machine, running}
 use Rattle.machine.specs.Step.{isDone, joinable, firstOr, lowest, zeroValue, asJoined, markJoined, gives}
 use Rattle.machine.specs.Replay.{Replay, within}
-use Rattle.machine.proofs.Joining.{Lowest, lowest-found, joiner-is-another}
+use Rattle.machine.proofs.Joining.{JoinableAt, lowest-found, joiner-is-another}
 use Rattle.simulation.proofs.Held.{Values, Frames}
 use Rattle.simulation.proofs.Turning.{same-all}
 use Rattle.simulation.proofs.Finding.{returns-word}
@@ -147,7 +147,7 @@ module _ (p s : List ℕ) (T : Threads) (R : Replay) (t tid : ℕ) (σ : Env) (K
   abbrev Joins : Option ℕ → Option Machine
   Joins o = o >>= λ j. getElem? (M .threads) j >>= λ u. some (markJoined j u (gives M t tid σ K (M .names) zeroValue))
 
-  joins-one : (j : ℕ) (L : Lowest n (M .threads) j) →
+  joins-one : (j : ℕ) (L : JoinableAt n (M .threads) j) →
       Answered p (limited within (some (record { machine = markJoined j (L .thread) (gives M t tid σ K (M .names) zeroValue); things = R .things }))) (givesZero p t (q .index) (joined T j, s))
   unfolding givesZero given afterAct actStep
   joins-one j L =

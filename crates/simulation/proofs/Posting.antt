@@ -14,12 +14,12 @@ use Rattle.calculus.specs.State.{Slot, unused, identifier, cell, aLock, semapho
 use Rattle.calculus.specs.Reduction.{nameOf, ifIdentifier, content, lockState, ifOpened, count, oneLess, rwState, insideAfter, made}
 use Rattle.calculus.proofs.Laws.Maps.{some-injective, none-is-not-some, bind-is-some}
 use Rattle.replaying.specs.Trace.{TraceLine}
-use Rattle.replaying.specs.Run.{partChosen, effect}
+use Rattle.replaying.specs.Run.{partChosen, effect, thingsAfter}
 use Rattle.machine.specs.Environment.{Env}
 use Rattle.machine.specs.Control.{Frame, Word, letWord, ifWord, whileWord, spawnWord, writeWord, unaryWord, makeWord, unrolledWord, againWord, Control, done, at}
 use Rattle.machine.specs.State.{MachineThread, Machine, startMachine}
 use Rattle.machine.specs.Step.{lowest, stepUnary, stepWord, stepControl, stepThread, step}
-use Rattle.machine.specs.Replay.{Replay, wordOf, countMade, stepped, startReplay}
+use Rattle.machine.specs.Replay.{Replay, wordOf, stepped, startReplay}
 use Rattle.simulation.proofs.Using.{Roomy}
 
 abbrev pub Within : (k : ℕ) → Slot → Type 0
@@ -131,7 +131,7 @@ stepped-counts k R R′ l h q =
     let (w, _, q₂) = bind-is-some (wordOf (t .joined) t) q₁ in
     let (c, _, q₃) = bind-is-some (partChosen w (l .choice)) q₂ in
     let (N, moves, q₄) = bind-is-some (step (R .machine) (l .thread) c) q₃ in
-    let z : record { machine = N; things = countMade (effect w) (R .things) } ≡ R′ = some-injective {a = record { machine = N; things = countMade (effect w) (R .things) }} q₄ in
+    let z : record { machine = N; things = thingsAfter (effect w) (R .things) } ≡ R′ = some-injective {a = record { machine = N; things = thingsAfter (effect w) (R .things) }} q₄ in
     subst (λ (x : Replay). CountsWithin (suc k) (x .machine .names)) z (step-counts k (R .machine) (l .thread) c N h moves)
 
 pub start-counts : (e : Expr) → CountsWithin 0 (startReplay e .machine .names)

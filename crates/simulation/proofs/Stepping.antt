@@ -41,14 +41,14 @@ use Rattle.engine.specs.Focuses.{focusAt}
 use Rattle.engine.specs.Words.{subject, operand, effected, wordUsed, actedBy, acted}
 use Rattle.engine.specs.Steps.{mayChoose, ending, actStep, afterAct, steppedFrom, stepped}
 use Rattle.replaying.specs.Trace.{TraceLine}
-use Rattle.replaying.specs.Run.{cells, kindMade, partOfIf, noChoice, partChosen, effect, unaryEffect}
+use Rattle.replaying.specs.Run.{cells, kindMade, partOfIf, noChoice, partChosen, effect, thingsAfter, unaryEffect}
 use Rattle.replaying.specs.Replay.{Outcome, limited}
 use Rattle.machine.specs.Environment.{Env}
 use Rattle.machine.specs.Control as machine
 use Rattle.machine.specs.Control.{Frame, letWord, ifWord, whileWord, spawnWord, writeWord, unaryWord, makeWord, unrolledWord, againWord, Control, done, at, redex, nextRedex}
 use Rattle.machine.specs.State.{MachineThread, Machine, running}
 use Rattle.machine.specs.Step.{step, stepUnary, stepWord}
-use Rattle.machine.specs.Replay.{Replay, wordOf, countMade, within, stepped as steppedOn}
+use Rattle.machine.specs.Replay.{Replay, wordOf, within, stepped as steppedOn}
 use Rattle.simulation.proofs.Held.{codeValue, partWord, makerWord, RowOf, Stands, Values, Frames, WordAt, placeOf, ControlAt}
 use Rattle.simulation.proofs.Holds.{SlotIs, stateOf, Holds}
 use Rattle.simulation.proofs.Proceeding.{place-below}
@@ -101,7 +101,7 @@ refuses p f a b c = rw (ne-eqb (suc c) 0 (λ e. omega (arith, e))) (go (eqb (suc
 module _ (p s : List ℕ) (T : Threads) (R : Replay) (t : ℕ) where
   -- what is left of a line once the word is known
   abbrev Line : Redex → (Part → Option Machine) → Option Part → Outcome Replay
-  Line w g o = limited within (o >>= λ part. g part >>= λ N. some (record { machine = N; things = countMade (effect w) (R .things) }))
+  Line w g o = limited within (o >>= λ part. g part >>= λ N. some (record { machine = N; things = thingsAfter (effect w) (R .things) }))
 
   stuck : Answered p (limited within none) (ending Stuck T, s)
   unfolding limited
@@ -208,7 +208,7 @@ module _ (p s : List ℕ) (T : Threads) (R : Replay) (t tid : ℕ) (σ : Env) (K
   roomy-value (name n) = roomy n
 
   -- a word with one part that uses what its part names
-  uses : (o : calculus.Unary) → Using o → isIf (shapeOf (ruleOf (codeOf (Unary (partWord o))))) ≡ false → countMade (unaryEffect o) (R .things) ≡ R .things →
+  uses : (o : calculus.Unary) → Using o → isIf (shapeOf (ruleOf (codeOf (Unary (partWord o))))) ≡ false → thingsAfter (unaryEffect o) (R .things) ≡ R .things →
       (q : Position) (v : Value) (f : Focus) → WordAt p s t f (unaryWord q o v) → Frames p s t (q .index) (continuation p (q .index)) K → There (unaryWord q o v) → (c : ℕ) → WordLine (unaryWord q o v) f c
   unfolding partChosen effect
   uses o u h same q v f (e, n, r) F there c =
@@ -232,7 +232,7 @@ module _ (p s : List ℕ) (T : Threads) (R : Replay) (t tid : ℕ) (σ : Env) (K
   maker-no-if (calculus.newrwlock N) = refl
 
   word-goes : (w : machine.Word) (f : Focus) → WordAt p s t f w → Frames p s t (placeOf p s t w) (continuation p (placeOf p s t w)) K → There w → (c : ℕ) → WordLine w f c
-  unfolding partChosen effect unaryEffect countMade isIf shapeOf ruleOf printed
+  unfolding partChosen effect unaryEffect thingsAfter isIf shapeOf ruleOf printed
   word-goes (letWord q x v e) f (z, r, S) F there c =
       subst (λ (g : Focus). WordLine (letWord q x v e) g c) (sym z)
       (plain p s T R t (redex σ (letWord q x v e)) (λ part. stepWord M t tid σ K part (letWord q x v e)) (readyAt (q .index) (codeValue v)) (λ c. refl) refl (no-if q (Binary Let) r refl)

@@ -16,11 +16,11 @@ use Rattle.lexer.specs.Numbers.{stored}
 use Rattle.threads.specs.declared.Threads.{Threads}
 use Rattle.engine.specs.Steps as engine
 use Rattle.replaying.specs.Trace.{TraceLine}
-use Rattle.replaying.specs.Run.{partOfIf, noChoice, partChosen, effect}
+use Rattle.replaying.specs.Run.{partOfIf, noChoice, partChosen, effect, thingsAfter}
 use Rattle.replaying.specs.Replay.{Outcome, limited}
 use Rattle.machine.specs.State.{MachineThread, Machine}
 use Rattle.machine.specs.Step.{step}
-use Rattle.machine.specs.Replay.{Replay, wordOf, countMade, stepped, within}
+use Rattle.machine.specs.Replay.{Replay, wordOf, stepped, within}
 use Rattle.simulation.proofs.Holds.{Holds}
 use Rattle.simulation.proofs.Moving.{Answered}
 use Rattle.simulation.proofs.Stepping.{step-simulated}
@@ -66,7 +66,7 @@ module _ (R : Replay) where
       wordOf (th .joined) th >>= λ w.
       f w >>= λ c.
       step (R .machine) t c >>= λ M.
-      some (record { machine = M; things = countMade (effect w) (R .things) })
+      some (record { machine = M; things = thingsAfter (effect w) (R .things) })
 
   choice-stored : (t c : ℕ) → stepped R (lineOf t (stored c)) ≡ stepped R (lineOf t c)
   unfolding stepped
