@@ -4,17 +4,18 @@ use drill::Drilled;
 use fill::Filled;
 use spec::Answer;
 ghost use mathlib.Core.Path.{_≡_};
-ghost use lib.ListN.{length, take};
+ghost use mathlib.Core.List.{List};
+ghost use lib.ListN.{length, take, drop};
 ghost use Rattle.spec.specs.Verdict.{verdict, returned, four};
 ghost use Rattle.spec.specs.Workspace.{workspaceSize, workspaceAfter};
 ghost use Rattle.spec.specs.declared.Answer.the-variants.{Accept};
 ghost use Rattle.practice.specs.Pair.{programOf, splitOf};
 ghost use Rattle.drill.specs.Answer.{numbered, answerOf, inFront};
-ghost use Rattle.soundness.specs.SafeText.{SafeText};
 ghost use Rattle.replaying.specs.declared.FirstRace.the-variants.{None};
-ghost use Rattle.replaying.specs.Replay.{replaySpace, replay as replayed, numbersOf as endingNumbers};
-ghost use Rattle.replay.specs.Numbers.{raceNumbers, raceTold};
-ghost use Prim.Native.Nat.{_<_};
+ghost use Rattle.replaying.specs.Replay.{replaySpace, replay as replayed, lineNumbers, numbersOf as endingNumbers};
+ghost use Rattle.replaying.specs.Claim.{TraceFollowed, RaceFound};
+ghost use Rattle.replay.specs.Numbers.{raceNumbers, raceTold, Stored};
+ghost use Prim.Native.Nat.{ℕ, _<_};
 ghost use Rattle.filling.specs.Answer.{fill as filling, numbersOf, bufferAfter};
 
 // The answer to a pair of texts: `check` of the crate `checker`.
@@ -107,7 +108,8 @@ pub extern "C" fn racecheck_fill(
     }
 }
 
-// The replay of a program and a trace: `replay` of the crate `replay`. Without a race, its three numbers are the largest of their kinds.
+// The replay of a program and a trace: `replay` of the crate `replay`. Without a race, the state and the two threads are the largest numbers
+// of their kinds.
 #[no_mangle]
 pub extern "C" fn racecheck_replay(
     program: &[u8],
@@ -123,7 +125,10 @@ pub extern "C" fn racecheck_replay(
     ensures report { λ n. ⌜ (now (steps .exit) ≡ replayed (length (now (space .entry))) (now (program .entry)) (now (trace .entry)) .report .steps) × (raceTold (now (state .exit)) (now (first .exit)) (now (second .exit)) ≡ raceNumbers (replayed (length (now (space .entry))) (now (program .entry)) (now (trace .entry)) .report .race)) ⌝ }
     ensures unchanged { λ n. ⌜ (now (program .exit) ≡ now (program .entry)) × (now (trace .exit) ≡ now (trace .entry)) ⌝ }
     ensures kept { λ n. ⌜ (length (now (space .entry)) < replaySpace → now (space .exit) ≡ now (space .entry)) ⌝ }
-    ensures safe { λ n. ⌜ (SafeText (now (program .entry)) → raceTold (now (state .exit)) (now (first .exit)) (now (second .exit)) ≡ raceNumbers None) ⌝ }
+    ensures free { λ n. ⌜ (length (now (space .exit)) ≡ length (now (space .entry))) × (drop replaySpace (now (space .exit)) ≡ drop replaySpace (now (space .entry))) ⌝ }
+    ensures stops { λ n. ⌜ TraceFollowed (length (now (space .entry))) (now (program .entry)) (now (trace .entry)) (now (steps .exit)) (lineNumbers n (now (line .exit))) ⌝ }
+    ensures first_race { λ n. ⌜ Stored (RaceFound (length (now (space .entry))) (now (program .entry)) (now (trace .entry))) (now (state .exit)) (now (first .exit)) (now (second .exit)) ⌝ }
+    ensures safe { λ n. ⌜ ((room : ℕ) (split : List ℕ) → verdict room (now (program .entry)) split ≡ Accept → raceTold (now (state .exit)) (now (first .exit)) (now (second .exit)) ≡ raceNumbers None) ⌝ }
 {
     let r = replay::replay(program, trace, space);
     let ending = r.ending;

@@ -4,3 +4,4 @@ pub mod Moves
 pub mod Starting
 pub mod Copying
 pub mod Told
+pub mod Promises

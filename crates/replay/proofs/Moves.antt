@@ -1,6 +1,6 @@
 -- A line by the answer of its step.
 use Prim.Native.Nat.{ℕ, _+_, _≤_}
-use mathlib.Core.Path.{_≡_, refl, sym, _∙_, ap, subst}
+use mathlib.Core.Path.{_≡_, refl, subst}
 use mathlib.Core.List.{List}
 use Rattle.trace.specs.declared.TraceLine.{TraceLine}
 use Rattle.trace.specs.declared.TraceLine.the-variants.{Move, Malformed}
@@ -9,8 +9,8 @@ use Rattle.engine.specs.declared.Stepped.{Stepped}
 use Rattle.engine.specs.Steps.{stepped}
 use Rattle.replaying.specs.declared.FirstRace.{FirstRace}
 use Rattle.replaying.specs.declared.Ending.the-variants.{TraceForm, NoStep, PastLimit}
-use Rattle.replay.specs.declared.Progress.the-variants.{Goes}
-use Rattle.replay.specs.declared.Point.{Point}
+use Rattle.replay.specs.declared.turns.Progress.the-variants.{Goes}
+use Rattle.replay.specs.declared.turns.Point.{Point}
 use Rattle.replay.specs.Play.{raceAfter, CountKept, stoppedBy, byOutcome, afterStep, lineDone}
 
 pub count-low : (x : Stepped × List ℕ) (r : Stepped) (s : List ℕ) → x ≡ (r, s) → CountKept x → r .outcome ≡ Moved → r .threads .count ≤ 16

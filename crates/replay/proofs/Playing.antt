@@ -5,15 +5,12 @@ use mathlib.Core.Bool.{Bool, true, false}
 use mathlib.Core.List.{List, [], _∷_}
 use mathlib.Core.Option.{Option, none, some}
 use native.Mathlib.Omega.{arith}
-use native.Mathlib.Numerals.{add-one}
 use lib.Dec.{eqb}
 use lib.ListN.{length, drop, length-drop, drop-of-length-le}
 use Rattle.spec.specs.Choice.{if_then_else_}
-use Rattle.spec.specs.Text.{Line, closed, unclosed, lines, onLine as textLine, Field}
-use Rattle.calculus.proofs.Laws.Maps.{some-injective}
+use Rattle.spec.specs.Text.{Line, closed, unclosed, lines, onLine as textLine}
 use Rattle.lexer.specs.Views.{lineAt}
 use Rattle.lexer.specs.Numbers.{stored}
-use Rattle.threads.specs.declared.Threads.{Threads}
 use Rattle.trace.specs.declared.TraceLine as read
 use Rattle.trace.specs.declared.TraceLine.the-variants as line
 use Rattle.trace.specs.Lines.{moveIn}
@@ -24,23 +21,21 @@ use Rattle.engine.specs.Steps.{stepped}
 use Rattle.replaying.specs.Trace.{TraceLine, traceLine}
 use Rattle.replaying.specs.Replay.{Outcome, badForm, noStep, pastLimit, step, limited, onLine}
 use Rattle.replaying.specs.declared.Ending.{Ending}
-use Rattle.replaying.specs.declared.Ending.the-variants.{Done, TraceForm, NoStep, PastLimit}
-use Rattle.replaying.specs.declared.FirstRace.{FirstRace}
+use Rattle.replaying.specs.declared.Ending.the-variants.{Done}
 use Rattle.replaying.specs.declared.Replayed.{Replayed}
 use Rattle.machine.specs.Replay as machine
 use Rattle.machine.specs.Replay.{Replay, within, orRace, ended, playOn, playFrom}
-use Rattle.simulation.proofs.Holds.{Holds}
 use Rattle.simulation.proofs.Moving.{Answered}
-use Rattle.simulation.proofs.Racing.{pairTold, lowest-pair-alike}
+use Rattle.simulation.proofs.Racing.{lowest-pair-alike}
 use Rattle.simulation.proofs.Stepping.{step-simulated}
 use Rattle.simulation.proofs.Posting.{CountsWithin, counts-roomy, stepped-counts}
-use Rattle.simulation.proofs.Lining.{lineIs, LineTold, open-line, shut-line, line-told}
+use Rattle.simulation.proofs.Lining.{LineTold, open-line, shut-line, line-told}
 use Rattle.simulation.proofs.Resting.{RestAt, rest-at}
 use Rattle.simulation.proofs.Stored.{line-answered}
-use Rattle.replay.specs.declared.Progress.{Progress}
-use Rattle.replay.specs.declared.Progress.the-variants.{Goes, Stops}
-use Rattle.replay.specs.declared.Point.{Point}
-use Rattle.replay.specs.Play.{raceAfter, CountKept, CountsKept, stoppedBy, pointAfter, byOutcome, afterStep, lineDone, Plays, PlaysTo}
+use Rattle.replay.specs.declared.turns.Progress.{Progress}
+use Rattle.replay.specs.declared.turns.Progress.the-variants.{Goes, Stops}
+use Rattle.replay.specs.declared.turns.Point.{Point}
+use Rattle.replay.specs.Play.{raceAfter, CountKept, CountsKept, stoppedBy, byOutcome, afterStep, lineDone, PlaysTo}
 
 -- what is known of a run behind a line, by its progress
 abbrev pub Tells : Progress → (whole : Replayed) (p s text : List ℕ) → (before after : Point) → Type 0

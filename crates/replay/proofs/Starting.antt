@@ -2,10 +2,9 @@
 use Prim.Native.Nat.{ℕ, _+_, _<_, _≤_}
 use mathlib.Core.Path.{_≡_, refl, sym, _∙_, ap, subst}
 use mathlib.Core.List.{List}
-use mathlib.Core.Option.{Option}
 use native.Mathlib.Omega.{arith}
 use borrow.Author.Tests.{le-leb, lt-leb}
-use lib.ListN.{length, getD, drop, length-map}
+use lib.ListN.{length, length-map}
 use Rattle.spec.specs.Text.{lines}
 use Rattle.spec.specs.Reading.{Out, stop, on, _>>=_, demand}
 use Rattle.spec.specs.Expression.{Step, Expr, size}
@@ -15,7 +14,6 @@ use Rattle.spec.specs.declared.Refusal.{Refusal}
 use Rattle.spec.specs.declared.Refusal.the-variants.{ShortWorkspace, LongProgram}
 use Rattle.spec.proofs.WellFormed.{program-well-formed}
 use Rattle.spec.proofs.Listing.{prefix-length}
-use Rattle.soundness.specs.SafeText.{SafeText}
 use Rattle.workspace.specs.Region.{Region}
 use Rattle.workspace.specs.Holds.{HoldsProgram}
 use Rattle.workspace.specs.Layout.{codeOf}
@@ -34,20 +32,18 @@ use Rattle.replaying.specs.declared.FirstRace.{FirstRace}
 use Rattle.replaying.specs.declared.FirstRace.the-variants.{None}
 use Rattle.replaying.specs.declared.Replayed.{Replayed}
 use Rattle.replaying.proofs.Answer.{short-space-is-refused}
-use Rattle.replaying.proofs.Reported.{safe-text-has-no-race}
-use Rattle.machine.specs.Replay.{startReplay, orRace, lowestPair, playFrom, play, played, replay}
+use Rattle.machine.specs.Replay.{startReplay, orRace, playFrom, play, played, replay}
 use Rattle.machine.proofs.Replay.{machine-replays}
 use Rattle.simulation.proofs.Held.{Stands}
 use Rattle.simulation.proofs.Linked.{root-stands}
 use Rattle.simulation.proofs.Ranging.{well-formed-ranged}
 use Rattle.simulation.proofs.Holds.{Holds}
 use Rattle.simulation.proofs.Starting.{start-held}
-use Rattle.simulation.proofs.Racing.{pairTold, lowest-pair-alike}
+use Rattle.simulation.proofs.Racing.{lowest-pair-alike}
 use Rattle.simulation.proofs.Posting.{start-counts}
-use Rattle.replay.specs.declared.Progress.the-variants.{Goes}
-use Rattle.replay.specs.declared.Point.{Point}
-use Rattle.replay.specs.Play.{raceAfter, PlaysTo, Plays}
-use Rattle.replay.specs.Start.{Copied, Runs, HeldAs, Held}
+use Rattle.replay.specs.declared.turns.Progress.the-variants.{Goes}
+use Rattle.replay.specs.Play.{raceAfter, PlaysTo}
+use Rattle.replay.specs.Start.{Copied, HeldAs, Held}
 
 -- ------------------------------------------------------------------ the first point
 
@@ -165,28 +161,3 @@ room-enough room text trace h = machine-replays 16384 text trace ∙ rw (le-leb 
 pub short-room : (room : ℕ) (text trace : List ℕ) → room < 16384 → refused ShortWorkspace ≡ definition.replay room text trace
 unfolding replaySpace
 short-room room text trace h = sym (short-space-is-refused room text trace h)
-
--- every promise of the offered call, in the order of its clauses; U is that of the texts, which are lent unchanged
-pub promises-kept : {U : Type 0} (text trace s s′ : List ℕ) (r : Replayed) → r ≡ definition.replay (length s) text trace → U → (length s < replaySpace → s′ ≡ s) →
-    (r .ending ≡ definition.replay (length s) text trace .ending)
-    × ((r .report ≡ definition.replay (length s) text trace .report)
-    × (U
-    × ((length s < replaySpace → s′ ≡ s)
-    × (SafeText text → r .report .race ≡ None))))
-promises-kept text trace s s′ r e u kept = (
-  ap (λ (x : Replayed). x .ending) e,
-  (
-    ap (λ (x : Replayed). x .report) e,
-    (
-      u,
-      (
-        kept,
-        λ safe. ap (λ (x : Replayed). x .report .race) e ∙ safe-text-has-no-race text safe (length s) trace,
-      ),
-    ),
-  ),
-)
-
-pub long-space : (room : ℕ) (s s′ : List ℕ) → 16384 ≤ room → room < replaySpace → s′ ≡ s
-unfolding replaySpace
-long-space room s s′ h l = absurd (omega (arith, h, l))

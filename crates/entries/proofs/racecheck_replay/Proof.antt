@@ -4,6 +4,7 @@ use Rattle.replaying.specs.declared.Numbers.{Numbers}
 use Rattle.replaying.specs.declared.Report.{Report}
 use Rattle.replaying.specs.Replay.{numbersOf}
 use Rattle.replay.specs.Numbers.{raceNumbers}
+use Rattle.replay.proofs.Told.{followed-as-stored}
 use borrow.Author.Needs.{needs}
 use Rattle.entries.proofs.racecheck_replay.Statement.{statement}
 use Rattle.entries.proofs.racecheck_replay.Tie as tie
@@ -11,16 +12,34 @@ use Rattle.entries.proofs.racecheck_replay.Tie as tie
 returns : tie.Need-returns
 returns c =
     let told = c .before .before .before .before .before .replay .ensures in
-    let four = c .before .ending-numbers .ensures ∙ ap numbersOf (told .0) in
-    let race = c .race-numbers .ensures in (
+    let answer = told .0 in
+    let report = told .1 .0 in
+    let kept = told .1 .1 .1 .0 in
+    let free = told .1 .1 .1 .1 .0 in
+    let stops = told .1 .1 .1 .1 .1 .0 in
+    let first-race = told .1 .1 .1 .1 .1 .1 .0 in
+    let safe = told .1 .1 .1 .1 .1 .1 .1 in
+    let ending = c .before .ending-numbers .ensures in
+    let four = ending ∙ ap numbersOf (answer) in
+    let race = c .race-numbers .ensures in
+    let followed = followed-as-stored _ _ _ _ _ (ap (λ (x : Numbers). x .number) ending) (ap (λ (x : Numbers). x .line) ending) (stops) in (
       (ap (λ (x : Numbers). x .number) four, ap (λ (x : Numbers). x .line) four),
       (
-        (ap (λ (x : Report). x .steps) (told .1 .0), race ∙ ap (λ (x : Report). raceNumbers (x .race)) (told .1 .0)),
+        (ap (λ (x : Report). x .steps) (report), race ∙ ap (λ (x : Report). raceNumbers (x .race)) (report)),
         (
           (refl, refl),
           (
-            told .1 .1 .1 .0,
-            λ safe. race ∙ ap raceNumbers (told .1 .1 .1 .1 safe),
+            kept,
+            (
+              free,
+              (
+                followed,
+                (
+                  record { race = _; told = race; holds = first-race },
+                  λ room split accepted. race ∙ ap raceNumbers (safe room split accepted),
+                ),
+              ),
+            ),
           ),
         ),
       ),

@@ -1,5 +1,5 @@
 -- A sheet that is too long or refused is the answer; else the program that the space holds is run.
-use mathlib.Core.Path.{sym, _∙_}
+use mathlib.Core.Path.{_∙_}
 use Rattle.replay.proofs.Starting.{long-program, replay-refused, sheet-read, sheet-held, sheet-holds, sheet-replayed}
 use borrow.Author.Needs.{needs}
 use Rattle.replay.proofs.replay_texts.Statement.{statement}

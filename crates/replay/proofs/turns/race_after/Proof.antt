@@ -4,8 +4,8 @@ use Rattle.machine.specs.Replay.{orRace}
 use Rattle.replay.specs.Play.{raceAfter}
 use Rattle.replay.proofs.Races.{still-none, race-here}
 use borrow.Author.Needs.{needs}
-use Rattle.replay.proofs.race_after.Statement.{statement}
-use Rattle.replay.proofs.race_after.Tie as tie
+use Rattle.replay.proofs.turns.race_after.Statement.{statement}
+use Rattle.replay.proofs.turns.race_after.Tie as tie
 
 returns : tie.Need-returns
 unfolding raceAfter orRace

@@ -1,8 +1,8 @@
 -- Once its columns are copied and linked, the program's expression stands in them.
 use Rattle.replay.proofs.Starting.{root-linked}
 use borrow.Author.Needs.{needs}
-use Rattle.replay.proofs.run_held.Statement.{statement}
-use Rattle.replay.proofs.run_held.Tie as tie
+use Rattle.replay.proofs.start.run_held.Statement.{statement}
+use Rattle.replay.proofs.start.run_held.Tie as tie
 
 run-requires : tie.Need-run-requires
 run-requires c κs =

@@ -1,11 +1,10 @@
 -- The loop's invariant: the places below i are copied.
 use mathlib.Core.Path.{sym, _∙_}
 use Prim.Native.Nat.{_-_}
-use native.Mathlib.Omega.{arith}
 use Rattle.replay.proofs.Copying.{CopiedTo, copy-none, copy-more, copy-all}
 use borrow.Author.Needs.{needs}
-use Rattle.replay.proofs.copy_columns.Statement.{statement}
-use Rattle.replay.proofs.copy_columns.Tie as tie
+use Rattle.replay.proofs.start.copy_columns.Statement.{statement}
+use Rattle.replay.proofs.start.copy_columns.Tie as tie
 
 abbrev Inv-loop : tie.InvT-loop
 Inv-loop columns₀ space i₀ columns i = CopiedTo i space columns

@@ -1,14 +1,14 @@
 -- The loop's invariant: to whatever end the whole trace comes, the lines from here on come to it.
-use mathlib.Core.Path.{_≡_, refl, sym, _∙_, subst}
-use Prim.Native.Nat.{_-_, _<_}
+use mathlib.Core.Path.{_≡_, refl, _∙_}
+use Prim.Native.Nat.{_-_}
 use native.Mathlib.Omega.{arith}
 use lib.ListN.{length}
 use Rattle.replaying.specs.declared.Replayed.{Replayed}
-use Rattle.replay.specs.Play.{Plays, PlaysTo}
-use Rattle.replay.proofs.Playing.{LineTells, line-tells, line-stops, line-goes, may-go, text-done}
+use Rattle.replay.specs.Play.{PlaysTo}
+use Rattle.replay.proofs.Playing.{line-stops, line-goes, may-go, text-done}
 use borrow.Author.Needs.{needs}
-use Rattle.replay.proofs.play.Statement.{statement}
-use Rattle.replay.proofs.play.Tie as tie
+use Rattle.replay.proofs.turns.play.Statement.{statement}
+use Rattle.replay.proofs.turns.play.Tie as tie
 
 abbrev Inv-loop : tie.InvT-loop
 Inv-loop program space₀ trace p₀ space p =

@@ -1,8 +1,7 @@
 use mathlib.Core.Path.{refl}
 use Rattle.machine.specs.Replay.{ended}
-use borrow.Author.Needs.{needs}
-use Rattle.replay.proofs.ended.Statement.{statement}
-use Rattle.replay.proofs.ended.Tie as tie
+use Rattle.replay.proofs.turns.ended.Statement.{statement}
+use Rattle.replay.proofs.turns.ended.Tie as tie
 
 returns : tie.Need-returns
 unfolding ended

@@ -2,8 +2,8 @@
 use native.Mathlib.Omega.{arith}
 use Rattle.replay.proofs.Starting.{start-count, start-plays}
 use borrow.Author.Needs.{needs}
-use Rattle.replay.proofs.run.Statement.{statement}
-use Rattle.replay.proofs.run.Tie as tie
+use Rattle.replay.proofs.start.run.Statement.{statement}
+use Rattle.replay.proofs.start.run.Tie as tie
 
 cast-count : tie.Need-cast-count
 cast-count c =

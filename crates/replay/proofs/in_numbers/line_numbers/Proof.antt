@@ -1,8 +1,7 @@
 use mathlib.Core.Path.{refl}
 use Rattle.replaying.specs.Replay.{lineNumbers}
-use borrow.Author.Needs.{needs}
-use Rattle.replay.proofs.line_numbers.Statement.{statement}
-use Rattle.replay.proofs.line_numbers.Tie as tie
+use Rattle.replay.proofs.in_numbers.line_numbers.Statement.{statement}
+use Rattle.replay.proofs.in_numbers.line_numbers.Tie as tie
 
 returns : tie.Need-returns
 unfolding lineNumbers
