@@ -1,6 +1,3 @@
-pub mod Slots
-pub mod Uses
 pub mod Focuses
-pub mod Words
 pub mod Steps
 pub mod Races

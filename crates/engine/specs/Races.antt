@@ -9,9 +9,9 @@ use Rattle.workspace.specs.Layout.{wordsAt, ruleOf}
 use Rattle.workspace.specs.declared.Rule.{Rule}
 use Rattle.workspace.specs.declared.Rule.the-variants.{VAR, INT, LET, IF, WHILE, NEWT, SPAWN, JOIN, REF, WRITE, READ, NEWL, LCK, ULCK, NEWSEM, POST, WAIT, NEWRWLOCK, RDLOCK, RDUNLOCK, WRLOCK, WRUNLOCK}
 use Rattle.control.specs.declared.Focus.{Focus}
-use Rattle.engine.specs.Slots.{slotAt}
+use Rattle.reduction.specs.Slots.{slotAt}
 use Rattle.engine.specs.Focuses.{focusAt}
-use Rattle.engine.specs.Words.{subject}
+use Rattle.reduction.specs.Words.{subject}
 use Rattle.engine.specs.declared.races.Access.{Access}
 use Rattle.engine.specs.declared.races.Access.the-variants.{None, Read, Write}
 use Rattle.engine.specs.declared.races.Partner.{Partner}

@@ -14,10 +14,10 @@ use Rattle.control.specs.declared.Focus.{Focus}
 use Rattle.control.specs.Shapes.{shapeAt, isIf}
 use Rattle.control.specs.Control.{environmentsAt, variable, second, entering}
 use Rattle.engine.specs.Focuses.{focusAt, wentOn}
-use Rattle.engine.specs.Slots.{kindsAt}
-use Rattle.engine.specs.Words.{nextAt, given, acted}
-use Rattle.engine.specs.declared.words.Act.{Act}
-use Rattle.engine.specs.declared.words.Act.the-variants as act
+use Rattle.reduction.specs.Slots.{kindsAt}
+use Rattle.reduction.specs.Words.{nextAt, given, acted}
+use Rattle.reduction.specs.declared.words.Act.{Act}
+use Rattle.reduction.specs.declared.words.Act.the-variants as act
 use Rattle.engine.specs.declared.Outcome.{Outcome}
 use Rattle.engine.specs.declared.Outcome.the-variants.{Moved, Stuck, Past}
 use Rattle.engine.specs.declared.Stepped.{Stepped}

@@ -1,9 +1,7 @@
-// The steps of a program's threads on numbers in a lent space, one function for each kind of word.
+// The steps of a program's threads on numbers in a lent space. `reduction` has what a word does by itself; here a thread goes on to its
+// next word, the records of threads follow `spawn` and `join`, and the threads that race are found.
 mod focuses;
 mod races;
-mod slots;
-mod uses;
-mod words;
 
 use control::ENTER;
 use control::Focus;
@@ -14,10 +12,10 @@ use focuses::focus_at;
 use focuses::go_on;
 pub use races::Pair;
 pub use races::lowest_pair;
+use reduction::Act;
+use reduction::gives;
 use threads::Found;
 use threads::Threads;
-use words::Act;
-use words::gives;
 use workspace::index;
 ghost use mathlib.Core.Path.{_≡_};
 ghost use Prim.Native.Nat.{_<_};
@@ -30,6 +28,7 @@ pub enum Outcome {
     Past,
 }
 
+// How a step ended, and the threads after it.
 pub struct Stepped {
     pub outcome: Outcome,
     pub threads: Threads,
@@ -164,7 +163,7 @@ pub fn step(program: &[u32], space: &mut [u32], threads: Threads, t: u32, choice
     if threads.runs(index(t)) {
         let f = focus_at(space, t);
         if may_choose(program, f, choice) {
-            let a = words::reduce(program, space, t, f, choice);
+            let a = reduction::reduce(program, space, t, f, choice);
             return finish_step(program, space, threads, t, f.at, a);
         }
     }
@@ -179,8 +178,8 @@ pub fn start(program: &[u32], space: &mut [u32]) -> Threads
     ensures { λ r. ⌜ startOf (now (program .entry)) (now (space .entry)) ≡ (r, now (space .exit)) ⌝ }
 {
     workspace::clear(space);
-    put(space, slots::KINDS + 1, slots::IDENTIFIER);
-    put(space, words::NEXT, 2);
+    put(space, reduction::KINDS + 1, reduction::IDENTIFIER);
+    put(space, reduction::NEXT, 2);
     let root = Focus {
         mode: ENTER,
         at: 0,

@@ -1,9 +1,9 @@
 // The lowest pair of threads that race: the first thread that clashes with a later one, and the first of those.
 use crate::focuses::focus_at;
-use crate::slots::CELL;
-use crate::slots::slot_at;
-use crate::words::subject;
 use control::READY;
+use reduction::CELL;
+use reduction::slot_at;
+use reduction::subject;
 use workspace::Rule;
 use workspace::at;
 use workspace::index;
@@ -18,11 +18,13 @@ pub enum Access {
     Write(u32),
 }
 
+// Two threads that race, the lower first.
 pub enum Pair {
     None,
     Of(u32, u32),
 }
 
+// The thread that another one races with.
 pub enum Partner {
     None,
     Is(u32),

@@ -21,9 +21,9 @@ use Rattle.control.specs.declared.Focus.{Focus}
 use Rattle.control.specs.Shapes.{shapeOf, shapeAt}
 use Rattle.control.specs.Control.{variable, kept, continuation, second, behind, entering, returning, stoppedAt, readyAt, unrolledAt, found}
 use Rattle.control.proofs.Turns.{found-stop}
-use Rattle.engine.specs.declared.words.Act.{Act}
-use Rattle.engine.specs.declared.words.Act.the-variants.{Go}
-use Rattle.engine.specs.Words.{given, branched, looped, bound, actedBy, acted}
+use Rattle.reduction.specs.declared.words.Act.{Act}
+use Rattle.reduction.specs.declared.words.Act.the-variants.{Go}
+use Rattle.reduction.specs.Words.{given, branched, looped, bound, actedBy, acted}
 use Rattle.engine.specs.Steps.{afterAct}
 use Rattle.replaying.specs.Replay.{limited}
 use Rattle.machine.specs.Environment.{Env}

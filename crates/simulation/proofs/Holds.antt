@@ -14,10 +14,10 @@ use Rattle.threads.specs.declared.State.the-variants.{Running, Finished, Joined
 use Rattle.threads.specs.declared.Record.{Record}
 use Rattle.threads.specs.declared.Threads.{Threads}
 use Rattle.threads.specs.Records.{noRecord}
-use Rattle.engine.specs.declared.slots.Slot.{Slot}
-use Rattle.engine.specs.Slots.{slotAt}
+use Rattle.reduction.specs.declared.slots.Slot.{Slot}
+use Rattle.reduction.specs.Slots.{slotAt}
 use Rattle.engine.specs.Focuses.{focusAt}
-use Rattle.engine.specs.Words.{countsAt, nextAt}
+use Rattle.reduction.specs.Words.{countsAt, nextAt}
 use Rattle.replaying.specs.Run.{Kind, cells, locks, rwlocks, semaphores, identifiers}
 use Rattle.machine.specs.Control.{Control, done, at}
 use Rattle.machine.specs.State.{MachineThread, Machine}

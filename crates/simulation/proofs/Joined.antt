@@ -26,7 +26,7 @@ use Rattle.calculus.specs.Reduction.{_>>=_}
 use Rattle.calculus.proofs.Laws.Maps.{none-is-not-some}
 use Rattle.calculus.proofs.Laws.Places.{set-elsewhere, sets-swap}
 use Rattle.control.specs.Control.{continuation, returning}
-use Rattle.engine.specs.Words.{given}
+use Rattle.reduction.specs.Words.{given}
 use Rattle.engine.specs.declared.Outcome.the-variants.{Stuck}
 use Rattle.engine.specs.Steps.{ending, actStep, afterAct, givesZero, joinedBy, joinedStep}
 use Rattle.replaying.specs.Replay.{limited}

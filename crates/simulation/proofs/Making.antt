@@ -25,12 +25,12 @@ use Rattle.workspace.specs.Layout.{ruleOf, printed}
 use Rattle.threads.specs.declared.Threads.{Threads}
 use Rattle.control.specs.Shapes.{shapeOf, shapeAt, isWrite}
 use Rattle.control.specs.Control.{continuation, returning, stoppedAt, readyAt}
-use Rattle.engine.specs.declared.slots.Slot.{Slot}
-use Rattle.engine.specs.declared.words.Act.{Act}
-use Rattle.engine.specs.declared.words.Act.the-variants as act
-use Rattle.engine.specs.Slots.{slot, slotAt, slotPut}
-use Rattle.engine.specs.Uses.{madeOf, usedBy}
-use Rattle.engine.specs.Words.{countsAt, nextAt, given, withThing, newThing, subject, operand, effected, wordUsed, actedBy, acted}
+use Rattle.reduction.specs.declared.slots.Slot.{Slot}
+use Rattle.reduction.specs.declared.words.Act.{Act}
+use Rattle.reduction.specs.declared.words.Act.the-variants as act
+use Rattle.reduction.specs.Slots.{slot, slotAt, slotPut}
+use Rattle.reduction.specs.Uses.{madeOf, usedBy}
+use Rattle.reduction.specs.Words.{countsAt, nextAt, given, withThing, newThing, subject, operand, effected, wordUsed, actedBy, acted}
 use Rattle.engine.specs.Steps.{actStep, afterAct}
 use Rattle.replaying.specs.Run.{Kind, cells, locks, rwlocks, semaphores, identifiers, sameKind, oneMore, threadLimit, thingLimit, withinLimits, kindMade}
 use Rattle.replaying.specs.Replay.{step, pastLimit, limited}

@@ -21,8 +21,8 @@ use Rattle.engine.specs.declared.Outcome.the-variants.{Moved, Stuck, Past}
 use Rattle.engine.specs.declared.Stepped.{Stepped}
 use Rattle.control.specs.declared.Focus.{Focus}
 use Rattle.control.specs.Control.{variable, found}
-use Rattle.engine.specs.declared.words.Act.{Act}
-use Rattle.engine.specs.declared.words.Act.the-variants as act
+use Rattle.reduction.specs.declared.words.Act.{Act}
+use Rattle.reduction.specs.declared.words.Act.the-variants as act
 use Rattle.engine.specs.Focuses.{focusAt}
 use Rattle.engine.specs.Steps.{proceeded, movedTo, actStep, afterAct}
 use Rattle.replaying.specs.Run.{Kind, cells, locks, rwlocks, semaphores, identifiers, threadLimit, thingLimit, withinLimits}

@@ -15,8 +15,8 @@ use Rattle.calculus.specs.Expression.{Value, int, name, choose}
 use Rattle.calculus.specs.State as state
 use Rattle.calculus.specs.State.{unused, update}
 use Rattle.calculus.proofs.Laws.Maps.{update-other}
-use Rattle.engine.specs.declared.slots.Slot.{Slot}
-use Rattle.engine.specs.Slots.{kindsAt, firstsAt, secondsAt, slot, slotAt, slotPut}
+use Rattle.reduction.specs.declared.slots.Slot.{Slot}
+use Rattle.reduction.specs.Slots.{kindsAt, firstsAt, secondsAt, slot, slotAt, slotPut}
 use Rattle.replaying.specs.Run.{Kind, cells, locks, rwlocks, semaphores, identifiers}
 use Rattle.simulation.proofs.Held.{codeValue}
 use Rattle.simulation.proofs.Agreeing.{Agree, agree-then, agree-shared}

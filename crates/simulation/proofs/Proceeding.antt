@@ -22,9 +22,9 @@ use Rattle.threads.specs.Records.{noRecord}
 use Rattle.threads.specs.Threads.{turned, finished}
 use Rattle.control.specs.declared.Focus.{Focus}
 use Rattle.control.specs.Control.{found, doneWith}
-use Rattle.engine.specs.Slots.{slot, slotAt}
+use Rattle.reduction.specs.Slots.{slot, slotAt}
 use Rattle.engine.specs.Focuses.{focusAt, focusPut, settled, wentOn}
-use Rattle.engine.specs.Words.{countsAt, nextAt}
+use Rattle.reduction.specs.Words.{countsAt, nextAt}
 use Rattle.engine.specs.Steps.{recorded, proceeded}
 use Rattle.replaying.specs.Run.{Kind}
 use Rattle.machine.specs.Control as machine

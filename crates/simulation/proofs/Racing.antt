@@ -25,16 +25,16 @@ use Rattle.threads.specs.declared.Threads.{Threads}
 use Rattle.control.specs.declared.Focus.{Focus}
 use Rattle.control.specs.Shapes.{shapeOf, shapeAt, isWrite}
 use Rattle.control.specs.Control.{kept, readyAt}
-use Rattle.engine.specs.declared.slots.Slot.{Slot}
+use Rattle.reduction.specs.declared.slots.Slot.{Slot}
 use Rattle.engine.specs.declared.races.Access.{Access}
 use Rattle.engine.specs.declared.races.Access.the-variants.{None, Read, Write}
 use Rattle.engine.specs.declared.races.Partner.{Partner}
 use Rattle.engine.specs.declared.races.Partner.the-variants as partner
 use Rattle.engine.specs.declared.races.Pair.{Pair}
 use Rattle.engine.specs.declared.races.Pair.the-variants as pair
-use Rattle.engine.specs.Slots.{slotAt}
+use Rattle.reduction.specs.Slots.{slotAt}
 use Rattle.engine.specs.Focuses.{focusAt}
-use Rattle.engine.specs.Words.{subject}
+use Rattle.reduction.specs.Words.{subject}
 use Rattle.engine.specs.Races.{accessBy, accessAt, accessOf, reads, writes, clash, partnerOf, partnerFrom, pairWith, pairOf, lowestPair}
 use Rattle.replaying.specs.Run.{ofUnary}
 use Rattle.replaying.specs.LowestPair as uses

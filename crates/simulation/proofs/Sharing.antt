@@ -20,15 +20,15 @@ use Rattle.workspace.specs.Layout.{ruleOf, codeOf, printed}
 use Rattle.threads.specs.declared.Threads.{Threads}
 use Rattle.control.specs.Shapes.{shapeOf, shapeAt, isWrite}
 use Rattle.control.specs.Control.{kept, continuation, returning, readyAt}
-use Rattle.engine.specs.declared.slots.Slot.{Slot}
-use Rattle.engine.specs.declared.uses.Used.{Used}
-use Rattle.engine.specs.declared.uses.Used.the-variants.{Gives, Leaves}
-use Rattle.engine.specs.declared.uses.Used.the-variants as used
-use Rattle.engine.specs.declared.words.Act.{Act}
-use Rattle.engine.specs.declared.words.Act.the-variants.{Go}
-use Rattle.engine.specs.Slots.{slot, slotAt, slotPut}
-use Rattle.engine.specs.Uses.{writtenOf, usedBy}
-use Rattle.engine.specs.Words.{given, subject, operand, effected, wordUsed, actedBy, acted}
+use Rattle.reduction.specs.declared.slots.Slot.{Slot}
+use Rattle.reduction.specs.declared.uses.Used.{Used}
+use Rattle.reduction.specs.declared.uses.Used.the-variants.{Gives, Leaves}
+use Rattle.reduction.specs.declared.uses.Used.the-variants as used
+use Rattle.reduction.specs.declared.words.Act.{Act}
+use Rattle.reduction.specs.declared.words.Act.the-variants.{Go}
+use Rattle.reduction.specs.Slots.{slot, slotAt, slotPut}
+use Rattle.reduction.specs.Uses.{writtenOf, usedBy}
+use Rattle.reduction.specs.Words.{given, subject, operand, effected, wordUsed, actedBy, acted}
 use Rattle.engine.specs.Steps.{actStep, afterAct}
 use Rattle.replaying.specs.Replay.{limited}
 use Rattle.machine.specs.Environment.{Env}

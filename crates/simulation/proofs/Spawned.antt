@@ -26,7 +26,7 @@ use Rattle.threads.specs.Threads.{spawned}
 use Rattle.control.specs.declared.Focus.{Focus}
 use Rattle.control.specs.Control.{environmentsAt, finish, variable, kept, continuation, second, focus, entering, returning}
 use Rattle.engine.specs.Focuses.{focusAt}
-use Rattle.engine.specs.Words.{given}
+use Rattle.reduction.specs.Words.{given}
 use Rattle.engine.specs.declared.Outcome.the-variants.{Past}
 use Rattle.engine.specs.Steps.{ending, proceeded, copiedFrom, copied, actStep, afterAct, givesZero, spawnedStep}
 use Rattle.replaying.specs.Run.{threadLimit, thingLimit, withinLimits}

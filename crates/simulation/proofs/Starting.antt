@@ -20,8 +20,8 @@ use Rattle.threads.specs.declared.Record.{Record}
 use Rattle.threads.specs.Records.{noRecord}
 use Rattle.threads.specs.Threads.{started}
 use Rattle.control.specs.Control.{finish, variable, entering}
-use Rattle.engine.specs.Slots.{slot, slotAt}
-use Rattle.engine.specs.Words.{nextAt}
+use Rattle.reduction.specs.Slots.{slot, slotAt}
+use Rattle.reduction.specs.Words.{nextAt}
 use Rattle.engine.specs.Steps.{startSpace, startOf}
 use Rattle.replaying.specs.Run.{Kind, cells, locks, rwlocks, semaphores, identifiers}
 use Rattle.machine.specs.Control.{done, enter}

@@ -30,15 +30,15 @@ use Rattle.threads.specs.Threads.{isRunning, runs}
 use Rattle.control.specs.declared.Focus.{Focus}
 use Rattle.control.specs.Shapes.{shapeOf, shapeAt, isWrite, isIf}
 use Rattle.control.specs.Control.{finish, continuation, second as secondAt, readyAt, stoppedAt, unrolledAt}
-use Rattle.engine.specs.declared.slots.Slot.{Slot}
-use Rattle.engine.specs.declared.uses.Used.{Used}
-use Rattle.engine.specs.declared.uses.Used.the-variants as used
-use Rattle.engine.specs.declared.words.Act.{Act}
+use Rattle.reduction.specs.declared.slots.Slot.{Slot}
+use Rattle.reduction.specs.declared.uses.Used.{Used}
+use Rattle.reduction.specs.declared.uses.Used.the-variants as used
+use Rattle.reduction.specs.declared.words.Act.{Act}
 use Rattle.engine.specs.declared.Outcome.the-variants.{Stuck}
-use Rattle.engine.specs.Slots.{slot, slotAt}
-use Rattle.engine.specs.Uses.{spawnedOf, joinedOf, usedBy}
+use Rattle.reduction.specs.Slots.{slot, slotAt}
+use Rattle.reduction.specs.Uses.{spawnedOf, joinedOf, usedBy}
 use Rattle.engine.specs.Focuses.{focusAt}
-use Rattle.engine.specs.Words.{subject, operand, effected, wordUsed, actedBy, acted}
+use Rattle.reduction.specs.Words.{subject, operand, effected, wordUsed, actedBy, acted}
 use Rattle.engine.specs.Steps.{mayChoose, ending, actStep, afterAct, steppedFrom, stepped}
 use Rattle.replaying.specs.Trace.{TraceLine}
 use Rattle.replaying.specs.Run.{cells, kindMade, partOfIf, noChoice, partChosen, effect, unaryEffect}

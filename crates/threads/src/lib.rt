@@ -2,7 +2,7 @@
 ghost use mathlib.Core.Path.{_≡_};
 ghost use Prim.Native.Nat.{_<_};
 ghost use Rattle.threads.specs.Records.{matching, lowest};
-ghost use Rattle.threads.specs.Threads.{started, spawned as spawnedOf, finished as finishedOf, joined as joinedOf, isRunning, runs as runsOf};
+ghost use Rattle.threads.specs.Threads.{started, spawned as spawnedOf, turned, finished as finishedOf, joined as joinedOf, isRunning, runs as runsOf};
 
 // The most threads of a run.
 pub const LIMIT: usize = 16;
@@ -18,6 +18,7 @@ pub struct Record {
     pub tid: u32,
 }
 
+// The place of a record, or that there is none.
 pub enum Found {
     At(usize),
     Nothing,
@@ -102,34 +103,30 @@ impl Threads {
         next
     }
 
-    // Thread t has finished.
-    pub fn finished(self, t: usize) -> Threads
-        ensures { λ r. ⌜ r ≡ finishedOf self t ⌝ }
+    // The record of thread t says so from now on; the thread keeps its identifier.
+    fn turned(self, t: usize, state: State) -> Threads
+        ensures { λ r. ⌜ r ≡ turned state self t ⌝ }
     {
         let mut next = self;
         if t < LIMIT {
             let r = next.records[t];
-            next.records[t] = Record {
-                state: State::Finished,
-                tid: r.tid,
-            };
+            next.records[t] = Record { state, tid: r.tid };
         }
         next
+    }
+
+    // Thread t has finished.
+    pub fn finished(self, t: usize) -> Threads
+        ensures { λ r. ⌜ r ≡ finishedOf self t ⌝ }
+    {
+        self.turned(t, State::Finished)
     }
 
     // Thread t has been joined.
     pub fn joined(self, t: usize) -> Threads
         ensures { λ r. ⌜ r ≡ joinedOf self t ⌝ }
     {
-        let mut next = self;
-        if t < LIMIT {
-            let r = next.records[t];
-            next.records[t] = Record {
-                state: State::Joined,
-                tid: r.tid,
-            };
-        }
-        next
+        self.turned(t, State::Joined)
     }
 
     // Whether t is a thread that is running.

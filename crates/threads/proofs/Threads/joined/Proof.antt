@@ -1,25 +1,11 @@
-use Rattle.threads.specs.Records.{noRecord}
-use Rattle.threads.specs.Threads.{turned, joined}
-use borrow.Author.Tests.{le-ltb, lt-ltb}
+use Rattle.threads.specs.Threads.{joined}
 use borrow.Author.Needs.{needs}
 use Rattle.threads.proofs.Threads.joined.Statement.{statement}
 use Rattle.threads.proofs.Threads.joined.Tie as tie
 
 returns : tie.Need-returns
-unfolding joined turned noRecord
-returns c = rw (lt-ltb _ _ (c .before .if1 .taken))
-
-returns-2 : tie.Need-returns-2
-unfolding joined turned noRecord
-returns-2 c = rw (le-ltb _ _ (c .if1 .left))
+unfolding joined
+returns c = search needs
 
 pub joined-spec : {M : Type 1} → statement M
-joined-spec =
-    tie.close
-    (tie.spec
-    (λ c. search needs)
-    (λ c. search needs)
-    (λ c. search needs)
-    (λ c. search needs)
-    returns
-    returns-2)
+joined-spec = tie.close (tie.spec (λ c κs. search needs) returns)
