@@ -14,6 +14,7 @@ mod noise;
 mod numerals;
 pub mod promise;
 pub mod random;
+pub mod traces;
 pub mod unfilled;
 
 use crate::answer::{LOCATIONS, PROGRAM_BYTES, SPLIT_BYTES, WHOLE, WORK_SPACE};

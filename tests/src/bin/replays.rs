@@ -1,0 +1,63 @@
+//! Compares the product's replay with the second replayer on drawn traces.
+//!
+//! `replays [traces [seed]]`. Exits with 1 without the product's replay, on the first difference, which it
+//! saves as files, and also when the drawn traces did not meet what they should (see `replaying`).
+
+use evidence::comparison::Checker;
+use evidence::draw::traces::{self, Recorded};
+use evidence::replaying::{agreed, Met, Replayer};
+use evidence::{product, series};
+use std::process::ExitCode;
+use std::time::Instant;
+
+const TRACES: u64 = 50_000;
+
+fn main() -> ExitCode {
+    let (traces, seed) = series::asked(TRACES);
+    let Some(checker) = product::CHECK else {
+        println!("{}", product::NOT_LINKED);
+        return ExitCode::FAILURE;
+    };
+    let Some(replayer) = product::REPLAY else {
+        println!("{}", product::NO_REPLAY);
+        return ExitCode::FAILURE;
+    };
+    let start = Instant::now();
+    match drawn_traces(replayer, checker, traces, seed) {
+        Ok(met) => {
+            println!("{traces} traces of seed {seed} through the product and the second replayer");
+            println!("{:.1} s", start.elapsed().as_secs_f64());
+            print!("{met}");
+            println!("all drawn traces agree");
+            ExitCode::SUCCESS
+        }
+        Err(failure) => {
+            println!("{failure}");
+            ExitCode::FAILURE
+        }
+    }
+}
+
+fn drawn_traces(replayer: Replayer, checker: Checker, traces: u64, seed: u64) -> Result<Met, String> {
+    let mut met = Met::default();
+    for number in 0..traces {
+        let drawn = traces::recorded(seed, number);
+        agreed(replayer, checker, &drawn, &mut met).map_err(|difference| {
+            format!("trace {number} of seed {seed} ({}): {difference}; {}", drawn.origin, kept(&drawn, number))
+        })?;
+    }
+    match met.missed().as_slice() {
+        [] => Ok(met),
+        missed => Err(format!("{met}not met: {}", missed.join(", "))),
+    }
+}
+
+/// Keeps a program and a trace on which two answers differ for a closer look, and says where.
+fn kept(drawn: &Recorded, number: u64) -> String {
+    let (program, trace) = (format!("unlike-{number}-program.txt"), format!("unlike-{number}-trace.txt"));
+    let saved = std::fs::write(&program, &drawn.program).and_then(|()| std::fs::write(&trace, &drawn.trace));
+    match saved {
+        Ok(()) => format!("saved as {program} and {trace}"),
+        Err(error) => format!("not saved: {error}"),
+    }
+}
