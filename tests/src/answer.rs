@@ -78,16 +78,16 @@ pub struct Race {
 }
 
 impl std::fmt::Display for Replayed {
-    /// The four returned numbers of a refusal or `DONE`, then the report.
+    /// The line that `racereplay` writes, without its closing byte.
     fn fmt(&self, out: &mut std::fmt::Formatter<'_>) -> std::fmt::Result {
-        match self.number {
-            0 => write!(out, "DONE")?,
-            number => write!(out, "REFUSE,{number},{},0,0", self.line)?,
-        }
-        write!(out, " steps {}", self.steps)?;
-        match self.race {
-            None => Ok(()),
-            Some(Race { state, first, second }) => write!(out, " race {state} {first} {second}"),
+        let Replayed { number, line, steps, race } = self;
+        match (number, race) {
+            (0, None) => write!(out, "RAN,{steps}"),
+            (0, Some(Race { state, first, second })) => write!(out, "RACE,{steps},{state},{first},{second}"),
+            (_, None) => write!(out, "REFUSE,{number},{line},0,0,{steps}"),
+            (_, Some(Race { state, first, second })) => {
+                write!(out, "REFUSE,{number},{line},0,0,{steps},RACE,{state},{first},{second}")
+            }
         }
     }
 }

@@ -71,9 +71,12 @@ pub struct Met {
     origins: BTreeMap<&'static str, (u64, u64)>,
     steps: u64,
     words: BTreeMap<Word, u64>,
-    /// How often a run had as many of a kind as it may, and how often it was stopped there.
+    /// How many states had as many of a kind as there may be.
     full: BTreeMap<Counted, u64>,
-    past: BTreeMap<Counted, u64>,
+    /// How many lines were not done, by the reason.
+    stopped: BTreeMap<Stopped, u64>,
+    /// How many had their first race in the last state.
+    last: u64,
     /// The pairs of threads that raced first.
     pairs: BTreeSet<(u32, u32)>,
 }
@@ -87,8 +90,7 @@ impl Met {
                     *self.full.entry(kind).or_default() += 1;
                 }
             }
-            Seen::Stopped(Stopped::Past(kind)) => *self.past.entry(kind).or_default() += 1,
-            Seen::Stopped(Stopped::CannotStep) => {}
+            Seen::Stopped(stopped) => *self.stopped.entry(stopped).or_default() += 1,
         }
     }
 
@@ -100,6 +102,7 @@ impl Met {
         let origin = self.origins.entry(drawn.origin).or_default();
         (origin.0, origin.1) = (origin.0 + 1, origin.1 + u64::from(replayed.number == 0));
         self.pairs.extend(replayed.race.map(|race| (race.first, race.second)));
+        self.last += u64::from(replayed.race.is_some_and(|race| race.state == replayed.steps));
     }
 
     fn with_number(&self, number: u32) -> (u64, u64) {
@@ -107,18 +110,22 @@ impl Met {
     }
 
     /// What the series should have met and did not: every number, a race beside each number that can have
-    /// one, every word, every limit reached and passed, and a pair without the start thread.
+    /// one, every word, every limit reached, every reason for a line that is not done, a race that only the
+    /// last state has, and one without the start thread.
     pub fn missed(&self) -> Vec<String> {
         let numbers = NUMBERS.iter().filter(|&&number| self.with_number(number).0 == 0);
         let mut missed: Vec<String> = numbers.map(|number| format!("number {number}")).collect();
         let races = [0, 46, 47, 48].into_iter().filter(|&number| self.with_number(number).1 == 0);
         missed.extend(races.map(|number| format!("a race beside {number}")));
-        let words = WORDS.iter().filter(|word| !self.words.contains_key(word) && steps(**word));
+        let words = stepping().filter(|word| !self.words.contains_key(word));
         missed.extend(words.map(|word| format!("a step of {}", word.spelling())));
         let full = COUNTED.iter().filter(|kind| !self.full.contains_key(kind));
         missed.extend(full.map(|kind| format!("as many {kind:?} as there may be")));
-        let past = COUNTED.iter().filter(|kind| !self.past.contains_key(kind));
-        missed.extend(past.map(|kind| format!("more {kind:?} than there may be")));
+        let reasons = reasons().into_iter().filter(|reason| !self.stopped.contains_key(reason));
+        missed.extend(reasons.map(|reason| format!("a line that is not done: {reason:?}")));
+        if self.last == 0 {
+            missed.push("a race in the last state alone".to_string());
+        }
         if !self.pairs.iter().any(|&(first, _)| first > 0) {
             missed.push("a race without the start thread".to_string());
         }
@@ -126,9 +133,21 @@ impl Met {
     }
 }
 
-/// Whether a word takes a step of its own: variables and constants do not.
-fn steps(word: Word) -> bool {
-    !matches!(word, Word::Var | Word::Int)
+/// The words that take a step of their own: variables and constants do not.
+fn stepping() -> impl Iterator<Item = Word> {
+    WORDS.into_iter().filter(|word| !matches!(word, Word::Var | Word::Int))
+}
+
+/// Every reason for a line that is not done.
+fn reasons() -> Vec<Stopped> {
+    use Word::*;
+    let waiting = [Join, Lock, Wait, Rdlock, Rdunlock, Wrlock, Wrunlock];
+    let acting = [Spawn, Read, Write, Unlock, Post].into_iter().chain(waiting);
+    let mut reasons = vec![Stopped::NotSpawned, Stopped::Finished, Stopped::Joined, Stopped::Choice];
+    reasons.extend(waiting.map(Stopped::Waits));
+    reasons.extend(acting.map(Stopped::WrongKind));
+    reasons.extend(COUNTED.map(Stopped::Past));
+    reasons
 }
 
 impl fmt::Display for Met {
@@ -141,18 +160,22 @@ impl fmt::Display for Met {
             writeln!(out, "  number {number:2} {met:7}, with a race {races}")?;
         }
         for kind in COUNTED {
-            let count = |counts: &BTreeMap<Counted, u64>| counts.get(&kind).copied().unwrap_or(0);
-            writeln!(
-                out,
-                "  {:11} {:7} states at the limit, {} past it",
-                format!("{kind:?}"),
-                count(&self.full),
-                count(&self.past)
-            )?;
+            let full = self.full.get(&kind).copied().unwrap_or(0);
+            writeln!(out, "  {:14} {full:7} states at the limit", format!("{kind:?}"))?;
         }
-        for word in WORDS.into_iter().filter(|&word| steps(word)) {
+        for reason in reasons() {
+            let stopped = self.stopped.get(&reason).copied().unwrap_or(0);
+            writeln!(out, "  {:22} {stopped:7} lines not done", format!("{reason:?}"))?;
+        }
+        for word in stepping() {
             writeln!(out, "  {:9} {:8} steps", word.spelling(), self.words.get(&word).copied().unwrap_or(0))?;
         }
+        writeln!(
+            out,
+            "  {} pairs of threads race first somewhere; {} races in the last state alone",
+            self.pairs.len(),
+            self.last
+        )?;
         writeln!(out, "  {} traces, {} steps, {} of accepted programs", self.traces, self.steps, self.accepted)
     }
 }
@@ -185,7 +208,7 @@ mod tests {
         (0..1_000).filter(differs).count()
     }
 
-    #[cfg(all(product, feature = "replay"))]
+    #[cfg(product)]
     #[test]
     fn the_product_gets_through() {
         assert_eq!(crate::product::REPLAY.map(told_apart), Some(0));
@@ -208,10 +231,29 @@ mod tests {
     #[test]
     fn one_that_knows_no_limits() {
         let replayer: Replayer = |program, trace, space| match SECOND(program, trace, space) {
-            Replayed { number: 48, .. } => Replayed::at_line(47, 1),
+            Replayed { number: 48, race, line, .. } => Replayed { number: 0, line: 0, steps: line, race },
             done => done,
         };
         assert!(told_apart(replayer) > 30);
+    }
+
+    #[test]
+    fn one_that_names_the_last_step_done() {
+        let replayer: Replayer = |program, trace, space| match SECOND(program, trace, space) {
+            Replayed { number: number @ 46.., steps, race, .. } => Replayed { number, line: steps, steps, race },
+            done => done,
+        };
+        assert!(told_apart(replayer) > 100);
+    }
+
+    /// A race is looked for before each step and not after the last one.
+    #[test]
+    fn one_that_does_not_look_at_the_last_state() {
+        let replayer: Replayer = |program, trace, space| {
+            let done = SECOND(program, trace, space);
+            Replayed { race: done.race.filter(|race| race.state < done.steps), ..done }
+        };
+        assert!(told_apart(replayer) > 0);
     }
 
     #[test]

@@ -1,7 +1,7 @@
 //! A run along a recorded order: threads keep the numbers of their spawning, and what a run may have is
 //! limited (request (xii)).
 
-use super::claims::about_to_access;
+use super::claims::{about_to_access, waits};
 use super::expression::Expression;
 use super::state::State;
 use crate::answer::{THINGS, THREADS};
@@ -32,12 +32,30 @@ impl Counted {
 }
 
 /// Why a line of a trace is not done.
-#[derive(Clone, Copy, Debug, PartialEq, Eq)]
+#[derive(Clone, Copy, Debug, PartialEq, Eq, PartialOrd, Ord)]
 pub enum Stopped {
-    /// There is no such thread, or it cannot take such a step.
-    CannotStep,
+    /// No thread of this number was spawned so far.
+    NotSpawned,
+    Finished,
+    Joined,
+    /// The next word has no such choice.
+    Choice,
+    /// The thread waits at this word.
+    Waits(Word),
+    /// The word has a value of the wrong kind.
+    WrongKind(Word),
     /// The step goes past the limit of this kind.
     Past(Counted),
+}
+
+impl Stopped {
+    /// The refusal's number.
+    pub fn number(self) -> u32 {
+        match self {
+            Stopped::Past(_) => 48,
+            _ => 47,
+        }
+    }
 }
 
 /// A state, with the number of each of its threads; a joined thread's number is not used again.
@@ -73,14 +91,20 @@ impl Run {
     /// The run after one step of a thread. Among several finished threads a join takes the lowest: the
     /// threads of a state stand in spawn order, and so do the moves that list them.
     pub fn after(&self, thread: u32, choice: u32) -> Result<Run, Stopped> {
-        let place = self.place_of(thread).ok_or(Stopped::CannotStep)?;
-        let mut moves = self.state.moves(place).into_iter().filter(|step| step.part == choice as usize);
-        let taken = moves.find_map(|step| Some((step, self.state.reduced(step)?)));
-        let (step, state) = taken.ok_or(Stopped::CannotStep)?;
+        let absent = if thread < self.spawned { Stopped::Joined } else { Stopped::NotSpawned };
+        let place = self.place_of(thread).ok_or(absent)?;
+        let word = self.next_word(thread).ok_or(Stopped::Finished)?;
+        let moves = self.state.moves(place).into_iter().filter(|step| step.part == choice as usize);
+        let taken = moves.clone().find_map(|step| Some((step, self.state.reduced(step)?)));
+        let (step, state) = taken.ok_or_else(|| match moves.count() {
+            0 => Stopped::Choice,
+            _ if waits(&self.state, place) => Stopped::Waits(word),
+            _ => Stopped::WrongKind(word),
+        })?;
         let mut next = Run { state, numbers: self.numbers.clone(), spawned: self.spawned };
-        match self.next_word(thread) {
-            Some(Word::Join) => drop(next.numbers.remove(step.finished)),
-            Some(Word::Spawn) => {
+        match word {
+            Word::Join => drop(next.numbers.remove(step.finished)),
+            Word::Spawn => {
                 next.numbers.push(next.spawned);
                 next.spawned += 1;
             }

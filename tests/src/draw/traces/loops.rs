@@ -24,7 +24,7 @@ pub fn run(random: &mut Random) -> (Vec<u8>, Vec<u8>) {
     steps += &format!("|{}", round(random, &mut variable));
     let program = sheet(&steps);
     let manner = random.pick(&[Manner::SameAgain, Manner::OldestFirst, Manner::NewestFirst, Manner::Any]);
-    let schedule = Schedule { manner, steps: 2_000, first_part: 100, past_limits: random.percent(70) };
+    let schedule = Schedule { manner, steps: 2_000, first_part: 100, past_limits: random.percent(70), one_more: false };
     let trace = schedule.trace(random, &program);
     (program, trace)
 }

@@ -1,5 +1,6 @@
 //! Drawn traces (request (xii)): runs of drawn and of known programs, changed ones, and noise.
 
+mod kinds;
 mod loops;
 mod racing;
 pub mod schedule;
@@ -46,7 +47,7 @@ impl Recorded {
 }
 
 /// One in so many traces is a long one.
-const LONG: u64 = 5_000;
+const LONG: u64 = 20_000;
 
 /// The trace with this number in the series of this seed. Equal arguments give equal traces.
 pub fn recorded(seed: u64, number: u64) -> Recorded {
@@ -56,7 +57,8 @@ pub fn recorded(seed: u64, number: u64) -> Recorded {
         return Recorded::of(program, trace, "posts");
     }
     match random.below(100) {
-        0..=64 => run(random),
+        0..=60 => run(random),
+        61..=64 => cut_at_race(random),
         65..=82 => changed_trace(random),
         83..=86 => {
             let pair = changed_text(random);
@@ -78,7 +80,12 @@ pub fn recorded(seed: u64, number: u64) -> Recorded {
             let room = random.pick(&[0, 1, REPLAY_SPACE - 1, REPLAY_SPACE + 1, REPLAY_SPACE + 40]);
             Recorded { room, origin: "room", safe: false, ..run(random) }
         }
-        93..=95 => noisy_trace(random),
+        93..=94 => noisy_trace(random),
+        95..=96 => halted(random),
+        97..=98 => {
+            let (program, trace) = kinds::run(random);
+            Recorded::of(program, trace, "kinds")
+        }
         _ => {
             let (program, trace) = loops::posts(random, false);
             Recorded::of(program, trace, "posts")
@@ -146,6 +153,17 @@ fn known(random: &mut Random) -> Recorded {
     Recorded::of(program, trace, "known")
 }
 
+/// A run as far as it goes, and a line more of a thread that has finished or waits.
+fn halted(random: &mut Random) -> Recorded {
+    let program = match random.below(2) {
+        0 => concurrent::draft(random).program(),
+        _ => sheet(random.pick(WAITING)),
+    };
+    let schedule = Schedule { steps: 300, first_part: 20, one_more: true, ..Schedule::drawn(random) };
+    let trace = schedule.trace(random, &program);
+    Recorded::of(program, trace, "halted")
+}
+
 /// A run with one or two changes in its trace: another thread or choice, lines moved, or any change of text.
 fn changed_trace(random: &mut Random) -> Recorded {
     let mut recorded = Recorded { origin: "changed trace", safe: false, ..run(random) };
@@ -157,6 +175,17 @@ fn changed_trace(random: &mut Random) -> Recorded {
         }
     }
     recorded
+}
+
+/// A run that ends with its first state with a race, or one line before or behind it.
+fn cut_at_race(random: &mut Random) -> Recorded {
+    let (program, mut trace) = racing::run(random);
+    if let Some(race) = second::replay(&program, &trace, REPLAY_SPACE).race {
+        let lines = race.state as usize + random.pick(&[0, 0, 1]) - usize::from(random.percent(20));
+        let cut: Vec<u8> = trace.split_inclusive(|&byte| byte == b'\n').take(lines).flatten().copied().collect();
+        trace = cut;
+    }
+    Recorded::of(program, trace, "cut at a race")
 }
 
 /// Puts a line of a low thread in some place, most often near the end.

@@ -12,7 +12,7 @@ pub fn run(random: &mut Random) -> (Vec<u8>, Vec<u8>) {
     let mut variable = 0;
     let mut steps: Vec<String> = CELLS.map(|cell| format!("let,{cell}|ref,0|int,0")).collect();
     steps.push("let,0|newtid,0".to_string());
-    for _ in 0..1 + random.below(5) {
+    for _ in 0..random.pick(&[1, 2, 3, 4, 5, 15]) {
         let body = accesses(random, &mut variable);
         variable += 1;
         steps.push(format!("let,{variable}|spawn,0|var,0|{body}"));

@@ -3,7 +3,7 @@
 use crate::draw::draft::push_numeral;
 use crate::draw::random::Random;
 use crate::steps::expression::Expression;
-use crate::steps::run::{Run, Stopped};
+use crate::steps::run::Run;
 use crate::words::Word;
 
 /// Which thread goes next, among those that can.
@@ -28,6 +28,8 @@ pub struct Schedule {
     pub first_part: usize,
     /// Whether the first step past a limit is written down as well.
     pub past_limits: bool,
+    /// Whether a line of some thread is written down at the end that it may not be able to do.
+    pub one_more: bool,
 }
 
 impl Schedule {
@@ -37,6 +39,7 @@ impl Schedule {
             steps: random.pick(&[3, 10, 40, 120, 120, 300]),
             first_part: random.pick(&[20, 50, 80]),
             past_limits: random.percent(50),
+            one_more: false,
         }
     }
 
@@ -50,7 +53,7 @@ impl Schedule {
             let next = threads.find_map(|thread| {
                 let choice = if run.next_word(thread) == Some(Word::If) { choice } else { 0 };
                 match run.after(thread, choice) {
-                    Err(Stopped::CannotStep) => None,
+                    Err(stopped) if stopped.number() == 47 => None,
                     step => Some((thread, choice, step)),
                 }
             });
@@ -60,6 +63,9 @@ impl Schedule {
             }
             let Ok(after) = step else { break };
             (run, last) = (after, thread);
+        }
+        if self.one_more {
+            push_line(&mut trace, random.pick(run.threads()), 0);
         }
         trace
     }
