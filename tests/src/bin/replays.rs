@@ -5,7 +5,7 @@
 
 use evidence::answer::REPLAY_SPACE;
 use evidence::comparison::Checker;
-use evidence::draw::traces::{self, Recorded};
+use evidence::draw::traces;
 use evidence::replaying::{agreed, Met, Replayer};
 use evidence::{known, product, series};
 use std::process::ExitCode;
@@ -54,21 +54,12 @@ fn drawn_traces(replayer: Replayer, checker: Checker, traces: u64, seed: u64) ->
     for number in 0..traces {
         let drawn = traces::recorded(seed, number);
         agreed(replayer, checker, &drawn, &mut met).map_err(|difference| {
-            format!("trace {number} of seed {seed} ({}): {difference}; {}", drawn.origin, kept(&drawn, number))
+            let kept = series::kept(drawn.files(), number);
+            format!("trace {number} of seed {seed} ({}): {difference}; {kept}", drawn.origin)
         })?;
     }
     match met.missed().as_slice() {
         [] => Ok(met),
         missed => Err(format!("{met}not met: {}", missed.join(", "))),
-    }
-}
-
-/// Keeps a program and a trace on which two answers differ for a closer look, and says where.
-fn kept(drawn: &Recorded, number: u64) -> String {
-    let (program, trace) = (format!("unlike-{number}-program.txt"), format!("unlike-{number}-trace.txt"));
-    let saved = std::fs::write(&program, &drawn.program).and_then(|()| std::fs::write(&trace, &drawn.trace));
-    match saved {
-        Ok(()) => format!("saved as {program} and {trace}"),
-        Err(error) => format!("not saved: {error}"),
     }
 }

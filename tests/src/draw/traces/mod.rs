@@ -11,6 +11,7 @@ use super::random::Random;
 use super::{changed_text, freelock, honest_draft, limits, mutants, noise, Drawn};
 use crate::answer::REPLAY_SPACE;
 use crate::second;
+use crate::series::Files;
 use crate::steps::programs::{ODD, RACY, WAITING};
 use loops::sheet;
 use schedule::{push_line, Schedule};
@@ -38,6 +39,10 @@ impl Recorded {
         let well_formed = second::replay(&pair.program, b"", REPLAY_SPACE).number == 0;
         let trace = if well_formed { schedule.trace(random, &pair.program) } else { b"0,0\n0,0\n".to_vec() };
         Recorded { split: Some(pair.split), ..Recorded::of(pair.program, trace, origin) }
+    }
+
+    pub fn files(&self) -> Files<'_> {
+        [("program.txt", &self.program), ("trace.txt", &self.trace)]
     }
 
     /// A run of the program of a draft.
