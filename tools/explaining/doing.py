@@ -83,8 +83,8 @@ def why_not(stop, thread, number, names):
     """Why the step of the thread with this number cannot be taken. `thread` is None if there is no such thread."""
     facts = stop.facts
     if stop.reason == "no thread":
-        count = facts["count"]
-        return f"there is no thread {number}: " + ("there is thread 0 alone" if count == 1 else f"there are threads 0 to {count - 1}")
+        last = facts["count"] - 1
+        return f"there is no thread {number}: there " + (f"are threads 0 to {last}" if last else "is thread 0 alone")
     who = thread_called(thread, names)
     if stop.reason == "finished":
         return f"{who} has finished: it takes no more steps"

@@ -93,8 +93,8 @@ REFUSALS = {
         "write the line as `thread,choice`: two numbers, no spaces, no leading zeros, byte 10 at its end"),
     47: Refusal(
         "a line of the trace names no thread, or a step or choice that the thread cannot take", "bench staff", TRACE,
-        "look whether the order was recorded on this version of the job; then whether a line is missing above it, such as the second"
-        " of the two that each round of a loop begins with"),
+        "look whether the order was recorded on this version of the job; then whether a line is missing above it, such as the"
+        " second of the two that each round of a loop begins with"),
     48: Refusal(
         "a step of the trace goes past what a replay can hold", "bench staff", TRACE,
         "cut the order before that line, or record a shorter one: fewer rounds of the loop that makes new things"),

@@ -1,4 +1,4 @@
-"""A line of racereplay put beside the job and the recorded order: what it speaks of, and whether the steps taken here come to it."""
+"""A line of racereplay put beside the job and the recorded order: what it speaks of, and whether the steps here come to it."""
 from dataclasses import dataclass, field
 
 from . import causes, doing, forms
@@ -12,7 +12,8 @@ from .showing import grouped, shown
 
 # The longest trace that racereplay holds.
 TRACE_BYTES = 4_000_000
-RAN, RACE = "Every line of the order was done, and no state on the way has a race.", "Every line of the order was done. It has a race."
+RAN = "Every line of the order was done, and no state on the way has a race."
+RACE = "Every line of the order was done. It has a race."
 NUMERALS = [forms.Range("a number", 0, 10**forms.DIGITS)] * 2
 
 
@@ -106,7 +107,8 @@ def _fill(explanation, program, trace, numbers, walks):
     explanation.numbers.append(f"{grouped(order.steps)} step{'s' * (order.steps != 1)} done")
     if order.race:
         state, _, _, one, other = order.race
-        explanation.numbers += [f"the first state with a race is state {grouped(state)}, the one after line {grouped(state)}:", one, other]
+        where = f"the first state with a race is state {grouped(state)}, the one after line {grouped(state)}:"
+        explanation.numbers += [where, one, other]
 
 
 # ---- As text
