@@ -16,21 +16,22 @@ pub type Replayer = fn(&[u8], &[u8], &mut [u32]) -> Replayed;
 /// How many numbers stand behind the space lent, to show a write past its end.
 const MARK: usize = 64;
 
-fn garbage(length: usize) -> Vec<u32> {
-    (0..length).map(|place| 0x5A5A_0003 ^ (place as u32) << 7).collect()
+/// What stands in a place of the space before a call.
+fn garbage(place: usize) -> u32 {
+    0x5A5A_0003 ^ (place as u32) << 7
 }
 
 /// Calls a replayer with `room` numbers of garbage. Fails when a text is changed, or the space where it
 /// must stay: past what is lent, and all of it after the answer 1.
 fn called(replayer: Replayer, drawn: &Recorded) -> Result<Replayed, String> {
     let (program, trace) = (drawn.program.clone(), drawn.trace.clone());
-    let mut space = garbage(drawn.room + MARK);
+    let mut space: Vec<u32> = (0..drawn.room + MARK).map(garbage).collect();
     let replayed = replayer(&program, &trace, &mut space[..drawn.room]);
     if program != drawn.program || trace != drawn.trace {
         return Err("a text was changed".to_string());
     }
     let free = if drawn.room < REPLAY_SPACE { 0 } else { drawn.room };
-    match space[free..] == garbage(drawn.room + MARK)[free..] {
+    match (free..space.len()).all(|place| space[place] == garbage(place)) {
         true => Ok(replayed),
         false => Err("the space is changed where it must stay".to_string()),
     }
@@ -110,8 +111,8 @@ impl Met {
     }
 
     /// What the series should have met and did not: every number, a race beside each number that can have
-    /// one, every word, every limit reached, every reason for a line that is not done, a race that only the
-    /// last state has, and one without the start thread.
+    /// one, every word, every limit reached, every reason for a line that is not done, a program that is
+    /// accepted, a race that only the last state has, and one without the start thread.
     pub fn missed(&self) -> Vec<String> {
         let numbers = NUMBERS.iter().filter(|&&number| self.with_number(number).0 == 0);
         let mut missed: Vec<String> = numbers.map(|number| format!("number {number}")).collect();
@@ -123,6 +124,9 @@ impl Met {
         missed.extend(full.map(|kind| format!("as many {kind:?} as there may be")));
         let reasons = reasons().into_iter().filter(|reason| !self.stopped.contains_key(reason));
         missed.extend(reasons.map(|reason| format!("a line that is not done: {reason:?}")));
+        if self.accepted == 0 {
+            missed.push("a trace of an accepted program".to_string());
+        }
         if self.last == 0 {
             missed.push("a race in the last state alone".to_string());
         }
