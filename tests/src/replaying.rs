@@ -22,7 +22,7 @@ fn garbage(place: usize) -> u32 {
 }
 
 /// Calls a replayer with `room` numbers of garbage. Fails when a text is changed, or the space where it
-/// must stay: past what is lent, and all of it after the answer 1.
+/// must stay: past the numbers that it needs, and all of it after the answer 1.
 fn called(replayer: Replayer, drawn: &Recorded) -> Result<Replayed, String> {
     let (program, trace) = (drawn.program.clone(), drawn.trace.clone());
     let mut space: Vec<u32> = (0..drawn.room + MARK).map(garbage).collect();
@@ -30,7 +30,7 @@ fn called(replayer: Replayer, drawn: &Recorded) -> Result<Replayed, String> {
     if program != drawn.program || trace != drawn.trace {
         return Err("a text was changed".to_string());
     }
-    let free = if drawn.room < REPLAY_SPACE { 0 } else { drawn.room };
+    let free = if drawn.room < REPLAY_SPACE { 0 } else { REPLAY_SPACE };
     match (free..space.len()).all(|place| space[place] == garbage(place)) {
         true => Ok(replayed),
         false => Err("the space is changed where it must stay".to_string()),
