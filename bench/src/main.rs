@@ -1,8 +1,10 @@
-//! Times the product against the second checker, and its filling against the second filler, in one run
-//! and on the same pairs.
+//! Times the product against the second checker, its filling against the second filler and its replay
+//! against the second replayer, in one run and on the same texts.
 //!
 //! The product must clear the work space, the second checker has none. So the second checker is
 //! timed twice: alone, and with 16,384 numbers cleared after it.
+
+mod replays;
 
 use evidence::answer::{Returned, LOCATIONS, SPLIT_BYTES, STEPS, TYPES, WHOLE, WORK_SPACE};
 use evidence::draw::draft::{Draft, Heading, Map, Step};
@@ -37,7 +39,7 @@ impl Pair {
 }
 
 fn main() -> ExitCode {
-    let (Some(check), Some(fill)) = (product::CHECK, product::FILL) else {
+    let (Some(check), Some(fill), Some(replay)) = (product::CHECK, product::FILL, product::REPLAY) else {
         println!("{}", product::NOT_LINKED);
         return ExitCode::FAILURE;
     };
@@ -65,6 +67,7 @@ fn main() -> ExitCode {
     bench.growth("steps", [16, 32, 64, 128, 256], |random, count| grown(random, count, 32, 4));
     bench.growth("maps", [32, 64, 128, 256, 512], |random, count| grown(random, 32, count, 4));
     bench.growth("locations", [1, 2, 4, 8, 16], |random, count| grown(random, 32, 256, count));
+    replays::rows(replay);
     ExitCode::SUCCESS
 }
 

@@ -2,6 +2,12 @@
 
 /// The work space's length in 32-bit numbers, below which a call is refused with 1.
 pub const WORK_SPACE: usize = 16_384;
+/// The length of the space lent to a replay in 32-bit numbers, below which it is refused with 1.
+pub const REPLAY_SPACE: usize = 16_384;
+/// The most threads of a run, the start thread included.
+pub const THREADS: usize = 16;
+/// The most cells of a run, and likewise locks, read-write locks, semaphores and identifiers.
+pub const THINGS: usize = 64;
 /// The longest program sheet in bytes.
 pub const PROGRAM_BYTES: usize = 16_384;
 /// The longest split sheet in bytes.
@@ -44,5 +50,44 @@ impl std::fmt::Display for Returned {
             return write!(out, "ACCEPT");
         }
         write!(out, "REFUSE,{},{},{},{}", self.number, self.line, self.condition, self.location)
+    }
+}
+
+/// What a replay returns, and what it reports: the steps done and the first state with a race.
+#[derive(Clone, Copy, Debug, PartialEq, Eq)]
+pub struct Replayed {
+    pub number: u32,
+    pub line: u64,
+    pub steps: u64,
+    pub race: Option<Race>,
+}
+
+impl Replayed {
+    /// An answer with no steps and no race.
+    pub const fn at_line(number: u32, line: u64) -> Replayed {
+        Replayed { number, line, steps: 0, race: None }
+    }
+}
+
+/// The number of the first state with a race, and the lowest pair of threads that race in it.
+#[derive(Clone, Copy, Debug, PartialEq, Eq)]
+pub struct Race {
+    pub state: u64,
+    pub first: u32,
+    pub second: u32,
+}
+
+impl std::fmt::Display for Replayed {
+    /// The line that `racereplay` writes, without its closing byte.
+    fn fmt(&self, out: &mut std::fmt::Formatter<'_>) -> std::fmt::Result {
+        let Replayed { number, line, steps, race } = self;
+        match (number, race) {
+            (0, None) => write!(out, "RAN,{steps}"),
+            (0, Some(Race { state, first, second })) => write!(out, "RACE,{steps},{state},{first},{second}"),
+            (_, None) => write!(out, "REFUSE,{number},{line},0,0,{steps}"),
+            (_, Some(Race { state, first, second })) => {
+                write!(out, "REFUSE,{number},{line},0,0,{steps},RACE,{state},{first},{second}")
+            }
+        }
     }
 }

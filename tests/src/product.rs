@@ -1,6 +1,6 @@
 //! The calls of the product through its C entries, where the library is linked (see `build.rs`).
 
-pub use calls::{CHECK, DRILL, FILL};
+pub use calls::{CHECK, DRILL, FILL, REPLAY};
 
 /// What a command that needs the product says before it fails without it.
 pub const NOT_LINKED: &str = "the product is not linked: name the folder of its library in RACECHECK_LIB_DIR";
@@ -11,22 +11,26 @@ mod calls {
     use crate::comparison::Checker;
     use crate::drill::Driller;
     use crate::filling::Filler;
+    use crate::replaying::Replayer;
 
     pub const CHECK: Option<Checker> = None;
     pub const DRILL: Option<Driller> = None;
     pub const FILL: Option<Filler> = None;
+    pub const REPLAY: Option<Replayer> = None;
 }
 
 #[cfg(product)]
 mod calls {
-    use crate::answer::Returned;
+    use crate::answer::{Race, Replayed, Returned};
     use crate::comparison::Checker;
     use crate::drill::{Drilled, Driller};
     use crate::filling::Filler;
+    use crate::replaying::Replayer;
 
     pub const CHECK: Option<Checker> = Some(check);
     pub const DRILL: Option<Driller> = Some(drill);
     pub const FILL: Option<Filler> = Some(fill);
+    pub const REPLAY: Option<Replayer> = Some(replay);
 
     extern "C" {
         fn racecheck_check(
@@ -64,6 +68,20 @@ mod calls {
             length_or_line: *mut u32,
             condition: *mut u32,
             location: *mut u32,
+        ) -> u32;
+
+        fn racecheck_replay(
+            program: *const u8,
+            program_len: usize,
+            trace: *const u8,
+            trace_len: usize,
+            space: *mut u32,
+            space_len: usize,
+            line: *mut u64,
+            steps: *mut u64,
+            state: *mut u64,
+            first: *mut u32,
+            second: *mut u32,
         ) -> u32;
     }
 
@@ -128,5 +146,31 @@ mod calls {
             )
         };
         returned
+    }
+
+    /// Without a race the state and the threads are the largest numbers of their kinds.
+    const NO_RACE: Race = Race { state: u64::MAX, first: u32::MAX, second: u32::MAX };
+
+    /// Calls the product's replay on a program, a trace and a lent space.
+    fn replay(program: &[u8], trace: &[u8], space: &mut [u32]) -> Replayed {
+        // What is stored must overwrite this.
+        let (mut line, mut steps, mut race) = (77, 77, Race { state: 77, first: 77, second: 77 });
+        // The three slices and the five places are live and apart for the whole call.
+        let number = unsafe {
+            racecheck_replay(
+                program.as_ptr(),
+                program.len(),
+                trace.as_ptr(),
+                trace.len(),
+                space.as_mut_ptr(),
+                space.len(),
+                &mut line,
+                &mut steps,
+                &mut race.state,
+                &mut race.first,
+                &mut race.second,
+            )
+        };
+        Replayed { number, line, steps, race: (race != NO_RACE).then_some(race) }
     }
 }

@@ -9,9 +9,9 @@ from .showing import grouped
 MARKS = {b"\xef\xbb\xbf": "UTF-8", b"\xff\xfe": "UTF-16", b"\xfe\xff": "UTF-16"}
 
 
-def unread_causes(folder):
-    """Why a file of a pair could not be read: one sentence for each file at fault."""
-    return [f"{name} {why}" for name in (PROGRAM, SPLIT) if (why := _unreadable(os.path.join(folder, name)))]
+def unread_causes(folder, files=(PROGRAM, SPLIT)):
+    """Why a file could not be read: one sentence for each file at fault."""
+    return [f"{name} {why}" for name in files if (why := _unreadable(os.path.join(folder, name)))]
 
 
 def _unreadable(path):

@@ -32,6 +32,7 @@ class Explanation:
     causes: list = field(default_factory=list)
     disagrees: str = ""  # where racecheck and this house's arithmetic part
     sites: object = None  # the steps, when both sheets are well formed
+    order: object = None  # the recorded order as far as it was done, when it was replayed
 
 
 def explain(run, folder):
@@ -44,17 +45,22 @@ def explain(run, folder):
     program, split = read_sheet(folder, PROGRAM), read_sheet(folder, SPLIT)
     if run.answer == "ACCEPT":
         explanation = Explanation(run.answer, ACCEPTED, names)
-        return _guarded(explanation, lambda: _walkable(explanation, program, split))
+        return guarded(explanation, lambda: _walkable(explanation, program, split))
     number, line, condition, location = run.numbers()
-    refusal = REFUSALS.get(number)
-    if refusal is None:
-        return Explanation(run.answer, f"This number is not known here: {number}.", names, number)
-    explanation = Explanation(run.answer, f"{refusal.found[0].upper()}{refusal.found[1:]}.", names, number)
-    explanation.helps.append(refusal.helps)
-    return _guarded(explanation, lambda: _refused(explanation, program, split, line, condition, location))
+    explanation = Explanation(run.answer, refusal_meaning(number), names, number)
+    if number not in REFUSALS:
+        return explanation
+    explanation.helps.append(REFUSALS[number].helps)
+    return guarded(explanation, lambda: _refused(explanation, program, split, line, condition, location))
 
 
-def _guarded(explanation, fill):
+def refusal_meaning(number):
+    """What was found wrong, as a sentence."""
+    found = REFUSALS[number].found if number in REFUSALS else f"this number is not known here: {number}"
+    return f"{found[0].upper()}{found[1:]}."
+
+
+def guarded(explanation, fill):
     """Fills an explanation. What goes wrong there is a disagreement and is told as one."""
     try:
         fill()
@@ -74,18 +80,29 @@ def _walkable(explanation, program, split):
 
 
 def _refused(explanation, program, split, line, condition, location):
-    sheet = {PROGRAM: program, SPLIT: split}.get(REFUSALS[explanation.number].sheet)
-    if sheet is not None:
-        text = sheet.line(line)
-        explanation.place.append(f"{sheet.name} line {line}" + ("" if text is None else f": {shown(text)}"))
     if 30 <= explanation.number <= 33:
+        _place(explanation, program, line)
         _walkable(explanation, program, split)
         _condition_finding(explanation, line, condition, location)
-        return
-    explanation.causes += causes.line_causes(sheet, line) if sheet else []
-    if explanation.number in (21, 22, 23, 40) and line > 1:
+    else:
+        refused_text(explanation, program, split, line)
+
+
+def refused_text(explanation, program, split, line):
+    """A refusal of a sheet's text: the line at fault, what its bytes show, and what is wrong with it."""
+    number = explanation.number
+    sheet = {PROGRAM: program, SPLIT: split}.get(REFUSALS[number].sheet)
+    if sheet is not None:
+        _place(explanation, sheet, line)
+        explanation.causes += causes.line_causes(sheet, line)
+    if number in (21, 22, 23, 40) and line > 1:
         explanation.causes += causes.version_causes(program, split, lines_wanted(program, split))
-    explanation.numbers.append(text_finding(explanation.number, line, program, split))
+    explanation.numbers.append(text_finding(number, line, program, split))
+
+
+def _place(explanation, sheet, line):
+    text = sheet.line(line)
+    explanation.place.append(f"{sheet.name} line {line}" + ("" if text is None else f": {shown(text)}"))
 
 
 # ---- 30 to 33

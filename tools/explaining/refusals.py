@@ -4,7 +4,7 @@ A new refusal is a row of REFUSALS.
 """
 from typing import NamedTuple
 
-PROGRAM, SPLIT = "program.txt", "split.txt"
+PROGRAM, SPLIT, TRACE = "program.txt", "split.txt", "trace.txt"
 
 
 class Refusal(NamedTuple):
@@ -88,13 +88,26 @@ REFUSALS = {
     45: Refusal(
         "the word `freelock`, which is no step of the machines", "owner of the program", PROGRAM,
         "write `lock` in its place; the row in the split can stay as it is"),
+    46: Refusal(
+        "a line of the trace is not of its form", "bench staff", TRACE,
+        "write the line as `thread,choice`: two numbers, no spaces, no leading zeros, byte 10 at its end"),
+    47: Refusal(
+        "a line of the trace names no thread, or a step or choice that the thread cannot take", "bench staff", TRACE,
+        "look whether the order was recorded on this version of the job; then whether a line is missing above it, such as the"
+        " second of the two that each round of a loop begins with"),
+    48: Refusal(
+        "a step of the trace goes past what a replay can hold", "bench staff", TRACE,
+        "cut the order before that line, or record a shorter one: fewer rounds of the loop that makes new things"),
 }
 
 # What only a caller of the library sees: no pair of sheets leads to these.
 FOR_CALLERS = {1, 38}
-# What only racefill answers, and what racecheck does.
+# What only racefill answers.
 OF_FILLING = {41, 42, 43}
-OF_CHECKING = set(REFUSALS) - FOR_CALLERS - OF_FILLING
+# What only racereplay answers.
+OF_REPLAYING = {46, 47, 48}
+# What racecheck answers.
+OF_CHECKING = set(REFUSALS) - FOR_CALLERS - OF_FILLING - OF_REPLAYING
 
 # What a false condition of a word usually means, beyond its refusal's own line: by word and condition.
 _EARLIER = "a take or give is missing before it: the row counts with a right that no step on the way has moved"

@@ -1,4 +1,4 @@
-"""Finding racecheck and running it in a pair's folder, for a bounded time."""
+"""Finding racecheck and racereplay and running them in a folder, for a bounded time."""
 import os
 import re
 import selectors
@@ -11,7 +11,9 @@ from typing import NamedTuple
 
 SECONDS = 10
 MOST_BYTES = 4096
+# The lines that each program writes.
 ANSWER = re.compile(r"ACCEPT|UNREAD|REFUSE(,[0-9]{1,10}){4}")
+REPLAY = re.compile(r"RAN,[0-9]+|RACE(,[0-9]+){4}|UNREAD|REFUSE(,[0-9]+){5}(,RACE(,[0-9]+){3})?")
 
 # The runs under way, and whether they are being ended: a run that is just starting then has to end too.
 under_way = set()
@@ -23,7 +25,7 @@ class NotFound(Exception):
 
 
 class Run(NamedTuple):
-    answer: str  # one of racecheck's three forms, or FAILED
+    answer: str  # one of the program's lines, or FAILED
     failure: str  # why it is FAILED
 
     def numbers(self):
@@ -32,18 +34,22 @@ class Run(NamedTuple):
 
 
 def find_racecheck():
-    """The file that RACECHECK names, else the repository's own, else the one on the PATH."""
-    own = Path(__file__).resolve().parents[2] / "target" / "bin" / "racecheck"
-    chosen = os.environ.get("RACECHECK") or (own if os.access(own, os.X_OK) else shutil.which("racecheck"))
+    return find_program("racecheck")
+
+
+def find_program(name):
+    """The file that the variable of that name in capitals gives, else the repository's own, else the one on the PATH."""
+    own = Path(__file__).resolve().parents[2] / "target" / "bin" / name
+    chosen = os.environ.get(name.upper()) or (own if os.access(own, os.X_OK) else shutil.which(name))
     if chosen is None:
-        raise NotFound("racecheck is not built (target/bin/racecheck) and not on the PATH; set RACECHECK to its path")
+        raise NotFound(f"{name} is not built (target/bin/{name}) and not on the PATH; set {name.upper()} to its path")
     if not (os.path.isfile(chosen) and os.access(chosen, os.X_OK)):
-        raise NotFound(f"no racecheck that can be run at: {chosen}")
+        raise NotFound(f"no {name} that can be run at: {chosen}")
     return os.path.abspath(chosen)
 
 
-def run_in(binary, folder):
-    """racecheck's answer in a folder. What is not one of its answers is FAILED, with the reason."""
+def run_in(binary, folder, answers=ANSWER):
+    """A program's answer in a folder. What is not one of its answers is FAILED, with the reason."""
     if not os.path.isdir(folder):
         return Run("FAILED", "a link that leads nowhere" if os.path.islink(folder) else "no such folder")
     if not os.access(folder, os.X_OK):
@@ -52,12 +58,12 @@ def run_in(binary, folder):
         process = subprocess.Popen(
             [binary], cwd=folder, stdin=subprocess.DEVNULL, stdout=subprocess.PIPE, stderr=subprocess.DEVNULL, bufsize=0)
     except OSError as error:
-        return Run("FAILED", f"racecheck could not be started: {error.strerror}")
+        return Run("FAILED", f"{os.path.basename(binary)} could not be started: {error.strerror}")
     under_way.add(process)
     if ending.is_set():
         process.kill()
     try:
-        return _answer(process)
+        return _answer(process, answers)
     finally:
         process.kill()
         process.wait()
@@ -65,7 +71,7 @@ def run_in(binary, folder):
         under_way.discard(process)
 
 
-def _answer(process):
+def _answer(process, answers):
     until = time.monotonic() + SECONDS
     try:
         written = _written(process, until)
@@ -73,7 +79,7 @@ def _answer(process):
     except (TimeoutError, subprocess.TimeoutExpired):
         return Run("FAILED", f"no answer within {SECONDS} seconds")
     line = written.decode("latin-1")
-    if status == 0 and line.endswith("\n") and ANSWER.fullmatch(line[:-1]):
+    if status == 0 and line.endswith("\n") and answers.fullmatch(line[:-1]):
         return Run(line[:-1], None)
     first = line.split("\n")[0][:60]
     return Run("FAILED", f"exit status {'none' if status is None else status}, first line {first!r}")

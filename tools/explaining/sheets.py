@@ -16,7 +16,7 @@ class Line(NamedTuple):
 
 class Sheet(NamedTuple):
     name: str
-    text: bytes  # its first MOST_BYTES bytes
+    text: bytes  # as much of it as is read
     length: int
     lines: list
 
@@ -25,7 +25,7 @@ class Sheet(NamedTuple):
         return self.lines[number - 1].text if 0 < number <= len(self.lines) else None
 
 
-def read_sheet(folder, name):
+def read_sheet(folder, name, most=MOST_BYTES):
     """A sheet of a pair, or None. Only a plain file is opened: a FIFO would be waited for."""
     path = os.path.join(folder, name)
     try:
@@ -33,7 +33,7 @@ def read_sheet(folder, name):
         if not stat.S_ISREG(status.st_mode):
             return None
         with open(path, "rb") as file:
-            text = file.read(MOST_BYTES)
+            text = file.read(most)
     except OSError:
         return None
     pieces = text.split(b"\n")

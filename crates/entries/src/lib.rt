@@ -7,8 +7,8 @@ ghost use mathlib.Core.Path.{_≡_};
 ghost use mathlib.Core.List.{List};
 ghost use mathlib.Core.Bool.{true};
 ghost use mathlib.Core.Logic.{_↔_};
-ghost use Prim.Native.Nat.{ℕ, _≤_};
-ghost use lib.ListN.{length, take};
+ghost use Prim.Native.Nat.{ℕ, _≤_, _<_};
+ghost use lib.ListN.{length, take, drop};
 ghost use Rattle.spec.specs.Program.{Program};
 ghost use Rattle.spec.specs.Split.{Map, Split};
 ghost use Rattle.spec.specs.Accepted.{Right};
@@ -22,6 +22,10 @@ ghost use Rattle.soundness.specs.EitherOrderText.{EitherOrderText};
 ghost use Rattle.checker.specs.Promise.{RefutedAs};
 ghost use Rattle.filling.specs.AfterMaps.{AfterMaps};
 ghost use Rattle.filling.specs.Answer.{fill as filling, numbersOf, bufferAfter, Fillable, Written, GreatestOverLimits};
+ghost use Rattle.replaying.specs.declared.FirstRace.the-variants.{None};
+ghost use Rattle.replaying.specs.Replay.{replaySpace, replay as replayed, lineNumbers, numbersOf as endingNumbers};
+ghost use Rattle.replaying.specs.Claim.{TraceFollowed, RaceFound};
+ghost use Rattle.replay.specs.Numbers.{raceNumbers, raceTold, Stored};
 
 // The answer to a pair of texts: `check` of the crate `checker`, clause by clause.
 #[no_mangle]
@@ -118,4 +122,40 @@ pub extern "C" fn racecheck_fill(
             four.number
         }
     }
+}
+
+// The replay of a program and a trace: `replay` of the crate `replay`. Without a race, the state and the two threads are the largest numbers
+// of their kinds.
+#[no_mangle]
+pub extern "C" fn racecheck_replay(
+    program: &[u8],
+    trace: &[u8],
+    space: &mut [u32],
+    line: &mut u64,
+    steps: &mut u64,
+    state: &mut u64,
+    first: &mut u32,
+    second: &mut u32,
+) -> u32
+    ensures answer { λ n. ⌜ (n ≡ endingNumbers (replayed (length (now (space .entry))) (now (program .entry)) (now (trace .entry)) .ending) .number) × (now (line .exit) ≡ endingNumbers (replayed (length (now (space .entry))) (now (program .entry)) (now (trace .entry)) .ending) .line) ⌝ }
+    ensures report { λ n. ⌜ (now (steps .exit) ≡ replayed (length (now (space .entry))) (now (program .entry)) (now (trace .entry)) .report .steps) × (raceTold (now (state .exit)) (now (first .exit)) (now (second .exit)) ≡ raceNumbers (replayed (length (now (space .entry))) (now (program .entry)) (now (trace .entry)) .report .race)) ⌝ }
+    ensures unchanged { λ n. ⌜ (now (program .exit) ≡ now (program .entry)) × (now (trace .exit) ≡ now (trace .entry)) ⌝ }
+    ensures kept { λ n. ⌜ (length (now (space .entry)) < replaySpace → now (space .exit) ≡ now (space .entry)) ⌝ }
+    ensures free { λ n. ⌜ (length (now (space .exit)) ≡ length (now (space .entry))) × (drop replaySpace (now (space .exit)) ≡ drop replaySpace (now (space .entry))) ⌝ }
+    ensures stops { λ n. ⌜ TraceFollowed (length (now (space .entry))) (now (program .entry)) (now (trace .entry)) (now (steps .exit)) (lineNumbers n (now (line .exit))) ⌝ }
+    ensures first_race { λ n. ⌜ Stored (RaceFound (length (now (space .entry))) (now (program .entry)) (now (trace .entry))) (now (state .exit)) (now (first .exit)) (now (second .exit)) ⌝ }
+    ensures safe { λ n. ⌜ ((room : ℕ) (split : List ℕ) → verdict room (now (program .entry)) split ≡ Accept → raceTold (now (state .exit)) (now (first .exit)) (now (second .exit)) ≡ raceNumbers None) ⌝ }
+{
+    let r = replay::replay(program, trace, space);
+    let ending = r.ending;
+    let report = r.report;
+    let race = report.race;
+    let four = replay::ending_numbers(ending);
+    let pair = replay::race_numbers(race);
+    *line = four.line as u64;
+    *steps = report.steps as u64;
+    *state = pair.state as u64;
+    *first = pair.first;
+    *second = pair.second;
+    four.number
 }

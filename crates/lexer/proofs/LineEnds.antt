@@ -21,13 +21,13 @@ use Rattle.lexer.specs.declared.Numbers.the-variants.{Read, Malformed}
 
 -- ------------------------------------------------------------------ what is left behind a line is a part of the text
 
-record Behind (t r : List ℕ) : Type 0 where
-  by : ℕ
-  some-by : 0 < by
-  by-le : by ≤ length t
-  left : drop by t ≡ r
+pub record Behind (t r : List ℕ) : Type 0 where
+  pub by : ℕ
+  pub some-by : 0 < by
+  pub by-le : by ≤ length t
+  pub left : drop by t ≡ r
 
-abbrev BehindLine : List ℕ → Option (List Field × List ℕ) → Type 0
+abbrev pub BehindLine : List ℕ → Option (List Field × List ℕ) → Type 0
 BehindLine t none = Unit
 BehindLine t (some line) = Behind t (line .1)
 
@@ -44,7 +44,7 @@ unfolding withByte
 behind-byte b t none h = tt
 behind-byte b t (some line) h = behind-more b t (line .1) h
 
-behind-line : (t : List ℕ) → BehindLine t (lineAt t)
+pub behind-line : (t : List ℕ) → BehindLine t (lineAt t)
 unfolding lineAt
 behind-line [] = tt
 behind-line (b ∷ t) = go (eqb b 44) (eqb b 10) (behind-line t)

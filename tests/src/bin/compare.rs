@@ -26,7 +26,8 @@ fn main() -> ExitCode {
         let drawn = draw::pair(seed, number);
         let expected = second::check(&drawn.program, &drawn.split, drawn.room);
         if let Some(difference) = difference(product, &drawn, expected, &mut work) {
-            println!("pair {number} of seed {seed} ({}): {difference}; {}", drawn.origin, series::kept(&drawn, number));
+            let kept = series::kept(drawn.files(), number);
+            println!("pair {number} of seed {seed} ({}): {difference}; {kept}", drawn.origin);
             return ExitCode::FAILURE;
         }
         tally.count(&drawn, expected);

@@ -43,7 +43,7 @@ fn drawn_sheets(filler: Filler, checker: Checker, sheets: u64, seed: u64) -> Res
     for number in 0..sheets {
         let drawn = unfilled::sheet(seed, number);
         let returned = agreed(filler, checker, &drawn, &mut work).map_err(|difference| {
-            let kept = series::kept(&drawn.pair, number);
+            let kept = series::kept(drawn.pair.files(), number);
             format!("sheet {number} of seed {seed} ({}): {difference}; {kept}", drawn.pair.origin)
         })?;
         tally.count(&drawn.pair, returned);

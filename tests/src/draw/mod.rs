@@ -14,9 +14,11 @@ mod noise;
 mod numerals;
 pub mod promise;
 pub mod random;
+pub mod traces;
 pub mod unfilled;
 
 use crate::answer::{LOCATIONS, PROGRAM_BYTES, SPLIT_BYTES, WHOLE, WORK_SPACE};
+use crate::series::Files;
 use crate::words::{Word, WORDS};
 use draft::Draft;
 use honest::concurrent;
@@ -41,6 +43,10 @@ impl Drawn {
 
     pub fn accepted(draft: &Draft, origin: &'static str) -> Drawn {
         Drawn { promise: Promise::Accepted, ..Drawn::of(draft, origin) }
+    }
+
+    pub fn files(&self) -> Files<'_> {
+        [("program.txt", &self.program), ("split.txt", &self.split)]
     }
 }
 

@@ -4,7 +4,10 @@
 mod base;
 mod fillings;
 mod locks;
+mod replays;
 mod requests;
+
+pub use replays::KnownReplay;
 
 /// A program sheet, a split sheet, and the line that `racecheck` writes for them.
 pub struct Known {
@@ -31,6 +34,11 @@ pub fn all() -> impl Iterator<Item = &'static Known> {
 /// Every known sheet for filling. The answer is the filled sheet, or the refusal as `racefill` writes it.
 pub fn fillings() -> impl Iterator<Item = &'static Known> {
     fillings::SHEETS.iter()
+}
+
+/// Every known recorded order.
+pub fn replays() -> impl Iterator<Item = &'static KnownReplay> {
+    replays::REPLAYS.iter()
 }
 
 /// Figure 2 (b), document 01's P.

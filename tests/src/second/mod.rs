@@ -1,4 +1,4 @@
-//! The second checker and the second filler, written from documents 01 and 02 alone.
+//! The second checker, the second filler and the second replayer, written from documents 01 and 02 alone.
 
 mod conditions;
 mod fill;
@@ -6,11 +6,13 @@ mod flows;
 #[cfg(test)]
 mod known_pairs;
 mod program;
+mod replay;
 mod split;
 mod text;
 
 use crate::answer::{Returned, PROGRAM_BYTES, SPLIT_BYTES, WORK_SPACE};
 pub use fill::fill;
+pub use replay::{replay, replay_seen, Seen};
 use split::Posts;
 
 /// Judges a pair of sheets. `room` is the length of the work space in 32-bit numbers.

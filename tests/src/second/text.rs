@@ -56,6 +56,11 @@ impl<'a> Text<'a> {
         }
     }
 
+    /// What follows the lines read so far.
+    pub fn rest(&self) -> &'a [u8] {
+        &self.bytes[self.at..]
+    }
+
     /// Takes this one byte.
     pub fn byte(&mut self, wanted: u8) -> Option<()> {
         if self.bytes.get(self.at) != Some(&wanted) {

@@ -3,6 +3,7 @@
 pub mod claims;
 pub mod expression;
 pub mod programs;
+pub mod run;
 mod rwlock;
 pub mod search;
 pub mod state;

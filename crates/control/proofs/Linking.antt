@@ -1,0 +1,40 @@
+-- The loop that links the steps, turn by turn.
+use Prim.Native.Nat.{ℕ, zero, suc, _+_, _-_, _<_, _≤_}
+use mathlib.Core.Path.{_≡_, refl, _∙_, ap}
+use mathlib.Core.List.{List}
+use native.Mathlib.Omega.{arith}
+use lib.ListN.{length, length-set}
+use Rattle.control.specs.Shapes.{shapeAt}
+use Rattle.control.specs.Control.{continuationsAt, secondPart, finish, continuation, second}
+use Rattle.control.specs.Continuations.{joined, linkedParts, linkedStep, linkedFrom}
+use Rattle.control.specs.declared.shapes.Shape.{Shape}
+use Rattle.control.specs.declared.shapes.Shape.the-variants.{Variable, Constant, Maker, While, OnePart, Let, If, Spawn, Write}
+
+pub joined-length : (p : List ℕ) (k c : ℕ) → length (joined p k c) ≡ length p
+unfolding joined
+joined-length p k c = length-set p (continuationsAt + k) c
+
+-- no turn changes how many numbers there are
+pub parts-length : (x : Shape) (p : List ℕ) (k c b : ℕ) → length (linkedParts x p k c b) ≡ length p
+unfolding linkedParts
+parts-length Variable p k c b = refl
+parts-length Constant p k c b = refl
+parts-length Maker p k c b = refl
+parts-length While p k c b = joined-length p (k + 1) k
+parts-length OnePart p k c b = joined-length p (k + 1) k
+parts-length Let p k c b = joined-length (joined p (k + 1) k) b c ∙ joined-length p (k + 1) k
+parts-length If p k c b = joined-length (joined p (k + 1) c) b c ∙ joined-length p (k + 1) c
+parts-length Spawn p k c b = joined-length (joined p (k + 1) k) b finish ∙ joined-length p (k + 1) k
+parts-length Write p k c b = joined-length (joined p (k + 1) k) b (secondPart + k) ∙ joined-length p (k + 1) k
+
+pub step-length : (p : List ℕ) (k : ℕ) → length (linkedStep p k) ≡ length p
+unfolding linkedStep
+step-length p k = parts-length (shapeAt p k) p k (continuation p k) (second p k)
+
+pub linked-more : (p : List ℕ) (k n : ℕ) → k < n → linkedFrom p k (n - k) ≡ linkedFrom (linkedStep p k) (k + 1) (n - (k + 1))
+unfolding linkedFrom
+linked-more p k n l = let e : n - k ≡ suc (n - (k + 1)) = omega (arith, l) in ap (linkedFrom p k) e
+
+pub linked-end : (p : List ℕ) (k n : ℕ) → n ≤ k → linkedFrom p k (n - k) ≡ p
+unfolding linkedFrom
+linked-end p k n h = let e : n - k ≡ 0 = omega (arith, h) in ap (linkedFrom p k) e

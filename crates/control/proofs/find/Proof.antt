@@ -1,0 +1,54 @@
+-- The loop's invariant: what is found from here is what is found from the start.
+use mathlib.Core.Path.{_≡_, refl, sym, _∙_, ap}
+use mathlib.Core.List.{List}
+use Prim.Native.Nat.{ℕ, _-_, _+_}
+use native.Mathlib.Omega.{arith}
+use borrow.Author.Needs.{needs}
+use lib.ListN.{length}
+use Rattle.control.specs.declared.Focus.{Focus}
+use Rattle.control.specs.Control.{found}
+use Rattle.control.proofs.Turns.{found-stop, found-more, found-end, turn-length}
+use Rattle.control.proofs.find.Statement.{statement}
+use Rattle.control.proofs.find.Tie as tie
+
+abbrev Inv-loop : tie.InvT-loop
+Inv-loop program space₀ t g₀ i₀ space g i = (length space ≡ length space₀) × (found 2048 program space₀ t g₀ ≡ found (2048 - i) program space t g)
+
+abbrev μ-loop : tie.MeasureT-loop
+μ-loop program space₀ t g₀ i₀ space g i = 2048 - i
+
+loop-holds : tie.Need-loop-holds Inv-loop μ-loop
+loop-holds c = (refl, refl)
+
+returns : tie.Need-returns Inv-loop μ-loop
+returns c = c .before .before .loop .inv .1 ∙ found-stop _ _ _ _ _ (c .if1 .taken)
+
+loop-again : tie.Need-loop-again Inv-loop μ-loop
+loop-again c =
+    let here = c .before .before .before .before .before .before in
+    let turn = c .before .before .turn .ensures in
+    let args = here .before .before .before .args in (
+      ap length (turn .1) ∙ turn-length _ _ _ _ ∙ here .loop .inv .0,
+      here .loop .inv .1
+          ∙ found-more _ _ _ _ 2048 (here .loop .i) (c .before .before .before .before .before .loop-test .taken) (c .before .before .before .before .if1 .left)
+          ∙ sym (λ i. found (2048 - (here .loop .i + 1)) (args .program .now) (turn .1 i) (args .t) (turn .0 i)),
+    )
+
+returns-2 : tie.Need-returns-2 Inv-loop μ-loop
+returns-2 c = c .before .loop .inv .1 ∙ found-end _ _ _ _ 2048 _ (c .loop-test .left)
+
+pub find-spec : {M : Type 1} → statement M
+find-spec =
+    tie.close
+    (tie.spec
+    Inv-loop
+    μ-loop
+    loop-holds
+    (λ c. search needs)
+    returns
+    (λ c κs. search needs)
+    (λ c. search needs)
+    (λ c. search needs)
+    loop-again
+    (λ c. search needs)
+    returns-2)

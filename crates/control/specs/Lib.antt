@@ -1,0 +1,3 @@
+pub mod Shapes
+pub mod Control
+pub mod Continuations

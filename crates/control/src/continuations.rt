@@ -1,0 +1,72 @@
+// The continuation of each step, found once for a program: what follows once the step is a value.
+use crate::CONTINUATIONS;
+use crate::FINISH;
+use crate::SECOND_PART;
+use crate::Shape;
+use crate::put;
+use workspace::at;
+use workspace::index;
+ghost use mathlib.Core.Path.{_≡_};
+ghost use Prim.Native.Nat.{_≤_};
+ghost use Rattle.control.specs.Continuations.{joined, linkedParts, linkedStep, linked};
+
+// Step k has continuation c.
+fn join(program: &mut [u32], k: u32, c: u32)
+    ensures { λ _. ⌜ now (program .exit) ≡ joined (now (program .entry)) k c ⌝ }
+{
+    put(program, CONTINUATIONS + index(k), c);
+}
+
+// The parts of step k get their continuations; its own is c, and its second part stands at `second`.
+fn link_parts(program: &mut [u32], s: Shape, k: u32, c: u32, second: u32)
+    requires { ⌜ k ≤ 255 ⌝ }
+    ensures { λ _. ⌜ now (program .exit) ≡ linkedParts s (now (program .entry)) k c second ⌝ }
+{
+    match s {
+        Shape::Variable => {}
+        Shape::Constant => {}
+        Shape::Maker => {}
+        Shape::While => join(program, k + 1, k),
+        Shape::OnePart => join(program, k + 1, k),
+        Shape::Let => {
+            join(program, k + 1, k);
+            join(program, second, c)
+        }
+        Shape::If => {
+            join(program, k + 1, c);
+            join(program, second, c)
+        }
+        Shape::Spawn => {
+            join(program, k + 1, k);
+            join(program, second, FINISH)
+        }
+        Shape::Write => {
+            join(program, k + 1, k);
+            join(program, second, SECOND_PART + k)
+        }
+    }
+}
+
+// The parts of step k get their continuations.
+fn link_step(program: &mut [u32], k: u32)
+    requires { ⌜ k ≤ 255 ⌝ }
+    ensures { λ _. ⌜ now (program .exit) ≡ linkedStep (now (program .entry)) k ⌝ }
+{
+    let s = crate::shape_at(program, k);
+    let c = at(program, CONTINUATIONS + index(k));
+    let second = crate::second(program, k);
+    link_parts(program, s, k, c, second);
+}
+
+// The continuations of a program of n steps.
+pub fn link(program: &mut [u32], n: u32)
+    requires { ⌜ n ≤ 256 ⌝ }
+    ensures { λ _. ⌜ now (program .exit) ≡ linked (now (program .entry)) n ⌝ }
+{
+    join(program, 0, FINISH);
+    let mut k: u32 = 0;
+    while k < n {
+        link_step(program, k);
+        k += 1;
+    }
+}

@@ -1,0 +1,33 @@
+use mathlib.Core.Path.{sym, _∙_}
+use Rattle.engine.specs.Steps.{movedTo, givesZero, joinedBy, joinedStep}
+use borrow.Author.Needs.{needs}
+use Rattle.engine.proofs.join.Statement.{statement}
+use Rattle.engine.proofs.join.Tie as tie
+
+returns : tie.Need-returns
+unfolding joinedStep joinedBy givesZero movedTo
+returns c =
+    rw (
+      sym (c .before .before .before .before .before .before .before .before .before .lowest .ensures) ∙ c .before .before .before .before .before .before .before .i .given .1,
+      ← (c .before .before .before .before .before .gives .ensures),
+      ← (c .before .before .before .joined .ensures),
+      c .before .before .proceed .ensures,
+    )
+
+returns-2 : tie.Need-returns-2
+unfolding joinedStep joinedBy
+returns-2 c = rw (sym (c .before .before .lowest .ensures) ∙ c .enum-told .given .1)
+
+pub join-spec : {M : Type 1} → statement M
+join-spec =
+    tie.close
+    (tie.spec
+    (λ c κs. search needs)
+    (λ c. search needs)
+    (λ c κs. search needs)
+    (λ c κs. search needs)
+    (λ c κs. search needs)
+    (λ c. search needs)
+    (λ c. search needs)
+    returns
+    returns-2)

@@ -1,0 +1,24 @@
+use Rattle.engine.specs.Steps.{recorded, proceeded}
+use borrow.Author.Needs.{needs}
+use Rattle.engine.proofs.proceed.Statement.{statement}
+use Rattle.engine.proofs.proceed.Tie as tie
+
+returns : tie.Need-returns
+unfolding proceeded recorded
+returns c = rw (c .before .before .before .before .before .go-on .ensures, c .before .before .if1 .taken, c .finished .ensures, c .before .index .ensures .0)
+
+returns-2 : tie.Need-returns-2
+unfolding proceeded recorded
+returns-2 c = rw (c .before .before .before .go-on .ensures, c .if1 .left)
+
+pub proceed-spec : {M : Type 1} → statement M
+proceed-spec =
+    tie.close
+    (tie.spec
+    (λ c κs. search needs)
+    (λ c κs. search needs)
+    (λ c κs. search needs)
+    (λ c. search needs)
+    returns
+    (λ c. search needs)
+    returns-2)

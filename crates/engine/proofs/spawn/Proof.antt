@@ -1,0 +1,37 @@
+use borrow.Author.Tests.{le-leb, lt-leb}
+use Rattle.engine.specs.Steps.{movedTo, givesZero, spawnedStep}
+use borrow.Author.Needs.{needs}
+use Rattle.engine.proofs.spawn.Statement.{statement}
+use Rattle.engine.proofs.spawn.Tie as tie
+
+returns : tie.Need-returns
+unfolding spawnedStep
+returns c = rw (le-leb _ _ (c .if1 .taken))
+
+returns-2 : tie.Need-returns-2
+unfolding spawnedStep givesZero movedTo
+returns-2 c =
+    rw (
+      lt-leb _ _ (c .before .before .before .before .before .before .before .before .before .before .before .before .before .before .before .if1 .left),
+      ← (c .before .before .before .before .before .before .before .before .before .before .before .before .before .copy .ensures),
+      ← (c .before .before .before .before .before .before .before .before .before .before .second .ensures),
+      ← (c .before .before .before .before .before .before .before .before .spawned .ensures),
+      c .before .before .before .before .before .before .before .proceed .ensures,
+      ← (c .before .before .before .before .gives .ensures),
+      c .before .before .proceed2 .ensures,
+    )
+
+pub spawn-spec : {M : Type 1} → statement M
+spawn-spec =
+    tie.close
+    (tie.spec
+    returns
+    (λ c. search needs)
+    (λ c κs. search needs)
+    (λ c κs. search needs)
+    (λ c κs. search needs)
+    (λ c κs. search needs)
+    (λ c κs. search needs)
+    (λ c κs. search needs)
+    (λ c. search needs)
+    returns-2)

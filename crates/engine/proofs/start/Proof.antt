@@ -1,0 +1,28 @@
+use Rattle.engine.specs.Steps.{startSpace, startOf}
+use borrow.Author.Needs.{needs}
+use Rattle.engine.proofs.start.Statement.{statement}
+use Rattle.engine.proofs.start.Tie as tie
+
+returns : tie.Need-returns
+unfolding startOf startSpace
+returns c =
+    rw (
+      ← (c .before .before .before .before .before .before .before .before .before .before .before .before .before .before .before .clear .ensures),
+      ← (c .before .before .before .before .before .before .before .before .before .before .before .put .ensures),
+      ← (c .before .before .before .before .before .before .before .put2 .ensures),
+      ← (c .before .before .before .start .ensures),
+    )
+    (c .before .before .proceed .ensures)
+
+pub start-spec : {M : Type 1} → statement M
+start-spec =
+    tie.close
+    (tie.spec
+    (λ c κs. search needs)
+    (λ c. search needs)
+    (λ c κs. search needs)
+    (λ c κs. search needs)
+    (λ c κs. search needs)
+    (λ c κs. search needs)
+    (λ c. search needs)
+    returns)

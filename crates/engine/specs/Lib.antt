@@ -1,0 +1,3 @@
+pub mod Focuses
+pub mod Steps
+pub mod Races

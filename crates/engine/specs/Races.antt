@@ -1,0 +1,93 @@
+-- The lowest pair of threads that race, on numbers.
+use Prim.Native.Nat.{ℕ, zero, suc, _+_, _-_}
+use mathlib.Core.Bool.{Bool, true, false}
+use mathlib.Core.List.{List}
+use lib.Dec.{eqb}
+use lib.ListN.{getD}
+use Rattle.spec.specs.Choice.{if_then_else_}
+use Rattle.workspace.specs.Layout.{wordsAt, ruleOf}
+use Rattle.workspace.specs.declared.Rule.{Rule}
+use Rattle.workspace.specs.declared.Rule.the-variants.{VAR, INT, LET, IF, WHILE, NEWT, SPAWN, JOIN, REF, WRITE, READ, NEWL, LCK, ULCK, NEWSEM, POST, WAIT, NEWRWLOCK, RDLOCK, RDUNLOCK, WRLOCK, WRUNLOCK}
+use Rattle.control.specs.declared.Focus.{Focus}
+use Rattle.reduction.specs.Slots.{slotAt}
+use Rattle.engine.specs.Focuses.{focusAt}
+use Rattle.reduction.specs.Words.{subject}
+use Rattle.engine.specs.declared.races.Access.{Access}
+use Rattle.engine.specs.declared.races.Access.the-variants.{None, Read, Write}
+use Rattle.engine.specs.declared.races.Partner.{Partner}
+use Rattle.engine.specs.declared.races.Partner.the-variants as partner
+use Rattle.engine.specs.declared.races.Pair.{Pair}
+use Rattle.engine.specs.declared.races.Pair.the-variants as pair
+
+-- ------------------------------------------------------------------ one thread
+
+unfoldable pub accessBy : Rule → (v : ℕ) → Access
+accessBy VAR v = None
+accessBy INT v = None
+accessBy LET v = None
+accessBy IF v = None
+accessBy WHILE v = None
+accessBy NEWT v = None
+accessBy SPAWN v = None
+accessBy JOIN v = None
+accessBy REF v = None
+accessBy WRITE v = Write v
+accessBy READ v = Read v
+accessBy NEWL v = None
+accessBy LCK v = None
+accessBy ULCK v = None
+accessBy NEWSEM v = None
+accessBy POST v = None
+accessBy WAIT v = None
+accessBy NEWRWLOCK v = None
+accessBy RDLOCK v = None
+accessBy RDUNLOCK v = None
+accessBy WRLOCK v = None
+accessBy WRUNLOCK v = None
+
+unfoldable pub accessAt : (p s : List ℕ) (t : ℕ) → Focus → Access
+accessAt p s t f =
+    if eqb (f .mode) 3
+    then (if eqb (slotAt s (subject p s t f) .kind) 2 then accessBy (ruleOf (getD p (wordsAt + f .at) 0)) (subject p s t f) else None)
+    else None
+
+unfoldable pub accessOf : (p s : List ℕ) (t : ℕ) → Access
+accessOf p s t = accessAt p s t (focusAt s t)
+
+-- ------------------------------------------------------------------ two threads
+
+unfoldable pub reads : Access → (v : ℕ) → Bool
+reads None v = false
+reads (Read u) v = eqb u v
+reads (Write u) v = false
+
+unfoldable pub writes : Access → (v : ℕ) → Bool
+writes None v = false
+writes (Read u) v = false
+writes (Write u) v = eqb u v
+
+unfoldable pub clash : Access → Access → Bool
+clash None b = false
+clash (Read v) b = writes b v
+clash (Write v) b = if writes b v then true else reads b v
+
+-- ------------------------------------------------------------------ all threads
+
+-- n threads from j on
+unfoldable pub partnerOf : (p s : List ℕ) → Access → (j n : ℕ) → Partner
+partnerOf p s a j zero = partner.None
+partnerOf p s a j (suc n) = if clash a (accessOf p s j) then partner.Is j else partnerOf p s a (j + 1) n
+
+unfoldable pub partnerFrom : (p s : List ℕ) → Access → (i count : ℕ) → Partner
+partnerFrom p s a i count = partnerOf p s a i (count - i)
+
+unfoldable pub pairWith : (i : ℕ) → Partner → Pair → Pair
+pairWith i partner.None later = later
+pairWith i (partner.Is j) later = pair.Of i j
+
+unfoldable pub pairOf : (p s : List ℕ) (count i n : ℕ) → Pair
+pairOf p s count i zero = pair.None
+pairOf p s count i (suc n) = pairWith i (partnerFrom p s (accessOf p s i) (i + 1) count) (pairOf p s count (i + 1) n)
+
+unfoldable pub lowestPair : (p s : List ℕ) (count : ℕ) → Pair
+lowestPair p s count = pairOf p s count 0 count

@@ -1,0 +1,189 @@
+// The steps of a program's threads on numbers in a lent space. `reduction` has what a word does by itself; here a thread goes on to its
+// next word, the records of threads follow `spawn` and `join`, and the threads that race are found.
+mod focuses;
+mod races;
+
+use control::ENTER;
+use control::Focus;
+use control::UNROLLED;
+use control::put;
+use control::variable;
+use focuses::focus_at;
+use focuses::go_on;
+pub use races::Pair;
+pub use races::lowest_pair;
+use reduction::Act;
+use reduction::gives;
+use threads::Found;
+use threads::Threads;
+use workspace::index;
+ghost use mathlib.Core.Path.{_≡_};
+ghost use Prim.Native.Nat.{_<_};
+ghost use Rattle.engine.specs.Steps.{mayChoose as mayChooseOf, proceeded, copied, spawnedStep, joinedStep, actStep, stepped, startOf};
+
+// How a step ended: it is done; it cannot be taken; or it is past a limit.
+pub enum Outcome {
+    Moved,
+    Stuck,
+    Past,
+}
+
+// How a step ended, and the threads after it.
+pub struct Stepped {
+    pub outcome: Outcome,
+    pub threads: Threads,
+}
+
+// "choice is 0 or 1 at an if and 0 elsewhere"
+fn may_choose(program: &[u32], f: Focus, choice: u32) -> bool
+    ensures { λ r. ⌜ r ≡ mayChooseOf (now (program .entry)) f choice ⌝ }
+{
+    if choice == 0 {
+        return true;
+    }
+    if choice == 1 {
+        if f.mode == UNROLLED {
+            return true;
+        }
+        return control::is_if(control::shape_at(program, f.at));
+    }
+    false
+}
+
+// Thread t goes on from there; its record says so if it has finished.
+fn proceed(program: &[u32], space: &mut [u32], threads: Threads, t: u32, f: Focus) -> Threads
+    ensures { λ r. ⌜ proceeded (now (program .entry)) (now (space .entry)) threads t f ≡ (r, now (space .exit)) ⌝ }
+{
+    let done = go_on(program, space, t, f);
+    if done {
+        return threads.finished(index(t));
+    }
+    threads
+}
+
+// Thread u gets the variables of thread t.
+fn copy(space: &mut [u32], t: u32, u: u32)
+    ensures { λ _. ⌜ now (space .exit) ≡ copied (now (space .entry)) t u ⌝ }
+{
+    let mut x: u32 = 0;
+    while x < 256 {
+        let v = variable(space, t, x);
+        put(
+            space,
+            control::ENVIRONMENTS + control::ROW * index(u) + index(x),
+            v,
+        );
+        x += 1;
+    }
+}
+
+// The `spawn` of step k: a thread is added, with its e2, and the word becomes 0.
+fn spawn(program: &[u32], space: &mut [u32], threads: Threads, t: u32, k: u32, tid: u32) -> Stepped
+    ensures { λ r. ⌜ spawnedStep (now (program .entry)) (now (space .entry)) threads t k tid ≡ (r, now (space .exit)) ⌝ }
+{
+    let count = threads.count;
+    if threads::LIMIT <= count {
+        return Stepped {
+            outcome: Outcome::Past,
+            threads,
+        };
+    }
+    let u = count as u32;
+    copy(space, t, u);
+    let body = Focus {
+        mode: ENTER,
+        at: control::second(program, k),
+        value: 0,
+    };
+    let added = proceed(program, space, threads.spawned(tid), u, body);
+    let zero = gives(program, k, 0);
+    let both = proceed(program, space, added, t, zero);
+    Stepped {
+        outcome: Outcome::Moved,
+        threads: both,
+    }
+}
+
+// The `join` of step k takes the lowest finished thread with that identifier, and becomes 0.
+fn join(program: &[u32], space: &mut [u32], threads: Threads, t: u32, k: u32, tid: u32) -> Stepped
+    ensures { λ r. ⌜ joinedStep (now (program .entry)) (now (space .entry)) threads t k tid ≡ (r, now (space .exit)) ⌝ }
+{
+    match threads.lowest(tid) {
+        Found::At(i) => {
+            let zero = gives(program, k, 0);
+            let after = proceed(program, space, threads.joined(i), t, zero);
+            Stepped {
+                outcome: Outcome::Moved,
+                threads: after,
+            }
+        }
+        Found::Nothing => Stepped {
+            outcome: Outcome::Stuck,
+            threads,
+        },
+    }
+}
+
+// What is left of the step of thread t at step k.
+fn finish_step(
+    program: &[u32],
+    space: &mut [u32],
+    threads: Threads,
+    t: u32,
+    k: u32,
+    a: Act,
+) -> Stepped
+    ensures { λ r. ⌜ actStep (now (program .entry)) (now (space .entry)) threads t k a ≡ (r, now (space .exit)) ⌝ }
+{
+    match a {
+        Act::Go(g) => {
+            let after = proceed(program, space, threads, t, g);
+            Stepped {
+                outcome: Outcome::Moved,
+                threads: after,
+            }
+        }
+        Act::Spawn(tid) => spawn(program, space, threads, t, k, tid),
+        Act::Join(tid) => join(program, space, threads, t, k, tid),
+        Act::Stuck => Stepped {
+            outcome: Outcome::Stuck,
+            threads,
+        },
+        Act::Past => Stepped {
+            outcome: Outcome::Past,
+            threads,
+        },
+    }
+}
+
+// Thread t takes its next step, with that choice.
+pub fn step(program: &[u32], space: &mut [u32], threads: Threads, t: u32, choice: u32) -> Stepped
+    ensures { λ r. ⌜ stepped (now (program .entry)) (now (space .entry)) threads t choice ≡ (r, now (space .exit)) ⌝ }
+{
+    if threads.runs(index(t)) {
+        let f = focus_at(space, t);
+        if may_choose(program, f, choice) {
+            let a = reduction::reduce(program, space, t, f, choice);
+            return finish_step(program, space, threads, t, f.at, a);
+        }
+    }
+    Stepped {
+        outcome: Outcome::Stuck,
+        threads,
+    }
+}
+
+// The start: one thread, about to evaluate the root, and no thing but its identifier, whose value is 1.
+pub fn start(program: &[u32], space: &mut [u32]) -> Threads
+    ensures { λ r. ⌜ startOf (now (program .entry)) (now (space .entry)) ≡ (r, now (space .exit)) ⌝ }
+{
+    workspace::clear(space);
+    put(space, reduction::KINDS + 1, reduction::IDENTIFIER);
+    put(space, reduction::NEXT, 2);
+    let root = Focus {
+        mode: ENTER,
+        at: 0,
+        value: 0,
+    };
+    proceed(program, space, Threads::start(1), 0, root)
+}

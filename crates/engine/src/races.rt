@@ -1,0 +1,151 @@
+// The lowest pair of threads that race: the first thread that clashes with a later one, and the first of those.
+use crate::focuses::focus_at;
+use control::READY;
+use reduction::CELL;
+use reduction::slot_at;
+use reduction::subject;
+use workspace::Rule;
+use workspace::at;
+use workspace::index;
+ghost use mathlib.Core.Path.{_≡_};
+ghost use Prim.Native.Nat.{_≤_};
+ghost use Rattle.engine.specs.Races.{accessBy, accessOf, reads, writes, clash as clashOf, partnerFrom, lowestPair};
+
+// The cell that a thread is about to use, by the value that names it.
+pub enum Access {
+    None,
+    Read(u32),
+    Write(u32),
+}
+
+// Two threads that race, the lower first.
+pub enum Pair {
+    None,
+    Of(u32, u32),
+}
+
+// The thread that another one races with.
+pub enum Partner {
+    None,
+    Is(u32),
+}
+
+fn access_by(r: Rule, v: u32) -> Access
+    ensures { λ a. ⌜ a ≡ accessBy r v ⌝ }
+{
+    match r {
+        Rule::VAR => Access::None,
+        Rule::INT => Access::None,
+        Rule::LET => Access::None,
+        Rule::IF => Access::None,
+        Rule::WHILE => Access::None,
+        Rule::NEWT => Access::None,
+        Rule::SPAWN => Access::None,
+        Rule::JOIN => Access::None,
+        Rule::REF => Access::None,
+        Rule::WRITE => Access::Write(v),
+        Rule::READ => Access::Read(v),
+        Rule::NEWL => Access::None,
+        Rule::LCK => Access::None,
+        Rule::ULCK => Access::None,
+        Rule::NEWSEM => Access::None,
+        Rule::POST => Access::None,
+        Rule::WAIT => Access::None,
+        Rule::NEWRWLOCK => Access::None,
+        Rule::RDLOCK => Access::None,
+        Rule::RDUNLOCK => Access::None,
+        Rule::WRLOCK => Access::None,
+        Rule::WRUNLOCK => Access::None,
+    }
+}
+
+// What thread t is about to use.
+fn access_of(program: &[u32], space: &[u32], t: u32) -> Access
+    ensures { λ r. ⌜ r ≡ accessOf (now (program .entry)) (now (space .entry)) t ⌝ }
+{
+    let f = focus_at(space, t);
+    let k = f.at;
+    if f.mode == READY {
+        let v = subject(program, space, t, f);
+        let x = slot_at(space, v);
+        if x.kind == CELL {
+            return access_by(
+                workspace::rule_of(at(program, workspace::WORDS + index(k))),
+                v,
+            );
+        }
+    }
+    Access::None
+}
+
+fn reads(a: Access, v: u32) -> bool
+    ensures { λ r. ⌜ r ≡ reads a v ⌝ }
+{
+    match a {
+        Access::None => false,
+        Access::Read(u) => u == v,
+        Access::Write(_) => false,
+    }
+}
+
+fn writes(a: Access, v: u32) -> bool
+    ensures { λ r. ⌜ r ≡ writes a v ⌝ }
+{
+    match a {
+        Access::None => false,
+        Access::Read(_) => false,
+        Access::Write(u) => u == v,
+    }
+}
+
+// One of the two is about to write a cell that the other is about to read or write.
+fn clash(a: Access, b: Access) -> bool
+    ensures { λ r. ⌜ r ≡ clashOf a b ⌝ }
+{
+    match a {
+        Access::None => false,
+        Access::Read(v) => writes(b, v),
+        Access::Write(v) => {
+            if writes(b, v) {
+                return true;
+            }
+            reads(b, v)
+        }
+    }
+}
+
+// The first thread from i on that clashes with a.
+fn partner_from(program: &[u32], space: &[u32], a: Access, i: u32, count: u32) -> Partner
+    requires { ⌜ count ≤ 16 ⌝ }
+    ensures { λ r. ⌜ r ≡ partnerFrom (now (program .entry)) (now (space .entry)) a i count ⌝ }
+{
+    let mut j = i;
+    while j < count {
+        if clash(a, access_of(program, space, j)) {
+            return Partner::Is(j);
+        }
+        j += 1;
+    }
+    Partner::None
+}
+
+// The lowest pair of the threads below `count`.
+pub fn lowest_pair(program: &[u32], space: &[u32], count: u32) -> Pair
+    requires { ⌜ count ≤ 16 ⌝ }
+    ensures { λ r. ⌜ r ≡ lowestPair (now (program .entry)) (now (space .entry)) count ⌝ }
+{
+    let mut i: u32 = 0;
+    while i < count {
+        let a = access_of(program, space, i);
+        let found = partner_from(program, space, a, i + 1, count);
+        match found {
+            Partner::Is(j) => {
+                return Pair::Of(i, j);
+            }
+            Partner::None => {
+                i += 1;
+            }
+        }
+    }
+    Pair::None
+}

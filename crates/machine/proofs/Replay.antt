@@ -1,0 +1,159 @@
+-- The replay on the machine is the replay of crates/replaying, for every space, program and trace.
+use Prim.Native.Nat.{ℕ, suc, _+_}
+use mathlib.Core.Path.{_≡_, refl, sym, _∙_, ap, subst}
+use mathlib.Core.Bool.{Bool, true, false}
+use mathlib.Core.Option.{Option, none, some, Option·map}
+use mathlib.Core.List.{List, [], _∷_}
+use native.Mathlib.Omega.{arith}
+use lib.ListN.{length}
+use Rattle.spec.specs.Choice.{if_then_else_}
+use Rattle.spec.specs.Text.{Line, lines}
+use Rattle.spec.specs.Reading.{Out, stop, on}
+use Rattle.spec.specs.Expression.{Expr}
+use Rattle.spec.specs.Program.{Program}
+use Rattle.spec.specs.WellFormed.{UsedInside}
+use Rattle.soundness.specs.Erasure.{erase}
+use Rattle.replaying.specs.Trace.{TraceLine, traceLine}
+use Rattle.replaying.specs.Run as run
+use Rattle.replaying.specs.Run.{Run, startRun}
+use Rattle.replaying.specs.LowestPair as run-pair
+use Rattle.replaying.specs.LowestPair.{lowestAmong}
+use Rattle.replaying.specs.Replay as answer
+use Rattle.replaying.specs.Replay.{Outcome, pastLimit, step as stepOf, limited, onLine, goesOn, way, raceOr, firstRace, judged}
+use Rattle.replaying.specs.declared.Ending.{Ending}
+use Rattle.replaying.specs.declared.FirstRace.{FirstRace}
+use Rattle.replaying.specs.declared.FirstRace.the-variants.{None, Found}
+use Rattle.replaying.specs.declared.Replayed.{Replayed}
+use Rattle.replaying.proofs.Answer.{judged-well-formed}
+use Rattle.machine.specs.State.{startMachine}
+use Rattle.machine.specs.Kept.{Kept}
+use Rattle.machine.specs.Replay.{Replay, startReplay, stepped, within, usesIn, lowestPair, orRace, ended, playOn, playFrom, play, played, replay}
+use Rattle.machine.proofs.Kept.{step-kept}
+use Rattle.machine.proofs.Stepped.{step-taken}
+use Rattle.machine.proofs.Start.{start-decoded, start-kept}
+use Rattle.machine.proofs.Books.{runOf, uses-alike}
+use Rattle.machine.proofs.Lines.{same-run, line-alike}
+
+-- ---- One state
+
+stepped-kept : (R R′ : Replay) (l : TraceLine) → Kept (R .machine) → stepped R l ≡ some R′ → Kept (R′ .machine)
+stepped-kept R R′ l kept q =
+    let S = step-taken R R′ l kept q in
+    subst (λ (Q : Replay). Kept (Q .machine)) (S .is) (step-kept (R .machine) (l .thread) (S .part) (S .machine) kept (S .moves))
+
+pair-alike : (R : Replay) → run-pair.lowestPair (runOf R) ≡ lowestPair R
+unfolding run-pair.lowestPair lowestPair usesIn
+pair-alike R = ap lowestAmong (uses-alike (R .machine .names) (R .machine .threads) 0)
+
+-- ---- The first race
+
+-- The race found before, or else the first of those behind.
+abbrev thenRace : FirstRace → FirstRace → FirstRace
+thenRace None later = later
+thenRace (Found k i j) later = Found k i j
+
+race-moves-on : (race : FirstRace) (k : ℕ) (pair : Option (ℕ × ℕ)) (later : FirstRace) →
+    thenRace (orRace race k pair) later ≡ thenRace race (raceOr k pair later)
+unfolding orRace raceOr
+race-moves-on None k none later = refl
+race-moves-on None k (some p) later = refl
+race-moves-on (Found n i j) k pair later = refl
+
+no-race-behind : (race : FirstRace) → thenRace race None ≡ race
+no-race-behind None = refl
+no-race-behind (Found k i j) = refl
+
+-- ---- Lines in turn
+
+-- What is reported at the end, after k steps with that race so far.
+abbrev atEnd : ℕ → FirstRace → List Run × Ending → Replayed
+atEnd k race w = ended (w .1) (k + length (w .0)) (thenRace race (firstRace (k + 1) (w .0)))
+
+ends : (ending : Ending) (k : ℕ) (race : FirstRace) → ended ending k race ≡ atEnd k race ([], ending)
+unfolding firstRace
+ends ending k race = let none-more : k ≡ k + 0 = omega arith in λ i. ended ending (none-more i) (sym (no-race-behind race) i)
+
+abbrev Alike : List Line → Type 0
+Alike ls = (k : ℕ) (race : FirstRace) (R : Replay) → Kept (R .machine) → playFrom k race R ls ≡ atEnd k race (way (k + 1) (runOf R) ls)
+
+-- A step is done, and the rest goes on from there.
+step-alike : (ls : List Line) (k : ℕ) (race : FirstRace) (R : Replay) → Alike ls → Kept (R .machine) →
+    playFrom (k + 1) (orRace race (k + 1) (lowestPair R)) R ls ≡ atEnd k race (goesOn (k + 1) (stepOf (runOf R)) (λ r. way (k + 1 + 1) r ls))
+unfolding goesOn firstRace
+step-alike ls k race R alike kept =
+    alike (k + 1) (orRace race (k + 1) (lowestPair R)) R kept
+    ∙ (λ i. ended (rest .1) (counted i) (races i))
+  where
+    rest : List Run × Ending
+    rest = way (k + 1 + 1) (runOf R) ls
+
+    counted : k + 1 + length (rest .0) ≡ k + suc (length (rest .0))
+    counted = omega arith
+
+    races : thenRace (orRace race (k + 1) (lowestPair R)) (firstRace (k + 1 + 1) (rest .0))
+        ≡ thenRace race (raceOr (k + 1) (run-pair.lowestPair (runOf R)) (firstRace (k + 1 + 1) (rest .0)))
+    races =
+        race-moves-on race (k + 1) (lowestPair R) (firstRace (k + 1 + 1) (rest .0))
+        ∙ ap (λ (p : Option (ℕ × ℕ)). thenRace race (raceOr (k + 1) p (firstRace (k + 1 + 1) (rest .0)))) (sym (pair-alike R))
+
+module _ (ls : List Line) (k : ℕ) (race : FirstRace) (R : Replay) (alike : Alike ls) (kept : Kept (R .machine)) where
+  abbrev playing : Outcome Replay → Replayed
+  playing o = playOn k race o (λ R′. playFrom (k + 1) (orRace race (k + 1) (lowestPair R′)) R′ ls)
+
+  abbrev going : Outcome Run → List Run × Ending
+  going o = goesOn (k + 1) o (λ r. way (k + 1 + 1) r ls)
+
+  stepped-alike : (l : TraceLine) (o : Option Replay) → stepped R l ≡ o →
+      playing (limited within o) ≡ atEnd k race (going (limited run.within (Option·map runOf o)))
+  unfolding limited playOn goesOn within run.within
+  stepped-alike l none q = ends _ k race
+  stepped-alike l (some R′) q = by-limit (within R′)
+    where
+      by-limit : (b : Bool) → playing (if b then stepOf R′ else pastLimit) ≡ atEnd k race (going (if b then stepOf (runOf R′) else pastLimit))
+      by-limit true = step-alike ls k race R′ alike (stepped-kept R R′ l kept q)
+      by-limit false = ends _ k race
+
+  line-goes-on : (o : Option TraceLine) → playing (onLine (stepped R) within o) ≡ atEnd k race (going (onLine (run.stepped (runOf R)) run.within o))
+  unfolding onLine playOn goesOn
+  line-goes-on none = ends _ k race
+  line-goes-on (some l) =
+      stepped-alike l (stepped R l) refl ∙ ap (λ (o : Option Run). atEnd k race (going (limited run.within o))) (sym (line-alike R kept l))
+
+trace-alike : (ls : List Line) → Alike ls
+unfolding playFrom way
+trace-alike [] k race R kept = ends _ k race
+trace-alike (l ∷ ls) k race R kept = line-goes-on ls k race R (trace-alike ls) kept (traceLine l)
+
+-- ---- The whole
+
+pub play-alike : (R : Replay) → Kept (R .machine) → (ls : List Line) → play R ls ≡ answer.reported (runOf R) (way 1 (runOf R) ls)
+unfolding play answer.reported firstRace ended
+play-alike R kept ls =
+    trace-alike ls 0 (orRace None 0 (lowestPair R)) R kept
+    ∙ (λ i. ended (rest .1) (counted i) (races i))
+  where
+    rest : List Run × Ending
+    rest = way 1 (runOf R) ls
+
+    counted : 0 + length (rest .0) ≡ length (rest .0)
+    counted = omega arith
+
+    races : thenRace (orRace None 0 (lowestPair R)) (firstRace 1 (rest .0)) ≡ raceOr 0 (run-pair.lowestPair (runOf R)) (firstRace 1 (rest .0))
+    races =
+        race-moves-on None 0 (lowestPair R) (firstRace 1 (rest .0))
+        ∙ ap (λ (p : Option (ℕ × ℕ)). raceOr 0 p (firstRace 1 (rest .0))) (sym (pair-alike R))
+
+start-alike : (e : Expr) → UsedInside [] e → runOf (startReplay e) ≡ startRun (erase e)
+unfolding startReplay startMachine startRun
+start-alike e used = same-run (start-decoded e used) refl refl refl refl
+
+pub machine-replays : (room : ℕ) (programText traceText : List ℕ) → replay room programText traceText ≡ answer.replay room programText traceText
+unfolding replay played answer.replay answer.played startReplay
+machine-replays room programText traceText = by-cases (judged room programText) refl
+  where
+    by-cases : (o : Out Program) → judged room programText ≡ o → played o (lines traceText) ≡ answer.played o (lines traceText)
+    by-cases (stop r) q = refl
+    by-cases (on P) q =
+        let w = judged-well-formed room programText q in
+        play-alike (startReplay (P .root)) (start-kept w) (lines traceText)
+        ∙ ap (λ (r : Run). answer.reported r (way 1 r (lines traceText))) (start-alike (P .root) (w .usedInside))

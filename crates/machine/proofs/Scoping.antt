@@ -1,0 +1,154 @@
+-- Finding the next word keeps what runs later apart from what runs before it.
+use Prim.Native.Nat.{ℕ}
+use mathlib.Core.Path.{_≡_}
+use mathlib.Core.Logic.{_⊎_, inl, inr}
+use mathlib.Core.List.{List, [], _∷_}
+use Rattle.spec.specs.Expression.{Position, Expr, leaf, unary, binary}
+use Rattle.spec.specs.WellFormed.{binders, UsedInside}
+use Rattle.spec.specs.Words.{role, binding}
+use Rattle.spec.specs.declared.LeafWord.the-variants.{Var, Int, Newtid, Newlock, Newsem, Newrwlock}
+use Rattle.spec.specs.declared.UnaryWord.{UnaryWord}
+use Rattle.spec.specs.declared.UnaryWord.the-variants.{While, Join, Ref, Read, Lock, Unlock, Post, Wait, Rdlock, Rdunlock, Wrlock, Wrunlock}
+use Rattle.spec.specs.declared.BinaryWord.the-variants.{Let, If, Spawn, Write}
+use Rattle.calculus.specs.Expression.{Value, Unary}
+use Rattle.machine.specs.Environment.{Env}
+use Rattle.machine.specs.Control.{Frame, letFrame, spawnFrame, writeFirst, writeSecond, unaryFrame, againFrame, letWord, spawnWord, writeWord, unaryWord, againWord, Control, at, seekPart, seek, return, enter, runPart}
+use Rattle.machine.specs.Scoped.{Fits, Vars, Bound, Rest, LetRest, FrameOk, FrameBinds, Nested, No, ControlOk}
+use Rattle.machine.proofs.Variables.{among-here, among-behind, among-left, among-right, among-either, part-fits, both-fit, let-fits}
+
+-- ---- Fewer variables to be bound inside
+
+infix 40 _within_
+abbrev _within_ : Vars → Vars → Type 0
+C within B = (y : ℕ) → C y → B y
+
+rest-fewer : {B C : Vars} {e : Expr} → C within B → Rest B e → Rest C e
+rest-fewer h ok = record { scope = ok .scope; fits = ok .fits; outside = λ y c. ok .outside y (h y c) }
+
+let-rest-fewer : {B C : Vars} {x : ℕ} {e : Expr} → C within B → LetRest B x e → LetRest C x e
+let-rest-fewer h ok = record { scope = ok .scope; fits = ok .fits; apart = ok .apart; outside = λ y c. ok .outside y (h y c) }
+
+frame-fewer : {B C : Vars} → C within B → (f : Frame) → FrameOk B f → FrameOk C f
+frame-fewer h (letFrame k x e) ok = let-rest-fewer h ok
+frame-fewer h (spawnFrame k e) ok = rest-fewer h ok
+frame-fewer h (writeFirst k e) ok = rest-fewer h ok
+frame-fewer h (writeSecond k v) ok = tt
+frame-fewer h (unaryFrame k o) ok = tt
+frame-fewer h (againFrame k e) ok = rest-fewer h ok
+
+pub nested-fewer : (K : List Frame) (B C : Vars) → C within B → Nested B K → Nested C K
+nested-fewer [] B C h n = tt
+nested-fewer (f ∷ K) B C h n = (frame-fewer h f (n .0), nested-fewer K _ _ either (n .1))
+  where
+    either : (λ y. C y ⊎ FrameBinds f y) within (λ y. B y ⊎ FrameBinds f y)
+    either y (inl c) = inl (h y c)
+    either y (inr b) = inr b
+
+nested-none : (K : List Frame) (B : Vars) → Nested B K → Nested No K
+nested-none K B n = nested-fewer K B No (λ y z. absurd z) n
+
+-- A frame that binds nothing itself.
+nested-behind : (K : List Frame) (B : Vars) (f : Frame) → FrameBinds f within No → FrameOk B f → Nested B K → Nested B (f ∷ K)
+nested-behind K B f nothing ok n = (ok, nested-fewer K B _ only n)
+  where
+    only : (λ y. B y ⊎ FrameBinds f y) within B
+    only y (inl b) = b
+    only y (inr z) = absurd (nothing y z)
+
+-- ---- What is next
+
+rest-next : {B : Vars} {e : Expr} → Rest B e → Rest No e
+rest-next r = rest-fewer (λ y z. absurd z) r
+
+fits-next : {I : List ℕ} {e : Expr} → Fits I e → Rest No e
+fits-next {I} f = record { scope = I; fits = f; outside = λ y z. absurd z }
+
+abbrev Goes : (Value → Control) → Type 0
+Goes c = (v : Value) → ControlOk (c v)
+
+abbrev Sought : Expr → Env → Type 0
+Sought e σ = (I : List ℕ) (K : List Frame) (c : Value → Control) → Fits I e → Nested (Bound e) K → Goes c → ControlOk (seek σ e K c)
+
+-- The part of a word with one.
+part-ok : (w : UnaryWord) (k : Position) (v : ℕ) (o : Unary) (e : Expr) (σ : Env) (I : List ℕ) (K : List Frame) → Sought e σ →
+    Fits I (unary w k v e) → Nested (Bound (unary w k v e)) K → ControlOk (seekPart σ k o K (seek σ e))
+unfolding binders role binding
+part-ok w k v o e σ I K sought f n =
+    sought I (unaryFrame k o ∷ K) (λ u. at σ (unaryWord k o u) K) (part-fits w e f) (nested-behind K (Bound e) (unaryFrame k o) (λ y z. z) tt n)
+    (λ u. (tt, nested-none K _ n))
+
+-- Both parts of a `write`, whose values are wanted one after the other.
+second-ok : (k : Position) (w : Value) (e : Expr) (σ : Env) (I : List ℕ) (K : List Frame) → Sought e σ → Fits I e → Nested (Bound e) K →
+    ControlOk (seek σ e (writeSecond k w ∷ K) (λ u. at σ (writeWord k w u) K))
+second-ok k w e σ I K sought f n =
+    sought I (writeSecond k w ∷ K) (λ u. at σ (writeWord k w u) K) f (nested-behind K (Bound e) (writeSecond k w) (λ y z. z) tt n)
+    (λ u. (tt, nested-none K _ n))
+
+seek-ok : (e : Expr) (σ : Env) → Sought e σ
+unfolding UsedInside binders role binding
+seek-ok (leaf Var k x) σ I K c f n g = g (σ x)
+seek-ok (leaf Int k v) σ I K c f n g = g _
+seek-ok (leaf Newtid k v) σ I K c f n g = (tt, nested-none K _ n)
+seek-ok (leaf Newlock k v) σ I K c f n g = (tt, nested-none K _ n)
+seek-ok (leaf Newsem k v) σ I K c f n g = (tt, nested-none K _ n)
+seek-ok (leaf Newrwlock k v) σ I K c f n g = (tt, nested-none K _ n)
+seek-ok (unary While k v e) σ I K c f n g = (fits-next (part-fits While e f), n)
+seek-ok (unary Join k v e) σ I K c f n g = part-ok Join k v _ e σ I K (seek-ok e σ) f n
+seek-ok (unary Ref k v e) σ I K c f n g = part-ok Ref k v _ e σ I K (seek-ok e σ) f n
+seek-ok (unary Read k v e) σ I K c f n g = part-ok Read k v _ e σ I K (seek-ok e σ) f n
+seek-ok (unary Lock k v e) σ I K c f n g = part-ok Lock k v _ e σ I K (seek-ok e σ) f n
+seek-ok (unary Unlock k v e) σ I K c f n g = part-ok Unlock k v _ e σ I K (seek-ok e σ) f n
+seek-ok (unary Post k v e) σ I K c f n g = part-ok Post k v _ e σ I K (seek-ok e σ) f n
+seek-ok (unary Wait k v e) σ I K c f n g = part-ok Wait k v _ e σ I K (seek-ok e σ) f n
+seek-ok (unary Rdlock k v e) σ I K c f n g = part-ok Rdlock k v _ e σ I K (seek-ok e σ) f n
+seek-ok (unary Rdunlock k v e) σ I K c f n g = part-ok Rdunlock k v _ e σ I K (seek-ok e σ) f n
+seek-ok (unary Wrlock k v e) σ I K c f n g = part-ok Wrlock k v _ e σ I K (seek-ok e σ) f n
+seek-ok (unary Wrunlock k v e) σ I K c f n g = part-ok Wrunlock k v _ e σ I K (seek-ok e σ) f n
+seek-ok (binary Let k x e₁ e₂) σ I K c f n g =
+    let P = let-fits x e₁ e₂ f in
+    seek-ok e₁ σ I (letFrame k x e₂ ∷ K) (λ v. at σ (letWord k x v e₂) K) (P .value-fits)
+    (record { scope = I; fits = P .rest-fits; apart = P .apart; outside = P .value-fits .new }, nested-fewer K _ _ parts n)
+    (λ v. (record { scope = I; fits = P .rest-fits; apart = P .apart; outside = λ y z. absurd z }, nested-fewer K _ _ rest n))
+  where
+    rest : (λ y. (y ≡ x) ⊎ Bound e₂ y) within Bound (binary Let k x e₁ e₂)
+    rest y (inl q) = rw q (among-here x _)
+    rest y (inr b) = among-behind y x _ (among-right y (binders e₁) (binders e₂) b)
+
+    parts : (λ y. Bound e₁ y ⊎ ((y ≡ x) ⊎ Bound e₂ y)) within Bound (binary Let k x e₁ e₂)
+    parts y (inl b) = among-behind y x _ (among-left y (binders e₁) (binders e₂) b)
+    parts y (inr b) = rest y b
+seek-ok (binary If k v e₁ e₂) σ I K c f n g =
+    let P = both-fit I e₁ e₂ (f .used .1) (f .used .2) (f .new) (f .once) in
+    ((I, P .left, P .right), nested-fewer K _ _ (λ y. among-either y (binders e₁) (binders e₂)) n)
+seek-ok (binary Spawn k v e₁ e₂) σ I K c f n g =
+    let P = both-fit I e₁ e₂ (f .used .1) (f .used .2) (f .new) (f .once) in
+    seek-ok e₁ σ I (spawnFrame k e₂ ∷ K) (λ w. at σ (spawnWord k w e₂) K) (P .left)
+    (nested-behind K (Bound e₁) (spawnFrame k e₂) (λ y z. z) (record { scope = I; fits = P .right; outside = P .left .new })
+    (nested-fewer K _ _ (λ y. among-left y (binders e₁) (binders e₂)) n))
+    (λ w. (fits-next (P .right), nested-none K _ n))
+seek-ok (binary Write k v e₁ e₂) σ I K c f n g =
+    let P = both-fit I e₁ e₂ (f .used .1) (f .used .2) (f .new) (f .once) in
+    seek-ok e₁ σ I (writeFirst k e₂ ∷ K) _ (P .left)
+    (record { scope = I; fits = P .right; outside = P .left .new }, nested-fewer K _ _ (λ y. among-either y (binders e₁) (binders e₂)) n)
+    (λ w. second-ok k w e₂ σ I K (seek-ok e₂ σ) (P .right) (nested-fewer K _ _ (λ y. among-right y (binders e₁) (binders e₂)) n))
+
+pub return-ok : (σ : Env) (v : Value) (K : List Frame) (B : Vars) → Nested B K → ControlOk (return σ v K)
+return-ok σ v [] B n = tt
+return-ok σ v (letFrame k x e ∷ K) B n = (let-rest-fewer (λ y z. absurd z) (n .0), nested-fewer K _ _ (λ y b. inr b) (n .1))
+return-ok σ v (spawnFrame k e ∷ K) B n = (rest-next (n .0), nested-none K _ (n .1))
+return-ok σ v (writeFirst k e ∷ K) B n = second-ok k v e σ (n .0 .scope) K (seek-ok e σ) (n .0 .fits) (nested-fewer K _ _ (λ y b. inr b) (n .1))
+return-ok σ v (writeSecond k w ∷ K) B n = (tt, nested-none K _ (n .1))
+return-ok σ v (unaryFrame k o ∷ K) B n = (tt, nested-none K _ (n .1))
+return-ok σ v (againFrame k e ∷ K) B n = (rest-next (n .0), nested-fewer K _ _ (λ y b. inr b) (n .1))
+
+pub enter-ok : (σ : Env) (e : Expr) (I : List ℕ) (K : List Frame) → Fits I e → Nested (Bound e) K → ControlOk (enter σ e K)
+enter-ok σ e I K f n = seek-ok e σ I K (λ v. return σ v K) f n (λ v. return-ok σ v K (Bound e) n)
+
+pub run-part-ok : (σ : Env) (k : Position) (e : Expr) (I : List ℕ) (K : List Frame) → Fits I e → Nested (Bound e) K → ControlOk (runPart σ k e K)
+run-part-ok σ k e I K f n =
+    seek-ok e σ I (againFrame k e ∷ K) (λ v. at σ (againWord k v e) K) f
+    (record { scope = I; fits = f; outside = f .new }, nested-fewer K _ _ twice n) (λ v. (fits-next f, n))
+  where
+    twice : (λ y. Bound e y ⊎ Bound e y) within Bound e
+    twice y (inl b) = b
+    twice y (inr b) = b

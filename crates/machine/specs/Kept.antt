@@ -1,0 +1,18 @@
+-- What every state of a machine keeps, if its program is well formed.
+use Prim.Native.Nat.{ℕ, _≤_}
+use mathlib.Core.Path.{_≡_}
+use Rattle.calculus.specs.State.{Slot, unused}
+use Rattle.calculus.specs.Claim.{Every}
+use Rattle.machine.specs.State.{MachineThread, Machine}
+use Rattle.machine.specs.Scoped.{ControlOk}
+
+-- One environment is enough for the thread.
+abbrev pub ThreadKept : MachineThread → Type 0
+ThreadKept t = ControlOk (t .control)
+
+abbrev pub UnusedFrom : (ℕ → Slot) → ℕ → Type 0
+UnusedFrom names next = (n : ℕ) → next ≤ n → names n ≡ unused
+
+pub record Kept (M : Machine) : Type 0 where
+  pub threadsKept : Every ThreadKept (M .threads)
+  pub unusedFrom : UnusedFrom (M .names) (M .next)

@@ -1,0 +1,99 @@
+-- A replay on the machine, with its counts and what it has found so far: what the code runs. proofs/Replay shows that it is the replay of
+-- crates/replaying.
+use Prim.Native.Nat.{ℕ, _+_}
+use mathlib.Core.Bool.{Bool, true, false}
+use mathlib.Core.List.{List, [], _∷_}
+use mathlib.Core.Option.{Option, none, some}
+use lib.ListN.{getElem?, length}
+use Rattle.spec.specs.Text.{Line, lines}
+use Rattle.spec.specs.Reading.{Out, stop, on}
+use Rattle.spec.specs.Expression.{Expr}
+use Rattle.spec.specs.Program.{Program}
+use Rattle.calculus.specs.Expression.{Redex}
+use Rattle.calculus.specs.Reduction.{_>>=_}
+use Rattle.replaying.specs.Trace.{TraceLine, traceLine}
+use Rattle.replaying.specs.Run.{Kind, partChosen, effect, thingsAfter, withinLimits}
+use Rattle.replaying.specs.LowestPair.{Uses, usesOf, lowestAmong}
+use Rattle.replaying.specs.Replay.{Outcome, badForm, noStep, pastLimit, step as stepOf, onLine, raceOr, refused, judged}
+use Rattle.replaying.specs.declared.Status.{Status}
+use Rattle.replaying.specs.declared.Status.the-variants.{Running, Finished, Joined}
+use Rattle.replaying.specs.declared.Ending.{Ending}
+use Rattle.replaying.specs.declared.Ending.the-variants.{Done, TraceForm, NoStep, PastLimit}
+use Rattle.replaying.specs.declared.FirstRace.{FirstRace}
+use Rattle.replaying.specs.declared.FirstRace.the-variants.{None, Found}
+use Rattle.replaying.specs.declared.Replayed.{Replayed}
+use Rattle.machine.specs.Control.{Control, done, at, nextRedex}
+use Rattle.machine.specs.State.{MachineThread, Machine, ofLive, startMachine}
+use Rattle.machine.specs.Step.{step}
+
+-- Threads are counted by the machine's list, which keeps the joined ones.
+pub record Replay : Type 0 where
+  pub machine : Machine
+  pub things : Kind → ℕ
+
+unfoldable pub startReplay : Expr → Replay
+startReplay e = record { machine = startMachine e; things = λ k. 0 }
+
+-- The record of a thread.
+unfoldable pub statusOf : (joined : Bool) → Control → Status
+statusOf true b = Joined
+statusOf false (done v) = Finished
+statusOf false (at σ w K) = Running
+
+-- ---- A line
+
+-- The word that a thread can do next; a joined thread has none.
+unfoldable pub wordOf : (joined : Bool) → MachineThread → Option Redex
+wordOf true t = none
+wordOf false t = nextRedex (t .control)
+
+unfoldable pub stepped : Replay → TraceLine → Option Replay
+stepped R l = do
+  t ← getElem? (R .machine .threads) (l .thread)
+  w ← wordOf (t .joined) t
+  c ← partChosen w (l .choice)
+  M ← step (R .machine) (l .thread) c
+  some (record { machine = M; things = thingsAfter (effect w) (R .things) })
+
+unfoldable pub within : Replay → Bool
+within R = withinLimits (length (R .machine .threads)) (R .things)
+
+-- ---- Races
+
+unfoldable pub usesIn : Machine → List (ℕ × Uses)
+usesIn M = ofLive (λ i t. (i, usesOf (M .names) (nextRedex (t .control)))) 0 (M .threads)
+
+unfoldable pub lowestPair : Replay → Option (ℕ × ℕ)
+lowestPair R = lowestAmong (usesIn (R .machine))
+
+-- The race found before, or else one of this state.
+unfoldable pub orRace : FirstRace → (state : ℕ) → Option (ℕ × ℕ) → FirstRace
+orRace None k pair = raceOr k pair None
+orRace (Found n i j) k pair = Found n i j
+
+-- ---- Lines in turn
+
+unfoldable pub ended : Ending → (steps : ℕ) → FirstRace → Replayed
+ended ending k race = record { ending = ending; report = record { steps = k; race = race } }
+
+-- After k steps, with the first race so far; the next line is line k + 1.
+unfoldable pub playOn : (k : ℕ) → FirstRace → Outcome Replay → (Replay → Replayed) → Replayed
+playOn k race badForm rest = ended (TraceForm (k + 1)) k race
+playOn k race noStep rest = ended (NoStep (k + 1)) k race
+playOn k race pastLimit rest = ended (PastLimit (k + 1)) k race
+playOn k race (stepOf R) rest = rest R
+
+unfoldable pub playFrom : (k : ℕ) → FirstRace → Replay → List Line → Replayed
+playFrom k race R [] = ended Done k race
+playFrom k race R (l ∷ ls) =
+    playOn k race (onLine (stepped R) within (traceLine l)) (λ R′. playFrom (k + 1) (orRace race (k + 1) (lowestPair R′)) R′ ls)
+
+unfoldable pub play : Replay → List Line → Replayed
+play R ls = playFrom 0 (orRace None 0 (lowestPair R)) R ls
+
+unfoldable pub played : Out Program → List Line → Replayed
+played (stop r) ls = refused r
+played (on P) ls = play (startReplay (P .root)) ls
+
+unfoldable pub replay : (room : ℕ) → (programText traceText : List ℕ) → Replayed
+replay room programText traceText = played (judged room programText) (lines traceText)

@@ -1,0 +1,79 @@
+// Reads `program.txt` and `trace.txt` in the current folder and writes one line: `RAN,` or `RACE,` and what the replay reports, `REFUSE,`
+// and four numbers with what it reports, or `UNREAD`. The replay is in the library `replay`, the wording in `replay_line`; here is only
+// what meets the outside.
+use files::Contents;
+use files::read_file;
+use files::write_all;
+use libc::STDERR_FILENO;
+use libc::STDOUT_FILENO;
+use replay::replay;
+use replay_line::Outcome;
+use replay_line::write_line;
+ghost use mathlib.Core.Path.{_≡_};
+ghost use lib.ListN.{length};
+ghost use Rattle.files.specs.Files.{Within};
+ghost use Rattle.replaying.specs.Replay.{replaySpace, replay as replayed};
+ghost use Rattle.replay_line.specs.declared.Outcome.the-variants.{Ran};
+
+// The most bytes of a trace that are held.
+const TRACE_LIMIT: usize = 4_000_000;
+
+// Replays two texts in a space of its own.
+fn replay_texts(program: &[u8], trace: &[u8]) -> Outcome
+    ensures { λ o. ⌜ o ≡ Ran (replayed replaySpace (now (program .entry)) (now (trace .entry))) ⌝ }
+{
+    let mut space = [0u32; 16384];
+    let replayed = replay(program, trace, &mut space);
+    Outcome::Ran(replayed)
+}
+
+// Reads the trace into a buffer with room for one byte more than is held. It is lent as an array, whose length is known: a proof
+// that counts so many bytes runs out of room.
+fn read_trace(buffer: &mut [u8; 4_000_001]) -> Contents
+    ensures { λ r. ⌜ Within r (length (now (buffer .exit))) ⌝ }
+{
+    read_file(b"trace.txt", buffer)
+}
+
+// Both files are read before anything is replayed. A buffer has room for one byte more than its text may have, so that a longer
+// file is seen to be longer, and no more of it is read. A trace has no limit of its own: one that is too long to be held is not
+// replayed in part.
+fn run() -> Outcome {
+    let mut program = [0u8; 16385];
+    let mut trace = [0u8; 4_000_001];
+    let Contents::Bytes(p) = read_file(b"program.txt", &mut program) else {
+        return Outcome::Unread;
+    };
+    let Contents::Bytes(t) = read_trace(&mut trace) else {
+        return Outcome::Unread;
+    };
+    if TRACE_LIMIT < t {
+        write_all(
+            STDERR_FILENO,
+            b"racereplay: trace.txt has more than 4,000,000 bytes\n",
+        );
+        return Outcome::Unread;
+    }
+    replay_texts(&program[..p], &trace[..t])
+}
+
+// Writes the line of an outcome to standard output. It is made first and written by one call, so that no other program's line comes
+// between its parts.
+fn tell(outcome: Outcome) {
+    let mut line = [0u8; 256];
+    let n = write_line(&mut line, outcome);
+    write_all(STDOUT_FILENO, &line[..n]);
+}
+
+// An argument is refused: who names a folder would take the answer for that folder's.
+fn main() {
+    if 1 < os::arg_count() {
+        write_all(
+            STDERR_FILENO,
+            b"usage: racereplay, with no argument, in a folder with program.txt and trace.txt\n",
+        );
+        tell(Outcome::Unread);
+        return;
+    }
+    tell(run());
+}

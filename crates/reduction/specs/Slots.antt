@@ -1,0 +1,25 @@
+-- What each name names, in the lent space s, by the value v that stands for the name.
+use Prim.Native.Nat.{ℕ, _+_}
+use mathlib.Core.List.{List}
+use lib.Dec.{ltb}
+use lib.ListN.{getD, set}
+use Rattle.spec.specs.Choice.{if_then_else_}
+use Rattle.reduction.specs.declared.slots.Slot.{Slot}
+
+abbrev pub kindsAt : ℕ
+kindsAt = 8256
+
+abbrev pub firstsAt : ℕ
+firstsAt = 8640
+
+abbrev pub secondsAt : ℕ
+secondsAt = 9024
+
+abbrev pub slot : (kind first second : ℕ) → Slot
+slot k a b = record { kind = k; first = a; second = b }
+
+unfoldable pub slotAt : (s : List ℕ) (v : ℕ) → Slot
+slotAt s v = if ltb v 322 then slot (getD s (kindsAt + v) 0) (getD s (firstsAt + v) 0) (getD s (secondsAt + v) 0) else slot 0 0 0
+
+unfoldable pub slotPut : (s : List ℕ) (v : ℕ) → Slot → List ℕ
+slotPut s v x = set (set (set s (kindsAt + v) (x .kind)) (firstsAt + v) (x .first)) (secondsAt + v) (x .second)

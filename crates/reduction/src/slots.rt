@@ -1,0 +1,71 @@
+// What each name names, in the lent space, by the value that stands for the name.
+use control::put;
+use workspace::at;
+use workspace::index;
+ghost use mathlib.Core.Path.{_≡_};
+ghost use Rattle.reduction.specs.Slots.{slotAt, slotPut};
+
+// By value, up to 321 names: what is named, and two numbers of it.
+pub const KINDS: usize = 8256;
+
+pub const FIRSTS: usize = 8640;
+
+pub const SECONDS: usize = 9024;
+
+// The first value that no name has: the start's identifier and 64 of each of five kinds have the values from 1 on.
+pub const VALUES: u32 = 322;
+
+// An unused name, or a constant.
+pub const UNUSED: u32 = 0;
+
+pub const IDENTIFIER: u32 = 1;
+
+// first: the value that it holds.
+pub const CELL: u32 = 2;
+
+// first: 0 open, 1 closed.
+pub const LOCK: u32 = 3;
+
+// first and second: the count, of 64 bits.
+pub const SEMAPHORE: u32 = 4;
+
+// first: its reading places. Nobody or readers are in; second: how many.
+pub const RWLOCK: u32 = 5;
+
+// The same with a writer in.
+pub const RWLOCK_WRITTEN: u32 = 6;
+
+pub struct Slot {
+    pub kind: u32,
+    pub first: u32,
+    pub second: u32,
+}
+
+// What a value names.
+pub fn slot_at(space: &[u32], v: u32) -> Slot
+    ensures { λ r. ⌜ r ≡ slotAt (now (space .entry)) v ⌝ }
+{
+    if v < VALUES {
+        let i = index(v);
+        return Slot {
+            kind: at(space, KINDS + i),
+            first: at(space, FIRSTS + i),
+            second: at(space, SECONDS + i),
+        };
+    }
+    Slot {
+        kind: UNUSED,
+        first: 0,
+        second: 0,
+    }
+}
+
+// A value names this from now on.
+pub fn put_slot(space: &mut [u32], v: u32, x: Slot)
+    ensures { λ _. ⌜ now (space .exit) ≡ slotPut (now (space .entry)) v x ⌝ }
+{
+    let i = index(v);
+    put(space, KINDS + i, x.kind);
+    put(space, FIRSTS + i, x.first);
+    put(space, SECONDS + i, x.second);
+}

@@ -1,0 +1,79 @@
+-- The promises of the offered call, in the order of its clauses.
+use Prim.Native.Nat.{ℕ, _<_, _≤_}
+use mathlib.Core.Path.{_≡_, refl, sym, _∙_, ap, subst}
+use mathlib.Core.List.{List, _++_}
+use native.Mathlib.Omega.{arith}
+use lib.ListN.{length, take, drop, length-append, length-drop}
+use lib.Seq.{length-take-le, drop-at}
+use Rattle.workspace.specs.Layout.{workSize}
+use Rattle.replaying.specs.Replay.{replaySpace, replay, numbersOf}
+use Rattle.replaying.specs.Claim.{TraceFollowed, RaceFound, NoneIfAccepted}
+use Rattle.replaying.specs.declared.Replayed.{Replayed}
+use Rattle.replaying.proofs.Reported.{trace-is-followed, race-is-found, none-if-accepted}
+
+-- ------------------------------------------------------------------ the space
+
+-- The first N numbers of w are lent, and come back as x. N is a variable here, since `take 16384` would be computed.
+module _ (N : ℕ) (w x : List ℕ) (h : N ≤ length w) (k : length x ≡ length (take N w)) where
+  same-length : length (x ++ drop N w) ≡ length w
+  same-length =
+      let all = length-append x (drop N w) in
+      let first = k ∙ length-take-le N w h in
+      let rest = length-drop N w in
+      omega (arith, all, first, rest, h)
+
+  rest-kept : drop N (x ++ drop N w) ≡ drop N w
+  rest-kept = drop-at x (drop N w) N (k ∙ length-take-le N w h)
+
+-- The clauses `kept` and `free`.
+pub record SpaceAfter (s s′ : List ℕ) : Type 0 where
+  pub kept : length s < replaySpace → s′ ≡ s
+  pub long : length s′ ≡ length s
+  pub behind : drop replaySpace s′ ≡ drop replaySpace s
+
+pub short-space-after : (s : List ℕ) → SpaceAfter s s
+short-space-after s = record { kept = λ l. refl; long = refl; behind = refl }
+
+pub long-space-after : (s x : List ℕ) → workSize ≤ length s → length x ≡ length (take workSize s) → SpaceAfter s (x ++ drop workSize s)
+unfolding replaySpace
+long-space-after s x h k = record {
+  kept = λ l. absurd (omega (arith, h, l));
+  long = same-length workSize s x h k;
+  behind = rest-kept workSize s x h k;
+}
+
+-- ------------------------------------------------------------------ all of them
+
+-- U is the clause of the texts, which are lent unchanged.
+pub promises-kept : {U : Type 0} (text trace s s′ : List ℕ) (r : Replayed) → r ≡ replay (length s) text trace → U → SpaceAfter s s′ →
+    (r .ending ≡ replay (length s) text trace .ending)
+    × ((r .report ≡ replay (length s) text trace .report)
+    × (U
+    × ((length s < replaySpace → s′ ≡ s)
+    × (((length s′ ≡ length s) × (drop replaySpace s′ ≡ drop replaySpace s))
+    × (TraceFollowed (length s) text trace (r .report .steps) (numbersOf (r .ending))
+    × (RaceFound (length s) text trace (r .report .race)
+    × NoneIfAccepted text (r .report .race)))))))
+promises-kept text trace s s′ r e u S = (
+  ap (λ (a : Replayed). a .ending) e,
+  (
+    ap (λ (a : Replayed). a .report) e,
+    (
+      u,
+      (
+        S .kept,
+        (
+          (S .long, S .behind),
+          (
+            subst (λ (a : Replayed). TraceFollowed (length s) text trace (a .report .steps) (numbersOf (a .ending))) (sym e)
+                (trace-is-followed (length s) text trace),
+            (
+              subst (λ (a : Replayed). RaceFound (length s) text trace (a .report .race)) (sym e) (race-is-found (length s) text trace),
+              subst (λ (a : Replayed). NoneIfAccepted text (a .report .race)) (sym e) (none-if-accepted (length s) text trace),
+            ),
+          ),
+        ),
+      ),
+    ),
+  ),
+)

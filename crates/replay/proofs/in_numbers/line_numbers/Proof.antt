@@ -1,0 +1,11 @@
+use mathlib.Core.Path.{refl}
+use Rattle.replaying.specs.Replay.{lineNumbers}
+use Rattle.replay.proofs.in_numbers.line_numbers.Statement.{statement}
+use Rattle.replay.proofs.in_numbers.line_numbers.Tie as tie
+
+returns : tie.Need-returns
+unfolding lineNumbers
+returns c = refl
+
+pub line-numbers-spec : {M : Type 1} → statement M
+line-numbers-spec = tie.close (tie.spec returns)

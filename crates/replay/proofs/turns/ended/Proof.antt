@@ -1,0 +1,14 @@
+use mathlib.Core.Path.{refl}
+use Rattle.machine.specs.Replay.{ended}
+use Rattle.replay.proofs.turns.ended.Statement.{statement}
+use Rattle.replay.proofs.turns.ended.Tie as tie
+
+returns : tie.Need-returns
+unfolding ended
+returns c = refl
+
+pub ended-spec : {M : Type 1} → statement M
+ended-spec =
+    tie.close
+    (tie.spec
+    returns)

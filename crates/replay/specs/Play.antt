@@ -1,0 +1,68 @@
+-- The lines of a trace in turn, on numbers.
+use Prim.Native.Nat.{ℕ, _+_, _≤_}
+use mathlib.Core.Path.{_≡_}
+use mathlib.Core.List.{List}
+use lib.ListN.{length, drop}
+use Rattle.spec.specs.Text.{lines}
+use Rattle.threads.specs.declared.Threads.{Threads}
+use Rattle.trace.specs.declared.TraceLine.{TraceLine}
+use Rattle.trace.specs.declared.TraceLine.the-variants.{Move, Malformed}
+use Rattle.engine.specs.declared.Outcome.{Outcome}
+use Rattle.engine.specs.declared.Outcome.the-variants.{Moved, Stuck, Past}
+use Rattle.engine.specs.declared.Stepped.{Stepped}
+use Rattle.engine.specs.Steps.{stepped}
+use Rattle.engine.specs.Races.{lowestPair}
+use Rattle.replaying.specs.declared.Ending.{Ending}
+use Rattle.replaying.specs.declared.Ending.the-variants.{TraceForm, NoStep, PastLimit}
+use Rattle.replaying.specs.declared.FirstRace.{FirstRace}
+use Rattle.replaying.specs.declared.Replayed.{Replayed}
+use Rattle.machine.specs.Replay.{Replay, orRace, playFrom}
+use Rattle.simulation.proofs.Holds.{Holds}
+use Rattle.simulation.proofs.Racing.{pairTold}
+use Rattle.simulation.proofs.Posting.{CountsWithin}
+use Rattle.replay.specs.declared.turns.Point.{Point}
+use Rattle.replay.specs.declared.turns.Progress.the-variants.{Stops, Goes}
+
+unfoldable pub raceAfter : (p s : List ℕ) (count : ℕ) → FirstRace → (state : ℕ) → FirstRace
+raceAfter p s n race k = orRace race k (pairTold (lowestPair p s n))
+
+-- a step that is done leaves no more threads than there is room for
+abbrev pub CountKept : Stepped × List ℕ → Type 0
+CountKept r = r .0 .outcome ≡ Moved → r .0 .threads .count ≤ 16
+
+abbrev pub CountsKept : (p s : List ℕ) → Threads → Type 0
+CountsKept p s T = (t c : ℕ) → CountKept (stepped p s T t c)
+
+unfoldable pub stoppedBy : Point → Ending → Point
+stoppedBy q e = record { progress = Stops e; threads = q .threads; at = q .at; steps = q .steps; race = q .race }
+
+-- a step is done: what the space and the records are after it
+abbrev pub pointAfter : (p s : List ℕ) → Threads → (at : ℕ) → Point → Point
+pointAfter p s T at q = record { progress = Goes; threads = T; at = at; steps = q .steps + 1; race = raceAfter p s (T .count) (q .race) (q .steps + 1) }
+
+unfoldable pub byOutcome : Outcome → (p s : List ℕ) → Threads → Point → (next : ℕ) → Point
+byOutcome Moved p s T q next = pointAfter p s T next q
+byOutcome Stuck p s T q next = stoppedBy q (NoStep (q .steps + 1))
+byOutcome Past p s T q next = stoppedBy q (PastLimit (q .steps + 1))
+
+unfoldable pub afterStep : (p : List ℕ) → Point → (next : ℕ) → Stepped × List ℕ → Point × List ℕ
+afterStep p q next (r, s) = (byOutcome (r .outcome) p s (r .threads) q next, s)
+
+unfoldable pub lineDone : (p s : List ℕ) → Point → TraceLine → Point × List ℕ
+lineDone p s q (Move t c next) = afterStep p q next (stepped p s (q .threads) t c)
+lineDone p s q Malformed = (stoppedBy q (TraceForm (q .steps + 1)), s)
+
+-- ------------------------------------------------------------------ what the numbers stand for
+
+-- the numbers hold a run of the machine from which the rest of the text comes to `whole`
+pub record PlaysTo (whole : Replayed) (p s text : List ℕ) (q : Point) : Type 0 where
+  pub run : Replay
+  pub held : Holds p s (q .threads) run
+  pub counts : CountsWithin (q .steps) (run .machine .names)
+  pub in-text : q .at ≤ length text
+  pub behind : q .steps ≤ q .at
+  pub comes-to : playFrom (q .steps) (q .race) run (lines (drop (q .at) text)) ≡ whole
+
+pub record Plays (p s text : List ℕ) (q : Point) : Type 0 where
+  pub whole : Replayed
+  pub plays : PlaysTo whole p s text q

@@ -1,0 +1,77 @@
+// The offered call of request (xii): a program, a trace and a lent space in, an answer and a report out.
+mod in_numbers;
+mod start;
+mod turns;
+
+pub use in_numbers::RaceNumbers;
+pub use in_numbers::ending_numbers;
+pub use in_numbers::race_numbers;
+use program::ProgramRead;
+use replaying::Ending;
+use replaying::FirstRace;
+use replaying::Replayed;
+use replaying::Report;
+use spec::Refusal;
+use start::run_held;
+ghost use mathlib.Core.Path.{_≡_};
+ghost use Prim.Native.Nat.{_<_};
+ghost use lib.ListN.{length, drop};
+ghost use Rattle.workspace.specs.Layout.{workSize};
+ghost use Rattle.replaying.specs.Replay.{refused as refusedBy, replaySpace, replay as replayed, numbersOf};
+ghost use Rattle.replaying.specs.Claim.{TraceFollowed, RaceFound, NoneIfAccepted};
+ghost use Rattle.machine.specs.Replay.{replay as machineReplay};
+
+fn refused(r: Refusal) -> Replayed
+    ensures { λ a. ⌜ a ≡ refusedBy r ⌝ }
+{
+    let race = FirstRace::None;
+    let report = Report { steps: 0, race };
+    let ending = Ending::Refused(r);
+    Replayed { ending, report }
+}
+
+// How many 32-bit numbers a replay works in.
+pub const SPACE: usize = 16384;
+
+// The most bytes that a program sheet may have.
+const PROGRAM_LIMIT: usize = 16384;
+
+// The replay of a pair of texts, in a space that is long enough.
+fn replay_texts(program: &[u8], trace: &[u8], space: &mut [u32]) -> Replayed
+    requires { ⌜ length (now space) ≡ workSize ⌝ }
+    ensures { λ r. ⌜ r ≡ machineReplay replaySpace (now (program .entry)) (now (trace .entry)) ⌝ }
+{
+    if PROGRAM_LIMIT < program.len() {
+        return refused(Refusal::LongProgram);
+    }
+    match program::read(program, space) {
+        ProgramRead::Refused(r) => refused(r),
+        ProgramRead::Read(steps) => run_held(space, trace, steps),
+    }
+}
+
+// The replay of a program and a trace. What request (xii) asks of it, clause by clause:
+// answer: the ending is the one that the definition gives, for every input;
+// report: so are the steps done and the first state with a race;
+// unchanged: both texts are as they were;
+// kept: a space that is too short is as it was;
+// free: of a longer one nothing is promised but its length, and that the numbers behind those that a replay needs are as they were;
+// stops: each step done is the language's, of the thread and with the choice that its line lists; a join takes the lowest finished thread;
+// and the trace stops for what the line behind them is: 46, 47 exactly if no such step is there, 48 for a step past a limit, or no line;
+// first_race: the race reported is the first of these states, with its lowest pair; where none is reported there is none;
+// safe: of an accepted program no race is reported, whatever the trace.
+pub fn replay(program: &[u8], trace: &[u8], space: &mut [u32]) -> Replayed
+    ensures answer { λ r. ⌜ r .ending ≡ replayed (length (now (space .entry))) (now (program .entry)) (now (trace .entry)) .ending ⌝ }
+    ensures report { λ r. ⌜ r .report ≡ replayed (length (now (space .entry))) (now (program .entry)) (now (trace .entry)) .report ⌝ }
+    ensures unchanged { λ r. ⌜ (now (program .exit) ≡ now (program .entry)) × (now (trace .exit) ≡ now (trace .entry)) ⌝ }
+    ensures kept { λ r. ⌜ (length (now (space .entry)) < replaySpace → now (space .exit) ≡ now (space .entry)) ⌝ }
+    ensures free { λ r. ⌜ (length (now (space .exit)) ≡ length (now (space .entry))) × (drop replaySpace (now (space .exit)) ≡ drop replaySpace (now (space .entry))) ⌝ }
+    ensures stops { λ r. ⌜ TraceFollowed (length (now (space .entry))) (now (program .entry)) (now (trace .entry)) (r .report .steps) (numbersOf (r .ending)) ⌝ }
+    ensures first_race { λ r. ⌜ RaceFound (length (now (space .entry))) (now (program .entry)) (now (trace .entry)) (r .report .race) ⌝ }
+    ensures safe { λ r. ⌜ NoneIfAccepted (now (program .entry)) (r .report .race) ⌝ }
+{
+    if space.len() < SPACE {
+        return refused(Refusal::ShortWorkspace);
+    }
+    replay_texts(program, trace, &mut space[..SPACE])
+}

@@ -1,0 +1,153 @@
+// The lines of a trace in turn.
+use engine::Outcome;
+use engine::Pair;
+use replaying::Ending;
+use replaying::FirstRace;
+use replaying::Replayed;
+use replaying::Report;
+use threads::Threads;
+use trace::TraceLine;
+ghost use mathlib.Core.Path.{_≡_};
+ghost use Prim.Native.Nat.{_<_, _≤_};
+ghost use lib.ListN.{length, drop};
+ghost use Rattle.lexer.specs.Views.{lineAt};
+ghost use Rattle.trace.specs.Lines.{moveIn};
+ghost use Rattle.engine.specs.Steps.{stepped};
+ghost use Rattle.replaying.specs.declared.Replayed.{Replayed as Whole};
+ghost use Rattle.machine.specs.Replay.{ended};
+ghost use Rattle.replay.specs.Play.{raceAfter, CountKept, CountsKept, stoppedBy, afterStep, lineDone, Plays, PlaysTo};
+
+// Whether a run goes on, or what has stopped it.
+pub enum Progress {
+    Goes,
+    Stops(Ending),
+}
+
+// A run between two lines of its trace: its threads, the byte of the next line, the steps done, the first race so far.
+pub struct Point {
+    pub progress: Progress,
+    pub threads: Threads,
+    pub at: usize,
+    pub steps: usize,
+    pub race: FirstRace,
+}
+
+// The first race so far, once the state of that number is looked at; it has so many threads.
+pub(crate) fn race_after(
+    program: &[u32],
+    space: &[u32],
+    count: u32,
+    race: FirstRace,
+    state: usize,
+) -> FirstRace
+    requires { ⌜ count ≤ 16 ⌝ }
+    ensures { λ r. ⌜ r ≡ raceAfter (now (program .entry)) (now (space .entry)) count race state ⌝ }
+{
+    match race {
+        FirstRace::Found {
+            state: _,
+            lower: _,
+            other: _,
+        } => race,
+        FirstRace::None => match engine::lowest_pair(program, space, count) {
+            Pair::None => FirstRace::None,
+            Pair::Of(i, j) => FirstRace::Found {
+                state,
+                lower: i,
+                other: j,
+            },
+        },
+    }
+}
+
+// The same run, stopped.
+fn stopped(p: Point, ending: Ending) -> Point
+    ensures { λ r. ⌜ r ≡ stoppedBy p ending ⌝ }
+{
+    let threads = p.threads;
+    let at = p.at;
+    let steps = p.steps;
+    let race = p.race;
+    let progress = Progress::Stops(ending);
+    Point {
+        progress,
+        threads,
+        at,
+        steps,
+        race,
+    }
+}
+
+// A line that lists that thread and that choice; the line behind it begins at the byte `next`.
+fn move_on(
+    program: &[u32],
+    space: &mut [u32],
+    p: Point,
+    thread: u32,
+    choice: u32,
+    next: usize,
+) -> Point
+    requires { ⌜ (p .steps < 18446744073709551615) × CountKept (stepped (now program) (now space) (p .threads) thread choice) ⌝ }
+    ensures { λ r. ⌜ afterStep (now (program .entry)) p next (stepped (now (program .entry)) (now (space .entry)) (p .threads) thread choice) ≡ (r, now (space .exit)) ⌝ }
+{
+    let line = p.steps + 1;
+    let before = p.race;
+    let done = engine::step(program, space, p.threads, thread, choice);
+    let threads = done.threads;
+    let outcome = done.outcome;
+    match outcome {
+        Outcome::Moved => {
+            let count = threads.count as u32;
+            let race = race_after(program, space, count, before, line);
+            Point {
+                progress: Progress::Goes,
+                threads,
+                at: next,
+                steps: line,
+                race,
+            }
+        }
+        Outcome::Stuck => stopped(p, Ending::NoStep(line)),
+        Outcome::Past => stopped(p, Ending::PastLimit(line)),
+    }
+}
+
+// The next line.
+fn next_line(program: &[u32], space: &mut [u32], trace: &[u8], p: Point) -> Point
+    requires { ⌜ (p .at ≤ length (now trace)) × (p .steps < 18446744073709551615) × CountsKept (now program) (now space) (p .threads) ⌝ }
+    ensures { λ r. ⌜ lineDone (now (program .entry)) (now (space .entry)) p (moveIn (length (now (trace .entry))) (lineAt (drop (p .at) (now (trace .entry))))) ≡ (r, now (space .exit)) ⌝ }
+{
+    let line = p.steps + 1;
+    match trace::line_at(trace, p.at) {
+        TraceLine::Move(thread, choice, next) => move_on(program, space, p, thread, choice, next),
+        TraceLine::Malformed => stopped(p, Ending::TraceForm(line)),
+    }
+}
+
+fn ended(ending: Ending, p: Point) -> Replayed
+    ensures { λ r. ⌜ r ≡ ended ending (p .steps) (p .race) ⌝ }
+{
+    let steps = p.steps;
+    let race = p.race;
+    let report = Report { steps, race };
+    Replayed { ending, report }
+}
+
+// The lines of the trace from there on, until one stops the run.
+pub(crate) fn play(program: &[u32], space: &mut [u32], trace: &[u8], start: Point) -> Replayed
+    requires { ⌜ Plays (now program) (now space) (now trace) start ⌝ }
+    ensures { λ r. ⌜ ((whole : Whole) → PlaysTo whole (now (program .entry)) (now (space .entry)) (now (trace .entry)) start → r ≡ whole) ⌝ }
+{
+    let mut p = start;
+    while p.at < trace.len() {
+        p = next_line(program, space, trace, p);
+        let progress = p.progress;
+        match progress {
+            Progress::Stops(ending) => {
+                return ended(ending, p);
+            }
+            Progress::Goes => {}
+        }
+    }
+    ended(Ending::Done, p)
+}

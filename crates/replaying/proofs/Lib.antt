@@ -1,0 +1,16 @@
+pub mod Lists
+pub mod Changes
+pub mod Proper
+pub mod Order
+pub mod Records
+pub mod Joining
+pub mod Complete
+pub mod Races
+pub mod Lowest
+pub mod Pairs
+pub mod Way
+pub mod Limits
+pub mod Followed
+pub mod Answer
+pub mod Reported
+pub mod Examples

@@ -1,0 +1,57 @@
+-- Laws of lists: their lengths, and what holds of every element.
+use Prim.Native.Nat.{ℕ, zero, suc}
+use mathlib.Core.Path.{_≡_, refl, ap, subst}
+use mathlib.Core.Option.{some}
+use mathlib.Core.List.{List, [], _∷_, _++_}
+use native.Mathlib.Omega.{arith}
+use lib.ListN.{getElem?, set, length}
+use Rattle.calculus.specs.State.{remove}
+use Rattle.calculus.specs.Claim.{Every}
+use Rattle.calculus.proofs.Laws.Maps.{some-injective, none-is-not-some}
+
+-- ---- Lengths
+
+pub length-set : {A : Type 0} (xs : List A) (i : ℕ) (a : A) → length (set xs i a) ≡ length xs
+length-set [] i a = refl
+length-set (x ∷ xs) zero a = refl
+length-set (x ∷ xs) (suc i) a = ap suc (length-set xs i a)
+
+pub length-append : {A : Type 0} (xs : List A) (a : A) → length (xs ++ (a ∷ [])) ≡ suc (length xs)
+length-append [] a = refl
+length-append (x ∷ xs) a = ap suc (length-append xs a)
+
+-- Lists of one length have one length when the same place is left out.
+pub length-remove : {A B : Type 0} (xs : List A) (ys : List B) (i : ℕ) → length xs ≡ length ys → length (remove xs i) ≡ length (remove ys i)
+length-remove [] [] i h = refl
+length-remove [] (y ∷ ys) i h = absurd (omega (arith, h))
+length-remove (x ∷ xs) [] i h = absurd (omega (arith, h))
+length-remove (x ∷ xs) (y ∷ ys) zero h = omega (arith, h)
+length-remove (x ∷ xs) (y ∷ ys) (suc i) h = ap suc (length-remove xs ys i (omega (arith, h)))
+
+-- Of two lists of one length, one has an element wherever the other has.
+pub there-in-both : {A B : Type 0} {y : B} (xs : List A) (ys : List B) (p : ℕ) → length xs ≡ length ys → getElem? ys p ≡ some y →
+    (x : A) × (getElem? xs p ≡ some x)
+there-in-both xs [] p e h = none-is-not-some h
+there-in-both [] (y ∷ ys) p e h = absurd (omega (arith, e))
+there-in-both (x ∷ xs) (y ∷ ys) zero e h = (x, refl)
+there-in-both (x ∷ xs) (y ∷ ys) (suc p) e h = there-in-both xs ys p (omega (arith, e)) h
+
+-- ---- Lists whose every element has a property
+
+pub every-at : {A : Type 0} (P : A → Type 0) (xs : List A) (i : ℕ) (x : A) → Every P xs → getElem? xs i ≡ some x → P x
+every-at P [] i x ps h = none-is-not-some h
+every-at P (y ∷ xs) zero x ps h = subst P (some-injective h) (ps .0)
+every-at P (y ∷ xs) (suc i) x ps h = every-at P xs i x (ps .1) h
+
+pub every-set : {A : Type 0} (P : A → Type 0) (xs : List A) (i : ℕ) (x : A) → Every P xs → P x → Every P (set xs i x)
+every-set P [] i x ps h = tt
+every-set P (y ∷ xs) zero x ps h = (h, ps .1)
+every-set P (y ∷ xs) (suc i) x ps h = (ps .0, every-set P xs i x (ps .1) h)
+
+pub every-append : {A : Type 0} (P : A → Type 0) (xs : List A) (x : A) → Every P xs → P x → Every P (xs ++ (x ∷ []))
+every-append P [] x ps h = (h, tt)
+every-append P (y ∷ xs) x ps h = (ps .0, every-append P xs x (ps .1) h)
+
+pub every-both : {A : Type 0} {P Q R : A → Type 0} (xs : List A) → ((x : A) → P x → Q x → R x) → Every P xs → Every Q xs → Every R xs
+every-both [] f ps qs = tt
+every-both (x ∷ xs) f ps qs = (f x (ps .0) (qs .0), every-both xs f (ps .1) (qs .1))

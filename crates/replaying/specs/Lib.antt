@@ -1,0 +1,7 @@
+-- Request (xii) in reading order: the lines of a trace, the run that they record, races in it, the answer, what is claimed of it; Examples has replays to try.
+pub mod Trace
+pub mod Run
+pub mod LowestPair
+pub mod Replay
+pub mod Claim
+pub mod Examples

@@ -1,0 +1,176 @@
+-- The words of a thread alone are the machine's: let, if, while.
+use Prim.Native.Nat.{ℕ, zero, suc, _+_, _*_, _<_, _≤_}
+use mathlib.Core.Path.{_≡_, refl, sym, _∙_, ap, subst}
+use mathlib.Core.Logic.{_≢_}
+use mathlib.Core.Bool.{Bool, true, false}
+use mathlib.Core.List.{List, [], _∷_}
+use mathlib.Core.Option.{Option, none, some}
+use native.Mathlib.Omega.{arith}
+use native.Mathlib.Decide.{ℕ-discrete}
+use lib.ListN.{length, getD, set, getElem?, length-set}
+use lib.Seq.{getD-set-same, getD-set-other}
+use Rattle.spec.specs.Expression.{Position, Expr}
+use Rattle.spec.specs.declared.Word.the-variants.{Leaf, Unary, Binary}
+use Rattle.spec.specs.declared.UnaryWord.the-variants.{While}
+use Rattle.spec.specs.declared.BinaryWord.the-variants.{Let, If}
+use Rattle.calculus.specs.Expression.{Value, choose}
+use Rattle.calculus.specs.State.{Part, first, second as secondOfTwo, update}
+use Rattle.workspace.specs.Layout.{ruleOf, codeOf, printed}
+use Rattle.threads.specs.declared.Threads.{Threads}
+use Rattle.control.specs.declared.Focus.{Focus}
+use Rattle.control.specs.Shapes.{shapeOf, shapeAt}
+use Rattle.control.specs.Control.{variable, kept, continuation, second, behind, entering, returning, stoppedAt, readyAt, unrolledAt, found}
+use Rattle.control.proofs.Turns.{found-stop}
+use Rattle.reduction.specs.declared.words.Act.{Act}
+use Rattle.reduction.specs.declared.words.Act.the-variants.{Go}
+use Rattle.reduction.specs.Words.{given, branched, looped, bound, actedBy, acted}
+use Rattle.engine.specs.Steps.{afterAct}
+use Rattle.replaying.specs.Replay.{limited}
+use Rattle.machine.specs.Environment.{Env}
+use Rattle.machine.specs.Control.{Frame, letWord, ifWord, whileWord, unrolledWord, againWord, Control, at, enter}
+use Rattle.machine.specs.State.{MachineThread, Machine, running}
+use Rattle.machine.specs.Step.{zeroValue, goesTo, partOf, unrolledPart}
+use Rattle.machine.specs.Replay.{Replay, within}
+use Rattle.simulation.proofs.Held.{codeValue, RowOf, Stands, Values, Frames, WordAt, ControlAt}
+use Rattle.simulation.proofs.Turning.{behind-is, SameBut, same-all}
+use Rattle.simulation.proofs.Finding.{frames-up, frames-same, KeptBelow, Ready, enters-word, returns-word, runs-part}
+use Rattle.simulation.proofs.Agreeing.{Agree, agree-all, agree-variable}
+use Rattle.simulation.proofs.Holds.{NamesHeld, Holds}
+use Rattle.simulation.proofs.Proceeding.{names-same}
+use Rattle.simulation.proofs.Moving.{Answered, moves, pausing, thread-low}
+
+-- ------------------------------------------------------------------ what the code does
+
+module _ (p s : List ℕ) (t c : ℕ) {q : Position} where
+  let-acts : {x : ℕ} (v : ℕ) → RowOf p q (Binary Let) x → acted p s t (readyAt (q .index) v) c ≡ (Go (entering (second p (q .index))), set s (0 + 256 * t + x) v)
+  unfolding acted actedBy bound shapeAt shapeOf ruleOf printed
+  let-acts v r = rw (r .code, r .number)
+
+  if-acts : {n : ℕ} → RowOf p q (Binary If) n → acted p s t (stoppedAt (q .index)) c ≡ (Go (branched p (q .index) c), s)
+  unfolding acted actedBy shapeAt shapeOf ruleOf printed
+  if-acts r = rw (r .code)
+
+  while-acts : {n : ℕ} (f : Focus) → f .at ≡ q .index → RowOf p q (Unary While) n → acted p s t f c ≡ (Go (looped p f c), s)
+  unfolding acted actedBy shapeAt shapeOf ruleOf printed
+  while-acts f e r = rw (e, r .code)
+
+-- ------------------------------------------------------------------ the machine's word
+
+module _ (p s : List ℕ) (T : Threads) (R : Replay) (t tid : ℕ) (σ : Env) (K : List Frame) (H : Holds p s T R) where
+  abbrev pub M : Machine
+  M = R .machine
+
+  -- thread t has gone on to d, with the same names
+  abbrev pub Went : Control → Replay
+  Went d = record { machine = goesTo M t tid (M .names) d; things = R .things }
+
+  abbrev pub Goes : (k : ℕ) → Control → Act × List ℕ → Type 0
+  Goes k d r = Answered p (limited within (some (Went d))) (afterAct p T t k r)
+
+  -- nothing of the space has changed
+  pub goes : (w : _) (k : ℕ) → getElem? (M .threads) t ≡ some (running tid (at σ w K)) → (g : Focus) (d : Control) →
+      ControlAt p (found 2048 p s t g .1) t (found 2048 p s t g .0) d × SameBut t s (found 2048 p s t g .1) → Goes k d (Go g, s)
+  goes w k there g d F =
+      moves p s T (M .threads) t tid k (pausing p s T R t tid (at σ w K) H there refl s (H .long) (λ i l n. agree-all i s)) (M .names) (M .next) (R .things) (H .names) g d F
+
+  -- the thread stands there at once
+  stays : (g : Focus) (d : Control) → 2 ≤ g .mode → ControlAt p s t g d → ControlAt p (found 2048 p s t g .1) t (found 2048 p s t g .0) d × SameBut t s (found 2048 p s t g .1)
+  stays g d h C = subst (λ (r : Focus × List ℕ). ControlAt p (r .1) t (r .0) d × SameBut t s (r .1)) (sym (found-stop p s t g 2048 h)) (C, same-all t s)
+
+  module _ (low : t < 16) (values : Values p s t σ) where
+    pub ready : (b b′ c : ℕ) → b ≤ b′ → Frames p s t b c K → Ready p t low σ s s b′ c K
+    ready b b′ c h F = record { same = same-all t s; long = H .long; values = values; frames = frames-up p t s b b′ c K h F }
+
+    -- ---------------------------------------------------------------- let
+
+    module _ (q : Position) (x : ℕ) (v : Value) (e : Expr) (r : RowOf p q (Binary Let) x) (S : Stands p (continuation p (q .index)) (second p (q .index)) e) (F : Frames p s t (q .index) (continuation p (q .index)) K) where
+      abbrev s₁ : List ℕ
+      s₁ = set s (0 + 256 * t + x) (codeValue v)
+
+      x-low : x < 256
+      x-low = r .small
+
+      long₁ : length s₁ ≡ 16384
+      long₁ = length-set s (0 + 256 * t + x) (codeValue v) ∙ H .long
+
+      bound-values : Values p s₁ t (update σ x v)
+      unfolding variable
+      bound-values y h = by-name (ℕ-discrete y x)
+        where
+          by-name : (d : Dec (y ≡ x)) → getD s₁ (0 + 256 * t + y) 0 ≡ codeValue (choose d v (σ y))
+          by-name (yes z) = ap (λ (j : ℕ). getD s₁ (0 + 256 * t + j) 0) z ∙ getD-set-same s (0 + 256 * t + x) (codeValue v) 0 (omega (arith, H .long, low, x-low))
+          by-name (no n) = getD-set-other s (0 + 256 * t + x) (0 + 256 * t + y) (codeValue v) 0 (λ z. n (omega (arith, z))) ∙ values y h
+
+      kept-same : KeptBelow p t (q .index) s s₁
+      unfolding kept
+      kept-same j l = getD-set-other s (0 + 256 * t + x) (4096 + 256 * t + j) (codeValue v) 0 (λ z. omega (arith, z, low, x-low))
+
+      pub let-goes : (c : ℕ) → getElem? (M .threads) t ≡ some (running tid (at σ (letWord q x v e) K)) → Goes (q .index) (enter (update σ x v) e K) (acted p s t (readyAt (q .index) (codeValue v)) c)
+      let-goes c there =
+          subst (Goes (q .index) (enter (update σ x v) e K)) (sym (let-acts p s t c (codeValue v) r))
+          (moves p s₁ T (M .threads) t tid (q .index)
+          (pausing p s T R t tid (at σ (letWord q x v e) K) H there refl s₁ long₁ (λ i l n. agree-variable i t x (codeValue v) s l low x-low n))
+          (M .names) (M .next) (R .things)
+          (names-same s s₁ (λ j h. getD-set-other s (0 + 256 * t + x) j (codeValue v) 0 (λ z. omega (arith, z, h, low, x-low))) (H .names))
+          (entering (second p (q .index))) (enter (update σ x v) e K)
+          (enters-word p t low (update σ x v) s₁ e (continuation p (q .index)) (second p (q .index)) K s₁ S
+          (record {
+            same = same-all t s₁;
+            long = long₁;
+            values = bound-values;
+            frames = frames-up p t s₁ (q .index) (second p (q .index)) (continuation p (q .index)) K (omega (arith, r .far))
+                (frames-same p t s s₁ (q .index) (continuation p (q .index)) K kept-same F);
+          })))
+
+    -- ---------------------------------------------------------------- if
+
+    module _ (q : Position) (e₁ e₂ : Expr) {n : ℕ} (r : RowOf p q (Binary If) n) (S₁ : Stands p (continuation p (q .index)) (q .index + 1) e₁) (S₂ : Stands p (continuation p (q .index)) (second p (q .index)) e₂)
+        (F : Frames p s t (q .index) (continuation p (q .index)) K) (there : getElem? (M .threads) t ≡ some (running tid (at σ (ifWord q e₁ e₂) K))) where
+      pub if-first : Goes (q .index) (enter σ e₁ K) (acted p s t (stoppedAt (q .index)) 0)
+      unfolding branched
+      if-first =
+          subst (Goes (q .index) (enter σ e₁ K)) (sym (if-acts p s t 0 r ∙ ap (λ (k : ℕ). (Go (entering k), s)) (behind-is (q .index) (r .below))))
+          (goes (ifWord q e₁ e₂) (q .index) there (entering (q .index + 1)) (enter σ e₁ K)
+          (enters-word p t low σ s e₁ (continuation p (q .index)) (q .index + 1) K s S₁ (ready (q .index) (q .index + 1) (continuation p (q .index)) (omega arith) F)))
+
+      pub if-second : Goes (q .index) (enter σ e₂ K) (acted p s t (stoppedAt (q .index)) 1)
+      unfolding branched
+      if-second =
+          subst (Goes (q .index) (enter σ e₂ K)) (sym (if-acts p s t 1 r))
+          (goes (ifWord q e₁ e₂) (q .index) there (entering (second p (q .index))) (enter σ e₂ K)
+          (enters-word p t low σ s e₂ (continuation p (q .index)) (second p (q .index)) K s S₂ (ready (q .index) (second p (q .index)) (continuation p (q .index)) (omega (arith, r .far)) F)))
+
+    -- ---------------------------------------------------------------- while
+
+    module _ (q : Position) (e : Expr) {n : ℕ} (r : RowOf p q (Unary While) n) (S : Stands p (q .index) (q .index + 1) e) (F : Frames p s t (q .index) (continuation p (q .index)) K) where
+      -- it becomes an `if`
+      pub while-goes : (c : ℕ) → getElem? (M .threads) t ≡ some (running tid (at σ (whileWord q e) K)) → Goes (q .index) (at σ (unrolledWord q e) K) (acted p s t (stoppedAt (q .index)) c)
+      unfolding looped
+      while-goes c there =
+          subst (Goes (q .index) (at σ (unrolledWord q e) K)) (sym (while-acts p s t c (stoppedAt (q .index)) refl r))
+          (goes (whileWord q e) (q .index) there (unrolledAt (q .index)) (at σ (unrolledWord q e) K)
+          (stays (unrolledAt (q .index)) (at σ (unrolledWord q e) K) (omega arith) (values, (refl, n, r, S), F)))
+
+      -- its part has given its value
+      pub again-goes : (c : ℕ) (v : Value) → getElem? (M .threads) t ≡ some (running tid (at σ (againWord q v e) K)) → Goes (q .index) (at σ (whileWord q e) K) (acted p s t (readyAt (q .index) (codeValue v)) c)
+      unfolding looped
+      again-goes c v there =
+          subst (Goes (q .index) (at σ (whileWord q e) K)) (sym (while-acts p s t c (readyAt (q .index) (codeValue v)) refl r))
+          (goes (againWord q v e) (q .index) there (stoppedAt (q .index)) (at σ (whileWord q e) K)
+          (stays (stoppedAt (q .index)) (at σ (whileWord q e) K) (omega arith) (values, (refl, n, r, S), F)))
+
+      module _ (there : getElem? (M .threads) t ≡ some (running tid (at σ (unrolledWord q e) K))) where
+        -- the part runs once more
+        pub unrolled-first : Goes (q .index) (unrolledPart first σ q e K) (acted p s t (unrolledAt (q .index)) 0)
+        unfolding looped
+        unrolled-first =
+            subst (Goes (q .index) (unrolledPart first σ q e K)) (sym (while-acts p s t 0 (unrolledAt (q .index)) refl r ∙ ap (λ (k : ℕ). (Go (entering k), s)) (behind-is (q .index) (r .below))))
+            (goes (unrolledWord q e) (q .index) there (entering (q .index + 1)) (unrolledPart first σ q e K)
+            (runs-part p t low σ s q e K s r S (ready (q .index) (q .index) (continuation p (q .index)) (omega arith) F)))
+
+        pub unrolled-second : Goes (q .index) (unrolledPart secondOfTwo σ q e K) (acted p s t (unrolledAt (q .index)) 1)
+        unfolding looped given
+        unrolled-second =
+            subst (Goes (q .index) (unrolledPart secondOfTwo σ q e K)) (sym (while-acts p s t 1 (unrolledAt (q .index)) refl r))
+            (goes (unrolledWord q e) (q .index) there (returning (continuation p (q .index)) 0) (unrolledPart secondOfTwo σ q e K)
+            (returns-word p t low σ s zeroValue (q .index) (continuation p (q .index)) K s (ready (q .index) (q .index) (continuation p (q .index)) (omega arith) F)))

@@ -1,0 +1,101 @@
+-- What the lent space and the records hold of the machine, with the counts of what it has made.
+use Prim.Native.Nat.{ℕ, suc, _+_, _*_, _<_, _≤_}
+use mathlib.Core.Path.{_≡_}
+use mathlib.Core.Logic.{_≢_}
+use mathlib.Core.Bool.{Bool, true, false}
+use mathlib.Core.List.{List}
+use mathlib.Core.Option.{some}
+use native.Mathlib.Omega.{arith}
+use lib.ListN.{length, getD, getElem?}
+use Rattle.calculus.specs.State as calculus
+use Rattle.calculus.specs.State.{opened, closed, readers, writer, unused, identifier, cell, aLock, semaphore, rwlock}
+use Rattle.threads.specs.declared.State.{State}
+use Rattle.threads.specs.declared.State.the-variants.{Running, Finished, Joined}
+use Rattle.threads.specs.declared.Record.{Record}
+use Rattle.threads.specs.declared.Threads.{Threads}
+use Rattle.threads.specs.Records.{noRecord}
+use Rattle.reduction.specs.declared.slots.Slot.{Slot}
+use Rattle.reduction.specs.Slots.{slotAt}
+use Rattle.engine.specs.Focuses.{focusAt}
+use Rattle.reduction.specs.Words.{countsAt, nextAt}
+use Rattle.replaying.specs.Run.{Kind, cells, locks, rwlocks, semaphores, identifiers}
+use Rattle.machine.specs.Control.{Control, done, at}
+use Rattle.machine.specs.State.{MachineThread, Machine}
+use Rattle.machine.specs.Step.{isDone}
+use Rattle.machine.specs.Kept.{UnusedFrom}
+use Rattle.machine.specs.Replay.{Replay}
+use Rattle.simulation.proofs.Held.{codeValue, ControlAt}
+
+-- ------------------------------------------------------------------ names
+
+-- what the three numbers of a name say
+abbrev pub SlotIs : Slot → calculus.Slot → Type 0
+SlotIs x unused = x .kind ≡ 0
+SlotIs x identifier = x .kind ≡ 1
+SlotIs x (cell v) = (x .kind ≡ 2) × (x .first ≡ codeValue v)
+SlotIs x (aLock opened) = (x .kind ≡ 3) × (x .first ≡ 0)
+SlotIs x (aLock closed) = (x .kind ≡ 3) × (x .first ≡ 1)
+SlotIs x (semaphore c) = (x .kind ≡ 4) × (c ≡ x .first + 4294967296 * x .second) × (x .first < 4294967296)
+SlotIs x (rwlock N (readers k)) = (x .kind ≡ 5) × (x .first ≡ N) × (x .second ≡ k)
+SlotIs x (rwlock N writer) = (x .kind ≡ 6) × (x .first ≡ N)
+
+-- the number of a kind of things
+abbrev pub kindCode : Kind → ℕ
+kindCode identifiers = 1
+kindCode cells = 2
+kindCode locks = 3
+kindCode semaphores = 4
+kindCode rwlocks = 5
+
+pub kind-low : (k : Kind) → kindCode k < 8
+kind-low identifiers = omega arith
+kind-low cells = omega arith
+kind-low locks = omega arith
+kind-low semaphores = omega arith
+kind-low rwlocks = omega arith
+
+-- how many things there are in all
+abbrev pub allThings : (Kind → ℕ) → ℕ
+allThings things = things identifiers + things cells + things locks + things semaphores + things rwlocks
+
+pub record NamesHeld (s : List ℕ) (names : ℕ → calculus.Slot) (next : ℕ) (things : Kind → ℕ) : Type 0 where
+  pub constant : slotAt s 0 .kind ≡ 0
+  pub slots : (n : ℕ) → suc n < 322 → SlotIs (slotAt s (suc n)) (names n)
+  pub unused-from : UnusedFrom names next
+  pub nextStored : getD s nextAt 0 ≡ suc next
+  pub counted : (k : Kind) → getD s (countsAt + kindCode k) 0 ≡ things k
+  pub few : (k : Kind) → things k ≤ 64
+  pub all : next ≡ suc (allThings things)
+
+-- ------------------------------------------------------------------ threads
+
+-- the record of a thread
+abbrev pub stateOf : (joined : Bool) → Control → State
+stateOf true d = Joined
+stateOf false (done v) = Finished
+stateOf false (at σ w K) = Running
+
+abbrev pub recordOf : MachineThread → Record
+recordOf th = record { state = stateOf (th .joined) (th .control); tid = suc (th .tid) }
+
+pub record ThreadHeld (p s : List ℕ) (T : Threads) (i : ℕ) (th : MachineThread) : Type 0 where
+  pub recorded : getD (T .records) i noRecord ≡ recordOf th
+  pub control : ControlAt p s i (focusAt s i) (th .control)
+  pub settled : th .joined ≡ true → isDone (th .control) ≡ true
+
+pub record Sized (T : Threads) (ts : List MachineThread) : Type 0 where
+  pub count : T .count ≡ length ts
+  pub fits : length ts ≤ 16
+  pub records : length (T .records) ≡ 16
+  pub behind : (i : ℕ) → length ts ≤ i → i < 16 → getD (T .records) i noRecord .state ≡ Running
+
+abbrev pub ThreadsHeld : (p s : List ℕ) → Threads → List MachineThread → Type 0
+ThreadsHeld p s T ts = (i : ℕ) (th : MachineThread) → getElem? ts i ≡ some th → ThreadHeld p s T i th
+
+-- ------------------------------------------------------------------ all
+
+pub record Holds (p s : List ℕ) (T : Threads) (R : Replay) : Type 0 where
+  pub long : length s ≡ 16384
+  pub names : NamesHeld s (R .machine .names) (R .machine .next) (R .things)
+  pub sized : Sized T (R .machine .threads)
+  pub threads : ThreadsHeld p s T (R .machine .threads)

@@ -1,0 +1,11 @@
+use Rattle.threads.specs.Threads.{joined}
+use borrow.Author.Needs.{needs}
+use Rattle.threads.proofs.Threads.joined.Statement.{statement}
+use Rattle.threads.proofs.Threads.joined.Tie as tie
+
+returns : tie.Need-returns
+unfolding joined
+returns c = search needs
+
+pub joined-spec : {M : Type 1} → statement M
+joined-spec = tie.close (tie.spec (λ c κs. search needs) returns)

@@ -1,0 +1,65 @@
+//! Compares the product's replay with the second replayer on known and drawn traces.
+//!
+//! `replays [traces [seed]]`. Exits with 1 without the product, on the first difference, which it saves as
+//! two files, and also when the drawn traces did not meet what they should (see `replaying`).
+
+use evidence::answer::REPLAY_SPACE;
+use evidence::comparison::Checker;
+use evidence::draw::traces;
+use evidence::replaying::{agreed, Met, Replayer};
+use evidence::{known, product, series};
+use std::process::ExitCode;
+use std::time::Instant;
+
+const TRACES: u64 = 100_000;
+
+fn main() -> ExitCode {
+    let (traces, seed) = series::asked(TRACES);
+    let (Some(checker), Some(replayer)) = (product::CHECK, product::REPLAY) else {
+        println!("{}", product::NOT_LINKED);
+        return ExitCode::FAILURE;
+    };
+    let start = Instant::now();
+    match known_traces(replayer).and_then(|()| drawn_traces(replayer, checker, traces, seed)) {
+        Ok(met) => {
+            let known = known::replays().count();
+            println!("{known} known traces and {traces} of seed {seed} through the product and the second replayer");
+            println!("{:.1} s", start.elapsed().as_secs_f64());
+            print!("{met}");
+            println!("all drawn traces agree");
+            ExitCode::SUCCESS
+        }
+        Err(failure) => {
+            println!("{failure}");
+            ExitCode::FAILURE
+        }
+    }
+}
+
+/// The known traces get the answers that are listed.
+fn known_traces(replayer: Replayer) -> Result<(), String> {
+    for known in known::replays() {
+        let (program, trace) = known.texts();
+        let found = replayer(&program, &trace, &mut vec![1; REPLAY_SPACE]).to_string();
+        if found != known.answer {
+            let program = String::from_utf8_lossy(&program).replace('\n', "|");
+            return Err(format!("known trace {:?} of {program}: {found}, not {}", known.trace, known.answer));
+        }
+    }
+    Ok(())
+}
+
+fn drawn_traces(replayer: Replayer, checker: Checker, traces: u64, seed: u64) -> Result<Met, String> {
+    let mut met = Met::default();
+    for number in 0..traces {
+        let drawn = traces::recorded(seed, number);
+        agreed(replayer, checker, &drawn, &mut met).map_err(|difference| {
+            let kept = series::kept(drawn.files(), number);
+            format!("trace {number} of seed {seed} ({}): {difference}; {kept}", drawn.origin)
+        })?;
+    }
+    match met.missed().as_slice() {
+        [] => Ok(met),
+        missed => Err(format!("{met}not met: {}", missed.join(", "))),
+    }
+}
