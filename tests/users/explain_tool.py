@@ -8,13 +8,11 @@ from pathlib import Path
 import browser
 from checks import HOUSE, check, make_pair, user_environment
 from explaining import telling, walk
-from explaining.conditions import find
 from explaining.drawing import page
 from explaining.drawing.holders import SILENT, Telling
 from explaining.findings import explain
 from explaining.refusals import OF_CHECKING, REFUSALS
 from explaining.running import Run, run_in
-from explaining.words import WORDS
 from pages import PAGES, examples, pairs_of
 
 TOOL = HOUSE / "tools" / "explain"
@@ -80,15 +78,14 @@ def faults(explanation, run_there):
     if not text.startswith(run_there.answer):
         lacks.append("the answer")
     if run_there.answer == "ACCEPT":
-        return lacks + ([] if walked(explanation) and first_false(explanation) is None else ["the walk"])
+        return lacks + ([] if walked(explanation) else ["the walk"])
     if run_there.answer == "UNREAD":
         return lacks + ([] if "Likely cause" in text else ["the file at fault"])
-    number, line, condition, location = run_there.numbers()
+    number, line, condition, _ = run_there.numbers()
     wanted = [REFUSALS[number].helps, *explanation.numbers[:1]]
     wanted += [f"line {line}"] if REFUSALS[number].sheet else []
     if condition:
         wanted += [f"Condition {condition} of ", explanation.condition.wording, explanation.condition.plain]
-        lacks += [] if first_false(explanation) == (line, condition, location) else ["the first false condition"]
     lacks += [words for words in wanted if words not in text]
     return lacks + ([] if explanation.numbers else ["the numbers"])
 
@@ -96,16 +93,6 @@ def faults(explanation, run_there):
 def walked(explanation):
     """Whether the walk of a pair comes to its last line."""
     return len(walk.text(explanation)) == len(explanation.sites.all) + 1 == len(explanation.sites.steps) + 1
-
-
-def first_false(explanation):
-    """The first condition that the arithmetic finds false: line, number and location."""
-    for site in explanation.sites.all:
-        for number in range(1, len(WORDS[site.word].conditions) + 1):
-            finding = find(site, number, explanation.sites.split, explanation.names)
-            if not finding.holds:
-                return site.line, number, finding.location
-    return None
 
 
 def check_pages(binary):

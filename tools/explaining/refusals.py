@@ -16,6 +16,7 @@ class Refusal(NamedTuple):
 
 ACCEPTED = "Both sheets are well formed, and the split shows the job safe."
 UNREAD = "A file could not be read. Nothing was judged."
+FILLED = "The after-maps are found; `tools/fill` writes the sheet. racecheck accepts every sheet that is filled."
 
 REFUSALS = {
     1: Refusal(

@@ -13,11 +13,6 @@ FEW = 3  # locations whose fractions fit on one line of the walk
 STYLE = Path(__file__).with_name("style.css").read_text(encoding="utf-8")
 
 
-def write(file, title, explanation):
-    with open(file, "w", encoding="utf-8", errors="replace") as out:
-        out.write(text(title, explanation))
-
-
 def text(title, explanation):
     """The page of one pair."""
     pieces = [

@@ -3,7 +3,6 @@ from html import escape
 from typing import NamedTuple
 
 from ..conditions import cell_location
-from ..showing import fraction
 from ..walk import in_words, sums
 from ..words import WORDS
 from .holders import Holder, Telling
@@ -122,7 +121,7 @@ class Picture:
             f'<rect class="free" x="{x}" y="{HEAD}" width="{whole:.1f}" height="{bottom - HEAD}"/>',
         ]
         for span in self._spans(location, start, moments):
-            pieces += self._share(x, span)
+            pieces += self._share(location, span)
         pieces.append(f'<line class="whole" x1="{x + whole:.1f}" x2="{x + whole:.1f}" y1="{HEAD - 5}" y2="{bottom + 5}"/>')
         return pieces
 
@@ -138,14 +137,14 @@ class Picture:
         done += [(place, first, len(moments) - 1) for place, first in open_spans.items()]
         return [Span(*place, first, last) for place, first, last in sorted(done, key=lambda span: (span[1], span[0].left))]
 
-    def _share(self, x, span):
+    def _share(self, location, span):
         top, height = HEAD + span.first * ROW, (span.last - span.first + 1) * ROW
-        left, width = x + self._scaled(span.left), self._scaled(span.number)
+        left, width = self._x(location) + self._scaled(span.left), self._scaled(span.number)
         pieces = [
             f'<rect class="share {span.holder.kind}" x="{left:.1f}" y="{top}" width="{width:.1f}" height="{height}"'
             f' fill="{fill_of(span.holder)}"/>'
         ]
-        amount, name = fraction(span.number, self.split.denominator), self.holder_name(span.holder)
+        amount, name = self.split.fraction(span.number, location), self.holder_name(span.holder)
         label = next((label for label in (f"{name} {amount}", name, amount) if len(label) * BOLD <= width - 10), None)
         if label:
             pieces.append(text(f"share-label on-{span.holder.kind}", left + 6, top + 16, label, width - 8, letter=BOLD))
