@@ -107,14 +107,18 @@ def check_pages(binary):
                 check(f"docs/{name} line {line}, explained", (run_there.answer, faults(explanation, run_there)), (answer, []))
 
 
+def draw(scratch, count, *options):
+    """Drawn pairs as folders, each with its number."""
+    command = ["cargo", "run", "--release", "--offline", "--quiet", "--bin", "pairs", "--", *options, scratch, str(count)]
+    check("pairs are drawn", subprocess.run(command, cwd=HOUSE / "tests").returncode, 0)
+    return [(number, Path(scratch) / str(number)) for number in range(count)]
+
+
 def check_drawn(binary):
     """Drawn pairs: each refused condition is the first that the arithmetic finds false, each accepted pair has none."""
     met, wide, found = Counter(), None, browser.find_browser()
     with tempfile.TemporaryDirectory() as scratch:
-        command = ["cargo", "run", "--release", "--offline", "--quiet", "--bin", "pairs", "--", scratch, str(DRAWN)]
-        check("pairs are drawn", subprocess.run(command, cwd=HOUSE / "tests").returncode, 0)
-        for number in range(DRAWN):
-            folder = Path(scratch) / str(number)
+        for number, folder in draw(scratch, DRAWN):
             run_there = run_in(binary, folder)
             explanation = explain(run_there, folder)
             met[explanation.number] += 1
