@@ -184,8 +184,36 @@ def check_errors(binary):
         check("explain in an empty folder", (done.returncode, missing), (2, [True, True]))
 
 
+def check_alone():
+    """Every number and every answer is told without a pair, in the words of REFUSALS.md."""
+    page_text = (HOUSE / "docs" / "REFUSALS.md").read_text()
+    for number, refusal in REFUSALS.items():
+        for given in (str(number), f"REFUSE,{number},70,5,0"):
+            done = run("nowhere", given)
+            section = page_text[page_text.index(f"\n### {number}: "):].split("\n")[2]
+            wanted = [given, refusal.helps, refusal.owner, section.split(". ")[0]]
+            check(f"explain {given}", (done.returncode, [words for words in wanted if words not in done.stdout]), (0, []))
+    done = run("nowhere", "REFUSE,33,70,5,0")
+    wanted = ["program.txt line 70", "if line 70 has `write`: after has at least D", "location 0"]
+    check("explain REFUSE,33,70,5,0, its numbers", [words for words in wanted if words not in done.stdout], [])
+    for given, words in [("ACCEPT", "the split shows the job safe"), ("UNREAD", "Nothing was judged"), ("99", "not known here")]:
+        done = run("nowhere", given)
+        check(f"explain {given}", (done.returncode, words in done.stdout), (0, True))
+    done = run("nowhere", "--walk", "33")
+    check("explain --walk 33", (done.returncode, "has no walk" in done.stderr), (2, True))
+
+
+def check_hints(binary):
+    """A looser lock that is given back takes more than it gave."""
+    with tempfile.TemporaryDirectory() as scratch:
+        make_pair(Path(scratch) / "pair", "P,6|let,0|newlock,0|let,1|lock,0|var,0|unlock,0|var,0|".replace("P,6", "P,7"), (
+            "C3,2,1,3,3,0|int,0,0|lock,1,1|lock,2,0|2|1|0|0,2,|1,1,|0,2,|0,1,|2,1,|0,2,|2,1,|"))
+        done = run(binary, Path(scratch) / "pair")
+        check("a looser lock given back", "or the lock is shown as a looser one, which takes more than it gave" in done.stdout, True)
+
+
 def check_names(binary):
-    """Names are used where they are given; lines of another form are passed over."""
+    """Names are used where they are given; lines of another form are told and passed over."""
     with tempfile.TemporaryDirectory() as scratch:
         folder = Path(scratch) / "pair"
         shutil.copytree(HOUSE / "examples" / "join-race", folder)
@@ -196,6 +224,9 @@ def check_names(binary):
             "at location 0 (Füllstand), that of the cell: 1/2 ≥ 2/2 is false", "start pump with 1/2 of Füllstand",
             "write <level>, of Füllstand", "wait for a thread of v1"]
         check("explain with names", [words for words in wanted if words not in done.stdout], [])
+        passed_over = [line for line in done.stderr.splitlines() if "is not understood and is passed over" in line]
+        check("explain with names: what is not understood", [line.split(": ")[-1] for line in passed_over], [
+            "thread,x,y", "nothing", "variable,1,", "\\x07", "\\xff"])
         text = (folder / "page.html").read_text()
         browser.check_markup("explain with names: its page", text)
         check("explain with names: its page has them", [">pump<" in text, "&lt;level&gt;" in text, ">thread 0<" in text], [True] * 3)
@@ -207,6 +238,8 @@ def check_explain_tool(binary):
     check_pages(binary)
     check_lies()
     check_errors(binary)
+    check_alone()
+    check_hints(binary)
     check_names(binary)
     check_drawn(binary)
     check("the tools leave nothing beside themselves", list((HOUSE / "tools").rglob("__pycache__")), [])

@@ -76,8 +76,8 @@ def check_nothing_left_out():
 
 
 def rows_of(page, head):
-    """The rows of the table with this head, as cells."""
-    table = page[page.index(head):].split("\n\n")[0].splitlines()[2:]
+    """The rows of the table with this head, as cells, without the marks that links lead to."""
+    table = re.sub(r'<a id="[\w-]+"></a>', "", page[page.index(head):].split("\n\n")[0]).splitlines()[2:]
     return [[cell.strip() for cell in row.strip("|").split("|")] for row in table]
 
 

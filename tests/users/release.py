@@ -38,6 +38,7 @@ KINDS = [
 CAUSES = [
     ("P,1|int,0\r|", Z, "REFUSE,11,2,0,0", "byte 13 before the line's end, on 1 of 2 lines: save it with byte 10 alone"),
     ("\ufeffP,1|int,0|", Z, "REFUSE,11,1,0,0", "program.txt begins with a byte order mark (UTF-8): save it without one"),
+    ("UTF-16", Z, "REFUSE,11,1,0,0", "program.txt is written in UTF-16: save it as plain text, one byte a letter"),
     ("P,1|int,0", Z, "REFUSE,11,2,0,0",
      "the last byte 10 is missing: the file may have been cut off, or its last line was not closed"),
     ("empty", Z, "REFUSE,11,1,0,0", "program.txt is empty"),

@@ -43,6 +43,7 @@ def _page(title):
     if not PAGE.is_file():
         return []
     section = re.search(rf"^### {title}[^\n]*\n(.*?)(?=^##|\Z)", PAGE.read_text(encoding="utf-8"), re.M | re.S)
-    prose = re.sub(r"^```.*?^```$", "", section[1], flags=re.M | re.S).split("\n\n") if section else []
-    paragraphs = [one.strip() for one in prose if one.strip() and not one.strip().endswith(":")]
-    return ["", "docs/REFUSALS.md says:", *(f"  {line}" for one in paragraphs for line in one.split("\n"))]
+    # An example goes with the sentence that leads to it.
+    prose = re.sub(r"(?:[^.\n]*:)?\n\n```.*?^```$", "", "\n\n" + section[1], flags=re.M | re.S) if section else ""
+    lines = [line.strip() for line in prose.split("\n") if line.strip()]
+    return ["", "docs/REFUSALS.md says:", *(f"  {line}" for line in lines)]

@@ -133,7 +133,9 @@ USUALLY = {
     ("newlock", 2): _GUARDED,
     ("newrwlock", 2): "the reading places together would hold more than a writer: r is too great, or there are too many places",
     ("newrwlock", 3): _GUARDED,
-    ("unlock", 3): "the thread does not hold what the lock takes, say it unlocks twice",
+    ("unlock", 3):
+        "the thread does not hold what the lock takes, say it unlocks twice, or the lock is shown as a looser one, which takes more"
+        " than it gave",
     ("post", 3): "the thread does not hold what a post puts in, say it posts once more than it has something to hand on",
     ("rdunlock", 3): "the thread does not hold a reader's share, say it gives its place back twice",
     ("wrunlock", 3): "the thread does not hold a writer's share, say it took a reading place or gives back twice",
