@@ -39,11 +39,12 @@ def _numbers(number, refusal, line, condition, location):
 
 
 def _page(title):
-    """What the page says below the heading of that title, its examples left out."""
+    """What the page says below the heading of that title, up to its first example and without the words that lead to it."""
     if not PAGE.is_file():
         return []
     section = re.search(rf"^### {title}[^\n]*\n(.*?)(?=^##|\Z)", PAGE.read_text(encoding="utf-8"), re.M | re.S)
-    # An example goes with the sentence that leads to it.
-    prose = re.sub(r"(?:[^.\n]*:)?\n\n```.*?^```$", "", "\n\n" + section[1], flags=re.M | re.S) if section else ""
+    prose, example, _ = section[1].partition("\n```") if section else ("", "", "")
+    if example:
+        prose = re.sub(r"(\nHere [^\n]*|[^.\n]*:)\n$", "", prose)
     lines = [line.strip() for line in prose.split("\n") if line.strip()]
     return ["", "docs/REFUSALS.md says:", *(f"  {line}" for line in lines)]
