@@ -24,7 +24,7 @@ def check_readme(binary, racedrill, racefill):
         make_house(house, binary, racedrill, racefill)
         for command, lines in commands:
             done = subprocess.run(
-                ["bash", "-c", command], cwd=house, env=user_environment(HOME=scratch), stdin=subprocess.DEVNULL, capture_output=True,
+                ["bash", "-c", command], cwd=house, env=user_environment(HOME=scratch, RACECHECK="", RACEFILL=""), stdin=subprocess.DEVNULL, capture_output=True,
                 text=True)
             check(f"README.md, {command}: status", done.returncode in (0, 1), True)
             if lines:

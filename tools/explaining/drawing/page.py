@@ -4,11 +4,13 @@ from pathlib import Path
 
 from ..refusals import REFUSALS
 from ..telling import alarm, condition_line, maps_of
-from ..walk import strides
+from ..walk import past_the_lack, strides
 from .holders import Holder
-from .picture import Picture, colour_of, fill_of, patterns
+from .fills import colour_of, fill_of, patterns
+from .picture import Picture
 
 FEW = 3  # locations whose fractions fit on one line of the walk
+ORDER = "This is one order of many. It is told so that each thread goes as far as it can before another is told on."
 
 STYLE = Path(__file__).with_name("style.css").read_text(encoding="utf-8")
 
@@ -75,16 +77,31 @@ def marked(words):
 
 def _picture(explanation):
     picture = Picture(explanation)
+    folded = ", ".join(picture.folded_in_words())
     return [
-        f'<svg class="patterns" aria-hidden="true">{patterns()}</svg>', "<h2>Who holds how much</h2>", *_legend(picture),
-        *(f"<figure>{part}</figure>" for part in picture.parts()),
+        f'<svg class="patterns" aria-hidden="true">{patterns(picture.holders + _threads(picture))}</svg>',
+        "<h2>Who holds how much</h2>", f'<p class="order">{ORDER}</p>', *_legend(picture),
+        *([f'<p class="order">Not drawn, since nothing moves or touches it: {escape(folded)}.</p>'] if folded else []),
+        *(piece for block in picture.blocks for piece in _columns(picture, block)),
+        *(f'<p class="order">{escape(line)}</p>' for line in [past_the_lack(explanation)] if line),
     ]
+
+
+def _columns(picture, block):
+    return [
+        '<figure><table class="picture">', f"<thead><tr><th>{picture.head(block)}</th></tr></thead>", "<tbody>",
+        *(f"<tr><td>{part}</td></tr>" for part in picture.parts(block)), "</tbody></table></figure>"]
+
+
+def _threads(picture):
+    """The threads that are named, whether or not they ever hold anything."""
+    named = {moment.site.thread for moment in picture.moments} | {holder.thread() for holder in picture.holders} - {None}
+    return [Holder("thread", thread) for thread in sorted(named)]
 
 
 def _legend(picture):
     kinds = {holder.kind for holder in picture.holders}
-    threads = sorted({moment.site.thread for moment in picture.moments} | {holder.thread() for holder in picture.holders} - {None})
-    rows = [(_swatch(Holder("thread", thread)), escape(picture.holder_name(Holder("thread", thread)))) for thread in threads]
+    rows = [(_swatch(thread), escape(picture.holder_name(thread))) for thread in _threads(picture)]
     if "lock" in kinds:
         rows.append((_swatch(Holder("lock", 0)), "kept in a lock that is open"))
     if "sem" in kinds:
