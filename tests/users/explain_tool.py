@@ -206,10 +206,11 @@ def check_alone():
 def check_hints(binary):
     """A looser lock that is given back takes more than it gave."""
     with tempfile.TemporaryDirectory() as scratch:
-        make_pair(Path(scratch) / "pair", "P,6|let,0|newlock,0|let,1|lock,0|var,0|unlock,0|var,0|".replace("P,6", "P,7"), (
+        make_pair(Path(scratch) / "pair", "P,7|let,0|newlock,0|let,1|lock,0|var,0|unlock,0|var,0|", (
             "C3,2,1,3,3,0|int,0,0|lock,1,1|lock,2,0|2|1|0|0,2,|1,1,|0,2,|0,1,|2,1,|0,2,|2,1,|"))
         done = run(binary, Path(scratch) / "pair")
-        check("a looser lock given back", "or the lock is shown as a looser one, which takes more than it gave" in done.stdout, True)
+        hint = "or the lock is shown as a looser one, which takes more than it gave"
+        check("a looser lock given back", hint in done.stdout, True)
 
 
 def check_names(binary):

@@ -117,7 +117,7 @@ def check_lies():
     folder = HOUSE / "examples" / f"top-up{TO_FILL}"
     filled = (HOUSE / "examples" / "top-up" / "split.txt").read_bytes()
     lies = [Run(f"REFUSE,{number},0,0,0", None, FILLING) for number in (41, 42, 43)]
-    lies += [Run("FILLED", None, FILLING, written=filled[:-1]), Run("FILLED", None, FILLING, written=filled.replace(b"44,", b"45,", 1))]
+    lies += [Run("FILLED", None, FILLING, written=sheet) for sheet in (filled[:-1], filled.replace(b"44,", b"45,", 1))]
     for lie in lies:
         check(f"a lying racefill, {lie.answer}", "not the one found" in explain(lie, folder).disagrees
               or "nothing wrong" in explain(lie, folder).disagrees, True)

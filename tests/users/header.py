@@ -28,7 +28,8 @@ def offered():
 def declared():
     """The calls of the header."""
     text = re.sub(r"/\*.*?\*/", "", HEADER.read_text(), flags=re.S)
-    return {name: re.sub(r"\s+", " ", parameters).strip() for name, parameters in re.findall(r"uint32_t (\w+)\((.*?)\);", text, re.S)}
+    calls = re.findall(r"uint32_t (\w+)\((.*?)\);", text, re.S)
+    return {name: re.sub(r"\s+", " ", parameters).strip() for name, parameters in calls}
 
 
 def library():
@@ -36,7 +37,8 @@ def library():
 
 
 def compile_with(compiler, *arguments):
-    return subprocess.run([compiler, "-Wall", "-Wextra", "-Wpedantic", "-Werror", *map(str, arguments)], capture_output=True, text=True)
+    command = [compiler, "-Wall", "-Wextra", "-Wpedantic", "-Werror", *map(str, arguments)]
+    return subprocess.run(command, capture_output=True, text=True)
 
 
 def check_linked(compiler, include, archive):

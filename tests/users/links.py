@@ -15,7 +15,8 @@ def marks_of(page):
     """What a link can lead to in a page: its headings, as the usual renderers name them, and its own marks."""
     text = re.sub(r"^```.*?^```$", "", page.read_text(), flags=re.M | re.S)
     headings = re.findall(r"^#+ (.*)$", text, re.M)
-    return {re.sub(r"[^\w\- ]", "", one.lower()).replace(" ", "-") for one in headings} | set(re.findall(r'<a id="([\w-]+)">', text))
+    named = {re.sub(r"[^\w\- ]", "", one.lower()).replace(" ", "-") for one in headings}
+    return named | set(re.findall(r'<a id="([\w-]+)">', text))
 
 
 def check_links():

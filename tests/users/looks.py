@@ -1,4 +1,4 @@
-"""What the page of tools/explain shows: false sums whole, narrow shares named, threads apart, locations folded, fractions reduced."""
+"""What the page of tools/explain shows: false sums whole, narrow shares named, threads apart, what nothing moves folded."""
 import re
 import subprocess
 import tempfile
@@ -77,7 +77,8 @@ def check_folded(binary):
         make_pair(folder, read, "C,6,3,2,1|int,0,0|ref,1,0|6,3,2|0,0,|1,0,|0,0,|0,0,|1,0,|")
         explanation, text = drawn(binary, folder)
         check("folded: the columns", words_of(text, "location"), ["location 1"])
-        check("folded: what is not drawn", "nothing moves or touches it: location 0 (thread 0 1/1), location 2 (thread 0 1/3)." in text, True)
+        folded = "nothing moves or touches it: location 0 (thread 0 1/1), location 2 (thread 0 1/3)."
+        check("folded: what is not drawn", folded in text, True)
         check("reduced: the share", "thread 0 1/2" in words_of(text, "share-label on-dark"), True)
         check("reduced: the walk", '<td class="map">1/1, 1/2, 1/3</td>' in text, True)
         plain = explain(run_in(binary, folder), folder)

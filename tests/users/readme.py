@@ -23,9 +23,9 @@ def check_readme(binary, racedrill, racefill):
         house = Path(scratch) / "house"
         make_house(house, binary, racedrill, racefill)
         for command, lines in commands:
+            environment = user_environment(HOME=scratch, RACECHECK="", RACEFILL="")
             done = subprocess.run(
-                ["bash", "-c", command], cwd=house, env=user_environment(HOME=scratch, RACECHECK="", RACEFILL=""), stdin=subprocess.DEVNULL, capture_output=True,
-                text=True)
+                ["bash", "-c", command], cwd=house, env=environment, stdin=subprocess.DEVNULL, capture_output=True, text=True)
             check(f"README.md, {command}: status", done.returncode in (0, 1), True)
             if lines:
                 check(f"README.md, {command}", done.stdout.splitlines(), lines)

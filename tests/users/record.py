@@ -37,7 +37,8 @@ def check_record(desk, binary):
     check("the entry of a refused pair", body_of(report_text(desk)).count("who looks first: owner of the program"), 2)
     if shutil.which("sha256sum"):
         sums = "\n".join(digests_of(report_text(desk))) + "\n"
-        done = subprocess.run(["sha256sum", "--check", "--quiet"], input=sums.encode(), cwd=desk.scratch / "four", capture_output=True)
+        command = ["sha256sum", "--check", "--quiet"]
+        done = subprocess.run(command, input=sums.encode(), cwd=desk.scratch / "four", capture_output=True)
         check("sha256sum on the report's digests", (done.returncode, done.stdout), (0, b""))
 
 
@@ -52,7 +53,8 @@ def check_second_look(desk, binary):
     check("a racecheck that accepts all: status", done.returncode, 2)
     check("a racecheck that accepts all: report", report_text(desk).count("*** DISAGREEMENT"), 2)
     check("a racecheck that accepts all: what is found", "there is REFUSE,33,13,5,0" in report_text(desk), True)
-    check("a racecheck that accepts all: record", "3 accepted pairs, DISAGREEMENT on 2" in record_of(report_text(desk))["second look"], True)
+    look = record_of(report_text(desk))["second look"]
+    check("a racecheck that accepts all: record", look.startswith("3 accepted pairs, DISAGREEMENT on 2, "), True)
     done = desk.run("--no-recheck", "false", "report", RACECHECK=yes)
     check("without the second look", (done.returncode, record_of(report_text(desk))["second look"]), (0, "none"))
 
@@ -102,7 +104,8 @@ def check_own_fault(desk, binary):
     text = report_text(desk)
     check("a fault of check-release", (done.returncode, text.count("TypeError: broken"), "DISAGREEMENT" in text), (2, 4, False))
     done = desk.run(HOUSE / "examples" / "join-race", tool=tools / "explain", RACECHECK=binary)
-    check("a fault of explain", (done.returncode, "TypeError: broken" in done.stderr, "DISAGREEMENT" in done.stderr), (2, True, False))
+    said = ["TypeError: broken" in done.stderr, "DISAGREEMENT" in done.stderr]
+    check("a fault of explain", (done.returncode, said), (2, [True, False]))
 
 
 def check_manifest(desk, binary):

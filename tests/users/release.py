@@ -86,11 +86,11 @@ def check_causes(desk, binary):
     """What the bytes of a sheet show is in the report, below the pair."""
     release = desk.scratch / "causes"
     for number, (program, split, _, _) in enumerate(CAUSES):
-        make_pair(release / str(number), program, split)
+        make_pair(release / f"{number:02}", program, split)
     desk.run("causes", "report", RACECHECK=binary)
     entries = body_of((desk.scratch / "report").read_text()).split("\n\n")[1].split("\n    likely cause: ")
     for number, (_, _, answer, cause) in enumerate(CAUSES):
-        check(f"cause {number}: answer", f"\n{number}\t{answer}\n" in entries[number], True)
+        check(f"cause {number}: answer", f"\n{number:02}\t{answer}\n" in entries[number], True)
         check(f"cause {number}", entries[number + 1].split("\n")[0], cause)
 
 

@@ -37,7 +37,8 @@ def check_old_python():
     for tool in TOOLS:
         path = HOUSE / "tools" / tool
         done = subprocess.run(
-            [sys.executable, "-B", "-c", OLD, path], env=user_environment(PYTHONPATH=HOUSE / "tools"), capture_output=True, text=True)
+            [sys.executable, "-B", "-c", OLD, path], env=user_environment(PYTHONPATH=HOUSE / "tools"), capture_output=True,
+            text=True)
         told = (done.returncode, done.stderr)
         check(f"{tool} under an old Python", told, (2, "Python 3.9 or later is needed; this is 3.8\n"))
     for path in [*(HOUSE / "tools" / tool for tool in TOOLS), HOUSE / "tools" / "starting" / "__init__.py"]:

@@ -50,7 +50,7 @@ def find_program(name):
 
 
 def run_in(binary, folder, program=CHECKING):
-    """The answer of racecheck or racefill in a folder, with the sheets it was given. What is no answer is FAILED, with the reason."""
+    """The answer of racecheck or racefill in a folder, with the sheets it had. What is no answer is FAILED, with the reason."""
     if not os.path.isdir(folder):
         return Run("FAILED", "a link that leads nowhere" if os.path.islink(folder) else "no such folder", program)
     if not os.access(folder, os.X_OK):

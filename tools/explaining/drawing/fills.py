@@ -62,6 +62,6 @@ def _stripes(colour):
 
 def _dots(count):
     """So many white dots with a dark edge, in rows of four."""
+    places = [(2.6 + 4.2 * (dot % 4), 3 + 5.5 * (dot // 4)) for dot in range(count)]
     return "".join(
-        f'<circle cx="{2.6 + 4.2 * (dot % 4):.1f}" cy="{3 + 5.5 * (dot // 4):.1f}" r="1.7" fill="#fff" stroke="#1d2330" stroke-width="0.5"/>'
-        for dot in range(count))
+        f'<circle cx="{x:.1f}" cy="{y:.1f}" r="1.7" fill="#fff" stroke="#1d2330" stroke-width="0.5"/>' for x, y in places)

@@ -176,7 +176,8 @@ class Picture:
         ]
         label = self._label(location, span)
         if label:
-            pieces.append(text(f"share-label {ink_on(span.holder)}", left + 6, tops[span.first] + 16, label, width - 8, letter=BOLD))
+            kind = f"share-label {ink_on(span.holder)}"
+            pieces.append(text(kind, left + 6, tops[span.first] + 16, label, width - 8, letter=BOLD))
         return pieces
 
     def _label(self, location, share):
@@ -194,7 +195,8 @@ class Picture:
             y = tops[first] + 12
             for span in here:
                 middle = self.x[location] + self._scaled(span.left + span.number / 2)
-                pieces.append(f'<path class="leader" d="M{middle:.1f} {y}H{end + 8:.1f}"/><circle class="leader" cx="{middle:.1f}" cy="{y}" r="1.8"/>')
+                pieces.append(f'<path class="leader" d="M{middle:.1f} {y}H{end + 8:.1f}"/>')
+                pieces.append(f'<circle class="leader" cx="{middle:.1f}" cy="{y}" r="1.8"/>')
             named = [(self.holder_name(span.holder), self.split.fraction(span.number, location)) for span in here]
             whole, short = ", ".join(map(" ".join, named)), ", ".join(name for name, _ in named)
             words = whole if len(whole) * LETTER <= self.beside else short
