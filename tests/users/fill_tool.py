@@ -81,6 +81,17 @@ def check_pages(racefill):
           [True] * len(told[42]))
 
 
+def check_filled(racefill, racecheck):
+    """A sheet that can be filled: the walk and the page show it filled."""
+    with tempfile.TemporaryDirectory() as scratch:
+        file = Path(scratch) / "page.html"
+        done = run("explain", racefill, racecheck, "--walk", "--page", file, HOUSE / "examples" / f"top-up{TO_FILL}")
+        check("a sheet that can be filled", (done.returncode, ": FILLED\n" in done.stdout, done.stderr), (0, True, ""))
+        rows = [line for line in (HOUSE / "examples" / "top-up" / "split.txt").read_text().splitlines()[50:]]
+        check("a sheet that can be filled: the walk has its rows", [row for row in rows if f" {row} " not in done.stdout], [])
+        check("a sheet that can be filled: its page", ">FILLED</div>" in file.read_text(), True)
+
+
 def check_races(racefill, racecheck):
     """The examples that race fail at the line that is at fault, with the sheet's own numbers and names."""
     for name, line in RACES.items():
@@ -119,8 +130,8 @@ def check_lies():
     lies = [Run(f"REFUSE,{number},0,0,0", None, FILLING) for number in (41, 42, 43)]
     lies += [Run("FILLED", None, FILLING, written=sheet) for sheet in (filled[:-1], filled.replace(b"44,", b"45,", 1))]
     for lie in lies:
-        check(f"a lying racefill, {lie.answer}", "not the one found" in explain(lie, folder).disagrees
-              or "nothing wrong" in explain(lie, folder).disagrees, True)
+        wanted = "not the one found here" if lie.written else "the answer is FILLED"
+        check(f"a lying racefill, {lie.answer}", wanted in explain(lie, folder).disagrees, True)
 
 
 # ---- tools/fill
@@ -184,6 +195,7 @@ def check_unfilled(racefill, racecheck):
 
 def check_fill_tool(racefill, racecheck):
     check_pages(racefill)
+    check_filled(racefill, racecheck)
     check_races(racefill, racecheck)
     check_lies()
     check_in_place(racefill, racecheck)

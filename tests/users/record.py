@@ -52,7 +52,7 @@ def check_second_look(desk, binary):
     done = desk.run("false", "report", RACECHECK=yes)
     check("a racecheck that accepts all: status", done.returncode, 2)
     check("a racecheck that accepts all: report", report_text(desk).count("*** DISAGREEMENT"), 2)
-    check("a racecheck that accepts all: what is found", "there is REFUSE,33,13,5,0" in report_text(desk), True)
+    check("a racecheck that accepts all: what is found", "the answer is REFUSE,33,13,5,0" in report_text(desk), True)
     look = record_of(report_text(desk))["second look"]
     check("a racecheck that accepts all: record", look.startswith("3 accepted pairs, DISAGREEMENT on 2, "), True)
     done = desk.run("--no-recheck", "false", "report", RACECHECK=yes)

@@ -74,12 +74,12 @@ def _meaning(run):
 def _compare(explanation, run, program, split, reduced):
     """Works the answer out again, and fills the explanation if it is the same."""
     judgement = judge(program, split, run.program == FILLING)
-    answer = run.numbers() if explanation.number else (0, 0, 0, 0)
-    found = "REFUSE," + ",".join(map(str, judgement.numbers())) if judgement.number else "nothing wrong"
+    if explanation.number in REFUSALS and REFUSALS[explanation.number].sheet:
+        explanation.place += _place({PROGRAM: program, SPLIT: split}[REFUSALS[explanation.number].sheet], run.numbers()[1])
+    nothing_wrong = "FILLED" if run.program == FILLING else "ACCEPT"
+    found = "REFUSE," + ",".join(map(str, judgement.numbers())) if judgement.number else nothing_wrong
     why = f" ({judgement.why})" if judgement.why else ""
-    if answer[0] in REFUSALS and REFUSALS[answer[0]].sheet:
-        explanation.place += _place({PROGRAM: program, SPLIT: split}[REFUSALS[answer[0]].sheet], answer[1])
-    require(judgement.numbers() == answer, f"by the numbers here there is {found}{why}")
+    require(run.answer == found, f"by the numbers here the answer is {found}{why}")
     if run.answer == "FILLED":
         require(run.written == filled_text(split, judgement.sites), "the sheet that was written is not the one found here")
         split = sheet_of(SPLIT, run.written)

@@ -10,6 +10,9 @@ from .fills import colour_of, fill_of, patterns
 from .picture import Picture
 
 FEW = 3  # locations whose fractions fit on one line of the walk
+BADGES = {
+    "ACCEPT": ("accepted", "ACCEPTED"), "FILLED": ("accepted", "FILLED"), "UNREAD": ("none", "NOT READ"),
+    "FAILED": ("none", "NO ANSWER")}
 ORDER = "This is one order of many. It is told so that each thread goes as far as it can before another is told on."
 
 STYLE = Path(__file__).with_name("style.css").read_text(encoding="utf-8")
@@ -26,8 +29,8 @@ def text(title, explanation):
     if explanation.sites:
         pieces += [*_picture(explanation), *_walk(explanation)]
     pieces += [
-        "<footer>The answer is racecheck's. The numbers beside it are worked out again from the two sheets by tools/explain, which"
-        " judges nothing.</footer>", "</body>", "</html>", ""]
+        f"<footer>The answer is {explanation.program}'s. The numbers beside it are worked out again from the two sheets by"
+        " tools/explain, which judges nothing.</footer>", "</body>", "</html>", ""]
     return "\n".join(pieces)
 
 
@@ -35,8 +38,7 @@ def text(title, explanation):
 
 
 def _header(title, explanation):
-    kind, badge = {"ACCEPT": ("accepted", "ACCEPTED"), "UNREAD": ("none", "NOT READ"), "FAILED": ("none", "NO ANSWER")}.get(
-        explanation.answer, ("refused", "REFUSED"))
+    kind, badge = BADGES.get(explanation.answer, ("refused", "REFUSED"))
     return [
         "<header>", f"<div><h1>{escape(title)}</h1>", f'<p class="meaning">{escape(explanation.meaning)}</p></div>',
         f'<div><div class="badge {kind}">{badge}</div><div class="answer">{escape(explanation.answer)}</div></div>', "</header>",
@@ -45,9 +47,9 @@ def _header(title, explanation):
 
 
 def _told(explanation):
-    if explanation.answer == "ACCEPT":
+    if explanation.answer in ("ACCEPT", "FILLED") and not explanation.unseen:
         return []
-    left = [f'<div class="place">{escape(line)}</div>' for line in explanation.place]
+    left = [f'<div class="place">{escape(line)}</div>' for line in explanation.unseen + explanation.place]
     if explanation.site:
         left.append(f"<p>This step is taken by <b>{escape(explanation.names.thread(explanation.site.thread))}</b>.</p>")
     if explanation.condition:
