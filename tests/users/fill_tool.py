@@ -87,7 +87,7 @@ def check_filled(racefill, racecheck):
         file = Path(scratch) / "page.html"
         done = run("explain", racefill, racecheck, "--walk", "--page", file, HOUSE / "examples" / f"top-up{TO_FILL}")
         check("a sheet that can be filled", (done.returncode, ": FILLED\n" in done.stdout, done.stderr), (0, True, ""))
-        rows = [line for line in (HOUSE / "examples" / "top-up" / "split.txt").read_text().splitlines()[50:]]
+        rows = (HOUSE / "examples" / "top-up" / "split.txt").read_text().splitlines()[50:]
         check("a sheet that can be filled: the walk has its rows", [row for row in rows if f" {row} " not in done.stdout], [])
         check("a sheet that can be filled: its page", ">FILLED</div>" in file.read_text(), True)
 

@@ -9,7 +9,9 @@ use std::process::ExitCode;
 fn main() -> ExitCode {
     let arguments: Vec<String> = std::env::args().skip(1).collect();
     match arguments.split_first() {
-        Some((option, others)) if option == "--to-fill" => written(others, |seed, number| draw::unfilled::sheet(seed, number).pair),
+        Some((option, others)) if option == "--to-fill" => {
+            written(others, |seed, number| draw::unfilled::sheet(seed, number).pair)
+        }
         _ => written(&arguments, draw::pair),
     }
 }
@@ -18,7 +20,8 @@ fn written(arguments: &[String], drawn: fn(u64, u64) -> Drawn) -> ExitCode {
     let [folder, count, seed @ ..] = arguments else { return usage() };
     let Ok(count) = count.parse::<u64>() else { return usage() };
     let seed = seed.first().and_then(|seed| seed.parse().ok()).unwrap_or(SEED);
-    let written = (0..count).try_for_each(|number| write_pair(&Path::new(folder).join(number.to_string()), drawn(seed, number)));
+    let written =
+        (0..count).try_for_each(|number| write_pair(&Path::new(folder).join(number.to_string()), drawn(seed, number)));
     match written {
         Ok(()) => ExitCode::SUCCESS,
         Err(error) => {
