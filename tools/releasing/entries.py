@@ -46,14 +46,10 @@ def failed(name, why):
 
 
 def _told(name, run, folder, recheck):
-    if run.answer == "ACCEPT" and not recheck and not run.changed and None not in run.sheets.values():
-        return Entry(name, run.answer)
     if run.answer == "ACCEPT" and not run.changed and None not in run.sheets.values():
         begun = time.thread_time()
-        agrees = judge(*run.sheets.values()).number == 0
-        seconds = time.thread_time() - begun
-        if agrees:
-            return Entry(name, run.answer, seconds=seconds)
+        if not recheck or judge(*run.sheets.values()).number == 0:
+            return Entry(name, run.answer, seconds=time.thread_time() - begun)
     explanation = explain(run, folder)
     if explanation.unseen:
         return failed(name, f"racecheck answered {run.answer}, and {' and '.join(explanation.unseen)}")
