@@ -1,0 +1,205 @@
+"""The search for an order of moves with a race: fewest switches of thread first, then fewest steps.
+
+Between two switches only what others can see is a point to switch at. Steps on nothing shared are taken at once, or as late
+as the thread's next step that others see, whichever loses nothing; NOTES has the reasons.
+"""
+import heapq
+import time
+from typing import NamedTuple
+
+from .likeness import key, reached_by_others
+from .machine import DONE, ODD, READY, WAITS, WANTS
+from .program import FINISHED
+
+# Steps that touch nothing another thread can name, and that always go ahead.
+LOCAL = {"let", "while", "ref", "newtid", "newlock", "newsem", "newrwlock"}
+# Steps that always go ahead, and only let others do more.
+GIVING = {"spawn", "post"}
+# What racereplay has room for, by document 02 (xii).
+MOST_THREADS, MOST_THINGS = 16, 64
+
+
+class Limits(NamedTuple):
+    states: int = 200_000
+    seconds: float = 20.0
+
+
+class Outcome(NamedTuple):
+    """Where a thread can get by itself, up to its next step that others see."""
+
+    moves: tuple  # (thread, choice)
+    state: object
+    at: int
+    standing: str
+
+
+class Found(NamedTuple):
+    """What a search met. An order is a list of moves (thread, choice)."""
+
+    race: list  # an order that ends in a state with a race, or None
+    odd: list  # one that ends with a thread halted at a word of the wrong kind, or None
+    stuck: list  # one that ends with every unfinished thread waiting, or None
+    states: int
+    seconds: float
+    whole: bool  # no state was left out
+    cut: bool  # some order was left at the limits of a replay
+    switches: int  # every order with fewer switches was tried
+
+
+class _Node(NamedTuple):
+    state: object
+    last: int
+    moves: tuple
+    before: object
+
+    def path(self):
+        pieces, node = [], self
+        while node is not None:
+            pieces.append(node.moves)
+            node = node.before
+        return [move for piece in reversed(pieces) for move in piece]
+
+
+class Search:
+    def __init__(self, machine, limits=Limits()):
+        self.machine, self.points, self.limits = machine, machine.points, limits
+        self.cut = False
+        self.odd = self.stuck = None
+        self._turn = 0
+        self._heap = []
+
+    def run(self):
+        begun = time.monotonic()
+        state, moves = self._settled(self.machine.start(), 0)
+        self._push(0, len(moves), _Node(state, 0, moves, None), None)
+        seen, whole, switches = set(), True, 0
+        while self._heap:
+            switches, steps, _, node, race = heapq.heappop(self._heap)
+            if race is not None:
+                return self._found(race, seen, begun, False, switches)
+            known = key(node.state, node.last)
+            if known in seen:
+                continue
+            if len(seen) >= self.limits.states or time.monotonic() - begun > self.limits.seconds:
+                whole = False
+                break
+            seen.add(known)
+            self._expand(node, switches, steps)
+        return self._found(None, seen, begun, whole and not self.cut, switches)
+
+    def _found(self, race, seen, begun, whole, switches):
+        return Found(race, self.odd, self.stuck, len(seen), time.monotonic() - begun, whole, self.cut, switches)
+
+    def _push(self, switches, steps, node, race):
+        self._turn += 1
+        heapq.heappush(self._heap, (switches, steps, self._turn, node, race))
+
+    # ---- From one state
+
+    def _expand(self, node, switches, steps):
+        state = node.state
+        if self._past_limits(state):
+            self.cut = True
+            return
+        outcomes = [
+            (thread, self._outcomes(state, at)) for at, thread in enumerate(state.threads) if thread.point != FINISHED]
+        self._look_for_race(node, outcomes, switches, steps)
+        self._look_for_halts(node, outcomes)
+        for thread, choices in outcomes:
+            more = switches + (thread.number != node.last)
+            for outcome in choices:
+                if outcome.standing == READY:
+                    after = self.machine.step(outcome.state, outcome.at)
+                    after, rest = self._settled(after, after.at(thread.number))
+                    moves = (*outcome.moves, (thread.number, 0), *rest)
+                elif outcome.standing == DONE:
+                    after, moves = outcome.state, outcome.moves
+                else:
+                    continue
+                self._push(more, steps + len(moves), _Node(after, thread.number, moves, node), None)
+
+    def _past_limits(self, state):
+        things = (len(state.cells), len(state.locks), len(state.sems), len(state.rwlocks), state.identifiers)
+        return state.spawned > MOST_THREADS or max(things) > MOST_THINGS
+
+    def _settled(self, state, at):
+        """A thread taken on through steps on nothing shared, up to a choice or a step that others see."""
+        number, moves = state.threads[at].number, []
+        while self._goes_on(state, at):
+            moves.append((number, 0))
+            state = self.machine.step(state, at)
+            at = state.at(number)
+        return state, tuple(moves)
+
+    def _goes_on(self, state, at):
+        thread = state.threads[at]
+        if thread.point == FINISHED:
+            return False
+        word = self.points[thread.point].word
+        if word in LOCAL:
+            return True
+        if word not in WANTS or self.machine.standing(state, thread) != READY:
+            return False
+        return word in GIVING or thread.operands[0] not in reached_by_others(state, at)
+
+    def _outcomes(self, state, at):
+        """Every way in which a thread can go on by itself: through local steps and choices to a step that others see."""
+        number, outcomes, seen = state.threads[at].number, [], set()
+        waiting = [((), state)]
+        while waiting:
+            moves, now = waiting.pop()
+            thread = now.threads[at]
+            word = self.points[thread.point].word if thread.point != FINISHED else None
+            if word in LOCAL:
+                waiting.append(((*moves, (number, 0)), self.machine.step(now, at)))
+            elif word == "if":
+                here = thread.point, tuple(value if value >> 20 else 0 for value in thread.slots)
+                if here not in seen:
+                    seen.add(here)
+                    waiting += [((*moves, (number, choice)), self.machine.step(now, at, choice)) for choice in (1, 0)]
+            else:
+                outcomes.append(Outcome(moves, now, at, self.machine.standing(now, thread)))
+        return outcomes
+
+    # ---- What there is to see in a state
+
+    def _look_for_race(self, node, outcomes, switches, steps):
+        made = len(node.state.cells)
+        accesses = []
+        for thread, choices in outcomes:
+            for outcome in choices:
+                access = self.machine.access(outcome.state.threads[outcome.at])
+                if access and access[0] < made:
+                    accesses.append((thread, *access, outcome.moves))
+        for place, (one, cell, writes, moves) in enumerate(accesses):
+            for other, other_cell, other_writes, other_moves in accesses[place + 1:]:
+                if one is not other and cell == other_cell and (writes or other_writes):
+                    order = _with(_with(node.path(), moves), other_moves)
+                    self._push(switches_in(order), len(order), node, order)
+
+    def _look_for_halts(self, node, outcomes):
+        for _, choices in outcomes:
+            for outcome in choices:
+                if outcome.standing == ODD and self.odd is None:
+                    self.odd = _with(node.path(), outcome.moves)
+        if self.stuck is None and outcomes:
+            waits = [next((outcome for outcome in choices if outcome.standing == WAITS), None) for _, choices in outcomes]
+            if None not in waits:
+                order = node.path()
+                for outcome in waits:
+                    order = _with(order, outcome.moves)
+                self.stuck = order
+
+
+def _with(order, moves):
+    """An order with local moves of one thread put in behind the thread's last move, else at the end: others do not see them."""
+    if not moves:
+        return order
+    number = moves[0][0]
+    at = max((place + 1 for place, move in enumerate(order) if move[0] == number), default=len(order))
+    return order[:at] + list(moves) + order[at:]
+
+
+def switches_in(order):
+    """How often the thread changes from one move to the next."""
+    return sum(one[0] != other[0] for one, other in zip(order, order[1:]))
