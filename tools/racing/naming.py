@@ -1,0 +1,66 @@
+"""What the threads and things of a run are called: after names.txt if there is one, else after their lines."""
+from .machine import NOUNS, kind, name
+
+ORDINALS = ["", "2nd", "3rd"]
+
+
+def ordinal(count):
+    return ORDINALS[count] if count < len(ORDINALS) else f"{count + 1}th"
+
+
+class Naming:
+    """The names of one run. A thread of names.txt is a spawn line, in line order; here each of its threads gets a name."""
+
+    def __init__(self, steps, names, told):
+        self.names = names
+        self.spawn_lines = [step.line for step in steps.steps if step.word == "spawn"]
+        self._bound = {
+            steps.steps[steps.parts[at][0]].line: step.number for at, step in enumerate(steps.steps) if step.word == "let"}
+        self.thread_line, self.made_line = {0: None}, {}
+        for one in told:
+            if one.point.word == "spawn":
+                self.thread_line[one.started()] = one.point.line
+            made = made_by(one)
+            if made is not None:
+                self.made_line[made] = one.point.line
+
+    def thread(self, number):
+        line = self.thread_line[number]
+        place = 0 if line is None else 1 + self.spawn_lines.index(line)
+        given = self.names.given.get(("thread", place))
+        if not given:
+            return "the first thread" if number == 0 else f"thread {number}"
+        like = [other for other in self.thread_line if self.thread_line[other] == line]
+        return given if like.index(number) == 0 else f"{given} ({ordinal(like.index(number))})"
+
+    def thread_colour(self, number):
+        """The number of a thread's colour: that of its spawn line, as in the picture of who holds how much."""
+        line = self.thread_line[number]
+        return 0 if line is None else 1 + self.spawn_lines.index(line)
+
+    def thing(self, value):
+        """A cell, lock, identifier, semaphore or read-write lock; or a constant."""
+        if not kind(value):
+            return str(value)
+        line = self.made_line[value]
+        like = [other for other in self.made_line if self.made_line[other] == line]
+        called = self._called(line, value)
+        return called if like.index(value) == 0 else f"{called} ({ordinal(like.index(value))})"
+
+    def _called(self, line, value):
+        if line in self._bound:
+            return self.names.variable(self._bound[line])
+        return f"{NOUNS[kind(value)].split(' ', 1)[1]} of line {line}"
+
+    def noun(self, value):
+        return NOUNS[kind(value)]
+
+
+def made_by(one):
+    """The name that a step made, if it made one."""
+    from .machine import CELL, KIND, MAKES
+    word, before = one.point.word, one.before
+    if word == "ref":
+        return CELL * KIND + len(before.cells)
+    counts = {"newtid": before.identifiers, "newlock": len(before.locks), "newsem": len(before.sems), "newrwlock": len(before.rwlocks)}
+    return MAKES[word] * KIND + counts[word] if word in MAKES else None
