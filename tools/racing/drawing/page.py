@@ -1,1 +1,67 @@
-def write(*a): pass
+"""One page that needs nothing else: the race in a sentence, its picture, and the order as a trace."""
+from html import escape
+from itertools import groupby
+from pathlib import Path
+
+from explaining.drawing.page import STYLE
+
+from ..search import switches_in
+from ..telling import counted
+from .picture import Picture
+
+OWN_STYLE = Path(__file__).with_name("style.css").read_text(encoding="utf-8")
+
+
+def write(file, title, answer, shown, confirmed):
+    with open(file, "w", encoding="utf-8", errors="replace") as out:
+        out.write(text(title, answer, shown, confirmed))
+
+
+def text(title, answer, shown, confirmed):
+    picture = Picture(shown)
+    sentence = picture.clash.sentence(shown.naming)
+    return "\n".join([
+        "<!DOCTYPE html>", '<html lang="en">', "<head>", '<meta charset="utf-8"/>',
+        '<meta name="viewport" content="width=device-width"/>', f"<title>{escape(title)}: a race</title>",
+        f"<style>{STYLE}\n{OWN_STYLE}</style>", "</head>", "<body>",
+        "<header>", f'<div><h1>{escape(title)}</h1><p class="meaning">{escape(sentence[:1].upper() + sentence[1:])}.</p></div>',
+        f'<div><div class="badge refused">RACES</div><div class="answer">{escape(answer)}</div></div>', "</header>",
+        *_facts(shown, picture), *_legend(), f"<figure>{picture.svg()}</figure>", *_trace(shown.order),
+        f"<footer>{escape(confirmed)} The order was found by tools/show-race, which judges nothing: the answer is racecheck's."
+        "</footer>", "</body>", "</html>", ""])
+
+
+def _facts(shown, picture):
+    clash, naming = picture.clash, shown.naming
+    moving = {number for number, _ in shown.order} | {thread.number for thread in clash.threads}
+    idle = [naming.thread(number) for number in naming.thread_line if number not in moving]
+    facts = [
+        ("the cell", f"{clash.name}, made on line {clash.made_line} of program.txt; it holds {clash.holds} at that moment"),
+        ("the order", f"{counted(len(shown.order), 'step')} with {counted(switches_in(shown.order), 'switch')} of thread;"
+                      " no order with fewer switches races"),
+    ]
+    if idle:
+        facts.append(("not shown", f"{', '.join(idle)}: started, and takes no step here"))
+    return ['<dl class="facts">', *(f"<dt>{escape(name)}</dt><dd>{escape(words)}</dd>" for name, words in facts), "</dl>"]
+
+
+def _legend():
+    marks = [
+        ('<rect x="1" y="1" width="24" height="14" rx="4" fill="#2f6db3" fill-opacity="0.1" stroke="#2f6db3"/>',
+         "steps of one thread, with their lines in program.txt; time goes down"),
+        ('<path class="switch" d="M3 8H18"/><path class="tip" d="M16 2v12l8-6z"/>', "another thread goes on"),
+        ('<circle cx="13" cy="8" r="5" fill="#fff" stroke="#1d2330" stroke-width="2"/>', "reads the cell"),
+        ('<circle cx="13" cy="8" r="5" fill="#1d2330" stroke="#1d2330" stroke-width="2"/>', "writes the cell"),
+        ('<rect class="about" x="2" y="2" width="22" height="12"/>', "what both do next, in whatever order: the race"),
+    ]
+    rows = (f'<li><svg viewBox="0 0 26 16" aria-hidden="true">{shape}</svg><span>{words}</span></li>' for shape, words in marks)
+    return ['<ul class="legend">', *rows, "</ul>"]
+
+
+def _trace(order):
+    """The trace on a few lines: the same line again and again is told by its count."""
+    pieces = []
+    for move, again in groupby(order):
+        count = len(list(again))
+        pieces.append(f"{move[0]},{move[1]}" + (f" ({count} times)" if count > 1 else ""))
+    return [f'<p class="trace">trace.txt, a line for each step (thread,choice): <code>{escape("; ".join(pieces))}</code></p>']
