@@ -6,8 +6,8 @@ NEVER = 1 << 30
 CONSTANT, NOBODY = -1, -2
 
 
-def key(state, last):
-    """The key of a state after a move of thread `last`.
+def key(state, last, alike):
+    """The key of a state after a move of thread `last`. `alike` has a point for each point that it may be taken for.
 
     Constants are left out, since no step depends on one. So is what no thread can reach any more, and the value of a
     finished thread, which nobody sees.
@@ -16,7 +16,7 @@ def key(state, last):
     for thread in state.threads:
         if thread.point != FINISHED:
             values = thread.operands + thread.slots
-            entries.append(((thread.point, thread.number != last, tuple(value >> 20 for value in values)), values, thread))
+            entries.append(((alike[thread.point], thread.number != last, tuple(value >> 20 for value in values)), values, thread))
     entries.sort(key=lambda entry: entry[0])
     names = {}
     _name_in_turn(entries, names)

@@ -8,7 +8,7 @@ import time
 from typing import NamedTuple
 
 from .likeness import key, reached_by_others
-from .machine import DONE, ODD, READY, WAITS, WANTS
+from .machine import DONE, KIND, ODD, READY, WAITS, WANTS
 from .program import FINISHED
 
 # Steps that touch nothing another thread can name, and that always go ahead.
@@ -21,7 +21,7 @@ MOST_THREADS, MOST_THINGS = 16, 64
 
 class Limits(NamedTuple):
     states: int = 200_000
-    seconds: float = 20.0
+    seconds: float = 20.0  # of processor time
 
 
 class Outcome(NamedTuple):
@@ -63,13 +63,15 @@ class _Node(NamedTuple):
 class Search:
     def __init__(self, machine, limits=Limits()):
         self.machine, self.points, self.limits = machine, machine.points, limits
+        # A thread that has yet to come to its first loop is like one that is back there.
+        self._alike = [at + (point.word == "while") for at, point in enumerate(self.points)]
         self.cut = False
         self.odd = self.stuck = None
         self._turn = 0
         self._heap = []
 
     def run(self):
-        begun = time.monotonic()
+        begun = time.process_time()
         state, moves = self._settled(self.machine.start(), 0)
         self._push(0, len(moves), _Node(state, 0, moves, None), None)
         seen, whole, switches = set(), True, 0
@@ -77,10 +79,10 @@ class Search:
             switches, steps, _, node, race = heapq.heappop(self._heap)
             if race is not None:
                 return self._found(race, seen, begun, False, switches)
-            known = key(node.state, node.last)
+            known = key(node.state, node.last, self._alike)
             if known in seen:
                 continue
-            if len(seen) >= self.limits.states or time.monotonic() - begun > self.limits.seconds:
+            if len(seen) >= self.limits.states or time.process_time() - begun > self.limits.seconds:
                 whole = False
                 break
             seen.add(known)
@@ -88,7 +90,7 @@ class Search:
         return self._found(None, seen, begun, whole and not self.cut, switches)
 
     def _found(self, race, seen, begun, whole, switches):
-        return Found(race, self.odd, self.stuck, len(seen), time.monotonic() - begun, whole, self.cut, switches)
+        return Found(race, self.odd, self.stuck, len(seen), time.process_time() - begun, whole, self.cut, switches)
 
     def _push(self, switches, steps, node, race):
         self._turn += 1
@@ -101,8 +103,7 @@ class Search:
         if self._past_limits(state):
             self.cut = True
             return
-        outcomes = [
-            (thread, self._outcomes(state, at)) for at, thread in enumerate(state.threads) if thread.point != FINISHED]
+        outcomes = self._all_outcomes(state)
         self._look_for_race(node, outcomes, switches, steps)
         self._look_for_halts(node, outcomes)
         for thread, choices in outcomes:
@@ -116,11 +117,41 @@ class Search:
                     after, moves = outcome.state, outcome.moves
                 else:
                     continue
-                self._push(more, steps + len(moves), _Node(after, thread.number, moves, node), None)
+                then = _Node(after, thread.number, moves, node)
+                if not self._only_gone(node, after, thread.number):
+                    self._push(more, steps + len(moves), then, None)
+                elif self.stuck is None:
+                    self._look_for_halts(then, self._all_outcomes(after))
+
+    def _only_gone(self, node, after, number):
+        """Whether all that came of a thread's moves since some state on the way is that the thread is gone for good.
+
+        What the others can do now, they could do then.
+        """
+        thread = after.threads[after.at(number)]
+        if thread.point != FINISHED or thread.identifier in reached_by_others(after, after.at(number)):
+            return False
+        others = _without(after, number)
+        while node is not None and node.state.at(number) is not None:
+            if _without(node.state, number) == others and _holds_alike(node.state, after):
+                return True
+            node = node.before
+        return False
+
+    def _all_outcomes(self, state):
+        return [(thread, self._outcomes(state, at)) for at, thread in enumerate(state.threads) if thread.point != FINISHED]
 
     def _past_limits(self, state):
         things = (len(state.cells), len(state.locks), len(state.sems), len(state.rwlocks), state.identifiers)
         return state.spawned > MOST_THREADS or max(things) > MOST_THINGS
+
+    def _has_no_room(self, state, word):
+        """Whether such a step would go past the limits: then it is not taken ahead of others."""
+        if word == "spawn":
+            return state.spawned >= MOST_THREADS
+        made = {"ref": len(state.cells), "newtid": state.identifiers, "newlock": len(state.locks), "newsem": len(state.sems),
+                "newrwlock": len(state.rwlocks)}
+        return word in made and made[word] >= MOST_THINGS
 
     def _settled(self, state, at):
         """A thread taken on through steps on nothing shared, up to a choice or a step that others see."""
@@ -136,6 +167,8 @@ class Search:
         if thread.point == FINISHED:
             return False
         word = self.points[thread.point].word
+        if self._has_no_room(state, word):
+            return False
         if word in LOCAL:
             return True
         if word not in WANTS or self.machine.standing(state, thread) != READY:
@@ -150,7 +183,7 @@ class Search:
             moves, now = waiting.pop()
             thread = now.threads[at]
             word = self.points[thread.point].word if thread.point != FINISHED else None
-            if word in LOCAL:
+            if word in LOCAL and not self._has_no_room(now, word):
                 waiting.append(((*moves, (number, 0)), self.machine.step(now, at)))
             elif word == "if":
                 here = thread.point, tuple(value if value >> 20 else 0 for value in thread.slots)
@@ -182,13 +215,32 @@ class Search:
             for outcome in choices:
                 if outcome.standing == ODD and self.odd is None:
                     self.odd = _with(node.path(), outcome.moves)
-        if self.stuck is None and outcomes:
-            waits = [next((outcome for outcome in choices if outcome.standing == WAITS), None) for _, choices in outcomes]
-            if None not in waits:
-                order = node.path()
-                for outcome in waits:
-                    order = _with(order, outcome.moves)
-                self.stuck = order
+        if self.stuck is None:
+            waits = [next((outcome for outcome in choices if outcome.standing == WAITS), None)
+                     or next((outcome for outcome in choices if outcome.standing == DONE), None) for _, choices in outcomes]
+            if None not in waits and any(outcome.standing == WAITS for outcome in waits):
+                self.stuck = self._waiting(node, waits)
+
+    def _waiting(self, node, outcomes):
+        """The order in which every thread goes where it waits or finishes; None if a join can go on then after all."""
+        order, state = node.path(), node.state
+        for outcome in outcomes:
+            order = _with(order, outcome.moves)
+            for number, choice in outcome.moves:
+                state = self.machine.step(state, state.at(number), choice)
+        return None if any(self.machine.standing(state, thread) == READY for thread in state.threads) else order
+
+
+def _without(state, number):
+    return tuple(thread for thread in state.threads if thread.number != number)
+
+
+def _holds_alike(earlier, later):
+    """Whether what there was earlier is the same later, constants aside. What was made since then has no name but in a cell."""
+    cells = zip(earlier.cells, later.cells)
+    return (all(one == other or one < KIND > other for one, other in cells)
+            and earlier.locks == later.locks[:len(earlier.locks)] and earlier.sems == later.sems[:len(earlier.sems)]
+            and earlier.rwlocks == later.rwlocks[:len(earlier.rwlocks)])
 
 
 def _with(order, moves):

@@ -52,6 +52,14 @@ def about(machine, thread, naming):
     return f"is about to read {thing}"
 
 
+def elsewhere(machine, state, thread, naming):
+    """Where a thread is that has not finished and is not in the race."""
+    point = machine.points[thread.point]
+    if machine.standing(state, thread) == WAITS:
+        return f"waits at {point.word} of {naming.thing(thread.operands[0])}, line {point.line}"
+    return f"can go on, line {point.line}"
+
+
 class Clash:
     """The race in the last state of a run."""
 
@@ -64,6 +72,17 @@ class Clash:
         self.name = naming.thing(self.cell)
         self.made_line = naming.made_line[self.cell]
         self.holds = naming.thing(state.cells[name(self.cell)])
+        self.outcomes = self._outcomes(machine, naming)
+
+    def _outcomes(self, machine, naming):
+        """What depends on who comes first, if it shows in the next two steps."""
+        writes = {thread.number: naming.thing(thread.operands[1]) for thread in self.threads if len(thread.operands) == 2}
+        if len(writes) == 2:
+            one, other = writes.values()
+            return f"{self.name} holds {one} or {other}, whoever comes last" if one != other else ""
+        reader = next(thread for thread in self.threads if thread.number not in writes)
+        written = next(iter(writes.values()))
+        return f"{naming.thread(reader.number)} reads {self.holds} or {written}, whoever comes first" if written != self.holds else ""
 
     def sentence(self, naming):
         one, other = (f"{naming.thread(thread.number)} {words} (line {line})"
@@ -82,7 +101,7 @@ def race_told(machine, told, order, naming):
         "This job can race. " + _capital(clash.sentence(naming)) + ".",
         f"  the cell    {clash.name}, made on line {clash.made_line}; it holds {clash.holds} at that moment",
         f"  the order   {counted(len(order), 'step')}, {counted(switches_in(order), 'switch')} of thread",
-        "", *order_told(told, naming)]
+        *([f"  so          {clash.outcomes}"] if clash.outcomes else []), "", *order_told(told, naming)]
     lines += [f"{'':>6}  -> {_capital(naming.thread(thread.number))} {words} (line {line})."
               for thread, words, line in zip(clash.threads, clash.words, clash.lines)]
     idle = [naming.thread(number) for number in naming.thread_line

@@ -38,8 +38,10 @@ def _facts(shown, picture):
     facts = [
         ("the cell", f"{clash.name}, made on line {clash.made_line} of program.txt; it holds {clash.holds} at that moment"),
         ("the order", f"{counted(len(shown.order), 'step')} with {counted(switches_in(shown.order), 'switch')} of thread;"
-                      " no order with fewer switches races"),
+                      " none with fewer switches was found"),
     ]
+    if clash.outcomes:
+        facts.append(("what follows", clash.outcomes))
     if idle:
         facts.append(("not shown", f"{', '.join(idle)}: started, and takes no step here"))
     return ['<dl class="facts">', *(f"<dt>{escape(name)}</dt><dd>{escape(words)}</dd>" for name, words in facts), "</dl>"]

@@ -5,7 +5,9 @@ from typing import NamedTuple
 from explaining.drawing.picture import THREADS
 
 from ..machine import CELL, LOCK, SEM, kind
-from ..telling import Clash
+from ..orders import last_state
+from ..program import FINISHED
+from ..telling import Clash, elsewhere
 from .rows import columns_of, rows_of, standing
 
 STEP, LETTER, BOLD = 17, 6.3, 7.1  # a line of text, and generous widths of a letter of 13 pixels
@@ -52,13 +54,16 @@ class Picture:
         self.naming = shown.naming
         self.clash = Clash(shown.machine, shown.told, shown.naming)
         self.rows = rows_of(shown.told, shown.naming)
-        self.state = shown.told[-1].after if shown.told else shown.machine.start()
         racing = [thread.number for thread in self.clash.threads]
         self.threads = sorted({row.thread for row in self.rows} | set(racing))
         self.things = columns_of(self.rows, self.clash.cell)[:MOST_THINGS]
         self.column = next(width for count, width in WIDTHS if len(self.threads) <= count)
         self.things_x = LEFT + len(self.threads) * (self.column + GAP) + GAP
         self.width = self.things_x + len(self.things) * (THING + THING_GAP) + 8
+        state = last_state(shown.machine, shown.told)
+        self.others = {
+            thread.number: elsewhere(shown.machine, state, thread, self.naming) for thread in state.threads
+            if thread.point != FINISHED and thread.number in self.threads and thread.number not in racing}
         self._lay()
 
     # ---- Places
@@ -90,7 +95,7 @@ class Picture:
             y, last = bottom, row.thread
         self.clash_top = y + CLASH_GAP
         self.clash_texts = [wrapped(words, self.column - 2 * PAD, BOLD) for words in self.clash.words]
-        self.clash_bottom = self.clash_top + 2 * STEP + max(map(len, self.clash_texts)) * STEP + 8
+        self.clash_bottom = self.clash_top + 2 * STEP + max(2, *map(len, self.clash_texts)) * STEP + 4
         self.height = self.clash_bottom + FOOT
 
     # ---- The whole
@@ -122,7 +127,7 @@ class Picture:
         for thread in self.threads:
             begun, by = self._begun(thread)
             done = next((laid.bottom for laid in self.laid if laid.row.thread == thread and laid.row.finished), None)
-            x, end = self.middle(thread), done or self.clash_bottom
+            x, end = self.middle(thread), done or self.clash_top - (2 if thread in self.others else 0)
             pieces.append(
                 f'<line class="life" x1="{x}" x2="{x}" y1="{begun:.1f}" y2="{end:.1f}" stroke="{self.colour(thread)}"/>')
             if done:
@@ -246,6 +251,14 @@ class Picture:
                 text("about-name", x + PAD, top + STEP + 2, self.naming.thread(thread.number), fill=self.colour(thread.number))]
             pieces += [text("about", x + PAD, top + (at + 2) * STEP + 4, piece) for at, piece in enumerate(texts)]
             pieces.append(text("line", x + self.column - PAD, top + STEP + 2, f"line {line}", "end"))
+        for thread, words in self.others.items():
+            x = self.x(thread)
+            pieces.append(
+                f'<rect class="other" x="{x}" y="{top:.1f}" width="{self.column}" height="{bottom - top:.1f}" rx="6"'
+                f' stroke="{self.colour(thread)}"/>')
+            pieces.append(text("about-name", x + PAD, top + STEP + 2, self.naming.thread(thread), fill=self.colour(thread)))
+            pieces += [text("soft", x + PAD, top + (at + 2) * STEP + 4, piece)
+                       for at, piece in enumerate(wrapped(words, self.column - 2 * PAD)[:2])]
         pieces += [
             f'<rect class="burst" x="{cell_x}" y="{top:.1f}" width="{THING}" height="{bottom - top:.1f}" rx="6"/>',
             text("race", cell_x + THING / 2, level + 1, "RACE", "middle"),
