@@ -13,6 +13,7 @@ from .program import FINISHED
 
 # Steps that touch nothing another thread can name, and that always go ahead.
 LOCAL = {"let", "while", "ref", "newtid", "newlock", "newsem", "newrwlock"}
+MAKERS = LOCAL - {"let", "while"}
 # Steps that always go ahead, and only let others do more.
 GIVING = {"spawn", "post"}
 # What racereplay has room for, by document 02 (xii).
@@ -149,9 +150,11 @@ class Search:
         """Whether such a step would go past the limits: then it is not taken ahead of others."""
         if word == "spawn":
             return state.spawned >= MOST_THREADS
+        if word not in MAKERS:
+            return False
         made = {"ref": len(state.cells), "newtid": state.identifiers, "newlock": len(state.locks), "newsem": len(state.sems),
                 "newrwlock": len(state.rwlocks)}
-        return word in made and made[word] >= MOST_THINGS
+        return made[word] >= MOST_THINGS
 
     def _settled(self, state, at):
         """A thread taken on through steps on nothing shared, up to a choice or a step that others see."""
