@@ -23,12 +23,19 @@ def text(title, answer, shown, confirmed):
     return "\n".join([
         "<!DOCTYPE html>", '<html lang="en">', "<head>", '<meta charset="utf-8"/>',
         '<meta name="viewport" content="width=device-width"/>', f"<title>{escape(title)}: a race</title>",
-        f"<style>{STYLE}\n{OWN_STYLE}</style>", "</head>", "<body>",
+        f"<style>{STYLE}\n{OWN_STYLE}\n{_paper(picture)}</style>", "</head>", "<body>",
         "<header>", f'<div><h1>{escape(title)}</h1><p class="meaning">{escape(sentence[:1].upper() + sentence[1:])}.</p></div>',
         f'<div><div class="badge refused">RACES</div><div class="answer">{escape(answer)}</div></div>', "</header>",
         *_facts(shown, picture), *_legend(), f"<figure>{picture.svg()}</figure>", *_trace(shown.order),
         f"<footer>{escape(confirmed)} The order was found by tools/show-race, which judges nothing: the answer is racecheck's."
         "</footer>", "</body>", "</html>", ""])
+
+
+def _paper(picture):
+    """One sheet of A4, whichever way round the picture comes out larger."""
+    across = picture.width > 1.1 * picture.height
+    way, most = ("landscape", 122) if across else ("portrait", 205)
+    return f"@page {{ size: A4 {way}; margin: 10mm; }}\n@media print {{ figure svg {{ max-height: {most}mm; }} }}"
 
 
 def _facts(shown, picture):
