@@ -52,6 +52,10 @@ class State(NamedTuple):
     identifiers: int  # how many were made
     spawned: int  # how many threads there were in all
 
+    def things(self):
+        """How many of each kind were made."""
+        return len(self.cells), len(self.locks), len(self.sems), len(self.rwlocks), self.identifiers
+
     def at(self, number):
         """The place of a thread among those that are there; None if it is joined or never was."""
         return next((at for at, thread in enumerate(self.threads) if thread.number == number), None)

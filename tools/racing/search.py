@@ -16,13 +16,15 @@ LOCAL = {"let", "while", "ref", "newtid", "newlock", "newsem", "newrwlock"}
 MAKERS = LOCAL - {"let", "while"}
 # Steps that always go ahead, and only let others do more.
 GIVING = {"spawn", "post"}
-# What racereplay has room for, by document 02 (xii).
-MOST_THREADS, MOST_THINGS = 16, 64
 
 
 class Limits(NamedTuple):
+    """How far to search. Threads and things of a kind are what racereplay has room for, by document 02 (xii)."""
+
     states: int = 200_000
     seconds: float = 20.0  # of processor time
+    threads: int = 16
+    things: int = 64
 
 
 class Outcome(NamedTuple):
@@ -143,18 +145,17 @@ class Search:
         return [(thread, self._outcomes(state, at)) for at, thread in enumerate(state.threads) if thread.point != FINISHED]
 
     def _past_limits(self, state):
-        things = (len(state.cells), len(state.locks), len(state.sems), len(state.rwlocks), state.identifiers)
-        return state.spawned > MOST_THREADS or max(things) > MOST_THINGS
+        return state.spawned > self.limits.threads or max(state.things()) > self.limits.things
 
     def _has_no_room(self, state, word):
         """Whether such a step would go past the limits: then it is not taken ahead of others."""
         if word == "spawn":
-            return state.spawned >= MOST_THREADS
+            return state.spawned >= self.limits.threads
         if word not in MAKERS:
             return False
         made = {"ref": len(state.cells), "newtid": state.identifiers, "newlock": len(state.locks), "newsem": len(state.sems),
                 "newrwlock": len(state.rwlocks)}
-        return made[word] >= MOST_THINGS
+        return made[word] >= self.limits.things
 
     def _settled(self, state, at):
         """A thread taken on through steps on nothing shared, up to a choice or a step that others see."""

@@ -154,7 +154,7 @@ def searched(found):
     if found.whole:
         return ["No order of moves leads to a race: all of them were searched, loops of any number of rounds included"
                 f" ({took}). This search is not proved; only an accepted pair is proof."]
-    why = "an order was left where it went past 16 threads or 64 things of a kind" if found.cut else "it came to its limit"
+    why = "orders were left where they have too many threads or things" if found.cut else "it came to its limit"
     told = ["No race was found, and that proves nothing: the search did not end, " + why + f" ({took})."]
     if not found.cut and found.switches:
         told.append(f"Every order with fewer than {counted(found.switches, 'switch')} of thread was searched.")
