@@ -7,7 +7,7 @@ CONSTANT, NOBODY = -1, -2
 
 
 def key(state, last, alike):
-    """The key of a state after a move of thread `last`. `alike` has a point for each point that it may be taken for.
+    """The key of a state after a move of thread `last`. `alike` has the shape of each point.
 
     Constants are left out, since no step depends on one. So is what no thread can reach any more, and the value of a
     finished thread, which nobody sees.

@@ -10,6 +10,7 @@ from typing import NamedTuple
 from .likeness import key, reached_by_others
 from .machine import DONE, KIND, ODD, READY, WAITS, WANTS
 from .program import FINISHED
+from .shapes import alike
 
 # Steps that touch nothing another thread can name, and that always go ahead.
 LOCAL = {"let", "while", "ref", "newtid", "newlock", "newsem", "newrwlock"}
@@ -66,8 +67,7 @@ class _Node(NamedTuple):
 class Search:
     def __init__(self, machine, limits=Limits()):
         self.machine, self.points, self.limits = machine, machine.points, limits
-        # A thread that has yet to come to its first loop is like one that is back there.
-        self._alike = [at + (point.word == "while") for at, point in enumerate(self.points)]
+        self._alike = alike(machine.steps)
         self.cut = False
         self.odd = self.stuck = None
         self._turn = 0
