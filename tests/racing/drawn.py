@@ -18,7 +18,7 @@ class Draw:
 
     def program(self):
         """The lines of a program sheet's steps."""
-        self.left = self.random.randint(4, 10)
+        self.left = self.random.randint(4, 14)
         kinds = ["cell"] + [self.random.choice(["lock", "sem", "rw", "tid", "boxed"]) for _ in range(self.random.randint(0, 2))]
         known = []
         for kind in kinds:
