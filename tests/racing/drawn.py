@@ -11,8 +11,10 @@ ACTS = {
 
 
 class Draw:
-    def __init__(self, seed, odd):
-        self.random, self.odd = random.Random(seed), odd
+    """One program. A dense one has no loops and choices, and its threads touch two or three things again and again."""
+
+    def __init__(self, seed, odd=False, dense=False):
+        self.random, self.odd, self.dense = random.Random(seed), odd, dense
         self.variable, self.left = 0, 0
         self.lines = []
 
@@ -20,6 +22,9 @@ class Draw:
         """The lines of a program sheet's steps."""
         self.left = self.random.randint(4, 14)
         kinds = ["cell"] + [self.random.choice(["lock", "sem", "rw", "tid", "boxed"]) for _ in range(self.random.randint(0, 2))]
+        if self.dense:
+            self.left = 12
+            kinds = ["cell", *self.random.sample(["lock", "lock", "sem", "rw", "tid"], self.random.choice([1, 1, 2]))]
         known = []
         for kind in kinds:
             known.append(self._bind(kind, known))
@@ -52,7 +57,7 @@ class Draw:
 
     def _body(self, known, depth):
         """A few acts one after the other, then a value."""
-        for _ in range(self.random.randint(1, 3)):
+        for _ in range(self.random.randint(1, 3 + self.dense)):
             if self.left <= 0:
                 break
             here = self._new()
@@ -64,6 +69,8 @@ class Draw:
 
     def _act(self, known, depth):
         self.left -= 1
+        if self.dense:
+            return self._touch(known)
         drawn = self.random.random()
         if depth < 2 and drawn < 0.10:
             self._spawned(known, depth)
