@@ -100,7 +100,12 @@ class Draw:
 
     def _touch(self, known):
         cells = [one for one in known if one[0] == "cell"]
-        thing = self.random.choice(cells if self.random.random() < 0.4 else known)
+        others = [one for one in known if one[0] != "cell"]
+        # Few accesses among many other steps: else most programs race at once.
+        if self.dense:
+            thing = self.random.choice(cells if self.random.random() < 0.2 or not others else others)
+        else:
+            thing = self.random.choice(cells if self.random.random() < 0.4 else known)
         if self.odd and self.random.random() < 0.2:
             word = self.random.choice(["read", "lock", "unlock", "post", "wait", "join", "rdlock", "wrunlock", "ref"])
             self._say(f"{word},0", f"var,{thing[1]}")

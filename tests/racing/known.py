@@ -1,12 +1,28 @@
-"""The programs whose fate is known, as tests/src/steps/programs.rs lists them, through the search of tools/show-race."""
+"""Programs whose fate is known, those of tests/src/steps/programs.rs and some more, through the search of tools/show-race."""
 import re
 from pathlib import Path
 
 LISTS = Path(__file__).resolve().parents[1] / "src" / "steps" / "programs.rs"
 
+# Races that are lost if the first thread takes a step ahead of its turn: a lock, an unlock, a wait, a join, a reading place.
+_CELL = "let,0|ref,0|int,0|"
+RACY = [
+    _CELL + "let,1|newlock,0|let,2|spawn,0|newtid,0|let,3|lock,0|var,1|let,4|unlock,0|var,1|write,0|var,0|int,1|"
+    "let,5|lock,0|var,1|write,0|var,0|int,2",
+    _CELL + "let,1|newlock,0|let,2|spawn,0|newtid,0|let,3|lock,0|var,1|write,0|var,0|int,1|"
+    "let,4|unlock,0|var,1|let,5|lock,0|var,1|write,0|var,0|int,2",
+    _CELL + "let,1|newsem,0|let,2|spawn,0|newtid,0|let,3|wait,0|var,1|let,4|post,0|var,1|write,0|var,0|int,1|"
+    "let,5|post,0|var,1|let,6|wait,0|var,1|write,0|var,0|int,2",
+    _CELL + "let,1|newtid,0|let,2|spawn,0|var,1|int,0|let,3|spawn,0|newtid,0|let,4|join,0|var,1|let,5|spawn,0|var,1|int,0|"
+    "write,0|var,0|int,1|let,6|join,0|var,1|write,0|var,0|int,2",
+    _CELL + "let,1|newrwlock,1|let,2|spawn,0|newtid,0|let,3|wrlock,0|var,1|let,4|wrunlock,0|var,1|write,0|var,0|int,1|"
+    "let,5|rdlock,0|var,1|write,0|var,0|int,2",
+]
+
 
 def programs():
     """(list, steps) of each known program."""
+    yield from (("RACY", steps.split("|")) for steps in RACY)
     text = re.sub(r"\\\n\s*", "", LISTS.read_text())
     for section in re.findall(r"pub const (\w+):.*?= &\[(.*?)\n\];", text, re.S):
         for steps in re.findall(r'"([^"]*,\d[^"]*)"', section[1]):
