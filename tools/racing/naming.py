@@ -1,5 +1,5 @@
 """What the threads and things of a run are called: after names.txt if there is one, else after their lines."""
-from .machine import NOUNS, kind, name
+from .machine import CELL, KIND, MAKES, NOUNS, kind
 
 ORDINALS = ["", "2nd", "3rd"]
 
@@ -58,7 +58,6 @@ class Naming:
 
 def made_by(one):
     """The name that a step made, if it made one."""
-    from .machine import CELL, KIND, MAKES
     word, before = one.point.word, one.before
     if word == "ref":
         return CELL * KIND + len(before.cells)

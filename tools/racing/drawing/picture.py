@@ -207,11 +207,11 @@ class Picture:
                 how = laid.row.touched.get(value)
                 if how in ("read", "write"):
                     ink = self.colour(laid.row.thread)
-                    y = laid.top + STEP * 0.65
+                    y, inside = laid.top + STEP * 0.65, ink if how == "write" else "#fff"
                     pieces.append(
                         f'<path class="reach" d="M{self.x(laid.row.thread) + self.column} {y:.1f}H{x:.1f}" stroke="{ink}"/>')
                     pieces.append(
-                        f'<circle cx="{x:.1f}" cy="{y:.1f}" r="6" stroke="{ink}" stroke-width="2" fill="{ink if how == "write" else "#fff"}"/>')
+                        f'<circle cx="{x:.1f}" cy="{y:.1f}" r="6" stroke="{ink}" stroke-width="2" fill="{inside}"/>')
         return pieces
 
     def _spans(self, value):
