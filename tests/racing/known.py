@@ -2,6 +2,11 @@
 import re
 from pathlib import Path
 
+from checks import check
+from racing.confirming import halt_lines, race_lines
+from racing.orders import has_odd_halt, has_race, is_stuck
+from searching import objection, searched
+
 LISTS = Path(__file__).resolve().parents[1] / "src" / "steps" / "programs.rs"
 
 # Races that are lost if the first thread takes a step ahead of its turn: a lock, an unlock, a wait, a join, a reading place.
@@ -30,14 +35,18 @@ def programs():
                 yield section[0], steps.split("|")
 
 
-def faults(search):
-    """What is wrong, and how many programs there are. `search` gives what it found for lines of steps."""
-    wrong, count = [], 0
-    for section, lines in programs():
-        count += 1
-        found = search(lines)
+def programs_of(wanted):
+    return [steps for section, steps in programs() if section == wanted]
+
+
+def check_known():
+    """Each program meets its fate, and racereplay bears it out."""
+    for number, (section, lines) in enumerate(programs()):
+        found = searched(lines)
         met = {"RACY": found.race is not None, "ODD": found.odd is not None and found.race is None,
                "WAITING": found.stuck is not None and found.race is None and found.odd is None}[section]
-        if not met:
-            wrong.append(f"{section} {'|'.join(lines)}: {found}")
-    return wrong, count
+        check(f"known program {number}, {section}: {'|'.join(lines)}", met, True)
+        if met:
+            order, shows, told = {"RACY": (found.race, has_race, race_lines), "ODD": (found.odd, has_odd_halt, halt_lines),
+                                  "WAITING": (found.stuck, is_stuck, halt_lines)}[section]
+            check(f"known program {number}, {section}: as racereplay has it", objection(lines, order, shows, told), "")

@@ -1,33 +1,46 @@
 """Having racereplay, which is proved, run an order: the search is a guess, the replay is the witness."""
-import os
-import shutil
-import subprocess
+import re
 import tempfile
 from pathlib import Path
 
-SECONDS = 10
+from explaining.running import find, run_in
+
+from .orders import trace_text
+
+# Its lines: run without a race, run with one, refused (with a race among the states before, or none), not read.
+FORM = re.compile(r"RAN,[0-9]+|RACE(,[0-9]+){4}|REFUSE(,[0-9]+){2},0,0,[0-9]+(,RACE(,[0-9]+){3})?|UNREAD")
 
 
-def find_racereplay():
-    """The file that RACEREPLAY names, else the repository's own, else the one on the PATH; None if there is none."""
-    own = Path(__file__).resolve().parents[2] / "target" / "bin" / "racereplay"
-    chosen = os.environ.get("RACEREPLAY") or (own if os.access(own, os.X_OK) else shutil.which("racereplay"))
-    return os.path.abspath(chosen) if chosen else None
+class Replay:
+    """racereplay on one program sheet."""
+
+    def __init__(self, program):
+        self._binary, self._program = find("racereplay"), program
+
+    def answer(self, order):
+        """Its line after an order, or why there is none."""
+        with tempfile.TemporaryDirectory() as scratch:
+            Path(scratch, "program.txt").write_bytes(self._program)
+            Path(scratch, "trace.txt").write_text(trace_text(order), encoding="ascii")
+            run = run_in(self._binary, scratch, FORM)
+        return f"nothing that can be read: {run.failure}" if run.answer == "FAILED" else run.answer
+
+    def objection(self, expected):
+        """Empty if it gives each of these orders the line beside it, else what it says instead."""
+        for order, line in expected:
+            answer = self.answer(order)
+            if answer != line:
+                return f"racereplay says {answer}, and the search {line}"
+        return ""
 
 
-def expected(order, pair):
-    """The line of a replay that shows a race in its last state. How racereplay writes its report is settled here alone."""
-    return f"RACE,{len(order)},{len(order)},{pair[0]},{pair[1]}"
+def race_lines(shown):
+    """That the two threads race after the last step, and no two before."""
+    steps, (first, second) = len(shown.order), shown.machine.race(shown.state)
+    return [(shown.order, f"RACE,{steps},{steps},{first},{second}")]
 
 
-def confirm(binary, program, trace, order, pair):
-    """Empty if racereplay shows this race, else what it says instead."""
-    with tempfile.TemporaryDirectory() as scratch:
-        Path(scratch, "program.txt").write_bytes(program)
-        Path(scratch, "trace.txt").write_text(trace)
-        try:
-            done = subprocess.run([binary], cwd=scratch, stdin=subprocess.DEVNULL, capture_output=True, timeout=SECONDS)
-        except (OSError, subprocess.TimeoutExpired) as error:
-            return f"racereplay gave no answer ({type(error).__name__})"
-    line = done.stdout.decode("latin-1").strip()[:80]
-    return "" if line == expected(order, pair) else f"racereplay says {line!r}, not {expected(order, pair)!r}"
+def halt_lines(shown):
+    """That each thread that is halted after the last step has no step then."""
+    steps = len(shown.order)
+    return [([*shown.order, (number, 0)], f"REFUSE,47,{steps + 1},0,0,{steps}") for number in shown.unable()]

@@ -1,5 +1,5 @@
 """States up to names: two states with one key can do the same, save for numbers and the order of threads."""
-from .machine import CELL, LOCK, RWLOCK, SEM, name
+from .machine import CELL, LOCK, RWLOCK, SEM, kind, name
 from .program import FINISHED
 
 NEVER = 1 << 30
@@ -16,13 +16,13 @@ def key(state, last, alike):
     for thread in state.threads:
         if thread.point != FINISHED:
             values = thread.operands + thread.slots
-            entries.append(((alike[thread.point], thread.number != last, tuple(value >> 20 for value in values)), values, thread))
+            entries.append(((alike[thread.point], thread.number != last, tuple(map(kind, values))), values, thread))
     entries.sort(key=lambda entry: entry[0])
     names = {}
     _name_in_turn(entries, names)
     things = _things(state, names)
     threads = tuple([
-        (signature, tuple([names[value] if value >> 20 else CONSTANT for value in values]), names.get(thread.identifier, NOBODY))
+        (signature, tuple([names[value] if kind(value) else CONSTANT for value in values]), names.get(thread.identifier, NOBODY))
         for signature, values, thread in entries])
     return threads, things
 
@@ -39,7 +39,7 @@ def _name_in_turn(entries, names):
                 [names.get(value, NEVER) for value in entry[1]], names.get(entry[2].identifier, NEVER)))
         for _, values, _ in entries[at:end]:
             for value in values:
-                if value >> 20 and value not in names:
+                if kind(value) and value not in names:
                     names[value] = len(names)
         at = end
 
@@ -52,13 +52,13 @@ def _things(state, names):
         if thread.point == FINISHED:
             finished[thread.identifier] = finished.get(thread.identifier, 0) + 1
     for value in order:  # grows while it is walked
-        sort = value >> 20
+        sort = kind(value)
         if sort == CELL:
             content = state.cells[name(value)]
-            if content >> 20 and content not in names:
+            if kind(content) and content not in names:
                 names[content] = len(names)
                 order.append(content)
-            things.append((sort, names[content] if content >> 20 else CONSTANT))
+            things.append((sort, names[content] if kind(content) else CONSTANT))
         elif sort == LOCK:
             things.append((sort, state.locks[name(value)]))
         elif sort == SEM:
@@ -78,8 +78,8 @@ def reached_by_others(state, at):
         for value in thread.operands + thread.slots]
     while waiting:
         value = waiting.pop()
-        if value >> 20 and value not in reached:
+        if kind(value) and value not in reached:
             reached.add(value)
-            if value >> 20 == CELL:
+            if kind(value) == CELL:
                 waiting.append(state.cells[name(value)])
     return reached

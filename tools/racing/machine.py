@@ -8,7 +8,8 @@ from typing import NamedTuple
 from .program import FINISHED
 
 # A value is a constant, or a kind and a name in one number.
-KIND = 1 << 20
+_BITS = 20
+KIND = 1 << _BITS
 CELL, LOCK, TID, SEM, RWLOCK = range(1, 6)
 NOUNS = {0: "a number", CELL: "a cell", LOCK: "a lock", TID: "a thread identifier", SEM: "a semaphore", RWLOCK: "a read-write lock"}
 MAKES = {"newtid": TID, "newlock": LOCK, "newsem": SEM, "newrwlock": RWLOCK}
@@ -22,7 +23,8 @@ READY, WAITS, ODD, DONE = "ready", "waits", "odd", "done"
 
 
 def kind(value):
-    return value >> 20
+    """The kind of thing that a value names; 0 for a constant."""
+    return value >> _BITS
 
 
 def name(value):
@@ -91,6 +93,10 @@ class Machine:
             return ODD
         return READY if self._goes_ahead(state, word, name(thread.operands[0]), thread.operands[0]) else WAITS
 
+    def is_halted(self, state, thread):
+        """Whether a thread that has not finished has no step."""
+        return self.standing(state, thread) in (WAITS, ODD)
+
     def _goes_ahead(self, state, word, thing, value):
         if word == "lock":
             return state.locks[thing]
@@ -118,7 +124,7 @@ class Machine:
         thread = state.threads[at]
         point, operands = self.points[thread.point], thread.operands
         slots = dict(zip(point.live, thread.slots))
-        word, here = point.word, point.above
+        word, here = point.word, point.step
         if word == "let":
             if point.loop:
                 follows = self.steps.point_of[here, "while"], ()

@@ -1,11 +1,11 @@
 """Orders of moves: run one and see what happens, cut it where the race shows first, and make it shorter to read."""
-import time
 from typing import NamedTuple
 
 from .machine import DONE, ODD, READY, WAITS
 from .search import switches_in
 
-SECONDS = 2.0  # for making an order shorter; it is right at every moment
+# How many steps are run to make an order shorter. What there is then will do, and is the same on every machine.
+MOST_STEPS = 400_000
 
 
 class Happening(NamedTuple):
@@ -33,20 +33,19 @@ def happenings(machine, order):
     state, told = machine.start(), []
     for number, choice in order:
         at = state.at(number)
-        if at is None or machine.standing(state, state.threads[at]) != READY:
+        if not _can_move(machine, state, at, choice):
             return None
-        thread = state.threads[at]
-        point = machine.points[thread.point]
-        if choice and point.word != "if":
-            return None
-        after = machine.step(state, at, choice)
-        told.append(Happening(number, choice, point, thread.operands, state, after))
+        thread, after = state.threads[at], machine.step(state, at, choice)
+        told.append(Happening(number, choice, machine.points[thread.point], thread.operands, state, after))
         state = after
     return told
 
 
-def last_state(machine, told):
-    return told[-1].after if told else machine.start()
+def _can_move(machine, state, at, choice):
+    """Whether the thread at a place has a step of this choice."""
+    if at is None or machine.standing(state, state.threads[at]) != READY:
+        return False
+    return choice == 0 or machine.points[state.threads[at].point].word == "if"
 
 
 # ---- What an order is to show, in its last state
@@ -78,23 +77,19 @@ def first_shown(machine, order, shows):
 
 
 def shortened(machine, order, shows):
-    """An order that shows the same with no more switches and no more steps: chunks of a thread's moves left out, blocks joined."""
-    until = time.monotonic() + SECONDS
-    best = first_shown(machine, order, shows)
-    better = True
-    while better:
-        better = False
+    """An order that shows the same with no more switches and no more steps: stretches of a thread's moves left out, blocks joined."""
+    best, left = first_shown(machine, order, shows), MOST_STEPS
+    while True:
         for candidate in _candidates(_by_birth(machine, best)):
-            if time.monotonic() > until:
+            left -= len(candidate)
+            if left < 0:
                 return best
-            renumbered = _by_number(machine, candidate)
-            if renumbered is None or _cost(renumbered) >= _cost(best):
-                continue
-            state = last_state(machine, happenings(machine, renumbered))
-            if shows(machine, state):
-                best, better = first_shown(machine, renumbered, shows), True
+            tried, state = _by_number(machine, candidate)
+            if tried is not None and _cost(tried) < _cost(best) and shows(machine, state):
+                best = first_shown(machine, tried, shows)
                 break
-    return best
+        else:
+            return best
 
 
 def _cost(order):
@@ -102,25 +97,35 @@ def _cost(order):
 
 
 def _candidates(order):
-    """Orders to try: without the end of a thread's moves, without a stretch of them, with a block moved to its thread's last one."""
-    threads = list(dict.fromkeys(birth for birth, _ in order))
-    for birth in threads:
-        own = [at for at, move in enumerate(order) if move[0] == birth]
-        for start in range(len(own)):
-            dropped = set(own[start:])
-            yield [move for at, move in enumerate(order) if at not in dropped]
+    """Orders to try: without the end of a thread's moves; with a block of them moved to another; without a stretch of them."""
+    own = {}
+    for at, (birth, _) in enumerate(order):
+        own.setdefault(birth, []).append(at)
+    for places in own.values():
+        for start in range(len(places)):
+            yield _without(order, places[start:])
+    yield from _joined_blocks(order)
+    for places in own.values():
+        for length in range(len(places) - 1, 0, -1):
+            for start in range(len(places) - length):
+                yield _without(order, places[start:start + length])
+
+
+def _without(order, places):
+    left_out = set(places)
+    return [move for at, move in enumerate(order) if at not in left_out]
+
+
+def _joined_blocks(order):
+    """Each block of a thread put behind the thread's block before it, and that one put in front of it."""
+    last = {}
     for start, end in _blocks(order):
-        earlier = max((stop for begin, stop in _blocks(order) if stop <= start and order[begin][0] == order[start][0]), default=None)
-        if earlier is not None:
-            yield order[:earlier] + order[start:end] + order[earlier:start] + order[end:]
-            begin = next(begin for begin, stop in _blocks(order) if stop == earlier)
-            yield order[:begin] + order[earlier:start] + order[begin:earlier] + order[start:]
-    for birth in threads:
-        own = [at for at, move in enumerate(order) if move[0] == birth]
-        for length in range(len(own) - 1, 0, -1):
-            for start in range(len(own) - length):
-                dropped = set(own[start:start + length])
-                yield [move for at, move in enumerate(order) if at not in dropped]
+        birth = order[start][0]
+        if birth in last:
+            begin, stop = last[birth]
+            yield order[:stop] + order[start:end] + order[stop:start] + order[end:]
+            yield order[:begin] + order[stop:start] + order[begin:stop] + order[start:]
+        last[birth] = start, end
 
 
 def _blocks(order):
@@ -132,31 +137,28 @@ def _blocks(order):
 def _by_birth(machine, order):
     """An order whose threads are called after their birth, the n-th child of a thread, which stays when other moves go."""
     births, children, renamed = {0: ()}, {}, []
-    for told in happenings(machine, order):
-        birth = births[told.thread]
-        if told.point.word == "spawn":
+    for one in happenings(machine, order):
+        birth = births[one.thread]
+        if one.point.word == "spawn":
             children[birth] = children.get(birth, -1) + 1
-            births[told.started()] = (*birth, children[birth])
-        renamed.append((birth, told.choice))
+            births[one.started()] = (*birth, children[birth])
+        renamed.append((birth, one.choice))
     return renamed
 
 
 def _by_number(machine, order):
-    """The same with the numbers that the threads get in this order; None if it is no run."""
+    """The same with the numbers that the threads get in this order, and its last state; two times None if it is no run."""
     numbers, children, state, renamed = {(): 0}, {}, machine.start(), []
     for birth, choice in order:
         at = state.at(numbers.get(birth, -1))
-        if at is None or machine.standing(state, state.threads[at]) != READY:
-            return None
-        word = machine.points[state.threads[at].point].word
-        if choice and word != "if":
-            return None
-        if word == "spawn":
+        if not _can_move(machine, state, at, choice):
+            return None, None
+        if machine.points[state.threads[at].point].word == "spawn":
             children[birth] = children.get(birth, -1) + 1
             numbers[(*birth, children[birth])] = state.spawned
         renamed.append((numbers[birth], choice))
         state = machine.step(state, at, choice)
-    return renamed
+    return renamed, state
 
 
 # ---- As a trace

@@ -7,8 +7,9 @@ from typing import NamedTuple
 
 from explaining.words import WORDS
 
-# How many parts have to be values before the word reduces; every part of the other words.
+# How many parts have to be values before a word reduces: every part, save for these words.
 STRICT = {"let": 1, "spawn": 1, "if": 0, "while": 0}
+EVERY = 2
 # A thread that has finished stands nowhere.
 FINISHED = -1
 
@@ -22,7 +23,7 @@ class Point(NamedTuple):
     loop: bool  # one of the two words that a `while` becomes
     live: tuple  # the slots that what comes after still uses
     parts: tuple  # the steps that may follow in its place
-    above: object  # the step whose value this is, see Steps.entered
+    step: int  # the step that reduces here, by its place in the sheet
 
 
 class Steps:
@@ -60,7 +61,7 @@ class Steps:
     # ---- Points
 
     def _add_points(self, at, step):
-        again = frozenset().union(*(self.free[part] for part in self.parts[at][STRICT.get(step.word, 2):]))
+        again = frozenset().union(*(self.free[part] for part in self.parts[at][STRICT.get(step.word, EVERY):]))
         if step.word == "let":
             again -= {step.number}
         live = tuple(sorted(again | self._after(at)))

@@ -1,14 +1,14 @@
 """The search for an order of moves with a race: fewest switches of thread first, then fewest steps.
 
 Between two switches only what others can see is a point to switch at. Steps on nothing shared are taken at once, or as late
-as the thread's next step that others see, whichever loses nothing; NOTES has the reasons.
+as the thread's next step that others see, whichever loses nothing; docs/RACES.md has the reasons.
 """
 import heapq
 import time
 from typing import NamedTuple
 
 from .likeness import key, reached_by_others
-from .machine import DONE, KIND, ODD, READY, WAITS, WANTS
+from .machine import DONE, KIND, ODD, READY, WAITS, WANTS, kind
 from .program import FINISHED
 from .shapes import alike
 
@@ -19,13 +19,25 @@ MAKERS = LOCAL - {"let", "while"}
 GIVING = {"spawn", "post"}
 
 
+class Room(NamedTuple):
+    """How many threads an order may have in all, and how many things of each kind."""
+
+    threads: int
+    things: int
+
+    def holds(self, state):
+        return state.spawned <= self.threads and max(state.things()) <= self.things
+
+
+ROOM = Room(16, 64)  # of racereplay, by document 02 (xii)
+PLENTY = Room(256, 256)  # to search on where there is no race within that
+
+
 class Limits(NamedTuple):
-    """How far to search. Threads and things of a kind are what racereplay has room for, by document 02 (xii)."""
+    """How far to search."""
 
     states: int = 200_000
     seconds: float = 20.0  # of processor time
-    threads: int = 16
-    things: int = 64
 
 
 class Outcome(NamedTuple):
@@ -45,9 +57,13 @@ class Found(NamedTuple):
     stuck: list  # one that ends with every unfinished thread waiting, or None
     states: int
     seconds: float
-    whole: bool  # no state was left out
-    cut: bool  # some order was left at the limits of a replay
+    limited: bool  # the search was ended by its limits
+    cut: bool  # some order was left at the end of the room
     switches: int  # every order with fewer switches was tried
+
+    def whole(self):
+        """Whether every order was searched."""
+        return self.race is None and not self.limited and not self.cut
 
 
 class _Node(NamedTuple):
@@ -64,9 +80,17 @@ class _Node(NamedTuple):
         return [move for piece in reversed(pieces) for move in piece]
 
 
+def search(machine, limits=Limits()):
+    """What is met in the room of racereplay; if some order goes past it and there is no race within, in plenty."""
+    found = Search(machine, limits, ROOM).run()
+    if found.race is not None or found.limited or not found.cut:
+        return found
+    return Search(machine, limits, PLENTY).run()
+
+
 class Search:
-    def __init__(self, machine, limits=Limits()):
-        self.machine, self.points, self.limits = machine, machine.points, limits
+    def __init__(self, machine, limits, room):
+        self.machine, self.points, self.limits, self.room = machine, machine.points, limits, room
         self._alike = alike(machine.steps)
         self.cut = False
         self.odd = self.stuck = None
@@ -77,7 +101,7 @@ class Search:
         begun = time.process_time()
         state, moves = self._settled(self.machine.start(), 0)
         self._push(0, len(moves), _Node(state, 0, moves, None), None)
-        seen, whole, switches = set(), True, 0
+        seen, switches = set(), 0
         while self._heap:
             switches, steps, _, node, race = heapq.heappop(self._heap)
             if race is not None:
@@ -86,14 +110,13 @@ class Search:
             if known in seen:
                 continue
             if len(seen) >= self.limits.states or time.process_time() - begun > self.limits.seconds:
-                whole = False
-                break
+                return self._found(None, seen, begun, True, switches)
             seen.add(known)
             self._expand(node, switches, steps)
-        return self._found(None, seen, begun, whole and not self.cut, switches)
+        return self._found(None, seen, begun, False, switches)
 
-    def _found(self, race, seen, begun, whole, switches):
-        return Found(race, self.odd, self.stuck, len(seen), time.process_time() - begun, whole, self.cut, switches)
+    def _found(self, race, seen, begun, limited, switches):
+        return Found(race, self.odd, self.stuck, len(seen), time.process_time() - begun, limited, self.cut, switches)
 
     def _push(self, switches, steps, node, race):
         self._turn += 1
@@ -103,7 +126,7 @@ class Search:
 
     def _expand(self, node, switches, steps):
         state = node.state
-        if self._past_limits(state):
+        if not self.room.holds(state):
             self.cut = True
             return
         outcomes = self._all_outcomes(state)
@@ -144,18 +167,15 @@ class Search:
     def _all_outcomes(self, state):
         return [(thread, self._outcomes(state, at)) for at, thread in enumerate(state.threads) if thread.point != FINISHED]
 
-    def _past_limits(self, state):
-        return state.spawned > self.limits.threads or max(state.things()) > self.limits.things
-
     def _has_no_room(self, state, word):
-        """Whether such a step would go past the limits: then it is not taken ahead of others."""
+        """Whether such a step would leave the room: then it is not taken ahead of others."""
         if word == "spawn":
-            return state.spawned >= self.limits.threads
+            return state.spawned >= self.room.threads
         if word not in MAKERS:
             return False
         made = {"ref": len(state.cells), "newtid": state.identifiers, "newlock": len(state.locks), "newsem": len(state.sems),
                 "newrwlock": len(state.rwlocks)}
-        return made[word] >= self.limits.things
+        return made[word] >= self.room.things
 
     def _settled(self, state, at):
         """A thread taken on through steps on nothing shared, up to a choice or a step that others see."""
@@ -190,7 +210,7 @@ class Search:
             if word in LOCAL and not self._has_no_room(now, word):
                 waiting.append(((*moves, (number, 0)), self.machine.step(now, at)))
             elif word == "if":
-                here = thread.point, tuple(value if value >> 20 else 0 for value in thread.slots)
+                here = thread.point, tuple(value if kind(value) else 0 for value in thread.slots)
                 if here not in seen:
                     seen.add(here)
                     waiting += [((*moves, (number, choice)), self.machine.step(now, at, choice)) for choice in (1, 0)]

@@ -1,5 +1,5 @@
 """What is left to do at a point, line numbers, constants and names of variables aside: two points of one shape do the same."""
-from .program import saved
+from .program import EVERY, STRICT, saved
 
 
 def alike(steps):
@@ -17,7 +17,7 @@ class _Shape:
         self.bound, self._binders = {}, 0
         self._out = []
         self._begin(point)
-        self._climb(point.above)
+        self._climb(point.step)
         self.tokens = tuple(self._out)
 
     def _begin(self, point):
@@ -27,8 +27,7 @@ class _Shape:
         self._out += [("again", word) if again else word, _places(point)]
         if point.word == "let" and not point.loop:
             self._bind(point.number)
-        first = {"let": 1, "spawn": 1, "if": 0, "while": 0}.get(point.word, 2)
-        for part in point.parts[0 if again else first:]:
+        for part in point.parts[0 if again else STRICT.get(point.word, EVERY):]:
             self._expression(part)
 
     def _bind(self, variable):

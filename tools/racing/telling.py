@@ -3,8 +3,7 @@ from explaining.showing import grouped, listed
 
 from .machine import CELL, KIND, ODD, WAITS, name
 from .naming import made_by
-from .orders import last_state
-from .search import switches_in
+from .search import PLENTY, ROOM
 
 # Steps that are told with the next one or not at all.
 SILENT = ("let", "while")
@@ -52,114 +51,144 @@ def about(machine, thread, naming):
     return f"is about to read {thing}"
 
 
-def elsewhere(machine, state, thread, naming):
-    """Where a thread is that has not finished and is not in the race."""
-    point = machine.points[thread.point]
-    if machine.standing(state, thread) == WAITS:
-        return f"waits at {point.word} of {naming.thing(thread.operands[0])}, line {point.line}"
-    return f"can go on, line {point.line}"
+def wait_words(machine, thread, naming):
+    """What a thread waits for."""
+    word, thing = machine.points[thread.point].word, naming.thing(thread.operands[0])
+    return {
+        "join": f"waits for a thread of {thing}",
+        "lock": f"waits for {thing}",
+        "wait": f"waits for a count of {thing}",
+        "rdlock": f"waits to read under {thing}",
+        "wrlock": f"waits to write under {thing}",
+        "rdunlock": f"waits to give back {thing}, which nobody reads under",
+        "wrunlock": f"waits to give back {thing}, which nobody writes under",
+    }[word]
 
 
 class Clash:
-    """The race in the last state of a run."""
+    """The race in the last state of an order."""
 
-    def __init__(self, machine, told, naming):
-        state = last_state(machine, told)
+    def __init__(self, shown):
+        machine, state, self.naming = shown.machine, shown.state, shown.naming
         self.threads = [state.threads[state.at(number)] for number in machine.race(state)]
+        self.numbers = [thread.number for thread in self.threads]
         self.cell = CELL * KIND + machine.access(self.threads[0])[0]
         self.lines = [machine.points[thread.point].line for thread in self.threads]
-        self.words = [about(machine, thread, naming) for thread in self.threads]
-        self.name = naming.thing(self.cell)
-        self.made_line = naming.made_line[self.cell]
-        self.holds = naming.thing(state.cells[name(self.cell)])
-        self.outcomes = self._outcomes(machine, naming)
+        self.words = [about(machine, thread, self.naming) for thread in self.threads]
+        self.name = self.naming.thing(self.cell)
+        self.made_line = self.naming.made_line[self.cell]
+        self.holds = self.naming.thing(state.cells[name(self.cell)])
 
-    def _outcomes(self, machine, naming):
-        """What depends on who comes first, if it shows in the next two steps."""
-        writes = {thread.number: naming.thing(thread.operands[1]) for thread in self.threads if len(thread.operands) == 2}
-        if len(writes) == 2:
-            one, other = writes.values()
+    def sentence(self):
+        one, other = (f"{self.naming.thread(number)} {words} (line {line})"
+                      for number, words, line in zip(self.numbers, self.words, self.lines))
+        return capital(f"{one} while {other}.")
+
+    def outcomes(self):
+        """What depends on who comes first, if it shows in the next two steps; else empty."""
+        written = {thread.number: self.naming.thing(thread.operands[1]) for thread in self.threads if len(thread.operands) == 2}
+        if len(written) == 2:
+            one, other = written.values()
             return f"{self.name} holds {one} or {other}, whoever comes last" if one != other else ""
-        reader = next(thread for thread in self.threads if thread.number not in writes)
-        written = next(iter(writes.values()))
-        return f"{naming.thread(reader.number)} reads {self.holds} or {written}, whoever comes first" if written != self.holds else ""
+        reader = next(number for number in self.numbers if number not in written)
+        after = next(iter(written.values()))
+        return f"{self.naming.thread(reader)} reads {self.holds} or {after}, whoever comes first" if after != self.holds else ""
 
-    def sentence(self, naming):
-        one, other = (f"{naming.thread(thread.number)} {words} (line {line})"
-                      for thread, words, line in zip(self.threads, self.words, self.lines))
-        return f"{one} while {other}"
+
+# ---- What was found
+
+
+def race_told(shown):
+    """The race in words."""
+    clash = Clash(shown)
+    so = clash.outcomes()
+    lines = [
+        "This job can race. " + clash.sentence(),
+        f"  the cell    {clash.name}, made on line {clash.made_line}; it holds {clash.holds} at that moment",
+        f"  the order   {length(shown)}",
+        *([f"  so          {so}"] if so else []), "", *order_told(shown)]
+    lines += [f"{'':>6}  -> {capital(shown.naming.thread(number))} {words} (line {line})."
+              for number, words, line in zip(clash.numbers, clash.words, clash.lines)]
+    idle = shown.idle(clash.numbers)
+    if idle:
+        lines += ["", f"{capital(listed(idle))} {'takes' if len(idle) == 1 else 'take'} no step in it."]
+    return lines
+
+
+def order_told(shown):
+    """The steps of an order, a paragraph for each stretch of one thread."""
+    lines, last = [], None
+    for number, one in enumerate(shown.steps, 1):
+        if one.thread != last:
+            lines.append(f"{capital(shown.naming.thread(one.thread))}:")
+            last = one.thread
+        if one.point.word not in SILENT:
+            lines.append(f"{number:>6}  line {one.point.line:<3}  {step_words(one, shown.naming)}")
+    return lines
+
+
+def halt_told(shown):
+    """A thread that is stuck at a word of the wrong kind."""
+    machine, naming = shown.machine, shown.naming
+    thread = next(thread for thread in shown.state.threads if machine.standing(shown.state, thread) == ODD)
+    point = machine.points[thread.point]
+    return [
+        f"A thread of this job can get stuck. {capital(naming.thread(thread.number))} is at `{point.word}` (line {point.line}),"
+        f" which cannot go on with {naming.noun(thread.operands[0])}.",
+        "  this is no race; but no pair for such a job is accepted",
+        f"  the order   {length(shown)}", "", *order_told(shown)]
+
+
+def wait_told(shown):
+    """All threads that wait for one another."""
+    machine, naming = shown.machine, shown.naming
+    waits = []
+    for thread in shown.state.threads:
+        if machine.standing(shown.state, thread) == WAITS:
+            waits.append(f"        -> {capital(naming.thread(thread.number))} {wait_words(machine, thread, naming)}"
+                         f" (line {machine.points[thread.point].line}).")
+    return [
+        "There is an order in which every thread that has not finished waits in the end, for ever.",
+        "  this is no race, and no reason for a refusal: accepted jobs may wait so too",
+        f"  the order   {length(shown)}", "", *order_told(shown), *waits]
+
+
+def length(shown):
+    return f"{counted(len(shown.order), 'step')}, {counted(shown.switches(), 'switch')} of thread"
+
+
+# ---- What was searched
+
+
+def searched(found):
+    """How far a search went that met no race."""
+    took = f"{counted(found.states, 'state')}, {found.seconds:.1f} seconds"
+    if found.whole():
+        stuck = "" if found.odd is not None else " or to a thread stuck at a word of the wrong kind"
+        return [f"No order of moves leads to a race{stuck}: all of them were searched, loops of any number of rounds"
+                f" included ({took}). The search is not proved; an accepted pair would be proof."]
+    bound = "it came to its limits" if found.limited else f"orders go past {PLENTY.threads} threads or {PLENTY.things} things of a kind"
+    lines = [f"No race was found, and that proves nothing: not all orders were searched, since {bound} ({took})."]
+    if found.switches and not found.cut:
+        lines.append(f"Every order with fewer than {counted(found.switches, 'switch')} of thread was searched.")
+    return lines
+
+
+def past_room():
+    """An order that racereplay has no room for."""
+    return [f"The search met something past what racereplay runs, which is {ROOM.threads} threads and {ROOM.things} things of a"
+            " kind. So nothing confirms it, and it is not told."]
+
+
+def alarm(objection):
+    """What is said when racereplay does not bear out the search: loudly, since one of them is wrong."""
+    return [f"*** DISAGREEMENT: {objection}. ***",
+            "*** Trust neither; hand program.txt and the order to the owners of racecheck. ***"]
 
 
 def counted(number, what):
     return f"{grouped(number)} {what}" + ("" if number == 1 else "es" if what.endswith("ch") else "s")
 
 
-def race_told(machine, told, order, naming):
-    """The race in words."""
-    clash = Clash(machine, told, naming)
-    lines = [
-        "This job can race. " + _capital(clash.sentence(naming)) + ".",
-        f"  the cell    {clash.name}, made on line {clash.made_line}; it holds {clash.holds} at that moment",
-        f"  the order   {counted(len(order), 'step')}, {counted(switches_in(order), 'switch')} of thread",
-        *([f"  so          {clash.outcomes}"] if clash.outcomes else []), "", *order_told(told, naming)]
-    lines += [f"{'':>6}  -> {_capital(naming.thread(thread.number))} {words} (line {line})."
-              for thread, words, line in zip(clash.threads, clash.words, clash.lines)]
-    idle = [naming.thread(number) for number in naming.thread_line
-            if number not in {number for number, _ in order} and number not in {thread.number for thread in clash.threads}]
-    if idle:
-        lines += ["", f"{_capital(listed(idle))} {'takes' if len(idle) == 1 else 'take'} no step in it."]
-    return lines
-
-
-def order_told(told, naming):
-    """The steps of an order, a paragraph for each stretch of one thread."""
-    lines, last = [], None
-    for number, one in enumerate(told, 1):
-        if one.thread != last:
-            lines.append(f"{_capital(naming.thread(one.thread))}:")
-            last = one.thread
-        if one.point.word not in SILENT:
-            lines.append(f"{number:>6}  line {one.point.line:<3}  {step_words(one, naming)}")
-    return lines
-
-
-def halt_told(machine, told, order, naming):
-    """A thread that is stuck at a word of the wrong kind."""
-    state = last_state(machine, told)
-    thread = next(thread for thread in state.threads if machine.standing(state, thread) == ODD)
-    point = machine.points[thread.point]
-    return [
-        f"A thread of this job can get stuck: {naming.thread(thread.number)} is at `{point.word}` on line {point.line},"
-        f" which cannot go on with {naming.noun(thread.operands[0])}.",
-        f"  the order   {counted(len(order), 'step')}, {counted(switches_in(order), 'switch')} of thread", "",
-        *order_told(told, naming)]
-
-
-def wait_told(machine, told, order, naming):
-    """All threads that wait for one another."""
-    state = last_state(machine, told)
-    waits = []
-    for thread in state.threads:
-        if machine.standing(state, thread) == WAITS:
-            point = machine.points[thread.point]
-            waits.append(f"  {naming.thread(thread.number)} at `{point.word}` of {naming.thing(thread.operands[0])} (line {point.line})")
-    return [
-        f"By the way: after {counted(len(order), 'step')} every thread that has not finished can be waiting, for ever:", *waits,
-        "That is no race and no reason for a refusal: accepted jobs may wait so too."]
-
-
-def searched(found):
-    """How far the search went."""
-    took = f"{counted(found.states, 'state')}, {found.seconds:.1f} seconds"
-    if found.whole:
-        return ["No order of moves leads to a race: all of them were searched, loops of any number of rounds included"
-                f" ({took}). This search is not proved; only an accepted pair is proof."]
-    why = "orders were left where they have too many threads or things" if found.cut else "it came to its limit"
-    told = ["No race was found, and that proves nothing: the search did not end, " + why + f" ({took})."]
-    if not found.cut and found.switches:
-        told.append(f"Every order with fewer than {counted(found.switches, 'switch')} of thread was searched.")
-    return told
-
-
-def _capital(words):
+def capital(words):
     return words[:1].upper() + words[1:]

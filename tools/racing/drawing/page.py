@@ -5,29 +5,28 @@ from pathlib import Path
 
 from explaining.drawing.page import STYLE
 
-from ..search import switches_in
-from ..telling import counted
+from ..confirming import race_lines
+from ..telling import length
 from .picture import Picture
 
 OWN_STYLE = Path(__file__).with_name("style.css").read_text(encoding="utf-8")
 
 
-def write(file, title, answer, shown, confirmed):
+def write(file, title, shown, borne_out):
     with open(file, "w", encoding="utf-8", errors="replace") as out:
-        out.write(text(title, answer, shown, confirmed))
+        out.write(text(title, shown, borne_out))
 
 
-def text(title, answer, shown, confirmed):
+def text(title, shown, borne_out):
     picture = Picture(shown)
-    sentence = picture.clash.sentence(shown.naming)
     return "\n".join([
         "<!DOCTYPE html>", '<html lang="en">', "<head>", '<meta charset="utf-8"/>',
         '<meta name="viewport" content="width=device-width"/>', f"<title>{escape(title)}: a race</title>",
         f"<style>{STYLE}\n{OWN_STYLE}\n{_paper(picture)}</style>", "</head>", "<body>",
-        "<header>", f'<div><h1>{escape(title)}</h1><p class="meaning">{escape(sentence[:1].upper() + sentence[1:])}.</p></div>',
-        f'<div><div class="badge refused">RACES</div><div class="answer">{escape(answer)}</div></div>', "</header>",
+        "<header>", f'<div><h1>{escape(title)}</h1><p class="meaning">{escape(picture.clash.sentence())}</p></div>',
+        f'<div><div class="badge refused">RACES</div><div class="answer">{race_lines(shown)[0][1]}</div></div>', "</header>",
         *_facts(shown, picture), *_legend(), f"<figure>{picture.svg()}</figure>", *_trace(shown.order),
-        f"<footer>{escape(confirmed)} The order was found by tools/show-race, which judges nothing: the answer is racecheck's."
+        f"<footer>{escape(borne_out)} The order was found by tools/show-race, which judges nothing itself."
         "</footer>", "</body>", "</html>", ""])
 
 
@@ -39,16 +38,14 @@ def _paper(picture):
 
 
 def _facts(shown, picture):
-    clash, naming = picture.clash, shown.naming
-    moving = {number for number, _ in shown.order} | {thread.number for thread in clash.threads}
-    idle = [naming.thread(number) for number in naming.thread_line if number not in moving]
+    clash = picture.clash
+    idle, so = shown.idle(clash.numbers), clash.outcomes()
     facts = [
         ("the cell", f"{clash.name}, made on line {clash.made_line} of program.txt; it holds {clash.holds} at that moment"),
-        ("the order", f"{counted(len(shown.order), 'step')} with {counted(switches_in(shown.order), 'switch')} of thread;"
-                      " none with fewer switches was found"),
+        ("the order", f"{length(shown)}; no race comes with fewer switches"),
     ]
-    if clash.outcomes:
-        facts.append(("what follows", clash.outcomes))
+    if so:
+        facts.append(("what follows", so))
     if idle:
         facts.append(("not shown", f"{', '.join(idle)}: started, and takes no step here"))
     return ['<dl class="facts">', *(f"<dt>{escape(name)}</dt><dd>{escape(words)}</dd>" for name, words in facts), "</dl>"]

@@ -4,10 +4,9 @@ from typing import NamedTuple
 
 from explaining.drawing.picture import THREADS
 
-from ..machine import CELL, LOCK, SEM, kind
-from ..orders import last_state
+from ..machine import CELL, LOCK, SEM, WAITS, kind
 from ..program import FINISHED
-from ..telling import Clash, elsewhere
+from ..telling import Clash, wait_words
 from .rows import columns_of, rows_of, standing
 
 STEP, LETTER, BOLD = 17, 6.3, 7.1  # a line of text, and generous widths of a letter of 13 pixels
@@ -52,17 +51,17 @@ def text(kind_of, x, y, words, anchor="start", fill=None):
 class Picture:
     def __init__(self, shown):
         self.naming = shown.naming
-        self.clash = Clash(shown.machine, shown.told, shown.naming)
-        self.rows = rows_of(shown.told, shown.naming)
-        racing = [thread.number for thread in self.clash.threads]
+        self.clash = Clash(shown)
+        self.rows = rows_of(shown.steps, shown.naming)
+        racing = self.clash.numbers
         self.threads = sorted({row.thread for row in self.rows} | set(racing))
         self.things = columns_of(self.rows, self.clash.cell)[:MOST_THINGS]
         self.column = next(width for count, width in WIDTHS if len(self.threads) <= count)
         self.things_x = LEFT + len(self.threads) * (self.column + GAP) + GAP
         self.width = self.things_x + len(self.things) * (THING + THING_GAP) + 8
-        state = last_state(shown.machine, shown.told)
+        state = shown.state
         self.others = {
-            thread.number: elsewhere(shown.machine, state, thread, self.naming) for thread in state.threads
+            thread.number: _elsewhere(shown, thread) for thread in state.threads
             if thread.point != FINISHED and thread.number in self.threads and thread.number not in racing}
         self._lay()
 
@@ -102,7 +101,7 @@ class Picture:
 
     def svg(self):
         pieces = [
-            f'<svg viewBox="0 0 {self.width:.0f} {self.height:.0f}" role="img" aria-label="{escape(self.clash.sentence(self.naming))}">',
+            f'<svg viewBox="0 0 {self.width:.0f} {self.height:.0f}" role="img" aria-label="{escape(self.clash.sentence())}">',
             *self._heads(), *self._lifelines(), *self._things(), *self._stretches(), *self._switches(), *self._clash(), "</svg>"]
         return "\n".join(pieces)
 
@@ -264,3 +263,11 @@ class Picture:
             text("race", cell_x + THING / 2, level + 1, "RACE", "middle"),
             text("race-on", cell_x + THING / 2, level + 18, wrapped(f"on {self.clash.name}", THING - 6, BOLD)[0], "middle")]
         return pieces
+
+
+def _elsewhere(shown, thread):
+    """Where a thread is in the end that has not finished and is not in the race."""
+    line = shown.machine.points[thread.point].line
+    if shown.machine.standing(shown.state, thread) == WAITS:
+        return f"{wait_words(shown.machine, thread, shown.naming)}, line {line}"
+    return f"can go on, line {line}"
