@@ -48,9 +48,13 @@ class Naming:
         return called if like.index(value) == 0 else f"{called} ({ordinal(like.index(value))})"
 
     def _called(self, line, value):
-        if line in self._bound:
+        if self.is_bound(line):
             return self.names.variable(self._bound[line])
         return f"{NOUNS[kind(value)].split(' ', 1)[1]} of line {line}"
+
+    def is_bound(self, line):
+        """Whether a let binds what is made on a line."""
+        return line in self._bound
 
     def noun(self, value):
         return NOUNS[kind(value)]
@@ -61,5 +65,6 @@ def made_by(one):
     word, before = one.point.word, one.before
     if word == "ref":
         return CELL * KIND + len(before.cells)
-    counts = {"newtid": before.identifiers, "newlock": len(before.locks), "newsem": len(before.sems), "newrwlock": len(before.rwlocks)}
+    counts = {"newtid": before.identifiers, "newlock": len(before.locks), "newsem": len(before.sems),
+              "newrwlock": len(before.rwlocks)}
     return MAKES[word] * KIND + counts[word] if word in MAKES else None

@@ -5,7 +5,7 @@ from .machine import DONE, ODD, READY, WAITS
 from .search import switches_in
 
 # How many steps are run to make an order shorter. What there is then will do, and is the same on every machine.
-MOST_STEPS = 400_000
+MOST_STEPS = 200_000
 
 
 class Happening(NamedTuple):
@@ -77,7 +77,7 @@ def first_shown(machine, order, shows):
 
 
 def shortened(machine, order, shows):
-    """An order that shows the same with no more switches and no more steps: stretches of a thread's moves left out, blocks joined."""
+    """An order that shows the same with no more switches and no more steps: stretches of moves left out, blocks joined."""
     best, left = first_shown(machine, order, shows), MOST_STEPS
     while True:
         for candidate in _candidates(_by_birth(machine, best)):

@@ -1,7 +1,11 @@
 """An order that was found, made short, with what is told of it: its steps, its last state, its names."""
+from explaining.showing import listed
+
 from .naming import Naming
 from .orders import happenings, shortened
 from .search import switches_in
+
+MOST_NAMES = 5  # in a row
 
 
 class Shown:
@@ -16,9 +20,12 @@ class Shown:
         return switches_in(self.order)
 
     def idle(self, wanted):
-        """The names of the threads that are started and take no step, save those that are wanted."""
+        """Which threads are started and take no step, save those that are wanted; empty if there are none."""
         moving = {number for number, _ in self.order} | set(wanted)
-        return [self.naming.thread(number) for number in self.naming.thread_line if number not in moving]
+        names = [self.naming.thread(number) for number in self.naming.thread_line if number not in moving]
+        if len(names) > MOST_NAMES:
+            return f"{len(names)} other threads take no step"
+        return f"{listed(names)} {'takes' if len(names) == 1 else 'take'} no step" if names else ""
 
     def unable(self):
         """The numbers of the threads that have not finished and can take no step now."""

@@ -1,120 +1,107 @@
-"""The picture of a race: threads across, time down, each switch an arrow, and beside them what the cells and locks hold."""
+"""The picture of an order: each stretch of a thread a box, each switch an arrow, beside them what the cells and locks hold."""
 from html import escape
 from typing import NamedTuple
 
 from explaining.drawing.picture import THREADS
 
-from ..machine import CELL, LOCK, SEM, WAITS, kind
-from ..program import FINISHED
-from ..telling import Clash, wait_words
-from .rows import columns_of, rows_of, standing
+from ..machine import CELL, LOCK, SEM, kind
+from .layout import BOLD, NUMBER, PAD, STEP, SWITCH, THING, Layout, wrapped
 
-STEP, LETTER, BOLD = 17, 6.3, 7.1  # a line of text, and generous widths of a letter of 13 pixels
-HEAD, SWITCH, CLASH_GAP, FOOT = 62, 34, 40, 16
-LEFT, GAP, PAD = 14, 22, 12
-NUMBER = 26  # room for a program line's number
-WIDTHS = [(2, 270), (3, 230), (4, 204), (5, 190), (16, 168)]
-THING, THING_GAP, MOST_THINGS = 92, 14, 6
+STRIP = 46  # the heads above each part
+# How high the picture may be, for its width, to fit on one upright sheet; how high the first of several parts and the others.
+WHOLE, FIRST_PART, NEXT_PART = 1.35, 1.05, 1.3
 
 
-class Laid(NamedTuple):
-    """A row with its place."""
+class Piece(NamedTuple):
+    """A piece of the picture, with the heights that it reaches."""
 
-    row: object
-    texts: list  # (program line or None, words)
     top: float
     bottom: float
-    first: bool  # of its stretch
+    markup: str
+    whole: bool = False  # it is drawn only where it fits
+
+    def is_in(self, top, bottom):
+        if self.whole:
+            return top <= self.top and self.bottom <= bottom
+        return self.bottom >= top and self.top <= bottom
 
 
 def colour(number):
     return THREADS[number % len(THREADS)]
 
 
-def wrapped(words, room, letter=LETTER):
-    """Words on lines of at most so many pixels. A word that is too long is cut."""
-    most, lines = max(6, int(room / letter)), [""]
-    for word in words.split(" "):
-        word = word if len(word) <= most else word[:most - 1] + "…"
-        if lines[-1] and len(lines[-1]) + 1 + len(word) > most:
-            lines.append(word)
-        else:
-            lines[-1] = f"{lines[-1]} {word}".strip()
-    return lines
+# ---- Pieces
 
 
 def text(kind_of, x, y, words, anchor="start", fill=None):
     colouring = f' style="fill:{fill}"' if fill else ""
-    return f'<text class="{kind_of}" x="{x:.1f}" y="{y:.1f}" text-anchor="{anchor}"{colouring}>{escape(words)}</text>'
+    markup = f'<text class="{kind_of}" x="{x:.1f}" y="{y:.1f}" text-anchor="{anchor}"{colouring}>{escape(words)}</text>'
+    return Piece(y - 10, y + 3, markup, True)
+
+
+def box(how, x, top, width, bottom, round_by=6):
+    """A rectangle; `how` has its look."""
+    size = f'width="{width:.1f}" height="{bottom - top:.1f}" rx="{round_by}"'
+    return Piece(top, bottom, f'<rect {how} x="{x:.1f}" y="{top:.1f}" {size}/>')
+
+
+def across(how, start, end, y):
+    return Piece(y, y, f'<path {how} d="M{start:.1f} {y:.1f}H{end:.1f}"/>')
+
+
+def down(how, x, top, bottom):
+    return Piece(top, bottom, f'<path {how} d="M{x:.1f} {top:.1f}V{bottom:.1f}"/>')
+
+
+def dot(how, x, y, radius):
+    return Piece(y, y, f'<circle {how} cx="{x:.1f}" cy="{y:.1f}" r="{radius}"/>')
 
 
 class Picture:
-    def __init__(self, shown):
-        self.naming = shown.naming
-        self.clash = Clash(shown)
-        self.rows = rows_of(shown.steps, shown.naming)
-        racing = self.clash.numbers
-        self.threads = sorted({row.thread for row in self.rows} | set(racing))
-        self.things = columns_of(self.rows, self.clash.cell)[:MOST_THINGS]
-        self.column = next(width for count, width in WIDTHS if len(self.threads) <= count)
-        self.things_x = LEFT + len(self.threads) * (self.column + GAP) + GAP
-        self.width = self.things_x + len(self.things) * (THING + THING_GAP) + 8
-        state = shown.state
-        self.others = {
-            thread.number: _elsewhere(shown, thread) for thread in state.threads
-            if thread.point != FINISHED and thread.number in self.threads and thread.number not in racing}
-        self._lay()
-
-    # ---- Places
-
-    def x(self, thread):
-        return LEFT + self.threads.index(thread) * (self.column + GAP)
-
-    def middle(self, thread):
-        return self.x(thread) + self.column / 2
-
-    def thing_x(self, value):
-        return self.things_x + self.things.index(value) * (THING + THING_GAP)
+    def __init__(self, shown, ending):
+        self.layout, self.ending, self.naming = Layout(shown, ending), ending, shown.naming
+        self.width, self.height = self.layout.width, self.layout.height
 
     def colour(self, thread):
         return colour(self.naming.thread_colour(thread))
 
-    def _lay(self):
-        self.laid, y, last = [], HEAD, None
-        for row in self.rows:
-            first = row.thread != last
-            if first:
-                y += SWITCH if last is not None else 8
-            texts = []
-            for line, words in row.lines:
-                pieces = wrapped(words, self.column - 2 * PAD - NUMBER)
-                texts += [(line if at == 0 else None, piece) for at, piece in enumerate(pieces)]
-            bottom = y + len(texts) * STEP + 6
-            self.laid.append(Laid(row, texts, y, bottom, first))
-            y, last = bottom, row.thread
-        self.clash_top = y + CLASH_GAP
-        self.clash_texts = [wrapped(words, self.column - 2 * PAD, BOLD) for words in self.clash.words]
-        self.clash_bottom = self.clash_top + 2 * STEP + max(2, *map(len, self.clash_texts)) * STEP + 4
-        self.height = self.clash_bottom + FOOT
-
     # ---- The whole
 
-    def svg(self):
-        pieces = [
-            f'<svg viewBox="0 0 {self.width:.0f} {self.height:.0f}" role="img" aria-label="{escape(self.clash.sentence())}">',
-            *self._heads(), *self._lifelines(), *self._things(), *self._stretches(), *self._switches(), *self._clash(), "</svg>"]
-        return "\n".join(pieces)
+    def svgs(self):
+        """The picture, in parts if it does not fit on one sheet; each has the heads above it."""
+        pieces = [*self._things(), *self._lifelines(), *self._stretches(), *self._waits(), *self._switches(), *self._end()]
+        windows = self._windows()
+        return [self._part(pieces, at, top, bottom) for at, (top, bottom) in enumerate(zip(windows, windows[1:]))]
+
+    def _part(self, pieces, at, top, bottom):
+        label = escape(self.ending.sentence() if at == 0 else "the picture goes on")
+        width, height = f"{self.width:.0f}", f"{bottom - top:.0f}"
+        return "\n".join([
+            f'<svg viewBox="0 0 {width} {STRIP + bottom - top:.0f}" role="img" aria-label="{label}"'
+            f' style="min-width:{0.7 * self.width:.0f}px;max-width:{1.3 * self.width:.0f}px">',
+            f'<svg y="{STRIP}" width="{width}" height="{height}" viewBox="0 {top:.0f} {width} {height}">',
+            *(piece.markup for piece in pieces if piece.is_in(top, bottom)), "</svg>",
+            *(piece.markup for piece in self._heads()), "</svg>"])
+
+    def _windows(self):
+        """The heights between which the parts are, each cut above a row."""
+        cuts, most = [STRIP], self.height if self.height <= WHOLE * self.width else FIRST_PART * self.width
+        for before, laid in zip(self.layout.laid, [*self.layout.laid[1:], None]):
+            end = self.layout.height if laid is None else laid.bottom
+            if end - cuts[-1] > most and before.bottom > cuts[-1] + STEP:
+                cuts.append(before.bottom + 1)
+                most = NEXT_PART * self.width
+        return [*cuts, self.height]
 
     def _heads(self):
         pieces = []
-        for thread in self.threads:
-            x, name = self.x(thread), wrapped(self.naming.thread(thread), self.column - 20, 8.2)[0]
+        for thread in self.layout.threads:
+            x, name = self.layout.x(thread), wrapped(self.naming.thread(thread), self.layout.column - 20, 8.2)[0]
             pieces += [
-                f'<rect x="{x}" y="8" width="{self.column}" height="34" rx="6" fill="{self.colour(thread)}"/>',
-                text("head", x + self.column / 2, 31, name, "middle")]
-        for value in self.things:
-            x = self.thing_x(value)
-            name = wrapped(self.naming.thing(value), THING, BOLD)
+                box(f'fill="{self.colour(thread)}"', x, 8, self.layout.column, 42),
+                text("head", x + self.layout.column / 2, 31, name, "middle")]
+        for value in self.layout.things:
+            x, name = self.layout.thing_x(value), wrapped(self.naming.thing(value), THING, BOLD)
             top = 22 if len(name) > 1 else 31
             pieces += [text("thing", x + THING / 2, top + at * 15, piece, "middle") for at, piece in enumerate(name[:2])]
         return pieces
@@ -123,48 +110,29 @@ class Picture:
 
     def _lifelines(self):
         pieces = []
-        for thread in self.threads:
-            begun, by = self._begun(thread)
-            done = next((laid.bottom for laid in self.laid if laid.row.thread == thread and laid.row.finished), None)
-            x, end = self.middle(thread), done or self.clash_top - (2 if thread in self.others else 0)
-            pieces.append(
-                f'<line class="life" x1="{x}" x2="{x}" y1="{begun:.1f}" y2="{end:.1f}" stroke="{self.colour(thread)}"/>')
+        for thread in self.layout.threads:
+            (begun, by), done = self.layout.begun(thread), self.layout.finished(thread)
+            x, ink = self.layout.middle(thread), f'stroke="{self.colour(thread)}"'
+            pieces.append(down(f'class="life" {ink}', x, begun, done or self.layout.end_top - 2))
             if done:
-                pieces.append(
-                    f'<line class="ended" x1="{x - 22}" x2="{x + 22}" y1="{done + 5:.1f}" y2="{done + 5:.1f}"'
-                    f' stroke="{self.colour(thread)}"/>')
-                pieces.append(text("note", x - 28, done + 12, "finished", "end"))
+                pieces += [
+                    across(f'class="ended" {ink}', x - 22, x + 22, done + 5), text("note", x - 28, done + 12, "finished", "end")]
             if by is not None:
-                start = self.x(by) + self.column if self.x(by) < self.x(thread) else self.x(by)
-                pieces.append(
-                    f'<path class="spawn" d="M{start:.1f} {begun:.1f}H{x:.1f}" stroke="{self.colour(thread)}"/>')
-                pieces.append(f'<circle cx="{x}" cy="{begun:.1f}" r="5" fill="{self.colour(thread)}"/>')
+                start = self.layout.x(by) + (self.layout.column if self.layout.x(by) < x else 0)
+                pieces += [across(f'class="spawn" {ink}', start, x, begun), dot(f'fill="{self.colour(thread)}"', x, begun, 5)]
         return pieces
-
-    def _begun(self, thread):
-        """Where a thread's line begins, and who starts it."""
-        for laid in self.laid:
-            if thread in laid.row.started:
-                return laid.top + STEP * 0.75, laid.row.thread
-        return HEAD - 12, None
 
     def _stretches(self):
         """A box for each stretch of steps of one thread, its steps in it."""
-        pieces, at = [], 0
-        while at < len(self.laid):
-            end = at + 1
-            while end < len(self.laid) and not self.laid[end].first:
-                end += 1
-            first, last, thread = self.laid[at], self.laid[end - 1], self.laid[at].row.thread
-            x, ink = self.x(thread), self.colour(thread)
+        pieces = []
+        for stretch in self.layout.stretches():
+            thread = stretch[0].row.thread
+            x, ink, top, bottom = self.layout.x(thread), self.colour(thread), stretch[0].top - 4, stretch[-1].bottom + 2
             pieces += [
-                f'<rect class="stretch" x="{x}" y="{first.top - 4:.1f}" width="{self.column}" height="{last.bottom - first.top + 6:.1f}"'
-                f' rx="6"/>',
-                f'<rect x="{x}" y="{first.top - 4:.1f}" width="{self.column}" height="{last.bottom - first.top + 6:.1f}" rx="6"'
-                f' fill="{ink}" fill-opacity="0.10" stroke="{ink}" stroke-width="1.6"/>']
-            for laid in self.laid[at:end]:
+                box('class="stretch"', x, top, self.layout.column, bottom),
+                box(f'fill="{ink}" fill-opacity="0.10" stroke="{ink}" stroke-width="1.6"', x, top, self.layout.column, bottom)]
+            for laid in stretch:
                 pieces += self._steps(laid, x)
-            at = end
         return pieces
 
     def _steps(self, laid, x):
@@ -176,98 +144,84 @@ class Picture:
             pieces.append(text("step", x + PAD + NUMBER, y, words))
         return pieces
 
+    def _waits(self):
+        """A striped bar wherever a thread waits while others go on, with what it waits for."""
+        pieces = []
+        for thread in self.layout.threads:
+            x = self.layout.middle(thread)
+            for span in self.layout.waits(thread):
+                top, bottom = span.top - 4, span.bottom + 2
+                pieces.append(box(f'class="waits" stroke="{self.colour(thread)}"', x - 5, top, 10, bottom, 5))
+                texts = wrapped(span.words, self.layout.column / 2 - 14)[:int((bottom - top) // 15)]
+                pieces += [text("waiting", x + 10, top + 13 + at * 15, piece) for at, piece in enumerate(texts)]
+        return pieces
+
     def _switches(self):
         """An arrow from the end of each stretch to the next."""
-        pieces, count = [], 0
-        for before, after in zip(self.laid, self.laid[1:]):
-            if after.first:
-                count += 1
-                one, other = self.middle(before.row.thread), self.middle(after.row.thread)
-                level = before.bottom + 2 + (SWITCH - 6) / 2
-                pieces.append(
-                    f'<path class="switch" d="M{one} {before.bottom + 2:.1f}V{level:.1f}H{other}V{after.top - 12:.1f}"/>'
-                    f'<path class="tip" d="M{other - 6} {after.top - 13:.1f}h12l-6 8z"/>')
-                side = (one + other) / 2
-                pieces.append(f'<rect class="plate" x="{side - 33:.1f}" y="{level - 9:.1f}" width="66" height="18" rx="9"/>')
-                pieces.append(text("plate", side, level + 4, f"switch {count}", "middle"))
+        pieces, stretches = [], self.layout.stretches()
+        for count, (before, after) in enumerate(zip(stretches, stretches[1:]), 1):
+            one, other = (self.layout.middle(stretch[0].row.thread) for stretch in (before, after))
+            top, tip = before[-1].bottom + 2, after[0].top
+            level, side = top + (SWITCH - 6) / 2, (one + other) / 2
+            pieces += [
+                Piece(top, tip, f'<path class="switch" d="M{one:.1f} {top:.1f}V{level:.1f}H{other:.1f}V{tip - 12:.1f}"/>'
+                                f'<path class="tip" d="M{other - 6:.1f} {tip - 13:.1f}h12l-6 8z"/>'),
+                box('class="plate"', side - 33, level - 9, 66, level + 9, 9),
+                text("plate", side, level + 4, f"switch {count}", "middle")]
         return pieces
 
     # ---- Things
 
     def _things(self):
         pieces = []
-        for value in self.things:
-            x = self.thing_x(value)
-            spans = self._spans(value)
-            for span, (words, top, taker) in enumerate(spans):
-                bottom = spans[span + 1][1] if span + 1 < len(spans) else self.clash_bottom
-                pieces += self._span(value, x, top, bottom, words, taker)
-            for laid in self.laid:
+        for value in self.layout.things:
+            x = self.layout.thing_x(value)
+            for span in self.layout.holdings(value):
+                pieces += self._holding(value, x, span)
+            for laid in self.layout.laid:
                 how = laid.row.touched.get(value)
                 if how in ("read", "write"):
-                    ink = self.colour(laid.row.thread)
-                    y, inside = laid.top + STEP * 0.65, ink if how == "write" else "#fff"
-                    pieces.append(
-                        f'<path class="reach" d="M{self.x(laid.row.thread) + self.column} {y:.1f}H{x:.1f}" stroke="{ink}"/>')
-                    pieces.append(
-                        f'<circle cx="{x:.1f}" cy="{y:.1f}" r="6" stroke="{ink}" stroke-width="2" fill="{inside}"/>')
+                    ink, y = self.colour(laid.row.thread), laid.top + STEP * 0.65
+                    start = self.layout.x(laid.row.thread) + self.layout.column
+                    pieces += [
+                        across(f'class="reach" stroke="{ink}"', start, x, y),
+                        dot(f'stroke="{ink}" stroke-width="2" fill="{ink if how == "write" else "#fff"}"', x, y, 6)]
         return pieces
 
-    def _spans(self, value):
-        """What a thing is like, from where, and who changed it."""
-        spans = []
-        for laid in self.laid:
-            words = standing(laid.row.state, value, self.naming)
-            if words is not None and (not spans or spans[-1][0] != words or laid.row.touched.get(value) == "write"):
-                spans.append((words, laid.top, laid.row.thread))
-        return spans
-
-    def _span(self, value, x, top, bottom, words, taker):
-        taken = kind(value) == LOCK and words == "taken" or words == "writing" and kind(value) != CELL
-        ink = self.colour(taker)
-        fill = f'fill="{ink}" fill-opacity="0.85"' if taken else 'class="holds"'
-        label = wrapped(f"{words} by {self.naming.thread(taker)}" if taken else words, THING - 8, BOLD)
-        pieces = [f'<rect {fill} x="{x}" y="{top:.1f}" width="{THING}" height="{bottom - top:.1f}"/>']
-        shown = label[:max(1, int((bottom - top) // STEP))]
+    def _holding(self, value, x, span):
+        """What a thing is like for a while; a lock that is taken has the colour of its taker."""
+        taken = kind(value) == LOCK and span.words == "taken" or kind(value) not in (CELL, SEM) and span.words == "writing"
+        words = f"{span.words} by {self.naming.thread(span.thread)}" if taken else span.words
+        look = f'fill="{self.colour(span.thread)}" fill-opacity="0.85"' if taken else 'class="holds"'
         kind_of = "on-taken" if taken else "value" if kind(value) in (CELL, SEM) else "soft"
-        return pieces + [
-            text(kind_of, x + THING / 2, top + 16 + at * 15, piece, "middle") for at, piece in enumerate(shown)]
+        texts = wrapped(words, THING - 8, BOLD)[:max(1, int((span.bottom - span.top) // STEP))]
+        return [box(look, x, span.top, THING, span.bottom, 0),
+                *(text(kind_of, x + THING / 2, span.top + 16 + at * 15, piece, "middle") for at, piece in enumerate(texts))]
 
-    # ---- The race
+    # ---- What it leads to
 
-    def _clash(self):
-        cell_x, top, bottom = self.thing_x(self.clash.cell), self.clash_top, self.clash_bottom
-        level = (top + bottom) / 2
-        left = min(self.x(thread.number) for thread in self.clash.threads)
-        pieces = [
-            f'<rect class="alarm" x="{left - 8:.1f}" y="{top - 12:.1f}" width="{cell_x + THING + 8 - left:.1f}"'
-            f' height="{bottom - top + 24:.1f}" rx="10"/>',
-            f'<path class="collide" d="M{left + self.column:.1f} {level:.1f}H{cell_x - 2:.1f}"/>']
-        for thread, texts, line in zip(self.clash.threads, self.clash_texts, self.clash.lines):
-            x = self.x(thread.number)
+    def _end(self):
+        top, bottom, pieces = self.layout.end_top, self.layout.end_bottom, []
+        if self.ending.cell is not None:
+            pieces += self._meeting(top, bottom)
+        for thread, (texts, line) in self.layout.ends.items():
+            x, marked, ink = self.layout.x(thread), thread in self.ending.numbers, self.colour(thread)
             pieces += [
-                f'<rect class="about" x="{x}" y="{top:.1f}" width="{self.column}" height="{bottom - top:.1f}" rx="6"/>',
-                text("about-name", x + PAD, top + STEP + 2, self.naming.thread(thread.number), fill=self.colour(thread.number))]
-            pieces += [text("about", x + PAD, top + (at + 2) * STEP + 4, piece) for at, piece in enumerate(texts)]
-            pieces.append(text("line", x + self.column - PAD, top + STEP + 2, f"line {line}", "end"))
-        for thread, words in self.others.items():
-            x = self.x(thread)
-            pieces.append(
-                f'<rect class="other" x="{x}" y="{top:.1f}" width="{self.column}" height="{bottom - top:.1f}" rx="6"'
-                f' stroke="{self.colour(thread)}"/>')
-            pieces.append(text("about-name", x + PAD, top + STEP + 2, self.naming.thread(thread), fill=self.colour(thread)))
-            pieces += [text("soft", x + PAD, top + (at + 2) * STEP + 4, piece)
-                       for at, piece in enumerate(wrapped(words, self.column - 2 * PAD)[:2])]
-        pieces += [
-            f'<rect class="burst" x="{cell_x}" y="{top:.1f}" width="{THING}" height="{bottom - top:.1f}" rx="6"/>',
-            text("race", cell_x + THING / 2, level + 1, "RACE", "middle"),
-            text("race-on", cell_x + THING / 2, level + 18, wrapped(f"on {self.clash.name}", THING - 6, BOLD)[0], "middle")]
+                box('class="about"' if marked else f'class="other" stroke="{ink}"', x, top, self.layout.column, bottom),
+                text("about-name", x + PAD, top + STEP + 2, self.naming.thread(thread), fill=ink),
+                text("line", x + self.layout.column - PAD, top + STEP + 2, f"line {line}", "end")]
+            pieces += [
+                text("about" if marked else "soft", x + PAD, top + (at + 2) * STEP + 4, piece) for at, piece in enumerate(texts)]
         return pieces
 
-
-def _elsewhere(shown, thread):
-    """Where a thread is in the end that has not finished and is not in the race."""
-    line = shown.machine.points[thread.point].line
-    if shown.machine.standing(shown.state, thread) == WAITS:
-        return f"{wait_words(shown.machine, thread, shown.naming)}, line {line}"
-    return f"can go on, line {line}"
+    def _meeting(self, top, bottom):
+        """The two threads and the cell that they meet at."""
+        cell_x, level = self.layout.thing_x(self.ending.cell), (top + bottom) / 2
+        left = min(self.layout.x(number) for number in self.ending.numbers)
+        where = wrapped(f"on {self.naming.thing(self.ending.cell)}", THING - 6, BOLD)[0]
+        return [
+            box('class="alarm"', left - 8, top - 12, cell_x + THING + 16 - left, bottom + 12, 10),
+            across('class="collide"', left + self.layout.column, cell_x - 2, level),
+            box('class="burst"', cell_x, top, THING, bottom),
+            text("race", cell_x + THING / 2, level + 1, "RACE", "middle"),
+            text("race-on", cell_x + THING / 2, level + 18, where, "middle")]

@@ -1,9 +1,9 @@
 """The rows of the picture: steps of a run that are worth a line, makings of one thread folded into one."""
 from typing import NamedTuple
 
-from ..machine import CELL, KIND, LOCK, RWLOCK, SEM, TID, kind, name
+from ..machine import CELL, LOCK, RWLOCK, SEM, TID, kind, name
 from ..naming import made_by
-from ..telling import SILENT, step_words
+from ..telling import is_silent, step_words
 
 
 class Row(NamedTuple):
@@ -20,7 +20,7 @@ class Row(NamedTuple):
 def rows_of(told, naming):
     rows = []
     for number, one in enumerate(told, 1):
-        if one.point.word in SILENT:
+        if is_silent(one, naming):
             continue
         made = made_by(one)
         row = _row(number, one, made, naming)
@@ -76,8 +76,8 @@ def standing(state, value, naming):
     return "writing" if lock.writing else f"{lock.reading} reading" if lock.reading else "free"
 
 
-def columns_of(rows, clash_cell):
-    """The things that get a column: the raced cell first, then what is used after its making, in the order of making."""
-    used = {value for row in rows for value, how in row.touched.items() if how != "make"} | {clash_cell}
-    made = [value for row in rows for value, how in row.touched.items() if how == "make" and value // KIND != TID]
-    return [clash_cell] + [value for value in made if value in used and value != clash_cell]
+def columns_of(rows, cell):
+    """The things that get a column: the cell of the race first, then what is used after its making, in the order of making."""
+    used = {value for row in rows for value, how in row.touched.items() if how != "make"}
+    made = [value for row in rows for value, how in row.touched.items() if how == "make" and kind(value) != TID]
+    return [cell] * (cell is not None) + [value for value in made if value in used and value != cell]
