@@ -159,7 +159,7 @@ def race(state):
 
 
 def search(lines, most):
-    """Fewest switches to a race, or None and whether a thread can halt oddly and whether all can wait. Nothing past `most` states."""
+    """Fewest switches to a race, or None; whether a thread can halt oddly; whether all can wait. None past `most` states."""
     heap, turn, seen = [(0, 0, start(lines), None)], 0, set()
     odd, stuck, told = False, False, set()
     while heap:

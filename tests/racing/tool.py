@@ -3,6 +3,7 @@ import os
 import shutil
 import subprocess
 import tempfile
+from collections import Counter
 from pathlib import Path
 
 import known
@@ -19,19 +20,22 @@ def examples():
 
 
 def check_examples():
-    """Every race is found and confirmed in two seconds; every other job shows none, with all orders searched."""
-    races = [folder for folder in examples() if folder.name.endswith("-race")]
-    check("there are examples with races and without", (len(races) > 5, len(examples()) > 2 * len(races)), (True, True))
+    """Every race is found and confirmed in two seconds; every accepted job shows none, with all orders searched."""
+    met = Counter()
     with tempfile.TemporaryDirectory() as scratch:
         for folder in examples():
             trace = Path(scratch) / f"{folder.name}.trace"
-            done = run("--trace", trace, folder)
+            done, answer = run("--trace", trace, folder), written_in("RACECHECK", folder)
             check(f"{folder.name}: nothing on standard error", done.error, "")
             check(f"{folder.name}: within {SECONDS} seconds, not {done.seconds:.1f}", done.seconds < SECONDS, True)
-            if folder in races:
+            races = folder.name.endswith("-race")
+            met[answer == "ACCEPT", races] += 1
+            if races:
                 check_race(folder, trace, done)
             else:
-                check(f"{folder.name}: no race, all searched", (done.status, SEARCHED in done.said), (0, True))
+                check(f"{folder.name}, {answer}: no race, all searched", (done.status, SEARCHED in done.said), (0, True))
+    numbers = met[True, False] > 9, met[False, True] > 7, met[True, True]
+    check("some examples are accepted, some race, none does both", numbers, (True, True, 0))
 
 
 def check_race(folder, trace, done):
@@ -40,16 +44,21 @@ def check_race(folder, trace, done):
     order = order_in(trace)
     replayed = plain.replay(steps_in(folder), order)
     check(f"{folder.name}: the order ends where a race shows first", replayed and replayed[:1] + replayed[1][:1], (len(order),) * 2)
-    line = replay(folder, trace)
+    line = replayed_line(folder, trace)
     check(f"{folder.name}: racereplay's line", line, f"RACE,{len(order)},{len(order)},{replayed[1][1][0]},{replayed[1][1][1]}")
     check(f"{folder.name}: racereplay's line is told", CONFIRMED + line in done.said, True)
 
 
-def replay(folder, trace):
+def replayed_line(folder, trace):
     with tempfile.TemporaryDirectory() as scratch:
         shutil.copy(folder / "program.txt", scratch)
         shutil.copy(trace, Path(scratch) / "trace.txt")
-        done = subprocess.run([os.environ["RACEREPLAY"]], cwd=scratch, stdin=subprocess.DEVNULL, capture_output=True, text=True)
+        return written_in("RACEREPLAY", scratch)
+
+
+def written_in(program, folder):
+    """The line that one of the given programs writes in a folder."""
+    done = subprocess.run([os.environ[program]], cwd=folder, stdin=subprocess.DEVNULL, capture_output=True, text=True)
     return done.stdout.rstrip("\n")
 
 
@@ -73,7 +82,8 @@ def check_lies():
         waits = make_job(Path(scratch) / "job", waiting)
         honest = run("--trace", Path(scratch) / "trace", race).said.split(CONFIRMED)[1].split(".")[0]
         other = ",".join([*honest.split(",")[:-1], "9"])
-        lies = ["RAN,5", "RACE,1,1,0,1", other, "UNREAD", f"{honest},0", "nothing", "REFUSE,47,1,0,0,0", "REFUSE,46,9,0,0,8,RACE,8,0,1"]
+        lies = ["RAN,5", "RACE,1,1,0,1", other, "UNREAD", f"{honest},0", "nothing", "REFUSE,47,1,0,0,0",
+                "REFUSE,46,9,0,0,8,RACE,8,0,1"]
         for number, (folder, lie) in enumerate([(race, lie) for lie in lies] + [(waits, "RAN,9"), (waits, "RACE,1,1,0,1")]):
             liar, page = Path(scratch) / f"liar-{number}", Path(scratch) / f"page-{number}"
             # It judges the program sheet rightly, which has an empty trace beside it.
@@ -125,7 +135,7 @@ def check_bounds():
 def check_halts():
     """A thread stuck at a word of the wrong kind and a wait of all are told, each with its order."""
     with tempfile.TemporaryDirectory() as scratch:
-        for section, status, words in [("ODD", 1, "can get stuck"), ("WAITING", 0, "every thread that has not finished waits")]:
+        for section, status, words in [("ODD", 1, "can get stuck"), ("WAITING", 0, "can wait for ever")]:
             for number, steps in enumerate(known.programs_of(section)[:3]):
                 folder = make_job(Path(scratch) / f"{section}{number}", steps)
                 done = run(folder)
@@ -181,7 +191,16 @@ def check_errors():
             program.write_text(f"#!/bin/sh\n{dead}\n")
             program.chmod(0o755)
             check(f"a racereplay that fails, {dead}", run(join, racereplay=program).status, 2)
+    done = run("--trace", HOUSE / "examples" / "join-race" / "program.txt", HOUSE / "examples" / "join-race")
+    check("a trace over the program", (done.status, "a file of the job" in done.error), (2, True))
     check("show-race --help", run("--help").said.count("usage: show-race"), 1)
+
+
+def check_explain():
+    """tools/explain names the tool where a well-formed pair is refused, and nowhere else."""
+    for name, wanted in [("join-race", True), ("join", False)]:
+        done = subprocess.run([HOUSE / "tools" / "explain", HOUSE / "examples" / name], capture_output=True, text=True)
+        check(f"explain of {name}: names tools/show-race", "tools/show-race" in done.stdout, wanted)
 
 
 def check_tool():
@@ -192,3 +211,4 @@ def check_tool():
     check_halts()
     check_files()
     check_errors()
+    check_explain()

@@ -1,4 +1,4 @@
-"""Finding racecheck, or another program of the house, and running it in a pair's folder, for a bounded time."""
+"""Finding racecheck and running it in a pair's folder, for a bounded time."""
 import os
 import re
 import selectors
@@ -23,7 +23,7 @@ class NotFound(Exception):
 
 
 class Run(NamedTuple):
-    answer: str  # one of the program's forms, or FAILED
+    answer: str  # one of racecheck's three forms, or FAILED
     failure: str  # why it is FAILED
 
     def numbers(self):
@@ -32,23 +32,22 @@ class Run(NamedTuple):
 
 
 def find_racecheck():
-    """The file that RACECHECK names, else the repository's own, else the one on the PATH."""
-    return find("racecheck")
+    return find_program("racecheck")
 
 
-def find(program):
-    """A program of the house, looked for as find_racecheck says, by its own name."""
-    own, variable = Path(__file__).resolve().parents[2] / "target" / "bin" / program, program.upper()
-    chosen = os.environ.get(variable) or (own if os.access(own, os.X_OK) else shutil.which(program))
+def find_program(name):
+    """The file that the variable of that name in capitals names, else the repository's own, else the one on the PATH."""
+    own, variable = Path(__file__).resolve().parents[2] / "target" / "bin" / name, name.upper()
+    chosen = os.environ.get(variable) or (own if os.access(own, os.X_OK) else shutil.which(name))
     if chosen is None:
-        raise NotFound(f"{program} is not built (target/bin/{program}) and not on the PATH; set {variable} to its path")
+        raise NotFound(f"{name} is not built (target/bin/{name}) and not on the PATH; set {variable} to its path")
     if not (os.path.isfile(chosen) and os.access(chosen, os.X_OK)):
-        raise NotFound(f"no {program} that can be run at: {chosen}")
+        raise NotFound(f"no {name} that can be run at: {chosen}")
     return os.path.abspath(chosen)
 
 
-def run_in(binary, folder, form=ANSWER):
-    """A program's answer in a folder, racecheck's if no other form is given. What is not of that form is FAILED, with the reason."""
+def run_in(binary, folder):
+    """racecheck's answer in a folder. What is not one of its answers is FAILED, with the reason."""
     if not os.path.isdir(folder):
         return Run("FAILED", "a link that leads nowhere" if os.path.islink(folder) else "no such folder")
     if not os.access(folder, os.X_OK):
@@ -57,12 +56,12 @@ def run_in(binary, folder, form=ANSWER):
         process = subprocess.Popen(
             [binary], cwd=folder, stdin=subprocess.DEVNULL, stdout=subprocess.PIPE, stderr=subprocess.DEVNULL, bufsize=0)
     except OSError as error:
-        return Run("FAILED", f"{os.path.basename(binary)} could not be started: {error.strerror}")
+        return Run("FAILED", f"racecheck could not be started: {error.strerror}")
     under_way.add(process)
     if ending.is_set():
         process.kill()
     try:
-        return _answer(process, form)
+        return _answer(process)
     finally:
         process.kill()
         process.wait()
@@ -70,7 +69,7 @@ def run_in(binary, folder, form=ANSWER):
         under_way.discard(process)
 
 
-def _answer(process, form):
+def _answer(process):
     until = time.monotonic() + SECONDS
     try:
         written = _written(process, until)
@@ -78,7 +77,7 @@ def _answer(process, form):
     except (TimeoutError, subprocess.TimeoutExpired):
         return Run("FAILED", f"no answer within {SECONDS} seconds")
     line = written.decode("latin-1")
-    if status == 0 and line.endswith("\n") and form.fullmatch(line[:-1]):
+    if status == 0 and line.endswith("\n") and ANSWER.fullmatch(line[:-1]):
         return Run(line[:-1], None)
     first = line.split("\n")[0][:60]
     return Run("FAILED", f"exit status {'none' if status is None else status}, first line {first!r}")

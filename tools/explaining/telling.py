@@ -16,6 +16,8 @@ PLAIN = {
     "post of e1": "e1 leaves",
     "post of e2": "e2 leaves",
 }
+# A refusal does not say which of the two is wrong.
+SHOW_RACE = "Whether the job or its split is at fault: tools/show-race looks for an order in which the job races, and shows it."
 
 
 def told(explanation):
@@ -34,6 +36,8 @@ def told(explanation):
     lines += _titled("What usually helps", explanation.helps)
     if explanation.number in REFUSALS:
         lines += ["", f"Who looks first: {REFUSALS[explanation.number].owner}"]
+    if explanation.number and explanation.sites:
+        lines += ["", SHOW_RACE]
     return lines
 
 

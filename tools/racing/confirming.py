@@ -1,29 +1,39 @@
 """Having racereplay, which is proved, run an order: the search is a guess, the replay is the witness."""
 import re
+import subprocess
 import tempfile
 from pathlib import Path
 
-from explaining.running import find, run_in
+from explaining.running import find_program
 
 from .orders import trace_text
 
+SECONDS = 10
 # Its lines: run without a race, run with one, refused (with a race among the states before, or none), not read.
-FORM = re.compile(r"RAN,[0-9]+|RACE(,[0-9]+){4}|REFUSE(,[0-9]+){2},0,0,[0-9]+(,RACE(,[0-9]+){3})?|UNREAD")
+LINE = re.compile(r"(RAN,[0-9]+|RACE(,[0-9]+){4}|REFUSE(,[0-9]+){2},0,0,[0-9]+(,RACE(,[0-9]+){3})?|UNREAD)\n")
 
 
 class Replay:
     """racereplay on one program sheet."""
 
     def __init__(self, program):
-        self._binary, self._program = find("racereplay"), program
+        self._binary, self._program = find_program("racereplay"), program
 
     def answer(self, order):
         """Its line after an order, or why there is none."""
         with tempfile.TemporaryDirectory() as scratch:
             Path(scratch, "program.txt").write_bytes(self._program)
             Path(scratch, "trace.txt").write_text(trace_text(order), encoding="ascii")
-            run = run_in(self._binary, scratch, FORM)
-        return f"nothing that can be read: {run.failure}" if run.answer == "FAILED" else run.answer
+            try:
+                done = subprocess.run(
+                    [self._binary], cwd=scratch, stdin=subprocess.DEVNULL, stdout=subprocess.PIPE, stderr=subprocess.DEVNULL,
+                    timeout=SECONDS)
+            except subprocess.TimeoutExpired:
+                return f"nothing within {SECONDS} seconds"
+        line = done.stdout.decode("latin-1")
+        if done.returncode == 0 and LINE.fullmatch(line):
+            return line.rstrip("\n")
+        return f"nothing that is one of its lines (exit status {done.returncode}, {line[:60]!r})"
 
     def objection(self, expected):
         """Empty if it gives each of these orders the line beside it, else what it says instead."""
