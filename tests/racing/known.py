@@ -1,33 +1,21 @@
-"""Programs whose fate is known, those of tests/src/steps/programs.rs and some more, through the search of tools/show-race."""
+"""Programs whose fate is known through the search of tools/show-race: those of tests/src/steps/programs.rs, and losses.py."""
 import re
 from pathlib import Path
 
+import losses
+import plain
 from checks import check
 from racing.confirming import halt_lines, race_lines
 from racing.orders import has_odd_halt, has_race, is_stuck
+from racing.search import switches_in
 from searching import objection, searched
 
+MOST = 20_000  # states of a plain search
 LISTS = Path(__file__).resolve().parents[1] / "src" / "steps" / "programs.rs"
-
-# Races that are lost if the first thread takes a step ahead of its turn: a lock, an unlock, a wait, a join, a reading place.
-_CELL = "let,0|ref,0|int,0|"
-RACY = [
-    _CELL + "let,1|newlock,0|let,2|spawn,0|newtid,0|let,3|lock,0|var,1|let,4|unlock,0|var,1|write,0|var,0|int,1|"
-    "let,5|lock,0|var,1|write,0|var,0|int,2",
-    _CELL + "let,1|newlock,0|let,2|spawn,0|newtid,0|let,3|lock,0|var,1|write,0|var,0|int,1|"
-    "let,4|unlock,0|var,1|let,5|lock,0|var,1|write,0|var,0|int,2",
-    _CELL + "let,1|newsem,0|let,2|spawn,0|newtid,0|let,3|wait,0|var,1|let,4|post,0|var,1|write,0|var,0|int,1|"
-    "let,5|post,0|var,1|let,6|wait,0|var,1|write,0|var,0|int,2",
-    _CELL + "let,1|newtid,0|let,2|spawn,0|var,1|int,0|let,3|spawn,0|newtid,0|let,4|join,0|var,1|let,5|spawn,0|var,1|int,0|"
-    "write,0|var,0|int,1|let,6|join,0|var,1|write,0|var,0|int,2",
-    _CELL + "let,1|newrwlock,1|let,2|spawn,0|newtid,0|let,3|wrlock,0|var,1|let,4|wrunlock,0|var,1|write,0|var,0|int,1|"
-    "let,5|rdlock,0|var,1|write,0|var,0|int,2",
-]
 
 
 def programs():
     """(list, steps) of each known program."""
-    yield from (("RACY", steps.split("|")) for steps in RACY)
     text = re.sub(r"\\\n\s*", "", LISTS.read_text())
     for section in re.findall(r"pub const (\w+):.*?= &\[(.*?)\n\];", text, re.S):
         for steps in re.findall(r'"([^"]*,\d[^"]*)"', section[1]):
@@ -50,3 +38,13 @@ def check_known():
             order, shows, told = {"RACY": (found.race, has_race, race_lines), "ODD": (found.odd, has_odd_halt, halt_lines),
                                   "WAITING": (found.stuck, is_stuck, halt_lines)}[section]
             check(f"known program {number}, {section}: as racereplay has it", objection(lines, order, shows, told), "")
+
+
+def check_losses():
+    """Each race that a careless search loses is found, with as few switches as by the plain one."""
+    for what, lines in losses.programs():
+        wanted, found = plain.search(lines, MOST), searched(lines)
+        check(f"{what}: a race is wanted", wanted is not None and wanted[0] is not None, True)
+        check(f"{what}: its fewest switches", found.race and switches_in(found.race), wanted[0])
+        if found.race is not None:
+            check(f"{what}: as racereplay has it", objection(lines, found.race, has_race, race_lines), "")
