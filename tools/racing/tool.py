@@ -98,7 +98,7 @@ class Job:
         written, lines = self.write_trace(shown.order), kind.lines(shown)
         if not ROOM.holds(shown.state):
             say(*telling.past_room(), written)
-            return 4
+            return 4 if kind.status else 0  # that all can wait is no fault, confirmed or not
         objection = self.replay.objection(lines)
         if objection:
             say(*telling.alarm(objection), written)

@@ -33,7 +33,7 @@ def text(title, shown, ending, borne_out):
 
 def _paper(picture, facts):
     """Sheets of A4, whichever way round the picture comes out larger; one sheet has room for so many facts beside it."""
-    way, most = ("landscape", 132) if picture.width > 1.1 * picture.height else ("portrait", 210)
+    way, most = ("landscape", 137) if picture.width > 1.1 * picture.height else ("portrait", 210)
     most = f"max-height: {most - 5 * facts}mm; " if len(picture.svgs()) == 1 else ""
     return f"@page {{ size: A4 {way}; margin: 10mm; }}\n@media print {{ figure > svg {{ {most}}} }}"
 
