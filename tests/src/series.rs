@@ -9,7 +9,7 @@ pub const SEED: u64 = 2008;
 
 /// The two arguments of a command, a count and a seed; `count` where the first is not given.
 pub fn asked(count: u64) -> (u64, u64) {
-    let mut arguments = std::env::args().skip(1).map(|argument| argument.parse::<u64>());
+    let mut arguments = arguments().into_iter().map(|argument| argument.parse::<u64>());
     let count = arguments.next().and_then(Result::ok).unwrap_or(count);
     (count, arguments.next().and_then(Result::ok).unwrap_or(SEED))
 }
@@ -26,12 +26,22 @@ pub fn kept(files: Files, number: u64) -> String {
     }
 }
 
-/// A command `NAME FOLDER COUNT [SEED]`, which makes FOLDER/0, FOLDER/1, .., each with the two files of that number.
-pub fn written<T>(name: &str, drawn: impl Fn(u64, u64) -> T, files: impl Fn(&T) -> Files<'_>) -> ExitCode {
-    let arguments: Vec<String> = std::env::args().skip(1).collect();
+/// The arguments of a command.
+pub fn arguments() -> Vec<String> {
+    std::env::args().skip(1).collect()
+}
+
+/// A command with the arguments `FOLDER COUNT [SEED]` behind its options, which makes FOLDER/0, FOLDER/1, .., each with
+/// the two files of that number.
+pub fn written<T>(
+    command: &str,
+    arguments: &[String],
+    drawn: impl Fn(u64, u64) -> T,
+    files: impl Fn(&T) -> Files<'_>,
+) -> ExitCode {
     let count = arguments.get(1).and_then(|count| count.parse::<u64>().ok());
     let (Some(folder), Some(count)) = (arguments.first(), count) else {
-        eprintln!("usage: {name} FOLDER COUNT [SEED]");
+        eprintln!("usage: {command} FOLDER COUNT [SEED]");
         return ExitCode::FAILURE;
     };
     let seed = arguments.get(2).and_then(|seed| seed.parse().ok()).unwrap_or(SEED);
@@ -39,7 +49,7 @@ pub fn written<T>(name: &str, drawn: impl Fn(u64, u64) -> T, files: impl Fn(&T) 
     match (0..count).try_for_each(|number| write_files(&folder_of(number), files(&drawn(seed, number)))) {
         Ok(()) => ExitCode::SUCCESS,
         Err(error) => {
-            eprintln!("{name}: {error}");
+            eprintln!("not written: {error}");
             ExitCode::FAILURE
         }
     }

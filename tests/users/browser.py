@@ -12,6 +12,7 @@ from checks import check
 
 BROWSERS = ["chromium", "chromium-browser", "google-chrome"]
 VOID = {"meta"}
+PHONE = 500  # the narrowest that the browser opens
 
 # Put into a copy of a page: what it looks like to the browser, as the body's last words.
 MEASURE = """<script>
@@ -19,7 +20,8 @@ const wide = [...document.querySelectorAll("text[data-room]")].filter(t => t.get
 const past = [...document.querySelectorAll("svg, table, p, div")].filter(e => e.getBoundingClientRect().right > innerWidth + 1);
 const seen = {rows: document.querySelectorAll("table.walk tbody tr").length, shares: document.querySelectorAll("rect.share").length,
   refused: document.querySelectorAll("tr.refused").length, wide: wide.map(t => t.textContent), past: past.length,
-  tall: [...document.querySelectorAll("figure svg")].every(s => s.getBoundingClientRect().height > 40)};
+  scrolls: document.documentElement.scrollWidth > innerWidth + 1,
+  tall: [...document.querySelectorAll("figure")].every(f => f.getBoundingClientRect().height > 40)};
 document.body.append(Object.assign(document.createElement("pre"), {id: "seen", textContent: JSON.stringify(seen)}));
 </script></body>"""
 
@@ -86,18 +88,23 @@ def check_page(what, file, steps, browser):
         check_in_browser(what, browser, text, steps)
 
 
-def check_in_browser(what, browser, text, steps):
+def seen_in(browser, text, width, measure=MEASURE):
+    """What a page looks like to a browser of that width, measured in it; None if it does not come out."""
     with tempfile.TemporaryDirectory() as scratch:
         copy = Path(scratch) / "page.html"
-        copy.write_text(text.replace("</body>", MEASURE))
+        copy.write_text(text.replace("</body>", measure))
         command = [
-            browser, "--headless", "--no-sandbox", "--disable-gpu", "--window-size=1240,900", f"--user-data-dir={scratch}/data",
+            browser, "--headless", "--no-sandbox", "--disable-gpu", f"--window-size={width},900", f"--user-data-dir={scratch}/data",
             "--dump-dom", copy.as_uri()]
         done = subprocess.run(command, stdin=subprocess.DEVNULL, capture_output=True, text=True, timeout=60)
     found = re.search(r'<pre id="seen">(.*?)</pre>', done.stdout, re.S)
-    check(f"{what}: comes out in the browser", found is not None, True)
-    if found:
-        refused = int('class="badge refused"' in text)
-        shares = text.count('<rect class="share ')
-        wanted = {"rows": steps, "shares": shares, "refused": refused, "wide": [], "past": 0, "tall": True}
-        check(f"{what}: as it comes out in the browser", json.loads(unescape(found[1])), wanted)
+    return json.loads(unescape(found[1])) if found else None
+
+
+def check_in_browser(what, browser, text, steps):
+    refused = int('class="badge refused"' in text)
+    shares = text.count('<rect class="share ')
+    wanted = {"rows": steps, "shares": shares, "refused": refused, "wide": [], "past": 0, "scrolls": False, "tall": True}
+    check(f"{what}: as it comes out in the browser", seen_in(browser, text, 1240), wanted)
+    phone = seen_in(browser, text, PHONE) or {}
+    check(f"{what}: on a phone", (phone.get("rows"), phone.get("scrolls")), (steps, False))

@@ -23,7 +23,7 @@ def check(what, got, wanted):
         passed += 1
     else:
         failures.append(what)
-        print(f"users: FAILED {what}\n  got    {got!r}\n  wanted {wanted!r}")
+        print(f"FAILED {what}\n  got    {got!r}\n  wanted {wanted!r}", flush=True)
 
 
 def contents(folder):
@@ -46,6 +46,8 @@ def place(path, text):
         path.mkdir()
     elif text == "empty":
         path.write_bytes(b"")
+    elif text == "UTF-16":
+        path.write_text("P,1\nint,0\n", encoding="utf-16")
     elif repeated:
         path.write_bytes(repeated[2].encode() * int(repeated[1]))
     else:

@@ -1,7 +1,9 @@
 """Where check-release is tried: releases made for it, the reports that it should write, and a scratch folder to run it in."""
+import hashlib
 import subprocess
 
 from checks import HOUSE, check, make_pair, user_environment
+from explaining.showing import visible
 
 TOOLS = HOUSE / "tools"
 TOOL = TOOLS / "check-release"
@@ -32,14 +34,40 @@ def wanted_counts(entries):
     return "".join(f"count\t{answer}\t{count}\n" for answer, count in counts)
 
 
-def wanted_report(entries):
+def wanted_body(entries):
+    """A report from its counts to its last pair."""
     text = wanted_counts(entries)
     for kind, title in [("REFUSE", "Refused"), ("UNREAD", "Not read"), ("FAILED", "No answer"), ("ACCEPT", "Accepted")]:
         chosen = [entry for entry in entries if entry[1].startswith(kind)]
         text += f"\n{title}: {len(chosen)}\n" if chosen else ""
         for name, answer, details in chosen:
-            text += f"{name}\t{answer}\n" + "".join(f"    {line}\n" for line in details)
+            text += f"{visible(name)}\t{answer}\n" + "".join(f"    {line}\n" for line in details)
     return text
+
+
+def record_of(report):
+    """What a report says was judged by what."""
+    return dict(line.split("\t")[1:] for line in report.splitlines() if line.startswith("record\t"))
+
+
+def body_of(report):
+    """A report without what was judged by what, in front and behind."""
+    kept = [line for line in report.splitlines(keepends=True) if not line.startswith("record\t")]
+    return "".join(kept).partition("\nSHA-256 of the sheets")[0]
+
+
+def digests_of(report):
+    """The lines of a report that sha256sum would write."""
+    return report.partition("\nSHA-256 of the sheets")[2].splitlines()[1:]
+
+
+def wanted_digests(release, entries):
+    lines = []
+    for name, _, _ in entries:
+        for sheet in ("program.txt", "split.txt"):
+            path = release / name / sheet
+            lines += [f"{hashlib.sha256(path.read_bytes()).hexdigest()}  {visible(name)}/{sheet}"] if path.is_file() else []
+    return lines
 
 
 class Desk:

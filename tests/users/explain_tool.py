@@ -8,13 +8,11 @@ from pathlib import Path
 import browser
 from checks import HOUSE, check, make_pair, user_environment
 from explaining import telling, walk
-from explaining.conditions import find
 from explaining.drawing import page
 from explaining.drawing.holders import SILENT, Telling
 from explaining.findings import explain
 from explaining.refusals import OF_CHECKING, REFUSALS
 from explaining.running import Run, run_in
-from explaining.words import WORDS
 from pages import PAGES, examples, pairs_of
 
 TOOL = HOUSE / "tools" / "explain"
@@ -80,15 +78,14 @@ def faults(explanation, run_there):
     if not text.startswith(run_there.answer):
         lacks.append("the answer")
     if run_there.answer == "ACCEPT":
-        return lacks + ([] if walked(explanation) and first_false(explanation) is None else ["the walk"])
+        return lacks + ([] if walked(explanation) else ["the walk"])
     if run_there.answer == "UNREAD":
         return lacks + ([] if "Likely cause" in text else ["the file at fault"])
-    number, line, condition, location = run_there.numbers()
+    number, line, condition, _ = run_there.numbers()
     wanted = [REFUSALS[number].helps, *explanation.numbers[:1]]
     wanted += [f"line {line}"] if REFUSALS[number].sheet else []
     if condition:
         wanted += [f"Condition {condition} of ", explanation.condition.wording, explanation.condition.plain]
-        lacks += [] if first_false(explanation) == (line, condition, location) else ["the first false condition"]
     lacks += [words for words in wanted if words not in text]
     return lacks + ([] if explanation.numbers else ["the numbers"])
 
@@ -96,16 +93,6 @@ def faults(explanation, run_there):
 def walked(explanation):
     """Whether the walk of a pair comes to its last line."""
     return len(walk.text(explanation)) == len(explanation.sites.all) + 1 == len(explanation.sites.steps) + 1
-
-
-def first_false(explanation):
-    """The first condition that the arithmetic finds false: line, number and location."""
-    for site in explanation.sites.all:
-        for number in range(1, len(WORDS[site.word].conditions) + 1):
-            finding = find(site, number, explanation.sites.split, explanation.names)
-            if not finding.holds:
-                return site.line, number, finding.location
-    return None
 
 
 def check_pages(binary):
@@ -120,14 +107,18 @@ def check_pages(binary):
                 check(f"docs/{name} line {line}, explained", (run_there.answer, faults(explanation, run_there)), (answer, []))
 
 
+def draw(scratch, count, *options):
+    """Drawn pairs as folders, each with its number."""
+    command = ["cargo", "run", "--release", "--offline", "--quiet", "--bin", "pairs", "--", *options, scratch, str(count)]
+    check("pairs are drawn", subprocess.run(command, cwd=HOUSE / "tests").returncode, 0)
+    return [(number, Path(scratch) / str(number)) for number in range(count)]
+
+
 def check_drawn(binary):
     """Drawn pairs: each refused condition is the first that the arithmetic finds false, each accepted pair has none."""
     met, wide, found = Counter(), None, browser.find_browser()
     with tempfile.TemporaryDirectory() as scratch:
-        command = ["cargo", "run", "--release", "--offline", "--quiet", "--bin", "pairs", "--", scratch, str(DRAWN)]
-        check("pairs are drawn", subprocess.run(command, cwd=HOUSE / "tests").returncode, 0)
-        for number in range(DRAWN):
-            folder = Path(scratch) / str(number)
+        for number, folder in draw(scratch, DRAWN):
             run_there = run_in(binary, folder)
             explanation = explain(run_there, folder)
             met[explanation.number] += 1
@@ -152,7 +143,7 @@ def check_lies():
     lies = [(join, f"REFUSE,{rest}") for rest in [
         "10,0,0,0", "11,2,0,0", "12,2,0,0", "13,3,0,0", "14,9,0,0", "15,5,0,0", "20,0,0,0", "21,2,0,0", "22,2,0,0", "23,5,0,0",
         "30,2,0,0", "31,2,1,0", "32,2,2,0", "33,15,5,0", "33,99,5,0", "32,8,9,0", "11,99,0,0", "1,0,0,0", "38,0,0,0",
-        "40,13,0,0", "40,12,0,0", "41,0,0,0", "42,0,0,0", "43,0,0,0", "44,4,0,0", "45,2,0,0",
+        "0,0,0,0", "40,13,0,0", "40,12,0,0", "41,0,0,0", "42,0,0,0", "43,0,0,0", "44,4,0,0", "45,2,0,0",
         "46,1,0,0", "47,1,0,0", "48,1,0,0"]]
     lies += [(join_race, "REFUSE,33,13,5,1"), (join_race, "REFUSE,32,13,4,0")]
     for folder, answer in lies:
@@ -194,8 +185,43 @@ def check_errors(binary):
         check("explain in an empty folder", (done.returncode, missing), (2, [True, True]))
 
 
+def check_alone():
+    """Every number and every answer is told without a pair, in the words of REFUSALS.md."""
+    page_text = (HOUSE / "docs" / "REFUSALS.md").read_text()
+    for number, refusal in REFUSALS.items():
+        for given in (str(number), f"REFUSE,{number},70,5,0"):
+            done = run("nowhere", given)
+            section = page_text[page_text.index(f"\n### {number}: "):].split("\n")[2]
+            wanted = [given, refusal.helps, refusal.owner, section.split(". ")[0]]
+            check(f"explain {given}", (done.returncode, [words for words in wanted if words not in done.stdout]), (0, []))
+    done = run("nowhere", "REFUSE,33,70,5,0")
+    wanted = ["program.txt line 70", "if line 70 has `write`: after has at least D", "location 0"]
+    check("explain REFUSE,33,70,5,0, its numbers", [words for words in wanted if words not in done.stdout], [])
+    race = "threads 2 and 4 race in state 34"
+    for given, words in [
+        ("ACCEPT", "the split shows the job safe"), ("UNREAD", "Nothing was judged"), ("99", "not known here"),
+        ("RAN,69", "69 steps"), ("RACE,34,34,2,4", race), ("REFUSE,46,36,0,0,35", "trace.txt line 36"),
+        ("REFUSE,46,36,0,0,35,RACE,34,2,4", race)]:
+        done = run("nowhere", given)
+        check(f"explain {given}", (done.returncode, words in done.stdout), (0, True))
+    for given in ("RAN", "RAN,1,2,3,4", "RACE,34", "REFUSE,46,36,0", "nothing"):
+        check(f"explain {given}", (run("nowhere", given).returncode), 2)
+    done = run("nowhere", "--walk", "33")
+    check("explain --walk 33", (done.returncode, "has no walk" in done.stderr), (2, True))
+
+
+def check_hints(binary):
+    """A looser lock that is given back takes more than it gave."""
+    with tempfile.TemporaryDirectory() as scratch:
+        make_pair(Path(scratch) / "pair", "P,7|let,0|newlock,0|let,1|lock,0|var,0|unlock,0|var,0|", (
+            "C3,2,1,3,3,0|int,0,0|lock,1,1|lock,2,0|2|1|0|0,2,|1,1,|0,2,|0,1,|2,1,|0,2,|2,1,|"))
+        done = run(binary, Path(scratch) / "pair")
+        hint = "or the lock is shown as a looser one, which takes more than it gave"
+        check("a looser lock given back", hint in done.stdout, True)
+
+
 def check_names(binary):
-    """Names are used where they are given; lines of another form are passed over."""
+    """Names are used where they are given; lines of another form are told and passed over."""
     with tempfile.TemporaryDirectory() as scratch:
         folder = Path(scratch) / "pair"
         shutil.copytree(HOUSE / "examples" / "join-race", folder)
@@ -206,9 +232,13 @@ def check_names(binary):
             "at location 0 (Füllstand), that of the cell: 1/2 ≥ 2/2 is false", "start pump with 1/2 of Füllstand",
             "write <level>, of Füllstand", "wait for a thread of v1"]
         check("explain with names", [words for words in wanted if words not in done.stdout], [])
+        passed_over = [line for line in done.stderr.splitlines() if "is not understood and is passed over" in line]
+        check("explain with names: what is not understood", [line.split(": ")[-1] for line in passed_over], [
+            "thread,x,y", "nothing", "variable,1,", "\\x07", "\\xff"])
         text = (folder / "page.html").read_text()
         browser.check_markup("explain with names: its page", text)
-        check("explain with names: its page has them", [">pump<" in text, "&lt;level&gt;" in text, ">thread 0<" in text], [True] * 3)
+        wanted = [">pump<", "&lt;level&gt;", ">thread 0<"]
+        check("explain with names: its page has them", [words for words in wanted if words not in text], [])
 
 
 def check_explain_tool(binary):
@@ -217,6 +247,8 @@ def check_explain_tool(binary):
     check_pages(binary)
     check_lies()
     check_errors(binary)
+    check_alone()
+    check_hints(binary)
     check_names(binary)
     check_drawn(binary)
     check("the tools leave nothing beside themselves", list((HOUSE / "tools").rglob("__pycache__")), [])

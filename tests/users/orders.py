@@ -9,7 +9,7 @@ from checks import HOUSE, answer_in, check, contents, place, user_environment
 from explaining import replays, telling
 from explaining.names import read_names
 from explaining.refusals import OF_REPLAYING, PROGRAM, REFUSALS, TRACE
-from explaining.running import REPLAY, Run, run_in
+from explaining.running import REPLAYING, Run, run_in
 from explaining.sheets import read_sheet
 from pages import PAGES, fenced, tables
 
@@ -88,7 +88,7 @@ def check_order(binary, what, program, trace, answer):
         check(what, answer_in(binary, folder).decode(), answer + "\n")
         check(what + ", its folder afterwards", contents(folder) == before, True)
         if answer != "UNREAD":
-            check(what + ", explained", faults(replays.explain(Run(answer, None), folder), answer), [])
+            check(what + ", explained", faults(replays.explain(Run(answer, None, REPLAYING), folder), answer), [])
 
 
 def check_pages(binary):
@@ -126,12 +126,12 @@ def check_drawn(binary):
         check("orders are drawn", subprocess.run(command, cwd=HOUSE / "tests").returncode, 0)
         for number in range(DRAWN):
             folder = Path(scratch) / str(number)
-            run_there = run_in(binary, folder, REPLAY)
+            run_there = run_in(binary, folder, REPLAYING)
             explanation = replays.explain(run_there, folder, walks=number % 10 == 0)
             met[re.match("[A-Z]+(,4[678])?", run_there.answer)[0]] += 1
             check(f"drawn order {number}, {run_there.answer}", faults(explanation, run_there.answer), [])
             if explanation.order and number % 10 == 0:
-                check(f"drawn order {number}, its walk", len(replays.text(explanation)) > explanation.order.steps, True)
+                check(f"drawn order {number}, its walk", len(replays.told(explanation)) > explanation.order.steps, True)
     check("drawn orders meet every answer", {"RAN", "RACE", *(f"REFUSE,{n}" for n in OF_REPLAYING)} - set(met), set())
 
 

@@ -76,8 +76,8 @@ def check_nothing_left_out():
 
 
 def rows_of(page, head):
-    """The rows of the table with this head, as cells."""
-    table = page[page.index(head):].split("\n\n")[0].splitlines()[2:]
+    """The rows of the table with this head, as cells, without the marks that links lead to."""
+    table = re.sub(r'<a id="[\w-]+"></a>', "", page[page.index(head):].split("\n\n")[0]).splitlines()[2:]
     return [[cell.strip() for cell in row.strip("|").split("|")] for row in table]
 
 
@@ -133,7 +133,7 @@ def check_tables(name, page):
         sites = Sites(steps_of(program), split)
         for row in cells:
             site = sites.at_line(int(row[0]))
-            before, after = (fractions(numbers, split.denominator) for numbers in (site.pre, site.post))
+            before, after = (fractions(numbers, split) for numbers in (site.pre, site.post))
             wanted = [program.line(site.line).decode(), site.row.text, before, after]
             check(f"docs/{name}, {folder} line {site.line}", row[1:5], wanted)
         answer = (HOUSE / folder / "expected").read_text().strip()

@@ -35,6 +35,8 @@ def line_causes(sheet, line):
     causes = []
     text = sheet.line(line)
     mark = next((name for mark, name in MARKS.items() if sheet.text.startswith(mark)), None)
+    if mark == "UTF-16" and line == 1:
+        return [f"{sheet.name} is written in UTF-16: save it as plain text, one byte a letter"]
     if mark and line == 1:
         causes.append(f"{sheet.name} begins with a byte order mark ({mark}): save it without one")
     if text is None:

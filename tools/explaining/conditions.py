@@ -1,8 +1,9 @@
 """One condition of one step, computed from document 01's wording of it with this pair's numbers put in."""
 import re
+from functools import lru_cache
 from typing import NamedTuple
 
-from .showing import fraction, fractions
+from .showing import fractions
 from .sites import acted_on, map_named
 from .words import KINDS, WORDS
 
@@ -20,6 +21,12 @@ def find(site, condition, split, names):
     return {"T": _type, "F": _flow, "A": _access}[chosen.mark](site, chosen.wording, split, names)
 
 
+def holds(site, condition, split):
+    """Whether a condition of a site's word holds: what `find` finds, without the words."""
+    judge = _type_holds if condition.mark == "T" else _flow_holds if condition.mark == "F" else _access_holds
+    return judge(site, condition.wording, split)
+
+
 # ---- Flow: sums of maps, equal, at least or at most, at every location
 
 RELATIONS = {
@@ -27,17 +34,30 @@ RELATIONS = {
 }
 
 
+@lru_cache(maxsize=None)
 def sides(wording):
     """The names of the maps summed on each side, and the relation between."""
     one, relation, other = re.split(r" ([=≥≤]) ", wording)
     return one.split(" + "), relation, other.split(" + ")
 
 
+def summed(site, terms, split):
+    """The sum of the maps that the terms name, location by location."""
+    if len(terms) == 1:
+        return map_named(site, terms[0], split)
+    return tuple(map(sum, zip(*(map_named(site, term, split) for term in terms))))
+
+
+def _flow_holds(site, wording, split):
+    left, relation, right = sides(wording)
+    one, other = summed(site, left, split), summed(site, right, split)
+    return one == other or (relation != "=" and all(map(RELATIONS[relation], one, other)))
+
+
 def holds_at(site, wording, location, split):
     """Whether a flow condition holds at one location."""
     left, relation, right = sides(wording)
-    one, other = (sum(map_named(site, term, split)[location] for term in terms) for terms in (left, right))
-    return RELATIONS[relation](one, other)
+    return RELATIONS[relation](summed(site, left, split)[location], summed(site, right, split)[location])
 
 
 def equation(site, wording, location, split):
@@ -46,7 +66,7 @@ def equation(site, wording, location, split):
 
     def term_written(term):
         times = f"{site.number} × " if term.startswith("N × ") else ""
-        return times + fraction(map_named(site, term.removeprefix("N × "), split)[location], split.denominator)
+        return times + split.fraction(map_named(site, term.removeprefix("N × "), split)[location], location)
 
     def written(terms):
         return " + ".join(map(term_written, terms))
@@ -70,18 +90,27 @@ def cell_location(site, split):
     return split.types[acted_on(site).type].first
 
 
+def least(wording, split):
+    """How much of the cell's location an access condition asks for."""
+    return {"post at p > 0": 1, "post at p ≥ D": split.denominator}[wording]
+
+
 def access_at(site, wording, split):
     """An access condition with its fractions, as in 1/2 > 0."""
-    held = fraction(site.post[cell_location(site, split)], split.denominator)
-    return wording.replace("post at p", held).replace("D", fraction(split.denominator, split.denominator))
+    location = cell_location(site, split)
+    held = split.fraction(site.post[location], location)
+    return wording.replace("post at p", held).replace("D", split.fraction(split.denominator, location))
+
+
+def _access_holds(site, wording, split):
+    return site.post[cell_location(site, split)] >= least(wording, split)
 
 
 def _access(site, wording, split, names):
     location = cell_location(site, split)
-    least = {"post at p > 0": 1, "post at p ≥ D": split.denominator}[wording]
-    holds = site.post[location] >= least
-    numbers = [] if holds else [f"at {names.location(location)}, that of the cell: {access_at(site, wording, split)} is false"]
-    return Finding(holds, location, numbers, [("post", site.post)])
+    is_true = _access_holds(site, wording, split)
+    numbers = [] if is_true else [f"at {names.location(location)}, that of the cell: {access_at(site, wording, split)} is false"]
+    return Finding(is_true, location, numbers, [("post", site.post)])
 
 
 # ---- Types: a kind that is wanted, or two types that agree
@@ -98,7 +127,7 @@ def described(number, split, names):
 
 
 def _map_described(number, name, split):
-    content = fractions(split.map_in(number, name), split.denominator)
+    content = fractions(split.map_in(number, name), split)
     return f"{MAP_NAMES[name]} map {split.map_number(number, name)}, which is {content}"
 
 
@@ -106,57 +135,74 @@ def _map_described(number, name, split):
 MAP_NAMES = {"K": "a load of", "in": "in", "out": "out", "r": "r", "w": "w"}
 
 
-def _type(site, wording, split, names):
-    wanted_kind = _kind_wanted(site, wording)
-    if wanted_kind:
-        which, whose, kind = wanted_kind
-        holds = split.types[which.type].kind == kind
-        numbers = [f"{whose} is {described(which.type, split, names)}; wanted is {KINDS[kind].noun} (`{kind}`)"]
-        return Finding(holds, 0, numbers, [])
-    holds, numbers = _agreement(site, wording, split, names)
-    return Finding(holds, 0, numbers, [])
-
-
-def _kind_wanted(site, wording):
+@lru_cache(maxsize=None)
+def kind_wanted(wording):
+    """Whose kind a condition on types asks for, as a part's name or None for the step itself, and the kind; else None."""
     words = wording.split()
     if wording == "type int":
-        return site, "the step's own type", "int"
+        return None, "int"
     if len(words) == 3 and words[1] == "a":
-        part = site.parts[words[0]]
-        return part, f"the {_part_name(words[0])} (line {part.line})", words[2]
+        return words[0], words[2]
     if len(words) == 3 and words[0] == "a" and words[2] == "type":
-        return site, "the step's own type", words[1]
+        return None, words[1]
     return None
+
+
+def _type_holds(site, wording, split):
+    wanted = kind_wanted(wording)
+    if wanted:
+        return split.types[_whose(site, wanted[0]).type].kind == wanted[1]
+    if _lacks_cell(site, wording, split):
+        return False
+    (_, one), (_, other) = _compared(site, wording, split)
+    return (site.word == "var" and split.may_show(one, other)) or split.agree(one, other)
+
+
+def _type(site, wording, split, names):
+    return Finding(_type_holds(site, wording, split), 0, _type_numbers(site, wording, split, names), [])
+
+
+def _type_numbers(site, wording, split, names):
+    wanted = kind_wanted(wording)
+    if wanted or _lacks_cell(site, wording, split):
+        part, kind = wanted or (None, "ref")
+        which = _whose(site, part)
+        whose = f"the {_part_name(part)} (line {which.line})" if part else "the step's own type"
+        return [f"{whose} is {described(which.type, split, names)}; wanted is {KINDS[kind].noun} (`{kind}`)"]
+    (one, one_type), (other, other_type) = _compared(site, wording, split)
+    numbers = [f"{one} is {described(one_type, split, names)}", f"{other} is {described(other_type, split, names)}"]
+    parting = split.parting(one_type, other_type)
+    if parting not in (None, (one_type, other_type)):
+        numbers.append("they part inside: " + "; ".join(described(number, split, names) for number in parting))
+    return numbers
+
+
+def _whose(site, part):
+    return site.parts[part] if part else site
 
 
 def _part_name(name):
     return {"part": "part", "e1": "first part", "e2": "second part"}[name]
 
 
-def _agreement(site, wording, split, names):
-    """Conditions that compare two types: whether they agree, and both in words."""
+def _lacks_cell(site, wording, split):
+    """Whether a condition compares the content of the step's own cell, and the step's own type is no cell."""
+    return wording.startswith("a ref type whose c") and split.types[site.type].kind != "ref"
+
+
+def _compared(site, wording, split):
+    """The two types that a condition compares, each with whose it is."""
     own = ("the step's own type", site.type)
     cell = acted_on(site)
     content = cell and ("the cell's content", split.types[cell.type].second)
     if wording == "a ref type whose c is the part's type":
-        if split.types[site.type].kind != "ref":
-            return False, [f"the step's own type is {described(site.type, split, names)}; wanted is a cell (`ref`)"]
-        pair = ("the cell's content", split.types[site.type].second), ("the part", site.parts["part"].type)
-    elif wording == "type is that of its let's e1":
+        return ("the cell's content", split.types[site.type].second), ("the part", site.parts["part"].type)
+    if wording == "type is that of its let's e1":
         bound = site.binder.parts["e1"]
-        pair = own, (f"what the let on line {site.binder.line} binds (line {bound.line})", bound.type)
-    elif wording == "type is c":
-        pair = own, content
-    elif wording == "type of e2 is c":
-        pair = ("the second part", site.parts["e2"].type), content
-    else:  # "type of e1", "type of e2"
-        part = wording.removeprefix("type of ")
-        pair = own, (f"the {_part_name(part)} (line {site.parts[part].line})", site.parts[part].type)
-    (one, one_type), (other, other_type) = pair
-    numbers = [f"{one} is {described(one_type, split, names)}", f"{other} is {described(other_type, split, names)}"]
-    if site.word == "var" and split.may_show(one_type, other_type):
-        return True, numbers
-    parting = split.parting(one_type, other_type)
-    if parting not in (None, (one_type, other_type)):
-        numbers.append("they part inside: " + "; ".join(described(number, split, names) for number in parting))
-    return parting is None, numbers
+        return own, (f"what the let on line {site.binder.line} binds (line {bound.line})", bound.type)
+    if wording == "type is c":
+        return own, content
+    if wording == "type of e2 is c":
+        return ("the second part", site.parts["e2"].type), content
+    part = wording.removeprefix("type of ")  # "type of e1", "type of e2"
+    return own, (f"the {_part_name(part)} (line {site.parts[part].line})", site.parts[part].type)

@@ -1,130 +1,105 @@
-"""Steps of a recorded order in words: what a line did, what a thread is about to do, and why it cannot go on."""
-from .machine import TAKES, Thing
-from .words import KINDS
+"""Lines of a recorded order in words: what a line did, and why one cannot be done."""
+from stepping.happening import happened
+from stepping.machine import DONE, NOUNS, ODD, ROOM, WANTS, kind, name
+from stepping.naming import Naming
+from stepping.wording import about, step_words
 
 
-def thread_called(thread, names):
-    """A thread by its number in the order, with the name of its spawn line if that has one."""
-    name = names.given.get(("thread", thread.spawn))
-    return f"thread {thread.number}" + (f" ({name})" if name else "")
+class Numbered(Naming):
+    """Threads go by their numbers in the order, with their names beside."""
 
-
-def called(value, names):
-    """A value: a number, or a thing by the variable that a let gave it where it was made."""
-    if not isinstance(value, Thing):
-        return str(value)
-    if value.maker.bound is None:
-        return f"the {KINDS[value.kind].noun.removeprefix('a ')} of line {value.maker.line}"
-    return names.variable(value.maker.bound)
+    def thread(self, number):
+        given = self.given(number)
+        return f"thread {number}" + (f" ({given})" if given else "")
 
 
 # ---- What a line did
 
 
-def in_words(done, names, used):
-    """`used` are the variables that are used somewhere."""
-    ask, node = done.ask, done.ask.node
-    if ask.word == "let" and node.word == "while":
-        return "the round is over"
-    if ask.word == "let":
-        return _bound(ask, names, used) + f"goes on to line {node.parts[1].line}"
-    if ask.word == "while":
-        return "comes to the loop"
-    if ask.word == "if" and node.word == "while":
-        return "leaves the loop" if done.choice else "goes round"
-    if ask.word == "if":
-        return f"goes on to line {node.parts[done.choice].line}"
-    if ask.word in TAKES:
-        return _acted(done, names)
-    holding = f", holding {called(done.value.holds, names)}" if ask.word == "ref" else ""
-    return f"makes {called(done.value, names)}{holding}"
+def in_words(one, steps, naming):
+    point = one.point
+    if point.word == "let" and not point.loop:
+        return _bound(one, steps, naming) + f"goes on to line {_line(steps, point.parts[1])}"
+    if point.word == "if" and not point.loop:
+        return f"goes on to line {_line(steps, point.parts[one.choice])}"
+    of_a_loop = {"let": "the round is over", "while": "comes to the loop"}
+    return of_a_loop[point.word] if point.word in of_a_loop else step_words(one, naming)
 
 
-def _bound(ask, names, used):
+def _line(steps, at):
+    return steps.steps[at].line
+
+
+def _bound(one, steps, naming):
     """What a let binds, unless nobody uses it or the thing is called by that variable already."""
-    variable, value = ask.node.number, ask.values[0]
-    if variable not in used or isinstance(value, Thing) and value.maker.bound == variable:
+    variable, value = one.point.number, one.operands[0]
+    is_used = any(step.word == "var" and step.number == variable for step in steps.steps)
+    if not is_used or naming.bound.get(naming.made_line.get(value)) == variable:
         return ""
-    return f"{names.variable(variable)} is {called(value, names)}; "
+    return f"{naming.names.variable(variable)} is {naming.thing(value)}; "
 
 
-def _acted(done, names):
-    thing, *rest = (called(value, names) for value in done.ask.values)
-    other = thread_called(done.other, names) if done.other else ""
-    value = called(done.value, names)
-    return {
-        "spawn": f"starts {other}",
-        "join": f"joins {other}",
-        "read": f"reads {thing}: {value}",
-        "write": f"writes {''.join(rest)} into {thing}",
-        "lock": f"takes {thing}",
-        "unlock": f"opens {thing}",
-        "post": f"posts to {thing}, which counts {done.ask.values[0].holds}",
-        "wait": f"takes one off {thing}, which counts {done.ask.values[0].holds}",
-        "rdlock": f"takes a reading place of {thing}",
-        "rdunlock": f"gives a reading place of {thing} back",
-        "wrlock": f"goes into {thing} as the writer",
-        "wrunlock": f"goes out of {thing}",
-    }[done.ask.word]
+def about_to(machine, state, number, naming):
+    """What a thread is about to do."""
+    thread = state.threads[state.at(number)]
+    return f"{naming.thread(number)} {about(machine, state, thread, naming)} (line {machine.points[thread.point].line} of the job)"
 
 
-def about(thread, names):
-    """What a thread about to read or write is about to do."""
-    ask = thread.ask
-    cell = called(ask.values[0], names)
-    does = f"read {cell}" if ask.word == "read" else f"write {called(ask.values[1], names)} into {cell}"
-    return f"{thread_called(thread, names)} is about to {does} (line {ask.node.line} of the job)"
+# ---- Why it cannot be done
 
 
-# ---- Why it cannot go on
+def tried(machine, state, number, choice, naming):
+    """What happens by a line; or None, the number of its refusal and why it cannot be done."""
+    at = state.at(number)
+    if not machine.can_move(state, at, choice):
+        return None, (47, _no_move(machine, state, number, choice, naming))
+    one = happened(machine, state, at, choice)
+    if not ROOM.holds(one.after):
+        return None, (48, f"{_where(machine, state.threads[at], naming)}: {_past_room(one)}")
+    return one, None
 
 
-def why_not(stop, thread, number, names):
-    """Why the step of the thread with this number cannot be taken. `thread` is None if there is no such thread."""
-    facts = stop.facts
-    if stop.reason == "no thread":
-        last = facts["count"] - 1
+def _where(machine, thread, naming):
+    point = machine.points[thread.point]
+    return f"{naming.thread(thread.number)} is at `{point.word}` on line {point.line} of the job"
+
+
+def _no_move(machine, state, number, choice, naming):
+    if number >= state.spawned:
+        last = state.spawned - 1
         return f"there is no thread {number}: there " + (f"are threads 0 to {last}" if last else "is thread 0 alone")
-    who = thread_called(thread, names)
-    if stop.reason == "finished":
-        return f"{who} has finished: it takes no more steps"
-    if stop.reason == "joined":
-        return f"{who} was joined: it takes no more steps"
-    if stop.reason == "limit":
-        return f"{who} is at `{thread.ask.word}` on line {thread.ask.node.line} of the job: {_limit(**facts)}"
-    ask = facts["ask"]
-    where = f"{who} is at `{ask.word}` on line {ask.node.line} of the job"
-    if stop.reason == "choice":
-        return f"{where}, where the choice is 0" + " or 1" * (ask.word == "if")
-    if stop.reason == "kind":
-        return f"{where}, which wants {KINDS[TAKES[ask.word]].noun} and has {_noun(ask.values[0])}"
-    return f"{where} and waits: {_waits(ask, called(ask.values[0], names))}"
+    at, who = state.at(number), naming.thread(number)
+    thread = None if at is None else state.threads[at]
+    standing = None if at is None else machine.standing(state, thread)
+    if standing in (None, DONE):
+        return f"{who} {'was joined' if at is None else 'has finished'}: it takes no more steps"
+    where, word = _where(machine, thread, naming), machine.points[thread.point].word
+    if choice > (word == "if"):
+        return f"{where}, where the choice is 0" + " or 1" * (word == "if")
+    value = thread.operands[0]
+    if standing == ODD:
+        return f"{where}, which wants {NOUNS[WANTS[word]]} and has {_noun(value, naming)}"
+    return f"{where} and waits: {_waits(word, state, value, naming.thing(value))}"
 
 
-def _limit(kind, most):
-    if kind == "thread":
-        return f"there have been {most} threads already, the first and the joined ones included"
-    return f"{most} {KINDS[kind].noun.removeprefix('a ')}s have been made already"
+def _noun(value, naming):
+    return naming.noun(value) if kind(value) else f"a number, {value}"
 
 
-def _noun(value):
-    return KINDS[value.kind].noun if isinstance(value, Thing) else f"a number, {value}"
-
-
-def _waits(ask, thing):
-    lock = ask.values[0]
+def _waits(word, state, value, thing):
+    writer_in = kind(value) == WANTS["rdlock"] and state.rwlocks[name(value)].writing
     return {
         "join": f"no thread of {thing} has finished and is not joined yet",
         "lock": f"{thing} is taken",
         "wait": f"{thing} counts 0",
-        "rdlock": f"a writer is in {thing}" if lock.writer else f"no reading place of {thing} is free",
+        "rdlock": f"a writer is in {thing}" if writer_in else f"no reading place of {thing} is free",
         "rdunlock": f"nobody has a reading place of {thing}",
         "wrlock": f"somebody is in {thing}",
         "wrunlock": f"no writer is in {thing}",
-    }[ask.word]
+    }[word]
 
 
-def variables_used(node):
-    """The variables that an expression uses."""
-    own = {node.number} if node.word == "var" else set()
-    return own.union(*map(variables_used, node.parts))
+def _past_room(one):
+    if one.point.word == "spawn":
+        return f"there have been {ROOM.threads} threads already, the first and the joined ones included"
+    return f"{ROOM.things} {NOUNS[kind(one.made())].removeprefix('a ')}s have been made already"

@@ -1,25 +1,29 @@
-"""An answer of racecheck put beside the pair: what it speaks of, and whether this house's arithmetic finds the same."""
+"""An answer put beside the pair: what it speaks of, and whether this house's arithmetic finds the same."""
 from dataclasses import dataclass, field
 
 from . import causes
 from .conditions import find
 from .disagreement import Disagreement, require
+from .filling import filled_text, lack_in_words, too_large
+from .judging import judge
 from .names import read_names
-from .refusals import ACCEPTED, PROGRAM, REFUSALS, SPLIT, UNREAD, USUALLY
-from .sheets import read_sheet, split_of, steps_of
-from .showing import fraction, shown
+from .refusals import MEANINGS, PROGRAM, REFUSALS, SPLIT, USUALLY
+from .running import FILLING, READS
+from .sheets import read_sheets, sheet_of, split_of, steps_of
+from .showing import shown
 from .sites import Sites
-from .texts import lines_wanted, text_finding
+from .texts import lines_wanted
 from .words import WORDS
 
 
 @dataclass
 class Explanation:
-    """What is known about a pair and its answer. Fields that its answer does not fill stay empty."""
+    """What is known about a folder and its answer. Fields that its answer does not fill stay empty."""
 
     answer: str
     meaning: str
     names: object
+    program: str = "racecheck"  # whose answer it is
     number: int = 0
     place: list = field(default_factory=list)  # file, line and the line's text, as sentences
     site: object = None  # the refused step
@@ -30,28 +34,44 @@ class Explanation:
     maps: list = field(default_factory=list)  # the maps it names
     helps: list = field(default_factory=list)
     causes: list = field(default_factory=list)
-    disagrees: str = ""  # where racecheck and this house's arithmetic part
+    disagrees: str = ""  # where the program and this house's arithmetic part
+    unseen: list = field(default_factory=list)  # why the sheets that were judged are not those that can be read now
     sites: object = None  # the steps, when both sheets are well formed
     order: object = None  # the recorded order as far as it was done, when it was replayed
 
 
-def explain(run, folder):
-    """The explanation of a run's answer in a folder."""
-    names = read_names(folder)
+def explain(run, folder, reduced=False):
+    """The explanation of a pair's answer in a folder; with fractions reduced where all of a location's can be."""
+    return explained(run, folder, lambda explanation, program, split: _compare(explanation, run, program, split, reduced))
+
+
+def explained(run, folder, compare):
+    """The explanation of a run's answer in a folder. `compare` works the answer out again, and adds what it is about."""
+    explanation = Explanation(run.answer, _meaning(run), read_names(folder), run.program)
     if run.answer == "FAILED":
-        return Explanation(run.answer, f"There is no answer: {run.failure}.", names)
-    if run.answer == "UNREAD":
-        return Explanation(run.answer, UNREAD, names, causes=causes.unread_causes(folder))
-    program, split = read_sheet(folder, PROGRAM), read_sheet(folder, SPLIT)
-    if run.answer == "ACCEPT":
-        explanation = Explanation(run.answer, ACCEPTED, names)
-        return guarded(explanation, lambda: _walkable(explanation, program, split))
-    number, line, condition, location = run.numbers()
-    explanation = Explanation(run.answer, refusal_meaning(number), names, number)
-    if number not in REFUSALS:
         return explanation
-    explanation.helps.append(REFUSALS[number].helps)
-    return guarded(explanation, lambda: _refused(explanation, program, split, line, condition, location))
+    if run.answer == "UNREAD":
+        explanation.causes += causes.unread_causes(folder, READS[run.program])
+        return explanation
+    sheets = run.sheets or read_sheets(folder, READS[run.program])
+    explanation.unseen = [f"{name} is no plain file, and is not read again here" for name, sheet in sheets.items() if sheet is None]
+    explanation.unseen += [f"{name} has changed since {run.program} read it; run again" for name in run.changed]
+    if run.answer.startswith("REFUSE"):
+        explanation.number = run.numbers()[0]
+        explanation.helps += [REFUSALS[explanation.number].helps] if explanation.number in REFUSALS else []
+    if not explanation.unseen:
+        try:
+            compare(explanation, *sheets.values())
+        except Disagreement as why:
+            explanation.disagrees = str(why)
+    return explanation
+
+
+def _meaning(run):
+    if run.answer == "FAILED":
+        return f"There is no answer: {run.failure}."
+    kind = run.answer.split(",")[0]
+    return MEANINGS[kind] if kind in MEANINGS else refusal_meaning(run.numbers()[0])
 
 
 def refusal_meaning(number):
@@ -60,73 +80,87 @@ def refusal_meaning(number):
     return f"{found[0].upper()}{found[1:]}."
 
 
-def guarded(explanation, fill):
-    """Fills an explanation. What goes wrong there is a disagreement and is told as one."""
-    try:
-        fill()
-    except Disagreement as why:
-        explanation.disagrees = str(why)
-    except (ValueError, LookupError, AttributeError, TypeError, RecursionError) as error:
-        explanation.disagrees = f"the sheets cannot be read as this answer says they can ({type(error).__name__}: {error})"
-    return explanation
+def _compare(explanation, run, program, split, reduced):
+    """Works the answer out again, and fills the explanation if it is the same."""
+    judgement, sheet = judge(program, split, run.program == FILLING), _sheet_at_fault(explanation, program, split)
+    explanation.place += place_in(sheet, run.numbers()[1]) if sheet else []
+    nothing_wrong = "FILLED" if run.program == FILLING else "ACCEPT"
+    found = "REFUSE," + ",".join(map(str, judgement.numbers())) if judgement.number else nothing_wrong
+    why = f" ({judgement.why})" if judgement.why else ""
+    require(run.answer == found, f"by the numbers here the answer is {found}{why}")
+    if run.answer == "FILLED":
+        require(run.written == filled_text(split, judgement.sites), "the sheet that was written is not the one found here")
+        split = sheet_of(SPLIT, run.written)
+    _take_sites(explanation, judgement, program, split, reduced)
+    _tell_refusal(explanation, run, judgement, program, split)
 
 
-def _walkable(explanation, program, split):
-    steps, division = steps_of(program), split_of(split)
-    sites, promised = Sites(steps, division), int(program.line(1).split(b",")[1])
-    lengths = {promised, len(steps), len(division.rows), len(sites.all)}
-    require(len(lengths) == 1, f"the steps promised, the steps, the rows and the expression differ in length: {sorted(lengths)}")
-    explanation.sites = sites
+def _sheet_at_fault(explanation, program, split):
+    """The sheet that a refusal names a line of, or None."""
+    refusal = REFUSALS.get(explanation.number)
+    return {PROGRAM: program, SPLIT: split}.get(refusal.sheet) if refusal else None
 
 
-def _refused(explanation, program, split, line, condition, location):
-    if 30 <= explanation.number <= 33:
-        _place(explanation, program, line)
-        _walkable(explanation, program, split)
-        _condition_finding(explanation, line, condition, location)
-    else:
-        refused_text(explanation, program, split, line)
-
-
-def refused_text(explanation, program, split, line):
-    """A refusal of a sheet's text: the line at fault, what its bytes show, and what is wrong with it."""
-    number = explanation.number
-    sheet = {PROGRAM: program, SPLIT: split}.get(REFUSALS[number].sheet)
-    if sheet is not None:
-        _place(explanation, sheet, line)
-        explanation.causes += causes.line_causes(sheet, line)
-    if number in (21, 22, 23, 40) and line > 1:
-        explanation.causes += causes.version_causes(program, split, lines_wanted(program, split))
-    explanation.numbers.append(text_finding(number, line, program, split))
-
-
-def _place(explanation, sheet, line):
+def place_in(sheet, line):
+    """A line of a sheet with its text."""
     text = sheet.line(line)
-    explanation.place.append(f"{sheet.name} line {line}" + ("" if text is None else f": {shown(text)}"))
+    return [f"{sheet.name} line {line}" + ("" if text is None else f": {shown(text)}")]
 
 
-# ---- 30 to 33
+def _take_sites(explanation, judgement, program, split, reduced):
+    """The steps, with what each leaves; a sheet for filling has that only where it was followed."""
+    if explanation.answer == "FILLED":
+        explanation.sites = Sites(steps_of(program), split_of(split))
+    elif judgement.sites and judgement.sites.root.post is not None:
+        explanation.sites = judgement.sites
+    if reduced and explanation.sites:
+        explanation.sites.split = explanation.sites.split.reduced()
 
 
-def _condition_finding(explanation, line, condition, location):
-    sites = explanation.sites
-    split, names = sites.split, explanation.names
+def _tell_refusal(explanation, run, judgement, program, split):
+    number, line, condition, location = judgement.numbers()
+    if number in (31, 32, 33):
+        _tell_condition(explanation, judgement.sites, line, condition, location)
+    elif number == 30:
+        _tell_start(explanation, judgement.sites, location)
+    elif number == 41:
+        lack = judgement.sites.lack
+        explanation.place += place_in(program, lack.site.line)
+        _tell_condition(explanation, judgement.sites, lack.site.line, lack.condition, lack.location)
+        explanation.numbers.insert(0, lack_in_words(lack, judgement.sites.split, explanation.names))
+    elif number == 42:
+        explanation.numbers.append(too_large(split, judgement.sites, explanation.names))
+    elif number:
+        explanation.numbers.append(judgement.why)
+        _tell_causes(explanation, line, program, split)
+
+
+def _tell_causes(explanation, line, program, split):
+    sheet = _sheet_at_fault(explanation, program, split)
+    explanation.causes += causes.line_causes(sheet, line) if sheet else []
+    if explanation.number in (21, 22, 23, 40) and line > 1:
+        explanation.causes += causes.version_causes(program, split, lines_wanted(steps_of(program), split))
+
+
+# ---- 30 to 33, and 41
+
+
+def _tell_start(explanation, sites, location):
+    split, explanation.site, explanation.location = sites.split, sites.at_line(2), location
+    explanation.maps = [(f"map {split.start}, the start", split.root_start())]
+    over = [p for p, number in enumerate(split.root_start()) if number > split.denominator]
+    explanation.numbers = [
+        f"at {explanation.names.location(p)}: {split.fraction(split.root_start()[p], p)} is more than the whole" for p in over]
+
+
+def _tell_condition(explanation, sites, line, condition, location):
     site = explanation.site = sites.at_line(line)
     explanation.location = location
-    if explanation.number == 30:
-        over = [p for p, number in enumerate(split.root_start()) if number > split.denominator]
-        explanation.maps = [(f"map {split.start}, the start", split.root_start())]
-        require(over[:1] == [location], f"map {split.start} is over D at {over}, racecheck says location {location}")
-        explanation.numbers = [
-            f"at {names.location(p)}: {fraction(split.root_start()[p], split.denominator)} is more than the whole" for p in over]
-        return
     explanation.place.append(f"{SPLIT} line {site.row.line}: {site.row.text}")
     explanation.condition = WORDS[site.word].conditions[condition - 1]
     explanation.condition_number = condition
     usually = USUALLY.get((site.word, condition))
     if usually:
         explanation.helps.insert(0, usually)
-    finding = find(site, condition, split, names)
+    finding = find(site, condition, sites.split, explanation.names)
     explanation.numbers, explanation.maps = finding.numbers, finding.maps
-    require(not finding.holds, f"condition {condition} of {site.word} on line {line} is true by the numbers here")
-    require(finding.location == location, f"it is false at location {finding.location} by the numbers here, not at {location}")

@@ -8,7 +8,9 @@ from .words import KINDS, MAPS, NO_STEP, WORDS
 DIGITS = 10
 NUMERAL = re.compile(rb"0|[1-9][0-9]{0,%d}" % (DIGITS - 1))
 PROGRAM_BYTES, SPLIT_BYTES = 16_384, 65_536
+TRACE_BYTES = 4_000_000  # the longest trace that racereplay holds
 WHOLE = 1_000_000_000
+MOST_TO_FILL = 256  # maps given in a sheet for filling
 
 
 class Range(NamedTuple):
@@ -72,11 +74,14 @@ def numbered(what, count):
 # ---- What each line should be, given the fields it has
 
 
-def program_fields(number, fields):
-    if number == 1:
+def program_fields(is_first, fields):
+    if is_first:
         return [OneOf("`P`", ("P",)), STEPS]
     word = WORDS.get(fields[0].decode("latin-1"))
     return [OneOf("a word of the language", (*WORDS, *NO_STEP), NO_STEP), RANGES[word.number] if word else RANGES["nothing"]]
+
+
+MAP = "a map line"  # beside the words, what a line of a split is
 
 
 class Counts(NamedTuple):
@@ -92,28 +97,27 @@ def counts_of(header):
     return Counts(heading.decode("ascii"), *map(int, counts[:3]))
 
 
-def split_fields(number, fields, counts, words):
-    """`words` are those of the job's steps: an s stands on a spawn alone."""
-    if number == 1:
-        return _head_fields(fields)
-    if number <= 1 + counts.types:
-        return _type_fields(number - 2, fields, counts)
-    if number <= 1 + counts.types + counts.maps:
+def split_fields(kind, fields, counts, is_filling=False):
+    """What a line below the first should be. `kind` is a type's number, MAP, or the word of a row: an s stands on a spawn alone."""
+    if isinstance(kind, int):
+        return _type_fields(kind, fields, counts)
+    if kind == MAP:
         return [IN_A_MAP] * counts.locations
-    word = words[number - 2 - counts.types - counts.maps]
-    a_map = numbered("a map", counts.maps)
+    word, a_map = kind, numbered("a map", counts.maps)
     lacking = "the last field is empty: a `C` sheet has to say what the new thread starts with" if counts.heading == "C" else ""
     last = Optional(a_map, lacking) if word == "spawn" else Absent(f"the last field on `{word}`, which is no spawn,")
-    return [numbered("a type", counts.types), a_map, last]
+    after = Absent("the after-map in a sheet for filling") if is_filling else a_map
+    return [numbered("a type", counts.types), after, last]
 
 
-def _head_fields(fields):
-    """A C2 or C3 line names the start as well, one of its M maps."""
+def head_fields(fields, is_filling=False):
+    """A C2 or C3 line names the start as well, one of its M maps. A C sheet is not filled."""
     start = []
     if fields[0] in (b"C2", b"C3"):
         maps = int(fields[4]) if len(fields) > 4 and NUMERAL.fullmatch(fields[4]) else 1
         start = [Range(f"the start r, with M = {grouped(maps)},", 0, maps - 1)]
-    return [OneOf("`C`, `C2` or `C3`", ("C", "C2", "C3")), *COUNTS, *start]
+    heading = OneOf("`C2` or `C3`", ("C2", "C3")) if is_filling else OneOf("`C`, `C2` or `C3`", ("C", "C2", "C3"))
+    return [heading, *COUNTS, *start]
 
 
 def _type_fields(own, fields, counts):

@@ -1,9 +1,11 @@
 """Names for locations, variables and threads: from names.txt in the pair's folder if it is there, else numbers.
 
 A line is `location,0,level`, `variable,3,lock of the level` or `thread,1,pump`. racecheck does not open this file, and no
-answer depends on it.
+answer depends on it: a line that is not understood, or a file that cannot be read, is told and passed over.
 """
 import os
+
+from .showing import shown
 
 FILE = "names.txt"
 KINDS = ("location", "variable", "thread")
@@ -11,8 +13,9 @@ MOST_BYTES, LONGEST = 1 << 16, 40
 
 
 class Names:
-    def __init__(self, given=None):
+    def __init__(self, given=None, passed_over=()):
         self.given = given or {}
+        self.passed_over = passed_over  # what was not understood, a sentence each
 
     def location(self, number):
         """A location in full, with its number."""
@@ -42,17 +45,32 @@ class Names:
 
 
 def read_names(folder):
-    """The names of a folder's pair. A line of another form is passed over: names are for reading only."""
+    """The names of a folder's pair."""
     path = os.path.join(folder, FILE)
-    if not os.path.isfile(path):
+    if not os.path.lexists(path):
         return Names()
-    with open(path, "rb") as file:
-        text = file.read(MOST_BYTES)
-    given = {}
-    for line in text.split(b"\n"):
-        kind, _, rest = line.partition(b",")
-        number, _, name = rest.partition(b",")
-        if kind.decode("latin-1") in KINDS and number.isdigit() and len(number) < 4 and name:
-            printable = "".join(filter(str.isprintable, name.decode("utf-8", "replace")))
-            given[kind.decode("ascii"), int(number)] = printable[:LONGEST]
-    return Names(given)
+    if not os.path.isfile(path):
+        return Names(passed_over=[f"{FILE} is no plain file and is passed over"])
+    try:
+        with open(path, "rb") as file:
+            text = file.read(MOST_BYTES)
+    except OSError as error:
+        return Names(passed_over=[f"{FILE} cannot be read and is passed over: {error.strerror}"])
+    given, passed_over = {}, []
+    for number, line in enumerate(text.split(b"\n"), 1):
+        name = _name_of(line)
+        if name:
+            given[name[0], name[1]] = name[2]
+        elif line:
+            passed_over.append(f"{FILE} line {number} is not understood and is passed over: {shown(line)}")
+    return Names(given, passed_over)
+
+
+def _name_of(line):
+    """What a line names: the kind of thing, its number, and the name; None if it is of another form."""
+    kind, _, rest = line.partition(b",")
+    number, _, name = rest.partition(b",")
+    printable = "".join(filter(str.isprintable, name.decode("utf-8", "replace")))[:LONGEST]
+    if kind.decode("latin-1") in KINDS and number.isdigit() and len(number) < 4 and printable:
+        return kind.decode("ascii"), int(number), printable
+    return None

@@ -16,6 +16,11 @@ class Refusal(NamedTuple):
 
 ACCEPTED = "Both sheets are well formed, and the split shows the job safe."
 UNREAD = "A file could not be read. Nothing was judged."
+RAN = "Every line of the order was done, and no state on the way has a race."
+RACE = "Every line of the order was done. It has a race."
+FILLED = "The after-maps are found; `tools/fill` writes the sheet. racecheck accepts every sheet that is filled."
+# What the first word of an answer means, where it is no refusal.
+MEANINGS = {"ACCEPT": ACCEPTED, "FILLED": FILLED, "RAN": RAN, "RACE": RACE, "UNREAD": UNREAD}
 
 REFUSALS = {
     1: Refusal(
@@ -145,7 +150,9 @@ USUALLY = {
     ("newlock", 2): _GUARDED,
     ("newrwlock", 2): "the reading places together would hold more than a writer: r is too great, or there are too many places",
     ("newrwlock", 3): _GUARDED,
-    ("unlock", 3): "the thread does not hold what the lock takes, say it unlocks twice",
+    ("unlock", 3):
+        "the thread does not hold what the lock takes, say it unlocks twice, or the lock is shown as a looser one, which takes more"
+        " than it gave",
     ("post", 3): "the thread does not hold what a post puts in, say it posts once more than it has something to hand on",
     ("rdunlock", 3): "the thread does not hold a reader's share, say it gives its place back twice",
     ("wrunlock", 3): "the thread does not hold a writer's share, say it took a reading place or gives back twice",

@@ -1,19 +1,18 @@
 """A line of racereplay put beside the job and the recorded order: what it speaks of, and whether the steps here come to it."""
 from dataclasses import dataclass, field
+from functools import lru_cache
+
+from stepping.machine import Machine
+from stepping.program import Steps
 
 from . import causes, doing, forms
 from .disagreement import require
-from .findings import Explanation, guarded, refusal_meaning, refused_text
-from .machine import Machine, Stop, tree_of
-from .names import read_names
-from .refusals import PROGRAM, REFUSALS, TRACE, UNREAD
+from .findings import explained, place_in
+from .refusals import TRACE
 from .sheets import read_sheet, steps_of
 from .showing import grouped, shown
+from .texts import job_fault, program_lines_fault
 
-# The longest trace that racereplay holds.
-TRACE_BYTES = 4_000_000
-RAN = "Every line of the order was done, and no state on the way has a race."
-RACE = "Every line of the order was done. It has a race."
 NUMERALS = [forms.Range("a number", 0, 10**forms.DIGITS)] * 2
 
 
@@ -36,73 +35,67 @@ class Order:
 
 def order_of(program, trace, names, walks=False):
     """Does the lines of a trace one by one on a well-formed program."""
-    root, order = tree_of(steps_of(program)), Order()
-    machine, used = Machine(root), doing.variables_used(root)
+    machine = Machine(Steps(steps_of(program)))
+    state, naming, order = machine.start(), doing.Numbered(machine.steps, names), Order()
     for line in trace.lines:
-        fault = forms.fault(line, NUMERALS)
+        fault = _line_fault(line)
         if fault:
             order.stopped = 46, fault.why
             break
-        number, choice = map(int, line.text.split(b","))
-        try:
-            done = machine.step(number, choice)
-        except Stop as stop:
-            thread = machine.threads[number] if number < len(machine.threads) else None
-            order.stopped = stop.number, doing.why_not(stop, thread, number, names)
+        one, order.stopped = doing.tried(machine, state, *map(int, line.text.split(b",")), naming)
+        if one is None:
             break
-        order.steps += 1
+        naming.learn(one)
+        state, order.steps = one.after, order.steps + 1
         if walks:
-            order.told.append(_cells(order.steps, line, done, names, used))
+            order.told.append(_cells(order.steps, line, one, machine.steps, naming))
         if order.race is None:
-            order.race = _race(machine, order.steps, names)
+            order.race = _race(machine, state, order.steps, naming)
     return order
 
 
-def _cells(number, line, done, names, used):
+# Most lines of an order are alike.
+@lru_cache(maxsize=1 << 10)
+def _line_fault(line):
+    return forms.fault(line, NUMERALS)
+
+
+def _cells(number, line, one, steps, naming):
     """A line of the walk: its number, the line, the thread, the job's line, the word, and in words."""
-    thread = f"{done.thread.number} {names.given.get(('thread', done.thread.spawn), '')}".strip()
-    return str(number), shown(line.text), thread, str(done.ask.node.line), done.ask.word, doing.in_words(done, names, used)
+    thread = f"{one.thread} {naming.given(one.thread) or ''}".strip()
+    return str(number), shown(line.text), thread, str(one.point.line), one.point.word, doing.in_words(one, steps, naming)
 
 
-def _race(machine, state, names):
-    pair = machine.race()
-    return pair and (state, *pair, *(doing.about(machine.threads[number], names) for number in pair))
+def _race(machine, state, number, naming):
+    pair = machine.race(state)
+    return pair and (number, *pair, *(doing.about_to(machine, state, thread, naming) for thread in pair))
 
 
 def explain(run, folder, walks=False):
     """The explanation of racereplay's line in a folder, with the order as far as it was done."""
-    names = read_names(folder)
-    if run.answer == "FAILED":
-        return Explanation(run.answer, f"There is no answer: {run.failure}.", names)
+    explanation = explained(run, folder, lambda explanation, program, trace: _compare(explanation, program, trace, walks))
     if run.answer == "UNREAD":
-        return Explanation(run.answer, UNREAD, names, causes=_unread(folder))
-    program, trace = read_sheet(folder, PROGRAM), read_sheet(folder, TRACE, TRACE_BYTES + 1)
-    kind, *numbers = run.answer.replace(",RACE,", ",").split(",")
-    number = int(numbers[0]) if kind == "REFUSE" else 0
-    explanation = Explanation(run.answer, {"RAN": RAN, "RACE": RACE}.get(kind) or refusal_meaning(number), names, number)
-    if number in REFUSALS:
-        explanation.helps.append(REFUSALS[number].helps)
-    return guarded(explanation, lambda: _fill(explanation, program, trace, numbers, walks))
+        explanation.causes += _too_long(read_sheet(folder, TRACE))
+    return explanation
 
 
-def _unread(folder):
-    found = causes.unread_causes(folder, (PROGRAM, TRACE))
-    trace = read_sheet(folder, TRACE, 1)
-    if trace and trace.length > TRACE_BYTES:
-        found.append(f"{TRACE} has {grouped(trace.length)} bytes; at most {grouped(TRACE_BYTES)} are held")
-    return found
+def _too_long(trace):
+    if trace is None or trace.length <= forms.TRACE_BYTES:
+        return []
+    return [f"{TRACE} has {grouped(trace.length)} bytes; at most {grouped(forms.TRACE_BYTES)} are held"]
 
 
-def _fill(explanation, program, trace, numbers, walks):
-    number = explanation.number
-    if number and REFUSALS[number].sheet != TRACE:
-        return refused_text(explanation, program, None, int(numbers[1]))
+def _compare(explanation, program, trace, walks):
+    """Works the line out again, and fills the explanation if it is the same."""
+    fault = program_lines_fault(program) or job_fault(steps_of(program))
+    if fault:
+        return _tell_fault(explanation, program, fault)
     order = explanation.order = order_of(program, trace, explanation.names, walks)
-    require(order.line() == explanation.answer, f"the steps taken here come to {order.line()}")
+    require(explanation.answer == order.line(), f"the steps taken here come to {order.line()}")
     if order.stopped:
         line = order.steps + 1
         explanation.place.append(f"{TRACE} line {grouped(line)}: {shown(trace.line(line))}")
-        explanation.causes += causes.line_causes(trace, line) if number == 46 else []
+        explanation.causes += causes.line_causes(trace, line) if explanation.number == 46 else []
         explanation.numbers.append(order.stopped[1])
     explanation.numbers.append(f"{grouped(order.steps)} step{'s' * (order.steps != 1)} done")
     if order.race:
@@ -111,12 +104,26 @@ def _fill(explanation, program, trace, numbers, walks):
         explanation.numbers += [where, one, other]
 
 
+def _tell_fault(explanation, program, fault):
+    """A program sheet that is refused, before any line of the order."""
+    found = f"REFUSE,{fault.number},{fault.line},0,0,0"
+    require(explanation.answer == found, f"by the numbers here the answer is {found} ({fault.why})")
+    explanation.place += place_in(program, fault.line)
+    explanation.causes += causes.line_causes(program, fault.line)
+    explanation.numbers.append(fault.why)
+
+
 # ---- As text
 
 
-def text(explanation):
-    """The order as lines of text: each line with its thread, the job's line, and what it does."""
-    order, table = explanation.order, [("line", "order", "thread", "job", "word", "in words")]
+def told(explanation):
+    """The order as lines of text, or why there are none."""
+    return text(explanation.order) if explanation.order else ["There is no walk: no line of the order was looked at."]
+
+
+def text(order):
+    """Each line with its thread, the job's line, and what it does."""
+    table = [("line", "order", "thread", "job", "word", "in words")]
     for cells in order.told:
         table.append(cells)
         if order.race and str(order.race[0]) == cells[0]:

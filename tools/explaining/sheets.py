@@ -1,12 +1,17 @@
-"""The two files of a pair: their bytes, their lines, and what the lines of well-formed sheets say."""
+"""The files of a folder: their bytes, their lines, and what the lines of well-formed sheets say."""
+import hashlib
 import os
 import stat
+from math import gcd
 from typing import NamedTuple
 
+from .forms import TRACE_BYTES
+from .refusals import TRACE
 from .words import KINDS
 
-# More than the longest sheet: enough to see that a file is longer.
+# More than the longest sheet or trace: enough to see that a file is longer.
 MOST_BYTES = 1 << 17
+MOST_TRACE_BYTES = TRACE_BYTES + 1
 
 
 class Line(NamedTuple):
@@ -16,29 +21,55 @@ class Line(NamedTuple):
 
 class Sheet(NamedTuple):
     name: str
-    text: bytes  # as much of it as is read
+    text: bytes  # its first MOST_BYTES bytes
     length: int
     lines: list
+    digest: str = ""  # the SHA-256 of the whole file
+    mark: tuple = ()  # what a file system changes with the file
 
     def line(self, number):
         """The bytes of a line, counted from 1; None past the last."""
         return self.lines[number - 1].text if 0 < number <= len(self.lines) else None
 
 
-def read_sheet(folder, name, most=MOST_BYTES):
-    """A sheet of a pair, or None. Only a plain file is opened: a FIFO would be waited for."""
+def sheet_of(name, text, length=0, digest="", mark=()):
+    pieces = text.split(b"\n")
+    lines = [Line(piece, True) for piece in pieces[:-1]] + [Line(piece, False) for piece in pieces[-1:] if piece]
+    return Sheet(name, text, max(length, len(text)), lines, digest, mark)
+
+
+def read_sheet(folder, name):
+    """A sheet or a trace, or None. Only a plain file is opened: a FIFO would be waited for."""
     path = os.path.join(folder, name)
     try:
         status = os.stat(path)
         if not stat.S_ISREG(status.st_mode):
             return None
         with open(path, "rb") as file:
-            text = file.read(most)
+            text = file.read(MOST_TRACE_BYTES if name == TRACE else MOST_BYTES)
+            digest = hashlib.sha256(text)
+            while piece := file.read(MOST_BYTES):
+                digest.update(piece)
     except OSError:
         return None
-    pieces = text.split(b"\n")
-    lines = [Line(piece, True) for piece in pieces[:-1]] + [Line(piece, False) for piece in pieces[-1:] if piece]
-    return Sheet(name, text, max(status.st_size, len(text)), lines)
+    return sheet_of(name, text, status.st_size, digest.hexdigest(), _mark(status))
+
+
+def _mark(status):
+    return status.st_dev, status.st_ino, status.st_size, status.st_mtime_ns, status.st_ctime_ns
+
+
+def read_sheets(folder, names):
+    """The sheets of a folder by their names."""
+    return {name: read_sheet(folder, name) for name in names}
+
+
+def is_as_read(folder, sheet):
+    """Whether a sheet's file has not been written or replaced since it was read."""
+    try:
+        return _mark(os.stat(os.path.join(folder, sheet.name))) == sheet.mark
+    except OSError:
+        return False
 
 
 class Step(NamedTuple):
@@ -57,7 +88,7 @@ class Row(NamedTuple):
     line: int
     text: str
     type: int
-    post: int
+    post: int  # None in a sheet for filling
     start: int  # None where the field is empty
 
 
@@ -68,9 +99,19 @@ class Split(NamedTuple):
     types: list
     maps: list
     rows: list
+    factors: tuple = ()  # by what each location's fractions are reduced where they are shown; nothing, as the sheet has them
 
     def root_start(self):
         return self.maps[self.start]
+
+    def fraction(self, number, location):
+        """An amount of a location as it is shown."""
+        factor = self.factors[location] if self.factors else 1
+        return f"{number // factor}/{self.denominator // factor}"
+
+    def reduced(self):
+        """The same split, which shows a location's fractions reduced as far as all of them can be."""
+        return self._replace(factors=tuple(gcd(self.denominator, *numbers) for numbers in zip(*self.maps)))
 
     def body_start(self, row):
         """The map that a spawn's body starts with. An empty field means nothing of any location."""
@@ -129,7 +170,7 @@ def split_of(sheet):
     rows = []
     for number, line in enumerate(sheet.lines[first_row:], first_row + 1):
         kind, post, start = _fields(line)
-        rows.append(Row(number, line.text.decode("ascii"), int(kind), int(post), int(start) if start else None))
+        rows.append(Row(number, line.text.decode("ascii"), int(kind), *(int(one) if one else None for one in (post, start))))
     return Split(
         denominator,
         locations,

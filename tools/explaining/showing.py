@@ -1,6 +1,14 @@
-"""How bytes, numbers and maps are shown to a person."""
+"""How bytes, names, numbers and maps are shown to a person."""
+import os
 
 LONGEST = 72
+
+
+def visible(name):
+    """A file's name with a backslash, and all that does not print, as the bytes \\xNN that they are."""
+    return "".join(
+        letter if letter.isprintable() and letter != "\\" else "".join(f"\\x{byte:02x}" for byte in os.fsencode(letter))
+        for letter in name)
 
 
 def shown(text):
@@ -14,13 +22,9 @@ def grouped(number):
     return f"{number:,}"
 
 
-def fraction(number, denominator):
-    return f"{number}/{denominator}"
-
-
-def fractions(numbers, denominator):
+def fractions(numbers, split):
     """A map, one fraction a location."""
-    return ", ".join(fraction(number, denominator) for number in numbers)
+    return ", ".join(split.fraction(number, location) for location, number in enumerate(numbers))
 
 
 def listed(items):

@@ -1,5 +1,6 @@
 """The steps of a job as a tree, each with the map before it, its thread and its nesting."""
 from dataclasses import dataclass, field
+from functools import lru_cache
 
 from .words import MAPS, WORDS
 
@@ -42,8 +43,8 @@ class Sites:
     def _read(self, pre, thread, depth, nest):
         step, row = self.steps[len(self.all)], self.split.rows[len(self.all)]
         site = Site(
-            line=step.line, word=step.word, number=step.number, row=row, type=row.type, pre=pre,
-            post=self.split.maps[row.post], start=None, thread=thread, depth=depth, nest=nest, body=None, binder=None,
+            line=step.line, word=step.word, number=step.number, row=row, type=row.type, pre=pre, post=None, start=None,
+            thread=thread, depth=depth, nest=nest, body=None, binder=None,
         )
         self.all.append(site)
         if site.word == "spawn":
@@ -51,6 +52,7 @@ class Sites:
             self.threads += 1
         if site.word == "var":
             site.binder = self._lets[site.number]
+        self._work_out(site)
         for name, start in WORDS[site.word].parts.items():
             is_body = site.word == "spawn" and name == "e2"
             # What follows a let stands under it, not inside it: "do this, then that" does not move to the right.
@@ -60,26 +62,41 @@ class Sites:
                 nest + (is_body or site.word in ("if", "while")))
             if site.word == "let" and name == "e1":
                 self._lets[site.number] = site
+            self._work_out(site)
         return site
+
+    def _work_out(self, site):
+        """What the step leaves, as far as it is known before its parts and after each of them: here the row says it."""
+        if site.row.post is not None:
+            site.post = self.split.maps[site.row.post]
 
 
 def acted_on(site):
     """The step whose type has the maps, p and c of the conditions: the part that the word acts on, or the step itself."""
-    for condition in WORDS[site.word].conditions:
+    part = part_acted_on(site.word)
+    return site.parts[part] if part else None if part is None else site
+
+
+@lru_cache(maxsize=None)
+def part_acted_on(word):
+    """The part that a word acts on, "" for the step itself, None if the conditions name no such thing."""
+    for condition in WORDS[word].conditions:
         words = condition.wording.split()
         if len(words) == 3 and words[1] == "a":  # "part a tid"
-            return site.parts[words[0]]
+            return words[0]
         if len(words) == 3 and words[0] == "a" and words[2] == "type":  # "a lock type"
-            return site
+            return ""
     return None
 
 
 def map_named(site, name, split):
     """The map that the documents call pre, post, s, "post of" a part, or one of a type: K, in, out, r, w or N × r."""
+    if name in ("pre", "post"):
+        return site.pre if name == "pre" else site.post
+    if name.startswith("post of "):
+        return site.parts[name.removeprefix("post of ")].post
     if name in MAPS:
         return split.map_in(acted_on(site).type, name)
     if name.startswith("N × "):
         return tuple(site.number * a for a in map_named(site, name.removeprefix("N × "), split))
-    if name.startswith("post of "):
-        return site.parts[name.removeprefix("post of ")].post
-    return {"pre": site.pre, "post": site.post, "s": site.start}[name]
+    return {"s": site.start}[name]

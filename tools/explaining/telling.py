@@ -12,16 +12,21 @@ PLAIN = {
     "w": "a writer's (w)",
     "N × r": "all readers' (N × r)",
     "s": "body's start (s)",
+    "post": "after",
+    "pre": "before",
     "post of part": "the part leaves",
     "post of e1": "e1 leaves",
     "post of e2": "e2 leaves",
 }
+# A refusal does not say which of the two is wrong.
+SHOW_RACE = "Whether the job or its split is at fault: tools/show-race looks for an order in which the job races, and shows it."
 
 
 def told(explanation):
     """The lines of an explanation, from the answer to what helps."""
-    lines = [f"{explanation.answer}", "", explanation.meaning]
+    lines = [explanation.answer, "", explanation.meaning]
     lines += alarm(explanation)
+    lines += _indented(explanation.unseen)
     lines += _indented(explanation.place)
     if explanation.site:
         lines += _indented([f"taken by {explanation.names.thread(explanation.site.thread)}"])
@@ -34,6 +39,8 @@ def told(explanation):
     lines += _titled("What usually helps", explanation.helps)
     if explanation.number in REFUSALS:
         lines += ["", f"Who looks first: {REFUSALS[explanation.number].owner}"]
+    if explanation.site:
+        lines += ["", SHOW_RACE]
     return lines
 
 
@@ -48,20 +55,23 @@ def alarm(explanation):
     if not explanation.disagrees:
         return []
     told = f"*** DISAGREEMENT: {explanation.disagrees} ***"
-    return ["", told, "*** Trust neither; hand this pair to the owners of racecheck. ***", ""]
+    return ["", told, f"*** Trust neither; hand this pair to the owners of {explanation.program}. ***", ""]
 
 
 def maps_of(explanation):
     """Before, after and the other maps that the condition names, each as its name and its fractions; then D."""
-    if not explanation.site:
+    if not (explanation.site and explanation.sites):
         return []
     split = explanation.sites.split
-    named = [("before", explanation.site.pre), ("after", explanation.site.post)]
+    named = [("before", explanation.site.pre)]
+    if explanation.number != 41 or explanation.condition.mark == "A":  # else there is no map to leave
+        named.append(("after", explanation.site.post))
     named += [(PLAIN.get(name, name), numbers) for name, numbers in explanation.maps if name not in ("pre", "post")]
-    rows = [(name, fractions(numbers, split.denominator)) for name, numbers in named]
+    rows = [(name, fractions(numbers, split)) for name, numbers in named]
     if split.locations > 1:
         rows.insert(0, ("of", ", ".join(map(explanation.names.place, range(split.locations)))))
-    return rows + [("D", f"{grouped(split.denominator)}, so {split.denominator}/{split.denominator} is the whole")]
+    wholes = dict.fromkeys(split.fraction(split.denominator, location) for location in range(split.locations))
+    return rows + [("D", f"{grouped(split.denominator)}, so {' or '.join(wholes)} is the whole")]
 
 
 def _maps(explanation):

@@ -1,93 +1,126 @@
-"""Refusals of a sheet's text, 10 to 15, 20 to 23, 40, 44 and 45: the sentence that says what is wrong, with this pair's numbers."""
+"""Faults of a sheet's text, 10 to 15, 20 to 23, 40 and 43 to 45: the first one in the order of the documents, in words."""
+from functools import lru_cache
+from typing import NamedTuple
+
 from . import forms
-from .disagreement import Disagreement, require
-from .sheets import at_least, split_of, steps_of
+from .sheets import at_least
 from .showing import fractions, grouped
 from .words import WORDS
 
 
-def text_finding(number, line, program, split):
-    if number in (10, 20):
-        sheet, most = (program, forms.PROGRAM_BYTES) if number == 10 else (split, forms.SPLIT_BYTES)
-        require(sheet.length > most, f"{sheet.name} has {grouped(sheet.length)} bytes")
-        return f"{sheet.name} has {grouped(sheet.length)} bytes; at most {grouped(most)} are read"
-    if number in (13, 23):
-        at, why = _program_count(program) if number == 13 else _split_count(program, split)
-        require(at == line, f"lines are missing or spare at line {at} by the count here, not at {line}")
-        return why
-    if number in (14, 15):
-        found, at, why = _scope_fault(steps_of(program))
-        require((found, at) == (number, line), f"the first variable at fault is {found} at line {at} here")
-        return why
-    if number == 44:
-        at, why = _lock_fault(split_of(split))
-        require(at == line, f"the first lock that takes less than it gives is on line {at} here, not on {line}")
-        return why
-    return _line_fault(number, line, program if number in (11, 12, 45) else split, program)
+class Fault(NamedTuple):
+    number: int
+    line: int
+    why: str
 
 
-def _line_fault(number, line, sheet, program):
-    kind = {11: "form", 21: "form", 12: "range", 22: "range", 40: "lack", 45: "word"}[number]
-    if not sheet.text:
-        require((kind, line) == ("form", 1), f"{sheet.name} is empty")
-        return "there is no line 1"
-    fields = sheet.line(line).split(b",")
-    if sheet is program:
-        wanted = forms.program_fields(line, fields)
-    else:
-        counts = forms.counts_of(sheet.line(1)) if line > 1 else None
-        wanted = forms.split_fields(line, fields, counts, [step.word for step in steps_of(program)])
-    fault = forms.fault(sheet.lines[line - 1], wanted)
-    require(fault is not None, f"line {line} of {sheet.name} is in order by the forms here")
-    require(fault.kind == kind, f"line {line} of {sheet.name} is at fault by its {fault.kind} here: {fault.why}")
-    return fault.why
+def program_lines_fault(program):
+    """The first fault of a program sheet's lines, or None."""
+    return _length_fault(10, program, forms.PROGRAM_BYTES) or _lines_fault(
+        {"form": 11, "range": 12, "word": 45}, 13, program, lambda: int(program.line(1).split(b",")[1]) + 1,
+        lambda number, line: _program_line_fault(line, number == 1))
 
 
-def _program_count(program):
-    """Where the program sheet's lines first miss or overrun, and why."""
-    promised, present = int(program.line(1).split(b",")[1]) + 1, len(program.lines)
-    if present != promised:
-        return _lines_differ(promised, present, f"line 1 promises {grouped(promised - 1)} steps, with it {grouped(promised)} lines")
-    unfinished = []  # the words that still lack parts: line, word, how many
-    for line, step in enumerate(steps_of(program), 2):
-        if line > 2 and not unfinished:
-            return line, f"the job is over on line {line - 1}"
-        if unfinished:
-            unfinished[-1][2] -= 1
-        unfinished.append([line, step.word, len(WORDS[step.word].parts)])
-        while unfinished and unfinished[-1][2] == 0:
-            unfinished.pop()
-    require(unfinished, "no line is missing or spare by the count here")
-    line, word, _ = unfinished[-1]
-    return promised, f"the job is not finished: `{word}` on line {line} lacks a part"
+def job_fault(steps):
+    """The first fault of the steps as a job, or None."""
+    return _shape_fault(steps) or _scope_fault(steps)
 
 
-def lines_wanted(program, split):
+def split_lines_fault(steps, split, is_filling):
+    """The first fault of a split sheet's lines beside these steps, or None."""
+    return (_length_fault(20, split, forms.SPLIT_BYTES)
+            or _lines_fault(
+                {"form": 21, "range": 22, "lack": 40}, 23, split, lambda: lines_wanted(steps, split),
+                _split_forms(steps, split, is_filling))
+            or (_count_fault(split) if is_filling else None))
+
+
+def _length_fault(number, sheet, most):
+    if sheet.length <= most:
+        return None
+    return Fault(number, 0, f"{sheet.name} has {grouped(sheet.length)} bytes; at most {grouped(most)} are read")
+
+
+# ---- Lines in turn: each of its form and in range, none missing or spare
+
+
+def _lines_fault(numbers, count_number, sheet, lines_promised, fault_of):
+    """`fault_of` says what is wrong with a line, by its number and the line itself."""
+    if not sheet.lines:
+        return Fault(numbers["form"], 1, "there is no line 1")
+    line, promised = 1, 1
+    while line <= promised:
+        if line > len(sheet.lines):
+            return Fault(count_number, line - 1, f"{_promise(sheet, promised)}; there are {grouped(line - 1)}")
+        fault = fault_of(line, sheet.lines[line - 1])
+        if fault:
+            return Fault(numbers[fault.kind], line, fault.why)
+        promised = promised if line > 1 else lines_promised()
+        line += 1
+    if line <= len(sheet.lines):
+        return Fault(count_number, line, f"{_promise(sheet, promised)}; line {line} is spare")
+    return None
+
+
+def _promise(sheet, promised):
+    header = sheet.line(1).split(b",")
+    if header[0] == b"P":
+        return f"line 1 promises {grouped(promised - 1)} steps, with it {grouped(promised)} lines"
+    counts = forms.counts_of(sheet.line(1))
+    steps = grouped(promised - 1 - counts.types - counts.maps)
+    return f"1 + {counts.types} types + {counts.maps} maps + {steps} steps make {grouped(promised)} lines"
+
+
+def lines_wanted(steps, split):
     """How many lines the split should have by its first line, which was read."""
     counts = forms.counts_of(split.line(1))
-    return 1 + counts.types + counts.maps + len(program.lines) - 1
+    return 1 + counts.types + counts.maps + len(steps)
 
 
-def _split_count(program, split):
-    counts, promised = forms.counts_of(split.line(1)), lines_wanted(program, split)
-    steps = grouped(len(program.lines) - 1)
-    return _lines_differ(
-        promised, len(split.lines), f"1 + {counts.types} types + {counts.maps} maps + {steps} steps make {grouped(promised)} lines")
+# Many lines are alike, in a sheet and in a release.
+@lru_cache(maxsize=1 << 14)
+def _program_line_fault(line, is_first):
+    return forms.fault(line, forms.program_fields(is_first, line.text.split(b",")))
 
 
-def _lines_differ(promised, present, why):
-    if present < promised:
-        return present, f"{why}; there are {grouped(present)}"
-    return promised + 1, f"{why}; line {promised + 1} is spare"
+@lru_cache(maxsize=1 << 14)
+def _split_line_fault(line, kind, counts, is_filling):
+    return forms.fault(line, forms.split_fields(kind, line.text.split(b","), counts, is_filling))
 
 
-def _lock_fault(split):
-    """The first lock line whose out is below its in somewhere, and why."""
-    for number, one in enumerate(split.types):
-        if one.kind == "lock" and not at_least(split.map_in(number, "out"), split.map_in(number, "in")):
-            gives, takes = (fractions(split.map_in(number, name), split.denominator) for name in ("in", "out"))
-            return number + 2, f"the lock gives {gives} (in) and takes {takes} (out)"
-    raise Disagreement("no lock takes less than it gives, by the numbers here")
+def _split_forms(steps, split, is_filling):
+    words, counts = [step.word for step in steps], None
+
+    def fault(number, line):
+        nonlocal counts
+        if number == 1:
+            return forms.fault(line, forms.head_fields(line.text.split(b","), is_filling))
+        counts = counts or forms.counts_of(split.line(1))
+        row = number - 2 - counts.types - counts.maps
+        kind = words[row] if row >= 0 else forms.MAP if number >= 2 + counts.types else number - 2
+        return _split_line_fault(line, kind, counts, is_filling)
+
+    return fault
+
+
+# ---- The job as an expression, its variables
+
+
+def _shape_fault(steps):
+    """The line past the end of a job that is over early, or the last line of one that is not finished."""
+    unfinished = []  # the words that still lack parts: line, word, how many
+    for step in steps:
+        if step.line > 2 and not unfinished:
+            return Fault(13, step.line, f"the job is over on line {step.line - 1}")
+        if unfinished:
+            unfinished[-1][2] -= 1
+        unfinished.append([step.line, step.word, len(WORDS[step.word].parts)])
+        while unfinished and unfinished[-1][2] == 0:
+            unfinished.pop()
+    if not unfinished:
+        return None
+    line, word, _ = unfinished[-1]
+    return Fault(13, len(steps) + 1, f"the job is not finished: `{word}` on line {line} lacks a part")
 
 
 def _scope_fault(steps):
@@ -117,9 +150,28 @@ def _scope_fault(steps):
     try:
         walk(0)
     except _Found as found:
-        return found.args
-    raise Disagreement("every variable is bound once and used inside its let, by the walk here")
+        return Fault(*found.args)
+    return None
 
 
 class _Found(Exception):
     pass
+
+
+# ---- The split as a whole
+
+
+def _count_fault(split):
+    given = forms.counts_of(split.line(1)).maps
+    if given <= forms.MOST_TO_FILL:
+        return None
+    return Fault(43, 0, f"{grouped(given)} maps are given; a sheet for filling has at most {grouped(forms.MOST_TO_FILL)}")
+
+
+def lock_fault(split):
+    """The first lock line whose out is below its in somewhere, and why."""
+    for number, one in enumerate(split.types):
+        if one.kind == "lock" and not at_least(split.map_in(number, "out"), split.map_in(number, "in")):
+            gives, takes = (fractions(split.map_in(number, name), split) for name in ("in", "out"))
+            return Fault(44, number + 2, f"the lock gives {gives} (in) and takes {takes} (out)")
+    return None

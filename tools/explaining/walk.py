@@ -2,7 +2,7 @@
 from typing import NamedTuple
 
 from .conditions import access_at, equation, find, holds_at, sides
-from .showing import fraction, fractions, listed
+from .showing import fractions, listed
 from .sites import acted_on, map_named
 from .words import KINDS, MAPS, WORDS
 
@@ -29,8 +29,8 @@ def _stride(site, explanation):
     return Stride(
         site,
         site.row.text,
-        fractions(site.pre, split.denominator),
-        fractions(site.post, split.denominator),
+        fractions(site.pre, split),
+        fractions(site.post, split),
         in_words(site, explanation.sites, explanation.names),
         sums(site, split, explanation.names),
         site is explanation.site,
@@ -64,7 +64,7 @@ def amounts(numbers, split, names):
     """What a map holds, in words: 1/2 of level and 2/2 of colour."""
     if numbers is None:
         return ""
-    held = [f"{fraction(a, split.denominator)} of {names.place(p)}" for p, a in enumerate(numbers) if a]
+    held = [f"{split.fraction(a, p)} of {names.place(p)}" for p, a in enumerate(numbers) if a]
     return listed(held) or "nothing"
 
 
@@ -130,6 +130,20 @@ def _moved(site, wording, split):
 
 
 # ---- As text
+
+
+def told(explanation):
+    """The walk as lines of text, or why there is none."""
+    if not explanation.sites:
+        return ["There is no walk: the sheets are not well formed, or no step of them has its map."]
+    return text(explanation) + [line for line in [past_the_lack(explanation)] if line]
+
+
+def past_the_lack(explanation):
+    """What is to be known about the walk of a sheet for filling that fails."""
+    if explanation.number != 41:
+        return ""
+    return f"From line {explanation.site.line} on, what is there is told as if that step took no more than there is."
 
 
 def text(explanation):

@@ -6,5 +6,5 @@ use evidence::series;
 use std::process::ExitCode;
 
 fn main() -> ExitCode {
-    series::written("traces", recorded, Recorded::files)
+    series::written("traces", &series::arguments(), recorded, Recorded::files)
 }

@@ -4,18 +4,18 @@ from pathlib import Path
 
 from ..refusals import REFUSALS
 from ..telling import alarm, condition_line, maps_of
-from ..walk import strides
+from ..walk import past_the_lack, strides
 from .holders import Holder
-from .picture import Picture, colour_of, fill_of, patterns
+from .fills import colour_of, fill_of, patterns
+from .picture import Picture
 
 FEW = 3  # locations whose fractions fit on one line of the walk
+BADGES = {
+    "ACCEPT": ("accepted", "ACCEPTED"), "FILLED": ("accepted", "FILLED"), "UNREAD": ("none", "NOT READ"),
+    "FAILED": ("none", "NO ANSWER")}
+ORDER = "This is one order of many. It is told so that each thread goes as far as it can before another is told on."
 
 STYLE = Path(__file__).with_name("style.css").read_text(encoding="utf-8")
-
-
-def write(file, title, explanation):
-    with open(file, "w", encoding="utf-8", errors="replace") as out:
-        out.write(text(title, explanation))
 
 
 def text(title, explanation):
@@ -29,8 +29,8 @@ def text(title, explanation):
     if explanation.sites:
         pieces += [*_picture(explanation), *_walk(explanation)]
     pieces += [
-        "<footer>The answer is racecheck's. The numbers beside it are worked out again from the two sheets by tools/explain, which"
-        " judges nothing.</footer>", "</body>", "</html>", ""]
+        f"<footer>The answer is {explanation.program}'s. The numbers beside it are worked out again from the two sheets by"
+        " tools/explain, which judges nothing.</footer>", "</body>", "</html>", ""]
     return "\n".join(pieces)
 
 
@@ -38,8 +38,7 @@ def text(title, explanation):
 
 
 def _header(title, explanation):
-    kind, badge = {"ACCEPT": ("accepted", "ACCEPTED"), "UNREAD": ("none", "NOT READ"), "FAILED": ("none", "NO ANSWER")}.get(
-        explanation.answer, ("refused", "REFUSED"))
+    kind, badge = BADGES.get(explanation.answer, ("refused", "REFUSED"))
     return [
         "<header>", f"<div><h1>{escape(title)}</h1>", f'<p class="meaning">{escape(explanation.meaning)}</p></div>',
         f'<div><div class="badge {kind}">{badge}</div><div class="answer">{escape(explanation.answer)}</div></div>', "</header>",
@@ -48,9 +47,9 @@ def _header(title, explanation):
 
 
 def _told(explanation):
-    if explanation.answer == "ACCEPT":
+    if explanation.answer in ("ACCEPT", "FILLED") and not explanation.unseen:
         return []
-    left = [f'<div class="place">{escape(line)}</div>' for line in explanation.place]
+    left = [f'<div class="place">{escape(line)}</div>' for line in explanation.unseen + explanation.place]
     if explanation.site:
         left.append(f"<p>This step is taken by <b>{escape(explanation.names.thread(explanation.site.thread))}</b>.</p>")
     if explanation.condition:
@@ -80,16 +79,31 @@ def marked(words):
 
 def _picture(explanation):
     picture = Picture(explanation)
+    folded = ", ".join(picture.folded_in_words())
     return [
-        f'<svg class="patterns" aria-hidden="true">{patterns()}</svg>', "<h2>Who holds how much</h2>", *_legend(picture),
-        *(f"<figure>{part}</figure>" for part in picture.parts()),
+        f'<svg class="patterns" aria-hidden="true">{patterns(picture.holders + _threads(picture))}</svg>',
+        "<h2>Who holds how much</h2>", f'<p class="order">{ORDER}</p>', *_legend(picture),
+        *([f'<p class="order">Not drawn, since nothing moves or touches it: {escape(folded)}.</p>'] if folded else []),
+        *(piece for block in picture.blocks for piece in _columns(picture, block)),
+        *(f'<p class="order">{escape(line)}</p>' for line in [past_the_lack(explanation)] if line),
     ]
+
+
+def _columns(picture, block):
+    return [
+        '<figure><table class="picture">', f"<thead><tr><th>{picture.head(block)}</th></tr></thead>", "<tbody>",
+        *(f"<tr><td>{part}</td></tr>" for part in picture.parts(block)), "</tbody></table></figure>"]
+
+
+def _threads(picture):
+    """The threads that are named, whether or not they ever hold anything."""
+    named = {moment.site.thread for moment in picture.moments} | {holder.thread() for holder in picture.holders} - {None}
+    return [Holder("thread", thread) for thread in sorted(named)]
 
 
 def _legend(picture):
     kinds = {holder.kind for holder in picture.holders}
-    threads = sorted({moment.site.thread for moment in picture.moments} | {holder.thread() for holder in picture.holders} - {None})
-    rows = [(_swatch(Holder("thread", thread)), escape(picture.holder_name(Holder("thread", thread)))) for thread in threads]
+    rows = [(_swatch(thread), escape(picture.holder_name(thread))) for thread in _threads(picture)]
     if "lock" in kinds:
         rows.append((_swatch(Holder("lock", 0)), "kept in a lock that is open"))
     if "sem" in kinds:

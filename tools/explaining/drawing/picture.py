@@ -1,48 +1,41 @@
-"""The picture: steps down, locations across, and in each location's column who holds how much of it."""
+"""The picture: steps down, locations across, and in each location's column who holds how much of it.
+
+It is drawn in parts, one below the other, each low enough for what is left of a printed page; the head stands apart, so that
+every printed page can have it. Many locations make several such pictures, each of as many columns as can be read.
+"""
 from html import escape
+from textwrap import wrap
 from typing import NamedTuple
 
 from ..conditions import cell_location
-from ..showing import fraction
-from ..walk import in_words, sums
+from ..walk import in_words
 from ..words import WORDS
+from .fills import KEEPERS, colour_of, fill_of, ink_on
 from .holders import Holder, Telling
 from .places import places
 
-ROW, HEAD, FOOT = 24, 46, 10
+ROW, LINE, HEAD = 24, 17, 46
 LINE_X, THREAD_X, STEP_X, COLUMNS_X = 40, 52, 150, 520
-GAP = 26
+GAP = 26  # right of a column
 INDENT, DEEPEST = 12, 8
-ROWS_IN_A_PART = 46
-WHOLE_WIDTHS = [(1, 330), (2, 240), (4, 160), (8, 110), (16, 84)]
+ROWS_IN_A_PART = 10
+EDGE = 3
+# For so many columns at most: the width of each, and the room behind it for the names of narrow shares.
+WIDTHS = [(1, 330, 140), (2, 240, 140), (4, 150, 110), (6, 110, 80)]
+MOST_COLUMNS = 6
 LETTER, BOLD = 5.9, 6.8  # generous widths of a letter of 12 pixels
-
-# Colours that stay apart for most eyes and in grey; red is kept for the refusal.
-THREADS = ["#2f6db3", "#b8720a", "#23805f", "#8e52a1", "#b54a80", "#1c88a8", "#66751f", "#7a5c2e"]
-# What keeps rights and is no thread: its fill, and what it is called if no variable has it.
-KEPT = "#8b8f99"
-KEEPERS = {"lock": "lock", "sem": "semaphore", "rwlock": "read-write lock"}
 
 
 class Span(NamedTuple):
-    """One holder's share in a column, over rows that follow one another."""
+    """One holder's share in a column, over rows of a part that follow one another."""
 
     holder: Holder
     left: int
     number: int
     first: int
     last: int
-
-
-def colour_of(holder):
-    return KEPT if holder.kind in KEEPERS else THREADS[holder.thread() % len(THREADS)]
-
-
-def fill_of(holder):
-    """The colour of a running thread, else the pattern that patterns() makes for such a holder."""
-    if holder.kind == "thread":
-        return colour_of(holder)
-    return f"url(#{holder.kind})" if holder.kind in KEEPERS else f"url(#identifier-{holder.owner % len(THREADS)})"
+    above: bool  # it goes on in the part above, or below
+    below: bool
 
 
 class Picture:
@@ -55,100 +48,159 @@ class Picture:
         # Where a sheet gives out more than there is, the column has room for that too.
         totals = [max(map(sum, zip(*moment.held.values())), default=0) for moment in self.moments]
         self.most = max([self.split.denominator, *totals])
-        self.column = next(width for count, width in WHOLE_WIDTHS if self.split.locations <= count)
-        self.width = COLUMNS_X + self.split.locations * (self.column + GAP) + 10
         self.holders = list(dict.fromkeys(holder for moment in self.moments for holder in moment.held))
-        self.places = [places(self.moments, location) for location in range(self.split.locations)]
+        self.shown = [p for p in range(self.split.locations) if self._is_shown(p)] or [0]
+        self.folded = [p for p in range(self.split.locations) if p not in self.shown]
+        self.blocks = [self.shown[first:first + MOST_COLUMNS] for first in range(0, len(self.shown), MOST_COLUMNS)]
+        self.column, self.beside = next(widths for most, *widths in WIDTHS if len(self.blocks[0]) <= most)
+        self.places = {location: places(self.moments, location) for location in self.shown}
+        self.x = {}
+        self.width = max(map(self._place_columns, self.blocks))
+
+    def _is_shown(self, location):
+        """Whether something moves a location or touches it, or the refusal is about it."""
+        root = self.sites.root
+        states = [{Holder("thread", 0): root.pre}, *(moment.held for moment in self.moments)]
+        had = [{holder: numbers[location] for holder, numbers in state.items() if numbers[location]} for state in states]
+        touched = any(self._access(moment.site) == location for moment in self.moments)
+        return touched or any(one != had[0] for one in had) or (self.explanation.site and location == self.explanation.location)
+
+    def _place_columns(self, block):
+        """Where each column stands: behind one with narrow shares there is room for their names. Returns the width of all."""
+        at = COLUMNS_X
+        for location in block:
+            self.x[location] = at
+            narrow = any(not self._label(location, place) for row in self.places[location] for place in row)
+            at += self.column + GAP + self.beside * narrow
+        return at + 10
 
     # ---- The parts
 
-    def parts(self):
-        """The picture as one or more SVG texts, each short enough for a printed page."""
-        starts = range(0, len(self.moments), ROWS_IN_A_PART)
-        return [self._part(start, self.moments[start:start + ROWS_IN_A_PART]) for start in starts]
+    def head(self, block):
+        """The names of some columns, and their scale."""
+        pieces = [f'<svg viewBox="0 0 {self.width} {HEAD}" role="img" aria-label="the locations">']
+        whole = self._scaled(self.split.denominator)
+        for location in block:
+            x = self.x[location]
+            pieces += [
+                text("location", x, 20, self.names.place(location), self.column), text("scale", x, 38, "0", 20),
+                text("scale", x + whole, 38, "the whole", 80, "end")]
+        return "\n".join(pieces + ["</svg>"])
 
-    def _part(self, start, moments):
-        height = HEAD + len(moments) * ROW + FOOT
+    def parts(self, block):
+        """All steps with some columns, as SVG texts to be put one below the other."""
+        starts = range(0, len(self.moments), ROWS_IN_A_PART)
+        return [self._part(block, start, self.moments[start:start + ROWS_IN_A_PART]) for start in starts]
+
+    def _part(self, block, start, moments):
+        tops = [0]
+        for moment in moments:
+            tops.append(tops[-1] + ROW + LINE * (len(self._told(moment.site)) - 1))
         label = f"steps {start + 1} to {start + len(moments)} of {len(self.moments)}: who holds how much of each location"
-        pieces = [f'<svg viewBox="0 0 {self.width} {height}" role="img" aria-label="{label}">']
+        pieces = [f'<svg viewBox="0 0 {self.width} {tops[-1]}" role="img" aria-label="{label}">']
         for row, moment in enumerate(moments):
-            pieces += self._band(row, moment)
-        for location in range(self.split.locations):
-            pieces += self._column(location, start, moments)
-        for row, moment in enumerate(moments):
-            pieces += self._step(row, moment)
-            pieces += self._touch(row, moment)
-            pieces += self._refusal(row, moment)
+            pieces += self._band(tops[row], tops[row + 1], start + row, moment)
+        for location in block:
+            pieces += self._column(location, start, tops)
+        for top, bottom, moment in zip(tops, tops[1:], moments):
+            pieces += [*self._step(top, moment), *self._touch(block, top, moment), *self._refusal(block, top, bottom, moment)]
         return "\n".join(pieces + ["</svg>"])
 
     # ---- Rows
 
-    def _band(self, row, moment):
+    def _band(self, top, bottom, row, moment):
         kind = "refused" if self._is_refused(moment.site) else "even" if row % 2 else "odd"
-        return [f'<rect class="band {kind}" x="0" y="{HEAD + row * ROW}" width="{self.width}" height="{ROW}"/>']
+        return [f'<rect class="band {kind}" x="0" y="{top}" width="{self.width}" height="{bottom - top}"/>']
 
-    def _step(self, row, moment):
-        site, middle = moment.site, HEAD + row * ROW + 16
-        colour = colour_of(Holder("thread", site.thread))
-        left = STEP_X + INDENT * min(site.nest, DEEPEST)
-        words, kind, letter = in_words(site, self.sites, self.names), "step", LETTER
-        if self._is_refused(site):
-            told = sums(site, self.split, self.names) or self.explanation.numbers[0] if self.explanation.numbers else ""
-            words, kind, letter = f"{words}: {told}", "step refused", BOLD
+    def _step(self, top, moment):
+        site, middle, left = moment.site, top + 16, self._left(moment.site)
+        kind, letter = ("step refused", BOLD) if self._is_refused(site) else ("step", LETTER)
         return [
             text("line", LINE_X, middle, str(site.line), LINE_X, "end"),
-            f'<circle cx="{THREAD_X + 6}" cy="{middle - 4}" r="5" fill="{colour}"/>',
+            f'<circle cx="{THREAD_X + 6}" cy="{middle - 4}" r="5" fill="{colour_of(Holder("thread", site.thread))}"/>',
             text("thread", THREAD_X + 16, middle, self.names.thread_label(site.thread), STEP_X - THREAD_X - 20),
-            text(kind, left, middle, words, COLUMNS_X - left - 20, letter=letter),
+            *(text(kind, left, middle + LINE * number, words, COLUMNS_X - left - 20, letter=letter)
+              for number, words in enumerate(self._told(site))),
         ]
+
+    def _left(self, site):
+        return STEP_X + INDENT * min(site.nest, DEEPEST)
+
+    def _told(self, site):
+        """A step in words, on one line; the refused one whole, with what is false there, in as many lines as it takes."""
+        words = in_words(site, self.sites, self.names)
+        if not self._is_refused(site):
+            return [words]
+        letters = int((COLUMNS_X - self._left(site) - 20) / BOLD)
+        sums = [line for words in self.explanation.numbers for line in _broken(words.replace("`", ""), letters)]
+        return wrap(words, letters) + sums
 
     def _is_refused(self, site):
         return site is self.explanation.site and self.explanation.number > 0
 
     # ---- Columns
 
-    def _x(self, location):
-        return COLUMNS_X + location * (self.column + GAP)
-
     def _scaled(self, number):
         return number * self.column / self.most
 
-    def _column(self, location, start, moments):
-        x, whole, bottom = self._x(location), self._scaled(self.split.denominator), HEAD + len(moments) * ROW
-        pieces = [
-            text("location", x, 20, self.names.place(location), self.column),
-            text("scale", x, 38, "0", 20),
-            text("scale", x + whole, 38, "the whole", 80, "end"),
-            f'<rect class="free" x="{x}" y="{HEAD}" width="{whole:.1f}" height="{bottom - HEAD}"/>',
-        ]
-        for span in self._spans(location, start, moments):
-            pieces += self._share(x, span)
-        pieces.append(f'<line class="whole" x1="{x + whole:.1f}" x2="{x + whole:.1f}" y1="{HEAD - 5}" y2="{bottom + 5}"/>')
-        return pieces
+    def _column(self, location, start, tops):
+        x, whole = self.x[location], self._scaled(self.split.denominator)
+        pieces = [f'<rect class="free" x="{x}" y="0" width="{whole:.1f}" height="{tops[-1]}"/>']
+        spans = self._spans(location, start, len(tops) - 1)
+        for span in spans:
+            pieces += self._share(location, span, tops)
+        pieces.append(f'<line class="whole" x1="{x + whole:.1f}" x2="{x + whole:.1f}" y1="0" y2="{tops[-1]}"/>')
+        return pieces + self._narrow(location, spans, tops)
 
-    def _spans(self, location, start, moments):
-        """The shares of a column, each drawn once over all the rows in which it stays where it is."""
-        open_spans, done = {}, []
-        for row in range(len(moments)):
-            now = set(self.places[location][start + row])
+    def _spans(self, location, start, rows):
+        """The shares of a column, each drawn once over all the rows of the part in which it stays where it is."""
+        open_spans, done, told = {}, [], [set(), *map(set, self.places[location]), set()]
+        for row in range(rows):
+            now = told[start + row + 1]
             for place in [place for place in open_spans if place not in now]:
                 done.append((place, open_spans.pop(place), row - 1))
             for place in now:
                 open_spans.setdefault(place, row)
-        done += [(place, first, len(moments) - 1) for place, first in open_spans.items()]
-        return [Span(*place, first, last) for place, first, last in sorted(done, key=lambda span: (span[1], span[0].left))]
+        done += [(place, first, rows - 1) for place, first in open_spans.items()]
+        return [
+            Span(*place, first, last, first == 0 and place in told[start], last == rows - 1 and place in told[start + rows + 1])
+            for place, first, last in sorted(done, key=lambda span: (span[1], span[0].left))]
 
-    def _share(self, x, span):
-        top, height = HEAD + span.first * ROW, (span.last - span.first + 1) * ROW
-        left, width = x + self._scaled(span.left), self._scaled(span.number)
+    def _share(self, location, span, tops):
+        # A share that goes on has its edge outside of the part, where it is not seen.
+        top, bottom = tops[span.first] - EDGE * span.above, tops[span.last + 1] + EDGE * span.below
+        left, width = self.x[location] + self._scaled(span.left), self._scaled(span.number)
         pieces = [
-            f'<rect class="share {span.holder.kind}" x="{left:.1f}" y="{top}" width="{width:.1f}" height="{height}"'
+            f'<rect class="share {span.holder.kind}" x="{left:.1f}" y="{top}" width="{width:.1f}" height="{bottom - top}"'
             f' fill="{fill_of(span.holder)}"/>'
         ]
-        amount, name = fraction(span.number, self.split.denominator), self.holder_name(span.holder)
-        label = next((label for label in (f"{name} {amount}", name, amount) if len(label) * BOLD <= width - 10), None)
+        label = self._label(location, span)
         if label:
-            pieces.append(text(f"share-label on-{span.holder.kind}", left + 6, top + 16, label, width - 8, letter=BOLD))
+            kind = f"share-label {ink_on(span.holder)}"
+            pieces.append(text(kind, left + 6, tops[span.first] + 16, label, width - 8, letter=BOLD))
+        return pieces
+
+    def _label(self, location, share):
+        """What is written on a share: as much as it has room for; nothing if it is too narrow."""
+        amount, name = self.split.fraction(share.number, location), self.holder_name(share.holder)
+        room = self._scaled(share.number) - 10
+        return next((label for label in (f"{name} {amount}", name) if len(label) * BOLD <= room), None)
+
+    def _narrow(self, location, spans, tops):
+        """The shares too narrow for words: named right of the column where they begin, with a line from each."""
+        pieces, end = [], self.x[location] + self._scaled(self.most)
+        narrow = [span for span in spans if not span.above and not self._label(location, span)]
+        for first in sorted({span.first for span in narrow}):
+            here = [span for span in narrow if span.first == first]
+            y = tops[first] + 12
+            for span in here:
+                middle = self.x[location] + self._scaled(span.left + span.number / 2)
+                pieces.append(f'<path class="leader" d="M{middle:.1f} {y}H{end + 8:.1f}"/>')
+                pieces.append(f'<circle class="leader" cx="{middle:.1f}" cy="{y}" r="1.8"/>')
+            named = [(self.holder_name(span.holder), self.split.fraction(span.number, location)) for span in here]
+            whole, short = ", ".join(map(" ".join, named)), ", ".join(name for name, _ in named)
+            words = whole if len(whole) * LETTER <= self.beside else short
+            pieces.append(text("beside", end + 11, tops[first] + 16, words, self.beside))
         return pieces
 
     def holder_name(self, holder):
@@ -163,6 +215,14 @@ class Picture:
                 return self.names.variable(site.number)
         return f"{KEEPERS[keeper.kind]} of line {keeper.number}"
 
+    def folded_in_words(self):
+        """Each location that is not drawn, with who has it all the while."""
+        held = {Holder("thread", 0): self.sites.root.pre}
+        for location in self.folded:
+            had = [f"{self.holder_name(who)} {self.split.fraction(numbers[location], location)}" for who, numbers in held.items()
+                   if numbers[location]]
+            yield f"{self.names.place(location)} ({', '.join(had) or 'nobody has any'})"
+
     # ---- What a step touches, and what was refused
 
     def _access(self, site):
@@ -172,23 +232,28 @@ class Picture:
         types = [self.split.types[part.type].kind for part in site.parts.values()]
         return cell_location(site, self.split) if types[0] == "ref" else None
 
-    def _touch(self, row, moment):
+    def _touch(self, block, top, moment):
         location = self._access(moment.site)
-        if location is None:
+        if location not in block:
             return []
-        x, y = self._x(location) - 12, HEAD + row * ROW + ROW / 2
         kind = "write" if moment.site.word == "write" else "read"
-        return [f'<circle class="touch {kind}" cx="{x}" cy="{y}" r="5"/>']
+        return [f'<circle class="touch {kind}" cx="{self.x[location] - 12}" cy="{top + ROW / 2}" r="5"/>']
 
-    def _refusal(self, row, moment):
+    def _refusal(self, block, top, bottom, moment):
         if not self._is_refused(moment.site):
             return []
-        y = HEAD + row * ROW
-        pieces = [f'<rect class="refusal" x="1" y="{y}" width="{self.width - 2}" height="{ROW}"/>']
-        if self.explanation.number in (30, 32, 33):
-            x, whole = self._x(self.explanation.location), self._scaled(self.split.denominator)
-            pieces.append(f'<rect class="wanted" x="{x}" y="{y + 2}" width="{whole:.1f}" height="{ROW - 4}"/>')
+        pieces = [f'<rect class="refusal" x="1" y="{top + 1}" width="{self.width - 2}" height="{bottom - top - 2}"/>']
+        if self.explanation.number in (30, 32, 33, 41) and self.explanation.location in block:
+            x, whole = self.x[self.explanation.location], self._scaled(self.split.denominator)
+            pieces.append(f'<rect class="wanted" x="{x}" y="{top + 3}" width="{whole:.1f}" height="{bottom - top - 6}"/>')
         return pieces
+
+
+def _broken(words, letters):
+    """Words as lines of so many letters. A sum that does not fit behind its location stands below it, in one piece if it can."""
+    place, colon, told = words.partition(": ")
+    pieces = [words] if len(words) <= letters or not colon else [f"{place}:", told]
+    return [line for piece in pieces for line in wrap(piece, letters)]
 
 
 def text(kind, x, y, words, room, anchor="start", letter=LETTER):
@@ -196,25 +261,3 @@ def text(kind, x, y, words, room, anchor="start", letter=LETTER):
     most = int(room / letter)
     words = words if len(words) <= most else words[:max(1, most - 1)] + "…"
     return f'<text class="{kind}" x="{x:.1f}" y="{y:.1f}" text-anchor="{anchor}" data-room="{room:.0f}">{escape(words)}</text>'
-
-
-def patterns():
-    """The fills of what no running thread has: a lock's is hatched, a semaphore's dotted, a read-write lock's ruled like a book,
-    a kept share striped in its thread's colour."""
-    marks = {
-        "lock": f'<path d="M0 8L8 0M-2 2L2 -2M6 10L10 6" stroke="{KEPT}" stroke-width="1.4"/>',
-        "sem": f'<circle cx="4" cy="4" r="1.8" fill="{KEPT}"/>',
-        "rwlock": f'<path d="M0 2H8M0 6H8" stroke="{KEPT}" stroke-width="1.4"/>',
-    }
-    keepers = [
-        f'<pattern id="{kind}" width="8" height="8" patternUnits="userSpaceOnUse"><rect width="8" height="8" fill="#e4e5e9"/>'
-        f"{mark}</pattern>"
-        for kind, mark in marks.items()
-    ]
-    kept = [
-        f'<pattern id="identifier-{number}" width="9" height="9" patternUnits="userSpaceOnUse">'
-        f'<rect width="9" height="9" fill="#fff"/><rect width="9" height="9" fill="{colour}" opacity="0.25"/>'
-        f'<path d="M0 0L9 9M-2 7L2 11M7 -2L11 2" stroke="{colour}" stroke-width="2"/></pattern>'
-        for number, colour in enumerate(THREADS)
-    ]
-    return f"<defs>{''.join(keepers + kept)}</defs>"

@@ -1,0 +1,50 @@
+"""Programs whose fate is known through the search of tools/show-race: those of tests/src/steps/programs.rs, and losses.py."""
+import re
+from pathlib import Path
+
+import losses
+import plain
+from checks import check
+from racing.confirming import halt_lines, race_lines
+from racing.orders import has_odd_halt, has_race, is_stuck
+from racing.search import switches_in
+from searching import objection, searched
+
+MOST = 20_000  # states of a plain search
+LISTS = Path(__file__).resolve().parents[1] / "src" / "steps" / "programs.rs"
+
+
+def programs():
+    """(list, steps) of each known program."""
+    text = re.sub(r"\\\n\s*", "", LISTS.read_text())
+    for section in re.findall(r"pub const (\w+):.*?= &\[(.*?)\n\];", text, re.S):
+        for steps in re.findall(r'"([^"]*,\d[^"]*)"', section[1]):
+            if re.fullmatch(r"[a-z]+,\d+(\|[a-z]+,\d+)*", steps):
+                yield section[0], steps.split("|")
+
+
+def programs_of(wanted):
+    return [steps for section, steps in programs() if section == wanted]
+
+
+def check_known():
+    """Each program meets its fate, and racereplay bears it out."""
+    for number, (section, lines) in enumerate(programs()):
+        found = searched(lines)
+        met = {"RACY": found.race is not None, "ODD": found.odd is not None and found.race is None,
+               "WAITING": found.stuck is not None and found.race is None and found.odd is None}[section]
+        check(f"known program {number}, {section}: {'|'.join(lines)}", met, True)
+        if met:
+            order, shows, told = {"RACY": (found.race, has_race, race_lines), "ODD": (found.odd, has_odd_halt, halt_lines),
+                                  "WAITING": (found.stuck, is_stuck, halt_lines)}[section]
+            check(f"known program {number}, {section}: as racereplay has it", objection(lines, order, shows, told), "")
+
+
+def check_losses():
+    """Each race that a careless search loses is found, with as few switches as by the plain one."""
+    for what, lines in losses.programs():
+        wanted, found = plain.search(lines, MOST), searched(lines)
+        check(f"{what}: a race is wanted", wanted is not None and wanted[0] is not None, True)
+        check(f"{what}: its fewest switches", found.race and switches_in(found.race), wanted[0])
+        if found.race is not None:
+            check(f"{what}: as racereplay has it", objection(lines, found.race, has_race, race_lines), "")

@@ -1,0 +1,22 @@
+"""The search of tools/show-race on the lines of a program, and what racereplay has against an order."""
+from explaining.names import Names
+from explaining.sheets import Step
+from racing.confirming import Replay
+from racing.search import Limits, search
+from racing.shown import Shown
+from stepping.machine import Machine
+from stepping.program import Steps
+
+
+def machine_of(lines):
+    return Machine(Steps([Step(number, word, int(v)) for number, (word, v) in enumerate((line.split(",") for line in lines), 2)]))
+
+
+def searched(lines):
+    return search(machine_of(lines), Limits(100_000, 60))
+
+
+def objection(lines, order, shows, told):
+    """What racereplay says instead, if it does not bear out an order that shows something; else empty."""
+    shown = Shown(machine_of(lines), Names(), order, shows)
+    return Replay("\n".join([f"P,{len(lines)}", *lines, ""]).encode()).objection(told(shown))

@@ -1,0 +1,215 @@
+"""The command tools/show-race: on every example, on jobs past its bounds, with replays that lie, and with files in its way."""
+import os
+import shutil
+import subprocess
+import tempfile
+from collections import Counter
+from pathlib import Path
+
+import known
+import plain
+from checks import HOUSE, check
+from jobs import make_job, order_in, run, steps_in
+
+CONFIRMED = "racereplay, which is proved, runs this order and reports this race: "
+SEARCHED = "all of them were searched"
+SECONDS = 2
+
+
+def examples():
+    return sorted(folder for folder in (HOUSE / "examples").iterdir() if (folder / "program.txt").exists())
+
+
+def check_examples():
+    """Every race is found and confirmed in two seconds; every accepted job shows none, with all orders searched."""
+    met = Counter()
+    with tempfile.TemporaryDirectory() as scratch:
+        for folder in examples():
+            trace = Path(scratch) / f"{folder.name}.trace"
+            done, answer = run("--trace", trace, folder), written_in("RACECHECK", folder)
+            check(f"{folder.name}: nothing on standard error", done.error, "")
+            check(f"{folder.name}: within {SECONDS} seconds, not {done.seconds:.1f}", done.seconds < SECONDS, True)
+            races = folder.name.endswith("-race")
+            met[answer == "ACCEPT", races] += 1
+            if races:
+                check_race(folder, trace, done)
+            else:
+                check(f"{folder.name}, {answer}: no race, all searched", (done.status, SEARCHED in done.said), (0, True))
+    numbers = met[True, False] > 9, met[False, True] > 7, met[True, True]
+    check("some examples are accepted, some race, none does both", numbers, (True, True, 0))
+
+
+def check_race(folder, trace, done):
+    """The order that was written, run once more by racereplay and by the second interpreter."""
+    check(f"{folder.name}: a race is shown", (done.status, "This job can race." in done.said), (1, True))
+    order = order_in(trace)
+    replayed = plain.replay(steps_in(folder), order)
+    check(f"{folder.name}: the order ends where a race shows first", replayed and replayed[:1] + replayed[1][:1], (len(order),) * 2)
+    line = replayed_line(folder, trace)
+    check(f"{folder.name}: racereplay's line", line, f"RACE,{len(order)},{len(order)},{replayed[1][1][0]},{replayed[1][1][1]}")
+    check(f"{folder.name}: racereplay's line is told", CONFIRMED + line in done.said, True)
+
+
+def replayed_line(folder, trace):
+    with tempfile.TemporaryDirectory() as scratch:
+        shutil.copy(folder / "program.txt", scratch)
+        shutil.copy(trace, Path(scratch) / "trace.txt")
+        return written_in("RACEREPLAY", scratch)
+
+
+def written_in(program, folder):
+    """The line that one of the given programs writes in a folder."""
+    done = subprocess.run([os.environ[program]], cwd=folder, stdin=subprocess.DEVNULL, capture_output=True, text=True)
+    return done.stdout.rstrip("\n")
+
+
+def check_refill():
+    """The order of the counter school's job: who meets where, after how much."""
+    with tempfile.TemporaryDirectory() as scratch:
+        done = run("--trace", Path(scratch) / "trace", HOUSE / "examples" / "refill-race")
+    for words in [
+        "Pump is about to read level (line 37) while refill is about to write 100 into level (line 70).",
+        "level, made on line 3; it holds 100 at that moment", "34 steps, 3 switches of thread"]:
+        check(f"refill-race: {words}", words in done.said, True)
+
+
+# ---- Replays that lie
+
+
+def check_lies():
+    """What racereplay does not report is not told, but loudly called a disagreement."""
+    race, waiting = HOUSE / "examples" / "join-race", known.programs_of("WAITING")[0]
+    with tempfile.TemporaryDirectory() as scratch:
+        waits = make_job(Path(scratch) / "job", waiting)
+        honest = run("--trace", Path(scratch) / "trace", race).said.split(CONFIRMED)[1].split(".")[0]
+        other = ",".join([*honest.split(",")[:-1], "9"])
+        lies = ["RAN,5", "RACE,1,1,0,1", other, "UNREAD", f"{honest},0", "nothing", "REFUSE,47,1,0,0,0",
+                "REFUSE,46,9,0,0,8,RACE,8,0,1"]
+        for number, (folder, lie) in enumerate([(race, lie) for lie in lies] + [(waits, "RAN,9"), (waits, "RACE,1,1,0,1")]):
+            liar, page = Path(scratch) / f"liar-{number}", Path(scratch) / f"page-{number}"
+            # It judges the program sheet rightly, which has an empty trace beside it.
+            liar.write_text(f"#!/bin/sh\nif test -s trace.txt; then echo '{lie}'; else echo RAN,0; fi\n")
+            liar.chmod(0o755)
+            done = run("--trace", Path(scratch) / "trace", "--page", page, folder, racereplay=liar)
+            loud = ["DISAGREEMENT" in words for words in (done.said, done.error)]
+            check(f"a lying racereplay, {lie}: status, loudly", (done.status, loud), (3, [True, True]))
+            told = ["This job can race" in done.said, "line 13" in done.said, "waits" in done.said, page.exists()]
+            check(f"a lying racereplay, {lie}: nothing is told", told, [False] * 4)
+
+
+# ---- Bounds
+
+
+def readers(count, joins):
+    """So many threads read a cell, so many are joined, then the cell is written."""
+    steps = ["let,0", "ref,0", "int,0", "let,1", "newtid,0"]
+    for number in range(count):
+        steps += [f"let,{2 + number}", "spawn,0", "var,1", "read,0", "var,0"]
+    for number in range(joins):
+        steps += [f"let,{2 + count + number}", "join,0", "var,1"]
+    return [*steps, "write,0", "var,0", "int,1"]
+
+
+def check_bounds():
+    """What was not searched is told, and what racereplay has no room for is not."""
+    with tempfile.TemporaryDirectory() as scratch:
+        scratch = Path(scratch)
+        for option in ("--states", "--seconds"):
+            done = run(option, 0, HOUSE / "examples" / "refill")
+            check(f"{option} 0", (done.status, "that proves nothing" in done.said, SEARCHED in done.said), (4, True, False))
+        done = run("--states", 60, HOUSE / "examples" / "refill")
+        check("--states 60: the bound is told", (done.status, "Every order with fewer than" in done.said), (4, True))
+        done = run(make_job(scratch / "all joined", readers(20, 20)))
+        check("20 readers, all joined", (done.status, SEARCHED in done.said), (0, True))
+        done = run(make_job(scratch / "none joined", readers(15, 0)))
+        check("15 readers, none joined: within the room", (done.status, CONFIRMED in done.said), (1, True))
+        folder = make_job(scratch / "one not joined", readers(20, 19))
+        done = run(folder)
+        check("20 readers, one not joined: past the room", (done.status, "it is not told" in done.said), (4, True))
+        replayed = plain.replay(steps_in(folder), order_in(folder / "trace.txt"))
+        check("20 readers, one not joined: its order races all the same", replayed[1] is not None, True)
+
+
+# ---- Halts
+
+
+def check_halts():
+    """A thread stuck at a word of the wrong kind and a wait of all are told, each with its order."""
+    with tempfile.TemporaryDirectory() as scratch:
+        for section, status, words in [("ODD", 1, "can get stuck"), ("WAITING", 0, "can wait for ever")]:
+            for number, steps in enumerate(known.programs_of(section)[:3]):
+                folder = make_job(Path(scratch) / f"{section}{number}", steps)
+                done = run(folder)
+                told = [words in done.said, "refuses a step behind it: REFUSE,47," in done.said, "can race" in done.said]
+                check(f"{section} {number}", (done.status, told), (status, [True, True, False]))
+                check(f"{section} {number}: its order runs", plain.replay(steps, order_in(folder / "trace.txt")) is not None, True)
+
+
+# ---- Files
+
+
+def check_files():
+    """trace.txt is written into the folder if there is none; nothing is written over without being asked."""
+    with tempfile.TemporaryDirectory() as scratch:
+        folder = Path(scratch) / "job"
+        folder.mkdir()
+        shutil.copy(HOUSE / "examples" / "join-race" / "program.txt", folder)
+        trace = folder / "trace.txt"
+        check("the split is not needed", run(folder).status, 1)
+        written = trace.read_bytes()
+        check("the folder afterwards", sorted(file.name for file in folder.iterdir()), ["program.txt", "trace.txt"])
+        check("the same order again", f"The order is in {trace}" in run(folder).said, True)
+        trace.write_text("0,0\n")
+        done = run(folder)
+        check("another trace.txt is left", (done.status, "is left as it is" in done.said, trace.read_text()), (1, True, "0,0\n"))
+        check("--trace writes over it", (run("--trace", trace, folder).status, trace.read_bytes()), (1, written))
+        (folder / "names.txt").write_text("variable,0,<level>\nthread,1,pump\n")
+        done = run(folder)
+        wanted = ["<level>, made on line 3", "pump is about to read <level>"]
+        check("names are used", [words for words in wanted if words not in done.said], [])
+
+
+def check_errors():
+    join = HOUSE / "examples" / "join"
+    with tempfile.TemporaryDirectory() as scratch:
+        empty, bad = Path(scratch) / "empty", Path(scratch) / "bad"
+        empty.mkdir()
+        bad.mkdir()
+        (bad / "program.txt").write_text("P,1\nvar,0\n")
+        for what, arguments, message in [
+            ("no arguments", [], "usage: show-race"), ("an unknown option", ["-x", join], "usage: show-race"),
+            ("two folders", [join, join], "usage: show-race"), ("a page without a file", [join, "--page"], "usage: show-race"),
+            ("no number", ["--states", "many", join], "usage: show-race"), ("no such folder", ["nowhere"], "no such folder"),
+            ("no program", [empty], "no program.txt"),
+        ]:
+            done = run(*arguments)
+            check(f"show-race, {what}", (done.status, message in done.error), (2, True))
+        done = run(bad)
+        check("a program that is not well formed", (done.status, "REFUSE,14,2,0,0,0" in done.said), (2, True))
+        check("no racereplay", run(join, racereplay="nowhere").status, 2)
+        for number, dead in enumerate(["exit 3", "echo RAN", "sleep 0; kill $$"]):
+            program = Path(scratch) / f"dead-{number}"
+            program.write_text(f"#!/bin/sh\n{dead}\n")
+            program.chmod(0o755)
+            check(f"a racereplay that fails, {dead}", run(join, racereplay=program).status, 2)
+    done = run("--trace", HOUSE / "examples" / "join-race" / "program.txt", HOUSE / "examples" / "join-race")
+    check("a trace over the program", (done.status, "over a file of the pair" in done.error), (2, True))
+    check("show-race --help", run("--help").said.count("usage: show-race"), 1)
+
+
+def check_explain():
+    """tools/explain names the tool where a well-formed pair is refused, and nowhere else."""
+    for name, wanted in [("join-race", True), ("join", False)]:
+        done = subprocess.run([HOUSE / "tools" / "explain", HOUSE / "examples" / name], capture_output=True, text=True)
+        check(f"explain of {name}: names tools/show-race", "tools/show-race" in done.stdout, wanted)
+
+
+def check_tool():
+    check_examples()
+    check_refill()
+    check_lies()
+    check_bounds()
+    check_halts()
+    check_files()
+    check_errors()
+    check_explain()

@@ -1,0 +1,31 @@
+"""The commands that README.md shows, as they are written there: they run, and write what is shown below them."""
+import re
+import subprocess
+import tempfile
+from pathlib import Path
+
+from checks import HOUSE, check, user_environment
+from install import make_house
+
+
+def shown():
+    """Each command of the page with the lines that it shows below it."""
+    for block in re.findall(r"(?:^    [^\n]*\n)+", (HOUSE / "README.md").read_text(), re.M):
+        for command in re.split(r"^    \$ ", block, flags=re.M)[1:]:
+            first, *rest = command.rstrip("\n").split("\n")
+            yield first, [line[4:] for line in rest]
+
+
+def check_readme(programs):
+    commands = list(shown())
+    check("README.md shows commands", len(commands) >= 8, True)
+    with tempfile.TemporaryDirectory() as scratch:
+        house = Path(scratch) / "house"
+        make_house(house, programs)
+        for command, lines in commands:
+            environment = user_environment(HOME=scratch, RACECHECK="", RACEFILL="", RACEREPLAY="")
+            done = subprocess.run(
+                ["bash", "-c", command], cwd=house, env=environment, stdin=subprocess.DEVNULL, capture_output=True, text=True)
+            check(f"README.md, {command}: status", done.returncode in (0, 1), True)
+            if lines:
+                check(f"README.md, {command}", done.stdout.splitlines(), lines)

@@ -1,0 +1,56 @@
+"""The man pages, made of docs/COMMANDS.md: a section `## name: what it does` is a page. A new program is one more section."""
+import re
+from pathlib import Path
+
+from explaining.refusals import OF_CHECKING, OF_FILLING, OF_REPLAYING, REFUSALS
+
+SOURCE = Path(__file__).resolve().parents[2] / "docs" / "COMMANDS.md"
+SECTION = re.compile(r"^## (\w+): (.*?)\n(.*?)(?=^## |\Z)", re.M | re.S)
+# Which answers a line `<!-- answers: kind -->` stands for.
+ANSWERS = {"checking": OF_CHECKING, "filling": OF_FILLING, "replaying": OF_REPLAYING}
+
+
+def manual_pages():
+    """Each program's name, and its man page."""
+    sections = SECTION.findall(SOURCE.read_text(encoding="utf-8"))
+    names = [name for name, _, _ in sections]
+    return {name: _page(name, what, text, [one for one in names if one != name]) for name, what, text in sections}
+
+
+def _page(name, what, text, others):
+    synopsis, *blocks = [block for block in re.split(r"\n{2,}", text.strip("\n")) if block.strip()]
+    lines = [
+        f'.TH {name} 1 "" "racecheck" "racecheck"', ".SH NAME", f"{name} \\- {_escaped(what)}",
+        ".SH SYNOPSIS", f".B {_escaped(synopsis.strip())}", ".SH DESCRIPTION"]
+    for block in blocks:
+        lines += _block(block)
+    return "\n".join([*lines, ".SH SEE ALSO", ", ".join(f"\\fB{one}\\fR(1)" for one in others), ""])
+
+
+def _block(block):
+    """A heading, a list of answers, an example, a list or a paragraph."""
+    answers = re.fullmatch(r"<!-- answers: (\w+) -->", block.strip())
+    if block.startswith("### "):
+        return [f".SH {block[4:].upper()}"]
+    if answers:
+        return [line for number in sorted(ANSWERS[answers[1]]) for line in (".TP 6", str(number), _inline(REFUSALS[number].found))]
+    if block.startswith("    "):
+        return [".PP", ".RS 4", ".nf", *(_escaped(line[4:]) for line in block.split("\n")), ".fi", ".RE"]
+    if block.startswith("- "):
+        return [line for item in block.split("\n") for line in (".IP \\(bu 3", _inline(item[2:]))]
+    return [".PP", _inline(block.replace("\n", " "))]
+
+
+def _inline(words):
+    """Words with `code` in bold, and links as their text."""
+    pieces = re.sub(r"\[([^]]*)\]\([^)]*\)", r"\1", words).split("`")
+    return _guarded("".join(f"\\fB{_escaped(piece)}\\fR" if place % 2 else _escaped(piece) for place, piece in enumerate(pieces)))
+
+
+def _escaped(words):
+    return _guarded(words.replace("\\", "\\e").replace("-", "\\-"))
+
+
+def _guarded(words):
+    """A line that does not begin as a request."""
+    return "\\&" + words if words.startswith((".", "'")) else words

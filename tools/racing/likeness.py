@@ -1,0 +1,85 @@
+"""States up to names: two states with one key can do the same, save for numbers and the order of threads."""
+from stepping.machine import CELL, LOCK, RWLOCK, SEM, kind, name
+from stepping.program import FINISHED
+
+NEVER = 1 << 30
+CONSTANT, NOBODY = -1, -2
+
+
+def key(state, last, alike):
+    """The key of a state after a move of thread `last`. `alike` has the shape of each point.
+
+    Constants are left out, since no step depends on one. So is what no thread can reach any more, and the value of a
+    finished thread, which nobody sees.
+    """
+    entries = []
+    for thread in state.threads:
+        if thread.point != FINISHED:
+            values = thread.operands + thread.slots
+            entries.append(((alike[thread.point], thread.number != last, tuple(map(kind, values))), values, thread))
+    entries.sort(key=lambda entry: entry[0])
+    names = {}
+    _name_in_turn(entries, names)
+    things = _things(state, names)
+    threads = tuple([
+        (signature, tuple([names[value] if kind(value) else CONSTANT for value in values]), names.get(thread.identifier, NOBODY))
+        for signature, values, thread in entries])
+    return threads, things
+
+
+def _name_in_turn(entries, names):
+    """Names values in the order of the threads; threads that look alike stand in the order of what is named already."""
+    at = 0
+    while at < len(entries):
+        end = at + 1
+        while end < len(entries) and entries[end][0] == entries[at][0]:
+            end += 1
+        if end - at > 1:
+            entries[at:end] = sorted(entries[at:end], key=lambda entry: (
+                [names.get(value, NEVER) for value in entry[1]], names.get(entry[2].identifier, NEVER)))
+        for _, values, _ in entries[at:end]:
+            for value in values:
+                if kind(value) and value not in names:
+                    names[value] = len(names)
+        at = end
+
+
+def _things(state, names):
+    """What each named thing is like, in the order of the names; contents of cells get theirs here."""
+    order, things = list(names), []
+    finished = {}
+    for thread in state.threads:
+        if thread.point == FINISHED:
+            finished[thread.identifier] = finished.get(thread.identifier, 0) + 1
+    for value in order:  # grows while it is walked
+        sort = kind(value)
+        if sort == CELL:
+            content = state.cells[name(value)]
+            if kind(content) and content not in names:
+                names[content] = len(names)
+                order.append(content)
+            things.append((sort, names[content] if kind(content) else CONSTANT))
+        elif sort == LOCK:
+            things.append((sort, state.locks[name(value)]))
+        elif sort == SEM:
+            things.append((sort, state.sems[name(value)]))
+        elif sort == RWLOCK:
+            things.append((sort, state.rwlocks[name(value)]))
+        else:
+            things.append((sort, finished.get(value, 0)))
+    return tuple(things)
+
+
+def reached_by_others(state, at):
+    """The things that a thread other than the one at this place can get at."""
+    reached = set()
+    waiting = [
+        value for place, thread in enumerate(state.threads) if place != at and thread.point != FINISHED
+        for value in thread.operands + thread.slots]
+    while waiting:
+        value = waiting.pop()
+        if kind(value) and value not in reached:
+            reached.add(value)
+            if kind(value) == CELL:
+                waiting.append(state.cells[name(value)])
+    return reached

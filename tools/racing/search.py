@@ -1,0 +1,271 @@
+"""The search for an order of moves with a race: fewest switches of thread first, then fewest steps.
+
+Between two switches only what others can see is a point to switch at. Steps on nothing shared are taken at once, or as late
+as the thread's next step that others see, whichever loses nothing; docs/RACES.md has the reasons.
+"""
+import heapq
+import time
+from typing import NamedTuple
+
+from stepping.machine import DONE, KIND, ODD, READY, ROOM, WAITS, WANTS, Room, kind
+from stepping.program import FINISHED
+
+from .likeness import key, reached_by_others
+from .shapes import alike
+
+# Steps that touch nothing another thread can name, and that always go ahead.
+LOCAL = {"let", "while", "ref", "newtid", "newlock", "newsem", "newrwlock"}
+MAKERS = LOCAL - {"let", "while"}
+# Steps that always go ahead, and only let others do more.
+GIVING = {"spawn", "post"}
+
+
+PLENTY = Room(256, 256)  # to search on where there is no race within that of racereplay
+
+
+class Limits(NamedTuple):
+    """How far to search."""
+
+    states: int = 200_000
+    seconds: float = 20.0  # of processor time
+
+
+class Outcome(NamedTuple):
+    """Where a thread can get by itself, up to its next step that others see."""
+
+    moves: tuple  # (thread, choice)
+    state: object
+    at: int
+    standing: str
+
+
+class Found(NamedTuple):
+    """What a search met. An order is a list of moves (thread, choice)."""
+
+    race: list  # an order that ends in a state with a race, or None
+    odd: list  # one that ends with a thread halted at a word of the wrong kind, or None
+    stuck: list  # one that ends with every unfinished thread waiting, or None
+    states: int
+    seconds: float
+    limited: bool  # the search was ended by its limits
+    cut: bool  # some order was left at the end of the room
+    switches: int  # every order with fewer switches was tried
+
+    def whole(self):
+        """Whether every order was searched."""
+        return self.race is None and not self.limited and not self.cut
+
+
+class _Node(NamedTuple):
+    state: object
+    last: int
+    moves: tuple
+    before: object
+
+    def path(self):
+        pieces, node = [], self
+        while node is not None:
+            pieces.append(node.moves)
+            node = node.before
+        return [move for piece in reversed(pieces) for move in piece]
+
+
+def search(machine, limits=Limits()):
+    """What is met in the room of racereplay; if some order goes past it and there is no race within, in plenty."""
+    found = Search(machine, limits, ROOM).run()
+    if found.race is not None or found.limited or not found.cut:
+        return found
+    return Search(machine, limits, PLENTY).run()
+
+
+class Search:
+    def __init__(self, machine, limits, room):
+        self.machine, self.points, self.limits, self.room = machine, machine.points, limits, room
+        self._alike = alike(machine.steps)
+        self.cut = False
+        self.odd = self.stuck = None
+        self._turn = 0
+        self._heap = []
+
+    def run(self):
+        begun = time.process_time()
+        state, moves = self._settled(self.machine.start(), 0)
+        self._push(0, len(moves), _Node(state, 0, moves, None), None)
+        seen, switches = set(), 0
+        while self._heap:
+            switches, steps, _, node, race = heapq.heappop(self._heap)
+            if race is not None:
+                return self._found(race, seen, begun, False, switches)
+            known = key(node.state, node.last, self._alike)
+            if known in seen:
+                continue
+            if len(seen) >= self.limits.states or time.process_time() - begun > self.limits.seconds:
+                return self._found(None, seen, begun, True, switches)
+            seen.add(known)
+            self._expand(node, switches, steps)
+        return self._found(None, seen, begun, False, switches)
+
+    def _found(self, race, seen, begun, limited, switches):
+        return Found(race, self.odd, self.stuck, len(seen), time.process_time() - begun, limited, self.cut, switches)
+
+    def _push(self, switches, steps, node, race):
+        self._turn += 1
+        heapq.heappush(self._heap, (switches, steps, self._turn, node, race))
+
+    # ---- From one state
+
+    def _expand(self, node, switches, steps):
+        state = node.state
+        if not self.room.holds(state):
+            self.cut = True
+            return
+        outcomes = self._all_outcomes(state)
+        self._look_for_race(node, outcomes, switches, steps)
+        self._look_for_halts(node, outcomes)
+        for thread, choices in outcomes:
+            more = switches + (thread.number != node.last)
+            for outcome in choices:
+                if outcome.standing == READY:
+                    after = self.machine.step(outcome.state, outcome.at)
+                    after, rest = self._settled(after, after.at(thread.number))
+                    moves = (*outcome.moves, (thread.number, 0), *rest)
+                elif outcome.standing == DONE:
+                    after, moves = outcome.state, outcome.moves
+                else:
+                    continue
+                then = _Node(after, thread.number, moves, node)
+                if not self._only_gone(node, after, thread.number):
+                    self._push(more, steps + len(moves), then, None)
+                elif self.stuck is None:
+                    self._look_for_halts(then, self._all_outcomes(after))
+
+    def _only_gone(self, node, after, number):
+        """Whether all that came of a thread's moves since some state on the way is that the thread is gone for good.
+
+        What the others can do now, they could do then.
+        """
+        thread = after.threads[after.at(number)]
+        if thread.point != FINISHED or thread.identifier in reached_by_others(after, after.at(number)):
+            return False
+        others = _without(after, number)
+        while node is not None and node.state.at(number) is not None:
+            if _without(node.state, number) == others and _holds_alike(node.state, after):
+                return True
+            node = node.before
+        return False
+
+    def _all_outcomes(self, state):
+        return [(thread, self._outcomes(state, at)) for at, thread in enumerate(state.threads) if thread.point != FINISHED]
+
+    def _has_no_room(self, state, word):
+        """Whether such a step would leave the room: then it is not taken ahead of others."""
+        if word == "spawn":
+            return state.spawned >= self.room.threads
+        if word not in MAKERS:
+            return False
+        made = {"ref": len(state.cells), "newtid": state.identifiers, "newlock": len(state.locks), "newsem": len(state.sems),
+                "newrwlock": len(state.rwlocks)}
+        return made[word] >= self.room.things
+
+    def _settled(self, state, at):
+        """A thread taken on through steps on nothing shared, up to a choice or a step that others see."""
+        number, moves = state.threads[at].number, []
+        while self._goes_on(state, at):
+            moves.append((number, 0))
+            state = self.machine.step(state, at)
+            at = state.at(number)
+        return state, tuple(moves)
+
+    def _goes_on(self, state, at):
+        thread = state.threads[at]
+        if thread.point == FINISHED:
+            return False
+        word = self.points[thread.point].word
+        if self._has_no_room(state, word):
+            return False
+        if word in LOCAL:
+            return True
+        if word not in WANTS or self.machine.standing(state, thread) != READY:
+            return False
+        return word in GIVING or thread.operands[0] not in reached_by_others(state, at)
+
+    def _outcomes(self, state, at):
+        """Every way in which a thread can go on by itself: through local steps and choices to a step that others see."""
+        number, outcomes, seen = state.threads[at].number, [], set()
+        waiting = [((), state)]
+        while waiting:
+            moves, now = waiting.pop()
+            thread = now.threads[at]
+            word = self.points[thread.point].word if thread.point != FINISHED else None
+            if word in LOCAL and not self._has_no_room(now, word):
+                waiting.append(((*moves, (number, 0)), self.machine.step(now, at)))
+            elif word == "if":
+                here = thread.point, tuple(value if kind(value) else 0 for value in thread.slots)
+                if here not in seen:
+                    seen.add(here)
+                    waiting += [((*moves, (number, choice)), self.machine.step(now, at, choice)) for choice in (1, 0)]
+            else:
+                outcomes.append(Outcome(moves, now, at, self.machine.standing(now, thread)))
+        return outcomes
+
+    # ---- What there is to see in a state
+
+    def _look_for_race(self, node, outcomes, switches, steps):
+        made = len(node.state.cells)
+        accesses = []
+        for thread, choices in outcomes:
+            for outcome in choices:
+                access = self.machine.access(outcome.state.threads[outcome.at])
+                if access and access[0] < made:
+                    accesses.append((thread, *access, outcome.moves))
+        for place, (one, cell, writes, moves) in enumerate(accesses):
+            for other, other_cell, other_writes, other_moves in accesses[place + 1:]:
+                if one is not other and cell == other_cell and (writes or other_writes):
+                    order = _with(_with(node.path(), moves), other_moves)
+                    self._push(switches_in(order), len(order), node, order)
+
+    def _look_for_halts(self, node, outcomes):
+        for _, choices in outcomes:
+            for outcome in choices:
+                if outcome.standing == ODD and self.odd is None:
+                    self.odd = _with(node.path(), outcome.moves)
+        if self.stuck is None:
+            waits = [next((outcome for outcome in choices if outcome.standing == WAITS), None)
+                     or next((outcome for outcome in choices if outcome.standing == DONE), None) for _, choices in outcomes]
+            if None not in waits and any(outcome.standing == WAITS for outcome in waits):
+                self.stuck = self._waiting(node, waits)
+
+    def _waiting(self, node, outcomes):
+        """The order in which every thread goes where it waits or finishes; None if a join can go on then after all."""
+        order, state = node.path(), node.state
+        for outcome in outcomes:
+            order = _with(order, outcome.moves)
+            for number, choice in outcome.moves:
+                state = self.machine.step(state, state.at(number), choice)
+        return None if any(self.machine.standing(state, thread) == READY for thread in state.threads) else order
+
+
+def _without(state, number):
+    return tuple(thread for thread in state.threads if thread.number != number)
+
+
+def _holds_alike(earlier, later):
+    """Whether what there was earlier is the same later, constants aside. What was made since then has no name but in a cell."""
+    cells = zip(earlier.cells, later.cells)
+    return (all(one == other or one < KIND > other for one, other in cells)
+            and earlier.locks == later.locks[:len(earlier.locks)] and earlier.sems == later.sems[:len(earlier.sems)]
+            and earlier.rwlocks == later.rwlocks[:len(earlier.rwlocks)])
+
+
+def _with(order, moves):
+    """An order with local moves of one thread put in behind the thread's last move, else at the end: others do not see them."""
+    if not moves:
+        return order
+    number = moves[0][0]
+    at = max((place + 1 for place, move in enumerate(order) if move[0] == number), default=len(order))
+    return order[:at] + list(moves) + order[at:]
+
+
+def switches_in(order):
+    """How often the thread changes from one move to the next."""
+    return sum(one[0] != other[0] for one, other in zip(order, order[1:]))

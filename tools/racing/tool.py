@@ -1,0 +1,134 @@
+"""tools/show-race: looks for an order with a race, has racereplay run it, and only then tells it."""
+import os
+from typing import Callable, NamedTuple
+
+from starting.command import Failure, Usage, options, say, tell
+from starting.writing import spare, write
+
+from explaining.names import FILE as NAMES
+from explaining.names import read_names
+from explaining.refusals import PROGRAM, SPLIT, TRACE
+from explaining.sheets import read_sheet, steps_of
+from explaining.showing import visible
+from stepping.machine import ROOM, Machine
+from stepping.program import Steps
+
+from . import telling
+from .confirming import Replay, halt_lines, race_lines
+from .drawing import page
+from .endings import OddHalt, Race, Wait
+from .orders import trace_text
+from .search import Limits, search
+from .shown import Shown
+
+NUMBERS = {"--states": int, "--seconds": float}
+FILES = {"--trace": "order", "--page": "page"}
+
+
+def main(arguments):
+    given, folders = options(arguments, valued=[*NUMBERS, *FILES])
+    if len(folders) != 1:
+        raise Usage
+    folder, limits = folders[0], _limits(given)
+    if not os.path.isdir(folder):
+        raise Failure(f"no such folder: {visible(folder)}")
+    job = Job(folder, given, limits)
+    answer = job.replay.answer([])  # it judges the program sheet before the trace
+    if answer.startswith("REFUSE,"):
+        tell([f"{visible(folder)}: {answer}", "The program sheet is not well formed; docs/REFUSALS.md tells what that means."])
+        return 2
+    if answer != "RAN,0":
+        raise Failure(f"racereplay says {answer}")
+    told = job.search()
+    tell([f"{visible(folder)}: {told.lines[0]}", *told.lines[1:]])
+    if told.page:
+        write(given["--page"], told.page.encode("utf-8", "replace"), FILES["--page"])
+    return told.status
+
+
+def _limits(given):
+    try:
+        return Limits(**{option.strip("-"): number(given[option]) for option, number in NUMBERS.items() if option in given})
+    except ValueError:
+        raise Usage
+
+
+class Kind(NamedTuple):
+    """Something that an order can lead to."""
+
+    ending: type
+    lines: Callable  # the lines by which racereplay bears it out
+    borne_out: str  # what racereplay has done then
+    status: int
+
+
+RACE = Kind(Race, race_lines, "racereplay, which is proved, runs this order and reports this race: {}.", 1)
+NO_STEP = "racereplay, which is proved, runs this order and refuses a step behind it: {}."
+ODD = Kind(OddHalt, halt_lines, NO_STEP, 1)
+WAIT = Kind(Wait, halt_lines, NO_STEP, 0)
+
+
+class Told(NamedTuple):
+    """What is told of a job."""
+
+    status: int
+    lines: list
+    page: str = ""  # its text, if there is one to write
+
+
+class Job:
+    """A job, and where what is found of it goes."""
+
+    def __init__(self, folder, given, limits):
+        self.folder, self.given, self.limits = folder, given, limits
+        self.program, self.names = read_sheet(folder, PROGRAM), read_names(folder)
+        if self.program is None:
+            raise Failure(f"no {PROGRAM} that can be read in {visible(folder)}")
+        for option, own in (("--trace", (PROGRAM, SPLIT, NAMES)), ("--page", (PROGRAM, SPLIT, TRACE, NAMES))):
+            if option in given:
+                spare(folder, own, given[option], FILES[option])
+        self.replay = Replay(self.program.text)
+
+    def search(self):
+        """What there is to tell."""
+        machine = Machine(Steps(steps_of(self.program)))
+        found = search(machine, self.limits)
+        if found.race is not None:
+            return self.show(RACE, machine, found.race)
+        status, lines = 0 if found.whole() else 4, telling.searched(found)
+        for kind, order in ((ODD, found.odd), (WAIT, found.stuck)):
+            if order is not None:
+                shown = self.show(kind, machine, order)
+                return Told(shown.status or status, [*lines, "", *shown.lines], shown.page)
+        return Told(status, lines + ["There is nothing to draw, so no page is written."] * ("--page" in self.given))
+
+    def show(self, kind, machine, order):
+        """Has racereplay run an order; only then it is told."""
+        shown = Shown(machine, self.names, order, kind.ending.shows)
+        written, lines = self.write_trace(shown.order), kind.lines(shown)
+        if not ROOM.holds(shown.state):
+            return Told(4 if kind.status else 0, [*telling.past_room(), written])  # that all can wait is no fault
+        objection = self.replay.objection(lines)
+        if objection:
+            say("show-race: DISAGREEMENT with racereplay, see above")
+            return Told(3, [*telling.alarm(objection), written])
+        ending, borne_out = kind.ending(shown), kind.borne_out.format(lines[0][1])
+        title = visible(os.path.basename(os.path.abspath(self.folder)))
+        drawn = page.text(title, shown, ending, borne_out) if "--page" in self.given else ""
+        return Told(kind.status, [*telling.told(shown, ending), "", borne_out, written], drawn)
+
+    def write_trace(self, order):
+        """Where the order is, in words. A trace.txt that is there already may be a record of the bench, and is left as it is."""
+        asked, text = self.given.get("--trace"), trace_text(order).encode()
+        file = asked or os.path.join(self.folder, TRACE)
+        try:
+            if asked:
+                write(asked, text, FILES["--trace"])
+            else:
+                with open(file, "xb") as out:
+                    out.write(text)
+        except FileExistsError:
+            kept = read_sheet(self.folder, TRACE)
+            if kept is None or kept.text != text:
+                return f"{visible(file)} is there already and is left as it is; --trace FILE writes this order elsewhere."
+        return f"The order is in {visible(file)}, as racereplay reads it."
