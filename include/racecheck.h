@@ -12,7 +12,7 @@
  * - Any lengths and any bytes are taken; there is no other precondition. Given texts are not written to.
  * - Nothing is kept between calls, and nothing is allocated: calls may run at once, each with buffers of its own.
  * - The number returned is 0, or that of a refusal (docs/REFUSALS.md).
- * - Stack: a check needs 34 KB, a replay 42 KB, a filling 60 KB, a drill less. RACECHECK_STACK_BYTES is enough for all.
+ * - Stack: a check needs 35 KB, a replay 45 KB, a filling 81 KB, a drill less. RACECHECK_STACK_BYTES is enough for all.
  */
 #ifndef RACECHECK_H
 #define RACECHECK_H
@@ -24,8 +24,10 @@
 extern "C" {
 #endif
 
-/* The work space that a check, a filling or a replay wants, in numbers of 32 bits. With less the answer is 1,0,0,0. */
+/* The work space that a check or a filling wants, and the space that a replay wants, in numbers of 32 bits. With less the answer
+ * is 1,0,0,0. */
 #define RACECHECK_WORK 16384
+#define RACECHECK_REPLAY_SPACE 542960
 /* What a replay stores where there is no race. */
 #define RACECHECK_NO_STATE UINT64_MAX
 #define RACECHECK_NO_THREAD UINT32_MAX
@@ -76,7 +78,8 @@ uint32_t racecheck_fill(
 /* Runs a job in a recorded order (docs/REPLAY.md). Returns 0 if every line of the trace was done, else the number of the refusal
  * and its line; `line` is 0 where there is none. Stores the steps done, and the first state with a race among them with its two
  * threads, or RACECHECK_NO_STATE and two times RACECHECK_NO_THREAD. A trace may have any length. Afterwards anything may stand
- * in the first RACECHECK_WORK numbers of `space`, and the rest is as it was; if `space` was too short, all of it is as it was. */
+ * in the first RACECHECK_REPLAY_SPACE numbers of `space`, and the rest is as it was; if `space` was too short, all of it is as it
+ * was. */
 uint32_t racecheck_replay(
     const uint8_t *program, size_t program_len,
     const uint8_t *trace, size_t trace_len,

@@ -6,9 +6,10 @@
 
 mod replays;
 
-use evidence::answer::{Returned, LOCATIONS, SPLIT_BYTES, STEPS, TYPES, WHOLE, WORK_SPACE};
+use evidence::answer::{Returned, LOCATIONS, PROCEDURES, SPLIT_BYTES, STEPS, TYPES, WHOLE, WORK_SPACE};
 use evidence::draw::draft::{Draft, Heading, Map, Step};
 use evidence::draw::random::Random;
+use evidence::draw::unfilled::emptied::{emptied, Kept};
 use evidence::draw::{full, honest, unfilled};
 use evidence::types::Type;
 use evidence::words::Word;
@@ -61,9 +62,13 @@ fn main() -> ExitCode {
     bench.row(&Pair::new("full, accepted", &fullest), None);
     bench.row(&Pair::new("full, refused at its last condition", &refused), None);
     bench.row(&Pair::new("deepest types, accepted", &deepest()), None);
+    let called = with_procedures(random);
+    bench.row(&Pair::new("16 procedures, accepted", &called), None);
     let unfilled = unfilled::limits::fullest(random).pair;
     let title = "full sheet of 256 maps, filled".to_string();
     filling.row(&Pair { title, program: unfilled.program, split: unfilled.split }, None);
+    let split = emptied(&called.split(), Kept::Used).expect("a draft's split has the lines of one");
+    filling.row(&Pair { title: "16 procedures, filled".to_string(), program: called.program(), split }, None);
     bench.growth("steps", [16, 32, 64, 128, 256], |random, count| grown(random, count, 32, 4));
     bench.growth("maps", [32, 64, 128, 256, 512], |random, count| grown(random, 32, count, 4));
     bench.growth("locations", [1, 2, 4, 8, 16], |random, count| grown(random, 32, 256, count));
@@ -83,6 +88,17 @@ fn grown(random: &mut Random, steps: usize, maps: usize, locations: usize) -> Dr
                 map[..locations].fill_with(|| random.between(100_000_000, 999_999_999));
                 draft.maps.push(map);
             }
+            return draft;
+        }
+    }
+}
+
+/// An honest draft with as many procedures as there may be, and at least half of the steps.
+fn with_procedures(random: &mut Random) -> Draft {
+    let (most, locations) = (STEPS as usize, LOCATIONS as usize);
+    loop {
+        let draft = honest::procedures::draft(random, PROCEDURES as usize, 24, locations, 100_000_000);
+        if (most / 2..=most).contains(&draft.steps.len()) {
             return draft;
         }
     }
@@ -110,6 +126,7 @@ fn deepest() -> Draft {
         types,
         maps: vec![[WHOLE; LOCATIONS as usize]],
         steps,
+        procedures: None,
     }
 }
 

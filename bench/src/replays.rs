@@ -17,7 +17,12 @@ const TWO_THREADS: &str = "let,0|ref,0|int,0|let,1|newlock,0|let,2|spawn,0|newti
                            let,4|write,0|var,0|int,1|unlock,0|var,1|while,0|let,5|lock,0|var,1|let,6|read,0|var,0|\
                            unlock,0|var,1";
 
-/// Times traces of three lengths, whose cost a line should not grow, and one of many threads.
+/// The same two threads, each of which writes or reads in a procedure that it calls while it has the lock.
+const CALLING: &str = "proc,10|write,0|var,10|int,1|proc,11|read,0|var,11|\
+                       let,0|ref,0|int,0|let,1|newlock,0|let,2|spawn,0|newtid,0|while,0|let,3|lock,0|var,1|\
+                       let,4|call,0|var,0|unlock,0|var,1|while,0|let,5|lock,0|var,1|let,6|call,1|var,0|unlock,0|var,1";
+
+/// Times traces of three lengths, whose cost a line should not grow, one of many threads, and one with calls.
 pub fn rows(product: Replayer) {
     println!(
         "\nnanoseconds a line of a trace, the median of {TURNS} turns; the space lent is {} bytes",
@@ -29,6 +34,7 @@ pub fn rows(product: Replayer) {
         before = Some(row(product, "two threads round a lock", TWO_THREADS, lines, before));
     }
     row(product, "16 threads that read one cell", &many_threads(), 1_000_000, None);
+    row(product, "two threads that call", CALLING, 1_000_000, None);
 }
 
 /// Fifteen spawned threads and the first one, each of which reads the cell again and again.
@@ -40,8 +46,11 @@ fn many_threads() -> String {
 
 /// Measures one trace, prints its line and returns the product's nanoseconds a line; `before` are those of the
 /// line above.
-fn row(product: Replayer, title: &str, steps: &str, lines: usize, before: Option<f64>) -> f64 {
-    let program = format!("P,{}|{steps}|", steps.split('|').count()).replace('|', "\n").into_bytes();
+fn row(product: Replayer, title: &str, sheet: &str, lines: usize, before: Option<f64>) -> f64 {
+    let procedures = sheet.matches("proc,").count();
+    let steps = sheet.split('|').count() - procedures;
+    let head = if procedures > 0 { format!("P2,{steps},{procedures}") } else { format!("P,{steps}") };
+    let program = format!("{head}|{sheet}|").replace('|', "\n").into_bytes();
     let schedule = Schedule { manner: Manner::Any, steps: lines, first_part: 100, past_limits: false, one_more: false };
     let trace = schedule.trace(&mut Random::new(12, 0), &program);
     let mut space = vec![0; REPLAY_SPACE];

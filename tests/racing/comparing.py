@@ -20,7 +20,7 @@ def check_drawn(count, seed, most):
     """So many drawn programs. One with more than `most` states in the plain search is passed over. The tally, in words."""
     tally, switches, number = Counter(), Counter(), 0
     while tally["compared"] < count:
-        lines = Draw(seed * 1_000_000 + number, odd=number % 6 == 0, dense=number % 2 == 1).program()
+        lines = Draw(seed * 1_000_000 + number, odd=number % 6 == 0, dense=number % 2 == 1, calls=number % 5 < 2).program()
         number += 1
         wanted = plain.search(lines, most) if len(lines) <= LONGEST else None
         if wanted is None:
@@ -29,6 +29,7 @@ def check_drawn(count, seed, most):
         found = searched(lines)
         check(f"drawn program {number - 1} of seed {seed}: {'|'.join(lines)}", differences(lines, wanted, found), [])
         tally["compared"] += 1
+        tally["with calls"] += any(line.startswith("call,") for line in lines)
         count_met(tally, switches, wanted, found)
     words = ", ".join(f"{counted} {what}" for what, counted in tally.items())
     return f"{words}; fewest switches {', '.join(f'{least}: {times}' for least, times in sorted(switches.items()))}"

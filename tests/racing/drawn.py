@@ -1,4 +1,5 @@
-"""Drawn programs, small enough for a plain search: threads that share cells under locks, semaphores, joins, or nothing."""
+"""Drawn programs, small enough for a plain search: threads that share cells under locks, semaphores, joins, or nothing, in part
+in procedures, which call one another and themselves."""
 import random
 
 ACTS = {
@@ -13,13 +14,21 @@ ACTS = {
 class Draw:
     """One program. A dense one has no loops and choices, and its threads touch two or three things again and again."""
 
-    def __init__(self, seed, odd=False, dense=False):
-        self.random, self.odd, self.dense = random.Random(seed), odd, dense
+    def __init__(self, seed, odd=False, dense=False, calls=False):
+        self.random, self.odd, self.dense, self.calls = random.Random(seed), odd, dense, calls
         self.variable, self.left = 0, 0
+        self.procedures = []  # by number, the kind of thing that each is handed
         self.lines = []
 
     def program(self):
-        """The lines of a program sheet's steps."""
+        """The lines of a program sheet behind the first."""
+        if self.calls:
+            self.procedures = self.random.choices(["cell", "cell", "lock", "sem"], k=self.random.randint(1, 3))
+        for kind in self.procedures:
+            here = self._new()
+            self._say(f"proc,{here}")
+            self.left = self.random.randint(1, 3)
+            self._body([(kind, here)], depth=1)
         self.left = self.random.randint(4, 14)
         kinds = ["cell"] + [self.random.choice(["lock", "sem", "rw", "tid", "boxed"]) for _ in range(self.random.randint(0, 2))]
         if self.dense:
@@ -65,10 +74,22 @@ class Draw:
             bound = self._act(known, depth)
             if bound:
                 known = known + [(bound, here)]
-        self._say(*([f"var,{self.random.choice(known)[1]}"] if self.random.random() < 0.1 else ["int,0"]))
+        # A call in the last place, or a value.
+        if not (self.calls and self.random.random() < 0.2 and self._call(known)):
+            self._say(*([f"var,{self.random.choice(known)[1]}"] if self.random.random() < 0.1 else ["int,0"]))
+
+    def _call(self, known):
+        """A call of a procedure for something known; whether there is one."""
+        fitting = [(number, one[1]) for number, kind in enumerate(self.procedures) for one in known if one[0] == kind]
+        if fitting:
+            number, handed = self.random.choice(fitting)
+            self._say(f"call,{number}", f"var,{handed}")
+        return bool(fitting)
 
     def _act(self, known, depth):
         self.left -= 1
+        if self.calls and self.random.random() < 0.3 and self._call(known):
+            return None
         if self.dense:
             return self._touch(known)
         drawn = self.random.random()
@@ -99,7 +120,7 @@ class Draw:
         self._body(known, depth + 1)
 
     def _touch(self, known):
-        cells = [one for one in known if one[0] == "cell"]
+        cells = [one for one in known if one[0] == "cell"] or known
         others = [one for one in known if one[0] != "cell"]
         # Few accesses among many other steps: else most programs race at once.
         if self.dense:

@@ -29,10 +29,16 @@ def _processor_time():
     return used.ru_utime + used.ru_stime
 
 
-def make_job(folder, steps):
+def sheet_of(lines):
+    """The program sheet with these lines behind its first: a P2 sheet if there are procedures."""
+    procedures = sum(line.startswith("proc,") for line in lines)
+    return "\n".join([f"P2,{len(lines) - procedures},{procedures}" if procedures else f"P,{len(lines)}", *lines, ""])
+
+
+def make_job(folder, lines):
     """A folder with a program sheet of these lines and nothing else."""
     folder.mkdir(parents=True)
-    (folder / "program.txt").write_text("\n".join([f"P,{len(steps)}", *steps, ""]))
+    (folder / "program.txt").write_text(sheet_of(lines))
     return folder
 
 

@@ -1,6 +1,7 @@
 """Races that a careless search loses: one job for each thing that it must not do.
 
-A job is acts one after the other: `l = newlock` binds a name, a list is a thread that is spawned, a pair of lists a choice.
+A job is acts one after the other: `l = newlock` binds a name, a list is a thread that is spawned, a pair of lists a choice. A
+procedure is acts on c, the thing that a call hands over.
 """
 _START = ["x = ref 0", "y = ref 0", "l = newlock", "m = newlock", "k = newlock", "s = newsem", "r = newrwlock", "t = newtid"]
 _WRITES, _ALSO = "write x 1", "write x 2"
@@ -45,16 +46,47 @@ LOSSES = {
     "who moved last": ["lock l", ["read y", "lock l", _WRITES], ["a = ref 0", "b = ref 0", "unlock l"], _ALSO, "read y", "lock l"],
 }
 
+PROCEDURES = {
+    "look": ["read c", "read c"], "take": ["wait c"], "outer": ["call inner c", "post c"], "inner": ["post c"],
+    "again": [(["unlock c", "call again c"], ["0"])], "perhaps": [(["read c"], ["0"])],
+}
+# With calls: what is left of a thread is more than what is left of a body.
+CALLS = {
+    "what is behind a call taken for the same": [
+        ["lock l", _WRITES, "read y"], (["call look y", "lock l", _ALSO], ["call look y", _ALSO, "lock l"])],
+    "a choice in a procedure taken once for two calls": [
+        ["lock l", _WRITES, "read y"], (["call perhaps y", "lock l", _ALSO], ["call perhaps y", _ALSO, "lock l"])],
+    "what a caller keeps taken for the same": [
+        ["lock l", "read y", _WRITES, "lock m"], "z = either l m", "call look y", "lock z", _ALSO, "lock l", "lock m"],
+    "a lock that a caller keeps taken at once": [
+        "d = newsem", ["post s", "call take d", "lock l", "unlock l", _WRITES], "wait s", "post d", "lock l", _ALSO],
+    "what is behind an outer call lost": [["call outer s", "lock m"], [_WRITES], "wait s", "wait s", _ALSO],
+    "the second round of a procedure that calls itself": [
+        "lock l", ["call again l", "lock m"], [_WRITES], "lock l", "lock l", _ALSO],
+}
+
 
 def programs():
-    """(what is lost, the lines of the steps) of each."""
+    """(what is lost, the lines of its sheet behind the first) of each."""
     for what, acts in LOSSES.items():
         yield what, _Job().steps(_START + acts)
+    for what, acts in CALLS.items():
+        job = _Job()
+        yield what, job.procedures() + job.steps(_START + acts)
 
 
 class _Job:
     def __init__(self):
         self.names, self.count = {}, 0
+
+    def procedures(self):
+        lines = []
+        for acts in PROCEDURES.values():
+            self.names = {"c": self.count}
+            lines.append(f"proc,{self.count}")
+            self.count += 1
+            lines += self.steps(acts)
+        return lines
 
     def steps(self, acts):
         """Each act but the last in a let of its own, around all that follows."""
@@ -76,6 +108,10 @@ class _Job:
         if isinstance(act, tuple):
             return ["if,0", *self.steps(act[0]), *self.steps(act[1])]
         word, *operands = act.split()
+        if word.isdigit():
+            return self._value(word)
+        if word == "call":
+            return [f"call,{list(PROCEDURES).index(operands[0])}", *self._value(operands[1])]
         if word == "spawn":
             operands.append("0")
         lines = ["if,0" if word == "either" else "newrwlock,1" if word == "newrwlock" else f"{word},0"]

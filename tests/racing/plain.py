@@ -1,5 +1,5 @@
-"""A second interpreter and a plain search, written from document 01 by substitution and sharing nothing with tools/racing and
-tools/stepping.
+"""A second interpreter and a plain search, written from documents 01 and 02 by substitution and sharing nothing with tools/racing
+and tools/stepping.
 
 Every thread may move at every step; states are told apart by all they hold. It is slow, and meant to be.
 """
@@ -8,12 +8,23 @@ import heapq
 PARTS = {
     "var": 0, "int": 0, "newtid": 0, "newlock": 0, "newsem": 0, "newrwlock": 0,
     "while": 1, "join": 1, "ref": 1, "read": 1, "lock": 1, "unlock": 1, "post": 1, "wait": 1,
-    "rdlock": 1, "rdunlock": 1, "wrlock": 1, "wrunlock": 1, "let": 2, "if": 2, "spawn": 2, "write": 2,
+    "rdlock": 1, "rdunlock": 1, "wrlock": 1, "wrunlock": 1, "call": 1, "let": 2, "if": 2, "spawn": 2, "write": 2,
 }
 # An expression is ("value", kind, number), ("var", v) or (word, number, parts).
 
 
-def expression(lines):
+def program(lines):
+    """The procedures, each its variable and its body, and the root."""
+    procedures, at = [], 0
+    while lines[at].startswith("proc,"):
+        body, end = expression(lines, at + 1)
+        procedures.append((int(lines[at].split(",")[1]), body))
+        at = end
+    return procedures, expression(lines, at)[0]
+
+
+def expression(lines, first):
+    """The expression from a line on, and the line behind it."""
     def read(at):
         word, number = lines[at].split(",")
         parts, end = [], at + 1
@@ -26,7 +37,7 @@ def expression(lines):
             return ("var", int(number)), end
         return (word, int(number), tuple(parts)), end
 
-    return read(0)[0]
+    return read(first)
 
 
 def put(inside, variable, value):
@@ -55,10 +66,11 @@ ZERO = ("value", "int", 0)
 
 
 class State:
-    """Threads (number, identifier, expression), and things by (kind, number): a cell's value, a lock's state, .."""
+    """Threads (number, identifier, expression), and things by (kind, number): a cell's value, a lock's state, .. The procedures
+    stand beside, and never change."""
 
-    def __init__(self, threads, things, spawned):
-        self.threads, self.things, self.spawned = threads, things, spawned
+    def __init__(self, threads, things, spawned, procedures):
+        self.threads, self.things, self.spawned, self.procedures = threads, things, spawned, procedures
 
     def key(self):
         return self.threads, tuple(sorted(self.things.items())), self.spawned
@@ -68,7 +80,8 @@ class State:
 
 
 def start(lines):
-    return State(((0, ("start", 0), expression(lines)),), {}, 1)
+    procedures, root = program(lines)
+    return State(((0, ("start", 0), root),), {}, 1, procedures)
 
 
 def successors(state, at):
@@ -82,7 +95,7 @@ def successors(state, at):
         threads = dict((t[0], t) for t in (threads or state.threads))
         threads[number] = number, identifier, around(new)
         kept = tuple(threads[k] for k in sorted(threads))
-        return State(kept, state.things if things is None else things, spawned or state.spawned)
+        return State(kept, state.things if things is None else things, spawned or state.spawned, state.procedures)
 
     def changed(thing, value):
         return {**state.things, thing: value}
@@ -91,6 +104,9 @@ def successors(state, at):
     held = state.things.get(thing)
     if word == "let":
         yield 0, after(put(parts[1], v, parts[0]))
+    elif word == "call":
+        variable, body = state.procedures[v]
+        yield 0, after(put(body, variable, parts[0]))
     elif word == "if":
         yield 0, after(parts[0])
         yield 1, after(parts[1])

@@ -1,6 +1,7 @@
 """The search of tools/show-race on the lines of a program, and what racereplay has against an order."""
 from explaining.names import Names
 from explaining.sheets import Step
+from jobs import sheet_of
 from racing.confirming import Replay
 from racing.search import Limits, search
 from racing.shown import Shown
@@ -19,4 +20,4 @@ def searched(lines):
 def objection(lines, order, shows, told):
     """What racereplay says instead, if it does not bear out an order that shows something; else empty."""
     shown = Shown(machine_of(lines), Names(), order, shows)
-    return Replay("\n".join([f"P,{len(lines)}", *lines, ""]).encode()).objection(told(shown))
+    return Replay(sheet_of(lines).encode()).objection(told(shown))

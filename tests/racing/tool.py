@@ -130,6 +130,58 @@ def check_bounds():
         check("20 readers, one not joined: its order races all the same", replayed[1] is not None, True)
 
 
+# ---- Calls
+
+
+def nested(posts):
+    """A procedure that calls itself and posts when it is back, or ends; a thread calls it. Who has waited so often meets a writer."""
+    steps = ["proc,0", "if,0", "let,1", "call,0", "var,0", "post,0", "var,0", "int,0"]
+    steps += ["let,2", "ref,0", "int,0", "let,3", "newsem,0", "let,4", "spawn,0", "newtid,0", "call,0", "var,3"]
+    steps += ["let,5", "spawn,0", "newtid,0", "write,0", "var,2", "int,1"]
+    for number in range(posts):
+        steps += [f"let,{6 + number}", "wait,0", "var,3"]
+    return [*steps, "write,0", "var,2", "int,2"]
+
+
+def check_calls():
+    """Procedures that call themselves: to the end of the room and past it, for ever, and in the last place."""
+    with tempfile.TemporaryDirectory() as scratch:
+        scratch = Path(scratch)
+        done = run(make_job(scratch / "64 open", nested(63)))
+        check("a race behind 64 open calls is confirmed", (done.status, CONFIRMED in done.said), (1, True))
+        folder = make_job(scratch / "65 open", nested(64))
+        done = run(folder)
+        check("a race behind 65 open calls: past the room", (done.status, "64 open calls of one thread" in done.said), (4, True))
+        replayed = plain.replay(steps_in(folder), order_in(folder / "trace.txt"))
+        check("a race behind 65 open calls: its order races all the same", replayed[1] is not None, True)
+        check("a race behind 65 open calls: racereplay's line", replayed_line(folder, folder / "trace.txt").split(",")[:2], ["REFUSE", "48"])
+        for what, steps, status, words in [
+            ("for ever, nothing to see", ["proc,0", "call,0", "var,0", "call,0", "int,0"], 0, SEARCHED),
+            ("in the last place", ["proc,0", "if,0", "let,1", "read,0", "var,0", "call,0", "var,0", "int,0",
+                                   "call,0", "ref,0", "int,0"], 0, SEARCHED),
+            ("with something left behind", ["proc,0", "if,0", "let,1", "call,0", "var,0", "int,0", "int,1", "call,0", "int,0"],
+             4, "256 open calls of one thread"),
+        ]:
+            done = run(make_job(scratch / what, steps))
+            check(f"a procedure that calls itself {what}", (done.status, words in done.said), (status, True))
+        two = ["proc,0", "if,0", "let,1", "call,0", "var,0", "let,2", "call,0", "var,0", "int,0", "int,1", "call,0", "int,0"]
+        done = run("--seconds", 1, make_job(scratch / "twice", two))
+        check("a procedure that calls itself twice: the limits are kept", (done.status, "its limits" in done.said), (4, True))
+
+
+def check_purge():
+    """Calls are told by their procedures' names, in words and on the page."""
+    with tempfile.TemporaryDirectory() as scratch:
+        page = Path(scratch) / "page.html"
+        done = run("--trace", Path(scratch) / "trace", "--page", page, HOUSE / "examples" / "purge-race")
+        same = (Path(scratch) / "trace").read_bytes() == (HOUSE / "examples" / "purge-race" / "trace.txt").read_bytes()
+        check("purge-race: the order in its folder", same, True)
+        for text in (done.said, page.read_text()):
+            check("purge-race: calls are told by name", "calls purge with valve" in text, True)
+    wanted = "The first thread is about to write 1 into valve (line 4) while screen is about to write 1 into valve (line 4)."
+    check("purge-race: both in the body", wanted in done.said, True)
+
+
 # ---- Halts
 
 
@@ -209,6 +261,8 @@ def check_tool():
     check_refill()
     check_lies()
     check_bounds()
+    check_calls()
+    check_purge()
     check_halts()
     check_files()
     check_errors()

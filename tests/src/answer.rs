@@ -3,7 +3,7 @@
 /// The work space's length in 32-bit numbers, below which a call is refused with 1.
 pub const WORK_SPACE: usize = 16_384;
 /// The length of the space lent to a replay in 32-bit numbers, below which it is refused with 1.
-pub const REPLAY_SPACE: usize = 16_384;
+pub const REPLAY_SPACE: usize = 542_960;
 /// The most threads of a run, the start thread included.
 pub const THREADS: usize = 16;
 /// The most cells of a run, and likewise locks, read-write locks, semaphores and identifiers.
@@ -13,6 +13,10 @@ pub const PROGRAM_BYTES: usize = 16_384;
 /// The longest split sheet in bytes.
 pub const SPLIT_BYTES: usize = 65_536;
 pub const STEPS: u32 = 256;
+/// The most procedures of a sheet.
+pub const PROCEDURES: u32 = 16;
+/// The most open calls of one thread of a run.
+pub const OPEN_CALLS: usize = 64;
 pub const VARIABLES: u32 = 256;
 pub const CONSTANTS: u32 = 65_536;
 /// The most reading places of a read-write lock.

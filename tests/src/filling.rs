@@ -122,7 +122,8 @@ fn posts(split: &[u8]) -> Vec<Vec<u64>> {
     let lines: Vec<Vec<&str>> = split.lines().map(|line| line.split(',').collect()).collect();
     let (types, maps) = (number(lines[0][3]) as usize, number(lines[0][4]) as usize);
     let (maps, rows) = lines[1 + types..].split_at(maps);
-    rows.iter().map(|row| maps[number(row[1]) as usize].iter().map(|numeral| number(numeral)).collect()).collect()
+    let rows = rows.iter().filter(|row| row.len() == 3);
+    rows.map(|row| maps[number(row[1]) as usize].iter().map(|numeral| number(numeral)).collect()).collect()
 }
 
 #[cfg(test)]

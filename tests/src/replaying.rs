@@ -21,31 +21,52 @@ fn garbage(place: usize) -> u32 {
     0x5A5A_0003 ^ (place as u32) << 7
 }
 
-/// Calls a replayer with `room` numbers of garbage. Fails when a text is changed, or the space where it
-/// must stay: past the numbers that it needs, and all of it after the answer 1.
-fn called(replayer: Replayer, drawn: &Recorded) -> Result<Replayed, String> {
-    let (program, trace) = (drawn.program.clone(), drawn.trace.clone());
-    let mut space: Vec<u32> = (0..drawn.room + MARK).map(garbage).collect();
-    let replayed = replayer(&program, &trace, &mut space[..drawn.room]);
-    if program != drawn.program || trace != drawn.trace {
-        return Err("a text was changed".to_string());
+/// The longest space that is lent: what a replay needs, a few numbers that it leaves alone, and the mark.
+const LONGEST: usize = REPLAY_SPACE + 64 + MARK;
+
+/// A space that is lent to one replay after the other: each finds what the last one left there.
+pub struct Lent(Vec<u32>);
+
+impl Lent {
+    pub fn garbage() -> Lent {
+        Lent((0..LONGEST).map(garbage).collect())
     }
-    let free = if drawn.room < REPLAY_SPACE { 0 } else { REPLAY_SPACE };
-    match (free..space.len()).all(|place| space[place] == garbage(place)) {
-        true => Ok(replayed),
-        false => Err("the space is changed where it must stay".to_string()),
+
+    /// Calls a replayer on the first numbers of the space. Fails when a text is changed, or the space where
+    /// it must stay: past the numbers that it needs, and all of it after the answer 1.
+    fn to(&mut self, replayer: Replayer, drawn: &Recorded) -> Result<Replayed, String> {
+        let (program, trace) = (drawn.program.clone(), drawn.trace.clone());
+        let before = (drawn.room < REPLAY_SPACE).then(|| self.0.clone());
+        let replayed = replayer(&program, &trace, &mut self.0[..drawn.room]);
+        if program != drawn.program || trace != drawn.trace {
+            return Err("a text was changed".to_string());
+        }
+        let kept = match before {
+            Some(before) => self.0 == before,
+            None => (REPLAY_SPACE..LONGEST).all(|place| self.0[place] == garbage(place)),
+        };
+        match kept {
+            true => Ok(replayed),
+            false => Err("the space is changed where it must stay".to_string()),
+        }
     }
 }
 
 /// What the second replayer answers to a drawn trace, if a replayer does the same and both keep what is
 /// known: no accepted program is reported to race. The checker says what is accepted.
-pub fn agreed(replayer: Replayer, checker: Checker, drawn: &Recorded, met: &mut Met) -> Result<Replayed, String> {
+pub fn agreed(
+    replayer: Replayer,
+    checker: Checker,
+    drawn: &Recorded,
+    lent: &mut Lent,
+    met: &mut Met,
+) -> Result<Replayed, String> {
     let expected = second::replay_seen(&drawn.program, &drawn.trace, drawn.room, |seen| met.see(seen));
     met.count(drawn, expected);
     if drawn.safe && (!matches!(expected.number, 0 | 48) || expected.race.is_some()) {
         return Err(format!("second replayer {expected}, drawn as a run of a safe program"));
     }
-    let found = called(replayer, drawn)?;
+    let found = lent.to(replayer, drawn)?;
     if found != expected {
         return Err(format!("product {found}, second replayer {expected}, room {}", drawn.room));
     }
@@ -59,7 +80,7 @@ pub fn agreed(replayer: Replayer, checker: Checker, drawn: &Recorded, met: &mut 
 }
 
 /// Every number that an answer can have, in the order in which they are looked for.
-const NUMBERS: [u32; 12] = [0, 1, 10, 11, 12, 45, 13, 14, 15, 46, 47, 48];
+const NUMBERS: &[u32] = &[0, 1, 10, 11, 12, 45, 13, 14, 15, 49, 46, 47, 48];
 
 /// What a series of traces met.
 #[derive(Default)]
@@ -137,9 +158,9 @@ impl Met {
     }
 }
 
-/// The words that take a step of their own: variables and constants do not.
+/// The words that take a step of their own: variables, constants and `proc` lines do not.
 fn stepping() -> impl Iterator<Item = Word> {
-    WORDS.into_iter().filter(|word| !matches!(word, Word::Var | Word::Int))
+    WORDS.into_iter().filter(|word| !matches!(word, Word::Var | Word::Int | Word::Proc))
 }
 
 /// Every reason for a line that is not done.
@@ -159,7 +180,7 @@ impl fmt::Display for Met {
         for (origin, (drawn, done)) in &self.origins {
             writeln!(out, "  {origin:14} {drawn:7} drawn {done:7} done to the end")?;
         }
-        for number in NUMBERS {
+        for &number in NUMBERS {
             let (met, races) = self.with_number(number);
             writeln!(out, "  number {number:2} {met:7}, with a race {races}")?;
         }
@@ -195,10 +216,10 @@ mod tests {
     /// The second replayer keeps what the generator knows on a series, which leaves nothing out.
     #[test]
     fn a_series_meets_everything() {
-        let mut met = Met::default();
+        let (mut lent, mut met) = (Lent::garbage(), Met::default());
         for number in 0..5_000 {
             let drawn = traces::recorded(7, number);
-            if let Err(fault) = agreed(SECOND, CHECK, &drawn, &mut met) {
+            if let Err(fault) = agreed(SECOND, CHECK, &drawn, &mut lent, &mut met) {
                 panic!("trace {number} ({}): {fault}", drawn.origin);
             }
         }
@@ -207,8 +228,10 @@ mod tests {
 
     /// How many of the first drawn traces tell a replayer from the second one.
     fn told_apart(replayer: Replayer) -> usize {
-        let differs =
-            |&number: &u64| agreed(replayer, CHECK, &traces::recorded(1, number), &mut Met::default()).is_err();
+        let mut lent = Lent::garbage();
+        let differs = |&number: &u64| {
+            agreed(replayer, CHECK, &traces::recorded(1, number), &mut lent, &mut Met::default()).is_err()
+        };
         (0..1_000).filter(differs).count()
     }
 
@@ -263,7 +286,7 @@ mod tests {
     #[test]
     fn one_that_writes_without_room() {
         let replayer: Replayer = |program, trace, space| {
-            space.iter_mut().take(1).for_each(|number| *number = 0);
+            space.iter_mut().take(1).for_each(|number| *number = !*number);
             SECOND(program, trace, space)
         };
         assert!(told_apart(replayer) > 0);

@@ -18,13 +18,13 @@ pub struct Asked {
 }
 
 pub const CHECKING: Asked = Asked {
-    numbers: &[0, 1, 10, 11, 12, 45, 13, 14, 15, 20, 21, 22, 40, 23, 44, 30, 31, 32, 33],
+    numbers: &[0, 1, 10, 11, 12, 45, 13, 14, 15, 49, 20, 21, 22, 40, 50, 23, 44, 30, 31, 32, 33],
     headings: &["C", "C2", "C3"],
     conditions: Word::conditions,
 };
 
 pub const FILLING: Asked = Asked {
-    numbers: &[0, 1, 10, 11, 12, 45, 13, 14, 15, 20, 21, 22, 23, 43, 44, 30, 31, 41, 42],
+    numbers: &[0, 1, 10, 11, 12, 45, 13, 14, 15, 49, 20, 21, 22, 50, 23, 43, 44, 30, 31, 41, 42],
     headings: &["C2", "C3"],
     conditions: Word::type_conditions,
 };

@@ -8,7 +8,8 @@ macro_rules! words {
             $($word,)*
         }
 
-        /// Every word, in the order of document 01's table of conditions, then of document 02.
+        /// Every word, in the order of document 01's table of conditions, then of document 02. The last two are
+        /// words of `P2` sheets alone, and `proc` is the word of a line that is no step.
         pub const WORDS: [Word; $count] = [$(Word::$word,)*];
 
         impl Word {
@@ -29,7 +30,7 @@ macro_rules! words {
     };
 }
 
-words! { 22:
+words! { 24:
     Var b"var",
     Int b"int",
     Let b"let",
@@ -52,6 +53,8 @@ words! { 22:
     Rdunlock b"rdunlock",
     Wrlock b"wrlock",
     Wrunlock b"wrunlock",
+    Call b"call",
+    Proc b"proc",
 }
 
 use Word::*;
@@ -69,6 +72,7 @@ impl Word {
         match self {
             Var | Int | Newtid | Newlock | Newsem | Newrwlock => 0,
             While | Join | Ref | Read | Lock | Unlock | Post | Wait | Rdlock | Rdunlock | Wrlock | Wrunlock => 1,
+            Call | Proc => 1,
             Let | If | Spawn | Write => 2,
         }
     }
@@ -76,8 +80,9 @@ impl Word {
     /// How many of this word's conditions are on types. They come first.
     pub fn type_conditions(self) -> u32 {
         match self {
-            Var | Int | Let | While | Newtid | Ref | Newlock | Newsem | Newrwlock => 1,
+            Var | Int | Let | While | Newtid | Ref | Newlock | Newsem | Newrwlock | Proc => 1,
             If | Spawn | Join | Read | Lock | Unlock | Post | Wait | Rdlock | Rdunlock | Wrlock | Wrunlock => 2,
+            Call => 2,
             Write => 3,
         }
     }
@@ -85,10 +90,10 @@ impl Word {
     /// How many conditions the documents list for this word.
     pub fn conditions(self) -> u32 {
         match self {
-            Var | Int | Let | Newtid | Ref | Newlock | Newsem => 2,
+            Var | Int | Let | Newtid | Ref | Newlock | Newsem | Proc => 2,
             While | Join | Lock | Unlock | Post | Wait => 3,
             Newrwlock | Rdlock | Rdunlock | Wrlock | Wrunlock => 3,
-            If | Spawn | Read => 4,
+            If | Spawn | Read | Call => 4,
             Write => 5,
         }
     }

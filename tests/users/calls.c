@@ -21,9 +21,16 @@ static const char RACING[] =
     "P,13\nlet,0\nref,0\nint,0\nlet,1\nnewtid,0\nlet,2\nspawn,0\nvar,1\nread,0\nvar,0\nwrite,0\nvar,0\nint,1\n";
 static const char ORDER[] = "0,0\n0,0\n0,0\n0,0\n0,0\n0,0\n";
 
+/* A procedure makes a cell, which is read; and one that calls itself for ever, with more lines than calls may be open. */
+static const char CALLING[] = "P2,5,1\nproc,0\nref,0\nvar,0\nread,0\ncall,0\nint,7\n";
+static const char ENDLESS[] = "P2,4,1\nproc,0\ncall,0\nvar,0\ncall,0\nint,0\n";
+#define TEN_LINES "0,0\n0,0\n0,0\n0,0\n0,0\n0,0\n0,0\n0,0\n0,0\n0,0\n"
+static const char NESTED[] = TEN_LINES TEN_LINES TEN_LINES TEN_LINES TEN_LINES TEN_LINES TEN_LINES;
+
 /* The buffers of one caller. */
 struct desk {
     uint32_t work[RACECHECK_WORK];
+    uint32_t space[RACECHECK_REPLAY_SPACE];
     uint8_t out[RACECHECK_SPLIT_BYTES];
     uint8_t program[RACECHECK_DRILL_PROGRAM_BYTES];
     uint8_t split[RACECHECK_DRILL_SPLIT_BYTES];
@@ -89,28 +96,32 @@ struct replayed {
 static struct replayed replay(struct desk *desk, const char *program, const void *trace, size_t length, size_t space)
 {
     struct replayed r = {7, 7, 7, 7, 7, 7};
-    r.number = racecheck_replay((const uint8_t *)program, strlen(program), trace, length, desk->work, space,
+    r.number = racecheck_replay((const uint8_t *)program, strlen(program), trace, length, desk->space, space,
         &r.line, &r.steps, &r.state, &r.first, &r.second);
     return r;
 }
 
 static void call_replay(struct desk *desk)
 {
-    struct replayed r = replay(desk, PROGRAM, "0,0\n0,0\n0,0\n", 12, RACECHECK_WORK);
+    struct replayed r = replay(desk, PROGRAM, "0,0\n0,0\n0,0\n", 12, RACECHECK_REPLAY_SPACE);
     want(desk, r.number == 0 && r.line == 0 && r.steps == 3, "an order is done");
     want(desk, r.state == RACECHECK_NO_STATE && r.first == RACECHECK_NO_THREAD && r.second == RACECHECK_NO_THREAD,
          "an order without a race stores none");
-    r = replay(desk, RACING, ORDER, strlen(ORDER), RACECHECK_WORK);
+    r = replay(desk, RACING, ORDER, strlen(ORDER), RACECHECK_REPLAY_SPACE);
     want(desk, r.number == 0 && r.steps == 6, "an order with a race is done");
     want(desk, r.state == 6 && r.first == 0 && r.second == 1, "a race is stored with its state and threads");
-    r = replay(desk, RACING, ORDER, strlen(ORDER) - 1, RACECHECK_WORK);
+    r = replay(desk, RACING, ORDER, strlen(ORDER) - 1, RACECHECK_REPLAY_SPACE);
     want(desk, r.number == 46 && r.line == 6 && r.steps == 5, "a line that is not closed is refused");
     want(desk, r.state == RACECHECK_NO_STATE, "a race behind a refused line is not stored");
-    r = replay(desk, "", ORDER, 0, RACECHECK_WORK);
+    r = replay(desk, "", ORDER, 0, RACECHECK_REPLAY_SPACE);
     want(desk, r.number == 11 && r.line == 1 && r.steps == 0, "a program that is not well formed is refused");
-    desk->work[0] = MARK;
-    r = replay(desk, PROGRAM, ORDER, 0, RACECHECK_WORK - 1);
-    want(desk, r.number == 1 && r.line == 0 && desk->work[0] == MARK, "too little space is told, and left as it was");
+    r = replay(desk, CALLING, "0,0\n0,0\n0,0\n", 12, RACECHECK_REPLAY_SPACE);
+    want(desk, r.number == 0 && r.steps == 3, "an order with a call is done");
+    r = replay(desk, ENDLESS, NESTED, strlen(NESTED), RACECHECK_REPLAY_SPACE);
+    want(desk, r.number == 48 && r.line == 65 && r.steps == 64, "the 65th open call is refused");
+    desk->space[0] = MARK;
+    r = replay(desk, PROGRAM, ORDER, 0, RACECHECK_REPLAY_SPACE - 1);
+    want(desk, r.number == 1 && r.line == 0 && desk->space[0] == MARK, "too little space is told, and left as it was");
 }
 
 /* Appends a line as often as is said, and returns the new length. */
@@ -131,7 +142,7 @@ static void call_deepest(struct desk *desk)
     size_t steps = lines(program, lines(program, lines(program, 0, "P,256\n", 1), "while,0\n", 255), "int,0\n", 1);
     size_t rows = lines(split, lines(split, 0, HEAD, 1), "0,0,\n", 256);
     want(desk, check(desk, program, steps, split, rows, n) == 0, "the deepest job is accepted");
-    want(desk, racecheck_replay(program, steps, (const uint8_t *)"0,0\n0,0\n", 8, desk->work, RACECHECK_WORK,
+    want(desk, racecheck_replay(program, steps, (const uint8_t *)"0,0\n0,0\n", 8, desk->space, RACECHECK_REPLAY_SPACE,
          &at[0], &at[1], &at[2], &n[0], &n[1]) == 0, "the deepest job is replayed");
     rows = lines(split, lines(split, 0, HEAD, 1), "0,,\n", 256);
     want(desk, racecheck_fill(program, steps, split, rows, desk->work, RACECHECK_WORK, desk->out, sizeof desk->out, &n[0], &n[1], &n[2])

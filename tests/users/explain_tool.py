@@ -18,7 +18,7 @@ from pages import PAGES, examples, pairs_of
 TOOL = HOUSE / "tools" / "explain"
 DRAWN = 4000
 # The examples whose pages are opened in a browser: with names and without, accepted and refused.
-SHOWN = {"refill", "refill-race", "loop-race", "canisters-race", "colour-book"}
+SHOWN = {"refill", "refill-race", "loop-race", "canisters-race", "colour-book", "purge", "purge-race"}
 GOOD = ("P,1|int,0|", "C,1,1,1,1|int,0,0|0|0,0,|")
 
 
@@ -42,9 +42,10 @@ def check_examples(binary):
             check(f"explain {folder.name}: status", done.returncode, 0 if answer == "ACCEPT" else 1)
             check(f"explain {folder.name}: the answer comes first", lines[0], f"{folder}: {answer}")
             check(f"explain {folder.name}: nothing on standard error", done.stderr, "")
-            numbers = [int(line.lstrip(" >").split()[0]) for line in lines[-steps:]]
+            walked_lines = list(filter(None, lines))[-steps:]
+            numbers = [int(line.lstrip(" >").split()[0]) for line in walked_lines]
             check(f"explain {folder.name}: the walk has every line", numbers, list(range(2, steps + 2)))
-            marked = [line.split()[0] for line in lines[-steps:] if line.lstrip().startswith(">")]
+            marked = [line.split()[0] for line in walked_lines if line.lstrip().startswith(">")]
             wanted = [] if answer == "ACCEPT" else [f">{answer.split(',')[2]}"]
             check(f"explain {folder.name}: the refused step is marked", marked, wanted)
             kept = folder / "page.html"
@@ -92,7 +93,8 @@ def faults(explanation, run_there):
 
 def walked(explanation):
     """Whether the walk of a pair comes to its last line."""
-    return len(walk.text(explanation)) == len(explanation.sites.all) + 1 == len(explanation.sites.steps) + 1
+    lines = list(filter(None, walk.text(explanation)))  # an empty one parts the procedures
+    return len(lines) == len(explanation.sites.all) + 1 == len(explanation.sites.steps) + 1
 
 
 def check_pages(binary):
@@ -144,7 +146,7 @@ def check_lies():
         "10,0,0,0", "11,2,0,0", "12,2,0,0", "13,3,0,0", "14,9,0,0", "15,5,0,0", "20,0,0,0", "21,2,0,0", "22,2,0,0", "23,5,0,0",
         "30,2,0,0", "31,2,1,0", "32,2,2,0", "33,15,5,0", "33,99,5,0", "32,8,9,0", "11,99,0,0", "1,0,0,0", "38,0,0,0",
         "0,0,0,0", "40,13,0,0", "40,12,0,0", "41,0,0,0", "42,0,0,0", "43,0,0,0", "44,4,0,0", "45,2,0,0",
-        "46,1,0,0", "47,1,0,0", "48,1,0,0"]]
+        "46,1,0,0", "47,1,0,0", "48,1,0,0", "49,2,0,0", "50,13,0,0"]]
     lies += [(join_race, "REFUSE,33,13,5,1"), (join_race, "REFUSE,32,13,4,0")]
     for folder, answer in lies:
         explanation = explain(Run(answer, None), folder)
@@ -241,6 +243,44 @@ def check_names(binary):
         check("explain with names: its page has them", [words for words in wanted if words not in text], [])
 
 
+# A procedure that is handed a cell and writes it; the split's last lines are the procedure's, then the rows.
+WRITER = "P2,8,1|proc,0|write,0|var,0|int,1|let,1|ref,0|int,0|call,0|var,1|"
+WRITER_HEAD = "C2,2,1,2,3,0|int,0,0|ref,0,0|2|1|0|"
+WRITER_ROWS = "0,0,|1,0,|0,0,|0,0,|1,0,|0,0,|0,0,2|1,0,|"
+
+
+def check_procedures(binary):
+    """What is told of procedures: bodies apart in the walk, calls and lines of procedures by name, refused lines on the page."""
+    with tempfile.TemporaryDirectory() as scratch:
+        for number, (what, signature, rows, answer, wanted) in enumerate([
+            ("accepted", "0,1,0,0", WRITER_ROWS, "ACCEPT", ["\n\n", "call squirt with v1; keep back nothing", "squirt, of v0: it starts"]),
+            ("a body that leaves less", "1,1,0,0", WRITER_ROWS.replace("0,0,|1,0,|0,0,|", "0,1,|1,1,|0,1,|", 1), "REFUSE,32,2,2,0",
+             ["1/2 ≥ 2/2 is false", "the body leaves", ">2  any"]),
+            ("a result of another type", "0,1,0,1", WRITER_ROWS, "REFUSE,31,2,1,0", ["the result of squirt is type 1"]),
+            ("an argument of another type", "0,0,0,0", WRITER_ROWS, "REFUSE,31,4,1,0",
+             ["the argument of the procedure on line 2", "taken by whichever thread calls it"]),
+            ("too much kept back", "0,1,0,0", WRITER_ROWS.replace("0,0,2|", "0,0,0|"), "REFUSE,32,9,3,0",
+             ["2/2 = 2/2 + 2/2 is false", "the procedure starts with (before)", "kept back (s)"]),
+            ("nothing said to be kept", "0,1,0,0", WRITER_ROWS.replace("0,0,2|", "0,0,|"), "REFUSE,50,14,0,0",
+             ["a call has to say which map is kept back"]),
+            ("no such type", "0,9,0,0", WRITER_ROWS, "REFUSE,22,7,0,0", ["split.txt line 7: 0,9,0,0", "a type (there are 2)"]),
+            ("three numbers", "0,1,0", WRITER_ROWS, "REFUSE,21,7,0,0", ["it has 3 fields, not 4"]),
+            ("a line too few", "0,1,0,0", WRITER_ROWS.removesuffix("1,0,|"), "REFUSE,23,14,0,0", ["9 steps and procedures make 15"]),
+        ]):
+            folder = Path(scratch) / str(number)
+            make_pair(folder, WRITER, f"{WRITER_HEAD}{signature}|{rows}")
+            (folder / "names.txt").write_text("procedure,0,squirt\n")
+            done = run(binary, "--walk", "--page", folder / "page.html", folder)
+            check(f"procedures, {what}: the answer", done.stdout.splitlines()[0], f"{folder}: {answer}")
+            check(f"procedures, {what}: told", [words for words in wanted if words not in done.stdout], [])
+            text = (folder / "page.html").read_text()
+            browser.check_markup(f"procedures, {what}: its page", text)
+            if answer.startswith("REFUSE,3"):
+                check(f"procedures, {what}: drawn", 'class="band refused"' in text, True)
+    for given, words in [("REFUSE,49,2,0,0", "count the `proc` lines"), ("REFUSE,32,9,3,0", "if line 9 has `call`: its part leaves")]:
+        check(f"explain {given}", words in run("nowhere", given).stdout, True)
+
+
 def check_explain_tool(binary):
     check_examples(binary)
     check_tellings(binary)
@@ -250,5 +290,6 @@ def check_explain_tool(binary):
     check_alone()
     check_hints(binary)
     check_names(binary)
+    check_procedures(binary)
     check_drawn(binary)
     check("the tools leave nothing beside themselves", list((HOUSE / "tools").rglob("__pycache__")), [])

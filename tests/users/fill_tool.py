@@ -20,7 +20,7 @@ DRAWN = 2000
 # The examples that race, with their maps taken out: the line at which filling fails, that of the race or of what leads to it.
 RACES = {
     "canisters-race": 29, "colour-book-race": 36, "either-lock-race": 17, "join-race": 13, "lock-race": 10, "loop-race": 46,
-    "refill-race": 70, "two-locks-race": 8}
+    "purge-race": 30, "refill-race": 70, "two-locks-race": 8}
 LARGE = "after line 2 there would be 1,000,000,001 of location 0; a number in a map is at most 1,000,000,000"
 
 
@@ -30,11 +30,11 @@ def run(tool, racefill, racecheck, *arguments):
         stdin=subprocess.DEVNULL, capture_output=True, text=True)
 
 
-def emptied(split):
+def emptied(program, split):
     """A split with its after-maps taken out, under a heading that is filled."""
     lines = [line.split(",") for line in split.splitlines()]
     head = lines[0] if lines[0][0] != "C" else ["C2", *lines[0][1:], "0"]
-    first_row = 1 + int(head[3]) + int(head[4])
+    first_row = 1 + int(head[3]) + int(head[4]) + program.count("proc,")
     rows = [[kind, "", start] for kind, _, start in lines[first_row:]]
     return "".join(",".join(line) + "\n" for line in [head, *lines[1:first_row], *rows])
 
@@ -49,7 +49,7 @@ def lacks(explanation, run_there):
     if run_there.answer == "UNREAD":
         return faults
     if run_there.answer == "FILLED":
-        return faults + ([] if len(walk.text(explanation)) == len(explanation.sites.all) + 1 else ["the walk"])
+        return faults + ([] if len(list(filter(None, walk.text(explanation)))) == len(explanation.sites.all) + 1 else ["the walk"])
     number = run_there.numbers()[0]
     wanted = [REFUSALS[number].helps, *explanation.numbers[:1]]
     if number == 41:
@@ -99,7 +99,8 @@ def check_races(racefill, racecheck):
             for file in ("program.txt", "names.txt"):
                 if (HOUSE / "examples" / name / file).exists():
                     (Path(scratch) / file).write_bytes((HOUSE / "examples" / name / file).read_bytes())
-            (Path(scratch) / "split.txt").write_text(emptied((HOUSE / "examples" / name / "split.txt").read_text()))
+            sheets = ((HOUSE / "examples" / name / sheet).read_text() for sheet in ("program.txt", "split.txt"))
+            (Path(scratch) / "split.txt").write_text(emptied(*sheets))
             explanation = check_explained(racefill, f"{name} to be filled", Path(scratch))
             check(f"{name} to be filled, the line", explanation.site.line, line)
             done = run("explain", racefill, racecheck, "--walk", scratch)

@@ -53,7 +53,7 @@ def check_linked(compiler, include, archive):
             ran = subprocess.run([program], capture_output=True, text=True)
             stacks = [int(words.split()[1]) for words in ran.stdout.splitlines() if words.startswith("stack")]
             check("calls in C: what they return", (ran.returncode, len(stacks), "wrong" in ran.stdout), (0, 2, False))
-            check("calls in C: stack", max(stacks, default=0) <= 60 * KILOBYTE + 8 * KILOBYTE, True)  # with the thread's own
+            check("calls in C: stack", max(stacks, default=0) <= 81 * KILOBYTE + 8 * KILOBYTE, True)  # with the thread's own
 
 
 def check_header():

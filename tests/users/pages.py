@@ -3,7 +3,7 @@ import re
 
 from checks import HOUSE, answer_in, check, check_pair
 from explaining.refusals import OF_CHECKING, PROGRAM, REFUSALS, SPLIT, USUALLY
-from explaining.sheets import read_sheet, split_of, steps_of
+from explaining.sheets import counts_of, read_sheet, split_of, steps_of
 from explaining.showing import fractions
 from explaining.sites import Sites
 from explaining.words import NUMBER_OF, WORDS
@@ -98,7 +98,7 @@ def check_refusals_words():
     check("REFUSALS.md, what a condition usually means", usually, USUALLY)
 
 
-STARTS = {"pre": "before", "post": "after", "s": "s", "post of e1": "what the first leaves"}
+STARTS = {"pre": "before", "post": "after", "s": "s", "post of e1": "what the first leaves", "before": "what the procedure starts with"}
 
 
 def check_formats_words():
@@ -129,7 +129,7 @@ def check_tables(name, page):
         check(f"docs/{name}, head of {folder}", [row[:2] for row in cells], [[str(i + 1), split[i]] for i in range(len(cells))])
     for folder, cells, below in tables(page, "walk"):
         program = read_sheet(HOUSE / folder, PROGRAM)
-        split = split_of(read_sheet(HOUSE / folder, SPLIT))
+        split = split_of(read_sheet(HOUSE / folder, SPLIT), counts_of(program).procedures)
         sites = Sites(steps_of(program), split)
         for row in cells:
             site = sites.at_line(int(row[0]))

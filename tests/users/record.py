@@ -146,7 +146,7 @@ def check_servers(desk, binary):
     check("JUnit: counts", [suite.get(what) for what in ("tests", "failures", "errors")], ["3", "1", "1"])
     kinds = {case.get("name"): [child.tag for child in case] for case in suite.iter("testcase")}
     check("JUnit: pairs", kinds, {visible(ESCAPE): [], "<refused> & \"odd\"": ["failure"], "unread": ["error"]})
-    check("JUnit: what is wrong", "variable 0 is bound by no let" in suite.find(".//failure").text, True)
+    check("JUnit: what is wrong", "variable 0 is bound by no line" in suite.find(".//failure").text, True)
     done = desk.run("--json", "served/unread/x", "served", "unwritten", RACECHECK=binary)
     check("JSON in a pair's folder", (done.returncode, "pair's folder" in done.stderr), (2, True))
 

@@ -22,7 +22,7 @@ KINDS = [
         "A number of the program sheet is out of range.", "program.txt line 2: int,65536",
         "65,536 is out of range: a constant is 0 to 65,535", "who looks first: owner of the program"]),
     ("P,1|var,0|", Z, "REFUSE,14,2,0,0", [
-        "A variable is used where it is not bound.", "program.txt line 2: var,0", "variable 0 is bound by no let above it",
+        "A variable is used where it is not bound.", "program.txt line 2: var,0", "variable 0 is bound by no line above it",
         "who looks first: owner of the program"]),
     ("P,1|int,0|", "C,1,2,1,1|int,0,0|1,2|0,0,|", "REFUSE,30,2,0,1", [
         "The job starts with more than one whole of a location.", "program.txt line 2: int,0", "taken by the first thread",
@@ -49,7 +49,7 @@ CAUSES = [
     ("P,1|int,0|", "C2,1,1,1,1,0|int,0,0|0|0,,|", "REFUSE,21,4,0,0",
      "the after-map is left empty: `racefill` fills in such a sheet"),
     ("P,1|int,0|", Z + "0,0,|", "REFUSE,23,5,0,0",
-     "by its line 1 and the job's 1 steps the split should have 4 lines and has 5: it may be that of another version of the job"),
+     "by its line 1 and the job's 1 step the split should have 4 lines and has 5: it may be that of another version of the job"),
 ]
 
 

@@ -4,6 +4,7 @@ import re
 import stat
 
 from .refusals import PROGRAM, SPLIT
+from .sheets import counts_of
 from .showing import grouped
 
 MARKS = {b"\xef\xbb\xbf": "UTF-8", b"\xff\xfe": "UTF-16", b"\xfe\xff": "UTF-16"}
@@ -63,6 +64,6 @@ def version_causes(program, split, expected_lines):
     if len(split.lines) == expected_lines:
         return []
     return [
-        f"by its line 1 and the job's {grouped(len(program.lines) - 1)} steps the split should have"
+        f"by its line 1 and the job's {counts_of(program)} the split should have"
         f" {grouped(expected_lines)} lines and has {grouped(len(split.lines))}: it may be that of another version of the job"
     ]

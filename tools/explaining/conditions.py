@@ -3,6 +3,7 @@ import re
 from functools import lru_cache
 from typing import NamedTuple
 
+from .names import Names
 from .showing import fractions
 from .sites import acted_on, map_named
 from .words import KINDS, WORDS
@@ -169,7 +170,7 @@ def _type_numbers(site, wording, split, names):
         which = _whose(site, part)
         whose = f"the {_part_name(part)} (line {which.line})" if part else "the step's own type"
         return [f"{whose} is {described(which.type, split, names)}; wanted is {KINDS[kind].noun} (`{kind}`)"]
-    (one, one_type), (other, other_type) = _compared(site, wording, split)
+    (one, one_type), (other, other_type) = _compared(site, wording, split, names)
     numbers = [f"{one} is {described(one_type, split, names)}", f"{other} is {described(other_type, split, names)}"]
     parting = split.parting(one_type, other_type)
     if parting not in (None, (one_type, other_type)):
@@ -182,7 +183,7 @@ def _whose(site, part):
 
 
 def _part_name(name):
-    return {"part": "part", "e1": "first part", "e2": "second part"}[name]
+    return {"part": "part", "e1": "first part", "e2": "second part", "body": "body"}[name]
 
 
 def _lacks_cell(site, wording, split):
@@ -190,16 +191,33 @@ def _lacks_cell(site, wording, split):
     return wording.startswith("a ref type whose c") and split.types[site.type].kind != "ref"
 
 
-def _compared(site, wording, split):
+# The conditions that compare a type with one of a procedure: which one, and whose type, None for the step's own.
+OF_PROCEDURE = {
+    "type is result": ("result", None), "type of part is argument": ("argument", "part"),
+    "type of body is result": ("result", "body")}
+
+
+def _bound(binder):
+    """What a variable stands for, and its type: the first part of its let, or the argument of its procedure."""
+    if binder.word == "proc":
+        return f"the argument of the procedure on line {binder.line}", binder.signature.argument
+    bound = binder.parts["e1"]
+    return f"what the let on line {binder.line} binds (line {bound.line})", bound.type
+
+
+def _compared(site, wording, split, names=Names()):
     """The two types that a condition compares, each with whose it is."""
     own = ("the step's own type", site.type)
+    if wording in OF_PROCEDURE:
+        field, part = OF_PROCEDURE[wording]
+        whose = (f"the {_part_name(part)} (line {site.parts[part].line})", site.parts[part].type) if part else own
+        return whose, (f"the {field} of {names.procedure(site.signature.number)}", getattr(site.signature, field))
     cell = acted_on(site)
     content = cell and ("the cell's content", split.types[cell.type].second)
     if wording == "a ref type whose c is the part's type":
         return ("the cell's content", split.types[site.type].second), ("the part", site.parts["part"].type)
     if wording == "type is that of its let's e1":
-        bound = site.binder.parts["e1"]
-        return own, (f"what the let on line {site.binder.line} binds (line {bound.line})", bound.type)
+        return own, _bound(site.binder)
     if wording == "type is c":
         return own, content
     if wording == "type of e2 is c":

@@ -22,6 +22,8 @@ def in_words(one, steps, naming):
         return _bound(one, steps, naming) + f"goes on to line {_line(steps, point.parts[1])}"
     if point.word == "if" and not point.loop:
         return f"goes on to line {_line(steps, point.parts[one.choice])}"
+    if point.word == "call":
+        return f"{step_words(one, naming)}; goes on to line {_line(steps, steps.body_of(point.number))}"
     of_a_loop = {"let": "the round is over", "while": "comes to the loop"}
     return of_a_loop[point.word] if point.word in of_a_loop else step_words(one, naming)
 
@@ -102,4 +104,6 @@ def _waits(word, state, value, thing):
 def _past_room(one):
     if one.point.word == "spawn":
         return f"there have been {ROOM.threads} threads already, the first and the joined ones included"
+    if one.point.word == "call":
+        return f"{ROOM.calls} calls are open in it already"
     return f"{ROOM.things} {NOUNS[kind(one.made())].removeprefix('a ')}s have been made already"

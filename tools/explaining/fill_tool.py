@@ -35,7 +35,7 @@ def main(arguments):
         say("fill: DISAGREEMENT of racefill and racecheck; nothing is written; hand this pair to their owners")
         return 3
     kept = _put_beside(run, folder) if new is None else _put_into(run, folder, new)
-    steps = len(explanation.sites.all)
+    steps = len(explanation.sites.split.rows)
     tell([f"{visible(new or folder)}: racefill: filled, {grouped(steps)} maps", f"racecheck: {answer}", kept])
     return 0
 

@@ -1,12 +1,14 @@
 """A sheet for filling, followed from the start: what each step leaves, or the first step that no after-map can help.
 
-One pass in the order in which the job is done finds both, since only loads and starts move anything. What a step leaves
-follows from its conditions; where they leave a choice it is the greatest: after an `if` the smaller of what its parts leave,
-after a `while` all of what was there.
+One pass in the order in which the job is done finds both, the bodies of procedures first, since only loads, starts and what
+procedures take and leave move anything. What a step leaves follows from its conditions; where they leave a choice it is the
+greatest: after an `if` the smaller of what its parts leave, after a `while` all of what was there, and no more than a call behind
+it lets it (caps.py).
 """
 from typing import NamedTuple
 
 from . import forms
+from .caps import Caps
 from .conditions import RELATIONS, cell_location, holds, least, sides, summed
 from .showing import grouped
 from .sites import Sites, part_acted_on
@@ -26,6 +28,7 @@ class FilledSites(Sites):
 
     def __init__(self, steps, split):
         self.lack = None
+        self._caps = Caps(Sites(steps, split))
         super().__init__(steps, split)
 
     def _work_out(self, site):
@@ -42,8 +45,8 @@ class FilledSites(Sites):
             has, gives = summed(site, right, self.split), summed(site, left[1:], self.split) if left[1:] else None
             site.post = has if gives is None else tuple(max(0, a - b) for a, b in zip(has, gives))
         elif right == ["post"] and not (is_fixed and site.post):
-            most = summed(site, left, self.split)
-            site.post = most if site.post is None else tuple(map(min, site.post, most))
+            known = self._caps.of(site) if site.post is None else site.post
+            site.post = tuple(map(min, known, summed(site, left, self.split)))
         holds_at = map(RELATIONS[relation], summed(site, left, self.split), summed(site, right, self.split))
         false_at = [location for location, is_true in enumerate(holds_at) if not is_true]
         if false_at:
@@ -72,6 +75,8 @@ def lack_in_words(lack, split, names):
         return f"at {where}: {more} is needed, and there is {amount(site.post[lack.location])}"
     left, relation, right = sides(wording)
     one, other = (amount(summed(site, terms, split)[lack.location]) for terms in (left[1:] or left, right))
+    if site.word == "call":
+        return f"at {where}: the procedure starts with, and the call keeps back, {other} together, and there is {one}"
     if relation == "=":
         return f"at {where}: {one} would have to be given up, and there is {other}"
     if relation == "≥":
@@ -93,25 +98,27 @@ def too_large(sheet, sites, names):
 
 
 def filled_text(sheet, sites):
-    """The filled sheet: a new map for each step, behind the given ones."""
+    """The filled sheet: a new map for each step, behind the given ones and before the lines of procedures."""
     heading, denominator, locations, types, given, start = sheet.lines[0].text.decode("ascii").split(",")
-    maps = int(given)
-    first_row = 1 + int(types) + maps
-    lines = [f"{heading},{denominator},{locations},{types},{maps + len(sites.all)},{start}"]
-    lines += [line.text.decode("ascii") for line in sheet.lines[1:first_row]]
-    lines += [",".join(map(str, site.post)) for site in sites.all]
-    for number, line in enumerate(sheet.lines[first_row:], maps):
-        kind, _, body = line.text.decode("ascii").split(",")
-        lines.append(f"{kind},{number},{body}")
+    maps, steps = int(given), [site for site in sites.all if site.word != "proc"]
+    first_procedure = 1 + int(types) + maps
+    lines = [f"{heading},{denominator},{locations},{types},{maps + len(steps)},{start}"]
+    lines += [line.text.decode("ascii") for line in sheet.lines[1:first_procedure]]
+    lines += [",".join(map(str, site.post)) for site in steps]
+    lines += [signature.text for signature in sites.split.signatures]
+    for number, site in enumerate(steps, maps):
+        kind, _, last = site.row.text.split(",")
+        lines.append(f"{kind},{number},{last}")
     return "".join(f"{line}\n" for line in lines).encode("ascii")
 
 
-def is_for_filling(sheet):
-    """Whether a split's first row leaves its map empty."""
+def is_for_filling(program, sheet):
+    """Whether a split's first row, behind its types, its maps and the lines of procedures, leaves its map empty."""
     if sheet is None or not sheet.lines:
         return False
-    fields = sheet.lines[0].text.split(b",")
-    if len(fields) < 5 or not all(forms.NUMERAL.fullmatch(field) for field in fields[3:5]):
+    header, fields = program.lines[0].text.split(b",") if program and program.lines else [], sheet.lines[0].text.split(b",")
+    counts = fields[3:5] + header[2:3]
+    if len(fields) < 5 or not all(forms.NUMERAL.fullmatch(count) for count in counts):
         return False
-    row = sheet.line(2 + int(fields[3]) + int(fields[4]))
+    row = sheet.line(2 + sum(map(int, counts)))
     return row is not None and row.count(b",") == 2 and row.split(b",")[1] == b""

@@ -9,7 +9,7 @@ from .judging import judge
 from .names import read_names
 from .refusals import MEANINGS, PROGRAM, REFUSALS, SPLIT, USUALLY
 from .running import FILLING, READS
-from .sheets import read_sheets, sheet_of, split_of, steps_of
+from .sheets import counts_of, read_sheets, sheet_of, split_of, steps_of
 from .showing import shown
 from .sites import Sites
 from .texts import lines_wanted
@@ -110,7 +110,7 @@ def place_in(sheet, line):
 def _take_sites(explanation, judgement, program, split, reduced):
     """The steps, with what each leaves; a sheet for filling has that only where it was followed."""
     if explanation.answer == "FILLED":
-        explanation.sites = Sites(steps_of(program), split_of(split))
+        explanation.sites = Sites(steps_of(program), split_of(split, counts_of(program).procedures))
     elif judgement.sites and judgement.sites.root.post is not None:
         explanation.sites = judgement.sites
     if reduced and explanation.sites:
@@ -138,7 +138,7 @@ def _tell_refusal(explanation, run, judgement, program, split):
 def _tell_causes(explanation, line, program, split):
     sheet = _sheet_at_fault(explanation, program, split)
     explanation.causes += causes.line_causes(sheet, line) if sheet else []
-    if explanation.number in (21, 22, 23, 40) and line > 1:
+    if explanation.number in (21, 22, 23, 40, 50) and line > 1:
         explanation.causes += causes.version_causes(program, split, lines_wanted(steps_of(program), split))
 
 
@@ -146,7 +146,7 @@ def _tell_causes(explanation, line, program, split):
 
 
 def _tell_start(explanation, sites, location):
-    split, explanation.site, explanation.location = sites.split, sites.at_line(2), location
+    split, explanation.site, explanation.location = sites.split, sites.root, location
     explanation.maps = [(f"map {split.start}, the start", split.root_start())]
     over = [p for p, number in enumerate(split.root_start()) if number > split.denominator]
     explanation.numbers = [

@@ -1,9 +1,10 @@
-"""The forms and ranges of the lines of both sheets: why a line is refused with 11, 12, 21, 22, 40 or 45."""
+"""The forms and ranges of the lines of both sheets: why a line is refused with 11, 12, 21, 22, 40, 45 or 50."""
 import re
+from functools import lru_cache
 from typing import NamedTuple
 
 from .showing import grouped, shown
-from .words import KINDS, MAPS, NO_STEP, WORDS
+from .words import KINDS, MAPS, NO_STEP, WITH_PROCEDURES, WORDS
 
 DIGITS = 10
 NUMERAL = re.compile(rb"0|[1-9][0-9]{0,%d}" % (DIGITS - 1))
@@ -29,8 +30,10 @@ RANGES = {
     "constant": Range("a constant", 0, 65_535),
     "nothing": Range("the number on this word", 0, 0),
     "places": Range("the number of reading places", 1, 64),
+    "procedure": Range("a procedure", 0, 15),
 }
 STEPS = Range("the number of steps", 1, 256)
+PROCEDURES = Range("the number of procedures", 0, 16)
 COUNTS = [
     Range("D", 1, WHOLE),
     Range("the number of locations L", 1, 16),
@@ -59,10 +62,11 @@ class Optional(NamedTuple):
 
     range: Range
     lacking: str = ""  # why it may not be empty after all, which is judged after the line's ranges
+    kind: str = "lack"  # the kind of that fault
 
 
 class Fault(NamedTuple):
-    kind: str  # form, range or lack
+    kind: str  # form, range, lack, nothing kept or word
     why: str
 
 
@@ -74,14 +78,23 @@ def numbered(what, count):
 # ---- What each line should be, given the fields it has
 
 
-def program_fields(is_first, fields):
-    if is_first:
-        return [OneOf("`P`", ("P",)), STEPS]
+@lru_cache(maxsize=None)
+def words_under(heading):
+    """The words of a program sheet's lines, by the first field of its line 1."""
+    return tuple(word for word in (*WORDS, *NO_STEP) if heading == b"P2" or word not in WITH_PROCEDURES)
+
+
+def program_head_fields(fields):
+    return [OneOf("`P` or `P2`", ("P", "P2")), STEPS, *[PROCEDURES] * (fields[0] == b"P2")]
+
+
+def program_fields(fields, heading):
+    """What a line below the first should be, under the first field of line 1."""
     word = WORDS.get(fields[0].decode("latin-1"))
-    return [OneOf("a word of the language", (*WORDS, *NO_STEP), NO_STEP), RANGES[word.number] if word else RANGES["nothing"]]
+    return [OneOf("a word of the language", words_under(heading), NO_STEP), RANGES[word.number] if word else RANGES["nothing"]]
 
 
-MAP = "a map line"  # beside the words, what a line of a split is
+MAP, PROCEDURE = "a map line", "a procedure's line"  # beside the words, what a line of a split is
 
 
 class Counts(NamedTuple):
@@ -98,16 +111,26 @@ def counts_of(header):
 
 
 def split_fields(kind, fields, counts, is_filling=False):
-    """What a line below the first should be. `kind` is a type's number, MAP, or the word of a row: an s stands on a spawn alone."""
+    """What a line below the first should be. `kind` is a type's number, MAP, PROCEDURE, or the word of a row."""
     if isinstance(kind, int):
         return _type_fields(kind, fields, counts)
     if kind == MAP:
         return [IN_A_MAP] * counts.locations
-    word, a_map = kind, numbered("a map", counts.maps)
-    lacking = "the last field is empty: a `C` sheet has to say what the new thread starts with" if counts.heading == "C" else ""
-    last = Optional(a_map, lacking) if word == "spawn" else Absent(f"the last field on `{word}`, which is no spawn,")
+    a_map, a_type = numbered("a map", counts.maps), numbered("a type", counts.types)
+    if kind == PROCEDURE:
+        return [a_map, a_type, a_map, a_type]
     after = Absent("the after-map in a sheet for filling") if is_filling else a_map
-    return [numbered("a type", counts.types), after, last]
+    return [a_type, after, _last_field(kind, a_map, counts.heading)]
+
+
+def _last_field(word, a_map, heading):
+    """An s stands on a spawn and on a call alone."""
+    if word == "call":
+        return Optional(a_map, "the last field is empty: a call has to say which map is kept back", "nothing kept")
+    if word != "spawn":
+        return Absent(f"the last field on `{word}`, which is no spawn and no call,")
+    lacking = "the last field is empty: a `C` sheet has to say what the new thread starts with" if heading == "C" else ""
+    return Optional(a_map, lacking)
 
 
 def head_fields(fields, is_filling=False):
@@ -168,7 +191,7 @@ def _range_fault(line, wanted):
 def _late_fault(line, wanted):
     for field, want in zip(line.text.split(b","), wanted):
         if isinstance(want, Optional) and not field and want.lacking:
-            return Fault("lack", want.lacking)
+            return Fault(want.kind, want.lacking)
         if isinstance(want, OneOf) and field.decode("latin-1") in want.instead:
             return Fault("word", f"`{shown(field)}` is no step of the machines; `{want.instead[shown(field)]}` is")
     return None

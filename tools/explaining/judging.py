@@ -9,7 +9,7 @@ from typing import NamedTuple
 from .conditions import find, holds
 from .filling import FilledSites, too_large
 from .names import Names
-from .sheets import split_of, steps_of
+from .sheets import counts_of, split_of, steps_of
 from .sites import Sites
 from .texts import job_fault, lock_fault, program_lines_fault, split_lines_fault
 from .words import NUMBER_OF, WORDS
@@ -37,7 +37,7 @@ def judge(program, split, is_filling=False):
     over = [p for p, number in enumerate(division.root_start()) if number > division.denominator]
     sites = Sites(steps, division)
     if over:
-        return Judgement(30, 2, 0, over[0], sites=sites)
+        return Judgement(30, sites.root.line, 0, over[0], sites=sites)
     marks = "T" if is_filling else "TFA"
     false = first_false(sites, marks)
     if false:
@@ -52,10 +52,10 @@ class _Faulty(Exception):
 def _read(program, split, is_filling):
     """What two sheets say, if no text of them is at fault."""
     _pass(program_lines_fault(program))
-    steps = steps_of(program)
-    _pass(job_fault(steps))
+    steps, procedures = steps_of(program), counts_of(program).procedures
+    _pass(job_fault(steps, procedures))
     _pass(split_lines_fault(steps, split, is_filling))
-    division = split_of(split)
+    division = split_of(split, procedures)
     _pass(lock_fault(division))
     return steps, division
 

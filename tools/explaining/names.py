@@ -1,14 +1,14 @@
-"""Names for locations, variables and threads: from names.txt in the pair's folder if it is there, else numbers.
+"""Names for locations, variables, threads and procedures: from names.txt in the pair's folder if it is there, else numbers.
 
-A line is `location,0,level`, `variable,3,lock of the level` or `thread,1,pump`. racecheck does not open this file, and no
-answer depends on it: a line that is not understood, or a file that cannot be read, is told and passed over.
+A line is `location,0,level`, `variable,3,lock of the level`, `thread,1,pump` or `procedure,0,purge`. racecheck does not open
+this file, and no answer depends on it: a line that is not understood, or a file that cannot be read, is told and passed over.
 """
 import os
 
 from .showing import shown
 
 FILE = "names.txt"
-KINDS = ("location", "variable", "thread")
+KINDS = ("location", "variable", "thread", "procedure")
 MOST_BYTES, LONGEST = 1 << 16, 40
 
 
@@ -29,16 +29,21 @@ class Names:
     def variable(self, number):
         return self._named("variable", number, f"v{number}")
 
+    def procedure(self, number):
+        return self._named("procedure", number, f"procedure {number}")
+
     def thread(self, number):
-        return self._named("thread", number, "the first thread" if number == 0 else f"thread {number}")
+        """None stands for whoever calls a procedure."""
+        otherwise = {None: "whichever thread calls it", 0: "the first thread"}.get(number, f"thread {number}")
+        return self._named("thread", number, otherwise)
 
     def thread_label(self, number):
         """A thread as the picture calls it."""
-        return self._named("thread", number, f"thread {number}")
+        return self._named("thread", number, "its caller" if number is None else f"thread {number}")
 
     def thread_mark(self, number):
         """A thread's name where there is little room."""
-        return self._named("thread", number, str(number))
+        return self._named("thread", number, "any" if number is None else str(number))
 
     def _named(self, kind, number, otherwise):
         return self.given.get((kind, number), otherwise)

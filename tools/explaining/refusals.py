@@ -25,26 +25,27 @@ MEANINGS = {"ACCEPT": ACCEPTED, "FILLED": FILLED, "RAN": RAN, "RACE": RACE, "UNR
 REFUSALS = {
     1: Refusal(
         "too little work space", "caller of the library", None,
-        "lend at least 16,384 numbers of 32 bits"),
+        "lend at least 16,384 numbers of 32 bits, to a replay at least 542,960"),
     10: Refusal(
         "program sheet too long", "owner of the program", None,
         "look whether the right file was copied"),
     11: Refusal(
         "a line of the program sheet is not of its form", "owner of the program", PROGRAM,
-        "write the line as `word,v` (line 1 as `P,n`): no spaces, no capitals, no leading zeros, byte 10 at its end"),
+        "write the line as `word,v` (line 1 as `P,n` or `P2,n,k`): no spaces, no capitals, no leading zeros, byte 10 at its end"),
     12: Refusal(
         "a number of the program sheet is out of range", "owner of the program", PROGRAM,
-        "keep to the ranges: steps 1 to 256, variables 0 to 255, constants 0 to 65,535, reading places 1 to 64; on every word but"
-        " `var`, `int`, `let` and `newrwlock` the number must be 0"),
+        "keep to the ranges: steps 1 to 256, variables 0 to 255, constants 0 to 65,535, reading places 1 to 64, procedures 0 to"
+        " 16, a called one 0 to 15; on every word but `var`, `int`, `let`, `newrwlock`, `call` and `proc` the number must be 0"),
     13: Refusal(
         "lines of the program sheet are missing or spare", "owner of the program", PROGRAM,
         "count the lines against line 1, and the parts of each word; look for an empty line at the end of the file"),
     14: Refusal(
         "a variable is used where it is not bound", "owner of the program", PROGRAM,
-        "bind it by a `let` and use it in that `let`'s second part only"),
+        "bind it by a `let` and use it in that `let`'s second part only; a procedure's body uses the variable of its `proc` line and"
+        " those of its own `let`s, no others"),
     15: Refusal(
         "a variable is bound twice", "owner of the program", PROGRAM,
-        "give the later `let` a number of its own"),
+        "give the later `let` or `proc` a number of its own"),
     20: Refusal(
         "split sheet too long", "owner of the solver", None,
         "write each map once; 512 maps of 16 locations fit only if their numbers are short"),
@@ -56,7 +57,8 @@ REFUSALS = {
         "look whether the split was made for this version of the job; then at the counts on line 1"),
     23: Refusal(
         "lines of the split sheet are missing or spare", "owner of the solver", SPLIT,
-        "look whether the split was made for this version of the job; it needs 1 + T + M + n lines"),
+        "look whether the split was made for this version of the job; it needs 1 + T + M + n lines,"
+        " and one for each procedure"),
     30: Refusal(
         "the job starts with more than one whole of a location", "owner of the solver", PROGRAM,
         "make the starting map smaller: no number of it may be over D"),
@@ -86,7 +88,8 @@ REFUSALS = {
         "divide D and all numbers of the maps by a number that goes into all of them, or leave out maps that nothing names"),
     43: Refusal(
         "too many maps to fill in more", "owner of the solver", None,
-        "leave out the maps that nothing names: a sheet for filling needs the start, those in types and those that spawns hand on"),
+        "leave out the maps that nothing names: a sheet for filling needs the start, those in types, those of"
+        " procedures, those that spawns hand on and those that calls keep back"),
     44: Refusal(
         "a lock takes less than it gives", "owner of the solver", SPLIT,
         "write a map for out, the last field of that line, that has at least as much as the map for in of every location"),
@@ -102,7 +105,14 @@ REFUSALS = {
         " second of the two that each round of a loop begins with"),
     48: Refusal(
         "a step of the trace goes past what a replay can hold", "bench staff", TRACE,
-        "cut the order before that line, or record a shorter one: fewer rounds of the loop that makes new things"),
+        "cut the order before that line, or record a shorter one: fewer rounds of the loop that makes new things,"
+        " or fewer calls inside calls"),
+    49: Refusal(
+        "a call to a procedure that is not there", "owner of the program", PROGRAM,
+        "count the `proc` lines: procedures are numbered from 0 in the order of their lines"),
+    50: Refusal(
+        "a call does not say what is kept back", "owner of the solver", SPLIT,
+        "write the map that the caller keeps back in the last field of that row: a map of zeros if it keeps nothing"),
 }
 
 # What only a caller of the library sees: no pair of sheets leads to these.
@@ -157,5 +167,10 @@ USUALLY = {
     ("rdunlock", 3): "the thread does not hold a reader's share, say it gives its place back twice",
     ("wrunlock", 3): "the thread does not hold a writer's share, say it took a reading place or gives back twice",
     ("read", 4): "the thread has nothing of the cell's location here: it was not handed any, or gave it away before",
+    ("call", 3):
+        "what is there is not what the procedure starts with plus what is kept back: another map is to be kept back, or a take or"
+        " give is missing before it",
+    ("call", 4): "the row's map is not the sum: it needs a map that holds what the procedure leaves plus what is kept back",
+    ("proc", 2): "a way through the body ends with less than the procedure's line in the split says it leaves",
     ("write", 5): "another thread, a lock, a semaphore or an identifier still holds some of the cell's location here",
 }

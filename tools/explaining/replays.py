@@ -9,7 +9,7 @@ from . import causes, doing, forms
 from .disagreement import require
 from .findings import explained, place_in
 from .refusals import TRACE
-from .sheets import read_sheet, steps_of
+from .sheets import counts_of, read_sheet, steps_of
 from .showing import grouped, shown
 from .texts import job_fault, program_lines_fault
 
@@ -87,7 +87,7 @@ def _too_long(trace):
 
 def _compare(explanation, program, trace, walks):
     """Works the line out again, and fills the explanation if it is the same."""
-    fault = program_lines_fault(program) or job_fault(steps_of(program))
+    fault = program_lines_fault(program) or job_fault(steps_of(program), counts_of(program).procedures)
     if fault:
         return _tell_fault(explanation, program, fault)
     order = explanation.order = order_of(program, trace, explanation.names, walks)

@@ -92,12 +92,25 @@ class Row(NamedTuple):
     start: int  # None where the field is empty
 
 
+class Signature(NamedTuple):
+    """The line of a procedure: two maps and two types."""
+
+    number: int
+    line: int
+    text: str
+    before: int
+    argument: int
+    after: int
+    result: int
+
+
 class Split(NamedTuple):
     denominator: int
     locations: int
     start: int  # the map that the job starts with
     types: list
     maps: list
+    signatures: list
     rows: list
     factors: tuple = ()  # by what each location's fractions are reduced where they are shown; nothing, as the sheet has them
 
@@ -113,8 +126,8 @@ class Split(NamedTuple):
         """The same split, which shows a location's fractions reduced as far as all of them can be."""
         return self._replace(factors=tuple(gcd(self.denominator, *numbers) for numbers in zip(*self.maps)))
 
-    def body_start(self, row):
-        """The map that a spawn's body starts with. An empty field means nothing of any location."""
+    def last_map(self, row):
+        """The map that a spawn's body starts with, or that a call keeps back. An empty field means nothing of any location."""
         return (0,) * self.locations if row.start is None else self.maps[row.start]
 
     def map_number(self, number, name):
@@ -157,16 +170,34 @@ def _fields(line):
     return line.text.decode("ascii").split(",")
 
 
+class Counts(NamedTuple):
+    steps: int
+    procedures: int
+
+    def __str__(self):
+        procedures = f" and {self.procedures} procedure{'s' * (self.procedures > 1)}" if self.procedures else ""
+        return f"{self.steps} step{'s' * (self.steps > 1)}{procedures}"
+
+
+def counts_of(sheet):
+    """The steps and procedures that line 1 of a program sheet promises, which is known to be of its form."""
+    _, steps, *procedures = _fields(sheet.lines[0])
+    return Counts(int(steps), int(*procedures))
+
+
 def steps_of(sheet):
-    """The steps of a well-formed program sheet."""
+    """The steps of a well-formed program sheet, with its `proc` lines."""
     return [Step(number, word, int(v)) for number, (word, v) in enumerate(map(_fields, sheet.lines[1:]), 2)]
 
 
-def split_of(sheet):
-    """What a well-formed split sheet says."""
+def split_of(sheet, procedures):
+    """What a well-formed split sheet says, of a job with so many procedures."""
     heading, *header = _fields(sheet.lines[0])
     denominator, locations, types, maps, *root = map(int, header)
-    first_map, first_row = 1 + types, 1 + types + maps
+    first_map, first_signature, first_row = 1 + types, 1 + types + maps, 1 + types + maps + procedures
+    signatures = [
+        Signature(number, first_signature + number + 1, line.text.decode("ascii"), *map(int, _fields(line)))
+        for number, line in enumerate(sheet.lines[first_signature:first_row])]
     rows = []
     for number, line in enumerate(sheet.lines[first_row:], first_row + 1):
         kind, post, start = _fields(line)
@@ -176,7 +207,8 @@ def split_of(sheet):
         locations,
         root[0] if root else 0,  # a C sheet names none and means map 0
         [_type_of(heading, *_fields(line)) for line in sheet.lines[1:first_map]],
-        [tuple(map(int, _fields(line))) for line in sheet.lines[first_map:first_row]],
+        [tuple(map(int, _fields(line))) for line in sheet.lines[first_map:first_signature]],
+        signatures,
         rows,
     )
 

@@ -1,9 +1,9 @@
-"""Faults of a sheet's text, 10 to 15, 20 to 23, 40 and 43 to 45: the first one in the order of the documents, in words."""
+"""Faults of a sheet's text, 10 to 15, 20 to 23, 40, 43 to 45, 49 and 50: the first one in the order of the documents, in words."""
 from functools import lru_cache
 from typing import NamedTuple
 
 from . import forms
-from .sheets import at_least
+from .sheets import at_least, counts_of
 from .showing import fractions, grouped
 from .words import WORDS
 
@@ -17,20 +17,20 @@ class Fault(NamedTuple):
 def program_lines_fault(program):
     """The first fault of a program sheet's lines, or None."""
     return _length_fault(10, program, forms.PROGRAM_BYTES) or _lines_fault(
-        {"form": 11, "range": 12, "word": 45}, 13, program, lambda: int(program.line(1).split(b",")[1]) + 1,
-        lambda number, line: _program_line_fault(line, number == 1))
+        {"form": 11, "range": 12, "word": 45}, 13, program, lambda: 1 + sum(counts_of(program)),
+        lambda number, line: _program_line_fault(line, None if number == 1 else program.line(1).split(b",")[0]))
 
 
-def job_fault(steps):
-    """The first fault of the steps as a job, or None."""
-    return _shape_fault(steps) or _scope_fault(steps)
+def job_fault(steps, procedures):
+    """The first fault of the steps as a job with so many procedures, or None."""
+    return _shape_fault(steps, procedures) or _scope_fault(steps, procedures)
 
 
 def split_lines_fault(steps, split, is_filling):
     """The first fault of a split sheet's lines beside these steps, or None."""
     return (_length_fault(20, split, forms.SPLIT_BYTES)
             or _lines_fault(
-                {"form": 21, "range": 22, "lack": 40}, 23, split, lambda: lines_wanted(steps, split),
+                {"form": 21, "range": 22, "lack": 40, "nothing kept": 50}, 23, split, lambda: lines_wanted(steps, split),
                 _split_forms(steps, split, is_filling))
             or (_count_fault(split) if is_filling else None))
 
@@ -63,24 +63,25 @@ def _lines_fault(numbers, count_number, sheet, lines_promised, fault_of):
 
 
 def _promise(sheet, promised):
-    header = sheet.line(1).split(b",")
-    if header[0] == b"P":
-        return f"line 1 promises {grouped(promised - 1)} steps, with it {grouped(promised)} lines"
+    if sheet.line(1).startswith(b"P"):
+        return f"line 1 promises {counts_of(sheet)}, with it {grouped(promised)} lines"
     counts = forms.counts_of(sheet.line(1))
-    steps = grouped(promised - 1 - counts.types - counts.maps)
-    return f"1 + {counts.types} types + {counts.maps} maps + {steps} steps make {grouped(promised)} lines"
+    job = grouped(promised - 1 - counts.types - counts.maps)
+    return f"1 + {counts.types} types + {counts.maps} maps + {job} steps and procedures make {grouped(promised)} lines"
 
 
 def lines_wanted(steps, split):
-    """How many lines the split should have by its first line, which was read."""
+    """How many lines the split should have by its first line, which was read: one for each step and each procedure too."""
     counts = forms.counts_of(split.line(1))
     return 1 + counts.types + counts.maps + len(steps)
 
 
 # Many lines are alike, in a sheet and in a release.
 @lru_cache(maxsize=1 << 14)
-def _program_line_fault(line, is_first):
-    return forms.fault(line, forms.program_fields(is_first, line.text.split(b",")))
+def _program_line_fault(line, heading):
+    """`heading` is the first field of line 1; None for line 1 itself."""
+    fields = line.text.split(b",")
+    return forms.fault(line, forms.program_head_fields(fields) if heading is None else forms.program_fields(fields, heading))
 
 
 @lru_cache(maxsize=1 << 14)
@@ -89,69 +90,110 @@ def _split_line_fault(line, kind, counts, is_filling):
 
 
 def _split_forms(steps, split, is_filling):
-    words, counts = [step.word for step in steps], None
+    words, counts = [step.word for step in steps if step.word != "proc"], None
+    procedures = len(steps) - len(words)
 
     def fault(number, line):
         nonlocal counts
         if number == 1:
             return forms.fault(line, forms.head_fields(line.text.split(b","), is_filling))
         counts = counts or forms.counts_of(split.line(1))
-        row = number - 2 - counts.types - counts.maps
-        kind = words[row] if row >= 0 else forms.MAP if number >= 2 + counts.types else number - 2
-        return _split_line_fault(line, kind, counts, is_filling)
+        return _split_line_fault(line, _kind(number - 2, counts, procedures, words), counts, is_filling)
 
     return fault
 
 
-# ---- The job as an expression, its variables
+def _kind(place, counts, procedures, words):
+    """What a line of a split is, by its place below the first: of a type its number, of a row its word."""
+    if place < counts.types:
+        return place
+    row = place - counts.types - counts.maps - procedures
+    return words[row] if row >= 0 else forms.PROCEDURE if row >= -procedures else forms.MAP
 
 
-def _shape_fault(steps):
-    """The line past the end of a job that is over early, or the last line of one that is not finished."""
+# ---- The job as expressions, its variables and calls
+
+
+def _shape_fault(steps, procedures):
+    """The first line that does not fit, or the last line of a job that is not finished."""
+    left = procedures + 1  # the expressions that are not finished: the bodies, and the job itself
     unfinished = []  # the words that still lack parts: line, word, how many
     for step in steps:
-        if step.line > 2 and not unfinished:
-            return Fault(13, step.line, f"the job is over on line {step.line - 1}")
+        misfit = _misfit(step, left, bool(unfinished))
+        if misfit:
+            return Fault(13, step.line, misfit)
         if unfinished:
             unfinished[-1][2] -= 1
         unfinished.append([step.line, step.word, len(WORDS[step.word].parts)])
         while unfinished and unfinished[-1][2] == 0:
             unfinished.pop()
-    if not unfinished:
+        left -= not unfinished
+    return Fault(13, len(steps) + 1, _missing(left, unfinished)) if left else None
+
+
+def _misfit(step, left, is_inside):
+    """Why a line does not fit where it stands, inside an expression or not, with so many expressions to come; None if it does."""
+    if not left:
+        return f"the job is over on line {step.line - 1}"
+    is_due = left > 1 and not is_inside
+    if is_due == (step.word == "proc"):
         return None
-    line, word, _ = unfinished[-1]
-    return Fault(13, len(steps) + 1, f"the job is not finished: `{word}` on line {line} lacks a part")
+    return "a `proc` line is due here" if is_due else "a step is due here, not a `proc` line"
 
 
-def _scope_fault(steps):
-    """The first variable used unbound (14) or bound twice (15), in line order."""
-    bound, ended = {}, set()  # the line of each let, and the variables whose e2 is over or not begun
+def _missing(left, unfinished):
+    if unfinished:
+        line, word, _ = unfinished[-1]
+        return f"the job is not finished: `{word}` on line {line} lacks {'its body' if word == 'proc' else 'a part'}"
+    return "the job itself is missing, behind its procedures" if left == 1 else "a procedure is missing, and the job itself"
+
+
+# The part of a word in which the variable that it binds may be used.
+_SCOPES = {"let": "e2", "proc": "body"}
+
+
+def _scope_fault(steps, procedures):
+    """The first variable used unbound (14) or bound twice (15), or call of no procedure (49), in line order."""
+    bound, ended = {}, set()  # the step that binds each variable, and the variables whose scope is over or not begun
 
     def walk(at):
         step = steps[at]
         if step.word == "var" and (step.number not in bound or step.number in ended):
-            its_let = bound.get(step.number)
-            where = f"used outside the second part of its let on line {its_let}" if its_let else "bound by no let above it"
-            raise _Found(14, step.line, f"variable {step.number} is {where}")
-        if step.word == "let":
+            raise _Found(14, step.line, f"variable {step.number} is {_where_bound(bound.get(step.number))}")
+        if step.word == "call" and step.number >= procedures:
+            raise _Found(49, step.line, f"procedure {step.number} is called, and {_procedures_there(procedures)}")
+        if step.word in _SCOPES:
             if step.number in bound:
-                raise _Found(15, step.line, f"variable {step.number} is bound on line {bound[step.number]} already")
-            bound[step.number] = step.line
+                raise _Found(15, step.line, f"variable {step.number} is bound on line {bound[step.number].line} already")
+            bound[step.number] = step
             ended.add(step.number)
         at += 1
         for name in WORDS[step.word].parts:
-            if step.word == "let" and name == "e2":
+            if name == _SCOPES.get(step.word):
                 ended.discard(step.number)
             at = walk(at)
-        if step.word == "let":
+        if step.word in _SCOPES:
             ended.add(step.number)
         return at
 
     try:
-        walk(0)
+        at = 0
+        while at < len(steps):
+            at = walk(at)
     except _Found as found:
         return Fault(*found.args)
     return None
+
+
+def _where_bound(binder):
+    if not binder:
+        return "bound by no line above it"
+    scope = "the body of its procedure" if binder.word == "proc" else "the second part of its let"
+    return f"used outside {scope} on line {binder.line}"
+
+
+def _procedures_there(count):
+    return {0: "there is none", 1: "there is procedure 0 alone"}.get(count, f"there are procedures 0 to {count - 1}")
 
 
 class _Found(Exception):

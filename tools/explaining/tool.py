@@ -25,7 +25,8 @@ def main(arguments):
         return _tell_alone(folder, given)
     if file:
         spare(folder, (PROGRAM, SPLIT, TRACE, NAMES), file, "page")
-    program = REPLAYING if "--replay" in given else FILLING if is_for_filling(read_sheet(folder, SPLIT)) else CHECKING
+    is_filling = is_for_filling(read_sheet(folder, PROGRAM), read_sheet(folder, SPLIT))
+    program = REPLAYING if "--replay" in given else FILLING if is_filling else CHECKING
     run = run_in(find_program(program), folder, program)
     explanation = replays.explain(run, folder, walks) if program == REPLAYING else explain(run, folder)
     lines, walked = telling.told(explanation), replays.told if program == REPLAYING else walk.told

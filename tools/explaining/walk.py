@@ -4,7 +4,7 @@ from typing import NamedTuple
 from .conditions import access_at, equation, find, holds_at, sides
 from .showing import fractions, listed
 from .sites import acted_on, map_named
-from .words import KINDS, MAPS, WORDS
+from .words import CALLED, KINDS, MAPS, WORDS
 
 
 class Stride(NamedTuple):
@@ -17,6 +17,7 @@ class Stride(NamedTuple):
     words: str
     sums: str  # the conditions that move or ask for rights, with their fractions
     refused: bool
+    apart: bool  # it begins the body of another procedure than the line above it, or the job itself
 
 
 def strides(explanation):
@@ -34,6 +35,7 @@ def _stride(site, explanation):
         in_words(site, explanation.sites, explanation.names),
         sums(site, split, explanation.names),
         site is explanation.site,
+        site.line > 2 and (site.word == "proc" or site is explanation.sites.root),
     )
 
 
@@ -56,8 +58,19 @@ def in_words(site, sites, names):
         thing=thing(holder, names),
         cell=_cell(holder, split, names),
         **{name: _moved_map(holder, name, split, names) for name in MAPS},
+        **_around_call(site, split, names),
         **{name: part.line for name, part in site.parts.items()},
     )
+
+
+def _around_call(site, split, names):
+    """What is told of a call and of a `proc` line: the procedure, the argument, and the maps before, after and kept."""
+    if not site.signature:
+        return {}
+    told = {"procedure": names.procedure(site.signature.number)}
+    if site.word == "call":
+        told["argument"] = thing(site.parts["part"], names)
+    return told | {name: amounts(map_named(site, name, split), split, names) for name in CALLED}
 
 
 def amounts(numbers, split, names):
@@ -111,7 +124,7 @@ def sums(site, split, names):
             told += _equations(site, condition.wording, split, names)
         if condition.mark == "A":
             told.append(access_at(site, condition.wording, split) + " is false" * (not finding.holds))
-    return "; ".join(told)
+    return "; ".join(dict.fromkeys(told))  # before and after a call the sums are often the same
 
 
 def _equations(site, wording, split, names):
@@ -125,7 +138,7 @@ def _equations(site, wording, split, names):
 def _moved(site, wording, split):
     """The locations of which a step hands over some."""
     left, _, right = sides(wording)
-    moved = [map_named(site, term, split) for term in left + right if term in ("s", *MAPS)]
+    moved = [map_named(site, term, split) for term in left + right if term in ("s", *MAPS, *CALLED)]
     return [p for p in range(split.locations) if any(numbers[p] for numbers in moved)]
 
 
@@ -147,9 +160,10 @@ def past_the_lack(explanation):
 
 
 def text(explanation):
-    """The walk as lines of text, the refused step marked."""
+    """The walk as lines of text, the refused step marked, and an empty line behind the body of each procedure."""
     table = [("line", "thread", "step", "row", "before", "after", "in words")]
     for stride in strides(explanation):
+        table += [("",) * len(table[0])] * stride.apart
         site = stride.site
         words = f"{stride.words}: {stride.sums}" if stride.sums else stride.words
         mark = ">" if stride.refused else " "
@@ -160,5 +174,5 @@ def text(explanation):
     lines = []
     for row in table:
         first = row[0].rjust(widths[0])
-        lines.append("  ".join([first, *(cell.ljust(width) for cell, width in zip(row[1:], widths[1:])), row[-1]]))
+        lines.append("  ".join([first, *(cell.ljust(width) for cell, width in zip(row[1:], widths[1:])), row[-1]]).rstrip())
     return lines

@@ -17,6 +17,8 @@ class Kind(NamedTuple):
 
 # The names of maps in types.
 MAPS = ("K", "in", "out", "r", "w")
+# The names of maps around a call: what its procedure starts with and leaves, and what is kept back.
+CALLED = ("before", "after", "kept")
 
 KINDS = {
     "int": Kind("a number", (None, None)),
@@ -161,7 +163,22 @@ WORDS = {
         "WRLOCK", "rwlock", "take {thing} for writing and get {w}", _takes("w"), source="Figure 8"),
     "wrunlock": _moves(
         "WRUNLOCK", "rwlock", "give back {thing} after writing and with it {w}", _gives("w"), source="Figure 8"),
+    "call": _word(
+        "CALL", "procedure", {"part": "pre"},
+        "the result of its procedure", "call {procedure} with {argument}; keep back {kept}",
+        ("type is result", "T", "its type agrees with the result of its procedure"),
+        ("type of part is argument", "T", "the type of its part agrees with the argument of its procedure"),
+        ("post of part = before + kept", "F", "its part leaves what the procedure starts with plus what is kept back"),
+        ("post = after + kept", "F", "after equals what the procedure leaves plus what is kept back"), source="Section 3.1.3"),
+    "proc": _word(
+        "PROC", "variable", {"body": "before"},
+        "none: it is no step", "{procedure}, of {variable}: it starts with {before} and leaves {after}",
+        ("type of body is result", "T", "the type of its body agrees with its result"),
+        ("post of body ≥ after", "F", "its body leaves at least what the procedure leaves"), source="Section 3.1.3"),
 }
+
+# The words of `P2` sheets alone. A `proc` line is no step: it has a line of its own in the split, and no row.
+WITH_PROCEDURES = ("call", "proc")
 
 # A word that no machine does, and the one to write in its place.
 NO_STEP = {"freelock": "lock"}

@@ -7,16 +7,17 @@ CONSTANT, NOBODY = -1, -2
 
 
 def key(state, last, alike):
-    """The key of a state after a move of thread `last`. `alike` has the shape of each point.
+    """The key of a state after a move of thread `last`. `alike` has the shapes of points and of what is behind open calls.
 
-    Constants are left out, since no step depends on one. So is what no thread can reach any more, and the value of a
-    finished thread, which nobody sees.
+    Constants are left out, since no step depends on one. So is what no thread can reach any more, the value of a finished
+    thread, which nobody sees, and an open call with nothing left behind it.
     """
     entries = []
     for thread in state.threads:
         if thread.point != FINISHED:
-            values = thread.operands + thread.slots
-            entries.append(((alike[thread.point], thread.number != last, tuple(map(kind, values))), values, thread))
+            values, behind = thread.values(), tuple([alike.returns[call.step] for call in alike.calls(thread)])
+            look = alike.points[thread.point], thread.number != last, tuple(map(kind, values)), behind
+            entries.append((look, values, thread))
     entries.sort(key=lambda entry: entry[0])
     names = {}
     _name_in_turn(entries, names)
@@ -75,7 +76,7 @@ def reached_by_others(state, at):
     reached = set()
     waiting = [
         value for place, thread in enumerate(state.threads) if place != at and thread.point != FINISHED
-        for value in thread.operands + thread.slots]
+        for value in thread.values()]
     while waiting:
         value = waiting.pop()
         if kind(value) and value not in reached:

@@ -1,7 +1,8 @@
 """The search for an order of moves with a race: fewest switches of thread first, then fewest steps.
 
 Between two switches only what others can see is a point to switch at. Steps on nothing shared are taken at once, or as late
-as the thread's next step that others see, whichever loses nothing; docs/RACES.md has the reasons.
+as the thread's next step that others see, whichever loses nothing; docs/RACES.md has the reasons. A call by which a thread can
+come back to the same call is taken late, as a choice is: so a thread that goes on for ever by itself is seen to.
 """
 import heapq
 import time
@@ -11,16 +12,17 @@ from stepping.machine import DONE, KIND, ODD, READY, ROOM, WAITS, WANTS, Room, k
 from stepping.program import FINISHED
 
 from .likeness import key, reached_by_others
+from .recursion import recursive
 from .shapes import alike
 
 # Steps that touch nothing another thread can name, and that always go ahead.
-LOCAL = {"let", "while", "ref", "newtid", "newlock", "newsem", "newrwlock"}
-MAKERS = LOCAL - {"let", "while"}
+LOCAL = {"let", "while", "call", "ref", "newtid", "newlock", "newsem", "newrwlock"}
+MAKERS = LOCAL - {"let", "while", "call"}
 # Steps that always go ahead, and only let others do more.
 GIVING = {"spawn", "post"}
 
 
-PLENTY = Room(256, 256)  # to search on where there is no race within that of racereplay
+PLENTY = Room(256, 256, 256)  # to search on where there is no race within that of racereplay
 
 
 class Limits(NamedTuple):
@@ -82,31 +84,38 @@ class Search:
     def __init__(self, machine, limits, room):
         self.machine, self.points, self.limits, self.room = machine, machine.points, limits, room
         self._alike = alike(machine.steps)
+        self._recursive = recursive(machine.steps)
         self.cut = False
         self.odd = self.stuck = None
         self._turn = 0
         self._heap = []
 
     def run(self):
-        begun = time.process_time()
+        self._begun = time.process_time()
         state, moves = self._settled(self.machine.start(), 0)
         self._push(0, len(moves), _Node(state, 0, moves, None), None)
         seen, switches = set(), 0
         while self._heap:
             switches, steps, _, node, race = heapq.heappop(self._heap)
             if race is not None:
-                return self._found(race, seen, begun, False, switches)
+                return self._found(race, seen, False, switches)
             known = key(node.state, node.last, self._alike)
             if known in seen:
                 continue
-            if len(seen) >= self.limits.states or time.process_time() - begun > self.limits.seconds:
-                return self._found(None, seen, begun, True, switches)
+            if self._is_enough(seen):
+                return self._found(None, seen, True, switches)
             seen.add(known)
-            self._expand(node, switches, steps)
-        return self._found(None, seen, begun, False, switches)
+            try:
+                self._expand(node, switches, steps)
+            except _Enough:
+                return self._found(None, seen, True, switches)
+        return self._found(None, seen, False, switches)
 
-    def _found(self, race, seen, begun, limited, switches):
-        return Found(race, self.odd, self.stuck, len(seen), time.process_time() - begun, limited, self.cut, switches)
+    def _is_enough(self, seen):
+        return len(seen) >= self.limits.states or time.process_time() - self._begun > self.limits.seconds
+
+    def _found(self, race, seen, limited, switches):
+        return Found(race, self.odd, self.stuck, len(seen), time.process_time() - self._begun, limited, self.cut, switches)
 
     def _push(self, switches, steps, node, race):
         self._turn += 1
@@ -157,10 +166,12 @@ class Search:
     def _all_outcomes(self, state):
         return [(thread, self._outcomes(state, at)) for at, thread in enumerate(state.threads) if thread.point != FINISHED]
 
-    def _has_no_room(self, state, word):
-        """Whether such a step would leave the room: then it is not taken ahead of others."""
+    def _has_no_room(self, state, thread, word):
+        """Whether such a step of a thread would leave the room: then it is not taken ahead of others."""
         if word == "spawn":
             return state.spawned >= self.room.threads
+        if word == "call":
+            return len(thread.calls) >= self.room.calls
         if word not in MAKERS:
             return False
         made = {"ref": len(state.cells), "newtid": state.identifiers, "newlock": len(state.locks), "newsem": len(state.sems),
@@ -181,13 +192,18 @@ class Search:
         if thread.point == FINISHED:
             return False
         word = self.points[thread.point].word
-        if self._has_no_room(state, word):
+        if self._has_no_room(state, thread, word) or self._may_come_back(thread):
             return False
         if word in LOCAL:
             return True
         if word not in WANTS or self.machine.standing(state, thread) != READY:
             return False
         return word in GIVING or thread.operands[0] not in reached_by_others(state, at)
+
+    def _may_come_back(self, thread):
+        """Whether a thread is at a choice, or at a call by which it can come back to where it is."""
+        point = self.points[thread.point]
+        return point.word == "if" or point.word == "call" and point.number in self._recursive
 
     def _outcomes(self, state, at):
         """Every way in which a thread can go on by itself: through local steps and choices to a step that others see."""
@@ -197,16 +213,24 @@ class Search:
             moves, now = waiting.pop()
             thread = now.threads[at]
             word = self.points[thread.point].word if thread.point != FINISHED else None
-            if word in LOCAL and not self._has_no_room(now, word):
-                waiting.append(((*moves, (number, 0)), self.machine.step(now, at)))
-            elif word == "if":
-                here = thread.point, tuple(value if kind(value) else 0 for value in thread.slots)
-                if here not in seen:
-                    seen.add(here)
-                    waiting += [((*moves, (number, choice)), self.machine.step(now, at, choice)) for choice in (1, 0)]
-            else:
+            if word not in LOCAL | {"if"} or self._has_no_room(now, thread, word):
                 outcomes.append(Outcome(moves, now, at, self.machine.standing(now, thread)))
+                continue
+            if self._may_come_back(thread):
+                here = self._here(thread)
+                if here in seen:
+                    continue
+                if self._is_enough(seen):
+                    raise _Enough
+                seen.add(here)
+            choices = (1, 0) if word == "if" else (0,)
+            waiting += [((*moves, (number, choice)), self.machine.step(now, at, choice)) for choice in choices]
         return outcomes
+
+    def _here(self, thread):
+        """Where a thread stands, constants and calls with nothing left behind them aside."""
+        calls = tuple(call.step for call in self._alike.calls(thread))
+        return thread.point, calls, tuple(value if kind(value) else 0 for value in thread.values())
 
     # ---- What there is to see in a state
 
@@ -243,6 +267,10 @@ class Search:
             for number, choice in outcome.moves:
                 state = self.machine.step(state, state.at(number), choice)
         return None if any(self.machine.standing(state, thread) == READY for thread in state.threads) else order
+
+
+class _Enough(Exception):
+    """The search has come to its limits."""
 
 
 def _without(state, number):

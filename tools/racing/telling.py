@@ -45,7 +45,7 @@ def searched(found):
         stuck = "" if found.odd is not None else " or to a thread stuck at a word of the wrong kind"
         return [f"No order of moves leads to a race{stuck}: all of them were searched, loops of any number of rounds"
                 f" included ({took}). The search is not proved; an accepted pair would be proof."]
-    past = f"some go past {PLENTY.threads} threads or {PLENTY.things} things of a kind"
+    past = f"some go past {PLENTY.threads} threads, {PLENTY.things} things of a kind or {PLENTY.calls} open calls of one thread"
     bound = "the search came to its limits" if found.limited else past
     lines = [f"No race was found, and that proves nothing: not all orders were searched, since {bound} ({took})."]
     if found.switches and not found.cut:
@@ -55,8 +55,8 @@ def searched(found):
 
 def past_room():
     """An order that racereplay has no room for."""
-    return [f"The search met something past what racereplay runs, which is {ROOM.threads} threads and {ROOM.things} things of a"
-            " kind. So nothing confirms it, and it is not told."]
+    return [f"The search met something past what racereplay runs, which is {ROOM.threads} threads, {ROOM.things} things of a"
+            f" kind and {ROOM.calls} open calls of one thread. So nothing confirms it, and it is not told."]
 
 
 def alarm(objection):

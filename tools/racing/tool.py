@@ -106,7 +106,7 @@ class Job:
         """Has racereplay run an order; only then it is told."""
         shown = Shown(machine, self.names, order, kind.ending.shows)
         written, lines = self.write_trace(shown.order), kind.lines(shown)
-        if not ROOM.holds(shown.state):
+        if not all(ROOM.holds(one.after) for one in shown.steps):
             return Told(4 if kind.status else 0, [*telling.past_room(), written])  # that all can wait is no fault
         objection = self.replay.objection(lines)
         if objection:

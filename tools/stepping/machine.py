@@ -5,7 +5,7 @@ trace; a joined thread leaves the state and keeps its number.
 """
 from typing import NamedTuple
 
-from .program import FINISHED
+from .program import FINISHED, Stand
 
 # A value is a constant, or a kind and a name in one number.
 _BITS = 20
@@ -37,6 +37,11 @@ class Thread(NamedTuple):
     point: int
     operands: tuple
     slots: tuple  # in the order of the point's live slots
+    calls: tuple  # those that are open, the latest last
+
+    def values(self):
+        """All that the thread can still get at by itself."""
+        return self.operands + self.slots + tuple(value for call in self.calls for value in call.slots)
 
 
 class RwLock(NamedTuple):
@@ -64,16 +69,18 @@ class State(NamedTuple):
 
 
 class Room(NamedTuple):
-    """How many threads an order may have in all, and how many things of each kind."""
+    """How many threads an order may have in all, how many things of each kind, and how many calls open in one thread at a time."""
 
     threads: int
     things: int
+    calls: int
 
     def holds(self, state):
-        return state.spawned <= self.threads and max(state.things()) <= self.things
+        return (state.spawned <= self.threads and max(state.things()) <= self.things
+                and max((len(thread.calls) for thread in state.threads), default=0) <= self.calls)
 
 
-ROOM = Room(16, 64)  # of racereplay, by document 02 (xii)
+ROOM = Room(16, 64, 64)  # of racereplay, by document 02 (xii) and (xiv)
 
 
 class Machine:
@@ -82,15 +89,12 @@ class Machine:
         self.points = steps.points
 
     def start(self):
-        return State((self._thread(0, START, *self._entering(0, {})),), (), (), (), (), 0, 1)
+        return State((self._thread(0, START, self.steps.entered(self.steps.root, {})),), (), (), (), (), 0, 1)
 
-    def _entering(self, at, slots):
-        point, operands = self.steps.entered(at, slots)
-        return point, operands, slots
-
-    def _thread(self, number, identifier, point, operands, slots):
+    def _thread(self, number, identifier, stand):
+        point, operands, slots, calls = stand
         live = self.points[point].live if point != FINISHED else ()
-        return Thread(number, identifier, point, operands, tuple(slots[slot] for slot in live))
+        return Thread(number, identifier, point, operands, tuple(slots[slot] for slot in live), calls)
 
     # ---- What a thread can do
 
@@ -141,31 +145,30 @@ class Machine:
     def step(self, state, at, choice=0):
         """The state after the thread at a place takes one step, which it can take."""
         thread = state.threads[at]
-        point, operands = self.points[thread.point], thread.operands
+        point = self.points[thread.point]
         slots = dict(zip(point.live, thread.slots))
-        word, here = point.word, point.step
-        if word == "let":
-            if point.loop:
-                follows = self.steps.point_of[here, "while"], ()
-            else:
-                slots[point.number] = operands[0]
-                follows = self.steps.entered(point.parts[1], slots)
-        elif word == "while":
-            follows = self.steps.point_of[here, "if"], ()
-        elif word == "if":
-            if not point.loop:
-                follows = self.steps.entered(point.parts[choice], slots)
-            elif choice == 0:
-                follows = self.steps.entered(point.parts[0], slots)
-            else:
-                follows = self.steps.returned(here, 0, slots)
-        else:
-            state, value = self._acted(state, word, point, operands, slots)
-            follows = self.steps.returned(here, value, slots)
-            if word == "join":
+        follows = self._gone_on(thread, point, slots, choice)
+        if follows is None:
+            state, value = self._acted(state, point.word, point, thread.operands, slots)
+            follows = self.steps.returned(point.step, value, slots, thread.calls)
+            if point.word == "join":
                 at = state.at(thread.number)
-        moved = self._thread(thread.number, thread.identifier, *follows, slots)
+        moved = self._thread(thread.number, thread.identifier, follows)
         return state._replace(threads=state.threads[:at] + (moved,) + state.threads[at + 1:])
+
+    def _gone_on(self, thread, point, slots, choice):
+        """Where a thread stands after a word that changes nothing but itself; None at any other word."""
+        word, here, calls, steps = point.word, point.step, thread.calls, self.steps
+        if word == "call":
+            return steps.called(here, thread.operands[0], slots, calls)
+        if word == "let" and point.loop or word == "while":
+            return Stand(steps.point_of[here, "while" if word == "let" else "if"], (), slots, calls)
+        if word == "let":
+            slots[point.number] = thread.operands[0]
+            return steps.entered(point.parts[1], slots, calls)
+        if word == "if" and point.loop and choice == 1:
+            return steps.returned(here, 0, slots, calls)
+        return steps.entered(point.parts[choice], slots, calls) if word == "if" else None
 
     def _acted(self, state, word, point, operands, slots):
         """A word that acts on the state: the state, and the value that the word becomes."""
@@ -179,7 +182,7 @@ class Machine:
         if word == "write":
             return state._replace(cells=_put(state.cells, thing, operands[1])), 0
         if word == "spawn":
-            body = self._thread(state.spawned, operands[0], *self._entering(point.parts[1], dict(slots)))
+            body = self._thread(state.spawned, operands[0], self.steps.entered(point.parts[1], dict(slots)))
             return state._replace(threads=state.threads + (body,), spawned=state.spawned + 1), 0
         if word == "join":
             return self._joined(state, operands[0]), 0

@@ -1,7 +1,8 @@
 """A program sheet as control points: where a thread can stand, and which values it still needs there.
 
-A variable is bound by one let, and a loop's round is over before the next begins, so a thread needs one value for each
-variable at a time. The expression that is left of a thread is then a point of the sheet and the values that it still uses.
+A variable is bound by one line, and a loop's round is over before the next begins, so a body needs one value for each variable
+at a time. The expression that is left of a thread is then a point of the sheet, the values that it still uses, and for each call
+whose body is no value yet where it goes on once the body is one. These calls are the open ones of document 02.
 """
 from typing import NamedTuple
 
@@ -26,19 +27,39 @@ class Point(NamedTuple):
     step: int  # the step that reduces here, by its place in the sheet
 
 
+class Call(NamedTuple):
+    """A call that is open."""
+
+    step: int  # by its place in the sheet
+    slots: tuple  # the values that its thread still uses once it has returned, in the order of its point's live slots
+
+
+class Stand(NamedTuple):
+    """Where a thread stands."""
+
+    point: int
+    operands: tuple  # the values of the word's parts
+    slots: dict
+    calls: tuple  # those that are open, the latest last
+
+
 class Steps:
-    """The steps of a well-formed sheet: parents, free variables, points."""
+    """The lines of a well-formed sheet: parents, free variables, points."""
 
     def __init__(self, steps):
         self.steps = steps
         self.parts, self.parent, self.place = [()] * len(steps), [None] * len(steps), [0] * len(steps)
-        self._read(0)
+        self.procedures, self.root = [], 0
+        while steps[self.root].word == "proc":
+            self.procedures.append(self.root)
+            self.root = self._read(self.root)
+        self._read(self.root)
         self.free = [frozenset()] * len(steps)
         for at in reversed(range(len(steps))):
             self.free[at] = self._free_in(at)
         self.points, self.point_of = [], {}
         for at, step in enumerate(steps):
-            if step.word not in ("var", "int"):
+            if step.word not in ("var", "int", "proc"):
                 self._add_points(at, step)
 
     def _read(self, at):
@@ -56,6 +77,8 @@ class Steps:
             return frozenset([step.number])
         if step.word == "let":
             return self.free[parts[0]] | self.free[parts[1]] - {step.number}
+        if step.word == "proc":
+            return frozenset()
         return frozenset().union(*(self.free[part] for part in parts))
 
     # ---- Points
@@ -72,9 +95,9 @@ class Steps:
 
     def _after(self, at):
         """The slots used once this step is a value."""
-        above = self.parent[at]
-        if above is None or self._is_body(at):
+        if self.is_whole(at):
             return frozenset()
+        above = self.parent[at]
         word, place, parts = self.steps[above].word, self.place[at], self.parts[above]
         needed = self._after(above)
         if word == "let" and place == 0:
@@ -87,41 +110,56 @@ class Steps:
             needed |= {saved(above)}
         return needed
 
-    def _is_body(self, at):
+    def is_whole(self, at):
+        """Whether a step is all that its body or its thread does: nothing of the same body follows it."""
         above = self.parent[at]
-        return above is not None and self.steps[above].word == "spawn" and self.place[at] == 1
+        return above is None or self.steps[above].word == "proc" or self.steps[above].word == "spawn" and self.place[at] == 1
+
+    def body_of(self, procedure):
+        """The step that a procedure's body begins with."""
+        return self.parts[self.procedures[procedure]][0]
 
     # ---- Going on
 
-    def entered(self, at, slots):
-        """Where a thread stands that is to evaluate a step: a point and its parts' values. `slots` may be written to."""
+    def entered(self, at, slots, calls=()):
+        """Where a thread stands that is to evaluate a step, with these calls open. `slots` may be written to."""
         while True:
             step = self.steps[at]
             if step.word == "int":
-                return self.returned(at, step.number, slots)
+                return self.returned(at, step.number, slots, calls)
             if step.word == "var":
-                return self.returned(at, slots[step.number], slots)
+                return self.returned(at, slots[step.number], slots, calls)
             if not self.parts[at] or STRICT.get(step.word) == 0:
-                return self.point_of[at, step.word], ()
+                return Stand(self.point_of[at, step.word], (), slots, calls)
             at = self.parts[at][0]
 
-    def returned(self, at, value, slots):
+    def called(self, at, argument, slots, calls):
+        """Where a thread stands once it has taken a call: in its body, or behind it if that is a value at once."""
+        number, live = self.steps[at].number, self.points[self.point_of[at, "call"]].live
+        call = Call(at, tuple(slots[slot] for slot in live))
+        return self.entered(self.body_of(number), {self.steps[self.procedures[number]].number: argument}, (*calls, call))
+
+    def returned(self, at, value, slots, calls=()):
         """Where a thread stands once a step of it has become a value."""
         while True:
+            if self.is_whole(at):
+                if not calls:
+                    return Stand(FINISHED, (value,), {}, ())
+                (at, kept), calls = calls[-1], calls[:-1]
+                slots = dict(zip(self.points[self.point_of[at, "call"]].live, kept))
+                continue
             above = self.parent[at]
-            if above is None or self._is_body(at):
-                return FINISHED, (value,)
             word, place = self.steps[above].word, self.place[at]
             if word == "if" or word == "let" and place == 1:
                 at = above
                 continue
             if word == "while":
-                return self.point_of[above, "let"], (value,)
+                return Stand(self.point_of[above, "let"], (value,), slots, calls)
             if word == "write" and place == 0:
                 slots[saved(above)] = value
-                return self.entered(self.parts[above][1], slots)
+                return self.entered(self.parts[above][1], slots, calls)
             operands = (slots[saved(above)], value) if word == "write" else (value,)
-            return self.point_of[above, word], operands
+            return Stand(self.point_of[above, word], operands, slots, calls)
 
 
 def saved(at):

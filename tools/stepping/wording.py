@@ -12,6 +12,7 @@ def step_words(one, naming):
     after = one.after
     return {
         "if": lambda: _choice(one),
+        "call": lambda: f"calls {naming.names.procedure(one.point.number)} with {naming.thing(operands[0])}",
         "spawn": lambda: f"starts {naming.thread(one.started())}",
         "join": lambda: f"joins {naming.thread(one.joined())}",
         "read": lambda: f"reads {thing}: {naming.thing(one.before.cells[name(operands[0])])}",

@@ -5,7 +5,7 @@ use mathlib.Core.Option.{none}
 use native.Mathlib.Nat.{le-trans}
 use Rattle.calculus.specs.Expression.{Value, Unary, Maker, Exp, value, letIn, if, while, spawn, write, unary, make, Redex, letRedex, ifRedex, whileRedex, spawnRedex, writeRedex, unaryRedex, makeRedex, Next, isValue, atVariable, atWord, nextWord, ifValue, plug}
 use Rattle.calculus.specs.Capability.{Cap, _≥ᶜ_}
-use Rattle.calculus.specs.Figure5.{Ty, intType, refType, tidType, Env, bind}
+use Rattle.calculus.specs.Figure5.{Ty, intType, refType, tidType, Signatures, Env, bind}
 use Rattle.calculus.proofs.Laws.Maps.{none-is-not-some}
 use Rattle.calculus.proofs.Laws.Order.{Pays, ≥-trans, ≥-refl, pays-weakens}
 use Rattle.calculus.proofs.Laws.NextWord.{word-injective, word-is-no-value, variable-is-no-value, variable-is-no-word, next-is-value, once-is-word, once-is-variable}
@@ -14,33 +14,34 @@ use Rattle.calculus.proofs.Substitution.{_⊆_, ⊆-refl, value-grows, 
 
 -- ---- Values
 
-pub typed-value : {D : ℕ} {N Γ : Env} {Ψ Φ : Cap} {v : Value} {τ : Ty} → Typed D N Γ Ψ (value v) τ Φ → ValueTyped N v τ × (Ψ ≥ᶜ Φ)
+pub typed-value : {D : ℕ} {S : Signatures} {N Γ : Env} {Ψ Φ : Cap} {v : Value} {τ : Ty} → Typed D S N Γ Ψ (value v) τ Φ → ValueTyped N v τ × (Ψ ≥ᶜ Φ)
 typed-value (value-typed t h) = (t, h)
 
 -- A typed expression that is a value: it is that value, of that type, and leaves what it has.
-pub typed-is-value : {D : ℕ} {N Γ : Env} {Ψ Φ : Cap} {e : Exp} {τ : Ty} {v : Value} → Typed D N Γ Ψ e τ Φ → nextWord e ≡ isValue v →
-    (e ≡ value v) × ValueTyped N v τ × (Ψ ≥ᶜ Φ)
+pub typed-is-value : {D : ℕ} {S : Signatures} {N Γ : Env} {Ψ Φ : Cap} {e : Exp} {τ : Ty} {v : Value} → Typed D S N Γ Ψ e τ Φ →
+    nextWord e ≡ isValue v → (e ≡ value v) × ValueTyped N v τ × (Ψ ≥ᶜ Φ)
 typed-is-value {e} h q = let w = next-is-value e q in let t = typed-value (rw w at h) in (w, t .0, t .1)
 
 -- ---- Words
 
--- RedexTyped D N Γ Ψ Φ r τ: the word r has type τ, with Ψ before and Φ after.
-pub data RedexTyped (D : ℕ) (N Γ : Env) (Ψ Φ : Cap) : Redex → Ty → Type 0 where
+-- RedexTyped D S N Γ Ψ Φ r τ: the word r has type τ, with Ψ before and Φ after.
+pub data RedexTyped (D : ℕ) (S : Signatures) (N Γ : Env) (Ψ Φ : Cap) : Redex → Ty → Type 0 where
   let-redex-typed : {x : ℕ} {v : Value} {e : Exp} {σ τ : Ty} →
-      ValueTyped N v σ → Typed D N (bind Γ x σ) Ψ e τ Φ → RedexTyped D N Γ Ψ Φ (letRedex x v e) τ
+      ValueTyped N v σ → Typed D S N (bind Γ x σ) Ψ e τ Φ → RedexTyped D S N Γ Ψ Φ (letRedex x v e) τ
   if-redex-typed : {e₁ e₂ : Exp} {τ : Ty} →
-      Typed D N Γ Ψ e₁ τ Φ → Typed D N Γ Ψ e₂ τ Φ → RedexTyped D N Γ Ψ Φ (ifRedex e₁ e₂) τ
+      Typed D S N Γ Ψ e₁ τ Φ → Typed D S N Γ Ψ e₂ τ Φ → RedexTyped D S N Γ Ψ Φ (ifRedex e₁ e₂) τ
   while-redex-typed : {e : Exp} {Ψ₁ : Cap} {σ : Ty} →
-      Typed D N Γ Ψ₁ e σ Ψ₁ → Ψ ≥ᶜ Ψ₁ → Ψ₁ ≥ᶜ Φ → RedexTyped D N Γ Ψ Φ (whileRedex e) intType
+      Typed D S N Γ Ψ₁ e σ Ψ₁ → Ψ ≥ᶜ Ψ₁ → Ψ₁ ≥ᶜ Φ → RedexTyped D S N Γ Ψ Φ (whileRedex e) intType
   spawn-redex-typed : {v : Value} {e : Exp} {K Ψ₃ : Cap} {σ : Ty} →
-      ValueTyped N v (tidType K) → Typed D N Γ Ψ₃ e σ K → Pays Φ Ψ Ψ₃ → RedexTyped D N Γ Ψ Φ (spawnRedex v e) intType
+      ValueTyped N v (tidType K) → Typed D S N Γ Ψ₃ e σ K → Pays Φ Ψ Ψ₃ → RedexTyped D S N Γ Ψ Φ (spawnRedex v e) intType
   write-redex-typed : {v w : Value} {ρ : ℕ} {σ : Ty} →
-      ValueTyped N v (refType ρ σ) → ValueTyped N w σ → D ≤ Ψ ρ → Ψ ≥ᶜ Φ → RedexTyped D N Γ Ψ Φ (writeRedex v w) intType
+      ValueTyped N v (refType ρ σ) → ValueTyped N w σ → D ≤ Ψ ρ → Ψ ≥ᶜ Φ → RedexTyped D S N Γ Ψ Φ (writeRedex v w) intType
   unary-redex-typed : {o : Unary} {v : Value} {σ τ : Ty} →
-      ValueTyped N v σ → UnaryTyped D o σ Ψ τ Φ → RedexTyped D N Γ Ψ Φ (unaryRedex o v) τ
-  make-redex-typed : {o : Maker} {τ : Ty} → MakerTyped o Ψ τ Φ → RedexTyped D N Γ Ψ Φ (makeRedex o) τ
+      ValueTyped N v σ → UnaryTyped D S o σ Ψ τ Φ → RedexTyped D S N Γ Ψ Φ (unaryRedex o v) τ
+  make-redex-typed : {o : Maker} {τ : Ty} → MakerTyped o Ψ τ Φ → RedexTyped D S N Γ Ψ Φ (makeRedex o) τ
 
-redex-weakens : {D : ℕ} {N Γ : Env} {Ψ Ψ′ Φ : Cap} {τ : Ty} {r : Redex} → Ψ′ ≥ᶜ Ψ → RedexTyped D N Γ Ψ Φ r τ → RedexTyped D N Γ Ψ′ Φ r τ
+redex-weakens : {D : ℕ} {S : Signatures} {N Γ : Env} {Ψ Ψ′ Φ : Cap} {τ : Ty} {r : Redex} → Ψ′ ≥ᶜ Ψ → RedexTyped D S N Γ Ψ Φ r τ →
+    RedexTyped D S N Γ Ψ′ Φ r τ
 redex-weakens a (let-redex-typed t e) = let-redex-typed t (typing-weakens e a ≥-refl)
 redex-weakens a (if-redex-typed e₁ e₂) = if-redex-typed (typing-weakens e₁ a ≥-refl) (typing-weakens e₂ a ≥-refl)
 redex-weakens a (while-redex-typed e g h) = while-redex-typed e (≥-trans a g) h
@@ -51,24 +52,25 @@ redex-weakens a (make-redex-typed o) = make-redex-typed (maker-weakens o a ≥-r
 
 -- The next word r of e, typed with what e has before, and its place: whatever has the word's type and leaves what the word
 -- leaves may stand there, also when more names are known and another capability is held.
-pub record Focus (D : ℕ) (N Γ : Env) (Ψ : Cap) (e : Exp) (τ : Ty) (Φ : Cap) (r : Redex) : Type 0 where
+pub record Focus (D : ℕ) (S : Signatures) (N Γ : Env) (Ψ : Cap) (e : Exp) (τ : Ty) (Φ : Cap) (r : Redex) : Type 0 where
   pub σ : Ty
   pub mid : Cap
-  pub word : RedexTyped D N Γ Ψ mid r σ
-  pub back : (N′ : Env) (Ψ′ : Cap) (e′ : Exp) → N ⊆ N′ → Typed D N′ Γ Ψ′ e′ σ mid → Typed D N′ Γ Ψ′ (plug e e′) τ Φ
+  pub word : RedexTyped D S N Γ Ψ mid r σ
+  pub back : (N′ : Env) (Ψ′ : Cap) (e′ : Exp) → N ⊆ N′ → Typed D S N′ Γ Ψ′ e′ σ mid → Typed D S N′ Γ Ψ′ (plug e e′) τ Φ
 
-focus-weakens : {D : ℕ} {N Γ : Env} {Ψ Ψ′ Φ : Cap} {τ : Ty} {r : Redex} {e : Exp} → Ψ′ ≥ᶜ Ψ → Focus D N Γ Ψ e τ Φ r → Focus D N Γ Ψ′ e τ Φ r
+focus-weakens : {D : ℕ} {S : Signatures} {N Γ : Env} {Ψ Ψ′ Φ : Cap} {τ : Ty} {r : Redex} {e : Exp} → Ψ′ ≥ᶜ Ψ → Focus D S N Γ Ψ e τ Φ r →
+    Focus D S N Γ Ψ′ e τ Φ r
 focus-weakens a h = record { σ = h .σ; mid = h .mid; word = redex-weakens a (h .word); back = h .back }
 
 -- The expression is the word itself.
-whole : {D : ℕ} {N Γ : Env} {Ψ Φ : Cap} {τ : Ty} {r s : Redex} (e : Exp) → RedexTyped D N Γ Ψ Φ s τ → s ≡ r →
-    ((e′ : Exp) → plug e e′ ≡ e′) → Focus D N Γ Ψ e τ Φ r
+whole : {D : ℕ} {S : Signatures} {N Γ : Env} {Ψ Φ : Cap} {τ : Ty} {r s : Redex} (e : Exp) → RedexTyped D S N Γ Ψ Φ s τ → s ≡ r →
+    ((e′ : Exp) → plug e e′ ≡ e′) → Focus D S N Γ Ψ e τ Φ r
 whole {Φ} {τ} e h q place = record { σ = τ; mid = Φ; word = rw q at h; back = λ N′ Ψ′ e′ s k. rw (place e′) k }
 
 -- The expression is c around its part d, which has the word.
-inside : {D : ℕ} {N Γ : Env} {Ψ Ψ₁ Φ : Cap} {σ τ : Ty} {r : Redex} (e d : Exp) (c : Exp → Exp) → Focus D N Γ Ψ d σ Ψ₁ r →
-    ((N′ : Env) (Ψ′ : Cap) (e′ : Exp) → N ⊆ N′ → Typed D N′ Γ Ψ′ e′ σ Ψ₁ → Typed D N′ Γ Ψ′ (c e′) τ Φ) →
-    ((e′ : Exp) → plug e e′ ≡ c (plug d e′)) → Focus D N Γ Ψ e τ Φ r
+inside : {D : ℕ} {S : Signatures} {N Γ : Env} {Ψ Ψ₁ Φ : Cap} {σ τ : Ty} {r : Redex} (e d : Exp) (c : Exp → Exp) → Focus D S N Γ Ψ d σ Ψ₁ r →
+    ((N′ : Env) (Ψ′ : Cap) (e′ : Exp) → N ⊆ N′ → Typed D S N′ Γ Ψ′ e′ σ Ψ₁ → Typed D S N′ Γ Ψ′ (c e′) τ Φ) →
+    ((e′ : Exp) → plug e e′ ≡ c (plug d e′)) → Focus D S N Γ Ψ e τ Φ r
 inside e d c h around place = record {
   σ = h .σ;
   mid = h .mid;
@@ -80,8 +82,8 @@ inside e d c h around place = record {
 
 -- By induction on the typing. Where a word wants a part to be a value there are two cases: the part is one, and the expression
 -- is the word itself, or the word is the part's and the rest of the expression stands around it.
-pub focus : {D : ℕ} {N Γ : Env} {Ψ Φ : Cap} {e : Exp} {τ : Ty} {r : Redex} → Typed D N Γ Ψ e τ Φ → nextWord e ≡ atWord r →
-    Focus D N Γ Ψ e τ Φ r
+pub focus : {D : ℕ} {S : Signatures} {N Γ : Env} {Ψ Φ : Cap} {e : Exp} {τ : Ty} {r : Redex} → Typed D S N Γ Ψ e τ Φ → nextWord e ≡ atWord r →
+    Focus D S N Γ Ψ e τ Φ r
 focus (value-typed t h) q = word-is-no-value q refl
 focus (var-typed t f h) q = variable-is-no-word refl q
 focus (let-typed {x = x} {e₁ = e₁} {e₂ = e₂} a b) q =
@@ -123,8 +125,8 @@ focus (unary-typed {o = o} {e = e} a b) q =
 focus (make-typed {o = o} b) q = whole (make o) (make-redex-typed b) (word-injective q) (λ e′. refl)
 
 -- A typed expression with no free variable does not come to one.
-pub closed-has-no-variable : {D : ℕ} {N Γ : Env} {Ψ Φ : Cap} {e : Exp} {τ : Ty} {x : ℕ} → ((y : ℕ) → Γ y ≡ none) →
-    Typed D N Γ Ψ e τ Φ → nextWord e ≡ atVariable x → ⊥
+pub closed-has-no-variable : {D : ℕ} {S : Signatures} {N Γ : Env} {Ψ Φ : Cap} {e : Exp} {τ : Ty} {x : ℕ} → ((y : ℕ) → Γ y ≡ none) →
+    Typed D S N Γ Ψ e τ Φ → nextWord e ≡ atVariable x → ⊥
 closed-has-no-variable c (value-typed t h) q = variable-is-no-value q refl
 closed-has-no-variable c (var-typed {x = y} t f h) q = none-is-not-some (sym (c y) ∙ t)
 closed-has-no-variable c (let-typed {e₁ = e₁} a b) q =

@@ -3,19 +3,21 @@ use Prim.Native.Nat.{ℕ, zero, suc}
 use mathlib.Core.Path.{_≡_, refl, ap}
 use mathlib.Core.Logic.{_⊎_, inl, inr}
 use mathlib.Core.Option.{Option, none, some}
+use mathlib.Core.List.{List}
 use native.Mathlib.Omega.{arith}
 use lib.ListN.{getElem?}
-use Rattle.calculus.specs.Expression.{Value, name, HoldWord, Unary, join, ref, read, lock, unlock, post, wait, hold, Redex, unaryRedex, Next, isValue, atVariable, atWord, nextWord}
+use Rattle.calculus.specs.Expression.{Value, name, HoldWord, Unary, join, ref, read, lock, unlock, post, wait, hold, call, Redex, unaryRedex, Next, isValue, atVariable, atWord, nextWord, Procedure}
 use Rattle.calculus.specs.State.{LockState, opened, closed, Inside, Slot, identifier, aLock, semaphore, rwlock, Thread, State, first, Move}
 use Rattle.calculus.specs.Reduction.{ifUnused, ifIdentifier, content, lockState, count, rwState, insideAfter, ifEqual, valueOf, wordOf, named, reduct, reduce}
 use Rattle.calculus.specs.Claim.{ThreadAt, Finished, finished, Waits, atJoin, atLock, atWait, atHold, Halts, HaltsWell}
 use Rattle.calculus.specs.Capability.{Cap}
-use Rattle.calculus.specs.Figure5.{Ty, refType, tidType, empty, asItIs}
+use Rattle.calculus.specs.Figure5.{Ty, refType, tidType, asItIs, Signatures, empty}
 use Rattle.calculus.proofs.Laws.Maps.{some-is-not-none, bind-goes-on}
 use Rattle.calculus.proofs.Laws.NextWord.{next-is-value}
 use Rattle.calculus.proofs.Laws.Questions.{equal-is-told}
-use Rattle.calculus.proofs.Typing.{ValueTyped, name-typed, OwnLock, own-lock, UnaryTyped, join-typed, ref-typed, read-typed, lock-typed, unlock-typed, post-typed, wait-typed, hold-typed}
+use Rattle.calculus.proofs.Typing.{ValueTyped, name-typed, OwnLock, own-lock, UnaryTyped, join-typed, ref-typed, read-typed, lock-typed, unlock-typed, post-typed, wait-typed, hold-typed, call-typed}
 use Rattle.calculus.proofs.Focus.{RedexTyped, let-redex-typed, if-redex-typed, while-redex-typed, spawn-redex-typed, write-redex-typed, unary-redex-typed, make-redex-typed, focus, closed-has-no-variable}
+use Rattle.calculus.proofs.Bodies.{BodiesTyped}
 use Rattle.calculus.proofs.Pool.{member}
 use Rattle.calculus.proofs.Invariant.{identifier-there, cell-there, lock-there, semaphore-there, rwlock-there, WellTyped}
 
@@ -27,9 +29,10 @@ listed i j n = record { thread = i; part = first; finished = j; fresh = n }
 
 -- In each lemma below the thread t halts. A word whose questions all have answers does not halt; where an answer may be missing, the
 -- thread waits.
-module _ {D : ℕ} {s : State} (I : WellTyped D s) (i : ℕ) (t : Thread) (there : ThreadAt s i t) (halts : Halts s i) where
+module _ {D : ℕ} {S : Signatures} {s : State} (P : List Procedure) (bodies : BodiesTyped D S P) (I : WellTyped D S s) (i : ℕ) (t : Thread)
+    (there : ThreadAt s i t) (halts : Halts P s i) where
   -- Whatever a move of the thread lists, its next word does not reduce.
-  no-reduct : {r : Redex} → nextWord (t .body) ≡ atWord r → (j n : ℕ) → reduct s (listed i j n) t r ≡ none
+  no-reduct : {r : Redex} → nextWord (t .body) ≡ atWord r → (j n : ℕ) → reduct P s (listed i j n) t r ≡ none
   unfolding reduce
   no-reduct word j n =
       let from-here = bind-goes-on (getElem? (s .threads) i) _ there (halts (listed i j n) refl) in
@@ -80,7 +83,7 @@ module _ {D : ℕ} {s : State} (I : WellTyped D s) (i : ℕ) (t : Thread) (there
       some-is-not-none (bind-goes-on (insideAfter M w k) _ turned h)
 
   unary-halts : {σ τ : Ty} {Ψ Φ : Cap} {v : Value} (o : Unary) → nextWord (t .body) ≡ atWord (unaryRedex o v) →
-      ValueTyped (I .N) v σ → UnaryTyped D o σ Ψ τ Φ → Waits s t
+      ValueTyped (I .N) v σ → UnaryTyped D S o σ Ψ τ Φ → Waits s t
   unary-halts join word (name-typed known asItIs) (join-typed gains) = join-waits word known
   unary-halts ref word typed (ref-typed enough) = named-goes-ahead _ (no-reduct word 0 (I .top))
   unary-halts read word (name-typed {n = n} known asItIs) (read-typed some-of-it enough) =
@@ -97,8 +100,10 @@ module _ {D : ℕ} {s : State} (I : WellTyped D s) (i : ℕ) (t : Thread) (there
       let (c, found) = semaphore-there (rw known at (I .slots n)) in wait-waits c word found
   unary-halts (hold w) word (name-typed {n = n} known asItIs) (hold-typed typed) =
       let (M, k, found, _) = rwlock-there (rw known at (I .slots n)) in hold-waits w word found (insideAfter M w k) refl
+  unary-halts (call f) word argument (call-typed {g = g} known pays gains) =
+      some-is-not-none (bind-goes-on (getElem? P f) _ (bodies f g known .there) (no-reduct word 0 0))
 
-  redex-halts : {σ : Ty} {Ψ Φ : Cap} {r : Redex} → nextWord (t .body) ≡ atWord r → RedexTyped D (I .N) empty Ψ Φ r σ → Waits s t
+  redex-halts : {σ : Ty} {Ψ Φ : Cap} {r : Redex} → nextWord (t .body) ≡ atWord r → RedexTyped D S (I .N) empty Ψ Φ r σ → Waits s t
   redex-halts word (let-redex-typed v-typed e-typed) = some-is-not-none (no-reduct word 0 0)
   redex-halts word (if-redex-typed e₁-typed e₂-typed) = some-is-not-none (no-reduct word 0 0)
   redex-halts word (while-redex-typed typed enough left) = some-is-not-none (no-reduct word 0 0)
@@ -115,5 +120,5 @@ module _ {D : ℕ} {s : State} (I : WellTyped D s) (i : ℕ) (t : Thread) (there
   next-halts (atVariable x) b = absurd (closed-has-no-variable (λ y. refl) (member i (I .pool) there .ok .typed) b)
   next-halts (atWord r) b = inr (redex-halts b (focus (member i (I .pool) there .ok .typed) b .word))
 
-pub well-typed-halts-well : {D : ℕ} {s : State} → WellTyped D s → HaltsWell s
-well-typed-halts-well I i t there halts = next-halts I i t there halts (nextWord (t .body)) refl
+pub well-typed-halts-well : {D : ℕ} {S : Signatures} {s : State} (P : List Procedure) → BodiesTyped D S P → WellTyped D S s → HaltsWell P s
+well-typed-halts-well P bodies I i t there halts = next-halts P bodies I i t there halts (nextWord (t .body)) refl

@@ -9,7 +9,7 @@ use native.Mathlib.Omega.{arith}
 use Rattle.calculus.specs.Expression.{Value, choose}
 use Rattle.calculus.specs.State.{LockState, opened, closed, Inside, readers, writer, Slot, unused, identifier, cell, aLock, semaphore, rwlock, Thread, State, update}
 use Rattle.calculus.specs.Capability.{Cap, nothing, _×ᶜ_, _≥ᶜ_}
-use Rattle.calculus.specs.Figure5.{Ty, intType, refType, lockType, tidType, semType, rwlockType, Env}
+use Rattle.calculus.specs.Figure5.{Ty, intType, refType, lockType, tidType, semType, rwlockType, Signatures, Env}
 use Rattle.calculus.proofs.Laws.Maps.{update-same, update-other, update-above}
 use Rattle.calculus.proofs.Typing.{ValueTyped}
 use Rattle.calculus.proofs.Substitution.{_⊆_, value-grows}
@@ -90,23 +90,23 @@ kept names N ρ n = keeps (names n) (load (N n)) ρ
 
 -- The types N of the names, and what the threads hold together, are such that every thread and every slot is typed, and of no
 -- location is more than the whole, D, held and kept. Above `top` every name is unused, so names do not run out.
-pub record WellTyped (D : ℕ) (s : State) : Type 0 where
+pub record WellTyped (D : ℕ) (S : Signatures) (s : State) : Type 0 where
   pub N : Env
   pub held : Cap
-  pub pool : Pool D N (s .threads) held
+  pub pool : Pool D S N (s .threads) held
   pub slots : (n : ℕ) → SlotTyped N (s .names n) (N n)
   pub budget : (ρ b : ℕ) → held ρ + total (kept (s .names) N ρ) b ≤ D
   pub top : ℕ
   pub above : (n : ℕ) → top ≤ n → s .names n ≡ unused
 
 -- Other threads that hold no more, and the same names.
-pub threads-change-keeps : {D : ℕ} {s : State} {ts : List Thread} (I : WellTyped D s) → Pool D (I .N) ts (I .held) →
-    WellTyped D (record { threads = ts; names = s .names })
+pub threads-change-keeps : {D : ℕ} {S : Signatures} {s : State} {ts : List Thread} (I : WellTyped D S s) → Pool D S (I .N) ts (I .held) →
+    WellTyped D S (record { threads = ts; names = s .names })
 threads-change-keeps I P = record { N = I .N; held = I .held; pool = P; slots = I .slots; budget = I .budget; top = I .top; above = I .above }
 
 -- Other threads, and one name n with another slot and perhaps a first type: no more may be held, and kept at n, than before.
 -- This is the one place that looks into the sum over the names.
-module _ {D : ℕ} {s : State} (I : WellTyped D s) (n : ℕ) (sl : Slot) (N′ : Env) (held′ : Cap)
+module _ {D : ℕ} {S : Signatures} {s : State} (I : WellTyped D S s) (n : ℕ) (sl : Slot) (N′ : Env) (held′ : Cap)
     (grows : I .N ⊆ N′) (elsewhere : (m : ℕ) → m ≢ n → N′ m ≡ I .N m) (ok : SlotTyped N′ sl (N′ n))
     (noMore : (ρ : ℕ) → held′ ρ + keeps sl (load (N′ n)) ρ ≤ I .held ρ + kept (s .names) (I .N) ρ n) where
   changed-slots : (m : ℕ) → SlotTyped N′ (update (s .names) n sl m) (N′ m)
@@ -130,7 +130,7 @@ module _ {D : ℕ} {s : State} (I : WellTyped D s) (n : ℕ) (sl : Slot) (N′ :
       let (c, sum) = total-with-one-changed before after n (λ m e. omega (arith, kept-elsewhere ρ m e)) b in
       omega (arith, sum, kept-there ρ, noMore ρ, I .budget ρ c)
 
-  pub name-change-keeps : {ts : List Thread} → Pool D N′ ts held′ → WellTyped D (record { threads = ts; names = update (s .names) n sl })
+  pub name-change-keeps : {ts : List Thread} → Pool D S N′ ts held′ → WellTyped D S (record { threads = ts; names = update (s .names) n sl })
   name-change-keeps P = record {
     N = N′;
     held = held′;

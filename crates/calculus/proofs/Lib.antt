@@ -3,6 +3,8 @@ pub mod Laws
 pub mod Typing
 pub mod Substitution
 pub mod Focus
+pub mod Framing
+pub mod Bodies
 pub mod Pool
 pub mod Invariant
 pub mod Moving

@@ -8,7 +8,7 @@ use native.Mathlib.Omega.{arith}
 use lib.ListN.{getElem?, set}
 use Rattle.calculus.specs.State.{Thread, remove}
 use Rattle.calculus.specs.Capability.{Cap, nothing, _≥ᶜ_}
-use Rattle.calculus.specs.Figure5.{Ty, tidType, Env, empty}
+use Rattle.calculus.specs.Figure5.{Ty, tidType, Signatures, Env, empty}
 use Rattle.calculus.proofs.Laws.Maps.{some-injective, none-is-not-some}
 use Rattle.calculus.proofs.Laws.Order.{_+ᶜ_, Pays, ≥-refl, pays-weakens}
 use Rattle.calculus.proofs.Typing.{Typed}
@@ -17,13 +17,13 @@ use Rattle.calculus.proofs.Substitution.{_⊆_, ⊆-refl, typing-grows}
 -- ---- Threads
 
 -- A thread that holds Ψ ends with what its identifier lends to the thread that joins it (Section 2.2, the rule for t.e).
-pub record ThreadTyped (D : ℕ) (N : Env) (t : Thread) (Ψ : Cap) : Type 0 where
+pub record ThreadTyped (D : ℕ) (S : Signatures) (N : Env) (t : Thread) (Ψ : Cap) : Type 0 where
   pub K : Cap
   pub τ : Ty
   pub known : N (t .tid) ≡ some (tidType K)
-  pub typed : Typed D N empty Ψ (t .body) τ K
+  pub typed : Typed D S N empty Ψ (t .body) τ K
 
-thread-grows : {D : ℕ} {N N′ : Env} {t : Thread} {Ψ : Cap} → N ⊆ N′ → ThreadTyped D N t Ψ → ThreadTyped D N′ t Ψ
+thread-grows : {D : ℕ} {S : Signatures} {N N′ : Env} {t : Thread} {Ψ : Cap} → N ⊆ N′ → ThreadTyped D S N t Ψ → ThreadTyped D S N′ t Ψ
 thread-grows {t} s h = record {
   K = h .K;
   τ = h .τ;
@@ -32,21 +32,21 @@ thread-grows {t} s h = record {
 }
 
 -- The threads hold at most Ω together.
-pub data Pool (D : ℕ) (N : Env) : List Thread → Cap → Type 0 where
-  pool-nil : {Ω : Cap} → Pool D N [] Ω
-  pool-cons : {t : Thread} {ts : List Thread} {Ψ Φ Ω : Cap} → ThreadTyped D N t Ψ → Pool D N ts Φ → Pays Ψ Ω Φ → Pool D N (t ∷ ts) Ω
+pub data Pool (D : ℕ) (S : Signatures) (N : Env) : List Thread → Cap → Type 0 where
+  pool-nil : {Ω : Cap} → Pool D S N [] Ω
+  pool-cons : {t : Thread} {ts : List Thread} {Ψ Φ Ω : Cap} → ThreadTyped D S N t Ψ → Pool D S N ts Φ → Pays Ψ Ω Φ → Pool D S N (t ∷ ts) Ω
 
-pool-grows : {D : ℕ} {N N′ : Env} {ts : List Thread} {Ω : Cap} → N ⊆ N′ → Pool D N ts Ω → Pool D N′ ts Ω
+pool-grows : {D : ℕ} {S : Signatures} {N N′ : Env} {ts : List Thread} {Ω : Cap} → N ⊆ N′ → Pool D S N ts Ω → Pool D S N′ ts Ω
 pool-grows s pool-nil = pool-nil
 pool-grows s (pool-cons t ts h) = pool-cons (thread-grows s t) (pool-grows s ts) h
 
-pub pool-weakens : {D : ℕ} {N : Env} {ts : List Thread} {Ω Ω′ : Cap} → Ω′ ≥ᶜ Ω → Pool D N ts Ω → Pool D N ts Ω′
+pub pool-weakens : {D : ℕ} {S : Signatures} {N : Env} {ts : List Thread} {Ω Ω′ : Cap} → Ω′ ≥ᶜ Ω → Pool D S N ts Ω → Pool D S N ts Ω′
 pool-weakens s pool-nil = pool-nil
 pool-weakens s (pool-cons t ts h) = pool-cons t ts (pays-weakens h s ≥-refl)
 
 -- A new thread, with what it starts with.
-pub pool-with-last : {D : ℕ} {N : Env} {t : Thread} {ts : List Thread} {Ω Ω′ Ψ : Cap} →
-    Pool D N ts Ω → ThreadTyped D N t Ψ → Pays Ω Ω′ Ψ → Pool D N (ts ++ (t ∷ [])) Ω′
+pub pool-with-last : {D : ℕ} {S : Signatures} {N : Env} {t : Thread} {ts : List Thread} {Ω Ω′ Ψ : Cap} →
+    Pool D S N ts Ω → ThreadTyped D S N t Ψ → Pays Ω Ω′ Ψ → Pool D S N (ts ++ (t ∷ [])) Ω′
 pool-with-last {Ω′} pool-nil h k = pool-cons {Φ = nothing} {Ω = Ω′} h pool-nil (record { at = λ ρ. omega (arith, k .at ρ) })
 pool-with-last {Ω′} {Ψ} (pool-cons {Φ = Φ} t ts l) h k =
     pool-cons {Ω = Ω′} t (pool-with-last {Ω′ = Φ +ᶜ Ψ} ts h (record { at = λ ρ. omega arith }))
@@ -56,16 +56,16 @@ pool-with-last {Ω′} {Ψ} (pool-cons {Φ = Φ} t ts l) h k =
 
 -- The thread at place i, with what it holds and what the others hold. Another may stand in its place, if it and the others hold
 -- no more together; or none may.
-pub record Member (D : ℕ) (N : Env) (ts : List Thread) (Ω : Cap) (i : ℕ) (t : Thread) : Type 0 where
+pub record Member (D : ℕ) (S : Signatures) (N : Env) (ts : List Thread) (Ω : Cap) (i : ℕ) (t : Thread) : Type 0 where
   pub own : Cap
   pub rest : Cap
   pub split : Pays own Ω rest
-  pub ok : ThreadTyped D N t own
-  pub replaced : (N′ : Env) (t′ : Thread) (Ψ′ Ω′ : Cap) → N ⊆ N′ → ThreadTyped D N′ t′ Ψ′ → Pays Ψ′ Ω′ rest → Pool D N′ (set ts i t′) Ω′
-  pub taken-out : Pool D N (remove ts i) rest
+  pub ok : ThreadTyped D S N t own
+  pub replaced : (N′ : Env) (t′ : Thread) (Ψ′ Ω′ : Cap) → N ⊆ N′ → ThreadTyped D S N′ t′ Ψ′ → Pays Ψ′ Ω′ rest → Pool D S N′ (set ts i t′) Ω′
+  pub taken-out : Pool D S N (remove ts i) rest
 
-pub member : {D : ℕ} {N : Env} {ts : List Thread} {Ω : Cap} {t : Thread} (i : ℕ) → Pool D N ts Ω → getElem? ts i ≡ some t →
-    Member D N ts Ω i t
+pub member : {D : ℕ} {S : Signatures} {N : Env} {ts : List Thread} {Ω : Cap} {t : Thread} (i : ℕ) → Pool D S N ts Ω → getElem? ts i ≡ some t →
+    Member D S N ts Ω i t
 member i pool-nil h = none-is-not-some h
 member zero (pool-cons {Ψ = Ψ} {Φ = Φ} t ts l) h = record {
   own = Ψ;
@@ -88,15 +88,15 @@ member (suc i) (pool-cons {Ψ = Ψ} {Φ = Φ} t ts l) h = let r = member i ts h 
 -- ---- Two threads
 
 -- What the threads t and u hold.
-pub record TwoMembers (D : ℕ) (N : Env) (Ω : Cap) (t u : Thread) : Type 0 where
+pub record TwoMembers (D : ℕ) (S : Signatures) (N : Env) (Ω : Cap) (t u : Thread) : Type 0 where
   pub left : Cap
   pub right : Cap
-  pub left-ok : ThreadTyped D N t left
-  pub right-ok : ThreadTyped D N u right
+  pub left-ok : ThreadTyped D S N t left
+  pub right-ok : ThreadTyped D S N u right
   pub both : Pays left Ω right
 
-pub two-members : {D : ℕ} {N : Env} {ts : List Thread} {Ω : Cap} {t u : Thread} (i j : ℕ) → i ≢ j → Pool D N ts Ω →
-    getElem? ts i ≡ some t → getElem? ts j ≡ some u → TwoMembers D N Ω t u
+pub two-members : {D : ℕ} {S : Signatures} {N : Env} {ts : List Thread} {Ω : Cap} {t u : Thread} (i j : ℕ) → i ≢ j → Pool D S N ts Ω →
+    getElem? ts i ≡ some t → getElem? ts j ≡ some u → TwoMembers D S N Ω t u
 two-members i j d pool-nil h k = none-is-not-some h
 two-members zero zero d (pool-cons t ts l) h k = absurd (d refl)
 two-members zero (suc j) d (pool-cons {Ψ = Ψ} t ts l) h k = let r = member j ts k in record {

@@ -6,7 +6,7 @@ use mathlib.Core.Option.{none, some}
 use native.Mathlib.Decide.{ℕ-discrete}
 use Rattle.calculus.specs.Expression.{Value, Exp, value, var, choose, substitute}
 use Rattle.calculus.specs.Capability.{Cap, _≥ᶜ_}
-use Rattle.calculus.specs.Figure5.{Ty, _shown-as_, Env, empty, bind}
+use Rattle.calculus.specs.Figure5.{Ty, _shown-as_, Signatures, Env, empty, bind}
 use Rattle.calculus.proofs.Laws.Maps.{some-injective, none-is-not-some}
 use Rattle.calculus.proofs.Typing.{ValueTyped, int-typed, name-typed, value-shown-as, Typed, value-typed, var-typed, let-typed, if-typed, while-typed, spawn-typed, write-typed, unary-typed, make-typed}
 
@@ -31,7 +31,8 @@ pub value-grows : {N N′ : Env} {v : Value} {τ : Ty} → N ⊆ N′ → ValueT
 value-grows s int-typed = int-typed
 value-grows s (name-typed {n = n} {σ = σ} h f) = name-typed (s n σ h) f
 
-pub typing-grows : {D : ℕ} {N N′ Γ Γ′ : Env} {Ψ Φ : Cap} {e : Exp} {τ : Ty} → N ⊆ N′ → Γ ⊆ Γ′ → Typed D N Γ Ψ e τ Φ → Typed D N′ Γ′ Ψ e τ Φ
+pub typing-grows : {D : ℕ} {S : Signatures} {N N′ Γ Γ′ : Env} {Ψ Φ : Cap} {e : Exp} {τ : Ty} → N ⊆ N′ → Γ ⊆ Γ′ → Typed D S N Γ Ψ e τ Φ →
+    Typed D S N′ Γ′ Ψ e τ Φ
 typing-grows n g (value-typed v h) = value-typed (value-grows n v) h
 typing-grows n g (var-typed {x = x} {σ = σ} v f h) = var-typed (g x σ v) f h
 typing-grows n g (let-typed {x = x} {σ = σ} e₁ e₂) = let-typed (typing-grows n g e₁) (typing-grows n (bind-grows _ _ x σ g) e₂)
@@ -77,19 +78,19 @@ bind-extends-empty x σ y τ = by-cases (ℕ-discrete y x)
     by-cases (yes e) k = inl (e, some-injective k)
     by-cases (no e) k = none-is-not-some k
 
-variable-keeps : {D : ℕ} {N Γ′ : Env} {Ψ Φ : Cap} {v : Value} {σ υ τ : Ty} (x y : ℕ) (d : Dec (y ≡ x)) → ValueTyped N v σ →
-    Known Γ′ x σ y υ → υ shown-as τ → Ψ ≥ᶜ Φ → Typed D N Γ′ Ψ (choose d (value v) (var y)) τ Φ
+variable-keeps : {D : ℕ} {S : Signatures} {N Γ′ : Env} {Ψ Φ : Cap} {v : Value} {σ υ τ : Ty} (x y : ℕ) (d : Dec (y ≡ x)) → ValueTyped N v σ →
+    Known Γ′ x σ y υ → υ shown-as τ → Ψ ≥ᶜ Φ → Typed D S N Γ′ Ψ (choose d (value v) (var y)) τ Φ
 variable-keeps x y (yes p) t (inl r) f h = value-typed (value-shown-as (rw (r .1) at t) f) h
 variable-keeps x y (yes p) t (inr r) f h = absurd (r .0 p)
 variable-keeps x y (no p) t (inl r) f h = absurd (p (r .0))
 variable-keeps x y (no p) t (inr r) f h = var-typed (r .1) f h
 
-pub substitution-keeps : {D : ℕ} {N Γ : Env} {Ψ Φ : Cap} {e : Exp} {τ σ : Ty} {v : Value} (Γ′ : Env) (x : ℕ) →
-    ValueTyped N v σ → Extends Γ Γ′ x σ → Typed D N Γ Ψ e τ Φ → Typed D N Γ′ Ψ (substitute x v e) τ Φ
+pub substitution-keeps : {D : ℕ} {S : Signatures} {N Γ : Env} {Ψ Φ : Cap} {e : Exp} {τ σ : Ty} {v : Value} (Γ′ : Env) (x : ℕ) →
+    ValueTyped N v σ → Extends Γ Γ′ x σ → Typed D S N Γ Ψ e τ Φ → Typed D S N Γ′ Ψ (substitute x v e) τ Φ
 substitution-keeps Γ′ x t c (value-typed w h) = value-typed w h
 substitution-keeps Γ′ x t c (var-typed {x = y} {σ = υ} w f h) = variable-keeps x y (ℕ-discrete y x) t (c y υ w) f h
-substitution-keeps {D} {N} {v} Γ′ x t c (let-typed {Γ = Γ} {Ψ₁ = Ψ₁} {Φ = Φ} {x = y} {e₂ = e₂} {σ = υ} {τ = τ} a b) =
-    let e₂-keeps : (q : Dec (y ≡ x)) → Typed D N (bind Γ′ y υ) Ψ₁ (choose q e₂ (substitute x v e₂)) τ Φ =
+substitution-keeps {D} {S} {N} {v} Γ′ x t c (let-typed {Γ = Γ} {Ψ₁ = Ψ₁} {Φ = Φ} {x = y} {e₂ = e₂} {σ = υ} {τ = τ} a b) =
+    let e₂-keeps : (q : Dec (y ≡ x)) → Typed D S N (bind Γ′ y υ) Ψ₁ (choose q e₂ (substitute x v e₂)) τ Φ =
     λ q. elim q [
       | yes p ↦ typing-grows (⊆-refl N) (bind-same-grows Γ Γ′ x y _ υ p c) b
       | no p ↦ substitution-keeps (bind Γ′ y υ) x t (bind-other-extends Γ Γ′ x y _ υ p c) b

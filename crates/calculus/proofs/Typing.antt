@@ -3,9 +3,10 @@ use Prim.Native.Nat.{ℕ, _≤_, _<_}
 use mathlib.Core.Path.{_≡_}
 use mathlib.Core.Option.{some}
 use native.Mathlib.Nat.{le-trans}
-use Rattle.calculus.specs.Expression.{Value, int, name, HoldWord, rdlock, rdunlock, wrlock, wrunlock, Unary, join, ref, read, lock, unlock, post, wait, hold, Maker, newtid, newlock, newsem, newrwlock, Exp, value, var, letIn, if, while, spawn, write, unary, make}
+use lib.ListN.{getElem?}
+use Rattle.calculus.specs.Expression.{Value, int, name, HoldWord, rdlock, rdunlock, wrlock, wrunlock, Unary, join, ref, read, lock, unlock, post, wait, hold, call, Maker, newtid, newlock, newsem, newrwlock, Exp, value, var, letIn, if, while, spawn, write, unary, make}
 use Rattle.calculus.specs.Capability.{Cap, _×ᶜ_, _≥ᶜ_}
-use Rattle.calculus.specs.Figure5.{Ty, intType, refType, lockType, tidType, semType, rwlockType, _shown-as_, asItIs, looser, Env, bind, _∣_∣_⊢_∶_∣_, VAR, INT, LET, IF, WHILE, NEWT, SPAWN, JOIN, REF, WRITE, READ, NEWL, LCK, ULCK, NEWSEM, POST, WAIT, NEWRWLOCK, RDLOCK, RDUNLOCK, WRLOCK, WRUNLOCK}
+use Rattle.calculus.specs.Figure5.{Ty, intType, refType, lockType, tidType, semType, rwlockType, _shown-as_, asItIs, looser, Signature, Signatures, Env, bind, _∣_∣_∣_⊢_∶_∣_, VAR, INT, LET, IF, WHILE, NEWT, SPAWN, JOIN, REF, WRITE, READ, NEWL, LCK, ULCK, NEWSEM, POST, WAIT, NEWRWLOCK, RDLOCK, RDUNLOCK, WRLOCK, WRUNLOCK, CALL}
 use Rattle.calculus.proofs.Laws.Order.{Gains, Pays, ≥-trans, ≥-refl, gains-weakens, pays-weakens, sum-gains, sum-pays}
 
 -- ---- Values
@@ -45,16 +46,18 @@ pub data HoldTyped (Ψr Ψw : Cap) : HoldWord → Cap → Cap → Type 0 where
   wrlock-typed : {Ψ Φ : Cap} → Gains Φ Ψ Ψw → HoldTyped Ψr Ψw wrlock Ψ Φ
   wrunlock-typed : {Ψ Φ : Cap} → Pays Φ Ψ Ψw → HoldTyped Ψr Ψw wrunlock Ψ Φ
 
--- UnaryTyped D o σ Ψ τ Φ: on a part of type σ, with Ψ before and Φ after, the word o has type τ.
-pub data UnaryTyped (D : ℕ) : Unary → Ty → Cap → Ty → Cap → Type 0 where
-  join-typed : {K Ψ Φ : Cap} → Gains Φ Ψ K → UnaryTyped D join (tidType K) Ψ intType Φ
-  ref-typed : {τ : Ty} {ρ : ℕ} {Ψ Φ : Cap} → Ψ ≥ᶜ Φ → UnaryTyped D ref τ Ψ (refType ρ τ) Φ
-  read-typed : {τ : Ty} {ρ : ℕ} {Ψ Φ : Cap} → 0 < Ψ ρ → Ψ ≥ᶜ Φ → UnaryTyped D read (refType ρ τ) Ψ τ Φ
-  lock-typed : {Ψᵢ Ψₒ Ψ Φ : Cap} → Gains Φ Ψ Ψᵢ → UnaryTyped D lock (lockType Ψᵢ Ψₒ) Ψ intType Φ
-  unlock-typed : {Ψᵢ Ψₒ Ψ Φ : Cap} → Pays Φ Ψ Ψₒ → UnaryTyped D unlock (lockType Ψᵢ Ψₒ) Ψ intType Φ
-  post-typed : {K Ψ Φ : Cap} → Pays Φ Ψ K → UnaryTyped D post (semType K) Ψ intType Φ
-  wait-typed : {K Ψ Φ : Cap} → Gains Φ Ψ K → UnaryTyped D wait (semType K) Ψ intType Φ
-  hold-typed : {w : HoldWord} {Ψr Ψw Ψ Φ : Cap} → HoldTyped Ψr Ψw w Ψ Φ → UnaryTyped D (hold w) (rwlockType Ψr Ψw) Ψ intType Φ
+-- UnaryTyped D S o σ Ψ τ Φ: on a part of type σ, with Ψ before and Φ after, the word o has type τ.
+pub data UnaryTyped (D : ℕ) (S : Signatures) : Unary → Ty → Cap → Ty → Cap → Type 0 where
+  join-typed : {K Ψ Φ : Cap} → Gains Φ Ψ K → UnaryTyped D S join (tidType K) Ψ intType Φ
+  ref-typed : {τ : Ty} {ρ : ℕ} {Ψ Φ : Cap} → Ψ ≥ᶜ Φ → UnaryTyped D S ref τ Ψ (refType ρ τ) Φ
+  read-typed : {τ : Ty} {ρ : ℕ} {Ψ Φ : Cap} → 0 < Ψ ρ → Ψ ≥ᶜ Φ → UnaryTyped D S read (refType ρ τ) Ψ τ Φ
+  lock-typed : {Ψᵢ Ψₒ Ψ Φ : Cap} → Gains Φ Ψ Ψᵢ → UnaryTyped D S lock (lockType Ψᵢ Ψₒ) Ψ intType Φ
+  unlock-typed : {Ψᵢ Ψₒ Ψ Φ : Cap} → Pays Φ Ψ Ψₒ → UnaryTyped D S unlock (lockType Ψᵢ Ψₒ) Ψ intType Φ
+  post-typed : {K Ψ Φ : Cap} → Pays Φ Ψ K → UnaryTyped D S post (semType K) Ψ intType Φ
+  wait-typed : {K Ψ Φ : Cap} → Gains Φ Ψ K → UnaryTyped D S wait (semType K) Ψ intType Φ
+  hold-typed : {w : HoldWord} {Ψr Ψw Ψ Φ : Cap} → HoldTyped Ψr Ψw w Ψ Φ → UnaryTyped D S (hold w) (rwlockType Ψr Ψw) Ψ intType Φ
+  call-typed : {f : ℕ} {g : Signature} {Ψ Ψkeep Φ : Cap} → getElem? S f ≡ some g → Pays (g .before) Ψ Ψkeep → Gains Φ (g .after) Ψkeep →
+      UnaryTyped D S (call f) (g .argument) Ψ (g .result) Φ
 
 pub data MakerTyped : Maker → Cap → Ty → Cap → Type 0 where
   newtid-typed : {K Ψ Φ : Cap} → Ψ ≥ᶜ Φ → MakerTyped newtid Ψ (tidType K) Φ
@@ -62,23 +65,23 @@ pub data MakerTyped : Maker → Cap → Ty → Cap → Type 0 where
   newsem-typed : {K Ψ Φ : Cap} → Ψ ≥ᶜ Φ → MakerTyped newsem Ψ (semType K) Φ
   newrwlock-typed : {N : ℕ} {Ψr Ψw Ψ Φ : Cap} → Ψw ≥ᶜ N ×ᶜ Ψr → Pays Φ Ψ Ψw → MakerTyped (newrwlock N) Ψ (rwlockType Ψr Ψw) Φ
 
--- Typed D N Γ Ψ e τ Φ: with these types of names and variables e has type τ, can be run with Ψ, and leaves at least Φ.
-pub data Typed (D : ℕ) (N : Env) : Env → Cap → Exp → Ty → Cap → Type 0 where
-  value-typed : {Γ : Env} {Ψ Φ : Cap} {v : Value} {τ : Ty} → ValueTyped N v τ → Ψ ≥ᶜ Φ → Typed D N Γ Ψ (value v) τ Φ
-  var-typed : {Γ : Env} {Ψ Φ : Cap} {x : ℕ} {σ τ : Ty} → Γ x ≡ some σ → σ shown-as τ → Ψ ≥ᶜ Φ → Typed D N Γ Ψ (var x) τ Φ
+-- Typed D S N Γ Ψ e τ Φ: with these types of names and variables e has type τ, can be run with Ψ, and leaves at least Φ.
+pub data Typed (D : ℕ) (S : Signatures) (N : Env) : Env → Cap → Exp → Ty → Cap → Type 0 where
+  value-typed : {Γ : Env} {Ψ Φ : Cap} {v : Value} {τ : Ty} → ValueTyped N v τ → Ψ ≥ᶜ Φ → Typed D S N Γ Ψ (value v) τ Φ
+  var-typed : {Γ : Env} {Ψ Φ : Cap} {x : ℕ} {σ τ : Ty} → Γ x ≡ some σ → σ shown-as τ → Ψ ≥ᶜ Φ → Typed D S N Γ Ψ (var x) τ Φ
   let-typed : {Γ : Env} {Ψ Ψ₁ Φ : Cap} {x : ℕ} {e₁ e₂ : Exp} {σ τ : Ty} →
-      Typed D N Γ Ψ e₁ σ Ψ₁ → Typed D N (bind Γ x σ) Ψ₁ e₂ τ Φ → Typed D N Γ Ψ (letIn x e₁ e₂) τ Φ
+      Typed D S N Γ Ψ e₁ σ Ψ₁ → Typed D S N (bind Γ x σ) Ψ₁ e₂ τ Φ → Typed D S N Γ Ψ (letIn x e₁ e₂) τ Φ
   if-typed : {Γ : Env} {Ψ Φ : Cap} {e₁ e₂ : Exp} {τ : Ty} →
-      Typed D N Γ Ψ e₁ τ Φ → Typed D N Γ Ψ e₂ τ Φ → Typed D N Γ Ψ (if e₁ e₂) τ Φ
+      Typed D S N Γ Ψ e₁ τ Φ → Typed D S N Γ Ψ e₂ τ Φ → Typed D S N Γ Ψ (if e₁ e₂) τ Φ
   while-typed : {Γ : Env} {Ψ Ψ₁ Φ : Cap} {e : Exp} {τ : Ty} →
-      Typed D N Γ Ψ₁ e τ Ψ₁ → Ψ ≥ᶜ Ψ₁ → Ψ₁ ≥ᶜ Φ → Typed D N Γ Ψ (while e) intType Φ
+      Typed D S N Γ Ψ₁ e τ Ψ₁ → Ψ ≥ᶜ Ψ₁ → Ψ₁ ≥ᶜ Φ → Typed D S N Γ Ψ (while e) intType Φ
   spawn-typed : {Γ : Env} {Ψ Ψ₂ Ψ₃ Φ K : Cap} {e₁ e₂ : Exp} {τ : Ty} →
-      Typed D N Γ Ψ e₁ (tidType K) Ψ₂ → Typed D N Γ Ψ₃ e₂ τ K → Pays Φ Ψ₂ Ψ₃ → Typed D N Γ Ψ (spawn e₁ e₂) intType Φ
+      Typed D S N Γ Ψ e₁ (tidType K) Ψ₂ → Typed D S N Γ Ψ₃ e₂ τ K → Pays Φ Ψ₂ Ψ₃ → Typed D S N Γ Ψ (spawn e₁ e₂) intType Φ
   write-typed : {Γ : Env} {Ψ Ψ₁ Ψ₂ Φ : Cap} {e₁ e₂ : Exp} {τ : Ty} {ρ : ℕ} →
-      Typed D N Γ Ψ e₁ (refType ρ τ) Ψ₁ → Typed D N Γ Ψ₁ e₂ τ Ψ₂ → D ≤ Ψ₂ ρ → Ψ₂ ≥ᶜ Φ → Typed D N Γ Ψ (write e₁ e₂) intType Φ
+      Typed D S N Γ Ψ e₁ (refType ρ τ) Ψ₁ → Typed D S N Γ Ψ₁ e₂ τ Ψ₂ → D ≤ Ψ₂ ρ → Ψ₂ ≥ᶜ Φ → Typed D S N Γ Ψ (write e₁ e₂) intType Φ
   unary-typed : {Γ : Env} {Ψ Ψ₁ Φ : Cap} {o : Unary} {e : Exp} {σ τ : Ty} →
-      Typed D N Γ Ψ e σ Ψ₁ → UnaryTyped D o σ Ψ₁ τ Φ → Typed D N Γ Ψ (unary o e) τ Φ
-  make-typed : {Γ : Env} {Ψ Φ : Cap} {o : Maker} {τ : Ty} → MakerTyped o Ψ τ Φ → Typed D N Γ Ψ (make o) τ Φ
+      Typed D S N Γ Ψ e σ Ψ₁ → UnaryTyped D S o σ Ψ₁ τ Φ → Typed D S N Γ Ψ (unary o e) τ Φ
+  make-typed : {Γ : Env} {Ψ Φ : Cap} {o : Maker} {τ : Ty} → MakerTyped o Ψ τ Φ → Typed D S N Γ Ψ (make o) τ Φ
 
 -- ---- Weakening: more before and less after
 
@@ -88,7 +91,8 @@ hold-weakens (rdunlock-typed h) a b = rdunlock-typed (pays-weakens h a b)
 hold-weakens (wrlock-typed h) a b = wrlock-typed (gains-weakens h a b)
 hold-weakens (wrunlock-typed h) a b = wrunlock-typed (pays-weakens h a b)
 
-pub unary-weakens : {D : ℕ} {o : Unary} {σ τ : Ty} {Ψ Ψ′ Φ Φ′ : Cap} → UnaryTyped D o σ Ψ τ Φ → Ψ′ ≥ᶜ Ψ → Φ ≥ᶜ Φ′ → UnaryTyped D o σ Ψ′ τ Φ′
+pub unary-weakens : {D : ℕ} {S : Signatures} {o : Unary} {σ τ : Ty} {Ψ Ψ′ Φ Φ′ : Cap} → UnaryTyped D S o σ Ψ τ Φ → Ψ′ ≥ᶜ Ψ → Φ ≥ᶜ Φ′ →
+    UnaryTyped D S o σ Ψ′ τ Φ′
 unary-weakens (join-typed h) a b = join-typed (gains-weakens h a b)
 unary-weakens (ref-typed h) a b = ref-typed (≥-trans a (≥-trans h b))
 unary-weakens (read-typed {ρ = ρ} g h) a b = read-typed {ρ = ρ} (le-trans g (a .at ρ)) (≥-trans a (≥-trans h b))
@@ -97,6 +101,7 @@ unary-weakens (unlock-typed h) a b = unlock-typed (pays-weakens h a b)
 unary-weakens (post-typed h) a b = post-typed (pays-weakens h a b)
 unary-weakens (wait-typed h) a b = wait-typed (gains-weakens h a b)
 unary-weakens (hold-typed h) a b = hold-typed (hold-weakens h a b)
+unary-weakens (call-typed s h k) a b = call-typed s (pays-weakens h a ≥-refl) (gains-weakens k ≥-refl b)
 
 pub maker-weakens : {o : Maker} {τ : Ty} {Ψ Ψ′ Φ Φ′ : Cap} → MakerTyped o Ψ τ Φ → Ψ′ ≥ᶜ Ψ → Φ ≥ᶜ Φ′ → MakerTyped o Ψ′ τ Φ′
 maker-weakens (newtid-typed h) a b = newtid-typed (≥-trans a (≥-trans h b))
@@ -104,8 +109,8 @@ maker-weakens (newlock-typed g h) a b = newlock-typed g (pays-weakens h a b)
 maker-weakens (newsem-typed h) a b = newsem-typed (≥-trans a (≥-trans h b))
 maker-weakens (newrwlock-typed g h) a b = newrwlock-typed g (pays-weakens h a b)
 
-pub typing-weakens : {D : ℕ} {N Γ : Env} {Ψ Ψ′ Φ Φ′ : Cap} {e : Exp} {τ : Ty} → Typed D N Γ Ψ e τ Φ → Ψ′ ≥ᶜ Ψ → Φ ≥ᶜ Φ′ →
-    Typed D N Γ Ψ′ e τ Φ′
+pub typing-weakens : {D : ℕ} {S : Signatures} {N Γ : Env} {Ψ Ψ′ Φ Φ′ : Cap} {e : Exp} {τ : Ty} → Typed D S N Γ Ψ e τ Φ → Ψ′ ≥ᶜ Ψ → Φ ≥ᶜ Φ′ →
+    Typed D S N Γ Ψ′ e τ Φ′
 typing-weakens (value-typed v h) a b = value-typed v (≥-trans a (≥-trans h b))
 typing-weakens (var-typed v f h) a b = var-typed v f (≥-trans a (≥-trans h b))
 typing-weakens (let-typed e₁ e₂) a b = let-typed (typing-weakens e₁ a ≥-refl) (typing-weakens e₂ ≥-refl b)
@@ -118,7 +123,7 @@ typing-weakens (make-typed o) a b = make-typed (maker-weakens o a b)
 
 -- ---- Figure 5 gives it
 
-pub derived-is-typed : {D : ℕ} {Γ : Env} {Ψ Φ : Cap} {e : Exp} {τ : Ty} (N : Env) → D ∣ Γ ∣ Ψ ⊢ e ∶ τ ∣ Φ → Typed D N Γ Ψ e τ Φ
+pub derived-is-typed : {D : ℕ} {S : Signatures} {Γ : Env} {Ψ Φ : Cap} {e : Exp} {τ : Ty} (N : Env) → D ∣ S ∣ Γ ∣ Ψ ⊢ e ∶ τ ∣ Φ → Typed D S N Γ Ψ e τ Φ
 derived-is-typed N (VAR h f) = var-typed h f ≥-refl
 derived-is-typed N INT = value-typed int-typed ≥-refl
 derived-is-typed N (LET e₁ e₂) = let-typed (derived-is-typed N e₁) (derived-is-typed N e₂)
@@ -142,3 +147,4 @@ derived-is-typed N (RDLOCK e h) = unary-typed (derived-is-typed N e) (hold-typed
 derived-is-typed N (RDUNLOCK e h) = unary-typed (derived-is-typed N e) (hold-typed (rdunlock-typed (sum-pays h)))
 derived-is-typed N (WRLOCK e h) = unary-typed (derived-is-typed N e) (hold-typed (wrlock-typed (sum-gains h)))
 derived-is-typed N (WRUNLOCK e h) = unary-typed (derived-is-typed N e) (hold-typed (wrunlock-typed (sum-pays h)))
+derived-is-typed N (CALL s e h k) = unary-typed (derived-is-typed N e) (call-typed s (sum-pays h) (sum-gains k))

@@ -6,7 +6,7 @@ use mathlib.Core.Logic.{_≢_, _⊎_}
 use mathlib.Core.Option.{Option, none, some}
 use mathlib.Core.List.{List, [], _∷_}
 use lib.ListN.{getElem?}
-use Rattle.calculus.specs.Expression.{Value, name, HoldWord, join, read, lock, wait, hold, Exp, value, writeRedex, unaryRedex, atWord, nextWord}
+use Rattle.calculus.specs.Expression.{Value, name, HoldWord, join, read, lock, wait, hold, value, writeRedex, unaryRedex, atWord, nextWord, Procedure, Program}
 use Rattle.calculus.specs.State.{closed, Inside, identifier, cell, aLock, semaphore, rwlock, Thread, State, Move}
 use Rattle.calculus.specs.Reduction.{_>>=_, insideAfter, reduce, states, run, startState}
 
@@ -50,48 +50,48 @@ pub data Waits (s : State) (t : Thread) : Type 0 where
   -- No other word waits; an `unlock`, above all, goes ahead on any lock.
 
 -- "It halts in a state where no move of its own is a reduction."
-abbrev pub Halts : State → ℕ → Type 0
-Halts s i = (m : Move) → m .thread ≡ i → reduce s m ≡ none
+abbrev pub Halts : List Procedure → State → ℕ → Type 0
+Halts P s i = (m : Move) → m .thread ≡ i → reduce P s m ≡ none
 
 -- No odd halt: a thread that halts has finished, or waits.
-abbrev pub HaltsWell : State → Type 0
-HaltsWell s = (i : ℕ) (t : Thread) → ThreadAt s i t → Halts s i → Finished t ⊎ Waits s t
+abbrev pub HaltsWell : List Procedure → State → Type 0
+HaltsWell P s = (i : ℕ) (t : Thread) → ThreadAt s i t → Halts P s i → Finished t ⊎ Waits s t
 
 -- ---- The claim
 
 abbrev pub Every : {A : Type 0} → (A → Type 0) → List A → Type 0
-Every P [] = Unit {0}
-Every P (x ∷ xs) = P x × Every P xs
+Every Q [] = Unit {0}
+Every Q (x ∷ xs) = Q x × Every Q xs
 
 -- One claim about the list of moves as a whole.
-abbrev pub Safe : Exp → Type 0
-Safe e = (ms : List Move) → Every (λ s. RaceFree s × HaltsWell s) (states ms (startState e))
+abbrev pub Safe : Program → Type 0
+Safe p = (ms : List Move) → Every (λ s. RaceFree s × HaltsWell (p .procedures) s) (states (p .procedures) ms (startState p))
 
 -- ---- Cell steps in either order: request (xiii)
 
 -- "Any state that an accepted job can reach": some list of moves leads there from the start.
-pub data Reachable (e : Exp) : State → Type 0 where
-  reached : (ms : List Move) → Reachable e (run ms (startState e))
+pub data Reachable (p : Program) : State → Type 0 where
+  reached : (ms : List Move) → Reachable p (run (p .procedures) ms (startState p))
 
--- A thread that "can read or write a cell next".
+-- A thread that can read or write a cell next.
 pub data AboutToUse (s : State) (t : Thread) : Type 0 where
   aboutToUse : (n : ℕ) → AboutToRead s t n ⊎ AboutToWrite s t n → AboutToUse s t
 
 -- The state after the move m and then k, if both are reductions.
-abbrev pub takingBoth : State → Move → Move → Option State
-takingBoth s m k = reduce s m >>= λ s′. reduce s′ k
+abbrev pub takingBoth : List Procedure → State → Move → Move → Option State
+takingBoth P s m k = reduce P s m >>= λ s′. reduce P s′ k
 
 -- "Taking both steps in either order must give the same state": in either order both moves are reductions, and the state after them is one
 -- and the same, in its threads and in its names.
-pub record SameEitherWay (s : State) (m k : Move) : Type 0 where
+pub record SameEitherWay (P : List Procedure) (s : State) (m k : Move) : Type 0 where
   pub after : State
-  pub oneWay : takingBoth s m k ≡ some after
-  pub otherWay : takingBoth s k m ≡ some after
+  pub oneWay : takingBoth P s m k ≡ some after
+  pub otherWay : takingBoth P s k m ≡ some after
 
 -- "If two different threads can each read or write a cell next": the moves m and k are theirs.
-abbrev pub CellStepsSwap : State → Type 0
-CellStepsSwap s = (m k : Move) (t u : Thread) → m .thread ≢ k .thread → ThreadAt s (m .thread) t → ThreadAt s (k .thread) u →
-    AboutToUse s t → AboutToUse s u → SameEitherWay s m k
+abbrev pub CellStepsSwap : List Procedure → State → Type 0
+CellStepsSwap P s = (m k : Move) (t u : Thread) → m .thread ≢ k .thread → ThreadAt s (m .thread) t → ThreadAt s (k .thread) u →
+    AboutToUse s t → AboutToUse s u → SameEitherWay P s m k
 
-abbrev pub InEitherOrder : Exp → Type 0
-InEitherOrder e = (s : State) → Reachable e s → CellStepsSwap s
+abbrev pub InEitherOrder : Program → Type 0
+InEitherOrder p = (s : State) → Reachable p s → CellStepsSwap (p .procedures) s

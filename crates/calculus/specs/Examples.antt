@@ -1,7 +1,7 @@
 -- Programs of the paper and a few beside them, with moves that run them. What they show is proved in proofs/Examples.
 use Prim.Native.Nat.{ℕ, zero, suc}
 use mathlib.Core.List.{List, [], _∷_}
-use Rattle.calculus.specs.Expression.{int, HoldWord, rdlock, rdunlock, wrlock, wrunlock, Unary, join, ref, read, lock, unlock, post, wait, hold, newtid, newlock, newsem, newrwlock, Exp, value, var, letIn, if, while, spawn, write, unary, make}
+use Rattle.calculus.specs.Expression.{int, HoldWord, rdlock, rdunlock, wrlock, wrunlock, Unary, join, ref, read, lock, unlock, post, wait, hold, newtid, newlock, newsem, newrwlock, Exp, value, var, letIn, if, while, spawn, write, unary, make, Program}
 use Rattle.calculus.specs.State.{first, second, Move}
 use Rattle.calculus.specs.Reduction.{nowhere}
 use Rattle.calculus.specs.Capability.{Cap}
@@ -15,6 +15,10 @@ constant k = value (int k)
 infixr 10 _⨾_
 abbrev pub _⨾_ : Exp → Exp → Exp
 e₁ ⨾ e₂ = letIn nowhere e₁ e₂
+
+-- A program with no procedures.
+abbrev pub plain : Exp → Program
+plain e = record { procedures = []; root = e }
 
 -- Thread i moves, and its word needs nothing else.
 abbrev pub goes : ℕ → Move
@@ -41,24 +45,24 @@ holding a b (suc (suc ρ)) = 0
 -- ---- Figure 2
 
 -- (a) A race: the spawned thread reads x while the other writes it.
-abbrev pub figure2a : Exp
-figure2a =
-    letIn 0 (unary ref (constant 0))
+abbrev pub figure2a : Program
+figure2a = plain
+    (letIn 0 (unary ref (constant 0))
     (spawn (make newtid) (unary read (var 0))
-    ⨾ write (var 0) (constant 1))
+    ⨾ write (var 0) (constant 1)))
 
 -- The first thread makes x, 1, and an identifier, 2, spawns, and is about to write; so is the other to read.
 abbrev pub moves2a : List Move
 moves2a = names 0 1 ∷ goes 0 ∷ names 0 2 ∷ goes 0 ∷ goes 0 ∷ []
 
 -- (b) The same with a join.
-abbrev pub figure2b : Exp
-figure2b =
-    letIn 0 (unary ref (constant 0))
+abbrev pub figure2b : Program
+figure2b = plain
+    (letIn 0 (unary ref (constant 0))
     (letIn 1 (make newtid)
     (spawn (var 1) (unary read (var 0))
     ⨾ unary join (var 1)
-    ⨾ write (var 0) (constant 1)))
+    ⨾ write (var 0) (constant 1))))
 
 -- Up to the join, with the other thread still about to read.
 abbrev pub moves2bToJoin : List Move
@@ -69,14 +73,14 @@ abbrev pub moves2bToEnd : List Move
 moves2bToEnd = goes 1 ∷ joins 0 1 ∷ goes 0 ∷ goes 0 ∷ []
 
 -- (c) The same with a lock.
-abbrev pub figure2c : Exp
-figure2c =
-    letIn 0 (unary ref (constant 0))
+abbrev pub figure2c : Program
+figure2c = plain
+    (letIn 0 (unary ref (constant 0))
     (letIn 1 (make newlock)
     (spawn (make newtid) (unary lock (var 1) ⨾ unary read (var 0) ⨾ unary unlock (var 1))
     ⨾ unary lock (var 1)
     ⨾ write (var 0) (constant 1)
-    ⨾ unary unlock (var 1)))
+    ⨾ unary unlock (var 1))))
 
 -- Up to where both threads are about to lock, and the spawned one does.
 abbrev pub moves2cToLock : List Move
@@ -88,15 +92,15 @@ moves2cToEnd = goes 1 ∷ goes 1 ∷ goes 1 ∷ goes 1 ∷ goes 0 ∷ goes 0 ∷
 
 -- ---- Section 2.2: two locks for one cell. With NEWL-unsound each would lend the whole of x.
 
-abbrev pub twoLocks : Exp
-twoLocks =
-    letIn 0 (unary ref (constant 0))
+abbrev pub twoLocks : Program
+twoLocks = plain
+    (letIn 0 (unary ref (constant 0))
     (letIn 1 (make newlock)
     (letIn 2 (make newlock)
     (spawn (make newtid) (unary lock (var 1) ⨾ unary read (var 0) ⨾ unary unlock (var 1))
     ⨾ unary lock (var 2)
     ⨾ write (var 0) (constant 1)
-    ⨾ unary unlock (var 2))))
+    ⨾ unary unlock (var 2)))))
 
 -- Each thread takes its lock and is about to use x.
 abbrev pub movesTwoLocks : List Move
@@ -113,9 +117,9 @@ section221Thread =
     ⨾ write (var 0) (var 4)
     ⨾ unary unlock (var 3))
 
-abbrev pub section221 : Exp
-section221 =
-    letIn 0 (unary ref (constant 0))
+abbrev pub section221 : Program
+section221 = plain
+    (letIn 0 (unary ref (constant 0))
     (letIn 1 (unary ref (constant 0))
     (letIn 2 (make newtid)
     (letIn 3 (make newlock)
@@ -124,7 +128,7 @@ section221 =
     ⨾ spawn (var 2) section221Thread
     ⨾ unary join (var 2)
     ⨾ unary join (var 2)
-    ⨾ write (var 1) (constant 1))))))
+    ⨾ write (var 1) (constant 1)))))))
 
 -- x, y, t and l get the names 1 to 4, and the loop is entered.
 abbrev pub moves221ToLoop : List Move
@@ -148,13 +152,13 @@ abbrev pub waitsAndWrites : Exp
 waitsAndWrites = unary wait (var 1) ⨾ write (var 0) (constant 1)
 
 -- The first thread writes x and hands it over to such a thread.
-abbrev pub handover : Exp
-handover =
-    letIn 0 (unary ref (constant 0))
+abbrev pub handover : Program
+handover = plain
+    (letIn 0 (unary ref (constant 0))
     (letIn 1 (make newsem)
     (spawn (make newtid) waitsAndWrites
     ⨾ write (var 0) (constant 2)
-    ⨾ unary post (var 1)))
+    ⨾ unary post (var 1))))
 
 -- Up to where the first thread is about to make the semaphore.
 abbrev pub movesHandoverToNewsem : List Move
@@ -173,14 +177,14 @@ abbrev pub movesHandoverToEnd : List Move
 movesHandoverToEnd = goes 1 ∷ goes 1 ∷ goes 1 ∷ []
 
 -- Figure 7: two posts let two threads write. Unlike an `unlock`, a post is not idempotent.
-abbrev pub figure7 : Exp
-figure7 =
-    letIn 0 (unary ref (constant 0))
+abbrev pub figure7 : Program
+figure7 = plain
+    (letIn 0 (unary ref (constant 0))
     (letIn 1 (make newsem)
     (spawn (make newtid) waitsAndWrites
     ⨾ spawn (make newtid) waitsAndWrites
     ⨾ unary post (var 1)
-    ⨾ unary post (var 1)))
+    ⨾ unary post (var 1))))
 
 abbrev pub movesFigure7 : List Move
 movesFigure7 =
@@ -194,15 +198,15 @@ abbrev pub readsTheBook : Exp
 readsTheBook = unary (hold rdlock) (var 1) ⨾ unary read (var 0) ⨾ unary (hold rdunlock) (var 1)
 
 -- A book with two reading places: two threads read it, and the first thread writes it.
-abbrev pub colourBook : Exp
-colourBook =
-    letIn 0 (unary ref (constant 0))
+abbrev pub colourBook : Program
+colourBook = plain
+    (letIn 0 (unary ref (constant 0))
     (letIn 1 (make (newrwlock 2))
     (spawn (make newtid) readsTheBook
     ⨾ spawn (make newtid) readsTheBook
     ⨾ unary (hold wrlock) (var 1)
     ⨾ write (var 0) (constant 1)
-    ⨾ unary (hold wrunlock) (var 1)))
+    ⨾ unary (hold wrunlock) (var 1))))
 
 -- Up to where the first thread is about to take the book for writing, and the others for reading; the book is 2.
 abbrev pub movesToBook : List Move
@@ -218,28 +222,28 @@ abbrev pub movesBookToEnd : List Move
 movesBookToEnd = goes 1 ∷ goes 1 ∷ goes 1 ∷ goes 2 ∷ goes 2 ∷ goes 2 ∷ goes 0 ∷ goes 0 ∷ goes 0 ∷ goes 0 ∷ goes 0 ∷ []
 
 -- One thread takes the only reading place twice.
-abbrev pub readsTwice : Exp
-readsTwice = letIn 0 (make (newrwlock 1)) (unary (hold rdlock) (var 0) ⨾ unary (hold rdlock) (var 0))
+abbrev pub readsTwice : Program
+readsTwice = plain (letIn 0 (make (newrwlock 1)) (unary (hold rdlock) (var 0) ⨾ unary (hold rdlock) (var 0)))
 
 abbrev pub movesReadsTwice : List Move
 movesReadsTwice = names 0 1 ∷ goes 0 ∷ goes 0 ∷ goes 0 ∷ []
 
 -- A book is given back that no one has.
-abbrev pub givesBack : HoldWord → Exp
-givesBack w = letIn 0 (make (newrwlock 1)) (unary (hold w) (var 0))
+abbrev pub givesBack : HoldWord → Program
+givesBack w = plain (letIn 0 (make (newrwlock 1)) (unary (hold w) (var 0)))
 
 abbrev pub movesGivesBack : List Move
 movesGivesBack = names 0 1 ∷ goes 0 ∷ []
 
 -- The first thread takes both reading places, which is enough to write. The other takes one and reads.
-abbrev pub bothPlaces : Exp
-bothPlaces =
-    letIn 0 (unary ref (constant 0))
+abbrev pub bothPlaces : Program
+bothPlaces = plain
+    (letIn 0 (unary ref (constant 0))
     (letIn 1 (make (newrwlock 2))
     (spawn (make newtid) (unary (hold rdlock) (var 1) ⨾ unary read (var 0))
     ⨾ unary (hold rdlock) (var 1)
     ⨾ unary (hold rdlock) (var 1)
-    ⨾ write (var 0) (constant 1)))
+    ⨾ write (var 0) (constant 1))))
 
 -- Up to where the first thread is about to write, and the other to take a place.
 abbrev pub movesBothPlaces : List Move
@@ -248,22 +252,22 @@ movesBothPlaces = names 0 1 ∷ goes 0 ∷ names 0 2 ∷ goes 0 ∷ names 0 3 �
 -- ---- Section 3.1.6: locks that take more than they give
 
 -- Two locks with unlike loads meet in one variable.
-abbrev pub twoLoads : Exp
-twoLoads =
-    letIn 0 (make newlock)
+abbrev pub twoLoads : Program
+twoLoads = plain
+    (letIn 0 (make newlock)
     (letIn 1 (make newlock)
     (letIn 2 (if (var 0) (var 1))
-    (unary lock (var 2))))
+    (unary lock (var 2)))))
 
 -- With the printed out inequality the first thread could lock, give back nothing, and write.
-abbrev pub unlockForNothing : Exp
-unlockForNothing =
-    letIn 0 (unary ref (constant 0))
+abbrev pub unlockForNothing : Program
+unlockForNothing = plain
+    (letIn 0 (unary ref (constant 0))
     (letIn 1 (make newlock)
     (spawn (make newtid) (unary lock (var 1) ⨾ write (var 0) (constant 1))
     ⨾ unary lock (var 1)
     ⨾ unary unlock (var 1)
-    ⨾ write (var 0) (constant 2)))
+    ⨾ write (var 0) (constant 2))))
 
 -- It locks and unlocks; then the other locks, and both are about to write.
 abbrev pub movesUnlockForNothing : List Move
@@ -273,19 +277,19 @@ movesUnlockForNothing =
 -- ---- Beside the paper
 
 -- Two threads with one identifier that write one cell.
-abbrev pub oneIdentifier : Exp
-oneIdentifier =
-    letIn 0 (unary ref (constant 0))
+abbrev pub oneIdentifier : Program
+oneIdentifier = plain
+    (letIn 0 (unary ref (constant 0))
     (letIn 1 (make newtid)
     (spawn (var 1) (write (var 0) (constant 1))
-    ⨾ spawn (var 1) (write (var 0) (constant 2))))
+    ⨾ spawn (var 1) (write (var 0) (constant 2)))))
 
 abbrev pub movesOneIdentifier : List Move
 movesOneIdentifier = names 0 1 ∷ goes 0 ∷ names 0 2 ∷ goes 0 ∷ goes 0 ∷ goes 0 ∷ goes 0 ∷ []
 
 -- A `post` of a lock.
-abbrev pub postOfLock : Exp
-postOfLock = letIn 0 (make newlock) (unary post (var 0))
+abbrev pub postOfLock : Program
+postOfLock = plain (letIn 0 (make newlock) (unary post (var 0)))
 
 -- The lock gets the name 1, and is about to be posted.
 abbrev pub movesPostOfLock : List Move

@@ -1,5 +1,6 @@
--- Expressions: Figure 1 with run-time values, the next word, putting a reduct back in its place, and substitution.
+-- Expressions: Figure 1 with run-time values, the next word, putting a reduct back in its place, and substitution; then programs.
 use Prim.Native.Nat.{ℕ}
+use mathlib.Core.List.{List}
 use native.Mathlib.Decide.{ℕ-discrete}
 
 -- ---- Values and expressions
@@ -14,10 +15,12 @@ pub data Value : Type 0 where
 pub data HoldWord : Type 0 where
   rdlock rdunlock wrlock wrunlock : HoldWord
 
--- The words with one part, which must be a value before they reduce. `while` has one part too, but reduces with it as it is.
+-- The words with one part, which must be a value before they reduce. `while` has one part too, but reduces with it as it is. The part of a
+-- `call` is the argument, and f is the procedure.
 pub data Unary : Type 0 where
   join ref read lock unlock post wait : Unary
   hold : HoldWord → Unary
+  call : (f : ℕ) → Unary
 
 -- The words with no part that make a new thing. A read-write lock is made with its number of reading places.
 pub data Maker : Type 0 where
@@ -112,3 +115,15 @@ substitute x v (spawn e₁ e₂) = spawn (substitute x v e₁) (substitute x v e
 substitute x v (write e₁ e₂) = write (substitute x v e₁) (substitute x v e₂)
 substitute x v (unary o e) = unary o (substitute x v e)
 substitute x v (make o) = make o
+
+-- ---- Programs
+
+-- A procedure, with the variable that its argument is put for.
+pub record Procedure : Type 0 where
+  pub parameter : ℕ
+  pub body : Exp
+
+-- Procedures, each known by its place in the list, and the root, which the first thread runs.
+pub record Program : Type 0 where
+  pub procedures : List Procedure
+  pub root : Exp

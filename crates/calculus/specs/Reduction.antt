@@ -4,7 +4,7 @@ use mathlib.Core.Option.{Option, none, some}
 use mathlib.Core.List.{List, [], _∷_, _++_}
 use native.Mathlib.Decide.{ℕ-discrete, decLt}
 use lib.ListN.{getElem?, set}
-use Rattle.calculus.specs.Expression.{Value, int, name, HoldWord, rdlock, rdunlock, wrlock, wrunlock, Unary, join, ref, read, lock, unlock, post, wait, hold, Maker, newtid, newlock, newsem, newrwlock, Exp, value, letIn, if, while, Redex, letRedex, ifRedex, whileRedex, spawnRedex, writeRedex, unaryRedex, makeRedex, Next, isValue, atVariable, atWord, nextWord, plug, choose, substitute}
+use Rattle.calculus.specs.Expression.{Value, int, name, HoldWord, rdlock, rdunlock, wrlock, wrunlock, Unary, join, ref, read, lock, unlock, post, wait, hold, call, Maker, newtid, newlock, newsem, newrwlock, Exp, value, letIn, if, while, Redex, letRedex, ifRedex, whileRedex, spawnRedex, writeRedex, unaryRedex, makeRedex, Next, isValue, atVariable, atWord, nextWord, plug, choose, substitute, Procedure, Program}
 use Rattle.calculus.specs.State.{LockState, opened, closed, Inside, readers, writer, Slot, unused, identifier, cell, aLock, semaphore, rwlock, Thread, State, Part, first, second, Move, update, remove}
 
 -- ---- What a word asks before it reduces: `none` where the answer is no
@@ -107,6 +107,12 @@ valueOf (isValue v) = some v
 valueOf (atVariable x) = none
 valueOf (atWord r) = none
 
+-- The word that comes next, if one does: "Only the next word reduces".
+abbrev pub wordOf : Next → Option Redex
+wordOf (isValue v) = none
+wordOf (atVariable x) = none
+wordOf (atWord r) = some r
+
 -- ---- Reductions
 
 abbrev pub zeroExp : Exp
@@ -146,74 +152,74 @@ named s m t new = do
   ifUnused (s .names (m .fresh))
   some (becomes s m t (update (s .names) (m .fresh) new) (value (name (m .fresh))))
 
--- The words with one part, on its value. `join` is of a finished thread, and the thread that joins has not finished, so it stays.
--- `lock` waits unless the lock is open; `unlock` asks for a lock and no more: it goes ahead on an open one too. "Post adds one and
--- never waits"; `wait` "needs a count above 0 and takes one". A word of a read-write lock changes who is in.
-abbrev pub unaryReduct : State → Move → Thread → Unary → Value → Option State
-unaryReduct s m t join v = do
-  n ← nameOf v
-  ifIdentifier (s .names n)
-  u ← getElem? (s .threads) (m .finished)
-  ifEqual (u .tid) n
-  valueOf (nextWord (u .body))
-  some (withoutThread (m .finished) (becomes s m t (s .names) zeroExp))
-unaryReduct s m t ref v = named s m t (cell v)
-unaryReduct s m t read v = do
-  n ← nameOf v
-  w ← content (s .names n)
-  some (becomes s m t (s .names) (value w))
-unaryReduct s m t lock v = do
-  n ← nameOf v
-  l ← lockState (s .names n)
-  ifOpened l
-  some (becomes s m t (update (s .names) n (aLock closed)) zeroExp)
-unaryReduct s m t unlock v = do
-  n ← nameOf v
-  lockState (s .names n)
-  some (becomes s m t (update (s .names) n (aLock opened)) zeroExp)
-unaryReduct s m t post v = do
-  n ← nameOf v
-  c ← count (s .names n)
-  some (becomes s m t (update (s .names) n (semaphore (suc c))) zeroExp)
-unaryReduct s m t wait v = do
-  n ← nameOf v
-  c ← count (s .names n)
-  left ← oneLess c
-  some (becomes s m t (update (s .names) n (semaphore left)) zeroExp)
-unaryReduct s m t (hold w) v = do
-  n ← nameOf v
-  (N, i) ← rwState (s .names n)
-  after ← insideAfter N w i
-  some (becomes s m t (update (s .names) n (rwlock N after)) zeroExp)
+-- The procedures are the same in every state.
+module _ (P : List Procedure) where
+  -- The words with one part, on its value. `join` is of a finished thread, and the thread that joins has not finished, so it stays.
+  -- `lock` waits unless the lock is open; `unlock` asks for a lock and no more: it goes ahead on an open one too. "Post adds one and
+  -- never waits"; `wait` "needs a count above 0 and takes one". A word of a read-write lock changes who is in. A `call`
+  -- "steps to the body with x replaced"; of a procedure that is not there it is no reduction.
+  abbrev pub unaryReduct : State → Move → Thread → Unary → Value → Option State
+  unaryReduct s m t join v = do
+    n ← nameOf v
+    ifIdentifier (s .names n)
+    u ← getElem? (s .threads) (m .finished)
+    ifEqual (u .tid) n
+    valueOf (nextWord (u .body))
+    some (withoutThread (m .finished) (becomes s m t (s .names) zeroExp))
+  unaryReduct s m t ref v = named s m t (cell v)
+  unaryReduct s m t read v = do
+    n ← nameOf v
+    w ← content (s .names n)
+    some (becomes s m t (s .names) (value w))
+  unaryReduct s m t lock v = do
+    n ← nameOf v
+    l ← lockState (s .names n)
+    ifOpened l
+    some (becomes s m t (update (s .names) n (aLock closed)) zeroExp)
+  unaryReduct s m t unlock v = do
+    n ← nameOf v
+    lockState (s .names n)
+    some (becomes s m t (update (s .names) n (aLock opened)) zeroExp)
+  unaryReduct s m t post v = do
+    n ← nameOf v
+    c ← count (s .names n)
+    some (becomes s m t (update (s .names) n (semaphore (suc c))) zeroExp)
+  unaryReduct s m t wait v = do
+    n ← nameOf v
+    c ← count (s .names n)
+    left ← oneLess c
+    some (becomes s m t (update (s .names) n (semaphore left)) zeroExp)
+  unaryReduct s m t (hold w) v = do
+    n ← nameOf v
+    (N, i) ← rwState (s .names n)
+    after ← insideAfter N w i
+    some (becomes s m t (update (s .names) n (rwlock N after)) zeroExp)
+  unaryReduct s m t (call f) v = do
+    p ← getElem? P f
+    some (becomes s m t (s .names) (substitute (p .parameter) v (p .body)))
 
--- The state after thread t of s reduces that word, if the move m makes it a reduction.
-abbrev pub reduct : State → Move → Thread → Redex → Option State
-reduct s m t (letRedex x v e) = some (becomes s m t (s .names) (substitute x v e))
-reduct s m t (ifRedex e₁ e₂) = some (becomes s m t (s .names) (partListed (m .part) e₁ e₂))
-reduct s m t (whileRedex e) = some (becomes s m t (s .names) (if (letIn nowhere e (while e)) zeroExp))
-reduct s m t (spawnRedex v e) = do
-  n ← nameOf v
-  ifIdentifier (s .names n)
-  some (withThread (record { tid = n; body = e }) (becomes s m t (s .names) zeroExp))
-reduct s m t (writeRedex v w) = do
-  n ← nameOf v
-  content (s .names n)
-  some (becomes s m t (update (s .names) n (cell w)) zeroExp)
-reduct s m t (unaryRedex o v) = unaryReduct s m t o v
-reduct s m t (makeRedex o) = named s m t (made o)
+  -- The state after thread t of s reduces that word, if the move m makes it a reduction.
+  abbrev pub reduct : State → Move → Thread → Redex → Option State
+  reduct s m t (letRedex x v e) = some (becomes s m t (s .names) (substitute x v e))
+  reduct s m t (ifRedex e₁ e₂) = some (becomes s m t (s .names) (partListed (m .part) e₁ e₂))
+  reduct s m t (whileRedex e) = some (becomes s m t (s .names) (if (letIn nowhere e (while e)) zeroExp))
+  reduct s m t (spawnRedex v e) = do
+    n ← nameOf v
+    ifIdentifier (s .names n)
+    some (withThread (record { tid = n; body = e }) (becomes s m t (s .names) zeroExp))
+  reduct s m t (writeRedex v w) = do
+    n ← nameOf v
+    content (s .names n)
+    some (becomes s m t (update (s .names) n (cell w)) zeroExp)
+  reduct s m t (unaryRedex o v) = unaryReduct s m t o v
+  reduct s m t (makeRedex o) = named s m t (made o)
 
--- The word that comes next, if one does: "Only the next word reduces".
-abbrev pub wordOf : Next → Option Redex
-wordOf (isValue v) = none
-wordOf (atVariable x) = none
-wordOf (atWord r) = some r
-
--- The state after a move, if the move is a reduction.
-unfoldable pub reduce : State → Move → Option State
-reduce s m = do
-  t ← getElem? (s .threads) (m .thread)
-  r ← wordOf (nextWord (t .body))
-  reduct s m t r
+  -- The state after a move, if the move is a reduction.
+  unfoldable pub reduce : State → Move → Option State
+  reduce s m = do
+    t ← getElem? (s .threads) (m .thread)
+    r ← wordOf (nextWord (t .body))
+    reduct s m t r
 
 -- ---- Runs
 
@@ -221,20 +227,21 @@ abbrev pub orElse : Option State → State → State
 orElse none s = s
 orElse (some s′) s = s′
 
--- "A listed move that is no reduction leaves the state alone."
-unfoldable pub attempt : State → Move → State
-attempt s m = orElse (reduce s m) s
+module _ (P : List Procedure) where
+  -- "A listed move that is no reduction leaves the state alone."
+  unfoldable pub attempt : State → Move → State
+  attempt s m = orElse (reduce P s m) s
 
--- Every state on the way along a list of moves, first and last included.
-unfoldable pub states : List Move → State → List State
-states [] s = s ∷ []
-states (m ∷ ms) s = s ∷ states ms (attempt s m)
+  -- Every state on the way along a list of moves, first and last included.
+  unfoldable pub states : List Move → State → List State
+  states [] s = s ∷ []
+  states (m ∷ ms) s = s ∷ states ms (attempt s m)
 
--- The last of them.
-unfoldable pub run : List Move → State → State
-run [] s = s
-run (m ∷ ms) s = run ms (attempt s m)
+  -- The last of them.
+  unfoldable pub run : List Move → State → State
+  run [] s = s
+  run (m ∷ ms) s = run ms (attempt s m)
 
 -- One thread, no cells and no locks; its identifier is the one name used so far, and no program has it.
-unfoldable pub startState : Exp → State
-startState e = record { threads = record { tid = 0; body = e } ∷ []; names = update (λ n. unused) 0 identifier }
+unfoldable pub startState : Program → State
+startState p = record { threads = record { tid = 0; body = p .root } ∷ []; names = update (λ n. unused) 0 identifier }

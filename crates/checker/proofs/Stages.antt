@@ -40,7 +40,7 @@ module _ (p s w : List ℕ) (answered : Reading) (told : SheetsAnswered Check p 
   unfolding workspaceSize
   sheet-refused e = sym (sheets-refused workSize p s (omega arith) _ (refused-by Check p s w answered told e))
 
-  pub sheets-ruled : {n : ℕ} {header : Header} {a : Answer} → answered ≡ reading.Held n header → RulesAnswered w n header a
+  pub sheets-ruled : {n k : ℕ} {header : Header} {a : Answer} → answered ≡ reading.Held n k header → RulesAnswered w n k header a
       → a ≡ verdict workspaceSize p s
   unfolding workspaceSize
   sheets-ruled e rules =

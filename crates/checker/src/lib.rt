@@ -21,11 +21,11 @@ ghost use Rattle.checker.specs.Promise.{RefutedBy};
 ghost use Rattle.checker.specs.Stages.{RulesAsked, RulesAnswered};
 
 // 44 and 30 to 33, for the sheets that the work space holds.
-fn check_rules(work: &mut [u32], steps: usize, header: Header) -> Answer
-    requires { ⌜ RulesAsked (now work) steps header ⌝ }
-    ensures { λ a. ⌜ RulesAnswered (now (work .entry)) steps header a ⌝ }
+fn check_rules(work: &mut [u32], steps: usize, procedures: usize, header: Header) -> Answer
+    requires { ⌜ RulesAsked (now work) steps procedures header ⌝ }
+    ensures { λ a. ⌜ RulesAnswered (now (work .entry)) steps procedures header a ⌝ }
 {
-    match rules::rule(work, Purpose::Check, steps, header) {
+    match rules::rule(work, Purpose::Check, steps, procedures, header) {
         Ruling::Met => Answer::Accept,
         Ruling::Refused(r) => Answer::Refuse(r),
     }
@@ -38,7 +38,7 @@ fn check_texts(program: &[u8], split: &[u8], work: &mut [u32]) -> Answer
 {
     match reading::read(program, split, Purpose::Check, work) {
         Reading::Refused(r) => Answer::Refuse(r),
-        Reading::Held(steps, header) => check_rules(work, steps, header),
+        Reading::Held(steps, procedures, header) => check_rules(work, steps, procedures, header),
     }
 }
 

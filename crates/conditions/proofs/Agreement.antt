@@ -11,7 +11,7 @@ use types.Run.{OneOf, miss}
 use denote.Enum.Declared.{tagOf}
 use borrow.Author.Tests.{eq-eqb, ne-eqb, lt-ltb, le-ltb, ltb-true}
 use Rattle.spec.proofs.TypeLine as kind
-use Rattle.spec.specs.Expression.{Step}
+use Rattle.spec.specs.Program.{Program}
 use Rattle.spec.specs.Split.{Split, typeAt, mapAt}
 use Rattle.spec.specs.Maps.{nowhere, sameNumbers, _≥ᵐ_}
 use Rattle.spec.specs.Agreement.{int, code, Tree, plain, sameMaps, sameTree, treeOf, trees, tree, agree}
@@ -129,16 +129,16 @@ module _ (w : List ℕ) (n : ℕ) (t u : TypeNumber) where
 
 -- ------------------------------------------------------------------ the split that the work space holds
 
-module _ (w : List ℕ) (S : Split) (steps : List Step) (H : HoldsSplit w S) (R : InRange steps S) (n : ℕ) (located : n ≡ S .header .locations) where
+module _ (w : List ℕ) (S : Split) (P : Program) (H : HoldsSplit w S) (R : InRange P S) (n : ℕ) (located : n ≡ S .header .locations) where
   same-numbers-shown : (k h : MapNumber) → k .0 < length (S .maps) → h .0 < length (S .maps)
       → everywhere w n (Equal k h) ≡ sameNumbers (mapAt S k) (mapAt S h)
   unfolding everywhere sameNumbers
-  same-numbers-shown k h p q = rw (equal-shown located (map-stands w S steps H R k p) (map-stands w S steps H R h q))
+  same-numbers-shown k h p q = rw (equal-shown located (map-stands w S P H R k p) (map-stands w S P H R h q))
 
   not-below-shown : (k h : MapNumber) → k .0 < length (S .maps) → h .0 < length (S .maps)
       → everywhere w n (AtLeast k h) ≡ nowhere (mapAt S k ≥ᵐ mapAt S h)
   unfolding everywhere
-  not-below-shown k h p q = rw (at-least-shown located (map-stands w S steps H R k p) (map-stands w S steps H R h q))
+  not-below-shown k h p q = rw (at-least-shown located (map-stands w S P H R k p) (map-stands w S P H R h q))
 
   -- lines whose contents and maps are shown
   lines-shown : (all : List Tree) (f : TypeNumber → TypeNumber → Bool) (x y : TypeLine)
@@ -193,12 +193,12 @@ module _ (w : List ℕ) (S : Split) (steps : List Step) (H : HoldsSplit w S) (R 
   below-shown zero t u l i j = absurd (omega arith)
   below-shown (suc b) t u l i j =
       rw (
-        type-shown w S steps H R t i,
-        type-shown w S steps H R u j,
+        type-shown w S P H R t i,
+        type-shown w S P H R u j,
         tree-of-type S R t _ refl,
         tree-of-type S R u _ refl,
       )
-      (lines-shown (trees S [] (S .types)) _ (typeAt S t) (typeAt S u) (loads-in w S steps H R t i) (loads-in w S steps H R u j)
+      (lines-shown (trees S [] (S .types)) _ (typeAt S t) (typeAt S u) (loads-in w S P H R t i) (loads-in w S P H R u j)
       (λ p q c d e g. down p q c d e g (below-shown b c d)))
     where
       down : (p q : Location) (c d : TypeNumber) → typeAt S t ≡ Ref p c → typeAt S u ≡ Ref q d
@@ -217,16 +217,16 @@ module _ (w : List ℕ) (S : Split) (steps : List Step) (H : HoldsSplit w S) (R 
   unfolding mayShowIn mayShow looserLock
   may-show-shown t u i j =
       rw (
-        type-shown w S steps H R t i,
-        type-shown w S steps H R u j,
-        not-below-shown _ _ (loads-in w S steps H R u j .in-load-in) (loads-in w S steps H R t i .in-load-in),
-        not-below-shown _ _ (loads-in w S steps H R t i .out-load-in) (loads-in w S steps H R u j .out-load-in),
+        type-shown w S P H R t i,
+        type-shown w S P H R u j,
+        not-below-shown _ _ (loads-in w S P H R u j .in-load-in) (loads-in w S P H R t i .in-load-in),
+        not-below-shown _ _ (loads-in w S P H R t i .out-load-in) (loads-in w S P H R u j .out-load-in),
         agree-shown t u i j,
       )
 
   pub takes-enough-shown : (t : TypeNumber) → t .0 < length (S .types) → takesEnoughIn w n (layout.typeAt w t) ≡ takesEnough S (typeAt S t)
   unfolding takesEnoughIn takesEnough inLoad outLoad
-  takes-enough-shown t h = rw (type-shown w S steps H R t h) (of-line (typeAt S t) (loads-in w S steps H R t h))
+  takes-enough-shown t h = rw (type-shown w S P H R t h) (of-line (typeAt S t) (loads-in w S P H R t h))
     where
       of-line : (x : TypeLine) → LoadsIn S x → takesEnoughIn w n x ≡ takesEnough S x
       of-line Int l = refl

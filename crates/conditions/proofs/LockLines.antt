@@ -8,7 +8,7 @@ use native.Mathlib.Numerals.{add-one}
 use lib.ListN.{length, getD, drop, drop-of-length-le}
 use lib.Seq.{drop-cons}
 use Rattle.spec.specs.Reading.{on, demand}
-use Rattle.spec.specs.Expression.{Step}
+use Rattle.spec.specs.Program.{Program}
 use Rattle.spec.specs.Split.{Split, typeAt}
 use Rattle.spec.specs.Conditions.{isLock}
 use Rattle.spec.specs.Ranges.{InRange}
@@ -79,7 +79,7 @@ module _ (w : List ℕ) (n t types : ℕ) where
 
 -- ------------------------------------------------------------------ the split that the work space holds
 
-module _ (w : List ℕ) (S : Split) (steps : List Step) (H : HoldsSplit w S) (R : InRange steps S) (n : ℕ) (located : n ≡ S .header .locations) where
+module _ (w : List ℕ) (S : Split) (P : Program) (H : HoldsSplit w S) (R : InRange P S) (n : ℕ) (located : n ≡ S .header .locations) where
   types-left : (t k : ℕ) → t + k ≡ length (S .types) → locksOutcome w n t k ≡ allTakeEnough S (t + 2) (drop t (S .types))
   unfolding locksOutcome lockOutcome allTakeEnough both typeAt
   types-left t zero all = rw (drop-of-length-le (S .types) {i = t} (omega (arith, all)))
@@ -92,7 +92,7 @@ module _ (w : List ℕ) (S : Split) (steps : List Step) (H : HoldsSplit w S) (R 
       ∙ sym (ap (allTakeEnough S (t + 2)) (drop-cons (S .types) t Int (omega (arith, all))))
     where
       line-shown : (t : ℕ) → t < length (S .types) → lockOutcome w n (record { 0 = t }) ≡ demand (takesEnough S (getD (S .types) t Int)) (LockTakesLess (t + 2))
-      line-shown t h = ap (λ b. demand b (LockTakesLess (t + 2))) (takes-enough-shown w S steps H R n located (record { 0 = t }) h)
+      line-shown t h = ap (λ b. demand b (LockTakesLess (t + 2))) (takes-enough-shown w S P H R n located (record { 0 = t }) h)
 
   pub locks-shown : (types : ℕ) → types ≡ S .header .types → locksOutcome w n 0 types ≡ locksTakeEnough S
   unfolding locksTakeEnough

@@ -5,10 +5,10 @@ use mathlib.Core.List.{List}
 use native.Mathlib.Omega.{arith}
 use lib.ListN.{length, length-set}
 use Rattle.control.specs.Shapes.{shapeAt}
-use Rattle.control.specs.Control.{continuationsAt, secondPart, finish, continuation, second}
-use Rattle.control.specs.Continuations.{joined, linkedParts, linkedStep, linkedFrom}
+use Rattle.control.specs.Control.{continuationsAt, secondPart, finish, leave, continuation, second, firstOf}
+use Rattle.control.specs.Continuations.{joined, linkedParts, linkedStep, linkedFrom, bodiesJoined}
 use Rattle.control.specs.declared.shapes.Shape.{Shape}
-use Rattle.control.specs.declared.shapes.Shape.the-variants.{Variable, Constant, Maker, While, OnePart, Let, If, Spawn, Write}
+use Rattle.control.specs.declared.shapes.Shape.the-variants.{Variable, Constant, Maker, While, OnePart, Call, Let, If, Spawn, Write}
 
 pub joined-length : (p : List ℕ) (k c : ℕ) → length (joined p k c) ≡ length p
 unfolding joined
@@ -22,6 +22,7 @@ parts-length Constant p k c b = refl
 parts-length Maker p k c b = refl
 parts-length While p k c b = joined-length p (k + 1) k
 parts-length OnePart p k c b = joined-length p (k + 1) k
+parts-length Call p k c b = joined-length p (k + 1) k
 parts-length Let p k c b = joined-length (joined p (k + 1) k) b c ∙ joined-length p (k + 1) k
 parts-length If p k c b = joined-length (joined p (k + 1) c) b c ∙ joined-length p (k + 1) c
 parts-length Spawn p k c b = joined-length (joined p (k + 1) k) b finish ∙ joined-length p (k + 1) k
@@ -38,3 +39,11 @@ linked-more p k n l = let e : n - k ≡ suc (n - (k + 1)) = omega (arith, l) in 
 pub linked-end : (p : List ℕ) (k n : ℕ) → n ≤ k → linkedFrom p k (n - k) ≡ p
 unfolding linkedFrom
 linked-end p k n h = let e : n - k ≡ 0 = omega (arith, h) in ap (linkedFrom p k) e
+
+pub bodies-more : (p : List ℕ) (f n : ℕ) → f < n → bodiesJoined p f (n - f) ≡ bodiesJoined (joined p (firstOf p f) leave) (f + 1) (n - (f + 1))
+unfolding bodiesJoined
+bodies-more p f n l = let e : n - f ≡ suc (n - (f + 1)) = omega (arith, l) in ap (bodiesJoined p f) e
+
+pub bodies-end : (p : List ℕ) (f n : ℕ) → n ≤ f → bodiesJoined p f (n - f) ≡ p
+unfolding bodiesJoined
+bodies-end p f n h = let e : n - f ≡ 0 = omega (arith, h) in ap (bodiesJoined p f) e

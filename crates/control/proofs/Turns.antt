@@ -11,31 +11,31 @@ use Rattle.spec.specs.Choice.{if_then_else_}
 use Rattle.control.specs.declared.Focus.{Focus}
 use Rattle.control.specs.Control.{keptAt, halfWritten, returnedSpace, turned, turnedSpace, found}
 
-module _ (p s : List ℕ) (t : ℕ) (f : Focus) where
+module _ (p s : List ℕ) (f : Focus) where
   -- the word is found
-  pub found-stop : (n : ℕ) → 2 ≤ f .mode → found n p s t f ≡ (f, s)
+  pub found-stop : (n : ℕ) → 2 ≤ f .mode → found n p s f ≡ (f, s)
   unfolding found
   found-stop zero h = refl
   found-stop (suc n) h = rw (le-ltb (f .mode) 2 h)
 
   -- one turn more
-  pub found-turn : (n : ℕ) → f .mode < 2 → found (suc n) p s t f ≡ found n p (turnedSpace p s t f) t (turned p s t f)
+  pub found-turn : (n : ℕ) → f .mode < 2 → found (suc n) p s f ≡ found n p (turnedSpace p s f) (turned p s f)
   unfolding found
   found-turn n h = rw (lt-ltb (f .mode) 2 h)
 
-  pub found-more : (m i : ℕ) → i < m → f .mode < 2 → found (m - i) p s t f ≡ found (m - (i + 1)) p (turnedSpace p s t f) t (turned p s t f)
-  found-more m i l h = let e : m - i ≡ suc (m - (i + 1)) = omega (arith, l) in ap (λ (n : ℕ). found n p s t f) e ∙ found-turn (m - (i + 1)) h
+  pub found-more : (m i : ℕ) → i < m → f .mode < 2 → found (m - i) p s f ≡ found (m - (i + 1)) p (turnedSpace p s f) (turned p s f)
+  found-more m i l h = let e : m - i ≡ suc (m - (i + 1)) = omega (arith, l) in ap (λ (n : ℕ). found n p s f) e ∙ found-turn (m - (i + 1)) h
 
-  pub found-end : (m i : ℕ) → m ≤ i → found (m - i) p s t f ≡ (f, s)
+  pub found-end : (m i : ℕ) → m ≤ i → found (m - i) p s f ≡ (f, s)
   unfolding found
-  found-end m i h = let e : m - i ≡ 0 = omega (arith, h) in ap (λ (n : ℕ). found n p s t f) e
+  found-end m i h = let e : m - i ≡ 0 = omega (arith, h) in ap (λ (n : ℕ). found n p s f) e
 
   -- no turn changes the length of the space
-  pub turn-length : length (turnedSpace p s t f) ≡ length s
+  pub turn-length : length (turnedSpace p s f) ≡ length s
   unfolding turnedSpace returnedSpace
   turn-length = go (eqb (f .mode) 0) (halfWritten p (f .at))
     where
-      go : (a b : Bool) → length (if a then s else if b then set s (keptAt + 256 * t + f .at) (f .value) else s) ≡ length s
+      go : (a b : Bool) → length (if a then s else if b then set s (keptAt + 256 * f .row + f .at) (f .value) else s) ≡ length s
       go true b = refl
-      go false true = length-set s (keptAt + 256 * t + f .at) (f .value)
+      go false true = length-set s (keptAt + 256 * f .row + f .at) (f .value)
       go false false = refl

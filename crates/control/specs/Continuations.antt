@@ -5,9 +5,9 @@ use lib.ListN.{set}
 use Rattle.spec.specs.Expression.{Expr, leaf, unary, binary, size}
 use Rattle.spec.specs.declared.BinaryWord.the-variants as word
 use Rattle.control.specs.Shapes.{shapeAt}
-use Rattle.control.specs.Control.{continuationsAt, secondPart, finish, continuation, second}
+use Rattle.control.specs.Control.{continuationsAt, secondPart, finish, leave, proceduresAt, continuation, second, firstOf, rootOf}
 use Rattle.control.specs.declared.shapes.Shape.{Shape}
-use Rattle.control.specs.declared.shapes.Shape.the-variants.{Variable, Constant, Maker, While, OnePart, Let, If, Spawn, Write}
+use Rattle.control.specs.declared.shapes.Shape.the-variants.{Variable, Constant, Maker, While, OnePart, Call, Let, If, Spawn, Write}
 
 -- for each step of an expression in line order, what follows once it is a value; k is the index of its first step, c what follows the
 -- whole: a `let` and an `if` are done with once their e2, or the part listed, is entered
@@ -30,6 +30,7 @@ linkedParts Constant p k c b = p
 linkedParts Maker p k c b = p
 linkedParts While p k c b = joined p (k + 1) k
 linkedParts OnePart p k c b = joined p (k + 1) k
+linkedParts Call p k c b = joined p (k + 1) k
 linkedParts Let p k c b = joined (joined p (k + 1) k) b c
 linkedParts If p k c b = joined (joined p (k + 1) c) b c
 linkedParts Spawn p k c b = joined (joined p (k + 1) k) b finish
@@ -43,5 +44,13 @@ unfoldable pub linkedFrom : (p : List ℕ) (k n : ℕ) → List ℕ
 linkedFrom p k zero = p
 linkedFrom p k (suc n) = linkedFrom (linkedStep p k) (k + 1) n
 
-unfoldable pub linked : (p : List ℕ) (n : ℕ) → List ℕ
-linked p n = linkedFrom (joined p 0 finish) 0 n
+-- the bodies of n procedures from f on
+unfoldable pub bodiesJoined : (p : List ℕ) (f n : ℕ) → List ℕ
+bodiesJoined p f zero = p
+bodiesJoined p f (suc n) = bodiesJoined (joined p (firstOf p f) leave) (f + 1) n
+
+unfoldable pub rootJoined : (p : List ℕ) → List ℕ
+rootJoined p = joined p (rootOf p) finish
+
+unfoldable pub linked : (p : List ℕ) (n procedures : ℕ) → List ℕ
+linked p n m = linkedFrom (rootJoined (bodiesJoined (set p proceduresAt m) 0 m)) 0 n

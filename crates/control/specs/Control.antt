@@ -1,20 +1,20 @@
--- The loop that finds the next word of a thread, on numbers: p holds the program, s is the lent space, t the thread.
+-- The loop that finds the next word of a thread, on numbers: p holds the program, s is the lent space, r is the row of the thread.
 use Prim.Native.Nat.{ℕ, zero, suc, _+_, _*_, _-_}
 use mathlib.Core.Bool.{Bool, false}
 use mathlib.Core.List.{List}
 use lib.Dec.{eqb, ltb}
 use lib.ListN.{getD, set}
 use Rattle.spec.specs.Choice.{if_then_else_}
-use Rattle.workspace.specs.Layout.{valuesAt, endsAt}
+use Rattle.workspace.specs.Layout.{valuesAt, endsAt, procFirstsAt}
 use Rattle.control.specs.Shapes.{shapeAt, isWrite}
 use Rattle.control.specs.declared.Focus.{Focus}
 use Rattle.control.specs.declared.shapes.Shape.{Shape}
-use Rattle.control.specs.declared.shapes.Shape.the-variants.{Variable, Constant, Maker, While, OnePart, Let, If, Spawn, Write}
+use Rattle.control.specs.declared.shapes.Shape.the-variants.{Variable, Constant, Maker, While, OnePart, Call, Let, If, Spawn, Write}
 
 -- ------------------------------------------------------------------ offsets
 
 abbrev pub continuationsAt : ℕ
-continuationsAt = 1280
+continuationsAt = 2176
 
 abbrev pub secondPart : ℕ
 secondPart = 256
@@ -22,18 +22,31 @@ secondPart = 256
 abbrev pub finish : ℕ
 finish = 512
 
+abbrev pub leave : ℕ
+leave = 513
+
+abbrev pub proceduresAt : ℕ
+proceduresAt = 2448
+
 abbrev pub environmentsAt : ℕ
 environmentsAt = 0
 
 abbrev pub keptAt : ℕ
-keptAt = 4096
+keptAt = 270336
 
-unfoldable pub variable : (s : List ℕ) (t x : ℕ) → ℕ
-variable s t x = getD s (environmentsAt + 256 * t + x) 0
+abbrev pub callsAt : ℕ
+callsAt = 540672
+
+unfoldable pub variable : (s : List ℕ) (r x : ℕ) → ℕ
+variable s r x = getD s (environmentsAt + 256 * r + x) 0
 
 -- what the first part of the `write` of step k gave
-unfoldable pub kept : (s : List ℕ) (t k : ℕ) → ℕ
-kept s t k = getD s (keptAt + 256 * t + k) 0
+unfoldable pub kept : (s : List ℕ) (r k : ℕ) → ℕ
+kept s r k = getD s (keptAt + 256 * r + k) 0
+
+-- the step of the open call whose body runs in row r
+unfoldable pub calledFrom : (s : List ℕ) (r : ℕ) → ℕ
+calledFrom s r = getD s (callsAt + r) 0
 
 unfoldable pub continuation : (p : List ℕ) (k : ℕ) → ℕ
 continuation p k = getD p (continuationsAt + k) 0
@@ -41,69 +54,82 @@ continuation p k = getD p (continuationsAt + k) 0
 unfoldable pub second : (p : List ℕ) (k : ℕ) → ℕ
 second p k = getD p (endsAt + 1 + k) 0
 
+-- the first step of the body of procedure f, and of the root
+unfoldable pub firstOf : (p : List ℕ) (f : ℕ) → ℕ
+firstOf p f = getD p (procFirstsAt + f) 0
+
+unfoldable pub rootOf : (p : List ℕ) → ℕ
+rootOf p = firstOf p (getD p proceduresAt 0)
+
 unfoldable pub behind : ℕ → ℕ
 behind k = if ltb k finish then k + 1 else k
 
 -- ------------------------------------------------------------------ where a thread is
 
-abbrev pub focus : (mode at value : ℕ) → Focus
-focus m k v = record { mode = m; at = k; value = v }
+abbrev pub focus : (mode at value row : ℕ) → Focus
+focus m k v r = record { mode = m; at = k; value = v; row = r }
 
-abbrev pub entering : (k : ℕ) → Focus
-entering k = focus 0 k 0
+abbrev pub entering : (r k : ℕ) → Focus
+entering r k = focus 0 k 0 r
 
-abbrev pub returning : (c v : ℕ) → Focus
-returning c v = focus 1 c v
+abbrev pub returning : (r c v : ℕ) → Focus
+returning r c v = focus 1 c v r
 
-abbrev pub stoppedAt : (k : ℕ) → Focus
-stoppedAt k = focus 2 k 0
+abbrev pub stoppedAt : (r k : ℕ) → Focus
+stoppedAt r k = focus 2 k 0 r
 
-abbrev pub readyAt : (k v : ℕ) → Focus
-readyAt k v = focus 3 k v
+abbrev pub readyAt : (r k v : ℕ) → Focus
+readyAt r k v = focus 3 k v r
 
-abbrev pub unrolledAt : (k : ℕ) → Focus
-unrolledAt k = focus 4 k 0
+abbrev pub unrolledAt : (r k : ℕ) → Focus
+unrolledAt r k = focus 4 k 0 r
 
-abbrev pub doneWith : (v : ℕ) → Focus
-doneWith v = focus 5 0 v
+abbrev pub doneWith : (r v : ℕ) → Focus
+doneWith r v = focus 5 0 v r
 
 -- ------------------------------------------------------------------ one turn
 
-unfoldable pub enteredBy : Shape → (k c x : ℕ) → Focus
-enteredBy Variable k c x = returning c x
-enteredBy Constant k c x = returning c 0
-enteredBy Maker k c x = stoppedAt k
-enteredBy While k c x = stoppedAt k
-enteredBy OnePart k c x = entering (behind k)
-enteredBy Let k c x = entering (behind k)
-enteredBy If k c x = stoppedAt k
-enteredBy Spawn k c x = entering (behind k)
-enteredBy Write k c x = entering (behind k)
+unfoldable pub enteredBy : Shape → (r k c x : ℕ) → Focus
+enteredBy Variable r k c x = returning r c x
+enteredBy Constant r k c x = returning r c 0
+enteredBy Maker r k c x = stoppedAt r k
+enteredBy While r k c x = stoppedAt r k
+enteredBy OnePart r k c x = entering r (behind k)
+enteredBy Call r k c x = entering r (behind k)
+enteredBy Let r k c x = entering r (behind k)
+enteredBy If r k c x = stoppedAt r k
+enteredBy Spawn r k c x = entering r (behind k)
+enteredBy Write r k c x = entering r (behind k)
 
-unfoldable pub entered : (p s : List ℕ) (t k : ℕ) → Focus
-entered p s t k = enteredBy (shapeAt p k) k (continuation p k) (variable s t (getD p (valuesAt + k) 0))
+unfoldable pub entered : (p s : List ℕ) (r k : ℕ) → Focus
+entered p s r k = enteredBy (shapeAt p k) r k (continuation p k) (variable s r (getD p (valuesAt + k) 0))
 
 unfoldable pub halfWritten : (p : List ℕ) (c : ℕ) → Bool
 halfWritten p c = if ltb c secondPart then isWrite (shapeAt p c) else false
 
-unfoldable pub returned : (p : List ℕ) (c v : ℕ) → Focus
-returned p c v =
-    if halfWritten p c then entering (second p c)
-    else if ltb c secondPart then readyAt c v
-    else if ltb c finish then readyAt (c - secondPart) v
-    else doneWith v
+-- an open call ends with its body's value, in the row before
+unfoldable pub left : (p s : List ℕ) (r v : ℕ) → Focus
+left p s r v = returning (r - 1) (continuation p (calledFrom s r)) v
 
-unfoldable pub returnedSpace : (p s : List ℕ) (t c v : ℕ) → List ℕ
-returnedSpace p s t c v = if halfWritten p c then set s (keptAt + 256 * t + c) v else s
+unfoldable pub returned : (p s : List ℕ) (r c v : ℕ) → Focus
+returned p s r c v =
+    if halfWritten p c then entering r (second p c)
+    else if ltb c secondPart then readyAt r c v
+    else if ltb c finish then readyAt r (c - secondPart) v
+    else if ltb c leave then doneWith r v
+    else left p s r v
 
-unfoldable pub turned : (p s : List ℕ) (t : ℕ) → Focus → Focus
-turned p s t f = if eqb (f .mode) 0 then entered p s t (f .at) else returned p (f .at) (f .value)
+unfoldable pub returnedSpace : (p s : List ℕ) (r c v : ℕ) → List ℕ
+returnedSpace p s r c v = if halfWritten p c then set s (keptAt + 256 * r + c) v else s
 
-unfoldable pub turnedSpace : (p s : List ℕ) (t : ℕ) → Focus → List ℕ
-turnedSpace p s t f = if eqb (f .mode) 0 then s else returnedSpace p s t (f .at) (f .value)
+unfoldable pub turned : (p s : List ℕ) → Focus → Focus
+turned p s f = if eqb (f .mode) 0 then entered p s (f .row) (f .at) else returned p s (f .row) (f .at) (f .value)
+
+unfoldable pub turnedSpace : (p s : List ℕ) → Focus → List ℕ
+turnedSpace p s f = if eqb (f .mode) 0 then s else returnedSpace p s (f .row) (f .at) (f .value)
 
 -- ------------------------------------------------------------------ turns
 
-unfoldable pub found : (n : ℕ) (p s : List ℕ) (t : ℕ) → Focus → Focus × List ℕ
-found zero p s t f = (f, s)
-found (suc n) p s t f = if ltb (f .mode) 2 then found n p (turnedSpace p s t f) t (turned p s t f) else (f, s)
+unfoldable pub found : (n : ℕ) (p s : List ℕ) → Focus → Focus × List ℕ
+found zero p s f = (f, s)
+found (suc n) p s f = if ltb (f .mode) 2 then found n p (turnedSpace p s f) (turned p s f) else (f, s)

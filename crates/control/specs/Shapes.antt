@@ -5,9 +5,9 @@ use mathlib.Core.List.{List}
 use lib.ListN.{getD}
 use Rattle.workspace.specs.Layout.{wordsAt, ruleOf}
 use Rattle.workspace.specs.declared.Rule.{Rule}
-use Rattle.workspace.specs.declared.Rule.the-variants.{VAR, INT, LET, IF, WHILE, NEWT, SPAWN, JOIN, REF, WRITE, READ, NEWL, LCK, ULCK, NEWSEM, POST, WAIT, NEWRWLOCK, RDLOCK, RDUNLOCK, WRLOCK, WRUNLOCK}
+use Rattle.workspace.specs.declared.Rule.the-variants.{VAR, INT, LET, IF, WHILE, NEWT, SPAWN, JOIN, REF, WRITE, READ, NEWL, LCK, ULCK, NEWSEM, POST, WAIT, NEWRWLOCK, RDLOCK, RDUNLOCK, WRLOCK, WRUNLOCK, CALL}
 use Rattle.control.specs.declared.shapes.Shape.{Shape}
-use Rattle.control.specs.declared.shapes.Shape.the-variants.{Variable, Constant, Maker, While, OnePart, Let, If, Spawn, Write}
+use Rattle.control.specs.declared.shapes.Shape.the-variants.{Variable, Constant, Maker, While, OnePart, Call, Let, If, Spawn, Write}
 
 unfoldable pub shapeOf : Rule → Shape
 shapeOf VAR = Variable
@@ -32,6 +32,7 @@ shapeOf RDLOCK = OnePart
 shapeOf RDUNLOCK = OnePart
 shapeOf WRLOCK = OnePart
 shapeOf WRUNLOCK = OnePart
+shapeOf CALL = Call
 
 -- the shape of step k
 unfoldable pub shapeAt : (p : List ℕ) (k : ℕ) → Shape
@@ -43,6 +44,7 @@ isWrite Constant = false
 isWrite Maker = false
 isWrite While = false
 isWrite OnePart = false
+isWrite Call = false
 isWrite Let = false
 isWrite If = false
 isWrite Spawn = false
@@ -54,6 +56,7 @@ isIf Constant = false
 isIf Maker = false
 isIf While = false
 isIf OnePart = false
+isIf Call = false
 isIf Let = false
 isIf If = true
 isIf Spawn = false

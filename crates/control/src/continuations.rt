@@ -1,6 +1,8 @@
 // The continuation of each step, found once for a program: what follows once the step is a value.
 use crate::CONTINUATIONS;
 use crate::FINISH;
+use crate::LEAVE;
+use crate::PROCEDURES;
 use crate::SECOND_PART;
 use crate::Shape;
 use crate::put;
@@ -8,7 +10,7 @@ use workspace::at;
 use workspace::index;
 ghost use mathlib.Core.Path.{_≡_};
 ghost use Prim.Native.Nat.{_≤_};
-ghost use Rattle.control.specs.Continuations.{joined, linkedParts, linkedStep, linked};
+ghost use Rattle.control.specs.Continuations.{joined, linkedParts, linkedStep, linkedFrom, bodiesJoined, linked};
 
 // Step k has continuation c.
 fn join(program: &mut [u32], k: u32, c: u32)
@@ -28,6 +30,7 @@ fn link_parts(program: &mut [u32], s: Shape, k: u32, c: u32, second: u32)
         Shape::Maker => {}
         Shape::While => join(program, k + 1, k),
         Shape::OnePart => join(program, k + 1, k),
+        Shape::Call => join(program, k + 1, k),
         Shape::Let => {
             join(program, k + 1, k);
             join(program, second, c)
@@ -58,15 +61,38 @@ fn link_step(program: &mut [u32], k: u32)
     link_parts(program, s, k, c, second);
 }
 
-// The continuations of a program of n steps.
-pub fn link(program: &mut [u32], n: u32)
+// The steps from 0 to n get the continuations of their parts.
+fn link_steps(program: &mut [u32], n: u32)
     requires { ⌜ n ≤ 256 ⌝ }
-    ensures { λ _. ⌜ now (program .exit) ≡ linked (now (program .entry)) n ⌝ }
+    ensures { λ _. ⌜ now (program .exit) ≡ linkedFrom (now (program .entry)) 0 n ⌝ }
 {
-    join(program, 0, FINISH);
     let mut k: u32 = 0;
     while k < n {
         link_step(program, k);
         k += 1;
     }
+}
+
+// The bodies of the procedures end their calls.
+fn link_bodies(program: &mut [u32], procedures: u32)
+    ensures { λ _. ⌜ now (program .exit) ≡ bodiesJoined (now (program .entry)) 0 procedures ⌝ }
+{
+    let mut f: u32 = 0;
+    while f < procedures {
+        let k = crate::first(program, f);
+        join(program, k, LEAVE);
+        f += 1;
+    }
+}
+
+// The continuations of a program of n steps with so many procedures.
+pub fn link(program: &mut [u32], n: u32, procedures: u32)
+    requires { ⌜ n ≤ 256 ⌝ }
+    ensures { λ _. ⌜ now (program .exit) ≡ linked (now (program .entry)) n procedures ⌝ }
+{
+    put(program, PROCEDURES, procedures);
+    link_bodies(program, procedures);
+    let k = crate::root(program);
+    join(program, k, FINISH);
+    link_steps(program, n);
 }

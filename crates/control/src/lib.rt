@@ -12,35 +12,52 @@ use workspace::at;
 use workspace::index;
 use workspace::rule_of;
 ghost use mathlib.Core.Path.{_≡_};
-ghost use Prim.Native.Nat.{_<_};
+ghost use Prim.Native.Nat.{_<_, _-_};
 ghost use lib.ListN.{length, set};
 ghost use Rattle.control.specs.Shapes.{shapeAt};
-ghost use Rattle.control.specs.Control.{variable as variableOf, behind as behindOf, second as secondOf, enteredBy, entered, halfWritten, returned, returnedSpace, turned, turnedSpace, found};
+ghost use Rattle.control.specs.Control.{variable as variableOf, behind as behindOf, second as secondOf, firstOf, rootOf, enteredBy, entered, halfWritten, left, returned, returnedSpace, turned, turnedSpace, found};
 
 // Behind the program's columns in `workspace`: the continuation of each step. A number below 256 is the step whose first part this
-// value is, one from 256 on the step whose second part it is, and 512 says that the thread finishes with it.
-pub const CONTINUATIONS: usize = 1280;
+// value is, one from 256 on the step whose second part it is, 512 says that the thread finishes with it, and 513 that an open call
+// ends with it.
+pub const CONTINUATIONS: usize = 2176;
 
 pub const SECOND_PART: u32 = 256;
 
 pub const FINISH: u32 = 512;
 
-// How many numbers hold a program.
-pub const PROGRAM: usize = 1536;
+pub const LEAVE: u32 = 513;
 
-// In the lent space, a row of 256 for each of 16 threads: the value of each variable; by step, the value that the first part of a
-// `write` gave. A value is 0 for any constant, since no step asks which constant it is, and n + 1 for the name n.
+// How many procedures the program has.
+pub const PROCEDURES: usize = 2448;
+
+// How many numbers hold a program.
+pub const PROGRAM: usize = 2449;
+
+// In the lent space, 66 rows for each of 16 threads: one for what runs outside of calls, one for each of 64 open calls, and one for
+// the call that is tried.
+pub const LEVELS: usize = 66;
+
+// The rows of all threads.
+pub const ROWS: u32 = 1056;
+
+// A row has 256 numbers: the value of each variable; by step, the value that the first part of a `write` gave. A value is 0 for any
+// constant, since no step asks which constant it is, and n + 1 for the name n.
 pub const ENVIRONMENTS: usize = 0;
 
-pub const KEPT: usize = 4096;
+pub const KEPT: usize = 270336;
 
 pub const ROW: usize = 256;
 
-// Where a thread is: while its next word is looked for, and once it is found.
+// By row: the step of the open call whose body runs there.
+pub const CALLS: usize = 540672;
+
+// Where a thread is, while its next word is looked for and once it is found; its variables stand in that row.
 pub struct Focus {
     pub mode: u32,
     pub at: u32,
     pub value: u32,
+    pub row: u32,
 }
 
 // Step `at` is evaluated.
@@ -73,11 +90,11 @@ pub fn put(space: &mut [u32], i: usize, v: u32)
     }
 }
 
-// The value of a variable in thread t.
-pub fn variable(space: &[u32], t: u32, x: u32) -> u32
-    ensures { λ r. ⌜ r ≡ variableOf (now (space .entry)) t x ⌝ }
+// The value of a variable in a row.
+pub fn variable(space: &[u32], row: u32, x: u32) -> u32
+    ensures { λ r. ⌜ r ≡ variableOf (now (space .entry)) row x ⌝ }
 {
-    at(space, ENVIRONMENTS + ROW * index(t) + index(x))
+    at(space, ENVIRONMENTS + ROW * index(row) + index(x))
 }
 
 // The shape of step k.
@@ -101,67 +118,96 @@ pub fn second(program: &[u32], k: u32) -> u32
     at(program, workspace::ENDS + 1 + index(k))
 }
 
+// The first step of the body of procedure f; behind the procedures, of the root.
+pub fn first(program: &[u32], f: u32) -> u32
+    ensures { λ r. ⌜ r ≡ firstOf (now (program .entry)) f ⌝ }
+{
+    at(program, workspace::PROC_FIRSTS + index(f))
+}
+
+// The first step of the root.
+pub fn root(program: &[u32]) -> u32
+    ensures { λ r. ⌜ r ≡ rootOf (now (program .entry)) ⌝ }
+{
+    first(program, at(program, PROCEDURES))
+}
+
 // From a step k of that shape, with continuation c and, of a variable, its value x.
-fn entered_by(s: Shape, k: u32, c: u32, x: u32) -> Focus
-    ensures { λ r. ⌜ r ≡ enteredBy s k c x ⌝ }
+fn entered_by(s: Shape, row: u32, k: u32, c: u32, x: u32) -> Focus
+    ensures { λ r. ⌜ r ≡ enteredBy s row k c x ⌝ }
 {
     match s {
         Shape::Variable => Focus {
             mode: RETURN,
             at: c,
             value: x,
+            row,
         },
         Shape::Constant => Focus {
             mode: RETURN,
             at: c,
             value: 0,
+            row,
         },
         Shape::Maker => Focus {
             mode: STOPPED,
             at: k,
             value: 0,
+            row,
         },
         Shape::While => Focus {
             mode: STOPPED,
             at: k,
             value: 0,
+            row,
         },
         Shape::OnePart => Focus {
             mode: ENTER,
             at: behind(k),
             value: 0,
+            row,
+        },
+        Shape::Call => Focus {
+            mode: ENTER,
+            at: behind(k),
+            value: 0,
+            row,
         },
         Shape::Let => Focus {
             mode: ENTER,
             at: behind(k),
             value: 0,
+            row,
         },
         Shape::If => Focus {
             mode: STOPPED,
             at: k,
             value: 0,
+            row,
         },
         Shape::Spawn => Focus {
             mode: ENTER,
             at: behind(k),
             value: 0,
+            row,
         },
         Shape::Write => Focus {
             mode: ENTER,
             at: behind(k),
             value: 0,
+            row,
         },
     }
 }
 
 // One turn from a step.
-fn enter(program: &[u32], space: &[u32], t: u32, k: u32) -> Focus
-    ensures { λ r. ⌜ r ≡ entered (now (program .entry)) (now (space .entry)) t k ⌝ }
+fn enter(program: &[u32], space: &[u32], row: u32, k: u32) -> Focus
+    ensures { λ r. ⌜ r ≡ entered (now (program .entry)) (now (space .entry)) row k ⌝ }
 {
     let s = shape_at(program, k);
     let c = at(program, CONTINUATIONS + index(k));
     let x = at(program, workspace::VALUES + index(k));
-    entered_by(s, k, c, variable(space, t, x))
+    entered_by(s, row, k, c, variable(space, row, x))
 }
 
 // Whether a continuation is the first part of a `write`.
@@ -174,15 +220,37 @@ fn half_written(program: &[u32], c: u32) -> bool
     false
 }
 
-// One turn from a value: to the word around it, or to the second part of a `write`.
-fn return_to(program: &[u32], c: u32, v: u32) -> Focus
-    ensures { λ r. ⌜ r ≡ returned (now (program .entry)) c v ⌝ }
+// The row of the caller.
+fn below(row: u32) -> u32
+    ensures { λ r. ⌜ r ≡ row - 1 ⌝ }
+{
+    if 0 < row { row - 1 } else { 0 }
+}
+
+// The open call of that row ends with the value v, and the call's step is this value, in the row before.
+fn leave(program: &[u32], space: &[u32], row: u32, v: u32) -> Focus
+    ensures { λ r. ⌜ r ≡ left (now (program .entry)) (now (space .entry)) row v ⌝ }
+{
+    let k = at(space, CALLS + index(row));
+    let c = at(program, CONTINUATIONS + index(k));
+    Focus {
+        mode: RETURN,
+        at: c,
+        value: v,
+        row: below(row),
+    }
+}
+
+// One turn from a value: to the word around it, to the second part of a `write`, or out of an open call.
+fn return_to(program: &[u32], space: &[u32], row: u32, c: u32, v: u32) -> Focus
+    ensures { λ r. ⌜ r ≡ returned (now (program .entry)) (now (space .entry)) row c v ⌝ }
 {
     if half_written(program, c) {
         return Focus {
             mode: ENTER,
             at: second(program, c),
             value: 0,
+            row,
         };
     }
     if c < SECOND_PART {
@@ -190,6 +258,7 @@ fn return_to(program: &[u32], c: u32, v: u32) -> Focus
             mode: READY,
             at: c,
             value: v,
+            row,
         };
     }
     if c < FINISH {
@@ -197,40 +266,47 @@ fn return_to(program: &[u32], c: u32, v: u32) -> Focus
             mode: READY,
             at: c - SECOND_PART,
             value: v,
+            row,
         };
     }
-    Focus {
-        mode: DONE,
-        at: 0,
-        value: v,
+    if c < LEAVE {
+        return Focus {
+            mode: DONE,
+            at: 0,
+            value: v,
+            row,
+        };
     }
+    leave(program, space, row, v)
 }
 
 // The value of the first part of a `write` is kept until its second part has one.
-fn keep(program: &[u32], space: &mut [u32], t: u32, c: u32, v: u32)
-    ensures { λ _. ⌜ now (space .exit) ≡ returnedSpace (now (program .entry)) (now (space .entry)) t c v ⌝ }
+fn keep(program: &[u32], space: &mut [u32], row: u32, c: u32, v: u32)
+    ensures { λ _. ⌜ now (space .exit) ≡ returnedSpace (now (program .entry)) (now (space .entry)) row c v ⌝ }
 {
     if half_written(program, c) {
-        put(space, KEPT + ROW * index(t) + index(c), v);
+        put(space, KEPT + ROW * index(row) + index(c), v);
     }
 }
 
 // One turn.
-fn turn(program: &[u32], space: &mut [u32], t: u32, f: Focus) -> Focus
-    ensures { λ r. ⌜ (r ≡ turned (now (program .entry)) (now (space .entry)) t f) × (now (space .exit) ≡ turnedSpace (now (program .entry)) (now (space .entry)) t f) ⌝ }
+fn turn(program: &[u32], space: &mut [u32], f: Focus) -> Focus
+    ensures { λ r. ⌜ (r ≡ turned (now (program .entry)) (now (space .entry)) f) × (now (space .exit) ≡ turnedSpace (now (program .entry)) (now (space .entry)) f) ⌝ }
 {
     let mode = f.mode;
     let k = f.at;
+    let row = f.row;
     if mode == ENTER {
-        return enter(program, space, t, k);
+        return enter(program, space, row, k);
     }
-    keep(program, space, t, k, f.value);
-    return_to(program, k, f.value)
+    let next = return_to(program, space, row, k, f.value);
+    keep(program, space, row, k, f.value);
+    next
 }
 
-// The next word of thread t: turns until it is found.
-pub fn find(program: &[u32], space: &mut [u32], t: u32, f: Focus) -> Focus
-    ensures { λ r. ⌜ found 2048 (now (program .entry)) (now (space .entry)) t f ≡ (r, now (space .exit)) ⌝ }
+// The next word of a thread: turns until it is found.
+pub fn find(program: &[u32], space: &mut [u32], f: Focus) -> Focus
+    ensures { λ r. ⌜ found 2048 (now (program .entry)) (now (space .entry)) f ≡ (r, now (space .exit)) ⌝ }
 {
     let mut g = f;
     let mut i: u32 = 0;
@@ -239,7 +315,7 @@ pub fn find(program: &[u32], space: &mut [u32], t: u32, f: Focus) -> Focus
         if STOPPED <= mode {
             return g;
         }
-        g = turn(program, space, t, g);
+        g = turn(program, space, g);
         i += 1;
     }
     g

@@ -1,4 +1,5 @@
-// The words by how they are evaluated, one shape for each form of expression of the calculus.
+// The words by how they are evaluated, one shape for each form of expression of the calculus; of the words with one part, a call by
+// itself, since its step enters a body.
 use workspace::Rule;
 ghost use mathlib.Core.Path.{_≡_};
 ghost use Rattle.control.specs.Shapes.{shapeOf, isWrite, isIf};
@@ -9,6 +10,7 @@ pub enum Shape {
     Maker,
     While,
     OnePart,
+    Call,
     Let,
     If,
     Spawn,
@@ -41,6 +43,7 @@ pub fn shape_of(r: Rule) -> Shape
         Rule::RDUNLOCK => Shape::OnePart,
         Rule::WRLOCK => Shape::OnePart,
         Rule::WRUNLOCK => Shape::OnePart,
+        Rule::CALL => Shape::Call,
     }
 }
 
@@ -53,6 +56,7 @@ pub fn is_write(s: Shape) -> bool
         Shape::Maker => false,
         Shape::While => false,
         Shape::OnePart => false,
+        Shape::Call => false,
         Shape::Let => false,
         Shape::If => false,
         Shape::Spawn => false,
@@ -69,6 +73,7 @@ pub fn is_if(s: Shape) -> bool
         Shape::Maker => false,
         Shape::While => false,
         Shape::OnePart => false,
+        Shape::Call => false,
         Shape::Let => false,
         Shape::If => true,
         Shape::Spawn => false,

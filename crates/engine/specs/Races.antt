@@ -7,7 +7,7 @@ use lib.ListN.{getD}
 use Rattle.spec.specs.Choice.{if_then_else_}
 use Rattle.workspace.specs.Layout.{wordsAt, ruleOf}
 use Rattle.workspace.specs.declared.Rule.{Rule}
-use Rattle.workspace.specs.declared.Rule.the-variants.{VAR, INT, LET, IF, WHILE, NEWT, SPAWN, JOIN, REF, WRITE, READ, NEWL, LCK, ULCK, NEWSEM, POST, WAIT, NEWRWLOCK, RDLOCK, RDUNLOCK, WRLOCK, WRUNLOCK}
+use Rattle.workspace.specs.declared.Rule.the-variants.{VAR, INT, LET, IF, WHILE, NEWT, SPAWN, JOIN, REF, WRITE, READ, NEWL, LCK, ULCK, NEWSEM, POST, WAIT, NEWRWLOCK, RDLOCK, RDUNLOCK, WRLOCK, WRUNLOCK, CALL}
 use Rattle.control.specs.declared.Focus.{Focus}
 use Rattle.reduction.specs.Slots.{slotAt}
 use Rattle.engine.specs.Focuses.{focusAt}
@@ -44,15 +44,16 @@ accessBy RDLOCK v = None
 accessBy RDUNLOCK v = None
 accessBy WRLOCK v = None
 accessBy WRUNLOCK v = None
+accessBy CALL v = None
 
-unfoldable pub accessAt : (p s : List ℕ) (t : ℕ) → Focus → Access
-accessAt p s t f =
+unfoldable pub accessAt : (p s : List ℕ) → Focus → Access
+accessAt p s f =
     if eqb (f .mode) 3
-    then (if eqb (slotAt s (subject p s t f) .kind) 2 then accessBy (ruleOf (getD p (wordsAt + f .at) 0)) (subject p s t f) else None)
+    then (if eqb (slotAt s (subject p s f) .kind) 2 then accessBy (ruleOf (getD p (wordsAt + f .at) 0)) (subject p s f) else None)
     else None
 
 unfoldable pub accessOf : (p s : List ℕ) (t : ℕ) → Access
-accessOf p s t = accessAt p s t (focusAt s t)
+accessOf p s t = accessAt p s (focusAt s t)
 
 -- ------------------------------------------------------------------ two threads
 

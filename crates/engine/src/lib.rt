@@ -8,6 +8,7 @@ use control::Focus;
 use control::UNROLLED;
 use control::put;
 use control::variable;
+use focuses::ROWS;
 use focuses::focus_at;
 use focuses::go_on;
 pub use races::Pair;
@@ -16,10 +17,11 @@ use reduction::Act;
 use reduction::gives;
 use threads::Found;
 use threads::Threads;
+use workspace::at;
 use workspace::index;
 ghost use mathlib.Core.Path.{_≡_};
 ghost use Prim.Native.Nat.{_<_};
-ghost use Rattle.engine.specs.Steps.{mayChoose as mayChooseOf, proceeded, copied, spawnedStep, joinedStep, actStep, stepped, startOf};
+ghost use Rattle.engine.specs.Steps.{mayChoose as mayChooseOf, proceeded, outcomeOf, ending, copied, spawnedStep, joinedStep, actStep, stepped, startOf};
 
 // How a step ended: it is done; it cannot be taken; or it is past a limit.
 pub enum Outcome {
@@ -61,25 +63,53 @@ fn proceed(program: &[u32], space: &mut [u32], threads: Threads, t: u32, f: Focu
     threads
 }
 
-// Thread u gets the variables of thread t.
-fn copy(space: &mut [u32], t: u32, u: u32)
-    ensures { λ _. ⌜ now (space .exit) ≡ copied (now (space .entry)) t u ⌝ }
+// The most calls that may be open in one thread.
+const CALL_LIMIT: usize = 64;
+
+// A step of thread t is done, unless it is past the limit: more calls are open in the thread now.
+fn moved(space: &[u32], threads: Threads, t: u32) -> Stepped
+    ensures { λ r. ⌜ r ≡ ending (outcomeOf (now (space .entry)) t) threads ⌝ }
+{
+    let i = index(t);
+    let row = index(at(space, ROWS + i));
+    if control::LEVELS * i + CALL_LIMIT < row {
+        return Stepped {
+            outcome: Outcome::Past,
+            threads,
+        };
+    }
+    Stepped {
+        outcome: Outcome::Moved,
+        threads,
+    }
+}
+
+// A row gets the variables of another.
+fn copy(space: &mut [u32], from: u32, to: u32)
+    ensures { λ _. ⌜ now (space .exit) ≡ copied (now (space .entry)) from to ⌝ }
 {
     let mut x: u32 = 0;
     while x < 256 {
-        let v = variable(space, t, x);
+        let v = variable(space, from, x);
         put(
             space,
-            control::ENVIRONMENTS + control::ROW * index(u) + index(x),
+            control::ENVIRONMENTS + control::ROW * index(to) + index(x),
             v,
         );
         x += 1;
     }
 }
 
-// The `spawn` of step k: a thread is added, with its e2, and the word becomes 0.
-fn spawn(program: &[u32], space: &mut [u32], threads: Threads, t: u32, k: u32, tid: u32) -> Stepped
-    ensures { λ r. ⌜ spawnedStep (now (program .entry)) (now (space .entry)) threads t k tid ≡ (r, now (space .exit)) ⌝ }
+// The `spawn` at f: a thread is added, with its e2 and no open call, and the word becomes 0.
+fn spawn(
+    program: &[u32],
+    space: &mut [u32],
+    threads: Threads,
+    t: u32,
+    f: Focus,
+    tid: u32,
+) -> Stepped
+    ensures { λ r. ⌜ spawnedStep (now (program .entry)) (now (space .entry)) threads t f tid ≡ (r, now (space .exit)) ⌝ }
 {
     let count = threads.count;
     if threads::LIMIT <= count {
@@ -89,33 +119,29 @@ fn spawn(program: &[u32], space: &mut [u32], threads: Threads, t: u32, k: u32, t
         };
     }
     let u = count as u32;
-    copy(space, t, u);
+    let row = (control::LEVELS * count) as u32;
+    copy(space, f.row, row);
     let body = Focus {
         mode: ENTER,
-        at: control::second(program, k),
+        at: control::second(program, f.at),
         value: 0,
+        row,
     };
     let added = proceed(program, space, threads.spawned(tid), u, body);
-    let zero = gives(program, k, 0);
+    let zero = gives(program, f.row, f.at, 0);
     let both = proceed(program, space, added, t, zero);
-    Stepped {
-        outcome: Outcome::Moved,
-        threads: both,
-    }
+    moved(space, both, t)
 }
 
-// The `join` of step k takes the lowest finished thread with that identifier, and becomes 0.
-fn join(program: &[u32], space: &mut [u32], threads: Threads, t: u32, k: u32, tid: u32) -> Stepped
-    ensures { λ r. ⌜ joinedStep (now (program .entry)) (now (space .entry)) threads t k tid ≡ (r, now (space .exit)) ⌝ }
+// The `join` at f takes the lowest finished thread with that identifier, and becomes 0.
+fn join(program: &[u32], space: &mut [u32], threads: Threads, t: u32, f: Focus, tid: u32) -> Stepped
+    ensures { λ r. ⌜ joinedStep (now (program .entry)) (now (space .entry)) threads t f tid ≡ (r, now (space .exit)) ⌝ }
 {
     match threads.lowest(tid) {
         Found::At(i) => {
-            let zero = gives(program, k, 0);
+            let zero = gives(program, f.row, f.at, 0);
             let after = proceed(program, space, threads.joined(i), t, zero);
-            Stepped {
-                outcome: Outcome::Moved,
-                threads: after,
-            }
+            moved(space, after, t)
         }
         Found::Nothing => Stepped {
             outcome: Outcome::Stuck,
@@ -124,27 +150,24 @@ fn join(program: &[u32], space: &mut [u32], threads: Threads, t: u32, k: u32, ti
     }
 }
 
-// What is left of the step of thread t at step k.
+// What is left of the step of thread t at f.
 fn finish_step(
     program: &[u32],
     space: &mut [u32],
     threads: Threads,
     t: u32,
-    k: u32,
+    f: Focus,
     a: Act,
 ) -> Stepped
-    ensures { λ r. ⌜ actStep (now (program .entry)) (now (space .entry)) threads t k a ≡ (r, now (space .exit)) ⌝ }
+    ensures { λ r. ⌜ actStep (now (program .entry)) (now (space .entry)) threads t f a ≡ (r, now (space .exit)) ⌝ }
 {
     match a {
         Act::Go(g) => {
             let after = proceed(program, space, threads, t, g);
-            Stepped {
-                outcome: Outcome::Moved,
-                threads: after,
-            }
+            moved(space, after, t)
         }
-        Act::Spawn(tid) => spawn(program, space, threads, t, k, tid),
-        Act::Join(tid) => join(program, space, threads, t, k, tid),
+        Act::Spawn(tid) => spawn(program, space, threads, t, f, tid),
+        Act::Join(tid) => join(program, space, threads, t, f, tid),
         Act::Stuck => Stepped {
             outcome: Outcome::Stuck,
             threads,
@@ -163,8 +186,8 @@ pub fn step(program: &[u32], space: &mut [u32], threads: Threads, t: u32, choice
     if threads.runs(index(t)) {
         let f = focus_at(space, t);
         if may_choose(program, f, choice) {
-            let a = reduction::reduce(program, space, t, f, choice);
-            return finish_step(program, space, threads, t, f.at, a);
+            let a = reduction::reduce(program, space, f, choice);
+            return finish_step(program, space, threads, t, f, a);
         }
     }
     Stepped {
@@ -182,8 +205,9 @@ pub fn start(program: &[u32], space: &mut [u32]) -> Threads
     put(space, reduction::NEXT, 2);
     let root = Focus {
         mode: ENTER,
-        at: 0,
+        at: control::root(program),
         value: 0,
+        row: 0,
     };
     proceed(program, space, Threads::start(1), 0, root)
 }

@@ -56,6 +56,7 @@ fn access_by(r: Rule, v: u32) -> Access
         Rule::RDUNLOCK => Access::None,
         Rule::WRLOCK => Access::None,
         Rule::WRUNLOCK => Access::None,
+        Rule::CALL => Access::None,
     }
 }
 
@@ -66,7 +67,7 @@ fn access_of(program: &[u32], space: &[u32], t: u32) -> Access
     let f = focus_at(space, t);
     let k = f.at;
     if f.mode == READY {
-        let v = subject(program, space, t, f);
+        let v = subject(program, space, f);
         let x = slot_at(space, v);
         if x.kind == CELL {
             return access_by(

@@ -13,38 +13,51 @@ use Rattle.spec.specs.declared.Location.{Location}
 use Rattle.spec.specs.declared.MapNumber.{MapNumber}
 use Rattle.workspace.specs.Sheets.{HoldsSheets}
 use Rattle.workspace.proofs.Region.{region-part, changed-nothing}
-use Rattle.workspace.proofs.Sheets.{root-sized}
 use Rattle.filling.specs.GreatestMaps.{postsAt}
-use Rattle.filling.proofs.Pass.{pass-length}
-use Rattle.filling.proofs.Placed.{flow-steps}
-use Rattle.filling.proofs.Limits.{steps-few}
+use Rattle.filling.specs.FlowOf.{rootsOf}
+use Rattle.filling.proofs.Roots.{roots-counted}
+use Rattle.filling.proofs.Placed.{roots-steps, steps-sized}
+use Rattle.filling.proofs.Limits.{steps-few, procedures-few}
 use Rattle.pass.specs.declared.Column.{Column}
-use Rattle.pass.specs.Contract.{Fillable, Stored, FilledHere}
+use Rattle.pass.specs.declared.Given.{Given}
+use Rattle.pass.specs.Roots.{Stored}
+use Rattle.pass.specs.Contract.{Fillable, FilledHere}
 use Rattle.fill.specs.declared.maps.Found.the-variants.{Nothing, Large, Maps}
-use Rattle.fill.specs.FilledMaps.{Given}
+use Rattle.fill.specs.FilledMaps.{MapsDue}
 use Rattle.fill.specs.Columns.{Room, PostsStored, ColumnGiven, ColumnFilled}
 
 -- a post for each step
-pub posts-counted : {w ps : List ℕ} {steps denominator locations start : ℕ} (P : Program) (S : Split) (l : ℕ)
-    → HoldsSheets w steps denominator locations start P S → postsAt P S l ≡ some ps → length ps ≡ steps
-unfolding postsAt
-posts-counted P S l H found = pass-length _ _ found ∙ flow-steps S (record { 0 = l }) (P .root) ∙ root-sized H
+pub posts-counted : {w ps : List ℕ} {steps procedures denominator locations start : ℕ} (P : Program) (S : Split) (l : ℕ)
+    → HoldsSheets w steps procedures denominator locations start P S → postsAt P S l ≡ some ps → length ps ≡ steps
+unfolding postsAt rootsOf
+posts-counted P S l H found =
+    roots-counted (rootsOf S (record { 0 = l }) P) found
+    ∙ roots-steps S (record { 0 = l }) 0 (P .procedures) (P .root)
+    ∙ sym (H .stepsCounted ∙ steps-sized P (H .wellFormed))
 
-pub given-few : {w : List ℕ} {steps denominator locations maps start : ℕ} → Given w steps denominator locations maps start → steps ≤ 256
+pub given-procedures : {w : List ℕ} {steps procedures denominator locations maps start : ℕ}
+    → MapsDue w steps procedures denominator locations maps start → procedures ≤ 16
+given-procedures G = omega (arith, procedures-few (G .P) (G .held .sheets .wellFormed), G .held .sheets .proceduresCounted)
+
+pub given-few : {w : List ℕ} {steps procedures denominator locations maps start : ℕ}
+    → MapsDue w steps procedures denominator locations maps start → steps ≤ 256
 given-few G = omega (arith, steps-few (G .P) (G .held .sheets .wellFormed), G .held .sheets .stepsCounted)
 
 -- as many posts as steps stand in front of 256 places
-pub front-long : {w : List ℕ} {denominator locations maps start : ℕ} (steps : ℕ) (q : List ℕ) → Given w steps denominator locations maps start
-    → length q ≡ 256 → length (take steps q) ≡ steps
+pub front-long : {w : List ℕ} {procedures denominator locations maps start : ℕ} (steps : ℕ) (q : List ℕ)
+    → MapsDue w steps procedures denominator locations maps start → length q ≡ 256 → length (take steps q) ≡ steps
 front-long steps q G long = length-take-le steps q (omega (arith, given-few G))
 
 -- the column of a location in sheets with this denominator
 abbrev columnOf : Location → (denominator : ℕ) → Column
 columnOf p denominator = record { location = p; denominator = denominator }
 
-module _ (w : List ℕ) (steps denominator maps : ℕ) (start : MapNumber) (p : Location) where
-  pub column-fillable : (q : List ℕ) → ColumnGiven w steps denominator maps (start .0) (p .0) → length q ≡ 256
-      → Fillable w (columnOf p denominator) start q
+abbrev givenOf : (procedures : ℕ) → MapNumber → Given
+givenOf procedures start = record { procedures = procedures; start = start }
+
+module _ (w : List ℕ) (steps procedures denominator maps : ℕ) (start : MapNumber) (p : Location) where
+  pub column-fillable : (q : List ℕ) → ColumnGiven w steps procedures denominator maps (start .0) (p .0) → length q ≡ 256
+      → Fillable w (columnOf p denominator) (givenOf procedures start) q
   column-fillable q G long = record {
     P = G .given .P;
     S = G .given .S;
@@ -52,7 +65,7 @@ module _ (w : List ℕ) (steps denominator maps : ℕ) (start : MapNumber) (p : 
     long = long;
   }
 
-  pub column-room : (posts : List ℕ) → ColumnGiven w steps denominator maps (start .0) (p .0) → length posts ≡ steps → Room w posts maps (p .0)
+  pub column-room : (posts : List ℕ) → ColumnGiven w steps procedures denominator maps (start .0) (p .0) → length posts ≡ steps → Room w posts maps (p .0)
   column-room posts G long =
       let sheets = G .given .held .sheets in
       record {
@@ -61,33 +74,33 @@ module _ (w : List ℕ) (steps denominator maps : ℕ) (start : MapNumber) (p : 
         within = omega (arith, G .within, sheets .locationsGiven, sheets .inRange .locations);
       }
 
-  module _ (q : List ℕ) (r : Bool) (F : FilledHere w (columnOf p denominator) start q r) where
-    posts-here : (P : Program) (S : Split) (locations : ℕ) → HoldsSheets w steps denominator locations (start .0) P S → (p .0) < locations
-        → Stored (postsAt P S (p .0)) q r
+  module _ (q : List ℕ) (r : Bool) (F : FilledHere w (columnOf p denominator) (givenOf procedures start) q r) where
+    posts-here : (P : Program) (S : Split) (locations : ℕ) → HoldsSheets w steps procedures denominator locations (start .0) P S → (p .0) < locations
+        → Stored (postsAt P S (p .0)) 0 q r
     posts-here P S locations H l = F .answers P S (record { steps = steps; locations = locations; sheets = H; within = l })
 
-    pub column-nothing : r ≡ false → ColumnFilled w steps denominator maps (start .0) (p .0) Nothing w
+    pub column-nothing : r ≡ false → ColumnFilled w steps procedures denominator maps (start .0) (p .0) Nothing w
     column-nothing e = record {
       one = record { behind = changed-nothing _ _ w; others = λ m l h n. refl };
       answers = λ P S locations H l. not-found (postsAt P S (p .0)) (posts-here P S locations H l);
     }
       where
-        not-found : (o : Option (List ℕ)) → Stored o q r → o ≡ none
+        not-found : (o : Option (List ℕ)) → Stored o 0 q r → o ≡ none
         not-found none s = refl
         not-found (some ps) s = let clash : _≡_ {A = ℕ} 0 1 = cc in absurd (omega arith)
 
     -- the posts that are found stand in front
     module _ (e : r ≡ true) where
-      found-here : (P : Program) (S : Split) (locations : ℕ) → HoldsSheets w steps denominator locations (start .0) P S → (p .0) < locations
+      found-here : (P : Program) (S : Split) (locations : ℕ) → HoldsSheets w steps procedures denominator locations (start .0) P S → (p .0) < locations
           → (ps : List ℕ) × (postsAt P S (p .0) ≡ some ps) × (take steps q ≡ ps)
       found-here P S locations H l = go (postsAt P S (p .0)) refl (posts-here P S locations H l)
         where
-          go : (o : Option (List ℕ)) → postsAt P S (p .0) ≡ o → Stored o q r → (ps : List ℕ) × (postsAt P S (p .0) ≡ some ps) × (take steps q ≡ ps)
+          go : (o : Option (List ℕ)) → postsAt P S (p .0) ≡ o → Stored o 0 q r → (ps : List ℕ) × (postsAt P S (p .0) ≡ some ps) × (take steps q ≡ ps)
           go none h s = let clash : _≡_ {A = ℕ} 0 1 = cc in absurd (omega arith)
           go (some ps) h s = (ps, h, ap (λ (n : ℕ). take n q) (sym (posts-counted P S (p .0) H h)) ∙ region-part q 0 ps (s .1))
 
       module _ (w′ : List ℕ) (s : Bool) (T : PostsStored (take steps q) maps (p .0) s w w′) where
-        pub column-large : s ≡ false → ColumnFilled w steps denominator maps (start .0) (p .0) Large w′
+        pub column-large : s ≡ false → ColumnFilled w steps procedures denominator maps (start .0) (p .0) Large w′
         column-large f = record {
           one = T .one;
           answers = λ P S locations H l.
@@ -95,7 +108,7 @@ module _ (w : List ℕ) (steps denominator maps : ℕ) (start : MapNumber) (p : 
               (ps, found, rw front at (sym (T .fits) ∙ f));
         }
 
-        pub column-maps : s ≡ true → ColumnFilled w steps denominator maps (start .0) (p .0) Maps w′
+        pub column-maps : s ≡ true → ColumnFilled w steps procedures denominator maps (start .0) (p .0) Maps w′
         column-maps f = record {
           one = T .one;
           answers = λ P S locations H l.

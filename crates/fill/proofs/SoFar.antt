@@ -16,9 +16,9 @@ use Rattle.workspace.proofs.Sheets.{sheets-kept}
 use Rattle.filling.specs.GreatestMaps.{postsAt}
 use Rattle.filling.specs.Answer.{numberLimit, mapAtMost}
 use Rattle.filling.proofs.Found.{some-injective}
-use Rattle.filling.proofs.Limits.{steps-few}
+use Rattle.filling.proofs.Limits.{steps-few, procedures-few}
 use Rattle.fill.specs.declared.maps.Found.the-variants.{Large, Maps}
-use Rattle.fill.specs.FilledMaps.{HoldsGiven, Given}
+use Rattle.fill.specs.FilledMaps.{HoldsGiven, MapsDue}
 use Rattle.fill.specs.Columns.{OneColumn, ColumnStored, ColumnFilled}
 
 -- the columns of the locations below l: all are found; if none has been too large, all are stored
@@ -29,28 +29,29 @@ pub record Columns (P : Program) (S : Split) (w : List ℕ) (maps l : ℕ) (larg
   pub over : large ≡ true → (j : ℕ) × (j < l) × ((ps : List ℕ) × (postsAt P S j ≡ some ps) × (mapAtMost numberLimit ps ≡ false))
 
 -- from w₀ to w, for whichever sheets w₀ holds
-pub record SoFar (w₀ w : List ℕ) (steps denominator locations maps start l : ℕ) (large : Bool) : Type 0 where
+pub record SoFar (w₀ w : List ℕ) (steps procedures denominator locations maps start l : ℕ) (large : Bool) : Type 0 where
   pub behind : ChangedWithin (mapsAt + stride * maps) (mapsAt + stride * emptyMap) w₀ w
-  pub columns : (P : Program) (S : Split) → HoldsGiven w₀ steps denominator locations maps start P S → Columns P S w maps l large
+  pub columns : (P : Program) (S : Split) → HoldsGiven w₀ steps procedures denominator locations maps start P S → Columns P S w maps l large
 
 -- a column stays when another is stored
 stored-still : {w w′ ps : List ℕ} {maps l j : ℕ} → OneColumn maps l w w′ → j < stride → (j ≡ l → ⊥) → ColumnStored w maps j ps → ColumnStored w′ maps j ps
 stored-still {maps = maps} O h n C = record { at = λ i k. O .others (maps + i) _ h n ∙ C .at i k }
 
-module _ {w₀ w : List ℕ} {steps denominator locations maps start : ℕ} where
+module _ {w₀ w : List ℕ} {steps procedures denominator locations maps start : ℕ} where
   pub holds-still : ChangedWithin (mapsAt + stride * maps) (mapsAt + stride * emptyMap) w₀ w → {P : Program} {S : Split}
-      → HoldsGiven w₀ steps denominator locations maps start P S → HoldsGiven w steps denominator locations maps start P S
+      → HoldsGiven w₀ steps procedures denominator locations maps start P S → HoldsGiven w steps procedures denominator locations maps start P S
   holds-still c {P} {S} H = record {
-    sheets = sheets-kept c (omega (arith, H .mapsGiven)) (omega (arith, steps-few P (H .sheets .wellFormed), H .sheets .stepsCounted)) (H .sheets);
+    sheets = sheets-kept c (omega (arith, H .mapsGiven)) (omega (arith, steps-few P (H .sheets .wellFormed), H .sheets .stepsCounted))
+        (omega (arith, procedures-few P (H .sheets .wellFormed), H .sheets .proceduresCounted)) (H .sheets);
     mapsGiven = H .mapsGiven;
   }
 
   pub given-still : ChangedWithin (mapsAt + stride * maps) (mapsAt + stride * emptyMap) w₀ w
-      → Given w₀ steps denominator locations maps start → Given w steps denominator locations maps start
+      → MapsDue w₀ steps procedures denominator locations maps start → MapsDue w steps procedures denominator locations maps start
   given-still c G = record { P = G .P; S = G .S; held = holds-still c (G .held); few = G .few; long = c .long ∙ G .long }
 
-pub none-so-far : (w : List ℕ) (steps denominator locations maps start : ℕ) → SoFar w w steps denominator locations maps start 0 false
-none-so-far w steps denominator locations maps start = record {
+pub none-so-far : (w : List ℕ) (steps procedures denominator locations maps start : ℕ) → SoFar w w steps procedures denominator locations maps start 0 false
+none-so-far w steps procedures denominator locations maps start = record {
   behind = changed-nothing _ _ w;
   columns = λ P S H. record {
     found = λ j h. absurd (omega arith);
@@ -59,8 +60,8 @@ none-so-far w steps denominator locations maps start = record {
   };
 }
 
-module _ (w₀ w w′ : List ℕ) (steps denominator locations maps start l : ℕ) (large : Bool)
-    (Z : SoFar w₀ w steps denominator locations maps start l large) (within : l < locations) where
+module _ (w₀ w w′ : List ℕ) (steps procedures denominator locations maps start l : ℕ) (large : Bool)
+    (Z : SoFar w₀ w steps procedures denominator locations maps start l large) (within : l < locations) where
   -- the posts of one more location are found
   found-more : {P : Program} {S : Split} → Columns P S w maps l large → (ps : List ℕ) × (postsAt P S l ≡ some ps)
       → (j : ℕ) → j < l + 1 → (qs : List ℕ) × (postsAt P S j ≡ some qs)
@@ -71,7 +72,7 @@ module _ (w₀ w w′ : List ℕ) (steps denominator locations maps start l : �
       (eq-or-lt-of-le (omega arith))
 
   -- and have a number that is too large
-  pub large-again : ColumnFilled w steps denominator maps start l Large w′ → SoFar w₀ w′ steps denominator locations maps start (l + 1) true
+  pub large-again : ColumnFilled w steps procedures denominator maps start l Large w′ → SoFar w₀ w′ steps procedures denominator locations maps start (l + 1) true
   large-again F = record {
     behind = changed-then _ _ (Z .behind) (F .one .behind);
     columns = λ P S H.
@@ -84,13 +85,13 @@ module _ (w₀ w w′ : List ℕ) (steps denominator locations maps start l : �
   }
 
   -- or are stored
-  pub maps-again : ColumnFilled w steps denominator maps start l Maps w′ → SoFar w₀ w′ steps denominator locations maps start (l + 1) large
+  pub maps-again : ColumnFilled w steps procedures denominator maps start l Maps w′ → SoFar w₀ w′ steps procedures denominator locations maps start (l + 1) large
   maps-again F = record {
     behind = changed-then _ _ (Z .behind) (F .one .behind);
     columns = columns;
   }
     where
-      columns : (P : Program) (S : Split) → HoldsGiven w₀ steps denominator locations maps start P S → Columns P S w′ maps (l + 1) large
+      columns : (P : Program) (S : Split) → HoldsGiven w₀ steps procedures denominator locations maps start P S → Columns P S w′ maps (l + 1) large
       columns P S H =
           let C = Z .columns P S H in
           let few : locations ≤ stride = omega (arith, H .sheets .locationsGiven, H .sheets .inRange .locations) in

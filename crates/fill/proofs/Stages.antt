@@ -18,10 +18,8 @@ use Rattle.spec.specs.declared.Purpose.the-variants.{Fill}
 use Rattle.spec.specs.declared.Refusal.{Refusal}
 use Rattle.spec.specs.declared.Refusal.the-variants.{ShortWorkspace, NoAfterMaps, TooLarge, TooManyMaps}
 use Rattle.spec.proofs.Outcomes.{bind-bind, goes-on-bind}
-use Rattle.workspace.specs.Layout.{rowTypesAt, workSize}
+use Rattle.workspace.specs.Layout.{workSize}
 use Rattle.workspace.specs.Sheets.{headerTold, HoldsSheets}
-use Rattle.workspace.proofs.Region.{changed-wider}
-use Rattle.workspace.proofs.Held.{program-kept}
 use Rattle.workspace.specs.declared.Header.{Header}
 use Rattle.split.proofs.Found.{types-told}
 use Rattle.reading.specs.Answers.{HoldsBoth, SheetsAnswered}
@@ -32,15 +30,16 @@ use Rattle.conditions.specs.Outcome.{outcome}
 use Rattle.rules.specs.Contract.{ruledFor, Ruled}
 use Rattle.conditions.specs.declared.Ruling.{Ruling}
 use Rattle.conditions.specs.declared.Ruling.the-variants as ruling
-use Rattle.rules.proofs.OneStep.{split-kept}
+use Rattle.rules.proofs.Procedures.{sheets-stay}
 use Rattle.writer.specs.Sheet.{written}
 use Rattle.sheets.specs.Contract.{HoldsSheet, HoldsSome as HoldsSheetOfSome}
 use Rattle.filling.specs.Filled.{filled}
 use Rattle.filling.specs.GreatestMaps.{greatestMaps}
 use Rattle.filling.specs.Answer.{givenLimit, numberLimit, allAtMost, foundOr, filledText, fill}
 use Rattle.filling.proofs.Filling.{found-exactly-greatest}
+use Rattle.filling.proofs.Limits.{procedures-few}
 use Rattle.filling.proofs.Reasons.{no-after-maps, large-number, sheets-refused}
-use Rattle.fill.specs.FilledMaps.{HoldsGiven, Given, FilledAs, FilledMaps}
+use Rattle.fill.specs.FilledMaps.{HoldsGiven, MapsDue, FilledAs, FilledMaps}
 use Rattle.fill.specs.Stages.{Tells, grownBy, fitted, SheetTold, SheetsGiven, MapsGiven, TextTold, afterReading, SheetsTold}
 use Rattle.fill.specs.declared.Filled.{Filled}
 use Rattle.fill.specs.declared.Filled.the-variants.{Refused}
@@ -59,18 +58,18 @@ maps-told : (S : Split) (h : Header) → S .header ≡ headerTold h → h .maps 
 unfolding headerTold
 maps-told S h e = sym (ap (λ H. H .maps) e)
 
-pub given-held : {w : List ℕ} {header : Header} {steps : ℕ} {P : Program} {S : Split} → HoldsBoth w header steps P S
-    → HoldsGiven w steps (header .denominator) (header .locations) (header .maps) (header .start .0) P S
+pub given-held : {w : List ℕ} {header : Header} {steps procedures : ℕ} {P : Program} {S : Split} → HoldsBoth w header steps procedures P S
+    → HoldsGiven w steps procedures (header .denominator) (header .locations) (header .maps) (header .start .0) P S
 given-held {header = header} {S = S} B = record { sheets = B .sheets; mapsGiven = maps-told S header (B .headed) }
 
-pub maps-given : {w : List ℕ} {header : Header} {steps : ℕ} → MapsGiven w header steps
-    → Given w steps (header .denominator) (header .locations) (header .maps) (header .start .0)
+pub maps-given : {w : List ℕ} {header : Header} {steps procedures : ℕ} → MapsGiven w header steps procedures
+    → MapsDue w steps procedures (header .denominator) (header .locations) (header .maps) (header .start .0)
 maps-given G = let X = G .sheets in record { P = X .P; S = X .S; held = given-held (X .holds); few = G .fewMaps; long = X .long }
 
 -- the split with its greatest after-maps, once the work space holds it
-module _ {w w′ : List ℕ} {header : Header} {steps : ℕ} {P : Program} {S : Split} (B : HoldsBoth w header steps P S)
+module _ {w w′ : List ℕ} {header : Header} {steps procedures : ℕ} {P : Program} {S : Split} (B : HoldsBoth w header steps procedures P S)
     (γ : List Map) (found : greatestMaps P S ≡ some γ)
-    (H : HoldsSheets w′ steps (header .denominator) (header .locations) (header .start .0) P (filled S γ)) where
+    (H : HoldsSheets w′ steps procedures (header .denominator) (header .locations) (header .start .0) P (filled S γ)) where
   step-maps : length γ ≡ steps
   step-maps =
       let G = found-exactly-greatest P S (B .sheets .wellFormed) (B .sheets .inRange) γ .0 found in
@@ -80,13 +79,15 @@ module _ {w w′ : List ℕ} {header : Header} {steps : ℕ} {P : Program} {S : 
   unfolding filled headerTold grownBy
   grown-header = rw (B .headed, step-maps)
 
-  filled-held : HoldsSheet w′ (grownBy steps header) steps (filled S γ)
+  filled-held : HoldsSheet w′ (grownBy steps header) procedures steps (filled S γ)
   filled-held = record {
-    program = P .steps;
+    program = P;
     inRange = H .inRange;
     split = H .split;
     headed = grown-header;
+    proceduresCounted = sym (H .proceduresCounted);
     counted = sym (H .stepsCounted);
+    few = omega (arith, H .proceduresCounted, procedures-few P (H .wellFormed));
   }
 
 small-text : (buffer : ℕ) (P : Program) (S : Split) (γ : List Map) → greatestMaps P S ≡ some γ → allAtMost numberLimit γ ≡ true
@@ -94,29 +95,29 @@ small-text : (buffer : ℕ) (P : Program) (S : Split) (γ : List Map) → greate
 unfolding filledText foundOr demand fitted _>>=_
 small-text buffer P S γ found small = rw (found, small)
 
-module _ {w w′ : List ℕ} (header : Header) {steps : ℕ} {r : Found}
-    (F : FilledMaps w steps (header .denominator) (header .locations) (header .maps) (header .start .0) r w′) where
-  filled-as : {r′ : Found} → r ≡ r′ → (P : Program) (S : Split) → HoldsBoth w header steps P S
-      → FilledAs steps (header .denominator) (header .locations) (header .start .0) P S w′ r′
-  filled-as e P S B = along (FilledAs _ _ _ _ P S w′) e (F .answers P S (given-held B))
+module _ {w w′ : List ℕ} (header : Header) {steps procedures : ℕ} {r : Found}
+    (F : FilledMaps w steps procedures (header .denominator) (header .locations) (header .maps) (header .start .0) r w′) where
+  filled-as : {r′ : Found} → r ≡ r′ → (P : Program) (S : Split) → HoldsBoth w header steps procedures P S
+      → FilledAs steps procedures (header .denominator) (header .locations) (header .start .0) P S w′ r′
+  filled-as e P S B = along (FilledAs _ _ _ _ _ P S w′) e (F .answers P S (given-held B))
 
-  pub nothing-told : (buffer : List ℕ) → r ≡ Nothing → TextTold w header steps buffer buffer (Refused NoAfterMaps)
+  pub nothing-told : (buffer : List ℕ) → r ≡ Nothing → TextTold w header steps procedures buffer buffer (Refused NoAfterMaps)
   nothing-told buffer e P S B = told-as (sym (no-after-maps _ P S (filled-as e P S B))) (refusal-told NoAfterMaps buffer)
 
-  pub large-told : (buffer : List ℕ) → r ≡ Large → TextTold w header steps buffer buffer (Refused TooLarge)
+  pub large-told : (buffer : List ℕ) → r ≡ Large → TextTold w header steps procedures buffer buffer (Refused TooLarge)
   unfolding numberLimit
   large-told buffer e P S B =
       let (γ, found, large) = filled-as e P S B in
       told-as (sym (large-number _ P S γ found large)) (refusal-told TooLarge buffer)
 
-  pub some-filled : {whole : Header} → r ≡ Maps → whole ≡ grownBy steps header → MapsGiven w header steps → HoldsSheetOfSome w′ whole steps
+  pub some-filled : {whole : Header} → r ≡ Maps → whole ≡ grownBy steps header → MapsGiven w header steps procedures → HoldsSheetOfSome w′ whole procedures steps
   some-filled e is G =
       let X = G .sheets in
       let (γ, found, small, H) = filled-as e (X .P) (X .S) (X .holds) in
       rw is (record { S = filled (X .S) γ; holds = filled-held (X .holds) γ found H })
 
   pub maps-filled : {whole : Header} {before after : List ℕ} {f : Filled} → r ≡ Maps → whole ≡ grownBy steps header
-      → SheetTold w′ whole steps before after f → TextTold w header steps before after f
+      → SheetTold w′ whole steps procedures before after f → TextTold w header steps procedures before after f
   maps-filled e is told P S B =
       let (γ, found, small, H) = filled-as e P S B in
       told-as (sym (small-text _ P S γ found small)) (told (filled S γ) (rw is (filled-held B γ found H)))
@@ -141,60 +142,45 @@ module _ (buffer : ℕ) (P : Program) (S : Split) where
       → afterReading buffer P S ≡ (outcome r′ >>= λ holds. filledText buffer P S)
   after-rules h e same = few-maps h ∙ ap (_>>= λ holds. filledText buffer P S) (sym e ∙ ap outcome same)
 
-module _ (w : List ℕ) (header : Header) (steps : ℕ) where
-  pub many-told : (buffer : List ℕ) → 256 < header .maps → SheetsTold w header steps buffer buffer (Refused TooManyMaps)
+module _ (w : List ℕ) (header : Header) (steps procedures : ℕ) where
+  pub many-told : (buffer : List ℕ) → 256 < header .maps → SheetsTold w header steps procedures buffer buffer (Refused TooManyMaps)
   many-told buffer h P S B =
       told-as (sym (many _ P S (omega (arith, maps-told S header (B .headed), h)))) (refusal-told TooManyMaps buffer)
 
   module _ {w′ : List ℕ} {r : Ruling} (few : header .maps ≤ 256)
-      (R : Ruled w Fill steps header r w′) where
-    given-few : {P : Program} {S : Split} → HoldsBoth w header steps P S → S .header .maps ≤ 256
+      (R : Ruled w Fill steps procedures header r w′) where
+    given-few : {P : Program} {S : Split} → HoldsBoth w header steps procedures P S → S .header .maps ≤ 256
     given-few {S = S} B = omega (arith, maps-told S header (B .headed), few)
 
     -- the rules leave the sheets as they stand
-    both-kept : steps ≤ 256 → {P : Program} {S : Split} → HoldsBoth w header steps P S → HoldsBoth w′ header steps P S
-    both-kept short {P} {S} B =
-        let H = B .sheets in
-        let rows : length (S .rows) ≤ 256 = omega (arith, H .inRange .rowsCounted, H .stepsCounted) in
-        record {
-          sheets = record {
-            programText = H .programText;
-            wellFormed = H .wellFormed;
-            inRange = H .inRange;
-            program = program-kept (changed-wider rowTypesAt workSize (omega arith) (omega arith) (R .changed)) (H .wellFormed .listing) (omega (arith, H .stepsCounted)) (H .program);
-            split = split-kept S (P .steps) (H .inRange) rows (R .changed) (H .split);
-            stepsCounted = H .stepsCounted;
-            denominatorGiven = H .denominatorGiven;
-            locationsGiven = H .locationsGiven;
-            startGiven = H .startGiven;
-          };
-          headed = B .headed;
-        }
+    both-kept : steps ≤ 256 → procedures ≤ 16 → {P : Program} {S : Split} → HoldsBoth w header steps procedures P S
+        → HoldsBoth w′ header steps procedures P S
+    both-kept few procs B = record { sheets = sheets-stay (R .changed) few procs (B .sheets); headed = B .headed }
 
-    pub maps-kept : length w′ ≡ length w → SheetsGiven w header steps → MapsGiven w′ header steps
+    pub maps-kept : length w′ ≡ length w → SheetsGiven w header steps procedures → MapsGiven w′ header steps procedures
     maps-kept same X = record {
-      sheets = record { long = same ∙ X .long; few = X .few; small = X .small; P = X .P; S = X .S; holds = both-kept (X .few) (X .holds) };
+      sheets = record { long = same ∙ X .long; few = X .few; fewProcedures = X .fewProcedures; small = X .small; P = X .P; S = X .S; holds = both-kept (X .few) (X .fewProcedures) (X .holds) };
       fewMaps = few;
     }
 
-    pub rule-refused : (buffer : List ℕ) (x : Refusal) → r ≡ ruling.Refused x → SheetsTold w header steps buffer buffer (Refused x)
+    pub rule-refused : (buffer : List ℕ) (x : Refusal) → r ≡ ruling.Refused x → SheetsTold w header steps procedures buffer buffer (Refused x)
     unfolding outcome _>>=_
     rule-refused buffer x e P S B =
         told-as (sym (after-rules _ P S (given-few B) (R .answers P S (B .sheets) (types-told S header (B .headed))) e)) (refusal-told x buffer)
 
-    pub rules-met : {before after : List ℕ} {f : Filled} → steps ≤ 256 → r ≡ ruling.Met → TextTold w′ header steps before after f
-        → SheetsTold w header steps before after f
+    pub rules-met : {before after : List ℕ} {f : Filled} → steps ≤ 256 → procedures ≤ 16 → r ≡ ruling.Met → TextTold w′ header steps procedures before after f
+        → SheetsTold w header steps procedures before after f
     unfolding outcome _>>=_
-    rules-met short e told P S B =
-        told-as (sym (after-rules _ P S (given-few B) (R .answers P S (B .sheets) (types-told S header (B .headed))) e)) (told P S (both-kept short B))
+    rules-met few procs e told P S B =
+        told-as (sym (after-rules _ P S (given-few B) (R .answers P S (B .sheets) (types-told S header (B .headed))) e)) (told P S (both-kept few procs B))
 
 -- ------------------------------------------------------------------ the sheets
 
 module _ (p s w : List ℕ) (answered : Reading) (told : SheetsAnswered Fill p s w answered) where
-  pub sheets-given : {steps : ℕ} {header : Header} → answered ≡ reading.Held steps header → length w ≡ workSize → SheetsGiven w header steps
+  pub sheets-given : {steps procedures : ℕ} {header : Header} → answered ≡ reading.Held steps procedures header → length w ≡ workSize → SheetsGiven w header steps procedures
   sheets-given e long =
       let H = held-by Fill p s w answered told e in
-      record { long = long; few = H .few; small = H .small; P = H .P; S = H .S; holds = H .holds }
+      record { long = long; few = H .few; fewProcedures = H .fewProcedures; small = H .small; P = H .P; S = H .S; holds = H .holds }
 
   module _ (before : List ℕ) where
     pub sheet-refused : {r : Refusal} → answered ≡ reading.Refused r → Tells (fill workspaceSize (length before) p s) before before (Refused r)
@@ -202,8 +188,8 @@ module _ (p s w : List ℕ) (answered : Reading) (told : SheetsAnswered Fill p s
     sheet-refused e =
         told-as (sym (sheets-refused workSize (length before) p s (omega arith) _ (refused-by Fill p s w answered told e))) (refusal-told _ before)
 
-    pub sheets-filled : {steps : ℕ} {header : Header} {after : List ℕ} {f : Filled} → answered ≡ reading.Held steps header
-        → SheetsTold w header steps before after f → Tells (fill workspaceSize (length before) p s) before after f
+    pub sheets-filled : {steps procedures : ℕ} {header : Header} {after : List ℕ} {f : Filled} → answered ≡ reading.Held steps procedures header
+        → SheetsTold w header steps procedures before after f → Tells (fill workspaceSize (length before) p s) before after f
     unfolding fill afterReading workspaceSize
     sheets-filled e filled =
         let H = held-by Fill p s w answered told e in

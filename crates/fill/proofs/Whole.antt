@@ -24,7 +24,7 @@ use Rattle.filling.specs.Answer.{numberLimit, mapAtMost, allAtMost}
 use Rattle.filling.proofs.Found.{some-injective, finds-bind}
 use Rattle.filling.proofs.Kept.{rows-post}
 use Rattle.filling.proofs.InRange.{rows-counted, filled-in-range}
-use Rattle.filling.proofs.Limits.{steps-few}
+use Rattle.filling.proofs.Limits.{steps-few, procedures-few}
 use Rattle.filling.proofs.Columns.{each-found, find-each, miss-one, maps-counted, maps-wide}
 use Rattle.fill.specs.declared.maps.Found.the-variants.{Nothing, Large, Maps}
 use Rattle.fill.specs.FilledMaps.{HoldsGiven, FilledMaps}
@@ -49,8 +49,8 @@ starts-same m (r ∷ rs) = ap (startNumber (r .start) ∷_) (starts-same (m + 1)
 -- ------------------------------------------------------------------ the filled sheets
 
 -- the maps γ stand behind the given ones in w, and from w to w′ the steps are made to show them
-module _ (w w′ : List ℕ) (steps denominator locations maps start : ℕ) (P : Program) (S : Split) (γ : List Map)
-    (H : HoldsGiven w steps denominator locations maps start P S) (T : PostsShown steps maps w w′) (few : maps ≤ 256) (long : length w ≡ workSize)
+module _ (w w′ : List ℕ) (steps procedures denominator locations maps start : ℕ) (P : Program) (S : Split) (γ : List Map)
+    (H : HoldsGiven w steps procedures denominator locations maps start P S) (T : PostsShown steps maps w w′) (few : maps ≤ 256) (long : length w ≡ workSize)
     (counted : length γ ≡ length (P .steps)) (wide : (i : ℕ) → i < length γ → length (getD γ i []) ≡ S .header .locations)
     (stands : (i : ℕ) → i < length γ → (j : ℕ) → j < S .header .locations → mapCell w (record { 0 = maps + i }) j ≡ getD (getD γ i []) j 0) where
   steps-within : length (P .steps) ≤ 256
@@ -100,6 +100,10 @@ module _ (w w′ : List ℕ) (steps denominator locations maps start : ℕ) (P :
     seconds = region-kept (T .changed) (inr (omega arith)) (H .sheets .split .seconds);
     maps = map-held;
     empty = region-kept (T .changed) (inr (omega arith)) (H .sheets .split .empty);
+    befores = region-kept (T .changed) (inr (omega arith)) (H .sheets .split .befores);
+    arguments = region-kept (T .changed) (inr (omega arith)) (H .sheets .split .arguments);
+    afters = region-kept (T .changed) (inr (omega arith)) (H .sheets .split .afters);
+    results = region-kept (T .changed) (inr (omega arith)) (H .sheets .split .results);
     rowTypes =
         rw (types-same (S .header .maps) (S .rows))
         (region-kept (T .changed) (inl (omega (arith, rows, length-map (S .rows) (λ (r : Row). r .type .0)))) (H .sheets .split .rowTypes));
@@ -110,17 +114,18 @@ module _ (w w′ : List ℕ) (steps denominator locations maps start : ℕ) (P :
       rows : length (S .rows) ≤ 256
       rows = omega (arith, H .sheets .inRange .rowsCounted, steps-within)
 
-  pub sheets-held : HoldsSheets w′ steps denominator locations start P (filled S γ)
+  pub sheets-held : HoldsSheets w′ steps procedures denominator locations start P (filled S γ)
   unfolding filled
   sheets-held = record {
     programText = H .sheets .programText;
     wellFormed = H .sheets .wellFormed;
     inRange = filled-in-range (record { inRange = H .sheets .inRange; counted = counted; wide = wide })
         (omega (arith, H .mapsGiven, steps-within));
-    program = program-kept (changed-wider rowTypesAt workSize (omega arith) (omega arith) (T .changed)) (H .sheets .wellFormed .listing) steps-within
-        (H .sheets .program);
+    program = program-kept (changed-wider rowTypesAt workSize (omega arith) (omega arith) (T .changed)) (H .sheets .wellFormed .stepped) steps-within
+        (procedures-few P (H .sheets .wellFormed)) (H .sheets .program);
     split = split-held;
     stepsCounted = H .sheets .stepsCounted;
+    proceduresCounted = H .sheets .proceduresCounted;
     denominatorGiven = H .sheets .denominatorGiven;
     locationsGiven = H .sheets .locationsGiven;
     startGiven = H .sheets .startGiven;
@@ -128,10 +133,10 @@ module _ (w w′ : List ℕ) (steps denominator locations maps start : ℕ) (P :
 
 -- ------------------------------------------------------------------ the answers
 
-module _ (w₀ w : List ℕ) (steps denominator locations maps start l : ℕ) where
+module _ (w₀ w : List ℕ) (steps procedures denominator locations maps start l : ℕ) where
   -- a location without posts
-  pub filled-nothing : (w′ : List ℕ) {large : Bool} → SoFar w₀ w steps denominator locations maps start l large → l < locations
-      → ColumnFilled w steps denominator maps start l Nothing w′ → FilledMaps w₀ steps denominator locations maps start Nothing w′
+  pub filled-nothing : (w′ : List ℕ) {large : Bool} → SoFar w₀ w steps procedures denominator locations maps start l large → l < locations
+      → ColumnFilled w steps procedures denominator maps start l Nothing w′ → FilledMaps w₀ steps procedures denominator locations maps start Nothing w′
   unfolding greatestMaps _>>=_
   filled-nothing w′ Z within F = record {
     answers = λ P S H.
@@ -141,8 +146,8 @@ module _ (w₀ w : List ℕ) (steps denominator locations maps start l : ℕ) wh
         rw missed;
   }
 
-  module _ (large : Bool) (Z : SoFar w₀ w steps denominator locations maps start l large) (end : l ≡ locations) where
-    module _ (P : Program) (S : Split) (H : HoldsGiven w₀ steps denominator locations maps start P S) where
+  module _ (large : Bool) (Z : SoFar w₀ w steps procedures denominator locations maps start l large) (end : l ≡ locations) where
+    module _ (P : Program) (S : Split) (H : HoldsGiven w₀ steps procedures denominator locations maps start P S) where
       abbrev n : ℕ
       n = length (P .steps)
 
@@ -187,17 +192,17 @@ module _ (w₀ w : List ℕ) (steps denominator locations maps start l : ℕ) wh
           let h′ : i < n = omega (arith, maps-counted columns 0 n) in
           column-stored e j k .1 .at i (omega (arith, column-long j k)) ∙ sym (made-number columns n i h′ j)
 
-    pub filled-large : large ≡ true → FilledMaps w₀ steps denominator locations maps start Large w
+    pub filled-large : large ≡ true → FilledMaps w₀ steps procedures denominator locations maps start Large w
     filled-large e = record { answers = λ P S H. (made (columns P S H) (n P S H), greatest-found P S H, too-large P S H e) }
 
     pub filled-maps : large ≡ false → maps ≤ 256 → length w₀ ≡ workSize → (w′ : List ℕ) → PostsShown steps maps w w′
-        → FilledMaps w₀ steps denominator locations maps start Maps w′
+        → FilledMaps w₀ steps procedures denominator locations maps start Maps w′
     filled-maps e few long w′ T = record {
       answers = λ P S H. (
         made (columns P S H) (n P S H),
         greatest-found P S H,
         small P S H e,
-        sheets-held w w′ steps denominator locations maps start P S (made (columns P S H) (n P S H)) (holds-still (Z .behind) H) T few (Z .behind .long ∙ long)
+        sheets-held w w′ steps procedures denominator locations maps start P S (made (columns P S H) (n P S H)) (holds-still (Z .behind) H) T few (Z .behind .long ∙ long)
             (maps-counted (columns P S H) 0 (n P S H))
             (λ i h. maps-wide (columns P S H) (n P S H) i (omega (arith, maps-counted (columns P S H) 0 (n P S H))) ∙ columns-counted P S H)
             (maps-stand P S H e),

@@ -14,7 +14,7 @@ use Rattle.filling.specs.GreatestMaps as greatest
 use Rattle.filling.specs.Answer.{numberLimit, mapAtMost}
 use Rattle.fill.specs.declared.maps.Found.{Found}
 use Rattle.fill.specs.declared.maps.Found.the-variants.{Nothing, Large, Maps}
-use Rattle.fill.specs.FilledMaps.{Given}
+use Rattle.fill.specs.FilledMaps.{MapsDue}
 
 -- ------------------------------------------------------------------ storing
 
@@ -47,9 +47,9 @@ pub record PostsShown (steps maps : ℕ) (w w′ : List ℕ) : Type 0 where
 -- ------------------------------------------------------------------ a column
 
 -- some sheets are held, and they have the location
-pub record ColumnGiven (w : List ℕ) (steps denominator maps start location : ℕ) : Type 0 where
+pub record ColumnGiven (w : List ℕ) (steps procedures denominator maps start location : ℕ) : Type 0 where
   pub locations : ℕ
-  pub given : Given w steps denominator locations maps start
+  pub given : MapsDue w steps procedures denominator locations maps start
   pub within : location < locations
 
 -- there are no posts; one is too large; or they are stored
@@ -60,7 +60,7 @@ module _ (maps location : ℕ) (w : List ℕ) (posts : Option (List ℕ)) where
   ColumnFound Maps = (ps : List ℕ) × (posts ≡ some ps) × (mapAtMost numberLimit ps ≡ true) × ColumnStored w maps location ps
 
 -- from w to w′, for whichever sheets w holds
-pub record ColumnFilled (w : List ℕ) (steps denominator maps start location : ℕ) (r : Found) (w′ : List ℕ) : Type 0 where
+pub record ColumnFilled (w : List ℕ) (steps procedures denominator maps start location : ℕ) (r : Found) (w′ : List ℕ) : Type 0 where
   pub one : OneColumn maps location w w′
-  pub answers : (P : Program) (S : Split) (locations : ℕ) → HoldsSheets w steps denominator locations start P S → location < locations
+  pub answers : (P : Program) (S : Split) (locations : ℕ) → HoldsSheets w steps procedures denominator locations start P S → location < locations
       → ColumnFound maps location w′ (greatest.postsAt P S location) r

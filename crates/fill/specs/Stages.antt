@@ -40,28 +40,29 @@ unfoldable pub fitted : (buffer : ℕ) → List ℕ → Out (List ℕ)
 fitted buffer text = demand (leb (length text) (min splitLimit buffer)) TooLarge >>= λ short. on text
 
 -- the sheet of whichever split the work space holds
-abbrev pub SheetTold : (w : List ℕ) (header : Header) (steps : ℕ) (before after : List ℕ) → Filled → Type 0
-SheetTold w header steps before after f =
-    (S : Split) → HoldsSheet w header steps S → Tells (fitted (length before) (written S)) before after f
+abbrev pub SheetTold : (w : List ℕ) (header : Header) (steps procedures : ℕ) (before after : List ℕ) → Filled → Type 0
+SheetTold w header steps procedures before after f =
+    (S : Split) → HoldsSheet w header procedures steps S → Tells (fitted (length before) (written S)) before after f
 
--- the work space has its size and holds both sheets, of so many steps and with this header
-pub record SheetsGiven (w : List ℕ) (header : Header) (steps : ℕ) : Type 0 where
+-- the work space has its size and holds both sheets, of so many steps and procedures and with this header
+pub record SheetsGiven (w : List ℕ) (header : Header) (steps procedures : ℕ) : Type 0 where
   pub long : length w ≡ workSize
   pub few : steps ≤ 256
+  pub fewProcedures : procedures ≤ 16
   pub small : Small header
   pub P : Program
   pub S : Split
-  pub holds : HoldsBoth w header steps P S
+  pub holds : HoldsBoth w header steps procedures P S
 
 -- and the split gives at most 256 maps
-pub record MapsGiven (w : List ℕ) (header : Header) (steps : ℕ) : Type 0 where
-  pub sheets : SheetsGiven w header steps
+pub record MapsGiven (w : List ℕ) (header : Header) (steps procedures : ℕ) : Type 0 where
+  pub sheets : SheetsGiven w header steps procedures
   pub fewMaps : header .maps ≤ 256
 
 -- 41 and 42, for whichever sheets the work space holds
-abbrev pub TextTold : (w : List ℕ) (header : Header) (steps : ℕ) (before after : List ℕ) → Filled → Type 0
-TextTold w header steps before after f =
-    (P : Program) (S : Split) → HoldsBoth w header steps P S → Tells (filledText (length before) P S) before after f
+abbrev pub TextTold : (w : List ℕ) (header : Header) (steps procedures : ℕ) (before after : List ℕ) → Filled → Type 0
+TextTold w header steps procedures before after f =
+    (P : Program) (S : Split) → HoldsBoth w header steps procedures P S → Tells (filledText (length before) P S) before after f
 
 -- 43, 44, 30, 31, 41 and 42
 unfoldable pub afterReading : (buffer : ℕ) → Program → Split → Out (List ℕ)
@@ -72,6 +73,6 @@ afterReading buffer P S = do
   typesHold ← typed P S
   filledText buffer P S
 
-abbrev pub SheetsTold : (w : List ℕ) (header : Header) (steps : ℕ) (before after : List ℕ) → Filled → Type 0
-SheetsTold w header steps before after f =
-    (P : Program) (S : Split) → HoldsBoth w header steps P S → Tells (afterReading (length before) P S) before after f
+abbrev pub SheetsTold : (w : List ℕ) (header : Header) (steps procedures : ℕ) (before after : List ℕ) → Filled → Type 0
+SheetsTold w header steps procedures before after f =
+    (P : Program) (S : Split) → HoldsBoth w header steps procedures P S → Tells (afterReading (length before) P S) before after f

@@ -56,30 +56,43 @@ fn grown(header: Header, steps: usize) -> Header
 }
 
 // 42 for a sheet that is too long, else the sheet: the one that the work space holds. Its length is learned by writing it to nothing.
-fn write_filled(work: &[u32], header: Header, steps: usize, out: &mut [u8]) -> Filled
-    requires { ⌜ HoldsSheetOfSome (now work) header steps ⌝ }
-    ensures { λ f. ⌜ SheetTold (now (work .entry)) header steps (now (out .entry)) (now (out .exit)) f ⌝ }
+fn write_filled(
+    work: &[u32],
+    header: Header,
+    steps: usize,
+    procedures: usize,
+    out: &mut [u8],
+) -> Filled
+    requires { ⌜ HoldsSheetOfSome (now work) header procedures steps ⌝ }
+    ensures { λ f. ⌜ SheetTold (now (work .entry)) header steps procedures (now (out .entry)) (now (out .exit)) f ⌝ }
 {
     let mut nothing = [0u8; 0];
-    let length = write_sheet(&mut nothing, work, header, steps);
+    let length = write_sheet(&mut nothing, work, header, procedures, steps);
     if SPLIT_LIMIT < length {
         return Filled::Refused(Refusal::TooLarge);
     }
     if out.len() < length {
         return Filled::Refused(Refusal::TooLarge);
     }
-    write_sheet(out, work, header, steps);
+    write_sheet(out, work, header, procedures, steps);
     Filled::Written(length as u32)
 }
 
 // 41 and 42, for the sheets that the work space holds.
-fn fill_held(work: &mut [u32], header: Header, steps: usize, out: &mut [u8]) -> Filled
-    requires { ⌜ MapsGiven (now work) header steps ⌝ }
-    ensures { λ f. ⌜ TextTold (now (work .entry)) header steps (now (out .entry)) (now (out .exit)) f ⌝ }
+fn fill_held(
+    work: &mut [u32],
+    header: Header,
+    steps: usize,
+    procedures: usize,
+    out: &mut [u8],
+) -> Filled
+    requires { ⌜ MapsGiven (now work) header steps procedures ⌝ }
+    ensures { λ f. ⌜ TextTold (now (work .entry)) header steps procedures (now (out .entry)) (now (out .exit)) f ⌝ }
 {
     match fill_maps(
         work,
         steps,
+        procedures,
         header.denominator,
         header.locations,
         header.maps,
@@ -89,22 +102,28 @@ fn fill_held(work: &mut [u32], header: Header, steps: usize, out: &mut [u8]) -> 
         Found::Large => Filled::Refused(Refusal::TooLarge),
         Found::Maps => {
             let whole = grown(header, steps);
-            write_filled(work, whole, steps, out)
+            write_filled(work, whole, steps, procedures, out)
         }
     }
 }
 
 // 43 and on, for the sheets that the work space holds.
-fn fill_sheets(work: &mut [u32], header: Header, steps: usize, out: &mut [u8]) -> Filled
-    requires { ⌜ SheetsGiven (now work) header steps ⌝ }
-    ensures { λ f. ⌜ SheetsTold (now (work .entry)) header steps (now (out .entry)) (now (out .exit)) f ⌝ }
+fn fill_sheets(
+    work: &mut [u32],
+    header: Header,
+    steps: usize,
+    procedures: usize,
+    out: &mut [u8],
+) -> Filled
+    requires { ⌜ SheetsGiven (now work) header steps procedures ⌝ }
+    ensures { λ f. ⌜ SheetsTold (now (work .entry)) header steps procedures (now (out .entry)) (now (out .exit)) f ⌝ }
 {
     if GIVEN_LIMIT < header.maps {
         return Filled::Refused(Refusal::TooManyMaps);
     }
-    match rules::rule(work, Purpose::Fill, steps, header) {
+    match rules::rule(work, Purpose::Fill, steps, procedures, header) {
         Ruling::Refused(r) => Filled::Refused(r),
-        Ruling::Met => fill_held(work, header, steps, out),
+        Ruling::Met => fill_held(work, header, steps, procedures, out),
     }
 }
 
@@ -115,7 +134,13 @@ fn fill_texts(program: &[u8], split: &[u8], work: &mut [u32], out: &mut [u8]) ->
 {
     match reading::read(program, split, Purpose::Fill, work) {
         Reading::Refused(r) => Filled::Refused(r),
-        Reading::Held(steps, header) => fill_sheets(work, header, steps, out),
+        Reading::Held(steps, procedures, header) => fill_sheets(
+            work,
+            header,
+            steps,
+            procedures,
+            out,
+        ),
     }
 }
 

@@ -1,5 +1,6 @@
 // The greatest after-maps, one location after the other, stored as maps behind the given ones.
 use pass::Column;
+use pass::Given;
 use pass::fill_location;
 use spec::Location;
 use spec::MapNumber;
@@ -14,7 +15,7 @@ ghost use lib.ListN.{length};
 ghost use Rattle.filling.specs.Answer.{numberLimit, mapAtMost};
 ghost use Rattle.workspace.specs.Layout.{workSize};
 ghost use Rattle.fill.specs.Columns.{Room, ColumnStored, OneColumn, PostsStored, ColumnGiven, ColumnFilled, PostsShown};
-ghost use Rattle.fill.specs.FilledMaps.{Given, FilledMaps};
+ghost use Rattle.fill.specs.FilledMaps.{MapsDue, FilledMaps};
 
 // The largest number that a map may have.
 const LARGEST: u64 = 1000000000;
@@ -70,20 +71,25 @@ fn store_posts(work: &mut [u32], posts: &[u64], maps: usize, p: Location) -> boo
 fn fill_column(
     work: &mut [u32],
     steps: usize,
+    procedures: usize,
     denominator: u32,
     maps: usize,
     start: MapNumber,
     p: Location,
 ) -> Found
-    requires { ⌜ ColumnGiven (now work) steps denominator maps (start .0) (p .0) ⌝ }
-    ensures { λ r. ⌜ ColumnFilled (now (work .entry)) steps denominator maps (start .0) (p .0) r (now (work .exit)) ⌝ }
+    requires { ⌜ ColumnGiven (now work) steps procedures denominator maps (start .0) (p .0) ⌝ }
+    ensures { λ r. ⌜ ColumnFilled (now (work .entry)) steps procedures denominator maps (start .0) (p .0) r (now (work .exit)) ⌝ }
 {
     let mut posts = [0u64; 256];
     let column = Column {
         location: p,
         denominator: denominator,
     };
-    if !fill_location(work, &mut posts, column, start) {
+    let given = Given {
+        procedures: procedures as u32,
+        start: start,
+    };
+    if !fill_location(work, &mut posts, column, given) {
         return Found::Nothing;
     }
     if !store_posts(work, &posts[..steps], maps, p) {
@@ -110,19 +116,28 @@ fn show_maps(work: &mut [u32], steps: usize, maps: usize)
 pub fn fill_maps(
     work: &mut [u32],
     steps: usize,
+    procedures: usize,
     denominator: u32,
     locations: usize,
     maps: usize,
     start: MapNumber,
 ) -> Found
-    requires { ⌜ Given (now work) steps denominator locations maps (start .0) ⌝ }
-    ensures { λ r. ⌜ FilledMaps (now (work .entry)) steps denominator locations maps (start .0) r (now (work .exit)) ⌝ }
+    requires { ⌜ MapsDue (now work) steps procedures denominator locations maps (start .0) ⌝ }
+    ensures { λ r. ⌜ FilledMaps (now (work .entry)) steps procedures denominator locations maps (start .0) r (now (work .exit)) ⌝ }
 {
     let mut large = false;
     let mut l = 0;
     while l < locations {
         let number = l as u32;
-        match fill_column(work, steps, denominator, maps, start, Location(number)) {
+        match fill_column(
+            work,
+            steps,
+            procedures,
+            denominator,
+            maps,
+            start,
+            Location(number),
+        ) {
             Found::Nothing => {
                 return Found::Nothing;
             }

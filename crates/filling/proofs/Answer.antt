@@ -30,7 +30,7 @@ use Rattle.spec.proofs.Reasons.{rules-decide}
 use Rattle.spec.proofs.Claims.{none-false-all-hold, all-hold-none-false}
 use Rattle.writer.specs.Sheet.{written}
 use Rattle.filling.specs.Filled.{filled}
-use Rattle.filling.specs.AfterMaps.{allClaims, typeClaims, AfterMaps, GreatestMaps}
+use Rattle.filling.specs.AfterMaps.{typeClaims, AfterMaps, GreatestMaps}
 use Rattle.filling.specs.GreatestMaps.{greatestMaps}
 use Rattle.filling.specs.Answer.{givenLimit, numberLimit, allAtMost, filledText, WithinLimits, OverLimits, largeNumber, longSheet, shortBuffer, GreatestOverLimits, fill, Fillable, Written}
 use Rattle.filling.proofs.Reasons.{no-after-maps, large-number, long-text, text-written, locks-decide}
@@ -132,7 +132,7 @@ module _ (room buffer : ℕ) (p s : List ℕ) where
 
   -- 41 and 42 decide once all that is judged before them is passed
   pub fillable-decides : (P : Program) (S : Split) → Fillable room p s P S → answered ≡ filledText buffer P S
-  unfolding workspaceSize programLimit splitLimit givenLimit typed typeClaims allClaims
+  unfolding workspaceSize programLimit splitLimit givenLimit typed typeClaims
   fillable-decides P S F =
       locks-decide room buffer p s (F .enough) P S (well-formed-sheets Fill p s (F .sheets)) (F .few)
       ∙ goes-on-bind _ _ (enough-taken S (F .locks))
@@ -145,7 +145,7 @@ module _ (room buffer : ℕ) (p s : List ℕ) where
   -- a text is written only then
   written-fillable : {t : List ℕ} → answered ≡ on t
       → (P : Program) × (S : Split) × Fillable room p s P S × (filledText buffer P S ≡ on t)
-  unfolding fill typed typeClaims allClaims
+  unfolding fill typed typeClaims
   written-fillable h =
       let (_, enough, r₁) = bind-goes-on _ _ h in
       let ((P, S), reads, r₂) = bind-goes-on _ _ r₁ in
@@ -213,7 +213,7 @@ module _ (room buffer : ℕ) (p s : List ℕ) where
 
   -- "The filled pair must be accepted"
   pub written-accepted : (t : List ℕ) → answered ≡ on t → verdict room p t ≡ Accept
-  unfolding answer workspaceSize programLimit splitLimit givenLimit typed typeClaims allClaims
+  unfolding answer workspaceSize programLimit splitLimit givenLimit typed typeClaims
   written-accepted t h =
       let W = written-exactly t .0 h in
       let F = W .fillable in
@@ -223,7 +223,7 @@ module _ (room buffer : ℕ) (p s : List ℕ) where
       let found = greatest (W .P) S F (W .γ) .1 (W .greatest) in
       let reads = filled-reads-back S (W .γ) (omega (arith, A .counted, F .few, steps-few (W .P) (F .sheets .program))) (A .wide) (W .limits .small) (A .counted) (F .sheets .split) in
       rules-decide room p t (F .enough) (W .P) (filled S (W .γ))
-      (sheets-read Check p t (F .sheets .program .fits) (W .P) (well-formed-program p (F .sheets .program)) (omega (arith, ap length (W .isText), W .limits .notLong)) (filled S (W .γ)) (ap (split Check (W .P .steps)) (W .isText) ∙ reads))
+      (sheets-read Check p t (F .sheets .program .fits) (W .P) (well-formed-program p (F .sheets .program)) (omega (arith, ap length (W .isText), W .limits .notLong)) (filled S (W .γ)) (ap (split Check (W .P)) (W .isText) ∙ reads))
       ∙ ap answer (goes-on-bind _ _ (locks-kept (W .P) S (F .sheets .program) R (W .γ) ∙ enough-taken S (F .locks))
       (goes-on-bind _ _ (start-kept (W .P) S (F .sheets .program) R (W .γ) ∙ at-most-one-start (W .P) S (F .atMostOne))
       (filled-accepted (W .P) S (F .sheets .program) R (W .γ) (all-hold-none-false _ (F .typesHold)) found)))

@@ -1,34 +1,37 @@
 -- The flow and access conditions of a split hold exactly when the after-maps that it shows pass at each location. One induction over
--- the words: each condition of the table is turned into the effect that `flowOf` has for it.
+-- the words: each condition of the table is turned into the effect that `flowOf` has for it. Then one over the procedures.
 use mathlib.Core.Path.{_≡_}
 use mathlib.Core.Bool.{true}
-use mathlib.Core.List.{List, []}
+use mathlib.Core.List.{List, [], _∷_, _++_, append-assoc}
 use mathlib.Core.Logic.{_↔_}
+use mathlib.Core.Option.{none}
 use Prim.Native.Nat.{ℕ, _+_, _≤_}
 use lib.Dec.{leb}
-use lib.ListN.{getD}
+use lib.ListN.{length, getD}
+use native.Mathlib.Omega.{arith}
 use borrow.Author.Tests.{leb-true, ltb-true, le-leb, lt-ltb}
 use Rattle.spec.specs.Words.{role, binding, preOfPart, preOfSecond}
-use Rattle.spec.specs.Expression.{Step, Position, Expr, leaf, unary, binary, size}
-use Rattle.spec.specs.Split.{Map, Split}
-use Rattle.spec.specs.Maps.{share}
-use Rattle.spec.specs.Conditions.{Env, type, post, bodyStart, conditionsOf}
-use Rattle.spec.specs.Sites.{Site, sites, numbered, claimsAt, claims, isFlow, only}
+use Rattle.spec.specs.Expression.{Step, Position, Expr, leaf, unary, binary, size, Procedure}
+use Rattle.spec.specs.Split.{Map, Split, mapAt}
+use Rattle.spec.specs.Maps.{_≥ᵐ_, share}
+use Rattle.spec.specs.Conditions.{Env, type, post, bodyStart, startMap, signature, conditionsOf, procedureConditions}
+use Rattle.spec.specs.Sites.{Site, Claim, sites, numbered, claimsAt, claims, bodySites, claimsOfProcedure, claimsOfProcedures, isFlow, only}
+use Rattle.spec.specs.WellFormed.{NumberedFrom}
 use Rattle.spec.specs.FirstFalse.{Holds, AllHold}
 use Rattle.spec.specs.declared.Location.{Location}
 use Rattle.spec.specs.declared.Word.the-variants.{Binary}
 use Rattle.spec.specs.declared.LeafWord.{LeafWord}
 use Rattle.spec.specs.declared.LeafWord.the-variants.{Var, Int, Newtid, Newlock, Newsem, Newrwlock}
 use Rattle.spec.specs.declared.UnaryWord.{UnaryWord}
-use Rattle.spec.specs.declared.UnaryWord.the-variants.{While, Join, Ref, Read, Lock, Unlock, Post, Wait, Rdlock, Rdunlock, Wrlock, Wrunlock}
+use Rattle.spec.specs.declared.UnaryWord.the-variants.{While, Join, Ref, Read, Lock, Unlock, Post, Wait, Rdlock, Rdunlock, Wrlock, Wrunlock, Call}
 use Rattle.spec.specs.declared.BinaryWord.{BinaryWord}
 use Rattle.spec.specs.declared.BinaryWord.the-variants.{Let, If, Spawn, Write}
-use Rattle.filling.specs.Flow.{taking, Flow, inTurn, branch, fork, Turns, Passes}
-use Rattle.filling.specs.FlowOf.{loadHere, inHere, outHere, readHere, writeHere, startHere, accessHere, flowOf}
+use Rattle.filling.specs.Flow.{taking, Flow, inTurn, branch, fork, Turns, Passes, Root, RootsPass, steps}
+use Rattle.filling.specs.FlowOf.{loadHere, inHere, outHere, readHere, writeHere, startHere, keptHere, beforeHere, afterHere, accessHere, flowOf, rootsFrom}
 use Rattle.filling.specs.declared.Effect.{Effect}
-use Rattle.filling.proofs.Locations.{Everywhere, Known, together, lastly, restated, three, least-everywhere, keeps, gives, takes, lends, needs}
-use Rattle.filling.proofs.Sorts.{AllAt, OwnAt, step-parts, parts-step, both-parts, parts-both}
-use Rattle.filling.proofs.Placed.{flow-steps, Placed, part, first, second, Showing}
+use Rattle.filling.proofs.Locations.{Everywhere, Known, together, lastly, restated, three, least-everywhere, sums, keeps, gives, takes, lends, needs}
+use Rattle.filling.proofs.Sorts.{AllAt, OwnAt, step-parts, parts-step, both-parts, parts-both, only-parts, parts-only}
+use Rattle.filling.proofs.Placed.{flow-steps, Placed, part, first, second, Showing, sizeOf}
 
 -- what σ has at a location after step i
 abbrev pub at : List Map → Location → ℕ → ℕ
@@ -110,7 +113,7 @@ module _ {ss : List Step} {S : Split} {σ : List Map} {T : Split} (G : Showing s
   -- pre is the map x; in the order of Figure 5
   pub flow-at-each-location : (Γ : Env) {pre x : Map} (e : Expr) (i : ℕ) → Placed ss i e → Known L pre x
       → AllFlow (sites T Γ pre e) ↔ Everywhere L (λ p. Passes (at σ p) i (share x p) (flowOf S p e))
-  unfolding AllHold Holds claimsAt numbered conditionsOf only isFlow preOfPart preOfSecond loadHere inHere outHere readHere writeHere startHere accessHere flowOf Passes
+  unfolding AllHold Holds claimsAt numbered conditionsOf only isFlow preOfPart preOfSecond loadHere inHere outHere readHere writeHere startHere keptHere beforeHere afterHere accessHere flowOf Passes
   flow-at-each-location Γ (leaf Var k v) i P before = no-part Γ _ Var k v (lastly (keeps (G .posts _ P) before))
   flow-at-each-location Γ (leaf Int k v) i P before = no-part Γ _ Int k v (lastly (keeps (G .posts _ P) before))
   flow-at-each-location Γ {x = x} (binary Let k v e₁ e₂) i P before =
@@ -202,3 +205,58 @@ module _ {ss : List Step} {S : Split} {σ : List Map} {T : Split} (G : Showing s
       one-part Γ _ Wrunlock k v e₁
       (flow-at-each-location Γ e₁ (i + 1) (part P) before)
       (lastly (takes (G .posts _ P) (G .posts e₁ (part P)) (G .wholes e₁)))
+  flow-at-each-location Γ (unary Call k f e₁) i P before =
+      let e = unary Call k f e₁ in
+      three
+      (one-part Γ _ Call k f e₁
+      (flow-at-each-location Γ e₁ (i + 1) (part P) before)
+      (together (sums (G .posts e₁ (part P)) (G .befores f) (G .kepts e))
+      (lastly (sums (G .posts e P) (G .afters f) (G .kepts e)))))
+
+  -- ------------------------------------------------------------------ the procedures and the root
+
+  -- a root's own post is at least what is due, and the next stands behind its steps
+  roots-parts : (p : Location) (i x due : ℕ) (e : Expr) (rs : List Root)
+      → ((due ≤ at σ p i) × (Passes (at σ p) i x (flowOf S p e) × RootsPass (at σ p) (i + size e) rs))
+      ↔ RootsPass (at σ p) i (record { pre = x; due = due; flow = flowOf S p e } ∷ rs)
+  unfolding RootsPass
+  roots-parts p i x due e rs = rw (flow-steps S p e) (λ h. (h .1 .0, h .0, h .1 .1), λ h. (h .1, (h .0, h .2)))
+
+  -- a procedure: the claim on its line, those of its body, and those behind it
+  procedure-parts : (f : ℕ) (q : Procedure) (behind : List Claim) {A B C : Location → Type 0}
+      → (((post T (q .body) ≥ᵐ mapAt T (signature T f .after)) ≡ none) × Unit {0}) ↔ Everywhere L A
+      → AllFlow (bodySites T (signature T f) q) ↔ Everywhere L B
+      → AllHold (only isFlow behind) ↔ Everywhere L C
+      → AllHold (only isFlow (claimsOfProcedure T (signature T f) q ++ behind)) ↔ Everywhere L (λ p. A p × (B p × C p))
+  unfolding claimsOfProcedure procedureConditions numbered only isFlow AllHold Holds
+  procedure-parts f q behind a b c =
+      let own = numbered (q .line) 1 (procedureConditions T (signature T f) q) in
+      let body = claims T (bodySites T (signature T f) q) in
+      let all = together a (together b c) in (
+        λ h.
+            let (of-procedure, others) = only-parts isFlow (own ++ body) behind h in
+            let (of-line, of-body) = only-parts isFlow own body of-procedure in
+            all .0 (of-line, (of-body, others)),
+        λ h.
+            let s = all .1 h in
+            parts-only isFlow (own ++ body) behind (parts-only isFlow own body (s .0) (s .1 .0)) (s .1 .1),
+      )
+
+  -- the claims of the procedures from number f on and of the root
+  pub roots-at-each-location : (f i : ℕ) (ps : List Procedure) (root : Expr) → NumberedFrom i ps root → i + sizeOf ps root ≤ length ss
+      → AllHold (only isFlow (claimsOfProcedures T f ps ++ claims T (sites T [] (startMap T) root)))
+      ↔ Everywhere L (λ p. RootsPass (at σ p) i (rootsFrom S p f ps root))
+  unfolding claimsOfProcedures bodySites beforeHere afterHere rootsFrom NumberedFrom sizeOf RootsPass
+  roots-at-each-location f i [] root numbered within =
+      restated (λ p. (λ h. (h, omega arith, tt), λ h. h .0))
+      (flow-at-each-location [] root i (record { indexed = numbered; within = within }) (G .first))
+  roots-at-each-location f i (q ∷ ps) root numbering within =
+      let e = q .body in
+      let P : Placed ss i e = record { indexed = numbering .0; within = omega arith } in
+      let others = claimsOfProcedures T (f + 1) ps ++ claims T (sites T [] (startMap T) root) in
+      rw (append-assoc (claimsOfProcedure T (signature T f) q) (claimsOfProcedures T (f + 1) ps) (claims T (sites T [] (startMap T) root)))
+      (restated (λ p. roots-parts p i _ _ e (rootsFrom S p (f + 1) ps root))
+      (procedure-parts f q others
+      (lastly (least-everywhere (G .posts e P) (G .afters f)))
+      (flow-at-each-location _ e i P (G .befores f))
+      (roots-at-each-location (f + 1) (i + size e) ps root (numbering .1) (omega arith))))

@@ -10,7 +10,8 @@ use native.Mathlib.Decide.{decLt}
 use lib.ListN.{length, getD, length-map, List·getD-eq-default}
 use lib.Seq.{ext-getD}
 use Rattle.spec.specs.Reading.{on}
-use Rattle.spec.specs.Expression.{size, lineOf}
+use Rattle.spec.specs.Expression.{lineOf}
+use Rattle.spec.specs.Sites.{claimsOf}
 use Rattle.spec.specs.Program.{Program}
 use Rattle.spec.specs.Split.{Map, Split}
 use Rattle.spec.specs.Maps.{share, overWhole}
@@ -21,26 +22,27 @@ use Rattle.spec.specs.WellFormed.{WellFormedProgram}
 use Rattle.spec.specs.Ranges.{InRange}
 use Rattle.spec.specs.declared.Location.{Location}
 use Rattle.spec.proofs.Claims.{none-false-all-hold, all-hold-none-false}
-use Rattle.spec.proofs.Listing.{prefix-length}
 use Rattle.filling.specs.Filled.{filled}
-use Rattle.filling.specs.AfterMaps.{allClaims, typeClaims, flowClaims, AfterMaps, NowhereAbove, GreatestMaps, shownMaps}
+use Rattle.filling.specs.AfterMaps.{typeClaims, flowClaims, AfterMaps, NowhereAbove, GreatestMaps, shownMaps}
 use Rattle.filling.specs.Found.{forEach}
-use Rattle.filling.specs.Flow.{Passes, pass}
-use Rattle.filling.specs.FlowOf.{flowOf}
+use Rattle.filling.specs.Flow.{stepsOf, RootsPass}
+use Rattle.filling.specs.Pass.{postsOfRoots}
+use Rattle.filling.specs.FlowOf.{rootsOf}
 use Rattle.filling.specs.GreatestMaps.{postsAt, mapsOfSteps, greatestMaps}
 use Rattle.filling.proofs.Found.{some-injective, bind-finds, finds-bind}
-use Rattle.filling.proofs.Pass.{at-along, pass-length, pass-passes, found-greatest, found-solvable}
+use Rattle.filling.proofs.Along.{at-along}
+use Rattle.filling.proofs.Roots.{roots-counted, roots-pass, roots-greatest, roots-solvable}
 use Rattle.filling.proofs.Kept.{start-map-kept, enough-kept}
 use Rattle.filling.proofs.Types.{types-kept}
 use Rattle.filling.proofs.Sorts.{all-hold-sorts}
 use Rattle.filling.proofs.Locations.{Everywhere}
-use Rattle.filling.proofs.Placed.{flow-steps, Placed, Showing, filled-shows, shown-map, split-shows}
-use Rattle.filling.proofs.EachLocation.{at, flow-at-each-location}
+use Rattle.filling.proofs.Placed.{Showing, roots-steps, steps-sized, filled-shows, shown-map, split-shows}
+use Rattle.filling.proofs.EachLocation.{at, roots-at-each-location}
 use Rattle.filling.proofs.Columns.{each-found, find-each, maps-counted, maps-wide, maps-share}
 
 -- what stands among the columns is what the pass finds
 found-at : (P : Program) (S : Split) (columns : List (List ℕ)) → forEach (postsAt P S) 0 (S .header .locations) ≡ some columns
-    → (p : Location) → p .0 < S .header .locations → pass (share (startMap S) p) (flowOf S p (P .root)) ≡ some (getD columns (p .0) [])
+    → (p : Location) → p .0 < S .header .locations → postsOfRoots (rootsOf S p P) ≡ some (getD columns (p .0) [])
 unfolding postsAt
 found-at P S columns h p l =
     let z : 0 + p .0 ≡ p .0 = omega arith in
@@ -50,26 +52,24 @@ maps-shown : (S : Split) → length (shownMaps S) ≡ length (S .rows)
 unfolding shownMaps
 maps-shown S = simp length-map
 
-module _ {text : List ℕ} (P : Program) (S : Split) (W : WellFormedProgram text P) (R : InRange (P .steps) S) where
+module _ {text : List ℕ} (P : Program) (S : Split) (W : WellFormedProgram text P) (R : InRange P S) where
   abbrev L : ℕ
   L = S .header .locations
 
   -- posts by step that pass at a location
   abbrev PassesAt : Location → (ℕ → ℕ) → Type 0
-  PassesAt p a = Passes a 0 (share (startMap S) p) (flowOf S p (P .root))
+  PassesAt p a = RootsPass a 0 (rootsOf S p P)
 
-  counted-steps : length (P .steps) ≡ size (P .root)
-  counted-steps = ap length (sym (W .listing)) ∙ prefix-length (P .root)
+  roots-counted-steps : (p : Location) → stepsOf (rootsOf S p P) ≡ length (P .steps)
+  unfolding rootsOf
+  roots-counted-steps p = roots-steps S p 0 (P .procedures) (P .root) ∙ sym (steps-sized P W)
 
   -- ------------------------------------------------------------------ after-maps, location by location
 
-  root-placed : Placed (P .steps) 0 (P .root)
-  root-placed = record { indexed = W .numbering; within = omega (arith, counted-steps) }
-
   -- the conditions of a split that shows the maps σ
   flow-claims-at : {σ : List Map} {T : Split} → Showing (P .steps) S σ T → AllHold (flowClaims P T) ↔ Everywhere L (λ p. PassesAt p (at σ p))
-  unfolding flowClaims allClaims
-  flow-claims-at G = flow-at-each-location G [] (P .root) 0 root-placed (G .first)
+  unfolding flowClaims claimsOf rootsOf
+  flow-claims-at G = roots-at-each-location G 0 0 (P .procedures) (P .root) (W .numbering) (omega (arith, steps-sized P W))
 
   filled-claims-at : (σ : List Map) → length σ ≡ length (P .steps) → ((i : ℕ) → i < length σ → length (getD σ i []) ≡ L)
       → AllHold (flowClaims P (filled S σ)) ↔ Everywhere L (λ p. PassesAt p (at σ p))
@@ -92,11 +92,11 @@ module _ {text : List ℕ} (P : Program) (S : Split) (W : WellFormedProgram text
   made columns h = record {
     counted = maps-counted columns 0 n;
     wide = λ i l. maps-wide columns n i (omega (arith, maps-counted columns 0 n)) ∙ each-found (postsAt P S) [] 0 L columns h .0;
-    passes = λ p l. pass-passes (at γ p) 0 (share (startMap S) p) (flowOf S p (P .root)) (pass-at p l)
-        (at-along _≡_ (at γ p) 0 (posts p) (λ j q. let z : 0 + j ≡ j = omega arith in rw z (shown p j (omega (arith, posts-counted p l)))));
+    passes = λ p l. roots-pass (at γ p) 0 (rootsOf S p P) (pass-at p l)
+        (at-along _≡_ (at γ p) 0 (posts p) (λ j q. let z : 0 + j ≡ j = omega arith in rw z (shown p j (omega (arith, counted-at p l)))));
     greatest = λ p l a q i k.
         rw (shown p i k)
-        (found-greatest (share (startMap S) p) (flowOf S p (P .root)) (posts p) (pass-at p l) a q i (omega (arith, flow-steps S p (P .root), counted-steps)));
+        (roots-greatest (rootsOf S p P) (posts p) (pass-at p l) a q i (omega (arith, roots-counted-steps p)));
   }
     where
       n : ℕ
@@ -108,11 +108,11 @@ module _ {text : List ℕ} (P : Program) (S : Split) (W : WellFormedProgram text
       posts : Location → List ℕ
       posts p = getD columns (p .0) []
 
-      pass-at : (p : Location) → p .0 < L → pass (share (startMap S) p) (flowOf S p (P .root)) ≡ some (posts p)
+      pass-at : (p : Location) → p .0 < L → postsOfRoots (rootsOf S p P) ≡ some (posts p)
       pass-at p l = found-at P S columns h p l
 
-      posts-counted : (p : Location) → p .0 < L → length (posts p) ≡ n
-      posts-counted p l = pass-length _ _ (pass-at p l) ∙ flow-steps S p (P .root) ∙ sym counted-steps
+      counted-at : (p : Location) → p .0 < L → length (posts p) ≡ n
+      counted-at p l = roots-counted (rootsOf S p P) (pass-at p l) ∙ roots-counted-steps p
 
       shown : (p : Location) (j : ℕ) → j < n → at γ p j ≡ getD (posts p) j 0
       shown p j k = maps-share columns n j k p
@@ -162,7 +162,7 @@ module _ {text : List ℕ} (P : Program) (S : Split) (W : WellFormedProgram text
   solved-is-found σ A =
       let (columns, h) = find-each (postsAt P S) 0 L (λ q l.
       let p : Location = record { 0 = 0 + q } in
-      found-solvable (share (startMap S) p) (flowOf S p (P .root)) .1 (at σ p, passing σ A p (omega arith))) in
+      roots-solvable (rootsOf S p P) .1 (at σ p, passing σ A p (omega arith))) in
       (mapsOfSteps columns 0 (length (P .steps)), finds-bind _ _ h refl)
 
   -- the pass finds maps exactly when some after-maps pass all flow and access conditions
@@ -188,9 +188,9 @@ module _ {text : List ℕ} (P : Program) (S : Split) (W : WellFormedProgram text
 
   -- the filled split meets all conditions exactly when every (T) condition is met and the new maps pass the others
   pub filled-ruled : (σ : List Map) → ruled P (filled S σ) ≡ on tt ↔ ((typed P S ≡ on tt) × AllHold (flowClaims P (filled S σ)))
-  unfolding ruled typed typeClaims flowClaims allClaims
+  unfolding ruled typed typeClaims flowClaims
   filled-ruled σ =
-      let T = types-kept R σ [] (startMap (filled S σ)) (startMap S) (P .root) in (
+      let T = types-kept R σ in (
         (λ h.
             let s = all-hold-sorts _ .0 (none-false-all-hold _ h) in
             (all-hold-none-false _ (rw T at (s .0)), s .1)),
@@ -212,7 +212,7 @@ module _ {text : List ℕ} (P : Program) (S : Split) (W : WellFormedProgram text
   -- ------------------------------------------------------------------ a whole sheet
 
   shown-after-maps : ruled P S ≡ on tt → AfterMaps P S (shownMaps S)
-  unfolding ruled flowClaims allClaims
+  unfolding ruled flowClaims
   shown-after-maps h = record {
     counted = counted;
     wide = wide;

@@ -6,7 +6,7 @@ use native.Mathlib.Omega.{arith}
 use native.Mathlib.Decide.{decLt}
 use lib.ListN.{length, getD, length-append, List·getD-append}
 use lib.Seq.{getD-append-add}
-use Rattle.spec.specs.Expression.{Step}
+use Rattle.spec.specs.Program.{Program}
 use Rattle.spec.specs.Split.{Map, Row, Split}
 use Rattle.spec.specs.Ranges.{InRange}
 use Rattle.filling.specs.Filled.{withPosts, filled}
@@ -18,8 +18,8 @@ unfolding withPosts
 rows-counted m [] = refl
 rows-counted m (r ∷ rs) = ap suc (rows-counted (m + 1) rs)
 
-module _ {ss : List Step} {S : Split} {σ : List Map} (G : Given ss S σ) where
-  abbrev R : InRange ss S
+module _ {P : Program} {S : Split} {σ : List Map} (G : Given P S σ) where
+  abbrev R : InRange P S
   R = G .inRange
 
   maps-counted : length (S .maps ++ σ) ≡ S .header .maps + length σ
@@ -38,7 +38,7 @@ module _ {ss : List Step} {S : Split} {σ : List Map} (G : Given ss S σ) where
   more : {m : ℕ} → m < length (S .maps) → m < length (S .maps ++ σ)
   more l = omega (arith, length-append (S .maps) σ)
 
-  pub filled-in-range : S .header .maps + length σ ≤ 512 → InRange ss (filled S σ)
+  pub filled-in-range : S .header .maps + length σ ≤ 512 → InRange P (filled S σ)
   unfolding filled
   filled-in-range few = record {
     denominator = R .denominator;
@@ -48,6 +48,7 @@ module _ {ss : List Step} {S : Split} {σ : List Map} (G : Given ss S σ) where
     mapsCounted = maps-counted;
     mapsFew = (omega (arith, R .mapsFew), few);
     start = more (R .start);
+    signaturesCounted = R .signaturesCounted;
     rowsCounted = rows-counted _ (S .rows) ∙ R .rowsCounted;
     mapWide = map-wide;
     refPlace = R .refPlace;
@@ -55,6 +56,10 @@ module _ {ss : List Step} {S : Split} {σ : List Map} (G : Given ss S σ) where
     tidLoad = λ t k l e. more (R .tidLoad t k l e);
     semLoad = λ t k l e. more (R .semLoad t k l e);
     rwlockLoads = λ t r w l e. let (first, second) = R .rwlockLoads t r w l e in (more first, more second);
+    beforeMap = λ f d l. more (R .beforeMap f d l);
+    argumentType = R .argumentType;
+    afterMap = λ f d l. more (R .afterMap f d l);
+    resultType = R .resultType;
     rowType = λ i d l. rw (rows-kept (S .header .maps) (S .rows) i d .0) (R .rowType i d (here i l));
     rowPost = λ i d l.
         rw (rows-post (S .header .maps) (S .rows) i d (here i l))

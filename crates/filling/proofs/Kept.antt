@@ -10,10 +10,11 @@ use native.Mathlib.Decide.{decLt}
 use lib.ListN.{length, getD, List·getD-append, List·getD-eq-default}
 use lib.Seq.{getD-append-add}
 use Rattle.spec.specs.Choice.{if_then_else_}
-use Rattle.spec.specs.Expression.{Step, Expr, indexOf}
-use Rattle.spec.specs.Split.{Map, Row, noRow, Split, typeAt, mapAt}
+use Rattle.spec.specs.Expression.{Expr, indexOf}
+use Rattle.spec.specs.Program.{Program}
+use Rattle.spec.specs.Split.{Map, Row, noRow, Signature, noSignature, Split, typeAt, mapAt}
 use Rattle.spec.specs.Agreement.{Tree, plain, int, lock, tid, sem, rwlock, treeOf, trees, tree, sameTree, agree}
-use Rattle.spec.specs.Conditions.{isLock, refLocation, load, inLoad, outLoad, readLoad, writeLoad, row, type, kind, post, startIn, bodyStart, K, inMap, outMap, readMap, writeMap, startMap, contains, looserLock, mayShow}
+use Rattle.spec.specs.Conditions.{isLock, refLocation, load, inLoad, outLoad, readLoad, writeLoad, row, type, kind, post, startIn, bodyStart, signature, K, inMap, outMap, readMap, writeMap, startMap, contains, looserLock, mayShow}
 use Rattle.spec.specs.Verdict.{takesEnough, allTakeEnough, locksTakeEnough}
 use Rattle.spec.specs.Ranges.{InRange}
 use Rattle.spec.specs.declared.TypeNumber.{TypeNumber}
@@ -50,7 +51,7 @@ module _ (S : Split) (σ : List Map) where
 
 -- ------------------------------------------------------------------ what a sheet shows is of the sheet
 
-module _ {steps : List Step} {S : Split} (R : InRange steps S) where
+module _ {P : Program} {S : Split} (R : InRange P S) where
   -- what holds of int and of each type line of the sheet holds of whatever a number stands for
   of-each-type : (Q : TypeLine → Type 0) → Q Int → ((t : ℕ) → t < length (S .types) → (τ : TypeLine) → getD (S .types) t Int ≡ τ → Q τ)
       → (t : TypeNumber) → Q (typeAt S t)
@@ -144,6 +145,23 @@ module _ {steps : List Step} {S : Split} (R : InRange steps S) where
       fits t l (Sem k) e = some-location
       fits t l (Rwlock r w) e = some-location
 
+  -- the maps of a procedure's line are of the sheet, and so is map 0, which one that is not there has
+  signature-fits : (Q : Signature → Type 0) → Q noSignature → (f : ℕ) → (f < length (S .signatures) → Q (signature S f)) → Q (signature S f)
+  unfolding signature
+  signature-fits Q absent f each = go (decLt f (length (S .signatures)))
+    where
+      go : Dec (f < length (S .signatures)) → Q (signature S f)
+      go (yes l) = each l
+      go (no l) = rw (List·getD-eq-default (S .signatures) noSignature {n = f} (omega (arith, l))) absent
+
+  before-fits : (f : ℕ) → signature S f .before .0 < length (S .maps)
+  unfolding signature
+  before-fits f = signature-fits (λ g. g .before .0 < length (S .maps)) some-map f (R .beforeMap f noSignature)
+
+  after-fits : (f : ℕ) → signature S f .after .0 < length (S .maps)
+  unfolding signature
+  after-fits f = signature-fits (λ g. g .after .0 < length (S .maps)) some-map f (R .afterMap f noSignature)
+
   pub place-within : (e : Expr) → refLocation (kind S e) .0 < S .header .locations
   unfolding kind
   place-within e = place-fits (type S e)
@@ -214,6 +232,14 @@ module _ {steps : List Step} {S : Split} (R : InRange steps S) where
     pub write-kept : (e : Expr) → writeMap (filled S σ) e ≡ writeMap S e
     unfolding writeMap kind
     write-kept e = ap (λ t. mapAt (filled S σ) (writeLoad t)) (kind-kept S σ e) ∙ map-kept _ (write-fits _ (maps-fit (type S e)))
+
+    pub before-kept : (f : ℕ) → mapAt (filled S σ) (signature (filled S σ) f .before) ≡ mapAt S (signature S f .before)
+    unfolding signature filled
+    before-kept f = map-kept _ (before-fits f)
+
+    pub after-kept : (f : ℕ) → mapAt (filled S σ) (signature (filled S σ) f .after) ≡ mapAt S (signature S f .after)
+    unfolding signature filled
+    after-kept f = map-kept _ (after-fits f)
 
     -- the step with index i shows the new map i
     pub post-new : (e : Expr) (i : ℕ) → indexOf e ≡ i → i < length (S .rows) → post (filled S σ) e ≡ getD σ i []

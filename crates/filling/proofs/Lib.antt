@@ -1,5 +1,9 @@
 pub mod Found
+pub mod Along
 pub mod Pass
+pub mod Bounds
+pub mod Greatest
+pub mod Roots
 pub mod Kept
 pub mod Types
 pub mod Sorts

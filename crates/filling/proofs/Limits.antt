@@ -1,5 +1,6 @@
 -- The size limits of a filled sheet: its numbers, and its steps.
-use mathlib.Core.Path.{_≡_, refl}
+use mathlib.Core.Path.{_≡_, refl, subst}
+use mathlib.Core.Option.{Option, none, some}
 use mathlib.Core.Bool.{Bool, true, false, _&&_}
 use mathlib.Core.List.{List, [], _∷_}
 use mathlib.Core.Logic.{_↔_}
@@ -8,13 +9,14 @@ use native.Mathlib.Omega.{arith}
 use lib.Dec.{leb}
 use lib.ListN.{length, getD}
 use borrow.Author.Tests.{leb-true, leb-false, le-leb}
-use Rattle.spec.specs.Choice.{if_then_else_}
-use Rattle.spec.specs.Text.{Field, bytes, same, fields}
-use Rattle.spec.specs.Reading.{right, wrong, badForm, seen, _to_, numbers}
-use Rattle.spec.specs.Program.{Program, firstNumber, countLine}
+use Rattle.spec.specs.Text.{Field, lookUp, fields}
+use Rattle.spec.specs.Reading.{right, _to_}
+use Rattle.spec.specs.Program.{Program, Counts, firstNumber, programHeadings, countRanges, proceduresOf, countsOf, counted, countLine}
 use Rattle.spec.specs.Split.{Map}
 use Rattle.spec.specs.WellFormed.{WellFormedProgram}
 use Rattle.spec.specs.Accepted.{AtMost, none as noneAtMost, more as moreAtMost}
+use Rattle.spec.specs.declared.ProgramHeading.{ProgramHeading}
+use Rattle.spec.specs.declared.ProgramHeading.the-variants as heading
 use Rattle.spec.proofs.Clashes.{true-is-not-false}
 use Rattle.spec.proofs.Tests.{both-true}
 use Rattle.spec.proofs.Ranges.{wrong-is-not-right, seen-right, in-range-at, in-to}
@@ -76,16 +78,39 @@ some-above limit (m ∷ ms) h = go (mapAtMost limit m) refl h (some-above limit 
     go true e h rest = let (i, l, above) = rest h in (suc i, l, above)
 
 -- a program has at most 256 steps
-count-few : (fs : List Field) (n : ℕ) → countLine fs ≡ right n → n ≤ 256
-unfolding countLine firstNumber
-count-few [] n h = wrong-is-not-right h
-count-few (f ∷ fs) n h = go (same f (bytes "P")) h
-  where
-    go : (b : Bool) → (if b then seen firstNumber (numbers ((1 to 256) ∷ []) fs) else wrong badForm) ≡ right n → n ≤ 256
-    go false h = wrong-is-not-right h
-    go true h =
-        let (ns, r, e) = seen-right _ h in
-        rw (← e) (in-to _ _ _ (in-range-at ((1 to 256) ∷ []) fs ns r 0 (omega arith)) .1)
+counted-few : (o : Option ProgramHeading) (fs : List Field) (N : Counts) → counted o fs ≡ right N → N .steps ≤ 256
+unfolding counted countsOf countRanges firstNumber
+counted-few none fs N h = wrong-is-not-right h
+counted-few (some heading.P) fs N h =
+    let (ns, r, e) = seen-right _ h in
+    subst (λ (M : Counts). M .steps ≤ 256) e (in-to _ _ _ (in-range-at ((1 to 256) ∷ []) fs ns r 0 (omega arith)) .1)
+counted-few (some heading.P2) fs N h =
+    let (ns, r, e) = seen-right _ h in
+    subst (λ (M : Counts). M .steps ≤ 256) e (in-to _ _ _ (in-range-at ((1 to 256) ∷ (0 to 16) ∷ []) fs ns r 0 (omega arith)) .1)
+
+count-few : (fs : List Field) (N : Counts) → countLine fs ≡ right N → N .steps ≤ 256
+unfolding countLine
+count-few [] N h = wrong-is-not-right h
+count-few (f ∷ fs) N h = counted-few (lookUp programHeadings f) fs N h
 
 pub steps-few : {text : List ℕ} (P : Program) → WellFormedProgram text P → length (P .steps) ≤ 256
-steps-few P W = count-few (fields (W .first)) (length (P .steps)) (W .counted)
+steps-few P W = count-few (fields (W .first)) _ (W .counted)
+
+-- and at most 16 procedures
+counted-procedures : (o : Option ProgramHeading) (fs : List Field) (N : Counts) → counted o fs ≡ right N → N .procedures ≤ 16
+unfolding counted countsOf countRanges proceduresOf
+counted-procedures none fs N h = wrong-is-not-right h
+counted-procedures (some heading.P) fs N h =
+    let (ns, r, e) = seen-right _ h in
+    subst (λ (M : Counts). M .procedures ≤ 16) e (omega arith)
+counted-procedures (some heading.P2) fs N h =
+    let (ns, r, e) = seen-right _ h in
+    subst (λ (M : Counts). M .procedures ≤ 16) e (in-to _ _ _ (in-range-at ((1 to 256) ∷ (0 to 16) ∷ []) fs ns r 1 (omega arith)) .1)
+
+count-procedures : (fs : List Field) (N : Counts) → countLine fs ≡ right N → N .procedures ≤ 16
+unfolding countLine
+count-procedures [] N h = wrong-is-not-right h
+count-procedures (f ∷ fs) N h = counted-procedures (lookUp programHeadings f) fs N h
+
+pub procedures-few : {text : List ℕ} (P : Program) → WellFormedProgram text P → length (P .procedures) ≤ 16
+procedures-few P W = count-procedures (fields (W .first)) _ (W .counted)

@@ -1,6 +1,6 @@
 -- Comparing and adding maps number by number is comparing and adding at every location; so a condition on maps holds exactly when
 -- the effect that it states turns the numbers at every location.
-use mathlib.Core.Path.{_≡_, refl, ap, _∙_}
+use mathlib.Core.Path.{_≡_, refl, ap, sym, _∙_}
 use mathlib.Core.Bool.{Bool, true, false}
 use mathlib.Core.List.{[], _∷_}
 use mathlib.Core.Logic.{_↔_}
@@ -138,6 +138,10 @@ module _ {L : ℕ} where
     keeps = restated (λ p. (λ h. record { balance = omega arith; enough = omega arith; lent = omega arith }, λ t. omega (arith, t .balance))) (equal-everywhere after before)
 
     module _ {k k′ : Map} (load : Known L k k′) where
+      -- post = before + K, of the numbers
+      pub sums : (m =ᵐ n +ᵐ k) ≡ none ↔ Everywhere L (λ p. share m′ p ≡ share n′ p + share k′ p)
+      sums = restated (λ p. (λ h. h ∙ share-sum before load p, λ h. h ∙ sym (share-sum before load p))) (equal-everywhere after (known-sum before load))
+
       -- post = before + K
       pub gives : (m =ᵐ n +ᵐ k) ≡ none ↔ Everywhere L (λ p. Turns (giving (share k′ p)) (share n′ p) (share m′ p))
       unfolding giving

@@ -1,27 +1,28 @@
 -- Where an expression stands among the steps of a program, and what a split shows there: one with maps filled in, or a whole one.
-use mathlib.Core.Path.{_≡_, refl, ap}
-use mathlib.Core.List.{List, [], _∷_, map}
+use mathlib.Core.Path.{_≡_, refl, ap, sym, _∙_}
+use mathlib.Core.List.{List, [], _∷_, map, append-nil}
 use Prim.Native.Nat.{ℕ, zero, suc, _+_, _≤_, _<_}
 use native.Mathlib.Omega.{arith}
-use lib.ListN.{length, getD}
-use Rattle.spec.specs.Expression.{Step, Position, Expr, leaf, unary, binary, size, indexOf}
-use Rattle.spec.specs.WellFormed.{IndexesFrom}
+use lib.ListN.{length, getD, length-append}
+use Rattle.spec.specs.Expression.{Step, Position, Expr, leaf, unary, binary, size, indexOf, Item, step, stepsAmong, Procedure}
+use Rattle.spec.specs.Program.{Program}
+use Rattle.spec.specs.WellFormed.{prefix, IndexesFrom, itemsOf, listing, WellFormedProgram}
 use Rattle.spec.specs.Split.{Map, Row, noRow, Split, mapAt}
-use Rattle.spec.specs.Conditions.{refLocation, row, kind, post, bodyStart, K, inMap, outMap, readMap, writeMap, startMap}
+use Rattle.spec.specs.Conditions.{refLocation, row, kind, post, bodyStart, keptBack, signature, K, inMap, outMap, readMap, writeMap, startMap}
 use Rattle.spec.specs.Ranges.{InRange}
 use Rattle.spec.specs.declared.Location.{Location}
 use Rattle.spec.specs.declared.LeafWord.the-variants.{Var, Int, Newtid, Newlock, Newsem, Newrwlock}
 use Rattle.spec.specs.declared.UnaryWord.{UnaryWord}
-use Rattle.spec.specs.declared.UnaryWord.the-variants.{While, Join, Ref, Read, Lock, Unlock, Post, Wait, Rdlock, Rdunlock, Wrlock, Wrunlock}
+use Rattle.spec.specs.declared.UnaryWord.the-variants.{While, Join, Ref, Read, Lock, Unlock, Post, Wait, Rdlock, Rdunlock, Wrlock, Wrunlock, Call}
 use Rattle.spec.specs.declared.BinaryWord.{BinaryWord}
 use Rattle.spec.specs.declared.BinaryWord.the-variants.{Let, If, Spawn, Write}
-use Rattle.spec.proofs.Wide.{map-wide, start-wide}
-use Rattle.spec.proofs.Listing.{size-positive}
+use Rattle.spec.proofs.Wide.{map-wide, start-wide, kept-wide, before-wide, after-wide}
+use Rattle.spec.proofs.Listing.{size-positive, prefix-length, steps-among}
 use Rattle.filling.specs.Filled.{filled}
 use Rattle.filling.specs.AfterMaps.{shownMaps}
-use Rattle.filling.specs.Flow.{steps}
-use Rattle.filling.specs.FlowOf.{flowOf}
-use Rattle.filling.proofs.Kept.{kind-kept, place-within, K-wide, in-wide, out-wide, read-wide, write-wide, start-map-wide, start-map-kept, start-kept, K-kept, in-kept, out-kept, read-kept, write-kept, post-new}
+use Rattle.filling.specs.Flow.{steps, stepsOf}
+use Rattle.filling.specs.FlowOf.{flowOf, rootsFrom}
+use Rattle.filling.proofs.Kept.{kind-kept, place-within, K-wide, in-wide, out-wide, read-wide, write-wide, start-map-wide, start-map-kept, start-kept, before-kept, after-kept, K-kept, in-kept, out-kept, read-kept, write-kept, post-new}
 use Rattle.filling.proofs.Locations.{Known}
 
 -- a flow has the steps of its expression
@@ -49,6 +50,7 @@ flow-steps S p (unary Rdlock k v e₁) = ap suc (flow-steps S p e₁)
 flow-steps S p (unary Rdunlock k v e₁) = ap suc (flow-steps S p e₁)
 flow-steps S p (unary Wrlock k v e₁) = ap suc (flow-steps S p e₁)
 flow-steps S p (unary Wrunlock k v e₁) = ap suc (flow-steps S p e₁)
+flow-steps S p (unary Call k f e₁) = ap suc (flow-steps S p e₁)
 
 -- ------------------------------------------------------------------ places
 
@@ -76,12 +78,41 @@ module _ {ss : List Step} {i : ℕ} {k : Position} {v : ℕ} where
   unfolding IndexesFrom size
   second P = record { indexed = P .indexed .2; within = omega (arith, P .within) }
 
+-- ------------------------------------------------------------------ how many steps
+
+-- the steps of procedures and of the root
+unfoldable pub sizeOf : List Procedure → (root : Expr) → ℕ
+sizeOf [] root = size root
+sizeOf (p ∷ ps) root = size (p .body) + sizeOf ps root
+
+pub roots-steps : (S : Split) (here : Location) (f : ℕ) (ps : List Procedure) (root : Expr) → stepsOf (rootsFrom S here f ps root) ≡ sizeOf ps root
+unfolding stepsOf rootsFrom sizeOf
+roots-steps S here f [] root = omega (arith, flow-steps S here root)
+roots-steps S here f (p ∷ ps) root = omega (arith, flow-steps S here (p .body), roots-steps S here (f + 1) ps root)
+
+steps-listed : (ps : List Procedure) (root : Expr) → length (stepsAmong (listing ps root)) ≡ sizeOf ps root
+unfolding listing itemsOf stepsAmong sizeOf
+steps-listed [] root =
+    ap (λ (l : List Item). length (stepsAmong l)) (sym (append-nil (map step (prefix root))))
+    ∙ ap length (steps-among (prefix root) [] ∙ append-nil (prefix root))
+    ∙ prefix-length root
+steps-listed (p ∷ ps) root =
+    let body = prefix (p .body) in
+    ap length (steps-among body (listing ps root))
+    ∙ omega (arith, length-append body (stepsAmong (listing ps root)), prefix-length (p .body), steps-listed ps root)
+
+pub steps-sized : {text : List ℕ} (P : Program) → WellFormedProgram text P → length (P .steps) ≡ sizeOf (P .procedures) (P .root)
+steps-sized P W = ap length (W .stepped) ∙ steps-listed (P .procedures) (P .root)
+
 -- ------------------------------------------------------------------ what a split shows
 
 -- after step i the split T shows the map i of σ, and otherwise what S shows: each with a number for each location
 pub record Showing (ss : List Step) (S : Split) (σ : List Map) (T : Split) : Type 0 where
   pub posts : {i : ℕ} (e : Expr) → Placed ss i e → Known (S .header .locations) (post T e) (getD σ i [])
   pub starts : (e : Expr) → Known (S .header .locations) (bodyStart T e) (bodyStart S e)
+  pub kepts : (e : Expr) → Known (S .header .locations) (keptBack T e) (keptBack S e)
+  pub befores : (f : ℕ) → Known (S .header .locations) (mapAt T (signature T f .before)) (mapAt S (signature S f .before))
+  pub afters : (f : ℕ) → Known (S .header .locations) (mapAt T (signature T f .after)) (mapAt S (signature S f .after))
   pub loads : (e : Expr) → Known (S .header .locations) (K T e) (K S e)
   pub ins : (e : Expr) → Known (S .header .locations) (inMap T e) (inMap S e)
   pub outs : (e : Expr) → Known (S .header .locations) (outMap T e) (outMap S e)
@@ -92,20 +123,23 @@ pub record Showing (ss : List Step) (S : Split) (σ : List Map) (T : Split) : Ty
   pub first : Known (S .header .locations) (startMap T) (startMap S)
   pub denominator : T .header .denominator ≡ S .header .denominator
 
--- S is a split in range for the steps ss, and σ has a map for each step, with a number for each location
-pub record Given (ss : List Step) (S : Split) (σ : List Map) : Type 0 where
-  pub inRange : InRange ss S
-  pub counted : length σ ≡ length ss
+-- S is a split in range for the program P, and σ has a map for each step, with a number for each location
+pub record Given (P : Program) (S : Split) (σ : List Map) : Type 0 where
+  pub inRange : InRange P S
+  pub counted : length σ ≡ length (P .steps)
   pub wide : (i : ℕ) → i < length σ → length (getD σ i []) ≡ S .header .locations
 
-pub filled-shows : {ss : List Step} {S : Split} {σ : List Map} → Given ss S σ → Showing ss S σ (filled S σ)
-unfolding filled
+pub filled-shows : {P : Program} {S : Split} {σ : List Map} → Given P S σ → Showing (P .steps) S σ (filled S σ)
+unfolding filled keptBack
 filled-shows {σ = σ} G = let R = G .inRange in record {
   posts = λ {i} e P. record {
     same = post-new R σ e i (index-at P) (omega (arith, P .within, size-positive e, R .rowsCounted));
     wide = G .wide i (omega (arith, P .within, size-positive e, G .counted));
   };
   starts = λ e. record { same = start-kept R σ e; wide = start-wide R e };
+  kepts = λ e. record { same = start-kept R σ e; wide = start-wide R e };
+  befores = λ f. record { same = before-kept R σ f; wide = before-wide R f };
+  afters = λ f. record { same = after-kept R σ f; wide = after-wide R f };
   loads = λ e. record { same = K-kept R σ e; wide = K-wide R e };
   ins = λ e. record { same = in-kept R σ e; wide = in-wide R e };
   outs = λ e. record { same = out-kept R σ e; wide = out-wide R e };
@@ -123,19 +157,22 @@ map-at f (x ∷ xs) zero d d′ l = refl
 map-at f (x ∷ xs) (suc i) d d′ l = map-at f xs i d d′ (omega arith)
 
 -- a whole sheet shows its own maps
-pub shown-map : {ss : List Step} {S : Split} → InRange ss S → (i : ℕ) → i < length (S .rows)
+pub shown-map : {P : Program} {S : Split} → InRange P S → (i : ℕ) → i < length (S .rows)
     → Known (S .header .locations) (mapAt S (getD (S .rows) i noRow .post)) (getD (shownMaps S) i [])
 unfolding shownMaps
 shown-map {S = S} R i here =
     rw (map-at (λ (r : Row). mapAt S (r .post)) (S .rows) i noRow [] here)
     (record { same = refl; wide = map-wide R _ (R .rowPost i noRow here) })
 
-pub split-shows : {ss : List Step} {S : Split} → InRange ss S → Showing ss S (shownMaps S) S
+pub split-shows : {P : Program} {S : Split} → InRange P S → Showing (P .steps) S (shownMaps S) S
 unfolding post row
 split-shows R = record {
   posts = λ {i} e P.
       rw (index-at P) (shown-map R i (omega (arith, P .within, size-positive e, R .rowsCounted)));
   starts = λ e. record { same = refl; wide = start-wide R e };
+  kepts = λ e. record { same = refl; wide = kept-wide R e };
+  befores = λ f. record { same = refl; wide = before-wide R f };
+  afters = λ f. record { same = refl; wide = after-wide R f };
   loads = λ e. record { same = refl; wide = K-wide R e };
   ins = λ e. record { same = refl; wide = in-wide R e };
   outs = λ e. record { same = refl; wide = out-wide R e };

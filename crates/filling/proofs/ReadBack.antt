@@ -9,13 +9,13 @@ use lib.ListN.{length, getD, List·getD-append}
 use lib.Seq.{getD-append-add}
 use Rattle.spec.specs.Text.{Field}
 use Rattle.spec.specs.Reading.{on}
-use Rattle.spec.specs.Expression.{Step}
+use Rattle.spec.specs.Program.{Program}
 use Rattle.spec.specs.Split.{Map, Split, split}
 use Rattle.spec.specs.WellFormed.{WellFormedSplit}
 use Rattle.spec.specs.Accepted.{AtMost}
 use Rattle.spec.specs.declared.Purpose.the-variants.{Check, Fill}
 use Rattle.writer.specs.Text.{line, text}
-use Rattle.writer.specs.Sheet.{headerFields, typeFields, mapFields, rowFields, splitLines, written, unfilled}
+use Rattle.writer.specs.Sheet.{headerFields, typeFields, mapFields, signatureFields, rowFields, splitLines, written, unfilled}
 use Rattle.writer.specs.Writable.{RowStarts, Writable}
 use Rattle.writer.proofs.Lines.{text-append}
 use Rattle.writer.proofs.Sheet.{written-reads-back}
@@ -41,20 +41,20 @@ module _ (S : Split) (γ : List Map) (few : S .header .maps + length γ ≤ 512)
           along (λ (n : ℕ). AtMost 1000000000 (getD (S .maps ++ γ) n [])) index
           (along (AtMost 1000000000) (sym (getD-append-add (S .maps) γ (m - length (S .maps)) [])) (small (m - length (S .maps))))
 
-  filled-writable : {steps : List Step} → length γ ≡ length steps → Writable steps S → Writable steps (filled S γ)
+  filled-writable : {P : Program} → length γ ≡ length (P .steps) → Writable P S → Writable P (filled S γ)
   unfolding filled
-  filled-writable {steps} counted W = record {
+  filled-writable {P} counted W = record {
     inRange = filled-in-range (record { inRange = W .inRange; counted = counted; wide = wide }) few;
     rootStart = W .rootStart;
     lockShows = W .lockShows;
     numbersSmall = maps-small (W .numbersSmall);
     rowStarts = λ i s r h.
-        along (RowStarts (S .header .heading) (getD steps i s .word)) (sym (rows-kept (S .header .maps) (S .rows) i r .1)) (W .rowStarts i s r h);
+        along (RowStarts (S .header .heading) (getD (P .steps) i s .word)) (sym (rows-kept (S .header .maps) (S .rows) i r .1)) (W .rowStarts i s r h);
   }
 
   -- a sheet that was read to be filled, with maps filled in, is a whole sheet
-  pub filled-reads-back : {steps : List Step} {given : List ℕ} → length γ ≡ length steps → WellFormedSplit Fill steps given S
-      → split Check steps (written (filled S γ)) ≡ on (filled S γ)
+  pub filled-reads-back : {P : Program} {given : List ℕ} → length γ ≡ length (P .steps) → WellFormedSplit Fill P given S
+      → split Check P (written (filled S γ)) ≡ on (filled S γ)
   filled-reads-back counted F = written-reads-back (filled-writable counted (read-is-writable F))
 
 -- ------------------------------------------------------------------ what is kept
@@ -63,20 +63,20 @@ module _ (S : Split) (γ : List Map) (few : S .header .maps + length γ ≤ 512)
 unfoldable pub keptLines : Split → List (List Field)
 keptLines S = map (typeFields (S .header .heading)) (S .types) ++ map mapFields (S .maps)
 
--- "The rest of each line is kept": of the given text and of the whole one, these lines are the same bytes; the rows show the same t
--- and s
-pub rest-kept : {steps : List Step} {given : List ℕ} (S : Split) (γ : List Map) → WellFormedSplit Fill steps given S
-    → (given ≡ line (headerFields (S .header)) (text (keptLines S) ++ text (map (rowFields Fill) (S .rows))))
+-- "The rest of each line is kept": of the given text and of the whole one, these lines and those of the procedures are the same bytes;
+-- the rows show the same t and s
+pub rest-kept : {P : Program} {given : List ℕ} (S : Split) (γ : List Map) → WellFormedSplit Fill P given S
+    → (given ≡ line (headerFields (S .header)) (text (keptLines S) ++ text (map signatureFields (S .signatures) ++ map (rowFields Fill) (S .rows))))
     × (written (filled S γ)
     ≡ line (headerFields (filled S γ .header))
-    (text (keptLines S) ++ (text (map mapFields γ) ++ text (map (rowFields Check) (withPosts (S .header .maps) (S .rows))))))
+    (text (keptLines S) ++ (text (map mapFields γ) ++ text (map signatureFields (S .signatures) ++ map (rowFields Check) (withPosts (S .header .maps) (S .rows))))))
 unfolding keptLines written unfilled splitLines text filled
 rest-kept S γ F =
     let T = map (typeFields (S .header .heading)) (S .types) in
     let M = map mapFields (S .maps) in
     let G = map mapFields γ in
-    let R = map (rowFields Fill) (S .rows) in
-    let R′ = map (rowFields Check) (withPosts (S .header .maps) (S .rows)) in (
+    let R = map signatureFields (S .signatures) ++ map (rowFields Fill) (S .rows) in
+    let R′ = map signatureFields (S .signatures) ++ map (rowFields Check) (withPosts (S .header .maps) (S .rows)) in (
       sym (read-as-written F) ∙ ap (line (headerFields (S .header))) (ap text (sym (append-assoc T M R)) ∙ text-append (T ++ M) R),
       ap (line (headerFields (filled S γ .header)))
           (ap (λ (x : List (List Field)). text (T ++ (x ++ R′))) (map-append mapFields (S .maps) γ)

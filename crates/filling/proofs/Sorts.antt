@@ -38,6 +38,13 @@ module _ (sort : Condition → Bool) where
     parts-both xs ys p q =
         subst AllHold (sym (sites-append xs ys)) (all-hold-append (only sort (claims S xs)) (only sort (claims S ys)) p q)
 
+  -- the claims of two lists
+  pub only-parts : (xs ys : List Claim) → AllHold (only sort (xs ++ ys)) → AllHold (only sort xs) × AllHold (only sort ys)
+  only-parts xs ys h = all-hold-parts (only sort xs) (only sort ys) (subst AllHold (only-append sort xs ys) h)
+
+  pub parts-only : (xs ys : List Claim) → AllHold (only sort xs) → AllHold (only sort ys) → AllHold (only sort (xs ++ ys))
+  parts-only xs ys p q = subst AllHold (sym (only-append sort xs ys)) (all-hold-append (only sort xs) (only sort ys) p q)
+
 -- all claims hold exactly when those on types do and those on flow and access do
 abbrev Sorts : List Claim → Type 0
 Sorts cs = AllHold (only isType cs) × AllHold (only isFlow cs)

@@ -7,23 +7,19 @@ use lib.ListN.{length, getD}
 use Rattle.spec.specs.Program.{Program}
 use Rattle.spec.specs.Split.{Map, Row, Split, mapAt}
 use Rattle.spec.specs.Maps.{share}
-use Rattle.spec.specs.Conditions.{startMap}
-use Rattle.spec.specs.Sites.{Claim, sites, claims, isType, isFlow, only}
+use Rattle.spec.specs.Sites.{Claim, claimsOf, isType, isFlow, only}
 use Rattle.spec.specs.FirstFalse.{AllHold}
 use Rattle.spec.specs.declared.Location.{Location}
 use Rattle.filling.specs.Filled.{filled}
 
 -- ------------------------------------------------------------------ two sorts of claims
 
-unfoldable pub allClaims : Program → Split → List Claim
-allClaims P S = claims S (sites S [] (startMap S) (P .root))
-
 -- the (T) claims, and the (F) and (A) claims
 unfoldable pub typeClaims : Program → Split → List Claim
-typeClaims P S = only isType (allClaims P S)
+typeClaims P S = only isType (claimsOf S P)
 
 unfoldable pub flowClaims : Program → Split → List Claim
-flowClaims P S = only isFlow (allClaims P S)
+flowClaims P S = only isFlow (claimsOf S P)
 
 -- ------------------------------------------------------------------ after-maps
 

@@ -1,4 +1,4 @@
--- The answer of filling, in the order 1; 10 to 15 and 45; 20; 21 to 23; 43; 44; 30; 31; 41; 42.
+-- The answer of filling, in the order 1; 10 to 15, 45 and 49; 20; 21 to 23 and 50; 43; 44; 30; 31; 41; 42.
 use mathlib.Core.Path.{_≡_}
 use mathlib.Core.Bool.{Bool, true, _&&_}
 use mathlib.Core.List.{List, [], _∷_, _++_}

@@ -29,7 +29,7 @@ p with s has ms = record { program = p; split = s; maps = ms }
 
 -- what the definitions give a pair
 unfoldable pub mapsFound : Example → Out (Option (List Map))
-mapsFound r = program (barred (r .program)) >>= λ p. split Fill (p .steps) (barred (r .split)) >>= λ s. on (greatestMaps p s)
+mapsFound r = program (barred (r .program)) >>= λ p. split Fill p (barred (r .split)) >>= λ s. on (greatestMaps p s)
 
 -- maps of one location
 unfoldable pub ones : List ℕ → Option (List Map)
@@ -76,6 +76,30 @@ examples =
     -- numbers as large as they come
     ("P,10|" ++ˢ twoLocks "unlock,0|var,0|" with twoLocksSplit "0,,|1,,|" has
     ones (1000000000 ∷ 0 ∷ 1000000000 ∷ 1000000000 ∷ 0 ∷ 1000000000 ∷ 2000000000 ∷ 1000000000 ∷ 1000000000 ∷ 2000000000 ∷ [])) ∷
+    []
+
+-- a procedure that starts with 1 and leaves 1, called behind such lines; and its sheet, in which the call keeps back the map `kept`
+unfoldable pub callsOne : (n : String) → (lines : String) → String
+callsOne n lines = "P2," ++ˢ n ++ˢ ",1|proc,0|var,0|" ++ˢ lines ++ˢ "call,0|int,0|"
+
+unfoldable pub oneKept : (rows : String) → (kept : String) → String
+oneKept rows kept = "C2,2,1,1,3,0|int,0,0|2|1|0|1,0,1,0|0,,|" ++ˢ rows ++ˢ "0,," ++ˢ kept ++ˢ "|0,,|"
+
+unfoldable pub callExamples : List Example
+callExamples =
+    -- what is at hand is what the procedure starts with and what is kept back; no more, no less
+    (callsOne "3" "" with oneKept "" "1" has ones (1 ∷ 2 ∷ 2 ∷ [])) ∷
+    (callsOne "3" "" with oneKept "" "0" has none) ∷
+    (callsOne "3" "" with oneKept "" "2" has none) ∷
+    -- an if and a while in front of a call end with what the call wants
+    (callsOne "7" "let,1|if,0|int,0|int,0|" with oneKept "0,,|0,,|0,,|0,,|" "2" has ones (1 ∷ 1 ∷ 1 ∷ 2 ∷ 2 ∷ 1 ∷ 1 ∷ [])) ∷
+    (callsOne "6" "let,1|while,0|int,0|" with oneKept "0,,|0,,|0,,|" "2" has ones (1 ∷ 1 ∷ 1 ∷ 1 ∷ 1 ∷ 1 ∷ [])) ∷
+    -- a while ends with no more than a call in its body leaves
+    (callsOne "8" "while,0|let,1|if,0|int,0|int,0|" with oneKept "0,,|0,,|0,,|0,,|0,,|" "2" has ones (1 ∷ 1 ∷ 1 ∷ 1 ∷ 1 ∷ 1 ∷ 1 ∷ 1 ∷ [])) ∷
+    -- a body that ends with less than the procedure leaves
+    ("P2,2,1|proc,0|var,0|int,0|" with "C2,2,1,1,2,0|int,0,0|2|1|1,0,0,0|0,,|0,,|" has none) ∷
+    -- a procedure that calls itself, and that the root does not call
+    ("P2,3,1|proc,0|call,0|var,0|int,0|" with "C2,2,1,1,2,0|int,0,0|2|0|0,0,0,0|0,,1|0,,|0,,|" has ones (2 ∷ 2 ∷ 2 ∷ [])) ∷
     []
 
 unfoldable pub AllFound : List Example → Type 0
@@ -161,4 +185,6 @@ fillings =
     -- a lock line keeps its in and its out
     ("P,7|let,0|newlock,0|let,1|lock,0|var,0|unlock,0|var,0|" with "C3,4,1,2,3,0|int,0,0|lock,1,2|4|1|2|0,,|1,,|0,,|0,,|1,,|0,,|1,,|" becomes
     "C3,4,1,2,10,0|int,0,0|lock,1,2|4|1|2|1|2|1|3|2|1|3|0,3,|1,4,|0,5,|0,6,|1,7,|0,8,|1,9,|") ∷
+    -- new maps stand before the procedures, whose lines are kept; a step's map goes by its index over all bodies and the root
+    (callsOne "3" "" with oneKept "" "1" becomes "C2,2,1,1,6,0|int,0,0|2|1|0|1|2|2|1,0,1,0|0,3,|0,4,1|0,5,|") ∷
     []

@@ -23,5 +23,6 @@ filled S σ = let H = S .header in record {
   };
   types = S .types;
   maps = S .maps ++ σ;
+  signatures = S .signatures;
   rows = withPosts (H .maps) (S .rows);
 }

@@ -1,14 +1,8 @@
--- What an expression does to the number at one location: the posts that its conditions allow, and the greatest of them.
--- Nothing here knows words or types: FlowOf.antt says which flow an expression has.
+-- What an expression does to the number at one location, and the posts that its conditions allow. Nothing here knows words or types:
+-- FlowOf.antt says which flow an expression has.
 use mathlib.Core.Path.{_≡_}
-use mathlib.Core.Bool.{_&&_}
-use mathlib.Core.List.{List, [], _∷_, _++_}
-use mathlib.Core.Option.{Option, none, some}
-use Prim.Native.Nat.{ℕ, suc, _+_, _-_, _≤_, min}
-use lib.Dec.{leb}
-use lib.ListN.{getD}
-use Rattle.spec.specs.Choice.{if_then_else_}
-use Rattle.filling.specs.Found.{_>>=_, demand}
+use mathlib.Core.List.{List, [], _∷_}
+use Prim.Native.Nat.{ℕ, suc, _+_, _≤_}
 use Rattle.filling.specs.declared.Effect.{Effect}
 
 -- ------------------------------------------------------------------ effects
@@ -45,6 +39,9 @@ pub data Flow : Type 0 where
   loop : Flow → Flow
   -- after its first part a step hands `start` to the second, which must end with at least `due`
   fork : (start due : ℕ) → Flow → Flow → Flow
+  -- a part ends with exactly `atCall`, and the step with exactly `atReturn`: what a procedure starts with and what it ends with, each
+  -- with what is kept back
+  call : (atCall atReturn : ℕ) → Flow → Flow
 
 unfoldable pub steps : Flow → ℕ
 steps (alone E) = 1
@@ -53,6 +50,7 @@ steps (inTurn E f g) = suc (steps f + steps g)
 steps (branch f g) = suc (steps f + steps g)
 steps (loop f) = suc (steps f)
 steps (fork s k f g) = suc (steps f + steps g)
+steps (call b d f) = suc (steps f)
 
 -- ------------------------------------------------------------------ posts that pass
 
@@ -75,45 +73,22 @@ Passes a i pre (loop f) =
     Passes a (i + 1) (a i) f × (a i ≤ pre) × (a i ≤ a (i + 1))
 Passes a i pre (fork s k f g) = let j = i + 1 + steps f in
     Passes a (i + 1) pre f × Passes a j s g × (k ≤ a j) × Turns (taking s) (a (i + 1)) (a i)
+Passes a i pre (call b d f) =
+    Passes a (i + 1) pre f × (a (i + 1) ≡ b) × (a i ≡ d)
 
--- ------------------------------------------------------------------ the pass
+-- ------------------------------------------------------------------ flows one beside the other
 
--- the number after a step, if there is one
-unfoldable pub turn : Effect → (before : ℕ) → Option ℕ
-turn E before =
-    if leb (E .takes + E .needs) (before + E .gives) && leb (E .lends) (E .takes)
-    then some (before + E .gives - E .takes)
-    else none
+-- a flow that starts by itself, with `pre`, and must end with at least `due`: the body of a procedure, or the program's own root
+pub record Root : Type 0 where
+  pub pre : ℕ
+  pub due : ℕ
+  pub flow : Flow
 
--- an expression's own post is the first of its posts
-unfoldable pub ownPost : List ℕ → ℕ
-ownPost ps = getD ps 0 0
+unfoldable pub stepsOf : List Root → ℕ
+stepsOf [] = 0
+stepsOf (r ∷ rs) = steps (r .flow) + stepsOf rs
 
--- the greatest posts, in step order, or none if no posts pass
-unfoldable pub pass : (pre : ℕ) → Flow → Option (List ℕ)
-pass pre (alone E) = do
-  p ← turn E pre
-  some (p ∷ [])
-pass pre (after E f) = do
-  ps ← pass pre f
-  p ← turn E (ownPost ps)
-  some (p ∷ ps)
-pass pre (inTurn E f g) = do
-  ps ← pass pre f
-  qs ← pass (ownPost ps) g
-  p ← turn E (ownPost qs)
-  some (p ∷ (ps ++ qs))
-pass pre (branch f g) = do
-  ps ← pass pre f
-  qs ← pass pre g
-  some (min (ownPost ps) (ownPost qs) ∷ (ps ++ qs))
-pass pre (loop f) = do
-  ps ← pass pre f
-  kept ← demand (leb pre (ownPost ps))
-  some (pre ∷ ps)
-pass pre (fork s k f g) = do
-  ps ← pass pre f
-  qs ← pass s g
-  paid ← demand (leb k (ownPost qs))
-  p ← turn (taking s) (ownPost ps)
-  some (p ∷ (ps ++ qs))
+-- with a j for the post of step j, the steps of all of them, counted from i, meet their conditions
+unfoldable pub RootsPass : (a : ℕ → ℕ) → (i : ℕ) → List Root → Type 0
+RootsPass a i [] = Unit {0}
+RootsPass a i (r ∷ rs) = Passes a i (r .pre) (r .flow) × (r .due ≤ a i) × RootsPass a (i + steps (r .flow)) rs

@@ -1,16 +1,19 @@
--- The flow of an expression at a location: document 01's table, its (F) and (A) conditions at that location.
-use Prim.Native.Nat.{ℕ, _*_}
+-- The flow of an expression at a location: document 01's table, its (F) and (A) conditions at that location; and the flows of a
+-- program, its procedures' bodies and its root.
+use mathlib.Core.List.{List, [], _∷_}
+use Prim.Native.Nat.{ℕ, _+_, _*_}
 use lib.Dec.{eqb}
 use Rattle.spec.specs.Choice.{if_then_else_}
-use Rattle.spec.specs.Expression.{Expr, leaf, unary, binary}
-use Rattle.spec.specs.Split.{Split}
+use Rattle.spec.specs.Expression.{Expr, leaf, unary, binary, Procedure}
+use Rattle.spec.specs.Program.{Program}
+use Rattle.spec.specs.Split.{Split, mapAt}
 use Rattle.spec.specs.Maps.{share}
-use Rattle.spec.specs.Conditions.{refLocation, kind, bodyStart, K, inMap, outMap, readMap, writeMap}
+use Rattle.spec.specs.Conditions.{refLocation, kind, startMap, bodyStart, keptBack, signature, K, inMap, outMap, readMap, writeMap}
 use Rattle.spec.specs.declared.Location.{Location}
 use Rattle.spec.specs.declared.LeafWord.the-variants.{Var, Int, Newtid, Newlock, Newsem, Newrwlock}
-use Rattle.spec.specs.declared.UnaryWord.the-variants.{While, Join, Ref, Read, Lock, Unlock, Post, Wait, Rdlock, Rdunlock, Wrlock, Wrunlock}
+use Rattle.spec.specs.declared.UnaryWord.the-variants.{While, Join, Ref, Read, Lock, Unlock, Post, Wait, Rdlock, Rdunlock, Wrlock, Wrunlock, Call}
 use Rattle.spec.specs.declared.BinaryWord.the-variants.{Let, If, Spawn, Write}
-use Rattle.filling.specs.Flow.{unchanged, taking, giving, needing, lending, Flow, alone, after, inTurn, branch, loop, fork}
+use Rattle.filling.specs.Flow.{unchanged, taking, giving, needing, lending, Flow, alone, after, inTurn, branch, loop, fork, call, Root}
 
 -- an access to the location p that needs d there needs nothing elsewhere
 unfoldable pub asks : (here p : Location) → (d : ℕ) → ℕ
@@ -35,6 +38,16 @@ module _ (S : Split) (here : Location) where
 
   unfoldable pub startHere : Expr → ℕ
   startHere e = share (bodyStart S e) here
+
+  -- what a call keeps back, and what procedure f starts and ends with
+  unfoldable pub keptHere : Expr → ℕ
+  keptHere e = share (keptBack S e) here
+
+  unfoldable pub beforeHere : (f : ℕ) → ℕ
+  beforeHere f = share (mapAt S (signature S f .before)) here
+
+  unfoldable pub afterHere : (f : ℕ) → ℕ
+  afterHere f = share (mapAt S (signature S f .after)) here
 
   -- what an access through the ref type of an expression needs here, if it needs d at its location
   unfoldable pub accessHere : Expr → (d : ℕ) → ℕ
@@ -64,3 +77,12 @@ module _ (S : Split) (here : Location) where
   flowOf (unary Rdunlock k v e₁) = after (taking (readHere e₁)) (flowOf e₁)
   flowOf (unary Wrlock k v e₁) = after (giving (writeHere e₁)) (flowOf e₁)
   flowOf (unary Wrunlock k v e₁) = after (taking (writeHere e₁)) (flowOf e₁)
+  flowOf (unary Call k f e₁) = let kept = keptHere (unary Call k f e₁) in call (beforeHere f + kept) (afterHere f + kept) (flowOf e₁)
+
+  -- the procedures from number f on, each from its before to at least its after; then the root, from the start
+  unfoldable pub rootsFrom : (f : ℕ) → List Procedure → (root : Expr) → List Root
+  rootsFrom f [] root = record { pre = share (startMap S) here; due = 0; flow = flowOf root } ∷ []
+  rootsFrom f (p ∷ ps) root = record { pre = beforeHere f; due = afterHere f; flow = flowOf (p .body) } ∷ rootsFrom (f + 1) ps root
+
+  unfoldable pub rootsOf : Program → List Root
+  rootsOf P = rootsFrom 0 (P .procedures) (P .root)

@@ -5,16 +5,14 @@ use Prim.Native.Nat.{ℕ, zero, suc, _+_}
 use lib.ListN.{length, getD}
 use Rattle.spec.specs.Program.{Program}
 use Rattle.spec.specs.Split.{Map, Split}
-use Rattle.spec.specs.Maps.{share}
-use Rattle.spec.specs.Conditions.{startMap}
 use Rattle.spec.specs.declared.Location.{Location}
 use Rattle.filling.specs.Found.{_>>=_, forEach}
-use Rattle.filling.specs.Flow.{pass}
-use Rattle.filling.specs.FlowOf.{flowOf}
+use Rattle.filling.specs.Pass.{postsOfRoots}
+use Rattle.filling.specs.FlowOf.{rootsOf}
 
 -- the greatest posts of all steps at location l
 unfoldable pub postsAt : Program → Split → (l : ℕ) → Option (List ℕ)
-postsAt P S l = let here : Location = record { 0 = l } in pass (share (startMap S) here) (flowOf S here (P .root))
+postsAt P S l = let here : Location = record { 0 = l } in postsOfRoots (rootsOf S here P)
 
 -- the map of step i, from the posts at each location
 unfoldable pub mapOfStep : (columns : List (List ℕ)) → (i : ℕ) → Map

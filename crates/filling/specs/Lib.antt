@@ -2,6 +2,7 @@ pub mod Filled
 pub mod AfterMaps
 pub mod Found
 pub mod Flow
+pub mod Pass
 pub mod FlowOf
 pub mod GreatestMaps
 pub mod Answer

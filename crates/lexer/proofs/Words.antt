@@ -7,7 +7,6 @@ use Prim.Native.Nat.{ℕ, _-_}
 use lib.ListN.{take, drop}
 use Rattle.spec.specs.Choice.{if_then_else_}
 use Rattle.spec.specs.Text.{same, Field, lookUp}
-use Rattle.spec.specs.Words.{words}
 use Rattle.spec.specs.declared.Word.{Word}
 use Rattle.lexer.specs.Views.{firstField}
 use Rattle.lexer.specs.Cursors.{rest, spanAt}
@@ -76,12 +75,12 @@ unknown (some v) e = cc
 
 -- ------------------------------------------------------------------ the word at a cursor
 
-module _ (text : List ℕ) (c : Cursor) (s : Span) (is : s ≡ spanAt text c) where
-  at-span : lookUp words (firstField (rest text c)) ≡ lookUp words (take (s .to - s .from) (drop (s .from) text))
-  at-span = ap (lookUp words) (sym (span-field text c s is))
+module _ (ws : List (List ℕ × Word)) (text : List ℕ) (c : Cursor) (s : Span) (is : s ≡ spanAt text c) where
+  at-span : lookUp ws (firstField (rest text c)) ≡ lookUp ws (take (s .to - s .from) (drop (s .from) text))
+  at-span = ap (lookUp ws) (sym (span-field text c s is))
 
-  pub span-known : (w : Word) → foundOf (lookUp words (take (s .to - s .from) (drop (s .from) text))) ≡ Known w → lookUp words (firstField (rest text c)) ≡ some w
+  pub span-known : (w : Word) → foundOf (lookUp ws (take (s .to - s .from) (drop (s .from) text))) ≡ Known w → lookUp ws (firstField (rest text c)) ≡ some w
   span-known w e = at-span ∙ known _ w e
 
-  pub span-unknown : foundOf (lookUp words (take (s .to - s .from) (drop (s .from) text))) ≡ Unknown → lookUp words (firstField (rest text c)) ≡ none
+  pub span-unknown : foundOf (lookUp ws (take (s .to - s .from) (drop (s .from) text))) ≡ Unknown → lookUp ws (firstField (rest text c)) ≡ none
   span-unknown e = at-span ∙ unknown _ e

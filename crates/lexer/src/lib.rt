@@ -3,9 +3,11 @@ mod vocabulary;
 
 pub use vocabulary::FoundWord;
 pub use vocabulary::TypeWord;
+pub use vocabulary::calls;
 pub use vocabulary::same;
 pub use vocabulary::type_word;
 pub use vocabulary::word_of;
+pub use vocabulary::word_under;
 ghost use mathlib.Core.Path.{_≡_};
 ghost use Rattle.spec.specs.Text.{leadingZero, numeral};
 ghost use Rattle.lexer.specs.Views.{textEnded};

@@ -1,11 +1,12 @@
 // The fixed words of both sheets, compared as byte strings.
 use spec::BinaryWord;
 use spec::LeafWord;
+use spec::ProgramHeading;
 use spec::UnaryWord;
 use spec::Word;
 ghost use mathlib.Core.Path.{_≡_};
 ghost use Rattle.spec.specs.Text.{same as sameBytes, lookUp};
-ghost use Rattle.spec.specs.Words.{leafWords, cellWords, lockWords, holdWords, unaryWords, binaryWords, words};
+ghost use Rattle.spec.specs.Words.{leafWords, cellWords, lockWords, holdWords, unaryWords, binaryWords, words, wordsUnder, calls as callsOf};
 ghost use Rattle.lexer.specs.Words.{foundOf, spelledOr, eitherOf, typeWordOf};
 
 // The word of a step that a field spells.
@@ -138,6 +139,38 @@ pub fn word_of(field: &[u8]) -> FoundWord
 {
     let parts = either(unary_word(field), binary_word(field));
     either(leaf_word(field), parts)
+}
+
+// The word of a step that a field spells under a heading: `call` too in a `P2` sheet.
+pub fn word_under(field: &[u8], heading: ProgramHeading) -> FoundWord
+    ensures { λ r. ⌜ r ≡ foundOf (lookUp (wordsUnder heading) (now (field .entry))) ⌝ }
+{
+    let found = word_of(field);
+    match heading {
+        ProgramHeading::P => found,
+        ProgramHeading::P2 => spelled(field, b"call", Word::Unary(UnaryWord::Call), found),
+    }
+}
+
+// Whether the number of a step with this word is that of a procedure.
+pub fn calls(w: UnaryWord) -> bool
+    ensures { λ r. ⌜ r ≡ callsOf w ⌝ }
+{
+    match w {
+        UnaryWord::While => false,
+        UnaryWord::Join => false,
+        UnaryWord::Ref => false,
+        UnaryWord::Read => false,
+        UnaryWord::Lock => false,
+        UnaryWord::Unlock => false,
+        UnaryWord::Post => false,
+        UnaryWord::Wait => false,
+        UnaryWord::Rdlock => false,
+        UnaryWord::Rdunlock => false,
+        UnaryWord::Wrlock => false,
+        UnaryWord::Wrunlock => false,
+        UnaryWord::Call => true,
+    }
 }
 
 // The kind of a type line that a field spells.

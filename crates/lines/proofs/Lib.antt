@@ -6,3 +6,4 @@ pub mod TypeLaws
 pub mod MapLaws
 pub mod RowFields
 pub mod RowLaws
+pub mod SignatureLaws

@@ -1,11 +1,16 @@
 -- A line at a cursor: missing, spare, what it shows; and the cursor behind its first field.
 use mathlib.Core.Path.{_≡_, sym, ap, subst, _∙_}
 use mathlib.Core.List.{List}
-use mathlib.Core.Bool.{true, false}
+use mathlib.Core.Bool.{Bool, true, false}
 use Prim.Native.Nat.{ℕ, _+_}
 use Rattle.spec.specs.Text.{lines, Line, Field}
-use Rattle.spec.specs.Reading.{splitSheet, stop, on, Seen, right, wrong, badForm, badRange, noStart, form, outside, miscounted, faulty, passed, readLine, end}
-use Rattle.spec.specs.declared.Refusal.the-variants.{SplitForm, SplitRange, SplitLines, NoStart}
+use Rattle.spec.specs.Reading.{splitSheet, stop, on, Seen, right, wrong, badForm, badRange, noStart, noKept, form, outside, miscounted, faulty, passed, readLine, end}
+use Rattle.spec.specs.declared.Refusal.the-variants.{SplitForm, SplitRange, SplitLines, NoStart, NoKept}
+use Rattle.spec.specs.declared.Word.{Word}
+use Rattle.spec.specs.Choice.{if_then_else_}
+use Rattle.spec.specs.Words.{keepsBack}
+use Rattle.spec.specs.Split.{emptyFault}
+use Rattle.lines.specs.Lines.{emptyRefusal}
 use Rattle.lexer.specs.Views.{endOf, firstField, textEnded, withField, lineAt}
 use Rattle.lexer.specs.Cursors.{Placed, rest, behindField, placeAt}
 use Rattle.lexer.specs.declared.Cursor.{Cursor}
@@ -40,9 +45,13 @@ module _ {A : Type 0} (k : ℕ) (l : List Line) where
   unfolding faulty passed outside
   shows-range e = rw e
 
-  pub shows-no-start : {s : Seen A} → s ≡ wrong noStart → passed splitSheet k l s ≡ stop (NoStart k)
-  unfolding faulty passed
-  shows-no-start e = rw e
+  pub shows-empty : (w : Word) {s : Seen A} → s ≡ wrong (emptyFault w) → passed splitSheet k l s ≡ stop (emptyRefusal w k)
+  unfolding faulty passed emptyFault emptyRefusal
+  shows-empty w e = go (keepsBack w) e
+    where
+      go : (x : Bool) {s : Seen A} → s ≡ wrong (if x then noKept else noStart) → passed splitSheet k l s ≡ stop (if x then NoKept k else NoStart k)
+      go true e = rw e
+      go false e = rw e
 
 pub shows-entry : {A : Type 0} (text : List ℕ) (c d : Cursor) {s : Seen A} (a : A) → s ≡ right a → d .line ≡ c .line + 1
     → passed splitSheet (c .line + 1) (lines (rest text d)) s ≡ on (a, placeAt text d)

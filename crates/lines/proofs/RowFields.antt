@@ -10,8 +10,8 @@ use lib.ListN.{length}
 use borrow.Author.Tests.{eq-eqb}
 use Rattle.spec.specs.Choice.{if_then_else_}
 use Rattle.spec.specs.Text.{bytes, Field, digitLimit, digits, leadingZero, value, numeral}
-use Rattle.spec.specs.Reading.{Seen, right, wrong, badForm, badRange, noStart, seen, insist, Range, below, inRange, allInRange, withNumeral, numerals, ranged, numbers}
-use Rattle.spec.specs.Split.{Header, Row, rowOf, startGiven, startRange, mayBeEmpty, postRange, postField, rowLine}
+use Rattle.spec.specs.Reading.{Seen, right, wrong, badForm, badRange, seen, insist, Range, below, inRange, allInRange, withNumeral, numerals, ranged, numbers}
+use Rattle.spec.specs.Split.{Header, Row, rowOf, startGiven, startRange, mayBeEmpty, emptyFault, postRange, postField, rowLine}
 use Rattle.spec.specs.Words.{takesStart}
 use Rattle.spec.specs.declared.Purpose.{Purpose}
 use Rattle.spec.specs.declared.Purpose.the-variants.{Check, Fill}
@@ -167,11 +167,11 @@ module _
   where
     -- an empty s: form and ranges first, then whether it may be
     pub row-empty : wordLine purpose H w (f ∷ m ∷ [] ∷ [])
-        ≡ insist (mayBeEmpty (H .heading) w) noStart (if allInRange (two H) (a ∷ b ∷ []) then right (rowOf none (a ∷ b ∷ [])) else wrong badRange)
+        ≡ insist (mayBeEmpty (H .heading) w) (emptyFault w) (if allInRange (two H) (a ∷ b ∷ []) then right (rowOf none (a ∷ b ∷ [])) else wrong badRange)
     unfolding wordLine rowLine numerals judged
     row-empty =
-        ap (λ (x : Seen (List ℕ)). insist (mayBeEmpty (H .heading) w) noStart (seen (rowOf none) x)) (row-handed H few f a b first [] tt [] [] refl refl purpose m second)
-        ∙ ap (insist (mayBeEmpty (H .heading) w) noStart) (seen-row (rowOf none) (allInRange (two H) (a ∷ b ∷ [])) (a ∷ b ∷ []))
+        ap (λ (x : Seen (List ℕ)). insist (mayBeEmpty (H .heading) w) (emptyFault w) (seen (rowOf none) x)) (row-handed H few f a b first [] tt [] [] refl refl purpose m second)
+        ∙ ap (insist (mayBeEmpty (H .heading) w) (emptyFault w)) (seen-row (rowOf none) (allInRange (two H) (a ∷ b ∷ [])) (a ∷ b ∷ []))
 
     -- a number
     pub row-given : (s : Field) (n : ℕ) → Spells s n → wordLine purpose H w (f ∷ m ∷ s ∷ [])

@@ -7,11 +7,11 @@ use Prim.Native.Nat.{ℕ, _+_, _≤_, _<_}
 use lib.ListN.{length}
 use Rattle.spec.specs.Choice.{if_then_else_}
 use Rattle.spec.specs.Text.{lines, Field}
-use Rattle.spec.specs.Reading.{splitSheet, Out, stop, Place, Seen, right, wrong, badRange, noStart, insist, below, inRange, allInRange, passed, readLine}
-use Rattle.spec.specs.Split.{Header, Row, rowOf, startRange, mayBeEmpty}
-use Rattle.spec.specs.Words.{takesStart}
+use Rattle.spec.specs.Reading.{splitSheet, Out, stop, Place, Seen, right, wrong, badRange, insist, below, inRange, allInRange, passed, readLine}
+use Rattle.spec.specs.Split.{Header, Row, rowOf, startRange, mayBeEmpty, emptyFault}
+use Rattle.spec.specs.Words.{takesStart, keepsBack}
 use Rattle.spec.specs.declared.Purpose.{Purpose}
-use Rattle.spec.specs.declared.Refusal.the-variants.{SplitForm, SplitRange, NoStart}
+use Rattle.spec.specs.declared.Refusal.the-variants.{SplitForm, SplitRange, NoStart, NoKept}
 use Rattle.spec.specs.declared.Word.{Word}
 use Rattle.spec.specs.declared.MapNumber.{MapNumber}
 use Rattle.spec.specs.declared.Heading.{Heading}
@@ -29,11 +29,11 @@ use Rattle.lines.specs.declared.rows.RowRead.{RowRead}
 use Rattle.lines.specs.declared.rows.RowRead.the-variants as row-read
 use Rattle.lines.specs.declared.fields.Leading.the-variants as leading
 use Rattle.lines.specs.declared.fields.Start.the-variants as start
-use Rattle.lines.specs.Lines.{startTold, rowTold, wordLine, startLimit, rowMade, startRanged, rowRanged}
+use Rattle.lines.specs.Lines.{startTold, rowTold, wordLine, startLimit, emptyRefusal, rowMade, startRanged, rowRanged}
 use Rattle.lines.specs.Answers.{LeadingAnswer, PostAnswer, StartAnswer, RowAnswer}
 use Rattle.lines.proofs.RowFields.{two, three, first-alone, second-alone, fourth-bad, first-bad, second-bad, third-bad, row-empty, row-given}
 use Rattle.lines.proofs.FieldsInTurn.{shown, behind-field, field-wrong, field-last, field-more, at-cursor}
-use Rattle.lines.proofs.LineLaws.{shows-range, shows-no-start, shows-entry, comma-line, comma-placed, comma-kept}
+use Rattle.lines.proofs.LineLaws.{shows-range, shows-empty, shows-entry, comma-line, comma-placed, comma-kept}
 
 -- ------------------------------------------------------------------ where a start is, and where it is asked for
 
@@ -47,13 +47,21 @@ pub start-asked : (h : Heading) (w : Word) {x : Bool} → h ≡ C → x ≡ take
 unfolding mayBeEmpty
 start-asked h w e q = sym (rw (e, q))
 
-pub start-not-asked : (h : Heading) (w : Word) → h ≡ C2 → true ≡ mayBeEmpty h w
+pub kept-asked : (h : Heading) (w : Word) {x : Bool} → h ≡ C2 → x ≡ keepsBack w → not x ≡ mayBeEmpty h w
 unfolding mayBeEmpty
-start-not-asked h w e = sym (rw e)
+kept-asked h w e q = sym (rw (e, q))
 
-pub start-not-asked-3 : (h : Heading) (w : Word) → h ≡ C3 → true ≡ mayBeEmpty h w
+pub kept-asked-3 : (h : Heading) (w : Word) {x : Bool} → h ≡ C3 → x ≡ keepsBack w → not x ≡ mayBeEmpty h w
 unfolding mayBeEmpty
-start-not-asked-3 h w e = sym (rw e)
+kept-asked-3 h w e q = sym (rw (e, q))
+
+pub kept-refused : (w : Word) (line : ℕ) → keepsBack w ≡ true → NoKept line ≡ emptyRefusal w line
+unfolding emptyRefusal
+kept-refused w line e = sym (rw e)
+
+pub start-refused : (w : Word) (line : ℕ) → keepsBack w ≡ false → NoStart line ≡ emptyRefusal w line
+unfolding emptyRefusal
+start-refused w line e = sym (rw e)
 
 -- ------------------------------------------------------------------ the numbers of a row in their ranges
 
@@ -80,7 +88,7 @@ module _ (line : ℕ) (row : RowNumbers) (w : Word) (H : Header) (c : Cursor) wh
       start-in h = sym (rw h) ∙ started given
 
     module _ (empty : row .start ≡ row-start.Empty) where
-      pub start-wanted : mayBeEmpty (H .heading) w ≡ false → row-read.Refused (NoStart line) ≡ rowRanged line row w H c
+      pub start-wanted : mayBeEmpty (H .heading) w ≡ false → row-read.Refused (emptyRefusal w line) ≡ rowRanged line row w H c
       unfolding startRanged
       start-wanted h = sym (rw h) ∙ started empty
 
@@ -182,11 +190,11 @@ module _ (purpose : Purpose) (H : Header) (w : Word) {text : List ℕ} {c : Curs
         given-judged row true false e = row-closed ∙ shows-range (c .line + 1) (lines (rest text d)) e
         given-judged row false y e = row-closed ∙ shows-range (c .line + 1) (lines (rest text d)) e
 
-        empty-judged : (row : RowNumbers) (x y : Bool) → behind-two (firstField (rest text c₃) ∷ []) ≡ insist y noStart (if x then right (rowTold row) else wrong badRange)
-            → RowAnswer text out (if x then (if y then row-read.Read row d else row-read.Refused (NoStart (c .line + 1))) else row-read.Refused (SplitRange (c .line + 1)))
+        empty-judged : (row : RowNumbers) (x y : Bool) → behind-two (firstField (rest text c₃) ∷ []) ≡ insist y (emptyFault w) (if x then right (rowTold row) else wrong badRange)
+            → RowAnswer text out (if x then (if y then row-read.Read row d else row-read.Refused (emptyRefusal w (c .line + 1))) else row-read.Refused (SplitRange (c .line + 1)))
         unfolding insist
         empty-judged row true true e = (row-closed ∙ shows-entry text c d (rowTold row) e last-line, last-placed)
-        empty-judged row true false e = row-closed ∙ shows-no-start (c .line + 1) (lines (rest text d)) e
+        empty-judged row true false e = row-closed ∙ shows-empty (c .line + 1) (lines (rest text d)) w e
         empty-judged row false y e = row-closed ∙ shows-range (c .line + 1) (lines (rest text d)) e
 
       pub row-without : (H .types ≤ 64) × (H .maps ≤ 512) → (d : Cursor) → StartAnswer text c₃ (start.Empty d)

@@ -7,7 +7,7 @@ use Prim.Native.Nat.{ℕ, _≤_, _<_, _-_}
 use lib.ListN.{length, take, drop}
 use Rattle.spec.specs.Text.{Field, numeral}
 use Rattle.spec.specs.Reading.{Out, stop, on, Place}
-use Rattle.spec.specs.Split.{Map, Row, postField}
+use Rattle.spec.specs.Split.{Map, Signature, Row, postField}
 use Rattle.spec.specs.declared.Purpose.{Purpose}
 use Rattle.spec.specs.declared.Purpose.the-variants.{Check, Fill}
 use Rattle.spec.specs.declared.TypeLine.{TypeLine}
@@ -30,7 +30,9 @@ use Rattle.lines.specs.declared.fields.Leading.{Leading}
 use Rattle.lines.specs.declared.fields.Leading.the-variants as leading
 use Rattle.lines.specs.declared.fields.Start.{Start}
 use Rattle.lines.specs.declared.fields.Start.the-variants as start
-use Rattle.lines.specs.Lines.{rowTold}
+use Rattle.lines.specs.declared.signatures.SignatureRead.{SignatureRead}
+use Rattle.lines.specs.declared.signatures.SignatureRead.the-variants as signature-read
+use Rattle.lines.specs.Lines.{signatureTold, rowTold}
 
 -- a text that the limit lets through, and a cursor in it
 pub record Reading (text : List ℕ) (c : Cursor) : Type 0 where
@@ -43,7 +45,7 @@ pub record AtType (text : List ℕ) (c : Cursor) (h : HeaderRead) (own : ℕ) : 
   pub small : Small h
   pub numbered : own < 64
 
--- a cursor where a row may stand
+-- a cursor where a row or a signature may stand
 pub record AtRow (text : List ℕ) (c : Cursor) (h : HeaderRead) : Type 0 where
   pub reading : Reading text c
   pub small : Small h
@@ -89,6 +91,10 @@ TypeAnswer text out (type-read.Read t c) = (out ≡ on (t, placeAt text c)) × P
 abbrev pub MapAnswer : List ℕ → (into : List ℕ) → Out (Map × Place) → LinesRead → Type 0
 MapAnswer text into out (lines-read.Refused r) = out ≡ stop r
 MapAnswer text into out (lines-read.Read c) = (out ≡ on (into, placeAt text c)) × Placed text c
+
+abbrev pub SignatureAnswer : List ℕ → Out (Signature × Place) → SignatureRead → Type 0
+SignatureAnswer text out (signature-read.Refused r) = out ≡ stop r
+SignatureAnswer text out (signature-read.Read g c) = (out ≡ on (signatureTold g, placeAt text c)) × Placed text c
 
 abbrev pub RowAnswer : List ℕ → Out (Row × Place) → RowRead → Type 0
 RowAnswer text out (row-read.Refused r) = out ≡ stop r

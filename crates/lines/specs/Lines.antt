@@ -1,4 +1,4 @@
--- A line of a split sheet, as its reader sees it: of a type, of a map, and the row of a step.
+-- A line of a split sheet, as its reader sees it: of a type, of a map, of a procedure, and the row of a step.
 use mathlib.Core.List.{List, [], _∷_}
 use mathlib.Core.Bool.{Bool}
 use mathlib.Core.Option.{Option, none, some}
@@ -7,11 +7,12 @@ use lib.ListN.{replicate}
 use Rattle.spec.specs.Choice.{if_then_else_}
 use Rattle.spec.specs.Text.{Field}
 use Rattle.spec.specs.Reading.{Seen, right, wrong, badForm, badRange, Range, _to_, below, inRange, allInRange, numbers}
-use Rattle.spec.specs.Split.{Map, Header, refOf, lockOf, outRange, tidOf, semOf, rwlockOf, Row, startRange, mayBeEmpty, rowLine}
-use Rattle.spec.specs.Words.{takesStart}
+use Rattle.spec.specs.Split.{Map, Header, refOf, lockOf, outRange, tidOf, semOf, rwlockOf, Signature, Row, startRange, mayBeEmpty, rowLine}
+use Rattle.spec.specs.Words.{takesStart, keepsBack}
 use Rattle.spec.specs.declared.Heading.{Heading}
 use Rattle.spec.specs.declared.Purpose.{Purpose}
-use Rattle.spec.specs.declared.Refusal.the-variants.{SplitRange, NoStart}
+use Rattle.spec.specs.declared.Refusal.{Refusal}
+use Rattle.spec.specs.declared.Refusal.the-variants.{SplitRange, NoStart, NoKept}
 use Rattle.spec.specs.declared.Word.{Word}
 use Rattle.spec.specs.declared.MapNumber.{MapNumber}
 use Rattle.spec.specs.declared.TypeLine.{TypeLine}
@@ -24,6 +25,7 @@ use Rattle.lines.specs.declared.rows.RowStart.{RowStart}
 use Rattle.lines.specs.declared.rows.RowStart.the-variants as row-start
 use Rattle.lines.specs.declared.rows.RowRead.{RowRead}
 use Rattle.lines.specs.declared.rows.RowRead.the-variants as row-read
+use Rattle.lines.specs.declared.signatures.Signature.{Signature as SignatureNumbers}
 use Rattle.lines.specs.declared.types.TypeSeen.{TypeSeen}
 use Rattle.lines.specs.declared.types.TypeSeen.the-variants as type-seen
 
@@ -35,6 +37,9 @@ startTold row-start.Empty = none
 
 unfoldable pub rowTold : RowNumbers → Row
 rowTold r = record { type = r .typed; post = r .post; start = startTold (r .start) }
+
+unfoldable pub signatureTold : SignatureNumbers → Signature
+signatureTold g = record { before = g .before; argument = g .argument; after = g .after; result = g .result }
 
 -- ------------------------------------------------------------------ types
 
@@ -79,13 +84,17 @@ wordLine purpose H w fs = rowLine purpose H (record { word = w; value = 0; line 
 abbrev pub startLimit : Word → (maps : ℕ) → ℕ
 startLimit w maps = if takesStart w then maps else 0
 
+-- the refusal of an empty s that may not be
+unfoldable pub emptyRefusal : Word → (line : ℕ) → Refusal
+emptyRefusal w line = if keepsBack w then NoKept line else NoStart line
+
 unfoldable pub rowMade : (typed post : ℕ) → RowStart → RowNumbers
 rowMade typed post start = record { typed = record { 0 = typed }; post = record { 0 = post }; start = start }
 
 -- a row with its numbers in their ranges, and the cursor behind its line: its type and its post, then its start
 unfoldable pub startRanged : (line : ℕ) → RowNumbers → RowStart → Word → Header → Cursor → RowRead
 startRanged line row (row-start.Given m) w H c = if inRange (startRange w H) (m .0) then row-read.Read row c else row-read.Refused (SplitRange line)
-startRanged line row row-start.Empty w H c = if mayBeEmpty (H .heading) w then row-read.Read row c else row-read.Refused (NoStart line)
+startRanged line row row-start.Empty w H c = if mayBeEmpty (H .heading) w then row-read.Read row c else row-read.Refused (emptyRefusal w line)
 
 unfoldable pub rowRanged : (line : ℕ) → RowNumbers → Word → Header → Cursor → RowRead
 rowRanged line row w H c =

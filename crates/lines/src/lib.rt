@@ -1,7 +1,9 @@
-// One line of a split sheet at a cursor, with its ranges: the line of a type, of a map, and of a step, which is its row.
+// One line of a split sheet at a cursor, with its ranges: the line of a type, of a map, of a procedure, which
+// is its signature, and of a step, which is its row.
 mod fields;
 mod maps;
 mod rows;
+mod signatures;
 mod types;
 
 pub use fields::Head;
@@ -12,6 +14,9 @@ pub use rows::Row;
 pub use rows::RowRead;
 pub use rows::RowStart;
 pub use rows::row_line;
+pub use signatures::Signature;
+pub use signatures::SignatureRead;
+pub use signatures::signature_line;
 use spec::Refusal;
 pub use types::TypeRead;
 pub use types::type_line;

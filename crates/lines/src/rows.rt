@@ -17,13 +17,13 @@ use workspace::Header;
 ghost use mathlib.Core.Path.{_≡_};
 ghost use Rattle.spec.specs.Reading.{splitSheet, readLine};
 ghost use Rattle.spec.specs.Split.{mayBeEmpty};
-ghost use Rattle.spec.specs.Words.{takesStart};
+ghost use Rattle.spec.specs.Words.{takesStart, keepsBack};
 ghost use Rattle.lexer.specs.Cursors.{placeAt};
 ghost use Rattle.workspace.specs.Sheets.{headerTold};
-ghost use Rattle.lines.specs.Lines.{wordLine, startLimit, rowMade, rowRanged};
+ghost use Rattle.lines.specs.Lines.{wordLine, startLimit, emptyRefusal, rowMade, rowRanged};
 ghost use Rattle.lines.specs.Answers.{AtRow, RowAnswer};
 
-// What a row says of the map that a body starts with: which, or nothing.
+// What a row says of the map that a body starts with or a call keeps back: which, or nothing.
 pub enum RowStart {
     Given(MapNumber),
     Empty,
@@ -48,13 +48,24 @@ fn takes_start(word: Word) -> bool
 {
     match word {
         Word::Leaf(_) => false,
-        Word::Unary(_) => false,
+        Word::Unary(w) => lexer::calls(w),
         Word::Binary(w) => match w {
             BinaryWord::Let => false,
             BinaryWord::If => false,
             BinaryWord::Spawn => true,
             BinaryWord::Write => false,
         },
+    }
+}
+
+// Whether a step with this word keeps its s back, and so cannot do without.
+fn keeps_back(word: Word) -> bool
+    ensures { λ r. ⌜ r ≡ keepsBack word ⌝ }
+{
+    match word {
+        Word::Leaf(_) => false,
+        Word::Unary(w) => lexer::calls(w),
+        Word::Binary(_) => false,
     }
 }
 
@@ -74,9 +85,19 @@ fn may_be_empty(heading: Heading, word: Word) -> bool
 {
     match heading {
         Heading::C => !takes_start(word),
-        Heading::C2 => true,
-        Heading::C3 => true,
+        Heading::C2 => !keeps_back(word),
+        Heading::C3 => !keeps_back(word),
     }
+}
+
+// The refusal of an empty s that may not be: 50 on a call, 40 on a spawn.
+fn empty_refusal(word: Word, line: u32) -> Refusal
+    ensures { λ r. ⌜ r ≡ emptyRefusal word line ⌝ }
+{
+    if keeps_back(word) {
+        return Refusal::NoKept(line);
+    }
+    Refusal::NoStart(line)
 }
 
 // A row of two numbers and a start.
@@ -110,7 +131,7 @@ fn row_of(line: u32, row: Row, word: Word, header: Header, next: Cursor) -> RowR
         }
         RowStart::Empty => {
             if !may_be_empty(heading, word) {
-                return RowRead::Refused(Refusal::NoStart(line));
+                return RowRead::Refused(empty_refusal(word, line));
             }
             RowRead::Read(row, next)
         }

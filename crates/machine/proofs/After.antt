@@ -1,5 +1,5 @@
--- What a step does to the machine, in four ways: a thread goes on, makes a thing, spawns a thread, or joins one. The rows of the words
--- stand here once; Kept and Books look at the four ways alone.
+-- What a step does to the machine, in five ways: a thread goes on, takes a call, makes a thing, spawns a thread, or joins one. The rows of the words
+-- stand here once; Kept and Books look at the five ways alone.
 use Prim.Native.Nat.{ℕ, suc}
 use mathlib.Core.Path.{_≡_, refl, _∙_, subst}
 use mathlib.Core.Logic.{_≢_, _⊎_, inl, inr}
@@ -9,33 +9,40 @@ use mathlib.Core.List.{List, [], _∷_}
 use native.Mathlib.Omega.{arith}
 use lib.ListN.{getElem?, set}
 use Rattle.spec.specs.Expression.{Position, Expr}
-use Rattle.calculus.specs.Expression.{Value, name, Unary, join, ref, read, lock, unlock, post, wait, hold, Redex, unaryRedex}
+use Rattle.calculus.specs.Expression.{Value, name, Unary, join, ref, read, lock, unlock, post, wait, hold, call, Redex, unaryRedex}
 use Rattle.calculus.specs.State.{Slot, unused, cell, rwlock, Part, first, second, update}
 use Rattle.calculus.specs.Reduction.{nameOf, ifIdentifier, content, lockState, ifOpened, count, oneLess, rwState, insideAfter, made as madeSlot}
 use Rattle.calculus.proofs.Laws.Maps.{some-injective, none-is-not-some, bind-is-some, update-other}
-use Rattle.replaying.specs.Run.{Kind, cells, nameIn, plain, spawns, joins, makes, unaryEffect, kindMade, effect, ofUnary}
+use Rattle.replaying.specs.Paths.{Path}
+use Rattle.replaying.specs.Run.{Kind, cells, nameIn, plain, spawns, joins, opens, makes, unaryEffect, kindMade, effect, ofUnary}
 use Rattle.replaying.proofs.Changes.{answer-means-used, used-updated}
-use Rattle.machine.specs.Environment.{Env}
-use Rattle.machine.specs.Control.{Frame, Word, letWord, ifWord, whileWord, spawnWord, writeWord, unaryWord, makeWord, unrolledWord, againWord, redex, Control, done, at, nextRedex, return, enter}
+use Rattle.machine.specs.Environment.{Env, zeros}
+use Rattle.machine.specs.Control.{Frame, markFrame, Word, letWord, ifWord, whileWord, spawnWord, writeWord, unaryWord, makeWord, unrolledWord, againWord, redex, Control, done, at, nextRedex, return, enter}
 use Rattle.machine.specs.State.{MachineThread, Machine, running}
 use Rattle.machine.specs.Step.{lowest, zeroValue, partOf, unrolledPart, goesTo, addThread, markJoined, gives, leaves, creates, stepUnary, stepWord, stepControl, stepThread, step}
 use Rattle.machine.specs.Scoped.{Fits, Vars, Bound, Rest, Nested, No, WordOk, WordBinds, ControlOk}
-use Rattle.machine.specs.Kept.{UnusedFrom, ThreadKept, Kept}
+use Rattle.machine.specs.Kept.{UnusedFrom, ProcedureKept, ThreadKept, Kept}
 use Rattle.replaying.proofs.Lists.{every-at}
 use Rattle.machine.proofs.Places.{LiveAt}
+use Rattle.machine.proofs.Marks.{pathFrom, paths, callPaths, wordPath, Tells, control-tells, return-tells, enter-tells, run-part-tells}
 use Rattle.machine.proofs.Scoping.{nested-fewer, return-ok, enter-ok, run-part-ok}
 
--- After M i tid w N: thread i, with identifier tid, has done the word w, and M has become N.
-pub data After (M : Machine) (i tid : ℕ) (w : Redex) : Machine → Type 0 where
-  goes : (names : ℕ → Slot) (b : Control) → effect w ≡ plain → UnusedFrom names (M .next) → ControlOk b → After M i tid w (goesTo M i tid names b)
-  made : (k : Kind) (new : Slot) (b : Control) → effect w ≡ makes k → ControlOk b → After M i tid w (record {
+-- After M i tid ps q w N: thread i, with identifier tid and the open calls ps, has done the word w, which stood at the path q, and M has
+-- become N.
+pub data After (M : Machine) (i tid : ℕ) (ps : List Path) (q : Path) (w : Redex) : Machine → Type 0 where
+  goes : (names : ℕ → Slot) (b : Control) → effect w ≡ plain → UnusedFrom names (M .next) → ControlOk b → Tells b ps →
+      After M i tid ps q w (goesTo M i tid names b)
+  called : (b : Control) → effect w ≡ opens → ControlOk b → Tells b (q ∷ ps) → After M i tid ps q w (goesTo M i tid (M .names) b)
+  made : (k : Kind) (new : Slot) (b : Control) → effect w ≡ makes k → ControlOk b → Tells b ps → After M i tid ps q w (record {
+    procedures = M .procedures;
     threads = set (M .threads) i (running tid b);
     names = update (M .names) (M .next) new;
     next = suc (M .next);
   })
-  spawned : (n : ℕ) (b b′ : Control) → effect w ≡ spawns → ControlOk b → ControlOk b′ → After M i tid w (addThread (running n b′) (goesTo M i tid (M .names) b))
+  spawned : (n : ℕ) (b b′ : Control) → effect w ≡ spawns → ControlOk b → ControlOk b′ → Tells b ps → Tells b′ [] →
+      After M i tid ps q w (addThread (running n b′) (goesTo M i tid (M .names) b))
   joined : (n j : ℕ) (u : MachineThread) (b : Control) → effect w ≡ joins → nameIn w ≡ some n → lowest n (M .threads) ≡ some j →
-      getElem? (M .threads) j ≡ some u → ControlOk b → After M i tid w (markJoined j u (goesTo M i tid (M .names) b))
+      getElem? (M .threads) j ≡ some u → ControlOk b → Tells b ps → After M i tid ps q w (markJoined j u (goesTo M i tid (M .names) b))
 
 -- ---- Names
 
@@ -48,29 +55,32 @@ next-updated names next a h k le = update-other names next k a (λ e. omega (ari
 -- ---- The words
 
 module _ (M : Machine) (i tid : ℕ) (σ : Env) (K : List Frame) (kept : Kept M) where
-  told : {w : Redex} (N N′ : Machine) → After M i tid w N → some N ≡ some N′ → After M i tid w N′
-  told {w} N N′ h e = subst (After M i tid w) (some-injective e) h
+  abbrev Done : Redex → Machine → Type 0
+  Done w N = After M i tid (paths K) (pathFrom K []) w N
+
+  told : {w : Redex} (N N′ : Machine) → Done w N → some N ≡ some N′ → Done w N′
+  told {w} N N′ h e = subst (Done w) (some-injective e) h
 
   module _ (B : Vars) (n : Nested B K) where
     returns : (v : Value) → ControlOk (return σ v K)
     returns v = return-ok σ v K B n
 
-    leaves-after : {w : Redex} (m : ℕ) (slot : Slot) → effect w ≡ plain → M .names m ≢ unused → After M i tid w (leaves M i tid σ K m slot)
-    leaves-after m slot e used = goes _ _ e (used-kept (M .names) (M .next) m slot (kept .unusedFrom) used) (returns zeroValue)
+    leaves-after : {w : Redex} (m : ℕ) (slot : Slot) → effect w ≡ plain → M .names m ≢ unused → Done w (leaves M i tid σ K m slot)
+    leaves-after m slot e used = goes _ _ e (used-kept (M .names) (M .next) m slot (kept .unusedFrom) used) (returns zeroValue) (return-tells σ zeroValue K)
 
-    unary-after : (o : Unary) (v : Value) (N : Machine) → stepUnary M i tid σ K o v ≡ some N → After M i tid (unaryRedex o v) N
+    unary-after : (o : Unary) (v : Value) (N : Machine) → stepUnary M i tid σ K o v ≡ some N → Done (unaryRedex o v) N
     unfolding effect unaryEffect nameIn ofUnary
     unary-after join v N q =
         let (m, named, q₁) = bind-is-some (nameOf v) q in
         let (_, _, q₂) = bind-is-some (ifIdentifier (M .names m)) q₁ in
         let (j, found, q₃) = bind-is-some (lowest m (M .threads)) q₂ in
         let (u, there, q₄) = bind-is-some (getElem? (M .threads) j) q₃ in
-        told (markJoined j u (gives M i tid σ K (M .names) zeroValue)) N (joined m j u _ refl named found there (returns zeroValue)) q₄
-    unary-after ref v N q = told (creates M i tid σ K (cell v)) N (made cells (cell v) _ refl (returns (name (M .next)))) q
+        told (markJoined j u (gives M i tid σ K (M .names) zeroValue)) N (joined m j u _ refl named found there (returns zeroValue) (return-tells σ zeroValue K)) q₄
+    unary-after ref v N q = told (creates M i tid σ K (cell v)) N (made cells (cell v) _ refl (returns (name (M .next))) (return-tells σ (name (M .next)) K)) q
     unary-after read v N q =
         let (m, _, q₁) = bind-is-some (nameOf v) q in
         let (u, _, q₂) = bind-is-some (content (M .names m)) q₁ in
-        told _ N (goes (M .names) _ refl (kept .unusedFrom) (returns u)) q₂
+        told _ N (goes (M .names) _ refl (kept .unusedFrom) (returns u) (return-tells σ u K)) q₂
     unary-after lock v N q =
         let (m, _, q₁) = bind-is-some (nameOf v) q in
         let (l, e, q₂) = bind-is-some (lockState (M .names m)) q₁ in
@@ -94,6 +104,13 @@ module _ (M : Machine) (i tid : ℕ) (σ : Env) (K : List Frame) (kept : Kept M)
         let (p, e, q₂) = bind-is-some (rwState (M .names m)) q₁ in
         let (inside, _, q₃) = bind-is-some (insideAfter (p .0) w (p .1)) q₂ in
         told (leaves M i tid σ K m (rwlock (p .0) inside)) N (leaves-after m (rwlock (p .0) inside) refl (answer-means-used rwState (M .names m) refl e)) q₃
+    unary-after (call f) v N q =
+        let (p, there, q₁) = bind-is-some (getElem? (M .procedures) f) q in
+        told (goesTo M i tid (M .names) (enter (update zeros (p .parameter) v) (p .body) (markFrame σ ∷ K))) N
+        (called _ refl
+        (enter-ok (update zeros (p .parameter) v) (p .body) (p .parameter ∷ []) (markFrame σ ∷ K)
+        (every-at ProcedureKept (M .procedures) f p (kept .proceduresKept) there) (tt, nested-fewer K B No (λ y z. absurd z) n))
+        (enter-tells (update zeros (p .parameter) v) (p .body) (markFrame σ ∷ K))) q₁
 
   part-ok : (c : Part) (e₁ e₂ : Expr) (I : List ℕ) → Fits I e₁ → Fits I e₂ → Nested (λ y. Bound e₁ y ⊎ Bound e₂ y) K →
       ControlOk (enter σ (partOf c e₁ e₂) K)
@@ -104,30 +121,34 @@ module _ (M : Machine) (i tid : ℕ) (σ : Env) (K : List Frame) (kept : Kept M)
   unrolled-ok first k e r n = run-part-ok σ k e (r .scope) K (r .fits) n
   unrolled-ok second k e r n = returns _ n zeroValue
 
+  unrolled-tells : (c : Part) (k : Position) (e : Expr) → Tells (unrolledPart c σ k e K) (paths K)
+  unrolled-tells first k e = run-part-tells σ k e K
+  unrolled-tells second k e = return-tells σ zeroValue K
+
   word-after : (c : Part) (w : Word) (N : Machine) → WordOk w → Nested (WordBinds w) K →
-      stepWord M i tid σ K c w ≡ some N → After M i tid (redex σ w) N
+      stepWord M i tid σ K c w ≡ some N → Done (redex σ w) N
   unfolding effect
   word-after c (letWord k x v e) N r n q =
       told _ N (goes (M .names) _ refl (kept .unusedFrom)
-      (enter-ok (update σ x v) e (x ∷ r .scope) K (r .fits) (nested-fewer K _ _ (λ y b. inr b) n))) q
+      (enter-ok (update σ x v) e (x ∷ r .scope) K (r .fits) (nested-fewer K _ _ (λ y b. inr b) n)) (enter-tells (update σ x v) e K)) q
   word-after c (ifWord k e₁ e₂) N r n q =
-      told _ N (goes (M .names) _ refl (kept .unusedFrom) (part-ok c e₁ e₂ (r .0) (r .1) (r .2) n)) q
-  word-after c (whileWord k e) N r n q = told _ N (goes (M .names) (at σ (unrolledWord k e) K) refl (kept .unusedFrom) (r, n)) q
+      told _ N (goes (M .names) _ refl (kept .unusedFrom) (part-ok c e₁ e₂ (r .0) (r .1) (r .2) n) (enter-tells σ (partOf c e₁ e₂) K)) q
+  word-after c (whileWord k e) N r n q = told _ N (goes (M .names) (at σ (unrolledWord k e) K) refl (kept .unusedFrom) (r, n) (control-tells (at σ (unrolledWord k e) K))) q
   word-after c (spawnWord k v e) N r n q =
       let (m, _, q₁) = bind-is-some (nameOf v) q in
       let (_, _, q₂) = bind-is-some (ifIdentifier (M .names m)) q₁ in
       told (addThread (running m (enter σ e [])) (gives M i tid σ K (M .names) zeroValue)) N
-      (spawned m _ _ refl (returns _ n zeroValue) (enter-ok σ e (r .scope) [] (r .fits) tt)) q₂
+      (spawned m _ _ refl (returns _ n zeroValue) (enter-ok σ e (r .scope) [] (r .fits) tt) (return-tells σ zeroValue K) (enter-tells σ e [])) q₂
   word-after c (writeWord k v w) N r n q =
       let (m, _, q₁) = bind-is-some (nameOf v) q in
       let (u, e, q₂) = bind-is-some (content (M .names m)) q₁ in
       told _ N (leaves-after _ n m _ refl (answer-means-used content (M .names m) refl e)) q₂
   word-after c (unaryWord k o v) N r n q = unary-after _ n o v N q
   word-after c (makeWord k o) N r n q =
-      told (creates M i tid σ K (madeSlot o)) N (made (kindMade o) (madeSlot o) _ refl (returns _ n (name (M .next)))) q
+      told (creates M i tid σ K (madeSlot o)) N (made (kindMade o) (madeSlot o) _ refl (returns _ n (name (M .next))) (return-tells σ (name (M .next)) K)) q
   word-after c (unrolledWord k e) N r n q =
-      told _ N (goes (M .names) (unrolledPart c σ k e K) refl (kept .unusedFrom) (unrolled-ok c k e r n)) q
-  word-after c (againWord k v e) N r n q = told _ N (goes (M .names) (at σ (whileWord k e) K) refl (kept .unusedFrom) (r, n)) q
+      told _ N (goes (M .names) (unrolledPart c σ k e K) refl (kept .unusedFrom) (unrolled-ok c k e r n) (unrolled-tells c k e)) q
+  word-after c (againWord k v e) N r n q = told _ N (goes (M .names) (at σ (whileWord k e) K) refl (kept .unusedFrom) (r, n) (control-tells (at σ (whileWord k e) K))) q
 
 -- ---- Steps
 
@@ -137,10 +158,10 @@ pub record Moved (M : Machine) (i : ℕ) (N : Machine) : Type 0 where
   pub live-there : LiveAt (M .threads) i thread
   pub word : Redex
   pub was-next : nextRedex (thread .control) ≡ some word
-  pub after : After M i (thread .tid) word N
+  pub after : After M i (thread .tid) (callPaths (thread .control)) (wordPath (thread .control)) word N
 
 control-after : (M : Machine) (i : ℕ) (c : Part) (tid : ℕ) (b : Control) (N : Machine) → Kept M → ControlOk b → stepControl M i c tid b ≡ some N →
-    (w : Redex) × (nextRedex b ≡ some w) × After M i tid w N
+    (w : Redex) × (nextRedex b ≡ some w) × After M i tid (callPaths b) (wordPath b) w N
 control-after M i c tid (done v) N kept ok q = none-is-not-some q
 control-after M i c tid (at σ w K) N kept ok q =
     (redex σ w, refl, word-after M i tid σ K kept c w N (ok .0) (ok .1) q)

@@ -1,7 +1,7 @@
 -- Environments that agree on what an expression uses give the same expression; so a new value changes no frame that does not use its variable.
 use Prim.Native.Nat.{ℕ}
 use mathlib.Core.Path.{_≡_, refl, sym, _∙_, ap}
-use mathlib.Core.Logic.{_⊎_, inl}
+use mathlib.Core.Logic.{inl}
 use mathlib.Core.Bool.{Bool, true, false, _||_}
 use mathlib.Core.Option.{Option, none, some}
 use mathlib.Core.List.{List, [], _∷_}
@@ -12,17 +12,18 @@ use Rattle.spec.specs.Expression.{Expr, leaf, unary, binary, among}
 use Rattle.spec.specs.WellFormed.{StepInside, UsedInside}
 use Rattle.spec.specs.Words.{role, binding}
 use Rattle.spec.specs.declared.LeafWord.the-variants.{Var, Int, Newtid, Newlock, Newsem, Newrwlock}
-use Rattle.spec.specs.declared.UnaryWord.the-variants.{While, Join, Ref, Read, Lock, Unlock, Post, Wait, Rdlock, Rdunlock, Wrlock, Wrunlock}
+use Rattle.spec.specs.declared.UnaryWord.the-variants.{While, Join, Ref, Read, Lock, Unlock, Post, Wait, Rdlock, Rdunlock, Wrlock, Wrunlock, Call}
 use Rattle.spec.specs.declared.BinaryWord.the-variants.{Let, If, Spawn, Write}
 use Rattle.spec.proofs.Clashes.{true-is-not-false}
-use Rattle.calculus.specs.Expression.{Value, join, ref, read, lock, unlock, post, wait, hold, rdlock, rdunlock, wrlock, wrunlock, Exp, letIn, if, while, spawn, write, unary as onePart, choose}
+use Rattle.calculus.specs.Expression.{Value, join, ref, read, lock, unlock, post, wait, hold, rdlock, rdunlock, wrlock, wrunlock, call, Exp, letIn, if, while, spawn, write, unary as onePart, choose, substitute}
 use Rattle.calculus.specs.State.{update}
 use Rattle.calculus.specs.Reduction.{nowhere}
 use Rattle.calculus.proofs.Laws.Maps.{update-other}
 use Rattle.soundness.specs.Erasure.{erase}
 use Rattle.machine.specs.Environment.{Env, PartialEnv, all, hide, valueOr, close, closed, closedUnder}
-use Rattle.machine.specs.Control.{Frame, letFrame, spawnFrame, writeFirst, writeSecond, unaryFrame, againFrame, around, fill}
-use Rattle.machine.specs.Scoped.{Vars, Rest, LetRest, FrameOk, FrameBinds, Nested}
+use Rattle.machine.specs.Control.{Frame, letFrame, spawnFrame, writeFirst, writeSecond, unaryFrame, againFrame, markFrame, around, fill}
+use Rattle.machine.proofs.Closing.{substitute-hidden, noValues, hide-none, close-with-none}
+use Rattle.machine.specs.Scoped.{Fits, Vars, Rest, LetRest, FrameOk, Nested}
 
 -- ---- Environments that agree
 
@@ -42,31 +43,44 @@ hidden-agree I ρ ρ′ x h y m = by-cases (ℕ-discrete y x)
     by-cases (yes p) = refl
     by-cases (no n) = h y (elsewhere (eqb y x) (λ q. n (eqb-true y x q)) m)
 
-pub close-agree : (e : Expr) (I : List ℕ) (ρ ρ′ : PartialEnv) → UsedInside I e → AgreeOn I ρ ρ′ → close ρ (erase e) ≡ close ρ′ (erase e)
+pub close-agree : (count : ℕ) (e : Expr) (I : List ℕ) (ρ ρ′ : PartialEnv) → UsedInside count I e → AgreeOn I ρ ρ′ → close ρ (erase e) ≡ close ρ′ (erase e)
 unfolding erase UsedInside StepInside role binding
-close-agree (leaf Var k x) I ρ ρ′ u h = ap (λ (o : Option Value). valueOr o x) (h x u)
-close-agree (leaf Int k v) I ρ ρ′ u h = refl
-close-agree (leaf Newtid k v) I ρ ρ′ u h = refl
-close-agree (leaf Newlock k v) I ρ ρ′ u h = refl
-close-agree (leaf Newsem k v) I ρ ρ′ u h = refl
-close-agree (leaf Newrwlock k v) I ρ ρ′ u h = refl
-close-agree (unary While k v e) I ρ ρ′ u h = ap while (close-agree e I ρ ρ′ (u .1) h)
-close-agree (unary Join k v e) I ρ ρ′ u h = ap (onePart join) (close-agree e I ρ ρ′ (u .1) h)
-close-agree (unary Ref k v e) I ρ ρ′ u h = ap (onePart ref) (close-agree e I ρ ρ′ (u .1) h)
-close-agree (unary Read k v e) I ρ ρ′ u h = ap (onePart read) (close-agree e I ρ ρ′ (u .1) h)
-close-agree (unary Lock k v e) I ρ ρ′ u h = ap (onePart lock) (close-agree e I ρ ρ′ (u .1) h)
-close-agree (unary Unlock k v e) I ρ ρ′ u h = ap (onePart unlock) (close-agree e I ρ ρ′ (u .1) h)
-close-agree (unary Post k v e) I ρ ρ′ u h = ap (onePart post) (close-agree e I ρ ρ′ (u .1) h)
-close-agree (unary Wait k v e) I ρ ρ′ u h = ap (onePart wait) (close-agree e I ρ ρ′ (u .1) h)
-close-agree (unary Rdlock k v e) I ρ ρ′ u h = ap (onePart (hold rdlock)) (close-agree e I ρ ρ′ (u .1) h)
-close-agree (unary Rdunlock k v e) I ρ ρ′ u h = ap (onePart (hold rdunlock)) (close-agree e I ρ ρ′ (u .1) h)
-close-agree (unary Wrlock k v e) I ρ ρ′ u h = ap (onePart (hold wrlock)) (close-agree e I ρ ρ′ (u .1) h)
-close-agree (unary Wrunlock k v e) I ρ ρ′ u h = ap (onePart (hold wrunlock)) (close-agree e I ρ ρ′ (u .1) h)
-close-agree (binary Let k x e₁ e₂) I ρ ρ′ u h = λ i.
-    letIn x (close-agree e₁ I ρ ρ′ (u .1) h i) (close-agree e₂ (x ∷ I) (hide ρ x) (hide ρ′ x) (u .2) (hidden-agree I ρ ρ′ x h) i)
-close-agree (binary If k v e₁ e₂) I ρ ρ′ u h = λ i. if (close-agree e₁ I ρ ρ′ (u .1) h i) (close-agree e₂ I ρ ρ′ (u .2) h i)
-close-agree (binary Spawn k v e₁ e₂) I ρ ρ′ u h = λ i. spawn (close-agree e₁ I ρ ρ′ (u .1) h i) (close-agree e₂ I ρ ρ′ (u .2) h i)
-close-agree (binary Write k v e₁ e₂) I ρ ρ′ u h = λ i. write (close-agree e₁ I ρ ρ′ (u .1) h i) (close-agree e₂ I ρ ρ′ (u .2) h i)
+close-agree count (leaf Var k x) I ρ ρ′ u h = ap (λ (o : Option Value). valueOr o x) (h x u)
+close-agree count (leaf Int k v) I ρ ρ′ u h = refl
+close-agree count (leaf Newtid k v) I ρ ρ′ u h = refl
+close-agree count (leaf Newlock k v) I ρ ρ′ u h = refl
+close-agree count (leaf Newsem k v) I ρ ρ′ u h = refl
+close-agree count (leaf Newrwlock k v) I ρ ρ′ u h = refl
+close-agree count (unary While k v e) I ρ ρ′ u h = ap while (close-agree count e I ρ ρ′ (u .1) h)
+close-agree count (unary Join k v e) I ρ ρ′ u h = ap (onePart join) (close-agree count e I ρ ρ′ (u .1) h)
+close-agree count (unary Ref k v e) I ρ ρ′ u h = ap (onePart ref) (close-agree count e I ρ ρ′ (u .1) h)
+close-agree count (unary Read k v e) I ρ ρ′ u h = ap (onePart read) (close-agree count e I ρ ρ′ (u .1) h)
+close-agree count (unary Lock k v e) I ρ ρ′ u h = ap (onePart lock) (close-agree count e I ρ ρ′ (u .1) h)
+close-agree count (unary Unlock k v e) I ρ ρ′ u h = ap (onePart unlock) (close-agree count e I ρ ρ′ (u .1) h)
+close-agree count (unary Post k v e) I ρ ρ′ u h = ap (onePart post) (close-agree count e I ρ ρ′ (u .1) h)
+close-agree count (unary Wait k v e) I ρ ρ′ u h = ap (onePart wait) (close-agree count e I ρ ρ′ (u .1) h)
+close-agree count (unary Rdlock k v e) I ρ ρ′ u h = ap (onePart (hold rdlock)) (close-agree count e I ρ ρ′ (u .1) h)
+close-agree count (unary Rdunlock k v e) I ρ ρ′ u h = ap (onePart (hold rdunlock)) (close-agree count e I ρ ρ′ (u .1) h)
+close-agree count (unary Wrlock k v e) I ρ ρ′ u h = ap (onePart (hold wrlock)) (close-agree count e I ρ ρ′ (u .1) h)
+close-agree count (unary Wrunlock k v e) I ρ ρ′ u h = ap (onePart (hold wrunlock)) (close-agree count e I ρ ρ′ (u .1) h)
+close-agree count (unary Call k f e) I ρ ρ′ u h = ap (onePart (call f)) (close-agree count e I ρ ρ′ (u .1) h)
+close-agree count (binary Let k x e₁ e₂) I ρ ρ′ u h = λ i.
+    letIn x (close-agree count e₁ I ρ ρ′ (u .1) h i) (close-agree count e₂ (x ∷ I) (hide ρ x) (hide ρ′ x) (u .2) (hidden-agree I ρ ρ′ x h) i)
+close-agree count (binary If k v e₁ e₂) I ρ ρ′ u h = λ i. if (close-agree count e₁ I ρ ρ′ (u .1) h i) (close-agree count e₂ I ρ ρ′ (u .2) h i)
+close-agree count (binary Spawn k v e₁ e₂) I ρ ρ′ u h = λ i. spawn (close-agree count e₁ I ρ ρ′ (u .1) h i) (close-agree count e₂ I ρ ρ′ (u .2) h i)
+close-agree count (binary Write k v e₁ e₂) I ρ ρ′ u h = λ i. write (close-agree count e₁ I ρ ρ′ (u .1) h i) (close-agree count e₂ I ρ ρ′ (u .2) h i)
+
+-- ---- The body of a procedure
+
+-- With its argument in the environment, whatever else is there, it is the body with its argument put for its variable.
+pub argument-put : (σ : Env) (x : ℕ) (v : Value) (e : Expr) → Fits (x ∷ []) e → closed (update σ x v) e ≡ substitute x v (erase e)
+unfolding among
+argument-put σ x v e f =
+    sym (substitute-hidden e σ x v)
+    ∙ ap (substitute x v) (close-agree (f .count) e (x ∷ []) (hide (all σ) x) (hide noValues x) (f .used)
+    (hidden-agree [] (all σ) noValues x (λ y m. true-is-not-false (sym m))))
+    ∙ ap (λ (ρ : PartialEnv). substitute x v (close ρ (erase e))) (hide-none x)
+    ∙ ap (substitute x v) (close-with-none (erase e))
 
 -- ---- A new value for a variable that no frame uses
 
@@ -79,11 +93,11 @@ module _ (σ : Env) (x : ℕ) (v : Value) where
   unchanged I n y m = ap some (sym (update-other σ x y v (λ q. true-is-not-false (sym m ∙ ap (λ (z : ℕ). among z I) q ∙ n))))
 
   rest-agrees : {B : Vars} (e : Expr) → B x → Rest B e → closed σ e ≡ closed σ′ e
-  rest-agrees e b ok = close-agree e (ok .scope) (all σ) (all σ′) (ok .fits .used) (unchanged (ok .scope) (ok .outside x b))
+  rest-agrees e b ok = close-agree (ok .fits .count) e (ok .scope) (all σ) (all σ′) (ok .fits .used) (unchanged (ok .scope) (ok .outside x b))
 
   let-rest-agrees : {B : Vars} (y : ℕ) (e : Expr) → B x → LetRest B y e → closedUnder σ y e ≡ closedUnder σ′ y e
   let-rest-agrees y e b ok =
-      close-agree e (y ∷ ok .scope) (hide (all σ) y) (hide (all σ′) y) (ok .fits .used)
+      close-agree (ok .fits .count) e (y ∷ ok .scope) (hide (all σ) y) (hide (all σ′) y) (ok .fits .used)
       (hidden-agree (ok .scope) (all σ) (all σ′) y (unchanged (ok .scope) (ok .outside x b)))
 
   around-agree : (B : Vars) → B x → (f : Frame) → FrameOk B f → (E : Exp) → around σ f E ≡ around σ′ f E
@@ -93,8 +107,14 @@ module _ (σ : Env) (x : ℕ) (v : Value) where
   around-agree B b (writeSecond k w) ok E = refl
   around-agree B b (unaryFrame k o) ok E = refl
   around-agree B b (againFrame k e) ok E = ap (λ (d : Exp). letIn nowhere E (while d)) (rest-agrees e b ok)
+  around-agree B b (markFrame σ₁) ok E = refl
 
   pub fill-agree : (K : List Frame) (B : Vars) → B x → Nested B K → (E : Exp) → fill σ K E ≡ fill σ′ K E
   fill-agree [] B b n E = refl
-  fill-agree (f ∷ K) B b n E =
-      fill-agree K (λ y. B y ⊎ FrameBinds f y) (inl b) (n .1) (around σ f E) ∙ ap (fill σ′ K) (around-agree B b f (n .0) E)
+  fill-agree (letFrame k y e ∷ K) B b n E = fill-agree K _ (inl b) (n .1) _ ∙ ap (fill σ′ K) (around-agree B b (letFrame k y e) (n .0) E)
+  fill-agree (spawnFrame k e ∷ K) B b n E = fill-agree K _ (inl b) (n .1) _ ∙ ap (fill σ′ K) (around-agree B b (spawnFrame k e) (n .0) E)
+  fill-agree (writeFirst k e ∷ K) B b n E = fill-agree K _ (inl b) (n .1) _ ∙ ap (fill σ′ K) (around-agree B b (writeFirst k e) (n .0) E)
+  fill-agree (writeSecond k w ∷ K) B b n E = fill-agree K _ (inl b) (n .1) _ ∙ ap (fill σ′ K) (around-agree B b (writeSecond k w) (n .0) E)
+  fill-agree (unaryFrame k o ∷ K) B b n E = fill-agree K _ (inl b) (n .1) _ ∙ ap (fill σ′ K) (around-agree B b (unaryFrame k o) (n .0) E)
+  fill-agree (againFrame k e ∷ K) B b n E = fill-agree K _ (inl b) (n .1) _ ∙ ap (fill σ′ K) (around-agree B b (againFrame k e) (n .0) E)
+  fill-agree (markFrame σ₁ ∷ K) B b n E = refl

@@ -15,23 +15,31 @@ use Rattle.calculus.specs.Expression.{Redex, nextWord}
 use Rattle.calculus.specs.State.{Slot, Thread}
 use Rattle.calculus.specs.Reduction.{wordOf}
 use Rattle.calculus.proofs.Laws.Maps.{some-injective, none-is-not-some}
+use Rattle.replaying.specs.Paths.{Path}
 use Rattle.replaying.specs.Run.{Run, placeOf, hasFinished, lowestFinished}
 use Rattle.replaying.specs.LowestPair.{Uses, usesOf, usesIn}
 use Rattle.machine.specs.Control.{Control, done, at, decode, nextRedex}
-use Rattle.machine.specs.State.{MachineThread, unless, ofLive, decodeThread, rank, decodeState}
+use Rattle.machine.specs.State.{MachineThread, unless, ofLive, decodeThread, rank, decodeState, decodeProcedures}
 use Rattle.machine.specs.Step.{isDone, firstOr, lowest}
 use Rattle.machine.specs.Replay.{Replay}
 use Rattle.machine.proofs.Decoding.{next-decoded, word-of-decoded}
+use Rattle.machine.proofs.Marks.{callPaths}
 use Rattle.machine.proofs.Places.{LiveAt, live-at, live-set}
 
 -- The numbers of the threads that are not joined.
 abbrev pub numbersFrom : (i : ℕ) → List MachineThread → List ℕ
 numbersFrom i ts = ofLive (λ n t. n) i ts
 
+-- Their open calls.
+abbrev pub callsFrom : (i : ℕ) → List MachineThread → List (List Path)
+callsFrom i ts = ofLive (λ n t. callPaths (t .control)) i ts
+
 abbrev pub runOf : Replay → Run
 runOf R = record {
+  procedures = decodeProcedures (R .machine);
   state = decodeState (R .machine);
   numbers = numbersFrom 0 (R .machine .threads);
+  calls = callsFrom 0 (R .machine .threads);
   threads = length (R .machine .threads);
   things = R .things;
   next = R .machine .next;
@@ -150,7 +158,7 @@ uses-alike names (t ∷ ts) k = by-cases (t .joined) (uses-alike names ts (suc k
 
 -- ---- What a step does to the numbers
 
-set-to-same : {A : Type 0} (xs : List A) (p : ℕ) (a : A) → getElem? xs p ≡ some a → set xs p a ≡ xs
+pub set-to-same : {A : Type 0} (xs : List A) (p : ℕ) (a : A) → getElem? xs p ≡ some a → set xs p a ≡ xs
 set-to-same [] p a h = refl
 set-to-same (x ∷ xs) zero a h = ap (λ y. y ∷ xs) (sym (some-injective h))
 set-to-same (x ∷ xs) (suc p) a h = ap (λ l. x ∷ l) (set-to-same xs p a h)

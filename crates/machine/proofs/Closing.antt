@@ -99,7 +99,7 @@ substitute-closed e σ x v = substitute-put (erase e) (all σ) x v ∙ ap (λ (�
 abbrev pub noValues : PartialEnv
 noValues x = none
 
-hide-none : (x : ℕ) → hide noValues x ≡ noValues
+pub hide-none : (x : ℕ) → hide noValues x ≡ noValues
 hide-none x = fun-ext λ y. none-chosen (ℕ-discrete y x)
   where
     none-chosen : {P : Type 0} (d : Dec P) → _≡_ {A = Option Value} (choose d none none) none

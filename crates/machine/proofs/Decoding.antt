@@ -3,13 +3,13 @@ use mathlib.Core.Path.{_≡_, refl, _∙_, ap}
 use mathlib.Core.List.{List, [], _∷_}
 use Rattle.spec.specs.Expression.{Position, Expr, leaf, unary, binary}
 use Rattle.spec.specs.declared.LeafWord.the-variants.{Var, Int, Newtid, Newlock, Newsem, Newrwlock}
-use Rattle.spec.specs.declared.UnaryWord.the-variants.{While, Join, Ref, Read, Lock, Unlock, Post, Wait, Rdlock, Rdunlock, Wrlock, Wrunlock}
+use Rattle.spec.specs.declared.UnaryWord.the-variants.{While, Join, Ref, Read, Lock, Unlock, Post, Wait, Rdlock, Rdunlock, Wrlock, Wrunlock, Call}
 use Rattle.spec.specs.declared.BinaryWord.the-variants.{Let, If, Spawn, Write}
 use Rattle.calculus.specs.Expression.{Value, Unary, Exp, value, letIn, while, spawn, write, unary as onePart, Redex, letRedex, spawnRedex, writeRedex, unaryRedex, Next, atWord, nextWord, plug, ifValue, once}
 use Rattle.calculus.specs.Reduction.{nowhere, wordOf}
 use Rattle.soundness.specs.Erasure.{erase}
 use Rattle.machine.specs.Environment.{Env, closed, closedUnder}
-use Rattle.machine.specs.Control.{Frame, letFrame, spawnFrame, writeFirst, writeSecond, unaryFrame, againFrame, around, fill, Word, letWord, ifWord, whileWord, spawnWord, writeWord, unaryWord, makeWord, unrolledWord, againWord, wordExp, redex, Control, done, at, decode, nextRedex, seekPart, seek, return, enter, runPart}
+use Rattle.machine.specs.Control.{Frame, letFrame, spawnFrame, writeFirst, writeSecond, unaryFrame, againFrame, markFrame, behind, around, fill, Word, letWord, ifWord, whileWord, spawnWord, writeWord, unaryWord, makeWord, unrolledWord, againWord, wordExp, redex, Control, done, at, decode, nextRedex, seekPart, seek, return, enter, runPart}
 
 -- ---- Finding the next word keeps the expression
 
@@ -43,6 +43,7 @@ seek-keeps (unary Rdlock k v e) σ K c h = part-keeps σ k _ e K (seek-keeps e �
 seek-keeps (unary Rdunlock k v e) σ K c h = part-keeps σ k _ e K (seek-keeps e σ)
 seek-keeps (unary Wrlock k v e) σ K c h = part-keeps σ k _ e K (seek-keeps e σ)
 seek-keeps (unary Wrunlock k v e) σ K c h = part-keeps σ k _ e K (seek-keeps e σ)
+seek-keeps (unary Call k f e) σ K c h = part-keeps σ k _ e K (seek-keeps e σ)
 seek-keeps (binary Let k x e₁ e₂) σ K c h = seek-keeps e₁ σ (letFrame k x e₂ ∷ K) (λ v. at σ (letWord k x v e₂) K) (λ v. refl)
 seek-keeps (binary If k v e₁ e₂) σ K c h = refl
 seek-keeps (binary Spawn k v e₁ e₂) σ K c h = seek-keeps e₁ σ (spawnFrame k e₂ ∷ K) (λ w. at σ (spawnWord k w e₂) K) (λ w. refl)
@@ -57,6 +58,7 @@ return-keeps σ v (writeFirst k e ∷ K) = seek-keeps e σ (writeSecond k v ∷ 
 return-keeps σ v (writeSecond k w ∷ K) = refl
 return-keeps σ v (unaryFrame k o ∷ K) = refl
 return-keeps σ v (againFrame k e ∷ K) = refl
+return-keeps σ v (markFrame σ′ ∷ K) = return-keeps σ′ v K
 
 pub enter-keeps : (σ : Env) (e : Expr) (K : List Frame) → decode (enter σ e K) ≡ fill σ K (closed σ e)
 enter-keeps σ e K = seek-keeps e σ K (λ v. return σ v K) (λ v. return-keeps σ v K)
@@ -67,7 +69,7 @@ run-part-keeps σ k e K = seek-keeps e σ (againFrame k e ∷ K) (λ v. at σ (a
 
 -- ---- The calculus sees the same word
 
-word-is-next : (σ : Env) (w : Word) → nextWord (wordExp σ w) ≡ atWord (redex σ w)
+pub word-is-next : (σ : Env) (w : Word) → nextWord (wordExp σ w) ≡ atWord (redex σ w)
 word-is-next σ (letWord k x v e) = refl
 word-is-next σ (ifWord k e₁ e₂) = refl
 word-is-next σ (whileWord k e) = refl
@@ -79,17 +81,18 @@ word-is-next σ (unrolledWord k e) = refl
 word-is-next σ (againWord k v e) = refl
 
 -- A frame does not change the next word of the part that it waits for.
-next-around : {r : Redex} (σ : Env) (f : Frame) (E : Exp) → nextWord E ≡ atWord r → nextWord (around σ f E) ≡ atWord r
+pub next-around : {r : Redex} (σ : Env) (f : Frame) (E : Exp) → nextWord E ≡ atWord r → nextWord (around σ f E) ≡ atWord r
 next-around σ (letFrame k x e) E h = ap (λ (q : Next). once q λ v. atWord (letRedex x v (closedUnder σ x e))) h
 next-around σ (spawnFrame k e) E h = ap (λ (q : Next). once q λ v. atWord (spawnRedex v (closed σ e))) h
 next-around σ (writeFirst k e) E h = ap (λ (q : Next). once q λ v. once (nextWord (closed σ e)) λ w. atWord (writeRedex v w)) h
 next-around σ (writeSecond k v) E h = ap (λ (q : Next). once q λ w. atWord (writeRedex v w)) h
 next-around σ (unaryFrame k o) E h = ap (λ (q : Next). once q λ v. atWord (unaryRedex o v)) h
 next-around σ (againFrame k e) E h = ap (λ (q : Next). once q λ v. atWord (letRedex nowhere v (while (closed σ e)))) h
+next-around σ (markFrame σ′) E h = h
 
 next-filled : {r : Redex} (σ : Env) (K : List Frame) (E : Exp) → nextWord E ≡ atWord r → nextWord (fill σ K E) ≡ atWord r
 next-filled σ [] E h = h
-next-filled σ (f ∷ K) E h = next-filled σ K (around σ f E) (next-around σ f E h)
+next-filled σ (f ∷ K) E h = next-filled (behind σ f) K (around σ f E) (next-around σ f E h)
 
 pub next-decoded : (σ : Env) (w : Word) (K : List Frame) → nextWord (decode (at σ w K)) ≡ atWord (redex σ w)
 next-decoded σ w K = next-filled σ K (wordExp σ w) (word-is-next σ w)
@@ -120,10 +123,11 @@ plug-around σ (writeFirst k e) E r h =
 plug-around σ (writeSecond k v) E r h = ap (λ (q : Next). ifValue q r (write (value v) (plug E r))) h
 plug-around σ (unaryFrame k o) E r h = ap (λ (q : Next). ifValue q r (onePart o (plug E r))) h
 plug-around σ (againFrame k e) E r h = ap (λ (q : Next). ifValue q r (letIn nowhere (plug E r) (while (closed σ e)))) h
+plug-around σ (markFrame σ′) E r h = refl
 
 plug-filled : {q : Redex} (σ : Env) (K : List Frame) (E r : Exp) → nextWord E ≡ atWord q → plug (fill σ K E) r ≡ fill σ K (plug E r)
 plug-filled σ [] E r h = refl
-plug-filled σ (f ∷ K) E r h = plug-filled σ K (around σ f E) r (next-around σ f E h) ∙ ap (fill σ K) (plug-around σ f E r h)
+plug-filled σ (f ∷ K) E r h = plug-filled (behind σ f) K (around σ f E) r (next-around σ f E h) ∙ ap (fill (behind σ f) K) (plug-around σ f E r h)
 
 pub plug-decoded : (σ : Env) (w : Word) (K : List Frame) (r : Exp) → plug (decode (at σ w K)) r ≡ fill σ K r
 plug-decoded σ w K r = plug-filled σ K (wordExp σ w) r (word-is-next σ w) ∙ ap (fill σ K) (plug-word σ w r)

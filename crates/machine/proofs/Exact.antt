@@ -1,26 +1,31 @@
 -- A step of the machine is a step of the calculus, both when it can be taken and when it cannot.
-use Prim.Native.Nat.{ℕ}
+use Prim.Native.Nat.{ℕ, zero, suc}
 use mathlib.Core.Path.{_≡_, refl, sym, _∙_, ap}
 use mathlib.Core.Logic.{_≢_, _⊎_, inl}
 use mathlib.Core.Bool.{Bool, false}
 use mathlib.Core.Option.{Option, none, some, Option·map}
-use mathlib.Core.List.{List, [], _∷_, _++_}
+use mathlib.Core.List.{List, [], _∷_, _++_, map}
 use lib.ListN.{getElem?, set}
+use Rattle.spec.specs.Expression as sheet
 use Rattle.spec.specs.Expression.{Position, Expr}
-use Rattle.calculus.specs.Expression.{Value, int, name, Unary, join, ref, read, lock, unlock, post, wait, hold, Exp, value, letIn, while, Redex, nextWord, plug, substitute}
+use Rattle.calculus.specs.Expression.{Value, int, name, Unary, join, ref, read, lock, unlock, post, wait, hold, call, Exp, value, letIn, while, Redex, nextWord, plug, substitute, Procedure}
 use Rattle.calculus.specs.State.{Slot, unused, cell, Thread, State, Part, first, second, Move, update, remove}
 use Rattle.calculus.specs.Reduction.{_>>=_, _>>_, nameOf, ifUnused, ifIdentifier, content, lockState, ifOpened, count, oneLess, rwState, insideAfter, ifEqual, valueOf, zeroExp, nowhere, partListed, made, becomes, withThread, withoutThread, named, reduct, wordOf, reduce}
+use Rattle.calculus.specs.Claim.{Every}
 use Rattle.calculus.proofs.Laws.Places.{set-elsewhere}
 use Rattle.calculus.proofs.Laws.Questions.{equal-is-told}
-use Rattle.machine.specs.Environment.{Env, closed, closedUnder}
-use Rattle.machine.specs.Control.{Frame, fill, Word, letWord, ifWord, whileWord, spawnWord, writeWord, unaryWord, makeWord, unrolledWord, againWord, redex, Control, done, at, decode, nextRedex, return, enter}
-use Rattle.machine.specs.State.{MachineThread, Machine, decodeThread, live, rank, decodeState, running}
+use Rattle.machine.specs.Environment.{Env, zeros, closed, closedUnder}
+use Rattle.machine.specs.Control.{Frame, markFrame, fill, Word, letWord, ifWord, whileWord, spawnWord, writeWord, unaryWord, makeWord, unrolledWord, againWord, redex, Control, done, at, decode, nextRedex, return, enter}
+use Rattle.machine.specs.State.{MachineThread, Machine, decodeThread, live, rank, decodeState, decodeProcedures, running}
 use Rattle.machine.specs.Step.{lowest, zeroValue, partOf, unrolledPart, goesTo, addThread, asJoined, markJoined, gives, creates, stepWord, stepControl, stepThread, step}
 use Rattle.machine.specs.Scoped.{Nested, WordBinds, ControlOk}
+use Rattle.machine.specs.Kept.{ProcedureKept}
+use Rattle.soundness.specs.Erasure.{eraseProcedure}
+use Rattle.replaying.proofs.Lists.{every-at}
 use Rattle.machine.proofs.Questions.{asks}
 use Rattle.machine.proofs.Closing.{substitute-hidden, substitute-closed}
 use Rattle.machine.proofs.Decoding.{return-keeps, enter-keeps, run-part-keeps, word-of-decoded, plug-decoded}
-use Rattle.machine.proofs.Agreeing.{fill-agree}
+use Rattle.machine.proofs.Agreeing.{argument-put, fill-agree}
 use Rattle.machine.proofs.Places.{LiveAt, live-at, live-set, live-join, live-append, rank-set}
 use Rattle.machine.proofs.Joining.{JoinableAt, lowest-found, joiner-is-another, no-join}
 
@@ -142,6 +147,11 @@ module _ (M : Machine) (i tid : ℕ) (σ : Env) (w : Word) (K : List Frame) (her
 abbrev pub ListsLowest : Machine → Move → Word → Type 0
 ListsLowest M m w = (k : Position) (n j : ℕ) → w ≡ unaryWord k join (name n) → lowest n (M .threads) ≡ some j → m .finished ≡ rank (M .threads) j
 
+found-erased : (ps : List sheet.Procedure) (f : ℕ) → getElem? (map eraseProcedure ps) f ≡ Option·map eraseProcedure (getElem? ps f)
+found-erased [] f = refl
+found-erased (p ∷ ps) zero = refl
+found-erased (p ∷ ps) (suc f) = found-erased ps f
+
 part-closed : (c : Part) (σ : Env) (e₁ e₂ : Expr) → closed σ (partOf c e₁ e₂) ≡ partListed c (closed σ e₁) (closed σ e₂)
 part-closed first σ e₁ e₂ = refl
 part-closed second σ e₁ e₂ = refl
@@ -152,9 +162,9 @@ unrolled-keeps first σ k e K = run-part-keeps σ k e K
 unrolled-keeps second σ k e K = return-keeps σ zeroValue K
 
 module _ (M : Machine) (i tid : ℕ) (σ : Env) (K : List Frame) (m : Move) (placed : m .thread ≡ rank (M .threads) i)
-    (fresh : m .fresh ≡ M .next) (free : M .names (M .next) ≡ unused) where
+    (fresh : m .fresh ≡ M .next) (free : M .names (M .next) ≡ unused) (fit : Every ProcedureKept (M .procedures)) where
   abbrev pub Row : Word → Type 0
-  Row w = AtWord M i tid σ w K → ListsLowest M m w → reduct (decodeState M) m (decodeThread (running tid (at σ w K))) (redex σ w)
+  Row w = AtWord M i tid σ w K → ListsLowest M m w → reduct (decodeProcedures M) (decodeState M) m (decodeThread (running tid (at σ w K))) (redex σ w)
       ≡ Option·map decodeState (stepWord M i tid σ K (m .part) w)
 
   module _ {w : Word} (here : AtWord M i tid σ w K) where
@@ -183,6 +193,19 @@ module _ (M : Machine) (i tid : ℕ) (σ : Env) (K : List Frame) (m : Move) (pla
       ask (nameOf v) _ _ (λ n. ask (count (M .names n)) _ _ (λ c. ask (oneLess c) _ _ (λ _. gives-row here _ zeroValue)))
   unary-alike k (hold w) v here listed =
       ask (nameOf v) _ _ (λ n. ask (rwState (M .names n)) _ _ (λ p. ask (insideAfter (p .0) w (p .1)) _ _ (λ _. gives-row here _ zeroValue)))
+  unary-alike k (call f) v here listed =
+      ap (λ (o : Option Procedure). o >>= λ p. some (becomes (decodeState M) m (decodeThread (running tid (at σ (unaryWord k (call f) v) K))) (M .names)
+      (substitute (p .parameter) v (p .body)))) (found-erased (M .procedures) f)
+      ∙ by-cases (getElem? (M .procedures) f) refl
+    where
+      by-cases : (o : Option sheet.Procedure) → getElem? (M .procedures) f ≡ o →
+          (Option·map eraseProcedure o >>= λ p. some (becomes (decodeState M) m (decodeThread (running tid (at σ (unaryWord k (call f) v) K))) (M .names)
+          (substitute (p .parameter) v (p .body))))
+          ≡ Option·map decodeState (o >>= λ p. some (goesTo M i tid (M .names) (enter (update zeros (p .parameter) v) (p .body) (markFrame σ ∷ K))))
+      by-cases none q = refl
+      by-cases (some p) q = goes-row here (M .names) (enter (update zeros (p .parameter) v) (p .body) (markFrame σ ∷ K)) _
+          (enter-keeps (update zeros (p .parameter) v) (p .body) (markFrame σ ∷ K)
+          ∙ ap (fill σ K) (argument-put zeros (p .parameter) v (p .body) (every-at ProcedureKept (M .procedures) f p fit q)))
 
   -- A `let` changes the environment of all that is still to run. What is in the frames does not use it.
   let-keeps : (k : Position) (x : ℕ) (v : Value) (e : Expr) → Nested (WordBinds (letWord k x v e)) K →
@@ -208,12 +231,12 @@ module _ (M : Machine) (i tid : ℕ) (σ : Env) (K : List Frame) (m : Move) (pla
 
 -- ---- Steps
 
-control-alike : (M : Machine) (i tid : ℕ) (b : Control) (m : Move) → ControlOk b → M .names (M .next) ≡ unused →
+control-alike : (M : Machine) (i tid : ℕ) (b : Control) (m : Move) → Every ProcedureKept (M .procedures) → ControlOk b → M .names (M .next) ≡ unused →
     getElem? (M .threads) i ≡ some (running tid b) → m .thread ≡ rank (M .threads) i → m .fresh ≡ M .next →
     ((σ : Env) (w : Word) (K : List Frame) → b ≡ at σ w K → ListsLowest M m w) →
-    (nextRedex b >>= λ r. reduct (decodeState M) m (decodeThread (running tid b)) r) ≡ Option·map decodeState (stepControl M i (m .part) tid b)
-control-alike M i tid (done v) m ok free here placed fresh listed = refl
-control-alike M i tid (at σ w K) m ok free here placed fresh listed = word-alike M i tid σ K m placed fresh free w (ok .1) here (listed σ w K refl)
+    (nextRedex b >>= λ r. reduct (decodeProcedures M) (decodeState M) m (decodeThread (running tid b)) r) ≡ Option·map decodeState (stepControl M i (m .part) tid b)
+control-alike M i tid (done v) m fit ok free here placed fresh listed = refl
+control-alike M i tid (at σ w K) m fit ok free here placed fresh listed = word-alike M i tid σ K m placed fresh free fit w (ok .1) here (listed σ w K refl)
 
 pub live-is : (t : MachineThread) → t .joined ≡ false → t ≡ running (t .tid) (t .control)
 live-is t h = ap (λ (b : Bool). record { tid = t .tid; joined = b; control = t .control }) h
@@ -225,17 +248,17 @@ step-of-live M i c t h =
 
 -- What the calculus does with a move of that thread.
 pub reduce-of-live : (M : Machine) (i : ℕ) (t : MachineThread) (m : Move) → LiveAt (M .threads) i t → m .thread ≡ rank (M .threads) i →
-    reduce (decodeState M) m ≡ (nextRedex (t .control) >>= λ r. reduct (decodeState M) m (decodeThread t) r)
+    reduce (decodeProcedures M) (decodeState M) m ≡ (nextRedex (t .control) >>= λ r. reduct (decodeProcedures M) (decodeState M) m (decodeThread t) r)
 unfolding reduce
 reduce-of-live M i t m h placed =
-    ap (λ (p : ℕ). getElem? (live (M .threads)) p >>= λ u. wordOf (nextWord (u .body)) >>= λ r. reduct (decodeState M) m u r) placed
-    ∙ ap (λ (o : Option Thread). o >>= λ u. wordOf (nextWord (u .body)) >>= λ r. reduct (decodeState M) m u r) (live-at (λ i t. decodeThread t) (M .threads) 0 i t h)
-    ∙ ap (λ (o : Option Redex). o >>= λ r. reduct (decodeState M) m (decodeThread t) r) (word-of-decoded (t .control))
+    ap (λ (p : ℕ). getElem? (live (M .threads)) p >>= λ u. wordOf (nextWord (u .body)) >>= λ r. reduct (decodeProcedures M) (decodeState M) m u r) placed
+    ∙ ap (λ (o : Option Thread). o >>= λ u. wordOf (nextWord (u .body)) >>= λ r. reduct (decodeProcedures M) (decodeState M) m u r) (live-at (λ i t. decodeThread t) (M .threads) 0 i t h)
+    ∙ ap (λ (o : Option Redex). o >>= λ r. reduct (decodeProcedures M) (decodeState M) m (decodeThread t) r) (word-of-decoded (t .control))
 
-pub step-exact : (M : Machine) (i : ℕ) (t : MachineThread) (m : Move) → ControlOk (t .control) → M .names (M .next) ≡ unused → LiveAt (M .threads) i t →
+pub step-exact : (M : Machine) (i : ℕ) (t : MachineThread) (m : Move) → Every ProcedureKept (M .procedures) → ControlOk (t .control) → M .names (M .next) ≡ unused → LiveAt (M .threads) i t →
     m .thread ≡ rank (M .threads) i → m .fresh ≡ M .next → ((σ : Env) (w : Word) (K : List Frame) → t .control ≡ at σ w K → ListsLowest M m w) →
-    reduce (decodeState M) m ≡ Option·map decodeState (step M i (m .part))
-step-exact M i t m ok free h placed fresh listed =
+    reduce (decodeProcedures M) (decodeState M) m ≡ Option·map decodeState (step M i (m .part))
+step-exact M i t m fit ok free h placed fresh listed =
     reduce-of-live M i t m h placed
-    ∙ control-alike M i (t .tid) (t .control) m ok free (h .there ∙ ap some (live-is t (h .not-joined))) placed fresh listed
+    ∙ control-alike M i (t .tid) (t .control) m fit ok free (h .there ∙ ap some (live-is t (h .not-joined))) placed fresh listed
     ∙ ap (Option·map decodeState) (sym (step-of-live M i (m .part) t h))

@@ -2,30 +2,43 @@
 use Prim.Native.Nat.{ℕ}
 use mathlib.Core.Path.{_≡_}
 use mathlib.Core.Option.{some}
+use mathlib.Core.List.{List}
 use lib.ListN.{set}
 use Rattle.calculus.specs.Expression.{Redex}
 use Rattle.calculus.specs.State.{Part}
 use Rattle.calculus.specs.Claim.{Every}
+use Rattle.replaying.specs.Paths.{Path}
 use Rattle.machine.specs.Control.{Control}
 use Rattle.machine.specs.State.{Machine, running}
 use Rattle.machine.specs.Step.{asJoined, step}
 use Rattle.machine.specs.Scoped.{ControlOk}
 use Rattle.machine.specs.Kept.{ThreadKept, Kept}
 use Rattle.replaying.proofs.Lists.{every-at, every-set, every-append}
-use Rattle.machine.proofs.After.{next-updated, After, goes, made, spawned, joined, step-moves}
+use Rattle.machine.proofs.After.{next-updated, After, goes, called, made, spawned, joined, step-moves}
 
 module _ (M : Machine) (i tid : ℕ) (kept : Kept M) where
   threads-set : (b : Control) → ControlOk b → Every ThreadKept (set (M .threads) i (running tid b))
   threads-set b ok = every-set ThreadKept (M .threads) i (running tid b) (kept .threadsKept) ok
 
-  after-kept : {w : Redex} {N : Machine} → After M i tid w N → Kept N
-  after-kept (goes names b e unusedFrom ok) = record { threadsKept = threads-set b ok; unusedFrom = unusedFrom }
-  after-kept (made k new b e ok) = record { threadsKept = threads-set b ok; unusedFrom = next-updated (M .names) (M .next) new (kept .unusedFrom) }
-  after-kept (spawned n b b′ e ok ok′) = record {
+  after-kept : {ps : List Path} {q : Path} {w : Redex} {N : Machine} → After M i tid ps q w N → Kept N
+  after-kept (goes names b e unusedFrom ok tells) = record { proceduresKept = kept .proceduresKept; threadsKept = threads-set b ok; unusedFrom = unusedFrom }
+  after-kept (called b e ok tells) = record {
+    proceduresKept = kept .proceduresKept;
+    threadsKept = threads-set b ok;
+    unusedFrom = kept .unusedFrom;
+  }
+  after-kept (made k new b e ok tells) = record {
+    proceduresKept = kept .proceduresKept;
+    threadsKept = threads-set b ok;
+    unusedFrom = next-updated (M .names) (M .next) new (kept .unusedFrom);
+  }
+  after-kept (spawned n b b′ e ok ok′ tells tells′) = record {
+    proceduresKept = kept .proceduresKept;
     threadsKept = every-append ThreadKept (set (M .threads) i (running tid b)) (running n b′) (threads-set b ok) ok′;
     unusedFrom = kept .unusedFrom;
   }
-  after-kept (joined n j u b e named found there ok) = record {
+  after-kept (joined n j u b e named found there ok tells) = record {
+    proceduresKept = kept .proceduresKept;
     threadsKept = every-set ThreadKept (set (M .threads) i (running tid b)) j (asJoined u) (threads-set b ok)
         (every-at ThreadKept (M .threads) j u (kept .threadsKept) there);
     unusedFrom = kept .unusedFrom;

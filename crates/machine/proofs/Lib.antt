@@ -1,6 +1,7 @@
 pub mod Questions
 pub mod Closing
 pub mod Decoding
+pub mod Marks
 pub mod Places
 pub mod Joining
 pub mod Variables
@@ -12,6 +13,7 @@ pub mod Kept
 pub mod Stepped
 pub mod Start
 pub mod Books
+pub mod Opened
 pub mod Lines
 pub mod Replay
 pub mod Records

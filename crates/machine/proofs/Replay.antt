@@ -1,21 +1,22 @@
 -- The replay on the machine is the replay of crates/replaying, for every space, program and trace.
 use Prim.Native.Nat.{ℕ, suc, _+_}
 use mathlib.Core.Path.{_≡_, refl, sym, _∙_, ap, subst}
-use mathlib.Core.Bool.{Bool, true, false}
+use mathlib.Core.Bool.{Bool, true, false, _&&_}
 use mathlib.Core.Option.{Option, none, some, Option·map}
 use mathlib.Core.List.{List, [], _∷_}
 use native.Mathlib.Omega.{arith}
+use lib.Dec.{leb}
 use lib.ListN.{length}
 use Rattle.spec.specs.Choice.{if_then_else_}
 use Rattle.spec.specs.Text.{Line, lines}
 use Rattle.spec.specs.Reading.{Out, stop, on}
-use Rattle.spec.specs.Expression.{Expr}
 use Rattle.spec.specs.Program.{Program}
 use Rattle.spec.specs.WellFormed.{UsedInside}
-use Rattle.soundness.specs.Erasure.{erase}
+use Rattle.soundness.specs.Erasure.{eraseProgram}
 use Rattle.replaying.specs.Trace.{TraceLine, traceLine}
 use Rattle.replaying.specs.Run as run
-use Rattle.replaying.specs.Run.{Run, startRun}
+use Rattle.replaying.specs.Run.{Run, startRun, openIn, callLimit}
+use Rattle.replaying.specs.Paths.{Path}
 use Rattle.replaying.specs.LowestPair as run-pair
 use Rattle.replaying.specs.LowestPair.{lowestAmong}
 use Rattle.replaying.specs.Replay as answer
@@ -25,13 +26,16 @@ use Rattle.replaying.specs.declared.FirstRace.{FirstRace}
 use Rattle.replaying.specs.declared.FirstRace.the-variants.{None, Found}
 use Rattle.replaying.specs.declared.Replayed.{Replayed}
 use Rattle.replaying.proofs.Answer.{judged-well-formed}
-use Rattle.machine.specs.State.{startMachine}
+use Rattle.machine.specs.Environment.{zeros}
+use Rattle.machine.specs.State.{MachineThread, unless, ofLive, startMachine}
+use Rattle.machine.specs.Control.{openCalls}
 use Rattle.machine.specs.Kept.{Kept}
-use Rattle.machine.specs.Replay.{Replay, startReplay, stepped, within, usesIn, lowestPair, orRace, ended, playOn, playFrom, play, played, replay}
+use Rattle.machine.specs.Replay.{Replay, startReplay, stepped, callsIn, countsWithin, within, usesIn, lowestPair, orRace, ended, playOn, playFrom, play, played, replay}
 use Rattle.machine.proofs.Kept.{step-kept}
 use Rattle.machine.proofs.Stepped.{step-taken}
-use Rattle.machine.proofs.Start.{start-decoded, start-kept}
-use Rattle.machine.proofs.Books.{runOf, uses-alike}
+use Rattle.machine.proofs.Start.{start-decoded, root-is-inside, start-kept}
+use Rattle.machine.proofs.Books.{callsFrom, runOf, uses-alike}
+use Rattle.machine.proofs.Marks.{callPaths, calls-counted, enter-tells}
 use Rattle.machine.proofs.Lines.{same-run, line-alike}
 
 -- ---- One state
@@ -44,6 +48,22 @@ stepped-kept R R′ l kept q =
 pair-alike : (R : Replay) → run-pair.lowestPair (runOf R) ≡ lowestPair R
 unfolding run-pair.lowestPair lowestPair usesIn
 pair-alike R = ap lowestAmong (uses-alike (R .machine .names) (R .machine .threads) 0)
+
+-- The open calls are as many as the marks.
+counts-alike : (ts : List MachineThread) (k : ℕ) → run.callsWithin (callsFrom k ts) ≡ countsWithin (ofLive (λ i t. openCalls (t .control)) k ts)
+unfolding run.callsWithin countsWithin
+counts-alike [] k = refl
+counts-alike (t ∷ ts) k = by-cases (t .joined) (counts-alike ts (suc k))
+  where
+    by-cases : (b : Bool) → run.callsWithin (callsFrom (suc k) ts) ≡ countsWithin (ofLive (λ i u. openCalls (u .control)) (suc k) ts) →
+        run.callsWithin (unless b (λ l. callPaths (t .control) ∷ l) (callsFrom (suc k) ts))
+        ≡ countsWithin (unless b (λ l. openCalls (t .control) ∷ l) (ofLive (λ i u. openCalls (u .control)) (suc k) ts))
+    by-cases true q = q
+    by-cases false q = λ i. leb (calls-counted (t .control) i) callLimit && q i
+
+within-alike : (R : Replay) → run.within (runOf R) ≡ within R
+unfolding run.within within callsIn
+within-alike R = ap (λ (b : Bool). run.withinLimits (length (R .machine .threads)) (R .things) && b) (counts-alike (R .machine .threads) 0)
 
 -- ---- The first race
 
@@ -105,9 +125,10 @@ module _ (ls : List Line) (k : ℕ) (race : FirstRace) (R : Replay) (alike : Ali
 
   stepped-alike : (l : TraceLine) (o : Option Replay) → stepped R l ≡ o →
       playing (limited within o) ≡ atEnd k race (going (limited run.within (Option·map runOf o)))
-  unfolding limited playOn goesOn within run.within
+  unfolding limited playOn goesOn
   stepped-alike l none q = ends _ k race
-  stepped-alike l (some R′) q = by-limit (within R′)
+  stepped-alike l (some R′) q =
+      by-limit (within R′) ∙ ap (λ (b : Bool). atEnd k race (going (if b then stepOf (runOf R′) else pastLimit))) (sym (within-alike R′))
     where
       by-limit : (b : Bool) → playing (if b then stepOf R′ else pastLimit) ≡ atEnd k race (going (if b then stepOf (runOf R′) else pastLimit))
       by-limit true = step-alike ls k race R′ alike (stepped-kept R R′ l kept q)
@@ -143,9 +164,10 @@ play-alike R kept ls =
         race-moves-on None 0 (lowestPair R) (firstRace 1 (rest .0))
         ∙ ap (λ (p : Option (ℕ × ℕ)). raceOr 0 p (firstRace 1 (rest .0))) (sym (pair-alike R))
 
-start-alike : (e : Expr) → UsedInside [] e → runOf (startReplay e) ≡ startRun (erase e)
-unfolding startReplay startMachine startRun
-start-alike e used = same-run (start-decoded e used) refl refl refl refl
+start-alike : (P : Program) → UsedInside (length (P .procedures)) [] (P .root) → runOf (startReplay P) ≡ startRun (eraseProgram P)
+unfolding startReplay startMachine startRun openIn
+start-alike P used =
+    same-run refl (start-decoded P used) refl (ap (λ (ps : List Path). ps ∷ []) (sym (enter-tells zeros (P .root) []))) refl refl refl
 
 pub machine-replays : (room : ℕ) (programText traceText : List ℕ) → replay room programText traceText ≡ answer.replay room programText traceText
 unfolding replay played answer.replay answer.played startReplay
@@ -155,5 +177,5 @@ machine-replays room programText traceText = by-cases (judged room programText) 
     by-cases (stop r) q = refl
     by-cases (on P) q =
         let w = judged-well-formed room programText q in
-        play-alike (startReplay (P .root)) (start-kept w) (lines traceText)
-        ∙ ap (λ (r : Run). answer.reported r (way 1 r (lines traceText))) (start-alike (P .root) (w .usedInside))
+        play-alike (startReplay P) (start-kept w) (lines traceText)
+        ∙ ap (λ (r : Run). answer.reported r (way 1 r (lines traceText))) (start-alike P (root-is-inside w))

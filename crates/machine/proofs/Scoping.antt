@@ -5,15 +5,14 @@ use mathlib.Core.Logic.{_⊎_, inl, inr}
 use mathlib.Core.List.{List, [], _∷_}
 use Rattle.spec.specs.Expression.{Position, Expr, leaf, unary, binary}
 use Rattle.spec.specs.WellFormed.{binders, UsedInside}
-use Rattle.spec.specs.Words.{role, binding}
+use Rattle.spec.specs.Words.{calls, role, binding}
 use Rattle.spec.specs.declared.LeafWord.the-variants.{Var, Int, Newtid, Newlock, Newsem, Newrwlock}
-use Rattle.spec.specs.declared.UnaryWord.{UnaryWord}
-use Rattle.spec.specs.declared.UnaryWord.the-variants.{While, Join, Ref, Read, Lock, Unlock, Post, Wait, Rdlock, Rdunlock, Wrlock, Wrunlock}
+use Rattle.spec.specs.declared.UnaryWord.the-variants.{While, Join, Ref, Read, Lock, Unlock, Post, Wait, Rdlock, Rdunlock, Wrlock, Wrunlock, Call}
 use Rattle.spec.specs.declared.BinaryWord.the-variants.{Let, If, Spawn, Write}
 use Rattle.calculus.specs.Expression.{Value, Unary}
 use Rattle.machine.specs.Environment.{Env}
-use Rattle.machine.specs.Control.{Frame, letFrame, spawnFrame, writeFirst, writeSecond, unaryFrame, againFrame, letWord, spawnWord, writeWord, unaryWord, againWord, Control, at, seekPart, seek, return, enter, runPart}
-use Rattle.machine.specs.Scoped.{Fits, Vars, Bound, Rest, LetRest, FrameOk, FrameBinds, Nested, No, ControlOk}
+use Rattle.machine.specs.Control.{Frame, letFrame, spawnFrame, writeFirst, writeSecond, unaryFrame, againFrame, markFrame, letWord, spawnWord, writeWord, unaryWord, againWord, Control, at, seekPart, seek, return, enter, runPart}
+use Rattle.machine.specs.Scoped.{Fits, Vars, Bound, Rest, LetRest, FrameOk, FrameBinds, BoundBehind, Nested, No, ControlOk}
 use Rattle.machine.proofs.Variables.{among-here, among-behind, among-left, among-right, among-either, part-fits, both-fit, let-fits}
 
 -- ---- Fewer variables to be bound inside
@@ -35,25 +34,46 @@ frame-fewer h (writeFirst k e) ok = rest-fewer h ok
 frame-fewer h (writeSecond k v) ok = tt
 frame-fewer h (unaryFrame k o) ok = tt
 frame-fewer h (againFrame k e) ok = rest-fewer h ok
+frame-fewer h (markFrame σ) ok = tt
+
+either-fewer : {B C : Vars} (f : Frame) → C within B → (y : ℕ) → C y ⊎ FrameBinds f y → B y ⊎ FrameBinds f y
+either-fewer f h y (inl c) = inl (h y c)
+either-fewer f h y (inr d) = inr d
+
+behind-fewer : {B C : Vars} → C within B → (f : Frame) → BoundBehind C f within BoundBehind B f
+behind-fewer h (letFrame k x e) y b = either-fewer (letFrame k x e) h y b
+behind-fewer h (spawnFrame k e) y b = either-fewer (spawnFrame k e) h y b
+behind-fewer h (writeFirst k e) y b = either-fewer (writeFirst k e) h y b
+behind-fewer h (writeSecond k v) y b = either-fewer (writeSecond k v) h y b
+behind-fewer h (unaryFrame k o) y b = either-fewer (unaryFrame k o) h y b
+behind-fewer h (againFrame k e) y b = either-fewer (againFrame k e) h y b
+behind-fewer h (markFrame σ) y b = b
 
 pub nested-fewer : (K : List Frame) (B C : Vars) → C within B → Nested B K → Nested C K
 nested-fewer [] B C h n = tt
-nested-fewer (f ∷ K) B C h n = (frame-fewer h f (n .0), nested-fewer K _ _ either (n .1))
-  where
-    either : (λ y. C y ⊎ FrameBinds f y) within (λ y. B y ⊎ FrameBinds f y)
-    either y (inl c) = inl (h y c)
-    either y (inr b) = inr b
+nested-fewer (f ∷ K) B C h n = (frame-fewer h f (n .0), nested-fewer K _ _ (behind-fewer h f) (n .1))
 
 nested-none : (K : List Frame) (B : Vars) → Nested B K → Nested No K
 nested-none K B n = nested-fewer K B No (λ y z. absurd z) n
 
 -- A frame that binds nothing itself.
+behind-same : (B : Vars) (f : Frame) → FrameBinds f within No → BoundBehind B f within B
+behind-same B (letFrame k x e) nothing y (inl b) = b
+behind-same B (letFrame k x e) nothing y (inr z) = absurd (nothing y z)
+behind-same B (spawnFrame k e) nothing y (inl b) = b
+behind-same B (spawnFrame k e) nothing y (inr z) = absurd (nothing y z)
+behind-same B (writeFirst k e) nothing y (inl b) = b
+behind-same B (writeFirst k e) nothing y (inr z) = absurd (nothing y z)
+behind-same B (writeSecond k v) nothing y (inl b) = b
+behind-same B (writeSecond k v) nothing y (inr z) = absurd (nothing y z)
+behind-same B (unaryFrame k o) nothing y (inl b) = b
+behind-same B (unaryFrame k o) nothing y (inr z) = absurd (nothing y z)
+behind-same B (againFrame k e) nothing y (inl b) = b
+behind-same B (againFrame k e) nothing y (inr z) = absurd (nothing y z)
+behind-same B (markFrame σ) nothing y z = absurd z
+
 nested-behind : (K : List Frame) (B : Vars) (f : Frame) → FrameBinds f within No → FrameOk B f → Nested B K → Nested B (f ∷ K)
-nested-behind K B f nothing ok n = (ok, nested-fewer K B _ only n)
-  where
-    only : (λ y. B y ⊎ FrameBinds f y) within B
-    only y (inl b) = b
-    only y (inr z) = absurd (nothing y z)
+nested-behind K B f nothing ok n = (ok, nested-fewer K B _ (behind-same B f nothing) n)
 
 -- ---- What is next
 
@@ -70,11 +90,10 @@ abbrev Sought : Expr → Env → Type 0
 Sought e σ = (I : List ℕ) (K : List Frame) (c : Value → Control) → Fits I e → Nested (Bound e) K → Goes c → ControlOk (seek σ e K c)
 
 -- The part of a word with one.
-part-ok : (w : UnaryWord) (k : Position) (v : ℕ) (o : Unary) (e : Expr) (σ : Env) (I : List ℕ) (K : List Frame) → Sought e σ →
-    Fits I (unary w k v e) → Nested (Bound (unary w k v e)) K → ControlOk (seekPart σ k o K (seek σ e))
-unfolding binders role binding
-part-ok w k v o e σ I K sought f n =
-    sought I (unaryFrame k o ∷ K) (λ u. at σ (unaryWord k o u) K) (part-fits w e f) (nested-behind K (Bound e) (unaryFrame k o) (λ y z. z) tt n)
+part-ok : (k : Position) (o : Unary) (e : Expr) (σ : Env) (I : List ℕ) (K : List Frame) → Sought e σ →
+    Fits I e → Nested (Bound e) K → ControlOk (seekPart σ k o K (seek σ e))
+part-ok k o e σ I K sought f n =
+    sought I (unaryFrame k o ∷ K) (λ u. at σ (unaryWord k o u) K) f (nested-behind K (Bound e) (unaryFrame k o) (λ y z. z) tt n)
     (λ u. (tt, nested-none K _ n))
 
 -- Both parts of a `write`, whose values are wanted one after the other.
@@ -85,7 +104,7 @@ second-ok k w e σ I K sought f n =
     (λ u. (tt, nested-none K _ n))
 
 seek-ok : (e : Expr) (σ : Env) → Sought e σ
-unfolding UsedInside binders role binding
+unfolding UsedInside binders calls role binding
 seek-ok (leaf Var k x) σ I K c f n g = g (σ x)
 seek-ok (leaf Int k v) σ I K c f n g = g _
 seek-ok (leaf Newtid k v) σ I K c f n g = (tt, nested-none K _ n)
@@ -93,17 +112,18 @@ seek-ok (leaf Newlock k v) σ I K c f n g = (tt, nested-none K _ n)
 seek-ok (leaf Newsem k v) σ I K c f n g = (tt, nested-none K _ n)
 seek-ok (leaf Newrwlock k v) σ I K c f n g = (tt, nested-none K _ n)
 seek-ok (unary While k v e) σ I K c f n g = (fits-next (part-fits While e f), n)
-seek-ok (unary Join k v e) σ I K c f n g = part-ok Join k v _ e σ I K (seek-ok e σ) f n
-seek-ok (unary Ref k v e) σ I K c f n g = part-ok Ref k v _ e σ I K (seek-ok e σ) f n
-seek-ok (unary Read k v e) σ I K c f n g = part-ok Read k v _ e σ I K (seek-ok e σ) f n
-seek-ok (unary Lock k v e) σ I K c f n g = part-ok Lock k v _ e σ I K (seek-ok e σ) f n
-seek-ok (unary Unlock k v e) σ I K c f n g = part-ok Unlock k v _ e σ I K (seek-ok e σ) f n
-seek-ok (unary Post k v e) σ I K c f n g = part-ok Post k v _ e σ I K (seek-ok e σ) f n
-seek-ok (unary Wait k v e) σ I K c f n g = part-ok Wait k v _ e σ I K (seek-ok e σ) f n
-seek-ok (unary Rdlock k v e) σ I K c f n g = part-ok Rdlock k v _ e σ I K (seek-ok e σ) f n
-seek-ok (unary Rdunlock k v e) σ I K c f n g = part-ok Rdunlock k v _ e σ I K (seek-ok e σ) f n
-seek-ok (unary Wrlock k v e) σ I K c f n g = part-ok Wrlock k v _ e σ I K (seek-ok e σ) f n
-seek-ok (unary Wrunlock k v e) σ I K c f n g = part-ok Wrunlock k v _ e σ I K (seek-ok e σ) f n
+seek-ok (unary Join k v e) σ I K c f n g = part-ok k _ e σ I K (seek-ok e σ) (part-fits Join e f) n
+seek-ok (unary Ref k v e) σ I K c f n g = part-ok k _ e σ I K (seek-ok e σ) (part-fits Ref e f) n
+seek-ok (unary Read k v e) σ I K c f n g = part-ok k _ e σ I K (seek-ok e σ) (part-fits Read e f) n
+seek-ok (unary Lock k v e) σ I K c f n g = part-ok k _ e σ I K (seek-ok e σ) (part-fits Lock e f) n
+seek-ok (unary Unlock k v e) σ I K c f n g = part-ok k _ e σ I K (seek-ok e σ) (part-fits Unlock e f) n
+seek-ok (unary Post k v e) σ I K c f n g = part-ok k _ e σ I K (seek-ok e σ) (part-fits Post e f) n
+seek-ok (unary Wait k v e) σ I K c f n g = part-ok k _ e σ I K (seek-ok e σ) (part-fits Wait e f) n
+seek-ok (unary Rdlock k v e) σ I K c f n g = part-ok k _ e σ I K (seek-ok e σ) (part-fits Rdlock e f) n
+seek-ok (unary Rdunlock k v e) σ I K c f n g = part-ok k _ e σ I K (seek-ok e σ) (part-fits Rdunlock e f) n
+seek-ok (unary Wrlock k v e) σ I K c f n g = part-ok k _ e σ I K (seek-ok e σ) (part-fits Wrlock e f) n
+seek-ok (unary Wrunlock k v e) σ I K c f n g = part-ok k _ e σ I K (seek-ok e σ) (part-fits Wrunlock e f) n
+seek-ok (unary Call k v e) σ I K c f n g = part-ok k _ e σ I K (seek-ok e σ) (part-fits Call e f) n
 seek-ok (binary Let k x e₁ e₂) σ I K c f n g =
     let P = let-fits x e₁ e₂ f in
     seek-ok e₁ σ I (letFrame k x e₂ ∷ K) (λ v. at σ (letWord k x v e₂) K) (P .value-fits)
@@ -118,16 +138,16 @@ seek-ok (binary Let k x e₁ e₂) σ I K c f n g =
     parts y (inl b) = among-behind y x _ (among-left y (binders e₁) (binders e₂) b)
     parts y (inr b) = rest y b
 seek-ok (binary If k v e₁ e₂) σ I K c f n g =
-    let P = both-fit I e₁ e₂ (f .used .1) (f .used .2) (f .new) (f .once) in
+    let P = both-fit (f .count) I e₁ e₂ (f .used .1) (f .used .2) (f .new) (f .once) in
     ((I, P .left, P .right), nested-fewer K _ _ (λ y. among-either y (binders e₁) (binders e₂)) n)
 seek-ok (binary Spawn k v e₁ e₂) σ I K c f n g =
-    let P = both-fit I e₁ e₂ (f .used .1) (f .used .2) (f .new) (f .once) in
+    let P = both-fit (f .count) I e₁ e₂ (f .used .1) (f .used .2) (f .new) (f .once) in
     seek-ok e₁ σ I (spawnFrame k e₂ ∷ K) (λ w. at σ (spawnWord k w e₂) K) (P .left)
     (nested-behind K (Bound e₁) (spawnFrame k e₂) (λ y z. z) (record { scope = I; fits = P .right; outside = P .left .new })
     (nested-fewer K _ _ (λ y. among-left y (binders e₁) (binders e₂)) n))
     (λ w. (fits-next (P .right), nested-none K _ n))
 seek-ok (binary Write k v e₁ e₂) σ I K c f n g =
-    let P = both-fit I e₁ e₂ (f .used .1) (f .used .2) (f .new) (f .once) in
+    let P = both-fit (f .count) I e₁ e₂ (f .used .1) (f .used .2) (f .new) (f .once) in
     seek-ok e₁ σ I (writeFirst k e₂ ∷ K) _ (P .left)
     (record { scope = I; fits = P .right; outside = P .left .new }, nested-fewer K _ _ (λ y. among-either y (binders e₁) (binders e₂)) n)
     (λ w. second-ok k w e₂ σ I K (seek-ok e₂ σ) (P .right) (nested-fewer K _ _ (λ y. among-right y (binders e₁) (binders e₂)) n))
@@ -140,6 +160,7 @@ return-ok σ v (writeFirst k e ∷ K) B n = second-ok k v e σ (n .0 .scope) K (
 return-ok σ v (writeSecond k w ∷ K) B n = (tt, nested-none K _ (n .1))
 return-ok σ v (unaryFrame k o ∷ K) B n = (tt, nested-none K _ (n .1))
 return-ok σ v (againFrame k e ∷ K) B n = (rest-next (n .0), nested-fewer K _ _ (λ y b. inr b) (n .1))
+return-ok σ v (markFrame σ′ ∷ K) B n = return-ok σ′ v K No (n .1)
 
 pub enter-ok : (σ : Env) (e : Expr) (I : List ℕ) (K : List Frame) → Fits I e → Nested (Bound e) K → ControlOk (enter σ e K)
 enter-ok σ e I K f n = seek-ok e σ I K (λ v. return σ v K) f n (λ v. return-ok σ v K (Bound e) n)

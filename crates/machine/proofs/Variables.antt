@@ -1,6 +1,6 @@
 -- Lists of variables, and the parts of an expression that fits a scope.
 use Prim.Native.Nat.{ℕ}
-use mathlib.Core.Path.{_≡_, refl, sym, _∙_, ap}
+use mathlib.Core.Path.{_≡_, refl, sym, _∙_, ap, subst}
 use mathlib.Core.Logic.{_⊎_, inl, inr}
 use mathlib.Core.Bool.{Bool, true, false, _||_}
 use mathlib.Core.List.{List, [], _∷_, _++_}
@@ -8,7 +8,9 @@ use lib.Dec.{eqb}
 use borrow.Author.Tests.{eqb-true, eq-eqb}
 use Rattle.spec.specs.Expression.{Position, Expr, unary, binary, among}
 use Rattle.spec.specs.WellFormed.{binders, Distinct, UsedInside}
-use Rattle.spec.specs.Words.{role, binding}
+use Rattle.spec.specs.Choice.{if_then_else_}
+use Rattle.spec.specs.Words.{calls, role, binding}
+use Rattle.spec.specs.declared.Role.the-variants.{Calls, Neither}
 use Rattle.spec.specs.declared.UnaryWord.{UnaryWord}
 use Rattle.spec.specs.declared.BinaryWord.the-variants.{Let}
 use Rattle.spec.proofs.Clashes.{true-is-not-false}
@@ -59,34 +61,55 @@ pub among-either : (y : ℕ) (xs ys : List ℕ) → (among y xs ≡ true) ⊎ (a
 among-either y xs ys (inl h) = among-left y xs ys h
 among-either y xs ys (inr h) = among-right y xs ys h
 
-distinct-left : (xs ys : List ℕ) → Distinct (xs ++ ys) → Distinct xs
+pub distinct-left : (xs ys : List ℕ) → Distinct (xs ++ ys) → Distinct xs
 unfolding Distinct
 distinct-left [] ys d = tt
 distinct-left (x ∷ xs) ys d =
     (false-unless-true (among x xs) (λ q. true-is-not-false (sym (among-left x xs ys q) ∙ d .0)), distinct-left xs ys (d .1))
 
-distinct-right : (xs ys : List ℕ) → Distinct (xs ++ ys) → Distinct ys
+pub distinct-right : (xs ys : List ℕ) → Distinct (xs ++ ys) → Distinct ys
 unfolding Distinct
 distinct-right [] ys d = d
 distinct-right (x ∷ xs) ys d = distinct-right xs ys (d .1)
 
+-- What is among those bound later is not x, which is bound once.
+pub apart-from : (y x : ℕ) (xs : List ℕ) → among y xs ≡ true → among x xs ≡ false → among y (x ∷ []) ≡ false
+unfolding among
+apart-from y x xs h n =
+    or-both-false (eqb y x) false
+    (false-unless-true (eqb y x) (λ q. true-is-not-false (sym h ∙ ap (λ (z : ℕ). among z xs) (eqb-true y x q) ∙ n))) refl
+
 -- ---- The parts of an expression that fits a scope
+
+-- A word with one part binds nothing.
+one-part-binds : (w : UnaryWord) (k : Position) (v : ℕ) (e : Expr) → binders (unary w k v e) ≡ binders e
+unfolding binders role binding
+one-part-binds w k v e = by-cases (calls w)
+  where
+    by-cases : (b : Bool) → binding (if b then Calls else Neither) v (binders e) ≡ binders e
+    by-cases true = refl
+    by-cases false = refl
 
 -- The part of a word with one.
 pub part-fits : {I : List ℕ} {k : Position} {v : ℕ} (w : UnaryWord) (e : Expr) → Fits I (unary w k v e) → Fits I e
-unfolding UsedInside binders role binding
-part-fits w e f = record { used = f .used .1; new = f .new; once = f .once }
+unfolding UsedInside
+part-fits {k = k} {v = v} w e f = record {
+  count = f .count;
+  used = f .used .1;
+  new = λ y h. f .new y (ap (among y) (one-part-binds w k v e) ∙ h);
+  once = subst Distinct (one-part-binds w k v e) (f .once);
+}
 
 -- Both parts of a word that binds nothing.
 pub record BothFit (I : List ℕ) (e₁ e₂ : Expr) : Type 0 where
   pub left : Fits I e₁
   pub right : Fits I e₂
 
-pub both-fit : (I : List ℕ) (e₁ e₂ : Expr) → UsedInside I e₁ → UsedInside I e₂ →
+pub both-fit : (count : ℕ) (I : List ℕ) (e₁ e₂ : Expr) → UsedInside count I e₁ → UsedInside count I e₂ →
     ((y : ℕ) → among y (binders e₁ ++ binders e₂) ≡ true → among y I ≡ false) → Distinct (binders e₁ ++ binders e₂) → BothFit I e₁ e₂
-both-fit I e₁ e₂ u₁ u₂ new once = record {
-  left = record { used = u₁; new = λ y h. new y (among-left y (binders e₁) (binders e₂) h); once = distinct-left (binders e₁) (binders e₂) once };
-  right = record { used = u₂; new = λ y h. new y (among-right y (binders e₁) (binders e₂) h); once = distinct-right (binders e₁) (binders e₂) once };
+both-fit count I e₁ e₂ u₁ u₂ new once = record {
+  left = record { count = count; used = u₁; new = λ y h. new y (among-left y (binders e₁) (binders e₂) h); once = distinct-left (binders e₁) (binders e₂) once };
+  right = record { count = count; used = u₂; new = λ y h. new y (among-right y (binders e₁) (binders e₂) h); once = distinct-right (binders e₁) (binders e₂) once };
 }
 
 -- The parts of a `let`: in e2 its variable is in scope.
@@ -99,11 +122,13 @@ pub let-fits : {I : List ℕ} {k : Position} (x : ℕ) (e₁ e₂ : Expr) → Fi
 unfolding UsedInside binders role binding among Distinct
 let-fits {I} x e₁ e₂ f = record {
   value-fits = record {
+    count = f .count;
     used = f .used .1;
     new = λ y h. f .new y (among-behind y x bound (among-left y (binders e₁) (binders e₂) h));
     once = distinct-left (binders e₁) (binders e₂) (f .once .1);
   };
   rest-fits = record {
+    count = f .count;
     used = f .used .2;
     new = λ y h. or-both-false (eqb y x) (among y I) (other y h) (f .new y (among-behind y x bound (among-right y (binders e₁) (binders e₂) h)));
     once = distinct-right (binders e₁) (binders e₂) (f .once .1);

@@ -1,20 +1,21 @@
 -- The control of a thread: the word that comes next, with the values of its parts, and the frames around it. Between two steps a thread
 -- always stands at its next word, so that a step of the machine is a step of the language. Words and frames know where their step stands.
-use Prim.Native.Nat.{ℕ}
+use Prim.Native.Nat.{ℕ, suc}
 use mathlib.Core.Option.{Option, none, some}
 use mathlib.Core.List.{List, [], _∷_}
 use Rattle.spec.specs.Expression.{Position, Expr, leaf, unary, binary}
 use Rattle.spec.specs.declared.LeafWord.the-variants.{Var, Int, Newtid, Newlock, Newsem, Newrwlock}
-use Rattle.spec.specs.declared.UnaryWord.the-variants.{While, Join, Ref, Read, Lock, Unlock, Post, Wait, Rdlock, Rdunlock, Wrlock, Wrunlock}
+use Rattle.spec.specs.declared.UnaryWord.the-variants.{While, Join, Ref, Read, Lock, Unlock, Post, Wait, Rdlock, Rdunlock, Wrlock, Wrunlock, Call}
 use Rattle.spec.specs.declared.BinaryWord.the-variants.{Let, If, Spawn, Write}
-use Rattle.calculus.specs.Expression.{Value, int, Unary, join, ref, read, lock, unlock, post, wait, hold, rdlock, rdunlock, wrlock, wrunlock, Maker, newtid, newlock, newsem, newrwlock, Exp, value, letIn, if, while, spawn, write, unary as onePart, make, Redex, letRedex, ifRedex, whileRedex, spawnRedex, writeRedex, unaryRedex, makeRedex}
+use Rattle.calculus.specs.Expression.{Value, int, Unary, join, ref, read, lock, unlock, post, wait, hold, rdlock, rdunlock, wrlock, wrunlock, call, Maker, newtid, newlock, newsem, newrwlock, Exp, value, letIn, if, while, spawn, write, unary as onePart, make, Redex, letRedex, ifRedex, whileRedex, spawnRedex, writeRedex, unaryRedex, makeRedex}
 use Rattle.calculus.specs.Reduction.{zeroExp, nowhere}
 use Rattle.machine.specs.Environment.{Env, closed, closedUnder}
 
 -- ---- Frames
 
 -- A word one of whose parts is being evaluated, with what it still needs. `againFrame` is of a `while` whose part runs: the `let` of the
--- variable used nowhere, around the same `while`.
+-- variable used nowhere, around the same `while`. `markFrame` is of an open call, whose body runs in an environment of its own: it holds
+-- the caller's.
 pub data Frame : Type 0 where
   letFrame : Position → (x : ℕ) → Expr → Frame
   spawnFrame : Position → Expr → Frame
@@ -22,6 +23,7 @@ pub data Frame : Type 0 where
   writeSecond : Position → Value → Frame
   unaryFrame : Position → Unary → Frame
   againFrame : Position → Expr → Frame
+  markFrame : Env → Frame
 
 -- The expression around a part.
 abbrev pub around : Env → Frame → Exp → Exp
@@ -31,11 +33,22 @@ around σ (writeFirst k e₂) E = write E (closed σ e₂)
 around σ (writeSecond k v) E = write (value v) E
 around σ (unaryFrame k o) E = onePart o E
 around σ (againFrame k e) E = letIn nowhere E (while (closed σ e))
+around σ (markFrame σ′) E = E
+
+-- The environment of the frames behind a frame: an open call ends with its caller's.
+abbrev pub behind : Env → Frame → Env
+behind σ (letFrame k x e) = σ
+behind σ (spawnFrame k e) = σ
+behind σ (writeFirst k e) = σ
+behind σ (writeSecond k v) = σ
+behind σ (unaryFrame k o) = σ
+behind σ (againFrame k e) = σ
+behind σ (markFrame σ′) = σ′
 
 -- The frames around an expression, the innermost first.
 abbrev pub fill : Env → List Frame → Exp → Exp
 fill σ [] E = E
-fill σ (f ∷ K) E = fill σ K (around σ f E)
+fill σ (f ∷ K) E = fill (behind σ f) K (around σ f E)
 
 -- ---- Words
 
@@ -117,14 +130,15 @@ seek σ (unary Rdlock k v e) K c = seekPart σ k (hold rdlock) K (seek σ e)
 seek σ (unary Rdunlock k v e) K c = seekPart σ k (hold rdunlock) K (seek σ e)
 seek σ (unary Wrlock k v e) K c = seekPart σ k (hold wrlock) K (seek σ e)
 seek σ (unary Wrunlock k v e) K c = seekPart σ k (hold wrunlock) K (seek σ e)
+seek σ (unary Call k f e) K c = seekPart σ k (call f) K (seek σ e)
 seek σ (binary Let k x e₁ e₂) K c = seek σ e₁ (letFrame k x e₂ ∷ K) (λ v. at σ (letWord k x v e₂) K)
 seek σ (binary If k v e₁ e₂) K c = at σ (ifWord k e₁ e₂) K
 seek σ (binary Spawn k v e₁ e₂) K c = seek σ e₁ (spawnFrame k e₂ ∷ K) (λ w. at σ (spawnWord k w e₂) K)
 seek σ (binary Write k v e₁ e₂) K c =
     seek σ e₁ (writeFirst k e₂ ∷ K) (λ w. seek σ e₂ (writeSecond k w ∷ K) (λ u. at σ (writeWord k w u) K))
 
--- A part has become a value: the word around it is next, or, of a `write`, its other part. The frames of an open call would end here with
--- a frame that holds the caller's environment, in which this goes on.
+-- A part has become a value: the word around it is next, or, of a `write`, its other part. The end of an
+-- open call goes on in the caller's environment.
 abbrev pub return : Env → Value → List Frame → Control
 return σ v [] = done v
 return σ v (letFrame k x e ∷ K) = at σ (letWord k x v e) K
@@ -133,6 +147,7 @@ return σ v (writeFirst k e ∷ K) = seek σ e (writeSecond k v ∷ K) (λ u. at
 return σ v (writeSecond k w ∷ K) = at σ (writeWord k w v) K
 return σ v (unaryFrame k o ∷ K) = at σ (unaryWord k o v) K
 return σ v (againFrame k e ∷ K) = at σ (againWord k v e) K
+return σ v (markFrame σ′ ∷ K) = return σ′ v K
 
 -- An expression takes the place of a word.
 abbrev pub enter : Env → Expr → List Frame → Control
@@ -141,3 +156,20 @@ enter σ e K = seek σ e K (λ v. return σ v K)
 -- The part of a `while` runs once more.
 abbrev pub runPart : Env → Position → Expr → List Frame → Control
 runPart σ k e K = seek σ e (againFrame k e ∷ K) (λ v. at σ (againWord k v e) K)
+
+-- ---- Open calls
+
+-- How many calls are open in these frames.
+unfoldable pub marks : List Frame → ℕ
+marks [] = 0
+marks (letFrame k x e ∷ K) = marks K
+marks (spawnFrame k e ∷ K) = marks K
+marks (writeFirst k e ∷ K) = marks K
+marks (writeSecond k v ∷ K) = marks K
+marks (unaryFrame k o ∷ K) = marks K
+marks (againFrame k e ∷ K) = marks K
+marks (markFrame σ ∷ K) = suc (marks K)
+
+unfoldable pub openCalls : Control → ℕ
+openCalls (done v) = 0
+openCalls (at σ w K) = marks K

@@ -2,13 +2,17 @@
 use Prim.Native.Nat.{ℕ}
 use mathlib.Core.Option.{Option, none, some}
 use Rattle.spec.specs.Expression.{Expr}
-use Rattle.calculus.specs.Expression.{Value, Exp, value, var, letIn, if, while, spawn, write, unary, make}
+use Rattle.calculus.specs.Expression.{Value, int, Exp, value, var, letIn, if, while, spawn, write, unary, make}
 use Rattle.calculus.specs.State.{update}
 use Rattle.soundness.specs.Erasure.{erase}
 
 -- The value of each variable; of one that is not bound, any.
 abbrev pub Env : Type 0
 Env = ℕ → Value
+
+-- Where no variable is bound.
+abbrev pub zeros : Env
+zeros x = int 0
 
 -- The values of some variables.
 abbrev pub PartialEnv : Type 0

@@ -1,18 +1,18 @@
 -- A replay on the machine, with its counts and what it has found so far: what the code runs. proofs/Replay shows that it is the replay of
 -- crates/replaying.
 use Prim.Native.Nat.{ℕ, _+_}
-use mathlib.Core.Bool.{Bool, true, false}
+use mathlib.Core.Bool.{Bool, true, false, _&&_}
 use mathlib.Core.List.{List, [], _∷_}
 use mathlib.Core.Option.{Option, none, some}
+use lib.Dec.{leb}
 use lib.ListN.{getElem?, length}
 use Rattle.spec.specs.Text.{Line, lines}
 use Rattle.spec.specs.Reading.{Out, stop, on}
-use Rattle.spec.specs.Expression.{Expr}
 use Rattle.spec.specs.Program.{Program}
 use Rattle.calculus.specs.Expression.{Redex}
 use Rattle.calculus.specs.Reduction.{_>>=_}
 use Rattle.replaying.specs.Trace.{TraceLine, traceLine}
-use Rattle.replaying.specs.Run.{Kind, partChosen, effect, thingsAfter, withinLimits}
+use Rattle.replaying.specs.Run.{Kind, partChosen, effect, thingsAfter, withinLimits, callLimit}
 use Rattle.replaying.specs.LowestPair.{Uses, usesOf, lowestAmong}
 use Rattle.replaying.specs.Replay.{Outcome, badForm, noStep, pastLimit, step as stepOf, onLine, raceOr, refused, judged}
 use Rattle.replaying.specs.declared.Status.{Status}
@@ -22,7 +22,7 @@ use Rattle.replaying.specs.declared.Ending.the-variants.{Done, TraceForm, NoSte
 use Rattle.replaying.specs.declared.FirstRace.{FirstRace}
 use Rattle.replaying.specs.declared.FirstRace.the-variants.{None, Found}
 use Rattle.replaying.specs.declared.Replayed.{Replayed}
-use Rattle.machine.specs.Control.{Control, done, at, nextRedex}
+use Rattle.machine.specs.Control.{Control, done, at, nextRedex, openCalls}
 use Rattle.machine.specs.State.{MachineThread, Machine, ofLive, startMachine}
 use Rattle.machine.specs.Step.{step}
 
@@ -31,8 +31,8 @@ pub record Replay : Type 0 where
   pub machine : Machine
   pub things : Kind → ℕ
 
-unfoldable pub startReplay : Expr → Replay
-startReplay e = record { machine = startMachine e; things = λ k. 0 }
+unfoldable pub startReplay : Program → Replay
+startReplay P = record { machine = startMachine P; things = λ k. 0 }
 
 -- The record of a thread.
 unfoldable pub statusOf : (joined : Bool) → Control → Status
@@ -55,8 +55,16 @@ stepped R l = do
   M ← step (R .machine) (l .thread) c
   some (record { machine = M; things = thingsAfter (effect w) (R .things) })
 
+-- The open calls of each thread that is not joined.
+unfoldable pub callsIn : Machine → List ℕ
+callsIn M = ofLive (λ i t. openCalls (t .control)) 0 (M .threads)
+
+unfoldable pub countsWithin : List ℕ → Bool
+countsWithin [] = true
+countsWithin (n ∷ ns) = leb n callLimit && countsWithin ns
+
 unfoldable pub within : Replay → Bool
-within R = withinLimits (length (R .machine .threads)) (R .things)
+within R = withinLimits (length (R .machine .threads)) (R .things) && countsWithin (callsIn (R .machine))
 
 -- ---- Races
 
@@ -93,7 +101,7 @@ play R ls = playFrom 0 (orRace None 0 (lowestPair R)) R ls
 
 unfoldable pub played : Out Program → List Line → Replayed
 played (stop r) ls = refused r
-played (on P) ls = play (startReplay (P .root)) ls
+played (on P) ls = play (startReplay P) ls
 
 unfoldable pub replay : (room : ℕ) → (programText traceText : List ℕ) → Replayed
 replay room programText traceText = played (judged room programText) (lines traceText)

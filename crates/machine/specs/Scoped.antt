@@ -6,11 +6,13 @@ use mathlib.Core.Bool.{true, false}
 use mathlib.Core.List.{List, [], _∷_}
 use Rattle.spec.specs.Expression.{Expr, among}
 use Rattle.spec.specs.WellFormed.{binders, Distinct, UsedInside}
-use Rattle.machine.specs.Control.{Frame, letFrame, spawnFrame, writeFirst, writeSecond, unaryFrame, againFrame, Word, letWord, ifWord, whileWord, spawnWord, writeWord, unaryWord, makeWord, unrolledWord, againWord, Control, done, at}
+use Rattle.machine.specs.Control.{Frame, letFrame, spawnFrame, writeFirst, writeSecond, unaryFrame, againFrame, markFrame, Word, letWord, ifWord, whileWord, spawnWord, writeWord, unaryWord, makeWord, unrolledWord, againWord, Control, done, at}
 
--- An expression in the scope of the variables I: it uses only those and its own, and binds each once and none of those.
+-- An expression in the scope of the variables I: it uses only those and its own, and binds each once and none of those. `count` is of
+-- the sheet's procedures.
 pub record Fits (I : List ℕ) (e : Expr) : Type 0 where
-  pub used : UsedInside I e
+  pub count : ℕ
+  pub used : UsedInside count I e
   pub new : (y : ℕ) → among y (binders e) ≡ true → among y I ≡ false
   pub once : Distinct (binders e)
 
@@ -44,6 +46,7 @@ FrameOk B (writeFirst k e) = Rest B e
 FrameOk B (writeSecond k v) = Unit {0}
 FrameOk B (unaryFrame k o) = Unit {0}
 FrameOk B (againFrame k e) = Rest B e
+FrameOk B (markFrame σ) = Unit {0}
 
 -- The variables that a frame may bind when it is its turn. A spawned body binds in another thread.
 abbrev pub FrameBinds : Frame → Vars
@@ -53,13 +56,24 @@ FrameBinds (writeFirst k e) y = Bound e y
 FrameBinds (writeSecond k v) y = ⊥
 FrameBinds (unaryFrame k o) y = ⊥
 FrameBinds (againFrame k e) y = Bound e y
-
-abbrev pub Nested : Vars → List Frame → Type 0
-Nested B [] = Unit {0}
-Nested B (f ∷ K) = FrameOk B f × Nested (λ y. B y ⊎ FrameBinds f y) K
+FrameBinds (markFrame σ) y = ⊥
 
 abbrev pub No : Vars
 No y = ⊥
+
+-- What may be bound before it is the turn of the frames behind a frame, in their environment.
+abbrev pub BoundBehind : Vars → Frame → Vars
+BoundBehind B (letFrame k x e) y = B y ⊎ FrameBinds (letFrame k x e) y
+BoundBehind B (spawnFrame k e) y = B y ⊎ FrameBinds (spawnFrame k e) y
+BoundBehind B (writeFirst k e) y = B y ⊎ FrameBinds (writeFirst k e) y
+BoundBehind B (writeSecond k v) y = B y ⊎ FrameBinds (writeSecond k v) y
+BoundBehind B (unaryFrame k o) y = B y ⊎ FrameBinds (unaryFrame k o) y
+BoundBehind B (againFrame k e) y = B y ⊎ FrameBinds (againFrame k e) y
+BoundBehind B (markFrame σ) y = ⊥
+
+abbrev pub Nested : Vars → List Frame → Type 0
+Nested B [] = Unit {0}
+Nested B (f ∷ K) = FrameOk B f × Nested (BoundBehind B f) K
 
 abbrev pub WordOk : Word → Type 0
 WordOk (letWord k x v e) = LetRest No x e

@@ -1,10 +1,13 @@
 -- A state of the machine, and the state of the calculus that it stands for.
 use Prim.Native.Nat.{ℕ, zero, suc}
 use mathlib.Core.Bool.{Bool, true, false}
-use mathlib.Core.List.{List, [], _∷_}
-use Rattle.spec.specs.Expression.{Expr}
-use Rattle.calculus.specs.Expression.{int}
+use mathlib.Core.List.{List, [], _∷_, map}
+use Rattle.spec.specs.Expression.{Procedure}
+use Rattle.spec.specs.Program.{Program}
+use Rattle.calculus.specs.Expression as calculus
 use Rattle.calculus.specs.State.{Slot, unused, identifier, Thread, State, update}
+use Rattle.soundness.specs.Erasure.{eraseProcedure}
+use Rattle.machine.specs.Environment.{zeros}
 use Rattle.machine.specs.Control.{Control, decode, enter}
 
 -- A thread keeps its place when it is joined, and is marked: threads are told by their places.
@@ -13,8 +16,9 @@ pub record MachineThread : Type 0 where
   pub joined : Bool
   pub control : Control
 
--- Names are given out in order: from `next` on none is used.
+-- Names are given out in order: from `next` on none is used. The procedures never change.
 pub record Machine : Type 0 where
+  pub procedures : List Procedure
   pub threads : List MachineThread
   pub names : ℕ → Slot
   pub next : ℕ
@@ -46,14 +50,18 @@ rank (t ∷ ts) (suc i) = unless (t .joined) suc (rank ts i)
 abbrev pub decodeState : Machine → State
 decodeState M = record { threads = live (M .threads); names = M .names }
 
+abbrev pub decodeProcedures : Machine → List calculus.Procedure
+decodeProcedures M = map eraseProcedure (M .procedures)
+
 -- ---- The start
 
 abbrev pub running : (tid : ℕ) → Control → MachineThread
 running tid b = record { tid = tid; joined = false; control = b }
 
-unfoldable pub startMachine : Expr → Machine
-startMachine e = record {
-  threads = running 0 (enter (λ x. int 0) e []) ∷ [];
+unfoldable pub startMachine : Program → Machine
+startMachine P = record {
+  procedures = P .procedures;
+  threads = running 0 (enter zeros (P .root) []) ∷ [];
   names = update (λ n. unused) 0 identifier;
   next = 1;
 }

@@ -6,11 +6,11 @@ use mathlib.Core.List.{List, [], _∷_, _++_}
 use lib.Dec.{eqb}
 use lib.ListN.{getElem?, set}
 use Rattle.spec.specs.Expression.{Position, Expr}
-use Rattle.calculus.specs.Expression.{Value, int, name, Unary, join, ref, read, lock, unlock, post, wait, hold}
+use Rattle.calculus.specs.Expression.{Value, int, name, Unary, join, ref, read, lock, unlock, post, wait, hold, call}
 use Rattle.calculus.specs.State.{opened, closed, Slot, cell, aLock, semaphore, rwlock, Part, first, second, update}
 use Rattle.calculus.specs.Reduction.{_>>=_, _>>_, nameOf, ifIdentifier, content, lockState, ifOpened, count, oneLess, rwState, insideAfter, made}
-use Rattle.machine.specs.Environment.{Env}
-use Rattle.machine.specs.Control.{Frame, Word, letWord, ifWord, whileWord, spawnWord, writeWord, unaryWord, makeWord, unrolledWord, againWord, Control, done, at, return, enter, runPart}
+use Rattle.machine.specs.Environment.{Env, zeros}
+use Rattle.machine.specs.Control.{Frame, markFrame, Word, letWord, ifWord, whileWord, spawnWord, writeWord, unaryWord, makeWord, unrolledWord, againWord, Control, done, at, return, enter, runPart}
 use Rattle.machine.specs.State.{MachineThread, Machine, running}
 
 -- ---- The lowest finished thread with an identifier
@@ -46,16 +46,16 @@ unrolledPart second σ k e K = return σ zeroValue K
 
 -- The machine in which thread i, with identifier tid, has gone on to b, with these names.
 abbrev pub goesTo : Machine → (i tid : ℕ) → (ℕ → Slot) → Control → Machine
-goesTo M i tid names b = record { threads = set (M .threads) i (running tid b); names = names; next = M .next }
+goesTo M i tid names b = record { procedures = M .procedures; threads = set (M .threads) i (running tid b); names = names; next = M .next }
 
 abbrev pub addThread : MachineThread → Machine → Machine
-addThread t M = record { threads = M .threads ++ (t ∷ []); names = M .names; next = M .next }
+addThread t M = record { procedures = M .procedures; threads = M .threads ++ (t ∷ []); names = M .names; next = M .next }
 
 abbrev pub asJoined : MachineThread → MachineThread
 asJoined t = record { tid = t .tid; joined = true; control = t .control }
 
 abbrev pub markJoined : ℕ → MachineThread → Machine → Machine
-markJoined j t M = record { threads = set (M .threads) j (asJoined t); names = M .names; next = M .next }
+markJoined j t M = record { procedures = M .procedures; threads = set (M .threads) j (asJoined t); names = M .names; next = M .next }
 
 -- Thread i of M, with identifier tid, is at a word in the environment σ, within the frames K.
 module _ (M : Machine) (i tid : ℕ) (σ : Env) (K : List Frame) where
@@ -70,11 +70,13 @@ module _ (M : Machine) (i tid : ℕ) (σ : Env) (K : List Frame) where
   -- A new thing has the next name.
   abbrev pub creates : Slot → Machine
   creates new = record {
+    procedures = M .procedures;
     threads = set (M .threads) i (running tid (return σ (name (M .next)) K));
     names = update (M .names) (M .next) new;
     next = suc (M .next);
   }
 
+  -- The body of a procedure knows its argument alone, and the caller's environment is kept for its end.
   abbrev pub stepUnary : Unary → Value → Option Machine
   stepUnary join v = do
     n ← nameOf v
@@ -110,6 +112,9 @@ module _ (M : Machine) (i tid : ℕ) (σ : Env) (K : List Frame) where
     (N, inside) ← rwState (M .names n)
     after ← insideAfter N w inside
     some (leaves n (rwlock N after))
+  stepUnary (call f) v = do
+    p ← getElem? (M .procedures) f
+    some (goesTo M i tid (M .names) (enter (update zeros (p .parameter) v) (p .body) (markFrame σ ∷ K)))
 
   abbrev pub stepWord : Part → Word → Option Machine
   stepWord c (letWord k x v e) = some (goesTo M i tid (M .names) (enter (update σ x v) e K))

@@ -4,7 +4,7 @@ use native.Mathlib.Omega.{arith}
 use Rattle.spec.specs.Verdict.{returned, four}
 use Rattle.spec.specs.declared.Answer.the-variants.{Refuse}
 use Rattle.spec.specs.declared.Refusal.{Refusal}
-use Rattle.spec.specs.declared.Refusal.the-variants.{ShortWorkspace, LongProgram, ProgramForm, ProgramRange, ProgramLines, Unbound, Rebound, LongSplit, SplitForm, SplitRange, SplitLines, NoStart, OverOne, TypeFalse, FlowFalse, AccessFalse, NoAfterMaps, TooLarge, TooManyMaps, LockTakesLess, Freelock}
+use Rattle.spec.specs.declared.Refusal.the-variants.{ShortWorkspace, LongProgram, ProgramForm, ProgramRange, ProgramLines, Unbound, Rebound, LongSplit, SplitForm, SplitRange, SplitLines, NoStart, OverOne, TypeFalse, FlowFalse, AccessFalse, NoAfterMaps, TooLarge, TooManyMaps, LockTakesLess, Freelock, NoProcedure, NoKept}
 
 -- a refusal's number is not 0
 pub refusal-number : (r : Refusal) → 1 ≤ returned (Refuse r) .number
@@ -30,3 +30,5 @@ refusal-number TooLarge = omega arith
 refusal-number TooManyMaps = omega arith
 refusal-number (LockTakesLess k) = omega arith
 refusal-number (Freelock k) = omega arith
+refusal-number (NoProcedure k) = omega arith
+refusal-number (NoKept k) = omega arith

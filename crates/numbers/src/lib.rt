@@ -56,6 +56,8 @@ fn refusal_numbers(r: Refusal) -> Returned
         Refusal::TooManyMaps => four(43, 0, 0, 0),
         Refusal::LockTakesLess(k) => four(44, k, 0, 0),
         Refusal::Freelock(k) => four(45, k, 0, 0),
+        Refusal::NoProcedure(k) => four(49, k, 0, 0),
+        Refusal::NoKept(k) => four(50, k, 0, 0),
     }
 }
 

@@ -1,9 +1,13 @@
 pub mod Accesses
 pub mod AfterParts
 pub mod Answers
+pub mod Calling
 pub mod Parts
-pub mod Small
+pub mod Room
 pub mod Passing
 pub mod Readiness
+pub mod Bounding
+pub mod RootPosts
+pub mod RootsFilled
 pub mod Held
 pub mod Sheets

@@ -1,85 +1,136 @@
--- What the calls of the pass are asked for comes from the flow that is known to be shown.
+-- What the calls of the pass and of the bounds are asked for comes from the flow that is known to be shown.
 use mathlib.Core.Path.{_≡_, ap, _∙_}
 use mathlib.Core.List.{List}
-use Prim.Native.Nat.{ℕ, _+_, _*_, _<_, _≤_}
+use Prim.Native.Nat.{ℕ, _+_, _<_, _≤_}
 use native.Mathlib.Omega.{arith}
 use lib.ListN.{length}
-use Rattle.filling.specs.Flow.{steps, pass}
-use Rattle.filling.proofs.Pass.{steps-positive}
+use Rattle.filling.specs.Flow.{steps}
+use Rattle.filling.specs.Pass.{reach, pass}
+use Rattle.filling.proofs.Pass.{steps-positive, pass-own}
 use Rattle.pass.specs.declared.Column.{Column}
 use Rattle.pass.specs.declared.Found.{Found}
 use Rattle.pass.specs.declared.Found.the-variants.{Number}
 use Rattle.pass.specs.declared.Way.the-variants.{Unary, Binary}
 use Rattle.pass.specs.declared.UnaryWay.{UnaryWay}
+use Rattle.pass.specs.declared.UnaryWay.the-variants.{After, Loop, Call}
 use Rattle.pass.specs.declared.BinaryWay.{BinaryWay}
 use Rattle.pass.specs.Ways.{wayIn}
 use Rattle.pass.specs.Shows.{endIn}
-use Rattle.pass.specs.Passed.{secondPre, Ready, Passed}
+use Rattle.pass.specs.Bounds.{top, partCap, lastCap, Room, Bounded, Reached}
+use Rattle.pass.specs.Passed.{partPre, secondPre, Ready, Passed}
 use Rattle.pass.proofs.Answers.{found-number}
-use Rattle.pass.proofs.Parts.{unary-steps, binary-steps, unary-parts, binary-parts}
-use Rattle.pass.proofs.Small.{second-pre-small, way-gives, pass-small}
+use Rattle.pass.proofs.Parts.{unary-steps, binary-steps, unary-parts, binary-parts, firstCapOf, caps-stored, part-caps, first-caps, last-caps}
+use Rattle.pass.proofs.Room.{second-pre-room, way-light, reach-room}
 
-module _ {w : List ℕ} {column : Column} {k pre : ℕ} {q : List ℕ} (R : Ready w column k pre q) where
-  pub step-inside : k < 256
-  step-inside = omega (arith, R .inside, steps-positive (R .flow))
+-- ------------------------------------------------------------------ a number that is bounded
 
-  pub step-stored : k < length q
-  step-stored = omega (arith, R .long, step-inside)
+module _ {w m : List ℕ} {column : Column} {k x : ℕ} (B : Bounded w m column k x) where
+  pub bounded-inside : k < 256
+  bounded-inside = omega (arith, B .inside, steps-positive (B .flow))
 
-  pub pre-small : pre < 9223372036854775808
-  pre-small = omega (arith, R .small, step-inside)
+  pub cap-stored : k < length m
+  cap-stored = caps-stored (B .cap) (B .flow) (B .capped)
 
-  -- what is found is below 2^63
-  pub passed-small : {x : ℕ} {q′ : List ℕ} {r : Found} → Passed w column k pre q q′ r → r ≡ Number x → x < 9223372036854775808
-  passed-small {x} {q′} {r} A n =
-      let (ps, found, own, _) = found-number (pass pre (R .flow)) k q′ r (A .answers (R .flow) (R .shown)) n in
-      omega (arith, pass-small w column (R .fits) k pre (R .flow) (R .shown) found, R .small, R .inside)
+  pub bounded-small : x < 9223372036854775808
+  bounded-small = omega (arith, B .room)
 
-  pub unary-ready : (way : UnaryWay) → wayIn w column k ≡ Unary way → Ready w column (k + 1) pre q
-  unary-ready way seen =
-      let U = unary-parts w column k way (R .flow) (R .shown) seen in
-      let counted : steps (R .flow) ≡ steps (U .part) + 1 = ap steps (U .is) ∙ unary-steps way (U .part) in
+  pub reached-small : {r : ℕ} → Reached w m column k x r → r < 9223372036854775808
+  reached-small A =
+      let room : Room 0 (reach top x (B .cap) (B .flow)) = reach-room w column (B .fits) k x (B .cap) 0 (B .shown) (omega (arith, B .inside)) (omega (arith, B .room)) in
+      omega (arith, room, A .answers (B .flow) (B .cap) (B .shown) (B .capped))
+
+  pub part-bounded : (way : UnaryWay) → wayIn w column k ≡ Unary way → (y : ℕ) → y ≤ x → Bounded w m column (k + 1) y
+  part-bounded way seen y l =
+      let U = unary-parts w column k way (B .flow) (B .shown) seen in
+      let counted : steps (B .flow) ≡ steps (U .part) + 1 = ap steps (U .is) ∙ unary-steps way (U .part) in
       record {
         flow = U .part;
+        cap = partCap way (B .cap);
         shown = U .shown;
-        inside = omega (arith, R .inside);
-        fits = R .fits;
-        small = omega (arith, R .small);
-        long = R .long;
+        capped = part-caps (B .cap) way (U .part) (U .is) (B .capped);
+        inside = omega (arith, B .inside);
+        fits = B .fits;
+        room = omega (arith, B .room);
       }
 
+  pub whole-bounded : (way : UnaryWay) → wayIn w column k ≡ Unary way → Bounded w m column (k + 1) x
+  whole-bounded way seen = part-bounded way seen x (omega arith)
+
   module _ (way : BinaryWay) (seen : wayIn w column k ≡ Binary way) where
-    pub first-ready : Ready w column (k + 1) pre q
-    first-ready =
-        let B = binary-parts w column k way (R .flow) (R .shown) seen in
-        let counted : steps (R .flow) ≡ steps (B .first) + steps (B .second) + 1 = ap steps (B .is) ∙ binary-steps way (B .first) (B .second) in
+    pub first-bounded : Bounded w m column (k + 1) x
+    first-bounded =
+        let P = binary-parts w column k way (B .flow) (B .shown) seen in
+        let counted : steps (B .flow) ≡ steps (P .first) + steps (P .second) + 1 = ap steps (P .is) ∙ binary-steps way (P .first) (P .second) in
         record {
-          flow = B .first;
-          shown = B .shown;
-          inside = omega (arith, R .inside);
-          fits = R .fits;
-          small = omega (arith, R .small);
-          long = R .long;
+          flow = P .first;
+          cap = firstCapOf way (B .cap) (P .second);
+          shown = P .shown;
+          capped = first-caps (B .cap) way (P .first) (P .second) (P .is) (B .capped);
+          inside = omega (arith, B .inside);
+          fits = B .fits;
+          room = omega (arith, B .room);
         }
 
     -- the second part stands behind its step
-    pub second-ready : {q₁ : List ℕ} {r₁ : Found} → Passed w column (k + 1) pre q q₁ r₁ → (first second next : ℕ) → r₁ ≡ Number first
-        → second ≡ endIn w (k + 1) → next ≡ secondPre way pre first → length q₁ ≡ length q → (k < second) × Ready w column second next q₁
-    second-ready {q₁} {r₁} A first second next n at from long =
-        let B = binary-parts w column k way (R .flow) (R .shown) seen in
-        let counted : steps (R .flow) ≡ steps (B .first) + steps (B .second) + 1 = ap steps (B .is) ∙ binary-steps way (B .first) (B .second) in
-        let place : second ≡ k + 1 + steps (B .first) = at ∙ B .ends in
-        let (ps, found, own, _) = found-number (pass pre (B .first)) (k + 1) q₁ r₁ (A .answers (B .first) (B .shown)) n in
-        let small : first ≤ pre + 4294967296 * steps (B .first) = omega (arith, own, pass-small w column (R .fits) (k + 1) pre (B .first) (B .shown) found) in
-        let b = pre + 4294967296 * steps (B .first) in
-        let start = second-pre-small way pre first b (omega arith) small in (
+    pub second-bounded : {first second next : ℕ} → Reached w m column (k + 1) x first → second ≡ endIn w (k + 1) → next ≡ secondPre way x first
+        → (k < second) × Bounded w m column second next
+    second-bounded {first} {second} {next} A at from =
+        let P = binary-parts w column k way (B .flow) (B .shown) seen in
+        let f = P .first in
+        let g = P .second in
+        let counted : steps (B .flow) ≡ steps f + steps g + 1 = ap steps (P .is) ∙ binary-steps way f g in
+        let place : second ≡ k + 1 + steps f = at ∙ P .ends in
+        let reached : first ≡ reach top x (firstCapOf way (B .cap) g) f = A .answers f _ (P .shown) (first-caps (B .cap) way (P .first) (P .second) (P .is) (B .capped)) in
+        let room : Room (steps g) (reach top x (firstCapOf way (B .cap) g) f) =
+        reach-room w column (B .fits) (k + 1) x _ (steps g) (P .shown) (omega (arith, B .inside)) (omega (arith, B .room)) in
+        let start = second-pre-room way (steps g) x first (way-light w column (B .fits) k seen) (omega (arith, B .inside)) (omega (arith, B .room)) (omega arith) in (
           omega arith,
           record {
-            flow = B .second;
-            shown = rw place (B .behind);
-            inside = omega (arith, R .inside);
-            fits = R .fits;
-            small = omega (arith, R .small, start, way-gives w column (R .fits) k seen);
-            long = long ∙ R .long;
+            flow = g;
+            cap = lastCap way (B .cap);
+            shown = rw place (P .behind);
+            capped = rw place (last-caps (B .cap) way (P .first) (P .second) (P .is) (B .capped));
+            inside = omega (arith, B .inside);
+            fits = B .fits;
+            room = omega (arith, start);
           },
         )
+
+-- ------------------------------------------------------------------ the pass
+
+-- a post that is found is all that is in reach
+pub passed-reached : {w m : List ℕ} {column : Column} {k pre x : ℕ} {q q′ : List ℕ} {r : Found} → Passed w m column k pre q q′ r → r ≡ Number x
+    → Reached w m column k pre x
+passed-reached {k = k} {pre = pre} {q′ = q′} {r = r} A n = record {
+  answers = λ f c S C.
+      let (ps, found, own, _) = found-number (pass top pre c f) k q′ r (A .answers f c S C) n in
+      own ∙ pass-own top pre c f found;
+}
+
+part-pre-below : (way : UnaryWay) (pre cap : ℕ) → partPre way pre cap ≤ pre
+unfolding partPre
+part-pre-below (After E) pre cap = omega arith
+part-pre-below Loop pre cap = omega arith
+part-pre-below (Call wanted left) pre cap = omega arith
+
+module _ {w m : List ℕ} {column : Column} {k pre : ℕ} {q : List ℕ} (R : Ready w m column k pre q) where
+  pub step-stored : k < length q
+  step-stored = omega (arith, R .long, bounded-inside (R .bounded))
+
+  pub unary-ready : (way : UnaryWay) → wayIn w column k ≡ Unary way → {before : ℕ} (cap : ℕ) → before ≡ partPre way pre cap → Ready w m column (k + 1) before q
+  unary-ready way seen {before} cap from =
+      record { bounded = part-bounded (R .bounded) way seen before (omega (arith, part-pre-below way pre cap)); long = R .long }
+
+  module _ (way : BinaryWay) (seen : wayIn w column k ≡ Binary way) where
+    pub first-ready : Ready w m column (k + 1) pre q
+    first-ready = record { bounded = first-bounded (R .bounded) way seen; long = R .long }
+
+    pub second-ready : {q₁ : List ℕ} {r₁ : Found} → Passed w m column (k + 1) pre q q₁ r₁ → (first second next : ℕ) → r₁ ≡ Number first
+        → second ≡ endIn w (k + 1) → next ≡ secondPre way pre first → length q₁ ≡ length q → (k < second) × Ready w m column second next q₁
+    second-ready A first second next n at from long =
+        let (behind, B) = second-bounded (R .bounded) way seen (passed-reached A n) at from in
+        (behind, record { bounded = B; long = long ∙ R .long })
+
+  -- what is found is below 2^63
+  pub passed-small : {x : ℕ} {q′ : List ℕ} {r : Found} → Passed w m column k pre q q′ r → r ≡ Number x → x < 9223372036854775808
+  passed-small A n = reached-small (R .bounded) (passed-reached A n)

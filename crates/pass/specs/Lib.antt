@@ -1,4 +1,6 @@
 pub mod Ways
 pub mod Shows
+pub mod Bounds
 pub mod Passed
+pub mod Roots
 pub mod Contract

@@ -2,20 +2,22 @@
 use mathlib.Core.Path.{_≡_}
 use mathlib.Core.List.{List}
 use mathlib.Core.Option.{Option, none, some}
-use Prim.Native.Nat.{ℕ, _+_, _*_, _≤_, _<_, min}
-use lib.Dec.{leb}
+use Prim.Native.Nat.{ℕ, _+_, _≤_, _<_, min}
+use lib.Dec.{leb, eqb}
 use lib.ListN.{length, getD, set}
 use Rattle.workspace.specs.Region.{Region, ChangedWithin}
 use Rattle.filling.specs.Found.{_>>=_, demand}
-use Rattle.filling.specs.Flow.{taking, Flow, steps, turn, ownPost, pass}
+use Rattle.filling.specs.Flow.{taking, Flow, steps}
+use Rattle.filling.specs.Pass.{turn, ownPost, pass, greatestPosts}
 use Rattle.pass.specs.declared.Column.{Column}
 use Rattle.pass.specs.declared.Found.{Found}
 use Rattle.pass.specs.declared.Found.the-variants.{Number, Nothing}
 use Rattle.pass.specs.declared.UnaryWay.{UnaryWay}
-use Rattle.pass.specs.declared.UnaryWay.the-variants.{After, Loop}
+use Rattle.pass.specs.declared.UnaryWay.the-variants.{After, Loop, Call}
 use Rattle.pass.specs.declared.BinaryWay.{BinaryWay}
 use Rattle.pass.specs.declared.BinaryWay.the-variants.{InTurn, Branch, Fork}
 use Rattle.pass.specs.Shows.{Shows}
+use Rattle.pass.specs.Bounds.{top, capsOf, Bounded}
 
 abbrev pub asFound : Option ℕ → Found
 asFound none = Nothing
@@ -23,10 +25,17 @@ asFound (some p) = Number p
 
 -- ------------------------------------------------------------------ a step after its parts
 
--- the number after a step with one part, which ends with `first`
-unfoldable pub afterUnary : UnaryWay → (pre first : ℕ) → Option ℕ
-afterUnary (After E) pre first = turn E first
-afterUnary Loop pre first = demand (leb pre first) >>= λ kept. some pre
+-- the number before the part of a step whose post may be at most `cap`
+unfoldable pub partPre : UnaryWay → (pre cap : ℕ) → ℕ
+partPre (After E) pre cap = pre
+partPre Loop pre cap = min pre cap
+partPre (Call wanted left) pre cap = pre
+
+-- the number after a step with one part, which starts with `before` and ends with `first`
+unfoldable pub afterUnary : UnaryWay → (before first : ℕ) → Option ℕ
+afterUnary (After E) before first = turn E first
+afterUnary Loop before first = demand (leb before first) >>= λ kept. some before
+afterUnary (Call wanted left) before first = demand (eqb first wanted) >>= λ exact. some left
 
 -- the number before the second part
 unfoldable pub secondPre : BinaryWay → (pre first : ℕ) → ℕ
@@ -34,11 +43,11 @@ secondPre (InTurn E) pre first = first
 secondPre Branch pre first = pre
 secondPre (Fork start due) pre first = start
 
--- the number after a step with two parts, which end with `first` and `last`
-unfoldable pub afterBinary : BinaryWay → (first last : ℕ) → Option ℕ
-afterBinary (InTurn E) first last = turn E last
-afterBinary Branch first last = some (min first last)
-afterBinary (Fork start due) first last = demand (leb due last) >>= λ paid. turn (taking start) first
+-- the number after a step with two parts, which end with `first` and `last`, if it may be at most `cap`
+unfoldable pub afterBinary : BinaryWay → (cap first last : ℕ) → Option ℕ
+afterBinary (InTurn E) cap first last = turn E last
+afterBinary Branch cap first last = some (min cap (min first last))
+afterBinary (Fork start due) cap first last = demand (leb due last) >>= λ paid. turn (taking start) first
 
 -- a post is stored for its step
 abbrev pub settled : List ℕ → (k : ℕ) → Found → List ℕ
@@ -47,14 +56,9 @@ settled q k Nothing = q
 
 -- ------------------------------------------------------------------ the pass
 
--- from step k on the work space shows a flow of steps that there are; a step gives less than 2^32, so no number before step k is
--- more than k + 1 times that
-pub record Ready (w : List ℕ) (column : Column) (k pre : ℕ) (q : List ℕ) : Type 0 where
-  pub flow : Flow
-  pub shown : Shows w column k flow
-  pub inside : k + steps flow ≤ 256
-  pub fits : (i : ℕ) → getD w i 0 < 4294967296
-  pub small : pre ≤ 4294967296 * (k + 1)
+-- from step k on the work space shows a flow, m has the most that each post may be, and there is room for the posts
+pub record Ready (w m : List ℕ) (column : Column) (k pre : ℕ) (q : List ℕ) : Type 0 where
+  pub bounded : Bounded w m column k pre
   pub long : length q ≡ 256
 
 -- no posts; or those of the pass, with the step's own as the answer
@@ -63,6 +67,22 @@ Answers none k q r = r ≡ Nothing
 Answers (some ps) k q r = (r ≡ Number (ownPost ps)) × Region q k ps
 
 -- from the posts q to q′: whichever flow the work space shows from step k on, its pass from pre
-pub record Passed (w : List ℕ) (column : Column) (k pre : ℕ) (q q′ : List ℕ) (r : Found) : Type 0 where
-  pub answers : (f : Flow) → Shows w column k f → Answers (pass pre f) k q′ r
+pub record Passed (w m : List ℕ) (column : Column) (k pre : ℕ) (q q′ : List ℕ) (r : Found) : Type 0 where
+  pub answers : (f : Flow) (c : ℕ) → Shows w column k f → Region m k (capsOf c f) → Answers (pass top pre c f) k q′ r
+  pub changed : (f : Flow) → Shows w column k f → ChangedWithin k (k + steps f) q q′
+
+-- ------------------------------------------------------------------ a root
+
+-- from step k on the work space shows a flow of steps that there are, and there is room for its posts
+pub record RootReady (w : List ℕ) (column : Column) (k pre : ℕ) (q : List ℕ) : Type 0 where
+  pub flow : Flow
+  pub shown : Shows w column k flow
+  pub inside : k + steps flow ≤ 256
+  pub fits : (i : ℕ) → getD w i 0 < 4294967296
+  pub small : pre < 4294967296
+  pub long : length q ≡ 256
+
+-- from the posts q to q′: whichever flow the work space shows from step k on, its greatest posts
+pub record RootPassed (w : List ℕ) (column : Column) (k pre : ℕ) (q q′ : List ℕ) (r : Found) : Type 0 where
+  pub answers : (f : Flow) → Shows w column k f → Answers (greatestPosts pre f) k q′ r
   pub changed : (f : Flow) → Shows w column k f → ChangedWithin k (k + steps f) q q′

@@ -5,11 +5,11 @@ use Prim.Native.Nat.{ℕ, _+_}
 use lib.ListN.{getD}
 use Rattle.workspace.specs.Layout.{endsAt}
 use Rattle.filling.specs.declared.Effect.{Effect}
-use Rattle.filling.specs.Flow.{Flow, alone, after, inTurn, branch, loop, fork, steps}
+use Rattle.filling.specs.Flow.{Flow, alone, after, inTurn, branch, loop, fork, call, steps}
 use Rattle.pass.specs.declared.Column.{Column}
 use Rattle.pass.specs.declared.Way.the-variants.{Leaf, Unary, Binary}
 use Rattle.pass.specs.declared.UnaryWay.{UnaryWay}
-use Rattle.pass.specs.declared.UnaryWay.the-variants.{After, Loop}
+use Rattle.pass.specs.declared.UnaryWay.the-variants.{After, Loop, Call}
 use Rattle.pass.specs.declared.BinaryWay.{BinaryWay}
 use Rattle.pass.specs.declared.BinaryWay.the-variants.{InTurn, Branch, Fork}
 use Rattle.pass.specs.Ways.{wayIn}
@@ -18,6 +18,7 @@ use Rattle.pass.specs.Ways.{wayIn}
 unfoldable pub unaryFlow : UnaryWay → Flow → Flow
 unaryFlow (After E) f = after E f
 unaryFlow Loop f = loop f
+unaryFlow (Call wanted left) f = call wanted left f
 
 unfoldable pub binaryFlow : BinaryWay → Flow → Flow → Flow
 binaryFlow (InTurn E) f g = inTurn E f g

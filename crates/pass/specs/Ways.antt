@@ -5,16 +5,17 @@ use lib.ListN.{getD}
 use Rattle.spec.specs.Conditions.{load, inLoad, outLoad, readLoad, writeLoad, refLocation}
 use Rattle.spec.specs.declared.MapNumber.{MapNumber}
 use Rattle.spec.specs.declared.TypeLine.{TypeLine}
-use Rattle.workspace.specs.Layout.{wordsAt, valuesAt, rowTypesAt, startsAt, ruleOf, typeAt, mapCell}
+use Rattle.workspace.specs.Layout.{wordsAt, valuesAt, rowTypesAt, startsAt, sigBeforesAt, sigAftersAt, ruleOf, typeAt, mapCell}
 use Rattle.workspace.specs.declared.Rule.{Rule}
-use Rattle.workspace.specs.declared.Rule.the-variants.{VAR, INT, LET, IF, WHILE, NEWT, SPAWN, JOIN, REF, WRITE, READ, NEWL, LCK, ULCK, NEWSEM, POST, WAIT, NEWRWLOCK, RDLOCK, RDUNLOCK, WRLOCK, WRUNLOCK}
+use Rattle.workspace.specs.declared.Rule.the-variants.{VAR, INT, LET, IF, WHILE, NEWT, SPAWN, JOIN, REF, WRITE, READ, NEWL, LCK, ULCK, NEWSEM, POST, WAIT, NEWRWLOCK, RDLOCK, RDUNLOCK, WRLOCK, WRUNLOCK, CALL}
 use Rattle.filling.specs.Flow.{unchanged, taking, giving, needing, lending}
 use Rattle.filling.specs.FlowOf.{asks}
 use Rattle.filling.specs.declared.Effect.{Effect}
 use Rattle.pass.specs.declared.Column.{Column}
 use Rattle.pass.specs.declared.Way.{Way}
 use Rattle.pass.specs.declared.Way.the-variants.{Leaf, Unary, Binary}
-use Rattle.pass.specs.declared.UnaryWay.the-variants.{After, Loop}
+use Rattle.pass.specs.declared.UnaryWay.{UnaryWay}
+use Rattle.pass.specs.declared.UnaryWay.the-variants.{After, Loop, Call}
 use Rattle.pass.specs.declared.BinaryWay.the-variants.{InTurn, Branch, Fork}
 
 -- ------------------------------------------------------------------ constants
@@ -45,6 +46,18 @@ writeLoadIn w column k = cellIn w column (writeLoad (typeIn w k))
 
 unfoldable pub startIn : List ℕ → Column → (k : ℕ) → ℕ
 startIn w column k = cellIn w column (record { 0 = getD w (startsAt + k) 0 })
+
+-- what procedure f starts with and what it leaves
+unfoldable pub beforeIn : List ℕ → Column → (f : ℕ) → ℕ
+beforeIn w column f = cellIn w column (record { 0 = getD w (sigBeforesAt + f) 0 })
+
+unfoldable pub afterIn : List ℕ → Column → (f : ℕ) → ℕ
+afterIn w column f = cellIn w column (record { 0 = getD w (sigAftersAt + f) 0 })
+
+-- what a call wants and leaves: the numbers of its procedure, each with what is kept back
+unfoldable pub callingIn : List ℕ → Column → (k : ℕ) → UnaryWay
+callingIn w column k = let f = getD w (valuesAt + k) 0 in let kept = startIn w column k in
+    Call (beforeIn w column f + kept) (afterIn w column f + kept)
 
 unfoldable pub accessIn : List ℕ → Column → (k d : ℕ) → ℕ
 accessIn w column k d = asks (column .location) (refLocation (typeIn w k)) d
@@ -79,6 +92,7 @@ wayBy RDLOCK w column k = Unary (After (giving (readLoadIn w column (k + 1))))
 wayBy RDUNLOCK w column k = Unary (After (taking (readLoadIn w column (k + 1))))
 wayBy WRLOCK w column k = Unary (After (giving (writeLoadIn w column (k + 1))))
 wayBy WRUNLOCK w column k = Unary (After (taking (writeLoadIn w column (k + 1))))
+wayBy CALL w column k = Unary (callingIn w column k)
 
 -- the way of step k
 unfoldable pub wayIn : List ℕ → Column → (k : ℕ) → Way

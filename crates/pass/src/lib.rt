@@ -1,14 +1,17 @@
 // The pass of filling at one location, request (viii): the greatest posts of all steps there, from what the work space holds of a
 // program and a split.
+mod bounds;
+mod caps;
+mod reach;
+mod roots;
 mod steps;
 mod turns;
 mod ways;
 
 use filling::Effect;
+use roots::fill_roots;
 use spec::Location;
 use spec::MapNumber;
-use steps::pass_step;
-use ways::cell_in;
 ghost use Rattle.pass.specs.Contract.{Fillable, FilledHere};
 
 // The location that is filled, and the sheet's denominator.
@@ -30,10 +33,11 @@ enum Way {
     Binary(BinaryWay),
 }
 
-// With one part: after it; or around it, again and again.
+// With one part: after it; around it, again and again; or with exact numbers before and after the procedure that the step calls.
 enum UnaryWay {
     After(Effect),
     Loop,
+    Call(u64, u64),
 }
 
 // With two parts: after both, the second after the first; through one or the other; or to both at once. A fork has the start of its
@@ -44,15 +48,16 @@ enum BinaryWay {
     Fork(u32, u32),
 }
 
-// Whether there are posts that pass at the location; if so, the greatest stand in front of `posts`, in step order. `start` is the
-// map before the root.
-pub fn fill_location(work: &[u32], posts: &mut [u64], column: Column, start: MapNumber) -> bool
-    requires { ⌜ Fillable (now work) column start (now posts) ⌝ }
-    ensures { λ r. ⌜ FilledHere (now (work .entry)) column start (now (posts .exit)) r ⌝ }
+// The number of procedures of the sheets, and the map before the root.
+pub struct Given {
+    pub procedures: u32,
+    pub start: MapNumber,
+}
+
+// Whether there are posts that pass at the location; if so, the greatest stand in front of `posts`, in step order.
+pub fn fill_location(work: &[u32], posts: &mut [u64], column: Column, given: Given) -> bool
+    requires { ⌜ Fillable (now work) column given (now posts) ⌝ }
+    ensures { λ r. ⌜ FilledHere (now (work .entry)) column given (now (posts .exit)) r ⌝ }
 {
-    let pre = cell_in(work, column, start) as u64;
-    let Found::Number(_) = pass_step(work, posts, column, 0, pre) else {
-        return false;
-    };
-    true
+    fill_roots(work, posts, column, given, 0)
 }

@@ -2,8 +2,10 @@
 use super::Column;
 use super::Found;
 use super::Way;
+use super::bounds::cap_at;
 use super::turns::after_binary;
 use super::turns::after_unary;
+use super::turns::part_pre;
 use super::turns::second_pre;
 use super::turns::turn;
 use super::ways::way_in;
@@ -17,7 +19,7 @@ ghost use Rattle.pass.specs.Shows.{endIn};
 ghost use Rattle.pass.specs.Passed.{settled, Ready, Passed};
 
 // The index of the second part of step k: the end of the first.
-fn second_in(work: &[u32], k: usize) -> usize
+pub(crate) fn second_in(work: &[u32], k: usize) -> usize
     requires { ⌜ k < 256 ⌝ }
     ensures { λ r. ⌜ r ≡ endIn (now (work .entry)) (k + 1) ⌝ }
 {
@@ -38,35 +40,38 @@ fn settle(posts: &mut [u64], k: usize, post: Found) -> Found
     }
 }
 
-// The posts of step k and of all steps in it, from the number before it; its own is the answer. Nothing, if no posts pass.
+// The posts of step k and of all steps in it, from the number before it, where `caps` has the most that each may be; its own is the
+// answer. Nothing, if no posts pass.
 pub(crate) fn pass_step(
     work: &[u32],
+    caps: &[u64],
     posts: &mut [u64],
     column: Column,
     k: usize,
     pre: u64,
 ) -> Found
-    requires { ⌜ Ready (now work) column k pre (now posts) ⌝ }
-    ensures { λ r. ⌜ Passed (now (work .entry)) column k pre (now (posts .entry)) (now (posts .exit)) r ⌝ }
+    requires { ⌜ Ready (now work) (now caps) column k pre (now posts) ⌝ }
+    ensures { λ r. ⌜ Passed (now (work .entry)) (now (caps .entry)) column k pre (now (posts .entry)) (now (posts .exit)) r ⌝ }
 {
     match way_in(work, column, k) {
         Way::Leaf(effect) => settle(posts, k, turn(effect, pre)),
         Way::Unary(way) => {
-            let Found::Number(first) = pass_step(work, posts, column, k + 1, pre) else {
+            let before = part_pre(way, pre, cap_at(caps, k));
+            let Found::Number(first) = pass_step(work, caps, posts, column, k + 1, before) else {
                 return Found::Nothing;
             };
-            settle(posts, k, after_unary(way, pre, first))
+            settle(posts, k, after_unary(way, before, first))
         }
         Way::Binary(way) => {
-            let Found::Number(first) = pass_step(work, posts, column, k + 1, pre) else {
+            let Found::Number(first) = pass_step(work, caps, posts, column, k + 1, pre) else {
                 return Found::Nothing;
             };
             let second = second_in(work, k);
             let next = second_pre(way, pre, first);
-            let Found::Number(last) = pass_step(work, posts, column, second, next) else {
+            let Found::Number(last) = pass_step(work, caps, posts, column, second, next) else {
                 return Found::Nothing;
             };
-            settle(posts, k, after_binary(way, first, last))
+            settle(posts, k, after_binary(way, cap_at(caps, k), first, last))
         }
     }
 }

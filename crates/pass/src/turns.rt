@@ -2,12 +2,13 @@
 use super::BinaryWay;
 use super::Found;
 use super::UnaryWay;
+use super::bounds::least;
 use super::ways::taking;
 use filling::Effect;
 ghost use mathlib.Core.Path.{_≡_};
-ghost use Prim.Native.Nat.{_<_, min};
-ghost use Rattle.filling.specs.Flow.{turn};
-ghost use Rattle.pass.specs.Passed.{asFound, afterUnary, afterBinary, secondPre};
+ghost use Prim.Native.Nat.{_<_};
+ghost use Rattle.filling.specs.Pass.{turn};
+ghost use Rattle.pass.specs.Passed.{asFound, partPre, afterUnary, afterBinary, secondPre};
 
 // The number after a step, from the number that its parts leave.
 pub(crate) fn turn(effect: Effect, before: u64) -> Found
@@ -26,22 +27,34 @@ pub(crate) fn turn(effect: Effect, before: u64) -> Found
     Found::Nothing
 }
 
-fn least(a: u64, b: u64) -> u64
-    ensures { λ r. ⌜ r ≡ min a b ⌝ }
+// The number before the part of a step whose post may be at most `cap`: a loop starts its part with what it ends with.
+pub(crate) fn part_pre(way: UnaryWay, pre: u64, cap: u64) -> u64
+    ensures { λ r. ⌜ r ≡ partPre way pre cap ⌝ }
 {
-    if a <= b { a } else { b }
+    match way {
+        UnaryWay::After(_) => pre,
+        UnaryWay::Loop => least(pre, cap),
+        UnaryWay::Call(_, _) => pre,
+    }
 }
 
-// The number after a step whose one part ends with `first`. A loop keeps what it had, if its part leaves that much.
-pub(crate) fn after_unary(way: UnaryWay, pre: u64, first: u64) -> Found
+// The number after a step whose one part starts with `before` and ends with `first`. A loop keeps what its part started with, if the
+// part leaves that much. A call wants an exact number.
+pub(crate) fn after_unary(way: UnaryWay, before: u64, first: u64) -> Found
     requires { ⌜ first < 9223372036854775808 ⌝ }
-    ensures { λ r. ⌜ r ≡ asFound (afterUnary way pre first) ⌝ }
+    ensures { λ r. ⌜ r ≡ asFound (afterUnary way before first) ⌝ }
 {
     match way {
         UnaryWay::After(effect) => turn(effect, first),
         UnaryWay::Loop => {
-            if pre <= first {
-                return Found::Number(pre);
+            if before <= first {
+                return Found::Number(before);
+            }
+            Found::Nothing
+        }
+        UnaryWay::Call(wanted, left) => {
+            if first == wanted {
+                return Found::Number(left);
             }
             Found::Nothing
         }
@@ -59,15 +72,15 @@ pub(crate) fn second_pre(way: BinaryWay, pre: u64, first: u64) -> u64
     }
 }
 
-// The number after a step whose parts end with `first` and `last`. A fork takes the start of its second part from the first, if the
+// The number after a step whose parts end with `first` and `last`, if it may be at most `cap`. A fork takes the start of its second part from the first, if the
 // second leaves what is due.
-pub(crate) fn after_binary(way: BinaryWay, first: u64, last: u64) -> Found
+pub(crate) fn after_binary(way: BinaryWay, cap: u64, first: u64, last: u64) -> Found
     requires { ⌜ (first < 9223372036854775808) × (last < 9223372036854775808) ⌝ }
-    ensures { λ r. ⌜ r ≡ asFound (afterBinary way first last) ⌝ }
+    ensures { λ r. ⌜ r ≡ asFound (afterBinary way cap first last) ⌝ }
 {
     match way {
         BinaryWay::InTurn(effect) => turn(effect, last),
-        BinaryWay::Branch => Found::Number(least(first, last)),
+        BinaryWay::Branch => Found::Number(least(cap, least(first, last))),
         BinaryWay::Fork(start, due) => {
             if due as u64 <= last {
                 return turn(taking(start), first);

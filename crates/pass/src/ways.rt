@@ -10,6 +10,8 @@ use spec::TypeLine;
 use spec::TypeNumber;
 use workspace::ROW_TYPES;
 use workspace::Rule;
+use workspace::SIG_AFTERS;
+use workspace::SIG_BEFORES;
 use workspace::STARTS;
 use workspace::VALUES;
 use workspace::WORDS;
@@ -23,7 +25,7 @@ ghost use mathlib.Core.Path.{_≡_};
 ghost use Prim.Native.Nat.{_<_};
 ghost use Rattle.spec.specs.Conditions.{load, inLoad, outLoad, readLoad, writeLoad, refLocation};
 ghost use Rattle.filling.specs.Flow.{unchanged, taking, giving, needing, lending};
-ghost use Rattle.pass.specs.Ways.{cellIn, typeIn, loadIn, inLoadIn, outLoadIn, readLoadIn, writeLoadIn, lendingIn, startIn, accessIn, wayBy, wayIn};
+ghost use Rattle.pass.specs.Ways.{cellIn, typeIn, loadIn, inLoadIn, outLoadIn, readLoadIn, writeLoadIn, lendingIn, startIn, beforeIn, afterIn, callingIn, accessIn, wayBy, wayIn};
 
 // A step that keeps the number, takes from it, gives to it, needs it to be large enough, or takes from it what it lends.
 fn unchanged() -> Effect
@@ -238,6 +240,33 @@ fn start_in(work: &[u32], column: Column, k: usize) -> u32
     cell_in(work, column, MapNumber(at(work, STARTS + k)))
 }
 
+// What procedure f starts with and what it leaves, at the location.
+pub(crate) fn before_in(work: &[u32], column: Column, f: usize) -> u32
+    requires { ⌜ f < 4294967296 ⌝ }
+    ensures { λ r. ⌜ r ≡ beforeIn (now (work .entry)) column f ⌝ }
+{
+    cell_in(work, column, MapNumber(at(work, SIG_BEFORES + f)))
+}
+
+pub(crate) fn after_in(work: &[u32], column: Column, f: usize) -> u32
+    requires { ⌜ f < 4294967296 ⌝ }
+    ensures { λ r. ⌜ r ≡ afterIn (now (work .entry)) column f ⌝ }
+{
+    cell_in(work, column, MapNumber(at(work, SIG_AFTERS + f)))
+}
+
+// What the call of step k wants and what it leaves: the numbers of its procedure, each with what is kept back.
+fn calling_in(work: &[u32], column: Column, k: usize) -> UnaryWay
+    requires { ⌜ k < 256 ⌝ }
+    ensures { λ r. ⌜ r ≡ callingIn (now (work .entry)) column k ⌝ }
+{
+    let f = index(at(work, VALUES + k));
+    let kept = wide(start_in(work, column, k));
+    let wanted = wide(before_in(work, column, f)) + kept;
+    let left = wide(after_in(work, column, f)) + kept;
+    UnaryWay::Call(wanted, left)
+}
+
 // What access through the ref type of step k needs at the location: d if it is the ref's own, else nothing.
 fn access_in(work: &[u32], column: Column, k: usize, d: u32) -> u32
     requires { ⌜ k < 512 ⌝ }
@@ -282,6 +311,7 @@ fn way_by(r: Rule, work: &[u32], column: Column, k: usize) -> Way
         Rule::RDUNLOCK => Way::Unary(UnaryWay::After(taking(read_load_in(work, column, part)))),
         Rule::WRLOCK => Way::Unary(UnaryWay::After(giving(write_load_in(work, column, part)))),
         Rule::WRUNLOCK => Way::Unary(UnaryWay::After(taking(write_load_in(work, column, part)))),
+        Rule::CALL => Way::Unary(calling_in(work, column, k)),
     }
 }
 

@@ -18,10 +18,22 @@ pub program-refused-by : {x : Refusal} (w : List ℕ) (r : ProgramRead) (o : Out
 program-refused-by {x = x} w r (stop y) h e = let same : y ≡ x = cc in ap stop same
 program-refused-by w r (on P) h e = let clash : _≡_ {A = ℕ} 0 1 = cc in absurd (omega arith)
 
-pub program-read-by : {n : ℕ} (w : List ℕ) (r : ProgramRead) (o : Out Program) → Answered w r o → r ≡ program-read.Read n
-    → (P : Program) × (o ≡ on P) × (n ≡ length (P .steps)) × HoldsProgram w P × (length (P .steps) ≤ 256)
+-- the program of a sheet that was read, with so many steps and so many procedures
+pub record ProgramFound (w : List ℕ) (n k : ℕ) (o : Out Program) : Type 0 where
+  pub P : Program
+  pub reads : o ≡ on P
+  pub stepsCounted : n ≡ length (P .steps)
+  pub proceduresCounted : k ≡ length (P .procedures)
+  pub holds : HoldsProgram w P
+  pub few : length (P .steps) ≤ 256
+  pub fewProcedures : length (P .procedures) ≤ 16
+
+pub program-read-by : {n k : ℕ} (w : List ℕ) (r : ProgramRead) (o : Out Program) → Answered w r o → r ≡ program-read.Read n k → ProgramFound w n k o
 program-read-by w r (stop y) h e = let clash : _≡_ {A = ℕ} 0 1 = cc in absurd (omega arith)
-program-read-by {n = n} w r (on P) h e = let counted : n ≡ length (P .steps) = cc in (P, refl, counted, h .1, h .2)
+program-read-by {n = n} {k = k} w r (on P) h e =
+    let steps : n ≡ length (P .steps) = cc in
+    let procedures : k ≡ length (P .procedures) = cc in
+    record { P = P; reads = refl; stepsCounted = steps; proceduresCounted = procedures; holds = h .1; few = h .2; fewProcedures = h .3 }
 
 pub good-program : {P : Program} (p : List ℕ) → length p ≤ 16384 → program p ≡ on P → WellFormedProgram p P
 unfolding programLimit

@@ -1,9 +1,5 @@
-pub mod Listed
-pub mod Limits
-pub mod StructureLaws
-pub mod ScopeLaws
-pub mod Tables
-pub mod Walk
+pub mod TailLaws
+pub mod CountLaws
 pub mod LineLaws
 pub mod StepLoop
 pub mod Sheets

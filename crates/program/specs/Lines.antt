@@ -4,29 +4,31 @@ use mathlib.Core.Bool.{true, false}
 use mathlib.Core.List.{List, [], _∷_}
 use mathlib.Core.Option.{none, some}
 use Prim.Native.Nat.{ℕ, _+_, _≤_}
-use lib.ListN.{length}
 use Rattle.spec.specs.Text.{bytes, same, lines, lookUp}
 use Rattle.spec.specs.Reading.{programSheet, Out, stop, on, _>>=_, Place, begin, readLine, readLines}
-use Rattle.spec.specs.Expression.{Step}
-use Rattle.spec.specs.Words.{words, largestValue}
-use Rattle.spec.specs.Program.{countLine, stepLine, stepLines}
+use Rattle.spec.specs.Expression.{Item, step, proc}
+use Rattle.spec.specs.Words.{wordsUnder, largestValue}
+use Rattle.spec.specs.Program.{Counts, programHeadings, countLine, itemLine, itemLines}
+use Rattle.spec.specs.declared.ProgramHeading.{ProgramHeading}
 use Rattle.spec.specs.declared.Word.{Word}
 use Rattle.lexer.specs.Views.{firstField, textEnded}
-use Rattle.lexer.specs.Cursors.{Placed, rest, placeAt, spanAt}
+use Rattle.lexer.specs.Cursors.{Placed, start, rest, placeAt, spanAt}
 use Rattle.lexer.specs.Numbers.{numbersAt}
 use Rattle.lexer.specs.declared.Cursor.{Cursor}
 use Rattle.lexer.specs.declared.Span.{Span}
 use Rattle.lexer.specs.declared.FieldEnd.{FieldEnd}
 use Rattle.lexer.specs.declared.FieldEnd.the-variants.{Comma}
 use Rattle.workspace.specs.Layout.{wordsAt, rowTypesAt}
-use Rattle.workspace.specs.Holds.{HoldsSteps}
 use Rattle.workspace.specs.Region.{ChangedWithin}
-use Rattle.program.specs.declared.lines.Tail.{Tail}
-use Rattle.program.specs.declared.lines.Tail.the-variants.{Value, Malformed}
-use Rattle.program.specs.declared.lines.CountLine.{CountLine}
-use Rattle.program.specs.declared.lines.CountLine.the-variants as count
+use Rattle.structure.specs.Items.{ItemsStored}
+use Rattle.program.specs.declared.tails.Tail.{Tail}
+use Rattle.program.specs.declared.tails.Tail.the-variants.{Value, Malformed}
+use Rattle.program.specs.declared.tails.Pair.{Pair}
+use Rattle.program.specs.declared.tails.Pair.the-variants as pair
+use Rattle.program.specs.declared.counts.CountLine.{CountLine}
+use Rattle.program.specs.declared.counts.CountLine.the-variants as count
 use Rattle.program.specs.declared.lines.StepLine.{StepLine}
-use Rattle.program.specs.declared.lines.StepLine.the-variants as step
+use Rattle.program.specs.declared.lines.StepLine.the-variants as step-line
 use Rattle.program.specs.declared.lines.StepLines.{StepLines}
 use Rattle.program.specs.declared.lines.StepLines.the-variants as steps
 
@@ -38,19 +40,11 @@ TailShown text c e (Value v d) =
     (e ≡ Comma) × (numbersAt text c 1 ≡ some (v ∷ [], rest text d)) × Placed text d × (d .line ≡ c .line + 1)
 TailShown text c e Malformed = e ≡ Comma → numbersAt text c 1 ≡ none
 
--- ------------------------------------------------------------------ line 1
-
-unfoldable pub countAt : List ℕ → Out (ℕ × Place)
-countAt text = begin programSheet (lines text) >>= λ top. readLine programSheet countLine top
-
-abbrev pub CountShown : List ℕ → CountLine → Type 0
-CountShown text (count.Count n d) = (countAt text ≡ on (n, placeAt text d)) × (n ≤ 256) × Placed text d
-CountShown text (count.Refused x) = countAt text ≡ stop x
-
--- ------------------------------------------------------------------ step lines
-
-unfoldable pub stepAt : List ℕ → Cursor → Out (Step × Place)
-stepAt text c = readLine programSheet (stepLine (c .line + 1)) (placeAt text c)
+-- two numbers
+abbrev pub PairShown : List ℕ → Cursor → FieldEnd → Pair → Type 0
+PairShown text c e (pair.Values a b d) =
+    (e ≡ Comma) × (numbersAt text c 2 ≡ some (a ∷ b ∷ [], rest text d)) × Placed text d × (d .line ≡ c .line + 1)
+PairShown text c e pair.Malformed = e ≡ Comma → numbersAt text c 2 ≡ none
 
 -- a line is left at the cursor, and s is its first field
 pub record FieldAt (text : List ℕ) (c : Cursor) (s : Span) : Type 0 where
@@ -58,50 +52,76 @@ pub record FieldAt (text : List ℕ) (c : Cursor) (s : Span) : Type 0 where
   pub left : textEnded (rest text c) ≡ false
   pub field : s ≡ spanAt text c
 
+-- ------------------------------------------------------------------ line 1
+
+unfoldable pub countAt : List ℕ → Out (Counts × Place)
+countAt text = begin programSheet (lines text) >>= λ top. readLine programSheet countLine top
+
+-- the first field of line 1 spells the heading h
+pub record HeadedAt (text : List ℕ) (c : Cursor) (s : Span) (h : ProgramHeading) : Type 0 where
+  pub top : c ≡ start
+  pub here : FieldAt text c s
+  pub spelled : lookUp programHeadings (firstField (rest text c)) ≡ some h
+
+abbrev pub CountShown : List ℕ → CountLine → Type 0
+CountShown text (count.Count h n k d) =
+    (countAt text ≡ on (record { heading = h; steps = n; procedures = k }, placeAt text d)) × (n ≤ 256) × (k ≤ 16) × Placed text d
+CountShown text (count.Refused x) = countAt text ≡ stop x
+
+-- ------------------------------------------------------------------ the lines behind it
+
+unfoldable pub itemAt : List ℕ → ProgramHeading → Cursor → Out (Item × Place)
+itemAt text h c = readLine programSheet (itemLine h (c .line + 1)) (placeAt text c)
+
 -- the field is the word `freelock`
 pub record FreelockAt (text : List ℕ) (c : Cursor) (s : Span) : Type 0 where
   pub here : FieldAt text c s
   pub freelock : same (firstField (rest text c)) (bytes "freelock") ≡ true
 
--- the field spells the word w of a step
-pub record WordAt (text : List ℕ) (c : Cursor) (s : Span) (w : Word) : Type 0 where
+-- the field is the word `proc`
+pub record ProcAt (text : List ℕ) (c : Cursor) (s : Span) : Type 0 where
   pub here : FieldAt text c s
   pub other : same (firstField (rest text c)) (bytes "freelock") ≡ false
-  pub spelled : lookUp words (firstField (rest text c)) ≡ some w
+  pub proc : same (firstField (rest text c)) (bytes "proc") ≡ true
 
-abbrev pub StepShown : List ℕ → Cursor → StepLine → Type 0
-StepShown text c (step.Step w v d) =
-    (stepAt text c ≡ on (record { word = w; value = v; line = d .line }, placeAt text d))
+-- the field is neither of them
+pub record StepAt (text : List ℕ) (c : Cursor) (s : Span) : Type 0 where
+  pub here : FieldAt text c s
+  pub other : same (firstField (rest text c)) (bytes "freelock") ≡ false
+  pub plain : same (firstField (rest text c)) (bytes "proc") ≡ false
+
+-- it spells the word w of a step under the heading h
+pub record WordAt (text : List ℕ) (h : ProgramHeading) (c : Cursor) (s : Span) (w : Word) : Type 0 where
+  pub step : StepAt text c s
+  pub spelled : lookUp (wordsUnder h) (firstField (rest text c)) ≡ some w
+
+abbrev pub StepShown : List ℕ → ProgramHeading → Cursor → StepLine → Type 0
+StepShown text h c (step-line.Step w v d) =
+    (itemAt text h c ≡ on (step (record { word = w; value = v; line = d .line }), placeAt text d))
     × (v ≤ largestValue w)
     × Placed text d
     × (d .line ≡ c .line + 1)
-StepShown text c (step.Refused x) = stepAt text c ≡ stop x
+StepShown text h c (step-line.Proc x d) =
+    (itemAt text h c ≡ on (proc x (d .line), placeAt text d))
+    × (x ≤ 255)
+    × Placed text d
+    × (d .line ≡ c .line + 1)
+StepShown text h c (step-line.Refused x) = itemAt text h c ≡ stop x
 
--- no number is larger than its word allows
-pub data Limited : List Step → Type 0 where
-  noneLimited : Limited []
-  moreLimited : {s : Step} {ss : List Step} → s .value ≤ largestValue (s .word) → Limited ss → Limited (s ∷ ss)
+unfoldable pub itemsAt : List ℕ → ProgramHeading → (n : ℕ) → Cursor → Out (List Item × Place)
+itemsAt text h n c = readLines programSheet (itemLines h (c .line + 1) n) (placeAt text c)
 
-unfoldable pub stepsAt : List ℕ → (n : ℕ) → Cursor → Out (List Step × Place)
-stepsAt text n c = readLines programSheet (stepLines (c .line + 1) n) (placeAt text c)
-
--- the work space holds n steps, and no number is larger than its word allows
-pub record StepsStored (n : ℕ) (w : List ℕ) : Type 0 where
-  pub steps : List Step
-  pub counted : length steps ≡ n
-  pub held : HoldsSteps w steps
-  pub limited : Limited steps
-
--- n steps are read and stored
-pub record StepsHeld (text : List ℕ) (n : ℕ) (c : Cursor) (w : List ℕ) (d : Cursor) : Type 0 where
-  pub stored : StepsStored n w
-  pub shown : stepsAt text n c ≡ on (stored .steps, placeAt text d)
+-- n lines are read and stored
+pub record StepsHeld (text : List ℕ) (h : ProgramHeading) (n : ℕ) (c : Cursor) (w : List ℕ) (steps procs : ℕ) (d : Cursor) : Type 0 where
+  pub stored : ItemsStored steps procs w
+  pub all : steps + procs ≡ n
+  pub shown : itemsAt text h n c ≡ on (stored .items, placeAt text d)
   pub placed : Placed text d
 
-abbrev pub StepsFound : List ℕ → (n : ℕ) → Cursor → (w : List ℕ) → StepLines → Type 0
-StepsFound text n c w (steps.Read d) = StepsHeld text n c w d
-StepsFound text n c w (steps.Refused x) = stepsAt text n c ≡ stop x
+abbrev pub StepsFound : List ℕ → ProgramHeading → (n : ℕ) → Cursor → (w : List ℕ) → StepLines → Type 0
+StepsFound text h n c w (steps.Read i j d) = StepsHeld text h n c w i j d
+StepsFound text h n c w (steps.Refused x) = itemsAt text h n c ≡ stop x
 
-pub record StepsShown (text : List ℕ) (n : ℕ) (c : Cursor) (w w′ : List ℕ) (r : StepLines) : Type 0 where
-  pub found : StepsFound text n c w′ r
+pub record StepsShown (text : List ℕ) (h : ProgramHeading) (n : ℕ) (c : Cursor) (w w′ : List ℕ) (r : StepLines) : Type 0 where
+  pub found : StepsFound text h n c w′ r
   pub changed : ChangedWithin wordsAt rowTypesAt w w′

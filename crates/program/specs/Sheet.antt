@@ -4,48 +4,41 @@ use mathlib.Core.List.{List, []}
 use Prim.Native.Nat.{ℕ, _+_, _≤_}
 use lib.ListN.{length}
 use Rattle.spec.specs.Reading.{programSheet, Out, stop, on, _>>=_, Place, readLines, end}
-use Rattle.spec.specs.Expression.{Step, Expr, listed, single, scope}
-use Rattle.spec.specs.Program.{Program, stepLines, program}
-use Rattle.lexer.specs.Cursors.{placeAt}
+use Rattle.spec.specs.Expression.{stepsAmong, structure, scopes}
+use Rattle.spec.specs.Program.{Counts, Program, itemLines, program}
+use Rattle.spec.specs.declared.ProgramHeading.{ProgramHeading}
+use Rattle.lexer.specs.Cursors.{Placed, placeAt}
 use Rattle.lexer.specs.declared.Cursor.{Cursor}
-use Rattle.workspace.specs.Layout.{endsAt, letsAt}
-use Rattle.workspace.specs.Holds.{ends, lets, HoldsProgram}
-use Rattle.workspace.specs.Region.{Region, ChangedWithin}
-use Rattle.workspace.specs.Steps.{stepsFrom}
-use Rattle.program.specs.Outcomes.{Answers}
-use Rattle.program.specs.declared.Outcome.{Outcome}
+use Rattle.workspace.specs.Layout.{workSize}
+use Rattle.workspace.specs.Holds.{HoldsProgram}
 use Rattle.program.specs.declared.ProgramRead.{ProgramRead}
 use Rattle.program.specs.declared.ProgramRead.the-variants.{Read, Refused}
 
--- ------------------------------------------------------------------ the expression
-
--- the expression that steps list, with its variables in scope; `last` is the last line read
-unfoldable pub expressionOf : (last : ℕ) → List Step → Out Expr
-expressionOf last steps = single last steps (listed 0 steps) >>= λ e. scope e [] [] >>= λ bound. on e
-
-pub record ExpressionRead (n last : ℕ) (w w′ : List ℕ) (r : Outcome) : Type 0 where
-  pub found : Answers (λ e. Region w′ endsAt (ends 0 e) × Region w′ letsAt (lets 0 [] e)) r (expressionOf last (stepsFrom w 0 n))
-  pub changed : ChangedWithin endsAt (letsAt + 256) w w′
-
--- ------------------------------------------------------------------ the program
-
--- the refusal of a sheet; else the number of the steps, and the work space holds the program. That the steps are at most
--- 256 follows from the definition; it is said here for whoever goes on with the program.
+-- the refusal of a sheet; else the numbers of the steps and of the procedures, and the work space holds the program. That the steps
+-- are at most 256 and the procedures at most 16 follows from the definition; it is said here for whoever goes on with the program.
 abbrev pub Answered : (w : List ℕ) → ProgramRead → Out Program → Type 0
 Answered w r (stop x) = r ≡ Refused x
-Answered w r (on P) = (r ≡ Read (length (P .steps))) × HoldsProgram w P × (length (P .steps) ≤ 256)
+Answered w r (on P) =
+    (r ≡ Read (length (P .steps)) (length (P .procedures))) × HoldsProgram w P × (length (P .steps) ≤ 256) × (length (P .procedures) ≤ 16)
 
 -- what stands behind line 1
-unfoldable pub behindCount : (n : ℕ) → Place → Out Program
-behindCount n first = do
-  (steps, last) ← readLines programSheet (stepLines (first .last + 1) n) first
+unfoldable pub behindCount : Counts → Place → Out Program
+behindCount counts first = do
+  (items, last) ← readLines programSheet (itemLines (counts .heading) (first .last + 1) (counts .steps + counts .procedures)) first
   done ← end programSheet last
-  e ← single (last .last) steps (listed 0 steps)
-  bound ← scope e [] []
-  on (record { steps = steps; root = e })
+  (ps, e) ← structure (last .last) (counts .procedures) 0 items
+  bound ← scopes (counts .procedures) ps e []
+  on (record { steps = stepsAmong items; procedures = ps; root = e })
 
-abbrev pub StepsRead : List ℕ → (n : ℕ) → Cursor → (w : List ℕ) → ProgramRead → Type 0
-StepsRead text n c w r = Answered w r (behindCount n (placeAt text c))
+-- line 1 is read, and the lines that it counts are due
+pub record LinesDue (text : List ℕ) (n count : ℕ) (c : Cursor) (w : List ℕ) : Type 0 where
+  pub long : length w ≡ workSize
+  pub fewSteps : n ≤ 256
+  pub fewProcedures : count ≤ 16
+  pub placed : Placed text c
+
+abbrev pub LinesRead : List ℕ → ProgramHeading → (n count : ℕ) → Cursor → (w : List ℕ) → ProgramRead → Type 0
+LinesRead text h n count c w r = Answered w r (behindCount (record { heading = h; steps = n; procedures = count }) (placeAt text c))
 
 -- a text of a program sheet, a work space before and after, and the answer
 pub record ProgramIs (text w w′ : List ℕ) (r : ProgramRead) : Type 0 where

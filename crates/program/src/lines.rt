@@ -1,84 +1,34 @@
-// The lines of a program sheet: the count of line 1, and the step lines, stored in the work space in line order.
+// The lines behind line 1 of a program sheet: steps and `proc` lines, stored in the work space in line order.
+use crate::tails::Tail;
+use crate::tails::last_number;
 use lexer::Cursor;
-use lexer::FieldEnd;
 use lexer::FoundWord;
-use lexer::Numbers;
 use lexer::Span;
 use spec::BinaryWord;
 use spec::LeafWord;
+use spec::ProgramHeading;
 use spec::Refusal;
+use spec::UnaryWord;
 use spec::Word;
 use workspace::LINES;
+use workspace::PROC_FIRSTS;
+use workspace::PROC_LINES;
+use workspace::PROC_VARS;
 use workspace::VALUES;
 use workspace::WORDS;
 ghost use mathlib.Core.Path.{_≡_};
-ghost use Prim.Native.Nat.{_≤_};
-ghost use lib.ListN.{length};
 ghost use Rattle.spec.specs.Reading.{stop};
+ghost use Rattle.spec.specs.declared.Word.the-variants.{Unary};
 ghost use Rattle.spec.specs.Words.{leastValue, largestValue};
 ghost use Rattle.lexer.specs.Cursors.{Placed};
-ghost use Rattle.program.specs.Structure.{RoomFor};
-ghost use Rattle.program.specs.Lines.{TailShown, CountShown, FreelockAt, WordAt, stepAt, StepShown, StepsShown};
+ghost use Rattle.structure.specs.Structure.{RoomFor};
+ghost use Rattle.program.specs.Lines.{FreelockAt, ProcAt, WordAt, itemAt, StepShown, StepsShown};
 
-// The most steps that a program may have.
-const STEP_LIMIT: u32 = 256;
+// The largest number that a call may name.
+const CALL_LIMIT: u32 = 15;
 
-// The number behind a line's first field and the cursor behind the line; malformed, if the line does not end with that
-// number.
-enum Tail {
-    Value(u32, Cursor),
-    Malformed,
-}
-
-// What stands behind a line's first field: `end` ends the field, and `next` stands behind that.
-fn last_number(text: &[u8], end: FieldEnd, next: Cursor) -> Tail
-    requires { ⌜ Placed (now text) next ⌝ }
-    ensures { λ r. ⌜ TailShown (now (text .entry)) next end r ⌝ }
-{
-    let FieldEnd::Comma = end else {
-        return Tail::Malformed;
-    };
-    let mut number = [0u32; 1];
-    match next.numbers(text, &mut number) {
-        Numbers::Read(behind) => Tail::Value(number[0], behind),
-        Numbers::Malformed => Tail::Malformed,
-    }
-}
-
-// The number of steps and the cursor behind line 1, or the refusal of that line.
-pub enum CountLine {
-    Count(u32, Cursor),
-    Refused(Refusal),
-}
-
-// Line 1, `P,n`.
-pub fn count_line(text: &[u8]) -> CountLine
-    requires { ⌜ length (now text) ≤ 16384 ⌝ }
-    ensures { λ r. ⌜ CountShown (now (text .entry)) r ⌝ }
-{
-    let top = Cursor::start();
-    if top.at_end(text) {
-        return CountLine::Refused(Refusal::ProgramForm(1));
-    }
-    let field = top.field(text);
-    let from = field.from;
-    let to = field.to;
-    if !lexer::same(&text[from..to], b"P") {
-        return CountLine::Refused(Refusal::ProgramForm(1));
-    }
-    let end = field.end;
-    let next = field.next;
-    let Tail::Value(n, behind) = last_number(text, end, next) else {
-        return CountLine::Refused(Refusal::ProgramForm(1));
-    };
-    if n < 1 {
-        return CountLine::Refused(Refusal::ProgramRange(1));
-    }
-    if STEP_LIMIT < n {
-        return CountLine::Refused(Refusal::ProgramRange(1));
-    }
-    CountLine::Count(n, behind)
-}
+// The largest number of a variable.
+const VARIABLE_LIMIT: u32 = 255;
 
 // The smallest v that a step with this word may have.
 fn least_of(w: Word) -> u32
@@ -98,6 +48,16 @@ fn least_of(w: Word) -> u32
     }
 }
 
+// The largest v of a step with one part: a procedure's number on a call, else 0.
+fn call_limit(w: UnaryWord) -> u32
+    ensures { λ r. ⌜ r ≡ largestValue (Unary w) ⌝ }
+{
+    if lexer::calls(w) {
+        return CALL_LIMIT;
+    }
+    0
+}
+
 // The largest v that a step with this word may have.
 fn limit_of(w: Word) -> u32
     ensures { λ r. ⌜ r ≡ largestValue w ⌝ }
@@ -111,7 +71,7 @@ fn limit_of(w: Word) -> u32
             LeafWord::Newsem => 0,
             LeafWord::Newrwlock => 64,
         },
-        Word::Unary(_) => 0,
+        Word::Unary(u) => call_limit(u),
         Word::Binary(b) => match b {
             BinaryWord::Let => 255,
             BinaryWord::If => 0,
@@ -122,9 +82,9 @@ fn limit_of(w: Word) -> u32
 }
 
 // The refusal of the line at the cursor, whose first field is the word `freelock`: 45, once form and range are right.
-fn freelock_line(text: &[u8], cursor: Cursor, field: Span) -> Refusal
+fn freelock_line(text: &[u8], heading: ProgramHeading, cursor: Cursor, field: Span) -> Refusal
     requires { ⌜ FreelockAt (now text) cursor field ⌝ }
-    ensures { λ r. ⌜ stepAt (now (text .entry)) cursor ≡ stop r ⌝ }
+    ensures { λ r. ⌜ itemAt (now (text .entry)) heading cursor ≡ stop r ⌝ }
 {
     let line = cursor.line + 1;
     let end = field.end;
@@ -138,16 +98,43 @@ fn freelock_line(text: &[u8], cursor: Cursor, field: Span) -> Refusal
     Refusal::Freelock(line)
 }
 
-// A step and the cursor behind its line, or the refusal of that line.
+// A step or a `proc` line and the cursor behind it, or the refusal of that line.
 enum StepLine {
     Step(Word, u32, Cursor),
+    Proc(u32, Cursor),
     Refused(Refusal),
 }
 
+// The line at the cursor, whose first field is the word `proc`: `proc,x` in a `P2` sheet, nothing in a `P` sheet.
+fn proc_line(text: &[u8], heading: ProgramHeading, cursor: Cursor, field: Span) -> StepLine
+    requires { ⌜ ProcAt (now text) cursor field ⌝ }
+    ensures { λ r. ⌜ StepShown (now (text .entry)) heading cursor r ⌝ }
+{
+    let line = cursor.line + 1;
+    let ProgramHeading::P2 = heading else {
+        return StepLine::Refused(Refusal::ProgramForm(line));
+    };
+    let end = field.end;
+    let next = field.next;
+    let Tail::Value(x, behind) = last_number(text, end, next) else {
+        return StepLine::Refused(Refusal::ProgramForm(line));
+    };
+    if VARIABLE_LIMIT < x {
+        return StepLine::Refused(Refusal::ProgramRange(line));
+    }
+    StepLine::Proc(x, behind)
+}
+
 // The line at the cursor, whose first field is a word of a step: the number behind it, and its range.
-fn word_line(text: &[u8], cursor: Cursor, field: Span, word: Word) -> StepLine
-    requires { ⌜ WordAt (now text) cursor field word ⌝ }
-    ensures { λ r. ⌜ StepShown (now (text .entry)) cursor r ⌝ }
+fn word_line(
+    text: &[u8],
+    heading: ProgramHeading,
+    cursor: Cursor,
+    field: Span,
+    word: Word,
+) -> StepLine
+    requires { ⌜ WordAt (now text) heading cursor field word ⌝ }
+    ensures { λ r. ⌜ StepShown (now (text .entry)) heading cursor r ⌝ }
 {
     let line = cursor.line + 1;
     let end = field.end;
@@ -164,10 +151,10 @@ fn word_line(text: &[u8], cursor: Cursor, field: Span, word: Word) -> StepLine
     StepLine::Step(word, v, behind)
 }
 
-// The line at the cursor, `word,v`.
-fn step_line(text: &[u8], cursor: Cursor) -> StepLine
+// The line at the cursor, `word,v` or `proc,x`.
+fn step_line(text: &[u8], heading: ProgramHeading, cursor: Cursor) -> StepLine
     requires { ⌜ Placed (now text) cursor ⌝ }
-    ensures { λ r. ⌜ StepShown (now (text .entry)) cursor r ⌝ }
+    ensures { λ r. ⌜ StepShown (now (text .entry)) heading cursor r ⌝ }
 {
     let last = cursor.line;
     if cursor.at_end(text) {
@@ -178,33 +165,52 @@ fn step_line(text: &[u8], cursor: Cursor) -> StepLine
     let from = field.from;
     let to = field.to;
     if lexer::same(&text[from..to], b"freelock") {
-        return StepLine::Refused(freelock_line(text, cursor, field));
+        return StepLine::Refused(freelock_line(text, heading, cursor, field));
     }
-    let FoundWord::Known(word) = lexer::word_of(&text[from..to]) else {
+    if lexer::same(&text[from..to], b"proc") {
+        return proc_line(text, heading, cursor, field);
+    }
+    let FoundWord::Known(word) = lexer::word_under(&text[from..to], heading) else {
         return StepLine::Refused(Refusal::ProgramForm(line));
     };
-    word_line(text, cursor, field, word)
+    word_line(text, heading, cursor, field, word)
 }
 
-// The cursor behind the step lines, or the refusal of one of them.
+// The numbers of steps and of `proc` lines, and the cursor behind the lines; or the refusal of one of them.
 pub enum StepLines {
-    Read(Cursor),
+    Read(usize, usize, Cursor),
     Refused(Refusal),
 }
 
-// The n step lines from the cursor on, stored in line order.
-pub fn step_lines(text: &[u8], work: &mut [u32], n: usize, start: Cursor) -> StepLines
+// The n lines from the cursor on, steps and `proc` lines each stored in line order.
+pub fn step_lines(
+    text: &[u8],
+    work: &mut [u32],
+    heading: ProgramHeading,
+    n: usize,
+    start: Cursor,
+) -> StepLines
     requires { ⌜ RoomFor n (now work) × Placed (now text) start ⌝ }
-    ensures { λ r. ⌜ StepsShown (now (text .entry)) n start (now (work .entry)) (now (work .exit)) r ⌝ }
+    ensures { λ r. ⌜ StepsShown (now (text .entry)) heading n start (now (work .entry)) (now (work .exit)) r ⌝ }
 {
     let mut cursor = start;
+    let mut steps: usize = 0;
+    let mut procs: usize = 0;
     let mut k: usize = 0;
     while k < n {
-        match step_line(text, cursor) {
+        match step_line(text, heading, cursor) {
             StepLine::Step(word, v, behind) => {
-                work[WORDS + k] = workspace::code_of(word);
-                work[VALUES + k] = v;
-                work[LINES + k] = behind.line;
+                work[WORDS + steps] = workspace::code_of(word);
+                work[VALUES + steps] = v;
+                work[LINES + steps] = behind.line;
+                steps += 1;
+                cursor = behind;
+            }
+            StepLine::Proc(x, behind) => {
+                work[PROC_LINES + procs] = behind.line;
+                work[PROC_VARS + procs] = x;
+                work[PROC_FIRSTS + procs] = steps as u32;
+                procs += 1;
                 cursor = behind;
             }
             StepLine::Refused(refusal) => {
@@ -213,5 +219,5 @@ pub fn step_lines(text: &[u8], work: &mut [u32], n: usize, start: Cursor) -> Ste
         }
         k += 1;
     }
-    StepLines::Read(cursor)
+    StepLines::Read(steps, procs, cursor)
 }

@@ -18,17 +18,23 @@ ghost use Rattle.replay_line.specs.declared.Outcome.the-variants.{Ran};
 // The most bytes of a trace that are held.
 const TRACE_LIMIT: usize = 4_000_000;
 
+// Replays two texts in a space that is lent as an array, whose length is known: a proof that counts so many numbers runs out of room.
+fn replay_in(program: &[u8], trace: &[u8], space: &mut [u32; 542_960]) -> Outcome
+    ensures { λ o. ⌜ o ≡ Ran (replayed replaySpace (now (program .entry)) (now (trace .entry))) ⌝ }
+{
+    let replayed = replay(program, trace, space);
+    Outcome::Ran(replayed)
+}
+
 // Replays two texts in a space of its own.
 fn replay_texts(program: &[u8], trace: &[u8]) -> Outcome
     ensures { λ o. ⌜ o ≡ Ran (replayed replaySpace (now (program .entry)) (now (trace .entry))) ⌝ }
 {
-    let mut space = [0u32; 16384];
-    let replayed = replay(program, trace, &mut space);
-    Outcome::Ran(replayed)
+    let mut space = [0u32; 542_960];
+    replay_in(program, trace, &mut space)
 }
 
-// Reads the trace into a buffer with room for one byte more than is held. It is lent as an array, whose length is known: a proof
-// that counts so many bytes runs out of room.
+// Reads the trace into a buffer with room for one byte more than is held. It is lent as an array, as the space is.
 fn read_trace(buffer: &mut [u8; 4_000_001]) -> Contents
     ensures { λ r. ⌜ Within r (length (now (buffer .exit))) ⌝ }
 {

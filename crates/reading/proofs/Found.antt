@@ -35,16 +35,17 @@ module _ (purpose : Purpose) (p s : List ℕ) {P : Program} (F : WellFormedProgr
   too-long h = long-split purpose p s (F .fits) P (well-formed-program p F) h
 
   module _ (fits : length s ≤ 65536) where
-    pub split-stops : {r : Refusal} → split purpose (P .steps) s ≡ stop r → sheets purpose p s ≡ stop r
+    pub split-stops : {r : Refusal} → split purpose P s ≡ stop r → sheets purpose p s ≡ stop r
     unfolding programLimit
     split-stops e = split-refused purpose p s (F .fits) P (well-formed-program p F) fits _ e
 
     -- the split is read into the work space behind the program
-    pub both-held : {w w′ : List ℕ} {n : ℕ} (header : Header) {S : Split} → split purpose (P .steps) s ≡ on S
+    pub both-held : {w w′ : List ℕ} {n k : ℕ} (header : Header) {S : Split} → split purpose P s ≡ on S
         → ChangedWithin rowTypesAt workSize w w′ → HoldsProgram w P → HoldsSplit w′ S → n ≡ length (P .steps) → n ≤ 256
-        → S .header ≡ headerTold header → Small header → SheetsHeld purpose p s w′ n header
+        → k ≡ length (P .procedures) → k ≤ 16
+        → S .header ≡ headerTold header → Small header → SheetsHeld purpose p s w′ n k header
     unfolding programLimit splitLimit
-    both-held header {S} e changed holds holds′ counted few headed small = record {
+    both-held header {S} e changed holds holds′ counted few procs fewProcs headed small = record {
       P = P;
       S = S;
       read = sheets-read purpose p s (F .fits) P (well-formed-program p F) fits S e;
@@ -52,10 +53,11 @@ module _ (purpose : Purpose) (p s : List ℕ) {P : Program} (F : WellFormedProgr
         sheets = record {
           programText = p;
           wellFormed = F;
-          inRange = well-formed-in-range (split-well-formed purpose (P .steps) s fits e);
-          program = program-kept changed (F .listing) (omega (arith, counted, few)) holds;
+          inRange = well-formed-in-range (split-well-formed purpose P s fits e);
+          program = program-kept changed (F .stepped) (omega (arith, counted, few)) (omega (arith, procs, fewProcs)) holds;
           split = holds′;
           stepsCounted = counted;
+          proceduresCounted = procs;
           denominatorGiven = denominator-told S header headed;
           locationsGiven = locations-told S header headed;
           startGiven = start-told S header headed;
@@ -63,6 +65,7 @@ module _ (purpose : Purpose) (p s : List ℕ) {P : Program} (F : WellFormedProgr
         headed = headed;
       };
       few = few;
+      fewProcedures = fewProcs;
       small = small;
     }
 
@@ -72,5 +75,5 @@ module _ (purpose : Purpose) (p s w : List ℕ) (answer : Reading) (told : Sheet
   pub refused-by : {r : Refusal} → answer ≡ Refused r → sheets purpose p s ≡ stop r
   refused-by e = along (SheetsAnswered purpose p s w) e told
 
-  pub held-by : {n : ℕ} {header : Header} → answer ≡ Held n header → SheetsHeld purpose p s w n header
+  pub held-by : {n k : ℕ} {header : Header} → answer ≡ Held n k header → SheetsHeld purpose p s w n k header
   held-by e = along (SheetsAnswered purpose p s w) e told

@@ -18,35 +18,38 @@ use Rattle.reading.specs.declared.Reading.{Reading}
 use Rattle.reading.specs.declared.Reading.the-variants.{Held, Refused}
 
 -- the work space holds both sheets, and the split has this header
-pub record HoldsBoth (w : List ℕ) (header : Header) (steps : ℕ) (P : Program) (S : Split) : Type 0 where
-  pub sheets : HoldsSheets w steps (header .denominator) (header .locations) (header .start .0) P S
+pub record HoldsBoth (w : List ℕ) (header : Header) (steps procedures : ℕ) (P : Program) (S : Split) : Type 0 where
+  pub sheets : HoldsSheets w steps procedures (header .denominator) (header .locations) (header .start .0) P S
   pub headed : S .header ≡ headerTold header
 
 -- both sheets are read, and the work space w holds them
-pub record SheetsHeld (purpose : Purpose) (programText splitText w : List ℕ) (steps : ℕ) (header : Header) : Type 0 where
+pub record SheetsHeld (purpose : Purpose) (programText splitText w : List ℕ) (steps procedures : ℕ) (header : Header) : Type 0 where
   pub P : Program
   pub S : Split
   pub read : sheets purpose programText splitText ≡ on (P, S)
-  pub holds : HoldsBoth w header steps P S
+  pub holds : HoldsBoth w header steps procedures P S
   pub few : steps ≤ 256
+  pub fewProcedures : procedures ≤ 16
   pub small : Small header
 
 abbrev pub SheetsAnswered : Purpose → (programText splitText w : List ℕ) → Reading → Type 0
-SheetsAnswered purpose programText splitText w (Held steps header) = SheetsHeld purpose programText splitText w steps header
+SheetsAnswered purpose programText splitText w (Held steps procedures header) = SheetsHeld purpose programText splitText w steps procedures header
 SheetsAnswered purpose programText splitText w (Refused r) = sheets purpose programText splitText ≡ stop r
 
 -- ------------------------------------------------------------------ the split, for a program that is held
 
--- the work space has its size and holds a program of so many steps
-pub record ProgramHeld (w : List ℕ) (steps : ℕ) : Type 0 where
+-- the work space has its size and holds a program of so many steps and procedures
+pub record ProgramHeld (w : List ℕ) (steps procedures : ℕ) : Type 0 where
   pub long : length w ≡ workSize
   pub few : steps ≤ 256
+  pub fewProcedures : procedures ≤ 16
   pub P : Program
   pub holds : HoldsProgram w P
-  pub counted : steps ≡ length (P .steps)
+  pub stepsCounted : steps ≡ length (P .steps)
+  pub proceduresCounted : procedures ≡ length (P .procedures)
 
--- for whichever program of so many steps the work space w holds
-abbrev pub SplitAnswered : Purpose → (splitText : List ℕ) (steps : ℕ) (w w′ : List ℕ) → Reading → Type 0
-SplitAnswered purpose splitText steps w w′ answer =
-    (programText : List ℕ) (P : Program) → WellFormedProgram programText P → HoldsProgram w P → steps ≡ length (P .steps)
+-- for whichever program of so many steps and procedures the work space w holds
+abbrev pub SplitAnswered : Purpose → (splitText : List ℕ) (steps procedures : ℕ) (w w′ : List ℕ) → Reading → Type 0
+SplitAnswered purpose splitText steps procedures w w′ answer =
+    (programText : List ℕ) (P : Program) → WellFormedProgram programText P → HoldsProgram w P → steps ≡ length (P .steps) → procedures ≡ length (P .procedures)
     → SheetsAnswered purpose programText splitText w′ answer

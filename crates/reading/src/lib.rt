@@ -14,23 +14,29 @@ const PROGRAM_LIMIT: usize = 16384;
 
 const SPLIT_LIMIT: usize = 65536;
 
-// The number of steps and the header of the sheets that the work space holds, or the refusal of one of them.
+// The numbers of steps and procedures and the header of the sheets that the work space holds, or the refusal of one of them.
 pub enum Reading {
-    Held(usize, Header),
+    Held(usize, usize, Header),
     Refused(Refusal),
 }
 
 // 20 and on, for the program that the work space holds.
-fn read_split(split: &[u8], purpose: Purpose, steps: usize, work: &mut [u32]) -> Reading
-    requires { ⌜ ProgramHeld (now work) steps ⌝ }
-    ensures { λ r. ⌜ SplitAnswered purpose (now (split .entry)) steps (now (work .entry)) (now (work .exit)) r ⌝ }
+fn read_split(
+    split: &[u8],
+    purpose: Purpose,
+    steps: usize,
+    procedures: usize,
+    work: &mut [u32],
+) -> Reading
+    requires { ⌜ ProgramHeld (now work) steps procedures ⌝ }
+    ensures { λ r. ⌜ SplitAnswered purpose (now (split .entry)) steps procedures (now (work .entry)) (now (work .exit)) r ⌝ }
 {
     if SPLIT_LIMIT < split.len() {
         return Reading::Refused(Refusal::LongSplit);
     }
-    match split::read(split, purpose, steps, work) {
+    match split::read(split, purpose, steps, procedures, work) {
         Sheet::Refused(r) => Reading::Refused(r),
-        Sheet::Read(header) => Reading::Held(steps, header),
+        Sheet::Read(header) => Reading::Held(steps, procedures, header),
     }
 }
 
@@ -44,6 +50,6 @@ pub fn read(program: &[u8], split: &[u8], purpose: Purpose, work: &mut [u32]) ->
     }
     match program::read(program, work) {
         ProgramRead::Refused(r) => Reading::Refused(r),
-        ProgramRead::Read(steps) => read_split(split, purpose, steps, work),
+        ProgramRead::Read(steps, procedures) => read_split(split, purpose, steps, procedures, work),
     }
 }

@@ -1,3 +1,4 @@
 pub mod Slots
 pub mod Uses
+pub mod Calls
 pub mod Words

@@ -7,13 +7,13 @@ use Rattle.spec.specs.Choice.{if_then_else_}
 use Rattle.reduction.specs.declared.slots.Slot.{Slot}
 
 abbrev pub kindsAt : ℕ
-kindsAt = 8256
+kindsAt = 541808
 
 abbrev pub firstsAt : ℕ
-firstsAt = 8640
+firstsAt = 542192
 
 abbrev pub secondsAt : ℕ
-secondsAt = 9024
+secondsAt = 542576
 
 abbrev pub slot : (kind first second : ℕ) → Slot
 slot k a b = record { kind = k; first = a; second = b }

@@ -3,7 +3,7 @@ use Prim.Native.Nat.{ℕ, _+_, _-_}
 use lib.Dec.{eqb, ltb}
 use Rattle.spec.specs.Choice.{if_then_else_}
 use Rattle.workspace.specs.declared.Rule.{Rule}
-use Rattle.workspace.specs.declared.Rule.the-variants.{VAR, INT, LET, IF, WHILE, NEWT, SPAWN, JOIN, REF, WRITE, READ, NEWL, LCK, ULCK, NEWSEM, POST, WAIT, NEWRWLOCK, RDLOCK, RDUNLOCK, WRLOCK, WRUNLOCK}
+use Rattle.workspace.specs.declared.Rule.the-variants.{VAR, INT, LET, IF, WHILE, NEWT, SPAWN, JOIN, REF, WRITE, READ, NEWL, LCK, ULCK, NEWSEM, POST, WAIT, NEWRWLOCK, RDLOCK, RDUNLOCK, WRLOCK, WRUNLOCK, CALL}
 use Rattle.reduction.specs.declared.slots.Slot.{Slot}
 use Rattle.reduction.specs.declared.uses.Used.{Used}
 use Rattle.reduction.specs.declared.uses.Used.the-variants.{Gives, Leaves, Makes, Spawns, Joins, Stuck}
@@ -82,3 +82,4 @@ usedBy RDLOCK x v = rdlockedOf x
 usedBy RDUNLOCK x v = rdunlockedOf x
 usedBy WRLOCK x v = wrlockedOf x
 usedBy WRUNLOCK x v = wrunlockedOf x
+usedBy CALL x v = Stuck

@@ -7,11 +7,12 @@ use Rattle.spec.specs.Choice.{if_then_else_}
 use Rattle.workspace.specs.Layout.{wordsAt, valuesAt, ruleOf}
 use Rattle.control.specs.declared.Focus.{Focus}
 use Rattle.control.specs.declared.shapes.Shape.{Shape}
-use Rattle.control.specs.declared.shapes.Shape.the-variants.{Variable, Constant, Maker, While, OnePart, Let, If, Spawn as SpawnShape, Write}
+use Rattle.control.specs.declared.shapes.Shape.the-variants.{Variable, Constant, Maker, While, OnePart, Call, Let, If, Spawn as SpawnShape, Write}
 use Rattle.control.specs.Shapes.{shapeAt, isWrite}
 use Rattle.control.specs.Control.{environmentsAt, kept, continuation, second, behind, entering, returning, stoppedAt, unrolledAt}
 use Rattle.reduction.specs.Slots.{slotAt, slotPut}
 use Rattle.reduction.specs.Uses.{usedBy}
+use Rattle.reduction.specs.Calls.{callEntered, calledSpace}
 use Rattle.reduction.specs.declared.slots.Slot.{Slot}
 use Rattle.reduction.specs.declared.uses.Used.{Used}
 use Rattle.reduction.specs.declared.uses.Used.the-variants.{Gives, Leaves, Makes, Spawns, Joins}
@@ -20,28 +21,28 @@ use Rattle.reduction.specs.declared.words.Act.{Act}
 use Rattle.reduction.specs.declared.words.Act.the-variants.{Go, Spawn, Join, Stuck, Past}
 
 abbrev pub countsAt : ℕ
-countsAt = 8240
+countsAt = 541792
 
 abbrev pub nextAt : ℕ
-nextAt = 8248
+nextAt = 541800
 
 -- ------------------------------------------------------------------ words of one thread
 
-unfoldable pub given : (p : List ℕ) (k v : ℕ) → Focus
-given p k v = returning (continuation p k) v
+unfoldable pub given : (p : List ℕ) (r k v : ℕ) → Focus
+given p r k v = returning r (continuation p k) v
 
-unfoldable pub branched : (p : List ℕ) (k choice : ℕ) → Focus
-branched p k c = if eqb c 0 then entering (behind k) else entering (second p k)
+unfoldable pub branched : (p : List ℕ) (r k choice : ℕ) → Focus
+branched p r k c = if eqb c 0 then entering r (behind k) else entering r (second p k)
 
 unfoldable pub looped : (p : List ℕ) → Focus → (choice : ℕ) → Focus
 looped p f c =
-    if eqb (f .mode) 2 then unrolledAt (f .at)
-    else if eqb (f .mode) 3 then stoppedAt (f .at)
-    else if eqb c 0 then entering (behind (f .at))
-    else given p (f .at) 0
+    if eqb (f .mode) 2 then unrolledAt (f .row) (f .at)
+    else if eqb (f .mode) 3 then stoppedAt (f .row) (f .at)
+    else if eqb c 0 then entering (f .row) (behind (f .at))
+    else given p (f .row) (f .at) 0
 
-unfoldable pub bound : (p s : List ℕ) (t : ℕ) → Focus → Act × List ℕ
-bound p s t f = (Go (entering (second p (f .at))), set s (environmentsAt + 256 * t + getD p (valuesAt + f .at) 0) (f .value))
+unfoldable pub bound : (p s : List ℕ) → Focus → Act × List ℕ
+bound p s f = (Go (entering (f .row) (second p (f .at))), set s (environmentsAt + 256 * f .row + getD p (valuesAt + f .at) 0) (f .value))
 
 -- ------------------------------------------------------------------ words that use what a value names
 
@@ -49,42 +50,43 @@ bound p s t f = (Go (entering (second p (f .at))), set s (environmentsAt + 256 *
 unfoldable pub withThing : (s : List ℕ) → Slot → List ℕ
 withThing s x = set (set (slotPut s (getD s nextAt 0) x) (countsAt + x .kind) (getD s (countsAt + x .kind) 0 + 1)) nextAt (getD s nextAt 0 + 1)
 
-unfoldable pub newThing : (p s : List ℕ) (k : ℕ) → Slot → Act × List ℕ
-newThing p s k x =
+unfoldable pub newThing : (p s : List ℕ) (r k : ℕ) → Slot → Act × List ℕ
+newThing p s r k x =
     if leb 64 (getD s (countsAt + x .kind) 0) then (Past, s)
     else if leb 322 (getD s nextAt 0) then (Past, s)
-    else (Go (given p k (getD s nextAt 0)), withThing s x)
+    else (Go (given p r k (getD s nextAt 0)), withThing s x)
 
-unfoldable pub subject : (p s : List ℕ) (t : ℕ) → Focus → ℕ
-subject p s t f = if isWrite (shapeAt p (f .at)) then kept s t (f .at) else f .value
+unfoldable pub subject : (p s : List ℕ) → Focus → ℕ
+subject p s f = if isWrite (shapeAt p (f .at)) then kept s (f .row) (f .at) else f .value
 
 unfoldable pub operand : (p : List ℕ) → Focus → ℕ
 operand p f = if eqb (f .mode) 2 then getD p (valuesAt + f .at) 0 else f .value
 
-unfoldable pub effected : (p s : List ℕ) (k v : ℕ) → Used → Act × List ℕ
-effected p s k v (Gives w) = (Go (given p k w), s)
-effected p s k v (Leaves x) = (Go (given p k 0), slotPut s v x)
-effected p s k v (Makes x) = newThing p s k x
-effected p s k v Spawns = (Spawn v, s)
-effected p s k v Joins = (Join v, s)
-effected p s k v used.Stuck = (Stuck, s)
+unfoldable pub effected : (p s : List ℕ) (r k v : ℕ) → Used → Act × List ℕ
+effected p s r k v (Gives w) = (Go (given p r k w), s)
+effected p s r k v (Leaves x) = (Go (given p r k 0), slotPut s v x)
+effected p s r k v (Makes x) = newThing p s r k x
+effected p s r k v Spawns = (Spawn v, s)
+effected p s r k v Joins = (Join v, s)
+effected p s r k v used.Stuck = (Stuck, s)
 
-unfoldable pub wordUsed : (p s : List ℕ) (t : ℕ) → Focus → Act × List ℕ
-wordUsed p s t f =
-    effected p s (f .at) (subject p s t f) (usedBy (ruleOf (getD p (wordsAt + f .at) 0)) (slotAt s (subject p s t f)) (operand p f))
+unfoldable pub wordUsed : (p s : List ℕ) → Focus → Act × List ℕ
+wordUsed p s f =
+    effected p s (f .row) (f .at) (subject p s f) (usedBy (ruleOf (getD p (wordsAt + f .at) 0)) (slotAt s (subject p s f)) (operand p f))
 
 -- ------------------------------------------------------------------ any word
 
-unfoldable pub actedBy : Shape → (p s : List ℕ) (t : ℕ) → Focus → (choice : ℕ) → Act × List ℕ
-actedBy Variable p s t f c = (Stuck, s)
-actedBy Constant p s t f c = (Stuck, s)
-actedBy Maker p s t f c = wordUsed p s t f
-actedBy While p s t f c = (Go (looped p f c), s)
-actedBy OnePart p s t f c = wordUsed p s t f
-actedBy Let p s t f c = bound p s t f
-actedBy If p s t f c = (Go (branched p (f .at) c), s)
-actedBy SpawnShape p s t f c = wordUsed p s t f
-actedBy Write p s t f c = wordUsed p s t f
+unfoldable pub actedBy : Shape → (p s : List ℕ) → Focus → (choice : ℕ) → Act × List ℕ
+actedBy Variable p s f c = (Stuck, s)
+actedBy Constant p s f c = (Stuck, s)
+actedBy Maker p s f c = wordUsed p s f
+actedBy While p s f c = (Go (looped p f c), s)
+actedBy OnePart p s f c = wordUsed p s f
+actedBy Call p s f c = (Go (callEntered p f), calledSpace p s f)
+actedBy Let p s f c = bound p s f
+actedBy If p s f c = (Go (branched p (f .row) (f .at) c), s)
+actedBy SpawnShape p s f c = wordUsed p s f
+actedBy Write p s f c = wordUsed p s f
 
-unfoldable pub acted : (p s : List ℕ) (t : ℕ) → Focus → (choice : ℕ) → Act × List ℕ
-acted p s t f c = actedBy (shapeAt p (f .at)) p s t f c
+unfoldable pub acted : (p s : List ℕ) → Focus → (choice : ℕ) → Act × List ℕ
+acted p s f c = actedBy (shapeAt p (f .at)) p s f c

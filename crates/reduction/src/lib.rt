@@ -1,5 +1,6 @@
 // The step of a thread's next word on numbers in a lent space, as far as it does not touch the records of threads: the things that names
 // name, what each word does with the thing that it is about, and what the word comes to.
+mod calls;
 mod slots;
 mod uses;
 mod words;

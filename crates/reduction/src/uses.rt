@@ -229,7 +229,7 @@ fn wrunlocked(x: Slot) -> Used
 }
 
 // The word of that rule: x is what it is about, v the value that it stores, or the reading places of a new read-write lock. The words
-// of `control` use nothing.
+// of a thread alone use nothing.
 pub fn used_by(r: Rule, x: Slot, v: u32) -> Used
     ensures { λ u. ⌜ u ≡ usedBy r x v ⌝ }
 {
@@ -256,5 +256,6 @@ pub fn used_by(r: Rule, x: Slot, v: u32) -> Used
         Rule::RDUNLOCK => rdunlocked(x),
         Rule::WRLOCK => wrlocked(x),
         Rule::WRUNLOCK => wrunlocked(x),
+        Rule::CALL => Used::Stuck,
     }
 }

@@ -1,4 +1,5 @@
 // The step of a thread's next word, as far as it does not touch the records of threads.
+use crate::calls::call;
 use crate::slots::Slot;
 use crate::slots::VALUES;
 use crate::slots::put_slot;
@@ -19,9 +20,9 @@ ghost use mathlib.Core.Path.{_≡_};
 ghost use Rattle.reduction.specs.Words.{given, branched, looped, bound, newThing, subject as subjectOf, operand as operandOf, effected, wordUsed, acted};
 
 // How many things of each kind there are, by kind; and the value that stands for the next name.
-pub const COUNTS: usize = 8240;
+pub const COUNTS: usize = 541792;
 
-pub const NEXT: usize = 8248;
+pub const NEXT: usize = 541800;
 
 // The most things of a kind.
 const LIMIT: u32 = 64;
@@ -36,32 +37,35 @@ pub enum Act {
     Past,
 }
 
-// The word of step k becomes a value.
-pub fn gives(program: &[u32], k: u32, v: u32) -> Focus
-    ensures { λ r. ⌜ r ≡ given (now (program .entry)) k v ⌝ }
+// The word of step k becomes a value, in that row.
+pub fn gives(program: &[u32], row: u32, k: u32, v: u32) -> Focus
+    ensures { λ r. ⌜ r ≡ given (now (program .entry)) row k v ⌝ }
 {
     Focus {
         mode: RETURN,
         at: at(program, control::CONTINUATIONS + index(k)),
         value: v,
+        row,
     }
 }
 
 // The part of an `if` that is chosen, 0 taking e1.
-fn branch(program: &[u32], k: u32, choice: u32) -> Focus
-    ensures { λ r. ⌜ r ≡ branched (now (program .entry)) k choice ⌝ }
+fn branch(program: &[u32], row: u32, k: u32, choice: u32) -> Focus
+    ensures { λ r. ⌜ r ≡ branched (now (program .entry)) row k choice ⌝ }
 {
     if choice == 0 {
         return Focus {
             mode: ENTER,
             at: control::behind(k),
             value: 0,
+            row,
         };
     }
     Focus {
         mode: ENTER,
         at: control::second(program, k),
         value: 0,
+        row,
     }
 }
 
@@ -71,12 +75,14 @@ fn around(program: &[u32], f: Focus, choice: u32) -> Focus
     ensures { λ r. ⌜ r ≡ looped (now (program .entry)) f choice ⌝ }
 {
     let k = f.at;
+    let row = f.row;
     let mode = f.mode;
     if mode == STOPPED {
         return Focus {
             mode: UNROLLED,
             at: k,
             value: 0,
+            row,
         };
     }
     if mode == READY {
@@ -84,6 +90,7 @@ fn around(program: &[u32], f: Focus, choice: u32) -> Focus
             mode: STOPPED,
             at: k,
             value: 0,
+            row,
         };
     }
     if choice == 0 {
@@ -91,33 +98,36 @@ fn around(program: &[u32], f: Focus, choice: u32) -> Focus
             mode: ENTER,
             at: control::behind(k),
             value: 0,
+            row,
         };
     }
-    gives(program, k, 0)
+    gives(program, row, k, 0)
 }
 
 // A `let` binds its variable and becomes its e2.
-fn bind(program: &[u32], space: &mut [u32], t: u32, f: Focus) -> Act
-    ensures { λ r. ⌜ bound (now (program .entry)) (now (space .entry)) t f ≡ (r, now (space .exit)) ⌝ }
+fn bind(program: &[u32], space: &mut [u32], f: Focus) -> Act
+    ensures { λ r. ⌜ bound (now (program .entry)) (now (space .entry)) f ≡ (r, now (space .exit)) ⌝ }
 {
     let k = f.at;
+    let row = f.row;
     let x = at(program, workspace::VALUES + index(k));
     put(
         space,
-        control::ENVIRONMENTS + control::ROW * index(t) + index(x),
+        control::ENVIRONMENTS + control::ROW * index(row) + index(x),
         f.value,
     );
     let next = Focus {
         mode: ENTER,
         at: control::second(program, k),
         value: 0,
+        row,
     };
     Act::Go(next)
 }
 
 // The word of step k becomes the name of a new thing, if there is room for one more of its kind.
-fn make(program: &[u32], space: &mut [u32], k: u32, x: Slot) -> Act
-    ensures { λ r. ⌜ newThing (now (program .entry)) (now (space .entry)) k x ≡ (r, now (space .exit)) ⌝ }
+fn make(program: &[u32], space: &mut [u32], row: u32, k: u32, x: Slot) -> Act
+    ensures { λ r. ⌜ newThing (now (program .entry)) (now (space .entry)) row k x ≡ (r, now (space .exit)) ⌝ }
 {
     let kind = index(x.kind);
     let count = at(space, COUNTS + kind);
@@ -131,16 +141,19 @@ fn make(program: &[u32], space: &mut [u32], k: u32, x: Slot) -> Act
     put_slot(space, next, x);
     put(space, COUNTS + kind, count + 1);
     put(space, NEXT, next + 1);
-    Act::Go(gives(program, k, next))
+    Act::Go(gives(program, row, k, next))
 }
 
 // The value that names what the word is about: of a `write` its first part's, else its last part's.
-pub fn subject(program: &[u32], space: &[u32], t: u32, f: Focus) -> u32
-    ensures { λ r. ⌜ r ≡ subjectOf (now (program .entry)) (now (space .entry)) t f ⌝ }
+pub fn subject(program: &[u32], space: &[u32], f: Focus) -> u32
+    ensures { λ r. ⌜ r ≡ subjectOf (now (program .entry)) (now (space .entry)) f ⌝ }
 {
     let k = f.at;
     if control::is_write(control::shape_at(program, k)) {
-        return at(space, control::KEPT + control::ROW * index(t) + index(k));
+        return at(
+            space,
+            control::KEPT + control::ROW * index(f.row) + index(k),
+        );
     }
     f.value
 }
@@ -156,16 +169,16 @@ fn operand(program: &[u32], f: Focus) -> u32
 }
 
 // What is done about the value v by the word of step k.
-fn effect(program: &[u32], space: &mut [u32], k: u32, v: u32, u: Used) -> Act
-    ensures { λ r. ⌜ effected (now (program .entry)) (now (space .entry)) k v u ≡ (r, now (space .exit)) ⌝ }
+fn effect(program: &[u32], space: &mut [u32], row: u32, k: u32, v: u32, u: Used) -> Act
+    ensures { λ r. ⌜ effected (now (program .entry)) (now (space .entry)) row k v u ≡ (r, now (space .exit)) ⌝ }
 {
     match u {
-        Used::Gives(w) => Act::Go(gives(program, k, w)),
+        Used::Gives(w) => Act::Go(gives(program, row, k, w)),
         Used::Leaves(x) => {
             put_slot(space, v, x);
-            Act::Go(gives(program, k, 0))
+            Act::Go(gives(program, row, k, 0))
         }
-        Used::Makes(x) => make(program, space, k, x),
+        Used::Makes(x) => make(program, space, row, k, x),
         Used::Spawns => Act::Spawn(v),
         Used::Joins => Act::Join(v),
         Used::Stuck => Act::Stuck,
@@ -173,31 +186,32 @@ fn effect(program: &[u32], space: &mut [u32], k: u32, v: u32, u: Used) -> Act
 }
 
 // A word that uses what a value names.
-fn use_word(program: &[u32], space: &mut [u32], t: u32, f: Focus) -> Act
-    ensures { λ r. ⌜ wordUsed (now (program .entry)) (now (space .entry)) t f ≡ (r, now (space .exit)) ⌝ }
+fn use_word(program: &[u32], space: &mut [u32], f: Focus) -> Act
+    ensures { λ r. ⌜ wordUsed (now (program .entry)) (now (space .entry)) f ≡ (r, now (space .exit)) ⌝ }
 {
     let k = f.at;
     let r = workspace::rule_of(at(program, workspace::WORDS + index(k)));
-    let v = subject(program, space, t, f);
+    let v = subject(program, space, f);
     let x = slot_at(space, v);
     let w = operand(program, f);
-    effect(program, space, k, v, used_by(r, x, w))
+    effect(program, space, f.row, k, v, used_by(r, x, w))
 }
 
 // The step of the word at that focus, with that choice.
-pub fn reduce(program: &[u32], space: &mut [u32], t: u32, f: Focus, choice: u32) -> Act
-    ensures { λ r. ⌜ acted (now (program .entry)) (now (space .entry)) t f choice ≡ (r, now (space .exit)) ⌝ }
+pub fn reduce(program: &[u32], space: &mut [u32], f: Focus, choice: u32) -> Act
+    ensures { λ r. ⌜ acted (now (program .entry)) (now (space .entry)) f choice ≡ (r, now (space .exit)) ⌝ }
 {
     let k = f.at;
     match control::shape_at(program, k) {
         Shape::Variable => Act::Stuck,
         Shape::Constant => Act::Stuck,
-        Shape::Maker => use_word(program, space, t, f),
+        Shape::Maker => use_word(program, space, f),
         Shape::While => Act::Go(around(program, f, choice)),
-        Shape::OnePart => use_word(program, space, t, f),
-        Shape::Let => bind(program, space, t, f),
-        Shape::If => Act::Go(branch(program, k, choice)),
-        Shape::Spawn => use_word(program, space, t, f),
-        Shape::Write => use_word(program, space, t, f),
+        Shape::OnePart => use_word(program, space, f),
+        Shape::Call => Act::Go(call(program, space, f)),
+        Shape::Let => bind(program, space, f),
+        Shape::If => Act::Go(branch(program, f.row, k, choice)),
+        Shape::Spawn => use_word(program, space, f),
+        Shape::Write => use_word(program, space, f),
     }
 }

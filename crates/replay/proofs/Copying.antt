@@ -10,14 +10,14 @@ use Rattle.replay.specs.Start.{Copied}
 
 -- the places below i are copied
 pub record CopiedTo (i : ℕ) (s p : List ℕ) : Type 0 where
-  pub long : length p ≡ 1536
-  pub low : i ≤ 1280
+  pub long : length p ≡ 2449
+  pub low : i ≤ 2176
   pub same : (j : ℕ) → j < i → getD p j 0 ≡ getD s j 0
 
-pub copy-none : (s p : List ℕ) → length p ≡ 1536 → CopiedTo 0 s p
+pub copy-none : (s p : List ℕ) → length p ≡ 2449 → CopiedTo 0 s p
 copy-none s p long = record { long = long; low = omega arith; same = λ j h. absurd (omega (arith, h)) }
 
-pub copy-more : (i : ℕ) (s p p′ : List ℕ) {v : ℕ} → i < 1280 → CopiedTo i s p → v ≡ getD s i 0 → p′ ≡ set p i v → CopiedTo (i + 1) s p′
+pub copy-more : (i : ℕ) (s p p′ : List ℕ) {v : ℕ} → i < 2176 → CopiedTo i s p → v ≡ getD s i 0 → p′ ≡ set p i v → CopiedTo (i + 1) s p′
 copy-more i s p p′ {v} below C e q = rw (q, e) (record {
   long = length-set p i (getD s i 0) ∙ C .long;
   low = omega (arith, below);
@@ -28,5 +28,5 @@ copy-more i s p p′ {v} below C e q = rw (q, e) (record {
     at-place j h (yes z) = rw z (getD-set-same p i (getD s i 0) 0 (let l = C .long in omega (arith, l, below)))
     at-place j h (no z) = getD-set-other p i j (getD s i 0) 0 z ∙ C .same j (omega (arith, h, z))
 
-pub copy-all : (i : ℕ) (s p : List ℕ) → 1280 ≤ i → CopiedTo i s p → Copied s p
+pub copy-all : (i : ℕ) (s p : List ℕ) → 2176 ≤ i → CopiedTo i s p → Copied s p
 copy-all i s p h C = record { long = C .long; same = λ j l. C .same j (let b = C .low in omega (arith, h, l)) }

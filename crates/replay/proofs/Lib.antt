@@ -1,3 +1,4 @@
+pub mod Fronts
 pub mod Races
 pub mod Playing
 pub mod Moves

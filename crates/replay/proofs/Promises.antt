@@ -5,7 +5,6 @@ use mathlib.Core.List.{List, _++_}
 use native.Mathlib.Omega.{arith}
 use lib.ListN.{length, take, drop, length-append, length-drop}
 use lib.Seq.{length-take-le, drop-at}
-use Rattle.workspace.specs.Layout.{workSize}
 use Rattle.replaying.specs.Replay.{replaySpace, replay, numbersOf}
 use Rattle.replaying.specs.Claim.{TraceFollowed, RaceFound, NoneIfAccepted}
 use Rattle.replaying.specs.declared.Replayed.{Replayed}
@@ -13,7 +12,15 @@ use Rattle.replaying.proofs.Reported.{trace-is-followed, race-is-found, none-if
 
 -- ------------------------------------------------------------------ the space
 
--- The first N numbers of w are lent, and come back as x. N is a variable here, since `take 16384` would be computed.
+-- How many numbers the code lends, as an equation: where the two are compared by computing, `take 542960` is computed too.
+pub space-counted : 542960 ≡ replaySpace
+unfolding replaySpace
+space-counted = refl
+
+pub front-long : (N : ℕ) (w : List ℕ) → N ≤ length w → N ≡ replaySpace → length (take N w) ≡ replaySpace
+front-long N w h e = length-take-le N w h ∙ e
+
+-- The first N numbers of w are lent, and come back as x. N is a variable here for the same reason.
 module _ (N : ℕ) (w x : List ℕ) (h : N ≤ length w) (k : length x ≡ length (take N w)) where
   same-length : length (x ++ drop N w) ≡ length w
   same-length =
@@ -34,12 +41,12 @@ pub record SpaceAfter (s s′ : List ℕ) : Type 0 where
 pub short-space-after : (s : List ℕ) → SpaceAfter s s
 short-space-after s = record { kept = λ l. refl; long = refl; behind = refl }
 
-pub long-space-after : (s x : List ℕ) → workSize ≤ length s → length x ≡ length (take workSize s) → SpaceAfter s (x ++ drop workSize s)
+pub long-space-after : (s x : List ℕ) → replaySpace ≤ length s → length x ≡ length (take replaySpace s) → SpaceAfter s (x ++ drop replaySpace s)
 unfolding replaySpace
 long-space-after s x h k = record {
   kept = λ l. absurd (omega (arith, h, l));
-  long = same-length workSize s x h k;
-  behind = rest-kept workSize s x h k;
+  long = same-length replaySpace s x h k;
+  behind = rest-kept replaySpace s x h k;
 }
 
 -- ------------------------------------------------------------------ all of them

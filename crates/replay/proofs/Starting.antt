@@ -1,26 +1,27 @@
 -- The start of a replay: from the sheet that the space holds to the point in front of the first line.
 use Prim.Native.Nat.{ℕ, _+_, _<_, _≤_}
 use mathlib.Core.Path.{_≡_, refl, sym, _∙_, ap, subst}
-use mathlib.Core.List.{List}
+use mathlib.Core.List.{List, [], _∷_, map}
 use native.Mathlib.Omega.{arith}
 use borrow.Author.Tests.{le-leb, lt-leb}
-use lib.ListN.{length, length-map}
+use lib.ListN.{length, getD, length-map}
 use Rattle.spec.specs.Text.{lines}
 use Rattle.spec.specs.Reading.{Out, stop, on, _>>=_, demand}
-use Rattle.spec.specs.Expression.{Step, Expr, size}
+use Rattle.spec.specs.Expression.{Step, Expr, size, stepsAmong, Procedure}
 use Rattle.spec.specs.Program.{Program, program, programLimit}
-use Rattle.spec.specs.WellFormed.{prefix, WellFormedProgram}
+use Rattle.spec.specs.WellFormed.{prefix, listing, WellFormedProgram}
 use Rattle.spec.specs.declared.Refusal.{Refusal}
 use Rattle.spec.specs.declared.Refusal.the-variants.{ShortWorkspace, LongProgram}
 use Rattle.spec.proofs.WellFormed.{program-well-formed}
 use Rattle.spec.proofs.Listing.{prefix-length}
 use Rattle.workspace.specs.Region.{Region}
 use Rattle.workspace.specs.Holds.{HoldsProgram}
-use Rattle.workspace.specs.Layout.{codeOf}
-use Rattle.workspace.proofs.Held.{ends-length}
-use Rattle.workspace.proofs.Expression.{codes, values, linesOf, Standing, root-standing}
+use Rattle.workspace.specs.Layout.{procVarsAt, procFirstsAt, codeOf}
+use Rattle.workspace.proofs.Held.{ends-length, body-sized, root-sized}
+use Rattle.workspace.proofs.Expression.{codes, values, linesOf, Standing}
+use Rattle.workspace.proofs.Bodies.{AllHere, all-here}
 use Rattle.threads.specs.declared.Threads.{Threads}
-use Rattle.control.specs.Control.{finish}
+use Rattle.control.specs.Control.{firstOf}
 use Rattle.control.specs.Continuations.{linked}
 use Rattle.engine.specs.Steps.{startOf}
 use Rattle.program.specs.Sheet.{Answered}
@@ -34,9 +35,8 @@ use Rattle.replaying.specs.declared.Replayed.{Replayed}
 use Rattle.replaying.proofs.Answer.{short-space-is-refused}
 use Rattle.machine.specs.Replay.{startReplay, orRace, playFrom, play, played, replay}
 use Rattle.machine.proofs.Replay.{machine-replays}
-use Rattle.simulation.proofs.Held.{Stands}
-use Rattle.simulation.proofs.Linked.{root-stands}
-use Rattle.simulation.proofs.Ranging.{well-formed-ranged}
+use Rattle.simulation.proofs.Bodies.{allSize, AllStanding, FirstsAt, VariablesAt, ProgramStands, program-stands}
+use Rattle.simulation.proofs.Ranging.{ParametersLow, well-formed-ranged, well-formed-parameters}
 use Rattle.simulation.proofs.Holds.{Holds}
 use Rattle.simulation.proofs.Starting.{start-held}
 use Rattle.simulation.proofs.Racing.{lowest-pair-alike}
@@ -47,40 +47,45 @@ use Rattle.replay.specs.Start.{Copied, HeldAs, Held}
 
 -- ------------------------------------------------------------------ the first point
 
-module _ (p s : List ℕ) (long : length s ≡ 16384) (root : Expr) (S : Stands p finish 0 root) (T : Threads) (s′ : List ℕ) (e : startOf p s ≡ (T, s′)) where
-  held : Holds p s′ T (startReplay root)
-  held = subst (λ (x : Threads × List ℕ). Holds p (x .1) (x .0) (startReplay root)) e (start-held p s long root S)
+module _ (p s : List ℕ) (long : length s ≡ 542960) (P : Program) (A : ProgramStands p (P .procedures) (P .root)) (T : Threads) (s′ : List ℕ) (e : startOf p s ≡ (T, s′)) where
+  held : Holds p s′ T (startReplay P)
+  held = subst (λ (x : Threads × List ℕ). Holds p (x .1) (x .0) (startReplay P)) e (start-held p s long P A)
 
   pub start-count : T .count ≤ 16
   start-count = let l = held .sized .fits in let k = held .sized .count in omega (arith, l, k)
 
   pub start-plays : (text : List ℕ) {race : FirstRace} → race ≡ raceAfter p s′ (T .count) None 0 →
-      PlaysTo (play (startReplay root) (lines text)) p s′ text (record { progress = Goes; threads = T; at = 0; steps = 0; race = race })
+      PlaysTo (play (startReplay P) (lines text)) p s′ text (record { progress = Goes; threads = T; at = 0; steps = 0; race = race })
   unfolding play raceAfter
   start-plays text {race} h = record {
-    run = startReplay root;
+    run = startReplay P;
     held = held;
-    counts = start-counts root;
+    counts = start-counts P;
     in-text = omega arith;
     behind = omega arith;
-    comes-to = ap (λ (x : FirstRace). playFrom 0 x (startReplay root) (lines text)) (h ∙ ap (orRace None 0) (lowest-pair-alike p s′ T (startReplay root) held));
+    comes-to = ap (λ (x : FirstRace). playFrom 0 x (startReplay P) (lines text)) (h ∙ ap (orRace None 0) (lowest-pair-alike p s′ T (startReplay P) held));
   }
 
 -- ------------------------------------------------------------------ the columns
 
-region-copied : {s p : List ℕ} → Copied s p → (b : ℕ) (xs : List ℕ) → b + length xs ≤ 1280 → Region s b xs → Region p b xs
+-- two lists have the same numbers in front, and room for them
+record Fronts (s p : List ℕ) : Type 0 where
+  long : 2176 ≤ length p
+  same : (i : ℕ) → i < 2176 → getD p i 0 ≡ getD s i 0
+
+region-copied : {s p : List ℕ} → Fronts s p → (b : ℕ) (xs : List ℕ) → b + length xs ≤ 2176 → Region s b xs → Region p b xs
 region-copied C b xs low r = record {
   fits = let l = C .long in omega (arith, l, low);
   at = λ i h. C .same (b + i) (omega (arith, h, low)) ∙ r .at i h;
 }
 
-standing-copied : {s p : List ℕ} (e : Expr) → Copied s p → size e ≤ 256 → Standing s 0 e → Standing p 0 e
+standing-copied : {s p : List ℕ} (e : Expr) (k : ℕ) → Fronts s p → k + size e ≤ 256 → Standing s k e → Standing p k e
 unfolding codes values linesOf
-standing-copied e C few S =
+standing-copied e k C few S =
     let w = length-map (prefix e) (λ (s : Step). codeOf (s .word)) ∙ prefix-length e in
     let v = length-map (prefix e) (λ (s : Step). s .value) ∙ prefix-length e in
     let l = length-map (prefix e) (λ (s : Step). s .line) ∙ prefix-length e in
-    let n = ends-length 0 e in
+    let n = ends-length k e in
     record {
       words = region-copied C _ _ (omega (arith, w, few)) (S .words);
       numbers = region-copied C _ _ (omega (arith, v, few)) (S .numbers);
@@ -89,11 +94,79 @@ standing-copied e C few S =
       indexed = S .indexed;
     }
 
-pub root-linked : (s p p′ : List ℕ) (root : Expr) (steps : ℕ) → Copied s p → HeldAs root s steps → steps ≤ 256 → p′ ≡ linked p steps → Stands p′ finish 0 root
-root-linked s p p′ root steps C H few e =
+all-copied : {s p : List ℕ} (ps : List Procedure) (root : Expr) (k : ℕ) → Fronts s p → k + allSize ps root ≤ 256 → AllStanding s k ps root → AllStanding p k ps root
+unfolding allSize
+all-copied [] root k C few S = standing-copied root k C few S
+all-copied (b ∷ ps) root k C few (S, Ss) = (standing-copied (b .body) k C (omega (arith, few)) S, all-copied ps root (k + size (b .body)) C (omega (arith, few)) Ss)
+
+firsts-copied : {s p : List ℕ} (ps : List Procedure) (f k : ℕ) → Fronts s p → f + length ps ≤ 16 → FirstsAt s f k ps → FirstsAt p f k ps
+unfolding firstOf
+firsts-copied [] f k C h e = C .same (procFirstsAt + f) (omega (arith, h)) ∙ e
+firsts-copied (b ∷ ps) f k C h (e, es) = (C .same (procFirstsAt + f) (omega (arith, h)) ∙ e, firsts-copied ps (f + 1) (k + size (b .body)) C (omega (arith, h)) es)
+
+variables-copied : {s p : List ℕ} (ps : List Procedure) (f : ℕ) → Fronts s p → f + length ps ≤ 16 → VariablesAt s f ps → VariablesAt p f ps
+variables-copied [] f C h v = tt
+variables-copied (b ∷ ps) f C h (e, l, v) = (C .same (procVarsAt + f) (omega (arith, h)) ∙ e, l, variables-copied ps (f + 1) C (omega (arith, h)) v)
+
+held-copied : {s p : List ℕ} {P : Program} {steps procedures : ℕ} → Fronts s p → steps ≤ 256 → procedures ≤ 16 → HeldAs P s steps procedures → HeldAs P p steps procedures
+held-copied {P = P} C few procs H =
     let n = H .counted in
-    subst (λ (x : List ℕ). Stands x finish 0 root) (ap (linked p) n ∙ sym e)
-    (root-stands p root (standing-copied root C (omega (arith, n, few)) (H .standing)) (C .long) (omega (arith, n, few)) (H .ranged))
+    let m = H .listed in
+    record {
+      standing = all-copied (P .procedures) (P .root) 0 C (omega (arith, n, few)) (H .standing);
+      firsts = firsts-copied (P .procedures) 0 0 C (omega (arith, m, procs)) (H .firsts);
+      variables = variables-copied (P .procedures) 0 C (omega (arith, m, procs)) (H .variables);
+      ranged = H .ranged;
+      counted = n;
+      listed = m;
+    }
+
+pub program-linked : (s p p′ : List ℕ) (P : Program) (steps procedures : ℕ) → Copied s p → HeldAs P s steps procedures → steps ≤ 256 → procedures ≤ 16 → p′ ≡ linked p steps procedures →
+    ProgramStands p′ (P .procedures) (P .root)
+program-linked s p p′ P steps procedures C H few procs e =
+    let l = C .long in
+    let held = held-copied {p = p} {P = P} (record { long = omega (arith, l); same = C .same }) few procs H in
+    let n = H .counted in
+    let m = H .listed in
+    subst (λ (x : List ℕ). ProgramStands x (P .procedures) (P .root)) ((λ i. linked p (n i) (m i)) ∙ sym e)
+    (program-stands p (P .procedures) (P .root) (held .standing) (held .firsts) (held .variables) (held .ranged) (C .long) (omega (arith, n, few)) (omega (arith, m, procs)))
+
+-- ------------------------------------------------------------------ what a sheet's columns hold
+
+all-standing : (w : List ℕ) (count f k : ℕ) (ps : List Procedure) (root : Expr) → AllHere w count f k ps root → AllStanding w k ps root
+unfolding AllHere
+all-standing w count f k [] root H = H .body .standing
+all-standing w count f k (b ∷ ps) root (H, Hs) = (H .body .standing, all-standing w count (f + 1) (k + size (b .body)) ps root Hs)
+
+firsts-at : (w : List ℕ) (count f k : ℕ) (ps : List Procedure) (root : Expr) → AllHere w count f k ps root → FirstsAt w f k ps
+unfolding AllHere firstOf
+firsts-at w count f k [] root H = H .first
+firsts-at w count f k (b ∷ ps) root (H, Hs) = (H .first, firsts-at w count (f + 1) (k + size (b .body)) ps root Hs)
+
+variables-at : (w : List ℕ) (count f k : ℕ) (ps : List Procedure) (root : Expr) → AllHere w count f k ps root → ParametersLow ps → VariablesAt w f ps
+unfolding AllHere
+variables-at w count f k [] root H l = tt
+variables-at w count f k (b ∷ ps) root (H, Hs) (l, ls) = (H .variable, l, variables-at w count (f + 1) (k + size (b .body)) ps root Hs ls)
+
+sized : (ps : List Procedure) (root : Expr) → allSize ps root ≡ length (stepsAmong (listing ps root))
+unfolding allSize
+sized [] root = sym (root-sized root)
+sized (b ∷ ps) root = let e = sized ps root in let n = body-sized b ps root in omega (arith, e, n)
+
+program-here-of : (w : List ℕ) (P : Program) → HoldsProgram w P → {text : List ℕ} → WellFormedProgram text P → AllHere w (length (P .procedures)) 0 0 (P .procedures) (P .root)
+program-here-of w P h W =
+    all-here (length (P .procedures)) 0 0 (P .procedures) (P .root)
+    (record {
+      words = subst (λ (ss : List Step). Region w 0 (map (λ (s : Step). codeOf (s .word)) ss)) (W .stepped) (h .steps .words);
+      values = subst (λ (ss : List Step). Region w 272 (map (λ (s : Step). s .value) ss)) (W .stepped) (h .steps .values);
+      lines = subst (λ (ss : List Step). Region w 1088 (map (λ (s : Step). s .line) ss)) (W .stepped) (h .steps .lines);
+      ended = h .ends;
+      bound = h .lets;
+      procLines = h .procLines;
+      procVars = h .procVars;
+      procFirsts = h .procFirsts;
+    })
+    (W .numbering) (W .usedInside)
 
 -- ------------------------------------------------------------------ the sheet
 
@@ -108,42 +181,55 @@ module _ (text : List ℕ) (fits : length text ≤ 16384) where
     where
       by-sheet : (o : Out Program) → Answered w answer o → played o (lines trace) ≡ refused r
       by-sheet (stop x) a = ap refused (let z : Refused x ≡ Refused r = sym a ∙ e in let y : x ≡ r = cc in y)
-      by-sheet (on P) a = absurd (let z : Read (length (P .steps)) ≡ Refused r = sym (a .0) ∙ e in let y : _≡_ {A = ℕ} 0 1 = cc in omega arith)
+      by-sheet (on P) a = absurd (let z : Read (length (P .steps)) (length (P .procedures)) ≡ Refused r = sym (a .0) ∙ e in let y : _≡_ {A = ℕ} 0 1 = cc in omega arith)
 
-  -- a program that the space holds
-  pub record Sheet (w : List ℕ) (n : ℕ) : Type 0 where
+  -- a program that the front of the space holds
+  pub record Sheet (w : List ℕ) (n m : ℕ) : Type 0 where
     pub P : Program
     pub read : program text ≡ on P
     pub counted : length (P .steps) ≡ n
+    pub listed : length (P .procedures) ≡ m
     pub few : n ≤ 256
+    pub procs : m ≤ 16
     pub holds : HoldsProgram w P
 
-  pub sheet-read : (w : List ℕ) (answer : ProgramRead) (n : ℕ) → Answered w answer (program text) → answer ≡ Read n → Sheet w n
-  sheet-read w answer n a e = by-sheet (program text) refl a
+  pub sheet-read : (w : List ℕ) (answer : ProgramRead) (n m : ℕ) → Answered w answer (program text) → answer ≡ Read n m → Sheet w n m
+  sheet-read w answer n m a e = by-sheet (program text) refl a
     where
-      by-sheet : (o : Out Program) → program text ≡ o → Answered w answer o → Sheet w n
-      by-sheet (stop x) q a = absurd (let z : Refused x ≡ Read n = sym a ∙ e in let y : _≡_ {A = ℕ} 0 1 = cc in omega arith)
-      by-sheet (on P) q (r, h, l) =
-          let z : Read (length (P .steps)) ≡ Read n = sym r ∙ e in
+      by-sheet : (o : Out Program) → program text ≡ o → Answered w answer o → Sheet w n m
+      by-sheet (stop x) q a = absurd (let z : Refused x ≡ Read n m = sym a ∙ e in let y : _≡_ {A = ℕ} 0 1 = cc in omega arith)
+      by-sheet (on P) q (r, h, l, k) =
+          let z : Read (length (P .steps)) (length (P .procedures)) ≡ Read n m = sym r ∙ e in
           let y : length (P .steps) ≡ n = cc in
-          record { P = P; read = q; counted = y; few = omega (arith, y, l); holds = h }
+          let x : length (P .procedures) ≡ m = cc in
+          record { P = P; read = q; counted = y; listed = x; few = omega (arith, y, l); procs = omega (arith, x, k); holds = h }
 
-  module _ (w : List ℕ) (n : ℕ) (F : Sheet w n) where
+  module _ (w : List ℕ) (n m : ℕ) (F : Sheet w n m) where
     well-formed : WellFormedProgram text (F .P)
     unfolding programLimit
     well-formed = program-well-formed text fits (F .read)
 
-    pub sheet-held : HeldAs (F .P .root) w n
-    sheet-held = record {
-      standing = root-standing w (F .P .steps) (F .P .root) (F .holds .steps) (F .holds .ends) (well-formed .listing) (well-formed .numbering);
+    here : AllHere w (length (F .P .procedures)) 0 0 (F .P .procedures) (F .P .root)
+    here = program-here-of w (F .P) (F .holds) well-formed
+
+    work-held : HeldAs (F .P) w n m
+    work-held = record {
+      standing = all-standing w (length (F .P .procedures)) 0 0 (F .P .procedures) (F .P .root) here;
+      firsts = firsts-at w (length (F .P .procedures)) 0 0 (F .P .procedures) (F .P .root) here;
+      variables = variables-at w (length (F .P .procedures)) 0 0 (F .P .procedures) (F .P .root) here (well-formed-parameters text (F .P) well-formed);
       ranged = well-formed-ranged text (F .P) well-formed;
-      counted = sym (prefix-length (F .P .root)) ∙ ap length (well-formed .listing) ∙ F .counted;
+      counted = sized (F .P .procedures) (F .P .root) ∙ ap length (sym (well-formed .stepped)) ∙ F .counted;
+      listed = F .listed;
     }
 
-    pub sheet-holds : length w ≡ 16384 → Held w n
-    sheet-holds long = record { root = F .P .root; held = sheet-held; few = F .few; long = long }
+    -- in the space that the front is of
+    pub sheet-held : (s : List ℕ) → length s ≡ 542960 → ((i : ℕ) → i < 2176 → getD s i 0 ≡ getD w i 0) → HeldAs (F .P) s n m
+    sheet-held s long same = held-copied (record { long = omega (arith, long); same = same }) (F .few) (F .procs) work-held
 
-    pub sheet-replayed : (trace : List ℕ) {r : Replayed} → r ≡ play (startReplay (F .P .root)) (lines trace) → r ≡ replay replaySpace text trace
+    pub sheet-holds : (s : List ℕ) → length s ≡ 542960 → ((i : ℕ) → i < 2176 → getD s i 0 ≡ getD w i 0) → Held s n m
+    sheet-holds s long same = record { listed = F .P; held = sheet-held s long same; few = F .few; procs = F .procs; long = long }
+
+    pub sheet-replayed : (trace : List ℕ) {r : Replayed} → r ≡ play (startReplay (F .P)) (lines trace) → r ≡ replay replaySpace text trace
     unfolding replay played
     sheet-replayed trace e = e ∙ sym (ap (λ (o : Out Program). played o (lines trace)) (judged-read ∙ F .read))
 
@@ -154,10 +240,10 @@ long-program text trace h = rw (lt-leb (length text) 16384 h) refl
 -- ------------------------------------------------------------------ the whole
 
 -- more room changes nothing
-pub room-enough : (room : ℕ) (text trace : List ℕ) → 16384 ≤ room → replay replaySpace text trace ≡ definition.replay room text trace
+pub room-enough : (room : ℕ) (text trace : List ℕ) → 542960 ≤ room → replay replaySpace text trace ≡ definition.replay room text trace
 unfolding definition.replay judged _>>=_ demand replaySpace
-room-enough room text trace h = machine-replays 16384 text trace ∙ rw (le-leb 16384 room h) refl
+room-enough room text trace h = machine-replays 542960 text trace ∙ rw (le-leb 542960 room h) refl
 
-pub short-room : (room : ℕ) (text trace : List ℕ) → room < 16384 → refused ShortWorkspace ≡ definition.replay room text trace
+pub short-room : (room : ℕ) (text trace : List ℕ) → room < 542960 → refused ShortWorkspace ≡ definition.replay room text trace
 unfolding replaySpace
 short-room room text trace h = sym (short-space-is-refused room text trace h)

@@ -13,10 +13,9 @@ use Rattle.replaying.specs.declared.Ending.the-variants.{Done, Refused, TraceFo
 use Rattle.replaying.specs.declared.FirstRace.{FirstRace}
 use Rattle.replaying.specs.declared.FirstRace.the-variants.{None, Found}
 use Rattle.replaying.specs.declared.Numbers.{Numbers}
-use Rattle.calculus.specs.Expression.{Redex}
 use Rattle.replaying.specs.Run.{Run}
 use Rattle.replaying.specs.Replay.{lineNumbers, sheetNumbers, numbersOf}
-use Rattle.replaying.specs.Claim.{runsOf, Stops, allDone, notALine, cannotStep, tooMany, Follows, TraceFollowed}
+use Rattle.replaying.specs.Claim.{runsOf, Reduced, Stops, allDone, notALine, cannotStep, tooMany, Follows, TraceFollowed}
 use Rattle.replay.specs.Numbers.{raceTold, raceNumbers}
 
 pub no-race-told : (race : FirstRace) → race ≡ None → raceTold 18446744073709551615 4294967295 4294967295 ≡ raceNumbers race
@@ -55,7 +54,7 @@ module _ (e : Ending) (n : Numbers) where
 -- ------------------------------------------------------------------ stored numbers
 
 -- Where a trace stops, the answer's last two numbers are 0.
-stops-with-line : {r : Run} {ws : List Redex} {l : Option Line} {k : ℕ} {n : Numbers} → Stops r ws l k n → n ≡ lineNumbers (n .number) (n .line)
+stops-with-line : {rs : List Run} {ds : List Reduced} {r : Run} {l : Option Line} {k : ℕ} {n : Numbers} → Stops rs ds r l k n → n ≡ lineNumbers (n .number) (n .line)
 unfolding lineNumbers
 stops-with-line allDone = refl
 stops-with-line (notALine l q) = refl

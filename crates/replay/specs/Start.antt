@@ -3,31 +3,41 @@ use Prim.Native.Nat.{ℕ, _<_, _≤_}
 use mathlib.Core.Path.{_≡_}
 use mathlib.Core.List.{List}
 use lib.ListN.{length, getD}
-use Rattle.spec.specs.Expression.{Expr, size}
-use Rattle.workspace.proofs.Expression.{Standing}
-use Rattle.control.specs.Control.{finish}
-use Rattle.simulation.proofs.Held.{Stands}
-use Rattle.simulation.proofs.Linked.{Ranged}
+use Rattle.spec.specs.Program.{Program, program}
+use Rattle.program.specs.Sheet.{Answered}
+use Rattle.program.specs.declared.ProgramRead.{ProgramRead}
+use Rattle.simulation.proofs.Bodies.{allSize, AllStanding, AllRanged, FirstsAt, VariablesAt, ProgramStands}
+
+-- a program sheet has been read in the front of a space: what its reader leaves there, and what it answers
+pub record SheetIn (text s s′ : List ℕ) (r : ProgramRead) : Type 0 where
+  pub work : List ℕ
+  pub answer : Answered work r (program text)
+  pub front : (i : ℕ) → i < 2176 → getD s′ i 0 ≡ getD work i 0
+  pub long : length s′ ≡ length s
 
 -- the columns of a program, copied from the space
 pub record Copied (s p : List ℕ) : Type 0 where
-  pub long : length p ≡ 1536
-  pub same : (i : ℕ) → i < 1280 → getD p i 0 ≡ getD s i 0
+  pub long : length p ≡ 2449
+  pub same : (i : ℕ) → i < 2176 → getD p i 0 ≡ getD s i 0
 
 -- a linked program, and a space that is long enough
 pub record Runs (p s : List ℕ) : Type 0 where
-  pub root : Expr
-  pub stands : Stands p finish 0 root
-  pub long : length s ≡ 16384
+  pub listed : Program
+  pub stands : ProgramStands p (listed .procedures) (listed .root)
+  pub long : length s ≡ 542960
 
--- the space holds that expression, of so many steps
-pub record HeldAs (root : Expr) (s : List ℕ) (steps : ℕ) : Type 0 where
-  pub standing : Standing s 0 root
-  pub ranged : Ranged root
-  pub counted : size root ≡ steps
+-- the space holds that program, of so many steps and procedures
+pub record HeldAs (P : Program) (s : List ℕ) (steps procedures : ℕ) : Type 0 where
+  pub standing : AllStanding s 0 (P .procedures) (P .root)
+  pub firsts : FirstsAt s 0 0 (P .procedures)
+  pub variables : VariablesAt s 0 (P .procedures)
+  pub ranged : AllRanged (length (P .procedures)) (P .procedures) (P .root)
+  pub counted : allSize (P .procedures) (P .root) ≡ steps
+  pub listed : length (P .procedures) ≡ procedures
 
-pub record Held (s : List ℕ) (steps : ℕ) : Type 0 where
-  pub root : Expr
-  pub held : HeldAs root s steps
+pub record Held (s : List ℕ) (steps procedures : ℕ) : Type 0 where
+  pub listed : Program
+  pub held : HeldAs listed s steps procedures
   pub few : steps ≤ 256
-  pub long : length s ≡ 16384
+  pub procs : procedures ≤ 16
+  pub long : length s ≡ 542960

@@ -12,11 +12,11 @@ use replaying::FirstRace;
 use replaying::Replayed;
 use replaying::Report;
 use spec::Refusal;
+use start::read_program;
 use start::run_held;
 ghost use mathlib.Core.Path.{_≡_};
 ghost use Prim.Native.Nat.{_<_};
 ghost use lib.ListN.{length, drop};
-ghost use Rattle.workspace.specs.Layout.{workSize};
 ghost use Rattle.replaying.specs.Replay.{refused as refusedBy, replaySpace, replay as replayed, numbersOf};
 ghost use Rattle.replaying.specs.Claim.{TraceFollowed, RaceFound, NoneIfAccepted};
 ghost use Rattle.machine.specs.Replay.{replay as machineReplay};
@@ -31,22 +31,22 @@ fn refused(r: Refusal) -> Replayed
 }
 
 // How many 32-bit numbers a replay works in.
-pub const SPACE: usize = 16384;
+pub const SPACE: usize = 542960;
 
 // The most bytes that a program sheet may have.
 const PROGRAM_LIMIT: usize = 16384;
 
 // The replay of a pair of texts, in a space that is long enough.
 fn replay_texts(program: &[u8], trace: &[u8], space: &mut [u32]) -> Replayed
-    requires { ⌜ length (now space) ≡ workSize ⌝ }
+    requires { ⌜ length (now space) ≡ replaySpace ⌝ }
     ensures { λ r. ⌜ r ≡ machineReplay replaySpace (now (program .entry)) (now (trace .entry)) ⌝ }
 {
     if PROGRAM_LIMIT < program.len() {
         return refused(Refusal::LongProgram);
     }
-    match program::read(program, space) {
+    match read_program(program, space) {
         ProgramRead::Refused(r) => refused(r),
-        ProgramRead::Read(steps) => run_held(space, trace, steps),
+        ProgramRead::Read(steps, procedures) => run_held(space, trace, steps, procedures),
     }
 }
 

@@ -4,22 +4,24 @@ use crate::turns::Progress;
 use crate::turns::play;
 use crate::turns::race_after;
 use control::put;
+use program::ProgramRead;
 use replaying::FirstRace;
 use replaying::Replayed;
 use workspace::at;
 ghost use mathlib.Core.Path.{_≡_};
 ghost use lib.ListN.{length};
 ghost use Rattle.spec.specs.Text.{lines};
-ghost use Rattle.spec.specs.Expression.{Expr};
-ghost use Rattle.control.specs.Control.{finish};
+ghost use Prim.Native.Nat.{_≤_};
+ghost use Rattle.spec.specs.Program.{Program};
+ghost use Rattle.replaying.specs.Replay.{replaySpace};
 ghost use Rattle.machine.specs.Replay.{startReplay, play as played};
-ghost use Rattle.simulation.proofs.Held.{Stands};
-ghost use Rattle.replay.specs.Start.{Copied, Runs, HeldAs, Held};
+ghost use Rattle.simulation.proofs.Bodies.{ProgramStands};
+ghost use Rattle.replay.specs.Start.{SheetIn, Copied, Runs, HeldAs, Held};
 
 // The start of a linked program and its trace.
 fn run(columns: &[u32], space: &mut [u32], trace: &[u8]) -> Replayed
     requires { ⌜ Runs (now columns) (now space) ⌝ }
-    ensures { λ r. ⌜ ((root : Expr) → Stands (now (columns .entry)) finish 0 root → r ≡ played (startReplay root) (lines (now (trace .entry)))) ⌝ }
+    ensures { λ r. ⌜ ((P : Program) → ProgramStands (now (columns .entry)) (P .procedures) (P .root) → r ≡ played (startReplay P) (lines (now (trace .entry)))) ⌝ }
 {
     let threads = engine::start(columns, space);
     let count = threads.count as u32;
@@ -36,25 +38,34 @@ fn run(columns: &[u32], space: &mut [u32], trace: &[u8]) -> Replayed
 
 // The columns of the program that the space holds: its steps, as the reader of program sheets left them.
 fn copy_columns(columns: &mut [u32], space: &[u32])
-    requires { ⌜ length (now columns) ≡ 1536 ⌝ }
+    requires { ⌜ length (now columns) ≡ 2449 ⌝ }
     ensures { λ _. ⌜ Copied (now (space .entry)) (now (columns .exit)) ⌝ }
 {
     let mut i: usize = 0;
-    while i < 1280 {
+    while i < 2176 {
         let v = at(space, i);
         put(columns, i, v);
         i += 1;
     }
 }
 
-// The trace of the program of so many steps that the space holds.
-pub(crate) fn run_held(space: &mut [u32], trace: &[u8], steps: usize) -> Replayed
-    requires { ⌜ Held (now space) steps ⌝ }
-    ensures { λ r. ⌜ ((root : Expr) → HeldAs root (now (space .entry)) steps → r ≡ played (startReplay root) (lines (now (trace .entry)))) ⌝ }
+// Reads a program sheet in the front of the space, which has more room than its reader asks for.
+pub(crate) fn read_program(program: &[u8], space: &mut [u32]) -> ProgramRead
+    requires { ⌜ (length (now space) ≡ replaySpace) × (length (now program) ≤ 16384) ⌝ }
+    ensures { λ r. ⌜ SheetIn (now (program .entry)) (now (space .entry)) (now (space .exit)) r ⌝ }
+{
+    program::read(program, &mut space[..workspace::SIZE])
+}
+
+// The trace of the program of so many steps and procedures that the space holds.
+pub(crate) fn run_held(space: &mut [u32], trace: &[u8], steps: usize, procedures: usize) -> Replayed
+    requires { ⌜ Held (now space) steps procedures ⌝ }
+    ensures { λ r. ⌜ ((P : Program) → HeldAs P (now (space .entry)) steps procedures → r ≡ played (startReplay P) (lines (now (trace .entry)))) ⌝ }
 {
     let n = steps as u32;
-    let mut columns = [0u32; 1536];
+    let m = procedures as u32;
+    let mut columns = [0u32; 2449];
     copy_columns(&mut columns, space);
-    control::link(&mut columns, n);
+    control::link(&mut columns, n, m);
     run(&columns, space, trace)
 }

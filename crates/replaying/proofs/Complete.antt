@@ -6,18 +6,20 @@ use mathlib.Core.Logic.{_↔_}
 use mathlib.Core.Option.{Option, none, some}
 use native.Mathlib.Omega.{arith}
 use lib.ListN.{getElem?}
-use Rattle.calculus.specs.Expression.{Value, int, name, Unary, join, ref, read, lock, unlock, post, wait, hold, Redex, letRedex, ifRedex, whileRedex, spawnRedex, writeRedex, unaryRedex, makeRedex, nextWord}
+use Rattle.calculus.specs.Expression.{Value, int, name, Unary, join, ref, read, lock, unlock, post, wait, hold, call, Redex, letRedex, ifRedex, whileRedex, spawnRedex, writeRedex, unaryRedex, makeRedex, nextWord}
 use Rattle.calculus.specs.State.{Slot, unused, Thread, State, Move}
 use Rattle.calculus.specs.Reduction.{_>>=_, _>>_, ifUnused, ifIdentifier, ifEqual, valueOf, wordOf, named, unaryReduct, reduct, reduce}
 use Rattle.calculus.specs.Claim.{ThreadAt}
 use Rattle.calculus.proofs.Laws.Maps.{some-injective, none-is-not-some, bind-is-some}
 use Rattle.calculus.proofs.Laws.Questions.{equal-tells, equal-is-told, word-tells}
 use Rattle.replaying.specs.Trace.{TraceLine}
-use Rattle.replaying.specs.Run.{Run, placeOf, partChosen, lowestFinished, finishedFor, nameIn, moveOf, stepped, ofUnary}
-use Rattle.replaying.specs.Claim.{MoveOf, LowestFinished, Step, NoStepOf}
+use Rattle.replaying.specs.Paths.{nextPath}
+use Rattle.replaying.specs.Run.{Run, placeOf, partChosen, lowestFinished, finishedFor, nameIn, moveOf, ofUnary, after, stepped}
+use Rattle.replaying.specs.Claim.{MoveOf, LowestFinished, Reduced, Step, NoStepOf}
 use Rattle.replaying.proofs.Lists.{there-in-both}
-use Rattle.replaying.proofs.Proper.{Proper, Stepped, step-taken, state-after, step-reduces}
+use Rattle.replaying.proofs.Proper.{Proper, Stepped, step-taken, state-after, procedures-after, step-reduces}
 use Rattle.replaying.proofs.Order.{not-below}
+use Rattle.replaying.proofs.Bodies.{body-is-put}
 use Rattle.replaying.proofs.Records.{step-is-of-running}
 use Rattle.replaying.proofs.Joining.{FirstFinished, first-is-there, finished-has-value, value-has-finished, finished-tells, finished-is-told}
 
@@ -34,7 +36,7 @@ module _ (r : Run) (proper : Proper r) (m : Move) (t : Thread) where
   listed w = moveOf r (m .thread) w (m .part)
 
   abbrev Goes : Redex → Type 0
-  Goes w = (s : State) × (reduct (r .state) (listed w) t w ≡ some s)
+  Goes w = (s : State) × (reduct (r .procedures) (r .state) (listed w) t w ≡ some s)
 
   names-next : (w : Redex) (new : Slot) → (s : State) × (named (r .state) (listed w) t new ≡ some s)
   unfolding moveOf
@@ -51,7 +53,7 @@ module _ (r : Run) (proper : Proper r) (m : Move) (t : Thread) where
             (answered (valueOf (nextWord (L .thread .body))) _ value refl))),
       )
 
-  joins-too : (v : Value) (s : State) → unaryReduct (r .state) m t join v ≡ some s → Goes (unaryRedex join v)
+  joins-too : (v : Value) (s : State) → unaryReduct (r .procedures) (r .state) m t join v ≡ some s → Goes (unaryRedex join v)
   joins-too (int k) s q = none-is-not-some q
   joins-too (name n) s q =
       let (_, e, q₁) = bind-is-some (ifIdentifier (r .state .names n)) q in
@@ -61,7 +63,7 @@ module _ (r : Run) (proper : Proper r) (m : Move) (t : Thread) where
       joins-lowest n e
       (first-is-there n (r .state .threads) (m .finished) u there (equal-tells (u .tid) n same) (value-has-finished (nextWord (u .body)) finished))
 
-  unary-goes-too : (o : Unary) (v : Value) (s : State) → unaryReduct (r .state) m t o v ≡ some s → Goes (unaryRedex o v)
+  unary-goes-too : (o : Unary) (v : Value) (s : State) → unaryReduct (r .procedures) (r .state) m t o v ≡ some s → Goes (unaryRedex o v)
   unfolding moveOf
   unary-goes-too join v s q = joins-too v s q
   unary-goes-too ref v s q = names-next (unaryRedex ref v) _
@@ -71,8 +73,9 @@ module _ (r : Run) (proper : Proper r) (m : Move) (t : Thread) where
   unary-goes-too post v s q = (s, q)
   unary-goes-too wait v s q = (s, q)
   unary-goes-too (hold w) v s q = (s, q)
+  unary-goes-too (call f) v s q = (s, q)
 
-  goes-too : (w : Redex) (s : State) → reduct (r .state) m t w ≡ some s → Goes w
+  goes-too : (w : Redex) (s : State) → reduct (r .procedures) (r .state) m t w ≡ some s → Goes w
   unfolding moveOf
   goes-too (letRedex x v e) s q = (s, q)
   goes-too (ifRedex e₁ e₂) s q = (s, q)
@@ -82,21 +85,21 @@ module _ (r : Run) (proper : Proper r) (m : Move) (t : Thread) where
   goes-too (unaryRedex o v) s q = unary-goes-too o v s q
   goes-too (makeRedex o) s q = names-next (makeRedex o) _
 
-pub step-when-reduction : (r : Run) (l : TraceLine) (m : Move) (s : State) → Proper r → MoveOf r l m → reduce (r .state) m ≡ some s →
+pub step-when-reduction : (r : Run) (l : TraceLine) (m : Move) (s : State) → Proper r → MoveOf r l m → reduce (r .procedures) (r .state) m ≡ some s →
     (r′ : Run) × (stepped r l ≡ some r′)
 unfolding reduce stepped moveOf
 step-when-reduction r l m s proper of q =
     let (t, there, q₁) = bind-is-some (getElem? (r .state .threads) (m .thread)) q in
     let (w, next, q₂) = bind-is-some (wordOf (nextWord (t .body))) q₁ in
     let (s′, reduces) = goes-too r proper m t w s q₂ in
-    let goes : reduce (r .state) (moveOf r (m .thread) w (m .part)) ≡ some s′ =
+    let goes : reduce (r .procedures) (r .state) (moveOf r (m .thread) w (m .part)) ≡ some s′ =
     answered (getElem? (r .state .threads) (m .thread)) _ there (answered (wordOf (nextWord (t .body))) _ next reduces) in (
       _,
       answered (placeOf (l .thread) (r .numbers)) _ (of .place)
           (answered (getElem? (r .state .threads) (m .thread)) _ there
           (answered (wordOf (nextWord (t .body))) _ next
           (answered (partChosen w (l .choice)) _ (of .chosen t w there next)
-          (answered (reduce (r .state) (moveOf r (m .thread) w (m .part))) _ goes refl)))),
+          (answered (reduce (r .procedures) (r .state) (moveOf r (m .thread) w (m .part))) _ goes refl)))),
     )
 
 -- ---- A step is the language's
@@ -106,7 +109,7 @@ module _ {r r′ : Run} {l : TraceLine} (S : Stepped r l r′) where
   join-finds : (n : ℕ) → S .word ≡ unaryRedex join (name n) → FirstFinished n (r .state .threads)
   join-finds n is =
       let m = moveOf r (S .place) (S .word) (S .part) in
-      let q = subst (λ (w : Redex). reduct (r .state) m (S .thread) w ≡ some (S .state)) is (step-reduces S) in
+      let q = subst (λ (w : Redex). reduct (r .procedures) (r .state) m (S .thread) w ≡ some (S .state)) is (step-reduces S) in
       let (_, _, q₁) = bind-is-some (ifIdentifier (r .state .names n)) q in
       let (u, there, q₂) = bind-is-some (getElem? (r .state .threads) (m .finished)) q₁ in
       let (_, same, q₃) = bind-is-some (ifEqual (u .tid) n) q₂ in
@@ -138,17 +141,27 @@ module _ {r r′ : Run} {l : TraceLine} (S : Stepped r l r′) where
       let same-word : w ≡ S .word = some-injective (sym next ∙ ap (λ (u : Thread). wordOf (nextWord (u .body))) same-thread ∙ S .is-next) in
       ap (λ (x : Redex). partChosen x (l .choice)) same-word ∙ S .chosen
 
-  pub step-is-the-languages : Proper r → Step r l (S .word) (r′ .state)
-  unfolding moveOf
+  -- What the step reduces.
+  abbrev pub reduced : Reduced
+  reduced = record { thread = l .thread; path = nextPath (S .thread .body); word = S .word }
+
+  pub step-is-the-languages : Proper r → Step r l reduced r′
+  unfolding moveOf after
   step-is-the-languages proper = record {
     move = moveOf r (S .place) (S .word) (S .part);
     listed = record { place = S .there; chosen = chosen-part };
     running = step-is-of-running S;
     thread = S .thread;
     there = S .thread-there;
+    taker = refl;
     next = word-tells (nextWord (S .thread .body)) (S .is-next);
+    path = refl;
     reduces = S .reduces ∙ ap some (state-after S);
     joinsLowest = lowest-taken proper;
+    putsBody = body-is-put S;
+    sameProcedures = procedures-after S;
+    numbered = sym (ap (λ (z : Run). z .numbers) (S .is-after));
+    counted = sym (ap (λ (z : Run). z .threads) (S .is-after));
   }
 
 -- ---- No step
@@ -158,9 +171,9 @@ pub no-step-exactly : (r : Run) (l : TraceLine) → Proper r → (stepped r l �
 no-step-exactly r l proper = (there, back)
   where
     there : stepped r l ≡ none → NoStepOf r l
-    there q m of = by-cases (reduce (r .state) m) refl
+    there q m of = by-cases (reduce (r .procedures) (r .state) m) refl
       where
-        by-cases : (o : Option State) → reduce (r .state) m ≡ o → o ≡ none
+        by-cases : (o : Option State) → reduce (r .procedures) (r .state) m ≡ o → o ≡ none
         by-cases none e = refl
         by-cases (some s) e = let (r′, steps) = step-when-reduction r l m s proper of e in none-is-not-some (sym q ∙ steps)
 

@@ -1,4 +1,4 @@
--- Laws of lists: their lengths, and what holds of every element.
+-- Laws of lists: their lengths, their places, and what holds of every element.
 use Prim.Native.Nat.{ℕ, zero, suc}
 use mathlib.Core.Path.{_≡_, refl, ap, subst}
 use mathlib.Core.Option.{some}
@@ -28,6 +28,8 @@ length-remove (x ∷ xs) [] i h = absurd (omega (arith, h))
 length-remove (x ∷ xs) (y ∷ ys) zero h = omega (arith, h)
 length-remove (x ∷ xs) (y ∷ ys) (suc i) h = ap suc (length-remove xs ys i (omega (arith, h)))
 
+-- ---- Places
+
 -- Of two lists of one length, one has an element wherever the other has.
 pub there-in-both : {A B : Type 0} {y : B} (xs : List A) (ys : List B) (p : ℕ) → length xs ≡ length ys → getElem? ys p ≡ some y →
     (x : A) × (getElem? xs p ≡ some x)
@@ -35,6 +37,12 @@ there-in-both xs [] p e h = none-is-not-some h
 there-in-both [] (y ∷ ys) p e h = absurd (omega (arith, e))
 there-in-both (x ∷ xs) (y ∷ ys) zero e h = (x, refl)
 there-in-both (x ∷ xs) (y ∷ ys) (suc p) e h = there-in-both xs ys p (omega (arith, e)) h
+
+-- The element at the place that was set.
+pub set-here : {A : Type 0} {b : A} (xs : List A) (i : ℕ) (a : A) → getElem? xs i ≡ some b → getElem? (set xs i a) i ≡ some a
+set-here [] i a h = none-is-not-some h
+set-here (x ∷ xs) zero a h = refl
+set-here (x ∷ xs) (suc i) a h = set-here xs i a h
 
 -- ---- Lists whose every element has a property
 
@@ -51,6 +59,10 @@ every-set P (y ∷ xs) (suc i) x ps h = (ps .0, every-set P xs i x (ps .1) h)
 pub every-append : {A : Type 0} (P : A → Type 0) (xs : List A) (x : A) → Every P xs → P x → Every P (xs ++ (x ∷ []))
 every-append P [] x ps h = (h, tt)
 every-append P (y ∷ xs) x ps h = (ps .0, every-append P xs x (ps .1) h)
+
+pub every-to : {A : Type 0} {P Q : A → Type 0} (xs : List A) → ((x : A) → P x → Q x) → Every P xs → Every Q xs
+every-to [] f ps = tt
+every-to (x ∷ xs) f ps = (f x (ps .0), every-to xs f (ps .1))
 
 pub every-both : {A : Type 0} {P Q R : A → Type 0} (xs : List A) → ((x : A) → P x → Q x → R x) → Every P xs → Every Q xs → Every R xs
 every-both [] f ps qs = tt

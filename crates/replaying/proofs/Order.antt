@@ -10,7 +10,7 @@ use Rattle.calculus.proofs.Laws.Maps.{some-injective, none-is-not-some}
 use Rattle.replaying.specs.Run.{Run}
 use Rattle.replaying.proofs.Proper.{Rising, Proper}
 
-rising-above : (low high : ℕ) (ns : List ℕ) (p i : ℕ) → Rising low ns high → getElem? ns p ≡ some i → low ≤ i
+pub rising-above : (low high : ℕ) (ns : List ℕ) (p i : ℕ) → Rising low ns high → getElem? ns p ≡ some i → low ≤ i
 rising-above low high [] p i r h = none-is-not-some h
 rising-above low high (n ∷ ns) zero i r h = let first = r .0 in let same = some-injective h in omega (arith, first, same)
 rising-above low high (n ∷ ns) (suc p) i r h = let first = r .0 in let above = rising-above (suc n) high ns p i (r .1) h in omega (arith, first, above)

@@ -6,7 +6,7 @@ use mathlib.Core.Bool.{Bool, true, false, _||_}
 use mathlib.Core.Option.{Option, none, some}
 use borrow.Author.Tests.{eqb-true, eq-eqb}
 use Rattle.spec.proofs.Clashes.{true-is-not-false}
-use Rattle.calculus.specs.Expression.{Value, int, name, Unary, join, ref, read, lock, unlock, post, wait, hold, Redex, letRedex, ifRedex, whileRedex, spawnRedex, writeRedex, unaryRedex, makeRedex, atWord, nextWord}
+use Rattle.calculus.specs.Expression.{Value, int, name, Unary, join, ref, read, lock, unlock, post, wait, hold, call, Redex, letRedex, ifRedex, whileRedex, spawnRedex, writeRedex, unaryRedex, makeRedex, atWord, nextWord}
 use Rattle.calculus.specs.State.{Slot, unused, identifier, cell, aLock, semaphore, rwlock, Thread, State}
 use Rattle.calculus.specs.Reduction.{_>>=_, nameOf, content, wordOf}
 use Rattle.calculus.specs.Claim.{ThreadAt, AboutToRead, aboutToRead, AboutToWrite, aboutToWrite, Race, race}
@@ -32,6 +32,7 @@ unary-reads-tells unlock v n h = none-is-not-some h
 unary-reads-tells post v n h = none-is-not-some h
 unary-reads-tells wait v n h = none-is-not-some h
 unary-reads-tells (hold w) v n h = none-is-not-some h
+unary-reads-tells (call f) v n h = none-is-not-some h
 
 reads-tells : (w : Redex) (n : ℕ) → reads w ≡ some n → w ≡ unaryRedex read (name n)
 unfolding reads ofUnary

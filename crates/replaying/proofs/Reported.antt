@@ -10,11 +10,11 @@ use Rattle.spec.specs.Reading.{Out, stop, on}
 use Rattle.spec.specs.Program.{Program}
 use Rattle.spec.proofs.Outcomes.{on-injective}
 use Rattle.spec.proofs.WellFormed.{well-formed-program}
-use Rattle.calculus.specs.Expression.{Exp}
+use Rattle.calculus.specs.Expression.{Program as Job}
 use Rattle.calculus.specs.State.{State}
 use Rattle.calculus.specs.Reduction.{states, startState}
 use Rattle.calculus.specs.Claim.{Every, RaceFree, HaltsWell, Safe}
-use Rattle.soundness.specs.Erasure.{erase}
+use Rattle.soundness.specs.Erasure.{eraseProgram}
 use Rattle.soundness.specs.SafeText.{SafeText}
 use Rattle.soundness.proofs.Safety.{accepted-is-safe}
 use Rattle.replaying.specs.Run.{Run, startRun}
@@ -27,7 +27,7 @@ use Rattle.replaying.proofs.Lists.{every-at, every-both}
 use Rattle.replaying.specs.declared.Replayed.{Replayed}
 use Rattle.replaying.proofs.Proper.{Proper, start-is-proper}
 use Rattle.replaying.proofs.Pairs.{racing-is-race, race-free-has-no-pair, no-pair-is-race-free, pair-is-lowest}
-use Rattle.replaying.proofs.Way.{OnTheWay, way-is-proper, way-is-in-runs, race-is-first, no-race-is-none, none-is-no-race}
+use Rattle.replaying.proofs.Way.{FromHere, way-is-proper, way-is-in-runs, race-is-first, no-race-is-none, none-is-no-race}
 use Rattle.replaying.proofs.Followed.{replay-follows}
 use Rattle.replaying.proofs.Answer.{judged-well-formed}
 
@@ -70,7 +70,7 @@ module _ (r : Run) (proper : Proper r) (ls : List Line) where
 
 module _ (room : ℕ) (programText traceText : List ℕ) (P : Program) (read : judged room programText ≡ on P) where
   abbrev start : Run
-  start = startRun (erase (P .root))
+  start = startRun (eraseProgram P)
 
   played-as : replay room programText traceText ≡ reported start (way 1 start (lines traceText))
   unfolding replay played
@@ -81,12 +81,12 @@ module _ (room : ℕ) (programText traceText : List ℕ) (P : Program) (read : j
   unfolding reported
   follows =
       subst (λ (a : Replayed). Follows (runsOf P traceText) (lines traceText) (a .report .steps) (numbersOf (a .ending))) (sym played-as)
-      (replay-follows (erase (P .root)) (lines traceText))
+      (replay-follows (eraseProgram P) (lines traceText))
 
   race-is-first-of-all : RaceTold (runsOf P traceText) (replay room programText traceText .report .race)
   race-is-first-of-all =
       subst (λ (a : Replayed). RaceTold (runsOf P traceText) (a .report .race)) (sym played-as)
-      (reported-race-is-told start (start-is-proper (erase (P .root))) (lines traceText))
+      (reported-race-is-told start (start-is-proper (eraseProgram P)) (lines traceText))
 
 -- A replay does the language's steps and stops for what the next line is, and its race is the first.
 module _ (room : ℕ) (programText traceText : List ℕ) where
@@ -98,31 +98,32 @@ module _ (room : ℕ) (programText traceText : List ℕ) where
   race-is-found = race-is-first-of-all room programText traceText
 
 -- The start has one thread, so no race is ever found in state 0.
-pub start-has-no-pair : (e : Exp) → lowestPair (startRun e) ≡ none
+pub start-has-no-pair : (p : Job) → lowestPair (startRun p) ≡ none
 unfolding lowestPair startRun startState usesIn lowestAmong clashing pairOr
-start-has-no-pair e = refl
+start-has-no-pair p = refl
 
 -- ---- "For an accepted job it never reports a race"
 
-race-free-states : (e : Exp) → Safe e → OnTheWay RaceFree (startState e)
-race-free-states e safe ms = each (states ms (startState e)) (safe ms)
+race-free-states : (p : Job) → Safe p → FromHere RaceFree (startRun p)
+unfolding startRun
+race-free-states p safe ms = each (states (p .procedures) ms (startState p)) (safe ms)
   where
-    each : (ss : List State) → Every (λ s. RaceFree s × HaltsWell s) ss → Every RaceFree ss
+    each : (ss : List State) → Every (λ s. RaceFree s × HaltsWell (p .procedures) s) ss → Every RaceFree ss
     each [] h = tt
     each (s ∷ ss) h = (h .0 .0, each ss (h .1))
 
-pub safe-replay-has-no-race : (e : Exp) → Safe e → (ls : List Line) → reported (startRun e) (way 1 (startRun e) ls) .report .race ≡ None
-unfolding reported startRun states
-safe-replay-has-no-race e safe ls =
-    none-is-no-race (runsAlong (startRun e) ls) 0 (
-      no-pair (startRun e) (race-free-states e safe),
-      each (way 1 (startRun e) ls .0) (way-is-in-runs RaceFree ls 1 (startRun e) (race-free-states e safe)),
+pub safe-replay-has-no-race : (p : Job) → Safe p → (ls : List Line) → reported (startRun p) (way 1 (startRun p) ls) .report .race ≡ None
+unfolding reported states
+safe-replay-has-no-race p safe ls =
+    none-is-no-race (runsAlong (startRun p) ls) 0 (
+      no-pair (startRun p) (race-free-states p safe),
+      each (way 1 (startRun p) ls .0) (way-is-in-runs RaceFree ls 1 (startRun p) (race-free-states p safe)),
     )
   where
-    no-pair : (r : Run) → OnTheWay RaceFree (r .state) → lowestPair r ≡ none
+    no-pair : (r : Run) → FromHere RaceFree r → lowestPair r ≡ none
     no-pair r h = race-free-has-no-pair r (h [] .0)
 
-    each : (rs : List Run) → Every (λ r. OnTheWay RaceFree (r .state)) rs → Every (λ r. lowestPair r ≡ none) rs
+    each : (rs : List Run) → Every (FromHere RaceFree) rs → Every (λ r. lowestPair r ≡ none) rs
     each [] h = tt
     each (r ∷ rs) h = (no-pair r (h .0), each rs (h .1))
 
@@ -136,7 +137,7 @@ safe-text-has-no-race programText safe room traceText = by-cases (judged room pr
     by-cases (on P) q =
         let same : P ≡ safe .P =
         on-injective (sym (well-formed-program programText (judged-well-formed room programText q)) ∙ well-formed-program programText (safe .program)) in
-        safe-replay-has-no-race (erase (P .root)) (subst (λ (Q : Program). Safe (erase (Q .root))) (sym same) (safe .holds)) (lines traceText)
+        safe-replay-has-no-race (eraseProgram P) (subst (λ (Q : Program). Safe (eraseProgram Q)) (sym same) (safe .holds)) (lines traceText)
 
 pub none-if-accepted : (room : ℕ) (programText traceText : List ℕ) → NoneIfAccepted programText (replay room programText traceText .report .race)
 none-if-accepted room programText traceText space splitText h =

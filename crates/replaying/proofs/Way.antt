@@ -8,6 +8,7 @@ use native.Mathlib.Omega.{arith}
 use lib.ListN.{getElem?}
 use Rattle.spec.specs.Choice.{if_then_else_}
 use Rattle.spec.specs.Text.{Line}
+use Rattle.calculus.specs.Expression.{Procedure}
 use Rattle.calculus.specs.State.{State, Move}
 use Rattle.calculus.specs.Reduction.{orElse, attempt, states}
 use Rattle.calculus.specs.Claim.{Every}
@@ -19,7 +20,7 @@ use Rattle.replaying.specs.Replay.{pastLimit, step, limited, onLine, goe
 use Rattle.replaying.specs.declared.Ending.{Ending}
 use Rattle.replaying.specs.declared.Ending.the-variants.{TraceForm, NoStep, PastLimit}
 use Rattle.replaying.specs.declared.FirstRace.the-variants.{None, Found}
-use Rattle.replaying.proofs.Proper.{Proper, step-taken, state-after, step-keeps-proper}
+use Rattle.replaying.proofs.Proper.{Proper, step-taken, state-after, procedures-after, step-keeps-proper}
 
 -- ---- A line
 
@@ -67,23 +68,28 @@ way-is-proper ls k r proper = every-on-the-way Proper step-keeps-proper ls k r p
 
 -- ---- Every run on the way is one of the calculus
 
--- P holds in every state on the way from s, along every list of moves.
-abbrev pub OnTheWay : (State → Type 0) → State → Type 0
-OnTheWay P s = (ms : List Move) → Every P (states ms s)
+-- Q holds in every state on the way from s, along every list of moves, with the procedures ps.
+abbrev pub OnTheWay : (State → Type 0) → List Procedure → State → Type 0
+OnTheWay Q ps s = (ms : List Move) → Every Q (states ps ms s)
 
-step-is-attempt : (r r′ : Run) (l : TraceLine) → stepped r l ≡ some r′ → (m : Move) × (attempt (r .state) m ≡ r′ .state)
+-- So it does from the state of a run on.
+abbrev pub FromHere : (State → Type 0) → Run → Type 0
+FromHere Q r = OnTheWay Q (r .procedures) (r .state)
+
+step-is-attempt : (r r′ : Run) (l : TraceLine) → stepped r l ≡ some r′ → (m : Move) × (attempt (r .procedures) (r .state) m ≡ r′ .state)
 unfolding attempt
 step-is-attempt r r′ l q =
     let S = step-taken r r′ l q in (moveOf r (S .place) (S .word) (S .part), ap (λ (o : Option State). orElse o (r .state)) (S .reduces) ∙ state-after S)
 
-on-the-way-keeps : (P : State → Type 0) (r r′ : Run) (l : TraceLine) → OnTheWay P (r .state) → stepped r l ≡ some r′ → OnTheWay P (r′ .state)
+on-the-way-keeps : (Q : State → Type 0) (r r′ : Run) (l : TraceLine) → FromHere Q r → stepped r l ≡ some r′ → FromHere Q r′
 unfolding states
-on-the-way-keeps P r r′ l h q ms =
+on-the-way-keeps Q r r′ l h q =
     let (m, e) = step-is-attempt r r′ l q in
-    subst (λ (s : State). Every P (states ms s)) e (h (m ∷ ms) .1)
+    subst (λ (ps : List Procedure). OnTheWay Q ps (r′ .state)) (sym (procedures-after (step-taken r r′ l q)))
+    (λ ms. subst (λ (s : State). Every Q (states (r .procedures) ms s)) e (h (m ∷ ms) .1))
 
-pub way-is-in-runs : (P : State → Type 0) (ls : List Line) (k : ℕ) (r : Run) → OnTheWay P (r .state) → Every (λ r′. OnTheWay P (r′ .state)) (way k r ls .0)
-way-is-in-runs P ls k r h = every-on-the-way (λ r′. OnTheWay P (r′ .state)) (on-the-way-keeps P) ls k r h
+pub way-is-in-runs : (Q : State → Type 0) (ls : List Line) (k : ℕ) (r : Run) → FromHere Q r → Every (FromHere Q) (way k r ls .0)
+way-is-in-runs Q ls k r h = every-on-the-way (FromHere Q) (on-the-way-keeps Q) ls k r h
 
 -- ---- The first race
 

@@ -9,7 +9,7 @@ use Rattle.spec.specs.Reading.{Out, stop, on}
 use Rattle.spec.specs.Program.{Program}
 use Rattle.spec.specs.KnownPairs.{barred, P}
 use Rattle.spec.specs.EdgeSheets.{times}
-use Rattle.soundness.specs.Erasure.{erase}
+use Rattle.soundness.specs.Erasure.{eraseProgram}
 use Rattle.replaying.specs.Run.{Run, startRun, recordOf}
 use Rattle.replaying.specs.Replay.{way, replaySpace, judged, replay, lineNumbers, numbersOf}
 use Rattle.replaying.specs.declared.Status.{Status}
@@ -173,6 +173,71 @@ kindRows =
     ∷ (twoKinds along times 387 "0,0|" is lineNumbers 48 387 after 386 and None)
     ∷ []
 
+-- ------------------------------------------------------------------ calls
+
+-- a procedure that calls itself in tail place, without end
+unfoldable pub endless : String
+endless = "P2,4,1|proc,0|call,0|var,0|call,0|int,0|"
+
+-- one that calls itself or ends with 7, and a job that goes on after it, in a `let` or in the second part of a `write`: two steps a call
+unfoldable pub ending : (steps : String) → (job : String) → String
+ending n job = "P2," ++ n ++ ",1|proc,0|if,0|call,0|var,0|int,7|" ++ job
+
+unfoldable pub opening : String
+opening = times 63 "0,0|0,0|" ++ "0,0|"
+
+-- one that calls another before it calls itself, and does what that is
+unfoldable pub before : (other : String) → String
+before other = "P2,8,2|proc,0|let,1|call,1|var,0|call,0|var,0|proc,2|" ++ other ++ "|call,0|int,0|"
+
+-- one that spawns a thread which calls it
+unfoldable pub spawned : String
+spawned = "P2,9,1|proc,0|if,0|call,0|var,0|spawn,0|newtid,0|call,0|var,0|call,0|int,0|"
+
+-- one that locks its argument after a call of itself with 5
+unfoldable pub inner : String
+inner = "P2,11,1|proc,0|let,1|var,0|if,0|let,2|call,0|int,5|lock,0|var,1|int,7|call,0|newlock,0|"
+
+-- two threads that write one cell, each in a call of its own
+unfoldable pub twoWriters : String
+twoWriters = "P2,13,1|proc,0|write,0|var,0|int,1|let,1|ref,0|int,0|let,2|spawn,0|newtid,0|call,0|var,1|call,0|var,1|"
+
+-- 64 calls may be open in one thread, and all that end with a value close at once
+unfoldable pub openRows : List Recorded
+openRows =
+    (endless along times 64 "0,0|" is whole after 64 and None)
+    ∷ (endless along times 70 "0,0|" is lineNumbers 48 65 after 64 and None)
+    ∷ (endless along (times 64 "0,0|" ++ "0,1|") is lineNumbers 47 65 after 64 and None)
+    ∷ (ending "6" "call,0|int,0|" along (opening ++ "0,1|") is whole after 128 and None)
+    ∷ (ending "6" "call,0|int,0|" along (opening ++ "0,1|0,0|") is lineNumbers 47 129 after 128 and None)
+    ∷ (ending "6" "call,0|int,0|" along (opening ++ "0,0|0,0|") is lineNumbers 48 129 after 128 and None)
+    ∷ []
+
+-- after them 64 more may be
+unfoldable pub againRows : List Recorded
+againRows =
+    (ending "9" "let,1|call,0|int,0|call,0|int,0|" along (opening ++ "0,1|0,0|" ++ opening ++ "0,0|0,0|") is lineNumbers 48 258 after 257 and None)
+    ∷ (ending "9" "write,0|call,0|int,0|call,0|int,0|" along (opening ++ "0,1|" ++ opening ++ "0,0|0,0|") is lineNumbers 48 257 after 256 and None)
+    ∷ (spawned along (opening ++ "0,1|0,0|0,0|" ++ times 64 "1,0|1,0|" ++ "1,0|") is lineNumbers 48 259 after 258 and None)
+    ∷ []
+
+-- a body that is a value at once is never open; a body that is not is open before its first step
+unfoldable pub atOnceRows : List Recorded
+atOnceRows =
+    (before "int,7" along (times 64 "0,0|0,0|0,0|" ++ "0,0|") is lineNumbers 48 193 after 192 and None)
+    ∷ (before "newtid,0" along times 255 "0,0|" is lineNumbers 48 254 after 253 and None)
+    ∷ (inner along (times 6 "0,0|" ++ "0,1|0,0|0,0|") is whole after 9 and None)
+    ∷ (inner along (times 6 "0,0|" ++ "0,1|0,0|0,0|0,0|") is lineNumbers 47 10 after 9 and None)
+    ∷ ("P2,2,0|call,0|int,0|" along "0,0|" is lineNumbers 49 2 after 0 and None)
+    ∷ []
+
+-- bodies race as other expressions do: nobody is at the write before its call is taken
+unfoldable pub calledRows : List Recorded
+calledRows =
+    (twoWriters along times 6 "0,0|" is whole after 6 and None)
+    ∷ (twoWriters along (times 6 "0,0|" ++ "1,0|") is whole after 7 and Found 7 0 1)
+    ∷ []
+
 -- ------------------------------------------------------------------ joins
 
 -- two finished threads with one identifier
@@ -181,7 +246,7 @@ twoFinished = "P,12|let,0|newtid,0|let,1|spawn,0|var,0|int,0|let,2|spawn,0|var,0
 
 unfoldable pub stepsFrom : Out Program → List Line → List Run
 stepsFrom (stop r) ls = []
-stepsFrom (on P) ls = way 1 (startRun (erase (P .root))) ls .0
+stepsFrom (on P) ls = way 1 (startRun (eraseProgram P)) ls .0
 
 -- the records of threads 0 to 3 in the last state of a replay
 unfoldable pub lastRecords : List Run → List (Option Status)

@@ -5,7 +5,7 @@ use mathlib.Core.List.{List, [], _∷_}
 use mathlib.Core.Option.{Option, none, some}
 use lib.Dec.{eqb}
 use Rattle.spec.specs.Choice.{if_then_else_}
-use Rattle.calculus.specs.Expression.{Value, Unary, join, ref, read, lock, unlock, post, wait, hold, Redex, letRedex, ifRedex, whileRedex, spawnRedex, writeRedex, unaryRedex, makeRedex, nextWord}
+use Rattle.calculus.specs.Expression.{Value, Unary, join, ref, read, lock, unlock, post, wait, hold, call, Redex, letRedex, ifRedex, whileRedex, spawnRedex, writeRedex, unaryRedex, makeRedex, nextWord}
 use Rattle.calculus.specs.State.{Slot, Thread}
 use Rattle.calculus.specs.Reduction.{_>>=_, _>>_, nameOf, content, wordOf}
 use Rattle.replaying.specs.Run.{Run, ofUnary}
@@ -20,6 +20,7 @@ unaryReads unlock v = none
 unaryReads post v = none
 unaryReads wait v = none
 unaryReads (hold w) v = none
+unaryReads (call f) v = none
 
 unfoldable pub reads : Redex → Option ℕ
 reads w = ofUnary unaryReads w

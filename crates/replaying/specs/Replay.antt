@@ -1,4 +1,4 @@
--- The answer of a replay, and its report, in the order 1; 10 to 15 and 45; then line by line 46, 47, 48.
+-- The answer of a replay, and its report, in the order 1; 10 to 15, 45 and 49; then line by line 46, 47, 48.
 use Prim.Native.Nat.{ℕ, _+_}
 use mathlib.Core.Bool.{Bool}
 use mathlib.Core.List.{List, [], _∷_}
@@ -14,7 +14,7 @@ use Rattle.spec.specs.declared.Refusal.{Refusal}
 use Rattle.spec.specs.declared.Refusal.the-variants.{ShortWorkspace, LongProgram}
 use Rattle.spec.specs.declared.Answer.the-variants.{Refuse}
 use Rattle.spec.specs.declared.Returned.{Returned}
-use Rattle.soundness.specs.Erasure.{erase}
+use Rattle.soundness.specs.Erasure.{eraseProgram}
 use Rattle.replaying.specs.Trace.{TraceLine, traceLine}
 use Rattle.replaying.specs.Run.{Run, startRun, stepped, within}
 use Rattle.replaying.specs.LowestPair.{lowestPair}
@@ -75,7 +75,7 @@ refused r = record { ending = Refused r; report = record { steps = 0; race = Non
 
 -- "The space lent to it has a size written in docs/": so many 32-bit numbers
 unfoldable pub replaySpace : ℕ
-replaySpace = 16384
+replaySpace = 542960
 
 -- "less is 1, before all else"; "The replay first judges the program sheet"
 unfoldable pub judged : (room : ℕ) → (programText : List ℕ) → Out Program
@@ -86,7 +86,7 @@ judged room programText = do
 
 unfoldable pub played : Out Program → List Line → Replayed
 played (stop r) ls = refused r
-played (on P) ls = let start = startRun (erase (P .root)) in reported start (way 1 start ls)
+played (on P) ls = let start = startRun (eraseProgram P) in reported start (way 1 start ls)
 
 -- the replay of a program and a trace, with a space of `room` numbers
 unfoldable pub replay : (room : ℕ) → (programText traceText : List ℕ) → Replayed

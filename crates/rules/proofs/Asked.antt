@@ -1,4 +1,4 @@
--- What counts of a step when only its types are asked for: since a row has its conditions on types in front, the first false
+-- What counts of a step or a `proc` line when only its types are asked for: since a row has its conditions on types in front, the first false
 -- condition of the row is on types, or no condition on types is false.
 use mathlib.Core.Path.{_≡_, refl, ap}
 use mathlib.Core.Bool.{true, false}
@@ -6,24 +6,20 @@ use mathlib.Core.List.{List, [], _∷_, _++_}
 use mathlib.Core.Option.{none, some}
 use Prim.Native.Nat.{ℕ, _+_}
 use Rattle.spec.specs.Reading.{on, _>>=_}
-use Rattle.spec.specs.Expression.{Expr, leaf, unary, binary}
-use Rattle.spec.specs.Split.{Map, Split}
-use Rattle.spec.specs.Conditions.{Condition, T, F, A, Env, conditionsOf}
+use Rattle.spec.specs.Expression.{Expr, leaf, unary, binary, Procedure}
+use Rattle.spec.specs.Split.{Map, Signature, Split}
+use Rattle.spec.specs.Conditions.{Condition, T, F, A, Env, conditionsOf, procedureConditions}
 use Rattle.spec.specs.Sites.{Claim, numbered, judge, firstFalse, isType, only}
 use Rattle.spec.specs.Verdict.{four, returned}
 use Rattle.spec.specs.declared.Purpose.{Purpose}
 use Rattle.spec.specs.declared.Purpose.the-variants.{Check, Fill}
 use Rattle.spec.specs.declared.LeafWord.the-variants.{Var, Int, Newtid, Newlock, Newsem, Newrwlock}
-use Rattle.spec.specs.declared.UnaryWord.the-variants.{While, Join, Ref, Read, Lock, Unlock, Post, Wait, Rdlock, Rdunlock, Wrlock, Wrunlock}
+use Rattle.spec.specs.declared.UnaryWord.the-variants.{While, Join, Ref, Read, Lock, Unlock, Post, Wait, Rdlock, Rdunlock, Wrlock, Wrunlock, Call}
 use Rattle.spec.specs.declared.BinaryWord.the-variants.{Let, If, Spawn, Write}
 use Rattle.spec.proofs.Claims.{only-append}
 use Rattle.conditions.specs.Outcome.{firstFalseFrom}
 use Rattle.rules.specs.Walk.{onTypes, counted}
-
--- the claims that are asked for
-unfoldable pub asked : Purpose → List Claim → List Claim
-asked Check cs = cs
-asked Fill cs = only isType cs
+use Rattle.rules.specs.Contract.{asked}
 
 pub asked-append : (purpose : Purpose) (xs ys : List Claim) → asked purpose (xs ++ ys) ≡ asked purpose xs ++ asked purpose ys
 unfolding asked
@@ -75,6 +71,7 @@ row-types-first S Γ pre (unary Rdlock k v e₁) = tt
 row-types-first S Γ pre (unary Rdunlock k v e₁) = tt
 row-types-first S Γ pre (unary Wrlock k v e₁) = tt
 row-types-first S Γ pre (unary Wrunlock k v e₁) = tt
+row-types-first S Γ pre (unary Call k v e₁) = tt
 
 -- ------------------------------------------------------------------ outcomes
 
@@ -107,8 +104,17 @@ module _ (line : ℕ) where
   types-counted i (A false p ∷ cs) h = rw (no-types-asked (i + 1) cs h)
 
   -- what counts of a row is its first false claim of those that are asked for
+  first-counted : (purpose : Purpose) (cs : List Condition) → TypesFirst cs
+      → counted purpose (firstFalseFrom line 1 cs) ≡ firstFalse (asked purpose (numbered line 1 cs))
+  unfolding counted asked firstFalseFrom
+  first-counted Check cs h = refl
+  first-counted Fill cs h = types-counted 1 cs h
+
   pub row-counted : (purpose : Purpose) (S : Split) (Γ : Env) (pre : Map) (e : Expr)
       → counted purpose (firstFalseFrom line 1 (conditionsOf S Γ pre e)) ≡ firstFalse (asked purpose (numbered line 1 (conditionsOf S Γ pre e)))
-  unfolding counted asked firstFalseFrom
-  row-counted Check S Γ pre e = refl
-  row-counted Fill S Γ pre e = types-counted 1 (conditionsOf S Γ pre e) (row-types-first S Γ pre e)
+  row-counted purpose S Γ pre e = first-counted purpose (conditionsOf S Γ pre e) (row-types-first S Γ pre e)
+
+  pub procedure-counted : (purpose : Purpose) (S : Split) (g : Signature) (p : Procedure)
+      → counted purpose (firstFalseFrom line 1 (procedureConditions S g p)) ≡ firstFalse (asked purpose (numbered line 1 (procedureConditions S g p)))
+  unfolding procedureConditions TypesFirst NoTypes
+  procedure-counted purpose S g p = first-counted purpose (procedureConditions S g p) tt

@@ -8,7 +8,8 @@ use Rattle.spec.specs.declared.Purpose.{Purpose}
 use Rattle.spec.proofs.Claims.{claims-append as sites-append}
 use Rattle.conditions.specs.Outcome.{both}
 use Rattle.conditions.proofs.FirstFalse.{both-met, both-assoc}
-use Rattle.rules.proofs.Asked.{asked, asked-append, asked-none}
+use Rattle.rules.specs.Contract.{asked}
+use Rattle.rules.proofs.Asked.{asked-append, asked-none}
 
 first-append : (xs ys : List Claim) → firstFalse (xs ++ ys) ≡ both (firstFalse xs) (firstFalse ys)
 unfolding firstFalse both _>>=_
@@ -21,10 +22,10 @@ module _ (purpose : Purpose) where
   abbrev pub firstAsked : List Claim → Out (Unit {0})
   firstAsked cs = firstFalse (asked purpose cs)
 
-  asked-parts : (xs ys : List Claim) → firstAsked (xs ++ ys) ≡ both (firstAsked xs) (firstAsked ys)
+  pub asked-parts : (xs ys : List Claim) → firstAsked (xs ++ ys) ≡ both (firstAsked xs) (firstAsked ys)
   asked-parts xs ys = ap firstFalse (asked-append purpose xs ys) ∙ first-append (asked purpose xs) (asked purpose ys)
 
-  none-asked : firstAsked [] ≡ on tt
+  pub none-asked : firstAsked [] ≡ on tt
   unfolding firstFalse
   none-asked = ap firstFalse (asked-none purpose)
 

@@ -6,3 +6,4 @@ pub mod Scopes
 pub mod Views
 pub mod OneStep
 pub mod Transfer
+pub mod Procedures

@@ -8,12 +8,12 @@ use Rattle.spec.proofs.Refusal as refusal
 use Rattle.spec.specs.Reading.{stop, on}
 use Rattle.spec.specs.Verdict.{four, returned}
 use Rattle.spec.specs.declared.Refusal.{Refusal}
-use Rattle.spec.specs.declared.Refusal.the-variants.{ShortWorkspace, LongProgram, ProgramForm, ProgramRange, ProgramLines, Unbound, Rebound, LongSplit, SplitForm, SplitRange, SplitLines, NoStart, OverOne, TypeFalse, FlowFalse, AccessFalse, NoAfterMaps, TooLarge, TooManyMaps, LockTakesLess, Freelock}
+use Rattle.spec.specs.declared.Refusal.the-variants.{ShortWorkspace, LongProgram, ProgramForm, ProgramRange, ProgramLines, Unbound, Rebound, LongSplit, SplitForm, SplitRange, SplitLines, NoStart, OverOne, TypeFalse, FlowFalse, AccessFalse, NoAfterMaps, TooLarge, TooManyMaps, LockTakesLess, Freelock, NoProcedure, NoKept}
 use Rattle.rules.specs.Walk.{onTypes}
 
 -- the places of the refusals that are not `TypeFalse`
 abbrev others : List ℕ
-others = 0 ∷ 1 ∷ 2 ∷ 3 ∷ 4 ∷ 5 ∷ 6 ∷ 7 ∷ 8 ∷ 9 ∷ 10 ∷ 11 ∷ 12 ∷ 14 ∷ 15 ∷ 16 ∷ 17 ∷ 18 ∷ 19 ∷ 20 ∷ []
+others = 0 ∷ 1 ∷ 2 ∷ 3 ∷ 4 ∷ 5 ∷ 6 ∷ 7 ∷ 8 ∷ 9 ∷ 10 ∷ 11 ∷ 12 ∷ 14 ∷ 15 ∷ 16 ∷ 17 ∷ 18 ∷ 19 ∷ 20 ∷ 21 ∷ 22 ∷ []
 
 pub not-on-types : (r : Refusal) → OneOf others (tagOf refusal.the-type r) → onTypes (stop r) ≡ on tt
 unfolding onTypes returned four
@@ -38,3 +38,5 @@ not-on-types TooLarge h = refl
 not-on-types TooManyMaps h = refl
 not-on-types (LockTakesLess k) h = refl
 not-on-types (Freelock k) h = refl
+not-on-types (NoProcedure k) h = refl
+not-on-types (NoKept k) h = refl

@@ -1,48 +1,38 @@
--- The walk over the work space gives what document 01 says of the sheets that it holds. The proof goes by the expression: an
+-- The walk over an expression in the work space gives what document 01 says of it. The proof goes by the expression: an
 -- expression at index k is walked through, and what is left is the walk from its end on, over a work space in which only
 -- maps before its own steps are changed.
-use mathlib.Core.Path.{_≡_, refl, sym, ap, _∙_}
+use mathlib.Core.Path.{_≡_, sym, ap, _∙_}
 use mathlib.Core.Logic.{inr}
-use mathlib.Core.List.{List, []}
+use mathlib.Core.List.{List}
 use Prim.Native.Nat.{ℕ, suc, _+_, _<_, _≤_}
 use native.Mathlib.Omega.{arith}
-use lib.ListN.{length, getD}
-use lib.Seq.{getD-set-same}
-use Rattle.spec.specs.Reading.{Out, _>>=_}
-use Rattle.spec.specs.Expression.{Step, Position, Expr, leaf, unary, binary, size, indexOf, lineOf}
+use lib.ListN.{length}
+use Rattle.spec.specs.Reading.{Out}
+use Rattle.spec.specs.Expression.{Position, Expr, leaf, unary, binary, size, indexOf}
 use Rattle.spec.specs.Program.{Program}
 use Rattle.spec.specs.Split.{Map, Row, Split}
-use Rattle.spec.specs.Conditions.{Env, startMap, type, post, bodyStart}
+use Rattle.spec.specs.Conditions.{Env, type, post, bodyStart}
 use Rattle.spec.specs.Words.{role, binding, preOfPart, preOfSecond}
 use Rattle.spec.specs.Sites.{sites, claims}
-use Rattle.spec.specs.Verdict.{locksTakeEnough, refuseOver, startAtMostOne, ruled, typed}
 use Rattle.spec.specs.Ranges.{InRange}
 use Rattle.spec.specs.declared.MapNumber.{MapNumber}
 use Rattle.spec.specs.declared.Purpose.{Purpose}
-use Rattle.spec.specs.declared.Purpose.the-variants.{Check, Fill}
 use Rattle.spec.specs.declared.Word.the-variants.{Binary}
 use Rattle.spec.specs.declared.UnaryWord.{UnaryWord}
 use Rattle.spec.specs.declared.BinaryWord.{BinaryWord}
 use Rattle.spec.proofs.Listing.{size-positive}
-use Rattle.workspace.specs.Layout.{linesAt, presAt, workSize}
+use Rattle.workspace.specs.Layout.{presAt}
 use Rattle.workspace.specs.Region.{ChangedWithin}
 use Rattle.workspace.specs.Holds.{HoldsSplit}
-use Rattle.workspace.specs.Sheets.{HoldsSheets}
-use Rattle.workspace.proofs.Region.{changed-nothing, changed-store, changed-then, changed-wider}
+use Rattle.workspace.proofs.Region.{changed-nothing, changed-then, changed-wider}
 use Rattle.workspace.proofs.Shown.{map-number, Stands, stands-kept, row-at}
-use Rattle.workspace.proofs.Expression.{Here, here-kept, here-index, here-line, here-part, here-first, here-second}
-use Rattle.workspace.proofs.Sheets.{root-here, root-sized, header-start-stands}
+use Rattle.workspace.proofs.Expression.{Here, here-kept, here-index, here-part, here-first, here-second}
 use Rattle.conditions.specs.Outcome.{both}
-use Rattle.conditions.specs.SheetOutcomes.{locksOutcome, startOutcome}
-use Rattle.rules.specs.Walk.{cell, stepOutcome, counted, passOn, walk, atRoot}
-use Rattle.rules.specs.Contract.{ruledFor}
+use Rattle.rules.specs.Walk.{cell, stepOutcome, counted, putPre, passOn, walk}
 use Rattle.conditions.proofs.FirstFalse.{both-met, both-assoc}
-use Rattle.conditions.proofs.Shown.{within-shown}
-use Rattle.conditions.proofs.LockLines.{locks-shown}
-use Rattle.rules.proofs.Walking.{put-before, put-at, put-other}
+use Rattle.rules.proofs.Walking.{put-before, put-within, put-at, put-other}
 use Rattle.rules.proofs.Claims.{firstAsked, claims-first, claims-one, claims-append}
-use Rattle.rules.proofs.Asked.{asked}
-use Rattle.rules.proofs.Scopes.{Scoped, scoped-none, scoped-second}
+use Rattle.rules.proofs.Scopes.{by-let, Scoped, scoped-second}
 use Rattle.rules.proofs.OneStep.{preNumber, partNumber, secondNumber, Ready, split-kept, step-shown, leaf-passes, unary-passes, binary-passes, part-stands, second-stands}
 
 -- the walk over the steps of a program, with its split's locations and denominator
@@ -51,7 +41,7 @@ walkOf purpose S w k n = walk purpose (S .header .locations) (S .header .denomin
 
 -- ------------------------------------------------------------------ the walk through an expression
 
-module _ (purpose : Purpose) (S : Split) (steps : List Step) (R : InRange steps S) (few : length (S .rows) ≤ 256) where
+module _ (purpose : Purpose) (S : Split) (P : Program) (R : InRange P S) (few : length (S .rows) ≤ 256) where
   -- an expression is walked through; m steps are left behind it
   record Walked (w : List ℕ) (k m : ℕ) (Γ : Env) (pre : Map) (e : Expr) : Type 0 where
     pub after : List ℕ
@@ -67,13 +57,13 @@ module _ (purpose : Purpose) (S : Split) (steps : List Step) (R : InRange steps 
 
   -- ready again, over a work space in which maps before steps are changed
   again : {w w′ : List ℕ} {k : ℕ} {inside : List (ℕ × ℕ)} {vars : List ℕ} {Γ : Env} {pre : Map} {e : Expr}
-      → ChangedWithin presAt (presAt + 256) w w′ → HoldsSplit w S → presAt + 256 ≤ length w → Here w k inside vars e
+      → ChangedWithin presAt (presAt + 256) w w′ → HoldsSplit w S → presAt + 256 ≤ length w → Here w (length (P .procedures)) k inside vars e
       → Scoped S Γ inside vars
       → (m : MapNumber) → Stands w S m pre → cell w′ presAt k ≡ m .0 → k + size e ≤ length (S .rows)
-      → Ready S steps R few w′ k inside vars Γ pre e
-  again x H long P C m p q h = record {
-    split = split-kept S steps R few x H;
-    here = here-kept x (omega arith) P;
+      → Ready S P R few w′ k inside vars Γ pre e
+  again x H long at C m p q h = record {
+    split = split-kept S P R few x H;
+    here = here-kept x (omega arith) at;
     scoped = C;
     pre-stands = rw (map-number q) (stands-kept x p);
     room = h;
@@ -81,20 +71,20 @@ module _ (purpose : Purpose) (S : Split) (steps : List Step) (R : InRange steps 
   }
 
   module _ {w : List ℕ} {k : ℕ} {inside : List (ℕ × ℕ)} {vars : List ℕ} {Γ : Env} {pre : Map} where
-    module _ (x : UnaryWord) (l : Position) (v : ℕ) (e₁ : Expr) (r : Ready S steps R few w k inside vars Γ pre (unary x l v e₁)) where
+    module _ (x : UnaryWord) (l : Position) (v : ℕ) (e₁ : Expr) (r : Ready S P R few w k inside vars Γ pre (unary x l v e₁)) where
       unary-changed : ChangedWithin presAt (presAt + (k + size (unary x l v e₁))) w (passOn w k)
       unfolding size
       unary-changed =
-          rw (unary-passes S steps R few x l v e₁ r)
+          rw (unary-passes S P R few x l v e₁ r)
           (put-before w (k + 1) (k + suc (size e₁)) _ (omega (arith, size-positive e₁)))
 
-      part-ready : Ready S steps R few (passOn w k) (k + 1) inside vars Γ (preOfPart x pre (post S (unary x l v e₁))) e₁
+      part-ready : Ready S P R few (passOn w k) (k + 1) inside vars Γ (preOfPart x pre (post S (unary x l v e₁))) e₁
       unfolding size
       part-ready =
           again (changed-wider presAt (presAt + 256) (omega arith) (omega (arith, r .room)) unary-changed) (r .split) (r .long)
           (here-part x l v e₁ (r .here)) (r .scoped)
-          (partNumber w k x) (part-stands S steps R few x l v e₁ r)
-          (rw (unary-passes S steps R few x l v e₁ r) (put-at w (k + 1) _ (omega (arith, size-positive e₁, r .room)) (r .long)))
+          (partNumber w k x) (part-stands S P R few x l v e₁ r)
+          (rw (unary-passes S P R few x l v e₁ r) (put-at w (k + 1) _ (omega (arith, size-positive e₁, r .room)) (r .long)))
           (omega (arith, r .room))
 
       unary-walked : (m : ℕ) → Walked (passOn w k) (k + 1) m Γ (preOfPart x pre (post S (unary x l v e₁))) e₁
@@ -109,7 +99,7 @@ module _ (purpose : Purpose) (S : Split) (steps : List Step) (R : InRange steps 
             let end : k + 1 + size e₁ ≡ k + suc (size e₁) = omega arith in
             walk-first w k (suc (size e₁) + m) (size e₁ + m) (omega arith)
             ∙ rw (
-              step-shown S steps R few purpose (unary x l v e₁) r,
+              step-shown S P R few purpose (unary x l v e₁) r,
               t .walks,
               end,
               claims-first purpose S (record { Γ = Γ; pre = pre; step = unary x l v e₁ }),
@@ -117,11 +107,11 @@ module _ (purpose : Purpose) (S : Split) (steps : List Step) (R : InRange steps 
             );
       }
 
-    module _ (x : BinaryWord) (l : Position) (v : ℕ) (e₁ e₂ : Expr) (r : Ready S steps R few w k inside vars Γ pre (binary x l v e₁ e₂)) where
+    module _ (x : BinaryWord) (l : Position) (v : ℕ) (e₁ e₂ : Expr) (r : Ready S P R few w k inside vars Γ pre (binary x l v e₁ e₂)) where
       binary-changed : ChangedWithin presAt (presAt + (k + size (binary x l v e₁ e₂))) w (passOn w k)
       unfolding size
       binary-changed =
-          rw (binary-passes S steps R few x l v e₁ e₂ r)
+          rw (binary-passes S P R few x l v e₁ e₂ r)
           (changed-then presAt _
           (put-before w (k + 1) (k + suc (size e₁ + size e₂)) _ (omega (arith, size-positive e₁, size-positive e₂)))
           (put-before _ (k + 1 + size e₁) (k + suc (size e₁ + size e₂)) _ (omega (arith, size-positive e₂))))
@@ -129,12 +119,12 @@ module _ (purpose : Purpose) (S : Split) (steps : List Step) (R : InRange steps 
       binary-within : ChangedWithin presAt (presAt + 256) w (passOn w k)
       binary-within = changed-wider presAt (presAt + 256) (omega arith) (omega (arith, r .room)) binary-changed
 
-      first-ready : Ready S steps R few (passOn w k) (k + 1) inside vars Γ pre e₁
+      first-ready : Ready S P R few (passOn w k) (k + 1) inside vars Γ pre e₁
       unfolding size
       first-ready =
           again binary-within (r .split) (r .long) (here-first x l v e₁ e₂ (r .here)) (r .scoped)
           (preNumber w k) (r .pre-stands)
-          (rw (binary-passes S steps R few x l v e₁ e₂ r)
+          (rw (binary-passes S P R few x l v e₁ e₂ r)
           (put-other _ (k + 1 + size e₁) (k + 1) _ (λ e. omega (arith, size-positive e₁))
           ∙ put-at w (k + 1) _ (omega (arith, size-positive e₁, r .room)) (r .long)))
           (omega (arith, r .room))
@@ -147,7 +137,7 @@ module _ (purpose : Purpose) (S : Split) (steps : List Step) (R : InRange steps 
       Γ₂ = binding (role (Binary x)) (v, type S e₁) Γ
 
       second-ready : (m : ℕ) → (t : Walked (passOn w k) (k + 1) m Γ pre e₁)
-          → Ready S steps R few (t .after) (k + 1 + size e₁) (binding (role (Binary x)) (v, k) inside) (binding (role (Binary x)) v vars) Γ₂ pre₂ e₂
+          → Ready S P R few (t .after) (k + 1 + size e₁) (binding (role (Binary x)) (v, k) inside) (binding (role (Binary x)) v vars) Γ₂ pre₂ e₂
       unfolding size type
       second-ready m t =
           let h₁ : k + 1 < length (S .rows) = omega (arith, size-positive e₁, r .room) in
@@ -156,11 +146,11 @@ module _ (purpose : Purpose) (S : Split) (steps : List Step) (R : InRange steps 
           (changed-then presAt (presAt + 256) binary-within
           (changed-wider presAt (presAt + 256) (omega arith) (omega (arith, r .room)) (t .changed)))
           (r .split) (r .long) (here-second x l v e₁ e₂ (r .here))
-          (scoped-second S Γ inside vars (r .scoped) v k (type S e₁) h₁
-          (ap (λ (d : Row). d .type) (sym (row-at w S steps (r .split) R e₁ (k + 1) index₁ h₁))) (role (Binary x)))
-          (secondNumber w k x) (second-stands S steps R few x l v e₁ e₂ r)
+          (scoped-second S Γ inside vars (r .scoped) v k (type S e₁)
+          (by-let h₁ (ap (λ (d : Row). d .type) (sym (row-at w S P (r .split) R e₁ (k + 1) index₁ h₁)))) (role (Binary x)))
+          (secondNumber w k x) (second-stands S P R few x l v e₁ e₂ r)
           (t .changed .kept (presAt + (k + 1 + size e₁)) (inr (omega arith))
-          ∙ rw (binary-passes S steps R few x l v e₁ e₂ r)
+          ∙ rw (binary-passes S P R few x l v e₁ e₂ r)
           (put-at _ (k + 1 + size e₁) _ (omega (arith, size-positive e₂, r .room))
           (rw (put-before w (k + 1) (k + 2) (preNumber w k) (omega arith) .long) (r .long))))
           (omega (arith, r .room))
@@ -180,7 +170,7 @@ module _ (purpose : Purpose) (S : Split) (steps : List Step) (R : InRange steps 
             let end : k + 1 + size e₁ + size e₂ ≡ k + suc (size e₁ + size e₂) = omega arith in
             walk-first w k (suc (size e₁ + size e₂) + m) (size e₁ + (size e₂ + m)) (omega arith)
             ∙ rw (
-              step-shown S steps R few purpose (binary x l v e₁ e₂) r,
+              step-shown S P R few purpose (binary x l v e₁ e₂) r,
               t .walks,
               u .walks,
               claims-first purpose S (record { Γ = Γ; pre = pre; step = binary x l v e₁ e₂ }),
@@ -192,62 +182,29 @@ module _ (purpose : Purpose) (S : Split) (steps : List Step) (R : InRange steps 
       }
 
   walked : {w : List ℕ} {k : ℕ} {inside : List (ℕ × ℕ)} {vars : List ℕ} {Γ : Env} {pre : Map} (e : Expr) (m : ℕ)
-      → Ready S steps R few w k inside vars Γ pre e → Walked w k m Γ pre e
+      → Ready S P R few w k inside vars Γ pre e → Walked w k m Γ pre e
   unfolding size sites
   walked {w} {k} {inside} {vars} {Γ} {pre} (leaf x l v) m r = record {
     after = w;
     changed = changed-nothing presAt _ w;
     walks =
         walk-first w k (1 + m) m (omega arith)
-        ∙ rw (step-shown S steps R few purpose (leaf x l v) r, leaf-passes S steps R few x l v r, claims-one purpose S);
+        ∙ rw (step-shown S P R few purpose (leaf x l v) r, leaf-passes S P R few x l v r, claims-one purpose S);
   }
   walked (unary x l v e₁) m r = unary-walked x l v e₁ r m (walked e₁ m (part-ready x l v e₁ r))
   walked (binary x l v e₁ e₂) m r =
       binary-walked x l v e₁ e₂ r m (walked e₁ (size e₂ + m) (first-ready x l v e₁ e₂ r))
       (walked e₂ m (second-ready x l v e₁ e₂ r (size e₂ + m) (walked e₁ (size e₂ + m) (first-ready x l v e₁ e₂ r))))
 
--- ------------------------------------------------------------------ the sheets
-
--- the claims of a pair of sheets, by purpose
-claims-ruled : (purpose : Purpose) (P : Program) (S : Split) → firstAsked purpose (claims S (sites S [] (startMap S) (P .root))) ≡ ruledFor purpose P S
-unfolding asked ruledFor ruled typed
-claims-ruled Check P S = refl
-claims-ruled Fill P S = refl
-
-module _ (w : List ℕ) (steps denominator locations bodyStart : ℕ) (P : Program) (S : Split) (H : HoldsSheets w steps denominator locations bodyStart P S) where
-  -- 30, at the root's line
-  pub start-shown : startOutcome (getD w linesAt 0) w denominator locations (record { 0 = bodyStart }) ≡ startAtMostOne P S
-  unfolding startOutcome startAtMostOne
-  start-shown =
-      rw (here-line (P .root) (root-here H), H .denominatorGiven)
-      (ap (refuseOver (lineOf (P .root))) (within-shown (H .locationsGiven) (header-start-stands H) _))
-
-  module _ (purpose : Purpose) (long : length w ≡ workSize) (fewSteps : steps ≤ 256) where
-    rows-few : length (S .rows) ≤ 256
-    rows-few = omega (arith, H .inRange .rowsCounted, H .stepsCounted)
-
-    root-ready : Ready S (P .steps) (H .inRange) rows-few (atRoot w (record { 0 = bodyStart })) 0 [] [] [] (startMap S) (P .root)
-    unfolding atRoot
-    root-ready =
-        again purpose S (P .steps) (H .inRange) rows-few (changed-store presAt (presAt + 256) w presAt bodyStart (omega arith)
-        (omega arith)) (H .split) (omega arith)
-        (root-here H) (scoped-none S) (record { 0 = bodyStart }) (header-start-stands H)
-        (getD-set-same w presAt bodyStart 0 (omega arith)) (omega (arith, root-sized H, H .stepsCounted, H .inRange .rowsCounted))
-
-    -- 31 to 33
-    pub steps-shown : walk purpose locations denominator (atRoot w (record { 0 = bodyStart })) 0 steps ≡ ruledFor purpose P S
-    unfolding walk
-    steps-shown =
-        let end : steps ≡ size (P .root) + 0 = omega (arith, root-sized H) in
-        rw (H .denominatorGiven, H .locationsGiven, end)
-        (walked purpose S (P .steps) (H .inRange) rows-few (P .root) 0 root-ready .walks
-        ∙ both-met (firstAsked purpose (claims S (sites S [] (startMap S) (P .root))))
-        ∙ claims-ruled purpose P S)
-
-    -- 44, then 30 to 33
-    pub sheets-shown : (types : ℕ) → types ≡ S .header .types
-        → both (locksOutcome w locations 0 types)
-        (both (startOutcome (getD w linesAt 0) w denominator locations (record { 0 = bodyStart })) (walk purpose locations denominator (atRoot w (record { 0 = bodyStart })) 0 steps))
-        ≡ (locksTakeEnough S >>= λ enough. startAtMostOne P S >>= λ whole. ruledFor purpose P S)
-    unfolding both
-    sheets-shown types counted = rw (locks-shown w S (P .steps) (H .split) (H .inRange) locations (H .locationsGiven) types counted, start-shown, steps-shown)
+  -- an expression that stands at index k, once the map before it is noted there
+  pub expression-shown : {w : List ℕ} {k : ℕ} {inside : List (ℕ × ℕ)} {vars : List ℕ} {Γ : Env} {pre : Map} (e : Expr)
+      → HoldsSplit w S → presAt + 256 ≤ length w → Here w (length (P .procedures)) k inside vars e → Scoped S Γ inside vars
+      → (m : MapNumber) → Stands w S m pre → k + size e ≤ length (S .rows) → (n : ℕ) → n ≡ size e
+      → walkOf purpose S (putPre w k m) k n ≡ firstAsked purpose (claims S (sites S Γ pre e))
+  unfolding walk
+  expression-shown {w} {k} {Γ = Γ} {pre = pre} e H long at C m p h n sized =
+      let whole : n ≡ size e + 0 = omega arith in
+      rw whole
+      (walked e 0
+      (again (put-within w k m) H long at C m p (put-at w k m (omega (arith, size-positive e, few)) long) h) .walks
+      ∙ both-met (firstAsked purpose (claims S (sites S Γ pre e))))

@@ -1,6 +1,7 @@
--- The steps in line order: what the conditions of each look at, and the map before each, which its step hands down.
+-- The steps in line order: what the conditions of each look at, and the map before each, which its step hands down; what the
+-- conditions at a `proc` line look at, and the body behind it.
 use mathlib.Core.List.{List}
-use Prim.Native.Nat.{ℕ, zero, suc, _+_}
+use Prim.Native.Nat.{ℕ, zero, suc, _+_, _-_}
 use lib.Dec.{eqb, ltb}
 use lib.ListN.{getD, set}
 use Rattle.spec.specs.Choice.{if_then_else_}
@@ -8,19 +9,37 @@ use Rattle.spec.specs.Reading.{Out, stop, on}
 use Rattle.spec.specs.Words.{preOfPart, preOfSecond}
 use Rattle.spec.specs.Verdict.{returned}
 use Rattle.spec.specs.declared.MapNumber.{MapNumber}
+use Rattle.spec.specs.declared.TypeNumber.{TypeNumber}
 use Rattle.spec.specs.declared.Answer.the-variants.{Refuse}
 use Rattle.spec.specs.declared.Purpose.{Purpose}
 use Rattle.spec.specs.declared.Purpose.the-variants.{Check, Fill}
 use Rattle.spec.specs.declared.Word.{Word}
 use Rattle.spec.specs.declared.Word.the-variants.{Leaf, Unary, Binary}
-use Rattle.workspace.specs.Layout.{wordsAt, valuesAt, endsAt, letsAt, linesAt, rowTypesAt, postsAt, startsAt, presAt, ruleOf, wordOf, typeAt}
+use Rattle.workspace.specs.Layout.{wordsAt, valuesAt, endsAt, letsAt, linesAt, procLinesAt, procFirstsAt, procMark, rowTypesAt, postsAt, startsAt, presAt, sigBeforesAt, sigArgumentsAt, sigAftersAt, sigResultsAt, ruleOf, wordOf, typeAt}
 use Rattle.conditions.specs.Outcome.{both, firstFalseFrom}
-use Rattle.words.specs.Table.{ruleRow}
+use Rattle.words.specs.Table.{ruleRow, procedureRow}
+use Rattle.words.specs.declared.Signature.{Signature}
 use Rattle.words.specs.declared.View.{View}
 
 -- entry i of the column that begins at b
 abbrev pub cell : (w : List ℕ) → (b i : ℕ) → ℕ
 cell w b i = getD w (b + i) 0
+
+-- the signature of procedure f
+abbrev pub signatureOf : (w : List ℕ) → (f : ℕ) → Signature
+signatureOf w f = record {
+  before = record { 0 = cell w sigBeforesAt f };
+  argument = record { 0 = cell w sigArgumentsAt f };
+  after = record { 0 = cell w sigAftersAt f };
+  result = record { 0 = cell w sigResultsAt f };
+}
+
+-- the type of the variable that the let at this index binds, or the procedure with this mark
+unfoldable pub boundOf : (w : List ℕ) → (binder : ℕ) → TypeNumber
+boundOf w binder =
+    if ltb binder procMark
+    then record { 0 = cell w (rowTypesAt + 1) binder }
+    else record { 0 = cell w sigArgumentsAt (binder - procMark) }
 
 -- what the conditions of step k look at: a first part stands just behind its step, a second part at the end of the first,
 -- the e1 of a let just behind the let
@@ -33,12 +52,13 @@ viewOf w locations denominator k = record {
   typed = record { 0 = cell w rowTypesAt k };
   type1 = record { 0 = cell w (rowTypesAt + 1) k };
   type2 = record { 0 = cell w rowTypesAt (cell w (endsAt + 1) k) };
-  bound = record { 0 = cell w (rowTypesAt + 1) (cell w letsAt k) };
+  bound = boundOf w (cell w letsAt k);
   pre = record { 0 = cell w presAt k };
   post = record { 0 = cell w postsAt k };
   start = record { 0 = cell w startsAt k };
   post1 = record { 0 = cell w (postsAt + 1) k };
   post2 = record { 0 = cell w postsAt (cell w (endsAt + 1) k) };
+  signature = signatureOf w (cell w valuesAt k);
 }
 
 -- the conditions of step k, in order
@@ -52,14 +72,10 @@ unfoldable pub onTypes : Out (Unit {0}) → Out (Unit {0})
 onTypes (stop r) = if eqb (returned (Refuse r) .number) 31 then stop r else on tt
 onTypes (on a) = on tt
 
--- what counts of a step's outcome: when filling, what it says of types
+-- what counts of the outcome of a step or a `proc` line: when filling, what it says of types
 unfoldable pub counted : Purpose → Out (Unit {0}) → Out (Unit {0})
 counted Check o = o
 counted Fill o = onTypes o
-
--- the start is the map before the root
-unfoldable pub atRoot : (w : List ℕ) → (start : MapNumber) → List ℕ
-atRoot w start = set w presAt (start .0)
 
 -- the map before step i is m
 unfoldable pub putPre : (w : List ℕ) → (i : ℕ) → MapNumber → List ℕ
@@ -82,3 +98,17 @@ unfoldable pub walk : Purpose → (locations denominator : ℕ) → (w : List �
 walk purpose locations denominator w k zero = on tt
 walk purpose locations denominator w k (suc n) =
     both (counted purpose (stepOutcome w locations denominator k)) (walk purpose locations denominator (passOn w k) (k + 1) n)
+
+-- the conditions at the `proc` line of procedure f: its body begins where the next step stands
+unfoldable pub procedureOutcome : (w : List ℕ) → (locations f : ℕ) → Out (Unit {0})
+procedureOutcome w locations f =
+    let first = cell w procFirstsAt f in
+    firstFalseFrom (cell w procLinesAt f) 1
+    (procedureRow w locations (signatureOf w f) (record { 0 = cell w rowTypesAt first }) (record { 0 = cell w postsAt first }))
+
+-- procedure f: the conditions at its line, then its body, which ends where the next one or the root begins
+unfoldable pub bodyOutcome : Purpose → (locations denominator : ℕ) → (w : List ℕ) → (f : ℕ) → Out (Unit {0})
+bodyOutcome purpose locations denominator w f =
+    let first = cell w procFirstsAt f in
+    both (counted purpose (procedureOutcome w locations f))
+    (walk purpose locations denominator (putPre w first (record { 0 = cell w sigBeforesAt f })) first (cell w (procFirstsAt + 1) f - first))

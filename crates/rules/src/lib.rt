@@ -1,16 +1,18 @@
-// The rules of Figure 5, judged over what the work space holds of a program and its split: the conditions of each word, and the
-// walk through the steps; before them the lock lines and the start.
+// The walk over a program and its split as the work space holds them: the lock lines and the start, then line by line the
+// conditions of each procedure and of each step.
+mod bodies;
 mod steps;
 
+use bodies::check_program;
 use conditions::Ruling;
 use conditions::check_locks;
 use conditions::check_start;
 use spec::MapNumber;
 use spec::Purpose;
-use steps::check_steps;
+use steps::cell;
 use workspace::Header;
 use workspace::LINES;
-use workspace::at;
+use workspace::PROC_FIRSTS;
 ghost use mathlib.Core.Path.{_≡_};
 ghost use Prim.Native.Nat.{_≤_};
 ghost use lib.ListN.{length};
@@ -19,9 +21,15 @@ ghost use Rattle.rules.specs.Contract.{Ruled};
 
 // The first reason of 44 and 30 to 33 for the sheets that the work space holds, when filling of 44, 30 and 31. It notes the maps
 // before steps there, and changes nothing else.
-pub fn rule(work: &mut [u32], purpose: Purpose, steps: usize, header: Header) -> Ruling
-    requires { ⌜ (length (now work) ≡ workSize) × (steps ≤ 256) × (header .locations ≤ 16) × (header .types ≤ 64) ⌝ }
-    ensures { λ r. ⌜ Ruled (now (work .entry)) purpose steps header r (now (work .exit)) ⌝ }
+pub fn rule(
+    work: &mut [u32],
+    purpose: Purpose,
+    steps: usize,
+    procedures: usize,
+    header: Header,
+) -> Ruling
+    requires { ⌜ (length (now work) ≡ workSize) × (steps ≤ 256) × (procedures ≤ 16) × (header .locations ≤ 16) × (header .types ≤ 64) ⌝ }
+    ensures { λ r. ⌜ Ruled (now (work .entry)) purpose steps procedures header r (now (work .exit)) ⌝ }
 {
     let denominator = header.denominator;
     let start = header.start;
@@ -31,10 +39,12 @@ pub fn rule(work: &mut [u32], purpose: Purpose, steps: usize, header: Header) ->
     let Ruling::Met = enough else {
         return enough;
     };
-    let line = at(work, LINES);
+    let count = procedures as u32;
+    let root = cell(work, PROC_FIRSTS, count);
+    let line = cell(work, LINES, root);
     let first = check_start(line, work, denominator, n, start);
     let Ruling::Met = first else {
         return first;
     };
-    check_steps(work, purpose, steps as u32, denominator, n, start)
+    check_program(work, purpose, steps as u32, count, denominator, n, start)
 }

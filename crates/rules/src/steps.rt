@@ -7,6 +7,7 @@ use spec::Refusal;
 use spec::TypeNumber;
 use spec::UnaryWord;
 use spec::Word;
+use words::Signature;
 use words::View;
 use words::check_rule;
 use workspace::ENDS;
@@ -14,7 +15,12 @@ use workspace::LETS;
 use workspace::LINES;
 use workspace::POSTS;
 use workspace::PRES;
+use workspace::PROC_MARK;
 use workspace::ROW_TYPES;
+use workspace::SIG_AFTERS;
+use workspace::SIG_ARGUMENTS;
+use workspace::SIG_BEFORES;
+use workspace::SIG_RESULTS;
 use workspace::STARTS;
 use workspace::VALUES;
 use workspace::WORDS;
@@ -24,51 +30,74 @@ use workspace::rule_of;
 use workspace::type_at;
 use workspace::word_of;
 ghost use mathlib.Core.Path.{_≡_};
-ghost use Prim.Native.Nat.{_+_, _≤_, _<_};
+ghost use Prim.Native.Nat.{_+_, _-_, _<_};
 ghost use lib.ListN.{length};
 ghost use Rattle.spec.specs.Reading.{stop};
 ghost use Rattle.spec.specs.Words.{preOfPart, preOfSecond};
 ghost use Rattle.workspace.specs.Layout.{presAt, workSize};
 ghost use Rattle.workspace.specs.Region.{ChangedWithin};
 ghost use Rattle.conditions.specs.Outcome.{outcome};
-ghost use Rattle.rules.specs.Walk.{cell, viewOf, atRoot, stepOutcome, onTypes, counted, putPre, passOn, walk};
+ghost use Rattle.rules.specs.Walk.{cell, signatureOf, boundOf, viewOf, stepOutcome, onTypes, counted, putPre, passOn, walk};
 
 // Entry i of the column that begins at base.
-fn cell(work: &[u32], base: usize, i: u32) -> u32
+pub(crate) fn cell(work: &[u32], base: usize, i: u32) -> u32
     requires { ⌜ base < workSize ⌝ }
     ensures { λ r. ⌜ r ≡ cell (now (work .entry)) base i ⌝ }
 {
     at(work, base + index(i))
 }
 
+// The signature of procedure f.
+pub(crate) fn signature_of(work: &[u32], f: u32) -> Signature
+    ensures { λ r. ⌜ r ≡ signatureOf (now (work .entry)) f ⌝ }
+{
+    Signature {
+        before: MapNumber(cell(work, SIG_BEFORES, f)),
+        argument: TypeNumber(cell(work, SIG_ARGUMENTS, f)),
+        after: MapNumber(cell(work, SIG_AFTERS, f)),
+        result: TypeNumber(cell(work, SIG_RESULTS, f)),
+    }
+}
+
+// The type of the variable that the let at this index binds, or the procedure with this mark.
+fn bound_of(work: &[u32], binder: u32) -> TypeNumber
+    ensures { λ r. ⌜ r ≡ boundOf (now (work .entry)) binder ⌝ }
+{
+    if binder < PROC_MARK {
+        TypeNumber(cell(work, ROW_TYPES + 1, binder))
+    } else {
+        TypeNumber(cell(work, SIG_ARGUMENTS, binder - PROC_MARK))
+    }
+}
+
 // What the conditions of step k look at. A first part stands just behind its step, a second part at the end of the first,
 // the e1 of a let just behind the let.
 fn view_of(work: &[u32], locations: u32, denominator: u32, k: u32) -> View
-    requires { ⌜ k < 256 ⌝ }
     ensures { λ r. ⌜ r ≡ viewOf (now (work .entry)) locations denominator k ⌝ }
 {
     let second = cell(work, ENDS + 1, k);
     let binder = cell(work, LETS, k);
+    let value = cell(work, VALUES, k);
     View {
         line: cell(work, LINES, k),
-        value: cell(work, VALUES, k),
+        value: value,
         locations: locations,
         denominator: denominator,
         typed: TypeNumber(cell(work, ROW_TYPES, k)),
         type1: TypeNumber(cell(work, ROW_TYPES + 1, k)),
         type2: TypeNumber(cell(work, ROW_TYPES, second)),
-        bound: TypeNumber(cell(work, ROW_TYPES + 1, binder)),
+        bound: bound_of(work, binder),
         pre: MapNumber(cell(work, PRES, k)),
         post: MapNumber(cell(work, POSTS, k)),
         start: MapNumber(cell(work, STARTS, k)),
         post1: MapNumber(cell(work, POSTS + 1, k)),
         post2: MapNumber(cell(work, POSTS, second)),
+        signature: signature_of(work, value),
     }
 }
 
 // The conditions of step k.
 fn check_step(work: &[u32], locations: u32, denominator: u32, k: u32) -> Ruling
-    requires { ⌜ k < 256 ⌝ }
     ensures { λ r. ⌜ outcome r ≡ stepOutcome (now (work .entry)) locations denominator k ⌝ }
 {
     let r = rule_of(cell(work, WORDS, k));
@@ -90,8 +119,8 @@ fn on_types(refusal: Refusal) -> Ruling
     Ruling::Refused(refusal)
 }
 
-// What counts of the ruling on a step: when checking all of it, when filling what it says of types.
-fn counted(purpose: Purpose, r: Ruling) -> Ruling
+// What counts of the ruling on a step or a `proc` line: when checking all of it, when filling what it says of types.
+pub(crate) fn counted(purpose: Purpose, r: Ruling) -> Ruling
     ensures { λ c. ⌜ outcome c ≡ counted purpose (outcome r) ⌝ }
 {
     match purpose {
@@ -131,6 +160,7 @@ fn pre_of_part(w: UnaryWord, pre: MapNumber, post: MapNumber) -> MapNumber
         UnaryWord::Rdunlock => pre,
         UnaryWord::Wrlock => pre,
         UnaryWord::Wrunlock => pre,
+        UnaryWord::Call => pre,
     }
 }
 
@@ -148,7 +178,7 @@ fn pre_of_second(w: BinaryWord, pre: MapNumber, post1: MapNumber, start: MapNumb
 
 // The maps before the parts of step k. The sheet's locations and denominator play no part in them.
 fn pass_on(work: &mut [u32], k: u32)
-    requires { ⌜ (length (now work) ≡ workSize) × (k < 256) ⌝ }
+    requires { ⌜ (length (now work) ≡ workSize) × (k < 4294967295) ⌝ }
     ensures { λ _. ⌜ now (work .exit) ≡ passOn (now (work .entry)) k ⌝ }
 {
     let s = view_of(work, 0, 0, k);
@@ -163,21 +193,23 @@ fn pass_on(work: &mut [u32], k: u32)
     }
 }
 
-// 31 to 33, or 31 alone when filling: the steps in line order, each judged once the map before it is known.
+// 31 to 33, or 31 alone when filling, of an expression: its steps in line order, from one index up to another, each judged once
+// the map before it is known; pre is the one before the first.
 pub(crate) fn check_steps(
     work: &mut [u32],
     purpose: Purpose,
-    steps: u32,
+    from: u32,
+    to: u32,
     denominator: u32,
     locations: u32,
-    start: MapNumber,
+    pre: MapNumber,
 ) -> Ruling
-    requires { ⌜ (length (now work) ≡ workSize) × (steps ≤ 256) ⌝ }
-    ensures { λ r. ⌜ (outcome r ≡ walk purpose locations denominator (atRoot (now (work .entry)) start) 0 steps) × ChangedWithin presAt (presAt + 256) (now (work .entry)) (now (work .exit)) ⌝ }
+    requires { ⌜ length (now work) ≡ workSize ⌝ }
+    ensures { λ r. ⌜ (outcome r ≡ walk purpose locations denominator (putPre (now (work .entry)) from pre) from (to - from)) × ChangedWithin presAt (presAt + 256) (now (work .entry)) (now (work .exit)) ⌝ }
 {
-    work[PRES] = start.0;
-    let mut k = 0;
-    while k < steps {
+    put_pre(work, from, pre);
+    let mut k = from;
+    while k < to {
         let r = counted(purpose, check_step(work, locations, denominator, k));
         let Ruling::Met = r else {
             return r;

@@ -17,13 +17,13 @@ use Rattle.spec.specs.declared.TypeNumber.{TypeNumber}
 use Rattle.spec.specs.declared.Location.{Location}
 use Rattle.spec.specs.declared.TypeLine.{TypeLine}
 use Rattle.spec.specs.declared.TypeLine.the-variants.{Int, Ref, Lock, Tid, Sem, Rwlock}
-use Rattle.workspace.specs.Layout.{rowTypesAt, postsAt, startsAt, mapsAt, stride, emptyMap}
+use Rattle.workspace.specs.Layout.{rowTypesAt, postsAt, startsAt, sigBeforesAt, sigArgumentsAt, sigAftersAt, sigResultsAt, mapsAt, stride, emptyMap}
 use Rattle.workspace.specs.Sheets.{headerTold}
 use Rattle.workspace.specs.declared.Header.{Header as HeaderRead}
 use Rattle.writer.specs.Text.{decimal, line, text}
-use Rattle.writer.specs.Sheet.{headingName, headerNumbers, headerFields, outNumber, typeFields, mapFields, postShown, startShown, rowFields, splitLines, written}
+use Rattle.writer.specs.Sheet.{headingName, headerNumbers, headerFields, outNumber, typeFields, mapFields, signatureFields, postShown, startShown, rowFields, splitLines, written}
 use Rattle.writer.proofs.Lines.{text-append}
-use Rattle.sheets.specs.Stored.{inOrder, typeIn, mapIn, startIn, rowIn, splitIn}
+use Rattle.sheets.specs.Stored.{inOrder, typeIn, mapIn, signatureIn, startIn, rowIn, splitIn}
 
 -- ------------------------------------------------------------------ lines in order
 
@@ -101,6 +101,14 @@ module _ (heading : Heading) {τ : TypeLine} where
   unfolding bytes line text typeFields
   rwlock-parts e = rw e
 
+-- ------------------------------------------------------------------ procedures
+
+pub signature-parts : (w : List ℕ) (f : ℕ) {b a c r : ℕ} → b ≡ getD w (sigBeforesAt + f) 0 → a ≡ getD w (sigArgumentsAt + f) 0
+    → c ≡ getD w (sigAftersAt + f) 0 → r ≡ getD w (sigResultsAt + f) 0
+    → text (signatureFields (signatureIn w f) ∷ []) ≡ line (map decimal (b ∷ a ∷ c ∷ r ∷ [])) []
+unfolding line text signatureFields signatureIn
+signature-parts w f before argument after result = rw (before, argument, after, result)
+
 -- ------------------------------------------------------------------ rows
 
 module _ (w : List ℕ) (i : ℕ) {t m s : ℕ} (typed : t ≡ getD w (rowTypesAt + i) 0) (left : m ≡ getD w (postsAt + i) 0) (starts : s ≡ getD w (startsAt + i) 0) where
@@ -115,13 +123,16 @@ module _ (w : List ℕ) (i : ℕ) {t m s : ℕ} (typed : t ≡ getD w (rowTypesA
 
 -- ------------------------------------------------------------------ the sheet
 
-pub sheet-parts : (H : Header) (steps : ℕ) (w : List ℕ) → written (splitIn H steps w)
+pub sheet-parts : (H : Header) (procedures steps : ℕ) (w : List ℕ) → written (splitIn H procedures steps w)
     ≡ text (headerFields H ∷ []) ++ (text (map (typeFields (H .heading)) (inOrder (typeIn w) 0 (H .types)))
-    ++ (text (map mapFields (inOrder (mapIn (H .locations) w) 0 (H .maps))) ++ text (map (rowFields Check) (inOrder (rowIn w) 0 steps))))
+    ++ (text (map mapFields (inOrder (mapIn (H .locations) w) 0 (H .maps)))
+    ++ (text (map signatureFields (inOrder (signatureIn w) 0 procedures)) ++ text (map (rowFields Check) (inOrder (rowIn w) 0 steps)))))
 unfolding written splitLines splitIn
-sheet-parts H steps w =
+sheet-parts H procedures steps w =
     let T = map (typeFields (H .heading)) (inOrder (typeIn w) 0 (H .types)) in
     let M = map mapFields (inOrder (mapIn (H .locations) w) 0 (H .maps)) in
     let R = map (rowFields Check) (inOrder (rowIn w) 0 steps) in
-    text-append (headerFields H ∷ []) (T ++ (M ++ R))
-    ∙ ap (λ (x : List ℕ). text (headerFields H ∷ []) ++ x) (text-append T (M ++ R) ∙ ap (λ (x : List ℕ). text T ++ x) (text-append M R))
+    let G = map signatureFields (inOrder (signatureIn w) 0 procedures) in
+    text-append (headerFields H ∷ []) (T ++ (M ++ (G ++ R)))
+    ∙ ap (λ (x : List ℕ). text (headerFields H ∷ []) ++ x)
+    (text-append T (M ++ (G ++ R)) ∙ ap (λ (x : List ℕ). text T ++ x) (text-append M (G ++ R) ∙ ap (λ (x : List ℕ). text M ++ x) (text-append G R)))

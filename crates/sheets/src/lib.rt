@@ -8,6 +8,10 @@ use workspace::Header;
 use workspace::MAPS;
 use workspace::POSTS;
 use workspace::ROW_TYPES;
+use workspace::SIG_AFTERS;
+use workspace::SIG_ARGUMENTS;
+use workspace::SIG_BEFORES;
+use workspace::SIG_RESULTS;
 use workspace::STARTS;
 use workspace::STRIDE;
 use workspace::type_at;
@@ -23,9 +27,9 @@ ghost use Rattle.workspace.specs.Layout.{startsAt, mapsAt, stride};
 ghost use Rattle.workspace.specs.Sheets.{headerTold};
 ghost use Rattle.writer.specs.Text.{decimal, line, text};
 ghost use Rattle.writer.specs.Buffer.{Written};
-ghost use Rattle.writer.specs.Sheet.{headerFields, outNumber, typeFields, mapFields, rowFields};
+ghost use Rattle.writer.specs.Sheet.{headerFields, outNumber, typeFields, mapFields, signatureFields, rowFields};
 ghost use Rattle.spec.specs.declared.Purpose.the-variants.{Check};
-ghost use Rattle.sheets.specs.Stored.{inOrder, typeIn, mapIn, rowIn};
+ghost use Rattle.sheets.specs.Stored.{inOrder, typeIn, mapIn, signatureIn, rowIn};
 ghost use Rattle.sheets.specs.Contract.{HoldsSome, SheetWritten};
 
 // Writes the header.
@@ -129,6 +133,32 @@ fn write_maps(buffer: &mut [u8], at: usize, work: &[u32], locations: usize, maps
     to
 }
 
+// Writes the line of a procedure.
+fn write_signature(buffer: &mut [u8], at: usize, work: &[u32], f: usize) -> usize
+    requires { ⌜ f < 4294967296 ⌝ }
+    ensures { λ r. ⌜ Written (now (buffer .entry)) (now (buffer .exit)) at (text (signatureFields (signatureIn (now (work .entry)) f) ∷ [])) r ⌝ }
+{
+    let before = workspace::at(work, SIG_BEFORES + f);
+    let argument = workspace::at(work, SIG_ARGUMENTS + f);
+    let after = workspace::at(work, SIG_AFTERS + f);
+    let result = workspace::at(work, SIG_RESULTS + f);
+    write_numbers(buffer, at, &[before, argument, after, result])
+}
+
+// Writes the lines of so many procedures.
+fn write_signatures(buffer: &mut [u8], at: usize, work: &[u32], procedures: usize) -> usize
+    requires { ⌜ procedures < 4294967296 ⌝ }
+    ensures { λ r. ⌜ Written (now (buffer .entry)) (now (buffer .exit)) at (text (map signatureFields (inOrder (signatureIn (now (work .entry))) 0 procedures))) r ⌝ }
+{
+    let mut to = at;
+    let mut f = 0;
+    while f < procedures {
+        to = write_signature(buffer, to, work, f);
+        f += 1;
+    }
+    to
+}
+
 // Writes the row of a step.
 fn write_row(buffer: &mut [u8], at: usize, work: &[u32], step: usize) -> usize
     requires { ⌜ startsAt + step < length (now work) ⌝ }
@@ -159,15 +189,22 @@ fn write_rows(buffer: &mut [u8], at: usize, work: &[u32], steps: usize) -> usize
     to
 }
 
-// Writes the sheet of the split that the work space holds, with this header and a row for each step, at the front of a buffer, and
-// hands back its length.
-pub fn write_sheet(buffer: &mut [u8], work: &[u32], header: Header, steps: usize) -> usize
-    requires { ⌜ HoldsSome (now work) header steps ⌝ }
-    ensures { λ r. ⌜ SheetWritten (now (work .entry)) header steps (now (buffer .entry)) (now (buffer .exit)) r ⌝ }
+// Writes the sheet of the split that the work space holds, with this header, a line for each procedure and a row for each step, at the
+// front of a buffer, and hands back its length.
+pub fn write_sheet(
+    buffer: &mut [u8],
+    work: &[u32],
+    header: Header,
+    procedures: usize,
+    steps: usize,
+) -> usize
+    requires { ⌜ HoldsSome (now work) header procedures steps ⌝ }
+    ensures { λ r. ⌜ SheetWritten (now (work .entry)) header procedures steps (now (buffer .entry)) (now (buffer .exit)) r ⌝ }
 {
     let headed = write_header(buffer, header);
     let heading = header.heading;
     let typed = write_types(buffer, headed, work, heading, header.types);
     let mapped = write_maps(buffer, typed, work, header.locations, header.maps);
-    write_rows(buffer, mapped, work, steps)
+    let signed = write_signatures(buffer, mapped, work, procedures);
+    write_rows(buffer, signed, work, steps)
 }

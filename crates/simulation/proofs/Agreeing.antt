@@ -9,18 +9,19 @@ use lib.ListN.{length, getD, set, length-set}
 use lib.Seq.{getD-set-same, getD-set-other}
 use Rattle.workspace.specs.Region.{ChangedWithin}
 use Rattle.control.specs.declared.Focus.{Focus}
-use Rattle.control.specs.Control.{keptAt, variable, kept, continuation, focus}
-use Rattle.engine.specs.Focuses.{focusAt, focusPut}
+use Rattle.control.specs.Control.{keptAt, callsAt, variable, kept, calledFrom, continuation, focus}
+use Rattle.engine.specs.Focuses.{rowsAt, focusAt, focusPut}
 use Rattle.machine.specs.Control as machine
-use Rattle.machine.specs.Control.{Control, done, at}
+use Rattle.machine.specs.Control.{Control, done, at, marks, openCalls}
 use Rattle.simulation.proofs.Held.{Values, WordAt, placeOf, Frames, ControlAt}
-use Rattle.simulation.proofs.Turning.{SameBut}
-use Rattle.simulation.proofs.Finding.{KeptBelow, frames-same}
+use Rattle.simulation.proofs.Turning.{SameBut, RowIn}
+use Rattle.simulation.proofs.Finding.{RowsSame, frames-same, frames-inside}
 
--- the variables of thread i are the same, and the values kept for its writes
+-- in each row of thread i the variables are the same, the values kept for its writes and the calls
 pub record RowsAgree (i : ℕ) (s s′ : List ℕ) : Type 0 where
-  pub variables : (x : ℕ) → x < 256 → variable s′ i x ≡ variable s i x
-  pub kepts : (j : ℕ) → j < 256 → kept s′ i j ≡ kept s i j
+  pub variables : (r x : ℕ) → RowIn i r → x < 256 → variable s′ r x ≡ variable s r x
+  pub kepts : (r j : ℕ) → RowIn i r → j < 256 → kept s′ r j ≡ kept s r j
+  pub calls : (r : ℕ) → RowIn i r → calledFrom s′ r ≡ calledFrom s r
 
 -- and it stands at the same place
 pub record Agree (i : ℕ) (s s′ : List ℕ) : Type 0 where
@@ -29,79 +30,99 @@ pub record Agree (i : ℕ) (s s′ : List ℕ) : Type 0 where
 
 -- the numbers that all threads share are the same
 abbrev pub SharedSame : (s s′ : List ℕ) → Type 0
-SharedSame s s′ = (j : ℕ) → 8240 ≤ j → getD s′ j 0 ≡ getD s j 0
+SharedSame s s′ = (j : ℕ) → 541792 ≤ j → getD s′ j 0 ≡ getD s j 0
 
 module _ (p : List ℕ) (i : ℕ) (s s′ : List ℕ) (a : RowsAgree i s s′) where
-  word-same : (f : Focus) (w : machine.Word) → WordAt p s i f w → WordAt p s′ i f w
-  word-same f (machine.letWord q x v e) W = W
-  word-same f (machine.ifWord q e₁ e₂) W = W
-  word-same f (machine.whileWord q e) W = W
-  word-same f (machine.spawnWord q v e) W = W
-  word-same f (machine.writeWord q v w) (z, n, r, held) = (z, n, r, a .kepts (q .index) (r .below) ∙ held)
-  word-same f (machine.unaryWord q o v) W = W
-  word-same f (machine.makeWord q o) W = W
-  word-same f (machine.unrolledWord q e) W = W
-  word-same f (machine.againWord q v e) W = W
+  word-same : (r : ℕ) → RowIn i r → (f : Focus) (w : machine.Word) → WordAt p s r f w → WordAt p s′ r f w
+  word-same r in-row f (machine.letWord q x v e) W = W
+  word-same r in-row f (machine.ifWord q e₁ e₂) W = W
+  word-same r in-row f (machine.whileWord q e) W = W
+  word-same r in-row f (machine.spawnWord q v e) W = W
+  word-same r in-row f (machine.writeWord q v w) (z, n, d, held) = (z, n, d, a .kepts r (q .index) in-row (d .below) ∙ held)
+  word-same r in-row f (machine.unaryWord q o v) W = W
+  word-same r in-row f (machine.makeWord q o) W = W
+  word-same r in-row f (machine.unrolledWord q e) W = W
+  word-same r in-row f (machine.againWord q v e) W = W
 
-  word-below : (f : Focus) (w : machine.Word) → WordAt p s i f w → placeOf p s i w < 256
-  word-below f (machine.letWord q x v e) (z, r, S) = r .below
-  word-below f (machine.ifWord q e₁ e₂) (z, n, r, S₁, S₂) = r .below
-  word-below f (machine.whileWord q e) (z, n, r, S) = r .below
-  word-below f (machine.spawnWord q v e) (z, n, r, S) = r .below
-  word-below f (machine.writeWord q v w) (z, n, r, held) = r .below
-  word-below f (machine.unaryWord q o v) (z, n, r) = r .below
-  word-below f (machine.makeWord q o) (z, n, r, N) = r .below
-  word-below f (machine.unrolledWord q e) (z, n, r, S) = r .below
-  word-below f (machine.againWord q v e) (z, n, r, S) = r .below
+  word-below : (r : ℕ) (f : Focus) (w : machine.Word) → WordAt p s r f w → placeOf p s w < 256
+  word-below r f (machine.letWord q x v e) (z, d, S) = d .below
+  word-below r f (machine.ifWord q e₁ e₂) (z, n, d, S₁, S₂) = d .below
+  word-below r f (machine.whileWord q e) (z, n, d, S) = d .below
+  word-below r f (machine.spawnWord q v e) (z, n, d, S) = d .below
+  word-below r f (machine.writeWord q v w) (z, n, d, held) = d .below
+  word-below r f (machine.unaryWord q o v) (z, n, d, N) = d .below
+  word-below r f (machine.makeWord q o) (z, n, d, N) = d .below
+  word-below r f (machine.unrolledWord q e) (z, n, d, S) = d .below
+  word-below r f (machine.againWord q v e) (z, n, d, S) = d .below
 
-  pub control-same : (f : Focus) (d : Control) → ControlAt p s i f d → ControlAt p s′ i f d
-  control-same f (done v) C = C
-  control-same f (at σ w K) (values, W, F) =
-      let l = word-below f w W in (
-        λ x h. a .variables x h ∙ values x h,
-        word-same f w W,
-        frames-same p i s s′ (placeOf p s i w) (continuation p (placeOf p s i w)) K (λ j h. a .kepts j (omega (arith, h, l))) F,
+  pub rows-same : (r b : ℕ) → RowIn i r → b ≤ 256 → RowsSame p i r b s s′
+  rows-same r b (lo, hi) h = record {
+    here = λ j l. a .kepts r j (lo, hi) (omega (arith, l, h));
+    before = λ k j m l z. a .kepts k j (m, omega (arith, l, hi)) z;
+    variables = λ k x m l z. a .variables k x (m, omega (arith, l, hi)) z;
+    called = λ k m l. a .calls k (omega (arith, m), omega (arith, l, hi));
+  }
+
+  pub control-same : (f : Focus) (d : Control) → openCalls d ≤ 65 → ControlAt p s i f d → ControlAt p s′ i f d
+  unfolding openCalls
+  control-same f (done v) few C = C
+  control-same f (at σ w K) few (values, W, F) =
+      let l = word-below (f .row) f w W in
+      let in-row = frames-inside p i s K (f .row) (placeOf p s w) (continuation p (placeOf p s w)) few F in (
+        λ x h. a .variables (f .row) x in-row h ∙ values x h,
+        word-same (f .row) in-row f w W,
+        frames-same p i s s′ (f .row) (placeOf p s w) (continuation p (placeOf p s w)) K (rows-same (f .row) (placeOf p s w) in-row (omega (arith, l))) F,
       )
 
 -- ------------------------------------------------------------------ what each store changes
 
 pub agree-all : (i : ℕ) (s : List ℕ) → Agree i s s
-agree-all i s = record { rows = record { variables = λ x h. refl; kepts = λ j h. refl }; focused = refl }
+agree-all i s = record { rows = record { variables = λ r x a h. refl; kepts = λ r j a h. refl; calls = λ r a. refl }; focused = refl }
 
 pub rows-then : {i : ℕ} {s s′ s″ : List ℕ} → RowsAgree i s s′ → RowsAgree i s′ s″ → RowsAgree i s s″
-rows-then a b = record { variables = λ x h. b .variables x h ∙ a .variables x h; kepts = λ j h. b .kepts j h ∙ a .kepts j h }
+rows-then a b = record {
+  variables = λ r x n h. b .variables r x n h ∙ a .variables r x n h;
+  kepts = λ r j n h. b .kepts r j n h ∙ a .kepts r j n h;
+  calls = λ r n. b .calls r n ∙ a .calls r n;
+}
 
 pub agree-then : {i : ℕ} {s s′ s″ : List ℕ} → Agree i s s′ → Agree i s′ s″ → Agree i s s″
 agree-then a b = record { rows = rows-then (a .rows) (b .rows); focused = b .focused ∙ a .focused }
 
--- a store of one number that is none of thread i's
-pub rows-set : (i k x : ℕ) (s : List ℕ) → ((y : ℕ) → y < 256 → 256 * i + y ≢ k) → ((j : ℕ) → j < 256 → 4096 + 256 * i + j ≢ k) → RowsAgree i s (set s k x)
-unfolding variable kept
-rows-set i k x s e f = record {
-  variables = λ y h. getD-set-other s k (0 + 256 * i + y) x 0 (λ z. e y h (omega (arith, z)));
-  kepts = λ j h. getD-set-other s k (4096 + 256 * i + j) x 0 (f j h);
+-- a number is none of thread i's rows
+pub record Outside (i k : ℕ) : Type 0 where
+  pub of-variables : (r y : ℕ) → RowIn i r → y < 256 → 0 + 256 * r + y ≢ k
+  pub of-kepts : (r j : ℕ) → RowIn i r → j < 256 → keptAt + 256 * r + j ≢ k
+  pub of-calls : (r : ℕ) → RowIn i r → callsAt + r ≢ k
+
+-- a store of such a number
+pub rows-set : (i k x : ℕ) (s : List ℕ) → Outside i k → RowsAgree i s (set s k x)
+unfolding variable kept calledFrom
+rows-set i k x s o = record {
+  variables = λ r y a h. getD-set-other s k (0 + 256 * r + y) x 0 (o .of-variables r y a h);
+  kepts = λ r j a h. getD-set-other s k (keptAt + 256 * r + j) x 0 (o .of-kepts r j a h);
+  calls = λ r a. getD-set-other s k (callsAt + r) x 0 (o .of-calls r a);
 }
 
-pub agree-set : (i k x : ℕ) (s : List ℕ) → ((y : ℕ) → y < 256 → 256 * i + y ≢ k) → ((j : ℕ) → j < 256 → 4096 + 256 * i + j ≢ k) →
-    8192 + i ≢ k → 8208 + i ≢ k → 8224 + i ≢ k → Agree i s (set s k x)
+pub agree-set : (i k x : ℕ) (s : List ℕ) → Outside i k → 541728 + i ≢ k → 541744 + i ≢ k → 541760 + i ≢ k → 541776 + i ≢ k → Agree i s (set s k x)
 unfolding focusAt
-agree-set i k x s e f a b c = record {
-  rows = rows-set i k x s e f;
-  focused = λ n. focus (getD-set-other s k (8192 + i) x 0 a n) (getD-set-other s k (8208 + i) x 0 b n) (getD-set-other s k (8224 + i) x 0 c n);
+agree-set i k x s o a b c d = record {
+  rows = rows-set i k x s o;
+  focused = λ n. focus (getD-set-other s k (541728 + i) x 0 a n) (getD-set-other s k (541744 + i) x 0 b n) (getD-set-other s k (541760 + i) x 0 c n) (getD-set-other s k (541776 + i) x 0 d n);
+}
+
+-- all rows stand before these numbers
+pub outside-behind : (i k : ℕ) → i < 16 → 541728 ≤ k → Outside i k
+outside-behind i k l h = record {
+  of-variables = λ r y (lo, hi) m z. omega (arith, z, m, l, h, hi);
+  of-kepts = λ r j (lo, hi) m z. omega (arith, z, m, l, h, hi);
+  of-calls = λ r (lo, hi) z. omega (arith, z, l, h, hi);
 }
 
 -- a store behind the threads' numbers
-pub agree-shared : (i k x : ℕ) (s : List ℕ) → i < 16 → 8240 ≤ k → Agree i s (set s k x)
+pub agree-shared : (i k x : ℕ) (s : List ℕ) → i < 16 → 541792 ≤ k → Agree i s (set s k x)
 agree-shared i k x s l h =
-    agree-set i k x s (λ y m z. omega (arith, z, m, l, h)) (λ j m z. omega (arith, z, m, l, h)) (λ z. omega (arith, z, l, h)) (λ z. omega (arith, z, l, h)) (λ z. omega (arith, z, l, h))
-
--- a store of a variable of thread t
-pub agree-variable : (i t y x : ℕ) (s : List ℕ) → i < 16 → t < 16 → y < 256 → i ≢ t → Agree i s (set s (0 + 256 * t + y) x)
-agree-variable i t y x s l m h n =
-    agree-set i (0 + 256 * t + y) x s (λ z hz e. n (rows i t z y hz h e)) (λ j hj e. omega (arith, e, m, h)) (λ e. omega (arith, e, m, h)) (λ e. omega (arith, e, m, h)) (λ e. omega (arith, e, m, h))
-  where
-    rows : (i t z y : ℕ) → z < 256 → y < 256 → 256 * i + z ≡ 0 + 256 * t + y → i ≡ t
-    rows i t z y hz hy e = omega (arith, e, hz, hy)
+    agree-set i k x s (outside-behind i k l (omega (arith, h))) (λ z. omega (arith, z, l, h)) (λ z. omega (arith, z, l, h)) (λ z. omega (arith, z, l, h)) (λ z. omega (arith, z, l, h))
 
 pub less-or-more : (i t : ℕ) → i ≢ t → (i < t) ⊎ (t < i)
 less-or-more i t n = go (decLt i t)
@@ -110,80 +131,144 @@ less-or-more i t n = go (decLt i t)
     go (yes l) = inl l
     go (no f) = inr (omega (arith, f, n))
 
+-- the numbers of another thread's row: a variable, and the call
+pub outside-variable : (i t r y : ℕ) → i < 16 → t < 16 → RowIn t r → y < 256 → i ≢ t → Outside i (0 + 256 * r + y)
+outside-variable i t r y l m (lo, hi) h n = either (less-or-more i t n)
+  where
+    either : (i < t) ⊎ (t < i) → Outside i (0 + 256 * r + y)
+    either (inl q) = record {
+      of-variables = λ a z (from, to) b e. omega (arith, e, b, h, q, lo, to);
+      of-kepts = λ a j (from, to) b e. omega (arith, e, m, h, hi);
+      of-calls = λ a (from, to) e. omega (arith, e, m, h, hi);
+    }
+    either (inr q) = record {
+      of-variables = λ a z (from, to) b e. omega (arith, e, b, h, q, hi, from);
+      of-kepts = λ a j (from, to) b e. omega (arith, e, m, h, hi);
+      of-calls = λ a (from, to) e. omega (arith, e, m, h, hi);
+    }
+
+pub outside-call : (i t r : ℕ) → i < 16 → RowIn t r → i ≢ t → Outside i (callsAt + r)
+outside-call i t r l (lo, hi) n = either (less-or-more i t n)
+  where
+    either : (i < t) ⊎ (t < i) → Outside i (callsAt + r)
+    either (inl q) = record {
+      of-variables = λ a z (from, to) b e. omega (arith, e, b, l, to);
+      of-kepts = λ a j (from, to) b e. omega (arith, e, b, l, to);
+      of-calls = λ a (from, to) e. omega (arith, e, q, lo, to);
+    }
+    either (inr q) = record {
+      of-variables = λ a z (from, to) b e. omega (arith, e, b, l, to);
+      of-kepts = λ a j (from, to) b e. omega (arith, e, b, l, to);
+      of-calls = λ a (from, to) e. omega (arith, e, q, hi, from);
+    }
+
+-- a store before the focuses
+pub agree-before : (i k x : ℕ) (s : List ℕ) → k < 541728 → Outside i k → Agree i s (set s k x)
+agree-before i k x s h o = agree-set i k x s o (λ e. omega (arith, e, h)) (λ e. omega (arith, e, h)) (λ e. omega (arith, e, h)) (λ e. omega (arith, e, h))
+
+-- a store of a variable of thread t
+pub agree-variable : (i t r y x : ℕ) (s : List ℕ) → i < 16 → t < 16 → RowIn t r → y < 256 → i ≢ t → Agree i s (set s (0 + 256 * r + y) x)
+agree-variable i t r y x s l m a h n = agree-before i (0 + 256 * r + y) x s (omega (arith, a .1, m, h)) (outside-variable i t r y l m a h n)
+
 -- what the loop changes in thread t's own numbers
 pub agree-found : (i t : ℕ) (s s′ : List ℕ) → i < 16 → t < 16 → i ≢ t → SameBut t s s′ → Agree i s s′
-unfolding variable kept focusAt
+unfolding variable kept calledFrom focusAt
 agree-found i t s s′ l m n c = record {
   rows = record {
-    variables = λ y h. c .kept (0 + 256 * i + y) (inl (omega (arith, l, h)));
-    kepts = λ j h. c .kept (4096 + 256 * i + j) (apart j h);
+    variables = λ r y (lo, hi) h. c .kept (0 + 256 * r + y) (inl (omega (arith, l, h, hi)));
+    kepts = λ r j a h. c .kept (keptAt + 256 * r + j) (apart r j a h (less-or-more i t n));
+    calls = λ r (lo, hi). c .kept (callsAt + r) (inr (omega (arith, m)));
   };
-  focused = λ z. focus (c .kept (8192 + i) (inr (omega (arith, m))) z) (c .kept (8208 + i) (inr (omega (arith, m))) z) (c .kept (8224 + i) (inr (omega (arith, m))) z);
+  focused = λ z. focus (c .kept (541728 + i) (inr (omega (arith, m))) z) (c .kept (541744 + i) (inr (omega (arith, m))) z) (c .kept (541760 + i) (inr (omega (arith, m))) z) (c .kept (541776 + i) (inr (omega (arith, m))) z);
 }
   where
-    apart : (j : ℕ) → j < 256 → (4096 + 256 * i + j < keptAt + 256 * t) ⊎ (keptAt + 256 * t + 256 ≤ 4096 + 256 * i + j)
-    apart j h = either (less-or-more i t n)
-      where
-        either : (i < t) ⊎ (t < i) → (4096 + 256 * i + j < keptAt + 256 * t) ⊎ (keptAt + 256 * t + 256 ≤ 4096 + 256 * i + j)
-        either (inl q) = inl (omega (arith, q, h))
-        either (inr q) = inr (omega (arith, q, h))
+    apart : (r j : ℕ) → RowIn i r → j < 256 → (i < t) ⊎ (t < i) → (keptAt + 256 * r + j < keptAt + 16896 * t) ⊎ (keptAt + 16896 * t + 16896 ≤ keptAt + 256 * r + j)
+    apart r j (lo, hi) h (inl q) = inl (omega (arith, q, h, hi))
+    apart r j (lo, hi) h (inr q) = inr (omega (arith, q, lo))
 
 pub shared-found : (t : ℕ) (s s′ : List ℕ) → t < 16 → SameBut t s s′ → SharedSame s s′
 shared-found t s s′ m c j h = c .kept j (inr (omega (arith, m, h)))
 
 -- the focus of thread t
-pub focus-here : (s : List ℕ) (t : ℕ) (f : Focus) → length s ≡ 16384 → t < 16 → focusAt (focusPut s t f) t ≡ f
+pub focus-here : (s : List ℕ) (t : ℕ) (f : Focus) → length s ≡ 542960 → t < 16 → focusAt (focusPut s t f) t ≡ f
 unfolding focusAt focusPut
-focus-here s t f long m = λ z. focus (modes z) (places z) (givens z)
+focus-here s t f long m = λ z. focus (modes z) (places z) (givens z) (rows z)
   where
     s₁ : List ℕ
-    s₁ = set s (8192 + t) (f .mode)
+    s₁ = set s (541728 + t) (f .mode)
 
     s₂ : List ℕ
-    s₂ = set s₁ (8208 + t) (f .at)
+    s₂ = set s₁ (541744 + t) (f .at)
 
-    long₁ : length s₁ ≡ 16384
-    long₁ = length-set s (8192 + t) (f .mode) ∙ long
+    s₃ : List ℕ
+    s₃ = set s₂ (541760 + t) (f .value)
 
-    long₂ : length s₂ ≡ 16384
-    long₂ = length-set s₁ (8208 + t) (f .at) ∙ long₁
+    long₁ : length s₁ ≡ 542960
+    long₁ = length-set s (541728 + t) (f .mode) ∙ long
 
-    modes : getD (set s₂ (8224 + t) (f .value)) (8192 + t) 0 ≡ f .mode
-    modes = getD-set-other s₂ (8224 + t) (8192 + t) (f .value) 0 (λ e. omega (arith, e)) ∙ getD-set-other s₁ (8208 + t) (8192 + t) (f .at) 0 (λ e. omega (arith, e)) ∙ getD-set-same s (8192 + t) (f .mode) 0 (omega (arith, long, m))
+    long₂ : length s₂ ≡ 542960
+    long₂ = length-set s₁ (541744 + t) (f .at) ∙ long₁
 
-    places : getD (set s₂ (8224 + t) (f .value)) (8208 + t) 0 ≡ f .at
-    places = getD-set-other s₂ (8224 + t) (8208 + t) (f .value) 0 (λ e. omega (arith, e)) ∙ getD-set-same s₁ (8208 + t) (f .at) 0 (omega (arith, long₁, m))
+    long₃ : length s₃ ≡ 542960
+    long₃ = length-set s₂ (541760 + t) (f .value) ∙ long₂
 
-    givens : getD (set s₂ (8224 + t) (f .value)) (8224 + t) 0 ≡ f .value
-    givens = getD-set-same s₂ (8224 + t) (f .value) 0 (omega (arith, long₂, m))
+    modes : getD (set s₃ (541776 + t) (f .row)) (541728 + t) 0 ≡ f .mode
+    modes =
+        getD-set-other s₃ (541776 + t) (541728 + t) (f .row) 0 (λ e. omega (arith, e)) ∙ getD-set-other s₂ (541760 + t) (541728 + t) (f .value) 0 (λ e. omega (arith, e))
+        ∙ getD-set-other s₁ (541744 + t) (541728 + t) (f .at) 0 (λ e. omega (arith, e)) ∙ getD-set-same s (541728 + t) (f .mode) 0 (omega (arith, long, m))
+
+    places : getD (set s₃ (541776 + t) (f .row)) (541744 + t) 0 ≡ f .at
+    places =
+        getD-set-other s₃ (541776 + t) (541744 + t) (f .row) 0 (λ e. omega (arith, e)) ∙ getD-set-other s₂ (541760 + t) (541744 + t) (f .value) 0 (λ e. omega (arith, e))
+        ∙ getD-set-same s₁ (541744 + t) (f .at) 0 (omega (arith, long₁, m))
+
+    givens : getD (set s₃ (541776 + t) (f .row)) (541760 + t) 0 ≡ f .value
+    givens = getD-set-other s₃ (541776 + t) (541760 + t) (f .row) 0 (λ e. omega (arith, e)) ∙ getD-set-same s₂ (541760 + t) (f .value) 0 (omega (arith, long₂, m))
+
+    rows : getD (set s₃ (541776 + t) (f .row)) (541776 + t) 0 ≡ f .row
+    rows = getD-set-same s₃ (541776 + t) (f .row) 0 (omega (arith, long₃, m))
+
+-- the four stores of a focus: what holds of a store of each holds of all
+module _ (t : ℕ) (f : Focus) (P : List ℕ → List ℕ → Type 0) (then : (s s′ s″ : List ℕ) → P s s′ → P s′ s″ → P s s″)
+    (one : (k x : ℕ) (s : List ℕ) → (k ≡ 541728 + t) ⊎ ((k ≡ 541744 + t) ⊎ ((k ≡ 541760 + t) ⊎ (k ≡ 541776 + t))) → P s (set s k x)) where
+  focus-stores : (s : List ℕ) → P s (focusPut s t f)
+  unfolding focusPut
+  focus-stores s =
+      let s₁ = set s (541728 + t) (f .mode) in
+      let s₂ = set s₁ (541744 + t) (f .at) in
+      let s₃ = set s₂ (541760 + t) (f .value) in
+      let s₄ = set s₃ (541776 + t) (f .row) in
+      then s s₁ s₄ (one (541728 + t) (f .mode) s (inl refl))
+      (then s₁ s₂ s₄ (one (541744 + t) (f .at) s₁ (inr (inl refl)))
+      (then s₂ s₃ s₄ (one (541760 + t) (f .value) s₂ (inr (inr (inl refl)))) (one (541776 + t) (f .row) s₃ (inr (inr (inr refl))))))
 
 pub focus-length : (s : List ℕ) (t : ℕ) (f : Focus) → length (focusPut s t f) ≡ length s
-unfolding focusPut
-focus-length s t f =
-    length-set (set (set s (8192 + t) (f .mode)) (8208 + t) (f .at)) (8224 + t) (f .value)
-    ∙ length-set (set s (8192 + t) (f .mode)) (8208 + t) (f .at)
-    ∙ length-set s (8192 + t) (f .mode)
+focus-length s t f = focus-stores t f (λ s s′. length s′ ≡ length s) (λ s s′ s″ a b. b ∙ a) (λ k x s o. length-set s k x) s
 
 pub focus-other : (i t : ℕ) (s : List ℕ) (f : Focus) → i < 16 → t < 16 → i ≢ t → Agree i s (focusPut s t f)
-unfolding focusPut
-focus-other i t s f l m n = agree-then (one (8192 + t) (f .mode) s (inl refl)) (agree-then (one (8208 + t) (f .at) _ (inr (inl refl))) (one (8224 + t) (f .value) _ (inr (inr refl))))
+focus-other i t s f l m n = focus-stores t f (Agree i) (λ s s′ s″ a b. agree-then a b) one s
   where
-    one : (k x : ℕ) (s : List ℕ) → (k ≡ 8192 + t) ⊎ ((k ≡ 8208 + t) ⊎ (k ≡ 8224 + t)) → Agree i s (set s k x)
-    one k x s (inl q) = agree-set i k x s (λ y h z. omega (arith, z, q, h, l)) (λ j h z. omega (arith, z, q, h, l)) (λ z. n (omega (arith, z, q))) (λ z. omega (arith, z, q, l, m)) (λ z. omega (arith, z, q, l, m))
-    one k x s (inr (inl q)) = agree-set i k x s (λ y h z. omega (arith, z, q, h, l)) (λ j h z. omega (arith, z, q, h, l)) (λ z. omega (arith, z, q, l, m)) (λ z. n (omega (arith, z, q))) (λ z. omega (arith, z, q, l, m))
-    one k x s (inr (inr q)) = agree-set i k x s (λ y h z. omega (arith, z, q, h, l)) (λ j h z. omega (arith, z, q, h, l)) (λ z. omega (arith, z, q, l, m)) (λ z. omega (arith, z, q, l, m)) (λ z. n (omega (arith, z, q)))
+    one : (k x : ℕ) (s : List ℕ) → (k ≡ 541728 + t) ⊎ ((k ≡ 541744 + t) ⊎ ((k ≡ 541760 + t) ⊎ (k ≡ 541776 + t))) → Agree i s (set s k x)
+    one k x s (inl q) = agree-set i k x s (outside-behind i k l (omega (arith, q))) (λ z. n (omega (arith, z, q))) (λ z. omega (arith, z, q, l, m)) (λ z. omega (arith, z, q, l, m)) (λ z. omega (arith, z, q, l, m))
+    one k x s (inr (inl q)) = agree-set i k x s (outside-behind i k l (omega (arith, q))) (λ z. omega (arith, z, q, l, m)) (λ z. n (omega (arith, z, q))) (λ z. omega (arith, z, q, l, m)) (λ z. omega (arith, z, q, l, m))
+    one k x s (inr (inr (inl q))) = agree-set i k x s (outside-behind i k l (omega (arith, q))) (λ z. omega (arith, z, q, l, m)) (λ z. omega (arith, z, q, l, m)) (λ z. n (omega (arith, z, q))) (λ z. omega (arith, z, q, l, m))
+    one k x s (inr (inr (inr q))) = agree-set i k x s (outside-behind i k l (omega (arith, q))) (λ z. omega (arith, z, q, l, m)) (λ z. omega (arith, z, q, l, m)) (λ z. omega (arith, z, q, l, m)) (λ z. n (omega (arith, z, q)))
 
 pub focus-shared : (t : ℕ) (s : List ℕ) (f : Focus) → t < 16 → SharedSame s (focusPut s t f)
-unfolding focusPut
-focus-shared t s f m j h =
-    getD-set-other (set (set s (8192 + t) (f .mode)) (8208 + t) (f .at)) (8224 + t) j (f .value) 0 (λ e. omega (arith, e, h, m))
-    ∙ getD-set-other (set s (8192 + t) (f .mode)) (8208 + t) j (f .at) 0 (λ e. omega (arith, e, h, m))
-    ∙ getD-set-other s (8192 + t) j (f .mode) 0 (λ e. omega (arith, e, h, m))
+focus-shared t s f m = focus-stores t f SharedSame (λ s s′ s″ a b j h. b j h ∙ a j h) one s
+  where
+    one : (k x : ℕ) (s : List ℕ) → (k ≡ 541728 + t) ⊎ ((k ≡ 541744 + t) ⊎ ((k ≡ 541760 + t) ⊎ (k ≡ 541776 + t))) → SharedSame s (set s k x)
+    one k x s (inl q) j h = getD-set-other s k j x 0 (λ e. omega (arith, e, q, h, m))
+    one k x s (inr (inl q)) j h = getD-set-other s k j x 0 (λ e. omega (arith, e, q, h, m))
+    one k x s (inr (inr (inl q))) j h = getD-set-other s k j x 0 (λ e. omega (arith, e, q, h, m))
+    one k x s (inr (inr (inr q))) j h = getD-set-other s k j x 0 (λ e. omega (arith, e, q, h, m))
 
 -- the thread's own rows
 pub focus-rows : (i t : ℕ) (s : List ℕ) (f : Focus) → i < 16 → t < 16 → RowsAgree i s (focusPut s t f)
-unfolding focusPut
-focus-rows i t s f l m = rows-then (one (8192 + t) (f .mode) s (omega arith)) (rows-then (one (8208 + t) (f .at) _ (omega arith)) (one (8224 + t) (f .value) _ (omega arith)))
+focus-rows i t s f l m = focus-stores t f (RowsAgree i) (λ s s′ s″ a b. rows-then a b) one s
   where
-    one : (k x : ℕ) (s : List ℕ) → 8192 ≤ k → RowsAgree i s (set s k x)
-    one k x s h = rows-set i k x s (λ y hy z. omega (arith, z, h, hy, l)) (λ j hj z. omega (arith, z, h, hj, l))
+    one : (k x : ℕ) (s : List ℕ) → (k ≡ 541728 + t) ⊎ ((k ≡ 541744 + t) ⊎ ((k ≡ 541760 + t) ⊎ (k ≡ 541776 + t))) → RowsAgree i s (set s k x)
+    one k x s (inl q) = rows-set i k x s (outside-behind i k l (omega (arith, q)))
+    one k x s (inr (inl q)) = rows-set i k x s (outside-behind i k l (omega (arith, q)))
+    one k x s (inr (inr (inl q))) = rows-set i k x s (outside-behind i k l (omega (arith, q)))
+    one k x s (inr (inr (inr q))) = rows-set i k x s (outside-behind i k l (omega (arith, q)))

@@ -19,7 +19,7 @@ use Rattle.workspace.specs.Layout.{ruleOf, codeOf, printed}
 use Rattle.threads.specs.declared.Threads.{Threads}
 use Rattle.control.specs.declared.Focus.{Focus}
 use Rattle.control.specs.Shapes.{shapeOf, shapeAt}
-use Rattle.control.specs.Control.{variable, kept, continuation, second, behind, entering, returning, stoppedAt, readyAt, unrolledAt, found}
+use Rattle.control.specs.Control.{callsAt, variable, kept, calledFrom, continuation, second, behind, entering, returning, stoppedAt, readyAt, unrolledAt, found}
 use Rattle.control.proofs.Turns.{found-stop}
 use Rattle.reduction.specs.declared.words.Act.{Act}
 use Rattle.reduction.specs.declared.words.Act.the-variants.{Go}
@@ -32,8 +32,8 @@ use Rattle.machine.specs.State.{MachineThread, Machine, running}
 use Rattle.machine.specs.Step.{zeroValue, goesTo, partOf, unrolledPart}
 use Rattle.machine.specs.Replay.{Replay, within}
 use Rattle.simulation.proofs.Held.{codeValue, RowOf, Stands, Values, Frames, WordAt, ControlAt}
-use Rattle.simulation.proofs.Turning.{behind-is, SameBut, same-all}
-use Rattle.simulation.proofs.Finding.{frames-up, frames-same, KeptBelow, Ready, enters-word, returns-word, runs-part}
+use Rattle.simulation.proofs.Turning.{behind-is, SameBut, same-all, RowIn}
+use Rattle.simulation.proofs.Finding.{frames-up, RowsSame, frames-same, Ready, enters-word, returns-word, runs-part}
 use Rattle.simulation.proofs.Agreeing.{Agree, agree-all, agree-variable}
 use Rattle.simulation.proofs.Holds.{NamesHeld, Holds}
 use Rattle.simulation.proofs.Proceeding.{names-same}
@@ -41,16 +41,16 @@ use Rattle.simulation.proofs.Moving.{Answered, moves, pausing, thread-l
 
 -- ------------------------------------------------------------------ what the code does
 
-module _ (p s : List ℕ) (t c : ℕ) {q : Position} where
-  let-acts : {x : ℕ} (v : ℕ) → RowOf p q (Binary Let) x → acted p s t (readyAt (q .index) v) c ≡ (Go (entering (second p (q .index))), set s (0 + 256 * t + x) v)
+module _ (p s : List ℕ) (row c : ℕ) {q : Position} where
+  let-acts : {x : ℕ} (v : ℕ) → RowOf p q (Binary Let) x → acted p s (readyAt row (q .index) v) c ≡ (Go (entering row (second p (q .index))), set s (0 + 256 * row + x) v)
   unfolding acted actedBy bound shapeAt shapeOf ruleOf printed
   let-acts v r = rw (r .code, r .number)
 
-  if-acts : {n : ℕ} → RowOf p q (Binary If) n → acted p s t (stoppedAt (q .index)) c ≡ (Go (branched p (q .index) c), s)
+  if-acts : {n : ℕ} → RowOf p q (Binary If) n → acted p s (stoppedAt row (q .index)) c ≡ (Go (branched p row (q .index) c), s)
   unfolding acted actedBy shapeAt shapeOf ruleOf printed
   if-acts r = rw (r .code)
 
-  while-acts : {n : ℕ} (f : Focus) → f .at ≡ q .index → RowOf p q (Unary While) n → acted p s t f c ≡ (Go (looped p f c), s)
+  while-acts : {n : ℕ} (f : Focus) → f .at ≡ q .index → RowOf p q (Unary While) n → acted p s f c ≡ (Go (looped p f c), s)
   unfolding acted actedBy shapeAt shapeOf ruleOf printed
   while-acts f e r = rw (e, r .code)
 
@@ -64,113 +64,119 @@ module _ (p s : List ℕ) (T : Threads) (R : Replay) (t tid : ℕ) (σ : Env) (K
   abbrev pub Went : Control → Replay
   Went d = record { machine = goesTo M t tid (M .names) d; things = R .things }
 
-  abbrev pub Goes : (k : ℕ) → Control → Act × List ℕ → Type 0
-  Goes k d r = Answered p (limited within (some (Went d))) (afterAct p T t k r)
+  abbrev pub Goes : Focus → Control → Act × List ℕ → Type 0
+  Goes f d r = Answered p (limited within (some (Went d))) (afterAct p T t f r)
 
   -- nothing of the space has changed
-  pub goes : (w : _) (k : ℕ) → getElem? (M .threads) t ≡ some (running tid (at σ w K)) → (g : Focus) (d : Control) →
-      ControlAt p (found 2048 p s t g .1) t (found 2048 p s t g .0) d × SameBut t s (found 2048 p s t g .1) → Goes k d (Go g, s)
-  goes w k there g d F =
-      moves p s T (M .threads) t tid k (pausing p s T R t tid (at σ w K) H there refl s (H .long) (λ i l n. agree-all i s)) (M .names) (M .next) (R .things) (H .names) g d F
+  pub goes : (w : _) (f : Focus) → getElem? (M .threads) t ≡ some (running tid (at σ w K)) → (g : Focus) (d : Control) →
+      ControlAt p (found 2048 p s g .1) t (found 2048 p s g .0) d × SameBut t s (found 2048 p s g .1) → Goes f d (Go g, s)
+  goes w f there g d F =
+      moves p s T (M .threads) t tid f (pausing p s T R t tid (at σ w K) H there refl s (H .long) (λ i l n. agree-all i s)) (M .procedures) (H .bodies) (M .names) (M .next) (R .things) (H .names) g d F
 
   -- the thread stands there at once
-  stays : (g : Focus) (d : Control) → 2 ≤ g .mode → ControlAt p s t g d → ControlAt p (found 2048 p s t g .1) t (found 2048 p s t g .0) d × SameBut t s (found 2048 p s t g .1)
-  stays g d h C = subst (λ (r : Focus × List ℕ). ControlAt p (r .1) t (r .0) d × SameBut t s (r .1)) (sym (found-stop p s t g 2048 h)) (C, same-all t s)
+  stays : (g : Focus) (d : Control) → 2 ≤ g .mode → ControlAt p s t g d → ControlAt p (found 2048 p s g .1) t (found 2048 p s g .0) d × SameBut t s (found 2048 p s g .1)
+  stays g d h C = subst (λ (r : Focus × List ℕ). ControlAt p (r .1) t (r .0) d × SameBut t s (r .1)) (sym (found-stop p s g 2048 h)) (C, same-all t s)
 
-  module _ (low : t < 16) (values : Values p s t σ) where
-    pub ready : (b b′ c : ℕ) → b ≤ b′ → Frames p s t b c K → Ready p t low σ s s b′ c K
-    ready b b′ c h F = record { same = same-all t s; long = H .long; values = values; frames = frames-up p t s b b′ c K h F }
+  module _ (low : t < 16) (row : ℕ) (inside : RowIn t row) (values : Values p s row σ) where
+    pub ready : (b b′ c : ℕ) → b ≤ b′ → Frames p s t row b c K → Ready p t low σ row s s b′ c K
+    ready b b′ c h F = record { same = same-all t s; long = H .long; inside = inside; values = values; frames = frames-up p t s row b b′ c K h F }
 
     -- ---------------------------------------------------------------- let
 
-    module _ (q : Position) (x : ℕ) (v : Value) (e : Expr) (r : RowOf p q (Binary Let) x) (S : Stands p (continuation p (q .index)) (second p (q .index)) e) (F : Frames p s t (q .index) (continuation p (q .index)) K) where
+    module _ (q : Position) (x : ℕ) (v : Value) (e : Expr) (r : RowOf p q (Binary Let) x) (S : Stands p (continuation p (q .index)) (second p (q .index)) e) (F : Frames p s t row (q .index) (continuation p (q .index)) K) where
       abbrev s₁ : List ℕ
-      s₁ = set s (0 + 256 * t + x) (codeValue v)
+      s₁ = set s (0 + 256 * row + x) (codeValue v)
 
       x-low : x < 256
       x-low = r .small
 
-      long₁ : length s₁ ≡ 16384
-      long₁ = length-set s (0 + 256 * t + x) (codeValue v) ∙ H .long
+      long₁ : length s₁ ≡ 542960
+      long₁ = length-set s (0 + 256 * row + x) (codeValue v) ∙ H .long
 
-      bound-values : Values p s₁ t (update σ x v)
+      bound-values : Values p s₁ row (update σ x v)
       unfolding variable
       bound-values y h = by-name (ℕ-discrete y x)
         where
-          by-name : (d : Dec (y ≡ x)) → getD s₁ (0 + 256 * t + y) 0 ≡ codeValue (choose d v (σ y))
-          by-name (yes z) = ap (λ (j : ℕ). getD s₁ (0 + 256 * t + j) 0) z ∙ getD-set-same s (0 + 256 * t + x) (codeValue v) 0 (omega (arith, H .long, low, x-low))
-          by-name (no n) = getD-set-other s (0 + 256 * t + x) (0 + 256 * t + y) (codeValue v) 0 (λ z. n (omega (arith, z))) ∙ values y h
+          by-name : (d : Dec (y ≡ x)) → getD s₁ (0 + 256 * row + y) 0 ≡ codeValue (choose d v (σ y))
+          by-name (yes z) = ap (λ (j : ℕ). getD s₁ (0 + 256 * row + j) 0) z ∙ getD-set-same s (0 + 256 * row + x) (codeValue v) 0 (omega (arith, H .long, low, inside .1, x-low))
+          by-name (no n) = getD-set-other s (0 + 256 * row + x) (0 + 256 * row + y) (codeValue v) 0 (λ z. n (omega (arith, z))) ∙ values y h
 
-      kept-same : KeptBelow p t (q .index) s s₁
-      unfolding kept
-      kept-same j l = getD-set-other s (0 + 256 * t + x) (4096 + 256 * t + j) (codeValue v) 0 (λ z. omega (arith, z, low, x-low))
+      rows-same : RowsSame p t row (q .index) s s₁
+      unfolding kept variable calledFrom
+      rows-same = record {
+        here = λ j l. getD-set-other s (0 + 256 * row + x) (270336 + 256 * row + j) (codeValue v) 0 (λ z. omega (arith, z, low, inside .1, x-low));
+        before = λ i j a l h. getD-set-other s (0 + 256 * row + x) (270336 + 256 * i + j) (codeValue v) 0 (λ z. omega (arith, z, low, inside .1, x-low));
+        variables = λ i y a l h. getD-set-other s (0 + 256 * row + x) (0 + 256 * i + y) (codeValue v) 0 (λ z. omega (arith, z, l, h));
+        called = λ i a l. getD-set-other s (0 + 256 * row + x) (callsAt + i) (codeValue v) 0 (λ z. omega (arith, z, low, inside .1, x-low));
+      }
 
-      pub let-goes : (c : ℕ) → getElem? (M .threads) t ≡ some (running tid (at σ (letWord q x v e) K)) → Goes (q .index) (enter (update σ x v) e K) (acted p s t (readyAt (q .index) (codeValue v)) c)
+      pub let-goes : (c : ℕ) → getElem? (M .threads) t ≡ some (running tid (at σ (letWord q x v e) K)) → Goes (readyAt row (q .index) (codeValue v)) (enter (update σ x v) e K) (acted p s (readyAt row (q .index) (codeValue v)) c)
       let-goes c there =
-          subst (Goes (q .index) (enter (update σ x v) e K)) (sym (let-acts p s t c (codeValue v) r))
-          (moves p s₁ T (M .threads) t tid (q .index)
-          (pausing p s T R t tid (at σ (letWord q x v e) K) H there refl s₁ long₁ (λ i l n. agree-variable i t x (codeValue v) s l low x-low n))
-          (M .names) (M .next) (R .things)
-          (names-same s s₁ (λ j h. getD-set-other s (0 + 256 * t + x) j (codeValue v) 0 (λ z. omega (arith, z, h, low, x-low))) (H .names))
-          (entering (second p (q .index))) (enter (update σ x v) e K)
-          (enters-word p t low (update σ x v) s₁ e (continuation p (q .index)) (second p (q .index)) K s₁ S
+          subst (Goes (readyAt row (q .index) (codeValue v)) (enter (update σ x v) e K)) (sym (let-acts p s row c (codeValue v) r))
+          (moves p s₁ T (M .threads) t tid (readyAt row (q .index) (codeValue v))
+          (pausing p s T R t tid (at σ (letWord q x v e) K) H there refl s₁ long₁ (λ i l n. agree-variable i t row x (codeValue v) s l low inside x-low n))
+          (M .procedures) (H .bodies) (M .names) (M .next) (R .things)
+          (names-same s s₁ (λ j h. getD-set-other s (0 + 256 * row + x) j (codeValue v) 0 (λ z. omega (arith, z, h, low, inside .1, x-low))) (H .names))
+          (entering row (second p (q .index))) (enter (update σ x v) e K)
+          (enters-word p t low (update σ x v) row s₁ e (continuation p (q .index)) (second p (q .index)) K s₁ S
           (record {
             same = same-all t s₁;
             long = long₁;
+            inside = inside;
             values = bound-values;
-            frames = frames-up p t s₁ (q .index) (second p (q .index)) (continuation p (q .index)) K (omega (arith, r .far))
-                (frames-same p t s s₁ (q .index) (continuation p (q .index)) K kept-same F);
+            frames = frames-up p t s₁ row (q .index) (second p (q .index)) (continuation p (q .index)) K (omega (arith, r .far))
+                (frames-same p t s s₁ row (q .index) (continuation p (q .index)) K rows-same F);
           })))
 
     -- ---------------------------------------------------------------- if
 
     module _ (q : Position) (e₁ e₂ : Expr) {n : ℕ} (r : RowOf p q (Binary If) n) (S₁ : Stands p (continuation p (q .index)) (q .index + 1) e₁) (S₂ : Stands p (continuation p (q .index)) (second p (q .index)) e₂)
-        (F : Frames p s t (q .index) (continuation p (q .index)) K) (there : getElem? (M .threads) t ≡ some (running tid (at σ (ifWord q e₁ e₂) K))) where
-      pub if-first : Goes (q .index) (enter σ e₁ K) (acted p s t (stoppedAt (q .index)) 0)
+        (F : Frames p s t row (q .index) (continuation p (q .index)) K) (there : getElem? (M .threads) t ≡ some (running tid (at σ (ifWord q e₁ e₂) K))) where
+      pub if-first : Goes (stoppedAt row (q .index)) (enter σ e₁ K) (acted p s (stoppedAt row (q .index)) 0)
       unfolding branched
       if-first =
-          subst (Goes (q .index) (enter σ e₁ K)) (sym (if-acts p s t 0 r ∙ ap (λ (k : ℕ). (Go (entering k), s)) (behind-is (q .index) (r .below))))
-          (goes (ifWord q e₁ e₂) (q .index) there (entering (q .index + 1)) (enter σ e₁ K)
-          (enters-word p t low σ s e₁ (continuation p (q .index)) (q .index + 1) K s S₁ (ready (q .index) (q .index + 1) (continuation p (q .index)) (omega arith) F)))
+          subst (Goes (stoppedAt row (q .index)) (enter σ e₁ K)) (sym (if-acts p s row 0 r ∙ ap (λ (k : ℕ). (Go (entering row k), s)) (behind-is (q .index) (r .below))))
+          (goes (ifWord q e₁ e₂) (stoppedAt row (q .index)) there (entering row (q .index + 1)) (enter σ e₁ K)
+          (enters-word p t low σ row s e₁ (continuation p (q .index)) (q .index + 1) K s S₁ (ready (q .index) (q .index + 1) (continuation p (q .index)) (omega arith) F)))
 
-      pub if-second : Goes (q .index) (enter σ e₂ K) (acted p s t (stoppedAt (q .index)) 1)
+      pub if-second : Goes (stoppedAt row (q .index)) (enter σ e₂ K) (acted p s (stoppedAt row (q .index)) 1)
       unfolding branched
       if-second =
-          subst (Goes (q .index) (enter σ e₂ K)) (sym (if-acts p s t 1 r))
-          (goes (ifWord q e₁ e₂) (q .index) there (entering (second p (q .index))) (enter σ e₂ K)
-          (enters-word p t low σ s e₂ (continuation p (q .index)) (second p (q .index)) K s S₂ (ready (q .index) (second p (q .index)) (continuation p (q .index)) (omega (arith, r .far)) F)))
+          subst (Goes (stoppedAt row (q .index)) (enter σ e₂ K)) (sym (if-acts p s row 1 r))
+          (goes (ifWord q e₁ e₂) (stoppedAt row (q .index)) there (entering row (second p (q .index))) (enter σ e₂ K)
+          (enters-word p t low σ row s e₂ (continuation p (q .index)) (second p (q .index)) K s S₂ (ready (q .index) (second p (q .index)) (continuation p (q .index)) (omega (arith, r .far)) F)))
 
     -- ---------------------------------------------------------------- while
 
-    module _ (q : Position) (e : Expr) {n : ℕ} (r : RowOf p q (Unary While) n) (S : Stands p (q .index) (q .index + 1) e) (F : Frames p s t (q .index) (continuation p (q .index)) K) where
+    module _ (q : Position) (e : Expr) {n : ℕ} (r : RowOf p q (Unary While) n) (S : Stands p (q .index) (q .index + 1) e) (F : Frames p s t row (q .index) (continuation p (q .index)) K) where
       -- it becomes an `if`
-      pub while-goes : (c : ℕ) → getElem? (M .threads) t ≡ some (running tid (at σ (whileWord q e) K)) → Goes (q .index) (at σ (unrolledWord q e) K) (acted p s t (stoppedAt (q .index)) c)
+      pub while-goes : (c : ℕ) → getElem? (M .threads) t ≡ some (running tid (at σ (whileWord q e) K)) → Goes (stoppedAt row (q .index)) (at σ (unrolledWord q e) K) (acted p s (stoppedAt row (q .index)) c)
       unfolding looped
       while-goes c there =
-          subst (Goes (q .index) (at σ (unrolledWord q e) K)) (sym (while-acts p s t c (stoppedAt (q .index)) refl r))
-          (goes (whileWord q e) (q .index) there (unrolledAt (q .index)) (at σ (unrolledWord q e) K)
-          (stays (unrolledAt (q .index)) (at σ (unrolledWord q e) K) (omega arith) (values, (refl, n, r, S), F)))
+          subst (Goes (stoppedAt row (q .index)) (at σ (unrolledWord q e) K)) (sym (while-acts p s row c (stoppedAt row (q .index)) refl r))
+          (goes (whileWord q e) (stoppedAt row (q .index)) there (unrolledAt row (q .index)) (at σ (unrolledWord q e) K)
+          (stays (unrolledAt row (q .index)) (at σ (unrolledWord q e) K) (omega arith) (values, (refl, n, r, S), F)))
 
       -- its part has given its value
-      pub again-goes : (c : ℕ) (v : Value) → getElem? (M .threads) t ≡ some (running tid (at σ (againWord q v e) K)) → Goes (q .index) (at σ (whileWord q e) K) (acted p s t (readyAt (q .index) (codeValue v)) c)
+      pub again-goes : (c : ℕ) (v : Value) → getElem? (M .threads) t ≡ some (running tid (at σ (againWord q v e) K)) → Goes (readyAt row (q .index) (codeValue v)) (at σ (whileWord q e) K) (acted p s (readyAt row (q .index) (codeValue v)) c)
       unfolding looped
       again-goes c v there =
-          subst (Goes (q .index) (at σ (whileWord q e) K)) (sym (while-acts p s t c (readyAt (q .index) (codeValue v)) refl r))
-          (goes (againWord q v e) (q .index) there (stoppedAt (q .index)) (at σ (whileWord q e) K)
-          (stays (stoppedAt (q .index)) (at σ (whileWord q e) K) (omega arith) (values, (refl, n, r, S), F)))
+          subst (Goes (readyAt row (q .index) (codeValue v)) (at σ (whileWord q e) K)) (sym (while-acts p s row c (readyAt row (q .index) (codeValue v)) refl r))
+          (goes (againWord q v e) (readyAt row (q .index) (codeValue v)) there (stoppedAt row (q .index)) (at σ (whileWord q e) K)
+          (stays (stoppedAt row (q .index)) (at σ (whileWord q e) K) (omega arith) (values, (refl, n, r, S), F)))
 
       module _ (there : getElem? (M .threads) t ≡ some (running tid (at σ (unrolledWord q e) K))) where
         -- the part runs once more
-        pub unrolled-first : Goes (q .index) (unrolledPart first σ q e K) (acted p s t (unrolledAt (q .index)) 0)
+        pub unrolled-first : Goes (unrolledAt row (q .index)) (unrolledPart first σ q e K) (acted p s (unrolledAt row (q .index)) 0)
         unfolding looped
         unrolled-first =
-            subst (Goes (q .index) (unrolledPart first σ q e K)) (sym (while-acts p s t 0 (unrolledAt (q .index)) refl r ∙ ap (λ (k : ℕ). (Go (entering k), s)) (behind-is (q .index) (r .below))))
-            (goes (unrolledWord q e) (q .index) there (entering (q .index + 1)) (unrolledPart first σ q e K)
-            (runs-part p t low σ s q e K s r S (ready (q .index) (q .index) (continuation p (q .index)) (omega arith) F)))
+            subst (Goes (unrolledAt row (q .index)) (unrolledPart first σ q e K)) (sym (while-acts p s row 0 (unrolledAt row (q .index)) refl r ∙ ap (λ (k : ℕ). (Go (entering row k), s)) (behind-is (q .index) (r .below))))
+            (goes (unrolledWord q e) (unrolledAt row (q .index)) there (entering row (q .index + 1)) (unrolledPart first σ q e K)
+            (runs-part p t low σ row s q e K s r S (ready (q .index) (q .index) (continuation p (q .index)) (omega arith) F)))
 
-        pub unrolled-second : Goes (q .index) (unrolledPart secondOfTwo σ q e K) (acted p s t (unrolledAt (q .index)) 1)
+        pub unrolled-second : Goes (unrolledAt row (q .index)) (unrolledPart secondOfTwo σ q e K) (acted p s (unrolledAt row (q .index)) 1)
         unfolding looped given
         unrolled-second =
-            subst (Goes (q .index) (unrolledPart secondOfTwo σ q e K)) (sym (while-acts p s t 1 (unrolledAt (q .index)) refl r))
-            (goes (unrolledWord q e) (q .index) there (returning (continuation p (q .index)) 0) (unrolledPart secondOfTwo σ q e K)
-            (returns-word p t low σ s zeroValue (q .index) (continuation p (q .index)) K s (ready (q .index) (q .index) (continuation p (q .index)) (omega arith) F)))
+            subst (Goes (unrolledAt row (q .index)) (unrolledPart secondOfTwo σ q e K)) (sym (while-acts p s row 1 (unrolledAt row (q .index)) refl r))
+            (goes (unrolledWord q e) (unrolledAt row (q .index)) there (returning row (continuation p (q .index)) 0) (unrolledPart secondOfTwo σ q e K)
+            (returns-word p t low σ row s zeroValue (q .index) (continuation p (q .index)) K s (ready (q .index) (q .index) (continuation p (q .index)) (omega arith) F)))

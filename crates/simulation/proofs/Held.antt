@@ -1,9 +1,10 @@
--- What the program's columns p and the lent space s hold of a thread t of the machine.
-use Prim.Native.Nat.{ℕ, suc, _+_, _*_, _<_, _≤_}
+-- What the program's columns p and the lent space s hold of a thread of the machine: of its variables and frames, row by row.
+use Prim.Native.Nat.{ℕ, suc, _+_, _*_, _-_, _<_, _≤_}
 use mathlib.Core.Path.{_≡_}
 use mathlib.Core.List.{List, [], _∷_}
-use lib.ListN.{length, getD}
-use Rattle.spec.specs.Expression.{Position, Expr, leaf, unary, binary, size}
+use mathlib.Core.Option.{some}
+use lib.ListN.{length, getD, getElem?}
+use Rattle.spec.specs.Expression.{Position, Expr, leaf, unary, binary, size, Procedure}
 use Rattle.spec.specs.declared.Word.{Word}
 use Rattle.spec.specs.declared.Word.the-variants.{Leaf, Unary, Binary}
 use Rattle.spec.specs.declared.LeafWord.{LeafWord}
@@ -14,12 +15,12 @@ use Rattle.spec.specs.declared.BinaryWord.{BinaryWord}
 use Rattle.spec.specs.declared.BinaryWord.the-variants.{Let, If, Spawn, Write}
 use Rattle.calculus.specs.Expression as calculus
 use Rattle.calculus.specs.Expression.{Value, int, name}
-use Rattle.workspace.specs.Layout.{wordsAt, valuesAt, codeOf}
+use Rattle.workspace.specs.Layout.{wordsAt, valuesAt, procVarsAt, codeOf}
 use Rattle.control.specs.declared.Focus.{Focus}
-use Rattle.control.specs.Control.{secondPart, finish, variable, kept, continuation, second, stoppedAt, readyAt, unrolledAt, doneWith}
+use Rattle.control.specs.Control.{secondPart, finish, leave, proceduresAt, variable, kept, calledFrom, continuation, second, firstOf, stoppedAt, readyAt, unrolledAt, doneWith}
 use Rattle.machine.specs.Environment.{Env}
 use Rattle.machine.specs.Control as machine
-use Rattle.machine.specs.Control.{Frame, letFrame, spawnFrame, writeFirst, writeSecond, unaryFrame, againFrame, Control, done, at}
+use Rattle.machine.specs.Control.{Frame, letFrame, spawnFrame, writeFirst, writeSecond, unaryFrame, againFrame, markFrame, Control, done, at}
 
 -- ------------------------------------------------------------------ numbers
 
@@ -41,6 +42,19 @@ partWord (calculus.hold calculus.rdlock) = unaryWord.Rdlock
 partWord (calculus.hold calculus.rdunlock) = unaryWord.Rdunlock
 partWord (calculus.hold calculus.wrlock) = unaryWord.Wrlock
 partWord (calculus.hold calculus.wrunlock) = unaryWord.Wrunlock
+partWord (calculus.call f) = unaryWord.Call
+
+-- the number of a word with one part: of a call its procedure
+abbrev pub PartNumber : calculus.Unary → ℕ → Type 0
+PartNumber calculus.join v = Unit {0}
+PartNumber calculus.ref v = Unit {0}
+PartNumber calculus.read v = Unit {0}
+PartNumber calculus.lock v = Unit {0}
+PartNumber calculus.unlock v = Unit {0}
+PartNumber calculus.post v = Unit {0}
+PartNumber calculus.wait v = Unit {0}
+PartNumber (calculus.hold w) v = Unit {0}
+PartNumber (calculus.call f) v = v ≡ f
 
 abbrev pub makerWord : calculus.Maker → LeafWord
 makerWord calculus.newtid = leafWord.Newtid
@@ -55,19 +69,31 @@ MakerNumber calculus.newlock v = Unit {0}
 MakerNumber calculus.newsem v = Unit {0}
 MakerNumber (calculus.newrwlock N) v = v ≡ N
 
--- a variable is below 256
-abbrev pub Small : Word → (v : ℕ) → Type 0
-Small (Leaf leafWord.Var) v = v < 256
-Small (Leaf leafWord.Int) v = Unit {0}
-Small (Leaf leafWord.Newtid) v = Unit {0}
-Small (Leaf leafWord.Newlock) v = Unit {0}
-Small (Leaf leafWord.Newsem) v = Unit {0}
-Small (Leaf leafWord.Newrwlock) v = Unit {0}
-Small (Unary w) v = Unit {0}
-Small (Binary Let) v = v < 256
-Small (Binary If) v = Unit {0}
-Small (Binary Spawn) v = Unit {0}
-Small (Binary Write) v = Unit {0}
+-- a variable is below 256, a call's procedure is one of so many
+abbrev pub Small : (procedures : ℕ) → Word → (v : ℕ) → Type 0
+Small m (Leaf leafWord.Var) v = v < 256
+Small m (Leaf leafWord.Int) v = Unit {0}
+Small m (Leaf leafWord.Newtid) v = Unit {0}
+Small m (Leaf leafWord.Newlock) v = Unit {0}
+Small m (Leaf leafWord.Newsem) v = Unit {0}
+Small m (Leaf leafWord.Newrwlock) v = Unit {0}
+Small m (Unary unaryWord.While) v = Unit {0}
+Small m (Unary unaryWord.Join) v = Unit {0}
+Small m (Unary unaryWord.Ref) v = Unit {0}
+Small m (Unary unaryWord.Read) v = Unit {0}
+Small m (Unary unaryWord.Lock) v = Unit {0}
+Small m (Unary unaryWord.Unlock) v = Unit {0}
+Small m (Unary unaryWord.Post) v = Unit {0}
+Small m (Unary unaryWord.Wait) v = Unit {0}
+Small m (Unary unaryWord.Rdlock) v = Unit {0}
+Small m (Unary unaryWord.Rdunlock) v = Unit {0}
+Small m (Unary unaryWord.Wrlock) v = Unit {0}
+Small m (Unary unaryWord.Wrunlock) v = Unit {0}
+Small m (Unary unaryWord.Call) v = v < m
+Small m (Binary Let) v = v < 256
+Small m (Binary If) v = Unit {0}
+Small m (Binary Spawn) v = Unit {0}
+Small m (Binary Write) v = Unit {0}
 
 -- what follows the first and the second part of step k, which has continuation c
 abbrev pub afterFirst : BinaryWord → (k c : ℕ) → ℕ
@@ -98,7 +124,7 @@ module _ (p : List ℕ) where
     pub code : getD p (wordsAt + k) 0 ≡ codeOf w
     pub number : getD p (valuesAt + k) 0 ≡ v
     pub next : continuation p k ≡ c
-    pub small : Small w v
+    pub small : Small (getD p proceduresAt 0) w v
     pub far : Far w k
 
   -- an expression stands at step k, and c follows it
@@ -112,52 +138,77 @@ module _ (p : List ℕ) where
   abbrev pub RowOf : Position → Word → (v : ℕ) → Type 0
   RowOf q w v = Row (q .index) q w v (continuation p (q .index))
 
+  -- the body of procedure f stands there, and its variable is stored
+  pub record BodyStands (f : ℕ) (procedure : Procedure) : Type 0 where
+    pub stands : Stands leave (firstOf p f) (procedure .body)
+    pub parameter : getD p (procVarsAt + f) 0 ≡ procedure .parameter
+    pub low : procedure .parameter < 256
+
+  -- so do those of all procedures
+  pub record BodiesStand (procedures : List Procedure) : Type 0 where
+    pub counted : getD p proceduresAt 0 ≡ length procedures
+    pub each : (f : ℕ) (procedure : Procedure) → getElem? procedures f ≡ some procedure → BodyStands f procedure
+
   -- ---------------------------------------------------------------- a thread
 
-  module _ (s : List ℕ) (t : ℕ) where
-    -- the values of the sheet's variables
-    abbrev pub Values : Env → Type 0
-    Values σ = (x : ℕ) → x < 256 → variable s t x ≡ codeValue (σ x)
+  module _ (s : List ℕ) where
+    -- in row r: the values of the sheet's variables
+    abbrev pub Values : (r : ℕ) → Env → Type 0
+    Values r σ = (x : ℕ) → x < 256 → variable s r x ≡ codeValue (σ x)
 
-    -- a frame whose part has continuation c; its step is below b
-    abbrev pub FrameAt : (b c : ℕ) → Frame → Type 0
-    FrameAt b c (letFrame q x e) = (q .index < b) × (c ≡ q .index) × RowOf q (Binary Let) x × Stands (continuation p (q .index)) (second p (q .index)) e
-    FrameAt b c (spawnFrame q e) = (q .index < b) × (c ≡ q .index) × (v : ℕ) × RowOf q (Binary Spawn) v × Stands finish (second p (q .index)) e
-    FrameAt b c (writeFirst q e) = (q .index < b) × (c ≡ q .index) × (v : ℕ) × RowOf q (Binary Write) v × Stands (secondPart + q .index) (second p (q .index)) e
-    FrameAt b c (writeSecond q v) = (q .index < b) × (c ≡ secondPart + q .index) × (n : ℕ) × RowOf q (Binary Write) n × (kept s t (q .index) ≡ codeValue v)
-    FrameAt b c (unaryFrame q o) = (q .index < b) × (c ≡ q .index) × (v : ℕ) × RowOf q (Unary (partWord o)) v
-    FrameAt b c (againFrame q e) = (q .index < b) × (c ≡ q .index) × (v : ℕ) × RowOf q (Unary unaryWord.While) v × Stands (q .index) (q .index + 1) e
+    -- a frame of thread t whose part has continuation c; its step is below b. The body of an open call has its row, and the caller's
+    -- variables stand in the row before.
+    abbrev pub FrameAt : (t r b c : ℕ) → Frame → Type 0
+    FrameAt t r b c (letFrame q x e) = (q .index < b) × (c ≡ q .index) × RowOf q (Binary Let) x × Stands (continuation p (q .index)) (second p (q .index)) e
+    FrameAt t r b c (spawnFrame q e) = (q .index < b) × (c ≡ q .index) × (v : ℕ) × RowOf q (Binary Spawn) v × Stands finish (second p (q .index)) e
+    FrameAt t r b c (writeFirst q e) = (q .index < b) × (c ≡ q .index) × (v : ℕ) × RowOf q (Binary Write) v × Stands (secondPart + q .index) (second p (q .index)) e
+    FrameAt t r b c (writeSecond q v) = (q .index < b) × (c ≡ secondPart + q .index) × (n : ℕ) × RowOf q (Binary Write) n × (kept s r (q .index) ≡ codeValue v)
+    FrameAt t r b c (unaryFrame q o) = (q .index < b) × (c ≡ q .index) × (v : ℕ) × RowOf q (Unary (partWord o)) v × PartNumber o v
+    FrameAt t r b c (againFrame q e) = (q .index < b) × (c ≡ q .index) × (v : ℕ) × RowOf q (Unary unaryWord.While) v × Stands (q .index) (q .index + 1) e
+    FrameAt t r b c (markFrame σ) = (66 * t < r) × (c ≡ leave) × (calledFrom s r < 256) × Values (r - 1) σ
 
-    abbrev pub stepOf : Frame → ℕ
-    stepOf (letFrame q x e) = q .index
-    stepOf (spawnFrame q e) = q .index
-    stepOf (writeFirst q e) = q .index
-    stepOf (writeSecond q v) = q .index
-    stepOf (unaryFrame q o) = q .index
-    stepOf (againFrame q e) = q .index
+    -- the step of a frame in row r; of an open call, that of the call
+    abbrev pub stepOf : (r : ℕ) → Frame → ℕ
+    stepOf r (letFrame q x e) = q .index
+    stepOf r (spawnFrame q e) = q .index
+    stepOf r (writeFirst q e) = q .index
+    stepOf r (writeSecond q v) = q .index
+    stepOf r (unaryFrame q o) = q .index
+    stepOf r (againFrame q e) = q .index
+    stepOf r (markFrame σ) = calledFrom s r
 
-    -- the frames around what has continuation c, each outside the one before
-    abbrev pub Frames : (b c : ℕ) → List Frame → Type 0
-    Frames b c [] = c ≡ finish
-    Frames b c (f ∷ K) = FrameAt b c f × Frames (stepOf f) (continuation p (stepOf f)) K
+    -- the row of the frames behind a frame
+    abbrev pub rowBehind : (r : ℕ) → Frame → ℕ
+    rowBehind r (letFrame q x e) = r
+    rowBehind r (spawnFrame q e) = r
+    rowBehind r (writeFirst q e) = r
+    rowBehind r (writeSecond q v) = r
+    rowBehind r (unaryFrame q o) = r
+    rowBehind r (againFrame q e) = r
+    rowBehind r (markFrame σ) = r - 1
 
-    -- the word that the thread is at
-    abbrev pub WordAt : Focus → machine.Word → Type 0
-    WordAt f (machine.letWord q x v e) =
-        (f ≡ readyAt (q .index) (codeValue v)) × RowOf q (Binary Let) x × Stands (continuation p (q .index)) (second p (q .index)) e
-    WordAt f (machine.ifWord q e₁ e₂) =
-        (f ≡ stoppedAt (q .index)) × (v : ℕ) × RowOf q (Binary If) v × Stands (continuation p (q .index)) (q .index + 1) e₁
+    -- the frames of thread t around what has continuation c, in row r; in a row each is outside the one before
+    abbrev pub Frames : (t r b c : ℕ) → List Frame → Type 0
+    Frames t r b c [] = (r ≡ 66 * t) × (c ≡ finish)
+    Frames t r b c (f ∷ K) = FrameAt t r b c f × Frames t (rowBehind r f) (stepOf r f) (continuation p (stepOf r f)) K
+
+    -- the word that the thread is at, in row r
+    abbrev pub WordAt : (r : ℕ) → Focus → machine.Word → Type 0
+    WordAt r f (machine.letWord q x v e) =
+        (f ≡ readyAt r (q .index) (codeValue v)) × RowOf q (Binary Let) x × Stands (continuation p (q .index)) (second p (q .index)) e
+    WordAt r f (machine.ifWord q e₁ e₂) =
+        (f ≡ stoppedAt r (q .index)) × (v : ℕ) × RowOf q (Binary If) v × Stands (continuation p (q .index)) (q .index + 1) e₁
         × Stands (continuation p (q .index)) (second p (q .index)) e₂
-    WordAt f (machine.whileWord q e) = (f ≡ stoppedAt (q .index)) × (v : ℕ) × RowOf q (Unary unaryWord.While) v × Stands (q .index) (q .index + 1) e
-    WordAt f (machine.spawnWord q v e) =
-        (f ≡ readyAt (q .index) (codeValue v)) × (n : ℕ) × RowOf q (Binary Spawn) n × Stands finish (second p (q .index)) e
-    WordAt f (machine.writeWord q v w) =
-        (f ≡ readyAt (q .index) (codeValue w)) × (n : ℕ) × RowOf q (Binary Write) n × (kept s t (q .index) ≡ codeValue v)
-    WordAt f (machine.unaryWord q o v) = (f ≡ readyAt (q .index) (codeValue v)) × (n : ℕ) × RowOf q (Unary (partWord o)) n
-    WordAt f (machine.makeWord q o) = (f ≡ stoppedAt (q .index)) × (v : ℕ) × RowOf q (Leaf (makerWord o)) v × MakerNumber o v
-    WordAt f (machine.unrolledWord q e) = (f ≡ unrolledAt (q .index)) × (v : ℕ) × RowOf q (Unary unaryWord.While) v × Stands (q .index) (q .index + 1) e
-    WordAt f (machine.againWord q v e) =
-        (f ≡ readyAt (q .index) (codeValue v)) × (n : ℕ) × RowOf q (Unary unaryWord.While) n × Stands (q .index) (q .index + 1) e
+    WordAt r f (machine.whileWord q e) = (f ≡ stoppedAt r (q .index)) × (v : ℕ) × RowOf q (Unary unaryWord.While) v × Stands (q .index) (q .index + 1) e
+    WordAt r f (machine.spawnWord q v e) =
+        (f ≡ readyAt r (q .index) (codeValue v)) × (n : ℕ) × RowOf q (Binary Spawn) n × Stands finish (second p (q .index)) e
+    WordAt r f (machine.writeWord q v w) =
+        (f ≡ readyAt r (q .index) (codeValue w)) × (n : ℕ) × RowOf q (Binary Write) n × (kept s r (q .index) ≡ codeValue v)
+    WordAt r f (machine.unaryWord q o v) = (f ≡ readyAt r (q .index) (codeValue v)) × (n : ℕ) × RowOf q (Unary (partWord o)) n × PartNumber o n
+    WordAt r f (machine.makeWord q o) = (f ≡ stoppedAt r (q .index)) × (v : ℕ) × RowOf q (Leaf (makerWord o)) v × MakerNumber o v
+    WordAt r f (machine.unrolledWord q e) = (f ≡ unrolledAt r (q .index)) × (v : ℕ) × RowOf q (Unary unaryWord.While) v × Stands (q .index) (q .index + 1) e
+    WordAt r f (machine.againWord q v e) =
+        (f ≡ readyAt r (q .index) (codeValue v)) × (n : ℕ) × RowOf q (Unary unaryWord.While) n × Stands (q .index) (q .index + 1) e
 
     abbrev pub placeOf : machine.Word → ℕ
     placeOf (machine.letWord q x v e) = q .index
@@ -170,7 +221,7 @@ module _ (p : List ℕ) where
     placeOf (machine.unrolledWord q e) = q .index
     placeOf (machine.againWord q v e) = q .index
 
-    -- the thread stands at f
-    abbrev pub ControlAt : Focus → Control → Type 0
-    ControlAt f (done v) = f ≡ doneWith (codeValue v)
-    ControlAt f (at σ w K) = Values σ × WordAt f w × Frames (placeOf w) (continuation p (placeOf w)) K
+    -- thread t stands at f
+    abbrev pub ControlAt : (t : ℕ) → Focus → Control → Type 0
+    ControlAt t f (done v) = f ≡ doneWith (66 * t) (codeValue v)
+    ControlAt t f (at σ w K) = Values (f .row) σ × WordAt (f .row) f w × Frames t (f .row) (placeOf w) (continuation p (placeOf w)) K

@@ -19,12 +19,12 @@ use Rattle.reduction.specs.Slots.{slotAt}
 use Rattle.engine.specs.Focuses.{focusAt}
 use Rattle.reduction.specs.Words.{countsAt, nextAt}
 use Rattle.replaying.specs.Run.{Kind, cells, locks, rwlocks, semaphores, identifiers}
-use Rattle.machine.specs.Control.{Control, done, at}
+use Rattle.machine.specs.Control.{Control, done, at, openCalls}
 use Rattle.machine.specs.State.{MachineThread, Machine}
 use Rattle.machine.specs.Step.{isDone}
 use Rattle.machine.specs.Kept.{UnusedFrom}
 use Rattle.machine.specs.Replay.{Replay}
-use Rattle.simulation.proofs.Held.{codeValue, ControlAt}
+use Rattle.simulation.proofs.Held.{codeValue, BodiesStand, ControlAt}
 
 -- ------------------------------------------------------------------ names
 
@@ -82,6 +82,7 @@ pub record ThreadHeld (p s : List ℕ) (T : Threads) (i : ℕ) (th : MachineThre
   pub recorded : getD (T .records) i noRecord ≡ recordOf th
   pub control : ControlAt p s i (focusAt s i) (th .control)
   pub settled : th .joined ≡ true → isDone (th .control) ≡ true
+  pub calls : openCalls (th .control) ≤ 64
 
 pub record Sized (T : Threads) (ts : List MachineThread) : Type 0 where
   pub count : T .count ≡ length ts
@@ -95,7 +96,8 @@ ThreadsHeld p s T ts = (i : ℕ) (th : MachineThread) → getElem? ts i ≡ some
 -- ------------------------------------------------------------------ all
 
 pub record Holds (p s : List ℕ) (T : Threads) (R : Replay) : Type 0 where
-  pub long : length s ≡ 16384
+  pub long : length s ≡ 542960
+  pub bodies : BodiesStand p (R .machine .procedures)
   pub names : NamesHeld s (R .machine .names) (R .machine .next) (R .things)
   pub sized : Sized T (R .machine .threads)
   pub threads : ThreadsHeld p s T (R .machine .threads)

@@ -12,9 +12,11 @@ pub mod Sharing
 pub mod Making
 pub mod Joined
 pub mod Spawned
+pub mod Called
 pub mod Stepping
 pub mod Racing
 pub mod Linked
+pub mod Bodies
 pub mod Starting
 pub mod Lining
 pub mod Ranging

@@ -26,6 +26,7 @@ use Rattle.threads.specs.declared.Threads.{Threads}
 use Rattle.control.specs.Shapes.{shapeOf, shapeAt, isWrite}
 use Rattle.control.specs.Control.{continuation, returning, stoppedAt, readyAt}
 use Rattle.reduction.specs.declared.slots.Slot.{Slot}
+use Rattle.control.specs.declared.Focus.{Focus}
 use Rattle.reduction.specs.declared.words.Act.{Act}
 use Rattle.reduction.specs.declared.words.Act.the-variants as act
 use Rattle.reduction.specs.Slots.{slot, slotAt, slotPut}
@@ -41,9 +42,9 @@ use Rattle.machine.specs.State.{Machine, running}
 use Rattle.machine.specs.Step.{creates}
 use Rattle.machine.specs.Replay.{Replay, within}
 use Rattle.simulation.proofs.Held.{codeValue, makerWord, MakerNumber, RowOf, Values, Frames}
-use Rattle.simulation.proofs.Turning.{same-all}
+use Rattle.simulation.proofs.Turning.{same-all, RowIn}
 use Rattle.simulation.proofs.Finding.{frames-same, returns-word}
-use Rattle.simulation.proofs.Agreeing.{Agree, agree-then, agree-shared}
+use Rattle.simulation.proofs.Agreeing.{Agree, rows-same, agree-then, agree-shared}
 use Rattle.simulation.proofs.Holds.{SlotIs, kindCode, kind-low, allThings, NamesHeld, Holds}
 use Rattle.simulation.proofs.Naming.{slot-put-length, put-elsewhere, slot-here, slot-there, slot-agree, next-small}
 use Rattle.simulation.proofs.Moving.{Answered, moves, pausing}
@@ -94,23 +95,23 @@ past-limits n identifiers things h few p =
 
 -- ------------------------------------------------------------------ names
 
-slot-set : (s : List ℕ) (j y v : ℕ) → j < 8256 → slotAt (set s j y) v ≡ slotAt s v
+slot-set : (s : List ℕ) (j y v : ℕ) → j < 541808 → slotAt (set s j y) v ≡ slotAt s v
 unfolding slotAt
 slot-set s j y v h = λ z. if ltb v 322 then slot
-    (getD-set-other s j (8256 + v) y 0 (λ e. omega (arith, e, h)) z)
-    (getD-set-other s j (8640 + v) y 0 (λ e. omega (arith, e, h)) z)
-    (getD-set-other s j (9024 + v) y 0 (λ e. omega (arith, e, h)) z) else slot 0 0 0
+    (getD-set-other s j (541808 + v) y 0 (λ e. omega (arith, e, h)) z)
+    (getD-set-other s j (542192 + v) y 0 (λ e. omega (arith, e, h)) z)
+    (getD-set-other s j (542576 + v) y 0 (λ e. omega (arith, e, h)) z) else slot 0 0 0
 
-module _ {s : List ℕ} {names : ℕ → state.Slot} {next : ℕ} {things : Kind → ℕ} (N : NamesHeld s names next things) (long : length s ≡ 16384)
+module _ {s : List ℕ} {names : ℕ → state.Slot} {next : ℕ} {things : Kind → ℕ} (N : NamesHeld s names next things) (long : length s ≡ 542960)
     (k : Kind) (x : Slot) (new : state.Slot) (is-kind : x .kind ≡ kindCode k) (is : SlotIs x new) (room : things k < 64) where
   abbrev s₁ : List ℕ
   s₁ = slotPut s (suc next) x
 
   abbrev s₂ : List ℕ
-  s₂ = set s₁ (8240 + kindCode k) (things k + 1)
+  s₂ = set s₁ (541792 + kindCode k) (things k + 1)
 
   abbrev s₃ : List ℕ
-  s₃ = set s₂ 8248 (suc next + 1)
+  s₃ = set s₂ 541800 (suc next + 1)
 
   next-low : suc next < 322
   next-low =
@@ -129,17 +130,17 @@ module _ {s : List ℕ} {names : ℕ → state.Slot} {next : ℕ} {things : Kind
       less semaphores h a b c d e f = omega arith
       less rwlocks h a b c d e f = omega arith
 
-  long₁ : length s₁ ≡ 16384
+  long₁ : length s₁ ≡ 542960
   long₁ = slot-put-length s (suc next) x ∙ long
 
-  long₂ : length s₂ ≡ 16384
-  long₂ = length-set s₁ (8240 + kindCode k) (things k + 1) ∙ long₁
+  long₂ : length s₂ ≡ 542960
+  long₂ = length-set s₁ (541792 + kindCode k) (things k + 1) ∙ long₁
 
-  pub long₃ : length s₃ ≡ 16384
-  long₃ = length-set s₂ 8248 (suc next + 1) ∙ long₂
+  pub long₃ : length s₃ ≡ 542960
+  long₃ = length-set s₂ 541800 (suc next + 1) ∙ long₂
 
   slot-after : (v : ℕ) → slotAt s₃ v ≡ slotAt s₁ v
-  slot-after v = slot-set s₂ 8248 (suc next + 1) v (omega arith) ∙ slot-set s₁ (8240 + kindCode k) (things k + 1) v (let l = kind-low k in omega arith)
+  slot-after v = slot-set s₂ 541800 (suc next + 1) v (omega arith) ∙ slot-set s₁ (541792 + kindCode k) (things k + 1) v (let l = kind-low k in omega arith)
 
   pub names-made : NamesHeld s₃ (update names next new) (suc next) (oneMore k things)
   unfolding oneMore
@@ -147,7 +148,7 @@ module _ {s : List ℕ} {names : ℕ → state.Slot} {next : ℕ} {things : Kind
     constant = ap (λ (y : Slot). y .kind) (slot-after 0 ∙ slot-there s (suc next) x next-low 0 (λ e. omega (arith, e))) ∙ N .constant;
     slots = λ m h. by-name m h (ℕ-discrete m next);
     unused-from = λ m h. update-other names next m new (λ e. omega (arith, e, h)) ∙ N .unused-from m (omega (arith, h));
-    nextStored = getD-set-same s₂ 8248 (suc next + 1) 0 (omega (arith, long₂)) ∙ (let e : suc next + 1 ≡ suc (suc next) = omega arith in e);
+    nextStored = getD-set-same s₂ 541800 (suc next + 1) 0 (omega (arith, long₂)) ∙ (let e : suc next + 1 ≡ suc (suc next) = omega arith in e);
     counted = λ l. by-kind l (sameKind l k);
     few = one-more-few k things (N .few) room;
     all = (let a = N .all in let b = one-more-all k things in omega (arith, a, b));
@@ -157,23 +158,23 @@ module _ {s : List ℕ} {names : ℕ → state.Slot} {next : ℕ} {things : Kind
       by-name m h (yes e) = subst (λ (y : Slot). SlotIs y new) (sym (slot-after (suc m) ∙ ap (λ (j : ℕ). slotAt s₁ (suc j)) e ∙ slot-here s (suc next) x next-low long)) is
       by-name m h (no f) = subst (λ (y : Slot). SlotIs y (names m)) (sym (slot-after (suc m) ∙ slot-there s (suc next) x next-low (suc m) (λ e. f (omega (arith, e))))) (N .slots m h)
 
-      by-kind : (l : Kind) → (d : Dec (l ≡ k)) → getD s₃ (8240 + kindCode l) 0 ≡ choose d (suc (things l)) (things l)
+      by-kind : (l : Kind) → (d : Dec (l ≡ k)) → getD s₃ (541792 + kindCode l) 0 ≡ choose d (suc (things l)) (things l)
       by-kind l (yes e) =
-          getD-set-other s₂ 8248 (8240 + kindCode l) (suc next + 1) 0 (λ z. let a = kind-low l in omega (arith, z, a))
-          ∙ ap (λ (m : Kind). getD s₂ (8240 + kindCode m) 0) e
-          ∙ getD-set-same s₁ (8240 + kindCode k) (things k + 1) 0 (let a = kind-low k in omega (arith, a, long₁))
+          getD-set-other s₂ 541800 (541792 + kindCode l) (suc next + 1) 0 (λ z. let a = kind-low l in omega (arith, z, a))
+          ∙ ap (λ (m : Kind). getD s₂ (541792 + kindCode m) 0) e
+          ∙ getD-set-same s₁ (541792 + kindCode k) (things k + 1) 0 (let a = kind-low k in omega (arith, a, long₁))
           ∙ (let z : things k + 1 ≡ suc (things k) = omega arith in z) ∙ ap (λ (m : Kind). suc (things m)) (sym e)
       by-kind l (no n) =
           let a = kind-low l in
-          getD-set-other s₂ 8248 (8240 + kindCode l) (suc next + 1) 0 (λ z. omega (arith, z, a))
-          ∙ getD-set-other s₁ (8240 + kindCode k) (8240 + kindCode l) (things k + 1) 0 (λ z. kind-apart l k n (omega (arith, z)))
-          ∙ put-elsewhere s (suc next) x next-low (8240 + kindCode l) (λ z. omega (arith, z, a)) (λ z. omega (arith, z, a)) (λ z. omega (arith, z, a))
+          getD-set-other s₂ 541800 (541792 + kindCode l) (suc next + 1) 0 (λ z. omega (arith, z, a))
+          ∙ getD-set-other s₁ (541792 + kindCode k) (541792 + kindCode l) (things k + 1) 0 (λ z. kind-apart l k n (omega (arith, z)))
+          ∙ put-elsewhere s (suc next) x next-low (541792 + kindCode l) (λ z. omega (arith, z, a)) (λ z. omega (arith, z, a)) (λ z. omega (arith, z, a))
           ∙ N .counted l
 
   pub agree-made : (i : ℕ) → i < 16 → Agree i s s₃
   agree-made i h =
       agree-then (slot-agree i s (suc next) x h)
-      (agree-then (agree-shared i (8240 + kindCode k) (things k + 1) s₁ h (omega arith)) (agree-shared i 8248 (suc next + 1) s₂ h (omega arith)))
+      (agree-then (agree-shared i (541792 + kindCode k) (things k + 1) s₁ h (omega arith)) (agree-shared i 541800 (suc next + 1) s₂ h (omega arith)))
 
   -- the space that the code leaves
   pub thing-added : withThing s x ≡ s₃
@@ -182,8 +183,8 @@ module _ {s : List ℕ} {names : ℕ → state.Slot} {next : ℕ} {things : Kind
 
 -- ------------------------------------------------------------------ the machine's word
 
-module _ (p s : List ℕ) (T : Threads) (R : Replay) (t tid : ℕ) (σ : Env) (K : List Frame) (H : Holds p s T R) (low : t < 16) (values : Values p s t σ)
-    (w : machine.Word) (j : ℕ) (j-low : j < 256) (F : Frames p s t j (continuation p j) K) (there : getElem? (R .machine .threads) t ≡ some (running tid (at σ w K)))
+module _ (p s : List ℕ) (T : Threads) (R : Replay) (t tid : ℕ) (σ : Env) (K : List Frame) (H : Holds p s T R) (low : t < 16) (row : ℕ) (inside : RowIn t row) (values : Values p s row σ)
+    (w : machine.Word) (f : Focus) (j : ℕ) (j-low : j < 256) (F : Frames p s t row j (continuation p j) K) (there : getElem? (R .machine .threads) t ≡ some (running tid (at σ w K)))
     (k : Kind) (x : Slot) (new : state.Slot) (is-kind : x .kind ≡ kindCode k) (is : SlotIs x new) where
   abbrev M : Machine
   M = R .machine
@@ -194,20 +195,21 @@ module _ (p s : List ℕ) (T : Threads) (R : Replay) (t tid : ℕ) (σ : Env) (K
   counted-here : getD s (countsAt + x .kind) 0 ≡ R .things k
   counted-here = ap (λ (i : ℕ). getD s (countsAt + i) 0) is-kind ∙ H .names .counted k
 
-  makes-room : R .things k < 64 → Answered p (limited within (some Created)) (afterAct p T t j (newThing p s j x))
+  makes-room : R .things k < 64 → Answered p (limited within (some Created)) (afterAct p T t f (newThing p s row j x))
   unfolding newThing given
   makes-room room =
-      subst (λ (a : Act × List ℕ). Answered p (limited within (some Created)) (afterAct p T t j a)) (sym made-here)
-      (moves p after T (M .threads) t tid j
+      subst (λ (a : Act × List ℕ). Answered p (limited within (some Created)) (afterAct p T t f a)) (sym made-here)
+      (moves p after T (M .threads) t tid f
       (pausing p s T R t tid (at σ w K) H there refl after (long₃ (H .names) (H .long) k x new is-kind is room) (λ i h m. agree-made (H .names) (H .long) k x new is-kind is room i h))
-      (update (M .names) (M .next) new) (suc (M .next)) (oneMore k (R .things)) (names-made (H .names) (H .long) k x new is-kind is room)
-      (returning (continuation p j) (suc (M .next))) (return σ (name (M .next)) K)
-      (returns-word p t low σ after (name (M .next)) j (continuation p j) K after
+      (M .procedures) (H .bodies) (update (M .names) (M .next) new) (suc (M .next)) (oneMore k (R .things)) (names-made (H .names) (H .long) k x new is-kind is room)
+      (returning row (continuation p j) (suc (M .next))) (return σ (name (M .next)) K)
+      (returns-word p t low σ row after (name (M .next)) j (continuation p j) K after
       (record {
         same = same-all t after;
         long = long₃ (H .names) (H .long) k x new is-kind is room;
-        values = λ y h. a .rows .variables y h ∙ values y h;
-        frames = frames-same p t s after j (continuation p j) K (λ i h. a .rows .kepts i (omega (arith, h, j-low))) F;
+        inside = inside;
+        values = λ y h. a .rows .variables row y inside h ∙ values y h;
+        frames = frames-same p t s after row j (continuation p j) K (rows-same p t s after (a .rows) row j inside (omega (arith, j-low))) F;
       })))
     where
       after : List ℕ
@@ -216,12 +218,12 @@ module _ (p s : List ℕ) (T : Threads) (R : Replay) (t tid : ℕ) (σ : Env) (K
       a : Agree t s after
       a = agree-made (H .names) (H .long) k x new is-kind is room t low
 
-      made-here : newThing p s j x ≡ (act.Go (returning (continuation p j) (suc (M .next))), after)
+      made-here : newThing p s row j x ≡ (act.Go (returning row (continuation p j) (suc (M .next))), after)
       made-here =
           rw (counted-here, H .names .nextStored, lt-leb 64 (R .things k) room, lt-leb 322 (suc (M .next)) (next-low (H .names) (H .long) k x new is-kind is room))
-          (ap (λ (z : List ℕ). (act.Go (returning (continuation p j) (suc (M .next))), z)) (thing-added (H .names) (H .long) k x new is-kind is room))
+          (ap (λ (z : List ℕ). (act.Go (returning row (continuation p j) (suc (M .next))), z)) (thing-added (H .names) (H .long) k x new is-kind is room))
 
-  makes-none : 64 ≤ R .things k → Answered p (limited within (some Created)) (afterAct p T t j (newThing p s j x))
+  makes-none : 64 ≤ R .things k → Answered p (limited within (some Created)) (afterAct p T t f (newThing p s row j x))
   unfolding limited within newThing afterAct actStep
   makes-none full =
       rw (
@@ -231,10 +233,10 @@ module _ (p s : List ℕ) (T : Threads) (R : Replay) (t tid : ℕ) (σ : Env) (K
       )
       refl
 
-  pub making-goes : Answered p (limited within (some Created)) (afterAct p T t j (newThing p s j x))
+  pub making-goes : Answered p (limited within (some Created)) (afterAct p T t f (newThing p s row j x))
   making-goes = go (decLt (R .things k) 64)
     where
-      go : Dec (R .things k < 64) → Answered p (limited within (some Created)) (afterAct p T t j (newThing p s j x))
+      go : Dec (R .things k < 64) → Answered p (limited within (some Created)) (afterAct p T t f (newThing p s row j x))
       go (yes room) = makes-room room
       go (no f) = makes-none (omega (arith, f))
 
@@ -246,15 +248,15 @@ makerSlot newlock = slot 3 0 0
 makerSlot newsem = slot 4 0 0
 makerSlot (newrwlock N) = slot 5 N 0
 
-module _ (p s : List ℕ) (t c : ℕ) {q : Position} {v : ℕ} where
-  pub maker-acts : (o : calculus.Maker) → MakerNumber o v → RowOf p q (Leaf (makerWord o)) v → acted p s t (stoppedAt (q .index)) c ≡ newThing p s (q .index) (makerSlot o)
+module _ (p s : List ℕ) (row c : ℕ) {q : Position} {v : ℕ} where
+  pub maker-acts : (o : calculus.Maker) → MakerNumber o v → RowOf p q (Leaf (makerWord o)) v → acted p s (stoppedAt row (q .index)) c ≡ newThing p s row (q .index) (makerSlot o)
   unfolding acted actedBy wordUsed effected subject operand usedBy madeOf shapeAt shapeOf isWrite ruleOf printed
   maker-acts newtid n r = rw (r .code) (rw (r .code))
   maker-acts newlock n r = rw (r .code) (rw (r .code))
   maker-acts newsem n r = rw (r .code) (rw (r .code))
   maker-acts (newrwlock N) n r = rw (r .code) (rw (r .code, r .number, n))
 
-  pub ref-acts : (w : ℕ) → RowOf p q (Unary Ref) v → acted p s t (readyAt (q .index) w) c ≡ newThing p s (q .index) (slot 2 w 0)
+  pub ref-acts : (w : ℕ) → RowOf p q (Unary Ref) v → acted p s (readyAt row (q .index) w) c ≡ newThing p s row (q .index) (slot 2 w 0)
   unfolding acted actedBy wordUsed effected subject operand usedBy madeOf shapeAt shapeOf isWrite ruleOf printed
   ref-acts w r = rw (r .code) (rw (r .code))
 

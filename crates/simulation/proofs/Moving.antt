@@ -2,41 +2,45 @@
 use Prim.Native.Nat.{ℕ, zero, suc, _+_, _*_, _<_, _≤_}
 use mathlib.Core.Path.{_≡_, refl, sym, _∙_, ap, subst}
 use mathlib.Core.Logic.{_≢_}
-use mathlib.Core.Bool.{Bool, true, false}
+use mathlib.Core.Bool.{Bool, true, false, _&&_}
 use mathlib.Core.List.{List, [], _∷_}
 use mathlib.Core.Option.{Option, none, some}
 use native.Mathlib.Omega.{arith}
-use native.Mathlib.Decide.{ℕ-discrete}
-use borrow.Author.Tests.{le-leb}
-use lib.Dec.{eqb, leb}
+use native.Mathlib.Decide.{ℕ-discrete, decLe}
+use borrow.Author.Tests.{le-leb, lt-leb, lt-ltb, le-ltb}
+use lib.Dec.{eqb, leb, ltb}
 use lib.ListN.{length, getD, set, getElem?, length-set}
 use lib.Seq.{getD-set-same, getD-set-other}
 use Rattle.spec.specs.Choice.{if_then_else_}
 use Rattle.calculus.specs.Expression.{Value, choose}
 use Rattle.calculus.specs.State as state
 use Rattle.calculus.specs.State.{update}
+use Rattle.calculus.proofs.Laws.Maps.{none-is-not-some, some-injective}
+use Rattle.calculus.proofs.Laws.Places.{set-elsewhere}
 use Rattle.threads.specs.declared.State.the-variants.{Running}
 use Rattle.threads.specs.declared.Threads.{Threads}
 use Rattle.engine.specs.declared.Outcome.the-variants.{Moved, Stuck, Past}
 use Rattle.engine.specs.declared.Stepped.{Stepped}
 use Rattle.control.specs.declared.Focus.{Focus}
-use Rattle.control.specs.Control.{variable, found}
+use Rattle.control.specs.Control.{variable, found, doneWith}
 use Rattle.reduction.specs.declared.words.Act.{Act}
 use Rattle.reduction.specs.declared.words.Act.the-variants as act
-use Rattle.engine.specs.Focuses.{focusAt}
-use Rattle.engine.specs.Steps.{proceeded, movedTo, actStep, afterAct}
-use Rattle.replaying.specs.Run.{Kind, cells, locks, rwlocks, semaphores, identifiers, threadLimit, thingLimit, withinLimits}
+use Rattle.engine.specs.Focuses.{rowsAt, focusAt, focusPut, settled, wentOn}
+use Rattle.engine.specs.Steps.{ending, recorded, proceeded, outcomeOf, movedTo, actStep, afterAct}
+use Rattle.replaying.specs.Run.{Kind, cells, locks, rwlocks, semaphores, identifiers, threadLimit, thingLimit, withinLimits, callLimit}
 use Rattle.replaying.specs.Replay.{Outcome, badForm, noStep, pastLimit, step, limited}
 use Rattle.machine.specs.Environment.{Env}
-use Rattle.machine.specs.Control.{Frame, Control, done, at}
+use Rattle.spec.specs.Expression.{Procedure}
+use Rattle.machine.specs.Control.{Frame, Control, done, at, marks, openCalls}
 use Rattle.machine.specs.Step.{isDone}
-use Rattle.machine.specs.State.{MachineThread, Machine, running}
-use Rattle.machine.specs.Replay.{Replay, within}
-use Rattle.simulation.proofs.Held.{codeValue, Values, ControlAt}
+use Rattle.machine.specs.State.{MachineThread, Machine, unless, ofLive, running}
+use Rattle.machine.specs.Replay.{Replay, within, callsIn, countsWithin}
+use Rattle.simulation.proofs.Held.{codeValue, Values, BodiesStand, placeOf, ControlAt}
 use Rattle.simulation.proofs.Turning.{SameBut, same-all}
-use Rattle.simulation.proofs.Agreeing.{Agree, control-same}
+use Rattle.simulation.proofs.Finding.{frames-row}
+use Rattle.simulation.proofs.Agreeing.{Agree, control-same, focus-here}
 use Rattle.simulation.proofs.Holds.{NamesHeld, recordOf, ThreadHeld, Sized, Holds}
-use Rattle.simulation.proofs.Proceeding.{place-below, Paused, proceeds}
+use Rattle.simulation.proofs.Proceeding.{place-below, set-here, Paused, low, proceeds}
 
 -- ------------------------------------------------------------------ what a step on numbers answers
 
@@ -53,29 +57,105 @@ unfolding withinLimits threadLimit thingLimit
 within-limits n things h few =
     rw (le-leb n 16 h, le-leb (things cells) 64 (few cells), le-leb (things locks) 64 (few locks), le-leb (things rwlocks) 64 (few rwlocks), le-leb (things semaphores) 64 (few semaphores), le-leb (things identifiers) 64 (few identifiers))
 
+-- the open calls of each thread that is not joined
+abbrev callsFrom : (i : ℕ) → List MachineThread → List ℕ
+callsFrom i ts = ofLive (λ j th. openCalls (th .control)) i ts
+
+counts-hold : (ts : List MachineThread) (i : ℕ) → ((m : ℕ) (th : MachineThread) → getElem? ts m ≡ some th → openCalls (th .control) ≤ 64) → countsWithin (callsFrom i ts) ≡ true
+unfolding countsWithin callLimit
+counts-hold [] i h = refl
+counts-hold (th ∷ ts) i h = by-record (th .joined) (counts-hold ts (suc i) (λ m u z. h (suc m) u z))
+  where
+    by-record : (j : Bool) → countsWithin (callsFrom (suc i) ts) ≡ true → countsWithin (unless j (λ l. openCalls (th .control) ∷ l) (callsFrom (suc i) ts)) ≡ true
+    by-record true rest = rest
+    by-record false rest = rw (le-leb (openCalls (th .control)) 64 (h 0 th refl), rest)
+
+and-fails : (b : Bool) → (b && false) ≡ false
+and-fails true = refl
+and-fails false = refl
+
+counts-fail : (ts : List MachineThread) (i m : ℕ) (th : MachineThread) → getElem? ts m ≡ some th → th .joined ≡ false → 64 < openCalls (th .control) → countsWithin (callsFrom i ts) ≡ false
+unfolding countsWithin callLimit
+counts-fail [] i m th h j over = none-is-not-some h
+counts-fail (u ∷ ts) i zero th h j over =
+    let e = some-injective h in
+    let n : u .joined ≡ false = ap (λ (x : MachineThread). x .joined) e ∙ j in
+    let o : 64 < openCalls (u .control) = subst (λ (x : MachineThread). 64 < openCalls (x .control)) (sym e) over in
+    rw (n, lt-leb (openCalls (u .control)) 64 o)
+counts-fail (u ∷ ts) i (suc m) th h j over = by-record (u .joined) (counts-fail ts (suc i) m th h j over)
+  where
+    by-record : (b : Bool) → countsWithin (callsFrom (suc i) ts) ≡ false → countsWithin (unless b (λ l. openCalls (u .control) ∷ l) (callsFrom (suc i) ts)) ≡ false
+    by-record true rest = rest
+    by-record false rest = rw rest (and-fails (leb (openCalls (u .control)) 64))
+
 module _ (p : List ℕ) (R : Replay) where
   pub within-held : {s : List ℕ} {T : Threads} → Holds p s T R → within R ≡ true
-  unfolding within
-  within-held H = within-limits (length (R .machine .threads)) (R .things) (H .sized .fits) (H .names .few)
+  unfolding within callsIn
+  within-held H =
+      rw (within-limits (length (R .machine .threads)) (R .things) (H .sized .fits) (H .names .few), counts-hold (R .machine .threads) 0 (λ m th h. H .threads m th h .calls)) refl
+
+  -- a thread has more open calls than it may
+  pub within-fails : (t : ℕ) (th : MachineThread) → getElem? (R .machine .threads) t ≡ some th → th .joined ≡ false → 64 < openCalls (th .control) → within R ≡ false
+  unfolding within callsIn
+  within-fails t th h j over = rw (counts-fail (R .machine .threads) 0 t th h j over) (and-fails (withinLimits (length (R .machine .threads)) (R .things)))
 
 -- ------------------------------------------------------------------ a thread goes on
 
--- the thread has gone on to d, and nothing has passed a limit
-pub moves : (p s : List ℕ) (T : Threads) (ts : List MachineThread) (t tid k : ℕ) → Paused p s T ts t tid → (names : ℕ → state.Slot) (next : ℕ) (things : Kind → ℕ) →
-    NamesHeld s names next things → (g : Focus) (d : Control) →
-    ControlAt p (found 2048 p s t g .1) t (found 2048 p s t g .0) d × SameBut t s (found 2048 p s t g .1) →
-    Answered p (limited within (some (record { machine = record { threads = set ts t (running tid d); names = names; next = next }; things = things }))) (afterAct p T t k (act.Go g, s))
-unfolding limited afterAct actStep movedTo
-moves p s T ts t tid k P names next things N g d F =
-    let H = proceeds p s T ts t tid P names next things N g d F in
-    let R : Replay = record { machine = record { threads = set ts t (running tid d); names = names; next = next }; things = things } in
-    subst (λ (b : Bool). Answered p (if b then step R else pastLimit) (afterAct p T t k (act.Go g, s))) (sym (within-held p R H)) (refl, H)
+-- the row in which a thread stands tells its open calls
+pub row-tells : (p s : List ℕ) (t : ℕ) (f : Focus) (d : Control) → ControlAt p s t f d → f .row ≡ 66 * t + openCalls d
+unfolding openCalls
+row-tells p s t f (done v) C = let e = ap (λ (g : Focus). g .row) C in omega (arith, e)
+row-tells p s t f (at σ w K) (values, W, F) = frames-row p t s K (f .row) (placeOf p s w) _ F
+
+set-there : {A : Type 0} (xs : List A) (i : ℕ) (a : A) → i < length xs → getElem? (set xs i a) i ≡ some a
+set-there [] i a h = absurd (omega (arith, h))
+set-there (x ∷ xs) zero a h = refl
+set-there (x ∷ xs) (suc i) a h = set-there xs i a (omega (arith, h))
+
+module _ (p s : List ℕ) (T : Threads) (ts : List MachineThread) (t tid : ℕ) (f : Focus) (P : Paused p s T ts t tid) (Q : List Procedure) (B : BodiesStand p Q)
+    (names : ℕ → state.Slot) (next : ℕ) (things : Kind → ℕ) (N : NamesHeld s names next things) (g : Focus) (d : Control)
+    (F : ControlAt p (found 2048 p s g .1) t (found 2048 p s g .0) d × SameBut t s (found 2048 p s g .1)) where
+  abbrev Next : Replay
+  Next = record { machine = record { procedures = Q; threads = set ts t (running tid d); names = names; next = next }; things = things }
+
+  -- what is stored of its row, once it has gone on
+  row-after : getD (proceeded p s T t g .1) (rowsAt + t) 0 ≡ 66 * t + openCalls d
+  unfolding proceeded recorded wentOn settled focusAt
+  row-after =
+      let found-at = found 2048 p s g .0 in
+      let after = found 2048 p s g .1 in
+      ap (λ (h : Focus). h .row) (focus-here after t found-at (F .1 .long ∙ P .long) (low p s T ts t tid P)) ∙ row-tells p after t found-at d (F .0)
+
+  go-holds : openCalls d ≤ 64 → Answered p (limited within (some Next)) (afterAct p T t f (act.Go g, s))
+  unfolding limited afterAct actStep movedTo outcomeOf
+  go-holds few =
+      let H = proceeds p s T ts t tid P Q B names next things N g d few F in
+      let e = row-after in
+      rw (within-held p Next H, le-ltb (66 * t + 64) (getD (proceeded p s T t g .1) (rowsAt + t) 0) (omega (arith, e, few))) (refl, H)
+
+  go-fails : 64 < openCalls d → Answered p (limited within (some Next)) (afterAct p T t f (act.Go g, s))
+  unfolding limited afterAct actStep movedTo outcomeOf
+  go-fails over =
+      let e = row-after in
+      rw (
+        within-fails p Next t (running tid d) (set-there ts t (running tid d) (P .there)) refl over,
+        lt-ltb (66 * t + 64) (getD (proceeded p s T t g .1) (rowsAt + t) 0) (omega (arith, e, over)),
+      )
+      refl
+
+  -- the thread has gone on to d; if it has too many open calls now, the step is past the limit
+  pub moves : Answered p (limited within (some Next)) (afterAct p T t f (act.Go g, s))
+  moves = by-calls (decLe (openCalls d) 64)
+    where
+      by-calls : Dec (openCalls d ≤ 64) → Answered p (limited within (some Next)) (afterAct p T t f (act.Go g, s))
+      by-calls (yes few) = go-holds few
+      by-calls (no n) = go-fails (omega (arith, n))
 
 -- ------------------------------------------------------------------ a thread that can step
 
 -- it is on its way, in a space that differs in nothing of the others'
 pub pausing : (p s : List ℕ) (T : Threads) (R : Replay) (t tid : ℕ) (d : Control) → Holds p s T R → getElem? (R .machine .threads) t ≡ some (running tid d) → isDone d ≡ false →
-    (s₁ : List ℕ) → length s₁ ≡ 16384 → ((i : ℕ) → i < 16 → i ≢ t → Agree i s s₁) → Paused p s₁ T (R .machine .threads) t tid
+    (s₁ : List ℕ) → length s₁ ≡ 542960 → ((i : ℕ) → i < 16 → i ≢ t → Agree i s s₁) → Paused p s₁ T (R .machine .threads) t tid
 pausing p s T R t tid d H there not-done s₁ long agree = record {
   long = long;
   sized = H .sized;
@@ -88,8 +168,9 @@ pausing p s T R t tid d H there not-done s₁ long agree = record {
       let a = agree i (omega arith) n in
       record {
         recorded = held .recorded;
-        control = subst (λ (f : Focus). ControlAt p s₁ i f (th .control)) (sym (a .focused)) (control-same p i s s₁ (a .rows) (focusAt s i) (th .control) (held .control));
+        control = subst (λ (f : Focus). ControlAt p s₁ i f (th .control)) (sym (a .focused)) (control-same p i s s₁ (a .rows) (focusAt s i) (th .control) (let c = held .calls in omega arith) (held .control));
         settled = held .settled;
+        calls = held .calls;
       };
 }
   where

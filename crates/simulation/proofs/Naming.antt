@@ -33,35 +33,35 @@ slot-put-length s v x =
 
 module _ (s : List ℕ) (v : ℕ) (x : Slot) (low : v < 322) where
   abbrev s₁ : List ℕ
-  s₁ = set s (8256 + v) (x .kind)
+  s₁ = set s (541808 + v) (x .kind)
 
   abbrev s₂ : List ℕ
-  s₂ = set s₁ (8640 + v) (x .first)
+  s₂ = set s₁ (542192 + v) (x .first)
 
   -- another place
-  pub put-elsewhere : (j : ℕ) → j ≢ 8256 + v → j ≢ 8640 + v → j ≢ 9024 + v → getD (slotPut s v x) j 0 ≡ getD s j 0
+  pub put-elsewhere : (j : ℕ) → j ≢ 541808 + v → j ≢ 542192 + v → j ≢ 542576 + v → getD (slotPut s v x) j 0 ≡ getD s j 0
   unfolding slotPut
   put-elsewhere j a b c =
-      getD-set-other s₂ (9024 + v) j (x .second) 0 c ∙ getD-set-other s₁ (8640 + v) j (x .first) 0 b ∙ getD-set-other s (8256 + v) j (x .kind) 0 a
+      getD-set-other s₂ (542576 + v) j (x .second) 0 c ∙ getD-set-other s₁ (542192 + v) j (x .first) 0 b ∙ getD-set-other s (541808 + v) j (x .kind) 0 a
 
-  pub slot-here : length s ≡ 16384 → slotAt (slotPut s v x) v ≡ x
+  pub slot-here : length s ≡ 542960 → slotAt (slotPut s v x) v ≡ x
   unfolding slotAt slotPut
   slot-here long = rw (lt-ltb v 322 low) (λ z. slot (kind z) (first z) (second z))
     where
-      long₁ : length s₁ ≡ 16384
-      long₁ = length-set s (8256 + v) (x .kind) ∙ long
+      long₁ : length s₁ ≡ 542960
+      long₁ = length-set s (541808 + v) (x .kind) ∙ long
 
-      long₂ : length s₂ ≡ 16384
-      long₂ = length-set s₁ (8640 + v) (x .first) ∙ long₁
+      long₂ : length s₂ ≡ 542960
+      long₂ = length-set s₁ (542192 + v) (x .first) ∙ long₁
 
-      kind : getD (set s₂ (9024 + v) (x .second)) (8256 + v) 0 ≡ x .kind
-      kind = getD-set-other s₂ (9024 + v) (8256 + v) (x .second) 0 (λ e. omega (arith, e)) ∙ getD-set-other s₁ (8640 + v) (8256 + v) (x .first) 0 (λ e. omega (arith, e)) ∙ getD-set-same s (8256 + v) (x .kind) 0 (omega (arith, long, low))
+      kind : getD (set s₂ (542576 + v) (x .second)) (541808 + v) 0 ≡ x .kind
+      kind = getD-set-other s₂ (542576 + v) (541808 + v) (x .second) 0 (λ e. omega (arith, e)) ∙ getD-set-other s₁ (542192 + v) (541808 + v) (x .first) 0 (λ e. omega (arith, e)) ∙ getD-set-same s (541808 + v) (x .kind) 0 (omega (arith, long, low))
 
-      first : getD (set s₂ (9024 + v) (x .second)) (8640 + v) 0 ≡ x .first
-      first = getD-set-other s₂ (9024 + v) (8640 + v) (x .second) 0 (λ e. omega (arith, e)) ∙ getD-set-same s₁ (8640 + v) (x .first) 0 (omega (arith, long₁, low))
+      first : getD (set s₂ (542576 + v) (x .second)) (542192 + v) 0 ≡ x .first
+      first = getD-set-other s₂ (542576 + v) (542192 + v) (x .second) 0 (λ e. omega (arith, e)) ∙ getD-set-same s₁ (542192 + v) (x .first) 0 (omega (arith, long₁, low))
 
-      second : getD (set s₂ (9024 + v) (x .second)) (9024 + v) 0 ≡ x .second
-      second = getD-set-same s₂ (9024 + v) (x .second) 0 (omega (arith, long₂, low))
+      second : getD (set s₂ (542576 + v) (x .second)) (542576 + v) 0 ≡ x .second
+      second = getD-set-same s₂ (542576 + v) (x .second) 0 (omega (arith, long₂, low))
 
   pub slot-there : (u : ℕ) → u ≢ v → slotAt (slotPut s v x) u ≡ slotAt s u
   unfolding slotAt
@@ -69,9 +69,9 @@ module _ (s : List ℕ) (v : ℕ) (x : Slot) (low : v < 322) where
     where
       go : Dec (u < 322) → slotAt (slotPut s v x) u ≡ slotAt s u
       go (yes l) = rw (lt-ltb u 322 l) (λ z. slot
-          (put-elsewhere (8256 + u) (λ e. n (omega (arith, e))) (λ e. omega (arith, e, l, low)) (λ e. omega (arith, e, l, low)) z)
-          (put-elsewhere (8640 + u) (λ e. omega (arith, e, l, low)) (λ e. n (omega (arith, e))) (λ e. omega (arith, e, l, low)) z)
-          (put-elsewhere (9024 + u) (λ e. omega (arith, e, l, low)) (λ e. omega (arith, e, l, low)) (λ e. n (omega (arith, e))) z))
+          (put-elsewhere (541808 + u) (λ e. n (omega (arith, e))) (λ e. omega (arith, e, l, low)) (λ e. omega (arith, e, l, low)) z)
+          (put-elsewhere (542192 + u) (λ e. omega (arith, e, l, low)) (λ e. n (omega (arith, e))) (λ e. omega (arith, e, l, low)) z)
+          (put-elsewhere (542576 + u) (λ e. omega (arith, e, l, low)) (λ e. omega (arith, e, l, low)) (λ e. n (omega (arith, e))) z))
       go (no f) = rw (le-ltb u 322 (omega (arith, f)))
 
 -- no thread has a number there
@@ -121,13 +121,13 @@ module _ {s : List ℕ} {names : ℕ → state.Slot} {next : ℕ} {things : Kind
       go (no f) = absurd (u (N .unused-from n (omega (arith, f))))
 
   -- the name n names sl from now on
-  pub names-put : (n : ℕ) (sl : state.Slot) (y : Slot) → length s ≡ 16384 → n < next → SlotIs y sl → NamesHeld (slotPut s (suc n) y) (update names n sl) next things
+  pub names-put : (n : ℕ) (sl : state.Slot) (y : Slot) → length s ≡ 542960 → n < next → SlotIs y sl → NamesHeld (slotPut s (suc n) y) (update names n sl) next things
   names-put n sl y long l is = record {
     constant = ap (λ (x : Slot). x .kind) (slot-there s (suc n) y low 0 (λ e. omega (arith, e))) ∙ N .constant;
     slots = λ m h. by-name m h (ℕ-discrete m n);
     unused-from = λ m h. update-other names n m sl (λ e. omega (arith, e, h, l)) ∙ N .unused-from m h;
-    nextStored = put-elsewhere s (suc n) y low 8248 (λ e. omega (arith, e)) (λ e. omega (arith, e)) (λ e. omega (arith, e)) ∙ N .nextStored;
-    counted = λ k. put-elsewhere s (suc n) y low (8240 + kindCode k) (λ e. omega (arith, e, kind-low k)) (λ e. omega (arith, e, kind-low k)) (λ e. omega (arith, e, kind-low k)) ∙ N .counted k;
+    nextStored = put-elsewhere s (suc n) y low 541800 (λ e. omega (arith, e)) (λ e. omega (arith, e)) (λ e. omega (arith, e)) ∙ N .nextStored;
+    counted = λ k. put-elsewhere s (suc n) y low (541792 + kindCode k) (λ e. omega (arith, e, kind-low k)) (λ e. omega (arith, e, kind-low k)) (λ e. omega (arith, e, kind-low k)) ∙ N .counted k;
     few = N .few;
     all = N .all;
   }

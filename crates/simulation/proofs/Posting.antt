@@ -8,8 +8,8 @@ use mathlib.Core.Option.{Option, none, some}
 use native.Mathlib.Omega.{arith}
 use native.Mathlib.Decide.{ℕ-discrete}
 use lib.ListN.{getElem?}
-use Rattle.spec.specs.Expression.{Expr}
-use Rattle.calculus.specs.Expression.{Value, Unary, join, ref, read, lock, unlock, post, wait, hold, choose, Maker, newtid, newlock, newsem, newrwlock}
+use Rattle.spec.specs.Program.{Program}
+use Rattle.calculus.specs.Expression.{Value, Unary, join, ref, read, lock, unlock, post, wait, hold, call, choose, Maker, newtid, newlock, newsem, newrwlock}
 use Rattle.calculus.specs.State.{Slot, unused, identifier, cell, aLock, semaphore, rwlock, Part, update}
 use Rattle.calculus.specs.Reduction.{nameOf, ifIdentifier, content, lockState, ifOpened, count, oneLess, rwState, insideAfter, made}
 use Rattle.calculus.proofs.Laws.Maps.{some-injective, none-is-not-some, bind-is-some}
@@ -94,6 +94,7 @@ module _ (k : ℕ) (M : Machine) (i tid : ℕ) (σ : Env) (K : List Frame) (h : 
       let (p, _, q₂) = bind-is-some (rwState (M .names m)) q₁ in
       let (inside, _, q₃) = bind-is-some (insideAfter (p .0) w (p .1)) q₂ in
       told _ N (updated k (M .names) m (rwlock (p .0) inside) h (λ c e. none-is-not-some e)) q₃
+  unary-counts (call f) v N q = let (b, _, q₁) = bind-is-some (getElem? (M .procedures) f) q in told _ N same q₁
 
   word-counts : (c : Part) (w : Word) (N : Machine) → stepWord M i tid σ K c w ≡ some N → CountsWithin (suc k) (N .names)
   word-counts c (letWord q x v e) N z = told _ N same z
@@ -134,9 +135,9 @@ stepped-counts k R R′ l h q =
     let z : record { machine = N; things = thingsAfter (effect w) (R .things) } ≡ R′ = some-injective {a = record { machine = N; things = thingsAfter (effect w) (R .things) }} q₄ in
     subst (λ (x : Replay). CountsWithin (suc k) (x .machine .names)) z (step-counts k (R .machine) (l .thread) c N h moves)
 
-pub start-counts : (e : Expr) → CountsWithin 0 (startReplay e .machine .names)
+pub start-counts : (P : Program) → CountsWithin 0 (startReplay P .machine .names)
 unfolding startReplay startMachine
-start-counts e n c z = by-name (ℕ-discrete n 0) z
+start-counts P n c z = by-name (ℕ-discrete n 0) z
   where
     by-name : (d : Dec (n ≡ 0)) → count (choose d identifier unused) ≡ some c → c ≤ 0
     by-name (yes y) z = none-is-not-some z

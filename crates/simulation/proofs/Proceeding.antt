@@ -28,10 +28,11 @@ use Rattle.reduction.specs.Words.{countsAt, nextAt}
 use Rattle.engine.specs.Steps.{recorded, proceeded}
 use Rattle.replaying.specs.Run.{Kind}
 use Rattle.machine.specs.Control as machine
-use Rattle.machine.specs.Control.{Control, done, at}
+use Rattle.machine.specs.Control.{Control, done, at, openCalls}
 use Rattle.machine.specs.State.{MachineThread, running}
 use Rattle.machine.specs.Step.{isDone}
-use Rattle.simulation.proofs.Held.{ControlAt, WordAt}
+use Rattle.spec.specs.Expression.{Procedure}
+use Rattle.simulation.proofs.Held.{BodiesStand, ControlAt, WordAt}
 use Rattle.simulation.proofs.Turning.{SameBut}
 use Rattle.simulation.proofs.Agreeing.{Agree, SharedSame, control-same, agree-then, agree-found, shared-found, focus-here, focus-length, focus-other, focus-shared, focus-rows}
 use Rattle.simulation.proofs.Holds.{NamesHeld, SlotIs, kindCode, recordOf, ThreadHeld, Sized, ThreadsHeld, Holds}
@@ -40,7 +41,7 @@ use Rattle.simulation.proofs.Holds.{NamesHeld, SlotIs, kindCode, record
 
 pub slot-same : (s s′ : List ℕ) (v : ℕ) → SharedSame s s′ → slotAt s′ v ≡ slotAt s v
 unfolding slotAt
-slot-same s s′ v h = λ z. if ltb v 322 then slot (h (8256 + v) (omega arith) z) (h (8640 + v) (omega arith) z) (h (9024 + v) (omega arith) z) else slot 0 0 0
+slot-same s s′ v h = λ z. if ltb v 322 then slot (h (541808 + v) (omega arith) z) (h (542192 + v) (omega arith) z) (h (542576 + v) (omega arith) z) else slot 0 0 0
 
 pub names-same : (s s′ : List ℕ) {names : ℕ → calculus.Slot} {next : ℕ} {things : Kind → ℕ} → SharedSame s s′ → NamesHeld s names next things → NamesHeld s′ names next things
 names-same s s′ {names = names} h N = record {
@@ -60,7 +61,7 @@ mode-tells : (p s : List ℕ) (t : ℕ) (f : Focus) (d : Control) → ControlAt 
 mode-tells p s t f (done v) C = ap (λ (g : Focus). eqb (g .mode) 5) C
 mode-tells p s t f (at σ w K) (values, W, F) = word-tells w W
   where
-    word-tells : (w : machine.Word) → WordAt p s t f w → eqb (f .mode) 5 ≡ false
+    word-tells : (w : machine.Word) → WordAt p s (f .row) f w → eqb (f .mode) 5 ≡ false
     word-tells (machine.letWord q x v e) W = ap (λ (g : Focus). eqb (g .mode) 5) (W .0)
     word-tells (machine.ifWord q e₁ e₂) W = ap (λ (g : Focus). eqb (g .mode) 5) (W .0)
     word-tells (machine.whileWord q e) W = ap (λ (g : Focus). eqb (g .mode) 5) (W .0)
@@ -115,27 +116,27 @@ set-here (x ∷ xs) (suc i) a b h = set-here xs i a b h
 
 -- thread t, which was running with the identifier tid, is on its way; all others stand where they stood
 pub record Paused (p s : List ℕ) (T : Threads) (ts : List MachineThread) (t tid : ℕ) : Type 0 where
-  pub long : length s ≡ 16384
+  pub long : length s ≡ 542960
   pub sized : Sized T ts
   pub there : t < length ts
   pub was : getD (T .records) t noRecord ≡ runningRecord tid
   pub others : (i : ℕ) (th : MachineThread) → i ≢ t → getElem? ts i ≡ some th → ThreadHeld p s T i th
 
 module _ (p s : List ℕ) (T : Threads) (ts : List MachineThread) (t tid : ℕ) (P : Paused p s T ts t tid) where
-  low : t < 16
+  pub low : t < 16
   low = let a = P .there in let b = P .sized .fits in omega arith
 
   abbrev goneTo : Control → List MachineThread
   goneTo d = set ts t (running tid d)
 
-  module _ (g : Focus) (s₂ : List ℕ) (d : Control) (C : ControlAt p s₂ t g d) (S : SameBut t s s₂) where
+  module _ (g : Focus) (s₂ : List ℕ) (d : Control) (few : openCalls d ≤ 64) (C : ControlAt p s₂ t g d) (S : SameBut t s s₂) where
     abbrev s′ : List ℕ
     s′ = focusPut s₂ t g
 
     abbrev T′ : Threads
     T′ = after T t tid low (P .sized .records) (P .was) d
 
-    long₂ : length s₂ ≡ 16384
+    long₂ : length s₂ ≡ 542960
     long₂ = S .long ∙ P .long
 
     shared : SharedSame s s′
@@ -155,8 +156,9 @@ module _ (p s : List ℕ) (T : Threads) (ts : List MachineThread) (t tid : ℕ) 
     thread-here : ThreadHeld p s′ T′ t (running tid d)
     thread-here = record {
       recorded = record-here T t tid low (P .sized .records) (P .was) d;
-      control = subst (λ (f : Focus). ControlAt p s′ t f d) (sym (focus-here s₂ t g long₂ low)) (control-same p t s₂ s′ (focus-rows t t s₂ g low low) g d C);
+      control = subst (λ (f : Focus). ControlAt p s′ t f d) (sym (focus-here s₂ t g long₂ low)) (control-same p t s₂ s′ (focus-rows t t s₂ g low low) g d (omega (arith, few)) C);
       settled = λ e. absurd (let z : _≡_ {A = ℕ} 0 1 = cc in omega arith);
+      calls = few;
     }
 
     thread-there : (i : ℕ) (th : MachineThread) → i ≢ t → getElem? ts i ≡ some th → ThreadHeld p s′ T′ i th
@@ -167,8 +169,9 @@ module _ (p s : List ℕ) (T : Threads) (ts : List MachineThread) (t tid : ℕ) 
         let held = P .others i th n h in
         record {
           recorded = record-there T t tid low (P .sized .records) (P .was) d i n ∙ held .recorded;
-          control = subst (λ (f : Focus). ControlAt p s′ i f (th .control)) (sym (a .focused)) (control-same p i s s′ (a .rows) (focusAt s i) (th .control) (held .control));
+          control = subst (λ (f : Focus). ControlAt p s′ i f (th .control)) (sym (a .focused)) (control-same p i s s′ (a .rows) (focusAt s i) (th .control) (let n = held .calls in omega arith) (held .control));
           settled = held .settled;
+          calls = held .calls;
         }
 
     threads-after : ThreadsHeld p s′ T′ (goneTo d)
@@ -181,20 +184,21 @@ module _ (p s : List ℕ) (T : Threads) (ts : List MachineThread) (t tid : ℕ) 
         by-place (no n) = thread-there i th n (sym (set-elsewhere ts t i (running tid d) (λ e. n (sym e))) ∙ h)
 
   -- the thread has gone on to d
-  pub proceeds : (names : ℕ → calculus.Slot) (next : ℕ) (things : Kind → ℕ) → NamesHeld s names next things → (f : Focus) (d : Control) →
-      ControlAt p (found 2048 p s t f .1) t (found 2048 p s t f .0) d × SameBut t s (found 2048 p s t f .1) →
-      Holds p (proceeded p s T t f .1) (proceeded p s T t f .0) (record { machine = record { threads = goneTo d; names = names; next = next }; things = things })
+  pub proceeds : (Q : List Procedure) → BodiesStand p Q → (names : ℕ → calculus.Slot) (next : ℕ) (things : Kind → ℕ) → NamesHeld s names next things → (f : Focus) (d : Control) → openCalls d ≤ 64 →
+      ControlAt p (found 2048 p s f .1) t (found 2048 p s f .0) d × SameBut t s (found 2048 p s f .1) →
+      Holds p (proceeded p s T t f .1) (proceeded p s T t f .0) (record { machine = record { procedures = Q; threads = goneTo d; names = names; next = next }; things = things })
   unfolding proceeded recorded wentOn settled
-  proceeds names next things N f d (C, S) = with-found (found 2048 p s t f .0) (found 2048 p s t f .1) C S
+  proceeds Q B names next things N f d few (C, S) = with-found (found 2048 p s f .0) (found 2048 p s f .1) C S
     where
       with-found : (g : Focus) (s₂ : List ℕ) → ControlAt p s₂ t g d → SameBut t s s₂ →
-          Holds p (focusPut s₂ t g) (if eqb (g .mode) 5 then finished T t else T) (record { machine = record { threads = goneTo d; names = names; next = next }; things = things })
+          Holds p (focusPut s₂ t g) (if eqb (g .mode) 5 then finished T t else T) (record { machine = record { procedures = Q; threads = goneTo d; names = names; next = next }; things = things })
       with-found g s₂ C S =
-          subst (λ (b : Bool). Holds p (focusPut s₂ t g) (if b then finished T t else T) (record { machine = record { threads = goneTo d; names = names; next = next }; things = things }))
+          subst (λ (b : Bool). Holds p (focusPut s₂ t g) (if b then finished T t else T) (record { machine = record { procedures = Q; threads = goneTo d; names = names; next = next }; things = things }))
           (sym (mode-tells p s₂ t g d C))
           (record {
-            long = focus-length s₂ t g ∙ long₂ g s₂ d C S;
-            names = names-same s (focusPut s₂ t g) (shared g s₂ d C S) N;
-            sized = sized-after g s₂ d C S;
-            threads = threads-after g s₂ d C S;
+            long = focus-length s₂ t g ∙ long₂ g s₂ d few C S;
+            bodies = B;
+            names = names-same s (focusPut s₂ t g) (shared g s₂ d few C S) N;
+            sized = sized-after g s₂ d few C S;
+            threads = threads-after g s₂ d few C S;
           })

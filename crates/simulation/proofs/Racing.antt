@@ -200,48 +200,48 @@ module _ (n : ℕ) (x : Slot) where
   writes-cell (rwlock N (readers k)) h = rw (h .0) (refl, refl)
   writes-cell (rwlock N writer) h = rw (h .0) (refl, refl)
 
-module _ (p s : List ℕ) (i : ℕ) {q : Position} {w : Word} {n : ℕ} (r : RowOf p q w n) where
+module _ (p s : List ℕ) (row : ℕ) {q : Position} {w : Word} {n : ℕ} (r : RowOf p q w n) where
   -- a word that has its last value
-  ready-access : (x v : ℕ) → subject p s i (readyAt (q .index) x) ≡ v →
-      accessAt p s i (readyAt (q .index) x) ≡ (if eqb (slotAt s v .kind) 2 then accessBy (ruleOf (codeOf w)) v else None)
+  ready-access : (x v : ℕ) → subject p s (readyAt row (q .index) x) ≡ v →
+      accessAt p s (readyAt row (q .index) x) ≡ (if eqb (slotAt s v .kind) 2 then accessBy (ruleOf (codeOf w)) v else None)
   unfolding accessAt
   ready-access x v e = rw (e, r .code)
 
-  quiet : (x : ℕ) → ((v : ℕ) → accessBy (ruleOf (codeOf w)) v ≡ None) → accessAt p s i (readyAt (q .index) x) ≡ None
+  quiet : (x : ℕ) → ((v : ℕ) → accessBy (ruleOf (codeOf w)) v ≡ None) → accessAt p s (readyAt row (q .index) x) ≡ None
   quiet x none-of =
-      ready-access x (subject p s i (readyAt (q .index) x)) refl
-      ∙ ap (λ (a : Access). if eqb (slotAt s (subject p s i (readyAt (q .index) x)) .kind) 2 then a else None) (none-of (subject p s i (readyAt (q .index) x)))
-      ∙ both-none (eqb (slotAt s (subject p s i (readyAt (q .index) x)) .kind) 2)
+      ready-access x (subject p s (readyAt row (q .index) x)) refl
+      ∙ ap (λ (a : Access). if eqb (slotAt s (subject p s (readyAt row (q .index) x)) .kind) 2 then a else None) (none-of (subject p s (readyAt row (q .index) x)))
+      ∙ both-none (eqb (slotAt s (subject p s (readyAt row (q .index) x)) .kind) 2)
 
-module _ (p s : List ℕ) (i : ℕ) (names : ℕ → state.Slot) (slot-of : (n : ℕ) → SlotIs (slotAt s (suc n)) (names n)) (constant : slotAt s 0 .kind ≡ 0) where
+module _ (p s : List ℕ) (row : ℕ) (names : ℕ → state.Slot) (slot-of : (n : ℕ) → SlotIs (slotAt s (suc n)) (names n)) (constant : slotAt s 0 .kind ≡ 0) where
   -- the thread shows what its word is about to use
   abbrev ShowsUse : Focus → Redex → Type 0
-  ShowsUse f w = AccessIs (accessAt p s i f) (usesOf names (some w))
+  ShowsUse f w = AccessIs (accessAt p s f) (usesOf names (some w))
 
-  silent : (f : Focus) (u : Uses) → accessAt p s i f ≡ None → (u .reading ≡ none) × (u .writing ≡ none) → AccessIs (accessAt p s i f) u
+  silent : (f : Focus) (u : Uses) → accessAt p s f ≡ None → (u .reading ≡ none) × (u .writing ≡ none) → AccessIs (accessAt p s f) u
   silent f u e h = subst (λ (a : Access). AccessIs a u) (sym e) h
 
-  read-subject : {q : Position} {n : ℕ} → RowOf p q (Unary (partWord read)) n → (x : ℕ) → subject p s i (readyAt (q .index) x) ≡ x
+  read-subject : {q : Position} {n : ℕ} → RowOf p q (Unary (partWord read)) n → (x : ℕ) → subject p s (readyAt row (q .index) x) ≡ x
   unfolding subject shapeAt shapeOf isWrite ruleOf printed
   read-subject r x = rw (r .code)
 
-  write-subject : {q : Position} {n : ℕ} → RowOf p q (Binary WriteWord) n → (x : ℕ) → subject p s i (readyAt (q .index) x) ≡ kept s i (q .index)
+  write-subject : {q : Position} {n : ℕ} → RowOf p q (Binary WriteWord) n → (x : ℕ) → subject p s (readyAt row (q .index) x) ≡ kept s row (q .index)
   unfolding subject shapeAt shapeOf isWrite ruleOf printed
   write-subject r x = rw (r .code)
 
-  read-shows : (σ : _) (q : Position) (v : Value) {n : ℕ} → RowOf p q (Unary (partWord read)) n → ShowsUse (readyAt (q .index) (codeValue v)) (redex σ (machine.unaryWord q read v))
+  read-shows : (σ : _) (q : Position) (v : Value) {n : ℕ} → RowOf p q (Unary (partWord read)) n → ShowsUse (readyAt row (q .index) (codeValue v)) (redex σ (machine.unaryWord q read v))
   unfolding ofUnary usesOf ifCell uses.reads uses.unaryReads uses.writes accessBy ruleOf printed
   read-shows σ q v r =
-      subst (λ (a : Access). AccessIs a (usesOf names (some (redex σ (machine.unaryWord q read v))))) (sym (ready-access p s i r (codeValue v) (codeValue v) (read-subject r (codeValue v)))) (by-value v)
+      subst (λ (a : Access). AccessIs a (usesOf names (some (redex σ (machine.unaryWord q read v))))) (sym (ready-access p s row r (codeValue v) (codeValue v) (read-subject r (codeValue v)))) (by-value v)
     where
       by-value : (v : Value) → AccessIs (if eqb (slotAt s (codeValue v) .kind) 2 then Read (codeValue v) else None) (usesOf names (some (redex σ (machine.unaryWord q read v))))
       by-value (int k) = rw constant (refl, refl)
       by-value (name m) = reads-cell m (slotAt s (suc m)) (names m) (slot-of m)
 
-  write-shows : (σ : _) (q : Position) (v w : Value) {n : ℕ} → RowOf p q (Binary WriteWord) n → kept s i (q .index) ≡ codeValue v → ShowsUse (readyAt (q .index) (codeValue w)) (redex σ (machine.writeWord q v w))
+  write-shows : (σ : _) (q : Position) (v w : Value) {n : ℕ} → RowOf p q (Binary WriteWord) n → kept s row (q .index) ≡ codeValue v → ShowsUse (readyAt row (q .index) (codeValue w)) (redex σ (machine.writeWord q v w))
   unfolding ofUnary usesOf ifCell uses.reads uses.writes accessBy ruleOf printed
   write-shows σ q v w r held =
-      subst (λ (a : Access). AccessIs a (usesOf names (some (redex σ (machine.writeWord q v w))))) (sym (ready-access p s i r (codeValue w) (codeValue v) (write-subject r (codeValue w) ∙ held))) (by-value v)
+      subst (λ (a : Access). AccessIs a (usesOf names (some (redex σ (machine.writeWord q v w))))) (sym (ready-access p s row r (codeValue w) (codeValue v) (write-subject r (codeValue w) ∙ held))) (by-value v)
     where
       by-value : (v : Value) → AccessIs (if eqb (slotAt s (codeValue v) .kind) 2 then Write (codeValue v) else None) (usesOf names (some (redex σ (machine.writeWord q v w))))
       by-value (int k) = rw constant (refl, refl)
@@ -249,33 +249,34 @@ module _ (p s : List ℕ) (i : ℕ) (names : ℕ → state.Slot) (slot-of : (n :
 
   -- any other word with one part
   part-silent : (σ : _) (q : Position) (o : calculus.Unary) (v : Value) {n : ℕ} → RowOf p q (Unary (partWord o)) n → ((x : ℕ) → accessBy (ruleOf (codeOf (Unary (partWord o)))) x ≡ None) → ((x : Value) → uses.unaryReads o x ≡ none) →
-      ShowsUse (readyAt (q .index) (codeValue v)) (redex σ (machine.unaryWord q o v))
+      ShowsUse (readyAt row (q .index) (codeValue v)) (redex σ (machine.unaryWord q o v))
   unfolding ofUnary usesOf ifCell uses.reads uses.writes uses.unaryReads
   part-silent σ q o v r quiet-rule no-read =
-      silent (readyAt (q .index) (codeValue v)) (usesOf names (some (redex σ (machine.unaryWord q o v)))) (quiet p s i r (codeValue v) quiet-rule)
+      silent (readyAt row (q .index) (codeValue v)) (usesOf names (some (redex σ (machine.unaryWord q o v)))) (quiet p s row r (codeValue v) quiet-rule)
       (ap (λ (z : Option ℕ). z >>= λ n. content (names n) >> some n) (no-read v), refl)
 
-  word-shows : (σ : _) (w : machine.Word) (f : Focus) → WordAt p s i f w → ShowsUse f (redex σ w)
+  word-shows : (σ : _) (w : machine.Word) (f : Focus) → WordAt p s row f w → ShowsUse f (redex σ w)
   unfolding ofUnary usesOf ifCell uses.reads uses.unaryReads uses.writes accessAt accessBy ruleOf printed
-  word-shows σ (machine.letWord q x v e) f (z, r, S) = subst (λ (g : Focus). ShowsUse g (redex σ (machine.letWord q x v e))) (sym z) (silent (readyAt (q .index) (codeValue v)) (usesBoth none none) (quiet p s i r (codeValue v) (λ y. refl)) (refl, refl))
+  word-shows σ (machine.letWord q x v e) f (z, r, S) = subst (λ (g : Focus). ShowsUse g (redex σ (machine.letWord q x v e))) (sym z) (silent (readyAt row (q .index) (codeValue v)) (usesBoth none none) (quiet p s row r (codeValue v) (λ y. refl)) (refl, refl))
   word-shows σ (machine.ifWord q e₁ e₂) f (z, n, r, S₁, S₂) = subst (λ (g : Focus). ShowsUse g (redex σ (machine.ifWord q e₁ e₂))) (sym z) (refl, refl)
   word-shows σ (machine.whileWord q e) f (z, n, r, S) = subst (λ (g : Focus). ShowsUse g (redex σ (machine.whileWord q e))) (sym z) (refl, refl)
-  word-shows σ (machine.spawnWord q v e) f (z, n, r, S) = subst (λ (g : Focus). ShowsUse g (redex σ (machine.spawnWord q v e))) (sym z) (silent (readyAt (q .index) (codeValue v)) (usesBoth none none) (quiet p s i r (codeValue v) (λ y. refl)) (refl, refl))
+  word-shows σ (machine.spawnWord q v e) f (z, n, r, S) = subst (λ (g : Focus). ShowsUse g (redex σ (machine.spawnWord q v e))) (sym z) (silent (readyAt row (q .index) (codeValue v)) (usesBoth none none) (quiet p s row r (codeValue v) (λ y. refl)) (refl, refl))
   word-shows σ (machine.writeWord q v w) f (z, n, r, held) = subst (λ (g : Focus). ShowsUse g (redex σ (machine.writeWord q v w))) (sym z) (write-shows σ q v w r held)
-  word-shows σ (machine.unaryWord q read v) f (z, n, r) = subst (λ (g : Focus). ShowsUse g (redex σ (machine.unaryWord q read v))) (sym z) (read-shows σ q v r)
-  word-shows σ (machine.unaryWord q calculus.join v) f (z, n, r) = subst (λ (g : Focus). ShowsUse g (redex σ (machine.unaryWord q calculus.join v))) (sym z) (part-silent σ q calculus.join v r (λ x. refl) (λ x. refl))
-  word-shows σ (machine.unaryWord q calculus.ref v) f (z, n, r) = subst (λ (g : Focus). ShowsUse g (redex σ (machine.unaryWord q calculus.ref v))) (sym z) (part-silent σ q calculus.ref v r (λ x. refl) (λ x. refl))
-  word-shows σ (machine.unaryWord q calculus.lock v) f (z, n, r) = subst (λ (g : Focus). ShowsUse g (redex σ (machine.unaryWord q calculus.lock v))) (sym z) (part-silent σ q calculus.lock v r (λ x. refl) (λ x. refl))
-  word-shows σ (machine.unaryWord q calculus.unlock v) f (z, n, r) = subst (λ (g : Focus). ShowsUse g (redex σ (machine.unaryWord q calculus.unlock v))) (sym z) (part-silent σ q calculus.unlock v r (λ x. refl) (λ x. refl))
-  word-shows σ (machine.unaryWord q calculus.post v) f (z, n, r) = subst (λ (g : Focus). ShowsUse g (redex σ (machine.unaryWord q calculus.post v))) (sym z) (part-silent σ q calculus.post v r (λ x. refl) (λ x. refl))
-  word-shows σ (machine.unaryWord q calculus.wait v) f (z, n, r) = subst (λ (g : Focus). ShowsUse g (redex σ (machine.unaryWord q calculus.wait v))) (sym z) (part-silent σ q calculus.wait v r (λ x. refl) (λ x. refl))
-  word-shows σ (machine.unaryWord q (calculus.hold calculus.rdlock) v) f (z, n, r) = subst (λ (g : Focus). ShowsUse g (redex σ (machine.unaryWord q (calculus.hold calculus.rdlock) v))) (sym z) (part-silent σ q (calculus.hold calculus.rdlock) v r (λ x. refl) (λ x. refl))
-  word-shows σ (machine.unaryWord q (calculus.hold calculus.rdunlock) v) f (z, n, r) = subst (λ (g : Focus). ShowsUse g (redex σ (machine.unaryWord q (calculus.hold calculus.rdunlock) v))) (sym z) (part-silent σ q (calculus.hold calculus.rdunlock) v r (λ x. refl) (λ x. refl))
-  word-shows σ (machine.unaryWord q (calculus.hold calculus.wrlock) v) f (z, n, r) = subst (λ (g : Focus). ShowsUse g (redex σ (machine.unaryWord q (calculus.hold calculus.wrlock) v))) (sym z) (part-silent σ q (calculus.hold calculus.wrlock) v r (λ x. refl) (λ x. refl))
-  word-shows σ (machine.unaryWord q (calculus.hold calculus.wrunlock) v) f (z, n, r) = subst (λ (g : Focus). ShowsUse g (redex σ (machine.unaryWord q (calculus.hold calculus.wrunlock) v))) (sym z) (part-silent σ q (calculus.hold calculus.wrunlock) v r (λ x. refl) (λ x. refl))
+  word-shows σ (machine.unaryWord q read v) f (z, n, r, N) = subst (λ (g : Focus). ShowsUse g (redex σ (machine.unaryWord q read v))) (sym z) (read-shows σ q v r)
+  word-shows σ (machine.unaryWord q calculus.join v) f (z, n, r, N) = subst (λ (g : Focus). ShowsUse g (redex σ (machine.unaryWord q calculus.join v))) (sym z) (part-silent σ q calculus.join v r (λ x. refl) (λ x. refl))
+  word-shows σ (machine.unaryWord q calculus.ref v) f (z, n, r, N) = subst (λ (g : Focus). ShowsUse g (redex σ (machine.unaryWord q calculus.ref v))) (sym z) (part-silent σ q calculus.ref v r (λ x. refl) (λ x. refl))
+  word-shows σ (machine.unaryWord q calculus.lock v) f (z, n, r, N) = subst (λ (g : Focus). ShowsUse g (redex σ (machine.unaryWord q calculus.lock v))) (sym z) (part-silent σ q calculus.lock v r (λ x. refl) (λ x. refl))
+  word-shows σ (machine.unaryWord q calculus.unlock v) f (z, n, r, N) = subst (λ (g : Focus). ShowsUse g (redex σ (machine.unaryWord q calculus.unlock v))) (sym z) (part-silent σ q calculus.unlock v r (λ x. refl) (λ x. refl))
+  word-shows σ (machine.unaryWord q calculus.post v) f (z, n, r, N) = subst (λ (g : Focus). ShowsUse g (redex σ (machine.unaryWord q calculus.post v))) (sym z) (part-silent σ q calculus.post v r (λ x. refl) (λ x. refl))
+  word-shows σ (machine.unaryWord q calculus.wait v) f (z, n, r, N) = subst (λ (g : Focus). ShowsUse g (redex σ (machine.unaryWord q calculus.wait v))) (sym z) (part-silent σ q calculus.wait v r (λ x. refl) (λ x. refl))
+  word-shows σ (machine.unaryWord q (calculus.hold calculus.rdlock) v) f (z, n, r, N) = subst (λ (g : Focus). ShowsUse g (redex σ (machine.unaryWord q (calculus.hold calculus.rdlock) v))) (sym z) (part-silent σ q (calculus.hold calculus.rdlock) v r (λ x. refl) (λ x. refl))
+  word-shows σ (machine.unaryWord q (calculus.hold calculus.rdunlock) v) f (z, n, r, N) = subst (λ (g : Focus). ShowsUse g (redex σ (machine.unaryWord q (calculus.hold calculus.rdunlock) v))) (sym z) (part-silent σ q (calculus.hold calculus.rdunlock) v r (λ x. refl) (λ x. refl))
+  word-shows σ (machine.unaryWord q (calculus.hold calculus.wrlock) v) f (z, n, r, N) = subst (λ (g : Focus). ShowsUse g (redex σ (machine.unaryWord q (calculus.hold calculus.wrlock) v))) (sym z) (part-silent σ q (calculus.hold calculus.wrlock) v r (λ x. refl) (λ x. refl))
+  word-shows σ (machine.unaryWord q (calculus.hold calculus.wrunlock) v) f (z, n, r, N) = subst (λ (g : Focus). ShowsUse g (redex σ (machine.unaryWord q (calculus.hold calculus.wrunlock) v))) (sym z) (part-silent σ q (calculus.hold calculus.wrunlock) v r (λ x. refl) (λ x. refl))
+  word-shows σ (machine.unaryWord q (calculus.call called) v) f (z, n, r, N) = subst (λ (g : Focus). ShowsUse g (redex σ (machine.unaryWord q (calculus.call called) v))) (sym z) (part-silent σ q (calculus.call called) v r (λ x. refl) (λ x. refl))
   word-shows σ (machine.makeWord q o) f (z, n, r, N) = subst (λ (g : Focus). ShowsUse g (redex σ (machine.makeWord q o))) (sym z) (refl, refl)
   word-shows σ (machine.unrolledWord q e) f (z, n, r, S) = subst (λ (g : Focus). ShowsUse g (redex σ (machine.unrolledWord q e))) (sym z) (refl, refl)
-  word-shows σ (machine.againWord q v e) f (z, n, r, S) = subst (λ (g : Focus). ShowsUse g (redex σ (machine.againWord q v e))) (sym z) (silent (readyAt (q .index) (codeValue v)) (usesBoth none none) (quiet p s i r (codeValue v) (λ y. refl)) (refl, refl))
+  word-shows σ (machine.againWord q v e) f (z, n, r, S) = subst (λ (g : Focus). ShowsUse g (redex σ (machine.againWord q v e))) (sym z) (silent (readyAt row (q .index) (codeValue v)) (usesBoth none none) (quiet p s row r (codeValue v) (λ y. refl)) (refl, refl))
 
 -- ------------------------------------------------------------------ the lowest pair
 
@@ -285,13 +286,13 @@ module _ (p s : List ℕ) (T : Threads) (R : Replay) (H : Holds p s T R) where
 
   done-shows : (i : ℕ) (d : Control) → isDone d ≡ true → ControlAt p s i (focusAt s i) d → accessOf p s i ≡ None
   unfolding accessOf accessAt
-  done-shows i (done v) e C = ap (accessAt p s i) C
+  done-shows i (done v) e C = ap (accessAt p s) C
   done-shows i (at σ w K) e C = absurd (let z : _≡_ {A = ℕ} 0 1 = cc in omega arith)
 
   control-shows : (i : ℕ) (d : Control) → ControlAt p s i (focusAt s i) d → AccessIs (accessOf p s i) (usesOf (R .machine .names) (nextRedex d))
   unfolding accessOf usesOf ifCell
   control-shows i (done v) C = subst (λ (a : Access). AccessIs a (usesBoth none none)) (sym (done-shows i (done v) refl C)) (refl, refl)
-  control-shows i (at σ w K) (values, W, F) = word-shows p s i (R .machine .names) (λ n. slot-told (H .names) (name n)) (H .names .constant) σ w (focusAt s i) W
+  control-shows i (at σ w K) (values, W, F) = word-shows p s (focusAt s i .row) (R .machine .names) (λ n. slot-told (H .names) (name n)) (H .names .constant) σ w (focusAt s i) W
 
   pub lowest-pair-alike : pairTold (lowestPair p s (T .count)) ≡ replay.lowestPair R
   unfolding lowestPair replay.lowestPair usesIn

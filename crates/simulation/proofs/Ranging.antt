@@ -1,8 +1,8 @@
--- The variables of a well-formed program are below 256.
+-- The variables of a well-formed program are below 256, and its calls are of its own procedures.
 use Prim.Native.Nat.{ℕ, zero, suc, _+_, _<_, _≤_}
 use mathlib.Core.Path.{_≡_, refl, sym, _∙_, ap, subst}
 use mathlib.Core.Bool.{Bool, true, false, _&&_}
-use mathlib.Core.List.{List, [], _∷_, _++_}
+use mathlib.Core.List.{List, [], _∷_, _++_, map}
 use mathlib.Core.Option.{Option, none, some}
 use native.Mathlib.Omega.{arith}
 use borrow.Author.Tests.{leb-true}
@@ -11,51 +11,85 @@ use lib.ListN.{length, getD}
 use Rattle.spec.specs.Choice.{if_then_else_}
 use Rattle.spec.specs.Text.{bytes, same, Line, closed, Field, lookUp, fields}
 use Rattle.spec.specs.Reading.{Seen, right, wrong, seen, wrongAfter, freelock, _to_, inRange, allInRange, numbers}
-use Rattle.spec.specs.Expression.{Step, Expr, leaf, unary, binary}
-use Rattle.spec.specs.Program.{Program, firstNumber, stepOf, wordLine, stepLine, stepLines}
-use Rattle.spec.specs.Words.{words, leastValue, largestValue, valueRange}
-use Rattle.spec.specs.WellFormed.{Shows, nothing, line, prefix, firstStepLine, WellFormedProgram}
+use Rattle.spec.specs.Expression.{Step, Expr, leaf, unary, binary, Item, step, proc, Procedure}
+use Rattle.spec.specs.Program.{Program, firstNumber, stepOf, wordLine, procOf, procLine, itemLine, itemLines}
+use Rattle.spec.specs.Words.{calls, wordsUnder, leastValue, largestValue, valueRange, role, binding}
+use Rattle.spec.specs.WellFormed.{Shows, nothing, line, prefix, itemsOf, listing, StepInside, UsedInside, AllUsedInside, firstItemLine, WellFormedProgram}
 use Rattle.spec.proofs.Ranges.{wrong-is-not-right, seen-right, numbers-right}
+use Rattle.spec.specs.declared.ProgramHeading.{ProgramHeading}
+use Rattle.spec.specs.declared.ProgramHeading.the-variants.{P, P2}
 use Rattle.spec.specs.declared.Word.{Word}
 use Rattle.spec.specs.declared.Word.the-variants.{Leaf, Unary, Binary}
 use Rattle.spec.specs.declared.LeafWord.the-variants.{Var, Int, Newtid, Newlock, Newsem, Newrwlock}
+use Rattle.spec.specs.declared.UnaryWord.the-variants.{While, Join, Ref, Read, Lock, Unlock, Post, Wait, Rdlock, Rdunlock, Wrlock, Wrunlock, Call}
 use Rattle.spec.specs.declared.BinaryWord.the-variants.{Let, If, Spawn, Write}
 use Rattle.simulation.proofs.Held.{Small}
 use Rattle.simulation.proofs.Linked.{Ranged}
+use Rattle.simulation.proofs.Bodies.{AllRanged}
 
-small-of : (w : Word) (v : ℕ) → v ≤ largestValue w → Small w v
-unfolding largestValue
-small-of (Leaf Var) v h = omega (arith, h)
-small-of (Leaf Int) v h = tt
-small-of (Leaf Newtid) v h = tt
-small-of (Leaf Newlock) v h = tt
-small-of (Leaf Newsem) v h = tt
-small-of (Leaf Newrwlock) v h = tt
-small-of (Unary w) v h = tt
-small-of (Binary Let) v h = omega (arith, h)
-small-of (Binary If) v h = tt
-small-of (Binary Spawn) v h = tt
-small-of (Binary Write) v h = tt
+-- ------------------------------------------------------------------ expressions
 
-abbrev AllSmall : List Step → Type 0
-AllSmall [] = Unit {0}
-AllSmall (s ∷ ss) = Small (s .word) (s .value) × AllSmall ss
+-- in a program of m procedures
+module _ (m : ℕ) where
+  small-of : (w : Word) (v : ℕ) (inside : List ℕ) → v ≤ largestValue w → StepInside m inside (role w) v → Small m w v
+  unfolding largestValue StepInside role calls
+  small-of (Leaf Var) v inside h u = omega (arith, h)
+  small-of (Leaf Int) v inside h u = tt
+  small-of (Leaf Newtid) v inside h u = tt
+  small-of (Leaf Newlock) v inside h u = tt
+  small-of (Leaf Newsem) v inside h u = tt
+  small-of (Leaf Newrwlock) v inside h u = tt
+  small-of (Unary While) v inside h u = tt
+  small-of (Unary Join) v inside h u = tt
+  small-of (Unary Ref) v inside h u = tt
+  small-of (Unary Read) v inside h u = tt
+  small-of (Unary Lock) v inside h u = tt
+  small-of (Unary Unlock) v inside h u = tt
+  small-of (Unary Post) v inside h u = tt
+  small-of (Unary Wait) v inside h u = tt
+  small-of (Unary Rdlock) v inside h u = tt
+  small-of (Unary Rdunlock) v inside h u = tt
+  small-of (Unary Wrlock) v inside h u = tt
+  small-of (Unary Wrunlock) v inside h u = tt
+  small-of (Unary Call) v inside h u = u
+  small-of (Binary Let) v inside h u = omega (arith, h)
+  small-of (Binary If) v inside h u = tt
+  small-of (Binary Spawn) v inside h u = tt
+  small-of (Binary Write) v inside h u = tt
 
-small-left : (ss ts : List Step) → AllSmall (ss ++ ts) → AllSmall ss
-small-left [] ts a = tt
-small-left (s ∷ ss) ts (h, a) = (h, small-left ss ts a)
+-- the numbers of steps are in the ranges of their words
+abbrev AllLow : List Step → Type 0
+AllLow [] = Unit {0}
+AllLow (s ∷ ss) = (s .value ≤ largestValue (s .word)) × AllLow ss
 
-small-right : (ss ts : List Step) → AllSmall (ss ++ ts) → AllSmall ts
-small-right [] ts a = a
-small-right (s ∷ ss) ts (h, a) = small-right ss ts a
+low-left : (ss ts : List Step) → AllLow (ss ++ ts) → AllLow ss
+low-left [] ts a = tt
+low-left (s ∷ ss) ts (h, a) = (h, low-left ss ts a)
 
-ranged : (e : Expr) → AllSmall (prefix e) → Ranged e
-unfolding prefix
-ranged (leaf w k v) a = a .0
-ranged (unary w k v e) a = ranged e (a .1)
-ranged (binary w k v e₁ e₂) a = (a .0, ranged e₁ (small-left (prefix e₁) (prefix e₂) (a .1)), ranged e₂ (small-right (prefix e₁) (prefix e₂) (a .1)))
+low-right : (ss ts : List Step) → AllLow (ss ++ ts) → AllLow ts
+low-right [] ts a = a
+low-right (s ∷ ss) ts (h, a) = low-right ss ts a
+
+ranged : (m : ℕ) (e : Expr) (inside : List ℕ) → AllLow (prefix e) → UsedInside m inside e → Ranged m e
+unfolding prefix UsedInside
+ranged m (leaf w k v) inside a u = small-of m (Leaf w) v inside (a .0) u
+ranged m (unary w k v e) inside a u = (small-of m (Unary w) v inside (a .0) (u .0), ranged m e inside (a .1) (u .1))
+ranged m (binary w k v e₁ e₂) inside a u = (
+  small-of m (Binary w) v inside (a .0) (u .0),
+  ranged m e₁ inside (low-left (prefix e₁) (prefix e₂) (a .1)) (u .1),
+  ranged m e₂ (binding (role (Binary w)) v inside) (low-right (prefix e₁) (prefix e₂) (a .1)) (u .2),
+)
 
 -- ------------------------------------------------------------------ lines
+
+-- the number of a line's item is in its range
+abbrev ItemLow : Item → Type 0
+ItemLow (step s) = s .value ≤ largestValue (s .word)
+ItemLow (proc x k) = x < 256
+
+abbrev AllItems : List Item → Type 0
+AllItems [] = Unit {0}
+AllItems (i ∷ is) = ItemLow i × AllItems is
 
 true-left : (a b : Bool) → (a && b) ≡ true → a ≡ true
 true-left true b h = refl
@@ -65,38 +99,84 @@ true-right : (a b : Bool) → (a && b) ≡ true → b ≡ true
 true-right true b h = h
 true-right false b h = absurd (let z : _≡_ {A = ℕ} 0 1 = cc in omega arith)
 
-number-small : (w : Word) (ns : List ℕ) → length ns ≡ 1 → allInRange (valueRange w ∷ []) ns ≡ true → firstNumber ns ≤ largestValue w
-unfolding allInRange inRange valueRange firstNumber
-number-small w [] l h = absurd (omega (arith, l))
-number-small w (n ∷ ns) l h =
-    leb-true n (largestValue w) (true-right (leb (leastValue w) n) (leb n (largestValue w)) (true-left (leb (leastValue w) n && leb n (largestValue w)) (allInRange [] ns) h))
+number-low : (least largest : ℕ) (ns : List ℕ) → length ns ≡ 1 → allInRange ((least to largest) ∷ []) ns ≡ true → firstNumber ns ≤ largest
+unfolding allInRange inRange firstNumber
+number-low least largest [] l h = absurd (omega (arith, l))
+number-low least largest (n ∷ ns) l h = leb-true n largest (true-right (leb least n) (leb n largest) (true-left (leb least n && leb n largest) (allInRange [] ns) h))
 
-word-small : (k : ℕ) (o : Option Word) (fs : List Field) (s : Step) → wordLine k o fs ≡ right s → Small (s .word) (s .value)
-unfolding wordLine stepOf
-word-small k none fs s h = wrong-is-not-right h
-word-small k (some w) fs s h =
+word-low : (k : ℕ) (o : Option Word) (fs : List Field) (i : Item) → wordLine k o fs ≡ right i → ItemLow i
+unfolding wordLine stepOf valueRange
+word-low k none fs i h = wrong-is-not-right h
+word-low k (some w) fs i h =
     let (ns, r, is) = seen-right (numbers (valueRange w ∷ []) fs) h in
     let (l, in-range) = numbers-right (valueRange w ∷ []) fs ns r in
-    subst (λ (x : Step). Small (x .word) (x .value)) is (small-of w (firstNumber ns) (number-small w ns l in-range))
+    subst ItemLow is (number-low (leastValue w) (largestValue w) ns l in-range)
 
-freelock-wrong : {A : Type 0} (x : Seen A) (s : Step) → wrongAfter freelock x ≡ right s → Small (s .word) (s .value)
+proc-low : (h : ProgramHeading) (k : ℕ) (fs : List Field) (i : Item) → procLine h k fs ≡ right i → ItemLow i
+unfolding procLine procOf
+proc-low P k fs i h = wrong-is-not-right h
+proc-low P2 k fs i h =
+    let (ns, r, is) = seen-right (numbers ((0 to 255) ∷ []) fs) h in
+    let (l, in-range) = numbers-right ((0 to 255) ∷ []) fs ns r in
+    let z = number-low 0 255 ns l in-range in
+    subst ItemLow is (omega (arith, z))
+
+freelock-wrong : {A : Type 0} (x : Seen A) (i : Item) → wrongAfter freelock x ≡ right i → ItemLow i
 unfolding wrongAfter
-freelock-wrong (wrong v) s h = wrong-is-not-right h
-freelock-wrong (right a) s h = wrong-is-not-right h
+freelock-wrong (wrong v) i h = wrong-is-not-right h
+freelock-wrong (right a) i h = wrong-is-not-right h
 
-line-small : (k : ℕ) (fs : List Field) (s : Step) → stepLine k fs ≡ right s → Small (s .word) (s .value)
-unfolding stepLine
-line-small k [] s h = wrong-is-not-right h
-line-small k (f ∷ fs) s h = go (same f (bytes "freelock")) h
+line-low : (h : ProgramHeading) (k : ℕ) (fs : List Field) (i : Item) → itemLine h k fs ≡ right i → ItemLow i
+unfolding itemLine
+line-low h k [] i e = wrong-is-not-right e
+line-low h k (f ∷ fs) i e = go (same f (bytes "freelock")) (same f (bytes "proc")) e
   where
-    go : (b : Bool) → (if b then wrongAfter freelock (numbers ((0 to 0) ∷ []) fs) else wordLine k (lookUp words f) fs) ≡ right s → Small (s .word) (s .value)
-    go true h = freelock-wrong (numbers ((0 to 0) ∷ []) fs) s h
-    go false h = word-small k (lookUp words f) fs s h
+    go : (a b : Bool) → (if a then wrongAfter freelock (numbers ((0 to 0) ∷ []) fs) else if b then procLine h k fs else wordLine k (lookUp (wordsUnder h) f) fs) ≡ right i → ItemLow i
+    go true b e = freelock-wrong (numbers ((0 to 0) ∷ []) fs) i e
+    go false true e = proc-low h k fs i e
+    go false false e = word-low k (lookUp (wordsUnder h) f) fs i e
 
-lines-small : (n k : ℕ) (ls : List Line) (ss : List Step) (rest : List Line) → Shows (stepLines k n) ls ss rest → AllSmall ss
-unfolding stepLines
-lines-small zero k ls [] rest nothing = tt
-lines-small (suc n) k (closed l ∷ ls) (s ∷ ss) rest (line h more) = (line-small k (fields l) s h, lines-small n (k + 1) ls ss rest more)
+lines-low : (h : ProgramHeading) (n k : ℕ) (ls : List Line) (is : List Item) (rest : List Line) → Shows (itemLines h k n) ls is rest → AllItems is
+unfolding itemLines
+lines-low h zero k ls [] rest nothing = tt
+lines-low h (suc n) k (closed l ∷ ls) (i ∷ is) rest (line e more) = (line-low h k (fields l) i e, lines-low h n (k + 1) ls is rest more)
 
-pub well-formed-ranged : (text : List ℕ) (P : Program) → WellFormedProgram text P → Ranged (P .root)
-well-formed-ranged text P W = ranged (P .root) (subst AllSmall (sym (W .listing)) (lines-small (length (P .steps)) firstStepLine (W .others) (P .steps) [] (W .stepped)))
+-- ------------------------------------------------------------------ the program
+
+items-left : (ss : List Step) (is : List Item) → AllItems (map step ss ++ is) → AllLow ss
+items-left [] is a = tt
+items-left (s ∷ ss) is (h, a) = (h, items-left ss is a)
+
+items-right : (ss : List Step) (is : List Item) → AllItems (map step ss ++ is) → AllItems is
+items-right [] is a = a
+items-right (s ∷ ss) is (h, a) = items-right ss is a
+
+items-steps : (ss : List Step) → AllItems (map step ss) → AllLow ss
+items-steps [] a = tt
+items-steps (s ∷ ss) (h, a) = (h, items-steps ss a)
+
+all-ranged : (m : ℕ) (ps : List Procedure) (root : Expr) → AllItems (listing ps root) → AllUsedInside m ps root → AllRanged m ps root
+unfolding listing itemsOf AllUsedInside
+all-ranged m [] root a u = ranged m root [] (items-steps (prefix root) a) u
+all-ranged m (p ∷ ps) root (h, a) (u, us) =
+    (ranged m (p .body) (p .parameter ∷ []) (items-left (prefix (p .body)) (listing ps root) a) u, all-ranged m ps root (items-right (prefix (p .body)) (listing ps root) a) us)
+
+-- the variables of procedures
+abbrev pub ParametersLow : List Procedure → Type 0
+ParametersLow [] = Unit {0}
+ParametersLow (p ∷ ps) = (p .parameter < 256) × ParametersLow ps
+
+parameters-low : (ps : List Procedure) (root : Expr) → AllItems (listing ps root) → ParametersLow ps
+unfolding listing itemsOf
+parameters-low [] root a = tt
+parameters-low (p ∷ ps) root (h, a) = (h, parameters-low ps root (items-right (prefix (p .body)) (listing ps root) a))
+
+module _ (text : List ℕ) (P : Program) (W : WellFormedProgram text P) where
+  items : AllItems (listing (P .procedures) (P .root))
+  items = lines-low (W .heading) (length (P .steps) + length (P .procedures)) firstItemLine (W .others) (listing (P .procedures) (P .root)) [] (W .listed)
+
+  pub well-formed-ranged : AllRanged (length (P .procedures)) (P .procedures) (P .root)
+  well-formed-ranged = all-ranged (length (P .procedures)) (P .procedures) (P .root) items (W .usedInside)
+
+  pub well-formed-parameters : ParametersLow (P .procedures)
+  well-formed-parameters = parameters-low (P .procedures) (P .root) items

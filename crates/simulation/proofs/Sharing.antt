@@ -18,6 +18,7 @@ use Rattle.calculus.specs.Reduction.{_>>=_, _>>_, content}
 use Rattle.calculus.proofs.Laws.Maps.{none-is-not-some, some-is-not-none}
 use Rattle.workspace.specs.Layout.{ruleOf, codeOf, printed}
 use Rattle.threads.specs.declared.Threads.{Threads}
+use Rattle.control.specs.declared.Focus.{Focus}
 use Rattle.control.specs.Shapes.{shapeOf, shapeAt, isWrite}
 use Rattle.control.specs.Control.{kept, continuation, returning, readyAt}
 use Rattle.reduction.specs.declared.slots.Slot.{Slot}
@@ -38,9 +39,9 @@ use Rattle.machine.specs.State.{Machine, running}
 use Rattle.machine.specs.Step.{zeroValue, gives, leaves, stepUnary, stepWord}
 use Rattle.machine.specs.Replay.{Replay, within}
 use Rattle.simulation.proofs.Held.{codeValue, partWord, RowOf, Values, Frames}
-use Rattle.simulation.proofs.Turning.{same-all}
+use Rattle.simulation.proofs.Turning.{same-all, RowIn}
 use Rattle.simulation.proofs.Finding.{frames-same, returns-word}
-use Rattle.simulation.proofs.Agreeing.{Agree}
+use Rattle.simulation.proofs.Agreeing.{Agree, rows-same}
 use Rattle.simulation.proofs.Holds.{SlotIs, Holds}
 use Rattle.simulation.proofs.Using.{Use, gave, left, Using, using-read, using-lock, using-unlock, using-post, using-wait, using-rdlock, using-rdunlock, using-wrlock, using-wrunlock, useOf, usedTo, slotOf, nameIn, step-asks, UseIs, Roomy, uses-alike}
 use Rattle.simulation.proofs.Naming.{slot-put-length, slot-agree, slot-told, used-below, names-put}
@@ -49,9 +50,9 @@ use Rattle.simulation.proofs.Alone.{goes, ready}
 
 -- ------------------------------------------------------------------ what the code does
 
-module _ (p s : List ℕ) (t c : ℕ) {q : Position} where
+module _ (p s : List ℕ) (row c : ℕ) {q : Position} where
   part-acts : (o : calculus.Unary) → Using o → {n : ℕ} (v : ℕ) → RowOf p q (Unary (partWord o)) n →
-      acted p s t (readyAt (q .index) v) c ≡ effected p s (q .index) v (usedBy (ruleOf (codeOf (Unary (partWord o)))) (slotAt s v) v)
+      acted p s (readyAt row (q .index) v) c ≡ effected p s row (q .index) v (usedBy (ruleOf (codeOf (Unary (partWord o)))) (slotAt s v) v)
   unfolding acted actedBy wordUsed subject operand shapeAt shapeOf isWrite ruleOf printed
   part-acts read using-read v r = rw (r .code) (rw (r .code))
   part-acts lock using-lock v r = rw (r .code) (rw (r .code))
@@ -63,10 +64,10 @@ module _ (p s : List ℕ) (t c : ℕ) {q : Position} where
   part-acts (hold wrlock) using-wrlock v r = rw (r .code) (rw (r .code))
   part-acts (hold wrunlock) using-wrunlock v r = rw (r .code) (rw (r .code))
 
-  write-acts : {n : ℕ} (v w : ℕ) → kept s t (q .index) ≡ v → RowOf p q (Binary Write) n →
-      acted p s t (readyAt (q .index) w) c ≡ effected p s (q .index) v (writtenOf (slotAt s v) w)
+  write-acts : {n : ℕ} (v w : ℕ) → kept s row (q .index) ≡ v → RowOf p q (Binary Write) n →
+      acted p s (readyAt row (q .index) w) c ≡ effected p s row (q .index) v (writtenOf (slotAt s v) w)
   unfolding acted actedBy wordUsed subject operand usedBy shapeAt shapeOf isWrite ruleOf printed
-  write-acts v w e r = rw (r .code) (rw (r .code) (ap (λ (u : ℕ). effected p s (q .index) u (writtenOf (slotAt s u) w)) e))
+  write-acts v w e r = rw (r .code) (rw (r .code) (ap (λ (u : ℕ). effected p s row (q .index) u (writtenOf (slotAt s u) w)) e))
 
 -- a value that names nothing is of no use
 unused-useless : (o : calculus.Unary) → Using o → useOf o unused ≡ none
@@ -97,49 +98,50 @@ write-used x (rwlock N writer) w h = rw (h .0)
 
 -- ------------------------------------------------------------------ the machine's word
 
-module _ (p s : List ℕ) (T : Threads) (R : Replay) (t tid : ℕ) (σ : Env) (K : List Frame) (H : Holds p s T R) (low : t < 16) (values : Values p s t σ) where
+module _ (p s : List ℕ) (T : Threads) (R : Replay) (t tid : ℕ) (σ : Env) (K : List Frame) (H : Holds p s T R) (low : t < 16) (row : ℕ) (inside : RowIn t row) (values : Values p s row σ) where
   abbrev M : Machine
   M = R .machine
 
   -- what a step of the machine answers, if no thing is made
-  abbrev pub Answers : (k : ℕ) → Option Machine → Act × List ℕ → Type 0
-  Answers k o r = Answered p (limited within (o >>= λ N. some (record { machine = N; things = R .things }))) (afterAct p T t k r)
+  abbrev pub Answers : Focus → Option Machine → Act × List ℕ → Type 0
+  Answers f o r = Answered p (limited within (o >>= λ N. some (record { machine = N; things = R .things }))) (afterAct p T t f r)
 
-  module _ (w : machine.Word) (k : ℕ) (k-low : k < 256) (F : Frames p s t k (continuation p k) K) (there : getElem? (M .threads) t ≡ some (running tid (at σ w K))) where
+  module _ (w : machine.Word) (f : Focus) (k : ℕ) (k-low : k < 256) (F : Frames p s t row k (continuation p k) K) (there : getElem? (M .threads) t ≡ some (running tid (at σ w K))) where
     -- the word becomes a value
-    gives-value : (x : Value) → Answers k (some (gives M t tid σ K (M .names) x)) (Go (given p k (codeValue x)), s)
+    gives-value : (x : Value) → Answers f (some (gives M t tid σ K (M .names) x)) (Go (given p row k (codeValue x)), s)
     unfolding given
     gives-value x =
-        goes p s T R t tid σ K H w k there (returning (continuation p k) (codeValue x)) (return σ x K)
-        (returns-word p t low σ s x k (continuation p k) K s (ready p s T R t tid σ K H low values k k (continuation p k) (omega arith) F))
+        goes p s T R t tid σ K H w f there (returning row (continuation p k) (codeValue x)) (return σ x K)
+        (returns-word p t low σ row s x k (continuation p k) K s (ready p s T R t tid σ K H low row inside values k k (continuation p k) (omega arith) F))
 
     -- the word leaves something else where it was
-    leaves-slot : (n : ℕ) (sl : state.Slot) (y : Slot) → n < M .next → SlotIs y sl → Answers k (some (leaves M t tid σ K n sl)) (Go (given p k 0), slotPut s (suc n) y)
+    leaves-slot : (n : ℕ) (sl : state.Slot) (y : Slot) → n < M .next → SlotIs y sl → Answers f (some (leaves M t tid σ K n sl)) (Go (given p row k 0), slotPut s (suc n) y)
     unfolding given
     leaves-slot n sl y l is =
         let long₁ = slot-put-length s (suc n) y ∙ H .long in
         let a = slot-agree t s (suc n) y low in
-        moves p (slotPut s (suc n) y) T (M .threads) t tid k
+        moves p (slotPut s (suc n) y) T (M .threads) t tid f
         (pausing p s T R t tid (at σ w K) H there refl (slotPut s (suc n) y) long₁ (λ i h m. slot-agree i s (suc n) y h))
-        (update (M .names) n sl) (M .next) (R .things) (names-put (H .names) n sl y (H .long) l is)
-        (returning (continuation p k) 0) (return σ zeroValue K)
-        (returns-word p t low σ (slotPut s (suc n) y) zeroValue k (continuation p k) K (slotPut s (suc n) y)
+        (M .procedures) (H .bodies) (update (M .names) n sl) (M .next) (R .things) (names-put (H .names) n sl y (H .long) l is)
+        (returning row (continuation p k) 0) (return σ zeroValue K)
+        (returns-word p t low σ row (slotPut s (suc n) y) zeroValue k (continuation p k) K (slotPut s (suc n) y)
         (record {
           same = same-all t (slotPut s (suc n) y);
           long = long₁;
-          values = λ x h. a .rows .variables x h ∙ values x h;
-          frames = frames-same p t s (slotPut s (suc n) y) k (continuation p k) K (λ j h. a .rows .kepts j (omega (arith, h, k-low))) F;
+          inside = inside;
+          values = λ x h. a .rows .variables row x inside h ∙ values x h;
+          frames = frames-same p t s (slotPut s (suc n) y) row k (continuation p k) K (rows-same p t s (slotPut s (suc n) y) (a .rows) row k inside (omega (arith, k-low))) F;
         }))
 
     -- the word asks for the use of what a value names
     asks : (v : Value) (u : Option Use) (x : Used) → (slotOf M t tid σ K v ≡ unused → u ≡ none) → UseIs u x →
-        Answers k (u >>= λ y. some (usedTo M t tid σ K (nameIn M t tid σ K v) y)) (effected p s k (codeValue v) x)
+        Answers f (u >>= λ y. some (usedTo M t tid σ K (nameIn M t tid σ K v) y)) (effected p s row k (codeValue v) x)
     unfolding effected afterAct actStep limited
-    asks v none x useless is = subst (λ (z : Used). Answers k none (effected p s k (codeValue v) z)) (sym is) refl
-    asks v (some (gave y)) x useless is = subst (λ (z : Used). Answers k (some (gives M t tid σ K (M .names) y)) (effected p s k (codeValue v) z)) (sym is) (gives-value y)
+    asks v none x useless is = subst (λ (z : Used). Answers f none (effected p s row k (codeValue v) z)) (sym is) refl
+    asks v (some (gave y)) x useless is = subst (λ (z : Used). Answers f (some (gives M t tid σ K (M .names) y)) (effected p s row k (codeValue v) z)) (sym is) (gives-value y)
     asks (int n) (some (left sl)) x useless is = some-is-not-none (useless refl)
     asks (name n) (some (left sl)) x useless (y, e, held) =
-        subst (λ (z : Used). Answers k (some (leaves M t tid σ K n sl)) (effected p s k (suc n) z)) (sym e)
+        subst (λ (z : Used). Answers f (some (leaves M t tid σ K n sl)) (effected p s row k (suc n) z)) (sym e)
         (leaves-slot n sl y (used-below (H .names) n (λ z. some-is-not-none (useless z))) held)
 
   -- what a value names, by its numbers
@@ -159,20 +161,20 @@ module _ (p s : List ℕ) (T : Threads) (R : Replay) (t tid : ℕ) (σ : Env) (K
       by-slot (semaphore x) = refl
       by-slot (rwlock N x) = refl
 
-  module _ (c : ℕ) (q : Position) {n : ℕ} (F : Frames p s t (q .index) (continuation p (q .index)) K) where
+  module _ (c : ℕ) (q : Position) {n : ℕ} (F : Frames p s t row (q .index) (continuation p (q .index)) K) where
     pub part-goes : (o : calculus.Unary) → Using o → (v : Value) → RowOf p q (Unary (partWord o)) n → Roomy (slotOf M t tid σ K v) →
-        getElem? (M .threads) t ≡ some (running tid (at σ (unaryWord q o v) K)) → Answers (q .index) (stepUnary M t tid σ K o v) (acted p s t (readyAt (q .index) (codeValue v)) c)
+        getElem? (M .threads) t ≡ some (running tid (at σ (unaryWord q o v) K)) → Answers (readyAt row (q .index) (codeValue v)) (stepUnary M t tid σ K o v) (acted p s (readyAt row (q .index) (codeValue v)) c)
     part-goes o u v r roomy there =
-        subst (λ (a : Act × List ℕ). Answers (q .index) (stepUnary M t tid σ K o v) a) (sym (part-acts p s t c o u (codeValue v) r))
-        (subst (λ (m : Option Machine). Answers (q .index) m (effected p s (q .index) (codeValue v) (usedBy (ruleOf (codeOf (Unary (partWord o)))) (slotAt s (codeValue v)) (codeValue v))))
+        subst (λ (a : Act × List ℕ). Answers (readyAt row (q .index) (codeValue v)) (stepUnary M t tid σ K o v) a) (sym (part-acts p s row c o u (codeValue v) r))
+        (subst (λ (m : Option Machine). Answers (readyAt row (q .index) (codeValue v)) m (effected p s row (q .index) (codeValue v) (usedBy (ruleOf (codeOf (Unary (partWord o)))) (slotAt s (codeValue v)) (codeValue v))))
         (sym (step-asks M t tid σ K o u v))
-        (asks (unaryWord q o v) (q .index) (r .below) F there v (useOf o (slotOf M t tid σ K v)) (usedBy (ruleOf (codeOf (Unary (partWord o)))) (slotAt s (codeValue v)) (codeValue v))
+        (asks (unaryWord q o v) (readyAt row (q .index) (codeValue v)) (q .index) (r .below) F there v (useOf o (slotOf M t tid σ K v)) (usedBy (ruleOf (codeOf (Unary (partWord o)))) (slotAt s (codeValue v)) (codeValue v))
         (λ e. ap (useOf o) e ∙ unused-useless o u) (uses-alike (slotAt s (codeValue v)) o u (slotOf M t tid σ K v) (told v) roomy (codeValue v))))
 
-    pub write-goes : (v w : Value) → RowOf p q (Binary Write) n → kept s t (q .index) ≡ codeValue v →
-        getElem? (M .threads) t ≡ some (running tid (at σ (writeWord q v w) K)) → Answers (q .index) (stepWord M t tid σ K state.first (writeWord q v w)) (acted p s t (readyAt (q .index) (codeValue w)) c)
+    pub write-goes : (v w : Value) → RowOf p q (Binary Write) n → kept s row (q .index) ≡ codeValue v →
+        getElem? (M .threads) t ≡ some (running tid (at σ (writeWord q v w) K)) → Answers (readyAt row (q .index) (codeValue w)) (stepWord M t tid σ K state.first (writeWord q v w)) (acted p s (readyAt row (q .index) (codeValue w)) c)
     write-goes v w r held there =
-        subst (λ (a : Act × List ℕ). Answers (q .index) (stepWord M t tid σ K state.first (writeWord q v w)) a) (sym (write-acts p s t c (codeValue v) (codeValue w) held r))
-        (subst (λ (m : Option Machine). Answers (q .index) m (effected p s (q .index) (codeValue v) (writtenOf (slotAt s (codeValue v)) (codeValue w)))) (sym (write-asks q v w))
-        (asks (writeWord q v w) (q .index) (r .below) F there v (writeUse (slotOf M t tid σ K v) w) (writtenOf (slotAt s (codeValue v)) (codeValue w))
+        subst (λ (a : Act × List ℕ). Answers (readyAt row (q .index) (codeValue w)) (stepWord M t tid σ K state.first (writeWord q v w)) a) (sym (write-acts p s row c (codeValue v) (codeValue w) held r))
+        (subst (λ (m : Option Machine). Answers (readyAt row (q .index) (codeValue w)) m (effected p s row (q .index) (codeValue v) (writtenOf (slotAt s (codeValue v)) (codeValue w)))) (sym (write-asks q v w))
+        (asks (writeWord q v w) (readyAt row (q .index) (codeValue w)) (q .index) (r .below) F there v (writeUse (slotOf M t tid σ K v) w) (writtenOf (slotAt s (codeValue v)) (codeValue w))
         (λ e. ap (λ (sl : state.Slot). writeUse sl w) e) (write-used (slotAt s (codeValue v)) (slotOf M t tid σ K v) w (told v))))

@@ -24,21 +24,22 @@ use Rattle.threads.specs.declared.Threads.{Threads}
 use Rattle.threads.specs.Records.{noRecord}
 use Rattle.threads.specs.Threads.{spawned}
 use Rattle.control.specs.declared.Focus.{Focus}
-use Rattle.control.specs.Control.{environmentsAt, finish, variable, kept, continuation, second, focus, entering, returning}
+use Rattle.control.specs.Control.{environmentsAt, finish, keptAt, callsAt, variable, kept, calledFrom, continuation, second, focus, entering, returning, readyAt}
 use Rattle.engine.specs.Focuses.{focusAt}
 use Rattle.reduction.specs.Words.{given}
 use Rattle.engine.specs.declared.Outcome.the-variants.{Past}
 use Rattle.engine.specs.Steps.{ending, proceeded, copiedFrom, copied, actStep, afterAct, givesZero, spawnedStep}
-use Rattle.replaying.specs.Run.{threadLimit, thingLimit, withinLimits}
+use Rattle.replaying.specs.Run.{threadLimit, thingLimit, withinLimits, openIn}
 use Rattle.replaying.specs.Replay.{limited}
 use Rattle.machine.specs.Environment.{Env}
-use Rattle.machine.specs.Control.{Frame, spawnWord, Control, done, at, return, enter}
+use Rattle.machine.specs.Control.{Frame, spawnWord, Control, done, at, return, enter, openCalls}
 use Rattle.machine.specs.State.{MachineThread, Machine, running}
 use Rattle.machine.specs.Step.{zeroValue, addThread, gives}
 use Rattle.machine.specs.Replay.{Replay, within}
 use Rattle.simulation.proofs.Held.{codeValue, RowOf, Stands, Values, Frames, ControlAt}
-use Rattle.simulation.proofs.Turning.{same-all}
-use Rattle.simulation.proofs.Finding.{enters-word, returns-word}
+use Rattle.machine.proofs.Marks.{calls-counted, enter-tells}
+use Rattle.simulation.proofs.Turning.{same-all, RowIn}
+use Rattle.simulation.proofs.Finding.{frames-row, enters-word, returns-word}
 use Rattle.simulation.proofs.Agreeing.{Agree, SharedSame, agree-all, control-same, less-or-more}
 use Rattle.simulation.proofs.Holds.{ThreadHeld, Sized, Holds}
 use Rattle.simulation.proofs.Proceeding.{names-same, place-below, Paused, proceeds}
@@ -46,63 +47,67 @@ use Rattle.simulation.proofs.Moving.{Answered, moves, pausing}
 
 -- ------------------------------------------------------------------ the copy of the variables
 
-module _ (t u : ℕ) (apart : t ≢ u) where
+-- from row a to row b
+module _ (a b : ℕ) (apart : a ≢ b) where
   abbrev one : (s : List ℕ) (x : ℕ) → List ℕ
-  one s x = set s (0 + 256 * u + x) (variable s t x)
+  one s x = set s (0 + 256 * b + x) (variable s a x)
 
-  copied-length : (n : ℕ) (s : List ℕ) (x : ℕ) → length (copiedFrom s t u x n) ≡ length s
+  copied-length : (n : ℕ) (s : List ℕ) (x : ℕ) → length (copiedFrom s a b x n) ≡ length s
   unfolding copiedFrom
   copied-length zero s x = refl
-  copied-length (suc n) s x = copied-length n (one s x) (x + 1) ∙ length-set s (0 + 256 * u + x) (variable s t x)
+  copied-length (suc n) s x = copied-length n (one s x) (x + 1) ∙ length-set s (0 + 256 * b + x) (variable s a x)
 
-  -- only the row of thread u
-  copied-outside : (n : ℕ) (s : List ℕ) (x : ℕ) (j : ℕ) → (j < 256 * u + x) ⊎ (256 * u + x + n ≤ j) → getD (copiedFrom s t u x n) j 0 ≡ getD s j 0
+  -- only row b
+  copied-outside : (n : ℕ) (s : List ℕ) (x : ℕ) (j : ℕ) → (j < 256 * b + x) ⊎ (256 * b + x + n ≤ j) → getD (copiedFrom s a b x n) j 0 ≡ getD s j 0
   unfolding copiedFrom
   copied-outside zero s x j o = refl
-  copied-outside (suc n) s x j (inl l) = copied-outside n (one s x) (x + 1) j (inl (omega (arith, l))) ∙ getD-set-other s (0 + 256 * u + x) j (variable s t x) 0 (λ e. omega (arith, e, l))
-  copied-outside (suc n) s x j (inr l) = copied-outside n (one s x) (x + 1) j (inr (omega (arith, l))) ∙ getD-set-other s (0 + 256 * u + x) j (variable s t x) 0 (λ e. omega (arith, e, l))
+  copied-outside (suc n) s x j (inl l) = copied-outside n (one s x) (x + 1) j (inl (omega (arith, l))) ∙ getD-set-other s (0 + 256 * b + x) j (variable s a x) 0 (λ e. omega (arith, e, l))
+  copied-outside (suc n) s x j (inr l) = copied-outside n (one s x) (x + 1) j (inr (omega (arith, l))) ∙ getD-set-other s (0 + 256 * b + x) j (variable s a x) 0 (λ e. omega (arith, e, l))
 
-  -- its variables are those of thread t
-  copied-row : (n : ℕ) (s : List ℕ) (x y : ℕ) → length s ≡ 16384 → u < 16 → x + n ≤ 256 → x ≤ y → y < x + n → variable (copiedFrom s t u x n) u y ≡ variable s t y
+  -- its variables are those of row a
+  copied-row : (n : ℕ) (s : List ℕ) (x y : ℕ) → length s ≡ 542960 → b < 1056 → x + n ≤ 256 → x ≤ y → y < x + n → variable (copiedFrom s a b x n) b y ≡ variable s a y
   unfolding copiedFrom variable
-  copied-row zero s x y long low h a b = absurd (omega (arith, a, b))
-  copied-row (suc n) s x y long low h a b = go (ℕ-discrete x y) (copied-row n (one s x) (x + 1) y (length-set s (0 + 256 * u + x) (variable s t x) ∙ long) low (omega (arith, h)))
+  copied-row zero s x y long low h m l = absurd (omega (arith, m, l))
+  copied-row (suc n) s x y long low h m l = go (ℕ-discrete x y) (copied-row n (one s x) (x + 1) y (length-set s (0 + 256 * b + x) (variable s a x) ∙ long) low (omega (arith, h)))
     where
-      go : Dec (x ≡ y) → (x + 1 ≤ y → y < x + 1 + n → getD (copiedFrom (one s x) t u (x + 1) n) (0 + 256 * u + y) 0 ≡ getD (one s x) (0 + 256 * t + y) 0) →
-          getD (copiedFrom (one s x) t u (x + 1) n) (0 + 256 * u + y) 0 ≡ getD s (0 + 256 * t + y) 0
+      go : Dec (x ≡ y) → (x + 1 ≤ y → y < x + 1 + n → getD (copiedFrom (one s x) a b (x + 1) n) (0 + 256 * b + y) 0 ≡ getD (one s x) (0 + 256 * a + y) 0) →
+          getD (copiedFrom (one s x) a b (x + 1) n) (0 + 256 * b + y) 0 ≡ getD s (0 + 256 * a + y) 0
       go (yes e) rec =
-          copied-outside n (one s x) (x + 1) (0 + 256 * u + y) (inl (omega (arith, e)))
-          ∙ ap (λ (j : ℕ). getD (one s x) (0 + 256 * u + j) 0) (sym e)
-          ∙ getD-set-same s (0 + 256 * u + x) (variable s t x) 0 (omega (arith, long, low, h))
-          ∙ ap (λ (j : ℕ). getD s (0 + 256 * t + j) 0) e
+          copied-outside n (one s x) (x + 1) (0 + 256 * b + y) (inl (omega (arith, e)))
+          ∙ ap (λ (j : ℕ). getD (one s x) (0 + 256 * b + j) 0) (sym e)
+          ∙ getD-set-same s (0 + 256 * b + x) (variable s a x) 0 (omega (arith, long, low, h))
+          ∙ ap (λ (j : ℕ). getD s (0 + 256 * a + j) 0) e
       go (no f) rec =
-          rec (omega (arith, f, a)) (omega (arith, b))
-          ∙ getD-set-other s (0 + 256 * u + x) (0 + 256 * t + y) (variable s t x) 0 (λ e. apart (rows t u y x (omega (arith, b, h)) (omega (arith, h)) e))
+          rec (omega (arith, f, m)) (omega (arith, l))
+          ∙ getD-set-other s (0 + 256 * b + x) (0 + 256 * a + y) (variable s a x) 0 (λ e. apart (rows a b y x (omega (arith, l, h)) (omega (arith, h)) e))
         where
           rows : (i j y x : ℕ) → y < 256 → x < 256 → 0 + 256 * i + y ≡ 0 + 256 * j + x → i ≡ j
           rows i j y x hy hx e = omega (arith, e, hy, hx)
 
-module _ (s : List ℕ) (t u : ℕ) (apart : t ≢ u) (low : u < 16) where
-  agree-copied : (i : ℕ) → i < 16 → i ≢ u → Agree i s (copied s t u)
-  unfolding copied variable kept focusAt
+-- row b is the first of thread u
+module _ (s : List ℕ) (a b : ℕ) (apart : a ≢ b) (u : ℕ) (is : b ≡ 66 * u) (low : u < 16) where
+  agree-copied : (i : ℕ) → i < 16 → i ≢ u → Agree i s (copied s a b)
+  unfolding copied variable kept calledFrom focusAt
   agree-copied i h n = record {
     rows = record {
-      variables = λ y hy. copied-outside t u apart 256 s 0 (0 + 256 * i + y) (beside y hy (less-or-more i u n));
-      kepts = λ j hj. copied-outside t u apart 256 s 0 (4096 + 256 * i + j) (inr (omega (arith, low)));
+      variables = λ r y in-row hy. copied-outside a b apart 256 s 0 (0 + 256 * r + y) (beside r y in-row hy (less-or-more i u n));
+      kepts = λ r j in-row hj. copied-outside a b apart 256 s 0 (keptAt + 256 * r + j) (inr (omega (arith, low, is)));
+      calls = λ r in-row. copied-outside a b apart 256 s 0 (callsAt + r) (inr (omega (arith, low, is)));
     };
     focused = λ z. focus
-        (copied-outside t u apart 256 s 0 (8192 + i) (inr (omega (arith, low))) z)
-        (copied-outside t u apart 256 s 0 (8208 + i) (inr (omega (arith, low))) z)
-        (copied-outside t u apart 256 s 0 (8224 + i) (inr (omega (arith, low))) z);
+        (copied-outside a b apart 256 s 0 (541728 + i) (inr (omega (arith, low, is))) z)
+        (copied-outside a b apart 256 s 0 (541744 + i) (inr (omega (arith, low, is))) z)
+        (copied-outside a b apart 256 s 0 (541760 + i) (inr (omega (arith, low, is))) z)
+        (copied-outside a b apart 256 s 0 (541776 + i) (inr (omega (arith, low, is))) z);
   }
     where
-      beside : (y : ℕ) → y < 256 → (i < u) ⊎ (u < i) → (0 + 256 * i + y < 256 * u + 0) ⊎ (256 * u + 0 + 256 ≤ 0 + 256 * i + y)
-      beside y hy (inl l) = inl (omega (arith, l, hy))
-      beside y hy (inr l) = inr (omega (arith, l, hy))
+      beside : (r y : ℕ) → RowIn i r → y < 256 → (i < u) ⊎ (u < i) → (0 + 256 * r + y < 256 * b + 0) ⊎ (256 * b + 0 + 256 ≤ 0 + 256 * r + y)
+      beside r y (lo, hi) hy (inl l) = inl (omega (arith, l, hy, hi, is))
+      beside r y (lo, hi) hy (inr l) = inr (omega (arith, l, lo, is))
 
-  shared-copied : SharedSame s (copied s t u)
+  shared-copied : SharedSame s (copied s a b)
   unfolding copied
-  shared-copied j h = copied-outside t u apart 256 s 0 j (inr (omega (arith, low, h)))
+  shared-copied j h = copied-outside a b apart 256 s 0 j (inr (omega (arith, low, h, is)))
 
 -- ------------------------------------------------------------------ one more thread
 
@@ -142,8 +147,8 @@ module _ (T : Threads) (ts : List MachineThread) (tid : ℕ) (a : MachineThread)
 
 -- ------------------------------------------------------------------ the machine's word
 
-module _ (p s : List ℕ) (T : Threads) (R : Replay) (t tid : ℕ) (σ : Env) (K : List Frame) (H : Holds p s T R) (low : t < 16) (values : Values p s t σ)
-    (q : Position) (n : ℕ) (e : Expr) {m : ℕ} (r : RowOf p q (Binary Spawn) m) (S : Stands p finish (second p (q .index)) e)
+module _ (p s : List ℕ) (T : Threads) (R : Replay) (t tid : ℕ) (σ : Env) (K : List Frame) (H : Holds p s T R) (low : t < 16) (row : ℕ) (inside : RowIn t row) (values : Values p s row σ)
+    (q : Position) (n : ℕ) (e : Expr) {m : ℕ} (r : RowOf p q (Binary Spawn) m) (S : Stands p finish (second p (q .index)) e) (F : Frames p s t row (q .index) (continuation p (q .index)) K)
     (there : getElem? (R .machine .threads) t ≡ some (running tid (at σ (spawnWord q (name n) e) K))) where
   abbrev M : Machine
   M = R .machine
@@ -162,18 +167,21 @@ module _ (p s : List ℕ) (T : Threads) (R : Replay) (t tid : ℕ) (σ : Env) (K
     ph = running n (done (int 0))
 
     abbrev s₁ : List ℕ
-    s₁ = copied s t u
+    s₁ = copied s row (66 * u)
 
-    apart : t ≢ u
-    apart z = let l = t-below in omega (arith, z, l)
+    apart : row ≢ 66 * u
+    apart z = let l = t-below in omega (arith, z, l, inside .1)
 
-    long₁ : length s₁ ≡ 16384
+    other : t ≢ u
+    other z = let l = t-below in omega (arith, z, l)
+
+    long₁ : length s₁ ≡ 542960
     unfolding copied
-    long₁ = copied-length t u apart 256 s 0 ∙ H .long
+    long₁ = copied-length row (66 * u) apart 256 s 0 ∙ H .long
 
-    values₁ : Values p s₁ u σ
+    values₁ : Values p s₁ (66 * u) σ
     unfolding copied
-    values₁ x h = copied-row t u apart 256 s 0 x (H .long) room (omega arith) (omega arith) (omega (arith, h)) ∙ values x h
+    values₁ x h = copied-row row (66 * u) apart 256 s 0 x (H .long) (omega (arith, room)) (omega arith) (omega arith) (omega (arith, h)) ∙ values x h
 
     paused : Paused p s₁ (spawned T (suc n)) (M .threads ++ (ph ∷ [])) u n
     paused = record {
@@ -184,66 +192,83 @@ module _ (p s : List ℕ) (T : Threads) (R : Replay) (t tid : ℕ) (σ : Env) (K
       others = λ i th d h.
           let g = last-other (M .threads) ph th i d h in
           let l = place-below (M .threads) i th g in
-          let a = agree-copied s t u apart room i (omega (arith, l, room)) d in
+          let a = agree-copied s row (66 * u) apart u refl room i (omega (arith, l, room)) d in
           let held = H .threads i th g in
           record {
             recorded = spawned-there T (M .threads) n ph (H .sized) room i d ∙ held .recorded;
-            control = subst (λ (f : Focus). ControlAt p (copied s t u) i f (th .control)) (sym (a .focused)) (control-same p i s (copied s t u) (a .rows) (focusAt s i) (th .control) (held .control));
+            control = subst (λ (f : Focus). ControlAt p s₁ i f (th .control)) (sym (a .focused)) (control-same p i s s₁ (a .rows) (focusAt s i) (th .control) (let c = held .calls in omega arith) (held .control));
             settled = held .settled;
+            calls = held .calls;
           };
     }
 
     abbrev after : Threads × List ℕ
-    after = proceeded p s₁ (spawned T (suc n)) u (entering (second p (q .index)))
+    after = proceeded p s₁ (spawned T (suc n)) u (entering (66 * u) (second p (q .index)))
 
     abbrev ts₁ : List MachineThread
     ts₁ = set (M .threads ++ (ph ∷ [])) u (running n (enter σ e []))
 
     abbrev R₁ : Replay
-    R₁ = record { machine = record { threads = ts₁; names = M .names; next = M .next }; things = R .things }
+    R₁ = record { machine = record { procedures = M .procedures; threads = ts₁; names = M .names; next = M .next }; things = R .things }
+
+    -- the new thread has no open call
+    none-open : openCalls (enter σ e []) ≤ 64
+    unfolding openIn
+    none-open = let z = sym (calls-counted (enter σ e [])) ∙ ap length (sym (enter-tells σ e [])) in omega (arith, z)
 
     child-held : Holds p (after .1) (after .0) R₁
     child-held =
-        proceeds p s₁ (spawned T (suc n)) (M .threads ++ (ph ∷ [])) u n paused (M .names) (M .next) (R .things)
-        (names-same s s₁ (shared-copied s t u apart room) (H .names)) (entering (second p (q .index))) (enter σ e [])
-        (enters-word p u room σ s₁ e finish (second p (q .index)) [] s₁ S (record { same = same-all u s₁; long = long₁; values = values₁; frames = refl }))
+        proceeds p s₁ (spawned T (suc n)) (M .threads ++ (ph ∷ [])) u n paused (M .procedures) (H .bodies) (M .names) (M .next) (R .things)
+        (names-same s s₁ (shared-copied s row (66 * u) apart u refl room) (H .names)) (entering (66 * u) (second p (q .index))) (enter σ e []) none-open
+        (enters-word p u room σ (66 * u) s₁ e finish (second p (q .index)) [] s₁ S
+        (record { same = same-all u s₁; long = long₁; inside = (omega arith, omega arith); values = values₁; frames = (refl, refl) }))
 
     -- thread t still stands at its spawn
     there₁ : getElem? ts₁ t ≡ some (running tid (at σ (spawnWord q (name n) e) K))
-    there₁ = set-elsewhere (M .threads ++ (ph ∷ [])) u t (running n (enter σ e [])) (λ z. apart (sym z)) ∙ first-kept (M .threads) ph (running tid (at σ (spawnWord q (name n) e) K)) t there
+    there₁ = set-elsewhere (M .threads ++ (ph ∷ [])) u t (running n (enter σ e [])) (λ z. other (sym z)) ∙ first-kept (M .threads) ph (running tid (at σ (spawnWord q (name n) e) K)) t there
 
     threads-after : set ts₁ t (running tid (return σ zeroValue K)) ≡ set (M .threads) t (running tid (return σ zeroValue K)) ++ (running n (enter σ e []) ∷ [])
     threads-after =
         ap (λ (ts : List MachineThread). set ts t (running tid (return σ zeroValue K))) (set-append-seam (M .threads) ph [] (running n (enter σ e [])))
         ∙ set-append-left (M .threads) (running n (enter σ e []) ∷ []) t (running tid (return σ zeroValue K)) t-below
 
-    spawns-one : Answered p (limited within (some Spawns)) (givesZero p t (q .index) after)
+    abbrev word : Focus
+    word = readyAt row (q .index) (suc n)
+
+    spawns-one : Answered p (limited within (some Spawns)) (givesZero p t word after)
     unfolding givesZero given afterAct actStep
     spawns-one =
         let (values₂, W₂, F₂) = child-held .threads t (running tid (at σ (spawnWord q (name n) e) K)) there₁ .control in
-        subst (λ (ts : List MachineThread). Answered p (limited within (some (record { machine = record { threads = ts; names = M .names; next = M .next }; things = R .things }))) (givesZero p t (q .index) after)) threads-after
-        (moves p (after .1) (after .0) ts₁ t tid (q .index)
+        let same-row = frames-row p t (after .1) K (focusAt (after .1) t .row) (q .index) (continuation p (q .index)) F₂ ∙ sym (frames-row p t s K row (q .index) (continuation p (q .index)) F) in
+        subst (λ (ts : List MachineThread). Answered p (limited within (some (record { machine = record { procedures = M .procedures; threads = ts; names = M .names; next = M .next }; things = R .things }))) (givesZero p t word after)) threads-after
+        (moves p (after .1) (after .0) ts₁ t tid word
         (pausing p (after .1) (after .0) R₁ t tid (at σ (spawnWord q (name n) e) K) child-held there₁ refl (after .1) (child-held .long) (λ i h d. agree-all i (after .1)))
-        (M .names) (M .next) (R .things) (child-held .names) (returning (continuation p (q .index)) 0) (return σ zeroValue K)
-        (returns-word p t low σ (after .1) zeroValue (q .index) (continuation p (q .index)) K (after .1)
-        (record { same = same-all t (after .1); long = child-held .long; values = values₂; frames = F₂ })))
+        (M .procedures) (H .bodies) (M .names) (M .next) (R .things) (child-held .names) (returning row (continuation p (q .index)) 0) (return σ zeroValue K)
+        (returns-word p t low σ row (after .1) zeroValue (q .index) (continuation p (q .index)) K (after .1)
+        (record {
+          same = same-all t (after .1);
+          long = child-held .long;
+          inside = inside;
+          values = subst (λ (i : ℕ). Values p (after .1) i σ) same-row values₂;
+          frames = subst (λ (i : ℕ). Frames p (after .1) t i (q .index) (continuation p (q .index)) K) same-row F₂;
+        })))
 
-    with-room : Answered p (limited within (some Spawns)) (spawnedStep p s T t (q .index) (suc n))
+    with-room : Answered p (limited within (some Spawns)) (spawnedStep p s T t (readyAt row (q .index) (suc n)) (suc n))
     unfolding spawnedStep
     with-room =
-        subst (λ (c : ℕ). Answered p (limited within (some Spawns)) (if leb 16 c then (ending Past T, s) else givesZero p t (q .index) (proceeded p (copied s t c) (spawned T (suc n)) c (entering (second p (q .index))))))
+        subst (λ (c : ℕ). Answered p (limited within (some Spawns)) (if leb 16 c then (ending Past T, s) else givesZero p t word (proceeded p (copied s row (66 * c)) (spawned T (suc n)) c (entering (66 * c) (second p (q .index))))))
         (sym (H .sized .count)) (rw (lt-leb 16 u room) spawns-one)
 
-  no-room : 16 ≤ u → Answered p (limited within (some Spawns)) (spawnedStep p s T t (q .index) (suc n))
+  no-room : 16 ≤ u → Answered p (limited within (some Spawns)) (spawnedStep p s T t (readyAt row (q .index) (suc n)) (suc n))
   unfolding spawnedStep limited within withinLimits threadLimit
   no-room full =
       let a = length-append (set (M .threads) t (running tid (return σ zeroValue K))) (running n (enter σ e []) ∷ []) in
       let b = length-set (M .threads) t (running tid (return σ zeroValue K)) in
       rw (H .sized .count, le-leb 16 u full, lt-leb (length (set (M .threads) t (running tid (return σ zeroValue K)) ++ (running n (enter σ e []) ∷ []))) 16 (omega (arith, a, b, full))) refl
 
-  pub spawning-goes : Answered p (limited within (some Spawns)) (spawnedStep p s T t (q .index) (suc n))
+  pub spawning-goes : Answered p (limited within (some Spawns)) (spawnedStep p s T t (readyAt row (q .index) (suc n)) (suc n))
   spawning-goes = go (decLt u 16)
     where
-      go : Dec (u < 16) → Answered p (limited within (some Spawns)) (spawnedStep p s T t (q .index) (suc n))
+      go : Dec (u < 16) → Answered p (limited within (some Spawns)) (spawnedStep p s T t (readyAt row (q .index) (suc n)) (suc n))
       go (yes l) = with-room l
       go (no f) = no-room (omega (arith, f))

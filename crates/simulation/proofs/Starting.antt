@@ -10,7 +10,7 @@ use native.Mathlib.Decide.{ℕ-discrete}
 use borrow.Author.Tests.{lt-ltb}
 use lib.ListN.{length, getD, set, replicate, getElem?, length-set}
 use lib.Seq.{getD-set-same, getD-set-other}
-use Rattle.spec.specs.Expression.{Expr}
+use Rattle.spec.specs.Program.{Program}
 use Rattle.calculus.specs.Expression.{int, choose}
 use Rattle.calculus.specs.State as state
 use Rattle.calculus.specs.State.{unused, identifier, update}
@@ -19,15 +19,16 @@ use Rattle.threads.specs.declared.State.the-variants.{Running}
 use Rattle.threads.specs.declared.Record.{Record}
 use Rattle.threads.specs.Records.{noRecord}
 use Rattle.threads.specs.Threads.{started}
-use Rattle.control.specs.Control.{finish, variable, entering}
+use Rattle.control.specs.Control.{finish, rootOf, variable, entering}
 use Rattle.reduction.specs.Slots.{slot, slotAt}
 use Rattle.reduction.specs.Words.{nextAt}
 use Rattle.engine.specs.Steps.{startSpace, startOf}
-use Rattle.replaying.specs.Run.{Kind, cells, locks, rwlocks, semaphores, identifiers}
-use Rattle.machine.specs.Control.{done, enter}
+use Rattle.replaying.specs.Run.{openIn, Kind, cells, locks, rwlocks, semaphores, identifiers}
+use Rattle.machine.specs.Control.{done, enter, openCalls}
+use Rattle.machine.proofs.Marks.{calls-counted, enter-tells}
 use Rattle.machine.specs.State.{MachineThread, running, startMachine}
 use Rattle.machine.specs.Replay.{Replay, startReplay}
-use Rattle.simulation.proofs.Held.{Stands}
+use Rattle.simulation.proofs.Bodies.{ProgramStands}
 use Rattle.simulation.proofs.Turning.{same-all}
 use Rattle.simulation.proofs.Finding.{enters-word}
 use Rattle.simulation.proofs.Holds.{SlotIs, kindCode, kind-low, NamesHeld, ThreadHeld, Holds}
@@ -48,37 +49,37 @@ record-behind zero i r h = refl
 record-behind (suc n) zero r h = h
 record-behind (suc n) (suc i) r h = record-behind n i r h
 
-module _ (p s : List ℕ) (long : length s ≡ 16384) where
+module _ (p s : List ℕ) (long : length s ≡ 542960) where
   abbrev zeros : List ℕ
   zeros = replicate (length s) 0
 
   abbrev s₁ : List ℕ
-  s₁ = set (set zeros (8256 + 1) 1) 8248 2
+  s₁ = set (set zeros (541808 + 1) 1) 541800 2
 
-  long₀ : length zeros ≡ 16384
+  long₀ : length zeros ≡ 542960
   long₀ = length-zeros (length s) ∙ long
 
-  long₁ : length s₁ ≡ 16384
-  long₁ = length-set (set zeros (8256 + 1) 1) 8248 2 ∙ length-set zeros (8256 + 1) 1 ∙ long₀
+  long₁ : length s₁ ≡ 542960
+  long₁ = length-set (set zeros (541808 + 1) 1) 541800 2 ∙ length-set zeros (541808 + 1) 1 ∙ long₀
 
-  elsewhere : (j : ℕ) → j ≢ 8257 → j ≢ 8248 → getD s₁ j 0 ≡ 0
-  elsewhere j a b = getD-set-other (set zeros (8256 + 1) 1) 8248 j 2 0 b ∙ getD-set-other zeros (8256 + 1) j 1 0 a ∙ getD-zeros (length s) j
+  elsewhere : (j : ℕ) → j ≢ 541809 → j ≢ 541800 → getD s₁ j 0 ≡ 0
+  elsewhere j a b = getD-set-other (set zeros (541808 + 1) 1) 541800 j 2 0 b ∙ getD-set-other zeros (541808 + 1) j 1 0 a ∙ getD-zeros (length s) j
 
   kind-elsewhere : (v : ℕ) → v ≢ 1 → v < 322 → slotAt s₁ v .kind ≡ 0
   unfolding slotAt
-  kind-elsewhere v n l = rw (lt-ltb v 322 l) (elsewhere (8256 + v) (λ e. n (omega (arith, e))) (λ e. omega (arith, e)))
+  kind-elsewhere v n l = rw (lt-ltb v 322 l) (elsewhere (541808 + v) (λ e. n (omega (arith, e))) (λ e. omega (arith, e)))
 
   kind-here : slotAt s₁ 1 .kind ≡ 1
   unfolding slotAt
-  kind-here = getD-set-other (set zeros (8256 + 1) 1) 8248 (8256 + 1) 2 0 (λ e. omega (arith, e)) ∙ getD-set-same zeros (8256 + 1) 1 0 (omega (arith, long₀))
+  kind-here = getD-set-other (set zeros (541808 + 1) 1) 541800 (541808 + 1) 2 0 (λ e. omega (arith, e)) ∙ getD-set-same zeros (541808 + 1) 1 0 (omega (arith, long₀))
 
   names-start : NamesHeld s₁ (update (λ n. unused) 0 identifier) 1 (λ k. 0)
   names-start = record {
     constant = kind-elsewhere 0 (λ e. omega (arith, e)) (omega arith);
     slots = λ n l. by-name n l (ℕ-discrete n 0);
     unused-from = λ n l. update-other (λ m. unused) 0 n identifier (λ e. omega (arith, e, l));
-    nextStored = getD-set-same (set zeros (8256 + 1) 1) 8248 2 0 (let l = length-set zeros (8256 + 1) 1 in omega (arith, l, long₀));
-    counted = λ k. let l = kind-low k in elsewhere (8240 + kindCode k) (λ e. omega (arith, e, l)) (λ e. omega (arith, e, l));
+    nextStored = getD-set-same (set zeros (541808 + 1) 1) 541800 2 0 (let l = length-set zeros (541808 + 1) 1 in omega (arith, l, long₀));
+    counted = λ k. let l = kind-low k in elsewhere (541792 + kindCode k) (λ e. omega (arith, e, l)) (λ e. omega (arith, e, l));
     few = λ k. omega arith;
     all = refl;
   }
@@ -87,7 +88,7 @@ module _ (p s : List ℕ) (long : length s ≡ 16384) where
       by-name n l (yes e) = ap (λ (m : ℕ). slotAt s₁ (suc m) .kind) e ∙ kind-here
       by-name n l (no f) = kind-elsewhere (suc n) (λ e. f (omega (arith, e))) l
 
-  module _ (e : Expr) (S : Stands p finish 0 e) where
+  module _ (P : Program) (A : ProgramStands p (P .procedures) (P .root)) where
     abbrev ph : MachineThread
     ph = running 0 (done (int 0))
 
@@ -105,9 +106,13 @@ module _ (p s : List ℕ) (long : length s ≡ 16384) where
         none-there zero th n h = absurd (n refl)
         none-there (suc i) th n h = none-is-not-some h
 
-    pub start-held : Holds p (startOf p s .1) (startOf p s .0) (startReplay e)
+    none-open : openCalls (enter (λ x. int 0) (P .root) []) ≤ 64
+    unfolding openIn
+    none-open = let z = sym (calls-counted (enter (λ x. int 0) (P .root) [])) ∙ ap length (sym (enter-tells (λ x. int 0) (P .root) [])) in omega (arith, z)
+
+    pub start-held : Holds p (startOf p s .1) (startOf p s .0) (startReplay P)
     unfolding startOf startSpace startReplay startMachine variable
     start-held =
-        proceeds p s₁ (started 1) (ph ∷ []) 0 0 paused (update (λ n. unused) 0 identifier) 1 (λ k. 0) names-start (entering 0) (enter (λ x. int 0) e [])
-        (enters-word p 0 (omega arith) (λ x. int 0) s₁ e finish 0 [] s₁ S
-        (record { same = same-all 0 s₁; long = long₁; values = λ x h. elsewhere (0 + 256 * 0 + x) (λ z. omega (arith, z, h)) (λ z. omega (arith, z, h)); frames = refl }))
+        proceeds p s₁ (started 1) (ph ∷ []) 0 0 paused (P .procedures) (A .bodies) (update (λ n. unused) 0 identifier) 1 (λ k. 0) names-start (entering 0 (rootOf p)) (enter (λ x. int 0) (P .root) []) none-open
+        (enters-word p 0 (omega arith) (λ x. int 0) 0 s₁ (P .root) finish (rootOf p) [] s₁ (A .root-stands)
+        (record { same = same-all 0 s₁; long = long₁; inside = (omega arith, omega arith); values = λ x h. elsewhere (0 + 256 * 0 + x) (λ z. omega (arith, z, h)) (λ z. omega (arith, z, h)); frames = (refl, refl) }))

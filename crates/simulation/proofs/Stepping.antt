@@ -14,10 +14,10 @@ use Rattle.spec.specs.Choice.{if_then_else_}
 use Rattle.spec.specs.Expression.{Position, Expr}
 use Rattle.spec.specs.declared.Word.{Word}
 use Rattle.spec.specs.declared.Word.the-variants.{Leaf, Unary, Binary}
-use Rattle.spec.specs.declared.UnaryWord.the-variants.{While, Join, Ref}
+use Rattle.spec.specs.declared.UnaryWord.the-variants.{While, Join, Ref, Call}
 use Rattle.spec.specs.declared.BinaryWord.the-variants.{Let, If, Spawn, Write}
 use Rattle.calculus.specs.Expression as calculus
-use Rattle.calculus.specs.Expression.{Value, int, name, join, ref, read, lock, unlock, post, wait, hold, rdlock, rdunlock, wrlock, wrunlock, Redex}
+use Rattle.calculus.specs.Expression.{Value, int, name, join, ref, read, lock, unlock, post, wait, hold, rdlock, rdunlock, wrlock, wrunlock, call, Redex}
 use Rattle.calculus.specs.State as state
 use Rattle.calculus.specs.State.{Part, first, second, unused, identifier, cell, aLock, opened, closed, semaphore, rwlock, readers, writer}
 use Rattle.calculus.specs.Reduction.{_>>=_, _>>_, ifIdentifier, made}
@@ -45,7 +45,7 @@ use Rattle.replaying.specs.Run.{cells, kindMade, partOfIf, noChoice, partChosen
 use Rattle.replaying.specs.Replay.{Outcome, limited}
 use Rattle.machine.specs.Environment.{Env}
 use Rattle.machine.specs.Control as machine
-use Rattle.machine.specs.Control.{Frame, letWord, ifWord, whileWord, spawnWord, writeWord, unaryWord, makeWord, unrolledWord, againWord, Control, done, at, redex, nextRedex}
+use Rattle.machine.specs.Control.{Frame, letWord, ifWord, whileWord, spawnWord, writeWord, unaryWord, makeWord, unrolledWord, againWord, Control, done, at, redex, nextRedex, marks, openCalls}
 use Rattle.machine.specs.State.{MachineThread, Machine, running}
 use Rattle.machine.specs.Step.{step, stepUnary, stepWord}
 use Rattle.machine.specs.Replay.{Replay, wordOf, within, stepped as steppedOn}
@@ -60,6 +60,9 @@ use Rattle.simulation.proofs.Sharing.{part-goes, write-goes}
 use Rattle.simulation.proofs.Making.{makerSlot, maker-acts, ref-acts, maker-kind, maker-slot, making-goes}
 use Rattle.simulation.proofs.Joined.{joining-goes}
 use Rattle.simulation.proofs.Spawned.{spawning-goes}
+use Rattle.simulation.proofs.Called.{call-goes}
+use Rattle.simulation.proofs.Finding.{frames-inside}
+use Rattle.simulation.proofs.Turning.{RowIn}
 
 -- ------------------------------------------------------------------ identifiers
 
@@ -79,12 +82,12 @@ identified x (semaphore c) h = is-none refl (rw (h .0)) (rw (h .0))
 identified x (rwlock N (readers k)) h = is-none refl (rw (h .0)) (rw (h .0))
 identified x (rwlock N writer) h = is-none refl (rw (h .0)) (rw (h .0))
 
-module _ (p s : List ℕ) (t c : ℕ) {q : Position} {n : ℕ} (v : ℕ) where
-  join-acts : RowOf p q (Unary Join) n → acted p s t (readyAt (q .index) v) c ≡ effected p s (q .index) v (joinedOf (slotAt s v))
+module _ (p s : List ℕ) (row c : ℕ) {q : Position} {n : ℕ} (v : ℕ) where
+  join-acts : RowOf p q (Unary Join) n → acted p s (readyAt row (q .index) v) c ≡ effected p s row (q .index) v (joinedOf (slotAt s v))
   unfolding acted actedBy wordUsed subject operand usedBy shapeAt shapeOf isWrite ruleOf printed
   join-acts r = rw (r .code) (rw (r .code))
 
-  spawn-acts : RowOf p q (Binary Spawn) n → acted p s t (readyAt (q .index) v) c ≡ effected p s (q .index) v (spawnedOf (slotAt s v))
+  spawn-acts : RowOf p q (Binary Spawn) n → acted p s (readyAt row (q .index) v) c ≡ effected p s row (q .index) v (spawnedOf (slotAt s v))
   unfolding acted actedBy wordUsed subject operand usedBy shapeAt shapeOf isWrite ruleOf printed
   spawn-acts r = rw (r .code) (rw (r .code))
 
@@ -107,11 +110,11 @@ module _ (p s : List ℕ) (T : Threads) (R : Replay) (t : ℕ) where
   unfolding limited
   stuck = refl
 
-  choice-0 : (f : Focus) (o : Outcome Replay) → Answered p o (afterAct p T t (f .at) (acted p s t f 0)) → Answered p o (steppedFrom p s T t f 0)
+  choice-0 : (f : Focus) (o : Outcome Replay) → Answered p o (afterAct p T t f (acted p s f 0)) → Answered p o (steppedFrom p s T t f 0)
   unfolding steppedFrom mayChoose
   choice-0 f o G = G
 
-  choice-1 : (f : Focus) (o : Outcome Replay) → mayChoose p f 1 ≡ true → Answered p o (afterAct p T t (f .at) (acted p s t f 1)) → Answered p o (steppedFrom p s T t f 1)
+  choice-1 : (f : Focus) (o : Outcome Replay) → mayChoose p f 1 ≡ true → Answered p o (afterAct p T t f (acted p s f 1)) → Answered p o (steppedFrom p s T t f 1)
   unfolding steppedFrom
   choice-1 f o h G = rw h G
 
@@ -125,14 +128,14 @@ module _ (p s : List ℕ) (T : Threads) (R : Replay) (t : ℕ) where
 
   -- a word with nothing to choose
   plain : (w : Redex) (g : Part → Option Machine) (f : Focus) → ((c : ℕ) → partChosen w c ≡ noChoice c) → eqb (f .mode) 4 ≡ false → isIf (shapeAt p (f .at)) ≡ false →
-      Answered p (Line w g (some first)) (afterAct p T t (f .at) (acted p s t f 0)) → (c : ℕ) → Answered p (Line w g (partChosen w c)) (steppedFrom p s T t f c)
+      Answered p (Line w g (some first)) (afterAct p T t f (acted p s f 0)) → (c : ℕ) → Answered p (Line w g (partChosen w c)) (steppedFrom p s T t f c)
   unfolding noChoice
   plain w g f is a b G zero = subst (λ (o : Option Part). Answered p (Line w g o) (steppedFrom p s T t f 0)) (sym (is 0)) (choice-0 f (Line w g (some first)) G)
   plain w g f is a b G (suc c) = choice-none f (suc c) w g (partChosen w (suc c)) (is (suc c)) (refuses p f a b c)
 
   -- an `if`
   either : (w : Redex) (g : Part → Option Machine) (f : Focus) → ((c : ℕ) → partChosen w c ≡ partOfIf c) → mayChoose p f 1 ≡ true →
-      Answered p (Line w g (some first)) (afterAct p T t (f .at) (acted p s t f 0)) → Answered p (Line w g (some second)) (afterAct p T t (f .at) (acted p s t f 1)) →
+      Answered p (Line w g (some first)) (afterAct p T t f (acted p s f 0)) → Answered p (Line w g (some second)) (afterAct p T t f (acted p s f 1)) →
       (c : ℕ) → Answered p (Line w g (partChosen w c)) (steppedFrom p s T t f c)
   unfolding partOfIf
   either w g f is a G₁ G₂ zero = subst (λ (o : Option Part). Answered p (Line w g o) (steppedFrom p s T t f 0)) (sym (is 0)) (choice-0 f (Line w g (some first)) G₁)
@@ -141,7 +144,7 @@ module _ (p s : List ℕ) (T : Threads) (R : Replay) (t : ℕ) where
 
 -- ------------------------------------------------------------------ words
 
-module _ (p s : List ℕ) (T : Threads) (R : Replay) (t tid : ℕ) (σ : Env) (K : List Frame) (H : Holds p s T R) (roomy : (n : ℕ) → Roomy (R .machine .names n)) (low : t < 16) (values : Values p s t σ) where
+module _ (p s : List ℕ) (T : Threads) (R : Replay) (t tid : ℕ) (σ : Env) (K : List Frame) (H : Holds p s T R) (roomy : (n : ℕ) → Roomy (R .machine .names n)) (low : t < 16) (row : ℕ) (inside : RowIn t row) (few : marks K ≤ 64) (values : Values p s row σ) where
   abbrev M : Machine
   M = R .machine
 
@@ -152,51 +155,51 @@ module _ (p s : List ℕ) (T : Threads) (R : Replay) (t tid : ℕ) (σ : Env) (K
   WordLine w f c = Answered p (Line p s T R t (redex σ w) (λ part. stepWord M t tid σ K part w) (partChosen (redex σ w) c)) (steppedFrom p s T t f c)
 
   -- a join, or a spawn, of what is no identifier
-  no-identifier : (k : ℕ) → (v : ℕ) → Answered p (limited within none) (afterAct p T t k (effected p s k v used.Stuck))
+  no-identifier : (f : Focus) (k v : ℕ) → Answered p (limited within none) (afterAct p T t f (effected p s row k v used.Stuck))
   unfolding limited afterAct effected actStep
-  no-identifier k v = refl
+  no-identifier f k v = refl
 
   told : (v : Value) → SlotIs (slotAt s (codeValue v)) (slotOf M t tid σ K v)
   told (int k) = slot-told (H .names) (int k)
   told (name m) = slot-told (H .names) (name m)
 
-  join-goes : (q : Position) {m : ℕ} (v : Value) → RowOf p q (Unary Join) m → Frames p s t (q .index) (continuation p (q .index)) K → There (unaryWord q join v) →
-      Answered p (limited within (stepUnary M t tid σ K join v >>= λ N. some (record { machine = N; things = R .things }))) (afterAct p T t (q .index) (acted p s t (readyAt (q .index) (codeValue v)) 0))
+  join-goes : (q : Position) {m : ℕ} (v : Value) → RowOf p q (Unary Join) m → Frames p s t row (q .index) (continuation p (q .index)) K → There (unaryWord q join v) →
+      Answered p (limited within (stepUnary M t tid σ K join v >>= λ N. some (record { machine = N; things = R .things }))) (afterAct p T t (readyAt row (q .index) (codeValue v)) (acted p s (readyAt row (q .index) (codeValue v)) 0))
   unfolding afterAct effected actStep
-  join-goes q v r F there = rw (join-acts p s t 0 (codeValue v) r) (by-value v there)
+  join-goes q v r F there = rw (join-acts p s row 0 (codeValue v) r) (by-value v there)
     where
       by-value : (v : Value) → There (unaryWord q join v) →
-          Answered p (limited within (stepUnary M t tid σ K join v >>= λ N. some (record { machine = N; things = R .things }))) (afterAct p T t (q .index) (effected p s (q .index) (codeValue v) (joinedOf (slotAt s (codeValue v)))))
+          Answered p (limited within (stepUnary M t tid σ K join v >>= λ N. some (record { machine = N; things = R .things }))) (afterAct p T t (readyAt row (q .index) (codeValue v)) (effected p s row (q .index) (codeValue v) (joinedOf (slotAt s (codeValue v)))))
       by-value (int k) there = constant (identified (slotAt s 0) unused (told (int k)))
         where
-          constant : Identified (slotAt s 0) unused → Answered p (limited within none) (afterAct p T t (q .index) (effected p s (q .index) 0 (joinedOf (slotAt s 0))))
+          constant : Identified (slotAt s 0) unused → Answered p (limited within none) (afterAct p T t (readyAt row (q .index) 0) (effected p s row (q .index) 0 (joinedOf (slotAt s 0))))
           constant (is-one a b c) = none-is-not-some a
-          constant (is-none a b c) = rw b (no-identifier (q .index) 0)
+          constant (is-none a b c) = rw b (no-identifier (readyAt row (q .index) 0) (q .index) 0)
       by-value (name n) there = by-slot (identified (slotAt s (suc n)) (M .names n) (told (name n)))
         where
           by-slot : Identified (slotAt s (suc n)) (M .names n) →
-              Answered p (limited within (stepUnary M t tid σ K join (name n) >>= λ N. some (record { machine = N; things = R .things }))) (afterAct p T t (q .index) (effected p s (q .index) (suc n) (joinedOf (slotAt s (suc n)))))
-          by-slot (is-one a b c) = rw (a, b) (joining-goes p s T R t tid σ K H low values q n F there)
-          by-slot (is-none a b c) = rw (a, b) (no-identifier (q .index) (suc n))
+              Answered p (limited within (stepUnary M t tid σ K join (name n) >>= λ N. some (record { machine = N; things = R .things }))) (afterAct p T t (readyAt row (q .index) (suc n)) (effected p s row (q .index) (suc n) (joinedOf (slotAt s (suc n)))))
+          by-slot (is-one a b c) = rw (a, b) (joining-goes p s T R t tid σ K H low row inside values q n F there)
+          by-slot (is-none a b c) = rw (a, b) (no-identifier (readyAt row (q .index) (suc n)) (q .index) (suc n))
 
-  spawn-goes : (q : Position) {m : ℕ} (v : Value) (e : Expr) → RowOf p q (Binary Spawn) m → Stands p finish (secondAt p (q .index)) e → There (spawnWord q v e) →
-      Answered p (limited within (stepWord M t tid σ K first (spawnWord q v e) >>= λ N. some (record { machine = N; things = R .things }))) (afterAct p T t (q .index) (acted p s t (readyAt (q .index) (codeValue v)) 0))
+  spawn-goes : (q : Position) {m : ℕ} (v : Value) (e : Expr) → RowOf p q (Binary Spawn) m → Stands p finish (secondAt p (q .index)) e → Frames p s t row (q .index) (continuation p (q .index)) K → There (spawnWord q v e) →
+      Answered p (limited within (stepWord M t tid σ K first (spawnWord q v e) >>= λ N. some (record { machine = N; things = R .things }))) (afterAct p T t (readyAt row (q .index) (codeValue v)) (acted p s (readyAt row (q .index) (codeValue v)) 0))
   unfolding afterAct effected actStep
-  spawn-goes q v e r S there = rw (spawn-acts p s t 0 (codeValue v) r) (by-value v there)
+  spawn-goes q v e r S F there = rw (spawn-acts p s row 0 (codeValue v) r) (by-value v there)
     where
       by-value : (v : Value) → There (spawnWord q v e) →
-          Answered p (limited within (stepWord M t tid σ K first (spawnWord q v e) >>= λ N. some (record { machine = N; things = R .things }))) (afterAct p T t (q .index) (effected p s (q .index) (codeValue v) (spawnedOf (slotAt s (codeValue v)))))
+          Answered p (limited within (stepWord M t tid σ K first (spawnWord q v e) >>= λ N. some (record { machine = N; things = R .things }))) (afterAct p T t (readyAt row (q .index) (codeValue v)) (effected p s row (q .index) (codeValue v) (spawnedOf (slotAt s (codeValue v)))))
       by-value (int k) there = constant (identified (slotAt s 0) unused (told (int k)))
         where
-          constant : Identified (slotAt s 0) unused → Answered p (limited within none) (afterAct p T t (q .index) (effected p s (q .index) 0 (spawnedOf (slotAt s 0))))
+          constant : Identified (slotAt s 0) unused → Answered p (limited within none) (afterAct p T t (readyAt row (q .index) 0) (effected p s row (q .index) 0 (spawnedOf (slotAt s 0))))
           constant (is-one a b c) = none-is-not-some a
-          constant (is-none a b c) = rw c (no-identifier (q .index) 0)
+          constant (is-none a b c) = rw c (no-identifier (readyAt row (q .index) 0) (q .index) 0)
       by-value (name n) there = by-slot (identified (slotAt s (suc n)) (M .names n) (told (name n)))
         where
           by-slot : Identified (slotAt s (suc n)) (M .names n) →
-              Answered p (limited within (stepWord M t tid σ K first (spawnWord q (name n) e) >>= λ N. some (record { machine = N; things = R .things }))) (afterAct p T t (q .index) (effected p s (q .index) (suc n) (spawnedOf (slotAt s (suc n)))))
-          by-slot (is-one a b c) = rw (a, c) (spawning-goes p s T R t tid σ K H low values q n e r S there)
-          by-slot (is-none a b c) = rw (a, c) (no-identifier (q .index) (suc n))
+              Answered p (limited within (stepWord M t tid σ K first (spawnWord q (name n) e) >>= λ N. some (record { machine = N; things = R .things }))) (afterAct p T t (readyAt row (q .index) (suc n)) (effected p s row (q .index) (suc n) (spawnedOf (slotAt s (suc n)))))
+          by-slot (is-one a b c) = rw (a, c) (spawning-goes p s T R t tid σ K H low row inside values q n e r S F there)
+          by-slot (is-none a b c) = rw (a, c) (no-identifier (readyAt row (q .index) (suc n)) (q .index) (suc n))
 
   -- no `if`
   no-if : (q : Position) (w : Word) {v : ℕ} → RowOf p q w v → isIf (shapeOf (ruleOf (codeOf w))) ≡ false → isIf (shapeAt p (q .index)) ≡ false
@@ -209,18 +212,18 @@ module _ (p s : List ℕ) (T : Threads) (R : Replay) (t tid : ℕ) (σ : Env) (K
 
   -- a word with one part that uses what its part names
   uses : (o : calculus.Unary) → Using o → isIf (shapeOf (ruleOf (codeOf (Unary (partWord o))))) ≡ false → thingsAfter (unaryEffect o) (R .things) ≡ R .things →
-      (q : Position) (v : Value) (f : Focus) → WordAt p s t f (unaryWord q o v) → Frames p s t (q .index) (continuation p (q .index)) K → There (unaryWord q o v) → (c : ℕ) → WordLine (unaryWord q o v) f c
+      (q : Position) (v : Value) (f : Focus) → WordAt p s row f (unaryWord q o v) → Frames p s t row (q .index) (continuation p (q .index)) K → There (unaryWord q o v) → (c : ℕ) → WordLine (unaryWord q o v) f c
   unfolding partChosen effect
-  uses o u h same q v f (e, n, r) F there c =
+  uses o u h same q v f (e, n, r, N) F there c =
       subst (λ (g : Focus). WordLine (unaryWord q o v) g c) (sym e)
-      (plain p s T R t (redex σ (unaryWord q o v)) (λ part. stepWord M t tid σ K part (unaryWord q o v)) (readyAt (q .index) (codeValue v)) (λ c. refl) refl (no-if q (Unary (partWord o)) r h)
-      (rw same (part-goes p s T R t tid σ K H low values 0 q F o u v r (roomy-value v) there)) c)
+      (plain p s T R t (redex σ (unaryWord q o v)) (λ part. stepWord M t tid σ K part (unaryWord q o v)) (readyAt row (q .index) (codeValue v)) (λ c. refl) refl (no-if q (Unary (partWord o)) r h)
+      (rw same (part-goes p s T R t tid σ K H low row inside values 0 q F o u v r (roomy-value v) there)) c)
 
-  at-if : (q : Position) {v : ℕ} → RowOf p q (Binary If) v → mayChoose p (stoppedAt (q .index)) 1 ≡ true
+  at-if : (q : Position) {v : ℕ} → RowOf p q (Binary If) v → mayChoose p (stoppedAt row (q .index)) 1 ≡ true
   unfolding mayChoose shapeAt isIf shapeOf ruleOf printed
   at-if q r = rw (r .code)
 
-  at-unrolled : (q : Position) → mayChoose p (unrolledAt (q .index)) 1 ≡ true
+  at-unrolled : (q : Position) → mayChoose p (unrolledAt row (q .index)) 1 ≡ true
   unfolding mayChoose
   at-unrolled q = refl
 
@@ -231,37 +234,37 @@ module _ (p s : List ℕ) (T : Threads) (R : Replay) (t tid : ℕ) (σ : Env) (K
   maker-no-if calculus.newsem = refl
   maker-no-if (calculus.newrwlock N) = refl
 
-  word-goes : (w : machine.Word) (f : Focus) → WordAt p s t f w → Frames p s t (placeOf p s t w) (continuation p (placeOf p s t w)) K → There w → (c : ℕ) → WordLine w f c
+  word-goes : (w : machine.Word) (f : Focus) → WordAt p s row f w → Frames p s t row (placeOf p s w) (continuation p (placeOf p s w)) K → There w → (c : ℕ) → WordLine w f c
   unfolding partChosen effect unaryEffect thingsAfter isIf shapeOf ruleOf printed
   word-goes (letWord q x v e) f (z, r, S) F there c =
       subst (λ (g : Focus). WordLine (letWord q x v e) g c) (sym z)
-      (plain p s T R t (redex σ (letWord q x v e)) (λ part. stepWord M t tid σ K part (letWord q x v e)) (readyAt (q .index) (codeValue v)) (λ c. refl) refl (no-if q (Binary Let) r refl)
-      (let-goes p s T R t tid σ K H low values q x v e r S F 0 there) c)
+      (plain p s T R t (redex σ (letWord q x v e)) (λ part. stepWord M t tid σ K part (letWord q x v e)) (readyAt row (q .index) (codeValue v)) (λ c. refl) refl (no-if q (Binary Let) r refl)
+      (let-goes p s T R t tid σ K H low row inside values q x v e r S F 0 there) c)
   word-goes (ifWord q e₁ e₂) f (z, n, r, S₁, S₂) F there c =
       subst (λ (g : Focus). WordLine (ifWord q e₁ e₂) g c) (sym z)
-      (either p s T R t (redex σ (ifWord q e₁ e₂)) (λ part. stepWord M t tid σ K part (ifWord q e₁ e₂)) (stoppedAt (q .index)) (λ c. refl) (at-if q r)
-      (if-first p s T R t tid σ K H low values q e₁ e₂ r S₁ S₂ F there) (if-second p s T R t tid σ K H low values q e₁ e₂ r S₁ S₂ F there) c)
+      (either p s T R t (redex σ (ifWord q e₁ e₂)) (λ part. stepWord M t tid σ K part (ifWord q e₁ e₂)) (stoppedAt row (q .index)) (λ c. refl) (at-if q r)
+      (if-first p s T R t tid σ K H low row inside values q e₁ e₂ r S₁ S₂ F there) (if-second p s T R t tid σ K H low row inside values q e₁ e₂ r S₁ S₂ F there) c)
   word-goes (whileWord q e) f (z, n, r, S) F there c =
       subst (λ (g : Focus). WordLine (whileWord q e) g c) (sym z)
-      (plain p s T R t (redex σ (whileWord q e)) (λ part. stepWord M t tid σ K part (whileWord q e)) (stoppedAt (q .index)) (λ c. refl) refl (no-if q (Unary While) r refl)
-      (while-goes p s T R t tid σ K H low values q e r S F 0 there) c)
+      (plain p s T R t (redex σ (whileWord q e)) (λ part. stepWord M t tid σ K part (whileWord q e)) (stoppedAt row (q .index)) (λ c. refl) refl (no-if q (Unary While) r refl)
+      (while-goes p s T R t tid σ K H low row inside values q e r S F 0 there) c)
   word-goes (spawnWord q v e) f (z, n, r, S) F there c =
       subst (λ (g : Focus). WordLine (spawnWord q v e) g c) (sym z)
-      (plain p s T R t (redex σ (spawnWord q v e)) (λ part. stepWord M t tid σ K part (spawnWord q v e)) (readyAt (q .index) (codeValue v)) (λ c. refl) refl (no-if q (Binary Spawn) r refl)
-      (spawn-goes q v e r S there) c)
+      (plain p s T R t (redex σ (spawnWord q v e)) (λ part. stepWord M t tid σ K part (spawnWord q v e)) (readyAt row (q .index) (codeValue v)) (λ c. refl) refl (no-if q (Binary Spawn) r refl)
+      (spawn-goes q v e r S F there) c)
   word-goes (writeWord q v w) f (z, n, r, held) F there c =
       subst (λ (g : Focus). WordLine (writeWord q v w) g c) (sym z)
-      (plain p s T R t (redex σ (writeWord q v w)) (λ part. stepWord M t tid σ K part (writeWord q v w)) (readyAt (q .index) (codeValue w)) (λ c. refl) refl (no-if q (Binary Write) r refl)
-      (write-goes p s T R t tid σ K H low values 0 q F v w r held there) c)
-  word-goes (unaryWord q join v) f (z, n, r) F there c =
+      (plain p s T R t (redex σ (writeWord q v w)) (λ part. stepWord M t tid σ K part (writeWord q v w)) (readyAt row (q .index) (codeValue w)) (λ c. refl) refl (no-if q (Binary Write) r refl)
+      (write-goes p s T R t tid σ K H low row inside values 0 q F v w r held there) c)
+  word-goes (unaryWord q join v) f (z, n, r, N) F there c =
       subst (λ (g : Focus). WordLine (unaryWord q join v) g c) (sym z)
-      (plain p s T R t (redex σ (unaryWord q join v)) (λ part. stepWord M t tid σ K part (unaryWord q join v)) (readyAt (q .index) (codeValue v)) (λ c. refl) refl (no-if q (Unary Join) r refl)
+      (plain p s T R t (redex σ (unaryWord q join v)) (λ part. stepWord M t tid σ K part (unaryWord q join v)) (readyAt row (q .index) (codeValue v)) (λ c. refl) refl (no-if q (Unary Join) r refl)
       (join-goes q v r F there) c)
-  word-goes (unaryWord q ref v) f (z, n, r) F there c =
+  word-goes (unaryWord q ref v) f (z, n, r, N) F there c =
       subst (λ (g : Focus). WordLine (unaryWord q ref v) g c) (sym z)
-      (plain p s T R t (redex σ (unaryWord q ref v)) (λ part. stepWord M t tid σ K part (unaryWord q ref v)) (readyAt (q .index) (codeValue v)) (λ c. refl) refl (no-if q (Unary Ref) r refl)
-      (rw (ref-acts p s t 0 (codeValue v) r)
-      (making-goes p s T R t tid σ K H low values (unaryWord q ref v) (q .index) (r .below) F there cells (slot 2 (codeValue v) 0) (cell v) refl (refl, refl))) c)
+      (plain p s T R t (redex σ (unaryWord q ref v)) (λ part. stepWord M t tid σ K part (unaryWord q ref v)) (readyAt row (q .index) (codeValue v)) (λ c. refl) refl (no-if q (Unary Ref) r refl)
+      (rw (ref-acts p s row 0 (codeValue v) r)
+      (making-goes p s T R t tid σ K H low row inside values (unaryWord q ref v) (readyAt row (q .index) (codeValue v)) (q .index) (r .below) F there cells (slot 2 (codeValue v) 0) (cell v) refl (refl, refl))) c)
   word-goes (unaryWord q read v) f W F there c = uses read using-read refl refl q v f W F there c
   word-goes (unaryWord q lock v) f W F there c = uses lock using-lock refl refl q v f W F there c
   word-goes (unaryWord q unlock v) f W F there c = uses unlock using-unlock refl refl q v f W F there c
@@ -271,19 +274,23 @@ module _ (p s : List ℕ) (T : Threads) (R : Replay) (t tid : ℕ) (σ : Env) (K
   word-goes (unaryWord q (hold rdunlock) v) f W F there c = uses (hold rdunlock) using-rdunlock refl refl q v f W F there c
   word-goes (unaryWord q (hold wrlock) v) f W F there c = uses (hold wrlock) using-wrlock refl refl q v f W F there c
   word-goes (unaryWord q (hold wrunlock) v) f W F there c = uses (hold wrunlock) using-wrunlock refl refl q v f W F there c
+  word-goes (unaryWord q (call g) v) f (z, n, r, N) F there c =
+      subst (λ (h : Focus). WordLine (unaryWord q (call g) v) h c) (sym z)
+      (plain p s T R t (redex σ (unaryWord q (call g) v)) (λ part. stepWord M t tid σ K part (unaryWord q (call g) v)) (readyAt row (q .index) (codeValue v)) (λ c. refl) refl (no-if q (Unary Call) r refl)
+      (call-goes p s T R t tid σ K H low row inside few values q g v r N F there) c)
   word-goes (makeWord q o) f (z, n, r, N) F there c =
       subst (λ (g : Focus). WordLine (makeWord q o) g c) (sym z)
-      (plain p s T R t (redex σ (makeWord q o)) (λ part. stepWord M t tid σ K part (makeWord q o)) (stoppedAt (q .index)) (λ c. refl) refl (no-if q (Leaf (makerWord o)) r (maker-no-if o))
-      (rw (maker-acts p s t 0 o N r)
-      (making-goes p s T R t tid σ K H low values (makeWord q o) (q .index) (r .below) F there (kindMade o) (makerSlot o) (made o) (maker-kind o) (maker-slot o))) c)
+      (plain p s T R t (redex σ (makeWord q o)) (λ part. stepWord M t tid σ K part (makeWord q o)) (stoppedAt row (q .index)) (λ c. refl) refl (no-if q (Leaf (makerWord o)) r (maker-no-if o))
+      (rw (maker-acts p s row 0 o N r)
+      (making-goes p s T R t tid σ K H low row inside values (makeWord q o) (stoppedAt row (q .index)) (q .index) (r .below) F there (kindMade o) (makerSlot o) (made o) (maker-kind o) (maker-slot o))) c)
   word-goes (unrolledWord q e) f (z, n, r, S) F there c =
       subst (λ (g : Focus). WordLine (unrolledWord q e) g c) (sym z)
-      (either p s T R t (redex σ (unrolledWord q e)) (λ part. stepWord M t tid σ K part (unrolledWord q e)) (unrolledAt (q .index)) (λ c. refl) (at-unrolled q)
-      (unrolled-first p s T R t tid σ K H low values q e r S F there) (unrolled-second p s T R t tid σ K H low values q e r S F there) c)
+      (either p s T R t (redex σ (unrolledWord q e)) (λ part. stepWord M t tid σ K part (unrolledWord q e)) (unrolledAt row (q .index)) (λ c. refl) (at-unrolled q)
+      (unrolled-first p s T R t tid σ K H low row inside values q e r S F there) (unrolled-second p s T R t tid σ K H low row inside values q e r S F there) c)
   word-goes (againWord q v e) f (z, n, r, S) F there c =
       subst (λ (g : Focus). WordLine (againWord q v e) g c) (sym z)
-      (plain p s T R t (redex σ (againWord q v e)) (λ part. stepWord M t tid σ K part (againWord q v e)) (readyAt (q .index) (codeValue v)) (λ c. refl) refl (no-if q (Unary While) r refl)
-      (again-goes p s T R t tid σ K H low values q e r S F 0 v there) c)
+      (plain p s T R t (redex σ (againWord q v e)) (λ part. stepWord M t tid σ K part (againWord q v e)) (readyAt row (q .index) (codeValue v)) (λ c. refl) refl (no-if q (Unary While) r refl)
+      (again-goes p s T R t tid σ K H low row inside values q e r S F 0 v there) c)
 
 -- ------------------------------------------------------------------ a step
 
@@ -318,10 +325,13 @@ module _ (p s : List ℕ) (T : Threads) (R : Replay) (H : Holds p s T R) (roomy 
   no-word h e = rw (h, e) (stuck p s T R t)
 
   has-word : (tid : ℕ) (σ : Env) (w : machine.Word) (K : List Frame) → getElem? ts t ≡ some (running tid (at σ w K)) → Answered p (limited within (steppedOn R line)) (stepped p s T t c)
-  unfolding stepped steppedOn wordOf step isRunning
+  unfolding stepped steppedOn wordOf step isRunning openCalls
   has-word tid σ w K there =
-      let (values, W, F) = H .threads t (running tid (at σ w K)) there .control in
-      rw (runs-told (running tid (at σ w K)) there, there) (word-goes p s T R t tid σ K H roomy (thread-low p s T R t (running tid (at σ w K)) H there) values w (focusAt s t) W F there c)
+      let held = H .threads t (running tid (at σ w K)) there in
+      let (values, W, F) = held .control in
+      let few : marks K ≤ 64 = held .calls in
+      let inside = frames-inside p t s K (focusAt s t .row) (placeOf p s w) (continuation p (placeOf p s w)) (omega (arith, few)) F in
+      rw (runs-told (running tid (at σ w K)) there, there) (word-goes p s T R t tid σ K H roomy (thread-low p s T R t (running tid (at σ w K)) H there) (focusAt s t .row) inside few values w (focusAt s t) W F there c)
 
   joined-wordless : (tid : ℕ) (d : Control) → getElem? ts t ≡ some (record { tid = tid; joined = true; control = d }) → steppedOn R line ≡ none
   unfolding steppedOn wordOf

@@ -16,7 +16,7 @@ use Rattle.workspace.specs.Layout.{ruleOf, codeOf, printed}
 use Rattle.workspace.specs.Region.{ChangedWithin}
 use Rattle.control.specs.declared.Focus.{Focus}
 use Rattle.control.specs.Shapes.{shapeOf, shapeAt, isWrite}
-use Rattle.control.specs.Control.{secondPart, finish, keptAt, variable, continuation, second, behind, entering, returning, readyAt, doneWith, enteredBy, entered, halfWritten, returned, returnedSpace, turned, turnedSpace, found}
+use Rattle.control.specs.Control.{secondPart, finish, leave, keptAt, variable, calledFrom, continuation, second, behind, entering, returning, readyAt, doneWith, enteredBy, entered, halfWritten, left, returned, returnedSpace, turned, turnedSpace, found}
 use Rattle.control.proofs.Turns.{found-stop, found-turn}
 use Rattle.simulation.proofs.Held.{Row, RowOf}
 
@@ -44,57 +44,66 @@ pub behind-is : (k : ℕ) → k < 256 → behind k ≡ k + 1
 unfolding behind
 behind-is k h = rw (lt-ltb k 512 (omega (arith, h)))
 
-module _ (p : List ℕ) (t : ℕ) where
+module _ (p : List ℕ) (r : ℕ) where
   abbrev pub go : ℕ → List ℕ → Focus → Focus × List ℕ
-  go n s f = found n p s t f
+  go n s f = found n p s f
 
   -- from a step
   pub enters : (n k : ℕ) {q : Position} {w : Word} {v c : ℕ} (s : List ℕ) → Row p k q w v c →
-      go (suc n) s (entering k) ≡ go n s (enteredBy (shapeOf (ruleOf (codeOf w))) k c (variable s t v))
+      go (suc n) s (entering r k) ≡ go n s (enteredBy (shapeOf (ruleOf (codeOf w))) r k c (variable s r v))
   unfolding turned turnedSpace entered shapeAt
-  enters n k s r = found-turn p s t (entering k) n (omega arith) ∙ rw (r .code, r .number, r .next)
+  enters n k s d = found-turn p s (entering r k) n (omega arith) ∙ rw (d .code, d .number, d .next)
 
   -- from the value of a first part, not of a `write`
   pub to-first : (n j x : ℕ) {q : Position} {w : Word} {v c : ℕ} (s : List ℕ) → Row p j q w v c → isWrite (shapeOf (ruleOf (codeOf w))) ≡ false →
-      go (suc n) s (returning j x) ≡ (readyAt j x, s)
+      go (suc n) s (returning r j x) ≡ (readyAt r j x, s)
   unfolding turned turnedSpace returned returnedSpace halfWritten shapeAt
-  to-first n j x s r h =
-      found-turn p s t (returning j x) n (omega arith) ∙ rw (lt-ltb j 256 (r .below), r .code, h) (found-stop p s t (readyAt j x) n (omega arith))
+  to-first n j x s d h =
+      found-turn p s (returning r j x) n (omega arith) ∙ rw (lt-ltb j 256 (d .below), d .code, h) (found-stop p s (readyAt r j x) n (omega arith))
 
   -- from the value of the second part of a `write`
-  pub to-second : (n j x : ℕ) (s : List ℕ) → j < 256 → go (suc n) s (returning (secondPart + j) x) ≡ (readyAt j x, s)
+  pub to-second : (n j x : ℕ) (s : List ℕ) → j < 256 → go (suc n) s (returning r (secondPart + j) x) ≡ (readyAt r j x, s)
   unfolding turned turnedSpace returned returnedSpace halfWritten
   to-second n j x s h =
       let back : secondPart + j - secondPart ≡ j = omega arith in
-      found-turn p s t (returning (secondPart + j) x) n (omega arith)
-      ∙ rw (le-ltb (secondPart + j) 256 (omega arith), lt-ltb (secondPart + j) 512 (omega (arith, h)), back) (found-stop p s t (readyAt j x) n (omega arith))
+      found-turn p s (returning r (secondPart + j) x) n (omega arith)
+      ∙ rw (le-ltb (secondPart + j) 256 (omega arith), lt-ltb (secondPart + j) 512 (omega (arith, h)), back) (found-stop p s (readyAt r j x) n (omega arith))
 
   -- from the value of the first part of a `write`
   pub to-other : (n j x : ℕ) {q : Position} {v c : ℕ} (s : List ℕ) → Row p j q (Binary Write) v c →
-      go (suc n) s (returning j x) ≡ go n (set s (keptAt + 256 * t + j) x) (entering (second p j))
+      go (suc n) s (returning r j x) ≡ go n (set s (keptAt + 256 * r + j) x) (entering r (second p j))
   unfolding turned turnedSpace returned returnedSpace halfWritten shapeAt shapeOf ruleOf printed isWrite
-  to-other n j x s r = found-turn p s t (returning j x) n (omega arith) ∙ rw (lt-ltb j 256 (r .below), r .code)
+  to-other n j x s d = found-turn p s (returning r j x) n (omega arith) ∙ rw (lt-ltb j 256 (d .below), d .code)
 
   -- from the value of the whole
-  pub to-end : (n x : ℕ) (s : List ℕ) → go (suc n) s (returning finish x) ≡ (doneWith x, s)
+  pub to-end : (n x : ℕ) (s : List ℕ) → go (suc n) s (returning r finish x) ≡ (doneWith r x, s)
   unfolding turned turnedSpace returned returnedSpace halfWritten
-  to-end n x s = found-turn p s t (returning finish x) n (omega arith) ∙ found-stop p s t (doneWith x) n (omega arith)
+  to-end n x s = found-turn p s (returning r finish x) n (omega arith) ∙ found-stop p s (doneWith r x) n (omega arith)
+
+  -- from the value of a body
+  pub to-caller : (n x : ℕ) (s : List ℕ) → go (suc n) s (returning r leave x) ≡ go n s (returning (r - 1) (continuation p (calledFrom s r)) x)
+  unfolding turned turnedSpace returned returnedSpace halfWritten left
+  to-caller n x s = found-turn p s (returning r leave x) n (omega arith)
 
 -- ------------------------------------------------------------------ what a turn may change
 
--- the values kept for thread t's writes
+-- the values kept for thread t's writes, in all its rows
 abbrev pub SameBut : (t : ℕ) → (s s′ : List ℕ) → Type 0
-SameBut t s s′ = ChangedWithin (keptAt + 256 * t) (keptAt + 256 * t + 256) s s′
+SameBut t s s′ = ChangedWithin (keptAt + 16896 * t) (keptAt + 16896 * t + 16896) s s′
 
 pub same-all : (t : ℕ) (s : List ℕ) → SameBut t s s
 same-all t s = record { long = refl; kept = λ i o. refl }
 
-pub same-but-one : (t k x : ℕ) (s s′ : List ℕ) → k < 256 → SameBut t s s′ → SameBut t s (set s′ (keptAt + 256 * t + k) x)
-same-but-one t k x s s′ h c = record {
-  long = length-set s′ (keptAt + 256 * t + k) x ∙ c .long;
-  kept = λ i o. getD-set-other s′ (keptAt + 256 * t + k) i x 0 (λ e. apart i o e) ∙ c .kept i o;
+-- row r is one of thread t's
+abbrev pub RowIn : (t r : ℕ) → Type 0
+RowIn t r = (66 * t ≤ r) × (r ≤ 66 * t + 65)
+
+pub same-but-one : (t r k x : ℕ) (s s′ : List ℕ) → RowIn t r → k < 256 → SameBut t s s′ → SameBut t s (set s′ (keptAt + 256 * r + k) x)
+same-but-one t r k x s s′ (lo, hi) h c = record {
+  long = length-set s′ (keptAt + 256 * r + k) x ∙ c .long;
+  kept = λ i o. getD-set-other s′ (keptAt + 256 * r + k) i x 0 (λ e. apart i o e) ∙ c .kept i o;
 }
   where
-    apart : (i : ℕ) → (i < keptAt + 256 * t) ⊎ (keptAt + 256 * t + 256 ≤ i) → i ≡ keptAt + 256 * t + k → ⊥
-    apart i (inl l) e = omega (arith, l, e)
-    apart i (inr l) e = omega (arith, l, e, h)
+    apart : (i : ℕ) → (i < keptAt + 16896 * t) ⊎ (keptAt + 16896 * t + 16896 ≤ i) → i ≡ keptAt + 256 * r + k → ⊥
+    apart i (inl l) e = omega (arith, l, e, lo)
+    apart i (inr l) e = omega (arith, l, e, h, hi)

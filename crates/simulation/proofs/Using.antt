@@ -55,6 +55,7 @@ useOf lock sl = lockState sl >>= λ l. ifOpened l >>= λ u. some (left (aLock cl
 useOf unlock sl = lockState sl >>= λ l. some (left (aLock opened))
 useOf post sl = count sl >>= λ c. some (left (semaphore (suc c)))
 useOf wait sl = count sl >>= λ c. oneLess c >>= λ d. some (left (semaphore d))
+useOf (calculus.call f) sl = none
 useOf (hold w) sl = rwState sl >>= λ (N, i). insideAfter N w i >>= λ after. some (left (rwlock N after))
 
 module _ (M : Machine) (i tid : ℕ) (σ : Env) (K : List Frame) where

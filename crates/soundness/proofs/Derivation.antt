@@ -3,10 +3,13 @@
 use mathlib.Core.Path.{sym, _∙_}
 use mathlib.Core.List.{List, map}
 use Prim.Native.Nat.{ℕ}
-use Rattle.spec.specs.Words.{role, binding}
-use Rattle.spec.specs.Expression.{Step, Expr, leaf, unary, binary}
+use native.Mathlib.Omega.{arith}
+use lib.ListN.{length}
+use Rattle.spec.specs.Words.{calls, role, binding}
+use Rattle.spec.specs.Expression.{Expr, leaf, unary, binary}
+use Rattle.spec.specs.Program.{Program}
 use Rattle.spec.specs.Split.{Map, Split}
-use Rattle.spec.specs.Conditions.{type, kind, post, bodyStart, mapAt}
+use Rattle.spec.specs.Conditions.{type, kind, post, bodyStart, keptBack, signature, mapAt}
 use Rattle.spec.specs.Conditions as conditions
 use Rattle.spec.specs.WellFormed.{StepInside, UsedInside}
 use Rattle.spec.specs.Ranges.{InRange}
@@ -14,25 +17,27 @@ use Rattle.spec.specs.Figure5 as own
 use Rattle.spec.specs.Accepted.{LocksTakeEnough}
 use Rattle.spec.specs.Maps.{share}
 use Rattle.spec.specs.declared.LeafWord.the-variants.{Newlock, Newrwlock}
-use Rattle.spec.specs.declared.UnaryWord.the-variants.{Read, Unlock, Post, Rdunlock, Wrunlock}
+use Rattle.spec.specs.declared.UnaryWord.the-variants.{Read, Unlock, Post, Rdunlock, Wrunlock, Call}
 use Rattle.spec.specs.declared.BinaryWord.the-variants.{Spawn}
-use Rattle.spec.proofs.Wide.{post-wide, start-wide}
-use Rattle.calculus.specs.Figure5.{_∣_∣_⊢_∶_∣_, VAR, INT, LET, IF, WHILE, NEWT, SPAWN, JOIN, REF, WRITE, READ, NEWL, LCK, ULCK, NEWSEM, POST, WAIT, NEWRWLOCK, RDLOCK, RDUNLOCK, WRLOCK, WRUNLOCK}
+use Rattle.spec.proofs.Wide.{post-wide, start-wide, kept-wide, before-wide, after-wide}
+use Rattle.calculus.specs.Figure5.{_∣_∣_∣_⊢_∶_∣_, VAR, INT, LET, IF, WHILE, NEWT, SPAWN, JOIN, REF, WRITE, READ, NEWL, LCK, ULCK, NEWSEM, POST, WAIT, NEWRWLOCK, RDLOCK, RDUNLOCK, WRLOCK, WRUNLOCK, CALL}
 use Rattle.soundness.specs.Erasure.{erase}
 use Rattle.soundness.proofs.Capabilities.{cap, covers-cap, sum-cap, times-cap}
 use Rattle.soundness.proofs.Types.{means, environment, agree-means, means-int, means-lock, means-tid, means-sem, means-rwlock, means-ref, shown-means, lock-wide, tid-wide, sem-wide, rwlock-wide, variable-typed}
+use Rattle.soundness.proofs.Signatures.{signed, signatures, signature-found}
 
 -- the variables in scope
 abbrev pub variables : conditions.Env → List ℕ
 variables Γ = map (λ b. b .0) Γ
 
-module _ {steps : List Step} (S : Split) (R : InRange steps S) (L : LocksTakeEnough S) where
+module _ {P : Program} (S : Split) (R : InRange P S) (L : LocksTakeEnough S) where
   -- Γ, Ψ ⊢ e : τ, Ψ′ with the trees and capabilities of the split
   abbrev pub Figure5 : conditions.Env → Map → Expr → Type 0
-  Figure5 Γ Ψ e = S .header .denominator ∣ environment S Γ ∣ cap Ψ ⊢ erase e ∶ means S (type S e) ∣ cap (post S e)
+  Figure5 Γ Ψ e = S .header .denominator ∣ signatures S ∣ environment S Γ ∣ cap Ψ ⊢ erase e ∶ means S (type S e) ∣ cap (post S e)
 
-  pub split-derivation-is-figure-5 : {Γ : conditions.Env} {Ψ : Map} {e : Expr} → own.Derives S Γ Ψ e → UsedInside (variables Γ) e → Figure5 Γ Ψ e
-  unfolding erase kind share UsedInside StepInside role binding
+  pub split-derivation-is-figure-5 : {Γ : conditions.Env} {Ψ : Map} {e : Expr} → own.Derives S Γ Ψ e →
+      UsedInside (length (P .procedures)) (variables Γ) e → Figure5 Γ Ψ e
+  unfolding erase kind share UsedInside StepInside calls role binding
   split-derivation-is-figure-5 {Γ} (own.VAR {v = v} t m) u = rw m (VAR (variable-typed S R Γ v u) (shown-means S R _ _ t))
   split-derivation-is-figure-5 (own.INT t m) u = rw (means-int S R _ t, m) INT
   split-derivation-is-figure-5 (own.LET d₁ d₂ t m) u =
@@ -104,3 +109,11 @@ module _ {steps : List Step} (S : Split) (R : InRange steps S) (L : LocksTakeEno
       rw (means-int S R _ i)
       (WRUNLOCK (rw (means-rwlock S R _ Kr Kw t) at (split-derivation-is-figure-5 d (u .1)))
       (sum-cap (post S e) (mapAt S Kw) (post-wide R e ∙ sym (rwlock-wide S R _ Kr Kw t .1)) m))
+  split-derivation-is-figure-5 (own.CALL {k = k} {f = f} {e₁ = e₁} d a b t m) u =
+      let e = unary Call k f e₁ in
+      let g = signature S f in
+      rw (agree-means S _ _ t)
+      (CALL {Ψkeep = cap (keptBack S e)} {g = signed S g} (signature-found S f (omega (arith, u .0, R .signaturesCounted)))
+      (rw (agree-means S _ _ a) at (split-derivation-is-figure-5 d (u .1)))
+      (sum-cap (mapAt S (g .before)) (keptBack S e) (before-wide R f ∙ sym (kept-wide R e)) (sym b))
+      (sum-cap (mapAt S (g .after)) (keptBack S e) (after-wide R f ∙ sym (kept-wide R e)) (sym m)))

@@ -5,7 +5,7 @@ use Prim.Native.Nat.{ℕ}
 use Rattle.spec.specs.Verdict.{verdict}
 use Rattle.spec.specs.declared.Answer.the-variants.{Accept}
 use Rattle.calculus.proofs.EitherOrder.{safe-is-in-either-order}
-use Rattle.soundness.specs.Erasure.{erase}
+use Rattle.soundness.specs.Erasure.{eraseProgram}
 use Rattle.soundness.specs.EitherOrderText.{EitherOrderText}
 use Rattle.soundness.proofs.Safety.{accepted-is-safe}
 
@@ -13,4 +13,4 @@ pub accepted-is-in-either-order : (room : ℕ) (programText splitText : List ℕ
     EitherOrderText programText
 accepted-is-in-either-order room programText splitText h =
     let s = accepted-is-safe room programText splitText h in
-    record { P = s .P; program = s .program; holds = safe-is-in-either-order (erase (s .P .root)) (s .holds) }
+    record { P = s .P; program = s .program; holds = safe-is-in-either-order (eraseProgram (s .P)) (s .holds) }

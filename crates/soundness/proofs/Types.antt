@@ -1,6 +1,6 @@
 -- The type of the calculus that a type's number stands for.
 use mathlib.Core.Path.{_≡_, sym, ap, _∙_}
-use mathlib.Core.List.{List, [], _∷_, map}
+use mathlib.Core.List.{[], _∷_, map}
 use mathlib.Core.Bool.{true}
 use mathlib.Core.Option.{some}
 use Prim.Native.Nat.{ℕ}
@@ -10,7 +10,8 @@ use lib.Dec.{eqb}
 use lib.ListN.{length, getD}
 use borrow.Author.Tests.{eq-eqb, ne-eqb}
 use Rattle.spec.specs.Choice.{if_then_else_}
-use Rattle.spec.specs.Expression.{Step, among}
+use Rattle.spec.specs.Expression.{among}
+use Rattle.spec.specs.Program.{Program}
 use Rattle.spec.specs.Split.{Split}
 use Rattle.spec.specs.Conditions.{typeIn, typeAt, mapAt, mayShow}
 use Rattle.spec.specs.Conditions as conditions
@@ -50,7 +51,7 @@ module _ (S : Split) where
   environment [] = empty
   environment (b ∷ Γ) = bind (environment Γ) (b .0) (means (b .1))
 
-module _ {steps : List Step} (S : Split) (R : InRange steps S) where
+module _ {P : Program} (S : Split) (R : InRange P S) where
   pub means-int : (t : TypeNumber) → typeAt S t ≡ type-line.Int → means S t ≡ intType
   unfolding means meaning treeOf
   means-int t e = ap meaning (tree-of-type S R t type-line.Int e)

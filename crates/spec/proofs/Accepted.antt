@@ -1,11 +1,10 @@
 -- Demand 2: a pair is accepted exactly when it is right and the work space is large enough.
 use mathlib.Core.Path.{_≡_, refl, ap}
-use mathlib.Core.List.{List, []}
+use mathlib.Core.List.{List}
 use mathlib.Core.Logic.{_↔_}
 use Prim.Native.Nat.{ℕ, _≤_}
 use native.Mathlib.Omega.{arith}
 use Rattle.spec.specs.Reading.{Out, stop, on}
-use Rattle.spec.specs.Conditions.{startMap}
 use Rattle.spec.specs.Workspace.{workspaceSize}
 use Rattle.spec.specs.Verdict.{ruled, checked, answer, verdict}
 use Rattle.spec.specs.Accepted.{Right}
@@ -29,13 +28,15 @@ pub accepted-is-right : (room : ℕ) (p s : List ℕ) → verdict room p s ≡ A
 unfolding ruled
 accepted-is-right room p s h =
     let r = accepted-reached room p s h in
+    let (bodies, root) = conditions-derive (r .S) (r .P) (r .outcome) in
     record {
       P = r .P;
       S = r .S;
       sheets = r .sheets;
       locks = r .locks;
       atMostOne = r .atMostOne;
-      derives = conditions-derive (r .S) [] (startMap (r .S)) (r .P .root) (r .outcome);
+      bodies = bodies;
+      derives = root;
     }
 
 pub right-is-accepted : (room : ℕ) (p s : List ℕ) → workspaceSize ≤ room → Right p s → verdict room p s ≡ Accept
@@ -47,7 +48,7 @@ right-is-accepted room p s enough r = ap answer (reached-checked room p s (on tt
   sheets = r .sheets;
   locks = r .locks;
   atMostOne = r .atMostOne;
-  outcome = derivation-meets-conditions (r .S) [] (startMap (r .S)) (r .P .root) (r .derives);
+  outcome = derivation-meets-conditions (r .S) (r .P) (r .bodies) (r .derives);
 }))
 
 -- with room enough, ACCEPT is the answer exactly when the pair is right

@@ -3,18 +3,18 @@
 use mathlib.Core.Path.{_≡_, ap}
 use mathlib.Core.List.{List, [], _∷_, _++_}
 use mathlib.Core.Bool.{Bool, true, false}
-use Prim.Native.Nat.{ℕ}
+use Prim.Native.Nat.{ℕ, _+_}
 use lib.Dec.{eqb, leb, ltb}
 use lib.ListN.{length}
 use borrow.Author.Tests.{eqb-true}
 use Rattle.spec.specs.Reading.{Out, on, _>>=_, demand}
-use Rattle.spec.specs.Expression.{Expr, leaf, unary, binary, lineOf}
-use Rattle.spec.specs.Program.{program, programLimit}
-use Rattle.spec.specs.Split.{Map, Split, split, splitLimit}
-use Rattle.spec.specs.Maps.{_=ᵐ_, _≥ᵐ_, share}
+use Rattle.spec.specs.Expression.{Expr, leaf, unary, binary, lineOf, Procedure}
+use Rattle.spec.specs.Program.{Program, program, programLimit}
+use Rattle.spec.specs.Split.{Map, Signature, Split, split, splitLimit, mapAt}
+use Rattle.spec.specs.Maps.{_=ᵐ_, _≥ᵐ_, _+ᵐ_, share}
 use Rattle.spec.specs.Agreement.{agree}
-use Rattle.spec.specs.Conditions.{Condition, T, F, A, Env, typeIn, isInt, isRef, refLocation, type, kind, post, startMap, contains, mayShow, conditionsOf}
-use Rattle.spec.specs.Sites.{Site, sites, Claim, numbered, claimsAt, claims, firstFalse}
+use Rattle.spec.specs.Conditions.{Condition, T, F, A, Env, typeIn, isInt, isRef, refLocation, type, kind, post, startMap, keptBack, signature, contains, mayShow, conditionsOf, procedureConditions}
+use Rattle.spec.specs.Sites.{Site, sites, Claim, numbered, claimsAt, claims, bodySites, claimsOfProcedure, claimsOfProcedures, claimsOf, firstFalse}
 use Rattle.spec.specs.FirstFalse.{Holds, AllHold}
 use Rattle.spec.specs.Workspace.{workspaceSize}
 use Rattle.spec.specs.Verdict.{sheets, locksTakeEnough, startAtMostOne, ruled, checked, answer, verdict}
@@ -25,7 +25,7 @@ use Rattle.spec.specs.declared.Answer.{Answer}
 use Rattle.spec.specs.declared.Answer.the-variants.{Accept}
 use Rattle.spec.specs.declared.Refusal.the-variants.{ShortWorkspace, LongProgram, LongSplit}
 use Rattle.spec.specs.declared.LeafWord.the-variants.{Var, Int, Newtid, Newlock, Newsem, Newrwlock}
-use Rattle.spec.specs.declared.UnaryWord.the-variants.{While, Join, Ref, Read, Lock, Unlock, Post, Wait, Rdlock, Rdunlock, Wrlock, Wrunlock}
+use Rattle.spec.specs.declared.UnaryWord.the-variants.{While, Join, Ref, Read, Lock, Unlock, Post, Wait, Rdlock, Rdunlock, Wrlock, Wrunlock, Call}
 use Rattle.spec.specs.declared.BinaryWord.the-variants.{Let, If, Spawn, Write}
 use Rattle.spec.proofs.Outcomes.{bind-goes-on, goes-on-bind}
 use Rattle.spec.proofs.Claims.{none-false-all-hold, all-hold-none-false, all-hold-parts, all-hold-append}
@@ -82,10 +82,26 @@ module _ (S : Split) where
   conditionsBefore Γ pre (unary Rdunlock k v e₁) = conditionsOf S Γ pre (unary Rdunlock k v e₁)
   conditionsBefore Γ pre (unary Wrlock k v e₁) = conditionsOf S Γ pre (unary Wrlock k v e₁)
   conditionsBefore Γ pre (unary Wrunlock k v e₁) = conditionsOf S Γ pre (unary Wrunlock k v e₁)
+  conditionsBefore Γ pre (unary Call k f e₁) = let e = unary Call k f e₁ in let g = signature S f in
+      T (agreeBefore (type S e) (g .result)) ∷ T (agreeBefore (type S e₁) (g .argument))
+      ∷ F (post S e₁ =ᵐ mapAt S (g .before) +ᵐ keptBack S e) ∷ F (post S e =ᵐ mapAt S (g .after) +ᵐ keptBack S e) ∷ []
+
+  unfoldable pub procedureConditionsBefore : Signature → Procedure → List Condition
+  procedureConditionsBefore g p = T (agreeBefore (type S (p .body)) (g .result)) ∷ F (post S (p .body) ≥ᵐ mapAt S (g .after)) ∷ []
 
   unfoldable pub claimsBefore : List Site → List Claim
   claimsBefore [] = []
   claimsBefore (s ∷ ss) = numbered (lineOf (s .step)) 1 (conditionsBefore (s .Γ) (s .pre) (s .step)) ++ claimsBefore ss
+
+  unfoldable pub claimsOfProcedureBefore : Signature → Procedure → List Claim
+  claimsOfProcedureBefore g p = numbered (p .line) 1 (procedureConditionsBefore g p) ++ claimsBefore (bodySites S g p)
+
+  unfoldable pub claimsOfProceduresBefore : (f : ℕ) → List Procedure → List Claim
+  claimsOfProceduresBefore f [] = []
+  claimsOfProceduresBefore f (p ∷ ps) = claimsOfProcedureBefore (signature S f) p ++ claimsOfProceduresBefore (f + 1) ps
+
+  unfoldable pub claimsOfBefore : Program → List Claim
+  claimsOfBefore P = claimsOfProceduresBefore 0 (P .procedures) ++ claimsBefore (sites S [] (startMap S) (P .root))
 
 unfoldable pub checkedBefore : (room : ℕ) → (programText splitText : List ℕ) → Out (Unit {0})
 checkedBefore room programText splitText = do
@@ -93,7 +109,7 @@ checkedBefore room programText splitText = do
   (P, S) ← sheets Check programText splitText
   locks ← locksTakeEnough S
   whole ← startAtMostOne P S
-  firstFalse (claimsBefore S (sites S [] (startMap S) (P .root)))
+  firstFalse (claimsOfBefore S P)
 
 unfoldable pub verdictBefore : (room : ℕ) → (programText splitText : List ℕ) → Answer
 verdictBefore room programText splitText = answer (checkedBefore room programText splitText)
@@ -144,6 +160,7 @@ module _ (S : Split) where
   own-holds n i Γ pre (unary Rdunlock k v e₁) h = h
   own-holds n i Γ pre (unary Wrlock k v e₁) h = h
   own-holds n i Γ pre (unary Wrunlock k v e₁) h = h
+  own-holds n i Γ pre (unary Call k f e₁) h = (agreed _ _ (h .0), (agreed _ _ (h .1 .0), h .1 .1))
 
   claims-hold : (ss : List Site) → AllHold (claimsBefore S ss) → AllHold (claims S ss)
   unfolding claims claimsAt claimsBefore
@@ -151,6 +168,28 @@ module _ (S : Split) where
   claims-hold (s ∷ ss) h =
       let both = all-hold-parts _ (claimsBefore S ss) h in
       all-hold-append _ (claims S ss) (own-holds _ 1 (s .Γ) _ (s .step) (both .0)) (claims-hold ss (both .1))
+
+  procedure-holds : (g : Signature) (p : Procedure) → AllHold (claimsOfProcedureBefore S g p) → AllHold (claimsOfProcedure S g p)
+  unfolding claimsOfProcedureBefore claimsOfProcedure procedureConditionsBefore procedureConditions numbered AllHold Holds
+  procedure-holds g p h =
+      let (own, body) = all-hold-parts (numbered (p .line) 1 (procedureConditionsBefore S g p)) (claimsBefore S (bodySites S g p)) h in
+      all-hold-append (numbered (p .line) 1 (procedureConditions S g p)) (claims S (bodySites S g p)) (agreed _ _ (own .0), own .1)
+      (claims-hold (bodySites S g p) body)
+
+  procedures-hold : (f : ℕ) (ps : List Procedure) → AllHold (claimsOfProceduresBefore S f ps) → AllHold (claimsOfProcedures S f ps)
+  unfolding claimsOfProceduresBefore claimsOfProcedures
+  procedures-hold f [] h = h
+  procedures-hold f (p ∷ ps) h =
+      let (here, others) = all-hold-parts (claimsOfProcedureBefore S (signature S f) p) (claimsOfProceduresBefore S (f + 1) ps) h in
+      all-hold-append (claimsOfProcedure S (signature S f) p) (claimsOfProcedures S (f + 1) ps) (procedure-holds (signature S f) p here)
+      (procedures-hold (f + 1) ps others)
+
+  all-claims-hold : (P : Program) → AllHold (claimsOfBefore S P) → AllHold (claimsOf S P)
+  unfolding claimsOfBefore claimsOf
+  all-claims-hold P h =
+      let (bodies, root) = all-hold-parts (claimsOfProceduresBefore S 0 (P .procedures)) _ h in
+      all-hold-append (claimsOfProcedures S 0 (P .procedures)) _ (procedures-hold 0 (P .procedures) bodies)
+      (claims-hold (sites S [] (startMap S) (P .root)) root)
 
 -- what goes on after m by one continuation does so by another
 goes-on-too : {A B : Type 0} {b : B} (m : Out A) (f g : A → Out B) → ((a : A) → f a ≡ on b → g a ≡ on b) → (m >>= f) ≡ on b → (m >>= g) ≡ on b
@@ -166,7 +205,7 @@ checked-too room p s =
     goes-on-too _ _ _ λ _.
     goes-on-too _ _ _ λ _ h.
     let (P, S) = found in
-    all-hold-none-false _ (claims-hold S (sites S [] (startMap S) (P .root)) (none-false-all-hold _ h))
+    all-hold-none-false _ (all-claims-hold S P (none-false-all-hold _ h))
 
 -- ------------------------------------------------------------------ the theorem
 

@@ -11,7 +11,7 @@ use lib.ListN.{length, getD, length-append, List·getD-append, List·getD-eq-def
 use lib.Seq.{getD-append-seam}
 use lib.Dec.{eqb}
 use borrow.Author.Tests.{eqb-true, eq-eqb}
-use Rattle.spec.specs.Expression.{Step}
+use Rattle.spec.specs.Program.{Program}
 use Rattle.spec.specs.Split.{Map, Split, typeAt, mapAt}
 use Rattle.spec.specs.Ranges.{InRange}
 use Rattle.spec.specs.Maps.{_=ᵐ_, nowhere, sameNumbers}
@@ -185,7 +185,7 @@ module _ (S : Split) where
 
 -- ------------------------------------------------------------------ a sheet's types
 
-module _ {steps : List Step} (S : Split) (R : InRange steps S) where
+module _ {P : Program} (S : Split) (R : InRange P S) where
   -- a type line that is no int has a number of the sheet
   pub numbered : (t : TypeNumber) (x : TypeLine) → typeAt S t ≡ x → (x ≡ Int → ⊥) → t .0 < length (S .types)
   unfolding typeAt

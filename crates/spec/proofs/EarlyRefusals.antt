@@ -3,21 +3,22 @@ use mathlib.Core.Path.{_≡_, refl, ap, sym, _∙_}
 use mathlib.Core.List.{List, [], _∷_}
 use mathlib.Core.Bool.{Bool, true, false}
 use mathlib.Core.Option.{Option, none, some}
-use Prim.Native.Nat.{ℕ, _+_}
+use Prim.Native.Nat.{ℕ, zero, suc, _+_}
+use lib.Dec.{ltb}
 use Rattle.spec.specs.Choice.{if_then_else_}
 use Rattle.spec.specs.Text.{Line, closed, unclosed, Field, fields}
-use Rattle.spec.specs.Reading.{Out, stop, on, _>>=_, demand, Fault, badForm, badRange, noStart, freelock, Seen, right, wrong, SheetName, programSheet, splitSheet, form, outside, miscounted, faulty, Place, passed, nextLine, readLine, readLines, begin, noneLeft, end}
-use Rattle.spec.specs.Expression.{Step, Expr, leaf, unary, binary, whole, single, among, scopeStep, scope}
+use Rattle.spec.specs.Reading.{Out, stop, on, _>>=_, demand, Fault, badForm, badRange, noStart, freelock, noKept, Seen, right, wrong, SheetName, programSheet, splitSheet, form, outside, miscounted, faulty, Place, passed, nextLine, readLine, readLines, begin, noneLeft, end}
+use Rattle.spec.specs.Expression.{Expr, leaf, unary, binary, size, Item, step, proc, firstListed, expression, noLineLeft, Procedure, structure, among, scopeStep, scope, scopes}
 use Rattle.spec.specs.Program.{Program, program}
 use Rattle.spec.specs.Split.{Split, split}
 use Rattle.spec.specs.Verdict.{takesEnough, allTakeEnough, locksTakeEnough, refuseOver, startAtMostOne, four, returned, onConditions}
 use Rattle.spec.specs.declared.Answer.the-variants.{Refuse}
 use Rattle.spec.specs.declared.Purpose.{Purpose}
 use Rattle.spec.specs.declared.Refusal.{Refusal}
-use Rattle.spec.specs.declared.Refusal.the-variants.{Unbound, Rebound, LockTakesLess}
+use Rattle.spec.specs.declared.Refusal.the-variants.{Unbound, Rebound, NoProcedure, LockTakesLess}
 use Rattle.spec.specs.declared.TypeLine.{TypeLine}
 use Rattle.spec.specs.declared.Role.{Role}
-use Rattle.spec.specs.declared.Role.the-variants.{Binds, Uses, Neither}
+use Rattle.spec.specs.declared.Role.the-variants.{Binds, Uses, Calls, Neither}
 use Rattle.spec.proofs.Clashes.{true-is-not-false}
 use Rattle.spec.proofs.Outcomes.{stop-is-not-on, stop-injective}
 
@@ -82,6 +83,7 @@ faulty-early sheet badForm k = form-early sheet k
 faulty-early sheet badRange k = outside-early sheet k
 faulty-early sheet noStart k = refl
 faulty-early sheet freelock k = refl
+faulty-early sheet noKept k = refl
 
 passed-early : {A : Type 0} (sheet : SheetName) (k : ℕ) (rest : List Line) (x : Seen A) → Early (passed sheet k rest x)
 unfolding passed
@@ -120,48 +122,71 @@ end-early sheet place = none-left-early sheet (place .last) (place .rest)
 
 -- ------------------------------------------------------------------ the sheets
 
-whole-early : (e : Expr) (left : List Step) → Early (whole e left)
-unfolding whole returned four onConditions
-whole-early e [] = tt
-whole-early e (s ∷ left) = refl
+first-early : (last : ℕ) (items : List Item) (es : List Expr) → Early (firstListed last items es)
+unfolding firstListed returned four onConditions
+first-early last items [] = refl
+first-early last items (e ∷ es) = tt
 
-single-early : (last : ℕ) (steps : List Step) (es : List Expr) → Early (single last steps es)
-unfolding single returned four onConditions
-single-early last steps [] = refl
-single-early last steps (e ∷ es) = whole-early e _
+expression-early : (last i : ℕ) (items : List Item) → Early (expression last i items)
+unfolding expression
+expression-early last i items = first-early last items _
 
-step-early : (r : Role) (k v : ℕ) (inside bound : List ℕ) → Early (scopeStep r k v inside bound)
-unfolding scopeStep returned four onConditions
-step-early Binds k v inside bound = early-choice (among v bound) (stop (Rebound k)) (on (v ∷ bound)) refl tt
-step-early Uses k v inside bound = early-choice (among v inside) (on bound) (stop (Unbound k)) tt refl
-step-early Neither k v inside bound = tt
+no-line-early : (items : List Item) → Early (noLineLeft items)
+unfolding noLineLeft returned four onConditions
+no-line-early [] = tt
+no-line-early (x ∷ items) = refl
 
-scope-early : (e : Expr) (inside bound : List ℕ) → Early (scope e inside bound)
-unfolding scope
-scope-early (leaf w k v) inside bound = step-early _ (k .line) v inside bound
-scope-early (unary w k v e) inside bound = early-bind _ _ (step-early _ (k .line) v inside bound) λ b. scope-early e inside b
-scope-early (binary w k v e₁ e₂) inside bound =
-    early-bind _ _ (step-early _ (k .line) v inside bound) λ b.
-    early-bind _ _ (scope-early e₁ inside b) λ b₁. scope-early e₂ _ b₁
+structure-early : (last k i : ℕ) (items : List Item) → Early (structure last k i items)
+unfolding structure returned four onConditions
+structure-early last zero i items =
+    early-bind _ _ (expression-early last i items) λ e. early-bind _ _ (no-line-early (e .1)) λ done. tt
+structure-early last (suc k) i [] = refl
+structure-early last (suc k) i (step s ∷ items) = refl
+structure-early last (suc k) i (proc x l ∷ items) =
+    early-bind _ _ (expression-early last i items) λ e. early-bind _ _ (structure-early last k (i + size (e .0)) (e .1)) λ others. tt
+
+module _ (count : ℕ) where
+  step-early : (r : Role) (k v : ℕ) (inside bound : List ℕ) → Early (scopeStep count r k v inside bound)
+  unfolding scopeStep returned four onConditions
+  step-early Binds k v inside bound = early-choice (among v bound) (stop (Rebound k)) (on (v ∷ bound)) refl tt
+  step-early Uses k v inside bound = early-choice (among v inside) (on bound) (stop (Unbound k)) tt refl
+  step-early Calls k f inside bound = early-choice (ltb f count) (on bound) (stop (NoProcedure k)) tt refl
+  step-early Neither k v inside bound = tt
+
+  scope-early : (e : Expr) (inside bound : List ℕ) → Early (scope count e inside bound)
+  unfolding scope
+  scope-early (leaf w k v) inside bound = step-early _ (k .line) v inside bound
+  scope-early (unary w k v e) inside bound = early-bind _ _ (step-early _ (k .line) v inside bound) λ b. scope-early e inside b
+  scope-early (binary w k v e₁ e₂) inside bound =
+      early-bind _ _ (step-early _ (k .line) v inside bound) λ b.
+      early-bind _ _ (scope-early e₁ inside b) λ b₁. scope-early e₂ _ b₁
+
+  scopes-early : (ps : List Procedure) (root : Expr) (bound : List ℕ) → Early (scopes count ps root bound)
+  unfolding scopes
+  scopes-early [] root bound = scope-early root [] bound
+  scopes-early (p ∷ ps) root bound =
+      early-bind _ _ (step-early Binds (p .line) (p .parameter) [] bound) λ b.
+      early-bind _ _ (scope-early (p .body) (p .parameter ∷ []) b) λ b₁. scopes-early ps root b₁
 
 pub program-early : (text : List ℕ) → Early (program text)
 unfolding program
 program-early text =
     early-bind _ _ (begin-early programSheet _) λ top.
-    early-bind _ _ (next-early programSheet _ top) λ n.
-    early-bind _ _ (all-early programSheet _ (n .1)) λ s.
-    early-bind _ _ (end-early programSheet (s .1)) λ done.
-    early-bind _ _ (single-early (s .1 .last) (s .0) _) λ e.
-    early-bind _ _ (scope-early e [] []) λ bound. tt
+    early-bind _ _ (next-early programSheet _ top) λ N.
+    early-bind _ _ (all-early programSheet _ (N .1)) λ items.
+    early-bind _ _ (end-early programSheet (items .1)) λ done.
+    early-bind _ _ (structure-early (items .1 .last) (N .0 .procedures) 0 (items .0)) λ found.
+    early-bind _ _ (scopes-early (N .0 .procedures) (found .0) (found .1) []) λ bound. tt
 
-pub split-early : (purpose : Purpose) (steps : List Step) (text : List ℕ) → Early (split purpose steps text)
+pub split-early : (purpose : Purpose) (P : Program) (text : List ℕ) → Early (split purpose P text)
 unfolding split
-split-early purpose steps text =
+split-early purpose P text =
     early-bind _ _ (begin-early splitSheet _) λ top.
     early-bind _ _ (next-early splitSheet _ top) λ H.
     early-bind _ _ (all-early splitSheet _ (H .1)) λ types.
     early-bind _ _ (all-early splitSheet _ (types .1)) λ maps.
-    early-bind _ _ (all-early splitSheet _ (maps .1)) λ rows.
+    early-bind _ _ (all-early splitSheet _ (maps .1)) λ signatures.
+    early-bind _ _ (all-early splitSheet _ (signatures .1)) λ rows.
     early-bind _ _ (end-early splitSheet (rows .1)) λ done. tt
 
 all-take-enough-early : (S : Split) (k : ℕ) (xs : List TypeLine) → Early (allTakeEnough S k xs)

@@ -1,23 +1,24 @@
--- No condition is false exactly when the split's types and maps are derived by Figure 5.
+-- No condition is false exactly when the split's types and maps are derived by Figure 5, for each body and for the root.
 -- A step's own conditions and those of its parts are taken apart and put together by the two laws below; each rule then
 -- is its row of the table, read one way or the other.
 use mathlib.Core.Path.{_≡_, subst, sym}
 use mathlib.Core.List.{List, [], _∷_, _++_}
-use Prim.Native.Nat.{ℕ}
+use Prim.Native.Nat.{ℕ, _+_}
 use borrow.Author.Tests.{leb-true, ltb-true}
 use Rattle.spec.specs.Reading.{on}
 use Rattle.spec.specs.Words.{role, binding, preOfPart, preOfSecond}
-use Rattle.spec.specs.Expression.{Position, Expr, leaf, unary, binary}
-use Rattle.spec.specs.Split.{Map, Split}
-use Rattle.spec.specs.Conditions.{Env, type, post, bodyStart, K, inMap, outMap, readMap, writeMap, conditionsOf}
-use Rattle.spec.specs.Sites.{Site, sites, numbered, claimsAt, claims, firstFalse}
+use Rattle.spec.specs.Expression.{Position, Expr, leaf, unary, binary, Procedure}
+use Rattle.spec.specs.Program.{Program}
+use Rattle.spec.specs.Split.{Map, Signature, Split}
+use Rattle.spec.specs.Conditions.{Env, startMap, type, post, bodyStart, keptBack, signature, K, inMap, outMap, readMap, writeMap, conditionsOf, procedureConditions}
+use Rattle.spec.specs.Sites.{Site, sites, numbered, claimsAt, claims, bodySites, claimsOfProcedure, claimsOfProcedures, claimsOf, firstFalse}
 use Rattle.spec.specs.FirstFalse.{Holds, AllHold}
-use Rattle.spec.specs.Figure5.{Derives, VAR, INT, LET, IF, WHILE, NEWT, SPAWN, JOIN, REF, WRITE, READ, NEWL, LCK, ULCK, NEWSEM, POST, WAIT, NEWRWLOCK, RDLOCK, RDUNLOCK, WRLOCK, WRUNLOCK}
+use Rattle.spec.specs.Figure5.{Derives, VAR, INT, LET, IF, WHILE, NEWT, SPAWN, JOIN, REF, WRITE, READ, NEWL, LCK, ULCK, NEWSEM, POST, WAIT, NEWRWLOCK, RDLOCK, RDUNLOCK, WRLOCK, WRUNLOCK, CALL, BodyDerives, BodiesDerive, noProcedures, procedure}
 use Rattle.spec.specs.declared.Word.the-variants.{Binary}
 use Rattle.spec.specs.declared.LeafWord.{LeafWord}
 use Rattle.spec.specs.declared.LeafWord.the-variants.{Var, Int, Newtid, Newlock, Newsem, Newrwlock}
 use Rattle.spec.specs.declared.UnaryWord.{UnaryWord}
-use Rattle.spec.specs.declared.UnaryWord.the-variants.{While, Join, Ref, Read, Lock, Unlock, Post, Wait, Rdlock, Rdunlock, Wrlock, Wrunlock}
+use Rattle.spec.specs.declared.UnaryWord.the-variants.{While, Join, Ref, Read, Lock, Unlock, Post, Wait, Rdlock, Rdunlock, Wrlock, Wrunlock, Call}
 use Rattle.spec.specs.declared.BinaryWord.{BinaryWord}
 use Rattle.spec.specs.declared.BinaryWord.the-variants.{Let, If, Spawn, Write}
 use Rattle.spec.proofs.TypeKinds.{is-int, is-tid, is-lock, is-sem, is-rwlock, is-ref-of, int-is, tid-is, lock-is, sem-is, rwlock-is, ref-is, ref-of-is, tid-load, lock-in, lock-out, sem-load, rwlock-read, rwlock-write, readable, writable}
@@ -69,7 +70,7 @@ module _ (S : Split) where
   -- ------------------------------------------------------------------ from conditions to a derivation
 
   holding-derives : (Γ : Env) (pre : Map) (e : Expr) → AllAt (sites S Γ pre e) → Derives S Γ pre e
-  unfolding AllHold Holds claimsAt numbered conditionsOf preOfPart preOfSecond role binding post bodyStart K inMap outMap readMap writeMap
+  unfolding AllHold Holds claimsAt numbered conditionsOf preOfPart preOfSecond role binding post bodyStart keptBack K inMap outMap readMap writeMap
   holding-derives Γ pre (leaf Var k v) h =
       let c = leaf-own Γ pre Var k v h in
       VAR (c .0) (none-equal (c .1 .0))
@@ -126,6 +127,9 @@ module _ (S : Split) where
   holding-derives Γ pre (unary Wrunlock k v e₁) h =
       let (c, h₁) = unary-own Γ pre Wrunlock k v e₁ h in
       WRUNLOCK (holding-derives _ _ e₁ h₁) (is-rwlock _ (c .1 .0)) (is-int _ (c .0)) (none-equal (c .1 .1 .0))
+  holding-derives Γ pre (unary Call k f e₁) h =
+      let (c, h₁) = unary-own Γ pre Call k f e₁ h in
+      CALL (holding-derives _ _ e₁ h₁) (c .1 .0) (none-equal (c .1 .1 .0)) (c .0) (none-equal (c .1 .1 .1 .0))
   holding-derives Γ pre (binary Let k v e₁ e₂) h =
       let (c, h₁, h₂) = binary-own Γ pre Let k v e₁ e₂ h in
       LET (holding-derives _ _ e₁ h₁) (holding-derives _ _ e₂ h₂) (c .0) (none-equal (c .1 .0))
@@ -162,7 +166,7 @@ module _ (S : Split) where
   binary-all Γ pre w k v e₁ e₂ c h₁ h₂ = parts-step _ _ c (parts-both (sites S Γ pre e₁) _ h₁ h₂)
 
   derived-holds : {Γ : Env} {Ψ : Map} {e : Expr} → Derives S Γ Ψ e → AllAt (sites S Γ Ψ e)
-  unfolding AllHold Holds claimsAt numbered conditionsOf preOfPart preOfSecond role binding post bodyStart K inMap outMap readMap writeMap
+  unfolding AllHold Holds claimsAt numbered conditionsOf preOfPart preOfSecond role binding post bodyStart keptBack K inMap outMap readMap writeMap
   derived-holds {Γ} {Ψ} (VAR {k = k} {v = v} t p) =
       leaf-all Γ Ψ Var k v (t, (equal-none p, tt))
   derived-holds {Γ} {Ψ} (INT {k = k} {v = v} t p) =
@@ -214,13 +218,47 @@ module _ (S : Split) where
       unary-all Γ Ψ Wrlock k v e₁ (int-is i, (rwlock-is t, (equal-none (rw (rwlock-write S t) p), tt))) (derived-holds d)
   derived-holds {Γ} {Ψ} (WRUNLOCK {k = k} {v = v} {e₁ = e₁} d t i p) =
       unary-all Γ Ψ Wrunlock k v e₁ (int-is i, (rwlock-is t, (equal-none (rw (rwlock-write S t) p), tt))) (derived-holds d)
+  derived-holds {Γ} {Ψ} (CALL {k = k} {f = f} {e₁ = e₁} d a p r q) =
+      unary-all Γ Ψ Call k f e₁ (r, (a, (equal-none p, (equal-none q, tt)))) (derived-holds d)
+
+  -- ------------------------------------------------------------------ procedures
+
+  holding-body : (g : Signature) (p : Procedure) → AllHold (claimsOfProcedure S g p) → BodyDerives S g p
+  unfolding claimsOfProcedure procedureConditions bodySites numbered AllHold Holds
+  holding-body g p h =
+      let (own, body) = all-hold-parts (numbered (p .line) 1 (procedureConditions S g p)) (claims S (bodySites S g p)) h in
+      record { derives = holding-derives _ _ (p .body) body; result = own .0; after = none-covers (own .1 .0) }
+
+  holding-bodies : (f : ℕ) (ps : List Procedure) → AllHold (claimsOfProcedures S f ps) → BodiesDerive S f ps
+  unfolding claimsOfProcedures
+  holding-bodies f [] h = noProcedures
+  holding-bodies f (p ∷ ps) h =
+      let (here, others) = all-hold-parts (claimsOfProcedure S (signature S f) p) (claimsOfProcedures S (f + 1) ps) h in
+      procedure (holding-body (signature S f) p here) (holding-bodies (f + 1) ps others)
+
+  body-holds : (g : Signature) (p : Procedure) → BodyDerives S g p → AllHold (claimsOfProcedure S g p)
+  unfolding claimsOfProcedure procedureConditions bodySites numbered AllHold Holds
+  body-holds g p d =
+      all-hold-append (numbered (p .line) 1 (procedureConditions S g p)) (claims S (bodySites S g p))
+      (d .result, (covers-none (d .after), tt)) (derived-holds (d .derives))
+
+  bodies-hold : {f : ℕ} {ps : List Procedure} → BodiesDerive S f ps → AllHold (claimsOfProcedures S f ps)
+  unfolding claimsOfProcedures AllHold
+  bodies-hold noProcedures = tt
+  bodies-hold {f} (procedure {p = p} {ps = ps} d ds) =
+      all-hold-append (claimsOfProcedure S (signature S f) p) (claimsOfProcedures S (f + 1) ps) (body-holds (signature S f) p d) (bodies-hold ds)
 
   -- ------------------------------------------------------------------ the theorem, both ways
 
-  pub conditions-derive : {t : Unit {0}} (Γ : Env) (pre : Map) (e : Expr) → firstFalse (claims S (sites S Γ pre e)) ≡ on t
-      → Derives S Γ pre e
-  conditions-derive Γ pre e h = holding-derives Γ pre e (none-false-all-hold _ h)
+  pub conditions-derive : {t : Unit {0}} (P : Program) → firstFalse (claimsOf S P) ≡ on t
+      → BodiesDerive S 0 (P .procedures) × Derives S [] (startMap S) (P .root)
+  unfolding claimsOf
+  conditions-derive P h =
+      let (bodies, root) = all-hold-parts (claimsOfProcedures S 0 (P .procedures)) _ (none-false-all-hold _ h) in
+      (holding-bodies 0 (P .procedures) bodies, holding-derives [] (startMap S) (P .root) root)
 
-  pub derivation-meets-conditions : (Γ : Env) (pre : Map) (e : Expr) → Derives S Γ pre e
-      → firstFalse (claims S (sites S Γ pre e)) ≡ on tt
-  derivation-meets-conditions Γ pre e d = all-hold-none-false _ (derived-holds d)
+  pub derivation-meets-conditions : (P : Program) → BodiesDerive S 0 (P .procedures) → Derives S [] (startMap S) (P .root)
+      → firstFalse (claimsOf S P) ≡ on tt
+  unfolding claimsOf
+  derivation-meets-conditions P bodies root =
+      all-hold-none-false _ (all-hold-append (claimsOfProcedures S 0 (P .procedures)) _ (bodies-hold bodies) (derived-holds root))

@@ -1,20 +1,20 @@
--- A refusal 31 to 33 names the first condition, by step line and then by number, that is false; and each such pair gets one.
+-- A refusal 31 to 33 names the first condition, by line and then by number, that is false; and each such pair gets one.
 use mathlib.Core.Path.{_≡_, refl, ap}
-use mathlib.Core.List.{List, []}
+use mathlib.Core.List.{List}
 use mathlib.Core.Bool.{true}
 use Prim.Native.Nat.{ℕ, _≤_}
 use native.Mathlib.Omega.{arith}
 use Rattle.spec.specs.Reading.{Out, stop, on}
-use Rattle.spec.specs.Conditions.{Condition, startMap}
-use Rattle.spec.specs.Sites.{sites, claims}
+use Rattle.spec.specs.Conditions.{Condition}
+use Rattle.spec.specs.Sites.{claimsOf}
 use Rattle.spec.specs.Workspace.{workspaceSize}
 use Rattle.spec.specs.Verdict.{ruled, checked, answer, verdict, four, returned, onConditions}
-use Rattle.spec.specs.WellFormed.{firstStepLine}
+use Rattle.spec.specs.WellFormed.{firstItemLine}
 use Rattle.spec.specs.FirstFalse.{Names, type, flow, access, Refuted}
 use Rattle.spec.specs.declared.Answer.the-variants.{Refuse}
 use Rattle.spec.specs.declared.Refusal.{Refusal}
 use Rattle.spec.proofs.Claims.{stopped-first-false, first-false-stopped}
-use Rattle.spec.proofs.StepLines.{steps-rise}
+use Rattle.spec.proofs.StepLines.{items-rise}
 use Rattle.spec.proofs.Order.{claims-in-order}
 use Rattle.spec.proofs.Reached.{reached, reached-checked}
 
@@ -34,8 +34,8 @@ refusal-names-first-false room p s r h late =
       sheets = c .sheets;
       locks = c .locks;
       atMostOne = c .atMostOne;
-      inOrder = claims-in-order (c .S) [] (startMap (c .S)) (c .P .root) firstStepLine (rw (c .sheets .program .listing) (steps-rise firstStepLine _ (c .sheets .program .stepped)));
-      first = stopped-first-false (claims (c .S) (sites (c .S) [] (startMap (c .S)) (c .P .root))) (c .outcome);
+      inOrder = claims-in-order (c .S) (c .P) firstItemLine (items-rise _ firstItemLine _ (c .sheets .program .listed));
+      first = stopped-first-false (claimsOf (c .S) (c .P)) (c .outcome);
     }
 
 pub first-false-is-refused : (room : ℕ) (p s : List ℕ) (r : Refusal) → workspaceSize ≤ room → Refuted p s r → verdict room p s ≡ Refuse r

@@ -12,9 +12,11 @@ use borrow.Author.Tests.{leb-true, le-leb}
 use Rattle.spec.specs.Choice.{if_then_else_}
 use Rattle.spec.specs.Text.{bytes, same, Line, closed, unclosed, lines, Field, fields, lookUp}
 use Rattle.spec.specs.Reading.{Out, stop, on, _>>=_, demand, Seen, right, wrong, badForm, programSheet, Place, passed, nextLine, readLine, readLines, begin, noneLeft, end}
-use Rattle.spec.specs.Words.{leafWords, cellWords, lockWords, unaryWords, words}
-use Rattle.spec.specs.Expression.{Step, listed, single, scope}
-use Rattle.spec.specs.Program.{programLimit, countLine, wordLine, stepLine, stepLines, Program, program}
+use Rattle.spec.specs.Words.{leafWords, cellWords, lockWords, unaryWords, words, wordsUnder}
+use Rattle.spec.specs.Expression.{Item, stepsAmong, structure, scopes}
+use Rattle.spec.specs.Program.{programLimit, Counts, programHeadings, countLine, wordLine, procLine, itemLine, itemLines, Program, program}
+use Rattle.spec.specs.declared.ProgramHeading.{ProgramHeading}
+use Rattle.spec.specs.declared.ProgramHeading.the-variants as heading
 use Rattle.spec.specs.Split.{Split, split, splitLimit}
 use Rattle.spec.specs.Workspace.{workspaceSize}
 use Rattle.spec.specs.Verdict.{sheets, locksTakeEnough, startAtMostOne, ruled, checked, answer, verdict, four, returned}
@@ -25,37 +27,39 @@ use Rattle.spec.specs.declared.Purpose.the-variants.{Check}
 use Rattle.spec.specs.declared.Refusal.the-variants.{ShortWorkspace, LongProgram, LongSplit}
 use Rattle.spec.proofs.Clashes.{true-is-not-false}
 use Rattle.spec.proofs.Tests.{same-equal}
+use Rattle.spec.proofs.ProgramStages.{afterItems, afterCount}
 use Rattle.spec.proofs.Texts.{OneLine, _above_, joined, Lined, no-line, closed-line, last-line, text-lined, lines-joined, joined-lines, onClosed, field-byte}
 
 -- ------------------------------------------------------------------ the reading before
 
 -- `freelock,v` had the conditions of `lock,v`; other lines are read as they are now
-unfoldable pub stepLineFormerly : (line : ℕ) → List Field → Seen Step
-stepLineFormerly k [] = wrong badForm
-stepLineFormerly k (f ∷ fs) =
+unfoldable pub itemLineFormerly : ProgramHeading → (line : ℕ) → List Field → Seen Item
+itemLineFormerly h k [] = wrong badForm
+itemLineFormerly h k (f ∷ fs) =
     if same f (bytes "freelock") then wordLine k (some (Unary Lock)) fs
-    else wordLine k (lookUp words f) fs
+    else if same f (bytes "proc") then procLine h k fs
+    else wordLine k (lookUp (wordsUnder h) f) fs
 
-unfoldable pub stepLinesFormerly : (line n : ℕ) → List (List Field → Seen Step)
-stepLinesFormerly k zero = []
-stepLinesFormerly k (suc n) = stepLineFormerly k ∷ stepLinesFormerly (k + 1) n
+unfoldable pub itemLinesFormerly : ProgramHeading → (line n : ℕ) → List (List Field → Seen Item)
+itemLinesFormerly h k zero = []
+itemLinesFormerly h k (suc n) = itemLineFormerly h k ∷ itemLinesFormerly h (k + 1) n
 
 unfoldable pub programFormerly : List ℕ → Out Program
 programFormerly text = do
   top ← begin programSheet (lines text)
-  (n, first) ← readLine programSheet countLine top
-  (steps, last) ← readLines programSheet (stepLinesFormerly (first .last + 1) n) first
+  (N, first) ← readLine programSheet countLine top
+  (items, last) ← readLines programSheet (itemLinesFormerly (N .heading) (first .last + 1) (N .steps + N .procedures)) first
   done ← end programSheet last
-  e ← single (last .last) steps (listed 0 steps)
-  bound ← scope e [] []
-  on (record { steps = steps; root = e })
+  (ps, e) ← structure (last .last) (N .procedures) 0 items
+  bound ← scopes (N .procedures) ps e []
+  on (record { steps = stepsAmong items; procedures = ps; root = e })
 
 unfoldable pub sheetsFormerly : (programText splitText : List ℕ) → Out (Program × Split)
 sheetsFormerly programText splitText = do
   fits ← demand (leb (length programText) programLimit) LongProgram
   P ← programFormerly programText
   fits′ ← demand (leb (length splitText) splitLimit) LongSplit
-  S ← split Check (P .steps) splitText
+  S ← split Check P splitText
   on (P, S)
 
 unfoldable pub checkedFormerly : (room : ℕ) → (programText splitText : List ℕ) → Out (Unit {0})
@@ -113,20 +117,21 @@ changed-alike read read′ empty gone other l = by-fields (fields l) refl
     by-fields [] e = empty ∙ sym (ap read′ e)
     by-fields (f ∷ fs) e = by-word f fs e (same f (bytes "freelock")) refl
 
-step-alike : (k : ℕ) (l : List ℕ) → stepLineFormerly k (fields l) ≡ stepLine k (fields (lockInstead l))
-step-alike k = changed-alike (stepLineFormerly k) (stepLine k) no-fields changed other
+item-alike : (h : ProgramHeading) (k : ℕ) (l : List ℕ) → itemLineFormerly h k (fields l) ≡ itemLine h k (fields (lockInstead l))
+item-alike h k = changed-alike (itemLineFormerly h k) (itemLine h k) no-fields (changed h) other
   where
-    no-fields : stepLineFormerly k [] ≡ stepLine k []
-    no-fields = unfold stepLineFormerly stepLine in refl
+    no-fields : itemLineFormerly h k [] ≡ itemLine h k []
+    no-fields = unfold itemLineFormerly itemLine in refl
 
-    changed : (fs : List Field) → stepLineFormerly k (bytes "freelock" ∷ fs) ≡ stepLine k (bytes "lock" ∷ fs)
-    changed fs = unfold stepLineFormerly stepLine lookUp words leafWords unaryWords cellWords lockWords same bytes in refl
+    changed : (h : ProgramHeading) (fs : List Field) → itemLineFormerly h k (bytes "freelock" ∷ fs) ≡ itemLine h k (bytes "lock" ∷ fs)
+    changed heading.P fs = unfold itemLineFormerly itemLine lookUp wordsUnder words leafWords unaryWords cellWords lockWords same bytes in refl
+    changed heading.P2 fs = unfold itemLineFormerly itemLine lookUp wordsUnder words leafWords unaryWords cellWords lockWords same bytes in refl
 
-    other : (f : Field) (fs : List Field) → same f (bytes "freelock") ≡ false → stepLineFormerly k (f ∷ fs) ≡ stepLine k (f ∷ fs)
-    other f fs w = unfold stepLineFormerly stepLine in rw w
+    other : (f : Field) (fs : List Field) → same f (bytes "freelock") ≡ false → itemLineFormerly h k (f ∷ fs) ≡ itemLine h k (f ∷ fs)
+    other f fs w = unfold itemLineFormerly itemLine in rw w
 
 count-alike : (l : List ℕ) → countLine (fields l) ≡ countLine (fields (lockInstead l))
-count-alike = changed-alike countLine countLine refl (λ fs. unfold countLine same bytes in refl) (λ f fs w. refl)
+count-alike = changed-alike countLine countLine refl (λ fs. unfold countLine lookUp programHeadings same bytes in refl) (λ f fs w. refl)
 
 -- ------------------------------------------------------------------ lines in turn
 
@@ -169,13 +174,14 @@ module _ {A : Type 0} where
         behind (stop r) = refl
         behind (on (as′, q)) = refl
 
-steps-moved : (k n : ℕ) (p : Place) → readLines programSheet (stepLines k n) (changedPlace p) ≡ (readLines programSheet (stepLinesFormerly k n) p >>= moved)
-unfolding readLines stepLines stepLinesFormerly
-steps-moved k zero p = unfold _>>=_ moved in refl
-steps-moved k (suc n) p =
-    rw (next-moved (stepLineFormerly k) (stepLine k) (step-alike k) p)
-    (then-moved (stepLineFormerly k) (stepLine k) (step-alike k) (readLine programSheet (stepLineFormerly k) p)
-    (readLines programSheet (stepLinesFormerly (k + 1) n)) (readLines programSheet (stepLines (k + 1) n)) (steps-moved (k + 1) n))
+items-moved : (h : ProgramHeading) (k n : ℕ) (p : Place)
+    → readLines programSheet (itemLines h k n) (changedPlace p) ≡ (readLines programSheet (itemLinesFormerly h k n) p >>= moved)
+unfolding readLines itemLines itemLinesFormerly
+items-moved h k zero p = unfold _>>=_ moved in refl
+items-moved h k (suc n) p =
+    rw (next-moved (itemLineFormerly h k) (itemLine h k) (item-alike h k) p)
+    (then-moved (itemLineFormerly h k) (itemLine h k) (item-alike h k) (readLine programSheet (itemLineFormerly h k) p)
+    (readLines programSheet (itemLinesFormerly h (k + 1) n)) (readLines programSheet (itemLines h (k + 1) n)) (items-moved h (k + 1) n))
 
 end-moved : (p : Place) → end programSheet (changedPlace p) ≡ end programSheet p
 unfolding end changedPlace
@@ -187,30 +193,20 @@ end-moved p = by-lines (p .rest)
 
 -- ------------------------------------------------------------------ the sheet
 
--- behind the steps, and behind the header
-unfoldable afterSteps : List Step × Place → Out Program
-afterSteps (steps, last) = do
-  done ← end programSheet last
-  e ← single (last .last) steps (listed 0 steps)
-  bound ← scope e [] []
-  on (record { steps = steps; root = e })
+tree-moved : (k : ℕ) (o : Out (List Item × Place)) → (o >>= moved >>= afterItems k) ≡ (o >>= afterItems k)
+unfolding _>>=_ moved afterItems
+tree-moved k (stop r) = refl
+tree-moved k (on (items, p)) = rw (end-moved p) (unfold changedPlace in refl)
 
-unfoldable afterCount : ((line n : ℕ) → List (List Field → Seen Step)) → ℕ × Place → Out Program
-afterCount reads (n, first) = readLines programSheet (reads (first .last + 1) n) first >>= afterSteps
-
-tree-moved : (o : Out (List Step × Place)) → (o >>= moved >>= afterSteps) ≡ (o >>= afterSteps)
-unfolding _>>=_ moved afterSteps
-tree-moved (stop r) = refl
-tree-moved (on (steps, p)) = rw (end-moved p) (unfold changedPlace in refl)
-
-count-moved : (o : Out (ℕ × Place)) → (o >>= moved >>= afterCount stepLines) ≡ (o >>= afterCount stepLinesFormerly)
+count-moved : (o : Out (Counts × Place)) → (o >>= moved >>= afterCount itemLines) ≡ (o >>= afterCount itemLinesFormerly)
 unfolding _>>=_ moved afterCount
 count-moved (stop r) = refl
-count-moved (on (n, p)) = unfold changedPlace in
-    ap (_>>= afterSteps) (steps-moved (p .last + 1) n p) ∙ tree-moved (readLines programSheet (stepLinesFormerly (p .last + 1) n) p)
+count-moved (on (N, p)) = unfold changedPlace in
+    ap (_>>= afterItems (N .procedures)) (items-moved (N .heading) (p .last + 1) (N .steps + N .procedures) p)
+    ∙ tree-moved (N .procedures) (readLines programSheet (itemLinesFormerly (N .heading) (p .last + 1) (N .steps + N .procedures)) p)
 
 program-alike : (p p′ : List ℕ) → lines p′ ≡ map (onClosed lockInstead) (lines p) → program p′ ≡ programFormerly p
-unfolding program programFormerly afterCount afterSteps
+unfolding program programFormerly afterCount afterItems
 program-alike p p′ e = by-lines (lines p) refl
   where
     by-lines : (ls : List Line) → lines p ≡ ls → program p′ ≡ programFormerly p
@@ -218,10 +214,10 @@ program-alike p p′ e = by-lines (lines p) refl
     by-lines (l ∷ ls) h = rw (e, h) (begun l ls)
       where
         begun : (l : Line) (ls : List Line)
-            → (begin programSheet (map (onClosed lockInstead) (l ∷ ls)) >>= λ top. readLine programSheet countLine top >>= afterCount stepLines)
-            ≡ (begin programSheet (l ∷ ls) >>= λ top. readLine programSheet countLine top >>= afterCount stepLinesFormerly)
+            → (begin programSheet (map (onClosed lockInstead) (l ∷ ls)) >>= λ top. readLine programSheet countLine top >>= afterCount itemLines)
+            ≡ (begin programSheet (l ∷ ls) >>= λ top. readLine programSheet countLine top >>= afterCount itemLinesFormerly)
         begun l ls = unfold begin _>>=_ changedPlace in
-            ap (_>>= afterCount stepLines) (next-moved countLine countLine count-alike (record { last = 0; rest = l ∷ ls }))
+            ap (_>>= afterCount itemLines) (next-moved countLine countLine count-alike (record { last = 0; rest = l ∷ ls }))
             ∙ count-moved (readLine programSheet countLine (record { last = 0; rest = l ∷ ls }))
 
 -- ------------------------------------------------------------------ the text

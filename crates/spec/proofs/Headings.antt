@@ -5,17 +5,18 @@ use mathlib.Core.Path.{subst as along}
 use mathlib.Core.List.{List, [], _∷_, _++_, map}
 use mathlib.Core.Bool.{Bool, true, false}
 use mathlib.Core.Option.{Option, none, some}
-use Prim.Native.Nat.{ℕ, zero, suc, _≤_, _<_, _+_}
+use Prim.Native.Nat.{ℕ, zero, suc, _≤_, _+_}
 use native.Mathlib.Omega.{arith}
 use lib.Dec.{leb}
 use lib.ListN.{length, replicate, length-append}
 use borrow.Author.Tests.{lt-ltb, le-leb, ne-eqb}
 use Rattle.spec.specs.Choice.{if_then_else_}
-use Rattle.spec.specs.Text.{bytes, same, Line, closed, unclosed, lines, Field, onField, fields, lookUp, digitLimit, digits, leadingZero, value, numeral}
-use Rattle.spec.specs.Reading.{splitSheet, Out, stop, on, _>>=_, demand, noStart, Seen, right, wrong, badRange, seen, insist, inRange, allInRange, withNumeral, numerals, ranged, numbers, faulty, passed, nextLine, readLine, readLines, begin, end, Place}
+use Rattle.spec.specs.Text.{bytes, same, Line, closed, unclosed, lines, Field, onField, fields, lookUp}
+use Rattle.spec.specs.Reading.{splitSheet, Out, stop, on, _>>=_, demand, noStart, Seen, right, wrong, badRange, seen, insist, inRange, allInRange, numerals, ranged, numbers, faulty, passed, nextLine, readLine, readLines, begin, end, Place}
 use Rattle.spec.specs.Expression.{Step}
+use Rattle.spec.specs.Words.{keepsBack}
 use Rattle.spec.specs.Program.{Program, programLimit, program}
-use Rattle.spec.specs.Split.{Map, Header, headings, headerRanges, mapsOf, mapsIn, startOf, headerOf, headed, headerLine, lockOf, outRange, typeLine, typeLines, mapLine, Row, startRange, mayBeEmpty, postRange, rowLine, Split, splitLimit, split}
+use Rattle.spec.specs.Split.{Map, Header, headings, headerRanges, mapsOf, mapsIn, startOf, headerOf, headed, headerLine, lockOf, outRange, typeLine, typeLines, mapLine, Signature, signatureLine, Row, startRange, mayBeEmpty, emptyFault, postRange, rowLine, Split, splitLimit, split}
 use Rattle.spec.specs.Workspace.{workspaceSize}
 use Rattle.spec.specs.Verdict.{checked, answer, verdict}
 use Rattle.spec.specs.declared.Heading.the-variants.{C, C2}
@@ -26,6 +27,8 @@ use Rattle.spec.proofs.Texts.{OneLine, _above_, above-lines, fields-app
 use Rattle.spec.proofs.Sheets.{sheets-then}
 use Rattle.spec.proofs.NoHeading.{headedAs, under, ruling, same-ruling}
 use Rattle.spec.proofs.Ranges.{seen-right}
+use Rattle.spec.proofs.Starts.{never-empty}
+use Rattle.spec.proofs.ZeroField.{withZero, numerals-zero, one-line-append, not-ten}
 use Rattle.spec.specs.declared.Purpose.the-variants.{Check}
 
 -- ------------------------------------------------------------------ the numbers of the header
@@ -35,26 +38,6 @@ pub first-map-fits : (d l t m : ℕ) → allInRange (headerRanges C m) (d ∷ l 
 unfolding headerRanges allInRange inRange
 first-map-fits d l t zero = refl
 first-map-fits d l t (suc m) = simp (lt-ltb 0 (suc m) (omega arith))
-
--- one field more, a `0`
-unfoldable withZero : Option (List ℕ) → Option (List ℕ)
-withZero none = none
-withZero (some ns) = some (ns ++ 0 ∷ [])
-
-zero-behind : (n : Option ℕ) (o : Option (List ℕ)) → withNumeral n (withZero o) ≡ withZero (withNumeral n o)
-unfolding withNumeral withZero
-zero-behind none o = refl
-zero-behind (some n) none = refl
-zero-behind (some n) (some ns) = refl
-
-zero-numeral : numeral (48 ∷ []) ≡ some 0
-unfolding numeral digitLimit digits leadingZero value
-zero-numeral = refl
-
-numerals-zero : (fs : List Field) → numerals (fs ++ (48 ∷ []) ∷ []) ≡ withZero (numerals fs)
-unfolding numerals
-numerals-zero [] = unfold withNumeral withZero in rw zero-numeral
-numerals-zero (f ∷ fs) = ap (withNumeral (numeral f)) (numerals-zero fs) ∙ zero-behind (numeral f) (numerals fs)
 
 -- four numerals are judged as those four and a 0; more or fewer are of the wrong form on both sheets
 judged : (o : Option (List ℕ))
@@ -90,10 +73,6 @@ unfolding headerLine headings lookUp same bytes headed headerOf
 header-plain fs H h = let (ns, _, e) = seen-right _ h in sym (ap (λ (x : Header). x .heading) e)
 
 -- ------------------------------------------------------------------ line 1
-
-one-line-append : (l k : List ℕ) → OneLine l → OneLine k → OneLine (l ++ k)
-one-line-append [] k h h′ = h′
-one-line-append (b ∷ l) k h h′ = (h .0, one-line-append l k (h .1) h′)
 
 module _ (a : List ℕ) where
   abbrev pub unnamed : List ℕ
@@ -135,12 +114,23 @@ module _ (H : Header) where
   empty-alike true (right a) = same-row refl
   empty-alike false (right a) = turned-away refl
 
+  -- the s of a call is empty under no heading
+  left-alike : (s : Step) (x : Seen Row)
+      → Alike (insist (mayBeEmpty C2 (s .word)) (emptyFault (s .word)) x) (insist (mayBeEmpty (H .heading) (s .word)) (emptyFault (s .word)) x)
+  unfolding mayBeEmpty emptyFault
+  left-alike s x = by-word (keepsBack (s .word)) refl
+    where
+      by-word : (b : Bool) → keepsBack (s .word) ≡ b
+          → Alike (insist (mayBeEmpty C2 (s .word)) (emptyFault (s .word)) x) (insist (mayBeEmpty (H .heading) (s .word)) (emptyFault (s .word)) x)
+      by-word true e = same-row (rw (never-empty (H .heading) (s .word) e, e))
+      by-word false e = rw e (empty-alike (mayBeEmpty (H .heading) (s .word)) x)
+
   row-alike : (s : Step) (fs : List Field) → Alike (rowLine Check (headedAs C2 H) s fs) (rowLine Check H s fs)
-  unfolding rowLine postRange startRange mayBeEmpty headedAs
+  unfolding rowLine postRange startRange headedAs
   row-alike s [] = same-row refl
   row-alike s (t ∷ []) = same-row refl
   row-alike s (t ∷ m ∷ []) = same-row refl
-  row-alike s (t ∷ m ∷ [] ∷ []) = empty-alike (mayBeEmpty (H .heading) (s .word)) _
+  row-alike s (t ∷ m ∷ [] ∷ []) = left-alike s _
   row-alike s (t ∷ m ∷ (b ∷ f) ∷ []) = same-row refl
   row-alike s (t ∷ m ∷ f ∷ g ∷ fs) = same-row refl
 
@@ -195,14 +185,17 @@ module _ (H : Header) where
 -- ------------------------------------------------------------------ the sheet, from the header on
 
 -- from the header on, stage by stage
-module _ (H : Header) (steps : List Step) where
-  unfoldable afterRows : List TypeLine → List Map → List Row × Place → Out Split
-  afterRows types maps (rows, p) = do
+module _ (P : Program) (H : Header) where
+  unfoldable afterRows : List TypeLine → List Map → List Signature → List Row × Place → Out Split
+  afterRows types maps signatures (rows, p) = do
     done ← end splitSheet p
-    on (record { header = H; types = types; maps = maps; rows = rows })
+    on (record { header = H; types = types; maps = maps; signatures = signatures; rows = rows })
+
+  unfoldable afterSignatures : List TypeLine → List Map → List Signature × Place → Out Split
+  afterSignatures types maps (signatures, p) = readLines splitSheet (map (rowLine Check H) (P .steps)) p >>= afterRows types maps signatures
 
   unfoldable afterMaps : List TypeLine → List Map × Place → Out Split
-  afterMaps types (maps, p) = readLines splitSheet (map (rowLine Check H) steps) p >>= afterRows types maps
+  afterMaps types (maps, p) = readLines splitSheet (replicate (length (P .procedures)) (signatureLine H)) p >>= afterSignatures types maps
 
   unfoldable afterTypes : List TypeLine × Place → Out Split
   afterTypes (types, p) = readLines splitSheet (replicate (H .maps) (mapLine H)) p >>= afterMaps types
@@ -210,75 +203,80 @@ module _ (H : Header) (steps : List Step) where
   unfoldable afterHeader : Place → Out Split
   afterHeader p = readLines splitSheet (typeLines H 0 (H .types)) p >>= afterTypes
 
-module _ (P : Program) (H : Header) (plain : H .heading ≡ C) (steps : List Step) where
-  rows-same : (types : List TypeLine) (maps : List Map) (x : List Row × Place)
-      → Started (afterRows H steps types maps x >>= ruling P)
-      → (afterRows (headedAs C2 H) steps types maps x >>= ruling P) ≡ (afterRows H steps types maps x >>= ruling P)
+module _ (P : Program) (H : Header) (plain : H .heading ≡ C) where
+  rows-same : (types : List TypeLine) (maps : List Map) (signatures : List Signature) (x : List Row × Place)
+      → Started (afterRows P H types maps signatures x >>= ruling P)
+      → (afterRows P (headedAs C2 H) types maps signatures x >>= ruling P) ≡ (afterRows P H types maps signatures x >>= ruling P)
   unfolding afterRows under _>>=_
-  rows-same types maps (rows, p) =
-      same-on (end splitSheet p) _ _ (ruling P) (ruling P) (λ done started. same-ruling C2 (record { header = H; types = types; maps = maps; rows = rows }) P)
+  rows-same types maps signatures (rows, p) =
+      same-on (end splitSheet p) _ _ (ruling P) (ruling P)
+      (λ done started. same-ruling C2 (record { header = H; types = types; maps = maps; signatures = signatures; rows = rows }) P)
+
+  signatures-same : (types : List TypeLine) (maps : List Map) (x : List Signature × Place)
+      → Started (afterSignatures P H types maps x >>= ruling P)
+      → (afterSignatures P (headedAs C2 H) types maps x >>= ruling P) ≡ (afterSignatures P H types maps x >>= ruling P)
+  unfolding afterSignatures
+  signatures-same types maps (signatures, p) started =
+      ap (λ (o : Out (List Row × Place)). o >>= afterRows P (headedAs C2 H) types maps signatures >>= ruling P)
+      (rows-alike H (P .steps) p (first-started _ _ (first-started _ (ruling P) started)))
+      ∙ same-on (readLines splitSheet (map (rowLine Check H) (P .steps)) p) _ _ (ruling P) (ruling P) (rows-same types maps signatures) started
 
   maps-same : (types : List TypeLine) (x : List Map × Place)
-      → Started (afterMaps H steps types x >>= ruling P)
-      → (afterMaps (headedAs C2 H) steps types x >>= ruling P) ≡ (afterMaps H steps types x >>= ruling P)
-  unfolding afterMaps
-  maps-same types (maps, p) started =
-      ap (λ (o : Out (List Row × Place)). o >>= afterRows (headedAs C2 H) steps types maps >>= ruling P)
-      (rows-alike H steps p (first-started _ _ (first-started _ (ruling P) started)))
-      ∙ same-on (readLines splitSheet (map (rowLine Check H) steps) p) _ _ (ruling P) (ruling P) (rows-same types maps) started
+      → Started (afterMaps P H types x >>= ruling P)
+      → (afterMaps P (headedAs C2 H) types x >>= ruling P) ≡ (afterMaps P H types x >>= ruling P)
+  unfolding afterMaps signatureLine headedAs
+  maps-same types (maps, p) =
+      same-on (readLines splitSheet (replicate (length (P .procedures)) (signatureLine H)) p) _ _ (ruling P) (ruling P) (signatures-same types maps)
 
-  types-same : (x : List TypeLine × Place) → Started (afterTypes H steps x >>= ruling P)
-      → (afterTypes (headedAs C2 H) steps x >>= ruling P) ≡ (afterTypes H steps x >>= ruling P)
+  types-same : (x : List TypeLine × Place) → Started (afterTypes P H x >>= ruling P)
+      → (afterTypes P (headedAs C2 H) x >>= ruling P) ≡ (afterTypes P H x >>= ruling P)
   unfolding afterTypes mapLine headedAs
   types-same (types, p) =
       same-on (readLines splitSheet (replicate (H .maps) (mapLine H)) p) _ _ (ruling P) (ruling P) (maps-same types)
 
-  header-same : (p : Place) → Started (afterHeader H steps p >>= ruling P)
-      → (afterHeader (headedAs C2 H) steps p >>= ruling P) ≡ (afterHeader H steps p >>= ruling P)
+  header-same : (p : Place) → Started (afterHeader P H p >>= ruling P)
+      → (afterHeader P (headedAs C2 H) p >>= ruling P) ≡ (afterHeader P H p >>= ruling P)
   unfolding afterHeader headedAs
   header-same p started =
-      ap (λ (rs : List (List Field → Seen TypeLine)). readLines splitSheet rs p >>= afterTypes (headedAs C2 H) steps >>= ruling P) (same-types H plain 0 (H .types))
+      ap (λ (rs : List (List Field → Seen TypeLine)). readLines splitSheet rs p >>= afterTypes P (headedAs C2 H) >>= ruling P) (same-types H plain 0 (H .types))
       ∙ same-on (readLines splitSheet (typeLines H 0 (H .types)) p) _ _ (ruling P) (ruling P) types-same started
 
 -- ------------------------------------------------------------------ the sheet
 
-unfoldable behind : List Step → Header × Place → Out Split
-behind steps (H, p) = afterHeader H steps p
+unfoldable behind : Program → Header × Place → Out Split
+behind P (H, p) = afterHeader P H p
 
-by-lines : (steps : List Step) (l t : List ℕ) → OneLine l
-    → split Check steps (l above t) ≡ (passed splitSheet 1 (lines t) (headerLine Check (fields l)) >>= behind steps)
-unfolding split begin readLine nextLine _>>=_ behind afterHeader afterTypes afterMaps afterRows
-by-lines steps l t one = rw (above-lines l t one)
+by-lines : (P : Program) (l t : List ℕ) → OneLine l
+    → split Check P (l above t) ≡ (passed splitSheet 1 (lines t) (headerLine Check (fields l)) >>= behind P)
+unfolding split begin readLine nextLine _>>=_ behind afterHeader afterTypes afterMaps afterSignatures afterRows
+by-lines P l t one = rw (above-lines l t one)
 
-module _ (P : Program) (steps : List Step) (r : List Line) where
-  passed-same : (s : Seen Header) → ((H : Header) → s ≡ right H → H .heading ≡ C) → Started (passed splitSheet 1 r s >>= behind steps >>= ruling P)
-      → (passed splitSheet 1 r (seen (headedAs C2) s) >>= behind steps >>= ruling P) ≡ (passed splitSheet 1 r s >>= behind steps >>= ruling P)
+module _ (P : Program) (r : List Line) where
+  passed-same : (s : Seen Header) → ((H : Header) → s ≡ right H → H .heading ≡ C) → Started (passed splitSheet 1 r s >>= behind P >>= ruling P)
+      → (passed splitSheet 1 r (seen (headedAs C2) s) >>= behind P >>= ruling P) ≡ (passed splitSheet 1 r s >>= behind P >>= ruling P)
   unfolding seen passed _>>=_ behind
-  passed-same (right H) plain started = header-same P H (plain H refl) steps (record { last = 1; rest = r }) started
+  passed-same (right H) plain started = header-same P H (plain H refl) (record { last = 1; rest = r }) started
   passed-same (wrong w) plain started = refl
 
 module _ (a t : List ℕ) (one : OneLine a) where
-  another : (b : ℕ) → 10 < b → b ≡ 10 → ⊥
-  another b h e = omega (arith, h, e)
-
   unnamed-line : OneLine (unnamed a)
   unfolding bytes
-  unnamed-line = (another 67 (omega arith), (another 44 (omega arith), one))
+  unnamed-line = (not-ten 67 (omega arith), (not-ten 44 (omega arith), one))
 
   named-line : OneLine (named a)
   unfolding bytes
   named-line =
-      let zero-named = one-line-append a (44 ∷ 48 ∷ []) one (another 44 (omega arith), (another 48 (omega arith), tt)) in
-      (another 67 (omega arith), (another 50 (omega arith), (another 44 (omega arith), zero-named)))
+      let zero-named = one-line-append a (44 ∷ 48 ∷ []) one (not-ten 44 (omega arith), (not-ten 48 (omega arith), tt)) in
+      (not-ten 67 (omega arith), (not-ten 50 (omega arith), (not-ten 44 (omega arith), zero-named)))
 
-  sheet-same : (P : Program) → Started (split Check (P .steps) (unnamed a above t) >>= ruling P)
-      → (split Check (P .steps) (named a above t) >>= ruling P) ≡ (split Check (P .steps) (unnamed a above t) >>= ruling P)
+  sheet-same : (P : Program) → Started (split Check P (unnamed a above t) >>= ruling P)
+      → (split Check P (named a above t) >>= ruling P) ≡ (split Check P (unnamed a above t) >>= ruling P)
   sheet-same P started =
-      ap (λ (o : Out Split). o >>= ruling P) (by-lines (P .steps) (named a) t named-line)
-      ∙ ap (λ (s : Seen Header). passed splitSheet 1 (lines t) s >>= behind (P .steps) >>= ruling P) (line-named a)
-      ∙ passed-same P (P .steps) (lines t) (headerLine Check (fields (unnamed a))) (line-plain a)
-      (along Started (ap (λ (o : Out Split). o >>= ruling P) (by-lines (P .steps) (unnamed a) t unnamed-line)) started)
-      ∙ sym (ap (λ (o : Out Split). o >>= ruling P) (by-lines (P .steps) (unnamed a) t unnamed-line))
+      ap (λ (o : Out Split). o >>= ruling P) (by-lines P (named a) t named-line)
+      ∙ ap (λ (s : Seen Header). passed splitSheet 1 (lines t) s >>= behind P >>= ruling P) (line-named a)
+      ∙ passed-same P (lines t) (headerLine Check (fields (unnamed a))) (line-plain a)
+      (along Started (ap (λ (o : Out Split). o >>= ruling P) (by-lines P (unnamed a) t unnamed-line)) started)
+      ∙ sym (ap (λ (o : Out Split). o >>= ruling P) (by-lines P (unnamed a) t unnamed-line))
 
   module _ (fits : length (named a above t) ≤ splitLimit) where
     shorter : length (unnamed a above t) ≤ splitLimit
@@ -287,9 +285,9 @@ module _ (a t : List ℕ) (one : OneLine a) where
         omega (arith, fits, length-append a (10 ∷ t), length-append (a ++ 44 ∷ 48 ∷ []) (10 ∷ t), length-append a (44 ∷ 48 ∷ []))
 
     answer-same : (P : Program)
-        → Started (demand (leb (length (unnamed a above t)) splitLimit) LongSplit >>= λ fits. split Check (P .steps) (unnamed a above t) >>= ruling P)
-        → (demand (leb (length (named a above t)) splitLimit) LongSplit >>= λ fits. split Check (P .steps) (named a above t) >>= ruling P)
-        ≡ (demand (leb (length (unnamed a above t)) splitLimit) LongSplit >>= λ fits. split Check (P .steps) (unnamed a above t) >>= ruling P)
+        → Started (demand (leb (length (unnamed a above t)) splitLimit) LongSplit >>= λ fits. split Check P (unnamed a above t) >>= ruling P)
+        → (demand (leb (length (named a above t)) splitLimit) LongSplit >>= λ fits. split Check P (named a above t) >>= ruling P)
+        ≡ (demand (leb (length (unnamed a above t)) splitLimit) LongSplit >>= λ fits. split Check P (unnamed a above t) >>= ruling P)
     unfolding demand _>>=_
     answer-same P started = rw (le-leb _ _ fits, le-leb _ _ shorter) (sheet-same P (rw (le-leb _ _ shorter) at started))
 

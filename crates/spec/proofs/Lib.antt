@@ -34,3 +34,6 @@ pub mod NoHeading
 pub mod Headings
 pub mod LocksWritten
 pub mod FirstFalse
+pub mod ProgramHeadings
+pub mod ProgramStages
+pub mod ZeroField

@@ -1,16 +1,16 @@
--- The tree is the one expression that the step lines list in prefix order.
+-- The procedures and the root are the ones that the lines list, each expression in prefix order.
 use mathlib.Core.Path.{_≡_, refl, ap, sym, _∙_, subst}
-use mathlib.Core.List.{List, [], _∷_, _++_, append-assoc, append-nil}
-use Prim.Native.Nat.{ℕ, suc, _+_, _≤_}
+use mathlib.Core.List.{List, [], _∷_, _++_, map, append-assoc, append-nil}
+use Prim.Native.Nat.{ℕ, zero, suc, _+_, _≤_}
 use native.Mathlib.Omega.{arith}
-use lib.ListN.{length, drop, length-append, drop-of-length-le}
+use lib.ListN.{length, drop, length-append}
 use lib.Seq.{drop-append-seam}
 use Rattle.spec.specs.Reading.{on}
-use Rattle.spec.specs.Expression.{Step, Expr, leaf, unary, binary, size, withParts, listed, whole, single}
-use Rattle.spec.specs.WellFormed.{prefix, IndexesFrom}
+use Rattle.spec.specs.Expression.{Step, Expr, leaf, unary, binary, size, withParts, listed, Item, step, proc, stepsAmong, leading, firstListed, expression, noLineLeft, Procedure, structure}
+use Rattle.spec.specs.WellFormed.{prefix, IndexesFrom, itemsOf, listing, NumberedFrom}
 use Rattle.spec.specs.declared.Word.{Word}
 use Rattle.spec.specs.declared.Word.the-variants.{Leaf, Unary, Binary}
-use Rattle.spec.proofs.Outcomes.{stop-is-not-on, on-injective}
+use Rattle.spec.proofs.Outcomes.{stop-is-not-on, on-injective, bind-goes-on, goes-on-bind}
 
 -- ------------------------------------------------------------------ how many steps an expression has
 
@@ -45,13 +45,6 @@ listed-prefix i (binary w k v e₁ e₂) rest h =
       ← h .0,
     )
 
-pub expression-listed : (last : ℕ) (steps : List Step) (e : Expr) → prefix e ≡ steps → IndexesFrom 0 e → single last steps (listed 0 steps) ≡ on e
-unfolding single whole
-expression-listed last steps e h f =
-    let found : listed 0 steps ≡ e ∷ listed (0 + size e) [] = ap (listed 0) (sym h ∙ sym (append-nil (prefix e))) ∙ listed-prefix 0 e [] f in
-    let none-left : drop (size e) steps ≡ [] = drop-of-length-le steps {i = size e} (omega (arith, prefix-length e, ap length h)) in
-    rw (found, none-left)
-
 -- ------------------------------------------------------------------ from steps to an expression
 
 -- from index i on, the steps ss are those of the expressions listed, one after the other
@@ -83,26 +76,155 @@ unfolding listed
 lists i [] = unfinished
 lists i (s ∷ ss) = step-lists i (s .word) (s .value) (s .line) ss (listed (i + 1) ss) (lists (i + 1) ss)
 
--- an expression behind which nothing is left is all of the steps
-whole-listed : {e : Expr} (x : Expr) (rest : List Step) → whole x rest ≡ on e → (x ≡ e) × (rest ≡ [])
-unfolding whole
-whole-listed x [] h = (on-injective h, refl)
-whole-listed x (s ∷ rest) h = stop-is-not-on h
+-- ------------------------------------------------------------------ the steps among lines
 
-single-lists : {e : Expr} (i last : ℕ) (steps : List Step) (es : List Expr) → Lists i steps es → single last steps es ≡ on e
-    → (prefix e ≡ steps) × IndexesFrom i e
-unfolding single
-single-lists i last steps [] l h = stop-is-not-on h
-single-lists {e} i last steps (x ∷ es) (finished {rest = rest} q f l) h =
-    let behind : drop (size x) steps ≡ rest = rw (q, ← prefix-length x) (drop-append-seam (prefix x) rest) in
-    let (same, none-left) = whole-listed x rest (rw behind at h) in
-    let all : prefix x ≡ steps = sym (q ∙ ap (prefix x ++_) none-left ∙ append-nil (prefix x)) in
-    subst (λ x. (prefix x ≡ steps) × IndexesFrom i x) same (all, f)
+-- lines that are all steps, in front of others
+leading-steps : (ss : List Step) (rest : List Item) → leading (map step ss ++ rest) ≡ ss ++ leading rest
+unfolding leading
+leading-steps [] rest = refl
+leading-steps (s ∷ ss) rest = ap (s ∷_) (leading-steps ss rest)
 
-pub listed-expression : {e : Expr} (last : ℕ) (steps : List Step) → single last steps (listed 0 steps) ≡ on e → (prefix e ≡ steps) × IndexesFrom 0 e
-listed-expression last steps h = single-lists 0 last steps (listed 0 steps) (lists 0 steps) h
+pub steps-among : (ss : List Step) (rest : List Item) → stepsAmong (map step ss ++ rest) ≡ ss ++ stepsAmong rest
+unfolding stepsAmong
+steps-among [] rest = refl
+steps-among (s ∷ ss) rest = ap (s ∷_) (steps-among ss rest)
 
--- ------------------------------------------------------------------ it is the one
+mapped-length : (ss : List Step) → length (map step ss) ≡ length ss
+mapped-length [] = refl
+mapped-length (s ∷ ss) = ap suc (mapped-length ss)
 
-pub listing-unique : (e e′ : Expr) → prefix e ≡ prefix e′ → IndexesFrom 0 e → IndexesFrom 0 e′ → e ≡ e′
-listing-unique e e′ h f f′ = on-injective (sym (expression-listed 0 (prefix e′) e h f) ∙ expression-listed 0 (prefix e′) e′ refl f′)
+-- the lines begin with the steps that lead
+leading-front : (items : List Item) (ss rest : List Step) → leading items ≡ ss ++ rest → items ≡ map step ss ++ drop (length ss) items
+unfolding leading
+leading-front items [] rest h = refl
+leading-front [] (s ∷ ss) rest h = let clash : _≡_ {A = ℕ} 0 1 = cc in absurd (omega arith)
+leading-front (step x ∷ items) (s ∷ ss) rest h =
+    let same : x ≡ s = cc in
+    let behind : leading items ≡ ss ++ rest = cc in
+    ap (λ y. step y ∷ items) same ∙ ap (step s ∷_) (leading-front items ss rest behind)
+leading-front (proc x k ∷ items) (s ∷ ss) rest h = let clash : _≡_ {A = ℕ} 0 1 = cc in absurd (omega arith)
+
+-- ------------------------------------------------------------------ one expression among the lines
+
+pub expression-listed : (last i : ℕ) (e : Expr) (rest : List Item) → IndexesFrom i e → expression last i (itemsOf e ++ rest) ≡ on (e, rest)
+unfolding expression firstListed itemsOf
+expression-listed last i e rest f =
+    let found : listed i (leading (map step (prefix e) ++ rest)) ≡ e ∷ listed (i + size e) (leading rest) =
+    ap (listed i) (leading-steps (prefix e) rest) ∙ listed-prefix i e (leading rest) f in
+    let behind : drop (size e) (map step (prefix e) ++ rest) ≡ rest =
+    rw (← prefix-length e, ← mapped-length (prefix e)) (drop-append-seam (map step (prefix e)) rest) in
+    rw (found, behind)
+
+first-lists : {e : Expr} {rest : List Item} (last i : ℕ) (items : List Item) (es : List Expr) → Lists i (leading items) es
+    → firstListed last items es ≡ on (e, rest) → (items ≡ itemsOf e ++ rest) × IndexesFrom i e
+unfolding firstListed itemsOf
+first-lists last i items [] l h = stop-is-not-on h
+first-lists last i items (x ∷ es) (finished {rest = behind} q f l) h =
+    let front : items ≡ map step (prefix x) ++ drop (size x) items =
+    leading-front items (prefix x) behind q ∙ ap (λ n. map step (prefix x) ++ drop n items) (prefix-length x) in
+    subst (λ (r : Expr × List Item). (items ≡ map step (prefix (r .0)) ++ r .1) × IndexesFrom i (r .0)) (on-injective h) (front, f)
+
+pub listed-expression : {e : Expr} {rest : List Item} (last i : ℕ) (items : List Item) → expression last i items ≡ on (e, rest)
+    → (items ≡ itemsOf e ++ rest) × IndexesFrom i e
+unfolding expression
+listed-expression last i items h = first-lists last i items (listed i (leading items)) (lists i (leading items)) h
+
+-- ------------------------------------------------------------------ procedures and the root
+
+none-left : {t : Unit {0}} (items : List Item) → noLineLeft items ≡ on t → items ≡ []
+unfolding noLineLeft
+none-left [] h = refl
+none-left (x ∷ items) h = stop-is-not-on h
+
+-- what lines list: all of them, numbered in line order
+pub record Listed (k i : ℕ) (items : List Item) (ps : List Procedure) (root : Expr) : Type 0 where
+  pub all : items ≡ listing ps root
+  pub numbering : NumberedFrom i ps root
+  pub counted : length ps ≡ k
+
+-- the root alone; a procedure in front of what is listed
+root-lists : (i : ℕ) (items rest : List Item) (e : Expr) → items ≡ itemsOf e ++ rest → rest ≡ [] → IndexesFrom i e → Listed 0 i items [] e
+unfolding listing NumberedFrom
+root-lists i items rest e all none indexes =
+    record { all = all ∙ ap (itemsOf e ++_) none ∙ append-nil (itemsOf e); numbering = indexes; counted = refl }
+
+procedure-lists : (k i x l : ℕ) (items rest : List Item) (e : Expr) (ps : List Procedure) (root : Expr) → items ≡ itemsOf e ++ rest → IndexesFrom i e
+    → Listed k (i + size e) rest ps root → Listed (suc k) i (proc x l ∷ items) (record { line = l; parameter = x; body = e } ∷ ps) root
+unfolding listing NumberedFrom
+procedure-lists k i x l items rest e ps root all indexes behind = record {
+  all = ap (proc x l ∷_) (all ∙ ap (itemsOf e ++_) (behind .all));
+  numbering = (indexes, behind .numbering);
+  counted = ap suc (behind .counted);
+}
+
+pub structure-lists : {ps : List Procedure} {root : Expr} (last k i : ℕ) (items : List Item) → structure last k i items ≡ on (ps, root)
+    → Listed k i items ps root
+unfolding structure
+structure-lists last zero i items h =
+    let ((e, rest), h₁, r₁) = bind-goes-on _ _ h in
+    let (done, h₂, r₂) = bind-goes-on _ _ r₁ in
+    let (all, indexes) = listed-expression last i items h₁ in
+    subst (λ (r : List Procedure × Expr). Listed 0 i items (r .0) (r .1)) (on-injective r₂) (root-lists i items rest e all (none-left rest h₂) indexes)
+structure-lists last (suc k) i [] h = stop-is-not-on h
+structure-lists last (suc k) i (step s ∷ items) h = stop-is-not-on h
+structure-lists last (suc k) i (proc x l ∷ items) h =
+    let ((e, rest), h₁, r₁) = bind-goes-on _ _ h in
+    let ((ps, root), h₂, r₂) = bind-goes-on _ _ r₁ in
+    let (all, indexes) = listed-expression last i items h₁ in
+    subst (λ (r : List Procedure × Expr). Listed (suc k) i (proc x l ∷ items) (r .0) (r .1)) (on-injective r₂)
+    (procedure-lists k i x l items rest e ps root all indexes (structure-lists last k (i + size e) rest h₂))
+
+pub listing-structured : (last i : ℕ) (ps : List Procedure) (root : Expr) → NumberedFrom i ps root
+    → structure last (length ps) i (listing ps root) ≡ on (ps, root)
+unfolding structure listing NumberedFrom noLineLeft
+listing-structured last i [] root f =
+    goes-on-bind _ _ (ap (expression last i) (sym (append-nil (itemsOf root))) ∙ expression-listed last i root [] f) (goes-on-bind _ _ refl refl)
+listing-structured last i (p ∷ ps) root f =
+    goes-on-bind _ _ (expression-listed last i (p .body) (listing ps root) (f .0))
+    (goes-on-bind _ _ (listing-structured last (i + size (p .body)) ps root (f .1)) refl)
+
+-- a line for each step and one for each procedure
+pub listing-length : (ps : List Procedure) (root : Expr) → length (listing ps root) ≡ length (stepsAmong (listing ps root)) + length ps
+unfolding listing itemsOf stepsAmong
+listing-length [] root =
+    let steps : stepsAmong (map step (prefix root)) ≡ prefix root =
+    ap stepsAmong (sym (append-nil (map step (prefix root)))) ∙ steps-among (prefix root) [] ∙ append-nil (prefix root) in
+    omega (arith, mapped-length (prefix root), ap length steps)
+listing-length (p ∷ ps) root =
+    let body = prefix (p .body) in
+    omega (
+      arith,
+      length-append (map step body) (listing ps root),
+      mapped-length body,
+      listing-length ps root,
+      ap length (steps-among body (listing ps root)),
+      length-append body (stepsAmong (listing ps root)),
+    )
+
+-- ------------------------------------------------------------------ they are the ones
+
+-- how many lines are `proc` lines
+unfoldable procsAmong : List Item → ℕ
+procsAmong [] = 0
+procsAmong (step s ∷ items) = procsAmong items
+procsAmong (proc x k ∷ items) = suc (procsAmong items)
+
+procs-behind : (ss : List Step) (items : List Item) → procsAmong (map step ss ++ items) ≡ procsAmong items
+unfolding procsAmong
+procs-behind [] items = refl
+procs-behind (s ∷ ss) items = procs-behind ss items
+
+procs-listed : (ps : List Procedure) (root : Expr) → procsAmong (listing ps root) ≡ length ps
+unfolding procsAmong listing itemsOf
+procs-listed [] root = ap procsAmong (sym (append-nil (map step (prefix root)))) ∙ procs-behind (prefix root) []
+procs-listed (p ∷ ps) root = ap suc (procs-behind (prefix (p .body)) (listing ps root) ∙ procs-listed ps root)
+
+pub listing-unique : (ps ps′ : List Procedure) (e e′ : Expr) → listing ps e ≡ listing ps′ e′ → NumberedFrom 0 ps e → NumberedFrom 0 ps′ e′
+    → (ps ≡ ps′) × (e ≡ e′)
+listing-unique ps ps′ e e′ h f f′ =
+    let counts : length ps ≡ length ps′ = sym (procs-listed ps e) ∙ ap procsAmong h ∙ procs-listed ps′ e′ in
+    let same : _≡_ {A = List Procedure × Expr} (ps, e) (ps′, e′) = on-injective (
+    sym (listing-structured 0 0 ps e f)
+    ∙ (λ i. structure 0 (counts i) 0 (h i))
+    ∙ listing-structured 0 0 ps′ e′ f′) in
+    (ap (λ (r : List Procedure × Expr). r .0) same, ap (λ (r : List Procedure × Expr). r .1) same)

@@ -15,7 +15,7 @@ use Rattle.spec.specs.Text.{bytes, same, Line, closed, lines, Field, fie
 use Rattle.spec.specs.Reading.{on, _>>=_, right, wrong, badRange, seen, _to_, below, inRange, allInRange, withNumeral, numerals, ranged, numbers}
 use Rattle.spec.specs.Expression.{Step}
 use Rattle.spec.specs.Program.{Program, program}
-use Rattle.spec.specs.Split.{Header, headings, headerRanges, startOf, headerOf, headed, headerLine, lockOf, outRange, typeLine, typeLines, mapLine, startRange, mayBeEmpty, postRange, rowLine, Split, split, splitLimit}
+use Rattle.spec.specs.Split.{Header, headings, headerRanges, startOf, headerOf, headed, headerLine, lockOf, outRange, typeLine, typeLines, mapLine, signatureLine, startRange, mayBeEmpty, postRange, rowLine, Split, split, splitLimit}
 use Rattle.spec.specs.Verdict.{checked, answer, verdict}
 use Rattle.spec.specs.WellFormed.{Shows, nothing, line, WellFormedSplit}
 use Rattle.spec.specs.declared.Heading.the-variants.{C2, C3}
@@ -143,17 +143,17 @@ header-written fs H h =
 
 -- ------------------------------------------------------------------ the sheet
 
-module _ (steps : List Step) (S : Split) where
-  written-well-formed : (t t′ : List ℕ) → WellFormedSplit Check steps t S → length t′ ≤ splitLimit
-      → WrittenOut (S .header .types) (lines t) (lines t′) → WellFormedSplit Check steps t′ (under C3 S)
-  unfolding under headedAs mapLine
+module _ (P : Program) (S : Split) where
+  written-well-formed : (t t′ : List ℕ) → WellFormedSplit Check P t S → length t′ ≤ splitLimit
+      → WrittenOut (S .header .types) (lines t) (lines t′) → WellFormedSplit Check P t′ (under C3 S)
+  unfolding under headedAs mapLine signatureLine
   written-well-formed t t′ w fits written = go (lines t) (lines t′) (w .lined) refl written
     where
       first-line : {l k : List ℕ} {ls ms : List Line} → closed l ∷ ls ≡ closed k ∷ ms → (l ≡ k) × (ls ≡ ms)
       first-line e = (cc, cc)
 
       go : (ls ls′ : List Line) → ls ≡ closed (w .first) ∷ w .others → lines t′ ≡ ls′ → WrittenOut (S .header .types) ls ls′
-          → WellFormedSplit Check steps t′ (under C3 S)
+          → WellFormedSplit Check P t′ (under C3 S)
       go ls ls′ d e (heading {l = l} {l′ = l′} {fs = fs} {ls = rest} {ls′ = others} two three outs) =
           let (top, behind) = first-line d in
           let (header, second) = header-written fs (S .header) (rw two at (rw (← top) at (w .headed))) in
@@ -163,24 +163,26 @@ module _ (steps : List Step) (S : Split) where
             others = others;
             afterTypes = w .afterTypes;
             afterMaps = w .afterMaps;
+            afterSignatures = w .afterSignatures;
             lined = e;
             headed = rw three header;
             typed = types-written (S .header) second 0 (S .header .types) outs (rw (← behind) at (w .typed));
             mapped = w .mapped;
-            rowed = along (λ reads. Shows reads (w .afterMaps) (S .rows) [])
-                (λ i. map (λ s fs. sym (same-row (S .header) second s fs) i) steps) (w .rowed);
+            signed = w .signed;
+            rowed = along (λ reads. Shows reads (w .afterSignatures) (S .rows) [])
+                (λ i. map (λ s fs. sym (same-row (S .header) second s fs) i) (P .steps)) (w .rowed);
           }
 
-sheet-alike : (P : Program) (S : Split) (t t′ : List ℕ) → length t ≤ splitLimit → length t′ ≤ splitLimit → split Check (P .steps) t ≡ on S
-    → WrittenOut (S .header .types) (lines t) (lines t′) → (split Check (P .steps) t >>= ruling P) ≡ (split Check (P .steps) t′ >>= ruling P)
+sheet-alike : (P : Program) (S : Split) (t t′ : List ℕ) → length t ≤ splitLimit → length t′ ≤ splitLimit → split Check P t ≡ on S
+    → WrittenOut (S .header .types) (lines t) (lines t′) → (split Check P t >>= ruling P) ≡ (split Check P t′ >>= ruling P)
 unfolding _>>=_
 sheet-alike P S t t′ fits fits′ read out =
-    let formed = written-well-formed (P .steps) S t t′ (split-well-formed Check (P .steps) t fits read) fits′ out in
-    ap (_>>= ruling P) read ∙ sym (same-ruling C3 S P) ∙ sym (ap (_>>= ruling P) (well-formed-split Check (P .steps) t′ formed))
+    let formed = written-well-formed P S t t′ (split-well-formed Check P t fits read) fits′ out in
+    ap (_>>= ruling P) read ∙ sym (same-ruling C3 S P) ∙ sym (ap (_>>= ruling P) (well-formed-split Check P t′ formed))
 
 -- t′ is the `C2` sheet t written out, for the steps of the program p, which reads t
 abbrev pub LocksWritten : (p t t′ : List ℕ) → Type 0
-LocksWritten p t t′ = (P : Program) → program p ≡ on P → (S : Split) × (split Check (P .steps) t ≡ on S) × WrittenOut (S .header .types) (lines t) (lines t′)
+LocksWritten p t t′ = (P : Program) → program p ≡ on P → (S : Split) × (split Check P t ≡ on S) × WrittenOut (S .header .types) (lines t) (lines t′)
 
 checked-alike : (room : ℕ) (p t t′ : List ℕ) → length t ≤ splitLimit → length t′ ≤ splitLimit → LocksWritten p t t′
     → checked room p t ≡ checked room p t′

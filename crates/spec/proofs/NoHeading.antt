@@ -8,12 +8,12 @@ use lib.ListN.{getD}
 use Rattle.spec.specs.Choice.{if_then_else_}
 use Rattle.spec.specs.Reading.{Out, _>>=_, demand}
 use Rattle.spec.specs.Words.{role, binding, preOfPart, preOfSecond}
-use Rattle.spec.specs.Expression.{Expr, leaf, unary, binary}
+use Rattle.spec.specs.Expression.{Expr, leaf, unary, binary, Procedure}
 use Rattle.spec.specs.Program.{Program}
-use Rattle.spec.specs.Split.{Map, Header, Split}
+use Rattle.spec.specs.Split.{Map, Header, Signature, Split}
 use Rattle.spec.specs.Agreement.{Tree, plain, int, sameTree, treeOf, trees, tree, agree}
-use Rattle.spec.specs.Conditions.{Condition, T, Env, typeAt, mapAt, startMap, isLock, contains, looserLock, mayShow, row, type, kind, post, startIn, bodyStart, K, inMap, outMap, readMap, writeMap, conditionsOf}
-use Rattle.spec.specs.Sites.{Site, sites, claimsAt, claims, firstFalse}
+use Rattle.spec.specs.Conditions.{Condition, T, Env, typeAt, mapAt, startMap, isLock, contains, looserLock, mayShow, row, type, kind, post, startIn, bodyStart, keptBack, signature, K, inMap, outMap, readMap, writeMap, conditionsOf, procedureConditions}
+use Rattle.spec.specs.Sites.{Site, sites, claimsAt, claims, bodySites, claimsOfProcedure, claimsOfProcedures, claimsOf}
 use Rattle.spec.specs.Verdict.{takesEnough, allTakeEnough, locksTakeEnough, startAtMostOne, ruled}
 use Rattle.spec.specs.declared.Heading.{Heading}
 use Rattle.spec.specs.declared.MapNumber.{MapNumber}
@@ -23,7 +23,7 @@ use Rattle.spec.specs.declared.TypeLine.the-variants as type-line
 use Rattle.spec.specs.declared.Refusal.the-variants.{LockTakesLess}
 use Rattle.spec.specs.declared.Word.the-variants.{Binary}
 use Rattle.spec.specs.declared.LeafWord.the-variants.{Var, Int, Newtid, Newlock, Newsem, Newrwlock}
-use Rattle.spec.specs.declared.UnaryWord.the-variants.{While, Join, Ref, Read, Lock, Unlock, Post, Wait, Rdlock, Rdunlock, Wrlock, Wrunlock}
+use Rattle.spec.specs.declared.UnaryWord.the-variants.{While, Join, Ref, Read, Lock, Unlock, Post, Wait, Rdlock, Rdunlock, Wrlock, Wrunlock, Call}
 use Rattle.spec.specs.declared.BinaryWord.the-variants.{Let, If, Spawn, Write}
 
 -- a header, and a split, under another heading
@@ -38,7 +38,7 @@ headedAs h H = record {
 }
 
 unfoldable pub under : Heading → Split → Split
-under h S = record { header = headedAs h (S .header); types = S .types; maps = S .maps; rows = S .rows }
+under h S = record { header = headedAs h (S .header); types = S .types; maps = S .maps; signatures = S .signatures; rows = S .rows }
 
 -- 44, 30 and 31 to 33
 unfoldable pub ruling : Program → Split → Out (Unit {0})
@@ -117,7 +117,7 @@ module _ (h : Heading) (S : Split) where
   same-start-in (some m) = refl
 
   same-own : (Γ : Env) (pre : Map) (e : Expr) → conditionsOf (under h S) Γ pre e ≡ conditionsOf S Γ pre e
-  unfolding conditionsOf row type kind post bodyStart startIn K inMap outMap readMap writeMap typeAt mapAt under headedAs
+  unfolding conditionsOf row type kind post bodyStart startIn keptBack signature K inMap outMap readMap writeMap typeAt mapAt under headedAs
   same-own Γ pre (leaf Var k v) = at-first _ (same-may-show _ _)
   same-own Γ pre (leaf Int k v) = refl
   same-own Γ pre (leaf Newtid k v) = refl
@@ -136,6 +136,7 @@ module _ (h : Heading) (S : Split) where
   same-own Γ pre (unary Rdunlock k v e₁) = refl
   same-own Γ pre (unary Wrlock k v e₁) = refl
   same-own Γ pre (unary Wrunlock k v e₁) = refl
+  same-own Γ pre (unary Call k f e₁) = rw (same-start-in (row S (unary Call k f e₁) .start)) (at-first _ (same-agree _ _) ∙ later _ (at-first _ (same-agree _ _)))
   same-own Γ pre (binary Let k v e₁ e₂) = at-first _ (same-agree _ _)
   same-own Γ pre (binary If k v e₁ e₂) = at-first _ (same-agree _ _) ∙ later _ (at-first _ (same-agree _ _))
   same-own Γ pre (binary Spawn k v e₁ e₂) = rw (same-start-in (row S (binary Spawn k v e₁ e₂) .start))
@@ -163,11 +164,27 @@ module _ (h : Heading) (S : Split) where
   unfolding startAtMostOne startMap mapAt under headedAs
   same-start P = refl
 
+  -- of an expression's sites, and of a procedure's conditions
+  same-expression : (Γ : Env) (pre : Map) (e : Expr) → claims (under h S) (sites (under h S) Γ pre e) ≡ claims S (sites S Γ pre e)
+  same-expression Γ pre e = ap (claims (under h S)) (same-sites Γ pre e) ∙ same-claims (sites S Γ pre e)
+
+  same-at-procedure : (g : Signature) (p : Procedure) → procedureConditions (under h S) g p ≡ procedureConditions S g p
+  unfolding procedureConditions row type post mapAt under
+  same-at-procedure g p = at-first _ (same-agree _ _)
+
+  same-procedure : (g : Signature) (p : Procedure) → claimsOfProcedure (under h S) g p ≡ claimsOfProcedure S g p
+  unfolding claimsOfProcedure bodySites mapAt under
+  same-procedure g p =
+      rw (same-at-procedure g p, same-expression ((p .parameter, g .argument) ∷ []) (mapAt S (g .before)) (p .body))
+
+  same-procedures : (f : ℕ) (ps : List Procedure) → claimsOfProcedures (under h S) f ps ≡ claimsOfProcedures S f ps
+  unfolding claimsOfProcedures signature under
+  same-procedures f [] = refl
+  same-procedures f (p ∷ ps) = rw (same-procedure (signature S f) p, same-procedures (f + 1) ps)
+
   same-ruled : (P : Program) → ruled P (under h S) ≡ ruled P S
-  unfolding ruled startMap mapAt under headedAs
-  same-ruled P =
-      ap (λ (ss : List Site). firstFalse (claims (under h S) ss)) (same-sites [] (startMap S) (P .root))
-      ∙ ap firstFalse (same-claims (sites S [] (startMap S) (P .root)))
+  unfolding ruled claimsOf startMap mapAt under headedAs
+  same-ruled P = rw (same-procedures 0 (P .procedures), same-expression [] (startMap S) (P .root))
 
   pub same-ruling : (P : Program) → ruling P (under h S) ≡ ruling P S
   unfolding ruling

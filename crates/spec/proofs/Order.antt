@@ -1,15 +1,17 @@
--- The conditions of a program stand by step line, then by number: the lines of its steps rise, and those of one step are numbered.
-use mathlib.Core.Path.{_≡_, refl, ap}
-use mathlib.Core.List.{List, [], _∷_, _++_, map, map-append}
+-- The conditions of a program stand by line, then by number: the lines of its steps and of its procedures rise, and those of one line
+-- are numbered.
+use mathlib.Core.Path.{_≡_, refl, ap, sym, _∙_}
+use mathlib.Core.List.{List, [], _∷_, _++_, map, map-append, append-assoc}
 use Prim.Native.Nat.{ℕ, _+_, _≤_, _<_}
 use native.Mathlib.Omega.{arith}
-use Rattle.spec.specs.Expression.{Expr, leaf, unary, binary, lineOf}
+use Rattle.spec.specs.Expression.{Step, Expr, leaf, unary, binary, lineOf, step, lineOfItem, Procedure}
+use Rattle.spec.specs.Program.{Program}
 use Rattle.spec.specs.Split.{Map, Split}
-use Rattle.spec.specs.Conditions.{Condition, Env, conditionsOf}
-use Rattle.spec.specs.Sites.{Site, sites, Claim, numbered, claimsAt, claims}
-use Rattle.spec.specs.WellFormed.{prefix}
+use Rattle.spec.specs.Conditions.{Condition, Env, startMap, signature, conditionsOf, procedureConditions}
+use Rattle.spec.specs.Sites.{Site, sites, Claim, numbered, claimsAt, claims, bodySites, claimsOfProcedure, claimsOfProcedures, claimsOf}
+use Rattle.spec.specs.WellFormed.{prefix, itemsOf, listing}
 use Rattle.spec.specs.FirstFalse.{byLine, byNumber, EarlierThanAll, InOrder}
-use Rattle.spec.proofs.StepLines.{lineOfStep, Rising}
+use Rattle.spec.proofs.StepLines.{Rising}
 
 -- ------------------------------------------------------------------ one step, and the claims behind it
 
@@ -45,24 +47,73 @@ module _ (k : ℕ) (behind : List Claim) (from : From (k + 1) behind) where
   numbered-from i [] = from-lower k (k + 1) behind (omega arith) from
   numbered-from i (c ∷ cs) = (omega arith, numbered-from (i + 1) cs)
 
--- ------------------------------------------------------------------ steps whose lines rise
+-- ------------------------------------------------------------------ lines that rise
 
-abbrev lineOfSite : Site → ℕ
-lineOfSite s = lineOf (s .step)
+-- a line with its conditions
+abbrev Judged : Type 0
+Judged = ℕ × List Condition
 
-rising-in-order : (S : Split) (lo : ℕ) (ss : List Site) → Rising lo (map lineOfSite ss) → InOrder (claims S ss) × From lo (claims S ss)
-unfolding Rising claims claimsAt InOrder From
-rising-in-order S lo [] h = (tt, tt)
-rising-in-order S lo (s ∷ ss) h =
-    let k = lineOf (s .step) in
-    let cs = conditionsOf S (s .Γ) (s .pre) (s .step) in
-    let (order, from) = rising-in-order S (k + 1) ss (h .1) in
-    (numbered-in-order k (claims S ss) from 1 cs order, from-lower lo k (numbered k 1 cs ++ claims S ss) (h .0) (numbered-from k (claims S ss) from 1 cs))
+abbrev lineOfJudged : Judged → ℕ
+lineOfJudged j = j .0
 
--- ------------------------------------------------------------------ an expression
+unfoldable claimsAll : List Judged → List Claim
+claimsAll [] = []
+claimsAll (j ∷ js) = numbered (j .0) 1 (j .1) ++ claimsAll js
+
+claims-all-append : (js ks : List Judged) → claimsAll (js ++ ks) ≡ claimsAll js ++ claimsAll ks
+unfolding claimsAll
+claims-all-append [] ks = refl
+claims-all-append (j ∷ js) ks = rw (claims-all-append js ks, append-assoc (numbered (j .0) 1 (j .1)) (claimsAll js) (claimsAll ks))
+
+rising-in-order : (lo : ℕ) (js : List Judged) → Rising lo (map lineOfJudged js) → InOrder (claimsAll js) × From lo (claimsAll js)
+unfolding Rising claimsAll InOrder From
+rising-in-order lo [] h = (tt, tt)
+rising-in-order lo ((k, cs) ∷ js) h =
+    let (order, from) = rising-in-order (k + 1) js (h .1) in
+    (numbered-in-order k (claimsAll js) from 1 cs order, from-lower lo k (numbered k 1 cs ++ claimsAll js) (h .0) (numbered-from k (claimsAll js) from 1 cs))
+
+-- ------------------------------------------------------------------ the lines of a program
 
 module _ (S : Split) where
-  -- its sites stand on the lines of its steps
+  abbrev judgedAt : Site → Judged
+  judgedAt s = (lineOf (s .step), conditionsOf S (s .Γ) (s .pre) (s .step))
+
+  abbrev judgedOf : List Site → List Judged
+  judgedOf ss = map judgedAt ss
+
+  claims-judged : (ss : List Site) → claims S ss ≡ claimsAll (judgedOf ss)
+  unfolding claims claimsAt claimsAll
+  claims-judged [] = refl
+  claims-judged (s ∷ ss) = ap (claimsAt S s ++_) (claims-judged ss)
+
+  -- of the procedures from number f on, and of the root
+  unfoldable judgedFrom : (f : ℕ) → List Procedure → Expr → List Judged
+  judgedFrom f [] root = judgedOf (sites S [] (startMap S) root)
+  judgedFrom f (p ∷ ps) root =
+      (p .line, procedureConditions S (signature S f) p) ∷ (judgedOf (bodySites S (signature S f) p) ++ judgedFrom (f + 1) ps root)
+
+  program-judged : (f : ℕ) (ps : List Procedure) (root : Expr)
+      → claimsOfProcedures S f ps ++ claims S (sites S [] (startMap S) root) ≡ claimsAll (judgedFrom f ps root)
+  unfolding claimsOfProcedures claimsOfProcedure claimsAll judgedFrom
+  program-judged f [] root = claims-judged (sites S [] (startMap S) root)
+  program-judged f (p ∷ ps) root =
+      let g = signature S f in
+      let own = numbered (p .line) 1 (procedureConditions S g p) in
+      let body = claims S (bodySites S g p) in
+      let rest = claims S (sites S [] (startMap S) root) in
+      append-assoc (own ++ body) (claimsOfProcedures S (f + 1) ps) rest
+      ∙ append-assoc own body (claimsOfProcedures S (f + 1) ps ++ rest)
+      ∙ ap (λ cs. own ++ (body ++ cs)) (program-judged (f + 1) ps root)
+      ∙ ap (λ cs. own ++ (cs ++ claimsAll (judgedFrom (f + 1) ps root))) (claims-judged (bodySites S g p))
+      ∙ ap (own ++_) (sym (claims-all-append (judgedOf (bodySites S g p)) (judgedFrom (f + 1) ps root)))
+
+  -- sites stand on the lines of their steps
+  abbrev lineOfSite : Site → ℕ
+  lineOfSite s = lineOf (s .step)
+
+  abbrev lineOfStep : Step → ℕ
+  lineOfStep s = s .line
+
   site-lines : (Γ : Env) (pre : Map) (e : Expr) → map lineOfSite (sites S Γ pre e) ≡ map lineOfStep (prefix e)
   unfolding sites prefix lineOf
   site-lines Γ pre (leaf w k v) = refl
@@ -70,5 +121,31 @@ module _ (S : Split) where
   site-lines Γ pre (binary w k v e₁ e₂) =
       rw (map-append lineOfSite (sites S Γ pre e₁) _, map-append lineOfStep (prefix e₁) (prefix e₂), site-lines Γ pre e₁, site-lines _ _ e₂)
 
-  pub claims-in-order : (Γ : Env) (pre : Map) (e : Expr) (lo : ℕ) → Rising lo (map lineOfStep (prefix e)) → InOrder (claims S (sites S Γ pre e))
-  claims-in-order Γ pre e lo h = rising-in-order S lo (sites S Γ pre e) (rw (site-lines Γ pre e) h) .0
+  judged-lines : (ss : List Site) → map lineOfJudged (judgedOf ss) ≡ map lineOfSite ss
+  judged-lines [] = refl
+  judged-lines (s ∷ ss) = ap (lineOf (s .step) ∷_) (judged-lines ss)
+
+  step-lines : (ss : List Step) → map lineOfItem (map step ss) ≡ map lineOfStep ss
+  unfolding lineOfItem
+  step-lines [] = refl
+  step-lines (s ∷ ss) = ap (s .line ∷_) (step-lines ss)
+
+  expression-lines : (Γ : Env) (pre : Map) (e : Expr) → map lineOfJudged (judgedOf (sites S Γ pre e)) ≡ map lineOfItem (itemsOf e)
+  unfolding itemsOf
+  expression-lines Γ pre e = judged-lines (sites S Γ pre e) ∙ site-lines Γ pre e ∙ sym (step-lines (prefix e))
+
+  program-lines : (f : ℕ) (ps : List Procedure) (root : Expr) → map lineOfJudged (judgedFrom f ps root) ≡ map lineOfItem (listing ps root)
+  unfolding listing bodySites lineOfItem judgedFrom
+  program-lines f [] root = expression-lines [] (startMap S) root
+  program-lines f (p ∷ ps) root =
+      let body = bodySites S (signature S f) p in
+      ap (p .line ∷_) (map-append lineOfJudged (judgedOf body) (judgedFrom (f + 1) ps root)
+      ∙ ap (_++ map lineOfJudged (judgedFrom (f + 1) ps root)) (expression-lines _ _ (p .body))
+      ∙ ap (map lineOfItem (itemsOf (p .body)) ++_) (program-lines (f + 1) ps root)
+      ∙ sym (map-append lineOfItem (itemsOf (p .body)) (listing ps root)))
+
+  pub claims-in-order : (P : Program) (lo : ℕ) → Rising lo (map lineOfItem (listing (P .procedures) (P .root))) → InOrder (claimsOf S P)
+  unfolding claimsOf
+  claims-in-order P lo h =
+      rw (program-judged 0 (P .procedures) (P .root))
+      (rising-in-order lo (judgedFrom 0 (P .procedures) (P .root)) (rw (program-lines 0 (P .procedures) (P .root)) h) .0)

@@ -24,6 +24,12 @@ unfolding _>>=_
 bind-goes-on (stop r) f h = stop-is-not-on h
 bind-goes-on (on a) f h = (a, refl, h)
 
+-- what follows of it, said of whatever the first found
+pub bind-through : {A B C : Type 0} {b : B} (m : Out A) (f : A → Out B) → (m >>= f) ≡ on b → ((a : A) → m ≡ on a → f a ≡ on b → C) → C
+unfolding _>>=_
+bind-through (stop r) f h go = stop-is-not-on h
+bind-through (on a) f h go = go a refl h
+
 pub goes-on-bind : {A B : Type 0} {a : A} {o : Out B} (m : Out A) (f : A → Out B) → m ≡ on a → f a ≡ o → (m >>= f) ≡ o
 unfolding _>>=_
 goes-on-bind m f e h = rw e h

@@ -11,10 +11,11 @@ use lib.ListN.{length, getD, replicate, length-replicate}
 use borrow.Author.Tests.{eqb-true, leb-true, ltb-true, le-leb, lt-leb}
 use Rattle.spec.specs.Choice.{if_then_else_}
 use Rattle.spec.specs.Text.{Line, bytes, same, Field, lookUp, numeral}
-use Rattle.spec.specs.Reading.{Fault, badForm, badRange, noStart, Seen, right, wrong, seen, insist, Range, _to_, below, inRange, allInRange, withNumeral, numerals, ranged, numbers}
+use Rattle.spec.specs.Reading.{Fault, badForm, badRange, Seen, right, wrong, seen, insist, Range, _to_, below, inRange, allInRange, withNumeral, numerals, ranged, numbers}
 use Rattle.spec.specs.Words.{takesStart}
 use Rattle.spec.specs.Expression.{Step}
-use Rattle.spec.specs.Split.{Map, Header, headings, headerRanges, mapsOf, mapsIn, startOf, headerOf, headed, headerLine, refOf, lockOf, outRange, tidOf, semOf, rwlockOf, typeLine, typeLines, mapLine, Row, rowOf, startGiven, startRange, postRange, postField, rowLine, Split}
+use Rattle.spec.specs.Program.{Program}
+use Rattle.spec.specs.Split.{Map, Header, headings, headerRanges, mapsOf, mapsIn, startOf, headerOf, headed, headerLine, refOf, lockOf, outRange, tidOf, semOf, rwlockOf, typeLine, typeLines, mapLine, Signature, signatureOf, signatureLine, Row, rowOf, startGiven, startRange, postRange, postField, emptyFault, rowLine, Split}
 use Rattle.spec.specs.WellFormed.{Shows, nothing, line, WellFormedSplit}
 use Rattle.spec.specs.declared.Purpose.{Purpose}
 use Rattle.spec.specs.declared.Purpose.the-variants.{Check, Fill}
@@ -283,6 +284,30 @@ maps-wide H (suc n) (line {a = a} {as′ = ms} h more) =
     go wide zero q = map-wide H _ a h
     go wide (suc m) q = wide m (omega arith)
 
+-- ------------------------------------------------------------------ lines of procedures
+
+SignatureFits : Header → Signature → Type 0
+SignatureFits H g = (g .before .0 < H .maps) × (g .argument .0 < H .types) × (g .after .0 < H .maps) × (g .result .0 < H .types)
+
+signature-fits : (H : Header) (fs : List Field) (g : Signature) → signatureLine H fs ≡ right g → SignatureFits H g
+unfolding signatureLine signatureOf SignatureFits
+signature-fits H fs g h =
+    let (ns, n, e) = seen-right _ h in
+    let at = in-range-at (below (H .maps) ∷ below (H .types) ∷ below (H .maps) ∷ below (H .types) ∷ []) fs ns n in
+    along (SignatureFits H) e (in-below _ _ (at 0 (omega arith)), in-below _ _ (at 1 (omega arith)), in-below _ _ (at 2 (omega arith)), in-below _ _ (at 3 (omega arith)))
+
+signatures-fit : (H : Header) (n : ℕ) {ls rest : List Line} {gs : List Signature} → Shows (replicate n (signatureLine H)) ls gs rest
+    → (length gs ≡ n) × ((f : ℕ) (d : Signature) → f < length gs → SignatureFits H (getD gs f d))
+signatures-fit H zero nothing = (refl, λ f d h. absurd (omega arith))
+signatures-fit H (suc n) (line {a = a} {as′ = gs} h more) =
+    let (l, fits) = signatures-fit H n more in
+    (ap suc l, go fits)
+  where
+    go : ((f : ℕ) (d : Signature) → f < length gs → SignatureFits H (getD gs f d))
+        → (f : ℕ) (d : Signature) → f < length (a ∷ gs) → SignatureFits H (getD (a ∷ gs) f d)
+    go fits zero d q = signature-fits H _ a h
+    go fits (suc f) d q = fits f d (omega arith)
+
 -- ------------------------------------------------------------------ step lines
 
 -- a start that is given is a map
@@ -322,7 +347,7 @@ module _ (purpose : Purpose) (H : Header) where
   row-fits s (t ∷ []) r h = wrong-is-not-right h
   row-fits s (t ∷ m ∷ []) r h = wrong-is-not-right h
   row-fits s (t ∷ m ∷ [] ∷ []) r h =
-      let (ns, n, e) = seen-right _ (insist-right _ noStart _ h .1) in
+      let (ns, n, e) = seen-right _ (insist-right _ (emptyFault (s .word)) _ h .1) in
       let at = in-range-at (below (H .types) ∷ postRange purpose H m ∷ []) (t ∷ postField purpose m ∷ []) ns n in
       along (RowFits H) e (in-below _ _ (at 0 (omega arith)), post-below purpose H m _ (at 1 (omega arith)), tt)
   row-fits s (t ∷ m ∷ (b ∷ f) ∷ []) r h =
@@ -344,15 +369,15 @@ module _ (purpose : Purpose) (H : Header) where
 
 -- ------------------------------------------------------------------ the sheet
 
-pub well-formed-in-range : {purpose : Purpose} {steps : List Step} {text : List ℕ} {S : Split} → WellFormedSplit purpose steps text S
-    → InRange steps S
-unfolding TypeFits RowFits StartFits
-well-formed-in-range {purpose} {steps} {text} {S} F =
+pub well-formed-in-range : {purpose : Purpose} {P : Program} {text : List ℕ} {S : Split} → WellFormedSplit purpose P text S → InRange P S
+unfolding TypeFits SignatureFits RowFits StartFits
+well-formed-in-range {purpose} {P} {text} {S} F =
     let H = S .header in
     let head = header-fits purpose _ H (F .headed) in
     let (typesCounted, types) = types-fit H 0 (H .types) (F .typed) in
     let (mapsCounted, wide) = maps-wide H (H .maps) (F .mapped) in
-    let (rowsCounted, rows) = rows-fit purpose H steps (F .rowed) in
+    let (signaturesCounted, signatures) = signatures-fit H (length (P .procedures)) (F .signed) in
+    let (rowsCounted, rows) = rows-fit purpose H (P .steps) (F .rowed) in
     let fits : (t : ℕ) (τ : TypeLine) → t < length (S .types) → getD (S .types) t type-line.Int ≡ τ → TypeFits H t τ =
     λ t τ h e. let z : 0 + t ≡ t = omega arith in along (TypeFits H t) e (along (λ o. TypeFits H o (getD (S .types) t type-line.Int)) z (types t h)) in
     record {
@@ -363,6 +388,7 @@ well-formed-in-range {purpose} {steps} {text} {S} F =
       mapsCounted = mapsCounted;
       mapsFew = head .maps;
       start = omega (arith, mapsCounted, head .rootStart);
+      signaturesCounted = signaturesCounted;
       rowsCounted = rowsCounted;
       mapWide = wide;
       refPlace = λ t p c h e. fits t (type-line.Ref p c) h e;
@@ -370,6 +396,10 @@ well-formed-in-range {purpose} {steps} {text} {S} F =
       tidLoad = λ t k h e. omega (arith, mapsCounted, fits t (type-line.Tid k) h e);
       semLoad = λ t k h e. omega (arith, mapsCounted, fits t (type-line.Sem k) h e);
       rwlockLoads = λ t r w h e. let (first, second) = fits t (type-line.Rwlock r w) h e in (omega (arith, mapsCounted, first), omega (arith, mapsCounted, second));
+      beforeMap = λ f d h. omega (arith, mapsCounted, signatures f d h .0);
+      argumentType = λ f d h. omega (arith, typesCounted, signatures f d h .1);
+      afterMap = λ f d h. omega (arith, mapsCounted, signatures f d h .2);
+      resultType = λ f d h. omega (arith, typesCounted, signatures f d h .3);
       rowType = λ i d h. omega (arith, typesCounted, rows i d h .0);
       rowPost = λ i d h. omega (arith, mapsCounted, rows i d h .1);
       rowStart = λ i d m h e. omega (arith, mapsCounted, along (StartFits H) e (rows i d h .2));

@@ -1,4 +1,5 @@
--- 14 and 15 are met by no step exactly when no variable is bound twice and each is used only inside its let's e2.
+-- 14, 15 and 49 are met by no line exactly when no variable is bound twice, each is used only inside its let's e2, and calls are to
+-- procedures that are there.
 -- The walk in line order carries the variables bound so far; what it asks of them comes to `Distinct` in the end.
 use mathlib.Core.Path.{_≡_, refl, sym, _∙_, subst}
 use mathlib.Core.List.{List, [], _∷_, _++_, append-assoc, append-nil}
@@ -6,15 +7,16 @@ use mathlib.Core.Bool.{Bool, true, false, _||_}
 use mathlib.Core.Logic.{_↔_}
 use Prim.Native.Nat.{ℕ}
 use lib.Dec.{eqb}
+use borrow.Author.Tests.{ltb-true, lt-ltb}
 use Rattle.spec.specs.Choice.{if_then_else_}
 use Rattle.spec.specs.Reading.{Out, stop, on}
 use Rattle.spec.specs.Words.{role, binding}
-use Rattle.spec.specs.Expression.{Expr, leaf, unary, binary, among, scopeStep, scope}
-use Rattle.spec.specs.WellFormed.{binders, Distinct, StepInside, UsedInside}
+use Rattle.spec.specs.Expression.{Expr, leaf, unary, binary, Procedure, among, scopeStep, scope, scopes}
+use Rattle.spec.specs.WellFormed.{binders, allBinders, Distinct, StepInside, UsedInside, AllUsedInside}
 use Rattle.spec.specs.declared.Refusal.{Refusal}
 use Rattle.spec.specs.declared.Word.the-variants.{Leaf, Unary, Binary}
 use Rattle.spec.specs.declared.Role.{Role}
-use Rattle.spec.specs.declared.Role.the-variants.{Binds, Uses, Neither}
+use Rattle.spec.specs.declared.Role.the-variants.{Binds, Uses, Calls, Neither}
 use Rattle.spec.proofs.Clashes.{true-is-not-false}
 use Rattle.spec.proofs.Tests.{eqb-sym}
 use Rattle.spec.proofs.Outcomes.{stop-is-not-on, bind-goes-on, goes-on-bind, on-injective}
@@ -77,76 +79,110 @@ binding-append : (r : Role) (v : ℕ) (xs ys : List ℕ) → binding r v xs ++ y
 unfolding binding
 binding-append Binds v xs ys = refl
 binding-append Uses v xs ys = refl
+binding-append Calls v xs ys = refl
 binding-append Neither v xs ys = refl
 
--- when the walk over a step goes on, and when that over an expression does: what is bound behind it, vs, is new after all that it binds
-step-walk : (r : Role) (k v : ℕ) (inside bound b : List ℕ) → scopeStep r k v inside bound ≡ on b
-    → StepInside inside r v × ((vs : List ℕ) → EachNew vs b → EachNew (binding r v vs) bound)
-unfolding scopeStep StepInside binding EachNew
-step-walk Binds k v inside bound b h =
-    let (new, same) = bound-goes-on _ _ _ h in
-    (tt, λ vs news. (new, subst (EachNew vs) (sym (on-injective same)) news))
-step-walk Uses k v inside bound b h =
-    let (used, same) = used-goes-on _ _ _ h in
-    (used, λ vs news. subst (EachNew vs) (sym (on-injective same)) news)
-step-walk Neither k v inside bound b h = (tt, λ vs news. subst (EachNew vs) (sym (on-injective h)) news)
+-- of a sheet with `count` procedures
+module _ (count : ℕ) where
+  -- when the walk over a step goes on, and when that over an expression does: what is bound behind it, vs, is new after all that it binds
+  step-walk : (r : Role) (k v : ℕ) (inside bound b : List ℕ) → scopeStep count r k v inside bound ≡ on b
+      → StepInside count inside r v × ((vs : List ℕ) → EachNew vs b → EachNew (binding r v vs) bound)
+  unfolding scopeStep StepInside binding EachNew
+  step-walk Binds k v inside bound b h =
+      let (new, same) = bound-goes-on _ _ _ h in
+      (tt, λ vs news. (new, subst (EachNew vs) (sym (on-injective same)) news))
+  step-walk Uses k v inside bound b h =
+      let (used, same) = used-goes-on _ _ _ h in
+      (used, λ vs news. subst (EachNew vs) (sym (on-injective same)) news)
+  step-walk Calls k f inside bound b h =
+      let (there, same) = used-goes-on _ _ _ h in
+      (ltb-true f count there, λ vs news. subst (EachNew vs) (sym (on-injective same)) news)
+  step-walk Neither k v inside bound b h = (tt, λ vs news. subst (EachNew vs) (sym (on-injective h)) news)
 
-walk : (e : Expr) (inside bound b : List ℕ) → scope e inside bound ≡ on b
-    → UsedInside inside e × ((vs : List ℕ) → EachNew vs b → EachNew (binders e ++ vs) bound)
-unfolding scope binders UsedInside
-walk (leaf w k v) inside bound b h =
-    let (used, new) = step-walk _ (k .line) v inside bound b h in
-    (used, λ vs news. rw (binding-append (role (Leaf w)) v [] vs) (new vs news))
-walk (unary w k v e) inside bound b h =
-    let (c, h₁, h₂) = bind-goes-on _ _ h in
-    let (used, new) = step-walk _ (k .line) v inside bound c h₁ in
-    let (used₁, new₁) = walk e inside c b h₂ in
-    ((used, used₁), λ vs news. rw (binding-append (role (Unary w)) v (binders e) vs) (new _ (new₁ vs news)))
-walk (binary w k v e₁ e₂) inside bound b h =
-    let (c, h₁, h′) = bind-goes-on _ _ h in
-    let (d, h₂, h₃) = bind-goes-on _ _ h′ in
-    let (used, new) = step-walk _ (k .line) v inside bound c h₁ in
-    let (used₁, new₁) = walk e₁ inside c d h₂ in
-    let (used₂, new₂) = walk e₂ (binding (role (Binary w)) v inside) d b h₃ in (
-      (used, used₁, used₂),
-      λ vs news. rw (binding-append (role (Binary w)) v (binders e₁ ++ binders e₂) vs, append-assoc (binders e₁) (binders e₂) vs)
-          (new _ (new₁ _ (new₂ vs news))),
-    )
+  walk : (e : Expr) (inside bound b : List ℕ) → scope count e inside bound ≡ on b
+      → UsedInside count inside e × ((vs : List ℕ) → EachNew vs b → EachNew (binders e ++ vs) bound)
+  unfolding scope binders UsedInside
+  walk (leaf w k v) inside bound b h =
+      let (used, new) = step-walk _ (k .line) v inside bound b h in
+      (used, λ vs news. rw (binding-append (role (Leaf w)) v [] vs) (new vs news))
+  walk (unary w k v e) inside bound b h =
+      let (c, h₁, h₂) = bind-goes-on _ _ h in
+      let (used, new) = step-walk _ (k .line) v inside bound c h₁ in
+      let (used₁, new₁) = walk e inside c b h₂ in
+      ((used, used₁), λ vs news. rw (binding-append (role (Unary w)) v (binders e) vs) (new _ (new₁ vs news)))
+  walk (binary w k v e₁ e₂) inside bound b h =
+      let (c, h₁, h′) = bind-goes-on _ _ h in
+      let (d, h₂, h₃) = bind-goes-on _ _ h′ in
+      let (used, new) = step-walk _ (k .line) v inside bound c h₁ in
+      let (used₁, new₁) = walk e₁ inside c d h₂ in
+      let (used₂, new₂) = walk e₂ (binding (role (Binary w)) v inside) d b h₃ in (
+        (used, used₁, used₂),
+        λ vs news. rw (binding-append (role (Binary w)) v (binders e₁ ++ binders e₂) vs, append-assoc (binders e₁) (binders e₂) vs)
+            (new _ (new₁ _ (new₂ vs news))),
+      )
 
--- and back
-step-walked : (r : Role) (k v : ℕ) (inside bound vs : List ℕ) → StepInside inside r v → EachNew (binding r v vs) bound
-    → (b : List ℕ) × (scopeStep r k v inside bound ≡ on b) × EachNew vs b
-unfolding scopeStep StepInside binding EachNew
-step-walked Binds k v inside bound vs used new = (v ∷ bound, rw (new .0), new .1)
-step-walked Uses k v inside bound vs used new = (bound, rw used, new)
-step-walked Neither k v inside bound vs used new = (bound, refl, new)
+  -- and back
+  step-walked : (r : Role) (k v : ℕ) (inside bound vs : List ℕ) → StepInside count inside r v → EachNew (binding r v vs) bound
+      → (b : List ℕ) × (scopeStep count r k v inside bound ≡ on b) × EachNew vs b
+  unfolding scopeStep StepInside binding EachNew
+  step-walked Binds k v inside bound vs used new = (v ∷ bound, rw (new .0), new .1)
+  step-walked Uses k v inside bound vs used new = (bound, rw used, new)
+  step-walked Calls k f inside bound vs used new = (bound, rw (lt-ltb f count used), new)
+  step-walked Neither k v inside bound vs used new = (bound, refl, new)
 
-walked : (e : Expr) (inside bound vs : List ℕ) → UsedInside inside e → EachNew (binders e ++ vs) bound
-    → (b : List ℕ) × (scope e inside bound ≡ on b) × EachNew vs b
-unfolding scope binders UsedInside
-walked (leaf w k v) inside bound vs used new =
-    step-walked _ (k .line) v inside bound vs used (rw (binding-append (role (Leaf w)) v [] vs) at new)
-walked (unary w k v e) inside bound vs used new =
-    let (c, h₁, new₁) = step-walked _ (k .line) v inside bound (binders e ++ vs) (used .0) (rw (binding-append (role (Unary w)) v (binders e) vs) at new) in
-    let (b, h₂, news) = walked e inside c vs (used .1) new₁ in
-    (b, goes-on-bind _ _ h₁ h₂, news)
-walked (binary w k v e₁ e₂) inside bound vs used new =
-    let (c, h₁, new₁) = step-walked _ (k .line) v inside bound (binders e₁ ++ (binders e₂ ++ vs)) (used .0)
-    (rw (binding-append (role (Binary w)) v (binders e₁ ++ binders e₂) vs, append-assoc (binders e₁) (binders e₂) vs) at new) in
-    let (d, h₂, new₂) = walked e₁ inside c (binders e₂ ++ vs) (used .1) new₁ in
-    let (b, h₃, news) = walked e₂ (binding (role (Binary w)) v inside) d vs (used .2) new₂ in
-    (b, goes-on-bind _ _ h₁ (goes-on-bind _ _ h₂ h₃), news)
+  walked : (e : Expr) (inside bound vs : List ℕ) → UsedInside count inside e → EachNew (binders e ++ vs) bound
+      → (b : List ℕ) × (scope count e inside bound ≡ on b) × EachNew vs b
+  unfolding scope binders UsedInside
+  walked (leaf w k v) inside bound vs used new =
+      step-walked _ (k .line) v inside bound vs used (rw (binding-append (role (Leaf w)) v [] vs) at new)
+  walked (unary w k v e) inside bound vs used new =
+      let (c, h₁, new₁) = step-walked _ (k .line) v inside bound (binders e ++ vs) (used .0) (rw (binding-append (role (Unary w)) v (binders e) vs) at new) in
+      let (b, h₂, news) = walked e inside c vs (used .1) new₁ in
+      (b, goes-on-bind _ _ h₁ h₂, news)
+  walked (binary w k v e₁ e₂) inside bound vs used new =
+      let (c, h₁, new₁) = step-walked _ (k .line) v inside bound (binders e₁ ++ (binders e₂ ++ vs)) (used .0)
+      (rw (binding-append (role (Binary w)) v (binders e₁ ++ binders e₂) vs, append-assoc (binders e₁) (binders e₂) vs) at new) in
+      let (d, h₂, new₂) = walked e₁ inside c (binders e₂ ++ vs) (used .1) new₁ in
+      let (b, h₃, news) = walked e₂ (binding (role (Binary w)) v inside) d vs (used .2) new₂ in
+      (b, goes-on-bind _ _ h₁ (goes-on-bind _ _ h₂ h₃), news)
 
--- ------------------------------------------------------------------ a whole program's expression
+  -- ---------------------------------------------------------------- procedures and the root
 
-pub scoped-once-inside : {b : List ℕ} (e : Expr) → scope e [] [] ≡ on b → Distinct (binders e) × UsedInside [] e
-unfolding EachNew
-scoped-once-inside {b} e h =
-    let (used, new) = walk e [] [] b h in
-    (new-distinct (binders e) [] .0 (subst (λ vs. EachNew vs []) (append-nil (binders e)) (new [] tt)) .0, used)
+  walk-all : (ps : List Procedure) (root : Expr) (bound b : List ℕ) → scopes count ps root bound ≡ on b
+      → AllUsedInside count ps root × ((vs : List ℕ) → EachNew vs b → EachNew (allBinders ps root ++ vs) bound)
+  unfolding scopes allBinders AllUsedInside StepInside binding
+  walk-all [] root bound b h = walk root [] bound b h
+  walk-all (p ∷ ps) root bound b h =
+      let (c, h₁, h′) = bind-goes-on _ _ h in
+      let (d, h₂, h₃) = bind-goes-on _ _ h′ in
+      let (_, new) = step-walk Binds (p .line) (p .parameter) [] bound c h₁ in
+      let (used₁, new₁) = walk (p .body) (p .parameter ∷ []) c d h₂ in
+      let (used₂, new₂) = walk-all ps root d b h₃ in (
+        (used₁, used₂),
+        λ vs news. rw (append-assoc (binders (p .body)) (allBinders ps root) vs) (new _ (new₁ _ (new₂ vs news))),
+      )
 
-pub once-inside-scoped : (e : Expr) → Distinct (binders e) → UsedInside [] e → (b : List ℕ) × (scope e [] [] ≡ on b)
-once-inside-scoped e once used =
-    let new = new-distinct (binders e) [] .1 (once, none-among-nothing (binders e)) in
-    let (b, scoped, _) = walked e [] [] [] used (subst (λ vs. EachNew vs []) (sym (append-nil (binders e))) new) in
-    (b, scoped)
+  walked-all : (ps : List Procedure) (root : Expr) (bound vs : List ℕ) → AllUsedInside count ps root → EachNew (allBinders ps root ++ vs) bound
+      → (b : List ℕ) × (scopes count ps root bound ≡ on b) × EachNew vs b
+  unfolding scopes allBinders AllUsedInside StepInside binding
+  walked-all [] root bound vs used new = walked root [] bound vs used new
+  walked-all (p ∷ ps) root bound vs used new =
+      let (c, h₁, new₁) = step-walked Binds (p .line) (p .parameter) [] bound (binders (p .body) ++ (allBinders ps root ++ vs)) tt
+      (rw (append-assoc (binders (p .body)) (allBinders ps root) vs) at new) in
+      let (d, h₂, new₂) = walked (p .body) (p .parameter ∷ []) c (allBinders ps root ++ vs) (used .0) new₁ in
+      let (b, h₃, news) = walked-all ps root d vs (used .1) new₂ in
+      (b, goes-on-bind _ _ h₁ (goes-on-bind _ _ h₂ h₃), news)
+
+  pub scoped-once-inside : {b : List ℕ} (ps : List Procedure) (root : Expr) → scopes count ps root [] ≡ on b
+      → Distinct (allBinders ps root) × AllUsedInside count ps root
+  unfolding EachNew
+  scoped-once-inside {b} ps root h =
+      let (used, new) = walk-all ps root [] b h in
+      (new-distinct (allBinders ps root) [] .0 (subst (λ vs. EachNew vs []) (append-nil (allBinders ps root)) (new [] tt)) .0, used)
+
+  pub once-inside-scoped : (ps : List Procedure) (root : Expr) → Distinct (allBinders ps root) → AllUsedInside count ps root
+      → (b : List ℕ) × (scopes count ps root [] ≡ on b)
+  once-inside-scoped ps root once used =
+      let new = new-distinct (allBinders ps root) [] .1 (once, none-among-nothing (allBinders ps root)) in
+      let (b, scoped, _) = walked-all ps root [] [] used (subst (λ vs. EachNew vs []) (sym (append-nil (allBinders ps root))) new) in
+      (b, scoped)

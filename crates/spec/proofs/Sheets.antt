@@ -29,7 +29,7 @@ module _ (purpose : Purpose) (p s : List ℕ) where
       let (S, splits, h₄) = bind-goes-on _ _ h₃ in
       let formed : WellFormedSheets purpose p s P S = record {
         program = program-well-formed p (leb-true _ _ (demand-goes-on _ _ small)) reads;
-        split = split-well-formed purpose (P .steps) s (leb-true _ _ (demand-goes-on _ _ small′)) splits;
+        split = split-well-formed purpose P s (leb-true _ _ (demand-goes-on _ _ small′)) splits;
       } in
       along (λ found. WellFormedSheets purpose p s (found .0) (found .1)) (on-injective h₄) formed
 
@@ -39,12 +39,12 @@ module _ (purpose : Purpose) (p s : List ℕ) where
       goes-on-bind _ _ (goes-on-demand _ _ (le-leb _ _ (F .program .fits)))
       (goes-on-bind _ _ (well-formed-program p (F .program))
       (goes-on-bind _ _ (goes-on-demand _ _ (le-leb _ _ (F .split .fits)))
-      (goes-on-bind _ _ (well-formed-split purpose (P .steps) s (F .split)) refl)))
+      (goes-on-bind _ _ (well-formed-split purpose P s (F .split)) refl)))
 
   -- what is judged of both, once they are read
   pub sheets-then : {A : Type 0} (f : Program × Split → Out A) → (sheets purpose p s >>= f)
       ≡ (demand (leb (length p) programLimit) LongProgram >>= λ fits. program p >>= λ P.
-      demand (leb (length s) splitLimit) LongSplit >>= λ fits′. split purpose (P .steps) s >>= λ S. f (P, S))
+      demand (leb (length s) splitLimit) LongSplit >>= λ fits′. split purpose P s >>= λ S. f (P, S))
   unfolding sheets
   sheets-then f =
       bind-bind _ _ f ∙ bind-alike _ _ _ λ _ _.
@@ -59,7 +59,7 @@ module _ (purpose : Purpose) (p s : List ℕ) where
       early-bind _ _ (early-demand _ _ refl) λ fits.
       early-bind _ _ (program-early p) λ P.
       early-bind _ _ (early-demand _ _ refl) λ fits′.
-      early-bind _ _ (split-early purpose (P .steps) s) λ S. tt
+      early-bind _ _ (split-early purpose P s) λ S. tt
 
   pub long-program : 16384 < length p → sheets purpose p s ≡ stop LongProgram
   unfolding sheets demand _>>=_ programLimit
@@ -76,10 +76,10 @@ module _ (purpose : Purpose) (p s : List ℕ) where
       long-split h = rw (le-leb _ _ fits, reads, lt-leb _ _ h)
 
       module _ (fits′ : length s ≤ 65536) where
-        pub split-refused : (r : Refusal) → split purpose (P .steps) s ≡ stop r → sheets purpose p s ≡ stop r
+        pub split-refused : (r : Refusal) → split purpose P s ≡ stop r → sheets purpose p s ≡ stop r
         unfolding sheets demand _>>=_ programLimit splitLimit
         split-refused r e = rw (le-leb _ _ fits, reads, le-leb _ _ fits′, e)
 
-        pub sheets-read : (S : Split) → split purpose (P .steps) s ≡ on S → sheets purpose p s ≡ on (P, S)
+        pub sheets-read : (S : Split) → split purpose P s ≡ on S → sheets purpose p s ≡ on (P, S)
         unfolding sheets demand _>>=_ programLimit splitLimit
         sheets-read S e = rw (le-leb _ _ fits, reads, le-leb _ _ fits′, e)

@@ -2,7 +2,7 @@
 -- map 0; that reading is written out here, beside the theorem; no definition and no contract cites it.
 use mathlib.Core.Path.{_≡_, refl, ap, sym, _∙_}
 use mathlib.Core.List.{List, [], _∷_, _++_, map}
-use mathlib.Core.Bool.{Bool, true, false, _&&_}
+use mathlib.Core.Bool.{Bool, true, false, _&&_, not}
 use mathlib.Core.Option.{Option, none, some}
 use Prim.Native.Nat.{ℕ, zero, suc, _+_, _≤_}
 use native.Mathlib.Omega.{arith}
@@ -12,26 +12,27 @@ use borrow.Author.Tests.{ltb-true, lt-ltb, le-leb}
 use Rattle.spec.specs.Choice.{if_then_else_}
 use Rattle.spec.specs.Text.{bytes, Line, closed, unclosed, lines, Field, onField, fields, digitLimit, digits, leadingZero, value, numeral}
 use Rattle.spec.specs.Reading.{Out, stop, on, _>>=_, demand, Seen, right, wrong, badRange, seen, below, inRange, allInRange, withNumeral, numerals, ranged, numbers, splitSheet, Place, passed, nextLine, readLine, readLines, begin, end}
-use Rattle.spec.specs.Words.{takesStart}
+use Rattle.spec.specs.Words.{takesStart, keepsBack}
 use Rattle.spec.specs.Expression.{Step}
 use Rattle.spec.specs.Program.{Program, program, programLimit}
-use Rattle.spec.specs.Split.{splitLimit, Header, headerLine, typeLines, mapLine, Row, rowOf, startGiven, startRange, postRange, postField, rowLine, Split, split}
+use Rattle.spec.specs.Split.{splitLimit, Header, headerLine, typeLines, mapLine, signatureLine, Row, rowOf, startGiven, startRange, postRange, postField, rowLine, Split, split}
 use Rattle.spec.specs.Workspace.{workspaceSize}
 use Rattle.spec.specs.Verdict.{sheets, locksTakeEnough, startAtMostOne, ruled, checked, answer, verdict}
 use Rattle.spec.specs.declared.Answer.{Answer}
 use Rattle.spec.specs.declared.Refusal.the-variants.{ShortWorkspace, LongProgram, LongSplit}
 use Rattle.spec.specs.declared.Purpose.the-variants.{Check}
 use Rattle.spec.proofs.Outcomes.{bind-alike}
+use Rattle.spec.proofs.Tests.{both-true}
 use Rattle.spec.proofs.Texts.{onClosed}
 
 -- ------------------------------------------------------------------ the reading before
 
--- whether the line of a step is a spawn's and leaves its start empty, as `t,m,` does
+-- whether the line of a step is a spawn's and leaves its start empty, as `t,m,` does; a call's s was never left empty
 unfoldable pub startLeft : Step → List Field → Bool
 startLeft s [] = false
 startLeft s (t ∷ []) = false
 startLeft s (t ∷ m ∷ []) = false
-startLeft s (t ∷ m ∷ [] ∷ []) = takesStart (s .word)
+startLeft s (t ∷ m ∷ [] ∷ []) = takesStart (s .word) && not (keepsBack (s .word))
 startLeft s (t ∷ m ∷ (b ∷ f) ∷ []) = false
 startLeft s (t ∷ m ∷ f ∷ g ∷ fs) = false
 
@@ -42,22 +43,23 @@ rowLineFormerly H s fs =
     then seen (rowOf (some (record { 0 = 0 }))) (numbers (below (H .types) ∷ below (H .maps) ∷ []) (take 2 fs))
     else rowLine Check H s fs
 
-unfoldable pub splitFormerly : List Step → List ℕ → Out Split
-splitFormerly steps text = do
+unfoldable pub splitFormerly : Program → List ℕ → Out Split
+splitFormerly P text = do
   top ← begin splitSheet (lines text)
   (H, p₁) ← readLine splitSheet (headerLine Check) top
   (types, p₂) ← readLines splitSheet (typeLines H 0 (H .types)) p₁
   (maps, p₃) ← readLines splitSheet (replicate (H .maps) (mapLine H)) p₂
-  (rows, p₄) ← readLines splitSheet (map (rowLineFormerly H) steps) p₃
-  done ← end splitSheet p₄
-  on (record { header = H; types = types; maps = maps; rows = rows })
+  (signatures, p₄) ← readLines splitSheet (replicate (length (P .procedures)) (signatureLine H)) p₃
+  (rows, p₅) ← readLines splitSheet (map (rowLineFormerly H) (P .steps)) p₄
+  done ← end splitSheet p₅
+  on (record { header = H; types = types; maps = maps; signatures = signatures; rows = rows })
 
 unfoldable pub sheetsFormerly : (programText splitText : List ℕ) → Out (Program × Split)
 sheetsFormerly programText splitText = do
   fits ← demand (leb (length programText) programLimit) LongProgram
   P ← program programText
   fits′ ← demand (leb (length splitText) splitLimit) LongSplit
-  S ← splitFormerly (P .steps) splitText
+  S ← splitFormerly P splitText
   on (P, S)
 
 unfoldable pub checkedFormerly : (room : ℕ) → (programText splitText : List ℕ) → Out (Unit {0})
@@ -86,16 +88,18 @@ along [] ls = ls
 along (f ∷ fs) [] = []
 along (f ∷ fs) (l ∷ ls) = onClosed f l ∷ along fs ls
 
--- the lines behind a header: types and maps are kept, and 0 is written on the lines of the steps; behind what is no header all stays
-unfoldable pub zerosBehind : Seen Header → List Step → List Line → List Line
-zerosBehind (wrong w) steps ls = ls
-zerosBehind (right H) steps ls = along (replicate (H .types) kept ++ (replicate (H .maps) kept ++ map writeZero steps)) ls
+-- the lines behind a header: types, maps and signatures are kept, and 0 is written on the lines of the steps; behind what is no header
+-- all stays
+unfoldable pub zerosBehind : Seen Header → Program → List Line → List Line
+zerosBehind (wrong w) P ls = ls
+zerosBehind (right H) P ls =
+    along (replicate (H .types) kept ++ (replicate (H .maps) kept ++ (replicate (length (P .procedures)) kept ++ map writeZero (P .steps)))) ls
 
--- the lines of a sheet, for the steps of a program
-unfoldable pub zerosWritten : List Step → List Line → List Line
-zerosWritten steps [] = []
-zerosWritten steps (unclosed l ∷ ls) = unclosed l ∷ ls
-zerosWritten steps (closed l ∷ ls) = closed l ∷ zerosBehind (headerLine Check (fields l)) steps ls
+-- the lines of a sheet, for a program
+unfoldable pub zerosWritten : Program → List Line → List Line
+zerosWritten P [] = []
+zerosWritten P (unclosed l ∷ ls) = unclosed l ∷ ls
+zerosWritten P (closed l ∷ ls) = closed l ∷ zerosBehind (headerLine Check (fields l)) P ls
 
 -- ------------------------------------------------------------------ one line
 
@@ -151,9 +155,9 @@ module _ (H : Header) (s : Step) where
       rw (zero-in-range (H .types) (H .maps) t m) (judged-alike t m (allInRange (below (H .types) ∷ below (H .maps) ∷ []) (t ∷ m ∷ [])))
 
   -- a spawn's row with an empty start, and the same with 0
-  zero-alike : (t m : Field) → takesStart (s .word) ≡ true → rowLineFormerly H s (t ∷ m ∷ [] ∷ []) ≡ rowLine Check H s (t ∷ m ∷ bytes "0" ∷ [])
+  zero-alike : (t m : Field) → (takesStart (s .word) && not (keepsBack (s .word))) ≡ true → rowLineFormerly H s (t ∷ m ∷ [] ∷ []) ≡ rowLine Check H s (t ∷ m ∷ bytes "0" ∷ [])
   unfolding rowLineFormerly startLeft rowLine postRange postField startRange numbers numerals numeral digitLimit digits leadingZero value bytes withNumeral
-  zero-alike t m h = rw h (numbers-alike (numeral t) (numeral m))
+  zero-alike t m h = rw (h, both-true (takesStart (s .word)) (not (keepsBack (s .word))) h .0) (numbers-alike (numeral t) (numeral m))
 
   unchanged : (l : List ℕ) → startLeft s (fields l) ≡ false → rowLineFormerly H s (fields l) ≡ rowLine Check H s (fields (writeZero s l))
   unfolding rowLineFormerly writeZero
@@ -164,9 +168,9 @@ module _ (H : Header) (s : Step) where
   unfolding startLeft writeZero onLast bytes
   fields-alike t [] l e e′ = unchanged l (rw e)
   fields-alike t (m ∷ []) l e e′ = unchanged l (rw e)
-  fields-alike t (m ∷ [] ∷ []) l e e′ = by-word (takesStart (s .word)) refl
+  fields-alike t (m ∷ [] ∷ []) l e e′ = by-word (takesStart (s .word) && not (keepsBack (s .word))) refl
     where
-      by-word : (b : Bool) → takesStart (s .word) ≡ b → rowLineFormerly H s (fields l) ≡ rowLine Check H s (fields (writeZero s l))
+      by-word : (b : Bool) → (takesStart (s .word) && not (keepsBack (s .word))) ≡ b → rowLineFormerly H s (fields l) ≡ rowLine Check H s (fields (writeZero s l))
       by-word true h = rw (e, h, e′) (zero-alike t m h)
       by-word false h = unchanged l (rw e h)
   fields-alike t (m ∷ (b ∷ f) ∷ []) l e e′ = unchanged l (rw e)
@@ -224,6 +228,11 @@ module _ (H : Header) {gs : List (List ℕ → List ℕ)} where
   types-alike own zero = nothing
   types-alike own (suc n) = line (λ l. refl) (types-alike (own + 1) n)
 
+  signatures-alike : (n : ℕ) → Alike (replicate n (signatureLine H)) (replicate n (signatureLine H)) (replicate n kept ++ gs) gs
+  unfolding kept
+  signatures-alike zero = nothing
+  signatures-alike (suc n) = line (λ l. refl) (signatures-alike n)
+
   maps-alike : (n : ℕ) → Alike (replicate n (mapLine H)) (replicate n (mapLine H)) (replicate n kept ++ gs) gs
   unfolding kept
   maps-alike zero = nothing
@@ -233,17 +242,18 @@ rows-alike : (H : Header) (steps : List Step) → Alike (map (rowLineFormerly H)
 rows-alike H [] = nothing
 rows-alike H (s ∷ steps) = line (row-alike H s) (rows-alike H steps)
 
-module _ (steps : List Step) (t t′ : List ℕ) where
+module _ (P : Program) (t t′ : List ℕ) where
   header-alike : (l : List ℕ) (ls : List Line) (x : Seen Header) → headerLine Check (fields l) ≡ x
-      → lines t ≡ closed l ∷ ls → lines t′ ≡ closed l ∷ zerosBehind x steps ls → splitFormerly steps t ≡ split Check steps t′
+      → lines t ≡ closed l ∷ ls → lines t′ ≡ closed l ∷ zerosBehind x P ls → splitFormerly P t ≡ split Check P t′
   unfolding splitFormerly split begin readLine nextLine passed _>>=_ zerosBehind along
   header-alike l ls (wrong w) h e e′ = rw (e, e′, h)
   header-alike l ls (right H) h e e′ = rw (e, e′, h) (
       all-alike (types-alike H 0 (H .types)) 1 ls _ _ λ types k₁ rest₁.
       all-alike (maps-alike H (H .maps)) k₁ rest₁ _ _ λ maps k₂ rest₂.
-      all-alike (rows-alike H steps) k₂ rest₂ _ _ λ rows k₃ rest₃. refl)
+      all-alike (signatures-alike H (length (P .procedures))) k₂ rest₂ _ _ λ signatures k₃ rest₃.
+      all-alike (rows-alike H (P .steps)) k₃ rest₃ _ _ λ rows k₄ rest₄. refl)
 
-  sheet-alike : (ls : List Line) → lines t ≡ ls → lines t′ ≡ zerosWritten steps ls → splitFormerly steps t ≡ split Check steps t′
+  sheet-alike : (ls : List Line) → lines t ≡ ls → lines t′ ≡ zerosWritten P ls → splitFormerly P t ≡ split Check P t′
   unfolding splitFormerly split begin readLine nextLine _>>=_ zerosWritten
   sheet-alike [] e e′ = rw (e, e′)
   sheet-alike (unclosed l ∷ ls) e e′ = rw (e, e′)
@@ -251,9 +261,9 @@ module _ (steps : List Step) (t t′ : List ℕ) where
 
 -- ------------------------------------------------------------------ the theorem
 
--- t′ is t with 0 written, for the steps of the program p
+-- t′ is t with 0 written, for the program p
 abbrev pub ZeroWritten : (p t t′ : List ℕ) → Type 0
-ZeroWritten p t t′ = (P : Program) → program p ≡ on P → lines t′ ≡ zerosWritten (P .steps) (lines t)
+ZeroWritten p t t′ = (P : Program) → program p ≡ on P → lines t′ ≡ zerosWritten P (lines t)
 
 sheets-alike : (p t t′ : List ℕ) → length t ≤ splitLimit → length t′ ≤ splitLimit → ZeroWritten p t t′ → sheetsFormerly p t ≡ sheets Check p t′
 unfolding sheetsFormerly sheets
@@ -261,7 +271,7 @@ sheets-alike p t t′ fits fits′ written = rw (le-leb _ _ fits, le-leb _ _ fit
     bind-alike _ _ _ λ _ _.
     bind-alike _ _ _ λ P reads.
     bind-alike _ _ _ λ _ _.
-    ap (_>>= λ S. on (P, S)) (sheet-alike (P .steps) t t′ (lines t) refl (written P reads)))
+    ap (_>>= λ S. on (P, S)) (sheet-alike P t t′ (lines t) refl (written P reads)))
 
 -- of each pair, refused or accepted, under each heading
 pub zero-written-as-formerly : (room : ℕ) (p t t′ : List ℕ) → length t ≤ splitLimit → length t′ ≤ splitLimit → ZeroWritten p t t′

@@ -1,4 +1,4 @@
--- The steps of a program sheet stand on the lines behind the count line, each on its own.
+-- The steps and the `proc` lines of a program sheet stand on the lines behind the count line, each on its own.
 use mathlib.Core.Path.{_≡_, refl, ap, sym}
 use mathlib.Core.List.{List, [], _∷_, map}
 use mathlib.Core.Bool.{Bool, true, false}
@@ -9,54 +9,64 @@ use lib.ListN.{length}
 use Rattle.spec.specs.Choice.{if_then_else_}
 use Rattle.spec.specs.Text.{bytes, same, Line, Field, lookUp}
 use Rattle.spec.specs.Reading.{Fault, freelock, Seen, right, wrong, wrongAfter, _to_, numbers}
-use Rattle.spec.specs.Words.{words}
-use Rattle.spec.specs.Expression.{Step}
-use Rattle.spec.specs.Program.{stepOf, wordLine, stepLine, stepLines}
+use Rattle.spec.specs.Words.{wordsUnder}
+use Rattle.spec.specs.Expression.{Item, lineOfItem}
+use Rattle.spec.specs.Program.{stepOf, wordLine, procOf, procLine, itemLine, itemLines}
 use Rattle.spec.specs.WellFormed.{Shows, nothing, line}
+use Rattle.spec.specs.declared.ProgramHeading.{ProgramHeading}
+use Rattle.spec.specs.declared.ProgramHeading.the-variants.{P, P2}
 use Rattle.spec.specs.declared.Word.{Word}
 use Rattle.spec.proofs.Ranges.{wrong-is-not-right, seen-right}
 
-pub step-lines-counted : (k n : ℕ) → length (stepLines k n) ≡ n
-unfolding stepLines
-step-lines-counted k zero = refl
-step-lines-counted k (suc n) = ap suc (step-lines-counted (k + 1) n)
+pub item-lines-counted : (h : ProgramHeading) (k n : ℕ) → length (itemLines h k n) ≡ n
+unfolding itemLines
+item-lines-counted h k zero = refl
+item-lines-counted h k (suc n) = ap suc (item-lines-counted h (k + 1) n)
 
--- ------------------------------------------------------------------ the line of a step
+-- ------------------------------------------------------------------ the line of a step, and of a procedure
 
 after-wrong : {A B C : Type 0} {b : B} (w : Fault) (x : Seen A) → wrongAfter w x ≡ right b → C
 unfolding wrongAfter
 after-wrong w (right a) h = wrong-is-not-right h
 after-wrong w (wrong v) h = wrong-is-not-right h
 
-word-line : (k : ℕ) (o : Option Word) (fs : List Field) (s : Step) → wordLine k o fs ≡ right s → s .line ≡ k
-unfolding wordLine stepOf
+word-line : (k : ℕ) (o : Option Word) (fs : List Field) (s : Item) → wordLine k o fs ≡ right s → lineOfItem s ≡ k
+unfolding wordLine stepOf lineOfItem
 word-line k none fs s h = wrong-is-not-right h
 word-line k (some w) fs s h =
     let (ns, _, is) = seen-right _ h in
-    sym (ap (λ (x : Step). x .line) is)
+    sym (ap lineOfItem is)
 
-pub step-line : (k : ℕ) (fs : List Field) (s : Step) → stepLine k fs ≡ right s → s .line ≡ k
-unfolding stepLine
-step-line k [] s h = wrong-is-not-right h
-step-line k (f ∷ fs) s h = by-word (same f (bytes "freelock")) h
+proc-line : (h : ProgramHeading) (k : ℕ) (fs : List Field) (s : Item) → procLine h k fs ≡ right s → lineOfItem s ≡ k
+unfolding procLine procOf lineOfItem
+proc-line P k fs s h = wrong-is-not-right h
+proc-line P2 k fs s h =
+    let (ns, _, is) = seen-right _ h in
+    sym (ap lineOfItem is)
+
+pub item-line : (h : ProgramHeading) (k : ℕ) (fs : List Field) (s : Item) → itemLine h k fs ≡ right s → lineOfItem s ≡ k
+unfolding itemLine
+item-line g k [] s h = wrong-is-not-right h
+item-line g k (f ∷ fs) s h = by-word (same f (bytes "freelock")) (same f (bytes "proc")) h
   where
-    by-word : (b : Bool) → (if b then wrongAfter freelock (numbers ((0 to 0) ∷ []) fs) else wordLine k (lookUp words f) fs) ≡ right s → s .line ≡ k
-    by-word true h = after-wrong freelock (numbers ((0 to 0) ∷ []) fs) h
-    by-word false h = word-line k (lookUp words f) fs s h
+    by-word : (b c : Bool)
+        → (if b then wrongAfter freelock (numbers ((0 to 0) ∷ []) fs) else if c then procLine g k fs else wordLine k (lookUp (wordsUnder g) f) fs) ≡ right s
+        → lineOfItem s ≡ k
+    by-word true c h = after-wrong freelock (numbers ((0 to 0) ∷ []) fs) h
+    by-word false true h = proc-line g k fs s h
+    by-word false false h = word-line k (lookUp (wordsUnder g) f) fs s h
 
 -- ------------------------------------------------------------------ lines rise
-
-abbrev pub lineOfStep : Step → ℕ
-lineOfStep s = s .line
 
 -- each line is at least lo, and past the one before it
 unfoldable pub Rising : (lo : ℕ) → List ℕ → Type 0
 Rising lo [] = Unit {0}
 Rising lo (k ∷ ks) = (lo ≤ k) × Rising (k + 1) ks
 
-pub steps-rise : {ls rest : List Line} {ss : List Step} (k n : ℕ) → Shows (stepLines k n) ls ss rest → Rising k (map lineOfStep ss)
-unfolding stepLines Rising
-steps-rise k zero nothing = tt
-steps-rise k (suc n) (line {a = s} h more) =
-    let here : s .line ≡ k = step-line k _ s h in
-    rw here (omega arith, steps-rise (k + 1) n more)
+pub items-rise : {ls rest : List Line} {items : List Item} (h : ProgramHeading) (k n : ℕ) → Shows (itemLines h k n) ls items rest
+    → Rising k (map lineOfItem items)
+unfolding itemLines Rising
+items-rise g k zero nothing = tt
+items-rise g k (suc n) (line {a = s} h more) =
+    let here : lineOfItem s ≡ k = item-line g k _ s h in
+    rw here (omega arith, items-rise g (k + 1) n more)

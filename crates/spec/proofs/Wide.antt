@@ -1,20 +1,20 @@
 -- In a split whose numbers are in range every map has a number for each location, and so have the post and the start that an
--- expression's row shows.
+-- expression's row shows, and the maps of a procedure's line.
 use mathlib.Core.Path.{_≡_, refl}
-use mathlib.Core.List.{List}
 use mathlib.Core.Option.{Option, none, some}
-use Prim.Native.Nat.{_<_}
+use Prim.Native.Nat.{ℕ, _<_}
 use native.Mathlib.Omega.{arith}
 use native.Mathlib.Decide.{decLt}
 use lib.ListN.{length, length-replicate, List·getD-eq-default}
-use Rattle.spec.specs.Expression.{Step, Expr, indexOf}
-use Rattle.spec.specs.Split.{Row, noRow, Split, mapAt}
-use Rattle.spec.specs.Conditions.{row, post, startIn, bodyStart}
+use Rattle.spec.specs.Expression.{Expr, indexOf}
+use Rattle.spec.specs.Program.{Program}
+use Rattle.spec.specs.Split.{Row, noRow, Signature, noSignature, Split, mapAt}
+use Rattle.spec.specs.Conditions.{row, post, startIn, bodyStart, keptBack, signature}
 use Rattle.spec.specs.Ranges.{InRange}
 use Rattle.spec.specs.declared.MapNumber.{MapNumber}
 use Rattle.spec.proofs.Clashes.{none-is-not-some}
 
-module _ {steps : List Step} {S : Split} (R : InRange steps S) where
+module _ {P : Program} {S : Split} (R : InRange P S) where
   pub map-wide : (m : MapNumber) → m .0 < length (S .maps) → length (mapAt S m) ≡ S .header .locations
   unfolding mapAt
   map-wide m l = R .mapWide (m .0) l
@@ -48,3 +48,29 @@ module _ {steps : List Step} {S : Split} (R : InRange steps S) where
       by-cases : (o : Option MapNumber) → row S e .start ≡ o → length (startIn S o) ≡ S .header .locations
       by-cases none given = length-replicate (S .header .locations) 0
       by-cases (some m) given = map-wide m (start-fits e m given)
+
+  -- and so has what a call keeps back
+  pub kept-wide : (e : Expr) → length (keptBack S e) ≡ S .header .locations
+  unfolding keptBack
+  kept-wide e = start-wide e
+
+  -- what holds of each signature of the sheet, and of none, holds of that of procedure f
+  of-signature : (Q : Signature → Type 0) → Q noSignature → (f : ℕ) → (f < length (S .signatures) → Q (signature S f)) → Q (signature S f)
+  unfolding signature
+  of-signature Q absent f each = by-cases (decLt f (length (S .signatures)))
+    where
+      by-cases : Dec (f < length (S .signatures)) → Q (signature S f)
+      by-cases (yes l) = each l
+      by-cases (no l) = rw (List·getD-eq-default (S .signatures) noSignature {n = f} (omega (arith, l))) absent
+
+  pub before-wide : (f : ℕ) → length (mapAt S (signature S f .before)) ≡ S .header .locations
+  unfolding signature
+  before-wide f =
+      map-wide (signature S f .before)
+      (of-signature (λ g. g .before .0 < length (S .maps)) (omega (arith, R .mapsCounted, R .mapsFew .0)) f (R .beforeMap f noSignature))
+
+  pub after-wide : (f : ℕ) → length (mapAt S (signature S f .after)) ≡ S .header .locations
+  unfolding signature
+  after-wide f =
+      map-wide (signature S f .after)
+      (of-signature (λ g. g .after .0 < length (S .maps)) (omega (arith, R .mapsCounted, R .mapsFew .0)) f (R .afterMap f noSignature))

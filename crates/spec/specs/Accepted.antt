@@ -5,7 +5,7 @@ use Prim.Native.Nat.{ℕ, _≤_}
 use Rattle.spec.specs.Program.{Program}
 use Rattle.spec.specs.Split.{Map, Split, typeAt, mapAt}
 use Rattle.spec.specs.Conditions.{startMap}
-use Rattle.spec.specs.Figure5.{_⊒_, Derives}
+use Rattle.spec.specs.Figure5.{_⊒_, Derives, BodiesDerive}
 use Rattle.spec.specs.WellFormed.{WellFormedSheets}
 use Rattle.spec.specs.declared.Purpose.the-variants.{Check}
 use Rattle.spec.specs.declared.TypeNumber.{TypeNumber}
@@ -22,11 +22,12 @@ abbrev pub LocksTakeEnough : Split → Type 0
 LocksTakeEnough S = (t : TypeNumber) (i o : MapNumber) → typeAt S t ≡ type-line.Lock i o → mapAt S o ⊒ mapAt S i
 
 -- "both sheets are well formed and the split sheet gives, step by step, a derivation [..], with the start holding at most
--- one of each location"
+-- one of each location"; a derivation for each body and for the root
 pub record Right (programText splitText : List ℕ) : Type 0 where
   pub P : Program
   pub S : Split
   pub sheets : WellFormedSheets Check programText splitText P S
   pub locks : LocksTakeEnough S
   pub atMostOne : AtMost (S .header .denominator) (startMap S)
+  pub bodies : BodiesDerive S 0 (P .procedures)
   pub derives : Derives S [] (startMap S) (P .root)

@@ -6,8 +6,8 @@ use Prim.Native.Nat.{ℕ}
 use lib.Dec.{eqb, leb, ltb}
 use lib.ListN.{getD, replicate}
 use Rattle.spec.specs.Choice.{if_then_else_}
-use Rattle.spec.specs.Expression.{Expr, leaf, unary, binary, indexOf}
-use Rattle.spec.specs.Split.{Map, Row, noRow, Split}
+use Rattle.spec.specs.Expression.{Expr, leaf, unary, binary, indexOf, Procedure}
+use Rattle.spec.specs.Split.{Map, Row, noRow, Signature, noSignature, Split}
 unfoldable pub use Rattle.spec.specs.Split.{typeAt, mapAt}
 use Rattle.spec.specs.Agreement.{agree}
 use Rattle.spec.specs.Maps.{_=ᵐ_, _≥ᵐ_, nowhere, _+ᵐ_, _×ᵐ_, share}
@@ -17,7 +17,7 @@ use Rattle.spec.specs.declared.Location.{Location}
 use Rattle.spec.specs.declared.TypeLine.{TypeLine}
 use Rattle.spec.specs.declared.TypeLine.the-variants as type-line
 use Rattle.spec.specs.declared.LeafWord.the-variants.{Var, Int, Newtid, Newlock, Newsem, Newrwlock}
-use Rattle.spec.specs.declared.UnaryWord.the-variants.{While, Join, Ref, Read, Lock, Unlock, Post, Wait, Rdlock, Rdunlock, Wrlock, Wrunlock}
+use Rattle.spec.specs.declared.UnaryWord.the-variants.{While, Join, Ref, Read, Lock, Unlock, Post, Wait, Rdlock, Rdunlock, Wrlock, Wrunlock, Call}
 use Rattle.spec.specs.declared.BinaryWord.the-variants.{Let, If, Spawn, Write}
 
 -- ------------------------------------------------------------------ kinds of type
@@ -169,8 +169,8 @@ module _ (S : Split) where
   unfoldable pub row : Expr → Row
   row e = getD (S .rows) (indexOf e) noRow
 
-  -- of an expression: its type by number, that type's line, its post, the map that a spawned body starts with, K of its type, in
-  -- and out of its lock type, r and w of its rwlock type
+  -- of an expression: its type by number, that type's line, its post, the map that s names, K of its type, in and out of its lock
+  -- type, r and w of its rwlock type
   unfoldable pub type : Expr → TypeNumber
   type e = row e .type
 
@@ -185,8 +185,17 @@ module _ (S : Split) where
   startIn none = replicate (S .header .locations) 0
   startIn (some m) = mapAt S m
 
+  -- the map that a spawned body starts with
   unfoldable pub bodyStart : Expr → Map
   bodyStart e = startIn (row e .start)
+
+  -- "A call's s is the map kept back"; it is never empty, since 50 refuses that under every heading
+  unfoldable pub keptBack : Expr → Map
+  keptBack e = bodyStart e
+
+  -- the signature of procedure f
+  unfoldable pub signature : (f : ℕ) → Signature
+  signature f = getD (S .signatures) f noSignature
 
   unfoldable pub K : Expr → Map
   K e = mapAt S (load (kind e))
@@ -250,3 +259,10 @@ module _ (S : Split) where
       T (isInt (kind e)) ∷ T (isRwlock (kind e₁)) ∷ F (post e =ᵐ post e₁ +ᵐ writeMap e₁) ∷ []
   conditionsOf Γ pre (unary Wrunlock k v e₁) = let e = unary Wrunlock k v e₁ in
       T (isInt (kind e)) ∷ T (isRwlock (kind e₁)) ∷ F (post e +ᵐ writeMap e₁ =ᵐ post e₁) ∷ []
+  conditionsOf Γ pre (unary Call k f e₁) = let e = unary Call k f e₁ in let g = signature f in
+      T (agree S (type e) (g .result)) ∷ T (agree S (type e₁) (g .argument)) ∷ F (post e₁ =ᵐ mapAt S (g .before) +ᵐ keptBack e)
+      ∷ F (post e =ᵐ mapAt S (g .after) +ᵐ keptBack e) ∷ []
+
+  -- "At a `proc` line: 1 the body's type is result (T); 2 the body's post ≥ after (F)"
+  unfoldable pub procedureConditions : Signature → Procedure → List Condition
+  procedureConditions g p = T (agree S (type (p .body)) (g .result)) ∷ F (post (p .body) ≥ᵐ mapAt S (g .after)) ∷ []

@@ -2,20 +2,20 @@
 -- One constructor a word, in the printed order. Types agree as Agreement.antt says; 1 is the denominator. Locks are those of
 -- Section 3.1.6: what a variable may show of the type of its let's value is VAR's own premise.
 use mathlib.Core.Path.{_≡_}
-use mathlib.Core.List.{[], _∷_}
+use mathlib.Core.List.{List, [], _∷_}
 use mathlib.Core.Bool.{true}
-use Prim.Native.Nat.{ℕ, _≤_, _<_}
-use Rattle.spec.specs.Expression.{Position, Expr, leaf, unary, binary}
-use Rattle.spec.specs.Split.{Map, Split}
+use Prim.Native.Nat.{ℕ, _+_, _≤_, _<_}
+use Rattle.spec.specs.Expression.{Position, Expr, leaf, unary, binary, Procedure}
+use Rattle.spec.specs.Split.{Map, Signature, Split}
 use Rattle.spec.specs.Maps.{_+ᵐ_, _×ᵐ_, share}
 use Rattle.spec.specs.Agreement.{agree}
-use Rattle.spec.specs.Conditions.{Env, typeIn, mayShow, type, kind, post, bodyStart, mapAt}
+use Rattle.spec.specs.Conditions.{Env, typeIn, mayShow, type, kind, post, bodyStart, keptBack, signature, mapAt}
 use Rattle.spec.specs.declared.TypeNumber.{TypeNumber}
 use Rattle.spec.specs.declared.MapNumber.{MapNumber}
 use Rattle.spec.specs.declared.Location.{Location}
 use Rattle.spec.specs.declared.TypeLine.the-variants as type-line
 use Rattle.spec.specs.declared.LeafWord.the-variants.{Var, Int, Newtid, Newlock, Newsem, Newrwlock}
-use Rattle.spec.specs.declared.UnaryWord.the-variants.{While, Join, Ref, Read, Lock, Unlock, Post, Wait, Rdlock, Rdunlock, Wrlock, Wrunlock}
+use Rattle.spec.specs.declared.UnaryWord.the-variants.{While, Join, Ref, Read, Lock, Unlock, Post, Wait, Rdlock, Rdunlock, Wrlock, Wrunlock, Call}
 use Rattle.spec.specs.declared.BinaryWord.the-variants.{Let, If, Spawn, Write}
 
 -- a map is at least another, number by number
@@ -114,3 +114,21 @@ module _ (S : Split) where
         → Derives Γ Ψ e₁ → kind S e₁ ≡ type-line.Rwlock Kr Kw → kind S (unary Wrunlock k v e₁) ≡ type-line.Int
         → post S (unary Wrunlock k v e₁) +ᵐ mapAt S Kw ≡ post S e₁
         → Derives Γ Ψ (unary Wrunlock k v e₁)
+    -- section 3.1.3; the caller keeps a map back, and has it again afterwards
+    CALL : {Γ : Env} {Ψ : Map} {k : Position} {f : ℕ} {e₁ : Expr}
+        → Derives Γ Ψ e₁ → agree S (type S e₁) (signature S f .argument) ≡ true
+        → post S e₁ ≡ mapAt S (signature S f .before) +ᵐ keptBack S (unary Call k f e₁)
+        → agree S (type S (unary Call k f e₁)) (signature S f .result) ≡ true
+        → post S (unary Call k f e₁) ≡ mapAt S (signature S f .after) +ᵐ keptBack S (unary Call k f e₁)
+        → Derives Γ Ψ (unary Call k f e₁)
+
+  -- a body that does what its signature says: x is as if a let had bound it, `before` is its pre, and it leaves at least `after`
+  pub record BodyDerives (g : Signature) (p : Procedure) : Type 0 where
+    pub derives : Derives ((p .parameter, g .argument) ∷ []) (mapAt S (g .before)) (p .body)
+    pub result : agree S (type S (p .body)) (g .result) ≡ true
+    pub after : post S (p .body) ⊒ mapAt S (g .after)
+
+  -- each of the procedures from number f on, with the signature of its number
+  pub data BodiesDerive : (f : ℕ) → List Procedure → Type 0 where
+    noProcedures : {f : ℕ} → BodiesDerive f []
+    procedure : {f : ℕ} {p : Procedure} {ps : List Procedure} → BodyDerives (signature S f) p → BodiesDerive (f + 1) ps → BodiesDerive f (p ∷ ps)

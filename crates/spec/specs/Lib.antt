@@ -26,4 +26,5 @@ pub mod EdgeSemaphores
 pub mod EdgeLocks
 pub mod EdgeFreelock
 pub mod EdgeRwlocks
+pub mod EdgeProcedures
 pub mod FirstFalse

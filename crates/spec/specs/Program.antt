@@ -5,55 +5,91 @@ use Prim.Native.Nat.{ℕ, zero, suc, _+_}
 use lib.ListN.{getD}
 use Rattle.spec.specs.Choice.{if_then_else_}
 use Rattle.spec.specs.Text.{bytes, same, lines, Field, lookUp}
-use Rattle.spec.specs.Reading.{programSheet, Out, _>>=_, on, Seen, wrong, badForm, freelock, seen, wrongAfter, _to_, numbers, readLine, readLines, begin, end}
-use Rattle.spec.specs.Words.{words, valueRange}
-use Rattle.spec.specs.Expression.{Step, Expr, listed, single, scope}
+use Rattle.spec.specs.Reading.{programSheet, Out, _>>=_, on, Seen, wrong, badForm, freelock, seen, wrongAfter, _to_, Range, numbers, readLine, readLines, begin, end}
+use Rattle.spec.specs.Words.{wordsUnder, valueRange}
+use Rattle.spec.specs.Expression.{Step, Expr, Item, step, proc, stepsAmong, Procedure, structure, scopes}
+use Rattle.spec.specs.declared.ProgramHeading.{ProgramHeading}
+use Rattle.spec.specs.declared.ProgramHeading.the-variants.{P, P2}
 use Rattle.spec.specs.declared.Word.{Word}
 
 -- the most bytes that a program sheet may have
 unfoldable pub programLimit : ℕ
 programLimit = 16384
 
--- `P,n`: n the number of steps
+-- `P,n`: n the number of steps; `P2,n,k`: and k procedures
+pub record Counts : Type 0 where
+  pub heading : ProgramHeading
+  pub steps : ℕ
+  pub procedures : ℕ
+
 unfoldable pub firstNumber : List ℕ → ℕ
 firstNumber ns = getD ns 0 0
 
-unfoldable pub countLine : List Field → Seen ℕ
+unfoldable pub programHeadings : List (List ℕ × ProgramHeading)
+programHeadings = (bytes "P", P) ∷ (bytes "P2", P2) ∷ []
+
+-- "Header `P2,n,k` has 0 to 16 procedures"
+unfoldable pub countRanges : ProgramHeading → List Range
+countRanges P = (1 to 256) ∷ []
+countRanges P2 = (1 to 256) ∷ (0 to 16) ∷ []
+
+unfoldable pub proceduresOf : ProgramHeading → List ℕ → ℕ
+proceduresOf P ns = 0
+proceduresOf P2 ns = getD ns 1 0
+
+unfoldable pub countsOf : ProgramHeading → List ℕ → Counts
+countsOf h ns = record { heading = h; steps = firstNumber ns; procedures = proceduresOf h ns }
+
+unfoldable pub counted : Option ProgramHeading → List Field → Seen Counts
+counted none fs = wrong badForm
+counted (some h) fs = seen (countsOf h) (numbers (countRanges h) fs)
+
+unfoldable pub countLine : List Field → Seen Counts
 countLine [] = wrong badForm
-countLine (f ∷ fs) = if same f (bytes "P") then seen firstNumber (numbers ((1 to 256) ∷ []) fs) else wrong badForm
+countLine (f ∷ fs) = counted (lookUp programHeadings f) fs
 
 -- `word,v`
-unfoldable pub stepOf : (line : ℕ) → Word → List ℕ → Step
-stepOf k w ns = record { word = w; value = firstNumber ns; line = k }
+unfoldable pub stepOf : (line : ℕ) → Word → List ℕ → Item
+stepOf k w ns = step (record { word = w; value = firstNumber ns; line = k })
 
-unfoldable pub wordLine : (line : ℕ) → Option Word → List Field → Seen Step
+unfoldable pub wordLine : (line : ℕ) → Option Word → List Field → Seen Item
 wordLine k none fs = wrong badForm
 wordLine k (some w) fs = seen (stepOf k w) (numbers (valueRange w ∷ []) fs)
 
+-- `proc,x`; "In a `P` sheet both new words are 11"
+unfoldable pub procOf : (line : ℕ) → List ℕ → Item
+procOf k ns = proc (firstNumber ns) k
+
+unfoldable pub procLine : ProgramHeading → (line : ℕ) → List Field → Seen Item
+procLine P k fs = wrong badForm
+procLine P2 k fs = seen (procOf k) (numbers ((0 to 255) ∷ []) fs)
+
 -- "45 for the word `freelock`, after 12 on its line"; its v is 0
-unfoldable pub stepLine : (line : ℕ) → List Field → Seen Step
-stepLine k [] = wrong badForm
-stepLine k (f ∷ fs) =
+unfoldable pub itemLine : ProgramHeading → (line : ℕ) → List Field → Seen Item
+itemLine h k [] = wrong badForm
+itemLine h k (f ∷ fs) =
     if same f (bytes "freelock") then wrongAfter freelock (numbers ((0 to 0) ∷ []) fs)
-    else wordLine k (lookUp words f) fs
+    else if same f (bytes "proc") then procLine h k fs
+    else wordLine k (lookUp (wordsUnder h) f) fs
 
--- n step lines, numbered from `line` upward
-unfoldable pub stepLines : (line n : ℕ) → List (List Field → Seen Step)
-stepLines k zero = []
-stepLines k (suc n) = stepLine k ∷ stepLines (k + 1) n
+-- n lines behind the header, numbered from `line` upward
+unfoldable pub itemLines : ProgramHeading → (line n : ℕ) → List (List Field → Seen Item)
+itemLines h k zero = []
+itemLines h k (suc n) = itemLine h k ∷ itemLines h (k + 1) n
 
--- a program: its steps in line order, and the expression that they list
+-- a program: its steps in line order, and what they list, its procedures and its root
 pub record Program : Type 0 where
   pub steps : List Step
+  pub procedures : List Procedure
   pub root : Expr
 
--- 11, 12, 45 and 13 line by line; then 13 for the expression; then 14 and 15
+-- 11, 12, 45 and 13 line by line, "After the header come n + k lines"; then 13 for the procedures and the root; then 14, 15 and 49
 unfoldable pub program : List ℕ → Out Program
 program text = do
   top ← begin programSheet (lines text)
-  (n, first) ← readLine programSheet countLine top
-  (steps, last) ← readLines programSheet (stepLines (first .last + 1) n) first
+  (counts, first) ← readLine programSheet countLine top
+  (items, last) ← readLines programSheet (itemLines (counts .heading) (first .last + 1) (counts .steps + counts .procedures)) first
   done ← end programSheet last
-  e ← single (last .last) steps (listed 0 steps)
-  bound ← scope e [] []
-  on (record { steps = steps; root = e })
+  (ps, e) ← structure (last .last) (counts .procedures) 0 items
+  bound ← scopes (counts .procedures) ps e []
+  on (record { steps = stepsAmong items; procedures = ps; root = e })

@@ -1,18 +1,18 @@
 -- What the ranges of a split sheet's lines come to: every number that is used as one of its kind is one of its kind.
 use mathlib.Core.Path.{_≡_}
-use mathlib.Core.List.{List, []}
+use mathlib.Core.List.{[]}
 use mathlib.Core.Option.{some}
 use Prim.Native.Nat.{ℕ, _≤_, _<_}
 use lib.ListN.{length, getD}
-use Rattle.spec.specs.Expression.{Step}
-use Rattle.spec.specs.Split.{Row, Split}
+use Rattle.spec.specs.Program.{Program}
+use Rattle.spec.specs.Split.{Row, Signature, Split}
 use Rattle.spec.specs.declared.TypeNumber.{TypeNumber}
 use Rattle.spec.specs.declared.MapNumber.{MapNumber}
 use Rattle.spec.specs.declared.Location.{Location}
 use Rattle.spec.specs.declared.TypeLine.{TypeLine}
 use Rattle.spec.specs.declared.TypeLine.the-variants as type-line
 
-pub record InRange (steps : List Step) (S : Split) : Type 0 where
+pub record InRange (P : Program) (S : Split) : Type 0 where
   pub denominator : (1 ≤ S .header .denominator) × (S .header .denominator ≤ 1000000000)
   pub locations : (1 ≤ S .header .locations) × (S .header .locations ≤ 16)
   pub typesCounted : length (S .types) ≡ S .header .types
@@ -20,7 +20,8 @@ pub record InRange (steps : List Step) (S : Split) : Type 0 where
   pub mapsCounted : length (S .maps) ≡ S .header .maps
   pub mapsFew : (1 ≤ S .header .maps) × (S .header .maps ≤ 512)
   pub start : S .header .rootStart .0 < length (S .maps)
-  pub rowsCounted : length (S .rows) ≡ length steps
+  pub signaturesCounted : length (S .signatures) ≡ length (P .procedures)
+  pub rowsCounted : length (S .rows) ≡ length (P .steps)
   -- a map has a number for each location
   pub mapWide : (m : ℕ) → m < length (S .maps) → length (getD (S .maps) m []) ≡ S .header .locations
   -- the numbers on a type line
@@ -34,6 +35,11 @@ pub record InRange (steps : List Step) (S : Split) : Type 0 where
       → getD (S .types) t type-line.Int ≡ type-line.Sem k → k .0 < length (S .maps)
   pub rwlockLoads : (t : ℕ) (r w : MapNumber) → t < length (S .types)
       → getD (S .types) t type-line.Int ≡ type-line.Rwlock r w → (r .0 < length (S .maps)) × (w .0 < length (S .maps))
+  -- the numbers on a procedure's line
+  pub beforeMap : (f : ℕ) (d : Signature) → f < length (S .signatures) → getD (S .signatures) f d .before .0 < length (S .maps)
+  pub argumentType : (f : ℕ) (d : Signature) → f < length (S .signatures) → getD (S .signatures) f d .argument .0 < length (S .types)
+  pub afterMap : (f : ℕ) (d : Signature) → f < length (S .signatures) → getD (S .signatures) f d .after .0 < length (S .maps)
+  pub resultType : (f : ℕ) (d : Signature) → f < length (S .signatures) → getD (S .signatures) f d .result .0 < length (S .types)
   -- the numbers on a row
   pub rowType : (i : ℕ) (d : Row) → i < length (S .rows) → getD (S .rows) i d .type .0 < length (S .types)
   pub rowPost : (i : ℕ) (d : Row) → i < length (S .rows) → getD (S .rows) i d .post .0 < length (S .maps)

@@ -8,7 +8,7 @@ use lib.ListN.{length}
 use Rattle.spec.specs.Choice.{if_then_else_}
 use Rattle.spec.specs.Text.{Line, closed, unclosed, Field, fields, numeral}
 use Rattle.spec.specs.declared.Refusal.{Refusal}
-use Rattle.spec.specs.declared.Refusal.the-variants.{ProgramForm, ProgramRange, ProgramLines, SplitForm, SplitRange, SplitLines, NoStart, Freelock}
+use Rattle.spec.specs.declared.Refusal.the-variants.{ProgramForm, ProgramRange, ProgramLines, SplitForm, SplitRange, SplitLines, NoStart, Freelock, NoKept}
 
 -- ------------------------------------------------------------------ outcomes
 
@@ -31,7 +31,7 @@ demand false r = stop r
 
 -- what can be wrong with a closed line
 pub data Fault : Type 0 where
-  badForm badRange noStart freelock : Fault
+  badForm badRange noStart freelock noKept : Fault
 
 -- what a closed line shows: form is judged before range
 pub data Seen (A : Type 0) : Type 0 where
@@ -113,6 +113,7 @@ faulty sheet badForm k = form sheet k
 faulty sheet badRange k = outside sheet k
 faulty sheet noStart k = NoStart k
 faulty sheet freelock k = Freelock k
+faulty sheet noKept k = NoKept k
 
 -- the reading place: the number of the last line read, 0 before the first, and the lines behind it
 pub record Place : Type 0 where

@@ -1,4 +1,4 @@
--- Every step of an expression in line order, with what surrounds it, and the first condition that is false.
+-- Every step of a program in line order, with what surrounds it, and the first condition that is false.
 use mathlib.Core.List.{List, [], _∷_, _++_}
 use mathlib.Core.Bool.{Bool, true, false}
 use mathlib.Core.Option.{none, some}
@@ -6,9 +6,10 @@ use Prim.Native.Nat.{ℕ, _+_}
 use Rattle.spec.specs.Choice.{if_then_else_}
 use Rattle.spec.specs.Reading.{Out, stop, on, _>>=_}
 use Rattle.spec.specs.Words.{role, binding, preOfPart, preOfSecond}
-use Rattle.spec.specs.Expression.{Expr, leaf, unary, binary, lineOf}
-use Rattle.spec.specs.Split.{Map, Split}
-use Rattle.spec.specs.Conditions.{Condition, T, F, A, Env, type, post, bodyStart, conditionsOf}
+use Rattle.spec.specs.Expression.{Expr, leaf, unary, binary, lineOf, Procedure}
+use Rattle.spec.specs.Program.{Program}
+use Rattle.spec.specs.Split.{Map, Signature, Split}
+use Rattle.spec.specs.Conditions.{Condition, T, F, A, Env, type, post, bodyStart, mapAt, startMap, signature, conditionsOf, procedureConditions}
 use Rattle.spec.specs.declared.Word.the-variants.{Binary}
 use Rattle.spec.specs.declared.Refusal.the-variants.{TypeFalse, FlowFalse, AccessFalse}
 
@@ -32,7 +33,7 @@ module _ (S : Split) where
 
 -- ------------------------------------------------------------------ the first false condition
 
--- a condition with its step's line and its number
+-- a condition with its number and its line, that of its step or of a `proc` line
 pub record Claim : Type 0 where
   pub line : ℕ
   pub number : ℕ
@@ -42,7 +43,7 @@ unfoldable pub numbered : (line number : ℕ) → List Condition → List Claim
 numbered k i [] = []
 numbered k i (c ∷ cs) = record { line = k; number = i; condition = c } ∷ numbered k (i + 1) cs
 
--- "conditions by step line, then by number"
+-- "conditions by step line, then by number"; those of a `proc` line stand at that line
 module _ (S : Split) where
   unfoldable pub claimsAt : Site → List Claim
   claimsAt s = numbered (lineOf (s .step)) 1 (conditionsOf S (s .Γ) (s .pre) (s .step))
@@ -50,6 +51,23 @@ module _ (S : Split) where
   unfoldable pub claims : List Site → List Claim
   claims [] = []
   claims (s ∷ ss) = claimsAt s ++ claims ss
+
+  -- "the body's pre is before and x has the argument type, as if a let had bound it to such a value"
+  unfoldable pub bodySites : Signature → Procedure → List Site
+  bodySites g p = sites S ((p .parameter, g .argument) ∷ []) (mapAt S (g .before)) (p .body)
+
+  -- of a procedure: the conditions at its `proc` line, then those of its body
+  unfoldable pub claimsOfProcedure : Signature → Procedure → List Claim
+  claimsOfProcedure g p = numbered (p .line) 1 (procedureConditions S g p) ++ claims (bodySites g p)
+
+  -- of the procedures from number f on, called or not
+  unfoldable pub claimsOfProcedures : (f : ℕ) → List Procedure → List Claim
+  claimsOfProcedures f [] = []
+  claimsOfProcedures f (p ∷ ps) = claimsOfProcedure (signature S f) p ++ claimsOfProcedures (f + 1) ps
+
+  -- of a program: its procedures, then its root, whose pre is the start
+  unfoldable pub claimsOf : Program → List Claim
+  claimsOf P = claimsOfProcedures 0 (P .procedures) ++ claims (sites S [] (startMap S) (P .root))
 
 -- "Location is 0 for (T), the lowest failing one for (F) [..], p for (A)"
 unfoldable pub judge : (line number : ℕ) → Condition → Out (Unit {0})

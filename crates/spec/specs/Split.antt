@@ -1,14 +1,15 @@
 -- The split sheet.
 use mathlib.Core.List.{List, [], _∷_, map}
-use mathlib.Core.Bool.{Bool, true, not}
+use mathlib.Core.Bool.{Bool, not}
 use mathlib.Core.Option.{Option, none, some}
 use Prim.Native.Nat.{ℕ, zero, suc, _+_}
-use lib.ListN.{getD, replicate}
+use lib.ListN.{length, getD, replicate}
 use Rattle.spec.specs.Choice.{if_then_else_}
 use Rattle.spec.specs.Text.{bytes, same, lines, Field, lookUp}
-use Rattle.spec.specs.Reading.{splitSheet, Out, _>>=_, on, wrong, badForm, noStart, Seen, seen, insist, Range, _to_, below, numerals, numbers, readLine, readLines, begin, end}
-use Rattle.spec.specs.Words.{takesStart}
+use Rattle.spec.specs.Reading.{splitSheet, Out, _>>=_, on, wrong, Fault, badForm, noStart, noKept, Seen, seen, insist, Range, _to_, below, numerals, numbers, readLine, readLines, begin, end}
+use Rattle.spec.specs.Words.{takesStart, keepsBack}
 use Rattle.spec.specs.Expression.{Step}
+use Rattle.spec.specs.Program.{Program}
 use Rattle.spec.specs.declared.Heading.{Heading}
 use Rattle.spec.specs.declared.Heading.the-variants.{C, C2, C3}
 use Rattle.spec.specs.declared.Purpose.{Purpose}
@@ -125,7 +126,30 @@ typeLines H own (suc n) = typeLine H own ∷ typeLines H (own + 1) n
 unfoldable pub mapLine : Header → List Field → Seen Map
 mapLine H fs = numbers (replicate (H .locations) (0 to 1000000000)) fs
 
--- `t,m,s`: a step's type, its post, and for a spawn the map that its body starts with, if one is given
+-- `before,argument,after,result`, "map, type, map, type": what a procedure asks for and what it leaves
+pub record Signature : Type 0 where
+  pub before : MapNumber
+  pub argument : TypeNumber
+  pub after : MapNumber
+  pub result : TypeNumber
+
+-- the signature of a procedure that is not there
+abbrev pub noSignature : Signature
+noSignature = record { before = record { 0 = 0 }; argument = record { 0 = 0 }; after = record { 0 = 0 }; result = record { 0 = 0 } }
+
+unfoldable pub signatureOf : List ℕ → Signature
+signatureOf ns = record {
+  before = record { 0 = getD ns 0 0 };
+  argument = record { 0 = getD ns 1 0 };
+  after = record { 0 = getD ns 2 0 };
+  result = record { 0 = getD ns 3 0 };
+}
+
+unfoldable pub signatureLine : Header → List Field → Seen Signature
+signatureLine H fs =
+    seen signatureOf (numbers (below (H .maps) ∷ below (H .types) ∷ below (H .maps) ∷ below (H .types) ∷ []) fs)
+
+-- `t,m,s`: a step's type, its post, and, if one is given, for a spawn the map that its body starts with, for a call the map kept back
 pub record Row : Type 0 where
   pub type : TypeNumber
   pub post : MapNumber
@@ -145,11 +169,15 @@ startGiven ns = record { 0 = getD ns 2 0 }
 unfoldable pub startRange : Word → Header → Range
 startRange w H = below (if takesStart w then H .maps else 0)
 
--- where s may be empty: on a spawn, not under the heading `C`
+-- where s may be empty: on a spawn, not under the heading `C`; on a call, under none
 unfoldable pub mayBeEmpty : Heading → Word → Bool
 mayBeEmpty C w = not (takesStart w)
-mayBeEmpty C2 w = true
-mayBeEmpty C3 w = true
+mayBeEmpty C2 w = not (keepsBack w)
+mayBeEmpty C3 w = not (keepsBack w)
+
+-- "40 for an empty start on a spawn in a `C` sheet, judged after 22 on that line"; "50 for a call line without s, after 22"
+unfoldable pub emptyFault : Word → Fault
+emptyFault w = if keepsBack w then noKept else noStart
 
 -- "An m that is a numeral is 22, any other m that is not empty is 21": when filling, no number is in the range of m, and an empty
 -- m is read as the number of map 0, which nothing looks at
@@ -163,36 +191,37 @@ postField Check m = m
 postField Fill [] = bytes "0"
 postField Fill (b ∷ m) = b ∷ m
 
--- "40 for an empty start on a spawn in a `C` sheet, judged after 22 on that line"
 unfoldable pub rowLine : Purpose → Header → Step → List Field → Seen Row
 rowLine purpose H s [] = wrong badForm
 rowLine purpose H s (t ∷ []) = wrong badForm
 rowLine purpose H s (t ∷ m ∷ []) = wrong badForm
 rowLine purpose H s (t ∷ m ∷ [] ∷ []) =
-    insist (mayBeEmpty (H .heading) (s .word)) noStart
+    insist (mayBeEmpty (H .heading) (s .word)) (emptyFault (s .word))
     (seen (rowOf none) (numbers (below (H .types) ∷ postRange purpose H m ∷ []) (t ∷ postField purpose m ∷ [])))
 rowLine purpose H s (t ∷ m ∷ (b ∷ f) ∷ []) =
     seen (λ ns. rowOf (some (startGiven ns)) ns)
     (numbers (below (H .types) ∷ postRange purpose H m ∷ startRange (s .word) H ∷ []) (t ∷ postField purpose m ∷ (b ∷ f) ∷ []))
 rowLine purpose H s (t ∷ m ∷ f ∷ g ∷ fs) = wrong badForm
 
--- a split: its header, its types and maps by number, its rows in step order
+-- a split: its header, its types and maps by number, the signatures of its procedures, its rows in step order
 pub record Split : Type 0 where
   pub header : Header
   pub types : List TypeLine
   pub maps : List Map
+  pub signatures : List Signature
   pub rows : List Row
 
--- 21, 22, 40 and 23 line by line, for the steps of a program
-unfoldable pub split : Purpose → List Step → List ℕ → Out Split
-split purpose steps text = do
+-- 21, 22, 40, 50 and 23 line by line, for the procedures and the steps of a program
+unfoldable pub split : Purpose → Program → List ℕ → Out Split
+split purpose P text = do
   top ← begin splitSheet (lines text)
   (H, p₁) ← readLine splitSheet (headerLine purpose) top
   (types, p₂) ← readLines splitSheet (typeLines H 0 (H .types)) p₁
   (maps, p₃) ← readLines splitSheet (replicate (H .maps) (mapLine H)) p₂
-  (rows, p₄) ← readLines splitSheet (map (rowLine purpose H) steps) p₃
-  done ← end splitSheet p₄
-  on (record { header = H; types = types; maps = maps; rows = rows })
+  (signatures, p₄) ← readLines splitSheet (replicate (length (P .procedures)) (signatureLine H)) p₃
+  (rows, p₅) ← readLines splitSheet (map (rowLine purpose H) (P .steps)) p₄
+  done ← end splitSheet p₅
+  on (record { header = H; types = types; maps = maps; signatures = signatures; rows = rows })
 
 -- the type line and the map with a number
 module _ (S : Split) where

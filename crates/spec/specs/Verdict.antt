@@ -11,14 +11,14 @@ use Rattle.spec.specs.Program.{Program, program, programLimit}
 use Rattle.spec.specs.Split.{Split, split, splitLimit, mapAt}
 use Rattle.spec.specs.Maps.{_≥ᵐ_, nowhere, overWhole}
 use Rattle.spec.specs.Conditions.{startMap}
-use Rattle.spec.specs.Sites.{sites, claims, firstFalse, isType, only}
+use Rattle.spec.specs.Sites.{claimsOf, firstFalse, isType, only}
 use Rattle.spec.specs.Workspace.{workspaceSize}
 use Rattle.spec.specs.declared.Returned.{Returned}
 use Rattle.spec.specs.declared.Answer.{Answer}
 use Rattle.spec.specs.declared.Answer.the-variants.{Accept, Refuse}
 use Rattle.spec.specs.declared.TypeLine.{TypeLine}
 use Rattle.spec.specs.declared.TypeLine.the-variants as type-line
-use Rattle.spec.specs.declared.Refusal.the-variants.{ShortWorkspace, LongProgram, ProgramForm, ProgramRange, ProgramLines, Unbound, Rebound, LongSplit, SplitForm, SplitRange, SplitLines, NoStart, OverOne, TypeFalse, FlowFalse, AccessFalse, NoAfterMaps, TooLarge, TooManyMaps, LockTakesLess, Freelock}
+use Rattle.spec.specs.declared.Refusal.the-variants.{ShortWorkspace, LongProgram, ProgramForm, ProgramRange, ProgramLines, Unbound, Rebound, LongSplit, SplitForm, SplitRange, SplitLines, NoStart, OverOne, TypeFalse, FlowFalse, AccessFalse, NoAfterMaps, TooLarge, TooManyMaps, LockTakesLess, Freelock, NoProcedure, NoKept}
 use Rattle.spec.specs.declared.Purpose.{Purpose}
 use Rattle.spec.specs.declared.Purpose.the-variants.{Check}
 
@@ -53,19 +53,19 @@ startAtMostOne P S = refuseOver (lineOf (P .root)) (overWhole (S .header .denomi
 
 -- 31 to 33
 unfoldable pub ruled : Program → Split → Out (Unit {0})
-ruled P S = firstFalse (claims S (sites S [] (startMap S) (P .root)))
+ruled P S = firstFalse (claimsOf S P)
 
 -- 31 alone, as filling asks it: the first (T) condition that is false, whatever flow conditions are false before it
 unfoldable pub typed : Program → Split → Out (Unit {0})
-typed P S = firstFalse (only isType (claims S (sites S [] (startMap S) (P .root))))
+typed P S = firstFalse (only isType (claimsOf S P))
 
--- both sheets, 10; 11 to 15 and 45; 20; 21 to 23 and 40
+-- both sheets, 10; 11 to 15, 45 and 49; 20; 21 to 23, 40 and 50
 unfoldable pub sheets : Purpose → (programText splitText : List ℕ) → Out (Program × Split)
 sheets purpose programText splitText = do
   fits ← demand (leb (length programText) programLimit) LongProgram
   P ← program programText
   fits′ ← demand (leb (length splitText) splitLimit) LongSplit
-  S ← split purpose (P .steps) splitText
+  S ← split purpose P splitText
   on (P, S)
 
 -- 1; both sheets; 44; 30; 31 to 33
@@ -114,6 +114,8 @@ returned (Refuse TooLarge) = four 42 0 0 0
 returned (Refuse TooManyMaps) = four 43 0 0 0
 returned (Refuse (LockTakesLess k)) = four 44 k 0 0
 returned (Refuse (Freelock k)) = four 45 k 0 0
+returned (Refuse (NoProcedure k)) = four 49 k 0 0
+returned (Refuse (NoKept k)) = four 50 k 0 0
 
 -- the numbers of a refusal on the conditions: 31 (T), 32 (F), 33 (A)
 unfoldable pub onConditions : (number : ℕ) → Bool

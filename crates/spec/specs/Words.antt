@@ -3,15 +3,18 @@
 use mathlib.Core.List.{List, [], _∷_, _++_}
 use mathlib.Core.Bool.{Bool, true, false}
 use Prim.Native.Nat.{ℕ}
+use Rattle.spec.specs.Choice.{if_then_else_}
 use Rattle.spec.specs.Text.{bytes}
 use Rattle.spec.specs.Reading.{Range, _to_}
 use Rattle.spec.specs.declared.Role.{Role}
-use Rattle.spec.specs.declared.Role.the-variants.{Binds, Uses, Neither}
+use Rattle.spec.specs.declared.ProgramHeading.{ProgramHeading}
+use Rattle.spec.specs.declared.ProgramHeading.the-variants.{P, P2}
+use Rattle.spec.specs.declared.Role.the-variants.{Binds, Uses, Calls, Neither}
 use Rattle.spec.specs.declared.Word.{Word}
 use Rattle.spec.specs.declared.Word.the-variants.{Leaf, Unary, Binary}
 use Rattle.spec.specs.declared.LeafWord.the-variants.{Var, Int, Newtid, Newlock, Newsem, Newrwlock}
 use Rattle.spec.specs.declared.UnaryWord.{UnaryWord}
-use Rattle.spec.specs.declared.UnaryWord.the-variants.{While, Join, Ref, Read, Lock, Unlock, Post, Wait, Rdlock, Rdunlock, Wrlock, Wrunlock}
+use Rattle.spec.specs.declared.UnaryWord.the-variants.{While, Join, Ref, Read, Lock, Unlock, Post, Wait, Rdlock, Rdunlock, Wrlock, Wrunlock, Call}
 use Rattle.spec.specs.declared.BinaryWord.{BinaryWord}
 use Rattle.spec.specs.declared.BinaryWord.the-variants.{Let, If, Spawn, Write}
 
@@ -68,10 +71,31 @@ binaryWords =
 unfoldable pub words : List (List ℕ × Word)
 words = leafWords ++ (unaryWords ++ binaryWords)
 
+-- the words under a heading: `call` too in a `P2` sheet. "In a `P` sheet both new words are 11"; `proc` is no step.
+unfoldable pub wordsUnder : ProgramHeading → List (List ℕ × Word)
+wordsUnder P = words
+wordsUnder P2 = (bytes "call", Unary Call) ∷ words
+
 -- ------------------------------------------------------------------ the number v
 
--- "v is the variable, 0 to 255"; "v is the constant, 0 to 65,535"; on `newrwlock` the number of reading places, 1 to 64; "v is 0 on
--- all other words, else out of range"
+-- the word whose number v is that of a procedure
+unfoldable pub calls : UnaryWord → Bool
+calls While = false
+calls Join = false
+calls Ref = false
+calls Read = false
+calls Lock = false
+calls Unlock = false
+calls Post = false
+calls Wait = false
+calls Rdlock = false
+calls Rdunlock = false
+calls Wrlock = false
+calls Wrunlock = false
+calls Call = true
+
+-- "v is the variable, 0 to 255"; "v is the constant, 0 to 65,535"; on `newrwlock` the number of reading places, 1 to 64; "`call,f`, f
+-- from 0 to 15"; "v is 0 on all other words, else out of range"
 unfoldable pub leastValue : Word → ℕ
 leastValue (Leaf Var) = 0
 leastValue (Leaf Int) = 0
@@ -89,7 +113,7 @@ largestValue (Leaf Newtid) = 0
 largestValue (Leaf Newlock) = 0
 largestValue (Leaf Newsem) = 0
 largestValue (Leaf Newrwlock) = 64
-largestValue (Unary w) = 0
+largestValue (Unary w) = if calls w then 15 else 0
 largestValue (Binary Let) = 255
 largestValue (Binary If) = 0
 largestValue (Binary Spawn) = 0
@@ -98,7 +122,7 @@ largestValue (Binary Write) = 0
 unfoldable pub valueRange : Word → Range
 valueRange w = leastValue w to largestValue w
 
--- "A variable is bound by at most one `let` and used [..]", by `var`
+-- "A variable is bound by at most one `let` and used [..]", by `var`; a `proc` line binds too
 unfoldable pub role : Word → Role
 role (Leaf Var) = Uses
 role (Leaf Int) = Neither
@@ -106,7 +130,7 @@ role (Leaf Newtid) = Neither
 role (Leaf Newlock) = Neither
 role (Leaf Newsem) = Neither
 role (Leaf Newrwlock) = Neither
-role (Unary w) = Neither
+role (Unary w) = if calls w then Calls else Neither
 role (Binary Let) = Binds
 role (Binary If) = Neither
 role (Binary Spawn) = Neither
@@ -116,18 +140,26 @@ role (Binary Write) = Neither
 unfoldable pub binding : {A : Type 0} → Role → A → List A → List A
 binding Binds x xs = x ∷ xs
 binding Uses x xs = xs
+binding Calls x xs = xs
 binding Neither x xs = xs
 
 -- ------------------------------------------------------------------ the row
 
--- "for `spawn` the map its body starts with [..]. On any other word s is empty"
+-- which rows have an s, the third field that a row calls its start: "for `spawn` the map its body starts with [..]. On any other word s
+-- is empty"; "A call's s is the map kept back"
 unfoldable pub takesStart : Word → Bool
 takesStart (Leaf w) = false
-takesStart (Unary w) = false
+takesStart (Unary w) = calls w
 takesStart (Binary Let) = false
 takesStart (Binary If) = false
 takesStart (Binary Spawn) = true
 takesStart (Binary Write) = false
+
+-- which of them keep it back, and so cannot do without
+unfoldable pub keepsBack : Word → Bool
+keepsBack (Leaf w) = false
+keepsBack (Unary w) = calls w
+keepsBack (Binary w) = false
 
 -- ------------------------------------------------------------------ the map before a part
 
@@ -145,6 +177,7 @@ preOfPart Rdlock pre post = pre
 preOfPart Rdunlock pre post = pre
 preOfPart Wrlock pre post = pre
 preOfPart Wrunlock pre post = pre
+preOfPart Call pre post = pre
 
 -- "for `let` and `write`, [..] e2 has e1's post; both parts of `if` have its pre; [..] in `spawn`, [..] e2 has s";
 -- e1 has the step's pre on each of these words

@@ -23,6 +23,7 @@ pub enum UnaryWord {
     Rdunlock,
     Wrlock,
     Wrunlock,
+    Call,
 }
 
 pub enum BinaryWord {
@@ -38,11 +39,18 @@ pub enum Word {
     Binary(BinaryWord),
 }
 
-// What a step does with its number v: a variable is bound or used, any other number is neither.
+// What a step does with its number v: a variable is bound or used, a procedure is called, any other number is neither.
 pub enum Role {
     Binds,
     Uses,
+    Calls,
     Neither,
+}
+
+// The headings of a program sheet: `P,n` and `P2,n,k`.
+pub enum ProgramHeading {
+    P,
+    P2,
 }
 
 // The numbers of types, maps and locations, each counted from 0: three sorts that never mix.
@@ -113,6 +121,8 @@ pub enum Refusal {
     TooManyMaps,
     LockTakesLess(u32),
     Freelock(u32),
+    NoProcedure(u32),
+    NoKept(u32),
 }
 
 // The answer to a pair of sheets.

@@ -8,21 +8,21 @@ use lib.ListN.{length, getD, set, take, drop, length-drop}
 use lib.Seq.{length-take-le}
 use Rattle.spec.specs.Text.{Field}
 use Rattle.spec.specs.Reading.{splitSheet, stop, on, Seen, Place, readLine, readLines}
-use Rattle.spec.specs.Split.{Map, Header}
+use Rattle.spec.specs.Split.{Map, Header, Signature}
 use Rattle.spec.specs.declared.Purpose.{Purpose}
 use Rattle.spec.specs.declared.Refusal.{Refusal}
 use Rattle.spec.specs.declared.Word.{Word}
 use Rattle.lexer.specs.Cursors.{Placed, placeAt}
 use Rattle.lexer.specs.declared.Cursor.{Cursor}
 use Rattle.lexer.proofs.Turns.{numbered}
-use Rattle.workspace.specs.Layout.{wordsAt, rowTypesAt, presAt, mapsAt, stride, workSize, wordOf}
+use Rattle.workspace.specs.Layout.{wordsAt, rowTypesAt, presAt, sigBeforesAt, sigResultsAt, mapsAt, stride, workSize, wordOf}
 use Rattle.workspace.specs.Region.{ChangedWithin}
 use Rattle.workspace.specs.Steps.{wordAt, stepAt}
 use Rattle.lines.specs.Lines.{cellLine, wordLine}
 use Rattle.lines.specs.declared.LinesRead.the-variants as lines-read
-use Rattle.split.specs.Stored.{Columns, HoldsMaps, LinesStored}
+use Rattle.split.specs.Stored.{Columns, HoldsSignatures, signed, HoldsMaps, LinesStored}
 use Rattle.split.proofs.Turns.{Stage, stage-on, stage-stops}
-use Rattle.split.proofs.Stores.{columns-push, columns-changed, filled-changed, filled-region, maps-push}
+use Rattle.split.proofs.Stores.{columns-push, columns-changed, signatures-push, signatures-changed, filled-changed, filled-region, maps-push}
 
 -- a line whose three numbers go into three columns
 module _
@@ -39,6 +39,18 @@ module _
         (subst (λ (x : List ℕ). Columns f g h b rows x (s .entries ++ (entry ∷ []))) (sym q)
         (columns-push f g h b rows w (s .entries) entry i (s .turn .count) (omega arith) r (s .stored)))
         (subst (ChangedWithin b (b + rows + rows + rows) w) (sym q) (columns-changed f g h b rows w (s .entries) entry i (s .turn .count) (omega arith) r))
+
+-- a signature, whose four numbers go into four columns
+pub signatures-on : {k : ℕ} {read : ℕ → List Field → Seen Signature} {text w₀ : List ℕ} {from : Place} {w : List ℕ} {c : Cursor} {f : ℕ}
+    → k ≤ 16 → length w₀ ≡ workSize → Stage read HoldsSignatures sigBeforesAt (sigResultsAt + 16) k text w₀ from w c f → f < k
+    → {w′ : List ℕ} {entry : Signature} {d : Cursor} → readLine splitSheet (read f) (placeAt text c) ≡ on (entry, placeAt text d) → Placed text d
+    → w′ ≡ signed w f entry → Stage read HoldsSignatures sigBeforesAt (sigResultsAt + 16) k text w₀ from w′ d (f + 1)
+signatures-on {w = w} {f = f} few whole s l {entry = entry} e p q =
+    let long : length w ≡ workSize = s .changed .long ∙ whole in
+    stage-on s l e p
+    (subst (λ (x : List ℕ). HoldsSignatures x (s .entries ++ (entry ∷ []))) (sym q)
+    (signatures-push w (s .entries) entry f (s .turn .count) (omega arith) long (s .stored)))
+    (subst (ChangedWithin sigBeforesAt (sigResultsAt + 16) w) (sym q) (signatures-changed w (s .entries) entry f (s .turn .count) (omega arith) long))
 
 -- the word that a row is read for is that of its step, which no row has changed
 pub row-here : (purpose : Purpose) (H : Header) (text : List ℕ) (c : Cursor) {w₀ w : List ℕ} (k : ℕ) {word : Word} → word ≡ wordOf (getD w (wordsAt + k) 0) → k < 256 → ChangedWithin rowTypesAt presAt w₀ w

@@ -7,13 +7,13 @@ use native.Mathlib.Omega.{arith}
 use lib.ListN.{length, replicate, length-map}
 use Rattle.spec.specs.Reading.{splitSheet, Out, _>>=_, Place, readLines, end}
 use Rattle.spec.specs.Expression.{Step}
-use Rattle.spec.specs.Split.{Map, Header, Row, Split, typeLines, mapLine, rowLine}
+use Rattle.spec.specs.Split.{Map, Header, Signature, Row, Split, typeLines, mapLine, signatureLine, rowLine}
 use Rattle.spec.specs.declared.Purpose.{Purpose}
 use Rattle.spec.specs.declared.Refusal.{Refusal}
 use Rattle.spec.specs.declared.TypeLine.{TypeLine}
 use Rattle.lexer.specs.Cursors.{placeAt}
 use Rattle.lexer.specs.declared.Cursor.{Cursor}
-use Rattle.workspace.specs.Layout.{rowTypesAt, presAt, kindsAt, firstsAt, secondsAt, mapsAt, workSize}
+use Rattle.workspace.specs.Layout.{rowTypesAt, presAt, kindsAt, firstsAt, secondsAt, sigBeforesAt, workSize}
 use Rattle.workspace.specs.Region.{Region, ChangedWithin}
 use Rattle.workspace.specs.Holds.{HoldsSplit}
 use Rattle.workspace.specs.Steps.{stepsFrom}
@@ -24,17 +24,17 @@ use Rattle.lines.specs.declared.LinesRead.{LinesRead}
 use Rattle.lines.specs.declared.LinesRead.the-variants as lines-read
 use Rattle.workspace.specs.Sheets.{headerTold}
 use Rattle.lines.specs.Answers.{Reading}
-use Rattle.split.specs.Stored.{HoldsTypes, HoldsRows, HoldsMaps, EmptyStored, Storing, StoringRows, LinesAnswer, TypesRead, MapsRead, RowsRead}
+use Rattle.split.specs.Stored.{HoldsTypes, HoldsRows, HoldsMaps, HoldsSignatures, EmptyStored, Storing, StoringRows, StoringSignatures, StoringBody, LinesAnswer, TypesRead, MapsRead, SignaturesRead, RowsRead}
 use Rattle.split.specs.Sheet.{body, EndAnswer, BodyAnswer, BodyRead}
 
-module _ (purpose : Purpose) {text : List ℕ} {c : Cursor} {h : HeaderRead} {n : ℕ} {w : List ℕ} (pre : StoringRows text c h n w)
+module _ (purpose : Purpose) {text : List ℕ} {c : Cursor} {h : HeaderRead} {n k : ℕ} {w : List ℕ} (pre : StoringBody text c h n k w)
     {w₁ : List ℕ} {types : LinesRead} (read-types : TypesRead text c h w w₁ types)
   where
     abbrev H : Header
     H = headerTold h
 
     abbrev whole : Out Split
-    whole = body purpose H (stepsFrom w 0 n) (placeAt text c)
+    whole = body purpose H k (stepsFrom w 0 n) (placeAt text c)
 
     abbrev types-out : Out (List TypeLine × Place)
     types-out = readLines splitSheet (typeLines H 0 (h .types)) (placeAt text c)
@@ -42,7 +42,7 @@ module _ (purpose : Purpose) {text : List ℕ} {c : Cursor} {h : HeaderRead} {n 
     changed-one : ChangedWithin rowTypesAt workSize w w₁
     changed-one = changed-wider rowTypesAt workSize (omega arith) (omega arith) (read-types .changed)
 
-    pub types-stop : {r : Refusal} → types ≡ lines-read.Refused r → BodyRead purpose H n (placeAt text c) w w₁ types
+    pub types-stop : {r : Refusal} → types ≡ lines-read.Refused r → BodyRead purpose H n k (placeAt text c) w w₁ types
     unfolding body headerTold _>>=_
     types-stop e = record {
       answered = subst (BodyAnswer H whole w₁) (sym e) (rw (subst (LinesAnswer (h .types) (HoldsTypes w₁) text types-out) e (read-types .answered)));
@@ -70,7 +70,7 @@ module _ (purpose : Purpose) {text : List ℕ} {c : Cursor} {h : HeaderRead} {n 
         pub empty-ready : length w₂ ≡ workSize
         empty-ready = changed-two .long ∙ pre .storing .whole
 
-        pub maps-stop : {r : Refusal} → maps ≡ lines-read.Refused r → BodyRead purpose H n (placeAt text c) w w₂ maps
+        pub maps-stop : {r : Refusal} → maps ≡ lines-read.Refused r → BodyRead purpose H n k (placeAt text c) w w₂ maps
         unfolding body headerTold _>>=_
         maps-stop e = record {
           answered = subst (BodyAnswer H whole w₂) (sym e)
@@ -85,71 +85,105 @@ module _ (purpose : Purpose) {text : List ℕ} {c : Cursor} {h : HeaderRead} {n 
           changed-empty : ChangedWithin rowTypesAt workSize w v
           changed-empty = changed-then rowTypesAt workSize changed-two (changed-wider rowTypesAt workSize (omega arith) (omega arith) (emptied .changed))
 
-          pub rows-ready : StoringRows text c₃ h n v
-          rows-ready = record {
+          pub signatures-ready : StoringSignatures text c₃ h k v
+          signatures-ready = record {
             storing = record {
               reading = record { placed = maps-got .4; fits = pre .storing .reading .fits };
               small = pre .storing .small;
               whole = changed-empty .long ∙ pre .storing .whole;
             };
-            few = pre .few;
+            few = pre .fewProcedures;
           }
 
-          abbrev rows-out : Out (List Row × Place)
-          rows-out = readLines splitSheet (map (rowLine purpose H) (stepsFrom v 0 n)) (placeAt text c₃)
+          abbrev signatures-out : Out (List Signature × Place)
+          signatures-out = readLines splitSheet (replicate k (signatureLine H)) (placeAt text c₃)
 
-          module _ {w₃ : List ℕ} {rows : LinesRead} (read-rows : RowsRead purpose text c₃ h n v w₃ rows) where
-            changed-three : ChangedWithin rowTypesAt workSize w w₃
-            changed-three = changed-then rowTypesAt workSize changed-empty (changed-wider rowTypesAt workSize (omega arith) (omega arith) (read-rows .changed))
+          module _ {u : List ℕ} {signatures : LinesRead} (read-signatures : SignaturesRead text c₃ h k v u signatures) where
+            changed-signed : ChangedWithin rowTypesAt workSize w u
+            changed-signed = changed-then rowTypesAt workSize changed-empty (changed-wider rowTypesAt workSize (omega arith) (omega arith) (read-signatures .changed))
 
-            same-rows : readLines splitSheet (map (rowLine purpose H) (stepsFrom w 0 n)) (placeAt text c₃) ≡ rows-out
-            same-rows =
-                ap (λ (l : List Step). readLines splitSheet (map (rowLine purpose H) l) (placeAt text c₃))
-                (sym (steps-kept changed-empty (omega arith) 0 n (omega (arith, pre .few))))
-
-            pub rows-stop : {r : Refusal} → rows ≡ lines-read.Refused r → BodyRead purpose H n (placeAt text c) w w₃ rows
+            pub signatures-stop : {r : Refusal} → signatures ≡ lines-read.Refused r → BodyRead purpose H n k (placeAt text c) w u signatures
             unfolding body headerTold _>>=_
-            rows-stop e = record {
-              answered = subst (BodyAnswer H whole w₃) (sym e)
-                  (rw (types-got .1, maps-got .1, same-rows ∙ subst (LinesAnswer n (HoldsRows w₃) text rows-out) e (read-rows .answered)));
-              changed = changed-three;
+            signatures-stop e = record {
+              answered = subst (BodyAnswer H whole u) (sym e)
+                  (rw (types-got .1, maps-got .1, subst (LinesAnswer k (HoldsSignatures u) text signatures-out) e (read-signatures .answered)));
+              changed = changed-signed;
             }
 
-            module _ {c₄ : Cursor} (rows-told : rows ≡ lines-read.Read c₄) where
-              rows-got : LinesAnswer n (HoldsRows w₃) text rows-out (lines-read.Read c₄)
-              rows-got = subst (LinesAnswer n (HoldsRows w₃) text rows-out) rows-told (read-rows .answered)
+            module _ {c₄ : Cursor} (signatures-told : signatures ≡ lines-read.Read c₄) where
+              signatures-got : LinesAnswer k (HoldsSignatures u) text signatures-out (lines-read.Read c₄)
+              signatures-got = subst (LinesAnswer k (HoldsSignatures u) text signatures-out) signatures-told (read-signatures .answered)
 
-              pub end-ready : Reading text c₄
-              end-ready = record { placed = rows-got .4; fits = pre .storing .reading .fits }
-
-              abbrev found : Split
-              found = record { header = H; types = types-got .0; maps = maps-got .0; rows = rows-got .0 }
-
-              -- types and maps stand where rows, and types where maps, do not
-              types-kept : (at : ℕ) (f : TypeLine → ℕ) → presAt ≤ at → at + 64 ≤ mapsAt → Region w₁ at (map f (types-got .0)) → Region w₃ at (map f (types-got .0))
-              types-kept at f low high r =
-                  let l = length-map (types-got .0) f in
-                  region-kept (read-rows .changed) (inr low)
-                  (region-kept (emptied .changed) (inl (omega (arith, l, types-got .2, pre .storing .small .types)))
-                  (region-kept (read-maps .changed) (inl (omega (arith, l, types-got .2, pre .storing .small .types))) r))
-
-              holds : HoldsSplit w₃ found
-              holds = record {
-                kinds = types-kept kindsAt _ (omega arith) (omega arith) (types-got .3 .first);
-                firsts = types-kept firstsAt _ (omega arith) (omega arith) (types-got .3 .second);
-                seconds = types-kept secondsAt _ (omega arith) (omega arith) (types-got .3 .third);
-                maps = λ m l. region-kept (read-rows .changed) (inr (omega arith))
-                    (region-kept (emptied .changed) (inl (omega (arith, maps-got .3 .wide m l, maps-got .2, pre .storing .small .locations, pre .storing .small .maps))) (maps-got .3 .maps m l));
-                empty = region-kept (read-rows .changed) (inr (omega arith)) (emptied .empty);
-                rowTypes = rows-got .3 .first;
-                posts = rows-got .3 .second;
-                starts = rows-got .3 .third;
+              pub rows-ready : StoringRows text c₄ h n u
+              rows-ready = record {
+                storing = record {
+                  reading = record { placed = signatures-got .4; fits = pre .storing .reading .fits };
+                  small = pre .storing .small;
+                  whole = changed-signed .long ∙ pre .storing .whole;
+                };
+                few = pre .fewSteps;
               }
 
-              ended : (answer : LinesRead) → EndAnswer (end splitSheet (placeAt text c₄)) answer → BodyAnswer H whole w₃ answer
-              unfolding body headerTold _>>=_
-              ended (lines-read.Refused r) e = rw (types-got .1, maps-got .1, same-rows ∙ rows-got .1, e)
-              ended (lines-read.Read d) e = (found, rw (types-got .1, maps-got .1, same-rows ∙ rows-got .1, e), refl, holds)
+              abbrev rows-out : Out (List Row × Place)
+              rows-out = readLines splitSheet (map (rowLine purpose H) (stepsFrom u 0 n)) (placeAt text c₄)
 
-              pub body-read : (answer : LinesRead) → EndAnswer (end splitSheet (placeAt text c₄)) answer → BodyRead purpose H n (placeAt text c) w w₃ answer
-              body-read answer e = record { answered = ended answer e; changed = changed-three }
+              module _ {w₃ : List ℕ} {rows : LinesRead} (read-rows : RowsRead purpose text c₄ h n u w₃ rows) where
+                changed-three : ChangedWithin rowTypesAt workSize w w₃
+                changed-three = changed-then rowTypesAt workSize changed-signed (changed-wider rowTypesAt workSize (omega arith) (omega arith) (read-rows .changed))
+
+                same-rows : readLines splitSheet (map (rowLine purpose H) (stepsFrom w 0 n)) (placeAt text c₄) ≡ rows-out
+                same-rows =
+                    ap (λ (l : List Step). readLines splitSheet (map (rowLine purpose H) l) (placeAt text c₄))
+                    (sym (steps-kept changed-signed (omega arith) 0 n (omega (arith, pre .fewSteps))))
+
+                pub rows-stop : {r : Refusal} → rows ≡ lines-read.Refused r → BodyRead purpose H n k (placeAt text c) w w₃ rows
+                unfolding body headerTold _>>=_
+                rows-stop e = record {
+                  answered = subst (BodyAnswer H whole w₃) (sym e)
+                      (rw (types-got .1, maps-got .1, signatures-got .1, same-rows ∙ subst (LinesAnswer n (HoldsRows w₃) text rows-out) e (read-rows .answered)));
+                  changed = changed-three;
+                }
+
+                module _ {c₅ : Cursor} (rows-told : rows ≡ lines-read.Read c₅) where
+                  rows-got : LinesAnswer n (HoldsRows w₃) text rows-out (lines-read.Read c₅)
+                  rows-got = subst (LinesAnswer n (HoldsRows w₃) text rows-out) rows-told (read-rows .answered)
+
+                  pub end-ready : Reading text c₅
+                  end-ready = record { placed = rows-got .4; fits = pre .storing .reading .fits }
+
+                  abbrev found : Split
+                  found = record { header = H; types = types-got .0; maps = maps-got .0; signatures = signatures-got .0; rows = rows-got .0 }
+
+                  -- types and maps stand where rows, and types where maps, do not
+                  types-kept : (at : ℕ) (f : TypeLine → ℕ) → presAt ≤ at → at + 64 ≤ sigBeforesAt → Region w₁ at (map f (types-got .0)) → Region w₃ at (map f (types-got .0))
+                  types-kept at f low high r =
+                      let l = length-map (types-got .0) f in
+                      region-kept (read-rows .changed) (inr low)
+                      (region-kept (read-signatures .changed) (inl (omega (arith, l, types-got .2, pre .storing .small .types)))
+                      (region-kept (emptied .changed) (inl (omega (arith, l, types-got .2, pre .storing .small .types)))
+                      (region-kept (read-maps .changed) (inl (omega (arith, l, types-got .2, pre .storing .small .types))) r)))
+
+                  holds : HoldsSplit w₃ found
+                  holds = record {
+                    kinds = types-kept kindsAt _ (omega arith) (omega arith) (types-got .3 .first);
+                    firsts = types-kept firstsAt _ (omega arith) (omega arith) (types-got .3 .second);
+                    seconds = types-kept secondsAt _ (omega arith) (omega arith) (types-got .3 .third);
+                    maps = λ m l. region-kept (read-rows .changed) (inr (omega arith))
+                        (region-kept (read-signatures .changed) (inr (omega arith)) (region-kept (emptied .changed) (inl (omega (arith, maps-got .3 .wide m l, maps-got .2, pre .storing .small .locations, pre .storing .small .maps))) (maps-got .3 .maps m l)));
+                    empty = region-kept (read-rows .changed) (inr (omega arith)) (region-kept (read-signatures .changed) (inr (omega arith)) (emptied .empty));
+                    befores = region-kept (read-rows .changed) (inr (omega arith)) (signatures-got .3 .befores);
+                    arguments = region-kept (read-rows .changed) (inr (omega arith)) (signatures-got .3 .arguments);
+                    afters = region-kept (read-rows .changed) (inr (omega arith)) (signatures-got .3 .afters);
+                    results = region-kept (read-rows .changed) (inr (omega arith)) (signatures-got .3 .results);
+                    rowTypes = rows-got .3 .first;
+                    posts = rows-got .3 .second;
+                    starts = rows-got .3 .third;
+                  }
+
+                  ended : (answer : LinesRead) → EndAnswer (end splitSheet (placeAt text c₅)) answer → BodyAnswer H whole w₃ answer
+                  unfolding body headerTold _>>=_
+                  ended (lines-read.Refused r) e = rw (types-got .1, maps-got .1, signatures-got .1, same-rows ∙ rows-got .1, e)
+                  ended (lines-read.Read d) e = (found, rw (types-got .1, maps-got .1, signatures-got .1, same-rows ∙ rows-got .1, e), refl, holds)
+
+                  pub body-read : (answer : LinesRead) → EndAnswer (end splitSheet (placeAt text c₅)) answer → BodyRead purpose H n k (placeAt text c) w w₃ answer
+                  body-read answer e = record { answered = ended answer e; changed = changed-three }

@@ -1,4 +1,4 @@
--- Stores of the readers: a row of three columns, a map; and which part of the work space they change.
+-- Stores of the readers: a row of three columns, a signature, a map; and which part of the work space they change.
 use mathlib.Core.Path.{_≡_, sym, ap, subst, _∙_}
 use mathlib.Core.Logic.{_⊎_, inl, inr, ⊎-elim}
 use mathlib.Core.List.{List, [], _∷_, _++_, map}
@@ -7,11 +7,11 @@ use native.Mathlib.Omega.{arith}
 use native.Mathlib.Nat.{eq-or-lt-of-le}
 use lib.ListN.{length, getD, take, drop, replicate, set, length-set, length-map, length-append, length-drop, List·getD-append}
 use lib.Seq.{getD-take, getD-drop, length-take-le, getD-append-add, getD-append-seam}
-use Rattle.spec.specs.Split.{Map}
-use Rattle.workspace.specs.Layout.{mapsAt, stride, emptyRowAt, workSize}
+use Rattle.spec.specs.Split.{Map, Signature}
+use Rattle.workspace.specs.Layout.{sigBeforesAt, sigArgumentsAt, sigAftersAt, sigResultsAt, mapsAt, stride, emptyRowAt, workSize}
 use Rattle.workspace.specs.Region.{Region, ChangedWithin}
 use Rattle.workspace.proofs.Region.{region-empty, region-apart, column-push, region-kept, changed-store, changed-then}
-use Rattle.split.specs.Stored.{Columns, EmptyStored, HoldsMaps}
+use Rattle.split.specs.Stored.{Columns, HoldsSignatures, signed, EmptyStored, HoldsMaps}
 
 -- ------------------------------------------------------------------ columns
 
@@ -61,6 +61,80 @@ module _ {A : Type 0} (f g h : A → ℕ) (b rows : ℕ) where
         changed-then b e (changed-store b e w (b + n) (f a) (omega arith) (omega arith))
         (changed-then b e (changed-store b e (set w (b + n) (f a)) (b + rows + n) (g a) (omega arith) (omega arith))
         (changed-store b e (set (set w (b + n) (f a)) (b + rows + n) (g a)) (b + rows + rows + n) (h a) (omega arith) (omega arith)))
+
+-- ------------------------------------------------------------------ signatures
+
+pub signatures-empty : (w : List ℕ) → length w ≡ workSize → HoldsSignatures w []
+signatures-empty w l = record {
+  befores = region-empty w sigBeforesAt (omega arith);
+  arguments = region-empty w sigArgumentsAt (omega arith);
+  afters = region-empty w sigAftersAt (omega arith);
+  results = region-empty w sigResultsAt (omega arith);
+}
+
+-- one signature more
+module _ (w : List ℕ) (gs : List Signature) (g : Signature) (f : ℕ) (count : length gs ≡ f) (few : f < 16) (whole : length w ≡ workSize) where
+  abbrev w₁ : List ℕ
+  w₁ = set w (sigBeforesAt + f) (g .before .0)
+
+  abbrev w₂ : List ℕ
+  w₂ = set w₁ (sigArgumentsAt + f) (g .argument .0)
+
+  abbrev w₃ : List ℕ
+  w₃ = set w₂ (sigAftersAt + f) (g .after .0)
+
+  -- a store in another column
+  beside : (k : Signature → ℕ) (at : ℕ) (v : List ℕ) (i x : ℕ) → (i < at) ⊎ (at + 16 ≤ i) → (l : List Signature) → length l ≤ 16
+      → Region v at (map k l) → Region (set v i x) at (map k l)
+  beside k at v i x o l c r = region-apart v at (map k l) i x (⊎-elim (λ p. inl p) (λ p. inr (omega (arith, length-map l k))) o) r
+
+  all-few : length (gs ++ (g ∷ [])) ≤ 16
+  all-few = omega (arith, length-append gs (g ∷ []))
+
+  long₁ : length w₁ ≡ workSize
+  long₁ = length-set w (sigBeforesAt + f) (g .before .0) ∙ whole
+
+  long₂ : length w₂ ≡ workSize
+  long₂ = length-set w₁ (sigArgumentsAt + f) (g .argument .0) ∙ long₁
+
+  long₃ : length w₃ ≡ workSize
+  long₃ = length-set w₂ (sigAftersAt + f) (g .after .0) ∙ long₂
+
+  pub signatures-push : HoldsSignatures w gs → HoldsSignatures (signed w f g) (gs ++ (g ∷ []))
+  signatures-push H =
+      let all = gs ++ (g ∷ []) in
+      let few-so-far : length gs ≤ 16 = omega arith in
+      record {
+        befores =
+            beside (λ (x : Signature). x .before .0) sigBeforesAt w₃ (sigResultsAt + f) (g .result .0) (inr (omega arith)) all all-few
+            (beside (λ (x : Signature). x .before .0) sigBeforesAt w₂ (sigAftersAt + f) (g .after .0) (inr (omega arith)) all all-few
+            (beside (λ (x : Signature). x .before .0) sigBeforesAt w₁ (sigArgumentsAt + f) (g .argument .0) (inr (omega arith)) all all-few
+            (column-push w sigBeforesAt (λ (x : Signature). x .before .0) gs g f count (omega arith) (H .befores))));
+        arguments =
+            beside (λ (x : Signature). x .argument .0) sigArgumentsAt w₃ (sigResultsAt + f) (g .result .0) (inr (omega arith)) all all-few
+            (beside (λ (x : Signature). x .argument .0) sigArgumentsAt w₂ (sigAftersAt + f) (g .after .0) (inr (omega arith)) all all-few
+            (column-push w₁ sigArgumentsAt (λ (x : Signature). x .argument .0) gs g f count (omega (arith, long₁))
+            (beside (λ (x : Signature). x .argument .0) sigArgumentsAt w (sigBeforesAt + f) (g .before .0) (inl (omega arith)) gs few-so-far (H .arguments))));
+        afters =
+            beside (λ (x : Signature). x .after .0) sigAftersAt w₃ (sigResultsAt + f) (g .result .0) (inr (omega arith)) all all-few
+            (column-push w₂ sigAftersAt (λ (x : Signature). x .after .0) gs g f count (omega (arith, long₂))
+            (beside (λ (x : Signature). x .after .0) sigAftersAt w₁ (sigArgumentsAt + f) (g .argument .0) (inl (omega arith)) gs few-so-far
+            (beside (λ (x : Signature). x .after .0) sigAftersAt w (sigBeforesAt + f) (g .before .0) (inl (omega arith)) gs few-so-far (H .afters))));
+        results =
+            column-push w₃ sigResultsAt (λ (x : Signature). x .result .0) gs g f count (omega (arith, long₃))
+            (beside (λ (x : Signature). x .result .0) sigResultsAt w₂ (sigAftersAt + f) (g .after .0) (inl (omega arith)) gs few-so-far
+            (beside (λ (x : Signature). x .result .0) sigResultsAt w₁ (sigArgumentsAt + f) (g .argument .0) (inl (omega arith)) gs few-so-far
+            (beside (λ (x : Signature). x .result .0) sigResultsAt w (sigBeforesAt + f) (g .before .0) (inl (omega arith)) gs few-so-far (H .results))));
+      }
+
+  pub signatures-changed : ChangedWithin sigBeforesAt (sigResultsAt + 16) w (signed w f g)
+  signatures-changed =
+      let a = sigBeforesAt in
+      let b = sigResultsAt + 16 in
+      changed-then a b (changed-store a b w (sigBeforesAt + f) (g .before .0) (omega arith) (omega arith))
+      (changed-then a b (changed-store a b w₁ (sigArgumentsAt + f) (g .argument .0) (omega arith) (omega arith))
+      (changed-then a b (changed-store a b w₂ (sigAftersAt + f) (g .after .0) (omega arith) (omega arith))
+      (changed-store a b w₃ (sigResultsAt + f) (g .result .0) (omega arith) (omega arith))))
 
 -- ------------------------------------------------------------------ maps
 

@@ -6,7 +6,7 @@ use lib.ListN.{replicate}
 use Rattle.spec.specs.Text.{Field}
 use Rattle.spec.specs.Reading.{splitSheet, stop, on, Seen, Place, readLine, readLines}
 use Rattle.spec.specs.Expression.{Step}
-use Rattle.spec.specs.Split.{Header, typeLine, typeLines, mapLine, rowLine}
+use Rattle.spec.specs.Split.{Header, typeLine, typeLines, mapLine, signatureLine, rowLine}
 use Rattle.spec.specs.declared.Purpose.{Purpose}
 use Rattle.spec.specs.declared.Refusal.{Refusal}
 use Rattle.lexer.specs.Cursors.{Placed, placeAt}
@@ -29,6 +29,9 @@ types-numbered H k (suc n) = ap (λ (r : List _). typeLine H k ∷ r) (types-num
 pub maps-numbered : (H : Header) (n : ℕ) → replicate n (mapLine H) ≡ numbered (λ m. cellLine (H .locations)) 0 n
 unfolding mapLine cellLine cells
 maps-numbered H n = same-numbered (mapLine H) 0 n
+
+pub signatures-numbered : (H : Header) (k : ℕ) → replicate k (signatureLine H) ≡ numbered (λ f. signatureLine H) 0 k
+signatures-numbered H k = same-numbered (signatureLine H) 0 k
 
 -- a row is read by its step's word, whatever its step's number
 by-word : (purpose : Purpose) (H : Header) (s : Step) (fs : List Field) → rowLine purpose H s fs ≡ wordLine purpose H (s .word) fs

@@ -8,6 +8,7 @@ use lib.ListN.{length}
 use Rattle.spec.specs.Text.{lines}
 use Rattle.spec.specs.Reading.{splitSheet, Out, stop, on, _>>=_, form, readLine, begin}
 use Rattle.spec.specs.Expression.{Step}
+use Rattle.spec.specs.Program.{Program}
 use Rattle.spec.specs.Split.{Split, headerLine, split}
 use Rattle.spec.specs.declared.Purpose.{Purpose}
 use Rattle.spec.specs.declared.Refusal.{Refusal}
@@ -30,10 +31,10 @@ use Rattle.lines.specs.declared.LinesRead.the-variants as lines-read
 use Rattle.split.specs.declared.Sheet.the-variants as sheet
 use Rattle.workspace.specs.Sheets.{headerTold}
 use Rattle.split.specs.Header.{AtHeader, HeaderAnswer}
-use Rattle.split.specs.Stored.{StoringRows}
+use Rattle.split.specs.Stored.{StoringBody}
 use Rattle.split.specs.Sheet.{Readable, body, BodyAnswer, BodyRead, SplitRead}
 
-module _ {text : List ℕ} {n : ℕ} {w : List ℕ} (pre : Readable text n w) (purpose : Purpose) {top : Cursor} (is : top ≡ start) where
+module _ {text : List ℕ} {n k : ℕ} {w : List ℕ} (pre : Readable text n k w) (purpose : Purpose) {top : Cursor} (is : top ≡ start) where
   top-rest : rest text top ≡ text
   top-rest = ap (rest text) is ∙ start-rest text
 
@@ -41,9 +42,9 @@ module _ {text : List ℕ} {n : ℕ} {w : List ℕ} (pre : Readable text n w) (p
   unfolding form
   empty-begin e = begin-at-none splitSheet text (sym top-rest ∙ left-none (rest text top) e)
 
-  pub read-empty : textEnded (rest text top) ≡ true → SplitRead purpose text n w w (sheet.Refused (SplitForm 1))
+  pub read-empty : textEnded (rest text top) ≡ true → SplitRead purpose text n k w w (sheet.Refused (SplitForm 1))
   unfolding split _>>=_
-  read-empty e = record { answered = λ steps held count. rw (empty-begin e); changed = changed-nothing rowTypesAt workSize w }
+  read-empty e = record { answered = λ P held count procs. rw (empty-begin e); changed = changed-nothing rowTypesAt workSize w }
 
   module _ (some-left : textEnded (rest text top) ≡ false) where
     pub at-header : AtHeader text top
@@ -57,42 +58,43 @@ module _ {text : List ℕ} {n : ℕ} {w : List ℕ} (pre : Readable text n w) (p
 
     module _ (answer : HeaderLine) (header : HeaderAnswer text (readLine splitSheet (headerLine purpose) (placeAt text top)) answer) where
       -- the header is refused
-      pub read-header-stop : {r : Refusal} → answer ≡ header-line.Refused r → SplitRead purpose text n w w (sheet.Refused r)
+      pub read-header-stop : {r : Refusal} → answer ≡ header-line.Refused r → SplitRead purpose text n k w w (sheet.Refused r)
       unfolding split _>>=_
       read-header-stop e =
           let h = subst (HeaderAnswer text (readLine splitSheet (headerLine purpose) (placeAt text top))) e header in
-          record { answered = λ steps held count. rw (top-place, h); changed = changed-nothing rowTypesAt workSize w }
+          record { answered = λ P held count procs. rw (top-place, h); changed = changed-nothing rowTypesAt workSize w }
 
       module _ {h : HeaderRead} {c : Cursor} (told : answer ≡ header-line.Read h c) where
         header-got : HeaderAnswer text (readLine splitSheet (headerLine purpose) (placeAt text top)) (header-line.Read h c)
         header-got = subst (HeaderAnswer text (readLine splitSheet (headerLine purpose) (placeAt text top))) told header
 
-        pub behind-header : StoringRows text c h n w
+        pub behind-header : StoringBody text c h n k w
         behind-header = record {
           storing = record { reading = record { placed = header-got .1; fits = pre .short }; small = header-got .2; whole = pre .whole };
-          few = pre .few;
+          fewSteps = pre .fewSteps;
+          fewProcedures = pre .fewProcedures;
         }
 
-        module _ {w′ : List ℕ} {lines′ : LinesRead} (read : BodyRead purpose (headerTold h) n (placeAt text c) w w′ lines′) where
+        module _ {w′ : List ℕ} {lines′ : LinesRead} (read : BodyRead purpose (headerTold h) n k (placeAt text c) w w′ lines′) where
           abbrev out : Out Split
-          out = body purpose (headerTold h) (stepsFrom w 0 n) (placeAt text c)
+          out = body purpose (headerTold h) k (stepsFrom w 0 n) (placeAt text c)
 
-          of-steps : (steps : List Step) → HoldsSteps w steps → length steps ≡ n → split purpose steps text ≡ out
+          of-program : (P : Program) → HoldsSteps w (P .steps) → length (P .steps) ≡ n → length (P .procedures) ≡ k → split purpose P text ≡ out
           unfolding split body _>>=_
-          of-steps steps held count =
-              rw (top-place, header-got .0)
-              (ap (λ (l : List Step). body purpose (headerTold h) l (placeAt text c)) (sym (steps-held w steps n held count)))
+          of-program P held count procs =
+              rw (top-place, header-got .0, procs)
+              (ap (λ (l : List Step). body purpose (headerTold h) k l (placeAt text c)) (sym (steps-held w (P .steps) n held count)))
 
-          pub read-body-stop : {r : Refusal} → lines′ ≡ lines-read.Refused r → SplitRead purpose text n w w′ (sheet.Refused r)
+          pub read-body-stop : {r : Refusal} → lines′ ≡ lines-read.Refused r → SplitRead purpose text n k w w′ (sheet.Refused r)
           read-body-stop e = record {
-            answered = λ steps held count. of-steps steps held count ∙ subst (BodyAnswer (headerTold h) out w′) e (read .answered);
+            answered = λ P held count procs. of-program P held count procs ∙ subst (BodyAnswer (headerTold h) out w′) e (read .answered);
             changed = read .changed;
           }
 
-          pub read-whole : {d : Cursor} → lines′ ≡ lines-read.Read d → SplitRead purpose text n w w′ (sheet.Read h)
+          pub read-whole : {d : Cursor} → lines′ ≡ lines-read.Read d → SplitRead purpose text n k w w′ (sheet.Read h)
           read-whole e =
               let (S, is-on, head, holds) = subst (BodyAnswer (headerTold h) out w′) e (read .answered) in
               record {
-                answered = λ steps held count. (S, of-steps steps held count ∙ is-on, head, holds, header-got .2);
+                answered = λ P held count procs. (S, of-program P held count procs ∙ is-on, head, holds, header-got .2);
                 changed = read .changed;
               }

@@ -5,7 +5,8 @@ use Prim.Native.Nat.{ℕ, _≤_}
 use lib.ListN.{length, replicate}
 use Rattle.spec.specs.Reading.{splitSheet, Out, stop, on, _>>=_, Place, readLines, end}
 use Rattle.spec.specs.Expression.{Step}
-use Rattle.spec.specs.Split.{Header, Split, typeLines, mapLine, rowLine, split}
+use Rattle.spec.specs.Program.{Program}
+use Rattle.spec.specs.Split.{Header, Split, typeLines, mapLine, signatureLine, rowLine, split}
 use Rattle.spec.specs.declared.Purpose.{Purpose}
 use Rattle.workspace.specs.Layout.{rowTypesAt, workSize}
 use Rattle.workspace.specs.Region.{ChangedWithin}
@@ -17,20 +18,22 @@ use Rattle.split.specs.declared.Sheet.{Sheet}
 use Rattle.split.specs.declared.Sheet.the-variants as sheet
 use Rattle.workspace.specs.Sheets.{headerTold, Small}
 
--- a text that the limit lets through, as many steps as a program may have, and a work space to store a sheet in
-pub record Readable (text : List ℕ) (steps : ℕ) (w : List ℕ) : Type 0 where
+-- a text that the limit lets through, as many steps and procedures as a program may have, and a work space to store a sheet in
+pub record Readable (text : List ℕ) (steps procedures : ℕ) (w : List ℕ) : Type 0 where
   pub short : length text ≤ 65536
-  pub few : steps ≤ 256
+  pub fewSteps : steps ≤ 256
+  pub fewProcedures : procedures ≤ 16
   pub whole : length w ≡ workSize
 
--- the lines behind the header
-unfoldable pub body : Purpose → Header → List Step → Place → Out Split
-body purpose H steps p₁ = do
+-- the lines behind the header, for k procedures and these steps
+unfoldable pub body : Purpose → Header → (k : ℕ) → List Step → Place → Out Split
+body purpose H k steps p₁ = do
   (types, p₂) ← readLines splitSheet (typeLines H 0 (H .types)) p₁
   (maps, p₃) ← readLines splitSheet (replicate (H .maps) (mapLine H)) p₂
-  (rows, p₄) ← readLines splitSheet (map (rowLine purpose H) steps) p₃
-  done ← end splitSheet p₄
-  on (record { header = H; types = types; maps = maps; rows = rows })
+  (signatures, p₄) ← readLines splitSheet (replicate k (signatureLine H)) p₃
+  (rows, p₅) ← readLines splitSheet (map (rowLine purpose H) steps) p₄
+  done ← end splitSheet p₅
+  on (record { header = H; types = types; maps = maps; signatures = signatures; rows = rows })
 
 abbrev pub EndAnswer : Out (Unit {0}) → LinesRead → Type 0
 EndAnswer out (lines-read.Refused r) = out ≡ stop r
@@ -40,8 +43,8 @@ abbrev pub BodyAnswer : Header → Out Split → (w′ : List ℕ) → LinesRead
 BodyAnswer H out w′ (lines-read.Refused r) = out ≡ stop r
 BodyAnswer H out w′ (lines-read.Read c) = (S : Split) × (out ≡ on S) × (S .header ≡ H) × HoldsSplit w′ S
 
-pub record BodyRead (purpose : Purpose) (H : Header) (n : ℕ) (from : Place) (w w′ : List ℕ) (answer : LinesRead) : Type 0 where
-  pub answered : BodyAnswer H (body purpose H (stepsFrom w 0 n) from) w′ answer
+pub record BodyRead (purpose : Purpose) (H : Header) (n k : ℕ) (from : Place) (w w′ : List ℕ) (answer : LinesRead) : Type 0 where
+  pub answered : BodyAnswer H (body purpose H k (stepsFrom w 0 n) from) w′ answer
   pub changed : ChangedWithin rowTypesAt workSize w w′
 
 -- a refusal is that of document 01; else the header is that of the split, which the work space holds
@@ -49,7 +52,8 @@ abbrev pub SheetAnswer : Out Split → (w′ : List ℕ) → Sheet → Type 0
 SheetAnswer out w′ (sheet.Refused r) = out ≡ stop r
 SheetAnswer out w′ (sheet.Read h) = (S : Split) × (out ≡ on S) × (S .header ≡ headerTold h) × HoldsSplit w′ S × Small h
 
--- reading a split sheet, to check or to fill, for the n steps of a program that the work space holds: only places from the rows on change
-pub record SplitRead (purpose : Purpose) (text : List ℕ) (n : ℕ) (w w′ : List ℕ) (answer : Sheet) : Type 0 where
-  pub answered : (steps : List Step) → HoldsSteps w steps → length steps ≡ n → SheetAnswer (split purpose steps text) w′ answer
+-- reading a split sheet, to check or to fill, for the n steps of a program that the work space holds and its k procedures: only places
+-- from the rows on change
+pub record SplitRead (purpose : Purpose) (text : List ℕ) (n k : ℕ) (w w′ : List ℕ) (answer : Sheet) : Type 0 where
+  pub answered : (P : Program) → HoldsSteps w (P .steps) → length (P .steps) ≡ n → length (P .procedures) ≡ k → SheetAnswer (split purpose P text) w′ answer
   pub changed : ChangedWithin rowTypesAt workSize w w′

@@ -2,14 +2,14 @@
 use mathlib.Core.Path.{_≡_}
 use mathlib.Core.List.{List, [], map}
 use Prim.Native.Nat.{ℕ, _+_, _*_, _<_, _≤_}
-use lib.ListN.{length, getD, replicate}
+use lib.ListN.{length, getD, set, replicate}
 use Rattle.spec.specs.Reading.{splitSheet, Out, stop, on, Place, readLines}
-use Rattle.spec.specs.Split.{Map, Row, typeLines, mapLine, rowLine}
+use Rattle.spec.specs.Split.{Map, Signature, Row, typeLines, mapLine, signatureLine, rowLine}
 use Rattle.spec.specs.declared.Purpose.{Purpose}
 use Rattle.spec.specs.declared.TypeLine.{TypeLine}
 use Rattle.lexer.specs.Cursors.{Placed, placeAt}
 use Rattle.lexer.specs.declared.Cursor.{Cursor}
-use Rattle.workspace.specs.Layout.{rowTypesAt, presAt, kindsAt, lineAt, mapsAt, stride, emptyMap, emptyRowAt, workSize, kindOf, firstOf, secondOf}
+use Rattle.workspace.specs.Layout.{rowTypesAt, presAt, kindsAt, lineAt, sigBeforesAt, sigArgumentsAt, sigAftersAt, sigResultsAt, mapsAt, stride, emptyMap, emptyRowAt, workSize, kindOf, firstOf, secondOf}
 use Rattle.workspace.specs.Region.{Region, ChangedWithin}
 use Rattle.workspace.specs.Holds.{startNumber}
 use Rattle.workspace.specs.Steps.{stepsFrom}
@@ -36,6 +36,18 @@ pub record HoldsMaps (locations : ℕ) (w : List ℕ) (ms : List Map) : Type 0 w
   pub wide : (m : ℕ) → m < length ms → length (getD ms m []) ≡ locations
   pub maps : (m : ℕ) → m < length ms → Region w (mapsAt + stride * m) (getD ms m [])
 
+-- signatures, four numbers each, in four columns
+pub record HoldsSignatures (w : List ℕ) (gs : List Signature) : Type 0 where
+  pub befores : Region w sigBeforesAt (map (λ (g : Signature). g .before .0) gs)
+  pub arguments : Region w sigArgumentsAt (map (λ (g : Signature). g .argument .0) gs)
+  pub afters : Region w sigAftersAt (map (λ (g : Signature). g .after .0) gs)
+  pub results : Region w sigResultsAt (map (λ (g : Signature). g .result .0) gs)
+
+-- the work space with the signature of procedure f
+abbrev pub signed : List ℕ → (f : ℕ) → Signature → List ℕ
+signed w f g =
+    set (set (set (set w (sigBeforesAt + f) (g .before .0)) (sigArgumentsAt + f) (g .argument .0)) (sigAftersAt + f) (g .after .0)) (sigResultsAt + f) (g .result .0)
+
 -- the empty map
 pub record EmptyStored (w w′ : List ℕ) : Type 0 where
   pub empty : Region w′ (mapsAt + stride * emptyMap) (replicate stride 0)
@@ -52,6 +64,17 @@ pub record StoringRows (text : List ℕ) (c : Cursor) (h : Header) (steps : ℕ)
   pub storing : Storing text c h w
   pub few : steps ≤ 256
 
+-- the same, with signatures of so many procedures
+pub record StoringSignatures (text : List ℕ) (c : Cursor) (h : Header) (procedures : ℕ) (w : List ℕ) : Type 0 where
+  pub storing : Storing text c h w
+  pub few : procedures ≤ 16
+
+-- the same, with both
+pub record StoringBody (text : List ℕ) (c : Cursor) (h : Header) (steps procedures : ℕ) (w : List ℕ) : Type 0 where
+  pub storing : Storing text c h w
+  pub fewSteps : steps ≤ 256
+  pub fewProcedures : procedures ≤ 16
+
 -- n lines read one after the other: what they say is in the work space
 abbrev pub LinesAnswer : {A : Type 0} → (n : ℕ) → (Stored : List A → Type 0) → List ℕ → Out (List A × Place) → LinesRead → Type 0
 LinesAnswer n Stored text out (lines-read.Refused r) = out ≡ stop r
@@ -62,7 +85,7 @@ pub record LinesStored {A : Type 0} (a b n : ℕ) (Stored : List ℕ → List A 
   pub answered : LinesAnswer n (Stored w′) text out answer
   pub changed : ChangedWithin a b w w′
 
--- ------------------------------------------------------------------ what the three loops over lines leave and answer
+-- ------------------------------------------------------------------ what the four loops over lines leave and answer
 
 -- the type lines from a cursor on
 abbrev pub TypesRead : List ℕ → Cursor → Header → (w w′ : List ℕ) → LinesRead → Type 0
@@ -73,6 +96,11 @@ TypesRead text c h w w′ answer =
 abbrev pub MapsRead : List ℕ → Cursor → Header → (w w′ : List ℕ) → LinesRead → Type 0
 MapsRead text c h w w′ answer =
     LinesStored mapsAt workSize (h .maps) (HoldsMaps (h .locations)) text (readLines splitSheet (replicate (h .maps) (mapLine (headerTold h))) (placeAt text c)) w w′ answer
+
+-- the signature lines of k procedures
+abbrev pub SignaturesRead : List ℕ → Cursor → Header → (k : ℕ) → (w w′ : List ℕ) → LinesRead → Type 0
+SignaturesRead text c h k w w′ answer =
+    LinesStored sigBeforesAt (sigResultsAt + 16) k HoldsSignatures text (readLines splitSheet (replicate k (signatureLine (headerTold h))) (placeAt text c)) w w′ answer
 
 -- the rows of the first n steps in the work space
 abbrev pub RowsRead : Purpose → List ℕ → Cursor → Header → (n : ℕ) → (w w′ : List ℕ) → LinesRead → Type 0

@@ -1,7 +1,8 @@
-// The split sheet, read into the work space line by line: its header, types, maps and rows.
+// The split sheet, read into the work space line by line: its header, types, maps, signatures and rows.
 mod first_line;
 mod map_lines;
 mod row_lines;
+mod signature_lines;
 mod type_lines;
 
 use first_line::HeaderLine;
@@ -10,6 +11,7 @@ use lexer::Cursor;
 use lines::LinesRead;
 use map_lines::read_maps;
 use row_lines::read_rows;
+use signature_lines::read_signatures;
 use spec::Purpose;
 use spec::Refusal;
 use type_lines::read_types;
@@ -23,7 +25,7 @@ ghost use Rattle.lexer.specs.Cursors.{placeAt};
 ghost use Rattle.workspace.specs.Layout.{workSize};
 ghost use Rattle.workspace.specs.Sheets.{headerTold};
 ghost use Rattle.lines.specs.Answers.{Reading};
-ghost use Rattle.split.specs.Stored.{StoringRows, EmptyStored};
+ghost use Rattle.split.specs.Stored.{StoringBody, EmptyStored};
 ghost use Rattle.split.specs.Sheet.{Readable, EndAnswer, BodyRead, SplitRead};
 
 // The header of a sheet that is in the work space, or the reason to stop.
@@ -60,20 +62,25 @@ fn read_body(
     purpose: Purpose,
     header: Header,
     steps: usize,
+    procedures: usize,
     work: &mut [u32],
 ) -> LinesRead
-    requires { ⌜ StoringRows (now text) from header steps (now work) ⌝ }
-    ensures { λ r. ⌜ BodyRead purpose (headerTold header) steps (placeAt (now (text .entry)) from) (now (work .entry)) (now (work .exit)) r ⌝ }
+    requires { ⌜ StoringBody (now text) from header steps procedures (now work) ⌝ }
+    ensures { λ r. ⌜ BodyRead purpose (headerTold header) steps procedures (placeAt (now (text .entry)) from) (now (work .entry)) (now (work .exit)) r ⌝ }
 {
     let types = read_types(text, from, header, work);
     let LinesRead::Read(maps_from) = types else {
         return types;
     };
     let maps = read_maps(text, maps_from, header, work);
-    let LinesRead::Read(rows_from) = maps else {
+    let LinesRead::Read(signatures_from) = maps else {
         return maps;
     };
     store_empty(work);
+    let signatures = read_signatures(text, signatures_from, header, procedures, work);
+    let LinesRead::Read(rows_from) = signatures else {
+        return signatures;
+    };
     let rows = read_rows(text, rows_from, purpose, header, steps, work);
     let LinesRead::Read(last) = rows else {
         return rows;
@@ -81,10 +88,16 @@ fn read_body(
     finish(text, last)
 }
 
-// Reads a split sheet, to check or to fill, for the steps of the program that the work space holds.
-pub fn read(text: &[u8], purpose: Purpose, steps: usize, work: &mut [u32]) -> Sheet
-    requires { ⌜ Readable (now text) steps (now work) ⌝ }
-    ensures { λ r. ⌜ SplitRead purpose (now (text .entry)) steps (now (work .entry)) (now (work .exit)) r ⌝ }
+// Reads a split sheet, to check or to fill, for the procedures and the steps of the program that the work space holds.
+pub fn read(
+    text: &[u8],
+    purpose: Purpose,
+    steps: usize,
+    procedures: usize,
+    work: &mut [u32],
+) -> Sheet
+    requires { ⌜ Readable (now text) steps procedures (now work) ⌝ }
+    ensures { λ r. ⌜ SplitRead purpose (now (text .entry)) steps procedures (now (work .entry)) (now (work .exit)) r ⌝ }
 {
     let top = Cursor::start();
     if top.at_end(text) {
@@ -93,7 +106,7 @@ pub fn read(text: &[u8], purpose: Purpose, steps: usize, work: &mut [u32]) -> Sh
     let first = header_line(text, top, purpose);
     match first {
         HeaderLine::Read(header, next) => {
-            let body = read_body(text, next, purpose, header, steps, work);
+            let body = read_body(text, next, purpose, header, steps, procedures, work);
             match body {
                 LinesRead::Read(_) => Sheet::Read(header),
                 LinesRead::Refused(r) => Sheet::Refused(r),

@@ -1,9 +1,9 @@
 // Runs the library on the known pairs of document 01 and on every edge row of the specification, and looks at the work space
 // after each check. The file `stdin` has the rows of the tables `starred`, `sheetEdges`, `conditionEdges`, `agreementEdges`,
-// `numberEdges`, `startEdges`, `semaphoreEdges`, `spawnEdges`, `lockEdges`, `freelockEdges` and `rwlockEdges` in that order, and
-// `stdout` the answers that these tables are proved to have.
+// `numberEdges`, `startEdges`, `semaphoreEdges`, `spawnEdges`, `lockEdges`, `freelockEdges`, `rwlockEdges` and `procedureEdges`
+// in that order, and `stdout` the answers that these tables are proved to have.
 //
-// A line of the input is a program, a tab and a split; in both texts a bar stands for byte 10. The first 65,536 bytes of the
+// A line of the input is a program, a tab and a split; in both texts a bar stands for byte 10. The first 131,072 bytes of the
 // input are read, and that is the one limit on the length of a line.
 use libc::STDIN_FILENO;
 use libc::STDOUT_FILENO;
@@ -154,7 +154,7 @@ fn run(text: &mut [u8]) {
 }
 
 fn main() {
-    let mut input = [0u8; 65536];
+    let mut input = [0u8; 131072];
     let n = io::read_full(STDIN_FILENO, &mut input);
     run(&mut input[..n]);
 }

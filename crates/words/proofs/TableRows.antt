@@ -1,4 +1,5 @@
--- The conditions of each word, from what the work space shows of a step, are those of document 01's table.
+-- The conditions of each word, from what the work space shows of a step, are those of the documents' table; so are those of a
+-- `proc` line.
 use mathlib.Core.Path.{_≡_, refl, sym, ap, _∙_}
 use mathlib.Core.List.{List}
 use Prim.Native.Nat.{ℕ, zero, suc, _<_}
@@ -6,10 +7,11 @@ use native.Mathlib.Omega.{arith}
 use lib.Dec.{leb, ltb}
 use lib.ListN.{length}
 use borrow.Author.Tests.{le-leb, lt-ltb}
-use Rattle.spec.specs.Expression.{Step, Expr, leaf, unary, binary, Position}
-use Rattle.spec.specs.Split.{Map, Split}
+use Rattle.spec.specs.Expression.{Expr, leaf, unary, binary, Position, Procedure}
+use Rattle.spec.specs.Program.{Program}
+use Rattle.spec.specs.Split.{Map, Signature, Split}
 use Rattle.spec.specs.Maps.{share}
-use Rattle.spec.specs.Conditions.{Env, typeAt, mapAt, typeIn, mayShow, contains, row, type, kind, post, bodyStart, K, inMap, outMap, readMap, writeMap, refLocation, load, inLoad, outLoad, readLoad, writeLoad, conditionsOf}
+use Rattle.spec.specs.Conditions.{Env, typeAt, mapAt, typeIn, mayShow, contains, row, type, kind, post, bodyStart, keptBack, signature, K, inMap, outMap, readMap, writeMap, refLocation, load, inLoad, outLoad, readLoad, writeLoad, conditionsOf, procedureConditions}
 use Rattle.spec.specs.Agreement.{agree}
 use Rattle.spec.specs.Ranges.{InRange}
 use Rattle.spec.specs.declared.MapNumber.{MapNumber}
@@ -18,7 +20,7 @@ use Rattle.spec.specs.declared.TypeLine.{TypeLine}
 use Rattle.spec.specs.declared.LeafWord.{LeafWord}
 use Rattle.spec.specs.declared.LeafWord.the-variants.{Var, Int, Newtid, Newlock, Newsem, Newrwlock}
 use Rattle.spec.specs.declared.UnaryWord.{UnaryWord}
-use Rattle.spec.specs.declared.UnaryWord.the-variants.{While, Join, Ref, Read, Lock, Unlock, Post, Wait, Rdlock, Rdunlock, Wrlock, Wrunlock}
+use Rattle.spec.specs.declared.UnaryWord.the-variants.{While, Join, Ref, Read, Lock, Unlock, Post, Wait, Rdlock, Rdunlock, Wrlock, Wrunlock, Call}
 use Rattle.spec.specs.declared.BinaryWord.{BinaryWord}
 use Rattle.spec.specs.declared.BinaryWord.the-variants.{Let, If, Spawn, Write}
 use Rattle.workspace.specs.Layout as layout
@@ -26,7 +28,8 @@ use Rattle.workspace.specs.Layout.{mapCell, printed, ruleOf, leafCode, unaryCod
 use Rattle.workspace.specs.Holds.{HoldsSplit}
 use Rattle.workspace.proofs.Shown.{Stands, type-shown, place-in, LoadsIn, loads-in, given-stands, has-shown}
 use Rattle.conditions.specs.Agreement.{agreeIn, mayShowIn, containsIn}
-use Rattle.words.specs.Table.{ruleRow}
+use Rattle.words.specs.Table.{ruleRow, procedureRow}
+use Rattle.words.specs.declared.Signature.{Signature as SignatureRead}
 use Rattle.words.specs.declared.View.{View}
 use Rattle.conditions.proofs.Agreement.{agree-shown, may-show-shown, contains-shown}
 use Rattle.conditions.proofs.Shown.{equal-shown as equal, at-least-shown as at-least, covers-shown as covers, sum-shown as sum, is-sum-shown as is-sum}
@@ -42,7 +45,16 @@ pub record Part (w : List ℕ) (S : Split) (t : TypeNumber) (m : MapNumber) (e :
   pub type-in : row S e .type .0 < length (S .types)
   pub posted : Stands w S m (post S e)
 
--- a `var` shows the type of its let's e1, a `newrwlock` its number of reading places
+-- a signature that the work space shows is one of the split
+pub record Signed (w : List ℕ) (S : Split) (r : SignatureRead) (g : Signature) : Type 0 where
+  pub before-stands : Stands w S (r .before) (mapAt S (g .before))
+  pub argument-is : r .argument ≡ g .argument
+  pub argument-in : g .argument .0 < length (S .types)
+  pub after-stands : Stands w S (r .after) (mapAt S (g .after))
+  pub result-is : r .result ≡ g .result
+  pub result-in : g .result .0 < length (S .types)
+
+-- a `var` shows the type of its let's e1 or of its procedure's argument, a `newrwlock` its number of reading places
 abbrev pub Bound : Split → LeafWord → View → Env → (v : ℕ) → Type 0
 Bound S Var s Γ v = (s .bound ≡ typeIn Γ v) × (typeIn Γ v .0 < length (S .types))
 Bound S Int s Γ v = Unit {0}
@@ -51,23 +63,23 @@ Bound S Newlock s Γ v = Unit {0}
 Bound S Newsem s Γ v = Unit {0}
 Bound S Newrwlock s Γ v = s .value ≡ v
 
-module _ (w : List ℕ) (S : Split) (steps : List Step) (H : HoldsSplit w S) (R : InRange steps S)
+module _ (w : List ℕ) (S : Split) (P : Program) (H : HoldsSplit w S) (R : InRange P S)
     (s : View) (located : s .locations ≡ S .header .locations) (divided : s .denominator ≡ S .header .denominator)
     (Γ : Env) (pre : Map) (pre-stands : Stands w S (s .pre) pre) (l : Position) (v : ℕ) where
   -- ---------------------------------------------------------------- types and maps that the view shows
 
   typed-as : {t : TypeNumber} {m : MapNumber} (e : Expr) → Part w S t m e → layout.typeAt w t ≡ kind S e
   unfolding kind type
-  typed-as e p = ap (layout.typeAt w) (p .typed) ∙ type-shown w S steps H R _ (p .type-in)
+  typed-as e p = ap (layout.typeAt w) (p .typed) ∙ type-shown w S P H R _ (p .type-in)
 
   -- a map that a part's type gives, by some reader of type lines
   gives : {t : TypeNumber} {m : MapNumber} (reader : TypeLine → MapNumber) (e : Expr) → Part w S t m e
       → reader (typeAt S (row S e .type)) .0 < length (S .maps) → Stands w S (reader (layout.typeAt w t)) (mapAt S (reader (kind S e)))
   unfolding kind type
-  gives reader e p h = rw (p .typed) (given-stands w S steps H R reader _ (p .type-in) h)
+  gives reader e p h = rw (p .typed) (given-stands w S P H R reader _ (p .type-in) h)
 
   loads : {t : TypeNumber} {m : MapNumber} (e : Expr) → Part w S t m e → LoadsIn S (typeAt S (row S e .type))
-  loads e p = loads-in w S steps H R _ (p .type-in)
+  loads e p = loads-in w S P H R _ (p .type-in)
 
   load-stands : {t : TypeNumber} {m : MapNumber} (e : Expr) → Part w S t m e → Stands w S (load (layout.typeAt w t)) (K S e)
   unfolding K
@@ -94,24 +106,24 @@ module _ (w : List ℕ) (S : Split) (steps : List Step) (H : HoldsSplit w S) (R 
   shares : {t u : TypeNumber} {m n : MapNumber} (e e₁ : Expr) → Part w S t m e → Part w S u n e₁
       → mapCell w m (refLocation (kind S e₁) .0) ≡ share (post S e) (refLocation (kind S e₁))
   unfolding kind type
-  shares e e₁ o f = has-shown w S steps H R _ (o .posted) (place-in w S steps H R _ (f .type-in))
+  shares e e₁ o f = has-shown w S P H R _ (o .posted) (place-in w S P H R _ (f .type-in))
 
   -- ---------------------------------------------------------------- agreement
 
   agrees : {t u : TypeNumber} {m : MapNumber} (e : Expr) (x : TypeNumber) → Part w S t m e → u ≡ x → x .0 < length (S .types)
       → agreeIn w (s .locations) t u ≡ agree S (type S e) x
   unfolding type
-  agrees e x p q h = rw (p .typed, q) (agree-shown w S steps H R (s .locations) located _ _ (p .type-in) h)
+  agrees e x p q h = rw (p .typed, q) (agree-shown w S P H R (s .locations) located _ _ (p .type-in) h)
 
   shows : {t u : TypeNumber} {m : MapNumber} (e : Expr) (x : TypeNumber) → Part w S t m e → u ≡ x → x .0 < length (S .types)
       → mayShowIn w (s .locations) t u ≡ mayShow S (type S e) x
   unfolding type
-  shows e x p q h = rw (p .typed, q) (may-show-shown w S steps H R (s .locations) located _ _ (p .type-in) h)
+  shows e x p q h = rw (p .typed, q) (may-show-shown w S P H R (s .locations) located _ _ (p .type-in) h)
 
   holds-content : {t u : TypeNumber} {m n : MapNumber} (e e₁ : Expr) → Part w S t m e → Part w S u n e₁
       → containsIn w (s .locations) (layout.typeAt w t) u ≡ contains S (kind S e) (type S e₁)
   unfolding type kind
-  holds-content e e₁ p q = rw (typed-as e p, q .typed) (contains-shown w S steps H R (s .locations) located _ _ (p .type-in) (q .type-in))
+  holds-content e e₁ p q = rw (typed-as e p, q .typed) (contains-shown w S P H R (s .locations) located _ _ (p .type-in) (q .type-in))
 
   -- ---------------------------------------------------------------- the table
 
@@ -132,16 +144,18 @@ module _ (w : List ℕ) (S : Split) (steps : List Step) (H : HoldsSplit w S) (R 
       )
 
   module _ (e₁ : Expr) (f : Part w S (s .type1) (s .post1) e₁) where
+    -- a `call` shows the signature of its procedure
     pub unary-shown : (x : UnaryWord) → Part w S (s .typed) (s .post) (unary x l v e₁)
+        → Stands w S (s .start) (bodyStart S (unary x l v e₁)) → (x ≡ Call → Signed w S (s .signature) (signature S v))
         → ruleRow (ruleOf (unaryCode x)) w s (layout.typeAt w (s .typed)) (layout.typeAt w (s .type1)) ≡ conditionsOf S Γ pre (unary x l v e₁)
-    unfolding printed ruleOf ruleRow conditionsOf type
-    unary-shown While o =
+    unfolding printed ruleOf ruleRow conditionsOf type keptBack
+    unary-shown While o b c =
         rw (at-least located pre-stands (o .posted), at-least located (f .posted) (o .posted), typed-as _ o)
-    unary-shown Join o =
+    unary-shown Join o b c =
         rw (is-sum located (f .posted) (load-stands _ f) (o .posted), typed-as _ o, typed-as _ f)
-    unary-shown Ref o =
+    unary-shown Ref o b c =
         rw (equal located (o .posted) (f .posted), holds-content _ _ o f)
-    unary-shown Read o =
+    unary-shown Read o b c =
         rw (
           equal located (o .posted) (f .posted),
           holds-content _ _ f o,
@@ -149,22 +163,30 @@ module _ (w : List ℕ) (S : Split) (steps : List Step) (H : HoldsSplit w S) (R 
           some-is-one,
           shares _ _ o f,
         )
-    unary-shown Lock o =
+    unary-shown Lock o b c =
         rw (is-sum located (f .posted) (in-stands _ f) (o .posted), typed-as _ o, typed-as _ f)
-    unary-shown Unlock o =
+    unary-shown Unlock o b c =
         rw (sum located (o .posted) (out-stands _ f) (f .posted), typed-as _ o, typed-as _ f)
-    unary-shown Post o =
+    unary-shown Post o b c =
         rw (sum located (o .posted) (load-stands _ f) (f .posted), typed-as _ o, typed-as _ f)
-    unary-shown Wait o =
+    unary-shown Wait o b c =
         rw (is-sum located (f .posted) (load-stands _ f) (o .posted), typed-as _ o, typed-as _ f)
-    unary-shown Rdlock o =
+    unary-shown Rdlock o b c =
         rw (is-sum located (f .posted) (read-stands _ f) (o .posted), typed-as _ o, typed-as _ f)
-    unary-shown Rdunlock o =
+    unary-shown Rdunlock o b c =
         rw (sum located (o .posted) (read-stands _ f) (f .posted), typed-as _ o, typed-as _ f)
-    unary-shown Wrlock o =
+    unary-shown Wrlock o b c =
         rw (is-sum located (f .posted) (write-stands _ f) (o .posted), typed-as _ o, typed-as _ f)
-    unary-shown Wrunlock o =
+    unary-shown Wrunlock o b c =
         rw (sum located (o .posted) (write-stands _ f) (f .posted), typed-as _ o, typed-as _ f)
+    unary-shown Call o b c =
+        let g = c refl in
+        rw (
+          is-sum located (g .before-stands) b (f .posted),
+          is-sum located (g .after-stands) b (o .posted),
+          agrees _ _ o (g .result-is) (g .result-in),
+          agrees _ _ f (g .argument-is) (g .argument-in),
+        )
 
     module _ (e₂ : Expr) (g : Part w S (s .type2) (s .post2) e₂) where
       pub binary-shown : (x : BinaryWord) → Part w S (s .typed) (s .post) (binary x l v e₁ e₂)
@@ -196,3 +218,16 @@ module _ (w : List ℕ) (S : Split) (steps : List Step) (H : HoldsSplit w S) (R 
             typed-as _ f,
             shares _ _ o f,
           )
+
+-- the conditions at a `proc` line
+pub procedure-shown : (w : List ℕ) (S : Split) (P : Program) → HoldsSplit w S → InRange P S → (n : ℕ) → n ≡ S .header .locations
+    → (r : SignatureRead) (g : Signature) → Signed w S r g → (p : Procedure) (t : TypeNumber) (m : MapNumber) → Part w S t m (p .body)
+    → procedureRow w n r t m ≡ procedureConditions S g p
+unfolding procedureConditions type
+procedure-shown w S P H R n located r g s p t m o =
+    rw (
+      at-least located (o .posted) (s .after-stands),
+      o .typed,
+      s .result-is,
+      agree-shown w S P H R n located _ _ (o .type-in) (s .result-in),
+    )

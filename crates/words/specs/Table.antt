@@ -1,17 +1,19 @@
--- The conditions of each rule, from what the work space shows of a step. proofs/TableRows.antt shows that these are
--- document 01's for the sheets that the work space holds.
+-- The conditions of each rule, from what the work space shows of a step, and those of a `proc` line. proofs/TableRows.antt
+-- shows that these are the documents' for the sheets that the work space holds.
 use mathlib.Core.Bool.{Bool}
 use mathlib.Core.List.{List, [], _∷_}
 use Prim.Native.Nat.{ℕ}
 use Rattle.spec.specs.Conditions.{Condition, T, F, isInt, isRef, isLock, isTid, isSem, isRwlock, refLocation, load, inLoad, outLoad, readLoad, writeLoad}
 use Rattle.spec.specs.declared.MapNumber.{MapNumber}
+use Rattle.spec.specs.declared.TypeNumber.{TypeNumber}
 use Rattle.spec.specs.declared.TypeLine.{TypeLine}
 use Rattle.workspace.specs.declared.Rule.{Rule}
-use Rattle.workspace.specs.declared.Rule.the-variants.{VAR, INT, LET, IF, WHILE, NEWT, SPAWN, JOIN, REF, WRITE, READ, NEWL, LCK, ULCK, NEWSEM, POST, WAIT, NEWRWLOCK, RDLOCK, RDUNLOCK, WRLOCK, WRUNLOCK}
+use Rattle.workspace.specs.declared.Rule.the-variants.{VAR, INT, LET, IF, WHILE, NEWT, SPAWN, JOIN, REF, WRITE, READ, NEWL, LCK, ULCK, NEWSEM, POST, WAIT, NEWRWLOCK, RDLOCK, RDUNLOCK, WRLOCK, WRUNLOCK, CALL}
 use Rattle.conditions.specs.Relation.{failsFrom, hasAtLeast}
 use Rattle.conditions.specs.Agreement.{agreeIn, mayShowIn, containsIn}
 use Rattle.conditions.specs.declared.Relation.{Relation}
 use Rattle.conditions.specs.declared.Relation.the-variants.{Equal, AtLeast, Covers, Sum}
+use Rattle.words.specs.declared.Signature.{Signature}
 use Rattle.words.specs.declared.View.{View}
 
 -- a relation at every location of the sheet
@@ -149,6 +151,15 @@ wrlockRow w s kind kind₁ = loaded w s kind (isRwlock kind₁) (s .post1) (writ
 abbrev pub wrunlockRow : TableRow
 wrunlockRow w s kind kind₁ = loaded w s kind (isRwlock kind₁) (s .post) (writeLoad kind₁) (s .post1)
 
+-- document 02, request (xiv)
+abbrev pub callRow : TableRow
+callRow w s kind kind₁ =
+    T (agreeIn w (s .locations) (s .typed) (s .signature .result))
+    ∷ T (agreeIn w (s .locations) (s .type1) (s .signature .argument))
+    ∷ flows w s (Sum (s .signature .before) (s .start) (s .post1))
+    ∷ flows w s (Sum (s .signature .after) (s .start) (s .post))
+    ∷ []
+
 unfoldable pub ruleRow : Rule → TableRow
 ruleRow VAR = varRow
 ruleRow INT = intRow
@@ -172,3 +183,13 @@ ruleRow RDLOCK = rdlockRow
 ruleRow RDUNLOCK = rdunlockRow
 ruleRow WRLOCK = wrlockRow
 ruleRow WRUNLOCK = wrunlockRow
+ruleRow CALL = callRow
+
+-- ------------------------------------------------------------------ a `proc` line
+
+-- a procedure with the signature g, whose body has this type and this post
+abbrev pub procedureRow : (w : List ℕ) → (locations : ℕ) → (g : Signature) → (body : TypeNumber) → (post : MapNumber) → List Condition
+procedureRow w locations g body post =
+    T (agreeIn w locations body (g .result))
+    ∷ F (failsFrom w (AtLeast post (g .after)) 0 locations)
+    ∷ []

@@ -1,14 +1,26 @@
-// What each word asks of its step: the rules of Figure 5, a row of conditions each, judged over a view of the step.
+// What each word asks of its step: the rules of Figure 5, a row of conditions each, judged over a view of the step; and what a
+// `proc` line asks of its procedure.
 mod flows;
 mod loads;
+mod procedures;
 mod rows;
 
+pub use procedures::check_procedure;
 pub use rows::check_rule;
 use spec::MapNumber;
 use spec::TypeNumber;
 
+// What the split says of a procedure: the map before its body, the argument's type, the map after, the result's type.
+pub struct Signature {
+    pub before: MapNumber,
+    pub argument: TypeNumber,
+    pub after: MapNumber,
+    pub result: TypeNumber,
+}
+
 // What the conditions of a step look at: the sheet's locations and denominator, the step's line and number, the types and
-// maps of the step and of its parts, and for a `var` the type of its let's e1.
+// maps of the step and of its parts, for a `var` the type of its let's e1 or of its procedure's argument, and for a `call`
+// the signature of the procedure.
 pub struct View {
     pub line: u32,
     pub value: u32,
@@ -23,4 +35,5 @@ pub struct View {
     pub start: MapNumber,
     pub post1: MapNumber,
     pub post2: MapNumber,
+    pub signature: Signature,
 }

@@ -1,5 +1,5 @@
-// The conditions of a step: the rules of Figure 5, in the printed order, and behind them those of section 3.1.4 and those of
-// read-write locks, document 02, request (xi).
+// The conditions of a step: the rules of Figure 5, in the printed order, and behind them those of section 3.1.4, those of
+// read-write locks, document 02, request (xi), and that of calls, request (xiv).
 use super::View;
 use super::flows::at_least;
 use super::flows::equal;
@@ -23,7 +23,7 @@ use spec::TypeLine;
 use workspace::Rule;
 ghost use mathlib.Core.Path.{_≡_};
 ghost use Rattle.conditions.specs.Outcome.{outcome, firstFalseFrom};
-ghost use Rattle.words.specs.Table.{varRow, intRow, letRow, ifRow, whileRow, newtRow, spawnRow, refRow, writeRow, readRow, newlRow, newsemRow, newrwlockRow, ruleRow};
+ghost use Rattle.words.specs.Table.{varRow, intRow, letRow, ifRow, whileRow, newtRow, spawnRow, refRow, writeRow, readRow, newlRow, newsemRow, newrwlockRow, callRow, ruleRow};
 
 // VAR: 1 type is that of its let's e1, or for a lock a looser one; 2 post = pre.
 fn check_var(work: &[u32], s: View, kind: TypeLine, kind1: TypeLine) -> Ruling
@@ -199,6 +199,22 @@ fn check_newrwlock(work: &[u32], s: View, kind: TypeLine, kind1: TypeLine) -> Ru
     )
 }
 
+// CALL: 1 type is result; 2 type of part is argument; 3 post of part = before + s; 4 post = after + s.
+fn check_call(work: &[u32], s: View, kind: TypeLine, kind1: TypeLine) -> Ruling
+    ensures { λ r. ⌜ outcome r ≡ firstFalseFrom (s .line) 1 (callRow (now (work .entry)) s kind kind1) ⌝ }
+{
+    let g = s.signature;
+    let types = also(
+        on_types(s.line, 1, agree(work, s.locations, s.typed, g.result)),
+        on_types(s.line, 2, agree(work, s.locations, s.type1, g.argument)),
+    );
+    let flows = also(
+        sum(work, s, 3, g.before, s.start, s.post1),
+        sum(work, s, 4, g.after, s.start, s.post),
+    );
+    also(types, flows)
+}
+
 // The conditions of a step with the rule r.
 pub fn check_rule(r: Rule, work: &[u32], s: View, kind: TypeLine, kind1: TypeLine) -> Ruling
     ensures { λ ruling. ⌜ outcome ruling ≡ firstFalseFrom (s .line) 1 (ruleRow r (now (work .entry)) s kind kind1) ⌝ }
@@ -235,5 +251,6 @@ pub fn check_rule(r: Rule, work: &[u32], s: View, kind: TypeLine, kind1: TypeLin
         Rule::WRLOCK => check_rwlock_write(work, s, kind, kind1, s.post1, s.post),
         // WRUNLOCK: 1 type int; 2 part a rwlock; 3 post + w = post of part.
         Rule::WRUNLOCK => check_rwlock_write(work, s, kind, kind1, s.post, s.post1),
+        Rule::CALL => check_call(work, s, kind, kind1),
     }
 }

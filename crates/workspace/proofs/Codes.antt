@@ -7,7 +7,7 @@ use Rattle.spec.specs.declared.TypeLine.the-variants as type-line
 use Rattle.spec.specs.declared.Word.{Word}
 use Rattle.spec.specs.declared.Word.the-variants.{Leaf, Unary, Binary}
 use Rattle.spec.specs.declared.LeafWord.the-variants.{Var, Int, Newtid, Newlock, Newsem, Newrwlock}
-use Rattle.spec.specs.declared.UnaryWord.the-variants.{While, Join, Ref, Read, Lock, Unlock, Post, Wait, Rdlock, Rdunlock, Wrlock, Wrunlock}
+use Rattle.spec.specs.declared.UnaryWord.the-variants.{While, Join, Ref, Read, Lock, Unlock, Post, Wait, Rdlock, Rdunlock, Wrlock, Wrunlock, Call}
 use Rattle.spec.specs.declared.BinaryWord.the-variants.{Let, If, Spawn, Write}
 use Rattle.workspace.specs.Layout.{codeOf, printed, ruleOf, wordBy, wordOf, kindOf, firstOf, secondOf, typeOf}
 
@@ -35,6 +35,7 @@ word-of-code (Unary Rdlock) = refl
 word-of-code (Unary Rdunlock) = refl
 word-of-code (Unary Wrlock) = refl
 word-of-code (Unary Wrunlock) = refl
+word-of-code (Unary Call) = refl
 word-of-code (Binary Let) = refl
 word-of-code (Binary If) = refl
 word-of-code (Binary Spawn) = refl

@@ -2,22 +2,23 @@
 use mathlib.Core.Path.{_≡_, ap, _∙_}
 use mathlib.Core.Logic.{inl}
 use mathlib.Core.List.{List, _++_, map, map-append}
-use Prim.Native.Nat.{ℕ, _+_, _≤_}
+use Prim.Native.Nat.{ℕ, _+_, _<_, _≤_}
 use native.Mathlib.Omega.{arith}
 use lib.ListN.{length, getD, length-map}
 use Rattle.spec.specs.Expression.{Step, Position, Expr, leaf, unary, binary, size, indexOf, lineOf}
-use Rattle.spec.specs.Words.{role, binding}
-use Rattle.spec.specs.WellFormed.{prefix, IndexesFrom, UsedInside}
+use Rattle.spec.specs.Words.{role, binding, calls}
+use Rattle.spec.specs.WellFormed.{prefix, IndexesFrom, StepInside, UsedInside}
 use Rattle.spec.proofs.Listing.{prefix-length}
 use Rattle.spec.specs.declared.Word.{Word}
 use Rattle.spec.specs.declared.Word.the-variants.{Leaf, Unary, Binary}
 use Rattle.spec.specs.declared.LeafWord.{LeafWord}
 use Rattle.spec.specs.declared.LeafWord.the-variants.{Var}
 use Rattle.spec.specs.declared.UnaryWord.{UnaryWord}
+use Rattle.spec.specs.declared.UnaryWord.the-variants.{Call}
 use Rattle.spec.specs.declared.BinaryWord.{BinaryWord}
 use Rattle.workspace.specs.Layout.{wordsAt, valuesAt, endsAt, letsAt, linesAt, presAt, leafCode, unaryCode, binaryCode, codeOf}
 use Rattle.workspace.specs.Region.{Region, ChangedWithin}
-use Rattle.workspace.specs.Holds.{ends, letIn, letOf, lets, HoldsSteps}
+use Rattle.workspace.specs.Holds.{ends, letIn, letOf, lets}
 use Rattle.workspace.proofs.Region.{region-moved, region-first, region-behind, region-left, region-right, region-kept}
 use Rattle.workspace.proofs.Held.{ends-length, lets-length}
 
@@ -53,15 +54,15 @@ pub record Standing (w : List ℕ) (k : ℕ) (e : Expr) : Type 0 where
   pub ended : Region w (endsAt + k) (ends k e)
   pub indexed : IndexesFrom k e
 
--- and its variables have their lets
-pub record Here (w : List ℕ) (k : ℕ) (inside : List (ℕ × ℕ)) (vars : List ℕ) (e : Expr) : Type 0 where
+-- and its variables have their lets, its calls their procedures, of which there are so many
+pub record Here (w : List ℕ) (count k : ℕ) (inside : List (ℕ × ℕ)) (vars : List ℕ) (e : Expr) : Type 0 where
   pub standing : Standing w k e
   pub bound : Region w (letsAt + k) (lets k inside e)
-  pub used : UsedInside vars e
+  pub used : UsedInside count vars e
 
 -- the expression stays where only maps before steps are changed
-pub here-kept : {w w′ : List ℕ} {k : ℕ} {inside : List (ℕ × ℕ)} {vars : List ℕ} {e : Expr}
-    → ChangedWithin presAt (presAt + 256) w w′ → k + size e ≤ 256 → Here w k inside vars e → Here w′ k inside vars e
+pub here-kept : {w w′ : List ℕ} {count k : ℕ} {inside : List (ℕ × ℕ)} {vars : List ℕ} {e : Expr}
+    → ChangedWithin presAt (presAt + 256) w w′ → k + size e ≤ 256 → Here w count k inside vars e → Here w′ count k inside vars e
 here-kept {k = k} {inside = inside} {e = e} x h H = record {
   standing = record {
     words = region-kept x (inl (omega (arith, codes-length e))) (H .standing .words);
@@ -171,40 +172,48 @@ module _ {w : List ℕ} {k : ℕ} where
 
 -- ------------------------------------------------------------------ with its lets
 
-module _ {w : List ℕ} {k : ℕ} {inside : List (ℕ × ℕ)} {vars : List ℕ} where
+module _ {w : List ℕ} {count k : ℕ} {inside : List (ℕ × ℕ)} {vars : List ℕ} where
   -- the index and the line of an expression
-  pub here-index : (e : Expr) → Here w k inside vars e → indexOf e ≡ k
+  pub here-index : (e : Expr) → Here w count k inside vars e → indexOf e ≡ k
   unfolding indexOf
   here-index (leaf x p v) H = leaf-head x p v (H .standing) .index
   here-index (unary x p v e) H = unary-head x p v e (H .standing) .index
   here-index (binary x p v e₁ e₂) H = binary-head x p v e₁ e₂ (H .standing) .index
 
-  pub here-line : (e : Expr) → Here w k inside vars e → getD w (linesAt + k) 0 ≡ lineOf e
+  pub here-line : (e : Expr) → Here w count k inside vars e → getD w (linesAt + k) 0 ≡ lineOf e
   unfolding lineOf
   here-line (leaf x p v) H = leaf-head x p v (H .standing) .line
   here-line (unary x p v e) H = unary-head x p v e (H .standing) .line
   here-line (binary x p v e₁ e₂) H = binary-head x p v e₁ e₂ (H .standing) .line
 
-  pub leaf-code : (x : LeafWord) (p : Position) (v : ℕ) → Here w k inside vars (leaf x p v) → getD w (wordsAt + k) 0 ≡ leafCode x
+  pub leaf-code : (x : LeafWord) (p : Position) (v : ℕ) → Here w count k inside vars (leaf x p v) → getD w (wordsAt + k) 0 ≡ leafCode x
   leaf-code x p v H = leaf-head x p v (H .standing) .code
 
-  pub unary-code : (x : UnaryWord) (p : Position) (v : ℕ) (e : Expr) → Here w k inside vars (unary x p v e) → getD w (wordsAt + k) 0 ≡ unaryCode x
+  pub unary-code : (x : UnaryWord) (p : Position) (v : ℕ) (e : Expr) → Here w count k inside vars (unary x p v e) → getD w (wordsAt + k) 0 ≡ unaryCode x
   unary-code x p v e H = unary-head x p v e (H .standing) .code
 
-  pub binary-code : (x : BinaryWord) (p : Position) (v : ℕ) (e₁ e₂ : Expr) → Here w k inside vars (binary x p v e₁ e₂)
+  pub binary-code : (x : BinaryWord) (p : Position) (v : ℕ) (e₁ e₂ : Expr) → Here w count k inside vars (binary x p v e₁ e₂)
       → getD w (wordsAt + k) 0 ≡ binaryCode x
   binary-code x p v e₁ e₂ H = binary-head x p v e₁ e₂ (H .standing) .code
 
   -- the number of a step without parts
-  pub leaf-number : (x : LeafWord) (p : Position) (v : ℕ) → Here w k inside vars (leaf x p v) → getD w (valuesAt + k) 0 ≡ v
+  pub leaf-number : (x : LeafWord) (p : Position) (v : ℕ) → Here w count k inside vars (leaf x p v) → getD w (valuesAt + k) 0 ≡ v
   leaf-number x p v H = leaf-head x p v (H .standing) .value
 
+  -- that of a step with one part, and of one that calls a procedure
+  pub unary-number : (x : UnaryWord) (p : Position) (v : ℕ) (e : Expr) → Here w count k inside vars (unary x p v e) → getD w (valuesAt + k) 0 ≡ v
+  unary-number x p v e H = unary-head x p v e (H .standing) .value
+
+  pub here-called : (p : Position) (f : ℕ) (e : Expr) → Here w count k inside vars (unary Call p f e) → f < count
+  unfolding UsedInside StepInside role calls
+  here-called p f e H = H .used .0
+
   -- the let of a variable
-  pub here-let : (p : Position) (v : ℕ) → Here w k inside vars (leaf Var p v) → getD w (letsAt + k) 0 ≡ letIn inside v
+  pub here-let : (p : Position) (v : ℕ) → Here w count k inside vars (leaf Var p v) → getD w (letsAt + k) 0 ≡ letIn inside v
   unfolding lets letOf role
   here-let p v H = region-first (H .bound)
 
-  pub here-part : (x : UnaryWord) (p : Position) (v : ℕ) (e : Expr) → Here w k inside vars (unary x p v e) → Here w (k + 1) inside vars e
+  pub here-part : (x : UnaryWord) (p : Position) (v : ℕ) (e : Expr) → Here w count k inside vars (unary x p v e) → Here w count (k + 1) inside vars e
   unfolding lets UsedInside
   here-part x p v e H = record {
     standing = standing-part x p v e (H .standing);
@@ -212,12 +221,12 @@ module _ {w : List ℕ} {k : ℕ} {inside : List (ℕ × ℕ)} {vars : List ℕ}
     used = H .used .1;
   }
 
-  module _ (x : BinaryWord) (p : Position) (v : ℕ) (e₁ e₂ : Expr) (H : Here w k inside vars (binary x p v e₁ e₂)) where
+  module _ (x : BinaryWord) (p : Position) (v : ℕ) (e₁ e₂ : Expr) (H : Here w count k inside vars (binary x p v e₁ e₂)) where
     lets-parts : Region w (letsAt + k + 1) (lets (k + 1) inside e₁ ++ lets (k + 1 + size e₁) (binding (role (Binary x)) (v, k) inside) e₂)
     unfolding lets
     lets-parts = region-behind (H .bound)
 
-    pub here-first : Here w (k + 1) inside vars e₁
+    pub here-first : Here w count (k + 1) inside vars e₁
     unfolding UsedInside
     here-first = record {
       standing = standing-first x p v e₁ e₂ (H .standing);
@@ -225,7 +234,7 @@ module _ {w : List ℕ} {k : ℕ} {inside : List (ℕ × ℕ)} {vars : List ℕ}
       used = H .used .1;
     }
 
-    pub here-second : Here w (k + 1 + size e₁) (binding (role (Binary x)) (v, k) inside) (binding (role (Binary x)) v vars) e₂
+    pub here-second : Here w count (k + 1 + size e₁) (binding (role (Binary x)) (v, k) inside) (binding (role (Binary x)) v vars) e₂
     unfolding UsedInside
     here-second = record {
       standing = standing-second x p v e₁ e₂ (H .standing);
@@ -234,24 +243,10 @@ module _ {w : List ℕ} {k : ℕ} {inside : List (ℕ × ℕ)} {vars : List ℕ}
       used = H .used .2;
     }
 
-  pub here-end : (e : Expr) → Here w k inside vars e → getD w (endsAt + k) 0 ≡ k + size e
+  pub here-end : (e : Expr) → Here w count k inside vars e → getD w (endsAt + k) 0 ≡ k + size e
   here-end e H = standing-end e (H .standing)
 
 -- where the second of two parts stands, by the end of the first
-pub here-second-at : {w : List ℕ} {k : ℕ} {inside : List (ℕ × ℕ)} {vars : List ℕ} (x : BinaryWord) (p : Position) (v : ℕ) (e₁ e₂ : Expr)
-    → Here w k inside vars (binary x p v e₁ e₂) → getD w (endsAt + 1 + k) 0 ≡ k + 1 + size e₁
+pub here-second-at : {w : List ℕ} {count k : ℕ} {inside : List (ℕ × ℕ)} {vars : List ℕ} (x : BinaryWord) (p : Position) (v : ℕ) (e₁ e₂ : Expr)
+    → Here w count k inside vars (binary x p v e₁ e₂) → getD w (endsAt + 1 + k) 0 ≡ k + 1 + size e₁
 here-second-at {w} x p v e₁ e₂ H = ap (λ (i : ℕ). getD w i 0) (omega arith) ∙ here-end e₁ (here-first x p v e₁ e₂ H)
-
--- ------------------------------------------------------------------ the root
-
--- the one expression that the steps that the work space holds list
-pub root-standing : (w : List ℕ) (steps : List Step) (e : Expr) → HoldsSteps w steps → Region w endsAt (ends 0 e) → prefix e ≡ steps → IndexesFrom 0 e
-    → Standing w 0 e
-unfolding codes values linesOf
-root-standing w steps e held ended listing indexed = record {
-  words = rw listing (held .words);
-  numbers = rw listing (held .values);
-  lined = rw listing (held .lines);
-  ended = ended;
-  indexed = indexed;
-}

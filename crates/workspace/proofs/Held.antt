@@ -1,19 +1,19 @@
 -- Laws of what the work space holds: how long its columns are, and that a program stays while what is behind it changes.
 use mathlib.Core.Path.{_≡_, refl, sym, ap, _∙_}
 use mathlib.Core.Logic.{inl, inr}
-use mathlib.Core.List.{List, []}
+use mathlib.Core.List.{List, [], _∷_, _++_, map, append-nil}
 use Prim.Native.Nat.{ℕ, suc, _+_, _≤_}
 use native.Mathlib.Omega.{arith}
 use lib.ListN.{length, length-append, length-map}
-use Rattle.spec.specs.Expression.{Step, Expr, leaf, unary, binary, size}
+use Rattle.spec.specs.Expression.{Step, Expr, leaf, unary, binary, size, step, stepsAmong, Procedure}
 use Rattle.spec.specs.Program.{Program}
-use Rattle.spec.specs.WellFormed.{prefix}
-use Rattle.spec.proofs.Listing.{prefix-length}
+use Rattle.spec.specs.WellFormed.{prefix, itemsOf, listing}
+use Rattle.spec.proofs.Listing.{prefix-length, steps-among}
 use Rattle.spec.specs.Words.{role, binding}
 use Rattle.spec.specs.declared.Word.the-variants.{Binary}
-use Rattle.workspace.specs.Layout.{codeOf, rowTypesAt, workSize}
+use Rattle.workspace.specs.Layout.{codeOf, rowTypesAt, stepRoom, procMark, workSize}
 use Rattle.workspace.specs.Region.{ChangedWithin}
-use Rattle.workspace.specs.Holds.{ends, lets, HoldsSteps, HoldsProgram}
+use Rattle.workspace.specs.Holds.{ends, lets, allEnds, allLets, firstSteps, HoldsSteps, HoldsProgram}
 use Rattle.workspace.proofs.Region.{region-kept}
 use Rattle.workspace.proofs.Steps.{NoStep, beside-words, beside-lines}
 
@@ -39,9 +39,60 @@ lets-length k inside (binary x l v e₁ e₂) =
       lets-length (k + 1 + size e₁) inside₂ e₂,
     )
 
+-- an expression's steps, then those of the lines behind it
+pub body-steps : (p : Procedure) (ps : List Procedure) (root : Expr)
+    → stepsAmong (listing (p ∷ ps) root) ≡ prefix (p .body) ++ stepsAmong (listing ps root)
+unfolding listing itemsOf stepsAmong
+body-steps p ps root = steps-among (prefix (p .body)) (listing ps root)
+
+pub root-steps : (root : Expr) → stepsAmong (listing [] root) ≡ prefix root
+unfolding listing itemsOf stepsAmong
+root-steps root = ap stepsAmong (sym (append-nil (map step (prefix root)))) ∙ steps-among (prefix root) [] ∙ append-nil (prefix root)
+
+-- how many steps bodies and a root have
+pub body-sized : (p : Procedure) (ps : List Procedure) (root : Expr)
+    → length (stepsAmong (listing (p ∷ ps) root)) ≡ size (p .body) + length (stepsAmong (listing ps root))
+body-sized p ps root =
+    ap length (body-steps p ps root)
+    ∙ length-append (prefix (p .body)) (stepsAmong (listing ps root))
+    ∙ ap (λ n. n + length (stepsAmong (listing ps root))) (prefix-length (p .body))
+
+pub root-sized : (root : Expr) → length (stepsAmong (listing [] root)) ≡ size root
+root-sized root = ap length (root-steps root) ∙ prefix-length root
+
+pub all-ends-length : (k : ℕ) (ps : List Procedure) (root : Expr) → length (allEnds k ps root) ≡ length (stepsAmong (listing ps root))
+unfolding allEnds
+all-ends-length k [] root = ends-length k root ∙ sym (root-sized root)
+all-ends-length k (p ∷ ps) root =
+    omega (
+      arith,
+      length-append (ends k (p .body)) (allEnds (k + size (p .body)) ps root),
+      ends-length k (p .body),
+      all-ends-length (k + size (p .body)) ps root,
+      body-sized p ps root,
+    )
+
+pub all-lets-length : (f k : ℕ) (ps : List Procedure) (root : Expr) → length (allLets f k ps root) ≡ length (stepsAmong (listing ps root))
+unfolding allLets
+all-lets-length f k [] root = lets-length k [] root ∙ sym (root-sized root)
+all-lets-length f k (p ∷ ps) root =
+    let inside : List (ℕ × ℕ) = (p .parameter, procMark + f) ∷ [] in
+    omega (
+      arith,
+      length-append (lets k inside (p .body)) (allLets (f + 1) (k + size (p .body)) ps root),
+      lets-length k inside (p .body),
+      all-lets-length (f + 1) (k + size (p .body)) ps root,
+      body-sized p ps root,
+    )
+
+pub first-steps-length : (k : ℕ) (ps : List Procedure) → length (firstSteps k ps) ≡ length ps + 1
+unfolding firstSteps
+first-steps-length k [] = refl
+first-steps-length k (p ∷ ps) = omega (arith, first-steps-length (k + size (p .body)) ps)
+
 -- ------------------------------------------------------------------ a program stays
 
-pub steps-stay : {a b : ℕ} {w w′ : List ℕ} {steps : List Step} → ChangedWithin a b w w′ → NoStep a b → length steps ≤ 256
+pub steps-stay : {a b : ℕ} {w w′ : List ℕ} {steps : List Step} → ChangedWithin a b w w′ → NoStep a b → length steps ≤ stepRoom
     → HoldsSteps w steps → HoldsSteps w′ steps
 steps-stay {steps = steps} c o few H = record {
   words = region-kept c (inl (beside-words _ (omega (arith, length-map steps (λ (s : Step). codeOf (s .word)))) o)) (H .words);
@@ -50,12 +101,16 @@ steps-stay {steps = steps} c o few H = record {
 }
 
 -- the program stands in front of the rows
-pub program-kept : {w w′ : List ℕ} {P : Program} → ChangedWithin rowTypesAt workSize w w′ → prefix (P .root) ≡ P .steps → length (P .steps) ≤ 256
-    → HoldsProgram w P → HoldsProgram w′ P
-program-kept {w} {w′} {P} c listing few H =
-    let sized : size (P .root) ≡ length (P .steps) = sym (prefix-length (P .root)) ∙ ap length listing in
+pub program-kept : {w w′ : List ℕ} {P : Program} → ChangedWithin rowTypesAt workSize w w′ → P .steps ≡ stepsAmong (listing (P .procedures) (P .root))
+    → length (P .steps) ≤ 256 → length (P .procedures) ≤ 16 → HoldsProgram w P → HoldsProgram w′ P
+program-kept {w} {w′} {P} c stepped few procs H =
+    let ps : List Procedure = P .procedures in
+    let sized : length (stepsAmong (listing ps (P .root))) ≡ length (P .steps) = sym (ap length stepped) in
     record {
-      steps = steps-stay c (inr (omega arith)) few (H .steps);
-      ends = region-kept c (inl (omega (arith, few, sized, ends-length 0 (P .root)))) (H .ends);
-      lets = region-kept c (inl (omega (arith, few, sized, lets-length 0 [] (P .root)))) (H .lets);
+      steps = steps-stay c (inr (omega arith)) (omega (arith, few)) (H .steps);
+      ends = region-kept c (inl (omega (arith, few, sized, all-ends-length 0 ps (P .root)))) (H .ends);
+      lets = region-kept c (inl (omega (arith, few, sized, all-lets-length 0 0 ps (P .root)))) (H .lets);
+      procLines = region-kept c (inl (omega (arith, procs, length-map ps (λ (p : Procedure). p .line)))) (H .procLines);
+      procVars = region-kept c (inl (omega (arith, procs, length-map ps (λ (p : Procedure). p .parameter)))) (H .procVars);
+      procFirsts = region-kept c (inl (omega (arith, procs, first-steps-length 0 ps))) (H .procFirsts);
     }

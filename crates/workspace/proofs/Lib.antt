@@ -3,6 +3,7 @@ pub mod Region
 pub mod Steps
 pub mod Held
 pub mod Expression
+pub mod Bodies
 pub mod Shown
 pub mod Lent
 pub mod Sheets

@@ -1,4 +1,4 @@
--- What the work space shows of the split that it holds: types, maps and rows by number.
+-- What the work space shows of the split that it holds: types, maps, signatures and rows by number.
 use mathlib.Core.Path.{_≡_, refl, sym, ap, _∙_}
 use mathlib.Core.Logic.{inr}
 use mathlib.Core.List.{List, [], _∷_}
@@ -6,10 +6,11 @@ use mathlib.Core.Option.{Option, none, some}
 use Prim.Native.Nat.{ℕ, zero, suc, _+_, _-_, _*_, _<_}
 use native.Mathlib.Omega.{arith}
 use lib.ListN.{length, getD, replicate, length-replicate, getD-replicate}
-use Rattle.spec.specs.Expression.{Step, Expr, indexOf}
-use Rattle.spec.specs.Split.{Map, Row, noRow, Split}
+use Rattle.spec.specs.Expression.{Expr, indexOf}
+use Rattle.spec.specs.Program.{Program}
+use Rattle.spec.specs.Split.{Map, Signature, noSignature, Row, noRow, Split}
 use Rattle.spec.specs.Maps.{share}
-use Rattle.spec.specs.Conditions.{typeAt, mapAt, row, post, bodyStart, startIn, refLocation, load, inLoad, outLoad, readLoad, writeLoad}
+use Rattle.spec.specs.Conditions.{typeAt, mapAt, row, post, bodyStart, startIn, signature, refLocation, load, inLoad, outLoad, readLoad, writeLoad}
 use Rattle.spec.specs.Ranges.{InRange}
 use Rattle.spec.specs.declared.Location.{Location}
 use Rattle.spec.specs.declared.MapNumber.{MapNumber}
@@ -18,7 +19,7 @@ use Rattle.spec.specs.declared.TypeLine.{TypeLine}
 use Rattle.spec.specs.declared.TypeLine.the-variants.{Int, Ref, Lock, Tid, Sem, Rwlock}
 use Rattle.workspace.specs.Layout as layout
 use Rattle.workspace.specs.Region.{ChangedWithin}
-use Rattle.workspace.specs.Layout.{presAt, rowTypesAt, postsAt, startsAt, kindsAt, firstsAt, secondsAt, mapsAt, stride, emptyMap, mapCell, mapFrom, mapIn, kindOf, firstOf, secondOf}
+use Rattle.workspace.specs.Layout.{presAt, rowTypesAt, postsAt, startsAt, kindsAt, firstsAt, secondsAt, sigBeforesAt, sigArgumentsAt, sigAftersAt, sigResultsAt, mapsAt, stride, emptyMap, mapCell, mapFrom, mapIn, kindOf, firstOf, secondOf}
 use Rattle.workspace.specs.Holds.{HoldsSplit, startNumber}
 use Rattle.workspace.proofs.Region.{column}
 use Rattle.workspace.proofs.Codes.{type-of-numbers}
@@ -71,7 +72,7 @@ pub record LoadsIn (S : Split) (x : TypeLine) : Type 0 where
   pub read-load-in : readLoad x .0 < length (S .maps)
   pub write-load-in : writeLoad x .0 < length (S .maps)
 
-module _ (w : List ℕ) (S : Split) (steps : List Step) (H : HoldsSplit w S) (R : InRange steps S) where
+module _ (w : List ℕ) (S : Split) (P : Program) (H : HoldsSplit w S) (R : InRange P S) where
   -- ---------------------------------------------------------------- types
 
   pub type-shown : (t : TypeNumber) → t .0 < length (S .types) → layout.typeAt w t ≡ typeAt S t
@@ -157,6 +158,42 @@ module _ (w : List ℕ) (S : Split) (steps : List Step) (H : HoldsSplit w S) (R 
       → mapCell w m (p .0) ≡ share x p
   unfolding mapIn share
   has-shown {m} p s l = rw (← s .is) (sym (cell-of w m 0 (S .header .locations) (p .0) l ∙ ap (mapCell w m) (omega arith)))
+
+  -- ---------------------------------------------------------------- signatures
+
+  -- the signature of procedure f: its types, and its maps by the numbers stored for them
+  module _ (f : ℕ) (h : f < length (S .signatures)) where
+    pub argument-shown : getD w (sigArgumentsAt + f) 0 ≡ signature S f .argument .0
+    unfolding signature
+    argument-shown = column w sigArgumentsAt (λ (g : Signature). g .argument .0) (S .signatures) noSignature f (H .arguments) h
+
+    pub argument-in : signature S f .argument .0 < length (S .types)
+    unfolding signature
+    argument-in = R .argumentType f noSignature h
+
+    pub result-shown : getD w (sigResultsAt + f) 0 ≡ signature S f .result .0
+    unfolding signature
+    result-shown = column w sigResultsAt (λ (g : Signature). g .result .0) (S .signatures) noSignature f (H .results) h
+
+    pub result-in : signature S f .result .0 < length (S .types)
+    unfolding signature
+    result-in = R .resultType f noSignature h
+
+    before-shown : getD w (sigBeforesAt + f) 0 ≡ signature S f .before .0
+    unfolding signature
+    before-shown = column w sigBeforesAt (λ (g : Signature). g .before .0) (S .signatures) noSignature f (H .befores) h
+
+    pub before-at : {m : ℕ} → m ≡ getD w (sigBeforesAt + f) 0 → Stands w S (record { 0 = m }) (mapAt S (signature S f .before))
+    unfolding signature
+    before-at q = rw (map-number (q ∙ before-shown)) (map-stands _ (R .beforeMap f noSignature h))
+
+    after-shown : getD w (sigAftersAt + f) 0 ≡ signature S f .after .0
+    unfolding signature
+    after-shown = column w sigAftersAt (λ (g : Signature). g .after .0) (S .signatures) noSignature f (H .afters) h
+
+    pub after-at : {m : ℕ} → m ≡ getD w (sigAftersAt + f) 0 → Stands w S (record { 0 = m }) (mapAt S (signature S f .after))
+    unfolding signature
+    after-at q = rw (map-number (q ∙ after-shown)) (map-stands _ (R .afterMap f noSignature h))
 
   -- ---------------------------------------------------------------- rows
 

@@ -7,7 +7,7 @@ use Prim.Native.Nat.{ℕ, suc, zero, _+_, _-_, _<_, _≤_}
 use native.Mathlib.Omega.{arith}
 use lib.ListN.{length, drop, set, length-set, length-append, length-map}
 use Rattle.spec.specs.Expression.{Step}
-use Rattle.workspace.specs.Layout.{workSize, wordsAt, valuesAt, endsAt, linesAt, rowTypesAt, codeOf}
+use Rattle.workspace.specs.Layout.{workSize, wordsAt, valuesAt, endsAt, linesAt, rowTypesAt, stepRoom, codeOf}
 use Rattle.workspace.specs.Region.{Region, ChangedWithin}
 use Rattle.workspace.specs.Steps.{wordAt, valueAt, stepLineAt, stepsFrom}
 use Rattle.workspace.specs.Holds.{HoldsSteps}
@@ -41,7 +41,7 @@ module _ {a b : ℕ} where
   beside-lines i n h l o = ⊎-elim (λ p. inr (omega (arith, p .1))) (λ p. inl (omega arith)) o
 
 -- the steps stay where only such a part changes
-pub steps-kept-beside : {a b : ℕ} {w w′ : List ℕ} → ChangedWithin a b w w′ → NoStep a b → (k n : ℕ) → k + n ≤ 256 → stepsFrom w′ k n ≡ stepsFrom w k n
+pub steps-kept-beside : {a b : ℕ} {w w′ : List ℕ} → ChangedWithin a b w w′ → NoStep a b → (k n : ℕ) → k + n ≤ stepRoom → stepsFrom w′ k n ≡ stepsFrom w k n
 unfolding stepsFrom wordAt valueAt stepLineAt
 steps-kept-beside c o k zero l = refl
 steps-kept-beside {a} {b} c o k (suc n) l =
@@ -53,7 +53,7 @@ steps-kept-beside {a} {b} c o k (suc n) l =
     )
     refl
 
-pub steps-kept : {a b : ℕ} {w w′ : List ℕ} → ChangedWithin a b w w′ → rowTypesAt ≤ a → (k n : ℕ) → k + n ≤ 256 → stepsFrom w′ k n ≡ stepsFrom w k n
+pub steps-kept : {a b : ℕ} {w w′ : List ℕ} → ChangedWithin a b w w′ → rowTypesAt ≤ a → (k n : ℕ) → k + n ≤ stepRoom → stepsFrom w′ k n ≡ stepsFrom w k n
 steps-kept c h = steps-kept-beside c (inr h)
 
 -- the steps that the work space holds are those that it stores
@@ -74,7 +74,7 @@ pub steps-held : (w : List ℕ) (steps : List Step) (n : ℕ) → HoldsSteps w s
 steps-held w steps n h e = rw (← e) (held-from w 0 steps (h .words) (h .values) (h .lines))
 
 -- one step more, stored just past them
-pub steps-push : {w : List ℕ} {steps : List Step} (s : Step) (k code : ℕ) → length steps ≡ k → k < 256 → length w ≡ workSize → code ≡ codeOf (s .word)
+pub steps-push : {w : List ℕ} {steps : List Step} (s : Step) (k code : ℕ) → length steps ≡ k → k < stepRoom → length w ≡ workSize → code ≡ codeOf (s .word)
     → HoldsSteps w steps
     → HoldsSteps (set (set (set w (wordsAt + k) code) (valuesAt + k) (s .value)) (linesAt + k) (s .line)) (steps ++ (s ∷ []))
 steps-push {w} {steps} s k code counted few long coded H =

@@ -14,11 +14,11 @@ use Rattle.spec.specs.declared.Word.the-variants.{Leaf, Unary, Binary}
 use Rattle.spec.specs.declared.LeafWord.{LeafWord}
 use Rattle.spec.specs.declared.LeafWord.the-variants.{Var, Int, Newtid, Newlock, Newsem, Newrwlock}
 use Rattle.spec.specs.declared.UnaryWord.{UnaryWord}
-use Rattle.spec.specs.declared.UnaryWord.the-variants.{While, Join, Ref, Read, Lock, Unlock, Post, Wait, Rdlock, Rdunlock, Wrlock, Wrunlock}
+use Rattle.spec.specs.declared.UnaryWord.the-variants.{While, Join, Ref, Read, Lock, Unlock, Post, Wait, Rdlock, Rdunlock, Wrlock, Wrunlock, Call}
 use Rattle.spec.specs.declared.BinaryWord.{BinaryWord}
 use Rattle.spec.specs.declared.BinaryWord.the-variants.{Let, If, Spawn, Write}
 use Rattle.workspace.specs.declared.Rule.{Rule}
-use Rattle.workspace.specs.declared.Rule.the-variants.{VAR, INT, LET, IF, WHILE, NEWT, SPAWN, JOIN, REF, WRITE, READ, NEWL, LCK, ULCK, NEWSEM, POST, WAIT, NEWRWLOCK, RDLOCK, RDUNLOCK, WRLOCK, WRUNLOCK}
+use Rattle.workspace.specs.declared.Rule.the-variants.{VAR, INT, LET, IF, WHILE, NEWT, SPAWN, JOIN, REF, WRITE, READ, NEWL, LCK, ULCK, NEWSEM, POST, WAIT, NEWRWLOCK, RDLOCK, RDUNLOCK, WRLOCK, WRUNLOCK, CALL}
 
 -- ------------------------------------------------------------------ offsets
 
@@ -31,40 +31,69 @@ abbrev pub wordsAt : ℕ
 wordsAt = 0
 
 abbrev pub valuesAt : ℕ
-valuesAt = 256
+valuesAt = 272
 
 abbrev pub endsAt : ℕ
-endsAt = 512
+endsAt = 544
 
 abbrev pub letsAt : ℕ
-letsAt = 768
+letsAt = 816
 
 abbrev pub linesAt : ℕ
-linesAt = 1024
+linesAt = 1088
+
+abbrev pub procLinesAt : ℕ
+procLinesAt = 1360
+
+abbrev pub procVarsAt : ℕ
+procVarsAt = 1632
+
+abbrev pub procFirstsAt : ℕ
+procFirstsAt = 1904
+
+-- how many steps there is room for, and as many `proc` lines: those of the longest program with the most procedures
+abbrev pub stepRoom : ℕ
+stepRoom = 272
+
+-- the mark of procedure 0, which no index of a let is
+abbrev pub procMark : ℕ
+procMark = 256
 
 abbrev pub rowTypesAt : ℕ
-rowTypesAt = 1280
+rowTypesAt = 2176
 
 abbrev pub postsAt : ℕ
-postsAt = 1536
+postsAt = 2432
 
 abbrev pub startsAt : ℕ
-startsAt = 1792
+startsAt = 2688
 
 abbrev pub presAt : ℕ
-presAt = 2048
+presAt = 2944
 
 abbrev pub kindsAt : ℕ
-kindsAt = 2304
+kindsAt = 3200
 
 abbrev pub firstsAt : ℕ
-firstsAt = 2368
+firstsAt = 3264
 
 abbrev pub secondsAt : ℕ
-secondsAt = 2432
+secondsAt = 3328
 
 abbrev pub lineAt : ℕ
-lineAt = 2496
+lineAt = 3392
+
+abbrev pub sigBeforesAt : ℕ
+sigBeforesAt = 3408
+
+abbrev pub sigArgumentsAt : ℕ
+sigArgumentsAt = 3424
+
+abbrev pub sigAftersAt : ℕ
+sigAftersAt = 3440
+
+abbrev pub sigResultsAt : ℕ
+sigResultsAt = 3456
 
 abbrev pub mapsAt : ℕ
 mapsAt = 4096
@@ -80,15 +109,15 @@ emptyRowAt = 12288
 
 -- ------------------------------------------------------------------ words
 
--- the rules, one a word: those of Figure 5 in the printed order, then those of section 3.1.4 and those of read-write
--- locks; WRUNLOCK is the last
+-- the rules, one a word: those of Figure 5 in the printed order, then those of section 3.1.4, those of read-write locks and
+-- that of calls; CALL is the last
 unfoldable pub printed : List Rule
 printed =
     VAR ∷ INT ∷ LET ∷ IF ∷ WHILE ∷ NEWT ∷ SPAWN ∷ JOIN ∷ REF ∷ WRITE ∷ READ ∷ NEWL ∷ LCK ∷ ULCK ∷ NEWSEM ∷ POST ∷ WAIT ∷ NEWRWLOCK ∷ RDLOCK
-    ∷ RDUNLOCK ∷ WRLOCK ∷ []
+    ∷ RDUNLOCK ∷ WRLOCK ∷ WRUNLOCK ∷ []
 
 unfoldable pub ruleOf : ℕ → Rule
-ruleOf k = getD printed k WRUNLOCK
+ruleOf k = getD printed k CALL
 
 -- the word that a rule is for
 unfoldable pub wordBy : Rule → Word
@@ -114,6 +143,7 @@ wordBy RDLOCK = Unary Rdlock
 wordBy RDUNLOCK = Unary Rdunlock
 wordBy WRLOCK = Unary Wrlock
 wordBy WRUNLOCK = Unary Wrunlock
+wordBy CALL = Unary Call
 
 unfoldable pub wordOf : ℕ → Word
 wordOf k = wordBy (ruleOf k)
@@ -140,6 +170,7 @@ unaryCode Rdlock = 18
 unaryCode Rdunlock = 19
 unaryCode Wrlock = 20
 unaryCode Wrunlock = 21
+unaryCode Call = 22
 
 abbrev pub binaryCode : BinaryWord → ℕ
 binaryCode Let = 2

@@ -27,15 +27,16 @@ pub record Small (h : HeaderRead) : Type 0 where
   pub types : h .types ≤ 64
   pub maps : h .maps ≤ 512
 
--- the work space w holds the program P of a well-formed sheet and a split S for its steps whose numbers are in range, with
--- so many steps, this denominator, so many locations and the start with this number
-pub record HoldsSheets (w : List ℕ) (steps denominator locations start : ℕ) (P : Program) (S : Split) : Type 0 where
+-- the work space w holds the program P of a well-formed sheet and a split S for it whose numbers are in range, with so many
+-- steps and procedures, this denominator, so many locations and the start with this number
+pub record HoldsSheets (w : List ℕ) (steps procedures denominator locations start : ℕ) (P : Program) (S : Split) : Type 0 where
   pub programText : List ℕ
   pub wellFormed : WellFormedProgram programText P
-  pub inRange : InRange (P .steps) S
+  pub inRange : InRange P S
   pub program : HoldsProgram w P
   pub split : HoldsSplit w S
   pub stepsCounted : steps ≡ length (P .steps)
+  pub proceduresCounted : procedures ≡ length (P .procedures)
   pub denominatorGiven : denominator ≡ S .header .denominator
   pub locationsGiven : locations ≡ S .header .locations
   pub startGiven : start ≡ S .header .rootStart .0

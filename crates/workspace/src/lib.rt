@@ -17,36 +17,57 @@ ghost use Rattle.workspace.specs.Layout.{codeOf, leafCode, unaryCode, bi
 // How many 32-bit numbers a check works in.
 pub const SIZE: usize = 16384;
 
-// Steps in line order, up to 256: word, number v, the index past the step, for a `var` the index of its let, line in the sheet.
+// Steps in line order, up to 272, which is 256 and the 16 that may stand where a `proc` line is due: word, number v, the index
+// past the step, for a `var` the index of its let or the mark of its procedure, line in the sheet.
 pub const WORDS: usize = 0;
 
-pub const VALUES: usize = 256;
+pub const VALUES: usize = 272;
 
-pub const ENDS: usize = 512;
+pub const ENDS: usize = 544;
 
-pub const LETS: usize = 768;
+pub const LETS: usize = 816;
 
-pub const LINES: usize = 1024;
+pub const LINES: usize = 1088;
 
-// Rows in line order, up to 256: type, post, the map that a spawned body starts with, which is the empty map where none is
-// given; and the map before the step.
-pub const ROW_TYPES: usize = 1280;
+// `proc` lines in line order, up to 272, of which 16 are not refused: line in the sheet, variable, and the index of the step
+// behind it, where its body begins. Behind those of the procedures, the index at which the root begins.
+pub const PROC_LINES: usize = 1360;
 
-pub const POSTS: usize = 1536;
+pub const PROC_VARS: usize = 1632;
 
-pub const STARTS: usize = 1792;
+pub const PROC_FIRSTS: usize = 1904;
 
-pub const PRES: usize = 2048;
+// The mark of procedure 0, in the place of an index of a let; the marks of the others follow.
+pub const PROC_MARK: u32 = 256;
+
+// Rows in line order, up to 256: type, post, the map that a spawned body starts with or a call keeps back, which is the empty
+// map where none is given; and the map before the step.
+pub const ROW_TYPES: usize = 2176;
+
+pub const POSTS: usize = 2432;
+
+pub const STARTS: usize = 2688;
+
+pub const PRES: usize = 2944;
 
 // Types by number, up to 64: kind and the two numbers of the type line.
-pub const KINDS: usize = 2304;
+pub const KINDS: usize = 3200;
 
-pub const FIRSTS: usize = 2368;
+pub const FIRSTS: usize = 3264;
 
-pub const SECONDS: usize = 2432;
+pub const SECONDS: usize = 3328;
 
 // The numbers of the line that is being read.
-pub const LINE: usize = 2496;
+pub const LINE: usize = 3392;
+
+// Signatures by number, up to 16: the map before, the argument's type, the map after, the result's type.
+pub const SIG_BEFORES: usize = 3408;
+
+pub const SIG_ARGUMENTS: usize = 3424;
+
+pub const SIG_AFTERS: usize = 3440;
+
+pub const SIG_RESULTS: usize = 3456;
 
 // Maps by number, up to 512, each in a row of 16.
 pub const MAPS: usize = 4096;
@@ -90,8 +111,8 @@ pub fn wide(x: u32) -> u64
     x as u64
 }
 
-// The rules, one a word: those of Figure 5 in the printed order, behind them those of section 3.1.4 and those of read-write
-// locks.
+// The rules, one a word: those of Figure 5 in the printed order, behind them those of section 3.1.4, those of read-write
+// locks and that of calls.
 pub enum Rule {
     VAR,
     INT,
@@ -115,6 +136,7 @@ pub enum Rule {
     RDUNLOCK,
     WRLOCK,
     WRUNLOCK,
+    CALL,
 }
 
 fn leaf_code(w: LeafWord) -> u32
@@ -146,6 +168,7 @@ fn unary_code(w: UnaryWord) -> u32
         UnaryWord::Rdunlock => 19,
         UnaryWord::Wrlock => 20,
         UnaryWord::Wrunlock => 21,
+        UnaryWord::Call => 22,
     }
 }
 
@@ -197,7 +220,8 @@ pub fn rule_of(code: u32) -> Rule
         18 => Rule::RDLOCK,
         19 => Rule::RDUNLOCK,
         20 => Rule::WRLOCK,
-        _ => Rule::WRUNLOCK,
+        21 => Rule::WRUNLOCK,
+        _ => Rule::CALL,
     }
 }
 
@@ -228,6 +252,7 @@ fn word_by(r: Rule) -> Word
         Rule::RDUNLOCK => Word::Unary(UnaryWord::Rdunlock),
         Rule::WRLOCK => Word::Unary(UnaryWord::Wrlock),
         Rule::WRUNLOCK => Word::Unary(UnaryWord::Wrunlock),
+        Rule::CALL => Word::Unary(UnaryWord::Call),
     }
 }
 

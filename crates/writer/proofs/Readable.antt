@@ -11,10 +11,11 @@ use lib.ListN.{length, getD, replicate}
 use borrow.Author.Tests.{ltb-true}
 use Rattle.spec.specs.Choice.{if_then_else_}
 use Rattle.spec.specs.Text.{Line, bytes, same, Field, lookUp}
-use Rattle.spec.specs.Reading.{noStart, right, _to_, below, inRange, allInRange}
+use Rattle.spec.specs.Reading.{right, _to_, below, inRange, allInRange}
 use Rattle.spec.specs.Words.{takesStart}
 use Rattle.spec.specs.Expression.{Step}
-use Rattle.spec.specs.Split.{Map, Header, headings, startOf, headerOf, headed, headerLine, refOf, lockOf, tidOf, semOf, rwlockOf, typeLine, typeLines, mapLine, Row, rowOf, startGiven, startRange, mayBeEmpty, postRange, postField, rowLine, Split}
+use Rattle.spec.specs.Program.{Program}
+use Rattle.spec.specs.Split.{Map, Header, headings, startOf, headerOf, headed, headerLine, refOf, lockOf, tidOf, semOf, rwlockOf, typeLine, typeLines, mapLine, Row, rowOf, startGiven, startRange, mayBeEmpty, emptyFault, postRange, postField, rowLine, Split}
 use Rattle.spec.specs.WellFormed.{Shows, nothing, line, WellFormedSplit}
 use Rattle.spec.specs.Accepted.{AtMost}
 use Rattle.spec.specs.Accepted as accepted
@@ -100,7 +101,7 @@ maps-small H (suc n) (line h others) (suc m) = maps-small H n others m
 
 -- ------------------------------------------------------------------ rows
 
--- a number s is in its range on a spawn alone
+-- a number s is in its range on a spawn and on a call alone
 start-on-spawn : (w : Word) (H : Header) (n : ℕ) → inRange (startRange w H) n ≡ true → takesStart w ≡ true
 unfolding startRange inRange
 start-on-spawn w H n h = by-cases (takesStart w) (ltb-true n _ h)
@@ -116,7 +117,7 @@ module _ (purpose : Purpose) (H : Header) where
   row-starts s (t ∷ []) r h = wrong-is-not-right h
   row-starts s (t ∷ m ∷ []) r h = wrong-is-not-right h
   row-starts s (t ∷ m ∷ [] ∷ []) r h =
-      let (allowed, shown) = insist-right (mayBeEmpty (H .heading) (s .word)) noStart _ h in
+      let (allowed, shown) = insist-right (mayBeEmpty (H .heading) (s .word)) (emptyFault (s .word)) _ h in
       let (ns, n, e) = seen-right _ shown in
       along (λ q. RowStarts (H .heading) (s .word) (q .start)) e allowed
   row-starts s (t ∷ m ∷ (b ∷ f) ∷ []) r h =
@@ -134,11 +135,11 @@ module _ (purpose : Purpose) (H : Header) where
 
 -- ------------------------------------------------------------------ the sheet
 
-pub read-is-writable : {purpose : Purpose} {steps : List Step} {text : List ℕ} {S : Split} → WellFormedSplit purpose steps text S → Writable steps S
-read-is-writable {purpose} {steps} {text} {S} F = record {
+pub read-is-writable : {purpose : Purpose} {P : Program} {text : List ℕ} {S : Split} → WellFormedSplit purpose P text S → Writable P S
+read-is-writable {purpose} {P} {text} {S} F = record {
   inRange = well-formed-in-range F;
   rootStart = header-starts purpose _ (S .header) (F .headed);
   lockShows = locks-show (S .header) 0 (S .header .types) (F .typed);
   numbersSmall = maps-small (S .header) (S .header .maps) (F .mapped);
-  rowStarts = rows-start purpose (S .header) steps (F .rowed);
+  rowStarts = rows-start purpose (S .header) (P .steps) (F .rowed);
 }

@@ -11,7 +11,8 @@ use lib.ListN.{length, replicate, getD, length-map, length-replicate, getD-repli
 use Rattle.spec.specs.Text.{bytes, same, lookUp, lines, Field}
 use Rattle.spec.specs.Reading.{splitSheet, on, Seen, right, seen, insist, Range, _to_, below, numbers, begin, noneLeft, end}
 use Rattle.spec.specs.Expression.{Step}
-use Rattle.spec.specs.Split.{Map, Header, headings, headerRanges, mapsIn, mapsOf, startOf, headerOf, headed, headerLine, refOf, lockOf, outRange, tidOf, semOf, rwlockOf, typeLine, typeLines, mapLine, Row, noRow, rowOf, startGiven, startRange, postRange, postField, rowLine, Split, split}
+use Rattle.spec.specs.Program.{Program}
+use Rattle.spec.specs.Split.{Map, Header, headings, headerRanges, mapsIn, mapsOf, startOf, headerOf, headed, headerLine, refOf, lockOf, outRange, tidOf, semOf, rwlockOf, typeLine, typeLines, mapLine, Signature, noSignature, signatureOf, signatureLine, Row, noRow, rowOf, startGiven, startRange, postRange, postField, rowLine, Split, split}
 use Rattle.spec.specs.Ranges.{InRange}
 use Rattle.spec.specs.Accepted.{AtMost}
 use Rattle.spec.specs.Accepted as accepted
@@ -28,7 +29,7 @@ use Rattle.spec.proofs.Reading.{read-next, read-all}
 use Rattle.writer.specs.Text.{decimal, text}
 use Rattle.writer.specs.Plain.{Plain, PlainLine, last, next}
 use Rattle.writer.specs.Plain as plain
-use Rattle.writer.specs.Sheet.{headingName, headerNumbers, headerFields, outNumber, typeFields, mapFields, postShown, startShown, rowFields, splitLines, written}
+use Rattle.writer.specs.Sheet.{headingName, headerNumbers, headerFields, outNumber, typeFields, mapFields, signatureFields, postShown, startShown, rowFields, splitLines, written}
 use Rattle.writer.specs.Writable.{RootStarts, LockShows, RowStarts, Writable}
 use Rattle.writer.proofs.Decimal.{decimal-long}
 use Rattle.writer.proofs.Numerals.{decimal-plain}
@@ -65,6 +66,10 @@ map-plain : (m : Map) → 1 ≤ length m → PlainLine (mapFields m)
 unfolding mapFields
 map-plain [] h = absurd (omega arith)
 map-plain (a ∷ m) h = plain-numbers a m
+
+signature-plain : (g : Signature) → PlainLine (signatureFields g)
+unfolding signatureFields
+signature-plain g = plain-numbers (g .before .0) (g .argument .0 ∷ g .after .0 ∷ g .result .0 ∷ [])
 
 start-plain : (s : Option MapNumber) → Plain (startShown s)
 unfolding startShown
@@ -111,11 +116,11 @@ third-numeral H s t m (b ∷ f) h = refl
 abbrev aStep : Step
 aStep = record { word = Leaf Var; value = 0; line = 0 }
 
-module _ {steps : List Step} {S : Split} (W : Writable steps S) where
+module _ {P : Program} {S : Split} (W : Writable P S) where
   abbrev H : Header
   H = S .header
 
-  abbrev R : InRange steps S
+  abbrev R : InRange P S
   R = W .inRange
 
   a-map : {n : ℕ} → n < length (S .maps) → n < H .maps
@@ -186,29 +191,32 @@ module _ {steps : List Step} {S : Split} (W : Writable steps S) where
   unfolding mapLine mapFields
   map-back m wide small = numbers-back (map-within (H .locations) wide small)
 
+  few-types : H .types ≤ 1000000000
+  few-types = omega (arith, R .typesFew)
+
+  a-type : {n : ℕ} → n < length (S .types) → n < H .types
+  a-type h = omega (arith, R .typesCounted)
+
+  signature-back : (f : ℕ) → f < length (S .signatures) → let g = getD (S .signatures) f noSignature in signatureLine H (signatureFields g) ≡ right g
+  unfolding signatureLine signatureOf signatureFields seen
+  signature-back f h =
+      rw (numbers-back (within-below (a-map (R .beforeMap f noSignature h)) few-maps (within-below (a-type (R .argumentType f noSignature h)) few-types
+      (within-below (a-map (R .afterMap f noSignature h)) few-maps (within-below (a-type (R .resultType f noSignature h)) few-types empty)))))
+
   row-back : (s : Step) (r : Row) → r .type .0 < length (S .types) → r .post .0 < length (S .maps)
       → ((m : MapNumber) → r .start ≡ some m → m .0 < length (S .maps)) → RowStarts (H .heading) (s .word) (r .start)
       → rowLine Check H s (rowFields Check r) ≡ right r
   unfolding rowLine rowOf startGiven startRange postRange postField seen insist rowFields postShown startShown RowStarts
   row-back s r t p inMaps starts = by-start (r .start) refl starts
     where
-      typed : r .type .0 < H .types
-      typed = omega (arith, t, R .typesCounted)
-
-      few : H .types ≤ 1000000000
-      few = omega (arith, R .typesFew)
-
-      many : H .maps ≤ 1000000000
-      many = omega (arith, R .mapsFew)
-
       by-start : (o : Option MapNumber) → r .start ≡ o → RowStarts (H .heading) (s .word) o
           → rowLine Check H s (decimal (r .type .0) ∷ decimal (r .post .0) ∷ startShown o ∷ []) ≡ right r
       by-start none e empty-allowed =
-          rw (numbers-back (within-below typed few (within-below (a-map p) many empty)), empty-allowed)
+          rw (numbers-back (within-below (a-type t) few-types (within-below (a-map p) few-maps empty)), empty-allowed)
           (λ i. right (record { type = r .type; post = r .post; start = sym e i }))
       by-start (some m) e spawns =
           third-numeral H s _ _ (decimal (m .0)) (decimal-long (m .0))
-          ∙ rw (spawns, numbers-back (within-below typed few (within-below (a-map p) many (within-below (a-map (inMaps m e)) many empty))))
+          ∙ rw (spawns, numbers-back (within-below (a-type t) few-types (within-below (a-map p) few-maps (within-below (a-map (inMaps m e)) few-maps empty))))
           (λ i. right (record { type = r .type; post = r .post; start = sym e i }))
 
   -- ---------------------------------------------------------------- all lines of a sort
@@ -227,27 +235,36 @@ module _ {steps : List Step} {S : Split} (W : Writable steps S) where
       let wide = R .mapWide n h in
       (map-plain m (omega (arith, wide, R .locations)), ap (λ (f : List Field → Seen Map). f (mapFields m)) read ∙ map-back m wide (W .numbersSmall n)))
 
-  rows-back : Spells (map (rowLine Check H) steps) (map (rowFields Check) (S .rows)) (S .rows)
-  rows-back = each-spelled (rowFields Check) (map (rowLine Check H) steps) (S .rows) (rowLine Check H aStep) noRow (R .rowsCounted ∙ sym (length-map steps (rowLine Check H))) (λ i h.
+  signatures-back : Spells (replicate (length (P .procedures)) (signatureLine H)) (map signatureFields (S .signatures)) (S .signatures)
+  signatures-back = each-spelled signatureFields (replicate (length (P .procedures)) (signatureLine H)) (S .signatures) (signatureLine H) noSignature (R .signaturesCounted ∙ sym (length-replicate (length (P .procedures)) (signatureLine H))) (λ f h.
+      let g = getD (S .signatures) f noSignature in
+      let read = getD-replicate (length (P .procedures)) f (signatureLine H) (signatureLine H) (omega (arith, R .signaturesCounted)) in
+      (signature-plain g, ap (λ (r : List Field → Seen Signature). r (signatureFields g)) read ∙ signature-back f h))
+
+  rows-back : Spells (map (rowLine Check H) (P .steps)) (map (rowFields Check) (S .rows)) (S .rows)
+  rows-back = each-spelled (rowFields Check) (map (rowLine Check H) (P .steps)) (S .rows) (rowLine Check H aStep) noRow (R .rowsCounted ∙ sym (length-map (P .steps) (rowLine Check H))) (λ i h.
       let row = getD (S .rows) i noRow in
-      let read = List·getD-map (rowLine Check H) steps i aStep in
+      let read = List·getD-map (rowLine Check H) (P .steps) i aStep in
       let starts = W .rowStarts i aStep noRow (omega (arith, R .rowsCounted)) in
-      (row-plain row, ap (λ (f : List Field → Seen Row). f (rowFields Check row)) read ∙ row-back (getD steps i aStep) row (R .rowType i noRow h) (R .rowPost i noRow h) (λ m. R .rowStart i noRow m h) starts))
+      (row-plain row, ap (λ (f : List Field → Seen Row). f (rowFields Check row)) read ∙ row-back (getD (P .steps) i aStep) row (R .rowType i noRow h) (R .rowPost i noRow h) (λ m. R .rowStart i noRow m h) starts))
 
   -- ---------------------------------------------------------------- the sheet
 
-  pub written-reads-back : split Check steps (written S) ≡ on S
+  pub written-reads-back : split Check P (written S) ≡ on S
   unfolding split begin end noneLeft written splitLines text lines
   written-reads-back =
       let rowed = map (rowFields Check) (S .rows) in
-      let mapped = map mapFields (S .maps) ++ rowed in
+      let signed = map signatureFields (S .signatures) ++ rowed in
+      let mapped = map mapFields (S .maps) ++ signed in
       let typed = map (typeFields (H .heading)) (S .types) ++ mapped in
       let (l₁, types) = read-all splitSheet (text-shows mapped types-back) 1 in
-      let (l₂, maps) = read-all splitSheet (text-shows rowed maps-back) l₁ in
-      let (l₃, rows) = read-all splitSheet (all-shown rows-back) l₂ in
+      let (l₂, maps) = read-all splitSheet (text-shows signed maps-back) l₁ in
+      let (l₃, signatures) = read-all splitSheet (text-shows rowed signatures-back) l₂ in
+      let (l₄, rows) = read-all splitSheet (all-shown rows-back) l₃ in
       goes-on-bind _ _ (ap (begin splitSheet) (line-closed (text typed) (header-plain H)))
       (goes-on-bind _ _ (read-next splitSheet (headerLine Check) 0 (joined (headerFields H)) (lines (text typed)) (ap (headerLine Check) (fields-joined (header-plain H)) ∙ header-back))
       (goes-on-bind _ _ types
       (goes-on-bind _ _ maps
+      (goes-on-bind _ _ signatures
       (goes-on-bind _ _ rows
-      (goes-on-bind _ _ refl refl)))))
+      (goes-on-bind _ _ refl refl))))))

@@ -12,9 +12,10 @@ use lib.Seq.{drop-cons}
 use borrow.Author.Tests.{ltb-true}
 use Rattle.spec.specs.Choice.{if_then_else_}
 use Rattle.spec.specs.Text.{Line, bytes, same, Field, fields, lookUp}
-use Rattle.spec.specs.Reading.{Seen, right, noStart, seen, Range, _to_, below, inRange, numerals, numbers}
+use Rattle.spec.specs.Reading.{Seen, right, seen, Range, _to_, below, inRange, numerals, numbers}
 use Rattle.spec.specs.Expression.{Step}
-use Rattle.spec.specs.Split.{Map, Header, headings, headerRanges, mapsOf, mapsIn, startOf, headerOf, headed, headerLine, refOf, lockOf, outRange, tidOf, semOf, rwlockOf, typeLine, typeLines, mapLine, Row, rowOf, startGiven, startRange, postRange, postField, rowLine, Split}
+use Rattle.spec.specs.Program.{Program}
+use Rattle.spec.specs.Split.{Map, Header, headings, headerRanges, mapsOf, mapsIn, startOf, headerOf, headed, headerLine, refOf, lockOf, outRange, tidOf, semOf, rwlockOf, typeLine, typeLines, mapLine, Signature, signatureOf, signatureLine, Row, rowOf, startGiven, startRange, emptyFault, postRange, postField, rowLine, Split}
 use Rattle.spec.specs.WellFormed.{Shows, WellFormedSplit}
 use Rattle.spec.specs.WellFormed as well-formed
 use Rattle.spec.specs.declared.Heading.{Heading}
@@ -26,7 +27,7 @@ use Rattle.spec.proofs.Clashes.{none-is-not-some}
 use Rattle.spec.proofs.Tests.{same-equal}
 use Rattle.spec.proofs.Ranges.{wrong-is-not-right, seen-right, numbers-right, in-to, in-range-at, insist-right}
 use Rattle.writer.specs.Text.{decimal, line, text}
-use Rattle.writer.specs.Sheet.{headingName, headerNumbers, headerFields, outNumber, typeFields, mapFields, postShown, startShown, rowFields, splitLines, written, unfilled}
+use Rattle.writer.specs.Sheet.{headingName, headerNumbers, headerFields, outNumber, typeFields, mapFields, signatureFields, postShown, startShown, rowFields, splitLines, written, unfilled}
 use Rattle.writer.proofs.Fields.{joined}
 use Rattle.writer.proofs.Lines.{text-append}
 use Rattle.writer.proofs.Canonical.{numbers-canonical, joined-fields, unlined, unlined-lines, line-joined, OneSpelling, empty, entry, shown-spelling}
@@ -166,6 +167,19 @@ unfolding mapLine mapFields
 maps-spelling H zero well-formed.nothing = empty
 maps-spelling H (suc n) (well-formed.line {a = a} h s) = entry (λ fs g. numbers-canonical _ fs a g) (maps-spelling H n s)
 
+-- ------------------------------------------------------------------ procedures
+
+signature-spelling : (H : Header) (g : Signature) (fs : List Field) → signatureLine H fs ≡ right g → fs ≡ signatureFields g
+unfolding signatureLine signatureOf signatureFields entries
+signature-spelling H g fs h =
+    let (ns, n, e) = seen-right _ h in
+    along (λ q. fs ≡ signatureFields q) e (line-numbers _ fs ns n)
+
+signatures-spelling : (H : Header) (n : ℕ) {ls rest : List Line} {gs : List Signature} → Shows (replicate n (signatureLine H)) ls gs rest
+    → OneSpelling (replicate n (signatureLine H)) gs (map signatureFields gs)
+signatures-spelling H zero well-formed.nothing = empty
+signatures-spelling H (suc n) (well-formed.line {a = a} h s) = entry (signature-spelling H a) (signatures-spelling H n s)
+
 -- ------------------------------------------------------------------ rows
 
 module _ (purpose : Purpose) (H : Header) where
@@ -185,7 +199,7 @@ module _ (purpose : Purpose) (H : Header) where
   row-spelling s r (t ∷ []) h = wrong-is-not-right h
   row-spelling s r (t ∷ m ∷ []) h = wrong-is-not-right h
   row-spelling s r (t ∷ m ∷ [] ∷ []) h =
-      let (ns, n, e) = seen-right _ (insist-right _ noStart _ h .1) in
+      let (ns, n, e) = seen-right _ (insist-right _ (emptyFault (s .word)) _ h .1) in
       let rs = below (H .types) ∷ postRange purpose H m ∷ [] in
       let here = line-numbers rs (t ∷ postField purpose m ∷ []) ns n in
       let typed : t ≡ decimal (getD ns 0 0) = ap (λ (l : List Field). getD l 0 []) here in
@@ -209,31 +223,37 @@ module _ (purpose : Purpose) (H : Header) where
 -- ------------------------------------------------------------------ the sheet
 
 -- what was read is what is written, for its purpose
-pub sheet-spelling : {purpose : Purpose} {steps : List Step} {sheet : List ℕ} {S : Split} → WellFormedSplit purpose steps sheet S
+pub sheet-spelling : {purpose : Purpose} {P : Program} {sheet : List ℕ} {S : Split} → WellFormedSplit purpose P sheet S
     → text (splitLines purpose S) ≡ sheet
 unfolding text splitLines unlined
-sheet-spelling {purpose} {steps} {sheet} {S} F =
+sheet-spelling {purpose} {P} {sheet} {S} F =
     let H = S .header in
     let T = map (typeFields (H .heading)) (S .types) in
     let M = map mapFields (S .maps) in
+    let G = map signatureFields (S .signatures) in
     let R = map (rowFields purpose) (S .rows) in
     let first : F .first ≡ joined (headerFields H) = sym (joined-fields (F .first)) ∙ ap joined (header-spelling purpose H (fields (F .first)) (F .headed)) in
     let types = shown-spelling (F .typed) (types-spelling H 0 (H .types) (F .typed)) in
     let maps = shown-spelling (F .mapped) (maps-spelling H (H .maps) (F .mapped)) in
-    let rows = shown-spelling (F .rowed) (rows-spelling purpose H steps (F .rowed)) in
+    let signatures = shown-spelling (F .signed) (signatures-spelling H (length (P .procedures)) (F .signed)) in
+    let rows = shown-spelling (F .rowed) (rows-spelling purpose H (P .steps) (F .rowed)) in
     sym (sym (unlined-lines sheet)
     ∙ ap unlined (F .lined)
     ∙ ap (λ (x : List ℕ). x ++ (10 ∷ unlined (F .others))) first
-    ∙ ap (λ (x : List ℕ). joined (headerFields H) ++ (10 ∷ x)) (types ∙ ap (λ (x : List ℕ). text T ++ x) (maps ∙ ap (λ (x : List ℕ). text M ++ x) (rows ∙ append-nil (text R))))
-    ∙ sym (line-joined (headerFields H) (text T ++ (text M ++ text R)))
-    ∙ ap (line (headerFields H)) (sym (text-append T (M ++ R) ∙ ap (λ (x : List ℕ). text T ++ x) (text-append M R))))
+    ∙ ap (λ (x : List ℕ). joined (headerFields H) ++ (10 ∷ x))
+    (types ∙ ap (λ (x : List ℕ). text T ++ x)
+    (maps ∙ ap (λ (x : List ℕ). text M ++ x)
+    (signatures ∙ ap (λ (x : List ℕ). text G ++ x) (rows ∙ append-nil (text R)))))
+    ∙ sym (line-joined (headerFields H) (text T ++ (text M ++ (text G ++ text R))))
+    ∙ ap (line (headerFields H)) (sym (text-append T (M ++ (G ++ R))
+    ∙ ap (λ (x : List ℕ). text T ++ x) (text-append M (G ++ R) ∙ ap (λ (x : List ℕ). text M ++ x) (text-append G R)))))
 
 -- of a sheet that was read to check
-pub written-as-read : {steps : List Step} {sheet : List ℕ} {S : Split} → WellFormedSplit Check steps sheet S → written S ≡ sheet
+pub written-as-read : {P : Program} {sheet : List ℕ} {S : Split} → WellFormedSplit Check P sheet S → written S ≡ sheet
 unfolding written
 written-as-read F = sheet-spelling F
 
--- of a sheet that was read to fill: header, types, given maps, t and s of each row are as they stood
-pub read-as-written : {steps : List Step} {sheet : List ℕ} {S : Split} → WellFormedSplit Fill steps sheet S → unfilled S ≡ sheet
+-- of a sheet that was read to fill: header, types, given maps, procedures, t and s of each row are as they stood
+pub read-as-written : {P : Program} {sheet : List ℕ} {S : Split} → WellFormedSplit Fill P sheet S → unfilled S ≡ sheet
 unfolding unfilled
 read-as-written F = sheet-spelling F

@@ -3,7 +3,7 @@ use mathlib.Core.List.{List, [], _∷_, _++_, map}
 use mathlib.Core.Option.{Option, none, some}
 use Prim.Native.Nat.{ℕ}
 use Rattle.spec.specs.Text.{bytes, Field}
-use Rattle.spec.specs.Split.{Map, Header, Row, Split}
+use Rattle.spec.specs.Split.{Map, Header, Signature, Row, Split}
 use Rattle.spec.specs.declared.Heading.{Heading}
 use Rattle.spec.specs.declared.Heading.the-variants.{C, C2, C3}
 use Rattle.spec.specs.declared.Purpose.{Purpose}
@@ -46,6 +46,10 @@ typeFields h (Rwlock r w) = bytes "rwlock" ∷ map decimal (r .0 ∷ w .0 ∷ []
 unfoldable pub mapFields : Map → List Field
 mapFields m = map decimal m
 
+-- `before,argument,after,result`
+unfoldable pub signatureFields : Signature → List Field
+signatureFields g = map decimal (g .before .0 ∷ g .argument .0 ∷ g .after .0 ∷ g .result .0 ∷ [])
+
 -- m of a row: a sheet that is to be filled leaves it empty
 unfoldable pub postShown : Purpose → MapNumber → Field
 postShown Check m = decimal (m .0)
@@ -60,13 +64,14 @@ startShown (some m) = decimal (m .0)
 unfoldable pub rowFields : Purpose → Row → List Field
 rowFields purpose r = decimal (r .type .0) ∷ postShown purpose (r .post) ∷ startShown (r .start) ∷ []
 
--- header, types, maps, rows
+-- header, types, maps, procedures, rows
 unfoldable pub splitLines : Purpose → Split → List (List Field)
 splitLines purpose S =
     headerFields (S .header)
     ∷ (map (typeFields (S .header .heading)) (S .types)
     ++ (map mapFields (S .maps)
-    ++ map (rowFields purpose) (S .rows)))
+    ++ (map signatureFields (S .signatures)
+    ++ map (rowFields purpose) (S .rows))))
 
 -- the sheet of a split, whole
 unfoldable pub written : Split → List ℕ

@@ -1,12 +1,13 @@
 -- The splits that some sheet shows: those that can be written and read back.
 use mathlib.Core.Path.{_≡_}
-use mathlib.Core.List.{List, []}
+use mathlib.Core.List.{[]}
 use mathlib.Core.Bool.{true}
 use mathlib.Core.Option.{Option, none, some}
 use Prim.Native.Nat.{ℕ, _<_}
 use lib.ListN.{length, getD}
 use Rattle.spec.specs.Words.{takesStart}
 use Rattle.spec.specs.Expression.{Step}
+use Rattle.spec.specs.Program.{Program}
 use Rattle.spec.specs.Split.{Row, Split, mayBeEmpty}
 use Rattle.spec.specs.Ranges.{InRange}
 use Rattle.spec.specs.Accepted.{AtMost}
@@ -33,11 +34,12 @@ unfoldable pub RowStarts : Heading → Word → Option MapNumber → Type 0
 RowStarts h w none = mayBeEmpty h w ≡ true
 RowStarts h w (some m) = takesStart w ≡ true
 
--- a split that can be written for the steps of a program
-pub record Writable (steps : List Step) (S : Split) : Type 0 where
-  pub inRange : InRange steps S
+-- a split that can be written for a program
+pub record Writable (P : Program) (S : Split) : Type 0 where
+  pub inRange : InRange P S
   pub rootStart : RootStarts (S .header .heading) (S .header .rootStart)
   pub lockShows : (t : ℕ) (i o : MapNumber) → t < length (S .types) → getD (S .types) t type-line.Int ≡ type-line.Lock i o
       → LockShows (S .header .heading) i o
   pub numbersSmall : (m : ℕ) → AtMost 1000000000 (getD (S .maps) m [])
-  pub rowStarts : (i : ℕ) (s : Step) (r : Row) → i < length steps → RowStarts (S .header .heading) (getD steps i s .word) (getD (S .rows) i r .start)
+  pub rowStarts : (i : ℕ) (s : Step) (r : Row) → i < length (P .steps)
+      → RowStarts (S .header .heading) (getD (P .steps) i s .word) (getD (S .rows) i r .start)

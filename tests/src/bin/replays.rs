@@ -6,7 +6,7 @@
 use evidence::answer::REPLAY_SPACE;
 use evidence::comparison::Checker;
 use evidence::draw::traces;
-use evidence::replaying::{agreed, Met, Replayer};
+use evidence::replaying::{agreed, Lent, Met, Replayer};
 use evidence::{known, product, series};
 use std::process::ExitCode;
 use std::time::Instant;
@@ -50,10 +50,10 @@ fn known_traces(replayer: Replayer) -> Result<(), String> {
 }
 
 fn drawn_traces(replayer: Replayer, checker: Checker, traces: u64, seed: u64) -> Result<Met, String> {
-    let mut met = Met::default();
+    let (mut lent, mut met) = (Lent::garbage(), Met::default());
     for number in 0..traces {
         let drawn = traces::recorded(seed, number);
-        agreed(replayer, checker, &drawn, &mut met).map_err(|difference| {
+        agreed(replayer, checker, &drawn, &mut lent, &mut met).map_err(|difference| {
             let kept = series::kept(drawn.files(), number);
             format!("trace {number} of seed {seed} ({}): {difference}; {kept}", drawn.origin)
         })?;

@@ -13,13 +13,12 @@ use evidence::draw::random::Random;
 use evidence::draw::{self, mutants, Drawn};
 use evidence::series::SEED;
 use evidence::steps::claims::Fault;
-use evidence::steps::expression::Expression;
+use evidence::steps::expression::Program;
 use evidence::steps::programs::{ODD, RACY, WAITING};
 use evidence::steps::search::{drawn_schedule, exhaustive, Found};
 use evidence::words::Word;
 use evidence::{known, product, second};
 use std::process::ExitCode;
-use std::rc::Rc;
 use std::time::Instant;
 
 /// How many states an exhaustive search visits before it gives up on the rest.
@@ -66,8 +65,8 @@ fn sheet(steps: &str) -> Vec<u8> {
     format!("P,{count}|{steps}|").replace('|', "\n").into_bytes()
 }
 
-fn listed(program: &[u8]) -> Rc<Expression> {
-    Expression::listed(program).expect("the program is well formed")
+fn listed(program: &[u8]) -> Program {
+    Program::listed(program).expect("the program is well formed")
 }
 
 fn known_races() -> Result<String, String> {
@@ -149,8 +148,11 @@ fn accepted_exhaustively(checker: Checker) -> Result<String, String> {
     Ok(sum.told())
 }
 
-/// Two kinds in turn: drawn word by word, and drawn around threads that share cells.
+/// Two kinds in turn: drawn word by word, and drawn around threads that share cells; now and then these call.
 fn small_draft(random: &mut Random, number: u64) -> Draft {
+    if number.is_multiple_of(3) {
+        return concurrent::with_procedures(random);
+    }
     if number.is_multiple_of(2) {
         return concurrent::draft(random);
     }
@@ -186,14 +188,15 @@ fn faulty_are_refused(checker: Checker) -> Result<String, String> {
     let (mut races, mut halts, mut still_accepted) = (0, 0, 0);
     for number in 0..1_600 {
         let random = &mut Random::new(SEED + 2, number);
-        let mut draft = concurrent::draft(random);
+        let calls = number % 4 == 1;
+        let mut draft = if calls { concurrent::with_procedures(random) } else { concurrent::draft(random) };
         if number % 3 == 0 {
             mutants::change_draft(random, &mut draft);
         } else {
             loosen(random, &mut draft);
         }
         let returned = answer(checker, &draft.program(), &draft.split());
-        if (1..=23).contains(&returned.number) {
+        if (1..=23).contains(&returned.number) || matches!(returned.number, 49 | 50) {
             continue;
         }
         let fault = exhaustive(&listed(&draft.program()), BOUND).fault;
@@ -211,13 +214,14 @@ fn faulty_are_refused(checker: Checker) -> Result<String, String> {
     Ok(format!("{races} with a race and {halts} with an odd halt, all refused; {still_accepted} still accepted"))
 }
 
-const SLIPS: [Slip; 6] = [
+const SLIPS: [Slip; 7] = [
     Slip::LocksForFree,
     Slip::StartsForFree,
     Slip::WritesByFirstMap,
     Slip::PostsForFree,
     Slip::PrintedInequality,
     Slip::PlacesForFree,
+    Slip::BodiesForFree,
 ];
 
 /// Drafts built with one of the mistakes that a checker may make: some of them race, and those must be

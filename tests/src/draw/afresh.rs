@@ -1,7 +1,7 @@
 //! A draft written afresh, as solvers do: each use of a type or of a map has a line of its own, under
 //! a new number. Types agree by structure, so an honest draft stays one.
 
-use super::draft::{Draft, Step};
+use super::draft::{Draft, Procedure, Step};
 use super::random::Random;
 use crate::answer::{MAPS, TYPES};
 use crate::types::Type;
@@ -21,6 +21,19 @@ pub fn afresh(random: &mut Random, known: &Draft) -> Draft {
         let start = old.start.map(|start| writer.new_map(start));
         writer.draft.steps[step] = Step { kind, post, start, ..old };
     }
+    let procedures = known.procedures.as_ref().map(|known| {
+        known
+            .iter()
+            .map(|old| Procedure {
+                before: writer.new_map(old.before),
+                argument: writer.new_type(old.argument),
+                after: writer.new_map(old.after),
+                result: writer.new_type(old.result),
+                ..*old
+            })
+            .collect()
+    });
+    draft.procedures = procedures;
     draft
 }
 

@@ -50,7 +50,7 @@ fn empty(locations: usize) -> Draft {
     let mut nearly = Map::default();
     nearly[locations - 1] = 1;
     let maps = vec![whole, Map::default(), Map::default(), nearly];
-    Draft { heading: Heading::C, whole: 1, locations, types: Vec::new(), maps, steps: Vec::new() }
+    Draft { heading: Heading::C, whole: 1, locations, types: Vec::new(), maps, steps: Vec::new(), procedures: None }
 }
 
 /// The lines of a chain from its bottom up.

@@ -26,11 +26,19 @@ fn attempt(random: &mut Random, word: Word, condition: u32) -> Option<Draft> {
     let (locations, whole) = (1 + random.below(4), random.pick(&[1, 2, 6, 1000, 999_999, WHOLE - 1]));
     let size = random.pick(&[4, 8, 30]);
     let mut builder = Builder::new(random, locations, whole);
+    if matches!(word, Word::Call | Word::Proc) {
+        let count = 1 + builder.random.below(4);
+        builder.procedures(count, 2 + size / 2);
+    }
     let mut now = builder.draft.maps[0];
     let kind = builder.drawn_type(&now, &Map::default());
     let above = builder.random.below(4);
-    let target = builder.chain_around(word, above, kind, &mut now, size)?;
+    let around = if word == Word::Proc { Word::Int } else { word };
+    let target = builder.chain_around(around, above, kind, &mut now, size)?;
     let draft = builder.finished()?;
+    if word == Word::Proc {
+        return Sabotage { random, draft, step: target.step, pre: target.pre }.procedure(condition);
+    }
     Sabotage { random, draft, step: target.step, pre: target.pre }.condition(condition)
 }
 
@@ -58,6 +66,10 @@ impl Sabotage<'_> {
             (Let | If, 1) | (Read, 2) => self.other_type(own),
             (Ref, 1) if self.random.percent(50) => self.other_content(own),
             (If, 2) | (Write, 3) => self.other_type(self.draft.second_of(own)),
+            (Call, 1) => self.other_type(own),
+            (Call, 2) => self.other_type(e1),
+            (Call, 3) => self.other_post(e1),
+            (Call, 4) => self.other_post(own),
             (Var | Int | Let | Newtid | Ref | Newlock | Newsem, 2) => self.other_post(own),
             (Read | Newrwlock, 3) | (Write | Spawn, 4) => self.other_post(own),
             (Newrwlock, 2) => self.too_many_places(),
@@ -74,6 +86,17 @@ impl Sabotage<'_> {
             (_, 2) => self.other_kind(e1),
             (_, 3) => self.other_post(own),
             _ => None,
+        }?;
+        Some(self.draft)
+    }
+
+    /// Makes one condition of a `proc` line false.
+    fn procedure(mut self, condition: u32) -> Option<Draft> {
+        let own = self.random.below(self.draft.procedures().len());
+        let procedure = self.draft.procedures()[own];
+        match condition {
+            1 => self.other_type(procedure.body),
+            _ => self.post_under(procedure.body, self.draft.maps[procedure.after]),
         }?;
         Some(self.draft)
     }

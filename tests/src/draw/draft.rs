@@ -26,6 +26,17 @@ pub enum Heading {
     C3 { start: usize },
 }
 
+/// A `proc` line with its line of the split. The body begins with the step `body`.
+#[derive(Clone, Copy)]
+pub struct Procedure {
+    pub variable: u32,
+    pub body: usize,
+    pub before: usize,
+    pub argument: usize,
+    pub after: usize,
+    pub result: usize,
+}
+
 #[derive(Clone)]
 pub struct Draft {
     pub heading: Heading,
@@ -33,7 +44,10 @@ pub struct Draft {
     pub locations: usize,
     pub types: Vec<Type>,
     pub maps: Vec<Map>,
+    /// The steps of all bodies, and then those of the root.
     pub steps: Vec<Step>,
+    /// The procedures of a `P2` sheet, in the order of their bodies; none on a `P` sheet.
+    pub procedures: Option<Vec<Procedure>>,
 }
 
 impl Draft {
@@ -107,9 +121,23 @@ impl Draft {
         }
     }
 
+    pub fn procedures(&self) -> &[Procedure] {
+        self.procedures.as_deref().unwrap_or_default()
+    }
+
+    /// The first step of the root.
+    pub fn root(&self) -> usize {
+        self.procedures().last().map_or(0, |last| self.end_of(last.body))
+    }
+
+    /// The program sheet's line of a step.
+    pub fn line_of(&self, step: usize) -> usize {
+        2 + step + self.procedures().iter().filter(|procedure| procedure.body <= step).count()
+    }
+
     /// The split sheet's line of a step.
     pub fn row_of(&self, step: usize) -> usize {
-        2 + self.types.len() + self.maps.len() + step
+        2 + self.types.len() + self.maps.len() + self.procedures().len() + step
     }
 
     /// Puts the maps in another order: `order` lists those that stay by their old numbers.
@@ -131,6 +159,9 @@ impl Draft {
             step.post = new[step.post];
             step.start = step.start.map(|start| new[start]);
         }
+        for procedure in self.procedures.iter_mut().flatten() {
+            (procedure.before, procedure.after) = (new[procedure.before], new[procedure.after]);
+        }
         if let Heading::C2 { start } | Heading::C3 { start } = &mut self.heading {
             *start = new[*start];
         }
@@ -145,7 +176,8 @@ impl Draft {
             Type::Rwlock { reading, writing } => vec![reading, writing],
         });
         let starts = self.steps.iter().filter_map(|step| step.start);
-        let used: BTreeSet<usize> = carried.chain(starts).chain([self.start()]).collect();
+        let named = self.procedures().iter().flat_map(|procedure| [procedure.before, procedure.after]);
+        let used: BTreeSet<usize> = carried.chain(starts).chain(named).chain([self.start()]).collect();
         self.renumber_maps(&used.into_iter().collect::<Vec<usize>>());
     }
 
@@ -166,15 +198,18 @@ impl Draft {
 
     pub fn program(&self) -> Vec<u8> {
         let mut text = Vec::with_capacity(12 * self.steps.len() + 8);
-        text.extend_from_slice(b"P,");
-        push_numeral(&mut text, self.steps.len() as u32);
-        for step in &self.steps {
-            text.push(b'\n');
-            text.extend_from_slice(step.word.spelling().as_bytes());
-            text.push(b',');
-            push_numeral(&mut text, step.number);
+        let count = self.steps.len() as u32;
+        match &self.procedures {
+            None => push_fields(&mut text, b"P,", &[count]),
+            Some(procedures) => push_fields(&mut text, b"P2,", &[count, procedures.len() as u32]),
         }
-        text.push(b'\n');
+        for (place, step) in self.steps.iter().enumerate() {
+            for procedure in self.procedures().iter().filter(|procedure| procedure.body == place) {
+                push_fields(&mut text, b"proc,", &[procedure.variable]);
+            }
+            text.extend_from_slice(step.word.spelling().as_bytes());
+            push_fields(&mut text, b",", &[step.number]);
+        }
         text
     }
 
@@ -195,6 +230,9 @@ impl Draft {
         }
         for map in &self.maps {
             push_fields(&mut text, b"", &map[..self.locations]);
+        }
+        for &Procedure { before, argument, after, result, .. } in self.procedures() {
+            push_fields(&mut text, b"", &[before, argument, after, result].map(|number| number as u32));
         }
         for step in &self.steps {
             push_mark(&mut text, step);

@@ -12,9 +12,9 @@ pub fn freelock(random: &mut Random, draft: &Draft) -> Drawn {
     let step = random.below(draft.steps.len());
     let number = if random.percent(70) { 0 } else { random.between(0, 300) };
     let mut lines: Vec<Vec<u8>> = drawn.program.split(|&byte| byte == b'\n').map(<[u8]>::to_vec).collect();
-    lines[step + 1] = format!("freelock,{number}").into_bytes();
+    lines[draft.line_of(step) - 1] = format!("freelock,{number}").into_bytes();
     drawn.program = lines.join(&b'\n');
     let refusal = if number == 0 { 45 } else { 12 };
-    drawn.promise = Promise::Exactly(Returned::at_line(refusal, step as u32 + 2));
+    drawn.promise = Promise::Exactly(Returned::at_line(refusal, draft.line_of(step) as u32));
     drawn
 }

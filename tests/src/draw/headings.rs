@@ -41,10 +41,11 @@ fn over_the_start(random: &mut Random, draft: &mut Draft) {
     draft.add_map(map);
 }
 
-/// An empty start means nothing of any location.
+/// An empty start means nothing of any location. What a call keeps back is never left out.
 fn leave_starts_out(random: &mut Random, draft: &mut Draft) {
     let maps = &draft.maps;
-    let holds_nothing = |step: &&mut Step| step.start.is_some_and(|start| maps[start] == Map::default());
+    let holds_nothing =
+        |step: &&mut Step| step.word == Word::Spawn && step.start.is_some_and(|start| maps[start] == Map::default());
     for step in draft.steps.iter_mut().filter(holds_nothing) {
         step.start = step.start.filter(|_| random.percent(50));
     }
@@ -81,7 +82,8 @@ pub fn over_whole(random: &mut Random, mut draft: Draft) -> Drawn {
         }
     }
     let known = draft.whole < WHOLE && draft.maps.len() <= MAPS as usize;
-    let answer = Returned { number: 30, line: 2, condition: 0, location: lowest as u32 };
+    let line = draft.line_of(draft.root()) as u32;
+    let answer = Returned { number: 30, line, condition: 0, location: lowest as u32 };
     let promise = if known { Promise::Exactly(answer) } else { Promise::Open };
     Drawn { promise, ..Drawn::of(&draft, "over whole") }
 }

@@ -66,7 +66,7 @@ fn reading_places(random: &mut Random) -> Drawn {
     let number = random.pick(&[0, 1, PLACES, PLACES + 1]);
     let step = Step { word: Word::Newrwlock, number, kind: 0, post: 0, start: None };
     let (types, maps) = (vec![Type::Rwlock { reading: 0, writing: 0 }], vec![Map::default()]);
-    let draft = Draft { heading: Heading::C, whole: 1, locations: 1, types, maps, steps: vec![step] };
+    let draft = Draft { heading: Heading::C, whole: 1, locations: 1, types, maps, steps: vec![step], procedures: None };
     let refused = Promise::Exactly(Returned::at_line(12, 2));
     let promise = if (1..=PLACES).contains(&number) { Promise::Accepted } else { refused };
     Drawn { promise, ..Drawn::of(&draft, "limit") }

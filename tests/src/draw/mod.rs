@@ -12,6 +12,7 @@ mod limits;
 pub mod mutants;
 mod noise;
 mod numerals;
+mod procedures;
 pub mod promise;
 pub mod random;
 pub mod traces;
@@ -53,6 +54,9 @@ impl Drawn {
 /// The pair with this number in the series of this seed. Equal arguments give equal pairs.
 pub fn pair(seed: u64, number: u64) -> Drawn {
     let random = &mut Random::new(seed, number);
+    if random.percent(25) {
+        return procedures::pair(random);
+    }
     match random.below(1000) {
         0..=239 => Drawn::accepted(&honest_draft(random), "honest"),
         240..=244 => over_whole(random),

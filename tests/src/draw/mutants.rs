@@ -8,6 +8,9 @@ use crate::words::{Word, WORDS};
 
 /// Changes one word, type, map, number or share of a draft.
 pub fn change_draft(random: &mut Random, draft: &mut Draft) {
+    if !draft.procedures().is_empty() && random.percent(20) {
+        return change_procedure(random, draft);
+    }
     let step = random.below(draft.steps.len());
     match random.below(11) {
         0 | 1 => draft.steps[step].kind = random.below(draft.types.len()),
@@ -19,6 +22,23 @@ pub fn change_draft(random: &mut Random, draft: &mut Draft) {
         8 => change_number(random, draft),
         9 => change_heading(random, draft),
         _ => draft.whole = random.pick(&[1, 2, draft.whole + 1, draft.whole.max(2) - 1, WHOLE]),
+    }
+}
+
+/// Another map or type in a procedure's line, another x, or another procedure that is called.
+fn change_procedure(random: &mut Random, draft: &mut Draft) {
+    let (types, maps, calls) = (draft.types.len(), draft.maps.len(), draft.procedures().len());
+    let called: Vec<usize> = (0..draft.steps.len()).filter(|&step| draft.steps[step].word == Word::Call).collect();
+    let Some(procedures) = &mut draft.procedures else { return };
+    let procedure = &mut procedures[random.below(calls)];
+    match random.below(6) {
+        0 => procedure.before = random.below(maps),
+        1 => procedure.argument = random.below(types),
+        2 => procedure.after = random.below(maps),
+        3 => procedure.result = random.below(types),
+        4 => procedure.variable = random.between(0, 255),
+        _ if called.is_empty() => {}
+        _ => draft.steps[random.pick(&called)].number = random.below(calls + 1) as u32,
     }
 }
 

@@ -60,7 +60,7 @@ fn drawn_tree(random: &mut Random) -> Draft {
     let start = random.below(3);
     let heading = random.pick(&[Heading::C, Heading::C2 { start }, Heading::C3 { start }]);
     let (types, maps, steps) = (vec![Type::Int], Vec::new(), Vec::new());
-    let mut draft = Draft { heading, whole: 2, locations, types, maps, steps };
+    let mut draft = Draft { heading, whole: 2, locations, types, maps, steps, procedures: None };
     for _ in 0..3 {
         let mut map = Map::default();
         map[..locations].fill_with(|| random.between(0, 2));

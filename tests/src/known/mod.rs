@@ -4,6 +4,7 @@
 mod base;
 mod fillings;
 mod locks;
+mod procedures;
 mod replays;
 mod requests;
 
@@ -28,12 +29,12 @@ fn bytes(sheet: &str) -> Vec<u8> {
 
 /// Every known pair; the first is document 01's P with its S.
 pub fn all() -> impl Iterator<Item = &'static Known> {
-    base::PAIRS.iter().chain(requests::PAIRS).chain(locks::PAIRS)
+    base::PAIRS.iter().chain(requests::PAIRS).chain(locks::PAIRS).chain(procedures::PAIRS)
 }
 
 /// Every known sheet for filling. The answer is the filled sheet, or the refusal as `racefill` writes it.
 pub fn fillings() -> impl Iterator<Item = &'static Known> {
-    fillings::SHEETS.iter()
+    fillings::SHEETS.iter().chain(procedures::SHEETS)
 }
 
 /// Every known recorded order.

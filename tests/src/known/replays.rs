@@ -34,9 +34,25 @@ const fn sheet(sheet: &'static str, answer: &'static str) -> KnownReplay {
     KnownReplay { program: Program::Sheet(sheet), trace: &[(1, "x")], answer }
 }
 
+const fn calls(sheet: &'static str, trace: &'static [(usize, &'static str)], answer: &'static str) -> KnownReplay {
+    KnownReplay { program: Program::Sheet(sheet), trace, answer }
+}
+
 /// Figure 2 (a): a cell, a spawned reader and a writer. ref, let, newtid, spawn, let: after the fifth step
 /// the first thread is about to write.
 const FIGURE_2A: &str = "let,0|ref,0|int,0|let,1|spawn,0|newtid,0|read,0|var,0|write,0|var,0|int,1";
+/// A procedure that calls itself for ever, in tail place.
+const FOR_EVER: &str = "P2,4,1|proc,0|call,0|var,0|call,0|int,0|";
+/// Procedures whose bodies are values at once, called in a loop: four steps a round.
+const AT_ONCE: &str = "P2,5,2|proc,0|int,7|proc,1|var,1|while,0|call,0|int,1|";
+const ARGUMENT_AT_ONCE: &str = "P2,5,2|proc,0|int,7|proc,1|var,1|while,0|call,1|int,1|";
+/// A procedure that calls itself or gives a value, called twice: a call and its choice, over and over.
+const WITH_A_WAY_OUT: &str = "P2,9,1|proc,0|if,0|call,0|var,0|int,3|let,9|call,0|int,1|call,0|int,1|";
+/// Two threads that call for ever, each with calls of its own. The third step is the let behind the spawn.
+const BOTH_FOR_EVER: &str = "P2,9,1|proc,0|call,0|var,0|let,1|spawn,0|newtid,0|call,0|int,0|call,0|int,0|";
+/// Two threads that call a procedure which writes to its argument.
+const WRITING: &str =
+    "P2,13,1|proc,0|write,0|var,0|int,1|let,1|ref,0|int,0|let,2|spawn,0|newtid,0|call,0|var,1|call,0|var,1|";
 /// Two readers and then a writer.
 const READERS: &str = "let,0|ref,0|int,0|let,1|spawn,0|newtid,0|read,0|var,0|let,2|spawn,0|newtid,0|read,0|var,0|\
                        write,0|var,0|int,1";
@@ -143,11 +159,28 @@ pub const REPLAYS: &[KnownReplay] = &[
     run(JOINING, &[(94, "0,0|")], "RAN,94"),
     run(JOINING, &[(95, "0,0|")], "REFUSE,48,95,0,0,94"),
     run(JOINING, &[(94, "0,0|"), (1, "0,1|")], "REFUSE,47,95,0,0,94"),
+    // Open calls are counted in the state after the step, thread by thread. A body that is a value at once is never open.
+    calls(FOR_EVER, &[(64, "0,0|")], "RAN,64"),
+    calls(FOR_EVER, &[(70, "0,0|")], "REFUSE,48,65,0,0,64"),
+    calls(AT_ONCE, &[(600, "0,0|")], "RAN,600"),
+    calls(ARGUMENT_AT_ONCE, &[(600, "0,0|")], "RAN,600"),
+    calls(AT_ONCE, &[(2, "0,0|"), (1, "0,1|")], "REFUSE,47,3,0,0,2"),
+    calls(BOTH_FOR_EVER, &[(67, "0,0|"), (64, "1,0|")], "RAN,131"),
+    calls(BOTH_FOR_EVER, &[(67, "0,0|"), (65, "1,0|")], "REFUSE,48,132,0,0,131"),
+    calls(BOTH_FOR_EVER, &[(3, "0,0|"), (64, "1,0|"), (65, "0,0|")], "REFUSE,48,132,0,0,131"),
+    // When the innermost body becomes a value, all calls that end with it close at once.
+    calls(WITH_A_WAY_OUT, &[(127, "0,0|"), (1, "0,1|"), (128, "0,0|"), (1, "0,1|")], "RAN,257"),
+    calls(WITH_A_WAY_OUT, &[(130, "0,0|")], "REFUSE,48,129,0,0,128"),
+    calls(WITH_A_WAY_OUT, &[(127, "0,0|"), (1, "0,1|"), (131, "0,0|")], "REFUSE,48,258,0,0,257"),
+    // Called bodies race as any others.
+    calls(WRITING, &[(6, "0,0|")], "RAN,6"),
+    calls(WRITING, &[(6, "0,0|"), (1, "1,0|")], "RACE,7,7,0,1"),
     // The program sheet is judged before the trace is looked at, and then there is no report.
     sheet("", "REFUSE,11,1,0,0,0"),
     sheet("P,1|var,0|", "REFUSE,14,2,0,0,0"),
     sheet("P,2|int,0|int,0|", "REFUSE,13,3,0,0,0"),
     sheet("P,2|freelock,0|newlock,0|", "REFUSE,45,2,0,0,0"),
     sheet("P,4294967297|int,0|", "REFUSE,12,1,0,0,0"),
+    sheet("P2,2,0|call,0|int,0|", "REFUSE,49,2,0,0,0"),
     sheet("P,1|int,0|", "REFUSE,46,1,0,0,0"),
 ];

@@ -1,36 +1,50 @@
 //! The start (refusal 30) and the conditions of Figure 5 (refusals 31 to 33).
 
 use super::flows::{Flows, Given};
-use super::program::{line_of, Step};
-use super::split::Split;
+use super::program::{Binder, Program, Step};
+use super::split::{Signature, Split};
 use crate::answer::{Returned, STEPS};
 use crate::types::Type;
 use crate::words::Word;
 
 /// The start, then the first false condition, by step line and then by number.
-pub fn check(steps: &[Step], split: &Split) -> Result<(), Returned> {
-    start_at_most_one(split)?;
-    each_step(steps, split, &mut Given(split))
+pub fn check(program: &Program, split: &Split) -> Result<(), Returned> {
+    start_at_most_one(program, split)?;
+    each_line(program, split, &mut Given(split))
 }
 
-pub fn start_at_most_one(split: &Split) -> Result<(), Returned> {
+/// The start is refused at the root's own line.
+pub fn start_at_most_one(program: &Program, split: &Split) -> Result<(), Returned> {
+    let line = program.steps[program.root].line;
     match split.map(split.start).iter().position(|&number| number > split.whole) {
         None => Ok(()),
-        Some(location) => Err(Returned { number: 30, line: 2, condition: 0, location: location as u32 }),
+        Some(location) => Err(Returned { number: 30, line, condition: 0, location: location as u32 }),
     }
 }
 
-/// Goes through the steps in line order and through the conditions of each. Those on types are judged
-/// here, those on maps by `flows`.
-pub fn each_step(steps: &[Step], split: &Split, flows: &mut impl Flows) -> Result<(), Returned> {
+/// Goes through the `proc` lines and the steps in line order and through the conditions of each. Those on
+/// types are judged here, those on maps by `flows`.
+pub fn each_line(program: &Program, split: &Split, flows: &mut impl Flows) -> Result<(), Returned> {
+    let steps = &program.steps;
     // The map before each step. A step's parts come after it, so each entry is set in time.
     let mut pres = [split.start; STEPS as usize];
     for step in 0..steps.len() {
+        if let Some(own) = program.begun_by(step) {
+            let signature = split.signatures[own];
+            pres[step] = signature.before;
+            procedure(signature, step, split, flows).map_err(|broken| broken.at(program.procedures[own].line))?;
+        }
         hand_on(steps, split, &mut pres, step);
         let mut judge = Judge { steps, split, step, pre: pres[step], flows };
-        judge.conditions().map_err(|broken| broken.at(step))?;
+        judge.conditions().map_err(|broken| broken.at(steps[step].line))?;
     }
     Ok(())
+}
+
+/// The conditions of a `proc` line, on the body that it stands before.
+fn procedure(signature: Signature, body: usize, split: &Split, flows: &mut impl Flows) -> Judged {
+    holds(1, split.agree(split.marks[body].kind, signature.result))?;
+    flows.at_least(2, split.marks[body].post, signature.after)
 }
 
 /// Sets the map before each part of a step.
@@ -64,9 +78,9 @@ pub struct Broken {
 }
 
 impl Broken {
-    fn at(self, step: usize) -> Returned {
+    fn at(self, line: u32) -> Returned {
         let Broken { number, condition, location } = self;
-        Returned { number, line: line_of(step), condition, location: location as u32 }
+        Returned { number, line, condition, location: location as u32 }
     }
 }
 
@@ -110,12 +124,17 @@ impl<F: Flows> Judge<'_, F> {
             Word::Rdunlock => self.give(Type::reading),
             Word::Wrlock => self.take(Type::writing),
             Word::Wrunlock => self.give(Type::writing),
+            Word::Call => self.call(),
+            Word::Proc => unreachable!("a proc line is no step"),
         }
     }
 
     fn var(&mut self) -> Judged {
-        let bound = self.steps[self.step].binder + 1;
-        let (own, known) = (self.own(), self.kind(bound));
+        let known = match self.steps[self.step].binder {
+            Binder::Let(binder) => self.kind(binder + 1),
+            Binder::Procedure(own) => self.split.signatures[own].argument,
+        };
+        let own = self.own();
         holds(1, self.split.agree(own, known) || self.split.looser(own, known))?;
         self.flows.equal(2, self.post(self.step), self.pre)
     }
@@ -202,6 +221,16 @@ impl<F: Flows> Judge<'_, F> {
         self.is_int(1)?;
         let carried = self.carried(2, self.e1(), carried)?;
         self.flows.sum(3, self.post(self.step), carried, self.post(self.e1()))
+    }
+
+    fn call(&mut self) -> Judged {
+        let Signature { before, argument, after, result } =
+            self.split.signatures[self.steps[self.step].number as usize];
+        self.agree(1, self.own(), result)?;
+        self.agree(2, self.kind(self.e1()), argument)?;
+        let kept = self.split.marks[self.step].start;
+        self.flows.sum(3, before, kept, self.post(self.e1()))?;
+        self.flows.sum(4, after, kept, self.post(self.step))
     }
 
     fn e1(&self) -> usize {

@@ -26,11 +26,11 @@ pub fn check(program: &[u8], split: &[u8], room: usize) -> Returned {
 fn first_refusal(program: &[u8], split: &[u8], room: usize) -> Result<(), Returned> {
     at_most(1, WORK_SPACE, room)?;
     at_most(10, program.len(), PROGRAM_BYTES)?;
-    let steps = program::read(program)?;
+    let program = program::read(program)?;
     at_most(20, split.len(), SPLIT_BYTES)?;
-    let split = split::read(split, &steps, Posts::Named)?;
+    let split = split::read(split, &program, Posts::Named)?;
     split.check_loads()?;
-    conditions::check(&steps, &split)
+    conditions::check(&program, &split)
 }
 
 /// Refuses with `number` and no line when `length` is over `limit`.

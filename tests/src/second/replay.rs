@@ -3,7 +3,7 @@
 use super::text::Text;
 use super::{at_most, program};
 use crate::answer::{Race, Replayed, Returned, PROGRAM_BYTES, REPLAY_SPACE};
-use crate::steps::expression::Expression;
+use crate::steps::expression::Program;
 use crate::steps::run::{Run, Stopped};
 use crate::words::Word;
 
@@ -32,7 +32,7 @@ fn first_state(program: &[u8], room: usize) -> Result<Run, Returned> {
     at_most(1, REPLAY_SPACE, room)?;
     at_most(10, program.len(), PROGRAM_BYTES)?;
     program::read(program)?;
-    Ok(Run::start(Expression::listed(program).expect("a sheet that was read lists an expression")))
+    Ok(Run::start(&Program::listed(program).expect("a sheet that was read lists an expression")))
 }
 
 fn along(mut run: Run, trace: &[u8], mut seen: impl FnMut(Seen)) -> Replayed {

@@ -1,6 +1,7 @@
-//! The split sheet: types, maps and the three numbers of each step (refusals 21 to 23, 40 and 44).
+//! The split sheet: types, maps, procedures and the three numbers of each step (refusals 21 to 23, 40, 44
+//! and 50).
 
-use super::program::Step;
+use super::program::Program;
 use super::text::Text;
 use crate::answer::{Returned, LOCATIONS, MAPS, TYPES, WHOLE};
 use crate::types::Type;
@@ -13,13 +14,23 @@ pub enum Posts {
     Left,
 }
 
-/// A step's line: its type, its map afterwards, and the map that a spawned body starts with. A map that
-/// is left to be filled in has a number past those of the sheet.
+/// A step's line: its type, its map afterwards, and the map that a spawned body starts with or that a call
+/// keeps back. A map that is left to be filled in has a number past those of the sheet.
 #[derive(Clone, Copy)]
 pub struct Mark {
     pub kind: usize,
     pub post: usize,
     pub start: usize,
+}
+
+/// A procedure's line: the map that its body starts with, the type of its x, the least map that its body
+/// ends with, and the type of its body.
+#[derive(Clone, Copy)]
+pub struct Signature {
+    pub before: usize,
+    pub argument: usize,
+    pub after: usize,
+    pub result: usize,
 }
 
 #[derive(Clone)]
@@ -30,6 +41,7 @@ pub struct Split {
     pub locations: usize,
     pub types: Vec<Type>,
     pub marks: Vec<Mark>,
+    pub signatures: Vec<Signature>,
     /// How many maps the sheet gives.
     pub maps: usize,
     /// The maps one after the other, each of `locations` numbers; behind them one that holds nothing.
@@ -95,16 +107,17 @@ struct Head {
     two_loads: bool,
 }
 
-/// Reads the whole sheet beside the steps of its program.
-pub fn read(split: &[u8], steps: &[Step], posts: Posts) -> Result<Split, Returned> {
+/// Reads the whole sheet beside its program.
+pub fn read(split: &[u8], program: &Program, posts: Posts) -> Result<Split, Returned> {
     let mut text = Text::new(split, 20);
     let head = read_head(&mut text, posts)?;
     let types = read_types(&mut text, &head)?;
     let numbers = read_maps(&mut text, &head)?;
-    let marks = read_marks(&mut text, &head, steps, posts)?;
+    let signatures = read_signatures(&mut text, &head, program)?;
+    let marks = read_marks(&mut text, &head, program, posts)?;
     text.end()?;
     let (start, locations, maps) = (head.start.unwrap_or(0) as usize, head.locations as usize, head.maps as usize);
-    Ok(Split { whole: head.whole, start, locations, types, marks, maps, numbers })
+    Ok(Split { whole: head.whole, start, locations, types, marks, signatures, maps, numbers })
 }
 
 /// Reads `C,D,L,T,M`, which starts with map 0 and which no filling takes, `C2,D,L,T,M,r`, or `C3` with the
@@ -196,16 +209,31 @@ fn read_map(text: &mut Text, head: &Head, numbers: &mut Vec<u32>) -> Result<(), 
     text.in_range(greatest <= WHOLE)
 }
 
-fn read_marks(text: &mut Text, head: &Head, steps: &[Step], posts: Posts) -> Result<Vec<Mark>, Returned> {
-    let mut marks = Vec::with_capacity(steps.len());
-    for (own, step) in steps.iter().enumerate() {
+/// Reads a line `before,argument,after,result` for each procedure.
+fn read_signatures(text: &mut Text, head: &Head, program: &Program) -> Result<Vec<Signature>, Returned> {
+    let mut signatures = Vec::with_capacity(program.procedures.len());
+    for _ in &program.procedures {
+        let fields =
+            |line: &mut Text| Some([line.numeral()?, line.next_numeral()?, line.next_numeral()?, line.next_numeral()?]);
+        let [before, argument, after, result] = text.line(fields)?;
+        text.in_range(before < head.maps && after < head.maps && argument < head.types && result < head.types)?;
+        let [before, argument, after, result] = [before, argument, after, result].map(|number| number as usize);
+        signatures.push(Signature { before, argument, after, result });
+    }
+    Ok(signatures)
+}
+
+fn read_marks(text: &mut Text, head: &Head, program: &Program, posts: Posts) -> Result<Vec<Mark>, Returned> {
+    let mut marks = Vec::with_capacity(program.steps.len());
+    for (own, step) in program.steps.iter().enumerate() {
         let fields =
             |line: &mut Text| Some((line.numeral()?, next_post(line, posts)?, line.next_numeral_or_empty(b'\n')?));
         let (kind, post, start) = text.line(fields)?;
         text.in_range(kind < head.types && post.is_none_or(|post| posts == Posts::Named && post < head.maps))?;
-        let is_spawn = step.word == Word::Spawn;
-        text.in_range(start.is_none_or(|start| is_spawn && start < head.maps))?;
+        let (is_spawn, is_call) = (step.word == Word::Spawn, step.word == Word::Call);
+        text.in_range(start.is_none_or(|start| (is_spawn || is_call) && start < head.maps))?;
         text.wanted(40, start.is_some() || !is_spawn || head.start.is_some())?;
+        text.wanted(50, start.is_some() || !is_call)?;
         // An empty start is the map of nothing behind the others, and behind that come the posts left out.
         let (start, post) = (start.unwrap_or(head.maps), post.unwrap_or(head.maps + 1 + own as u32));
         marks.push(Mark { kind: kind as usize, post: post as usize, start: start as usize });

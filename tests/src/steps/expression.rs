@@ -27,20 +27,45 @@ pub enum Expression {
         number: u32,
         parts: Vec<Rc<Expression>>,
     },
+    /// A call that was taken, around its body, which is no value yet. It is no step of the language.
+    Open(Rc<Expression>),
+}
+
+/// A procedure: its x and its body.
+#[derive(Debug, PartialEq, Eq, Hash)]
+pub struct Procedure {
+    pub variable: u32,
+    pub body: Rc<Expression>,
+}
+
+/// A program: its root and its procedures.
+#[derive(Clone, Debug)]
+pub struct Program {
+    pub root: Rc<Expression>,
+    pub procedures: Rc<Vec<Procedure>>,
+}
+
+impl Program {
+    /// What a well formed program sheet lists.
+    pub fn listed(program: &[u8]) -> Option<Program> {
+        let text = std::str::from_utf8(program).ok()?;
+        let mut lines = text.lines().skip(1).peekable();
+        let mut procedures = Vec::new();
+        while let Some(variable) = lines.peek().and_then(|line| line.strip_prefix("proc,")) {
+            let variable = variable.parse().ok()?;
+            lines.next();
+            procedures.push(Procedure { variable, body: read_step(&mut lines)? });
+        }
+        Some(Program { root: read_step(&mut lines)?, procedures: Rc::new(procedures) })
+    }
 }
 
 /// The variable of an unrolled loop's `let`, which no program uses.
 pub const USED_NOWHERE: u32 = 256;
 
-use Expression::{Step, Var};
+use Expression::{Open, Step, Var};
 
 impl Expression {
-    /// The expression that a well formed program sheet lists.
-    pub fn listed(program: &[u8]) -> Option<Rc<Expression>> {
-        let text = std::str::from_utf8(program).ok()?;
-        read_step(&mut text.lines().skip(1))
-    }
-
     pub fn constant(number: u32) -> Rc<Expression> {
         Rc::new(Expression::Value(Value::Constant(number)))
     }
@@ -67,12 +92,33 @@ impl Expression {
     pub fn next_word(&self) -> &Expression {
         match (self, self.open_part()) {
             (Step { parts, .. }, Some(part)) => parts[part].next_word(),
+            (Open(body), _) => body.next_word(),
             _ => self,
+        }
+    }
+
+    /// How many calls are open. All of them are around the next word.
+    pub fn open_calls(&self) -> usize {
+        match (self, self.open_part()) {
+            (Step { parts, .. }, Some(part)) => parts[part].open_calls(),
+            (Open(body), _) => 1 + body.open_calls(),
+            _ => 0,
+        }
+    }
+
+    /// A taken call around its body: closed at once when the body is a value.
+    pub fn opened(body: Rc<Expression>) -> Rc<Expression> {
+        match body.value() {
+            Some(_) => body,
+            None => Rc::new(Open(body)),
         }
     }
 
     /// The same expression with something else in place of its next word.
     pub fn with_next_word(&self, replacement: Rc<Expression>) -> Rc<Expression> {
+        if let Open(body) = self {
+            return Expression::opened(body.with_next_word(replacement));
+        }
         let (Step { word, number, parts }, Some(part)) = (self, self.open_part()) else { return replacement };
         let mut parts = parts.clone();
         parts[part] = parts[part].with_next_word(replacement);
@@ -85,6 +131,7 @@ impl Expression {
             Expression::Value(_) => self.clone(),
             Var(known) if *known == variable => Rc::new(Expression::Value(value)),
             Var(_) => self.clone(),
+            Open(body) => Expression::opened(body.put(variable, value)),
             Step { word, number, parts } => {
                 let parts = parts.iter().map(|part| part.put(variable, value)).collect();
                 Rc::new(Step { word: *word, number: *number, parts })

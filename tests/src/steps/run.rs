@@ -2,13 +2,13 @@
 //! limited (request (xii)).
 
 use super::claims::{about_to_access, waits};
-use super::expression::Expression;
+use super::expression::{Expression, Program};
 use super::state::State;
-use crate::answer::{THINGS, THREADS};
+use crate::answer::{OPEN_CALLS, THINGS, THREADS};
 use crate::words::Word;
-use std::rc::Rc;
 
-/// What is counted over a whole run, each kind by itself.
+/// What is counted, each kind by itself: over a whole run, save open calls, which are counted in each state
+/// and for each thread.
 #[derive(Clone, Copy, Debug, PartialEq, Eq, PartialOrd, Ord)]
 pub enum Counted {
     Threads,
@@ -17,15 +17,25 @@ pub enum Counted {
     RwLocks,
     Semaphores,
     Identifiers,
+    OpenCalls,
 }
 
-pub const COUNTED: [Counted; 6] =
-    [Counted::Threads, Counted::Cells, Counted::Locks, Counted::RwLocks, Counted::Semaphores, Counted::Identifiers];
+/// What there is a limit for.
+pub const COUNTED: [Counted; 7] = [
+    Counted::Threads,
+    Counted::Cells,
+    Counted::Locks,
+    Counted::RwLocks,
+    Counted::Semaphores,
+    Counted::Identifiers,
+    Counted::OpenCalls,
+];
 
 impl Counted {
     pub fn limit(self) -> usize {
         match self {
             Counted::Threads => THREADS,
+            Counted::OpenCalls => OPEN_CALLS,
             _ => THINGS,
         }
     }
@@ -67,8 +77,8 @@ pub struct Run {
 }
 
 impl Run {
-    pub fn start(program: Rc<Expression>) -> Run {
-        Run { state: State::start(program), numbers: vec![0], spawned: 1 }
+    pub fn start(program: &Program) -> Run {
+        Run { state: State::start_with_marks(program), numbers: vec![0], spawned: 1 }
     }
 
     /// The numbers of the threads that are not joined.
@@ -116,7 +126,8 @@ impl Run {
         }
     }
 
-    /// How many of a kind the run has had. The identifier of the start is not counted.
+    /// How many of a kind the run has had. The identifier of the start is not counted. Of open calls, the most
+    /// that a thread has now.
     pub fn count(&self, kind: Counted) -> usize {
         match kind {
             Counted::Threads => self.spawned as usize,
@@ -125,6 +136,9 @@ impl Run {
             Counted::RwLocks => self.state.rwlocks.len(),
             Counted::Semaphores => self.state.semaphores.len(),
             Counted::Identifiers => self.state.identifiers.len() - 1,
+            Counted::OpenCalls => {
+                self.state.threads.iter().map(|thread| thread.expression.open_calls()).max().unwrap_or(0)
+            }
         }
     }
 

@@ -1,11 +1,10 @@
 //! Schedules: all of them up to a bound, or drawn ones.
 
 use super::claims::{about_to_access, fault, Fault};
-use super::expression::{Expression, Name};
+use super::expression::{Name, Program};
 use super::state::State;
 use crate::draw::random::Random;
 use std::collections::{HashMap, HashSet, VecDeque};
-use std::rc::Rc;
 
 /// What a search met.
 #[derive(Default)]
@@ -39,8 +38,8 @@ impl Found {
 }
 
 /// Every state that can be reached, nearest first, up to `bound` of them or to the first fault.
-pub fn exhaustive(program: &Rc<Expression>, bound: usize) -> Found {
-    let start = State::start(program.clone());
+pub fn exhaustive(program: &Program, bound: usize) -> Found {
+    let start = State::start(program);
     let (mut found, mut accesses) = (Found::default(), Accesses::default());
     let mut seen = HashSet::from([start.clone()]);
     let mut waiting = VecDeque::from([start]);
@@ -65,8 +64,8 @@ fn successors(state: &State) -> impl Iterator<Item = State> + '_ {
 }
 
 /// One drawn schedule of so many moves. A move that is no reduction leaves the state alone.
-pub fn drawn_schedule(program: &Rc<Expression>, random: &mut Random, moves: usize) -> Found {
-    let mut state = State::start(program.clone());
+pub fn drawn_schedule(program: &Program, random: &mut Random, moves: usize) -> Found {
+    let mut state = State::start(program);
     let (mut found, mut accesses) = (Found::default(), Accesses::default());
     for _ in 0..moves {
         found.look_at(&state, &mut accesses);

@@ -1,6 +1,6 @@
 //! States, moves and reductions, after "The steps, from Figures 3 and 4".
 
-use super::expression::{Expression, Name, Value};
+use super::expression::{Expression, Name, Procedure, Program, Value};
 use super::rwlock::RwLock;
 use crate::words::Word;
 use std::collections::{BTreeMap, BTreeSet};
@@ -34,6 +34,11 @@ pub struct State {
     pub identifiers: BTreeSet<Name>,
     pub semaphores: BTreeMap<Name, usize>,
     pub rwlocks: BTreeMap<Name, RwLock>,
+    /// What calls step to; the same in all states of a run.
+    procedures: Rc<Vec<Procedure>>,
+    /// Whether calls that are taken are marked as open. Marks are no part of the language: without them a
+    /// procedure that calls itself in tail place comes back to the same state.
+    marks_calls: bool,
 }
 
 /// What a scheduler decides: the thread, the part for an `if`, the finished thread for a `join`
@@ -48,15 +53,22 @@ pub struct Move {
 
 impl State {
     /// One thread, its identifier the one name used so far.
-    pub fn start(program: Rc<Expression>) -> State {
+    pub fn start(program: &Program) -> State {
         State {
-            threads: vec![Thread { identifier: 0, expression: program }],
+            threads: vec![Thread { identifier: 0, expression: program.root.clone() }],
             cells: BTreeMap::new(),
             locks: BTreeMap::new(),
             identifiers: BTreeSet::from([0]),
             semaphores: BTreeMap::new(),
             rwlocks: BTreeMap::new(),
+            procedures: program.procedures.clone(),
+            marks_calls: false,
         }
+    }
+
+    /// The same, with the calls marked that are open.
+    pub fn start_with_marks(program: &Program) -> State {
+        State { marks_calls: true, ..State::start(program) }
     }
 
     fn unused(&self, name: Name) -> bool {
@@ -96,6 +108,15 @@ impl State {
             Word::If => parts.get(step.part)?.clone(),
             Word::While => Expression::unrolled(&parts[0]),
             Word::Newrwlock => next.create_rwlock(*number, step.name)?,
+            Word::Call => {
+                let Procedure { variable, body } = self.procedures.get(*number as usize)?;
+                let body = body.put(*variable, parts[0].value()?);
+                if self.marks_calls {
+                    Expression::opened(body)
+                } else {
+                    body
+                }
+            }
             _ => {
                 let operands: Vec<Value> = parts.iter().map_while(|part| part.value()).collect();
                 let value = next.act(*word, &operands, parts.last(), step)?;

@@ -1,12 +1,12 @@
 //! The points of the steps where Figure 4 and document 01 are easy to misread.
 
 use super::claims::{fault, waits};
-use super::expression::{Expression, Value};
+use super::expression::{Program, Value};
 use super::state::{LockState, Move, State};
 
 fn start(steps: &str) -> State {
     let sheet = format!("P,{}|{steps}|", steps.split('|').count()).replace('|', "\n");
-    State::start(Expression::listed(sheet.as_bytes()).expect("the program is well formed"))
+    State::start(&Program::listed(sheet.as_bytes()).expect("the program is well formed"))
 }
 
 /// The first thread goes on, taking first parts and first finished threads, until it cannot.

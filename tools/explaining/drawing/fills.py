@@ -17,7 +17,8 @@ MARKS = {
 
 
 def thread_colour(number):
-    return THREADS[number % len(THREADS)]
+    """None stands for whoever calls a procedure."""
+    return KEPT if number is None else THREADS[number % len(THREADS)]
 
 
 def ink_on_thread(number):
@@ -33,14 +34,14 @@ def fill_of(holder):
     """The colour of a running thread that has it alone, else the pattern that patterns() makes for the holder."""
     if holder.kind in KEEPERS:
         return f"url(#{holder.kind})"
-    if holder.kind == "thread" and holder.number < len(THREADS):
+    if holder.kind == "thread" and (holder.number is None or holder.number < len(THREADS)):
         return colour_of(holder)
     return f"url(#{holder.kind}-{holder.thread()})"
 
 
 def ink_on(holder):
     """How words are written on a holder's share: white, dark, or dark with a white edge where there is a pattern."""
-    if holder.kind != "thread" or holder.number >= len(THREADS):
+    if holder.kind != "thread" or holder.number is None or holder.number >= len(THREADS):
         return "on-pattern"
     return ink_on_thread(holder.number)
 
@@ -49,7 +50,7 @@ def patterns(holders):
     """The patterns of these holders: a lock's is hatched, a semaphore's dotted, a read-write lock's ruled like a book, a share that
     is kept for an identifier striped in its thread's colour."""
     made = [_pattern(kind, 8, f'<rect width="8" height="8" fill="#e4e5e9"/>{mark}') for kind, mark in MARKS.items()]
-    threads = sorted({(holder.kind, holder.thread()) for holder in holders if holder.kind not in KEEPERS})
+    threads = sorted({(holder.kind, holder.thread()) for holder in holders if holder.thread() is not None})
     for kind, thread in threads:
         colour, dots = thread_colour(thread), _dots(thread // len(THREADS))
         if kind == "identifier":

@@ -5,16 +5,19 @@ locks, the semaphores, the read-write locks and the identifiers have. A new thre
 until it has to wait; it is told on when the thread at work has to wait or has ended. If all of them wait, the first goes on as
 its row says, so that every step is told. The share of a thread that has ended is kept for its identifier, until a join takes
 it. Of an `if` both parts are told, each from what there was before it, and the telling goes on from the one after which others
-hold more; of a `while` one round is told.
+hold more; of a `while` one round is told. A call is told with its procedure's body, save inside that body: there it is one step.
+A spawn line stands for one thread, however often its procedure is called. If the refused line is not told so, the body of its
+procedure is told behind the job, by itself and from what it starts with.
 """
 from typing import NamedTuple
 
 from ..sites import acted_on
 from ..words import KINDS
+from .calls import body_of
 from .inside import HOLDS, TAKES, WRITES, Inside
 
 # Steps that neither move rights nor touch a cell. The picture leaves them out unless one is refused.
-SILENT = {"var", "int", "let"}
+SILENT = {"var", "int", "let", "proc"}
 # Steps that make a thing which keeps rights.
 MAKERS = {"newlock", "newtid", "newsem", "newrwlock"}
 # Steps that may have to wait.
@@ -23,7 +26,7 @@ WAITS = {"join", "lock", "wait", *HOLDS}
 
 class Holder(NamedTuple):
     kind: str  # thread, lock, sem, rwlock or identifier
-    number: int  # the thread; else the line where the lock, semaphore, read-write lock or identifier was made
+    number: int  # the thread, None for whoever calls a procedure; else the line where the lock, semaphore, read-write lock or identifier was made
     owner: int = 0  # for an identifier, the thread whose share it keeps
 
     def thread(self):
@@ -40,6 +43,7 @@ class Moment(NamedTuple):
 
 class Telling:
     def __init__(self, explanation):
+        self.sites = explanation.sites
         self.split = explanation.sites.split
         self.all = explanation.sites.all
         self.refused = explanation.site
@@ -49,6 +53,14 @@ class Telling:
         self.inside = {}  # who is in at each read-write lock
         self.waiting = []  # the threads that wait: at which step, and the rest of their telling
         self._tell_threads(explanation.sites.root)
+        self.apart = len(self.moments)  # where the telling of a procedure's body by itself begins, if there is one
+        if self.refused and not any(same_step(moment.site, self.refused) for moment in self.moments):
+            self._tell_alone([one for one in self.sites.procedures if one.line <= self.refused.line][-1])
+
+    def _tell_alone(self, procedure):
+        self.held, self.counts, self.inside = {Holder("thread", None): procedure.pre}, {}, {}
+        self._tell_threads(procedure.parts["body"])
+        self._remember(procedure)
 
     # ---- Threads: the telling of each stops at a step that may have to wait
 
@@ -78,40 +90,49 @@ class Telling:
 
     # ---- One step: its parts, then itself
 
-    def _tell(self, site):
+    def _tell(self, site, called=frozenset()):
+        """`called` are the procedures in whose bodies the step stands."""
         if site.word == "if":
-            yield from self._tell_choice(site)
+            yield from self._tell_choice(site, called)
             return
         if site.word == "while":
             self._act(site)
         for name, part in site.parts.items():
             if site.word == "spawn" and name == "e2":
-                self._tell_on(self._tell_body(site, part))
+                self._tell_on(self._tell_body(site, part, called))
             else:
-                yield from self._tell(part)
+                yield from self._tell(part, called)
         if site.word in WAITS:
             yield site
-        if site.word == "while":
+        if site.word == "call":
+            yield from self._tell_call(site, called)
+        elif site.word == "while":
             self._set(Holder("thread", site.thread), site.post)
         elif site.word != "spawn":
             self._act(site)
 
-    def _tell_choice(self, site):
+    def _tell_call(self, site, called):
+        self._remember(site)
+        if site.number not in called:
+            yield from self._tell(body_of(site, self.sites), called | {site.number})
+        self._set(Holder("thread", site.thread), site.post)
+
+    def _tell_choice(self, site, called):
         own, before, ends = Holder("thread", site.thread), (self.held, self.counts, self.inside), []
         self._remember(site)
         for part in site.parts.values():
             self.held, self.counts, self.inside = map(dict, before)
-            yield from self._tell(part)
+            yield from self._tell(part, called)
             ends.append((self.held, self.counts, self.inside))
         self.held, self.counts, self.inside = max(
             ends, key=lambda end: sum(sum(had) for holder, had in end[0].items() if holder != own))
         self._set(own, site.post)
 
-    def _tell_body(self, site, body):
+    def _tell_body(self, site, body, called):
         own = Holder("thread", site.body)
         self._set(own, site.start)
         self._act(site)
-        yield from self._tell(body)
+        yield from self._tell(body, called)
         self.held.pop(own, None)
         identifier = self._made_at(site.parts["e1"])
         if self._has_maps(site):
@@ -130,7 +151,7 @@ class Telling:
         self._remember(site)
 
     def _remember(self, site):
-        if site.word not in SILENT or site is self.refused:
+        if site.word not in SILENT or same_step(site, self.refused):
             self.moments.append(Moment(site, {holder: numbers for holder, numbers in self.held.items() if any(numbers)}))
 
     # ---- Effects on locks, semaphores and identifiers
@@ -222,9 +243,14 @@ class Telling:
         return alike[0] if alike else made.line
 
 
+def same_step(site, other):
+    """Whether two sites are one step of the sheet: a body has a copy of it for each call."""
+    return other is not None and site.line == other.line
+
+
 def _origin(site):
     """The step whose value a part has, followed through variables, first parts of choices and cells to what they were made with."""
-    if site.word == "var":
+    if site.word == "var" and site.binder.word == "let":
         return _origin(site.binder.parts["e1"])
     if site.word == "let":
         return _origin(site.parts["e2"])

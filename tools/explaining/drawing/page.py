@@ -6,7 +6,7 @@ from ..refusals import REFUSALS
 from ..telling import alarm, condition_line, maps_of
 from ..walk import past_the_lack, strides
 from .holders import Holder
-from .fills import colour_of, fill_of, patterns
+from .fills import KEEPERS, colour_of, fill_of, patterns
 from .picture import Picture
 
 FEW = 3  # locations whose fractions fit on one line of the walk
@@ -14,6 +14,7 @@ BADGES = {
     "ACCEPT": ("accepted", "ACCEPTED"), "FILLED": ("accepted", "FILLED"), "UNREAD": ("none", "NOT READ"),
     "FAILED": ("none", "NO ANSWER")}
 ORDER = "This is one order of many. It is told so that each thread goes as far as it can before another is told on."
+APART = "The rows of its caller, at the end, are the body of the refused procedure by itself, from what it starts with."
 
 STYLE = Path(__file__).with_name("style.css").read_text(encoding="utf-8")
 
@@ -84,6 +85,7 @@ def _picture(explanation):
         f'<svg class="patterns" aria-hidden="true">{patterns(picture.holders + _threads(picture))}</svg>',
         "<h2>Who holds how much</h2>", f'<p class="order">{ORDER}</p>', *_legend(picture),
         *([f'<p class="order">Not drawn, since nothing moves or touches it: {escape(folded)}.</p>'] if folded else []),
+        *([f'<p class="order">{APART}</p>'] if picture.apart else []),
         *(piece for block in picture.blocks for piece in _columns(picture, block)),
         *(f'<p class="order">{escape(line)}</p>' for line in [past_the_lack(explanation)] if line),
     ]
@@ -97,8 +99,9 @@ def _columns(picture, block):
 
 def _threads(picture):
     """The threads that are named, whether or not they ever hold anything."""
-    named = {moment.site.thread for moment in picture.moments} | {holder.thread() for holder in picture.holders} - {None}
-    return [Holder("thread", thread) for thread in sorted(named)]
+    named = {moment.site.thread for moment in picture.moments} | {
+        holder.thread() for holder in picture.holders if holder.kind not in KEEPERS}
+    return [Holder("thread", thread) for thread in sorted(named, key=lambda thread: -1 if thread is None else thread)]
 
 
 def _legend(picture):
@@ -147,8 +150,8 @@ def _walk(explanation):
             f'<td class="map">{escape(stride.after)}</td>', f"<td>{escape(stride.words)}</td>",
             f'<td class="sums">{escape(stride.sums)}</td>',
         ]
-        refused = ' class="refused"' if stride.refused else ""
-        rows.append(f"<tr{refused}>{''.join(cells)}</tr>")
+        kinds = " ".join(kind for kind, is_so in (("refused", stride.refused), ("apart", stride.apart)) if is_so)
+        rows.append(f'<tr class="{kinds}">{"".join(cells)}</tr>' if kinds else f"<tr>{''.join(cells)}</tr>")
     kind = "walk wide" if explanation.sites.split.locations > FEW else "walk"
     return [
         '<section class="walk-section">', "<h2>The walk, step by step</h2>",

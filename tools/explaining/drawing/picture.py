@@ -11,7 +11,7 @@ from ..conditions import cell_location
 from ..walk import in_words
 from ..words import WORDS
 from .fills import KEEPERS, colour_of, fill_of, ink_on
-from .holders import Holder, Telling
+from .holders import Holder, Telling, same_step
 from .places import places
 
 ROW, LINE, HEAD = 24, 17, 46
@@ -44,7 +44,8 @@ class Picture:
         self.names = explanation.names
         self.sites = explanation.sites
         self.split = explanation.sites.split
-        self.moments = Telling(explanation).moments
+        telling = Telling(explanation)
+        self.moments, self.apart = telling.moments, len(telling.moments) - telling.apart
         # Where a sheet gives out more than there is, the column has room for that too.
         totals = [max(map(sum, zip(*moment.held.values())), default=0) for moment in self.moments]
         self.most = max([self.split.denominator, *totals])
@@ -136,7 +137,7 @@ class Picture:
         return wrap(words, letters) + sums
 
     def _is_refused(self, site):
-        return site is self.explanation.site and self.explanation.number > 0
+        return same_step(site, self.explanation.site) and self.explanation.number > 0
 
     # ---- Columns
 

@@ -44,7 +44,7 @@ def _settled(row, rows, at, told):
 def _row(number, one, made, naming):
     word, operands = one.point.word, one.operands
     touched = {made: "make"} if made is not None else {}
-    if made is None and operands and kind(operands[0]) in (CELL, LOCK, SEM, RWLOCK):
+    if made is None and word != "call" and operands and kind(operands[0]) in (CELL, LOCK, SEM, RWLOCK):
         touched = {operands[0]: word if word in ("read", "write") else "use"}
     started = [one.started()] if word == "spawn" else []
     return Row(one.thread, number, number, [(one.point.line, _words(one, made, naming))], touched, started, False, one.after)

@@ -15,7 +15,7 @@ use Rattle.calculus.proofs.Examples.Halts.{HaltsWaiting, waiting}
 
 -- Both readers are in, and the cell is 1.
 abbrev both-in : State
-both-in = run movesBookToReads (run movesToBook (startState colourBook))
+both-in = run [] movesBookToReads (run [] movesToBook (startState colourBook))
 
 -- Two threads of a state are about to read one cell.
 pub record ReadAtOnce (s : State) : Type 0 where
@@ -43,7 +43,7 @@ unfolding startState run attempt reduce ℕ-discrete decLt decLe
 writer-waits-for-both = waiting both-in 0 refl (atHold 2 2 wrlock (readers 2) refl refl refl)
 
 -- Once both have given back, it writes.
-pub book-is-written : run movesBookToEnd both-in .names 1 ≡ cell (int 1)
+pub book-is-written : run [] movesBookToEnd both-in .names 1 ≡ cell (int 1)
 unfolding startState run attempt reduce ℕ-discrete decLt decLe
 book-is-written = refl
 
@@ -51,7 +51,7 @@ book-is-written = refl
 
 -- One thread has taken both places and is about to write; the other waits for a place.
 abbrev places-taken : State
-places-taken = run movesBothPlaces (startState bothPlaces)
+places-taken = run [] movesBothPlaces (startState bothPlaces)
 
 pub third-hold-waits : HaltsWaiting places-taken 1
 unfolding startState run attempt reduce ℕ-discrete decLt decLe
@@ -60,6 +60,6 @@ third-hold-waits = waiting places-taken 1 refl (atHold 2 2 rdlock (readers 2) re
 -- Figure 8 bounds the threads: there are two, no more than the reading places, so the second would be let in, here by one place more. Then
 -- the program, which Figure 5 derives (Derivations.antt), would race.
 pub third-hold-races :
-    Race (run (goes 1 ∷ goes 1 ∷ []) (record { threads = places-taken .threads; names = update (places-taken .names) 2 (rwlock 3 (readers 2)) }))
+    Race (run [] (goes 1 ∷ goes 1 ∷ []) (record { threads = places-taken .threads; names = update (places-taken .names) 2 (rwlock 3 (readers 2)) }))
 unfolding startState run attempt reduce ℕ-discrete decLt decLe
 third-hold-races = race 0 1 1 _ _ (omega arith) refl refl (aboutToWrite (int 0) (int 1) refl refl) (inl (aboutToRead (int 0) refl refl))

@@ -20,7 +20,7 @@ use Rattle.calculus.proofs.Examples.Derivations.{section-2-2-1-is-safe}
 constants-differ : ¬ (constant 1 ≡ constant 0)
 constants-differ h = let z : _≡_ {A = ℕ} 1 0 = cc in omega (arith, z)
 
-pub figure-2a-order-matters : ¬ SameEitherWay (run moves2a (startState figure2a)) (goes 0) (goes 1)
+pub figure-2a-order-matters : ¬ SameEitherWay [] (run [] moves2a (startState figure2a)) (goes 0) (goes 1)
 unfolding startState run attempt reduce ℕ-discrete
 figure-2a-order-matters same =
     let at-1 = ap (λ (s : State). getElem? (s .threads) 1) (some-injective (same .oneWay ∙ sym (same .otherWay))) in
@@ -37,7 +37,7 @@ figure-2a-is-not-in-either-order claim =
 contents-differ : ¬ (cell (int 2) ≡ cell (int 1))
 contents-differ h = let z : _≡_ {A = ℕ} 2 1 = cc in omega (arith, z)
 
-pub one-identifier-order-matters : ¬ SameEitherWay (run movesOneIdentifier (startState oneIdentifier)) (goes 1) (goes 2)
+pub one-identifier-order-matters : ¬ SameEitherWay [] (run [] movesOneIdentifier (startState oneIdentifier)) (goes 1) (goes 2)
 unfolding startState run attempt reduce ℕ-discrete
 one-identifier-order-matters same =
     contents-differ (ap (λ (s : State). s .names 1) (some-injective (same .oneWay ∙ sym (same .otherWay))))
@@ -61,21 +61,21 @@ reader = record {
       (unary lock (value (name 4)) ⨾ write (value (name 1)) (var 4) ⨾ unary unlock (value (name 4)));
 }
 
-pub section-2-2-1-reads-swap : SameEitherWay (run two-readers (startState section221)) (goes 1) (goes 2)
+pub section-2-2-1-reads-swap : SameEitherWay [] (run [] two-readers (startState section221)) (goes 1) (goes 2)
 unfolding startState run attempt reduce ℕ-discrete
 section-2-2-1-reads-swap =
-    let reads : AboutToUse (run two-readers (startState section221)) reader = aboutToUse 2 (inl (aboutToRead (int 0) refl refl)) in
+    let reads : AboutToUse (run [] two-readers (startState section221)) reader = aboutToUse 2 (inl (aboutToRead (int 0) refl refl)) in
     safe-is-in-either-order section221 section-2-2-1-is-safe _ (reached two-readers) (goes 1) (goes 2) reader reader (omega arith) refl refl
     reads reads
 
 -- ---- One thread twice: Figure 2 (b), which is safe, once its first thread is about to write
 
 abbrev last-write : State
-last-write = run (goes 1 ∷ joins 0 1 ∷ goes 0 ∷ []) (run moves2bToJoin (startState figure2b))
+last-write = run [] (goes 1 ∷ joins 0 1 ∷ goes 0 ∷ []) (run [] moves2bToJoin (startState figure2b))
 
 -- Were the claim not to ask for different threads, it would be false: the thread finishes with its write, so its second move is no reduction.
 pub one-thread-does-not-swap : ¬ ((m k : Move) (t u : Thread) → ThreadAt last-write (m .thread) t → ThreadAt last-write (k .thread) u →
-    AboutToUse last-write t → AboutToUse last-write u → SameEitherWay last-write m k)
+    AboutToUse last-write t → AboutToUse last-write u → SameEitherWay [] last-write m k)
 unfolding startState run attempt reduce ℕ-discrete
 one-thread-does-not-swap claim =
     none-is-not-some (claim (goes 0) (goes 0) _ _ refl refl (aboutToUse 1 (inr (aboutToWrite (int 0) (int 1) refl refl)))

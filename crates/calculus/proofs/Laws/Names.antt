@@ -8,7 +8,7 @@ use mathlib.Core.List.{List, [], _∷_}
 use native.Mathlib.Decide.{ℕ-discrete}
 use native.Mathlib.Omega.{arith}
 use lib.ListN.{getElem?}
-use Rattle.calculus.specs.Expression.{Value, Unary, join, ref, read, lock, unlock, post, wait, hold, Maker, newtid, newlock, newsem, newrwlock, Exp, Redex, letRedex, ifRedex, whileRedex, spawnRedex, writeRedex, unaryRedex, makeRedex, nextWord, choose}
+use Rattle.calculus.specs.Expression.{Value, Unary, join, ref, read, lock, unlock, post, wait, hold, call, Maker, newtid, newlock, newsem, newrwlock, Redex, letRedex, ifRedex, whileRedex, spawnRedex, writeRedex, unaryRedex, makeRedex, nextWord, choose, Procedure, Program}
 use Rattle.calculus.specs.State.{LockState, opened, closed, Inside, Slot, unused, identifier, cell, aLock, semaphore, rwlock, Thread, State, Move, update}
 use Rattle.calculus.specs.Reduction.{nameOf, ifUnused, ifIdentifier, content, lockState, ifOpened, count, oneLess, rwState, insideAfter, ifEqual, valueOf, wordOf, made, named, unaryReduct, reduct, reduce, orElse, attempt, states, startState}
 use Rattle.calculus.specs.Claim.{Every}
@@ -42,7 +42,7 @@ made-is-used newlock = lock-is-used
 made-is-used newsem = semaphore-is-used
 made-is-used (newrwlock N) = rwlock-is-used
 
-module _ (s : State) (m : Move) (t : Thread) where
+module _ (P : List Procedure) (s : State) (m : Move) (t : Thread) where
   -- The state that a reduction is told to give.
   told : {a b : State} → OneChanged (s .names) (a .names) → some a ≡ some b → OneChanged (s .names) (b .names)
   told h q = along (λ (z : State). OneChanged (s .names) (z .names)) (some-injective q) h
@@ -52,7 +52,7 @@ module _ (s : State) (m : Move) (t : Thread) where
       let (_, _, q₁) = bind-is-some (ifUnused (s .names (m .fresh))) q in
       told (one-changed (m .fresh) new used) q₁
 
-  unary-changes-one : (o : Unary) (v : Value) (s′ : State) → unaryReduct s m t o v ≡ some s′ → OneChanged (s .names) (s′ .names)
+  unary-changes-one : (o : Unary) (v : Value) (s′ : State) → unaryReduct P s m t o v ≡ some s′ → OneChanged (s .names) (s′ .names)
   unary-changes-one join v s′ q =
       let (n, _, q₁) = bind-is-some (nameOf v) q in
       let (_, _, q₂) = bind-is-some (ifIdentifier (s .names n)) q₁ in
@@ -88,8 +88,11 @@ module _ (s : State) (m : Move) (t : Thread) where
       let (p, _, q₂) = bind-is-some (rwState (s .names n)) q₁ in
       let (after, _, q₃) = bind-is-some (insideAfter (p .0) w (p .1)) q₂ in
       told (one-changed n (rwlock (p .0) after) rwlock-is-used) q₃
+  unary-changes-one (call f) v s′ q =
+      let (_, _, q₁) = bind-is-some (getElem? P f) q in
+      told none-changed q₁
 
-  reduct-changes-one : (r : Redex) (s′ : State) → reduct s m t r ≡ some s′ → OneChanged (s .names) (s′ .names)
+  reduct-changes-one : (r : Redex) (s′ : State) → reduct P s m t r ≡ some s′ → OneChanged (s .names) (s′ .names)
   reduct-changes-one (letRedex x v e) s′ q = told none-changed q
   reduct-changes-one (ifRedex e₁ e₂) s′ q = told none-changed q
   reduct-changes-one (whileRedex e) s′ q = told none-changed q
@@ -104,16 +107,16 @@ module _ (s : State) (m : Move) (t : Thread) where
   reduct-changes-one (unaryRedex o v) s′ q = unary-changes-one o v s′ q
   reduct-changes-one (makeRedex o) s′ q = named-changes-one _ s′ (made-is-used o) q
 
-pub attempt-changes-one : (s : State) (m : Move) → OneChanged (s .names) (attempt s m .names)
+pub attempt-changes-one : (P : List Procedure) (s : State) (m : Move) → OneChanged (s .names) (attempt P s m .names)
 unfolding attempt reduce
-attempt-changes-one s m = by-cases (reduce s m) refl
+attempt-changes-one P s m = by-cases (reduce P s m) refl
   where
-    by-cases : (o : Option State) → reduce s m ≡ o → OneChanged (s .names) (orElse o s .names)
+    by-cases : (o : Option State) → reduce P s m ≡ o → OneChanged (s .names) (orElse o s .names)
     by-cases none q = none-changed
     by-cases (some s′) q =
         let (t, _, q₁) = bind-is-some (getElem? (s .threads) (m .thread)) q in
         let (r, _, q₂) = bind-is-some (wordOf (nextWord (t .body))) q₁ in
-        reduct-changes-one s m t r s′ q₂
+        reduct-changes-one P s m t r s′ q₂
 
 -- ---- A used name stays used
 
@@ -125,8 +128,8 @@ change-keeps-used {f} (one-changed k sl d) n h = by-cases (ℕ-discrete n k)
     by-cases (yes e) = d
     by-cases (no e) = h
 
-pub used-name-stays-used : (s : State) (m : Move) (n : ℕ) → s .names n ≢ unused → attempt s m .names n ≢ unused
-used-name-stays-used s m = change-keeps-used (attempt-changes-one s m)
+pub used-name-stays-used : (P : List Procedure) (s : State) (m : Move) (n : ℕ) → s .names n ≢ unused → attempt P s m .names n ≢ unused
+used-name-stays-used P s m = change-keeps-used (attempt-changes-one P s m)
 
 -- ---- Names never run out
 
@@ -139,14 +142,17 @@ change-keeps-bound : {f g : ℕ → Slot} → OneChanged f g → Bounded f → B
 change-keeps-bound none-changed B = B
 change-keeps-bound {f} (one-changed n sl d) B = record { top = max (suc n) (B .top); above = update-above f n (B .top) sl unused (B .above) }
 
-run-has-unused-names : (ms : List Move) (s : State) → Bounded (s .names) → Every (λ s′. (n : ℕ) × (s′ .names n ≡ unused)) (states ms s)
+run-has-unused-names : (P : List Procedure) (ms : List Move) (s : State) → Bounded (s .names) →
+    Every (λ s′. (n : ℕ) × (s′ .names n ≡ unused)) (states P ms s)
 unfolding states
-run-has-unused-names [] s B = ((B .top, B .above (B .top) (omega arith)), tt)
-run-has-unused-names (m ∷ ms) s B =
-    ((B .top, B .above (B .top) (omega arith)), run-has-unused-names ms (attempt s m) (change-keeps-bound (attempt-changes-one s m) B))
+run-has-unused-names P [] s B = ((B .top, B .above (B .top) (omega arith)), tt)
+run-has-unused-names P (m ∷ ms) s B =
+    ((B .top, B .above (B .top) (omega arith)), run-has-unused-names P ms (attempt P s m) (change-keeps-bound (attempt-changes-one P s m) B))
 
 -- In every state on the way some name is unused.
-pub names-never-run-out : (e : Exp) (ms : List Move) → Every (λ s. (n : ℕ) × (s .names n ≡ unused)) (states ms (startState e))
+pub names-never-run-out : (p : Program) (ms : List Move) →
+    Every (λ s. (n : ℕ) × (s .names n ≡ unused)) (states (p .procedures) ms (startState p))
 unfolding startState
-names-never-run-out e ms =
-    run-has-unused-names ms (startState e) (record { top = 1; above = λ n h. update-other (λ k. unused) 0 n identifier (omega arith) })
+names-never-run-out p ms =
+    run-has-unused-names (p .procedures) ms (startState p)
+    (record { top = 1; above = λ n h. update-other (λ k. unused) 0 n identifier (omega arith) })

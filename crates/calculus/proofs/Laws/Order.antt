@@ -35,3 +35,13 @@ sum-gains h = record { at = λ ρ. omega (arith, h .at ρ) }
 
 pub sum-pays : {Φ Ψ K : Cap} → Ψ ≈ Φ ⊕ K → Pays Φ Ψ K
 sum-pays h = record { at = λ ρ. omega (arith, h .at ρ) }
+
+-- The same with F beside both.
+pub ≥-frames : {Ψ Φ : Cap} (F : Cap) → Ψ ≥ᶜ Φ → Ψ +ᶜ F ≥ᶜ Φ +ᶜ F
+≥-frames F h = record { at = λ ρ. omega (arith, h .at ρ) }
+
+pub gains-frames : {Φ Ψ K : Cap} (F : Cap) → Gains Φ Ψ K → Gains (Φ +ᶜ F) (Ψ +ᶜ F) K
+gains-frames F h = record { at = λ ρ. omega (arith, h .at ρ) }
+
+pub pays-frames : {Φ Ψ K : Cap} (F : Cap) → Pays Φ Ψ K → Pays (Φ +ᶜ F) (Ψ +ᶜ F) K
+pays-frames F h = record { at = λ ρ. omega (arith, h .at ρ) }

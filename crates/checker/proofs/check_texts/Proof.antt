@@ -12,7 +12,7 @@ check-rules-requires c κs =
     let called = c .before .before .before .before .before .before in
     let start = called .before .before .before .before .before in
     let H = held-by Check _ _ _ _ (called .read .ensures) (c .before .before .steps .given .1) in
-    record { long = called .read .kept .1 .1 .1 .0 ∙ start .pre; few = H .few; small = H .small }
+    record { long = called .read .kept .1 .1 .1 .0 ∙ start .pre; few = H .few; fewProcedures = H .fewProcedures; small = H .small }
 
 returns : tie.Need-returns
 returns c = sheet-refused _ _ _ _ (c .before .before .before .before .before .read .ensures) (c .before .r .given .1)

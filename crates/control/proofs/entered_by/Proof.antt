@@ -29,15 +29,19 @@ returns-6 c = rw (c .behind2 .ensures, c .before .enum-told6 .given .1)
 
 returns-7 : tie.Need-returns-7
 unfolding enteredBy
-returns-7 c = rw (c .enum-told7 .given .1)
+returns-7 c = rw (c .behind3 .ensures, c .before .enum-told7 .given .1)
 
 returns-8 : tie.Need-returns-8
 unfolding enteredBy
-returns-8 c = rw (c .behind3 .ensures, c .before .enum-told8 .given .1)
+returns-8 c = rw (c .enum-told8 .given .1)
 
 returns-9 : tie.Need-returns-9
 unfolding enteredBy
 returns-9 c = rw (c .behind4 .ensures, c .before .enum-told9 .given .1)
+
+returns-10 : tie.Need-returns-10
+unfolding enteredBy
+returns-10 c = rw (c .behind5 .ensures, c .before .enum-told10 .given .1)
 
 pub entered-by-spec : {M : Type 1} → statement M
 entered-by-spec =
@@ -47,6 +51,8 @@ entered-by-spec =
     (λ c. search needs)
     (λ c. search needs)
     (λ c. search needs)
+    (λ c. search needs)
+    (λ c κs. search needs)
     (λ c. search needs)
     (λ c κs. search needs)
     (λ c. search needs)
@@ -64,4 +70,5 @@ entered-by-spec =
     returns-6
     returns-7
     returns-8
-    returns-9)
+    returns-9
+    returns-10)

@@ -12,30 +12,30 @@ use Rattle.control.proofs.find.Statement.{statement}
 use Rattle.control.proofs.find.Tie as tie
 
 abbrev Inv-loop : tie.InvT-loop
-Inv-loop program space₀ t g₀ i₀ space g i = (length space ≡ length space₀) × (found 2048 program space₀ t g₀ ≡ found (2048 - i) program space t g)
+Inv-loop program space₀ g₀ i₀ space g i = (length space ≡ length space₀) × (found 2048 program space₀ g₀ ≡ found (2048 - i) program space g)
 
 abbrev μ-loop : tie.MeasureT-loop
-μ-loop program space₀ t g₀ i₀ space g i = 2048 - i
+μ-loop program space₀ g₀ i₀ space g i = 2048 - i
 
 loop-holds : tie.Need-loop-holds Inv-loop μ-loop
 loop-holds c = (refl, refl)
 
 returns : tie.Need-returns Inv-loop μ-loop
-returns c = c .before .before .loop .inv .1 ∙ found-stop _ _ _ _ _ (c .if1 .taken)
+returns c = c .before .before .loop .inv .1 ∙ found-stop _ _ _ _ (c .if1 .taken)
 
 loop-again : tie.Need-loop-again Inv-loop μ-loop
 loop-again c =
     let here = c .before .before .before .before .before .before in
     let turn = c .before .before .turn .ensures in
     let args = here .before .before .before .args in (
-      ap length (turn .1) ∙ turn-length _ _ _ _ ∙ here .loop .inv .0,
+      ap length (turn .1) ∙ turn-length _ _ _ ∙ here .loop .inv .0,
       here .loop .inv .1
-          ∙ found-more _ _ _ _ 2048 (here .loop .i) (c .before .before .before .before .before .loop-test .taken) (c .before .before .before .before .if1 .left)
-          ∙ sym (λ i. found (2048 - (here .loop .i + 1)) (args .program .now) (turn .1 i) (args .t) (turn .0 i)),
+          ∙ found-more _ _ _ 2048 (here .loop .i) (c .before .before .before .before .before .loop-test .taken) (c .before .before .before .before .if1 .left)
+          ∙ sym (λ i. found (2048 - (here .loop .i + 1)) (args .program .now) (turn .1 i) (turn .0 i)),
     )
 
 returns-2 : tie.Need-returns-2 Inv-loop μ-loop
-returns-2 c = c .before .loop .inv .1 ∙ found-end _ _ _ _ 2048 _ (c .loop-test .left)
+returns-2 c = c .before .loop .inv .1 ∙ found-end _ _ _ 2048 _ (c .loop-test .left)
 
 pub find-spec : {M : Type 1} → statement M
 find-spec =

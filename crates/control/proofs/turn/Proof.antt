@@ -14,8 +14,8 @@ returns c =
 returns-2 : tie.Need-returns-2
 unfolding turned turnedSpace
 returns-2 c =
-    let t = ne-eqb _ _ (c .before .before .before .before .before .if1 .left) in
-    (c .return-to .ensures ∙ sym (rw t), c .before .before .before .keep .ensures ∙ sym (rw t))
+    let t = ne-eqb _ _ (c .before .before .before .before .before .before .if1 .left) in
+    (c .before .before .before .before .return-to .ensures ∙ sym (rw t), c .before .before .keep .ensures ∙ sym (rw t))
 
 pub turn-spec : {M : Type 1} → statement M
 turn-spec =

@@ -28,7 +28,7 @@ loop-again c =
     let copied-one = rw (c .before .before .before .before .index .ensures .0, c .before .before .before .index2 .ensures .0, c .before .before .before .before .before .before .variable .ensures) at put in (
       omega (arith, test .loop-test .taken),
       ap length put ∙ length-set (test .before .loop .space) _ _ ∙ inv .1,
-      ap (λ (s : List ℕ). copiedFrom s (args .t) (args .u) (test .before .loop .x + 1) (256 - (test .before .loop .x + 1))) copied-one ∙ sym (copied-more _ _ _ _ (test .loop-test .taken)) ∙ inv .2,
+      ap (λ (s : List ℕ). copiedFrom s (args .from) (args .to) (test .before .loop .x + 1) (256 - (test .before .loop .x + 1))) copied-one ∙ sym (copied-more _ _ _ _ (test .loop-test .taken)) ∙ inv .2,
     )
 
 returns : tie.Need-returns Inv-loop μ-loop

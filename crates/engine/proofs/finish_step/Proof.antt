@@ -5,7 +5,7 @@ use Rattle.engine.proofs.finish_step.Tie as tie
 
 returns : tie.Need-returns
 unfolding actStep movedTo
-returns c = rw (c .before .before .before .before .before .a .given .1, c .before .before .proceed .ensures)
+returns c = rw (c .moved .ensures, c .before .before .before .before .before .before .before .a .given .1, c .before .before .before .before .proceed .ensures)
 
 returns-2 : tie.Need-returns-2
 unfolding actStep
@@ -28,6 +28,7 @@ finish-step-spec =
     tie.close
     (tie.spec
     (λ c. search needs)
+    (λ c κs. search needs)
     (λ c κs. search needs)
     (λ c. search needs)
     (λ c κs. search needs)

@@ -8,10 +8,11 @@ returns : tie.Need-returns
 unfolding joinedStep joinedBy givesZero movedTo
 returns c =
     rw (
-      sym (c .before .before .before .before .before .before .before .before .before .lowest .ensures) ∙ c .before .before .before .before .before .before .before .i .given .1,
-      ← (c .before .before .before .before .before .gives .ensures),
-      ← (c .before .before .before .joined .ensures),
-      c .before .before .proceed .ensures,
+      c .moved .ensures,
+      sym (c .before .before .before .before .before .before .before .before .before .before .before .lowest .ensures) ∙ c .before .before .before .before .before .before .before .before .before .i .given .1,
+      ← (c .before .before .before .before .before .before .before .gives .ensures),
+      ← (c .before .before .before .before .before .joined .ensures),
+      c .before .before .before .before .proceed .ensures,
     )
 
 returns-2 : tie.Need-returns-2
@@ -24,6 +25,7 @@ join-spec =
     (tie.spec
     (λ c κs. search needs)
     (λ c. search needs)
+    (λ c κs. search needs)
     (λ c κs. search needs)
     (λ c κs. search needs)
     (λ c κs. search needs)

@@ -12,14 +12,19 @@ returns-2 : tie.Need-returns-2
 unfolding spawnedStep givesZero movedTo
 returns-2 c =
     rw (
-      lt-leb _ _ (c .before .before .before .before .before .before .before .before .before .before .before .before .before .before .before .if1 .left),
-      ← (c .before .before .before .before .before .before .before .before .before .before .before .before .before .copy .ensures),
-      ← (c .before .before .before .before .before .before .before .before .before .before .second .ensures),
-      ← (c .before .before .before .before .before .before .before .before .spawned .ensures),
-      c .before .before .before .before .before .before .before .proceed .ensures,
-      ← (c .before .before .before .before .gives .ensures),
-      c .before .before .proceed2 .ensures,
+      c .moved .ensures,
+      lt-leb _ _ (c .before .before .before .before .before .before .before .before .before .before .before .before .before .before .before .before .before .if1 .left),
+      ← (c .before .before .before .before .before .before .before .before .before .before .before .before .before .before .before .copy .ensures),
+      ← (c .before .before .before .before .before .before .before .before .before .before .before .before .second .ensures),
+      ← (c .before .before .before .before .before .before .before .before .before .before .spawned .ensures),
+      c .before .before .before .before .before .before .before .before .before .proceed .ensures,
+      ← (c .before .before .before .before .before .before .gives .ensures),
+      c .before .before .before .before .proceed2 .ensures,
     )
+
+-- each call keeps the length; the search enters too few records to find the three by itself
+same-length : tie.Need-same-length
+same-length c = search (needs, c .before .before .before .before .proceed2, c .before .before .before .before .before .before .before .before .before .proceed, c .before .before .before .before .before .before .before .before .before .before .before .before .before .before .before .copy)
 
 pub spawn-spec : {M : Type 1} → statement M
 spawn-spec =
@@ -27,11 +32,14 @@ spawn-spec =
     (tie.spec
     returns
     (λ c. search needs)
-    (λ c κs. search needs)
-    (λ c κs. search needs)
-    (λ c κs. search needs)
-    (λ c κs. search needs)
-    (λ c κs. search needs)
-    (λ c κs. search needs)
     (λ c. search needs)
+    (λ c. search needs)
+    (λ c κs. search needs)
+    (λ c κs. search needs)
+    (λ c κs. search needs)
+    (λ c κs. search needs)
+    (λ c κs. search needs)
+    (λ c κs. search needs)
+    (λ c κs. search needs)
+    same-length
     returns-2)

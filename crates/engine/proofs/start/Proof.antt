@@ -7,9 +7,10 @@ returns : tie.Need-returns
 unfolding startOf startSpace
 returns c =
     rw (
-      ← (c .before .before .before .before .before .before .before .before .before .before .before .before .before .before .before .clear .ensures),
-      ← (c .before .before .before .before .before .before .before .before .before .before .before .put .ensures),
-      ← (c .before .before .before .before .before .before .before .put2 .ensures),
+      ← (c .before .before .before .before .before .before .before .before .before .before .before .before .before .before .before .before .clear .ensures),
+      ← (c .before .before .before .before .before .before .before .before .before .before .before .before .put .ensures),
+      ← (c .before .before .before .before .before .before .before .before .put2 .ensures),
+      ← (c .before .before .before .before .before .root .ensures),
       ← (c .before .before .before .start .ensures),
     )
     (c .before .before .proceed .ensures)
@@ -20,6 +21,7 @@ start-spec =
     (tie.spec
     (λ c κs. search needs)
     (λ c. search needs)
+    (λ c κs. search needs)
     (λ c κs. search needs)
     (λ c κs. search needs)
     (λ c κs. search needs)

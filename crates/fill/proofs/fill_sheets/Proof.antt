@@ -5,22 +5,22 @@ use Rattle.fill.proofs.fill_sheets.Statement.{statement}
 use Rattle.fill.proofs.fill_sheets.Tie as tie
 
 returns : tie.Need-returns
-returns c = many-told _ _ _ _ (c .if1 .taken)
+returns c = many-told _ _ _ _ _ (c .if1 .taken)
 
 fill-held-requires : tie.Need-fill-held-requires
 fill-held-requires c κs =
     let start = c .before .before .before .before .before .before .before .before .before .before .before .before in
     let few = c .before .before .before .before .before .before .before .before .if1 .left in
     let called = c .before .before .before .before .before .before in
-    maps-kept _ _ _ few (called .rule .ensures) (called .rule .kept .0) (start .pre)
+    maps-kept _ _ _ _ few (called .rule .ensures) (called .rule .kept .0) (start .pre)
 
 returns-2 : tie.Need-returns-2
-returns-2 c = rule-refused _ _ _ (c .before .before .before .before .before .before .before .if1 .left) (c .before .before .before .before .before .rule .ensures) _ _ (c .before .r .given .1)
+returns-2 c = rule-refused _ _ _ _ (c .before .before .before .before .before .before .before .if1 .left) (c .before .before .before .before .before .rule .ensures) _ _ (c .before .r .given .1)
 
 returns-3 : tie.Need-returns-3
 returns-3 c =
     let start = c .before .before .before .before .before .before .before .before .before .before .before .before .before .before .before .before .before in
-    rules-met _ _ _ (c .before .before .before .before .before .before .before .before .before .before .before .before .before .if1 .left) (c .before .before .before .before .before .before .before .before .before .before .before .rule .ensures) (start .pre .few) (c .before .before .before .before .before .before .before .enum-told .given .1) (c .before .before .before .before .fill-held .ensures)
+    rules-met _ _ _ _ (c .before .before .before .before .before .before .before .before .before .before .before .before .before .if1 .left) (c .before .before .before .before .before .before .before .before .before .before .before .rule .ensures) (start .pre .few) (start .pre .fewProcedures) (c .before .before .before .before .before .before .before .enum-told .given .1) (c .before .before .before .before .fill-held .ensures)
 
 pub fill-sheets-spec : {M : Type 1} → statement M
 fill-sheets-spec =

@@ -1,39 +1,17 @@
--- The pass of the root, from what the start has at the location.
+-- The roots from procedure 0 on are those of the sheets.
 use native.Mathlib.Omega.{arith}
 use borrow.Author.Needs.{needs}
-use Rattle.pass.proofs.Sheets.{fillable-ready, posts-missed, posts-found}
+use Rattle.pass.proofs.Sheets.{fillable-ready, roots-filled}
 use Rattle.pass.proofs.fill_location.Statement.{statement}
 use Rattle.pass.proofs.fill_location.Tie as tie
 
-cell-in-requires : tie.Need-cell-in-requires
-cell-in-requires c κs = tt
-
-pass-step-requires : tie.Need-pass-step-requires
-pass-step-requires c κs =
-    let at-cell = c .before in
-    let known = at-cell .before .before in
-    fillable-ready _ _ _ _ _ (known .before .pre) (λ i. omega (arith, known .shared-slice-known .given i)) (at-cell .cell-in .ensures)
+fill-roots-requires : tie.Need-fill-roots-requires
+fill-roots-requires c κs =
+    let known = c .before .before in
+    fillable-ready _ _ _ _ (known .before .pre) (λ i. omega (arith, known .shared-slice-known .given i))
 
 returns : tie.Need-returns
-returns c =
-    let at-pass = c .before .before .before .before in
-    posts-missed _ _ _ _ _ _ _ (at-pass .before .before .cell-in .ensures) (at-pass .pass-step .ensures) (c .enum-told2 .given .1)
-
-returns-2 : tie.Need-returns-2
-returns-2 c =
-    let at-pass = c .before .before .before .before in
-    posts-found _ _ _ _ _ _ _ (at-pass .before .before .cell-in .ensures) (at-pass .pass-step .ensures) (c .enum-told .given .1)
+returns c = roots-filled _ _ _ (c .before .before .fill-roots .ensures)
 
 pub fill-location-spec : {M : Type 1} → statement M
-fill-location-spec =
-    tie.close
-    (tie.spec
-    cell-in-requires
-    (λ c. search needs)
-    pass-step-requires
-    (λ c. search needs)
-    (λ c. search needs)
-    (λ c. search needs)
-    returns
-    (λ c. search needs)
-    returns-2)
+fill-location-spec = tie.close (tie.spec fill-roots-requires (λ c. search needs) returns)

@@ -12,8 +12,16 @@ read-split-requires : tie.Need-read-split-requires
 read-split-requires c κs =
     let called = c .before .before .before .before .before .before in
     let start = called .before .before .before .before .before .before in
-    let (P, reads, counted, holds, few) = program-read-by _ _ (program (start .args .program .now)) (called .read .ensures .answer) (c .before .before .steps .given .1) in
-    record { long = called .read .kept .1 .0 ∙ start .pre; few = omega (arith, counted, few); P = P; holds = holds; counted = counted }
+    let found = program-read-by _ _ (program (start .args .program .now)) (called .read .ensures .answer) (c .before .before .steps .given .1) in
+    record {
+      long = called .read .kept .1 .0 ∙ start .pre;
+      few = omega (arith, found .stepsCounted, found .few);
+      fewProcedures = omega (arith, found .proceduresCounted, found .fewProcedures);
+      P = found .P;
+      holds = found .holds;
+      stepsCounted = found .stepsCounted;
+      proceduresCounted = found .proceduresCounted;
+    }
 
 returns-2 : tie.Need-returns-2
 returns-2 c =
@@ -25,8 +33,9 @@ returns-3 c =
     let called = c .before .before .before .before .before .before .before .before .before in
     let start = called .before .before .before .before .before .before in
     let text = start .args .program .now in
-    let (P, reads, counted, holds, few) = program-read-by _ _ (program text) (called .read .ensures .answer) (c .before .before .before .before .before .steps .given .1) in
-    c .before .before .read-split .ensures text P (good-program text (called .before .before .if1 .left) reads) holds counted
+    let found = program-read-by _ _ (program text) (called .read .ensures .answer) (c .before .before .before .before .before .steps .given .1) in
+    c .before .before .read-split .ensures text (found .P) (good-program text (called .before .before .if1 .left) (found .reads)) (found .holds)
+    (found .stepsCounted) (found .proceduresCounted)
 
 pub read-spec : {M : Type 1} → statement M
 read-spec =

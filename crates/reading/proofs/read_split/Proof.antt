@@ -7,24 +7,24 @@ use Rattle.reading.proofs.read_split.Statement.{statement}
 use Rattle.reading.proofs.read_split.Tie as tie
 
 returns-2 : tie.Need-returns-2
-returns-2 c p P F holds counted =
+returns-2 c p P F holds counted procs =
     let called = c .before .before .before .before .before in
-    let answered = called .read .ensures .answered (P .steps) (holds .steps) (sym counted) in
+    let answered = called .read .ensures .answered P (holds .steps) (sym counted) (sym procs) in
     split-stops _ p _ F (called .before .before .if1 .left) (split-refused-by _ _ _ answered (c .before .r .given .1))
 
 returns-3 : tie.Need-returns-3
-returns-3 c p P F holds counted =
+returns-3 c p P F holds counted procs =
     let called = c .before .before .before .before .before in
     let start = called .before .before .before .before .before in
-    let answered = called .read .ensures .answered (P .steps) (holds .steps) (sym counted) in
+    let answered = called .read .ensures .answered P (holds .steps) (sym counted) (sym procs) in
     let (S, reads, headed, holds′, small) = split-read-by _ _ _ answered (c .before .header .given .1) in
-    both-held _ p _ F (called .before .before .if1 .left) _ reads (called .read .ensures .changed) holds holds′ counted (start .pre .few) headed small
+    both-held _ p _ F (called .before .before .if1 .left) _ reads (called .read .ensures .changed) holds holds′ counted (start .pre .few) procs (start .pre .fewProcedures) headed small
 
 pub read-split-spec : {M : Type 1} → statement M
 read-split-spec =
     tie.close
     (tie.spec
-    (λ c p P F holds counted. too-long _ p _ F (c .if1 .taken))
+    (λ c p P F holds counted procs. too-long _ p _ F (c .if1 .taken))
     (λ c κs. search needs)
     (λ c. search needs)
     (λ c. search needs)

@@ -1,9 +1,9 @@
 -- A short space is refused as it is; of a longer one the first numbers are lent on.
 use mathlib.Core.Path.{refl, sym, _∙_}
 use lib.Seq.{length-take-le}
-use Rattle.workspace.specs.Layout.{workSize}
+use Rattle.replaying.specs.Replay.{replaySpace}
 use Rattle.replay.proofs.Starting.{short-room, room-enough}
-use Rattle.replay.proofs.Promises.{short-space-after, long-space-after, promises-kept}
+use Rattle.replay.proofs.Promises.{space-counted, front-long, short-space-after, long-space-after, promises-kept}
 use borrow.Author.Needs.{needs}
 use Rattle.replay.proofs.replay.Statement.{statement}
 use Rattle.replay.proofs.replay.Tie as tie
@@ -12,18 +12,20 @@ returns : tie.Need-returns
 returns c = promises-kept _ _ _ _ _ (c .refused .ensures ∙ short-room _ _ _ (c .before .if1 .taken)) (refl, refl) (short-space-after _)
 
 slice-aggregate-replay-texts : tie.Need-slice-aggregate-replay-texts
+unfolding replaySpace
 slice-aggregate-replay-texts c =
     let at-if = c .before in
     let start = at-if .before .before .before .before in
-    sym (length-take-le workSize (start .args .space .now) (at-if .if1 .left))
+    sym (length-take-le replaySpace (start .args .space .now) (at-if .if1 .left))
 
 replay-texts-requires : tie.Need-replay-texts-requires
 replay-texts-requires c κs =
     let at-if = c .before in
     let start = at-if .before .before .before .before in
-    length-take-le workSize (start .args .space .now) (at-if .if1 .left)
+    front-long 542960 (start .args .space .now) (at-if .if1 .left) space-counted
 
 returns-2 : tie.Need-returns-2
+unfolding replaySpace
 returns-2 c =
     let at-texts = c .before .before in
     let at-if = at-texts .before .before in

@@ -13,14 +13,27 @@ pub fn draft(random: &mut Random) -> Draft {
     draft_with(random, None)
 }
 
+/// Such a draft with procedures, which threads call.
+pub fn with_procedures(random: &mut Random) -> Draft {
+    built(random, None, true)
+}
+
 /// Such a draft from a builder that makes a mistake.
 pub fn draft_with(random: &mut Random, slip: Option<Slip>) -> Draft {
+    built(random, slip, slip == Some(Slip::BodiesForFree))
+}
+
+fn built(random: &mut Random, slip: Option<Slip>, with_procedures: bool) -> Draft {
     loop {
         let whole = random.pick(&[2, 4, 6]);
         let size = 16 + random.below(24);
         let mut builder = Builder::bare(random, 2, whole);
         builder.slip = slip;
         builder.divide();
+        if with_procedures {
+            let count = 1 + builder.random.below(4);
+            builder.procedures(count, 10);
+        }
         let mut now = builder.draft.maps[0];
         let things = builder.drawn_things();
         builder.over(things, &mut now, size);

@@ -27,6 +27,9 @@ impl Builder<'_> {
     /// Something for a thread to do, of any type: most often accesses to cells, guarded or not.
     pub(super) fn work(&mut self, now: &mut Map, need: &Map, size: usize) {
         let int = self.int_type();
+        if self.slip == Some(Slip::BodiesForFree) && self.call(int, now, need, 2) {
+            return;
+        }
         let built = match self.random.below(10) {
             0..=2 => self.access(int, now, need),
             3..=5 if size > 1 => self.critical_section(int, now, need, size),

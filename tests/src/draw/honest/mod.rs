@@ -8,6 +8,7 @@ mod around;
 pub mod concurrent;
 mod idioms;
 mod loads;
+pub mod procedures;
 mod readers;
 mod steps;
 
@@ -33,6 +34,8 @@ pub enum Slip {
     PrintedInequality,
     /// A new read-write lock has one reading place more than its maps allow.
     PlacesForFree,
+    /// A procedure's body starts with all that the program starts with.
+    BodiesForFree,
 }
 
 pub struct Builder<'r> {
@@ -81,7 +84,7 @@ impl<'r> Builder<'r> {
         let first = random.between(0, VARIABLES - 1);
         let unbound = (0..VARIABLES).map(|place| (first + 37 * place) % VARIABLES).collect();
         let (types, maps, steps) = (Vec::new(), Vec::new(), Vec::new());
-        let draft = Draft { heading: Heading::C, whole, locations, types, maps, steps };
+        let draft = Draft { heading: Heading::C, whole, locations, types, maps, steps, procedures: None };
         Builder { random, draft, scope: Vec::new(), unbound, spoiled: false, slip: None }
     }
 
@@ -231,6 +234,10 @@ impl<'r> Builder<'r> {
     pub fn expression(&mut self, kind: usize, now: &mut Map, need: &Map, size: usize) {
         let is_int = self.draft.types[kind] == Type::Int;
         if is_int && size >= 8 && self.random.percent(15) && self.idiom(kind, now, need, size) {
+            return;
+        }
+        let has_procedures = !self.draft.procedures().is_empty();
+        if has_procedures && size >= 2 && self.random.percent(25) && self.call(kind, now, need, size) {
             return;
         }
         let tries = if size >= 3 { 4 } else { 0 };

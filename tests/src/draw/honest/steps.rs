@@ -9,7 +9,7 @@ use crate::words::Word;
 impl Builder<'_> {
     /// A step with this word and type. False, with nothing built, when it cannot be had here.
     pub fn step(&mut self, word: Word, kind: usize, now: &mut Map, need: &Map, size: usize) -> bool {
-        let moves = word == Word::Spawn || TAKING.contains(&word) || GIVING.contains(&word);
+        let moves = matches!(word, Word::Spawn | Word::Call) || TAKING.contains(&word) || GIVING.contains(&word);
         if moves && self.draft.maps.len() > MAPS_IN_USE {
             return false;
         }
@@ -24,6 +24,7 @@ impl Builder<'_> {
             (Word::Newlock, Type::Lock { given, .. }) => self.newlock(kind, given, now, need),
             (Word::Newrwlock, Type::Rwlock { reading, writing }) => self.newrwlock(kind, reading, writing, now, need),
             (Word::Let, _) => self.binding(kind, now, need, size),
+            (Word::Call, _) => self.call(kind, now, need, size),
             (Word::If, _) => self.branch(kind, now, need, size),
             (Word::While, Type::Int) => self.repeat(kind, now, need, size),
             (Word::Spawn, Type::Int) => self.spawn(kind, now, need, size),
@@ -262,14 +263,14 @@ impl Builder<'_> {
     }
 
     /// A part that is most often short: a variable or a new thing.
-    fn operand(&mut self, kind: usize, now: &mut Map, need: &Map, size: usize) {
+    pub(super) fn operand(&mut self, kind: usize, now: &mut Map, need: &Map, size: usize) {
         let size = if self.random.percent(80) { 1 } else { size.min(12).saturating_sub(1) };
         self.expression(kind, now, need, size);
     }
 }
 
 /// Words that take what their part carries, and words that give it back.
-const TAKING: [Word; 5] = [Word::Join, Word::Lock, Word::Wait, Word::Rdlock, Word::Wrlock];
+pub(super) const TAKING: [Word; 5] = [Word::Join, Word::Lock, Word::Wait, Word::Rdlock, Word::Wrlock];
 const GIVING: [Word; 4] = [Word::Unlock, Word::Post, Word::Rdunlock, Word::Wrunlock];
 
 /// The map that a word takes or gives when its part has this type, if it may have it.

@@ -1,5 +1,6 @@
 //! Drawn traces (request (xii)): runs of drawn and of known programs, changed ones, and noise.
 
+mod calls;
 mod kinds;
 mod loops;
 mod racing;
@@ -8,7 +9,7 @@ pub mod schedule;
 use super::draft::Draft;
 use super::honest::{concurrent, Slip};
 use super::random::Random;
-use super::{changed_text, freelock, honest_draft, limits, mutants, noise, Drawn};
+use super::{changed_text, freelock, honest_draft, limits, mutants, noise, procedures, Drawn};
 use crate::answer::REPLAY_SPACE;
 use crate::second;
 use crate::series::Files;
@@ -98,8 +99,33 @@ pub fn recorded(seed: u64, number: u64) -> Recorded {
     }
 }
 
+/// A run of a program with procedures.
+fn called(random: &mut Random) -> Recorded {
+    match random.below(4) {
+        0 => {
+            let draft = procedures::written_out(random);
+            safe(random, &draft, "procedures")
+        }
+        1 => {
+            let draft = concurrent::with_procedures(random);
+            safe(random, &draft, "called threads")
+        }
+        2 => {
+            let (program, trace) = calls::run(random);
+            Recorded::of(program, trace, "calls")
+        }
+        _ => {
+            let pair = procedures::pair(random);
+            Recorded::of_pair(random, pair, "drawn calls")
+        }
+    }
+}
+
 /// A run of some program.
 fn run(random: &mut Random) -> Recorded {
+    if random.percent(30) {
+        return called(random);
+    }
     match random.below(65) {
         0..=13 => {
             let draft = concurrent::draft(random);
@@ -134,6 +160,10 @@ fn safe(random: &mut Random, draft: &Draft, origin: &'static str) -> Recorded {
 
 /// What a mistaken checker would accept; some of these race.
 fn slipped(random: &mut Random) -> Recorded {
+    if random.percent(15) {
+        let draft = concurrent::draft_with(random, Some(Slip::BodiesForFree));
+        return Recorded::of_draft(random, &draft, "slip");
+    }
     let slip = random.pick(&[
         Slip::LocksForFree,
         Slip::StartsForFree,

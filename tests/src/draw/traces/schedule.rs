@@ -2,7 +2,7 @@
 
 use crate::draw::draft::push_numeral;
 use crate::draw::random::Random;
-use crate::steps::expression::Expression;
+use crate::steps::expression::Program;
 use crate::steps::run::Run;
 use crate::words::Word;
 
@@ -45,7 +45,7 @@ impl Schedule {
 
     /// The trace of a run of a well formed program: until no thread can go on, or as far as asked.
     pub fn trace(self, random: &mut Random, program: &[u8]) -> Vec<u8> {
-        let mut run = Run::start(Expression::listed(program).expect("the program is well formed"));
+        let mut run = Run::start(&Program::listed(program).expect("the program is well formed"));
         let (mut trace, mut last) = (Vec::new(), 0);
         for _ in 0..self.steps {
             let choice = u32::from(!random.percent(self.first_part));

@@ -24,8 +24,8 @@ pub fn emptied(split: &[u8], kept: Kept) -> Option<Vec<u8>> {
         _ => return None,
     }
     let (types, maps) = (number(&head[3])?, number(&head[4])?);
-    let rows = lines.get_mut(1 + types + maps..)?;
-    for row in &mut *rows {
+    let behind = lines.get_mut(1 + types + maps..)?;
+    for row in behind.iter_mut().skip_while(|line| is_signature(line)) {
         let [_, post, _] = row.as_mut_slice() else { return None };
         post.clear();
     }
@@ -34,6 +34,11 @@ pub fn emptied(split: &[u8], kept: Kept) -> Option<Vec<u8>> {
     }
     let lines: Vec<String> = lines.iter().map(|fields| fields.join(",")).collect();
     Some((lines.join("\n") + "\n").into_bytes())
+}
+
+/// Whether a line behind the maps has the form of a procedure's.
+fn is_signature(line: &Fields) -> bool {
+    line.len() == 4
 }
 
 /// The number of maps that the head of a sheet tells of.
@@ -73,12 +78,18 @@ fn drop_unused(lines: &mut Vec<Fields>, types: usize, maps: usize) -> Option<()>
     Some(())
 }
 
-/// The fields that name maps: the start, what types carry, and the bodies' starts.
+/// The fields that name maps: the start, what types carry, what procedures start and end with, and the
+/// bodies' starts or what calls keep back.
 fn names(lines: &mut [Fields], types: usize, maps: usize) -> Option<Vec<&mut String>> {
     let (head, rest) = lines.split_first_mut()?;
     let two_loads = head[0] == "C3";
     let mut names = vec![&mut head[5]];
     for (place, line) in rest.iter_mut().enumerate() {
+        if place >= types + maps && is_signature(line) {
+            let [before, _, after, _] = line.as_mut_slice() else { return None };
+            names.extend([before, after]);
+            continue;
+        }
         let fields = match line[0].as_str() {
             "lock" if place < types && two_loads => 1..3,
             "rwlock" if place < types => 1..3,

@@ -33,5 +33,5 @@ pub fn draft(random: &mut Random) -> Draft {
     }
     steps.push(plain(Word::Int, 0, 0));
     let maps = vec![whole(start), whole(load)];
-    Draft { heading: Heading::C2 { start: 0 }, whole: WHOLE, locations: 1, types, maps, steps }
+    Draft { heading: Heading::C2 { start: 0 }, whole: WHOLE, locations: 1, types, maps, steps, procedures: None }
 }

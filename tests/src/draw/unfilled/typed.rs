@@ -1,7 +1,7 @@
 //! Drafts whose conditions on types hold, and whose maps nobody worked out: some can be filled in, some not.
 
 use crate::answer::{LOCATIONS, PLACES, STEPS};
-use crate::draw::draft::{Draft, Heading, Map, Step};
+use crate::draw::draft::{Draft, Heading, Map, Procedure, Step};
 use crate::draw::random::Random;
 use crate::types::Type;
 use crate::words::Word;
@@ -23,6 +23,9 @@ pub fn draft(random: &mut Random) -> Draft {
 pub fn sized(random: &mut Random, size: usize, locations: usize, whole: u32, loads: &[u32]) -> Draft {
     loop {
         let mut typed = Typed::new(random, locations, whole, loads);
+        if typed.random.percent(35) {
+            typed.procedures(size);
+        }
         let kind = if typed.random.percent(80) { 0 } else { typed.random.below(typed.draft.types.len()) };
         typed.expression(kind, size);
         if typed.draft.steps.len() <= STEPS as usize {
@@ -70,7 +73,8 @@ impl<'r> Typed<'r> {
             let below = if matches!(kind(0), Type::Ref { .. }) { locations } else { maps.len() };
             types.push(kind(random.below(below)));
         }
-        let draft = Draft { heading: Heading::C2 { start: first }, whole, locations, types, maps, steps: Vec::new() };
+        let (heading, steps) = (Heading::C2 { start: first }, Vec::new());
+        let draft = Draft { heading, whole, locations, types, maps, steps, procedures: None };
         let mut typed = Typed { random, draft, scope: Vec::new(), bound: 0 };
         typed.part_read_write_locks();
         if typed.random.percent(50) {
@@ -106,9 +110,47 @@ impl<'r> Typed<'r> {
     }
 
     fn push(&mut self, word: Word, number: u32, kind: usize) {
-        let is_start = word == Word::Spawn && self.random.percent(60);
+        let is_start = word == Word::Call || word == Word::Spawn && self.random.percent(60);
         let start = is_start.then(|| self.random.below(self.draft.maps.len()));
         self.draft.steps.push(Step { word, number, kind, post: 0, start });
+    }
+
+    /// One procedure or two, with any maps; what they start and end with is most often nothing.
+    fn procedures(&mut self, size: usize) {
+        let nothing = self.draft.number_of(Map::default());
+        let count = 1 + self.random.below(2);
+        let mut planned = Vec::new();
+        for _ in 0..count {
+            let (types, maps) = (self.draft.types.len(), self.draft.maps.len());
+            let [before, after] = [(); 2].map(|()| self.random.pick(&[nothing, nothing, self.draft.start()]));
+            let before = if self.random.percent(20) { self.random.below(maps) } else { before };
+            let result = if self.random.percent(60) { 0 } else { self.random.below(types) };
+            let argument = self.random.below(types);
+            planned.push(Procedure { variable: self.bound, body: 0, before, argument, after, result });
+            self.bound += 1;
+        }
+        self.draft.procedures = Some(planned.clone());
+        for (own, Procedure { variable, argument, result, .. }) in planned.into_iter().enumerate() {
+            let body = self.draft.steps.len();
+            self.draft.procedures.iter_mut().flatten().nth(own).expect("it was planned").body = body;
+            self.scope = vec![(variable, argument)];
+            let size = self.random.below(size.min(12));
+            self.expression(result, size);
+            self.scope.clear();
+        }
+    }
+
+    /// A call of a procedure that gives this type, if there is one.
+    fn call(&mut self, kind: usize, size: usize) -> bool {
+        let of = self.draft.procedures();
+        let meant: Vec<usize> = (0..of.len()).filter(|&own| self.draft.agree(of[own].result, kind)).collect();
+        !meant.is_empty() && {
+            let own = self.random.pick(&meant);
+            let argument = self.draft.procedures()[own].argument;
+            self.push(Word::Call, own as u32, kind);
+            self.expression(argument, size.min(3) - 1);
+            true
+        }
     }
 
     /// A type drawn among those that meet a test.
@@ -120,6 +162,10 @@ impl<'r> Typed<'r> {
     /// An expression of this type, of about `size` steps.
     fn expression(&mut self, kind: usize, size: usize) {
         use Word::*;
+        let has_procedures = !self.draft.procedures().is_empty();
+        if has_procedures && size > 1 && self.random.percent(25) && self.call(kind, size) {
+            return;
+        }
         let words: &[Word] = match (size, self.draft.types[kind]) {
             (0..=1, _) => &[],
             (_, Type::Int) => &[

@@ -11,7 +11,7 @@ mod sheet;
 #[cfg(test)]
 mod tests;
 
-use super::conditions::{each_step, start_at_most_one};
+use super::conditions::{each_line, start_at_most_one};
 use super::{at_most, program, split};
 use crate::answer::{Returned, GIVEN_MAPS, PROGRAM_BYTES, SPLIT_BYTES, WHOLE, WORK_SPACE};
 use inequalities::Inequalities;
@@ -32,14 +32,14 @@ pub fn fill(program: &[u8], split: &[u8], room: usize, out: &mut [u8]) -> Return
 fn filled(program: &[u8], sheet: &[u8], room: usize, buffer: usize) -> Result<Vec<u8>, Returned> {
     at_most(1, WORK_SPACE, room)?;
     at_most(10, program.len(), PROGRAM_BYTES)?;
-    let steps = program::read(program)?;
+    let program = program::read(program)?;
     at_most(20, sheet.len(), SPLIT_BYTES)?;
-    let split = split::read(sheet, &steps, Posts::Left)?;
+    let split = split::read(sheet, &program, Posts::Left)?;
     at_most(43, split.maps, GIVEN_MAPS as usize)?;
     split.check_loads()?;
-    start_at_most_one(&split)?;
+    start_at_most_one(&program, &split)?;
     let mut inequalities = Inequalities::new(&split);
-    each_step(&steps, &split, &mut inequalities)?;
+    each_line(&program, &split, &mut inequalities)?;
     let posts = inequalities.greatest().ok_or(Returned::at_line(41, 0))?;
     let too_great = posts.iter().flatten().any(|&number| number > i128::from(WHOLE));
     at_most(42, usize::from(too_great), 0)?;

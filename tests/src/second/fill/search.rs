@@ -5,29 +5,29 @@ use crate::draw::draft::Draft;
 use crate::draw::random::Random;
 use crate::draw::unfilled::emptied::{emptied, Kept};
 use crate::draw::unfilled::typed;
-use crate::second::conditions::{check, each_step};
-use crate::second::program::{self, Step};
+use crate::second::conditions::{check, each_line};
+use crate::second::program::{self, Program};
 use crate::second::split::{self, Posts, Split};
 
 /// The greatest number that the search tries.
 const MOST: usize = 4;
 
 /// Whether the second checker accepts a sheet with these numbers as its maps afterwards.
-fn accepts(steps: &[Step], split: &mut Split, choice: &[usize]) -> bool {
+fn accepts(program: &Program, split: &mut Split, choice: &[usize]) -> bool {
     let first = split.maps + 1;
     split.marks.iter_mut().zip(choice).for_each(|(mark, &number)| mark.post = first + number);
-    check(steps, split).is_ok()
+    check(program, split).is_ok()
 }
 
 /// The greatest number of each step in all choices that the second checker accepts; it must accept these
 /// together. None when it accepts no choice.
-fn searched(steps: &[Step], unfilled: &Split) -> Option<Vec<usize>> {
+fn searched(program: &Program, unfilled: &Split) -> Option<Vec<usize>> {
     let mut split = unfilled.clone();
     split.numbers.extend(0..=MOST as u32);
-    let mut choice = vec![0; steps.len()];
+    let mut choice = vec![0; program.steps.len()];
     let mut greatest: Option<Vec<usize>> = None;
     loop {
-        if accepts(steps, &mut split, &choice) {
+        if accepts(program, &mut split, &choice) {
             let known = greatest.get_or_insert_with(|| choice.clone());
             known.iter_mut().zip(&choice).for_each(|(known, &number)| *known = number.max(*known));
         }
@@ -35,14 +35,14 @@ fn searched(steps: &[Step], unfilled: &Split) -> Option<Vec<usize>> {
         choice[..next].fill(0);
         choice[next] += 1;
     }
-    assert!(greatest.iter().all(|greatest| accepts(steps, &mut split, greatest)));
+    assert!(greatest.iter().all(|greatest| accepts(program, &mut split, greatest)));
     greatest
 }
 
 /// What the filler finds, however large.
-fn found(steps: &[Step], split: &Split) -> Option<Vec<i128>> {
+fn found(program: &Program, split: &Split) -> Option<Vec<i128>> {
     let mut inequalities = Inequalities::new(split);
-    each_step(steps, split, &mut inequalities).expect("the types agree");
+    each_line(program, split, &mut inequalities).expect("the types agree");
     Some(inequalities.greatest()?.iter().map(|post| post[0]).collect())
 }
 
@@ -65,9 +65,9 @@ fn small_sheets_have_the_maps_that_a_search_finds() {
     for number in 0..1_000 {
         let draft = small(&mut Random::new(8, number));
         let sheet = emptied(&draft.split(), Kept::All).expect("a draft has every line");
-        let steps = program::read(&draft.program()).expect("a draft is well formed");
-        let split = split::read(&sheet, &steps, Posts::Left).expect("a draft is well formed");
-        match (found(&steps, &split), searched(&steps, &split)) {
+        let program = program::read(&draft.program()).expect("a draft is well formed");
+        let split = split::read(&sheet, &program, Posts::Left).expect("a draft is well formed");
+        match (found(&program, &split), searched(&program, &split)) {
             (None, None) => neither += 1,
             (Some(found), Some(searched)) if found.iter().all(|&number| number <= MOST as i128) => {
                 let searched: Vec<i128> = searched.iter().map(|&number| number as i128).collect();

@@ -2,18 +2,20 @@
 
 use crate::second::split::Split;
 
-/// The sheet with these maps behind the given ones, and each step naming its own.
+/// The sheet with these maps behind the given ones, before the procedures, and each step naming its own.
 pub fn with_posts(sheet: &[u8], split: &Split, posts: &[Vec<i128>]) -> Vec<u8> {
     let sheet = std::str::from_utf8(sheet).expect("a sheet that was read is ASCII");
     let (head, rest) = sheet.split_once('\n').expect("a sheet that was read has a head");
     let mut lines = vec![with_field(head, 4, split.maps + posts.len())];
-    let (mut given, mut rows): (Vec<&str>, Vec<&str>) = (rest.lines().collect(), Vec::new());
-    rows.extend(given.drain(split.types.len() + split.maps..));
-    lines.extend(given.into_iter().map(String::from));
+    let given: Vec<&str> = rest.lines().collect();
+    let (given, behind) = given.split_at(split.types.len() + split.maps);
+    let (signatures, rows) = behind.split_at(split.signatures.len());
+    lines.extend(given.iter().copied().map(String::from));
     for post in posts {
         let numerals: Vec<String> = post.iter().map(i128::to_string).collect();
         lines.push(numerals.join(","));
     }
+    lines.extend(signatures.iter().copied().map(String::from));
     lines.extend(rows.iter().enumerate().map(|(step, row)| with_field(row, 1, split.maps + step)));
     (lines.join("\n") + "\n").into_bytes()
 }

@@ -11,13 +11,13 @@ use Rattle.fill.proofs.maps.fill_maps.Statement.{statement}
 use Rattle.fill.proofs.maps.fill_maps.Tie as tie
 
 abbrev Inv-loop : tie.InvT-loop
-Inv-loop work₀ steps denominator locations maps start large₀ l₀ work large l = (l ≤ locations) × SoFar work₀ work steps denominator locations maps (start .0) l large
+Inv-loop work₀ steps procedures denominator locations maps start large₀ l₀ work large l = (l ≤ locations) × SoFar work₀ work steps procedures denominator locations maps (start .0) l large
 
 abbrev μ-loop : tie.MeasureT-loop
-μ-loop work₀ steps denominator locations maps start large₀ l₀ work large l = locations - l
+μ-loop work₀ steps procedures denominator locations maps start large₀ l₀ work large l = locations - l
 
 loop-holds : tie.Need-loop-holds Inv-loop μ-loop
-loop-holds c = (omega arith, none-so-far _ _ _ _ _ _)
+loop-holds c = (omega arith, none-so-far _ _ _ _ _ _ _)
 
 cast-number : tie.Need-cast-number Inv-loop μ-loop
 cast-number c =
@@ -35,7 +35,7 @@ returns c =
     let at-column = c .before .before .before .before in
     let turn = at-column .before .before in
     let (_, Z) = turn .before .loop .inv in
-    filled-nothing _ _ _ _ _ _ _ _ _ Z (turn .loop-test .taken) (rw (c .enum-told .given .1) at (at-column .fill-column .ensures))
+    filled-nothing _ _ _ _ _ _ _ _ _ _ Z (turn .loop-test .taken) (rw (c .enum-told .given .1) at (at-column .fill-column .ensures))
 
 loop-again : tie.Need-loop-again Inv-loop μ-loop
 loop-again c =
@@ -45,15 +45,15 @@ loop-again c =
     let within = turn .loop-test .taken in (
       omega arith,
       ⊎-elim
-          (λ came. rw (came .2) (large-again _ _ _ _ _ _ _ _ _ _ Z within (rw (came .1 .given .1) at (at-column .fill-column .ensures))))
-          (λ came. rw (came .2) (maps-again _ _ _ _ _ _ _ _ _ _ Z within (rw (came .1 .given .1) at (at-column .fill-column .ensures))))
+          (λ came. rw (came .2) (large-again _ _ _ _ _ _ _ _ _ _ _ Z within (rw (came .1 .given .1) at (at-column .fill-column .ensures))))
+          (λ came. rw (came .2) (maps-again _ _ _ _ _ _ _ _ _ _ _ Z within (rw (came .1 .given .1) at (at-column .fill-column .ensures))))
           (c .match .came),
     )
 
 returns-2 : tie.Need-returns-2 Inv-loop μ-loop
 returns-2 c =
     let (at-most, Z) = c .before .before .loop .inv in
-    filled-large _ _ _ _ _ _ _ _ _ Z (omega (arith, c .before .loop-test .left)) (c .if1 .taken)
+    filled-large _ _ _ _ _ _ _ _ _ _ Z (omega (arith, c .before .loop-test .left)) (c .if1 .taken)
 
 show-maps-requires : tie.Need-show-maps-requires Inv-loop μ-loop
 show-maps-requires c κs =
@@ -68,7 +68,7 @@ returns-3 c =
     let ended = test .before in
     let (at-most, Z) = ended .before .loop .inv in
     let G = ended .before .before .before .pre in
-    filled-maps _ _ _ _ _ _ _ _ _ Z (omega (arith, ended .loop-test .left)) (test .if1 .left) (G .few) (G .long) _ (at-show .show-maps .ensures)
+    filled-maps _ _ _ _ _ _ _ _ _ _ Z (omega (arith, ended .loop-test .left)) (test .if1 .left) (G .few) (G .long) _ (at-show .show-maps .ensures)
 
 pub fill-maps-spec : {M : Type 1} → statement M
 fill-maps-spec =

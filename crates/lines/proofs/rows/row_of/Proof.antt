@@ -1,10 +1,11 @@
 -- The two numbers of a row, and then its start, given or not.
-use mathlib.Core.Path.{_≡_, sym, _∙_}
+use mathlib.Core.Path.{_≡_, sym, ap, _∙_}
 use mathlib.Core.Bool.{true}
 use native.Mathlib.Omega.{arith}
 use borrow.Author.Tests.{not-true, not-false}
 use Rattle.spec.specs.Split.{Header, startRange}
 use Rattle.workspace.specs.Sheets.{headerTold}
+use Rattle.lines.specs.declared.rows.RowRead.the-variants as row-read
 use Rattle.lines.proofs.Tests.{in-below, out-below}
 use Rattle.lines.proofs.RowLaws.{fits, row-out, start-out, start-in, start-wanted, start-left}
 use borrow.Author.Needs.{needs}
@@ -40,11 +41,13 @@ returns-2 c =
 returns-3 : tie.Need-returns-3
 unfolding headerTold
 returns-3 c =
-    let empty = c .before .before in
+    let unwanted = c .before in
+    let empty = unwanted .before .before in
     let ranged = empty .before .before in
     let s = ranged .before in
-    start-wanted _ (start s .args .row) (start s .args .word) (header s) _ (in-ranges ranged) (empty .enum-told .given .1)
-    (sym (c .before .may-be-empty .ensures) ∙ not-true _ (c .if3 .taken))
+    ap row-read.Refused (c .empty-refusal .ensures)
+    ∙ start-wanted _ (start s .args .row) (start s .args .word) (header s) _ (in-ranges ranged) (empty .enum-told .given .1)
+    (sym (unwanted .before .may-be-empty .ensures) ∙ not-true _ (unwanted .if3 .taken))
 
 returns-4 : tie.Need-returns-4
 unfolding headerTold startRange
@@ -76,6 +79,7 @@ row-of-spec =
     (λ c κs. search needs)
     returns-2
     (λ c. search needs)
+    (λ c κs. search needs)
     (λ c κs. search needs)
     returns-3
     returns-4

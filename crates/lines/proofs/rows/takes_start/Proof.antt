@@ -3,6 +3,10 @@ use borrow.Author.Needs.{needs}
 use Rattle.lines.proofs.rows.takes_start.Statement.{statement}
 use Rattle.lines.proofs.rows.takes_start.Tie as tie
 
+returns-2 : tie.Need-returns-2
+unfolding takesStart
+returns-2 c = rw (c .before .before .word .given .1) (c .calls .ensures)
+
 pub takes-start-spec : {M : Type 1} → statement M
 unfolding takesStart
 takes-start-spec =
@@ -10,13 +14,14 @@ takes-start-spec =
     (tie.spec
     (λ c. search needs)
     (λ c. search needs)
+    (λ c κs. search needs)
     (λ c. search needs)
     (λ c. search needs)
     (λ c. search needs)
     (λ c. search needs)
     (λ c. search needs)
     (λ c. search needs)
-    (λ c. search needs)
+    returns-2
     (λ c. search needs)
     (λ c. search needs)
     (λ c. search needs)

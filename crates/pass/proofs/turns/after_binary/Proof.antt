@@ -8,13 +8,16 @@ use Rattle.pass.proofs.turns.after_binary.Tie as tie
 least-requires : tie.Need-least-requires
 least-requires c κs = tt
 
+least-requires-2 : tie.Need-least-requires-2
+least-requires-2 c κs = tt
+
 taking-requires : tie.Need-taking-requires
 taking-requires c κs = tt
 
 returns : tie.Need-returns
 returns c =
     let paid = c .before .before in
-    fork-paid _ _ _ _ _ (paid .before .before .way2 .given .1) (paid .if1 .taken) (c .before .taking .ensures) (c .turn2 .ensures)
+    fork-paid _ _ _ _ _ _ (paid .before .before .way2 .given .1) (paid .if1 .taken) (c .before .taking .ensures) (c .turn2 .ensures)
 
 returns-2 : tie.Need-returns-2
 unfolding afterBinary
@@ -22,10 +25,10 @@ returns-2 c = rw (c .before .before .way .given .1) (c .turn .ensures)
 
 returns-3 : tie.Need-returns-3
 unfolding afterBinary
-returns-3 c = rw (c .before .enum-told .given .1, c .least .ensures)
+returns-3 c = rw (c .before .before .enum-told .given .1, c .least2 .ensures, c .before .least .ensures)
 
 returns-4 : tie.Need-returns-4
-returns-4 c = fork-unpaid _ _ _ (c .before .before .way2 .given .1) (c .if1 .left)
+returns-4 c = fork-unpaid _ _ _ _ (c .before .before .way2 .given .1) (c .if1 .left)
 
 pub after-binary-spec : {M : Type 1} → statement M
 after-binary-spec =
@@ -35,6 +38,7 @@ after-binary-spec =
     (λ c κs. search needs)
     (λ c. search needs)
     least-requires
+    least-requires-2
     (λ c. search needs)
     (λ c. search needs)
     taking-requires

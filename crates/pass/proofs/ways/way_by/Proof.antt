@@ -124,6 +124,8 @@ way-by-spec =
     (λ c. search needs)
     (λ c κs. search needs)
     taking-requires-5
+    (λ c. search needs)
+    (λ c κs. search needs)
     (λ c. rw (c .before .enum-told .given .1) (ap Leaf (c .unchanged .ensures)))
     (λ c. rw (c .before .enum-told2 .given .1) (ap Leaf (c .unchanged2 .ensures)))
     (λ c. rw (c .before .enum-told3 .given .1) (ap (λ E. Binary (InTurn E)) (c .unchanged3 .ensures)))
@@ -145,4 +147,5 @@ way-by-spec =
     (λ c. rw (c .before .before .enum-told19 .given .1) (ap (λ E. Unary (After E)) (c .giving4 .ensures ∙ ap giving (c .before .read-load-in .ensures))))
     (λ c. rw (c .before .before .enum-told20 .given .1) (ap (λ E. Unary (After E)) (c .taking4 .ensures ∙ ap taking (c .before .read-load-in2 .ensures))))
     (λ c. rw (c .before .before .enum-told21 .given .1) (ap (λ E. Unary (After E)) (c .giving5 .ensures ∙ ap giving (c .before .write-load-in .ensures))))
-    (λ c. rw (c .before .before .enum-told22 .given .1) (ap (λ E. Unary (After E)) (c .taking5 .ensures ∙ ap taking (c .before .write-load-in2 .ensures)))))
+    (λ c. rw (c .before .before .enum-told22 .given .1) (ap (λ E. Unary (After E)) (c .taking5 .ensures ∙ ap taking (c .before .write-load-in2 .ensures))))
+    (λ c. rw (c .before .enum-told23 .given .1) (ap Unary (c .calling-in .ensures))))

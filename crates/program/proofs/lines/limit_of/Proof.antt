@@ -4,6 +4,9 @@ use borrow.Author.Needs.{needs}
 use Rattle.program.proofs.lines.limit_of.Statement.{statement}
 use Rattle.program.proofs.lines.limit_of.Tie as tie
 
+returns-7 : tie.Need-returns-7
+returns-7 c = rw (c .before .before .w2 .given .1) (c .call-limit .ensures)
+
 pub limit-of-spec : {M : Type 1} → statement M
 unfolding largestValue
 limit-of-spec =
@@ -17,6 +20,7 @@ limit-of-spec =
     (λ c. search needs)
     (λ c. search needs)
     (λ c. search needs)
+    (λ c κs. search needs)
     (λ c. search needs)
     (λ c. search needs)
     (λ c. search needs)
@@ -28,7 +32,7 @@ limit-of-spec =
     (λ c. search needs)
     (λ c. search needs)
     (λ c. search needs)
-    (λ c. search needs)
+    returns-7
     (λ c. search needs)
     (λ c. search needs)
     (λ c. search needs)

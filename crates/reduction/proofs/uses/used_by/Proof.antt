@@ -91,6 +91,10 @@ returns-22 : tie.Need-returns-22
 unfolding usedBy
 returns-22 c = rw (c .wrunlocked .ensures, c .before .enum-told22 .given .1)
 
+returns-23 : tie.Need-returns-23
+unfolding usedBy
+returns-23 c = rw (c .enum-told23 .given .1)
+
 pub used-by-spec : {M : Type 1} → statement M
 used-by-spec =
     tie.close
@@ -134,6 +138,7 @@ used-by-spec =
     (λ c κs. search needs)
     (λ c. search needs)
     (λ c κs. search needs)
+    (λ c. search needs)
     returns
     returns-2
     returns-3
@@ -155,4 +160,5 @@ used-by-spec =
     returns-19
     returns-20
     returns-21
-    returns-22)
+    returns-22
+    returns-23)

@@ -5,11 +5,11 @@ use Rattle.reduction.proofs.uses.wrunlocked.Tie as tie
 
 returns : tie.Need-returns
 unfolding wrunlockedOf
-returns c = rw (eq-eqb _ _ (c .if1 .taken))
+returns c = rw (eq-eqb _ 6 (c .if1 .taken))
 
 returns-2 : tie.Need-returns-2
 unfolding wrunlockedOf
-returns-2 c = rw (ne-eqb _ _ (c .if1 .left))
+returns-2 c = rw (ne-eqb _ 6 (c .if1 .left))
 
 pub wrunlocked-spec : {M : Type 1} → statement M
 wrunlocked-spec = tie.close (tie.spec returns returns-2)

@@ -26,19 +26,23 @@ returns-5 c = rw (← c .before .before .use-word2 .ensures, sym (c .before .bef
 
 returns-6 : tie.Need-returns-6
 unfolding acted actedBy
-returns-6 c = rw (← c .before .before .bind .ensures, sym (c .before .before .before .before .before .before .shape-at .ensures) ∙ c .before .before .before .before .enum-told6 .given .1)
+returns-6 c = rw (c .before .before .call .ensures .0, c .before .before .call .ensures .1, sym (c .before .before .before .before .before .before .shape-at .ensures) ∙ c .before .before .before .before .enum-told6 .given .1)
 
 returns-7 : tie.Need-returns-7
 unfolding acted actedBy
-returns-7 c = rw (c .branch .ensures, sym (c .before .before .before .shape-at .ensures) ∙ c .before .enum-told7 .given .1)
+returns-7 c = rw (← c .before .before .bind .ensures, sym (c .before .before .before .before .before .before .shape-at .ensures) ∙ c .before .before .before .before .enum-told7 .given .1)
 
 returns-8 : tie.Need-returns-8
 unfolding acted actedBy
-returns-8 c = rw (← c .before .before .use-word3 .ensures, sym (c .before .before .before .before .before .before .shape-at .ensures) ∙ c .before .before .before .before .enum-told8 .given .1)
+returns-8 c = rw (c .branch .ensures, sym (c .before .before .before .shape-at .ensures) ∙ c .before .enum-told8 .given .1)
 
 returns-9 : tie.Need-returns-9
 unfolding acted actedBy
-returns-9 c = rw (← c .before .before .use-word4 .ensures, sym (c .before .before .before .before .before .before .shape-at .ensures) ∙ c .before .before .before .before .enum-told9 .given .1)
+returns-9 c = rw (← c .before .before .use-word3 .ensures, sym (c .before .before .before .before .before .before .shape-at .ensures) ∙ c .before .before .before .before .enum-told9 .given .1)
+
+returns-10 : tie.Need-returns-10
+unfolding acted actedBy
+returns-10 c = rw (← c .before .before .use-word4 .ensures, sym (c .before .before .before .before .before .before .shape-at .ensures) ∙ c .before .before .before .before .enum-told10 .given .1)
 
 pub reduce-spec : {M : Type 1} → statement M
 reduce-spec =
@@ -47,6 +51,8 @@ reduce-spec =
     (λ c κs. search needs)
     (λ c. search needs)
     (λ c. search needs)
+    (λ c. search needs)
+    (λ c κs. search needs)
     (λ c. search needs)
     (λ c κs. search needs)
     (λ c. search needs)
@@ -70,8 +76,10 @@ reduce-spec =
     returns-5
     (λ c. search needs)
     returns-6
-    returns-7
     (λ c. search needs)
+    returns-7
     returns-8
     (λ c. search needs)
-    returns-9)
+    returns-9
+    (λ c. search needs)
+    returns-10)

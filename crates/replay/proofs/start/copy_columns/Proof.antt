@@ -10,7 +10,7 @@ abbrev Inv-loop : tie.InvT-loop
 Inv-loop columns₀ space i₀ columns i = CopiedTo i space columns
 
 abbrev μ-loop : tie.MeasureT-loop
-μ-loop columns₀ space i₀ columns i = 1280 - i
+μ-loop columns₀ space i₀ columns i = 2176 - i
 
 loop-holds : tie.Need-loop-holds Inv-loop μ-loop
 loop-holds c = copy-none _ _ (c .before .before .pre)

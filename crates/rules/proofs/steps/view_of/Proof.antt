@@ -5,7 +5,8 @@ use Rattle.rules.proofs.steps.view_of.Tie as tie
 
 returns : tie.Need-returns
 returns c =
-    let post₁ = c .before in
+    let post₂ = c .before in
+    let post₁ = post₂ .before in
     let start = post₁ .before in
     let post = start .before in
     let pre = post .before in
@@ -13,22 +14,23 @@ returns c =
     let type₂ = bound .before in
     let type₁ = type₂ .before in
     let typed = type₁ .before in
-    let value = typed .before in
-    let line = value .before in
-    let binder = line .before in
+    let line = typed .before in
+    let value = line .before in
+    let binder = value .before in
     let second = binder .before in
     rw (
-      c .cell13 .ensures,
-      post₁ .cell12 .ensures,
-      start .cell11 .ensures,
-      post .cell10 .ensures,
-      pre .cell9 .ensures,
-      bound .cell8 .ensures,
+      c .signature-of .ensures,
+      post₂ .cell12 .ensures,
+      post₁ .cell11 .ensures,
+      start .cell10 .ensures,
+      post .cell9 .ensures,
+      pre .cell8 .ensures,
+      bound .bound-of .ensures,
       type₂ .cell7 .ensures,
       type₁ .cell6 .ensures,
       typed .cell5 .ensures,
-      value .cell4 .ensures,
-      line .cell3 .ensures,
+      line .cell4 .ensures,
+      value .cell3 .ensures,
       binder .cell2 .ensures,
       second .cell .ensures,
     )
@@ -46,12 +48,12 @@ view-of-spec =
     (λ c. search needs)
     (λ c κs. search needs)
     (λ c κs. search needs)
-    (λ c. search needs)
     (λ c κs. search needs)
     (λ c κs. search needs)
     (λ c κs. search needs)
     (λ c κs. search needs)
     (λ c. search needs)
+    (λ c κs. search needs)
     (λ c κs. search needs)
     (λ c κs. search needs)
     returns)

@@ -1,0 +1,284 @@
+-- The open calls of a thread are the marks in its frames: a mark stands for a call that was taken at the path of the frames behind it.
+use Prim.Native.Nat.{suc}
+use mathlib.Core.Path.{_≡_, refl, _∙_, ap}
+use mathlib.Core.Bool.{Bool, true, false, not}
+use mathlib.Core.List.{List, [], _∷_}
+use lib.ListN.{length}
+use Rattle.spec.specs.Choice.{if_then_else_}
+use Rattle.spec.specs.Expression.{Position, Expr, leaf, unary, binary}
+use Rattle.spec.specs.declared.LeafWord.the-variants.{Var, Int, Newtid, Newlock, Newsem, Newrwlock}
+use Rattle.spec.specs.declared.UnaryWord.the-variants.{While, Join, Ref, Read, Lock, Unlock, Post, Wait, Rdlock, Rdunlock, Wrlock, Wrunlock, Call}
+use Rattle.spec.specs.declared.BinaryWord.the-variants.{Let, If, Spawn, Write}
+use Rattle.calculus.specs.Expression.{Value, int, Unary, join, ref, read, lock, unlock, post, wait, hold, rdlock, rdunlock, wrlock, wrunlock, call, newtid, newlock, newsem, newrwlock, Exp, value, Redex, Next, atWord, nextWord}
+use Rattle.calculus.specs.State.{first, second}
+use Rattle.replaying.specs.Paths.{Path, once, nextPath, onlyPart, partOf, partAt}
+use Rattle.replaying.specs.Run.{hasFinished, isOpen, openIn}
+use Rattle.machine.specs.Environment.{Env, closed}
+use Rattle.machine.specs.Control.{Frame, letFrame, spawnFrame, writeFirst, writeSecond, unaryFrame, againFrame, markFrame, around, fill, Word, letWord, ifWord, whileWord, spawnWord, writeWord, unaryWord, makeWord, unrolledWord, againWord, wordExp, Control, done, at, decode, seekPart, seek, return, enter, runPart, marks, openCalls}
+use Rattle.machine.proofs.Decoding.{return-keeps, next-around, word-is-next}
+
+-- ---- Paths of frames
+
+-- The path of what stands within the frames, and there at the path p.
+abbrev pub pathFrom : List Frame → Path → Path
+pathFrom [] p = p
+pathFrom (letFrame k x e ∷ K) p = pathFrom K (first ∷ p)
+pathFrom (spawnFrame k e ∷ K) p = pathFrom K (first ∷ p)
+pathFrom (writeFirst k e ∷ K) p = pathFrom K (first ∷ p)
+pathFrom (writeSecond k v ∷ K) p = pathFrom K (second ∷ p)
+pathFrom (unaryFrame k o ∷ K) p = pathFrom K (first ∷ p)
+pathFrom (againFrame k e ∷ K) p = pathFrom K (first ∷ p)
+pathFrom (markFrame σ ∷ K) p = pathFrom K p
+
+-- The paths of the marks, the innermost first.
+abbrev pub paths : List Frame → List Path
+paths [] = []
+paths (letFrame k x e ∷ K) = paths K
+paths (spawnFrame k e ∷ K) = paths K
+paths (writeFirst k e ∷ K) = paths K
+paths (writeSecond k v ∷ K) = paths K
+paths (unaryFrame k o ∷ K) = paths K
+paths (againFrame k e ∷ K) = paths K
+paths (markFrame σ ∷ K) = pathFrom K [] ∷ paths K
+
+abbrev pub callPaths : Control → List Path
+callPaths (done v) = []
+callPaths (at σ w K) = paths K
+
+abbrev pub wordPath : Control → Path
+wordPath (done v) = []
+wordPath (at σ w K) = pathFrom K []
+
+paths-counted : (K : List Frame) → length (paths K) ≡ marks K
+unfolding marks
+paths-counted [] = refl
+paths-counted (letFrame k x e ∷ K) = paths-counted K
+paths-counted (spawnFrame k e ∷ K) = paths-counted K
+paths-counted (writeFirst k e ∷ K) = paths-counted K
+paths-counted (writeSecond k v ∷ K) = paths-counted K
+paths-counted (unaryFrame k o ∷ K) = paths-counted K
+paths-counted (againFrame k e ∷ K) = paths-counted K
+paths-counted (markFrame σ ∷ K) = ap suc (paths-counted K)
+
+pub calls-counted : (b : Control) → length (callPaths b) ≡ openCalls b
+unfolding openCalls
+calls-counted (done v) = refl
+calls-counted (at σ w K) = paths-counted K
+
+-- ---- What stands at a path
+
+part-found : (σ : Env) (K : List Frame) (E : Exp) (p : Path) → partAt (pathFrom K p) (fill σ K E) ≡ partAt p E
+unfolding partAt partOf onlyPart
+part-found σ [] E p = refl
+part-found σ (letFrame k x e ∷ K) E p = part-found σ K (around σ (letFrame k x e) E) (first ∷ p)
+part-found σ (spawnFrame k e ∷ K) E p = part-found σ K (around σ (spawnFrame k e) E) (first ∷ p)
+part-found σ (writeFirst k e ∷ K) E p = part-found σ K (around σ (writeFirst k e) E) (first ∷ p)
+part-found σ (writeSecond k v ∷ K) E p = part-found σ K (around σ (writeSecond k v) E) (second ∷ p)
+part-found σ (unaryFrame k o ∷ K) E p = part-found σ K (around σ (unaryFrame k o) E) (first ∷ p)
+part-found σ (againFrame k e ∷ K) E p = part-found σ K (around σ (againFrame k e) E) (first ∷ p)
+part-found σ (markFrame σ′ ∷ K) E p = part-found σ′ K E p
+
+path-found : {r : Redex} (σ : Env) (K : List Frame) (E : Exp) → nextWord E ≡ atWord r → nextPath (fill σ K E) ≡ pathFrom K (nextPath E)
+unfolding nextPath once
+path-found σ [] E h = refl
+path-found σ (letFrame k x e ∷ K) E h =
+    path-found σ K (around σ (letFrame k x e) E) (next-around σ (letFrame k x e) E h)
+    ∙ ap (λ (q : Next). pathFrom K (once q [] (first ∷ nextPath E))) h
+path-found σ (spawnFrame k e ∷ K) E h =
+    path-found σ K (around σ (spawnFrame k e) E) (next-around σ (spawnFrame k e) E h)
+    ∙ ap (λ (q : Next). pathFrom K (once q [] (first ∷ nextPath E))) h
+path-found σ (writeFirst k e ∷ K) E h =
+    path-found σ K (around σ (writeFirst k e) E) (next-around σ (writeFirst k e) E h)
+    ∙ ap (λ (q : Next). pathFrom K (once q (once (nextWord (closed σ e)) [] (second ∷ nextPath (closed σ e))) (first ∷ nextPath E))) h
+path-found σ (writeSecond k v ∷ K) E h =
+    path-found σ K (around σ (writeSecond k v) E) (next-around σ (writeSecond k v) E h)
+    ∙ ap (λ (q : Next). pathFrom K (once q [] (second ∷ nextPath E))) h
+path-found σ (unaryFrame k o ∷ K) E h =
+    path-found σ K (around σ (unaryFrame k o) E) (next-around σ (unaryFrame k o) E h)
+    ∙ ap (λ (q : Next). pathFrom K (once q [] (first ∷ nextPath E))) h
+path-found σ (againFrame k e ∷ K) E h =
+    path-found σ K (around σ (againFrame k e) E) (next-around σ (againFrame k e) E h)
+    ∙ ap (λ (q : Next). pathFrom K (once q [] (first ∷ nextPath E))) h
+path-found σ (markFrame σ′ ∷ K) E h = path-found σ′ K E h
+
+word-is-here : (σ : Env) (w : Word) → nextPath (wordExp σ w) ≡ []
+unfolding nextPath once
+word-is-here σ (letWord k x v e) = refl
+word-is-here σ (ifWord k e₁ e₂) = refl
+word-is-here σ (whileWord k e) = refl
+word-is-here σ (spawnWord k v e) = refl
+word-is-here σ (writeWord k v u) = refl
+word-is-here σ (unaryWord k o v) = refl
+word-is-here σ (makeWord k o) = refl
+word-is-here σ (unrolledWord k e) = refl
+word-is-here σ (againWord k v e) = refl
+
+pub path-of-decoded : (b : Control) → nextPath (decode b) ≡ wordPath b
+unfolding nextPath
+path-of-decoded (done v) = refl
+path-of-decoded (at σ w K) = path-found σ K (wordExp σ w) (word-is-next σ w) ∙ ap (pathFrom K) (word-is-here σ w)
+
+-- ---- Which calls are open
+
+-- Of those calls, the control has the open ones.
+abbrev pub Tells : Control → List Path → Type 0
+Tells b ps = openIn (decode b) ps ≡ callPaths b
+
+open-first : (e : Exp) (q : Path) (ps : List Path) (b : Bool) → isOpen (partAt q e) ≡ b → openIn e (q ∷ ps) ≡ (if b then (q ∷ openIn e ps) else openIn e ps)
+unfolding openIn
+open-first e q ps b h = ap (λ (c : Bool). if c then (q ∷ openIn e ps) else openIn e ps) h
+
+-- Around a word every call is open.
+still-open : {r : Redex} (σ : Env) (K : List Frame) (E : Exp) → nextWord E ≡ atWord r → openIn (fill σ K E) (paths K) ≡ paths K
+unfolding openIn isOpen hasFinished partAt
+still-open σ [] E h = refl
+still-open σ (letFrame k x e ∷ K) E h = still-open σ K (around σ (letFrame k x e) E) (next-around σ (letFrame k x e) E h)
+still-open σ (spawnFrame k e ∷ K) E h = still-open σ K (around σ (spawnFrame k e) E) (next-around σ (spawnFrame k e) E h)
+still-open σ (writeFirst k e ∷ K) E h = still-open σ K (around σ (writeFirst k e) E) (next-around σ (writeFirst k e) E h)
+still-open σ (writeSecond k v ∷ K) E h = still-open σ K (around σ (writeSecond k v) E) (next-around σ (writeSecond k v) E h)
+still-open σ (unaryFrame k o ∷ K) E h = still-open σ K (around σ (unaryFrame k o) E) (next-around σ (unaryFrame k o) E h)
+still-open σ (againFrame k e ∷ K) E h = still-open σ K (around σ (againFrame k e) E) (next-around σ (againFrame k e) E h)
+still-open σ (markFrame σ′ ∷ K) E h =
+    open-first (fill σ′ K E) (pathFrom K []) (paths K) true
+    (ap isOpen (part-found σ′ K E []) ∙ ap (λ (q : Next). not (hasFinished q)) h)
+    ∙ ap (λ (l : List Path). pathFrom K [] ∷ l) (still-open σ′ K E h)
+
+at-tells : (σ : Env) (w : Word) (K : List Frame) → Tells (at σ w K) (paths K)
+at-tells σ w K = still-open σ K (wordExp σ w) (word-is-next σ w)
+
+pub control-tells : (b : Control) → Tells b (callPaths b)
+unfolding openIn
+control-tells (done v) = refl
+control-tells (at σ w K) = at-tells σ w K
+
+abbrev Sought : Env → Expr → Type 0
+Sought σ e = (K : List Frame) (c : Value → Control) → ((v : Value) → Tells (c v) (paths K)) → Tells (seek σ e K c) (paths K)
+
+part-tells : (σ : Env) (k : Position) (o : Unary) (e : Expr) (K : List Frame) → Sought σ e → Tells (seekPart σ k o K (seek σ e)) (paths K)
+part-tells σ k o e K sought = sought (unaryFrame k o ∷ K) (λ v. at σ (unaryWord k o v) K) (λ v. at-tells σ (unaryWord k o v) K)
+
+seek-tells : (e : Expr) (σ : Env) → Sought σ e
+seek-tells (leaf Var k x) σ K c h = h (σ x)
+seek-tells (leaf Int k v) σ K c h = h _
+seek-tells (leaf Newtid k v) σ K c h = at-tells σ (makeWord k newtid) K
+seek-tells (leaf Newlock k v) σ K c h = at-tells σ (makeWord k newlock) K
+seek-tells (leaf Newsem k v) σ K c h = at-tells σ (makeWord k newsem) K
+seek-tells (leaf Newrwlock k v) σ K c h = at-tells σ (makeWord k (newrwlock v)) K
+seek-tells (unary While k v e) σ K c h = at-tells σ (whileWord k e) K
+seek-tells (unary Join k v e) σ K c h = part-tells σ k join e K (seek-tells e σ)
+seek-tells (unary Ref k v e) σ K c h = part-tells σ k ref e K (seek-tells e σ)
+seek-tells (unary Read k v e) σ K c h = part-tells σ k read e K (seek-tells e σ)
+seek-tells (unary Lock k v e) σ K c h = part-tells σ k lock e K (seek-tells e σ)
+seek-tells (unary Unlock k v e) σ K c h = part-tells σ k unlock e K (seek-tells e σ)
+seek-tells (unary Post k v e) σ K c h = part-tells σ k post e K (seek-tells e σ)
+seek-tells (unary Wait k v e) σ K c h = part-tells σ k wait e K (seek-tells e σ)
+seek-tells (unary Rdlock k v e) σ K c h = part-tells σ k (hold rdlock) e K (seek-tells e σ)
+seek-tells (unary Rdunlock k v e) σ K c h = part-tells σ k (hold rdunlock) e K (seek-tells e σ)
+seek-tells (unary Wrlock k v e) σ K c h = part-tells σ k (hold wrlock) e K (seek-tells e σ)
+seek-tells (unary Wrunlock k v e) σ K c h = part-tells σ k (hold wrunlock) e K (seek-tells e σ)
+seek-tells (unary Call k v e) σ K c h = part-tells σ k (call v) e K (seek-tells e σ)
+seek-tells (binary Let k x e₁ e₂) σ K c h = seek-tells e₁ σ (letFrame k x e₂ ∷ K) _ (λ v. at-tells σ (letWord k x v e₂) K)
+seek-tells (binary If k v e₁ e₂) σ K c h = at-tells σ (ifWord k e₁ e₂) K
+seek-tells (binary Spawn k v e₁ e₂) σ K c h = seek-tells e₁ σ (spawnFrame k e₂ ∷ K) _ (λ w. at-tells σ (spawnWord k w e₂) K)
+seek-tells (binary Write k v e₁ e₂) σ K c h =
+    seek-tells e₁ σ (writeFirst k e₂ ∷ K) _ (λ w. seek-tells e₂ σ (writeSecond k w ∷ K) _ (λ u. at-tells σ (writeWord k w u) K))
+
+-- A value closes the calls whose marks it meets, and no others.
+pub return-tells : (σ : Env) (v : Value) (K : List Frame) → Tells (return σ v K) (paths K)
+unfolding openIn isOpen hasFinished partAt
+return-tells σ v [] = refl
+return-tells σ v (letFrame k x e ∷ K) = at-tells σ (letWord k x v e) K
+return-tells σ v (spawnFrame k e ∷ K) = at-tells σ (spawnWord k v e) K
+return-tells σ v (writeFirst k e ∷ K) = seek-tells e σ (writeSecond k v ∷ K) _ (λ u. at-tells σ (writeWord k v u) K)
+return-tells σ v (writeSecond k w ∷ K) = at-tells σ (writeWord k w v) K
+return-tells σ v (unaryFrame k o ∷ K) = at-tells σ (unaryWord k o v) K
+return-tells σ v (againFrame k e ∷ K) = at-tells σ (againWord k v e) K
+return-tells σ v (markFrame σ′ ∷ K) =
+    open-first (decode (return σ′ v K)) (pathFrom K []) (paths K) false
+    (ap (λ (E : Exp). isOpen (partAt (pathFrom K []) E)) (return-keeps σ′ v K) ∙ ap isOpen (part-found σ′ K (value v) []))
+    ∙ return-tells σ′ v K
+
+pub enter-tells : (σ : Env) (e : Expr) (K : List Frame) → Tells (enter σ e K) (paths K)
+enter-tells σ e K = seek-tells e σ K (λ v. return σ v K) (λ v. return-tells σ v K)
+
+pub run-part-tells : (σ : Env) (k : Position) (e : Expr) (K : List Frame) → Tells (runPart σ k e K) (paths K)
+run-part-tells σ k e K = seek-tells e σ (againFrame k e ∷ K) _ (λ v. at-tells σ (againWord k v e) K)
+
+-- ---- When a call opens
+
+-- A body that is not a value at once.
+abbrev pub Runs : Expr → Type 0
+Runs (leaf Var k x) = ⊥
+Runs (leaf Int k v) = ⊥
+Runs (leaf Newtid k v) = Unit {0}
+Runs (leaf Newlock k v) = Unit {0}
+Runs (leaf Newsem k v) = Unit {0}
+Runs (leaf Newrwlock k v) = Unit {0}
+Runs (unary w k v e) = Unit {0}
+Runs (binary w k v e₁ e₂) = Unit {0}
+
+seek-marks : (e : Expr) (σ : Env) (K : List Frame) (c : Value → Control) → ((v : Value) → openCalls (c v) ≡ marks K) → openCalls (seek σ e K c) ≡ marks K
+unfolding openCalls marks
+seek-marks (leaf Var k x) σ K c h = h (σ x)
+seek-marks (leaf Int k v) σ K c h = h (int v)
+seek-marks (leaf Newtid k v) σ K c h = refl
+seek-marks (leaf Newlock k v) σ K c h = refl
+seek-marks (leaf Newsem k v) σ K c h = refl
+seek-marks (leaf Newrwlock k v) σ K c h = refl
+seek-marks (unary While k v e) σ K c h = refl
+seek-marks (unary Join k v e) σ K c h = seek-marks e σ (unaryFrame k join ∷ K) (λ u. at σ (unaryWord k join u) K) (λ u. refl)
+seek-marks (unary Ref k v e) σ K c h = seek-marks e σ (unaryFrame k ref ∷ K) (λ u. at σ (unaryWord k ref u) K) (λ u. refl)
+seek-marks (unary Read k v e) σ K c h = seek-marks e σ (unaryFrame k read ∷ K) (λ u. at σ (unaryWord k read u) K) (λ u. refl)
+seek-marks (unary Lock k v e) σ K c h = seek-marks e σ (unaryFrame k lock ∷ K) (λ u. at σ (unaryWord k lock u) K) (λ u. refl)
+seek-marks (unary Unlock k v e) σ K c h = seek-marks e σ (unaryFrame k unlock ∷ K) (λ u. at σ (unaryWord k unlock u) K) (λ u. refl)
+seek-marks (unary Post k v e) σ K c h = seek-marks e σ (unaryFrame k post ∷ K) (λ u. at σ (unaryWord k post u) K) (λ u. refl)
+seek-marks (unary Wait k v e) σ K c h = seek-marks e σ (unaryFrame k wait ∷ K) (λ u. at σ (unaryWord k wait u) K) (λ u. refl)
+seek-marks (unary Rdlock k v e) σ K c h = seek-marks e σ (unaryFrame k (hold rdlock) ∷ K) (λ u. at σ (unaryWord k (hold rdlock) u) K) (λ u. refl)
+seek-marks (unary Rdunlock k v e) σ K c h = seek-marks e σ (unaryFrame k (hold rdunlock) ∷ K) (λ u. at σ (unaryWord k (hold rdunlock) u) K) (λ u. refl)
+seek-marks (unary Wrlock k v e) σ K c h = seek-marks e σ (unaryFrame k (hold wrlock) ∷ K) (λ u. at σ (unaryWord k (hold wrlock) u) K) (λ u. refl)
+seek-marks (unary Wrunlock k v e) σ K c h = seek-marks e σ (unaryFrame k (hold wrunlock) ∷ K) (λ u. at σ (unaryWord k (hold wrunlock) u) K) (λ u. refl)
+seek-marks (unary Call k v e) σ K c h = seek-marks e σ (unaryFrame k (call v) ∷ K) (λ u. at σ (unaryWord k (call v) u) K) (λ u. refl)
+seek-marks (binary Let k x e₁ e₂) σ K c h = seek-marks e₁ σ (letFrame k x e₂ ∷ K) (λ v. at σ (letWord k x v e₂) K) (λ v. refl)
+seek-marks (binary If k v e₁ e₂) σ K c h = refl
+seek-marks (binary Spawn k v e₁ e₂) σ K c h = seek-marks e₁ σ (spawnFrame k e₂ ∷ K) (λ w. at σ (spawnWord k w e₂) K) (λ w. refl)
+seek-marks (binary Write k v e₁ e₂) σ K c h =
+    seek-marks e₁ σ (writeFirst k e₂ ∷ K) (λ w. seek σ e₂ (writeSecond k w ∷ K) (λ u. at σ (writeWord k w u) K))
+    (λ w. seek-marks e₂ σ (writeSecond k w ∷ K) (λ u. at σ (writeWord k w u) K) (λ u. refl))
+
+-- What follows a value is not asked.
+seek-runs : (e : Expr) → Runs e → (σ : Env) (K : List Frame) (c c′ : Value → Control) → seek σ e K c ≡ seek σ e K c′
+seek-runs (leaf Var k x) r σ K c c′ = absurd r
+seek-runs (leaf Int k v) r σ K c c′ = absurd r
+seek-runs (leaf Newtid k v) r σ K c c′ = refl
+seek-runs (leaf Newlock k v) r σ K c c′ = refl
+seek-runs (leaf Newsem k v) r σ K c c′ = refl
+seek-runs (leaf Newrwlock k v) r σ K c c′ = refl
+seek-runs (unary While k v e) r σ K c c′ = refl
+seek-runs (unary Join k v e) r σ K c c′ = refl
+seek-runs (unary Ref k v e) r σ K c c′ = refl
+seek-runs (unary Read k v e) r σ K c c′ = refl
+seek-runs (unary Lock k v e) r σ K c c′ = refl
+seek-runs (unary Unlock k v e) r σ K c c′ = refl
+seek-runs (unary Post k v e) r σ K c c′ = refl
+seek-runs (unary Wait k v e) r σ K c c′ = refl
+seek-runs (unary Rdlock k v e) r σ K c c′ = refl
+seek-runs (unary Rdunlock k v e) r σ K c c′ = refl
+seek-runs (unary Wrlock k v e) r σ K c c′ = refl
+seek-runs (unary Wrunlock k v e) r σ K c c′ = refl
+seek-runs (unary Call k v e) r σ K c c′ = refl
+seek-runs (binary Let k v e₁ e₂) r σ K c c′ = refl
+seek-runs (binary If k v e₁ e₂) r σ K c c′ = refl
+seek-runs (binary Spawn k v e₁ e₂) r σ K c c′ = refl
+seek-runs (binary Write k v e₁ e₂) r σ K c c′ = refl
+
+-- A call of a body that is no `var` and no `int` is open; of one that is, the value goes on through the marks.
+pub call-opens : (e : Expr) → Runs e → (σ σ′ : Env) (K : List Frame) → openCalls (enter σ e (markFrame σ′ ∷ K)) ≡ suc (marks K)
+unfolding openCalls marks
+call-opens e r σ σ′ K =
+    ap openCalls (seek-runs e r σ (markFrame σ′ ∷ K) (λ v. return σ v (markFrame σ′ ∷ K)) (λ v. at σ (makeWord (place e) newtid) (markFrame σ′ ∷ K)))
+    ∙ seek-marks e σ (markFrame σ′ ∷ K) (λ v. at σ (makeWord (place e) newtid) (markFrame σ′ ∷ K)) (λ v. refl)
+  where
+    place : Expr → Position
+    place (leaf w k v) = k
+    place (unary w k v e) = k
+    place (binary w k v e₁ e₂) = k

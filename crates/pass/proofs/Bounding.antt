@@ -1,0 +1,248 @@
+-- The bounds over what the work space shows: what a step reaches, and the most that a step and its parts may leave.
+use mathlib.Core.Path.{_≡_, refl, ap, sym, _∙_}
+use mathlib.Core.Logic.{inr}
+use mathlib.Core.List.{List, []}
+use Prim.Native.Nat.{ℕ, _+_, _<_, min}
+use native.Mathlib.Omega.{arith}
+use lib.ListN.{length, getD, set}
+use Rattle.workspace.specs.Region.{Region, ChangedWithin}
+use Rattle.workspace.proofs.Region.{region-empty, region-append, region-front, region-kept, region-moved, changed-store, changed-then, changed-wider}
+use Rattle.filling.specs.declared.Effect.{Effect}
+use Rattle.filling.specs.Flow.{Flow, steps}
+use Rattle.filling.specs.Pass.{forth, back, ceiling, reach}
+use Rattle.filling.proofs.Pass.{steps-positive}
+use Rattle.pass.specs.declared.Column.{Column}
+use Rattle.pass.specs.declared.Way.the-variants.{Leaf, Unary, Binary}
+use Rattle.pass.specs.declared.UnaryWay.{UnaryWay}
+use Rattle.pass.specs.declared.UnaryWay.the-variants.{After, Loop, Call}
+use Rattle.pass.specs.declared.BinaryWay.{BinaryWay}
+use Rattle.pass.specs.Ways.{wayIn}
+use Rattle.pass.specs.Shows.{endIn, Shows}
+use Rattle.pass.specs.Bounds.{top, partCap, lastCap, firstCap, unaryCap, unaryCeiling, binaryCeiling, unaryReach, binaryReach, capsOf, Room, Reached, PartBounded, OwnCap, Cappable, Capped}
+use Rattle.pass.specs.Passed.{secondPre}
+use Rattle.pass.proofs.Parts.{unary-steps, binary-steps, leaf-parts, unary-parts, binary-parts, ownCapOf, firstCapOf, caps-unary, caps-binary, ceiling-unary, ceiling-binary, reach-unary, reach-binary, caps-length, unary-cap, part-caps, binary-cap, first-caps, last-caps}
+use Rattle.pass.proofs.Room.{part-cap-room, last-cap-room, first-cap-room, top-room, way-light, ceiling-room}
+
+-- ------------------------------------------------------------------ what a step reaches
+
+module _ (w m : List ℕ) (column : Column) (k x : ℕ) where
+  pub leaf-reached : (E : Effect) → wayIn w column k ≡ Leaf E → {r : ℕ} → r ≡ forth E x → Reached w m column k x r
+  unfolding reach
+  leaf-reached E seen e = record { answers = λ f c S C. e ∙ ap (reach top x c) (sym (leaf-parts w column k E f S seen)) }
+
+  module _ (way : UnaryWay) (seen : wayIn w column k ≡ Unary way) {r : ℕ} where
+    unary-reached : ((f : Flow) (c : ℕ) → Shows w column (k + 1) f → Region m (k + 1) (capsOf c f) → r ≡ unaryReach way x (getD m k 0) (reach top x c f))
+        → Reached w m column k x r
+    unary-reached by = record {
+      answers = λ f c S C.
+          let U = unary-parts w column k way f S seen in
+          let own = ap (λ (cap : ℕ). unaryReach way x cap (reach top x (partCap way c) (U .part))) (unary-cap c way (U .part) (U .is) C) in
+          by (U .part) (partCap way c) (U .shown) (part-caps c way (U .part) (U .is) C) ∙ own ∙ sym (ap (reach top x c) (U .is) ∙ reach-unary c x way (U .part));
+    }
+
+    -- after its part
+    pub after-reached : {E : Effect} {first : ℕ} → way ≡ After E → Reached w m column (k + 1) x first → r ≡ forth E first → Reached w m column k x r
+    unfolding unaryReach
+    after-reached {E} is A e = unary-reached (λ f c S C. rw is (e ∙ ap (forth E) (A .answers f c S C)))
+
+    -- the part of a loop is not looked at: what it can leave is in the loop's cap
+    pub loop-reached : {cap : ℕ} → way ≡ Loop → cap ≡ getD m k 0 → r ≡ min x cap → Reached w m column k x r
+    unfolding unaryReach
+    loop-reached is own e = unary-reached (λ f c S C. rw is (e ∙ ap (min x) own))
+
+    -- nor is that of a call
+    pub call-reached : {wanted left : ℕ} → way ≡ Call wanted left → r ≡ left → Reached w m column k x r
+    unfolding unaryReach
+    call-reached is e = unary-reached (λ f c S C. rw is e)
+
+  pub binary-reached : (way : BinaryWay) → wayIn w column k ≡ Binary way → {first second next last r : ℕ} → Reached w m column (k + 1) x first
+      → second ≡ endIn w (k + 1) → next ≡ secondPre way x first → Reached w m column second next last → {cap : ℕ} → cap ≡ getD m k 0
+      → r ≡ binaryReach way cap first last → Reached w m column k x r
+  binary-reached way seen {first} {second} {next} {last} {r} A at from D {cap} own e = record { answers = answers }
+    where
+      answers : (f : Flow) (c : ℕ) → Shows w column k f → Region m k (capsOf c f) → r ≡ reach top x c f
+      answers f c S C =
+          let B = binary-parts w column k way f S seen in
+          let a : first ≡ reach top x (firstCapOf way c (B .second)) (B .first) = A .answers (B .first) _ (B .shown) (first-caps c way (B .first) (B .second) (B .is) C) in
+          let place : second ≡ k + 1 + steps (B .first) = at ∙ B .ends in
+          let D′ : Reached w m column (k + 1 + steps (B .first)) next last = rw place at D in
+          let b : last ≡ reach top next (lastCap way c) (B .second) = D′ .answers (B .second) _ (B .behind) (last-caps c way (B .first) (B .second) (B .is) C) in
+          let start : next ≡ secondPre way x (reach top x (firstCapOf way c (B .second)) (B .first)) = from ∙ ap (secondPre way x) a in
+          let capped : cap ≡ c = own ∙ binary-cap c way (B .first) (B .second) (B .is) C in
+          e ∙ rw (capped, a, b, start) refl ∙ sym (ap (reach top x c) (B .is) ∙ reach-binary c x way (B .first) (B .second))
+
+-- ------------------------------------------------------------------ the most that a step itself may leave
+
+module _ (w m : List ℕ) (column : Column) (k : ℕ) (way : UnaryWay) (c first : ℕ) where
+  pub after-own : {E : Effect} {r : ℕ} → way ≡ After E → r ≡ c → OwnCap w m column k way c first r
+  unfolding unaryCap
+  after-own is e = record { answers = λ f S C. rw is e }
+
+  pub call-own : {wanted left r : ℕ} → way ≡ Call wanted left → r ≡ c → OwnCap w m column k way c first r
+  unfolding unaryCap
+  call-own is e = record { answers = λ f S C. rw is e }
+
+  pub loop-own : {leaves under r : ℕ} → way ≡ Loop → Reached w m column (k + 1) top leaves → under ≡ min first leaves → r ≡ min c under
+      → OwnCap w m column k way c first r
+  unfolding unaryCap
+  loop-own {leaves} {under} {r} is A u e = record { answers = λ f S C. e ∙ ap (min c) u ∙ least is (A .answers f (partCap way c) S C) }
+    where
+      least : {x : ℕ} → way ≡ Loop → leaves ≡ x → min c (min first leaves) ≡ unaryCap way c first x
+      least is e = rw (is, e)
+
+-- ------------------------------------------------------------------ what the calls of the caps are asked for
+
+module _ {w : List ℕ} {column : Column} {k c : ℕ} {m : List ℕ} (R : Cappable w column k c m) where
+  pub cappable-inside : k < 256
+  cappable-inside = omega (arith, R .inside, steps-positive (R .flow))
+
+  pub cappable-stored : k < length m
+  cappable-stored = omega (arith, R .long, cappable-inside)
+
+  pub cappable-small : c < 9223372036854775808
+  cappable-small = omega (arith, R .room)
+
+  pub part-cappable : (way : UnaryWay) → wayIn w column k ≡ Unary way → {part : ℕ} → part ≡ partCap way c → Cappable w column (k + 1) part m
+  part-cappable way seen e =
+      let U = unary-parts w column k way (R .flow) (R .shown) seen in
+      let counted : steps (R .flow) ≡ steps (U .part) + 1 = ap steps (U .is) ∙ unary-steps way (U .part) in
+      record {
+        flow = U .part;
+        shown = U .shown;
+        inside = omega (arith, R .inside);
+        fits = R .fits;
+        room = omega (arith, part-cap-room way (steps (U .part)) c (way-light w column (R .fits) k seen) (omega (arith, R .inside)) (omega (arith, R .room)));
+        long = R .long;
+      }
+
+  -- once the caps of its part stand
+  pub part-looked-at : (way : UnaryWay) → wayIn w column k ≡ Unary way → {part first : ℕ} {m₁ : List ℕ} → part ≡ partCap way c
+      → Capped w column (k + 1) part m m₁ first → PartBounded w m₁ column k
+  part-looked-at way seen {part} e A =
+      let U = unary-parts w column k way (R .flow) (R .shown) seen in
+      let counted : steps (R .flow) ≡ steps (U .part) + 1 = ap steps (U .is) ∙ unary-steps way (U .part) in
+      record {
+        inside = cappable-inside;
+        part = record {
+          flow = U .part;
+          cap = part;
+          shown = U .shown;
+          capped = A .answers (U .part) (U .shown) .1;
+          inside = omega (arith, R .inside);
+          fits = R .fits;
+          room = top-room (steps (U .part)) (omega (arith, R .inside));
+        };
+      }
+
+  module _ (way : BinaryWay) (seen : wayIn w column k ≡ Binary way) {second cap : ℕ} (at : second ≡ endIn w (k + 1)) (e : cap ≡ lastCap way c) where
+    pub last-cappable : (k < second) × Cappable w column second cap m
+    last-cappable =
+        let B = binary-parts w column k way (R .flow) (R .shown) seen in
+        let counted : steps (R .flow) ≡ steps (B .first) + steps (B .second) + 1 = ap steps (B .is) ∙ binary-steps way (B .first) (B .second) in
+        let place : second ≡ k + 1 + steps (B .first) = at ∙ B .ends in
+        let room = last-cap-room way (steps (B .second)) c (way-light w column (R .fits) k seen) (omega (arith, R .inside)) (omega (arith, R .room)) in (
+          omega arith,
+          record {
+            flow = B .second;
+            shown = rw place (B .behind);
+            inside = omega (arith, R .inside);
+            fits = R .fits;
+            room = omega (arith, room);
+            long = R .long;
+          },
+        )
+
+    pub first-cappable : {last first : ℕ} {m₁ : List ℕ} → Capped w column second cap m m₁ last → first ≡ firstCap way c last → length m₁ ≡ length m
+        → Cappable w column (k + 1) first m₁
+    first-cappable {last} {first} {m₁} A from long =
+        let B = binary-parts w column k way (R .flow) (R .shown) seen in
+        let f = B .first in
+        let g = B .second in
+        let counted : steps (R .flow) ≡ steps f + steps g + 1 = ap steps (B .is) ∙ binary-steps way f g in
+        let place : second ≡ k + 1 + steps f = at ∙ B .ends in
+        let light = way-light w column (R .fits) k seen in
+        let A′ : Capped w column (k + 1 + steps f) cap m m₁ last = rw place at A in
+        let ended : last ≡ ceiling top (lastCap way c) g = A′ .answers g (B .behind) .0 ∙ ap (λ (c : ℕ). ceiling top c g) e in
+        let cap-fits = last-cap-room way (steps g + steps f) c light (omega (arith, R .inside)) (omega (arith, R .room)) in
+        let last-fits : Room (steps f) (ceiling top (lastCap way c) g) =
+        ceiling-room w column (R .fits) (k + 1 + steps f) (lastCap way c) (steps f) (B .behind) (omega (arith, R .inside)) cap-fits in
+        let room = first-cap-room way (steps f) c last light (omega (arith, R .inside)) (omega (arith, R .room)) (omega (arith, ended)) in
+        record {
+          flow = f;
+          shown = B .shown;
+          inside = omega (arith, R .inside);
+          fits = R .fits;
+          room = omega (arith, room);
+          long = long ∙ R .long;
+        }
+
+-- ------------------------------------------------------------------ the most that a step and its parts may leave
+
+module _ (w : List ℕ) (column : Column) (k c : ℕ) (m : List ℕ) where
+  own-changed : (m₁ : List ℕ) (v : ℕ) (f : Flow) → ChangedWithin k (k + steps f) m m₁ → ChangedWithin k (k + steps f) m (set m₁ k v)
+  own-changed m₁ v f h = changed-then k (k + steps f) h (changed-store k (k + steps f) m₁ k v (omega arith) (omega (arith, steps-positive f)))
+
+  pub leaf-capped : (E : Effect) → wayIn w column k ≡ Leaf E → {r : ℕ} → k < length m → r ≡ back E c → Capped w column k c m (set m k c) r
+  unfolding ceiling capsOf
+  leaf-capped E seen l e = record {
+    answers = λ f S.
+        let is = leaf-parts w column k E f S seen in
+        (e ∙ ap (ceiling top c) (sym is), rw is (region-front m [] k c l (region-empty m (k + 1) (omega arith))));
+    changed = λ f S. changed-store k (k + steps f) m k c (omega arith) (omega (arith, steps-positive f));
+  }
+
+  pub unary-capped : (way : UnaryWay) → wayIn w column k ≡ Unary way → {part first own r : ℕ} {m₁ : List ℕ} → part ≡ partCap way c
+      → Capped w column (k + 1) part m m₁ first → OwnCap w m₁ column k way c first own → k < length m₁ → r ≡ unaryCeiling way first
+      → Capped w column k c m (set m₁ k own) r
+  unary-capped way seen {part} {first} {own} {r} {m₁} at A O l e = record { answers = answers; changed = changed }
+    where
+      B : Capped w column (k + 1) (partCap way c) m m₁ first
+      B = rw at at A
+
+      answers : (f : Flow) → Shows w column k f → (r ≡ ceiling top c f) × Region (set m₁ k own) k (capsOf c f)
+      answers f S =
+          let U = unary-parts w column k way f S seen in
+          let (begins, stand) = B .answers (U .part) (U .shown) in
+          let capped : own ≡ ownCapOf way c (U .part) =
+          O .answers (U .part) (U .shown) stand ∙ ap (λ (a : ℕ). unaryCap way c a (reach top top (partCap way c) (U .part))) begins in (
+            e ∙ ap (unaryCeiling way) begins ∙ sym (ap (ceiling top c) (U .is) ∙ ceiling-unary c way (U .part)),
+            rw (U .is, caps-unary c way (U .part), ← capped) (region-front m₁ (capsOf (partCap way c) (U .part)) k own l stand),
+          )
+
+      changed : (f : Flow) → Shows w column k f → ChangedWithin k (k + steps f) m (set m₁ k own)
+      changed f S =
+          let U = unary-parts w column k way f S seen in
+          let counted : steps f ≡ steps (U .part) + 1 = ap steps (U .is) ∙ unary-steps way (U .part) in
+          own-changed m₁ own f (changed-wider k (k + steps f) (omega arith) (omega arith) (B .changed (U .part) (U .shown)))
+
+  pub binary-capped : (way : BinaryWay) → wayIn w column k ≡ Binary way → {second cap last part first r : ℕ} {m₁ m₂ : List ℕ} → second ≡ endIn w (k + 1)
+      → cap ≡ lastCap way c → Capped w column second cap m m₁ last → part ≡ firstCap way c last → Capped w column (k + 1) part m₁ m₂ first
+      → k < length m₂ → r ≡ binaryCeiling way first last → Capped w column k c m (set m₂ k c) r
+  binary-capped way seen {second} {cap} {last} {part} {first} {r} {m₁} {m₂} at from A by D l e = record { answers = answers; changed = changed }
+    where
+      answers : (f : Flow) → Shows w column k f → (r ≡ ceiling top c f) × Region (set m₂ k c) k (capsOf c f)
+      answers f S =
+          let B = binary-parts w column k way f S seen in
+          let f₁ = B .first in
+          let f₂ = B .second in
+          let place : second ≡ k + 1 + steps f₁ = at ∙ B .ends in
+          let A′ : Capped w column (k + 1 + steps f₁) (lastCap way c) m m₁ last = rw (place, from) at A in
+          let (last-begins, last-stand) = A′ .answers f₂ (B .behind) in
+          let D′ : Capped w column (k + 1) (firstCapOf way c f₂) m₁ m₂ first = rw (by, last-begins) at D in
+          let (first-begins, first-stand) = D′ .answers f₁ (B .shown) in
+          let long = caps-length (firstCapOf way c f₂) f₁ in
+          let behind : Region m₂ (k + 1 + length (capsOf (firstCapOf way c f₂) f₁)) (capsOf (lastCap way c) f₂) =
+          region-moved _ _ (omega arith) (region-kept (D′ .changed f₁ (B .shown)) (inr (omega arith)) last-stand) in (
+            e ∙ rw (first-begins, last-begins) refl ∙ sym (ap (ceiling top c) (B .is) ∙ ceiling-binary c way f₁ f₂),
+            rw (B .is, caps-binary c way f₁ f₂) (region-front m₂ _ k c l (region-append _ _ first-stand behind)),
+          )
+
+      changed : (f : Flow) → Shows w column k f → ChangedWithin k (k + steps f) m (set m₂ k c)
+      changed f S =
+          let B = binary-parts w column k way f S seen in
+          let counted : steps f ≡ steps (B .first) + steps (B .second) + 1 = ap steps (B .is) ∙ binary-steps way (B .first) (B .second) in
+          let place : second ≡ k + 1 + steps (B .first) = at ∙ B .ends in
+          let A′ : Capped w column (k + 1 + steps (B .first)) cap m m₁ last = rw place at A in
+          own-changed m₂ c f (changed-then k (k + steps f)
+          (changed-wider k (k + steps f) (omega arith) (omega arith) (A′ .changed (B .second) (B .behind)))
+          (changed-wider k (k + steps f) (omega arith) (omega arith) (D .changed (B .first) (B .shown))))

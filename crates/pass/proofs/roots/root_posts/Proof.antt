@@ -1,0 +1,35 @@
+-- The most that each step may leave, then the pass.
+use mathlib.Core.Path.{refl}
+use Rattle.pass.specs.Bounds.{top}
+use Rattle.pass.proofs.RootPosts.{root-cappable, root-ready, root-passed}
+use borrow.Author.Needs.{needs}
+use Rattle.pass.proofs.roots.root_posts.Statement.{statement}
+use Rattle.pass.proofs.roots.root_posts.Tie as tie
+
+cap-step-requires : tie.Need-cap-step-requires
+unfolding top
+cap-step-requires c κs = root-cappable (c .before .before .before .pre) _ refl
+
+pass-step-requires : tie.Need-pass-step-requires
+unfolding top
+pass-step-requires c κs =
+    let at-caps = c .before .before .before in
+    root-ready (at-caps .before .before .before .before .pre) (at-caps .cap-step .ensures)
+
+returns : tie.Need-returns
+unfolding top
+returns c =
+    let at-pass = c .before .before in
+    let at-caps = at-pass .before .before .before .before in
+    root-passed (at-caps .before .before .before .before .pre) (at-caps .cap-step .ensures) (at-pass .pass-step .ensures)
+
+pub root-posts-spec : {M : Type 1} → statement M
+root-posts-spec =
+    tie.close
+    (tie.spec
+    (λ c. search needs)
+    cap-step-requires
+    (λ c. search needs)
+    pass-step-requires
+    (λ c. search needs)
+    returns)

@@ -1,0 +1,120 @@
+-- The bounds of the pass by the way of a step, the most that each post may be, and what the code of the bounds asks and promises.
+use mathlib.Core.Path.{_≡_}
+use mathlib.Core.List.{List, [], _∷_, _++_}
+use Prim.Native.Nat.{ℕ, _+_, _*_, _≤_, _<_, min}
+use lib.ListN.{length, getD}
+use Rattle.workspace.specs.Region.{Region, ChangedWithin}
+use Rattle.filling.specs.Flow.{taking, Flow, alone, after, inTurn, branch, loop, fork, call, steps}
+use Rattle.filling.specs.Pass.{forth, back, ceiling, reach}
+use Rattle.pass.specs.declared.Column.{Column}
+use Rattle.pass.specs.declared.UnaryWay.{UnaryWay}
+use Rattle.pass.specs.declared.UnaryWay.the-variants.{After, Loop, Call}
+use Rattle.pass.specs.declared.BinaryWay.{BinaryWay}
+use Rattle.pass.specs.declared.BinaryWay.the-variants.{InTurn, Branch, Fork}
+use Rattle.pass.specs.Shows.{Shows}
+
+-- no bound: 2^62, more than any post can be
+unfoldable pub top : ℕ
+top = 4611686018427387904
+
+-- ------------------------------------------------------------------ a step and its parts
+
+-- the most that the parts of a step may leave, if it may leave at most c; for the first of two, if the second may start with at most `last`
+unfoldable pub partCap : UnaryWay → (c : ℕ) → ℕ
+partCap (After E) c = back E c
+partCap Loop c = top
+partCap (Call wanted left) c = wanted
+
+unfoldable pub lastCap : BinaryWay → (c : ℕ) → ℕ
+lastCap (InTurn E) c = back E c
+lastCap Branch c = top
+lastCap (Fork start due) c = top
+
+unfoldable pub firstCap : BinaryWay → (c last : ℕ) → ℕ
+firstCap (InTurn E) c last = last
+firstCap Branch c last = top
+firstCap (Fork start due) c last = back (taking start) c
+
+-- the most that a step may leave, if its part may start with at most `first` and can leave `leaves`
+unfoldable pub unaryCap : UnaryWay → (c first leaves : ℕ) → ℕ
+unaryCap (After E) c first leaves = c
+unaryCap Loop c first leaves = min c (min first leaves)
+unaryCap (Call wanted left) c first leaves = c
+
+-- the most that a step may start with, if its parts may start with at most `first` and `last`
+unfoldable pub unaryCeiling : UnaryWay → (first : ℕ) → ℕ
+unaryCeiling (After E) first = first
+unaryCeiling Loop first = top
+unaryCeiling (Call wanted left) first = first
+
+unfoldable pub binaryCeiling : BinaryWay → (first last : ℕ) → ℕ
+binaryCeiling (InTurn E) first last = first
+binaryCeiling Branch first last = min first last
+binaryCeiling (Fork start due) first last = first
+
+-- the most that a step can leave from x, if it may leave at most `cap` and its parts can leave `first` and `last`
+unfoldable pub unaryReach : UnaryWay → (x cap first : ℕ) → ℕ
+unaryReach (After E) x cap first = forth E first
+unaryReach Loop x cap first = min x cap
+unaryReach (Call wanted left) x cap first = left
+
+unfoldable pub binaryReach : BinaryWay → (cap first last : ℕ) → ℕ
+binaryReach (InTurn E) cap first last = forth E last
+binaryReach Branch cap first last = min cap (min first last)
+binaryReach (Fork start due) cap first last = forth (taking start) first
+
+-- ------------------------------------------------------------------ the most that each post may be
+
+-- in step order, if the flow may leave at most c
+unfoldable pub capsOf : (c : ℕ) → Flow → List ℕ
+capsOf c (alone E) = c ∷ []
+capsOf c (after E f) = c ∷ capsOf (back E c) f
+capsOf c (inTurn E f g) = c ∷ (capsOf (ceiling top (back E c) g) f ++ capsOf (back E c) g)
+capsOf c (branch f g) = c ∷ (capsOf top f ++ capsOf top g)
+capsOf c (loop f) = min c (min (ceiling top top f) (reach top top top f)) ∷ capsOf top f
+capsOf c (fork s k f g) = c ∷ (capsOf (back (taking s) c) f ++ capsOf top g)
+capsOf c (call b d f) = c ∷ capsOf b f
+
+-- ------------------------------------------------------------------ contracts
+
+-- a step moves less than 2^34, so that a number with room for n steps stays below 2^63 through them
+abbrev pub Room : (n x : ℕ) → Type 0
+Room n x = x + 17179869184 * n ≤ 4611690416473899008
+
+-- from step k on the work space w shows a flow of steps that there are, and m has the most that each of them may leave
+pub record Bounded (w m : List ℕ) (column : Column) (k x : ℕ) : Type 0 where
+  pub flow : Flow
+  pub cap : ℕ
+  pub shown : Shows w column k flow
+  pub capped : Region m k (capsOf cap flow)
+  pub inside : k + steps flow ≤ 256
+  pub fits : (i : ℕ) → getD w i 0 < 4294967296
+  pub room : Room (steps flow) x
+
+-- whichever flow is shown, what it reaches from x
+pub record Reached (w m : List ℕ) (column : Column) (k x r : ℕ) : Type 0 where
+  pub answers : (f : Flow) (c : ℕ) → Shows w column k f → Region m k (capsOf c f) → r ≡ reach top x c f
+
+-- the part of step k may be looked at from no bound
+pub record PartBounded (w m : List ℕ) (column : Column) (k : ℕ) : Type 0 where
+  pub inside : k < 256
+  pub part : Bounded w m column (k + 1) top
+
+-- whichever flow is shown as the part of step k
+pub record OwnCap (w m : List ℕ) (column : Column) (k : ℕ) (way : UnaryWay) (c first r : ℕ) : Type 0 where
+  pub answers : (f : Flow) → Shows w column (k + 1) f → Region m (k + 1) (capsOf (partCap way c) f)
+      → r ≡ unaryCap way c first (reach top top (partCap way c) f)
+
+-- from step k on the work space shows a flow of steps that there are, and there is room for their caps
+pub record Cappable (w : List ℕ) (column : Column) (k c : ℕ) (m : List ℕ) : Type 0 where
+  pub flow : Flow
+  pub shown : Shows w column k flow
+  pub inside : k + steps flow ≤ 256
+  pub fits : (i : ℕ) → getD w i 0 < 4294967296
+  pub room : Room (steps flow) c
+  pub long : length m ≡ 256
+
+-- from the caps m to m′: whichever flow is shown, its caps, with its ceiling as the answer
+pub record Capped (w : List ℕ) (column : Column) (k c : ℕ) (m m′ : List ℕ) (r : ℕ) : Type 0 where
+  pub answers : (f : Flow) → Shows w column k f → (r ≡ ceiling top c f) × Region m′ k (capsOf c f)
+  pub changed : (f : Flow) → Shows w column k f → ChangedWithin k (k + steps f) m m′

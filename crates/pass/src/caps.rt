@@ -1,0 +1,65 @@
+// The most that the post of each step may be: parts behind a step are looked at before it, so that it calls itself for the second part
+// first.
+use super::Column;
+use super::UnaryWay;
+use super::Way;
+use super::bounds::TOP;
+use super::bounds::back;
+use super::bounds::binary_ceiling;
+use super::bounds::first_cap;
+use super::bounds::last_cap;
+use super::bounds::least;
+use super::bounds::part_cap;
+use super::bounds::unary_ceiling;
+use super::reach::reach_step;
+use super::steps::second_in;
+use super::ways::way_in;
+ghost use Rattle.pass.specs.Bounds.{PartBounded, OwnCap, Cappable, Capped};
+
+// The most that step k may leave, if it is to leave at most c and its part may start with at most `first`: a loop leaves no more than
+// that, and no more than its part can leave.
+fn own_cap(
+    work: &[u32],
+    caps: &[u64],
+    column: Column,
+    k: usize,
+    way: UnaryWay,
+    c: u64,
+    first: u64,
+) -> u64
+    requires { ⌜ PartBounded (now work) (now caps) column k ⌝ }
+    ensures { λ r. ⌜ OwnCap (now (work .entry)) (now (caps .entry)) column k way c first r ⌝ }
+{
+    match way {
+        UnaryWay::After(_) => c,
+        UnaryWay::Loop => least(c, least(first, reach_step(work, caps, column, k + 1, TOP))),
+        UnaryWay::Call(_, _) => c,
+    }
+}
+
+// Stores the most that step k and all steps in it may leave, if step k is to leave at most c; the answer is the most that it may start
+// with.
+pub(crate) fn cap_step(work: &[u32], caps: &mut [u64], column: Column, k: usize, c: u64) -> u64
+    requires { ⌜ Cappable (now work) column k c (now caps) ⌝ }
+    ensures { λ r. ⌜ Capped (now (work .entry)) column k c (now (caps .entry)) (now (caps .exit)) r ⌝ }
+{
+    match way_in(work, column, k) {
+        Way::Leaf(effect) => {
+            caps[k] = c;
+            back(effect, c)
+        }
+        Way::Unary(way) => {
+            let first = cap_step(work, caps, column, k + 1, part_cap(way, c));
+            let own = own_cap(work, caps, column, k, way, c, first);
+            caps[k] = own;
+            unary_ceiling(way, first)
+        }
+        Way::Binary(way) => {
+            let second = second_in(work, k);
+            let last = cap_step(work, caps, column, second, last_cap(way, c));
+            let first = cap_step(work, caps, column, k + 1, first_cap(way, c, last));
+            caps[k] = c;
+            binary_ceiling(way, first, last)
+        }
+    }
+}

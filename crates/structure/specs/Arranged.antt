@@ -1,0 +1,38 @@
+-- What arranging stored lines answers, and what it leaves in the work space.
+use mathlib.Core.Path.{_≡_}
+use mathlib.Core.List.{List, [], map}
+use Prim.Native.Nat.{ℕ, _+_, _≤_}
+use lib.ListN.{length}
+use Rattle.spec.specs.Reading.{Out, on, _>>=_}
+use Rattle.spec.specs.Expression.{Expr, Item, stepsAmong, Procedure, structure, scopes}
+use Rattle.workspace.specs.Layout.{endsAt, letsAt, procLinesAt, procVarsAt, procFirstsAt, rowTypesAt, workSize}
+use Rattle.workspace.specs.Holds.{allEnds, allLets, firstSteps, HoldsSteps}
+use Rattle.workspace.specs.Region.{Region, ChangedWithin}
+use Rattle.structure.specs.Items.{ItemsStored}
+use Rattle.structure.specs.Outcomes.{Answers}
+use Rattle.structure.specs.declared.Outcome.{Outcome}
+
+-- the procedures and the root that lines list, with their variables in scope; `last` is the last line read
+unfoldable pub arrangedOf : (last count : ℕ) → List Item → Out (List Procedure × Expr)
+arrangedOf last count items =
+    structure last count 0 items >>= λ found. scopes count (found .0) (found .1) [] >>= λ bound. on found
+
+-- lines are stored that may list so many procedures
+pub record Arrangeable (steps procs count : ℕ) (w : List ℕ) : Type 0 where
+  pub long : length w ≡ workSize
+  pub all : steps + procs ≤ 256 + count
+  pub few : count ≤ 16
+  pub stored : ItemsStored steps procs w
+
+-- what the work space holds of them, beside their steps
+pub record HoldsTree (w : List ℕ) (ps : List Procedure) (root : Expr) : Type 0 where
+  pub ends : Region w endsAt (allEnds 0 ps root)
+  pub lets : Region w letsAt (allLets 0 0 ps root)
+  pub procLines : Region w procLinesAt (map (λ (p : Procedure). p .line) ps)
+  pub procVars : Region w procVarsAt (map (λ (p : Procedure). p .parameter) ps)
+  pub procFirsts : Region w procFirstsAt (firstSteps 0 ps)
+
+pub record Arranged (steps procs count last : ℕ) (w w′ : List ℕ) (r : Outcome) : Type 0 where
+  pub found : (st : ItemsStored steps procs w)
+      → Answers (λ (t : List Procedure × Expr). HoldsTree w′ (t .0) (t .1) × HoldsSteps w′ (stepsAmong (st .items))) r (arrangedOf last count (st .items))
+  pub changed : ChangedWithin endsAt rowTypesAt w w′

@@ -1,0 +1,141 @@
+-- Scopes in line order: a table has, for each variable, the index of the let that binds it, or the mark of its procedure.
+use mathlib.Core.Path.{_≡_}
+use mathlib.Core.List.{List, [], _∷_, _++_}
+use Prim.Native.Nat.{ℕ, suc, zero, _+_, _-_, _<_, _≤_}
+use lib.Dec.{leb, ltb}
+use lib.ListN.{length, getD, set, replicate}
+use Rattle.spec.specs.Choice.{if_then_else_}
+use Rattle.spec.specs.Reading.{Out, stop, on}
+use Rattle.spec.specs.Words.{role}
+use Rattle.spec.specs.declared.Refusal.the-variants.{Unbound, Rebound, NoProcedure}
+use Rattle.workspace.specs.Layout.{endsAt, letsAt, procLinesAt, procVarsAt, procFirstsAt, procMark, workSize}
+use Rattle.workspace.specs.Region.{Region, ChangedWithin}
+use Rattle.workspace.specs.Steps.{wordAt, valueAt, stepLineAt}
+use Rattle.structure.specs.Outcomes.{Answers}
+use Rattle.structure.specs.declared.Outcome.{Outcome}
+use Rattle.spec.specs.declared.Role.{Role}
+use Rattle.spec.specs.declared.Role.the-variants.{Binds, Uses, Calls, Neither}
+use Rattle.structure.specs.declared.binders.Judged.{Judged}
+use Rattle.structure.specs.declared.binders.Judged.the-variants.{Bind, Store, Refused}
+
+-- the mark of what neither a let nor a procedure binds
+abbrev pub noMark : ℕ
+noMark = 272
+
+-- nothing binds a variable yet
+unfoldable pub unbound : List ℕ
+unbound = replicate 256 noMark
+
+-- a let at a line whose variable is bound at b
+unfoldable pub judgeLet : (line b : ℕ) → Judged
+judgeLet l b = if leb noMark b then Bind else Refused (Rebound l)
+
+-- the scope of what is bound at b: a let's e2, or a procedure's body
+unfoldable pub scopeFrom : List ℕ → (b : ℕ) → ℕ
+scopeFrom w b = if ltb b procMark then getD w (endsAt + (b + 1)) 0 else getD w (procFirstsAt + (b - 256)) 0
+
+unfoldable pub scopeTill : List ℕ → (b : ℕ) → ℕ
+scopeTill w b = if ltb b procMark then getD w (endsAt + b) 0 else getD w (procFirstsAt + (b - 255)) 0
+
+-- a use at index k of the variable that is bound at b: within that scope
+unfoldable pub judgeVar : List ℕ → (k b : ℕ) → Judged
+judgeVar w k b =
+    if leb noMark b then Refused (Unbound (stepLineAt w k))
+    else if ltb k (scopeFrom w b) then Refused (Unbound (stepLineAt w k))
+    else if leb (scopeTill w b) k then Refused (Unbound (stepLineAt w k))
+    else Store b
+
+-- a call at index k, in a sheet with so many procedures
+unfoldable pub judgeCall : List ℕ → (count k : ℕ) → Judged
+judgeCall w count k = if ltb (valueAt w k) count then Store 0 else Refused (NoProcedure (stepLineAt w k))
+
+unfoldable pub judgeBy : List ℕ → (count k b : ℕ) → Role → Judged
+judgeBy w count k b Binds = judgeLet (stepLineAt w k) b
+judgeBy w count k b Uses = judgeVar w k b
+judgeBy w count k b Calls = judgeCall w count k
+judgeBy w count k b Neither = Store 0
+
+unfoldable pub judgeOf : List ℕ → (count k b : ℕ) → Judged
+judgeOf w count k b = judgeBy w count k b (role (wordAt w k))
+
+-- what is stored for the steps, and the table that they leave
+abbrev pub Passing : Type 0
+Passing = List ℕ × List ℕ
+
+-- a number stored in front of those of the steps behind
+unfoldable pub storing : ℕ → Out Passing → Out Passing
+storing x (stop r) = stop r
+storing x (on p) = on (x ∷ p .0, p .1)
+
+-- the step at index k with number v, judged, and the steps behind it with the table that it leaves
+unfoldable pub continued : (List ℕ → Out Passing) → (k : ℕ) → (table : List ℕ) → (v : ℕ) → Judged → Out Passing
+continued behind k t v Bind = storing 0 (behind (set t v k))
+continued behind k t v (Store x) = storing x (behind t)
+continued behind k t v (Refused r) = stop r
+
+-- the next m steps from index k on: the first refusal, or what is stored for each
+unfoldable pub scopesFrom : List ℕ → (count m k : ℕ) → (table : List ℕ) → Out Passing
+scopesFrom w count zero k t = on ([], t)
+scopesFrom w count (suc m) k t =
+    continued (λ u. scopesFrom w count m (k + 1) u) k t (valueAt w k) (judgeOf w count k (getD t (valueAt w k) noMark))
+
+-- what judging the steps of one body or the root answers, and what it leaves in the work space and in the table
+pub record PartScoped (count from to : ℕ) (w w′ t t′ : List ℕ) (r : Outcome) : Type 0 where
+  pub found : Answers (λ (p : Passing). Region w′ (letsAt + from) (p .0) × (t′ ≡ p .1)) r (scopesFrom w count (to - from) from t)
+  pub changed : ChangedWithin (letsAt + from) (letsAt + to) w w′
+  pub tableLong : length t′ ≡ length t
+
+-- ------------------------------------------------------------------ bodies and root
+
+-- where the body of procedure f begins, and behind the last the root
+abbrev pub firstAt : List ℕ → (f : ℕ) → ℕ
+firstAt w f = getD w (procFirstsAt + f) 0
+
+-- numbers in front of those that are stored behind
+unfoldable pub withFront : List ℕ → Out (List ℕ) → Out (List ℕ)
+withFront xs (stop r) = stop r
+withFront xs (on ys) = on (xs ++ ys)
+
+-- what is stored for steps, and then for those behind them
+unfoldable pub followed : Out Passing → (List ℕ → Out (List ℕ)) → Out (List ℕ)
+followed (stop r) behind = stop r
+followed (on p) behind = withFront (p .0) (behind (p .1))
+
+-- the procedure f binds its variable, and its body is judged
+unfoldable pub bodyScopes : List ℕ → (count f : ℕ) → (table : List ℕ) → Out Passing
+bodyScopes w count f t =
+    if ltb (getD t (getD w (procVarsAt + f) 0) noMark) noMark then stop (Rebound (getD w (procLinesAt + f) 0))
+    else scopesFrom w count (firstAt w (f + 1) - firstAt w f) (firstAt w f) (set t (getD w (procVarsAt + f) 0) (procMark + f))
+
+-- a body is due with a table
+pub record BodyScopable (count f : ℕ) (w t : List ℕ) : Type 0 where
+  pub long : length w ≡ workSize
+  pub tableLong : length t ≡ 256
+  pub there : f < count
+  pub few : count ≤ 16
+  pub inTurn : firstAt w f ≤ firstAt w (f + 1)
+  pub within : firstAt w (f + 1) ≤ 256
+
+pub record BodyScoped (count f : ℕ) (w w′ t t′ : List ℕ) (r : Outcome) : Type 0 where
+  pub found : Answers (λ (p : Passing). Region w′ (letsAt + firstAt w f) (p .0) × (t′ ≡ p .1)) r (bodyScopes w count f t)
+  pub changed : ChangedWithin (letsAt + firstAt w f) (letsAt + firstAt w (f + 1)) w w′
+  pub tableLong : length t′ ≡ length t
+
+-- the next m procedures from number f on, and the root, in a sheet of n steps
+unfoldable pub scopesBehind : List ℕ → (n count m f : ℕ) → (table : List ℕ) → Out (List ℕ)
+scopesBehind w n count zero f t = followed (scopesFrom w count (n - firstAt w f) (firstAt w f) t) (λ u. on [])
+scopesBehind w n count (suc m) f t = followed (bodyScopes w count f t) (λ u. scopesBehind w n count m (f + 1) u)
+
+-- the work space has the bodies one behind the other, and then the root
+pub record Scopable (n count : ℕ) (w : List ℕ) : Type 0 where
+  pub long : length w ≡ workSize
+  pub few : n ≤ 256
+  pub procedures : count ≤ 16
+  pub begun : firstAt w 0 ≡ 0
+  pub inTurn : (f : ℕ) → f < count → firstAt w f ≤ firstAt w (f + 1)
+  pub last : firstAt w count ≤ n
+
+-- what judging all of them answers, and what it leaves in the work space
+pub record Scoped (n count : ℕ) (w w′ : List ℕ) (r : Outcome) : Type 0 where
+  pub found : Answers (Region w′ letsAt) r (scopesBehind w n count count 0 unbound)
+  pub changed : ChangedWithin letsAt (letsAt + 256) w w′

@@ -1,0 +1,32 @@
+// The conditions at a `proc` line, document 02, request (xiv).
+use super::Signature;
+use conditions::Relation;
+use conditions::Ruling;
+use conditions::agree;
+use conditions::also;
+use conditions::flow;
+use conditions::on_types;
+use spec::MapNumber;
+use spec::TypeNumber;
+ghost use mathlib.Core.Path.{_≡_};
+ghost use Rattle.conditions.specs.Outcome.{outcome, firstFalseFrom};
+ghost use Rattle.words.specs.Table.{procedureRow};
+
+// A procedure with the signature g, whose body has this type and this post: 1 type of the body is result; 2 post of the body
+// ≥ after.
+pub fn check_procedure(
+    line: u32,
+    work: &[u32],
+    locations: u32,
+    g: Signature,
+    body: TypeNumber,
+    post: MapNumber,
+) -> Ruling
+    ensures { λ r. ⌜ outcome r ≡ firstFalseFrom line 1 (procedureRow (now (work .entry)) locations g body post) ⌝ }
+{
+    let after = g.after;
+    also(
+        on_types(line, 1, agree(work, locations, body, g.result)),
+        flow(line, 2, work, locations, Relation::AtLeast(post, after)),
+    )
+}
