@@ -9,7 +9,9 @@ pub use vocabulary::type_word;
 pub use vocabulary::word_of;
 pub use vocabulary::word_under;
 ghost use mathlib.Core.Path.{_≡_};
-ghost use Rattle.spec.specs.Text.{leadingZero, numeral};
+ghost use Prim.Native.Nat.{_-_};
+ghost use lib.ListN.{length};
+ghost use Rattle.spec.specs.Text.{leadingZero, numeral, digitLimit};
 ghost use Rattle.lexer.specs.Views.{textEnded};
 ghost use Rattle.lexer.specs.Cursors.{Placed, start as startOf, rest, spanAt};
 ghost use Rattle.lexer.specs.Numbers.{numeralOf, Lower, zeroLeads, DigitsTaken, numberAt, stored, NumbersRead};
@@ -20,9 +22,10 @@ const DIGIT_LIMIT: usize = 10;
 // The largest number that 32 bits hold.
 const LARGEST_STORED: u64 = 4294967295;
 
-// The reading place: the byte to read next, and the number of the last line read, 0 before the first.
+// The reading place: the byte to read next, and the number of the last line read, 0 before the first. Both are as wide as what
+// a refusal holds, so that an answer that holds either is copied in whole words.
 pub struct Cursor {
-    pub at: usize,
+    pub at: u32,
     pub line: u32,
 }
 
@@ -148,7 +151,7 @@ impl Cursor {
     pub fn at_end(self, text: &[u8]) -> bool
         ensures { λ r. ⌜ r ≡ textEnded (rest (now (text .entry)) self) ⌝ }
     {
-        let at = self.at;
+        let at = self.at as usize;
         text.len() <= at
     }
 
@@ -157,13 +160,13 @@ impl Cursor {
         requires { ⌜ Placed (now text) self ⌝ }
         ensures { λ r. ⌜ r ≡ spanAt (now (text .entry)) self ⌝ }
     {
-        let from = self.at;
+        let from = self.at as usize;
         let line = self.line;
         let mut to = from;
         while to < text.len() {
             let b = text[to];
             if b == b',' {
-                let at = to + 1;
+                let at = (to + 1) as u32;
                 let next = Cursor { at, line };
                 return Span {
                     from,
@@ -173,7 +176,7 @@ impl Cursor {
                 };
             }
             if b == b'\n' {
-                let at = to + 1;
+                let at = (to + 1) as u32;
                 let line = line + 1;
                 let next = Cursor { at, line };
                 return Span {
@@ -185,7 +188,8 @@ impl Cursor {
             }
             to += 1;
         }
-        let next = Cursor { at: to, line };
+        let at = to as u32;
+        let next = Cursor { at, line };
         Span {
             from,
             to,
@@ -194,14 +198,13 @@ impl Cursor {
         }
     }
 
-    // The digits at the cursor, no more than a numeral can have.
-    fn take_digits(self, text: &[u8]) -> Taken
-        requires { ⌜ Placed (now text) self ⌝ }
+    // The digits at the cursor, no more than so many.
+    fn digits_within(self, text: &[u8], most: usize) -> Taken
+        requires { ⌜ Placed (now text) self × Lower (length (now text) - self .at) digitLimit most ⌝ }
         ensures { λ r. ⌜ DigitsTaken (now (text .entry)) self r ⌝ }
     {
-        let from = self.at;
-        let left = text.len() - from;
-        let stop = from + lower(left, DIGIT_LIMIT);
+        let from = self.at as usize;
+        let stop = from + most;
         let mut to = from;
         let mut value: u64 = 0;
         while to < stop {
@@ -218,14 +221,37 @@ impl Cursor {
         Taken { value, to }
     }
 
-    // The numeral at the cursor, in one pass: a byte behind its digits that ends no field makes it malformed.
-    pub fn number(self, text: &[u8]) -> Number
+    // The digits at the cursor, no more than a numeral can have.
+    fn take_digits(self, text: &[u8]) -> Taken
         requires { ⌜ Placed (now text) self ⌝ }
+        ensures { λ r. ⌜ DigitsTaken (now (text .entry)) self r ⌝ }
+    {
+        let from = self.at as usize;
+        let left = text.len() - from;
+        let most = lower(left, DIGIT_LIMIT);
+        self.digits_within(text, most)
+    }
+
+    // The same for long numerals: where enough of the text is left, the loop has a fixed number of turns, and none is counted.
+    fn take_many_digits(self, text: &[u8]) -> Taken
+        requires { ⌜ Placed (now text) self ⌝ }
+        ensures { λ r. ⌜ DigitsTaken (now (text .entry)) self r ⌝ }
+    {
+        let from = self.at as usize;
+        let left = text.len() - from;
+        if left < DIGIT_LIMIT {
+            return self.digits_within(text, left);
+        }
+        self.digits_within(text, DIGIT_LIMIT)
+    }
+
+    // The numeral whose digits are taken: a byte behind them that ends no field makes it malformed.
+    fn number_of(self, text: &[u8], taken: Taken) -> Number
+        requires { ⌜ Placed (now text) self × DigitsTaken (now text) self taken ⌝ }
         ensures { λ r. ⌜ r ≡ numberAt (now (text .entry)) self ⌝ }
     {
-        let from = self.at;
+        let from = self.at as usize;
         let line = self.line;
-        let taken = self.take_digits(text);
         let value = taken.value;
         let to = taken.to;
         if to == from {
@@ -237,22 +263,39 @@ impl Cursor {
             return Number::Malformed;
         }
         if text.len() <= to {
-            let next = Cursor { at: to, line };
+            let at = to as u32;
+            let next = Cursor { at, line };
             return Number::Value(value, FieldEnd::Text, next);
         }
         let b = text[to];
         if b == b',' {
-            let at = to + 1;
+            let at = (to + 1) as u32;
             let next = Cursor { at, line };
             return Number::Value(value, FieldEnd::Comma, next);
         }
         if b == b'\n' {
-            let at = to + 1;
+            let at = (to + 1) as u32;
             let line = line + 1;
             let next = Cursor { at, line };
             return Number::Value(value, FieldEnd::Newline, next);
         }
         Number::Malformed
+    }
+
+    // The numeral at the cursor, in one pass.
+    pub fn number(self, text: &[u8]) -> Number
+        requires { ⌜ Placed (now text) self ⌝ }
+        ensures { λ r. ⌜ r ≡ numberAt (now (text .entry)) self ⌝ }
+    {
+        self.number_of(text, self.take_digits(text))
+    }
+
+    // The same for long numerals.
+    fn long_number(self, text: &[u8]) -> Number
+        requires { ⌜ Placed (now text) self ⌝ }
+        ensures { λ r. ⌜ r ≡ numberAt (now (text .entry)) self ⌝ }
+    {
+        self.number_of(text, self.take_many_digits(text))
     }
 
     // The numerals that end the line at the cursor, as many as the slice is long, stored in that slice.
@@ -264,7 +307,7 @@ impl Cursor {
         let mut cursor = self;
         let mut i = 0;
         while i < count {
-            let found = cursor.number(text);
+            let found = cursor.long_number(text);
             let Number::Value(n, end, next) = found else {
                 return Numbers::Malformed;
             };

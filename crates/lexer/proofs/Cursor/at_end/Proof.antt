@@ -1,5 +1,6 @@
 -- Nothing is left where the cursor is at the text's end.
 use mathlib.Core.Path.{sym}
+use borrow.Author.Needs.{needs}
 use Rattle.lexer.proofs.Places.{nothing-left}
 use Rattle.lexer.proofs.Cursor.at_end.Statement.{statement}
 use Rattle.lexer.proofs.Cursor.at_end.Tie as tie
@@ -8,4 +9,4 @@ returns : tie.Need-returns
 returns c = sym (nothing-left _ _)
 
 pub at-end-spec : {M : Type 1} → statement M
-at-end-spec = tie.close (tie.spec returns)
+at-end-spec = tie.close (tie.spec (λ c. search needs) returns)

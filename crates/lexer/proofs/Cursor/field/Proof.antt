@@ -26,7 +26,7 @@ returns : tie.Need-returns Inv-loop μ-loop
 unfolding rest past spanTo
 returns c =
     let here = c .before .before .before in
-    let text = here .before .args .text .now in
+    let text = here .before .before .args .text .now in
     let to = here .loop .to in
     let w = comma-width text to (omega arith) (c .if1 .taken) in
     span-is text _ Comma to (here .loop .inv .3 ∙ comma-end text to (omega arith) (c .if1 .taken)) (omega arith)
@@ -35,7 +35,7 @@ returns-2 : tie.Need-returns-2 Inv-loop μ-loop
 unfolding rest past spanTo
 returns-2 c =
     let here = c .before .before .before .before in
-    let text = here .before .args .text .now in
+    let text = here .before .before .args .text .now in
     let to = here .loop .to in
     let w = newline-width text to (omega arith) (c .before .if1 .left) (c .if2 .taken) in
     span-is text _ Newline to (here .loop .inv .3 ∙ newline-end text to (omega arith) (c .before .if1 .left) (c .if2 .taken)) (omega arith)
@@ -43,7 +43,7 @@ returns-2 c =
 loop-again : tie.Need-loop-again Inv-loop μ-loop
 loop-again c =
     let here = c .before .before .before .before in
-    let text = here .before .args .text .now in
+    let text = here .before .before .args .text .now in
     let to = here .loop .to in
     let w = byte-width text to (omega arith) (c .before .if1 .left) (c .if2 .left) in
     (omega arith, omega arith, omega arith, here .loop .inv .3 ∙ byte-end text to (omega arith) (c .before .if1 .left) (c .if2 .left))
@@ -52,7 +52,7 @@ returns-3 : tie.Need-returns-3 Inv-loop μ-loop
 unfolding rest past spanTo
 returns-3 c =
     let here = c .before in
-    let text = here .before .args .text .now in
+    let text = here .before .before .args .text .now in
     let to = here .loop .to in
     let w = text-width text to (omega arith) in
     span-is text _ Text to (here .loop .inv .3 ∙ text-end text to (omega arith)) (omega arith)
@@ -63,14 +63,18 @@ field-spec =
     (tie.spec
     Inv-loop
     μ-loop
+    (λ c. search needs)
     loop-holds
     (λ c. search needs)
     (λ c. search needs)
+    (λ c. search needs)
     returns
+    (λ c. search needs)
     (λ c. search needs)
     (λ c. search needs)
     returns-2
     (λ c. search needs)
     (λ c. search needs)
     loop-again
+    (λ c. search needs)
     returns-3)

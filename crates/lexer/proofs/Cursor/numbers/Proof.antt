@@ -26,13 +26,13 @@ abbrev μ-loop : tie.MeasureT-loop
 loop-holds : tie.Need-loop-holds Inv-loop μ-loop
 loop-holds c = (omega arith, refl, c .before .before .pre, refl, sym (ahead-none _))
 
-number-requires : tie.Need-number-requires Inv-loop μ-loop
-number-requires c κs = c .before .loop .inv .2
+long-number-requires : tie.Need-long-number-requires Inv-loop μ-loop
+long-number-requires c κs = c .before .loop .inv .2
 
 returns : tie.Need-returns Inv-loop μ-loop
 returns c =
     let here = c .before .before .before .before in
-    let h = sym (c .before .before .number .ensures) ∙ c .enum-told .given .1 in
+    let h = sym (c .before .before .long-number .ensures) ∙ c .enum-told .given .1 in
     refused _ _ _ _ (stop-malformed _ _ _ _ (here .loop .inv .4) _ h) (here .loop .inv .1)
 
 loop-again : tie.Need-loop-again Inv-loop μ-loop
@@ -40,7 +40,7 @@ loop-again c =
     let narrow = c .before .before .narrow in
     let k = c .before .before .before in
     let here = k .before .before .before .before .before in
-    let h = sym (k .before .before .before .number .ensures) ∙ k .before .found .given .1 in
+    let h = sym (k .before .before .before .long-number .ensures) ∙ k .before .found .given .1 in
     let into = here .loop .into in
     let i = here .loop .i in
     let n = narrow .result in
@@ -59,7 +59,7 @@ returns-2 c =
     let narrow = c .before .before .before .narrow in
     let k = c .before .before .before .before in
     let here = k .before .before .before .before .before in
-    let h = sym (k .before .before .before .number .ensures) ∙ k .before .found .given .1 in
+    let h = sym (k .before .before .before .long-number .ensures) ∙ k .before .found .given .1 in
     let into = here .loop .into in
     let i = here .loop .i in
     let n = narrow .result in
@@ -75,7 +75,7 @@ returns-3 c =
     let narrow = c .before .before .before .narrow in
     let k = c .before .before .before .before in
     let here = k .before .before .before .before .before in
-    let h = sym (k .before .before .before .number .ensures) ∙ k .before .found .given .1 in
+    let h = sym (k .before .before .before .long-number .ensures) ∙ k .before .found .given .1 in
     let into = here .loop .into in
     let i = here .loop .i in
     let found = after-newline _ _ _ _ (here .loop .inv .4) _ _ _ h (here .loop .inv .2) (c .before .enum-told3 .given .1) in
@@ -88,7 +88,7 @@ returns-4 c =
     let narrow = c .before .before .narrow in
     let k = c .before .before .before in
     let here = k .before .before .before .before .before in
-    let h = sym (k .before .before .before .number .ensures) ∙ k .before .found .given .1 in
+    let h = sym (k .before .before .before .long-number .ensures) ∙ k .before .found .given .1 in
     refused _ _ _ _ (stop-text _ _ _ _ (here .loop .inv .4) _ _ _ h _ (c .enum-told4 .given .1))
     (length-set (here .loop .into) (here .loop .i) (narrow .result) ∙ here .loop .inv .1)
 
@@ -105,7 +105,7 @@ numbers-spec =
     Inv-loop
     μ-loop
     loop-holds
-    number-requires
+    long-number-requires
     (λ c. search needs)
     (λ c. search needs)
     (λ c. search needs)

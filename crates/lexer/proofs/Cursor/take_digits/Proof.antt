@@ -1,101 +1,13 @@
--- The loop's invariant: the digits taken so far, with what is left of the field from the byte reached, are the field.
-use mathlib.Core.Path.{_≡_, refl}
-use Prim.Native.Nat.{_≤_, _<_, _+_, _-_, _^_}
-use native.Mathlib.Omega.{arith}
+-- The digits are taken within the lower of what is left and what a numeral can have.
 use borrow.Author.Needs.{needs}
 use Rattle.spec.specs.Text.{digitLimit}
-use Rattle.lexer.proofs.Digits.{ten-more, ten-limit}
-use Rattle.lexer.proofs.FirstDigits.{Reached, reached-more, low-first, high-first, none-first, digits-taken}
 use Rattle.lexer.proofs.Cursor.take_digits.Statement.{statement}
 use Rattle.lexer.proofs.Cursor.take_digits.Tie as tie
 
-abbrev Inv-loop : tie.InvT-loop
-Inv-loop text from left stop to₀ value₀ to value = (from ≤ to) × (to ≤ stop) × (value < 10 ^ (to - from)) × Reached text from to value
-
-abbrev μ-loop : tie.MeasureT-loop
-μ-loop text from left stop to₀ value₀ to value = stop - to
-
-loop-holds : tie.Need-loop-holds Inv-loop μ-loop
-loop-holds c =
-    let at = c .before .before .args .self .at in
-    let none : at - at ≡ 0 = omega arith in
-    (omega arith, omega arith, rw none (omega arith), (refl, refl, refl, refl))
-
-returns : tie.Need-returns Inv-loop μ-loop
+digits-within-requires : tie.Need-digits-within-requires
 unfolding digitLimit
-returns c =
-    let here = c .before .before .before in
-    let lower = here .before .lower .ensures in
-    digits-taken _ _ _ lower (here .before .before .before .pre .inText) _ (omega arith) (omega arith) (here .loop .inv .3)
-    (λ h. low-first _ (here .loop .to) (omega (arith, lower .belowFirst)) (c .if1 .taken))
-
-returns-2 : tie.Need-returns-2 Inv-loop μ-loop
-unfolding digitLimit
-returns-2 c =
-    let here = c .before .before .before .before in
-    let lower = here .before .lower .ensures in
-    digits-taken _ _ _ lower (here .before .before .before .pre .inText) _ (omega arith) (omega arith) (here .loop .inv .3)
-    (λ h. high-first _ (here .loop .to) (omega (arith, lower .belowFirst)) (c .if2 .taken))
-
-mul-value : tie.Need-mul-value Inv-loop μ-loop
-unfolding digitLimit
-mul-value c =
-    let here = c .before .before .before .before in
-    let small = ten-limit (here .loop .to - _) (here .loop .value) (here .loop .inv .2) (omega (arith, here .before .lower .ensures .belowSecond)) in
-    omega arith
-
-cast-value : tie.Need-cast-value Inv-loop μ-loop
-cast-value c = omega arith
-
-sub-value : tie.Need-sub-value Inv-loop μ-loop
-sub-value c = omega arith
-
-add-value : tie.Need-add-value Inv-loop μ-loop
-unfolding digitLimit
-add-value c =
-    let here = c .before .before .before .before in
-    let small = ten-limit (here .loop .to - _) (here .loop .value) (here .loop .inv .2) (omega (arith, here .before .lower .ensures .belowSecond)) in
-    omega arith
-
-loop-again : tie.Need-loop-again Inv-loop μ-loop
-loop-again c =
-    let here = c .before .before .before .before in
-    let from = here .before .before .before .args .self .at in
-    let to = here .loop .to in
-    let value = here .loop .value in
-    let more : to + 1 - from ≡ to - from + 1 = omega arith in (
-      omega arith,
-      omega arith,
-      rw more (ten-more (to - from) value _ (here .loop .inv .2) (omega arith)),
-      reached-more _ from to value (here .loop .inv .3) (omega (arith, here .before .lower .ensures .belowFirst)) (omega arith) (omega arith),
-    )
-
-returns-3 : tie.Need-returns-3 Inv-loop μ-loop
-unfolding digitLimit
-returns-3 c =
-    let here = c .before in
-    let lower = here .before .lower .ensures in
-    digits-taken _ _ _ lower (here .before .before .before .pre .inText) _ (omega arith) (omega arith) (here .loop .inv .3)
-    (λ h. none-first _ (here .loop .to) (omega (arith, lower .one (omega arith))))
+digits-within-requires c κs = search needs
 
 pub take-digits-spec : {M : Type 1} → statement M
 take-digits-spec =
-    tie.close
-    (tie.spec
-    Inv-loop
-    μ-loop
-    (λ c. search needs)
-    (λ c κs. search needs)
-    (λ c. search needs)
-    loop-holds
-    (λ c. search needs)
-    returns
-    returns-2
-    mul-value
-    cast-value
-    sub-value
-    add-value
-    (λ c. search needs)
-    (λ c. search needs)
-    loop-again
-    returns-3)
+    tie.close (tie.spec (λ c. search needs) (λ c. search needs) (λ c κs. search needs) digits-within-requires (λ c. search needs))
