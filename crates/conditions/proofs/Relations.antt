@@ -1,14 +1,22 @@
 -- A relation between maps, one location at a time, as the loops over locations go through them.
-use mathlib.Core.Path.{_≡_, refl}
-use mathlib.Core.Bool.{true, false}
+use mathlib.Core.Path.{_≡_, refl, sym}
+use mathlib.Core.Bool.{Bool, true, false}
 use mathlib.Core.List.{List}
 use mathlib.Core.Option.{none, some}
-use Prim.Native.Nat.{ℕ, suc, _+_, _-_, _<_, _≤_}
+use Prim.Native.Nat.{ℕ, zero, suc, _+_, _-_, _<_, _≤_}
 use native.Mathlib.Omega.{arith}
+use lib.Dec.{leb, ltb}
+use borrow.Author.Tests.{eqb-true, eq-eqb, ltb-true, ltb-false, lt-ltb, le-ltb, lt-leb, le-leb}
 use Rattle.spec.specs.Choice.{if_then_else_}
-use Rattle.spec.specs.Maps.{lowest, atLeast, _+ᵐ_, _×ᵐ_, overWhole}
-use Rattle.workspace.specs.Layout.{mapFrom}
-use Rattle.conditions.specs.Relation.{holdsAt, failsFrom}
+use Rattle.spec.specs.Maps.{lowest, atLeast, _+ᵐ_, _×ᵐ_, overWhole, nowhere}
+use Rattle.spec.specs.Reading.{on}
+use Rattle.spec.specs.Conditions.{F}
+use Rattle.spec.specs.Sites.{judge}
+use Rattle.spec.specs.declared.Location.{Location}
+use Rattle.spec.specs.declared.MapNumber.{MapNumber}
+use Rattle.spec.proofs.Clashes.{true-is-not-false}
+use Rattle.workspace.specs.Layout.{mapCell, mapFrom}
+use Rattle.conditions.specs.Relation.{holdsAt, ofItself, failsFrom, below, everywhere}
 use Rattle.conditions.specs.declared.Relation.{Relation}
 use Rattle.conditions.specs.declared.Relation.the-variants.{Equal, AtLeast, Covers, Sum, Within}
 
@@ -45,3 +53,49 @@ module _ (w : List ℕ) where
     fails-nowhere h =
         let none-left : n - l ≡ 0 = omega arith in
         rw (none-left, at-end r l)
+
+  cell-of-one : (a b : MapNumber) (l : ℕ) → a .0 ≡ b .0 → mapCell w a l ≡ mapCell w b l
+  unfolding mapCell
+  cell-of-one a b l e = rw e
+
+  -- a map and itself
+  itself-holds : (r : Relation) → ofItself r ≡ true → (l : ℕ) → holdsAt w r l ≡ true
+  unfolding ofItself holdsAt
+  itself-holds (Equal a b) e l = eq-eqb (mapCell w a l) (mapCell w b l) (cell-of-one a b l (eqb-true (a .0) (b .0) e))
+  itself-holds (AtLeast a b) e l =
+      let one = cell-of-one a b l (eqb-true (a .0) (b .0) e) in
+      le-leb (mapCell w b l) (mapCell w a l) (omega arith)
+  itself-holds (Covers a k b) e l = true-is-not-false (sym e)
+  itself-holds (Sum a b c) e l = true-is-not-false (sym e)
+  itself-holds (Within a d) e l = true-is-not-false (sym e)
+
+  pub itself-nowhere : (r : Relation) → ofItself r ≡ true → (l n : ℕ) → failsFrom w r l n ≡ none
+  itself-nowhere r e l zero = at-end r l
+  itself-nowhere r e l (suc n) = rw (one-more r l n, itself-holds r e l) (itself-nowhere r e (l + 1) n)
+
+  pub itself-everywhere : (r : Relation) → ofItself r ≡ true → (n : ℕ) → everywhere w n r ≡ true
+  unfolding everywhere nowhere
+  itself-everywhere r e n = rw (itself-nowhere r e 0 n)
+
+  -- a flow condition on a map and itself
+  pub itself-flows : (line i : ℕ) (r : Relation) → ofItself r ≡ true → (n : ℕ) → on tt ≡ judge line i (F (failsFrom w r 0 n))
+  unfolding judge
+  itself-flows line i r e n = rw (itself-nowhere r e 0 n)
+
+-- ------------------------------------------------------------------ the location that the code hands back
+
+pub below-here : (n : ℕ) (p : Location) → p .0 < n → below n p ≡ some (p .0)
+unfolding below
+below-here n p h = rw (lt-ltb (p .0) n h)
+
+pub below-none : (n : ℕ) (p : Location) → n ≤ p .0 → below n p ≡ none
+unfolding below
+below-none n p h = rw (le-ltb (p .0) n h)
+
+pub told-everywhere : (w : List ℕ) (r : Relation) (n : ℕ) (p : Location) → below n p ≡ failsFrom w r 0 n → leb n (p .0) ≡ everywhere w n r
+unfolding everywhere
+told-everywhere w r n p e = rw (← e) (either (ltb (p .0) n) refl)
+  where
+    either : (s : Bool) → ltb (p .0) n ≡ s → leb n (p .0) ≡ nowhere (below n p)
+    either true h = unfold nowhere in rw (below-here n p (ltb-true (p .0) n h)) (lt-leb n (p .0) (ltb-true (p .0) n h))
+    either false h = unfold nowhere in rw (below-none n p (ltb-false (p .0) n h)) (le-leb n (p .0) (ltb-false (p .0) n h))

@@ -1,16 +1,15 @@
 -- Relations between maps that stand in the work space, location by location, and access to one location.
-use mathlib.Core.Bool.{Bool}
+use mathlib.Core.Bool.{Bool, false}
 use mathlib.Core.List.{List}
 use mathlib.Core.Option.{Option, none, some}
 use Prim.Native.Nat.{ℕ, _+_, _*_}
-use lib.Dec.{eqb, leb}
+use lib.Dec.{eqb, leb, ltb}
+use Rattle.spec.specs.Choice.{if_then_else_}
 use Rattle.spec.specs.Maps.{lowest, atLeast, _+ᵐ_, _×ᵐ_, overWhole, nowhere}
 use Rattle.spec.specs.Conditions.{Condition, A}
 use Rattle.spec.specs.declared.Location.{Location}
 use Rattle.spec.specs.declared.MapNumber.{MapNumber}
 use Rattle.workspace.specs.Layout.{mapCell, mapFrom}
-use Rattle.conditions.specs.declared.Failing.{Failing}
-use Rattle.conditions.specs.declared.Failing.the-variants.{Nowhere, At}
 use Rattle.conditions.specs.declared.Relation.{Relation}
 use Rattle.conditions.specs.declared.Relation.the-variants.{Equal, AtLeast, Covers, Sum, Within}
 
@@ -30,10 +29,17 @@ failsFrom w (Covers a k b) l n = lowest atLeast l (mapFrom w a l n) (k ×ᵐ map
 failsFrom w (Sum a b c) l n = lowest eqb l (mapFrom w a l n +ᵐ mapFrom w b l n) (mapFrom w c l n)
 failsFrom w (Within a d) l n = overWhole d l (mapFrom w a l n)
 
--- what the code says of that location
-unfoldable pub failsAt : Failing → Option ℕ
-failsAt Nowhere = none
-failsAt (At p) = some (p .0)
+-- that location as the code hands it back: one of n, or none
+unfoldable pub below : (n : ℕ) → Location → Option ℕ
+below n p = if ltb (p .0) n then some (p .0) else none
+
+-- whether a relation that each map has to itself is asked of a map and itself
+unfoldable pub ofItself : Relation → Bool
+ofItself (Equal a b) = eqb (a .0) (b .0)
+ofItself (AtLeast a b) = eqb (a .0) (b .0)
+ofItself (Covers a k b) = false
+ofItself (Sum a b c) = false
+ofItself (Within a d) = false
 
 -- whether a relation holds at each of n locations
 unfoldable pub everywhere : (w : List ℕ) (n : ℕ) → Relation → Bool

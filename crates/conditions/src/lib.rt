@@ -18,7 +18,7 @@ ghost use Rattle.spec.specs.Conditions.{T, F};
 ghost use Rattle.spec.specs.Sites.{judge};
 ghost use Rattle.conditions.specs.Outcome.{outcome, both};
 ghost use Rattle.conditions.specs.SheetOutcomes.{startOutcome};
-ghost use Rattle.conditions.specs.Relation.{holdsAt, failsFrom, failsAt, everywhere, hasAtLeast};
+ghost use Rattle.conditions.specs.Relation.{holdsAt, ofItself, failsFrom, below, everywhere, hasAtLeast};
 
 // Every condition is met, or the first that is not refuses.
 pub enum Ruling {
@@ -33,12 +33,6 @@ pub enum Relation {
     Covers(MapNumber, u32, MapNumber),
     Sum(MapNumber, MapNumber, MapNumber),
     Within(MapNumber, u32),
-}
-
-// The lowest location at which a relation fails.
-enum Failing {
-    Nowhere,
-    At(Location),
 }
 
 // The first refusal of two rulings.
@@ -92,43 +86,61 @@ fn holds_at(work: &[u32], relation: Relation, p: Location) -> bool
     }
 }
 
-// Where a relation fails first.
-fn lowest_failing(work: &[u32], locations: u32, relation: Relation) -> Failing
-    ensures { λ r. ⌜ failsAt r ≡ failsFrom (now (work .entry)) relation 0 locations ⌝ }
+// Whether a relation that each map has to itself is asked of a map and itself.
+fn of_itself(relation: Relation) -> bool
+    ensures { λ ok. ⌜ ok ≡ ofItself relation ⌝ }
+{
+    match relation {
+        Relation::Equal(a, b) => a.0 == b.0,
+        Relation::AtLeast(a, b) => a.0 == b.0,
+        Relation::Covers(_, _, _) => false,
+        Relation::Sum(_, _, _) => false,
+        Relation::Within(_, _) => false,
+    }
+}
+
+// The lowest location at which a relation fails; past the last, if it holds at all of them.
+fn lowest_failing(work: &[u32], locations: u32, relation: Relation) -> Location
+    ensures { λ p. ⌜ below locations p ≡ failsFrom (now (work .entry)) relation 0 locations ⌝ }
 {
     let mut l = 0;
     while l < locations {
         let p = Location(l);
         if !holds_at(work, relation, p) {
-            return Failing::At(p);
+            return p;
         }
         l += 1;
     }
-    Failing::Nowhere
+    Location(locations)
 }
 
-// Whether a relation holds at every location.
+// Whether a relation holds at every location. Most that are asked are of a map and itself.
 fn everywhere(work: &[u32], locations: u32, relation: Relation) -> bool
     ensures { λ ok. ⌜ ok ≡ everywhere (now (work .entry)) locations relation ⌝ }
 {
-    match lowest_failing(work, locations, relation) {
-        Failing::Nowhere => true,
-        Failing::At(_) => false,
+    if of_itself(relation) {
+        return true;
     }
+    let p = lowest_failing(work, locations, relation);
+    locations <= p.0
 }
 
 // A flow condition, refused at the lowest location at which it fails.
 pub fn flow(line: u32, condition: u32, work: &[u32], locations: u32, relation: Relation) -> Ruling
     ensures { λ r. ⌜ outcome r ≡ judge line condition (F (failsFrom (now (work .entry)) relation 0 locations)) ⌝ }
 {
-    match lowest_failing(work, locations, relation) {
-        Failing::Nowhere => Ruling::Met,
-        Failing::At(p) => Ruling::Refused(Refusal::FlowFalse {
+    if of_itself(relation) {
+        return Ruling::Met;
+    }
+    let p = lowest_failing(work, locations, relation);
+    if p.0 < locations {
+        return Ruling::Refused(Refusal::FlowFalse {
             line: line,
             condition: condition,
             location: p,
-        }),
+        });
     }
+    Ruling::Met
 }
 
 // A map has at least so much of a location.
@@ -155,11 +167,12 @@ pub fn check_start(
 ) -> Ruling
     ensures { λ r. ⌜ outcome r ≡ startOutcome line (now (work .entry)) denominator locations start ⌝ }
 {
-    match lowest_failing(work, locations, Relation::Within(start, denominator)) {
-        Failing::Nowhere => Ruling::Met,
-        Failing::At(p) => Ruling::Refused(Refusal::OverOne {
+    let p = lowest_failing(work, locations, Relation::Within(start, denominator));
+    if p.0 < locations {
+        return Ruling::Refused(Refusal::OverOne {
             line: line,
             location: p,
-        }),
+        });
     }
+    Ruling::Met
 }

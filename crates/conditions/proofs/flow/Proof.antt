@@ -1,17 +1,22 @@
+use mathlib.Core.Path.{sym, _∙_}
 use Rattle.spec.specs.Sites.{judge}
 use Rattle.conditions.specs.Outcome.{outcome}
-use Rattle.conditions.specs.Relation.{failsAt}
+use Rattle.conditions.proofs.Relations.{itself-flows, below-here, below-none}
 use borrow.Author.Needs.{needs}
 use Rattle.conditions.proofs.flow.Statement.{statement}
 use Rattle.conditions.proofs.flow.Tie as tie
 
+returns : tie.Need-returns
+unfolding outcome
+returns c = itself-flows _ _ _ _ (sym (c .before .of-itself .ensures) ∙ c .if1 .taken) _
+
 pub flow-spec : {M : Type 1} → statement M
-unfolding outcome judge failsAt
+unfolding outcome judge
 flow-spec =
     tie.close
     (tie.spec
     (λ c κs. search needs)
-    (λ c. search needs)
-    (λ c. search needs)
-    (λ c. rw (← c .before .before .lowest-failing .ensures, c .enum-told .given .1))
-    (λ c. rw (← c .before .before .before .lowest-failing .ensures, c .before .p .given .1)))
+    returns
+    (λ c κs. search needs)
+    (λ c. rw (← c .before .before .lowest-failing .ensures, below-here _ _ (c .if2 .taken)))
+    (λ c. rw (← c .before .before .lowest-failing .ensures, below-none _ _ (c .if2 .left))))

@@ -4,8 +4,8 @@ use mathlib.Core.Path.{_≡_, refl, sym, _∙_}
 use native.Mathlib.Omega.{arith}
 use native.Mathlib.Nat.{sub-zero}
 use borrow.Author.Tests.{not-true, not-false}
-use Rattle.conditions.specs.Relation.{failsFrom, failsAt}
-use Rattle.conditions.proofs.Relations.{fails-later, fails-here, fails-nowhere}
+use Rattle.conditions.specs.Relation.{failsFrom}
+use Rattle.conditions.proofs.Relations.{below-here, below-none, fails-later, fails-here, fails-nowhere}
 use Rattle.conditions.proofs.lowest_failing.Statement.{statement}
 use Rattle.conditions.proofs.lowest_failing.Tie as tie
 
@@ -23,9 +23,9 @@ holds-at-requires : tie.Need-holds-at-requires Inv-loop μ-loop
 holds-at-requires c κs = tt
 
 returns : tie.Need-returns Inv-loop μ-loop
-unfolding failsAt
 returns c =
-    sym (c .before .before .before .loop .inv .1
+    below-here _ _ (c .before .before .loop-test .taken)
+    ∙ sym (c .before .before .before .loop .inv .1
     ∙ fails-here _ _ _ _ (c .before .before .loop-test .taken) (sym (c .before .holds-at .ensures)
     ∙ not-true _ (c .if1 .taken)))
 
@@ -44,8 +44,8 @@ loop-again c = (
 )
 
 returns-2 : tie.Need-returns-2 Inv-loop μ-loop
-unfolding failsAt
-returns-2 c = sym (c .before .loop .inv .1 ∙ fails-nowhere _ _ _ _ (c .loop-test .left))
+returns-2 c =
+    below-none _ _ (omega arith) ∙ sym (c .before .loop .inv .1 ∙ fails-nowhere _ _ _ _ (c .loop-test .left))
 
 pub lowest-failing-spec : {M : Type 1} → statement M
 lowest-failing-spec =
