@@ -9,8 +9,9 @@ use lib.Dec.{eqb, ltb}
 use lib.ListN.{length, getD}
 use types.Run.{OneOf, miss}
 use denote.Enum.Declared.{tagOf}
-use borrow.Author.Tests.{eq-eqb, ne-eqb, lt-ltb, le-ltb, ltb-true}
+use borrow.Author.Tests.{eq-eqb, eqb-true, ne-eqb, lt-ltb, le-ltb, ltb-true}
 use Rattle.spec.proofs.TypeLine as kind
+use Rattle.spec.specs.Choice.{if_then_else_}
 use Rattle.spec.specs.Program.{Program}
 use Rattle.spec.specs.Split.{Split, typeAt, mapAt}
 use Rattle.spec.specs.Maps.{nowhere, sameNumbers, _≥ᵐ_}
@@ -24,7 +25,7 @@ use Rattle.spec.specs.declared.TypeNumber.{TypeNumber}
 use Rattle.spec.specs.declared.TypeLine.{TypeLine}
 use Rattle.spec.specs.declared.TypeLine.the-variants.{Int, Ref, Lock, Tid, Sem, Rwlock}
 use Rattle.spec.proofs.Clashes.{true-is-not-false}
-use Rattle.spec.proofs.Agreement.{same-maps-single, same-maps-two, content-smaller, tree-of-type}
+use Rattle.spec.proofs.Agreement.{same-maps-single, same-maps-two, content-smaller, tree-of-type, agree-reflexive}
 use Rattle.workspace.specs.Layout as layout
 use Rattle.workspace.specs.Holds.{HoldsSplit}
 use Rattle.workspace.proofs.Shown.{type-shown, LoadsIn, loads-in, map-stands}
@@ -77,38 +78,44 @@ module _ (w : List ℕ) (n : ℕ) where
   any-bound zero b′ t u p q = absurd (omega arith)
   any-bound (suc b) zero t u p q = absurd (omega arith)
   any-bound (suc b) (suc b′) t u p q =
-      lines-same _ _ (λ c d. either c d (λ l. any-bound b b′ c d (omega arith) (omega arith)) (ltb (c .0) (t .0)) refl) _ _
+      rw (lines-same _ _ (λ c d. either c d (λ l. any-bound b b′ c d (omega arith) (omega arith)) (ltb (c .0) (t .0)) refl) (layout.typeAt w t) (layout.typeAt w u))
     where
       either : (c d : TypeNumber) → (c .0 < t .0 → agreeBelow w n b c d ≡ agreeBelow w n b′ c d) → (s : Bool) → ltb (c .0) (t .0) ≡ s
           → (s && agreeBelow w n b c d) ≡ (s && agreeBelow w n b′ c d)
       either c d h true e = h (ltb-true (c .0) (t .0) e)
       either c d h false e = refl
 
-  module _ (t u : TypeNumber) {x y : TypeLine} (e : x ≡ layout.typeAt w t) (g : y ≡ layout.typeAt w u) where
+  -- one type
+  pub itself-agrees : (t u : TypeNumber) → t .0 ≡ u .0 → agreeIn w n t u ≡ true
+  unfolding agreeIn agreeBelow
+  itself-agrees t u h = rw (eq-eqb _ _ h)
+
+  -- two types
+  module _ (t u : TypeNumber) (two : t .0 ≡ u .0 → ⊥) {x y : TypeLine} (e : x ≡ layout.typeAt w t) (g : y ≡ layout.typeAt w u) where
     -- a type that is no ref
     pub plain-agree : OneOf (0 ∷ 2 ∷ 3 ∷ 4 ∷ 5 ∷ []) (tagOf kind.the-type x) → linesAgree w n (λ c d. false) x y ≡ agreeIn w n t u
     unfolding agreeIn agreeBelow
-    plain-agree h = rw (← e, ← g) (plain-lines _ _ x y h)
+    plain-agree h = rw (ne-eqb _ _ two, ← e, ← g) (plain-lines _ _ x y h)
 
     -- a ref: with a type that is none, at another location, with a content that is not smaller, with contents to compare
     module _ {p : Location} {c : TypeNumber} (is-ref : x ≡ Ref p c) where
       pub ref-alone : isRef y ≡ false → agreeIn w n t u ≡ false
       unfolding agreeIn agreeBelow linesAgree
-      ref-alone h = rw (← e, ← g, is-ref, h)
+      ref-alone h = rw (ne-eqb _ _ two, ← e, ← g, is-ref, h)
 
       module _ {q : Location} {d : TypeNumber} (is-ref′ : y ≡ Ref q d) where
         pub refs-apart : (p .0 ≡ q .0 → ⊥) → agreeIn w n t u ≡ false
         unfolding agreeIn agreeBelow linesAgree isRef refLocation
-        refs-apart h = rw (← e, ← g, is-ref, is-ref′, ne-eqb _ _ h)
+        refs-apart h = rw (ne-eqb _ _ two, ← e, ← g, is-ref, is-ref′, ne-eqb _ _ h)
 
         pub refs-not-smaller : p .0 ≡ q .0 → t .0 ≤ c .0 → agreeIn w n t u ≡ false
         unfolding agreeIn agreeBelow linesAgree isRef refLocation
-        refs-not-smaller h l = rw (← e, ← g, is-ref, is-ref′, eq-eqb _ _ h, le-ltb _ _ l)
+        refs-not-smaller h l = rw (ne-eqb _ _ two, ← e, ← g, is-ref, is-ref′, eq-eqb _ _ h, le-ltb _ _ l)
 
         pub refs-by-contents : p .0 ≡ q .0 → c .0 < t .0 → agreeIn w n c d ≡ agreeIn w n t u
         unfolding agreeIn agreeBelow linesAgree isRef refLocation content
         refs-by-contents h l =
-            rw (← e, ← g, is-ref, is-ref′, eq-eqb _ _ h, lt-ltb _ _ l) (any-bound (suc (c .0)) (t .0) c d (omega arith) l)
+            rw (ne-eqb _ _ two, ← e, ← g, is-ref, is-ref′, eq-eqb _ _ h, lt-ltb _ _ l) (any-bound (suc (c .0)) (t .0) c d (omega arith) l)
 
 -- ------------------------------------------------------------------ what a var line may show
 
@@ -128,6 +135,19 @@ module _ (w : List ℕ) (n : ℕ) (t u : TypeNumber) where
   both-locks e g h k = rw (← e, ← g, h, k)
 
 -- ------------------------------------------------------------------ the split that the work space holds
+
+-- two types with one number are one type, and agree
+one-agrees : (S : Split) (t u : TypeNumber) → t .0 ≡ u .0 → agree S t u ≡ true
+one-agrees S t u e =
+    let one : t ≡ u = λ i. record { 0 = e i } in
+    rw (← one) (agree-reflexive S t)
+
+one-or-two : (S : Split) (t u : TypeNumber) (b : Bool) → b ≡ agree S t u → (if eqb (t .0) (u .0) then true else b) ≡ agree S t u
+one-or-two S t u b h = either (eqb (t .0) (u .0)) refl
+  where
+    either : (one : Bool) → eqb (t .0) (u .0) ≡ one → (if one then true else b) ≡ agree S t u
+    either true e = sym (one-agrees S t u (eqb-true _ _ e))
+    either false e = h
 
 module _ (w : List ℕ) (S : Split) (P : Program) (H : HoldsSplit w S) (R : InRange P S) (n : ℕ) (located : n ≡ S .header .locations) where
   same-numbers-shown : (k h : MapNumber) → k .0 < length (S .maps) → h .0 < length (S .maps)
@@ -192,14 +212,15 @@ module _ (w : List ℕ) (S : Split) (P : Program) (H : HoldsSplit w S) (R : InRa
   unfolding agreeBelow agree tree
   below-shown zero t u l i j = absurd (omega arith)
   below-shown (suc b) t u l i j =
-      rw (
+      one-or-two S t u (linesAgree w n (λ c d. ltb (c .0) (t .0) && agreeBelow w n b c d) (layout.typeAt w t) (layout.typeAt w u))
+      (rw (
         type-shown w S P H R t i,
         type-shown w S P H R u j,
         tree-of-type S R t _ refl,
         tree-of-type S R u _ refl,
       )
       (lines-shown (trees S [] (S .types)) _ (typeAt S t) (typeAt S u) (loads-in w S P H R t i) (loads-in w S P H R u j)
-      (λ p q c d e g. down p q c d e g (below-shown b c d)))
+      (λ p q c d e g. down p q c d e g (below-shown b c d))))
     where
       down : (p q : Location) (c d : TypeNumber) → typeAt S t ≡ Ref p c → typeAt S u ≡ Ref q d
           → (c .0 < b → c .0 < length (S .types) → d .0 < length (S .types) → agreeBelow w n b c d ≡ sameTree (tree S c) (tree S d))

@@ -38,11 +38,14 @@ module _ (w : List ℕ) (n : ℕ) where
   linesAgree contents (type-line.Rwlock rd wr) y =
       isRwlock y && (everywhere (Equal rd (readLoad y)) && everywhere (Equal wr (writeLoad y)))
 
-  -- a type numbered below the bound agrees with another. A content agrees only if it is numbered below its ref, as each is in
-  -- a sheet.
+  -- a type numbered below the bound agrees with another: with itself, and else as the lines say. A content agrees only if it is
+  -- numbered below its ref, as each is in a sheet.
   unfoldable pub agreeBelow : (bound : ℕ) → TypeNumber → TypeNumber → Bool
   agreeBelow zero t u = false
-  agreeBelow (suc bound) t u = linesAgree (λ c d. ltb (c .0) (t .0) && agreeBelow bound c d) (typeAt w t) (typeAt w u)
+  agreeBelow (suc bound) t u =
+      if eqb (t .0) (u .0)
+      then true
+      else linesAgree (λ c d. ltb (c .0) (t .0) && agreeBelow bound c d) (typeAt w t) (typeAt w u)
 
   unfoldable pub agreeIn : TypeNumber → TypeNumber → Bool
   agreeIn t u = agreeBelow (suc (t .0)) t u

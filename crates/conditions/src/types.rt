@@ -81,10 +81,14 @@ fn agree_plain(work: &[u32], locations: u32, kind: TypeLine, other: TypeLine) ->
 }
 
 // Two types agree when their kinds agree and their maps hold equal numbers; refs have the same location, and their contents
-// are compared the same way. A content's number is smaller than its ref's in every sheet; where it is not, nothing agrees.
+// are compared the same way. A type agrees with itself at once, which is what most that are asked come to. A content's number
+// is smaller than its ref's in every sheet; where it is not, nothing agrees.
 pub fn agree(work: &[u32], locations: u32, a: TypeNumber, b: TypeNumber) -> bool
     ensures { λ ok. ⌜ ok ≡ agreeIn (now (work .entry)) locations a b ⌝ }
 {
+    if a.0 == b.0 {
+        return true;
+    }
     let kind = type_at(work, a);
     let other = type_at(work, b);
     let TypeLine::Ref(p, c) = kind else {

@@ -4,7 +4,7 @@ use mathlib.Core.Path.{sym, _∙_}
 use native.Mathlib.Omega.{arith}
 use Prim.Native.Nat.{ℕ, _<_}
 use Rattle.conditions.proofs.TypeKinds.{not-ref}
-use Rattle.conditions.proofs.Agreement.{plain-agree, ref-alone, refs-apart, refs-not-smaller, refs-by-contents}
+use Rattle.conditions.proofs.Agreement.{itself-agrees, plain-agree, ref-alone, refs-apart, refs-not-smaller, refs-by-contents}
 use borrow.Fn.Kinds.{In}
 use borrow.Fn.PlainCycle.{Measures, is, falls, and}
 use Rattle.conditions.proofs.types.agree.Reads as agree
@@ -35,56 +35,61 @@ calls t = (
   agree.Post,
 )
 
--- no ref; a ref and none; refs at two locations; a content that is not smaller; contents to compare
-plain : (t : ℕ) → agree-lts.Need-returns (calls t) (agree-at t) agree.Post
-plain t c =
-    c .agree-plain .ensures
-    ∙ plain-agree _ _ _ _ (c .before .before .before .type-at .ensures) (c .before .before .type-at2 .ensures) (c .before .match .keys2)
+-- one type; no ref; a ref and none; refs at two locations; a content that is not smaller; contents to compare
+itself : (t : ℕ) → agree-lts.Need-returns (calls t) (agree-at t) agree.Post
+itself t c = sym (itself-agrees _ _ _ _ (c .if1 .taken))
 
-alone : (t : ℕ) → agree-lts.Need-returns-2 (calls t) (agree-at t) agree.Post
+plain : (t : ℕ) → agree-lts.Need-returns-2 (calls t) (agree-at t) agree.Post
+plain t c =
+    let lines = c .before .before in
+    c .agree-plain .ensures
+    ∙ plain-agree _ _ _ _ (lines .before .before .if1 .left) (lines .before .type-at .ensures) (lines .type-at2 .ensures) (c .before .match .keys2)
+
+alone : (t : ℕ) → agree-lts.Need-returns-3 (calls t) (agree-at t) agree.Post
 alone t c =
     let at-kind = c .before .before in
     let lines = at-kind .before .before in
-    sym (ref-alone _ _ _ _ (lines .before .type-at .ensures) (lines .type-at2 .ensures) (at-kind .kind .given .1)
+    sym (ref-alone _ _ _ _ (lines .before .before .if1 .left) (lines .before .type-at .ensures) (lines .type-at2 .ensures) (at-kind .kind .given .1)
     (not-ref _ (c .match2 .keys2)))
 
-apart : (t : ℕ) → agree-lts.Need-returns-3 (calls t) (agree-at t) agree.Post
+apart : (t : ℕ) → agree-lts.Need-returns-4 (calls t) (agree-at t) agree.Post
 apart t c =
     let at-other = c .before .before .before .before in
     let at-kind = at-other .before .before .before in
     let lines = at-kind .before .before in
-    sym (refs-apart _ _ _ _ (lines .before .type-at .ensures) (lines .type-at2 .ensures) (at-kind .kind .given .1)
-    (at-other .other .given .1) (c .if1 .taken))
+    sym (refs-apart _ _ _ _ (lines .before .before .if1 .left) (lines .before .type-at .ensures) (lines .type-at2 .ensures) (at-kind .kind .given .1)
+    (at-other .other .given .1) (c .if2 .taken))
 
-not-smaller : (t : ℕ) → agree-lts.Need-returns-4 (calls t) (agree-at t) agree.Post
+not-smaller : (t : ℕ) → agree-lts.Need-returns-5 (calls t) (agree-at t) agree.Post
 not-smaller t c =
     let at-if = c .before .before .before in
     let at-other = at-if .before .before .before .before in
     let at-kind = at-other .before .before .before in
     let lines = at-kind .before .before in
-    sym (refs-not-smaller _ _ _ _ (lines .before .type-at .ensures) (lines .type-at2 .ensures) (at-kind .kind .given .1)
-    (at-other .other .given .1) (at-if .if1 .left) (c .if2 .taken))
+    sym (refs-not-smaller _ _ _ _ (lines .before .before .if1 .left) (lines .before .type-at .ensures) (lines .type-at2 .ensures) (at-kind .kind .given .1)
+    (at-other .other .given .1) (at-if .if2 .left) (c .if3 .taken))
 
 content-smaller : (t : ℕ) → agree-lts.Need-agree-requires (calls t) (agree-at t) agree.Post
 content-smaller t c κs =
     let at-other = c .before .before .before .before .before .before .before in
-    let at-start = at-other .before .before .before .before .before .before .before .before in
-    (omega (arith, c .if2 .left, at-start .pre .0), tt)
+    let at-start = at-other .before .before .before .before .before .before .before .before .before .before .before in
+    (omega (arith, c .if3 .left, at-start .pre .0), tt)
 
-by-contents : (t : ℕ) → agree-lts.Need-returns-5 (calls t) (agree-at t) agree.Post
+by-contents : (t : ℕ) → agree-lts.Need-returns-6 (calls t) (agree-at t) agree.Post
 by-contents t c =
     let at-if = c .before .before .before .before in
     let at-other = at-if .before .before .before .before in
     let at-kind = at-other .before .before .before in
     let lines = at-kind .before .before in
     c .agree .ensures
-    ∙ refs-by-contents _ _ _ _ (lines .before .type-at .ensures) (lines .type-at2 .ensures) (at-kind .kind .given .1)
-    (at-other .other .given .1) (at-if .if1 .left) (omega (arith, c .before .if2 .left))
+    ∙ refs-by-contents _ _ _ _ (lines .before .before .if1 .left) (lines .before .type-at .ensures) (lines .type-at2 .ensures) (at-kind .kind .given .1)
+    (at-other .other .given .1) (at-if .if2 .left) (omega (arith, c .before .if3 .left))
 
 pub +agree-spec : {M : Type 1} → statement M
 +agree-spec = close μ-agree λ t. agree-lts.spec (calls t)
     (agree-at t)
     agree.Post
+    (itself t)
     (λ c κs. search needs)
     (λ c κs. search needs)
     (λ c. search needs)
