@@ -176,19 +176,25 @@ fn pre_of_second(w: BinaryWord, pre: MapNumber, post1: MapNumber, start: MapNumb
     }
 }
 
-// The maps before the parts of step k. The sheet's locations and denominator play no part in them.
+// The maps before the parts of step k.
 fn pass_on(work: &mut [u32], k: u32)
     requires { ⌜ (length (now work) ≡ workSize) × (k < 4294967295) ⌝ }
     ensures { λ _. ⌜ now (work .exit) ≡ passOn (now (work .entry)) k ⌝ }
 {
-    let s = view_of(work, 0, 0, k);
-    let second = cell(work, ENDS + 1, k);
     match word_of(cell(work, WORDS, k)) {
         Word::Leaf(_) => {}
-        Word::Unary(u) => put_pre(work, k + 1, pre_of_part(u, s.pre, s.post)),
+        Word::Unary(u) => {
+            let pre = MapNumber(cell(work, PRES, k));
+            let post = MapNumber(cell(work, POSTS, k));
+            put_pre(work, k + 1, pre_of_part(u, pre, post));
+        }
         Word::Binary(b) => {
-            put_pre(work, k + 1, s.pre);
-            put_pre(work, second, pre_of_second(b, s.pre, s.post1, s.start));
+            let pre = MapNumber(cell(work, PRES, k));
+            let post1 = MapNumber(cell(work, POSTS + 1, k));
+            let start = MapNumber(cell(work, STARTS, k));
+            let second = cell(work, ENDS + 1, k);
+            put_pre(work, k + 1, pre);
+            put_pre(work, second, pre_of_second(b, pre, post1, start));
         }
     }
 }
