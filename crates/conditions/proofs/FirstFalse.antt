@@ -1,5 +1,5 @@
 -- The first false one of a step's conditions, one condition at a time, as the code of a word goes through them.
-use mathlib.Core.Path.{_≡_, refl, sym, ap, _∙_}
+use mathlib.Core.Path.{_≡_, refl, sym, _∙_}
 use mathlib.Core.Bool.{Bool, true, false}
 use mathlib.Core.List.{List, [], _∷_}
 use Prim.Native.Nat.{ℕ, _+_}
@@ -36,18 +36,6 @@ module _ (line i : ℕ) where
   pub next : (c : Condition) (cs : List Condition) {v : Out (Unit {0})} (a b : Out (Unit {0}))
       → v ≡ both a b → a ≡ judge line i c → b ≡ firstFalseFrom line (i + 1) cs → v ≡ firstFalseFrom line i (c ∷ cs)
   next c cs a b e p q = e ∙ rw (p, q) (sym (first-false-cons c cs))
-
-  -- two conditions that `also` joins, and those after them
-  pub next-two : (c d : Condition) (cs : List Condition) {v u : Out (Unit {0})} (a b f : Out (Unit {0}))
-      → v ≡ both u f → u ≡ both a b → a ≡ judge line i c → b ≡ judge line (i + 1) d → f ≡ firstFalseFrom line (i + 1 + 1) cs
-      → v ≡ firstFalseFrom line i (c ∷ d ∷ cs)
-  unfolding firstFalseFrom numbered firstFalse both
-  next-two c d cs a b f e h p q r =
-      e ∙ rw (h, p, q, r) (both-assoc (judge line i c) (judge line (i + 1) d) (firstFalseFrom line (i + 1 + 1) cs))
-
-  -- a condition on types, by what its test comes to
-  pub asked-as : {a b : Bool} {v : Out (Unit {0})} → v ≡ judge line i (T a) → a ≡ b → v ≡ judge line i (T b)
-  asked-as h e = h ∙ ap (λ x. judge line i (T x)) e
 
   -- one that holds, one that fails
   pub pass : (b : Bool) (cs : List Condition) {v : Out (Unit {0})} → b ≡ true → v ≡ firstFalseFrom line (i + 1) cs

@@ -55,17 +55,6 @@ pub fn type_false(line: u32, condition: u32) -> Ruling
     })
 }
 
-// A condition on types.
-pub fn on_types(line: u32, condition: u32, holds: bool) -> Ruling
-    ensures { λ r. ⌜ outcome r ≡ judge line condition (T holds) ⌝ }
-{
-    if holds {
-        Ruling::Met
-    } else {
-        type_false(line, condition)
-    }
-}
-
 // Whether a relation holds at a location.
 fn holds_at(work: &[u32], relation: Relation, p: Location) -> bool
     ensures { λ ok. ⌜ ok ≡ holdsAt (now (work .entry)) relation (p .0) ⌝ }

@@ -3,9 +3,8 @@ use super::Signature;
 use conditions::Relation;
 use conditions::Ruling;
 use conditions::agree;
-use conditions::also;
 use conditions::flow;
-use conditions::on_types;
+use conditions::type_false;
 use spec::MapNumber;
 use spec::TypeNumber;
 ghost use mathlib.Core.Path.{_≡_};
@@ -24,9 +23,9 @@ pub fn check_procedure(
 ) -> Ruling
     ensures { λ r. ⌜ outcome r ≡ firstFalseFrom line 1 (procedureRow (now (work .entry)) locations g body post) ⌝ }
 {
+    if !agree(work, locations, body, g.result) {
+        return type_false(line, 1);
+    }
     let after = g.after;
-    also(
-        on_types(line, 1, agree(work, locations, body, g.result)),
-        flow(line, 2, work, locations, Relation::AtLeast(post, after)),
-    )
+    flow(line, 2, work, locations, Relation::AtLeast(post, after))
 }

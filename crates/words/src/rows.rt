@@ -17,7 +17,6 @@ use conditions::also;
 use conditions::flow;
 use conditions::has;
 use conditions::may_show;
-use conditions::on_types;
 use conditions::type_false;
 use spec::TypeLine;
 use workspace::Rule;
@@ -29,10 +28,10 @@ ghost use Rattle.words.specs.Table.{varRow, intRow, letRow, ifRow, while
 fn check_var(work: &[u32], s: View, kind: TypeLine, kind1: TypeLine) -> Ruling
     ensures { λ r. ⌜ outcome r ≡ firstFalseFrom (s .line) 1 (varRow (now (work .entry)) s kind kind1) ⌝ }
 {
-    also(
-        on_types(s.line, 1, may_show(work, s.locations, s.typed, s.bound)),
-        equal(work, s, 2, s.post, s.pre),
-    )
+    if !may_show(work, s.locations, s.typed, s.bound) {
+        return type_false(s.line, 1);
+    }
+    equal(work, s, 2, s.post, s.pre)
 }
 
 // INT: 1 type int; 2 post = pre.
@@ -49,25 +48,26 @@ fn check_int(work: &[u32], s: View, kind: TypeLine, kind1: TypeLine) -> Ruling
 fn check_let(work: &[u32], s: View, kind: TypeLine, kind1: TypeLine) -> Ruling
     ensures { λ r. ⌜ outcome r ≡ firstFalseFrom (s .line) 1 (letRow (now (work .entry)) s kind kind1) ⌝ }
 {
-    also(
-        on_types(s.line, 1, agree(work, s.locations, s.typed, s.type2)),
-        equal(work, s, 2, s.post, s.post2),
-    )
+    if !agree(work, s.locations, s.typed, s.type2) {
+        return type_false(s.line, 1);
+    }
+    equal(work, s, 2, s.post, s.post2)
 }
 
 // IF: 1 type of e1; 2 type of e2; 3 post of e1 ≥ post; 4 post of e2 ≥ post.
 fn check_if(work: &[u32], s: View, kind: TypeLine, kind1: TypeLine) -> Ruling
     ensures { λ r. ⌜ outcome r ≡ firstFalseFrom (s .line) 1 (ifRow (now (work .entry)) s kind kind1) ⌝ }
 {
-    let types = also(
-        on_types(s.line, 1, agree(work, s.locations, s.typed, s.type1)),
-        on_types(s.line, 2, agree(work, s.locations, s.typed, s.type2)),
-    );
-    let flows = also(
+    if !agree(work, s.locations, s.typed, s.type1) {
+        return type_false(s.line, 1);
+    }
+    if !agree(work, s.locations, s.typed, s.type2) {
+        return type_false(s.line, 2);
+    }
+    also(
         at_least(work, s, 3, s.post1, s.post),
         at_least(work, s, 4, s.post2, s.post),
-    );
-    also(types, flows)
+    )
 }
 
 // WHILE: 1 type int; 2 pre ≥ post; 3 post of part ≥ post.
@@ -117,10 +117,10 @@ fn check_ref(work: &[u32], s: View, kind: TypeLine, kind1: TypeLine) -> Ruling
     let TypeLine::Ref(_, content) = kind else {
         return type_false(s.line, 1);
     };
-    also(
-        on_types(s.line, 1, agree(work, s.locations, content, s.type1)),
-        equal(work, s, 2, s.post, s.post1),
-    )
+    if !agree(work, s.locations, content, s.type1) {
+        return type_false(s.line, 1);
+    }
+    equal(work, s, 2, s.post, s.post1)
 }
 
 // WRITE: 1 type int; 2 e1 a ref; 3 type of e2 is c; 4 post = post of e2; 5 post at p ≥ D.
@@ -133,13 +133,12 @@ fn check_write(work: &[u32], s: View, kind: TypeLine, kind1: TypeLine) -> Ruling
     let TypeLine::Ref(p, content) = kind1 else {
         return type_false(s.line, 2);
     };
-    let access = also(
+    if !agree(work, s.locations, content, s.type2) {
+        return type_false(s.line, 3);
+    }
+    also(
         equal(work, s, 4, s.post, s.post2),
         has(s.line, 5, work, s.post, p, s.denominator),
-    );
-    also(
-        on_types(s.line, 3, agree(work, s.locations, content, s.type2)),
-        access,
     )
 }
 
@@ -150,13 +149,12 @@ fn check_read(work: &[u32], s: View, kind: TypeLine, kind1: TypeLine) -> Ruling
     let TypeLine::Ref(p, content) = kind1 else {
         return type_false(s.line, 1);
     };
-    let access = also(
+    if !agree(work, s.locations, content, s.typed) {
+        return type_false(s.line, 2);
+    }
+    also(
         equal(work, s, 3, s.post, s.post1),
         has(s.line, 4, work, s.post, p, 1),
-    );
-    also(
-        on_types(s.line, 2, agree(work, s.locations, content, s.typed)),
-        access,
     )
 }
 
@@ -204,15 +202,16 @@ fn check_call(work: &[u32], s: View, kind: TypeLine, kind1: TypeLine) -> Ruling
     ensures { λ r. ⌜ outcome r ≡ firstFalseFrom (s .line) 1 (callRow (now (work .entry)) s kind kind1) ⌝ }
 {
     let g = s.signature;
-    let types = also(
-        on_types(s.line, 1, agree(work, s.locations, s.typed, g.result)),
-        on_types(s.line, 2, agree(work, s.locations, s.type1, g.argument)),
-    );
-    let flows = also(
+    if !agree(work, s.locations, s.typed, g.result) {
+        return type_false(s.line, 1);
+    }
+    if !agree(work, s.locations, s.type1, g.argument) {
+        return type_false(s.line, 2);
+    }
+    also(
         sum(work, s, 3, g.before, s.start, s.post1),
         sum(work, s, 4, g.after, s.start, s.post),
-    );
-    also(types, flows)
+    )
 }
 
 // The conditions of a step with the rule r.
