@@ -1,6 +1,6 @@
 -- What counts of a step or a `proc` line when only its types are asked for: since a row has its conditions on types in front, the first false
 -- condition of the row is on types, or no condition on types is false.
-use mathlib.Core.Path.{_≡_, refl, ap}
+use mathlib.Core.Path.{_≡_, refl}
 use mathlib.Core.Bool.{true, false}
 use mathlib.Core.List.{List, [], _∷_, _++_}
 use mathlib.Core.Option.{none, some}
@@ -18,7 +18,7 @@ use Rattle.spec.specs.declared.UnaryWord.the-variants.{While, Join, Ref, Read, 
 use Rattle.spec.specs.declared.BinaryWord.the-variants.{Let, If, Spawn, Write}
 use Rattle.spec.proofs.Claims.{only-append}
 use Rattle.conditions.specs.Outcome.{firstFalseFrom}
-use Rattle.rules.specs.Walk.{onTypes, counted}
+use Rattle.rules.specs.Walk.{refusesTypes, onTypes, counted}
 use Rattle.rules.specs.Contract.{asked}
 
 pub asked-append : (purpose : Purpose) (xs ys : List Claim) → asked purpose (xs ++ ys) ≡ asked purpose xs ++ asked purpose ys
@@ -85,7 +85,7 @@ module _ (line : ℕ) where
   no-types-asked i (A b p ∷ cs) h = no-types-asked (i + 1) cs h
 
   no-types-counted : (i : ℕ) (cs : List Condition) → NoTypes cs → onTypes (firstFalseFrom line i cs) ≡ on tt
-  unfolding NoTypes onTypes firstFalseFrom numbered firstFalse judge _>>=_ returned four
+  unfolding NoTypes refusesTypes onTypes firstFalseFrom numbered firstFalse judge _>>=_ returned four
   no-types-counted i [] h = refl
   no-types-counted i (T b ∷ cs) h = absurd h
   no-types-counted i (F none ∷ cs) h = no-types-counted (i + 1) cs h
@@ -94,7 +94,7 @@ module _ (line : ℕ) where
   no-types-counted i (A false p ∷ cs) h = refl
 
   types-counted : (i : ℕ) (cs : List Condition) → TypesFirst cs → onTypes (firstFalseFrom line i cs) ≡ firstFalse (only isType (numbered line i cs))
-  unfolding TypesFirst onTypes firstFalseFrom numbered firstFalse judge only isType _>>=_ returned four
+  unfolding TypesFirst refusesTypes onTypes firstFalseFrom numbered firstFalse judge only isType _>>=_ returned four
   types-counted i [] h = refl
   types-counted i (T true ∷ cs) h = types-counted (i + 1) cs h
   types-counted i (T false ∷ cs) h = refl

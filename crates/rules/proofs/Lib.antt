@@ -1,5 +1,6 @@
 pub mod Walking
 pub mod OnTypes
+pub mod Counted
 pub mod Asked
 pub mod Claims
 pub mod Scopes

@@ -1,5 +1,6 @@
 -- The steps in line order: what the conditions of each look at, and the map before each, which its step hands down; what the
 -- conditions at a `proc` line look at, and the body behind it.
+use mathlib.Core.Bool.{Bool, true, false}
 use mathlib.Core.List.{List}
 use Prim.Native.Nat.{ℕ, zero, suc, _+_, _-_}
 use lib.Dec.{eqb, ltb}
@@ -11,6 +12,7 @@ use Rattle.spec.specs.Verdict.{returned}
 use Rattle.spec.specs.declared.MapNumber.{MapNumber}
 use Rattle.spec.specs.declared.TypeNumber.{TypeNumber}
 use Rattle.spec.specs.declared.Answer.the-variants.{Refuse}
+use Rattle.spec.specs.declared.Refusal.{Refusal}
 use Rattle.spec.specs.declared.Purpose.{Purpose}
 use Rattle.spec.specs.declared.Purpose.the-variants.{Check, Fill}
 use Rattle.spec.specs.declared.Word.{Word}
@@ -67,15 +69,24 @@ stepOutcome w locations denominator k =
     let s = viewOf w locations denominator k in
     firstFalseFrom (s .line) 1 (ruleRow (ruleOf (cell w wordsAt k)) w s (typeAt w (s .typed)) (typeAt w (s .type1)))
 
--- what an outcome says of types: a refusal on flow or access, 32 or 33, is none
+-- whether a refusal is on types: one on flow or access, 32 or 33, is not
+unfoldable pub refusesTypes : Refusal → Bool
+refusesTypes r = eqb (returned (Refuse r) .number) 31
+
+-- what an outcome says of types
 unfoldable pub onTypes : Out (Unit {0}) → Out (Unit {0})
-onTypes (stop r) = if eqb (returned (Refuse r) .number) 31 then stop r else on tt
+onTypes (stop r) = if refusesTypes r then stop r else on tt
 onTypes (on a) = on tt
 
 -- what counts of the outcome of a step or a `proc` line: when filling, what it says of types
 unfoldable pub counted : Purpose → Out (Unit {0}) → Out (Unit {0})
 counted Check o = o
 counted Fill o = onTypes o
+
+-- whether an outcome is a refusal
+unfoldable pub stops : Out (Unit {0}) → Bool
+stops (stop r) = true
+stops (on a) = false
 
 -- the map before step i is m
 unfoldable pub putPre : (w : List ℕ) → (i : ℕ) → MapNumber → List ℕ

@@ -1,7 +1,7 @@
 // The bodies of the procedures, called or not, then the root.
 use super::steps::cell;
 use super::steps::check_steps;
-use super::steps::counted;
+use super::steps::refuses;
 use super::steps::signature_of;
 use conditions::Ruling;
 use spec::MapNumber;
@@ -47,10 +47,10 @@ fn check_body(
     requires { ⌜ length (now work) ≡ workSize ⌝ }
     ensures { λ r. ⌜ (outcome r ≡ bodyOutcome purpose locations denominator (now (work .entry)) f) × ChangedWithin presAt (presAt + 256) (now (work .entry)) (now (work .exit)) ⌝ }
 {
-    let line = counted(purpose, check_proc_line(work, locations, f));
-    let Ruling::Met = line else {
+    let line = check_proc_line(work, locations, f);
+    if refuses(purpose, line) {
         return line;
-    };
+    }
     let before = signature_of(work, f).before;
     let first = cell(work, PROC_FIRSTS, f);
     let end = cell(work, PROC_FIRSTS + 1, f);

@@ -32,12 +32,11 @@ use workspace::word_of;
 ghost use mathlib.Core.Path.{_≡_};
 ghost use Prim.Native.Nat.{_+_, _-_, _<_};
 ghost use lib.ListN.{length};
-ghost use Rattle.spec.specs.Reading.{stop};
 ghost use Rattle.spec.specs.Words.{preOfPart, preOfSecond};
 ghost use Rattle.workspace.specs.Layout.{presAt, workSize};
 ghost use Rattle.workspace.specs.Region.{ChangedWithin};
 ghost use Rattle.conditions.specs.Outcome.{outcome};
-ghost use Rattle.rules.specs.Walk.{cell, signatureOf, boundOf, viewOf, stepOutcome, onTypes, counted, putPre, passOn, walk};
+ghost use Rattle.rules.specs.Walk.{cell, signatureOf, boundOf, viewOf, stepOutcome, refusesTypes, counted, stops, putPre, passOn, walk};
 
 // Entry i of the column that begins at base.
 pub(crate) fn cell(work: &[u32], base: usize, i: u32) -> u32
@@ -105,29 +104,29 @@ fn check_step(work: &[u32], locations: u32, denominator: u32, k: u32) -> Ruling
     check_rule(r, work, s, type_at(work, s.typed), type_at(work, s.type1))
 }
 
-// A refusal on types; one on flow or access does not count.
-fn on_types(refusal: Refusal) -> Ruling
-    ensures { λ r. ⌜ outcome r ≡ onTypes (stop refusal) ⌝ }
+// Whether a refusal is on types.
+fn on_types(refusal: Refusal) -> bool
+    ensures { λ ok. ⌜ ok ≡ refusesTypes refusal ⌝ }
 {
     let Refusal::TypeFalse {
         line: _,
         condition: _,
     } = refusal
     else {
-        return Ruling::Met;
+        return false;
     };
-    Ruling::Refused(refusal)
+    true
 }
 
-// What counts of the ruling on a step or a `proc` line: when checking all of it, when filling what it says of types.
-pub(crate) fn counted(purpose: Purpose, r: Ruling) -> Ruling
-    ensures { λ c. ⌜ outcome c ≡ counted purpose (outcome r) ⌝ }
+// Whether the ruling on a step or a `proc` line refuses: when checking each refusal counts, when filling one on types.
+pub(crate) fn refuses(purpose: Purpose, r: Ruling) -> bool
+    ensures { λ ok. ⌜ ok ≡ stops (counted purpose (outcome r)) ⌝ }
 {
-    match purpose {
-        Purpose::Check => r,
-        Purpose::Fill => match r {
-            Ruling::Met => r,
-            Ruling::Refused(refusal) => on_types(refusal),
+    match r {
+        Ruling::Met => false,
+        Ruling::Refused(refusal) => match purpose {
+            Purpose::Check => true,
+            Purpose::Fill => on_types(refusal),
         },
     }
 }
@@ -216,10 +215,10 @@ pub(crate) fn check_steps(
     put_pre(work, from, pre);
     let mut k = from;
     while k < to {
-        let r = counted(purpose, check_step(work, locations, denominator, k));
-        let Ruling::Met = r else {
+        let r = check_step(work, locations, denominator, k);
+        if refuses(purpose, r) {
             return r;
-        };
+        }
         pass_on(work, k);
         k += 1;
     }

@@ -3,8 +3,8 @@ use Prim.Native.Nat.{_+_}
 use mathlib.Core.Path.{sym, _∙_}
 use Rattle.workspace.specs.Layout.{presAt}
 use Rattle.workspace.proofs.Region.{changed-nothing}
-use Rattle.conditions.proofs.FirstFalse.{refused-stops, met-goes-on}
 use Rattle.rules.specs.Walk.{bodyOutcome}
+use Rattle.rules.proofs.Counted.{refusal-stops, no-refusal-goes-on}
 use borrow.Author.Needs.{needs}
 use Rattle.rules.proofs.bodies.check_body.Statement.{statement}
 use Rattle.rules.proofs.bodies.check_body.Tie as tie
@@ -12,9 +12,9 @@ use Rattle.rules.proofs.bodies.check_body.Tie as tie
 returns : tie.Need-returns
 unfolding bodyOutcome
 returns c =
-    let counted = c .before .before in
-    let line = counted .before in (
-      sym (rw (← line .check-proc-line .ensures, ← counted .counted .ensures) (refused-stops _ _ (c .enum-told2 .given .1))),
+    let refuses = c .before in
+    let line = refuses .before in (
+      sym (rw (← line .check-proc-line .ensures) (refusal-stops _ _ _ (sym (refuses .refuses .ensures) ∙ c .if1 .taken))),
       changed-nothing presAt (presAt + 256) _,
     )
 
@@ -26,11 +26,11 @@ returns-2 c =
     let first = end .before .before in
     let signature = first .before .before .before in
     let told = signature .before .before in
-    let counted = told .before .before in
-    let line = counted .before in (
+    let refuses = told .before in
+    let line = refuses .before in (
       steps .check-steps .ensures .0
           ∙ rw (end .cell2 .ensures, first .cell .ensures, signature .signature-of .ensures)
-          (sym (rw (← line .check-proc-line .ensures, ← counted .counted .ensures) (met-goes-on _ _ (told .enum-told .given .1)))),
+          (sym (rw (← line .check-proc-line .ensures) (no-refusal-goes-on _ _ (sym (refuses .refuses .ensures) ∙ told .if1 .left)))),
       steps .check-steps .ensures .1,
     )
 
@@ -40,8 +40,6 @@ check-body-spec =
     (tie.spec
     (λ c κs. search needs)
     (λ c κs. search needs)
-    (λ c. search needs)
-    (λ c. search needs)
     (λ c. search needs)
     returns
     (λ c κs. search needs)

@@ -12,7 +12,7 @@ use Rattle.workspace.specs.Region.{ChangedWithin}
 use Rattle.workspace.proofs.Region.{changed-nothing, changed-then}
 use Rattle.conditions.specs.Outcome.{outcome}
 use Rattle.rules.specs.Walk.{walk}
-use Rattle.conditions.proofs.FirstFalse.{refused-stops, met-goes-on}
+use Rattle.rules.proofs.Counted.{refusal-stops, no-refusal-goes-on}
 use Rattle.rules.proofs.Walking.{walk-more, walk-end, put-within, pass-within}
 use Rattle.rules.proofs.steps.check_steps.Statement.{statement}
 use Rattle.rules.proofs.steps.check_steps.Tie as tie
@@ -41,29 +41,29 @@ loop-holds c =
 -- a step is refused
 returns : tie.Need-returns Inv-loop μ-loop
 returns c =
-    let counted = c .before .before in
-    let step = counted .before in
+    let refuses = c .before in
+    let step = refuses .before in
     let test = step .before .before in
     let loop = test .before in
     let put = loop .before .before .before in (
       sym (rw (← put .put-pre .ensures)
           (loop .loop .inv .rest
           ∙ walk-more _ _ _ _ _ _ (test .loop-test .taken)
-          ∙ rw (← step .check-step .ensures, ← counted .counted .ensures) (refused-stops _ _ (c .enum-told2 .given .1)))),
+          ∙ rw (← step .check-step .ensures) (refusal-stops _ _ _ (sym (refuses .refuses .ensures) ∙ c .if1 .taken)))),
       changed-then presAt (presAt + 256) (rw (put .put-pre .ensures) (put-within _ _ _)) (loop .loop .inv .changed),
     )
 
 pass-on-requires : tie.Need-pass-on-requires Inv-loop μ-loop
 pass-on-requires c κs =
-    let loop = c .before .before .before .before .before .before .before in
+    let loop = c .before .before .before .before .before .before in
     (loop .loop .inv .long, omega arith)
 
 loop-again : tie.Need-loop-again Inv-loop μ-loop
 loop-again c =
     let passed = c .before .before in
     let told = passed .before .before in
-    let counted = told .before .before in
-    let step = counted .before in
+    let refuses = told .before in
+    let step = refuses .before in
     let test = step .before .before in
     let loop = test .before in
     record {
@@ -72,7 +72,7 @@ loop-again c =
       rest =
           loop .loop .inv .rest
           ∙ walk-more _ _ _ _ _ _ (test .loop-test .taken)
-          ∙ rw (← step .check-step .ensures, ← counted .counted .ensures, passed .pass-on .ensures) (met-goes-on _ _ (told .enum-told .given .1));
+          ∙ rw (← step .check-step .ensures, passed .pass-on .ensures) (no-refusal-goes-on _ _ (sym (refuses .refuses .ensures) ∙ told .if1 .left));
     }
 
 -- every step is met
@@ -95,8 +95,6 @@ check-steps-spec =
     loop-holds
     (λ c κs. search needs)
     (λ c κs. search needs)
-    (λ c. search needs)
-    (λ c. search needs)
     (λ c. search needs)
     returns
     pass-on-requires

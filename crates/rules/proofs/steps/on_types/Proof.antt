@@ -1,18 +1,16 @@
 use mathlib.Core.Path.{sym}
 use Rattle.spec.specs.Verdict.{four, returned}
-use Rattle.conditions.specs.Outcome.{outcome}
-use Rattle.rules.specs.Walk.{onTypes}
+use Rattle.rules.specs.Walk.{refusesTypes}
 use Rattle.rules.proofs.OnTypes.{not-on-types}
 use borrow.Author.Needs.{needs}
 use Rattle.rules.proofs.steps.on_types.Statement.{statement}
 use Rattle.rules.proofs.steps.on_types.Tie as tie
 
 returns : tie.Need-returns
-unfolding outcome
 returns c = sym (not-on-types _ (c .match .keys2))
 
 returns-2 : tie.Need-returns-2
-unfolding outcome onTypes returned four
+unfolding refusesTypes returned four
 returns-2 c = rw (c .enum-told .given .1)
 
 pub on-types-spec : {M : Type 1} → statement M
