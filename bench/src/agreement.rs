@@ -1,0 +1,32 @@
+//! What holds before anything is timed: the product and the plain checker answer alike.
+
+use bench::plain;
+use evidence::answer::WORK_SPACE;
+use evidence::comparison::{Checker, WorkSpace};
+use evidence::series::SEED;
+use evidence::{draw, known};
+
+const DRAWN: u64 = 5_000;
+
+/// Holds the product against the plain checker on the known pairs and the first drawn ones: the four numbers, and
+/// the work space afterwards.
+pub fn agree(product: Checker) -> Result<(), String> {
+    let mut work = WorkSpace::default();
+    let mut alike = |program: &[u8], split: &[u8], room| {
+        let [product, plain] = [product, plain::check].map(|checker| work.check(checker, program, split, room));
+        match product == plain {
+            true => Ok(()),
+            false => Err(format!("product {product:?}, plain checker {plain:?}")),
+        }
+    };
+    for known in known::all() {
+        let (program, split) = known.sheets();
+        alike(&program, &split, WORK_SPACE).map_err(|fault| format!("known pair {}: {fault}", known.program))?;
+    }
+    for number in 0..DRAWN {
+        let drawn = draw::pair(SEED, number);
+        alike(&drawn.program, &drawn.split, drawn.room)
+            .map_err(|fault| format!("pair {number} of seed {SEED}: {fault}"))?;
+    }
+    Ok(())
+}

@@ -1,0 +1,21 @@
+//! What the product is compared with and on what: the plain checker, the second checker as the benchmark has it,
+//! and the pairs.
+
+#![forbid(unsafe_code)]
+
+pub mod grown;
+pub mod pairs;
+pub mod plain;
+
+use evidence::answer::WORK_SPACE;
+use evidence::comparison::Checker;
+use evidence::second;
+
+/// The second checker. It has no work space, so as much is cleared behind it as the others must clear.
+pub const SECOND: Checker = |program, split, work| {
+    let returned = second::check(program, split, work.len());
+    if let Some(work) = work.get_mut(..WORK_SPACE) {
+        work.fill(0);
+    }
+    returned
+};
