@@ -16,6 +16,7 @@ from release import GOOD, KINDS
 from starting.version import version
 
 ESCAPE = "red \x1b[31m"
+MANY = 48  # pairs: more than there are processes to share them
 
 
 def report_text(desk):
@@ -57,6 +58,11 @@ def check_second_look(desk, binary):
     check("a racecheck that accepts all: record", look.startswith("3 accepted pairs, DISAGREEMENT on 2, "), True)
     done = desk.run("--no-recheck", "false", "report", RACECHECK=yes)
     check("without the second look", (done.returncode, record_of(report_text(desk))["second look"]), (0, "none"))
+    entries = make_release(desk.scratch / "many false", MANY, [GOOD, KINDS[3], KINDS[2]])
+    done = desk.run("many false", "report", RACECHECK=yes)
+    accepted = body_of(report_text(desk)).partition(f"\nAccepted: {MANY}\n")[2].replace("\n    ", " ").splitlines()
+    told = [(line.partition("\t")[0], "*** DISAGREEMENT" in line) for line in accepted]
+    check("many pairs, all accepted", told, [(visible(name), answer != "ACCEPT") for name, answer, _ in entries])
 
 
 def check_odd_entries(desk, binary):
@@ -94,18 +100,37 @@ def check_unsteady(desk):
     check("a sheet that is no plain file", "split.txt is no plain file" in text, True)
 
 
+def tools_that(desk, what, line):
+    """A copy of the tools whose second look at a pair begins with this line."""
+    tools = desk.scratch / what / "tools"
+    shutil.copytree(TOOLS, tools)
+    judging = tools / "explaining" / "judging.py"
+    head = "def judge(program, split, is_filling=False):\n"
+    judging.write_text(judging.read_text().replace(head, f"{head}    {line}\n"))
+    return tools
+
+
 def check_own_fault(desk, binary):
     """A fault of the tools themselves is a pair's FAILED and status 2, never a disagreement."""
-    shutil.copytree(TOOLS, desk.scratch / "broken" / "tools")
-    judging = desk.scratch / "broken" / "tools" / "explaining" / "judging.py"
-    judging.write_text(judging.read_text().replace("def judge(", "def judge(*_):\n    raise TypeError('broken')\n\n\ndef unused("))
-    tools = desk.scratch / "broken" / "tools"
+    tools = tools_that(desk, "break", "raise TypeError('broken')")
     done = desk.run("four", "report", tool=tools / "check-release", RACECHECK=binary)
     text = report_text(desk)
     check("a fault of check-release", (done.returncode, text.count("TypeError: broken"), "DISAGREEMENT" in text), (2, 4, False))
     done = desk.run(HOUSE / "examples" / "join-race", tool=tools / "explain", RACECHECK=binary)
     said = ["TypeError: broken" in done.stderr, "DISAGREEMENT" in done.stderr]
     check("a fault of explain", (done.returncode, said), (2, [True, False]))
+
+
+def check_lost(desk, binary):
+    """A process of the tool's own that is ended, as one that takes too much memory is: its pair is FAILED, the others are done."""
+    tools = tools_that(desk, "die", "b'65535' in program.text and __import__('os').kill(__import__('os').getpid(), 9)")
+    entries = make_release(desk.scratch / "deadly", MANY, [GOOD, KINDS[1], KINDS[3]])
+    lost = "FAILED", ["There is no answer: the process that was at it ended with status -9."]
+    wanted = [(name, *(lost if (desk.scratch / "deadly" / name / "program.txt").read_text() == "P,1\nint,65535\n" else rest))
+              for name, *rest in entries]
+    done = desk.run("deadly", "report", tool=tools / "check-release", RACECHECK=binary)
+    check("processes that are ended: report", body_of(report_text(desk)), wanted_body(wanted))
+    check("processes that are ended: status", (done.returncode, f"count\tFAILED\t{MANY // 3}\n" in done.stdout), (2, True))
 
 
 def check_manifest(desk, binary):
@@ -152,7 +177,7 @@ def check_servers(desk, binary):
 
 
 def check_time(desk, binary):
-    """400 pairs of ninety steps, the second look included, in two seconds of two processors."""
+    """400 pairs of ninety steps, the second look included, in a second and a half of two processors."""
     release = desk.scratch / "long"
     for number in range(400):
         shutil.copytree(HOUSE / "examples" / "refill", release / f"job {number}")
@@ -162,7 +187,7 @@ def check_time(desk, binary):
     work = sum(getattr(after, kind) - getattr(before, kind) for kind in ("children_user", "children_system"))
     look = float(record_of(report_text(desk))["second look"].split()[-2])
     print(f"users: 400 pairs of 92 steps in {time.monotonic() - begun:.2f} s, {work:.2f} s of work, the second look {look:.2f} s")
-    check("400 long pairs", (done.returncode, work < 4 * SLACK, look < 1 * SLACK), (0, True, True))
+    check("400 long pairs", (done.returncode, work < 3 * SLACK, look < 1 * SLACK), (0, True, True))
 
 
 SLACK = 4  # a machine that is busy or slow may take so many times as long
@@ -176,6 +201,7 @@ def check_records(binary):
         check_odd_entries(desk, binary)
         check_unsteady(desk)
         check_own_fault(desk, binary)
+        check_lost(desk, binary)
         check_manifest(desk, binary)
         check_servers(desk, binary)
         check_time(desk, binary)

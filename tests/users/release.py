@@ -128,18 +128,16 @@ def check_hindrances(desk, binary):
 
 
 def check_stopped(desk):
-    """A run that is stopped leaves the old report and nothing else."""
+    """A run that is stopped leaves the old report and nothing else, and no racecheck goes on."""
     report = desk.scratch / "old report"
     under_way = desk.scratch / "under way"
-    slow = desk.binary("slow", f"touch '{under_way}'; exec sleep 30")
+    slow = desk.binary("slow", f"echo $$ >> '{under_way}'; exec sleep 30")
     for number in [signal.SIGTERM, signal.SIGINT, signal.SIGHUP]:
         report.write_text("the old one")
         under_way.unlink(missing_ok=True)
         signal.signal(number, signal.SIG_DFL)  # the tool leaves alone what is ignored, as under nohup; this test may run there
         process = desk.start("two", "old report", RACECHECK=slow)
-        begun = time.monotonic()
-        while not under_way.exists() and time.monotonic() - begun < 60:
-            time.sleep(0.05)
+        _await(under_way)
         begun = time.monotonic()
         process.send_signal(number)
         _, error = process.communicate()
@@ -147,7 +145,39 @@ def check_stopped(desk):
         check(f"stopped by {number.name}: at once", time.monotonic() - begun < 5, True)
         check(f"stopped by {number.name}: message", "stopped" in error, True)
         check(f"stopped by {number.name}: report", report.read_text(), "the old one")
+        check(f"stopped by {number.name}: what goes on", [pid for pid in under_way.read_text().split() if _goes_on(int(pid))], [])
         desk.check_nothing_left(number.name)
+
+
+def _await(path):
+    begun = time.monotonic()
+    while not path.exists() and time.monotonic() - begun < 60:
+        time.sleep(0.05)
+
+
+def _goes_on(process):
+    try:
+        os.kill(process, 0)
+    except ProcessLookupError:
+        return False
+    return True
+
+
+def check_killed(desk):
+    """A tool that is killed leaves no process of its own behind, which would hold its standard error open."""
+    workers = desk.scratch / "workers"
+    make_release(desk.scratch / "many", 99, [GOOD])
+    process = desk.start("many", "unwritten", RACECHECK=desk.binary("lasting", f"echo $PPID >> '{workers}'; sleep 1; echo ACCEPT"))
+    _await(workers)
+    process.kill()
+    try:
+        process.communicate(timeout=9)
+        left = set()
+    except subprocess.TimeoutExpired:
+        left = set(workers.read_text().split())
+    check("killed: what is left", left, set())
+    for worker in left:
+        os.kill(int(worker), signal.SIGKILL)
 
 
 def check_late(desk):
@@ -257,6 +287,7 @@ def check_release_tool(binary):
         check_nonsense(desk)
         check_liar(desk)
         check_stopped(desk)
+        check_killed(desk)
         check_late(desk)
         check_outputs(desk, binary)
         check_which_binary(desk)

@@ -4,7 +4,6 @@ import re
 import selectors
 import shutil
 import subprocess
-import threading
 import time
 from pathlib import Path
 from typing import NamedTuple
@@ -28,8 +27,8 @@ ANSWERS = {
 }
 
 # The runs under way, and whether they are being ended: a run that is just starting then has to end too.
-under_way = set()
-ending = threading.Event()
+_under_way = set()
+_stopping = False
 
 
 class Run(NamedTuple):
@@ -75,8 +74,8 @@ def _started(binary, folder, program):
             [binary], cwd=folder, stdin=subprocess.DEVNULL, stdout=subprocess.PIPE, stderr=subprocess.DEVNULL, bufsize=0)
     except OSError as error:
         return Run("FAILED", f"{program} could not be started: {error.strerror}", program)
-    under_way.add(process)
-    if ending.is_set():
+    _under_way.add(process)
+    if _stopping:
         process.kill()
     try:
         return _answer(process, program)
@@ -84,7 +83,7 @@ def _started(binary, folder, program):
         process.kill()
         process.wait()
         process.stdout.close()
-        under_way.discard(process)
+        _under_way.discard(process)
 
 
 def _answer(process, program):
@@ -119,7 +118,12 @@ def _written(process, until, most):
 
 
 def stop_all():
-    """Ends the runs under way, for a tool that is stopped or has done."""
-    ending.set()
-    for process in list(under_way):
+    """Ends the runs under way, for a tool that is stopped. It takes no lock, so that a signal may call it at any time."""
+    global _stopping
+    _stopping = True
+    for process in list(_under_way):
         process.kill()
+
+
+def is_stopping():
+    return _stopping

@@ -143,6 +143,8 @@ class Split(NamedTuple):
 
     def parting(self, one, other):
         """Where two types part: they themselves, or contents as deep in one as in the other. None if they agree."""
+        if one == other:
+            return None
         this, that = self.types[one], self.types[other]
         kind = KINDS[this.kind]
         if this.kind != that.kind:
@@ -201,7 +203,7 @@ def split_of(sheet, procedures):
     rows = []
     for number, line in enumerate(sheet.lines[first_row:], first_row + 1):
         kind, post, start = _fields(line)
-        rows.append(Row(number, line.text.decode("ascii"), int(kind), *(int(one) if one else None for one in (post, start))))
+        rows.append(Row(number, line.text.decode("ascii"), int(kind), int(post) if post else None, int(start) if start else None))
     return Split(
         denominator,
         locations,

@@ -15,14 +15,14 @@ class Site:
     row: object
     type: int
     pre: tuple
-    post: tuple
-    start: tuple  # what the body of a spawn starts with, or what a call keeps back
     thread: int  # 0 is the first; the threads of spawn lines are numbered in line order; None for whoever calls a procedure
     depth: int  # how far it is indented in the walk
     nest: int  # how many loops, choices and spawned bodies it stands in
-    body: int  # the thread that a spawn starts
-    binder: object  # for a var, the site of its let or of its procedure
-    signature: object  # for a call and for a `proc` line, the procedure's line in the split
+    post: tuple = None
+    start: tuple = None  # what the body of a spawn starts with, or what a call keeps back
+    body: int = None  # the thread that a spawn starts
+    binder: object = None  # for a var, the site of its let or of its procedure
+    signature: object = None  # for a call and for a `proc` line, the procedure's line in the split
     parts: dict = field(default_factory=dict)  # document 01's name of a part, and its site
 
 
@@ -48,9 +48,8 @@ class Sites:
     def _read_procedure(self, signature):
         step, maps = self.steps[len(self.all)], self.split.maps
         site = Site(
-            line=step.line, word=step.word, number=step.number, row=signature, type=signature.result,
-            pre=maps[signature.before], post=maps[signature.after], start=None, thread=None, depth=0, nest=0, body=None,
-            binder=None, signature=signature,
+            *step, signature, signature.result, maps[signature.before], thread=None, depth=0, nest=0,
+            post=maps[signature.after], signature=signature,
         )
         self.all.append(site)
         self._binders[site.number] = site
@@ -60,14 +59,12 @@ class Sites:
 
     def _read(self, pre, thread, depth, nest):
         step, row = self.steps[len(self.all)], next(self._rows)
-        site = Site(
-            line=step.line, word=step.word, number=step.number, row=row, type=row.type, pre=pre, post=None, start=None,
-            thread=thread, depth=depth, nest=nest, body=None, binder=None,
-            signature=self.split.signatures[step.number] if step.word == "call" else None,
-        )
+        site = Site(*step, row, row.type, pre, thread, depth, nest)
         self.all.append(site)
         if site.word in ("spawn", "call"):
             site.start = self.split.last_map(row)
+        if site.word == "call":
+            site.signature = self.split.signatures[site.number]
         if site.word == "spawn":
             site.body = self.threads
             self.threads += 1

@@ -1,6 +1,6 @@
 """The report of a release for programs: as JSON, and as JUnit's XML, which build servers show."""
 import json
-from xml.sax.saxutils import escape, quoteattr
+from html import escape
 
 from explaining.showing import visible
 
@@ -22,15 +22,15 @@ def as_junit(record, entries):
     pieces = [
         '<?xml version="1.0" encoding="UTF-8"?>',
         f'<testsuite name="racecheck" tests="{len(entries)}" failures="{kinds.count("failure")}" errors="{kinds.count("error")}"'
-        f' skipped="0" timestamp={quoteattr(record["date"])}>',
-        "<properties>", *(f"<property name={quoteattr(what)} value={quoteattr(value)}/>" for what, value in record.items()),
+        f' skipped="0" timestamp="{escape(record["date"])}">',
+        "<properties>", *(f'<property name="{escape(what)}" value="{escape(value)}"/>' for what, value in record.items()),
         "</properties>",
     ]
     for entry, kind in zip(entries, kinds):
-        pieces.append(f"<testcase classname={quoteattr(record['folder'])} name={quoteattr(visible(entry.name))}>")
+        pieces.append(f'<testcase classname="{escape(record["folder"])}" name="{escape(visible(entry.name))}">')
         if kind:
             told = escape("\n".join(entry.details))
-            pieces.append(f"<{kind} type={quoteattr(entry.answer)} message={quoteattr(entry.answer)}>{told}</{kind}>")
+            pieces.append(f'<{kind} type="{escape(entry.answer)}" message="{escape(entry.answer)}">{told}</{kind}>')
         pieces.append("</testcase>")
     return "\n".join([*pieces, "</testsuite>", ""])
 

@@ -1,22 +1,22 @@
 """tools/check-release: every pair of a release, as many at once as there are processors."""
 import hashlib
 import os
-import signal
 import sys
 import time
-from concurrent.futures import ThreadPoolExecutor
+from contextlib import closing
 
 from starting.command import Failure, Usage, options, say, tell
 from starting.version import version
 from starting.writing import is_device, write, written_path
 
-from explaining.running import find_program, stop_all
+from explaining.running import find_program
 from explaining.showing import visible
 
-from .entries import entry
+from .entries import entry, failed
 from .pairs import names_in, pairs_of
 from .report import counts, report
 from .servers import as_json, as_junit
+from .workers import Lost, shared_out, when_told_to_end
 
 USUAL = "release-report.txt"
 # The files beside the report: by option, what each is called and how it is made.
@@ -27,7 +27,7 @@ def main(arguments):
     given, others = options(arguments, flags=["--recheck", "--no-recheck"], valued=[*BESIDE, "--manifest"])
     if not 1 <= len(others) <= 2:
         raise Usage
-    _end_when_told()
+    when_told_to_end(_stopped)
     release = others[0]
     path = _path_outside(others[1] if len(others) == 2 else USUAL, release, "report")
     beside = {option: _path_outside(given[option], release, BESIDE[option][0]) for option in BESIDE if option in given}
@@ -51,12 +51,6 @@ def main(arguments):
 # ---- What is asked
 
 
-def _end_when_told():
-    for number in (signal.SIGHUP, signal.SIGINT, signal.SIGTERM):
-        if signal.getsignal(number) != signal.SIG_IGN:  # as under nohup
-            signal.signal(number, _stopped)
-
-
 def _stopped(_number, _frame):
     raise Failure("stopped; the report is as it was")
 
@@ -75,17 +69,13 @@ def _path_outside(path, release, what):
 
 def _checked(binary, release, names, recheck):
     """Each pair's entry, in the order of the names."""
-    entries = []
-    pool = ThreadPoolExecutor(os.cpu_count() or 1)
-    try:
-        for done in pool.map(lambda name: entry(name, binary, release, recheck), names):
-            entries.append(done)
+    entries = {}
+    with closing(shared_out(lambda name: entry(name, binary, release, recheck), names)) as results:
+        for name, made in results:
+            lost = isinstance(made, Lost)
+            entries[name] = failed(name, f"the process that was at it ended with status {made.status}") if lost else made
             _show_progress(len(entries), len(names))
-    finally:
-        pool.shutdown(wait=False, cancel_futures=True)
-        stop_all()
-        pool.shutdown()
-    return entries
+    return [entries[name] for name in names]
 
 
 def _show_progress(done, total):
