@@ -16,7 +16,7 @@ from release import GOOD, KINDS
 from starting.version import version
 
 ESCAPE = "red \x1b[31m"
-MANY = 48  # pairs: more than there are processes to share them
+MANY = 48  # pairs, so that most processes that share them have several
 
 
 def report_text(desk):

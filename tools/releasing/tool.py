@@ -1,4 +1,4 @@
-"""tools/check-release: every pair of a release, as many at once as there are processors."""
+"""tools/check-release: every pair of a release, some at once."""
 import hashlib
 import os
 import sys

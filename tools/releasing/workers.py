@@ -1,4 +1,4 @@
-"""Work shared out among processes, as many as there are processors: one Python does one thing at a time."""
+"""Work shared out among processes, since one Python does one thing at a time."""
 import os
 import pickle
 import selectors
@@ -8,6 +8,9 @@ from contextlib import suppress
 from typing import NamedTuple
 
 from explaining.running import is_stopping, stop_all
+
+# Two for each processor: while one waits for the run that it has started, the other goes on.
+PROCESSES = 2 * (os.cpu_count() or 1)
 
 
 class Lost(NamedTuple):
@@ -21,7 +24,7 @@ def shared_out(work, tasks):
     waiting, workers = deque(tasks), []
     try:
         while waiting or workers:
-            while waiting and len(workers) < (os.cpu_count() or 1):
+            while waiting and len(workers) < PROCESSES:
                 workers.append(Worker(work, workers))
                 workers[-1].give(waiting.popleft())
             for worker in _with_a_result(workers):
