@@ -64,7 +64,7 @@ def check_commands(prefix, scratch):
     done = subprocess.run([prefix / "bin" / "explain", "--version"], env=user_environment(), capture_output=True, text=True)
     check("installed: explain by its path", done.returncode, 0)
     pages = {path.name for path in (prefix / "share" / "doc" / "racecheck").glob("*.md")}
-    check("installed: the pages", {"RACES.md", "REFUSALS.md", "REPLAY.md"} - pages, set())
+    check("installed: the pages", {path.name for path in (HOUSE / "docs").glob("*.md")} - pages, set())
     compiler = shutil.which("cc")
     if compiler and library().exists():
         check_linked(compiler, prefix / "include", prefix / "lib" / "libracecheck.a")

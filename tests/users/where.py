@@ -1,0 +1,42 @@
+"""PROMISES.md, PROOFS.md and WHERE.md name definitions and theorems with their files: each stands in the file that is named."""
+import re
+
+from checks import HOUSE, check
+
+PAGES = ["PROMISES.md", "PROOFS.md", "WHERE.md"]
+# Names in backticks, and behind them their file in brackets.
+NAMED = re.compile(r"((?:`[^`]+`[^`()]*)+)\(([\w./-]+)\)")
+# What a file has besides its comments and the lines by which it names other files.
+ASIDE = re.compile(r"^\s*(?:use|ghost use|pub use|unfolding|--|//).*$|--.*$", re.M)
+
+
+def named_in(page):
+    """Each name that a table of the page gives a file, with the file."""
+    part = None
+    for row in re.findall(r"^\| (.*) \|$", page, re.M):
+        cells = row.split(" | ")
+        if cells[0].startswith("**"):
+            part = HOUSE / cells[-1]
+            continue
+        folder = part
+        for names, file in NAMED.findall(cells[-1]):
+            if "/" in file:
+                path = HOUSE / file
+                folder = part or path.parent
+            else:
+                path = folder / f"{file.removesuffix('.antt')}.antt"
+            for name in re.findall(r"`([^`]+)`", names):
+                yield name, path
+
+
+def words_of(path):
+    return set(re.split(r"[\s(){}\[\],;:.&<>]+", ASIDE.sub("", path.read_text()))) if path.is_file() else set()
+
+
+def check_where():
+    for name in PAGES:
+        named = list(named_in((HOUSE / "docs" / name).read_text()))
+        files = {path: words_of(path) for _, path in named}
+        lost = [f"{word} in {path.relative_to(HOUSE)}" for word, path in named if word not in files[path]]
+        check(f"docs/{name} names definitions or theorems", len(named) >= 40, True)
+        check(f"docs/{name}, each stands in its file", lost, [])
