@@ -25,7 +25,7 @@ fn check_rules(work: &mut [u32], steps: usize, procedures: usize, header: Header
     requires { ⌜ RulesAsked (now work) steps procedures header ⌝ }
     ensures { λ a. ⌜ RulesAnswered (now (work .entry)) steps procedures header a ⌝ }
 {
-    match rules::rule(work, Purpose::Check, steps, procedures, header) {
+    match walk::rule(work, Purpose::Check, steps, procedures, header) {
         Ruling::Met => Answer::Accept,
         Ruling::Refused(r) => Answer::Refuse(r),
     }

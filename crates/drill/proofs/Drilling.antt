@@ -15,9 +15,9 @@ use Rattle.spec.specs.declared.Answer.the-variants.{Accept}
 use Rattle.spec.proofs.Accepted.{accepted-is-right}
 use Rattle.writer.specs.Buffer.{overwrite}
 use Rattle.writer.proofs.Buffer.{overwrite-front}
-use Rattle.practice.specs.Draw.{drawn, readers, readersOf, Drawable}
-use Rattle.practice.specs.Pair.{programText, splitText, programOf, splitOf}
-use Rattle.practice.proofs.Accepted.{pair-accepted, seed-accepted}
+use Rattle.drill_theory.specs.Draw.{drawn, readers, readersOf, Drawable}
+use Rattle.drill_theory.specs.Pair.{programText, splitText, programOf, splitOf}
+use Rattle.drill_theory.proofs.Accepted.{pair-accepted, seed-accepted}
 use Rattle.drill.specs.Answer.{numbered, numbersOf, roomy, answerOf, inFront}
 use Rattle.drill.specs.declared.Drilled.{Drilled}
 use Rattle.drill.specs.declared.Drilled.the-variants.{Made, Short}

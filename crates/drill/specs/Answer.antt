@@ -5,8 +5,8 @@ use Prim.Native.Nat.{ℕ}
 use lib.Dec.{leb}
 use lib.ListN.{length, drop}
 use Rattle.spec.specs.Choice.{if_then_else_}
-use Rattle.practice.specs.Draw.{drawn}
-use Rattle.practice.specs.Pair.{programOf, splitOf}
+use Rattle.drill_theory.specs.Draw.{drawn}
+use Rattle.drill_theory.specs.Pair.{programOf, splitOf}
 use Rattle.drill.specs.declared.Drilled.{Drilled}
 use Rattle.drill.specs.declared.Drilled.the-variants.{Made, Short}
 

@@ -10,8 +10,8 @@ ghost use lib.ListN.{length, take};
 ghost use Rattle.spec.specs.Verdict.{verdict};
 ghost use Rattle.spec.specs.Workspace.{workspaceSize};
 ghost use Rattle.spec.specs.declared.Answer.the-variants.{Accept};
-ghost use Rattle.practice.specs.Draw.{drawn, readers as readersDrawn, Drawable};
-ghost use Rattle.practice.specs.Pair.{programText, splitText, programOf, splitOf};
+ghost use Rattle.drill_theory.specs.Draw.{drawn, readers as readersDrawn, Drawable};
+ghost use Rattle.drill_theory.specs.Pair.{programText, splitText, programOf, splitOf};
 ghost use Rattle.drill.specs.Answer.{numbersOf, answerOf, inFront};
 
 // What a drill answers: the new x and the lengths of program and split; or that a buffer is shorter than its text.

@@ -3,8 +3,8 @@ use writer::write_bytes;
 use writer::write_field;
 ghost use Prim.Native.Nat.{_-_};
 ghost use Rattle.writer.specs.Buffer.{Written};
-ghost use Rattle.practice.specs.Draw.{Drawable};
-ghost use Rattle.practice.specs.Pair.{programText};
+ghost use Rattle.drill_theory.specs.Draw.{Drawable};
+ghost use Rattle.drill_theory.specs.Pair.{programText};
 ghost use Rattle.drill.specs.Lets.{letText, letsText};
 
 // Writes a let that binds v, and the lines of its value.

@@ -4,10 +4,10 @@ use writer::write_bytes;
 use writer::write_field;
 ghost use mathlib.Core.List.{[], _∷_};
 ghost use Prim.Native.Nat.{_≤_};
-ghost use Rattle.writer.specs.Text.{text};
+ghost use Rattle.written.specs.Text.{text};
 ghost use Rattle.writer.specs.Buffer.{Written};
-ghost use Rattle.practice.specs.Draw.{Drawable};
-ghost use Rattle.practice.specs.Pair.{header, typeLines, row, startRow, fallingMaps, spawnRows, allSpawnRows, joinRows, allJoinRows, splitText};
+ghost use Rattle.drill_theory.specs.Draw.{Drawable};
+ghost use Rattle.drill_theory.specs.Pair.{header, typeLines, row, startRow, fallingMaps, spawnRows, allSpawnRows, joinRows, allJoinRows, splitText};
 
 // Writes a row without a start.
 fn write_row(buffer: &mut [u8], at: usize, t: u64, m: u64) -> usize

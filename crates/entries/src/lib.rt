@@ -15,16 +15,16 @@ ghost use Rattle.spec.specs.Accepted.{Right};
 ghost use Rattle.spec.specs.Verdict.{verdict, returned, four, onConditions};
 ghost use Rattle.spec.specs.Workspace.{workspaceSize, workspaceAfter};
 ghost use Rattle.spec.specs.declared.Answer.the-variants.{Accept};
-ghost use Rattle.practice.specs.Pair.{programOf, splitOf};
+ghost use Rattle.drill_theory.specs.Pair.{programOf, splitOf};
 ghost use Rattle.drill.specs.Answer.{numbered, answerOf, inFront};
 ghost use Rattle.soundness.specs.SafeText.{SafeText};
 ghost use Rattle.soundness.specs.EitherOrderText.{EitherOrderText};
 ghost use Rattle.checker.specs.Promise.{RefutedAs};
-ghost use Rattle.filling.specs.AfterMaps.{AfterMaps};
-ghost use Rattle.filling.specs.Answer.{fill as filling, numbersOf, bufferAfter, Fillable, Written, GreatestOverLimits};
-ghost use Rattle.replaying.specs.declared.FirstRace.the-variants.{None};
-ghost use Rattle.replaying.specs.Replay.{replaySpace, replay as replayed, lineNumbers, numbersOf as endingNumbers};
-ghost use Rattle.replaying.specs.Claim.{TraceFollowed, RaceFound};
+ghost use Rattle.fill_theory.specs.AfterMaps.{AfterMaps};
+ghost use Rattle.fill_theory.specs.Answer.{fill as filling, numbersOf, bufferAfter, Fillable, Written, GreatestOverLimits};
+ghost use Rattle.replay_theory.specs.declared.FirstRace.the-variants.{None};
+ghost use Rattle.replay_theory.specs.Replay.{replaySpace, replay as replayed, lineNumbers, numbersOf as endingNumbers};
+ghost use Rattle.replay_theory.specs.Claim.{TraceFollowed, RaceFound};
 ghost use Rattle.replay.specs.Numbers.{raceNumbers, raceTold, Stored};
 
 // The answer to a pair of texts: `check` of the crate `checker`, clause by clause.
@@ -45,7 +45,7 @@ pub extern "C" fn racecheck_check(
     ensures safe { λ n. ⌜ (four n (now (line .exit)) (now (condition .exit)) (now (location .exit)) ≡ four 0 0 0 0 → SafeText (now (program .entry))) ⌝ }
     ensures either_order { λ n. ⌜ (four n (now (line .exit)) (now (condition .exit)) (now (location .exit)) ≡ four 0 0 0 0 → EitherOrderText (now (program .entry))) ⌝ }
 {
-    let four = numbers::numbers_of(checker::check(program, split, work));
+    let four = returned::numbers_of(checker::check(program, split, work));
     *line = four.line;
     *condition = four.condition;
     *location = four.location;
@@ -115,7 +115,7 @@ pub extern "C" fn racecheck_fill(
             0
         }
         Filled::Refused(r) => {
-            let four = numbers::numbers_of(Answer::Refuse(r));
+            let four = returned::numbers_of(Answer::Refuse(r));
             *length_or_line = four.line;
             *condition = four.condition;
             *location = four.location;

@@ -13,11 +13,11 @@ use Rattle.spec.specs.declared.Location.{Location}
 use Rattle.spec.specs.declared.MapNumber.{MapNumber}
 use Rattle.workspace.specs.Sheets.{HoldsSheets}
 use Rattle.workspace.proofs.Region.{region-part, changed-nothing}
-use Rattle.filling.specs.GreatestMaps.{postsAt}
-use Rattle.filling.specs.FlowOf.{rootsOf}
-use Rattle.filling.proofs.Roots.{roots-counted}
-use Rattle.filling.proofs.Placed.{roots-steps, steps-sized}
-use Rattle.filling.proofs.Limits.{steps-few, procedures-few}
+use Rattle.fill_theory.specs.GreatestMaps.{postsAt}
+use Rattle.fill_theory.specs.FlowOf.{rootsOf}
+use Rattle.fill_theory.proofs.Roots.{roots-counted}
+use Rattle.fill_theory.proofs.Placed.{roots-steps, steps-sized}
+use Rattle.fill_theory.proofs.Limits.{steps-few, procedures-few}
 use Rattle.pass.specs.declared.Column.{Column}
 use Rattle.pass.specs.declared.Given.{Given}
 use Rattle.pass.specs.Roots.{Stored}

@@ -7,8 +7,8 @@ use native.Mathlib.Numerals.{add-one}
 use lib.ListN.{length, getD, drop, drop-of-length-le}
 use lib.Seq.{drop-cons}
 use borrow.Author.Tests.{le-leb, lt-leb}
-use Rattle.filling.specs.Answer.{numberLimit, mapAtMost}
-use Rattle.filling.proofs.Limits.{at-most-at, map-at-most}
+use Rattle.fill_theory.specs.Answer.{numberLimit, mapAtMost}
+use Rattle.fill_theory.proofs.Limits.{at-most-at, map-at-most}
 
 module _ (posts : List ℕ) (i : ℕ) where
   pub fits-on : i < length posts → getD posts i 0 ≤ 1000000000

@@ -8,10 +8,10 @@ use native.Mathlib.Decide.{decLt}
 use lib.ListN.{length, getD, List·getD-eq-default}
 use Rattle.spec.specs.Split.{Map}
 use Rattle.spec.specs.Maps.{share}
-use Rattle.filling.specs.GreatestMaps.{mapsOfSteps}
-use Rattle.filling.specs.Answer.{numberLimit, mapAtMost, allAtMost}
-use Rattle.filling.proofs.Limits.{at-most-at, at-at-most, map-at-most, all-at-most}
-use Rattle.filling.proofs.Columns.{maps-counted, maps-share}
+use Rattle.fill_theory.specs.GreatestMaps.{mapsOfSteps}
+use Rattle.fill_theory.specs.Answer.{numberLimit, mapAtMost, allAtMost}
+use Rattle.fill_theory.proofs.Limits.{at-most-at, at-at-most, map-at-most, all-at-most}
+use Rattle.fill_theory.proofs.Columns.{maps-counted, maps-share}
 
 module _ (columns : List (List ℕ)) (n : ℕ) where
   abbrev pub made : List Map

@@ -16,10 +16,10 @@ use Rattle.spec.specs.declared.Returned.{Returned}
 use Rattle.spec.specs.declared.Answer.the-variants.{Accept, Refuse}
 use Rattle.spec.specs.declared.Refusal.{Refusal}
 use Rattle.spec.specs.declared.Refusal.the-variants.{NoAfterMaps, TooLarge}
-use Rattle.numbers.proofs.Refusals.{refusal-number}
-use Rattle.filling.specs.AfterMaps.{AfterMaps}
-use Rattle.filling.specs.Answer.{fill, numbersOf, bufferAfter, Fillable, Written, GreatestOverLimits}
-use Rattle.filling.proofs.Answer.{Decided, refusedUnsolvable, refusedTooLarge, wroteText, fillable-decided, refused-exactly-unsolvable, refused-exactly-too-large, written-exactly, written-accepted}
+use Rattle.returned.proofs.Refusals.{refusal-number}
+use Rattle.fill_theory.specs.AfterMaps.{AfterMaps}
+use Rattle.fill_theory.specs.Answer.{fill, numbersOf, bufferAfter, Fillable, Written, GreatestOverLimits}
+use Rattle.fill_theory.proofs.Answer.{Decided, refusedUnsolvable, refusedTooLarge, wroteText, fillable-decided, refused-exactly-unsolvable, refused-exactly-too-large, written-exactly, written-accepted}
 use Rattle.fill.specs.Numbers.{numbered}
 use Rattle.fill.specs.Stages.{Tells}
 use Rattle.fill.specs.declared.Filled.{Filled}

@@ -13,10 +13,10 @@ use Rattle.workspace.specs.Layout.{mapsAt, stride, emptyMap}
 use Rattle.workspace.specs.Region.{ChangedWithin}
 use Rattle.workspace.proofs.Region.{changed-nothing, changed-then}
 use Rattle.workspace.proofs.Sheets.{sheets-kept}
-use Rattle.filling.specs.GreatestMaps.{postsAt}
-use Rattle.filling.specs.Answer.{numberLimit, mapAtMost}
-use Rattle.filling.proofs.Found.{some-injective}
-use Rattle.filling.proofs.Limits.{steps-few, procedures-few}
+use Rattle.fill_theory.specs.GreatestMaps.{postsAt}
+use Rattle.fill_theory.specs.Answer.{numberLimit, mapAtMost}
+use Rattle.fill_theory.proofs.Found.{some-injective}
+use Rattle.fill_theory.proofs.Limits.{steps-few, procedures-few}
 use Rattle.fill.specs.declared.maps.Found.the-variants.{Large, Maps}
 use Rattle.fill.specs.FilledMaps.{HoldsGiven, MapsDue}
 use Rattle.fill.specs.Columns.{OneColumn, ColumnStored, ColumnFilled}

@@ -27,18 +27,18 @@ use Rattle.reading.specs.declared.Reading.{Reading}
 use Rattle.reading.specs.declared.Reading.the-variants as reading
 use Rattle.reading.proofs.Found.{refused-by, held-by}
 use Rattle.conditions.specs.Outcome.{outcome}
-use Rattle.rules.specs.Contract.{ruledFor, Ruled}
+use Rattle.walk.specs.Contract.{ruledFor, Ruled}
 use Rattle.conditions.specs.declared.Ruling.{Ruling}
 use Rattle.conditions.specs.declared.Ruling.the-variants as ruling
-use Rattle.rules.proofs.Procedures.{sheets-stay}
-use Rattle.writer.specs.Sheet.{written}
-use Rattle.sheets.specs.Contract.{HoldsSheet, HoldsSome as HoldsSheetOfSome}
-use Rattle.filling.specs.Filled.{filled}
-use Rattle.filling.specs.GreatestMaps.{greatestMaps}
-use Rattle.filling.specs.Answer.{givenLimit, numberLimit, allAtMost, foundOr, filledText, fill}
-use Rattle.filling.proofs.Filling.{found-exactly-greatest}
-use Rattle.filling.proofs.Limits.{procedures-few}
-use Rattle.filling.proofs.Reasons.{no-after-maps, large-number, sheets-refused}
+use Rattle.walk.proofs.Procedures.{sheets-stay}
+use Rattle.written.specs.Sheet.{written}
+use Rattle.split_writer.specs.Contract.{HoldsSheet, HoldsSome as HoldsSheetOfSome}
+use Rattle.fill_theory.specs.Filled.{filled}
+use Rattle.fill_theory.specs.GreatestMaps.{greatestMaps}
+use Rattle.fill_theory.specs.Answer.{givenLimit, numberLimit, allAtMost, foundOr, filledText, fill}
+use Rattle.fill_theory.proofs.Filling.{found-exactly-greatest}
+use Rattle.fill_theory.proofs.Limits.{procedures-few}
+use Rattle.fill_theory.proofs.Reasons.{no-after-maps, large-number, sheets-refused}
 use Rattle.fill.specs.FilledMaps.{HoldsGiven, MapsDue, FilledAs, FilledMaps}
 use Rattle.fill.specs.Stages.{Tells, grownBy, fitted, SheetTold, SheetsGiven, MapsGiven, TextTold, afterReading, SheetsTold}
 use Rattle.fill.specs.declared.Filled.{Filled}

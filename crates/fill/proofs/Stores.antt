@@ -10,7 +10,7 @@ use lib.ListN.{length, getD, set}
 use lib.Seq.{getD-set-same, getD-set-other}
 use Rattle.workspace.specs.Layout.{postsAt, mapsAt, stride, emptyMap, mapCell, workSize}
 use Rattle.workspace.proofs.Region.{changed-nothing, changed-store, changed-then}
-use Rattle.filling.specs.Answer.{numberLimit, mapAtMost}
+use Rattle.fill_theory.specs.Answer.{numberLimit, mapAtMost}
 use Rattle.fill.specs.Columns.{OneColumn, PostsStored, PostsShown}
 
 -- ------------------------------------------------------------------ posts of a column

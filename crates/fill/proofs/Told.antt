@@ -12,7 +12,7 @@ use Rattle.spec.specs.declared.Refusal.{Refusal}
 use Rattle.spec.specs.declared.Refusal.the-variants.{TooLarge}
 use Rattle.writer.specs.Buffer.{Written}
 use Rattle.writer.proofs.Buffer.{overwrite-front}
-use Rattle.filling.specs.Answer.{numbersOf, bufferAfter}
+use Rattle.fill_theory.specs.Answer.{numbersOf, bufferAfter}
 use Rattle.fill.specs.Numbers.{numbered}
 use Rattle.fill.specs.Stages.{Tells, fitted}
 use Rattle.fill.specs.declared.Filled.{Filled}

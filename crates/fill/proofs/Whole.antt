@@ -17,15 +17,15 @@ use Rattle.workspace.specs.Holds.{startNumber, HoldsSplit}
 use Rattle.workspace.specs.Sheets.{HoldsSheets}
 use Rattle.workspace.proofs.Region.{region-kept, changed-wider}
 use Rattle.workspace.proofs.Held.{program-kept}
-use Rattle.filling.specs.Filled.{withPosts, filled}
-use Rattle.filling.specs.Found.{_>>=_, forEach}
-use Rattle.filling.specs.GreatestMaps.{postsAt, greatestMaps}
-use Rattle.filling.specs.Answer.{numberLimit, mapAtMost, allAtMost}
-use Rattle.filling.proofs.Found.{some-injective, finds-bind}
-use Rattle.filling.proofs.Kept.{rows-post}
-use Rattle.filling.proofs.InRange.{rows-counted, filled-in-range}
-use Rattle.filling.proofs.Limits.{steps-few, procedures-few}
-use Rattle.filling.proofs.Columns.{each-found, find-each, miss-one, maps-counted, maps-wide}
+use Rattle.fill_theory.specs.Filled.{withPosts, filled}
+use Rattle.fill_theory.specs.Found.{_>>=_, forEach}
+use Rattle.fill_theory.specs.GreatestMaps.{postsAt, greatestMaps}
+use Rattle.fill_theory.specs.Answer.{numberLimit, mapAtMost, allAtMost}
+use Rattle.fill_theory.proofs.Found.{some-injective, finds-bind}
+use Rattle.fill_theory.proofs.Kept.{rows-post}
+use Rattle.fill_theory.proofs.InRange.{rows-counted, filled-in-range}
+use Rattle.fill_theory.proofs.Limits.{steps-few, procedures-few}
+use Rattle.fill_theory.proofs.Columns.{each-found, find-each, miss-one, maps-counted, maps-wide}
 use Rattle.fill.specs.declared.maps.Found.the-variants.{Nothing, Large, Maps}
 use Rattle.fill.specs.FilledMaps.{HoldsGiven, FilledMaps}
 use Rattle.fill.specs.Columns.{ColumnStored, ColumnFilled, PostsShown}

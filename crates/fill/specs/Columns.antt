@@ -10,8 +10,8 @@ use Rattle.spec.specs.Split.{Split}
 use Rattle.workspace.specs.Layout.{postsAt, mapsAt, stride, emptyMap, mapCell, workSize}
 use Rattle.workspace.specs.Region.{ChangedWithin}
 use Rattle.workspace.specs.Sheets.{HoldsSheets}
-use Rattle.filling.specs.GreatestMaps as greatest
-use Rattle.filling.specs.Answer.{numberLimit, mapAtMost}
+use Rattle.fill_theory.specs.GreatestMaps as greatest
+use Rattle.fill_theory.specs.Answer.{numberLimit, mapAtMost}
 use Rattle.fill.specs.declared.maps.Found.{Found}
 use Rattle.fill.specs.declared.maps.Found.the-variants.{Nothing, Large, Maps}
 use Rattle.fill.specs.FilledMaps.{MapsDue}

@@ -9,9 +9,9 @@ use Rattle.spec.specs.Program.{Program}
 use Rattle.spec.specs.Split.{Map, Split}
 use Rattle.workspace.specs.Layout.{workSize}
 use Rattle.workspace.specs.Sheets.{HoldsSheets}
-use Rattle.filling.specs.Filled.{filled}
-use Rattle.filling.specs.GreatestMaps.{greatestMaps}
-use Rattle.filling.specs.Answer.{numberLimit, allAtMost}
+use Rattle.fill_theory.specs.Filled.{filled}
+use Rattle.fill_theory.specs.GreatestMaps.{greatestMaps}
+use Rattle.fill_theory.specs.Answer.{numberLimit, allAtMost}
 use Rattle.fill.specs.declared.maps.Found.{Found}
 use Rattle.fill.specs.declared.maps.Found.the-variants.{Nothing, Large, Maps}
 

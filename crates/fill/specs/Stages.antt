@@ -13,9 +13,9 @@ use Rattle.workspace.specs.Layout.{workSize}
 use Rattle.workspace.specs.declared.Header.{Header}
 use Rattle.workspace.specs.Sheets.{Small}
 use Rattle.reading.specs.Answers.{HoldsBoth}
-use Rattle.writer.specs.Sheet.{written}
-use Rattle.sheets.specs.Contract.{HoldsSheet}
-use Rattle.filling.specs.Answer.{givenLimit, filledText, numbersOf, bufferAfter}
+use Rattle.written.specs.Sheet.{written}
+use Rattle.split_writer.specs.Contract.{HoldsSheet}
+use Rattle.fill_theory.specs.Answer.{givenLimit, filledText, numbersOf, bufferAfter}
 use Rattle.fill.specs.declared.Filled.{Filled}
 use Rattle.fill.specs.Numbers.{numbered}
 

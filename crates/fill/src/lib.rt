@@ -5,9 +5,9 @@ use conditions::Ruling;
 use maps::Found;
 use maps::fill_maps;
 use reading::Reading;
-use sheets::write_sheet;
 use spec::Purpose;
 use spec::Refusal;
+use split_writer::write_sheet;
 use workspace::Header;
 ghost use mathlib.Core.Path.{_≡_};
 ghost use mathlib.Core.List.{List};
@@ -19,9 +19,9 @@ ghost use Rattle.spec.specs.Split.{Map, Split};
 ghost use Rattle.spec.specs.Verdict.{verdict, four};
 ghost use Rattle.spec.specs.Workspace.{workspaceSize, workspaceAfter};
 ghost use Rattle.spec.specs.declared.Answer.the-variants.{Accept};
-ghost use Rattle.filling.specs.AfterMaps.{AfterMaps};
-ghost use Rattle.filling.specs.Answer.{fill as filling, numbersOf, bufferAfter, Fillable, Written, GreatestOverLimits};
-ghost use Rattle.sheets.specs.Contract.{HoldsSome as HoldsSheetOfSome};
+ghost use Rattle.fill_theory.specs.AfterMaps.{AfterMaps};
+ghost use Rattle.fill_theory.specs.Answer.{fill as filling, numbersOf, bufferAfter, Fillable, Written, GreatestOverLimits};
+ghost use Rattle.split_writer.specs.Contract.{HoldsSome as HoldsSheetOfSome};
 ghost use Rattle.workspace.specs.Layout.{workSize};
 ghost use Rattle.fill.specs.Numbers.{numbered};
 ghost use Rattle.fill.specs.Stages.{Tells, grownBy, SheetsGiven, MapsGiven, SheetTold, TextTold, SheetsTold};
@@ -121,7 +121,7 @@ fn fill_sheets(
     if GIVEN_LIMIT < header.maps {
         return Filled::Refused(Refusal::TooManyMaps);
     }
-    match rules::rule(work, Purpose::Fill, steps, procedures, header) {
+    match walk::rule(work, Purpose::Fill, steps, procedures, header) {
         Ruling::Refused(r) => Filled::Refused(r),
         Ruling::Met => fill_held(work, header, steps, procedures, out),
     }

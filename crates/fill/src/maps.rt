@@ -12,7 +12,7 @@ ghost use mathlib.Core.Path.{_≡_};
 ghost use mathlib.Core.Bool.{true};
 ghost use Prim.Native.Nat.{_+_, _≤_, _<_};
 ghost use lib.ListN.{length};
-ghost use Rattle.filling.specs.Answer.{numberLimit, mapAtMost};
+ghost use Rattle.fill_theory.specs.Answer.{numberLimit, mapAtMost};
 ghost use Rattle.workspace.specs.Layout.{workSize};
 ghost use Rattle.fill.specs.Columns.{Room, ColumnStored, OneColumn, PostsStored, ColumnGiven, ColumnFilled, PostsShown};
 ghost use Rattle.fill.specs.FilledMaps.{MapsDue, FilledMaps};

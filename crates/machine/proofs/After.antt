@@ -13,16 +13,16 @@ use Rattle.calculus.specs.Expression.{Value, name, Unary, join, ref, read, lock
 use Rattle.calculus.specs.State.{Slot, unused, cell, rwlock, Part, first, second, update}
 use Rattle.calculus.specs.Reduction.{nameOf, ifIdentifier, content, lockState, ifOpened, count, oneLess, rwState, insideAfter, made as madeSlot}
 use Rattle.calculus.proofs.Laws.Maps.{some-injective, none-is-not-some, bind-is-some, update-other}
-use Rattle.replaying.specs.Paths.{Path}
-use Rattle.replaying.specs.Run.{Kind, cells, nameIn, plain, spawns, joins, opens, makes, unaryEffect, kindMade, effect, ofUnary}
-use Rattle.replaying.proofs.Changes.{answer-means-used, used-updated}
+use Rattle.replay_theory.specs.Paths.{Path}
+use Rattle.replay_theory.specs.Run.{Kind, cells, nameIn, plain, spawns, joins, opens, makes, unaryEffect, kindMade, effect, ofUnary}
+use Rattle.replay_theory.proofs.Changes.{answer-means-used, used-updated}
 use Rattle.machine.specs.Environment.{Env, zeros}
 use Rattle.machine.specs.Control.{Frame, markFrame, Word, letWord, ifWord, whileWord, spawnWord, writeWord, unaryWord, makeWord, unrolledWord, againWord, redex, Control, done, at, nextRedex, return, enter}
 use Rattle.machine.specs.State.{MachineThread, Machine, running}
 use Rattle.machine.specs.Step.{lowest, zeroValue, partOf, unrolledPart, goesTo, addThread, markJoined, gives, leaves, creates, stepUnary, stepWord, stepControl, stepThread, step}
 use Rattle.machine.specs.Scoped.{Fits, Vars, Bound, Rest, Nested, No, WordOk, WordBinds, ControlOk}
 use Rattle.machine.specs.Kept.{UnusedFrom, ProcedureKept, ThreadKept, Kept}
-use Rattle.replaying.proofs.Lists.{every-at}
+use Rattle.replay_theory.proofs.Lists.{every-at}
 use Rattle.machine.proofs.Places.{LiveAt}
 use Rattle.machine.proofs.Marks.{pathFrom, paths, callPaths, wordPath, Tells, control-tells, return-tells, enter-tells, run-part-tells}
 use Rattle.machine.proofs.Scoping.{nested-fewer, return-ok, enter-ok, run-part-ok}

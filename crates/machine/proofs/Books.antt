@@ -15,9 +15,9 @@ use Rattle.calculus.specs.Expression.{Redex, nextWord}
 use Rattle.calculus.specs.State.{Slot, Thread}
 use Rattle.calculus.specs.Reduction.{wordOf}
 use Rattle.calculus.proofs.Laws.Maps.{some-injective, none-is-not-some}
-use Rattle.replaying.specs.Paths.{Path}
-use Rattle.replaying.specs.Run.{Run, placeOf, hasFinished, lowestFinished}
-use Rattle.replaying.specs.LowestPair.{Uses, usesOf, usesIn}
+use Rattle.replay_theory.specs.Paths.{Path}
+use Rattle.replay_theory.specs.Run.{Run, placeOf, hasFinished, lowestFinished}
+use Rattle.replay_theory.specs.LowestPair.{Uses, usesOf, usesIn}
 use Rattle.machine.specs.Control.{Control, done, at, decode, nextRedex}
 use Rattle.machine.specs.State.{MachineThread, unless, ofLive, decodeThread, rank, decodeState, decodeProcedures}
 use Rattle.machine.specs.Step.{isDone, firstOr, lowest}

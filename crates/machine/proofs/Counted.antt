@@ -12,9 +12,9 @@ use Rattle.spec.specs.Program.{Program}
 use Rattle.spec.specs.WellFormed.{WellFormedProgram}
 use Rattle.spec.proofs.Tests.{both-true}
 use Rattle.calculus.specs.Expression.{Redex}
-use Rattle.replaying.specs.Trace.{TraceLine}
-use Rattle.replaying.specs.Paths.{Path}
-use Rattle.replaying.specs.Run.{Kind, cells, locks, rwlocks, semaphores, identifiers, Effect, effect, thingsAfter, oneMore, threadLimit, thingLimit, withinLimits, callLimit, openIn}
+use Rattle.replay_theory.specs.Trace.{TraceLine}
+use Rattle.replay_theory.specs.Paths.{Path}
+use Rattle.replay_theory.specs.Run.{Kind, cells, locks, rwlocks, semaphores, identifiers, Effect, effect, thingsAfter, oneMore, threadLimit, thingLimit, withinLimits, callLimit, openIn}
 use Rattle.machine.specs.State.{MachineThread, Machine, rank, startMachine}
 use Rattle.machine.specs.Replay.{Replay, startReplay, stepped, callsIn, countsWithin, within}
 use Rattle.machine.specs.Counted.{total, Counted}

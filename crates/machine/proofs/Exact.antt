@@ -21,7 +21,7 @@ use Rattle.machine.specs.Step.{lowest, zeroValue, partOf, unrolledPart, 
 use Rattle.machine.specs.Scoped.{Nested, WordBinds, ControlOk}
 use Rattle.machine.specs.Kept.{ProcedureKept}
 use Rattle.soundness.specs.Erasure.{eraseProcedure}
-use Rattle.replaying.proofs.Lists.{every-at}
+use Rattle.replay_theory.proofs.Lists.{every-at}
 use Rattle.machine.proofs.Questions.{asks}
 use Rattle.machine.proofs.Closing.{substitute-hidden, substitute-closed}
 use Rattle.machine.proofs.Decoding.{return-keeps, enter-keeps, run-part-keeps, word-of-decoded, plug-decoded}

@@ -7,13 +7,13 @@ use lib.ListN.{set}
 use Rattle.calculus.specs.Expression.{Redex}
 use Rattle.calculus.specs.State.{Part}
 use Rattle.calculus.specs.Claim.{Every}
-use Rattle.replaying.specs.Paths.{Path}
+use Rattle.replay_theory.specs.Paths.{Path}
 use Rattle.machine.specs.Control.{Control}
 use Rattle.machine.specs.State.{Machine, running}
 use Rattle.machine.specs.Step.{asJoined, step}
 use Rattle.machine.specs.Scoped.{ControlOk}
 use Rattle.machine.specs.Kept.{ThreadKept, Kept}
-use Rattle.replaying.proofs.Lists.{every-at, every-set, every-append}
+use Rattle.replay_theory.proofs.Lists.{every-at, every-set, every-append}
 use Rattle.machine.proofs.After.{next-updated, After, goes, called, made, spawned, joined, step-moves}
 
 module _ (M : Machine) (i tid : ℕ) (kept : Kept M) where

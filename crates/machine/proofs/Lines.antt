@@ -11,11 +11,11 @@ use Rattle.calculus.specs.State.{State, Thread, Part, Move, update, remove}
 use Rattle.calculus.specs.Reduction.{_>>=_, wordOf, reduce}
 use Rattle.calculus.proofs.Laws.Maps.{some-injective, none-is-not-some}
 use Rattle.calculus.proofs.Laws.Places.{set-elsewhere}
-use Rattle.replaying.specs.Trace.{TraceLine}
-use Rattle.replaying.specs.Paths.{Path, nextPath}
-use Rattle.replaying.specs.Run as run
-use Rattle.replaying.specs.Run.{Run, placeOf, partChosen, finishedFor, nameIn, moveOf, Effect, plain, spawns, joins, opens, makes, effect, openCalls, numbersAfter, threadsAfter, callsAfter, thingsAfter, nextAfter, after, ofUnary}
-use Rattle.replaying.proofs.Lists.{length-set, length-append}
+use Rattle.replay_theory.specs.Trace.{TraceLine}
+use Rattle.replay_theory.specs.Paths.{Path, nextPath}
+use Rattle.replay_theory.specs.Run as run
+use Rattle.replay_theory.specs.Run.{Run, placeOf, partChosen, finishedFor, nameIn, moveOf, Effect, plain, spawns, joins, opens, makes, effect, openCalls, numbersAfter, threadsAfter, callsAfter, thingsAfter, nextAfter, after, ofUnary}
+use Rattle.replay_theory.proofs.Lists.{length-set, length-append}
 use Rattle.machine.specs.Environment.{Env}
 use Rattle.machine.specs.Control.{Frame, Word, redex, Control, done, at, decode, nextRedex}
 use Rattle.machine.specs.State.{MachineThread, Machine, decodeThread, live, rank, decodeState, decodeProcedures, running}
@@ -24,7 +24,7 @@ use Rattle.machine.specs.Kept.{ThreadKept, Kept}
 use Rattle.machine.specs.Replay.{Replay, wordOf as wordOfThread, stepped}
 use Rattle.machine.proofs.Questions.{asks}
 use Rattle.machine.proofs.Decoding.{word-of-decoded}
-use Rattle.replaying.proofs.Lists.{every-at}
+use Rattle.replay_theory.proofs.Lists.{every-at}
 use Rattle.machine.proofs.Marks.{callPaths, wordPath, Tells, path-of-decoded}
 use Rattle.machine.proofs.Opened.{open-remove, calls-go-on, calls-taken, calls-spawned}
 use Rattle.machine.proofs.Places.{LiveAt, live-at, live-join, live-append, rank-set}

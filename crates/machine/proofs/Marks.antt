@@ -11,8 +11,8 @@ use Rattle.spec.specs.declared.UnaryWord.the-variants.{While, Join, Ref, Read, 
 use Rattle.spec.specs.declared.BinaryWord.the-variants.{Let, If, Spawn, Write}
 use Rattle.calculus.specs.Expression.{Value, int, Unary, join, ref, read, lock, unlock, post, wait, hold, rdlock, rdunlock, wrlock, wrunlock, call, newtid, newlock, newsem, newrwlock, Exp, value, Redex, Next, atWord, nextWord}
 use Rattle.calculus.specs.State.{first, second}
-use Rattle.replaying.specs.Paths.{Path, once, nextPath, onlyPart, partOf, partAt}
-use Rattle.replaying.specs.Run.{hasFinished, isOpen, openIn}
+use Rattle.replay_theory.specs.Paths.{Path, once, nextPath, onlyPart, partOf, partAt}
+use Rattle.replay_theory.specs.Run.{hasFinished, isOpen, openIn}
 use Rattle.machine.specs.Environment.{Env, closed}
 use Rattle.machine.specs.Control.{Frame, letFrame, spawnFrame, writeFirst, writeSecond, unaryFrame, againFrame, markFrame, around, fill, Word, letWord, ifWord, whileWord, spawnWord, writeWord, unaryWord, makeWord, unrolledWord, againWord, wordExp, Control, done, at, decode, seekPart, seek, return, enter, runPart, marks, openCalls}
 use Rattle.machine.proofs.Decoding.{return-keeps, next-around, word-is-next}

@@ -8,9 +8,9 @@ use native.Mathlib.Omega.{arith}
 use lib.ListN.{getElem?, set, length}
 use Rattle.calculus.specs.State.{Thread, remove}
 use Rattle.calculus.proofs.Laws.Maps.{some-injective, none-is-not-some}
-use Rattle.replaying.specs.Paths.{Path}
-use Rattle.replaying.specs.Run.{taken, openIn, openCalls}
-use Rattle.replaying.proofs.Lists.{length-set}
+use Rattle.replay_theory.specs.Paths.{Path}
+use Rattle.replay_theory.specs.Run.{taken, openIn, openCalls}
+use Rattle.replay_theory.proofs.Lists.{length-set}
 use Rattle.machine.specs.Control.{Control}
 use Rattle.machine.specs.State.{MachineThread, unless, ofLive, decodeThread, live, rank, running}
 use Rattle.machine.proofs.Places.{LiveAt, live-at, live-set, live-append}

@@ -12,8 +12,8 @@ use Rattle.spec.specs.Choice.{if_then_else_}
 use Rattle.calculus.specs.State.{Thread}
 use Rattle.calculus.specs.Reduction.{_>>=_}
 use Rattle.calculus.proofs.Laws.Maps.{some-injective, none-is-not-some, some-is-not-none}
-use Rattle.replaying.specs.Run.{placeOf, recordFor, recordOf}
-use Rattle.replaying.specs.declared.Status.the-variants.{Running, Finished}
+use Rattle.replay_theory.specs.Run.{placeOf, recordFor, recordOf}
+use Rattle.replay_theory.specs.declared.Status.the-variants.{Running, Finished}
 use Rattle.machine.specs.Control.{Control, done, at}
 use Rattle.machine.specs.State.{MachineThread, decodeThread, live}
 use Rattle.machine.specs.Step.{isDone}

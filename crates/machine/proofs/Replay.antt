@@ -1,4 +1,4 @@
--- The replay on the machine is the replay of crates/replaying, for every space, program and trace.
+-- The replay on the machine is the replay of crates/replay_theory, for every space, program and trace.
 use Prim.Native.Nat.{ℕ, suc, _+_}
 use mathlib.Core.Path.{_≡_, refl, sym, _∙_, ap, subst}
 use mathlib.Core.Bool.{Bool, true, false, _&&_}
@@ -13,19 +13,19 @@ use Rattle.spec.specs.Reading.{Out, stop, on}
 use Rattle.spec.specs.Program.{Program}
 use Rattle.spec.specs.WellFormed.{UsedInside}
 use Rattle.soundness.specs.Erasure.{eraseProgram}
-use Rattle.replaying.specs.Trace.{TraceLine, traceLine}
-use Rattle.replaying.specs.Run as run
-use Rattle.replaying.specs.Run.{Run, startRun, openIn, callLimit}
-use Rattle.replaying.specs.Paths.{Path}
-use Rattle.replaying.specs.LowestPair as run-pair
-use Rattle.replaying.specs.LowestPair.{lowestAmong}
-use Rattle.replaying.specs.Replay as answer
-use Rattle.replaying.specs.Replay.{Outcome, pastLimit, step as stepOf, limited, onLine, goesOn, way, raceOr, firstRace, judged}
-use Rattle.replaying.specs.declared.Ending.{Ending}
-use Rattle.replaying.specs.declared.FirstRace.{FirstRace}
-use Rattle.replaying.specs.declared.FirstRace.the-variants.{None, Found}
-use Rattle.replaying.specs.declared.Replayed.{Replayed}
-use Rattle.replaying.proofs.Answer.{judged-well-formed}
+use Rattle.replay_theory.specs.Trace.{TraceLine, traceLine}
+use Rattle.replay_theory.specs.Run as run
+use Rattle.replay_theory.specs.Run.{Run, startRun, openIn, callLimit}
+use Rattle.replay_theory.specs.Paths.{Path}
+use Rattle.replay_theory.specs.LowestPair as run-pair
+use Rattle.replay_theory.specs.LowestPair.{lowestAmong}
+use Rattle.replay_theory.specs.Replay as answer
+use Rattle.replay_theory.specs.Replay.{Outcome, pastLimit, step as stepOf, limited, onLine, goesOn, way, raceOr, firstRace, judged}
+use Rattle.replay_theory.specs.declared.Ending.{Ending}
+use Rattle.replay_theory.specs.declared.FirstRace.{FirstRace}
+use Rattle.replay_theory.specs.declared.FirstRace.the-variants.{None, Found}
+use Rattle.replay_theory.specs.declared.Replayed.{Replayed}
+use Rattle.replay_theory.proofs.Answer.{judged-well-formed}
 use Rattle.machine.specs.Environment.{zeros}
 use Rattle.machine.specs.State.{MachineThread, unless, ofLive, startMachine}
 use Rattle.machine.specs.Control.{openCalls}

@@ -6,8 +6,8 @@ use lib.ListN.{getElem?}
 use Rattle.calculus.specs.Expression.{Redex}
 use Rattle.calculus.specs.State.{Part}
 use Rattle.calculus.proofs.Laws.Maps.{some-injective, none-is-not-some, bind-is-some}
-use Rattle.replaying.specs.Trace.{TraceLine}
-use Rattle.replaying.specs.Run.{partChosen, effect, thingsAfter}
+use Rattle.replay_theory.specs.Trace.{TraceLine}
+use Rattle.replay_theory.specs.Run.{partChosen, effect, thingsAfter}
 use Rattle.machine.specs.Control.{nextRedex}
 use Rattle.machine.specs.State.{MachineThread, Machine}
 use Rattle.machine.specs.Step.{step}

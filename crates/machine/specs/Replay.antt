@@ -1,5 +1,5 @@
 -- A replay on the machine, with its counts and what it has found so far: what the code runs. proofs/Replay shows that it is the replay of
--- crates/replaying.
+-- crates/replay_theory.
 use Prim.Native.Nat.{ℕ, _+_}
 use mathlib.Core.Bool.{Bool, true, false, _&&_}
 use mathlib.Core.List.{List, [], _∷_}
@@ -11,17 +11,17 @@ use Rattle.spec.specs.Reading.{Out, stop, on}
 use Rattle.spec.specs.Program.{Program}
 use Rattle.calculus.specs.Expression.{Redex}
 use Rattle.calculus.specs.Reduction.{_>>=_}
-use Rattle.replaying.specs.Trace.{TraceLine, traceLine}
-use Rattle.replaying.specs.Run.{Kind, partChosen, effect, thingsAfter, withinLimits, callLimit}
-use Rattle.replaying.specs.LowestPair.{Uses, usesOf, lowestAmong}
-use Rattle.replaying.specs.Replay.{Outcome, badForm, noStep, pastLimit, step as stepOf, onLine, raceOr, refused, judged}
-use Rattle.replaying.specs.declared.Status.{Status}
-use Rattle.replaying.specs.declared.Status.the-variants.{Running, Finished, Joined}
-use Rattle.replaying.specs.declared.Ending.{Ending}
-use Rattle.replaying.specs.declared.Ending.the-variants.{Done, TraceForm, NoStep, PastLimit}
-use Rattle.replaying.specs.declared.FirstRace.{FirstRace}
-use Rattle.replaying.specs.declared.FirstRace.the-variants.{None, Found}
-use Rattle.replaying.specs.declared.Replayed.{Replayed}
+use Rattle.replay_theory.specs.Trace.{TraceLine, traceLine}
+use Rattle.replay_theory.specs.Run.{Kind, partChosen, effect, thingsAfter, withinLimits, callLimit}
+use Rattle.replay_theory.specs.LowestPair.{Uses, usesOf, lowestAmong}
+use Rattle.replay_theory.specs.Replay.{Outcome, badForm, noStep, pastLimit, step as stepOf, onLine, raceOr, refused, judged}
+use Rattle.replay_theory.specs.declared.Status.{Status}
+use Rattle.replay_theory.specs.declared.Status.the-variants.{Running, Finished, Joined}
+use Rattle.replay_theory.specs.declared.Ending.{Ending}
+use Rattle.replay_theory.specs.declared.Ending.the-variants.{Done, TraceForm, NoStep, PastLimit}
+use Rattle.replay_theory.specs.declared.FirstRace.{FirstRace}
+use Rattle.replay_theory.specs.declared.FirstRace.the-variants.{None, Found}
+use Rattle.replay_theory.specs.declared.Replayed.{Replayed}
 use Rattle.machine.specs.Control.{Control, done, at, nextRedex, openCalls}
 use Rattle.machine.specs.State.{MachineThread, Machine, ofLive, startMachine}
 use Rattle.machine.specs.Step.{step}

@@ -6,7 +6,7 @@ use borrow.Author.Tests.{eq-eqb, ne-eqb}
 use Rattle.spec.specs.Conditions.{refLocation}
 use Rattle.spec.specs.declared.Location.{Location}
 use Rattle.spec.specs.declared.TypeLine.{TypeLine}
-use Rattle.filling.specs.FlowOf.{asks}
+use Rattle.fill_theory.specs.FlowOf.{asks}
 use Rattle.pass.specs.declared.Column.{Column}
 use Rattle.pass.specs.Ways.{typeIn, accessIn}
 

@@ -4,10 +4,10 @@ use mathlib.Core.Bool.{and-false}
 use Prim.Native.Nat.{ℕ, _+_, _-_, _<_, _≤_}
 use lib.Dec.{leb}
 use borrow.Author.Tests.{le-leb, lt-leb, eq-eqb, ne-eqb}
-use Rattle.filling.specs.declared.Effect.{Effect}
-use Rattle.filling.specs.Found.{_>>=_, demand}
-use Rattle.filling.specs.Flow.{taking}
-use Rattle.filling.specs.Pass.{forth, turn}
+use Rattle.fill_theory.specs.declared.Effect.{Effect}
+use Rattle.fill_theory.specs.Found.{_>>=_, demand}
+use Rattle.fill_theory.specs.Flow.{taking}
+use Rattle.fill_theory.specs.Pass.{forth, turn}
 use Rattle.pass.specs.declared.Found.{Found}
 use Rattle.pass.specs.declared.Found.the-variants.{Number, Nothing}
 use Rattle.pass.specs.declared.UnaryWay.{UnaryWay}

@@ -7,8 +7,8 @@ use native.Mathlib.Omega.{arith}
 use lib.ListN.{length, set}
 use Rattle.workspace.specs.Region.{Region, ChangedWithin}
 use Rattle.workspace.proofs.Region.{region-front, changed-nothing, changed-store}
-use Rattle.filling.specs.Found.{_>>=_}
-use Rattle.filling.specs.Pass.{ownPost}
+use Rattle.fill_theory.specs.Found.{_>>=_}
+use Rattle.fill_theory.specs.Pass.{ownPost}
 use Rattle.pass.specs.declared.Found.{Found}
 use Rattle.pass.specs.declared.Found.the-variants.{Number, Nothing}
 use Rattle.pass.specs.Passed.{asFound, settled, Answers}

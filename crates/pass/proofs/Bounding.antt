@@ -7,10 +7,10 @@ use native.Mathlib.Omega.{arith}
 use lib.ListN.{length, getD, set}
 use Rattle.workspace.specs.Region.{Region, ChangedWithin}
 use Rattle.workspace.proofs.Region.{region-empty, region-append, region-front, region-kept, region-moved, changed-store, changed-then, changed-wider}
-use Rattle.filling.specs.declared.Effect.{Effect}
-use Rattle.filling.specs.Flow.{Flow, steps}
-use Rattle.filling.specs.Pass.{forth, back, ceiling, reach}
-use Rattle.filling.proofs.Pass.{steps-positive}
+use Rattle.fill_theory.specs.declared.Effect.{Effect}
+use Rattle.fill_theory.specs.Flow.{Flow, steps}
+use Rattle.fill_theory.specs.Pass.{forth, back, ceiling, reach}
+use Rattle.fill_theory.proofs.Pass.{steps-positive}
 use Rattle.pass.specs.declared.Column.{Column}
 use Rattle.pass.specs.declared.Way.the-variants.{Leaf, Unary, Binary}
 use Rattle.pass.specs.declared.UnaryWay.{UnaryWay}

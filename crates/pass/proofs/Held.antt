@@ -24,10 +24,10 @@ use Rattle.workspace.specs.Layout.{wordsAt, valuesAt, leafCode, unaryCode, bina
 use Rattle.workspace.specs.Holds.{HoldsSplit}
 use Rattle.workspace.proofs.Shown.{type-number, type-shown, LoadsIn, loads-in, map-stands, has-shown, row-at, row-type, start-at, before-at, after-at}
 use Rattle.workspace.proofs.Expression.{Here, here-index, leaf-code, leaf-number, unary-number, here-called, unary-code, binary-code, here-part, here-first, here-second, here-end}
-use Rattle.filling.specs.declared.Effect.{Effect}
-use Rattle.filling.specs.Flow.{unchanged, taking, giving, needing, lending, alone, steps}
-use Rattle.filling.specs.FlowOf.{loadHere, inHere, outHere, readHere, writeHere, startHere, keptHere, beforeHere, afterHere, accessHere, flowOf}
-use Rattle.filling.proofs.Placed.{flow-steps}
+use Rattle.fill_theory.specs.declared.Effect.{Effect}
+use Rattle.fill_theory.specs.Flow.{unchanged, taking, giving, needing, lending, alone, steps}
+use Rattle.fill_theory.specs.FlowOf.{loadHere, inHere, outHere, readHere, writeHere, startHere, keptHere, beforeHere, afterHere, accessHere, flowOf}
+use Rattle.fill_theory.proofs.Placed.{flow-steps}
 use Rattle.pass.specs.declared.Column.{Column}
 use Rattle.pass.specs.declared.Way.the-variants.{Leaf, Unary, Binary}
 use Rattle.pass.specs.declared.UnaryWay.{UnaryWay}

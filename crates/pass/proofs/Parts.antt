@@ -9,11 +9,11 @@ use lib.Dec.{leb, eqb}
 use lib.ListN.{length, getD, length-append}
 use Rattle.workspace.specs.Region.{Region}
 use Rattle.workspace.proofs.Region.{region-moved, region-first, region-behind, region-left, region-right}
-use Rattle.filling.specs.declared.Effect.{Effect}
-use Rattle.filling.specs.Found.{_>>=_, demand}
-use Rattle.filling.specs.Flow.{taking, Flow, alone, after, inTurn, branch, loop, fork, call, steps}
-use Rattle.filling.specs.Pass.{back, turn, ownPost, ceiling, reach, pass}
-use Rattle.filling.proofs.Pass.{steps-positive}
+use Rattle.fill_theory.specs.declared.Effect.{Effect}
+use Rattle.fill_theory.specs.Found.{_>>=_, demand}
+use Rattle.fill_theory.specs.Flow.{taking, Flow, alone, after, inTurn, branch, loop, fork, call, steps}
+use Rattle.fill_theory.specs.Pass.{back, turn, ownPost, ceiling, reach, pass}
+use Rattle.fill_theory.proofs.Pass.{steps-positive}
 use Rattle.pass.specs.declared.Column.{Column}
 use Rattle.pass.specs.declared.Way.the-variants.{Leaf, Unary, Binary}
 use Rattle.pass.specs.declared.UnaryWay.{UnaryWay}

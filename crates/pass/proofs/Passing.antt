@@ -8,12 +8,12 @@ use native.Mathlib.Omega.{arith}
 use lib.ListN.{length, getD}
 use Rattle.workspace.specs.Region.{Region, ChangedWithin}
 use Rattle.workspace.proofs.Region.{region-empty, region-append, region-kept, region-moved, changed-then, changed-wider}
-use Rattle.filling.specs.declared.Effect.{Effect}
-use Rattle.filling.specs.Flow.{Flow, steps}
-use Rattle.filling.specs.Pass.{turn, ownPost, pass}
-use Rattle.filling.specs.Found.{_>>=_}
-use Rattle.filling.proofs.Found.{finds-bind}
-use Rattle.filling.proofs.Pass.{pass-length, steps-positive}
+use Rattle.fill_theory.specs.declared.Effect.{Effect}
+use Rattle.fill_theory.specs.Flow.{Flow, steps}
+use Rattle.fill_theory.specs.Pass.{turn, ownPost, pass}
+use Rattle.fill_theory.specs.Found.{_>>=_}
+use Rattle.fill_theory.proofs.Found.{finds-bind}
+use Rattle.fill_theory.proofs.Pass.{pass-length, steps-positive}
 use Rattle.pass.specs.declared.Column.{Column}
 use Rattle.pass.specs.declared.Found.{Found}
 use Rattle.pass.specs.declared.Found.the-variants.{Number, Nothing}

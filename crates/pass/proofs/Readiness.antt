@@ -4,9 +4,9 @@ use mathlib.Core.List.{List}
 use Prim.Native.Nat.{ℕ, _+_, _<_, _≤_}
 use native.Mathlib.Omega.{arith}
 use lib.ListN.{length}
-use Rattle.filling.specs.Flow.{steps}
-use Rattle.filling.specs.Pass.{reach, pass}
-use Rattle.filling.proofs.Pass.{steps-positive, pass-own}
+use Rattle.fill_theory.specs.Flow.{steps}
+use Rattle.fill_theory.specs.Pass.{reach, pass}
+use Rattle.fill_theory.proofs.Pass.{steps-positive, pass-own}
 use Rattle.pass.specs.declared.Column.{Column}
 use Rattle.pass.specs.declared.Found.{Found}
 use Rattle.pass.specs.declared.Found.the-variants.{Number}

@@ -8,9 +8,9 @@ use lib.ListN.{getD}
 use Rattle.workspace.specs.Layout.{wordsAt, ruleOf, mapCell}
 use Rattle.workspace.specs.declared.Rule.{Rule}
 use Rattle.workspace.specs.declared.Rule.the-variants.{VAR, INT, LET, IF, WHILE, NEWT, SPAWN, JOIN, REF, WRITE, READ, NEWL, LCK, ULCK, NEWSEM, POST, WAIT, NEWRWLOCK, RDLOCK, RDUNLOCK, WRLOCK, WRUNLOCK, CALL}
-use Rattle.filling.specs.declared.Effect.{Effect}
-use Rattle.filling.specs.Flow.{unchanged, taking, giving, needing, lending, Flow, steps}
-use Rattle.filling.specs.Pass.{forth, back, weight, ceiling, reach}
+use Rattle.fill_theory.specs.declared.Effect.{Effect}
+use Rattle.fill_theory.specs.Flow.{unchanged, taking, giving, needing, lending, Flow, steps}
+use Rattle.fill_theory.specs.Pass.{forth, back, weight, ceiling, reach}
 use Rattle.pass.specs.declared.Column.{Column}
 use Rattle.pass.specs.declared.Way.{Way}
 use Rattle.pass.specs.declared.Way.the-variants.{Leaf, Unary, Binary}

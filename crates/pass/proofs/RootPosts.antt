@@ -4,9 +4,9 @@ use mathlib.Core.List.{List}
 use Prim.Native.Nat.{ℕ}
 use native.Mathlib.Omega.{arith}
 use lib.ListN.{length}
-use Rattle.filling.specs.Flow.{Flow, steps}
-use Rattle.filling.specs.Pass.{weight, greatestPosts}
-use Rattle.filling.proofs.Greatest.{any-top}
+use Rattle.fill_theory.specs.Flow.{Flow, steps}
+use Rattle.fill_theory.specs.Pass.{weight, greatestPosts}
+use Rattle.fill_theory.proofs.Greatest.{any-top}
 use Rattle.pass.specs.declared.Column.{Column}
 use Rattle.pass.specs.declared.Found.{Found}
 use Rattle.pass.specs.Shows.{Shows}

@@ -11,11 +11,11 @@ use borrow.Author.Tests.{le-leb, lt-leb}
 use Rattle.workspace.specs.Layout.{mapCell}
 use Rattle.workspace.specs.Region.{Region, ChangedWithin}
 use Rattle.workspace.proofs.Region.{region-append, region-kept, region-moved, changed-then, changed-wider}
-use Rattle.filling.specs.Found.{_>>=_, demand}
-use Rattle.filling.specs.Flow.{Flow, steps, Root, stepsOf}
-use Rattle.filling.specs.Pass.{ownPost, greatestPosts, postsOfRoots}
-use Rattle.filling.proofs.Found.{finds-bind}
-use Rattle.filling.proofs.Greatest.{posts-counted}
+use Rattle.fill_theory.specs.Found.{_>>=_, demand}
+use Rattle.fill_theory.specs.Flow.{Flow, steps, Root, stepsOf}
+use Rattle.fill_theory.specs.Pass.{ownPost, greatestPosts, postsOfRoots}
+use Rattle.fill_theory.proofs.Found.{finds-bind}
+use Rattle.fill_theory.proofs.Greatest.{posts-counted}
 use Rattle.pass.specs.declared.Column.{Column}
 use Rattle.pass.specs.declared.Given.{Given}
 use Rattle.pass.specs.declared.Found.{Found}

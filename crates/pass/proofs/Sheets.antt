@@ -13,10 +13,10 @@ use Rattle.spec.specs.Conditions.{startMap}
 use Rattle.workspace.proofs.Shown.{has-shown}
 use Rattle.workspace.proofs.Bodies.{AllHere}
 use Rattle.workspace.proofs.Sheets.{program-here, signatures-counted, header-start-stands}
-use Rattle.filling.specs.FlowOf.{flowOf, rootsFrom, rootsOf}
-use Rattle.filling.specs.GreatestMaps.{postsAt}
-use Rattle.filling.proofs.Limits.{steps-few, procedures-few}
-use Rattle.filling.proofs.Placed.{flow-steps, sizeOf, roots-steps, steps-sized}
+use Rattle.fill_theory.specs.FlowOf.{flowOf, rootsFrom, rootsOf}
+use Rattle.fill_theory.specs.GreatestMaps.{postsAt}
+use Rattle.fill_theory.proofs.Limits.{steps-few, procedures-few}
+use Rattle.fill_theory.proofs.Placed.{flow-steps, sizeOf, roots-steps, steps-sized}
 use Rattle.pass.specs.declared.Column.{Column}
 use Rattle.pass.specs.declared.Given.{Given}
 use Rattle.pass.specs.Ways.{cellIn}

@@ -4,8 +4,8 @@ use mathlib.Core.List.{List, [], _∷_, _++_}
 use Prim.Native.Nat.{ℕ, _+_, _*_, _≤_, _<_, min}
 use lib.ListN.{length, getD}
 use Rattle.workspace.specs.Region.{Region, ChangedWithin}
-use Rattle.filling.specs.Flow.{taking, Flow, alone, after, inTurn, branch, loop, fork, call, steps}
-use Rattle.filling.specs.Pass.{forth, back, ceiling, reach}
+use Rattle.fill_theory.specs.Flow.{taking, Flow, alone, after, inTurn, branch, loop, fork, call, steps}
+use Rattle.fill_theory.specs.Pass.{forth, back, ceiling, reach}
 use Rattle.pass.specs.declared.Column.{Column}
 use Rattle.pass.specs.declared.UnaryWay.{UnaryWay}
 use Rattle.pass.specs.declared.UnaryWay.the-variants.{After, Loop, Call}

@@ -7,7 +7,7 @@ use lib.ListN.{length}
 use Rattle.spec.specs.Program.{Program}
 use Rattle.spec.specs.Split.{Split}
 use Rattle.workspace.specs.Sheets.{HoldsSheets}
-use Rattle.filling.specs.GreatestMaps.{postsAt}
+use Rattle.fill_theory.specs.GreatestMaps.{postsAt}
 use Rattle.pass.specs.declared.Column.{Column}
 use Rattle.pass.specs.declared.Given.{Given}
 use Rattle.pass.specs.Roots.{Stored}

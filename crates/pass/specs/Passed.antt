@@ -6,9 +6,9 @@ use Prim.Native.Nat.{ℕ, _+_, _≤_, _<_, min}
 use lib.Dec.{leb, eqb}
 use lib.ListN.{length, getD, set}
 use Rattle.workspace.specs.Region.{Region, ChangedWithin}
-use Rattle.filling.specs.Found.{_>>=_, demand}
-use Rattle.filling.specs.Flow.{taking, Flow, steps}
-use Rattle.filling.specs.Pass.{turn, ownPost, pass, greatestPosts}
+use Rattle.fill_theory.specs.Found.{_>>=_, demand}
+use Rattle.fill_theory.specs.Flow.{taking, Flow, steps}
+use Rattle.fill_theory.specs.Pass.{turn, ownPost, pass, greatestPosts}
 use Rattle.pass.specs.declared.Column.{Column}
 use Rattle.pass.specs.declared.Found.{Found}
 use Rattle.pass.specs.declared.Found.the-variants.{Number, Nothing}

@@ -8,8 +8,8 @@ use Prim.Native.Nat.{ℕ, _+_, _≤_, _<_}
 use lib.ListN.{length, getD}
 use Rattle.workspace.specs.Layout.{procFirstsAt}
 use Rattle.workspace.specs.Region.{Region, ChangedWithin}
-use Rattle.filling.specs.Flow.{Flow, steps, Root, stepsOf}
-use Rattle.filling.specs.Pass.{postsOfRoots}
+use Rattle.fill_theory.specs.Flow.{Flow, steps, Root, stepsOf}
+use Rattle.fill_theory.specs.Pass.{postsOfRoots}
 use Rattle.pass.specs.declared.Column.{Column}
 use Rattle.pass.specs.declared.Given.{Given}
 use Rattle.pass.specs.Ways.{cellIn, beforeIn, afterIn}

@@ -4,8 +4,8 @@ use mathlib.Core.List.{List}
 use Prim.Native.Nat.{ℕ, _+_}
 use lib.ListN.{getD}
 use Rattle.workspace.specs.Layout.{endsAt}
-use Rattle.filling.specs.declared.Effect.{Effect}
-use Rattle.filling.specs.Flow.{Flow, alone, after, inTurn, branch, loop, fork, call, steps}
+use Rattle.fill_theory.specs.declared.Effect.{Effect}
+use Rattle.fill_theory.specs.Flow.{Flow, alone, after, inTurn, branch, loop, fork, call, steps}
 use Rattle.pass.specs.declared.Column.{Column}
 use Rattle.pass.specs.declared.Way.the-variants.{Leaf, Unary, Binary}
 use Rattle.pass.specs.declared.UnaryWay.{UnaryWay}

@@ -1,4 +1,4 @@
--- The way in which the number at a location flows through a step, as the work space shows it: crate filling's table, by rule.
+-- The way in which the number at a location flows through a step, as the work space shows it: the table of `fill_theory`, by rule.
 use mathlib.Core.List.{List}
 use Prim.Native.Nat.{ℕ, _+_, _*_}
 use lib.ListN.{getD}
@@ -8,9 +8,9 @@ use Rattle.spec.specs.declared.TypeLine.{TypeLine}
 use Rattle.workspace.specs.Layout.{wordsAt, valuesAt, rowTypesAt, startsAt, sigBeforesAt, sigAftersAt, ruleOf, typeAt, mapCell}
 use Rattle.workspace.specs.declared.Rule.{Rule}
 use Rattle.workspace.specs.declared.Rule.the-variants.{VAR, INT, LET, IF, WHILE, NEWT, SPAWN, JOIN, REF, WRITE, READ, NEWL, LCK, ULCK, NEWSEM, POST, WAIT, NEWRWLOCK, RDLOCK, RDUNLOCK, WRLOCK, WRUNLOCK, CALL}
-use Rattle.filling.specs.Flow.{unchanged, taking, giving, needing, lending}
-use Rattle.filling.specs.FlowOf.{asks}
-use Rattle.filling.specs.declared.Effect.{Effect}
+use Rattle.fill_theory.specs.Flow.{unchanged, taking, giving, needing, lending}
+use Rattle.fill_theory.specs.FlowOf.{asks}
+use Rattle.fill_theory.specs.declared.Effect.{Effect}
 use Rattle.pass.specs.declared.Column.{Column}
 use Rattle.pass.specs.declared.Way.{Way}
 use Rattle.pass.specs.declared.Way.the-variants.{Leaf, Unary, Binary}

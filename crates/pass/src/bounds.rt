@@ -3,11 +3,11 @@
 use super::BinaryWay;
 use super::UnaryWay;
 use super::ways::taking;
-use filling::Effect;
+use fill_theory::Effect;
 ghost use mathlib.Core.Path.{_≡_};
 ghost use Prim.Native.Nat.{_<_, min};
 ghost use lib.ListN.{length, getD};
-ghost use Rattle.filling.specs.Pass.{forth, back};
+ghost use Rattle.fill_theory.specs.Pass.{forth, back};
 ghost use Rattle.pass.specs.Bounds.{partCap, firstCap, lastCap, unaryCeiling, binaryCeiling, binaryReach};
 
 // No bound: more than any post can be.

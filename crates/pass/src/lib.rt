@@ -8,7 +8,7 @@ mod steps;
 mod turns;
 mod ways;
 
-use filling::Effect;
+use fill_theory::Effect;
 use roots::fill_roots;
 use spec::Location;
 use spec::MapNumber;

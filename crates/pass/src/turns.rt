@@ -4,10 +4,10 @@ use super::Found;
 use super::UnaryWay;
 use super::bounds::least;
 use super::ways::taking;
-use filling::Effect;
+use fill_theory::Effect;
 ghost use mathlib.Core.Path.{_≡_};
 ghost use Prim.Native.Nat.{_<_};
-ghost use Rattle.filling.specs.Pass.{turn};
+ghost use Rattle.fill_theory.specs.Pass.{turn};
 ghost use Rattle.pass.specs.Passed.{asFound, partPre, afterUnary, afterBinary, secondPre};
 
 // The number after a step, from the number that its parts leave.

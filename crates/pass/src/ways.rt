@@ -3,7 +3,7 @@ use super::BinaryWay;
 use super::Column;
 use super::UnaryWay;
 use super::Way;
-use filling::Effect;
+use fill_theory::Effect;
 use spec::Location;
 use spec::MapNumber;
 use spec::TypeLine;
@@ -24,7 +24,7 @@ use workspace::wide;
 ghost use mathlib.Core.Path.{_≡_};
 ghost use Prim.Native.Nat.{_<_};
 ghost use Rattle.spec.specs.Conditions.{load, inLoad, outLoad, readLoad, writeLoad, refLocation};
-ghost use Rattle.filling.specs.Flow.{unchanged, taking, giving, needing, lending};
+ghost use Rattle.fill_theory.specs.Flow.{unchanged, taking, giving, needing, lending};
 ghost use Rattle.pass.specs.Ways.{cellIn, typeIn, loadIn, inLoadIn, outLoadIn, readLoadIn, writeLoadIn, lendingIn, startIn, beforeIn, afterIn, callingIn, accessIn, wayBy, wayIn};
 
 // A step that keeps the number, takes from it, gives to it, needs it to be large enough, or takes from it what it lends.

@@ -5,10 +5,10 @@ use Prim.Native.Nat.{ℕ, _+_, _≤_, _<_}
 use native.Mathlib.Omega.{arith}
 use lib.ListN.{length, length-append}
 use Rattle.spec.specs.Text.{bytes}
-use Rattle.writer.specs.Text.{decimal, line}
+use Rattle.written.specs.Text.{decimal, line}
 use Rattle.writer.specs.Buffer.{Written}
 use Rattle.writer.proofs.Buffer.{written-length}
-use Rattle.writer.proofs.Decimal.{decimal-length}
+use Rattle.written.proofs.Decimal.{decimal-length}
 use Rattle.racedrill.specs.Line.{drillLine}
 
 module _ (x p s : ℕ) where

@@ -9,9 +9,9 @@ use borrow.Author.Tests.{le-leb}
 use Rattle.spec.specs.Program.{programLimit}
 use Rattle.spec.specs.Split.{splitLimit}
 use Rattle.spec.proofs.Clashes.{none-is-not-some}
-use Rattle.practice.specs.Draw.{drawn, readersOf}
-use Rattle.practice.specs.Pair.{programOf, splitOf}
-use Rattle.practice.proofs.Accepted.{readers-drawable}
+use Rattle.drill_theory.specs.Draw.{drawn, readersOf}
+use Rattle.drill_theory.specs.Pair.{programOf, splitOf}
+use Rattle.drill_theory.proofs.Accepted.{readers-drawable}
 use Rattle.drill.specs.Answer.{Numbers, numbered, numbersOf, roomy, answerOf, inFront}
 use Rattle.drill.specs.declared.Drilled.{Drilled}
 use Rattle.drill.specs.declared.Drilled.the-variants as drilled

@@ -5,8 +5,8 @@ use Prim.Native.Nat.{ℕ, _≤_}
 use lib.ListN.{length, take}
 use Rattle.spec.specs.Program.{programLimit}
 use Rattle.spec.specs.Split.{splitLimit}
-use Rattle.practice.specs.Draw.{drawn}
-use Rattle.practice.specs.Pair.{programOf, splitOf}
+use Rattle.drill_theory.specs.Draw.{drawn}
+use Rattle.drill_theory.specs.Pair.{programOf, splitOf}
 use Rattle.racedrill.specs.declared.seed.Seed.{Seed}
 use Rattle.racedrill.specs.declared.seed.Seed.the-variants.{Given, Absent}
 use Rattle.racedrill.specs.declared.pair.Pair.{Pair}

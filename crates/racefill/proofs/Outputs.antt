@@ -13,12 +13,12 @@ use Rattle.spec.specs.Verdict.{four, returned}
 use Rattle.spec.specs.declared.Returned.{Returned}
 use Rattle.spec.specs.declared.Answer.the-variants.{Refuse}
 use Rattle.spec.specs.declared.Refusal.{Refusal}
-use Rattle.numbers.proofs.Refusals.{refusal-number}
+use Rattle.returned.proofs.Refusals.{refusal-number}
 use Rattle.writer.specs.Buffer.{Written}
 use Rattle.writer.proofs.Buffer.{overwrite-front}
 use Rattle.report.specs.Line.{refusalLine, answerLine, lineOf}
 use Rattle.report.specs.declared.Outcome.the-variants.{Answered}
-use Rattle.filling.specs.Answer.{fill, numbersOf, bufferAfter}
+use Rattle.fill_theory.specs.Answer.{fill, numbersOf, bufferAfter}
 use Rattle.fill.specs.Numbers.{numbered}
 use Rattle.fill.specs.Stages.{Tells}
 use Rattle.fill.specs.declared.Filled.{Filled}

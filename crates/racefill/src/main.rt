@@ -16,7 +16,7 @@ ghost use mathlib.Core.Path.{_≡_};
 ghost use lib.ListN.{length};
 ghost use Rattle.spec.specs.Split.{splitLimit};
 ghost use Rattle.spec.specs.Workspace.{workspaceSize};
-ghost use Rattle.filling.specs.Answer.{fill as filling};
+ghost use Rattle.fill_theory.specs.Answer.{fill as filling};
 ghost use Rattle.racefill.specs.Output.{outputOf, InFront};
 
 // Makes what is written for two texts, in front of a buffer that has room for any sheet, and hands back its length.

@@ -12,7 +12,7 @@ use replay_line::write_line;
 ghost use mathlib.Core.Path.{_≡_};
 ghost use lib.ListN.{length};
 ghost use Rattle.files.specs.Files.{Within};
-ghost use Rattle.replaying.specs.Replay.{replaySpace, replay as replayed};
+ghost use Rattle.replay_theory.specs.Replay.{replaySpace, replay as replayed};
 ghost use Rattle.replay_line.specs.declared.Outcome.the-variants.{Ran};
 
 // The most bytes of a trace that are held.

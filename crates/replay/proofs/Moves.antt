@@ -7,8 +7,8 @@ use Rattle.trace.specs.declared.TraceLine.the-variants.{Move, Malformed}
 use Rattle.engine.specs.declared.Outcome.the-variants.{Moved, Stuck, Past}
 use Rattle.engine.specs.declared.Stepped.{Stepped}
 use Rattle.engine.specs.Steps.{stepped}
-use Rattle.replaying.specs.declared.FirstRace.{FirstRace}
-use Rattle.replaying.specs.declared.Ending.the-variants.{TraceForm, NoStep, PastLimit}
+use Rattle.replay_theory.specs.declared.FirstRace.{FirstRace}
+use Rattle.replay_theory.specs.declared.Ending.the-variants.{TraceForm, NoStep, PastLimit}
 use Rattle.replay.specs.declared.turns.Progress.the-variants.{Goes}
 use Rattle.replay.specs.declared.turns.Point.{Point}
 use Rattle.replay.specs.Play.{raceAfter, CountKept, stoppedBy, byOutcome, afterStep, lineDone}

@@ -18,11 +18,11 @@ use Rattle.engine.specs.declared.Outcome as code
 use Rattle.engine.specs.declared.Outcome.the-variants.{Moved, Stuck, Past}
 use Rattle.engine.specs.declared.Stepped.{Stepped}
 use Rattle.engine.specs.Steps.{stepped}
-use Rattle.replaying.specs.Trace.{TraceLine, traceLine}
-use Rattle.replaying.specs.Replay.{Outcome, badForm, noStep, pastLimit, step, limited, onLine}
-use Rattle.replaying.specs.declared.Ending.{Ending}
-use Rattle.replaying.specs.declared.Ending.the-variants.{Done}
-use Rattle.replaying.specs.declared.Replayed.{Replayed}
+use Rattle.replay_theory.specs.Trace.{TraceLine, traceLine}
+use Rattle.replay_theory.specs.Replay.{Outcome, badForm, noStep, pastLimit, step, limited, onLine}
+use Rattle.replay_theory.specs.declared.Ending.{Ending}
+use Rattle.replay_theory.specs.declared.Ending.the-variants.{Done}
+use Rattle.replay_theory.specs.declared.Replayed.{Replayed}
 use Rattle.machine.specs.Replay as machine
 use Rattle.machine.specs.Replay.{Replay, within, orRace, ended, playOn, playFrom}
 use Rattle.simulation.proofs.Moving.{Answered}

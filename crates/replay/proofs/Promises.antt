@@ -5,10 +5,10 @@ use mathlib.Core.List.{List, _++_}
 use native.Mathlib.Omega.{arith}
 use lib.ListN.{length, take, drop, length-append, length-drop}
 use lib.Seq.{length-take-le, drop-at}
-use Rattle.replaying.specs.Replay.{replaySpace, replay, numbersOf}
-use Rattle.replaying.specs.Claim.{TraceFollowed, RaceFound, NoneIfAccepted}
-use Rattle.replaying.specs.declared.Replayed.{Replayed}
-use Rattle.replaying.proofs.Reported.{trace-is-followed, race-is-found, none-if-accepted}
+use Rattle.replay_theory.specs.Replay.{replaySpace, replay, numbersOf}
+use Rattle.replay_theory.specs.Claim.{TraceFollowed, RaceFound, NoneIfAccepted}
+use Rattle.replay_theory.specs.declared.Replayed.{Replayed}
+use Rattle.replay_theory.proofs.Reported.{trace-is-followed, race-is-found, none-if-accepted}
 
 -- ------------------------------------------------------------------ the space
 

@@ -4,9 +4,9 @@ use mathlib.Core.Path.{_≡_, refl}
 use mathlib.Core.List.{List}
 use Rattle.engine.specs.declared.races.Pair.the-variants as pair
 use Rattle.engine.specs.Races.{lowestPair}
-use Rattle.replaying.specs.declared.FirstRace.{FirstRace}
-use Rattle.replaying.specs.declared.FirstRace.the-variants.{None, Found}
-use Rattle.replaying.specs.Replay.{raceOr}
+use Rattle.replay_theory.specs.declared.FirstRace.{FirstRace}
+use Rattle.replay_theory.specs.declared.FirstRace.the-variants.{None, Found}
+use Rattle.replay_theory.specs.Replay.{raceOr}
 use Rattle.machine.specs.Replay.{orRace}
 use Rattle.replay.specs.Play.{raceAfter}
 

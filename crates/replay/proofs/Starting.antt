@@ -27,12 +27,12 @@ use Rattle.engine.specs.Steps.{startOf}
 use Rattle.program.specs.Sheet.{Answered}
 use Rattle.program.specs.declared.ProgramRead.{ProgramRead}
 use Rattle.program.specs.declared.ProgramRead.the-variants.{Read, Refused}
-use Rattle.replaying.specs.Replay as definition
-use Rattle.replaying.specs.Replay.{replaySpace, judged, refused}
-use Rattle.replaying.specs.declared.FirstRace.{FirstRace}
-use Rattle.replaying.specs.declared.FirstRace.the-variants.{None}
-use Rattle.replaying.specs.declared.Replayed.{Replayed}
-use Rattle.replaying.proofs.Answer.{short-space-is-refused}
+use Rattle.replay_theory.specs.Replay as definition
+use Rattle.replay_theory.specs.Replay.{replaySpace, judged, refused}
+use Rattle.replay_theory.specs.declared.FirstRace.{FirstRace}
+use Rattle.replay_theory.specs.declared.FirstRace.the-variants.{None}
+use Rattle.replay_theory.specs.declared.Replayed.{Replayed}
+use Rattle.replay_theory.proofs.Answer.{short-space-is-refused}
 use Rattle.machine.specs.Replay.{startReplay, orRace, playFrom, play, played, replay}
 use Rattle.machine.proofs.Replay.{machine-replays}
 use Rattle.simulation.proofs.Bodies.{allSize, AllStanding, FirstsAt, VariablesAt, ProgramStands, program-stands}

@@ -8,14 +8,14 @@ use Rattle.spec.specs.Verdict.{returned}
 use Rattle.spec.specs.declared.Answer.the-variants.{Refuse}
 use Rattle.spec.specs.declared.Refusal.{Refusal}
 use Rattle.spec.specs.declared.Returned.{Returned}
-use Rattle.replaying.specs.declared.Ending.{Ending}
-use Rattle.replaying.specs.declared.Ending.the-variants.{Done, Refused, TraceForm, NoStep, PastLimit}
-use Rattle.replaying.specs.declared.FirstRace.{FirstRace}
-use Rattle.replaying.specs.declared.FirstRace.the-variants.{None, Found}
-use Rattle.replaying.specs.declared.Numbers.{Numbers}
-use Rattle.replaying.specs.Run.{Run}
-use Rattle.replaying.specs.Replay.{lineNumbers, sheetNumbers, numbersOf}
-use Rattle.replaying.specs.Claim.{runsOf, Reduced, Stops, allDone, notALine, cannotStep, tooMany, Follows, TraceFollowed}
+use Rattle.replay_theory.specs.declared.Ending.{Ending}
+use Rattle.replay_theory.specs.declared.Ending.the-variants.{Done, Refused, TraceForm, NoStep, PastLimit}
+use Rattle.replay_theory.specs.declared.FirstRace.{FirstRace}
+use Rattle.replay_theory.specs.declared.FirstRace.the-variants.{None, Found}
+use Rattle.replay_theory.specs.declared.Numbers.{Numbers}
+use Rattle.replay_theory.specs.Run.{Run}
+use Rattle.replay_theory.specs.Replay.{lineNumbers, sheetNumbers, numbersOf}
+use Rattle.replay_theory.specs.Claim.{runsOf, Reduced, Stops, allDone, notALine, cannotStep, tooMany, Follows, TraceFollowed}
 use Rattle.replay.specs.Numbers.{raceTold, raceNumbers}
 
 pub no-race-told : (race : FirstRace) → race ≡ None → raceTold 18446744073709551615 4294967295 4294967295 ≡ raceNumbers race

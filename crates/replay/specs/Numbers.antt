@@ -1,8 +1,8 @@
 -- A race in numbers.
 use Prim.Native.Nat.{ℕ}
 use mathlib.Core.Path.{_≡_}
-use Rattle.replaying.specs.declared.FirstRace.{FirstRace}
-use Rattle.replaying.specs.declared.FirstRace.the-variants.{None, Found}
+use Rattle.replay_theory.specs.declared.FirstRace.{FirstRace}
+use Rattle.replay_theory.specs.declared.FirstRace.the-variants.{None, Found}
 use Rattle.replay.specs.declared.in_numbers.RaceNumbers.{RaceNumbers}
 
 abbrev pub raceTold : (state first second : ℕ) → RaceNumbers

@@ -12,10 +12,10 @@ use Rattle.engine.specs.declared.Outcome.the-variants.{Moved, Stuck, Past}
 use Rattle.engine.specs.declared.Stepped.{Stepped}
 use Rattle.engine.specs.Steps.{stepped}
 use Rattle.engine.specs.Races.{lowestPair}
-use Rattle.replaying.specs.declared.Ending.{Ending}
-use Rattle.replaying.specs.declared.Ending.the-variants.{TraceForm, NoStep, PastLimit}
-use Rattle.replaying.specs.declared.FirstRace.{FirstRace}
-use Rattle.replaying.specs.declared.Replayed.{Replayed}
+use Rattle.replay_theory.specs.declared.Ending.{Ending}
+use Rattle.replay_theory.specs.declared.Ending.the-variants.{TraceForm, NoStep, PastLimit}
+use Rattle.replay_theory.specs.declared.FirstRace.{FirstRace}
+use Rattle.replay_theory.specs.declared.Replayed.{Replayed}
 use Rattle.machine.specs.Replay.{Replay, orRace, playFrom}
 use Rattle.simulation.proofs.Holds.{Holds}
 use Rattle.simulation.proofs.Racing.{pairTold}

@@ -1,12 +1,12 @@
 // An ending and a race in numbers.
-use replaying::Ending;
-use replaying::FirstRace;
-use replaying::Numbers;
+use replay_theory::Ending;
+use replay_theory::FirstRace;
+use replay_theory::Numbers;
 use spec::Answer;
 use spec::Refusal;
 ghost use mathlib.Core.Path.{_≡_};
-ghost use Rattle.replaying.specs.Replay.{lineNumbers, numbersOf};
-ghost use Rattle.replaying.specs.declared.Ending.the-variants.{Refused as EndsRefused};
+ghost use Rattle.replay_theory.specs.Replay.{lineNumbers, numbersOf};
+ghost use Rattle.replay_theory.specs.declared.Ending.the-variants.{Refused as EndsRefused};
 ghost use Rattle.replay.specs.Numbers.{raceNumbers};
 
 // The state and the threads of a race in numbers; without one, the largest number of each kind.
@@ -51,7 +51,7 @@ fn line_numbers(number: u32, line: usize) -> Numbers
 fn sheet_numbers(r: Refusal) -> Numbers
     ensures { λ n. ⌜ n ≡ numbersOf (EndsRefused r) ⌝ }
 {
-    let four = numbers::numbers_of(Answer::Refuse(r));
+    let four = returned::numbers_of(Answer::Refuse(r));
     let line = workspace::index(four.line);
     Numbers {
         number: four.number,

@@ -7,18 +7,18 @@ pub use in_numbers::RaceNumbers;
 pub use in_numbers::ending_numbers;
 pub use in_numbers::race_numbers;
 use program::ProgramRead;
-use replaying::Ending;
-use replaying::FirstRace;
-use replaying::Replayed;
-use replaying::Report;
+use replay_theory::Ending;
+use replay_theory::FirstRace;
+use replay_theory::Replayed;
+use replay_theory::Report;
 use spec::Refusal;
 use start::read_program;
 use start::run_held;
 ghost use mathlib.Core.Path.{_≡_};
 ghost use Prim.Native.Nat.{_<_};
 ghost use lib.ListN.{length, drop};
-ghost use Rattle.replaying.specs.Replay.{refused as refusedBy, replaySpace, replay as replayed, numbersOf};
-ghost use Rattle.replaying.specs.Claim.{TraceFollowed, RaceFound, NoneIfAccepted};
+ghost use Rattle.replay_theory.specs.Replay.{refused as refusedBy, replaySpace, replay as replayed, numbersOf};
+ghost use Rattle.replay_theory.specs.Claim.{TraceFollowed, RaceFound, NoneIfAccepted};
 ghost use Rattle.machine.specs.Replay.{replay as machineReplay};
 
 fn refused(r: Refusal) -> Replayed

@@ -1,10 +1,10 @@
 // The lines of a trace in turn.
 use engine::Outcome;
 use engine::Pair;
-use replaying::Ending;
-use replaying::FirstRace;
-use replaying::Replayed;
-use replaying::Report;
+use replay_theory::Ending;
+use replay_theory::FirstRace;
+use replay_theory::Replayed;
+use replay_theory::Report;
 use threads::Threads;
 use trace::TraceLine;
 ghost use mathlib.Core.Path.{_≡_};
@@ -13,7 +13,7 @@ ghost use lib.ListN.{length, drop};
 ghost use Rattle.lexer.specs.Views.{lineAt};
 ghost use Rattle.trace.specs.Lines.{moveIn};
 ghost use Rattle.engine.specs.Steps.{stepped};
-ghost use Rattle.replaying.specs.declared.Replayed.{Replayed as Whole};
+ghost use Rattle.replay_theory.specs.declared.Replayed.{Replayed as Whole};
 ghost use Rattle.machine.specs.Replay.{ended};
 ghost use Rattle.replay.specs.Play.{raceAfter, CountKept, CountsKept, stoppedBy, afterStep, lineDone, Plays, PlaysTo};
 

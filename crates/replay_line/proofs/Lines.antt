@@ -6,14 +6,14 @@ use Prim.Native.Nat.{ℕ, _+_, _≤_, _<_}
 use native.Mathlib.Omega.{arith}
 use lib.ListN.{length, length-append}
 use Rattle.spec.specs.Text.{bytes, Field}
-use Rattle.writer.specs.Text.{decimal, line}
+use Rattle.written.specs.Text.{decimal, line}
 use Rattle.writer.specs.Buffer.{Written}
-use Rattle.writer.proofs.Decimal.{decimal-length}
-use Rattle.replaying.specs.Replay.{numbersOf}
-use Rattle.replaying.specs.declared.FirstRace.{FirstRace}
-use Rattle.replaying.specs.declared.FirstRace.the-variants.{None, Found}
-use Rattle.replaying.specs.declared.Numbers.{Numbers}
-use Rattle.replaying.specs.declared.Replayed.{Replayed}
+use Rattle.written.proofs.Decimal.{decimal-length}
+use Rattle.replay_theory.specs.Replay.{numbersOf}
+use Rattle.replay_theory.specs.declared.FirstRace.{FirstRace}
+use Rattle.replay_theory.specs.declared.FirstRace.the-variants.{None, Found}
+use Rattle.replay_theory.specs.declared.Numbers.{Numbers}
+use Rattle.replay_theory.specs.declared.Replayed.{Replayed}
 use Rattle.replay_line.specs.Line.{raceFields, numberFields, ranWith, ranFields, raceAfter, refusedFields, isDone, replayedFields, lineOf, opened}
 use Rattle.replay_line.specs.declared.Outcome.{Outcome}
 use Rattle.replay_line.specs.declared.Outcome.the-variants.{Ran, Unread}

@@ -4,15 +4,15 @@ use mathlib.Core.Bool.{Bool, true, false}
 use Prim.Native.Nat.{ℕ}
 use Rattle.spec.specs.Choice.{if_then_else_}
 use Rattle.spec.specs.Text.{bytes, Field}
-use Rattle.writer.specs.Text.{decimal, line}
-use Rattle.replaying.specs.Replay.{numbersOf}
-use Rattle.replaying.specs.declared.Ending.{Ending}
-use Rattle.replaying.specs.declared.Ending.the-variants.{Done, Refused, TraceForm, NoStep, PastLimit}
-use Rattle.replaying.specs.declared.FirstRace.{FirstRace}
-use Rattle.replaying.specs.declared.FirstRace.the-variants.{None, Found}
-use Rattle.replaying.specs.declared.Numbers.{Numbers}
-use Rattle.replaying.specs.declared.Replayed.{Replayed}
-use Rattle.replaying.specs.declared.Report.{Report}
+use Rattle.written.specs.Text.{decimal, line}
+use Rattle.replay_theory.specs.Replay.{numbersOf}
+use Rattle.replay_theory.specs.declared.Ending.{Ending}
+use Rattle.replay_theory.specs.declared.Ending.the-variants.{Done, Refused, TraceForm, NoStep, PastLimit}
+use Rattle.replay_theory.specs.declared.FirstRace.{FirstRace}
+use Rattle.replay_theory.specs.declared.FirstRace.the-variants.{None, Found}
+use Rattle.replay_theory.specs.declared.Numbers.{Numbers}
+use Rattle.replay_theory.specs.declared.Replayed.{Replayed}
+use Rattle.replay_theory.specs.declared.Report.{Report}
 use Rattle.replay_line.specs.declared.Outcome.{Outcome}
 use Rattle.replay_line.specs.declared.Outcome.the-variants.{Ran, Unread}
 

@@ -1,16 +1,16 @@
 // The line that `racereplay` writes, made in a lent buffer.
 use replay::ending_numbers;
-use replaying::Ending;
-use replaying::FirstRace;
-use replaying::Numbers;
-use replaying::Replayed;
-use replaying::Report;
+use replay_theory::Ending;
+use replay_theory::FirstRace;
+use replay_theory::Numbers;
+use replay_theory::Replayed;
+use replay_theory::Report;
 use writer::write_bytes;
 use writer::write_field;
 ghost use mathlib.Core.Path.{_≡_};
 ghost use mathlib.Core.List.{[]};
 ghost use Prim.Native.Nat.{_≤_};
-ghost use Rattle.writer.specs.Text.{line};
+ghost use Rattle.written.specs.Text.{line};
 ghost use Rattle.writer.specs.Buffer.{Written};
 ghost use Rattle.replay_line.specs.Line.{raceFields, ranFields, numberFields, refusedFields, opened, isDone, lineOf};
 

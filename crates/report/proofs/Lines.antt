@@ -10,9 +10,9 @@ use Rattle.spec.specs.declared.Returned.{Returned}
 use Rattle.spec.specs.declared.Answer.{Answer}
 use Rattle.spec.specs.declared.Answer.the-variants.{Accept, Refuse}
 use Rattle.spec.specs.declared.Refusal.{Refusal}
-use Rattle.writer.specs.Text.{decimal, line}
+use Rattle.written.specs.Text.{decimal, line}
 use Rattle.writer.specs.Buffer.{Written}
-use Rattle.writer.proofs.Decimal.{decimal-length}
+use Rattle.written.proofs.Decimal.{decimal-length}
 use Rattle.report.specs.Line.{refusalLine, answerLine, lineOf}
 use Rattle.report.specs.declared.Outcome.{Outcome}
 use Rattle.report.specs.declared.Outcome.the-variants.{Answered, Unread}

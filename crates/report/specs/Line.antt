@@ -6,7 +6,7 @@ use Rattle.spec.specs.Verdict.{returned}
 use Rattle.spec.specs.declared.Returned.{Returned}
 use Rattle.spec.specs.declared.Answer.{Answer}
 use Rattle.spec.specs.declared.Answer.the-variants.{Accept, Refuse}
-use Rattle.writer.specs.Text.{decimal, line}
+use Rattle.written.specs.Text.{decimal, line}
 use Rattle.report.specs.declared.Outcome.{Outcome}
 use Rattle.report.specs.declared.Outcome.the-variants.{Answered, Unread}
 

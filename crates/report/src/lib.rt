@@ -1,5 +1,5 @@
 // The line that `racecheck` writes, as document 01 words it, made in a lent buffer.
-use numbers::numbers_of;
+use returned::numbers_of;
 use spec::Answer;
 use writer::write_bytes;
 use writer::write_numbers;

@@ -1,50 +1,39 @@
-// The walk over a program and its split as the work space holds them: the lock lines and the start, then line by line the
-// conditions of each procedure and of each step.
-mod bodies;
-mod steps;
+// What each word asks of its step: the rules of Figure 5, a row of conditions each, judged over a view of the step; and what a
+// `proc` line asks of its procedure.
+mod flows;
+mod loads;
+mod procedures;
+mod rows;
 
-use bodies::check_program;
-use conditions::Ruling;
-use conditions::check_locks;
-use conditions::check_start;
+pub use procedures::check_procedure;
+pub use rows::check_rule;
 use spec::MapNumber;
-use spec::Purpose;
-use steps::cell;
-use workspace::Header;
-use workspace::LINES;
-use workspace::PROC_FIRSTS;
-ghost use mathlib.Core.Path.{_≡_};
-ghost use Prim.Native.Nat.{_≤_};
-ghost use lib.ListN.{length};
-ghost use Rattle.workspace.specs.Layout.{workSize};
-ghost use Rattle.rules.specs.Contract.{Ruled};
+use spec::TypeNumber;
 
-// The first reason of 44 and 30 to 33 for the sheets that the work space holds, when filling of 44, 30 and 31. It notes the maps
-// before steps there, and changes nothing else.
-pub fn rule(
-    work: &mut [u32],
-    purpose: Purpose,
-    steps: usize,
-    procedures: usize,
-    header: Header,
-) -> Ruling
-    requires { ⌜ (length (now work) ≡ workSize) × (steps ≤ 256) × (procedures ≤ 16) × (header .locations ≤ 16) × (header .types ≤ 64) ⌝ }
-    ensures { λ r. ⌜ Ruled (now (work .entry)) purpose steps procedures header r (now (work .exit)) ⌝ }
-{
-    let denominator = header.denominator;
-    let start = header.start;
-    let n = header.locations as u32;
-    let types = header.types as u32;
-    let enough = check_locks(work, n, types);
-    let Ruling::Met = enough else {
-        return enough;
-    };
-    let count = procedures as u32;
-    let root = cell(work, PROC_FIRSTS, count);
-    let line = cell(work, LINES, root);
-    let first = check_start(line, work, denominator, n, start);
-    let Ruling::Met = first else {
-        return first;
-    };
-    check_program(work, purpose, steps as u32, count, denominator, n, start)
+// What the split says of a procedure: the map before its body, the argument's type, the map after, the result's type.
+pub struct Signature {
+    pub before: MapNumber,
+    pub argument: TypeNumber,
+    pub after: MapNumber,
+    pub result: TypeNumber,
+}
+
+// What the conditions of a step look at: the sheet's locations and denominator, the step's line and number, the types and
+// maps of the step and of its parts, for a `var` the type of its let's e1 or of its procedure's argument, and for a `call`
+// the signature of the procedure.
+pub struct View {
+    pub line: u32,
+    pub value: u32,
+    pub locations: u32,
+    pub denominator: u32,
+    pub typed: TypeNumber,
+    pub type1: TypeNumber,
+    pub type2: TypeNumber,
+    pub bound: TypeNumber,
+    pub pre: MapNumber,
+    pub post: MapNumber,
+    pub start: MapNumber,
+    pub post1: MapNumber,
+    pub post2: MapNumber,
+    pub signature: Signature,
 }

@@ -25,7 +25,7 @@ use Rattle.reduction.specs.declared.words.Act.{Act}
 use Rattle.reduction.specs.declared.words.Act.the-variants.{Go}
 use Rattle.reduction.specs.Words.{given, branched, looped, bound, actedBy, acted}
 use Rattle.engine.specs.Steps.{afterAct}
-use Rattle.replaying.specs.Replay.{limited}
+use Rattle.replay_theory.specs.Replay.{limited}
 use Rattle.machine.specs.Environment.{Env}
 use Rattle.machine.specs.Control.{Frame, letWord, ifWord, whileWord, unrolledWord, againWord, Control, at, enter}
 use Rattle.machine.specs.State.{MachineThread, Machine, running}

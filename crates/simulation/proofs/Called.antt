@@ -27,7 +27,7 @@ use Rattle.reduction.specs.Calls.{above, rowClearedFrom, rowCleared, calleeOf, 
 use Rattle.reduction.specs.Words.{actedBy, acted}
 use Rattle.engine.specs.Focuses.{focusAt}
 use Rattle.engine.specs.Steps.{afterAct}
-use Rattle.replaying.specs.Replay.{limited}
+use Rattle.replay_theory.specs.Replay.{limited}
 use Rattle.machine.specs.Environment.{Env, zeros}
 use Rattle.machine.specs.Control.{Frame, markFrame, unaryWord, Control, at, enter, marks}
 use Rattle.machine.specs.State.{MachineThread, Machine, running}

@@ -29,7 +29,7 @@ use Rattle.control.specs.Control.{continuation, returning, readyAt}
 use Rattle.reduction.specs.Words.{given}
 use Rattle.engine.specs.declared.Outcome.the-variants.{Stuck}
 use Rattle.engine.specs.Steps.{ending, actStep, afterAct, givesZero, joinedBy, joinedStep}
-use Rattle.replaying.specs.Replay.{limited}
+use Rattle.replay_theory.specs.Replay.{limited}
 use Rattle.machine.specs.Environment.{Env}
 use Rattle.machine.specs.Control.{Frame, unaryWord, Control, done, at, return}
 use Rattle.machine.specs.State.{MachineThread, Machine, running}

@@ -13,7 +13,7 @@ use Rattle.lexer.proofs.Lines.{next-open, next-closed}
 use Rattle.trace.specs.declared.TraceLine.{TraceLine as LineRead}
 use Rattle.trace.specs.declared.TraceLine.the-variants as line
 use Rattle.trace.specs.Lines.{moveOf, moveIn}
-use Rattle.replaying.specs.Trace.{TraceLine, twoNumbers, spelled, traceLine}
+use Rattle.replay_theory.specs.Trace.{TraceLine, twoNumbers, spelled, traceLine}
 
 -- what the code hands back for a line that lists a move, or none; `next` is the byte behind it
 abbrev pub lineIs : Option TraceLine → (next : ℕ) → LineRead

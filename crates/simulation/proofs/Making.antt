@@ -33,8 +33,8 @@ use Rattle.reduction.specs.Slots.{slot, slotAt, slotPut}
 use Rattle.reduction.specs.Uses.{madeOf, usedBy}
 use Rattle.reduction.specs.Words.{countsAt, nextAt, given, withThing, newThing, subject, operand, effected, wordUsed, actedBy, acted}
 use Rattle.engine.specs.Steps.{actStep, afterAct}
-use Rattle.replaying.specs.Run.{Kind, cells, locks, rwlocks, semaphores, identifiers, sameKind, oneMore, threadLimit, thingLimit, withinLimits, kindMade}
-use Rattle.replaying.specs.Replay.{step, pastLimit, limited}
+use Rattle.replay_theory.specs.Run.{Kind, cells, locks, rwlocks, semaphores, identifiers, sameKind, oneMore, threadLimit, thingLimit, withinLimits, kindMade}
+use Rattle.replay_theory.specs.Replay.{step, pastLimit, limited}
 use Rattle.machine.specs.Environment.{Env}
 use Rattle.machine.specs.Control as machine
 use Rattle.machine.specs.Control.{Frame, at, return}

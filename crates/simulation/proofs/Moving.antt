@@ -27,8 +27,8 @@ use Rattle.reduction.specs.declared.words.Act.{Act}
 use Rattle.reduction.specs.declared.words.Act.the-variants as act
 use Rattle.engine.specs.Focuses.{rowsAt, focusAt, focusPut, settled, wentOn}
 use Rattle.engine.specs.Steps.{ending, recorded, proceeded, outcomeOf, movedTo, actStep, afterAct}
-use Rattle.replaying.specs.Run.{Kind, cells, locks, rwlocks, semaphores, identifiers, threadLimit, thingLimit, withinLimits, callLimit}
-use Rattle.replaying.specs.Replay.{Outcome, badForm, noStep, pastLimit, step, limited}
+use Rattle.replay_theory.specs.Run.{Kind, cells, locks, rwlocks, semaphores, identifiers, threadLimit, thingLimit, withinLimits, callLimit}
+use Rattle.replay_theory.specs.Replay.{Outcome, badForm, noStep, pastLimit, step, limited}
 use Rattle.machine.specs.Environment.{Env}
 use Rattle.spec.specs.Expression.{Procedure}
 use Rattle.machine.specs.Control.{Frame, Control, done, at, marks, openCalls}

@@ -17,7 +17,7 @@ use Rattle.calculus.specs.State.{unused, update}
 use Rattle.calculus.proofs.Laws.Maps.{update-other}
 use Rattle.reduction.specs.declared.slots.Slot.{Slot}
 use Rattle.reduction.specs.Slots.{kindsAt, firstsAt, secondsAt, slot, slotAt, slotPut}
-use Rattle.replaying.specs.Run.{Kind, cells, locks, rwlocks, semaphores, identifiers}
+use Rattle.replay_theory.specs.Run.{Kind, cells, locks, rwlocks, semaphores, identifiers}
 use Rattle.simulation.proofs.Held.{codeValue}
 use Rattle.simulation.proofs.Agreeing.{Agree, agree-then, agree-shared}
 use Rattle.simulation.proofs.Holds.{SlotIs, NamesHeld, kindCode, kind-low}

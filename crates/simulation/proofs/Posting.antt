@@ -13,8 +13,8 @@ use Rattle.calculus.specs.Expression.{Value, Unary, join, ref, read, lock, unlo
 use Rattle.calculus.specs.State.{Slot, unused, identifier, cell, aLock, semaphore, rwlock, Part, update}
 use Rattle.calculus.specs.Reduction.{nameOf, ifIdentifier, content, lockState, ifOpened, count, oneLess, rwState, insideAfter, made}
 use Rattle.calculus.proofs.Laws.Maps.{some-injective, none-is-not-some, bind-is-some}
-use Rattle.replaying.specs.Trace.{TraceLine}
-use Rattle.replaying.specs.Run.{partChosen, effect, thingsAfter}
+use Rattle.replay_theory.specs.Trace.{TraceLine}
+use Rattle.replay_theory.specs.Run.{partChosen, effect, thingsAfter}
 use Rattle.machine.specs.Environment.{Env}
 use Rattle.machine.specs.Control.{Frame, Word, letWord, ifWord, whileWord, spawnWord, writeWord, unaryWord, makeWord, unrolledWord, againWord, Control, done, at}
 use Rattle.machine.specs.State.{MachineThread, Machine, startMachine}

@@ -26,7 +26,7 @@ use Rattle.reduction.specs.Slots.{slot, slotAt}
 use Rattle.engine.specs.Focuses.{focusAt, focusPut, settled, wentOn}
 use Rattle.reduction.specs.Words.{countsAt, nextAt}
 use Rattle.engine.specs.Steps.{recorded, proceeded}
-use Rattle.replaying.specs.Run.{Kind}
+use Rattle.replay_theory.specs.Run.{Kind}
 use Rattle.machine.specs.Control as machine
 use Rattle.machine.specs.Control.{Control, done, at, openCalls}
 use Rattle.machine.specs.State.{MachineThread, running}

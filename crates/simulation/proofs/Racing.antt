@@ -36,9 +36,9 @@ use Rattle.reduction.specs.Slots.{slotAt}
 use Rattle.engine.specs.Focuses.{focusAt}
 use Rattle.reduction.specs.Words.{subject}
 use Rattle.engine.specs.Races.{accessBy, accessAt, accessOf, reads, writes, clash, partnerOf, partnerFrom, pairWith, pairOf, lowestPair}
-use Rattle.replaying.specs.Run.{ofUnary}
-use Rattle.replaying.specs.LowestPair as uses
-use Rattle.replaying.specs.LowestPair.{Uses, usesOf, ifCell, sameCell, clashing, pairOr, lowestAmong}
+use Rattle.replay_theory.specs.Run.{ofUnary}
+use Rattle.replay_theory.specs.LowestPair as uses
+use Rattle.replay_theory.specs.LowestPair.{Uses, usesOf, ifCell, sameCell, clashing, pairOr, lowestAmong}
 use Rattle.machine.specs.Control as machine
 use Rattle.machine.specs.Control.{Control, done, at, redex, nextRedex}
 use Rattle.machine.specs.State.{MachineThread, unless, ofLive}

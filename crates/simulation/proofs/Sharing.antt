@@ -31,7 +31,7 @@ use Rattle.reduction.specs.Slots.{slot, slotAt, slotPut}
 use Rattle.reduction.specs.Uses.{writtenOf, usedBy}
 use Rattle.reduction.specs.Words.{given, subject, operand, effected, wordUsed, actedBy, acted}
 use Rattle.engine.specs.Steps.{actStep, afterAct}
-use Rattle.replaying.specs.Replay.{limited}
+use Rattle.replay_theory.specs.Replay.{limited}
 use Rattle.machine.specs.Environment.{Env}
 use Rattle.machine.specs.Control as machine
 use Rattle.machine.specs.Control.{Frame, writeWord, unaryWord, at, return}

@@ -29,8 +29,8 @@ use Rattle.engine.specs.Focuses.{focusAt}
 use Rattle.reduction.specs.Words.{given}
 use Rattle.engine.specs.declared.Outcome.the-variants.{Past}
 use Rattle.engine.specs.Steps.{ending, proceeded, copiedFrom, copied, actStep, afterAct, givesZero, spawnedStep}
-use Rattle.replaying.specs.Run.{threadLimit, thingLimit, withinLimits, openIn}
-use Rattle.replaying.specs.Replay.{limited}
+use Rattle.replay_theory.specs.Run.{threadLimit, thingLimit, withinLimits, openIn}
+use Rattle.replay_theory.specs.Replay.{limited}
 use Rattle.machine.specs.Environment.{Env}
 use Rattle.machine.specs.Control.{Frame, spawnWord, Control, done, at, return, enter, openCalls}
 use Rattle.machine.specs.State.{MachineThread, Machine, running}

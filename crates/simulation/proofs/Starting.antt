@@ -23,7 +23,7 @@ use Rattle.control.specs.Control.{finish, rootOf, variable, entering}
 use Rattle.reduction.specs.Slots.{slot, slotAt}
 use Rattle.reduction.specs.Words.{nextAt}
 use Rattle.engine.specs.Steps.{startSpace, startOf}
-use Rattle.replaying.specs.Run.{openIn, Kind, cells, locks, rwlocks, semaphores, identifiers}
+use Rattle.replay_theory.specs.Run.{openIn, Kind, cells, locks, rwlocks, semaphores, identifiers}
 use Rattle.machine.specs.Control.{done, enter, openCalls}
 use Rattle.machine.proofs.Marks.{calls-counted, enter-tells}
 use Rattle.machine.specs.State.{MachineThread, running, startMachine}

@@ -40,9 +40,9 @@ use Rattle.reduction.specs.Uses.{spawnedOf, joinedOf, usedBy}
 use Rattle.engine.specs.Focuses.{focusAt}
 use Rattle.reduction.specs.Words.{subject, operand, effected, wordUsed, actedBy, acted}
 use Rattle.engine.specs.Steps.{mayChoose, ending, actStep, afterAct, steppedFrom, stepped}
-use Rattle.replaying.specs.Trace.{TraceLine}
-use Rattle.replaying.specs.Run.{cells, kindMade, partOfIf, noChoice, partChosen, effect, thingsAfter, unaryEffect}
-use Rattle.replaying.specs.Replay.{Outcome, limited}
+use Rattle.replay_theory.specs.Trace.{TraceLine}
+use Rattle.replay_theory.specs.Run.{cells, kindMade, partOfIf, noChoice, partChosen, effect, thingsAfter, unaryEffect}
+use Rattle.replay_theory.specs.Replay.{Outcome, limited}
 use Rattle.machine.specs.Environment.{Env}
 use Rattle.machine.specs.Control as machine
 use Rattle.machine.specs.Control.{Frame, letWord, ifWord, whileWord, spawnWord, writeWord, unaryWord, makeWord, unrolledWord, againWord, Control, done, at, redex, nextRedex, marks, openCalls}

@@ -15,9 +15,9 @@ use Rattle.calculus.specs.Reduction.{_>>=_}
 use Rattle.lexer.specs.Numbers.{stored}
 use Rattle.threads.specs.declared.Threads.{Threads}
 use Rattle.engine.specs.Steps as engine
-use Rattle.replaying.specs.Trace.{TraceLine}
-use Rattle.replaying.specs.Run.{partOfIf, noChoice, partChosen, effect, thingsAfter}
-use Rattle.replaying.specs.Replay.{Outcome, limited}
+use Rattle.replay_theory.specs.Trace.{TraceLine}
+use Rattle.replay_theory.specs.Run.{partOfIf, noChoice, partChosen, effect, thingsAfter}
+use Rattle.replay_theory.specs.Replay.{Outcome, limited}
 use Rattle.machine.specs.State.{MachineThread, Machine}
 use Rattle.machine.specs.Step.{step}
 use Rattle.machine.specs.Replay.{Replay, wordOf, stepped, within}

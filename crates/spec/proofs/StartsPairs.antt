@@ -1,4 +1,4 @@
--- Pairs with an empty bodyStart on a spawn: what they used to get, what they get, and that they get with 0 written what they used to get.
+-- Pairs with an empty start on a spawn: what they used to get, what they get, and that they get with 0 written what they used to get.
 use mathlib.Core.Path.{_≡_, refl}
 use mathlib.Core.List.{List, [], _∷_, map}
 use Prim.Native.String.{String, _++_}

@@ -34,8 +34,8 @@ use Rattle.workspace.specs.declared.Header.{Header as HeaderRead}
 use Rattle.split.specs.declared.first_line.FoundHeading.the-variants as found-heading
 use Rattle.workspace.specs.Sheets.{headerTold, Small}
 use Rattle.split.specs.Header.{headingFound, numeralsOf, headerFits}
-use Rattle.lines.proofs.Tests.{range-parts}
-use Rattle.lines.proofs.LineLaws.{shows-range, shows-entry, comma-line, comma-kept}
+use Rattle.split_lines.proofs.Tests.{range-parts}
+use Rattle.split_lines.proofs.LineLaws.{shows-range, shows-entry, comma-line, comma-kept}
 
 -- ------------------------------------------------------------------ the heading
 

@@ -18,8 +18,8 @@ use Rattle.lexer.proofs.Turns.{numbered}
 use Rattle.workspace.specs.Layout.{wordsAt, rowTypesAt, presAt, sigBeforesAt, sigResultsAt, mapsAt, stride, workSize, wordOf}
 use Rattle.workspace.specs.Region.{ChangedWithin}
 use Rattle.workspace.specs.Steps.{wordAt, stepAt}
-use Rattle.lines.specs.Lines.{cellLine, wordLine}
-use Rattle.lines.specs.declared.LinesRead.the-variants as lines-read
+use Rattle.split_lines.specs.Lines.{cellLine, wordLine}
+use Rattle.split_lines.specs.declared.LinesRead.the-variants as lines-read
 use Rattle.split.specs.Stored.{Columns, HoldsSignatures, signed, HoldsMaps, LinesStored}
 use Rattle.split.proofs.Turns.{Stage, stage-on, stage-stops}
 use Rattle.split.proofs.Stores.{columns-push, columns-changed, signatures-push, signatures-changed, filled-changed, filled-region, maps-push}

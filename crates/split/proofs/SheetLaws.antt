@@ -20,10 +20,10 @@ use Rattle.workspace.specs.Steps.{stepsFrom}
 use Rattle.workspace.proofs.Region.{region-kept, changed-then, changed-wider}
 use Rattle.workspace.proofs.Steps.{steps-kept}
 use Rattle.workspace.specs.declared.Header.{Header as HeaderRead}
-use Rattle.lines.specs.declared.LinesRead.{LinesRead}
-use Rattle.lines.specs.declared.LinesRead.the-variants as lines-read
+use Rattle.split_lines.specs.declared.LinesRead.{LinesRead}
+use Rattle.split_lines.specs.declared.LinesRead.the-variants as lines-read
 use Rattle.workspace.specs.Sheets.{headerTold}
-use Rattle.lines.specs.Answers.{Reading}
+use Rattle.split_lines.specs.Answers.{Reading}
 use Rattle.split.specs.Stored.{HoldsTypes, HoldsRows, HoldsMaps, HoldsSignatures, EmptyStored, Storing, StoringRows, StoringSignatures, StoringBody, LinesAnswer, TypesRead, MapsRead, SignaturesRead, RowsRead}
 use Rattle.split.specs.Sheet.{body, EndAnswer, BodyAnswer, BodyRead}
 

@@ -15,8 +15,8 @@ use Rattle.lexer.proofs.Turns.{numbered, same-numbered, Turn, first-turn, turn-
 use Rattle.workspace.specs.Region.{ChangedWithin}
 use Rattle.workspace.specs.Steps.{stepAt, stepsFrom}
 use Rattle.workspace.proofs.Region.{changed-nothing, changed-then}
-use Rattle.lines.specs.Lines.{cells, cellLine, wordLine}
-use Rattle.lines.specs.declared.LinesRead.the-variants as lines-read
+use Rattle.split_lines.specs.Lines.{cells, cellLine, wordLine}
+use Rattle.split_lines.specs.declared.LinesRead.the-variants as lines-read
 use Rattle.split.specs.Stored.{LinesStored}
 
 -- ------------------------------------------------------------------ ways of reading, by number

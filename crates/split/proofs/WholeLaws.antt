@@ -26,8 +26,8 @@ use Rattle.workspace.proofs.Region.{changed-nothing}
 use Rattle.workspace.specs.declared.Header.{Header as HeaderRead}
 use Rattle.split.specs.declared.first_line.HeaderLine.{HeaderLine}
 use Rattle.split.specs.declared.first_line.HeaderLine.the-variants as header-line
-use Rattle.lines.specs.declared.LinesRead.{LinesRead}
-use Rattle.lines.specs.declared.LinesRead.the-variants as lines-read
+use Rattle.split_lines.specs.declared.LinesRead.{LinesRead}
+use Rattle.split_lines.specs.declared.LinesRead.the-variants as lines-read
 use Rattle.split.specs.declared.Sheet.the-variants as sheet
 use Rattle.workspace.specs.Sheets.{headerTold}
 use Rattle.split.specs.Header.{AtHeader, HeaderAnswer}

@@ -14,7 +14,7 @@ use Rattle.lexer.specs.Cursors.{Placed, rest, placeAt}
 use Rattle.lexer.specs.Numbers.{numbersAt}
 use Rattle.lexer.specs.declared.Cursor.{Cursor}
 use Rattle.workspace.specs.Sheets.{headerTold, Small}
-use Rattle.lines.specs.Answers.{Reading}
+use Rattle.split_lines.specs.Answers.{Reading}
 use Rattle.split.specs.declared.first_line.FoundHeading.{FoundHeading}
 use Rattle.split.specs.declared.first_line.FoundHeading.the-variants as found-heading
 use Rattle.split.specs.declared.first_line.FoundHeader.{FoundHeader}

@@ -12,8 +12,8 @@ use Rattle.workspace.specs.Layout.{rowTypesAt, workSize}
 use Rattle.workspace.specs.Region.{ChangedWithin}
 use Rattle.workspace.specs.Holds.{HoldsSteps, HoldsSplit}
 use Rattle.workspace.specs.Steps.{stepsFrom}
-use Rattle.lines.specs.declared.LinesRead.{LinesRead}
-use Rattle.lines.specs.declared.LinesRead.the-variants as lines-read
+use Rattle.split_lines.specs.declared.LinesRead.{LinesRead}
+use Rattle.split_lines.specs.declared.LinesRead.the-variants as lines-read
 use Rattle.split.specs.declared.Sheet.{Sheet}
 use Rattle.split.specs.declared.Sheet.the-variants as sheet
 use Rattle.workspace.specs.Sheets.{headerTold, Small}

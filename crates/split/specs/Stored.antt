@@ -14,10 +14,10 @@ use Rattle.workspace.specs.Region.{Region, ChangedWithin}
 use Rattle.workspace.specs.Holds.{startNumber}
 use Rattle.workspace.specs.Steps.{stepsFrom}
 use Rattle.workspace.specs.declared.Header.{Header}
-use Rattle.lines.specs.declared.LinesRead.{LinesRead}
-use Rattle.lines.specs.declared.LinesRead.the-variants as lines-read
+use Rattle.split_lines.specs.declared.LinesRead.{LinesRead}
+use Rattle.split_lines.specs.declared.LinesRead.the-variants as lines-read
 use Rattle.workspace.specs.Sheets.{headerTold, Small}
-use Rattle.lines.specs.Answers.{Reading}
+use Rattle.split_lines.specs.Answers.{Reading}
 
 -- three numbers of each entry, in three columns with room for so many rows, one behind the other
 pub record Columns {A : Type 0} (f g h : A → ℕ) (b rows : ℕ) (w : List ℕ) (entries : List A) : Type 0 where

@@ -1,13 +1,13 @@
 // Line 1 of the split sheet: `C,D,L,T,M`, `C2,D,L,T,M,r` or `C3,D,L,T,M,r`.
 use lexer::Cursor;
 use lexer::Numbers;
-use lines::Head;
-use lines::LARGEST;
-use lines::first_field;
 use spec::Heading;
 use spec::MapNumber;
 use spec::Purpose;
 use spec::Refusal;
+use split_lines::Head;
+use split_lines::LARGEST;
+use split_lines::first_field;
 use workspace::Header;
 ghost use mathlib.Core.Path.{_≡_};
 ghost use Rattle.spec.specs.Text.{lookUp};
@@ -15,7 +15,7 @@ ghost use Rattle.spec.specs.Reading.{splitSheet, _to_, inRange, readLine};
 ghost use Rattle.spec.specs.Split.{headings, headerLine};
 ghost use Rattle.lexer.specs.Cursors.{placeAt};
 ghost use Rattle.workspace.specs.Sheets.{headerTold};
-ghost use Rattle.lines.specs.Answers.{Reading};
+ghost use Rattle.split_lines.specs.Answers.{Reading};
 ghost use Rattle.split.specs.Header.{headingFound, numeralsOf, headerFits, AtHeader, NumbersAnswer, HeaderAnswer};
 
 // How many locations, types and maps a sheet can have.

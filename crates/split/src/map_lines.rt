@@ -1,7 +1,7 @@
 // The map lines of the split sheet, into the work space.
 use lexer::Cursor;
-use lines::LinesRead;
-use lines::map_line;
+use split_lines::LinesRead;
+use split_lines::map_line;
 use workspace::Header;
 use workspace::MAPS;
 use workspace::STRIDE;

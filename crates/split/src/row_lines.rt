@@ -1,11 +1,11 @@
 // The step lines of the split sheet, into the work space.
 use lexer::Cursor;
-use lines::LinesRead;
-use lines::Row;
-use lines::RowRead;
-use lines::RowStart;
-use lines::row_line;
 use spec::Purpose;
+use split_lines::LinesRead;
+use split_lines::Row;
+use split_lines::RowRead;
+use split_lines::RowStart;
+use split_lines::row_line;
 use workspace::EMPTY_MAP;
 use workspace::Header;
 use workspace::POSTS;
@@ -17,7 +17,7 @@ ghost use Prim.Native.Nat.{_+_, _<_};
 ghost use lib.ListN.{length, set};
 ghost use Rattle.workspace.specs.Layout.{rowTypesAt, postsAt, startsAt, workSize};
 ghost use Rattle.workspace.specs.Holds.{startNumber};
-ghost use Rattle.lines.specs.Lines.{startTold};
+ghost use Rattle.split_lines.specs.Lines.{startTold};
 ghost use Rattle.split.specs.Stored.{StoringRows, RowsRead};
 
 // The number that stands for a start in the work space.

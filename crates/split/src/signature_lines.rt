@@ -1,9 +1,9 @@
 // The signature lines of the split sheet, into the work space.
 use lexer::Cursor;
-use lines::LinesRead;
-use lines::Signature;
-use lines::SignatureRead;
-use lines::signature_line;
+use split_lines::LinesRead;
+use split_lines::Signature;
+use split_lines::SignatureRead;
+use split_lines::signature_line;
 use workspace::Header;
 use workspace::SIG_AFTERS;
 use workspace::SIG_ARGUMENTS;
@@ -13,7 +13,7 @@ ghost use mathlib.Core.Path.{_≡_};
 ghost use Prim.Native.Nat.{_<_};
 ghost use lib.ListN.{length};
 ghost use Rattle.workspace.specs.Layout.{workSize};
-ghost use Rattle.lines.specs.Lines.{signatureTold};
+ghost use Rattle.split_lines.specs.Lines.{signatureTold};
 ghost use Rattle.split.specs.Stored.{StoringSignatures, signed, SignaturesRead};
 
 // Stores a signature in the four columns of signatures.

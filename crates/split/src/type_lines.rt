@@ -1,9 +1,9 @@
 // The type lines of the split sheet, into the work space.
 use lexer::Cursor;
-use lines::LinesRead;
-use lines::TypeRead;
-use lines::type_line;
 use spec::TypeLine;
+use split_lines::LinesRead;
+use split_lines::TypeRead;
+use split_lines::type_line;
 use workspace::FIRSTS;
 use workspace::Header;
 use workspace::KINDS;

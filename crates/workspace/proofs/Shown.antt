@@ -54,7 +54,7 @@ from-kept {w} {w′} x m l (suc n) =
     let e : mapCell w′ m l ≡ mapCell w m l = x .kept (mapsAt + stride * (m .0) + l) (inr (omega arith)) in
     rw (e, from-kept x m (l + 1) n)
 
--- the map x stands at the refLocation of the number m
+-- the map x stands at the place of the number m
 pub record Stands (w : List ℕ) (S : Split) (m : MapNumber) (x : Map) : Type 0 where
   pub is : mapIn w (S .header .locations) m ≡ x
 

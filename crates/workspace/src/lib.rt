@@ -57,7 +57,7 @@ pub const FIRSTS: usize = 3264;
 
 pub const SECONDS: usize = 3328;
 
-// The numbers of the line that is being read.
+// The end of the types. The 16 numbers from here on are not used.
 pub const LINE: usize = 3392;
 
 // Signatures by number, up to 16: the map before, the argument's type, the map after, the result's type.

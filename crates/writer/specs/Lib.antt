@@ -1,5 +1,1 @@
-pub mod Text
 pub mod Buffer
-pub mod Plain
-pub mod Sheet
-pub mod Writable

@@ -1,4 +1,4 @@
-use Rattle.rules.specs.Contract.{ruledFor}
+use Rattle.walk.specs.Contract.{ruledFor}
 use Rattle.split.proofs.Found.{types-told}
 use Rattle.checker.proofs.Stages.{met-accepts, refused-refuses}
 use borrow.Author.Needs.{needs}

@@ -1,6 +1,6 @@
 use mathlib.Core.Path.{refl}
 use borrow.Author.Needs.{needs}
-use Rattle.practice.specs.Draw.{drawn}
+use Rattle.drill_theory.specs.Draw.{drawn}
 use Rattle.drill.proofs.draw.Statement.{statement}
 use Rattle.drill.proofs.draw.Tie as tie
 

@@ -3,7 +3,7 @@ use mathlib.Core.Path.{ap, _∙_}
 use native.Mathlib.Omega.{arith}
 use lib.ListN.{length}
 use borrow.Author.Needs.{needs}
-use Rattle.practice.proofs.Accepted.{readers-drawable}
+use Rattle.drill_theory.proofs.Accepted.{readers-drawable}
 use Rattle.drill.proofs.Drilling.{program-of, split-of, program-short, split-short, both-written}
 use Rattle.drill.proofs.drill.Statement.{statement}
 use Rattle.drill.proofs.drill.Tie as tie

@@ -1,6 +1,6 @@
 use mathlib.Core.Path.{refl}
 use borrow.Author.Needs.{needs}
-use Rattle.practice.specs.Draw.{readers}
+use Rattle.drill_theory.specs.Draw.{readers}
 use Rattle.drill.proofs.readers.Statement.{statement}
 use Rattle.drill.proofs.readers.Tie as tie
 

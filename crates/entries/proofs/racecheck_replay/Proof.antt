@@ -1,8 +1,8 @@
 -- The numbers of the ending and of the report that `replay` hands back.
 use mathlib.Core.Path.{refl, _∙_, ap}
-use Rattle.replaying.specs.declared.Numbers.{Numbers}
-use Rattle.replaying.specs.declared.Report.{Report}
-use Rattle.replaying.specs.Replay.{numbersOf}
+use Rattle.replay_theory.specs.declared.Numbers.{Numbers}
+use Rattle.replay_theory.specs.declared.Report.{Report}
+use Rattle.replay_theory.specs.Replay.{numbersOf}
 use Rattle.replay.specs.Numbers.{raceNumbers}
 use Rattle.replay.proofs.Told.{followed-as-stored}
 use borrow.Author.Needs.{needs}

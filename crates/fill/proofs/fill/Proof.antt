@@ -3,7 +3,7 @@ use mathlib.Core.Path.{refl, sym}
 use lib.Seq.{length-take-le}
 use Rattle.workspace.specs.Layout.{workSize}
 use Rattle.workspace.proofs.Lent.{first-again, then-cleared, short-kept, long-cleared}
-use Rattle.filling.proofs.Reasons.{short-workspace}
+use Rattle.fill_theory.proofs.Reasons.{short-workspace}
 use Rattle.spec.specs.declared.Refusal.the-variants.{ShortWorkspace}
 use Rattle.fill.proofs.Told.{refusal-told, told-as}
 use Rattle.fill.proofs.Promises.{room-enough, promises-kept}

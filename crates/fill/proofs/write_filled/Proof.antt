@@ -1,7 +1,7 @@
 -- The length is counted by a first run over nothing; the second run writes, if there is room.
 use native.Mathlib.Omega.{arith}
 use borrow.Author.Needs.{needs}
-use Rattle.sheets.specs.Contract.{SheetWritten}
+use Rattle.split_writer.specs.Contract.{SheetWritten}
 use Rattle.fill.proofs.Told.{too-long, no-room, fits-told}
 use Rattle.fill.proofs.write_filled.Statement.{statement}
 use Rattle.fill.proofs.write_filled.Tie as tie

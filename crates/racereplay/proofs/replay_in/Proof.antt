@@ -3,8 +3,8 @@ use Prim.Native.Nat.{ℕ}
 use mathlib.Core.Path.{_≡_, _∙_, ap}
 use mathlib.Core.List.{List}
 use borrow.Author.Needs.{needs}
-use Rattle.replaying.specs.Replay.{replaySpace, replay}
-use Rattle.replaying.specs.declared.Replayed.{Replayed}
+use Rattle.replay_theory.specs.Replay.{replaySpace, replay}
+use Rattle.replay_theory.specs.declared.Replayed.{Replayed}
 use Rattle.replay_line.specs.declared.Outcome.the-variants.{Ran}
 use Rattle.replay.proofs.Promises.{space-counted}
 use Rattle.racereplay.proofs.replay_in.Statement.{statement}

@@ -1,5 +1,5 @@
 use mathlib.Core.Path.{refl}
-use Rattle.replaying.specs.Replay.{refused}
+use Rattle.replay_theory.specs.Replay.{refused}
 use Rattle.replay.proofs.refused.Statement.{statement}
 use Rattle.replay.proofs.refused.Tie as tie
 

@@ -1,7 +1,7 @@
 -- A short space is refused as it is; of a longer one the first numbers are lent on.
 use mathlib.Core.Path.{refl, sym, _∙_}
 use lib.Seq.{length-take-le}
-use Rattle.replaying.specs.Replay.{replaySpace}
+use Rattle.replay_theory.specs.Replay.{replaySpace}
 use Rattle.replay.proofs.Starting.{short-room, room-enough}
 use Rattle.replay.proofs.Promises.{space-counted, front-long, short-space-after, long-space-after, promises-kept}
 use borrow.Author.Needs.{needs}

@@ -1,6 +1,6 @@
 -- A sheet that is too long or refused is the answer; else the program that the space holds is run.
 use mathlib.Core.Path.{_∙_}
-use Rattle.replaying.specs.Replay.{replaySpace}
+use Rattle.replay_theory.specs.Replay.{replaySpace}
 use Rattle.replay.proofs.Starting.{long-program, replay-refused, sheet-read, sheet-held, sheet-holds, sheet-replayed}
 use borrow.Author.Needs.{needs}
 use Rattle.replay.proofs.replay_texts.Statement.{statement}

@@ -3,8 +3,8 @@ use mathlib.Core.Path.{subst, _≡_, _∙_}
 use mathlib.Core.List.{[], _∷_, _++_}
 use Prim.Native.Nat.{ℕ, _<_, _≤_, _/_}
 use borrow.Author.Needs.{needs}
-use Rattle.writer.specs.Text.{digit, decimal}
-use Rattle.writer.proofs.Decimal.{tenth-less, decimal-small, decimal-large}
+use Rattle.written.specs.Text.{digit, decimal}
+use Rattle.written.proofs.Decimal.{tenth-less, decimal-small, decimal-large}
 use Rattle.writer.proofs.Buffer.{parted, onward, finish, written-length}
 use borrow.Fn.Kinds.{In}
 use borrow.Fn.PlainCycle.{Measures, is, falls, and}

@@ -2,9 +2,9 @@
 use mathlib.Core.Path.{refl}
 use Prim.Native.Nat.{_≤_}
 use native.Mathlib.Omega.{arith}
-use Rattle.writer.specs.Text.{text}
+use Rattle.written.specs.Text.{text}
 use Rattle.writer.proofs.Buffer.{Remains, parted, restated, onward, done}
-use Rattle.practice.specs.Pair.{allJoinRows}
+use Rattle.drill_theory.specs.Pair.{allJoinRows}
 use Rattle.drill.proofs.Parts.{all-join-rows-next, all-join-rows-none}
 use Rattle.drill.proofs.split_sheet.write_all_join_rows.Statement.{statement}
 use Rattle.drill.proofs.split_sheet.write_all_join_rows.Tie as tie

@@ -3,9 +3,9 @@ use mathlib.Core.Path.{refl}
 use Prim.Native.Nat.{_-_}
 use native.Mathlib.Nat.{sub-zero}
 use native.Mathlib.Omega.{arith}
-use Rattle.writer.specs.Text.{text}
+use Rattle.written.specs.Text.{text}
 use Rattle.writer.proofs.Buffer.{Remains, parted, restated, onward, done}
-use Rattle.practice.specs.Pair.{allSpawnRows}
+use Rattle.drill_theory.specs.Pair.{allSpawnRows}
 use Rattle.drill.proofs.Parts.{all-spawn-rows-next, all-spawn-rows-none}
 use Rattle.drill.proofs.split_sheet.write_all_spawn_rows.Statement.{statement}
 use Rattle.drill.proofs.split_sheet.write_all_spawn_rows.Tie as tie

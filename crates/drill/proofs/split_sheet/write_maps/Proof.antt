@@ -2,9 +2,9 @@
 use mathlib.Core.Path.{refl}
 use native.Mathlib.Omega.{arith}
 use borrow.Author.Needs.{needs}
-use Rattle.writer.specs.Text.{text}
+use Rattle.written.specs.Text.{text}
 use Rattle.writer.proofs.Buffer.{Remains, parted, restated, onward, done}
-use Rattle.practice.specs.Pair.{fallingMaps}
+use Rattle.drill_theory.specs.Pair.{fallingMaps}
 use Rattle.drill.proofs.Parts.{maps-next, maps-none}
 use Rattle.drill.proofs.split_sheet.write_maps.Statement.{statement}
 use Rattle.drill.proofs.split_sheet.write_maps.Tie as tie

@@ -4,7 +4,7 @@ use Prim.Native.Nat.{_≤_, _-_}
 use native.Mathlib.Omega.{arith}
 use borrow.Author.Needs.{needs}
 use lib.ListN.{length, drop}
-use Rattle.filling.specs.Answer.{numberLimit, mapAtMost}
+use Rattle.fill_theory.specs.Answer.{numberLimit, mapAtMost}
 use Rattle.fill.proofs.Fits.{fits-on, fits-out, fits-end}
 use Rattle.fill.proofs.maps.posts_fit.Statement.{statement}
 use Rattle.fill.proofs.maps.posts_fit.Tie as tie

@@ -1,5 +1,5 @@
 use native.Mathlib.Omega.{arith}
-use Rattle.filling.specs.Pass.{back}
+use Rattle.fill_theory.specs.Pass.{back}
 use borrow.Author.Needs.{needs}
 use Rattle.pass.proofs.bounds.back.Statement.{statement}
 use Rattle.pass.proofs.bounds.back.Tie as tie

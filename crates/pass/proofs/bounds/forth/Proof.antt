@@ -1,5 +1,5 @@
 use native.Mathlib.Omega.{arith}
-use Rattle.filling.specs.Pass.{forth}
+use Rattle.fill_theory.specs.Pass.{forth}
 use borrow.Author.Needs.{needs}
 use Rattle.pass.proofs.bounds.forth.Statement.{statement}
 use Rattle.pass.proofs.bounds.forth.Tie as tie

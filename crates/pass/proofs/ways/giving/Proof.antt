@@ -1,5 +1,5 @@
 use mathlib.Core.Path.{refl}
-use Rattle.filling.specs.Flow.{giving}
+use Rattle.fill_theory.specs.Flow.{giving}
 use Rattle.pass.proofs.ways.giving.Statement.{statement}
 use Rattle.pass.proofs.ways.giving.Tie as tie
 

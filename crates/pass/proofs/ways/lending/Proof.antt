@@ -1,5 +1,5 @@
 use mathlib.Core.Path.{refl}
-use Rattle.filling.specs.Flow.{lending}
+use Rattle.fill_theory.specs.Flow.{lending}
 use Rattle.pass.proofs.ways.lending.Statement.{statement}
 use Rattle.pass.proofs.ways.lending.Tie as tie
 

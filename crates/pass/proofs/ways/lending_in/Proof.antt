@@ -3,7 +3,7 @@ use mathlib.Core.Path.{ap₂, _∙_}
 use Prim.Native.Nat.{_*_}
 use borrow.Author.Needs.{needs}
 use Rattle.workspace.proofs.Products.{product-fits}
-use Rattle.filling.specs.Flow.{lending}
+use Rattle.fill_theory.specs.Flow.{lending}
 use Rattle.pass.specs.Ways.{lendingIn}
 use Rattle.pass.proofs.ways.lending_in.Statement.{statement}
 use Rattle.pass.proofs.ways.lending_in.Tie as tie

@@ -1,5 +1,5 @@
 use mathlib.Core.Path.{refl}
-use Rattle.filling.specs.Flow.{needing}
+use Rattle.fill_theory.specs.Flow.{needing}
 use Rattle.pass.proofs.ways.needing.Statement.{statement}
 use Rattle.pass.proofs.ways.needing.Tie as tie
 

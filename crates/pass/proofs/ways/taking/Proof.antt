@@ -1,5 +1,5 @@
 use mathlib.Core.Path.{refl}
-use Rattle.filling.specs.Flow.{taking}
+use Rattle.fill_theory.specs.Flow.{taking}
 use Rattle.pass.proofs.ways.taking.Statement.{statement}
 use Rattle.pass.proofs.ways.taking.Tie as tie
 

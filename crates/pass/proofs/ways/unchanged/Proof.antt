@@ -1,5 +1,5 @@
 use mathlib.Core.Path.{refl}
-use Rattle.filling.specs.Flow.{unchanged}
+use Rattle.fill_theory.specs.Flow.{unchanged}
 use Rattle.pass.proofs.ways.unchanged.Statement.{statement}
 use Rattle.pass.proofs.ways.unchanged.Tie as tie
 

@@ -1,6 +1,6 @@
 -- A row of the table for each rule: its constants are what the calls return.
 use mathlib.Core.Path.{ap, ap₂, _∙_}
-use Rattle.filling.specs.Flow.{taking, giving, needing}
+use Rattle.fill_theory.specs.Flow.{taking, giving, needing}
 use Rattle.pass.specs.declared.Way.the-variants.{Leaf, Unary, Binary}
 use Rattle.pass.specs.declared.UnaryWay.the-variants.{After}
 use Rattle.pass.specs.declared.BinaryWay.the-variants.{InTurn, Fork}

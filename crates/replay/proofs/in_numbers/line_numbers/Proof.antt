@@ -1,5 +1,5 @@
 use mathlib.Core.Path.{refl}
-use Rattle.replaying.specs.Replay.{lineNumbers}
+use Rattle.replay_theory.specs.Replay.{lineNumbers}
 use Rattle.replay.proofs.in_numbers.line_numbers.Statement.{statement}
 use Rattle.replay.proofs.in_numbers.line_numbers.Tie as tie
 

@@ -3,7 +3,7 @@ use mathlib.Core.Path.{sym}
 use native.Mathlib.Omega.{arith}
 use lib.Seq.{length-take-le}
 use Rattle.workspace.specs.Layout.{workSize}
-use Rattle.replaying.specs.Replay.{replaySpace}
+use Rattle.replay_theory.specs.Replay.{replaySpace}
 use Rattle.replay.proofs.Fronts.{sheet-in}
 use borrow.Author.Needs.{needs}
 use Rattle.replay.proofs.start.read_program.Statement.{statement}

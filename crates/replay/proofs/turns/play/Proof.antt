@@ -3,7 +3,7 @@ use mathlib.Core.Path.{_≡_, refl, _∙_}
 use Prim.Native.Nat.{_-_}
 use native.Mathlib.Omega.{arith}
 use lib.ListN.{length}
-use Rattle.replaying.specs.declared.Replayed.{Replayed}
+use Rattle.replay_theory.specs.declared.Replayed.{Replayed}
 use Rattle.replay.specs.Play.{PlaysTo}
 use Rattle.replay.proofs.Playing.{line-stops, line-goes, may-go, text-done}
 use borrow.Author.Needs.{needs}

@@ -9,7 +9,7 @@ use Rattle.spec.specs.Split.{headerRanges}
 use Rattle.spec.specs.declared.Heading.the-variants.{C2}
 use Rattle.workspace.specs.Sheets.{headerTold}
 use Rattle.split.specs.Header.{headerFits}
-use Rattle.lines.proofs.Tests.{range-out, range-next, range-last, range-index, below-test}
+use Rattle.split_lines.proofs.Tests.{range-out, range-next, range-last, range-index, below-test}
 use borrow.Author.Needs.{needs}
 use Rattle.split.proofs.first_line.header_fits.Statement.{statement}
 use Rattle.split.proofs.first_line.header_fits.Tie as tie

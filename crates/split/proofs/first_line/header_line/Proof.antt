@@ -12,9 +12,9 @@ use Rattle.lexer.specs.Views.{firstField}
 use Rattle.lexer.specs.Cursors.{Placed, rest}
 use Rattle.lexer.specs.declared.Cursor.{Cursor}
 use Rattle.lexer.proofs.Walks.{left-some}
-use Rattle.lines.specs.Answers.{HeadAnswer}
-use Rattle.lines.specs.declared.fields.Head.the-variants as head
-use Rattle.lines.proofs.LineLaws.{comma-placed}
+use Rattle.split_lines.specs.Answers.{HeadAnswer}
+use Rattle.split_lines.specs.declared.fields.Head.the-variants as head
+use Rattle.split_lines.proofs.LineLaws.{comma-placed}
 use Rattle.split.specs.Header.{NumbersAnswer}
 use Rattle.split.specs.declared.first_line.FoundHeader.the-variants as found-header
 use Rattle.split.proofs.HeaderLaws.{heading-known, heading-unknown, header-small, no-comma, no-header, header-form, header-range, header-on}

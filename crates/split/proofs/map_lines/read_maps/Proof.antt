@@ -6,8 +6,8 @@ use native.Mathlib.Omega.{arith}
 use Rattle.lexer.specs.Cursors.{placeAt}
 use Rattle.workspace.specs.Layout.{mapsAt, workSize}
 use Rattle.workspace.specs.Sheets.{headerTold}
-use Rattle.lines.specs.Lines.{cellLine}
-use Rattle.lines.specs.Answers.{MapAnswer}
+use Rattle.split_lines.specs.Lines.{cellLine}
+use Rattle.split_lines.specs.Answers.{MapAnswer}
 use Rattle.split.specs.Stored.{HoldsMaps}
 use Rattle.split.proofs.Turns.{Stage, first-stage, stages-done, maps-numbered}
 use Rattle.split.proofs.Stores.{maps-empty}

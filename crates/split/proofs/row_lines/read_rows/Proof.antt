@@ -11,8 +11,8 @@ use Rattle.workspace.specs.Holds.{startNumber}
 use Rattle.workspace.specs.Sheets.{headerTold}
 use Rattle.workspace.specs.Steps.{stepAt}
 use Rattle.workspace.proofs.Region.{changed-nothing}
-use Rattle.lines.specs.Lines.{wordLine, rowTold}
-use Rattle.lines.specs.Answers.{RowAnswer}
+use Rattle.split_lines.specs.Lines.{wordLine, rowTold}
+use Rattle.split_lines.specs.Answers.{RowAnswer}
 use Rattle.split.specs.Stored.{HoldsRows}
 use Rattle.split.proofs.Turns.{Stage, first-stage, stage-stops, stages-done, rows-numbered}
 use Rattle.split.proofs.Stores.{columns-empty}

@@ -1,5 +1,5 @@
 use Rattle.workspace.specs.Holds.{startNumber}
-use Rattle.lines.specs.Lines.{startTold}
+use Rattle.split_lines.specs.Lines.{startTold}
 use borrow.Author.Needs.{needs}
 use Rattle.split.proofs.row_lines.start_number.Statement.{statement}
 use Rattle.split.proofs.row_lines.start_number.Tie as tie

@@ -8,7 +8,7 @@ use Rattle.lexer.specs.Cursors.{placeAt}
 use Rattle.workspace.specs.Layout.{sigBeforesAt, sigResultsAt}
 use Rattle.workspace.specs.Sheets.{headerTold}
 use Rattle.workspace.proofs.Region.{changed-nothing}
-use Rattle.lines.specs.Answers.{SignatureAnswer}
+use Rattle.split_lines.specs.Answers.{SignatureAnswer}
 use Rattle.split.specs.Stored.{HoldsSignatures}
 use Rattle.split.proofs.Turns.{Stage, first-stage, stage-stops, stages-done, signatures-numbered}
 use Rattle.split.proofs.Stores.{signatures-empty}

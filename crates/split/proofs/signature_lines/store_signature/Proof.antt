@@ -1,7 +1,7 @@
 -- Four columns get a number each; what stood in them stays.
 use lib.ListN.{length-set}
 use native.Mathlib.Omega.{arith}
-use Rattle.lines.specs.Lines.{signatureTold}
+use Rattle.split_lines.specs.Lines.{signatureTold}
 use borrow.Author.Needs.{needs}
 use mathlib.Core.Path.{refl}
 use Rattle.split.proofs.signature_lines.store_signature.Statement.{statement}

@@ -8,7 +8,7 @@ use Rattle.lexer.specs.Cursors.{placeAt}
 use Rattle.workspace.specs.Layout.{kindsAt, lineAt, kindOf, firstOf, secondOf}
 use Rattle.workspace.specs.Sheets.{headerTold}
 use Rattle.workspace.proofs.Region.{changed-nothing}
-use Rattle.lines.specs.Answers.{TypeAnswer}
+use Rattle.split_lines.specs.Answers.{TypeAnswer}
 use Rattle.split.specs.Stored.{HoldsTypes}
 use Rattle.split.proofs.Turns.{Stage, first-stage, stage-stops, stages-done, types-numbered}
 use Rattle.split.proofs.Stores.{columns-empty}

@@ -1,0 +1,39 @@
+-- The limits of 42, each at its end and one past it. The tests compute, so that no proof repeats a limit.
+use mathlib.Core.Path.{_≡_}
+use mathlib.Core.Bool.{true}
+use mathlib.Core.List.{List, [], _∷_}
+use mathlib.Core.Option.{some}
+use Prim.Native.Nat.{ℕ, _≤_, min}
+use lib.ListN.{length}
+use borrow.Author.Tests.{le-leb}
+use Rattle.spec.specs.Reading.{stop, on, _>>=_, demand}
+use Rattle.spec.specs.Program.{Program}
+use Rattle.spec.specs.Split.{Map, Split, splitLimit}
+use Rattle.spec.specs.declared.Refusal.the-variants.{TooLarge}
+use Rattle.written.specs.Sheet.{written}
+use Rattle.fill_theory.specs.Filled.{filled}
+use Rattle.fill_theory.specs.GreatestMaps.{greatestMaps}
+use Rattle.fill_theory.specs.Answer.{numberLimit, mapAtMost, allAtMost, foundOr, filledText}
+
+module _ (P : Program) (S : Split) (γ : List Map) (found : greatestMaps P S ≡ some γ) where
+  -- in a buffer with room for more, a text of 65,536 bytes is written and one of 65,537 is not
+  module _ (small : allAtMost numberLimit γ ≡ true) where
+    pub longest-written : length (written (filled S γ)) ≡ 65536 → filledText 65537 P S ≡ on (written (filled S γ))
+    unfolding filledText foundOr _>>=_ demand splitLimit
+    longest-written e = rw (found, small, e)
+
+    pub longer-refused : length (written (filled S γ)) ≡ 65537 → filledText 65537 P S ≡ stop TooLarge
+    unfolding filledText foundOr _>>=_ demand splitLimit
+    longer-refused e = rw (found, small, e)
+
+  -- a greatest number of 1,000,000,000 is written where the text fits, one more is not
+  pub largest-written : γ ≡ (1000000000 ∷ []) ∷ [] → (buffer : ℕ) → length (written (filled S γ)) ≤ min splitLimit buffer
+      → filledText buffer P S ≡ on (written (filled S γ))
+  unfolding filledText foundOr _>>=_ demand numberLimit mapAtMost allAtMost
+  largest-written e buffer short =
+      let small : allAtMost numberLimit γ ≡ true = rw e in
+      rw (found, small, le-leb _ _ short)
+
+  pub larger-refused : γ ≡ (1000000001 ∷ []) ∷ [] → (buffer : ℕ) → filledText buffer P S ≡ stop TooLarge
+  unfolding filledText foundOr _>>=_ demand numberLimit mapAtMost allAtMost
+  larger-refused e buffer = rw (found, e)

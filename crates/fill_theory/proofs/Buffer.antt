@@ -1,0 +1,17 @@
+-- What the buffer holds afterwards: on a refusal what it held; else the text, and behind it what stood there.
+use mathlib.Core.Path.{_≡_, refl}
+use mathlib.Core.List.{List, _++_}
+use Prim.Native.Nat.{ℕ}
+use lib.ListN.{length}
+use lib.Seq.{drop-append-seam}
+use Rattle.spec.specs.Reading.{stop, on}
+use Rattle.spec.specs.declared.Refusal.{Refusal}
+use Rattle.fill_theory.specs.Answer.{bufferAfter}
+
+pub refusal-keeps : (r : Refusal) (buffer : List ℕ) → bufferAfter (stop r) buffer ≡ buffer
+unfolding bufferAfter
+refusal-keeps r buffer = refl
+
+pub text-in-front : (text front rest : List ℕ) → length front ≡ length text → bufferAfter (on text) (front ++ rest) ≡ text ++ rest
+unfolding bufferAfter
+text-in-front text front rest e = rw (← e, drop-append-seam front rest)

@@ -1,0 +1,152 @@
+-- What the books of a run count is what its steps have done, so `within` asks what the claim asks; and the open calls run.
+use Prim.Native.Nat.{ℕ, suc, _+_, _≤_}
+use mathlib.Core.Path.{_≡_, refl, sym, _∙_, ap, subst}
+use mathlib.Core.Bool.{true, false}
+use mathlib.Core.List.{List, [], _∷_, _++_}
+use native.Mathlib.Omega.{arith}
+use lib.Dec.{eqb, leb}
+use lib.ListN.{length}
+use borrow.Author.Tests.{leb-true, le-leb}
+use Rattle.spec.proofs.Clashes.{true-is-not-false}
+use Rattle.spec.proofs.Tests.{both-true}
+use Rattle.calculus.specs.Expression.{choose, Program}
+use Rattle.calculus.specs.Reduction.{startState}
+use Rattle.calculus.specs.Claim.{Every}
+use Rattle.replay_theory.specs.Trace.{TraceLine}
+use Rattle.replay_theory.specs.Paths.{Path}
+use Rattle.replay_theory.specs.Run.{Kind, cells, locks, rwlocks, semaphores, identifiers, sameKind, Run, startRun, Effect, plain, spawns, joins, opens, makes, sameEffect, effect, threadsAfter, oneMore, thingsAfter, after, threadLimit, thingLimit, withinLimits, callLimit, callsWithin, within}
+use Rattle.replay_theory.specs.Claim.{Reduced, openCallsOf, RunsAt, CallsRun, howMany, Within}
+use Rattle.replay_theory.proofs.Proper.{Proper, Stepped}
+use Rattle.replay_theory.proofs.Complete.{reduced}
+use Rattle.replay_theory.proofs.Lists.{length-append}
+use Rattle.replay_theory.proofs.ThreadCalls.{callsFor, none-either-way, calls-there, few-for-each, few-in-all}
+use Rattle.replay_theory.proofs.OpenCalls.{step-keeps-open}
+use Rattle.replay_theory.proofs.Running.{AllRun, step-keeps-running, runs-there}
+
+-- ---- One step more
+
+counted : Effect → Effect → ℕ
+counted e f = choose (sameEffect sameKind f e) 1 0
+
+how-many-more : (e : Effect) (ds : List Reduced) (d : Reduced) → howMany e (ds ++ (d ∷ [])) ≡ howMany e ds + counted e (effect (d .word))
+unfolding howMany counted
+how-many-more e [] d = omega arith
+how-many-more e (c ∷ ds) d = by-cases (sameEffect sameKind (effect (c .word)) e) (how-many-more e ds d)
+  where
+    by-cases : (same : Dec (effect (c .word) ≡ e)) → howMany e (ds ++ (d ∷ [])) ≡ howMany e ds + counted e (effect (d .word)) →
+        choose same (suc (howMany e (ds ++ (d ∷ [])))) (howMany e (ds ++ (d ∷ [])))
+        ≡ choose same (suc (howMany e ds)) (howMany e ds) + counted e (effect (d .word))
+    by-cases (yes p) later = omega (arith, later)
+    by-cases (no p) later = later
+
+threads-more : (f : Effect) (n : ℕ) → threadsAfter f n ≡ n + counted spawns f
+unfolding threadsAfter counted
+threads-more plain n = omega arith
+threads-more spawns n = omega arith
+threads-more joins n = omega arith
+threads-more opens n = omega arith
+threads-more (makes k) n = omega arith
+
+makes-injective : {k l : Kind} → makes k ≡ makes l → k ≡ l
+makes-injective h = cc
+
+things-more : (f : Effect) (things : Kind → ℕ) (k : Kind) → thingsAfter f things k ≡ things k + counted (makes k) f
+unfolding thingsAfter counted oneMore
+things-more plain things k = omega arith
+things-more spawns things k = omega arith
+things-more joins things k = omega arith
+things-more opens things k = omega arith
+things-more (makes l) things k = by-cases (sameKind k l) (sameEffect sameKind (makes l) (makes k))
+  where
+    by-cases : (d : Dec (k ≡ l)) (d′ : Dec (makes l ≡ makes k)) → choose d (suc (things k)) (things k) ≡ things k + choose d′ 1 0
+    by-cases (yes p) (yes q) = omega arith
+    by-cases (yes p) (no q) = absurd (q (ap makes (sym p)))
+    by-cases (no p) (yes q) = absurd (p (sym (makes-injective q)))
+    by-cases (no p) (no q) = omega arith
+
+-- ---- The books of a run
+
+-- The runs so far are rs, by the steps ds, and the last is r.
+pub record Booked (rs : List Run) (ds : List Reduced) (r : Run) : Type 0 where
+  pub counted : length rs ≡ suc (length ds)
+  pub threads : r .threads ≡ 1 + howMany spawns ds
+  pub things : (k : Kind) → r .things k ≡ howMany (makes k) ds
+  pub calls : (i : ℕ) → callsFor i (r .numbers) (r .calls) ≡ openCallsOf i ds rs
+  pub running : AllRun (r .state .threads) (r .calls)
+
+pub start-booked : (p : Program) → Booked (startRun p ∷ []) [] (startRun p)
+unfolding startRun startState howMany openCallsOf callsFor
+start-booked p = record { counted = refl; threads = refl; things = λ k. refl; calls = λ i. none-either-way (eqb i 0); running = (tt, tt) }
+
+pub step-booked : {r r′ : Run} {l : TraceLine} (rs : List Run) (ds : List Reduced) (S : Stepped r l r′) → Proper r → Booked rs ds r →
+    Booked (rs ++ (r′ ∷ [])) (ds ++ (reduced S ∷ [])) r′
+unfolding after
+step-booked {r} {r′} rs ds S proper B = record {
+  counted = length-append rs r′ ∙ ap suc (B .counted) ∙ ap suc (sym (length-append ds (reduced S)));
+  threads =
+      let more = threads-more (effect (S .word)) (r .threads) in
+      let now-many = how-many-more spawns ds (reduced S) in
+      let before = B .threads in
+      sym (ap (λ (z : Run). z .threads) (S .is-after)) ∙ omega (arith, more, now-many, before);
+  things = λ k.
+      let more = things-more (effect (S .word)) (r .things) k in
+      let now-many = how-many-more (makes k) ds (reduced S) in
+      let before = B .things k in
+      sym (ap (λ (z : Run). z .things k) (S .is-after)) ∙ omega (arith, more, now-many, before);
+  calls = λ i. step-keeps-open S proper ds rs (B .counted) i (B .calls i);
+  running = step-keeps-running S proper (B .running);
+}
+
+pub calls-run : (rs : List Run) (ds : List Reduced) (r : Run) → Proper r → Booked rs ds r → CallsRun rs ds r
+calls-run rs ds r proper B i place t there =
+    subst (Every (RunsAt (t .body))) (B .calls i)
+    (runs-there (r .state .threads) (r .calls) place t (callsFor i (r .numbers) (r .calls)) (B .running) (there .thread)
+    (calls-there 0 (r .threads) i place (r .numbers) (r .calls) (proper .rising) (proper .counted ∙ sym (proper .all-called)) (there .number)))
+
+-- ---- Limits
+
+abbrev Few : (Kind → ℕ) → Kind → Type 0
+Few things k = leb (things k) thingLimit ≡ true
+
+kinds-told : (things : Kind → ℕ) → Few things cells → Few things locks → Few things rwlocks → Few things semaphores → Few things identifiers →
+    (k : Kind) → Few things k
+kinds-told things a b c d e cells = a
+kinds-told things a b c d e locks = b
+kinds-told things a b c d e rwlocks = c
+kinds-told things a b c d e semaphores = d
+kinds-told things a b c d e identifiers = e
+
+limits-told : (threads : ℕ) (things : Kind → ℕ) → withinLimits threads things ≡ true → (leb threads threadLimit ≡ true) × ((k : Kind) → Few things k)
+unfolding withinLimits
+limits-told threads things h =
+    let (h₁, e) = both-true _ (leb (things identifiers) thingLimit) h in
+    let (h₂, d) = both-true _ (leb (things semaphores) thingLimit) h₁ in
+    let (h₃, c) = both-true _ (leb (things rwlocks) thingLimit) h₂ in
+    let (h₄, b) = both-true _ (leb (things locks) thingLimit) h₃ in
+    let (t, a) = both-true (leb threads threadLimit) (leb (things cells) thingLimit) h₄ in
+    (t, kinds-told things a b c d e)
+
+limits-hold : (threads : ℕ) (things : Kind → ℕ) → leb threads threadLimit ≡ true → ((k : Kind) → Few things k) → withinLimits threads things ≡ true
+unfolding withinLimits
+limits-hold threads things t few = rw (t, few cells, few locks, few rwlocks, few semaphores, few identifiers) refl
+
+module _ (rs : List Run) (ds : List Reduced) (r : Run) (B : Booked rs ds r) where
+  pub within-is-told : within r ≡ true → Within rs ds
+  unfolding within
+  within-is-told h =
+      let (limits, calls) = both-true (withinLimits (r .threads) (r .things)) (callsWithin (r .calls)) h in
+      let (t, few) = limits-told (r .threads) (r .things) limits in
+      record {
+        threads = subst (λ n. n ≤ threadLimit) (B .threads) (leb-true _ _ t);
+        things = λ k. subst (λ n. n ≤ thingLimit) (B .things k) (leb-true _ _ (few k));
+        calls = λ i. subst (λ (ps : List Path). length ps ≤ callLimit) (B .calls i) (few-for-each (r .numbers) (r .calls) calls i);
+      }
+
+  pub past-is-told : Proper r → within r ≡ false → ¬ Within rs ds
+  unfolding within
+  past-is-told proper h W =
+      let limits = limits-hold (r .threads) (r .things) (le-leb _ _ (subst (λ n. n ≤ threadLimit) (sym (B .threads)) (W .threads)))
+      (λ k. le-leb _ _ (subst (λ n. n ≤ thingLimit) (sym (B .things k)) (W .things k))) in
+      let calls = few-in-all 0 (r .threads) (r .numbers) (r .calls) (proper .rising) (proper .counted ∙ sym (proper .all-called))
+      (λ i. subst (λ (ps : List Path). length ps ≤ callLimit) (sym (B .calls i)) (W .calls i)) in
+      true-is-not-false (sym (rw (limits, calls) refl) ∙ h)

@@ -1,0 +1,257 @@
+-- A run as a trace records it: a state of the calculus with the numbers of its threads, and the step that a trace line is.
+use Prim.Native.Nat.{ℕ, zero, suc}
+use mathlib.Core.Bool.{Bool, true, false, not, _&&_}
+use mathlib.Core.List.{List, [], _∷_, _++_}
+use mathlib.Core.Option.{Option, none, some, Option·map}
+use lib.Dec.{eqb, leb, ltb}
+use lib.ListN.{getElem?, length}
+use Rattle.spec.specs.Choice.{if_then_else_}
+use Rattle.calculus.specs.Expression.{Value, Unary, join, ref, read, lock, unlock, post, wait, hold, call, Maker, newtid, newlock, newsem, newrwlock, Exp, Redex, letRedex, ifRedex, whileRedex, spawnRedex, writeRedex, unaryRedex, makeRedex, Next, isValue, atVariable, atWord, nextWord, choose, Procedure, Program}
+use Rattle.calculus.specs.State.{Thread, State, Part, first, second, Move, remove}
+use Rattle.calculus.specs.Reduction.{_>>=_, nameOf, wordOf, reduce, startState}
+use Rattle.replay_theory.specs.Trace.{TraceLine}
+use Rattle.replay_theory.specs.Paths.{Path, nextPath, partAt}
+use Rattle.replay_theory.specs.declared.Status.{Status}
+use Rattle.replay_theory.specs.declared.Status.the-variants.{Running, Finished, Joined}
+
+-- ------------------------------------------------------------------ runs
+
+-- The things that a run makes. No thing changes its kind or goes away.
+pub data Kind : Type 0 where
+  cells locks rwlocks semaphores identifiers : Kind
+  deriving Discrete as sameKind
+
+-- A run so far, of a program with these procedures: `numbers` has the numbers of the threads that are in the state, place by place, and none
+-- of a joined one; `calls` has the open calls of each of them, the paths at which they were taken, the latest first; then how many threads
+-- there have been, and things of each kind, "each kind counted by itself over the whole run"; the names used are those below `next`.
+pub record Run : Type 0 where
+  pub procedures : List Procedure
+  pub state : State
+  pub numbers : List ℕ
+  pub calls : List (List Path)
+  pub threads : ℕ
+  pub things : Kind → ℕ
+  pub next : ℕ
+
+-- "the start thread included and its identifier not": it is thread 0, and its identifier has the name 0
+unfoldable pub startRun : Program → Run
+startRun p = record { procedures = p .procedures; state = startState p; numbers = 0 ∷ []; calls = [] ∷ []; threads = 1; things = λ k. 0; next = 1 }
+
+-- ------------------------------------------------------------------ threads
+
+-- "threads count from 0 in spawn order": the place of thread i in the state, if it is there
+unfoldable pub placeOf : (i : ℕ) → (numbers : List ℕ) → Option ℕ
+placeOf i [] = none
+placeOf i (n ∷ ns) = if eqb i n then some 0 else Option·map suc (placeOf i ns)
+
+unfoldable pub hasFinished : Next → Bool
+hasFinished (isValue v) = true
+hasFinished (atVariable x) = false
+hasFinished (atWord w) = false
+
+-- "Each thread has one record: running, finished or joined"; a thread that has begun and is not in the state is joined, and of one that has
+-- not begun there is no record
+unfoldable pub recordFor : (begun : Bool) → Option Thread → Option Status
+recordFor begun (some t) = some (if hasFinished (nextWord (t .body)) then Finished else Running)
+recordFor begun none = if begun then some Joined else none
+
+unfoldable pub recordOf : Run → (i : ℕ) → Option Status
+recordOf r i = recordFor (ltb i (r .threads)) (placeOf i (r .numbers) >>= getElem? (r .state .threads))
+
+-- ------------------------------------------------------------------ the move that a trace line lists
+
+-- "choice is 0 or 1 at an if and 0 elsewhere, 0 taking e1"
+unfoldable pub partOfIf : (choice : ℕ) → Option Part
+partOfIf zero = some first
+partOfIf (suc zero) = some second
+partOfIf (suc (suc c)) = none
+
+-- where there is nothing to choose, the part that a move lists is ignored
+unfoldable pub noChoice : (choice : ℕ) → Option Part
+noChoice zero = some first
+noChoice (suc c) = none
+
+unfoldable pub partChosen : Redex → (choice : ℕ) → Option Part
+partChosen (letRedex x v e) c = noChoice c
+partChosen (ifRedex e₁ e₂) c = partOfIf c
+partChosen (whileRedex e) c = noChoice c
+partChosen (spawnRedex v e) c = noChoice c
+partChosen (writeRedex v w) c = noChoice c
+partChosen (unaryRedex o v) c = noChoice c
+partChosen (makeRedex o) c = noChoice c
+
+-- "Among several finished threads a join takes the lowest": the first place of a finished thread with the identifier n. If there is none, this
+-- is the place behind the last, where no thread stands, and the join is no reduction.
+unfoldable pub lowestFinished : (n : ℕ) → List Thread → ℕ
+lowestFinished n [] = 0
+lowestFinished n (t ∷ ts) = if eqb (t .tid) n && hasFinished (nextWord (t .body)) then 0 else suc (lowestFinished n ts)
+
+-- a join of no name is no reduction, and every other word ignores the finished thread that a move lists
+unfoldable pub finishedFor : Option ℕ → List Thread → ℕ
+finishedFor none ts = 0
+finishedFor (some n) ts = lowestFinished n ts
+
+-- what f tells of a word with one part and of its value
+unfoldable pub ofUnary : {A : Type 0} → (Unary → Value → Option A) → Redex → Option A
+ofUnary f (letRedex x v e) = none
+ofUnary f (ifRedex e₁ e₂) = none
+ofUnary f (whileRedex e) = none
+ofUnary f (spawnRedex v e) = none
+ofUnary f (writeRedex v w) = none
+ofUnary f (unaryRedex o v) = f o v
+ofUnary f (makeRedex o) = none
+
+-- the name that such a word has for its value; of a join, the identifier
+unfoldable pub nameIn : Redex → Option ℕ
+nameIn w = ofUnary (λ o v. nameOf v) w
+
+unfoldable pub moveOf : Run → (place : ℕ) → Redex → Part → Move
+moveOf r p w c = record { thread = p; part = c; finished = finishedFor (nameIn w) (r .state .threads); fresh = r .next }
+
+-- ------------------------------------------------------------------ open calls
+
+-- the thread at that place takes a call at the path q
+unfoldable pub taken : (place : ℕ) → Path → List (List Path) → List (List Path)
+taken p q [] = []
+taken zero q (ps ∷ calls) = (q ∷ ps) ∷ calls
+taken (suc p) q (ps ∷ calls) = ps ∷ taken p q calls
+
+-- "a call taken is open in each state where its body is no value yet": the body stands where the call stood
+unfoldable pub isOpen : Option Exp → Bool
+isOpen none = false
+isOpen (some body) = not (hasFinished (nextWord body))
+
+unfoldable pub openIn : Exp → List Path → List Path
+openIn e [] = []
+openIn e (q ∷ ps) = if isOpen (partAt q e) then (q ∷ openIn e ps) else openIn e ps
+
+unfoldable pub openCalls : List Thread → List (List Path) → List (List Path)
+openCalls [] calls = []
+openCalls (t ∷ ts) [] = []
+openCalls (t ∷ ts) (ps ∷ calls) = openIn (t .body) ps ∷ openCalls ts calls
+
+-- ------------------------------------------------------------------ the run after a step
+
+-- what a word does to the threads, calls and things of a run
+pub data Effect : Type 0 where
+  plain spawns joins opens : Effect
+  makes : Kind → Effect
+  deriving Discrete as sameEffect
+
+unfoldable pub unaryEffect : Unary → Effect
+unaryEffect join = joins
+unaryEffect ref = makes cells
+unaryEffect read = plain
+unaryEffect lock = plain
+unaryEffect unlock = plain
+unaryEffect post = plain
+unaryEffect wait = plain
+unaryEffect (hold w) = plain
+unaryEffect (call f) = opens
+
+unfoldable pub kindMade : Maker → Kind
+kindMade newtid = identifiers
+kindMade newlock = locks
+kindMade newsem = semaphores
+kindMade (newrwlock N) = rwlocks
+
+unfoldable pub effect : Redex → Effect
+effect (letRedex x v e) = plain
+effect (ifRedex e₁ e₂) = plain
+effect (whileRedex e) = plain
+effect (spawnRedex v e) = spawns
+effect (writeRedex v w) = plain
+effect (unaryRedex o v) = unaryEffect o
+effect (makeRedex o) = makes (kindMade o)
+
+-- a spawned thread stands last and its number is how many there were before it; a joined one is left out
+unfoldable pub numbersAfter : Run → Move → Effect → List ℕ
+numbersAfter r m plain = r .numbers
+numbersAfter r m spawns = r .numbers ++ (r .threads ∷ [])
+numbersAfter r m joins = remove (r .numbers) (m .finished)
+numbersAfter r m opens = r .numbers
+numbersAfter r m (makes k) = r .numbers
+
+unfoldable pub threadsAfter : Effect → (threads : ℕ) → ℕ
+threadsAfter plain n = n
+threadsAfter spawns n = suc n
+threadsAfter joins n = n
+threadsAfter opens n = n
+threadsAfter (makes k) n = n
+
+unfoldable pub oneMore : Kind → (Kind → ℕ) → Kind → ℕ
+oneMore k things l = choose (sameKind l k) (suc (things l)) (things l)
+
+-- the open calls before a step that are looked at after it, and the one taken at the path q. A new thread has none, and those of a joined one
+-- are left out.
+unfoldable pub callsAfter : Move → (q : Path) → Effect → List (List Path) → List (List Path)
+callsAfter m q plain calls = calls
+callsAfter m q spawns calls = calls ++ ([] ∷ [])
+callsAfter m q joins calls = remove calls (m .finished)
+callsAfter m q opens calls = taken (m .thread) q calls
+callsAfter m q (makes k) calls = calls
+
+unfoldable pub thingsAfter : Effect → (things : Kind → ℕ) → Kind → ℕ
+thingsAfter plain things = things
+thingsAfter spawns things = things
+thingsAfter joins things = things
+thingsAfter opens things = things
+thingsAfter (makes k) things = oneMore k things
+
+unfoldable pub nextAfter : Effect → (next : ℕ) → ℕ
+nextAfter plain n = n
+nextAfter spawns n = n
+nextAfter joins n = n
+nextAfter opens n = n
+nextAfter (makes k) n = suc n
+
+-- the run whose state is s after the move m, of a thread whose next word stood at the path q
+unfoldable pub after : Run → Move → (q : Path) → Effect → State → Run
+after r m q e s = record {
+  procedures = r .procedures;
+  state = s;
+  numbers = numbersAfter r m e;
+  calls = openCalls (s .threads) (callsAfter m q e (r .calls));
+  threads = threadsAfter e (r .threads);
+  things = thingsAfter e (r .things);
+  next = nextAfter e (r .next);
+}
+
+-- the run after "exactly the language's step", if thread i can take one with that choice
+unfoldable pub stepped : Run → TraceLine → Option Run
+stepped r l = do
+  p ← placeOf (l .thread) (r .numbers)
+  t ← getElem? (r .state .threads) p
+  w ← wordOf (nextWord (t .body))
+  c ← partChosen w (l .choice)
+  s ← reduce (r .procedures) (r .state) (moveOf r p w c)
+  some (after r (moveOf r p w c) (nextPath (t .body)) (effect w) s)
+
+-- ------------------------------------------------------------------ limits
+
+-- "past 16 threads or past 64 cells, locks, read-write locks, semaphores or identifiers"
+unfoldable pub threadLimit : ℕ
+threadLimit = 16
+
+unfoldable pub thingLimit : ℕ
+thingLimit = 64
+
+unfoldable pub withinLimits : (threads : ℕ) → (things : Kind → ℕ) → Bool
+withinLimits threads things =
+    leb threads threadLimit
+    && leb (things cells) thingLimit
+    && leb (things locks) thingLimit
+    && leb (things rwlocks) thingLimit
+    && leb (things semaphores) thingLimit
+    && leb (things identifiers) thingLimit
+
+-- "a step to a state with over 64 open calls in one thread is 48"
+unfoldable pub callLimit : ℕ
+callLimit = 64
+
+unfoldable pub callsWithin : List (List Path) → Bool
+callsWithin [] = true
+callsWithin (ps ∷ calls) = leb (length ps) callLimit && callsWithin calls
+
+unfoldable pub within : Run → Bool
+within r = withinLimits (r .threads) (r .things) && callsWithin (r .calls)

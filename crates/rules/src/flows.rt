@@ -1,0 +1,45 @@
+// The relations between maps that conditions ask for, at every location of the sheet.
+use super::View;
+use conditions::Relation;
+use conditions::Ruling;
+use conditions::flow;
+use spec::MapNumber;
+ghost use mathlib.Core.Path.{_≡_};
+ghost use Rattle.spec.specs.Sites.{judge};
+ghost use Rattle.conditions.specs.declared.Relation.the-variants.{Equal, AtLeast, Sum};
+ghost use Rattle.conditions.specs.Outcome.{outcome};
+ghost use Rattle.rules.specs.Table.{flows};
+
+// a = b.
+pub(crate) fn equal(work: &[u32], s: View, condition: u32, a: MapNumber, b: MapNumber) -> Ruling
+    ensures { λ r. ⌜ outcome r ≡ judge (s .line) condition (flows (now (work .entry)) s (Equal a b)) ⌝ }
+{
+    flow(s.line, condition, work, s.locations, Relation::Equal(a, b))
+}
+
+// a ≥ b.
+pub(crate) fn at_least(work: &[u32], s: View, condition: u32, a: MapNumber, b: MapNumber) -> Ruling
+    ensures { λ r. ⌜ outcome r ≡ judge (s .line) condition (flows (now (work .entry)) s (AtLeast a b)) ⌝ }
+{
+    flow(
+        s.line,
+        condition,
+        work,
+        s.locations,
+        Relation::AtLeast(a, b),
+    )
+}
+
+// a + b = c.
+pub(crate) fn sum(
+    work: &[u32],
+    s: View,
+    condition: u32,
+    a: MapNumber,
+    b: MapNumber,
+    c: MapNumber,
+) -> Ruling
+    ensures { λ r. ⌜ outcome r ≡ judge (s .line) condition (flows (now (work .entry)) s (Sum a b c)) ⌝ }
+{
+    flow(s.line, condition, work, s.locations, Relation::Sum(a, b, c))
+}

@@ -1,0 +1,4 @@
+pub mod Text
+pub mod Plain
+pub mod Sheet
+pub mod Writable
