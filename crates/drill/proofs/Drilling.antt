@@ -18,7 +18,7 @@ use Rattle.writer.proofs.Buffer.{overwrite-front}
 use Rattle.drill_theory.specs.Draw.{drawn, readers, readersOf, Drawable}
 use Rattle.drill_theory.specs.Pair.{programText, splitText, programOf, splitOf}
 use Rattle.drill_theory.proofs.Accepted.{pair-accepted, seed-accepted}
-use Rattle.drill.specs.Answer.{numbered, numbersOf, roomy, answerOf, inFront}
+use Rattle.drill.specs.Answer.{drilledNumbers, returnedBy, roomy, answerOf, inFront}
 use Rattle.drill.specs.declared.Drilled.{Drilled}
 use Rattle.drill.specs.declared.Drilled.the-variants.{Made, Short}
 
@@ -48,15 +48,15 @@ module _ {k : ℕ} (drawable : Drawable k) where
 -- the clauses of `drill`, of both buffers before and after
 abbrev pub Drills : (seed : ℕ) (program split program′ split′ : List ℕ) → Drilled → Type 0
 Drills seed program split program′ split′ r =
-    (numbersOf r ≡ answerOf seed (length program) (length split))
-    × ((numbersOf r .number ≡ 0 → (program′ ≡ inFront (programOf seed) program) × (split′ ≡ inFront (splitOf seed) split))
-    × ((numbersOf r .number ≡ 38 → (program′ ≡ program) × (split′ ≡ split))
-    × (numbersOf r .number ≡ 0 → verdict workspaceSize (take (numbersOf r .program) program′) (take (numbersOf r .split) split′) ≡ Accept)))
+    (returnedBy r ≡ answerOf seed (length program) (length split))
+    × ((returnedBy r .number ≡ 0 → (program′ ≡ inFront (programOf seed) program) × (split′ ≡ inFront (splitOf seed) split))
+    × ((returnedBy r .number ≡ 38 → (program′ ≡ program) × (split′ ≡ split))
+    × (returnedBy r .number ≡ 0 → verdict workspaceSize (take (returnedBy r .program) program′) (take (returnedBy r .split) split′) ≡ Accept)))
 
 -- ------------------------------------------------------------------ a buffer is too short
 
 short : (seed : ℕ) (program split : List ℕ) → roomy seed (length program) (length split) ≡ false → Drills seed program split program split Short
-unfolding numbered numbersOf answerOf
+unfolding drilledNumbers returnedBy answerOf
 short seed program split h = (rw h, ((λ z. absurd (omega (arith, z))), ((λ z. (refl, refl)), (λ z. absurd (omega (arith, z))))))
 
 pub program-short : (seed : ℕ) (program split : List ℕ) → length program < length (programOf seed) → Drills seed program split program split Short
@@ -79,7 +79,7 @@ pub both-written : (seed x p s : ℕ) (program split program′ split′ : List 
     → p ≤ length program → s ≤ length split
     → program′ ≡ overwrite program 0 (programOf seed) → split′ ≡ overwrite split 0 (splitOf seed)
     → Drills seed program split program′ split′ (Made x p s)
-unfolding numbered numbersOf roomy answerOf inFront
+unfolding drilledNumbers returnedBy roomy answerOf inFront
 both-written seed x p s program split program′ split′ ex ep es hp hs wp ws =
     let hp′ : length (programOf seed) ≤ length program = omega arith in
     let hs′ : length (splitOf seed) ≤ length split = omega arith in

@@ -17,13 +17,13 @@ pub record Numbers : Type 0 where
   pub program : ℕ
   pub split : ℕ
 
-unfoldable pub numbered : (number next program split : ℕ) → Numbers
-numbered n x p s = record { number = n; next = x; program = p; split = s }
+unfoldable pub drilledNumbers : (number next program split : ℕ) → Numbers
+drilledNumbers n x p s = record { number = n; next = x; program = p; split = s }
 
 -- how an answer of the code stands for them
-unfoldable pub numbersOf : Drilled → Numbers
-numbersOf (Made x p s) = numbered 0 x p s
-numbersOf Short = numbered 38 0 0 0
+unfoldable pub returnedBy : Drilled → Numbers
+returnedBy (Made x p s) = drilledNumbers 0 x p s
+returnedBy Short = drilledNumbers 38 0 0 0
 
 -- whether buffers of these lengths have room for the texts of a seed
 unfoldable pub roomy : (seed program split : ℕ) → Bool
@@ -34,8 +34,8 @@ roomy seed program split = leb (length (programOf seed)) program && leb (length 
 unfoldable pub answerOf : (seed program split : ℕ) → Numbers
 answerOf seed program split =
     if roomy seed program split
-    then numbered 0 (drawn seed) (length (programOf seed)) (length (splitOf seed))
-    else numbered 38 0 0 0
+    then drilledNumbers 0 (drawn seed) (length (programOf seed)) (length (splitOf seed))
+    else drilledNumbers 38 0 0 0
 
 -- a text in front of a buffer, "and the rest of each buffer is unchanged"
 unfoldable pub inFront : (text buffer : List ℕ) → List ℕ

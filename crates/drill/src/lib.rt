@@ -12,7 +12,7 @@ ghost use Rattle.spec.specs.Workspace.{workspaceSize};
 ghost use Rattle.spec.specs.declared.Answer.the-variants.{Accept};
 ghost use Rattle.drill_theory.specs.Draw.{drawn, readers as readersDrawn, Drawable};
 ghost use Rattle.drill_theory.specs.Pair.{programText, splitText, programOf, splitOf};
-ghost use Rattle.drill.specs.Answer.{numbersOf, answerOf, inFront};
+ghost use Rattle.drill.specs.Answer.{returnedBy, answerOf, inFront};
 
 // What a drill answers: the new x and the lengths of program and split; or that a buffer is shorter than its text.
 pub enum Drilled {
@@ -59,10 +59,10 @@ fn split_length(k: u64) -> u32
 // unchanged: on 38 both buffers are as they were;
 // accepted: on success document 01's answer to the two texts is ACCEPT.
 pub fn drill(seed: u32, program: &mut [u8], split: &mut [u8]) -> Drilled
-    ensures answer { λ r. ⌜ numbersOf r ≡ answerOf seed (length (now (program .entry))) (length (now (split .entry))) ⌝ }
-    ensures written { λ r. ⌜ (numbersOf r .number ≡ 0 → (now (program .exit) ≡ inFront (programOf seed) (now (program .entry))) × (now (split .exit) ≡ inFront (splitOf seed) (now (split .entry)))) ⌝ }
-    ensures unchanged { λ r. ⌜ (numbersOf r .number ≡ 38 → (now (program .exit) ≡ now (program .entry)) × (now (split .exit) ≡ now (split .entry))) ⌝ }
-    ensures accepted { λ r. ⌜ (numbersOf r .number ≡ 0 → verdict workspaceSize (take (numbersOf r .program) (now (program .exit))) (take (numbersOf r .split) (now (split .exit))) ≡ Accept) ⌝ }
+    ensures answer { λ r. ⌜ returnedBy r ≡ answerOf seed (length (now (program .entry))) (length (now (split .entry))) ⌝ }
+    ensures written { λ r. ⌜ (returnedBy r .number ≡ 0 → (now (program .exit) ≡ inFront (programOf seed) (now (program .entry))) × (now (split .exit) ≡ inFront (splitOf seed) (now (split .entry)))) ⌝ }
+    ensures unchanged { λ r. ⌜ (returnedBy r .number ≡ 38 → (now (program .exit) ≡ now (program .entry)) × (now (split .exit) ≡ now (split .entry))) ⌝ }
+    ensures accepted { λ r. ⌜ (returnedBy r .number ≡ 0 → verdict workspaceSize (take (returnedBy r .program) (now (program .exit))) (take (returnedBy r .split) (now (split .exit))) ≡ Accept) ⌝ }
 {
     let x = draw(seed);
     let k = readers(x);

@@ -16,14 +16,14 @@ ghost use Rattle.spec.specs.Verdict.{verdict, returned, four, onConditions};
 ghost use Rattle.spec.specs.Workspace.{workspaceSize, workspaceAfter};
 ghost use Rattle.spec.specs.declared.Answer.the-variants.{Accept};
 ghost use Rattle.drill_theory.specs.Pair.{programOf, splitOf};
-ghost use Rattle.drill.specs.Answer.{numbered, answerOf, inFront};
+ghost use Rattle.drill.specs.Answer.{drilledNumbers, answerOf, inFront};
 ghost use Rattle.soundness.specs.SafeText.{SafeText};
 ghost use Rattle.soundness.specs.EitherOrderText.{EitherOrderText};
 ghost use Rattle.checker.specs.Promise.{RefutedAs};
 ghost use Rattle.fill_theory.specs.AfterMaps.{AfterMaps};
-ghost use Rattle.fill_theory.specs.Answer.{fill as filling, numbersOf, bufferAfter, Fillable, Written, GreatestOverLimits};
+ghost use Rattle.fill_theory.specs.Answer.{fill as filling, returnedFor, bufferAfter, Fillable, FilledSheet, GreatestOverLimits};
 ghost use Rattle.replay_theory.specs.declared.FirstRace.the-variants.{None};
-ghost use Rattle.replay_theory.specs.Replay.{replaySpace, replay as replayed, lineNumbers, numbersOf as endingNumbers};
+ghost use Rattle.replay_theory.specs.Replay.{replaySpace, replay as replayed, lineNumbers, returnedFor as endingNumbers};
 ghost use Rattle.replay_theory.specs.Claim.{TraceFollowed, RaceFound};
 ghost use Rattle.replay.specs.Numbers.{raceNumbers, raceTold, Stored};
 
@@ -62,7 +62,7 @@ pub extern "C" fn racecheck_drill(
     program_length: &mut u32,
     split_length: &mut u32,
 ) -> u32
-    ensures answer { λ n. ⌜ numbered n (now (next .exit)) (now («program_length» .exit)) (now («split_length» .exit)) ≡ answerOf seed (length (now (program .entry))) (length (now (split .entry))) ⌝ }
+    ensures answer { λ n. ⌜ drilledNumbers n (now (next .exit)) (now («program_length» .exit)) (now («split_length» .exit)) ≡ answerOf seed (length (now (program .entry))) (length (now (split .entry))) ⌝ }
     ensures written { λ n. ⌜ (n ≡ 0 → (now (program .exit) ≡ inFront (programOf seed) (now (program .entry))) × (now (split .exit) ≡ inFront (splitOf seed) (now (split .entry)))) ⌝ }
     ensures unchanged { λ n. ⌜ (n ≡ 38 → (now (program .exit) ≡ now (program .entry)) × (now (split .exit) ≡ now (split .entry))) ⌝ }
     ensures accepted { λ n. ⌜ (n ≡ 0 → verdict workspaceSize (take (now («program_length» .exit)) (now (program .exit))) (take (now («split_length» .exit)) (now (split .exit))) ≡ Accept) ⌝ }
@@ -98,13 +98,13 @@ pub extern "C" fn racecheck_fill(
     condition: &mut u32,
     location: &mut u32,
 ) -> u32
-    ensures answer { λ n. ⌜ four n (now («length_or_line» .exit)) (now (condition .exit)) (now (location .exit)) ≡ numbersOf (filling (length (now (work .entry))) (length (now (out .entry))) (now (program .entry)) (now (split .entry))) ⌝ }
+    ensures answer { λ n. ⌜ four n (now («length_or_line» .exit)) (now (condition .exit)) (now (location .exit)) ≡ returnedFor (filling (length (now (work .entry))) (length (now (out .entry))) (now (program .entry)) (now (split .entry))) ⌝ }
     ensures written { λ n. ⌜ now (out .exit) ≡ bufferAfter (filling (length (now (work .entry))) (length (now (out .entry))) (now (program .entry)) (now (split .entry))) (now (out .entry)) ⌝ }
     ensures cleared { λ n. ⌜ now (work .exit) ≡ workspaceAfter (now (work .entry)) ⌝ }
     ensures unchanged { λ n. ⌜ (now (program .exit) ≡ now (program .entry)) × (now (split .exit) ≡ now (split .entry)) ⌝ }
     ensures solvable { λ n. ⌜ ((P : Program) (S : Split) → Fillable (length (now (work .entry))) (now (program .entry)) (now (split .entry)) P S → (four n (now («length_or_line» .exit)) (now (condition .exit)) (now (location .exit)) ≡ four 41 0 0 0) ↔ ((σ : List Map) → AfterMaps P S σ → ⊥)) ⌝ }
     ensures too_large { λ n. ⌜ ((P : Program) (S : Split) → Fillable (length (now (work .entry))) (now (program .entry)) (now (split .entry)) P S → (four n (now («length_or_line» .exit)) (now (condition .exit)) (now (location .exit)) ≡ four 42 0 0 0) ↔ GreatestOverLimits (length (now (out .entry))) P S) ⌝ }
-    ensures greatest { λ n. ⌜ (n ≡ 0 → Written (length (now (work .entry))) (length (now (out .entry))) (now (program .entry)) (now (split .entry)) (take (now («length_or_line» .exit)) (now (out .exit)))) ⌝ }
+    ensures greatest { λ n. ⌜ (n ≡ 0 → FilledSheet (length (now (work .entry))) (length (now (out .entry))) (now (program .entry)) (now (split .entry)) (take (now («length_or_line» .exit)) (now (out .exit)))) ⌝ }
     ensures accepted { λ n. ⌜ (n ≡ 0 → verdict (length (now (work .entry))) (now (program .entry)) (take (now («length_or_line» .exit)) (now (out .exit))) ≡ Accept) ⌝ }
 {
     match fill::fill(program, split, work, out) {

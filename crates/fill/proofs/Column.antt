@@ -21,7 +21,7 @@ use Rattle.fill_theory.proofs.Limits.{steps-few, procedures-few}
 use Rattle.pass.specs.declared.Column.{Column}
 use Rattle.pass.specs.declared.Given.{Given}
 use Rattle.pass.specs.Roots.{Stored}
-use Rattle.pass.specs.Contract.{Fillable, FilledHere}
+use Rattle.pass.specs.Contract.{ColumnReady, FilledHere}
 use Rattle.fill.specs.declared.maps.Found.the-variants.{Nothing, Large, Maps}
 use Rattle.fill.specs.FilledMaps.{MapsDue}
 use Rattle.fill.specs.Columns.{Room, PostsStored, ColumnGiven, ColumnFilled}
@@ -57,7 +57,7 @@ givenOf procedures start = record { procedures = procedures; start = start }
 
 module _ (w : List ℕ) (steps procedures denominator maps : ℕ) (start : MapNumber) (p : Location) where
   pub column-fillable : (q : List ℕ) → ColumnGiven w steps procedures denominator maps (start .0) (p .0) → length q ≡ 256
-      → Fillable w (columnOf p denominator) (givenOf procedures start) q
+      → ColumnReady w (columnOf p denominator) (givenOf procedures start) q
   column-fillable q G long = record {
     P = G .given .P;
     S = G .given .S;

@@ -18,9 +18,9 @@ use Rattle.spec.specs.declared.Refusal.{Refusal}
 use Rattle.spec.specs.declared.Refusal.the-variants.{NoAfterMaps, TooLarge}
 use Rattle.returned.proofs.Refusals.{refusal-number}
 use Rattle.fill_theory.specs.AfterMaps.{AfterMaps}
-use Rattle.fill_theory.specs.Answer.{fill, numbersOf, bufferAfter, Fillable, Written, GreatestOverLimits}
+use Rattle.fill_theory.specs.Answer.{fill, returnedFor, bufferAfter, Fillable, FilledSheet, GreatestOverLimits}
 use Rattle.fill_theory.proofs.Answer.{Decided, refusedUnsolvable, refusedTooLarge, wroteText, fillable-decided, refused-exactly-unsolvable, refused-exactly-too-large, written-exactly, written-accepted}
-use Rattle.fill.specs.Numbers.{numbered}
+use Rattle.fill.specs.Numbers.{returnedBy}
 use Rattle.fill.specs.Stages.{Tells}
 use Rattle.fill.specs.declared.Filled.{Filled}
 use Rattle.workspace.specs.Layout.{workSize}
@@ -34,24 +34,24 @@ room-enough room buffer p s h = rw (le-leb _ _ h)
 -- ------------------------------------------------------------------ the numbers of an outcome
 
 -- 41 and 42 are the numbers of one refusal each, of those that are left
-unsolvable-alone : {o : Out (List ℕ)} → Decided o → numbersOf o .number ≡ 41 → o ≡ stop NoAfterMaps
-unfolding numbersOf returned four
+unsolvable-alone : {o : Out (List ℕ)} → Decided o → returnedFor o .number ≡ 41 → o ≡ stop NoAfterMaps
+unfolding returnedFor returned four
 unsolvable-alone refusedUnsolvable h = refl
 unsolvable-alone refusedTooLarge h = absurd (omega (arith, h))
 unsolvable-alone (wroteText t) h = absurd (omega (arith, h))
 
-too-large-alone : {o : Out (List ℕ)} → Decided o → numbersOf o .number ≡ 42 → o ≡ stop TooLarge
-unfolding numbersOf returned four
+too-large-alone : {o : Out (List ℕ)} → Decided o → returnedFor o .number ≡ 42 → o ≡ stop TooLarge
+unfolding returnedFor returned four
 too-large-alone refusedUnsolvable h = absurd (omega (arith, h))
 too-large-alone refusedTooLarge h = refl
 too-large-alone (wroteText t) h = absurd (omega (arith, h))
 
-refused-number : (r : Refusal) → returned (Refuse r) .number ≡ numbersOf (stop r) .number
-unfolding numbersOf
+refused-number : (r : Refusal) → returned (Refuse r) .number ≡ returnedFor (stop r) .number
+unfolding returnedFor
 refused-number r = refl
 
-text-line : (t : List ℕ) → numbersOf (on t) .line ≡ length t
-unfolding numbersOf four
+text-line : (t : List ℕ) → returnedFor (on t) .line ≡ length t
+unfolding returnedFor four
 text-line t = refl
 
 -- 0 is the number of a text alone, and the buffer begins with it
@@ -60,74 +60,74 @@ pub record Begins (o : Out (List ℕ)) (line : ℕ) (after : List ℕ) : Type 0 
   pub is : o ≡ on text
   pub taken : take line after ≡ text
 
-text-begins : (o : Out (List ℕ)) (before after : List ℕ) → after ≡ bufferAfter o before → numbersOf o .number ≡ 0
-    → Begins o (numbersOf o .line) after
-unfolding numbersOf bufferAfter four
+text-begins : (o : Out (List ℕ)) (before after : List ℕ) → after ≡ bufferAfter o before → returnedFor o .number ≡ 0
+    → Begins o (returnedFor o .line) after
+unfolding returnedFor bufferAfter four
 text-begins (stop r) before after e h = absurd (omega (arith, refusal-number r, h))
 text-begins (on t) before after e h = record { text = t; is = refl; taken = rw e (take-append-seam t (drop (length t) before)) }
 
 -- ------------------------------------------------------------------ the clauses
 
 module _ (room : ℕ) (p s before after : List ℕ) (f : Filled) (told : Tells (fill room (length before) p s) before after f) where
-  solvable-kept : (P : Program) (S : Split) → Fillable room p s P S → (numbered f ≡ four 41 0 0 0) ↔ ((σ : List Map) → AfterMaps P S σ → ⊥)
-  unfolding numbersOf returned four
+  solvable-kept : (P : Program) (S : Split) → Fillable room p s P S → (returnedBy f ≡ four 41 0 0 0) ↔ ((σ : List Map) → AfterMaps P S σ → ⊥)
+  unfolding returnedFor returned four
   solvable-kept P S F =
       let decides = refused-exactly-unsolvable room (length before) p s P S F in (
         λ h. decides .0 (unsolvable-alone (fillable-decided room (length before) p s P S F) (ap (λ (r : Returned). r .number) (sym (told .numbers) ∙ h))),
-        λ unsolvable. told .numbers ∙ ap numbersOf (decides .1 unsolvable),
+        λ unsolvable. told .numbers ∙ ap returnedFor (decides .1 unsolvable),
       )
 
-  too-large-kept : (P : Program) (S : Split) → Fillable room p s P S → (numbered f ≡ four 42 0 0 0) ↔ GreatestOverLimits (length before) P S
-  unfolding numbersOf returned four
+  too-large-kept : (P : Program) (S : Split) → Fillable room p s P S → (returnedBy f ≡ four 42 0 0 0) ↔ GreatestOverLimits (length before) P S
+  unfolding returnedFor returned four
   too-large-kept P S F =
       let decides = refused-exactly-too-large room (length before) p s P S F in (
         λ h. decides .0 (too-large-alone (fillable-decided room (length before) p s P S F) (ap (λ (r : Returned). r .number) (sym (told .numbers) ∙ h))),
-        λ over. told .numbers ∙ ap numbersOf (decides .1 over),
+        λ over. told .numbers ∙ ap returnedFor (decides .1 over),
       )
 
-  pub begins : numbered f .number ≡ 0 → Begins (fill room (length before) p s) (numbered f .line) after
+  pub begins : returnedBy f .number ≡ 0 → Begins (fill room (length before) p s) (returnedBy f .line) after
   begins h = rw (told .numbers) (text-begins _ before after (told .buffer) (ap (λ (r : Returned). r .number) (sym (told .numbers)) ∙ h))
 
-  greatest-kept : numbered f .number ≡ 0 → Written room (length before) p s (take (numbered f .line) after)
+  greatest-kept : returnedBy f .number ≡ 0 → FilledSheet room (length before) p s (take (returnedBy f .line) after)
   greatest-kept h =
       let B = begins h in
       rw (B .taken) (written-exactly room (length before) p s (B .text) .0 (B .is))
 
-  accepted-kept : numbered f .number ≡ 0 → verdict room p (take (numbered f .line) after) ≡ Accept
+  accepted-kept : returnedBy f .number ≡ 0 → verdict room p (take (returnedBy f .line) after) ≡ Accept
   accepted-kept h =
       let B = begins h in
       rw (B .taken) (written-accepted room (length before) p s (B .text) (B .is))
 
 -- a text that is written has room in the buffer
-within-buffer : (room buffer : ℕ) (p s : List ℕ) (f : Filled) → numbered f ≡ numbersOf (fill room buffer p s)
-    → numbered f .number ≡ 0 → numbered f .line ≤ buffer
+within-buffer : (room buffer : ℕ) (p s : List ℕ) (f : Filled) → returnedBy f ≡ returnedFor (fill room buffer p s)
+    → returnedBy f .number ≡ 0 → returnedBy f .line ≤ buffer
 within-buffer room buffer p s f e h = rw e (go (fill room buffer p s) refl (ap (λ (r : Returned). r .number) (sym e) ∙ h))
   where
-    go : (o : Out (List ℕ)) → fill room buffer p s ≡ o → numbersOf o .number ≡ 0 → numbersOf o .line ≤ buffer
+    go : (o : Out (List ℕ)) → fill room buffer p s ≡ o → returnedFor o .number ≡ 0 → returnedFor o .line ≤ buffer
     go (stop r) is zero = absurd (omega (arith, refusal-number r, refused-number r ∙ zero))
     go (on t) is zero =
         let W = written-exactly room buffer p s t .0 is in
         omega (arith, W .limits .hasRoom, ap length (W .isText), text-line t)
 
-pub written-within : {n : ℕ} (room buffer : ℕ) (p s : List ℕ) (f : Filled) → numbered f ≡ numbersOf (fill room buffer p s)
+pub written-within : {n : ℕ} (room buffer : ℕ) (p s : List ℕ) (f : Filled) → returnedBy f ≡ returnedFor (fill room buffer p s)
     → f ≡ WrittenSheet n → n ≤ buffer
-unfolding numbered four
+unfolding returnedBy four
 written-within {n} room buffer p s f e is =
-    let zero : numbered f .number ≡ 0 = rw is in
-    let line : numbered f .line ≡ n = rw is in
+    let zero : returnedBy f .number ≡ 0 = rw is in
+    let line : returnedBy f .line ≡ n = rw is in
     omega (arith, within-buffer room buffer p s f e zero, line)
 
 -- every promise of the offered call, in the order of its clauses; U is that of the texts, which are lent unchanged
 pub promises-kept : {U : Type 0} (w w′ p s before after : List ℕ) (f : Filled) → Tells (fill (length w) (length before) p s) before after f
     → w′ ≡ workspaceAfter w → U
-    → (numbered f ≡ numbersOf (fill (length w) (length before) p s))
+    → (returnedBy f ≡ returnedFor (fill (length w) (length before) p s))
     × ((after ≡ bufferAfter (fill (length w) (length before) p s) before)
     × ((w′ ≡ workspaceAfter w)
     × (U
-    × (((P : Program) (S : Split) → Fillable (length w) p s P S → (numbered f ≡ four 41 0 0 0) ↔ ((σ : List Map) → AfterMaps P S σ → ⊥))
-    × (((P : Program) (S : Split) → Fillable (length w) p s P S → (numbered f ≡ four 42 0 0 0) ↔ GreatestOverLimits (length before) P S)
-    × ((numbered f .number ≡ 0 → Written (length w) (length before) p s (take (numbered f .line) after))
-    × (numbered f .number ≡ 0 → verdict (length w) p (take (numbered f .line) after) ≡ Accept)))))))
+    × (((P : Program) (S : Split) → Fillable (length w) p s P S → (returnedBy f ≡ four 41 0 0 0) ↔ ((σ : List Map) → AfterMaps P S σ → ⊥))
+    × (((P : Program) (S : Split) → Fillable (length w) p s P S → (returnedBy f ≡ four 42 0 0 0) ↔ GreatestOverLimits (length before) P S)
+    × ((returnedBy f .number ≡ 0 → FilledSheet (length w) (length before) p s (take (returnedBy f .line) after))
+    × (returnedBy f .number ≡ 0 → verdict (length w) p (take (returnedBy f .line) after) ≡ Accept)))))))
 promises-kept w w′ p s before after f told c u =
     let room = length w in
     let solvable = solvable-kept room p s before after f told in

@@ -12,8 +12,8 @@ use Rattle.spec.specs.declared.Refusal.{Refusal}
 use Rattle.spec.specs.declared.Refusal.the-variants.{TooLarge}
 use Rattle.writer.specs.Buffer.{Written}
 use Rattle.writer.proofs.Buffer.{overwrite-front}
-use Rattle.fill_theory.specs.Answer.{numbersOf, bufferAfter}
-use Rattle.fill.specs.Numbers.{numbered}
+use Rattle.fill_theory.specs.Answer.{returnedFor, bufferAfter}
+use Rattle.fill.specs.Numbers.{returnedBy}
 use Rattle.fill.specs.Stages.{Tells, fitted}
 use Rattle.fill.specs.declared.Filled.{Filled}
 use Rattle.fill.specs.declared.Filled.the-variants.{Written as WrittenSheet, Refused}
@@ -21,17 +21,17 @@ use Rattle.fill.specs.declared.Filled.the-variants.{Written as WrittenSh
 -- ------------------------------------------------------------------ outcomes
 
 pub refusal-told : (r : Refusal) (buffer : List ℕ) → Tells (stop r) buffer buffer (Refused r)
-unfolding numbered numbersOf bufferAfter
+unfolding returnedBy returnedFor bufferAfter
 refusal-told r buffer = record { numbers = refl; buffer = refl }
 
 pub text-told : {n : ℕ} {after : List ℕ} (text buffer : List ℕ) → n ≡ length text → after ≡ text ++ drop (length text) buffer
     → Tells (on text) buffer after (WrittenSheet n)
-unfolding numbered numbersOf bufferAfter four
+unfolding returnedBy returnedFor bufferAfter four
 text-told text buffer e h = record { numbers = rw e; buffer = h }
 
 -- the same outcome, found in another way
 pub told-as : {o o′ : Out (List ℕ)} {before after : List ℕ} {f : Filled} → o ≡ o′ → Tells o before after f → Tells o′ before after f
-told-as e t = record { numbers = t .numbers ∙ ap numbersOf e; buffer = rw (← e) (t .buffer) }
+told-as e t = record { numbers = t .numbers ∙ ap returnedFor e; buffer = rw (← e) (t .buffer) }
 
 -- ------------------------------------------------------------------ 42 by length
 

@@ -5,6 +5,6 @@ use Rattle.spec.specs.declared.Answer.the-variants.{Refuse}
 use Rattle.fill.specs.declared.Filled.{Filled}
 use Rattle.fill.specs.declared.Filled.the-variants.{Written, Refused}
 
-unfoldable pub numbered : Filled → Returned
-numbered (Written length) = four 0 length 0 0
-numbered (Refused r) = returned (Refuse r)
+unfoldable pub returnedBy : Filled → Returned
+returnedBy (Written length) = four 0 length 0 0
+returnedBy (Refused r) = returned (Refuse r)

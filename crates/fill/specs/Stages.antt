@@ -15,13 +15,13 @@ use Rattle.workspace.specs.Sheets.{Small}
 use Rattle.reading.specs.Answers.{HoldsBoth}
 use Rattle.written.specs.Sheet.{written}
 use Rattle.split_writer.specs.Contract.{HoldsSheet}
-use Rattle.fill_theory.specs.Answer.{givenLimit, filledText, numbersOf, bufferAfter}
+use Rattle.fill_theory.specs.Answer.{givenLimit, filledText, returnedFor, bufferAfter}
 use Rattle.fill.specs.declared.Filled.{Filled}
-use Rattle.fill.specs.Numbers.{numbered}
+use Rattle.fill.specs.Numbers.{returnedBy}
 
 -- the four numbers, and the buffer before and after, are those of an outcome
 pub record Tells (outcome : Out (List ℕ)) (before after : List ℕ) (f : Filled) : Type 0 where
-  pub numbers : numbered f ≡ numbersOf outcome
+  pub numbers : returnedBy f ≡ returnedFor outcome
   pub buffer : after ≡ bufferAfter outcome before
 
 -- "M grows by n"

@@ -20,10 +20,10 @@ ghost use Rattle.spec.specs.Verdict.{verdict, four};
 ghost use Rattle.spec.specs.Workspace.{workspaceSize, workspaceAfter};
 ghost use Rattle.spec.specs.declared.Answer.the-variants.{Accept};
 ghost use Rattle.fill_theory.specs.AfterMaps.{AfterMaps};
-ghost use Rattle.fill_theory.specs.Answer.{fill as filling, numbersOf, bufferAfter, Fillable, Written, GreatestOverLimits};
+ghost use Rattle.fill_theory.specs.Answer.{fill as filling, returnedFor, bufferAfter, Fillable, FilledSheet, GreatestOverLimits};
 ghost use Rattle.split_writer.specs.Contract.{HoldsSome as HoldsSheetOfSome};
 ghost use Rattle.workspace.specs.Layout.{workSize};
-ghost use Rattle.fill.specs.Numbers.{numbered};
+ghost use Rattle.fill.specs.Numbers.{returnedBy};
 ghost use Rattle.fill.specs.Stages.{Tells, grownBy, SheetsGiven, MapsGiven, SheetTold, TextTold, SheetsTold};
 
 // The most bytes that a split sheet may have.
@@ -156,14 +156,14 @@ fn fill_texts(program: &[u8], split: &[u8], work: &mut [u32], out: &mut [u8]) ->
 // greatest: the text written is that of the split with the greatest such maps;
 // accepted: document 01's answer to the program and the text written is ACCEPT.
 pub fn fill(program: &[u8], split: &[u8], work: &mut [u32], out: &mut [u8]) -> Filled
-    ensures answer { λ f. ⌜ numbered f ≡ numbersOf (filling (length (now (work .entry))) (length (now (out .entry))) (now (program .entry)) (now (split .entry))) ⌝ }
+    ensures answer { λ f. ⌜ returnedBy f ≡ returnedFor (filling (length (now (work .entry))) (length (now (out .entry))) (now (program .entry)) (now (split .entry))) ⌝ }
     ensures written { λ f. ⌜ now (out .exit) ≡ bufferAfter (filling (length (now (work .entry))) (length (now (out .entry))) (now (program .entry)) (now (split .entry))) (now (out .entry)) ⌝ }
     ensures cleared { λ f. ⌜ now (work .exit) ≡ workspaceAfter (now (work .entry)) ⌝ }
     ensures unchanged { λ f. ⌜ (now (program .exit) ≡ now (program .entry)) × (now (split .exit) ≡ now (split .entry)) ⌝ }
-    ensures solvable { λ f. ⌜ ((P : Program) (S : Split) → Fillable (length (now (work .entry))) (now (program .entry)) (now (split .entry)) P S → (numbered f ≡ four 41 0 0 0) ↔ ((σ : List Map) → AfterMaps P S σ → ⊥)) ⌝ }
-    ensures too_large { λ f. ⌜ ((P : Program) (S : Split) → Fillable (length (now (work .entry))) (now (program .entry)) (now (split .entry)) P S → (numbered f ≡ four 42 0 0 0) ↔ GreatestOverLimits (length (now (out .entry))) P S) ⌝ }
-    ensures greatest { λ f. ⌜ (numbered f .number ≡ 0 → Written (length (now (work .entry))) (length (now (out .entry))) (now (program .entry)) (now (split .entry)) (take (numbered f .line) (now (out .exit)))) ⌝ }
-    ensures accepted { λ f. ⌜ (numbered f .number ≡ 0 → verdict (length (now (work .entry))) (now (program .entry)) (take (numbered f .line) (now (out .exit))) ≡ Accept) ⌝ }
+    ensures solvable { λ f. ⌜ ((P : Program) (S : Split) → Fillable (length (now (work .entry))) (now (program .entry)) (now (split .entry)) P S → (returnedBy f ≡ four 41 0 0 0) ↔ ((σ : List Map) → AfterMaps P S σ → ⊥)) ⌝ }
+    ensures too_large { λ f. ⌜ ((P : Program) (S : Split) → Fillable (length (now (work .entry))) (now (program .entry)) (now (split .entry)) P S → (returnedBy f ≡ four 42 0 0 0) ↔ GreatestOverLimits (length (now (out .entry))) P S) ⌝ }
+    ensures greatest { λ f. ⌜ (returnedBy f .number ≡ 0 → FilledSheet (length (now (work .entry))) (length (now (out .entry))) (now (program .entry)) (now (split .entry)) (take (returnedBy f .line) (now (out .exit)))) ⌝ }
+    ensures accepted { λ f. ⌜ (returnedBy f .number ≡ 0 → verdict (length (now (work .entry))) (now (program .entry)) (take (returnedBy f .line) (now (out .exit))) ≡ Accept) ⌝ }
 {
     if work.len() < workspace::SIZE {
         return Filled::Refused(Refusal::ShortWorkspace);

@@ -32,7 +32,7 @@ use Rattle.written.specs.Sheet.{written}
 use Rattle.fill_theory.specs.Filled.{filled}
 use Rattle.fill_theory.specs.AfterMaps.{typeClaims, AfterMaps, GreatestMaps}
 use Rattle.fill_theory.specs.GreatestMaps.{greatestMaps}
-use Rattle.fill_theory.specs.Answer.{givenLimit, numberLimit, allAtMost, filledText, WithinLimits, OverLimits, largeNumber, longSheet, shortBuffer, GreatestOverLimits, fill, Fillable, Written}
+use Rattle.fill_theory.specs.Answer.{givenLimit, numberLimit, allAtMost, filledText, WithinLimits, OverLimits, largeNumber, longSheet, shortBuffer, GreatestOverLimits, fill, Fillable, FilledSheet}
 use Rattle.fill_theory.proofs.Reasons.{no-after-maps, large-number, long-text, text-written, locks-decide}
 use Rattle.fill_theory.proofs.ReadBack.{filled-reads-back}
 use Rattle.fill_theory.proofs.Limits.{at-most-at, all-at-most, some-above, steps-few}
@@ -198,7 +198,7 @@ module _ (room buffer : ℕ) (p s : List ℕ) where
       found (some γ) e h = record { γ = γ; greatest = greatest P S F γ .0 e; over = refused-over buffer P S γ e h }
 
   -- "It is written exactly when .., apart from the size limits": with the greatest after-maps
-  pub written-exactly : (t : List ℕ) → answered ≡ on t ↔ Written room buffer p s t
+  pub written-exactly : (t : List ℕ) → answered ≡ on t ↔ FilledSheet room buffer p s t
   written-exactly t = (
     λ h.
         let (P, S, F, e) = written-fillable h in

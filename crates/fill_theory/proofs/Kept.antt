@@ -14,7 +14,7 @@ use Rattle.spec.specs.Expression.{Expr, indexOf}
 use Rattle.spec.specs.Program.{Program}
 use Rattle.spec.specs.Split.{Map, Row, noRow, Signature, noSignature, Split, typeAt, mapAt}
 use Rattle.spec.specs.Agreement.{Tree, plain, int, lock, tid, sem, rwlock, treeOf, trees, tree, sameTree, agree}
-use Rattle.spec.specs.Conditions.{isLock, refLocation, load, inLoad, outLoad, readLoad, writeLoad, row, type, kind, post, startIn, bodyStart, signature, K, inMap, outMap, readMap, writeMap, startMap, contains, looserLock, mayShow}
+use Rattle.spec.specs.Conditions.{isLock, refLocation, load, inLoad, outLoad, readLoad, writeLoad, row, type, kind, post, startOr, bodyStart, signature, K, inMap, outMap, readMap, writeMap, startMap, contains, looserLock, mayShow}
 use Rattle.spec.specs.Verdict.{takesEnough, allTakeEnough, locksTakeEnough}
 use Rattle.spec.specs.Ranges.{InRange}
 use Rattle.spec.specs.declared.TypeNumber.{TypeNumber}
@@ -203,15 +203,15 @@ module _ {P : Program} {S : Split} (R : InRange P S) where
     unfolding startMap filled
     start-map-kept = map-kept _ (R .start)
 
-    start-in-kept : (o : Option MapNumber) → ((m : MapNumber) → o ≡ some m → m .0 < length (S .maps)) → startIn (filled S σ) o ≡ startIn S o
-    unfolding startIn filled
+    start-in-kept : (o : Option MapNumber) → ((m : MapNumber) → o ≡ some m → m .0 < length (S .maps)) → startOr (filled S σ) o ≡ startOr S o
+    unfolding startOr filled
     start-in-kept none h = refl
     start-in-kept (some m) h = map-kept m (h m refl)
 
     pub start-kept : (e : Expr) → bodyStart (filled S σ) e ≡ bodyStart S e
     unfolding bodyStart row filled
     start-kept e =
-        ap (startIn (filled S σ)) (rows-kept _ (S .rows) (indexOf e) _ .1) ∙ start-in-kept (row S e .start) (start-fits R e)
+        ap (startOr (filled S σ)) (rows-kept _ (S .rows) (indexOf e) _ .1) ∙ start-in-kept (row S e .start) (start-fits R e)
 
     pub K-kept : (e : Expr) → K (filled S σ) e ≡ K S e
     unfolding K kind

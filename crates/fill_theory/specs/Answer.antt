@@ -86,7 +86,7 @@ pub record WithinLimits (buffer : ℕ) (S : Split) (γ : List Map) : Type 0 wher
   pub hasRoom : length (written (filled S γ)) ≤ buffer
 
 -- a text that is written: that of the split with its greatest after-maps, within the size limits
-pub record Written (room buffer : ℕ) (programText splitText text : List ℕ) : Type 0 where
+pub record FilledSheet (room buffer : ℕ) (programText splitText text : List ℕ) : Type 0 where
   pub P : Program
   pub S : Split
   pub γ : List Map
@@ -111,9 +111,9 @@ pub record GreatestOverLimits (buffer : ℕ) (P : Program) (S : Split) : Type 0 
 -- ------------------------------------------------------------------ what is returned
 
 -- "otherwise the answer is 0, the length, 0, 0"
-unfoldable pub numbersOf : Out (List ℕ) → Returned
-numbersOf (stop r) = returned (Refuse r)
-numbersOf (on text) = four 0 (length text) 0 0
+unfoldable pub returnedFor : Out (List ℕ) → Returned
+returnedFor (stop r) = returned (Refuse r)
+returnedFor (on text) = four 0 (length text) 0 0
 
 -- "On refusal the output buffer is unchanged; otherwise [..] the buffer past the text is unchanged"
 unfoldable pub bufferAfter : Out (List ℕ) → (buffer : List ℕ) → List ℕ

@@ -14,7 +14,7 @@ use Rattle.spec.specs.EdgeSheets.{times}
 use Rattle.spec.specs.declared.Purpose.the-variants.{Fill}
 use Rattle.spec.specs.declared.Returned.{Returned}
 use Rattle.fill_theory.specs.GreatestMaps.{greatestMaps}
-use Rattle.fill_theory.specs.Answer.{fill, numbersOf}
+use Rattle.fill_theory.specs.Answer.{fill, returnedFor}
 
 -- ------------------------------------------------------------------ greatest after-maps
 
@@ -109,7 +109,7 @@ AllFound rows = map mapsFound rows ≡ map (λ (r : Example). on (r .maps)) rows
 
 -- the answer to a pair with a buffer of so many bytes
 unfoldable pub answered : (buffer : ℕ) → Pair → Returned
-answered buffer r = numbersOf (fill workspaceSize buffer (barred (r .program)) (barred (r .split)))
+answered buffer r = returnedFor (fill workspaceSize buffer (barred (r .program)) (barred (r .split)))
 
 unfoldable pub AllAnswered : (buffer : ℕ) → List Pair → Type 0
 AllAnswered buffer rows = map (answered buffer) rows ≡ map (λ (r : Pair). r .expected) rows

@@ -8,9 +8,9 @@ use Rattle.spec.specs.declared.Location.{Location}
 use Rattle.spec.specs.declared.TypeLine.{TypeLine}
 use Rattle.fill_theory.specs.FlowOf.{asks}
 use Rattle.pass.specs.declared.Column.{Column}
-use Rattle.pass.specs.Ways.{typeIn, accessIn}
+use Rattle.pass.specs.Ways.{typeLineIn, accessIn}
 
-module _ (w : List ℕ) (column : Column) (k d : ℕ) {t : TypeLine} {p : Location} (typed : t ≡ typeIn w k) (placed : p ≡ refLocation t) where
+module _ (w : List ℕ) (column : Column) (k d : ℕ) {t : TypeLine} {p : Location} (typed : t ≡ typeLineIn w k) (placed : p ≡ refLocation t) where
   pub access-here : p .0 ≡ column .location .0 → d ≡ accessIn w column k d
   unfolding accessIn asks
   access-here e = rw (← typed, ← placed, eq-eqb _ _ e)

@@ -7,9 +7,9 @@ use Rattle.workspace.specs.Layout.{valuesAt}
 use Rattle.pass.specs.declared.Column.{Column}
 use Rattle.pass.specs.declared.UnaryWay.{UnaryWay}
 use Rattle.pass.specs.declared.UnaryWay.the-variants.{Call}
-use Rattle.pass.specs.Ways.{startIn, beforeIn, afterIn, callingIn}
+use Rattle.pass.specs.Ways.{startNumberIn, beforeIn, afterIn, callingIn}
 
-pub calling-told : (w : List ℕ) (column : Column) (k : ℕ) {f kept before after : ℕ} → f ≡ getD w (valuesAt + k) 0 → kept ≡ startIn w column k
+pub calling-told : (w : List ℕ) (column : Column) (k : ℕ) {f kept before after : ℕ} → f ≡ getD w (valuesAt + k) 0 → kept ≡ startNumberIn w column k
     → before ≡ beforeIn w column f → after ≡ afterIn w column f → _≡_ {A = UnaryWay} (Call (before + kept) (after + kept)) (callingIn w column k)
 unfolding callingIn
 calling-told w column k called kept before after = rw (before, after, kept, called)

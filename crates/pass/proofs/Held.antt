@@ -34,7 +34,7 @@ use Rattle.pass.specs.declared.UnaryWay.{UnaryWay}
 use Rattle.pass.specs.declared.UnaryWay.the-variants.{After, Loop, Call}
 use Rattle.pass.specs.declared.BinaryWay.{BinaryWay}
 use Rattle.pass.specs.declared.BinaryWay.the-variants.{InTurn, Branch, Fork}
-use Rattle.pass.specs.Ways.{cellIn, typeIn, loadIn, inLoadIn, outLoadIn, readLoadIn, writeLoadIn, lendingIn, startIn, beforeIn, afterIn, callingIn, accessIn, wayBy, wayIn}
+use Rattle.pass.specs.Ways.{cellIn, typeLineIn, loadIn, inLoadIn, outLoadIn, readLoadIn, writeLoadIn, lendingIn, startNumberIn, beforeIn, afterIn, callingIn, accessIn, wayBy, wayIn}
 use Rattle.pass.specs.Shows.{unaryFlow, binaryFlow, endIn, Shows, leafShown, unaryShown, binaryShown}
 
 module _ (w : List ℕ) (column : Column) (P : Program) (S : Split) (H : HoldsSplit w S) (R : InRange P S)
@@ -49,13 +49,13 @@ module _ (w : List ℕ) (column : Column) (P : Program) (S : Split) (H : HoldsSp
     type-in : row S e .type .0 < length (S .types)
     type-in = rw (row-at w S P H R e i index h) at (R .rowType i noRow h)
 
-    kind-held : typeIn w i ≡ kind S e
-    unfolding typeIn kind type
+    kind-held : typeLineIn w i ≡ kind S e
+    unfolding typeLineIn kind type
     kind-held = rw (type-number (row-type w S P H R e i index h)) (type-shown w S P H R (row S e .type) type-in)
 
     -- a map that the type gives, at the location
     map-held : (reader : TypeLine → MapNumber) → reader (typeAt S (row S e .type)) .0 < length (S .maps)
-        → cellIn w column (reader (typeIn w i)) ≡ share (mapAt S (reader (kind S e))) p
+        → cellIn w column (reader (typeLineIn w i)) ≡ share (mapAt S (reader (kind S e))) p
     unfolding cellIn kind type
     map-held reader l = rw kind-held (has-shown w S P H R p (map-stands w S P H R (reader (typeAt S (row S e .type))) l) within)
 
@@ -82,8 +82,8 @@ module _ (w : List ℕ) (column : Column) (P : Program) (S : Split) (H : HoldsSp
     unfolding writeLoadIn writeHere writeMap
     write-held = map-held writeLoad (loads .write-load-in)
 
-    start-held : startIn w column i ≡ startHere S p e
-    unfolding startIn cellIn startHere
+    start-held : startNumberIn w column i ≡ startHere S p e
+    unfolding startNumberIn cellIn startHere
     start-held = has-shown w S P H R p (start-at w S P H R e i index h) within
 
     access-held : (d : ℕ) → accessIn w column i d ≡ accessHere S p e d

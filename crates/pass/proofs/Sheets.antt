@@ -21,7 +21,7 @@ use Rattle.pass.specs.declared.Column.{Column}
 use Rattle.pass.specs.declared.Given.{Given}
 use Rattle.pass.specs.Ways.{cellIn}
 use Rattle.pass.specs.Roots.{firstIn, RootsShown, rootShown, bodyShown, RootsReady, RootsFilled}
-use Rattle.pass.specs.Contract.{HoldsColumn, Fillable, FilledHere}
+use Rattle.pass.specs.Contract.{HoldsColumn, ColumnReady, FilledHere}
 use Rattle.pass.proofs.Held.{before-held, after-held, held-shows}
 
 module _ (w : List ℕ) (column : Column) (given : Given) {P : Program} {S : Split} (H : HoldsColumn w column given P S) where
@@ -60,7 +60,7 @@ module _ (w : List ℕ) (column : Column) (given : Given) {P : Program} {S : Spl
       shown-from 0 0 (P .procedures) (P .root) (program-here (H .sheets)) (omega arith)
       (omega (arith, steps-sized P (H .sheets .wellFormed), H .sheets .inRange .rowsCounted))
 
-pub fillable-ready : (w : List ℕ) (column : Column) (given : Given) (q : List ℕ) → Fillable w column given q → ((i : ℕ) → getD w i 0 < 4294967296)
+pub fillable-ready : (w : List ℕ) (column : Column) (given : Given) (q : List ℕ) → ColumnReady w column given q → ((i : ℕ) → getD w i 0 < 4294967296)
     → RootsReady w column given 0 q
 unfolding rootsOf
 fillable-ready w column given q F fits =

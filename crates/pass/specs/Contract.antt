@@ -20,7 +20,7 @@ pub record HoldsColumn (w : List ℕ) (column : Column) (given : Given) (P : Pro
   pub within : column .location .0 < locations
 
 -- some sheets are held, and there is room for the posts
-pub record Fillable (w : List ℕ) (column : Column) (given : Given) (q : List ℕ) : Type 0 where
+pub record ColumnReady (w : List ℕ) (column : Column) (given : Given) (q : List ℕ) : Type 0 where
   pub P : Program
   pub S : Split
   pub held : HoldsColumn w column given P S

@@ -26,26 +26,26 @@ cellIn w column m = mapCell w m (column .location .0)
 
 -- the type of step k; what its load, in and out of its lock type, r and w of its rwlock type, the start of its body, and access through
 -- it have or need at the location
-unfoldable pub typeIn : List ℕ → (k : ℕ) → TypeLine
-typeIn w k = typeAt w (record { 0 = getD w (rowTypesAt + k) 0 })
+unfoldable pub typeLineIn : List ℕ → (k : ℕ) → TypeLine
+typeLineIn w k = typeAt w (record { 0 = getD w (rowTypesAt + k) 0 })
 
 unfoldable pub loadIn : List ℕ → Column → (k : ℕ) → ℕ
-loadIn w column k = cellIn w column (load (typeIn w k))
+loadIn w column k = cellIn w column (load (typeLineIn w k))
 
 unfoldable pub inLoadIn : List ℕ → Column → (k : ℕ) → ℕ
-inLoadIn w column k = cellIn w column (inLoad (typeIn w k))
+inLoadIn w column k = cellIn w column (inLoad (typeLineIn w k))
 
 unfoldable pub outLoadIn : List ℕ → Column → (k : ℕ) → ℕ
-outLoadIn w column k = cellIn w column (outLoad (typeIn w k))
+outLoadIn w column k = cellIn w column (outLoad (typeLineIn w k))
 
 unfoldable pub readLoadIn : List ℕ → Column → (k : ℕ) → ℕ
-readLoadIn w column k = cellIn w column (readLoad (typeIn w k))
+readLoadIn w column k = cellIn w column (readLoad (typeLineIn w k))
 
 unfoldable pub writeLoadIn : List ℕ → Column → (k : ℕ) → ℕ
-writeLoadIn w column k = cellIn w column (writeLoad (typeIn w k))
+writeLoadIn w column k = cellIn w column (writeLoad (typeLineIn w k))
 
-unfoldable pub startIn : List ℕ → Column → (k : ℕ) → ℕ
-startIn w column k = cellIn w column (record { 0 = getD w (startsAt + k) 0 })
+unfoldable pub startNumberIn : List ℕ → Column → (k : ℕ) → ℕ
+startNumberIn w column k = cellIn w column (record { 0 = getD w (startsAt + k) 0 })
 
 -- what procedure f starts with and what it leaves
 unfoldable pub beforeIn : List ℕ → Column → (f : ℕ) → ℕ
@@ -56,11 +56,11 @@ afterIn w column f = cellIn w column (record { 0 = getD w (sigAftersAt + f) 0 })
 
 -- what a call wants and leaves: the numbers of its procedure, each with what is kept back
 unfoldable pub callingIn : List ℕ → Column → (k : ℕ) → UnaryWay
-callingIn w column k = let f = getD w (valuesAt + k) 0 in let kept = startIn w column k in
+callingIn w column k = let f = getD w (valuesAt + k) 0 in let kept = startNumberIn w column k in
     Call (beforeIn w column f + kept) (afterIn w column f + kept)
 
 unfoldable pub accessIn : List ℕ → Column → (k d : ℕ) → ℕ
-accessIn w column k d = asks (column .location) (refLocation (typeIn w k)) d
+accessIn w column k d = asks (column .location) (refLocation (typeLineIn w k)) d
 
 -- a new read-write lock takes w, and lends r to as many readers as it has places
 unfoldable pub lendingIn : List ℕ → Column → (k : ℕ) → Effect
@@ -76,7 +76,7 @@ wayBy LET w column k = Binary (InTurn unchanged)
 wayBy IF w column k = Binary Branch
 wayBy WHILE w column k = Unary Loop
 wayBy NEWT w column k = Leaf unchanged
-wayBy SPAWN w column k = Binary (Fork (startIn w column k) (loadIn w column (k + 1)))
+wayBy SPAWN w column k = Binary (Fork (startNumberIn w column k) (loadIn w column (k + 1)))
 wayBy JOIN w column k = Unary (After (giving (loadIn w column (k + 1))))
 wayBy REF w column k = Unary (After unchanged)
 wayBy WRITE w column k = Binary (InTurn (needing (accessIn w column (k + 1) (column .denominator))))

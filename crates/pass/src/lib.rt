@@ -12,7 +12,7 @@ use fill_theory::Effect;
 use roots::fill_roots;
 use spec::Location;
 use spec::MapNumber;
-ghost use Rattle.pass.specs.Contract.{Fillable, FilledHere};
+ghost use Rattle.pass.specs.Contract.{ColumnReady, FilledHere};
 
 // The location that is filled, and the sheet's denominator.
 pub struct Column {
@@ -56,7 +56,7 @@ pub struct Given {
 
 // Whether there are posts that pass at the location; if so, the greatest stand in front of `posts`, in step order.
 pub fn fill_location(work: &[u32], posts: &mut [u64], column: Column, given: Given) -> bool
-    requires { ⌜ Fillable (now work) column given (now posts) ⌝ }
+    requires { ⌜ ColumnReady (now work) column given (now posts) ⌝ }
     ensures { λ r. ⌜ FilledHere (now (work .entry)) column given (now (posts .exit)) r ⌝ }
 {
     fill_roots(work, posts, column, given, 0)

@@ -25,7 +25,7 @@ ghost use mathlib.Core.Path.{_≡_};
 ghost use Prim.Native.Nat.{_<_};
 ghost use Rattle.spec.specs.Conditions.{load, inLoad, outLoad, readLoad, writeLoad, refLocation};
 ghost use Rattle.fill_theory.specs.Flow.{unchanged, taking, giving, needing, lending};
-ghost use Rattle.pass.specs.Ways.{cellIn, typeIn, loadIn, inLoadIn, outLoadIn, readLoadIn, writeLoadIn, lendingIn, startIn, beforeIn, afterIn, callingIn, accessIn, wayBy, wayIn};
+ghost use Rattle.pass.specs.Ways.{cellIn, typeLineIn, loadIn, inLoadIn, outLoadIn, readLoadIn, writeLoadIn, lendingIn, startNumberIn, beforeIn, afterIn, callingIn, accessIn, wayBy, wayIn};
 
 // A step that keeps the number, takes from it, gives to it, needs it to be large enough, or takes from it what it lends.
 fn unchanged() -> Effect
@@ -177,7 +177,7 @@ pub(crate) fn cell_in(work: &[u32], column: Column, m: MapNumber) -> u32
 // The type of step k.
 fn type_in(work: &[u32], k: usize) -> TypeLine
     requires { ⌜ k < 512 ⌝ }
-    ensures { λ r. ⌜ r ≡ typeIn (now (work .entry)) k ⌝ }
+    ensures { λ r. ⌜ r ≡ typeLineIn (now (work .entry)) k ⌝ }
 {
     type_at(work, TypeNumber(at(work, ROW_TYPES + k)))
 }
@@ -235,7 +235,7 @@ fn lending_in(work: &[u32], column: Column, k: usize) -> Effect
 // The map that the body of step k starts with, at the location.
 fn start_in(work: &[u32], column: Column, k: usize) -> u32
     requires { ⌜ k < 512 ⌝ }
-    ensures { λ r. ⌜ r ≡ startIn (now (work .entry)) column k ⌝ }
+    ensures { λ r. ⌜ r ≡ startNumberIn (now (work .entry)) column k ⌝ }
 {
     cell_in(work, column, MapNumber(at(work, STARTS + k)))
 }

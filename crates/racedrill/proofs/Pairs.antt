@@ -12,7 +12,7 @@ use Rattle.spec.proofs.Clashes.{none-is-not-some}
 use Rattle.drill_theory.specs.Draw.{drawn, readersOf}
 use Rattle.drill_theory.specs.Pair.{programOf, splitOf}
 use Rattle.drill_theory.proofs.Accepted.{readers-drawable}
-use Rattle.drill.specs.Answer.{Numbers, numbered, numbersOf, roomy, answerOf, inFront}
+use Rattle.drill.specs.Answer.{Numbers, drilledNumbers, returnedBy, roomy, answerOf, inFront}
 use Rattle.drill.specs.declared.Drilled.{Drilled}
 use Rattle.drill.specs.declared.Drilled.the-variants as drilled
 use Rattle.drill.proofs.Drilling.{program-within, split-within, front-back}
@@ -29,27 +29,27 @@ unfolding shown pairOf
 none-of o program split e = rw e
 
 -- buffers that have room for any sheet have room for every pair
-roomy-answer : (seed a b : ℕ) → Roomy a b → answerOf seed a b ≡ numbered 0 (drawn seed) (length (programOf seed)) (length (splitOf seed))
+roomy-answer : (seed a b : ℕ) → Roomy a b → answerOf seed a b ≡ drilledNumbers 0 (drawn seed) (length (programOf seed)) (length (splitOf seed))
 unfolding answerOf roomy programOf splitOf readersOf programLimit splitLimit
 roomy-answer seed a b R =
     let p : length (programOf seed) ≤ a = omega (arith, program-within (readers-drawable (drawn seed)), R .anyProgram) in
     let s : length (splitOf seed) ≤ b = omega (arith, split-within (readers-drawable (drawn seed)), R .anySplit) in
     simp (le-leb _ _ p, le-leb _ _ s)
 
-module _ (seed a b : ℕ) (d : Drilled) (R : Roomy a b) (answers : numbersOf d ≡ answerOf seed a b) where
-  answer : numbersOf d ≡ numbered 0 (drawn seed) (length (programOf seed)) (length (splitOf seed))
+module _ (seed a b : ℕ) (d : Drilled) (R : Roomy a b) (answers : returnedBy d ≡ answerOf seed a b) where
+  answer : returnedBy d ≡ drilledNumbers 0 (drawn seed) (length (programOf seed)) (length (splitOf seed))
   answer = answers ∙ roomy-answer seed a b R
 
   pub never-short : {C : Type 0} → d ≡ drilled.Short → C
-  unfolding numbersOf numbered
-  never-short e = absurd (omega (arith, ap (λ (n : Numbers). n .number) (sym (ap numbersOf e) ∙ answer)))
+  unfolding returnedBy drilledNumbers
+  never-short e = absurd (omega (arith, ap (λ (n : Numbers). n .number) (sym (ap returnedBy e) ∙ answer)))
 
   module _ (x p s : ℕ) (is : d ≡ drilled.Made x p s) (program split program′ split′ : List ℕ)
-      (written : numbersOf d .number ≡ 0 → (program′ ≡ inFront (programOf seed) program) × (split′ ≡ inFront (splitOf seed) split)) where
+      (written : returnedBy d .number ≡ 0 → (program′ ≡ inFront (programOf seed) program) × (split′ ≡ inFront (splitOf seed) split)) where
     pub pair-of : (o : Seed) → o ≡ Given seed → shown (Made x p s) program′ split′ ≡ pairOf o
-    unfolding numbersOf numbered shown pairOf
+    unfolding returnedBy drilledNumbers shown pairOf
     pair-of o e =
-        let told : numbered 0 x p s ≡ numbered 0 (drawn seed) (length (programOf seed)) (length (splitOf seed)) = sym (ap numbersOf is) ∙ answer in
+        let told : drilledNumbers 0 x p s ≡ drilledNumbers 0 (drawn seed) (length (programOf seed)) (length (splitOf seed)) = sym (ap returnedBy is) ∙ answer in
         let fronts = written (ap (λ (n : Numbers). n .number) answer) in
         let ep : p ≡ length (programOf seed) = ap (λ (n : Numbers). n .program) told in
         let es : s ≡ length (splitOf seed) = ap (λ (n : Numbers). n .split) told in

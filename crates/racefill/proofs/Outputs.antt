@@ -16,10 +16,10 @@ use Rattle.spec.specs.declared.Refusal.{Refusal}
 use Rattle.returned.proofs.Refusals.{refusal-number}
 use Rattle.writer.specs.Buffer.{Written}
 use Rattle.writer.proofs.Buffer.{overwrite-front}
-use Rattle.report.specs.Line.{refusalLine, answerLine, lineOf}
+use Rattle.report.specs.Line.{refusalLine, answerLine, outputLine}
 use Rattle.report.specs.declared.Outcome.the-variants.{Answered}
-use Rattle.fill_theory.specs.Answer.{fill, numbersOf, bufferAfter}
-use Rattle.fill.specs.Numbers.{numbered}
+use Rattle.fill_theory.specs.Answer.{fill, returnedFor, bufferAfter}
+use Rattle.fill.specs.Numbers.{returnedBy}
 use Rattle.fill.specs.Stages.{Tells}
 use Rattle.fill.specs.declared.Filled.{Filled}
 use Rattle.fill.specs.declared.Filled.the-variants as filled
@@ -36,26 +36,26 @@ front {n = n} buffer e h = record { within = omega (arith, length-take n buffer,
 
 -- ------------------------------------------------------------------ a sheet
 
-text-length : (o : Out (List ℕ)) (text : List ℕ) → o ≡ on text → numbersOf o .line ≡ length text
-unfolding numbersOf four
+text-length : (o : Out (List ℕ)) (text : List ℕ) → o ≡ on text → returnedFor o .line ≡ length text
+unfolding returnedFor four
 text-length o text e = rw e
 
 pub sheet-in-front : {n : ℕ} (room : ℕ) (p s before after : List ℕ) (f : Filled) {o : Out (List ℕ)} → fill room (length before) p s ≡ o
-    → numbered f ≡ numbersOf (fill room (length before) p s) → after ≡ bufferAfter (fill room (length before) p s) before
+    → returnedBy f ≡ returnedFor (fill room (length before) p s) → after ≡ bufferAfter (fill room (length before) p s) before
     → f ≡ filled.Written n → InFront (outputOf o) n after
-unfolding numbered four outputOf
+unfolding returnedBy four outputOf
 sheet-in-front {n} room p s before after f same numbers buffer is =
     let told : Tells (fill room (length before) p s) before after f = record { numbers = numbers; buffer = buffer } in
-    let zero : numbered f .number ≡ 0 = rw is in
-    let line : numbered f .line ≡ n = rw is in
+    let zero : returnedBy f .number ≡ 0 = rw is in
+    let line : returnedBy f .line ≡ n = rw is in
     let B = begins room p s before after f told zero in
     let long = sym line ∙ ap (λ (r : Returned). r .line) (told .numbers) ∙ text-length _ (B .text) (B .is) in
     rw (sym same ∙ B .is) (front after long (along (λ (m : ℕ). take m after ≡ B .text) line (B .taken)))
 
 -- ------------------------------------------------------------------ a refusal
 
-refusal-output : (o : Out (List ℕ)) (r : Refusal) → returned (Refuse r) ≡ numbersOf o → lineOf (Answered (Refuse r)) ≡ outputOf o
-unfolding numbersOf outputOf lineOf answerLine four
+refusal-output : (o : Out (List ℕ)) (r : Refusal) → returned (Refuse r) ≡ returnedFor o → outputLine (Answered (Refuse r)) ≡ outputOf o
+unfolding returnedFor outputOf outputLine answerLine four
 refusal-output (stop q) r e = ap refusalLine e
 refusal-output (on t) r e = absurd (omega (arith, refusal-number r, ap (λ (n : Returned). n .number) e))
 
@@ -67,9 +67,9 @@ line-in-front {line} {n} before after w short room =
     let is = w .holds ∙ overwrite-front before line (omega (arith, long, short, room)) in
     front after long (rw (long, is) (take-append-seam line (drop (length line) before)))
 
-pub refusal-in-front : {n : ℕ} {r : Refusal} (o : Out (List ℕ)) (before after : List ℕ) (f : Filled) {o′ : Out (List ℕ)} → o ≡ o′ → numbered f ≡ numbersOf o
-    → f ≡ filled.Refused r → Written before after 0 (lineOf (Answered (Refuse r))) n → n ≤ 51 → 51 ≤ length before
+pub refusal-in-front : {n : ℕ} {r : Refusal} (o : Out (List ℕ)) (before after : List ℕ) (f : Filled) {o′ : Out (List ℕ)} → o ≡ o′ → returnedBy f ≡ returnedFor o
+    → f ≡ filled.Refused r → Written before after 0 (outputLine (Answered (Refuse r))) n → n ≤ 51 → 51 ≤ length before
     → InFront (outputOf o′) n after
-unfolding numbered
+unfolding returnedBy
 refusal-in-front {n} {r} o before after f same told is w short room =
-    along (λ (line : List ℕ). InFront line n after) (refusal-output o r (sym (ap numbered is) ∙ told) ∙ ap outputOf same) (line-in-front before after w short room)
+    along (λ (line : List ℕ). InFront line n after) (refusal-output o r (sym (ap returnedBy is) ∙ told) ∙ ap outputOf same) (line-in-front before after w short room)

@@ -5,7 +5,7 @@ use mathlib.Core.List.{List, _++_}
 use native.Mathlib.Omega.{arith}
 use lib.ListN.{length, take, drop, length-append, length-drop}
 use lib.Seq.{length-take-le, drop-at}
-use Rattle.replay_theory.specs.Replay.{replaySpace, replay, numbersOf}
+use Rattle.replay_theory.specs.Replay.{replaySpace, replay, returnedFor}
 use Rattle.replay_theory.specs.Claim.{TraceFollowed, RaceFound, NoneIfAccepted}
 use Rattle.replay_theory.specs.declared.Replayed.{Replayed}
 use Rattle.replay_theory.proofs.Reported.{trace-is-followed, race-is-found, none-if-accepted}
@@ -58,7 +58,7 @@ pub promises-kept : {U : Type 0} (text trace s s′ : List ℕ) (r : Replayed) �
     × (U
     × ((length s < replaySpace → s′ ≡ s)
     × (((length s′ ≡ length s) × (drop replaySpace s′ ≡ drop replaySpace s))
-    × (TraceFollowed (length s) text trace (r .report .steps) (numbersOf (r .ending))
+    × (TraceFollowed (length s) text trace (r .report .steps) (returnedFor (r .ending))
     × (RaceFound (length s) text trace (r .report .race)
     × NoneIfAccepted text (r .report .race)))))))
 promises-kept text trace s s′ r e u S = (
@@ -72,7 +72,7 @@ promises-kept text trace s s′ r e u S = (
         (
           (S .long, S .behind),
           (
-            subst (λ (a : Replayed). TraceFollowed (length s) text trace (a .report .steps) (numbersOf (a .ending))) (sym e)
+            subst (λ (a : Replayed). TraceFollowed (length s) text trace (a .report .steps) (returnedFor (a .ending))) (sym e)
                 (trace-is-followed (length s) text trace),
             (
               subst (λ (a : Replayed). RaceFound (length s) text trace (a .report .race)) (sym e) (race-is-found (length s) text trace),

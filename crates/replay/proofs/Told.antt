@@ -14,7 +14,7 @@ use Rattle.replay_theory.specs.declared.FirstRace.{FirstRace}
 use Rattle.replay_theory.specs.declared.FirstRace.the-variants.{None, Found}
 use Rattle.replay_theory.specs.declared.Numbers.{Numbers}
 use Rattle.replay_theory.specs.Run.{Run}
-use Rattle.replay_theory.specs.Replay.{lineNumbers, sheetNumbers, numbersOf}
+use Rattle.replay_theory.specs.Replay.{lineNumbers, sheetNumbers, returnedFor}
 use Rattle.replay_theory.specs.Claim.{runsOf, Reduced, Stops, allDone, notALine, cannotStep, tooMany, Follows, TraceFollowed}
 use Rattle.replay.specs.Numbers.{raceTold, raceNumbers}
 
@@ -27,28 +27,28 @@ unfolding raceNumbers
 race-told race n i j e = rw e refl
 
 pub sheet-told : (r : Refusal) (n : Returned) (line : ℕ) → n ≡ returned (Refuse r) → line ≡ n .line →
-    record { number = n .number; line = line; condition = n .condition; location = n .location } ≡ numbersOf (Refused r)
-unfolding numbersOf sheetNumbers
+    record { number = n .number; line = line; condition = n .condition; location = n .location } ≡ returnedFor (Refused r)
+unfolding returnedFor sheetNumbers
 sheet-told r n line e l = rw l (ap sheetNumbers e)
 
 module _ (e : Ending) (n : Numbers) where
-  pub done-told : e ≡ Done → n ≡ lineNumbers 0 0 → n ≡ numbersOf e
-  unfolding numbersOf
+  pub done-told : e ≡ Done → n ≡ lineNumbers 0 0 → n ≡ returnedFor e
+  unfolding returnedFor
   done-told h q = rw h q
 
-  pub refused-told : (r : Refusal) → e ≡ Refused r → n ≡ numbersOf (Refused r) → n ≡ numbersOf e
+  pub refused-told : (r : Refusal) → e ≡ Refused r → n ≡ returnedFor (Refused r) → n ≡ returnedFor e
   refused-told r h q = rw h q
 
-  pub form-told : (k : ℕ) → e ≡ TraceForm k → n ≡ lineNumbers 46 k → n ≡ numbersOf e
-  unfolding numbersOf
+  pub form-told : (k : ℕ) → e ≡ TraceForm k → n ≡ lineNumbers 46 k → n ≡ returnedFor e
+  unfolding returnedFor
   form-told k h q = rw h q
 
-  pub no-step-told : (k : ℕ) → e ≡ NoStep k → n ≡ lineNumbers 47 k → n ≡ numbersOf e
-  unfolding numbersOf
+  pub no-step-told : (k : ℕ) → e ≡ NoStep k → n ≡ lineNumbers 47 k → n ≡ returnedFor e
+  unfolding returnedFor
   no-step-told k h q = rw h q
 
-  pub past-limit-told : (k : ℕ) → e ≡ PastLimit k → n ≡ lineNumbers 48 k → n ≡ numbersOf e
-  unfolding numbersOf
+  pub past-limit-told : (k : ℕ) → e ≡ PastLimit k → n ≡ lineNumbers 48 k → n ≡ returnedFor e
+  unfolding returnedFor
   past-limit-told k h q = rw h q
 
 -- ------------------------------------------------------------------ stored numbers

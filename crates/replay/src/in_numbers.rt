@@ -5,7 +5,7 @@ use replay_theory::Numbers;
 use spec::Answer;
 use spec::Refusal;
 ghost use mathlib.Core.Path.{_≡_};
-ghost use Rattle.replay_theory.specs.Replay.{lineNumbers, numbersOf};
+ghost use Rattle.replay_theory.specs.Replay.{lineNumbers, returnedFor};
 ghost use Rattle.replay_theory.specs.declared.Ending.the-variants.{Refused as EndsRefused};
 ghost use Rattle.replay.specs.Numbers.{raceNumbers};
 
@@ -49,7 +49,7 @@ fn line_numbers(number: u32, line: usize) -> Numbers
 }
 
 fn sheet_numbers(r: Refusal) -> Numbers
-    ensures { λ n. ⌜ n ≡ numbersOf (EndsRefused r) ⌝ }
+    ensures { λ n. ⌜ n ≡ returnedFor (EndsRefused r) ⌝ }
 {
     let four = returned::numbers_of(Answer::Refuse(r));
     let line = workspace::index(four.line);
@@ -63,7 +63,7 @@ fn sheet_numbers(r: Refusal) -> Numbers
 
 // The four numbers of an ending.
 pub fn ending_numbers(ending: Ending) -> Numbers
-    ensures { λ r. ⌜ r ≡ numbersOf ending ⌝ }
+    ensures { λ r. ⌜ r ≡ returnedFor ending ⌝ }
 {
     match ending {
         Ending::Done => line_numbers(0, 0),

@@ -17,7 +17,7 @@ use start::run_held;
 ghost use mathlib.Core.Path.{_≡_};
 ghost use Prim.Native.Nat.{_<_};
 ghost use lib.ListN.{length, drop};
-ghost use Rattle.replay_theory.specs.Replay.{refused as refusedBy, replaySpace, replay as replayed, numbersOf};
+ghost use Rattle.replay_theory.specs.Replay.{refused as refusedBy, replaySpace, replay as replayed, returnedFor};
 ghost use Rattle.replay_theory.specs.Claim.{TraceFollowed, RaceFound, NoneIfAccepted};
 ghost use Rattle.machine.specs.Replay.{replay as machineReplay};
 
@@ -66,7 +66,7 @@ pub fn replay(program: &[u8], trace: &[u8], space: &mut [u32]) -> Replayed
     ensures unchanged { λ r. ⌜ (now (program .exit) ≡ now (program .entry)) × (now (trace .exit) ≡ now (trace .entry)) ⌝ }
     ensures kept { λ r. ⌜ (length (now (space .entry)) < replaySpace → now (space .exit) ≡ now (space .entry)) ⌝ }
     ensures free { λ r. ⌜ (length (now (space .exit)) ≡ length (now (space .entry))) × (drop replaySpace (now (space .exit)) ≡ drop replaySpace (now (space .entry))) ⌝ }
-    ensures stops { λ r. ⌜ TraceFollowed (length (now (space .entry))) (now (program .entry)) (now (trace .entry)) (r .report .steps) (numbersOf (r .ending)) ⌝ }
+    ensures stops { λ r. ⌜ TraceFollowed (length (now (space .entry))) (now (program .entry)) (now (trace .entry)) (r .report .steps) (returnedFor (r .ending)) ⌝ }
     ensures first_race { λ r. ⌜ RaceFound (length (now (space .entry))) (now (program .entry)) (now (trace .entry)) (r .report .race) ⌝ }
     ensures safe { λ r. ⌜ NoneIfAccepted (now (program .entry)) (r .report .race) ⌝ }
 {

@@ -9,12 +9,12 @@ use Rattle.spec.specs.Text.{bytes, Field}
 use Rattle.written.specs.Text.{decimal, line}
 use Rattle.writer.specs.Buffer.{Written}
 use Rattle.written.proofs.Decimal.{decimal-length}
-use Rattle.replay_theory.specs.Replay.{numbersOf}
+use Rattle.replay_theory.specs.Replay.{returnedFor}
 use Rattle.replay_theory.specs.declared.FirstRace.{FirstRace}
 use Rattle.replay_theory.specs.declared.FirstRace.the-variants.{None, Found}
 use Rattle.replay_theory.specs.declared.Numbers.{Numbers}
 use Rattle.replay_theory.specs.declared.Replayed.{Replayed}
-use Rattle.replay_line.specs.Line.{raceFields, numberFields, ranWith, ranFields, raceAfter, refusedFields, isDone, replayedFields, lineOf, opened}
+use Rattle.replay_line.specs.Line.{raceFields, numberFields, ranWith, ranFields, raceAfter, refusedFields, isDone, replayedFields, outputLine, opened}
 use Rattle.replay_line.specs.declared.Outcome.{Outcome}
 use Rattle.replay_line.specs.declared.Outcome.the-variants.{Ran, Unread}
 
@@ -181,15 +181,15 @@ module _ {d d′ : List ℕ} {n : ℕ} where
   reworded e w = subst (λ (s : List ℕ). Written d d′ 0 s n) e w
 
   pub ran-written : {o : Outcome} {r : Replayed} → o ≡ Ran r → isDone (r .ending) ≡ true
-      → Written d d′ 0 (line (ranFields (r .report)) []) n → Written d d′ 0 (lineOf o) n
-  unfolding replayedFields lineOf
-  ran-written e h w = reworded (sym (ap lineOf e ∙ rw h)) w
+      → Written d d′ 0 (line (ranFields (r .report)) []) n → Written d d′ 0 (outputLine o) n
+  unfolding replayedFields outputLine
+  ran-written e h w = reworded (sym (ap outputLine e ∙ rw h)) w
 
-  pub refused-written : {o : Outcome} {r : Replayed} {x : Numbers} → o ≡ Ran r → isDone (r .ending) ≡ false → x ≡ numbersOf (r .ending)
-      → Written d d′ 0 (line (refusedFields x (r .report)) []) n → Written d d′ 0 (lineOf o) n
-  unfolding replayedFields lineOf
-  refused-written {r = r} e h f w = reworded (ap (λ (y : Numbers). line (refusedFields y (r .report)) []) f ∙ sym (ap lineOf e ∙ rw h)) w
+  pub refused-written : {o : Outcome} {r : Replayed} {x : Numbers} → o ≡ Ran r → isDone (r .ending) ≡ false → x ≡ returnedFor (r .ending)
+      → Written d d′ 0 (line (refusedFields x (r .report)) []) n → Written d d′ 0 (outputLine o) n
+  unfolding replayedFields outputLine
+  refused-written {r = r} e h f w = reworded (ap (λ (y : Numbers). line (refusedFields y (r .report)) []) f ∙ sym (ap outputLine e ∙ rw h)) w
 
-  pub unread-written : {o : Outcome} → o ≡ Unread → Written d d′ 0 (bytes "UNREAD" ++ (10 ∷ [])) n → Written d d′ 0 (lineOf o) n × (n ≤ 130)
-  unfolding bytes line lineOf
-  unread-written e w = (reworded (sym (ap lineOf e)) w, omega (arith, w .moved))
+  pub unread-written : {o : Outcome} → o ≡ Unread → Written d d′ 0 (bytes "UNREAD" ++ (10 ∷ [])) n → Written d d′ 0 (outputLine o) n × (n ≤ 130)
+  unfolding bytes line outputLine
+  unread-written e w = (reworded (sym (ap outputLine e)) w, omega (arith, w .moved))

@@ -5,7 +5,7 @@ use Prim.Native.Nat.{ℕ}
 use Rattle.spec.specs.Choice.{if_then_else_}
 use Rattle.spec.specs.Text.{bytes, Field}
 use Rattle.written.specs.Text.{decimal, line}
-use Rattle.replay_theory.specs.Replay.{numbersOf}
+use Rattle.replay_theory.specs.Replay.{returnedFor}
 use Rattle.replay_theory.specs.declared.Ending.{Ending}
 use Rattle.replay_theory.specs.declared.Ending.the-variants.{Done, Refused, TraceForm, NoStep, PastLimit}
 use Rattle.replay_theory.specs.declared.FirstRace.{FirstRace}
@@ -48,11 +48,11 @@ isDone (NoStep k) = false
 isDone (PastLimit k) = false
 
 unfoldable pub replayedFields : Replayed → List Field
-replayedFields r = if isDone (r .ending) then ranFields (r .report) else refusedFields (numbersOf (r .ending)) (r .report)
+replayedFields r = if isDone (r .ending) then ranFields (r .report) else refusedFields (returnedFor (r .ending)) (r .report)
 
-unfoldable pub lineOf : Outcome → List ℕ
-lineOf (Ran r) = line (replayedFields r) []
-lineOf Unread = line (bytes "UNREAD" ∷ []) []
+unfoldable pub outputLine : Outcome → List ℕ
+outputLine (Ran r) = line (replayedFields r) []
+outputLine Unread = line (bytes "UNREAD" ∷ []) []
 
 -- ------------------------------------------------------------------ a part of a line
 

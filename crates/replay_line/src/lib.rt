@@ -12,7 +12,7 @@ ghost use mathlib.Core.List.{[]};
 ghost use Prim.Native.Nat.{_≤_};
 ghost use Rattle.written.specs.Text.{line};
 ghost use Rattle.writer.specs.Buffer.{Written};
-ghost use Rattle.replay_line.specs.Line.{raceFields, ranFields, numberFields, refusedFields, opened, isDone, lineOf};
+ghost use Rattle.replay_line.specs.Line.{raceFields, ranFields, numberFields, refusedFields, opened, isDone, outputLine};
 
 // What a run comes to: the replay of the program and the trace, or that they can't be read.
 pub enum Outcome {
@@ -100,7 +100,7 @@ fn is_done(ending: Ending) -> bool
 
 // Writes the line in front of a buffer, and hands back its length.
 pub fn write_line(buffer: &mut [u8], outcome: Outcome) -> usize
-    ensures line { λ n. ⌜ Written (now (buffer .entry)) (now (buffer .exit)) 0 (lineOf outcome) n ⌝ }
+    ensures line { λ n. ⌜ Written (now (buffer .entry)) (now (buffer .exit)) 0 (outputLine outcome) n ⌝ }
     ensures short { λ n. ⌜ n ≤ 130 ⌝ }
 {
     match outcome {

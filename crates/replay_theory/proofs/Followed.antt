@@ -11,7 +11,7 @@ use Rattle.calculus.specs.Expression.{Program}
 use Rattle.calculus.proofs.Laws.Maps.{some-injective, none-is-not-some}
 use Rattle.replay_theory.specs.Trace.{TraceLine, traceLine}
 use Rattle.replay_theory.specs.Run.{Run, startRun, threadLimit, thingLimit, withinLimits, callLimit, callsWithin, within}
-use Rattle.replay_theory.specs.Replay.{way, numbersOf}
+use Rattle.replay_theory.specs.Replay.{way, returnedFor}
 use Rattle.replay_theory.specs.Claim.{runsAlong, Reduced, CallsRun, Within, StepDone, Stops, allDone, notALine, cannotStep, tooMany, Follows}
 use Rattle.replay_theory.specs.declared.Ending.{Ending}
 use Rattle.replay_theory.proofs.Proper.{Proper, start-is-proper, Stepped, step-taken, step-keeps-proper}
@@ -28,7 +28,7 @@ record Onward (rs : List Run) (ds : List Reduced) (k : ℕ) (r : Run) (ls : List
   runs-each : (n : ℕ) (x : Run) → getElem? (r ∷ w .0) n ≡ some x → CallsRun (rs ++ take n (w .0)) (ds ++ take n steps) x
   last : Run
   last-there : getElem? (r ∷ w .0) (length steps) ≡ some last
-  stops : Stops (rs ++ w .0) (ds ++ steps) last (getElem? ls (length steps)) (k + length steps) (numbersOf (w .1))
+  stops : Stops (rs ++ w .0) (ds ++ steps) last (getElem? ls (length steps)) (k + length steps) (returnedFor (w .1))
 
 -- The same of equal runs and steps.
 same-within : {rs rs′ : List Run} {ds ds′ : List Reduced} → rs ≡ rs′ → ds ≡ ds′ → Within rs ds → Within rs′ ds′
@@ -43,15 +43,15 @@ first-run rs ds r x is C =
     subst (CallsRun (rs ++ []) (ds ++ [])) (some-injective is) (same-calls r (sym (append-nil rs)) (sym (append-nil ds)) C)
 
 same-stops : {rs rs′ : List Run} {ds ds′ : List Reduced} {k k′ : ℕ} (r : Run) (ls : List Line) (i : ℕ) (e : Ending) → rs ≡ rs′ → ds ≡ ds′ → k ≡ k′ →
-    Stops rs ds r (getElem? ls i) k (numbersOf e) → Stops rs′ ds′ r (getElem? ls i) k′ (numbersOf e)
+    Stops rs ds r (getElem? ls i) k (returnedFor e) → Stops rs′ ds′ r (getElem? ls i) k′ (returnedFor e)
 same-stops {rs} {rs′} {ds} {ds′} {k} {k′} r ls i e a b c s =
-    subst (λ (n : ℕ). Stops rs′ ds′ r (getElem? ls i) n (numbersOf e)) c
-    (subst (λ (xs : List Reduced). Stops rs′ xs r (getElem? ls i) k (numbersOf e)) b
-    (subst (λ (xs : List Run). Stops xs ds r (getElem? ls i) k (numbersOf e)) a s))
+    subst (λ (n : ℕ). Stops rs′ ds′ r (getElem? ls i) n (returnedFor e)) c
+    (subst (λ (xs : List Reduced). Stops rs′ xs r (getElem? ls i) k (returnedFor e)) b
+    (subst (λ (xs : List Run). Stops xs ds r (getElem? ls i) k (returnedFor e)) a s))
 
 -- They stop at once.
 here : {rs : List Run} {ds : List Reduced} {k : ℕ} {r : Run} {ls : List Line} {e : Ending} → Within rs ds → CallsRun rs ds r →
-    Stops rs ds r (getElem? ls 0) k (numbersOf e) → Onward rs ds k r ls ([], e)
+    Stops rs ds r (getElem? ls 0) k (returnedFor e) → Onward rs ds k r ls ([], e)
 here {rs} {ds} {k} {r} {ls} {e} W C s = record {
   steps = [];
   counted = refl;
@@ -129,7 +129,7 @@ module _ (rs : List Run) (ds : List Reduced) (k : ℕ) (r r′ : Run) (l : Line)
 
 way-onward : (ls : List Line) (rs : List Run) (ds : List Reduced) (k : ℕ) (r : Run) → Proper r → Booked rs ds r → Within rs ds →
     Onward rs ds k r ls (way k r ls)
-unfolding way numbersOf
+unfolding way returnedFor
 way-onward [] rs ds k r proper B W = here W (calls-run rs ds r proper B) allDone
 way-onward (l ∷ ls) rs ds k r proper B W = by-line _ (line-goes k r l (λ r′. way (k + 1) r′ ls)) (λ rs′ ds′ r′. way-onward ls rs′ ds′ (k + 1) r′)
   where
@@ -157,7 +157,7 @@ unfolding within withinLimits callsWithin startRun threadLimit thingLimit callLi
 start-within p = refl
 
 pub replay-follows : (p : Program) (ls : List Line) →
-    Follows (runsAlong (startRun p) ls) ls (length (way 1 (startRun p) ls .0)) (numbersOf (way 1 (startRun p) ls .1))
+    Follows (runsAlong (startRun p) ls) ls (length (way 1 (startRun p) ls .0)) (returnedFor (way 1 (startRun p) ls .1))
 replay-follows p ls =
     let start = startRun p in
     let B = start-booked p in
@@ -172,6 +172,6 @@ replay-follows p ls =
       callsRun = O .runs-each;
       last = O .last;
       lastThere = subst (λ (n : ℕ). getElem? (runsAlong start ls) n ≡ some (O .last)) same (O .last-there);
-      stops = subst (λ (n : ℕ). Stops (runsAlong start ls) (O .steps) (O .last) (getElem? ls n) (suc n) (numbersOf (way 1 start ls .1))) same
+      stops = subst (λ (n : ℕ). Stops (runsAlong start ls) (O .steps) (O .last) (getElem? ls n) (suc n) (returnedFor (way 1 start ls .1))) same
           (same-stops (O .last) ls (length (O .steps)) (way 1 start ls .1) refl refl (omega arith) (O .stops));
     }

@@ -19,7 +19,7 @@ use Rattle.soundness.specs.SafeText.{SafeText}
 use Rattle.soundness.proofs.Safety.{accepted-is-safe}
 use Rattle.replay_theory.specs.Run.{Run, startRun}
 use Rattle.replay_theory.specs.LowestPair.{usesIn, clashing, pairOr, lowestAmong, lowestPair}
-use Rattle.replay_theory.specs.Replay.{way, reported, refused, judged, played, replay, numbersOf}
+use Rattle.replay_theory.specs.Replay.{way, reported, refused, judged, played, replay, returnedFor}
 use Rattle.replay_theory.specs.Claim.{runsAlong, runsOf, Follows, FirstRaceIs, RaceTold, TraceFollowed, RaceFound, NoneIfAccepted}
 use Rattle.replay_theory.specs.declared.FirstRace.{FirstRace}
 use Rattle.replay_theory.specs.declared.FirstRace.the-variants.{None, Found}
@@ -77,10 +77,10 @@ module _ (room : ℕ) (programText traceText : List ℕ) (P : Program) (read : j
   played-as = ap (λ (o : Out Program). played o (lines traceText)) read
 
   follows : Follows (runsOf P traceText) (lines traceText) (replay room programText traceText .report .steps)
-      (numbersOf (replay room programText traceText .ending))
+      (returnedFor (replay room programText traceText .ending))
   unfolding reported
   follows =
-      subst (λ (a : Replayed). Follows (runsOf P traceText) (lines traceText) (a .report .steps) (numbersOf (a .ending))) (sym played-as)
+      subst (λ (a : Replayed). Follows (runsOf P traceText) (lines traceText) (a .report .steps) (returnedFor (a .ending))) (sym played-as)
       (replay-follows (eraseProgram P) (lines traceText))
 
   race-is-first-of-all : RaceTold (runsOf P traceText) (replay room programText traceText .report .race)
@@ -91,7 +91,7 @@ module _ (room : ℕ) (programText traceText : List ℕ) (P : Program) (read : j
 -- A replay does the language's steps and stops for what the next line is, and its race is the first.
 module _ (room : ℕ) (programText traceText : List ℕ) where
   pub trace-is-followed : TraceFollowed room programText traceText (replay room programText traceText .report .steps)
-      (numbersOf (replay room programText traceText .ending))
+      (returnedFor (replay room programText traceText .ending))
   trace-is-followed = follows room programText traceText
 
   pub race-is-found : RaceFound room programText traceText (replay room programText traceText .report .race)

@@ -11,7 +11,7 @@ use Rattle.spec.specs.KnownPairs.{barred, P}
 use Rattle.spec.specs.EdgeSheets.{times}
 use Rattle.soundness.specs.Erasure.{eraseProgram}
 use Rattle.replay_theory.specs.Run.{Run, startRun, recordOf}
-use Rattle.replay_theory.specs.Replay.{way, replaySpace, judged, replay, lineNumbers, numbersOf}
+use Rattle.replay_theory.specs.Replay.{way, replaySpace, judged, replay, lineNumbers, returnedFor}
 use Rattle.replay_theory.specs.declared.Status.{Status}
 use Rattle.replay_theory.specs.declared.FirstRace.{FirstRace}
 use Rattle.replay_theory.specs.declared.FirstRace.the-variants.{None, Found}
@@ -31,7 +31,7 @@ unfoldable pub _along_is_after_and_ : String → String → Numbers → ℕ → 
 p along t is n after k and r = record { program = p; trace = t; expected = (n, record { steps = k; race = r }) }
 
 unfoldable pub numbersAndReport : Replayed → Numbers × Report
-numbersAndReport a = (numbersOf (a .ending), a .report)
+numbersAndReport a = (returnedFor (a .ending), a .report)
 
 -- they give each row of a table its answer and its report
 unfoldable pub Replays : List Recorded → Type 0

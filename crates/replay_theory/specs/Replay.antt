@@ -101,9 +101,9 @@ sheetNumbers n = record { number = n .number; line = n .line; condition = n .con
 unfoldable pub lineNumbers : (number line : ℕ) → Numbers
 lineNumbers number k = record { number = number; line = k; condition = 0; location = 0 }
 
-unfoldable pub numbersOf : Ending → Numbers
-numbersOf Done = lineNumbers 0 0
-numbersOf (Refused r) = sheetNumbers (returned (Refuse r))
-numbersOf (TraceForm k) = lineNumbers 46 k
-numbersOf (NoStep k) = lineNumbers 47 k
-numbersOf (PastLimit k) = lineNumbers 48 k
+unfoldable pub returnedFor : Ending → Numbers
+returnedFor Done = lineNumbers 0 0
+returnedFor (Refused r) = sheetNumbers (returned (Refuse r))
+returnedFor (TraceForm k) = lineNumbers 46 k
+returnedFor (NoStep k) = lineNumbers 47 k
+returnedFor (PastLimit k) = lineNumbers 48 k

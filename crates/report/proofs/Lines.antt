@@ -13,7 +13,7 @@ use Rattle.spec.specs.declared.Refusal.{Refusal}
 use Rattle.written.specs.Text.{decimal, line}
 use Rattle.writer.specs.Buffer.{Written}
 use Rattle.written.proofs.Decimal.{decimal-length}
-use Rattle.report.specs.Line.{refusalLine, answerLine, lineOf}
+use Rattle.report.specs.Line.{refusalLine, answerLine, outputLine}
 use Rattle.report.specs.declared.Outcome.{Outcome}
 use Rattle.report.specs.declared.Outcome.the-variants.{Answered, Unread}
 
@@ -64,10 +64,10 @@ module _ {d d′ : List ℕ} {n : ℕ} where
   unfolding four answerLine
   refuse-written e h w = reworded (ap refusalLine (h ∙ ap returned e) ∙ sym (ap answerLine e)) w
 
-  pub answer-written : {o : Outcome} {a : Answer} → o ≡ Answered a → Written d d′ 0 (answerLine a) n → Written d d′ 0 (lineOf o) n
-  unfolding lineOf
-  answer-written e w = reworded (sym (ap lineOf e)) w
+  pub answer-written : {o : Outcome} {a : Answer} → o ≡ Answered a → Written d d′ 0 (answerLine a) n → Written d d′ 0 (outputLine o) n
+  unfolding outputLine
+  answer-written e w = reworded (sym (ap outputLine e)) w
 
-  pub unread-written : {o : Outcome} → o ≡ Unread → Written d d′ 0 (bytes "UNREAD" ++ (10 ∷ [])) n → Written d d′ 0 (lineOf o) n × (n ≤ 51)
-  unfolding bytes line lineOf
-  unread-written e w = (reworded (sym (ap lineOf e)) w, omega (arith, w .moved))
+  pub unread-written : {o : Outcome} → o ≡ Unread → Written d d′ 0 (bytes "UNREAD" ++ (10 ∷ [])) n → Written d d′ 0 (outputLine o) n × (n ≤ 51)
+  unfolding bytes line outputLine
+  unread-written e w = (reworded (sym (ap outputLine e)) w, omega (arith, w .moved))

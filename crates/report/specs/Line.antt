@@ -18,6 +18,6 @@ unfoldable pub answerLine : Answer → List ℕ
 answerLine Accept = line (bytes "ACCEPT" ∷ []) []
 answerLine (Refuse r) = refusalLine (returned (Refuse r))
 
-unfoldable pub lineOf : Outcome → List ℕ
-lineOf (Answered a) = answerLine a
-lineOf Unread = line (bytes "UNREAD" ∷ []) []
+unfoldable pub outputLine : Outcome → List ℕ
+outputLine (Answered a) = answerLine a
+outputLine Unread = line (bytes "UNREAD" ∷ []) []

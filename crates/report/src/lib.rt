@@ -6,7 +6,7 @@ use writer::write_numbers;
 ghost use Prim.Native.Nat.{_≤_};
 ghost use Rattle.spec.specs.Verdict.{four};
 ghost use Rattle.writer.specs.Buffer.{Written};
-ghost use Rattle.report.specs.Line.{refusalLine, answerLine, lineOf};
+ghost use Rattle.report.specs.Line.{refusalLine, answerLine, outputLine};
 
 // What a run comes to: the answer to the pair of sheets, or that they can't be read.
 pub enum Outcome {
@@ -37,7 +37,7 @@ fn write_answer(buffer: &mut [u8], answer: Answer) -> usize
 
 // Writes the line in front of a buffer, and hands back its length.
 pub fn write_line(buffer: &mut [u8], outcome: Outcome) -> usize
-    ensures line { λ n. ⌜ Written (now (buffer .entry)) (now (buffer .exit)) 0 (lineOf outcome) n ⌝ }
+    ensures line { λ n. ⌜ Written (now (buffer .entry)) (now (buffer .exit)) 0 (outputLine outcome) n ⌝ }
     ensures short { λ n. ⌜ n ≤ 51 ⌝ }
 {
     match outcome {

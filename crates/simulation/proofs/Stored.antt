@@ -26,8 +26,8 @@ use Rattle.simulation.proofs.Moving.{Answered}
 use Rattle.simulation.proofs.Stepping.{step-simulated}
 use Rattle.simulation.proofs.Posting.{CountsWithin, counts-roomy}
 
-abbrev lineOf : (thread choice : ℕ) → TraceLine
-lineOf t c = record { thread = t; choice = c }
+abbrev recordedLine : (thread choice : ℕ) → TraceLine
+recordedLine t c = record { thread = t; choice = c }
 
 -- itself, or the largest number
 stored-cases : {A : Type 0} (f : ℕ → A) (n : ℕ) → (4294967295 < n → f 4294967295 ≡ f n) → f (stored n) ≡ f n
@@ -68,18 +68,18 @@ module _ (R : Replay) where
       step (R .machine) t c >>= λ M.
       some (record { machine = M; things = thingsAfter (effect w) (R .things) })
 
-  choice-stored : (t c : ℕ) → stepped R (lineOf t (stored c)) ≡ stepped R (lineOf t c)
+  choice-stored : (t c : ℕ) → stepped R (recordedLine t (stored c)) ≡ stepped R (recordedLine t c)
   unfolding stepped
   choice-stored t c = ap (steppedBy t) (λ i w. part-stored w c i)
 
-  no-thread : (t c : ℕ) → length (R .machine .threads) ≤ t → stepped R (lineOf t c) ≡ none
+  no-thread : (t c : ℕ) → length (R .machine .threads) ≤ t → stepped R (recordedLine t c) ≡ none
   unfolding stepped
   no-thread t c l = rw (place-past (R .machine .threads) t l)
 
-  line-stored : (t c : ℕ) → length (R .machine .threads) ≤ 16 → stepped R (lineOf (stored t) (stored c)) ≡ stepped R (lineOf t c)
+  line-stored : (t c : ℕ) → length (R .machine .threads) ≤ 16 → stepped R (recordedLine (stored t) (stored c)) ≡ stepped R (recordedLine t c)
   line-stored t c few =
       choice-stored (stored t) c
-      ∙ stored-cases (λ (i : ℕ). stepped R (lineOf i c)) t (λ l. no-thread 4294967295 c (omega arith) ∙ sym (no-thread t c (omega arith)))
+      ∙ stored-cases (λ (i : ℕ). stepped R (recordedLine i c)) t (λ l. no-thread 4294967295 c (omega arith) ∙ sym (no-thread t c (omega arith)))
 
 -- the numbers answer a line as they have stored it, if fewer steps were done than a count can hold
 pub line-answered : (p s : List ℕ) (T : Threads) (R : Replay) (k : ℕ) → Holds p s T R → CountsWithin k (R .machine .names) → suc k < 18446744073709551616 → (l : TraceLine) →

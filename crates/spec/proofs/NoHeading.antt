@@ -12,7 +12,7 @@ use Rattle.spec.specs.Expression.{Expr, leaf, unary, binary, Procedure}
 use Rattle.spec.specs.Program.{Program}
 use Rattle.spec.specs.Split.{Map, Header, Signature, Split}
 use Rattle.spec.specs.Agreement.{Tree, plain, int, sameTree, treeOf, trees, tree, agree}
-use Rattle.spec.specs.Conditions.{Condition, T, Env, typeAt, mapAt, startMap, isLock, contains, looserLock, mayShow, row, type, kind, post, startIn, bodyStart, keptBack, signature, K, inMap, outMap, readMap, writeMap, conditionsOf, procedureConditions}
+use Rattle.spec.specs.Conditions.{Condition, T, Env, typeAt, mapAt, startMap, isLock, contains, looserLock, mayShow, row, type, kind, post, startOr, bodyStart, keptBack, signature, K, inMap, outMap, readMap, writeMap, conditionsOf, procedureConditions}
 use Rattle.spec.specs.Sites.{Site, sites, claimsAt, claims, bodySites, claimsOfProcedure, claimsOfProcedures, claimsOf}
 use Rattle.spec.specs.Verdict.{takesEnough, allTakeEnough, locksTakeEnough, startAtMostOne, ruled}
 use Rattle.spec.specs.declared.Heading.{Heading}
@@ -111,13 +111,13 @@ module _ (h : Heading) (S : Split) where
   later : (c : Condition) {cs ds : List Condition} → cs ≡ ds → _≡_ {A = List Condition} (c ∷ cs) (c ∷ ds)
   later c e = ap (_∷_ c) e
 
-  same-start-in : (o : Option MapNumber) → startIn (under h S) o ≡ startIn S o
-  unfolding startIn mapAt under headedAs
+  same-start-in : (o : Option MapNumber) → startOr (under h S) o ≡ startOr S o
+  unfolding startOr mapAt under headedAs
   same-start-in none = refl
   same-start-in (some m) = refl
 
   same-own : (Γ : Env) (pre : Map) (e : Expr) → conditionsOf (under h S) Γ pre e ≡ conditionsOf S Γ pre e
-  unfolding conditionsOf row type kind post bodyStart startIn keptBack signature K inMap outMap readMap writeMap typeAt mapAt under headedAs
+  unfolding conditionsOf row type kind post bodyStart startOr keptBack signature K inMap outMap readMap writeMap typeAt mapAt under headedAs
   same-own Γ pre (leaf Var k v) = at-first _ (same-may-show _ _)
   same-own Γ pre (leaf Int k v) = refl
   same-own Γ pre (leaf Newtid k v) = refl

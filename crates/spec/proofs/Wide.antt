@@ -9,7 +9,7 @@ use lib.ListN.{length, length-replicate, List·getD-eq-default}
 use Rattle.spec.specs.Expression.{Expr, indexOf}
 use Rattle.spec.specs.Program.{Program}
 use Rattle.spec.specs.Split.{Row, noRow, Signature, noSignature, Split, mapAt}
-use Rattle.spec.specs.Conditions.{row, post, startIn, bodyStart, keptBack, signature}
+use Rattle.spec.specs.Conditions.{row, post, startOr, bodyStart, keptBack, signature}
 use Rattle.spec.specs.Ranges.{InRange}
 use Rattle.spec.specs.declared.MapNumber.{MapNumber}
 use Rattle.spec.proofs.Clashes.{none-is-not-some}
@@ -42,10 +42,10 @@ module _ {P : Program} {S : Split} (R : InRange P S) where
 
   -- one that is not given has each location too
   pub start-wide : (e : Expr) → length (bodyStart S e) ≡ S .header .locations
-  unfolding bodyStart startIn
+  unfolding bodyStart startOr
   start-wide e = by-cases (row S e .start) refl
     where
-      by-cases : (o : Option MapNumber) → row S e .start ≡ o → length (startIn S o) ≡ S .header .locations
+      by-cases : (o : Option MapNumber) → row S e .start ≡ o → length (startOr S o) ≡ S .header .locations
       by-cases none given = length-replicate (S .header .locations) 0
       by-cases (some m) given = map-wide m (start-fits e m given)
 

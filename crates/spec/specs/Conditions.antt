@@ -181,13 +181,13 @@ module _ (S : Split) where
   post e = mapAt S (row e .post)
 
   -- "an empty start now means nothing of any location"
-  unfoldable pub startIn : Option MapNumber → Map
-  startIn none = replicate (S .header .locations) 0
-  startIn (some m) = mapAt S m
+  unfoldable pub startOr : Option MapNumber → Map
+  startOr none = replicate (S .header .locations) 0
+  startOr (some m) = mapAt S m
 
   -- the map that a spawned body starts with
   unfoldable pub bodyStart : Expr → Map
-  bodyStart e = startIn (row e .start)
+  bodyStart e = startOr (row e .start)
 
   -- "A call's s is the map kept back"; it is never empty, since 50 refuses that under every heading
   unfoldable pub keptBack : Expr → Map

@@ -23,7 +23,7 @@ use Rattle.workspace.specs.declared.Header.{Header as HeaderRead}
 use Rattle.split_lines.specs.declared.LinesRead.{LinesRead}
 use Rattle.split_lines.specs.declared.LinesRead.the-variants as lines-read
 use Rattle.workspace.specs.Sheets.{headerTold}
-use Rattle.split_lines.specs.Answers.{Reading}
+use Rattle.split_lines.specs.Answers.{SplitCursor}
 use Rattle.split.specs.Stored.{HoldsTypes, HoldsRows, HoldsMaps, HoldsSignatures, EmptyStored, Storing, StoringRows, StoringSignatures, StoringBody, LinesAnswer, TypesRead, MapsRead, SignaturesRead, RowsRead}
 use Rattle.split.specs.Sheet.{body, EndAnswer, BodyAnswer, BodyRead}
 
@@ -148,7 +148,7 @@ module _ (purpose : Purpose) {text : List ℕ} {c : Cursor} {h : HeaderRead} {n 
                   rows-got : LinesAnswer n (HoldsRows w₃) text rows-out (lines-read.Read c₅)
                   rows-got = subst (LinesAnswer n (HoldsRows w₃) text rows-out) rows-told (read-rows .answered)
 
-                  pub end-ready : Reading text c₅
+                  pub end-ready : SplitCursor text c₅
                   end-ready = record { placed = rows-got .4; fits = pre .storing .reading .fits }
 
                   abbrev found : Split

@@ -14,7 +14,7 @@ use Rattle.lexer.specs.Cursors.{Placed, rest, placeAt}
 use Rattle.lexer.specs.Numbers.{numbersAt}
 use Rattle.lexer.specs.declared.Cursor.{Cursor}
 use Rattle.workspace.specs.Sheets.{headerTold, Small}
-use Rattle.split_lines.specs.Answers.{Reading}
+use Rattle.split_lines.specs.Answers.{SplitCursor}
 use Rattle.split.specs.declared.first_line.FoundHeading.{FoundHeading}
 use Rattle.split.specs.declared.first_line.FoundHeading.the-variants as found-heading
 use Rattle.split.specs.declared.first_line.FoundHeader.{FoundHeader}
@@ -28,7 +28,7 @@ headingFound (some h) = found-heading.Known h
 
 -- a cursor where line 1 stands
 pub record AtHeader (text : List ℕ) (c : Cursor) : Type 0 where
-  pub reading : Reading text c
+  pub reading : SplitCursor text c
   pub some : textEnded (rest text c) ≡ false
 
 -- how many numerals stand behind a heading

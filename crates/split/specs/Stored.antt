@@ -17,7 +17,7 @@ use Rattle.workspace.specs.declared.Header.{Header}
 use Rattle.split_lines.specs.declared.LinesRead.{LinesRead}
 use Rattle.split_lines.specs.declared.LinesRead.the-variants as lines-read
 use Rattle.workspace.specs.Sheets.{headerTold, Small}
-use Rattle.split_lines.specs.Answers.{Reading}
+use Rattle.split_lines.specs.Answers.{SplitCursor}
 
 -- three numbers of each entry, in three columns with room for so many rows, one behind the other
 pub record Columns {A : Type 0} (f g h : A → ℕ) (b rows : ℕ) (w : List ℕ) (entries : List A) : Type 0 where
@@ -55,7 +55,7 @@ pub record EmptyStored (w w′ : List ℕ) : Type 0 where
 
 -- a cursor behind which lines of a sheet with this header may stand, and a work space to store them in
 pub record Storing (text : List ℕ) (c : Cursor) (h : Header) (w : List ℕ) : Type 0 where
-  pub reading : Reading text c
+  pub reading : SplitCursor text c
   pub small : Small h
   pub whole : length w ≡ workSize
 

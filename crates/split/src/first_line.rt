@@ -15,7 +15,7 @@ ghost use Rattle.spec.specs.Reading.{splitSheet, _to_, inRange, readLine};
 ghost use Rattle.spec.specs.Split.{headings, headerLine};
 ghost use Rattle.lexer.specs.Cursors.{placeAt};
 ghost use Rattle.workspace.specs.Sheets.{headerTold};
-ghost use Rattle.split_lines.specs.Answers.{Reading};
+ghost use Rattle.split_lines.specs.Answers.{SplitCursor};
 ghost use Rattle.split.specs.Header.{headingFound, numeralsOf, headerFits, AtHeader, NumbersAnswer, HeaderAnswer};
 
 // How many locations, types and maps a sheet can have.
@@ -75,7 +75,7 @@ fn numerals_of(heading: Heading) -> usize
 
 // The numerals behind a heading. Where none names the start, it is map 0.
 fn header_numbers(text: &[u8], cursor: Cursor, heading: Heading) -> FoundHeader
-    requires { ⌜ Reading (now text) cursor ⌝ }
+    requires { ⌜ SplitCursor (now text) cursor ⌝ }
     ensures { λ r. ⌜ NumbersAnswer (now (text .entry)) cursor heading r ⌝ }
 {
     let mut found = [0u32; 5];

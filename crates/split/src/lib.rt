@@ -24,7 +24,7 @@ ghost use Rattle.spec.specs.Reading.{splitSheet, end};
 ghost use Rattle.lexer.specs.Cursors.{placeAt};
 ghost use Rattle.workspace.specs.Layout.{workSize};
 ghost use Rattle.workspace.specs.Sheets.{headerTold};
-ghost use Rattle.split_lines.specs.Answers.{Reading};
+ghost use Rattle.split_lines.specs.Answers.{SplitCursor};
 ghost use Rattle.split.specs.Stored.{StoringBody, EmptyStored};
 ghost use Rattle.split.specs.Sheet.{Readable, EndAnswer, BodyRead, SplitRead};
 
@@ -36,7 +36,7 @@ pub enum Sheet {
 
 // A line behind the last is spare.
 fn finish(text: &[u8], cursor: Cursor) -> LinesRead
-    requires { ⌜ Reading (now text) cursor ⌝ }
+    requires { ⌜ SplitCursor (now text) cursor ⌝ }
     ensures { λ r. ⌜ EndAnswer (end splitSheet (placeAt (now (text .entry)) cursor)) r ⌝ }
 {
     if cursor.at_end(text) {

@@ -35,19 +35,19 @@ use Rattle.split_lines.specs.declared.signatures.SignatureRead.the-varia
 use Rattle.split_lines.specs.Lines.{signatureTold, rowTold}
 
 -- a text that the limit lets through, and a cursor in it
-pub record Reading (text : List ℕ) (c : Cursor) : Type 0 where
+pub record SplitCursor (text : List ℕ) (c : Cursor) : Type 0 where
   pub placed : Placed text c
   pub fits : length text ≤ 65536
 
 -- a cursor where the line of the type with the number own may stand, in a sheet with this header
 pub record AtType (text : List ℕ) (c : Cursor) (h : HeaderRead) (own : ℕ) : Type 0 where
-  pub reading : Reading text c
+  pub reading : SplitCursor text c
   pub small : Small h
   pub numbered : own < 64
 
 -- a cursor where a row or a signature may stand
 pub record AtRow (text : List ℕ) (c : Cursor) (h : HeaderRead) : Type 0 where
-  pub reading : Reading text c
+  pub reading : SplitCursor text c
   pub small : Small h
 
 -- ------------------------------------------------------------------ fields

@@ -5,7 +5,7 @@ use lexer::Number;
 use lexer::Numeral;
 use spec::Purpose;
 ghost use Rattle.spec.specs.declared.Purpose.the-variants.{Fill};
-ghost use Rattle.split_lines.specs.Answers.{Reading, HeadAnswer, LeadingAnswer, PostAnswer, StartAnswer};
+ghost use Rattle.split_lines.specs.Answers.{SplitCursor, HeadAnswer, LeadingAnswer, PostAnswer, StartAnswer};
 
 // A number that is in no range.
 const IN_NO_RANGE: u32 = 4294967295;
@@ -31,7 +31,7 @@ pub(crate) enum Start {
 
 // The first field of a line that has more than one.
 pub fn first_field(text: &[u8], cursor: Cursor) -> Head
-    requires { ⌜ Reading (now text) cursor ⌝ }
+    requires { ⌜ SplitCursor (now text) cursor ⌝ }
     ensures { λ r. ⌜ HeadAnswer (now (text .entry)) cursor r ⌝ }
 {
     let field = cursor.field(text);
@@ -48,7 +48,7 @@ pub fn first_field(text: &[u8], cursor: Cursor) -> Head
 
 // A numeral with a comma behind it.
 pub(crate) fn leading_number(text: &[u8], cursor: Cursor) -> Leading
-    requires { ⌜ Reading (now text) cursor ⌝ }
+    requires { ⌜ SplitCursor (now text) cursor ⌝ }
     ensures { λ r. ⌜ LeadingAnswer (now (text .entry)) cursor r ⌝ }
 {
     let found = cursor.number(text);
@@ -64,7 +64,7 @@ pub(crate) fn leading_number(text: &[u8], cursor: Cursor) -> Leading
 
 // The m of a row to fill: nothing, which is read as map 0, or a number, which is in no range.
 fn empty_post(text: &[u8], cursor: Cursor) -> Leading
-    requires { ⌜ Reading (now text) cursor ⌝ }
+    requires { ⌜ SplitCursor (now text) cursor ⌝ }
     ensures { λ r. ⌜ PostAnswer Fill (now (text .entry)) cursor r ⌝ }
 {
     let Head::Field(from, to, next) = first_field(text, cursor) else {
@@ -81,7 +81,7 @@ fn empty_post(text: &[u8], cursor: Cursor) -> Leading
 
 // The m of a row, in a sheet that is read for this purpose.
 pub(crate) fn post_field(text: &[u8], cursor: Cursor, purpose: Purpose) -> Leading
-    requires { ⌜ Reading (now text) cursor ⌝ }
+    requires { ⌜ SplitCursor (now text) cursor ⌝ }
     ensures { λ r. ⌜ PostAnswer purpose (now (text .entry)) cursor r ⌝ }
 {
     match purpose {
@@ -92,7 +92,7 @@ pub(crate) fn post_field(text: &[u8], cursor: Cursor, purpose: Purpose) -> Leadi
 
 // The last field of a row: the map that a spawned body starts with, or nothing.
 pub(crate) fn start_field(text: &[u8], cursor: Cursor) -> Start
-    requires { ⌜ Reading (now text) cursor ⌝ }
+    requires { ⌜ SplitCursor (now text) cursor ⌝ }
     ensures { λ r. ⌜ StartAnswer (now (text .entry)) cursor r ⌝ }
 {
     let field = cursor.field(text);

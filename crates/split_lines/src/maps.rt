@@ -9,7 +9,7 @@ ghost use lib.ListN.{length};
 ghost use Rattle.spec.specs.Reading.{splitSheet, allInRange, readLine};
 ghost use Rattle.lexer.specs.Cursors.{placeAt};
 ghost use Rattle.split_lines.specs.Lines.{cells, cellLine};
-ghost use Rattle.split_lines.specs.Answers.{Reading, MapAnswer};
+ghost use Rattle.split_lines.specs.Answers.{SplitCursor, MapAnswer};
 
 // Whether no number of a map is larger than a map can have.
 fn cells_fit(map: &[u32]) -> bool
@@ -27,7 +27,7 @@ fn cells_fit(map: &[u32]) -> bool
 
 // The map line at a cursor, into as many places as there are locations. A line that is refused leaves any numbers in them.
 pub fn map_line(text: &[u8], cursor: Cursor, into: &mut [u32]) -> LinesRead
-    requires { ⌜ Reading (now text) cursor ⌝ }
+    requires { ⌜ SplitCursor (now text) cursor ⌝ }
     ensures { λ r. ⌜ MapAnswer (now (text .entry)) (now (into .exit)) (readLine splitSheet (cellLine (length (now (into .entry)))) (placeAt (now (text .entry)) cursor)) r ⌝ }
 {
     if cursor.at_end(text) {

@@ -16,7 +16,7 @@ use Rattle.workspace.proofs.Region.{column, region-part}
 use Rattle.workspace.proofs.Shown.{type-shown}
 use Rattle.workspace.specs.Sheets.{headerTold}
 use Rattle.workspace.specs.declared.Header.{Header as HeaderRead}
-use Rattle.split_writer.specs.Stored.{inOrder, typeIn, mapIn, signatureIn, startIn, rowIn, splitIn}
+use Rattle.split_writer.specs.Stored.{inOrder, typeStored, mapIn, signatureIn, startStored, rowIn, splitIn}
 use Rattle.split_writer.specs.Contract.{HoldsSheet}
 
 -- things in order are the entries of a list
@@ -32,14 +32,14 @@ in-order-entries f (x ∷ xs) d i (suc n) l e =
     λ k. here k ∷ behind k
 
 -- the number of a start that is a map, or of the empty map
-start-told : (o : Option MapNumber) → ((m : MapNumber) → o ≡ some m → m .0 < emptyMap) → startIn (startNumber o) ≡ o
-unfolding startIn startNumber
+start-told : (o : Option MapNumber) → ((m : MapNumber) → o ≡ some m → m .0 < emptyMap) → startStored (startNumber o) ≡ o
+unfolding startStored startNumber
 start-told none few = refl
 start-told (some m) few = rw (ne-eqb (m .0) emptyMap (λ e. omega (arith, few m refl)))
 
 module _ {w : List ℕ} {header : HeaderRead} {procedures steps : ℕ} {S : Split} (K : HoldsSheet w header procedures steps S) where
-  type-held : (t : ℕ) → t < length (S .types) → typeIn w t ≡ getD (S .types) t Int
-  unfolding typeIn typeAt
+  type-held : (t : ℕ) → t < length (S .types) → typeStored w t ≡ getD (S .types) t Int
+  unfolding typeStored typeAt
   type-held t h = type-shown w S (K .program) (K .split) (K .inRange) (record { 0 = t }) h
 
   map-held : (m : ℕ) → m < length (S .maps) → mapIn (S .header .locations) w m ≡ getD (S .maps) m []
@@ -71,7 +71,7 @@ module _ {w : List ℕ} {header : HeaderRead} {procedures steps : ℕ} {S : Spli
       let number = column w startsAt (λ (q : Row). startNumber (q .start)) (S .rows) noRow i (K .split .starts) h in
       let few : (m : MapNumber) → r .start ≡ some m → m .0 < emptyMap =
       λ m e. omega (arith, K .inRange .rowStart i noRow m h e, K .inRange .mapsCounted, K .inRange .mapsFew) in
-      let start = ap startIn number ∙ start-told (r .start) few in
+      let start = ap startStored number ∙ start-told (r .start) few in
       λ k. record { type = record { 0 = typed k }; post = record { 0 = left k }; start = start k }
 
   pub split-held : splitIn (headerTold header) procedures steps w ≡ S
@@ -79,7 +79,7 @@ module _ {w : List ℕ} {header : HeaderRead} {procedures steps : ℕ} {S : Spli
   split-held =
       let R = K .inRange in
       let behind : (j : ℕ) → 0 + j ≡ j = λ j. omega arith in
-      let types = in-order-entries (typeIn w) (S .types) Int 0 (S .header .types) (R .typesCounted) (λ t h. ap (typeIn w) (behind t) ∙ type-held t h) in
+      let types = in-order-entries (typeStored w) (S .types) Int 0 (S .header .types) (R .typesCounted) (λ t h. ap (typeStored w) (behind t) ∙ type-held t h) in
       let maps = in-order-entries (mapIn (S .header .locations) w) (S .maps) [] 0 (S .header .maps) (R .mapsCounted) (λ m h. ap (mapIn (S .header .locations) w) (behind m) ∙ map-held m h) in
       let signatures = in-order-entries (signatureIn w) (S .signatures) noSignature 0 procedures (R .signaturesCounted ∙ K .proceduresCounted) (λ f h. ap (signatureIn w) (behind f) ∙ signature-held f h) in
       let rows = in-order-entries (rowIn w) (S .rows) noRow 0 steps (R .rowsCounted ∙ K .counted) (λ i h. ap (rowIn w) (behind i) ∙ row-held i h) in

@@ -23,7 +23,7 @@ use Rattle.workspace.specs.declared.Header.{Header as HeaderRead}
 use Rattle.written.specs.Text.{decimal, line, text}
 use Rattle.written.specs.Sheet.{headingName, headerNumbers, headerFields, outNumber, typeFields, mapFields, signatureFields, postShown, startShown, rowFields, splitLines, written}
 use Rattle.written.proofs.Lines.{text-append}
-use Rattle.split_writer.specs.Stored.{inOrder, typeIn, mapIn, signatureIn, startIn, rowIn, splitIn}
+use Rattle.split_writer.specs.Stored.{inOrder, typeStored, mapIn, signatureIn, startStored, rowIn, splitIn}
 
 -- ------------------------------------------------------------------ lines in order
 
@@ -113,23 +113,23 @@ signature-parts w f before argument after result = rw (before, argument, after, 
 
 module _ (w : List ℕ) (i : ℕ) {t m s : ℕ} (typed : t ≡ getD w (rowTypesAt + i) 0) (left : m ≡ getD w (postsAt + i) 0) (starts : s ≡ getD w (startsAt + i) 0) where
   pub row-parts : s ≡ emptyMap → text (rowFields Check (rowIn w i) ∷ []) ≡ (decimal t ++ (44 ∷ [])) ++ ((decimal m ++ (44 ∷ [])) ++ (10 ∷ []))
-  unfolding line text postShown startShown rowFields startIn rowIn
+  unfolding line text postShown startShown rowFields startStored rowIn
   row-parts e = rw (typed, left, eq-eqb (getD w (startsAt + i) 0) emptyMap (sym starts ∙ e)) (simp append-assoc)
 
   pub start-row-parts : (s ≡ emptyMap → ⊥)
       → text (rowFields Check (rowIn w i) ∷ []) ≡ (decimal t ++ (44 ∷ [])) ++ ((decimal m ++ (44 ∷ [])) ++ (decimal s ++ (10 ∷ [])))
-  unfolding line text postShown startShown rowFields startIn rowIn
+  unfolding line text postShown startShown rowFields startStored rowIn
   start-row-parts n = rw (typed, left, starts, ne-eqb (getD w (startsAt + i) 0) emptyMap (λ e. n (starts ∙ e))) (simp append-assoc)
 
 -- ------------------------------------------------------------------ the sheet
 
 pub sheet-parts : (H : Header) (procedures steps : ℕ) (w : List ℕ) → written (splitIn H procedures steps w)
-    ≡ text (headerFields H ∷ []) ++ (text (map (typeFields (H .heading)) (inOrder (typeIn w) 0 (H .types)))
+    ≡ text (headerFields H ∷ []) ++ (text (map (typeFields (H .heading)) (inOrder (typeStored w) 0 (H .types)))
     ++ (text (map mapFields (inOrder (mapIn (H .locations) w) 0 (H .maps)))
     ++ (text (map signatureFields (inOrder (signatureIn w) 0 procedures)) ++ text (map (rowFields Check) (inOrder (rowIn w) 0 steps)))))
 unfolding written splitLines splitIn
 sheet-parts H procedures steps w =
-    let T = map (typeFields (H .heading)) (inOrder (typeIn w) 0 (H .types)) in
+    let T = map (typeFields (H .heading)) (inOrder (typeStored w) 0 (H .types)) in
     let M = map mapFields (inOrder (mapIn (H .locations) w) 0 (H .maps)) in
     let R = map (rowFields Check) (inOrder (rowIn w) 0 steps) in
     let G = map signatureFields (inOrder (signatureIn w) 0 procedures) in

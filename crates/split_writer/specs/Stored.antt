@@ -15,8 +15,8 @@ unfoldable pub inOrder : {A : Type 0} → (ℕ → A) → (i n : ℕ) → List A
 inOrder f i zero = []
 inOrder f i (suc n) = f i ∷ inOrder f (i + 1) n
 
-unfoldable pub typeIn : List ℕ → (t : ℕ) → TypeLine
-typeIn w t = typeAt w (record { 0 = t })
+unfoldable pub typeStored : List ℕ → (t : ℕ) → TypeLine
+typeStored w t = typeAt w (record { 0 = t })
 
 -- a map has a number for each location
 unfoldable pub mapIn : (locations : ℕ) → List ℕ → (m : ℕ) → Map
@@ -31,21 +31,21 @@ signatureIn w f = record {
 }
 
 -- the number of the empty map stands for a start that is not given
-unfoldable pub startIn : ℕ → Option MapNumber
-startIn n = if eqb n emptyMap then none else some (record { 0 = n })
+unfoldable pub startStored : ℕ → Option MapNumber
+startStored n = if eqb n emptyMap then none else some (record { 0 = n })
 
 unfoldable pub rowIn : List ℕ → (i : ℕ) → Row
 rowIn w i = record {
   type = record { 0 = getD w (rowTypesAt + i) 0 };
   post = record { 0 = getD w (postsAt + i) 0 };
-  start = startIn (getD w (startsAt + i) 0);
+  start = startStored (getD w (startsAt + i) 0);
 }
 
 -- the split with this header, so many procedures and so many rows
 unfoldable pub splitIn : Header → (procedures steps : ℕ) → List ℕ → Split
 splitIn H procedures steps w = record {
   header = H;
-  types = inOrder (typeIn w) 0 (H .types);
+  types = inOrder (typeStored w) 0 (H .types);
   maps = inOrder (mapIn (H .locations) w) 0 (H .maps);
   signatures = inOrder (signatureIn w) 0 procedures;
   rows = inOrder (rowIn w) 0 steps;

@@ -29,7 +29,7 @@ ghost use Rattle.written.specs.Text.{decimal, line, text};
 ghost use Rattle.writer.specs.Buffer.{Written};
 ghost use Rattle.written.specs.Sheet.{headerFields, outNumber, typeFields, mapFields, signatureFields, rowFields};
 ghost use Rattle.spec.specs.declared.Purpose.the-variants.{Check};
-ghost use Rattle.split_writer.specs.Stored.{inOrder, typeIn, mapIn, signatureIn, rowIn};
+ghost use Rattle.split_writer.specs.Stored.{inOrder, typeStored, mapIn, signatureIn, rowIn};
 ghost use Rattle.split_writer.specs.Contract.{HoldsSome, SheetWritten};
 
 // Writes the header.
@@ -104,7 +104,7 @@ fn write_type(buffer: &mut [u8], at: usize, heading: Heading, of: TypeLine) -> u
 // Writes the lines of so many types of a sheet with this heading.
 fn write_types(buffer: &mut [u8], at: usize, work: &[u32], heading: Heading, types: usize) -> usize
     requires { ⌜ types < 4294967296 ⌝ }
-    ensures { λ r. ⌜ Written (now (buffer .entry)) (now (buffer .exit)) at (text (map (typeFields heading) (inOrder (typeIn (now (work .entry))) 0 types))) r ⌝ }
+    ensures { λ r. ⌜ Written (now (buffer .entry)) (now (buffer .exit)) at (text (map (typeFields heading) (inOrder (typeStored (now (work .entry))) 0 types))) r ⌝ }
 {
     let mut to = at;
     let mut t = 0;

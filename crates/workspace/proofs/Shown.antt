@@ -10,7 +10,7 @@ use Rattle.spec.specs.Expression.{Expr, indexOf}
 use Rattle.spec.specs.Program.{Program}
 use Rattle.spec.specs.Split.{Map, Signature, noSignature, Row, noRow, Split}
 use Rattle.spec.specs.Maps.{share}
-use Rattle.spec.specs.Conditions.{typeAt, mapAt, row, post, bodyStart, startIn, signature, refLocation, load, inLoad, outLoad, readLoad, writeLoad}
+use Rattle.spec.specs.Conditions.{typeAt, mapAt, row, post, bodyStart, startOr, signature, refLocation, load, inLoad, outLoad, readLoad, writeLoad}
 use Rattle.spec.specs.Ranges.{InRange}
 use Rattle.spec.specs.declared.Location.{Location}
 use Rattle.spec.specs.declared.MapNumber.{MapNumber}
@@ -148,8 +148,8 @@ module _ (w : List ℕ) (S : Split) (P : Program) (H : HoldsSplit w S) (R : InRa
       }
 
   pub start-stands : (o : Option MapNumber) → ((m : MapNumber) → o ≡ some m → m .0 < length (S .maps))
-      → Stands w S (record { 0 = startNumber o }) (startIn S o)
-  unfolding startNumber startIn
+      → Stands w S (record { 0 = startNumber o }) (startOr S o)
+  unfolding startNumber startOr
   start-stands none h = empty-stands
   start-stands (some m) h = map-stands m (h m refl)
 

@@ -2,7 +2,7 @@
 use mathlib.Core.Path.{refl, _∙_, ap}
 use Rattle.replay_theory.specs.declared.Numbers.{Numbers}
 use Rattle.replay_theory.specs.declared.Report.{Report}
-use Rattle.replay_theory.specs.Replay.{numbersOf}
+use Rattle.replay_theory.specs.Replay.{returnedFor}
 use Rattle.replay.specs.Numbers.{raceNumbers}
 use Rattle.replay.proofs.Told.{followed-as-stored}
 use borrow.Author.Needs.{needs}
@@ -20,7 +20,7 @@ returns c =
     let first-race = told .1 .1 .1 .1 .1 .1 .0 in
     let safe = told .1 .1 .1 .1 .1 .1 .1 in
     let ending = c .before .ending-numbers .ensures in
-    let four = ending ∙ ap numbersOf (answer) in
+    let four = ending ∙ ap returnedFor (answer) in
     let race = c .race-numbers .ensures in
     let followed = followed-as-stored _ _ _ _ _ (ap (λ (x : Numbers). x .number) ending) (ap (λ (x : Numbers). x .line) ending) (stops) in (
       (ap (λ (x : Numbers). x .number) four, ap (λ (x : Numbers). x .line) four),

@@ -8,14 +8,14 @@ use borrow.Author.Needs.{needs}
 use Rattle.written.specs.Text.{text}
 use Rattle.written.specs.Sheet.{typeFields}
 use Rattle.writer.proofs.Buffer.{Remains, parted, restated, onward, done}
-use Rattle.split_writer.specs.Stored.{inOrder, typeIn}
+use Rattle.split_writer.specs.Stored.{inOrder, typeStored}
 use Rattle.split_writer.proofs.Parts.{lines-next, lines-none}
 use Rattle.split_writer.proofs.write_types.Statement.{statement}
 use Rattle.split_writer.proofs.write_types.Tie as tie
 
 abbrev Inv-loop : tie.InvT-loop
 Inv-loop buffer₀ at work heading types to₀ t₀ buffer to t =
-    Remains buffer₀ at (text (map (typeFields heading) (inOrder (typeIn work) 0 types))) buffer to (text (map (typeFields heading) (inOrder (typeIn work) t (types - t))))
+    Remains buffer₀ at (text (map (typeFields heading) (inOrder (typeStored work) 0 types))) buffer to (text (map (typeFields heading) (inOrder (typeStored work) t (types - t))))
 
 abbrev μ-loop : tie.MeasureT-loop
 μ-loop buffer₀ at work heading types to₀ t₀ buffer to t = types - t
@@ -33,7 +33,7 @@ loop-less : tie.Need-loop-less Inv-loop μ-loop
 loop-less c = omega arith
 
 loop-again : tie.Need-loop-again Inv-loop μ-loop
-unfolding typeIn
+unfolding typeStored
 loop-again c =
     let call = c .before .before in
     let made = call .before .before in

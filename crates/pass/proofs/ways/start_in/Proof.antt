@@ -1,4 +1,4 @@
-use Rattle.pass.specs.Ways.{startIn}
+use Rattle.pass.specs.Ways.{startNumberIn}
 use borrow.Author.Needs.{needs}
 use Rattle.pass.proofs.ways.start_in.Statement.{statement}
 use Rattle.pass.proofs.ways.start_in.Tie as tie
@@ -10,7 +10,7 @@ cell-in-requires : tie.Need-cell-in-requires
 cell-in-requires c κs = tt
 
 returns : tie.Need-returns
-unfolding startIn
+unfolding startNumberIn
 returns c = rw (← c .before .at .ensures) (c .cell-in .ensures)
 
 pub start-in-spec : {M : Type 1} → statement M

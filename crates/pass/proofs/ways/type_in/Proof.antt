@@ -1,4 +1,4 @@
-use Rattle.pass.specs.Ways.{typeIn}
+use Rattle.pass.specs.Ways.{typeLineIn}
 use borrow.Author.Needs.{needs}
 use Rattle.pass.proofs.ways.type_in.Statement.{statement}
 use Rattle.pass.proofs.ways.type_in.Tie as tie
@@ -10,7 +10,7 @@ type-at-requires : tie.Need-type-at-requires
 type-at-requires c κs = tt
 
 returns : tie.Need-returns
-unfolding typeIn
+unfolding typeLineIn
 returns c = cc
 
 pub type-in-spec : {M : Type 1} → statement M

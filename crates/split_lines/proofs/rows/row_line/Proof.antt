@@ -9,7 +9,7 @@ use Rattle.lexer.specs.Cursors.{rest}
 use Rattle.lexer.specs.declared.Cursor.{Cursor}
 use Rattle.lexer.proofs.Walks.{left-some}
 use Rattle.workspace.specs.Sheets.{headerTold}
-use Rattle.split_lines.specs.Answers.{Reading, LeadingAnswer, PostAnswer, StartAnswer}
+use Rattle.split_lines.specs.Answers.{SplitCursor, LeadingAnswer, PostAnswer, StartAnswer}
 use Rattle.split_lines.specs.declared.fields.Leading.the-variants as leading
 use Rattle.split_lines.proofs.LineLaws.{line-missing, comma-placed}
 use Rattle.split_lines.proofs.RowLaws.{row-first, row-second, row-third, row-without, row-with-start}
@@ -44,7 +44,7 @@ module _ (s : tie.After-typed) where
   type : LeadingAnswer (text typed-line) (cursor typed-line) (leading.Value (s .typed .given .0 .0) second)
   type = subst (LeadingAnswer (text typed-line) (cursor typed-line)) (s .typed .given .1) (s .before .before .leading-number .ensures)
 
-  at-second : Reading (text typed-line) second
+  at-second : SplitCursor (text typed-line) second
   at-second = record { placed = comma-placed _ _ _ (start typed-line .pre .reading .placed) (type .1) (type .2); fits = start typed-line .pre .reading .fits }
 
 -- its second number is read
@@ -61,7 +61,7 @@ module _ (s : tie.After-post) where
   map : PostAnswer (start post-line .args .purpose) (text post-line) (second typed) (leading.Value (s .post .given .0 .0) third)
   map = subst (PostAnswer (start post-line .args .purpose) (text post-line) (second typed)) (s .post .given .1) (s .before .before .post-field .ensures)
 
-  at-third : Reading (text post-line) third
+  at-third : SplitCursor (text post-line) third
   at-third = record { placed = comma-placed _ _ _ (at-second typed .placed) (map .1) (map .2); fits = at-second typed .fits }
 
 returns : tie.Need-returns
