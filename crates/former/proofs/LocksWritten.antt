@@ -10,23 +10,23 @@ use native.Mathlib.Omega.{arith}
 use lib.Dec.{ltb}
 use lib.ListN.{length}
 use borrow.Author.Tests.{le-leb}
 use Rattle.spec.specs.Choice.{if_then_else_}
 use Rattle.spec.specs.Text.{bytes, same, Line, closed, lines, Field, fields, lookUp, numeral}
 use Rattle.spec.specs.Reading.{on, _>>=_, right, wrong, badRange, seen, _to_, below, inRange, allInRange, withNumeral, numerals, ranged, numbers}
 use Rattle.spec.specs.Expression.{Step}
 use Rattle.spec.specs.Program.{Program, program}
 use Rattle.spec.specs.Split.{Header, headings, headerRanges, startOf, headerOf, headed, headerLine, lockOf, outRange, typeLine, typeLines, mapLine, signatureLine, startRange, mayBeEmpty, postRange, rowLine, Split, split, splitLimit}
 use Rattle.spec.specs.Verdict.{checked, answer, verdict}
 use Rattle.spec.specs.WellFormed.{Shows, nothing, line, WellFormedSplit}
 use Rattle.spec.specs.declared.Heading.the-variants.{C2, C3}
 use Rattle.spec.specs.declared.Purpose.the-variants.{Check}
 use Rattle.spec.specs.declared.TypeLine.{TypeLine}
 use Rattle.spec.proofs.Tests.{same-equal}
 use Rattle.spec.proofs.Outcomes.{bind-alike}
 use Rattle.spec.proofs.Ranges.{wrong-is-not-right, seen-right, numbers-right, numbers-spelled, numerals-counted}
 use Rattle.spec.proofs.WellFormed.{split-well-formed, well-formed-split}
 use Rattle.spec.proofs.Sheets.{sheets-then}
-use Rattle.spec.proofs.NoHeading.{headedAs, under, ruling, same-ruling}
+use Rattle.former.proofs.NoHeading.{headedAs, under, ruling, same-ruling}
 
 -- ------------------------------------------------------------------ the change
 

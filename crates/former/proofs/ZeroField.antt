@@ -4,9 +4,9 @@ use mathlib.Core.List.{List, [], _∷_, _++_}
 use mathlib.Core.Option.{Option, none, some}
 use Prim.Native.Nat.{ℕ, _<_}
 use native.Mathlib.Omega.{arith}
 use Rattle.spec.specs.Text.{Field, digitLimit, digits, leadingZero, value, numeral}
 use Rattle.spec.specs.Reading.{withNumeral, numerals}
-use Rattle.spec.proofs.Texts.{OneLine}
+use Rattle.former.proofs.Texts.{OneLine}
 
 unfoldable pub withZero : Option (List ℕ) → Option (List ℕ)
 withZero none = none

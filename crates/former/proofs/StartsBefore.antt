@@ -9,21 +9,21 @@ use native.Mathlib.Omega.{arith}
 use lib.Dec.{eqb, leb, ltb}
 use lib.ListN.{length, replicate, take}
 use borrow.Author.Tests.{ltb-true, lt-ltb, le-leb}
 use Rattle.spec.specs.Choice.{if_then_else_}
 use Rattle.spec.specs.Text.{bytes, Line, closed, unclosed, lines, Field, onField, fields, digitLimit, digits, leadingZero, value, numeral}
 use Rattle.spec.specs.Reading.{Out, stop, on, _>>=_, demand, Seen, right, wrong, badRange, seen, below, inRange, allInRange, withNumeral, numerals, ranged, numbers, splitSheet, Place, passed, nextLine, readLine, readLines, begin, end}
 use Rattle.spec.specs.Words.{takesStart, keepsBack}
 use Rattle.spec.specs.Expression.{Step}
 use Rattle.spec.specs.Program.{Program, program, programLimit}
 use Rattle.spec.specs.Split.{splitLimit, Header, headerLine, typeLines, mapLine, signatureLine, Row, rowOf, startGiven, startRange, postRange, postField, rowLine, Split, split}
 use Rattle.spec.specs.Workspace.{workspaceSize}
 use Rattle.spec.specs.Verdict.{sheets, locksTakeEnough, startAtMostOne, ruled, checked, answer, verdict}
 use Rattle.spec.specs.declared.Answer.{Answer}
 use Rattle.spec.specs.declared.Refusal.the-variants.{ShortWorkspace, LongProgram, LongSplit}
 use Rattle.spec.specs.declared.Purpose.the-variants.{Check}
 use Rattle.spec.proofs.Outcomes.{bind-alike}
 use Rattle.spec.proofs.Tests.{both-true}
-use Rattle.spec.proofs.Texts.{onClosed}
+use Rattle.former.proofs.Texts.{onClosed}
 
 -- ------------------------------------------------------------------ the reading before
 

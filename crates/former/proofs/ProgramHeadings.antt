@@ -8,23 +8,23 @@ use Prim.Native.Nat.{ℕ, zero, suc, _+_, _≤_}
 use native.Mathlib.Omega.{arith}
 use lib.ListN.{length, length-append}
 use borrow.Author.Tests.{le-leb, ne-eqb}
 use Rattle.spec.specs.Choice.{if_then_else_}
 use Rattle.spec.specs.Text.{bytes, same, Line, closed, unclosed, lines, Field, onField, fields, lookUp}
 use Rattle.spec.specs.Reading.{Out, on, _>>=_, programSheet, Seen, right, wrong, badRange, freelock, seen, wrongAfter, _to_, inRange, allInRange, numerals, ranged, numbers, Place, passed, nextLine, readLine, readLines}
 use Rattle.spec.specs.Words.{words, wordsUnder}
 use Rattle.spec.specs.Expression.{Item, Procedure}
 use Rattle.spec.specs.Program.{programLimit, Counts, firstNumber, programHeadings, countRanges, proceduresOf, countsOf, counted, countLine, wordLine, procLine, itemLine, itemLines, Program, program}
 use Rattle.spec.specs.Verdict.{sheets, checked, answer, verdict}
 use Rattle.spec.specs.WellFormed.{WellFormedProgram}
 use Rattle.spec.specs.declared.ProgramHeading.{ProgramHeading}
 use Rattle.spec.specs.declared.ProgramHeading.the-variants.{P, P2}
 use Rattle.spec.specs.declared.Word.the-variants.{Unary}
 use Rattle.spec.specs.declared.UnaryWord.the-variants.{Call}
 use Rattle.spec.proofs.Clashes.{true-is-not-false}
-use Rattle.spec.proofs.Texts.{OneLine, _above_, fields-append}
-use Rattle.spec.proofs.ZeroField.{withZero, numerals-zero, one-line-append, not-ten}
-use Rattle.spec.proofs.ProgramStages.{afterItems, afterCount, program-stages}
+use Rattle.former.proofs.Texts.{OneLine, _above_, fields-append}
+use Rattle.former.proofs.ZeroField.{withZero, numerals-zero, one-line-append, not-ten}
+use Rattle.former.proofs.ProgramStages.{afterItems, afterCount, program-stages}
 use Rattle.spec.proofs.Ranges.{wrong-is-not-right, seen-right}
 
 -- ------------------------------------------------------------------ line 1
 

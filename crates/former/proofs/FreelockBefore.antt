@@ -9,26 +9,26 @@ use native.Mathlib.Omega.{arith}
 use lib.Dec.{eqb, leb}
 use lib.ListN.{length, drop, length-append, length-drop}
 use borrow.Author.Tests.{leb-true, le-leb}
 use Rattle.spec.specs.Choice.{if_then_else_}
 use Rattle.spec.specs.Text.{bytes, same, Line, closed, unclosed, lines, Field, fields, lookUp}
 use Rattle.spec.specs.Reading.{Out, stop, on, _>>=_, demand, Seen, right, wrong, badForm, programSheet, Place, passed, nextLine, readLine, readLines, begin, noneLeft, end}
 use Rattle.spec.specs.Words.{leafWords, cellWords, lockWords, unaryWords, words, wordsUnder}
 use Rattle.spec.specs.Expression.{Item, stepsAmong, structure, scopes}
 use Rattle.spec.specs.Program.{programLimit, Counts, programHeadings, countLine, wordLine, procLine, itemLine, itemLines, Program, program}
 use Rattle.spec.specs.declared.ProgramHeading.{ProgramHeading}
 use Rattle.spec.specs.declared.ProgramHeading.the-variants as heading
 use Rattle.spec.specs.Split.{Split, split, splitLimit}
 use Rattle.spec.specs.Workspace.{workspaceSize}
 use Rattle.spec.specs.Verdict.{sheets, locksTakeEnough, startAtMostOne, ruled, checked, answer, verdict, four, returned}
 use Rattle.spec.specs.declared.Answer.{Answer}
 use Rattle.spec.specs.declared.Word.the-variants.{Unary}
 use Rattle.spec.specs.declared.UnaryWord.the-variants.{Lock}
 use Rattle.spec.specs.declared.Purpose.the-variants.{Check}
 use Rattle.spec.specs.declared.Refusal.the-variants.{ShortWorkspace, LongProgram, LongSplit}
 use Rattle.spec.proofs.Clashes.{true-is-not-false}
 use Rattle.spec.proofs.Tests.{same-equal}
-use Rattle.spec.proofs.ProgramStages.{afterItems, afterCount}
-use Rattle.spec.proofs.Texts.{OneLine, _above_, joined, Lined, no-line, closed-line, last-line, text-lined, lines-joined, joined-lines, onClosed, field-byte}
+use Rattle.former.proofs.ProgramStages.{afterItems, afterCount}
+use Rattle.former.proofs.Texts.{OneLine, _above_, joined, Lined, no-line, closed-line, last-line, text-lined, lines-joined, joined-lines, onClosed, field-byte}
 
 -- ------------------------------------------------------------------ the reading before
 

@@ -3,23 +3,23 @@ use mathlib.Core.Path.{_≡_, refl}
 use mathlib.Core.List.{List, [], _∷_, map}
 use Prim.Native.Nat.{ℕ}
 use Prim.Native.String.{String, _++_}
 use Rattle.spec.specs.Words.{leafWords, cellWords, lockWords, holdWords, unaryWords, binaryWords, words, wordsUnder, calls, leastValue, largestValue, valueRange, role, binding, takesStart, keepsBack, preOfPart, preOfSecond}
 use Rattle.spec.specs.Expression.{size, withParts, listed, lineOfItem, stepsAmong, leading, breaksOff, firstListed, expression, noLineLeft, structure, among, scopeStep, scope, scopes, indexOf, lineOf}
 use Rattle.spec.specs.Program.{programLimit, firstNumber, programHeadings, countRanges, proceduresOf, countsOf, counted, countLine, stepOf, wordLine, procOf, procLine, itemLine, itemLines, program}
 use Rattle.spec.specs.Split.{splitLimit, headings, headerRanges, mapsOf, mapsIn, startOf, headerOf, headed, headerLine, refOf, lockOf, outRange, tidOf, semOf, rwlockOf, typeLine, typeLines, mapLine, signatureOf, signatureLine, rowOf, startGiven, startRange, mayBeEmpty, emptyFault, postRange, postField, rowLine, split}
 use Rattle.spec.specs.Maps.{lowest, atLeast, _=ᵐ_, _≥ᵐ_, nowhere, sameNumbers, _+ᵐ_, _×ᵐ_, share, overWhole}
 use Rattle.spec.specs.Conditions.{isInt, isRef, isLock, isTid, isSem, isRwlock, refLocation, load, inLoad, outLoad, readLoad, writeLoad, typeIn, startMap, typeAt, mapAt, contains, looserLock, mayShow, row, type, kind, post, startOr, bodyStart, keptBack, signature, K, inMap, outMap, readMap, writeMap, conditionsOf, procedureConditions}
 use Rattle.spec.specs.Agreement.{code, sameMaps, sameTree, treeOf, trees, tree, agree}
 use Rattle.spec.specs.Sites.{sites, numbered, claimsAt, claims, bodySites, claimsOfProcedure, claimsOfProcedures, claimsOf, judge, firstFalse}
 use Rattle.spec.specs.Workspace.{workspaceSize}
 use Rattle.spec.specs.Verdict.{takesEnough, allTakeEnough, locksTakeEnough, refuseOver, startAtMostOne, ruled, sheets, checked, answer, verdict, four, returned}
 use Rattle.spec.specs.EdgeConditions.{rows}
 use Rattle.spec.specs.declared.Returned.{Returned}
 use Rattle.spec.specs.Text.{bytes, same, onLine, lines, onField, fields, lookUp, digitLimit, digits, leadingZero, value, numeral}
 use Rattle.spec.specs.Reading.{_>>=_, demand, seen, insist, wrongAfter, inRange, allInRange, withNumeral, numerals, ranged, numbers, form, outside, miscounted, faulty, passed, nextLine, readLine, readLines, begin, noneLeft, end}
 use Rattle.spec.specs.KnownPairs.{Pair, barred, _with_is_, found, Answered}
-use Rattle.spec.proofs.Texts.{_above_, joined, onClosed}
-use Rattle.spec.proofs.FreelockBefore.{itemLineFormerly, itemLinesFormerly, programFormerly, sheetsFormerly, checkedFormerly, verdictFormerly, freelockFirst, lockInstead, locksInstead}
+use Rattle.former.proofs.Texts.{_above_, joined, onClosed}
+use Rattle.former.proofs.FreelockBefore.{itemLineFormerly, itemLinesFormerly, programFormerly, sheetsFormerly, checkedFormerly, verdictFormerly, freelockFirst, lockInstead, locksInstead}
 
 -- a lock taken by the word w; with `freelock` each used to get the answer listed
 unfoldable pub frees : String → List Pair

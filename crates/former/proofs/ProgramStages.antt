@@ -2,12 +2,12 @@
 use mathlib.Core.Path.{_≡_}
 use mathlib.Core.List.{List, []}
 use Prim.Native.Nat.{ℕ, _+_}
 use Rattle.spec.specs.Text.{lines, Field, fields}
 use Rattle.spec.specs.Reading.{Out, on, _>>=_, programSheet, Seen, Place, passed, nextLine, readLine, readLines, begin, end}
 use Rattle.spec.specs.Expression.{Item, stepsAmong, structure, scopes}
 use Rattle.spec.specs.Program.{Counts, countLine, itemLines, Program, program}
 use Rattle.spec.specs.declared.ProgramHeading.{ProgramHeading}
-use Rattle.spec.proofs.Texts.{OneLine, _above_, above-lines}
+use Rattle.former.proofs.Texts.{OneLine, _above_, above-lines}
 
 -- behind the lines counted, and behind the header
 unfoldable pub afterItems : (k : ℕ) → List Item × Place → Out Program

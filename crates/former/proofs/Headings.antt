@@ -9,35 +9,29 @@ use Prim.Native.Nat.{ℕ, zero, suc, _≤_, _+_}
 use native.Mathlib.Omega.{arith}
 use lib.Dec.{leb}
 use lib.ListN.{length, replicate, length-append}
-use borrow.Author.Tests.{lt-ltb, le-leb, ne-eqb}
+use borrow.Author.Tests.{le-leb, ne-eqb}
 use Rattle.spec.specs.Choice.{if_then_else_}
 use Rattle.spec.specs.Text.{bytes, same, Line, closed, unclosed, lines, Field, onField, fields, lookUp}
-use Rattle.spec.specs.Reading.{splitSheet, Out, stop, on, _>>=_, demand, noStart, Seen, right, wrong, badRange, seen, insist, inRange, allInRange, numerals, ranged, numbers, faulty, passed, nextLine, readLine, readLines, begin, end, Place}
+use Rattle.spec.specs.Reading.{splitSheet, Out, stop, on, _>>=_, demand, noStart, Seen, right, wrong, badRange, seen, insist, allInRange, numerals, ranged, numbers, faulty, passed, nextLine, readLine, readLines, begin, end, Place}
 use Rattle.spec.specs.Expression.{Step}
 use Rattle.spec.specs.Words.{keepsBack}
 use Rattle.spec.specs.Program.{Program, programLimit, program}
 use Rattle.spec.specs.Split.{Map, Header, headings, headerRanges, mapsOf, mapsIn, startOf, headerOf, headed, headerLine, lockOf, outRange, typeLine, typeLines, mapLine, Signature, signatureLine, Row, startRange, mayBeEmpty, emptyFault, postRange, rowLine, Split, splitLimit, split}
 use Rattle.spec.specs.Workspace.{workspaceSize}
 use Rattle.spec.specs.Verdict.{checked, answer, verdict}
 use Rattle.spec.specs.declared.Heading.the-variants.{C, C2}
 use Rattle.spec.specs.declared.TypeLine.{TypeLine}
 use Rattle.spec.specs.declared.Refusal.the-variants.{ShortWorkspace, LongProgram, LongSplit, NoStart}
 use Rattle.spec.specs.declared.Answer.the-variants.{Refuse}
-use Rattle.spec.proofs.Texts.{OneLine, _above_, above-lines, fields-append}
+use Rattle.former.proofs.Texts.{OneLine, _above_, above-lines, fields-append}
 use Rattle.spec.proofs.Sheets.{sheets-then}
-use Rattle.spec.proofs.NoHeading.{headedAs, under, ruling, same-ruling}
-use Rattle.spec.proofs.Ranges.{seen-right}
+use Rattle.former.proofs.NoHeading.{headedAs, under, ruling, same-ruling}
+use Rattle.spec.proofs.Ranges.{seen-right, first-map-fits}
 use Rattle.spec.proofs.Starts.{never-empty}
-use Rattle.spec.proofs.ZeroField.{withZero, numerals-zero, one-line-append, not-ten}
+use Rattle.former.proofs.ZeroField.{withZero, numerals-zero, one-line-append, not-ten}
 use Rattle.spec.specs.declared.Purpose.the-variants.{Check}
 
 -- ------------------------------------------------------------------ the numbers of the header
-
--- map 0 is in its range wherever M is in its own
-pub first-map-fits : (d l t m : ℕ) → allInRange (headerRanges C m) (d ∷ l ∷ t ∷ m ∷ []) ≡ allInRange (headerRanges C2 m) (d ∷ l ∷ t ∷ m ∷ 0 ∷ [])
-unfolding headerRanges allInRange inRange
-first-map-fits d l t zero = refl
-first-map-fits d l t (suc m) = simp (lt-ltb 0 (suc m) (omega arith))
 
 -- four numerals are judged as those four and a 0; more or fewer are of the wrong form on both sheets
 judged : (o : Option (List ℕ))
