@@ -1,6 +1,7 @@
 pub mod KnownPairs
 pub mod Workspace
 pub mod Reasons
+pub mod Refusals
 pub mod Clashes
 pub mod Tests
 pub mod Ranges
