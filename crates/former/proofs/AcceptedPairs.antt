@@ -12,8 +12,8 @@ use Rattle.spec.specs.Conditions.{isInt, isRef, isLock, isTid, isSem, isRwlock,
 use Rattle.spec.specs.Sites.{sites, numbered, bodySites, judge, firstFalse}
 use Rattle.spec.specs.Workspace.{workspaceSize}
 use Rattle.spec.specs.Verdict.{takesEnough, allTakeEnough, locksTakeEnough, refuseOver, startAtMostOne, sheets, answer, four, returned}
-use Rattle.spec.specs.KnownPairs.{Pair, barred, _with_is_, P, S, Z, starred}
-use Rattle.spec.specs.EdgeConditions.{rows, varRows, ifRows, refRows, readRows, writeRows}
+use Rattle.spec.specs.Pairs.KnownPairs.{Pair, barred, _with_is_, P, S, Z, starred}
+use Rattle.spec.specs.Pairs.EdgeConditions.{rows, varRows, ifRows, refRows, readRows, writeRows}
 use Rattle.spec.specs.declared.Returned.{Returned}
 use Rattle.former.proofs.AcceptedBefore.{agreeBefore, containsBefore, conditionsBefore, procedureConditionsBefore, claimsBefore, claimsOfProcedureBefore, claimsOfProceduresBefore, claimsOfBefore, checkedBefore, verdictBefore}
 

@@ -13,11 +13,11 @@ use Rattle.spec.specs.Agreement.{code, sameMaps, sameTree, treeOf, trees, tree,
 use Rattle.spec.specs.Sites.{sites, numbered, claimsAt, claims, bodySites, claimsOfProcedure, claimsOfProcedures, claimsOf, judge, firstFalse}
 use Rattle.spec.specs.Workspace.{workspaceSize}
 use Rattle.spec.specs.Verdict.{takesEnough, allTakeEnough, locksTakeEnough, refuseOver, startAtMostOne, ruled, sheets, checked, answer, verdict, four, returned}
-use Rattle.spec.specs.EdgeConditions.{rows}
+use Rattle.spec.specs.Pairs.EdgeConditions.{rows}
 use Rattle.spec.specs.declared.Returned.{Returned}
 use Rattle.spec.specs.Text.{bytes, same, onLine, lines, onField, fields, lookUp, digitLimit, digits, leadingZero, value, numeral}
 use Rattle.spec.specs.Reading.{_>>=_, demand, seen, insist, wrongAfter, inRange, allInRange, withNumeral, numerals, ranged, numbers, form, outside, miscounted, faulty, passed, nextLine, readLine, readLines, begin, noneLeft, end}
-use Rattle.spec.specs.KnownPairs.{Pair, barred, _with_is_, found, Answered}
+use Rattle.spec.specs.Pairs.KnownPairs.{Pair, barred, _with_is_, found, Answered}
 use Rattle.former.proofs.Texts.{_above_, joined, onClosed}
 use Rattle.former.proofs.FreelockBefore.{itemLineFormerly, itemLinesFormerly, programFormerly, sheetsFormerly, checkedFormerly, verdictFormerly, freelockFirst, lockInstead, locksInstead}
 

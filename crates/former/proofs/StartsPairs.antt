@@ -14,9 +14,9 @@ use Rattle.spec.specs.Agreement.{code, sameMaps, sameTree, treeOf, trees, tree,
 use Rattle.spec.specs.Sites.{sites, numbered, claimsAt, claims, bodySites, claimsOfProcedure, claimsOfProcedures, claimsOf, judge, firstFalse}
 use Rattle.spec.specs.Workspace.{workspaceSize}
 use Rattle.spec.specs.Verdict.{takesEnough, allTakeEnough, locksTakeEnough, refuseOver, startAtMostOne, ruled, sheets, checked, answer, verdict, four, returned}
-use Rattle.spec.specs.KnownPairs.{Pair, barred, _with_is_, found, Answered, P, S}
-use Rattle.spec.specs.EdgeConditions.{rows}
-use Rattle.spec.specs.EdgeSpawns.{spawning, naming}
+use Rattle.spec.specs.Pairs.KnownPairs.{Pair, barred, _with_is_, found, Answered, P, S}
+use Rattle.spec.specs.Pairs.EdgeConditions.{rows}
+use Rattle.spec.specs.Pairs.EdgeSpawns.{spawning, naming}
 use Rattle.spec.specs.declared.Returned.{Returned}
 use Rattle.former.proofs.Texts.{onClosed}
 use Rattle.former.proofs.StartsBefore.{startLeft, rowLineFormerly, splitFormerly, sheetsFormerly, checkedFormerly, verdictFormerly, writeZero, kept, along, zerosBehind, zerosWritten}

@@ -13,14 +13,14 @@ use Rattle.spec.specs.Agreement.{code, sameMaps, sameTree, treeOf, trees
 use Rattle.spec.specs.Sites.{sites, numbered, claimsAt, claims, bodySites, claimsOfProcedure, claimsOfProcedures, claimsOf, judge, firstFalse}
 use Rattle.spec.specs.Workspace.{workspaceSize}
 use Rattle.spec.specs.Verdict.{takesEnough, allTakeEnough, locksTakeEnough, refuseOver, startAtMostOne, ruled, sheets, checked, answer, verdict, four, returned}
-use Rattle.spec.specs.KnownPairs.{barred, _with_is_, found, Answered, P, S, Z, starred}
-use Rattle.spec.specs.EdgeSheets.{countRows}
-use Rattle.spec.specs.EdgeConditions.{rows, intRows}
-use Rattle.spec.specs.EdgeRwlocks.{rwlockWords}
-use Rattle.spec.specs.EdgeProcedures.{procedureLines, procedureOrder, procedureScopes, under, signed, calling, keptRows, rootRows, parameterRows}
-use Rattle.spec.specs.EdgeFreelock.{freelockLines, freelockAmongLines, freelockEdges}
-use Rattle.spec.specs.EdgeLocks.{takesLessRows}
-use Rattle.spec.specs.EdgeSpawns.{spawning, plainly, naming, reading, spawnEdges}
+use Rattle.spec.specs.Pairs.KnownPairs.{barred, _with_is_, found, Answered, P, S, Z, starred}
+use Rattle.spec.specs.Pairs.EdgeSheets.{countRows}
+use Rattle.spec.specs.Pairs.EdgeConditions.{rows, intRows}
+use Rattle.spec.specs.Pairs.EdgeRwlocks.{rwlockWords}
+use Rattle.spec.specs.Pairs.EdgeProcedures.{procedureLines, procedureOrder, procedureScopes, under, signed, calling, keptRows, rootRows, parameterRows}
+use Rattle.spec.specs.Pairs.EdgeFreelock.{freelockLines, freelockAmongLines, freelockEdges}
+use Rattle.spec.specs.Pairs.EdgeLocks.{takesLessRows}
+use Rattle.spec.specs.Pairs.EdgeSpawns.{spawning, plainly, naming, reading, spawnEdges}
 
 pub starred-pairs : Answered starred
 unfolding bytes same onLine lines onField fields digitLimit digits leadingZero value numeral _>>=_ demand seen insist wrongAfter inRange allInRange withNumeral numerals ranged numbers form outside miscounted faulty passed nextLine readLine readLines begin noneLeft end size withParts listed lineOfItem stepsAmong leading breaksOff firstListed expression noLineLeft structure among scopeStep scope scopes programLimit firstNumber programHeadings countRanges proceduresOf countsOf counted countLine leafWords cellWords lockWords holdWords unaryWords binaryWords words wordsUnder calls lookUp leastValue largestValue valueRange stepOf wordLine procOf procLine itemLine itemLines program splitLimit headings headerRanges mapsOf mapsIn startOf headerOf headed headerLine refOf lockOf outRange tidOf semOf rwlockOf typeLine typeLines mapLine signatureOf signatureLine rowOf startGiven takesStart keepsBack startRange mayBeEmpty emptyFault postRange postField rowLine split lowest atLeast _=ᵐ_ _≥ᵐ_ nowhere sameNumbers _+ᵐ_ _×ᵐ_ share overWhole isInt isRef isLock isTid isSem isRwlock refLocation load inLoad outLoad readLoad writeLoad typeIn indexOf lineOf startMap typeAt mapAt code sameMaps sameTree treeOf trees tree agree contains looserLock mayShow row type kind post startOr bodyStart keptBack signature K inMap outMap readMap writeMap conditionsOf procedureConditions preOfPart preOfSecond role binding sites numbered claimsAt claims bodySites claimsOfProcedure claimsOfProcedures claimsOf judge firstFalse workspaceSize takesEnough allTakeEnough locksTakeEnough refuseOver startAtMostOne ruled sheets checked answer verdict four returned barred _with_is_ found Answered P S Z starred

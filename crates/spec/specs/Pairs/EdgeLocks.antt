@@ -3,7 +3,7 @@
 use mathlib.Core.List.{List, [], _∷_, _++_ as _++ₗ_}
 use Prim.Native.String.{String, _++_}
 use Rattle.spec.specs.Verdict.{four}
-use Rattle.spec.specs.KnownPairs.{Pair, _with_is_}
+use Rattle.spec.specs.Pairs.KnownPairs.{Pair, _with_is_}
 
 -- a split with D = 2 and maps 0, 1, 2 of 2, 1 and nothing. Lock types by in and out: 1 has 1 and 1, 2 nothing and 1, 3 1 and 2, 4 nothing
 -- and 2, 5 nothing and nothing, 6 2 and 2. Types 7 and 8 are refs to 1 and 2; 9 is a tid.

@@ -1,7 +1,7 @@
 -- Rows for 45, the word `freelock`. The answers are worked out by hand from documents 01 and 02.
 use mathlib.Core.List.{List, [], _∷_, _++_}
 use Rattle.spec.specs.Verdict.{four}
-use Rattle.spec.specs.KnownPairs.{Pair, _with_is_, Z}
+use Rattle.spec.specs.Pairs.KnownPairs.{Pair, _with_is_, Z}
 
 -- on its own line: after 11 and 12
 unfoldable pub freelockLines : List Pair

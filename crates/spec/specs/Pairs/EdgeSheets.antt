@@ -4,7 +4,7 @@ use mathlib.Core.List.{List, [], _∷_, _++_ as _++ₗ_}
 use Prim.Native.Nat.{ℕ, zero, suc}
 use Prim.Native.String.{String, [] as []ˢ, _++_}
 use Rattle.spec.specs.Verdict.{four}
-use Rattle.spec.specs.KnownPairs.{Pair, _with_is_, P, S, Z}
+use Rattle.spec.specs.Pairs.KnownPairs.{Pair, _with_is_, P, S, Z}
 
 -- a text n times over
 unfoldable pub times : ℕ → String → String

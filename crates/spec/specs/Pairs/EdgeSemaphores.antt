@@ -3,7 +3,7 @@
 use mathlib.Core.List.{List, [], _∷_, _++_ as _++ₗ_}
 use Prim.Native.String.{String, _++_}
 use Rattle.spec.specs.Verdict.{four}
-use Rattle.spec.specs.KnownPairs.{Pair, _with_is_, Z}
+use Rattle.spec.specs.Pairs.KnownPairs.{Pair, _with_is_, Z}
 
 -- a type of each kind, the semaphore being type 4 with the load of map 1; maps 0 to 3 hold 2, 1, 0 and 3
 unfoldable pub racked : String → String

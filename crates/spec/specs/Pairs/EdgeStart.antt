@@ -2,7 +2,7 @@
 use mathlib.Core.List.{List, [], _∷_, _++_ as _++ₗ_}
 use Prim.Native.String.{String, _++_}
 use Rattle.spec.specs.Verdict.{four}
-use Rattle.spec.specs.KnownPairs.{Pair, _with_is_}
+use Rattle.spec.specs.Pairs.KnownPairs.{Pair, _with_is_}
 
 -- a sheet with one type and two maps, for a program of one step; its header, its maps, the step's post
 unfoldable pub named : String → String → String → String

@@ -3,7 +3,7 @@
 use mathlib.Core.List.{List, [], _∷_, _++_ as _++ₗ_}
 use Prim.Native.String.{String, _++_}
 use Rattle.spec.specs.Verdict.{four}
-use Rattle.spec.specs.KnownPairs.{Pair, _with_is_, Z}
+use Rattle.spec.specs.Pairs.KnownPairs.{Pair, _with_is_, Z}
 
 -- a split with D = 2, one location, maps 0, 1, 2 of 2, 1 and nothing; types 0 int, 1 ref to int, 2 lock and 3 sem of 1, and rwlocks by r
 -- and w: 4 has 1 and 2, 5 2 and 1, 6 nothing and 2, 7 nothing and nothing

@@ -2,7 +2,7 @@
 use mathlib.Core.List.{List, [], _∷_}
 use Prim.Native.String.{String, _++_}
 use Rattle.spec.specs.Verdict.{four}
-use Rattle.spec.specs.KnownPairs.{Pair, _with_is_}
+use Rattle.spec.specs.Pairs.KnownPairs.{Pair, _with_is_}
 
 -- a body that starts with what the split says, and an identifier that carries nothing
 unfoldable pub spawning : String

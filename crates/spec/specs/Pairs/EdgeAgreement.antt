@@ -3,7 +3,7 @@
 use mathlib.Core.List.{List, [], _∷_, _++_ as _++ₗ_}
 use Prim.Native.String.{String, _++_}
 use Rattle.spec.specs.Verdict.{four}
-use Rattle.spec.specs.KnownPairs.{Pair, _with_is_}
+use Rattle.spec.specs.Pairs.KnownPairs.{Pair, _with_is_}
 
 -- a split with D = 2 and two locations. Maps 1 and 2 hold equal numbers, map 3 differs from them at the last location alone; maps
 -- 4 and 5 are what map 0 leaves after one new lock and after two. Types 0 and 1 are ints; 2, 3, 4 tids and 5, 6, 7 locks of maps

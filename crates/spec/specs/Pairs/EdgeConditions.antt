@@ -3,8 +3,8 @@ use mathlib.Core.List.{List, [], _∷_, _++_ as _++ₗ_}
 use Prim.Native.Nat.{ℕ, zero, suc}
 use Prim.Native.String.{String, [] as []ˢ, _++_}
 use Rattle.spec.specs.Verdict.{four}
-use Rattle.spec.specs.KnownPairs.{Pair, _with_is_}
-use Rattle.spec.specs.EdgeSheets.{times, of}
+use Rattle.spec.specs.Pairs.KnownPairs.{Pair, _with_is_}
+use Rattle.spec.specs.Pairs.EdgeSheets.{times, of}
 
 -- a split with D = 2, one location, types 0 int, 1 ref to int, 2 tid and 3 lock of one half, maps 0 to 3 of 2, 1, 0 and 3 halves
 unfoldable pub rows : String → String

@@ -4,8 +4,8 @@ use mathlib.Core.List.{List, [], _∷_, _++_ as _++ₗ_}
 use Prim.Native.Nat.{ℕ}
 use Prim.Native.String.{String, _++_}
 use Rattle.spec.specs.Verdict.{four}
-use Rattle.spec.specs.KnownPairs.{Pair, _with_is_, P, S, Z}
-use Rattle.spec.specs.EdgeSheets.{of}
+use Rattle.spec.specs.Pairs.KnownPairs.{Pair, _with_is_, P, S, Z}
+use Rattle.spec.specs.Pairs.EdgeSheets.{of}
 
 -- a spawn, for a whole of a billion parts; the identifier carries one part
 unfoldable pub parted : String → String → String

@@ -4,8 +4,8 @@ use mathlib.Core.List.{List, [], _∷_, _++_ as _++ₗ_}
 use Prim.Native.String.{String, _++_}
 use Rattle.spec.specs.Reading.{_>>=_}
 use Rattle.spec.specs.Verdict.{four, returned, answer, sheets, startAtMostOne, typed}
-use Rattle.spec.specs.KnownPairs.{Pair, barred, _with_is_, Z}
-use Rattle.spec.specs.EdgeSheets.{times}
+use Rattle.spec.specs.Pairs.KnownPairs.{Pair, barred, _with_is_, Z}
+use Rattle.spec.specs.Pairs.EdgeSheets.{times}
 use Rattle.spec.specs.declared.Returned.{Returned}
 use Rattle.spec.specs.declared.Purpose.the-variants.{Fill}
 
