@@ -8,12 +8,12 @@ use Rattle.fill_theory.specs.declared.Effect.{Effect}
 use Rattle.fill_theory.specs.Found.{_>>=_, demand}
 use Rattle.fill_theory.specs.Flow.{taking}
 use Rattle.fill_theory.specs.Pass.{forth, turn}
+use Rattle.ways.specs.declared.UnaryWay.{UnaryWay}
+use Rattle.ways.specs.declared.UnaryWay.the-variants.{Loop, Call}
+use Rattle.ways.specs.declared.BinaryWay.{BinaryWay}
+use Rattle.ways.specs.declared.BinaryWay.the-variants.{Fork}
 use Rattle.pass.specs.declared.Found.{Found}
 use Rattle.pass.specs.declared.Found.the-variants.{Number, Nothing}
-use Rattle.pass.specs.declared.UnaryWay.{UnaryWay}
-use Rattle.pass.specs.declared.UnaryWay.the-variants.{Loop, Call}
-use Rattle.pass.specs.declared.BinaryWay.{BinaryWay}
-use Rattle.pass.specs.declared.BinaryWay.the-variants.{Fork}
 use Rattle.pass.specs.Passed.{asFound, afterUnary, afterBinary}
 
 module _ (E : Effect) (before : ℕ) where

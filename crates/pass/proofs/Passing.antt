@@ -14,14 +14,14 @@ use Rattle.fill_theory.specs.Pass.{turn, ownPost, pass}
 use Rattle.fill_theory.specs.Found.{_>>=_}
 use Rattle.fill_theory.proofs.Found.{finds-bind}
 use Rattle.fill_theory.proofs.Pass.{pass-length, steps-positive}
-use Rattle.pass.specs.declared.Column.{Column}
+use Rattle.ways.specs.declared.Column.{Column}
+use Rattle.ways.specs.declared.Way.the-variants.{Leaf, Unary, Binary}
+use Rattle.ways.specs.declared.UnaryWay.{UnaryWay}
+use Rattle.ways.specs.declared.BinaryWay.{BinaryWay}
+use Rattle.ways.specs.Ways.{wayIn}
+use Rattle.ways.specs.Shows.{unaryFlow, binaryFlow, endIn, Shows}
 use Rattle.pass.specs.declared.Found.{Found}
 use Rattle.pass.specs.declared.Found.the-variants.{Number, Nothing}
-use Rattle.pass.specs.declared.Way.the-variants.{Leaf, Unary, Binary}
-use Rattle.pass.specs.declared.UnaryWay.{UnaryWay}
-use Rattle.pass.specs.declared.BinaryWay.{BinaryWay}
-use Rattle.pass.specs.Ways.{wayIn}
-use Rattle.pass.specs.Shows.{unaryFlow, binaryFlow, endIn, Shows}
 use Rattle.pass.specs.Bounds.{top, partCap, lastCap, capsOf}
 use Rattle.pass.specs.Passed.{asFound, partPre, afterUnary, secondPre, afterBinary, settled, Answers, Passed}
 use Rattle.pass.proofs.Answers.{found-number, found-nothing, settle-answers, settled-changed}

@@ -6,12 +6,12 @@ use lib.ListN.{length, getD}
 use Rattle.workspace.specs.Region.{Region, ChangedWithin}
 use Rattle.fill_theory.specs.Flow.{taking, Flow, alone, after, inTurn, branch, loop, fork, call, steps}
 use Rattle.fill_theory.specs.Pass.{forth, back, ceiling, reach}
-use Rattle.pass.specs.declared.Column.{Column}
-use Rattle.pass.specs.declared.UnaryWay.{UnaryWay}
-use Rattle.pass.specs.declared.UnaryWay.the-variants.{After, Loop, Call}
-use Rattle.pass.specs.declared.BinaryWay.{BinaryWay}
-use Rattle.pass.specs.declared.BinaryWay.the-variants.{InTurn, Branch, Fork}
-use Rattle.pass.specs.Shows.{Shows}
+use Rattle.ways.specs.declared.Column.{Column}
+use Rattle.ways.specs.declared.UnaryWay.{UnaryWay}
+use Rattle.ways.specs.declared.UnaryWay.the-variants.{After, Loop, Call}
+use Rattle.ways.specs.declared.BinaryWay.{BinaryWay}
+use Rattle.ways.specs.declared.BinaryWay.the-variants.{InTurn, Branch, Fork}
+use Rattle.ways.specs.Shows.{Shows}
 
 -- no bound: 2^62, more than any post can be
 unfoldable pub top : ℕ

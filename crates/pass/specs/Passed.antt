@@ -9,14 +9,14 @@ use Rattle.workspace.specs.Region.{Region, ChangedWithin}
 use Rattle.fill_theory.specs.Found.{_>>=_, demand}
 use Rattle.fill_theory.specs.Flow.{taking, Flow, steps}
 use Rattle.fill_theory.specs.Pass.{turn, ownPost, pass, greatestPosts}
-use Rattle.pass.specs.declared.Column.{Column}
+use Rattle.ways.specs.declared.Column.{Column}
+use Rattle.ways.specs.declared.UnaryWay.{UnaryWay}
+use Rattle.ways.specs.declared.UnaryWay.the-variants.{After, Loop, Call}
+use Rattle.ways.specs.declared.BinaryWay.{BinaryWay}
+use Rattle.ways.specs.declared.BinaryWay.the-variants.{InTurn, Branch, Fork}
+use Rattle.ways.specs.Shows.{Shows}
 use Rattle.pass.specs.declared.Found.{Found}
 use Rattle.pass.specs.declared.Found.the-variants.{Number, Nothing}
-use Rattle.pass.specs.declared.UnaryWay.{UnaryWay}
-use Rattle.pass.specs.declared.UnaryWay.the-variants.{After, Loop, Call}
-use Rattle.pass.specs.declared.BinaryWay.{BinaryWay}
-use Rattle.pass.specs.declared.BinaryWay.the-variants.{InTurn, Branch, Fork}
-use Rattle.pass.specs.Shows.{Shows}
 use Rattle.pass.specs.Bounds.{top, capsOf, Bounded}
 
 abbrev pub asFound : Option ℕ → Found

@@ -1,9 +1,9 @@
 // The arithmetic of the bounds: from the most that the post of a step may be to those of its parts, and from what its parts can start
 // with to what it can.
-use super::BinaryWay;
-use super::UnaryWay;
-use super::ways::taking;
 use fill_theory::Effect;
+use ways::BinaryWay;
+use ways::UnaryWay;
+use ways::taking;
 ghost use mathlib.Core.Path.{_≡_};
 ghost use Prim.Native.Nat.{_<_, min};
 ghost use lib.ListN.{length, getD};

@@ -1,8 +1,5 @@
 // The most that the post of each step may be: parts behind a step are looked at before it, so that it calls itself for the second part
 // first.
-use super::Column;
-use super::UnaryWay;
-use super::Way;
 use super::bounds::TOP;
 use super::bounds::back;
 use super::bounds::binary_ceiling;
@@ -13,7 +10,10 @@ use super::bounds::part_cap;
 use super::bounds::unary_ceiling;
 use super::reach::reach_step;
 use super::steps::second_in;
-use super::ways::way_in;
+use ways::Column;
+use ways::UnaryWay;
+use ways::Way;
+use ways::way_in;
 ghost use Rattle.pass.specs.Bounds.{PartBounded, OwnCap, Cappable, Capped};
 
 // The most that step k may leave, if it is to leave at most c and its part may start with at most `first`: a loop leaves no more than

@@ -1,10 +1,10 @@
 // From the numbers that the parts of a step leave to the number after it. Numbers are below 2^63, so that nothing wraps.
-use super::BinaryWay;
 use super::Found;
-use super::UnaryWay;
 use super::bounds::least;
-use super::ways::taking;
 use fill_theory::Effect;
+use ways::BinaryWay;
+use ways::UnaryWay;
+use ways::taking;
 ghost use mathlib.Core.Path.{_≡_};
 ghost use Prim.Native.Nat.{_<_};
 ghost use Rattle.fill_theory.specs.Pass.{turn};

@@ -6,6 +6,7 @@ use Prim.Native.Nat.{ℕ, _<_, _-_}
 use borrow.Author.Needs.{needs}
 use borrow.Fn.Kinds.{In}
 use borrow.Fn.PlainCycle.{Measures, is, falls, and}
+use Rattle.ways.proofs.way_in.Reads as way-in-reads
 use Rattle.pass.proofs.steps.pass_step.Reads as pass-step
 use Rattle.pass.proofs.steps.pass_step.Kinds as pass-step-kinds
 use Rattle.pass.proofs.steps.+pass_step.Lts-pass_step as pass-step-lts
@@ -17,7 +18,6 @@ use Rattle.pass.proofs.turns.after_unary.Reads as after-unary-reads
 use Rattle.pass.proofs.turns.part_pre.Reads as part-pre-reads
 use Rattle.pass.proofs.turns.second_pre.Reads as second-pre-reads
 use Rattle.pass.proofs.turns.turn.Reads as turn-reads
-use Rattle.pass.proofs.ways.way_in.Reads as way-in-reads
 use Rattle.pass.proofs.steps.+pass_step.{statement}
 use Rattle.pass.proofs.steps.+pass_step.Tie.{close}
 use Rattle.pass.proofs.Passing.{leaf-passed, unary-nothing, unary-passed, first-nothing, second-nothing, binary-passed}
