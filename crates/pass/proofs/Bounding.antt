@@ -19,8 +19,9 @@ use Rattle.ways.specs.declared.BinaryWay.{BinaryWay}
 use Rattle.ways.specs.Ways.{wayIn}
 use Rattle.ways.specs.Shows.{endIn, Shows}
 use Rattle.ways.proofs.Light.{way-light}
-use Rattle.pass.specs.Bounds.{top, partCap, lastCap, firstCap, unaryCap, unaryCeiling, binaryCeiling, unaryReach, binaryReach, capsOf, Room, Reached, PartBounded, OwnCap, Cappable, Capped}
-use Rattle.pass.specs.Passed.{secondPre}
+use Rattle.turns.specs.Bounds.{top, partCap, lastCap, firstCap, unaryCap, unaryCeiling, binaryCeiling, unaryReach, binaryReach}
+use Rattle.turns.specs.Turns.{secondPre}
+use Rattle.pass.specs.Bounds.{capsOf, Room, Reached, PartBounded, OwnCap, Cappable, Capped}
 use Rattle.pass.proofs.Parts.{unary-steps, binary-steps, leaf-parts, unary-parts, binary-parts, ownCapOf, firstCapOf, caps-unary, caps-binary, ceiling-unary, ceiling-binary, reach-unary, reach-binary, caps-length, unary-cap, part-caps, binary-cap, first-caps, last-caps}
 use Rattle.pass.proofs.Room.{part-cap-room, last-cap-room, first-cap-room, top-room, ceiling-room}
 

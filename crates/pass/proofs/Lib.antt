@@ -1,4 +1,3 @@
-pub mod AfterParts
 pub mod Answers
 pub mod Parts
 pub mod Room

@@ -22,8 +22,9 @@ use Rattle.ways.specs.declared.BinaryWay.{BinaryWay}
 use Rattle.ways.specs.declared.BinaryWay.the-variants.{InTurn, Branch, Fork}
 use Rattle.ways.specs.Ways.{wayIn}
 use Rattle.ways.specs.Shows.{unaryFlow, binaryFlow, endIn, Shows, leafShown, unaryShown, binaryShown}
-use Rattle.pass.specs.Bounds.{top, partCap, lastCap, firstCap, unaryCap, unaryCeiling, binaryCeiling, unaryReach, binaryReach, capsOf}
-use Rattle.pass.specs.Passed.{partPre, afterUnary, secondPre, afterBinary}
+use Rattle.turns.specs.Bounds.{top, partCap, lastCap, firstCap, unaryCap, unaryCeiling, binaryCeiling, unaryReach, binaryReach}
+use Rattle.turns.specs.Turns.{partPre, afterUnary, secondPre, afterBinary}
+use Rattle.pass.specs.Bounds.{capsOf}
 
 -- ------------------------------------------------------------------ the parts that are shown
 

@@ -15,10 +15,12 @@ use Rattle.ways.specs.declared.BinaryWay.{BinaryWay}
 use Rattle.ways.specs.Ways.{wayIn}
 use Rattle.ways.specs.Shows.{endIn}
 use Rattle.ways.proofs.Light.{way-light}
-use Rattle.pass.specs.declared.Found.{Found}
-use Rattle.pass.specs.declared.Found.the-variants.{Number}
-use Rattle.pass.specs.Bounds.{top, partCap, lastCap, Room, Bounded, Reached}
-use Rattle.pass.specs.Passed.{partPre, secondPre, Ready, Passed}
+use Rattle.turns.specs.declared.Found.{Found}
+use Rattle.turns.specs.declared.Found.the-variants.{Number}
+use Rattle.turns.specs.Bounds.{top, partCap, lastCap}
+use Rattle.turns.specs.Turns.{partPre, secondPre}
+use Rattle.pass.specs.Bounds.{Room, Bounded, Reached}
+use Rattle.pass.specs.Passed.{Ready, Passed}
 use Rattle.pass.proofs.Answers.{found-number}
 use Rattle.pass.proofs.Parts.{unary-steps, binary-steps, unary-parts, binary-parts, firstCapOf, caps-stored, part-caps, first-caps, last-caps}
 use Rattle.pass.proofs.Room.{second-pre-room, reach-room}

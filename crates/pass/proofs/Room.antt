@@ -15,8 +15,9 @@ use Rattle.ways.specs.declared.BinaryWay.{BinaryWay}
 use Rattle.ways.specs.declared.BinaryWay.the-variants.{InTurn, Branch, Fork}
 use Rattle.ways.specs.Shows.{unaryFlow, binaryFlow, Shows, leafShown, unaryShown, binaryShown}
 use Rattle.ways.proofs.Light.{moved, Light, way-light}
-use Rattle.pass.specs.Bounds.{top, partCap, lastCap, firstCap, unaryCeiling, binaryCeiling, unaryReach, binaryReach, Room}
-use Rattle.pass.specs.Passed.{secondPre}
+use Rattle.turns.specs.Bounds.{top, partCap, lastCap, firstCap, unaryCeiling, binaryCeiling, unaryReach, binaryReach}
+use Rattle.turns.specs.Turns.{secondPre}
+use Rattle.pass.specs.Bounds.{Room}
 use Rattle.pass.proofs.Parts.{unary-steps, binary-steps, ownCapOf, firstCapOf, ceiling-unary, ceiling-binary, reach-unary, reach-binary}
 
 -- ------------------------------------------------------------------ by the way of a step

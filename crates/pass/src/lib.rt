@@ -1,22 +1,14 @@
 // The pass of filling at one location, request (viii): the greatest posts of all steps there, from what the work space holds of a
 // program and a split.
-mod bounds;
 mod caps;
 mod reach;
 mod roots;
 mod steps;
-mod turns;
 
 use roots::fill_roots;
 use spec::MapNumber;
 use ways::Column;
 ghost use Rattle.pass.specs.Contract.{ColumnReady, FilledHere};
-
-// The number after a step, or that there is none.
-enum Found {
-    Number(u64),
-    Nothing,
-}
 
 // The number of procedures of the sheets, and the map before the root.
 pub struct Given {

@@ -1,10 +1,10 @@
 // What a step can leave at most. A loop's cap knows what its part can leave, so that no step is looked at twice.
-use super::bounds::binary_reach;
-use super::bounds::cap_at;
-use super::bounds::forth;
-use super::bounds::least;
+use super::caps::cap_at;
 use super::steps::second_in;
-use super::turns::second_pre;
+use turns::bounds::binary_reach;
+use turns::bounds::forth;
+use turns::bounds::least;
+use turns::second_pre;
 use ways::Column;
 use ways::UnaryWay;
 use ways::Way;

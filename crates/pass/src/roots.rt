@@ -1,9 +1,9 @@
 // Roots: steps that start by themselves, with a number that is given. They are the bodies of procedures and the root of the program.
-use super::Found;
 use super::Given;
-use super::bounds::TOP;
 use super::caps::cap_step;
 use super::steps::pass_step;
+use turns::Found;
+use turns::bounds::TOP;
 use ways::Column;
 use ways::after_in;
 use ways::before_in;

@@ -1,11 +1,11 @@
 // The pass: from the number before a step to the number after it. Parts come before their step, so it calls itself for each part.
-use super::Found;
-use super::bounds::cap_at;
-use super::turns::after_binary;
-use super::turns::after_unary;
-use super::turns::part_pre;
-use super::turns::second_pre;
-use super::turns::turn;
+use super::caps::cap_at;
+use turns::Found;
+use turns::after_binary;
+use turns::after_unary;
+use turns::part_pre;
+use turns::second_pre;
+use turns::turn;
 use ways::Column;
 use ways::Way;
 use ways::way_in;
