@@ -90,10 +90,10 @@ pub fn agree(work: &[u32], locations: u32, a: TypeNumber, b: TypeNumber) -> bool
         return true;
     }
     let kind = type_at(work, a);
-    let other = type_at(work, b);
     let TypeLine::Ref(p, c) = kind else {
-        return agree_plain(work, locations, kind, other);
+        return agree_plain(work, locations, kind, type_at(work, b));
     };
+    let other = type_at(work, b);
     let TypeLine::Ref(q, d) = other else {
         return false;
     };
