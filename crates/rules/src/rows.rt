@@ -6,7 +6,7 @@ use super::flows::equal;
 use super::flows::sum;
 use conditions::Relation;
 use conditions::Ruling;
-use conditions::agree;
+use conditions::agrees;
 use conditions::also;
 use conditions::flow;
 use conditions::has;
@@ -41,7 +41,7 @@ pub fn check_int(work: &[u32], s: View, kind: TypeLine) -> Ruling
 pub fn check_let(work: &[u32], s: View) -> Ruling
     ensures { λ r. ⌜ outcome r ≡ firstFalseFrom (s .line) 1 (letRow (now (work .entry)) s) ⌝ }
 {
-    if !agree(work, s.locations, s.typed, s.type2) {
+    if !agrees(work, s.locations, s.typed, s.type2) {
         return type_false(s.line, 1);
     }
     equal(work, s, 2, s.post, s.post2)
@@ -51,10 +51,10 @@ pub fn check_let(work: &[u32], s: View) -> Ruling
 pub fn check_if(work: &[u32], s: View) -> Ruling
     ensures { λ r. ⌜ outcome r ≡ firstFalseFrom (s .line) 1 (ifRow (now (work .entry)) s) ⌝ }
 {
-    if !agree(work, s.locations, s.typed, s.type1) {
+    if !agrees(work, s.locations, s.typed, s.type1) {
         return type_false(s.line, 1);
     }
-    if !agree(work, s.locations, s.typed, s.type2) {
+    if !agrees(work, s.locations, s.typed, s.type2) {
         return type_false(s.line, 2);
     }
     also(
@@ -110,7 +110,7 @@ pub fn check_ref(work: &[u32], s: View, kind: TypeLine) -> Ruling
     let TypeLine::Ref(_, content) = kind else {
         return type_false(s.line, 1);
     };
-    if !agree(work, s.locations, content, s.type1) {
+    if !agrees(work, s.locations, content, s.type1) {
         return type_false(s.line, 1);
     }
     equal(work, s, 2, s.post, s.post1)
@@ -126,7 +126,7 @@ pub fn check_write(work: &[u32], s: View, kind: TypeLine, kind1: TypeLine) -> Ru
     let TypeLine::Ref(p, content) = kind1 else {
         return type_false(s.line, 2);
     };
-    if !agree(work, s.locations, content, s.type2) {
+    if !agrees(work, s.locations, content, s.type2) {
         return type_false(s.line, 3);
     }
     also(
@@ -142,7 +142,7 @@ pub fn check_read(work: &[u32], s: View, kind1: TypeLine) -> Ruling
     let TypeLine::Ref(p, content) = kind1 else {
         return type_false(s.line, 1);
     };
-    if !agree(work, s.locations, content, s.typed) {
+    if !agrees(work, s.locations, content, s.typed) {
         return type_false(s.line, 2);
     }
     also(
@@ -195,10 +195,10 @@ pub fn check_call(work: &[u32], s: View) -> Ruling
     ensures { λ r. ⌜ outcome r ≡ firstFalseFrom (s .line) 1 (callRow (now (work .entry)) s) ⌝ }
 {
     let g = s.signature;
-    if !agree(work, s.locations, s.typed, g.result) {
+    if !agrees(work, s.locations, s.typed, g.result) {
         return type_false(s.line, 1);
     }
-    if !agree(work, s.locations, s.type1, g.argument) {
+    if !agrees(work, s.locations, s.type1, g.argument) {
         return type_false(s.line, 2);
     }
     also(
