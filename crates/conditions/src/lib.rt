@@ -7,7 +7,7 @@ pub use locks::check_locks;
 use spec::Location;
 use spec::MapNumber;
 use spec::Refusal;
-pub use types::agree;
+pub use types::agrees;
 pub use types::may_show;
 use workspace::index;
 use workspace::map_cell;

@@ -83,17 +83,17 @@ fn agree_plain(work: &[u32], locations: u32, kind: TypeLine, other: TypeLine) ->
 // Two types agree when their kinds agree and their maps hold equal numbers; refs have the same location, and their contents
 // are compared the same way. A type agrees with itself at once, which is what most that are asked come to. A content's number
 // is smaller than its ref's in every sheet; where it is not, nothing agrees.
-pub fn agree(work: &[u32], locations: u32, a: TypeNumber, b: TypeNumber) -> bool
-    ensures { λ ok. ⌜ ok ≡ agreeIn (now (work .entry)) locations a b ⌝ }
+fn agree(work: &&[u32], locations: u32, a: TypeNumber, b: TypeNumber) -> bool
+    ensures { λ ok. ⌜ ok ≡ agreeIn (now (now (work .entry))) locations a b ⌝ }
 {
     if a.0 == b.0 {
         return true;
     }
-    let kind = type_at(work, a);
-    let other = type_at(work, b);
+    let kind = type_at(*work, a);
     let TypeLine::Ref(p, c) = kind else {
-        return agree_plain(work, locations, kind, other);
+        return agree_plain(*work, locations, kind, type_at(*work, b));
     };
+    let other = type_at(*work, b);
     let TypeLine::Ref(q, d) = other else {
         return false;
     };
@@ -106,16 +106,23 @@ pub fn agree(work: &[u32], locations: u32, a: TypeNumber, b: TypeNumber) -> bool
     agree(work, locations, c, d)
 }
 
+// Whether two types agree. The work space is lent once more, by its address, so that a level hands on no copy.
+pub fn agrees(work: &[u32], locations: u32, a: TypeNumber, b: TypeNumber) -> bool
+    ensures { λ ok. ⌜ ok ≡ agreeIn (now (work .entry)) locations a b ⌝ }
+{
+    agree(&work, locations, a, b)
+}
+
 // What a var line may show of the type of its let's value: a lock type whose in is nowhere above and whose out is nowhere below; else
 // a type that agrees.
 pub fn may_show(work: &[u32], locations: u32, shown: TypeNumber, own: TypeNumber) -> bool
     ensures { λ ok. ⌜ ok ≡ mayShowIn (now (work .entry)) locations shown own ⌝ }
 {
     let TypeLine::Lock(i, o) = type_at(work, shown) else {
-        return agree(work, locations, shown, own);
+        return agrees(work, locations, shown, own);
     };
     let TypeLine::Lock(j, p) = type_at(work, own) else {
-        return agree(work, locations, shown, own);
+        return agrees(work, locations, shown, own);
     };
     both_everywhere(
         work,

@@ -10,38 +10,50 @@ use Rattle.spec.specs.Choice.{if_then_else_}
 use Rattle.spec.specs.Text.{same, lines, Field}
 use Rattle.spec.specs.Reading.{programSheet, stop, Seen, right, wrong, badForm, badRange, Range, inRange, allInRange, numerals, ranged, numbers, form, passed, nextLine}
 use Rattle.spec.specs.declared.Refusal.the-variants.{ProgramForm}
-use Rattle.lexer.specs.Views.{firstField, textEnded}
+use Rattle.lexer.specs.Views.{firstField, lineAt, textEnded}
 use Rattle.lexer.specs.Cursors.{Placed, rest, spanAt}
-use Rattle.lexer.specs.Numbers.{NumbersRead, numbersAt}
+use Rattle.lexer.specs.Numbers.{NumbersRead, numberAt, numbersIn, numbersAt, stored}
 use Rattle.lexer.specs.declared.Cursor.{Cursor}
 use Rattle.lexer.specs.declared.Span.{Span}
 use Rattle.lexer.specs.declared.FieldEnd.{FieldEnd}
 use Rattle.lexer.specs.declared.FieldEnd.the-variants.{Comma, Newline, Text}
+use Rattle.lexer.specs.declared.Number.the-variants as number-is
 use Rattle.lexer.specs.declared.Numbers.{Numbers}
 use Rattle.lexer.specs.declared.Numbers.the-variants as numbers-are
+use Rattle.lexer.proofs.LineNumbers.{ahead, ahead-none, many-counted, all-counted, stop-malformed, stop-text, after-comma, after-newline}
 use Rattle.lexer.proofs.LineEnds.{LineRead, numbers-none, numbers-read}
 use Rattle.lexer.proofs.Places.{span-field}
-use Rattle.lexer.proofs.Walks.{span-end, span-line-kept, span-comma, left-some, first-alone}
+use Rattle.lexer.proofs.Walks.{number-placed, number-line-passed, span-end, span-line-kept, span-comma, left-some, first-alone}
 use Rattle.lexer.proofs.Stored.{Narrow, AllNarrow}
 use Rattle.lexer.proofs.Ranges.{tail-form, tail-read}
 use Rattle.program_lines.specs.Lines.{TailShown, PairShown}
 use Rattle.program_lines.specs.declared.tails.Tail.the-variants.{Value, Malformed}
 use Rattle.program_lines.specs.declared.tails.Pair.the-variants as pair
 
-single-entry : (xs : List ℕ) → length xs ≡ 1 → xs ≡ getD xs 0 0 ∷ []
-single-entry [] h = absurd (omega arith)
-single-entry (x ∷ []) h = refl
-single-entry (x ∷ y ∷ xs) h = absurd (omega arith)
+module _ (text : List ℕ) (c : Cursor) (e : FieldEnd) where
+  all-ahead : numbersIn (lineAt (rest text c)) ≡ ahead [] (numbersIn (lineAt (rest text c)))
+  all-ahead = sym (ahead-none (numbersIn (lineAt (rest text c))))
 
-module _ (text : List ℕ) (c : Cursor) (before after : List ℕ) (answer : Numbers) (e : FieldEnd)
-    (x : NumbersRead text c before after answer) (whole : length before ≡ 1) where
-  pub tail-read-one : (d : Cursor) → e ≡ Comma → Placed text c → answer ≡ numbers-are.Read d → TailShown text c e (Value (getD after 0 0) d)
-  tail-read-one d comma p a =
-      let y : LineRead text c 1 after d = numbers-read x 1 whole p a in
-      (comma, y .numbers ∙ ap (λ ns. some (ns, rest text d)) (single-entry after (y .long)), y .placed, y .line)
+  pub tail-no-number : numberAt text c ≡ number-is.Malformed → TailShown text c e Malformed
+  tail-no-number h comma = stop-malformed text c c [] all-ahead 1 h
 
-  pub tail-read-none : answer ≡ numbers-are.Malformed → TailShown text c e Malformed
-  tail-read-none a comma = numbers-none x 1 whole a .0
+  module _ (n : ℕ) (l : FieldEnd) (d : Cursor) (h : numberAt text c ≡ number-is.Value n l d) where
+    -- the number ends the line, another one follows, nothing closes the line
+    pub tail-ends : Placed text c → e ≡ Comma → l ≡ Newline → (v : ℕ) → v ≡ stored n → TailShown text c e (Value v d)
+    tail-ends p comma newline v s = (
+      comma,
+      rw s (all-counted text c 1 (stored n ∷ []) (rest text d) (after-newline text c c [] all-ahead n l d h p newline) refl),
+      number-placed text c n l d h p,
+      number-line-passed text c n l d h newline,
+    )
+
+    pub tail-goes-on : Placed text c → l ≡ Comma → TailShown text c e Malformed
+    tail-goes-on p more comma =
+        let one : length (stored n ∷ []) ≡ 1 = refl in
+        many-counted text c 1 (stored n ∷ []) (rest text d) (after-comma text c c [] all-ahead n l d h p more) (omega arith)
+
+    pub tail-open : l ≡ Text → TailShown text c e Malformed
+    tail-open text-ends comma = stop-text text c c [] all-ahead n l d h 1 text-ends
 
 double-entry : (xs : List ℕ) → length xs ≡ 2 → xs ≡ getD xs 0 0 ∷ getD xs 1 0 ∷ []
 double-entry [] h = absurd (omega arith)

@@ -1,6 +1,7 @@
 // The numbers behind the first field of a line of a program sheet.
 use lexer::Cursor;
 use lexer::FieldEnd;
+use lexer::Number;
 use lexer::Numbers;
 ghost use Rattle.lexer.specs.Cursors.{Placed};
 ghost use Rattle.program_lines.specs.Lines.{TailShown, PairShown};
@@ -20,10 +21,14 @@ pub fn last_number(text: &[u8], end: FieldEnd, next: Cursor) -> Tail
     let FieldEnd::Comma = end else {
         return Tail::Malformed;
     };
-    let mut number = [0u32; 1];
-    match next.numbers(text, &mut number) {
-        Numbers::Read(behind) => Tail::Value(number[0], behind),
-        Numbers::Malformed => Tail::Malformed,
+    let found = next.number(text);
+    let Number::Value(n, last, behind) = found else {
+        return Tail::Malformed;
+    };
+    match last {
+        FieldEnd::Newline => Tail::Value(lexer::narrow(n), behind),
+        FieldEnd::Comma => Tail::Malformed,
+        FieldEnd::Text => Tail::Malformed,
     }
 }
 

@@ -30,49 +30,56 @@ loaded w s kind fits less load more =
 
 -- ------------------------------------------------------------------ the rows, in the printed order
 
-abbrev pub TableRow : Type 0
-TableRow = (w : List ℕ) → View → (kind kind₁ : TypeLine) → List Condition
+-- what a rule asks of the work space and of a view, with the type lines that it looks at: of the step, of its first part
+abbrev pub PlainRow : Type 0
+PlainRow = (w : List ℕ) → View → List Condition
 
-abbrev pub varRow : TableRow
-varRow w s kind kind₁ =
+abbrev pub KindRow : Type 0
+KindRow = (w : List ℕ) → View → TypeLine → List Condition
+
+abbrev pub KindsRow : Type 0
+KindsRow = (w : List ℕ) → View → (kind kind₁ : TypeLine) → List Condition
+
+abbrev pub varRow : PlainRow
+varRow w s =
     T (mayShowIn w (s .locations) (s .typed) (s .bound))
     ∷ flows w s (Equal (s .post) (s .pre))
     ∷ []
 
-abbrev pub intRow : TableRow
-intRow w s kind kind₁ =
+abbrev pub intRow : KindRow
+intRow w s kind =
     T (isInt kind)
     ∷ flows w s (Equal (s .post) (s .pre))
     ∷ []
 
-abbrev pub letRow : TableRow
-letRow w s kind kind₁ =
+abbrev pub letRow : PlainRow
+letRow w s =
     T (agreeIn w (s .locations) (s .typed) (s .type2))
     ∷ flows w s (Equal (s .post) (s .post2))
     ∷ []
 
-abbrev pub ifRow : TableRow
-ifRow w s kind kind₁ =
+abbrev pub ifRow : PlainRow
+ifRow w s =
     T (agreeIn w (s .locations) (s .typed) (s .type1))
     ∷ T (agreeIn w (s .locations) (s .typed) (s .type2))
     ∷ flows w s (AtLeast (s .post1) (s .post))
     ∷ flows w s (AtLeast (s .post2) (s .post))
     ∷ []
 
-abbrev pub whileRow : TableRow
-whileRow w s kind kind₁ =
+abbrev pub whileRow : KindRow
+whileRow w s kind =
     T (isInt kind)
     ∷ flows w s (AtLeast (s .pre) (s .post))
     ∷ flows w s (AtLeast (s .post1) (s .post))
     ∷ []
 
-abbrev pub newtRow : TableRow
-newtRow w s kind kind₁ =
+abbrev pub newtRow : KindRow
+newtRow w s kind =
     T (isTid kind)
     ∷ flows w s (Equal (s .post) (s .pre))
     ∷ []
 
-abbrev pub spawnRow : TableRow
+abbrev pub spawnRow : KindsRow
 spawnRow w s kind kind₁ =
     T (isInt kind)
     ∷ T (isTid kind₁)
@@ -80,16 +87,16 @@ spawnRow w s kind kind₁ =
     ∷ flows w s (Sum (s .post) (s .start) (s .post1))
     ∷ []
 
-abbrev pub joinRow : TableRow
+abbrev pub joinRow : KindsRow
 joinRow w s kind kind₁ = loaded w s kind (isTid kind₁) (s .post1) (load kind₁) (s .post)
 
-abbrev pub refRow : TableRow
-refRow w s kind kind₁ =
+abbrev pub refRow : KindRow
+refRow w s kind =
     T (containsIn w (s .locations) kind (s .type1))
     ∷ flows w s (Equal (s .post) (s .post1))
     ∷ []
 
-abbrev pub writeRow : TableRow
+abbrev pub writeRow : KindsRow
 writeRow w s kind kind₁ =
     T (isInt kind)
     ∷ T (isRef kind₁)
@@ -98,92 +105,92 @@ writeRow w s kind kind₁ =
     ∷ hasAtLeast w (s .post) (refLocation kind₁) (s .denominator)
     ∷ []
 
-abbrev pub readRow : TableRow
-readRow w s kind kind₁ =
+abbrev pub readRow : KindRow
+readRow w s kind₁ =
     T (isRef kind₁)
     ∷ T (containsIn w (s .locations) kind₁ (s .typed))
     ∷ flows w s (Equal (s .post) (s .post1))
     ∷ hasAtLeast w (s .post) (refLocation kind₁) 1
     ∷ []
 
-abbrev pub newlRow : TableRow
-newlRow w s kind kind₁ =
+abbrev pub newlRow : KindRow
+newlRow w s kind =
     T (isLock kind)
     ∷ flows w s (Sum (s .post) (outLoad kind) (s .pre))
     ∷ []
 
-abbrev pub lckRow : TableRow
+abbrev pub lckRow : KindsRow
 lckRow w s kind kind₁ = loaded w s kind (isLock kind₁) (s .post1) (inLoad kind₁) (s .post)
 
-abbrev pub ulckRow : TableRow
+abbrev pub ulckRow : KindsRow
 ulckRow w s kind kind₁ = loaded w s kind (isLock kind₁) (s .post) (outLoad kind₁) (s .post1)
 
 -- section 3.1.4
-abbrev pub newsemRow : TableRow
-newsemRow w s kind kind₁ =
+abbrev pub newsemRow : KindRow
+newsemRow w s kind =
     T (isSem kind)
     ∷ flows w s (Equal (s .post) (s .pre))
     ∷ []
 
-abbrev pub postRow : TableRow
+abbrev pub postRow : KindsRow
 postRow w s kind kind₁ = loaded w s kind (isSem kind₁) (s .post) (load kind₁) (s .post1)
 
-abbrev pub waitRow : TableRow
+abbrev pub waitRow : KindsRow
 waitRow w s kind kind₁ = loaded w s kind (isSem kind₁) (s .post1) (load kind₁) (s .post)
 
 -- document 02, request (xi)
-abbrev pub newrwlockRow : TableRow
-newrwlockRow w s kind kind₁ =
+abbrev pub newrwlockRow : KindRow
+newrwlockRow w s kind =
     T (isRwlock kind)
     ∷ flows w s (Covers (writeLoad kind) (s .value) (readLoad kind))
     ∷ flows w s (Sum (s .post) (writeLoad kind) (s .pre))
     ∷ []
 
-abbrev pub rdlockRow : TableRow
+abbrev pub rdlockRow : KindsRow
 rdlockRow w s kind kind₁ = loaded w s kind (isRwlock kind₁) (s .post1) (readLoad kind₁) (s .post)
 
-abbrev pub rdunlockRow : TableRow
+abbrev pub rdunlockRow : KindsRow
 rdunlockRow w s kind kind₁ = loaded w s kind (isRwlock kind₁) (s .post) (readLoad kind₁) (s .post1)
 
-abbrev pub wrlockRow : TableRow
+abbrev pub wrlockRow : KindsRow
 wrlockRow w s kind kind₁ = loaded w s kind (isRwlock kind₁) (s .post1) (writeLoad kind₁) (s .post)
 
-abbrev pub wrunlockRow : TableRow
+abbrev pub wrunlockRow : KindsRow
 wrunlockRow w s kind kind₁ = loaded w s kind (isRwlock kind₁) (s .post) (writeLoad kind₁) (s .post1)
 
 -- document 02, request (xiv)
-abbrev pub callRow : TableRow
-callRow w s kind kind₁ =
+abbrev pub callRow : PlainRow
+callRow w s =
     T (agreeIn w (s .locations) (s .typed) (s .signature .result))
     ∷ T (agreeIn w (s .locations) (s .type1) (s .signature .argument))
     ∷ flows w s (Sum (s .signature .before) (s .start) (s .post1))
     ∷ flows w s (Sum (s .signature .after) (s .start) (s .post))
     ∷ []
 
-unfoldable pub ruleRow : Rule → TableRow
-ruleRow VAR = varRow
-ruleRow INT = intRow
-ruleRow LET = letRow
-ruleRow IF = ifRow
-ruleRow WHILE = whileRow
-ruleRow NEWT = newtRow
-ruleRow SPAWN = spawnRow
-ruleRow JOIN = joinRow
-ruleRow REF = refRow
-ruleRow WRITE = writeRow
-ruleRow READ = readRow
-ruleRow NEWL = newlRow
-ruleRow LCK = lckRow
-ruleRow ULCK = ulckRow
-ruleRow NEWSEM = newsemRow
-ruleRow POST = postRow
-ruleRow WAIT = waitRow
-ruleRow NEWRWLOCK = newrwlockRow
-ruleRow RDLOCK = rdlockRow
-ruleRow RDUNLOCK = rdunlockRow
-ruleRow WRLOCK = wrlockRow
-ruleRow WRUNLOCK = wrunlockRow
-ruleRow CALL = callRow
+unfoldable pub ruleRow : Rule → KindsRow
+ruleRow VAR w s kind kind₁ = varRow w s
+ruleRow INT w s kind kind₁ = intRow w s kind
+ruleRow LET w s kind kind₁ = letRow w s
+ruleRow IF w s kind kind₁ = ifRow w s
+ruleRow WHILE w s kind kind₁ = whileRow w s kind
+ruleRow NEWT w s kind kind₁ = newtRow w s kind
+ruleRow SPAWN w s kind kind₁ = spawnRow w s kind kind₁
+ruleRow JOIN w s kind kind₁ = joinRow w s kind kind₁
+ruleRow REF w s kind kind₁ = refRow w s kind
+ruleRow WRITE w s kind kind₁ = writeRow w s kind kind₁
+ruleRow READ w s kind kind₁ = readRow w s kind₁
+ruleRow NEWL w s kind kind₁ = newlRow w s kind
+ruleRow LCK w s kind kind₁ = lckRow w s kind kind₁
+ruleRow ULCK w s kind kind₁ = ulckRow w s kind kind₁
+ruleRow NEWSEM w s kind kind₁ = newsemRow w s kind
+ruleRow POST w s kind kind₁ = postRow w s kind kind₁
+ruleRow WAIT w s kind kind₁ = waitRow w s kind kind₁
+ruleRow NEWRWLOCK w s kind kind₁ = newrwlockRow w s kind
+ruleRow RDLOCK w s kind kind₁ = rdlockRow w s kind kind₁
+ruleRow RDUNLOCK w s kind kind₁ = rdunlockRow w s kind kind₁
+ruleRow WRLOCK w s kind kind₁ = wrlockRow w s kind kind₁
+ruleRow WRUNLOCK w s kind kind₁ = wrunlockRow w s kind kind₁
+ruleRow CALL w s kind kind₁ = callRow w s
 
 -- ------------------------------------------------------------------ a `proc` line
 

@@ -5,8 +5,27 @@ mod loads;
 mod procedures;
 mod rows;
 
+pub use loads::check_lock_in;
+pub use loads::check_lock_out;
+pub use loads::check_rwlock_read;
+pub use loads::check_rwlock_write;
+pub use loads::check_sem;
+pub use loads::check_tid;
 pub use procedures::check_procedure;
-pub use rows::check_rule;
+pub use rows::check_call;
+pub use rows::check_if;
+pub use rows::check_int;
+pub use rows::check_let;
+pub use rows::check_newl;
+pub use rows::check_newrwlock;
+pub use rows::check_newsem;
+pub use rows::check_newt;
+pub use rows::check_read;
+pub use rows::check_ref;
+pub use rows::check_spawn;
+pub use rows::check_var;
+pub use rows::check_while;
+pub use rows::check_write;
 use spec::MapNumber;
 use spec::TypeNumber;
 

@@ -11,7 +11,7 @@ ghost use Rattle.conditions.specs.Outcome.{outcome, firstFalseFrom};
 ghost use Rattle.rules.specs.Table.{loaded};
 
 // A part that is a tid, and its K: 1 type int; 2 part a tid; 3 less + K = more.
-pub(crate) fn check_tid(
+pub fn check_tid(
     work: &[u32],
     s: View,
     kind: TypeLine,
@@ -31,7 +31,7 @@ pub(crate) fn check_tid(
 }
 
 // A part that is a lock, and its in: 1 type int; 2 part a lock; 3 less + in = more.
-pub(crate) fn check_lock_in(
+pub fn check_lock_in(
     work: &[u32],
     s: View,
     kind: TypeLine,
@@ -51,7 +51,7 @@ pub(crate) fn check_lock_in(
 }
 
 // A part that is a lock, and its out: 1 type int; 2 part a lock; 3 less + out = more.
-pub(crate) fn check_lock_out(
+pub fn check_lock_out(
     work: &[u32],
     s: View,
     kind: TypeLine,
@@ -71,7 +71,7 @@ pub(crate) fn check_lock_out(
 }
 
 // A part that is a sem, and its K: 1 type int; 2 part a sem; 3 less + K = more.
-pub(crate) fn check_sem(
+pub fn check_sem(
     work: &[u32],
     s: View,
     kind: TypeLine,
@@ -91,7 +91,7 @@ pub(crate) fn check_sem(
 }
 
 // A part that is a rwlock, and its r: 1 type int; 2 part a rwlock; 3 less + r = more.
-pub(crate) fn check_rwlock_read(
+pub fn check_rwlock_read(
     work: &[u32],
     s: View,
     kind: TypeLine,
@@ -111,7 +111,7 @@ pub(crate) fn check_rwlock_read(
 }
 
 // A part that is a rwlock, and its w: 1 type int; 2 part a rwlock; 3 less + w = more.
-pub(crate) fn check_rwlock_write(
+pub fn check_rwlock_write(
     work: &[u32],
     s: View,
     kind: TypeLine,

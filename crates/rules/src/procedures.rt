@@ -2,7 +2,7 @@
 use super::Signature;
 use conditions::Relation;
 use conditions::Ruling;
-use conditions::agree;
+use conditions::agrees;
 use conditions::flow;
 use conditions::type_false;
 use spec::MapNumber;
@@ -23,7 +23,7 @@ pub fn check_procedure(
 ) -> Ruling
     ensures { λ r. ⌜ outcome r ≡ firstFalseFrom line 1 (procedureRow (now (work .entry)) locations g body post) ⌝ }
 {
-    if !agree(work, locations, body, g.result) {
+    if !agrees(work, locations, body, g.result) {
         return type_false(line, 1);
     }
     let after = g.after;

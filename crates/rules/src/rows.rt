@@ -4,29 +4,22 @@ use super::View;
 use super::flows::at_least;
 use super::flows::equal;
 use super::flows::sum;
-use super::loads::check_lock_in;
-use super::loads::check_lock_out;
-use super::loads::check_rwlock_read;
-use super::loads::check_rwlock_write;
-use super::loads::check_sem;
-use super::loads::check_tid;
 use conditions::Relation;
 use conditions::Ruling;
-use conditions::agree;
+use conditions::agrees;
 use conditions::also;
 use conditions::flow;
 use conditions::has;
 use conditions::may_show;
 use conditions::type_false;
 use spec::TypeLine;
-use workspace::Rule;
 ghost use mathlib.Core.Path.{_≡_};
 ghost use Rattle.conditions.specs.Outcome.{outcome, firstFalseFrom};
-ghost use Rattle.rules.specs.Table.{varRow, intRow, letRow, ifRow, whileRow, newtRow, spawnRow, refRow, writeRow, readRow, newlRow, newsemRow, newrwlockRow, callRow, ruleRow};
+ghost use Rattle.rules.specs.Table.{varRow, intRow, letRow, ifRow, whileRow, newtRow, spawnRow, refRow, writeRow, readRow, newlRow, newsemRow, newrwlockRow, callRow};
 
 // VAR: 1 type is that of its let's e1, or for a lock a looser one; 2 post = pre.
-fn check_var(work: &[u32], s: View, kind: TypeLine, kind1: TypeLine) -> Ruling
-    ensures { λ r. ⌜ outcome r ≡ firstFalseFrom (s .line) 1 (varRow (now (work .entry)) s kind kind1) ⌝ }
+pub fn check_var(work: &[u32], s: View) -> Ruling
+    ensures { λ r. ⌜ outcome r ≡ firstFalseFrom (s .line) 1 (varRow (now (work .entry)) s) ⌝ }
 {
     if !may_show(work, s.locations, s.typed, s.bound) {
         return type_false(s.line, 1);
@@ -35,8 +28,8 @@ fn check_var(work: &[u32], s: View, kind: TypeLine, kind1: TypeLine) -> Ruling
 }
 
 // INT: 1 type int; 2 post = pre.
-fn check_int(work: &[u32], s: View, kind: TypeLine, kind1: TypeLine) -> Ruling
-    ensures { λ r. ⌜ outcome r ≡ firstFalseFrom (s .line) 1 (intRow (now (work .entry)) s kind kind1) ⌝ }
+pub fn check_int(work: &[u32], s: View, kind: TypeLine) -> Ruling
+    ensures { λ r. ⌜ outcome r ≡ firstFalseFrom (s .line) 1 (intRow (now (work .entry)) s kind) ⌝ }
 {
     let TypeLine::Int = kind else {
         return type_false(s.line, 1);
@@ -45,23 +38,23 @@ fn check_int(work: &[u32], s: View, kind: TypeLine, kind1: TypeLine) -> Ruling
 }
 
 // LET: 1 type of e2; 2 post = post of e2.
-fn check_let(work: &[u32], s: View, kind: TypeLine, kind1: TypeLine) -> Ruling
-    ensures { λ r. ⌜ outcome r ≡ firstFalseFrom (s .line) 1 (letRow (now (work .entry)) s kind kind1) ⌝ }
+pub fn check_let(work: &[u32], s: View) -> Ruling
+    ensures { λ r. ⌜ outcome r ≡ firstFalseFrom (s .line) 1 (letRow (now (work .entry)) s) ⌝ }
 {
-    if !agree(work, s.locations, s.typed, s.type2) {
+    if !agrees(work, s.locations, s.typed, s.type2) {
         return type_false(s.line, 1);
     }
     equal(work, s, 2, s.post, s.post2)
 }
 
 // IF: 1 type of e1; 2 type of e2; 3 post of e1 ≥ post; 4 post of e2 ≥ post.
-fn check_if(work: &[u32], s: View, kind: TypeLine, kind1: TypeLine) -> Ruling
-    ensures { λ r. ⌜ outcome r ≡ firstFalseFrom (s .line) 1 (ifRow (now (work .entry)) s kind kind1) ⌝ }
+pub fn check_if(work: &[u32], s: View) -> Ruling
+    ensures { λ r. ⌜ outcome r ≡ firstFalseFrom (s .line) 1 (ifRow (now (work .entry)) s) ⌝ }
 {
-    if !agree(work, s.locations, s.typed, s.type1) {
+    if !agrees(work, s.locations, s.typed, s.type1) {
         return type_false(s.line, 1);
     }
-    if !agree(work, s.locations, s.typed, s.type2) {
+    if !agrees(work, s.locations, s.typed, s.type2) {
         return type_false(s.line, 2);
     }
     also(
@@ -71,8 +64,8 @@ fn check_if(work: &[u32], s: View, kind: TypeLine, kind1: TypeLine) -> Ruling
 }
 
 // WHILE: 1 type int; 2 pre ≥ post; 3 post of part ≥ post.
-fn check_while(work: &[u32], s: View, kind: TypeLine, kind1: TypeLine) -> Ruling
-    ensures { λ r. ⌜ outcome r ≡ firstFalseFrom (s .line) 1 (whileRow (now (work .entry)) s kind kind1) ⌝ }
+pub fn check_while(work: &[u32], s: View, kind: TypeLine) -> Ruling
+    ensures { λ r. ⌜ outcome r ≡ firstFalseFrom (s .line) 1 (whileRow (now (work .entry)) s kind) ⌝ }
 {
     let TypeLine::Int = kind else {
         return type_false(s.line, 1);
@@ -85,8 +78,8 @@ fn check_while(work: &[u32], s: View, kind: TypeLine, kind1: TypeLine) -> Ruling
 }
 
 // NEWT: 1 a tid type; 2 post = pre.
-fn check_newt(work: &[u32], s: View, kind: TypeLine, kind1: TypeLine) -> Ruling
-    ensures { λ r. ⌜ outcome r ≡ firstFalseFrom (s .line) 1 (newtRow (now (work .entry)) s kind kind1) ⌝ }
+pub fn check_newt(work: &[u32], s: View, kind: TypeLine) -> Ruling
+    ensures { λ r. ⌜ outcome r ≡ firstFalseFrom (s .line) 1 (newtRow (now (work .entry)) s kind) ⌝ }
 {
     let TypeLine::Tid(_) = kind else {
         return type_false(s.line, 1);
@@ -95,7 +88,7 @@ fn check_newt(work: &[u32], s: View, kind: TypeLine, kind1: TypeLine) -> Ruling
 }
 
 // SPAWN: 1 type int; 2 e1 a tid; 3 post of e2 ≥ K; 4 post + s = post of e1.
-fn check_spawn(work: &[u32], s: View, kind: TypeLine, kind1: TypeLine) -> Ruling
+pub fn check_spawn(work: &[u32], s: View, kind: TypeLine, kind1: TypeLine) -> Ruling
     ensures { λ r. ⌜ outcome r ≡ firstFalseFrom (s .line) 1 (spawnRow (now (work .entry)) s kind kind1) ⌝ }
 {
     let TypeLine::Int = kind else {
@@ -111,20 +104,20 @@ fn check_spawn(work: &[u32], s: View, kind: TypeLine, kind1: TypeLine) -> Ruling
 }
 
 // REF: 1 a ref type whose c is the part's type; 2 post = post of part.
-fn check_ref(work: &[u32], s: View, kind: TypeLine, kind1: TypeLine) -> Ruling
-    ensures { λ r. ⌜ outcome r ≡ firstFalseFrom (s .line) 1 (refRow (now (work .entry)) s kind kind1) ⌝ }
+pub fn check_ref(work: &[u32], s: View, kind: TypeLine) -> Ruling
+    ensures { λ r. ⌜ outcome r ≡ firstFalseFrom (s .line) 1 (refRow (now (work .entry)) s kind) ⌝ }
 {
     let TypeLine::Ref(_, content) = kind else {
         return type_false(s.line, 1);
     };
-    if !agree(work, s.locations, content, s.type1) {
+    if !agrees(work, s.locations, content, s.type1) {
         return type_false(s.line, 1);
     }
     equal(work, s, 2, s.post, s.post1)
 }
 
 // WRITE: 1 type int; 2 e1 a ref; 3 type of e2 is c; 4 post = post of e2; 5 post at p ≥ D.
-fn check_write(work: &[u32], s: View, kind: TypeLine, kind1: TypeLine) -> Ruling
+pub fn check_write(work: &[u32], s: View, kind: TypeLine, kind1: TypeLine) -> Ruling
     ensures { λ r. ⌜ outcome r ≡ firstFalseFrom (s .line) 1 (writeRow (now (work .entry)) s kind kind1) ⌝ }
 {
     let TypeLine::Int = kind else {
@@ -133,7 +126,7 @@ fn check_write(work: &[u32], s: View, kind: TypeLine, kind1: TypeLine) -> Ruling
     let TypeLine::Ref(p, content) = kind1 else {
         return type_false(s.line, 2);
     };
-    if !agree(work, s.locations, content, s.type2) {
+    if !agrees(work, s.locations, content, s.type2) {
         return type_false(s.line, 3);
     }
     also(
@@ -143,13 +136,13 @@ fn check_write(work: &[u32], s: View, kind: TypeLine, kind1: TypeLine) -> Ruling
 }
 
 // READ: 1 part a ref; 2 type is c; 3 post = post of part; 4 post at p > 0.
-fn check_read(work: &[u32], s: View, kind: TypeLine, kind1: TypeLine) -> Ruling
-    ensures { λ r. ⌜ outcome r ≡ firstFalseFrom (s .line) 1 (readRow (now (work .entry)) s kind kind1) ⌝ }
+pub fn check_read(work: &[u32], s: View, kind1: TypeLine) -> Ruling
+    ensures { λ r. ⌜ outcome r ≡ firstFalseFrom (s .line) 1 (readRow (now (work .entry)) s kind1) ⌝ }
 {
     let TypeLine::Ref(p, content) = kind1 else {
         return type_false(s.line, 1);
     };
-    if !agree(work, s.locations, content, s.typed) {
+    if !agrees(work, s.locations, content, s.typed) {
         return type_false(s.line, 2);
     }
     also(
@@ -159,8 +152,8 @@ fn check_read(work: &[u32], s: View, kind: TypeLine, kind1: TypeLine) -> Ruling
 }
 
 // NEWL: 1 a lock type; 2 post + out = pre.
-fn check_newl(work: &[u32], s: View, kind: TypeLine, kind1: TypeLine) -> Ruling
-    ensures { λ r. ⌜ outcome r ≡ firstFalseFrom (s .line) 1 (newlRow (now (work .entry)) s kind kind1) ⌝ }
+pub fn check_newl(work: &[u32], s: View, kind: TypeLine) -> Ruling
+    ensures { λ r. ⌜ outcome r ≡ firstFalseFrom (s .line) 1 (newlRow (now (work .entry)) s kind) ⌝ }
 {
     let TypeLine::Lock(_, out) = kind else {
         return type_false(s.line, 1);
@@ -169,8 +162,8 @@ fn check_newl(work: &[u32], s: View, kind: TypeLine, kind1: TypeLine) -> Ruling
 }
 
 // NEWSEM: 1 a sem type; 2 post = pre.
-fn check_newsem(work: &[u32], s: View, kind: TypeLine, kind1: TypeLine) -> Ruling
-    ensures { λ r. ⌜ outcome r ≡ firstFalseFrom (s .line) 1 (newsemRow (now (work .entry)) s kind kind1) ⌝ }
+pub fn check_newsem(work: &[u32], s: View, kind: TypeLine) -> Ruling
+    ensures { λ r. ⌜ outcome r ≡ firstFalseFrom (s .line) 1 (newsemRow (now (work .entry)) s kind) ⌝ }
 {
     let TypeLine::Sem(_) = kind else {
         return type_false(s.line, 1);
@@ -179,8 +172,8 @@ fn check_newsem(work: &[u32], s: View, kind: TypeLine, kind1: TypeLine) -> Rulin
 }
 
 // NEWRWLOCK: 1 a rwlock type; 2 N × r ≤ w; 3 post + w = pre.
-fn check_newrwlock(work: &[u32], s: View, kind: TypeLine, kind1: TypeLine) -> Ruling
-    ensures { λ r. ⌜ outcome r ≡ firstFalseFrom (s .line) 1 (newrwlockRow (now (work .entry)) s kind kind1) ⌝ }
+pub fn check_newrwlock(work: &[u32], s: View, kind: TypeLine) -> Ruling
+    ensures { λ r. ⌜ outcome r ≡ firstFalseFrom (s .line) 1 (newrwlockRow (now (work .entry)) s kind) ⌝ }
 {
     let TypeLine::Rwlock(read, write) = kind else {
         return type_false(s.line, 1);
@@ -198,58 +191,18 @@ fn check_newrwlock(work: &[u32], s: View, kind: TypeLine, kind1: TypeLine) -> Ru
 }
 
 // CALL: 1 type is result; 2 type of part is argument; 3 post of part = before + s; 4 post = after + s.
-fn check_call(work: &[u32], s: View, kind: TypeLine, kind1: TypeLine) -> Ruling
-    ensures { λ r. ⌜ outcome r ≡ firstFalseFrom (s .line) 1 (callRow (now (work .entry)) s kind kind1) ⌝ }
+pub fn check_call(work: &[u32], s: View) -> Ruling
+    ensures { λ r. ⌜ outcome r ≡ firstFalseFrom (s .line) 1 (callRow (now (work .entry)) s) ⌝ }
 {
     let g = s.signature;
-    if !agree(work, s.locations, s.typed, g.result) {
+    if !agrees(work, s.locations, s.typed, g.result) {
         return type_false(s.line, 1);
     }
-    if !agree(work, s.locations, s.type1, g.argument) {
+    if !agrees(work, s.locations, s.type1, g.argument) {
         return type_false(s.line, 2);
     }
     also(
         sum(work, s, 3, g.before, s.start, s.post1),
         sum(work, s, 4, g.after, s.start, s.post),
     )
-}
-
-// The conditions of a step with the rule r.
-pub fn check_rule(r: Rule, work: &[u32], s: View, kind: TypeLine, kind1: TypeLine) -> Ruling
-    ensures { λ ruling. ⌜ outcome ruling ≡ firstFalseFrom (s .line) 1 (ruleRow r (now (work .entry)) s kind kind1) ⌝ }
-{
-    match r {
-        Rule::VAR => check_var(work, s, kind, kind1),
-        Rule::INT => check_int(work, s, kind, kind1),
-        Rule::LET => check_let(work, s, kind, kind1),
-        Rule::IF => check_if(work, s, kind, kind1),
-        Rule::WHILE => check_while(work, s, kind, kind1),
-        Rule::NEWT => check_newt(work, s, kind, kind1),
-        Rule::SPAWN => check_spawn(work, s, kind, kind1),
-        // JOIN: 1 type int; 2 part a tid; 3 post = post of part + K.
-        Rule::JOIN => check_tid(work, s, kind, kind1, s.post1, s.post),
-        Rule::REF => check_ref(work, s, kind, kind1),
-        Rule::WRITE => check_write(work, s, kind, kind1),
-        Rule::READ => check_read(work, s, kind, kind1),
-        Rule::NEWL => check_newl(work, s, kind, kind1),
-        // LCK: 1 type int; 2 part a lock; 3 post = post of part + in.
-        Rule::LCK => check_lock_in(work, s, kind, kind1, s.post1, s.post),
-        // ULCK: 1 type int; 2 part a lock; 3 post + out = post of part.
-        Rule::ULCK => check_lock_out(work, s, kind, kind1, s.post, s.post1),
-        Rule::NEWSEM => check_newsem(work, s, kind, kind1),
-        // POST: 1 type int; 2 part a sem; 3 post + K = post of part.
-        Rule::POST => check_sem(work, s, kind, kind1, s.post, s.post1),
-        // WAIT: 1 type int; 2 part a sem; 3 post = post of part + K.
-        Rule::WAIT => check_sem(work, s, kind, kind1, s.post1, s.post),
-        Rule::NEWRWLOCK => check_newrwlock(work, s, kind, kind1),
-        // RDLOCK: 1 type int; 2 part a rwlock; 3 post = post of part + r.
-        Rule::RDLOCK => check_rwlock_read(work, s, kind, kind1, s.post1, s.post),
-        // RDUNLOCK: 1 type int; 2 part a rwlock; 3 post + r = post of part.
-        Rule::RDUNLOCK => check_rwlock_read(work, s, kind, kind1, s.post, s.post1),
-        // WRLOCK: 1 type int; 2 part a rwlock; 3 post = post of part + w.
-        Rule::WRLOCK => check_rwlock_write(work, s, kind, kind1, s.post1, s.post),
-        // WRUNLOCK: 1 type int; 2 part a rwlock; 3 post + w = post of part.
-        Rule::WRUNLOCK => check_rwlock_write(work, s, kind, kind1, s.post, s.post1),
-        Rule::CALL => check_call(work, s, kind, kind1),
-    }
 }

@@ -18,6 +18,7 @@ use Rattle.workspace.proofs.Region.{region-empty, region-front, region-append, 
 use Rattle.workspace.specs.Steps.{wordAt, valueAt, stepLineAt, stepsFrom}
 use mathlib.Core.Bool.{Bool, true, false}
 use lib.Dec.{ltb}
+use borrow.Author.Tests.{le-leb, lt-leb}
 use Rattle.spec.specs.Choice.{if_then_else_}
 use Rattle.spec.specs.declared.Refusal.the-variants.{ProgramLines}
 use Rattle.structure.specs.Trees.{nextOf, limitAt, breakLine, leftAt, ExpressionAnswer, ExpressionFound}
@@ -25,9 +26,7 @@ use Rattle.structure.specs.declared.Outcome.the-variants as outcome
 use Rattle.structure.specs.declared.tree.Next.the-variants.{Proc, Step, End}
 use Rattle.structure.specs.declared.tree.Found.{Found}
 use Rattle.structure.specs.declared.tree.Found.the-variants.{At, Refused}
-use Rattle.structure.specs.Structure.{partsOf, listedFrom, reached, endsOf, Ended}
-use Rattle.structure.specs.declared.tree.Ending.{Ending}
-use Rattle.structure.specs.declared.tree.Ending.the-variants.{Reached, Unfinished}
+use Rattle.structure.specs.Structure.{partsOf, Ending, Reached, Unfinished, endingOf, listedFrom, reached, endsOf, Ended}
 use Rattle.structure.proofs.Listed.{total, total-listed, behind-first}
 
 never : {e : ℕ} → Unfinished ≡ Reached e → ⊥
@@ -35,6 +34,15 @@ never {e} p = let z : _≡_ {A = ℕ} 0 1 = cc in omega arith
 
 same-end : {d e : ℕ} → Reached d ≡ Reached e → d ≡ e
 same-end {d} {e} p = cc
+
+-- an end among n steps, and one behind them
+pub reached-by : (n e : ℕ) → e ≤ n → endingOf n e ≡ Reached e
+unfolding endingOf
+reached-by n e h = rw (le-leb e n h)
+
+pub unfinished-by : (n e : ℕ) → n < e → endingOf n e ≡ Unfinished
+unfolding endingOf
+unfinished-by n e h = rw (lt-leb e n h)
 
 -- ------------------------------------------------------------------ a step and its parts
 
@@ -116,7 +124,7 @@ none-of k [] p = refl
 none-of k (f ∷ fs) p = absurd (never (sym p))
 
 -- the steps read are among those stored
-pub within : (n m k e : ℕ) (w w′ : List ℕ) (r : Ending) → k ≤ n → Ended n m k w w′ r → r ≡ Reached e → (k ≤ e) × (e ≤ n)
+within : (n m k e : ℕ) (w w′ : List ℕ) (r : Ending) → k ≤ n → Ended n m k w w′ r → r ≡ Reached e → (k ≤ e) × (e ≤ n)
 unfolding listedFrom
 within n m k e w w′ r h x p =
     let t : e ≡ k + total m (listedFrom w n k) = reached-total m k e (listedFrom w n k) (sym (x .answer) ∙ p) in

@@ -2,7 +2,9 @@
 use mathlib.Core.Path.{_≡_}
 use mathlib.Core.List.{List, [], _∷_, _++_}
 use Prim.Native.Nat.{ℕ, suc, zero, _+_, _-_, _≤_}
+use lib.Dec.{leb}
 use lib.ListN.{length}
+use Rattle.spec.specs.Choice.{if_then_else_}
 use Rattle.spec.specs.Expression.{Expr, size, listed}
 use Rattle.spec.specs.declared.Word.{Word}
 use Rattle.spec.specs.declared.Word.the-variants.{Leaf, Unary, Binary}
@@ -10,8 +12,6 @@ use Rattle.workspace.specs.Layout.{workSize, endsAt, stepRoom}
 use Rattle.workspace.specs.Holds.{ends}
 use Rattle.workspace.specs.Region.{Region, ChangedWithin}
 use Rattle.workspace.specs.Steps.{stepsFrom}
-use Rattle.structure.specs.declared.tree.Ending.{Ending}
-use Rattle.structure.specs.declared.tree.Ending.the-variants.{Reached, Unfinished}
 
 -- a work space of its size, with room for n steps
 pub record RoomFor (n : ℕ) (w : List ℕ) : Type 0 where
@@ -23,6 +23,15 @@ abbrev pub partsOf : Word → ℕ
 partsOf (Leaf w) = 0
 partsOf (Unary w) = 1
 partsOf (Binary w) = 2
+
+-- where steps that are read one after the other end, or that a part is missing at the last line
+pub data Ending : Type 0 where
+  Reached : ℕ → Ending
+  Unfinished : Ending
+
+-- what an end says of n steps: a part is missing, where it is behind all of them
+unfoldable pub endingOf : (n e : ℕ) → Ending
+endingOf n e = if leb e n then Reached e else Unfinished
 
 -- the expressions that the steps from index k on list, one after the other
 unfoldable pub listedFrom : List ℕ → (n k : ℕ) → List Expr

@@ -8,59 +8,45 @@ use workspace::PROC_FIRSTS;
 use workspace::PROC_LINES;
 use workspace::WORDS;
 ghost use mathlib.Core.Path.{_≡_};
-ghost use Prim.Native.Nat.{_≤_};
+ghost use Prim.Native.Nat.{_+_, _≤_};
 ghost use Rattle.workspace.specs.Layout.{stepRoom};
 ghost use Rattle.structure.specs.Items.{ItemsStored};
-ghost use Rattle.structure.specs.Structure.{RoomFor, partsOf, Ended};
+ghost use Rattle.structure.specs.Structure.{RoomFor, partsOf, Ended, endingOf};
 ghost use Rattle.structure.specs.Trees.{procNext, nextOf, limitAt, breakLine, leftAt, ExpressionDue, ExpressionFound, LinesLeft, BodyFound, Structured};
 
-// Where steps that are read one after the other end, or that a part is missing at the last line.
-enum Ending {
-    Reached(usize),
-    Unfinished,
-}
-
-// How many parts a step with this word has.
-fn parts_of(w: Word) -> usize
-    ensures { λ r. ⌜ r ≡ partsOf w ⌝ }
-{
-    match w {
-        Word::Leaf(_) => 0,
-        Word::Unary(_) => 1,
-        Word::Binary(_) => 2,
-    }
-}
-
-// Reads the step at index k, and stores the index just past it and past each step in it. "Each part is again a step": it
-// reads its parts, which reads steps; the lines left fall.
-fn read_step(work: &mut [u32], n: usize, k: usize) -> Ending
+// Reads the step at index k, and stores the index just past it and past each step in it: that index, or one behind all n steps
+// if a part is missing. "Each part is again a step": it reads its parts, which reads steps; the lines left fall.
+fn read_step(work: &mut [u32], n: usize, k: usize) -> usize
     requires { ⌜ RoomFor n (now work) × (k ≤ n) ⌝ }
-    ensures { λ r. ⌜ Ended n 1 k (now (work .entry)) (now (work .exit)) r ⌝ }
+    ensures { λ e. ⌜ Ended n 1 k (now (work .entry)) (now (work .exit)) (endingOf n e) × (e ≤ n + 1) ⌝ }
 {
     if n <= k {
-        return Ending::Unfinished;
+        return n + 1;
     }
-    let m = parts_of(workspace::word_of(work[WORDS + k]));
-    match read_parts(work, n, m, k + 1) {
-        Ending::Reached(e) => {
-            work[ENDS + k] = e as u32;
-            Ending::Reached(e)
-        }
-        Ending::Unfinished => Ending::Unfinished,
+    let word = workspace::word_of(work[WORDS + k]);
+    let e = read_parts(work, n, word, k + 1);
+    if n < e {
+        return e;
     }
+    work[ENDS + k] = e as u32;
+    e
 }
 
-// Reads m steps, one after the other, from index k on.
-fn read_parts(work: &mut [u32], n: usize, m: usize, k: usize) -> Ending
+// Reads the parts of a step with this word, of which the first begins at index k.
+fn read_parts(work: &mut [u32], n: usize, w: Word, k: usize) -> usize
     requires { ⌜ RoomFor n (now work) × (k ≤ n) ⌝ }
-    ensures { λ r. ⌜ Ended n m k (now (work .entry)) (now (work .exit)) r ⌝ }
+    ensures { λ e. ⌜ Ended n (partsOf w) k (now (work .entry)) (now (work .exit)) (endingOf n e) × (e ≤ n + 1) ⌝ }
 {
-    if m == 0 {
-        return Ending::Reached(k);
-    }
-    match read_step(work, n, k) {
-        Ending::Reached(e) => read_parts(work, n, m - 1, e),
-        Ending::Unfinished => Ending::Unfinished,
+    match w {
+        Word::Leaf(_) => k,
+        Word::Unary(_) => read_step(work, n, k),
+        Word::Binary(_) => {
+            let first = read_step(work, n, k);
+            if n < first {
+                return first;
+            }
+            read_step(work, n, first)
+        }
     }
 }
 
@@ -137,13 +123,12 @@ fn read_expression(
     ensures { λ r. ⌜ ExpressionFound steps procs i j last (now (work .entry)) (now (work .exit)) r ⌝ }
 {
     let limit = limit_at(work, steps, procs, j);
-    match read_step(work, limit, i) {
-        Ending::Reached(e) => Found::At(e),
-        Ending::Unfinished => {
-            let line = break_line(work, procs, j, last);
-            Found::Refused(Refusal::ProgramLines(line))
-        }
+    let e = read_step(work, limit, i);
+    if limit < e {
+        let line = break_line(work, procs, j, last);
+        return Found::Refused(Refusal::ProgramLines(line));
     }
+    Found::At(e)
 }
 
 // Whether no line is left at index e, behind `count` of the `proc` lines.

@@ -28,7 +28,7 @@ use Rattle.workspace.proofs.Codes.{word-of-code}
 use Rattle.workspace.proofs.Shown.{Stands, post-at, start-at}
 use Rattle.workspace.proofs.Expression.{Here, here-index, here-line, leaf-code, unary-code, binary-code, unary-number, here-called, here-part, here-first, here-second, here-second-at}
 use Rattle.rules.specs.Table.{ruleRow}
-use Rattle.walk.specs.Walk.{cell, viewOf, stepOutcome, counted, putPre, passWord, passOn}
+use Rattle.walk.specs.Walk.{cell, viewOf, ruleOutcome, stepOutcome, counted, putPre, passWord, passOn}
 use Rattle.rules.proofs.TableRows.{leaf-shown, unary-shown, binary-shown}
 use Rattle.walk.proofs.Scopes.{Scoped}
 use Rattle.walk.proofs.Asked.{row-counted}
@@ -134,7 +134,7 @@ module _ (S : Split) (P : Program) (R : InRange P S) (few : length (S .rows) ≤
     pub step-shown : (purpose : Purpose) (e : Expr) → Ready w k inside vars Γ pre e
         → counted purpose (stepOutcome w (S .header .locations) (S .header .denominator) k)
         ≡ firstAsked purpose (claimsAt S (record { Γ = Γ; pre = pre; step = e }))
-    unfolding stepOutcome claimsAt
+    unfolding stepOutcome ruleOutcome claimsAt
     step-shown purpose e r = rw (conditions-shown e r, here-line e (r .here)) (row-counted (lineOf e) purpose S Γ pre e)
 
     -- ---------------------------------------------------------------- what a step hands down

@@ -17,6 +17,7 @@ use Rattle.spec.specs.declared.Purpose.{Purpose}
 use Rattle.spec.specs.declared.Purpose.the-variants.{Check, Fill}
 use Rattle.spec.specs.declared.Word.{Word}
 use Rattle.spec.specs.declared.Word.the-variants.{Leaf, Unary, Binary}
+use Rattle.workspace.specs.declared.Rule.{Rule}
 use Rattle.workspace.specs.Layout.{wordsAt, valuesAt, endsAt, letsAt, linesAt, procLinesAt, procFirstsAt, procMark, rowTypesAt, postsAt, startsAt, presAt, sigBeforesAt, sigArgumentsAt, sigAftersAt, sigResultsAt, ruleOf, wordOf, typeAt}
 use Rattle.conditions.specs.Outcome.{both, firstFalseFrom}
 use Rattle.rules.specs.Table.{ruleRow, procedureRow}
@@ -63,11 +64,73 @@ viewOf w locations denominator k = record {
   signature = signatureOf w (cell w valuesAt k);
 }
 
--- the conditions of step k, in order
-unfoldable pub stepOutcome : (w : List ℕ) → (locations denominator k : ℕ) → Out (Unit {0})
-stepOutcome w locations denominator k =
+-- what a step without parts, with one part and with two shows of its view; at the rest its conditions do not look
+abbrev pub noSignature : Signature
+noSignature = record { before = record { 0 = 0 }; argument = record { 0 = 0 }; after = record { 0 = 0 }; result = record { 0 = 0 } }
+
+abbrev pub leafView : View → View
+leafView s = record {
+  line = s .line;
+  value = s .value;
+  locations = s .locations;
+  denominator = s .denominator;
+  typed = s .typed;
+  type1 = record { 0 = 0 };
+  type2 = record { 0 = 0 };
+  bound = s .bound;
+  pre = s .pre;
+  post = s .post;
+  start = record { 0 = 0 };
+  post1 = record { 0 = 0 };
+  post2 = record { 0 = 0 };
+  signature = noSignature;
+}
+
+abbrev pub unaryView : View → View
+unaryView s = record {
+  line = s .line;
+  value = s .value;
+  locations = s .locations;
+  denominator = s .denominator;
+  typed = s .typed;
+  type1 = s .type1;
+  type2 = record { 0 = 0 };
+  bound = record { 0 = 0 };
+  pre = s .pre;
+  post = s .post;
+  start = s .start;
+  post1 = s .post1;
+  post2 = record { 0 = 0 };
+  signature = s .signature;
+}
+
+abbrev pub binaryView : View → View
+binaryView s = record {
+  line = s .line;
+  value = 0;
+  locations = s .locations;
+  denominator = s .denominator;
+  typed = s .typed;
+  type1 = s .type1;
+  type2 = s .type2;
+  bound = record { 0 = 0 };
+  pre = record { 0 = 0 };
+  post = s .post;
+  start = s .start;
+  post1 = s .post1;
+  post2 = s .post2;
+  signature = noSignature;
+}
+
+-- the conditions of step k with the rule r, in order
+unfoldable pub ruleOutcome : Rule → (w : List ℕ) → (locations denominator k : ℕ) → Out (Unit {0})
+ruleOutcome r w locations denominator k =
     let s = viewOf w locations denominator k in
-    firstFalseFrom (s .line) 1 (ruleRow (ruleOf (cell w wordsAt k)) w s (typeAt w (s .typed)) (typeAt w (s .type1)))
+    firstFalseFrom (s .line) 1 (ruleRow r w s (typeAt w (s .typed)) (typeAt w (s .type1)))
+
+-- the conditions of step k
+unfoldable pub stepOutcome : (w : List ℕ) → (locations denominator k : ℕ) → Out (Unit {0})
+stepOutcome w locations denominator k = ruleOutcome (ruleOf (cell w wordsAt k)) w locations denominator k
 
 -- whether a refusal is on types: one on flow or access, 32 or 33, is not
 unfoldable pub refusesTypes : Refusal → Bool

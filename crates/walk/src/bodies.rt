@@ -1,8 +1,8 @@
 // The bodies of the procedures, called or not, then the root.
-use super::steps::cell;
+use super::columns::cell;
+use super::columns::signature_of;
 use super::steps::check_steps;
 use super::steps::refuses;
-use super::steps::signature_of;
 use conditions::Ruling;
 use rules::check_procedure;
 use spec::MapNumber;

@@ -1,33 +1,20 @@
 // The steps in line order. Each is judged once the map before it is known, and hands down the maps before its parts.
+use super::columns::cell;
+use super::table::check_rule;
 use conditions::Ruling;
-use rules::Signature;
-use rules::View;
-use rules::check_rule;
 use spec::BinaryWord;
 use spec::MapNumber;
 use spec::Purpose;
 use spec::Refusal;
-use spec::TypeNumber;
 use spec::UnaryWord;
 use spec::Word;
 use workspace::ENDS;
-use workspace::LETS;
-use workspace::LINES;
 use workspace::POSTS;
 use workspace::PRES;
-use workspace::PROC_MARK;
-use workspace::ROW_TYPES;
-use workspace::SIG_AFTERS;
-use workspace::SIG_ARGUMENTS;
-use workspace::SIG_BEFORES;
-use workspace::SIG_RESULTS;
 use workspace::STARTS;
-use workspace::VALUES;
 use workspace::WORDS;
-use workspace::at;
 use workspace::index;
 use workspace::rule_of;
-use workspace::type_at;
 use workspace::word_of;
 ghost use mathlib.Core.Path.{_≡_};
 ghost use Prim.Native.Nat.{_+_, _-_, _<_};
@@ -36,72 +23,14 @@ ghost use Rattle.spec.specs.Words.{preOfPart, preOfSecond};
 ghost use Rattle.workspace.specs.Layout.{presAt, workSize};
 ghost use Rattle.workspace.specs.Region.{ChangedWithin};
 ghost use Rattle.conditions.specs.Outcome.{outcome};
-ghost use Rattle.walk.specs.Walk.{cell, signatureOf, boundOf, viewOf, stepOutcome, refusesTypes, counted, stops, putPre, passOn, walk};
-
-// Entry i of the column that begins at base.
-pub(crate) fn cell(work: &[u32], base: usize, i: u32) -> u32
-    requires { ⌜ base < workSize ⌝ }
-    ensures { λ r. ⌜ r ≡ cell (now (work .entry)) base i ⌝ }
-{
-    at(work, base + index(i))
-}
-
-// The signature of procedure f.
-pub(crate) fn signature_of(work: &[u32], f: u32) -> Signature
-    ensures { λ r. ⌜ r ≡ signatureOf (now (work .entry)) f ⌝ }
-{
-    Signature {
-        before: MapNumber(cell(work, SIG_BEFORES, f)),
-        argument: TypeNumber(cell(work, SIG_ARGUMENTS, f)),
-        after: MapNumber(cell(work, SIG_AFTERS, f)),
-        result: TypeNumber(cell(work, SIG_RESULTS, f)),
-    }
-}
-
-// The type of the variable that the let at this index binds, or the procedure with this mark.
-fn bound_of(work: &[u32], binder: u32) -> TypeNumber
-    ensures { λ r. ⌜ r ≡ boundOf (now (work .entry)) binder ⌝ }
-{
-    if binder < PROC_MARK {
-        TypeNumber(cell(work, ROW_TYPES + 1, binder))
-    } else {
-        TypeNumber(cell(work, SIG_ARGUMENTS, binder - PROC_MARK))
-    }
-}
-
-// What the conditions of step k look at. A first part stands just behind its step, a second part at the end of the first,
-// the e1 of a let just behind the let.
-fn view_of(work: &[u32], locations: u32, denominator: u32, k: u32) -> View
-    ensures { λ r. ⌜ r ≡ viewOf (now (work .entry)) locations denominator k ⌝ }
-{
-    let second = cell(work, ENDS + 1, k);
-    let binder = cell(work, LETS, k);
-    let value = cell(work, VALUES, k);
-    View {
-        line: cell(work, LINES, k),
-        value: value,
-        locations: locations,
-        denominator: denominator,
-        typed: TypeNumber(cell(work, ROW_TYPES, k)),
-        type1: TypeNumber(cell(work, ROW_TYPES + 1, k)),
-        type2: TypeNumber(cell(work, ROW_TYPES, second)),
-        bound: bound_of(work, binder),
-        pre: MapNumber(cell(work, PRES, k)),
-        post: MapNumber(cell(work, POSTS, k)),
-        start: MapNumber(cell(work, STARTS, k)),
-        post1: MapNumber(cell(work, POSTS + 1, k)),
-        post2: MapNumber(cell(work, POSTS, second)),
-        signature: signature_of(work, value),
-    }
-}
+ghost use Rattle.walk.specs.Walk.{stepOutcome, refusesTypes, counted, stops, putPre, passOn, walk};
 
 // The conditions of step k.
 fn check_step(work: &[u32], locations: u32, denominator: u32, k: u32) -> Ruling
     ensures { λ r. ⌜ outcome r ≡ stepOutcome (now (work .entry)) locations denominator k ⌝ }
 {
     let r = rule_of(cell(work, WORDS, k));
-    let s = view_of(work, locations, denominator, k);
-    check_rule(r, work, s, type_at(work, s.typed), type_at(work, s.type1))
+    check_rule(r, work, locations, denominator, k)
 }
 
 // Whether a refusal is on types.

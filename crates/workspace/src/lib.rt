@@ -317,11 +317,15 @@ fn type_of(kind: u32, first: u32, second: u32) -> TypeLine
     }
 }
 
-// The type line with a number.
+// The type line with a number. The three columns stand one behind the other, so where the last of its numbers is in the work space
+// the others are, and none is looked for by itself.
 pub fn type_at(work: &[u32], t: TypeNumber) -> TypeLine
     ensures { λ r. ⌜ r ≡ typeAt (now (work .entry)) t ⌝ }
 {
     let i = index(t.0);
+    if SECONDS + i < work.len() {
+        return type_of(work[KINDS + i], work[FIRSTS + i], work[SECONDS + i]);
+    }
     type_of(
         at(work, KINDS + i),
         at(work, FIRSTS + i),

@@ -3,9 +3,14 @@ use borrow.Author.Needs.{needs}
 use Rattle.workspace.proofs.type_at.Statement.{statement}
 use Rattle.workspace.proofs.type_at.Tie as tie
 
+-- all three are read at once, or each by itself
 returns : tie.Need-returns
 unfolding typeAt
 returns c = cc
+
+returns-2 : tie.Need-returns-2
+unfolding typeAt
+returns-2 c = cc
 
 pub type-at-spec : {M : Type 1} → statement M
 type-at-spec =
@@ -13,10 +18,22 @@ type-at-spec =
     (tie.spec
     (λ c κs. search needs)
     (λ c. search needs)
+    (λ c. search needs)
+    (λ c. search needs)
+    (λ c. search needs)
+    (λ c. search needs)
+    (λ c. search needs)
+    (λ c. search needs)
+    (λ c. search needs)
+    (λ c. search needs)
+    (λ c. search needs)
     (λ c κs. search needs)
+    returns
     (λ c. search needs)
     (λ c κs. search needs)
     (λ c. search needs)
     (λ c κs. search needs)
+    (λ c. search needs)
     (λ c κs. search needs)
-    returns)
+    (λ c κs. search needs)
+    returns-2)

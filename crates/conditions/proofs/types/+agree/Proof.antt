@@ -15,14 +15,14 @@ use Rattle.workspace.proofs.type_at.Reads as type-at-reads
 use Rattle.conditions.proofs.types.+agree.{statement}
 use Rattle.conditions.proofs.types.+agree.Tie.{close}
 
-abbrev μ-agree : Measures 1 agree-kinds.ps ℕ
+abbrev μ-agree : Measures 2 agree-kinds.ps ℕ
 μ-agree κs a = a .1 .1 .0 .0
 
-abbrev agree-at : ℕ → In 1 agree-kinds.ps
-agree-at t = and 1 agree-kinds.ps (is 1 agree-kinds.ps μ-agree t) agree.Pre
+abbrev agree-at : ℕ → In 2 agree-kinds.ps
+agree-at t = and 2 agree-kinds.ps (is 2 agree-kinds.ps μ-agree t) agree.Pre
 
-abbrev agree-below : ℕ → In 1 agree-kinds.ps
-agree-below t = and 1 agree-kinds.ps (falls 1 agree-kinds.ps _<_ μ-agree t) agree.Pre
+abbrev agree-below : ℕ → In 2 agree-kinds.ps
+agree-below t = and 2 agree-kinds.ps (falls 2 agree-kinds.ps _<_ μ-agree t) agree.Pre
 
 -- the contracts of what it calls, itself at a smaller number
 abbrev calls : ℕ → agree-lts.Claims
@@ -41,48 +41,56 @@ itself t c = sym (itself-agrees _ _ _ _ (c .if1 .taken))
 
 plain : (t : ℕ) → agree-lts.Need-returns-2 (calls t) (agree-at t) agree.Post
 plain t c =
-    let lines = c .before .before in
+    let other = c .before in
+    let no-ref = other .before .before .before in
+    let first = no-ref .before in
     c .agree-plain .ensures
-    ∙ plain-agree _ _ _ _ (lines .before .before .if1 .left) (lines .before .type-at .ensures) (lines .type-at2 .ensures) (c .before .match .keys2)
+    ∙ plain-agree _ _ _ _ (first .before .before .if1 .left) (first .type-at .ensures) (other .type-at2 .ensures) (no-ref .match .keys2)
 
 alone : (t : ℕ) → agree-lts.Need-returns-3 (calls t) (agree-at t) agree.Post
 alone t c =
-    let at-kind = c .before .before in
-    let lines = at-kind .before .before in
-    sym (ref-alone _ _ _ _ (lines .before .before .if1 .left) (lines .before .type-at .ensures) (lines .type-at2 .ensures) (at-kind .kind .given .1)
+    let other = c .before in
+    let at-kind = other .before .before .before in
+    let first = at-kind .before .before in
+    sym (ref-alone _ _ _ _ (first .before .before .if1 .left) (first .type-at .ensures) (other .type-at3 .ensures) (at-kind .kind .given .1)
     (not-ref _ (c .match2 .keys2)))
 
 apart : (t : ℕ) → agree-lts.Need-returns-4 (calls t) (agree-at t) agree.Post
 apart t c =
     let at-other = c .before .before .before .before in
-    let at-kind = at-other .before .before .before in
-    let lines = at-kind .before .before in
-    sym (refs-apart _ _ _ _ (lines .before .before .if1 .left) (lines .before .type-at .ensures) (lines .type-at2 .ensures) (at-kind .kind .given .1)
+    let other = at-other .before .before in
+    let at-kind = other .before .before .before in
+    let first = at-kind .before .before in
+    sym (refs-apart _ _ _ _ (first .before .before .if1 .left) (first .type-at .ensures) (other .type-at3 .ensures) (at-kind .kind .given .1)
     (at-other .other .given .1) (c .if2 .taken))
 
 not-smaller : (t : ℕ) → agree-lts.Need-returns-5 (calls t) (agree-at t) agree.Post
 not-smaller t c =
     let at-if = c .before .before .before in
     let at-other = at-if .before .before .before .before in
-    let at-kind = at-other .before .before .before in
-    let lines = at-kind .before .before in
-    sym (refs-not-smaller _ _ _ _ (lines .before .before .if1 .left) (lines .before .type-at .ensures) (lines .type-at2 .ensures) (at-kind .kind .given .1)
+    let other = at-other .before .before in
+    let at-kind = other .before .before .before in
+    let first = at-kind .before .before in
+    sym (refs-not-smaller _ _ _ _ (first .before .before .if1 .left) (first .type-at .ensures) (other .type-at3 .ensures) (at-kind .kind .given .1)
     (at-other .other .given .1) (at-if .if2 .left) (c .if3 .taken))
 
 content-smaller : (t : ℕ) → agree-lts.Need-agree-requires (calls t) (agree-at t) agree.Post
 content-smaller t c κs =
     let at-other = c .before .before .before .before .before .before .before in
-    let at-start = at-other .before .before .before .before .before .before .before .before .before .before .before in
-    (omega (arith, c .if3 .left, at-start .pre .0), tt)
+    let at-kind = at-other .before .before .before .before .before in
+    let test = at-kind .before .before .before .before in
+    let start = test .before .before .before in
+    (omega (arith, c .if3 .left, start .pre .0), tt)
 
 by-contents : (t : ℕ) → agree-lts.Need-returns-6 (calls t) (agree-at t) agree.Post
 by-contents t c =
     let at-if = c .before .before .before .before in
     let at-other = at-if .before .before .before .before in
-    let at-kind = at-other .before .before .before in
-    let lines = at-kind .before .before in
+    let other = at-other .before .before in
+    let at-kind = other .before .before .before in
+    let first = at-kind .before .before in
     c .agree .ensures
-    ∙ refs-by-contents _ _ _ _ (lines .before .before .if1 .left) (lines .before .type-at .ensures) (lines .type-at2 .ensures) (at-kind .kind .given .1)
+    ∙ refs-by-contents _ _ _ _ (first .before .before .if1 .left) (first .type-at .ensures) (other .type-at3 .ensures) (at-kind .kind .given .1)
     (at-other .other .given .1) (at-if .if2 .left) (omega (arith, c .before .if3 .left))
 
 pub +agree-spec : {M : Type 1} → statement M
@@ -91,10 +99,11 @@ pub +agree-spec : {M : Type 1} → statement M
     agree.Post
     (itself t)
     (λ c κs. search needs)
-    (λ c κs. search needs)
     (λ c. search needs)
     (λ c κs. search needs)
+    (λ c κs. search needs)
     (plain t)
+    (λ c κs. search needs)
     (λ c. search needs)
     (alone t)
     (apart t)

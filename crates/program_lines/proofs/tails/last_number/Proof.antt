@@ -1,8 +1,8 @@
 -- The line goes on behind a comma, with one numeral.
 use Rattle.lexer.proofs.Walks.{not-comma}
-use Rattle.program_lines.proofs.TailLaws.{tail-read-one, tail-read-none}
+use Rattle.program_lines.proofs.TailLaws.{tail-no-number, tail-ends, tail-goes-on, tail-open}
 use borrow.Author.Needs.{needs}
-use mathlib.Core.Path.{refl}
+use mathlib.Core.Path.{sym, _∙_}
 use Rattle.program_lines.proofs.tails.last_number.Statement.{statement}
 use Rattle.program_lines.proofs.tails.last_number.Tie as tie
 
@@ -10,14 +10,28 @@ returns : tie.Need-returns
 returns c = λ e. absurd (not-comma _ (c .match .keys2) e)
 
 returns-2 : tie.Need-returns-2
-returns-2 c =
-    let at-numbers = c .before .before .before .before in
-    let at-enum-told = at-numbers .before .before in
-    let at-pre = at-enum-told .before .before .before in
-    tail-read-one _ _ _ _ _ _ (at-numbers .numbers .ensures) refl _ (at-enum-told .enum-told .given .1) (at-pre .pre) (c .before .behind .given .1)
+returns-2 c = tail-no-number _ _ _ (sym (c .before .before .number .ensures) ∙ c .enum-told2 .given .1)
 
 returns-3 : tie.Need-returns-3
-returns-3 c = tail-read-none _ _ _ _ _ _ (c .before .before .before .numbers .ensures) refl (c .enum-told2 .given .1)
+returns-3 c =
+    let found = c .before .before .before .before in
+    let number = found .before .before in
+    let comma = number .before in
+    let start = comma .before .before .before in
+    tail-ends _ _ _ _ _ _ (sym (number .number .ensures) ∙ found .found .given .1) (start .pre) (comma .enum-told .given .1)
+    (c .before .enum-told3 .given .1) _ (c .narrow .ensures)
+
+returns-4 : tie.Need-returns-4
+returns-4 c =
+    let found = c .before .before .before in
+    let number = found .before .before in
+    let start = number .before .before .before .before in
+    tail-goes-on _ _ _ _ _ _ (sym (number .number .ensures) ∙ found .found .given .1) (start .pre) (c .enum-told4 .given .1)
+
+returns-5 : tie.Need-returns-5
+returns-5 c =
+    let found = c .before .before .before in
+    tail-open _ _ _ _ _ _ (sym (found .before .before .number .ensures) ∙ found .found .given .1) (c .enum-told5 .given .1)
 
 pub last-number-spec : {M : Type 1} → statement M
 last-number-spec =
@@ -25,10 +39,14 @@ last-number-spec =
     (tie.spec
     (λ c. search needs)
     returns
+    (λ c κs. search needs)
+    (λ c. search needs)
+    (λ c. search needs)
+    returns-2
     (λ c. search needs)
     (λ c κs. search needs)
     (λ c. search needs)
     (λ c. search needs)
-    (λ c. search needs)
-    returns-2
-    returns-3)
+    returns-3
+    returns-4
+    returns-5)

@@ -7,22 +7,22 @@ use Rattle.rules.proofs.rows.check_call.Statement.{statement}
 use Rattle.rules.proofs.rows.check_call.Tie as tie
 
 returns : tie.Need-returns
-returns c = fail _ _ _ _ (sym (c .before .before .agree .ensures) ∙ not-true _ (c .before .if1 .taken)) (c .type-false .ensures)
+returns c = fail _ _ _ _ (sym (c .before .before .agrees .ensures) ∙ not-true _ (c .before .if1 .taken)) (c .type-false .ensures)
 
 returns-2 : tie.Need-returns-2
 returns-2 c =
     let second = c .before .before in
     let first = second .before in
-    pass _ _ _ _ (sym (first .before .agree .ensures) ∙ not-false _ (first .if1 .left))
-    (fail _ _ _ _ (sym (second .agree2 .ensures) ∙ not-true _ (c .before .if2 .taken)) (c .type-false2 .ensures))
+    pass _ _ _ _ (sym (first .before .agrees .ensures) ∙ not-false _ (first .if1 .left))
+    (fail _ _ _ _ (sym (second .agrees2 .ensures) ∙ not-true _ (c .before .if2 .taken)) (c .type-false2 .ensures))
 
 returns-3 : tie.Need-returns-3
 returns-3 c =
     let types = c .before .before .before in
     let second = types .before in
     let first = second .before in
-    pass _ _ _ _ (sym (first .before .agree .ensures) ∙ not-false _ (first .if1 .left))
-    (pass _ _ _ _ (sym (second .agree2 .ensures) ∙ not-false _ (types .if2 .left))
+    pass _ _ _ _ (sym (first .before .agrees .ensures) ∙ not-false _ (first .if1 .left))
+    (pass _ _ _ _ (sym (second .agrees2 .ensures) ∙ not-false _ (types .if2 .left))
     (next _ _ _ _ _ _ (c .also .ensures) (c .before .before .sum .ensures)
     (last _ _ _ (c .before .sum2 .ensures))))
 

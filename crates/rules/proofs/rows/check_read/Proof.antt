@@ -15,7 +15,7 @@ returns-2 c =
     let content = c .before .before in
     rw (content .before .before .kind1 .given .1)
     (pass _ _ _ _ refl
-    (fail _ _ _ _ (sym (content .agree .ensures) ∙ not-true _ (c .before .if1 .taken)) (c .type-false2 .ensures)))
+    (fail _ _ _ _ (sym (content .agrees .ensures) ∙ not-true _ (c .before .if1 .taken)) (c .type-false2 .ensures)))
 
 returns-3 : tie.Need-returns-3
 unfolding isRef refLocation containsIn
@@ -24,7 +24,7 @@ returns-3 c =
     let content = test .before in
     rw (content .before .before .kind1 .given .1)
     (pass _ _ _ _ refl
-    (pass _ _ _ _ (sym (content .agree .ensures) ∙ not-false _ (test .if1 .left))
+    (pass _ _ _ _ (sym (content .agrees .ensures) ∙ not-false _ (test .if1 .left))
     (next _ _ _ _ _ _ (c .also .ensures) (c .before .before .equal .ensures)
     (last _ _ _ (c .before .has .ensures)))))
 

@@ -12,14 +12,14 @@ unfolding containsIn
 returns-2 c =
     let content = c .before .before in
     rw (content .before .before .kind .given .1)
-    (fail _ _ _ _ (sym (content .agree .ensures) ∙ not-true _ (c .before .if1 .taken)) (c .type-false2 .ensures))
+    (fail _ _ _ _ (sym (content .agrees .ensures) ∙ not-true _ (c .before .if1 .taken)) (c .type-false2 .ensures))
 
 returns-3 : tie.Need-returns-3
 unfolding containsIn
 returns-3 c =
     let content = c .before .before in
     rw (content .before .before .kind .given .1)
-    (pass _ _ _ _ (sym (content .agree .ensures) ∙ not-false _ (c .before .if1 .left)) (last _ _ _ (c .equal .ensures)))
+    (pass _ _ _ _ (sym (content .agrees .ensures) ∙ not-false _ (c .before .if1 .left)) (last _ _ _ (c .equal .ensures)))
 
 pub check-ref-spec : {M : Type 1} → statement M
 check-ref-spec =

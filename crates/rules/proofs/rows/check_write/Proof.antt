@@ -23,7 +23,7 @@ returns-3 c =
     rw (part .before .before .enum-told .given .1, part .kind1 .given .1)
     (pass _ _ _ _ refl
     (pass _ _ _ _ refl
-    (fail _ _ _ _ (sym (content .agree .ensures) ∙ not-true _ (c .before .if1 .taken)) (c .type-false3 .ensures))))
+    (fail _ _ _ _ (sym (content .agrees .ensures) ∙ not-true _ (c .before .if1 .taken)) (c .type-false3 .ensures))))
 
 returns-4 : tie.Need-returns-4
 unfolding isInt isRef refLocation containsIn
@@ -34,7 +34,7 @@ returns-4 c =
     rw (part .before .before .enum-told .given .1, part .kind1 .given .1)
     (pass _ _ _ _ refl
     (pass _ _ _ _ refl
-    (pass _ _ _ _ (sym (content .agree .ensures) ∙ not-false _ (test .if1 .left))
+    (pass _ _ _ _ (sym (content .agrees .ensures) ∙ not-false _ (test .if1 .left))
     (next _ _ _ _ _ _ (c .also .ensures) (c .before .before .equal .ensures)
     (last _ _ _ (c .before .has .ensures))))))
 

@@ -1,11 +1,11 @@
 -- Reading a step calls reading of its parts, which calls reading of a step. The measure is twice the lines left, and one
--- more for the parts: a step passes its own line, and steps one after the other each pass at least one.
+-- more for the parts: a step passes its own line, and a first part at least one before the second is read.
 use borrow.Author.Needs.{needs}
 use native.Mathlib.Omega.{arith}
-use mathlib.Core.Path.{ap, _∙_}
+use mathlib.Core.Path.{refl, sym, ap, subst, _∙_}
 use Prim.Native.Nat.{ℕ, _<_, _+_, _-_, _*_}
-use Rattle.structure.specs.Structure.{partsOf}
-use Rattle.structure.proofs.StructureLaws.{within, past, parts-none, parts-open, parts-more, step-none, step-open, step-more}
+use Rattle.structure.specs.Structure.{partsOf, Ended}
+use Rattle.structure.proofs.StructureLaws.{reached-by, unfinished-by, past, parts-none, parts-open, parts-more, step-none, step-open, step-more}
 use borrow.Fn.Kinds.{In}
 use borrow.Fn.PlainCycle.{Measures, is, falls, and}
 use Rattle.structure.proofs.tree.read_parts.Reads as read-parts
@@ -14,7 +14,6 @@ use Rattle.structure.proofs.tree.+read_parts+read_step.Lts-read_parts a
 use Rattle.structure.proofs.tree.read_step.Reads as read-step
 use Rattle.structure.proofs.tree.read_step.Kinds as read-step-kinds
 use Rattle.structure.proofs.tree.+read_parts+read_step.Lts-read_step as read-step-lts
-use Rattle.structure.proofs.tree.parts_of.Reads as parts-of-reads
 use Rattle.workspace.proofs.word_of.Reads as word-of-reads
 use Rattle.structure.proofs.tree.+read_parts+read_step.{statement}
 use Rattle.structure.proofs.tree.+read_parts+read_step.Tie.{close}
@@ -42,109 +41,135 @@ read-step-below t =
 
 -- the contracts of the functions that each calls, those of the two below the measure t
 abbrev parts-calls : ℕ → read-parts-lts.Claims
-parts-calls t = (read-step-below t, read-step.Post, read-parts-below t, read-parts.Post)
+parts-calls t = (read-step-below t, read-step.Post)
 
 abbrev step-calls : ℕ → read-step-lts.Claims
-step-calls t =
-    (word-of-reads.Asked, word-of-reads.Learnt, parts-of-reads.Asked, parts-of-reads.Learnt, read-parts-below t, read-parts.Post)
+step-calls t = (word-of-reads.Asked, word-of-reads.Learnt, read-parts-below t, read-parts.Post)
 
-read-parts-returns : (t : ℕ) → read-parts-lts.Need-returns (parts-calls t) (read-parts-at t) read-parts.Post
-read-parts-returns t c = parts-none _ _ _ _ (c .before .before .pre .1 .0 .long) (c .before .before .pre .1 .0 .few) (c .before .before .pre .1 .1) (c .if1 .taken)
+-- ------------------------------------------------------------------ the parts of a step
 
-read-parts-read-step-requires : (t : ℕ) → read-parts-lts.Need-read-step-requires (parts-calls t) (read-parts-at t) read-parts.Post
-read-parts-read-step-requires t c κs =
-    let at-pre = c .before .before .before in
-    (omega (arith, at-pre .pre .0), at-pre .pre .1)
+one-part-requires : (t : ℕ) → read-parts-lts.Need-read-step-requires (parts-calls t) (read-parts-at t) read-parts.Post
+one-part-requires t c κs =
+    let start = c .before .before .before .before in
+    (omega (arith, start .pre .0), start .pre .1)
 
-read-parts-read-parts-requires : (t : ℕ) → read-parts-lts.Need-read-parts-requires (parts-calls t) (read-parts-at t) read-parts.Post
-read-parts-read-parts-requires t c κs =
-    let at-read-step = c .before .before .before .before .before .before in
-    let at-pre = at-read-step .before .before .before .before in
-    let q = within _ 1 _ _ _ _ _ (at-pre .pre .1 .1) (at-read-step .read-step .ensures) (c .before .before .e .given .1) in
-    let l = past _ _ _ _ _ _ (at-read-step .read-step .ensures) (c .before .before .e .given .1) in
-    (omega (arith, l, q .1, at-pre .pre .0), (record { long = at-read-step .read-step .kept .0 ∙ at-pre .pre .1 .0 .long; few = at-pre .pre .1 .0 .few }, q .1))
+first-part-requires : (t : ℕ) → read-parts-lts.Need-read-step-requires-2 (parts-calls t) (read-parts-at t) read-parts.Post
+first-part-requires t c κs =
+    let start = c .before .before .before .before in
+    (omega (arith, start .pre .0), start .pre .1)
 
-read-parts-returns-2 : (t : ℕ) → read-parts-lts.Need-returns-2 (parts-calls t) (read-parts-at t) read-parts.Post
-read-parts-returns-2 t c =
-    let at-e = c .before .before .before .before .before in
-    let at-read-step = at-e .before .before .before .before in
-    let at-if1 = at-read-step .before .before in
-    let at-pre = at-if1 .before .before in
-    parts-more _ _ _ _ (at-pre .pre .1 .0 .long) (at-pre .pre .1 .0 .few) (at-pre .pre .1 .1) _ _ (at-if1 .if1 .left) (at-read-step .read-step .ensures) _ _ _ (at-e .e .given .1) (c .before .before .read-parts .ensures)
+first-part-open : (t : ℕ) → read-parts-lts.Need-returns (parts-calls t) (read-parts-at t) read-parts.Post
+first-part-open t c =
+    let first = c .before .before .before in
+    let told = first .before .before in
+    let start = told .before .before .before in
+    let room = start .pre .1 .0 in
+    let missing = unfinished-by _ _ (c .if1 .taken) in
+    (rw (told .enum-told3 .given .1) (subst (Ended _ 2 _ _ _) (sym missing) (parts-open _ 2 _ _ (room .long) (room .few) (start .pre .1 .1) _ _ (λ z. omega arith) (first .read-step2 .ensures .0) missing)), first .read-step2 .ensures .1)
 
-read-parts-returns-3 : (t : ℕ) → read-parts-lts.Need-returns-3 (parts-calls t) (read-parts-at t) read-parts.Post
-read-parts-returns-3 t c =
-    let at-read-step = c .before .before .before .before in
-    let at-if1 = at-read-step .before .before in
-    let at-pre = at-if1 .before .before in
-    parts-open _ _ _ _ (at-pre .pre .1 .0 .long) (at-pre .pre .1 .0 .few) (at-pre .pre .1 .1) _ _ (at-if1 .if1 .left) (at-read-step .read-step .ensures) (c .enum-told .given .1)
+second-part-requires : (t : ℕ) → read-parts-lts.Need-read-step-requires-3 (parts-calls t) (read-parts-at t) read-parts.Post
+second-part-requires t c κs =
+    let test = c .before in
+    let first = test .before .before .before in
+    let start = first .before .before .before .before .before in
+    let room = start .pre .1 .0 in
+    let x = first .read-step2 .ensures .0 in
+    let l = past _ _ _ _ _ _ x (reached-by _ _ (test .if1 .left)) in
+    (omega (arith, l, test .if1 .left, start .pre .0), (record { long = x .changed .long ∙ room .long; few = room .few }, test .if1 .left))
 
-read-step-returns : (t : ℕ) → read-step-lts.Need-returns (step-calls t) (read-step-at t) read-step.Post
-read-step-returns t c = step-none _ _ _ (c .before .before .pre .1 .0 .long) (c .before .before .pre .1 .0 .few) (c .before .before .pre .1 .1) (c .if1 .taken)
+no-part : (t : ℕ) → read-parts-lts.Need-returns-2 (parts-calls t) (read-parts-at t) read-parts.Post
+no-part t c =
+    let start = c .before .before .before in
+    let room = start .pre .1 .0 in
+    (rw (c .enum-told .given .1) (subst (Ended _ 0 _ _ _) (sym (reached-by _ _ (start .pre .1 .1))) (parts-none _ 0 _ _ (room .long) (room .few) (start .pre .1 .1) refl)), omega (arith, start .pre .1 .1))
 
-read-step-read-parts-requires : (t : ℕ) → read-step-lts.Need-read-parts-requires (step-calls t) (read-step-at t) read-step.Post
-read-step-read-parts-requires t c κs =
-    let at-if1 = c .before .before .before .before in
-    let at-pre = at-if1 .before .before in
-    (omega (arith, at-pre .pre .0, at-if1 .if1 .left), (at-pre .pre .1 .0, omega (arith, at-if1 .if1 .left)))
+one-part : (t : ℕ) → read-parts-lts.Need-returns-3 (parts-calls t) (read-parts-at t) read-parts.Post
+one-part t c =
+    let part = c .before .before in
+    (rw (part .before .before .enum-told2 .given .1) (part .read-step .ensures .0), part .read-step .ensures .1)
 
-read-step-cast-work : (t : ℕ) → read-step-lts.Need-cast-work (step-calls t) (read-step-at t) read-step.Post
-read-step-cast-work t c =
-    let at-read-parts = c .before .before .before .before .before in
-    let at-if1 = at-read-parts .before .before .before .before .before in
-    let at-pre = at-if1 .before .before in
-    omega (arith, at-pre .pre .1 .0 .few, within _ _ _ _ _ _ _ (omega (arith, at-if1 .if1 .left)) (at-read-parts .read-parts .ensures) (c .before .e .given .1) .1)
+two-parts : (t : ℕ) → read-parts-lts.Need-returns-4 (parts-calls t) (read-parts-at t) read-parts.Post
+two-parts t c =
+    let second = c .before .before in
+    let test = second .before .before in
+    let first = test .before .before .before in
+    let told = first .before .before in
+    let start = told .before .before .before in
+    let room = start .pre .1 .0 in
+    (rw (told .enum-told3 .given .1) (parts-more _ 2 _ _ (room .long) (room .few) (start .pre .1 .1) _ _ (λ z. omega arith) (first .read-step2 .ensures .0) _ _ _ (reached-by _ _ (test .if1 .left)) (second .read-step3 .ensures .0)), second .read-step3 .ensures .1)
 
-read-step-returns-2 : (t : ℕ) → read-step-lts.Need-returns-2 (step-calls t) (read-step-at t) read-step.Post
-read-step-returns-2 t c =
-    let at-read-parts = c .before .before .before .before .before in
-    let at-parts-of = at-read-parts .before .before in
-    let at-word-of = at-parts-of .before in
-    let at-if1 = at-word-of .before .before in
-    let at-pre = at-if1 .before .before in
-    step-more _ _ _ (at-pre .pre .1 .0 .long) (at-pre .pre .1 .0 .few) _ _ _ (at-if1 .if1 .left) (at-parts-of .parts-of .ensures ∙ ap partsOf (at-word-of .word-of .ensures)) (at-read-parts .read-parts .ensures) _ (c .before .e .given .1)
+-- ------------------------------------------------------------------ a step
 
-read-step-returns-3 : (t : ℕ) → read-step-lts.Need-returns-3 (step-calls t) (read-step-at t) read-step.Post
-read-step-returns-3 t c =
-    let at-read-parts = c .before .before .before .before in
-    let at-parts-of = at-read-parts .before .before in
-    let at-word-of = at-parts-of .before in
-    let at-if1 = at-word-of .before .before in
-    let at-pre = at-if1 .before .before in
-    step-open _ _ _ (at-pre .pre .1 .0 .long) (at-pre .pre .1 .0 .few) _ _ _ (at-if1 .if1 .left) (at-parts-of .parts-of .ensures ∙ ap partsOf (at-word-of .word-of .ensures)) (at-read-parts .read-parts .ensures) (c .enum-told .given .1)
+no-step : (t : ℕ) → read-step-lts.Need-returns (step-calls t) (read-step-at t) read-step.Post
+no-step t c =
+    let start = c .before .before in
+    let room = start .pre .1 .0 in
+    let n = start .args .n in
+    (subst (Ended n 1 _ _ _) (sym (unfinished-by n (n + 1) (omega arith))) (step-none _ _ _ (room .long) (room .few) (start .pre .1 .1) (c .if1 .taken)), omega arith)
+
+parts-requires : (t : ℕ) → read-step-lts.Need-read-parts-requires (step-calls t) (read-step-at t) read-step.Post
+parts-requires t c κs =
+    let test = c .before .before .before in
+    let start = test .before .before in
+    (omega (arith, start .pre .0, test .if1 .left), (start .pre .1 .0, omega (arith, test .if1 .left)))
+
+open-step : (t : ℕ) → read-step-lts.Need-returns-2 (step-calls t) (read-step-at t) read-step.Post
+open-step t c =
+    let parts = c .before .before .before in
+    let word = parts .before .before in
+    let test = word .before .before in
+    let room = test .before .before .pre .1 .0 in
+    let missing = unfinished-by _ _ (c .if2 .taken) in
+    (subst (Ended _ 1 _ _ _) (sym missing) (step-open _ _ _ (room .long) (room .few) _ _ _ (test .if1 .left) (ap partsOf (word .word-of .ensures)) (parts .read-parts .ensures .0) missing), parts .read-parts .ensures .1)
+
+cast-work : (t : ℕ) → read-step-lts.Need-cast-work (step-calls t) (read-step-at t) read-step.Post
+cast-work t c =
+    let parts = c .before .before .before in
+    let start = parts .before .before .before .before .before .before in
+    omega (arith, start .pre .1 .0 .few, parts .read-parts .ensures .1)
+
+whole-step : (t : ℕ) → read-step-lts.Need-returns-3 (step-calls t) (read-step-at t) read-step.Post
+whole-step t c =
+    let parts = c .before .before .before in
+    let word = parts .before .before in
+    let test = word .before .before in
+    let room = test .before .before .pre .1 .0 in
+    let ended = reached-by _ _ (c .if2 .left) in
+    (subst (Ended _ 1 _ _ _) (sym ended) (step-more _ _ _ (room .long) (room .few) _ _ _ (test .if1 .left) (ap partsOf (word .word-of .ensures)) (parts .read-parts .ensures .0) _ ended), parts .read-parts .ensures .1)
 
 pub +read-parts+read-step-spec : {M : Type 1} → statement M
 +read-parts+read-step-spec = close μ-read-parts μ-read-step (λ t. read-parts-lts.spec (parts-calls t)
     (read-parts-at t)
     read-parts.Post
-    (read-parts-returns t)
-    (read-parts-read-step-requires t)
     (λ c. search needs)
     (λ c. search needs)
-    (read-parts-read-parts-requires t)
+    (one-part-requires t)
     (λ c. search needs)
+    (first-part-requires t)
     (λ c. search needs)
-    (read-parts-returns-2 t)
+    (first-part-open t)
+    (second-part-requires t)
+    (no-part t)
     (λ c. search needs)
-    (read-parts-returns-3 t))
+    (one-part t)
+    (λ c. search needs)
+    (two-parts t))
     λ t. read-step-lts.spec (step-calls t)
     (read-step-at t)
     read-step.Post
-    (read-step-returns t)
+    (λ c. search needs)
+    (no-step t)
     (λ c. search needs)
     (λ c. search needs)
     (λ c. search needs)
     (λ c κs. search needs)
-    (λ c κs. search needs)
     (λ c. search needs)
-    (read-step-read-parts-requires t)
+    (parts-requires t)
     (λ c. search needs)
-    (read-step-cast-work t)
-    (λ c. search needs)
-    (λ c. search needs)
+    (open-step t)
+    (cast-work t)
     (λ c. search needs)
     (λ c. search needs)
     (λ c. search needs)
-    (read-step-returns-2 t)
     (λ c. search needs)
-    (read-step-returns-3 t)
+    (whole-step t)

@@ -2,7 +2,7 @@
 use borrow.Author.Needs.{needs}
 use mathlib.Core.Path.{_∙_}
 use native.Mathlib.Omega.{arith}
-use Rattle.structure.proofs.StructureLaws.{expression-breaks, expression-ends, break-kept}
+use Rattle.structure.proofs.StructureLaws.{reached-by, unfinished-by, expression-breaks, expression-ends, break-kept}
 use Rattle.structure.proofs.tree.read_expression.Statement.{statement}
 use Rattle.structure.proofs.tree.read_expression.Tie as tie
 
@@ -23,20 +23,20 @@ read-step-requires c κs =
 
 break-line-requires : tie.Need-break-line-requires
 break-line-requires c κs =
-    let step = c .before .before .before .before .before in
-    record { long = step .read-step .ensures .changed .long ∙ begun step .pre .room .long; few = begun step .pre .few }
+    let step = c .before .before .before .before in
+    record { long = step .read-step .ensures .0 .changed .long ∙ begun step .pre .room .long; few = begun step .pre .few }
 
 returns : tie.Need-returns
 returns c =
-    let step = c .before .before .before .before .before in
-    expression-ends _ _ _ _ _ _ _ _ _ (limit step .limit-at .ensures) (step .read-step .ensures) _ (c .before .e .given .1)
+    let test = c .before .before in
+    let step = test .before .before .before in
+    expression-breaks _ _ _ _ _ _ _ _ _ (limit step .limit-at .ensures) (step .read-step .ensures .0) _ (unfinished-by _ _ (test .if1 .taken))
+    (c .break-line .ensures ∙ break-kept _ _ _ _ (begun step .pre .few) (step .read-step .ensures .0 .changed))
 
 returns-2 : tie.Need-returns-2
 returns-2 c =
-    let told = c .before .before in
-    let step = told .before .before .before .before in
-    expression-breaks _ _ _ _ _ _ _ _ _ (limit step .limit-at .ensures) (step .read-step .ensures) _ (told .enum-told .given .1)
-    (c .break-line .ensures ∙ break-kept _ _ _ _ (begun step .pre .few) (step .read-step .ensures .changed))
+    let step = c .before .before .before in
+    expression-ends _ _ _ _ _ _ _ _ _ (limit step .limit-at .ensures) (step .read-step .ensures .0) _ (reached-by _ _ (c .if1 .left))
 
 pub read-expression-spec : {M : Type 1} → statement M
 read-expression-spec =
@@ -44,8 +44,6 @@ read-expression-spec =
     (tie.spec
     (λ c κs. (c .before .before .pre .room, c .before .before .pre .few))
     read-step-requires
-    (λ c. search needs)
-    (λ c. search needs)
     break-line-requires
     (λ c. search needs)
     returns

@@ -7,21 +7,14 @@ use Rattle.walk.proofs.steps.check_step.Tie as tie
 returns : tie.Need-returns
 unfolding stepOutcome
 returns c =
-    let kind₁ = c .before in
-    let kind = kind₁ .before in
-    let view = kind .before in
-    let rule = view .before in
+    let rule = c .before in
     let word = rule .before in
-    c .check-rule .ensures
-    ∙ rw (kind₁ .type-at2 .ensures, kind .type-at .ensures, view .view-of .ensures, rule .rule-of .ensures, word .cell .ensures)
+    c .check-rule .ensures ∙ rw (rule .rule-of .ensures, word .cell .ensures)
 
 pub check-step-spec : {M : Type 1} → statement M
 check-step-spec =
     tie.close
     (tie.spec
-    (λ c κs. search needs)
-    (λ c κs. search needs)
-    (λ c κs. search needs)
     (λ c κs. search needs)
     (λ c κs. search needs)
     (λ c κs. search needs)

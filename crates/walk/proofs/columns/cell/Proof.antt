@@ -1,6 +1,6 @@
 use borrow.Author.Needs.{needs}
-use Rattle.walk.proofs.steps.cell.Statement.{statement}
-use Rattle.walk.proofs.steps.cell.Tie as tie
+use Rattle.walk.proofs.columns.cell.Statement.{statement}
+use Rattle.walk.proofs.columns.cell.Tie as tie
 
 returns : tie.Need-returns
 returns c = cc

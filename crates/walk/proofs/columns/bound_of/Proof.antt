@@ -1,8 +1,8 @@
 use borrow.Author.Tests.{lt-ltb, le-ltb}
 use Rattle.walk.specs.Walk.{boundOf}
 use borrow.Author.Needs.{needs}
-use Rattle.walk.proofs.steps.bound_of.Statement.{statement}
-use Rattle.walk.proofs.steps.bound_of.Tie as tie
+use Rattle.walk.proofs.columns.bound_of.Statement.{statement}
+use Rattle.walk.proofs.columns.bound_of.Tie as tie
 
 returns : tie.Need-returns
 unfolding boundOf

@@ -1,6 +1,6 @@
 use borrow.Author.Needs.{needs}
-use Rattle.walk.proofs.steps.signature_of.Statement.{statement}
-use Rattle.walk.proofs.steps.signature_of.Tie as tie
+use Rattle.walk.proofs.columns.signature_of.Statement.{statement}
+use Rattle.walk.proofs.columns.signature_of.Tie as tie
 
 returns : tie.Need-returns
 returns c =
