@@ -18,7 +18,7 @@ use Rattle.pass.specs.declared.UnaryWay.{UnaryWay}
 use Rattle.pass.specs.declared.UnaryWay.the-variants.{After, Loop, Call}
 use Rattle.pass.specs.declared.BinaryWay.{BinaryWay}
 use Rattle.pass.specs.declared.BinaryWay.the-variants.{InTurn, Branch, Fork}
-use Rattle.pass.specs.Ways.{cellIn, loadIn, inLoadIn, outLoadIn, readLoadIn, writeLoadIn, lendingIn, startNumberIn, beforeIn, afterIn, callingIn, wayBy, wayIn}
+use Rattle.pass.specs.Ways.{cellIn, firstIn, secondIn, lendingIn, startNumberIn, beforeIn, afterIn, callingIn, wayBy, wayIn}
 use Rattle.pass.specs.Shows.{unaryFlow, binaryFlow, Shows, leafShown, unaryShown, binaryShown}
 use Rattle.pass.specs.Bounds.{top, partCap, lastCap, firstCap, unaryCeiling, binaryCeiling, unaryReach, binaryReach, Room}
 use Rattle.pass.specs.Passed.{secondPre}
@@ -128,7 +128,7 @@ started l = omega arith
 
 module _ (w : List ℕ) (column : Column) (fits : (i : ℕ) → getD w i 0 < 4294967296) where
   rule-light : (r : Rule) (k : ℕ) → Light (wayBy r w column k)
-  unfolding moved wayBy unchanged taking giving needing lending loadIn inLoadIn outLoadIn readLoadIn writeLoadIn lendingIn startNumberIn beforeIn afterIn callingIn cellIn mapCell
+  unfolding moved wayBy unchanged taking giving needing lending firstIn secondIn lendingIn startNumberIn beforeIn afterIn callingIn cellIn mapCell
   rule-light VAR k = omega arith
   rule-light INT k = omega arith
   rule-light LET k = omega arith

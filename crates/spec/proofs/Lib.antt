@@ -5,6 +5,7 @@ pub mod Clashes
 pub mod Tests
 pub mod Texts
 pub mod Ranges
+pub mod Fits
 pub mod Wide
 pub mod Starts
 pub mod StartsBefore

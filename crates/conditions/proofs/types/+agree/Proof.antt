@@ -3,7 +3,8 @@ use borrow.Author.Needs.{needs}
 use mathlib.Core.Path.{sym, _∙_}
 use native.Mathlib.Omega.{arith}
 use Prim.Native.Nat.{ℕ, _<_}
-use Rattle.conditions.proofs.TypeKinds.{not-ref}
+use Rattle.spec.specs.Kinds.{ref}
+use Rattle.conditions.proofs.TypeKinds.{not-of}
 use Rattle.conditions.proofs.Agreement.{itself-agrees, plain-agree, ref-alone, refs-apart, refs-not-smaller, refs-by-contents}
 use borrow.Fn.Kinds.{In}
 use borrow.Fn.PlainCycle.{Measures, is, falls, and}
@@ -43,14 +44,14 @@ plain : (t : ℕ) → agree-lts.Need-returns-2 (calls t) (agree-at t) agree.Post
 plain t c =
     let lines = c .before .before in
     c .agree-plain .ensures
-    ∙ plain-agree _ _ _ _ (lines .before .before .if1 .left) (lines .before .type-at .ensures) (lines .type-at2 .ensures) (c .before .match .keys2)
+    ∙ plain-agree _ _ _ _ (lines .before .before .if1 .left) (lines .before .type-at .ensures) (lines .type-at2 .ensures) (not-of ref _ (c .before .match .keys2))
 
 alone : (t : ℕ) → agree-lts.Need-returns-3 (calls t) (agree-at t) agree.Post
 alone t c =
     let at-kind = c .before .before in
     let lines = at-kind .before .before in
     sym (ref-alone _ _ _ _ (lines .before .before .if1 .left) (lines .before .type-at .ensures) (lines .type-at2 .ensures) (at-kind .kind .given .1)
-    (not-ref _ (c .match2 .keys2)))
+    (not-of ref _ (c .match2 .keys2)))
 
 apart : (t : ℕ) → agree-lts.Need-returns-4 (calls t) (agree-at t) agree.Post
 apart t c =

@@ -1,12 +1,12 @@
 -- A row for each kind of type.
-use Rattle.spec.specs.Conditions.{inLoad}
+use Rattle.spec.specs.Kinds.{secondMap}
 use borrow.Author.Needs.{needs}
-use Rattle.pass.proofs.ways.in_load_of.Statement.{statement}
-use Rattle.pass.proofs.ways.in_load_of.Tie as tie
+use Rattle.pass.proofs.ways.second_map.Statement.{statement}
+use Rattle.pass.proofs.ways.second_map.Tie as tie
 
-pub in-load-of-spec : {M : Type 1} → statement M
-unfolding inLoad
-in-load-of-spec =
+pub second-map-spec : {M : Type 1} → statement M
+unfolding secondMap
+second-map-spec =
     tie.close
     (tie.spec
     (λ c. search needs)
@@ -20,4 +20,4 @@ in-load-of-spec =
     (λ c. rw (c .before .t .given .1))
     (λ c. rw (c .enum-told3 .given .1))
     (λ c. rw (c .enum-told4 .given .1))
-    (λ c. rw (c .enum-told5 .given .1)))
+    (λ c. rw (c .before .t2 .given .1)))
