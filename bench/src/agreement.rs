@@ -2,7 +2,7 @@
 
 use bench::plain;
 use evidence::answer::WORK_SPACE;
-use evidence::comparison::{Checker, WorkSpace};
+use evidence::checking::{Checker, WorkSpace};
 use evidence::series::SEED;
 use evidence::{draw, known};
 

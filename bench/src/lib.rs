@@ -8,7 +8,7 @@ pub mod pairs;
 pub mod plain;
 
 use evidence::answer::WORK_SPACE;
-use evidence::comparison::Checker;
+use evidence::checking::Checker;
 use evidence::second;
 
 /// The second checker. It has no work space, so as much is cleared behind it as the others must clear.

@@ -1,7 +1,7 @@
 //! One filling compared: a filler called on a sheet, its answer, its text and what it leaves behind.
 
 use crate::answer::{Returned, WORK_SPACE};
-use crate::comparison::{Checker, WorkSpace};
+use crate::checking::{Checker, WorkSpace};
 use crate::draw::unfilled::Unfilled;
 use crate::second;
 

@@ -5,7 +5,7 @@
 //! 02" the list of requests that change it, cited by their numbers.
 
 pub mod answer;
-pub mod comparison;
+pub mod checking;
 pub mod draw;
 pub mod drill;
 pub mod filling;

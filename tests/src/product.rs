@@ -8,7 +8,7 @@ pub const NOT_LINKED: &str = "the product is not linked: name the folder of its 
 /// Without the library there is nothing to call.
 #[cfg(not(product))]
 mod calls {
-    use crate::comparison::Checker;
+    use crate::checking::Checker;
     use crate::drill::Driller;
     use crate::filling::Filler;
     use crate::replaying::Replayer;
@@ -22,7 +22,7 @@ mod calls {
 #[cfg(product)]
 mod calls {
     use crate::answer::{Race, Replayed, Returned};
-    use crate::comparison::Checker;
+    use crate::checking::Checker;
     use crate::drill::{Drilled, Driller};
     use crate::filling::Filler;
     use crate::replaying::Replayer;

@@ -2,7 +2,7 @@
 //! leaves behind; and what a series of drawn traces met.
 
 use crate::answer::{Replayed, REPLAY_SPACE, WORK_SPACE};
-use crate::comparison::Checker;
+use crate::checking::Checker;
 use crate::draw::traces::Recorded;
 use crate::second::{self, Seen};
 use crate::steps::run::{Counted, Stopped, COUNTED};

@@ -9,7 +9,7 @@ use bench::grown::Counts;
 use bench::pairs::{self, Pair};
 use bench::{plain, SECOND};
 use evidence::answer::{REPLAY_SPACE, SPLIT_BYTES, WORK_SPACE};
-use evidence::comparison::Checker;
+use evidence::checking::Checker;
 use evidence::filling::{self, Filler};
 use evidence::replaying::Replayer;
 use evidence::{product, second};

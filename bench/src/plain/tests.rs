@@ -2,7 +2,7 @@
 
 use super::check;
 use evidence::answer::WORK_SPACE;
-use evidence::comparison::{difference, WorkSpace};
+use evidence::checking::{difference, WorkSpace};
 use evidence::draw;
 use evidence::series::SEED;
 use evidence::tally::{Tally, CHECKING};

@@ -15,7 +15,7 @@ use Rattle.spec.specs.declared.Refusal.{Refusal}
 use Rattle.spec.proofs.Clashes.{true-is-not-false}
 use Rattle.spec.proofs.Accepted.{accepted-is-right, right-is-accepted}
 use Rattle.spec.proofs.FirstFalse.{refusal-names-first-false}
-use Rattle.returned.proofs.Refusals.{refusal-number}
+use Rattle.spec.proofs.Refusals.{refusal-number}
 use Rattle.soundness.specs.SafeText.{SafeText}
 use Rattle.soundness.specs.EitherOrderText.{EitherOrderText}
 use Rattle.soundness.proofs.Safety.{accepted-is-safe}

@@ -18,7 +18,8 @@ use Rattle.writer.proofs.Buffer.{overwrite-front}
 use Rattle.drill_theory.specs.Draw.{drawn, readers, readersOf, Drawable}
 use Rattle.drill_theory.specs.Pair.{programText, splitText, programOf, splitOf}
 use Rattle.drill_theory.proofs.Accepted.{pair-accepted, seed-accepted}
-use Rattle.drill.specs.Answer.{drilledNumbers, returnedBy, roomy, answerOf, inFront}
+use Rattle.written.specs.Text.{inFront}
+use Rattle.drill.specs.Answer.{drilledNumbers, returnedBy, roomy, answerOf}
 use Rattle.drill.specs.declared.Drilled.{Drilled}
 use Rattle.drill.specs.declared.Drilled.the-variants.{Made, Short}
 
@@ -37,11 +38,11 @@ module _ (seed x k : ℕ) (drew : x ≡ drawn seed) (counted : k ≡ readers x) 
 module _ {k : ℕ} (drawable : Drawable k) where
   pub program-within : length (programText k) ≤ 16384
   unfolding programLimit
-  program-within = accepted-is-right _ _ _ (pair-accepted drawable) .sheets .program .fits
+  program-within = accepted-is-right _ _ _ (pair-accepted drawable) .judgeable .sheets .program .fits
 
   pub split-within : length (splitText k) ≤ 65536
   unfolding splitLimit
-  split-within = accepted-is-right _ _ _ (pair-accepted drawable) .sheets .split .fits
+  split-within = accepted-is-right _ _ _ (pair-accepted drawable) .judgeable .sheets .split .fits
 
 -- ------------------------------------------------------------------ the promise
 

@@ -1,9 +1,8 @@
--- What a drill returns, and what a buffer holds after it.
-use mathlib.Core.List.{List, _++_}
+-- What a drill returns.
 use mathlib.Core.Bool.{Bool, _&&_}
 use Prim.Native.Nat.{ℕ}
 use lib.Dec.{leb}
-use lib.ListN.{length, drop}
+use lib.ListN.{length}
 use Rattle.spec.specs.Choice.{if_then_else_}
 use Rattle.drill_theory.specs.Draw.{drawn}
 use Rattle.drill_theory.specs.Pair.{programOf, splitOf}
@@ -36,7 +35,3 @@ answerOf seed program split =
     if roomy seed program split
     then drilledNumbers 0 (drawn seed) (length (programOf seed)) (length (splitOf seed))
     else drilledNumbers 38 0 0 0
-
--- a text in front of a buffer, "and the rest of each buffer is unchanged"
-unfoldable pub inFront : (text buffer : List ℕ) → List ℕ
-inFront text buffer = text ++ drop (length text) buffer

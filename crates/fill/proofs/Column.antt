@@ -18,7 +18,7 @@ use Rattle.fill_theory.specs.FlowOf.{rootsOf}
 use Rattle.fill_theory.proofs.Roots.{roots-counted}
 use Rattle.fill_theory.proofs.Placed.{roots-steps, steps-sized}
 use Rattle.fill_theory.proofs.Limits.{steps-few, procedures-few}
-use Rattle.pass.specs.declared.Column.{Column}
+use Rattle.ways.specs.declared.Column.{Column}
 use Rattle.pass.specs.declared.Given.{Given}
 use Rattle.pass.specs.Roots.{Stored}
 use Rattle.pass.specs.Contract.{ColumnReady, FilledHere}

@@ -16,7 +16,8 @@ use Rattle.spec.specs.declared.Returned.{Returned}
 use Rattle.spec.specs.declared.Answer.the-variants.{Accept, Refuse}
 use Rattle.spec.specs.declared.Refusal.{Refusal}
 use Rattle.spec.specs.declared.Refusal.the-variants.{NoAfterMaps, TooLarge}
-use Rattle.returned.proofs.Refusals.{refusal-number}
+use Rattle.spec.proofs.Refusals.{refusal-number}
+use Rattle.written.specs.Text.{inFront}
 use Rattle.fill_theory.specs.AfterMaps.{AfterMaps}
 use Rattle.fill_theory.specs.Answer.{fill, returnedFor, bufferAfter, Fillable, FilledSheet, GreatestOverLimits}
 use Rattle.fill_theory.proofs.Answer.{Decided, refusedUnsolvable, refusedTooLarge, wroteText, fillable-decided, refused-exactly-unsolvable, refused-exactly-too-large, written-exactly, written-accepted}
@@ -62,7 +63,7 @@ pub record Begins (o : Out (List ℕ)) (line : ℕ) (after : List ℕ) : Type 0 
 
 text-begins : (o : Out (List ℕ)) (before after : List ℕ) → after ≡ bufferAfter o before → returnedFor o .number ≡ 0
     → Begins o (returnedFor o .line) after
-unfolding returnedFor bufferAfter four
+unfolding returnedFor bufferAfter inFront four
 text-begins (stop r) before after e h = absurd (omega (arith, refusal-number r, h))
 text-begins (on t) before after e h = record { text = t; is = refl; taken = rw e (take-append-seam t (drop (length t) before)) }
 

@@ -10,6 +10,7 @@ use Rattle.spec.specs.Split.{splitLimit}
 use Rattle.spec.specs.Verdict.{four}
 use Rattle.spec.specs.declared.Refusal.{Refusal}
 use Rattle.spec.specs.declared.Refusal.the-variants.{TooLarge}
+use Rattle.written.specs.Text.{inFront}
 use Rattle.writer.specs.Buffer.{Written}
 use Rattle.writer.proofs.Buffer.{overwrite-front}
 use Rattle.fill_theory.specs.Answer.{returnedFor, bufferAfter}
@@ -26,7 +27,7 @@ refusal-told r buffer = record { numbers = refl; buffer = refl }
 
 pub text-told : {n : ℕ} {after : List ℕ} (text buffer : List ℕ) → n ≡ length text → after ≡ text ++ drop (length text) buffer
     → Tells (on text) buffer after (WrittenSheet n)
-unfolding returnedBy returnedFor bufferAfter four
+unfolding returnedBy returnedFor bufferAfter inFront four
 text-told text buffer e h = record { numbers = rw e; buffer = h }
 
 -- the same outcome, found in another way

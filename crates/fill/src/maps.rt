@@ -1,9 +1,9 @@
 // The greatest after-maps, one location after the other, stored as maps behind the given ones.
-use pass::Column;
 use pass::Given;
 use pass::fill_location;
 use spec::Location;
 use spec::MapNumber;
+use ways::Column;
 use workspace::MAPS;
 use workspace::POSTS;
 use workspace::STRIDE;

@@ -134,9 +134,9 @@ module _ (room buffer : ℕ) (p s : List ℕ) where
   pub fillable-decides : (P : Program) (S : Split) → Fillable room p s P S → answered ≡ filledText buffer P S
   unfolding workspaceSize programLimit splitLimit givenLimit typed typeClaims
   fillable-decides P S F =
-      locks-decide room buffer p s (F .enough) P S (well-formed-sheets Fill p s (F .sheets)) (F .few)
-      ∙ goes-on-bind _ _ (enough-taken S (F .locks))
-      (goes-on-bind _ _ (at-most-one-start P S (F .atMostOne)) (goes-on-bind _ _ (all-hold-none-false _ (F .typesHold)) refl))
+      locks-decide room buffer p s (F .enough) P S (well-formed-sheets Fill p s (F .judgeable .sheets)) (F .few)
+      ∙ goes-on-bind _ _ (enough-taken S (F .judgeable .locks))
+      (goes-on-bind _ _ (at-most-one-start P S (F .judgeable .atMostOne)) (goes-on-bind _ _ (all-hold-none-false _ (F .typesHold)) refl))
 
   -- and nothing else is told then
   pub fillable-decided : (P : Program) (S : Split) → Fillable room p s P S → Decided answered
@@ -157,10 +157,12 @@ module _ (room buffer : ℕ) (p s : List ℕ) where
         S,
         record {
           enough = leb-true _ _ (demand-goes-on _ _ enough);
-          sheets = sheets-well-formed Fill p s reads;
+          judgeable = record {
+            sheets = sheets-well-formed Fill p s reads;
+            locks = locks-take-enough S locks;
+            atMostOne = start-at-most-one P S whole;
+          };
           few = leb-true _ _ (demand-goes-on _ _ few);
-          locks = locks-take-enough S locks;
-          atMostOne = start-at-most-one P S whole;
           typesHold = none-false-all-hold _ types;
         },
         r₆,
@@ -175,14 +177,14 @@ module _ (room buffer : ℕ) (p s : List ℕ) where
   )
     where
       solves : ((γ : List Map) × (greatestMaps P S ≡ some γ)) ↔ ((σ : List Map) × AfterMaps P S σ)
-      solves = solvable P S (F .sheets .program) (well-formed-in-range (F .sheets .split))
+      solves = solvable P S (F .judgeable .sheets .program) (well-formed-in-range (F .judgeable .sheets .split))
 
       go : (o : Option (List Map)) → greatestMaps P S ≡ o → ((σ : List Map) → AfterMaps P S σ → ⊥) → o ≡ none
       go none e unsolvable = refl
       go (some γ) e unsolvable = let (σ, A) = solves .0 (γ, e) in absurd (unsolvable σ A)
 
   greatest : (P : Program) (S : Split) → Fillable room p s P S → (γ : List Map) → greatestMaps P S ≡ some γ ↔ GreatestMaps P S γ
-  greatest P S F = found-exactly-greatest P S (F .sheets .program) (well-formed-in-range (F .sheets .split))
+  greatest P S F = found-exactly-greatest P S (F .judgeable .sheets .program) (well-formed-in-range (F .judgeable .sheets .split))
 
   -- "42 if the greatest has a number above 1,000,000,000 or the filled sheet is over 65,536 bytes or over the buffer"
   pub refused-exactly-too-large : (P : Program) (S : Split) → Fillable room p s P S
@@ -217,13 +219,14 @@ module _ (room buffer : ℕ) (p s : List ℕ) where
   written-accepted t h =
       let W = written-exactly t .0 h in
       let F = W .fillable in
+      let J = F .judgeable in
       let S = W .S in
       let A = W .greatest .afterMaps in
-      let R = well-formed-in-range (F .sheets .split) in
+      let R = well-formed-in-range (J .sheets .split) in
       let found = greatest (W .P) S F (W .γ) .1 (W .greatest) in
-      let reads = filled-reads-back S (W .γ) (omega (arith, A .counted, F .few, steps-few (W .P) (F .sheets .program))) (A .wide) (W .limits .small) (A .counted) (F .sheets .split) in
+      let reads = filled-reads-back S (W .γ) (omega (arith, A .counted, F .few, steps-few (W .P) (J .sheets .program))) (A .wide) (W .limits .small) (A .counted) (J .sheets .split) in
       rules-decide room p t (F .enough) (W .P) (filled S (W .γ))
-      (sheets-read Check p t (F .sheets .program .fits) (W .P) (well-formed-program p (F .sheets .program)) (omega (arith, ap length (W .isText), W .limits .notLong)) (filled S (W .γ)) (ap (split Check (W .P)) (W .isText) ∙ reads))
-      ∙ ap answer (goes-on-bind _ _ (locks-kept (W .P) S (F .sheets .program) R (W .γ) ∙ enough-taken S (F .locks))
-      (goes-on-bind _ _ (start-kept (W .P) S (F .sheets .program) R (W .γ) ∙ at-most-one-start (W .P) S (F .atMostOne))
-      (filled-accepted (W .P) S (F .sheets .program) R (W .γ) (all-hold-none-false _ (F .typesHold)) found)))
+      (sheets-read Check p t (J .sheets .program .fits) (W .P) (well-formed-program p (J .sheets .program)) (omega (arith, ap length (W .isText), W .limits .notLong)) (filled S (W .γ)) (ap (split Check (W .P)) (W .isText) ∙ reads))
+      ∙ ap answer (goes-on-bind _ _ (locks-kept (W .P) S (J .sheets .program) R (W .γ) ∙ enough-taken S (J .locks))
+      (goes-on-bind _ _ (start-kept (W .P) S (J .sheets .program) R (W .γ) ∙ at-most-one-start (W .P) S (J .atMostOne))
+      (filled-accepted (W .P) S (J .sheets .program) R (W .γ) (all-hold-none-false _ (F .typesHold)) found)))

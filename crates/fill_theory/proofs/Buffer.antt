@@ -6,6 +6,7 @@ use lib.ListN.{length}
 use lib.Seq.{drop-append-seam}
 use Rattle.spec.specs.Reading.{stop, on}
 use Rattle.spec.specs.declared.Refusal.{Refusal}
+use Rattle.written.specs.Text.{inFront}
 use Rattle.fill_theory.specs.Answer.{bufferAfter}
 
 pub refusal-keeps : (r : Refusal) (buffer : List ℕ) → bufferAfter (stop r) buffer ≡ buffer
@@ -13,5 +14,5 @@ unfolding bufferAfter
 refusal-keeps r buffer = refl
 
 pub text-in-front : (text front rest : List ℕ) → length front ≡ length text → bufferAfter (on text) (front ++ rest) ≡ text ++ rest
-unfolding bufferAfter
+unfolding bufferAfter inFront
 text-in-front text front rest e = rw (← e, drop-append-seam front rest)

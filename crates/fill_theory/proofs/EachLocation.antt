@@ -26,11 +26,12 @@ use Rattle.spec.specs.declared.UnaryWord.{UnaryWord}
 use Rattle.spec.specs.declared.UnaryWord.the-variants.{While, Join, Ref, Read, Lock, Unlock, Post, Wait, Rdlock, Rdunlock, Wrlock, Wrunlock, Call}
 use Rattle.spec.specs.declared.BinaryWord.{BinaryWord}
 use Rattle.spec.specs.declared.BinaryWord.the-variants.{Let, If, Spawn, Write}
+use Rattle.spec.proofs.Claims.{step-parts, parts-step, both-parts, parts-both}
 use Rattle.fill_theory.specs.Flow.{taking, Flow, inTurn, branch, fork, Turns, Passes, Root, RootsPass, steps}
 use Rattle.fill_theory.specs.FlowOf.{loadHere, inHere, outHere, readHere, writeHere, startHere, keptHere, beforeHere, afterHere, accessHere, flowOf, rootsFrom}
 use Rattle.fill_theory.specs.declared.Effect.{Effect}
 use Rattle.fill_theory.proofs.Locations.{Everywhere, Known, together, lastly, restated, three, least-everywhere, sums, keeps, gives, takes, lends, needs}
-use Rattle.fill_theory.proofs.Sorts.{AllAt, OwnAt, step-parts, parts-step, both-parts, parts-both, only-parts, parts-only}
+use Rattle.fill_theory.proofs.Sorts.{AllAt, OwnAt, only-parts, parts-only, sort-each}
 use Rattle.fill_theory.proofs.Placed.{flow-steps, Placed, part, first, second, Showing, sizeOf}
 
 -- what σ has at a location after step i
@@ -52,7 +53,7 @@ module _ {ss : List Step} {S : Split} {σ : List Map} {T : Split} (G : Showing s
   module _ (Γ : Env) (pre : Map) {A : Location → Type 0} where
     no-part : (w : LeafWord) (k : Position) (v : ℕ) → OwnFlow Γ pre (leaf w k v) ↔ Everywhere L A → AllFlow (sites T Γ pre (leaf w k v)) ↔ Everywhere L A
     unfolding sites AllHold claims only
-    no-part w k v owns = (λ h. owns .0 (step-parts isFlow T _ [] h .0), λ h. parts-step isFlow T _ [] (owns .1 h) tt)
+    no-part w k v owns = (λ h. owns .0 (step-parts (sort-each isFlow) T _ [] h .0), λ h. parts-step (sort-each isFlow) T _ [] (owns .1 h) tt)
 
     one-part : {B : Location → Type 0} (w : UnaryWord) (k : Position) (v : ℕ) (e₁ : Expr)
         → AllFlow (sites T Γ (preOfPart w pre (post T (unary w k v e₁))) e₁) ↔ Everywhere L A
@@ -61,8 +62,8 @@ module _ {ss : List Step} {S : Split} {σ : List Map} {T : Split} (G : Showing s
     unfolding sites
     one-part w k v e₁ a owns =
         let both = together a owns in (
-          λ h. let s = step-parts isFlow T _ _ h in both .0 (s .1, s .0),
-          λ h. let s = both .1 h in parts-step isFlow T _ _ (s .1) (s .0),
+          λ h. let s = step-parts (sort-each isFlow) T _ _ h in both .0 (s .1, s .0),
+          λ h. let s = both .1 h in parts-step (sort-each isFlow) T _ _ (s .1) (s .0),
         )
 
     two-parts : {B C : Location → Type 0} (w : BinaryWord) (k : Position) (v : ℕ) (e₁ e₂ : Expr)
@@ -74,12 +75,12 @@ module _ {ss : List Step} {S : Split} {σ : List Map} {T : Split} (G : Showing s
     two-parts w k v e₁ e₂ a b owns =
         let all = three (together a (together b owns)) in (
           λ h.
-              let s = step-parts isFlow T _ _ h in
-              let parts = both-parts isFlow T (sites T Γ pre e₁) _ (s .1) in
+              let s = step-parts (sort-each isFlow) T _ _ h in
+              let parts = both-parts (sort-each isFlow) T (sites T Γ pre e₁) _ (s .1) in
               all .0 (parts .0, (parts .1, s .0)),
           λ h.
               let s = all .1 h in
-              parts-step isFlow T _ _ (s .1 .1) (parts-both isFlow T (sites T Γ pre e₁) _ (s .0) (s .1 .0)),
+              parts-step (sort-each isFlow) T _ _ (s .1 .1) (parts-both (sort-each isFlow) T (sites T Γ pre e₁) _ (s .0) (s .1 .0)),
         )
 
   -- a flow's second part stands where its expression's second part does

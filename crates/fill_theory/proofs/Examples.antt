@@ -14,8 +14,8 @@ use Rattle.spec.specs.Agreement.{sameMaps, sameTree, treeOf, trees, tree, agree
 use Rattle.spec.specs.Sites.{sites, numbered, claimsAt, claims, judge, firstFalse, isType, only, bodySites, claimsOfProcedure, claimsOfProcedures, claimsOf}
 use Rattle.spec.specs.Workspace.{workspaceSize}
 use Rattle.spec.specs.Verdict.{takesEnough, allTakeEnough, locksTakeEnough, refuseOver, startAtMostOne, typed, sheets, four, returned}
-use Rattle.spec.specs.KnownPairs.{barred, _with_is_, P}
-use Rattle.spec.specs.EdgeSheets.{times}
+use Rattle.spec.specs.Pairs.KnownPairs.{barred, _with_is_, P}
+use Rattle.spec.specs.Pairs.EdgeSheets.{times}
 use Rattle.written.specs.Text.{digit, digitsWithin, decimal, line, text}
 use Rattle.written.specs.Sheet.{headingName, headerNumbers, headerFields, outNumber, typeFields, mapFields, signatureFields, postShown, startShown, rowFields, splitLines, written}
 use Rattle.fill_theory.specs.Filled.{withPosts, filled}

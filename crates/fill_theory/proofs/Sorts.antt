@@ -1,6 +1,6 @@
--- The claims of one sort: of a step and of its parts, and both sorts together.
-use mathlib.Core.Path.{_≡_, refl, ap, sym, _∙_, subst}
-use mathlib.Core.Bool.{Bool, true, false}
+-- The claims of one sort, of two lists of claims; and both sorts together.
+use mathlib.Core.Path.{sym, subst}
+use mathlib.Core.Bool.{Bool}
 use mathlib.Core.List.{List, [], _∷_, _++_}
 use mathlib.Core.Logic.{_↔_}
 use Prim.Native.Nat.{ℕ}
@@ -8,7 +8,7 @@ use Rattle.spec.specs.Split.{Split}
 use Rattle.spec.specs.Conditions.{Condition, T, F, A}
 use Rattle.spec.specs.Sites.{Site, Claim, claimsAt, claims, isType, isFlow, only}
 use Rattle.spec.specs.FirstFalse.{AllHold}
-use Rattle.spec.proofs.Claims.{only-append, all-hold-parts, all-hold-append, claims-append}
+use Rattle.spec.proofs.Claims.{only-append, all-hold-parts, all-hold-append, OfEach}
 
 module _ (sort : Condition → Bool) where
   -- all claims of the sort hold at each of the sites
@@ -18,32 +18,15 @@ module _ (sort : Condition → Bool) where
   abbrev pub OwnAt : Split → Site → Type 0
   OwnAt S s = AllHold (only sort (claimsAt S s))
 
-  module _ (S : Split) where
-    pub step-parts : (s : Site) (ss : List Site) → AllAt S (s ∷ ss) → OwnAt S s × AllAt S ss
-    unfolding claims
-    step-parts s ss h = all-hold-parts (only sort (claimsAt S s)) (only sort (claims S ss)) (subst AllHold (only-append sort (claimsAt S s) (claims S ss)) h)
-
-    pub parts-step : (s : Site) (ss : List Site) → OwnAt S s → AllAt S ss → AllAt S (s ∷ ss)
-    unfolding claims
-    parts-step s ss p q =
-        subst AllHold (sym (only-append sort (claimsAt S s) (claims S ss))) (all-hold-append (only sort (claimsAt S s)) (only sort (claims S ss)) p q)
-
-    sites-append : (xs ys : List Site) → only sort (claims S (xs ++ ys)) ≡ only sort (claims S xs) ++ only sort (claims S ys)
-    sites-append xs ys = ap (only sort) (claims-append S xs ys) ∙ only-append sort (claims S xs) (claims S ys)
-
-    pub both-parts : (xs ys : List Site) → AllAt S (xs ++ ys) → AllAt S xs × AllAt S ys
-    both-parts xs ys h = all-hold-parts (only sort (claims S xs)) (only sort (claims S ys)) (subst AllHold (sites-append xs ys) h)
-
-    pub parts-both : (xs ys : List Site) → AllAt S xs → AllAt S ys → AllAt S (xs ++ ys)
-    parts-both xs ys p q =
-        subst AllHold (sym (sites-append xs ys)) (all-hold-append (only sort (claims S xs)) (only sort (claims S ys)) p q)
-
   -- the claims of two lists
   pub only-parts : (xs ys : List Claim) → AllHold (only sort (xs ++ ys)) → AllHold (only sort xs) × AllHold (only sort ys)
   only-parts xs ys h = all-hold-parts (only sort xs) (only sort ys) (subst AllHold (only-append sort xs ys) h)
 
   pub parts-only : (xs ys : List Claim) → AllHold (only sort xs) → AllHold (only sort ys) → AllHold (only sort (xs ++ ys))
   parts-only xs ys p q = subst AllHold (sym (only-append sort xs ys)) (all-hold-append (only sort xs) (only sort ys) p q)
+
+  pub sort-each : OfEach (λ cs. AllHold (only sort cs))
+  sort-each = record { parts = only-parts; whole = parts-only }
 
 -- all claims hold exactly when those on types do and those on flow and access do
 abbrev Sorts : List Claim → Type 0

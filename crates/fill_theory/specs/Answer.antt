@@ -1,27 +1,26 @@
 -- The answer of filling, in the order 1; 10 to 15, 45 and 49; 20; 21 to 23 and 50; 43; 44; 30; 31; 41; 42.
 use mathlib.Core.Path.{_≡_}
 use mathlib.Core.Bool.{Bool, true, _&&_}
-use mathlib.Core.List.{List, [], _∷_, _++_}
+use mathlib.Core.List.{List, [], _∷_}
 use mathlib.Core.Option.{Option, none, some}
 use Prim.Native.Nat.{ℕ, _≤_, _<_, min}
 use lib.Dec.{leb}
-use lib.ListN.{length, getD, drop}
+use lib.ListN.{length, getD}
 use Rattle.spec.specs.Reading.{Out, stop, on, _>>=_, demand}
 use Rattle.spec.specs.Program.{Program}
 use Rattle.spec.specs.Split.{Map, Split, splitLimit}
 use Rattle.spec.specs.Maps.{share}
-use Rattle.spec.specs.Conditions.{startMap}
 use Rattle.spec.specs.Workspace.{workspaceSize}
 use Rattle.spec.specs.Verdict.{sheets, locksTakeEnough, startAtMostOne, typed, four, returned}
 use Rattle.spec.specs.FirstFalse.{AllHold}
-use Rattle.spec.specs.WellFormed.{WellFormedSheets}
-use Rattle.spec.specs.Accepted.{LocksTakeEnough, AtMost}
+use Rattle.spec.specs.Accepted.{Judgeable, AtMost}
 use Rattle.spec.specs.declared.Location.{Location}
 use Rattle.spec.specs.declared.Purpose.the-variants.{Fill}
 use Rattle.spec.specs.declared.Returned.{Returned}
 use Rattle.spec.specs.declared.Answer.the-variants.{Refuse}
 use Rattle.spec.specs.declared.Refusal.{Refusal}
 use Rattle.spec.specs.declared.Refusal.the-variants.{ShortWorkspace, NoAfterMaps, TooLarge, TooManyMaps}
+use Rattle.written.specs.Text.{inFront}
 use Rattle.written.specs.Sheet.{written}
 use Rattle.fill_theory.specs.Filled.{filled}
 use Rattle.fill_theory.specs.AfterMaps.{typeClaims, GreatestMaps}
@@ -73,10 +72,8 @@ fill room buffer programText splitText = do
 -- nothing is refused before 41: both sheets are well formed, at most 256 maps are given, 44, 30 and every (T) condition pass
 pub record Fillable (room : ℕ) (programText splitText : List ℕ) (P : Program) (S : Split) : Type 0 where
   pub enough : workspaceSize ≤ room
-  pub sheets : WellFormedSheets Fill programText splitText P S
+  pub judgeable : Judgeable Fill programText splitText P S
   pub few : S .header .maps ≤ givenLimit
-  pub locks : LocksTakeEnough S
-  pub atMostOne : AtMost (S .header .denominator) (startMap S)
   pub typesHold : AllHold (typeClaims P S)
 
 -- the split with the maps γ filled in keeps the size limits
@@ -118,4 +115,4 @@ returnedFor (on text) = four 0 (length text) 0 0
 -- "On refusal the output buffer is unchanged; otherwise [..] the buffer past the text is unchanged"
 unfoldable pub bufferAfter : Out (List ℕ) → (buffer : List ℕ) → List ℕ
 bufferAfter (stop r) buffer = buffer
-bufferAfter (on text) buffer = text ++ drop (length text) buffer
+bufferAfter (on text) buffer = inFront text buffer

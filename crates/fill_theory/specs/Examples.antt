@@ -9,8 +9,8 @@ use Rattle.spec.specs.Program.{program}
 use Rattle.spec.specs.Split.{Map, split, splitLimit}
 use Rattle.spec.specs.Workspace.{workspaceSize}
 use Rattle.spec.specs.Verdict.{four}
-use Rattle.spec.specs.KnownPairs.{Pair, barred, _with_is_, P}
-use Rattle.spec.specs.EdgeSheets.{times}
+use Rattle.spec.specs.Pairs.KnownPairs.{Pair, barred, _with_is_, P}
+use Rattle.spec.specs.Pairs.EdgeSheets.{times}
 use Rattle.spec.specs.declared.Purpose.the-variants.{Fill}
 use Rattle.spec.specs.declared.Returned.{Returned}
 use Rattle.fill_theory.specs.GreatestMaps.{greatestMaps}

@@ -1,4 +1,3 @@
-pub mod SameBytes
 pub mod Digits
 pub mod Fields
 pub mod Lines
@@ -11,6 +10,4 @@ pub mod LineNumbers
 pub mod LineEnds
 pub mod Stored
 pub mod Ranges
-pub mod Words
-pub mod TypeLines
 pub mod Turns

@@ -1,4 +1,3 @@
 pub mod Views
 pub mod Cursors
 pub mod Numbers
-pub mod Words

@@ -1,13 +1,4 @@
-// The cursor over a lent text, and what is read at it: fields, numerals, words, the ends of lines and of the text.
-mod vocabulary;
-
-pub use vocabulary::FoundWord;
-pub use vocabulary::TypeWord;
-pub use vocabulary::calls;
-pub use vocabulary::same;
-pub use vocabulary::type_word;
-pub use vocabulary::word_of;
-pub use vocabulary::word_under;
+// The cursor over a lent text, and what is read at it: fields, numerals, the ends of lines and of the text.
 ghost use mathlib.Core.Path.{_≡_};
 ghost use Prim.Native.Nat.{_-_};
 ghost use lib.ListN.{length};

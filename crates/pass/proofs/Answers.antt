@@ -9,9 +9,10 @@ use Rattle.workspace.specs.Region.{Region, ChangedWithin}
 use Rattle.workspace.proofs.Region.{region-front, changed-nothing, changed-store}
 use Rattle.fill_theory.specs.Found.{_>>=_}
 use Rattle.fill_theory.specs.Pass.{ownPost}
-use Rattle.pass.specs.declared.Found.{Found}
-use Rattle.pass.specs.declared.Found.the-variants.{Number, Nothing}
-use Rattle.pass.specs.Passed.{asFound, settled, Answers}
+use Rattle.turns.specs.declared.Found.{Found}
+use Rattle.turns.specs.declared.Found.the-variants.{Number, Nothing}
+use Rattle.turns.specs.Turns.{asFound}
+use Rattle.pass.specs.Passed.{settled, Answers}
 
 pub found-number : {x : ℕ} (o : Option (List ℕ)) (k : ℕ) (q : List ℕ) (r : Found) → Answers o k q r → r ≡ Number x
     → (ps : List ℕ) × (o ≡ some ps) × (x ≡ ownPost ps) × Region q k ps

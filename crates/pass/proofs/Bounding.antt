@@ -11,17 +11,19 @@ use Rattle.fill_theory.specs.declared.Effect.{Effect}
 use Rattle.fill_theory.specs.Flow.{Flow, steps}
 use Rattle.fill_theory.specs.Pass.{forth, back, ceiling, reach}
 use Rattle.fill_theory.proofs.Pass.{steps-positive}
-use Rattle.pass.specs.declared.Column.{Column}
-use Rattle.pass.specs.declared.Way.the-variants.{Leaf, Unary, Binary}
-use Rattle.pass.specs.declared.UnaryWay.{UnaryWay}
-use Rattle.pass.specs.declared.UnaryWay.the-variants.{After, Loop, Call}
-use Rattle.pass.specs.declared.BinaryWay.{BinaryWay}
-use Rattle.pass.specs.Ways.{wayIn}
-use Rattle.pass.specs.Shows.{endIn, Shows}
-use Rattle.pass.specs.Bounds.{top, partCap, lastCap, firstCap, unaryCap, unaryCeiling, binaryCeiling, unaryReach, binaryReach, capsOf, Room, Reached, PartBounded, OwnCap, Cappable, Capped}
-use Rattle.pass.specs.Passed.{secondPre}
+use Rattle.ways.specs.declared.Column.{Column}
+use Rattle.ways.specs.declared.Way.the-variants.{Leaf, Unary, Binary}
+use Rattle.ways.specs.declared.UnaryWay.{UnaryWay}
+use Rattle.ways.specs.declared.UnaryWay.the-variants.{After, Loop, Call}
+use Rattle.ways.specs.declared.BinaryWay.{BinaryWay}
+use Rattle.ways.specs.Ways.{wayIn}
+use Rattle.ways.specs.Shows.{endIn, Shows}
+use Rattle.ways.proofs.Light.{way-light}
+use Rattle.turns.specs.Bounds.{top, partCap, lastCap, firstCap, unaryCap, unaryCeiling, binaryCeiling, unaryReach, binaryReach}
+use Rattle.turns.specs.Turns.{secondPre}
+use Rattle.pass.specs.Bounds.{capsOf, Room, Reached, PartBounded, OwnCap, Cappable, Capped}
 use Rattle.pass.proofs.Parts.{unary-steps, binary-steps, leaf-parts, unary-parts, binary-parts, ownCapOf, firstCapOf, caps-unary, caps-binary, ceiling-unary, ceiling-binary, reach-unary, reach-binary, caps-length, unary-cap, part-caps, binary-cap, first-caps, last-caps}
-use Rattle.pass.proofs.Room.{part-cap-room, last-cap-room, first-cap-room, top-room, way-light, ceiling-room}
+use Rattle.pass.proofs.Room.{part-cap-room, last-cap-room, first-cap-room, top-room, ceiling-room}
 
 -- ------------------------------------------------------------------ what a step reaches
 

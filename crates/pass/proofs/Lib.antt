@@ -1,7 +1,4 @@
-pub mod Accesses
-pub mod AfterParts
 pub mod Answers
-pub mod Calling
 pub mod Parts
 pub mod Room
 pub mod Passing
@@ -9,5 +6,4 @@ pub mod Readiness
 pub mod Bounding
 pub mod RootPosts
 pub mod RootsFilled
-pub mod Held
 pub mod Sheets

@@ -14,16 +14,17 @@ use Rattle.fill_theory.specs.Found.{_>>=_, demand}
 use Rattle.fill_theory.specs.Flow.{taking, Flow, alone, after, inTurn, branch, loop, fork, call, steps}
 use Rattle.fill_theory.specs.Pass.{back, turn, ownPost, ceiling, reach, pass}
 use Rattle.fill_theory.proofs.Pass.{steps-positive}
-use Rattle.pass.specs.declared.Column.{Column}
-use Rattle.pass.specs.declared.Way.the-variants.{Leaf, Unary, Binary}
-use Rattle.pass.specs.declared.UnaryWay.{UnaryWay}
-use Rattle.pass.specs.declared.UnaryWay.the-variants.{After, Loop, Call}
-use Rattle.pass.specs.declared.BinaryWay.{BinaryWay}
-use Rattle.pass.specs.declared.BinaryWay.the-variants.{InTurn, Branch, Fork}
-use Rattle.pass.specs.Ways.{wayIn}
-use Rattle.pass.specs.Shows.{unaryFlow, binaryFlow, endIn, Shows, leafShown, unaryShown, binaryShown}
-use Rattle.pass.specs.Bounds.{top, partCap, lastCap, firstCap, unaryCap, unaryCeiling, binaryCeiling, unaryReach, binaryReach, capsOf}
-use Rattle.pass.specs.Passed.{partPre, afterUnary, secondPre, afterBinary}
+use Rattle.ways.specs.declared.Column.{Column}
+use Rattle.ways.specs.declared.Way.the-variants.{Leaf, Unary, Binary}
+use Rattle.ways.specs.declared.UnaryWay.{UnaryWay}
+use Rattle.ways.specs.declared.UnaryWay.the-variants.{After, Loop, Call}
+use Rattle.ways.specs.declared.BinaryWay.{BinaryWay}
+use Rattle.ways.specs.declared.BinaryWay.the-variants.{InTurn, Branch, Fork}
+use Rattle.ways.specs.Ways.{wayIn}
+use Rattle.ways.specs.Shows.{unaryFlow, binaryFlow, endIn, Shows, leafShown, unaryShown, binaryShown}
+use Rattle.turns.specs.Bounds.{top, partCap, lastCap, firstCap, unaryCap, unaryCeiling, binaryCeiling, unaryReach, binaryReach}
+use Rattle.turns.specs.Turns.{partPre, afterUnary, secondPre, afterBinary}
+use Rattle.pass.specs.Bounds.{capsOf}
 
 -- ------------------------------------------------------------------ the parts that are shown
 

@@ -14,16 +14,18 @@ use Rattle.fill_theory.specs.Pass.{turn, ownPost, pass}
 use Rattle.fill_theory.specs.Found.{_>>=_}
 use Rattle.fill_theory.proofs.Found.{finds-bind}
 use Rattle.fill_theory.proofs.Pass.{pass-length, steps-positive}
-use Rattle.pass.specs.declared.Column.{Column}
-use Rattle.pass.specs.declared.Found.{Found}
-use Rattle.pass.specs.declared.Found.the-variants.{Number, Nothing}
-use Rattle.pass.specs.declared.Way.the-variants.{Leaf, Unary, Binary}
-use Rattle.pass.specs.declared.UnaryWay.{UnaryWay}
-use Rattle.pass.specs.declared.BinaryWay.{BinaryWay}
-use Rattle.pass.specs.Ways.{wayIn}
-use Rattle.pass.specs.Shows.{unaryFlow, binaryFlow, endIn, Shows}
-use Rattle.pass.specs.Bounds.{top, partCap, lastCap, capsOf}
-use Rattle.pass.specs.Passed.{asFound, partPre, afterUnary, secondPre, afterBinary, settled, Answers, Passed}
+use Rattle.ways.specs.declared.Column.{Column}
+use Rattle.ways.specs.declared.Way.the-variants.{Leaf, Unary, Binary}
+use Rattle.ways.specs.declared.UnaryWay.{UnaryWay}
+use Rattle.ways.specs.declared.BinaryWay.{BinaryWay}
+use Rattle.ways.specs.Ways.{wayIn}
+use Rattle.ways.specs.Shows.{unaryFlow, binaryFlow, endIn, Shows}
+use Rattle.turns.specs.declared.Found.{Found}
+use Rattle.turns.specs.declared.Found.the-variants.{Number, Nothing}
+use Rattle.turns.specs.Bounds.{top, partCap, lastCap}
+use Rattle.turns.specs.Turns.{asFound, partPre, afterUnary, secondPre, afterBinary}
+use Rattle.pass.specs.Bounds.{capsOf}
+use Rattle.pass.specs.Passed.{settled, Answers, Passed}
 use Rattle.pass.proofs.Answers.{found-number, found-nothing, settle-answers, settled-changed}
 use Rattle.pass.proofs.Parts.{unary-steps, binary-steps, leaf-parts, unary-parts, binary-parts, firstCapOf, unary-cap, part-caps, binary-cap, first-caps, last-caps, nothing-bind, pass-unary, pass-binary}
 

@@ -7,20 +7,23 @@ use lib.ListN.{length}
 use Rattle.fill_theory.specs.Flow.{steps}
 use Rattle.fill_theory.specs.Pass.{reach, pass}
 use Rattle.fill_theory.proofs.Pass.{steps-positive, pass-own}
-use Rattle.pass.specs.declared.Column.{Column}
-use Rattle.pass.specs.declared.Found.{Found}
-use Rattle.pass.specs.declared.Found.the-variants.{Number}
-use Rattle.pass.specs.declared.Way.the-variants.{Unary, Binary}
-use Rattle.pass.specs.declared.UnaryWay.{UnaryWay}
-use Rattle.pass.specs.declared.UnaryWay.the-variants.{After, Loop, Call}
-use Rattle.pass.specs.declared.BinaryWay.{BinaryWay}
-use Rattle.pass.specs.Ways.{wayIn}
-use Rattle.pass.specs.Shows.{endIn}
-use Rattle.pass.specs.Bounds.{top, partCap, lastCap, Room, Bounded, Reached}
-use Rattle.pass.specs.Passed.{partPre, secondPre, Ready, Passed}
+use Rattle.ways.specs.declared.Column.{Column}
+use Rattle.ways.specs.declared.Way.the-variants.{Unary, Binary}
+use Rattle.ways.specs.declared.UnaryWay.{UnaryWay}
+use Rattle.ways.specs.declared.UnaryWay.the-variants.{After, Loop, Call}
+use Rattle.ways.specs.declared.BinaryWay.{BinaryWay}
+use Rattle.ways.specs.Ways.{wayIn}
+use Rattle.ways.specs.Shows.{endIn}
+use Rattle.ways.proofs.Light.{way-light}
+use Rattle.turns.specs.declared.Found.{Found}
+use Rattle.turns.specs.declared.Found.the-variants.{Number}
+use Rattle.turns.specs.Bounds.{top, partCap, lastCap}
+use Rattle.turns.specs.Turns.{partPre, secondPre}
+use Rattle.pass.specs.Bounds.{Room, Bounded, Reached}
+use Rattle.pass.specs.Passed.{Ready, Passed}
 use Rattle.pass.proofs.Answers.{found-number}
 use Rattle.pass.proofs.Parts.{unary-steps, binary-steps, unary-parts, binary-parts, firstCapOf, caps-stored, part-caps, first-caps, last-caps}
-use Rattle.pass.proofs.Room.{second-pre-room, way-light, reach-room}
+use Rattle.pass.proofs.Room.{second-pre-room, reach-room}
 
 -- ------------------------------------------------------------------ a number that is bounded
 

@@ -7,10 +7,11 @@ use lib.ListN.{length}
 use Rattle.fill_theory.specs.Flow.{Flow, steps}
 use Rattle.fill_theory.specs.Pass.{weight, greatestPosts}
 use Rattle.fill_theory.proofs.Greatest.{any-top}
-use Rattle.pass.specs.declared.Column.{Column}
-use Rattle.pass.specs.declared.Found.{Found}
-use Rattle.pass.specs.Shows.{Shows}
-use Rattle.pass.specs.Bounds.{top, Cappable, Capped}
+use Rattle.ways.specs.declared.Column.{Column}
+use Rattle.ways.specs.Shows.{Shows}
+use Rattle.turns.specs.declared.Found.{Found}
+use Rattle.turns.specs.Bounds.{top}
+use Rattle.pass.specs.Bounds.{Cappable, Capped}
 use Rattle.pass.specs.Passed.{Answers, Ready, Passed, RootReady, RootPassed}
 use Rattle.pass.proofs.Parts.{shows-same}
 use Rattle.pass.proofs.Room.{top-room, flow-light, light-enough}

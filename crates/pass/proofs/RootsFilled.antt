@@ -16,12 +16,12 @@ use Rattle.fill_theory.specs.Flow.{Flow, steps, Root, stepsOf}
 use Rattle.fill_theory.specs.Pass.{ownPost, greatestPosts, postsOfRoots}
 use Rattle.fill_theory.proofs.Found.{finds-bind}
 use Rattle.fill_theory.proofs.Greatest.{posts-counted}
-use Rattle.pass.specs.declared.Column.{Column}
+use Rattle.ways.specs.declared.Column.{Column}
+use Rattle.ways.specs.Ways.{cellIn, beforeIn, afterIn}
+use Rattle.ways.specs.Shows.{Shows}
+use Rattle.turns.specs.declared.Found.{Found}
+use Rattle.turns.specs.declared.Found.the-variants.{Number, Nothing}
 use Rattle.pass.specs.declared.Given.{Given}
-use Rattle.pass.specs.declared.Found.{Found}
-use Rattle.pass.specs.declared.Found.the-variants.{Number, Nothing}
-use Rattle.pass.specs.Ways.{cellIn, beforeIn, afterIn}
-use Rattle.pass.specs.Shows.{Shows}
 use Rattle.pass.specs.Passed.{RootReady, RootPassed}
 use Rattle.pass.specs.Roots.{firstIn, RootsShown, rootShown, bodyShown, Stored, RootsReady, RootsFilled}
 use Rattle.pass.proofs.Answers.{found-number, found-nothing}

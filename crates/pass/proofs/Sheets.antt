@@ -17,12 +17,12 @@ use Rattle.fill_theory.specs.FlowOf.{flowOf, rootsFrom, rootsOf}
 use Rattle.fill_theory.specs.GreatestMaps.{postsAt}
 use Rattle.fill_theory.proofs.Limits.{steps-few, procedures-few}
 use Rattle.fill_theory.proofs.Placed.{flow-steps, sizeOf, roots-steps, steps-sized}
-use Rattle.pass.specs.declared.Column.{Column}
+use Rattle.ways.specs.declared.Column.{Column}
+use Rattle.ways.specs.Ways.{cellIn}
+use Rattle.ways.proofs.Held.{before-held, after-held, held-shows}
 use Rattle.pass.specs.declared.Given.{Given}
-use Rattle.pass.specs.Ways.{cellIn}
 use Rattle.pass.specs.Roots.{firstIn, RootsShown, rootShown, bodyShown, RootsReady, RootsFilled}
 use Rattle.pass.specs.Contract.{HoldsColumn, ColumnReady, FilledHere}
-use Rattle.pass.proofs.Held.{before-held, after-held, held-shows}
 
 module _ (w : List ℕ) (column : Column) (given : Given) {P : Program} {S : Split} (H : HoldsColumn w column given P S) where
   located : column .location .0 < S .header .locations

@@ -8,7 +8,7 @@ use Rattle.spec.specs.Program.{Program}
 use Rattle.spec.specs.Split.{Split}
 use Rattle.workspace.specs.Sheets.{HoldsSheets}
 use Rattle.fill_theory.specs.GreatestMaps.{postsAt}
-use Rattle.pass.specs.declared.Column.{Column}
+use Rattle.ways.specs.declared.Column.{Column}
 use Rattle.pass.specs.declared.Given.{Given}
 use Rattle.pass.specs.Roots.{Stored}
 

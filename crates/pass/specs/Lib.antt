@@ -1,5 +1,3 @@
-pub mod Ways
-pub mod Shows
 pub mod Bounds
 pub mod Passed
 pub mod Roots

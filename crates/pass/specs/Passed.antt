@@ -2,52 +2,17 @@
 use mathlib.Core.Path.{_≡_}
 use mathlib.Core.List.{List}
 use mathlib.Core.Option.{Option, none, some}
-use Prim.Native.Nat.{ℕ, _+_, _≤_, _<_, min}
-use lib.Dec.{leb, eqb}
+use Prim.Native.Nat.{ℕ, _+_, _≤_, _<_}
 use lib.ListN.{length, getD, set}
 use Rattle.workspace.specs.Region.{Region, ChangedWithin}
-use Rattle.fill_theory.specs.Found.{_>>=_, demand}
-use Rattle.fill_theory.specs.Flow.{taking, Flow, steps}
-use Rattle.fill_theory.specs.Pass.{turn, ownPost, pass, greatestPosts}
-use Rattle.pass.specs.declared.Column.{Column}
-use Rattle.pass.specs.declared.Found.{Found}
-use Rattle.pass.specs.declared.Found.the-variants.{Number, Nothing}
-use Rattle.pass.specs.declared.UnaryWay.{UnaryWay}
-use Rattle.pass.specs.declared.UnaryWay.the-variants.{After, Loop, Call}
-use Rattle.pass.specs.declared.BinaryWay.{BinaryWay}
-use Rattle.pass.specs.declared.BinaryWay.the-variants.{InTurn, Branch, Fork}
-use Rattle.pass.specs.Shows.{Shows}
-use Rattle.pass.specs.Bounds.{top, capsOf, Bounded}
-
-abbrev pub asFound : Option ℕ → Found
-asFound none = Nothing
-asFound (some p) = Number p
-
--- ------------------------------------------------------------------ a step after its parts
-
--- the number before the part of a step whose post may be at most `cap`
-unfoldable pub partPre : UnaryWay → (pre cap : ℕ) → ℕ
-partPre (After E) pre cap = pre
-partPre Loop pre cap = min pre cap
-partPre (Call wanted left) pre cap = pre
-
--- the number after a step with one part, which starts with `before` and ends with `first`
-unfoldable pub afterUnary : UnaryWay → (before first : ℕ) → Option ℕ
-afterUnary (After E) before first = turn E first
-afterUnary Loop before first = demand (leb before first) >>= λ kept. some before
-afterUnary (Call wanted left) before first = demand (eqb first wanted) >>= λ exact. some left
-
--- the number before the second part
-unfoldable pub secondPre : BinaryWay → (pre first : ℕ) → ℕ
-secondPre (InTurn E) pre first = first
-secondPre Branch pre first = pre
-secondPre (Fork start due) pre first = start
-
--- the number after a step with two parts, which end with `first` and `last`, if it may be at most `cap`
-unfoldable pub afterBinary : BinaryWay → (cap first last : ℕ) → Option ℕ
-afterBinary (InTurn E) cap first last = turn E last
-afterBinary Branch cap first last = some (min cap (min first last))
-afterBinary (Fork start due) cap first last = demand (leb due last) >>= λ paid. turn (taking start) first
+use Rattle.fill_theory.specs.Flow.{Flow, steps}
+use Rattle.fill_theory.specs.Pass.{ownPost, pass, greatestPosts}
+use Rattle.ways.specs.declared.Column.{Column}
+use Rattle.ways.specs.Shows.{Shows}
+use Rattle.turns.specs.Bounds.{top}
+use Rattle.turns.specs.declared.Found.{Found}
+use Rattle.turns.specs.declared.Found.the-variants.{Number, Nothing}
+use Rattle.pass.specs.Bounds.{capsOf, Bounded}
 
 -- a post is stored for its step
 abbrev pub settled : List ℕ → (k : ℕ) → Found → List ℕ

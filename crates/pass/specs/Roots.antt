@@ -10,10 +10,10 @@ use Rattle.workspace.specs.Layout.{procFirstsAt}
 use Rattle.workspace.specs.Region.{Region, ChangedWithin}
 use Rattle.fill_theory.specs.Flow.{Flow, steps, Root, stepsOf}
 use Rattle.fill_theory.specs.Pass.{postsOfRoots}
-use Rattle.pass.specs.declared.Column.{Column}
+use Rattle.ways.specs.declared.Column.{Column}
+use Rattle.ways.specs.Ways.{cellIn, beforeIn, afterIn}
+use Rattle.ways.specs.Shows.{Shows}
 use Rattle.pass.specs.declared.Given.{Given}
-use Rattle.pass.specs.Ways.{cellIn, beforeIn, afterIn}
-use Rattle.pass.specs.Shows.{Shows}
 
 -- the first step of the body of procedure f, or of the root behind all bodies
 unfoldable pub firstIn : List ℕ → (f : ℕ) → ℕ

@@ -1,20 +1,31 @@
 // The most that the post of each step may be: parts behind a step are looked at before it, so that it calls itself for the second part
 // first.
-use super::Column;
-use super::UnaryWay;
-use super::Way;
-use super::bounds::TOP;
-use super::bounds::back;
-use super::bounds::binary_ceiling;
-use super::bounds::first_cap;
-use super::bounds::last_cap;
-use super::bounds::least;
-use super::bounds::part_cap;
-use super::bounds::unary_ceiling;
 use super::reach::reach_step;
 use super::steps::second_in;
-use super::ways::way_in;
+use turns::bounds::TOP;
+use turns::bounds::back;
+use turns::bounds::binary_ceiling;
+use turns::bounds::first_cap;
+use turns::bounds::last_cap;
+use turns::bounds::least;
+use turns::bounds::part_cap;
+use turns::bounds::unary_ceiling;
+use ways::Column;
+use ways::UnaryWay;
+use ways::Way;
+use ways::way_in;
+ghost use mathlib.Core.Path.{_≡_};
+ghost use Prim.Native.Nat.{_<_};
+ghost use lib.ListN.{length, getD};
 ghost use Rattle.pass.specs.Bounds.{PartBounded, OwnCap, Cappable, Capped};
+
+// The most that step k may leave.
+pub(crate) fn cap_at(caps: &[u64], k: usize) -> u64
+    requires { ⌜ k < length (now caps) ⌝ }
+    ensures { λ r. ⌜ r ≡ getD (now (caps .entry)) k 0 ⌝ }
+{
+    caps[k]
+}
 
 // The most that step k may leave, if it is to leave at most c and its part may start with at most `first`: a loop leaves no more than
 // that, and no more than its part can leave.

@@ -1,14 +1,14 @@
 // What a step can leave at most. A loop's cap knows what its part can leave, so that no step is looked at twice.
-use super::Column;
-use super::UnaryWay;
-use super::Way;
-use super::bounds::binary_reach;
-use super::bounds::cap_at;
-use super::bounds::forth;
-use super::bounds::least;
+use super::caps::cap_at;
 use super::steps::second_in;
-use super::turns::second_pre;
-use super::ways::way_in;
+use turns::bounds::binary_reach;
+use turns::bounds::forth;
+use turns::bounds::least;
+use turns::second_pre;
+use ways::Column;
+use ways::UnaryWay;
+use ways::Way;
+use ways::way_in;
 ghost use Rattle.pass.specs.Bounds.{Bounded, Reached};
 
 // The most that step k can leave from x, where `caps` has the most that each step may leave.

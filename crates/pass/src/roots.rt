@@ -1,13 +1,13 @@
 // Roots: steps that start by themselves, with a number that is given. They are the bodies of procedures and the root of the program.
-use super::Column;
-use super::Found;
 use super::Given;
-use super::bounds::TOP;
 use super::caps::cap_step;
 use super::steps::pass_step;
-use super::ways::after_in;
-use super::ways::before_in;
-use super::ways::cell_in;
+use turns::Found;
+use turns::bounds::TOP;
+use ways::Column;
+use ways::after_in;
+use ways::before_in;
+use ways::cell_in;
 use workspace::PROC_FIRSTS;
 use workspace::at;
 use workspace::index;

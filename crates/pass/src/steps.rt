@@ -1,21 +1,21 @@
 // The pass: from the number before a step to the number after it. Parts come before their step, so it calls itself for each part.
-use super::Column;
-use super::Found;
-use super::Way;
-use super::bounds::cap_at;
-use super::turns::after_binary;
-use super::turns::after_unary;
-use super::turns::part_pre;
-use super::turns::second_pre;
-use super::turns::turn;
-use super::ways::way_in;
+use super::caps::cap_at;
+use turns::Found;
+use turns::after_binary;
+use turns::after_unary;
+use turns::part_pre;
+use turns::second_pre;
+use turns::turn;
+use ways::Column;
+use ways::Way;
+use ways::way_in;
 use workspace::ENDS;
 use workspace::at;
 use workspace::index;
 ghost use mathlib.Core.Path.{_≡_};
 ghost use Prim.Native.Nat.{_+_, _<_};
 ghost use lib.ListN.{length};
-ghost use Rattle.pass.specs.Shows.{endIn};
+ghost use Rattle.ways.specs.Shows.{endIn};
 ghost use Rattle.pass.specs.Passed.{settled, Ready, Passed};
 
 // The index of the second part of step k: the end of the first.

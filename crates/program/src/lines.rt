@@ -2,7 +2,6 @@
 use crate::tails::Tail;
 use crate::tails::last_number;
 use lexer::Cursor;
-use lexer::FoundWord;
 use lexer::Span;
 use spec::BinaryWord;
 use spec::LeafWord;
@@ -10,6 +9,7 @@ use spec::ProgramHeading;
 use spec::Refusal;
 use spec::UnaryWord;
 use spec::Word;
+use vocabulary::FoundWord;
 use workspace::LINES;
 use workspace::PROC_FIRSTS;
 use workspace::PROC_LINES;
@@ -52,7 +52,7 @@ fn least_of(w: Word) -> u32
 fn call_limit(w: UnaryWord) -> u32
     ensures { λ r. ⌜ r ≡ largestValue (Unary w) ⌝ }
 {
-    if lexer::calls(w) {
+    if vocabulary::calls(w) {
         return CALL_LIMIT;
     }
     0
@@ -164,13 +164,13 @@ fn step_line(text: &[u8], heading: ProgramHeading, cursor: Cursor) -> StepLine
     let field = cursor.field(text);
     let from = field.from;
     let to = field.to;
-    if lexer::same(&text[from..to], b"freelock") {
+    if vocabulary::same(&text[from..to], b"freelock") {
         return StepLine::Refused(freelock_line(text, heading, cursor, field));
     }
-    if lexer::same(&text[from..to], b"proc") {
+    if vocabulary::same(&text[from..to], b"proc") {
         return proc_line(text, heading, cursor, field);
     }
-    let FoundWord::Known(word) = lexer::word_under(&text[from..to], heading) else {
+    let FoundWord::Known(word) = vocabulary::word_under(&text[from..to], heading) else {
         return StepLine::Refused(Refusal::ProgramForm(line));
     };
     word_line(text, heading, cursor, field, word)

@@ -13,7 +13,7 @@ use Rattle.spec.specs.Verdict.{four, returned}
 use Rattle.spec.specs.declared.Returned.{Returned}
 use Rattle.spec.specs.declared.Answer.the-variants.{Refuse}
 use Rattle.spec.specs.declared.Refusal.{Refusal}
-use Rattle.returned.proofs.Refusals.{refusal-number}
+use Rattle.spec.proofs.Refusals.{refusal-number}
 use Rattle.writer.specs.Buffer.{Written}
 use Rattle.writer.proofs.Buffer.{overwrite-front}
 use Rattle.report.specs.Line.{refusalLine, answerLine, outputLine}

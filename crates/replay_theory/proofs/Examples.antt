@@ -9,8 +9,8 @@ use Rattle.spec.specs.Words.{leafWords, cellWords, lockWords, holdWords, unaryW
 use Rattle.spec.specs.Expression.{size, withParts, listed, lineOfItem, stepsAmong, leading, breaksOff, firstListed, expression, noLineLeft, structure, among, scopeStep, scope, scopes}
 use Rattle.spec.specs.Program.{programLimit, firstNumber, programHeadings, countRanges, proceduresOf, countsOf, counted, countLine, stepOf, wordLine, procOf, procLine, itemLine, itemLines, program}
 use Rattle.spec.specs.Verdict.{four, returned}
-use Rattle.spec.specs.KnownPairs.{barred, P}
-use Rattle.spec.specs.EdgeSheets.{times}
+use Rattle.spec.specs.Pairs.KnownPairs.{barred, P}
+use Rattle.spec.specs.Pairs.EdgeSheets.{times}
 use Rattle.calculus.specs.Reduction.{reduce, startState}
 use Rattle.soundness.specs.Erasure.{erase}
 use Rattle.replay_theory.specs.declared.Status.the-variants.{Running, Finished, Joined}

@@ -7,8 +7,8 @@ use mathlib.Core.Option.{Option}
 use Rattle.spec.specs.Text.{Line, lines}
 use Rattle.spec.specs.Reading.{Out, stop, on}
 use Rattle.spec.specs.Program.{Program}
-use Rattle.spec.specs.KnownPairs.{barred, P}
-use Rattle.spec.specs.EdgeSheets.{times}
+use Rattle.spec.specs.Pairs.KnownPairs.{barred, P}
+use Rattle.spec.specs.Pairs.EdgeSheets.{times}
 use Rattle.soundness.specs.Erasure.{eraseProgram}
 use Rattle.replay_theory.specs.Run.{Run, startRun, recordOf}
 use Rattle.replay_theory.specs.Replay.{way, replaySpace, judged, replay, lineNumbers, returnedFor}

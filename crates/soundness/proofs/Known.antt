@@ -6,7 +6,7 @@ use Rattle.spec.specs.Reading.{Out, on, _>>=_, seen, wrongAfter, inRange, allIn
 use Rattle.spec.specs.Words.{leafWords, cellWords, lockWords, holdWords, unaryWords, binaryWords, words, wordsUnder, calls, leastValue, largestValue, valueRange, role, binding}
 use Rattle.spec.specs.Expression.{size, withParts, listed, stepsAmong, leading, breaksOff, firstListed, expression, noLineLeft, structure, among, scopeStep, scope, scopes}
 use Rattle.spec.specs.Program.{firstNumber, programHeadings, countRanges, proceduresOf, countsOf, counted, countLine, stepOf, wordLine, itemLine, itemLines, program}
-use Rattle.spec.specs.KnownPairs.{barred, P}
+use Rattle.spec.specs.Pairs.KnownPairs.{barred, P}
 use Rattle.calculus.specs.Expression.{Exp, value as constant, int, var, letIn, spawn, write, unary, join, ref, read, make, newtid}
 use Rattle.soundness.specs.Erasure.{erase, eraseProgram}
 

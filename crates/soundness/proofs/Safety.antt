@@ -15,12 +15,13 @@ use Rattle.soundness.proofs.Bodies.{program-derivation-is-figure-5}
 -- a pair that is right lists a safe program: its split's derivation is one of Figure 5, and what Figure 5 derives is safe
 pub right-is-safe : (programText splitText : List ℕ) → Right programText splitText → SafeText programText
 right-is-safe programText splitText r =
-    let R = well-formed-in-range (r .sheets .split) in
-    let derivation = program-derivation-is-figure-5 (r .S) R (r .locks) (r .bodies) (r .derives) (r .sheets .program .usedInside) in
+    let j = r .judgeable in
+    let R = well-formed-in-range (j .sheets .split) in
+    let derivation = program-derivation-is-figure-5 (r .S) R (j .locks) (r .bodies) (r .derives) (j .sheets .program .usedInside) in
     record {
       P = r .P;
-      program = r .sheets .program;
-      holds = derived-is-safe (R .denominator .0) derivation (at-most-cap (r .atMostOne));
+      program = j .sheets .program;
+      holds = derived-is-safe (R .denominator .0) derivation (at-most-cap (j .atMostOne));
     }
 
 pub accepted-is-safe : (room : ℕ) (programText splitText : List ℕ) → verdict room programText splitText ≡ Accept → SafeText programText

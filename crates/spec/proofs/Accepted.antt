@@ -32,9 +32,7 @@ accepted-is-right room p s h =
     record {
       P = r .P;
       S = r .S;
-      sheets = r .sheets;
-      locks = r .locks;
-      atMostOne = r .atMostOne;
+      judgeable = r .judgeable;
       bodies = bodies;
       derives = root;
     }
@@ -45,9 +43,7 @@ right-is-accepted room p s enough r = ap answer (reached-checked room p s (on tt
   P = r .P;
   S = r .S;
   enough = enough;
-  sheets = r .sheets;
-  locks = r .locks;
-  atMostOne = r .atMostOne;
+  judgeable = r .judgeable;
   outcome = derivation-meets-conditions (r .S) (r .P) (r .bodies) (r .derives);
 }))
 

@@ -73,6 +73,30 @@ unfolding claims
 claims-append S [] ys = refl
 claims-append S (x ∷ xs) ys = rw (claims-append S xs ys, append-assoc (claimsAt S x) (claims S xs) (claims S ys))
 
+-- what is said of lists of claims, and of two lists together exactly when it is said of each
+pub record OfEach (Q : List Claim → Type 0) : Type 0 where
+  pub parts : (xs ys : List Claim) → Q (xs ++ ys) → Q xs × Q ys
+  pub whole : (xs ys : List Claim) → Q xs → Q ys → Q (xs ++ ys)
+
+pub all-hold-each : OfEach AllHold
+all-hold-each = record { parts = all-hold-parts; whole = all-hold-append }
+
+-- it is said of a step and of the sites behind it, and of two lists of sites
+module _ {Q : List Claim → Type 0} (each : OfEach Q) (S : Split) where
+  pub step-parts : (s : Site) (ss : List Site) → Q (claims S (s ∷ ss)) → Q (claimsAt S s) × Q (claims S ss)
+  unfolding claims
+  step-parts s ss h = each .parts (claimsAt S s) (claims S ss) h
+
+  pub parts-step : (s : Site) (ss : List Site) → Q (claimsAt S s) → Q (claims S ss) → Q (claims S (s ∷ ss))
+  unfolding claims
+  parts-step s ss p q = each .whole (claimsAt S s) (claims S ss) p q
+
+  pub both-parts : (xs ys : List Site) → Q (claims S (xs ++ ys)) → Q (claims S xs) × Q (claims S ys)
+  both-parts xs ys h = each .parts (claims S xs) (claims S ys) (subst Q (claims-append S xs ys) h)
+
+  pub parts-both : (xs ys : List Site) → Q (claims S xs) → Q (claims S ys) → Q (claims S (xs ++ ys))
+  parts-both xs ys p q = subst Q (sym (claims-append S xs ys)) (each .whole (claims S xs) (claims S ys) p q)
+
 -- ------------------------------------------------------------------ the first false one
 
 judged-false : {r : Refusal} (k i : ℕ) (c : Condition) → judge k i c ≡ stop r → (Holds c → ⊥) × Names k i c r

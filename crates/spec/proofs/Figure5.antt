@@ -1,8 +1,8 @@
 -- No condition is false exactly when the split's types and maps are derived by Figure 5, for each body and for the root.
--- A step's own conditions and those of its parts are taken apart and put together by the two laws below; each rule then
+-- A step's own conditions and those of its parts are taken apart and put together by the laws of Claims; each rule then
 -- is its row of the table, read one way or the other.
-use mathlib.Core.Path.{_≡_, subst, sym}
-use mathlib.Core.List.{List, [], _∷_, _++_}
+use mathlib.Core.Path.{_≡_}
+use mathlib.Core.List.{List, [], _∷_}
 use Prim.Native.Nat.{ℕ, _+_}
 use borrow.Author.Tests.{leb-true, ltb-true}
 use Rattle.spec.specs.Reading.{on}
@@ -24,7 +24,7 @@ use Rattle.spec.specs.declared.BinaryWord.{BinaryWord}
 use Rattle.spec.specs.declared.BinaryWord.the-variants.{Let, If, Spawn, Write}
 use Rattle.spec.proofs.TypeKinds.{is-of, is-ref-of, of-is, ref-of-is, first-told, second-told, readable, writable}
 use Rattle.spec.proofs.Maps.{none-equal, none-covers, equal-none, covers-none}
-use Rattle.spec.proofs.Claims.{none-false-all-hold, all-hold-none-false, all-hold-parts, all-hold-append, claims-append}
+use Rattle.spec.proofs.Claims.{none-false-all-hold, all-hold-none-false, all-hold-parts, all-hold-append, all-hold-each, step-parts, parts-step, both-parts, parts-both}
 
 module _ (S : Split) where
   -- all conditions hold at each of the sites; at one step
@@ -36,36 +36,22 @@ module _ (S : Split) where
 
   -- ------------------------------------------------------------------ a step and its parts
 
-  step-parts : (s : Site) (ss : List Site) → AllAt (s ∷ ss) → AllHold (claimsAt S s) × AllAt ss
-  unfolding claims
-  step-parts s ss h = all-hold-parts (claimsAt S s) (claims S ss) h
-
-  parts-step : (s : Site) (ss : List Site) → AllHold (claimsAt S s) → AllAt ss → AllAt (s ∷ ss)
-  unfolding claims
-  parts-step s ss p q = all-hold-append (claimsAt S s) (claims S ss) p q
-
-  both-parts : (xs ys : List Site) → AllAt (xs ++ ys) → AllAt xs × AllAt ys
-  both-parts xs ys h = all-hold-parts (claims S xs) (claims S ys) (subst AllHold (claims-append S xs ys) h)
-
-  parts-both : (xs ys : List Site) → AllAt xs → AllAt ys → AllAt (xs ++ ys)
-  parts-both xs ys p q = subst AllHold (sym (claims-append S xs ys)) (all-hold-append (claims S xs) (claims S ys) p q)
-
   leaf-own : (Γ : Env) (pre : Map) (w : LeafWord) (k : Position) (v : ℕ) → AllAt (sites S Γ pre (leaf w k v)) → OwnAt Γ pre (leaf w k v)
   unfolding sites
-  leaf-own Γ pre w k v h = step-parts _ [] h .0
+  leaf-own Γ pre w k v h = step-parts all-hold-each S _ [] h .0
 
   unary-own : (Γ : Env) (pre : Map) (w : UnaryWord) (k : Position) (v : ℕ) (e₁ : Expr) → AllAt (sites S Γ pre (unary w k v e₁))
       → OwnAt Γ pre (unary w k v e₁) × AllAt (sites S Γ (preOfPart w pre (post S (unary w k v e₁))) e₁)
   unfolding sites
-  unary-own Γ pre w k v e₁ h = step-parts _ _ h
+  unary-own Γ pre w k v e₁ h = step-parts all-hold-each S _ _ h
 
   binary-own : (Γ : Env) (pre : Map) (w : BinaryWord) (k : Position) (v : ℕ) (e₁ e₂ : Expr) → AllAt (sites S Γ pre (binary w k v e₁ e₂))
       → OwnAt Γ pre (binary w k v e₁ e₂) × AllAt (sites S Γ pre e₁)
       × AllAt (sites S (binding (role (Binary w)) (v, type S e₁) Γ) (preOfSecond w pre (post S e₁) (bodyStart S (binary w k v e₁ e₂))) e₂)
   unfolding sites
   binary-own Γ pre w k v e₁ e₂ h =
-      let s = step-parts _ _ h in
-      let b = both-parts (sites S Γ pre e₁) _ (s .1) in
+      let s = step-parts all-hold-each S _ _ h in
+      let b = both-parts all-hold-each S (sites S Γ pre e₁) _ (s .1) in
       (s .0, b .0, b .1)
 
   -- ------------------------------------------------------------------ from conditions to a derivation
@@ -152,19 +138,19 @@ module _ (S : Split) where
 
   leaf-all : (Γ : Env) (pre : Map) (w : LeafWord) (k : Position) (v : ℕ) → OwnAt Γ pre (leaf w k v) → AllAt (sites S Γ pre (leaf w k v))
   unfolding sites claims AllHold
-  leaf-all Γ pre w k v c = parts-step _ [] c tt
+  leaf-all Γ pre w k v c = parts-step all-hold-each S _ [] c tt
 
   unary-all : (Γ : Env) (pre : Map) (w : UnaryWord) (k : Position) (v : ℕ) (e₁ : Expr) → OwnAt Γ pre (unary w k v e₁)
       → AllAt (sites S Γ (preOfPart w pre (post S (unary w k v e₁))) e₁) → AllAt (sites S Γ pre (unary w k v e₁))
   unfolding sites
-  unary-all Γ pre w k v e₁ c h₁ = parts-step _ _ c h₁
+  unary-all Γ pre w k v e₁ c h₁ = parts-step all-hold-each S _ _ c h₁
 
   binary-all : (Γ : Env) (pre : Map) (w : BinaryWord) (k : Position) (v : ℕ) (e₁ e₂ : Expr) → OwnAt Γ pre (binary w k v e₁ e₂)
       → AllAt (sites S Γ pre e₁)
       → AllAt (sites S (binding (role (Binary w)) (v, type S e₁) Γ) (preOfSecond w pre (post S e₁) (bodyStart S (binary w k v e₁ e₂))) e₂)
       → AllAt (sites S Γ pre (binary w k v e₁ e₂))
   unfolding sites
-  binary-all Γ pre w k v e₁ e₂ c h₁ h₂ = parts-step _ _ c (parts-both (sites S Γ pre e₁) _ h₁ h₂)
+  binary-all Γ pre w k v e₁ e₂ c h₁ h₂ = parts-step all-hold-each S _ _ c (parts-both all-hold-each S (sites S Γ pre e₁) _ h₁ h₂)
 
   derived-holds : {Γ : Env} {Ψ : Map} {e : Expr} → Derives S Γ Ψ e → AllAt (sites S Γ Ψ e)
   unfolding AllHold Holds claimsAt numbered conditionsOf preOfPart preOfSecond role binding post bodyStart keptBack K inMap outMap readMap writeMap

@@ -31,10 +31,8 @@ refusal-names-first-false room p s r h late =
     record {
       P = c .P;
       S = c .S;
-      sheets = c .sheets;
-      locks = c .locks;
-      atMostOne = c .atMostOne;
-      inOrder = claims-in-order (c .S) (c .P) firstItemLine (items-rise _ firstItemLine _ (c .sheets .program .listed));
+      judgeable = c .judgeable;
+      inOrder = claims-in-order (c .S) (c .P) firstItemLine (items-rise _ firstItemLine _ (c .judgeable .sheets .program .listed));
       first = stopped-first-false (claimsOf (c .S) (c .P)) (c .outcome);
     }
 
@@ -44,9 +42,7 @@ first-false-is-refused room p s r enough f = ap answer (reached-checked room p s
   P = f .P;
   S = f .S;
   enough = enough;
-  sheets = f .sheets;
-  locks = f .locks;
-  atMostOne = f .atMostOne;
+  judgeable = f .judgeable;
   outcome = first-false-stopped (f .first);
 }))
 

@@ -8,7 +8,7 @@ use Prim.Native.Nat.{ℕ, zero, suc, _+_, _≤_, _<_}
 use native.Mathlib.Omega.{arith}
 use lib.Dec.{eqb}
 use lib.ListN.{length, getD, replicate, length-replicate}
-use borrow.Author.Tests.{eqb-true, leb-true, ltb-true, le-leb, lt-leb}
+use borrow.Author.Tests.{eqb-true, leb-true, ltb-true, le-leb, lt-leb, lt-ltb}
 use Rattle.spec.specs.Choice.{if_then_else_}
 use Rattle.spec.specs.Text.{Line, bytes, same, Field, lookUp, numeral}
 use Rattle.spec.specs.Reading.{Fault, badForm, badRange, Seen, right, wrong, seen, insist, Range, _to_, below, inRange, allInRange, withNumeral, numerals, ranged, numbers}
@@ -165,6 +165,12 @@ named-fits h fs ns n =
       maps = in-to _ _ _ (at 3 (omega arith));
       rootStart = omega (arith, in-below _ _ (at 4 (omega arith)), named);
     }
+
+-- map 0 is in its range wherever M is in its own
+pub first-map-fits : (d l t m : ℕ) → allInRange (headerRanges C m) (d ∷ l ∷ t ∷ m ∷ []) ≡ allInRange (headerRanges C2 m) (d ∷ l ∷ t ∷ m ∷ 0 ∷ [])
+unfolding headerRanges allInRange inRange
+first-map-fits d l t zero = refl
+first-map-fits d l t (suc m) = simp (lt-ltb 0 (suc m) (omega arith))
 
 -- the ranges of a `C` header, and of the same numbers of the others
 headed-fits : (o : Option Heading) (fs : List Field) (H : Header) → headed o fs ≡ right H → HeaderFits H

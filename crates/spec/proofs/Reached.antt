@@ -10,8 +10,7 @@ use Rattle.spec.specs.Split.{Split}
 use Rattle.spec.specs.Conditions.{startMap}
 use Rattle.spec.specs.Workspace.{workspaceSize}
 use Rattle.spec.specs.Verdict.{refuseOver, startAtMostOne, ruled, checked, four, returned, onConditions}
-use Rattle.spec.specs.WellFormed.{WellFormedSheets}
-use Rattle.spec.specs.Accepted.{LocksTakeEnough, AtMost}
+use Rattle.spec.specs.Accepted.{Judgeable, AtMost}
 use Rattle.spec.proofs.Outcomes.{stop-is-not-on, goes-on-bind, demand-goes-on, goes-on-demand}
 use Rattle.spec.proofs.Maps.{none-at-most, at-most-none}
 use Rattle.spec.proofs.EarlyRefusals.{Late, past, early-demand, locks-early, start-early}
@@ -45,9 +44,7 @@ pub record Reached (room : ℕ) (p s : List ℕ) (o : Out (Unit {0})) : Type 0 w
   pub P : Program
   pub S : Split
   pub enough : workspaceSize ≤ room
-  pub sheets : WellFormedSheets Check p s P S
-  pub locks : LocksTakeEnough S
-  pub atMostOne : AtMost (S .header .denominator) (startMap S)
+  pub judgeable : Judgeable Check p s P S
   pub outcome : ruled P S ≡ o
 
 pub reached : (room : ℕ) (p s : List ℕ) (o : Out (Unit {0})) → Late o → checked room p s ≡ o → Reached room p s o
@@ -61,16 +58,19 @@ reached room p s o late h =
       P = P;
       S = S;
       enough = leb-true _ _ (demand-goes-on _ _ enough);
-      sheets = sheets-well-formed Check p s reads;
-      locks = locks-take-enough S locks;
-      atMostOne = start-at-most-one P S whole;
+      judgeable = record {
+        sheets = sheets-well-formed Check p s reads;
+        locks = locks-take-enough S locks;
+        atMostOne = start-at-most-one P S whole;
+      };
       outcome = r₄;
     }
 
 pub reached-checked : (room : ℕ) (p s : List ℕ) (o : Out (Unit {0})) → Reached room p s o → checked room p s ≡ o
 unfolding checked
 reached-checked room p s o r =
+    let j = r .judgeable in
     goes-on-bind _ _ (goes-on-demand _ _ (le-leb _ _ (r .enough)))
-    (goes-on-bind _ _ (well-formed-sheets Check p s (r .sheets))
-    (goes-on-bind _ _ (enough-taken (r .S) (r .locks))
-    (goes-on-bind _ _ (at-most-one-start (r .P) (r .S) (r .atMostOne)) (r .outcome))))
+    (goes-on-bind _ _ (well-formed-sheets Check p s (j .sheets))
+    (goes-on-bind _ _ (enough-taken (r .S) (j .locks))
+    (goes-on-bind _ _ (at-most-one-start (r .P) (r .S) (j .atMostOne)) (r .outcome))))

@@ -19,6 +19,14 @@ use Rattle.spec.proofs.Outcomes.{on-injective, bind-on, bind-bind, bind
 use Rattle.spec.proofs.WellFormed.{program-well-formed, well-formed-program, split-well-formed, well-formed-split}
 use Rattle.spec.proofs.EarlyRefusals.{Early, early-bind, early-demand, program-early, split-early}
 
+program-limit : programLimit ≡ 16384
+unfolding programLimit
+program-limit = refl
+
+split-limit : splitLimit ≡ 65536
+unfolding splitLimit
+split-limit = refl
+
 module _ (purpose : Purpose) (p s : List ℕ) where
   pub sheets-well-formed : {P : Program} {S : Split} → sheets purpose p s ≡ on (P, S) → WellFormedSheets purpose p s P S
   unfolding sheets
@@ -62,24 +70,24 @@ module _ (purpose : Purpose) (p s : List ℕ) where
       early-bind _ _ (split-early purpose P s) λ S. tt
 
   pub long-program : 16384 < length p → sheets purpose p s ≡ stop LongProgram
-  unfolding sheets demand _>>=_ programLimit
-  long-program h = rw (lt-leb _ _ h)
+  unfolding sheets demand _>>=_
+  long-program h = rw (program-limit, lt-leb _ _ h)
 
   module _ (fits : length p ≤ 16384) where
     pub program-refused : (r : Refusal) → program p ≡ stop r → sheets purpose p s ≡ stop r
-    unfolding sheets demand _>>=_ programLimit
-    program-refused r e = rw (le-leb _ _ fits, e)
+    unfolding sheets demand _>>=_
+    program-refused r e = rw (program-limit, le-leb _ _ fits, e)
 
     module _ (P : Program) (reads : program p ≡ on P) where
       pub long-split : 65536 < length s → sheets purpose p s ≡ stop LongSplit
-      unfolding sheets demand _>>=_ programLimit splitLimit
-      long-split h = rw (le-leb _ _ fits, reads, lt-leb _ _ h)
+      unfolding sheets demand _>>=_
+      long-split h = rw (program-limit, le-leb _ _ fits, reads, split-limit, lt-leb _ _ h)
 
       module _ (fits′ : length s ≤ 65536) where
         pub split-refused : (r : Refusal) → split purpose P s ≡ stop r → sheets purpose p s ≡ stop r
-        unfolding sheets demand _>>=_ programLimit splitLimit
-        split-refused r e = rw (le-leb _ _ fits, reads, le-leb _ _ fits′, e)
+        unfolding sheets demand _>>=_
+        split-refused r e = rw (program-limit, le-leb _ _ fits, reads, split-limit, le-leb _ _ fits′, e)
 
         pub sheets-read : (S : Split) → split purpose P s ≡ on S → sheets purpose p s ≡ on (P, S)
-        unfolding sheets demand _>>=_ programLimit splitLimit
-        sheets-read S e = rw (le-leb _ _ fits, reads, le-leb _ _ fits′, e)
+        unfolding sheets demand _>>=_
+        sheets-read S e = rw (program-limit, le-leb _ _ fits, reads, split-limit, le-leb _ _ fits′, e)

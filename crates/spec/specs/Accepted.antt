@@ -7,6 +7,7 @@ use Rattle.spec.specs.Split.{Map, Split, typeAt, mapAt}
 use Rattle.spec.specs.Conditions.{startMap}
 use Rattle.spec.specs.Figure5.{_⊒_, Derives, BodiesDerive}
 use Rattle.spec.specs.WellFormed.{WellFormedSheets}
+use Rattle.spec.specs.declared.Purpose.{Purpose}
 use Rattle.spec.specs.declared.Purpose.the-variants.{Check}
 use Rattle.spec.specs.declared.TypeNumber.{TypeNumber}
 use Rattle.spec.specs.declared.MapNumber.{MapNumber}
@@ -21,13 +22,18 @@ pub data AtMost (d : ℕ) : Map → Type 0 where
 abbrev pub LocksTakeEnough : Split → Type 0
 LocksTakeEnough S = (t : TypeNumber) (i o : MapNumber) → typeAt S t ≡ type-line.Lock i o → mapAt S o ⊒ mapAt S i
 
+-- what is judged before the conditions is passed: both sheets are well formed, no lock takes less than it gives, the start holds at most
+-- one of each location
+pub record Judgeable (purpose : Purpose) (programText splitText : List ℕ) (P : Program) (S : Split) : Type 0 where
+  pub sheets : WellFormedSheets purpose programText splitText P S
+  pub locks : LocksTakeEnough S
+  pub atMostOne : AtMost (S .header .denominator) (startMap S)
+
 -- "both sheets are well formed and the split sheet gives, step by step, a derivation [..], with the start holding at most
 -- one of each location"; a derivation for each body and for the root
 pub record Right (programText splitText : List ℕ) : Type 0 where
   pub P : Program
   pub S : Split
-  pub sheets : WellFormedSheets Check programText splitText P S
-  pub locks : LocksTakeEnough S
-  pub atMostOne : AtMost (S .header .denominator) (startMap S)
+  pub judgeable : Judgeable Check programText splitText P S
   pub bodies : BodiesDerive S 0 (P .procedures)
   pub derives : Derives S [] (startMap S) (P .root)

@@ -36,7 +36,8 @@ sameTree (refTo p c) (refTo q d) = eqb (p .0) (q .0) && sameTree c d
 -- ------------------------------------------------------------------ the types of a split
 
 module _ (S : Split) where
-  -- the tree of a type line. A content has a smaller number than its ref, so its tree is among those of the lines before.
+  -- the tree of a type line. A content has a smaller number than its ref, so its tree is among those of the lines before,
+  -- and the tree of int that stands for a missing one is never seen.
   unfoldable pub treeOf : (before : List Tree) → TypeLine → Tree
   treeOf before x =
       if is ref x
@@ -48,6 +49,7 @@ module _ (S : Split) where
   trees before [] = before
   trees before (x ∷ xs) = trees (before ++ treeOf before x ∷ []) xs
 
+  -- the tree of a type; int past the last, which 22 refuses
   unfoldable pub tree : TypeNumber → Tree
   tree t = getD (trees [] (S .types)) (t .0) (plain int [])
 

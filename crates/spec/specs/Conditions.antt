@@ -30,7 +30,7 @@ pub data Condition : Type 0 where
 abbrev pub Env : Type 0
 Env = List (ℕ × TypeNumber)
 
--- the type of the variable v's let's e1
+-- the type of the variable v's let's e1; type 0 for an unbound variable is never seen, since 14 refuses that
 unfoldable pub typeIn : Env → (v : ℕ) → TypeNumber
 typeIn [] v = record { 0 = 0 }
 typeIn (b ∷ Γ) v = if eqb (b .0) v then b .1 else typeIn Γ v

@@ -6,10 +6,9 @@ use mathlib.Core.Option.{none, some}
 use Prim.Native.Nat.{ℕ, _<_}
 use Rattle.spec.specs.Program.{Program}
 use Rattle.spec.specs.Split.{Split}
-use Rattle.spec.specs.Conditions.{Condition, T, F, A, startMap}
+use Rattle.spec.specs.Conditions.{Condition, T, F, A}
 use Rattle.spec.specs.Sites.{Claim, claimsOf}
-use Rattle.spec.specs.WellFormed.{WellFormedSheets}
-use Rattle.spec.specs.Accepted.{LocksTakeEnough, AtMost}
+use Rattle.spec.specs.Accepted.{Judgeable}
 use Rattle.spec.specs.declared.Location.{Location}
 use Rattle.spec.specs.declared.Refusal.{Refusal}
 use Rattle.spec.specs.declared.Refusal.the-variants.{TypeFalse, FlowFalse, AccessFalse}
@@ -60,14 +59,11 @@ InOrder (c ∷ cs) = EarlierThanAll c cs × InOrder cs
 
 -- ------------------------------------------------------------------ a pair of sheets
 
--- what a refusal 31 to 33 says of a pair: both sheets are well formed, the out of each lock line is nowhere below its in, the start
--- holds at most one of each location, the conditions stand by line, of a step or a `proc` line, and then by number, and r names the
--- first that is false
+-- what a refusal 31 to 33 says of a pair: what is judged before the conditions is passed, the conditions stand by line, of a step or a
+-- `proc` line, and then by number, and r names the first that is false
 pub record Refuted (programText splitText : List ℕ) (r : Refusal) : Type 0 where
   pub P : Program
   pub S : Split
-  pub sheets : WellFormedSheets Check programText splitText P S
-  pub locks : LocksTakeEnough S
-  pub atMostOne : AtMost (S .header .denominator) (startMap S)
+  pub judgeable : Judgeable Check programText splitText P S
   pub inOrder : InOrder (claimsOf S P)
   pub first : FirstFalse (claimsOf S P) r

@@ -1,3 +1,4 @@
+-- Document 01 in reading order, with what document 02 changes: texts and lines, the program sheet, the split sheet, maps and types, the conditions and where they are asked, the answer; then what is promised of it, well-formed sheets, derivations of Figure 5, what is right, the first false condition. Nothing promised needs Ranges, and Pairs has tables of pairs.
 pub mod Choice
 pub mod Text
 pub mod Reading
@@ -12,20 +13,9 @@ pub mod Conditions
 pub mod Sites
 pub mod Workspace
 pub mod Verdict
-pub mod Figure5
 pub mod WellFormed
+pub mod Figure5
 pub mod Accepted
-pub mod Ranges
-pub mod KnownPairs
-pub mod EdgeSheets
-pub mod EdgeConditions
-pub mod EdgeSpawns
-pub mod EdgeAgreement
-pub mod EdgeNumbers
-pub mod EdgeStart
-pub mod EdgeSemaphores
-pub mod EdgeLocks
-pub mod EdgeFreelock
-pub mod EdgeRwlocks
-pub mod EdgeProcedures
 pub mod FirstFalse
+pub mod Ranges
+pub mod Pairs

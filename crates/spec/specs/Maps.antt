@@ -9,7 +9,7 @@ use Rattle.spec.specs.Choice.{if_then_else_}
 use Rattle.spec.specs.Split.{Map}
 use Rattle.spec.specs.declared.Location.{Location}
 
--- the lowest location, counted from i, at which a test of two maps fails
+-- the lowest location, counted from i, at which a test of two maps fails; two maps of a sheet are of one length, L
 unfoldable pub lowest : (ℕ → ℕ → Bool) → (i : ℕ) → Map → Map → Option ℕ
 lowest test i [] [] = none
 lowest test i [] (b ∷ n) = some i
@@ -19,7 +19,7 @@ lowest test i (a ∷ m) (b ∷ n) = if test a b then lowest test (i + 1) m n els
 unfoldable pub atLeast : ℕ → ℕ → Bool
 atLeast a b = leb b a
 
--- where two maps fail to be equal, where the first fails to be at least the second
+-- where two maps fail to be equal, where the first fails to be at least the second: `none` says that they are
 infix 4 _=ᵐ_ _≥ᵐ_
 unfoldable pub _=ᵐ_ : Map → Map → Option ℕ
 m =ᵐ n = lowest eqb 0 m n
@@ -35,6 +35,7 @@ nowhere (some l) = false
 unfoldable pub sameNumbers : Map → Map → Bool
 sameNumbers m n = nowhere (m =ᵐ n)
 
+-- the shorter map ends the sum: never seen, both have L numbers
 infixl 60 _+ᵐ_
 unfoldable pub _+ᵐ_ : Map → Map → Map
 [] +ᵐ n = []
@@ -47,7 +48,7 @@ unfoldable pub _×ᵐ_ : ℕ → Map → Map
 k ×ᵐ [] = []
 k ×ᵐ (a ∷ m) = (k * a) ∷ (k ×ᵐ m)
 
--- what a map has of a location
+-- what a map has of a location; past its end, which no location of a sheet is, nothing
 unfoldable pub share : Map → Location → ℕ
 share m p = getD m (p .0) 0
 

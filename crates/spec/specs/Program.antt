@@ -22,6 +22,7 @@ pub record Counts : Type 0 where
   pub steps : ℕ
   pub procedures : ℕ
 
+-- the first number of a line; a 0 for none is never seen, since `numbers` lets through only as many numerals as ranges, and so with k
 unfoldable pub firstNumber : List ℕ → ℕ
 firstNumber ns = getD ns 0 0
 

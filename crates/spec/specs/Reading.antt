@@ -63,6 +63,7 @@ unfoldable pub inRange : Range → ℕ → Bool
 inRange (first to last) n = leb first n && leb n last
 inRange (below count) n = ltb n count
 
+-- each number in its range; numbers or ranges left over pass here, since `ranged` counts them first
 unfoldable pub allInRange : List Range → List ℕ → Bool
 allInRange [] [] = true
 allInRange [] (n ∷ ns) = true

@@ -48,10 +48,12 @@ headerRanges C maps = (1 to 1000000000) ∷ (1 to 16) ∷ (1 to 64) ∷ (1 to 51
 headerRanges C2 maps = (1 to 1000000000) ∷ (1 to 16) ∷ (1 to 64) ∷ (1 to 512) ∷ below maps ∷ []
 headerRanges C3 maps = (1 to 1000000000) ∷ (1 to 16) ∷ (1 to 64) ∷ (1 to 512) ∷ below maps ∷ []
 
--- M among the numbers of a header
+-- M among the numbers of a header. The 0 here, and below where a number is taken by its place on a line, is never seen: `numbers` lets
+-- through only as many numerals as ranges.
 unfoldable pub mapsOf : List ℕ → ℕ
 mapsOf ns = getD ns 3 0
 
+-- without numerals the 0 is not seen either: the line is 21, whatever its ranges
 unfoldable pub mapsIn : Option (List ℕ) → ℕ
 mapsIn none = 0
 mapsIn (some ns) = mapsOf ns
@@ -133,7 +135,7 @@ pub record Signature : Type 0 where
   pub after : MapNumber
   pub result : TypeNumber
 
--- the signature of a procedure that is not there
+-- the signature of a procedure that is not there: never seen, since 49 refuses a call to one
 abbrev pub noSignature : Signature
 noSignature = record { before = record { 0 = 0 }; argument = record { 0 = 0 }; after = record { 0 = 0 }; result = record { 0 = 0 } }
 
@@ -155,7 +157,7 @@ pub record Row : Type 0 where
   pub post : MapNumber
   pub start : Option MapNumber
 
--- the row of a step that is not there
+-- the row of a step that is not there: never seen, since a sheet has a row for each step
 abbrev pub noRow : Row
 noRow = record { type = record { 0 = 0 }; post = record { 0 = 0 }; start = none }
 
@@ -223,7 +225,7 @@ split purpose P text = do
   done ← end splitSheet p₅
   on (record { header = H; types = types; maps = maps; signatures = signatures; rows = rows })
 
--- the type line and the map with a number
+-- the type line and the map with a number. `Int` and the empty map past the last are never seen: 22 refuses such a number
 module _ (S : Split) where
   unfoldable pub typeAt : TypeNumber → TypeLine
   typeAt t = getD (S .types) (t .0) Int

@@ -13,8 +13,8 @@ use Rattle.spec.specs.declared.Heading.the-variants.{C, C2, C3}
 use Rattle.spec.specs.declared.TypeLine.{TypeLine}
 use Rattle.spec.specs.declared.TypeLine.the-variants as type-line
 use Rattle.spec.proofs.Tests.{both-true, and-true}
-use Rattle.lexer.specs.declared.vocabulary.TypeWord.{TypeWord}
-use Rattle.lexer.specs.declared.vocabulary.TypeWord.the-variants as kind
+use Rattle.vocabulary.specs.declared.TypeWord.{TypeWord}
+use Rattle.vocabulary.specs.declared.TypeWord.the-variants as kind
 use Rattle.split_lines.specs.declared.types.TypeSeen.{TypeSeen}
 use Rattle.split_lines.specs.declared.types.TypeSeen.the-variants as type-seen
 use Rattle.split_lines.specs.Lines.{rangedType, lockSeen, typeSeen}

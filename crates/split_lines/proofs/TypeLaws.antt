@@ -18,11 +18,11 @@ use Rattle.spec.specs.declared.TypeLine.the-variants as type-line
 use Rattle.lexer.specs.Views.{endOf, firstField}
 use Rattle.lexer.specs.Cursors.{Placed, rest, behindField, placeAt}
 use Rattle.lexer.specs.Numbers.{numbersAt}
-use Rattle.lexer.specs.Words.{typeWordOf}
+use Rattle.vocabulary.specs.Words.{typeWordOf}
 use Rattle.lexer.specs.declared.Cursor.{Cursor}
 use Rattle.lexer.specs.declared.FieldEnd.the-variants.{Comma}
-use Rattle.lexer.specs.declared.vocabulary.TypeWord.{TypeWord}
-use Rattle.lexer.specs.declared.vocabulary.TypeWord.the-variants as kind
+use Rattle.vocabulary.specs.declared.TypeWord.{TypeWord}
+use Rattle.vocabulary.specs.declared.TypeWord.the-variants as kind
 use Rattle.lexer.proofs.Walks.{first-wrong, first-alone}
 use Rattle.lexer.proofs.Stored.{Narrow, AllNarrow}
 use Rattle.lexer.proofs.Ranges.{tail-form, tail-read, numbersFrom, one-by-one}
@@ -32,7 +32,7 @@ use Rattle.split_lines.specs.declared.types.TypeSeen.{TypeSeen}
 use Rattle.split_lines.specs.declared.types.TypeSeen.the-variants as type-seen
 use Rattle.split_lines.specs.Lines.{rangedType, lockSeen, typeSeen, typeTold}
 use Rattle.split_lines.specs.Answers.{TypeAnswer}
-use Rattle.lexer.proofs.TypeLines.{ofKind, type-line as kind-line}
+use Rattle.vocabulary.proofs.TypeLines.{ofKind, type-line as kind-line}
 use Rattle.lexer.proofs.Sheets.{next-at}
 use Rattle.lexer.proofs.LineEnds.{LineRead}
 use Rattle.split_lines.proofs.LineLaws.{shows-form, shows-range, shows-entry, comma-line, comma-kept}

@@ -18,8 +18,8 @@ use Rattle.spec.specs.declared.MapNumber.{MapNumber}
 use Rattle.spec.specs.declared.TypeLine.{TypeLine}
 use Rattle.spec.specs.declared.TypeLine.the-variants as type-line
 use Rattle.lexer.specs.declared.Cursor.{Cursor}
-use Rattle.lexer.specs.declared.vocabulary.TypeWord.{TypeWord}
-use Rattle.lexer.specs.declared.vocabulary.TypeWord.the-variants as kind
+use Rattle.vocabulary.specs.declared.TypeWord.{TypeWord}
+use Rattle.vocabulary.specs.declared.TypeWord.the-variants as kind
 use Rattle.split_lines.specs.declared.rows.Row.{Row as RowNumbers}
 use Rattle.split_lines.specs.declared.rows.RowStart.{RowStart}
 use Rattle.split_lines.specs.declared.rows.RowStart.the-variants as row-start

@@ -48,7 +48,7 @@ fn takes_start(word: Word) -> bool
 {
     match word {
         Word::Leaf(_) => false,
-        Word::Unary(w) => lexer::calls(w),
+        Word::Unary(w) => vocabulary::calls(w),
         Word::Binary(w) => match w {
             BinaryWord::Let => false,
             BinaryWord::If => false,
@@ -64,7 +64,7 @@ fn keeps_back(word: Word) -> bool
 {
     match word {
         Word::Leaf(_) => false,
-        Word::Unary(w) => lexer::calls(w),
+        Word::Unary(w) => vocabulary::calls(w),
         Word::Binary(_) => false,
     }
 }

@@ -3,13 +3,13 @@ use crate::fields::Head;
 use crate::fields::first_field;
 use lexer::Cursor;
 use lexer::Numbers;
-use lexer::TypeWord;
 use spec::Heading;
 use spec::Location;
 use spec::MapNumber;
 use spec::Refusal;
 use spec::TypeLine;
 use spec::TypeNumber;
+use vocabulary::TypeWord;
 use workspace::Header;
 ghost use mathlib.Core.Path.{_≡_};
 ghost use mathlib.Core.List.{[], _∷_};
@@ -114,7 +114,7 @@ pub fn type_line(text: &[u8], cursor: Cursor, own: usize, header: Header) -> Typ
     let Head::Field(from, to, numbers) = first_field(text, cursor) else {
         return TypeRead::Refused(Refusal::SplitForm(line));
     };
-    let kind = lexer::type_word(&text[from..to]);
+    let kind = vocabulary::type_word(&text[from..to]);
     let mut found = [0u32; 2];
     let read = numbers.numbers(text, &mut found);
     let Numbers::Read(next) = read else {

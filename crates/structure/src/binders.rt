@@ -31,7 +31,7 @@ const UNBOUND: u32 = 272;
 fn call_role(w: UnaryWord) -> Role
     ensures { λ r. ⌜ r ≡ role (Unary w) ⌝ }
 {
-    if lexer::calls(w) {
+    if vocabulary::calls(w) {
         return Role::Calls;
     }
     Role::Neither

@@ -1,14 +1,13 @@
 -- One step of an expression that the work space holds: its conditions are document 01's, and what it hands down to its parts
 -- are the maps before them.
 use mathlib.Core.Path.{_≡_, refl, ap}
-use mathlib.Core.Logic.{inl, inr}
 use mathlib.Core.List.{List}
 use Prim.Native.Nat.{ℕ, _+_, _<_, _≤_}
 use native.Mathlib.Omega.{arith}
-use lib.ListN.{length, getD, length-map}
+use lib.ListN.{length, getD}
 use Rattle.spec.specs.Expression.{Position, Expr, leaf, unary, binary, size, lineOf}
 use Rattle.spec.specs.Program.{Program}
-use Rattle.spec.specs.Split.{Map, Row, Split}
+use Rattle.spec.specs.Split.{Map, Split}
 use Rattle.spec.specs.Conditions.{Env, post, bodyStart, conditionsOf}
 use Rattle.spec.specs.Words.{preOfPart, preOfSecond}
 use Rattle.spec.specs.Sites.{claimsAt}
@@ -24,9 +23,7 @@ use Rattle.spec.specs.declared.BinaryWord.the-variants.{Let, If, Spawn, Write}
 use Rattle.spec.proofs.Listing.{size-positive}
 use Rattle.workspace.specs.Layout as layout
 use Rattle.workspace.specs.Layout.{wordsAt, postsAt, startsAt, presAt, ruleOf}
-use Rattle.workspace.specs.Region.{ChangedWithin}
-use Rattle.workspace.specs.Holds.{HoldsSplit, startNumber}
-use Rattle.workspace.proofs.Region.{region-kept}
+use Rattle.workspace.specs.Holds.{HoldsSplit}
 use Rattle.workspace.proofs.Codes.{word-of-code}
 use Rattle.workspace.proofs.Shown.{Stands, post-at, start-at}
 use Rattle.workspace.proofs.Expression.{Here, here-index, here-line, leaf-code, unary-code, binary-code, unary-number, here-called, here-part, here-first, here-second, here-second-at}
@@ -76,23 +73,6 @@ of-second Spawn p q r = r
 of-second Write p q r = q
 
 module _ (S : Split) (P : Program) (R : InRange P S) (few : length (S .rows) ≤ 256) where
-  -- the split stays where only maps before steps are changed
-  pub split-kept : {w w′ : List ℕ} → ChangedWithin presAt (presAt + 256) w w′ → HoldsSplit w S → HoldsSplit w′ S
-  split-kept x H = record {
-    kinds = region-kept x (inr (omega arith)) (H .kinds);
-    firsts = region-kept x (inr (omega arith)) (H .firsts);
-    seconds = region-kept x (inr (omega arith)) (H .seconds);
-    maps = λ m h. region-kept x (inr (omega arith)) (H .maps m h);
-    empty = region-kept x (inr (omega arith)) (H .empty);
-    befores = region-kept x (inr (omega arith)) (H .befores);
-    arguments = region-kept x (inr (omega arith)) (H .arguments);
-    afters = region-kept x (inr (omega arith)) (H .afters);
-    results = region-kept x (inr (omega arith)) (H .results);
-    rowTypes = region-kept x (inl (omega (arith, length-map (S .rows) (λ (r : Row). r .type .0)))) (H .rowTypes);
-    posts = region-kept x (inl (omega (arith, length-map (S .rows) (λ (r : Row). r .post .0)))) (H .posts);
-    starts = region-kept x (inl (omega (arith, length-map (S .rows) (λ (r : Row). startNumber (r .start))))) (H .starts);
-  }
-
   abbrev n : ℕ
   n = S .header .locations
 

@@ -25,7 +25,7 @@ use Rattle.workspace.proofs.Held.{program-kept, body-sized}
 use Rattle.workspace.proofs.Shown.{before-at}
 use Rattle.workspace.proofs.Expression.{here-index, here-line}
 use Rattle.workspace.proofs.Bodies.{AllHere}
-use Rattle.workspace.proofs.Sheets.{program-here, program-sized, root-here, root-last, signatures-counted, header-start-stands}
+use Rattle.workspace.proofs.Sheets.{program-here, program-sized, root-here, root-last, signatures-counted, header-start-stands, split-kept-by-pres}
 use Rattle.conditions.specs.Outcome.{both}
 use Rattle.conditions.specs.SheetOutcomes.{startOutcome}
 use Rattle.conditions.proofs.Shown.{within-shown}
@@ -36,7 +36,6 @@ use Rattle.walk.proofs.Asked.{procedure-counted}
 use Rattle.walk.proofs.Claims.{firstAsked, asked-parts, none-asked}
 use Rattle.walk.proofs.Scopes.{by-procedure, scoped-none, scoped-more}
 use Rattle.walk.proofs.Views.{part-at, signed}
-use Rattle.walk.proofs.OneStep.{split-kept}
 use Rattle.walk.proofs.Transfer.{expression-shown}
 
 -- ------------------------------------------------------------------ where they stand
@@ -80,7 +79,7 @@ sheets-stay {P = P} {S = S} c few procs H = record {
   program =
       program-kept (changed-wider rowTypesAt workSize (omega arith) (omega arith) c) (H .wellFormed .stepped)
       (omega (arith, H .stepsCounted)) (omega (arith, H .proceduresCounted)) (H .program);
-  split = split-kept S P (H .inRange) (omega (arith, H .inRange .rowsCounted, H .stepsCounted)) c (H .split);
+  split = split-kept-by-pres (omega (arith, H .inRange .rowsCounted, H .stepsCounted)) c (H .split);
   stepsCounted = H .stepsCounted;
   proceduresCounted = H .proceduresCounted;
   denominatorGiven = H .denominatorGiven;

@@ -27,13 +27,14 @@ use Rattle.workspace.specs.Holds.{HoldsSplit}
 use Rattle.workspace.proofs.Region.{changed-nothing, changed-then, changed-wider}
 use Rattle.workspace.proofs.Shown.{map-number, Stands, stands-kept, row-at}
 use Rattle.workspace.proofs.Expression.{Here, here-kept, here-index, here-part, here-first, here-second}
+use Rattle.workspace.proofs.Sheets.{split-kept-by-pres}
 use Rattle.conditions.specs.Outcome.{both}
 use Rattle.walk.specs.Walk.{cell, stepOutcome, counted, putPre, passOn, walk}
 use Rattle.conditions.proofs.FirstFalse.{both-met, both-assoc}
 use Rattle.walk.proofs.Walking.{put-before, put-within, put-at, put-other}
 use Rattle.walk.proofs.Claims.{firstAsked, claims-first, claims-one, claims-append}
 use Rattle.walk.proofs.Scopes.{by-let, Scoped, scoped-second}
-use Rattle.walk.proofs.OneStep.{preNumber, partNumber, secondNumber, Ready, split-kept, step-shown, leaf-passes, unary-passes, binary-passes, part-stands, second-stands}
+use Rattle.walk.proofs.OneStep.{preNumber, partNumber, secondNumber, Ready, step-shown, leaf-passes, unary-passes, binary-passes, part-stands, second-stands}
 
 -- the walk over the steps of a program, with its split's locations and denominator
 abbrev walkOf : Purpose → Split → List ℕ → (k n : ℕ) → Out (Unit {0})
@@ -62,7 +63,7 @@ module _ (purpose : Purpose) (S : Split) (P : Program) (R : InRange P S) (few : 
       → (m : MapNumber) → Stands w S m pre → cell w′ presAt k ≡ m .0 → k + size e ≤ length (S .rows)
       → Ready S P R few w′ k inside vars Γ pre e
   again x H long at C m p q h = record {
-    split = split-kept S P R few x H;
+    split = split-kept-by-pres few x H;
     here = here-kept x (omega arith) at;
     scoped = C;
     pre-stands = rw (map-number q) (stands-kept x p);

@@ -12,7 +12,7 @@ use Rattle.spec.specs.Split.{Signature, Row, Split}
 use Rattle.spec.specs.Conditions.{startMap}
 use Rattle.spec.specs.Ranges.{InRange}
 use Rattle.spec.specs.WellFormed.{listing}
-use Rattle.workspace.specs.Layout.{procFirstsAt, mapsAt, stride, emptyMap, kindCode, firstOf, secondOf, rowTypesAt, workSize}
+use Rattle.workspace.specs.Layout.{procFirstsAt, mapsAt, stride, emptyMap, kindCode, firstOf, secondOf, rowTypesAt, presAt, workSize}
 use Rattle.workspace.specs.Region.{ChangedWithin}
 use Rattle.workspace.specs.Holds.{startNumber, HoldsSplit}
 use Rattle.workspace.specs.Sheets.{HoldsSheets}
@@ -66,6 +66,23 @@ module _ {w : List ℕ} {steps procedures denominator locations start : ℕ} {P 
       rw (map-number (H .startGiven)) (map-stands w S P (H .split) (H .inRange) (S .header .rootStart) (H .inRange .start))
 
 -- ------------------------------------------------------------------ the sheets stay
+
+-- the split, where only maps before steps change
+pub split-kept-by-pres : {w w′ : List ℕ} {S : Split} → length (S .rows) ≤ 256 → ChangedWithin presAt (presAt + 256) w w′ → HoldsSplit w S → HoldsSplit w′ S
+split-kept-by-pres {S = S} few c H = record {
+  kinds = region-kept c (inr (omega arith)) (H .kinds);
+  firsts = region-kept c (inr (omega arith)) (H .firsts);
+  seconds = region-kept c (inr (omega arith)) (H .seconds);
+  maps = λ m h. region-kept c (inr (omega arith)) (H .maps m h);
+  empty = region-kept c (inr (omega arith)) (H .empty);
+  befores = region-kept c (inr (omega arith)) (H .befores);
+  arguments = region-kept c (inr (omega arith)) (H .arguments);
+  afters = region-kept c (inr (omega arith)) (H .afters);
+  results = region-kept c (inr (omega arith)) (H .results);
+  rowTypes = region-kept c (inl (omega (arith, length-map (S .rows) (λ (r : Row). r .type .0)))) (H .rowTypes);
+  posts = region-kept c (inl (omega (arith, length-map (S .rows) (λ (r : Row). r .post .0)))) (H .posts);
+  starts = region-kept c (inl (omega (arith, length-map (S .rows) (λ (r : Row). startNumber (r .start))))) (H .starts);
+}
 
 module _ {w w′ : List ℕ} {maps : ℕ} (c : ChangedWithin (mapsAt + stride * maps) (mapsAt + stride * emptyMap) w w′) where
   split-kept : {P : Program} {S : Split} → InRange P S → S .header .maps ≤ maps → length (P .steps) ≤ 256 → length (P .procedures) ≤ 16

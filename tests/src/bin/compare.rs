@@ -4,7 +4,7 @@
 //! as two files, and also when the drawn pairs did not meet what they should (see `tally`).
 
 use evidence::answer::WORK_SPACE;
-use evidence::comparison::{difference, Checker, WorkSpace};
+use evidence::checking::{difference, Checker, WorkSpace};
 use evidence::tally::{Tally, CHECKING};
 use evidence::{draw, known, product, second, series};
 use std::process::ExitCode;

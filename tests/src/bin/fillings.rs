@@ -4,7 +4,7 @@
 //! two files, and also when the drawn sheets did not meet what they should (see `tally`).
 
 use evidence::answer::{Returned, SPLIT_BYTES, WORK_SPACE};
-use evidence::comparison::{Checker, WorkSpace};
+use evidence::checking::{Checker, WorkSpace};
 use evidence::draw::unfilled;
 use evidence::filling::{agreed, Filler};
 use evidence::tally::{Tally, FILLING};

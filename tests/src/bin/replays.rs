@@ -4,7 +4,7 @@
 //! two files, and also when the drawn traces did not meet what they should (see `replaying`).
 
 use evidence::answer::REPLAY_SPACE;
-use evidence::comparison::Checker;
+use evidence::checking::Checker;
 use evidence::draw::traces;
 use evidence::replaying::{agreed, Lent, Met, Replayer};
 use evidence::{known, product, series};

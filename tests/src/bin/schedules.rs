@@ -6,7 +6,7 @@
 //! `schedules [second]`. The product says what is accepted, or, when asked for, the second checker.
 
 use evidence::answer::{Returned, WORK_SPACE};
-use evidence::comparison::Checker;
+use evidence::checking::Checker;
 use evidence::draw::draft::Draft;
 use evidence::draw::honest::{self, concurrent, Slip};
 use evidence::draw::random::Random;

@@ -7,18 +7,18 @@ use Prim.Native.Nat.{ℕ, _<_, _-_}
 use borrow.Author.Needs.{needs}
 use borrow.Fn.Kinds.{In}
 use borrow.Fn.PlainCycle.{Measures, is, falls, and}
+use Rattle.ways.proofs.way_in.Reads as way-in-reads
+use Rattle.turns.proofs.bounds.back.Reads as back-reads
+use Rattle.turns.proofs.bounds.binary_ceiling.Reads as binary-ceiling-reads
+use Rattle.turns.proofs.bounds.first_cap.Reads as first-cap-reads
+use Rattle.turns.proofs.bounds.last_cap.Reads as last-cap-reads
+use Rattle.turns.proofs.bounds.part_cap.Reads as part-cap-reads
+use Rattle.turns.proofs.bounds.unary_ceiling.Reads as unary-ceiling-reads
 use Rattle.pass.proofs.caps.cap_step.Reads as cap-step
 use Rattle.pass.proofs.caps.cap_step.Kinds as cap-step-kinds
 use Rattle.pass.proofs.caps.+cap_step.Lts-cap_step as cap-step-lts
-use Rattle.pass.proofs.bounds.back.Reads as back-reads
-use Rattle.pass.proofs.bounds.binary_ceiling.Reads as binary-ceiling-reads
-use Rattle.pass.proofs.bounds.first_cap.Reads as first-cap-reads
-use Rattle.pass.proofs.bounds.last_cap.Reads as last-cap-reads
-use Rattle.pass.proofs.bounds.part_cap.Reads as part-cap-reads
-use Rattle.pass.proofs.bounds.unary_ceiling.Reads as unary-ceiling-reads
 use Rattle.pass.proofs.caps.own_cap.Reads as own-cap-reads
 use Rattle.pass.proofs.steps.second_in.Reads as second-in-reads
-use Rattle.pass.proofs.ways.way_in.Reads as way-in-reads
 use Rattle.pass.proofs.caps.+cap_step.{statement}
 use Rattle.pass.proofs.caps.+cap_step.Tie.{close}
 use Rattle.pass.proofs.Bounding.{leaf-capped, unary-capped, binary-capped, cappable-inside, cappable-stored, cappable-small, part-cappable, part-looked-at, last-cappable, first-cappable}

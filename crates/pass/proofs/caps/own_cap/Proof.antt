@@ -1,6 +1,6 @@
 use mathlib.Core.Path.{refl}
 use native.Mathlib.Omega.{arith}
-use Rattle.pass.specs.Bounds.{top}
+use Rattle.turns.specs.Bounds.{top}
 use Rattle.pass.proofs.Bounding.{after-own, call-own, loop-own}
 use borrow.Author.Needs.{needs}
 use Rattle.pass.proofs.caps.own_cap.Statement.{statement}

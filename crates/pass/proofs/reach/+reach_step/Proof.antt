@@ -6,16 +6,16 @@ use Prim.Native.Nat.{ℕ, _<_, _-_}
 use borrow.Author.Needs.{needs}
 use borrow.Fn.Kinds.{In}
 use borrow.Fn.PlainCycle.{Measures, is, falls, and}
+use Rattle.ways.proofs.way_in.Reads as way-in-reads
+use Rattle.turns.proofs.bounds.binary_reach.Reads as binary-reach-reads
+use Rattle.turns.proofs.bounds.forth.Reads as forth-reads
+use Rattle.turns.proofs.bounds.least.Reads as least-reads
+use Rattle.turns.proofs.second_pre.Reads as second-pre-reads
 use Rattle.pass.proofs.reach.reach_step.Reads as reach-step
 use Rattle.pass.proofs.reach.reach_step.Kinds as reach-step-kinds
 use Rattle.pass.proofs.reach.+reach_step.Lts-reach_step as reach-step-lts
-use Rattle.pass.proofs.bounds.binary_reach.Reads as binary-reach-reads
-use Rattle.pass.proofs.bounds.cap_at.Reads as cap-at-reads
-use Rattle.pass.proofs.bounds.forth.Reads as forth-reads
-use Rattle.pass.proofs.bounds.least.Reads as least-reads
+use Rattle.pass.proofs.caps.cap_at.Reads as cap-at-reads
 use Rattle.pass.proofs.steps.second_in.Reads as second-in-reads
-use Rattle.pass.proofs.turns.second_pre.Reads as second-pre-reads
-use Rattle.pass.proofs.ways.way_in.Reads as way-in-reads
 use Rattle.pass.proofs.reach.+reach_step.{statement}
 use Rattle.pass.proofs.reach.+reach_step.Tie.{close}
 use Rattle.pass.proofs.Bounding.{leaf-reached, after-reached, loop-reached, call-reached, binary-reached}

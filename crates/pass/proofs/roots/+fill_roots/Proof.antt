@@ -5,14 +5,14 @@ use Prim.Native.Nat.{ℕ, _<_, _-_}
 use borrow.Author.Needs.{needs}
 use borrow.Fn.Kinds.{In}
 use borrow.Fn.PlainCycle.{Measures, is, falls, and}
+use Rattle.ways.proofs.after_in.Reads as after-in-reads
+use Rattle.ways.proofs.before_in.Reads as before-in-reads
+use Rattle.ways.proofs.cell_in.Reads as cell-in-reads
 use Rattle.pass.proofs.roots.fill_roots.Reads as fill-roots
 use Rattle.pass.proofs.roots.fill_roots.Kinds as fill-roots-kinds
 use Rattle.pass.proofs.roots.+fill_roots.Lts-fill_roots as fill-roots-lts
 use Rattle.pass.proofs.roots.first_in.Reads as first-in-reads
 use Rattle.pass.proofs.roots.root_posts.Reads as root-posts-reads
-use Rattle.pass.proofs.ways.after_in.Reads as after-in-reads
-use Rattle.pass.proofs.ways.before_in.Reads as before-in-reads
-use Rattle.pass.proofs.ways.cell_in.Reads as cell-in-reads
 use Rattle.workspace.proofs.index.Reads as index-reads
 use Rattle.pass.proofs.roots.+fill_roots.{statement}
 use Rattle.pass.proofs.roots.+fill_roots.Tie.{close}

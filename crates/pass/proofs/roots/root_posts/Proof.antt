@@ -1,6 +1,6 @@
 -- The most that each step may leave, then the pass.
 use mathlib.Core.Path.{refl}
-use Rattle.pass.specs.Bounds.{top}
+use Rattle.turns.specs.Bounds.{top}
 use Rattle.pass.proofs.RootPosts.{root-cappable, root-ready, root-passed}
 use borrow.Author.Needs.{needs}
 use Rattle.pass.proofs.roots.root_posts.Statement.{statement}

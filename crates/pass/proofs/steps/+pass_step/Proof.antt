@@ -6,18 +6,18 @@ use Prim.Native.Nat.{ℕ, _<_, _-_}
 use borrow.Author.Needs.{needs}
 use borrow.Fn.Kinds.{In}
 use borrow.Fn.PlainCycle.{Measures, is, falls, and}
+use Rattle.ways.proofs.way_in.Reads as way-in-reads
+use Rattle.turns.proofs.after_binary.Reads as after-binary-reads
+use Rattle.turns.proofs.after_unary.Reads as after-unary-reads
+use Rattle.turns.proofs.part_pre.Reads as part-pre-reads
+use Rattle.turns.proofs.second_pre.Reads as second-pre-reads
+use Rattle.turns.proofs.turn.Reads as turn-reads
 use Rattle.pass.proofs.steps.pass_step.Reads as pass-step
 use Rattle.pass.proofs.steps.pass_step.Kinds as pass-step-kinds
 use Rattle.pass.proofs.steps.+pass_step.Lts-pass_step as pass-step-lts
-use Rattle.pass.proofs.bounds.cap_at.Reads as cap-at-reads
+use Rattle.pass.proofs.caps.cap_at.Reads as cap-at-reads
 use Rattle.pass.proofs.steps.second_in.Reads as second-in-reads
 use Rattle.pass.proofs.steps.settle.Reads as settle-reads
-use Rattle.pass.proofs.turns.after_binary.Reads as after-binary-reads
-use Rattle.pass.proofs.turns.after_unary.Reads as after-unary-reads
-use Rattle.pass.proofs.turns.part_pre.Reads as part-pre-reads
-use Rattle.pass.proofs.turns.second_pre.Reads as second-pre-reads
-use Rattle.pass.proofs.turns.turn.Reads as turn-reads
-use Rattle.pass.proofs.ways.way_in.Reads as way-in-reads
 use Rattle.pass.proofs.steps.+pass_step.{statement}
 use Rattle.pass.proofs.steps.+pass_step.Tie.{close}
 use Rattle.pass.proofs.Passing.{leaf-passed, unary-nothing, unary-passed, first-nothing, second-nothing, binary-passed}

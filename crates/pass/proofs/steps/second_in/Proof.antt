@@ -2,7 +2,7 @@ use Prim.Native.Nat.{_+_}
 use mathlib.Core.Path.{_≡_, _∙_}
 use native.Mathlib.Omega.{arith}
 use Rattle.workspace.specs.Layout.{endsAt}
-use Rattle.pass.specs.Shows.{endIn}
+use Rattle.ways.specs.Shows.{endIn}
 use borrow.Author.Needs.{needs}
 use Rattle.pass.proofs.steps.second_in.Statement.{statement}
 use Rattle.pass.proofs.steps.second_in.Tie as tie

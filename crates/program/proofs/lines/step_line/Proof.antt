@@ -1,6 +1,6 @@
 -- A step line in the order in which it is judged: a missing line, the word `freelock`, another word, the number behind it, its range.
 use Rattle.lexer.proofs.Places.{span-le}
-use Rattle.lexer.proofs.Words.{span-known, span-unknown}
+use Rattle.vocabulary.proofs.Words.{span-known, span-unknown}
 use Rattle.program.proofs.TailLaws.{line-fits, marked}
 use Rattle.program.proofs.LineLaws.{step-missing, step-unknown}
 use borrow.Author.Needs.{needs}

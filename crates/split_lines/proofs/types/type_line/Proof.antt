@@ -7,7 +7,7 @@ use lib.ListN.{length}
 use Rattle.spec.specs.Reading.{splitSheet, readLine}
 use Rattle.spec.specs.Split.{typeLine}
 use Rattle.lexer.specs.Cursors.{rest, placeAt}
-use Rattle.lexer.specs.Words.{typeWordOf}
+use Rattle.vocabulary.specs.Words.{typeWordOf}
 use Rattle.lexer.specs.declared.Cursor.{Cursor}
 use Rattle.lexer.proofs.LineEnds.{numbers-none, numbers-read}
 use Rattle.lexer.proofs.Walks.{left-some}

@@ -1,0 +1,176 @@
+-- 44 and 30 to 33 do not look at the heading: two splits that differ in nothing else get the same outcome.
+use mathlib.Core.Path.{_≡_, refl, ap, _∙_}
+use mathlib.Core.List.{List, [], _∷_, _++_}
+use mathlib.Core.Bool.{Bool, _&&_}
+use mathlib.Core.Option.{Option, none, some}
+use Prim.Native.Nat.{ℕ, _+_}
+use lib.ListN.{getD}
+use Rattle.spec.specs.Choice.{if_then_else_}
+use Rattle.spec.specs.Reading.{Out, _>>=_, demand}
+use Rattle.spec.specs.Words.{role, binding, preOfPart, preOfSecond}
+use Rattle.spec.specs.Expression.{Expr, leaf, unary, binary, Procedure}
+use Rattle.spec.specs.Program.{Program}
+use Rattle.spec.specs.Split.{Map, Header, Signature, Split}
+use Rattle.spec.specs.Kinds.{int, lock, is, content}
+use Rattle.spec.specs.Agreement.{Tree, plain, sameTree, treeOf, trees, tree, agree}
+use Rattle.spec.specs.Conditions.{Condition, T, Env, typeAt, mapAt, startMap, contains, looserLock, mayShow, row, type, kind, post, startOr, bodyStart, keptBack, signature, K, inMap, outMap, readMap, writeMap, conditionsOf, procedureConditions}
+use Rattle.spec.specs.Sites.{Site, sites, claimsAt, claims, bodySites, claimsOfProcedure, claimsOfProcedures, claimsOf}
+use Rattle.spec.specs.Verdict.{takesEnough, allTakeEnough, locksTakeEnough, startAtMostOne, ruled}
+use Rattle.spec.specs.declared.Heading.{Heading}
+use Rattle.spec.specs.declared.MapNumber.{MapNumber}
+use Rattle.spec.specs.declared.TypeNumber.{TypeNumber}
+use Rattle.spec.specs.declared.TypeLine.{TypeLine}
+use Rattle.spec.specs.declared.Refusal.the-variants.{LockTakesLess}
+use Rattle.spec.specs.declared.Word.the-variants.{Binary}
+use Rattle.spec.specs.declared.LeafWord.the-variants.{Var, Int, Newtid, Newlock, Newsem, Newrwlock}
+use Rattle.spec.specs.declared.UnaryWord.the-variants.{While, Join, Ref, Read, Lock, Unlock, Post, Wait, Rdlock, Rdunlock, Wrlock, Wrunlock, Call}
+use Rattle.spec.specs.declared.BinaryWord.the-variants.{Let, If, Spawn, Write}
+
+-- a header, and a split, under another heading
+unfoldable pub headedAs : Heading → Header → Header
+headedAs h H = record {
+  heading = h;
+  denominator = H .denominator;
+  locations = H .locations;
+  types = H .types;
+  maps = H .maps;
+  rootStart = H .rootStart;
+}
+
+unfoldable pub under : Heading → Split → Split
+under h S = record { header = headedAs h (S .header); types = S .types; maps = S .maps; signatures = S .signatures; rows = S .rows }
+
+-- 44, 30 and 31 to 33
+unfoldable pub ruling : Program → Split → Out (Unit {0})
+ruling P S = locksTakeEnough S >>= λ locks. startAtMostOne P S >>= λ whole. ruled P S
+
+module _ (h : Heading) (S : Split) where
+  -- ---------------------------------------------------------------- types
+
+  same-tree-of : (before : List Tree) (x : TypeLine) → treeOf (under h S) before x ≡ treeOf S before x
+  unfolding treeOf mapAt under
+  same-tree-of before x = refl
+
+  same-trees : (before : List Tree) (xs : List TypeLine) → trees (under h S) before xs ≡ trees S before xs
+  unfolding trees
+  same-trees before [] = refl
+  same-trees before (x ∷ xs) =
+      same-trees (before ++ treeOf (under h S) before x ∷ []) xs
+      ∙ ap (λ (y : Tree). trees S (before ++ y ∷ []) xs) (same-tree-of before x)
+
+  same-agree : (t u : TypeNumber) → agree (under h S) t u ≡ agree S t u
+  unfolding agree tree under
+  same-agree t u =
+      ap (λ (l : List Tree). sameTree (getD l (t .0) (plain int [])) (getD l (u .0) (plain int []))) (same-trees [] (S .types))
+
+  same-contains : (x : TypeLine) (t : TypeNumber) → contains (under h S) x t ≡ contains S x t
+  unfolding contains
+  same-contains x t = rw (same-agree (content x) t)
+
+  same-may-show : (t u : TypeNumber) → mayShow (under h S) t u ≡ mayShow S t u
+  unfolding mayShow looserLock typeAt mapAt under
+  same-may-show t u =
+      ap (λ (x : Bool). if is lock (typeAt S t) && is lock (typeAt S u) then looserLock S (typeAt S t) (typeAt S u) else x) (same-agree t u)
+
+  same-enough : (x : TypeLine) → takesEnough (under h S) x ≡ takesEnough S x
+  unfolding takesEnough mapAt under
+  same-enough x = refl
+
+  same-all-enough : (k : ℕ) (xs : List TypeLine) → allTakeEnough (under h S) k xs ≡ allTakeEnough S k xs
+  unfolding allTakeEnough
+  same-all-enough k [] = refl
+  same-all-enough k (x ∷ xs) =
+      ap (λ (b : Bool). demand b (LockTakesLess k) >>= λ enough. allTakeEnough (under h S) (k + 1) xs) (same-enough x)
+      ∙ ap (λ (o : Out (Unit {0})). demand (takesEnough S x) (LockTakesLess k) >>= λ enough. o) (same-all-enough (k + 1) xs)
+
+  same-locks : locksTakeEnough (under h S) ≡ locksTakeEnough S
+  unfolding locksTakeEnough under
+  same-locks = same-all-enough 2 (S .types)
+
+  -- ---------------------------------------------------------------- conditions
+
+  -- lists of conditions that differ in how two types are compared, at the first or later
+  at-first : {a b : Bool} (cs : List Condition) → a ≡ b → _≡_ {A = List Condition} (T a ∷ cs) (T b ∷ cs)
+  at-first cs e = ap (λ (x : Bool). T x ∷ cs) e
+
+  later : (c : Condition) {cs ds : List Condition} → cs ≡ ds → _≡_ {A = List Condition} (c ∷ cs) (c ∷ ds)
+  later c e = ap (_∷_ c) e
+
+  same-start-in : (o : Option MapNumber) → startOr (under h S) o ≡ startOr S o
+  unfolding startOr mapAt under headedAs
+  same-start-in none = refl
+  same-start-in (some m) = refl
+
+  same-own : (Γ : Env) (pre : Map) (e : Expr) → conditionsOf (under h S) Γ pre e ≡ conditionsOf S Γ pre e
+  unfolding conditionsOf row type kind post bodyStart startOr keptBack signature K inMap outMap readMap writeMap typeAt mapAt under headedAs
+  same-own Γ pre (leaf Var k v) = at-first _ (same-may-show _ _)
+  same-own Γ pre (leaf Int k v) = refl
+  same-own Γ pre (leaf Newtid k v) = refl
+  same-own Γ pre (leaf Newlock k v) = refl
+  same-own Γ pre (leaf Newsem k v) = refl
+  same-own Γ pre (leaf Newrwlock k v) = refl
+  same-own Γ pre (unary While k v e₁) = refl
+  same-own Γ pre (unary Join k v e₁) = refl
+  same-own Γ pre (unary Ref k v e₁) = at-first _ (same-contains _ _)
+  same-own Γ pre (unary Read k v e₁) = later _ (at-first _ (same-contains _ _))
+  same-own Γ pre (unary Lock k v e₁) = refl
+  same-own Γ pre (unary Unlock k v e₁) = refl
+  same-own Γ pre (unary Post k v e₁) = refl
+  same-own Γ pre (unary Wait k v e₁) = refl
+  same-own Γ pre (unary Rdlock k v e₁) = refl
+  same-own Γ pre (unary Rdunlock k v e₁) = refl
+  same-own Γ pre (unary Wrlock k v e₁) = refl
+  same-own Γ pre (unary Wrunlock k v e₁) = refl
+  same-own Γ pre (unary Call k f e₁) = rw (same-start-in (row S (unary Call k f e₁) .start)) (at-first _ (same-agree _ _) ∙ later _ (at-first _ (same-agree _ _)))
+  same-own Γ pre (binary Let k v e₁ e₂) = at-first _ (same-agree _ _)
+  same-own Γ pre (binary If k v e₁ e₂) = at-first _ (same-agree _ _) ∙ later _ (at-first _ (same-agree _ _))
+  same-own Γ pre (binary Spawn k v e₁ e₂) = rw (same-start-in (row S (binary Spawn k v e₁ e₂) .start))
+  same-own Γ pre (binary Write k v e₁ e₂) = later _ (later _ (at-first _ (same-contains _ _)))
+
+  -- ---------------------------------------------------------------- all of them
+
+  same-sites : (Γ : Env) (pre : Map) (e : Expr) → sites (under h S) Γ pre e ≡ sites S Γ pre e
+  unfolding sites row type post bodyStart mapAt under
+  same-sites Γ pre (leaf w k v) = refl
+  same-sites Γ pre (unary w k v e₁) = rw (same-sites Γ (preOfPart w pre (post S (unary w k v e₁))) e₁)
+  same-sites Γ pre (binary w k v e₁ e₂) =
+      rw (
+        same-start-in (row S (binary w k v e₁ e₂) .start),
+        same-sites Γ pre e₁,
+        same-sites (binding (role (Binary w)) (v, type S e₁) Γ) (preOfSecond w pre (post S e₁) (bodyStart S (binary w k v e₁ e₂))) e₂,
+      )
+
+  same-claims : (ss : List Site) → claims (under h S) ss ≡ claims S ss
+  unfolding claims claimsAt
+  same-claims [] = refl
+  same-claims (s ∷ ss) = rw (same-own (s .Γ) (s .pre) (s .step), same-claims ss)
+
+  same-start : (P : Program) → startAtMostOne P (under h S) ≡ startAtMostOne P S
+  unfolding startAtMostOne startMap mapAt under headedAs
+  same-start P = refl
+
+  -- of an expression's sites, and of a procedure's conditions
+  same-expression : (Γ : Env) (pre : Map) (e : Expr) → claims (under h S) (sites (under h S) Γ pre e) ≡ claims S (sites S Γ pre e)
+  same-expression Γ pre e = ap (claims (under h S)) (same-sites Γ pre e) ∙ same-claims (sites S Γ pre e)
+
+  same-at-procedure : (g : Signature) (p : Procedure) → procedureConditions (under h S) g p ≡ procedureConditions S g p
+  unfolding procedureConditions row type post mapAt under
+  same-at-procedure g p = at-first _ (same-agree _ _)
+
+  same-procedure : (g : Signature) (p : Procedure) → claimsOfProcedure (under h S) g p ≡ claimsOfProcedure S g p
+  unfolding claimsOfProcedure bodySites mapAt under
+  same-procedure g p =
+      rw (same-at-procedure g p, same-expression ((p .parameter, g .argument) ∷ []) (mapAt S (g .before)) (p .body))
+
+  same-procedures : (f : ℕ) (ps : List Procedure) → claimsOfProcedures (under h S) f ps ≡ claimsOfProcedures S f ps
+  unfolding claimsOfProcedures signature under
+  same-procedures f [] = refl
+  same-procedures f (p ∷ ps) = rw (same-procedure (signature S f) p, same-procedures (f + 1) ps)
+
+  same-ruled : (P : Program) → ruled P (under h S) ≡ ruled P S
+  unfolding ruled claimsOf startMap mapAt under headedAs
+  same-ruled P = rw (same-procedures 0 (P .procedures), same-expression [] (startMap S) (P .root))
+
+  pub same-ruling : (P : Program) → ruling P (under h S) ≡ ruling P S
+  unfolding ruling
+  same-ruling P = rw (same-locks, same-start P, same-ruled P)

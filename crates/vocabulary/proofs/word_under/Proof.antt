@@ -1,0 +1,29 @@
+use borrow.Author.Needs.{needs}
+use mathlib.Core.Path.{_∙_, ap}
+use Rattle.spec.specs.Text.{bytes, lookUp}
+use Rattle.spec.specs.Words.{wordsUnder}
+use Rattle.vocabulary.specs.Words.{foundOf}
+use Rattle.vocabulary.proofs.Words.{spelled-first}
+use Rattle.vocabulary.proofs.word_under.Statement.{statement}
+use Rattle.vocabulary.proofs.word_under.Tie as tie
+
+returns : tie.Need-returns
+unfolding wordsUnder
+returns c = rw (c .enum-told .given .1) (c .before .before .word-of .ensures)
+
+returns-2 : tie.Need-returns-2
+unfolding wordsUnder bytes
+returns-2 c =
+    rw (c .before .before .enum-told2 .given .1) (spelled-first _ _ _ _ (c .spelled .ensures) (c .before .before .before .before .word-of .ensures))
+
+pub word-under-spec : {M : Type 1} → statement M
+word-under-spec =
+    tie.close
+    (tie.spec
+    (λ c κs. search needs)
+    (λ c. search needs)
+    (λ c. search needs)
+    (λ c. search needs)
+    (λ c κs. search needs)
+    returns
+    returns-2)

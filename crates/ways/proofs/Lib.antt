@@ -1,0 +1,4 @@
+pub mod Accesses
+pub mod Calling
+pub mod Held
+pub mod Light
