@@ -1,11 +1,9 @@
 // The program sheet, read into the work space: its lines, and then what they list.
-mod counts;
 mod lines;
-mod tails;
 
-use counts::CountLine;
 use lexer::Cursor;
 use lines::StepLines;
+use program_lines::CountLine;
 use spec::ProgramHeading;
 use spec::Refusal;
 use structure::Outcome;
@@ -53,7 +51,7 @@ pub fn read(text: &[u8], work: &mut [u32]) -> ProgramRead
     requires { ⌜ (length (now work) ≡ workSize) × (length (now text) ≤ 16384) ⌝ }
     ensures { λ r. ⌜ ProgramIs (now (text .entry)) (now (work .entry)) (now (work .exit)) r ⌝ }
 {
-    match counts::count_line(text) {
+    match program_lines::count_line(text) {
         CountLine::Refused(refusal) => ProgramRead::Refused(refusal),
         CountLine::Count(heading, n, k, behind) => {
             let steps = workspace::index(n);

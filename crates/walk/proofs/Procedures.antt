@@ -6,7 +6,7 @@ use Prim.Native.Nat.{ℕ, zero, suc, _+_, _-_, _<_, _≤_}
 use native.Mathlib.Omega.{arith}
 use lib.ListN.{length, getD, drop, drop-of-length-le}
 use lib.Seq.{drop-cons}
-use Rattle.spec.specs.Reading.{on}
+use Rattle.spec.specs.Reading.{Out, on}
 use Rattle.spec.specs.Expression.{Expr, size, lineOf, stepsAmong, Procedure}
 use Rattle.spec.specs.Program.{Program}
 use Rattle.spec.specs.Split.{Split}
@@ -98,11 +98,17 @@ claims-ruled Fill P S = refl
 module _ (w : List ℕ) (steps procedures denominator locations start : ℕ) (P : Program) (S : Split)
     (H : HoldsSheets w steps procedures denominator locations start P S) where
   -- 30, at the root's line
-  pub start-shown : startOutcome (cell w linesAt (cell w procFirstsAt procedures)) w denominator locations (record { 0 = start }) ≡ startAtMostOne P S
+  start-shown : startOutcome (cell w linesAt (cell w procFirstsAt procedures)) w denominator locations (record { 0 = start }) ≡ startAtMostOne P S
   unfolding startOutcome startAtMostOne
   start-shown =
       rw (here-line (P .root) (root-here H), H .denominatorGiven)
       (ap (refuseOver (lineOf (P .root))) (within-shown (H .locationsGiven) (header-start-stands H) _))
+
+  -- what is judged at the root's line is the start
+  pub start-judged : {root line : ℕ} {o : Out (Unit {0})} → root ≡ cell w procFirstsAt procedures → line ≡ cell w linesAt root
+      → o ≡ startOutcome line w denominator locations (record { 0 = start }) → o ≡ startAtMostOne P S
+  start-judged at-root at-line judged =
+      judged ∙ ap (λ l. startOutcome l w denominator locations (record { 0 = start })) (at-line ∙ ap (cell w linesAt) at-root) ∙ start-shown
 
   -- the procedures from number f on and the root, which end where the steps end
   procedures-left : (f : ℕ) → f ≤ procedures → RestHere w (length (P .procedures)) f steps (drop f (P .procedures)) (P .root)

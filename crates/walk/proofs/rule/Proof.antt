@@ -6,7 +6,7 @@ use Rattle.workspace.proofs.Region.{changed-nothing}
 use Rattle.conditions.specs.Outcome.{both}
 use Rattle.conditions.proofs.FirstFalse.{refused-stops, met-goes-on}
 use Rattle.conditions.proofs.LockLines.{locks-shown}
-use Rattle.walk.proofs.Procedures.{start-shown}
+use Rattle.walk.proofs.Procedures.{start-judged}
 use borrow.Author.Needs.{needs}
 use Rattle.walk.proofs.rule.Statement.{statement}
 use Rattle.walk.proofs.rule.Tie as tie
@@ -33,11 +33,8 @@ returns-2 c =
       answers = λ P S H counted.
           rw (
             ← locks-shown _ S _ (H .split) (H .inRange) _ (H .locationsGiven) _ counted,
-            ← start-shown _ _ _ _ _ _ P S H,
+            ← start-judged _ _ _ _ _ _ P S H (root .cell .ensures) (line .cell2 .ensures) (start .check-start .ensures),
             ← locks .check-locks .ensures,
-            ← root .cell .ensures,
-            ← line .cell2 .ensures,
-            ← start .check-start .ensures,
           )
           (sym (met-goes-on _ _ (enough .enum-told .given .1) ∙ refused-stops _ _ (c .enum-told4 .given .1)));
       changed = changed-nothing presAt (presAt + 256) _;
@@ -60,11 +57,8 @@ returns-3 c =
           ∙ sym (met-goes-on _ _ (enough .enum-told .given .1))
           ∙ rw (
             locks .check-locks .ensures,
-            start .check-start .ensures,
-            line .cell2 .ensures,
-            root .cell .ensures,
             locks-shown _ S _ (H .split) (H .inRange) _ (H .locationsGiven) _ counted,
-            start-shown _ _ _ _ _ _ P S H,
+            start-judged _ _ _ _ _ _ P S H (root .cell .ensures) (line .cell2 .ensures) (start .check-start .ensures),
           );
       changed = program .check-program .ensures .changed;
     }

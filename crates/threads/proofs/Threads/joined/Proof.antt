@@ -5,7 +5,7 @@ use Rattle.threads.proofs.Threads.joined.Tie as tie
 
 returns : tie.Need-returns
 unfolding joined
-returns c = search needs
+returns c = c .turned .ensures
 
 pub joined-spec : {M : Type 1} → statement M
 joined-spec = tie.close (tie.spec (λ c κs. search needs) returns)
