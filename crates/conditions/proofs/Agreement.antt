@@ -1,36 +1,35 @@
 -- Agreement of types in the work space: how it goes down a pair of refs, and that it is document 02's for the split that the
 -- work space holds.
-use mathlib.Core.Path.{_≡_, refl, sym, _∙_}
-use mathlib.Core.List.{List, [], _∷_}
+use mathlib.Core.Path.{_≡_, refl, sym}
+use mathlib.Core.List.{List, [], _∷_, map}
 use mathlib.Core.Bool.{Bool, true, false, _&&_, and-false}
 use Prim.Native.Nat.{ℕ, zero, suc, _<_, _≤_}
 use native.Mathlib.Omega.{arith}
 use lib.Dec.{eqb, ltb}
 use lib.ListN.{length, getD}
-use types.Run.{OneOf, miss}
-use denote.Enum.Declared.{tagOf}
 use borrow.Author.Tests.{eq-eqb, eqb-true, ne-eqb, lt-ltb, le-ltb, ltb-true}
-use Rattle.spec.proofs.TypeLine as kind
 use Rattle.spec.specs.Choice.{if_then_else_}
 use Rattle.spec.specs.Program.{Program}
 use Rattle.spec.specs.Split.{Split, typeAt, mapAt}
 use Rattle.spec.specs.Maps.{nowhere, sameNumbers, _≥ᵐ_}
-use Rattle.spec.specs.Agreement.{int, code, Tree, plain, sameMaps, sameTree, treeOf, trees, tree, agree}
-use Rattle.spec.specs.Conditions.{isInt, isRef, isLock, isTid, isSem, isRwlock, refLocation, load, inLoad, outLoad, readLoad, writeLoad, contains, looserLock, mayShow}
+use Rattle.spec.specs.Agreement.{Tree, plain, refTo, sameMaps, sameTree, treeOf, trees, tree, agree}
+use Rattle.spec.specs.Kinds.{int, ref, lock, kindOf, sameKind, is, refLocation, content, maps, firstMap, secondMap}
+use Rattle.spec.specs.Conditions.{contains, looserLock, mayShow}
 use Rattle.spec.specs.Verdict.{takesEnough}
-use Rattle.spec.specs.Ranges.{InRange}
+use Rattle.spec.specs.Ranges.{AllBelow, InRange}
 use Rattle.spec.specs.declared.Location.{Location}
 use Rattle.spec.specs.declared.MapNumber.{MapNumber}
 use Rattle.spec.specs.declared.TypeNumber.{TypeNumber}
 use Rattle.spec.specs.declared.TypeLine.{TypeLine}
-use Rattle.spec.specs.declared.TypeLine.the-variants.{Int, Ref, Lock, Tid, Sem, Rwlock}
-use Rattle.spec.proofs.Clashes.{true-is-not-false}
-use Rattle.spec.proofs.Agreement.{same-maps-single, same-maps-two, content-smaller, tree-of-type, agree-reflexive}
+use Rattle.spec.specs.declared.TypeLine.the-variants.{Ref, Lock}
+use Rattle.spec.proofs.Fits.{maps-fit, first-fits, second-fits}
+use Rattle.spec.proofs.TypeKinds.{is-same, kind-is, is-turned, is-of}
+use Rattle.spec.proofs.Agreement.{content-smaller, tree-of-type, agree-reflexive}
 use Rattle.workspace.specs.Layout as layout
 use Rattle.workspace.specs.Holds.{HoldsSplit}
-use Rattle.workspace.proofs.Shown.{type-shown, LoadsIn, loads-in, map-stands}
+use Rattle.workspace.proofs.Shown.{type-shown, map-stands}
 use Rattle.conditions.specs.Relation.{everywhere}
-use Rattle.conditions.specs.Agreement.{content, linesAgree, agreeBelow, agreeIn, mayShowIn, containsIn, takesEnoughIn}
+use Rattle.conditions.specs.Agreement.{mapsAgree, linesAgree, agreeBelow, agreeIn, mayShowIn, containsIn, takesEnoughIn}
 use Rattle.conditions.specs.declared.Relation.the-variants.{Equal, AtLeast}
 use Rattle.conditions.proofs.Shown.{equal-shown, at-least-shown}
 
@@ -40,37 +39,21 @@ module _ (w : List ℕ) (n : ℕ) where
   lines-same : (f g : TypeNumber → TypeNumber → Bool) → ((c d : TypeNumber) → f c d ≡ g c d) → (x y : TypeLine)
       → linesAgree w n f x y ≡ linesAgree w n g x y
   unfolding linesAgree
-  lines-same f g h Int y = refl
-  lines-same f g h (Ref p c) y = rw (h c (content y))
-  lines-same f g h (Lock i o) y = refl
-  lines-same f g h (Tid k) y = refl
-  lines-same f g h (Sem k) y = refl
-  lines-same f g h (Rwlock rd wr) y = refl
+  lines-same f g h x y = rw (h (content x) (content y))
 
   -- where no contents agree, no refs do
-  pub no-contents : (x y : TypeLine) → isRef x ≡ true → linesAgree w n (λ c d. false) x y ≡ false
-  unfolding isRef linesAgree
-  no-contents Int y h = true-is-not-false (sym h)
-  no-contents (Ref p c) y h = either (isRef y) (eqb (p .0) (refLocation y .0))
+  pub no-contents : (x y : TypeLine) → is ref x ≡ true → linesAgree w n (λ c d. false) x y ≡ false
+  unfolding linesAgree
+  no-contents x y h = rw h (either (is (kindOf x) y) (eqb (refLocation x .0) (refLocation y .0)))
     where
       either : (a b : Bool) → (a && (b && false)) ≡ false
       either true true = refl
       either true false = refl
       either false b = refl
-  no-contents (Lock i o) y h = true-is-not-false (sym h)
-  no-contents (Tid k) y h = true-is-not-false (sym h)
-  no-contents (Sem k) y h = true-is-not-false (sym h)
-  no-contents (Rwlock rd wr) y h = true-is-not-false (sym h)
 
-  plain-lines : (f g : TypeNumber → TypeNumber → Bool) (x y : TypeLine) → OneOf (0 ∷ 2 ∷ 3 ∷ 4 ∷ 5 ∷ []) (tagOf kind.the-type x)
-      → linesAgree w n f x y ≡ linesAgree w n g x y
+  plain-lines : (f g : TypeNumber → TypeNumber → Bool) (x y : TypeLine) → is ref x ≡ false → linesAgree w n f x y ≡ linesAgree w n g x y
   unfolding linesAgree
-  plain-lines f g Int y h = refl
-  plain-lines f g (Ref p c) y h = absurd (miss (0 ∷ 2 ∷ 3 ∷ 4 ∷ 5 ∷ []) 1 tt h)
-  plain-lines f g (Lock i o) y h = refl
-  plain-lines f g (Tid k) y h = refl
-  plain-lines f g (Sem k) y h = refl
-  plain-lines f g (Rwlock rd wr) y h = refl
+  plain-lines f g x y h = rw h
 
   -- any bound above the first type's number will do
   any-bound : (b b′ : ℕ) (t u : TypeNumber) → t .0 < b → t .0 < b′ → agreeBelow w n b t u ≡ agreeBelow w n b′ t u
@@ -93,27 +76,27 @@ module _ (w : List ℕ) (n : ℕ) where
   -- two types
   module _ (t u : TypeNumber) (two : t .0 ≡ u .0 → ⊥) {x y : TypeLine} (e : x ≡ layout.typeAt w t) (g : y ≡ layout.typeAt w u) where
     -- a type that is no ref
-    pub plain-agree : OneOf (0 ∷ 2 ∷ 3 ∷ 4 ∷ 5 ∷ []) (tagOf kind.the-type x) → linesAgree w n (λ c d. false) x y ≡ agreeIn w n t u
+    pub plain-agree : is ref x ≡ false → linesAgree w n (λ c d. false) x y ≡ agreeIn w n t u
     unfolding agreeIn agreeBelow
     plain-agree h = rw (ne-eqb _ _ two, ← e, ← g) (plain-lines _ _ x y h)
 
     -- a ref: with a type that is none, at another location, with a content that is not smaller, with contents to compare
     module _ {p : Location} {c : TypeNumber} (is-ref : x ≡ Ref p c) where
-      pub ref-alone : isRef y ≡ false → agreeIn w n t u ≡ false
+      pub ref-alone : is ref y ≡ false → agreeIn w n t u ≡ false
       unfolding agreeIn agreeBelow linesAgree
       ref-alone h = rw (ne-eqb _ _ two, ← e, ← g, is-ref, h)
 
       module _ {q : Location} {d : TypeNumber} (is-ref′ : y ≡ Ref q d) where
         pub refs-apart : (p .0 ≡ q .0 → ⊥) → agreeIn w n t u ≡ false
-        unfolding agreeIn agreeBelow linesAgree isRef refLocation
+        unfolding agreeIn agreeBelow linesAgree is sameKind refLocation
         refs-apart h = rw (ne-eqb _ _ two, ← e, ← g, is-ref, is-ref′, ne-eqb _ _ h)
 
         pub refs-not-smaller : p .0 ≡ q .0 → t .0 ≤ c .0 → agreeIn w n t u ≡ false
-        unfolding agreeIn agreeBelow linesAgree isRef refLocation
+        unfolding agreeIn agreeBelow linesAgree is sameKind refLocation content
         refs-not-smaller h l = rw (ne-eqb _ _ two, ← e, ← g, is-ref, is-ref′, eq-eqb _ _ h, le-ltb _ _ l)
 
         pub refs-by-contents : p .0 ≡ q .0 → c .0 < t .0 → agreeIn w n c d ≡ agreeIn w n t u
-        unfolding agreeIn agreeBelow linesAgree isRef refLocation content
+        unfolding agreeIn agreeBelow linesAgree is sameKind refLocation content
         refs-by-contents h l =
             rw (ne-eqb _ _ two, ← e, ← g, is-ref, is-ref′, eq-eqb _ _ h, lt-ltb _ _ l) (any-bound (suc (c .0)) (t .0) c d (omega arith) l)
 
@@ -121,17 +104,17 @@ module _ (w : List ℕ) (n : ℕ) where
 
 module _ (w : List ℕ) (n : ℕ) (t u : TypeNumber) where
   -- the shown type is no lock, the let's value is none, both are
-  pub shown-no-lock : {x : TypeLine} → x ≡ layout.typeAt w t → isLock x ≡ false → agreeIn w n t u ≡ mayShowIn w n t u
+  pub shown-no-lock : {x : TypeLine} → x ≡ layout.typeAt w t → is lock x ≡ false → agreeIn w n t u ≡ mayShowIn w n t u
   unfolding mayShowIn
   shown-no-lock e h = rw (← e, h)
 
-  pub own-no-lock : {y : TypeLine} → y ≡ layout.typeAt w u → isLock y ≡ false → agreeIn w n t u ≡ mayShowIn w n t u
+  pub own-no-lock : {y : TypeLine} → y ≡ layout.typeAt w u → is lock y ≡ false → agreeIn w n t u ≡ mayShowIn w n t u
   unfolding mayShowIn
-  own-no-lock e h = rw (← e, h, and-false (isLock (layout.typeAt w t)))
+  own-no-lock e h = rw (← e, h, and-false (is lock (layout.typeAt w t)))
 
   pub both-locks : {x y : TypeLine} {i o j p : MapNumber} → x ≡ layout.typeAt w t → y ≡ layout.typeAt w u → x ≡ Lock i o → y ≡ Lock j p
       → (everywhere w n (AtLeast j i) && everywhere w n (AtLeast o p)) ≡ mayShowIn w n t u
-  unfolding mayShowIn isLock inLoad outLoad
+  unfolding mayShowIn is sameKind firstMap secondMap
   both-locks e g h k = rw (← e, ← g, h, k)
 
 -- ------------------------------------------------------------------ the split that the work space holds
@@ -160,52 +143,31 @@ module _ (w : List ℕ) (S : Split) (P : Program) (H : HoldsSplit w S) (R : InRa
   unfolding everywhere
   not-below-shown k h p q = rw (at-least-shown located (map-stands w S P H R k p) (map-stands w S P H R h q))
 
+  maps-shown : (ks ms : List MapNumber) → AllBelow (length (S .maps)) ks → AllBelow (length (S .maps)) ms
+      → mapsAgree w n ks ms ≡ sameMaps (map (mapAt S) ks) (map (mapAt S) ms)
+  unfolding mapsAgree sameMaps
+  maps-shown [] [] i j = refl
+  maps-shown [] (m ∷ ms) i j = refl
+  maps-shown (k ∷ ks) [] i j = refl
+  maps-shown (k ∷ ks) (m ∷ ms) i j = rw (same-numbers-shown k m (i .0) (j .0), maps-shown ks ms (i .1) (j .1))
+
   -- lines whose contents and maps are shown
   lines-shown : (all : List Tree) (f : TypeNumber → TypeNumber → Bool) (x y : TypeLine)
-      → LoadsIn S x → LoadsIn S y
+      → AllBelow (length (S .maps)) (maps x) → AllBelow (length (S .maps)) (maps y)
       → ((p q : Location) (c d : TypeNumber) → x ≡ Ref p c → y ≡ Ref q d → f c d ≡ sameTree (getD all (c .0) (plain int [])) (getD all (d .0) (plain int [])))
       → linesAgree w n f x y ≡ sameTree (treeOf S all x) (treeOf S all y)
-  unfolding linesAgree code sameMaps sameTree treeOf isInt isRef isLock isTid isSem isRwlock refLocation load inLoad outLoad readLoad writeLoad content
-  lines-shown all f Int Int i j h = refl
-  lines-shown all f Int (Ref q d) i j h = refl
-  lines-shown all f Int (Lock m o) i j h = refl
-  lines-shown all f Int (Tid k) i j h = refl
-  lines-shown all f Int (Sem k) i j h = refl
-  lines-shown all f Int (Rwlock rd wr) i j h = refl
-  lines-shown all f (Ref p c) Int i j h = refl
-  lines-shown all f (Ref p c) (Ref q d) i j h = rw (h p q c d refl refl)
-  lines-shown all f (Ref p c) (Lock m o) i j h = refl
-  lines-shown all f (Ref p c) (Tid k) i j h = refl
-  lines-shown all f (Ref p c) (Sem k) i j h = refl
-  lines-shown all f (Ref p c) (Rwlock rd wr) i j h = refl
-  lines-shown all f (Lock m o) Int i j h = refl
-  lines-shown all f (Lock m o) (Ref q d) i j h = refl
-  lines-shown all f (Lock m o) (Lock n′ p) i j h =
-      rw (same-numbers-shown m n′ (i .in-load-in) (j .in-load-in), same-numbers-shown o p (i .out-load-in) (j .out-load-in))
-      (sym (same-maps-two (mapAt S m) (mapAt S o) (mapAt S n′) (mapAt S p)))
-  lines-shown all f (Lock k o) (Tid m) i j h = refl
-  lines-shown all f (Lock k o) (Sem m) i j h = refl
-  lines-shown all f (Lock k o) (Rwlock rd wr) i j h = refl
-  lines-shown all f (Tid k) Int i j h = refl
-  lines-shown all f (Tid k) (Ref q d) i j h = refl
-  lines-shown all f (Tid k) (Lock m o) i j h = refl
-  lines-shown all f (Tid k) (Tid m) i j h = same-numbers-shown k m (i .load-in) (j .load-in) ∙ sym (same-maps-single (mapAt S k) (mapAt S m))
-  lines-shown all f (Tid k) (Sem m) i j h = refl
-  lines-shown all f (Tid k) (Rwlock rd wr) i j h = refl
-  lines-shown all f (Sem k) Int i j h = refl
-  lines-shown all f (Sem k) (Ref q d) i j h = refl
-  lines-shown all f (Sem k) (Lock m o) i j h = refl
-  lines-shown all f (Sem k) (Tid m) i j h = refl
-  lines-shown all f (Sem k) (Sem m) i j h = same-numbers-shown k m (i .load-in) (j .load-in) ∙ sym (same-maps-single (mapAt S k) (mapAt S m))
-  lines-shown all f (Sem k) (Rwlock rd wr) i j h = refl
-  lines-shown all f (Rwlock rd wr) Int i j h = refl
-  lines-shown all f (Rwlock rd wr) (Ref q d) i j h = refl
-  lines-shown all f (Rwlock rd wr) (Lock m o) i j h = refl
-  lines-shown all f (Rwlock rd wr) (Tid m) i j h = refl
-  lines-shown all f (Rwlock rd wr) (Sem m) i j h = refl
-  lines-shown all f (Rwlock rd wr) (Rwlock rd′ wr′) i j h =
-      rw (same-numbers-shown rd rd′ (i .read-load-in) (j .read-load-in), same-numbers-shown wr wr′ (i .write-load-in) (j .write-load-in))
-      (sym (same-maps-two (mapAt S rd) (mapAt S wr) (mapAt S rd′) (mapAt S wr′)))
+  unfolding linesAgree sameTree treeOf
+  lines-shown all f x y i j h = by-kind (is ref x) (is ref y) refl refl
+    where
+      by-kind : (a b : Bool) → is ref x ≡ a → is ref y ≡ b
+          → (is (kindOf x) y && (if a then eqb (refLocation x .0) (refLocation y .0) && f (content x) (content y) else mapsAgree w n (maps x) (maps y)))
+          ≡ sameTree
+          (if a then refTo (refLocation x) (getD all (content x .0) (plain int [])) else plain (kindOf x) (map (mapAt S) (maps x)))
+          (if b then refTo (refLocation y) (getD all (content y .0) (plain int [])) else plain (kindOf y) (map (mapAt S) (maps y)))
+      by-kind true true e g = rw (kind-is ref x e, g, h _ _ _ _ (is-of ref x e) (is-of ref y g))
+      by-kind true false e g = rw (kind-is ref x e, g)
+      by-kind false true e g = rw (is-turned x y, kind-is ref y g, e)
+      by-kind false false e g = rw (is-same (kindOf x) y, maps-shown (maps x) (maps y) i j)
 
   below-shown : (b : ℕ) (t u : TypeNumber) → t .0 < b → t .0 < length (S .types) → u .0 < length (S .types)
       → agreeBelow w n b t u ≡ agree S t u
@@ -219,7 +181,7 @@ module _ (w : List ℕ) (S : Split) (P : Program) (H : HoldsSplit w S) (R : InRa
         tree-of-type S R t _ refl,
         tree-of-type S R u _ refl,
       )
-      (lines-shown (trees S [] (S .types)) _ (typeAt S t) (typeAt S u) (loads-in w S P H R t i) (loads-in w S P H R u j)
+      (lines-shown (trees S [] (S .types)) _ (typeAt S t) (typeAt S u) (maps-fit R t) (maps-fit R u)
       (λ p q c d e g. down p q c d e g (below-shown b c d))))
     where
       down : (p q : Location) (c d : TypeNumber) → typeAt S t ≡ Ref p c → typeAt S u ≡ Ref q d
@@ -240,32 +202,22 @@ module _ (w : List ℕ) (S : Split) (P : Program) (H : HoldsSplit w S) (R : InRa
       rw (
         type-shown w S P H R t i,
         type-shown w S P H R u j,
-        not-below-shown _ _ (loads-in w S P H R u j .in-load-in) (loads-in w S P H R t i .in-load-in),
-        not-below-shown _ _ (loads-in w S P H R t i .out-load-in) (loads-in w S P H R u j .out-load-in),
+        not-below-shown _ _ (first-fits R u) (first-fits R t),
+        not-below-shown _ _ (second-fits R t) (second-fits R u),
         agree-shown t u i j,
       )
 
   pub takes-enough-shown : (t : TypeNumber) → t .0 < length (S .types) → takesEnoughIn w n (layout.typeAt w t) ≡ takesEnough S (typeAt S t)
-  unfolding takesEnoughIn takesEnough inLoad outLoad
-  takes-enough-shown t h = rw (type-shown w S P H R t h) (of-line (typeAt S t) (loads-in w S P H R t h))
-    where
-      of-line : (x : TypeLine) → LoadsIn S x → takesEnoughIn w n x ≡ takesEnough S x
-      of-line Int l = refl
-      of-line (Ref p c) l = refl
-      of-line (Lock i o) l = not-below-shown o i (l .out-load-in) (l .in-load-in)
-      of-line (Tid k) l = refl
-      of-line (Sem k) l = refl
-      of-line (Rwlock rd wr) l = refl
+  unfolding takesEnoughIn takesEnough
+  takes-enough-shown t h = rw (type-shown w S P H R t h, not-below-shown _ _ (second-fits R t) (first-fits R t))
 
   pub contains-shown : (t u : TypeNumber) → t .0 < length (S .types) → u .0 < length (S .types)
       → containsIn w n (typeAt S t) u ≡ contains S (typeAt S t) u
   unfolding containsIn contains
-  contains-shown t u i j = of-line (typeAt S t) refl
+  contains-shown t u i j = by-kind (is ref (typeAt S t)) refl
     where
-      of-line : (x : TypeLine) → typeAt S t ≡ x → containsIn w n x u ≡ contains S x u
-      of-line Int e = refl
-      of-line (Ref p c) e = let c<t = content-smaller S R t p c e in agree-shown c u (omega arith) j
-      of-line (Lock i o) e = refl
-      of-line (Tid k) e = refl
-      of-line (Sem k) e = refl
-      of-line (Rwlock rd wr) e = refl
+      by-kind : (b : Bool) → is ref (typeAt S t) ≡ b → (b && agreeIn w n (content (typeAt S t)) u) ≡ (b && agree S (content (typeAt S t)) u)
+      by-kind true e =
+          let smaller = content-smaller S R t _ (content (typeAt S t)) (is-of ref (typeAt S t) e) in
+          agree-shown (content (typeAt S t)) u (omega arith) j
+      by-kind false e = refl

@@ -1,6 +1,6 @@
 -- 44 at a type line and over the type lines, as the code goes through them, and for the split that the work space holds.
-use mathlib.Core.Path.{_≡_, refl, sym, ap, _∙_}
-use mathlib.Core.Bool.{Bool, true, false}
+use mathlib.Core.Path.{_≡_, sym, ap, _∙_}
+use mathlib.Core.Bool.{Bool, false}
 use mathlib.Core.List.{List}
 use Prim.Native.Nat.{ℕ, zero, suc, _+_, _-_, _<_, _≤_}
 use native.Mathlib.Omega.{arith}
@@ -10,7 +10,7 @@ use lib.Seq.{drop-cons}
 use Rattle.spec.specs.Reading.{on, demand}
 use Rattle.spec.specs.Program.{Program}
 use Rattle.spec.specs.Split.{Split, typeAt}
-use Rattle.spec.specs.Conditions.{isLock}
+use Rattle.spec.specs.Kinds.{lock, sameKind, is, firstMap, secondMap}
 use Rattle.spec.specs.Ranges.{InRange}
 use Rattle.spec.specs.Verdict.{takesEnough, allTakeEnough, locksTakeEnough}
 use Rattle.spec.specs.declared.MapNumber.{MapNumber}
@@ -18,8 +18,7 @@ use Rattle.spec.specs.declared.TypeNumber.{TypeNumber}
 use Rattle.spec.specs.declared.Refusal.{Refusal}
 use Rattle.spec.specs.declared.Refusal.the-variants.{LockTakesLess}
 use Rattle.spec.specs.declared.TypeLine.{TypeLine}
-use Rattle.spec.specs.declared.TypeLine.the-variants.{Int, Ref, Lock, Tid, Sem, Rwlock}
-use Rattle.spec.proofs.Clashes.{true-is-not-false}
+use Rattle.spec.specs.declared.TypeLine.the-variants.{Int, Lock}
 use Rattle.workspace.specs.Layout as layout
 use Rattle.workspace.specs.Holds.{HoldsSplit}
 use Rattle.conditions.specs.Outcome.{outcome, both}
@@ -35,21 +34,13 @@ use Rattle.conditions.proofs.Agreement.{takes-enough-shown}
 -- ------------------------------------------------------------------ a line
 
 module _ (w : List ℕ) (n : ℕ) (t : TypeNumber) {x : TypeLine} (e : x ≡ layout.typeAt w t) where
-  pub no-lock-line : isLock x ≡ false → on tt ≡ lockOutcome w n t
-  unfolding lockOutcome demand takesEnoughIn isLock
-  no-lock-line h = rw (← e) (by-kind x h)
-    where
-      by-kind : (y : TypeLine) → isLock y ≡ false → on tt ≡ demand (takesEnoughIn w n y) (LockTakesLess (t .0 + 2))
-      by-kind Int h = refl
-      by-kind (Ref p c) h = refl
-      by-kind (Lock i o) h = true-is-not-false h
-      by-kind (Tid k) h = refl
-      by-kind (Sem k) h = refl
-      by-kind (Rwlock rd wr) h = refl
+  pub no-lock-line : is lock x ≡ false → on tt ≡ lockOutcome w n t
+  unfolding lockOutcome demand takesEnoughIn
+  no-lock-line h = rw (← e, h)
 
   pub lock-line : {i o : MapNumber} → x ≡ Lock i o → (b : Bool) → b ≡ everywhere w n (AtLeast o i)
       → lockOutcome w n t ≡ demand b (LockTakesLess (t .0 + 2))
-  unfolding lockOutcome takesEnoughIn
+  unfolding lockOutcome takesEnoughIn is sameKind firstMap secondMap
   lock-line is-lock b q = rw (← e, is-lock, q)
 
 -- ------------------------------------------------------------------ the lines

@@ -1,77 +1,48 @@
 -- What the else of a `let .. else` on a type is told, that it is of another kind, in terms of the definitions.
-use mathlib.Core.Path.{_≡_, refl}
+use mathlib.Core.Path.{_≡_, refl, sym, subst, _∙_}
 use mathlib.Core.Bool.{false}
 use mathlib.Core.List.{List, [], _∷_}
 use Prim.Native.Nat.{ℕ}
+use borrow.Author.Tests.{ne-eqb}
 use types.Run.{OneOf, miss}
 use denote.Enum.Declared.{tagOf}
-use Rattle.spec.proofs.TypeLine as kind
-use Rattle.spec.specs.Conditions.{isInt, isRef, isLock, isTid, isSem, isRwlock}
+use Rattle.spec.proofs.TypeLine as line
+use Rattle.spec.specs.Kinds.{Kind, int, ref, lock, tid, sem, rwlock, code, kindOf, sameKind, is}
 use Rattle.spec.specs.declared.TypeNumber.{TypeNumber}
 use Rattle.spec.specs.declared.TypeLine.{TypeLine}
 use Rattle.spec.specs.declared.TypeLine.the-variants.{Int, Ref, Lock, Tid, Sem, Rwlock}
 use Rattle.conditions.specs.Agreement.{containsIn}
 
-pub not-int : (t : TypeLine) → OneOf (1 ∷ 2 ∷ 3 ∷ 4 ∷ 5 ∷ []) (tagOf kind.the-type t) → isInt t ≡ false
-unfolding isInt
-not-int Int h = absurd (miss (1 ∷ 2 ∷ 3 ∷ 4 ∷ 5 ∷ []) 0 tt h)
-not-int (Ref p c) h = refl
-not-int (Lock i o) h = refl
-not-int (Tid k) h = refl
-not-int (Sem k) h = refl
-not-int (Rwlock r w) h = refl
+-- the codes of the other kinds
+abbrev pub others : Kind → List ℕ
+others int = 1 ∷ 2 ∷ 3 ∷ 4 ∷ 5 ∷ []
+others ref = 0 ∷ 2 ∷ 3 ∷ 4 ∷ 5 ∷ []
+others lock = 0 ∷ 1 ∷ 3 ∷ 4 ∷ 5 ∷ []
+others tid = 0 ∷ 1 ∷ 2 ∷ 4 ∷ 5 ∷ []
+others sem = 0 ∷ 1 ∷ 2 ∷ 3 ∷ 5 ∷ []
+others rwlock = 0 ∷ 1 ∷ 2 ∷ 3 ∷ 4 ∷ []
 
-pub not-ref : (t : TypeLine) → OneOf (0 ∷ 2 ∷ 3 ∷ 4 ∷ 5 ∷ []) (tagOf kind.the-type t) → isRef t ≡ false
-unfolding isRef
-not-ref Int h = refl
-not-ref (Ref p c) h = absurd (miss (0 ∷ 2 ∷ 3 ∷ 4 ∷ 5 ∷ []) 1 tt h)
-not-ref (Lock i o) h = refl
-not-ref (Tid k) h = refl
-not-ref (Sem k) h = refl
-not-ref (Rwlock r w) h = refl
+not-among : (k : Kind) → OneOf (others k) (code k) → ⊥
+not-among int h = miss (others int) 0 tt h
+not-among ref h = miss (others ref) 1 tt h
+not-among lock h = miss (others lock) 2 tt h
+not-among tid h = miss (others tid) 3 tt h
+not-among sem h = miss (others sem) 4 tt h
+not-among rwlock h = miss (others rwlock) 5 tt h
 
-pub not-lock : (t : TypeLine) → OneOf (0 ∷ 1 ∷ 3 ∷ 4 ∷ 5 ∷ []) (tagOf kind.the-type t) → isLock t ≡ false
-unfolding isLock
-not-lock Int h = refl
-not-lock (Ref p c) h = refl
-not-lock (Lock i o) h = absurd (miss (0 ∷ 1 ∷ 3 ∷ 4 ∷ 5 ∷ []) 2 tt h)
-not-lock (Tid k) h = refl
-not-lock (Sem k) h = refl
-not-lock (Rwlock r w) h = refl
+-- the tag of a line is the code of its kind
+tag-code : (t : TypeLine) → tagOf line.the-type t ≡ code (kindOf t)
+tag-code Int = refl
+tag-code (Ref p c) = refl
+tag-code (Lock i o) = refl
+tag-code (Tid k) = refl
+tag-code (Sem k) = refl
+tag-code (Rwlock r w) = refl
 
-pub not-tid : (t : TypeLine) → OneOf (0 ∷ 1 ∷ 2 ∷ 4 ∷ 5 ∷ []) (tagOf kind.the-type t) → isTid t ≡ false
-unfolding isTid
-not-tid Int h = refl
-not-tid (Ref p c) h = refl
-not-tid (Lock i o) h = refl
-not-tid (Tid k) h = absurd (miss (0 ∷ 1 ∷ 2 ∷ 4 ∷ 5 ∷ []) 3 tt h)
-not-tid (Sem k) h = refl
-not-tid (Rwlock r w) h = refl
+pub not-of : (k : Kind) (t : TypeLine) → OneOf (others k) (tagOf line.the-type t) → is k t ≡ false
+unfolding is sameKind
+not-of k t h = ne-eqb (code k) (code (kindOf t)) (λ e. not-among k (subst (OneOf (others k)) (tag-code t ∙ sym e) h))
 
-pub not-sem : (t : TypeLine) → OneOf (0 ∷ 1 ∷ 2 ∷ 3 ∷ 5 ∷ []) (tagOf kind.the-type t) → isSem t ≡ false
-unfolding isSem
-not-sem Int h = refl
-not-sem (Ref p c) h = refl
-not-sem (Lock i o) h = refl
-not-sem (Tid k) h = refl
-not-sem (Sem k) h = absurd (miss (0 ∷ 1 ∷ 2 ∷ 3 ∷ 5 ∷ []) 4 tt h)
-not-sem (Rwlock r w) h = refl
-
-pub not-rwlock : (t : TypeLine) → OneOf (0 ∷ 1 ∷ 2 ∷ 3 ∷ 4 ∷ []) (tagOf kind.the-type t) → isRwlock t ≡ false
-unfolding isRwlock
-not-rwlock Int h = refl
-not-rwlock (Ref p c) h = refl
-not-rwlock (Lock i o) h = refl
-not-rwlock (Tid k) h = refl
-not-rwlock (Sem k) h = refl
-not-rwlock (Rwlock r w) h = absurd (miss (0 ∷ 1 ∷ 2 ∷ 3 ∷ 4 ∷ []) 5 tt h)
-
-pub not-contains : (w : List ℕ) (n : ℕ) (t : TypeLine) (u : TypeNumber) → OneOf (0 ∷ 2 ∷ 3 ∷ 4 ∷ 5 ∷ []) (tagOf kind.the-type t)
-    → containsIn w n t u ≡ false
+pub not-contains : (w : List ℕ) (n : ℕ) (t : TypeLine) (u : TypeNumber) → OneOf (others ref) (tagOf line.the-type t) → containsIn w n t u ≡ false
 unfolding containsIn
-not-contains w n Int u h = refl
-not-contains w n (Ref p c) u h = absurd (miss (0 ∷ 2 ∷ 3 ∷ 4 ∷ 5 ∷ []) 1 tt h)
-not-contains w n (Lock i o) u h = refl
-not-contains w n (Tid k) u h = refl
-not-contains w n (Sem k) u h = refl
-not-contains w n (Rwlock rd wr) u h = refl
+not-contains w n t u h = rw (not-of ref t h)

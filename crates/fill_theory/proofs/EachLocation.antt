@@ -14,7 +14,7 @@ use Rattle.spec.specs.Words.{role, binding, preOfPart, preOfSecond}
 use Rattle.spec.specs.Expression.{Step, Position, Expr, leaf, unary, binary, size, Procedure}
 use Rattle.spec.specs.Split.{Map, Split, mapAt}
 use Rattle.spec.specs.Maps.{_≥ᵐ_, share}
-use Rattle.spec.specs.Conditions.{Env, type, post, bodyStart, startMap, signature, conditionsOf, procedureConditions}
+use Rattle.spec.specs.Conditions.{Env, type, post, bodyStart, startMap, signature, K, inMap, outMap, readMap, writeMap, conditionsOf, procedureConditions}
 use Rattle.spec.specs.Sites.{Site, Claim, sites, numbered, claimsAt, claims, bodySites, claimsOfProcedure, claimsOfProcedures, isFlow, only}
 use Rattle.spec.specs.WellFormed.{NumberedFrom}
 use Rattle.spec.specs.FirstFalse.{Holds, AllHold}
@@ -114,7 +114,7 @@ module _ {ss : List Step} {S : Split} {σ : List Map} {T : Split} (G : Showing s
   -- pre is the map x; in the order of Figure 5
   pub flow-at-each-location : (Γ : Env) {pre x : Map} (e : Expr) (i : ℕ) → Placed ss i e → Known L pre x
       → AllFlow (sites T Γ pre e) ↔ Everywhere L (λ p. Passes (at σ p) i (share x p) (flowOf S p e))
-  unfolding AllHold Holds claimsAt numbered conditionsOf only isFlow preOfPart preOfSecond loadHere inHere outHere readHere writeHere startHere keptHere beforeHere afterHere accessHere flowOf Passes
+  unfolding AllHold Holds claimsAt numbered conditionsOf only isFlow preOfPart preOfSecond K inMap outMap readMap writeMap loadHere inHere outHere readHere writeHere startHere keptHere beforeHere afterHere accessHere flowOf Passes
   flow-at-each-location Γ (leaf Var k v) i P before = no-part Γ _ Var k v (lastly (keeps (G .posts _ P) before))
   flow-at-each-location Γ (leaf Int k v) i P before = no-part Γ _ Int k v (lastly (keeps (G .posts _ P) before))
   flow-at-each-location Γ {x = x} (binary Let k v e₁ e₂) i P before =
@@ -145,12 +145,12 @@ module _ {ss : List Step} {S : Split} {σ : List Map} {T : Split} (G : Showing s
       (two-parts Γ _ Spawn k v e₁ e₂
       (flow-at-each-location Γ e₁ (i + 1) (first P) before)
       (flow-at-each-location _ e₂ (i + 1 + size e₁) (second P) (G .starts e))
-      (together (least-everywhere (G .posts e₂ (second P)) (G .loads e₁))
+      (together (least-everywhere (G .posts e₂ (second P)) (G .firsts e₁))
       (lastly (takes (G .posts _ P) after₁ (G .starts e)))))
   flow-at-each-location Γ (unary Join k v e₁) i P before =
       one-part Γ _ Join k v e₁
       (flow-at-each-location Γ e₁ (i + 1) (part P) before)
-      (lastly (gives (G .posts _ P) (G .posts e₁ (part P)) (G .loads e₁)))
+      (lastly (gives (G .posts _ P) (G .posts e₁ (part P)) (G .firsts e₁)))
   flow-at-each-location Γ (unary Ref k v e₁) i P before =
       one-part Γ _ Ref k v e₁
       (flow-at-each-location Γ e₁ (i + 1) (part P) before)
@@ -169,43 +169,43 @@ module _ {ss : List Step} {S : Split} {σ : List Map} {T : Split} (G : Showing s
       (needs (G .posts _ P) (G .posts e₁ (part P)) _ _ (G .places e₁) (G .within e₁)
       1 _ (ltb-true _ _, lt-ltb _ _))
   flow-at-each-location Γ (leaf Newlock k v) i P before =
-      no-part Γ _ Newlock k v (lastly (takes (G .posts _ P) before (G .outs (leaf Newlock k v))))
+      no-part Γ _ Newlock k v (lastly (takes (G .posts _ P) before (G .seconds (leaf Newlock k v))))
   flow-at-each-location Γ (unary Lock k v e₁) i P before =
       one-part Γ _ Lock k v e₁
       (flow-at-each-location Γ e₁ (i + 1) (part P) before)
-      (lastly (gives (G .posts _ P) (G .posts e₁ (part P)) (G .ins e₁)))
+      (lastly (gives (G .posts _ P) (G .posts e₁ (part P)) (G .firsts e₁)))
   flow-at-each-location Γ (unary Unlock k v e₁) i P before =
       one-part Γ _ Unlock k v e₁
       (flow-at-each-location Γ e₁ (i + 1) (part P) before)
-      (lastly (takes (G .posts _ P) (G .posts e₁ (part P)) (G .outs e₁)))
+      (lastly (takes (G .posts _ P) (G .posts e₁ (part P)) (G .seconds e₁)))
   flow-at-each-location Γ (leaf Newsem k v) i P before = no-part Γ _ Newsem k v (lastly (keeps (G .posts _ P) before))
   flow-at-each-location Γ (unary Post k v e₁) i P before =
       one-part Γ _ Post k v e₁
       (flow-at-each-location Γ e₁ (i + 1) (part P) before)
-      (lastly (takes (G .posts _ P) (G .posts e₁ (part P)) (G .loads e₁)))
+      (lastly (takes (G .posts _ P) (G .posts e₁ (part P)) (G .firsts e₁)))
   flow-at-each-location Γ (unary Wait k v e₁) i P before =
       one-part Γ _ Wait k v e₁
       (flow-at-each-location Γ e₁ (i + 1) (part P) before)
-      (lastly (gives (G .posts _ P) (G .posts e₁ (part P)) (G .loads e₁)))
+      (lastly (gives (G .posts _ P) (G .posts e₁ (part P)) (G .firsts e₁)))
   flow-at-each-location Γ (leaf Newrwlock k v) i P before =
       let e = leaf Newrwlock k v in
-      no-part Γ _ Newrwlock k v (lends v (G .posts e P) before (G .wholes e) (G .shares e))
+      no-part Γ _ Newrwlock k v (lends v (G .posts e P) before (G .seconds e) (G .firsts e))
   flow-at-each-location Γ (unary Rdlock k v e₁) i P before =
       one-part Γ _ Rdlock k v e₁
       (flow-at-each-location Γ e₁ (i + 1) (part P) before)
-      (lastly (gives (G .posts _ P) (G .posts e₁ (part P)) (G .shares e₁)))
+      (lastly (gives (G .posts _ P) (G .posts e₁ (part P)) (G .firsts e₁)))
   flow-at-each-location Γ (unary Rdunlock k v e₁) i P before =
       one-part Γ _ Rdunlock k v e₁
       (flow-at-each-location Γ e₁ (i + 1) (part P) before)
-      (lastly (takes (G .posts _ P) (G .posts e₁ (part P)) (G .shares e₁)))
+      (lastly (takes (G .posts _ P) (G .posts e₁ (part P)) (G .firsts e₁)))
   flow-at-each-location Γ (unary Wrlock k v e₁) i P before =
       one-part Γ _ Wrlock k v e₁
       (flow-at-each-location Γ e₁ (i + 1) (part P) before)
-      (lastly (gives (G .posts _ P) (G .posts e₁ (part P)) (G .wholes e₁)))
+      (lastly (gives (G .posts _ P) (G .posts e₁ (part P)) (G .seconds e₁)))
   flow-at-each-location Γ (unary Wrunlock k v e₁) i P before =
       one-part Γ _ Wrunlock k v e₁
       (flow-at-each-location Γ e₁ (i + 1) (part P) before)
-      (lastly (takes (G .posts _ P) (G .posts e₁ (part P)) (G .wholes e₁)))
+      (lastly (takes (G .posts _ P) (G .posts e₁ (part P)) (G .seconds e₁)))
   flow-at-each-location Γ (unary Call k f e₁) i P before =
       let e = unary Call k f e₁ in
       three

@@ -8,7 +8,10 @@ use lib.ListN.{length, getD, length-append, List·getD-append}
 use lib.Seq.{getD-append-add}
 use Rattle.spec.specs.Program.{Program}
 use Rattle.spec.specs.Split.{Map, Row, Split}
-use Rattle.spec.specs.Ranges.{InRange}
+use Rattle.spec.specs.Kinds.{maps}
+use Rattle.spec.specs.Ranges.{AllBelow, InRange}
+use Rattle.spec.specs.declared.MapNumber.{MapNumber}
+use Rattle.spec.specs.declared.TypeLine.the-variants.{Int}
 use Rattle.fill_theory.specs.Filled.{withPosts, filled}
 use Rattle.fill_theory.proofs.Kept.{rows-kept, rows-post}
 use Rattle.fill_theory.proofs.Placed.{Given}
@@ -38,6 +41,10 @@ module _ {P : Program} {S : Split} {σ : List Map} (G : Given P S σ) where
   more : {m : ℕ} → m < length (S .maps) → m < length (S .maps ++ σ)
   more l = omega (arith, length-append (S .maps) σ)
 
+  all-more : (ms : List MapNumber) → AllBelow (length (S .maps)) ms → AllBelow (length (S .maps ++ σ)) ms
+  all-more [] l = tt
+  all-more (m ∷ ms) l = (more (l .0), all-more ms (l .1))
+
   pub filled-in-range : S .header .maps + length σ ≤ 512 → InRange P (filled S σ)
   unfolding filled
   filled-in-range few = record {
@@ -52,10 +59,7 @@ module _ {P : Program} {S : Split} {σ : List Map} (G : Given P S σ) where
     rowsCounted = rows-counted _ (S .rows) ∙ R .rowsCounted;
     mapWide = map-wide;
     refPlace = R .refPlace;
-    lockLoads = λ t i o l e. let (first, second) = R .lockLoads t i o l e in (more first, more second);
-    tidLoad = λ t k l e. more (R .tidLoad t k l e);
-    semLoad = λ t k l e. more (R .semLoad t k l e);
-    rwlockLoads = λ t r w l e. let (first, second) = R .rwlockLoads t r w l e in (more first, more second);
+    typeMaps = λ t l. all-more (maps (getD (S .types) t Int)) (R .typeMaps t l);
     beforeMap = λ f d l. more (R .beforeMap f d l);
     argumentType = R .argumentType;
     afterMap = λ f d l. more (R .afterMap f d l);

@@ -8,7 +8,8 @@ use Rattle.spec.specs.Expression.{Step, Position, Expr, leaf, unary, binary, si
 use Rattle.spec.specs.Program.{Program}
 use Rattle.spec.specs.WellFormed.{prefix, IndexesFrom, itemsOf, listing, WellFormedProgram}
 use Rattle.spec.specs.Split.{Map, Row, noRow, Split, mapAt}
-use Rattle.spec.specs.Conditions.{refLocation, row, kind, post, bodyStart, keptBack, signature, K, inMap, outMap, readMap, writeMap, startMap}
+use Rattle.spec.specs.Kinds.{refLocation, firstMap, secondMap}
+use Rattle.spec.specs.Conditions.{row, kind, post, bodyStart, keptBack, signature, startMap}
 use Rattle.spec.specs.Ranges.{InRange}
 use Rattle.spec.specs.declared.Location.{Location}
 use Rattle.spec.specs.declared.LeafWord.the-variants.{Var, Int, Newtid, Newlock, Newsem, Newrwlock}
@@ -22,7 +23,7 @@ use Rattle.fill_theory.specs.Filled.{filled}
 use Rattle.fill_theory.specs.AfterMaps.{shownMaps}
 use Rattle.fill_theory.specs.Flow.{steps, stepsOf}
 use Rattle.fill_theory.specs.FlowOf.{flowOf, rootsFrom}
-use Rattle.fill_theory.proofs.Kept.{kind-kept, place-within, K-wide, in-wide, out-wide, read-wide, write-wide, start-map-wide, start-map-kept, start-kept, before-kept, after-kept, K-kept, in-kept, out-kept, read-kept, write-kept, post-new}
+use Rattle.fill_theory.proofs.Kept.{kind-kept, place-within, first-wide, second-wide, start-map-wide, start-map-kept, start-kept, before-kept, after-kept, first-kept, second-kept, post-new}
 use Rattle.fill_theory.proofs.Locations.{Known}
 
 -- a flow has the steps of its expression
@@ -113,11 +114,8 @@ pub record Showing (ss : List Step) (S : Split) (σ : List Map) (T : Split) : Ty
   pub kepts : (e : Expr) → Known (S .header .locations) (keptBack T e) (keptBack S e)
   pub befores : (f : ℕ) → Known (S .header .locations) (mapAt T (signature T f .before)) (mapAt S (signature S f .before))
   pub afters : (f : ℕ) → Known (S .header .locations) (mapAt T (signature T f .after)) (mapAt S (signature S f .after))
-  pub loads : (e : Expr) → Known (S .header .locations) (K T e) (K S e)
-  pub ins : (e : Expr) → Known (S .header .locations) (inMap T e) (inMap S e)
-  pub outs : (e : Expr) → Known (S .header .locations) (outMap T e) (outMap S e)
-  pub shares : (e : Expr) → Known (S .header .locations) (readMap T e) (readMap S e)
-  pub wholes : (e : Expr) → Known (S .header .locations) (writeMap T e) (writeMap S e)
+  pub firsts : (e : Expr) → Known (S .header .locations) (mapAt T (firstMap (kind T e))) (mapAt S (firstMap (kind S e)))
+  pub seconds : (e : Expr) → Known (S .header .locations) (mapAt T (secondMap (kind T e))) (mapAt S (secondMap (kind S e)))
   pub places : (e : Expr) → refLocation (kind T e) ≡ refLocation (kind S e)
   pub within : (e : Expr) → refLocation (kind S e) .0 < S .header .locations
   pub first : Known (S .header .locations) (startMap T) (startMap S)
@@ -140,11 +138,8 @@ filled-shows {σ = σ} G = let R = G .inRange in record {
   kepts = λ e. record { same = start-kept R σ e; wide = start-wide R e };
   befores = λ f. record { same = before-kept R σ f; wide = before-wide R f };
   afters = λ f. record { same = after-kept R σ f; wide = after-wide R f };
-  loads = λ e. record { same = K-kept R σ e; wide = K-wide R e };
-  ins = λ e. record { same = in-kept R σ e; wide = in-wide R e };
-  outs = λ e. record { same = out-kept R σ e; wide = out-wide R e };
-  shares = λ e. record { same = read-kept R σ e; wide = read-wide R e };
-  wholes = λ e. record { same = write-kept R σ e; wide = write-wide R e };
+  firsts = λ e. record { same = first-kept R σ e; wide = first-wide R e };
+  seconds = λ e. record { same = second-kept R σ e; wide = second-wide R e };
   places = λ e. ap refLocation (kind-kept _ σ e);
   within = place-within R;
   first = record { same = start-map-kept R σ; wide = start-map-wide R };
@@ -173,11 +168,8 @@ split-shows R = record {
   kepts = λ e. record { same = refl; wide = kept-wide R e };
   befores = λ f. record { same = refl; wide = before-wide R f };
   afters = λ f. record { same = refl; wide = after-wide R f };
-  loads = λ e. record { same = refl; wide = K-wide R e };
-  ins = λ e. record { same = refl; wide = in-wide R e };
-  outs = λ e. record { same = refl; wide = out-wide R e };
-  shares = λ e. record { same = refl; wide = read-wide R e };
-  wholes = λ e. record { same = refl; wide = write-wide R e };
+  firsts = λ e. record { same = refl; wide = first-wide R e };
+  seconds = λ e. record { same = refl; wide = second-wide R e };
   places = λ e. refl;
   within = place-within R;
   first = record { same = refl; wide = start-map-wide R };

@@ -8,7 +8,8 @@ use Rattle.spec.specs.Expression.{Expr, leaf, unary, binary, Procedure}
 use Rattle.spec.specs.Program.{Program}
 use Rattle.spec.specs.Split.{Split, mapAt}
 use Rattle.spec.specs.Maps.{share}
-use Rattle.spec.specs.Conditions.{refLocation, kind, startMap, bodyStart, keptBack, signature, K, inMap, outMap, readMap, writeMap}
+use Rattle.spec.specs.Kinds.{refLocation}
+use Rattle.spec.specs.Conditions.{kind, startMap, bodyStart, keptBack, signature, K, inMap, outMap, readMap, writeMap}
 use Rattle.spec.specs.declared.Location.{Location}
 use Rattle.spec.specs.declared.LeafWord.the-variants.{Var, Int, Newtid, Newlock, Newsem, Newrwlock}
 use Rattle.spec.specs.declared.UnaryWord.the-variants.{While, Join, Ref, Read, Lock, Unlock, Post, Wait, Rdlock, Rdunlock, Wrlock, Wrunlock, Call}

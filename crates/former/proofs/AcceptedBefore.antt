@@ -2,7 +2,7 @@
 -- check is written out here, beside the theorem; no definition and no contract cites it.
 use mathlib.Core.Path.{_≡_, ap}
 use mathlib.Core.List.{List, [], _∷_, _++_}
-use mathlib.Core.Bool.{Bool, true, false}
+use mathlib.Core.Bool.{Bool, true, _&&_}
 use Prim.Native.Nat.{ℕ, _+_}
 use lib.Dec.{eqb, leb, ltb}
 use lib.ListN.{length}
@@ -13,20 +13,21 @@ use Rattle.spec.specs.Program.{Program, program, programLimit}
 use Rattle.spec.specs.Split.{Map, Signature, Split, split, splitLimit, mapAt}
 use Rattle.spec.specs.Maps.{_=ᵐ_, _≥ᵐ_, _+ᵐ_, share}
 use Rattle.spec.specs.Agreement.{agree}
-use Rattle.spec.specs.Conditions.{Condition, T, F, A, Env, typeIn, isInt, isRef, refLocation, type, kind, post, startMap, keptBack, signature, contains, mayShow, conditionsOf, procedureConditions}
+use Rattle.spec.specs.Kinds.{int, ref, is, refLocation, content}
+use Rattle.spec.specs.Conditions.{Condition, T, F, A, Env, typeIn, type, kind, post, startMap, keptBack, signature, contains, mayShow, conditionsOf, procedureConditions}
 use Rattle.spec.specs.Sites.{Site, sites, Claim, numbered, claimsAt, claims, bodySites, claimsOfProcedure, claimsOfProcedures, claimsOf, firstFalse}
 use Rattle.spec.specs.FirstFalse.{Holds, AllHold}
 use Rattle.spec.specs.Workspace.{workspaceSize}
 use Rattle.spec.specs.Verdict.{sheets, locksTakeEnough, startAtMostOne, ruled, checked, answer, verdict}
 use Rattle.spec.specs.declared.TypeNumber.{TypeNumber}
 use Rattle.spec.specs.declared.TypeLine.{TypeLine}
-use Rattle.spec.specs.declared.TypeLine.the-variants as type-line
 use Rattle.spec.specs.declared.Answer.{Answer}
 use Rattle.spec.specs.declared.Answer.the-variants.{Accept}
 use Rattle.spec.specs.declared.Refusal.the-variants.{ShortWorkspace, LongProgram, LongSplit}
 use Rattle.spec.specs.declared.LeafWord.the-variants.{Var, Int, Newtid, Newlock, Newsem, Newrwlock}
 use Rattle.spec.specs.declared.UnaryWord.the-variants.{While, Join, Ref, Read, Lock, Unlock, Post, Wait, Rdlock, Rdunlock, Wrlock, Wrunlock, Call}
 use Rattle.spec.specs.declared.BinaryWord.the-variants.{Let, If, Spawn, Write}
+use Rattle.spec.proofs.Tests.{both-true}
 use Rattle.spec.proofs.Outcomes.{bind-goes-on, goes-on-bind}
 use Rattle.spec.proofs.Claims.{none-false-all-hold, all-hold-none-false, all-hold-parts, all-hold-append}
 use Rattle.spec.proofs.Agreement.{agree-reflexive}
@@ -41,12 +42,7 @@ unfoldable pub agreeBefore : TypeNumber → TypeNumber → Bool
 agreeBefore t u = eqb (t .0) (u .0)
 
 unfoldable pub containsBefore : TypeLine → TypeNumber → Bool
-containsBefore type-line.Int t = false
-containsBefore (type-line.Ref p c) t = agreeBefore c t
-containsBefore (type-line.Lock i o) t = false
-containsBefore (type-line.Tid k) t = false
-containsBefore (type-line.Sem k) t = false
-containsBefore (type-line.Rwlock r w) t = false
+containsBefore x t = is ref x && agreeBefore (content x) t
 
 module _ (S : Split) where
   -- the rows of the table that compare two types; the others are as they were
@@ -66,10 +62,10 @@ module _ (S : Split) where
   conditionsBefore Γ pre (unary Ref k v e₁) = let e = unary Ref k v e₁ in
       T (containsBefore (kind S e) (type S e₁)) ∷ F (post S e =ᵐ post S e₁) ∷ []
   conditionsBefore Γ pre (unary Read k v e₁) = let e = unary Read k v e₁ in let p = refLocation (kind S e₁) in
-      T (isRef (kind S e₁)) ∷ T (containsBefore (kind S e₁) (type S e)) ∷ F (post S e =ᵐ post S e₁)
+      T (is ref (kind S e₁)) ∷ T (containsBefore (kind S e₁) (type S e)) ∷ F (post S e =ᵐ post S e₁)
       ∷ A (ltb 0 (share (post S e) p)) p ∷ []
   conditionsBefore Γ pre (binary Write k v e₁ e₂) = let e = binary Write k v e₁ e₂ in let p = refLocation (kind S e₁) in
-      T (isInt (kind S e)) ∷ T (isRef (kind S e₁)) ∷ T (containsBefore (kind S e₁) (type S e₂)) ∷ F (post S e =ᵐ post S e₂)
+      T (is int (kind S e)) ∷ T (is ref (kind S e₁)) ∷ T (containsBefore (kind S e₁) (type S e₂)) ∷ F (post S e =ᵐ post S e₂)
       ∷ A (leb (S .header .denominator) (share (post S e) p)) p ∷ []
   conditionsBefore Γ pre (leaf Newlock k v) = conditionsOf S Γ pre (leaf Newlock k v)
   conditionsBefore Γ pre (unary Lock k v e₁) = conditionsOf S Γ pre (unary Lock k v e₁)
@@ -129,12 +125,7 @@ module _ (S : Split) where
 
   contained : (x : TypeLine) (u : TypeNumber) → containsBefore x u ≡ true → contains S x u ≡ true
   unfolding containsBefore contains
-  contained type-line.Int u h = h
-  contained (type-line.Ref p c) u h = agreed c u h
-  contained (type-line.Lock i o) u h = h
-  contained (type-line.Tid k) u h = h
-  contained (type-line.Sem k) u h = h
-  contained (type-line.Rwlock r w) u h = h
+  contained x u h = let (one, alike) = both-true (is ref x) (agreeBefore (content x) u) h in rw one (agreed (content x) u alike)
 
   own-holds : (n i : ℕ) (Γ : Env) (pre : Map) (e : Expr) → AllHold (numbered n i (conditionsBefore S Γ pre e)) → AllHold (numbered n i (conditionsOf S Γ pre e))
   unfolding AllHold Holds numbered conditionsBefore conditionsOf

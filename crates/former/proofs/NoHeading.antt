@@ -11,15 +11,15 @@ use Rattle.spec.specs.Words.{role, binding, preOfPart, preOfSecond}
 use Rattle.spec.specs.Expression.{Expr, leaf, unary, binary, Procedure}
 use Rattle.spec.specs.Program.{Program}
 use Rattle.spec.specs.Split.{Map, Header, Signature, Split}
-use Rattle.spec.specs.Agreement.{Tree, plain, int, sameTree, treeOf, trees, tree, agree}
-use Rattle.spec.specs.Conditions.{Condition, T, Env, typeAt, mapAt, startMap, isLock, contains, looserLock, mayShow, row, type, kind, post, startOr, bodyStart, keptBack, signature, K, inMap, outMap, readMap, writeMap, conditionsOf, procedureConditions}
+use Rattle.spec.specs.Kinds.{int, lock, is, content}
+use Rattle.spec.specs.Agreement.{Tree, plain, sameTree, treeOf, trees, tree, agree}
+use Rattle.spec.specs.Conditions.{Condition, T, Env, typeAt, mapAt, startMap, contains, looserLock, mayShow, row, type, kind, post, startOr, bodyStart, keptBack, signature, K, inMap, outMap, readMap, writeMap, conditionsOf, procedureConditions}
 use Rattle.spec.specs.Sites.{Site, sites, claimsAt, claims, bodySites, claimsOfProcedure, claimsOfProcedures, claimsOf}
 use Rattle.spec.specs.Verdict.{takesEnough, allTakeEnough, locksTakeEnough, startAtMostOne, ruled}
 use Rattle.spec.specs.declared.Heading.{Heading}
 use Rattle.spec.specs.declared.MapNumber.{MapNumber}
 use Rattle.spec.specs.declared.TypeNumber.{TypeNumber}
 use Rattle.spec.specs.declared.TypeLine.{TypeLine}
-use Rattle.spec.specs.declared.TypeLine.the-variants as type-line
 use Rattle.spec.specs.declared.Refusal.the-variants.{LockTakesLess}
 use Rattle.spec.specs.declared.Word.the-variants.{Binary}
 use Rattle.spec.specs.declared.LeafWord.the-variants.{Var, Int, Newtid, Newlock, Newsem, Newrwlock}
@@ -49,12 +49,7 @@ module _ (h : Heading) (S : Split) where
 
   same-tree-of : (before : List Tree) (x : TypeLine) → treeOf (under h S) before x ≡ treeOf S before x
   unfolding treeOf mapAt under
-  same-tree-of before type-line.Int = refl
-  same-tree-of before (type-line.Ref p c) = refl
-  same-tree-of before (type-line.Lock i o) = refl
-  same-tree-of before (type-line.Tid k) = refl
-  same-tree-of before (type-line.Sem k) = refl
-  same-tree-of before (type-line.Rwlock r w) = refl
+  same-tree-of before x = refl
 
   same-trees : (before : List Tree) (xs : List TypeLine) → trees (under h S) before xs ≡ trees S before xs
   unfolding trees
@@ -70,26 +65,16 @@ module _ (h : Heading) (S : Split) where
 
   same-contains : (x : TypeLine) (t : TypeNumber) → contains (under h S) x t ≡ contains S x t
   unfolding contains
-  same-contains type-line.Int t = refl
-  same-contains (type-line.Ref p c) t = same-agree c t
-  same-contains (type-line.Lock i o) t = refl
-  same-contains (type-line.Tid k) t = refl
-  same-contains (type-line.Sem k) t = refl
-  same-contains (type-line.Rwlock r w) t = refl
+  same-contains x t = rw (same-agree (content x) t)
 
   same-may-show : (t u : TypeNumber) → mayShow (under h S) t u ≡ mayShow S t u
   unfolding mayShow looserLock typeAt mapAt under
   same-may-show t u =
-      ap (λ (x : Bool). if isLock (typeAt S t) && isLock (typeAt S u) then looserLock S (typeAt S t) (typeAt S u) else x) (same-agree t u)
+      ap (λ (x : Bool). if is lock (typeAt S t) && is lock (typeAt S u) then looserLock S (typeAt S t) (typeAt S u) else x) (same-agree t u)
 
   same-enough : (x : TypeLine) → takesEnough (under h S) x ≡ takesEnough S x
   unfolding takesEnough mapAt under
-  same-enough type-line.Int = refl
-  same-enough (type-line.Ref p c) = refl
-  same-enough (type-line.Lock i o) = refl
-  same-enough (type-line.Tid k) = refl
-  same-enough (type-line.Sem k) = refl
-  same-enough (type-line.Rwlock r w) = refl
+  same-enough x = refl
 
   same-all-enough : (k : ℕ) (xs : List TypeLine) → allTakeEnough (under h S) k xs ≡ allTakeEnough S k xs
   unfolding allTakeEnough

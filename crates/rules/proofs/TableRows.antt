@@ -11,22 +11,23 @@ use Rattle.spec.specs.Expression.{Expr, leaf, unary, binary, Position, Procedur
 use Rattle.spec.specs.Program.{Program}
 use Rattle.spec.specs.Split.{Map, Signature, Split}
 use Rattle.spec.specs.Maps.{share}
-use Rattle.spec.specs.Conditions.{Env, typeAt, mapAt, typeIn, mayShow, contains, row, type, kind, post, bodyStart, keptBack, signature, K, inMap, outMap, readMap, writeMap, refLocation, load, inLoad, outLoad, readLoad, writeLoad, conditionsOf, procedureConditions}
+use Rattle.spec.specs.Kinds.{refLocation, firstMap, secondMap}
+use Rattle.spec.specs.Conditions.{Env, mapAt, typeIn, mayShow, contains, row, type, kind, post, bodyStart, keptBack, signature, K, inMap, outMap, readMap, writeMap, conditionsOf, procedureConditions}
 use Rattle.spec.specs.Agreement.{agree}
 use Rattle.spec.specs.Ranges.{InRange}
 use Rattle.spec.specs.declared.MapNumber.{MapNumber}
 use Rattle.spec.specs.declared.TypeNumber.{TypeNumber}
-use Rattle.spec.specs.declared.TypeLine.{TypeLine}
 use Rattle.spec.specs.declared.LeafWord.{LeafWord}
 use Rattle.spec.specs.declared.LeafWord.the-variants.{Var, Int, Newtid, Newlock, Newsem, Newrwlock}
 use Rattle.spec.specs.declared.UnaryWord.{UnaryWord}
 use Rattle.spec.specs.declared.UnaryWord.the-variants.{While, Join, Ref, Read, Lock, Unlock, Post, Wait, Rdlock, Rdunlock, Wrlock, Wrunlock, Call}
 use Rattle.spec.specs.declared.BinaryWord.{BinaryWord}
 use Rattle.spec.specs.declared.BinaryWord.the-variants.{Let, If, Spawn, Write}
+use Rattle.spec.proofs.Fits.{place-fits}
 use Rattle.workspace.specs.Layout as layout
 use Rattle.workspace.specs.Layout.{mapCell, printed, ruleOf, leafCode, unaryCode, binaryCode}
 use Rattle.workspace.specs.Holds.{HoldsSplit}
-use Rattle.workspace.proofs.Shown.{Stands, type-shown, place-in, LoadsIn, loads-in, given-stands, has-shown}
+use Rattle.workspace.proofs.Shown.{Stands, type-shown, first-stands, second-stands, has-shown}
 use Rattle.conditions.specs.Agreement.{agreeIn, mayShowIn, containsIn}
 use Rattle.rules.specs.Table.{ruleRow, procedureRow}
 use Rattle.rules.specs.declared.Signature.{Signature as SignatureRead}
@@ -72,41 +73,21 @@ module _ (w : List ℕ) (S : Split) (P : Program) (H : HoldsSplit w S) (R : InRa
   unfolding kind type
   typed-as e p = ap (layout.typeAt w) (p .typed) ∙ type-shown w S P H R _ (p .type-in)
 
-  -- a map that a part's type gives, by some reader of type lines
-  gives : {t : TypeNumber} {m : MapNumber} (reader : TypeLine → MapNumber) (e : Expr) → Part w S t m e
-      → reader (typeAt S (row S e .type)) .0 < length (S .maps) → Stands w S (reader (layout.typeAt w t)) (mapAt S (reader (kind S e)))
+  -- the maps that a part's type shows
+  first : {t : TypeNumber} {m : MapNumber} (e : Expr) → Part w S t m e → Stands w S (firstMap (layout.typeAt w t)) (mapAt S (firstMap (kind S e)))
   unfolding kind type
-  gives reader e p h = rw (p .typed) (given-stands w S P H R reader _ (p .type-in) h)
+  first e p = rw (p .typed) (first-stands w S P H R _ (p .type-in))
 
-  loads : {t : TypeNumber} {m : MapNumber} (e : Expr) → Part w S t m e → LoadsIn S (typeAt S (row S e .type))
-  loads e p = loads-in w S P H R _ (p .type-in)
-
-  load-stands : {t : TypeNumber} {m : MapNumber} (e : Expr) → Part w S t m e → Stands w S (load (layout.typeAt w t)) (K S e)
-  unfolding K
-  load-stands e p = gives load e p (loads e p .load-in)
-
-  in-stands : {t : TypeNumber} {m : MapNumber} (e : Expr) → Part w S t m e → Stands w S (inLoad (layout.typeAt w t)) (inMap S e)
-  unfolding inMap
-  in-stands e p = gives inLoad e p (loads e p .in-load-in)
-
-  out-stands : {t : TypeNumber} {m : MapNumber} (e : Expr) → Part w S t m e → Stands w S (outLoad (layout.typeAt w t)) (outMap S e)
-  unfolding outMap
-  out-stands e p = gives outLoad e p (loads e p .out-load-in)
-
-  read-stands : {t : TypeNumber} {m : MapNumber} (e : Expr) → Part w S t m e → Stands w S (readLoad (layout.typeAt w t)) (readMap S e)
-  unfolding readMap
-  read-stands e p = gives readLoad e p (loads e p .read-load-in)
-
-  write-stands : {t : TypeNumber} {m : MapNumber} (e : Expr) → Part w S t m e → Stands w S (writeLoad (layout.typeAt w t)) (writeMap S e)
-  unfolding writeMap
-  write-stands e p = gives writeLoad e p (loads e p .write-load-in)
+  second : {t : TypeNumber} {m : MapNumber} (e : Expr) → Part w S t m e → Stands w S (secondMap (layout.typeAt w t)) (mapAt S (secondMap (kind S e)))
+  unfolding kind type
+  second e p = rw (p .typed) (second-stands w S P H R _ (p .type-in))
 
   -- ---------------------------------------------------------------- flow and access
 
   shares : {t u : TypeNumber} {m n : MapNumber} (e e₁ : Expr) → Part w S t m e → Part w S u n e₁
       → mapCell w m (refLocation (kind S e₁) .0) ≡ share (post S e) (refLocation (kind S e₁))
   unfolding kind type
-  shares e e₁ o f = has-shown w S P H R _ (o .posted) (place-in w S P H R _ (f .type-in))
+  shares e e₁ o f = has-shown w S P H R _ (o .posted) (place-fits R _)
 
   -- ---------------------------------------------------------------- agreement
 
@@ -129,16 +110,16 @@ module _ (w : List ℕ) (S : Split) (P : Program) (H : HoldsSplit w S) (R : InRa
 
   pub leaf-shown : (x : LeafWord) → Part w S (s .typed) (s .post) (leaf x l v) → Bound S x s Γ v
       → ruleRow (ruleOf (leafCode x)) w s (layout.typeAt w (s .typed)) (layout.typeAt w (s .type1)) ≡ conditionsOf S Γ pre (leaf x l v)
-  unfolding printed ruleOf ruleRow conditionsOf type
+  unfolding printed ruleOf ruleRow conditionsOf type K inMap outMap readMap writeMap
   leaf-shown Var o b = rw (equal located (o .posted) pre-stands, shows _ _ o (b .0) (b .1))
   leaf-shown Int o b = rw (equal located (o .posted) pre-stands, typed-as _ o)
   leaf-shown Newtid o b = rw (equal located (o .posted) pre-stands, typed-as _ o)
-  leaf-shown Newlock o b = rw (sum located (o .posted) (out-stands _ o) pre-stands, typed-as _ o)
+  leaf-shown Newlock o b = rw (sum located (o .posted) (second _ o) pre-stands, typed-as _ o)
   leaf-shown Newsem o b = rw (equal located (o .posted) pre-stands, typed-as _ o)
   leaf-shown Newrwlock o b =
       rw (
-        covers located (write-stands _ o) (read-stands _ o) (s .value),
-        sum located (o .posted) (write-stands _ o) pre-stands,
+        covers located (second _ o) (first _ o) (s .value),
+        sum located (o .posted) (second _ o) pre-stands,
         typed-as _ o,
         b,
       )
@@ -148,11 +129,11 @@ module _ (w : List ℕ) (S : Split) (P : Program) (H : HoldsSplit w S) (R : InRa
     pub unary-shown : (x : UnaryWord) → Part w S (s .typed) (s .post) (unary x l v e₁)
         → Stands w S (s .start) (bodyStart S (unary x l v e₁)) → (x ≡ Call → Signed w S (s .signature) (signature S v))
         → ruleRow (ruleOf (unaryCode x)) w s (layout.typeAt w (s .typed)) (layout.typeAt w (s .type1)) ≡ conditionsOf S Γ pre (unary x l v e₁)
-    unfolding printed ruleOf ruleRow conditionsOf type keptBack
+    unfolding printed ruleOf ruleRow conditionsOf type K inMap outMap readMap writeMap keptBack
     unary-shown While o b c =
         rw (at-least located pre-stands (o .posted), at-least located (f .posted) (o .posted), typed-as _ o)
     unary-shown Join o b c =
-        rw (is-sum located (f .posted) (load-stands _ f) (o .posted), typed-as _ o, typed-as _ f)
+        rw (is-sum located (f .posted) (first _ f) (o .posted), typed-as _ o, typed-as _ f)
     unary-shown Ref o b c =
         rw (equal located (o .posted) (f .posted), holds-content _ _ o f)
     unary-shown Read o b c =
@@ -164,21 +145,21 @@ module _ (w : List ℕ) (S : Split) (P : Program) (H : HoldsSplit w S) (R : InRa
           shares _ _ o f,
         )
     unary-shown Lock o b c =
-        rw (is-sum located (f .posted) (in-stands _ f) (o .posted), typed-as _ o, typed-as _ f)
+        rw (is-sum located (f .posted) (first _ f) (o .posted), typed-as _ o, typed-as _ f)
     unary-shown Unlock o b c =
-        rw (sum located (o .posted) (out-stands _ f) (f .posted), typed-as _ o, typed-as _ f)
+        rw (sum located (o .posted) (second _ f) (f .posted), typed-as _ o, typed-as _ f)
     unary-shown Post o b c =
-        rw (sum located (o .posted) (load-stands _ f) (f .posted), typed-as _ o, typed-as _ f)
+        rw (sum located (o .posted) (first _ f) (f .posted), typed-as _ o, typed-as _ f)
     unary-shown Wait o b c =
-        rw (is-sum located (f .posted) (load-stands _ f) (o .posted), typed-as _ o, typed-as _ f)
+        rw (is-sum located (f .posted) (first _ f) (o .posted), typed-as _ o, typed-as _ f)
     unary-shown Rdlock o b c =
-        rw (is-sum located (f .posted) (read-stands _ f) (o .posted), typed-as _ o, typed-as _ f)
+        rw (is-sum located (f .posted) (first _ f) (o .posted), typed-as _ o, typed-as _ f)
     unary-shown Rdunlock o b c =
-        rw (sum located (o .posted) (read-stands _ f) (f .posted), typed-as _ o, typed-as _ f)
+        rw (sum located (o .posted) (first _ f) (f .posted), typed-as _ o, typed-as _ f)
     unary-shown Wrlock o b c =
-        rw (is-sum located (f .posted) (write-stands _ f) (o .posted), typed-as _ o, typed-as _ f)
+        rw (is-sum located (f .posted) (second _ f) (o .posted), typed-as _ o, typed-as _ f)
     unary-shown Wrunlock o b c =
-        rw (sum located (o .posted) (write-stands _ f) (f .posted), typed-as _ o, typed-as _ f)
+        rw (sum located (o .posted) (second _ f) (f .posted), typed-as _ o, typed-as _ f)
     unary-shown Call o b c =
         let g = c refl in
         rw (
@@ -192,7 +173,7 @@ module _ (w : List ℕ) (S : Split) (P : Program) (H : HoldsSplit w S) (R : InRa
       pub binary-shown : (x : BinaryWord) → Part w S (s .typed) (s .post) (binary x l v e₁ e₂)
           → Stands w S (s .start) (bodyStart S (binary x l v e₁ e₂))
           → ruleRow (ruleOf (binaryCode x)) w s (layout.typeAt w (s .typed)) (layout.typeAt w (s .type1)) ≡ conditionsOf S Γ pre (binary x l v e₁ e₂)
-      unfolding printed ruleOf ruleRow conditionsOf type
+      unfolding printed ruleOf ruleRow conditionsOf type K inMap outMap readMap writeMap
       binary-shown Let o b =
           rw (equal located (o .posted) (g .posted), agrees _ _ o (g .typed) (g .type-in))
       binary-shown If o b =
@@ -204,7 +185,7 @@ module _ (w : List ℕ) (S : Split) (P : Program) (H : HoldsSplit w S) (R : InRa
           )
       binary-shown Spawn o b =
           rw (
-            at-least located (g .posted) (load-stands _ f),
+            at-least located (g .posted) (first _ f),
             sum located (o .posted) b (f .posted),
             typed-as _ o,
             typed-as _ f,

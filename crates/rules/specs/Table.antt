@@ -3,7 +3,8 @@
 use mathlib.Core.Bool.{Bool}
 use mathlib.Core.List.{List, [], _∷_}
 use Prim.Native.Nat.{ℕ}
-use Rattle.spec.specs.Conditions.{Condition, T, F, isInt, isRef, isLock, isTid, isSem, isRwlock, refLocation, load, inLoad, outLoad, readLoad, writeLoad}
+use Rattle.spec.specs.Kinds.{int, ref, lock, tid, sem, rwlock, is, refLocation, firstMap, secondMap}
+use Rattle.spec.specs.Conditions.{Condition, T, F}
 use Rattle.spec.specs.declared.MapNumber.{MapNumber}
 use Rattle.spec.specs.declared.TypeNumber.{TypeNumber}
 use Rattle.spec.specs.declared.TypeLine.{TypeLine}
@@ -23,7 +24,7 @@ flows w s r = F (failsFrom w r 0 (s .locations))
 -- a part of some kind, with a load: the type is int, the part is of that kind, and less + load = more
 abbrev pub loaded : (w : List ℕ) → View → (kind : TypeLine) → (fits : Bool) → (less load more : MapNumber) → List Condition
 loaded w s kind fits less load more =
-    T (isInt kind)
+    T (is int kind)
     ∷ T fits
     ∷ flows w s (Sum less load more)
     ∷ []
@@ -48,7 +49,7 @@ varRow w s =
 
 abbrev pub intRow : KindRow
 intRow w s kind =
-    T (isInt kind)
+    T (is int kind)
     ∷ flows w s (Equal (s .post) (s .pre))
     ∷ []
 
@@ -68,27 +69,27 @@ ifRow w s =
 
 abbrev pub whileRow : KindRow
 whileRow w s kind =
-    T (isInt kind)
+    T (is int kind)
     ∷ flows w s (AtLeast (s .pre) (s .post))
     ∷ flows w s (AtLeast (s .post1) (s .post))
     ∷ []
 
 abbrev pub newtRow : KindRow
 newtRow w s kind =
-    T (isTid kind)
+    T (is tid kind)
     ∷ flows w s (Equal (s .post) (s .pre))
     ∷ []
 
 abbrev pub spawnRow : KindsRow
 spawnRow w s kind kind₁ =
-    T (isInt kind)
-    ∷ T (isTid kind₁)
-    ∷ flows w s (AtLeast (s .post2) (load kind₁))
+    T (is int kind)
+    ∷ T (is tid kind₁)
+    ∷ flows w s (AtLeast (s .post2) (firstMap kind₁))
     ∷ flows w s (Sum (s .post) (s .start) (s .post1))
     ∷ []
 
 abbrev pub joinRow : KindsRow
-joinRow w s kind kind₁ = loaded w s kind (isTid kind₁) (s .post1) (load kind₁) (s .post)
+joinRow w s kind kind₁ = loaded w s kind (is tid kind₁) (s .post1) (firstMap kind₁) (s .post)
 
 abbrev pub refRow : KindRow
 refRow w s kind =
@@ -98,8 +99,8 @@ refRow w s kind =
 
 abbrev pub writeRow : KindsRow
 writeRow w s kind kind₁ =
-    T (isInt kind)
-    ∷ T (isRef kind₁)
+    T (is int kind)
+    ∷ T (is ref kind₁)
     ∷ T (containsIn w (s .locations) kind₁ (s .type2))
     ∷ flows w s (Equal (s .post) (s .post2))
     ∷ hasAtLeast w (s .post) (refLocation kind₁) (s .denominator)
@@ -107,7 +108,7 @@ writeRow w s kind kind₁ =
 
 abbrev pub readRow : KindRow
 readRow w s kind₁ =
-    T (isRef kind₁)
+    T (is ref kind₁)
     ∷ T (containsIn w (s .locations) kind₁ (s .typed))
     ∷ flows w s (Equal (s .post) (s .post1))
     ∷ hasAtLeast w (s .post) (refLocation kind₁) 1
@@ -115,48 +116,48 @@ readRow w s kind₁ =
 
 abbrev pub newlRow : KindRow
 newlRow w s kind =
-    T (isLock kind)
-    ∷ flows w s (Sum (s .post) (outLoad kind) (s .pre))
+    T (is lock kind)
+    ∷ flows w s (Sum (s .post) (secondMap kind) (s .pre))
     ∷ []
 
 abbrev pub lckRow : KindsRow
-lckRow w s kind kind₁ = loaded w s kind (isLock kind₁) (s .post1) (inLoad kind₁) (s .post)
+lckRow w s kind kind₁ = loaded w s kind (is lock kind₁) (s .post1) (firstMap kind₁) (s .post)
 
 abbrev pub ulckRow : KindsRow
-ulckRow w s kind kind₁ = loaded w s kind (isLock kind₁) (s .post) (outLoad kind₁) (s .post1)
+ulckRow w s kind kind₁ = loaded w s kind (is lock kind₁) (s .post) (secondMap kind₁) (s .post1)
 
 -- section 3.1.4
 abbrev pub newsemRow : KindRow
 newsemRow w s kind =
-    T (isSem kind)
+    T (is sem kind)
     ∷ flows w s (Equal (s .post) (s .pre))
     ∷ []
 
 abbrev pub postRow : KindsRow
-postRow w s kind kind₁ = loaded w s kind (isSem kind₁) (s .post) (load kind₁) (s .post1)
+postRow w s kind kind₁ = loaded w s kind (is sem kind₁) (s .post) (firstMap kind₁) (s .post1)
 
 abbrev pub waitRow : KindsRow
-waitRow w s kind kind₁ = loaded w s kind (isSem kind₁) (s .post1) (load kind₁) (s .post)
+waitRow w s kind kind₁ = loaded w s kind (is sem kind₁) (s .post1) (firstMap kind₁) (s .post)
 
 -- document 02, request (xi)
 abbrev pub newrwlockRow : KindRow
 newrwlockRow w s kind =
-    T (isRwlock kind)
-    ∷ flows w s (Covers (writeLoad kind) (s .value) (readLoad kind))
-    ∷ flows w s (Sum (s .post) (writeLoad kind) (s .pre))
+    T (is rwlock kind)
+    ∷ flows w s (Covers (secondMap kind) (s .value) (firstMap kind))
+    ∷ flows w s (Sum (s .post) (secondMap kind) (s .pre))
     ∷ []
 
 abbrev pub rdlockRow : KindsRow
-rdlockRow w s kind kind₁ = loaded w s kind (isRwlock kind₁) (s .post1) (readLoad kind₁) (s .post)
+rdlockRow w s kind kind₁ = loaded w s kind (is rwlock kind₁) (s .post1) (firstMap kind₁) (s .post)
 
 abbrev pub rdunlockRow : KindsRow
-rdunlockRow w s kind kind₁ = loaded w s kind (isRwlock kind₁) (s .post) (readLoad kind₁) (s .post1)
+rdunlockRow w s kind kind₁ = loaded w s kind (is rwlock kind₁) (s .post) (firstMap kind₁) (s .post1)
 
 abbrev pub wrlockRow : KindsRow
-wrlockRow w s kind kind₁ = loaded w s kind (isRwlock kind₁) (s .post1) (writeLoad kind₁) (s .post)
+wrlockRow w s kind kind₁ = loaded w s kind (is rwlock kind₁) (s .post1) (secondMap kind₁) (s .post)
 
 abbrev pub wrunlockRow : KindsRow
-wrunlockRow w s kind kind₁ = loaded w s kind (isRwlock kind₁) (s .post) (writeLoad kind₁) (s .post1)
+wrunlockRow w s kind kind₁ = loaded w s kind (is rwlock kind₁) (s .post) (secondMap kind₁) (s .post1)
 
 -- document 02, request (xiv)
 abbrev pub callRow : PlainRow

@@ -6,7 +6,7 @@ use conditions::type_false;
 use spec::MapNumber;
 use spec::TypeLine;
 ghost use mathlib.Core.Path.{_≡_};
-ghost use Rattle.spec.specs.Conditions.{isTid, isLock, isSem, isRwlock, load, inLoad, outLoad, readLoad, writeLoad};
+ghost use Rattle.spec.specs.Kinds.{lock, tid, sem, rwlock, is, firstMap, secondMap};
 ghost use Rattle.conditions.specs.Outcome.{outcome, firstFalseFrom};
 ghost use Rattle.rules.specs.Table.{loaded};
 
@@ -19,7 +19,7 @@ pub fn check_tid(
     less: MapNumber,
     more: MapNumber,
 ) -> Ruling
-    ensures { λ r. ⌜ outcome r ≡ firstFalseFrom (s .line) 1 (loaded (now (work .entry)) s kind (isTid kind1) less (load kind1) more) ⌝ }
+    ensures { λ r. ⌜ outcome r ≡ firstFalseFrom (s .line) 1 (loaded (now (work .entry)) s kind (is tid kind1) less (firstMap kind1) more) ⌝ }
 {
     let TypeLine::Int = kind else {
         return type_false(s.line, 1);
@@ -39,7 +39,7 @@ pub fn check_lock_in(
     less: MapNumber,
     more: MapNumber,
 ) -> Ruling
-    ensures { λ r. ⌜ outcome r ≡ firstFalseFrom (s .line) 1 (loaded (now (work .entry)) s kind (isLock kind1) less (inLoad kind1) more) ⌝ }
+    ensures { λ r. ⌜ outcome r ≡ firstFalseFrom (s .line) 1 (loaded (now (work .entry)) s kind (is lock kind1) less (firstMap kind1) more) ⌝ }
 {
     let TypeLine::Int = kind else {
         return type_false(s.line, 1);
@@ -59,7 +59,7 @@ pub fn check_lock_out(
     less: MapNumber,
     more: MapNumber,
 ) -> Ruling
-    ensures { λ r. ⌜ outcome r ≡ firstFalseFrom (s .line) 1 (loaded (now (work .entry)) s kind (isLock kind1) less (outLoad kind1) more) ⌝ }
+    ensures { λ r. ⌜ outcome r ≡ firstFalseFrom (s .line) 1 (loaded (now (work .entry)) s kind (is lock kind1) less (secondMap kind1) more) ⌝ }
 {
     let TypeLine::Int = kind else {
         return type_false(s.line, 1);
@@ -79,7 +79,7 @@ pub fn check_sem(
     less: MapNumber,
     more: MapNumber,
 ) -> Ruling
-    ensures { λ r. ⌜ outcome r ≡ firstFalseFrom (s .line) 1 (loaded (now (work .entry)) s kind (isSem kind1) less (load kind1) more) ⌝ }
+    ensures { λ r. ⌜ outcome r ≡ firstFalseFrom (s .line) 1 (loaded (now (work .entry)) s kind (is sem kind1) less (firstMap kind1) more) ⌝ }
 {
     let TypeLine::Int = kind else {
         return type_false(s.line, 1);
@@ -99,7 +99,7 @@ pub fn check_rwlock_read(
     less: MapNumber,
     more: MapNumber,
 ) -> Ruling
-    ensures { λ r. ⌜ outcome r ≡ firstFalseFrom (s .line) 1 (loaded (now (work .entry)) s kind (isRwlock kind1) less (readLoad kind1) more) ⌝ }
+    ensures { λ r. ⌜ outcome r ≡ firstFalseFrom (s .line) 1 (loaded (now (work .entry)) s kind (is rwlock kind1) less (firstMap kind1) more) ⌝ }
 {
     let TypeLine::Int = kind else {
         return type_false(s.line, 1);
@@ -119,7 +119,7 @@ pub fn check_rwlock_write(
     less: MapNumber,
     more: MapNumber,
 ) -> Ruling
-    ensures { λ r. ⌜ outcome r ≡ firstFalseFrom (s .line) 1 (loaded (now (work .entry)) s kind (isRwlock kind1) less (writeLoad kind1) more) ⌝ }
+    ensures { λ r. ⌜ outcome r ≡ firstFalseFrom (s .line) 1 (loaded (now (work .entry)) s kind (is rwlock kind1) less (secondMap kind1) more) ⌝ }
 {
     let TypeLine::Int = kind else {
         return type_false(s.line, 1);

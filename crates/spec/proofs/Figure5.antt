@@ -10,6 +10,7 @@ use Rattle.spec.specs.Words.{role, binding, preOfPart, preOfSecond}
 use Rattle.spec.specs.Expression.{Position, Expr, leaf, unary, binary, Procedure}
 use Rattle.spec.specs.Program.{Program}
 use Rattle.spec.specs.Split.{Map, Signature, Split}
+use Rattle.spec.specs.Kinds.{int, lock, tid, sem, rwlock}
 use Rattle.spec.specs.Conditions.{Env, startMap, type, post, bodyStart, keptBack, signature, K, inMap, outMap, readMap, writeMap, conditionsOf, procedureConditions}
 use Rattle.spec.specs.Sites.{Site, sites, numbered, claimsAt, claims, bodySites, claimsOfProcedure, claimsOfProcedures, claimsOf, firstFalse}
 use Rattle.spec.specs.FirstFalse.{Holds, AllHold}
@@ -21,7 +22,7 @@ use Rattle.spec.specs.declared.UnaryWord.{UnaryWord}
 use Rattle.spec.specs.declared.UnaryWord.the-variants.{While, Join, Ref, Read, Lock, Unlock, Post, Wait, Rdlock, Rdunlock, Wrlock, Wrunlock, Call}
 use Rattle.spec.specs.declared.BinaryWord.{BinaryWord}
 use Rattle.spec.specs.declared.BinaryWord.the-variants.{Let, If, Spawn, Write}
-use Rattle.spec.proofs.TypeKinds.{is-int, is-tid, is-lock, is-sem, is-rwlock, is-ref-of, int-is, tid-is, lock-is, sem-is, rwlock-is, ref-is, ref-of-is, tid-load, lock-in, lock-out, sem-load, rwlock-read, rwlock-write, readable, writable}
+use Rattle.spec.proofs.TypeKinds.{is-of, is-ref-of, of-is, ref-of-is, first-told, second-told, readable, writable}
 use Rattle.spec.proofs.Maps.{none-equal, none-covers, equal-none, covers-none}
 use Rattle.spec.proofs.Claims.{none-false-all-hold, all-hold-none-false, all-hold-parts, all-hold-append, all-hold-each, step-parts, parts-step, both-parts, parts-both}
 
@@ -62,57 +63,57 @@ module _ (S : Split) where
       VAR (c .0) (none-equal (c .1 .0))
   holding-derives Γ pre (leaf Int k v) h =
       let c = leaf-own Γ pre Int k v h in
-      INT (is-int _ (c .0)) (none-equal (c .1 .0))
+      INT (is-of int _ (c .0)) (none-equal (c .1 .0))
   holding-derives Γ pre (leaf Newtid k v) h =
       let c = leaf-own Γ pre Newtid k v h in
-      NEWT (is-tid _ (c .0)) (none-equal (c .1 .0))
+      NEWT (is-of tid _ (c .0)) (none-equal (c .1 .0))
   holding-derives Γ pre (leaf Newlock k v) h =
       let c = leaf-own Γ pre Newlock k v h in
-      NEWL (is-lock _ (c .0)) (none-equal (c .1 .0))
+      NEWL (is-of lock _ (c .0)) (none-equal (c .1 .0))
   holding-derives Γ pre (unary While k v e₁) h =
       let (c, h₁) = unary-own Γ pre While k v e₁ h in
-      WHILE (holding-derives _ _ e₁ h₁) (none-covers (c .1 .1 .0)) (none-covers (c .1 .0)) (is-int _ (c .0))
+      WHILE (holding-derives _ _ e₁ h₁) (none-covers (c .1 .1 .0)) (none-covers (c .1 .0)) (is-of int _ (c .0))
   holding-derives Γ pre (unary Join k v e₁) h =
       let (c, h₁) = unary-own Γ pre Join k v e₁ h in
-      JOIN (holding-derives _ _ e₁ h₁) (is-tid _ (c .1 .0)) (is-int _ (c .0)) (none-equal (c .1 .1 .0))
+      JOIN (holding-derives _ _ e₁ h₁) (is-of tid _ (c .1 .0)) (is-of int _ (c .0)) (none-equal (c .1 .1 .0))
   holding-derives Γ pre (unary Ref k v e₁) h =
       let (c, h₁) = unary-own Γ pre Ref k v e₁ h in
-      let (content, is, agrees) = is-ref-of S _ _ (c .0) in
+      let (is, agrees) = is-ref-of S _ _ (c .0) in
       REF (holding-derives _ _ e₁ h₁) is agrees (none-equal (c .1 .0))
   holding-derives Γ pre (unary Read k v e₁) h =
       let (c, h₁) = unary-own Γ pre Read k v e₁ h in
-      let (content, is, agrees) = is-ref-of S _ _ (c .1 .0) in
+      let (is, agrees) = is-ref-of S _ _ (c .1 .0) in
       READ (holding-derives _ _ e₁ h₁) is agrees (ltb-true _ _ (c .1 .1 .1 .0)) (none-equal (c .1 .1 .0))
   holding-derives Γ pre (unary Lock k v e₁) h =
       let (c, h₁) = unary-own Γ pre Lock k v e₁ h in
-      LCK (holding-derives _ _ e₁ h₁) (is-lock _ (c .1 .0)) (is-int _ (c .0)) (none-equal (c .1 .1 .0))
+      LCK (holding-derives _ _ e₁ h₁) (is-of lock _ (c .1 .0)) (is-of int _ (c .0)) (none-equal (c .1 .1 .0))
   holding-derives Γ pre (unary Unlock k v e₁) h =
       let (c, h₁) = unary-own Γ pre Unlock k v e₁ h in
-      ULCK (holding-derives _ _ e₁ h₁) (is-lock _ (c .1 .0)) (is-int _ (c .0)) (none-equal (c .1 .1 .0))
+      ULCK (holding-derives _ _ e₁ h₁) (is-of lock _ (c .1 .0)) (is-of int _ (c .0)) (none-equal (c .1 .1 .0))
   holding-derives Γ pre (leaf Newsem k v) h =
       let c = leaf-own Γ pre Newsem k v h in
-      NEWSEM (is-sem _ (c .0)) (none-equal (c .1 .0))
+      NEWSEM (is-of sem _ (c .0)) (none-equal (c .1 .0))
   holding-derives Γ pre (unary Post k v e₁) h =
       let (c, h₁) = unary-own Γ pre Post k v e₁ h in
-      POST (holding-derives _ _ e₁ h₁) (is-sem _ (c .1 .0)) (is-int _ (c .0)) (none-equal (c .1 .1 .0))
+      POST (holding-derives _ _ e₁ h₁) (is-of sem _ (c .1 .0)) (is-of int _ (c .0)) (none-equal (c .1 .1 .0))
   holding-derives Γ pre (unary Wait k v e₁) h =
       let (c, h₁) = unary-own Γ pre Wait k v e₁ h in
-      WAIT (holding-derives _ _ e₁ h₁) (is-sem _ (c .1 .0)) (is-int _ (c .0)) (none-equal (c .1 .1 .0))
+      WAIT (holding-derives _ _ e₁ h₁) (is-of sem _ (c .1 .0)) (is-of int _ (c .0)) (none-equal (c .1 .1 .0))
   holding-derives Γ pre (leaf Newrwlock k v) h =
       let c = leaf-own Γ pre Newrwlock k v h in
-      NEWRWLOCK (is-rwlock _ (c .0)) (none-covers (c .1 .0)) (none-equal (c .1 .1 .0))
+      NEWRWLOCK (is-of rwlock _ (c .0)) (none-covers (c .1 .0)) (none-equal (c .1 .1 .0))
   holding-derives Γ pre (unary Rdlock k v e₁) h =
       let (c, h₁) = unary-own Γ pre Rdlock k v e₁ h in
-      RDLOCK (holding-derives _ _ e₁ h₁) (is-rwlock _ (c .1 .0)) (is-int _ (c .0)) (none-equal (c .1 .1 .0))
+      RDLOCK (holding-derives _ _ e₁ h₁) (is-of rwlock _ (c .1 .0)) (is-of int _ (c .0)) (none-equal (c .1 .1 .0))
   holding-derives Γ pre (unary Rdunlock k v e₁) h =
       let (c, h₁) = unary-own Γ pre Rdunlock k v e₁ h in
-      RDUNLOCK (holding-derives _ _ e₁ h₁) (is-rwlock _ (c .1 .0)) (is-int _ (c .0)) (none-equal (c .1 .1 .0))
+      RDUNLOCK (holding-derives _ _ e₁ h₁) (is-of rwlock _ (c .1 .0)) (is-of int _ (c .0)) (none-equal (c .1 .1 .0))
   holding-derives Γ pre (unary Wrlock k v e₁) h =
       let (c, h₁) = unary-own Γ pre Wrlock k v e₁ h in
-      WRLOCK (holding-derives _ _ e₁ h₁) (is-rwlock _ (c .1 .0)) (is-int _ (c .0)) (none-equal (c .1 .1 .0))
+      WRLOCK (holding-derives _ _ e₁ h₁) (is-of rwlock _ (c .1 .0)) (is-of int _ (c .0)) (none-equal (c .1 .1 .0))
   holding-derives Γ pre (unary Wrunlock k v e₁) h =
       let (c, h₁) = unary-own Γ pre Wrunlock k v e₁ h in
-      WRUNLOCK (holding-derives _ _ e₁ h₁) (is-rwlock _ (c .1 .0)) (is-int _ (c .0)) (none-equal (c .1 .1 .0))
+      WRUNLOCK (holding-derives _ _ e₁ h₁) (is-of rwlock _ (c .1 .0)) (is-of int _ (c .0)) (none-equal (c .1 .1 .0))
   holding-derives Γ pre (unary Call k f e₁) h =
       let (c, h₁) = unary-own Γ pre Call k f e₁ h in
       CALL (holding-derives _ _ e₁ h₁) (c .1 .0) (none-equal (c .1 .1 .0)) (c .0) (none-equal (c .1 .1 .1 .0))
@@ -125,13 +126,13 @@ module _ (S : Split) where
       (holding-derives _ _ e₂ h₂) (c .1 .0) (none-covers (c .1 .1 .1 .0))
   holding-derives Γ pre (binary Spawn k v e₁ e₂) h =
       let (c, h₁, h₂) = binary-own Γ pre Spawn k v e₁ e₂ h in
-      SPAWN (holding-derives _ _ e₁ h₁) (is-tid _ (c .1 .0)) (holding-derives _ _ e₂ h₂) (none-covers (c .1 .1 .0))
-      (is-int _ (c .0)) (none-equal (c .1 .1 .1 .0))
+      SPAWN (holding-derives _ _ e₁ h₁) (is-of tid _ (c .1 .0)) (holding-derives _ _ e₂ h₂) (none-covers (c .1 .1 .0))
+      (is-of int _ (c .0)) (none-equal (c .1 .1 .1 .0))
   holding-derives Γ pre (binary Write k v e₁ e₂) h =
       let (c, h₁, h₂) = binary-own Γ pre Write k v e₁ e₂ h in
-      let (content, is, agrees) = is-ref-of S _ _ (c .1 .1 .0) in
+      let (is, agrees) = is-ref-of S _ _ (c .1 .1 .0) in
       WRITE (holding-derives _ _ e₁ h₁) is (holding-derives _ _ e₂ h₂) agrees
-      (leb-true _ _ (c .1 .1 .1 .1 .0)) (is-int _ (c .0)) (none-equal (c .1 .1 .1 .0))
+      (leb-true _ _ (c .1 .1 .1 .1 .0)) (is-of int _ (c .0)) (none-equal (c .1 .1 .1 .0))
 
   -- ------------------------------------------------------------------ from a derivation to conditions
 
@@ -156,7 +157,7 @@ module _ (S : Split) where
   derived-holds {Γ} {Ψ} (VAR {k = k} {v = v} t p) =
       leaf-all Γ Ψ Var k v (t, (equal-none p, tt))
   derived-holds {Γ} {Ψ} (INT {k = k} {v = v} t p) =
-      leaf-all Γ Ψ Int k v (int-is t, (equal-none p, tt))
+      leaf-all Γ Ψ Int k v (of-is t, (equal-none p, tt))
   derived-holds {Γ} {Ψ} (LET {k = k} {v = v} {e₁ = e₁} {e₂ = e₂} d₁ d₂ t p) =
       binary-all Γ Ψ Let k v e₁ e₂ (t, (equal-none p, tt))
       (derived-holds d₁) (derived-holds d₂)
@@ -164,46 +165,46 @@ module _ (S : Split) where
       binary-all Γ Ψ If k v e₁ e₂ (t₁, (t₂, (covers-none p₁, (covers-none p₂, tt))))
       (derived-holds d₁) (derived-holds d₂)
   derived-holds {Γ} {Ψ} (WHILE {k = k} {v = v} {e₁ = e₁} d p₁ p t) =
-      unary-all Γ Ψ While k v e₁ (int-is t, (covers-none p, (covers-none p₁, tt))) (derived-holds d)
+      unary-all Γ Ψ While k v e₁ (of-is t, (covers-none p, (covers-none p₁, tt))) (derived-holds d)
   derived-holds {Γ} {Ψ} (NEWT {k = k} {v = v} t p) =
-      leaf-all Γ Ψ Newtid k v (tid-is t, (equal-none p, tt))
+      leaf-all Γ Ψ Newtid k v (of-is t, (equal-none p, tt))
   derived-holds {Γ} {Ψ} (SPAWN {k = k} {v = v} {e₁ = e₁} {e₂ = e₂} d₁ t d₂ c i p) =
-      binary-all Γ Ψ Spawn k v e₁ e₂ (int-is i, (tid-is t, (covers-none (rw (tid-load S t) c), (equal-none p, tt))))
+      binary-all Γ Ψ Spawn k v e₁ e₂ (of-is i, (of-is t, (covers-none (rw (first-told S t) c), (equal-none p, tt))))
       (derived-holds d₁) (derived-holds d₂)
   derived-holds {Γ} {Ψ} (JOIN {k = k} {v = v} {e₁ = e₁} d t i p) =
-      unary-all Γ Ψ Join k v e₁ (int-is i, (tid-is t, (equal-none (rw (tid-load S t) p), tt))) (derived-holds d)
+      unary-all Γ Ψ Join k v e₁ (of-is i, (of-is t, (equal-none (rw (first-told S t) p), tt))) (derived-holds d)
   derived-holds {Γ} {Ψ} (REF {k = k} {v = v} {e₁ = e₁} d t a p) =
       unary-all Γ Ψ Ref k v e₁ (ref-of-is S _ t a, (equal-none p, tt)) (derived-holds d)
   derived-holds {Γ} {Ψ} (WRITE {k = k} {v = v} {e₁ = e₁} {e₂ = e₂} d₁ t d₂ a w i p) =
       binary-all Γ Ψ Write k v e₁ e₂
-      (int-is i, (ref-is t, (ref-of-is S _ t a, (equal-none p, (writable _ (post S (binary Write k v e₁ e₂)) t w, tt)))))
+      (of-is i, (of-is t, (ref-of-is S _ t a, (equal-none p, (writable _ (post S (binary Write k v e₁ e₂)) t w, tt)))))
       (derived-holds d₁) (derived-holds d₂)
   derived-holds {Γ} {Ψ} (READ {k = k} {v = v} {e₁ = e₁} d t a w p) =
       unary-all Γ Ψ Read k v e₁
-      (ref-is t, (ref-of-is S _ t a, (equal-none p, (readable (post S (unary Read k v e₁)) t w, tt)))) (derived-holds d)
+      (of-is t, (ref-of-is S _ t a, (equal-none p, (readable (post S (unary Read k v e₁)) t w, tt)))) (derived-holds d)
   derived-holds {Γ} {Ψ} (NEWL {k = k} {v = v} t p) =
-      leaf-all Γ Ψ Newlock k v (lock-is t, (equal-none (rw (lock-out S t) p), tt))
+      leaf-all Γ Ψ Newlock k v (of-is t, (equal-none (rw (second-told S t) p), tt))
   derived-holds {Γ} {Ψ} (LCK {k = k} {v = v} {e₁ = e₁} d t i p) =
-      unary-all Γ Ψ Lock k v e₁ (int-is i, (lock-is t, (equal-none (rw (lock-in S t) p), tt))) (derived-holds d)
+      unary-all Γ Ψ Lock k v e₁ (of-is i, (of-is t, (equal-none (rw (first-told S t) p), tt))) (derived-holds d)
   derived-holds {Γ} {Ψ} (ULCK {k = k} {v = v} {e₁ = e₁} d t i p) =
-      unary-all Γ Ψ Unlock k v e₁ (int-is i, (lock-is t, (equal-none (rw (lock-out S t) p), tt))) (derived-holds d)
+      unary-all Γ Ψ Unlock k v e₁ (of-is i, (of-is t, (equal-none (rw (second-told S t) p), tt))) (derived-holds d)
   derived-holds {Γ} {Ψ} (NEWSEM {k = k} {v = v} t p) =
-      leaf-all Γ Ψ Newsem k v (sem-is t, (equal-none p, tt))
+      leaf-all Γ Ψ Newsem k v (of-is t, (equal-none p, tt))
   derived-holds {Γ} {Ψ} (POST {k = k} {v = v} {e₁ = e₁} d t i p) =
-      unary-all Γ Ψ Post k v e₁ (int-is i, (sem-is t, (equal-none (rw (sem-load S t) p), tt))) (derived-holds d)
+      unary-all Γ Ψ Post k v e₁ (of-is i, (of-is t, (equal-none (rw (first-told S t) p), tt))) (derived-holds d)
   derived-holds {Γ} {Ψ} (WAIT {k = k} {v = v} {e₁ = e₁} d t i p) =
-      unary-all Γ Ψ Wait k v e₁ (int-is i, (sem-is t, (equal-none (rw (sem-load S t) p), tt))) (derived-holds d)
+      unary-all Γ Ψ Wait k v e₁ (of-is i, (of-is t, (equal-none (rw (first-told S t) p), tt))) (derived-holds d)
   derived-holds {Γ} {Ψ} (NEWRWLOCK {k = k} {N = N} t c p) =
       leaf-all Γ Ψ Newrwlock k N
-      (rwlock-is t, (covers-none (rw (rwlock-write S t, rwlock-read S t) c), (equal-none (rw (rwlock-write S t) p), tt)))
+      (of-is t, (covers-none (rw (second-told S t, first-told S t) c), (equal-none (rw (second-told S t) p), tt)))
   derived-holds {Γ} {Ψ} (RDLOCK {k = k} {v = v} {e₁ = e₁} d t i p) =
-      unary-all Γ Ψ Rdlock k v e₁ (int-is i, (rwlock-is t, (equal-none (rw (rwlock-read S t) p), tt))) (derived-holds d)
+      unary-all Γ Ψ Rdlock k v e₁ (of-is i, (of-is t, (equal-none (rw (first-told S t) p), tt))) (derived-holds d)
   derived-holds {Γ} {Ψ} (RDUNLOCK {k = k} {v = v} {e₁ = e₁} d t i p) =
-      unary-all Γ Ψ Rdunlock k v e₁ (int-is i, (rwlock-is t, (equal-none (rw (rwlock-read S t) p), tt))) (derived-holds d)
+      unary-all Γ Ψ Rdunlock k v e₁ (of-is i, (of-is t, (equal-none (rw (first-told S t) p), tt))) (derived-holds d)
   derived-holds {Γ} {Ψ} (WRLOCK {k = k} {v = v} {e₁ = e₁} d t i p) =
-      unary-all Γ Ψ Wrlock k v e₁ (int-is i, (rwlock-is t, (equal-none (rw (rwlock-write S t) p), tt))) (derived-holds d)
+      unary-all Γ Ψ Wrlock k v e₁ (of-is i, (of-is t, (equal-none (rw (second-told S t) p), tt))) (derived-holds d)
   derived-holds {Γ} {Ψ} (WRUNLOCK {k = k} {v = v} {e₁ = e₁} d t i p) =
-      unary-all Γ Ψ Wrunlock k v e₁ (int-is i, (rwlock-is t, (equal-none (rw (rwlock-write S t) p), tt))) (derived-holds d)
+      unary-all Γ Ψ Wrunlock k v e₁ (of-is i, (of-is t, (equal-none (rw (second-told S t) p), tt))) (derived-holds d)
   derived-holds {Γ} {Ψ} (CALL {k = k} {f = f} {e₁ = e₁} d a p r q) =
       unary-all Γ Ψ Call k f e₁ (r, (a, (equal-none p, (equal-none q, tt)))) (derived-holds d)
 

@@ -5,6 +5,7 @@ pub mod Refusals
 pub mod Clashes
 pub mod Tests
 pub mod Ranges
+pub mod Fits
 pub mod Wide
 pub mod Starts
 pub mod Outcomes

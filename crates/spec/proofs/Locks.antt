@@ -1,13 +1,15 @@
 -- 44 is passed exactly when the out of each lock line is nowhere below its in.
-use mathlib.Core.Path.{_≡_, refl, sym, ap, _∙_}
+use mathlib.Core.Path.{_≡_, refl}
 use mathlib.Core.List.{List, [], _∷_}
-use mathlib.Core.Bool.{true}
+use mathlib.Core.Bool.{Bool, true, false}
 use Prim.Native.Nat.{ℕ, zero, suc, _+_}
 use native.Mathlib.Omega.{arith}
 use lib.ListN.{getD}
+use Rattle.spec.specs.Choice.{if_then_else_}
 use Rattle.spec.specs.Reading.{on}
 use Rattle.spec.specs.Split.{Split, typeAt, mapAt}
-use Rattle.spec.specs.Maps.{_≥ᵐ_}
+use Rattle.spec.specs.Maps.{_≥ᵐ_, nowhere}
+use Rattle.spec.specs.Kinds.{lock, sameKind, is, firstMap, secondMap}
 use Rattle.spec.specs.Figure5.{_⊒_}
 use Rattle.spec.specs.Accepted.{LocksTakeEnough}
 use Rattle.spec.specs.Verdict.{takesEnough, allTakeEnough, locksTakeEnough}
@@ -16,6 +18,7 @@ use Rattle.spec.specs.declared.TypeLine.{TypeLine}
 use Rattle.spec.specs.declared.TypeLine.the-variants as type-line
 use Rattle.spec.specs.declared.Refusal.the-variants.{LockTakesLess}
 use Rattle.spec.proofs.Outcomes.{bind-goes-on, goes-on-bind, demand-goes-on, goes-on-demand}
+use Rattle.spec.proofs.TypeKinds.{is-of}
 use Rattle.spec.proofs.Maps.{nowhere-none, none-nowhere, none-covers, covers-none}
 
 module _ (S : Split) where
@@ -24,17 +27,16 @@ module _ (S : Split) where
   Enough x = (i o : MapNumber) → x ≡ type-line.Lock i o → mapAt S o ⊒ mapAt S i
 
   line-enough : (x : TypeLine) → takesEnough S x ≡ true → Enough x
-  unfolding takesEnough
-  line-enough x h i o e = none-covers (nowhere-none (mapAt S o ≥ᵐ mapAt S i) (sym (ap (takesEnough S) e) ∙ h))
+  unfolding takesEnough is sameKind firstMap secondMap
+  line-enough x h i o e = none-covers (nowhere-none (mapAt S o ≥ᵐ mapAt S i) (rw e at h))
 
   enough-line : (x : TypeLine) → Enough x → takesEnough S x ≡ true
   unfolding takesEnough
-  enough-line type-line.Int h = refl
-  enough-line (type-line.Ref p c) h = refl
-  enough-line (type-line.Lock i o) h = none-nowhere (mapAt S o ≥ᵐ mapAt S i) (covers-none (h i o refl))
-  enough-line (type-line.Tid k) h = refl
-  enough-line (type-line.Sem k) h = refl
-  enough-line (type-line.Rwlock r w) h = refl
+  enough-line x h = by-kind (is lock x) refl
+    where
+      by-kind : (b : Bool) → is lock x ≡ b → (if b then nowhere (mapAt S (secondMap x) ≥ᵐ mapAt S (firstMap x)) else true) ≡ true
+      by-kind true e = none-nowhere (mapAt S (secondMap x) ≥ᵐ mapAt S (firstMap x)) (covers-none (h (firstMap x) (secondMap x) (is-of lock x e)))
+      by-kind false e = refl
 
   all-enough : {t : Unit {0}} (k : ℕ) (xs : List TypeLine) → allTakeEnough S k xs ≡ on t → (n : ℕ) → Enough (getD xs n type-line.Int)
   unfolding allTakeEnough

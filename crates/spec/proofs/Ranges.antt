@@ -16,17 +16,20 @@ use Rattle.spec.specs.Words.{takesStart}
 use Rattle.spec.specs.Expression.{Step}
 use Rattle.spec.specs.Program.{Program}
 use Rattle.spec.specs.Split.{Map, Header, headings, headerRanges, mapsOf, mapsIn, startOf, headerOf, headed, headerLine, refOf, lockOf, outRange, tidOf, semOf, rwlockOf, typeLine, typeLines, mapLine, Signature, signatureOf, signatureLine, Row, rowOf, startGiven, startRange, postRange, postField, emptyFault, rowLine, Split}
+use Rattle.spec.specs.Kinds.{ref, sameKind, is, refLocation, content, maps}
 use Rattle.spec.specs.WellFormed.{Shows, nothing, line, WellFormedSplit}
 use Rattle.spec.specs.declared.Purpose.{Purpose}
 use Rattle.spec.specs.declared.Purpose.the-variants.{Check, Fill}
-use Rattle.spec.specs.Ranges.{InRange}
+use Rattle.spec.specs.Ranges.{AllBelow, InRange}
 use Rattle.spec.specs.declared.Heading.{Heading}
 use Rattle.spec.specs.declared.Heading.the-variants.{C, C2, C3}
+use Rattle.spec.specs.declared.Location.{Location}
 use Rattle.spec.specs.declared.MapNumber.{MapNumber}
+use Rattle.spec.specs.declared.TypeNumber.{TypeNumber}
 use Rattle.spec.specs.declared.Word.{Word}
 use Rattle.spec.specs.declared.TypeLine.{TypeLine}
 use Rattle.spec.specs.declared.TypeLine.the-variants as type-line
-use Rattle.spec.proofs.Clashes.{none-is-not-some}
+use Rattle.spec.proofs.Clashes.{none-is-not-some, true-is-not-false}
 use Rattle.spec.proofs.Tests.{both-true}
 
 -- ------------------------------------------------------------------ lines that show something
@@ -195,28 +198,28 @@ header-fits purpose (f ∷ fs) H h = headed-fits (lookUp (headings purpose) f) f
 -- ------------------------------------------------------------------ type lines
 
 -- the numbers of type `own` are of their kinds
-TypeFits : Header → (own : ℕ) → TypeLine → Type 0
-TypeFits H own type-line.Int = Unit {0}
-TypeFits H own (type-line.Ref p c) = (p .0 < H .locations) × (c .0 < own)
-TypeFits H own (type-line.Lock i o) = (i .0 < H .maps) × (o .0 < H .maps)
-TypeFits H own (type-line.Tid k) = k .0 < H .maps
-TypeFits H own (type-line.Sem k) = k .0 < H .maps
-TypeFits H own (type-line.Rwlock r w) = (r .0 < H .maps) × (w .0 < H .maps)
+record TypeFits (H : Header) (own : ℕ) (t : TypeLine) : Type 0 where
+  place : is ref t ≡ true → (refLocation t .0 < H .locations) × (content t .0 < own)
+  loads : AllBelow (H .maps) (maps t)
 
 module _ (H : Header) (own : ℕ) (fs : List Field) where
+  -- a type that is no ref
+  plain-fits : (t : TypeLine) → is ref t ≡ false → AllBelow (H .maps) (maps t) → TypeFits H own t
+  plain-fits t e h = record { place = λ r. true-is-not-false (sym r ∙ e); loads = h }
+
   int-fits : (t : TypeLine) → seen (λ ns. type-line.Int) (numbers ((0 to 0) ∷ (0 to 0) ∷ []) fs) ≡ right t → TypeFits H own t
-  unfolding TypeFits
-  int-fits t h = let (ns, n, e) = seen-right _ h in along (TypeFits H own) e tt
+  unfolding is sameKind
+  int-fits t h = let (ns, n, e) = seen-right _ h in along (TypeFits H own) e (plain-fits type-line.Int refl tt)
 
   ref-fits : (t : TypeLine) → seen refOf (numbers (below (H .locations) ∷ below own ∷ []) fs) ≡ right t → TypeFits H own t
-  unfolding refOf TypeFits
+  unfolding refOf refLocation content
   ref-fits t h =
       let (ns, n, e) = seen-right _ h in
       let at = in-range-at (below (H .locations) ∷ below own ∷ []) fs ns n in
-      along (TypeFits H own) e (in-below _ _ (at 0 (omega arith)), in-below _ _ (at 1 (omega arith)))
+      along (TypeFits H own) e (record { place = λ r. (in-below _ _ (at 0 (omega arith)), in-below _ _ (at 1 (omega arith))); loads = tt })
 
   lock-fits : (h : Heading) (t : TypeLine) → seen (lockOf h) (numbers (below (H .maps) ∷ outRange h (H .maps) ∷ []) fs) ≡ right t → TypeFits H own t
-  unfolding lockOf outRange TypeFits
+  unfolding lockOf outRange is sameKind
   lock-fits h t r =
       let (ns, n, e) = seen-right _ r in
       let at = in-range-at (below (H .maps) ∷ outRange h (H .maps) ∷ []) fs ns n in
@@ -224,28 +227,28 @@ module _ (H : Header) (own : ℕ) (fs : List Field) where
     where
       by-heading : (h : Heading) (ns : List ℕ) → getD ns 0 0 < H .maps → inRange (outRange h (H .maps)) (getD ns 1 0) ≡ true
           → TypeFits H own (lockOf h ns)
-      by-heading C ns first second = (first, first)
-      by-heading C2 ns first second = (first, first)
-      by-heading C3 ns first second = (first, in-below _ _ second)
+      by-heading C ns first second = plain-fits _ refl (first, (first, tt))
+      by-heading C2 ns first second = plain-fits _ refl (first, (first, tt))
+      by-heading C3 ns first second = plain-fits _ refl (first, (in-below _ _ second, tt))
 
   tid-fits : (t : TypeLine) → seen tidOf (numbers (below (H .maps) ∷ (0 to 0) ∷ []) fs) ≡ right t → TypeFits H own t
-  unfolding tidOf TypeFits
+  unfolding tidOf is sameKind
   tid-fits t h =
       let (ns, n, e) = seen-right _ h in
-      along (TypeFits H own) e (in-below _ _ (in-range-at (below (H .maps) ∷ (0 to 0) ∷ []) fs ns n 0 (omega arith)))
+      along (TypeFits H own) e (plain-fits _ refl (in-below _ _ (in-range-at (below (H .maps) ∷ (0 to 0) ∷ []) fs ns n 0 (omega arith)), tt))
 
   sem-fits : (t : TypeLine) → seen semOf (numbers (below (H .maps) ∷ (0 to 0) ∷ []) fs) ≡ right t → TypeFits H own t
-  unfolding semOf TypeFits
+  unfolding semOf is sameKind
   sem-fits t h =
       let (ns, n, e) = seen-right _ h in
-      along (TypeFits H own) e (in-below _ _ (in-range-at (below (H .maps) ∷ (0 to 0) ∷ []) fs ns n 0 (omega arith)))
+      along (TypeFits H own) e (plain-fits _ refl (in-below _ _ (in-range-at (below (H .maps) ∷ (0 to 0) ∷ []) fs ns n 0 (omega arith)), tt))
 
   rwlock-fits : (t : TypeLine) → seen rwlockOf (numbers (below (H .maps) ∷ below (H .maps) ∷ []) fs) ≡ right t → TypeFits H own t
-  unfolding rwlockOf TypeFits
+  unfolding rwlockOf is sameKind
   rwlock-fits t h =
       let (ns, n, e) = seen-right _ h in
       let at = in-range-at (below (H .maps) ∷ below (H .maps) ∷ []) fs ns n in
-      along (TypeFits H own) e (in-below _ _ (at 0 (omega arith)), in-below _ _ (at 1 (omega arith)))
+      along (TypeFits H own) e (plain-fits _ refl (in-below _ _ (at 0 (omega arith)), (in-below _ _ (at 1 (omega arith)), tt)))
 
 type-fits : (H : Header) (own : ℕ) (fs : List Field) (t : TypeLine) → typeLine H own fs ≡ right t → TypeFits H own t
 unfolding typeLine
@@ -258,6 +261,12 @@ type-fits H own (f ∷ fs) t h =
     (either-right fits (same f (bytes "tid")) _ _ (tid-fits H own fs)
     (either-right fits (same f (bytes "sem")) _ _ (sem-fits H own fs)
     (either-right fits (same f (bytes "rwlock")) _ _ (rwlock-fits H own fs) (λ t h. wrong-is-not-right h)))))) t h
+
+-- a type that is known to be a ref
+ref-place : {H : Header} {own : ℕ} {t : TypeLine} {p : Location} {c : TypeNumber} → TypeFits H own t → t ≡ type-line.Ref p c
+    → (p .0 < H .locations) × (c .0 < own)
+unfolding is sameKind refLocation content
+ref-place {H} {own} fits e = along (TypeFits H own) e fits .place refl
 
 types-fit : (H : Header) (own n : ℕ) {ls rest : List Line} {ts : List TypeLine} → Shows (typeLines H own n) ls ts rest
     → (length ts ≡ n) × ((t : ℕ) → t < length ts → TypeFits H (own + t) (getD ts t type-line.Int))
@@ -376,7 +385,7 @@ module _ (purpose : Purpose) (H : Header) where
 -- ------------------------------------------------------------------ the sheet
 
 pub well-formed-in-range : {purpose : Purpose} {P : Program} {text : List ℕ} {S : Split} → WellFormedSplit purpose P text S → InRange P S
-unfolding TypeFits SignatureFits RowFits StartFits
+unfolding SignatureFits RowFits StartFits
 well-formed-in-range {purpose} {P} {text} {S} F =
     let H = S .header in
     let head = header-fits purpose _ H (F .headed) in
@@ -384,8 +393,8 @@ well-formed-in-range {purpose} {P} {text} {S} F =
     let (mapsCounted, wide) = maps-wide H (H .maps) (F .mapped) in
     let (signaturesCounted, signatures) = signatures-fit H (length (P .procedures)) (F .signed) in
     let (rowsCounted, rows) = rows-fit purpose H (P .steps) (F .rowed) in
-    let fits : (t : ℕ) (τ : TypeLine) → t < length (S .types) → getD (S .types) t type-line.Int ≡ τ → TypeFits H t τ =
-    λ t τ h e. let z : 0 + t ≡ t = omega arith in along (TypeFits H t) e (along (λ o. TypeFits H o (getD (S .types) t type-line.Int)) z (types t h)) in
+    let fits : (t : ℕ) → t < length (S .types) → TypeFits H t (getD (S .types) t type-line.Int) =
+    λ t h. let z : 0 + t ≡ t = omega arith in along (λ o. TypeFits H o (getD (S .types) t type-line.Int)) z (types t h) in
     record {
       denominator = head .denominator;
       locations = head .locations;
@@ -397,11 +406,8 @@ well-formed-in-range {purpose} {P} {text} {S} F =
       signaturesCounted = signaturesCounted;
       rowsCounted = rowsCounted;
       mapWide = wide;
-      refPlace = λ t p c h e. fits t (type-line.Ref p c) h e;
-      lockLoads = λ t i o h e. let (first, second) = fits t (type-line.Lock i o) h e in (omega (arith, mapsCounted, first), omega (arith, mapsCounted, second));
-      tidLoad = λ t k h e. omega (arith, mapsCounted, fits t (type-line.Tid k) h e);
-      semLoad = λ t k h e. omega (arith, mapsCounted, fits t (type-line.Sem k) h e);
-      rwlockLoads = λ t r w h e. let (first, second) = fits t (type-line.Rwlock r w) h e in (omega (arith, mapsCounted, first), omega (arith, mapsCounted, second));
+      refPlace = λ t p c h e. ref-place (fits t h) e;
+      typeMaps = λ t h. along (λ n. AllBelow n (maps (getD (S .types) t type-line.Int))) (sym mapsCounted) (fits t h .loads);
       beforeMap = λ f d h. omega (arith, mapsCounted, signatures f d h .0);
       argumentType = λ f d h. omega (arith, typesCounted, signatures f d h .1);
       afterMap = λ f d h. omega (arith, mapsCounted, signatures f d h .2);

@@ -1,133 +1,107 @@
 -- What a test of a type's kind says of the type, and back.
-use mathlib.Core.Path.{_≡_, refl, sym}
+use mathlib.Core.Path.{_≡_, refl, sym, ap, _∙_}
 use mathlib.Core.Bool.{true}
+use mathlib.Core.List.{[], _∷_}
 use Prim.Native.Nat.{ℕ, _≤_, _<_}
 use lib.Dec.{leb, ltb}
-use borrow.Author.Tests.{le-leb, lt-ltb}
-use Rattle.spec.specs.Split.{Map, Split}
+use lib.ListN.{getD}
+use borrow.Author.Tests.{eqb-true, eq-eqb, le-leb, lt-ltb}
+use Rattle.spec.specs.Split.{Map, Split, mapAt}
 use Rattle.spec.specs.Maps.{share}
+use Rattle.spec.specs.Kinds.{Kind, int, ref, lock, tid, sem, rwlock, code, kindOf, sameKind, is, refLocation, content, maps, firstMap, secondMap}
 use Rattle.spec.specs.Agreement.{agree}
-use Rattle.spec.specs.Conditions.{isInt, isRef, isLock, isTid, isSem, isRwlock, refLocation, load, inLoad, outLoad, readLoad, writeLoad, contains, mapAt}
+use Rattle.spec.specs.Conditions.{contains}
 use Rattle.spec.specs.declared.TypeNumber.{TypeNumber}
-use Rattle.spec.specs.declared.MapNumber.{MapNumber}
 use Rattle.spec.specs.declared.Location.{Location}
 use Rattle.spec.specs.declared.TypeLine.{TypeLine}
 use Rattle.spec.specs.declared.TypeLine.the-variants.{Int, Ref, Lock, Tid, Sem, Rwlock}
-use Rattle.spec.proofs.Clashes.{true-is-not-false}
+use Rattle.spec.proofs.Tests.{both-true, eqb-sym}
+
+-- ------------------------------------------------------------------ kinds by their codes
+
+-- the kind with a code
+decoded : (n : ℕ) → Kind
+decoded n = getD (int ∷ ref ∷ lock ∷ tid ∷ sem ∷ rwlock ∷ []) n int
+
+code-decoded : (k : Kind) → decoded (code k) ≡ k
+unfolding decoded
+code-decoded int = refl
+code-decoded ref = refl
+code-decoded lock = refl
+code-decoded tid = refl
+code-decoded sem = refl
+code-decoded rwlock = refl
+
+pub same-kind-equal : (k l : Kind) → sameKind k l ≡ true → k ≡ l
+unfolding sameKind
+same-kind-equal k l h = sym (code-decoded k) ∙ ap decoded (eqb-true (code k) (code l) h) ∙ code-decoded l
+
+pub same-kind-itself : (k : Kind) → sameKind k k ≡ true
+unfolding sameKind
+same-kind-itself k = eq-eqb (code k) (code k) refl
+
+pub is-same : (k : Kind) (t : TypeLine) → is k t ≡ sameKind k (kindOf t)
+unfolding is
+is-same k t = refl
+
+-- two types of one kind, asked either way
+pub is-turned : (x y : TypeLine) → is (kindOf x) y ≡ is (kindOf y) x
+unfolding is sameKind
+is-turned x y = eqb-sym (code (kindOf x)) (code (kindOf y))
 
 -- ------------------------------------------------------------------ from a test to a type
 
-pub is-int : (t : TypeLine) → isInt t ≡ true → t ≡ Int
-unfolding isInt
-is-int Int h = refl
-is-int (Ref p c) h = cc
-is-int (Lock i o) h = cc
-is-int (Tid k) h = cc
-is-int (Sem k) h = cc
-is-int (Rwlock r w) h = cc
+-- the type of a kind with what another says
+abbrev pub As : Kind → TypeLine → TypeLine
+As int t = Int
+As ref t = Ref (refLocation t) (content t)
+As lock t = Lock (firstMap t) (secondMap t)
+As tid t = Tid (firstMap t)
+As sem t = Sem (firstMap t)
+As rwlock t = Rwlock (firstMap t) (secondMap t)
 
-pub is-tid : (t : TypeLine) → isTid t ≡ true → t ≡ Tid (load t)
-unfolding isTid load
-is-tid Int h = cc
-is-tid (Ref p c) h = cc
-is-tid (Lock i o) h = cc
-is-tid (Tid k) h = refl
-is-tid (Sem k) h = cc
-is-tid (Rwlock r w) h = cc
+itself : (t : TypeLine) → As (kindOf t) t ≡ t
+unfolding refLocation content firstMap secondMap
+itself Int = refl
+itself (Ref p c) = refl
+itself (Lock i o) = refl
+itself (Tid k) = refl
+itself (Sem k) = refl
+itself (Rwlock r w) = refl
 
-pub is-lock : (t : TypeLine) → isLock t ≡ true → t ≡ Lock (inLoad t) (outLoad t)
-unfolding isLock inLoad outLoad
-is-lock Int h = cc
-is-lock (Ref p c) h = cc
-is-lock (Lock i o) h = refl
-is-lock (Tid k) h = cc
-is-lock (Sem k) h = cc
-is-lock (Rwlock r w) h = cc
+pub kind-is : (k : Kind) (t : TypeLine) → is k t ≡ true → kindOf t ≡ k
+unfolding is
+kind-is k t h = sym (same-kind-equal k (kindOf t) h)
 
-pub is-sem : (t : TypeLine) → isSem t ≡ true → t ≡ Sem (load t)
-unfolding isSem load
-is-sem Int h = cc
-is-sem (Ref p c) h = cc
-is-sem (Lock i o) h = cc
-is-sem (Tid k) h = cc
-is-sem (Sem k) h = refl
-is-sem (Rwlock r w) h = cc
-
-pub is-rwlock : (t : TypeLine) → isRwlock t ≡ true → t ≡ Rwlock (readLoad t) (writeLoad t)
-unfolding isRwlock readLoad writeLoad
-is-rwlock Int h = cc
-is-rwlock (Ref p c) h = cc
-is-rwlock (Lock i o) h = cc
-is-rwlock (Tid k) h = cc
-is-rwlock (Sem k) h = cc
-is-rwlock (Rwlock r w) h = refl
+pub is-of : (k : Kind) (t : TypeLine) → is k t ≡ true → t ≡ As k t
+is-of k t h = sym (itself t) ∙ ap (λ l. As l t) (kind-is k t h)
 
 -- a ref type, and its content agrees
 pub is-ref-of : (S : Split) (t : TypeLine) (u : TypeNumber) → contains S t u ≡ true
-    → (c : TypeNumber) × (t ≡ Ref (refLocation t) c) × (agree S c u ≡ true)
-unfolding contains refLocation
-is-ref-of S Int u h = true-is-not-false (sym h)
-is-ref-of S (Ref p c) u h = (c, refl, h)
-is-ref-of S (Lock i o) u h = true-is-not-false (sym h)
-is-ref-of S (Tid k) u h = true-is-not-false (sym h)
-is-ref-of S (Sem k) u h = true-is-not-false (sym h)
-is-ref-of S (Rwlock r w) u h = true-is-not-false (sym h)
+    → (t ≡ Ref (refLocation t) (content t)) × (agree S (content t) u ≡ true)
+unfolding contains
+is-ref-of S t u h = let (one, agrees) = both-true (is ref t) (agree S (content t) u) h in (is-of ref t one, agrees)
 
 -- ------------------------------------------------------------------ from a type to a test
 
-pub int-is : {t : TypeLine} → t ≡ Int → isInt t ≡ true
-unfolding isInt
-int-is e = rw e
-
-pub tid-is : {t : TypeLine} {k : MapNumber} → t ≡ Tid k → isTid t ≡ true
-unfolding isTid
-tid-is e = rw e
-
-pub lock-is : {t : TypeLine} {i o : MapNumber} → t ≡ Lock i o → isLock t ≡ true
-unfolding isLock
-lock-is e = rw e
-
-pub sem-is : {t : TypeLine} {k : MapNumber} → t ≡ Sem k → isSem t ≡ true
-unfolding isSem
-sem-is e = rw e
-
-pub rwlock-is : {t : TypeLine} {r w : MapNumber} → t ≡ Rwlock r w → isRwlock t ≡ true
-unfolding isRwlock
-rwlock-is e = rw e
-
-pub ref-is : {t : TypeLine} {p : Location} {c : TypeNumber} → t ≡ Ref p c → isRef t ≡ true
-unfolding isRef
-ref-is e = rw e
+pub of-is : {t x : TypeLine} → t ≡ x → is (kindOf x) t ≡ true
+unfolding is
+of-is {x = x} e = rw e (same-kind-itself (kindOf x))
 
 pub ref-of-is : (S : Split) {t : TypeLine} {p : Location} {c : TypeNumber} (u : TypeNumber) → t ≡ Ref p c → agree S c u ≡ true → contains S t u ≡ true
-unfolding contains
+unfolding contains is sameKind content
 ref-of-is S u e h = rw e h
 
-pub tid-load : (S : Split) {t : TypeLine} {k : MapNumber} → t ≡ Tid k → mapAt S (load t) ≡ mapAt S k
-unfolding load
-tid-load S e = rw e
+-- the maps of a type that is known
+pub first-told : (S : Split) {t x : TypeLine} → t ≡ x → mapAt S (firstMap t) ≡ mapAt S (getD (maps x) 0 (record { 0 = 0 }))
+unfolding firstMap
+first-told S e = rw e
 
-pub lock-in : (S : Split) {t : TypeLine} {i o : MapNumber} → t ≡ Lock i o → mapAt S (inLoad t) ≡ mapAt S i
-unfolding inLoad
-lock-in S e = rw e
+pub second-told : (S : Split) {t x : TypeLine} → t ≡ x → mapAt S (secondMap t) ≡ mapAt S (getD (maps x) 1 (record { 0 = 0 }))
+unfolding secondMap
+second-told S e = rw e
 
-pub lock-out : (S : Split) {t : TypeLine} {i o : MapNumber} → t ≡ Lock i o → mapAt S (outLoad t) ≡ mapAt S o
-unfolding outLoad
-lock-out S e = rw e
-
-pub sem-load : (S : Split) {t : TypeLine} {k : MapNumber} → t ≡ Sem k → mapAt S (load t) ≡ mapAt S k
-unfolding load
-sem-load S e = rw e
-
-pub rwlock-read : (S : Split) {t : TypeLine} {r w : MapNumber} → t ≡ Rwlock r w → mapAt S (readLoad t) ≡ mapAt S r
-unfolding readLoad
-rwlock-read S e = rw e
-
-pub rwlock-write : (S : Split) {t : TypeLine} {r w : MapNumber} → t ≡ Rwlock r w → mapAt S (writeLoad t) ≡ mapAt S w
-unfolding writeLoad
-rwlock-write S e = rw e
-
-pub ref-place : {t : TypeLine} {p : Location} {c : TypeNumber} → t ≡ Ref p c → refLocation t ≡ p
+ref-place : {t : TypeLine} {p : Location} {c : TypeNumber} → t ≡ Ref p c → refLocation t ≡ p
 unfolding refLocation
 ref-place e = rw e
 

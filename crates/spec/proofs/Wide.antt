@@ -13,6 +13,7 @@ use Rattle.spec.specs.Conditions.{row, post, startOr, bodyStart, keptBac
 use Rattle.spec.specs.Ranges.{InRange}
 use Rattle.spec.specs.declared.MapNumber.{MapNumber}
 use Rattle.spec.proofs.Clashes.{none-is-not-some}
+use Rattle.spec.proofs.Fits.{some-map}
 
 module _ {P : Program} {S : Split} (R : InRange P S) where
   pub map-wide : (m : MapNumber) → m .0 < length (S .maps) → length (mapAt S m) ≡ S .header .locations
@@ -31,8 +32,7 @@ module _ {P : Program} {S : Split} (R : InRange P S) where
   pub post-wide : (e : Expr) → length (post S e) ≡ S .header .locations
   unfolding post row
   post-wide e =
-      map-wide (row S e .post)
-      (of-row (λ r. r .post .0 < length (S .maps)) (omega (arith, R .mapsCounted, R .mapsFew .0)) e (R .rowPost (indexOf e) noRow))
+      map-wide (row S e .post) (of-row (λ r. r .post .0 < length (S .maps)) (some-map R) e (R .rowPost (indexOf e) noRow))
 
   -- a start that is given is the number of a map
   pub start-fits : (e : Expr) (m : MapNumber) → row S e .start ≡ some m → m .0 < length (S .maps)
@@ -63,14 +63,16 @@ module _ {P : Program} {S : Split} (R : InRange P S) where
       by-cases (yes l) = each l
       by-cases (no l) = rw (List·getD-eq-default (S .signatures) noSignature {n = f} (omega (arith, l))) absent
 
-  pub before-wide : (f : ℕ) → length (mapAt S (signature S f .before)) ≡ S .header .locations
+  pub before-fits : (f : ℕ) → signature S f .before .0 < length (S .maps)
   unfolding signature
-  before-wide f =
-      map-wide (signature S f .before)
-      (of-signature (λ g. g .before .0 < length (S .maps)) (omega (arith, R .mapsCounted, R .mapsFew .0)) f (R .beforeMap f noSignature))
+  before-fits f = of-signature (λ g. g .before .0 < length (S .maps)) (some-map R) f (R .beforeMap f noSignature)
+
+  pub after-fits : (f : ℕ) → signature S f .after .0 < length (S .maps)
+  unfolding signature
+  after-fits f = of-signature (λ g. g .after .0 < length (S .maps)) (some-map R) f (R .afterMap f noSignature)
+
+  pub before-wide : (f : ℕ) → length (mapAt S (signature S f .before)) ≡ S .header .locations
+  before-wide f = map-wide (signature S f .before) (before-fits f)
 
   pub after-wide : (f : ℕ) → length (mapAt S (signature S f .after)) ≡ S .header .locations
-  unfolding signature
-  after-wide f =
-      map-wide (signature S f .after)
-      (of-signature (λ g. g .after .0 < length (S .maps)) (omega (arith, R .mapsCounted, R .mapsFew .0)) f (R .afterMap f noSignature))
+  after-wide f = map-wide (signature S f .after) (after-fits f)

@@ -7,6 +7,7 @@ pub mod Expression
 pub mod Program
 pub mod Split
 pub mod Maps
+pub mod Kinds
 pub mod Agreement
 pub mod Conditions
 pub mod Sites

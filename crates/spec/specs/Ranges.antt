@@ -1,16 +1,21 @@
 -- What the ranges of a split sheet's lines come to: every number that is used as one of its kind is one of its kind.
 use mathlib.Core.Path.{_≡_}
-use mathlib.Core.List.{[]}
+use mathlib.Core.List.{List, [], _∷_}
 use mathlib.Core.Option.{some}
 use Prim.Native.Nat.{ℕ, _≤_, _<_}
 use lib.ListN.{length, getD}
 use Rattle.spec.specs.Program.{Program}
 use Rattle.spec.specs.Split.{Row, Signature, Split}
+use Rattle.spec.specs.Kinds.{maps}
 use Rattle.spec.specs.declared.TypeNumber.{TypeNumber}
 use Rattle.spec.specs.declared.MapNumber.{MapNumber}
 use Rattle.spec.specs.declared.Location.{Location}
-use Rattle.spec.specs.declared.TypeLine.{TypeLine}
 use Rattle.spec.specs.declared.TypeLine.the-variants as type-line
+
+-- each of some maps has a number below n
+abbrev pub AllBelow : (n : ℕ) → List MapNumber → Type 0
+AllBelow n [] = Unit {0}
+AllBelow n (m ∷ ms) = (m .0 < n) × AllBelow n ms
 
 pub record InRange (P : Program) (S : Split) : Type 0 where
   pub denominator : (1 ≤ S .header .denominator) × (S .header .denominator ≤ 1000000000)
@@ -27,14 +32,7 @@ pub record InRange (P : Program) (S : Split) : Type 0 where
   -- the numbers on a type line
   pub refPlace : (t : ℕ) (p : Location) (c : TypeNumber) → t < length (S .types)
       → getD (S .types) t type-line.Int ≡ type-line.Ref p c → (p .0 < S .header .locations) × (c .0 < t)
-  pub lockLoads : (t : ℕ) (i o : MapNumber) → t < length (S .types)
-      → getD (S .types) t type-line.Int ≡ type-line.Lock i o → (i .0 < length (S .maps)) × (o .0 < length (S .maps))
-  pub tidLoad : (t : ℕ) (k : MapNumber) → t < length (S .types)
-      → getD (S .types) t type-line.Int ≡ type-line.Tid k → k .0 < length (S .maps)
-  pub semLoad : (t : ℕ) (k : MapNumber) → t < length (S .types)
-      → getD (S .types) t type-line.Int ≡ type-line.Sem k → k .0 < length (S .maps)
-  pub rwlockLoads : (t : ℕ) (r w : MapNumber) → t < length (S .types)
-      → getD (S .types) t type-line.Int ≡ type-line.Rwlock r w → (r .0 < length (S .maps)) × (w .0 < length (S .maps))
+  pub typeMaps : (t : ℕ) → t < length (S .types) → AllBelow (length (S .maps)) (maps (getD (S .types) t type-line.Int))
   -- the numbers on a procedure's line
   pub beforeMap : (f : ℕ) (d : Signature) → f < length (S .signatures) → getD (S .signatures) f d .before .0 < length (S .maps)
   pub argumentType : (f : ℕ) (d : Signature) → f < length (S .signatures) → getD (S .signatures) f d .argument .0 < length (S .types)

@@ -5,11 +5,13 @@ use mathlib.Core.Option.{Option, none, some}
 use Prim.Native.Nat.{ℕ, _+_}
 use lib.Dec.{leb}
 use lib.ListN.{length}
+use Rattle.spec.specs.Choice.{if_then_else_}
 use Rattle.spec.specs.Reading.{Out, stop, on, _>>=_, demand}
 use Rattle.spec.specs.Expression.{lineOf}
 use Rattle.spec.specs.Program.{Program, program, programLimit}
 use Rattle.spec.specs.Split.{Split, split, splitLimit, mapAt}
 use Rattle.spec.specs.Maps.{_≥ᵐ_, nowhere, overWhole}
+use Rattle.spec.specs.Kinds.{lock, is, firstMap, secondMap}
 use Rattle.spec.specs.Conditions.{startMap}
 use Rattle.spec.specs.Sites.{claimsOf, firstFalse, isType, only}
 use Rattle.spec.specs.Workspace.{workspaceSize}
@@ -17,7 +19,6 @@ use Rattle.spec.specs.declared.Returned.{Returned}
 use Rattle.spec.specs.declared.Answer.{Answer}
 use Rattle.spec.specs.declared.Answer.the-variants.{Accept, Refuse}
 use Rattle.spec.specs.declared.TypeLine.{TypeLine}
-use Rattle.spec.specs.declared.TypeLine.the-variants as type-line
 use Rattle.spec.specs.declared.Refusal.the-variants.{ShortWorkspace, LongProgram, ProgramForm, ProgramRange, ProgramLines, Unbound, Rebound, LongSplit, SplitForm, SplitRange, SplitLines, NoStart, OverOne, TypeFalse, FlowFalse, AccessFalse, NoAfterMaps, TooLarge, TooManyMaps, LockTakesLess, Freelock, NoProcedure, NoKept}
 use Rattle.spec.specs.declared.Purpose.{Purpose}
 use Rattle.spec.specs.declared.Purpose.the-variants.{Check}
@@ -25,12 +26,7 @@ use Rattle.spec.specs.declared.Purpose.the-variants.{Check}
 -- 44, at a type line: "a lock line whose out is below its in at some location"; "lowest such line first"
 module _ (S : Split) where
   unfoldable pub takesEnough : TypeLine → Bool
-  takesEnough type-line.Int = true
-  takesEnough (type-line.Ref p c) = true
-  takesEnough (type-line.Lock i o) = nowhere (mapAt S o ≥ᵐ mapAt S i)
-  takesEnough (type-line.Tid k) = true
-  takesEnough (type-line.Sem k) = true
-  takesEnough (type-line.Rwlock r w) = true
+  takesEnough x = if is lock x then nowhere (mapAt S (secondMap x) ≥ᵐ mapAt S (firstMap x)) else true
 
   -- of the types from line k on
   unfoldable pub allTakeEnough : (k : ℕ) → List TypeLine → Out (Unit {0})

@@ -9,7 +9,7 @@ use Rattle.spec.specs.declared.Purpose.{Purpose}
 use Rattle.spec.specs.declared.TypeLine.{TypeLine}
 use Rattle.lexer.specs.Cursors.{Placed, placeAt}
 use Rattle.lexer.specs.declared.Cursor.{Cursor}
-use Rattle.workspace.specs.Layout.{rowTypesAt, presAt, kindsAt, lineAt, sigBeforesAt, sigArgumentsAt, sigAftersAt, sigResultsAt, mapsAt, stride, emptyMap, emptyRowAt, workSize, kindOf, firstOf, secondOf}
+use Rattle.workspace.specs.Layout.{rowTypesAt, presAt, kindsAt, lineAt, sigBeforesAt, sigArgumentsAt, sigAftersAt, sigResultsAt, mapsAt, stride, emptyMap, emptyRowAt, workSize, kindCode, firstOf, secondOf}
 use Rattle.workspace.specs.Region.{Region, ChangedWithin}
 use Rattle.workspace.specs.Holds.{startNumber}
 use Rattle.workspace.specs.Steps.{stepsFrom}
@@ -26,7 +26,7 @@ pub record Columns {A : Type 0} (f g h : A → ℕ) (b rows : ℕ) (w : List ℕ
   pub third : Region w (b + rows + rows) (map h entries)
 
 abbrev pub HoldsTypes : List ℕ → List TypeLine → Type 0
-HoldsTypes w ts = Columns kindOf firstOf secondOf kindsAt 64 w ts
+HoldsTypes w ts = Columns kindCode firstOf secondOf kindsAt 64 w ts
 
 abbrev pub HoldsRows : List ℕ → List Row → Type 0
 HoldsRows w rows = Columns (λ (r : Row). r .type .0) (λ (r : Row). r .post .0) (λ (r : Row). startNumber (r .start)) rowTypesAt 256 w rows

@@ -11,13 +11,13 @@ use workspace::SECONDS;
 ghost use mathlib.Core.Path.{_≡_};
 ghost use Prim.Native.Nat.{_+_, _<_};
 ghost use lib.ListN.{length, set};
-ghost use Rattle.workspace.specs.Layout.{kindsAt, firstsAt, secondsAt, workSize, kindOf, firstOf, secondOf};
+ghost use Rattle.workspace.specs.Layout.{kindsAt, firstsAt, secondsAt, workSize, kindCode, firstOf, secondOf};
 ghost use Rattle.split.specs.Stored.{Storing, TypesRead};
 
 // Stores a type in the three columns of types.
 fn store_type(work: &mut [u32], own: usize, t: TypeLine)
     requires { ⌜ (length (now work) ≡ workSize) × (own < 64) ⌝ }
-    ensures { λ _. ⌜ now (work .exit) ≡ set (set (set (now (work .entry)) (kindsAt + own) (kindOf t)) (firstsAt + own) (firstOf t)) (secondsAt + own) (secondOf t) ⌝ }
+    ensures { λ _. ⌜ now (work .exit) ≡ set (set (set (now (work .entry)) (kindsAt + own) (kindCode t)) (firstsAt + own) (firstOf t)) (secondsAt + own) (secondOf t) ⌝ }
 {
     work[KINDS + own] = workspace::kind_of(t);
     work[FIRSTS + own] = workspace::first_of(t);

@@ -3,7 +3,7 @@ use mathlib.Core.Path.{_≡_}
 use mathlib.Core.List.{List}
 use Prim.Native.Nat.{ℕ}
 use borrow.Author.Tests.{eq-eqb, ne-eqb}
-use Rattle.spec.specs.Conditions.{refLocation}
+use Rattle.spec.specs.Kinds.{refLocation}
 use Rattle.spec.specs.declared.Location.{Location}
 use Rattle.spec.specs.declared.TypeLine.{TypeLine}
 use Rattle.fill_theory.specs.FlowOf.{asks}

@@ -7,13 +7,13 @@ use lib.ListN.{length, getD}
 use Rattle.spec.specs.Expression.{Expr, leaf, unary, binary, size, Position, indexOf}
 use Rattle.spec.specs.Program.{Program}
 use Rattle.spec.specs.Split.{Split, noRow}
-use Rattle.spec.specs.Conditions.{keptBack, typeAt, mapAt, row, type, kind, K, inMap, outMap, readMap, writeMap, load, inLoad, outLoad, readLoad, writeLoad}
+use Rattle.spec.specs.Kinds.{firstMap, secondMap}
+use Rattle.spec.specs.Conditions.{keptBack, mapAt, row, type, kind, K, inMap, outMap, readMap, writeMap}
 use Rattle.spec.specs.Ranges.{InRange}
+use Rattle.spec.proofs.Fits.{first-fits, second-fits}
 use Rattle.spec.proofs.Listing.{size-positive}
 use Rattle.spec.specs.Maps.{share}
 use Rattle.spec.specs.declared.Location.{Location}
-use Rattle.spec.specs.declared.MapNumber.{MapNumber}
-use Rattle.spec.specs.declared.TypeLine.{TypeLine}
 use Rattle.spec.specs.declared.LeafWord.{LeafWord}
 use Rattle.spec.specs.declared.LeafWord.the-variants.{Var, Int, Newtid, Newlock, Newsem, Newrwlock}
 use Rattle.spec.specs.declared.UnaryWord.{UnaryWord}
@@ -22,7 +22,7 @@ use Rattle.spec.specs.declared.BinaryWord.{BinaryWord}
 use Rattle.spec.specs.declared.BinaryWord.the-variants.{Let, If, Spawn, Write}
 use Rattle.workspace.specs.Layout.{wordsAt, valuesAt, leafCode, unaryCode, binaryCode, printed, ruleOf}
 use Rattle.workspace.specs.Holds.{HoldsSplit}
-use Rattle.workspace.proofs.Shown.{type-number, type-shown, LoadsIn, loads-in, map-stands, has-shown, row-at, row-type, start-at, before-at, after-at}
+use Rattle.workspace.proofs.Shown.{type-number, type-shown, map-stands, has-shown, row-at, row-type, start-at, before-at, after-at}
 use Rattle.workspace.proofs.Expression.{Here, here-index, leaf-code, leaf-number, unary-number, here-called, unary-code, binary-code, here-part, here-first, here-second, here-end}
 use Rattle.fill_theory.specs.declared.Effect.{Effect}
 use Rattle.fill_theory.specs.Flow.{unchanged, taking, giving, needing, lending, alone, steps}
@@ -34,7 +34,7 @@ use Rattle.ways.specs.declared.UnaryWay.{UnaryWay}
 use Rattle.ways.specs.declared.UnaryWay.the-variants.{After, Loop, Call}
 use Rattle.ways.specs.declared.BinaryWay.{BinaryWay}
 use Rattle.ways.specs.declared.BinaryWay.the-variants.{InTurn, Branch, Fork}
-use Rattle.ways.specs.Ways.{cellIn, typeLineIn, loadIn, inLoadIn, outLoadIn, readLoadIn, writeLoadIn, lendingIn, startNumberIn, beforeIn, afterIn, callingIn, accessIn, wayBy, wayIn}
+use Rattle.ways.specs.Ways.{cellIn, typeLineIn, firstIn, secondIn, lendingIn, startNumberIn, beforeIn, afterIn, callingIn, accessIn, wayBy, wayIn}
 use Rattle.ways.specs.Shows.{unaryFlow, binaryFlow, endIn, Shows, leafShown, unaryShown, binaryShown}
 
 module _ (w : List ℕ) (column : Column) (P : Program) (S : Split) (H : HoldsSplit w S) (R : InRange P S)
@@ -53,34 +53,13 @@ module _ (w : List ℕ) (column : Column) (P : Program) (S : Split) (H : HoldsSp
     unfolding typeLineIn kind type
     kind-held = rw (type-number (row-type w S P H R e i index h)) (type-shown w S P H R (row S e .type) type-in)
 
-    -- a map that the type gives, at the location
-    map-held : (reader : TypeLine → MapNumber) → reader (typeAt S (row S e .type)) .0 < length (S .maps)
-        → cellIn w column (reader (typeLineIn w i)) ≡ share (mapAt S (reader (kind S e))) p
-    unfolding cellIn kind type
-    map-held reader l = rw kind-held (has-shown w S P H R p (map-stands w S P H R (reader (typeAt S (row S e .type))) l) within)
+    first-held : firstIn w column i ≡ share (mapAt S (firstMap (kind S e))) p
+    unfolding firstIn cellIn kind type
+    first-held = rw kind-held (has-shown w S P H R p (map-stands w S P H R _ (first-fits R (row S e .type))) within)
 
-    loads : LoadsIn S (typeAt S (row S e .type))
-    loads = loads-in w S P H R (row S e .type) type-in
-
-    load-held : loadIn w column i ≡ loadHere S p e
-    unfolding loadIn loadHere K
-    load-held = map-held load (loads .load-in)
-
-    in-held : inLoadIn w column i ≡ inHere S p e
-    unfolding inLoadIn inHere inMap
-    in-held = map-held inLoad (loads .in-load-in)
-
-    out-held : outLoadIn w column i ≡ outHere S p e
-    unfolding outLoadIn outHere outMap
-    out-held = map-held outLoad (loads .out-load-in)
-
-    read-held : readLoadIn w column i ≡ readHere S p e
-    unfolding readLoadIn readHere readMap
-    read-held = map-held readLoad (loads .read-load-in)
-
-    write-held : writeLoadIn w column i ≡ writeHere S p e
-    unfolding writeLoadIn writeHere writeMap
-    write-held = map-held writeLoad (loads .write-load-in)
+    second-held : secondIn w column i ≡ share (mapAt S (secondMap (kind S e))) p
+    unfolding secondIn cellIn kind type
+    second-held = rw kind-held (has-shown w S P H R p (map-stands w S P H R _ (second-fits R (row S e .type))) within)
 
     start-held : startNumberIn w column i ≡ startHere S p e
     unfolding startNumberIn cellIn startHere
@@ -136,20 +115,11 @@ module _ (w : List ℕ) (column : Column) (P : Program) (S : Split) (H : HoldsSp
 
     -- the constants of its first part
     module _ (e₁ : Expr) (C : Here w count (k + 1) inside vars e₁) (i : k + 1 + size e₁ ≤ length (S .rows)) where
-      part-load : loadIn w column (k + 1) ≡ loadHere S p e₁
-      part-load = load-held e₁ (k + 1) (here-index e₁ C) (omega (arith, size-positive e₁))
+      part-first : firstIn w column (k + 1) ≡ share (mapAt S (firstMap (kind S e₁))) p
+      part-first = first-held e₁ (k + 1) (here-index e₁ C) (omega (arith, size-positive e₁))
 
-      part-in : inLoadIn w column (k + 1) ≡ inHere S p e₁
-      part-in = in-held e₁ (k + 1) (here-index e₁ C) (omega (arith, size-positive e₁))
-
-      part-out : outLoadIn w column (k + 1) ≡ outHere S p e₁
-      part-out = out-held e₁ (k + 1) (here-index e₁ C) (omega (arith, size-positive e₁))
-
-      part-read : readLoadIn w column (k + 1) ≡ readHere S p e₁
-      part-read = read-held e₁ (k + 1) (here-index e₁ C) (omega (arith, size-positive e₁))
-
-      part-write : writeLoadIn w column (k + 1) ≡ writeHere S p e₁
-      part-write = write-held e₁ (k + 1) (here-index e₁ C) (omega (arith, size-positive e₁))
+      part-second : secondIn w column (k + 1) ≡ share (mapAt S (secondMap (kind S e₁))) p
+      part-second = second-held e₁ (k + 1) (here-index e₁ C) (omega (arith, size-positive e₁))
 
       part-access : (d : ℕ) → accessIn w column (k + 1) d ≡ accessHere S p e₁ d
       part-access = access-held e₁ (k + 1) (here-index e₁ C) (omega (arith, size-positive e₁))
@@ -158,7 +128,7 @@ module _ (w : List ℕ) (column : Column) (P : Program) (S : Split) (H : HoldsSp
 
   pub held-shows : (count k : ℕ) (inside : List (ℕ × ℕ)) (vars : List ℕ) (e : Expr) → Here w count k inside vars e → count ≤ length (S .signatures) → k + size e ≤ length (S .rows)
       → Shows w column k (flowOf S p e)
-  unfolding flowOf size printed ruleOf wayBy lendingIn unaryFlow binaryFlow
+  unfolding flowOf loadHere inHere outHere readHere writeHere K inMap outMap readMap writeMap size printed ruleOf wayBy lendingIn unaryFlow binaryFlow
   held-shows count k inside vars (leaf Var l v) C few i = leaf-held count k Var l v unchanged C refl
   held-shows count k inside vars (leaf Int l v) C few i = leaf-held count k Int l v unchanged C refl
   held-shows count k inside vars (binary Let l v e₁ e₂) C few i =
@@ -176,11 +146,11 @@ module _ (w : List ℕ) (column : Column) (P : Program) (S : Split) (H : HoldsSp
   held-shows count k inside vars (binary Spawn l v e₁ e₂) C few i =
       let D = here-first Spawn l v e₁ e₂ C in
       binary-held count k Spawn l v e₁ e₂ (Fork (startHere S p (binary Spawn l v e₁ e₂)) (loadHere S p e₁)) C
-      (ap₂ (λ (n m : ℕ). Binary (Fork n m)) (start-held (binary Spawn l v e₁ e₂) k (here-index (binary Spawn l v e₁ e₂) C) (omega arith)) (part-load count k e₁ D (omega arith))) (held-shows count (k + 1) inside vars e₁ D few (omega arith))
+      (ap₂ (λ (n m : ℕ). Binary (Fork n m)) (start-held (binary Spawn l v e₁ e₂) k (here-index (binary Spawn l v e₁ e₂) C) (omega arith)) (part-first count k e₁ D (omega arith))) (held-shows count (k + 1) inside vars e₁ D few (omega arith))
       (held-shows count (k + 1 + size e₁) _ _ e₂ (here-second Spawn l v e₁ e₂ C) few (omega arith))
   held-shows count k inside vars (unary Join l v e₁) C few i =
       let D = here-part Join l v e₁ C in
-      unary-held count k Join l v e₁ (After (giving (loadHere S p e₁))) C (ap (λ (n : ℕ). Unary (After (giving n))) (part-load count k e₁ D (omega arith))) (held-shows count (k + 1) inside vars e₁ D few (omega arith))
+      unary-held count k Join l v e₁ (After (giving (loadHere S p e₁))) C (ap (λ (n : ℕ). Unary (After (giving n))) (part-first count k e₁ D (omega arith))) (held-shows count (k + 1) inside vars e₁ D few (omega arith))
   held-shows count k inside vars (unary Ref l v e₁) C few i =
       let D = here-part Ref l v e₁ C in
       unary-held count k Ref l v e₁ (After unchanged) C refl (held-shows count (k + 1) inside vars e₁ D few (omega arith))
@@ -194,37 +164,37 @@ module _ (w : List ℕ) (column : Column) (P : Program) (S : Split) (H : HoldsSp
       unary-held count k Read l v e₁ (After (needing (accessHere S p e₁ 1))) C (ap (λ (n : ℕ). Unary (After (needing n))) (part-access count k e₁ D (omega arith) 1)) (held-shows count (k + 1) inside vars e₁ D few (omega arith))
   held-shows count k inside vars (leaf Newlock l v) C few i =
       let e = leaf Newlock l v in
-      leaf-held count k Newlock l v (taking (outHere S p e)) C (ap (λ (n : ℕ). Leaf (taking n)) (out-held e k (here-index e C) (omega arith)))
+      leaf-held count k Newlock l v (taking (outHere S p e)) C (ap (λ (n : ℕ). Leaf (taking n)) (second-held e k (here-index e C) (omega arith)))
   held-shows count k inside vars (unary Lock l v e₁) C few i =
       let D = here-part Lock l v e₁ C in
-      unary-held count k Lock l v e₁ (After (giving (inHere S p e₁))) C (ap (λ (n : ℕ). Unary (After (giving n))) (part-in count k e₁ D (omega arith))) (held-shows count (k + 1) inside vars e₁ D few (omega arith))
+      unary-held count k Lock l v e₁ (After (giving (inHere S p e₁))) C (ap (λ (n : ℕ). Unary (After (giving n))) (part-first count k e₁ D (omega arith))) (held-shows count (k + 1) inside vars e₁ D few (omega arith))
   held-shows count k inside vars (unary Unlock l v e₁) C few i =
       let D = here-part Unlock l v e₁ C in
-      unary-held count k Unlock l v e₁ (After (taking (outHere S p e₁))) C (ap (λ (n : ℕ). Unary (After (taking n))) (part-out count k e₁ D (omega arith))) (held-shows count (k + 1) inside vars e₁ D few (omega arith))
+      unary-held count k Unlock l v e₁ (After (taking (outHere S p e₁))) C (ap (λ (n : ℕ). Unary (After (taking n))) (part-second count k e₁ D (omega arith))) (held-shows count (k + 1) inside vars e₁ D few (omega arith))
   held-shows count k inside vars (leaf Newsem l v) C few i = leaf-held count k Newsem l v unchanged C refl
   held-shows count k inside vars (unary Post l v e₁) C few i =
       let D = here-part Post l v e₁ C in
-      unary-held count k Post l v e₁ (After (taking (loadHere S p e₁))) C (ap (λ (n : ℕ). Unary (After (taking n))) (part-load count k e₁ D (omega arith))) (held-shows count (k + 1) inside vars e₁ D few (omega arith))
+      unary-held count k Post l v e₁ (After (taking (loadHere S p e₁))) C (ap (λ (n : ℕ). Unary (After (taking n))) (part-first count k e₁ D (omega arith))) (held-shows count (k + 1) inside vars e₁ D few (omega arith))
   held-shows count k inside vars (unary Wait l v e₁) C few i =
       let D = here-part Wait l v e₁ C in
-      unary-held count k Wait l v e₁ (After (giving (loadHere S p e₁))) C (ap (λ (n : ℕ). Unary (After (giving n))) (part-load count k e₁ D (omega arith))) (held-shows count (k + 1) inside vars e₁ D few (omega arith))
+      unary-held count k Wait l v e₁ (After (giving (loadHere S p e₁))) C (ap (λ (n : ℕ). Unary (After (giving n))) (part-first count k e₁ D (omega arith))) (held-shows count (k + 1) inside vars e₁ D few (omega arith))
   held-shows count k inside vars (leaf Newrwlock l v) C few i =
       let e = leaf Newrwlock l v in
       leaf-held count k Newrwlock l v (lending (v * readHere S p e) (writeHere S p e)) C
-      (ap₂ (λ (n m : ℕ). Leaf (lending n m)) (ap₂ _*_ (leaf-number Newrwlock l v C) (read-held e k (here-index e C) (omega arith)))
-      (write-held e k (here-index e C) (omega arith)))
+      (ap₂ (λ (n m : ℕ). Leaf (lending n m)) (ap₂ _*_ (leaf-number Newrwlock l v C) (first-held e k (here-index e C) (omega arith)))
+      (second-held e k (here-index e C) (omega arith)))
   held-shows count k inside vars (unary Rdlock l v e₁) C few i =
       let D = here-part Rdlock l v e₁ C in
-      unary-held count k Rdlock l v e₁ (After (giving (readHere S p e₁))) C (ap (λ (n : ℕ). Unary (After (giving n))) (part-read count k e₁ D (omega arith))) (held-shows count (k + 1) inside vars e₁ D few (omega arith))
+      unary-held count k Rdlock l v e₁ (After (giving (readHere S p e₁))) C (ap (λ (n : ℕ). Unary (After (giving n))) (part-first count k e₁ D (omega arith))) (held-shows count (k + 1) inside vars e₁ D few (omega arith))
   held-shows count k inside vars (unary Rdunlock l v e₁) C few i =
       let D = here-part Rdunlock l v e₁ C in
-      unary-held count k Rdunlock l v e₁ (After (taking (readHere S p e₁))) C (ap (λ (n : ℕ). Unary (After (taking n))) (part-read count k e₁ D (omega arith))) (held-shows count (k + 1) inside vars e₁ D few (omega arith))
+      unary-held count k Rdunlock l v e₁ (After (taking (readHere S p e₁))) C (ap (λ (n : ℕ). Unary (After (taking n))) (part-first count k e₁ D (omega arith))) (held-shows count (k + 1) inside vars e₁ D few (omega arith))
   held-shows count k inside vars (unary Wrlock l v e₁) C few i =
       let D = here-part Wrlock l v e₁ C in
-      unary-held count k Wrlock l v e₁ (After (giving (writeHere S p e₁))) C (ap (λ (n : ℕ). Unary (After (giving n))) (part-write count k e₁ D (omega arith))) (held-shows count (k + 1) inside vars e₁ D few (omega arith))
+      unary-held count k Wrlock l v e₁ (After (giving (writeHere S p e₁))) C (ap (λ (n : ℕ). Unary (After (giving n))) (part-second count k e₁ D (omega arith))) (held-shows count (k + 1) inside vars e₁ D few (omega arith))
   held-shows count k inside vars (unary Wrunlock l v e₁) C few i =
       let D = here-part Wrunlock l v e₁ C in
-      unary-held count k Wrunlock l v e₁ (After (taking (writeHere S p e₁))) C (ap (λ (n : ℕ). Unary (After (taking n))) (part-write count k e₁ D (omega arith))) (held-shows count (k + 1) inside vars e₁ D few (omega arith))
+      unary-held count k Wrunlock l v e₁ (After (taking (writeHere S p e₁))) C (ap (λ (n : ℕ). Unary (After (taking n))) (part-second count k e₁ D (omega arith))) (held-shows count (k + 1) inside vars e₁ D few (omega arith))
   held-shows count k inside vars (unary Call l f e₁) C few i =
       let e = unary Call l f e₁ in
       let D = here-part Call l f e₁ C in

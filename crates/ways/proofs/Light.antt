@@ -13,7 +13,7 @@ use Rattle.ways.specs.declared.Way.{Way}
 use Rattle.ways.specs.declared.Way.the-variants.{Leaf, Unary, Binary}
 use Rattle.ways.specs.declared.UnaryWay.the-variants.{After, Loop, Call}
 use Rattle.ways.specs.declared.BinaryWay.the-variants.{InTurn, Branch, Fork}
-use Rattle.ways.specs.Ways.{cellIn, loadIn, inLoadIn, outLoadIn, readLoadIn, writeLoadIn, lendingIn, startNumberIn, beforeIn, afterIn, callingIn, wayBy, wayIn}
+use Rattle.ways.specs.Ways.{cellIn, firstIn, secondIn, lendingIn, startNumberIn, beforeIn, afterIn, callingIn, wayBy, wayIn}
 
 -- what a step moves, or starts or ends a part with
 unfoldable pub moved : Way → ℕ
@@ -42,7 +42,7 @@ started l = omega arith
 
 module _ (w : List ℕ) (column : Column) (fits : (i : ℕ) → getD w i 0 < 4294967296) where
   rule-light : (r : Rule) (k : ℕ) → Light (wayBy r w column k)
-  unfolding moved wayBy unchanged taking giving needing lending loadIn inLoadIn outLoadIn readLoadIn writeLoadIn lendingIn startNumberIn beforeIn afterIn callingIn cellIn mapCell
+  unfolding moved wayBy unchanged taking giving needing lending firstIn secondIn lendingIn startNumberIn beforeIn afterIn callingIn cellIn mapCell
   rule-light VAR k = omega arith
   rule-light INT k = omega arith
   rule-light LET k = omega arith

@@ -2,7 +2,7 @@
 use mathlib.Core.List.{List}
 use Prim.Native.Nat.{ℕ, _+_, _*_}
 use lib.ListN.{getD}
-use Rattle.spec.specs.Conditions.{load, inLoad, outLoad, readLoad, writeLoad, refLocation}
+use Rattle.spec.specs.Kinds.{refLocation, firstMap, secondMap}
 use Rattle.spec.specs.declared.MapNumber.{MapNumber}
 use Rattle.spec.specs.declared.TypeLine.{TypeLine}
 use Rattle.workspace.specs.Layout.{wordsAt, valuesAt, rowTypesAt, startsAt, sigBeforesAt, sigAftersAt, ruleOf, typeAt, mapCell}
@@ -24,25 +24,16 @@ use Rattle.ways.specs.declared.BinaryWay.the-variants.{InTurn, Branch, F
 unfoldable pub cellIn : List ℕ → Column → MapNumber → ℕ
 cellIn w column m = mapCell w m (column .location .0)
 
--- the type of step k; what its load, in and out of its lock type, r and w of its rwlock type, the start of its body, and access through
--- it have or need at the location
+-- the type of step k; what the first of its maps (K of a tid or sem, in of a lock, r of a rwlock), the second (out of a lock, w of a
+-- rwlock), the start of its body, and access through it have or need at the location
 unfoldable pub typeLineIn : List ℕ → (k : ℕ) → TypeLine
 typeLineIn w k = typeAt w (record { 0 = getD w (rowTypesAt + k) 0 })
 
-unfoldable pub loadIn : List ℕ → Column → (k : ℕ) → ℕ
-loadIn w column k = cellIn w column (load (typeLineIn w k))
+unfoldable pub firstIn : List ℕ → Column → (k : ℕ) → ℕ
+firstIn w column k = cellIn w column (firstMap (typeLineIn w k))
 
-unfoldable pub inLoadIn : List ℕ → Column → (k : ℕ) → ℕ
-inLoadIn w column k = cellIn w column (inLoad (typeLineIn w k))
-
-unfoldable pub outLoadIn : List ℕ → Column → (k : ℕ) → ℕ
-outLoadIn w column k = cellIn w column (outLoad (typeLineIn w k))
-
-unfoldable pub readLoadIn : List ℕ → Column → (k : ℕ) → ℕ
-readLoadIn w column k = cellIn w column (readLoad (typeLineIn w k))
-
-unfoldable pub writeLoadIn : List ℕ → Column → (k : ℕ) → ℕ
-writeLoadIn w column k = cellIn w column (writeLoad (typeLineIn w k))
+unfoldable pub secondIn : List ℕ → Column → (k : ℕ) → ℕ
+secondIn w column k = cellIn w column (secondMap (typeLineIn w k))
 
 unfoldable pub startNumberIn : List ℕ → Column → (k : ℕ) → ℕ
 startNumberIn w column k = cellIn w column (record { 0 = getD w (startsAt + k) 0 })
@@ -64,7 +55,7 @@ accessIn w column k d = asks (column .location) (refLocation (typeLineIn w k)) d
 
 -- a new read-write lock takes w, and lends r to as many readers as it has places
 unfoldable pub lendingIn : List ℕ → Column → (k : ℕ) → Effect
-lendingIn w column k = lending (getD w (valuesAt + k) 0 * readLoadIn w column k) (writeLoadIn w column k)
+lendingIn w column k = lending (getD w (valuesAt + k) 0 * firstIn w column k) (secondIn w column k)
 
 -- ------------------------------------------------------------------ the table
 
@@ -76,22 +67,22 @@ wayBy LET w column k = Binary (InTurn unchanged)
 wayBy IF w column k = Binary Branch
 wayBy WHILE w column k = Unary Loop
 wayBy NEWT w column k = Leaf unchanged
-wayBy SPAWN w column k = Binary (Fork (startNumberIn w column k) (loadIn w column (k + 1)))
-wayBy JOIN w column k = Unary (After (giving (loadIn w column (k + 1))))
+wayBy SPAWN w column k = Binary (Fork (startNumberIn w column k) (firstIn w column (k + 1)))
+wayBy JOIN w column k = Unary (After (giving (firstIn w column (k + 1))))
 wayBy REF w column k = Unary (After unchanged)
 wayBy WRITE w column k = Binary (InTurn (needing (accessIn w column (k + 1) (column .denominator))))
 wayBy READ w column k = Unary (After (needing (accessIn w column (k + 1) 1)))
-wayBy NEWL w column k = Leaf (taking (outLoadIn w column k))
-wayBy LCK w column k = Unary (After (giving (inLoadIn w column (k + 1))))
-wayBy ULCK w column k = Unary (After (taking (outLoadIn w column (k + 1))))
+wayBy NEWL w column k = Leaf (taking (secondIn w column k))
+wayBy LCK w column k = Unary (After (giving (firstIn w column (k + 1))))
+wayBy ULCK w column k = Unary (After (taking (secondIn w column (k + 1))))
 wayBy NEWSEM w column k = Leaf unchanged
-wayBy POST w column k = Unary (After (taking (loadIn w column (k + 1))))
-wayBy WAIT w column k = Unary (After (giving (loadIn w column (k + 1))))
+wayBy POST w column k = Unary (After (taking (firstIn w column (k + 1))))
+wayBy WAIT w column k = Unary (After (giving (firstIn w column (k + 1))))
 wayBy NEWRWLOCK w column k = Leaf (lendingIn w column k)
-wayBy RDLOCK w column k = Unary (After (giving (readLoadIn w column (k + 1))))
-wayBy RDUNLOCK w column k = Unary (After (taking (readLoadIn w column (k + 1))))
-wayBy WRLOCK w column k = Unary (After (giving (writeLoadIn w column (k + 1))))
-wayBy WRUNLOCK w column k = Unary (After (taking (writeLoadIn w column (k + 1))))
+wayBy RDLOCK w column k = Unary (After (giving (firstIn w column (k + 1))))
+wayBy RDUNLOCK w column k = Unary (After (taking (firstIn w column (k + 1))))
+wayBy WRLOCK w column k = Unary (After (giving (secondIn w column (k + 1))))
+wayBy WRUNLOCK w column k = Unary (After (taking (secondIn w column (k + 1))))
 wayBy CALL w column k = Unary (callingIn w column k)
 
 -- the way of step k

@@ -19,9 +19,9 @@ use workspace::type_at;
 use workspace::wide;
 ghost use mathlib.Core.Path.{_≡_};
 ghost use Prim.Native.Nat.{_<_};
-ghost use Rattle.spec.specs.Conditions.{load, inLoad, outLoad, readLoad, writeLoad, refLocation};
+ghost use Rattle.spec.specs.Kinds.{refLocation, firstMap, secondMap};
 ghost use Rattle.fill_theory.specs.Flow.{unchanged, taking, giving, needing, lending};
-ghost use Rattle.ways.specs.Ways.{cellIn, typeLineIn, loadIn, inLoadIn, outLoadIn, readLoadIn, writeLoadIn, lendingIn, startNumberIn, beforeIn, afterIn, callingIn, accessIn, wayBy, wayIn};
+ghost use Rattle.ways.specs.Ways.{cellIn, typeLineIn, firstIn, secondIn, lendingIn, startNumberIn, beforeIn, afterIn, callingIn, accessIn, wayBy, wayIn};
 
 // The location that is filled, and the sheet's denominator.
 pub struct Column {
@@ -107,70 +107,28 @@ fn lending(lent: u64, taken: u32) -> Effect
     }
 }
 
-// K of a tid or sem type.
-fn load_of(t: TypeLine) -> MapNumber
-    ensures { λ r. ⌜ r ≡ load t ⌝ }
-{
-    match t {
-        TypeLine::Int => MapNumber(0),
-        TypeLine::Ref(_, _) => MapNumber(0),
-        TypeLine::Lock(_, _) => MapNumber(0),
-        TypeLine::Tid(k) => k,
-        TypeLine::Sem(k) => k,
-        TypeLine::Rwlock(_, _) => MapNumber(0),
-    }
-}
-
-// In of a lock type.
-fn in_load_of(t: TypeLine) -> MapNumber
-    ensures { λ r. ⌜ r ≡ inLoad t ⌝ }
+// The first map of a type: K of a tid or sem, in of a lock, r of a rwlock.
+fn first_map(t: TypeLine) -> MapNumber
+    ensures { λ r. ⌜ r ≡ firstMap t ⌝ }
 {
     match t {
         TypeLine::Int => MapNumber(0),
         TypeLine::Ref(_, _) => MapNumber(0),
         TypeLine::Lock(k, _) => k,
-        TypeLine::Tid(_) => MapNumber(0),
-        TypeLine::Sem(_) => MapNumber(0),
-        TypeLine::Rwlock(_, _) => MapNumber(0),
+        TypeLine::Tid(k) => k,
+        TypeLine::Sem(k) => k,
+        TypeLine::Rwlock(k, _) => k,
     }
 }
 
-// Out of a lock type.
-fn out_load_of(t: TypeLine) -> MapNumber
-    ensures { λ r. ⌜ r ≡ outLoad t ⌝ }
+// The second: out of a lock, w of a rwlock.
+fn second_map(t: TypeLine) -> MapNumber
+    ensures { λ r. ⌜ r ≡ secondMap t ⌝ }
 {
     match t {
         TypeLine::Int => MapNumber(0),
         TypeLine::Ref(_, _) => MapNumber(0),
         TypeLine::Lock(_, k) => k,
-        TypeLine::Tid(_) => MapNumber(0),
-        TypeLine::Sem(_) => MapNumber(0),
-        TypeLine::Rwlock(_, _) => MapNumber(0),
-    }
-}
-
-// r of a rwlock type.
-fn read_load_of(t: TypeLine) -> MapNumber
-    ensures { λ r. ⌜ r ≡ readLoad t ⌝ }
-{
-    match t {
-        TypeLine::Int => MapNumber(0),
-        TypeLine::Ref(_, _) => MapNumber(0),
-        TypeLine::Lock(_, _) => MapNumber(0),
-        TypeLine::Tid(_) => MapNumber(0),
-        TypeLine::Sem(_) => MapNumber(0),
-        TypeLine::Rwlock(k, _) => k,
-    }
-}
-
-// w of a rwlock type.
-fn write_load_of(t: TypeLine) -> MapNumber
-    ensures { λ r. ⌜ r ≡ writeLoad t ⌝ }
-{
-    match t {
-        TypeLine::Int => MapNumber(0),
-        TypeLine::Ref(_, _) => MapNumber(0),
-        TypeLine::Lock(_, _) => MapNumber(0),
         TypeLine::Tid(_) => MapNumber(0),
         TypeLine::Sem(_) => MapNumber(0),
         TypeLine::Rwlock(_, k) => k,
@@ -206,44 +164,19 @@ fn type_in(work: &[u32], k: usize) -> TypeLine
     type_at(work, TypeNumber(at(work, ROW_TYPES + k)))
 }
 
-// K of the type of step k, at the location.
-fn load_in(work: &[u32], column: Column, k: usize) -> u32
+// What the maps of the type of step k have at the location.
+fn first_in(work: &[u32], column: Column, k: usize) -> u32
     requires { ⌜ k < 512 ⌝ }
-    ensures { λ r. ⌜ r ≡ loadIn (now (work .entry)) column k ⌝ }
+    ensures { λ r. ⌜ r ≡ firstIn (now (work .entry)) column k ⌝ }
 {
-    cell_in(work, column, load_of(type_in(work, k)))
+    cell_in(work, column, first_map(type_in(work, k)))
 }
 
-// In of the type of step k, at the location.
-fn in_load_in(work: &[u32], column: Column, k: usize) -> u32
+fn second_in(work: &[u32], column: Column, k: usize) -> u32
     requires { ⌜ k < 512 ⌝ }
-    ensures { λ r. ⌜ r ≡ inLoadIn (now (work .entry)) column k ⌝ }
+    ensures { λ r. ⌜ r ≡ secondIn (now (work .entry)) column k ⌝ }
 {
-    cell_in(work, column, in_load_of(type_in(work, k)))
-}
-
-// Out of the type of step k, at the location.
-fn out_load_in(work: &[u32], column: Column, k: usize) -> u32
-    requires { ⌜ k < 512 ⌝ }
-    ensures { λ r. ⌜ r ≡ outLoadIn (now (work .entry)) column k ⌝ }
-{
-    cell_in(work, column, out_load_of(type_in(work, k)))
-}
-
-// r of the type of step k, at the location.
-fn read_load_in(work: &[u32], column: Column, k: usize) -> u32
-    requires { ⌜ k < 512 ⌝ }
-    ensures { λ r. ⌜ r ≡ readLoadIn (now (work .entry)) column k ⌝ }
-{
-    cell_in(work, column, read_load_of(type_in(work, k)))
-}
-
-// w of the type of step k, at the location.
-fn write_load_in(work: &[u32], column: Column, k: usize) -> u32
-    requires { ⌜ k < 512 ⌝ }
-    ensures { λ r. ⌜ r ≡ writeLoadIn (now (work .entry)) column k ⌝ }
-{
-    cell_in(work, column, write_load_of(type_in(work, k)))
+    cell_in(work, column, second_map(type_in(work, k)))
 }
 
 // What the new read-write lock of step k takes, w, and what it lends to as many readers as it has places.
@@ -252,8 +185,8 @@ fn lending_in(work: &[u32], column: Column, k: usize) -> Effect
     ensures { λ r. ⌜ r ≡ lendingIn (now (work .entry)) column k ⌝ }
 {
     let places = wide(at(work, VALUES + k));
-    let lent = places * wide(read_load_in(work, column, k));
-    lending(lent, write_load_in(work, column, k))
+    let lent = places * wide(first_in(work, column, k));
+    lending(lent, second_in(work, column, k))
 }
 
 // The map that the body of step k starts with, at the location.
@@ -315,26 +248,26 @@ fn way_by(r: Rule, work: &[u32], column: Column, k: usize) -> Way
         Rule::NEWT => Way::Leaf(unchanged()),
         Rule::SPAWN => {
             let start = start_in(work, column, k);
-            Way::Binary(BinaryWay::Fork(start, load_in(work, column, part)))
+            Way::Binary(BinaryWay::Fork(start, first_in(work, column, part)))
         }
-        Rule::JOIN => Way::Unary(UnaryWay::After(giving(load_in(work, column, part)))),
+        Rule::JOIN => Way::Unary(UnaryWay::After(giving(first_in(work, column, part)))),
         Rule::REF => Way::Unary(UnaryWay::After(unchanged())),
         Rule::WRITE => {
             let access = access_in(work, column, part, column.denominator);
             Way::Binary(BinaryWay::InTurn(needing(access)))
         }
         Rule::READ => Way::Unary(UnaryWay::After(needing(access_in(work, column, part, 1)))),
-        Rule::NEWL => Way::Leaf(taking(out_load_in(work, column, k))),
-        Rule::LCK => Way::Unary(UnaryWay::After(giving(in_load_in(work, column, part)))),
-        Rule::ULCK => Way::Unary(UnaryWay::After(taking(out_load_in(work, column, part)))),
+        Rule::NEWL => Way::Leaf(taking(second_in(work, column, k))),
+        Rule::LCK => Way::Unary(UnaryWay::After(giving(first_in(work, column, part)))),
+        Rule::ULCK => Way::Unary(UnaryWay::After(taking(second_in(work, column, part)))),
         Rule::NEWSEM => Way::Leaf(unchanged()),
-        Rule::POST => Way::Unary(UnaryWay::After(taking(load_in(work, column, part)))),
-        Rule::WAIT => Way::Unary(UnaryWay::After(giving(load_in(work, column, part)))),
+        Rule::POST => Way::Unary(UnaryWay::After(taking(first_in(work, column, part)))),
+        Rule::WAIT => Way::Unary(UnaryWay::After(giving(first_in(work, column, part)))),
         Rule::NEWRWLOCK => Way::Leaf(lending_in(work, column, k)),
-        Rule::RDLOCK => Way::Unary(UnaryWay::After(giving(read_load_in(work, column, part)))),
-        Rule::RDUNLOCK => Way::Unary(UnaryWay::After(taking(read_load_in(work, column, part)))),
-        Rule::WRLOCK => Way::Unary(UnaryWay::After(giving(write_load_in(work, column, part)))),
-        Rule::WRUNLOCK => Way::Unary(UnaryWay::After(taking(write_load_in(work, column, part)))),
+        Rule::RDLOCK => Way::Unary(UnaryWay::After(giving(first_in(work, column, part)))),
+        Rule::RDUNLOCK => Way::Unary(UnaryWay::After(taking(first_in(work, column, part)))),
+        Rule::WRLOCK => Way::Unary(UnaryWay::After(giving(second_in(work, column, part)))),
+        Rule::WRUNLOCK => Way::Unary(UnaryWay::After(taking(second_in(work, column, part)))),
         Rule::CALL => Way::Unary(calling_in(work, column, k)),
     }
 }

@@ -9,7 +9,7 @@ use Rattle.spec.specs.declared.Word.the-variants.{Leaf, Unary, Binary}
 use Rattle.spec.specs.declared.LeafWord.the-variants.{Var, Int, Newtid, Newlock, Newsem, Newrwlock}
 use Rattle.spec.specs.declared.UnaryWord.the-variants.{While, Join, Ref, Read, Lock, Unlock, Post, Wait, Rdlock, Rdunlock, Wrlock, Wrunlock, Call}
 use Rattle.spec.specs.declared.BinaryWord.the-variants.{Let, If, Spawn, Write}
-use Rattle.workspace.specs.Layout.{codeOf, printed, ruleOf, wordBy, wordOf, kindOf, firstOf, secondOf, typeOf}
+use Rattle.workspace.specs.Layout.{codeOf, printed, ruleOf, wordBy, wordOf, kindCode, firstOf, secondOf, typeOf}
 
 -- one more than n is passed, for a number that is not n
 pub up : (n : ℕ) {k : ℕ} → n ≤ k → (k ≡ n → ⊥) → n + 1 ≤ k
@@ -41,7 +41,7 @@ word-of-code (Binary If) = refl
 word-of-code (Binary Spawn) = refl
 word-of-code (Binary Write) = refl
 
-pub type-of-numbers : (t : TypeLine) → typeOf (kindOf t) (firstOf t) (secondOf t) ≡ t
+pub type-of-numbers : (t : TypeLine) → typeOf (kindCode t) (firstOf t) (secondOf t) ≡ t
 unfolding typeOf
 type-of-numbers type-line.Int = refl
 type-of-numbers (type-line.Ref p c) = refl

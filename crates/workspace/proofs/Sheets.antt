@@ -12,7 +12,7 @@ use Rattle.spec.specs.Split.{Signature, Row, Split}
 use Rattle.spec.specs.Conditions.{startMap}
 use Rattle.spec.specs.Ranges.{InRange}
 use Rattle.spec.specs.WellFormed.{listing}
-use Rattle.workspace.specs.Layout.{procFirstsAt, mapsAt, stride, emptyMap, kindOf, firstOf, secondOf, rowTypesAt, presAt, workSize}
+use Rattle.workspace.specs.Layout.{procFirstsAt, mapsAt, stride, emptyMap, kindCode, firstOf, secondOf, rowTypesAt, presAt, workSize}
 use Rattle.workspace.specs.Region.{ChangedWithin}
 use Rattle.workspace.specs.Holds.{startNumber, HoldsSplit}
 use Rattle.workspace.specs.Sheets.{HoldsSheets}
@@ -88,7 +88,7 @@ module _ {w w′ : List ℕ} {maps : ℕ} (c : ChangedWithin (mapsAt + stride * 
   split-kept : {P : Program} {S : Split} → InRange P S → S .header .maps ≤ maps → length (P .steps) ≤ 256 → length (P .procedures) ≤ 16
       → HoldsSplit w S → HoldsSplit w′ S
   split-kept {P} {S} R given few procs H = record {
-    kinds = region-kept c (inl (omega (arith, types, length-map (S .types) kindOf))) (H .kinds);
+    kinds = region-kept c (inl (omega (arith, types, length-map (S .types) kindCode))) (H .kinds);
     firsts = region-kept c (inl (omega (arith, types, length-map (S .types) firstOf))) (H .firsts);
     seconds = region-kept c (inl (omega (arith, types, length-map (S .types) secondOf))) (H .seconds);
     maps = λ m l.

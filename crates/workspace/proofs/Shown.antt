@@ -10,16 +10,17 @@ use Rattle.spec.specs.Expression.{Expr, indexOf}
 use Rattle.spec.specs.Program.{Program}
 use Rattle.spec.specs.Split.{Map, Signature, noSignature, Row, noRow, Split}
 use Rattle.spec.specs.Maps.{share}
-use Rattle.spec.specs.Conditions.{typeAt, mapAt, row, post, bodyStart, startOr, signature, refLocation, load, inLoad, outLoad, readLoad, writeLoad}
+use Rattle.spec.specs.Kinds.{firstMap, secondMap}
+use Rattle.spec.specs.Conditions.{typeAt, mapAt, row, post, bodyStart, startOr, signature}
 use Rattle.spec.specs.Ranges.{InRange}
 use Rattle.spec.specs.declared.Location.{Location}
 use Rattle.spec.specs.declared.MapNumber.{MapNumber}
 use Rattle.spec.specs.declared.TypeNumber.{TypeNumber}
-use Rattle.spec.specs.declared.TypeLine.{TypeLine}
-use Rattle.spec.specs.declared.TypeLine.the-variants.{Int, Ref, Lock, Tid, Sem, Rwlock}
+use Rattle.spec.specs.declared.TypeLine.the-variants.{Int}
+use Rattle.spec.proofs.Fits.{first-fits, second-fits}
 use Rattle.workspace.specs.Layout as layout
 use Rattle.workspace.specs.Region.{ChangedWithin}
-use Rattle.workspace.specs.Layout.{presAt, rowTypesAt, postsAt, startsAt, kindsAt, firstsAt, secondsAt, sigBeforesAt, sigArgumentsAt, sigAftersAt, sigResultsAt, mapsAt, stride, emptyMap, mapCell, mapFrom, mapIn, kindOf, firstOf, secondOf}
+use Rattle.workspace.specs.Layout.{presAt, rowTypesAt, postsAt, startsAt, kindsAt, firstsAt, secondsAt, sigBeforesAt, sigArgumentsAt, sigAftersAt, sigResultsAt, mapsAt, stride, emptyMap, mapCell, mapFrom, mapIn, kindCode, firstOf, secondOf}
 use Rattle.workspace.specs.Holds.{HoldsSplit, startNumber}
 use Rattle.workspace.proofs.Region.{column}
 use Rattle.workspace.proofs.Codes.{type-of-numbers}
@@ -63,15 +64,6 @@ pub stands-kept : {w w′ : List ℕ} {S : Split} {m : MapNumber} {x : Map} → 
 unfolding mapIn
 stands-kept {m = m} c p = record { is = from-kept c m 0 _ ∙ p .is }
 
--- K of a tid or sem type, in and out of a lock type, r and w of a rwlock type are maps of the sheet; where they are not asked for they
--- are the first
-pub record LoadsIn (S : Split) (x : TypeLine) : Type 0 where
-  pub load-in : load x .0 < length (S .maps)
-  pub in-load-in : inLoad x .0 < length (S .maps)
-  pub out-load-in : outLoad x .0 < length (S .maps)
-  pub read-load-in : readLoad x .0 < length (S .maps)
-  pub write-load-in : writeLoad x .0 < length (S .maps)
-
 module _ (w : List ℕ) (S : Split) (P : Program) (H : HoldsSplit w S) (R : InRange P S) where
   -- ---------------------------------------------------------------- types
 
@@ -79,43 +71,11 @@ module _ (w : List ℕ) (S : Split) (P : Program) (H : HoldsSplit w S) (R : InRa
   unfolding layout.typeAt typeAt
   type-shown t h =
       rw (
-        column w kindsAt kindOf (S .types) Int (t .0) (H .kinds) h,
+        column w kindsAt kindCode (S .types) Int (t .0) (H .kinds) h,
         column w firstsAt firstOf (S .types) Int (t .0) (H .firsts) h,
         column w secondsAt secondOf (S .types) Int (t .0) (H .seconds) h,
       )
       (type-of-numbers _)
-
-  -- p of a ref type is a location; where it is not asked for it is the first
-  pub place-in : (t : TypeNumber) → t .0 < length (S .types) → refLocation (typeAt S t) .0 < S .header .locations
-  unfolding typeAt refLocation
-  place-in t h = of-line (getD (S .types) (t .0) Int) refl
-    where
-      of-line : (x : TypeLine) → getD (S .types) (t .0) Int ≡ x → refLocation x .0 < S .header .locations
-      of-line Int e = R .locations .0
-      of-line (Ref p c) e = R .refPlace (t .0) p c h e .0
-      of-line (Lock i o) e = R .locations .0
-      of-line (Tid k) e = R .locations .0
-      of-line (Sem k) e = R .locations .0
-      of-line (Rwlock r w) e = R .locations .0
-
-  pub loads-in : (t : TypeNumber) → t .0 < length (S .types) → LoadsIn S (typeAt S t)
-  unfolding typeAt load inLoad outLoad readLoad writeLoad
-  loads-in t h = of-line (getD (S .types) (t .0) Int) refl
-    where
-      first : 0 < length (S .maps)
-      first = omega (arith, R .mapsCounted, R .mapsFew .0)
-
-      of-line : (x : TypeLine) → getD (S .types) (t .0) Int ≡ x → LoadsIn S x
-      of-line Int e = record { load-in = first; in-load-in = first; out-load-in = first; read-load-in = first; write-load-in = first }
-      of-line (Ref p c) e = record { load-in = first; in-load-in = first; out-load-in = first; read-load-in = first; write-load-in = first }
-      of-line (Lock i o) e =
-          let l = R .lockLoads (t .0) i o h e in
-          record { load-in = first; in-load-in = l .0; out-load-in = l .1; read-load-in = first; write-load-in = first }
-      of-line (Tid k) e = record { load-in = R .tidLoad (t .0) k h e; in-load-in = first; out-load-in = first; read-load-in = first; write-load-in = first }
-      of-line (Sem k) e = record { load-in = R .semLoad (t .0) k h e; in-load-in = first; out-load-in = first; read-load-in = first; write-load-in = first }
-      of-line (Rwlock r w) e =
-          let l = R .rwlockLoads (t .0) r w h e in
-          record { load-in = first; in-load-in = first; out-load-in = first; read-load-in = l .0; write-load-in = l .1 }
 
   -- ---------------------------------------------------------------- maps
 
@@ -125,10 +85,12 @@ module _ (w : List ℕ) (S : Split) (P : Program) (H : HoldsSplit w S) (R : InRa
       let e : length (mapAt S m) ≡ S .header .locations = R .mapWide (m .0) h in
       record { is = rw (← e) (cells w m 0 (mapAt S m) (λ i l. ap (mapCell w m) (omega arith) ∙ H .maps (m .0) h .at i l)) }
 
-  -- the map that a type line gives, by some reader of type lines
-  pub given-stands : (reader : TypeLine → MapNumber) (t : TypeNumber) → t .0 < length (S .types) → reader (typeAt S t) .0 < length (S .maps)
-      → Stands w S (reader (layout.typeAt w t)) (mapAt S (reader (typeAt S t)))
-  given-stands reader t h l = rw (type-shown t h) (map-stands (reader (typeAt S t)) l)
+  -- the maps that a type line shows
+  pub first-stands : (t : TypeNumber) → t .0 < length (S .types) → Stands w S (firstMap (layout.typeAt w t)) (mapAt S (firstMap (typeAt S t)))
+  first-stands t h = rw (type-shown t h) (map-stands (firstMap (typeAt S t)) (first-fits R t))
+
+  pub second-stands : (t : TypeNumber) → t .0 < length (S .types) → Stands w S (secondMap (layout.typeAt w t)) (mapAt S (secondMap (typeAt S t)))
+  second-stands t h = rw (type-shown t h) (map-stands (secondMap (typeAt S t)) (second-fits R t))
 
   -- the empty map
   empty-stands : Stands w S (record { 0 = emptyMap }) (replicate (S .header .locations) 0)

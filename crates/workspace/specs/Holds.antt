@@ -13,7 +13,7 @@ use Rattle.spec.specs.declared.MapNumber.{MapNumber}
 use Rattle.spec.specs.declared.Role.{Role}
 use Rattle.spec.specs.declared.Role.the-variants.{Binds, Uses, Calls, Neither}
 use Rattle.spec.specs.declared.Word.the-variants.{Leaf, Unary, Binary}
-use Rattle.workspace.specs.Layout.{wordsAt, valuesAt, endsAt, letsAt, linesAt, procLinesAt, procVarsAt, procFirstsAt, procMark, rowTypesAt, postsAt, startsAt, kindsAt, firstsAt, secondsAt, sigBeforesAt, sigArgumentsAt, sigAftersAt, sigResultsAt, mapsAt, stride, emptyMap, codeOf, kindOf, firstOf, secondOf}
+use Rattle.workspace.specs.Layout.{wordsAt, valuesAt, endsAt, letsAt, linesAt, procLinesAt, procVarsAt, procFirstsAt, procMark, rowTypesAt, postsAt, startsAt, kindsAt, firstsAt, secondsAt, sigBeforesAt, sigArgumentsAt, sigAftersAt, sigResultsAt, mapsAt, stride, emptyMap, codeOf, kindCode, firstOf, secondOf}
 use Rattle.workspace.specs.Region.{Region}
 
 -- ------------------------------------------------------------------ programs
@@ -86,7 +86,7 @@ startNumber (some m) = m .0
 
 -- types, maps and signatures by number, the empty map, rows in step order
 pub record HoldsSplit (w : List ℕ) (S : Split) : Type 0 where
-  pub kinds : Region w kindsAt (map kindOf (S .types))
+  pub kinds : Region w kindsAt (map kindCode (S .types))
   pub firsts : Region w firstsAt (map firstOf (S .types))
   pub seconds : Region w secondsAt (map secondOf (S .types))
   pub maps : (m : ℕ) → m < length (S .maps) → Region w (mapsAt + stride * m) (getD (S .maps) m [])

@@ -5,6 +5,7 @@ use lib.Dec.{eqb}
 use lib.ListN.{getD}
 use Rattle.spec.specs.Choice.{if_then_else_}
 use Rattle.spec.specs.Split.{Map}
+use Rattle.spec.specs.Kinds.{ref, lock, tid, sem, rwlock, code, kindOf}
 use Rattle.spec.specs.declared.TypeNumber.{TypeNumber}
 use Rattle.spec.specs.declared.MapNumber.{MapNumber}
 use Rattle.spec.specs.declared.TypeLine.{TypeLine}
@@ -185,13 +186,9 @@ codeOf (Binary w) = binaryCode w
 
 -- ------------------------------------------------------------------ types
 
-abbrev pub kindOf : TypeLine → ℕ
-kindOf type-line.Int = 0
-kindOf (type-line.Ref p c) = 1
-kindOf (type-line.Lock i o) = 2
-kindOf (type-line.Tid k) = 3
-kindOf (type-line.Sem k) = 4
-kindOf (type-line.Rwlock r w) = 5
+-- the code of a type line's kind, and the two numbers of the line
+abbrev pub kindCode : TypeLine → ℕ
+kindCode t = code (kindOf t)
 
 abbrev pub firstOf : TypeLine → ℕ
 firstOf type-line.Int = 0
@@ -211,11 +208,11 @@ secondOf (type-line.Rwlock r w) = w .0
 
 unfoldable pub typeOf : (kind first second : ℕ) → TypeLine
 typeOf kind first second =
-    if eqb kind 1 then type-line.Ref (record { 0 = first }) (record { 0 = second })
-    else if eqb kind 2 then type-line.Lock (record { 0 = first }) (record { 0 = second })
-    else if eqb kind 3 then type-line.Tid (record { 0 = first })
-    else if eqb kind 4 then type-line.Sem (record { 0 = first })
-    else if eqb kind 5 then type-line.Rwlock (record { 0 = first }) (record { 0 = second })
+    if eqb kind (code ref) then type-line.Ref (record { 0 = first }) (record { 0 = second })
+    else if eqb kind (code lock) then type-line.Lock (record { 0 = first }) (record { 0 = second })
+    else if eqb kind (code tid) then type-line.Tid (record { 0 = first })
+    else if eqb kind (code sem) then type-line.Sem (record { 0 = first })
+    else if eqb kind (code rwlock) then type-line.Rwlock (record { 0 = first }) (record { 0 = second })
     else type-line.Int
 
 unfoldable pub typeAt : List ℕ → TypeNumber → TypeLine

@@ -12,7 +12,7 @@ use spec::Word;
 ghost use mathlib.Core.Path.{_≡_};
 ghost use Prim.Native.Nat.{_+_, _*_, _<_};
 ghost use lib.ListN.{length, getD, replicate};
-ghost use Rattle.workspace.specs.Layout.{codeOf, leafCode, unaryCode, binaryCode, ruleOf, wordBy, wordOf, kindOf, firstOf, secondOf, typeOf, typeAt, mapCell};
+ghost use Rattle.workspace.specs.Layout.{codeOf, leafCode, unaryCode, binaryCode, ruleOf, wordBy, wordOf, kindCode, firstOf, secondOf, typeOf, typeAt, mapCell};
 
 // How many 32-bit numbers a check works in.
 pub const SIZE: usize = 16384;
@@ -265,7 +265,7 @@ pub fn word_of(code: u32) -> Word
 
 // The number that stands for a type line's kind, and the line's two numbers.
 pub fn kind_of(t: TypeLine) -> u32
-    ensures { λ r. ⌜ r ≡ kindOf t ⌝ }
+    ensures { λ r. ⌜ r ≡ kindCode t ⌝ }
 {
     match t {
         TypeLine::Int => 0,

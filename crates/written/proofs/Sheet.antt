@@ -13,7 +13,8 @@ use Rattle.spec.specs.Reading.{splitSheet, on, Seen, right, seen, insist, Range
 use Rattle.spec.specs.Expression.{Step}
 use Rattle.spec.specs.Program.{Program}
 use Rattle.spec.specs.Split.{Map, Header, headings, headerRanges, mapsIn, mapsOf, startOf, headerOf, headed, headerLine, refOf, lockOf, outRange, tidOf, semOf, rwlockOf, typeLine, typeLines, mapLine, Signature, noSignature, signatureOf, signatureLine, Row, noRow, rowOf, startGiven, startRange, postRange, postField, rowLine, Split, split}
-use Rattle.spec.specs.Ranges.{InRange}
+use Rattle.spec.specs.Kinds.{maps}
+use Rattle.spec.specs.Ranges.{AllBelow, InRange}
 use Rattle.spec.specs.Accepted.{AtMost}
 use Rattle.spec.specs.Accepted as accepted
 use Rattle.spec.specs.declared.Heading.{Heading}
@@ -175,17 +176,17 @@ module _ {P : Program} {S : Split} (W : Writable P S) where
       rw (numbers-back (within-below first few-maps (zero-in empty))) (λ j. right (Lock i (record { 0 = sym same j })))
   lock-back C3 i o first second any = rw (numbers-back (within-below first few-maps (within-below second few-maps empty)))
 
-  type-back : (t : ℕ) (τ : TypeLine) → t < length (S .types) → getD (S .types) t Int ≡ τ → typeLine H t (typeFields (H .heading) τ) ≡ right τ
+  type-back : (t : ℕ) (τ : TypeLine) → t < length (S .types) → getD (S .types) t Int ≡ τ → AllBelow (length (S .maps)) (maps τ)
+      → typeLine H t (typeFields (H .heading) τ) ≡ right τ
   unfolding typeLine typeFields same bytes seen refOf lockOf tidOf semOf rwlockOf
-  type-back t Int h e = rw (numbers-back (zero-in (zero-in empty)))
-  type-back t (Ref p c) h e =
+  type-back t Int h e l = rw (numbers-back (zero-in (zero-in empty)))
+  type-back t (Ref p c) h e l =
       let (place, content) = R .refPlace t p c h e in
       rw (numbers-back (within-below place (omega (arith, R .locations)) (within-below content (omega (arith, R .typesFew, R .typesCounted)) empty)))
-  type-back t (Lock i o) h e = let (first, second) = R .lockLoads t i o h e in lock-back (H .heading) i o (a-map first) (a-map second) (W .lockShows t i o h e)
-  type-back t (Tid k) h e = rw (numbers-back (within-below (a-map (R .tidLoad t k h e)) (omega (arith, R .mapsFew)) (zero-in empty)))
-  type-back t (Sem k) h e = rw (numbers-back (within-below (a-map (R .semLoad t k h e)) (omega (arith, R .mapsFew)) (zero-in empty)))
-  type-back t (Rwlock r w) h e =
-      let (first, second) = R .rwlockLoads t r w h e in rw (numbers-back (within-below (a-map first) few-maps (within-below (a-map second) few-maps empty)))
+  type-back t (Lock i o) h e l = lock-back (H .heading) i o (a-map (l .0)) (a-map (l .1 .0)) (W .lockShows t i o h e)
+  type-back t (Tid k) h e l = rw (numbers-back (within-below (a-map (l .0)) few-maps (zero-in empty)))
+  type-back t (Sem k) h e l = rw (numbers-back (within-below (a-map (l .0)) few-maps (zero-in empty)))
+  type-back t (Rwlock r w) h e l = rw (numbers-back (within-below (a-map (l .0)) few-maps (within-below (a-map (l .1 .0)) few-maps empty)))
 
   map-back : (m : Map) → length m ≡ H .locations → AtMost 1000000000 m → mapLine H (mapFields m) ≡ right m
   unfolding mapLine mapFields
@@ -226,7 +227,7 @@ module _ {P : Program} {S : Split} (W : Writable P S) where
       let τ = getD (S .types) t Int in
       let own : 0 + t ≡ t = omega arith in
       let read = type-lines-at H 0 (H .types) t (typeLine H 0) (omega (arith, R .typesCounted)) ∙ ap (typeLine H) own in
-      (type-plain (H .heading) τ, ap (λ (f : List Field → Seen TypeLine). f (typeFields (H .heading) τ)) read ∙ type-back t τ h refl))
+      (type-plain (H .heading) τ, ap (λ (f : List Field → Seen TypeLine). f (typeFields (H .heading) τ)) read ∙ type-back t τ h refl (R .typeMaps t h)))
 
   maps-back : Spells (replicate (H .maps) (mapLine H)) (map mapFields (S .maps)) (S .maps)
   maps-back = each-spelled mapFields (replicate (H .maps) (mapLine H)) (S .maps) (mapLine H) [] (R .mapsCounted ∙ sym (length-replicate (H .maps) (mapLine H))) (λ n h.

@@ -1,5 +1,5 @@
 -- A row for each kind of type.
-use Rattle.spec.specs.Conditions.{refLocation}
+use Rattle.spec.specs.Kinds.{refLocation}
 use borrow.Author.Needs.{needs}
 use Rattle.ways.proofs.place_of.Statement.{statement}
 use Rattle.ways.proofs.place_of.Tie as tie

@@ -1,7 +1,8 @@
 -- No lock, or a lock whose out and in are compared.
 use Rattle.spec.specs.Reading.{demand}
+use Rattle.spec.specs.Kinds.{lock}
 use Rattle.conditions.specs.Outcome.{outcome}
-use Rattle.conditions.proofs.TypeKinds.{not-lock}
+use Rattle.conditions.proofs.TypeKinds.{not-of}
 use Rattle.conditions.proofs.LockLines.{no-lock-line, lock-line}
 use borrow.Author.Needs.{needs}
 use Rattle.conditions.proofs.locks.check_lock.Statement.{statement}
@@ -9,7 +10,7 @@ use Rattle.conditions.proofs.locks.check_lock.Tie as tie
 
 returns : tie.Need-returns
 unfolding outcome
-returns c = no-lock-line _ _ _ (c .before .type-at .ensures) (not-lock _ (c .match .keys2))
+returns c = no-lock-line _ _ _ (c .before .type-at .ensures) (not-of lock _ (c .match .keys2))
 
 returns-2 : tie.Need-returns-2
 unfolding outcome demand

@@ -3,7 +3,8 @@ use borrow.Author.Needs.{needs}
 use mathlib.Core.Path.{sym, _∙_}
 use native.Mathlib.Omega.{arith}
 use Prim.Native.Nat.{ℕ, _<_}
-use Rattle.conditions.proofs.TypeKinds.{not-ref}
+use Rattle.spec.specs.Kinds.{ref}
+use Rattle.conditions.proofs.TypeKinds.{not-of}
 use Rattle.conditions.proofs.Agreement.{itself-agrees, plain-agree, ref-alone, refs-apart, refs-not-smaller, refs-by-contents}
 use borrow.Fn.Kinds.{In}
 use borrow.Fn.PlainCycle.{Measures, is, falls, and}
@@ -53,7 +54,7 @@ alone t c =
     let at-kind = other .before .before .before in
     let first = at-kind .before .before in
     sym (ref-alone _ _ _ _ (first .before .before .if1 .left) (first .type-at .ensures) (other .type-at3 .ensures) (at-kind .kind .given .1)
-    (not-ref _ (c .match2 .keys2)))
+    (not-of ref _ (c .match2 .keys2)))
 
 apart : (t : ℕ) → agree-lts.Need-returns-4 (calls t) (agree-at t) agree.Post
 apart t c =

@@ -1,6 +1,7 @@
 -- No lock on one side, or two locks.
 use mathlib.Core.Path.{_∙_}
-use Rattle.conditions.proofs.TypeKinds.{not-lock}
+use Rattle.spec.specs.Kinds.{lock}
+use Rattle.conditions.proofs.TypeKinds.{not-of}
 use Rattle.conditions.proofs.Agreement.{shown-no-lock, own-no-lock, both-locks}
 use borrow.Author.Needs.{needs}
 use Rattle.conditions.proofs.types.may_show.Statement.{statement}
@@ -20,10 +21,10 @@ may-show-spec =
     (λ c κs. search needs)
     (λ c. search needs)
     (λ c κs. search needs)
-    (λ c. c .agrees .ensures ∙ shown-no-lock _ _ _ _ (c .before .before .type-at .ensures) (not-lock _ (c .before .match .keys2)))
+    (λ c. c .agrees .ensures ∙ shown-no-lock _ _ _ _ (c .before .before .type-at .ensures) (not-of lock _ (c .before .match .keys2)))
     (λ c κs. search needs)
     (λ c. search needs)
     (λ c κs. search needs)
-    (λ c. c .agrees2 .ensures ∙ own-no-lock _ _ _ _ (c .before .before .type-at2 .ensures) (not-lock _ (c .before .match2 .keys2)))
+    (λ c. c .agrees2 .ensures ∙ own-no-lock _ _ _ _ (c .before .before .type-at2 .ensures) (not-of lock _ (c .before .match2 .keys2)))
     (λ c κs. search needs)
     returns-3)

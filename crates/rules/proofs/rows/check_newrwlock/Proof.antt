@@ -1,13 +1,13 @@
 use mathlib.Core.Path.{refl}
-use Rattle.spec.specs.Conditions.{isRwlock, readLoad, writeLoad}
+use Rattle.spec.specs.Kinds.{rwlock, sameKind, is, firstMap, secondMap}
 use Rattle.conditions.proofs.FirstFalse.{last, next, pass, fail}
-use Rattle.conditions.proofs.TypeKinds.{not-rwlock}
+use Rattle.conditions.proofs.TypeKinds.{not-of}
 use borrow.Author.Needs.{needs}
 use Rattle.rules.proofs.rows.check_newrwlock.Statement.{statement}
 use Rattle.rules.proofs.rows.check_newrwlock.Tie as tie
 
 returns-2 : tie.Need-returns-2
-unfolding isRwlock readLoad writeLoad
+unfolding is sameKind firstMap secondMap
 returns-2 c =
     rw (c .before .before .before .before .kind .given .1)
     (pass _ _ _ _ refl
@@ -20,7 +20,7 @@ check-newrwlock-spec =
     (tie.spec
     (λ c. search needs)
     (λ c κs. search needs)
-    (λ c. fail _ _ _ _ (not-rwlock _ (c .before .match .keys2)) (c .type-false .ensures))
+    (λ c. fail _ _ _ _ (not-of rwlock _ (c .before .match .keys2)) (c .type-false .ensures))
     (λ c κs. search needs)
     (λ c κs. search needs)
     (λ c κs. search needs)

@@ -1,17 +1,16 @@
-use mathlib.Core.Path.{ap}
-use Rattle.spec.specs.Conditions.{isSem}
+use Rattle.spec.specs.Kinds.{sem}
+use Rattle.spec.proofs.TypeKinds.{of-is}
 use Rattle.conditions.proofs.FirstFalse.{last, pass, fail}
-use Rattle.conditions.proofs.TypeKinds.{not-sem}
+use Rattle.conditions.proofs.TypeKinds.{not-of}
 use borrow.Author.Needs.{needs}
 use Rattle.rules.proofs.rows.check_newsem.Statement.{statement}
 use Rattle.rules.proofs.rows.check_newsem.Tie as tie
 
 returns : tie.Need-returns
-returns c = fail _ _ _ _ (not-sem _ (c .before .match .keys2)) (c .type-false .ensures)
+returns c = fail _ _ _ _ (not-of sem _ (c .before .match .keys2)) (c .type-false .ensures)
 
 returns-2 : tie.Need-returns-2
-unfolding isSem
-returns-2 c = pass _ _ _ _ (ap isSem (c .before .enum-told .given .1)) (last _ _ _ (c .equal .ensures))
+returns-2 c = pass _ _ _ _ (of-is (c .before .enum-told .given .1)) (last _ _ _ (c .equal .ensures))
 
 pub check-newsem-spec : {M : Type 1} → statement M
 check-newsem-spec =

@@ -1,16 +1,16 @@
 -- The four conditions of `read`, each told by the test or the call that judges it.
 use mathlib.Core.Path.{refl, sym, _∙_}
 use borrow.Author.Tests.{not-true, not-false}
-use Rattle.spec.specs.Conditions.{isRef, refLocation}
+use Rattle.spec.specs.Kinds.{ref, sameKind, is, refLocation, content}
 use Rattle.conditions.proofs.FirstFalse.{last, next, pass, fail}
-use Rattle.conditions.proofs.TypeKinds.{not-ref}
+use Rattle.conditions.proofs.TypeKinds.{not-of}
 use Rattle.conditions.specs.Agreement.{containsIn}
 use borrow.Author.Needs.{needs}
 use Rattle.rules.proofs.rows.check_read.Statement.{statement}
 use Rattle.rules.proofs.rows.check_read.Tie as tie
 
 returns-2 : tie.Need-returns-2
-unfolding isRef containsIn
+unfolding is sameKind containsIn content
 returns-2 c =
     let content = c .before .before in
     rw (content .before .before .kind1 .given .1)
@@ -18,7 +18,7 @@ returns-2 c =
     (fail _ _ _ _ (sym (content .agrees .ensures) ∙ not-true _ (c .before .if1 .taken)) (c .type-false2 .ensures)))
 
 returns-3 : tie.Need-returns-3
-unfolding isRef refLocation containsIn
+unfolding is sameKind refLocation containsIn content
 returns-3 c =
     let test = c .before .before .before in
     let content = test .before in
@@ -34,7 +34,7 @@ check-read-spec =
     (tie.spec
     (λ c. search needs)
     (λ c κs. search needs)
-    (λ c. fail _ _ _ _ (not-ref _ (c .before .match .keys2)) (c .type-false .ensures))
+    (λ c. fail _ _ _ _ (not-of ref _ (c .before .match .keys2)) (c .type-false .ensures))
     (λ c κs. search needs)
     (λ c κs. search needs)
     returns-2

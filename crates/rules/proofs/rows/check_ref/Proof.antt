@@ -1,5 +1,6 @@
 use mathlib.Core.Path.{sym, _∙_}
 use borrow.Author.Tests.{not-true, not-false}
+use Rattle.spec.specs.Kinds.{sameKind, is, content}
 use Rattle.conditions.proofs.FirstFalse.{last, pass, fail}
 use Rattle.conditions.proofs.TypeKinds.{not-contains}
 use Rattle.conditions.specs.Agreement.{containsIn}
@@ -8,14 +9,14 @@ use Rattle.rules.proofs.rows.check_ref.Statement.{statement}
 use Rattle.rules.proofs.rows.check_ref.Tie as tie
 
 returns-2 : tie.Need-returns-2
-unfolding containsIn
+unfolding containsIn is sameKind content
 returns-2 c =
     let content = c .before .before in
     rw (content .before .before .kind .given .1)
     (fail _ _ _ _ (sym (content .agrees .ensures) ∙ not-true _ (c .before .if1 .taken)) (c .type-false2 .ensures))
 
 returns-3 : tie.Need-returns-3
-unfolding containsIn
+unfolding containsIn is sameKind content
 returns-3 c =
     let content = c .before .before in
     rw (content .before .before .kind .given .1)

@@ -1,15 +1,14 @@
-use mathlib.Core.Path.{ap}
-use Rattle.spec.specs.Conditions.{isInt}
+use Rattle.spec.specs.Kinds.{int}
+use Rattle.spec.proofs.TypeKinds.{of-is}
 use Rattle.conditions.proofs.FirstFalse.{last, next, pass, fail}
-use Rattle.conditions.proofs.TypeKinds.{not-int}
+use Rattle.conditions.proofs.TypeKinds.{not-of}
 use borrow.Author.Needs.{needs}
 use Rattle.rules.proofs.rows.check_while.Statement.{statement}
 use Rattle.rules.proofs.rows.check_while.Tie as tie
 
 returns-2 : tie.Need-returns-2
-unfolding isInt
 returns-2 c =
-    pass _ _ _ _ (ap isInt (c .before .before .before .before .enum-told .given .1))
+    pass _ _ _ _ (of-is (c .before .before .before .before .enum-told .given .1))
     (next _ _ _ _ _ _ (c .also .ensures) (c .before .before .at-least .ensures)
     (last _ _ _ (c .before .at-least2 .ensures)))
 
@@ -19,7 +18,7 @@ check-while-spec =
     (tie.spec
     (λ c. search needs)
     (λ c κs. search needs)
-    (λ c. fail _ _ _ _ (not-int _ (c .before .match .keys2)) (c .type-false .ensures))
+    (λ c. fail _ _ _ _ (not-of int _ (c .before .match .keys2)) (c .type-false .ensures))
     (λ c κs. search needs)
     (λ c κs. search needs)
     (λ c κs. search needs)

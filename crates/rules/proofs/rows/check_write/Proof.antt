@@ -1,22 +1,22 @@
 -- The five conditions of `write`, each told by the test or the call that judges it.
-use mathlib.Core.Path.{refl, sym, ap, _∙_}
+use mathlib.Core.Path.{refl, sym, _∙_}
 use borrow.Author.Tests.{not-true, not-false}
-use Rattle.spec.specs.Conditions.{isInt, isRef, refLocation}
+use Rattle.spec.specs.Kinds.{int, ref, sameKind, is, refLocation, content}
+use Rattle.spec.proofs.TypeKinds.{of-is}
 use Rattle.conditions.proofs.FirstFalse.{last, next, pass, fail}
-use Rattle.conditions.proofs.TypeKinds.{not-int, not-ref}
+use Rattle.conditions.proofs.TypeKinds.{not-of}
 use Rattle.conditions.specs.Agreement.{containsIn}
 use borrow.Author.Needs.{needs}
 use Rattle.rules.proofs.rows.check_write.Statement.{statement}
 use Rattle.rules.proofs.rows.check_write.Tie as tie
 
 returns-2 : tie.Need-returns-2
-unfolding isInt
 returns-2 c =
-    pass _ _ _ _ (ap isInt (c .before .before .enum-told .given .1))
-    (fail _ _ _ _ (not-ref _ (c .before .match2 .keys2)) (c .type-false2 .ensures))
+    pass _ _ _ _ (of-is (c .before .before .enum-told .given .1))
+    (fail _ _ _ _ (not-of ref _ (c .before .match2 .keys2)) (c .type-false2 .ensures))
 
 returns-3 : tie.Need-returns-3
-unfolding isInt isRef containsIn
+unfolding is sameKind containsIn content
 returns-3 c =
     let content = c .before .before in
     let part = content .before .before in
@@ -26,7 +26,7 @@ returns-3 c =
     (fail _ _ _ _ (sym (content .agrees .ensures) ∙ not-true _ (c .before .if1 .taken)) (c .type-false3 .ensures))))
 
 returns-4 : tie.Need-returns-4
-unfolding isInt isRef refLocation containsIn
+unfolding is sameKind refLocation containsIn content
 returns-4 c =
     let test = c .before .before .before in
     let content = test .before in
@@ -44,7 +44,7 @@ check-write-spec =
     (tie.spec
     (λ c. search needs)
     (λ c κs. search needs)
-    (λ c. fail _ _ _ _ (not-int _ (c .before .match .keys2)) (c .type-false .ensures))
+    (λ c. fail _ _ _ _ (not-of int _ (c .before .match .keys2)) (c .type-false .ensures))
     (λ c. search needs)
     (λ c κs. search needs)
     returns-2

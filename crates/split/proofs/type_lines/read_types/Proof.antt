@@ -5,7 +5,7 @@ use Prim.Native.Nat.{_-_}
 use native.Mathlib.Omega.{arith}
 use Rattle.spec.specs.Split.{typeLine}
 use Rattle.lexer.specs.Cursors.{placeAt}
-use Rattle.workspace.specs.Layout.{kindsAt, lineAt, kindOf, firstOf, secondOf}
+use Rattle.workspace.specs.Layout.{kindsAt, lineAt, kindCode, firstOf, secondOf}
 use Rattle.workspace.specs.Sheets.{headerTold}
 use Rattle.workspace.proofs.Region.{changed-nothing}
 use Rattle.split_lines.specs.Answers.{TypeAnswer}
@@ -28,7 +28,7 @@ start s = s .before .before .before
 loop-holds : tie.Need-loop-holds Inv-loop μ-loop
 loop-holds c =
     let entry = c .before .before in
-    first-stage (columns-empty kindOf firstOf secondOf kindsAt 64 (entry .args .work .now) (omega (arith, entry .pre .whole))) (entry .pre .reading .placed)
+    first-stage (columns-empty kindCode firstOf secondOf kindsAt 64 (entry .args .work .now) (omega (arith, entry .pre .whole))) (entry .pre .reading .placed)
 
 type-line-requires : tie.Need-type-line-requires Inv-loop μ-loop
 type-line-requires c κs =
@@ -59,7 +59,7 @@ loop-again c =
     let line = found .before .before in
     let turn = line .before .before in
     let answer = subst (TypeAnswer _ _) (found .found .given .1) (line .type-line .ensures) in
-    columns-on kindOf firstOf secondOf kindsAt 64 (start turn .pre .small .types) (omega (arith, start turn .pre .whole)) (turn .loop .inv) (line .before .loop-test .taken) (answer .0) (answer .1) (stored .store-type .ensures)
+    columns-on kindCode firstOf secondOf kindsAt 64 (start turn .pre .small .types) (omega (arith, start turn .pre .whole)) (turn .loop .inv) (line .before .loop-test .taken) (answer .0) (answer .1) (stored .store-type .ensures)
 
 returns-2 : tie.Need-returns-2 Inv-loop μ-loop
 returns-2 c =

@@ -1,12 +1,12 @@
 -- A row for each kind of type.
-use Rattle.spec.specs.Conditions.{load}
+use Rattle.spec.specs.Kinds.{firstMap}
 use borrow.Author.Needs.{needs}
-use Rattle.ways.proofs.load_of.Statement.{statement}
-use Rattle.ways.proofs.load_of.Tie as tie
+use Rattle.ways.proofs.first_map.Statement.{statement}
+use Rattle.ways.proofs.first_map.Tie as tie
 
-pub load-of-spec : {M : Type 1} → statement M
-unfolding load
-load-of-spec =
+pub first-map-spec : {M : Type 1} → statement M
+unfolding firstMap
+first-map-spec =
     tie.close
     (tie.spec
     (λ c. search needs)
@@ -17,7 +17,7 @@ load-of-spec =
     (λ c. search needs)
     (λ c. rw (c .enum-told .given .1))
     (λ c. rw (c .enum-told2 .given .1))
-    (λ c. rw (c .enum-told3 .given .1))
     (λ c. rw (c .before .t .given .1))
     (λ c. rw (c .before .t2 .given .1))
-    (λ c. rw (c .enum-told4 .given .1)))
+    (λ c. rw (c .before .t3 .given .1))
+    (λ c. rw (c .before .t4 .given .1)))

@@ -1,12 +1,12 @@
 -- A row for each kind of type.
-use Rattle.spec.specs.Conditions.{writeLoad}
+use Rattle.spec.specs.Kinds.{secondMap}
 use borrow.Author.Needs.{needs}
-use Rattle.ways.proofs.write_load_of.Statement.{statement}
-use Rattle.ways.proofs.write_load_of.Tie as tie
+use Rattle.ways.proofs.second_map.Statement.{statement}
+use Rattle.ways.proofs.second_map.Tie as tie
 
-pub write-load-of-spec : {M : Type 1} → statement M
-unfolding writeLoad
-write-load-of-spec =
+pub second-map-spec : {M : Type 1} → statement M
+unfolding secondMap
+second-map-spec =
     tie.close
     (tie.spec
     (λ c. search needs)
@@ -17,7 +17,7 @@ write-load-of-spec =
     (λ c. search needs)
     (λ c. rw (c .enum-told .given .1))
     (λ c. rw (c .enum-told2 .given .1))
+    (λ c. rw (c .before .t .given .1))
     (λ c. rw (c .enum-told3 .given .1))
     (λ c. rw (c .enum-told4 .given .1))
-    (λ c. rw (c .enum-told5 .given .1))
-    (λ c. rw (c .before .t .given .1)))
+    (λ c. rw (c .before .t2 .given .1)))
