@@ -1,10 +1,1 @@
-pub mod Walking
-pub mod OnTypes
-pub mod Counted
-pub mod Asked
-pub mod Claims
-pub mod Scopes
-pub mod Views
-pub mod OneStep
-pub mod Transfer
 pub mod Procedures

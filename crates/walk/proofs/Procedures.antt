@@ -30,13 +30,15 @@ use Rattle.conditions.specs.Outcome.{both}
 use Rattle.conditions.specs.SheetOutcomes.{startOutcome}
 use Rattle.conditions.proofs.Shown.{within-shown}
 use Rattle.rules.proofs.TableRows.{procedure-shown}
-use Rattle.walk.specs.Walk.{cell, counted, putPre, walk, procedureOutcome, bodyOutcome}
-use Rattle.walk.specs.Contract.{ruledFor, asked}
-use Rattle.walk.proofs.Asked.{procedure-counted}
-use Rattle.walk.proofs.Claims.{firstAsked, asked-parts, none-asked}
-use Rattle.walk.proofs.Scopes.{by-procedure, scoped-none, scoped-more}
-use Rattle.walk.proofs.Views.{part-at, signed}
-use Rattle.walk.proofs.Transfer.{expression-shown}
+use Rattle.steps.specs.Walk.{cell, counted, putPre, walk}
+use Rattle.walk.specs.Bodies.{procedureOutcome, bodyOutcome}
+use Rattle.walk.specs.Contract.{ruledFor}
+use Rattle.steps.specs.Asked.{asked}
+use Rattle.steps.proofs.Asked.{procedure-counted}
+use Rattle.steps.proofs.Claims.{firstAsked, asked-parts, none-asked}
+use Rattle.steps.proofs.Scopes.{by-procedure, scoped-none, scoped-more}
+use Rattle.steps.proofs.Views.{part-at, signed}
+use Rattle.steps.proofs.Transfer.{expression-shown}
 
 -- ------------------------------------------------------------------ where they stand
 

@@ -5,7 +5,7 @@ use Prim.Native.Nat.{ℕ, _+_, _≤_}
 use Rattle.spec.specs.Reading.{Out, _>>=_}
 use Rattle.spec.specs.Program.{Program}
 use Rattle.spec.specs.Split.{Split}
-use Rattle.spec.specs.Sites.{Claim, claimsOfProcedures, firstFalse, isType, only}
+use Rattle.spec.specs.Sites.{claimsOfProcedures, firstFalse}
 use Rattle.spec.specs.Verdict.{locksTakeEnough, startAtMostOne, ruled, typed}
 use Rattle.spec.specs.declared.Purpose.{Purpose}
 use Rattle.spec.specs.declared.Purpose.the-variants.{Check, Fill}
@@ -15,16 +15,12 @@ use Rattle.workspace.specs.Sheets.{HoldsSheets}
 use Rattle.workspace.specs.declared.Header.{Header}
 use Rattle.conditions.specs.Outcome.{outcome}
 use Rattle.conditions.specs.declared.Ruling.{Ruling}
+use Rattle.steps.specs.Asked.{asked}
 
 -- the conditions by purpose: all of them, 31 to 33, or those on types, 31
 unfoldable pub ruledFor : Purpose → Program → Split → Out (Unit {0})
 ruledFor Check P S = ruled P S
 ruledFor Fill P S = typed P S
-
--- the claims that are asked for by purpose
-unfoldable pub asked : Purpose → List Claim → List Claim
-asked Check cs = cs
-asked Fill cs = only isType cs
 
 -- from w to w′, with the ruling r on the bodies: the answer is the first false claim of the procedures of whichever sheets with so many
 -- procedures, this denominator and so many locations w holds

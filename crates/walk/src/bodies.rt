@@ -1,13 +1,13 @@
 // The bodies of the procedures, called or not, then the root.
-use super::columns::cell;
-use super::columns::signature_of;
-use super::steps::check_steps;
-use super::steps::refuses;
 use conditions::Ruling;
 use rules::check_procedure;
 use spec::MapNumber;
 use spec::Purpose;
 use spec::TypeNumber;
+use steps::cell;
+use steps::check_steps;
+use steps::refuses;
+use steps::signature_of;
 use workspace::POSTS;
 use workspace::PROC_FIRSTS;
 use workspace::PROC_LINES;
@@ -18,7 +18,7 @@ ghost use lib.ListN.{length};
 ghost use Rattle.workspace.specs.Layout.{presAt, workSize};
 ghost use Rattle.workspace.specs.Region.{ChangedWithin};
 ghost use Rattle.conditions.specs.Outcome.{outcome};
-ghost use Rattle.walk.specs.Walk.{procedureOutcome, bodyOutcome};
+ghost use Rattle.walk.specs.Bodies.{procedureOutcome, bodyOutcome};
 ghost use Rattle.walk.specs.Contract.{BodiesRuled, ProgramRuled};
 
 // The conditions at the `proc` line of procedure f.

@@ -1,17 +1,14 @@
 // The walk over a program and its split as the work space holds them: the lock lines and the start, then line by line the
 // conditions of each procedure and of each step.
 mod bodies;
-mod columns;
-mod steps;
-mod table;
 
 use bodies::check_program;
-use columns::cell;
 use conditions::Ruling;
 use conditions::check_locks;
 use conditions::check_start;
 use spec::MapNumber;
 use spec::Purpose;
+use steps::cell;
 use workspace::Header;
 use workspace::LINES;
 use workspace::PROC_FIRSTS;

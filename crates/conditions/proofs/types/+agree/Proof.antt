@@ -46,7 +46,7 @@ plain t c =
     let no-ref = other .before .before .before in
     let first = no-ref .before in
     c .agree-plain .ensures
-    ∙ plain-agree _ _ _ _ (first .before .before .if1 .left) (first .type-at .ensures) (other .type-at2 .ensures) (no-ref .match .keys2)
+    ∙ plain-agree _ _ _ _ (first .before .before .if1 .left) (first .type-at .ensures) (other .type-at2 .ensures) (not-of ref _ (no-ref .match .keys2))
 
 alone : (t : ℕ) → agree-lts.Need-returns-3 (calls t) (agree-at t) agree.Post
 alone t c =

@@ -1,5 +1,5 @@
 use mathlib.Core.Path.{_∙_}
-use Rattle.walk.specs.Walk.{procedureOutcome}
+use Rattle.walk.specs.Bodies.{procedureOutcome}
 use borrow.Author.Needs.{needs}
 use Rattle.walk.proofs.bodies.check_proc_line.Statement.{statement}
 use Rattle.walk.proofs.bodies.check_proc_line.Tie as tie

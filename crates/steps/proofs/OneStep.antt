@@ -1,0 +1,170 @@
+-- One step of an expression that the work space holds: its conditions are document 01's, and what it hands down to its parts
+-- are the maps before them.
+use mathlib.Core.Path.{_≡_, refl, ap}
+use mathlib.Core.List.{List}
+use Prim.Native.Nat.{ℕ, _+_, _<_, _≤_}
+use native.Mathlib.Omega.{arith}
+use lib.ListN.{length, getD}
+use Rattle.spec.specs.Expression.{Position, Expr, leaf, unary, binary, size, lineOf}
+use Rattle.spec.specs.Program.{Program}
+use Rattle.spec.specs.Split.{Map, Split}
+use Rattle.spec.specs.Conditions.{Env, post, bodyStart, conditionsOf}
+use Rattle.spec.specs.Words.{preOfPart, preOfSecond}
+use Rattle.spec.specs.Sites.{claimsAt}
+use Rattle.spec.specs.Ranges.{InRange}
+use Rattle.spec.specs.declared.MapNumber.{MapNumber}
+use Rattle.spec.specs.declared.Purpose.{Purpose}
+use Rattle.spec.specs.declared.Word.the-variants.{Leaf, Unary, Binary}
+use Rattle.spec.specs.declared.LeafWord.{LeafWord}
+use Rattle.spec.specs.declared.UnaryWord.{UnaryWord}
+use Rattle.spec.specs.declared.UnaryWord.the-variants.{While, Join, Ref, Read, Lock, Unlock, Post, Wait, Rdlock, Rdunlock, Wrlock, Wrunlock, Call}
+use Rattle.spec.specs.declared.BinaryWord.{BinaryWord}
+use Rattle.spec.specs.declared.BinaryWord.the-variants.{Let, If, Spawn, Write}
+use Rattle.spec.proofs.Listing.{size-positive}
+use Rattle.workspace.specs.Layout as layout
+use Rattle.workspace.specs.Layout.{wordsAt, postsAt, startsAt, presAt, ruleOf}
+use Rattle.workspace.specs.Holds.{HoldsSplit}
+use Rattle.workspace.proofs.Codes.{word-of-code}
+use Rattle.workspace.proofs.Shown.{Stands, post-at, start-at}
+use Rattle.workspace.proofs.Expression.{Here, here-index, here-line, leaf-code, unary-code, binary-code, unary-number, here-called, here-part, here-first, here-second, here-second-at}
+use Rattle.rules.specs.Table.{ruleRow}
+use Rattle.steps.specs.Walk.{cell, viewOf, ruleOutcome, stepOutcome, counted, putPre, passWord, passOn}
+use Rattle.rules.proofs.TableRows.{leaf-shown, unary-shown, binary-shown}
+use Rattle.steps.proofs.Scopes.{Scoped}
+use Rattle.steps.proofs.Asked.{row-counted}
+use Rattle.steps.proofs.Claims.{firstAsked}
+use Rattle.steps.proofs.Views.{own-part, first-part, second-part, started, called, bound-shown}
+
+-- the numbers of the maps before step k and before its parts
+abbrev pub preNumber : (w : List ℕ) (k : ℕ) → MapNumber
+preNumber w k = record { 0 = cell w presAt k }
+
+abbrev pub partNumber : (w : List ℕ) (k : ℕ) → UnaryWord → MapNumber
+partNumber w k x = preOfPart x (preNumber w k) (record { 0 = cell w postsAt k })
+
+abbrev pub secondNumber : (w : List ℕ) (k : ℕ) → BinaryWord → MapNumber
+secondNumber w k x =
+    preOfSecond x (preNumber w k) (record { 0 = cell w (postsAt + 1) k }) (record { 0 = cell w startsAt k })
+
+-- handed down by number or as maps, they are the same
+of-part : {w : List ℕ} {S : Split} {a b : MapNumber} {pre post : Map} (x : UnaryWord) → Stands w S a pre → Stands w S b post
+    → Stands w S (preOfPart x a b) (preOfPart x pre post)
+unfolding preOfPart
+of-part While p q = q
+of-part Join p q = p
+of-part Ref p q = p
+of-part Read p q = p
+of-part Lock p q = p
+of-part Unlock p q = p
+of-part Post p q = p
+of-part Wait p q = p
+of-part Rdlock p q = p
+of-part Rdunlock p q = p
+of-part Wrlock p q = p
+of-part Wrunlock p q = p
+of-part Call p q = p
+
+of-second : {w : List ℕ} {S : Split} {a b c : MapNumber} {pre post₁ bodyStart : Map} (x : BinaryWord) → Stands w S a pre
+    → Stands w S b post₁ → Stands w S c bodyStart → Stands w S (preOfSecond x a b c) (preOfSecond x pre post₁ bodyStart)
+unfolding preOfSecond
+of-second Let p q r = q
+of-second If p q r = p
+of-second Spawn p q r = r
+of-second Write p q r = q
+
+module _ (S : Split) (P : Program) (R : InRange P S) (few : length (S .rows) ≤ 256) where
+  abbrev n : ℕ
+  n = S .header .locations
+
+  abbrev d : ℕ
+  d = S .header .denominator
+
+  -- all that the walk through an expression starts from
+  pub record Ready (w : List ℕ) (k : ℕ) (inside : List (ℕ × ℕ)) (vars : List ℕ) (Γ : Env) (pre : Map) (e : Expr) : Type 0 where
+    pub split : HoldsSplit w S
+    pub here : Here w (length (P .procedures)) k inside vars e
+    pub scoped : Scoped S Γ inside vars
+    pub pre-stands : Stands w S (record { 0 = cell w presAt k }) pre
+    pub room : k + size e ≤ length (S .rows)
+    pub long : presAt + 256 ≤ length w
+
+  -- a procedure that is called has a signature
+  procedure-there : {w : List ℕ} {k : ℕ} {inside : List (ℕ × ℕ)} {vars : List ℕ} (l : Position) (f : ℕ) (e : Expr)
+      → Here w (length (P .procedures)) k inside vars (unary Call l f e) → f < length (S .signatures)
+  procedure-there l f e here = omega (arith, here-called l f e here, R .signaturesCounted)
+
+  module _ {w : List ℕ} {k : ℕ} {inside : List (ℕ × ℕ)} {vars : List ℕ} {Γ : Env} {pre : Map} where
+    pub below : (e : Expr) → Ready w k inside vars Γ pre e → k < length (S .rows)
+    below e r = omega (arith, size-positive e, r .room)
+
+    conditions-shown : (e : Expr) → Ready w k inside vars Γ pre e
+        → (let s = viewOf w n d k in
+        ruleRow (ruleOf (cell w wordsAt k)) w s (layout.typeAt w (s .typed)) (layout.typeAt w (s .type1)))
+        ≡ conditionsOf S Γ pre e
+    unfolding size
+    conditions-shown (leaf x l v) r =
+        rw (leaf-code x l v (r .here))
+        (leaf-shown w S P (r .split) R (viewOf w n d k) refl refl Γ pre (r .pre-stands)
+        l v x
+        (own-part w S P (r .split) R n d k (leaf x l v) (here-index _ (r .here)) (below _ r))
+        (bound-shown w S P (r .split) R n d k few x l v (r .here) (r .scoped)))
+    conditions-shown (unary x l v e₁) r =
+        rw (unary-code x l v e₁ (r .here))
+        (unary-shown w S P (r .split) R (viewOf w n d k) refl refl Γ pre (r .pre-stands)
+        l v e₁
+        (first-part w S P (r .split) R n d k e₁ (here-index e₁ (here-part x l v e₁ (r .here)))
+        (omega (arith, size-positive e₁, r .room)))
+        x
+        (own-part w S P (r .split) R n d k _ (here-index _ (r .here)) (below _ r))
+        (started w S P (r .split) R n d k _ (here-index _ (r .here)) (below _ r))
+        (λ q. called w S P (r .split) R n d k v (unary-number x l v e₁ (r .here)) (procedure-there l v e₁ (rw q at (r .here)))))
+    conditions-shown (binary x l v e₁ e₂) r =
+        rw (binary-code x l v e₁ e₂ (r .here))
+        (binary-shown w S P (r .split) R (viewOf w n d k) refl refl Γ pre (r .pre-stands)
+        l v e₁
+        (first-part w S P (r .split) R n d k e₁ (here-index e₁ (here-first x l v e₁ e₂ (r .here)))
+        (omega (arith, size-positive e₁, r .room)))
+        e₂
+        (second-part w S P (r .split) R n d k e₂ (k + 1 + size e₁) (here-second-at x l v e₁ e₂ (r .here))
+        (here-index e₂ (here-second x l v e₁ e₂ (r .here))) (omega (arith, size-positive e₂, r .room)))
+        x
+        (own-part w S P (r .split) R n d k _ (here-index _ (r .here)) (below _ r))
+        (started w S P (r .split) R n d k _ (here-index _ (r .here)) (below _ r)))
+
+    pub step-shown : (purpose : Purpose) (e : Expr) → Ready w k inside vars Γ pre e
+        → counted purpose (stepOutcome w (S .header .locations) (S .header .denominator) k)
+        ≡ firstAsked purpose (claimsAt S (record { Γ = Γ; pre = pre; step = e }))
+    unfolding stepOutcome ruleOutcome claimsAt
+    step-shown purpose e r = rw (conditions-shown e r, here-line e (r .here)) (row-counted (lineOf e) purpose S Γ pre e)
+
+    -- ---------------------------------------------------------------- what a step hands down
+
+    pub leaf-passes : (x : LeafWord) (l : Position) (v : ℕ) → Ready w k inside vars Γ pre (leaf x l v) → passOn w k ≡ w
+    unfolding passOn passWord
+    leaf-passes x l v r = rw (leaf-code x l v (r .here), word-of-code (Leaf x))
+
+    pub unary-passes : (x : UnaryWord) (l : Position) (v : ℕ) (e₁ : Expr) → Ready w k inside vars Γ pre (unary x l v e₁)
+        → passOn w k ≡ putPre w (k + 1) (partNumber w k x)
+    unfolding passOn passWord
+    unary-passes x l v e₁ r = rw (unary-code x l v e₁ (r .here), word-of-code (Unary x))
+
+    pub binary-passes : (x : BinaryWord) (l : Position) (v : ℕ) (e₁ e₂ : Expr) → Ready w k inside vars Γ pre (binary x l v e₁ e₂)
+        → passOn w k ≡ putPre (putPre w (k + 1) (preNumber w k)) (k + 1 + size e₁) (secondNumber w k x)
+    unfolding passOn passWord
+    binary-passes x l v e₁ e₂ r =
+        rw (binary-code x l v e₁ e₂ (r .here), word-of-code (Binary x), here-second-at x l v e₁ e₂ (r .here))
+
+    -- the numbers handed down stand for the maps before the parts
+    pub part-stands : (x : UnaryWord) (l : Position) (v : ℕ) (e₁ : Expr) → Ready w k inside vars Γ pre (unary x l v e₁)
+        → Stands w S (partNumber w k x) (preOfPart x pre (post S (unary x l v e₁)))
+    part-stands x l v e₁ r =
+        of-part x (r .pre-stands) (post-at w S P (r .split) R (unary x l v e₁) k (here-index _ (r .here)) (below _ r) refl)
+
+    pub second-stands : (x : BinaryWord) (l : Position) (v : ℕ) (e₁ e₂ : Expr) → Ready w k inside vars Γ pre (binary x l v e₁ e₂)
+        → Stands w S (secondNumber w k x) (preOfSecond x pre (post S e₁) (bodyStart S (binary x l v e₁ e₂)))
+    unfolding size
+    second-stands x l v e₁ e₂ r =
+        of-second x (r .pre-stands)
+        (post-at w S P (r .split) R e₁ (k + 1) (here-index e₁ (here-first x l v e₁ e₂ (r .here)))
+        (omega (arith, size-positive e₁, r .room)) (ap (λ (i : ℕ). getD w i 0) (omega arith)))
+        (start-at w S P (r .split) R (binary x l v e₁ e₂) k (here-index _ (r .here)) (below _ r))

@@ -1,0 +1,17 @@
+use mathlib.Core.Path.{sym}
+use Rattle.spec.specs.Verdict.{four, returned}
+use Rattle.steps.specs.Walk.{refusesTypes}
+use Rattle.steps.proofs.OnTypes.{not-on-types}
+use borrow.Author.Needs.{needs}
+use Rattle.steps.proofs.on_types.Statement.{statement}
+use Rattle.steps.proofs.on_types.Tie as tie
+
+returns : tie.Need-returns
+returns c = sym (not-on-types _ (c .match .keys2))
+
+returns-2 : tie.Need-returns-2
+unfolding refusesTypes returned four
+returns-2 c = rw (c .enum-told .given .1)
+
+pub on-types-spec : {M : Type 1} → statement M
+on-types-spec = tie.close (tie.spec (λ c. search needs) returns returns-2)
