@@ -41,8 +41,8 @@ use Rattle.simulation.proofs.Holds.{Holds}
 use Rattle.simulation.proofs.Starting.{start-held}
 use Rattle.simulation.proofs.Racing.{lowest-pair-alike}
 use Rattle.simulation.proofs.Posting.{start-counts}
-use Rattle.replay.specs.declared.turns.Progress.the-variants.{Goes}
-use Rattle.replay.specs.Play.{raceAfter, PlaysTo}
+use Rattle.play.specs.declared.Progress.the-variants.{Goes}
+use Rattle.play.specs.Play.{raceAfter, PlaysTo}
 use Rattle.replay.specs.Start.{Copied, HeldAs, Held}
 
 -- ------------------------------------------------------------------ the first point

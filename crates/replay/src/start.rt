@@ -1,9 +1,9 @@
 // The start of a replay: from the sheet that the space holds to the first line of the trace.
-use crate::turns::Point;
-use crate::turns::Progress;
-use crate::turns::play;
-use crate::turns::race_after;
 use control::put;
+use play::Point;
+use play::Progress;
+use play::play;
+use play::race_after;
 use program::ProgramRead;
 use replay_theory::FirstRace;
 use replay_theory::Replayed;

@@ -32,10 +32,10 @@ use Rattle.simulation.proofs.Posting.{CountsWithin, counts-roomy, stepped-count
 use Rattle.simulation.proofs.Lining.{LineTold, open-line, shut-line, line-told}
 use Rattle.simulation.proofs.Resting.{RestAt, rest-at}
 use Rattle.simulation.proofs.Stored.{line-answered}
-use Rattle.replay.specs.declared.turns.Progress.{Progress}
-use Rattle.replay.specs.declared.turns.Progress.the-variants.{Goes, Stops}
-use Rattle.replay.specs.declared.turns.Point.{Point}
-use Rattle.replay.specs.Play.{raceAfter, CountKept, CountsKept, stoppedBy, byOutcome, afterStep, lineDone, PlaysTo}
+use Rattle.play.specs.declared.Progress.{Progress}
+use Rattle.play.specs.declared.Progress.the-variants.{Goes, Stops}
+use Rattle.play.specs.declared.Point.{Point}
+use Rattle.play.specs.Play.{raceAfter, CountKept, CountsKept, stoppedBy, byOutcome, afterStep, lineDone, PlaysTo}
 
 -- what is known of a run behind a line, by its progress
 abbrev pub Tells : Progress → (whole : Replayed) (p s text : List ℕ) → (before after : Point) → Type 0

@@ -8,7 +8,7 @@ use Rattle.replay_theory.specs.declared.FirstRace.{FirstRace}
 use Rattle.replay_theory.specs.declared.FirstRace.the-variants.{None, Found}
 use Rattle.replay_theory.specs.Replay.{raceOr}
 use Rattle.machine.specs.Replay.{orRace}
-use Rattle.replay.specs.Play.{raceAfter}
+use Rattle.play.specs.Play.{raceAfter}
 
 module _ (p s : List ℕ) (n : ℕ) (race : FirstRace) (k : ℕ) where
   pub race-kept : {m i j : ℕ} → race ≡ Found m i j → race ≡ raceAfter p s n race k

@@ -1,7 +1,7 @@
 use mathlib.Core.Path.{refl}
 use Rattle.machine.specs.Replay.{ended}
-use Rattle.replay.proofs.turns.ended.Statement.{statement}
-use Rattle.replay.proofs.turns.ended.Tie as tie
+use Rattle.play.proofs.ended.Statement.{statement}
+use Rattle.play.proofs.ended.Tie as tie
 
 returns : tie.Need-returns
 unfolding ended

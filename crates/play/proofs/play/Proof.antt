@@ -4,11 +4,11 @@ use Prim.Native.Nat.{_-_}
 use native.Mathlib.Omega.{arith}
 use lib.ListN.{length}
 use Rattle.replay_theory.specs.declared.Replayed.{Replayed}
-use Rattle.replay.specs.Play.{PlaysTo}
-use Rattle.replay.proofs.Playing.{line-stops, line-goes, may-go, text-done}
+use Rattle.play.specs.Play.{PlaysTo}
+use Rattle.play.proofs.Playing.{line-stops, line-goes, may-go, text-done}
 use borrow.Author.Needs.{needs}
-use Rattle.replay.proofs.turns.play.Statement.{statement}
-use Rattle.replay.proofs.turns.play.Tie as tie
+use Rattle.play.proofs.play.Statement.{statement}
+use Rattle.play.proofs.play.Tie as tie
 
 abbrev Inv-loop : tie.InvT-loop
 Inv-loop program space₀ trace p₀ space p =

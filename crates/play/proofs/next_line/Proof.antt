@@ -1,9 +1,9 @@
 -- By the form of the line.
 use mathlib.Core.Path.{sym, _∙_}
-use Rattle.replay.proofs.Moves.{line-moves, line-malformed}
+use Rattle.play.proofs.Moves.{line-moves, line-malformed}
 use borrow.Author.Needs.{needs}
-use Rattle.replay.proofs.turns.next_line.Statement.{statement}
-use Rattle.replay.proofs.turns.next_line.Tie as tie
+use Rattle.play.proofs.next_line.Statement.{statement}
+use Rattle.play.proofs.next_line.Tie as tie
 
 move-on-requires : tie.Need-move-on-requires
 move-on-requires c κs =

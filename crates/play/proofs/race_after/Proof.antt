@@ -1,11 +1,11 @@
 -- By whether a race was found before, and whether this state has one.
 use mathlib.Core.Path.{sym, _∙_}
 use Rattle.machine.specs.Replay.{orRace}
-use Rattle.replay.specs.Play.{raceAfter}
-use Rattle.replay.proofs.Races.{still-none, race-here}
+use Rattle.play.specs.Play.{raceAfter}
+use Rattle.play.proofs.Races.{still-none, race-here}
 use borrow.Author.Needs.{needs}
-use Rattle.replay.proofs.turns.race_after.Statement.{statement}
-use Rattle.replay.proofs.turns.race_after.Tie as tie
+use Rattle.play.proofs.race_after.Statement.{statement}
+use Rattle.play.proofs.race_after.Tie as tie
 
 returns : tie.Need-returns
 unfolding raceAfter orRace

@@ -20,8 +20,8 @@ use Rattle.machine.specs.Replay.{Replay, orRace, playFrom}
 use Rattle.simulation.proofs.Holds.{Holds}
 use Rattle.simulation.proofs.Racing.{pairTold}
 use Rattle.simulation.proofs.Posting.{CountsWithin}
-use Rattle.replay.specs.declared.turns.Point.{Point}
-use Rattle.replay.specs.declared.turns.Progress.the-variants.{Stops, Goes}
+use Rattle.play.specs.declared.Point.{Point}
+use Rattle.play.specs.declared.Progress.the-variants.{Stops, Goes}
 
 unfoldable pub raceAfter : (p s : List ℕ) (count : ℕ) → FirstRace → (state : ℕ) → FirstRace
 raceAfter p s n race k = orRace race k (pairTold (lowestPair p s n))

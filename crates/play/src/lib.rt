@@ -1,4 +1,4 @@
-// The lines of a trace in turn.
+// The lines of a trace in turn: the run between two of them, and the first race so far.
 use engine::Outcome;
 use engine::Pair;
 use replay_theory::Ending;
@@ -15,7 +15,7 @@ ghost use Rattle.trace.specs.Lines.{moveIn};
 ghost use Rattle.engine.specs.Steps.{stepped};
 ghost use Rattle.replay_theory.specs.declared.Replayed.{Replayed as Whole};
 ghost use Rattle.machine.specs.Replay.{ended};
-ghost use Rattle.replay.specs.Play.{raceAfter, CountKept, CountsKept, stoppedBy, afterStep, lineDone, Plays, PlaysTo};
+ghost use Rattle.play.specs.Play.{raceAfter, CountKept, CountsKept, stoppedBy, afterStep, lineDone, Plays, PlaysTo};
 
 // Whether a run goes on, or what has stopped it.
 pub enum Progress {
@@ -33,7 +33,7 @@ pub struct Point {
 }
 
 // The first race so far, once the state of that number is looked at; it has so many threads.
-pub(crate) fn race_after(
+pub fn race_after(
     program: &[u32],
     space: &[u32],
     count: u32,
@@ -134,7 +134,7 @@ fn ended(ending: Ending, p: Point) -> Replayed
 }
 
 // The lines of the trace from there on, until one stops the run.
-pub(crate) fn play(program: &[u32], space: &mut [u32], trace: &[u8], start: Point) -> Replayed
+pub fn play(program: &[u32], space: &mut [u32], trace: &[u8], start: Point) -> Replayed
     requires { ⌜ Plays (now program) (now space) (now trace) start ⌝ }
     ensures { λ r. ⌜ ((whole : Whole) → PlaysTo whole (now (program .entry)) (now (space .entry)) (now (trace .entry)) start → r ≡ whole) ⌝ }
 {

@@ -1,9 +1,9 @@
 -- By the answer of the step.
 use native.Mathlib.Omega.{arith}
-use Rattle.replay.proofs.Moves.{count-low, after-moved, after-stuck, after-past}
+use Rattle.play.proofs.Moves.{count-low, after-moved, after-stuck, after-past}
 use borrow.Author.Needs.{needs}
-use Rattle.replay.proofs.turns.move_on.Statement.{statement}
-use Rattle.replay.proofs.turns.move_on.Tie as tie
+use Rattle.play.proofs.move_on.Statement.{statement}
+use Rattle.play.proofs.move_on.Tie as tie
 
 cast-count : tie.Need-cast-count
 cast-count c =

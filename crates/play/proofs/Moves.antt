@@ -9,9 +9,9 @@ use Rattle.engine.specs.declared.Stepped.{Stepped}
 use Rattle.engine.specs.Steps.{stepped}
 use Rattle.replay_theory.specs.declared.FirstRace.{FirstRace}
 use Rattle.replay_theory.specs.declared.Ending.the-variants.{TraceForm, NoStep, PastLimit}
-use Rattle.replay.specs.declared.turns.Progress.the-variants.{Goes}
-use Rattle.replay.specs.declared.turns.Point.{Point}
-use Rattle.replay.specs.Play.{raceAfter, CountKept, stoppedBy, byOutcome, afterStep, lineDone}
+use Rattle.play.specs.declared.Progress.the-variants.{Goes}
+use Rattle.play.specs.declared.Point.{Point}
+use Rattle.play.specs.Play.{raceAfter, CountKept, stoppedBy, byOutcome, afterStep, lineDone}
 
 pub count-low : (x : Stepped × List ℕ) (r : Stepped) (s : List ℕ) → x ≡ (r, s) → CountKept x → r .outcome ≡ Moved → r .threads .count ≤ 16
 count-low x r s e kept m = subst CountKept e kept m
