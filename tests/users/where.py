@@ -20,7 +20,7 @@ def named_in(page):
             continue
         folder = part
         for names, file in NAMED.findall(cells[-1]):
-            if "/" in file:
+            if file.startswith("crates/"):
                 path = HOUSE / file
                 folder = part or path.parent
             else:
