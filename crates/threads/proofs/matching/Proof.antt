@@ -3,32 +3,17 @@ use borrow.Author.Needs.{needs}
 use Rattle.threads.proofs.matching.Statement.{statement}
 use Rattle.threads.proofs.matching.Tie as tie
 
--- src/lib.rt:30:27
-enum-told : tie.Need-enum-told
-enum-told c = search needs
-
--- src/lib.rt:31:28
-enum-told-2 : tie.Need-enum-told-2
-enum-told-2 c = search needs
-
--- src/lib.rt:32:26
-enum-told-3 : tie.Need-enum-told-3
-enum-told-3 c = search needs
-
--- src/lib.rt:25:1
 returns : tie.Need-returns
 unfolding matching ifFinished
 returns c = rw (c .enum-told .given .1)
 
--- src/lib.rt:25:1
 returns-2 : tie.Need-returns-2
 unfolding matching ifFinished
 returns-2 c = rw (c .before .enum-told2 .given .1)
 
--- src/lib.rt:25:1
 returns-3 : tie.Need-returns-3
 unfolding matching ifFinished
 returns-3 c = rw (c .enum-told3 .given .1)
 
 pub matching-spec : {M : Type 1} → statement M
-matching-spec = tie.close (tie.spec enum-told enum-told-2 enum-told-3 returns returns-2 returns-3)
+matching-spec = tie.close (tie.spec (λ c. search needs) (λ c. search needs) (λ c. search needs) returns returns-2 returns-3)
