@@ -3,7 +3,7 @@
 mod caps;
 mod reach;
 mod roots;
-mod steps;
+mod posts;
 
 use roots::fill_roots;
 use spec::MapNumber;

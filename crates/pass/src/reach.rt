@@ -1,6 +1,6 @@
 // What a step can leave at most. A loop's cap knows what its part can leave, so that no step is looked at twice.
 use super::caps::cap_at;
-use super::steps::second_in;
+use super::posts::second_in;
 use turns::bounds::binary_reach;
 use turns::bounds::forth;
 use turns::bounds::least;

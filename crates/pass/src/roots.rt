@@ -1,7 +1,7 @@
 // Roots: steps that start by themselves, with a number that is given. They are the bodies of procedures and the root of the program.
 use super::Given;
 use super::caps::cap_step;
-use super::steps::pass_step;
+use super::posts::pass_step;
 use turns::Found;
 use turns::bounds::TOP;
 use ways::Column;

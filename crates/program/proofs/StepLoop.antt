@@ -24,7 +24,7 @@ use Rattle.structure.specs.Items.{ProcRow, procRows, noVariables, HoldsProcs, n
 use Rattle.program_lines.specs.Lines.{itemAt, StepShown}
 use Rattle.program.specs.Lines.{itemsAt, StepsShown}
 use Rattle.structure.proofs.Limits.{limited-snoc, variables-snoc}
-use Rattle.program_lines.specs.declared.steps.StepLine.the-variants as step-line
+use Rattle.program_lines.specs.declared.items.StepLine.the-variants as step-line
 use Rattle.program.specs.declared.lines.StepLines.the-variants as steps
 
 -- ------------------------------------------------------------------ one line more

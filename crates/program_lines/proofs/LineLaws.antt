@@ -30,7 +30,7 @@ use Rattle.lexer.proofs.Walks.{left-none, left-some, first-wrong}
 use Rattle.lexer.proofs.Stored.{Narrow}
 use Rattle.program_lines.specs.Lines.{TailShown, FreelockAt, ProcAt, StepAt, itemAt, StepShown, WordAt}
 use Rattle.program_lines.specs.declared.tails.Tail.the-variants.{Value, Malformed}
-use Rattle.program_lines.specs.declared.steps.StepLine.the-variants as step-line
+use Rattle.program_lines.specs.declared.items.StepLine.the-variants as step-line
 use Rattle.program_lines.proofs.TailLaws.{tail-line, tail-malformed, tail-shows}
 
 -- ------------------------------------------------------------------ lines with the word freelock

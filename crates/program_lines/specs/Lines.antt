@@ -24,8 +24,8 @@ use Rattle.program_lines.specs.declared.tails.Pair.{Pair}
 use Rattle.program_lines.specs.declared.tails.Pair.the-variants as pair
 use Rattle.program_lines.specs.declared.counts.CountLine.{CountLine}
 use Rattle.program_lines.specs.declared.counts.CountLine.the-variants as count
-use Rattle.program_lines.specs.declared.steps.StepLine.{StepLine}
-use Rattle.program_lines.specs.declared.steps.StepLine.the-variants as step-line
+use Rattle.program_lines.specs.declared.items.StepLine.{StepLine}
+use Rattle.program_lines.specs.declared.items.StepLine.the-variants as step-line
 
 -- ------------------------------------------------------------------ the number behind a first field
 

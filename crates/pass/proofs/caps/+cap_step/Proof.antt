@@ -18,7 +18,7 @@ use Rattle.pass.proofs.caps.cap_step.Reads as cap-step
 use Rattle.pass.proofs.caps.cap_step.Kinds as cap-step-kinds
 use Rattle.pass.proofs.caps.+cap_step.Lts-cap_step as cap-step-lts
 use Rattle.pass.proofs.caps.own_cap.Reads as own-cap-reads
-use Rattle.pass.proofs.steps.second_in.Reads as second-in-reads
+use Rattle.pass.proofs.posts.second_in.Reads as second-in-reads
 use Rattle.pass.proofs.caps.+cap_step.{statement}
 use Rattle.pass.proofs.caps.+cap_step.Tie.{close}
 use Rattle.pass.proofs.Bounding.{leaf-capped, unary-capped, binary-capped, cappable-inside, cappable-stored, cappable-small, part-cappable, part-looked-at, last-cappable, first-cappable}

@@ -15,7 +15,7 @@ use Rattle.pass.proofs.reach.reach_step.Reads as reach-step
 use Rattle.pass.proofs.reach.reach_step.Kinds as reach-step-kinds
 use Rattle.pass.proofs.reach.+reach_step.Lts-reach_step as reach-step-lts
 use Rattle.pass.proofs.caps.cap_at.Reads as cap-at-reads
-use Rattle.pass.proofs.steps.second_in.Reads as second-in-reads
+use Rattle.pass.proofs.posts.second_in.Reads as second-in-reads
 use Rattle.pass.proofs.reach.+reach_step.{statement}
 use Rattle.pass.proofs.reach.+reach_step.Tie.{close}
 use Rattle.pass.proofs.Bounding.{leaf-reached, after-reached, loop-reached, call-reached, binary-reached}

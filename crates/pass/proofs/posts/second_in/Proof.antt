@@ -4,8 +4,8 @@ use native.Mathlib.Omega.{arith}
 use Rattle.workspace.specs.Layout.{endsAt}
 use Rattle.ways.specs.Shows.{endIn}
 use borrow.Author.Needs.{needs}
-use Rattle.pass.proofs.steps.second_in.Statement.{statement}
-use Rattle.pass.proofs.steps.second_in.Tie as tie
+use Rattle.pass.proofs.posts.second_in.Statement.{statement}
+use Rattle.pass.proofs.posts.second_in.Tie as tie
 
 at-requires : tie.Need-at-requires
 at-requires c κs = tt

@@ -12,14 +12,14 @@ use Rattle.turns.proofs.after_unary.Reads as after-unary-reads
 use Rattle.turns.proofs.part_pre.Reads as part-pre-reads
 use Rattle.turns.proofs.second_pre.Reads as second-pre-reads
 use Rattle.turns.proofs.turn.Reads as turn-reads
-use Rattle.pass.proofs.steps.pass_step.Reads as pass-step
-use Rattle.pass.proofs.steps.pass_step.Kinds as pass-step-kinds
-use Rattle.pass.proofs.steps.+pass_step.Lts-pass_step as pass-step-lts
+use Rattle.pass.proofs.posts.pass_step.Reads as pass-step
+use Rattle.pass.proofs.posts.pass_step.Kinds as pass-step-kinds
+use Rattle.pass.proofs.posts.+pass_step.Lts-pass_step as pass-step-lts
 use Rattle.pass.proofs.caps.cap_at.Reads as cap-at-reads
-use Rattle.pass.proofs.steps.second_in.Reads as second-in-reads
-use Rattle.pass.proofs.steps.settle.Reads as settle-reads
-use Rattle.pass.proofs.steps.+pass_step.{statement}
-use Rattle.pass.proofs.steps.+pass_step.Tie.{close}
+use Rattle.pass.proofs.posts.second_in.Reads as second-in-reads
+use Rattle.pass.proofs.posts.settle.Reads as settle-reads
+use Rattle.pass.proofs.posts.+pass_step.{statement}
+use Rattle.pass.proofs.posts.+pass_step.Tie.{close}
 use Rattle.pass.proofs.Passing.{leaf-passed, unary-nothing, unary-passed, first-nothing, second-nothing, binary-passed}
 use Rattle.pass.proofs.Readiness.{bounded-inside, cap-stored, bounded-small, step-stored, unary-ready, first-ready, second-ready, passed-small}
 

@@ -1,7 +1,7 @@
 use mathlib.Core.Path.{sym}
 use borrow.Author.Needs.{needs}
-use Rattle.pass.proofs.steps.settle.Statement.{statement}
-use Rattle.pass.proofs.steps.settle.Tie as tie
+use Rattle.pass.proofs.posts.settle.Statement.{statement}
+use Rattle.pass.proofs.posts.settle.Tie as tie
 
 returns : tie.Need-returns
 returns c = (sym (c .before .post .given .1), rw (c .before .post .given .1))

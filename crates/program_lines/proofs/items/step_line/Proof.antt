@@ -13,8 +13,8 @@ use Rattle.spec.specs.Text.{bytes, same}
 use Rattle.lexer.specs.Views.{firstField}
 use Rattle.lexer.specs.Cursors.{rest}
 use Rattle.program_lines.specs.Lines.{FieldAt, StepAt}
-use Rattle.program_lines.proofs.steps.step_line.Statement.{statement}
-use Rattle.program_lines.proofs.steps.step_line.Tie as tie
+use Rattle.program_lines.proofs.items.step_line.Statement.{statement}
+use Rattle.program_lines.proofs.items.step_line.Tie as tie
 
 returns : tie.Need-returns
 returns c = step-missing _ _ _ (sym (c .before .at-end .ensures) ∙ c .if1 .taken)

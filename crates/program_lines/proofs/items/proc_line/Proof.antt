@@ -6,8 +6,8 @@ use borrow.Author.Needs.{needs}
 use native.Mathlib.Omega.{arith}
 use mathlib.Core.Path.{subst}
 use Rattle.program_lines.specs.Lines.{TailShown}
-use Rattle.program_lines.proofs.steps.proc_line.Statement.{statement}
-use Rattle.program_lines.proofs.steps.proc_line.Tie as tie
+use Rattle.program_lines.proofs.items.proc_line.Statement.{statement}
+use Rattle.program_lines.proofs.items.proc_line.Tie as tie
 
 add-line : tie.Need-add-line
 add-line c =

@@ -1,8 +1,8 @@
 use borrow.Author.Needs.{needs}
 use mathlib.Core.Path.{sym, _∙_}
 use Rattle.spec.specs.Words.{largestValue}
-use Rattle.program_lines.proofs.steps.call_limit.Statement.{statement}
-use Rattle.program_lines.proofs.steps.call_limit.Tie as tie
+use Rattle.program_lines.proofs.items.call_limit.Statement.{statement}
+use Rattle.program_lines.proofs.items.call_limit.Tie as tie
 
 returns : tie.Need-returns
 unfolding largestValue
