@@ -3,10 +3,11 @@ use mathlib.Core.Path.{_≡_, refl, sym}
 use mathlib.Core.Bool.{Bool, true, false}
 use mathlib.Core.List.{List}
 use mathlib.Core.Option.{none, some}
-use Prim.Native.Nat.{ℕ, zero, suc, _+_, _-_, _<_, _≤_}
+use Prim.Native.Nat.{ℕ, zero, suc, _+_, _*_, _-_, _<_, _≤_}
 use native.Mathlib.Omega.{arith}
 use lib.Dec.{leb, ltb}
-use borrow.Author.Tests.{eqb-true, eq-eqb, ltb-true, ltb-false, lt-ltb, le-ltb, lt-leb, le-leb}
+use lib.ListN.{length}
+use borrow.Author.Tests.{eqb-true, eq-eqb, ltb-true, ltb-false, lt-ltb, le-ltb, lt-leb, le-leb, leb-true}
 use Rattle.spec.specs.Choice.{if_then_else_}
 use Rattle.spec.specs.Maps.{lowest, atLeast, _+ᵐ_, _×ᵐ_, overWhole, nowhere}
 use Rattle.spec.specs.Reading.{on}
@@ -15,8 +16,8 @@ use Rattle.spec.specs.Sites.{judge}
 use Rattle.spec.specs.declared.Location.{Location}
 use Rattle.spec.specs.declared.MapNumber.{MapNumber}
 use Rattle.spec.proofs.Clashes.{true-is-not-false}
-use Rattle.workspace.specs.Layout.{mapCell, mapFrom}
-use Rattle.conditions.specs.Relation.{holdsAt, ofItself, failsFrom, below, everywhere}
+use Rattle.workspace.specs.Layout.{mapsAt, stride, mapCell, mapFrom}
+use Rattle.conditions.specs.Relation.{HasCell, HasCells, holdsAt, held, asked, ofItself, failsFrom, fails, below, everywhere}
 use Rattle.conditions.specs.declared.Relation.{Relation}
 use Rattle.conditions.specs.declared.Relation.the-variants.{Equal, AtLeast, Covers, Sum, Within}
 
@@ -74,13 +75,55 @@ module _ (w : List ℕ) where
   itself-nowhere r e l (suc n) = rw (one-more r l n, itself-holds r e l) (itself-nowhere r e (l + 1) n)
 
   pub itself-everywhere : (r : Relation) → ofItself r ≡ true → (n : ℕ) → everywhere w n r ≡ true
-  unfolding everywhere nowhere
-  itself-everywhere r e n = rw (itself-nowhere r e 0 n)
+  unfolding everywhere fails nowhere
+  itself-everywhere r e n = rw (itself-nowhere r e 0 (asked w r n))
 
   -- a flow condition on a map and itself
-  pub itself-flows : (line i : ℕ) (r : Relation) → ofItself r ≡ true → (n : ℕ) → on tt ≡ judge line i (F (failsFrom w r 0 n))
-  unfolding judge
-  itself-flows line i r e n = rw (itself-nowhere r e 0 n)
+  pub itself-flows : (line i : ℕ) (r : Relation) → ofItself r ≡ true → (n : ℕ) → on tt ≡ judge line i (F (fails w n r))
+  unfolding judge fails
+  itself-flows line i r e n = rw (itself-nowhere r e 0 (asked w r n))
+
+  -- ---------------------------------------------------------------- what the work space has of the maps
+
+  pub held-whole : (m : MapNumber) (n : ℕ) → mapsAt + stride * (m .0) + n ≤ length w → n ≡ held w m n
+  unfolding held
+  held-whole m n h = rw (le-leb _ _ h)
+
+  pub held-none : (m : MapNumber) (n : ℕ) → length w < mapsAt + stride * (m .0) + n → 0 ≡ held w m n
+  unfolding held
+  held-none m n h = rw (lt-leb _ _ h)
+
+  held-within : (m : MapNumber) (l n : ℕ) → l < held w m n → (l < n) × HasCell w m l
+  unfolding held
+  held-within m l n = either (leb (mapsAt + stride * (m .0) + n) (length w)) refl
+    where
+      either : (b : Bool) → leb (mapsAt + stride * (m .0) + n) (length w) ≡ b → l < (if b then n else 0) → (l < n) × HasCell w m l
+      either true e h =
+          let below : l < n = h in
+          (below, omega (arith, leb-true (mapsAt + stride * (m .0) + n) (length w) e))
+      either false e h =
+          let none-below : l < 0 = h in
+          absurd (omega arith)
+
+  two : (a b : MapNumber) (l n : ℕ) → l < held w a (held w b n) → (l < n) × (HasCell w a l × HasCell w b l)
+  two a b l n h =
+      let x = held-within a l _ h in
+      let y = held-within b l n (x .0) in
+      (y .0, (x .1, y .1))
+
+  within : (r : Relation) (l n : ℕ) → l < asked w r n → (l < n) × HasCells w r l
+  unfolding asked HasCells
+  within (Equal a b) l n h = two a b l n h
+  within (AtLeast a b) l n h = two a b l n h
+  within (Covers a k b) l n h = two a b l n h
+  within (Sum a b c) l n h =
+      let x = held-within a l _ h in
+      let y = two b c l n (x .0) in
+      (y .0, (x .1, y .1 .0, y .1 .1))
+  within (Within a d) l n h = held-within a l n h
+
+  pub asked-within : (r : Relation) (l n k : ℕ) → k ≡ asked w r n → l < k → (l < n) × HasCells w r l
+  asked-within r l n k e h = within r l n (omega (arith, e, h))
 
 -- ------------------------------------------------------------------ the location that the code hands back
 
@@ -92,7 +135,7 @@ pub below-none : (n : ℕ) (p : Location) → n ≤ p .0 → below n p ≡ none
 unfolding below
 below-none n p h = rw (le-ltb (p .0) n h)
 
-pub told-everywhere : (w : List ℕ) (r : Relation) (n : ℕ) (p : Location) → below n p ≡ failsFrom w r 0 n → leb n (p .0) ≡ everywhere w n r
+pub told-everywhere : (w : List ℕ) (r : Relation) (n : ℕ) (p : Location) → below n p ≡ fails w n r → leb n (p .0) ≡ everywhere w n r
 unfolding everywhere
 told-everywhere w r n p e = rw (← e) (either (ltb (p .0) n) refl)
   where

@@ -8,7 +8,7 @@ use Rattle.spec.specs.declared.TypeNumber.{TypeNumber}
 use Rattle.spec.specs.declared.Refusal.the-variants.{LockTakesLess}
 use Rattle.workspace.specs.Layout.{typeAt}
 use Rattle.conditions.specs.Outcome.{both}
-use Rattle.conditions.specs.Relation.{failsFrom}
+use Rattle.conditions.specs.Relation.{fails}
 use Rattle.conditions.specs.Agreement.{takesEnoughIn}
 use Rattle.conditions.specs.declared.Relation.the-variants.{Within}
 
@@ -23,4 +23,4 @@ locksOutcome w locations t (suc n) = both (lockOutcome w locations (record { 0 =
 
 -- 30, at the root's line: the lowest location at which the start is over the whole
 unfoldable pub startOutcome : (line : ℕ) (w : List ℕ) → (denominator locations : ℕ) → (start : MapNumber) → Out (Unit {0})
-startOutcome line w denominator locations start = refuseOver line (failsFrom w (Within start denominator) 0 locations)
+startOutcome line w denominator locations start = refuseOver line (fails w locations (Within start denominator))

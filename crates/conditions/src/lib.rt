@@ -9,6 +9,8 @@ use spec::MapNumber;
 use spec::Refusal;
 pub use types::agrees;
 pub use types::may_show;
+use workspace::MAPS;
+use workspace::STRIDE;
 use workspace::index;
 use workspace::map_cell;
 use workspace::wide;
@@ -16,9 +18,10 @@ ghost use mathlib.Core.Path.{_≡_};
 ghost use mathlib.Core.Bool.{false};
 ghost use Rattle.spec.specs.Conditions.{T, F};
 ghost use Rattle.spec.specs.Sites.{judge};
+ghost use Rattle.workspace.specs.Layout.{mapCell};
 ghost use Rattle.conditions.specs.Outcome.{outcome, both};
 ghost use Rattle.conditions.specs.SheetOutcomes.{startOutcome};
-ghost use Rattle.conditions.specs.Relation.{holdsAt, ofItself, failsFrom, below, everywhere, hasAtLeast};
+ghost use Rattle.conditions.specs.Relation.{HasCell, HasCells, holdsAt, held, asked, ofItself, fails, below, everywhere, hasAtLeast};
 
 // Every condition is met, or the first that is not refuses.
 pub enum Ruling {
@@ -55,23 +58,56 @@ pub fn type_false(line: u32, condition: u32) -> Ruling
     })
 }
 
+// What map m has at location l, where the work space has that number.
+fn cell(work: &[u32], m: MapNumber, l: usize) -> u32
+    requires { ⌜ HasCell (now work) m l ⌝ }
+    ensures { λ r. ⌜ r ≡ mapCell (now (work .entry)) m l ⌝ }
+{
+    work[MAPS + STRIDE * index(m.0) + l]
+}
+
 // Whether a relation holds at a location.
 fn holds_at(work: &[u32], relation: Relation, p: Location) -> bool
+    requires { ⌜ HasCells (now work) relation (p .0) ⌝ }
     ensures { λ ok. ⌜ ok ≡ holdsAt (now (work .entry)) relation (p .0) ⌝ }
 {
     let l = index(p.0);
     match relation {
-        Relation::Equal(a, b) => map_cell(work, a, l) == map_cell(work, b, l),
-        Relation::AtLeast(a, b) => map_cell(work, b, l) <= map_cell(work, a, l),
+        Relation::Equal(a, b) => cell(work, a, l) == cell(work, b, l),
+        Relation::AtLeast(a, b) => cell(work, b, l) <= cell(work, a, l),
         Relation::Covers(a, n, b) => {
-            let product = wide(n) * wide(map_cell(work, b, l));
-            product <= wide(map_cell(work, a, l))
+            let product = wide(n) * wide(cell(work, b, l));
+            product <= wide(cell(work, a, l))
         }
         Relation::Sum(a, b, c) => {
-            let sum = wide(map_cell(work, a, l)) + wide(map_cell(work, b, l));
-            sum == wide(map_cell(work, c, l))
+            let sum = wide(cell(work, a, l)) + wide(cell(work, b, l));
+            sum == wide(cell(work, c, l))
         }
-        Relation::Within(a, n) => map_cell(work, a, l) <= n,
+        Relation::Within(a, n) => cell(work, a, l) <= n,
+    }
+}
+
+// How many of n locations a map is asked about: all, if the work space has as many of its numbers, so that each is read
+// without looking for the end again.
+fn held(work: &[u32], m: MapNumber, n: u32) -> u32
+    ensures { λ r. ⌜ r ≡ held (now (work .entry)) m n ⌝ }
+{
+    if MAPS + STRIDE * index(m.0) + index(n) <= work.len() {
+        return n;
+    }
+    0
+}
+
+// How many of n locations a relation is asked about.
+fn asked(work: &[u32], relation: Relation, n: u32) -> u32
+    ensures { λ r. ⌜ r ≡ asked (now (work .entry)) relation n ⌝ }
+{
+    match relation {
+        Relation::Equal(a, b) => held(work, a, held(work, b, n)),
+        Relation::AtLeast(a, b) => held(work, a, held(work, b, n)),
+        Relation::Covers(a, _, b) => held(work, a, held(work, b, n)),
+        Relation::Sum(a, b, c) => held(work, a, held(work, b, held(work, c, n))),
+        Relation::Within(a, _) => held(work, a, n),
     }
 }
 
@@ -90,10 +126,11 @@ fn of_itself(relation: Relation) -> bool
 
 // The lowest location at which a relation fails; past the last, if it holds at all of them.
 fn lowest_failing(work: &[u32], locations: u32, relation: Relation) -> Location
-    ensures { λ p. ⌜ below locations p ≡ failsFrom (now (work .entry)) relation 0 locations ⌝ }
+    ensures { λ p. ⌜ below locations p ≡ fails (now (work .entry)) locations relation ⌝ }
 {
+    let n = asked(work, relation, locations);
     let mut l = 0;
-    while l < locations {
+    while l < n {
         let p = Location(l);
         if !holds_at(work, relation, p) {
             return p;
@@ -116,7 +153,7 @@ fn everywhere(work: &[u32], locations: u32, relation: Relation) -> bool
 
 // A flow condition, refused at the lowest location at which it fails.
 pub fn flow(line: u32, condition: u32, work: &[u32], locations: u32, relation: Relation) -> Ruling
-    ensures { λ r. ⌜ outcome r ≡ judge line condition (F (failsFrom (now (work .entry)) relation 0 locations)) ⌝ }
+    ensures { λ r. ⌜ outcome r ≡ judge line condition (F (fails (now (work .entry)) locations relation)) ⌝ }
 {
     if of_itself(relation) {
         return Ruling::Met;

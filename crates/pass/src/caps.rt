@@ -1,7 +1,7 @@
 // The most that the post of each step may be: parts behind a step are looked at before it, so that it calls itself for the second part
 // first.
-use super::reach::reach_step;
 use super::posts::second_in;
+use super::reach::reach_step;
 use turns::bounds::TOP;
 use turns::bounds::back;
 use turns::bounds::binary_ceiling;

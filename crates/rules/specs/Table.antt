@@ -10,7 +10,7 @@ use Rattle.spec.specs.declared.TypeNumber.{TypeNumber}
 use Rattle.spec.specs.declared.TypeLine.{TypeLine}
 use Rattle.workspace.specs.declared.Rule.{Rule}
 use Rattle.workspace.specs.declared.Rule.the-variants.{VAR, INT, LET, IF, WHILE, NEWT, SPAWN, JOIN, REF, WRITE, READ, NEWL, LCK, ULCK, NEWSEM, POST, WAIT, NEWRWLOCK, RDLOCK, RDUNLOCK, WRLOCK, WRUNLOCK, CALL}
-use Rattle.conditions.specs.Relation.{failsFrom, hasAtLeast}
+use Rattle.conditions.specs.Relation.{fails, hasAtLeast}
 use Rattle.conditions.specs.Agreement.{agreeIn, mayShowIn, containsIn}
 use Rattle.conditions.specs.declared.Relation.{Relation}
 use Rattle.conditions.specs.declared.Relation.the-variants.{Equal, AtLeast, Covers, Sum}
@@ -19,7 +19,7 @@ use Rattle.rules.specs.declared.View.{View}
 
 -- a relation at every location of the sheet
 abbrev pub flows : (w : List ℕ) → View → Relation → Condition
-flows w s r = F (failsFrom w r 0 (s .locations))
+flows w s r = F (fails w (s .locations) r)
 
 -- a part of some kind, with a load: the type is int, the part is of that kind, and less + load = more
 abbrev pub loaded : (w : List ℕ) → View → (kind : TypeLine) → (fits : Bool) → (less load more : MapNumber) → List Condition
@@ -199,5 +199,5 @@ ruleRow CALL w s kind kind₁ = callRow w s
 abbrev pub procedureRow : (w : List ℕ) → (locations : ℕ) → (g : Signature) → (body : TypeNumber) → (post : MapNumber) → List Condition
 procedureRow w locations g body post =
     T (agreeIn w locations body (g .result))
-    ∷ F (failsFrom w (AtLeast post (g .after)) 0 locations)
+    ∷ F (fails w locations (AtLeast post (g .after)))
     ∷ []

@@ -3,7 +3,7 @@ use mathlib.Core.Path.{_≡_, refl, sym, ap, _∙_}
 use mathlib.Core.Logic.{inr}
 use mathlib.Core.List.{List, [], _∷_}
 use mathlib.Core.Option.{Option, none, some}
-use Prim.Native.Nat.{ℕ, zero, suc, _+_, _-_, _*_, _<_}
+use Prim.Native.Nat.{ℕ, zero, suc, _+_, _-_, _*_, _<_, _≤_}
 use native.Mathlib.Omega.{arith}
 use lib.ListN.{length, getD, replicate, length-replicate, getD-replicate}
 use Rattle.spec.specs.Expression.{Expr, indexOf}
@@ -57,12 +57,13 @@ from-kept {w} {w′} x m l (suc n) =
 
 -- the map x stands at the place of the number m
 pub record Stands (w : List ℕ) (S : Split) (m : MapNumber) (x : Map) : Type 0 where
+  pub fits : mapsAt + stride * (m .0) + S .header .locations ≤ length w
   pub is : mapIn w (S .header .locations) m ≡ x
 
 pub stands-kept : {w w′ : List ℕ} {S : Split} {m : MapNumber} {x : Map} → ChangedWithin presAt (presAt + 256) w w′
     → Stands w S m x → Stands w′ S m x
 unfolding mapIn
-stands-kept {m = m} c p = record { is = from-kept c m 0 _ ∙ p .is }
+stands-kept {m = m} c p = record { fits = omega (arith, p .fits, c .long); is = from-kept c m 0 _ ∙ p .is }
 
 module _ (w : List ℕ) (S : Split) (P : Program) (H : HoldsSplit w S) (R : InRange P S) where
   -- ---------------------------------------------------------------- types
@@ -83,7 +84,10 @@ module _ (w : List ℕ) (S : Split) (P : Program) (H : HoldsSplit w S) (R : InRa
   unfolding mapIn mapCell mapAt
   map-stands m h =
       let e : length (mapAt S m) ≡ S .header .locations = R .mapWide (m .0) h in
-      record { is = rw (← e) (cells w m 0 (mapAt S m) (λ i l. ap (mapCell w m) (omega arith) ∙ H .maps (m .0) h .at i l)) }
+      record {
+        fits = rw (← e) (H .maps (m .0) h .fits);
+        is = rw (← e) (cells w m 0 (mapAt S m) (λ i l. ap (mapCell w m) (omega arith) ∙ H .maps (m .0) h .at i l));
+      }
 
   -- the maps that a type line shows
   pub first-stands : (t : TypeNumber) → t .0 < length (S .types) → Stands w S (firstMap (layout.typeAt w t)) (mapAt S (firstMap (typeAt S t)))
@@ -103,6 +107,7 @@ module _ (w : List ℕ) (S : Split) (P : Program) (H : HoldsSplit w S) (R : InRa
       ∙ getD-replicate {A = ℕ} stride i 0 0 (omega (arith, R .locations .1))
       ∙ sym (getD-replicate n i 0 0 l) in
       record {
+        fits = omega (arith, H .empty .fits, length-replicate {A = ℕ} stride 0, R .locations .1);
         is =
             ap (mapFrom w (record { 0 = emptyMap }) 0) (sym e)
             ∙ cells w (record { 0 = emptyMap }) 0 (replicate n 0)

@@ -1,0 +1,24 @@
+use mathlib.Core.Path.{ap}
+use Prim.Native.Nat.{ℕ}
+use native.Mathlib.Omega.{arith}
+use lib.ListN.{getD}
+use Rattle.workspace.specs.Layout.{mapCell}
+use borrow.Author.Needs.{needs}
+use Rattle.conditions.proofs.cell.Statement.{statement}
+use Rattle.conditions.proofs.cell.Tie as tie
+
+returns : tie.Need-returns
+unfolding mapCell
+returns c = ap (λ (i : ℕ). getD (c .before .before .before .args .work .now) i 0) (omega arith)
+
+pub cell-spec : {M : Type 1} → statement M
+cell-spec =
+    tie.close
+    (tie.spec
+    (λ c κs. search needs)
+    (λ c. search needs)
+    (λ c. search needs)
+    (λ c. search needs)
+    (λ c. search needs)
+    (λ c. search needs)
+    returns)
