@@ -8,7 +8,7 @@ use conditions::check_locks;
 use conditions::check_start;
 use spec::MapNumber;
 use spec::Purpose;
-use steps::cell;
+use views::cell;
 use workspace::Header;
 use workspace::LINES;
 use workspace::PROC_FIRSTS;
