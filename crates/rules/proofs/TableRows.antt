@@ -12,7 +12,7 @@ use Rattle.spec.specs.Program.{Program}
 use Rattle.spec.specs.Split.{Map, Signature, Split}
 use Rattle.spec.specs.Maps.{share}
 use Rattle.spec.specs.Kinds.{refLocation, firstMap, secondMap}
-use Rattle.spec.specs.Conditions.{Env, mapAt, typeIn, mayShow, contains, row, type, kind, post, bodyStart, keptBack, signature, K, inMap, outMap, readMap, writeMap, conditionsOf, procedureConditions}
+use Rattle.spec.specs.Conditions.{Env, mapAt, mayShow, contains, type, kind, post, bodyStart, keptBack, signature, K, inMap, outMap, readMap, writeMap, conditionsOf, procedureConditions}
 use Rattle.spec.specs.Agreement.{agree}
 use Rattle.spec.specs.Ranges.{InRange}
 use Rattle.spec.specs.declared.MapNumber.{MapNumber}

@@ -6,7 +6,6 @@ use bodies::check_program;
 use conditions::Ruling;
 use conditions::check_locks;
 use conditions::check_start;
-use spec::MapNumber;
 use spec::Purpose;
 use views::cell;
 use workspace::Header;
