@@ -12,7 +12,7 @@ use Rattle.spec.specs.Program.{Program}
 use Rattle.spec.specs.Split.{Map, Signature, Split}
 use Rattle.spec.specs.Maps.{share}
 use Rattle.spec.specs.Kinds.{refLocation, firstMap, secondMap}
-use Rattle.spec.specs.Conditions.{Env, mapAt, typeIn, mayShow, contains, row, type, kind, post, bodyStart, keptBack, signature, K, inMap, outMap, readMap, writeMap, conditionsOf, procedureConditions}
+use Rattle.spec.specs.Conditions.{Env, mapAt, mayShow, contains, type, kind, post, bodyStart, keptBack, signature, K, inMap, outMap, readMap, writeMap, conditionsOf, procedureConditions}
 use Rattle.spec.specs.Agreement.{agree}
 use Rattle.spec.specs.Ranges.{InRange}
 use Rattle.spec.specs.declared.MapNumber.{MapNumber}
@@ -29,9 +29,10 @@ use Rattle.workspace.specs.Layout.{mapCell, printed, ruleOf, leafCode, unaryCod
 use Rattle.workspace.specs.Holds.{HoldsSplit}
 use Rattle.workspace.proofs.Shown.{Stands, type-shown, first-stands, second-stands, has-shown}
 use Rattle.conditions.specs.Agreement.{agreeIn, mayShowIn, containsIn}
+use Rattle.views.specs.declared.Signature.{Signature as SignatureRead}
+use Rattle.views.specs.declared.View.{View}
+use Rattle.views.proofs.Views.{Part, Signed, Bound}
 use Rattle.rules.specs.Table.{ruleRow, procedureRow}
-use Rattle.rules.specs.declared.Signature.{Signature as SignatureRead}
-use Rattle.rules.specs.declared.View.{View}
 use Rattle.conditions.proofs.Agreement.{agree-shown, may-show-shown, contains-shown}
 use Rattle.conditions.proofs.Shown.{equal-shown as equal, at-least-shown as at-least, covers-shown as covers, sum-shown as sum, is-sum-shown as is-sum}
 
@@ -39,30 +40,6 @@ use Rattle.conditions.proofs.Shown.{equal-shown as equal, at-least-shown as at-
 some-is-one : (x : ℕ) → leb 1 x ≡ ltb 0 x
 some-is-one zero = refl
 some-is-one (suc x) = le-leb 1 (suc x) (omega arith) ∙ sym (lt-ltb 0 (suc x) (omega arith))
-
--- a type and a map that a view shows are the type and the post of an expression
-pub record Part (w : List ℕ) (S : Split) (t : TypeNumber) (m : MapNumber) (e : Expr) : Type 0 where
-  pub typed : t ≡ row S e .type
-  pub type-in : row S e .type .0 < length (S .types)
-  pub posted : Stands w S m (post S e)
-
--- a signature that the work space shows is one of the split
-pub record Signed (w : List ℕ) (S : Split) (r : SignatureRead) (g : Signature) : Type 0 where
-  pub before-stands : Stands w S (r .before) (mapAt S (g .before))
-  pub argument-is : r .argument ≡ g .argument
-  pub argument-in : g .argument .0 < length (S .types)
-  pub after-stands : Stands w S (r .after) (mapAt S (g .after))
-  pub result-is : r .result ≡ g .result
-  pub result-in : g .result .0 < length (S .types)
-
--- a `var` shows the type of its let's e1 or of its procedure's argument, a `newrwlock` its number of reading places
-abbrev pub Bound : Split → LeafWord → View → Env → (v : ℕ) → Type 0
-Bound S Var s Γ v = (s .bound ≡ typeIn Γ v) × (typeIn Γ v .0 < length (S .types))
-Bound S Int s Γ v = Unit {0}
-Bound S Newtid s Γ v = Unit {0}
-Bound S Newlock s Γ v = Unit {0}
-Bound S Newsem s Γ v = Unit {0}
-Bound S Newrwlock s Γ v = s .value ≡ v
 
 module _ (w : List ℕ) (S : Split) (P : Program) (H : HoldsSplit w S) (R : InRange P S)
     (s : View) (located : s .locations ≡ S .header .locations) (divided : s .denominator ≡ S .header .denominator)

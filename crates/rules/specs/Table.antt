@@ -14,8 +14,8 @@ use Rattle.conditions.specs.Relation.{fails, hasAtLeast}
 use Rattle.conditions.specs.Agreement.{agreeIn, mayShowIn, containsIn}
 use Rattle.conditions.specs.declared.Relation.{Relation}
 use Rattle.conditions.specs.declared.Relation.the-variants.{Equal, AtLeast, Covers, Sum}
-use Rattle.rules.specs.declared.Signature.{Signature}
-use Rattle.rules.specs.declared.View.{View}
+use Rattle.views.specs.declared.Signature.{Signature}
+use Rattle.views.specs.declared.View.{View}
 
 -- a relation at every location of the sheet
 abbrev pub flows : (w : List ℕ) → View → Relation → Condition

@@ -3,7 +3,5 @@ pub mod OnTypes
 pub mod Counted
 pub mod Asked
 pub mod Claims
-pub mod Scopes
-pub mod Views
-pub mod OneStep
+pub mod HandedDown
 pub mod Transfer

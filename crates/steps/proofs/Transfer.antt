@@ -29,12 +29,15 @@ use Rattle.workspace.proofs.Shown.{map-number, Stands, stands-kept, row-at}
 use Rattle.workspace.proofs.Expression.{Here, here-kept, here-index, here-part, here-first, here-second}
 use Rattle.workspace.proofs.Sheets.{split-kept-by-pres}
 use Rattle.conditions.specs.Outcome.{both}
-use Rattle.steps.specs.Walk.{cell, stepOutcome, counted, putPre, passOn, walk}
 use Rattle.conditions.proofs.FirstFalse.{both-met, both-assoc}
+use Rattle.views.specs.StepView.{cell}
+use Rattle.views.proofs.Scopes.{by-let, Scoped, scoped-second}
+use Rattle.one_step.specs.Outcome.{stepOutcome}
+use Rattle.one_step.proofs.OneStep.{Ready}
+use Rattle.steps.specs.Walk.{counted, putPre, passOn, walk}
 use Rattle.steps.proofs.Walking.{put-before, put-within, put-at, put-other}
 use Rattle.steps.proofs.Claims.{firstAsked, claims-first, claims-one, claims-append}
-use Rattle.steps.proofs.Scopes.{by-let, Scoped, scoped-second}
-use Rattle.steps.proofs.OneStep.{preNumber, partNumber, secondNumber, Ready, step-shown, leaf-passes, unary-passes, binary-passes, part-stands, second-stands}
+use Rattle.steps.proofs.HandedDown.{preNumber, partNumber, secondNumber, step-counted, leaf-passes, unary-passes, binary-passes, part-stands, second-stands}
 
 -- the walk over the steps of a program, with its split's locations and denominator
 abbrev walkOf : Purpose → Split → List ℕ → (k n : ℕ) → Out (Unit {0})
@@ -100,7 +103,7 @@ module _ (purpose : Purpose) (S : Split) (P : Program) (R : InRange P S) (few : 
             let end : k + 1 + size e₁ ≡ k + suc (size e₁) = omega arith in
             walk-first w k (suc (size e₁) + m) (size e₁ + m) (omega arith)
             ∙ rw (
-              step-shown S P R few purpose (unary x l v e₁) r,
+              step-counted S P R few purpose (unary x l v e₁) r,
               t .walks,
               end,
               claims-first purpose S (record { Γ = Γ; pre = pre; step = unary x l v e₁ }),
@@ -171,7 +174,7 @@ module _ (purpose : Purpose) (S : Split) (P : Program) (R : InRange P S) (few : 
             let end : k + 1 + size e₁ + size e₂ ≡ k + suc (size e₁ + size e₂) = omega arith in
             walk-first w k (suc (size e₁ + size e₂) + m) (size e₁ + (size e₂ + m)) (omega arith)
             ∙ rw (
-              step-shown S P R few purpose (binary x l v e₁ e₂) r,
+              step-counted S P R few purpose (binary x l v e₁ e₂) r,
               t .walks,
               u .walks,
               claims-first purpose S (record { Γ = Γ; pre = pre; step = binary x l v e₁ e₂ }),
@@ -190,7 +193,7 @@ module _ (purpose : Purpose) (S : Split) (P : Program) (R : InRange P S) (few : 
     changed = changed-nothing presAt _ w;
     walks =
         walk-first w k (1 + m) m (omega arith)
-        ∙ rw (step-shown S P R few purpose (leaf x l v) r, leaf-passes S P R few x l v r, claims-one purpose S);
+        ∙ rw (step-counted S P R few purpose (leaf x l v) r, leaf-passes S P R few x l v r, claims-one purpose S);
   }
   walked (unary x l v e₁) m r = unary-walked x l v e₁ r m (walked e₁ m (part-ready x l v e₁ r))
   walked (binary x l v e₁ e₂) m r =

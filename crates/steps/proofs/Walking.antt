@@ -19,7 +19,9 @@ use Rattle.workspace.specs.Layout.{wordsAt, presAt, wordOf}
 use Rattle.workspace.specs.Region.{ChangedWithin}
 use Rattle.workspace.proofs.Region.{changed-nothing, changed-store, changed-then}
 use Rattle.conditions.specs.Outcome.{both}
-use Rattle.steps.specs.Walk.{cell, stepOutcome, counted, putPre, passWord, passOn, walk}
+use Rattle.views.specs.StepView.{cell}
+use Rattle.one_step.specs.Outcome.{stepOutcome}
+use Rattle.steps.specs.Walk.{counted, putPre, passWord, passOn, walk}
 
 module _ (purpose : Purpose) (locations denominator : ℕ) (w : List ℕ) (k n : ℕ) where
   pub walk-more : k < n

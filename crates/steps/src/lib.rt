@@ -1,24 +1,19 @@
 // The steps in line order. Each is judged once the map before it is known, and hands down the maps before its parts.
-mod columns;
-mod table;
-
-pub use columns::cell;
-pub use columns::signature_of;
 use conditions::Ruling;
+use one_step::check_step;
 use spec::BinaryWord;
 use spec::MapNumber;
 use spec::Purpose;
 use spec::Refusal;
 use spec::UnaryWord;
 use spec::Word;
-use table::check_rule;
+use views::cell;
 use workspace::ENDS;
 use workspace::POSTS;
 use workspace::PRES;
 use workspace::STARTS;
 use workspace::WORDS;
 use workspace::index;
-use workspace::rule_of;
 use workspace::word_of;
 ghost use mathlib.Core.Path.{_≡_};
 ghost use Prim.Native.Nat.{_+_, _-_, _<_};
@@ -27,15 +22,7 @@ ghost use Rattle.spec.specs.Words.{preOfPart, preOfSecond};
 ghost use Rattle.workspace.specs.Layout.{presAt, workSize};
 ghost use Rattle.workspace.specs.Region.{ChangedWithin};
 ghost use Rattle.conditions.specs.Outcome.{outcome};
-ghost use Rattle.steps.specs.Walk.{stepOutcome, refusesTypes, counted, stops, putPre, passOn, walk};
-
-// The conditions of step k.
-fn check_step(work: &[u32], locations: u32, denominator: u32, k: u32) -> Ruling
-    ensures { λ r. ⌜ outcome r ≡ stepOutcome (now (work .entry)) locations denominator k ⌝ }
-{
-    let r = rule_of(cell(work, WORDS, k));
-    check_rule(r, work, locations, denominator, k)
-}
+ghost use Rattle.steps.specs.Walk.{refusesTypes, counted, stops, putPre, passOn, walk};
 
 // Whether a refusal is on types.
 fn on_types(refusal: Refusal) -> bool

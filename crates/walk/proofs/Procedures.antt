@@ -29,15 +29,16 @@ use Rattle.workspace.proofs.Sheets.{program-here, program-sized, root-here, roo
 use Rattle.conditions.specs.Outcome.{both}
 use Rattle.conditions.specs.SheetOutcomes.{startOutcome}
 use Rattle.conditions.proofs.Shown.{within-shown}
+use Rattle.views.specs.StepView.{cell}
+use Rattle.views.proofs.Scopes.{by-procedure, scoped-none, scoped-more}
+use Rattle.views.proofs.Views.{part-at, signed}
 use Rattle.rules.proofs.TableRows.{procedure-shown}
-use Rattle.steps.specs.Walk.{cell, counted, putPre, walk}
+use Rattle.steps.specs.Walk.{counted, putPre, walk}
 use Rattle.walk.specs.Bodies.{procedureOutcome, bodyOutcome}
 use Rattle.walk.specs.Contract.{ruledFor}
 use Rattle.steps.specs.Asked.{asked}
 use Rattle.steps.proofs.Asked.{procedure-counted}
 use Rattle.steps.proofs.Claims.{firstAsked, asked-parts, none-asked}
-use Rattle.steps.proofs.Scopes.{by-procedure, scoped-none, scoped-more}
-use Rattle.steps.proofs.Views.{part-at, signed}
 use Rattle.steps.proofs.Transfer.{expression-shown}
 
 -- ------------------------------------------------------------------ where they stand

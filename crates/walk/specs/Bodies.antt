@@ -5,8 +5,9 @@ use Rattle.spec.specs.Reading.{Out}
 use Rattle.spec.specs.declared.Purpose.{Purpose}
 use Rattle.workspace.specs.Layout.{procLinesAt, procFirstsAt, rowTypesAt, postsAt, sigBeforesAt}
 use Rattle.conditions.specs.Outcome.{both, firstFalseFrom}
+use Rattle.views.specs.StepView.{cell, signatureOf}
 use Rattle.rules.specs.Table.{procedureRow}
-use Rattle.steps.specs.Walk.{cell, signatureOf, counted, putPre, walk}
+use Rattle.steps.specs.Walk.{counted, putPre, walk}
 
 -- the conditions at the `proc` line of procedure f: its body begins where the next step stands
 unfoldable pub procedureOutcome : (w : List ℕ) → (locations f : ℕ) → Out (Unit {0})

@@ -1,13 +1,13 @@
 // The bodies of the procedures, called or not, then the root.
 use conditions::Ruling;
-use rules::check_procedure;
+use sequential_rules::check_procedure;
 use spec::MapNumber;
 use spec::Purpose;
 use spec::TypeNumber;
-use steps::cell;
 use steps::check_steps;
 use steps::refuses;
-use steps::signature_of;
+use views::cell;
+use views::signature_of;
 use workspace::POSTS;
 use workspace::PROC_FIRSTS;
 use workspace::PROC_LINES;

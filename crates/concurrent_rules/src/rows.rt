@@ -1,0 +1,80 @@
+// The conditions of a step that makes a thread identifier, a thread, a lock, a semaphore or a read-write lock: the rules of
+// Figure 5, in the printed order, and behind them those of section 3.1.4 and of document 02, request (xi).
+use conditions::Relation;
+use conditions::Ruling;
+use conditions::also;
+use conditions::flow;
+use conditions::type_false;
+use rules::at_least;
+use rules::equal;
+use rules::sum;
+use spec::TypeLine;
+use views::View;
+ghost use mathlib.Core.Path.{_≡_};
+ghost use Rattle.conditions.specs.Outcome.{outcome, firstFalseFrom};
+ghost use Rattle.rules.specs.Table.{newtRow, spawnRow, newlRow, newsemRow, newrwlockRow};
+
+// NEWT: 1 a tid type; 2 post = pre.
+pub fn check_newt(work: &[u32], s: View, kind: TypeLine) -> Ruling
+    ensures { λ r. ⌜ outcome r ≡ firstFalseFrom (s .line) 1 (newtRow (now (work .entry)) s kind) ⌝ }
+{
+    let TypeLine::Tid(_) = kind else {
+        return type_false(s.line, 1);
+    };
+    equal(work, s, 2, s.post, s.pre)
+}
+
+// SPAWN: 1 type int; 2 e1 a tid; 3 post of e2 ≥ K; 4 post + s = post of e1.
+pub fn check_spawn(work: &[u32], s: View, kind: TypeLine, kind1: TypeLine) -> Ruling
+    ensures { λ r. ⌜ outcome r ≡ firstFalseFrom (s .line) 1 (spawnRow (now (work .entry)) s kind kind1) ⌝ }
+{
+    let TypeLine::Int = kind else {
+        return type_false(s.line, 1);
+    };
+    let TypeLine::Tid(load) = kind1 else {
+        return type_false(s.line, 2);
+    };
+    also(
+        at_least(work, s, 3, s.post2, load),
+        sum(work, s, 4, s.post, s.start, s.post1),
+    )
+}
+
+// NEWL: 1 a lock type; 2 post + out = pre.
+pub fn check_newl(work: &[u32], s: View, kind: TypeLine) -> Ruling
+    ensures { λ r. ⌜ outcome r ≡ firstFalseFrom (s .line) 1 (newlRow (now (work .entry)) s kind) ⌝ }
+{
+    let TypeLine::Lock(_, out) = kind else {
+        return type_false(s.line, 1);
+    };
+    sum(work, s, 2, s.post, out, s.pre)
+}
+
+// NEWSEM: 1 a sem type; 2 post = pre.
+pub fn check_newsem(work: &[u32], s: View, kind: TypeLine) -> Ruling
+    ensures { λ r. ⌜ outcome r ≡ firstFalseFrom (s .line) 1 (newsemRow (now (work .entry)) s kind) ⌝ }
+{
+    let TypeLine::Sem(_) = kind else {
+        return type_false(s.line, 1);
+    };
+    equal(work, s, 2, s.post, s.pre)
+}
+
+// NEWRWLOCK: 1 a rwlock type; 2 N × r ≤ w; 3 post + w = pre.
+pub fn check_newrwlock(work: &[u32], s: View, kind: TypeLine) -> Ruling
+    ensures { λ r. ⌜ outcome r ≡ firstFalseFrom (s .line) 1 (newrwlockRow (now (work .entry)) s kind) ⌝ }
+{
+    let TypeLine::Rwlock(read, write) = kind else {
+        return type_false(s.line, 1);
+    };
+    also(
+        flow(
+            s.line,
+            2,
+            work,
+            s.locations,
+            Relation::Covers(write, s.value, read),
+        ),
+        sum(work, s, 3, s.post, write, s.pre),
+    )
+}

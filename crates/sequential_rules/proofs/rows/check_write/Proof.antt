@@ -1,0 +1,57 @@
+-- The five conditions of `write`, each told by the test or the call that judges it.
+use mathlib.Core.Path.{refl, sym, _∙_}
+use borrow.Author.Tests.{not-true, not-false}
+use Rattle.spec.specs.Kinds.{int, ref, sameKind, is, refLocation, content}
+use Rattle.spec.proofs.TypeKinds.{of-is}
+use Rattle.conditions.proofs.FirstFalse.{last, next, pass, fail}
+use Rattle.conditions.proofs.TypeKinds.{not-of}
+use Rattle.conditions.specs.Agreement.{containsIn}
+use borrow.Author.Needs.{needs}
+use Rattle.sequential_rules.proofs.rows.check_write.Statement.{statement}
+use Rattle.sequential_rules.proofs.rows.check_write.Tie as tie
+
+returns-2 : tie.Need-returns-2
+returns-2 c =
+    pass _ _ _ _ (of-is (c .before .before .enum-told .given .1))
+    (fail _ _ _ _ (not-of ref _ (c .before .match2 .keys2)) (c .type-false2 .ensures))
+
+returns-3 : tie.Need-returns-3
+unfolding is sameKind containsIn content
+returns-3 c =
+    let content = c .before .before in
+    let part = content .before .before in
+    rw (part .before .before .enum-told .given .1, part .kind1 .given .1)
+    (pass _ _ _ _ refl
+    (pass _ _ _ _ refl
+    (fail _ _ _ _ (sym (content .agrees .ensures) ∙ not-true _ (c .before .if1 .taken)) (c .type-false3 .ensures))))
+
+returns-4 : tie.Need-returns-4
+unfolding is sameKind refLocation containsIn content
+returns-4 c =
+    let test = c .before .before .before in
+    let content = test .before in
+    let part = content .before .before in
+    rw (part .before .before .enum-told .given .1, part .kind1 .given .1)
+    (pass _ _ _ _ refl
+    (pass _ _ _ _ refl
+    (pass _ _ _ _ (sym (content .agrees .ensures) ∙ not-false _ (test .if1 .left))
+    (next _ _ _ _ _ _ (c .also .ensures) (c .before .before .equal .ensures)
+    (last _ _ _ (c .before .has .ensures))))))
+
+pub check-write-spec : {M : Type 1} → statement M
+check-write-spec =
+    tie.close
+    (tie.spec
+    (λ c. search needs)
+    (λ c κs. search needs)
+    (λ c. fail _ _ _ _ (not-of int _ (c .before .match .keys2)) (c .type-false .ensures))
+    (λ c. search needs)
+    (λ c κs. search needs)
+    returns-2
+    (λ c κs. search needs)
+    (λ c κs. search needs)
+    returns-3
+    (λ c κs. search needs)
+    (λ c κs. search needs)
+    (λ c κs. search needs)
+    returns-4)

@@ -1,0 +1,141 @@
+// The conditions of a step that its thread does alone: the rules of Figure 5, in the printed order, and behind them that of
+// calls, document 02, request (xiv).
+use conditions::Ruling;
+use conditions::agrees;
+use conditions::also;
+use conditions::has;
+use conditions::may_show;
+use conditions::type_false;
+use rules::at_least;
+use rules::equal;
+use rules::sum;
+use spec::TypeLine;
+use views::View;
+ghost use mathlib.Core.Path.{_≡_};
+ghost use Rattle.conditions.specs.Outcome.{outcome, firstFalseFrom};
+ghost use Rattle.rules.specs.Table.{varRow, intRow, letRow, ifRow, whileRow, refRow, writeRow, readRow, callRow};
+
+// VAR: 1 type is that of its let's e1, or for a lock a looser one; 2 post = pre.
+pub fn check_var(work: &[u32], s: View) -> Ruling
+    ensures { λ r. ⌜ outcome r ≡ firstFalseFrom (s .line) 1 (varRow (now (work .entry)) s) ⌝ }
+{
+    if !may_show(work, s.locations, s.typed, s.bound) {
+        return type_false(s.line, 1);
+    }
+    equal(work, s, 2, s.post, s.pre)
+}
+
+// INT: 1 type int; 2 post = pre.
+pub fn check_int(work: &[u32], s: View, kind: TypeLine) -> Ruling
+    ensures { λ r. ⌜ outcome r ≡ firstFalseFrom (s .line) 1 (intRow (now (work .entry)) s kind) ⌝ }
+{
+    let TypeLine::Int = kind else {
+        return type_false(s.line, 1);
+    };
+    equal(work, s, 2, s.post, s.pre)
+}
+
+// LET: 1 type of e2; 2 post = post of e2.
+pub fn check_let(work: &[u32], s: View) -> Ruling
+    ensures { λ r. ⌜ outcome r ≡ firstFalseFrom (s .line) 1 (letRow (now (work .entry)) s) ⌝ }
+{
+    if !agrees(work, s.locations, s.typed, s.type2) {
+        return type_false(s.line, 1);
+    }
+    equal(work, s, 2, s.post, s.post2)
+}
+
+// IF: 1 type of e1; 2 type of e2; 3 post of e1 ≥ post; 4 post of e2 ≥ post.
+pub fn check_if(work: &[u32], s: View) -> Ruling
+    ensures { λ r. ⌜ outcome r ≡ firstFalseFrom (s .line) 1 (ifRow (now (work .entry)) s) ⌝ }
+{
+    if !agrees(work, s.locations, s.typed, s.type1) {
+        return type_false(s.line, 1);
+    }
+    if !agrees(work, s.locations, s.typed, s.type2) {
+        return type_false(s.line, 2);
+    }
+    also(
+        at_least(work, s, 3, s.post1, s.post),
+        at_least(work, s, 4, s.post2, s.post),
+    )
+}
+
+// WHILE: 1 type int; 2 pre ≥ post; 3 post of part ≥ post.
+pub fn check_while(work: &[u32], s: View, kind: TypeLine) -> Ruling
+    ensures { λ r. ⌜ outcome r ≡ firstFalseFrom (s .line) 1 (whileRow (now (work .entry)) s kind) ⌝ }
+{
+    let TypeLine::Int = kind else {
+        return type_false(s.line, 1);
+    };
+    let body = s.post1;
+    also(
+        at_least(work, s, 2, s.pre, s.post),
+        at_least(work, s, 3, body, s.post),
+    )
+}
+
+// REF: 1 a ref type whose c is the part's type; 2 post = post of part.
+pub fn check_ref(work: &[u32], s: View, kind: TypeLine) -> Ruling
+    ensures { λ r. ⌜ outcome r ≡ firstFalseFrom (s .line) 1 (refRow (now (work .entry)) s kind) ⌝ }
+{
+    let TypeLine::Ref(_, content) = kind else {
+        return type_false(s.line, 1);
+    };
+    if !agrees(work, s.locations, content, s.type1) {
+        return type_false(s.line, 1);
+    }
+    equal(work, s, 2, s.post, s.post1)
+}
+
+// WRITE: 1 type int; 2 e1 a ref; 3 type of e2 is c; 4 post = post of e2; 5 post at p ≥ D.
+pub fn check_write(work: &[u32], s: View, kind: TypeLine, kind1: TypeLine) -> Ruling
+    ensures { λ r. ⌜ outcome r ≡ firstFalseFrom (s .line) 1 (writeRow (now (work .entry)) s kind kind1) ⌝ }
+{
+    let TypeLine::Int = kind else {
+        return type_false(s.line, 1);
+    };
+    let TypeLine::Ref(p, content) = kind1 else {
+        return type_false(s.line, 2);
+    };
+    if !agrees(work, s.locations, content, s.type2) {
+        return type_false(s.line, 3);
+    }
+    also(
+        equal(work, s, 4, s.post, s.post2),
+        has(s.line, 5, work, s.post, p, s.denominator),
+    )
+}
+
+// READ: 1 part a ref; 2 type is c; 3 post = post of part; 4 post at p > 0.
+pub fn check_read(work: &[u32], s: View, kind1: TypeLine) -> Ruling
+    ensures { λ r. ⌜ outcome r ≡ firstFalseFrom (s .line) 1 (readRow (now (work .entry)) s kind1) ⌝ }
+{
+    let TypeLine::Ref(p, content) = kind1 else {
+        return type_false(s.line, 1);
+    };
+    if !agrees(work, s.locations, content, s.typed) {
+        return type_false(s.line, 2);
+    }
+    also(
+        equal(work, s, 3, s.post, s.post1),
+        has(s.line, 4, work, s.post, p, 1),
+    )
+}
+
+// CALL: 1 type is result; 2 type of part is argument; 3 post of part = before + s; 4 post = after + s.
+pub fn check_call(work: &[u32], s: View) -> Ruling
+    ensures { λ r. ⌜ outcome r ≡ firstFalseFrom (s .line) 1 (callRow (now (work .entry)) s) ⌝ }
+{
+    let g = s.signature;
+    if !agrees(work, s.locations, s.typed, g.result) {
+        return type_false(s.line, 1);
+    }
+    if !agrees(work, s.locations, s.type1, g.argument) {
+        return type_false(s.line, 2);
+    }
+    also(
+        sum(work, s, 3, g.before, s.start, s.post1),
+        sum(work, s, 4, g.after, s.start, s.post),
+    )
+}

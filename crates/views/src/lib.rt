@@ -1,0 +1,38 @@
+// What the conditions of a step look at, and how the columns of the work space show it.
+mod columns;
+
+pub use columns::binary_view;
+pub use columns::cell;
+pub use columns::leaf_view;
+pub use columns::signature_of;
+pub use columns::unary_view;
+use spec::MapNumber;
+use spec::TypeNumber;
+
+// What the split says of a procedure: the map before its body, the argument's type, the map after, the result's type.
+pub struct Signature {
+    pub before: MapNumber,
+    pub argument: TypeNumber,
+    pub after: MapNumber,
+    pub result: TypeNumber,
+}
+
+// What the conditions of a step look at: the sheet's locations and denominator, the step's line and number, the types and
+// maps of the step and of its parts, for a `var` the type of its let's e1 or of its procedure's argument, and for a `call`
+// the signature of the procedure.
+pub struct View {
+    pub line: u32,
+    pub value: u32,
+    pub locations: u32,
+    pub denominator: u32,
+    pub typed: TypeNumber,
+    pub type1: TypeNumber,
+    pub type2: TypeNumber,
+    pub bound: TypeNumber,
+    pub pre: MapNumber,
+    pub post: MapNumber,
+    pub start: MapNumber,
+    pub post1: MapNumber,
+    pub post2: MapNumber,
+    pub signature: Signature,
+}
