@@ -12,7 +12,7 @@ use Rattle.spec.specs.Split.{postField}
 use Rattle.spec.specs.declared.Purpose.the-variants.{Check, Fill}
 use Rattle.spec.proofs.Clashes.{none-is-not-some}
 use Rattle.lexer.specs.Views.{endOf, firstField}
-use Rattle.lexer.specs.Cursors.{Placed, rest, behindField, spanAt}
+use Rattle.lexer.specs.Cursors.{Placed, rest, spanAt}
 use Rattle.lexer.specs.Numbers.{numeralOf, numberAt, stored, Spells}
 use Rattle.lexer.specs.declared.Cursor.{Cursor}
 use Rattle.lexer.specs.declared.Span.{Span}

@@ -6,12 +6,12 @@ use mathlib.Core.Option.{Option, none, some}
 use Prim.Native.Nat.{ℕ, _+_, _≤_, _<_}
 use native.Mathlib.Omega.{arith}
 use lib.Dec.{eqb, leb}
-use lib.ListN.{length, take, drop, getD, length-map}
+use lib.ListN.{length, take, drop, getD}
 use lib.Seq.{length-take-le}
 use borrow.Author.Tests.{leb-true, leb-false, lt-leb}
 use Rattle.spec.specs.Choice.{if_then_else_}
 use Rattle.spec.specs.Text.{bytes, same, Field, lookUp, lines}
-use Rattle.spec.specs.Reading.{splitSheet, stop, on, Seen, right, wrong, badForm, badRange, seen, _to_, inRange, allInRange, numerals, ranged, numbers, form, passed, nextLine, readLine}
+use Rattle.spec.specs.Reading.{splitSheet, stop, on, Seen, right, wrong, badForm, badRange, seen, inRange, allInRange, numerals, ranged, numbers, form, passed, nextLine, readLine}
 use Rattle.spec.specs.Split.{Header, headings, headerRanges, mapsOf, mapsIn, startOf, headerOf, headed, headerLine}
 use Rattle.spec.specs.declared.Heading.{Heading}
 use Rattle.spec.specs.declared.Heading.the-variants.{C, C2, C3}

@@ -20,7 +20,8 @@ use Rattle.lexer.specs.Numbers.{stored, Spells}
 use Rattle.lexer.proofs.Stored.{AllNarrow, stored-judged}
 use Rattle.split_fields.specs.Answers.{PostSpells}
 use Rattle.split_fields.proofs.Tests.{out-below}
-use Rattle.split_rows.specs.Lines.{wordLine, startLimit}
+use Rattle.split_starts.specs.Starts.{startLimit}
+use Rattle.split_rows.specs.Lines.{wordLine}
 
 -- the ranges of the numbers that are handed on, without a start and with one
 abbrev pub two : Header → List Range

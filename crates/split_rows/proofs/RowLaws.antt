@@ -2,20 +2,17 @@
 use mathlib.Core.Path.{_≡_, refl, sym, ap, subst, _∙_}
 use mathlib.Core.Logic.{⊎-elim}
 use mathlib.Core.List.{List, [], _∷_}
-use mathlib.Core.Bool.{Bool, true, false, _&&_, not}
+use mathlib.Core.Bool.{Bool, true, false, _&&_}
 use Prim.Native.Nat.{ℕ, _+_, _≤_, _<_}
 use lib.ListN.{length}
 use Rattle.spec.specs.Choice.{if_then_else_}
-use Rattle.spec.specs.Text.{lines, Line, Field}
-use Rattle.spec.specs.Reading.{splitSheet, Out, stop, Place, Seen, right, wrong, badRange, noStart, noKept, insist, below, inRange, allInRange, faulty, passed, readLine}
+use Rattle.spec.specs.Text.{lines, Field}
+use Rattle.spec.specs.Reading.{splitSheet, Out, stop, Place, Seen, right, wrong, badRange, insist, below, inRange, allInRange, passed, readLine}
 use Rattle.spec.specs.Split.{Header, Row, rowOf, startRange, mayBeEmpty, emptyFault}
-use Rattle.spec.specs.Words.{takesStart, keepsBack}
 use Rattle.spec.specs.declared.Purpose.{Purpose}
-use Rattle.spec.specs.declared.Refusal.the-variants.{SplitForm, SplitRange, NoStart, NoKept}
+use Rattle.spec.specs.declared.Refusal.the-variants.{SplitForm, SplitRange}
 use Rattle.spec.specs.declared.Word.{Word}
 use Rattle.spec.specs.declared.MapNumber.{MapNumber}
-use Rattle.spec.specs.declared.Heading.{Heading}
-use Rattle.spec.specs.declared.Heading.the-variants.{C, C2, C3}
 use Rattle.lexer.specs.Views.{endOf, firstField, lineAt}
 use Rattle.lexer.specs.Cursors.{Placed, rest, behindField, placeAt}
 use Rattle.lexer.specs.declared.Cursor.{Cursor}
@@ -27,42 +24,16 @@ use Rattle.split_fields.specs.declared.Start.the-variants as start
 use Rattle.split_fields.specs.Answers.{LeadingAnswer, PostAnswer, StartAnswer}
 use Rattle.split_fields.proofs.FieldsInTurn.{shown, behind-field, field-wrong, field-last, field-more, at-cursor}
 use Rattle.split_fields.proofs.LineLaws.{shows-range, shows-entry, comma-line, comma-placed, comma-kept}
+use Rattle.split_starts.specs.declared.RowStart.{RowStart}
+use Rattle.split_starts.specs.declared.RowStart.the-variants as row-start
+use Rattle.split_starts.specs.Starts.{startTold, emptyRefusal}
+use Rattle.split_starts.proofs.StartLaws.{shows-empty}
 use Rattle.split_rows.specs.declared.rows.Row.{Row as RowNumbers}
-use Rattle.split_rows.specs.declared.rows.RowStart.{RowStart}
-use Rattle.split_rows.specs.declared.rows.RowStart.the-variants as row-start
 use Rattle.split_rows.specs.declared.rows.RowRead.{RowRead}
 use Rattle.split_rows.specs.declared.rows.RowRead.the-variants as row-read
-use Rattle.split_rows.specs.Lines.{startTold, rowTold, wordLine, startLimit, emptyRefusal, rowMade, startRanged, rowRanged}
+use Rattle.split_rows.specs.Lines.{rowTold, wordLine, rowMade, startRanged, rowRanged}
 use Rattle.split_rows.specs.Answers.{RowAnswer}
 use Rattle.split_rows.proofs.RowFields.{two, three, first-alone, second-alone, fourth-bad, first-bad, second-bad, third-bad, row-empty, row-given}
-
--- ------------------------------------------------------------------ where a start is, and where it is asked for
-
-pub limit-all : (w : Word) (n : ℕ) → takesStart w ≡ true → n ≡ startLimit w n
-limit-all w n e = sym (rw e)
-
-pub limit-none : (w : Word) (n : ℕ) → takesStart w ≡ false → 0 ≡ startLimit w n
-limit-none w n e = sym (rw e)
-
-pub start-asked : (h : Heading) (w : Word) {x : Bool} → h ≡ C → x ≡ takesStart w → not x ≡ mayBeEmpty h w
-unfolding mayBeEmpty
-start-asked h w e q = sym (rw (e, q))
-
-pub kept-asked : (h : Heading) (w : Word) {x : Bool} → h ≡ C2 → x ≡ keepsBack w → not x ≡ mayBeEmpty h w
-unfolding mayBeEmpty
-kept-asked h w e q = sym (rw (e, q))
-
-pub kept-asked-3 : (h : Heading) (w : Word) {x : Bool} → h ≡ C3 → x ≡ keepsBack w → not x ≡ mayBeEmpty h w
-unfolding mayBeEmpty
-kept-asked-3 h w e q = sym (rw (e, q))
-
-pub kept-refused : (w : Word) (line : ℕ) → keepsBack w ≡ true → NoKept line ≡ emptyRefusal w line
-unfolding emptyRefusal
-kept-refused w line e = sym (rw e)
-
-pub start-refused : (w : Word) (line : ℕ) → keepsBack w ≡ false → NoStart line ≡ emptyRefusal w line
-unfolding emptyRefusal
-start-refused w line e = sym (rw e)
 
 -- ------------------------------------------------------------------ the numbers of a row in their ranges
 
@@ -98,15 +69,6 @@ module _ (line : ℕ) (row : RowNumbers) (w : Word) (H : Header) (c : Cursor) wh
       start-left h = sym (rw h) ∙ started empty
 
 -- ------------------------------------------------------------------ the answers of the readers of the fields, as what the line shows
-
--- an empty s that may not be, as the line shows it
-shows-empty : {A : Type 0} (k : ℕ) (l : List Line) (w : Word) {s : Seen A} → s ≡ wrong (emptyFault w) → passed splitSheet k l s ≡ stop (emptyRefusal w k)
-unfolding faulty passed emptyFault emptyRefusal
-shows-empty {A = A} k l w e = go (keepsBack w) e
-  where
-    go : (x : Bool) {s : Seen A} → s ≡ wrong (if x then noKept else noStart) → passed splitSheet k l s ≡ stop (if x then NoKept k else NoStart k)
-    go true e = rw e
-    go false e = rw e
 
 three-tested : (H : Header) (w : Word) (a b n : ℕ) → allInRange (three H w) (a ∷ b ∷ n ∷ []) ≡ (allInRange (two H) (a ∷ b ∷ []) && inRange (startRange w H) n)
 unfolding allInRange

@@ -1,30 +1,23 @@
 -- The line of a procedure and the row of a step, as their readers see them.
 use mathlib.Core.List.{List, [], _∷_}
-use mathlib.Core.Option.{Option, none, some}
 use Prim.Native.Nat.{ℕ}
 use Rattle.spec.specs.Choice.{if_then_else_}
 use Rattle.spec.specs.Text.{Field}
 use Rattle.spec.specs.Reading.{Seen, below, inRange, allInRange}
 use Rattle.spec.specs.Split.{Header, Signature, Row, startRange, mayBeEmpty, rowLine}
-use Rattle.spec.specs.Words.{takesStart, keepsBack}
 use Rattle.spec.specs.declared.Purpose.{Purpose}
-use Rattle.spec.specs.declared.Refusal.{Refusal}
-use Rattle.spec.specs.declared.Refusal.the-variants.{SplitRange, NoStart, NoKept}
+use Rattle.spec.specs.declared.Refusal.the-variants.{SplitRange}
 use Rattle.spec.specs.declared.Word.{Word}
-use Rattle.spec.specs.declared.MapNumber.{MapNumber}
 use Rattle.lexer.specs.declared.Cursor.{Cursor}
+use Rattle.split_starts.specs.declared.RowStart.{RowStart}
+use Rattle.split_starts.specs.declared.RowStart.the-variants as row-start
+use Rattle.split_starts.specs.Starts.{startTold, emptyRefusal}
 use Rattle.split_rows.specs.declared.rows.Row.{Row as RowNumbers}
-use Rattle.split_rows.specs.declared.rows.RowStart.{RowStart}
-use Rattle.split_rows.specs.declared.rows.RowStart.the-variants as row-start
 use Rattle.split_rows.specs.declared.rows.RowRead.{RowRead}
 use Rattle.split_rows.specs.declared.rows.RowRead.the-variants as row-read
 use Rattle.split_rows.specs.declared.signatures.Signature.{Signature as SignatureNumbers}
 
 -- ------------------------------------------------------------------ what the code reads, as document 01 has it
-
-unfoldable pub startTold : RowStart → Option MapNumber
-startTold (row-start.Given m) = some m
-startTold row-start.Empty = none
 
 unfoldable pub rowTold : RowNumbers → Row
 rowTold r = record { type = r .typed; post = r .post; start = startTold (r .start) }
@@ -37,14 +30,6 @@ signatureTold g = record { before = g .before; argument = g .argument; after = g
 -- the row of a step with this word
 unfoldable pub wordLine : Purpose → Header → Word → List Field → Seen Row
 wordLine purpose H w fs = rowLine purpose H (record { word = w; value = 0; line = 0 }) fs
-
--- how many of the maps can be the s of a step with this word
-abbrev pub startLimit : Word → (maps : ℕ) → ℕ
-startLimit w maps = if takesStart w then maps else 0
-
--- the refusal of an empty s that may not be
-unfoldable pub emptyRefusal : Word → (line : ℕ) → Refusal
-emptyRefusal w line = if keepsBack w then NoKept line else NoStart line
 
 unfoldable pub rowMade : (typed post : ℕ) → RowStart → RowNumbers
 rowMade typed post start = record { typed = record { 0 = typed }; post = record { 0 = post }; start = start }

@@ -5,7 +5,6 @@ mod signatures;
 
 pub use rows::Row;
 pub use rows::RowRead;
-pub use rows::RowStart;
 pub use rows::row_line;
 pub use signatures::Signature;
 pub use signatures::SignatureRead;

@@ -1,7 +1,5 @@
 // The line of a step in a split sheet, its row: `t,m,s`.
 use lexer::Cursor;
-use spec::BinaryWord;
-use spec::Heading;
 use spec::MapNumber;
 use spec::Purpose;
 use spec::Refusal;
@@ -13,21 +11,17 @@ use split_fields::both_below;
 use split_fields::leading_number;
 use split_fields::post_field;
 use split_fields::start_field;
+use split_starts::RowStart;
+use split_starts::empty_refusal;
+use split_starts::may_be_empty;
+use split_starts::start_limit;
 use workspace::Header;
 ghost use mathlib.Core.Path.{_≡_};
 ghost use Rattle.spec.specs.Reading.{splitSheet, readLine};
-ghost use Rattle.spec.specs.Split.{mayBeEmpty};
-ghost use Rattle.spec.specs.Words.{takesStart, keepsBack};
 ghost use Rattle.lexer.specs.Cursors.{placeAt};
 ghost use Rattle.workspace.specs.Sheets.{headerTold};
-ghost use Rattle.split_rows.specs.Lines.{wordLine, startLimit, emptyRefusal, rowMade, rowRanged};
+ghost use Rattle.split_rows.specs.Lines.{wordLine, rowMade, rowRanged};
 ghost use Rattle.split_rows.specs.Answers.{AtRow, RowAnswer};
-
-// What a row says of the map that a body starts with or a call keeps back: which, or nothing.
-pub enum RowStart {
-    Given(MapNumber),
-    Empty,
-}
 
 // A step's type, its post, and the start of its body.
 pub struct Row {
@@ -40,64 +34,6 @@ pub struct Row {
 pub enum RowRead {
     Read(Row, Cursor),
     Refused(Refusal),
-}
-
-// Whether the row of a step with this word has a start.
-fn takes_start(word: Word) -> bool
-    ensures { λ r. ⌜ r ≡ takesStart word ⌝ }
-{
-    match word {
-        Word::Leaf(_) => false,
-        Word::Unary(w) => vocabulary::calls(w),
-        Word::Binary(w) => match w {
-            BinaryWord::Let => false,
-            BinaryWord::If => false,
-            BinaryWord::Spawn => true,
-            BinaryWord::Write => false,
-        },
-    }
-}
-
-// Whether a step with this word keeps its s back, and so cannot do without.
-fn keeps_back(word: Word) -> bool
-    ensures { λ r. ⌜ r ≡ keepsBack word ⌝ }
-{
-    match word {
-        Word::Leaf(_) => false,
-        Word::Unary(w) => vocabulary::calls(w),
-        Word::Binary(_) => false,
-    }
-}
-
-// How many of the maps can be the s of a step with this word: "On any other word s is empty".
-fn start_limit(word: Word, maps: usize) -> usize
-    ensures { λ r. ⌜ r ≡ startLimit word maps ⌝ }
-{
-    if takes_start(word) {
-        return maps;
-    }
-    0
-}
-
-// Whether s may be empty on a step with this word, under this heading.
-fn may_be_empty(heading: Heading, word: Word) -> bool
-    ensures { λ r. ⌜ r ≡ mayBeEmpty heading word ⌝ }
-{
-    match heading {
-        Heading::C => !takes_start(word),
-        Heading::C2 => !keeps_back(word),
-        Heading::C3 => !keeps_back(word),
-    }
-}
-
-// The refusal of an empty s that may not be: 50 on a call, 40 on a spawn.
-fn empty_refusal(word: Word, line: u32) -> Refusal
-    ensures { λ r. ⌜ r ≡ emptyRefusal word line ⌝ }
-{
-    if keeps_back(word) {
-        return Refusal::NoKept(line);
-    }
-    Refusal::NoStart(line)
 }
 
 // A row of two numbers and a start.

@@ -4,9 +4,8 @@ use spec::Purpose;
 use split_fields::LinesRead;
 use split_rows::Row;
 use split_rows::RowRead;
-use split_rows::RowStart;
 use split_rows::row_line;
-use workspace::EMPTY_MAP;
+use split_starts::start_number;
 use workspace::Header;
 use workspace::POSTS;
 use workspace::ROW_TYPES;
@@ -17,18 +16,8 @@ ghost use Prim.Native.Nat.{_+_, _<_};
 ghost use lib.ListN.{length, set};
 ghost use Rattle.workspace.specs.Layout.{rowTypesAt, postsAt, startsAt, workSize};
 ghost use Rattle.workspace.specs.Holds.{startNumber};
-ghost use Rattle.split_rows.specs.Lines.{startTold};
+ghost use Rattle.split_starts.specs.Starts.{startTold};
 ghost use Rattle.split_sections.specs.Stored.{StoringRows, RowsRead};
-
-// The number that stands for a start in the work space.
-fn start_number(start: RowStart) -> u32
-    ensures { λ r. ⌜ r ≡ startNumber (startTold start) ⌝ }
-{
-    match start {
-        RowStart::Given(m) => m.0,
-        RowStart::Empty => EMPTY_MAP,
-    }
-}
 
 // Stores a row in the three columns of rows.
 fn store_row(work: &mut [u32], k: usize, row: Row)

@@ -1,7 +1,7 @@
-use Rattle.split_rows.proofs.RowLaws.{start-asked, kept-asked, kept-asked-3}
+use Rattle.split_starts.proofs.StartLaws.{start-asked, kept-asked, kept-asked-3}
 use borrow.Author.Needs.{needs}
-use Rattle.split_rows.proofs.rows.may_be_empty.Statement.{statement}
-use Rattle.split_rows.proofs.rows.may_be_empty.Tie as tie
+use Rattle.split_starts.proofs.may_be_empty.Statement.{statement}
+use Rattle.split_starts.proofs.may_be_empty.Tie as tie
 
 returns : tie.Need-returns
 returns c = start-asked _ _ (c .before .enum-told .given .1) (c .takes-start .ensures)

@@ -1,7 +1,7 @@
 use Rattle.spec.specs.Words.{keepsBack}
 use borrow.Author.Needs.{needs}
-use Rattle.split_rows.proofs.rows.keeps_back.Statement.{statement}
-use Rattle.split_rows.proofs.rows.keeps_back.Tie as tie
+use Rattle.split_starts.proofs.keeps_back.Statement.{statement}
+use Rattle.split_starts.proofs.keeps_back.Tie as tie
 
 returns-2 : tie.Need-returns-2
 unfolding keepsBack

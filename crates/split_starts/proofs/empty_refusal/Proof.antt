@@ -1,8 +1,8 @@
 use mathlib.Core.Path.{sym, _∙_}
-use Rattle.split_rows.proofs.RowLaws.{kept-refused, start-refused}
+use Rattle.split_starts.proofs.StartLaws.{kept-refused, start-refused}
 use borrow.Author.Needs.{needs}
-use Rattle.split_rows.proofs.rows.empty_refusal.Statement.{statement}
-use Rattle.split_rows.proofs.rows.empty_refusal.Tie as tie
+use Rattle.split_starts.proofs.empty_refusal.Statement.{statement}
+use Rattle.split_starts.proofs.empty_refusal.Tie as tie
 
 returns : tie.Need-returns
 returns c = kept-refused _ _ (sym (c .before .keeps-back .ensures) ∙ c .if1 .taken)

@@ -1,8 +1,8 @@
 use Rattle.workspace.specs.Holds.{startNumber}
-use Rattle.split_rows.specs.Lines.{startTold}
+use Rattle.split_starts.specs.Starts.{startTold}
 use borrow.Author.Needs.{needs}
-use Rattle.split_sections.proofs.row_lines.start_number.Statement.{statement}
-use Rattle.split_sections.proofs.row_lines.start_number.Tie as tie
+use Rattle.split_starts.proofs.start_number.Statement.{statement}
+use Rattle.split_starts.proofs.start_number.Tie as tie
 
 returns : tie.Need-returns
 unfolding startNumber startTold

@@ -1,8 +1,8 @@
 use mathlib.Core.Path.{sym, _∙_}
-use Rattle.split_rows.proofs.RowLaws.{limit-all, limit-none}
+use Rattle.split_starts.proofs.StartLaws.{limit-all, limit-none}
 use borrow.Author.Needs.{needs}
-use Rattle.split_rows.proofs.rows.start_limit.Statement.{statement}
-use Rattle.split_rows.proofs.rows.start_limit.Tie as tie
+use Rattle.split_starts.proofs.start_limit.Statement.{statement}
+use Rattle.split_starts.proofs.start_limit.Tie as tie
 
 returns : tie.Need-returns
 returns c = limit-all _ _ (sym (c .before .takes-start .ensures) ∙ c .if1 .taken)

@@ -1,7 +1,7 @@
 use Rattle.spec.specs.Words.{takesStart}
 use borrow.Author.Needs.{needs}
-use Rattle.split_rows.proofs.rows.takes_start.Statement.{statement}
-use Rattle.split_rows.proofs.rows.takes_start.Tie as tie
+use Rattle.split_starts.proofs.takes_start.Statement.{statement}
+use Rattle.split_starts.proofs.takes_start.Tie as tie
 
 returns-2 : tie.Need-returns-2
 unfolding takesStart
