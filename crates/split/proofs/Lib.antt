@@ -1,7 +1,3 @@
-pub mod Turns
-pub mod HeaderLaws
-pub mod Stores
-pub mod Loops
 pub mod SheetLaws
 pub mod WholeLaws
 pub mod Found

@@ -20,12 +20,12 @@ use Rattle.workspace.specs.Steps.{stepsFrom}
 use Rattle.workspace.proofs.Region.{region-kept, changed-then, changed-wider}
 use Rattle.workspace.proofs.Steps.{steps-kept}
 use Rattle.workspace.specs.declared.Header.{Header as HeaderRead}
-use Rattle.split_lines.specs.declared.LinesRead.{LinesRead}
-use Rattle.split_lines.specs.declared.LinesRead.the-variants as lines-read
+use Rattle.split_fields.specs.declared.LinesRead.{LinesRead}
+use Rattle.split_fields.specs.declared.LinesRead.the-variants as lines-read
 use Rattle.workspace.specs.Sheets.{headerTold}
-use Rattle.split_lines.specs.Answers.{SplitCursor}
-use Rattle.split.specs.Stored.{HoldsTypes, HoldsRows, HoldsMaps, HoldsSignatures, EmptyStored, Storing, StoringRows, StoringSignatures, StoringBody, LinesAnswer, TypesRead, MapsRead, SignaturesRead, RowsRead}
-use Rattle.split.specs.Sheet.{body, EndAnswer, BodyAnswer, BodyRead}
+use Rattle.split_fields.specs.Answers.{SplitCursor}
+use Rattle.split_sections.specs.Stored.{HoldsTypes, HoldsRows, HoldsMaps, HoldsSignatures, EmptyStored, Storing, StoringRows, StoringSignatures, LinesAnswer, TypesRead, MapsRead, SignaturesRead, RowsRead}
+use Rattle.split.specs.Sheet.{StoringBody, body, EndAnswer, BodyAnswer, BodyRead}
 
 module _ (purpose : Purpose) {text : List ℕ} {c : Cursor} {h : HeaderRead} {n k : ℕ} {w : List ℕ} (pre : StoringBody text c h n k w)
     {w₁ : List ℕ} {types : LinesRead} (read-types : TypesRead text c h w w₁ types)

@@ -24,15 +24,14 @@ use Rattle.workspace.specs.Steps.{stepsFrom}
 use Rattle.workspace.proofs.Steps.{steps-held}
 use Rattle.workspace.proofs.Region.{changed-nothing}
 use Rattle.workspace.specs.declared.Header.{Header as HeaderRead}
-use Rattle.split.specs.declared.first_line.HeaderLine.{HeaderLine}
-use Rattle.split.specs.declared.first_line.HeaderLine.the-variants as header-line
-use Rattle.split_lines.specs.declared.LinesRead.{LinesRead}
-use Rattle.split_lines.specs.declared.LinesRead.the-variants as lines-read
+use Rattle.split_header.specs.declared.HeaderLine.{HeaderLine}
+use Rattle.split_header.specs.declared.HeaderLine.the-variants as header-line
+use Rattle.split_fields.specs.declared.LinesRead.{LinesRead}
+use Rattle.split_fields.specs.declared.LinesRead.the-variants as lines-read
 use Rattle.split.specs.declared.Sheet.the-variants as sheet
 use Rattle.workspace.specs.Sheets.{headerTold}
-use Rattle.split.specs.Header.{AtHeader, HeaderAnswer}
-use Rattle.split.specs.Stored.{StoringBody}
-use Rattle.split.specs.Sheet.{Readable, body, BodyAnswer, BodyRead, SplitRead}
+use Rattle.split_header.specs.Header.{AtHeader, HeaderAnswer}
+use Rattle.split.specs.Sheet.{Readable, StoringBody, body, BodyAnswer, BodyRead, SplitRead}
 
 module _ {text : List ℕ} {n k : ℕ} {w : List ℕ} (pre : Readable text n k w) (purpose : Purpose) {top : Cursor} (is : top ≡ start) where
   top-rest : rest text top ≡ text

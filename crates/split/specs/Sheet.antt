@@ -12,8 +12,11 @@ use Rattle.workspace.specs.Layout.{rowTypesAt, workSize}
 use Rattle.workspace.specs.Region.{ChangedWithin}
 use Rattle.workspace.specs.Holds.{HoldsSteps, HoldsSplit}
 use Rattle.workspace.specs.Steps.{stepsFrom}
-use Rattle.split_lines.specs.declared.LinesRead.{LinesRead}
-use Rattle.split_lines.specs.declared.LinesRead.the-variants as lines-read
+use Rattle.lexer.specs.declared.Cursor.{Cursor}
+use Rattle.workspace.specs.declared.Header.{Header as HeaderRead}
+use Rattle.split_fields.specs.declared.LinesRead.{LinesRead}
+use Rattle.split_fields.specs.declared.LinesRead.the-variants as lines-read
+use Rattle.split_sections.specs.Stored.{Storing}
 use Rattle.split.specs.declared.Sheet.{Sheet}
 use Rattle.split.specs.declared.Sheet.the-variants as sheet
 use Rattle.workspace.specs.Sheets.{headerTold, Small}
@@ -24,6 +27,13 @@ pub record Readable (text : List ℕ) (steps procedures : ℕ) (w : List ℕ) : 
   pub fewSteps : steps ≤ 256
   pub fewProcedures : procedures ≤ 16
   pub whole : length w ≡ workSize
+
+-- a cursor behind a header, and a work space to store the lines behind it in, with rows of so many steps and signatures of so many
+-- procedures among them
+pub record StoringBody (text : List ℕ) (c : Cursor) (h : HeaderRead) (steps procedures : ℕ) (w : List ℕ) : Type 0 where
+  pub storing : Storing text c h w
+  pub fewSteps : steps ≤ 256
+  pub fewProcedures : procedures ≤ 16
 
 -- the lines behind the header, for k procedures and these steps
 unfoldable pub body : Purpose → Header → (k : ℕ) → List Step → Place → Out Split

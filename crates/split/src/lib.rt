@@ -1,32 +1,21 @@
 // The split sheet, read into the work space line by line: its header, types, maps, signatures and rows.
-mod first_line;
-mod map_lines;
-mod row_lines;
-mod signature_lines;
-mod type_lines;
-
-use first_line::HeaderLine;
-use first_line::header_line;
 use lexer::Cursor;
-use map_lines::read_maps;
-use row_lines::read_rows;
-use signature_lines::read_signatures;
 use spec::Purpose;
 use spec::Refusal;
-use split_lines::LinesRead;
-use type_lines::read_types;
-use workspace::EMPTY_ROW;
+use split_fields::LinesRead;
+use split_header::HeaderLine;
+use split_header::header_line;
+use split_sections::read_maps;
+use split_sections::read_rows;
+use split_sections::read_signatures;
+use split_sections::read_types;
+use split_sections::store_empty;
 use workspace::Header;
-use workspace::STRIDE;
-ghost use mathlib.Core.Path.{_≡_};
-ghost use lib.ListN.{length};
 ghost use Rattle.spec.specs.Reading.{splitSheet, end};
 ghost use Rattle.lexer.specs.Cursors.{placeAt};
-ghost use Rattle.workspace.specs.Layout.{workSize};
 ghost use Rattle.workspace.specs.Sheets.{headerTold};
-ghost use Rattle.split_lines.specs.Answers.{SplitCursor};
-ghost use Rattle.split.specs.Stored.{StoringBody, EmptyStored};
-ghost use Rattle.split.specs.Sheet.{Readable, EndAnswer, BodyRead, SplitRead};
+ghost use Rattle.split_fields.specs.Answers.{SplitCursor};
+ghost use Rattle.split.specs.Sheet.{Readable, StoringBody, EndAnswer, BodyRead, SplitRead};
 
 // The header of a sheet that is in the work space, or the reason to stop.
 pub enum Sheet {
@@ -44,15 +33,6 @@ fn finish(text: &[u8], cursor: Cursor) -> LinesRead
     }
     let line = cursor.line + 1;
     LinesRead::Refused(Refusal::SplitLines(line))
-}
-
-// The empty map, behind the last that a sheet can have: nothing of any location.
-fn store_empty(work: &mut [u32])
-    requires { ⌜ length (now work) ≡ workSize ⌝ }
-    ensures { λ _. ⌜ EmptyStored (now (work .entry)) (now (work .exit)) ⌝ }
-{
-    let past = EMPTY_ROW + STRIDE;
-    workspace::clear(&mut work[EMPTY_ROW..past]);
 }
 
 // The lines behind the header.

@@ -1,5 +1,5 @@
 use mathlib.Core.Path.{sym, _∙_}
-use Rattle.split_lines.proofs.LineLaws.{end-reached, line-spare}
+use Rattle.split_fields.proofs.LineLaws.{end-reached, line-spare}
 use borrow.Author.Needs.{needs}
 use Rattle.split.proofs.finish.Statement.{statement}
 use Rattle.split.proofs.finish.Tie as tie

@@ -1,0 +1,4 @@
+pub mod Tests
+pub mod FieldLaws
+pub mod LineLaws
+pub mod FieldsInTurn

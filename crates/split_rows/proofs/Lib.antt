@@ -1,0 +1,3 @@
+pub mod RowFields
+pub mod RowLaws
+pub mod SignatureLaws

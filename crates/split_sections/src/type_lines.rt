@@ -1,0 +1,49 @@
+// The type lines of the split sheet, into the work space.
+use lexer::Cursor;
+use spec::TypeLine;
+use split_fields::LinesRead;
+use split_types::TypeRead;
+use split_types::type_line;
+use workspace::FIRSTS;
+use workspace::Header;
+use workspace::KINDS;
+use workspace::SECONDS;
+ghost use mathlib.Core.Path.{_≡_};
+ghost use Prim.Native.Nat.{_+_, _<_};
+ghost use lib.ListN.{length, set};
+ghost use Rattle.workspace.specs.Layout.{kindsAt, firstsAt, secondsAt, workSize, kindCode, firstOf, secondOf};
+ghost use Rattle.split_sections.specs.Stored.{Storing, TypesRead};
+
+// Stores a type in the three columns of types.
+fn store_type(work: &mut [u32], own: usize, t: TypeLine)
+    requires { ⌜ (length (now work) ≡ workSize) × (own < 64) ⌝ }
+    ensures { λ _. ⌜ now (work .exit) ≡ set (set (set (now (work .entry)) (kindsAt + own) (kindCode t)) (firstsAt + own) (firstOf t)) (secondsAt + own) (secondOf t) ⌝ }
+{
+    work[KINDS + own] = workspace::kind_of(t);
+    work[FIRSTS + own] = workspace::first_of(t);
+    work[SECONDS + own] = workspace::second_of(t);
+}
+
+// The type lines, from a cursor on.
+pub fn read_types(text: &[u8], from: Cursor, header: Header, work: &mut [u32]) -> LinesRead
+    requires { ⌜ Storing (now text) from header (now work) ⌝ }
+    ensures { λ r. ⌜ TypesRead (now (text .entry)) from header (now (work .entry)) (now (work .exit)) r ⌝ }
+{
+    let types = header.types;
+    let mut cursor = from;
+    let mut own = 0;
+    while own < types {
+        let found = type_line(text, cursor, own, header);
+        match found {
+            TypeRead::Read(t, next) => {
+                store_type(work, own, t);
+                cursor = next;
+            }
+            TypeRead::Refused(r) => {
+                return LinesRead::Refused(r);
+            }
+        }
+        own += 1;
+    }
+    LinesRead::Read(cursor)
+}

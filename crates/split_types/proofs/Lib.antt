@@ -1,0 +1,3 @@
+pub mod Tests
+pub mod TypeLaws
+pub mod MapLaws

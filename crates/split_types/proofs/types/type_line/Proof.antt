@@ -1,0 +1,138 @@
+-- A type line: its word, its two numerals, and what they come to.
+use borrow.Author.Needs.{needs}
+use mathlib.Core.Path.{_≡_, refl, sym, ap, subst, _∙_}
+use mathlib.Core.List.{List}
+use Prim.Native.Nat.{ℕ, _+_, _<_}
+use lib.ListN.{length}
+use Rattle.spec.specs.Reading.{splitSheet, readLine}
+use Rattle.spec.specs.Split.{typeLine}
+use Rattle.lexer.specs.Cursors.{rest, placeAt}
+use Rattle.vocabulary.specs.Words.{typeWordOf}
+use Rattle.lexer.specs.declared.Cursor.{Cursor}
+use Rattle.lexer.proofs.LineEnds.{numbers-none, numbers-read}
+use Rattle.lexer.proofs.Walks.{left-some}
+use Rattle.workspace.specs.Sheets.{headerTold}
+use Rattle.split_fields.specs.Answers.{HeadAnswer}
+use Rattle.split_fields.specs.declared.Head.the-variants as head
+use Rattle.split_types.specs.Answers.{TypeAnswer}
+use Rattle.split_types.specs.declared.types.TypeSeen.{TypeSeen}
+use Rattle.split_types.specs.declared.types.TypeSeen.the-variants as type-seen
+use Rattle.split_fields.proofs.LineLaws.{line-missing, comma-placed}
+use Rattle.split_types.proofs.TypeLaws.{no-comma, type-form, typeAnswer, type-answered}
+use Rattle.split_types.proofs.types.type_line.Statement.{statement}
+use Rattle.split_types.proofs.types.type_line.Tie as tie
+
+-- there is a line
+module _ (s : tie.Else1) where
+  abbrev start : tie.Start
+  start = s .before .before .before
+
+  abbrev text : List ℕ
+  text = start .args .text .now
+
+  abbrev cursor : Cursor
+  cursor = start .args .cursor
+
+  left : 0 < length (rest text cursor)
+  left = left-some (rest text cursor) (sym (s .before .at-end .ensures) ∙ s .if1 .left)
+
+-- a comma ends its word
+module _ (s : tie.After-from) where
+  abbrev some-line : tie.Else1
+  some-line = s .before .before .before .before
+
+  word : HeadAnswer (text some-line) (cursor some-line) (head.Field (s .from .given .0 .0) (s .from .given .0 .1 .0) (s .from .given .0 .1 .1 .0))
+  word = subst (HeadAnswer (text some-line) (cursor some-line)) (s .from .given .1) (s .before .before .first-field .ensures)
+
+-- its numerals are read
+module _ (s : tie.After-type-of) where
+  abbrev read : tie.After-read
+  read = s .before .before
+
+  abbrev numbers : tie.After-numbers
+  numbers = read .before .before .before
+
+  abbrev kind : tie.After-type-word
+  kind = numbers .before .before
+
+  abbrev field : tie.After-from
+  field = kind .before .before .before
+
+  abbrev line : tie.Else1
+  line = some-line field
+
+  answered : (x : TypeSeen) → s .type-of .result ≡ x
+      → TypeAnswer (text line) (readLine splitSheet (typeLine (headerTold (start line .args .header)) (start line .args .own)) (placeAt (text line) (cursor line))) (typeAnswer x (cursor line .line + 1) (read .read .given .0 .0))
+  unfolding headerTold
+  answered =
+      let pre = start line .pre in
+      let w = word field in
+      let behind = comma-placed _ _ _ (pre .reading .placed) (w .3) (w .4) in
+      type-answered (headerTold (start line .args .header)) (start line .args .own) (text line) (cursor line) (left line) (pre .reading .placed) (w .3) _ (w .4)
+      (pre .small .locations, pre .small .maps, pre .numbered) _ (kind .type-word .ensures ∙ ap typeWordOf (w .2))
+      (numbers .numbers .last .1 .1 .0) _ (numbers-read (numbers .numbers .ensures) 2 refl behind (read .read .given .1)) _ (s .type-of .ensures)
+
+returns : tie.Need-returns
+returns c = line-missing _ _ _ (sym (c .before .at-end .ensures) ∙ c .if1 .taken)
+
+returns-2 : tie.Need-returns-2
+returns-2 c =
+    let first-field = c .before .before in
+    let line = first-field .before .before in
+    no-comma (headerTold (start line .args .header)) (start line .args .own) (text line) (cursor line) (left line)
+    (subst (HeadAnswer (text line) (cursor line)) (c .enum-told .given .1) (first-field .first-field .ensures))
+
+numbers-requires : tie.Need-numbers-requires
+numbers-requires c κs =
+    let field = c .before .before .before .before in
+    comma-placed _ _ _ (start (some-line field) .pre .reading .placed) (word field .3) (word field .4)
+
+returns-3 : tie.Need-returns-3
+returns-3 c =
+    let numbers = c .before .before .before in
+    let field = numbers .before .before .before .before .before in
+    let line = some-line field in
+    type-form (headerTold (start line .args .header)) (start line .args .own) (text line) (cursor line) (left line) (start line .pre .reading .placed) (word field .3) _ (word field .4)
+    (numbers-none (numbers .numbers .ensures) 2 refl (c .enum-told2 .given .1) .0)
+
+returns-4 : tie.Need-returns-4
+unfolding typeAnswer
+returns-4 c = answered (c .before .before .before) (type-seen.Right _) (c .before .seen .given .1)
+
+returns-5 : tie.Need-returns-5
+unfolding typeAnswer
+returns-5 c = answered (c .before .before) type-seen.BadForm (c .enum-told3 .given .1)
+
+returns-6 : tie.Need-returns-6
+unfolding typeAnswer
+returns-6 c = answered (c .before .before) type-seen.BadRange (c .enum-told4 .given .1)
+
+pub type-line-spec : {M : Type 1} → statement M
+type-line-spec =
+    tie.close
+    (tie.spec
+    (λ c κs. search needs)
+    returns
+    (λ c. search needs)
+    (λ c κs. search needs)
+    (λ c. search needs)
+    (λ c. search needs)
+    returns-2
+    (λ c. word (c .before) .0)
+    (λ c. word (c .before) .0)
+    (λ c. word (c .before) .1)
+    (λ c κs. search needs)
+    (λ c. search needs)
+    numbers-requires
+    (λ c. search needs)
+    (λ c. search needs)
+    returns-3
+    (λ c. search needs)
+    (λ c. search needs)
+    (λ c κs. search needs)
+    (λ c. search needs)
+    (λ c. search needs)
+    (λ c. search needs)
+    returns-4
+    returns-5
+    returns-6)
