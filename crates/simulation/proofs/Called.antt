@@ -23,7 +23,7 @@ use Rattle.control.specs.Shapes.{shapeOf, shapeAt}
 use Rattle.control.specs.Control.{leave, keptAt, callsAt, variable, kept, calledFrom, continuation, firstOf, focus, entering, readyAt}
 use Rattle.reduction.specs.declared.words.Act.{Act}
 use Rattle.reduction.specs.declared.words.Act.the-variants.{Go}
-use Rattle.reduction.specs.Calls.{above, rowClearedFrom, rowCleared, calleeOf, callEntered, argumentPut, calledSpace}
+use Rattle.call_step.specs.Calls.{above, rowClearedFrom, rowCleared, calleeOf, callEntered, argumentPut, calledSpace}
 use Rattle.reduction.specs.Words.{actedBy, acted}
 use Rattle.engine.specs.Focuses.{focusAt}
 use Rattle.engine.specs.Steps.{afterAct}

@@ -14,7 +14,7 @@ use Rattle.threads.specs.declared.State.the-variants.{Running, Finished, Joined
 use Rattle.threads.specs.declared.Record.{Record}
 use Rattle.threads.specs.declared.Threads.{Threads}
 use Rattle.threads.specs.Records.{noRecord}
-use Rattle.reduction.specs.declared.slots.Slot.{Slot}
+use Rattle.things.specs.declared.Slot.{Slot}
 use Rattle.reduction.specs.Slots.{slotAt}
 use Rattle.engine.specs.Focuses.{focusAt}
 use Rattle.reduction.specs.Words.{countsAt, nextAt}

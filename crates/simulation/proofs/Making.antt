@@ -25,12 +25,12 @@ use Rattle.workspace.specs.Layout.{ruleOf, printed}
 use Rattle.threads.specs.declared.Threads.{Threads}
 use Rattle.control.specs.Shapes.{shapeOf, shapeAt, isWrite}
 use Rattle.control.specs.Control.{continuation, returning, stoppedAt, readyAt}
-use Rattle.reduction.specs.declared.slots.Slot.{Slot}
+use Rattle.things.specs.declared.Slot.{Slot}
 use Rattle.control.specs.declared.Focus.{Focus}
 use Rattle.reduction.specs.declared.words.Act.{Act}
 use Rattle.reduction.specs.declared.words.Act.the-variants as act
-use Rattle.reduction.specs.Slots.{slot, slotAt, slotPut}
-use Rattle.reduction.specs.Uses.{madeOf, usedBy}
+use Rattle.things.specs.Uses.{slot, madeOf, usedBy}
+use Rattle.reduction.specs.Slots.{slotAt, slotPut}
 use Rattle.reduction.specs.Words.{countsAt, nextAt, given, withThing, newThing, subject, operand, effected, wordUsed, actedBy, acted}
 use Rattle.engine.specs.Steps.{actStep, afterAct}
 use Rattle.replay_theory.specs.Run.{Kind, cells, locks, rwlocks, semaphores, identifiers, sameKind, oneMore, threadLimit, thingLimit, withinLimits, kindMade}

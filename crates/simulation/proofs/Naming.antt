@@ -15,8 +15,9 @@ use Rattle.calculus.specs.Expression.{Value, int, name, choose}
 use Rattle.calculus.specs.State as state
 use Rattle.calculus.specs.State.{unused, update}
 use Rattle.calculus.proofs.Laws.Maps.{update-other}
-use Rattle.reduction.specs.declared.slots.Slot.{Slot}
-use Rattle.reduction.specs.Slots.{kindsAt, firstsAt, secondsAt, slot, slotAt, slotPut}
+use Rattle.things.specs.declared.Slot.{Slot}
+use Rattle.things.specs.Uses.{slot}
+use Rattle.reduction.specs.Slots.{kindsAt, firstsAt, secondsAt, slotAt, slotPut}
 use Rattle.replay_theory.specs.Run.{Kind, cells, locks, rwlocks, semaphores, identifiers}
 use Rattle.simulation.proofs.Held.{codeValue}
 use Rattle.simulation.proofs.Agreeing.{Agree, agree-then, agree-shared}

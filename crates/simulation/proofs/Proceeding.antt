@@ -22,7 +22,8 @@ use Rattle.threads.specs.Records.{noRecord}
 use Rattle.threads.specs.Threads.{turned, finished}
 use Rattle.control.specs.declared.Focus.{Focus}
 use Rattle.control.specs.Control.{found, doneWith}
-use Rattle.reduction.specs.Slots.{slot, slotAt}
+use Rattle.things.specs.Uses.{slot}
+use Rattle.reduction.specs.Slots.{slotAt}
 use Rattle.engine.specs.Focuses.{focusAt, focusPut, settled, wentOn}
 use Rattle.reduction.specs.Words.{countsAt, nextAt}
 use Rattle.engine.specs.Steps.{recorded, proceeded}

@@ -25,7 +25,7 @@ use Rattle.threads.specs.declared.Threads.{Threads}
 use Rattle.control.specs.declared.Focus.{Focus}
 use Rattle.control.specs.Shapes.{shapeOf, shapeAt, isWrite}
 use Rattle.control.specs.Control.{kept, readyAt}
-use Rattle.reduction.specs.declared.slots.Slot.{Slot}
+use Rattle.things.specs.declared.Slot.{Slot}
 use Rattle.engine.specs.declared.races.Access.{Access}
 use Rattle.engine.specs.declared.races.Access.the-variants.{None, Read, Write}
 use Rattle.engine.specs.declared.races.Partner.{Partner}

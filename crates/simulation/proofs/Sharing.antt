@@ -21,14 +21,14 @@ use Rattle.threads.specs.declared.Threads.{Threads}
 use Rattle.control.specs.declared.Focus.{Focus}
 use Rattle.control.specs.Shapes.{shapeOf, shapeAt, isWrite}
 use Rattle.control.specs.Control.{kept, continuation, returning, readyAt}
-use Rattle.reduction.specs.declared.slots.Slot.{Slot}
-use Rattle.reduction.specs.declared.uses.Used.{Used}
-use Rattle.reduction.specs.declared.uses.Used.the-variants.{Gives, Leaves}
-use Rattle.reduction.specs.declared.uses.Used.the-variants as used
+use Rattle.things.specs.declared.Slot.{Slot}
+use Rattle.things.specs.declared.Used.{Used}
+use Rattle.things.specs.declared.Used.the-variants.{Gives, Leaves}
+use Rattle.things.specs.declared.Used.the-variants as used
 use Rattle.reduction.specs.declared.words.Act.{Act}
 use Rattle.reduction.specs.declared.words.Act.the-variants.{Go}
-use Rattle.reduction.specs.Slots.{slot, slotAt, slotPut}
-use Rattle.reduction.specs.Uses.{writtenOf, usedBy}
+use Rattle.things.specs.Uses.{slot, writtenOf, usedBy}
+use Rattle.reduction.specs.Slots.{slotAt, slotPut}
 use Rattle.reduction.specs.Words.{given, subject, operand, effected, wordUsed, actedBy, acted}
 use Rattle.engine.specs.Steps.{actStep, afterAct}
 use Rattle.replay_theory.specs.Replay.{limited}

@@ -20,7 +20,8 @@ use Rattle.threads.specs.declared.Record.{Record}
 use Rattle.threads.specs.Records.{noRecord}
 use Rattle.threads.specs.Threads.{started}
 use Rattle.control.specs.Control.{finish, rootOf, variable, entering}
-use Rattle.reduction.specs.Slots.{slot, slotAt}
+use Rattle.things.specs.Uses.{slot}
+use Rattle.reduction.specs.Slots.{slotAt}
 use Rattle.reduction.specs.Words.{nextAt}
 use Rattle.engine.specs.Steps.{startSpace, startOf}
 use Rattle.replay_theory.specs.Run.{openIn, Kind, cells, locks, rwlocks, semaphores, identifiers}

@@ -30,13 +30,13 @@ use Rattle.threads.specs.Threads.{isRunning, runs}
 use Rattle.control.specs.declared.Focus.{Focus}
 use Rattle.control.specs.Shapes.{shapeOf, shapeAt, isWrite, isIf}
 use Rattle.control.specs.Control.{finish, continuation, second as secondAt, readyAt, stoppedAt, unrolledAt}
-use Rattle.reduction.specs.declared.slots.Slot.{Slot}
-use Rattle.reduction.specs.declared.uses.Used.{Used}
-use Rattle.reduction.specs.declared.uses.Used.the-variants as used
+use Rattle.things.specs.declared.Slot.{Slot}
+use Rattle.things.specs.declared.Used.{Used}
+use Rattle.things.specs.declared.Used.the-variants as used
 use Rattle.reduction.specs.declared.words.Act.{Act}
 use Rattle.engine.specs.declared.Outcome.the-variants.{Stuck}
-use Rattle.reduction.specs.Slots.{slot, slotAt}
-use Rattle.reduction.specs.Uses.{spawnedOf, joinedOf, usedBy}
+use Rattle.things.specs.Uses.{slot, spawnedOf, joinedOf, usedBy}
+use Rattle.reduction.specs.Slots.{slotAt}
 use Rattle.engine.specs.Focuses.{focusAt}
 use Rattle.reduction.specs.Words.{subject, operand, effected, wordUsed, actedBy, acted}
 use Rattle.engine.specs.Steps.{mayChoose, ending, actStep, afterAct, steppedFrom, stepped}

@@ -16,11 +16,10 @@ use Rattle.calculus.specs.State as state
 use Rattle.calculus.specs.State.{opened, closed, readers, writer, unused, identifier, cell, aLock, semaphore, rwlock}
 use Rattle.calculus.specs.Reduction.{_>>=_, _>>_, nameOf, content, lockState, ifOpened, count, oneLess, rwState, insideAfter}
 use Rattle.workspace.specs.Layout.{ruleOf, codeOf, printed}
-use Rattle.reduction.specs.declared.slots.Slot.{Slot}
-use Rattle.reduction.specs.declared.uses.Used.{Used}
-use Rattle.reduction.specs.declared.uses.Used.the-variants.{Gives, Leaves, Stuck}
-use Rattle.reduction.specs.Slots.{slot}
-use Rattle.reduction.specs.Uses.{readOf, lockedOf, unlockedOf, postedOf, waitedOf, rdlockedOf, rdunlockedOf, wrlockedOf, wrunlockedOf, usedBy}
+use Rattle.things.specs.declared.Slot.{Slot}
+use Rattle.things.specs.declared.Used.{Used}
+use Rattle.things.specs.declared.Used.the-variants.{Gives, Leaves, Stuck}
+use Rattle.things.specs.Uses.{slot, readOf, lockedOf, unlockedOf, postedOf, waitedOf, rdlockedOf, rdunlockedOf, wrlockedOf, wrunlockedOf, usedBy}
 use Rattle.machine.specs.Environment.{Env}
 use Rattle.machine.specs.Control.{Frame}
 use Rattle.machine.specs.State.{Machine}
