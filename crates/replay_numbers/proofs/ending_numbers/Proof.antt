@@ -1,7 +1,7 @@
-use Rattle.replay.proofs.Told.{done-told, refused-told, form-told, no-step-told, past-limit-told}
+use Rattle.replay_numbers.proofs.Told.{done-told, refused-told, form-told, no-step-told, past-limit-told}
 use borrow.Author.Needs.{needs}
-use Rattle.replay.proofs.in_numbers.ending_numbers.Statement.{statement}
-use Rattle.replay.proofs.in_numbers.ending_numbers.Tie as tie
+use Rattle.replay_numbers.proofs.ending_numbers.Statement.{statement}
+use Rattle.replay_numbers.proofs.ending_numbers.Tie as tie
 
 returns : tie.Need-returns
 returns c = done-told _ _ (c .before .enum-told .given .1) (c .line-numbers .ensures)

@@ -3,7 +3,7 @@ use Prim.Native.Nat.{ℕ}
 use mathlib.Core.Path.{_≡_}
 use Rattle.replay_theory.specs.declared.FirstRace.{FirstRace}
 use Rattle.replay_theory.specs.declared.FirstRace.the-variants.{None, Found}
-use Rattle.replay.specs.declared.in_numbers.RaceNumbers.{RaceNumbers}
+use Rattle.replay_numbers.specs.declared.RaceNumbers.{RaceNumbers}
 
 abbrev pub raceTold : (state first second : ℕ) → RaceNumbers
 raceTold n i j = record { state = n; first = i; second = j }

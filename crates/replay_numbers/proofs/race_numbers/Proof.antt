@@ -1,7 +1,7 @@
-use Rattle.replay.proofs.Told.{no-race-told, race-told}
+use Rattle.replay_numbers.proofs.Told.{no-race-told, race-told}
 use borrow.Author.Needs.{needs}
-use Rattle.replay.proofs.in_numbers.race_numbers.Statement.{statement}
-use Rattle.replay.proofs.in_numbers.race_numbers.Tie as tie
+use Rattle.replay_numbers.proofs.race_numbers.Statement.{statement}
+use Rattle.replay_numbers.proofs.race_numbers.Tie as tie
 
 returns : tie.Need-returns
 returns c = no-race-told _ (c .enum-told .given .1)

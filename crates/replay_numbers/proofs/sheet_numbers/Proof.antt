@@ -1,7 +1,7 @@
-use Rattle.replay.proofs.Told.{sheet-told}
+use Rattle.replay_numbers.proofs.Told.{sheet-told}
 use borrow.Author.Needs.{needs}
-use Rattle.replay.proofs.in_numbers.sheet_numbers.Statement.{statement}
-use Rattle.replay.proofs.in_numbers.sheet_numbers.Tie as tie
+use Rattle.replay_numbers.proofs.sheet_numbers.Statement.{statement}
+use Rattle.replay_numbers.proofs.sheet_numbers.Tie as tie
 
 returns : tie.Need-returns
 returns c = sheet-told _ _ _ (c .before .numbers-of .ensures) (c .index .ensures .0)

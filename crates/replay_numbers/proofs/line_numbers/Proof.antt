@@ -1,7 +1,7 @@
 use mathlib.Core.Path.{refl}
 use Rattle.replay_theory.specs.Replay.{lineNumbers}
-use Rattle.replay.proofs.in_numbers.line_numbers.Statement.{statement}
-use Rattle.replay.proofs.in_numbers.line_numbers.Tie as tie
+use Rattle.replay_numbers.proofs.line_numbers.Statement.{statement}
+use Rattle.replay_numbers.proofs.line_numbers.Tie as tie
 
 returns : tie.Need-returns
 unfolding lineNumbers

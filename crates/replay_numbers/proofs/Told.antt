@@ -16,7 +16,7 @@ use Rattle.replay_theory.specs.declared.Numbers.{Numbers}
 use Rattle.replay_theory.specs.Run.{Run}
 use Rattle.replay_theory.specs.Replay.{lineNumbers, sheetNumbers, returnedFor}
 use Rattle.replay_theory.specs.Claim.{runsOf, Reduced, Stops, allDone, notALine, cannotStep, tooMany, Follows, TraceFollowed}
-use Rattle.replay.specs.Numbers.{raceTold, raceNumbers}
+use Rattle.replay_numbers.specs.Numbers.{raceTold, raceNumbers}
 
 pub no-race-told : (race : FirstRace) → race ≡ None → raceTold 18446744073709551615 4294967295 4294967295 ≡ raceNumbers race
 unfolding raceNumbers

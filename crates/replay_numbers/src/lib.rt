@@ -1,4 +1,4 @@
-// An ending and a race in numbers.
+// What a replay answers and reports, in numbers: its ending and its race.
 use replay_theory::Ending;
 use replay_theory::FirstRace;
 use replay_theory::Numbers;
@@ -7,7 +7,7 @@ use spec::Refusal;
 ghost use mathlib.Core.Path.{_≡_};
 ghost use Rattle.replay_theory.specs.Replay.{lineNumbers, returnedFor};
 ghost use Rattle.replay_theory.specs.declared.Ending.the-variants.{Refused as EndsRefused};
-ghost use Rattle.replay.specs.Numbers.{raceNumbers};
+ghost use Rattle.replay_numbers.specs.Numbers.{raceNumbers};
 
 // The state and the threads of a race in numbers; without one, the largest number of each kind.
 pub struct RaceNumbers {
