@@ -1,10 +1,7 @@
 // One step and what binds its variable: whether it binds a variable, uses one within its scope, or calls a procedure that is there.
-use spec::BinaryWord;
-use spec::LeafWord;
 use spec::Refusal;
 use spec::Role;
-use spec::UnaryWord;
-use spec::Word;
+use word_numbers::role_of;
 use workspace::ENDS;
 use workspace::LINES;
 use workspace::PROC_FIRSTS;
@@ -14,47 +11,12 @@ use workspace::WORDS;
 ghost use mathlib.Core.Path.{_≡_};
 ghost use Prim.Native.Nat.{_<_};
 ghost use lib.ListN.{length};
-ghost use Rattle.spec.specs.Words.{role};
-ghost use Rattle.spec.specs.declared.Word.the-variants.{Unary};
 ghost use Rattle.workspace.specs.Layout.{workSize};
 ghost use Rattle.binders.specs.Judging.{judgeLet, scopeFrom, scopeTill, judgeVar, judgeCall, judgeOf};
 
 // The mark of a variable that neither a let nor a procedure binds; below it are the indexes of lets, and from 256 on the marks of
 // procedures.
 pub const UNBOUND: u32 = 272;
-
-// What a step with one part does with its number v.
-fn call_role(w: UnaryWord) -> Role
-    ensures { λ r. ⌜ r ≡ role (Unary w) ⌝ }
-{
-    if vocabulary::calls(w) {
-        return Role::Calls;
-    }
-    Role::Neither
-}
-
-// What a step with this word does with its number v.
-fn role_of(w: Word) -> Role
-    ensures { λ r. ⌜ r ≡ role w ⌝ }
-{
-    match w {
-        Word::Leaf(l) => match l {
-            LeafWord::Var => Role::Uses,
-            LeafWord::Int => Role::Neither,
-            LeafWord::Newtid => Role::Neither,
-            LeafWord::Newlock => Role::Neither,
-            LeafWord::Newsem => Role::Neither,
-            LeafWord::Newrwlock => Role::Neither,
-        },
-        Word::Unary(u) => call_role(u),
-        Word::Binary(b) => match b {
-            BinaryWord::Let => Role::Binds,
-            BinaryWord::If => Role::Neither,
-            BinaryWord::Spawn => Role::Neither,
-            BinaryWord::Write => Role::Neither,
-        },
-    }
-}
 
 // A step judged: its variable is bound here, or a number is stored for it, what binds its variable if it is a `var`, else 0; or it is
 // refused.

@@ -1,7 +1,7 @@
 use Rattle.spec.specs.Words.{leastValue}
 use borrow.Author.Needs.{needs}
-use Rattle.program_lines.proofs.steps.least_of.Statement.{statement}
-use Rattle.program_lines.proofs.steps.least_of.Tie as tie
+use Rattle.word_numbers.proofs.least_of.Statement.{statement}
+use Rattle.word_numbers.proofs.least_of.Tie as tie
 
 pub least-of-spec : {M : Type 1} → statement M
 unfolding leastValue

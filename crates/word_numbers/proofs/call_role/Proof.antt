@@ -1,8 +1,8 @@
 use borrow.Author.Needs.{needs}
 use mathlib.Core.Path.{sym, _∙_}
 use Rattle.spec.specs.Words.{role}
-use Rattle.binders.proofs.call_role.Statement.{statement}
-use Rattle.binders.proofs.call_role.Tie as tie
+use Rattle.word_numbers.proofs.call_role.Statement.{statement}
+use Rattle.word_numbers.proofs.call_role.Tie as tie
 
 returns : tie.Need-returns
 unfolding role

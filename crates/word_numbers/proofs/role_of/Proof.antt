@@ -1,8 +1,8 @@
 -- A word a line: what it does with v.
 use Rattle.spec.specs.Words.{role}
 use borrow.Author.Needs.{needs}
-use Rattle.binders.proofs.role_of.Statement.{statement}
-use Rattle.binders.proofs.role_of.Tie as tie
+use Rattle.word_numbers.proofs.role_of.Statement.{statement}
+use Rattle.word_numbers.proofs.role_of.Tie as tie
 
 returns-7 : tie.Need-returns-7
 returns-7 c = rw (c .before .before .w2 .given .1) (c .call-role .ensures)

@@ -1,8 +1,8 @@
 use borrow.Author.Needs.{needs}
 use mathlib.Core.Path.{sym, _∙_}
 use Rattle.spec.specs.Words.{largestValue}
-use Rattle.program_lines.proofs.steps.call_limit.Statement.{statement}
-use Rattle.program_lines.proofs.steps.call_limit.Tie as tie
+use Rattle.word_numbers.proofs.call_limit.Statement.{statement}
+use Rattle.word_numbers.proofs.call_limit.Tie as tie
 
 returns : tie.Need-returns
 unfolding largestValue
