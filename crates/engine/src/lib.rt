@@ -201,7 +201,7 @@ pub fn start(program: &[u32], space: &mut [u32]) -> Threads
     ensures { λ r. ⌜ startOf (now (program .entry)) (now (space .entry)) ≡ (r, now (space .exit)) ⌝ }
 {
     workspace::clear(space);
-    put(space, reduction::KINDS + 1, reduction::IDENTIFIER);
+    put(space, reduction::KINDS + 1, things::IDENTIFIER);
     put(space, reduction::NEXT, 2);
     let root = Focus {
         mode: ENTER,

@@ -1,9 +1,9 @@
 // The lowest pair of threads that race: the first thread that clashes with a later one, and the first of those.
 use crate::focuses::focus_at;
 use control::READY;
-use reduction::CELL;
 use reduction::slot_at;
 use reduction::subject;
+use things::CELL;
 use workspace::Rule;
 use workspace::at;
 use workspace::index;

@@ -26,7 +26,7 @@ ghost use Rattle.fill_theory.specs.Answer.{fill as filling, returnedFor, buffer
 ghost use Rattle.replay_theory.specs.declared.FirstRace.the-variants.{None};
 ghost use Rattle.replay_theory.specs.Replay.{replaySpace, replay as replayed, lineNumbers, returnedFor as endingNumbers};
 ghost use Rattle.replay_theory.specs.Claim.{TraceFollowed, RaceFound};
-ghost use Rattle.replay.specs.Numbers.{raceNumbers, raceTold, Stored};
+ghost use Rattle.replay_numbers.specs.Numbers.{raceNumbers, raceTold, Stored};
 
 // The answer to a pair of texts: `check` of the crate `checker`, clause by clause.
 #[no_mangle]
@@ -151,8 +151,8 @@ pub extern "C" fn racecheck_replay(
     let ending = r.ending;
     let report = r.report;
     let race = report.race;
-    let four = replay::ending_numbers(ending);
-    let pair = replay::race_numbers(race);
+    let four = replay_numbers::ending_numbers(ending);
+    let pair = replay_numbers::race_numbers(race);
     *line = four.line as u64;
     *steps = report.steps as u64;
     *state = pair.state as u64;

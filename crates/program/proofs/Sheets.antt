@@ -20,19 +20,19 @@ use Rattle.lexer.proofs.Walks.{left-none, left-some}
 use Rattle.spec.proofs.Outcomes.{on-injective, bind-through}
 use Rattle.spec.proofs.Listing.{Listed, structure-lists}
 use Rattle.workspace.specs.Holds.{HoldsSteps}
-use Rattle.structure.specs.Items.{procRows}
+use Rattle.tree.specs.Items.{procRows}
 use Rattle.program_lines.specs.Lines.{countAt, CountShown}
 use Rattle.program.specs.Lines.{itemsAt, StepsShown}
-use Rattle.structure.specs.Outcomes.{Answers}
+use Rattle.tree.specs.Outcomes.{Answers}
 use Rattle.structure.specs.Arranged.{arrangedOf, HoldsTree, Arranged}
 use Rattle.program.specs.Sheet.{Answered, behindCount, LinesRead, ProgramIs}
-use Rattle.structure.specs.declared.Outcome.{Outcome}
-use Rattle.structure.specs.declared.Outcome.the-variants as outcome
+use Rattle.tree.specs.declared.Outcome.{Outcome}
+use Rattle.tree.specs.declared.Outcome.the-variants as outcome
 use Rattle.program_lines.specs.declared.counts.CountLine.the-variants as count
 use Rattle.program.specs.declared.lines.StepLines.the-variants as step-lines
 use Rattle.program.specs.declared.ProgramRead.{ProgramRead}
 use Rattle.program.specs.declared.ProgramRead.the-variants.{Read, Refused}
-use Rattle.structure.proofs.Rows.{rows-counted}
+use Rattle.tree.proofs.Rows.{rows-counted}
 
 -- ------------------------------------------------------------------ the lines behind line 1
 

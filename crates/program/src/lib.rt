@@ -6,7 +6,7 @@ use lines::StepLines;
 use program_lines::CountLine;
 use spec::ProgramHeading;
 use spec::Refusal;
-use structure::Outcome;
+use tree::Outcome;
 ghost use mathlib.Core.Path.{_≡_};
 ghost use Prim.Native.Nat.{_≤_};
 ghost use lib.ListN.{length};

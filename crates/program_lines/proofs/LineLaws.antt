@@ -2,10 +2,10 @@
 use mathlib.Core.Path.{_≡_, refl, sym, ap, _∙_}
 use mathlib.Core.Bool.{Bool, true, false}
 use mathlib.Core.List.{List, [], _∷_}
-use mathlib.Core.Option.{none}
+use mathlib.Core.Option.{none, some}
 use Prim.Native.Nat.{ℕ, _+_, _-_, _<_, _≤_}
 use native.Mathlib.Omega.{arith}
-use lib.ListN.{length}
+use lib.ListN.{length, take, drop}
 use borrow.Author.Tests.{le-leb, lt-leb}
 use Rattle.spec.specs.Choice.{if_then_else_}
 use Rattle.spec.specs.Text.{lines, Field, lookUp}
@@ -22,16 +22,32 @@ use Rattle.spec.specs.declared.LeafWord.the-variants.{Var, Int, Newtid, Newlock
 use Rattle.spec.specs.declared.BinaryWord.the-variants.{Let, If, Spawn, Write}
 use Rattle.spec.proofs.Ranges.{up-to-in, up-to-out}
 use Rattle.lexer.specs.Views.{firstField, textEnded}
-use Rattle.lexer.specs.Cursors.{rest, placeAt}
+use Rattle.lexer.specs.Cursors.{rest, spanAt, placeAt}
 use Rattle.lexer.specs.declared.Cursor.{Cursor}
 use Rattle.lexer.specs.declared.Span.{Span}
+use Rattle.lexer.proofs.Places.{span-field}
 use Rattle.lexer.proofs.Sheets.{next-at-none, passed-at}
 use Rattle.lexer.proofs.Walks.{left-none, left-some, first-wrong}
 use Rattle.lexer.proofs.Stored.{Narrow}
+use Rattle.vocabulary.specs.Words.{foundOf}
+use Rattle.vocabulary.specs.declared.FoundWord.the-variants.{Known, Unknown}
+use Rattle.vocabulary.proofs.Words.{found-known, found-unknown}
 use Rattle.program_lines.specs.Lines.{TailShown, FreelockAt, ProcAt, StepAt, itemAt, StepShown, WordAt}
 use Rattle.program_lines.specs.declared.tails.Tail.the-variants.{Value, Malformed}
 use Rattle.program_lines.specs.declared.items.StepLine.the-variants as step-line
 use Rattle.program_lines.proofs.TailLaws.{tail-line, tail-malformed, tail-shows}
+
+-- ------------------------------------------------------------------ the word at a cursor
+
+module _ (ws : List (List ℕ × Word)) (text : List ℕ) (c : Cursor) (s : Span) (is : s ≡ spanAt text c) where
+  at-span : lookUp ws (firstField (rest text c)) ≡ lookUp ws (take (s .to - s .from) (drop (s .from) text))
+  at-span = ap (lookUp ws) (sym (span-field text c s is))
+
+  pub span-known : (w : Word) → foundOf (lookUp ws (take (s .to - s .from) (drop (s .from) text))) ≡ Known w → lookUp ws (firstField (rest text c)) ≡ some w
+  span-known w e = at-span ∙ found-known _ w e
+
+  pub span-unknown : foundOf (lookUp ws (take (s .to - s .from) (drop (s .from) text))) ≡ Unknown → lookUp ws (firstField (rest text c)) ≡ none
+  span-unknown e = at-span ∙ found-unknown _ e
 
 -- ------------------------------------------------------------------ lines with the word freelock
 

@@ -3,76 +3,19 @@ use crate::tails::Tail;
 use crate::tails::last_number;
 use lexer::Cursor;
 use lexer::Span;
-use spec::BinaryWord;
-use spec::LeafWord;
 use spec::ProgramHeading;
 use spec::Refusal;
-use spec::UnaryWord;
 use spec::Word;
 use vocabulary::FoundWord;
+use word_numbers::least_of;
+use word_numbers::limit_of;
 ghost use mathlib.Core.Path.{_≡_};
 ghost use Rattle.spec.specs.Reading.{stop};
-ghost use Rattle.spec.specs.declared.Word.the-variants.{Unary};
-ghost use Rattle.spec.specs.Words.{leastValue, largestValue};
 ghost use Rattle.lexer.specs.Cursors.{Placed};
 ghost use Rattle.program_lines.specs.Lines.{FreelockAt, ProcAt, WordAt, itemAt, StepShown};
 
-// The largest number that a call may name.
-const CALL_LIMIT: u32 = 15;
-
 // The largest number of a variable.
 const VARIABLE_LIMIT: u32 = 255;
-
-// The smallest v that a step with this word may have.
-fn least_of(w: Word) -> u32
-    ensures { λ r. ⌜ r ≡ leastValue w ⌝ }
-{
-    match w {
-        Word::Leaf(l) => match l {
-            LeafWord::Var => 0,
-            LeafWord::Int => 0,
-            LeafWord::Newtid => 0,
-            LeafWord::Newlock => 0,
-            LeafWord::Newsem => 0,
-            LeafWord::Newrwlock => 1,
-        },
-        Word::Unary(_) => 0,
-        Word::Binary(_) => 0,
-    }
-}
-
-// The largest v of a step with one part: a procedure's number on a call, else 0.
-fn call_limit(w: UnaryWord) -> u32
-    ensures { λ r. ⌜ r ≡ largestValue (Unary w) ⌝ }
-{
-    if vocabulary::calls(w) {
-        return CALL_LIMIT;
-    }
-    0
-}
-
-// The largest v that a step with this word may have.
-fn limit_of(w: Word) -> u32
-    ensures { λ r. ⌜ r ≡ largestValue w ⌝ }
-{
-    match w {
-        Word::Leaf(l) => match l {
-            LeafWord::Var => 255,
-            LeafWord::Int => 65535,
-            LeafWord::Newtid => 0,
-            LeafWord::Newlock => 0,
-            LeafWord::Newsem => 0,
-            LeafWord::Newrwlock => 64,
-        },
-        Word::Unary(u) => call_limit(u),
-        Word::Binary(b) => match b {
-            BinaryWord::Let => 255,
-            BinaryWord::If => 0,
-            BinaryWord::Spawn => 0,
-            BinaryWord::Write => 0,
-        },
-    }
-}
 
 // The refusal of the line at the cursor, whose first field is the word `freelock`: 45, once form and range are right.
 fn freelock_line(text: &[u8], heading: ProgramHeading, cursor: Cursor, field: Span) -> Refusal

@@ -1,4 +1,2 @@
 pub mod Slots
-pub mod Uses
-pub mod Calls
 pub mod Words

@@ -4,7 +4,8 @@ use mathlib.Core.List.{List}
 use lib.Dec.{ltb}
 use lib.ListN.{getD, set}
 use Rattle.spec.specs.Choice.{if_then_else_}
-use Rattle.reduction.specs.declared.slots.Slot.{Slot}
+use Rattle.things.specs.declared.Slot.{Slot}
+use Rattle.things.specs.Uses.{slot}
 
 abbrev pub kindsAt : ℕ
 kindsAt = 541808
@@ -14,9 +15,6 @@ firstsAt = 542192
 
 abbrev pub secondsAt : ℕ
 secondsAt = 542576
-
-abbrev pub slot : (kind first second : ℕ) → Slot
-slot k a b = record { kind = k; first = a; second = b }
 
 unfoldable pub slotAt : (s : List ℕ) (v : ℕ) → Slot
 slotAt s v = if ltb v 322 then slot (getD s (kindsAt + v) 0) (getD s (firstsAt + v) 0) (getD s (secondsAt + v) 0) else slot 0 0 0

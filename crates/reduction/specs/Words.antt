@@ -10,13 +10,13 @@ use Rattle.control.specs.declared.shapes.Shape.{Shape}
 use Rattle.control.specs.declared.shapes.Shape.the-variants.{Variable, Constant, Maker, While, OnePart, Call, Let, If, Spawn as SpawnShape, Write}
 use Rattle.control.specs.Shapes.{shapeAt, isWrite}
 use Rattle.control.specs.Control.{environmentsAt, kept, continuation, second, behind, entering, returning, stoppedAt, unrolledAt}
+use Rattle.things.specs.declared.Slot.{Slot}
+use Rattle.things.specs.declared.Used.{Used}
+use Rattle.things.specs.declared.Used.the-variants.{Gives, Leaves, Makes, Spawns, Joins}
+use Rattle.things.specs.declared.Used.the-variants as used
+use Rattle.things.specs.Uses.{usedBy}
+use Rattle.call_step.specs.Calls.{callEntered, calledSpace}
 use Rattle.reduction.specs.Slots.{slotAt, slotPut}
-use Rattle.reduction.specs.Uses.{usedBy}
-use Rattle.reduction.specs.Calls.{callEntered, calledSpace}
-use Rattle.reduction.specs.declared.slots.Slot.{Slot}
-use Rattle.reduction.specs.declared.uses.Used.{Used}
-use Rattle.reduction.specs.declared.uses.Used.the-variants.{Gives, Leaves, Makes, Spawns, Joins}
-use Rattle.reduction.specs.declared.uses.Used.the-variants as used
 use Rattle.reduction.specs.declared.words.Act.{Act}
 use Rattle.reduction.specs.declared.words.Act.the-variants.{Go, Spawn, Join, Stuck, Past}
 

@@ -1,5 +1,7 @@
 // What each name names, in the lent space, by the value that stands for the name.
 use control::put;
+use things::Slot;
+use things::UNUSED;
 use workspace::at;
 use workspace::index;
 ghost use mathlib.Core.Path.{_≡_};
@@ -14,32 +16,6 @@ pub const SECONDS: usize = 542576;
 
 // The first value that no name has: the start's identifier and 64 of each of five kinds have the values from 1 on.
 pub const VALUES: u32 = 322;
-
-// An unused name, or a constant.
-pub const UNUSED: u32 = 0;
-
-pub const IDENTIFIER: u32 = 1;
-
-// first: the value that it holds.
-pub const CELL: u32 = 2;
-
-// first: 0 open, 1 closed.
-pub const LOCK: u32 = 3;
-
-// first and second: the count, of 64 bits.
-pub const SEMAPHORE: u32 = 4;
-
-// first: its reading places. Nobody or readers are in; second: how many.
-pub const RWLOCK: u32 = 5;
-
-// The same with a writer in.
-pub const RWLOCK_WRITTEN: u32 = 6;
-
-pub struct Slot {
-    pub kind: u32,
-    pub first: u32,
-    pub second: u32,
-}
 
 // What a value names.
 pub fn slot_at(space: &[u32], v: u32) -> Slot

@@ -1,11 +1,8 @@
 // The step of a thread's next word, as far as it does not touch the records of threads.
-use crate::calls::call;
-use crate::slots::Slot;
 use crate::slots::VALUES;
 use crate::slots::put_slot;
 use crate::slots::slot_at;
-use crate::uses::Used;
-use crate::uses::used_by;
+use call_step::call;
 use control::ENTER;
 use control::Focus;
 use control::READY;
@@ -14,6 +11,9 @@ use control::STOPPED;
 use control::Shape;
 use control::UNROLLED;
 use control::put;
+use things::Slot;
+use things::Used;
+use things::used_by;
 use workspace::at;
 use workspace::index;
 ghost use mathlib.Core.Path.{_≡_};

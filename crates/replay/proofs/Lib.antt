@@ -1,5 +1,4 @@
 pub mod Fronts
 pub mod Starting
 pub mod Copying
-pub mod Told
 pub mod Promises

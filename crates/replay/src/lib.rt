@@ -1,10 +1,6 @@
 // The offered call of request (xii): a program, a trace and a lent space in, an answer and a report out.
-mod in_numbers;
 mod start;
 
-pub use in_numbers::RaceNumbers;
-pub use in_numbers::ending_numbers;
-pub use in_numbers::race_numbers;
 use program::ProgramRead;
 use replay_theory::Ending;
 use replay_theory::FirstRace;

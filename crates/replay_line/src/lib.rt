@@ -1,5 +1,5 @@
 // The line that `racereplay` writes, made in a lent buffer.
-use replay::ending_numbers;
+use replay_numbers::ending_numbers;
 use replay_theory::Ending;
 use replay_theory::FirstRace;
 use replay_theory::Numbers;

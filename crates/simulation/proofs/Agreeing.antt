@@ -1,19 +1,18 @@
 -- What a thread's numbers are: two spaces that agree on them hold the same of the thread.
-use Prim.Native.Nat.{ℕ, suc, _+_, _*_, _<_, _≤_}
-use mathlib.Core.Path.{_≡_, refl, sym, _∙_, ap}
-use mathlib.Core.List.{List, [], _∷_}
+use Prim.Native.Nat.{ℕ, _+_, _*_, _<_, _≤_}
+use mathlib.Core.Path.{_≡_, refl, _∙_}
+use mathlib.Core.List.{List, []}
 use mathlib.Core.Logic.{_≢_, _⊎_, inl, inr}
 use native.Mathlib.Omega.{arith}
 use native.Mathlib.Decide.{decLt}
 use lib.ListN.{length, getD, set, length-set}
 use lib.Seq.{getD-set-same, getD-set-other}
-use Rattle.workspace.specs.Region.{ChangedWithin}
 use Rattle.control.specs.declared.Focus.{Focus}
 use Rattle.control.specs.Control.{keptAt, callsAt, variable, kept, calledFrom, continuation, focus}
-use Rattle.engine.specs.Focuses.{rowsAt, focusAt, focusPut}
+use Rattle.engine.specs.Focuses.{focusAt, focusPut}
 use Rattle.machine.specs.Control as machine
-use Rattle.machine.specs.Control.{Control, done, at, marks, openCalls}
-use Rattle.simulation.proofs.Held.{Values, WordAt, placeOf, Frames, ControlAt}
+use Rattle.machine.specs.Control.{Control, done, at, openCalls}
+use Rattle.simulation.proofs.Held.{WordAt, placeOf, ControlAt}
 use Rattle.simulation.proofs.Turning.{SameBut, RowIn}
 use Rattle.simulation.proofs.Finding.{RowsSame, frames-same, frames-inside}
 

@@ -1,25 +1,23 @@
 -- The words of a thread alone are the machine's: let, if, while.
-use Prim.Native.Nat.{ℕ, zero, suc, _+_, _*_, _<_, _≤_}
+use Prim.Native.Nat.{ℕ, _+_, _*_, _<_, _≤_}
 use mathlib.Core.Path.{_≡_, refl, sym, _∙_, ap, subst}
-use mathlib.Core.Logic.{_≢_}
-use mathlib.Core.Bool.{Bool, true, false}
-use mathlib.Core.List.{List, [], _∷_}
-use mathlib.Core.Option.{Option, none, some}
+use mathlib.Core.List.{List, []}
+use mathlib.Core.Option.{some}
 use native.Mathlib.Omega.{arith}
 use native.Mathlib.Decide.{ℕ-discrete}
 use lib.ListN.{length, getD, set, getElem?, length-set}
 use lib.Seq.{getD-set-same, getD-set-other}
 use Rattle.spec.specs.Expression.{Position, Expr}
-use Rattle.spec.specs.declared.Word.the-variants.{Leaf, Unary, Binary}
+use Rattle.spec.specs.declared.Word.the-variants.{Unary, Binary}
 use Rattle.spec.specs.declared.UnaryWord.the-variants.{While}
 use Rattle.spec.specs.declared.BinaryWord.the-variants.{Let, If}
 use Rattle.calculus.specs.Expression.{Value, choose}
-use Rattle.calculus.specs.State.{Part, first, second as secondOfTwo, update}
-use Rattle.workspace.specs.Layout.{ruleOf, codeOf, printed}
+use Rattle.calculus.specs.State.{first, second as secondOfTwo, update}
+use Rattle.workspace.specs.Layout.{ruleOf, printed}
 use Rattle.threads.specs.declared.Threads.{Threads}
 use Rattle.control.specs.declared.Focus.{Focus}
 use Rattle.control.specs.Shapes.{shapeOf, shapeAt}
-use Rattle.control.specs.Control.{callsAt, variable, kept, calledFrom, continuation, second, behind, entering, returning, stoppedAt, readyAt, unrolledAt, found}
+use Rattle.control.specs.Control.{callsAt, variable, kept, calledFrom, continuation, second, entering, returning, stoppedAt, readyAt, unrolledAt, found}
 use Rattle.control.proofs.Turns.{found-stop}
 use Rattle.reduction.specs.declared.words.Act.{Act}
 use Rattle.reduction.specs.declared.words.Act.the-variants.{Go}
@@ -28,16 +26,16 @@ use Rattle.engine.specs.Steps.{afterAct}
 use Rattle.replay_theory.specs.Replay.{limited}
 use Rattle.machine.specs.Environment.{Env}
 use Rattle.machine.specs.Control.{Frame, letWord, ifWord, whileWord, unrolledWord, againWord, Control, at, enter}
-use Rattle.machine.specs.State.{MachineThread, Machine, running}
-use Rattle.machine.specs.Step.{zeroValue, goesTo, partOf, unrolledPart}
+use Rattle.machine.specs.State.{Machine, running}
+use Rattle.machine.specs.Step.{zeroValue, goesTo, unrolledPart}
 use Rattle.machine.specs.Replay.{Replay, within}
-use Rattle.simulation.proofs.Held.{codeValue, RowOf, Stands, Values, Frames, WordAt, ControlAt}
+use Rattle.simulation.proofs.Held.{codeValue, RowOf, Stands, Values, Frames, ControlAt}
 use Rattle.simulation.proofs.Turning.{behind-is, SameBut, same-all, RowIn}
 use Rattle.simulation.proofs.Finding.{frames-up, RowsSame, frames-same, Ready, enters-word, returns-word, runs-part}
-use Rattle.simulation.proofs.Agreeing.{Agree, agree-all, agree-variable}
-use Rattle.simulation.proofs.Holds.{NamesHeld, Holds}
+use Rattle.simulation.proofs.Agreeing.{agree-all, agree-variable}
+use Rattle.simulation.proofs.Holds.{Holds}
 use Rattle.simulation.proofs.Proceeding.{names-same}
-use Rattle.simulation.proofs.Moving.{Answered, moves, pausing, thread-low}
+use Rattle.simulation.proofs.Moving.{Answered, moves, pausing}
 
 -- ------------------------------------------------------------------ what the code does
 

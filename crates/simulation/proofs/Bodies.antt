@@ -1,7 +1,7 @@
 -- The bodies of the procedures and the root, once the program is linked: each stands at its first step; behind a body its call ends,
 -- behind the root the thread finishes.
-use Prim.Native.Nat.{ℕ, zero, suc, _+_, _*_, _<_, _≤_}
-use mathlib.Core.Path.{_≡_, refl, sym, _∙_, ap, subst}
+use Prim.Native.Nat.{ℕ, zero, suc, _+_, _<_, _≤_}
+use mathlib.Core.Path.{_≡_, sym, _∙_, ap, subst}
 use mathlib.Core.Logic.{inl, inr}
 use mathlib.Core.List.{List, [], _∷_}
 use mathlib.Core.Option.{some}
@@ -15,7 +15,7 @@ use Rattle.workspace.specs.Region.{ChangedWithin}
 use Rattle.workspace.proofs.Region.{region-kept, changed-nothing, changed-store, changed-then, changed-wider}
 use Rattle.workspace.proofs.Expression.{Standing}
 use Rattle.control.specs.Control.{finish, leave, proceduresAt, continuation, firstOf, rootOf}
-use Rattle.control.specs.Continuations.{continuations, joined, linkedFrom, bodiesJoined, rootJoined, linked}
+use Rattle.control.specs.Continuations.{joined, linkedFrom, bodiesJoined, rootJoined, linked}
 use Rattle.simulation.proofs.Held.{Stands, BodyStands, BodiesStand}
 use Rattle.simulation.proofs.Linked.{Ranged, continuations-length, standing-stands, standing-kept, linked-split, some-steps, Links, links}
 

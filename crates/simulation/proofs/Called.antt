@@ -4,7 +4,7 @@ use Prim.Native.Nat.{ℕ, zero, suc, _+_, _*_, _-_, _<_, _≤_}
 use mathlib.Core.Path.{_≡_, refl, sym, _∙_, ap, subst}
 use mathlib.Core.Logic.{_≢_, _⊎_, inl, inr}
 use mathlib.Core.List.{List, [], _∷_}
-use mathlib.Core.Option.{Option, none, some}
+use mathlib.Core.Option.{some}
 use native.Mathlib.Omega.{arith}
 use native.Mathlib.Decide.{ℕ-discrete}
 use borrow.Author.Tests.{lt-ltb}
@@ -23,19 +23,19 @@ use Rattle.control.specs.Shapes.{shapeOf, shapeAt}
 use Rattle.control.specs.Control.{leave, keptAt, callsAt, variable, kept, calledFrom, continuation, firstOf, focus, entering, readyAt}
 use Rattle.reduction.specs.declared.words.Act.{Act}
 use Rattle.reduction.specs.declared.words.Act.the-variants.{Go}
-use Rattle.reduction.specs.Calls.{above, rowClearedFrom, rowCleared, calleeOf, callEntered, argumentPut, calledSpace}
+use Rattle.call_step.specs.Calls.{above, rowClearedFrom, rowCleared, calleeOf, callEntered, argumentPut, calledSpace}
 use Rattle.reduction.specs.Words.{actedBy, acted}
 use Rattle.engine.specs.Focuses.{focusAt}
 use Rattle.engine.specs.Steps.{afterAct}
 use Rattle.replay_theory.specs.Replay.{limited}
 use Rattle.machine.specs.Environment.{Env, zeros}
 use Rattle.machine.specs.Control.{Frame, markFrame, unaryWord, Control, at, enter, marks}
-use Rattle.machine.specs.State.{MachineThread, Machine, running}
+use Rattle.machine.specs.State.{Machine, running}
 use Rattle.machine.specs.Step.{goesTo, stepUnary}
 use Rattle.machine.specs.Replay.{Replay, within}
 use Rattle.simulation.proofs.Held.{codeValue, RowOf, BodyStands, Values, Frames}
 use Rattle.simulation.proofs.Turning.{same-all, RowIn}
-use Rattle.simulation.proofs.Finding.{RowsSame, frames-same, frames-row, Ready, enters-word}
+use Rattle.simulation.proofs.Finding.{RowsSame, frames-same, frames-row, enters-word}
 use Rattle.simulation.proofs.Agreeing.{Agree, SharedSame, less-or-more}
 use Rattle.simulation.proofs.Holds.{Holds}
 use Rattle.simulation.proofs.Proceeding.{names-same}

@@ -1,7 +1,6 @@
 -- What the lent space and the records hold of the machine, with the counts of what it has made.
 use Prim.Native.Nat.{ℕ, suc, _+_, _*_, _<_, _≤_}
 use mathlib.Core.Path.{_≡_}
-use mathlib.Core.Logic.{_≢_}
 use mathlib.Core.Bool.{Bool, true, false}
 use mathlib.Core.List.{List}
 use mathlib.Core.Option.{some}
@@ -14,13 +13,13 @@ use Rattle.threads.specs.declared.State.the-variants.{Running, Finished, Joined
 use Rattle.threads.specs.declared.Record.{Record}
 use Rattle.threads.specs.declared.Threads.{Threads}
 use Rattle.threads.specs.Records.{noRecord}
-use Rattle.reduction.specs.declared.slots.Slot.{Slot}
+use Rattle.things.specs.declared.Slot.{Slot}
 use Rattle.reduction.specs.Slots.{slotAt}
 use Rattle.engine.specs.Focuses.{focusAt}
 use Rattle.reduction.specs.Words.{countsAt, nextAt}
 use Rattle.replay_theory.specs.Run.{Kind, cells, locks, rwlocks, semaphores, identifiers}
 use Rattle.machine.specs.Control.{Control, done, at, openCalls}
-use Rattle.machine.specs.State.{MachineThread, Machine}
+use Rattle.machine.specs.State.{MachineThread}
 use Rattle.machine.specs.Step.{isDone}
 use Rattle.machine.specs.Kept.{UnusedFrom}
 use Rattle.machine.specs.Replay.{Replay}

@@ -5,8 +5,8 @@ use mathlib.Core.List.{List, [], _∷_}
 use mathlib.Core.Option.{Option, none, some}
 use native.Mathlib.Omega.{arith}
 use lib.ListN.{length}
-use Rattle.spec.specs.Text.{Line, closed, unclosed, lines, Field, fields}
-use Rattle.spec.specs.Reading.{programSheet, Out, stop, on, Seen, right, form, Place, passed, nextLine, numerals}
+use Rattle.spec.specs.Text.{Line, closed, unclosed, lines, Field}
+use Rattle.spec.specs.Reading.{programSheet, Out, stop, on, right, Place, passed, nextLine, numerals}
 use Rattle.lexer.specs.Views.{lineAt}
 use Rattle.lexer.specs.Numbers.{stored}
 use Rattle.lexer.proofs.Lines.{next-open, next-closed}

@@ -1,13 +1,12 @@
 -- The column of continuations, once the steps of an expression are linked: the expression stands at its first step.
-use Prim.Native.Nat.{ℕ, zero, suc, _+_, _*_, _<_, _≤_}
+use Prim.Native.Nat.{ℕ, zero, suc, _+_, _<_, _≤_}
 use mathlib.Core.Path.{_≡_, refl, sym, _∙_, ap, subst}
-use mathlib.Core.Logic.{_≢_, _⊎_, inl, inr}
+use mathlib.Core.Logic.{inl, inr}
 use mathlib.Core.List.{List, [], _∷_, _++_}
 use native.Mathlib.Omega.{arith}
 use lib.ListN.{length, getD, set, length-set, length-append, length-map}
 use lib.Seq.{getD-set-same, getD-set-other}
 use Rattle.spec.specs.Expression.{Position, Expr, leaf, unary, binary, size}
-use Rattle.spec.specs.declared.Word.{Word}
 use Rattle.spec.specs.declared.Word.the-variants.{Leaf, Unary, Binary}
 use Rattle.spec.specs.declared.LeafWord.{LeafWord}
 use Rattle.spec.specs.declared.LeafWord.the-variants.{Var, Int, Newtid, Newlock, Newsem, Newrwlock}
@@ -15,18 +14,18 @@ use Rattle.spec.specs.declared.UnaryWord.{UnaryWord}
 use Rattle.spec.specs.declared.UnaryWord.the-variants.{While, Join, Ref, Read, Lock, Unlock, Post, Wait, Rdlock, Rdunlock, Wrlock, Wrunlock, Call}
 use Rattle.spec.specs.declared.BinaryWord.{BinaryWord}
 use Rattle.spec.specs.declared.BinaryWord.the-variants.{Let, If, Spawn, Write}
-use Rattle.workspace.specs.Layout.{endsAt, ruleOf, codeOf, printed}
+use Rattle.workspace.specs.Layout.{ruleOf, codeOf, printed}
 use Rattle.workspace.specs.Region.{Region, ChangedWithin}
 use Rattle.workspace.proofs.Region.{region-moved, region-first, region-behind, region-left, region-right, region-append, region-kept, changed-nothing, changed-store, changed-then, changed-wider}
 use Rattle.spec.specs.Expression.{Step}
 use Rattle.spec.specs.WellFormed.{prefix}
 use Rattle.spec.proofs.Listing.{prefix-length}
 use Rattle.workspace.proofs.Held.{ends-length}
-use Rattle.workspace.proofs.Expression.{codes, values, linesOf, Standing, Head, leaf-head, unary-head, binary-head, standing-end, standing-part, standing-first, standing-second}
+use Rattle.workspace.proofs.Expression.{codes, values, linesOf, Standing, leaf-head, unary-head, binary-head, standing-end, standing-part, standing-first, standing-second}
 use Rattle.control.specs.Shapes.{shapeOf, shapeAt}
-use Rattle.control.specs.Control.{continuationsAt, secondPart, finish, proceduresAt, continuation, second}
+use Rattle.control.specs.Control.{proceduresAt, continuation, second}
 use Rattle.control.specs.Continuations.{continuations, joined, linkedParts, linkedStep, linkedFrom}
-use Rattle.simulation.proofs.Held.{Small, afterFirst, afterSecond, Row, Stands}
+use Rattle.simulation.proofs.Held.{Small, afterFirst, afterSecond, Stands}
 
 -- the numbers of an expression's steps are small enough
 abbrev pub Ranged : (procedures : ℕ) → Expr → Type 0

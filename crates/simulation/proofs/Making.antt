@@ -1,14 +1,14 @@
 -- The words that make a new thing, on numbers, are the machine's; past 64 of a kind they answer that a limit is passed.
-use Prim.Native.Nat.{ℕ, zero, suc, _+_, _*_, _<_, _≤_}
+use Prim.Native.Nat.{ℕ, suc, _+_, _<_, _≤_}
 use mathlib.Core.Path.{_≡_, refl, sym, _∙_, ap, subst}
 use mathlib.Core.Logic.{_≢_}
-use mathlib.Core.Bool.{Bool, true, false}
-use mathlib.Core.List.{List, [], _∷_}
-use mathlib.Core.Option.{Option, none, some}
+use mathlib.Core.Bool.{false}
+use mathlib.Core.List.{List, []}
+use mathlib.Core.Option.{some}
 use native.Mathlib.Omega.{arith}
 use native.Mathlib.Decide.{ℕ-discrete, decLt}
 use borrow.Author.Tests.{le-leb, lt-leb}
-use lib.Dec.{eqb, ltb, leb}
+use lib.Dec.{eqb, ltb}
 use lib.ListN.{length, getD, set, getElem?, length-set}
 use lib.Seq.{getD-set-same, getD-set-other}
 use Rattle.spec.specs.Choice.{if_then_else_}
@@ -16,37 +16,37 @@ use Rattle.spec.specs.Expression.{Position}
 use Rattle.spec.specs.declared.Word.the-variants.{Leaf, Unary}
 use Rattle.spec.specs.declared.UnaryWord.the-variants.{Ref}
 use Rattle.calculus.specs.Expression as calculus
-use Rattle.calculus.specs.Expression.{Value, name, choose, newtid, newlock, newsem, newrwlock}
+use Rattle.calculus.specs.Expression.{name, choose, newtid, newlock, newsem, newrwlock}
 use Rattle.calculus.specs.State as state
-use Rattle.calculus.specs.State.{identifier, cell, update}
+use Rattle.calculus.specs.State.{update}
 use Rattle.calculus.specs.Reduction.{made}
 use Rattle.calculus.proofs.Laws.Maps.{update-other}
 use Rattle.workspace.specs.Layout.{ruleOf, printed}
 use Rattle.threads.specs.declared.Threads.{Threads}
 use Rattle.control.specs.Shapes.{shapeOf, shapeAt, isWrite}
 use Rattle.control.specs.Control.{continuation, returning, stoppedAt, readyAt}
-use Rattle.reduction.specs.declared.slots.Slot.{Slot}
+use Rattle.things.specs.declared.Slot.{Slot}
 use Rattle.control.specs.declared.Focus.{Focus}
 use Rattle.reduction.specs.declared.words.Act.{Act}
 use Rattle.reduction.specs.declared.words.Act.the-variants as act
-use Rattle.reduction.specs.Slots.{slot, slotAt, slotPut}
-use Rattle.reduction.specs.Uses.{madeOf, usedBy}
-use Rattle.reduction.specs.Words.{countsAt, nextAt, given, withThing, newThing, subject, operand, effected, wordUsed, actedBy, acted}
+use Rattle.things.specs.Uses.{slot, madeOf, usedBy}
+use Rattle.reduction.specs.Slots.{slotAt, slotPut}
+use Rattle.reduction.specs.Words.{countsAt, given, withThing, newThing, subject, operand, effected, wordUsed, actedBy, acted}
 use Rattle.engine.specs.Steps.{actStep, afterAct}
 use Rattle.replay_theory.specs.Run.{Kind, cells, locks, rwlocks, semaphores, identifiers, sameKind, oneMore, threadLimit, thingLimit, withinLimits, kindMade}
-use Rattle.replay_theory.specs.Replay.{step, pastLimit, limited}
+use Rattle.replay_theory.specs.Replay.{limited}
 use Rattle.machine.specs.Environment.{Env}
 use Rattle.machine.specs.Control as machine
 use Rattle.machine.specs.Control.{Frame, at, return}
 use Rattle.machine.specs.State.{Machine, running}
 use Rattle.machine.specs.Step.{creates}
 use Rattle.machine.specs.Replay.{Replay, within}
-use Rattle.simulation.proofs.Held.{codeValue, makerWord, MakerNumber, RowOf, Values, Frames}
+use Rattle.simulation.proofs.Held.{makerWord, MakerNumber, RowOf, Values, Frames}
 use Rattle.simulation.proofs.Turning.{same-all, RowIn}
 use Rattle.simulation.proofs.Finding.{frames-same, returns-word}
 use Rattle.simulation.proofs.Agreeing.{Agree, rows-same, agree-then, agree-shared}
 use Rattle.simulation.proofs.Holds.{SlotIs, kindCode, kind-low, allThings, NamesHeld, Holds}
-use Rattle.simulation.proofs.Naming.{slot-put-length, put-elsewhere, slot-here, slot-there, slot-agree, next-small}
+use Rattle.simulation.proofs.Naming.{slot-put-length, put-elsewhere, slot-here, slot-there, slot-agree}
 use Rattle.simulation.proofs.Moving.{Answered, moves, pausing}
 
 -- ------------------------------------------------------------------ counts

@@ -4,43 +4,36 @@ use mathlib.Core.Path.{_≡_, refl, sym, _∙_, ap, subst}
 use mathlib.Core.Logic.{_≢_}
 use mathlib.Core.Bool.{Bool, true, false, _&&_}
 use mathlib.Core.List.{List, [], _∷_}
-use mathlib.Core.Option.{Option, none, some}
+use mathlib.Core.Option.{some}
 use native.Mathlib.Omega.{arith}
-use native.Mathlib.Decide.{ℕ-discrete, decLe}
+use native.Mathlib.Decide.{decLe}
 use borrow.Author.Tests.{le-leb, lt-leb, lt-ltb, le-ltb}
-use lib.Dec.{eqb, leb, ltb}
-use lib.ListN.{length, getD, set, getElem?, length-set}
-use lib.Seq.{getD-set-same, getD-set-other}
-use Rattle.spec.specs.Choice.{if_then_else_}
-use Rattle.calculus.specs.Expression.{Value, choose}
+use lib.Dec.{leb}
+use lib.ListN.{length, getD, set, getElem?}
 use Rattle.calculus.specs.State as state
-use Rattle.calculus.specs.State.{update}
 use Rattle.calculus.proofs.Laws.Maps.{none-is-not-some, some-injective}
-use Rattle.calculus.proofs.Laws.Places.{set-elsewhere}
 use Rattle.threads.specs.declared.State.the-variants.{Running}
 use Rattle.threads.specs.declared.Threads.{Threads}
 use Rattle.engine.specs.declared.Outcome.the-variants.{Moved, Stuck, Past}
 use Rattle.engine.specs.declared.Stepped.{Stepped}
 use Rattle.control.specs.declared.Focus.{Focus}
-use Rattle.control.specs.Control.{variable, found, doneWith}
-use Rattle.reduction.specs.declared.words.Act.{Act}
+use Rattle.control.specs.Control.{found}
 use Rattle.reduction.specs.declared.words.Act.the-variants as act
-use Rattle.engine.specs.Focuses.{rowsAt, focusAt, focusPut, settled, wentOn}
-use Rattle.engine.specs.Steps.{ending, recorded, proceeded, outcomeOf, movedTo, actStep, afterAct}
+use Rattle.engine.specs.Focuses.{rowsAt, focusAt, settled, wentOn}
+use Rattle.engine.specs.Steps.{recorded, proceeded, outcomeOf, movedTo, actStep, afterAct}
 use Rattle.replay_theory.specs.Run.{Kind, cells, locks, rwlocks, semaphores, identifiers, threadLimit, thingLimit, withinLimits, callLimit}
 use Rattle.replay_theory.specs.Replay.{Outcome, badForm, noStep, pastLimit, step, limited}
-use Rattle.machine.specs.Environment.{Env}
 use Rattle.spec.specs.Expression.{Procedure}
-use Rattle.machine.specs.Control.{Frame, Control, done, at, marks, openCalls}
+use Rattle.machine.specs.Control.{Control, done, at, openCalls}
 use Rattle.machine.specs.Step.{isDone}
-use Rattle.machine.specs.State.{MachineThread, Machine, unless, ofLive, running}
+use Rattle.machine.specs.State.{MachineThread, unless, ofLive, running}
 use Rattle.machine.specs.Replay.{Replay, within, callsIn, countsWithin}
-use Rattle.simulation.proofs.Held.{codeValue, Values, BodiesStand, placeOf, ControlAt}
-use Rattle.simulation.proofs.Turning.{SameBut, same-all}
+use Rattle.simulation.proofs.Held.{BodiesStand, placeOf, ControlAt}
+use Rattle.simulation.proofs.Turning.{SameBut}
 use Rattle.simulation.proofs.Finding.{frames-row}
 use Rattle.simulation.proofs.Agreeing.{Agree, control-same, focus-here}
-use Rattle.simulation.proofs.Holds.{NamesHeld, recordOf, ThreadHeld, Sized, Holds}
-use Rattle.simulation.proofs.Proceeding.{place-below, set-here, Paused, low, proceeds}
+use Rattle.simulation.proofs.Holds.{NamesHeld, recordOf, Holds}
+use Rattle.simulation.proofs.Proceeding.{place-below, Paused, low, proceeds}
 
 -- ------------------------------------------------------------------ what a step on numbers answers
 

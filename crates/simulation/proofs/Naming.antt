@@ -1,13 +1,12 @@
 -- What the names name, after a store of one slot: by that name the new thing, by all others what they named.
-use Prim.Native.Nat.{ℕ, suc, _+_, _*_, _<_, _≤_}
-use mathlib.Core.Path.{_≡_, refl, sym, _∙_, ap, subst}
+use Prim.Native.Nat.{ℕ, suc, _+_, _<_, _≤_}
+use mathlib.Core.Path.{_≡_, sym, _∙_, ap, subst}
 use mathlib.Core.Logic.{_≢_}
-use mathlib.Core.Bool.{Bool, true, false}
+use mathlib.Core.Bool.{Bool}
 use mathlib.Core.List.{List}
 use native.Mathlib.Omega.{arith}
 use native.Mathlib.Decide.{ℕ-discrete, decLt}
 use borrow.Author.Tests.{lt-ltb, le-ltb}
-use lib.Dec.{ltb}
 use lib.ListN.{length, getD, set, length-set}
 use lib.Seq.{getD-set-same, getD-set-other}
 use Rattle.spec.specs.Choice.{if_then_else_}
@@ -15,8 +14,9 @@ use Rattle.calculus.specs.Expression.{Value, int, name, choose}
 use Rattle.calculus.specs.State as state
 use Rattle.calculus.specs.State.{unused, update}
 use Rattle.calculus.proofs.Laws.Maps.{update-other}
-use Rattle.reduction.specs.declared.slots.Slot.{Slot}
-use Rattle.reduction.specs.Slots.{kindsAt, firstsAt, secondsAt, slot, slotAt, slotPut}
+use Rattle.things.specs.declared.Slot.{Slot}
+use Rattle.things.specs.Uses.{slot}
+use Rattle.reduction.specs.Slots.{kindsAt, firstsAt, secondsAt, slotAt, slotPut}
 use Rattle.replay_theory.specs.Run.{Kind, cells, locks, rwlocks, semaphores, identifiers}
 use Rattle.simulation.proofs.Held.{codeValue}
 use Rattle.simulation.proofs.Agreeing.{Agree, agree-then, agree-shared}

@@ -1,13 +1,13 @@
 -- A thread goes on from a focus to its next word: the numbers then hold the machine in which it has gone there.
-use Prim.Native.Nat.{ℕ, zero, suc, _+_, _*_, _<_, _≤_}
+use Prim.Native.Nat.{ℕ, zero, suc, _+_, _<_, _≤_}
 use mathlib.Core.Path.{_≡_, refl, sym, _∙_, ap, subst}
 use mathlib.Core.Logic.{_≢_}
-use mathlib.Core.Bool.{Bool, true, false}
+use mathlib.Core.Bool.{Bool, false}
 use mathlib.Core.List.{List, [], _∷_}
 use mathlib.Core.Option.{some}
 use native.Mathlib.Omega.{arith}
-use native.Mathlib.Decide.{ℕ-discrete, decLt}
-use borrow.Author.Tests.{lt-ltb, le-ltb}
+use native.Mathlib.Decide.{ℕ-discrete}
+use borrow.Author.Tests.{lt-ltb}
 use lib.Dec.{eqb, ltb}
 use lib.ListN.{length, getD, set, getElem?, length-set}
 use lib.Seq.{getD-set-same, getD-set-other}
@@ -15,14 +15,15 @@ use Rattle.spec.specs.Choice.{if_then_else_}
 use Rattle.calculus.specs.State as calculus
 use Rattle.calculus.proofs.Laws.Maps.{some-injective, none-is-not-some}
 use Rattle.calculus.proofs.Laws.Places.{set-elsewhere}
-use Rattle.threads.specs.declared.State.the-variants.{Running, Finished, Joined}
+use Rattle.threads.specs.declared.State.the-variants.{Running, Finished}
 use Rattle.threads.specs.declared.Record.{Record}
 use Rattle.threads.specs.declared.Threads.{Threads}
 use Rattle.threads.specs.Records.{noRecord}
 use Rattle.threads.specs.Threads.{turned, finished}
 use Rattle.control.specs.declared.Focus.{Focus}
-use Rattle.control.specs.Control.{found, doneWith}
-use Rattle.reduction.specs.Slots.{slot, slotAt}
+use Rattle.control.specs.Control.{found}
+use Rattle.things.specs.Uses.{slot}
+use Rattle.reduction.specs.Slots.{slotAt}
 use Rattle.engine.specs.Focuses.{focusAt, focusPut, settled, wentOn}
 use Rattle.reduction.specs.Words.{countsAt, nextAt}
 use Rattle.engine.specs.Steps.{recorded, proceeded}
@@ -34,7 +35,7 @@ use Rattle.machine.specs.Step.{isDone}
 use Rattle.spec.specs.Expression.{Procedure}
 use Rattle.simulation.proofs.Held.{BodiesStand, ControlAt, WordAt}
 use Rattle.simulation.proofs.Turning.{SameBut}
-use Rattle.simulation.proofs.Agreeing.{Agree, SharedSame, control-same, agree-then, agree-found, shared-found, focus-here, focus-length, focus-other, focus-shared, focus-rows}
+use Rattle.simulation.proofs.Agreeing.{SharedSame, control-same, agree-then, agree-found, shared-found, focus-here, focus-length, focus-other, focus-shared, focus-rows}
 use Rattle.simulation.proofs.Holds.{NamesHeld, SlotIs, kindCode, recordOf, ThreadHeld, Sized, ThreadsHeld, Holds}
 
 -- ------------------------------------------------------------------ names

@@ -1,7 +1,6 @@
 -- The lowest pair that the numbers show is the machine's.
-use Prim.Native.Nat.{ℕ, zero, suc, _+_, _-_, _<_, _≤_}
+use Prim.Native.Nat.{ℕ, zero, suc, _+_, _-_}
 use mathlib.Core.Path.{_≡_, refl, sym, _∙_, ap, subst}
-use mathlib.Core.Logic.{_≢_}
 use mathlib.Core.Bool.{Bool, true, false, _||_}
 use mathlib.Core.List.{List, [], _∷_}
 use mathlib.Core.Option.{Option, none, some}
@@ -9,7 +8,7 @@ use native.Mathlib.Omega.{arith}
 use native.Mathlib.Decide.{ℕ-discrete}
 use borrow.Author.Tests.{eq-eqb, ne-eqb}
 use lib.Dec.{eqb}
-use lib.ListN.{length, getD, getElem?}
+use lib.ListN.{length, getElem?}
 use Rattle.spec.specs.Choice.{if_then_else_}
 use Rattle.spec.specs.Expression.{Position}
 use Rattle.spec.specs.declared.Word.{Word}
@@ -25,7 +24,7 @@ use Rattle.threads.specs.declared.Threads.{Threads}
 use Rattle.control.specs.declared.Focus.{Focus}
 use Rattle.control.specs.Shapes.{shapeOf, shapeAt, isWrite}
 use Rattle.control.specs.Control.{kept, readyAt}
-use Rattle.reduction.specs.declared.slots.Slot.{Slot}
+use Rattle.things.specs.declared.Slot.{Slot}
 use Rattle.engine.specs.declared.races.Access.{Access}
 use Rattle.engine.specs.declared.races.Access.the-variants.{None, Read, Write}
 use Rattle.engine.specs.declared.races.Partner.{Partner}
@@ -46,8 +45,8 @@ use Rattle.machine.specs.Step.{isDone}
 use Rattle.machine.specs.Replay as replay
 use Rattle.machine.specs.Replay.{Replay, usesIn}
 use Rattle.simulation.proofs.Held.{codeValue, partWord, RowOf, WordAt, ControlAt}
-use Rattle.simulation.proofs.Holds.{SlotIs, NamesHeld, Holds}
-use Rattle.simulation.proofs.Naming.{slotOf, slot-told}
+use Rattle.simulation.proofs.Holds.{SlotIs, Holds}
+use Rattle.simulation.proofs.Naming.{slot-told}
 
 -- ------------------------------------------------------------------ two threads
 

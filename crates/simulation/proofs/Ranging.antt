@@ -1,16 +1,16 @@
 -- The variables of a well-formed program are below 256, and its calls are of its own procedures.
 use Prim.Native.Nat.{ℕ, zero, suc, _+_, _<_, _≤_}
-use mathlib.Core.Path.{_≡_, refl, sym, _∙_, ap, subst}
+use mathlib.Core.Path.{_≡_, refl, subst}
 use mathlib.Core.Bool.{Bool, true, false, _&&_}
 use mathlib.Core.List.{List, [], _∷_, _++_, map}
 use mathlib.Core.Option.{Option, none, some}
 use native.Mathlib.Omega.{arith}
 use borrow.Author.Tests.{leb-true}
 use lib.Dec.{leb}
-use lib.ListN.{length, getD}
+use lib.ListN.{length}
 use Rattle.spec.specs.Choice.{if_then_else_}
 use Rattle.spec.specs.Text.{bytes, same, Line, closed, Field, lookUp, fields}
-use Rattle.spec.specs.Reading.{Seen, right, wrong, seen, wrongAfter, freelock, _to_, inRange, allInRange, numbers}
+use Rattle.spec.specs.Reading.{Seen, right, wrong, wrongAfter, freelock, _to_, inRange, allInRange, numbers}
 use Rattle.spec.specs.Expression.{Step, Expr, leaf, unary, binary, Item, step, proc, Procedure}
 use Rattle.spec.specs.Program.{Program, firstNumber, stepOf, wordLine, procOf, procLine, itemLine, itemLines}
 use Rattle.spec.specs.Words.{calls, wordsUnder, leastValue, largestValue, valueRange, role, binding}

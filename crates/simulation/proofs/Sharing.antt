@@ -1,12 +1,10 @@
 -- The words that use what a value names, on numbers, are the machine's.
-use Prim.Native.Nat.{ℕ, zero, suc, _+_, _*_, _<_, _≤_}
+use Prim.Native.Nat.{ℕ, suc, _<_}
 use mathlib.Core.Path.{_≡_, refl, sym, _∙_, ap, subst}
-use mathlib.Core.Logic.{_≢_}
-use mathlib.Core.Bool.{Bool, true, false}
-use mathlib.Core.List.{List, [], _∷_}
+use mathlib.Core.List.{List, []}
 use mathlib.Core.Option.{Option, none, some}
 use native.Mathlib.Omega.{arith}
-use lib.ListN.{length, getElem?}
+use lib.ListN.{getElem?}
 use Rattle.spec.specs.Expression.{Position}
 use Rattle.spec.specs.declared.Word.the-variants.{Unary, Binary}
 use Rattle.spec.specs.declared.BinaryWord.the-variants.{Write}
@@ -15,20 +13,18 @@ use Rattle.calculus.specs.Expression.{Value, int, name, read, lock, unlock, pos
 use Rattle.calculus.specs.State as state
 use Rattle.calculus.specs.State.{unused, identifier, cell, aLock, opened, closed, semaphore, rwlock, readers, writer, update}
 use Rattle.calculus.specs.Reduction.{_>>=_, _>>_, content}
-use Rattle.calculus.proofs.Laws.Maps.{none-is-not-some, some-is-not-none}
+use Rattle.calculus.proofs.Laws.Maps.{some-is-not-none}
 use Rattle.workspace.specs.Layout.{ruleOf, codeOf, printed}
 use Rattle.threads.specs.declared.Threads.{Threads}
 use Rattle.control.specs.declared.Focus.{Focus}
 use Rattle.control.specs.Shapes.{shapeOf, shapeAt, isWrite}
 use Rattle.control.specs.Control.{kept, continuation, returning, readyAt}
-use Rattle.reduction.specs.declared.slots.Slot.{Slot}
-use Rattle.reduction.specs.declared.uses.Used.{Used}
-use Rattle.reduction.specs.declared.uses.Used.the-variants.{Gives, Leaves}
-use Rattle.reduction.specs.declared.uses.Used.the-variants as used
+use Rattle.things.specs.declared.Slot.{Slot}
+use Rattle.things.specs.declared.Used.{Used}
 use Rattle.reduction.specs.declared.words.Act.{Act}
 use Rattle.reduction.specs.declared.words.Act.the-variants.{Go}
-use Rattle.reduction.specs.Slots.{slot, slotAt, slotPut}
-use Rattle.reduction.specs.Uses.{writtenOf, usedBy}
+use Rattle.things.specs.Uses.{slot, writtenOf, usedBy}
+use Rattle.reduction.specs.Slots.{slotAt, slotPut}
 use Rattle.reduction.specs.Words.{given, subject, operand, effected, wordUsed, actedBy, acted}
 use Rattle.engine.specs.Steps.{actStep, afterAct}
 use Rattle.replay_theory.specs.Replay.{limited}
@@ -41,7 +37,7 @@ use Rattle.machine.specs.Replay.{Replay, within}
 use Rattle.simulation.proofs.Held.{codeValue, partWord, RowOf, Values, Frames}
 use Rattle.simulation.proofs.Turning.{same-all, RowIn}
 use Rattle.simulation.proofs.Finding.{frames-same, returns-word}
-use Rattle.simulation.proofs.Agreeing.{Agree, rows-same}
+use Rattle.simulation.proofs.Agreeing.{rows-same}
 use Rattle.simulation.proofs.Holds.{SlotIs, Holds}
 use Rattle.simulation.proofs.Using.{Use, gave, left, Using, using-read, using-lock, using-unlock, using-post, using-wait, using-rdlock, using-rdunlock, using-wrlock, using-wrunlock, useOf, usedTo, slotOf, nameIn, step-asks, UseIs, Roomy, uses-alike}
 use Rattle.simulation.proofs.Naming.{slot-put-length, slot-agree, slot-told, used-below, names-put}

@@ -2,9 +2,8 @@
 use Prim.Native.Nat.{ℕ, zero, suc, _+_, _*_, _<_, _≤_}
 use mathlib.Core.Path.{_≡_, refl, sym, _∙_, ap, subst}
 use mathlib.Core.Logic.{_≢_, _⊎_, inl, inr}
-use mathlib.Core.Bool.{Bool, true, false}
 use mathlib.Core.List.{List, [], _∷_, _++_}
-use mathlib.Core.Option.{Option, none, some}
+use mathlib.Core.Option.{some}
 use native.Mathlib.Omega.{arith}
 use native.Mathlib.Decide.{ℕ-discrete, decLt}
 use borrow.Author.Tests.{lt-ltb, le-leb, lt-leb}
@@ -15,7 +14,7 @@ use Rattle.spec.specs.Choice.{if_then_else_}
 use Rattle.spec.specs.Expression.{Position, Expr}
 use Rattle.spec.specs.declared.Word.the-variants.{Binary}
 use Rattle.spec.specs.declared.BinaryWord.the-variants.{Spawn}
-use Rattle.calculus.specs.Expression.{Value, int, name}
+use Rattle.calculus.specs.Expression.{int, name}
 use Rattle.calculus.proofs.Laws.Maps.{none-is-not-some}
 use Rattle.calculus.proofs.Laws.Places.{set-elsewhere}
 use Rattle.threads.specs.declared.State.the-variants.{Running}
@@ -24,24 +23,24 @@ use Rattle.threads.specs.declared.Threads.{Threads}
 use Rattle.threads.specs.Records.{noRecord}
 use Rattle.threads.specs.Threads.{spawned}
 use Rattle.control.specs.declared.Focus.{Focus}
-use Rattle.control.specs.Control.{environmentsAt, finish, keptAt, callsAt, variable, kept, calledFrom, continuation, second, focus, entering, returning, readyAt}
+use Rattle.control.specs.Control.{finish, keptAt, callsAt, variable, kept, calledFrom, continuation, second, focus, entering, returning, readyAt}
 use Rattle.engine.specs.Focuses.{focusAt}
 use Rattle.reduction.specs.Words.{given}
 use Rattle.engine.specs.declared.Outcome.the-variants.{Past}
 use Rattle.engine.specs.Steps.{ending, proceeded, copiedFrom, copied, actStep, afterAct, givesZero, spawnedStep}
-use Rattle.replay_theory.specs.Run.{threadLimit, thingLimit, withinLimits, openIn}
+use Rattle.replay_theory.specs.Run.{threadLimit, withinLimits, openIn}
 use Rattle.replay_theory.specs.Replay.{limited}
 use Rattle.machine.specs.Environment.{Env}
-use Rattle.machine.specs.Control.{Frame, spawnWord, Control, done, at, return, enter, openCalls}
+use Rattle.machine.specs.Control.{Frame, spawnWord, done, at, return, enter, openCalls}
 use Rattle.machine.specs.State.{MachineThread, Machine, running}
 use Rattle.machine.specs.Step.{zeroValue, addThread, gives}
 use Rattle.machine.specs.Replay.{Replay, within}
-use Rattle.simulation.proofs.Held.{codeValue, RowOf, Stands, Values, Frames, ControlAt}
+use Rattle.simulation.proofs.Held.{RowOf, Stands, Values, Frames, ControlAt}
 use Rattle.machine.proofs.Marks.{calls-counted, enter-tells}
 use Rattle.simulation.proofs.Turning.{same-all, RowIn}
 use Rattle.simulation.proofs.Finding.{frames-row, enters-word, returns-word}
 use Rattle.simulation.proofs.Agreeing.{Agree, SharedSame, agree-all, control-same, less-or-more}
-use Rattle.simulation.proofs.Holds.{ThreadHeld, Sized, Holds}
+use Rattle.simulation.proofs.Holds.{Sized, Holds}
 use Rattle.simulation.proofs.Proceeding.{names-same, place-below, Paused, proceeds}
 use Rattle.simulation.proofs.Moving.{Answered, moves, pausing}
 

@@ -1,8 +1,7 @@
 -- The start on numbers is the machine's.
 use Prim.Native.Nat.{ℕ, zero, suc, _+_, _*_, _<_, _≤_}
-use mathlib.Core.Path.{_≡_, refl, sym, _∙_, ap, subst}
+use mathlib.Core.Path.{_≡_, refl, sym, _∙_, ap}
 use mathlib.Core.Logic.{_≢_}
-use mathlib.Core.Bool.{Bool, true, false}
 use mathlib.Core.List.{List, [], _∷_}
 use mathlib.Core.Option.{some}
 use native.Mathlib.Omega.{arith}
@@ -20,14 +19,13 @@ use Rattle.threads.specs.declared.Record.{Record}
 use Rattle.threads.specs.Records.{noRecord}
 use Rattle.threads.specs.Threads.{started}
 use Rattle.control.specs.Control.{finish, rootOf, variable, entering}
-use Rattle.reduction.specs.Slots.{slot, slotAt}
-use Rattle.reduction.specs.Words.{nextAt}
+use Rattle.reduction.specs.Slots.{slotAt}
 use Rattle.engine.specs.Steps.{startSpace, startOf}
-use Rattle.replay_theory.specs.Run.{openIn, Kind, cells, locks, rwlocks, semaphores, identifiers}
+use Rattle.replay_theory.specs.Run.{openIn}
 use Rattle.machine.specs.Control.{done, enter, openCalls}
 use Rattle.machine.proofs.Marks.{calls-counted, enter-tells}
 use Rattle.machine.specs.State.{MachineThread, running, startMachine}
-use Rattle.machine.specs.Replay.{Replay, startReplay}
+use Rattle.machine.specs.Replay.{startReplay}
 use Rattle.simulation.proofs.Bodies.{ProgramStands}
 use Rattle.simulation.proofs.Turning.{same-all}
 use Rattle.simulation.proofs.Finding.{enters-word}

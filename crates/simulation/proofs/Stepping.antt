@@ -1,15 +1,13 @@
 -- A step on numbers is the machine's step: thread by thread, word by word, choice by choice.
-use Prim.Native.Nat.{ℕ, zero, suc, _+_, _*_, _<_, _≤_}
-use mathlib.Core.Path.{_≡_, refl, sym, _∙_, ap, subst}
-use mathlib.Core.Logic.{_≢_}
+use Prim.Native.Nat.{ℕ, zero, suc, _<_, _≤_}
+use mathlib.Core.Path.{_≡_, refl, sym, ap, subst}
 use mathlib.Core.Bool.{Bool, true, false}
 use mathlib.Core.List.{List, [], _∷_}
 use mathlib.Core.Option.{Option, none, some}
 use native.Mathlib.Omega.{arith}
-use native.Mathlib.Decide.{ℕ-discrete}
-use borrow.Author.Tests.{le-leb, lt-leb, eq-eqb, ne-eqb}
+use borrow.Author.Tests.{le-leb, lt-leb, ne-eqb}
 use lib.Dec.{eqb}
-use lib.ListN.{length, getD, getElem?}
+use lib.ListN.{length, getElem?}
 use Rattle.spec.specs.Choice.{if_then_else_}
 use Rattle.spec.specs.Expression.{Position, Expr}
 use Rattle.spec.specs.declared.Word.{Word}
@@ -25,18 +23,15 @@ use Rattle.calculus.proofs.Laws.Maps.{none-is-not-some, some-is-not-none}
 use Rattle.workspace.specs.Layout.{ruleOf, codeOf, printed}
 use Rattle.threads.specs.declared.Record.{Record}
 use Rattle.threads.specs.declared.Threads.{Threads}
-use Rattle.threads.specs.Records.{noRecord}
 use Rattle.threads.specs.Threads.{isRunning, runs}
 use Rattle.control.specs.declared.Focus.{Focus}
 use Rattle.control.specs.Shapes.{shapeOf, shapeAt, isWrite, isIf}
 use Rattle.control.specs.Control.{finish, continuation, second as secondAt, readyAt, stoppedAt, unrolledAt}
-use Rattle.reduction.specs.declared.slots.Slot.{Slot}
-use Rattle.reduction.specs.declared.uses.Used.{Used}
-use Rattle.reduction.specs.declared.uses.Used.the-variants as used
-use Rattle.reduction.specs.declared.words.Act.{Act}
+use Rattle.things.specs.declared.Slot.{Slot}
+use Rattle.things.specs.declared.Used.the-variants as used
 use Rattle.engine.specs.declared.Outcome.the-variants.{Stuck}
-use Rattle.reduction.specs.Slots.{slot, slotAt}
-use Rattle.reduction.specs.Uses.{spawnedOf, joinedOf, usedBy}
+use Rattle.things.specs.Uses.{slot, spawnedOf, joinedOf, usedBy}
+use Rattle.reduction.specs.Slots.{slotAt}
 use Rattle.engine.specs.Focuses.{focusAt}
 use Rattle.reduction.specs.Words.{subject, operand, effected, wordUsed, actedBy, acted}
 use Rattle.engine.specs.Steps.{mayChoose, ending, actStep, afterAct, steppedFrom, stepped}
@@ -45,11 +40,11 @@ use Rattle.replay_theory.specs.Run.{cells, kindMade, partOfIf, noChoice, partCh
 use Rattle.replay_theory.specs.Replay.{Outcome, limited}
 use Rattle.machine.specs.Environment.{Env}
 use Rattle.machine.specs.Control as machine
-use Rattle.machine.specs.Control.{Frame, letWord, ifWord, whileWord, spawnWord, writeWord, unaryWord, makeWord, unrolledWord, againWord, Control, done, at, redex, nextRedex, marks, openCalls}
+use Rattle.machine.specs.Control.{Frame, letWord, ifWord, whileWord, spawnWord, writeWord, unaryWord, makeWord, unrolledWord, againWord, Control, done, at, redex, marks, openCalls}
 use Rattle.machine.specs.State.{MachineThread, Machine, running}
 use Rattle.machine.specs.Step.{step, stepUnary, stepWord}
 use Rattle.machine.specs.Replay.{Replay, wordOf, within, stepped as steppedOn}
-use Rattle.simulation.proofs.Held.{codeValue, partWord, makerWord, RowOf, Stands, Values, Frames, WordAt, placeOf, ControlAt}
+use Rattle.simulation.proofs.Held.{codeValue, partWord, makerWord, RowOf, Stands, Values, Frames, WordAt, placeOf}
 use Rattle.simulation.proofs.Holds.{SlotIs, stateOf, Holds}
 use Rattle.simulation.proofs.Proceeding.{place-below}
 use Rattle.simulation.proofs.Using.{Using, using-read, using-lock, using-unlock, using-post, using-wait, using-rdlock, using-rdunlock, using-wrlock, using-wrunlock, slotOf, Roomy}

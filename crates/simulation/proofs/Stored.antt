@@ -5,7 +5,7 @@ use mathlib.Core.Bool.{Bool, true, false}
 use mathlib.Core.List.{List, [], _∷_}
 use mathlib.Core.Option.{Option, none, some}
 use native.Mathlib.Omega.{arith}
-use borrow.Author.Tests.{leb-true, leb-false}
+use borrow.Author.Tests.{leb-false}
 use lib.Dec.{leb}
 use lib.ListN.{length, getElem?}
 use Rattle.spec.specs.Choice.{if_then_else_}
@@ -17,8 +17,7 @@ use Rattle.threads.specs.declared.Threads.{Threads}
 use Rattle.engine.specs.Steps as engine
 use Rattle.replay_theory.specs.Trace.{TraceLine}
 use Rattle.replay_theory.specs.Run.{partOfIf, noChoice, partChosen, effect, thingsAfter}
-use Rattle.replay_theory.specs.Replay.{Outcome, limited}
-use Rattle.machine.specs.State.{MachineThread, Machine}
+use Rattle.replay_theory.specs.Replay.{limited}
 use Rattle.machine.specs.Step.{step}
 use Rattle.machine.specs.Replay.{Replay, wordOf, stepped, within}
 use Rattle.simulation.proofs.Holds.{Holds}

@@ -1,9 +1,7 @@
 -- A word that uses what its part names: in the machine a question about the slot, on numbers a function of the slot's three numbers. Word by
 -- word and slot by slot they give the same.
-use Prim.Native.Nat.{ℕ, zero, suc, _+_, _*_, _-_, _<_, _≤_}
-use mathlib.Core.Path.{_≡_, refl, sym, _∙_, ap, subst}
-use mathlib.Core.Logic.{_≢_}
-use mathlib.Core.Bool.{Bool, true, false}
+use Prim.Native.Nat.{ℕ, zero, suc, _+_, _-_, _<_}
+use mathlib.Core.Path.{_≡_, refl, ap}
 use mathlib.Core.Option.{Option, none, some}
 use mathlib.Core.List.{List}
 use native.Mathlib.Omega.{arith}
@@ -14,13 +12,12 @@ use Rattle.calculus.specs.Expression as calculus
 use Rattle.calculus.specs.Expression.{Value, int, name, read, lock, unlock, post, wait, hold, rdlock, rdunlock, wrlock, wrunlock, choose}
 use Rattle.calculus.specs.State as state
 use Rattle.calculus.specs.State.{opened, closed, readers, writer, unused, identifier, cell, aLock, semaphore, rwlock}
-use Rattle.calculus.specs.Reduction.{_>>=_, _>>_, nameOf, content, lockState, ifOpened, count, oneLess, rwState, insideAfter}
+use Rattle.calculus.specs.Reduction.{_>>=_, _>>_, content, lockState, ifOpened, count, oneLess, rwState, insideAfter}
 use Rattle.workspace.specs.Layout.{ruleOf, codeOf, printed}
-use Rattle.reduction.specs.declared.slots.Slot.{Slot}
-use Rattle.reduction.specs.declared.uses.Used.{Used}
-use Rattle.reduction.specs.declared.uses.Used.the-variants.{Gives, Leaves, Stuck}
-use Rattle.reduction.specs.Slots.{slot}
-use Rattle.reduction.specs.Uses.{readOf, lockedOf, unlockedOf, postedOf, waitedOf, rdlockedOf, rdunlockedOf, wrlockedOf, wrunlockedOf, usedBy}
+use Rattle.things.specs.declared.Slot.{Slot}
+use Rattle.things.specs.declared.Used.{Used}
+use Rattle.things.specs.declared.Used.the-variants.{Gives, Leaves, Stuck}
+use Rattle.things.specs.Uses.{slot, readOf, lockedOf, unlockedOf, postedOf, waitedOf, rdlockedOf, rdunlockedOf, wrlockedOf, wrunlockedOf, usedBy}
 use Rattle.machine.specs.Environment.{Env}
 use Rattle.machine.specs.Control.{Frame}
 use Rattle.machine.specs.State.{Machine}

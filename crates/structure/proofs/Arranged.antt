@@ -16,17 +16,17 @@ use Rattle.workspace.specs.Region.{Region, ChangedWithin}
 use Rattle.workspace.specs.Holds.{allEnds, allLets, firstSteps, HoldsSteps}
 use Rattle.workspace.proofs.Region.{region-apart, region-kept, region-push, changed-wider, changed-then, changed-store}
 use Rattle.workspace.proofs.Held.{body-sized, root-sized, all-ends-length, steps-stay}
-use Rattle.structure.specs.Items.{ProcRow, procRows, Variables, moreVariables, HoldsItems, Limited, ItemsStored}
-use Rattle.structure.specs.Trees.{rootFirst, TreeAnswer, Structured}
-use Rattle.structure.specs.Outcomes.{Answers}
+use Rattle.tree.specs.Items.{ProcRow, procRows, Variables, moreVariables, HoldsItems, Limited, ItemsStored}
+use Rattle.tree.specs.Trees.{rootFirst, TreeAnswer, Structured}
+use Rattle.tree.specs.Outcomes.{Answers}
 use Rattle.structure.specs.Arranged.{arrangedOf, HoldsTree, Arrangeable, Arranged}
-use Rattle.structure.specs.declared.Outcome.{Outcome}
-use Rattle.structure.specs.declared.Outcome.the-variants as outcome
-use Rattle.structure.specs.declared.tree.Found.the-variants as tree
+use Rattle.tree.specs.declared.Outcome.{Outcome}
+use Rattle.tree.specs.declared.Outcome.the-variants as outcome
+use Rattle.tree.specs.declared.Found.the-variants as tree
 use Rattle.spec.specs.declared.Refusal.{Refusal}
 use Rattle.structure.specs.Scopes.{firstAt, unbound, Scopable, Scoped}
 use Rattle.structure.proofs.Bodies.{Standings, Parameters, allSize, AllWalked, walk-all, none-agrees, Columns, stands}
-use Rattle.structure.proofs.Rows.{rows-body, rows-lines, rows-variables, rows-firsts, rows-counted}
+use Rattle.tree.proofs.Rows.{rows-body, rows-lines, rows-variables, rows-firsts, rows-counted}
 
 variable-first : {r : ProcRow} {rs : List ProcRow} → Variables (r ∷ rs) → r .variable ≤ 255
 variable-first (moreVariables l v) = l

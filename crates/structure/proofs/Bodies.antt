@@ -20,10 +20,12 @@ use Rattle.workspace.proofs.Region.{region-moved, region-first, region-behind, 
 use Rattle.workspace.specs.Holds.{ends, lets, allEnds, allLets, firstSteps}
 use Rattle.workspace.proofs.Held.{ends-length, body-steps, root-steps}
 use Rattle.workspace.proofs.Expression.{codes, values, linesOf, Standing}
-use Rattle.structure.specs.Items.{Limited}
-use Rattle.structure.specs.Scopes.{noMark, unbound, scopeFrom, scopeTill, scopesFrom, firstAt, withFront, followed, bodyScopes, scopesBehind}
-use Rattle.structure.proofs.Limits.{limited-parts}
-use Rattle.structure.proofs.ScopeLaws.{after-on, from-proc, till-proc, replicate-any}
+use Rattle.tree.specs.Items.{Limited}
+use Rattle.binders.specs.Judging.{noMark, scopeFrom, scopeTill}
+use Rattle.structure.specs.Scopes.{unbound, scopesFrom, firstAt, withFront, followed, bodyScopes, scopesBehind}
+use Rattle.tree.proofs.Limits.{limited-parts}
+use Rattle.binders.proofs.JudgingLaws.{from-proc, till-proc}
+use Rattle.structure.proofs.ScopeLaws.{after-on, replicate-any}
 use Rattle.structure.proofs.Tables.{names, Agrees, extends-same, extends-then, agrees-narrow, agrees-onward, let-extends, let-first, let-second}
 use Rattle.structure.proofs.Walk.{Gone, Walked, walk}
 

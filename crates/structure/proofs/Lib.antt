@@ -1,12 +1,6 @@
-pub mod Listed
-pub mod Limits
-pub mod StructureLaws
-pub mod TreeLaws
-pub mod TreeLoop
 pub mod ScopeLaws
 pub mod ScopeLoop
 pub mod Tables
 pub mod Walk
 pub mod Bodies
-pub mod Rows
 pub mod Arranged

@@ -17,13 +17,14 @@ use Rattle.workspace.specs.Layout.{valuesAt, letsAt, procLinesAt, procVarsAt, p
 use Rattle.workspace.specs.Region.{Region, ChangedWithin}
 use Rattle.workspace.proofs.Region.{region-empty, region-append, region-kept, region-moved, changed-nothing, changed-then, changed-wider}
 use Rattle.workspace.specs.Steps.{valueAt}
-use Rattle.structure.specs.Outcomes.{Answers}
-use Rattle.structure.specs.Scopes.{noMark, unbound, Passing, judgeOf, storing, continued, scopesFrom, PartScoped, firstAt, withFront, followed, bodyScopes, BodyScopable, BodyScoped, scopesBehind, Scopable, Scoped}
-use Rattle.structure.specs.declared.Outcome.{Outcome}
-use Rattle.structure.specs.declared.Outcome.the-variants as outcome
-use Rattle.structure.specs.declared.binders.Judged.{Judged}
-use Rattle.structure.specs.declared.binders.Judged.the-variants.{Bind, Store, Refused}
-use Rattle.structure.proofs.ScopeLaws.{judge-kept}
+use Rattle.tree.specs.Outcomes.{Answers}
+use Rattle.binders.specs.Judging.{noMark, judgeOf}
+use Rattle.structure.specs.Scopes.{unbound, Passing, storing, continued, scopesFrom, PartScoped, firstAt, withFront, followed, bodyScopes, BodyScopable, BodyScoped, scopesBehind, Scopable, Scoped}
+use Rattle.tree.specs.declared.Outcome.{Outcome}
+use Rattle.tree.specs.declared.Outcome.the-variants as outcome
+use Rattle.binders.specs.declared.Judged.{Judged}
+use Rattle.binders.specs.declared.Judged.the-variants.{Bind, Store, Refused}
+use Rattle.binders.proofs.JudgingLaws.{judge-kept}
 
 -- ------------------------------------------------------------------ one body
 

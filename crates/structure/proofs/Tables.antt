@@ -15,7 +15,7 @@ use borrow.Author.Tests.{eq-eqb, ne-eqb, lt-ltb, ltb-false}
 use Rattle.spec.specs.Expression.{among}
 use Rattle.workspace.specs.Layout.{endsAt}
 use Rattle.workspace.specs.Holds.{letIn}
-use Rattle.structure.specs.Scopes.{noMark, scopeFrom, scopeTill}
+use Rattle.binders.specs.Judging.{noMark, scopeFrom, scopeTill}
 
 -- the end of the step at an index
 abbrev pub endAt : List ℕ → ℕ → ℕ

@@ -24,12 +24,14 @@ use Rattle.workspace.specs.Steps.{wordAt, valueAt, stepLineAt}
 use Rattle.workspace.specs.Holds.{letIn, letOf, lets}
 use Rattle.workspace.proofs.Codes.{word-of-code}
 use Rattle.workspace.proofs.Expression.{Standing, Head, leaf-head, unary-head, binary-head, standing-end, standing-part, standing-first, standing-second}
-use Rattle.structure.specs.Items.{Limited}
-use Rattle.structure.specs.Scopes.{noMark, scopeFrom, scopeTill, judgeLet, judgeVar, judgeCall, judgeBy, judgeOf, Passing, storing, continued, scopesFrom}
+use Rattle.tree.specs.Items.{Limited}
+use Rattle.binders.specs.Judging.{noMark, scopeFrom, scopeTill, judgeLet, judgeVar, judgeCall, judgeBy, judgeOf}
+use Rattle.structure.specs.Scopes.{Passing, storing, continued, scopesFrom}
 use Rattle.spec.specs.declared.Role.the-variants.{Uses, Calls, Neither}
-use Rattle.structure.specs.declared.binders.Judged.the-variants.{Store, Refused}
-use Rattle.structure.proofs.Limits.{limited-first, limited-behind, limited-parts}
-use Rattle.structure.proofs.ScopeLaws.{after, after-append, after-stop, from-let, till-let}
+use Rattle.binders.specs.declared.Judged.the-variants.{Store, Refused}
+use Rattle.tree.proofs.Limits.{limited-first, limited-behind, limited-parts}
+use Rattle.binders.proofs.JudgingLaws.{from-let, till-let}
+use Rattle.structure.proofs.ScopeLaws.{after, after-append, after-stop}
 use Rattle.structure.proofs.Tables.{endAt, names, Right, Bound, Extends, Agrees, extends-same, extends-then, agrees-narrow, agrees-onward, let-extends, let-first, let-second}
 
 -- of a sheet with `count` procedures

@@ -8,9 +8,9 @@ use Rattle.spec.specs.Expression.{Expr, Item, stepsAmong, Procedure, structure,
 use Rattle.workspace.specs.Layout.{endsAt, letsAt, procLinesAt, procVarsAt, procFirstsAt, rowTypesAt, workSize}
 use Rattle.workspace.specs.Holds.{allEnds, allLets, firstSteps, HoldsSteps}
 use Rattle.workspace.specs.Region.{Region, ChangedWithin}
-use Rattle.structure.specs.Items.{ItemsStored}
-use Rattle.structure.specs.Outcomes.{Answers}
-use Rattle.structure.specs.declared.Outcome.{Outcome}
+use Rattle.tree.specs.Items.{ItemsStored}
+use Rattle.tree.specs.Outcomes.{Answers}
+use Rattle.tree.specs.declared.Outcome.{Outcome}
 
 -- the procedures and the root that lines list, with their variables in scope; `last` is the last line read
 unfoldable pub arrangedOf : (last count : ℕ) → List Item → Out (List Procedure × Expr)

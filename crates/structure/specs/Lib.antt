@@ -1,6 +1,2 @@
-pub mod Items
-pub mod Outcomes
-pub mod Structure
-pub mod Trees
 pub mod Scopes
 pub mod Arranged

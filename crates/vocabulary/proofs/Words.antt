@@ -3,16 +3,10 @@ use mathlib.Core.Path.{_≡_, refl, sym, ap, _∙_}
 use mathlib.Core.List.{List, [], _∷_, _++_}
 use mathlib.Core.Bool.{Bool, true, false}
 use mathlib.Core.Option.{Option, none, some}
-use Prim.Native.Nat.{ℕ, _-_}
-use lib.ListN.{take, drop}
+use Prim.Native.Nat.{ℕ}
 use Rattle.spec.specs.Choice.{if_then_else_}
 use Rattle.spec.specs.Text.{same, Field, lookUp}
 use Rattle.spec.specs.declared.Word.{Word}
-use Rattle.lexer.specs.Views.{firstField}
-use Rattle.lexer.specs.Cursors.{rest, spanAt}
-use Rattle.lexer.specs.declared.Cursor.{Cursor}
-use Rattle.lexer.specs.declared.Span.{Span}
-use Rattle.lexer.proofs.Places.{span-field}
 use Rattle.vocabulary.specs.Words.{foundOf, spelledOr, eitherOf}
 use Rattle.vocabulary.specs.declared.FoundWord.{FoundWord}
 use Rattle.vocabulary.specs.declared.FoundWord.the-variants.{Known, Unknown}
@@ -63,24 +57,13 @@ pub table-first : (vs ws : List (List ℕ × Word)) (f : Field) {r r₁ r₂ : F
     → r₁ ≡ foundOf (lookUp vs f) → r₂ ≡ foundOf (lookUp ws f) → r ≡ foundOf (lookUp (vs ++ ws) f)
 table-first vs ws f e h₁ h₂ = e ∙ rw (h₁, h₂) (sym (either-found vs ws f))
 
-known : (o : Option Word) (w : Word) → foundOf o ≡ Known w → o ≡ some w
+-- what was found tells what the table has
+pub found-known : (o : Option Word) (w : Word) → foundOf o ≡ Known w → o ≡ some w
 unfolding foundOf
-known none w e = cc
-known (some v) w e = cc
+found-known none w e = cc
+found-known (some v) w e = cc
 
-unknown : (o : Option Word) → foundOf o ≡ Unknown → o ≡ none
+pub found-unknown : (o : Option Word) → foundOf o ≡ Unknown → o ≡ none
 unfolding foundOf
-unknown none e = refl
-unknown (some v) e = cc
-
--- ------------------------------------------------------------------ the word at a cursor
-
-module _ (ws : List (List ℕ × Word)) (text : List ℕ) (c : Cursor) (s : Span) (is : s ≡ spanAt text c) where
-  at-span : lookUp ws (firstField (rest text c)) ≡ lookUp ws (take (s .to - s .from) (drop (s .from) text))
-  at-span = ap (lookUp ws) (sym (span-field text c s is))
-
-  pub span-known : (w : Word) → foundOf (lookUp ws (take (s .to - s .from) (drop (s .from) text))) ≡ Known w → lookUp ws (firstField (rest text c)) ≡ some w
-  span-known w e = at-span ∙ known _ w e
-
-  pub span-unknown : foundOf (lookUp ws (take (s .to - s .from) (drop (s .from) text))) ≡ Unknown → lookUp ws (firstField (rest text c)) ≡ none
-  span-unknown e = at-span ∙ unknown _ e
+found-unknown none e = refl
+found-unknown (some v) e = cc

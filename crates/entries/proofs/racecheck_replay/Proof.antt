@@ -3,8 +3,8 @@ use mathlib.Core.Path.{refl, _∙_, ap}
 use Rattle.replay_theory.specs.declared.Numbers.{Numbers}
 use Rattle.replay_theory.specs.declared.Report.{Report}
 use Rattle.replay_theory.specs.Replay.{returnedFor}
-use Rattle.replay.specs.Numbers.{raceNumbers}
-use Rattle.replay.proofs.Told.{followed-as-stored}
+use Rattle.replay_numbers.specs.Numbers.{raceNumbers}
+use Rattle.replay_numbers.proofs.Told.{followed-as-stored}
 use borrow.Author.Needs.{needs}
 use Rattle.entries.proofs.racecheck_replay.Statement.{statement}
 use Rattle.entries.proofs.racecheck_replay.Tie as tie

@@ -2,7 +2,7 @@
 use borrow.Author.Needs.{needs}
 use native.Mathlib.Omega.{arith}
 use mathlib.Core.Path.{subst}
-use Rattle.structure.specs.Trees.{Structured}
+use Rattle.tree.specs.Trees.{Structured}
 use Rattle.structure.proofs.Arranged.{arrange-refused, arrange-scopable, root-small, arranged}
 use Rattle.structure.proofs.arrange.Statement.{statement}
 use Rattle.structure.proofs.arrange.Tie as tie

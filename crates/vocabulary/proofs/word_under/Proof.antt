@@ -1,8 +1,6 @@
 use borrow.Author.Needs.{needs}
-use mathlib.Core.Path.{_∙_, ap}
-use Rattle.spec.specs.Text.{bytes, lookUp}
+use Rattle.spec.specs.Text.{bytes}
 use Rattle.spec.specs.Words.{wordsUnder}
-use Rattle.vocabulary.specs.Words.{foundOf}
 use Rattle.vocabulary.proofs.Words.{spelled-first}
 use Rattle.vocabulary.proofs.word_under.Statement.{statement}
 use Rattle.vocabulary.proofs.word_under.Tie as tie

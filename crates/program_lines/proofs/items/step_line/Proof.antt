@@ -1,8 +1,7 @@
 -- A step line in the order in which it is judged: a missing line, the word `freelock`, another word, the number behind it, its range.
 use Rattle.lexer.proofs.Places.{span-le}
-use Rattle.vocabulary.proofs.Words.{span-known, span-unknown}
 use Rattle.program_lines.proofs.TailLaws.{line-fits, marked}
-use Rattle.program_lines.proofs.LineLaws.{step-missing, step-unknown}
+use Rattle.program_lines.proofs.LineLaws.{span-known, span-unknown, step-missing, step-unknown}
 use borrow.Author.Needs.{needs}
 use native.Mathlib.Omega.{arith}
 use mathlib.Core.Path.{_≡_, sym, _∙_}

@@ -1,0 +1,25 @@
+-- A call names a procedure that is there.
+use borrow.Author.Needs.{needs}
+use Rattle.binders.proofs.JudgingLaws.{call-there, call-missing}
+use Rattle.binders.proofs.judge_call.Statement.{statement}
+use Rattle.binders.proofs.judge_call.Tie as tie
+
+returns : tie.Need-returns
+returns c = call-there _ _ _ _ (c .before .index .ensures .0) (c .if1 .taken)
+
+returns-2 : tie.Need-returns-2
+returns-2 c = call-missing _ _ _ _ (c .before .before .index .ensures .0) (c .before .if1 .left)
+
+pub judge-call-spec : {M : Type 1} → statement M
+judge-call-spec =
+    tie.close
+    (tie.spec
+    (λ c. search needs)
+    (λ c. search needs)
+    (λ c. search needs)
+    (λ c κs. search needs)
+    returns
+    (λ c. search needs)
+    (λ c. search needs)
+    (λ c. search needs)
+    returns-2)

@@ -1,0 +1,68 @@
+-- An ending and a race in numbers, case by case.
+use Prim.Native.Nat.{ℕ}
+use mathlib.Core.Path.{_≡_, refl, sym, _∙_, ap, subst}
+use mathlib.Core.List.{List}
+use mathlib.Core.Option.{Option}
+use Rattle.spec.specs.Text.{Line, lines}
+use Rattle.spec.specs.Verdict.{returned}
+use Rattle.spec.specs.declared.Answer.the-variants.{Refuse}
+use Rattle.spec.specs.declared.Refusal.{Refusal}
+use Rattle.spec.specs.declared.Returned.{Returned}
+use Rattle.replay_theory.specs.declared.Ending.{Ending}
+use Rattle.replay_theory.specs.declared.Ending.the-variants.{Done, Refused, TraceForm, NoStep, PastLimit}
+use Rattle.replay_theory.specs.declared.FirstRace.{FirstRace}
+use Rattle.replay_theory.specs.declared.FirstRace.the-variants.{None, Found}
+use Rattle.replay_theory.specs.declared.Numbers.{Numbers}
+use Rattle.replay_theory.specs.Run.{Run}
+use Rattle.replay_theory.specs.Replay.{lineNumbers, sheetNumbers, returnedFor}
+use Rattle.replay_theory.specs.Claim.{runsOf, Reduced, Stops, allDone, notALine, cannotStep, tooMany, Follows, TraceFollowed}
+use Rattle.replay_numbers.specs.Numbers.{raceTold, raceNumbers}
+
+pub no-race-told : (race : FirstRace) → race ≡ None → raceTold 18446744073709551615 4294967295 4294967295 ≡ raceNumbers race
+unfolding raceNumbers
+no-race-told race e = rw e refl
+
+pub race-told : (race : FirstRace) (n i j : ℕ) → race ≡ Found n i j → raceTold n i j ≡ raceNumbers race
+unfolding raceNumbers
+race-told race n i j e = rw e refl
+
+pub sheet-told : (r : Refusal) (n : Returned) (line : ℕ) → n ≡ returned (Refuse r) → line ≡ n .line →
+    record { number = n .number; line = line; condition = n .condition; location = n .location } ≡ returnedFor (Refused r)
+unfolding returnedFor sheetNumbers
+sheet-told r n line e l = rw l (ap sheetNumbers e)
+
+module _ (e : Ending) (n : Numbers) where
+  pub done-told : e ≡ Done → n ≡ lineNumbers 0 0 → n ≡ returnedFor e
+  unfolding returnedFor
+  done-told h q = rw h q
+
+  pub refused-told : (r : Refusal) → e ≡ Refused r → n ≡ returnedFor (Refused r) → n ≡ returnedFor e
+  refused-told r h q = rw h q
+
+  pub form-told : (k : ℕ) → e ≡ TraceForm k → n ≡ lineNumbers 46 k → n ≡ returnedFor e
+  unfolding returnedFor
+  form-told k h q = rw h q
+
+  pub no-step-told : (k : ℕ) → e ≡ NoStep k → n ≡ lineNumbers 47 k → n ≡ returnedFor e
+  unfolding returnedFor
+  no-step-told k h q = rw h q
+
+  pub past-limit-told : (k : ℕ) → e ≡ PastLimit k → n ≡ lineNumbers 48 k → n ≡ returnedFor e
+  unfolding returnedFor
+  past-limit-told k h q = rw h q
+
+-- ------------------------------------------------------------------ stored numbers
+
+-- Where a trace stops, the answer's last two numbers are 0.
+stops-with-line : {rs : List Run} {ds : List Reduced} {r : Run} {l : Option Line} {k : ℕ} {n : Numbers} → Stops rs ds r l k n → n ≡ lineNumbers (n .number) (n .line)
+unfolding lineNumbers
+stops-with-line allDone = refl
+stops-with-line (notALine l q) = refl
+stops-with-line (cannotStep l t q e) = refl
+stops-with-line (tooMany l t w s q e b) = refl
+
+pub followed-as-stored : (room : ℕ) (text trace : List ℕ) (steps : ℕ) (n : Numbers) {number line : ℕ} → number ≡ n .number → line ≡ n .line →
+    TraceFollowed room text trace steps n → TraceFollowed room text trace steps (lineNumbers number line)
+followed-as-stored room text trace steps n e q F P read =
+    let told = F P read in
+    subst (Follows (runsOf P trace) (lines trace) steps) (stops-with-line (told .stops) ∙ (λ i. lineNumbers (sym e i) (sym q i))) told

@@ -1,0 +1,12 @@
+-- A variable past the table's end is not stored, and the table stays as it is.
+use mathlib.Core.Path.{sym}
+use lib.Seq.{set-out}
+use borrow.Author.Needs.{needs}
+use Rattle.structure.proofs.bind.Statement.{statement}
+use Rattle.structure.proofs.bind.Tie as tie
+
+returns-2 : tie.Need-returns-2
+returns-2 c = sym (set-out _ _ _ (c .if1 .left))
+
+pub bind-spec : {M : Type 1} → statement M
+bind-spec = tie.close (tie.spec (λ c. search needs) (λ c. search needs) (λ c. search needs) (λ c. search needs) returns-2)
