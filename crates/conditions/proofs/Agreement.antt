@@ -212,7 +212,7 @@ module _ (w : List ℕ) (S : Split) (P : Program) (H : HoldsSplit w S) (R : InRa
   takes-enough-shown t h = rw (type-shown w S P H R t h, not-below-shown _ _ (second-fits R t) (first-fits R t))
 
   pub contains-shown : (t u : TypeNumber) → t .0 < length (S .types) → u .0 < length (S .types)
-      → containsIn w n (typeAt S t) u ≡ contains S (typeAt S t) u
+      → containsIn w n (typeAt S t) u ≡ contains (agree S) (typeAt S t) u
   unfolding containsIn contains
   contains-shown t u i j = by-kind (is ref (typeAt S t)) refl
     where

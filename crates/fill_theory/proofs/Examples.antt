@@ -9,7 +9,7 @@ use Rattle.spec.specs.Program.{programLimit, firstNumber, countLine, stepOf, wo
 use Rattle.spec.specs.Split.{splitLimit, headings, headerRanges, mapsOf, mapsIn, startOf, headerOf, headed, headerLine, refOf, lockOf, outRange, tidOf, semOf, rwlockOf, typeLine, typeLines, mapLine, rowOf, startGiven, startRange, mayBeEmpty, postRange, postField, rowLine, split, signatureOf, signatureLine, emptyFault}
 use Rattle.spec.specs.Maps.{lowest, atLeast, _=ᵐ_, _≥ᵐ_, nowhere, sameNumbers, _+ᵐ_, _×ᵐ_, share, overWhole}
 use Rattle.spec.specs.Kinds.{sameKind, is, refLocation, content, firstMap, secondMap}
-use Rattle.spec.specs.Conditions.{typeIn, startMap, typeAt, mapAt, contains, looserLock, mayShow, row, type, kind, post, startOr, bodyStart, K, inMap, outMap, readMap, writeMap, conditionsOf, keptBack, signature, procedureConditions}
+use Rattle.spec.specs.Conditions.{typeIn, startMap, typeAt, mapAt, contains, looserLock, mayShow, row, type, kind, post, startOr, bodyStart, K, inMap, outMap, readMap, writeMap, table, conditionsOf, keptBack, signature, procedureConditions}
 use Rattle.spec.specs.Agreement.{sameMaps, sameTree, treeOf, trees, tree, agree}
 use Rattle.spec.specs.Sites.{sites, numbered, claimsAt, claims, judge, firstFalse, isType, only, bodySites, claimsOfProcedure, claimsOfProcedures, claimsOf}
 use Rattle.spec.specs.Workspace.{workspaceSize}
@@ -37,13 +37,13 @@ unfolding bytes same onLine lines onField fields lookUp digitLimit digits leadin
 calls-found = refl
 
 pub answers-given : AllAnswered 30 answers
-unfolding bytes same onLine lines onField fields lookUp digitLimit digits leadingZero value numeral _>>=_ demand seen insist wrongAfter inRange allInRange withNumeral numerals ranged numbers form outside miscounted faulty passed nextLine readLine readLines begin noneLeft end size withParts listed among scopeStep scope programLimit firstNumber countLine leafWords cellWords lockWords holdWords unaryWords binaryWords words leastValue largestValue valueRange stepOf wordLine program splitLimit headings headerRanges mapsOf mapsIn startOf headerOf headed headerLine refOf lockOf outRange tidOf semOf rwlockOf typeLine typeLines mapLine rowOf startGiven takesStart startRange mayBeEmpty postRange postField rowLine split lowest atLeast _=ᵐ_ _≥ᵐ_ nowhere sameNumbers _+ᵐ_ _×ᵐ_ share overWhole sameKind is refLocation content firstMap secondMap typeIn indexOf lineOf startMap typeAt mapAt contains looserLock mayShow row type kind post startOr bodyStart K inMap outMap readMap writeMap conditionsOf sameMaps sameTree treeOf trees tree agree preOfPart preOfSecond role binding sites numbered claimsAt claims judge firstFalse workspaceSize takesEnough allTakeEnough locksTakeEnough refuseOver startAtMostOne four returned barred _with_is_ times withPosts filled isType only typeClaims typed found._>>=_ found.demand found.forEach unchanged taking giving needing lending turn forth back ownPost weight ceiling reach pass asks loadHere inHere outHere readHere writeHere startHere accessHere flowOf postsAt mapOfStep mapsOfSteps greatestMaps givenLimit numberLimit mapAtMost allAtMost foundOr filledText sheets fill returnedFor twoLocks twoLocksSplit digit digitsWithin decimal line text headingName headerNumbers headerFields outNumber typeFields mapFields postShown startShown rowFields splitLines written answered AllAnswered answers greatestPosts lineOfItem stepsAmong leading breaksOff firstListed expression noLineLeft structure scopes wordsUnder calls keepsBack programHeadings countRanges proceduresOf countsOf counted procOf procLine itemLine itemLines signatureOf signatureLine emptyFault keptBack signature procedureConditions bodySites claimsOfProcedure claimsOfProcedures claimsOf signatureFields postsOfRoots keptHere beforeHere afterHere rootsFrom rootsOf
+unfolding bytes same onLine lines onField fields lookUp digitLimit digits leadingZero value numeral _>>=_ demand seen insist wrongAfter inRange allInRange withNumeral numerals ranged numbers form outside miscounted faulty passed nextLine readLine readLines begin noneLeft end size withParts listed among scopeStep scope programLimit firstNumber countLine leafWords cellWords lockWords holdWords unaryWords binaryWords words leastValue largestValue valueRange stepOf wordLine program splitLimit headings headerRanges mapsOf mapsIn startOf headerOf headed headerLine refOf lockOf outRange tidOf semOf rwlockOf typeLine typeLines mapLine rowOf startGiven takesStart startRange mayBeEmpty postRange postField rowLine split lowest atLeast _=ᵐ_ _≥ᵐ_ nowhere sameNumbers _+ᵐ_ _×ᵐ_ share overWhole sameKind is refLocation content firstMap secondMap typeIn indexOf lineOf startMap typeAt mapAt contains looserLock mayShow row type kind post startOr bodyStart K inMap outMap readMap writeMap table conditionsOf sameMaps sameTree treeOf trees tree agree preOfPart preOfSecond role binding sites numbered claimsAt claims judge firstFalse workspaceSize takesEnough allTakeEnough locksTakeEnough refuseOver startAtMostOne four returned barred _with_is_ times withPosts filled isType only typeClaims typed found._>>=_ found.demand found.forEach unchanged taking giving needing lending turn forth back ownPost weight ceiling reach pass asks loadHere inHere outHere readHere writeHere startHere accessHere flowOf postsAt mapOfStep mapsOfSteps greatestMaps givenLimit numberLimit mapAtMost allAtMost foundOr filledText sheets fill returnedFor twoLocks twoLocksSplit digit digitsWithin decimal line text headingName headerNumbers headerFields outNumber typeFields mapFields postShown startShown rowFields splitLines written answered AllAnswered answers greatestPosts lineOfItem stepsAmong leading breaksOff firstListed expression noLineLeft structure scopes wordsUnder calls keepsBack programHeadings countRanges proceduresOf countsOf counted procOf procLine itemLine itemLines signatureOf signatureLine emptyFault keptBack signature procedureConditions bodySites claimsOfProcedure claimsOfProcedures claimsOf signatureFields postsOfRoots keptHere beforeHere afterHere rootsFrom rootsOf
 answers-given = refl
 
 pub over-largest : answered splitLimit overLargest ≡ overLargest .expected
-unfolding bytes same onLine lines onField fields lookUp digitLimit digits leadingZero value numeral _>>=_ demand seen insist wrongAfter inRange allInRange withNumeral numerals ranged numbers form outside miscounted faulty passed nextLine readLine readLines begin noneLeft end size withParts listed among scopeStep scope programLimit firstNumber countLine leafWords cellWords lockWords holdWords unaryWords binaryWords words leastValue largestValue valueRange stepOf wordLine program splitLimit headings headerRanges mapsOf mapsIn startOf headerOf headed headerLine refOf lockOf outRange tidOf semOf rwlockOf typeLine typeLines mapLine rowOf startGiven takesStart startRange mayBeEmpty postRange postField rowLine split lowest atLeast _=ᵐ_ _≥ᵐ_ nowhere sameNumbers _+ᵐ_ _×ᵐ_ share overWhole sameKind is refLocation content firstMap secondMap typeIn indexOf lineOf startMap typeAt mapAt contains looserLock mayShow row type kind post startOr bodyStart K inMap outMap readMap writeMap conditionsOf sameMaps sameTree treeOf trees tree agree preOfPart preOfSecond role binding sites numbered claimsAt claims judge firstFalse workspaceSize takesEnough allTakeEnough locksTakeEnough refuseOver startAtMostOne four returned barred _with_is_ withPosts filled isType only typeClaims typed found._>>=_ found.demand found.forEach unchanged taking giving needing lending turn forth back ownPost weight ceiling reach pass asks loadHere inHere outHere readHere writeHere startHere accessHere flowOf postsAt mapOfStep mapsOfSteps greatestMaps givenLimit numberLimit mapAtMost allAtMost foundOr filledText sheets fill returnedFor digit digitsWithin decimal line text headingName headerNumbers headerFields outNumber typeFields mapFields postShown startShown rowFields splitLines written answered greatestPosts lineOfItem stepsAmong leading breaksOff firstListed expression noLineLeft structure scopes wordsUnder calls keepsBack programHeadings countRanges proceduresOf countsOf counted procOf procLine itemLine itemLines signatureOf signatureLine emptyFault keptBack signature procedureConditions bodySites claimsOfProcedure claimsOfProcedures claimsOf signatureFields postsOfRoots keptHere beforeHere afterHere rootsFrom rootsOf overLargest
+unfolding bytes same onLine lines onField fields lookUp digitLimit digits leadingZero value numeral _>>=_ demand seen insist wrongAfter inRange allInRange withNumeral numerals ranged numbers form outside miscounted faulty passed nextLine readLine readLines begin noneLeft end size withParts listed among scopeStep scope programLimit firstNumber countLine leafWords cellWords lockWords holdWords unaryWords binaryWords words leastValue largestValue valueRange stepOf wordLine program splitLimit headings headerRanges mapsOf mapsIn startOf headerOf headed headerLine refOf lockOf outRange tidOf semOf rwlockOf typeLine typeLines mapLine rowOf startGiven takesStart startRange mayBeEmpty postRange postField rowLine split lowest atLeast _=ᵐ_ _≥ᵐ_ nowhere sameNumbers _+ᵐ_ _×ᵐ_ share overWhole sameKind is refLocation content firstMap secondMap typeIn indexOf lineOf startMap typeAt mapAt contains looserLock mayShow row type kind post startOr bodyStart K inMap outMap readMap writeMap table conditionsOf sameMaps sameTree treeOf trees tree agree preOfPart preOfSecond role binding sites numbered claimsAt claims judge firstFalse workspaceSize takesEnough allTakeEnough locksTakeEnough refuseOver startAtMostOne four returned barred _with_is_ withPosts filled isType only typeClaims typed found._>>=_ found.demand found.forEach unchanged taking giving needing lending turn forth back ownPost weight ceiling reach pass asks loadHere inHere outHere readHere writeHere startHere accessHere flowOf postsAt mapOfStep mapsOfSteps greatestMaps givenLimit numberLimit mapAtMost allAtMost foundOr filledText sheets fill returnedFor digit digitsWithin decimal line text headingName headerNumbers headerFields outNumber typeFields mapFields postShown startShown rowFields splitLines written answered greatestPosts lineOfItem stepsAmong leading breaksOff firstListed expression noLineLeft structure scopes wordsUnder calls keepsBack programHeadings countRanges proceduresOf countsOf counted procOf procLine itemLine itemLines signatureOf signatureLine emptyFault keptBack signature procedureConditions bodySites claimsOfProcedure claimsOfProcedures claimsOf signatureFields postsOfRoots keptHere beforeHere afterHere rootsFrom rootsOf overLargest
 over-largest = refl
 
 pub fillings-written : AllWritten fillings
-unfolding bytes same onLine lines onField fields lookUp digitLimit digits leadingZero value numeral _>>=_ demand seen insist wrongAfter inRange allInRange withNumeral numerals ranged numbers form outside miscounted faulty passed nextLine readLine readLines begin noneLeft end size withParts listed among scopeStep scope programLimit firstNumber countLine leafWords cellWords lockWords holdWords unaryWords binaryWords words leastValue largestValue valueRange stepOf wordLine program splitLimit headings headerRanges mapsOf mapsIn startOf headerOf headed headerLine refOf lockOf outRange tidOf semOf rwlockOf typeLine typeLines mapLine rowOf startGiven takesStart startRange mayBeEmpty postRange postField rowLine split lowest atLeast _=ᵐ_ _≥ᵐ_ nowhere sameNumbers _+ᵐ_ _×ᵐ_ share overWhole sameKind is refLocation content firstMap secondMap typeIn indexOf lineOf startMap typeAt mapAt contains looserLock mayShow row type kind post startOr bodyStart K inMap outMap readMap writeMap conditionsOf sameMaps sameTree treeOf trees tree agree preOfPart preOfSecond role binding sites numbered claimsAt claims judge firstFalse workspaceSize takesEnough allTakeEnough locksTakeEnough refuseOver startAtMostOne four returned barred times withPosts filled isType only typeClaims typed found._>>=_ found.demand found.forEach unchanged taking giving needing lending turn forth back ownPost weight ceiling reach pass asks loadHere inHere outHere readHere writeHere startHere accessHere flowOf postsAt mapOfStep mapsOfSteps greatestMaps givenLimit numberLimit mapAtMost allAtMost foundOr filledText sheets fill returnedFor twoLocks twoLocksSplit digit digitsWithin decimal line text headingName headerNumbers headerFields outNumber typeFields mapFields postShown startShown rowFields splitLines written P unfilled _with_becomes_ callsOne oneKept wholeOf AllWritten fillings greatestPosts lineOfItem stepsAmong leading breaksOff firstListed expression noLineLeft structure scopes wordsUnder calls keepsBack programHeadings countRanges proceduresOf countsOf counted procOf procLine itemLine itemLines signatureOf signatureLine emptyFault keptBack signature procedureConditions bodySites claimsOfProcedure claimsOfProcedures claimsOf signatureFields postsOfRoots keptHere beforeHere afterHere rootsFrom rootsOf
+unfolding bytes same onLine lines onField fields lookUp digitLimit digits leadingZero value numeral _>>=_ demand seen insist wrongAfter inRange allInRange withNumeral numerals ranged numbers form outside miscounted faulty passed nextLine readLine readLines begin noneLeft end size withParts listed among scopeStep scope programLimit firstNumber countLine leafWords cellWords lockWords holdWords unaryWords binaryWords words leastValue largestValue valueRange stepOf wordLine program splitLimit headings headerRanges mapsOf mapsIn startOf headerOf headed headerLine refOf lockOf outRange tidOf semOf rwlockOf typeLine typeLines mapLine rowOf startGiven takesStart startRange mayBeEmpty postRange postField rowLine split lowest atLeast _=ᵐ_ _≥ᵐ_ nowhere sameNumbers _+ᵐ_ _×ᵐ_ share overWhole sameKind is refLocation content firstMap secondMap typeIn indexOf lineOf startMap typeAt mapAt contains looserLock mayShow row type kind post startOr bodyStart K inMap outMap readMap writeMap table conditionsOf sameMaps sameTree treeOf trees tree agree preOfPart preOfSecond role binding sites numbered claimsAt claims judge firstFalse workspaceSize takesEnough allTakeEnough locksTakeEnough refuseOver startAtMostOne four returned barred times withPosts filled isType only typeClaims typed found._>>=_ found.demand found.forEach unchanged taking giving needing lending turn forth back ownPost weight ceiling reach pass asks loadHere inHere outHere readHere writeHere startHere accessHere flowOf postsAt mapOfStep mapsOfSteps greatestMaps givenLimit numberLimit mapAtMost allAtMost foundOr filledText sheets fill returnedFor twoLocks twoLocksSplit digit digitsWithin decimal line text headingName headerNumbers headerFields outNumber typeFields mapFields postShown startShown rowFields splitLines written P unfilled _with_becomes_ callsOne oneKept wholeOf AllWritten fillings greatestPosts lineOfItem stepsAmong leading breaksOff firstListed expression noLineLeft structure scopes wordsUnder calls keepsBack programHeadings countRanges proceduresOf countsOf counted procOf procLine itemLine itemLines signatureOf signatureLine emptyFault keptBack signature procedureConditions bodySites claimsOfProcedure claimsOfProcedures claimsOf signatureFields postsOfRoots keptHere beforeHere afterHere rootsFrom rootsOf
 fillings-written = refl

@@ -140,7 +140,7 @@ module _ {P : Program} {S : Split} (R : InRange P S) where
         ap (λ ts. sameTree (getD ts (t .0) (plain int [])) (getD ts (u .0) (plain int [])))
         (trees-kept [] (S .types) (λ n. maps-fit R (record { 0 = n })))
 
-    pub contains-kept : (τ : TypeLine) (u : TypeNumber) → contains (filled S σ) τ u ≡ contains S τ u
+    pub contains-kept : (τ : TypeLine) (u : TypeNumber) → contains (agree (filled S σ)) τ u ≡ contains (agree S) τ u
     unfolding contains
     contains-kept τ u = rw (agree-kept (content τ) u)
 

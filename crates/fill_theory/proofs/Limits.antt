@@ -19,7 +19,7 @@ use Rattle.spec.specs.declared.ProgramHeading.{ProgramHeading}
 use Rattle.spec.specs.declared.ProgramHeading.the-variants as heading
 use Rattle.spec.proofs.Clashes.{true-is-not-false}
 use Rattle.spec.proofs.Tests.{both-true}
-use Rattle.spec.proofs.Ranges.{wrong-is-not-right, seen-right, in-range-at, in-to}
+use Rattle.spec.proofs.Seen.{wrong-is-not-right, seen-right, in-range-at, in-to}
 use Rattle.fill_theory.specs.Answer.{mapAtMost, allAtMost}
 
 -- at most d at each place

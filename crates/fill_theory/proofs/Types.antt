@@ -6,7 +6,7 @@ use Rattle.spec.specs.Words.{role, binding, preOfPart, preOfSecond}
 use Rattle.spec.specs.Expression.{Expr, leaf, unary, binary, Procedure}
 use Rattle.spec.specs.Program.{Program}
 use Rattle.spec.specs.Split.{Map, Split}
-use Rattle.spec.specs.Conditions.{Env, type, post, bodyStart, signature, startMap, conditionsOf, procedureConditions}
+use Rattle.spec.specs.Conditions.{Env, type, post, bodyStart, signature, startMap, table, conditionsOf, procedureConditions}
 use Rattle.spec.specs.Sites.{Site, Claim, sites, numbered, claimsAt, claims, bodySites, claimsOfProcedure, claimsOfProcedures, claimsOf, isType, only}
 use Rattle.spec.specs.Ranges.{InRange}
 use Rattle.spec.specs.declared.Word.the-variants.{Binary}
@@ -54,7 +54,7 @@ module _ {P : Program} {S : Split} (R : InRange P S) (σ : List Map) where
   ownTypes T Γ pre e = only isType (claimsAt T (record { Γ = Γ; pre = pre; step = e }))
 
   own-kept : (Γ : Env) (pre pre′ : Map) (e : Expr) → ownTypes S′ Γ pre e ≡ ownTypes S Γ pre′ e
-  unfolding claimsAt numbered conditionsOf only isType signature filled
+  unfolding claimsAt numbered table conditionsOf only isType signature filled
   own-kept Γ pre pre′ (leaf Var k v) = simp (type-kept S σ, may-show-kept R σ)
   own-kept Γ pre pre′ (leaf Int k v) = simp (kind-kept S σ)
   own-kept Γ pre pre′ (binary Let k v e₁ e₂) = simp (type-kept S σ, agree-kept R σ)

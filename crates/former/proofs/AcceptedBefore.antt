@@ -2,19 +2,18 @@
 -- check is written out here, beside the theorem; no definition and no contract cites it.
 use mathlib.Core.Path.{_≡_, ap}
 use mathlib.Core.List.{List, [], _∷_, _++_}
-use mathlib.Core.Bool.{Bool, true, _&&_}
+use mathlib.Core.Bool.{Bool, true}
 use Prim.Native.Nat.{ℕ, _+_}
-use lib.Dec.{eqb, leb, ltb}
-use lib.ListN.{length}
+use lib.Dec.{eqb, leb}
 use borrow.Author.Tests.{eqb-true}
 use Rattle.spec.specs.Reading.{Out, on, _>>=_, demand}
 use Rattle.spec.specs.Expression.{Expr, leaf, unary, binary, lineOf, Procedure}
-use Rattle.spec.specs.Program.{Program, program, programLimit}
-use Rattle.spec.specs.Split.{Map, Signature, Split, split, splitLimit, mapAt}
-use Rattle.spec.specs.Maps.{_=ᵐ_, _≥ᵐ_, _+ᵐ_, share}
+use Rattle.spec.specs.Program.{Program}
+use Rattle.spec.specs.Split.{Map, Signature, Split, mapAt}
+use Rattle.spec.specs.Maps.{_≥ᵐ_}
 use Rattle.spec.specs.Agreement.{agree}
-use Rattle.spec.specs.Kinds.{int, ref, is, refLocation, content}
-use Rattle.spec.specs.Conditions.{Condition, T, F, A, Env, typeIn, type, kind, post, startMap, keptBack, signature, contains, mayShow, conditionsOf, procedureConditions}
+use Rattle.spec.specs.Kinds.{ref, is, content}
+use Rattle.spec.specs.Conditions.{Condition, T, F, Env, type, post, startMap, signature, contains, mayShow, table, conditionsOf, procedureConditions}
 use Rattle.spec.specs.Sites.{Site, sites, Claim, numbered, claimsAt, claims, bodySites, claimsOfProcedure, claimsOfProcedures, claimsOf, firstFalse}
 use Rattle.spec.specs.FirstFalse.{Holds, AllHold}
 use Rattle.spec.specs.Workspace.{workspaceSize}
@@ -23,7 +22,7 @@ use Rattle.spec.specs.declared.TypeNumber.{TypeNumber}
 use Rattle.spec.specs.declared.TypeLine.{TypeLine}
 use Rattle.spec.specs.declared.Answer.{Answer}
 use Rattle.spec.specs.declared.Answer.the-variants.{Accept}
-use Rattle.spec.specs.declared.Refusal.the-variants.{ShortWorkspace, LongProgram, LongSplit}
+use Rattle.spec.specs.declared.Refusal.the-variants.{ShortWorkspace}
 use Rattle.spec.specs.declared.LeafWord.the-variants.{Var, Int, Newtid, Newlock, Newsem, Newrwlock}
 use Rattle.spec.specs.declared.UnaryWord.the-variants.{While, Join, Ref, Read, Lock, Unlock, Post, Wait, Rdlock, Rdunlock, Wrlock, Wrunlock, Call}
 use Rattle.spec.specs.declared.BinaryWord.the-variants.{Let, If, Spawn, Write}
@@ -41,46 +40,10 @@ use Rattle.spec.specs.declared.Purpose.the-variants.{Check}
 unfoldable pub agreeBefore : TypeNumber → TypeNumber → Bool
 agreeBefore t u = eqb (t .0) (u .0)
 
-unfoldable pub containsBefore : TypeLine → TypeNumber → Bool
-containsBefore x t = is ref x && agreeBefore (content x) t
-
 module _ (S : Split) where
-  -- the rows of the table that compare two types; the others are as they were
+  -- the table, with types compared by their numbers, on var lines too
   unfoldable pub conditionsBefore : Env → (pre : Map) → Expr → List Condition
-  conditionsBefore Γ pre (leaf Var k v) = let e = leaf Var k v in
-      T (agreeBefore (type S e) (typeIn Γ v)) ∷ F (post S e =ᵐ pre) ∷ []
-  conditionsBefore Γ pre (leaf Int k v) = conditionsOf S Γ pre (leaf Int k v)
-  conditionsBefore Γ pre (binary Let k v e₁ e₂) = let e = binary Let k v e₁ e₂ in
-      T (agreeBefore (type S e) (type S e₂)) ∷ F (post S e =ᵐ post S e₂) ∷ []
-  conditionsBefore Γ pre (binary If k v e₁ e₂) = let e = binary If k v e₁ e₂ in
-      T (agreeBefore (type S e) (type S e₁)) ∷ T (agreeBefore (type S e) (type S e₂))
-      ∷ F (post S e₁ ≥ᵐ post S e) ∷ F (post S e₂ ≥ᵐ post S e) ∷ []
-  conditionsBefore Γ pre (unary While k v e₁) = conditionsOf S Γ pre (unary While k v e₁)
-  conditionsBefore Γ pre (leaf Newtid k v) = conditionsOf S Γ pre (leaf Newtid k v)
-  conditionsBefore Γ pre (binary Spawn k v e₁ e₂) = conditionsOf S Γ pre (binary Spawn k v e₁ e₂)
-  conditionsBefore Γ pre (unary Join k v e₁) = conditionsOf S Γ pre (unary Join k v e₁)
-  conditionsBefore Γ pre (unary Ref k v e₁) = let e = unary Ref k v e₁ in
-      T (containsBefore (kind S e) (type S e₁)) ∷ F (post S e =ᵐ post S e₁) ∷ []
-  conditionsBefore Γ pre (unary Read k v e₁) = let e = unary Read k v e₁ in let p = refLocation (kind S e₁) in
-      T (is ref (kind S e₁)) ∷ T (containsBefore (kind S e₁) (type S e)) ∷ F (post S e =ᵐ post S e₁)
-      ∷ A (ltb 0 (share (post S e) p)) p ∷ []
-  conditionsBefore Γ pre (binary Write k v e₁ e₂) = let e = binary Write k v e₁ e₂ in let p = refLocation (kind S e₁) in
-      T (is int (kind S e)) ∷ T (is ref (kind S e₁)) ∷ T (containsBefore (kind S e₁) (type S e₂)) ∷ F (post S e =ᵐ post S e₂)
-      ∷ A (leb (S .header .denominator) (share (post S e) p)) p ∷ []
-  conditionsBefore Γ pre (leaf Newlock k v) = conditionsOf S Γ pre (leaf Newlock k v)
-  conditionsBefore Γ pre (unary Lock k v e₁) = conditionsOf S Γ pre (unary Lock k v e₁)
-  conditionsBefore Γ pre (unary Unlock k v e₁) = conditionsOf S Γ pre (unary Unlock k v e₁)
-  conditionsBefore Γ pre (leaf Newsem k v) = conditionsOf S Γ pre (leaf Newsem k v)
-  conditionsBefore Γ pre (leaf Newrwlock k v) = conditionsOf S Γ pre (leaf Newrwlock k v)
-  conditionsBefore Γ pre (unary Post k v e₁) = conditionsOf S Γ pre (unary Post k v e₁)
-  conditionsBefore Γ pre (unary Wait k v e₁) = conditionsOf S Γ pre (unary Wait k v e₁)
-  conditionsBefore Γ pre (unary Rdlock k v e₁) = conditionsOf S Γ pre (unary Rdlock k v e₁)
-  conditionsBefore Γ pre (unary Rdunlock k v e₁) = conditionsOf S Γ pre (unary Rdunlock k v e₁)
-  conditionsBefore Γ pre (unary Wrlock k v e₁) = conditionsOf S Γ pre (unary Wrlock k v e₁)
-  conditionsBefore Γ pre (unary Wrunlock k v e₁) = conditionsOf S Γ pre (unary Wrunlock k v e₁)
-  conditionsBefore Γ pre (unary Call k f e₁) = let e = unary Call k f e₁ in let g = signature S f in
-      T (agreeBefore (type S e) (g .result)) ∷ T (agreeBefore (type S e₁) (g .argument))
-      ∷ F (post S e₁ =ᵐ mapAt S (g .before) +ᵐ keptBack S e) ∷ F (post S e =ᵐ mapAt S (g .after) +ᵐ keptBack S e) ∷ []
+  conditionsBefore = table S agreeBefore agreeBefore
 
   unfoldable pub procedureConditionsBefore : Signature → Procedure → List Condition
   procedureConditionsBefore g p = T (agreeBefore (type S (p .body)) (g .result)) ∷ F (post S (p .body) ≥ᵐ mapAt S (g .after)) ∷ []
@@ -123,12 +86,12 @@ module _ (S : Split) where
   shown : (t u : TypeNumber) → agreeBefore t u ≡ true → mayShow S t u ≡ true
   shown t u h = rw (numbered-alike t u h) (may-show-itself S u)
 
-  contained : (x : TypeLine) (u : TypeNumber) → containsBefore x u ≡ true → contains S x u ≡ true
-  unfolding containsBefore contains
+  contained : (x : TypeLine) (u : TypeNumber) → contains agreeBefore x u ≡ true → contains (agree S) x u ≡ true
+  unfolding contains
   contained x u h = let (one, alike) = both-true (is ref x) (agreeBefore (content x) u) h in rw one (agreed (content x) u alike)
 
   own-holds : (n i : ℕ) (Γ : Env) (pre : Map) (e : Expr) → AllHold (numbered n i (conditionsBefore S Γ pre e)) → AllHold (numbered n i (conditionsOf S Γ pre e))
-  unfolding AllHold Holds numbered conditionsBefore conditionsOf
+  unfolding AllHold Holds numbered table conditionsBefore conditionsOf
   own-holds n i Γ pre (leaf Var k v) h = (shown _ _ (h .0), h .1)
   own-holds n i Γ pre (leaf Int k v) h = h
   own-holds n i Γ pre (binary Let k v e₁ e₂) h = (agreed _ _ (h .0), h .1)

@@ -26,7 +26,7 @@ use Rattle.spec.specs.declared.Answer.the-variants.{Refuse}
 use Rattle.former.proofs.Texts.{OneLine, _above_, above-lines, fields-append}
 use Rattle.spec.proofs.Sheets.{sheets-then}
 use Rattle.former.proofs.NoHeading.{headedAs, under, ruling, same-ruling}
-use Rattle.spec.proofs.Ranges.{seen-right, first-map-fits}
+use Rattle.spec.proofs.Seen.{seen-right, first-map-fits}
 use Rattle.spec.proofs.Starts.{never-empty}
 use Rattle.former.proofs.ZeroField.{withZero, numerals-zero, one-line-append, not-ten}
 use Rattle.spec.specs.declared.Purpose.the-variants.{Check}

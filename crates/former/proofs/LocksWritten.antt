@@ -23,7 +23,7 @@ use Rattle.spec.specs.declared.Purpose.the-variants.{Check}
 use Rattle.spec.specs.declared.TypeLine.{TypeLine}
 use Rattle.spec.proofs.Tests.{same-equal}
 use Rattle.spec.proofs.Outcomes.{bind-alike}
-use Rattle.spec.proofs.Ranges.{wrong-is-not-right, seen-right, numbers-right, numbers-spelled, numerals-counted}
+use Rattle.spec.proofs.Seen.{wrong-is-not-right, seen-right, numbers-right, numbers-spelled, numerals-counted}
 use Rattle.spec.proofs.WellFormed.{split-well-formed, well-formed-split}
 use Rattle.spec.proofs.Sheets.{sheets-then}
 use Rattle.former.proofs.NoHeading.{headedAs, under, ruling, same-ruling}

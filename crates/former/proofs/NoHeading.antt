@@ -13,7 +13,7 @@ use Rattle.spec.specs.Program.{Program}
 use Rattle.spec.specs.Split.{Map, Header, Signature, Split}
 use Rattle.spec.specs.Kinds.{int, lock, is, content}
 use Rattle.spec.specs.Agreement.{Tree, plain, sameTree, treeOf, trees, tree, agree}
-use Rattle.spec.specs.Conditions.{Condition, T, Env, typeAt, mapAt, startMap, contains, looserLock, mayShow, row, type, kind, post, startOr, bodyStart, keptBack, signature, K, inMap, outMap, readMap, writeMap, conditionsOf, procedureConditions}
+use Rattle.spec.specs.Conditions.{Condition, T, Env, typeAt, mapAt, startMap, contains, looserLock, mayShow, row, type, kind, post, startOr, bodyStart, keptBack, signature, K, inMap, outMap, readMap, writeMap, table, conditionsOf, procedureConditions}
 use Rattle.spec.specs.Sites.{Site, sites, claimsAt, claims, bodySites, claimsOfProcedure, claimsOfProcedures, claimsOf}
 use Rattle.spec.specs.Verdict.{takesEnough, allTakeEnough, locksTakeEnough, startAtMostOne, ruled}
 use Rattle.spec.specs.declared.Heading.{Heading}
@@ -63,7 +63,7 @@ module _ (h : Heading) (S : Split) where
   same-agree t u =
       ap (λ (l : List Tree). sameTree (getD l (t .0) (plain int [])) (getD l (u .0) (plain int []))) (same-trees [] (S .types))
 
-  same-contains : (x : TypeLine) (t : TypeNumber) → contains (under h S) x t ≡ contains S x t
+  same-contains : (x : TypeLine) (t : TypeNumber) → contains (agree (under h S)) x t ≡ contains (agree S) x t
   unfolding contains
   same-contains x t = rw (same-agree (content x) t)
 
@@ -102,7 +102,7 @@ module _ (h : Heading) (S : Split) where
   same-start-in (some m) = refl
 
   same-own : (Γ : Env) (pre : Map) (e : Expr) → conditionsOf (under h S) Γ pre e ≡ conditionsOf S Γ pre e
-  unfolding conditionsOf row type kind post bodyStart startOr keptBack signature K inMap outMap readMap writeMap typeAt mapAt under headedAs
+  unfolding table conditionsOf row type kind post bodyStart startOr keptBack signature K inMap outMap readMap writeMap typeAt mapAt under headedAs
   same-own Γ pre (leaf Var k v) = at-first _ (same-may-show _ _)
   same-own Γ pre (leaf Int k v) = refl
   same-own Γ pre (leaf Newtid k v) = refl

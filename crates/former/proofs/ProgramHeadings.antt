@@ -24,7 +24,7 @@ use Rattle.spec.proofs.Clashes.{true-is-not-false}
 use Rattle.former.proofs.Texts.{OneLine, _above_, fields-append}
 use Rattle.former.proofs.ZeroField.{withZero, numerals-zero, one-line-append, not-ten}
 use Rattle.former.proofs.ProgramStages.{afterItems, afterCount, program-stages}
-use Rattle.spec.proofs.Ranges.{wrong-is-not-right, seen-right}
+use Rattle.spec.proofs.Seen.{wrong-is-not-right, seen-right}
 
 -- ------------------------------------------------------------------ line 1
 

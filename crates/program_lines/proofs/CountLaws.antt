@@ -13,7 +13,7 @@ use Rattle.spec.specs.Reading.{programSheet, _>>=_, right, wrong, badForm, badR
 use Rattle.spec.specs.Program.{firstNumber, programHeadings, countRanges, proceduresOf, countsOf, counted, countLine}
 use Rattle.spec.specs.declared.Refusal.the-variants.{ProgramForm, ProgramRange}
 use Rattle.spec.specs.declared.ProgramHeading.the-variants.{P, P2}
-use Rattle.spec.proofs.Ranges.{up-to-in, up-to-out}
+use Rattle.spec.proofs.Seen.{up-to-in, up-to-out}
 use Rattle.lexer.specs.Views.{firstField, textEnded}
 use Rattle.lexer.specs.Cursors.{Placed, start, rest}
 use Rattle.lexer.specs.declared.Cursor.{Cursor}

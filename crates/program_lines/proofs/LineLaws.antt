@@ -20,7 +20,7 @@ use Rattle.spec.specs.declared.Word.{Word}
 use Rattle.spec.specs.declared.Word.the-variants.{Leaf, Unary, Binary}
 use Rattle.spec.specs.declared.LeafWord.the-variants.{Var, Int, Newtid, Newlock, Newsem, Newrwlock}
 use Rattle.spec.specs.declared.BinaryWord.the-variants.{Let, If, Spawn, Write}
-use Rattle.spec.proofs.Ranges.{up-to-in, up-to-out}
+use Rattle.spec.proofs.Seen.{up-to-in, up-to-out}
 use Rattle.lexer.specs.Views.{firstField, textEnded}
 use Rattle.lexer.specs.Cursors.{rest, spanAt, placeAt}
 use Rattle.lexer.specs.declared.Cursor.{Cursor}

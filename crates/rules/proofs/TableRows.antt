@@ -12,7 +12,7 @@ use Rattle.spec.specs.Program.{Program}
 use Rattle.spec.specs.Split.{Map, Signature, Split}
 use Rattle.spec.specs.Maps.{share}
 use Rattle.spec.specs.Kinds.{refLocation, firstMap, secondMap}
-use Rattle.spec.specs.Conditions.{Env, mapAt, mayShow, contains, type, kind, post, bodyStart, keptBack, signature, K, inMap, outMap, readMap, writeMap, conditionsOf, procedureConditions}
+use Rattle.spec.specs.Conditions.{Env, mapAt, mayShow, contains, type, kind, post, bodyStart, keptBack, signature, K, inMap, outMap, readMap, writeMap, table, conditionsOf, procedureConditions}
 use Rattle.spec.specs.Agreement.{agree}
 use Rattle.spec.specs.Ranges.{InRange}
 use Rattle.spec.specs.declared.MapNumber.{MapNumber}
@@ -79,7 +79,7 @@ module _ (w : List ℕ) (S : Split) (P : Program) (H : HoldsSplit w S) (R : InRa
   shows e x p q h = rw (p .typed, q) (may-show-shown w S P H R (s .locations) located _ _ (p .type-in) h)
 
   holds-content : {t u : TypeNumber} {m n : MapNumber} (e e₁ : Expr) → Part w S t m e → Part w S u n e₁
-      → containsIn w (s .locations) (layout.typeAt w t) u ≡ contains S (kind S e) (type S e₁)
+      → containsIn w (s .locations) (layout.typeAt w t) u ≡ contains (agree S) (kind S e) (type S e₁)
   unfolding type kind
   holds-content e e₁ p q = rw (typed-as e p, q .typed) (contains-shown w S P H R (s .locations) located _ _ (p .type-in) (q .type-in))
 
@@ -87,7 +87,7 @@ module _ (w : List ℕ) (S : Split) (P : Program) (H : HoldsSplit w S) (R : InRa
 
   pub leaf-shown : (x : LeafWord) → Part w S (s .typed) (s .post) (leaf x l v) → Bound S x s Γ v
       → ruleRow (ruleOf (leafCode x)) w s (layout.typeAt w (s .typed)) (layout.typeAt w (s .type1)) ≡ conditionsOf S Γ pre (leaf x l v)
-  unfolding printed ruleOf ruleRow conditionsOf type K inMap outMap readMap writeMap
+  unfolding printed ruleOf ruleRow table conditionsOf type K inMap outMap readMap writeMap
   leaf-shown Var o b = rw (equal located (o .posted) pre-stands, shows _ _ o (b .0) (b .1))
   leaf-shown Int o b = rw (equal located (o .posted) pre-stands, typed-as _ o)
   leaf-shown Newtid o b = rw (equal located (o .posted) pre-stands, typed-as _ o)
@@ -106,7 +106,7 @@ module _ (w : List ℕ) (S : Split) (P : Program) (H : HoldsSplit w S) (R : InRa
     pub unary-shown : (x : UnaryWord) → Part w S (s .typed) (s .post) (unary x l v e₁)
         → Stands w S (s .start) (bodyStart S (unary x l v e₁)) → (x ≡ Call → Signed w S (s .signature) (signature S v))
         → ruleRow (ruleOf (unaryCode x)) w s (layout.typeAt w (s .typed)) (layout.typeAt w (s .type1)) ≡ conditionsOf S Γ pre (unary x l v e₁)
-    unfolding printed ruleOf ruleRow conditionsOf type K inMap outMap readMap writeMap keptBack
+    unfolding printed ruleOf ruleRow table conditionsOf type K inMap outMap readMap writeMap keptBack
     unary-shown While o b c =
         rw (at-least located pre-stands (o .posted), at-least located (f .posted) (o .posted), typed-as _ o)
     unary-shown Join o b c =
@@ -150,7 +150,7 @@ module _ (w : List ℕ) (S : Split) (P : Program) (H : HoldsSplit w S) (R : InRa
       pub binary-shown : (x : BinaryWord) → Part w S (s .typed) (s .post) (binary x l v e₁ e₂)
           → Stands w S (s .start) (bodyStart S (binary x l v e₁ e₂))
           → ruleRow (ruleOf (binaryCode x)) w s (layout.typeAt w (s .typed)) (layout.typeAt w (s .type1)) ≡ conditionsOf S Γ pre (binary x l v e₁ e₂)
-      unfolding printed ruleOf ruleRow conditionsOf type K inMap outMap readMap writeMap
+      unfolding printed ruleOf ruleRow table conditionsOf type K inMap outMap readMap writeMap
       binary-shown Let o b =
           rw (equal located (o .posted) (g .posted), agrees _ _ o (g .typed) (g .type-in))
       binary-shown If o b =

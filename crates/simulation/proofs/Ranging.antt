@@ -15,7 +15,7 @@ use Rattle.spec.specs.Expression.{Step, Expr, leaf, unary, binary, Item, step, 
 use Rattle.spec.specs.Program.{Program, firstNumber, stepOf, wordLine, procOf, procLine, itemLine, itemLines}
 use Rattle.spec.specs.Words.{calls, wordsUnder, leastValue, largestValue, valueRange, role, binding}
 use Rattle.spec.specs.WellFormed.{Shows, nothing, line, prefix, itemsOf, listing, StepInside, UsedInside, AllUsedInside, firstItemLine, WellFormedProgram}
-use Rattle.spec.proofs.Ranges.{wrong-is-not-right, seen-right, numbers-right}
+use Rattle.spec.proofs.Seen.{wrong-is-not-right, seen-right, numbers-right}
 use Rattle.spec.specs.declared.ProgramHeading.{ProgramHeading}
 use Rattle.spec.specs.declared.ProgramHeading.the-variants.{P, P2}
 use Rattle.spec.specs.declared.Word.{Word}

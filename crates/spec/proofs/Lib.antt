@@ -4,6 +4,7 @@ pub mod Reasons
 pub mod Refusals
 pub mod Clashes
 pub mod Tests
+pub mod Seen
 pub mod Ranges
 pub mod Fits
 pub mod Wide

@@ -20,7 +20,7 @@ use Rattle.spec.specs.declared.MapNumber.{MapNumber}
 use Rattle.spec.specs.declared.Word.{Word}
 use Rattle.spec.specs.declared.Word.the-variants.{Leaf, Unary, Binary}
 use Rattle.spec.proofs.Clashes.{true-is-not-false}
-use Rattle.spec.proofs.Ranges.{wrong-is-not-right, seen-right, insist-right}
+use Rattle.spec.proofs.Seen.{wrong-is-not-right, seen-right, insist-right}
 
 -- under no heading may the s of a call be empty
 pub never-empty : (g : Heading) (w : Word) → keepsBack w ≡ true → mayBeEmpty g w ≡ false

@@ -16,7 +16,7 @@ use Rattle.spec.specs.WellFormed.{Shows, nothing, line}
 use Rattle.spec.specs.declared.ProgramHeading.{ProgramHeading}
 use Rattle.spec.specs.declared.ProgramHeading.the-variants.{P, P2}
 use Rattle.spec.specs.declared.Word.{Word}
-use Rattle.spec.proofs.Ranges.{wrong-is-not-right, seen-right}
+use Rattle.spec.proofs.Seen.{wrong-is-not-right, seen-right}
 
 pub item-lines-counted : (h : ProgramHeading) (k n : ℕ) → length (itemLines h k n) ≡ n
 unfolding itemLines

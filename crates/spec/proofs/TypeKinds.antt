@@ -77,7 +77,7 @@ pub is-of : (k : Kind) (t : TypeLine) → is k t ≡ true → t ≡ As k t
 is-of k t h = sym (itself t) ∙ ap (λ l. As l t) (kind-is k t h)
 
 -- a ref type, and its content agrees
-pub is-ref-of : (S : Split) (t : TypeLine) (u : TypeNumber) → contains S t u ≡ true
+pub is-ref-of : (S : Split) (t : TypeLine) (u : TypeNumber) → contains (agree S) t u ≡ true
     → (t ≡ Ref (refLocation t) (content t)) × (agree S (content t) u ≡ true)
 unfolding contains
 is-ref-of S t u h = let (one, agrees) = both-true (is ref t) (agree S (content t) u) h in (is-of ref t one, agrees)
@@ -88,7 +88,7 @@ pub of-is : {t x : TypeLine} → t ≡ x → is (kindOf x) t ≡ true
 unfolding is
 of-is {x = x} e = rw e (same-kind-itself (kindOf x))
 
-pub ref-of-is : (S : Split) {t : TypeLine} {p : Location} {c : TypeNumber} (u : TypeNumber) → t ≡ Ref p c → agree S c u ≡ true → contains S t u ≡ true
+pub ref-of-is : (S : Split) {t : TypeLine} {p : Location} {c : TypeNumber} (u : TypeNumber) → t ≡ Ref p c → agree S c u ≡ true → contains (agree S) t u ≡ true
 unfolding contains is sameKind content
 ref-of-is S u e h = rw e h
 

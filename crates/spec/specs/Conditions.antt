@@ -35,14 +35,14 @@ unfoldable pub typeIn : Env → (v : ℕ) → TypeNumber
 typeIn [] v = record { 0 = 0 }
 typeIn (b ∷ Γ) v = if eqb (b .0) v then b .1 else typeIn Γ v
 
+-- a ref type whose c agrees with the type t
+unfoldable pub contains : (agrees : TypeNumber → TypeNumber → Bool) → TypeLine → TypeNumber → Bool
+contains agrees x t = is ref x && agrees (content x) t
+
 module _ (S : Split) where
   -- the start, which a program's first step has for its pre
   unfoldable pub startMap : Map
   startMap = mapAt S (S .header .rootStart)
-
-  -- a ref type whose c agrees with the type t
-  unfoldable pub contains : TypeLine → TypeNumber → Bool
-  contains x t = is ref x && agree S (content x) t
 
   -- of two lock types: the in of the first is nowhere above that of the second, its out nowhere below
   unfoldable pub looserLock : (shown own : TypeLine) → Bool
@@ -103,56 +103,62 @@ module _ (S : Split) where
   unfoldable pub writeMap : Expr → Map
   writeMap e = mapAt S (secondMap (kind e))
 
-  -- the table, in the order of Figure 5: the conditions of a step, in order, with the types of the variables there and its pre
+  -- the table, in the order of Figure 5: the conditions of a step, in order, with the types of the variables there and its pre. `agrees`
+  -- says which types agree, `shows` which type a var line may show for its let's value.
+  module _ (agrees shows : TypeNumber → TypeNumber → Bool) where
+    unfoldable pub table : Env → (pre : Map) → Expr → List Condition
+    table Γ pre (leaf Var k v) = let e = leaf Var k v in
+        T (shows (type e) (typeIn Γ v)) ∷ F (post e =ᵐ pre) ∷ []
+    table Γ pre (leaf Int k v) = let e = leaf Int k v in
+        T (is int (kind e)) ∷ F (post e =ᵐ pre) ∷ []
+    table Γ pre (binary Let k v e₁ e₂) = let e = binary Let k v e₁ e₂ in
+        T (agrees (type e) (type e₂)) ∷ F (post e =ᵐ post e₂) ∷ []
+    table Γ pre (binary If k v e₁ e₂) = let e = binary If k v e₁ e₂ in
+        T (agrees (type e) (type e₁)) ∷ T (agrees (type e) (type e₂)) ∷ F (post e₁ ≥ᵐ post e) ∷ F (post e₂ ≥ᵐ post e) ∷ []
+    table Γ pre (unary While k v e₁) = let e = unary While k v e₁ in
+        T (is int (kind e)) ∷ F (pre ≥ᵐ post e) ∷ F (post e₁ ≥ᵐ post e) ∷ []
+    table Γ pre (leaf Newtid k v) = let e = leaf Newtid k v in
+        T (is tid (kind e)) ∷ F (post e =ᵐ pre) ∷ []
+    table Γ pre (binary Spawn k v e₁ e₂) = let e = binary Spawn k v e₁ e₂ in
+        T (is int (kind e)) ∷ T (is tid (kind e₁)) ∷ F (post e₂ ≥ᵐ K e₁) ∷ F (post e +ᵐ bodyStart e =ᵐ post e₁) ∷ []
+    table Γ pre (unary Join k v e₁) = let e = unary Join k v e₁ in
+        T (is int (kind e)) ∷ T (is tid (kind e₁)) ∷ F (post e =ᵐ post e₁ +ᵐ K e₁) ∷ []
+    table Γ pre (unary Ref k v e₁) = let e = unary Ref k v e₁ in
+        T (contains agrees (kind e) (type e₁)) ∷ F (post e =ᵐ post e₁) ∷ []
+    table Γ pre (binary Write k v e₁ e₂) = let e = binary Write k v e₁ e₂ in let p = refLocation (kind e₁) in
+        T (is int (kind e)) ∷ T (is ref (kind e₁)) ∷ T (contains agrees (kind e₁) (type e₂)) ∷ F (post e =ᵐ post e₂)
+        ∷ A (leb (S .header .denominator) (share (post e) p)) p ∷ []
+    table Γ pre (unary Read k v e₁) = let e = unary Read k v e₁ in let p = refLocation (kind e₁) in
+        T (is ref (kind e₁)) ∷ T (contains agrees (kind e₁) (type e)) ∷ F (post e =ᵐ post e₁) ∷ A (ltb 0 (share (post e) p)) p ∷ []
+    table Γ pre (leaf Newlock k v) = let e = leaf Newlock k v in
+        T (is lock (kind e)) ∷ F (post e +ᵐ outMap e =ᵐ pre) ∷ []
+    table Γ pre (unary Lock k v e₁) = let e = unary Lock k v e₁ in
+        T (is int (kind e)) ∷ T (is lock (kind e₁)) ∷ F (post e =ᵐ post e₁ +ᵐ inMap e₁) ∷ []
+    table Γ pre (unary Unlock k v e₁) = let e = unary Unlock k v e₁ in
+        T (is int (kind e)) ∷ T (is lock (kind e₁)) ∷ F (post e +ᵐ outMap e₁ =ᵐ post e₁) ∷ []
+    table Γ pre (leaf Newsem k v) = let e = leaf Newsem k v in
+        T (is sem (kind e)) ∷ F (post e =ᵐ pre) ∷ []
+    table Γ pre (unary Post k v e₁) = let e = unary Post k v e₁ in
+        T (is int (kind e)) ∷ T (is sem (kind e₁)) ∷ F (post e +ᵐ K e₁ =ᵐ post e₁) ∷ []
+    table Γ pre (unary Wait k v e₁) = let e = unary Wait k v e₁ in
+        T (is int (kind e)) ∷ T (is sem (kind e₁)) ∷ F (post e =ᵐ post e₁ +ᵐ K e₁) ∷ []
+    table Γ pre (leaf Newrwlock k v) = let e = leaf Newrwlock k v in
+        T (is rwlock (kind e)) ∷ F (writeMap e ≥ᵐ v ×ᵐ readMap e) ∷ F (post e +ᵐ writeMap e =ᵐ pre) ∷ []
+    table Γ pre (unary Rdlock k v e₁) = let e = unary Rdlock k v e₁ in
+        T (is int (kind e)) ∷ T (is rwlock (kind e₁)) ∷ F (post e =ᵐ post e₁ +ᵐ readMap e₁) ∷ []
+    table Γ pre (unary Rdunlock k v e₁) = let e = unary Rdunlock k v e₁ in
+        T (is int (kind e)) ∷ T (is rwlock (kind e₁)) ∷ F (post e +ᵐ readMap e₁ =ᵐ post e₁) ∷ []
+    table Γ pre (unary Wrlock k v e₁) = let e = unary Wrlock k v e₁ in
+        T (is int (kind e)) ∷ T (is rwlock (kind e₁)) ∷ F (post e =ᵐ post e₁ +ᵐ writeMap e₁) ∷ []
+    table Γ pre (unary Wrunlock k v e₁) = let e = unary Wrunlock k v e₁ in
+        T (is int (kind e)) ∷ T (is rwlock (kind e₁)) ∷ F (post e +ᵐ writeMap e₁ =ᵐ post e₁) ∷ []
+    table Γ pre (unary Call k f e₁) = let e = unary Call k f e₁ in let g = signature f in
+        T (agrees (type e) (g .result)) ∷ T (agrees (type e₁) (g .argument)) ∷ F (post e₁ =ᵐ mapAt S (g .before) +ᵐ keptBack e)
+        ∷ F (post e =ᵐ mapAt S (g .after) +ᵐ keptBack e) ∷ []
+
+  -- the conditions of a step, by document 02's agreement and what it lets a var line show
   unfoldable pub conditionsOf : Env → (pre : Map) → Expr → List Condition
-  conditionsOf Γ pre (leaf Var k v) = let e = leaf Var k v in
-      T (mayShow (type e) (typeIn Γ v)) ∷ F (post e =ᵐ pre) ∷ []
-  conditionsOf Γ pre (leaf Int k v) = let e = leaf Int k v in
-      T (is int (kind e)) ∷ F (post e =ᵐ pre) ∷ []
-  conditionsOf Γ pre (binary Let k v e₁ e₂) = let e = binary Let k v e₁ e₂ in
-      T (agree S (type e) (type e₂)) ∷ F (post e =ᵐ post e₂) ∷ []
-  conditionsOf Γ pre (binary If k v e₁ e₂) = let e = binary If k v e₁ e₂ in
-      T (agree S (type e) (type e₁)) ∷ T (agree S (type e) (type e₂)) ∷ F (post e₁ ≥ᵐ post e) ∷ F (post e₂ ≥ᵐ post e) ∷ []
-  conditionsOf Γ pre (unary While k v e₁) = let e = unary While k v e₁ in
-      T (is int (kind e)) ∷ F (pre ≥ᵐ post e) ∷ F (post e₁ ≥ᵐ post e) ∷ []
-  conditionsOf Γ pre (leaf Newtid k v) = let e = leaf Newtid k v in
-      T (is tid (kind e)) ∷ F (post e =ᵐ pre) ∷ []
-  conditionsOf Γ pre (binary Spawn k v e₁ e₂) = let e = binary Spawn k v e₁ e₂ in
-      T (is int (kind e)) ∷ T (is tid (kind e₁)) ∷ F (post e₂ ≥ᵐ K e₁) ∷ F (post e +ᵐ bodyStart e =ᵐ post e₁) ∷ []
-  conditionsOf Γ pre (unary Join k v e₁) = let e = unary Join k v e₁ in
-      T (is int (kind e)) ∷ T (is tid (kind e₁)) ∷ F (post e =ᵐ post e₁ +ᵐ K e₁) ∷ []
-  conditionsOf Γ pre (unary Ref k v e₁) = let e = unary Ref k v e₁ in
-      T (contains (kind e) (type e₁)) ∷ F (post e =ᵐ post e₁) ∷ []
-  conditionsOf Γ pre (binary Write k v e₁ e₂) = let e = binary Write k v e₁ e₂ in let p = refLocation (kind e₁) in
-      T (is int (kind e)) ∷ T (is ref (kind e₁)) ∷ T (contains (kind e₁) (type e₂)) ∷ F (post e =ᵐ post e₂)
-      ∷ A (leb (S .header .denominator) (share (post e) p)) p ∷ []
-  conditionsOf Γ pre (unary Read k v e₁) = let e = unary Read k v e₁ in let p = refLocation (kind e₁) in
-      T (is ref (kind e₁)) ∷ T (contains (kind e₁) (type e)) ∷ F (post e =ᵐ post e₁) ∷ A (ltb 0 (share (post e) p)) p ∷ []
-  conditionsOf Γ pre (leaf Newlock k v) = let e = leaf Newlock k v in
-      T (is lock (kind e)) ∷ F (post e +ᵐ outMap e =ᵐ pre) ∷ []
-  conditionsOf Γ pre (unary Lock k v e₁) = let e = unary Lock k v e₁ in
-      T (is int (kind e)) ∷ T (is lock (kind e₁)) ∷ F (post e =ᵐ post e₁ +ᵐ inMap e₁) ∷ []
-  conditionsOf Γ pre (unary Unlock k v e₁) = let e = unary Unlock k v e₁ in
-      T (is int (kind e)) ∷ T (is lock (kind e₁)) ∷ F (post e +ᵐ outMap e₁ =ᵐ post e₁) ∷ []
-  conditionsOf Γ pre (leaf Newsem k v) = let e = leaf Newsem k v in
-      T (is sem (kind e)) ∷ F (post e =ᵐ pre) ∷ []
-  conditionsOf Γ pre (unary Post k v e₁) = let e = unary Post k v e₁ in
-      T (is int (kind e)) ∷ T (is sem (kind e₁)) ∷ F (post e +ᵐ K e₁ =ᵐ post e₁) ∷ []
-  conditionsOf Γ pre (unary Wait k v e₁) = let e = unary Wait k v e₁ in
-      T (is int (kind e)) ∷ T (is sem (kind e₁)) ∷ F (post e =ᵐ post e₁ +ᵐ K e₁) ∷ []
-  conditionsOf Γ pre (leaf Newrwlock k v) = let e = leaf Newrwlock k v in
-      T (is rwlock (kind e)) ∷ F (writeMap e ≥ᵐ v ×ᵐ readMap e) ∷ F (post e +ᵐ writeMap e =ᵐ pre) ∷ []
-  conditionsOf Γ pre (unary Rdlock k v e₁) = let e = unary Rdlock k v e₁ in
-      T (is int (kind e)) ∷ T (is rwlock (kind e₁)) ∷ F (post e =ᵐ post e₁ +ᵐ readMap e₁) ∷ []
-  conditionsOf Γ pre (unary Rdunlock k v e₁) = let e = unary Rdunlock k v e₁ in
-      T (is int (kind e)) ∷ T (is rwlock (kind e₁)) ∷ F (post e +ᵐ readMap e₁ =ᵐ post e₁) ∷ []
-  conditionsOf Γ pre (unary Wrlock k v e₁) = let e = unary Wrlock k v e₁ in
-      T (is int (kind e)) ∷ T (is rwlock (kind e₁)) ∷ F (post e =ᵐ post e₁ +ᵐ writeMap e₁) ∷ []
-  conditionsOf Γ pre (unary Wrunlock k v e₁) = let e = unary Wrunlock k v e₁ in
-      T (is int (kind e)) ∷ T (is rwlock (kind e₁)) ∷ F (post e +ᵐ writeMap e₁ =ᵐ post e₁) ∷ []
-  conditionsOf Γ pre (unary Call k f e₁) = let e = unary Call k f e₁ in let g = signature f in
-      T (agree S (type e) (g .result)) ∷ T (agree S (type e₁) (g .argument)) ∷ F (post e₁ =ᵐ mapAt S (g .before) +ᵐ keptBack e)
-      ∷ F (post e =ᵐ mapAt S (g .after) +ᵐ keptBack e) ∷ []
+  conditionsOf = table (agree S) mayShow
 
   -- "At a `proc` line: 1 the body's type is result (T); 2 the body's post ≥ after (F)"
   unfoldable pub procedureConditions : Signature → Procedure → List Condition

@@ -19,7 +19,7 @@ use Rattle.spec.specs.declared.Purpose.{Purpose}
 use Rattle.spec.specs.declared.Purpose.the-variants.{Check, Fill}
 use Rattle.spec.specs.declared.Refusal.the-variants.{SplitForm, SplitRange}
 use Rattle.spec.proofs.Clashes.{true-is-not-false}
-use Rattle.spec.proofs.Ranges.{in-to, first-map-fits}
+use Rattle.spec.proofs.Seen.{in-to, first-map-fits}
 use Rattle.lexer.specs.Views.{endOf, firstField}
 use Rattle.lexer.specs.Cursors.{Placed, rest, behindField, placeAt}
 use Rattle.lexer.specs.Numbers.{stored, numbersAt}

@@ -12,7 +12,7 @@ use Rattle.spec.specs.Choice.{if_then_else_}
 use Rattle.spec.specs.Text.{Field, lines}
 use Rattle.spec.specs.Reading.{splitSheet, stop, on, right, wrong, badRange, _to_, inRange, allInRange, numbers, form, readLine}
 use Rattle.spec.specs.declared.Refusal.the-variants.{SplitForm, SplitRange}
-use Rattle.spec.proofs.Ranges.{up-to-in, up-to-out}
+use Rattle.spec.proofs.Seen.{up-to-in, up-to-out}
 use Rattle.lexer.specs.Cursors.{rest, placeAt}
 use Rattle.lexer.specs.Numbers.{numbersAt}
 use Rattle.lexer.specs.declared.Cursor.{Cursor}

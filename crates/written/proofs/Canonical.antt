@@ -15,7 +15,7 @@ use Rattle.spec.specs.Reading.{Seen, right, Range, withNumeral, numerals, numbe
 use Rattle.spec.specs.WellFormed.{Shows, nothing, line as shown}
 use Rattle.spec.proofs.Clashes.{none-is-not-some}
 use Rattle.spec.proofs.Tests.{both-true}
-use Rattle.spec.proofs.Ranges.{numbers-spelled}
+use Rattle.spec.proofs.Seen.{numbers-spelled}
 use Rattle.written.specs.Text.{digit, decimal, line, text}
 use Rattle.written.proofs.Decimal.{decimal-small, decimal-large}
 use Rattle.written.proofs.Fields.{joined}

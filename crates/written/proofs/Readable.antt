@@ -27,7 +27,8 @@ use Rattle.spec.specs.declared.TypeLine.{TypeLine}
 use Rattle.spec.specs.declared.TypeLine.the-variants.{Int, Ref, Lock, Tid, Sem, Rwlock}
 use Rattle.spec.specs.declared.Word.{Word}
 use Rattle.spec.proofs.Tests.{both-true}
-use Rattle.spec.proofs.Ranges.{wrong-is-not-right, seen-right, numbers-right, in-to, in-range-at, insist-right, well-formed-in-range}
+use Rattle.spec.proofs.Seen.{wrong-is-not-right, seen-right, numbers-right, in-to, in-range-at, insist-right}
+use Rattle.spec.proofs.Ranges.{well-formed-in-range}
 use Rattle.written.specs.Writable.{RootStarts, LockShows, RowStarts, Writable}
 use Rattle.written.proofs.Spelling.{choice-right}
 

@@ -25,7 +25,7 @@ use Rattle.spec.specs.declared.Purpose.the-variants.{Check, Fill}
 use Rattle.spec.specs.declared.TypeLine.{TypeLine}
 use Rattle.spec.proofs.Clashes.{none-is-not-some}
 use Rattle.spec.proofs.Tests.{same-equal}
-use Rattle.spec.proofs.Ranges.{wrong-is-not-right, seen-right, numbers-right, in-to, in-range-at, insist-right}
+use Rattle.spec.proofs.Seen.{wrong-is-not-right, seen-right, numbers-right, in-to, in-range-at, insist-right}
 use Rattle.written.specs.Text.{decimal, line, text}
 use Rattle.written.specs.Sheet.{headingName, headerNumbers, headerFields, outNumber, typeFields, mapFields, signatureFields, postShown, startShown, rowFields, splitLines, written, unfilled}
 use Rattle.written.proofs.Fields.{joined}
