@@ -1,13 +1,8 @@
 use borrow.Author.Needs.{needs}
 use mathlib.Core.Path.{sym, _∙_}
 use Rattle.spec.specs.Words.{largestValue}
-<<<<<<<< HEAD:crates/program_lines/proofs/items/call_limit/Proof.antt
-use Rattle.program_lines.proofs.items.call_limit.Statement.{statement}
-use Rattle.program_lines.proofs.items.call_limit.Tie as tie
-========
 use Rattle.word_numbers.proofs.call_limit.Statement.{statement}
 use Rattle.word_numbers.proofs.call_limit.Tie as tie
->>>>>>>> line-program:crates/word_numbers/proofs/call_limit/Proof.antt
 
 returns : tie.Need-returns
 unfolding largestValue

@@ -1,13 +1,8 @@
 -- A word a line: the largest v that it allows.
 use Rattle.spec.specs.Words.{largestValue}
 use borrow.Author.Needs.{needs}
-<<<<<<<< HEAD:crates/program_lines/proofs/items/limit_of/Proof.antt
-use Rattle.program_lines.proofs.items.limit_of.Statement.{statement}
-use Rattle.program_lines.proofs.items.limit_of.Tie as tie
-========
 use Rattle.word_numbers.proofs.limit_of.Statement.{statement}
 use Rattle.word_numbers.proofs.limit_of.Tie as tie
->>>>>>>> line-program:crates/word_numbers/proofs/limit_of/Proof.antt
 
 returns-7 : tie.Need-returns-7
 returns-7 c = rw (c .before .before .w2 .given .1) (c .call-limit .ensures)
