@@ -33,13 +33,13 @@ use Rattle.views.specs.StepView.{cell}
 use Rattle.views.proofs.Scopes.{by-procedure, scoped-none, scoped-more}
 use Rattle.views.proofs.Views.{part-at, signed}
 use Rattle.rules.proofs.TableRows.{procedure-shown}
-use Rattle.steps.specs.Walk.{counted, putPre, walk}
+use Rattle.step_walk.specs.Walk.{counted, putPre, walk}
 use Rattle.walk.specs.Bodies.{procedureOutcome, bodyOutcome}
 use Rattle.walk.specs.Contract.{ruledFor}
-use Rattle.steps.specs.Asked.{asked}
-use Rattle.steps.proofs.Asked.{procedure-counted}
-use Rattle.steps.proofs.Claims.{firstAsked, asked-parts, none-asked}
-use Rattle.steps.proofs.Transfer.{expression-shown}
+use Rattle.step_walk.specs.Asked.{asked}
+use Rattle.step_walk.proofs.Asked.{procedure-counted}
+use Rattle.step_walk.proofs.Claims.{firstAsked, asked-parts, none-asked}
+use Rattle.step_walk.proofs.Transfer.{expression-shown}
 
 -- ------------------------------------------------------------------ where they stand
 

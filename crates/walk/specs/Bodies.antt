@@ -7,7 +7,7 @@ use Rattle.workspace.specs.Layout.{procLinesAt, procFirstsAt, rowTypesAt, posts
 use Rattle.conditions.specs.Outcome.{both, firstFalseFrom}
 use Rattle.views.specs.StepView.{cell, signatureOf}
 use Rattle.rules.specs.Table.{procedureRow}
-use Rattle.steps.specs.Walk.{counted, putPre, walk}
+use Rattle.step_walk.specs.Walk.{counted, putPre, walk}
 
 -- the conditions at the `proc` line of procedure f: its body begins where the next step stands
 unfoldable pub procedureOutcome : (w : List ℕ) → (locations f : ℕ) → Out (Unit {0})

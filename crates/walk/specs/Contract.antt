@@ -15,7 +15,7 @@ use Rattle.workspace.specs.Sheets.{HoldsSheets}
 use Rattle.workspace.specs.declared.Header.{Header}
 use Rattle.conditions.specs.Outcome.{outcome}
 use Rattle.conditions.specs.declared.Ruling.{Ruling}
-use Rattle.steps.specs.Asked.{asked}
+use Rattle.step_walk.specs.Asked.{asked}
 
 -- the conditions by purpose: all of them, 31 to 33, or those on types, 31
 unfoldable pub ruledFor : Purpose → Program → Split → Out (Unit {0})

@@ -11,11 +11,11 @@ use Rattle.workspace.specs.Layout.{presAt, workSize}
 use Rattle.workspace.specs.Region.{ChangedWithin}
 use Rattle.workspace.proofs.Region.{changed-nothing, changed-then}
 use Rattle.conditions.specs.Outcome.{outcome}
-use Rattle.steps.specs.Walk.{walk}
-use Rattle.steps.proofs.Counted.{refusal-stops, no-refusal-goes-on}
-use Rattle.steps.proofs.Walking.{walk-more, walk-end, put-within, pass-within}
-use Rattle.steps.proofs.check_steps.Statement.{statement}
-use Rattle.steps.proofs.check_steps.Tie as tie
+use Rattle.step_walk.specs.Walk.{walk}
+use Rattle.step_walk.proofs.Counted.{refusal-stops, no-refusal-goes-on}
+use Rattle.step_walk.proofs.Walking.{walk-more, walk-end, put-within, pass-within}
+use Rattle.step_walk.proofs.check_steps.Statement.{statement}
+use Rattle.step_walk.proofs.check_steps.Tie as tie
 
 -- the steps from k₀ up to k are walked through, from w₀ to w
 record Walking (purpose : Purpose) (locations denominator to : ℕ) (w₀ : List ℕ) (k₀ : ℕ) (w : List ℕ) (k : ℕ) : Type 0 where

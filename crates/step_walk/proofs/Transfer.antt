@@ -34,10 +34,10 @@ use Rattle.views.specs.StepView.{cell}
 use Rattle.views.proofs.Scopes.{by-let, Scoped, scoped-second}
 use Rattle.one_step.specs.Outcome.{stepOutcome}
 use Rattle.one_step.proofs.OneStep.{Ready}
-use Rattle.steps.specs.Walk.{counted, putPre, passOn, walk}
-use Rattle.steps.proofs.Walking.{put-before, put-within, put-at, put-other}
-use Rattle.steps.proofs.Claims.{firstAsked, claims-first, claims-one, claims-append}
-use Rattle.steps.proofs.HandedDown.{preNumber, partNumber, secondNumber, step-counted, leaf-passes, unary-passes, binary-passes, part-stands, second-stands}
+use Rattle.step_walk.specs.Walk.{counted, putPre, passOn, walk}
+use Rattle.step_walk.proofs.Walking.{put-before, put-within, put-at, put-other}
+use Rattle.step_walk.proofs.Claims.{firstAsked, claims-first, claims-one, claims-append}
+use Rattle.step_walk.proofs.HandedDown.{preNumber, partNumber, secondNumber, step-counted, leaf-passes, unary-passes, binary-passes, part-stands, second-stands}
 
 -- the walk over the steps of a program, with its split's locations and denominator
 abbrev walkOf : Purpose → Split → List ℕ → (k n : ℕ) → Out (Unit {0})

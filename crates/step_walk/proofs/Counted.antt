@@ -8,7 +8,7 @@ use Rattle.spec.specs.declared.Purpose.the-variants.{Check, Fill}
 use Rattle.spec.specs.declared.Refusal.{Refusal}
 use Rattle.spec.proofs.Clashes.{true-is-not-false}
 use Rattle.conditions.specs.Outcome.{both}
-use Rattle.steps.specs.Walk.{refusesTypes, onTypes, counted, stops}
+use Rattle.step_walk.specs.Walk.{refusesTypes, onTypes, counted, stops}
 
 -- conditions that are met refuse nothing
 pub met-stops-nothing : (purpose : Purpose) → false ≡ stops (counted purpose (on tt))

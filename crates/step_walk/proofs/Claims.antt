@@ -8,8 +8,8 @@ use Rattle.spec.specs.declared.Purpose.{Purpose}
 use Rattle.spec.proofs.Claims.{claims-append as sites-append}
 use Rattle.conditions.specs.Outcome.{both}
 use Rattle.conditions.proofs.FirstFalse.{both-met, both-assoc}
-use Rattle.steps.specs.Asked.{asked}
-use Rattle.steps.proofs.Asked.{asked-append, asked-none}
+use Rattle.step_walk.specs.Asked.{asked}
+use Rattle.step_walk.proofs.Asked.{asked-append, asked-none}
 
 first-append : (xs ys : List Claim) → firstFalse (xs ++ ys) ≡ both (firstFalse xs) (firstFalse ys)
 unfolding firstFalse both _>>=_

@@ -1,8 +1,8 @@
 -- A word a line: the map before its part.
 use Rattle.spec.specs.Words.{preOfPart}
 use borrow.Author.Needs.{needs}
-use Rattle.steps.proofs.pre_of_part.Statement.{statement}
-use Rattle.steps.proofs.pre_of_part.Tie as tie
+use Rattle.step_walk.proofs.pre_of_part.Statement.{statement}
+use Rattle.step_walk.proofs.pre_of_part.Tie as tie
 
 pub pre-of-part-spec : {M : Type 1} → statement M
 unfolding preOfPart

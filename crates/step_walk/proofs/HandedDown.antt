@@ -28,9 +28,9 @@ use Rattle.workspace.proofs.Expression.{here-index, leaf-code, unary-code, bina
 use Rattle.views.specs.StepView.{cell}
 use Rattle.one_step.specs.Outcome.{stepOutcome}
 use Rattle.one_step.proofs.OneStep.{Ready, below, step-shown}
-use Rattle.steps.specs.Walk.{counted, putPre, passWord, passOn}
-use Rattle.steps.proofs.Asked.{row-counted}
-use Rattle.steps.proofs.Claims.{firstAsked}
+use Rattle.step_walk.specs.Walk.{counted, putPre, passWord, passOn}
+use Rattle.step_walk.proofs.Asked.{row-counted}
+use Rattle.step_walk.proofs.Claims.{firstAsked}
 
 -- the numbers of the maps before step k and before its parts
 abbrev pub preNumber : (w : List ℕ) (k : ℕ) → MapNumber

@@ -21,7 +21,7 @@ use Rattle.workspace.proofs.Region.{changed-nothing, changed-store, changed-the
 use Rattle.conditions.specs.Outcome.{both}
 use Rattle.views.specs.StepView.{cell}
 use Rattle.one_step.specs.Outcome.{stepOutcome}
-use Rattle.steps.specs.Walk.{counted, putPre, passWord, passOn, walk}
+use Rattle.step_walk.specs.Walk.{counted, putPre, passWord, passOn, walk}
 
 module _ (purpose : Purpose) (locations denominator : ℕ) (w : List ℕ) (k n : ℕ) where
   pub walk-more : k < n

@@ -9,7 +9,7 @@ use Rattle.spec.proofs.Refusal as refusal
 use Rattle.spec.specs.Verdict.{four, returned}
 use Rattle.spec.specs.declared.Refusal.{Refusal}
 use Rattle.spec.specs.declared.Refusal.the-variants.{ShortWorkspace, LongProgram, ProgramForm, ProgramRange, ProgramLines, Unbound, Rebound, LongSplit, SplitForm, SplitRange, SplitLines, NoStart, OverOne, TypeFalse, FlowFalse, AccessFalse, NoAfterMaps, TooLarge, TooManyMaps, LockTakesLess, Freelock, NoProcedure, NoKept}
-use Rattle.steps.specs.Walk.{refusesTypes}
+use Rattle.step_walk.specs.Walk.{refusesTypes}
 
 -- the places of the refusals that are not `TypeFalse`
 abbrev others : List ℕ

@@ -22,7 +22,7 @@ ghost use Rattle.spec.specs.Words.{preOfPart, preOfSecond};
 ghost use Rattle.workspace.specs.Layout.{presAt, workSize};
 ghost use Rattle.workspace.specs.Region.{ChangedWithin};
 ghost use Rattle.conditions.specs.Outcome.{outcome};
-ghost use Rattle.steps.specs.Walk.{refusesTypes, counted, stops, putPre, passOn, walk};
+ghost use Rattle.step_walk.specs.Walk.{refusesTypes, counted, stops, putPre, passOn, walk};
 
 // Whether a refusal is on types.
 fn on_types(refusal: Refusal) -> bool

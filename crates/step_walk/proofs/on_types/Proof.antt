@@ -1,10 +1,10 @@
 use mathlib.Core.Path.{sym}
 use Rattle.spec.specs.Verdict.{four, returned}
-use Rattle.steps.specs.Walk.{refusesTypes}
-use Rattle.steps.proofs.OnTypes.{not-on-types}
+use Rattle.step_walk.specs.Walk.{refusesTypes}
+use Rattle.step_walk.proofs.OnTypes.{not-on-types}
 use borrow.Author.Needs.{needs}
-use Rattle.steps.proofs.on_types.Statement.{statement}
-use Rattle.steps.proofs.on_types.Tie as tie
+use Rattle.step_walk.proofs.on_types.Statement.{statement}
+use Rattle.step_walk.proofs.on_types.Tie as tie
 
 returns : tie.Need-returns
 returns c = sym (not-on-types _ (c .match .keys2))

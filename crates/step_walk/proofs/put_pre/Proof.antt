@@ -1,8 +1,8 @@
 use borrow.Author.Tests.{lt-ltb, le-ltb}
-use Rattle.steps.specs.Walk.{putPre}
+use Rattle.step_walk.specs.Walk.{putPre}
 use borrow.Author.Needs.{needs}
-use Rattle.steps.proofs.put_pre.Statement.{statement}
-use Rattle.steps.proofs.put_pre.Tie as tie
+use Rattle.step_walk.proofs.put_pre.Statement.{statement}
+use Rattle.step_walk.proofs.put_pre.Tie as tie
 
 returns : tie.Need-returns
 unfolding putPre

@@ -1,10 +1,10 @@
 -- The maps before the parts of a step, by the number of its parts.
 use mathlib.Core.Path.{sym, ap, _∙_}
 use Rattle.workspace.specs.Layout.{wordOf}
-use Rattle.steps.specs.Walk.{passWord, passOn}
+use Rattle.step_walk.specs.Walk.{passWord, passOn}
 use borrow.Author.Needs.{needs}
-use Rattle.steps.proofs.pass_on.Statement.{statement}
-use Rattle.steps.proofs.pass_on.Tie as tie
+use Rattle.step_walk.proofs.pass_on.Statement.{statement}
+use Rattle.step_walk.proofs.pass_on.Tie as tie
 
 returns : tie.Need-returns
 unfolding passOn passWord

@@ -1,7 +1,7 @@
 use Rattle.spec.specs.Words.{preOfSecond}
 use borrow.Author.Needs.{needs}
-use Rattle.steps.proofs.pre_of_second.Statement.{statement}
-use Rattle.steps.proofs.pre_of_second.Tie as tie
+use Rattle.step_walk.proofs.pre_of_second.Statement.{statement}
+use Rattle.step_walk.proofs.pre_of_second.Tie as tie
 
 pub pre-of-second-spec : {M : Type 1} → statement M
 unfolding preOfSecond

@@ -1,10 +1,10 @@
 use mathlib.Core.Path.{_∙_}
 use Rattle.conditions.specs.Outcome.{outcome}
-use Rattle.steps.specs.Walk.{counted, stops}
-use Rattle.steps.proofs.Counted.{met-stops-nothing, types-stop}
+use Rattle.step_walk.specs.Walk.{counted, stops}
+use Rattle.step_walk.proofs.Counted.{met-stops-nothing, types-stop}
 use borrow.Author.Needs.{needs}
-use Rattle.steps.proofs.refuses.Statement.{statement}
-use Rattle.steps.proofs.refuses.Tie as tie
+use Rattle.step_walk.proofs.refuses.Statement.{statement}
+use Rattle.step_walk.proofs.refuses.Tie as tie
 
 returns : tie.Need-returns
 unfolding outcome

@@ -18,8 +18,8 @@ use Rattle.spec.specs.declared.UnaryWord.the-variants.{While, Join, Ref, Read, 
 use Rattle.spec.specs.declared.BinaryWord.the-variants.{Let, If, Spawn, Write}
 use Rattle.spec.proofs.Claims.{only-append}
 use Rattle.conditions.specs.Outcome.{firstFalseFrom}
-use Rattle.steps.specs.Walk.{refusesTypes, onTypes, counted}
-use Rattle.steps.specs.Asked.{asked}
+use Rattle.step_walk.specs.Walk.{refusesTypes, onTypes, counted}
+use Rattle.step_walk.specs.Asked.{asked}
 
 pub asked-append : (purpose : Purpose) (xs ys : List Claim) → asked purpose (xs ++ ys) ≡ asked purpose xs ++ asked purpose ys
 unfolding asked
