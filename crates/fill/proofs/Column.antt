@@ -12,18 +12,18 @@ use Rattle.spec.specs.Split.{Split}
 use Rattle.spec.specs.declared.Location.{Location}
 use Rattle.spec.specs.declared.MapNumber.{MapNumber}
 use Rattle.workspace.specs.Sheets.{HoldsSheets}
+use Rattle.workspace.specs.declared.Header.{Header}
 use Rattle.workspace.proofs.Region.{region-part, changed-nothing}
+use Rattle.reading.specs.Answers.{HoldsBoth}
 use Rattle.fill_theory.specs.GreatestMaps.{postsAt}
 use Rattle.fill_theory.specs.FlowOf.{rootsOf}
 use Rattle.fill_theory.proofs.Roots.{roots-counted}
 use Rattle.fill_theory.proofs.Placed.{roots-steps, steps-sized}
-use Rattle.fill_theory.proofs.Limits.{steps-few, procedures-few}
 use Rattle.ways.specs.declared.Column.{Column}
 use Rattle.pass.specs.declared.Given.{Given}
 use Rattle.pass.specs.Roots.{Stored}
 use Rattle.pass.specs.Contract.{ColumnReady, FilledHere}
 use Rattle.fill.specs.declared.maps.Found.the-variants.{Nothing, Large, Maps}
-use Rattle.fill.specs.FilledMaps.{MapsDue}
 use Rattle.fill.specs.Columns.{Room, PostsStored, ColumnGiven, ColumnFilled}
 
 -- a post for each step
@@ -35,18 +35,9 @@ posts-counted P S l H found =
     ∙ roots-steps S (record { 0 = l }) 0 (P .procedures) (P .root)
     ∙ sym (H .stepsCounted ∙ steps-sized P (H .wellFormed))
 
-pub given-procedures : {w : List ℕ} {steps procedures denominator locations maps start : ℕ}
-    → MapsDue w steps procedures denominator locations maps start → procedures ≤ 16
-given-procedures G = omega (arith, procedures-few (G .P) (G .held .sheets .wellFormed), G .held .sheets .proceduresCounted)
-
-pub given-few : {w : List ℕ} {steps procedures denominator locations maps start : ℕ}
-    → MapsDue w steps procedures denominator locations maps start → steps ≤ 256
-given-few G = omega (arith, steps-few (G .P) (G .held .sheets .wellFormed), G .held .sheets .stepsCounted)
-
 -- as many posts as steps stand in front of 256 places
-pub front-long : {w : List ℕ} {procedures denominator locations maps start : ℕ} (steps : ℕ) (q : List ℕ)
-    → MapsDue w steps procedures denominator locations maps start → length q ≡ 256 → length (take steps q) ≡ steps
-front-long steps q G long = length-take-le steps q (omega (arith, given-few G))
+pub front-long : (steps : ℕ) (q : List ℕ) → steps ≤ 256 → length q ≡ 256 → length (take steps q) ≡ steps
+front-long steps q few long = length-take-le steps q (omega arith)
 
 -- the column of a location in sheets with this denominator
 abbrev columnOf : Location → (denominator : ℕ) → Column
@@ -55,34 +46,33 @@ columnOf p denominator = record { location = p; denominator = denominator }
 abbrev givenOf : (procedures : ℕ) → MapNumber → Given
 givenOf procedures start = record { procedures = procedures; start = start }
 
-module _ (w : List ℕ) (steps procedures denominator maps : ℕ) (start : MapNumber) (p : Location) where
-  pub column-fillable : (q : List ℕ) → ColumnGiven w steps procedures denominator maps (start .0) (p .0) → length q ≡ 256
-      → ColumnReady w (columnOf p denominator) (givenOf procedures start) q
+module _ (w : List ℕ) (header : Header) (steps procedures : ℕ) (p : Location) where
+  pub column-fillable : (q : List ℕ) → ColumnGiven w header steps procedures (p .0) → length q ≡ 256
+      → ColumnReady w (columnOf p (header .denominator)) (givenOf procedures (header .start)) q
   column-fillable q G long = record {
-    P = G .given .P;
-    S = G .given .S;
-    held = record { steps = steps; locations = G .locations; sheets = G .given .held .sheets; within = G .within };
+    P = G .given .sheets .P;
+    S = G .given .sheets .S;
+    held = record { steps = steps; locations = header .locations; sheets = G .given .sheets .holds .sheets; within = G .within };
     long = long;
   }
 
-  pub column-room : (posts : List ℕ) → ColumnGiven w steps procedures denominator maps (start .0) (p .0) → length posts ≡ steps → Room w posts maps (p .0)
+  pub column-room : (posts : List ℕ) → ColumnGiven w header steps procedures (p .0) → length posts ≡ steps → Room w posts (header .maps) (p .0)
   column-room posts G long =
-      let sheets = G .given .held .sheets in
+      let sheets = G .given .sheets in
       record {
-        long = G .given .long;
-        room = omega (arith, given-few (G .given), G .given .few);
-        within = omega (arith, G .within, sheets .locationsGiven, sheets .inRange .locations);
+        long = sheets .long;
+        room = omega (arith, sheets .few, G .given .fewMaps);
+        within = omega (arith, G .within, sheets .small .locations);
       }
 
-  module _ (q : List ℕ) (r : Bool) (F : FilledHere w (columnOf p denominator) (givenOf procedures start) q r) where
-    posts-here : (P : Program) (S : Split) (locations : ℕ) → HoldsSheets w steps procedures denominator locations (start .0) P S → (p .0) < locations
-        → Stored (postsAt P S (p .0)) 0 q r
-    posts-here P S locations H l = F .answers P S (record { steps = steps; locations = locations; sheets = H; within = l })
+  module _ (q : List ℕ) (r : Bool) (F : FilledHere w (columnOf p (header .denominator)) (givenOf procedures (header .start)) q r) where
+    posts-here : (P : Program) (S : Split) → HoldsBoth w header steps procedures P S → (p .0) < header .locations → Stored (postsAt P S (p .0)) 0 q r
+    posts-here P S H l = F .answers P S (record { steps = steps; locations = header .locations; sheets = H .sheets; within = l })
 
-    pub column-nothing : r ≡ false → ColumnFilled w steps procedures denominator maps (start .0) (p .0) Nothing w
+    pub column-nothing : r ≡ false → ColumnFilled w header steps procedures (p .0) Nothing w
     column-nothing e = record {
       one = record { behind = changed-nothing _ _ w; others = λ m l h n. refl };
-      answers = λ P S locations H l. not-found (postsAt P S (p .0)) (posts-here P S locations H l);
+      answers = λ P S H l. not-found (postsAt P S (p .0)) (posts-here P S H l);
     }
       where
         not-found : (o : Option (List ℕ)) → Stored o 0 q r → o ≡ none
@@ -91,27 +81,27 @@ module _ (w : List ℕ) (steps procedures denominator maps : ℕ) (start : MapNu
 
     -- the posts that are found stand in front
     module _ (e : r ≡ true) where
-      found-here : (P : Program) (S : Split) (locations : ℕ) → HoldsSheets w steps procedures denominator locations (start .0) P S → (p .0) < locations
+      found-here : (P : Program) (S : Split) → HoldsBoth w header steps procedures P S → (p .0) < header .locations
           → (ps : List ℕ) × (postsAt P S (p .0) ≡ some ps) × (take steps q ≡ ps)
-      found-here P S locations H l = go (postsAt P S (p .0)) refl (posts-here P S locations H l)
+      found-here P S H l = go (postsAt P S (p .0)) refl (posts-here P S H l)
         where
           go : (o : Option (List ℕ)) → postsAt P S (p .0) ≡ o → Stored o 0 q r → (ps : List ℕ) × (postsAt P S (p .0) ≡ some ps) × (take steps q ≡ ps)
           go none h s = let clash : _≡_ {A = ℕ} 0 1 = cc in absurd (omega arith)
-          go (some ps) h s = (ps, h, ap (λ (n : ℕ). take n q) (sym (posts-counted P S (p .0) H h)) ∙ region-part q 0 ps (s .1))
+          go (some ps) h s = (ps, h, ap (λ (n : ℕ). take n q) (sym (posts-counted P S (p .0) (H .sheets) h)) ∙ region-part q 0 ps (s .1))
 
-      module _ (w′ : List ℕ) (s : Bool) (T : PostsStored (take steps q) maps (p .0) s w w′) where
-        pub column-large : s ≡ false → ColumnFilled w steps procedures denominator maps (start .0) (p .0) Large w′
+      module _ (w′ : List ℕ) (s : Bool) (T : PostsStored (take steps q) (header .maps) (p .0) s w w′) where
+        pub column-large : s ≡ false → ColumnFilled w header steps procedures (p .0) Large w′
         column-large f = record {
           one = T .one;
-          answers = λ P S locations H l.
-              let (ps, found, front) = found-here P S locations H l in
+          answers = λ P S H l.
+              let (ps, found, front) = found-here P S H l in
               (ps, found, rw front at (sym (T .fits) ∙ f));
         }
 
-        pub column-maps : s ≡ true → ColumnFilled w steps procedures denominator maps (start .0) (p .0) Maps w′
+        pub column-maps : s ≡ true → ColumnFilled w header steps procedures (p .0) Maps w′
         column-maps f = record {
           one = T .one;
-          answers = λ P S locations H l.
-              let (ps, found, front) = found-here P S locations H l in
+          answers = λ P S H l.
+              let (ps, found, front) = found-here P S H l in
               (ps, found, rw front at (sym (T .fits) ∙ f), rw front at (T .stored f));
         }

@@ -1,5 +1,5 @@
 -- The columns so far: the invariant of the loop over locations.
-use mathlib.Core.Path.{_≡_, sym, _∙_}
+use mathlib.Core.Path.{_≡_, sym, ap, _∙_}
 use mathlib.Core.Logic.{⊎-elim}
 use mathlib.Core.Bool.{Bool, true, false}
 use mathlib.Core.List.{List}
@@ -11,14 +11,17 @@ use Rattle.spec.specs.Program.{Program}
 use Rattle.spec.specs.Split.{Split}
 use Rattle.workspace.specs.Layout.{mapsAt, stride, emptyMap}
 use Rattle.workspace.specs.Region.{ChangedWithin}
+use Rattle.workspace.specs.Sheets.{headerTold}
+use Rattle.workspace.specs.declared.Header.{Header}
 use Rattle.workspace.proofs.Region.{changed-nothing, changed-then}
 use Rattle.workspace.proofs.Sheets.{sheets-kept}
+use Rattle.reading.specs.Answers.{HoldsBoth}
 use Rattle.fill_theory.specs.GreatestMaps.{postsAt}
 use Rattle.fill_theory.specs.Answer.{numberLimit, mapAtMost}
 use Rattle.fill_theory.proofs.Found.{some-injective}
 use Rattle.fill_theory.proofs.Limits.{steps-few, procedures-few}
 use Rattle.fill.specs.declared.maps.Found.the-variants.{Large, Maps}
-use Rattle.fill.specs.FilledMaps.{HoldsGiven, MapsDue}
+use Rattle.fill.specs.Stages.{MapsGiven}
 use Rattle.fill.specs.Columns.{OneColumn, ColumnStored, ColumnFilled}
 
 -- the columns of the locations below l: all are found; if none has been too large, all are stored
@@ -29,29 +32,39 @@ pub record Columns (P : Program) (S : Split) (w : List ℕ) (maps l : ℕ) (larg
   pub over : large ≡ true → (j : ℕ) × (j < l) × ((ps : List ℕ) × (postsAt P S j ≡ some ps) × (mapAtMost numberLimit ps ≡ false))
 
 -- from w₀ to w, for whichever sheets w₀ holds
-pub record SoFar (w₀ w : List ℕ) (steps procedures denominator locations maps start l : ℕ) (large : Bool) : Type 0 where
-  pub behind : ChangedWithin (mapsAt + stride * maps) (mapsAt + stride * emptyMap) w₀ w
-  pub columns : (P : Program) (S : Split) → HoldsGiven w₀ steps procedures denominator locations maps start P S → Columns P S w maps l large
+pub record SoFar (w₀ w : List ℕ) (header : Header) (steps procedures l : ℕ) (large : Bool) : Type 0 where
+  pub behind : ChangedWithin (mapsAt + stride * header .maps) (mapsAt + stride * emptyMap) w₀ w
+  pub columns : (P : Program) (S : Split) → HoldsBoth w₀ header steps procedures P S → Columns P S w (header .maps) l large
 
 -- a column stays when another is stored
 stored-still : {w w′ ps : List ℕ} {maps l j : ℕ} → OneColumn maps l w w′ → j < stride → (j ≡ l → ⊥) → ColumnStored w maps j ps → ColumnStored w′ maps j ps
 stored-still {maps = maps} O h n C = record { at = λ i k. O .others (maps + i) _ h n ∙ C .at i k }
 
-module _ {w₀ w : List ℕ} {steps procedures denominator locations maps start : ℕ} where
-  pub holds-still : ChangedWithin (mapsAt + stride * maps) (mapsAt + stride * emptyMap) w₀ w → {P : Program} {S : Split}
-      → HoldsGiven w₀ steps procedures denominator locations maps start P S → HoldsGiven w steps procedures denominator locations maps start P S
+-- the maps that a header counts
+pub maps-told : (S : Split) (h : Header) → S .header ≡ headerTold h → h .maps ≡ S .header .maps
+unfolding headerTold
+maps-told S h e = sym (ap (λ H. H .maps) e)
+
+module _ {w₀ w : List ℕ} {header : Header} {steps procedures : ℕ} where
+  pub holds-still : ChangedWithin (mapsAt + stride * header .maps) (mapsAt + stride * emptyMap) w₀ w → {P : Program} {S : Split}
+      → HoldsBoth w₀ header steps procedures P S → HoldsBoth w header steps procedures P S
   holds-still c {P} {S} H = record {
-    sheets = sheets-kept c (omega (arith, H .mapsGiven)) (omega (arith, steps-few P (H .sheets .wellFormed), H .sheets .stepsCounted))
+    sheets = sheets-kept c (omega (arith, maps-told S header (H .headed))) (omega (arith, steps-few P (H .sheets .wellFormed), H .sheets .stepsCounted))
         (omega (arith, procedures-few P (H .sheets .wellFormed), H .sheets .proceduresCounted)) (H .sheets);
-    mapsGiven = H .mapsGiven;
+    headed = H .headed;
   }
 
-  pub given-still : ChangedWithin (mapsAt + stride * maps) (mapsAt + stride * emptyMap) w₀ w
-      → MapsDue w₀ steps procedures denominator locations maps start → MapsDue w steps procedures denominator locations maps start
-  given-still c G = record { P = G .P; S = G .S; held = holds-still c (G .held); few = G .few; long = c .long ∙ G .long }
+  pub given-still : ChangedWithin (mapsAt + stride * header .maps) (mapsAt + stride * emptyMap) w₀ w
+      → MapsGiven w₀ header steps procedures → MapsGiven w header steps procedures
+  given-still c G =
+      let X = G .sheets in
+      record {
+        sheets = record { long = c .long ∙ X .long; few = X .few; fewProcedures = X .fewProcedures; small = X .small; P = X .P; S = X .S; holds = holds-still c (X .holds) };
+        fewMaps = G .fewMaps;
+      }
 
-pub none-so-far : (w : List ℕ) (steps procedures denominator locations maps start : ℕ) → SoFar w w steps procedures denominator locations maps start 0 false
-none-so-far w steps procedures denominator locations maps start = record {
+pub none-so-far : (w : List ℕ) (header : Header) (steps procedures : ℕ) → SoFar w w header steps procedures 0 false
+none-so-far w header steps procedures = record {
   behind = changed-nothing _ _ w;
   columns = λ P S H. record {
     found = λ j h. absurd (omega arith);
@@ -60,10 +73,10 @@ none-so-far w steps procedures denominator locations maps start = record {
   };
 }
 
-module _ (w₀ w w′ : List ℕ) (steps procedures denominator locations maps start l : ℕ) (large : Bool)
-    (Z : SoFar w₀ w steps procedures denominator locations maps start l large) (within : l < locations) where
+module _ (w₀ w w′ : List ℕ) (header : Header) (steps procedures l : ℕ) (large : Bool)
+    (Z : SoFar w₀ w header steps procedures l large) (within : l < header .locations) where
   -- the posts of one more location are found
-  found-more : {P : Program} {S : Split} → Columns P S w maps l large → (ps : List ℕ) × (postsAt P S l ≡ some ps)
+  found-more : {P : Program} {S : Split} → Columns P S w (header .maps) l large → (ps : List ℕ) × (postsAt P S l ≡ some ps)
       → (j : ℕ) → j < l + 1 → (qs : List ℕ) × (postsAt P S j ≡ some qs)
   found-more {P} {S} C (ps, found) j h =
       ⊎-elim
@@ -72,11 +85,11 @@ module _ (w₀ w w′ : List ℕ) (steps procedures denominator locations maps s
       (eq-or-lt-of-le (omega arith))
 
   -- and have a number that is too large
-  pub large-again : ColumnFilled w steps procedures denominator maps start l Large w′ → SoFar w₀ w′ steps procedures denominator locations maps start (l + 1) true
+  pub large-again : ColumnFilled w header steps procedures l Large w′ → SoFar w₀ w′ header steps procedures (l + 1) true
   large-again F = record {
     behind = changed-then _ _ (Z .behind) (F .one .behind);
     columns = λ P S H.
-        let (ps, found, over) = F .answers P S locations (holds-still (Z .behind) H .sheets) within in
+        let (ps, found, over) = F .answers P S (holds-still (Z .behind) H) within in
         record {
           found = found-more (Z .columns P S H) (ps, found);
           stored = λ e. let clash : _≡_ {A = ℕ} 0 1 = cc in absurd (omega arith);
@@ -85,17 +98,17 @@ module _ (w₀ w w′ : List ℕ) (steps procedures denominator locations maps s
   }
 
   -- or are stored
-  pub maps-again : ColumnFilled w steps procedures denominator maps start l Maps w′ → SoFar w₀ w′ steps procedures denominator locations maps start (l + 1) large
+  pub maps-again : ColumnFilled w header steps procedures l Maps w′ → SoFar w₀ w′ header steps procedures (l + 1) large
   maps-again F = record {
     behind = changed-then _ _ (Z .behind) (F .one .behind);
     columns = columns;
   }
     where
-      columns : (P : Program) (S : Split) → HoldsGiven w₀ steps procedures denominator locations maps start P S → Columns P S w′ maps (l + 1) large
+      columns : (P : Program) (S : Split) → HoldsBoth w₀ header steps procedures P S → Columns P S w′ (header .maps) (l + 1) large
       columns P S H =
           let C = Z .columns P S H in
-          let few : locations ≤ stride = omega (arith, H .sheets .locationsGiven, H .sheets .inRange .locations) in
-          let (ps, found, small, stored) = F .answers P S locations (holds-still (Z .behind) H .sheets) within in
+          let few : header .locations ≤ stride = omega (arith, H .sheets .locationsGiven, H .sheets .inRange .locations) in
+          let (ps, found, small, stored) = F .answers P S (holds-still (Z .behind) H) within in
           record {
             found = found-more C (ps, found);
             stored = λ e j h qs f.

@@ -4,12 +4,12 @@ use mathlib.Core.Path.{subst as along}
 use mathlib.Core.List.{List}
 use mathlib.Core.Option.{some}
 use mathlib.Core.Bool.{true}
-use Prim.Native.Nat.{ℕ, _+_, _≤_, _<_}
+use Prim.Native.Nat.{ℕ, _≤_, _<_}
 use native.Mathlib.Omega.{arith}
 use lib.Dec.{leb}
 use lib.ListN.{length}
 use borrow.Author.Tests.{le-leb, lt-leb}
-use Rattle.spec.specs.Reading.{Out, stop, on, _>>=_, demand}
+use Rattle.spec.specs.Reading.{stop, on, _>>=_, demand}
 use Rattle.spec.specs.Program.{Program}
 use Rattle.spec.specs.Split.{Map, Split}
 use Rattle.spec.specs.Workspace.{workspaceSize}
@@ -39,12 +39,13 @@ use Rattle.fill_theory.specs.Answer.{givenLimit, numberLimit, allAtMost, foundO
 use Rattle.fill_theory.proofs.Filling.{found-exactly-greatest}
 use Rattle.fill_theory.proofs.Limits.{procedures-few}
 use Rattle.fill_theory.proofs.Reasons.{no-after-maps, large-number, sheets-refused}
-use Rattle.fill.specs.FilledMaps.{HoldsGiven, MapsDue, FilledAs, FilledMaps}
+use Rattle.fill.specs.FilledMaps.{FilledAs, FilledMaps}
 use Rattle.fill.specs.Stages.{Tells, grownBy, fitted, SheetTold, SheetsGiven, MapsGiven, TextTold, afterReading, SheetsTold}
 use Rattle.fill.specs.declared.Filled.{Filled}
 use Rattle.fill.specs.declared.Filled.the-variants.{Refused}
 use Rattle.fill.specs.declared.maps.Found.{Found}
 use Rattle.fill.specs.declared.maps.Found.the-variants.{Nothing, Large, Maps}
+use Rattle.fill.proofs.SoFar.{maps-told}
 use Rattle.fill.proofs.Told.{refusal-told, told-as}
 
 -- ------------------------------------------------------------------ 41 and 42
@@ -53,18 +54,6 @@ use Rattle.fill.proofs.Told.{refusal-told, told-as}
 passed : (a b : ℕ) (r : Refusal) → a ≤ b → demand (leb a b) r ≡ on tt
 unfolding demand
 passed a b r h = rw (le-leb _ _ h)
-
-maps-told : (S : Split) (h : Header) → S .header ≡ headerTold h → h .maps ≡ S .header .maps
-unfolding headerTold
-maps-told S h e = sym (ap (λ H. H .maps) e)
-
-pub given-held : {w : List ℕ} {header : Header} {steps procedures : ℕ} {P : Program} {S : Split} → HoldsBoth w header steps procedures P S
-    → HoldsGiven w steps procedures (header .denominator) (header .locations) (header .maps) (header .start .0) P S
-given-held {header = header} {S = S} B = record { sheets = B .sheets; mapsGiven = maps-told S header (B .headed) }
-
-pub maps-given : {w : List ℕ} {header : Header} {steps procedures : ℕ} → MapsGiven w header steps procedures
-    → MapsDue w steps procedures (header .denominator) (header .locations) (header .maps) (header .start .0)
-maps-given G = let X = G .sheets in record { P = X .P; S = X .S; held = given-held (X .holds); few = G .fewMaps; long = X .long }
 
 -- the split with its greatest after-maps, once the work space holds it
 module _ {w w′ : List ℕ} {header : Header} {steps procedures : ℕ} {P : Program} {S : Split} (B : HoldsBoth w header steps procedures P S)
@@ -96,10 +85,10 @@ unfolding filledText foundOr demand fitted _>>=_
 small-text buffer P S γ found small = rw (found, small)
 
 module _ {w w′ : List ℕ} (header : Header) {steps procedures : ℕ} {r : Found}
-    (F : FilledMaps w steps procedures (header .denominator) (header .locations) (header .maps) (header .start .0) r w′) where
+    (F : FilledMaps w header steps procedures r w′) where
   filled-as : {r′ : Found} → r ≡ r′ → (P : Program) (S : Split) → HoldsBoth w header steps procedures P S
-      → FilledAs steps procedures (header .denominator) (header .locations) (header .start .0) P S w′ r′
-  filled-as e P S B = along (FilledAs _ _ _ _ _ P S w′) e (F .answers P S (given-held B))
+      → FilledAs header steps procedures P S w′ r′
+  filled-as e P S B = along (FilledAs header steps procedures P S w′) e (F .answers P S B)
 
   pub nothing-told : (buffer : List ℕ) → r ≡ Nothing → TextTold w header steps procedures buffer buffer (Refused NoAfterMaps)
   nothing-told buffer e P S B = told-as (sym (no-after-maps _ P S (filled-as e P S B))) (refusal-told NoAfterMaps buffer)

@@ -15,8 +15,10 @@ use Rattle.workspace.specs.Layout.{postsAt as postsColumn, mapsAt, stride, mapC
 use Rattle.workspace.specs.Region.{Region}
 use Rattle.workspace.specs.Holds.{startNumber, HoldsSplit}
 use Rattle.workspace.specs.Sheets.{HoldsSheets}
+use Rattle.workspace.specs.declared.Header.{Header}
 use Rattle.workspace.proofs.Region.{region-kept, changed-wider}
 use Rattle.workspace.proofs.Held.{program-kept}
+use Rattle.reading.specs.Answers.{HoldsBoth}
 use Rattle.fill_theory.specs.Filled.{withPosts, filled}
 use Rattle.fill_theory.specs.Found.{_>>=_, forEach}
 use Rattle.fill_theory.specs.GreatestMaps.{postsAt, greatestMaps}
@@ -27,11 +29,11 @@ use Rattle.fill_theory.proofs.InRange.{rows-counted, filled-in-range}
 use Rattle.fill_theory.proofs.Limits.{steps-few, procedures-few}
 use Rattle.fill_theory.proofs.Columns.{each-found, find-each, miss-one, maps-counted, maps-wide}
 use Rattle.fill.specs.declared.maps.Found.the-variants.{Nothing, Large, Maps}
-use Rattle.fill.specs.FilledMaps.{HoldsGiven, FilledMaps}
+use Rattle.fill.specs.FilledMaps.{FilledMaps}
 use Rattle.fill.specs.Columns.{ColumnStored, ColumnFilled, PostsShown}
 use Rattle.fill.proofs.Column.{posts-counted}
 use Rattle.fill.proofs.Made.{made, made-number, columns-small, column-over}
-use Rattle.fill.proofs.SoFar.{SoFar, holds-still}
+use Rattle.fill.proofs.SoFar.{SoFar, maps-told, holds-still}
 
 -- ------------------------------------------------------------------ rows
 
@@ -49,14 +51,17 @@ starts-same m (r ∷ rs) = ap (startNumber (r .start) ∷_) (starts-same (m + 1)
 -- ------------------------------------------------------------------ the filled sheets
 
 -- the maps γ stand behind the given ones in w, and from w to w′ the steps are made to show them
-module _ (w w′ : List ℕ) (steps procedures denominator locations maps start : ℕ) (P : Program) (S : Split) (γ : List Map)
-    (H : HoldsGiven w steps procedures denominator locations maps start P S) (T : PostsShown steps maps w w′) (few : maps ≤ 256) (long : length w ≡ workSize)
+module _ (w w′ : List ℕ) (header : Header) (steps procedures : ℕ) (P : Program) (S : Split) (γ : List Map)
+    (H : HoldsBoth w header steps procedures P S) (T : PostsShown steps (header .maps) w w′) (few : header .maps ≤ 256) (long : length w ≡ workSize)
     (counted : length γ ≡ length (P .steps)) (wide : (i : ℕ) → i < length γ → length (getD γ i []) ≡ S .header .locations)
-    (stands : (i : ℕ) → i < length γ → (j : ℕ) → j < S .header .locations → mapCell w (record { 0 = maps + i }) j ≡ getD (getD γ i []) j 0) where
+    (stands : (i : ℕ) → i < length γ → (j : ℕ) → j < S .header .locations → mapCell w (record { 0 = header .maps + i }) j ≡ getD (getD γ i []) j 0) where
+  maps-given : header .maps ≡ S .header .maps
+  maps-given = maps-told S header (H .headed)
+
   steps-within : length (P .steps) ≤ 256
   steps-within = steps-few P (H .sheets .wellFormed)
 
-  new-stands : (i : ℕ) → i < length γ → Region w (mapsAt + stride * (maps + i)) (getD γ i [])
+  new-stands : (i : ℕ) → i < length γ → Region w (mapsAt + stride * (header .maps + i)) (getD γ i [])
   unfolding mapCell
   new-stands i h = record {
     fits = omega (arith, wide i h, H .sheets .inRange .locations, steps-within);
@@ -65,7 +70,7 @@ module _ (w w′ : List ℕ) (steps procedures denominator locations maps start 
 
   new-held : (i : ℕ) → i < length γ → Region w′ (mapsAt + stride * (length (S .maps) + i)) (getD (S .maps ++ γ) (length (S .maps) + i) [])
   new-held i h =
-      let number : length (S .maps) ≡ maps = omega (arith, H .sheets .inRange .mapsCounted, H .mapsGiven) in
+      let number : length (S .maps) ≡ header .maps = omega (arith, H .sheets .inRange .mapsCounted, maps-given) in
       rw (getD-append-add (S .maps) γ i [], number) (region-kept (T .changed) (inr (omega arith)) (new-stands i h))
 
   map-held : (m : ℕ) → m < length (S .maps ++ γ) → Region w′ (mapsAt + stride * m) (getD (S .maps ++ γ) m [])
@@ -84,7 +89,7 @@ module _ (w w′ : List ℕ) (steps procedures denominator locations maps start 
     at = λ i h.
         let l : i < length (S .rows) = omega (arith, rows) in
         T .shown i (omega (arith, H .sheets .inRange .rowsCounted, H .sheets .stepsCounted))
-        ∙ ap (_+ i) (H .mapsGiven)
+        ∙ ap (_+ i) maps-given
         ∙ sym (List·getD-map (λ (r : Row). r .post .0) (withPosts (S .header .maps) (S .rows)) i noRow
         ∙ rows-post (S .header .maps) (S .rows) i noRow l);
   }
@@ -114,13 +119,13 @@ module _ (w w′ : List ℕ) (steps procedures denominator locations maps start 
       rows : length (S .rows) ≤ 256
       rows = omega (arith, H .sheets .inRange .rowsCounted, steps-within)
 
-  pub sheets-held : HoldsSheets w′ steps procedures denominator locations start P (filled S γ)
+  pub sheets-held : HoldsSheets w′ steps procedures (header .denominator) (header .locations) (header .start .0) P (filled S γ)
   unfolding filled
   sheets-held = record {
     programText = H .sheets .programText;
     wellFormed = H .sheets .wellFormed;
     inRange = filled-in-range (record { inRange = H .sheets .inRange; counted = counted; wide = wide })
-        (omega (arith, H .mapsGiven, steps-within));
+        (omega (arith, maps-given, steps-within));
     program = program-kept (changed-wider rowTypesAt workSize (omega arith) (omega arith) (T .changed)) (H .sheets .wellFormed .stepped) steps-within
         (procedures-few P (H .sheets .wellFormed)) (H .sheets .program);
     split = split-held;
@@ -133,21 +138,21 @@ module _ (w w′ : List ℕ) (steps procedures denominator locations maps start 
 
 -- ------------------------------------------------------------------ the answers
 
-module _ (w₀ w : List ℕ) (steps procedures denominator locations maps start l : ℕ) where
+module _ (w₀ w : List ℕ) (header : Header) (steps procedures l : ℕ) where
   -- a location without posts
-  pub filled-nothing : (w′ : List ℕ) {large : Bool} → SoFar w₀ w steps procedures denominator locations maps start l large → l < locations
-      → ColumnFilled w steps procedures denominator maps start l Nothing w′ → FilledMaps w₀ steps procedures denominator locations maps start Nothing w′
+  pub filled-nothing : (w′ : List ℕ) {large : Bool} → SoFar w₀ w header steps procedures l large → l < header .locations
+      → ColumnFilled w header steps procedures l Nothing w′ → FilledMaps w₀ header steps procedures Nothing w′
   unfolding greatestMaps _>>=_
   filled-nothing w′ Z within F = record {
     answers = λ P S H.
         let z : 0 + l ≡ l = omega arith in
         let missed = miss-one (postsAt P S) 0 (S .header .locations) l (omega (arith, H .sheets .locationsGiven))
-        (rw z (F .answers P S locations (holds-still (Z .behind) H .sheets) within)) in
+        (rw z (F .answers P S (holds-still (Z .behind) H) within)) in
         rw missed;
   }
 
-  module _ (large : Bool) (Z : SoFar w₀ w steps procedures denominator locations maps start l large) (end : l ≡ locations) where
-    module _ (P : Program) (S : Split) (H : HoldsGiven w₀ steps procedures denominator locations maps start P S) where
+  module _ (large : Bool) (Z : SoFar w₀ w header steps procedures l large) (end : l ≡ header .locations) where
+    module _ (P : Program) (S : Split) (H : HoldsBoth w₀ header steps procedures P S) where
       abbrev n : ℕ
       n = length (P .steps)
 
@@ -170,7 +175,7 @@ module _ (w₀ w : List ℕ) (steps procedures denominator locations maps start 
           rw z at (each-found (postsAt P S) [] 0 (S .header .locations) columns (all-found .1) .1 j k)
 
       column-stored : large ≡ false → (j : ℕ) → j < S .header .locations
-          → (mapAtMost numberLimit (getD columns j []) ≡ true) × ColumnStored w maps j (getD columns j [])
+          → (mapAtMost numberLimit (getD columns j []) ≡ true) × ColumnStored w (header .maps) j (getD columns j [])
       column-stored e j k = Z .columns P S H .stored e j (omega (arith, H .sheets .locationsGiven)) (getD columns j []) (column-found j k)
 
       column-long : (j : ℕ) → j < S .header .locations → length (getD columns j []) ≡ n
@@ -187,22 +192,22 @@ module _ (w₀ w : List ℕ) (steps procedures denominator locations maps start 
       small e = columns-small columns n (λ j k. column-stored e j (omega (arith, columns-counted)) .0)
 
       maps-stand : large ≡ false → (i : ℕ) → i < length (made columns n) → (j : ℕ) → j < S .header .locations
-          → mapCell w (record { 0 = maps + i }) j ≡ getD (getD (made columns n) i []) j 0
+          → mapCell w (record { 0 = header .maps + i }) j ≡ getD (getD (made columns n) i []) j 0
       maps-stand e i h j k =
           let h′ : i < n = omega (arith, maps-counted columns 0 n) in
           column-stored e j k .1 .at i (omega (arith, column-long j k)) ∙ sym (made-number columns n i h′ j)
 
-    pub filled-large : large ≡ true → FilledMaps w₀ steps procedures denominator locations maps start Large w
+    pub filled-large : large ≡ true → FilledMaps w₀ header steps procedures Large w
     filled-large e = record { answers = λ P S H. (made (columns P S H) (n P S H), greatest-found P S H, too-large P S H e) }
 
-    pub filled-maps : large ≡ false → maps ≤ 256 → length w₀ ≡ workSize → (w′ : List ℕ) → PostsShown steps maps w w′
-        → FilledMaps w₀ steps procedures denominator locations maps start Maps w′
+    pub filled-maps : large ≡ false → header .maps ≤ 256 → length w₀ ≡ workSize → (w′ : List ℕ) → PostsShown steps (header .maps) w w′
+        → FilledMaps w₀ header steps procedures Maps w′
     filled-maps e few long w′ T = record {
       answers = λ P S H. (
         made (columns P S H) (n P S H),
         greatest-found P S H,
         small P S H e,
-        sheets-held w w′ steps procedures denominator locations maps start P S (made (columns P S H) (n P S H)) (holds-still (Z .behind) H) T few (Z .behind .long ∙ long)
+        sheets-held w w′ header steps procedures P S (made (columns P S H) (n P S H)) (holds-still (Z .behind) H) T few (Z .behind .long ∙ long)
             (maps-counted (columns P S H) 0 (n P S H))
             (λ i h. maps-wide (columns P S H) (n P S H) i (omega (arith, maps-counted (columns P S H) 0 (n P S H))) ∙ columns-counted P S H)
             (maps-stand P S H e),

@@ -9,12 +9,13 @@ use Rattle.spec.specs.Program.{Program}
 use Rattle.spec.specs.Split.{Split}
 use Rattle.workspace.specs.Layout.{postsAt, mapsAt, stride, emptyMap, mapCell, workSize}
 use Rattle.workspace.specs.Region.{ChangedWithin}
-use Rattle.workspace.specs.Sheets.{HoldsSheets}
+use Rattle.workspace.specs.declared.Header.{Header}
+use Rattle.reading.specs.Answers.{HoldsBoth}
 use Rattle.fill_theory.specs.GreatestMaps as greatest
 use Rattle.fill_theory.specs.Answer.{numberLimit, mapAtMost}
 use Rattle.fill.specs.declared.maps.Found.{Found}
 use Rattle.fill.specs.declared.maps.Found.the-variants.{Nothing, Large, Maps}
-use Rattle.fill.specs.FilledMaps.{MapsDue}
+use Rattle.fill.specs.Stages.{MapsGiven}
 
 -- ------------------------------------------------------------------ storing
 
@@ -47,10 +48,9 @@ pub record PostsShown (steps maps : ℕ) (w w′ : List ℕ) : Type 0 where
 -- ------------------------------------------------------------------ a column
 
 -- some sheets are held, and they have the location
-pub record ColumnGiven (w : List ℕ) (steps procedures denominator maps start location : ℕ) : Type 0 where
-  pub locations : ℕ
-  pub given : MapsDue w steps procedures denominator locations maps start
-  pub within : location < locations
+pub record ColumnGiven (w : List ℕ) (header : Header) (steps procedures location : ℕ) : Type 0 where
+  pub given : MapsGiven w header steps procedures
+  pub within : location < header .locations
 
 -- there are no posts; one is too large; or they are stored
 module _ (maps location : ℕ) (w : List ℕ) (posts : Option (List ℕ)) where
@@ -60,7 +60,7 @@ module _ (maps location : ℕ) (w : List ℕ) (posts : Option (List ℕ)) where
   ColumnFound Maps = (ps : List ℕ) × (posts ≡ some ps) × (mapAtMost numberLimit ps ≡ true) × ColumnStored w maps location ps
 
 -- from w to w′, for whichever sheets w holds
-pub record ColumnFilled (w : List ℕ) (steps procedures denominator maps start location : ℕ) (r : Found) (w′ : List ℕ) : Type 0 where
-  pub one : OneColumn maps location w w′
-  pub answers : (P : Program) (S : Split) (locations : ℕ) → HoldsSheets w steps procedures denominator locations start P S → location < locations
-      → ColumnFound maps location w′ (greatest.postsAt P S location) r
+pub record ColumnFilled (w : List ℕ) (header : Header) (steps procedures location : ℕ) (r : Found) (w′ : List ℕ) : Type 0 where
+  pub one : OneColumn (header .maps) location w w′
+  pub answers : (P : Program) (S : Split) → HoldsBoth w header steps procedures P S → location < header .locations
+      → ColumnFound (header .maps) location w′ (greatest.postsAt P S location) r

@@ -89,15 +89,7 @@ fn fill_held(
     requires { ⌜ MapsGiven (now work) header steps procedures ⌝ }
     ensures { λ f. ⌜ TextTold (now (work .entry)) header steps procedures (now (out .entry)) (now (out .exit)) f ⌝ }
 {
-    match fill_maps(
-        work,
-        steps,
-        procedures,
-        header.denominator,
-        header.locations,
-        header.maps,
-        header.start,
-    ) {
+    match fill_maps(work, header, steps, procedures) {
         Found::Nothing => Filled::Refused(Refusal::NoAfterMaps),
         Found::Large => Filled::Refused(Refusal::TooLarge),
         Found::Maps => {

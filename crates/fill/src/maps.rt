@@ -2,8 +2,8 @@
 use pass::Given;
 use pass::fill_location;
 use spec::Location;
-use spec::MapNumber;
 use ways::Column;
+use workspace::Header;
 use workspace::MAPS;
 use workspace::POSTS;
 use workspace::STRIDE;
@@ -15,7 +15,8 @@ ghost use lib.ListN.{length};
 ghost use Rattle.fill_theory.specs.Answer.{numberLimit, mapAtMost};
 ghost use Rattle.workspace.specs.Layout.{workSize};
 ghost use Rattle.fill.specs.Columns.{Room, ColumnStored, OneColumn, PostsStored, ColumnGiven, ColumnFilled, PostsShown};
-ghost use Rattle.fill.specs.FilledMaps.{MapsDue, FilledMaps};
+ghost use Rattle.fill.specs.FilledMaps.{FilledMaps};
+ghost use Rattle.fill.specs.Stages.{MapsGiven};
 
 // The largest number that a map may have.
 const LARGEST: u64 = 1000000000;
@@ -70,21 +71,20 @@ fn store_posts(work: &mut [u32], posts: &[u64], maps: usize, p: Location) -> boo
 // Stores the greatest posts at a location in the new maps, if there are some and none is larger than a map can have.
 fn fill_column(
     work: &mut [u32],
+    header: Header,
     steps: usize,
     procedures: usize,
-    denominator: u32,
-    maps: usize,
-    start: MapNumber,
     p: Location,
 ) -> Found
-    requires { ⌜ ColumnGiven (now work) steps procedures denominator maps (start .0) (p .0) ⌝ }
-    ensures { λ r. ⌜ ColumnFilled (now (work .entry)) steps procedures denominator maps (start .0) (p .0) r (now (work .exit)) ⌝ }
+    requires { ⌜ ColumnGiven (now work) header steps procedures (p .0) ⌝ }
+    ensures { λ r. ⌜ ColumnFilled (now (work .entry)) header steps procedures (p .0) r (now (work .exit)) ⌝ }
 {
     let mut posts = [0u64; 256];
     let column = Column {
         location: p,
-        denominator: denominator,
+        denominator: header.denominator,
     };
+    let start = header.start;
     let given = Given {
         procedures: procedures as u32,
         start: start,
@@ -92,7 +92,7 @@ fn fill_column(
     if !fill_location(work, &mut posts, column, given) {
         return Found::Nothing;
     }
-    if !store_posts(work, &posts[..steps], maps, p) {
+    if !store_posts(work, &posts[..steps], header.maps, p) {
         return Found::Large;
     }
     Found::Maps
@@ -111,33 +111,17 @@ fn show_maps(work: &mut [u32], steps: usize, maps: usize)
     }
 }
 
-// The greatest after-maps of the sheets that the work space holds, filled in there: the map of step i has the number `maps` + i.
+// The greatest after-maps of the sheets that the work space holds, filled in there: the map of step i has the number M + i.
 // That there are none is told at the first location without posts; that a number is too large, once every location has some.
-pub fn fill_maps(
-    work: &mut [u32],
-    steps: usize,
-    procedures: usize,
-    denominator: u32,
-    locations: usize,
-    maps: usize,
-    start: MapNumber,
-) -> Found
-    requires { ⌜ MapsDue (now work) steps procedures denominator locations maps (start .0) ⌝ }
-    ensures { λ r. ⌜ FilledMaps (now (work .entry)) steps procedures denominator locations maps (start .0) r (now (work .exit)) ⌝ }
+pub fn fill_maps(work: &mut [u32], header: Header, steps: usize, procedures: usize) -> Found
+    requires { ⌜ MapsGiven (now work) header steps procedures ⌝ }
+    ensures { λ r. ⌜ FilledMaps (now (work .entry)) header steps procedures r (now (work .exit)) ⌝ }
 {
     let mut large = false;
     let mut l = 0;
-    while l < locations {
+    while l < header.locations {
         let number = l as u32;
-        match fill_column(
-            work,
-            steps,
-            procedures,
-            denominator,
-            maps,
-            start,
-            Location(number),
-        ) {
+        match fill_column(work, header, steps, procedures, Location(number)) {
             Found::Nothing => {
                 return Found::Nothing;
             }
@@ -151,6 +135,6 @@ pub fn fill_maps(
     if large {
         return Found::Large;
     }
-    show_maps(work, steps, maps);
+    show_maps(work, steps, header.maps);
     Found::Maps
 }

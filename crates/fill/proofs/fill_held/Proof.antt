@@ -1,12 +1,12 @@
 -- By what the maps came to: none, one too large, or all found, and then the sheet with them is written.
-use Rattle.fill.proofs.Stages.{maps-given, nothing-told, large-told, some-filled, maps-filled}
+use Rattle.fill.proofs.Stages.{nothing-told, large-told, some-filled, maps-filled}
 use borrow.Author.Needs.{needs}
 use Rattle.fill.proofs.fill_held.Statement.{statement}
 use Rattle.fill.proofs.fill_held.Tie as tie
 
 fill-maps-requires : tie.Need-fill-maps-requires
 fill-maps-requires c κs =
-    maps-given (c .before .before .before .pre)
+    c .before .before .before .pre
 
 write-filled-requires : tie.Need-write-filled-requires
 write-filled-requires c κs =

@@ -4,71 +4,71 @@ use mathlib.Core.Logic.{⊎-elim}
 use Prim.Native.Nat.{_≤_, _-_}
 use native.Mathlib.Omega.{arith}
 use borrow.Author.Needs.{needs}
-use Rattle.fill.proofs.Column.{given-few}
 use Rattle.fill.proofs.SoFar.{SoFar, none-so-far, given-still, large-again, maps-again}
 use Rattle.fill.proofs.Whole.{filled-nothing, filled-large, filled-maps}
 use Rattle.fill.proofs.maps.fill_maps.Statement.{statement}
 use Rattle.fill.proofs.maps.fill_maps.Tie as tie
 
 abbrev Inv-loop : tie.InvT-loop
-Inv-loop work₀ steps procedures denominator locations maps start large₀ l₀ work large l = (l ≤ locations) × SoFar work₀ work steps procedures denominator locations maps (start .0) l large
+Inv-loop work₀ header steps procedures large₀ l₀ work large l = (l ≤ header .locations) × SoFar work₀ work header steps procedures l large
 
 abbrev μ-loop : tie.MeasureT-loop
-μ-loop work₀ steps procedures denominator locations maps start large₀ l₀ work large l = locations - l
+μ-loop work₀ header steps procedures large₀ l₀ work large l = header .locations - l
 
 loop-holds : tie.Need-loop-holds Inv-loop μ-loop
-loop-holds c = (omega arith, none-so-far _ _ _ _ _ _ _)
+loop-holds c = (omega arith, none-so-far _ _ _ _)
 
 cast-number : tie.Need-cast-number Inv-loop μ-loop
 cast-number c =
-    let sheets = c .before .before .before .pre .held .sheets in
-    omega (arith, c .loop-test .taken, sheets .locationsGiven, sheets .inRange .locations)
+    omega (arith, c .if1 .taken, c .before .before .before .before .pre .sheets .small .locations)
 
 fill-column-requires : tie.Need-fill-column-requires Inv-loop μ-loop
 fill-column-requires c κs =
     let turn = c .before in
-    let (_, Z) = turn .before .loop .inv in
-    record { locations = _; given = given-still (Z .behind) (turn .before .before .before .pre); within = turn .loop-test .taken }
+    let (_, Z) = turn .before .before .loop .inv in
+    record { given = given-still (Z .behind) (turn .before .before .before .before .pre); within = turn .if1 .taken }
 
 returns : tie.Need-returns Inv-loop μ-loop
 returns c =
     let at-column = c .before .before .before .before in
     let turn = at-column .before .before in
-    let (_, Z) = turn .before .loop .inv in
-    filled-nothing _ _ _ _ _ _ _ _ _ _ Z (turn .loop-test .taken) (rw (c .enum-told .given .1) at (at-column .fill-column .ensures))
+    let (_, Z) = turn .before .before .loop .inv in
+    filled-nothing _ _ _ _ _ _ _ Z (turn .if1 .taken) (rw (c .enum-told .given .1) at (at-column .fill-column .ensures))
 
 loop-again : tie.Need-loop-again Inv-loop μ-loop
 loop-again c =
     let at-column = c .before .before .before in
     let turn = at-column .before .before in
-    let (_, Z) = turn .before .loop .inv in
-    let within = turn .loop-test .taken in (
+    let (_, Z) = turn .before .before .loop .inv in
+    let within = turn .if1 .taken in (
       omega arith,
       ⊎-elim
-          (λ came. rw (came .2) (large-again _ _ _ _ _ _ _ _ _ _ _ Z within (rw (came .1 .given .1) at (at-column .fill-column .ensures))))
-          (λ came. rw (came .2) (maps-again _ _ _ _ _ _ _ _ _ _ _ Z within (rw (came .1 .given .1) at (at-column .fill-column .ensures))))
+          (λ came. rw (came .2) (large-again _ _ _ _ _ _ _ _ Z within (rw (came .1 .given .1) at (at-column .fill-column .ensures))))
+          (λ came. rw (came .2) (maps-again _ _ _ _ _ _ _ _ Z within (rw (came .1 .given .1) at (at-column .fill-column .ensures))))
           (c .match .came),
     )
 
 returns-2 : tie.Need-returns-2 Inv-loop μ-loop
 returns-2 c =
-    let (at-most, Z) = c .before .before .loop .inv in
-    filled-large _ _ _ _ _ _ _ _ _ _ Z (omega (arith, c .before .loop-test .left)) (c .if1 .taken)
+    let (at-most, Z) = c .before .before .before .loop .inv in
+    filled-large _ _ _ _ _ _ _ Z (omega (arith, c .before .if1 .left)) (c .if2 .taken)
 
 show-maps-requires : tie.Need-show-maps-requires Inv-loop μ-loop
 show-maps-requires c κs =
-    let (at-most, Z) = c .before .before .before .loop .inv in
-    let G = c .before .before .before .before .before .pre in
-    (Z .behind .long ∙ G .long, given-few G, G .few)
+    let at-loop = c .before .before .before .before in
+    let (at-most, Z) = at-loop .loop .inv in
+    let G = at-loop .before .before .pre in
+    (Z .behind .long ∙ G .sheets .long, G .sheets .few, G .fewMaps)
 
 returns-3 : tie.Need-returns-3 Inv-loop μ-loop
 returns-3 c =
     let at-show = c .before .before in
     let test = at-show .before .before in
     let ended = test .before in
-    let (at-most, Z) = ended .before .loop .inv in
-    let G = ended .before .before .before .pre in
-    filled-maps _ _ _ _ _ _ _ _ _ _ Z (omega (arith, ended .loop-test .left)) (test .if1 .left) (G .few) (G .long) _ (at-show .show-maps .ensures)
+    let at-loop = ended .before .before in
+    let (at-most, Z) = at-loop .loop .inv in
+    let G = at-loop .before .before .pre in
+    filled-maps _ _ _ _ _ _ _ Z (omega (arith, ended .if1 .left)) (test .if2 .left) (G .fewMaps) (G .sheets .long) _ (at-show .show-maps .ensures)
 
 pub fill-maps-spec : {M : Type 1} → statement M
 fill-maps-spec =
