@@ -29,7 +29,7 @@ use Rattle.workspace.specs.Layout as layout
 use Rattle.workspace.specs.Holds.{HoldsSplit}
 use Rattle.workspace.proofs.Shown.{type-shown, map-stands}
 use Rattle.conditions.specs.Relation.{everywhere}
-use Rattle.conditions.specs.Agreement.{mapsAgree, linesAgree, agreeBelow, agreeIn, mayShowIn, containsIn, takesEnoughIn}
+use Rattle.conditions.specs.Agreement.{mapsAgree, linesAgree, agreeBelow, agreeIn, mayShowIn, takesEnoughIn}
 use Rattle.conditions.specs.declared.Relation.the-variants.{Equal, AtLeast}
 use Rattle.conditions.proofs.Shown.{equal-shown, at-least-shown}
 
@@ -212,8 +212,8 @@ module _ (w : List ℕ) (S : Split) (P : Program) (H : HoldsSplit w S) (R : InRa
   takes-enough-shown t h = rw (type-shown w S P H R t h, not-below-shown _ _ (second-fits R t) (first-fits R t))
 
   pub contains-shown : (t u : TypeNumber) → t .0 < length (S .types) → u .0 < length (S .types)
-      → containsIn w n (typeAt S t) u ≡ contains (agree S) (typeAt S t) u
-  unfolding containsIn contains
+      → contains (agreeIn w n) (typeAt S t) u ≡ contains (agree S) (typeAt S t) u
+  unfolding contains
   contains-shown t u i j = by-kind (is ref (typeAt S t)) refl
     where
       by-kind : (b : Bool) → is ref (typeAt S t) ≡ b → (b && agreeIn w n (content (typeAt S t)) u) ≡ (b && agree S (content (typeAt S t)) u)

@@ -1,6 +1,6 @@
 -- What the else of a `let .. else` on a type is told, that it is of another kind, in terms of the definitions.
 use mathlib.Core.Path.{_≡_, refl, sym, subst, _∙_}
-use mathlib.Core.Bool.{false}
+use mathlib.Core.Bool.{Bool, false}
 use mathlib.Core.List.{List, [], _∷_}
 use Prim.Native.Nat.{ℕ}
 use borrow.Author.Tests.{ne-eqb}
@@ -8,10 +8,10 @@ use types.Run.{OneOf, miss}
 use denote.Enum.Declared.{tagOf}
 use Rattle.spec.proofs.TypeLine as line
 use Rattle.spec.specs.Kinds.{Kind, int, ref, lock, tid, sem, rwlock, code, kindOf, sameKind, is}
+use Rattle.spec.specs.Conditions.{contains}
 use Rattle.spec.specs.declared.TypeNumber.{TypeNumber}
 use Rattle.spec.specs.declared.TypeLine.{TypeLine}
 use Rattle.spec.specs.declared.TypeLine.the-variants.{Int, Ref, Lock, Tid, Sem, Rwlock}
-use Rattle.conditions.specs.Agreement.{containsIn}
 
 -- the codes of the other kinds
 abbrev pub others : Kind → List ℕ
@@ -43,6 +43,7 @@ pub not-of : (k : Kind) (t : TypeLine) → OneOf (others k) (tagOf line.the-type
 unfolding is sameKind
 not-of k t h = ne-eqb (code k) (code (kindOf t)) (λ e. not-among k (subst (OneOf (others k)) (tag-code t ∙ sym e) h))
 
-pub not-contains : (w : List ℕ) (n : ℕ) (t : TypeLine) (u : TypeNumber) → OneOf (others ref) (tagOf line.the-type t) → containsIn w n t u ≡ false
-unfolding containsIn
-not-contains w n t u h = rw (not-of ref t h)
+pub not-contains : (agrees : TypeNumber → TypeNumber → Bool) (t : TypeLine) (u : TypeNumber) → OneOf (others ref) (tagOf line.the-type t)
+    → contains agrees t u ≡ false
+unfolding contains
+not-contains agrees t u h = rw (not-of ref t h)

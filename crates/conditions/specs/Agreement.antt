@@ -55,10 +55,6 @@ module _ (w : List ℕ) (n : ℕ) where
       then everywhere (AtLeast (firstMap y) (firstMap x)) && everywhere (AtLeast (secondMap x) (secondMap y))
       else agreeIn t u
 
-  -- a ref type whose c agrees with the type u
-  unfoldable pub containsIn : TypeLine → TypeNumber → Bool
-  containsIn x u = is ref x && agreeIn (content x) u
-
   -- 44: out of a lock type is nowhere below in
   unfoldable pub takesEnoughIn : TypeLine → Bool
   takesEnoughIn x = if is lock x then everywhere (AtLeast (secondMap x) (firstMap x)) else true

@@ -28,7 +28,7 @@ use Rattle.workspace.specs.Layout as layout
 use Rattle.workspace.specs.Layout.{mapCell, printed, ruleOf, leafCode, unaryCode, binaryCode}
 use Rattle.workspace.specs.Holds.{HoldsSplit}
 use Rattle.workspace.proofs.Shown.{Stands, type-shown, first-stands, second-stands, has-shown}
-use Rattle.conditions.specs.Agreement.{agreeIn, mayShowIn, containsIn}
+use Rattle.conditions.specs.Agreement.{agreeIn, mayShowIn}
 use Rattle.views.specs.declared.Signature.{Signature as SignatureRead}
 use Rattle.views.specs.declared.View.{View}
 use Rattle.views.proofs.Views.{Part, Signed, Bound}
@@ -79,7 +79,7 @@ module _ (w : List ℕ) (S : Split) (P : Program) (H : HoldsSplit w S) (R : InRa
   shows e x p q h = rw (p .typed, q) (may-show-shown w S P H R (s .locations) located _ _ (p .type-in) h)
 
   holds-content : {t u : TypeNumber} {m n : MapNumber} (e e₁ : Expr) → Part w S t m e → Part w S u n e₁
-      → containsIn w (s .locations) (layout.typeAt w t) u ≡ contains (agree S) (kind S e) (type S e₁)
+      → contains (agreeIn w (s .locations)) (layout.typeAt w t) u ≡ contains (agree S) (kind S e) (type S e₁)
   unfolding type kind
   holds-content e e₁ p q = rw (typed-as e p, q .typed) (contains-shown w S P H R (s .locations) located _ _ (p .type-in) (q .type-in))
 

@@ -4,14 +4,14 @@ use mathlib.Core.Bool.{Bool}
 use mathlib.Core.List.{List, [], _∷_}
 use Prim.Native.Nat.{ℕ}
 use Rattle.spec.specs.Kinds.{int, ref, lock, tid, sem, rwlock, is, refLocation, firstMap, secondMap}
-use Rattle.spec.specs.Conditions.{Condition, T, F}
+use Rattle.spec.specs.Conditions.{Condition, T, F, contains}
 use Rattle.spec.specs.declared.MapNumber.{MapNumber}
 use Rattle.spec.specs.declared.TypeNumber.{TypeNumber}
 use Rattle.spec.specs.declared.TypeLine.{TypeLine}
 use Rattle.workspace.specs.declared.Rule.{Rule}
 use Rattle.workspace.specs.declared.Rule.the-variants.{VAR, INT, LET, IF, WHILE, NEWT, SPAWN, JOIN, REF, WRITE, READ, NEWL, LCK, ULCK, NEWSEM, POST, WAIT, NEWRWLOCK, RDLOCK, RDUNLOCK, WRLOCK, WRUNLOCK, CALL}
 use Rattle.conditions.specs.Relation.{fails, hasAtLeast}
-use Rattle.conditions.specs.Agreement.{agreeIn, mayShowIn, containsIn}
+use Rattle.conditions.specs.Agreement.{agreeIn, mayShowIn}
 use Rattle.conditions.specs.declared.Relation.{Relation}
 use Rattle.conditions.specs.declared.Relation.the-variants.{Equal, AtLeast, Covers, Sum}
 use Rattle.views.specs.declared.Signature.{Signature}
@@ -93,7 +93,7 @@ joinRow w s kind kind₁ = loaded w s kind (is tid kind₁) (s .post1) (firstMap
 
 abbrev pub refRow : KindRow
 refRow w s kind =
-    T (containsIn w (s .locations) kind (s .type1))
+    T (contains (agreeIn w (s .locations)) kind (s .type1))
     ∷ flows w s (Equal (s .post) (s .post1))
     ∷ []
 
@@ -101,7 +101,7 @@ abbrev pub writeRow : KindsRow
 writeRow w s kind kind₁ =
     T (is int kind)
     ∷ T (is ref kind₁)
-    ∷ T (containsIn w (s .locations) kind₁ (s .type2))
+    ∷ T (contains (agreeIn w (s .locations)) kind₁ (s .type2))
     ∷ flows w s (Equal (s .post) (s .post2))
     ∷ hasAtLeast w (s .post) (refLocation kind₁) (s .denominator)
     ∷ []
@@ -109,7 +109,7 @@ writeRow w s kind kind₁ =
 abbrev pub readRow : KindRow
 readRow w s kind₁ =
     T (is ref kind₁)
-    ∷ T (containsIn w (s .locations) kind₁ (s .typed))
+    ∷ T (contains (agreeIn w (s .locations)) kind₁ (s .typed))
     ∷ flows w s (Equal (s .post) (s .post1))
     ∷ hasAtLeast w (s .post) (refLocation kind₁) 1
     ∷ []

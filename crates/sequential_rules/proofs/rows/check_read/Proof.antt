@@ -2,15 +2,15 @@
 use mathlib.Core.Path.{refl, sym, _∙_}
 use borrow.Author.Tests.{not-true, not-false}
 use Rattle.spec.specs.Kinds.{ref, sameKind, is, refLocation, content}
+use Rattle.spec.specs.Conditions.{contains}
 use Rattle.conditions.proofs.FirstFalse.{last, next, pass, fail}
 use Rattle.conditions.proofs.TypeKinds.{not-of}
-use Rattle.conditions.specs.Agreement.{containsIn}
 use borrow.Author.Needs.{needs}
 use Rattle.sequential_rules.proofs.rows.check_read.Statement.{statement}
 use Rattle.sequential_rules.proofs.rows.check_read.Tie as tie
 
 returns-2 : tie.Need-returns-2
-unfolding is sameKind containsIn content
+unfolding is sameKind contains content
 returns-2 c =
     let content = c .before .before in
     rw (content .before .before .kind1 .given .1)
@@ -18,7 +18,7 @@ returns-2 c =
     (fail _ _ _ _ (sym (content .agrees .ensures) ∙ not-true _ (c .before .if1 .taken)) (c .type-false2 .ensures)))
 
 returns-3 : tie.Need-returns-3
-unfolding is sameKind refLocation containsIn content
+unfolding is sameKind refLocation contains content
 returns-3 c =
     let test = c .before .before .before in
     let content = test .before in

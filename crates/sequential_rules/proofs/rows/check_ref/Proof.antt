@@ -1,22 +1,22 @@
 use mathlib.Core.Path.{sym, _∙_}
 use borrow.Author.Tests.{not-true, not-false}
 use Rattle.spec.specs.Kinds.{sameKind, is, content}
+use Rattle.spec.specs.Conditions.{contains}
 use Rattle.conditions.proofs.FirstFalse.{last, pass, fail}
 use Rattle.conditions.proofs.TypeKinds.{not-contains}
-use Rattle.conditions.specs.Agreement.{containsIn}
 use borrow.Author.Needs.{needs}
 use Rattle.sequential_rules.proofs.rows.check_ref.Statement.{statement}
 use Rattle.sequential_rules.proofs.rows.check_ref.Tie as tie
 
 returns-2 : tie.Need-returns-2
-unfolding containsIn is sameKind content
+unfolding contains is sameKind content
 returns-2 c =
     let content = c .before .before in
     rw (content .before .before .kind .given .1)
     (fail _ _ _ _ (sym (content .agrees .ensures) ∙ not-true _ (c .before .if1 .taken)) (c .type-false2 .ensures))
 
 returns-3 : tie.Need-returns-3
-unfolding containsIn is sameKind content
+unfolding contains is sameKind content
 returns-3 c =
     let content = c .before .before in
     rw (content .before .before .kind .given .1)
@@ -28,7 +28,7 @@ check-ref-spec =
     (tie.spec
     (λ c. search needs)
     (λ c κs. search needs)
-    (λ c. fail _ _ _ _ (not-contains _ _ _ _ (c .before .match .keys2)) (c .type-false .ensures))
+    (λ c. fail _ _ _ _ (not-contains _ _ _ (c .before .match .keys2)) (c .type-false .ensures))
     (λ c κs. search needs)
     (λ c κs. search needs)
     returns-2

@@ -2,10 +2,10 @@
 use mathlib.Core.Path.{refl, sym, _∙_}
 use borrow.Author.Tests.{not-true, not-false}
 use Rattle.spec.specs.Kinds.{int, ref, sameKind, is, refLocation, content}
+use Rattle.spec.specs.Conditions.{contains}
 use Rattle.spec.proofs.TypeKinds.{of-is}
 use Rattle.conditions.proofs.FirstFalse.{last, next, pass, fail}
 use Rattle.conditions.proofs.TypeKinds.{not-of}
-use Rattle.conditions.specs.Agreement.{containsIn}
 use borrow.Author.Needs.{needs}
 use Rattle.sequential_rules.proofs.rows.check_write.Statement.{statement}
 use Rattle.sequential_rules.proofs.rows.check_write.Tie as tie
@@ -16,7 +16,7 @@ returns-2 c =
     (fail _ _ _ _ (not-of ref _ (c .before .match2 .keys2)) (c .type-false2 .ensures))
 
 returns-3 : tie.Need-returns-3
-unfolding is sameKind containsIn content
+unfolding is sameKind contains content
 returns-3 c =
     let content = c .before .before in
     let part = content .before .before in
@@ -26,7 +26,7 @@ returns-3 c =
     (fail _ _ _ _ (sym (content .agrees .ensures) ∙ not-true _ (c .before .if1 .taken)) (c .type-false3 .ensures))))
 
 returns-4 : tie.Need-returns-4
-unfolding is sameKind refLocation containsIn content
+unfolding is sameKind refLocation contains content
 returns-4 c =
     let test = c .before .before .before in
     let content = test .before in
