@@ -11,7 +11,6 @@ use Rattle.spec.specs.Workspace.{workspaceSize, workspaceAfter}
 use Rattle.spec.specs.Accepted.{Right}
 use Rattle.spec.specs.declared.Answer.{Answer}
 use Rattle.spec.specs.declared.Answer.the-variants.{Accept, Refuse}
-use Rattle.spec.specs.declared.Refusal.{Refusal}
 use Rattle.spec.proofs.Clashes.{true-is-not-false}
 use Rattle.spec.proofs.Accepted.{accepted-is-right, right-is-accepted}
 use Rattle.spec.proofs.FirstFalse.{refusal-names-first-false}

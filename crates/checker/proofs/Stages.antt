@@ -4,7 +4,7 @@ use mathlib.Core.List.{List}
 use Prim.Native.Nat.{ℕ, _≤_}
 use native.Mathlib.Omega.{arith}
 use borrow.Author.Tests.{le-leb}
-use Rattle.spec.specs.Reading.{Out, stop, on, _>>=_, demand}
+use Rattle.spec.specs.Reading.{Out, _>>=_, demand}
 use Rattle.spec.specs.Workspace.{workspaceSize}
 use Rattle.spec.specs.Verdict.{checked, answer, verdict}
 use Rattle.spec.specs.declared.Answer.{Answer}

@@ -6,7 +6,7 @@ use mathlib.Core.List.{List}
 use native.Mathlib.Omega.{arith}
 use borrow.Author.Tests.{lt-ltb, le-ltb}
 use lib.ListN.{length, set, length-set}
-use lib.Dec.{ltb, eqb}
+use lib.Dec.{eqb}
 use Rattle.spec.specs.Choice.{if_then_else_}
 use Rattle.control.specs.declared.Focus.{Focus}
 use Rattle.control.specs.Control.{keptAt, halfWritten, returnedSpace, turned, turnedSpace, found}

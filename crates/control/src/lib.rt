@@ -13,7 +13,7 @@ use workspace::index;
 use workspace::rule_of;
 ghost use mathlib.Core.Path.{_≡_};
 ghost use Prim.Native.Nat.{_<_, _-_};
-ghost use lib.ListN.{length, set};
+ghost use lib.ListN.{set};
 ghost use Rattle.control.specs.Shapes.{shapeAt};
 ghost use Rattle.control.specs.Control.{variable as variableOf, behind as behindOf, second as secondOf, firstOf, rootOf, enteredBy, entered, halfWritten, left, returned, returnedSpace, turned, turnedSpace, found};
 

@@ -10,7 +10,6 @@ pub use making::remove_file;
 use report::Outcome;
 use report::write_line;
 pub use retry::write_all;
-ghost use Prim.Native.Nat.{_≤_};
 ghost use lib.ListN.{length};
 ghost use Rattle.files.specs.Files.{Within};
 

@@ -1,6 +1,6 @@
 -- From what filling tells to the clauses of its contract.
 use mathlib.Core.Path.{_≡_, refl, sym, ap, _∙_}
-use mathlib.Core.List.{List, _++_}
+use mathlib.Core.List.{List}
 use mathlib.Core.Logic.{_↔_}
 use Prim.Native.Nat.{ℕ, _≤_}
 use native.Mathlib.Omega.{arith}
@@ -11,7 +11,7 @@ use Rattle.spec.specs.Reading.{Out, stop, on, _>>=_, demand}
 use Rattle.spec.specs.Program.{Program}
 use Rattle.spec.specs.Split.{Map, Split}
 use Rattle.spec.specs.Workspace.{workspaceSize, workspaceAfter}
-use Rattle.spec.specs.Verdict.{checked, verdict, four, returned}
+use Rattle.spec.specs.Verdict.{verdict, four, returned}
 use Rattle.spec.specs.declared.Returned.{Returned}
 use Rattle.spec.specs.declared.Answer.the-variants.{Accept, Refuse}
 use Rattle.spec.specs.declared.Refusal.{Refusal}

@@ -1,6 +1,6 @@
 -- Laws of the bounds at one location: posts that pass respect them; and from a larger pre as much more is reached as posts that pass
 -- have gained, up to what is reached at all. All hold for a top that no post can be above.
-use Prim.Native.Nat.{ℕ, zero, suc, _+_, _-_, _≤_, min}
+use Prim.Native.Nat.{ℕ, zero, suc, _+_, _-_, _≤_}
 use native.Mathlib.Omega.{arith}
 use native.Mathlib.Decide.{decLe}
 use Rattle.fill_theory.specs.declared.Effect.{Effect}

@@ -27,7 +27,7 @@ use Rattle.spec.specs.declared.UnaryWord.the-variants.{While, Join, Ref, Read, 
 use Rattle.spec.specs.declared.BinaryWord.{BinaryWord}
 use Rattle.spec.specs.declared.BinaryWord.the-variants.{Let, If, Spawn, Write}
 use Rattle.spec.proofs.Claims.{step-parts, parts-step, both-parts, parts-both}
-use Rattle.fill_theory.specs.Flow.{taking, Flow, inTurn, branch, fork, Turns, Passes, Root, RootsPass, steps}
+use Rattle.fill_theory.specs.Flow.{taking, Flow, inTurn, branch, fork, Turns, Passes, Root, RootsPass}
 use Rattle.fill_theory.specs.FlowOf.{loadHere, inHere, outHere, readHere, writeHere, startHere, keptHere, beforeHere, afterHere, accessHere, flowOf, rootsFrom}
 use Rattle.fill_theory.specs.declared.Effect.{Effect}
 use Rattle.fill_theory.proofs.Locations.{Everywhere, Known, together, lastly, restated, three, least-everywhere, sums, keeps, gives, takes, lends, needs}

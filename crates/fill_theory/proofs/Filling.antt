@@ -15,7 +15,6 @@ use Rattle.spec.specs.Sites.{claimsOf}
 use Rattle.spec.specs.Program.{Program}
 use Rattle.spec.specs.Split.{Map, Split}
 use Rattle.spec.specs.Maps.{share, overWhole}
-use Rattle.spec.specs.Conditions.{startMap}
 use Rattle.spec.specs.Verdict.{locksTakeEnough, refuseOver, ruled, typed, startAtMostOne}
 use Rattle.spec.specs.FirstFalse.{AllHold}
 use Rattle.spec.specs.WellFormed.{WellFormedProgram}

@@ -1,7 +1,7 @@
 -- After-maps: those that pass all flow and access conditions, and the greatest of them. The conditions are those of `conditionsOf`, the
 -- table of document 01, of the split with the maps filled in.
 use mathlib.Core.Path.{_≡_}
-use mathlib.Core.List.{List, [], _∷_, map}
+use mathlib.Core.List.{List, [], map}
 use Prim.Native.Nat.{ℕ, _≤_, _<_}
 use lib.ListN.{length, getD}
 use Rattle.spec.specs.Program.{Program}

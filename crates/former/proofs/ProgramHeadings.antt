@@ -14,7 +14,7 @@ use Rattle.spec.specs.Reading.{Out, on, _>>=_, programSheet, Seen, right, wrong
 use Rattle.spec.specs.Words.{words, wordsUnder}
 use Rattle.spec.specs.Expression.{Item, Procedure}
 use Rattle.spec.specs.Program.{programLimit, Counts, firstNumber, programHeadings, countRanges, proceduresOf, countsOf, counted, countLine, wordLine, procLine, itemLine, itemLines, Program, program}
-use Rattle.spec.specs.Verdict.{sheets, checked, answer, verdict}
+use Rattle.spec.specs.Verdict.{sheets, checked, verdict}
 use Rattle.spec.specs.WellFormed.{WellFormedProgram}
 use Rattle.spec.specs.declared.ProgramHeading.{ProgramHeading}
 use Rattle.spec.specs.declared.ProgramHeading.the-variants.{P, P2}

@@ -14,7 +14,6 @@ use Rattle.lexer.specs.Numbers.{stored}
 use Rattle.trace.specs.declared.TraceLine as read
 use Rattle.trace.specs.declared.TraceLine.the-variants as line
 use Rattle.trace.specs.Lines.{moveIn}
-use Rattle.engine.specs.declared.Outcome as code
 use Rattle.engine.specs.declared.Outcome.the-variants.{Moved, Stuck, Past}
 use Rattle.engine.specs.declared.Stepped.{Stepped}
 use Rattle.engine.specs.Steps.{stepped}

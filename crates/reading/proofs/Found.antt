@@ -1,11 +1,11 @@
 -- What the readers of the two sheets found, put together.
-use mathlib.Core.Path.{_≡_, sym, ap, _∙_}
+use mathlib.Core.Path.{_≡_}
 use mathlib.Core.Path.{subst as along}
 use mathlib.Core.List.{List}
 use Prim.Native.Nat.{ℕ, _≤_, _<_}
 use native.Mathlib.Omega.{arith}
 use lib.ListN.{length}
-use Rattle.spec.specs.Reading.{Out, stop, on}
+use Rattle.spec.specs.Reading.{stop, on}
 use Rattle.spec.specs.Program.{Program, programLimit}
 use Rattle.spec.specs.Split.{Split, splitLimit, split}
 use Rattle.spec.specs.WellFormed.{WellFormedProgram}
@@ -24,7 +24,7 @@ use Rattle.workspace.proofs.Held.{program-kept}
 use Rattle.workspace.specs.declared.Header.{Header}
 use Rattle.workspace.specs.Sheets.{Small}
 use Rattle.split.proofs.Found.{denominator-told, locations-told, start-told}
-use Rattle.reading.specs.Answers.{HoldsBoth, SheetsHeld, SheetsAnswered}
+use Rattle.reading.specs.Answers.{SheetsHeld, SheetsAnswered}
 use Rattle.reading.specs.declared.Reading.{Reading}
 use Rattle.reading.specs.declared.Reading.the-variants.{Held, Refused}
 

@@ -1,5 +1,5 @@
 -- A refusal has a number of its own, never that of ACCEPT.
-use Prim.Native.Nat.{ℕ, _≤_}
+use Prim.Native.Nat.{_≤_}
 use native.Mathlib.Omega.{arith}
 use Rattle.spec.specs.Verdict.{returned, four}
 use Rattle.spec.specs.declared.Answer.the-variants.{Refuse}

@@ -6,7 +6,6 @@ use lib.ListN.{getD, set, replicate}
 use Rattle.spec.specs.Choice.{if_then_else_}
 use Rattle.threads.specs.declared.State.{State}
 use Rattle.threads.specs.declared.State.the-variants.{Running, Finished, Joined}
-use Rattle.threads.specs.declared.Record.{Record}
 use Rattle.threads.specs.declared.Threads.{Threads}
 use Rattle.threads.specs.Records.{noRecord}
 

@@ -5,10 +5,10 @@ use mathlib.Core.Bool.{Bool, true, false}
 use mathlib.Core.Option.{Option, none, some}
 use Prim.Native.Nat.{ℕ, suc, _+_, _-_, _≤_, _<_}
 use native.Mathlib.Omega.{arith}
-use lib.Dec.{eqb, ltb}
+use lib.Dec.{eqb}
 use lib.ListN.{length, getD, take, drop, length-drop}
 use lib.Seq.{getD-drop, drop-drop}
-use borrow.Author.Tests.{lt-ltb, le-ltb, eq-eqb, ne-eqb, eqb-true, eqb-false}
+use borrow.Author.Tests.{lt-ltb, le-ltb, eq-eqb, ne-eqb, eqb-true}
 use Rattle.spec.specs.Choice.{if_then_else_}
 use Rattle.spec.specs.Text.{Field, numeral}
 use Rattle.spec.specs.Reading.{withNumeral, numerals}
@@ -18,9 +18,7 @@ use Rattle.lexer.specs.declared.FieldEnd.{FieldEnd}
 use Rattle.lexer.specs.declared.FieldEnd.the-variants.{Comma, Newline, Text}
 use Rattle.lexer.specs.declared.Numeral.the-variants as numeral-is
 use Rattle.lexer.proofs.Fields.{line-comma, line-newline, line-text, line-some}
-use Rattle.trace.specs.declared.TraceLine.{TraceLine}
 use Rattle.trace.specs.declared.TraceLine.the-variants as line
-use Rattle.trace.specs.declared.Closed.{Closed}
 use Rattle.trace.specs.declared.Closed.the-variants as closed
 use Rattle.trace.specs.Lines.{moveOf, moveIn, closedNumber, closedBy, choiceBy}
 

@@ -1,5 +1,5 @@
 -- Where the bodies of a program and its root stand in the work space, one after the other.
-use mathlib.Core.Path.{_≡_, refl, ap, _∙_}
+use mathlib.Core.Path.{_≡_, refl, _∙_}
 use mathlib.Core.Logic.{inl}
 use mathlib.Core.List.{List, [], _∷_, _++_, map, map-append}
 use Prim.Native.Nat.{ℕ, _+_, _≤_}
@@ -13,7 +13,7 @@ use Rattle.workspace.specs.Region.{Region, ChangedWithin}
 use Rattle.workspace.specs.Holds.{ends, lets, allEnds, allLets, firstSteps}
 use Rattle.workspace.proofs.Region.{region-moved, region-first, region-behind, region-left, region-right}
 use Rattle.workspace.proofs.Held.{ends-length, lets-length, body-steps, root-steps, body-sized, root-sized}
-use Rattle.workspace.proofs.Expression.{codes, values, linesOf, Standing, Here, here-kept}
+use Rattle.workspace.proofs.Expression.{codes, values, linesOf, Here, here-kept}
 
 -- ------------------------------------------------------------------ where they stand
 

@@ -1,4 +1,3 @@
-use mathlib.Core.Path.{refl}
 use Rattle.call_step.specs.Calls.{calleeOf, callEntered, argumentPut, calledSpace}
 use borrow.Author.Needs.{needs}
 use Rattle.call_step.proofs.call.Statement.{statement}

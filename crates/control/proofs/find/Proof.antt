@@ -1,11 +1,8 @@
 -- The loop's invariant: what is found from here is what is found from the start.
 use mathlib.Core.Path.{_≡_, refl, sym, _∙_, ap}
-use mathlib.Core.List.{List}
-use Prim.Native.Nat.{ℕ, _-_, _+_}
-use native.Mathlib.Omega.{arith}
+use Prim.Native.Nat.{_-_, _+_}
 use borrow.Author.Needs.{needs}
 use lib.ListN.{length}
-use Rattle.control.specs.declared.Focus.{Focus}
 use Rattle.control.specs.Control.{found}
 use Rattle.control.proofs.Turns.{found-stop, found-more, found-end, turn-length}
 use Rattle.control.proofs.find.Statement.{statement}

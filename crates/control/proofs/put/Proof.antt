@@ -1,6 +1,5 @@
 use mathlib.Core.Path.{sym}
 use lib.Seq.{set-out}
-use mathlib.Core.Path.{refl}
 use borrow.Author.Needs.{needs}
 use Rattle.control.proofs.put.Statement.{statement}
 use Rattle.control.proofs.put.Tie as tie

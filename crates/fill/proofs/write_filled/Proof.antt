@@ -1,5 +1,4 @@
 -- The length is counted by a first run over nothing; the second run writes, if there is room.
-use native.Mathlib.Omega.{arith}
 use borrow.Author.Needs.{needs}
 use Rattle.split_writer.specs.Contract.{SheetWritten}
 use Rattle.fill.proofs.Told.{too-long, no-room, fits-told}

@@ -1,6 +1,5 @@
 -- Rows for 30 and for each condition of each word, met and false. The answers are worked out by hand from document 01.
 use mathlib.Core.List.{List, [], _∷_, _++_ as _++ₗ_}
-use Prim.Native.Nat.{ℕ, zero, suc}
 use Prim.Native.String.{String, [] as []ˢ, _++_}
 use Rattle.spec.specs.Verdict.{four}
 use Rattle.spec.specs.Pairs.KnownPairs.{Pair, _with_is_}

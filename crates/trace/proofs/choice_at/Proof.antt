@@ -1,4 +1,3 @@
-use mathlib.Core.Path.{sym, _∙_}
 use Rattle.trace.specs.Lines.{choiceBy}
 use borrow.Author.Needs.{needs}
 use Rattle.trace.proofs.choice_at.Statement.{statement}

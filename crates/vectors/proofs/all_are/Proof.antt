@@ -4,8 +4,6 @@ use Prim.Native.Nat.{_≤_, _-_}
 use lib.ListN.{length}
 use Rattle.vectors.proofs.all_are.Statement.{statement}
 use Rattle.vectors.proofs.all_are.Tie as tie
-use Rattle.vectors.proofs.all_are.Reads as reads
-use Rattle.vectors.proofs.all_are.Lts as lts
 
 abbrev Inv-loop : tie.InvT-loop
 Inv-loop numbers x i₀ i = i ≤ length numbers

@@ -4,8 +4,6 @@ use Prim.Native.Nat.{_≤_, _-_}
 use lib.ListN.{length}
 use Rattle.vectors.proofs.find.Statement.{statement}
 use Rattle.vectors.proofs.find.Tie as tie
-use Rattle.vectors.proofs.find.Reads as reads
-use Rattle.vectors.proofs.find.Lts as lts
 
 abbrev Inv-loop : tie.InvT-loop
 Inv-loop text from byte i₀ i = (from ≤ i) × (i ≤ length text)

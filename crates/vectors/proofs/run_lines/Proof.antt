@@ -5,10 +5,6 @@ use mathlib.Core.Path.{_≡_}
 use lib.ListN.{length}
 use Rattle.vectors.proofs.run_lines.Statement.{statement}
 use Rattle.vectors.proofs.run_lines.Tie as tie
-use Rattle.vectors.proofs.run_lines.Reads as reads
-use Rattle.vectors.proofs.run_lines.Lts as lts
-use Rattle.vectors.proofs.find.Reads as find-reads
-use Rattle.vectors.proofs.run_line.Reads as run-line-reads
 
 abbrev Inv-loop : tie.InvT-loop
 Inv-loop text₀ from₀ text from = length text ≡ length text₀

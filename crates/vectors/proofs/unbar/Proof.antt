@@ -5,9 +5,6 @@ use mathlib.Core.Path.{_≡_}
 use lib.ListN.{length}
 use Rattle.vectors.proofs.unbar.Statement.{statement}
 use Rattle.vectors.proofs.unbar.Tie as tie
-use Rattle.vectors.proofs.unbar.Reads as reads
-use Rattle.vectors.proofs.unbar.Lts as lts
-use Rattle.vectors.proofs.meant.Reads as meant-reads
 
 abbrev Inv-loop : tie.InvT-loop
 Inv-loop text₀ i₀ text i = length text ≡ length text₀
