@@ -5,11 +5,6 @@ use Rattle.lexer.proofs.Digits.{leading-one, leading-two}
 use Rattle.lexer.proofs.leading_zero.Statement.{statement}
 use Rattle.lexer.proofs.leading_zero.Tie as tie
 
-returns : tie.Need-returns
-returns c = sym (leading-two _ (search needs))
-
-returns-2 : tie.Need-returns-2
-returns-2 c = sym (leading-one _ (search needs))
-
 pub leading-zero-spec : {M : Type 1} → statement M
-leading-zero-spec = tie.close (tie.spec (λ c. search needs) returns returns-2)
+leading-zero-spec =
+    tie.close (tie.spec (λ c. search needs) (λ c. sym (leading-two _ (search needs))) (λ c. sym (leading-one _ (search needs))))

@@ -5,16 +5,13 @@ use Rattle.vocabulary.proofs.Words.{spelled-first}
 use Rattle.vocabulary.proofs.word_under.Statement.{statement}
 use Rattle.vocabulary.proofs.word_under.Tie as tie
 
-returns : tie.Need-returns
-unfolding wordsUnder
-returns c = rw (c .enum-told .given .1) (c .before .before .word-of .ensures)
-
 returns-2 : tie.Need-returns-2
 unfolding wordsUnder bytes
 returns-2 c =
     rw (c .before .before .enum-told2 .given .1) (spelled-first _ _ _ _ (c .spelled .ensures) (c .before .before .before .before .word-of .ensures))
 
 pub word-under-spec : {M : Type 1} → statement M
+unfolding wordsUnder
 word-under-spec =
     tie.close
     (tie.spec
@@ -23,5 +20,5 @@ word-under-spec =
     (λ c. search needs)
     (λ c. search needs)
     (λ c κs. search needs)
-    returns
+    (λ c. rw (c .enum-told .given .1) (c .before .before .word-of .ensures))
     returns-2)

@@ -4,8 +4,11 @@ use borrow.Author.Needs.{needs}
 use Rattle.workspace.proofs.at.Statement.{statement}
 use Rattle.workspace.proofs.at.Tie as tie
 
-returns-2 : tie.Need-returns-2
-returns-2 c = sym (List·getD-eq-default (c .before .args .work .now) 0 (c .if1 .left))
-
 pub at-spec : {M : Type 1} → statement M
-at-spec = tie.close (tie.spec (λ c. search needs) (λ c. search needs) (λ c. search needs) returns-2)
+at-spec =
+    tie.close
+    (tie.spec
+    (λ c. search needs)
+    (λ c. search needs)
+    (λ c. search needs)
+    (λ c. sym (List·getD-eq-default (c .before .args .work .now) 0 (c .if1 .left))))

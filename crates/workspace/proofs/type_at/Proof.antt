@@ -8,11 +8,8 @@ returns : tie.Need-returns
 unfolding typeAt
 returns c = cc
 
-returns-2 : tie.Need-returns-2
-unfolding typeAt
-returns-2 c = cc
-
 pub type-at-spec : {M : Type 1} → statement M
+unfolding typeAt
 type-at-spec =
     tie.close
     (tie.spec
@@ -36,4 +33,4 @@ type-at-spec =
     (λ c. search needs)
     (λ c κs. search needs)
     (λ c κs. search needs)
-    returns-2)
+    (λ c. cc))

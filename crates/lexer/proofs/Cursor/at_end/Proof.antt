@@ -5,8 +5,5 @@ use Rattle.lexer.proofs.Places.{nothing-left}
 use Rattle.lexer.proofs.Cursor.at_end.Statement.{statement}
 use Rattle.lexer.proofs.Cursor.at_end.Tie as tie
 
-returns : tie.Need-returns
-returns c = sym (nothing-left _ _)
-
 pub at-end-spec : {M : Type 1} → statement M
-at-end-spec = tie.close (tie.spec (λ c. search needs) returns)
+at-end-spec = tie.close (tie.spec (λ c. search needs) (λ c. sym (nothing-left _ _)))

@@ -4,10 +4,7 @@ use Rattle.spec.specs.Text.{digitLimit}
 use Rattle.lexer.proofs.Cursor.take_digits.Statement.{statement}
 use Rattle.lexer.proofs.Cursor.take_digits.Tie as tie
 
-digits-within-requires : tie.Need-digits-within-requires
-unfolding digitLimit
-digits-within-requires c κs = search needs
-
 pub take-digits-spec : {M : Type 1} → statement M
+unfolding digitLimit
 take-digits-spec =
-    tie.close (tie.spec (λ c. search needs) (λ c. search needs) (λ c κs. search needs) digits-within-requires (λ c. search needs))
+    tie.close (tie.spec (λ c. search needs) (λ c. search needs) (λ c κs. search needs) (λ c κs. search needs) (λ c. search needs))
