@@ -4,12 +4,6 @@ use Rattle.binders.proofs.JudgingLaws.{call-there, call-missing}
 use Rattle.binders.proofs.judge_call.Statement.{statement}
 use Rattle.binders.proofs.judge_call.Tie as tie
 
-returns : tie.Need-returns
-returns c = call-there _ _ _ _ (c .before .index .ensures .0) (c .if1 .taken)
-
-returns-2 : tie.Need-returns-2
-returns-2 c = call-missing _ _ _ _ (c .before .before .index .ensures .0) (c .before .if1 .left)
-
 pub judge-call-spec : {M : Type 1} → statement M
 judge-call-spec =
     tie.close
@@ -18,8 +12,8 @@ judge-call-spec =
     (λ c. search needs)
     (λ c. search needs)
     (λ c κs. search needs)
-    returns
+    (λ c. call-there _ _ _ _ (c .before .index .ensures .0) (c .if1 .taken))
     (λ c. search needs)
     (λ c. search needs)
     (λ c. search needs)
-    returns-2)
+    (λ c. call-missing _ _ _ _ (c .before .before .index .ensures .0) (c .before .if1 .left)))

@@ -7,10 +7,6 @@ use borrow.Author.Needs.{needs}
 use Rattle.binders.proofs.judge_var.Statement.{statement}
 use Rattle.binders.proofs.judge_var.Tie as tie
 
-returns : tie.Need-returns
-unfolding judgeVar stepLineAt
-returns c = simp (le-leb _ _ (c .if1 .taken))
-
 returns-2 : tie.Need-returns-2
 returns-2 c = used-early _ _ _ _ (c .before .before .if1 .left) (c .before .scope-from .ensures) (c .if2 .taken)
 
@@ -25,13 +21,14 @@ returns-4 c =
     used-inside _ _ _ _ (early .before .before .if1 .left) (early .before .scope-from .ensures) _ (early .if2 .left) (c .before .scope-till .ensures) (c .if3 .left)
 
 pub judge-var-spec : {M : Type 1} → statement M
+unfolding judgeVar stepLineAt
 judge-var-spec =
     tie.close
     (tie.spec
     (λ c. search needs)
     (λ c. search needs)
     (λ c. search needs)
-    returns
+    (λ c. simp (le-leb _ _ (c .if1 .taken)))
     (λ c κs. search needs)
     returns-2
     (λ c κs. search needs)

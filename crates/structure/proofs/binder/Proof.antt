@@ -10,8 +10,11 @@ returns : tie.Need-returns
 returns c =
     getD-any (c .before .before .args .table .now) (c .before .before .args .v) 0 272 (c .before .if1 .taken)
 
-returns-2 : tie.Need-returns-2
-returns-2 c = sym (List·getD-eq-default (c .before .args .table .now) 272 (c .if1 .left))
-
 pub binder-spec : {M : Type 1} → statement M
-binder-spec = tie.close (tie.spec (λ c. search needs) (λ c. search needs) returns returns-2)
+binder-spec =
+    tie.close
+    (tie.spec
+    (λ c. search needs)
+    (λ c. search needs)
+    returns
+    (λ c. sym (List·getD-eq-default (c .before .args .table .now) 272 (c .if1 .left))))

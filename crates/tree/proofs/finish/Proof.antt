@@ -6,12 +6,6 @@ use Rattle.tree.proofs.StructureLaws.{left-proc, left-step, left-none}
 use Rattle.tree.proofs.finish.Statement.{statement}
 use Rattle.tree.proofs.finish.Tie as tie
 
-add-at : tie.Need-add-at
-add-at c = omega (arith, c .before .before .before .before .pre .3)
-
-add-at-2 : tie.Need-add-at-2
-add-at-2 c = omega (arith, c .before .before .before .before .pre .2)
-
 returns : tie.Need-returns
 returns c =
     let told = c .before in
@@ -22,21 +16,18 @@ returns-2 c =
     let told = c .before in
     left-step _ _ _ _ _ (sym (told .before .before .next-item .ensures) ∙ told .enum-told2 .given .1) (c .at2 .ensures)
 
-returns-3 : tie.Need-returns-3
-returns-3 c = left-none _ _ _ _ _ (sym (c .before .before .next-item .ensures) ∙ c .enum-told3 .given .1)
-
 pub finish-spec : {M : Type 1} → statement M
 finish-spec =
     tie.close
     (tie.spec
     (λ c κs. (c .before .pre .0, c .before .pre .1))
     (λ c. search needs)
-    add-at
+    (λ c. omega (arith, c .before .before .before .before .pre .3))
     (λ c κs. search needs)
     (λ c. search needs)
-    add-at-2
+    (λ c. omega (arith, c .before .before .before .before .pre .2))
     (λ c κs. search needs)
     (λ c. search needs)
     returns
     returns-2
-    returns-3)
+    (λ c. left-none _ _ _ _ _ (sym (c .before .before .next-item .ensures) ∙ c .enum-told3 .given .1)))

@@ -4,15 +4,14 @@ use Rattle.tree.specs.Trees.{limitAt}
 use Rattle.tree.proofs.limit_at.Statement.{statement}
 use Rattle.tree.proofs.limit_at.Tie as tie
 
-returns : tie.Need-returns
-unfolding limitAt
-returns c = rw (lt-ltb _ _ (c .before .before .if1 .taken)) (c .index .ensures .0)
-
-returns-2 : tie.Need-returns-2
-unfolding limitAt
-returns-2 c = simp (le-ltb _ _ (c .if1 .left))
-
 pub limit-at-spec : {M : Type 1} → statement M
+unfolding limitAt
 limit-at-spec =
     tie.close
-    (tie.spec (λ c. search needs) (λ c. search needs) (λ c. search needs) (λ c κs. search needs) returns returns-2)
+    (tie.spec
+    (λ c. search needs)
+    (λ c. search needs)
+    (λ c. search needs)
+    (λ c κs. search needs)
+    (λ c. rw (lt-ltb _ _ (c .before .before .if1 .taken)) (c .index .ensures .0))
+    (λ c. simp (le-ltb _ _ (c .if1 .left))))

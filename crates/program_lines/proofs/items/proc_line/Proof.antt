@@ -14,9 +14,6 @@ add-line c =
     let at-pre = c .before .before in
     omega (arith, line-fits _ _ (at-pre .pre .here .placed) (at-pre .pre .here .left))
 
-returns : tie.Need-returns
-returns c = proc-plain _ _ _ (c .before .before .before .before .pre) _ (c .enum-told2 .given .1)
-
 -- under the heading `P2`
 module _ (s : tie.After-last-number) where
   abbrev headed : tie.After-enum-told
@@ -54,7 +51,7 @@ proc-line-spec =
     add-line
     (λ c. search needs)
     (λ c. search needs)
-    returns
+    (λ c. proc-plain _ _ _ (c .before .before .before .before .pre) _ (c .enum-told2 .given .1))
     last-number-requires
     (λ c. search needs)
     (λ c. search needs)

@@ -15,9 +15,6 @@ use Rattle.program_lines.specs.Lines.{FieldAt, StepAt}
 use Rattle.program_lines.proofs.items.step_line.Statement.{statement}
 use Rattle.program_lines.proofs.items.step_line.Tie as tie
 
-returns : tie.Need-returns
-returns c = step-missing _ _ _ (sym (c .before .at-end .ensures) ∙ c .if1 .taken)
-
 add-line : tie.Need-add-line
 add-line c = omega (arith, line-fits _ _ (c .before .before .before .pre) (sym (c .before .at-end .ensures) ∙ c .if1 .left))
 
@@ -42,9 +39,6 @@ freelock-line-requires c κs =
       here = record { placed = at-pre .pre; left = sym (at-at-end .at-end .ensures) ∙ at-if1 .if1 .left; field = at-field .field .ensures };
       freelock = marked _ _ (at-field .field .result) _ _ (at-field .field .ensures) (at-same .same .ensures) ∙ c .if2 .taken;
     }
-
-returns-2 : tie.Need-returns-2
-returns-2 c = c .freelock-line .ensures
 
 -- the field, and that it is not the word `freelock`
 module _ (s : tie.Else2) where
@@ -115,7 +109,7 @@ step-line-spec =
     tie.close
     (tie.spec
     (λ c κs. search needs)
-    returns
+    (λ c. step-missing _ _ _ (sym (c .before .at-end .ensures) ∙ c .if1 .taken))
     add-line
     (λ c κs. search needs)
     sub-same
@@ -124,7 +118,7 @@ step-line-spec =
     (λ c. search needs)
     (λ c κs. search needs)
     freelock-line-requires
-    returns-2
+    (λ c. c .freelock-line .ensures)
     (λ c. within c .0)
     (λ c. within c .0)
     (λ c. within c .1)

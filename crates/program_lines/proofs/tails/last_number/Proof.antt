@@ -6,12 +6,6 @@ use mathlib.Core.Path.{sym, _∙_}
 use Rattle.program_lines.proofs.tails.last_number.Statement.{statement}
 use Rattle.program_lines.proofs.tails.last_number.Tie as tie
 
-returns : tie.Need-returns
-returns c = λ e. absurd (not-comma _ (c .match .keys2) e)
-
-returns-2 : tie.Need-returns-2
-returns-2 c = tail-no-number _ _ _ (sym (c .before .before .number .ensures) ∙ c .enum-told2 .given .1)
-
 returns-3 : tie.Need-returns-3
 returns-3 c =
     let found = c .before .before .before .before in
@@ -38,11 +32,11 @@ last-number-spec =
     tie.close
     (tie.spec
     (λ c. search needs)
-    returns
+    (λ c. λ e. absurd (not-comma _ (c .match .keys2) e))
     (λ c κs. search needs)
     (λ c. search needs)
     (λ c. search needs)
-    returns-2
+    (λ c. tail-no-number _ _ _ (sym (c .before .before .number .ensures) ∙ c .enum-told2 .given .1))
     (λ c. search needs)
     (λ c κs. search needs)
     (λ c. search needs)

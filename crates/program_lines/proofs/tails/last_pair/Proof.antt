@@ -6,9 +6,6 @@ use mathlib.Core.Path.{refl}
 use Rattle.program_lines.proofs.tails.last_pair.Statement.{statement}
 use Rattle.program_lines.proofs.tails.last_pair.Tie as tie
 
-returns : tie.Need-returns
-returns c = λ e. absurd (not-comma _ (c .match .keys2) e)
-
 returns-2 : tie.Need-returns-2
 returns-2 c =
     let at-numbers = c .before .before .before .before in
@@ -24,7 +21,7 @@ last-pair-spec =
     tie.close
     (tie.spec
     (λ c. search needs)
-    returns
+    (λ c. λ e. absurd (not-comma _ (c .match .keys2) e))
     (λ c. search needs)
     (λ c κs. search needs)
     (λ c. search needs)
