@@ -4,11 +4,11 @@ use borrow.Author.Needs.{needs}
 use Rattle.split.proofs.finish.Statement.{statement}
 use Rattle.split.proofs.finish.Tie as tie
 
-returns : tie.Need-returns
-returns c = end-reached _ _ (sym (c .before .at-end .ensures) ∙ c .if1 .taken)
-
-returns-2 : tie.Need-returns-2
-returns-2 c = line-spare _ _ (sym (c .before .before .at-end .ensures) ∙ c .before .if1 .left)
-
 pub finish-spec : {M : Type 1} → statement M
-finish-spec = tie.close (tie.spec (λ c κs. search needs) returns (λ c. search needs) returns-2)
+finish-spec =
+    tie.close
+    (tie.spec
+    (λ c κs. search needs)
+    (λ c. end-reached _ _ (sym (c .before .at-end .ensures) ∙ c .if1 .taken))
+    (λ c. search needs)
+    (λ c. line-spare _ _ (sym (c .before .before .at-end .ensures) ∙ c .before .if1 .left)))

@@ -3,13 +3,6 @@ use borrow.Author.Tests.{le-leb, lt-leb}
 use Rattle.split_header.proofs.within.Statement.{statement}
 use Rattle.split_header.proofs.within.Tie as tie
 
-returns : tie.Need-returns
-unfolding inRange
-returns c = simp (lt-leb _ _ (c .if1 .taken))
-
-returns-2 : tie.Need-returns-2
-unfolding inRange
-returns-2 c = simp (le-leb _ _ (c .if1 .left))
-
 pub within-spec : {M : Type 1} → statement M
-within-spec = tie.close (tie.spec returns returns-2)
+unfolding inRange
+within-spec = tie.close (tie.spec (λ c. simp (lt-leb _ _ (c .if1 .taken))) (λ c. simp (le-leb _ _ (c .if1 .left))))

@@ -3,10 +3,6 @@ use borrow.Author.Needs.{needs}
 use Rattle.split_starts.proofs.keeps_back.Statement.{statement}
 use Rattle.split_starts.proofs.keeps_back.Tie as tie
 
-returns-2 : tie.Need-returns-2
-unfolding keepsBack
-returns-2 c = rw (c .before .before .word .given .1) (c .calls .ensures)
-
 pub keeps-back-spec : {M : Type 1} → statement M
 unfolding keepsBack
 keeps-back-spec =
@@ -17,5 +13,5 @@ keeps-back-spec =
     (λ c κs. search needs)
     (λ c. search needs)
     (λ c. search needs)
-    returns-2
+    (λ c. rw (c .before .before .word .given .1) (c .calls .ensures))
     (λ c. search needs))

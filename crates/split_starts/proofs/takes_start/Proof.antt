@@ -3,10 +3,6 @@ use borrow.Author.Needs.{needs}
 use Rattle.split_starts.proofs.takes_start.Statement.{statement}
 use Rattle.split_starts.proofs.takes_start.Tie as tie
 
-returns-2 : tie.Need-returns-2
-unfolding takesStart
-returns-2 c = rw (c .before .before .word .given .1) (c .calls .ensures)
-
 pub takes-start-spec : {M : Type 1} → statement M
 unfolding takesStart
 takes-start-spec =
@@ -21,7 +17,7 @@ takes-start-spec =
     (λ c. search needs)
     (λ c. search needs)
     (λ c. search needs)
-    returns-2
+    (λ c. rw (c .before .before .word .given .1) (c .calls .ensures))
     (λ c. search needs)
     (λ c. search needs)
     (λ c. search needs)

@@ -64,9 +64,6 @@ module _ (s : tie.After-post) where
   at-third : SplitCursor (text post-line) third
   at-third = record { placed = comma-placed _ _ _ (at-second typed .placed) (map .1) (map .2); fits = at-second typed .fits }
 
-returns : tie.Need-returns
-returns c = line-missing _ _ _ (sym (c .before .at-end .ensures) ∙ c .if1 .taken)
-
 returns-2 : tie.Need-returns-2
 returns-2 c =
     let number = c .before .before in
@@ -119,7 +116,7 @@ row-line-spec =
     tie.close
     (tie.spec
     (λ c κs. search needs)
-    returns
+    (λ c. line-missing _ _ _ (sym (c .before .at-end .ensures) ∙ c .if1 .taken))
     (λ c. search needs)
     (λ c κs. search needs)
     (λ c. search needs)

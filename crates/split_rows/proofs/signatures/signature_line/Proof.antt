@@ -45,9 +45,6 @@ module _ (s : tie.After-read) where
   found : LineRead (text line) (cursor line) 4 (numbers .numbers .last .1 .1 .0) (s .read .given .0 .0)
   found = numbers-read (numbers .numbers .ensures) 4 refl (start line .pre .reading .placed) (s .read .given .1)
 
-returns : tie.Need-returns
-returns c = line-missing _ _ _ (sym (c .before .at-end .ensures) ∙ c .if1 .taken)
-
 returns-2 : tie.Need-returns-2
 returns-2 c =
     let numbers = c .before .before .before in
@@ -94,7 +91,7 @@ signature-line-spec =
     tie.close
     (tie.spec
     (λ c κs. search needs)
-    returns
+    (λ c. line-missing _ _ _ (sym (c .before .at-end .ensures) ∙ c .if1 .taken))
     (λ c. search needs)
     (λ c. search needs)
     (λ c κs. search needs)

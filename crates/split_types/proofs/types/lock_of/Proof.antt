@@ -7,17 +7,8 @@ use borrow.Author.Needs.{needs}
 use Rattle.split_types.proofs.types.lock_of.Statement.{statement}
 use Rattle.split_types.proofs.types.lock_of.Tie as tie
 
-returns : tie.Need-returns
-returns c = first-older _ _ _ _ (c .before .enum-told .given .1) (c .older-lock .ensures)
-
-returns-2 : tie.Need-returns-2
-returns-2 c = second-older _ _ _ _ (c .before .enum-told2 .given .1) (c .older-lock2 .ensures)
-
-returns-3 : tie.Need-returns-3
-unfolding lockOf rangedType
-returns-3 c = c .ranged-type .ensures ∙ sym (in-out-seen _ _ _ _ (c .before .enum-told3 .given .1))
-
 pub lock-of-spec : {M : Type 1} → statement M
+unfolding lockOf rangedType
 lock-of-spec =
     tie.close
     (tie.spec
@@ -27,6 +18,6 @@ lock-of-spec =
     (λ c κs. search needs)
     (λ c. search needs)
     (λ c κs. search needs)
-    returns
-    returns-2
-    returns-3)
+    (λ c. first-older _ _ _ _ (c .before .enum-told .given .1) (c .older-lock .ensures))
+    (λ c. second-older _ _ _ _ (c .before .enum-told2 .given .1) (c .older-lock2 .ensures))
+    (λ c. c .ranged-type .ensures ∙ sym (in-out-seen _ _ _ _ (c .before .enum-told3 .given .1))))

@@ -6,9 +6,6 @@ use borrow.Author.Needs.{needs}
 use Rattle.split_types.proofs.types.older_lock.Statement.{statement}
 use Rattle.split_types.proofs.types.older_lock.Tie as tie
 
-returns : tie.Need-returns
-unfolding lockOf rangedType
-returns c = c .ranged-type .ensures ∙ sym (older-seen _ _ _)
-
 pub older-lock-spec : {M : Type 1} → statement M
-older-lock-spec = tie.close (tie.spec (λ c κs. search needs) returns)
+unfolding lockOf rangedType
+older-lock-spec = tie.close (tie.spec (λ c κs. search needs) (λ c. c .ranged-type .ensures ∙ sym (older-seen _ _ _)))

@@ -72,9 +72,6 @@ module _ (s : tie.After-type-of) where
       (pre .small .locations, pre .small .maps, pre .numbered) _ (kind .type-word .ensures ∙ ap typeWordOf (w .2))
       (numbers .numbers .last .1 .1 .0) _ (numbers-read (numbers .numbers .ensures) 2 refl behind (read .read .given .1)) _ (s .type-of .ensures)
 
-returns : tie.Need-returns
-returns c = line-missing _ _ _ (sym (c .before .at-end .ensures) ∙ c .if1 .taken)
-
 returns-2 : tie.Need-returns-2
 returns-2 c =
     let first-field = c .before .before in
@@ -95,24 +92,13 @@ returns-3 c =
     type-form (headerTold (start line .args .header)) (start line .args .own) (text line) (cursor line) (left line) (start line .pre .reading .placed) (word field .3) _ (word field .4)
     (numbers-none (numbers .numbers .ensures) 2 refl (c .enum-told2 .given .1) .0)
 
-returns-4 : tie.Need-returns-4
-unfolding typeAnswer
-returns-4 c = answered (c .before .before .before) (type-seen.Right _) (c .before .seen .given .1)
-
-returns-5 : tie.Need-returns-5
-unfolding typeAnswer
-returns-5 c = answered (c .before .before) type-seen.BadForm (c .enum-told3 .given .1)
-
-returns-6 : tie.Need-returns-6
-unfolding typeAnswer
-returns-6 c = answered (c .before .before) type-seen.BadRange (c .enum-told4 .given .1)
-
 pub type-line-spec : {M : Type 1} → statement M
+unfolding typeAnswer
 type-line-spec =
     tie.close
     (tie.spec
     (λ c κs. search needs)
-    returns
+    (λ c. line-missing _ _ _ (sym (c .before .at-end .ensures) ∙ c .if1 .taken))
     (λ c. search needs)
     (λ c κs. search needs)
     (λ c. search needs)
@@ -133,6 +119,6 @@ type-line-spec =
     (λ c. search needs)
     (λ c. search needs)
     (λ c. search needs)
-    returns-4
-    returns-5
-    returns-6)
+    (λ c. answered (c .before .before .before) (type-seen.Right _) (c .before .seen .given .1))
+    (λ c. answered (c .before .before) type-seen.BadForm (c .enum-told3 .given .1))
+    (λ c. answered (c .before .before) type-seen.BadRange (c .enum-told4 .given .1)))

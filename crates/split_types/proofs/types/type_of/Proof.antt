@@ -8,10 +8,6 @@ use borrow.Author.Needs.{needs}
 use Rattle.split_types.proofs.types.type_of.Statement.{statement}
 use Rattle.split_types.proofs.types.type_of.Tie as tie
 
-returns : tie.Need-returns
-unfolding rangedType
-returns c = c .ranged-type .ensures ∙ sym (int-seen _ _ _ _ _ (c .before .enum-told .given .1))
-
 returns-2 : tie.Need-returns-2
 unfolding refOf rangedType headerTold
 returns-2 c = c .ranged-type2 .ensures ∙ sym (ref-seen (headerTold (c .before .before .before .args .header)) _ _ _ _ (c .before .enum-told2 .given .1))
@@ -32,10 +28,8 @@ returns-6 : tie.Need-returns-6
 unfolding rwlockOf rangedType headerTold
 returns-6 c = c .ranged-type5 .ensures ∙ sym (rwlock-seen (headerTold (c .before .before .before .args .header)) _ _ _ _ (c .before .enum-told6 .given .1))
 
-returns-7 : tie.Need-returns-7
-returns-7 c = unknown-seen _ _ _ _ _ (c .enum-told7 .given .1)
-
 pub type-of-spec : {M : Type 1} → statement M
+unfolding rangedType
 type-of-spec =
     tie.close
     (tie.spec
@@ -52,10 +46,10 @@ type-of-spec =
     (λ c. search needs)
     (λ c κs. search needs)
     (λ c. search needs)
-    returns
+    (λ c. c .ranged-type .ensures ∙ sym (int-seen _ _ _ _ _ (c .before .enum-told .given .1)))
     returns-2
     returns-3
     returns-4
     returns-5
     returns-6
-    returns-7)
+    (λ c. unknown-seen _ _ _ _ _ (c .enum-told7 .given .1)))
