@@ -7,11 +7,8 @@ use borrow.Author.Needs.{needs}
 use Rattle.conditions.proofs.cell.Statement.{statement}
 use Rattle.conditions.proofs.cell.Tie as tie
 
-returns : tie.Need-returns
-unfolding mapCell
-returns c = ap (λ (i : ℕ). getD (c .before .before .before .args .work .now) i 0) (omega arith)
-
 pub cell-spec : {M : Type 1} → statement M
+unfolding mapCell
 cell-spec =
     tie.close
     (tie.spec
@@ -21,4 +18,4 @@ cell-spec =
     (λ c. search needs)
     (λ c. search needs)
     (λ c. search needs)
-    returns)
+    (λ c. ap (λ (i : ℕ). getD (c .before .before .before .args .work .now) i 0) (omega arith)))

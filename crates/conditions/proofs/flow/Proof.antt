@@ -6,17 +6,13 @@ use borrow.Author.Needs.{needs}
 use Rattle.conditions.proofs.flow.Statement.{statement}
 use Rattle.conditions.proofs.flow.Tie as tie
 
-returns : tie.Need-returns
-unfolding outcome
-returns c = itself-flows _ _ _ _ (sym (c .before .of-itself .ensures) ∙ c .if1 .taken) _
-
 pub flow-spec : {M : Type 1} → statement M
 unfolding outcome judge
 flow-spec =
     tie.close
     (tie.spec
     (λ c κs. search needs)
-    returns
+    (λ c. itself-flows _ _ _ _ (sym (c .before .of-itself .ensures) ∙ c .if1 .taken) _)
     (λ c κs. search needs)
     (λ c. rw (← c .before .before .lowest-failing .ensures, below-here _ _ (c .if2 .taken)))
     (λ c. rw (← c .before .before .lowest-failing .ensures, below-none _ _ (c .if2 .left))))

@@ -67,9 +67,6 @@ cell-requires-10 c κs =
     let line = c .before in
     omega (arith, (rw (line .relation5 .given .1) at (line .before .before .before .before .pre)))
 
-mul-product : tie.Need-mul-product
-mul-product c = product-fits (c .before .before .wide .ensures .1) (c .wide2 .ensures .1)
-
 pub holds-at-spec : {M : Type 1} → statement M
 unfolding holdsAt
 holds-at-spec =
@@ -86,7 +83,7 @@ holds-at-spec =
     (λ c κs. search needs)
     cell-requires-5
     (λ c κs. search needs)
-    mul-product
+    (λ c. product-fits (c .before .before .wide .ensures .1) (c .wide2 .ensures .1))
     cell-requires-6
     (λ c κs. search needs)
     (λ c. search needs)

@@ -8,10 +8,6 @@ use borrow.Author.Needs.{needs}
 use Rattle.conditions.proofs.locks.check_lock.Statement.{statement}
 use Rattle.conditions.proofs.locks.check_lock.Tie as tie
 
-returns : tie.Need-returns
-unfolding outcome
-returns c = no-lock-line _ _ _ (c .before .type-at .ensures) (not-of lock _ (c .match .keys2))
-
 returns-2 : tie.Need-returns-2
 unfolding outcome demand
 returns-2 c =
@@ -27,6 +23,14 @@ returns-3 c =
     rw (lock-line _ _ _ (lock .before .before .type-at .ensures) (lock .load .given .1) _ (asked .everywhere .ensures), c .if1 .left)
 
 pub check-lock-spec : {M : Type 1} → statement M
+unfolding outcome
 check-lock-spec =
     tie.close
-    (tie.spec (λ c. search needs) (λ c κs. search needs) (λ c. search needs) returns (λ c κs. search needs) returns-2 returns-3)
+    (tie.spec
+    (λ c. search needs)
+    (λ c κs. search needs)
+    (λ c. search needs)
+    (λ c. no-lock-line _ _ _ (c .before .type-at .ensures) (not-of lock _ (c .match .keys2)))
+    (λ c κs. search needs)
+    returns-2
+    returns-3)

@@ -6,12 +6,12 @@ use borrow.Author.Needs.{needs}
 use Rattle.sequential_rules.proofs.rows.check_int.Statement.{statement}
 use Rattle.sequential_rules.proofs.rows.check_int.Tie as tie
 
-returns : tie.Need-returns
-returns c = fail _ _ _ _ (not-of int _ (c .before .match .keys2)) (c .type-false .ensures)
-
-returns-2 : tie.Need-returns-2
-returns-2 c = pass _ _ _ _ (of-is (c .before .enum-told .given .1)) (last _ _ _ (c .equal .ensures))
-
 pub check-int-spec : {M : Type 1} → statement M
 check-int-spec =
-    tie.close (tie.spec (λ c. search needs) (λ c κs. search needs) returns (λ c κs. search needs) returns-2)
+    tie.close
+    (tie.spec
+    (λ c. search needs)
+    (λ c κs. search needs)
+    (λ c. fail _ _ _ _ (not-of int _ (c .before .match .keys2)) (c .type-false .ensures))
+    (λ c κs. search needs)
+    (λ c. pass _ _ _ _ (of-is (c .before .enum-told .given .1)) (last _ _ _ (c .equal .ensures))))
