@@ -4,9 +4,6 @@ use borrow.Author.Needs.{needs}
 use Rattle.fill.proofs.fill_sheets.Statement.{statement}
 use Rattle.fill.proofs.fill_sheets.Tie as tie
 
-returns : tie.Need-returns
-returns c = many-told _ _ _ _ _ (c .if1 .taken)
-
 fill-held-requires : tie.Need-fill-held-requires
 fill-held-requires c κs =
     let start = c .before .before .before .before .before .before .before .before .before .before .before .before in
@@ -26,7 +23,7 @@ pub fill-sheets-spec : {M : Type 1} → statement M
 fill-sheets-spec =
     tie.close
     (tie.spec
-    returns
+    (λ c. many-told _ _ _ _ _ (c .if1 .taken))
     (λ c κs. search needs)
     (λ c. search needs)
     (λ c. search needs)

@@ -10,8 +10,7 @@ fill-roots-requires c κs =
     let known = c .before .before in
     fillable-ready _ _ _ _ (known .before .pre) (λ i. omega (arith, known .shared-slice-known .given i))
 
-returns : tie.Need-returns
-returns c = roots-filled _ _ _ (c .before .before .fill-roots .ensures)
-
 pub fill-location-spec : {M : Type 1} → statement M
-fill-location-spec = tie.close (tie.spec fill-roots-requires (λ c. search needs) returns)
+fill-location-spec =
+    tie.close
+    (tie.spec fill-roots-requires (λ c. search needs) (λ c. roots-filled _ _ _ (c .before .before .fill-roots .ensures)))

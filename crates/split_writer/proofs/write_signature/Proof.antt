@@ -5,18 +5,6 @@ use borrow.Author.Needs.{needs}
 use Rattle.split_writer.proofs.write_signature.Statement.{statement}
 use Rattle.split_writer.proofs.write_signature.Tie as tie
 
-at-requires : tie.Need-at-requires
-at-requires c κs = tt
-
-at-requires-2 : tie.Need-at-requires-2
-at-requires-2 c κs = tt
-
-at-requires-3 : tie.Need-at-requires-3
-at-requires-3 c κs = tt
-
-at-requires-4 : tie.Need-at-requires-4
-at-requires-4 c κs = tt
-
 returns : tie.Need-returns
 returns c =
     let at-line = c .before .before in
@@ -33,13 +21,13 @@ write-signature-spec =
     tie.close
     (tie.spec
     (λ c. search needs)
-    at-requires
+    (λ c κs. tt)
     (λ c. search needs)
-    at-requires-2
+    (λ c κs. tt)
     (λ c. search needs)
-    at-requires-3
+    (λ c κs. tt)
     (λ c. search needs)
-    at-requires-4
+    (λ c κs. tt)
     (λ c. search needs)
     (λ c κs. search needs)
     (λ c. search needs)

@@ -8,21 +8,6 @@ use Rattle.ways.specs.Ways.{lendingIn}
 use Rattle.ways.proofs.lending_in.Statement.{statement}
 use Rattle.ways.proofs.lending_in.Tie as tie
 
-at-requires : tie.Need-at-requires
-at-requires c κs = tt
-
-wide-requires : tie.Need-wide-requires
-wide-requires c κs = tt
-
-wide-requires-2 : tie.Need-wide-requires-2
-wide-requires-2 c κs = tt
-
-mul-lent : tie.Need-mul-lent
-mul-lent c = product-fits (c .before .before .wide .ensures .1) (c .wide2 .ensures .1)
-
-lending-requires : tie.Need-lending-requires
-lending-requires c κs = tt
-
 returns : tie.Need-returns
 unfolding lendingIn
 returns c =
@@ -39,11 +24,11 @@ lending-in-spec =
     tie.close
     (tie.spec
     (λ c. search needs)
-    at-requires
-    wide-requires
+    (λ c κs. tt)
+    (λ c κs. tt)
     (λ c κs. search needs)
-    wide-requires-2
-    mul-lent
+    (λ c κs. tt)
+    (λ c. product-fits (c .before .before .wide .ensures .1) (c .wide2 .ensures .1))
     (λ c κs. search needs)
-    lending-requires
+    (λ c κs. tt)
     returns)

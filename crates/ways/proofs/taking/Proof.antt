@@ -3,9 +3,6 @@ use Rattle.fill_theory.specs.Flow.{taking}
 use Rattle.ways.proofs.taking.Statement.{statement}
 use Rattle.ways.proofs.taking.Tie as tie
 
-returns : tie.Need-returns
-unfolding taking
-returns c = refl
-
 pub taking-spec : {M : Type 1} → statement M
-taking-spec = tie.close (tie.spec returns)
+unfolding taking
+taking-spec = tie.close (tie.spec (λ c. refl))

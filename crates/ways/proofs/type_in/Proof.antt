@@ -3,15 +3,6 @@ use borrow.Author.Needs.{needs}
 use Rattle.ways.proofs.type_in.Statement.{statement}
 use Rattle.ways.proofs.type_in.Tie as tie
 
-at-requires : tie.Need-at-requires
-at-requires c κs = tt
-
-type-at-requires : tie.Need-type-at-requires
-type-at-requires c κs = tt
-
-returns : tie.Need-returns
-unfolding typeLineIn
-returns c = cc
-
 pub type-in-spec : {M : Type 1} → statement M
-type-in-spec = tie.close (tie.spec (λ c. search needs) at-requires type-at-requires returns)
+unfolding typeLineIn
+type-in-spec = tie.close (tie.spec (λ c. search needs) (λ c κs. tt) (λ c κs. tt) (λ c. cc))

@@ -9,60 +9,6 @@ use borrow.Author.Needs.{needs}
 use Rattle.ways.proofs.way_by.Statement.{statement}
 use Rattle.ways.proofs.way_by.Tie as tie
 
-unchanged-requires : tie.Need-unchanged-requires
-unchanged-requires c κs = tt
-
-unchanged-requires-2 : tie.Need-unchanged-requires-2
-unchanged-requires-2 c κs = tt
-
-unchanged-requires-3 : tie.Need-unchanged-requires-3
-unchanged-requires-3 c κs = tt
-
-unchanged-requires-4 : tie.Need-unchanged-requires-4
-unchanged-requires-4 c κs = tt
-
-giving-requires : tie.Need-giving-requires
-giving-requires c κs = tt
-
-unchanged-requires-5 : tie.Need-unchanged-requires-5
-unchanged-requires-5 c κs = tt
-
-needing-requires : tie.Need-needing-requires
-needing-requires c κs = tt
-
-needing-requires-2 : tie.Need-needing-requires-2
-needing-requires-2 c κs = tt
-
-taking-requires : tie.Need-taking-requires
-taking-requires c κs = tt
-
-giving-requires-2 : tie.Need-giving-requires-2
-giving-requires-2 c κs = tt
-
-taking-requires-2 : tie.Need-taking-requires-2
-taking-requires-2 c κs = tt
-
-unchanged-requires-6 : tie.Need-unchanged-requires-6
-unchanged-requires-6 c κs = tt
-
-taking-requires-3 : tie.Need-taking-requires-3
-taking-requires-3 c κs = tt
-
-giving-requires-3 : tie.Need-giving-requires-3
-giving-requires-3 c κs = tt
-
-giving-requires-4 : tie.Need-giving-requires-4
-giving-requires-4 c κs = tt
-
-taking-requires-4 : tie.Need-taking-requires-4
-taking-requires-4 c κs = tt
-
-giving-requires-5 : tie.Need-giving-requires-5
-giving-requires-5 c κs = tt
-
-taking-requires-5 : tie.Need-taking-requires-5
-taking-requires-5 c κs = tt
-
 pub way-by-spec : {M : Type 1} → statement M
 unfolding wayBy
 way-by-spec =
@@ -70,60 +16,60 @@ way-by-spec =
     (tie.spec
     (λ c. search needs)
     (λ c. search needs)
-    unchanged-requires
+    (λ c κs. tt)
     (λ c. search needs)
-    unchanged-requires-2
+    (λ c κs. tt)
     (λ c. search needs)
-    unchanged-requires-3
+    (λ c κs. tt)
     (λ c. search needs)
     (λ c. search needs)
     (λ c. search needs)
-    unchanged-requires-4
-    (λ c. search needs)
-    (λ c κs. search needs)
-    (λ c κs. search needs)
+    (λ c κs. tt)
     (λ c. search needs)
     (λ c κs. search needs)
-    giving-requires
-    (λ c. search needs)
-    unchanged-requires-5
-    (λ c. search needs)
-    (λ c κs. search needs)
-    needing-requires
-    (λ c. search needs)
-    (λ c κs. search needs)
-    needing-requires-2
-    (λ c. search needs)
-    (λ c κs. search needs)
-    taking-requires
-    (λ c. search needs)
-    (λ c κs. search needs)
-    giving-requires-2
-    (λ c. search needs)
-    (λ c κs. search needs)
-    taking-requires-2
-    (λ c. search needs)
-    unchanged-requires-6
-    (λ c. search needs)
-    (λ c κs. search needs)
-    taking-requires-3
-    (λ c. search needs)
-    (λ c κs. search needs)
-    giving-requires-3
-    (λ c. search needs)
     (λ c κs. search needs)
     (λ c. search needs)
     (λ c κs. search needs)
-    giving-requires-4
+    (λ c κs. tt)
+    (λ c. search needs)
+    (λ c κs. tt)
     (λ c. search needs)
     (λ c κs. search needs)
-    taking-requires-4
+    (λ c κs. tt)
     (λ c. search needs)
     (λ c κs. search needs)
-    giving-requires-5
+    (λ c κs. tt)
     (λ c. search needs)
     (λ c κs. search needs)
-    taking-requires-5
+    (λ c κs. tt)
+    (λ c. search needs)
+    (λ c κs. search needs)
+    (λ c κs. tt)
+    (λ c. search needs)
+    (λ c κs. search needs)
+    (λ c κs. tt)
+    (λ c. search needs)
+    (λ c κs. tt)
+    (λ c. search needs)
+    (λ c κs. search needs)
+    (λ c κs. tt)
+    (λ c. search needs)
+    (λ c κs. search needs)
+    (λ c κs. tt)
+    (λ c. search needs)
+    (λ c κs. search needs)
+    (λ c. search needs)
+    (λ c κs. search needs)
+    (λ c κs. tt)
+    (λ c. search needs)
+    (λ c κs. search needs)
+    (λ c κs. tt)
+    (λ c. search needs)
+    (λ c κs. search needs)
+    (λ c κs. tt)
+    (λ c. search needs)
+    (λ c κs. search needs)
+    (λ c κs. tt)
     (λ c. search needs)
     (λ c κs. search needs)
     (λ c. rw (c .before .enum-told .given .1) (ap Leaf (c .unchanged .ensures)))

@@ -7,9 +7,6 @@ use borrow.Author.Tests.{not-true, not-false}
 use Rattle.fill.proofs.maps.fill_column.Statement.{statement}
 use Rattle.fill.proofs.maps.fill_column.Tie as tie
 
-fill-location-requires : tie.Need-fill-location-requires
-fill-location-requires c κs = column-fillable _ _ _ _ _ _ (c .before .before .before .before .pre) refl
-
 returns : tie.Need-returns
 returns c =
     let at-location = c .before .before in
@@ -54,7 +51,7 @@ fill-column-spec =
     (tie.spec
     (λ c. search (needs, c .before .before .pre .given .sheets .fewProcedures))
     (λ c. search needs)
-    fill-location-requires
+    (λ c κs. column-fillable _ _ _ _ _ _ (c .before .before .before .before .pre) refl)
     (λ c. search needs)
     returns
     array-share-prefix-posts

@@ -7,12 +7,6 @@ use borrow.Author.Needs.{needs}
 use Rattle.pass.proofs.posts.second_in.Statement.{statement}
 use Rattle.pass.proofs.posts.second_in.Tie as tie
 
-at-requires : tie.Need-at-requires
-at-requires c κs = tt
-
-index-requires : tie.Need-index-requires
-index-requires c κs = tt
-
 returns : tie.Need-returns
 unfolding endIn
 returns c =
@@ -21,4 +15,4 @@ returns c =
     c .index .ensures .0 ∙ rw place at (c .before .at .ensures)
 
 pub second-in-spec : {M : Type 1} → statement M
-second-in-spec = tie.close (tie.spec (λ c. search needs) (λ c. search needs) at-requires index-requires returns)
+second-in-spec = tie.close (tie.spec (λ c. search needs) (λ c. search needs) (λ c κs. tt) (λ c κs. tt) returns)

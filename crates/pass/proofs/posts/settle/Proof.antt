@@ -3,10 +3,14 @@ use borrow.Author.Needs.{needs}
 use Rattle.pass.proofs.posts.settle.Statement.{statement}
 use Rattle.pass.proofs.posts.settle.Tie as tie
 
-returns : tie.Need-returns
-returns c = (sym (c .before .post .given .1), rw (c .before .post .given .1))
-
 pub settle-spec : {M : Type 1} → statement M
 settle-spec =
     tie.close
-    (tie.spec (λ c. search needs) (λ c. search needs) (λ c. search needs) (λ c. search needs) (λ c. search needs) returns (λ c. search needs))
+    (tie.spec
+    (λ c. search needs)
+    (λ c. search needs)
+    (λ c. search needs)
+    (λ c. search needs)
+    (λ c. search needs)
+    (λ c. (sym (c .before .post .given .1), rw (c .before .post .given .1)))
+    (λ c. search needs))

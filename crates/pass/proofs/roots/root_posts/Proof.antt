@@ -6,10 +6,6 @@ use borrow.Author.Needs.{needs}
 use Rattle.pass.proofs.roots.root_posts.Statement.{statement}
 use Rattle.pass.proofs.roots.root_posts.Tie as tie
 
-cap-step-requires : tie.Need-cap-step-requires
-unfolding top
-cap-step-requires c κs = root-cappable (c .before .before .before .pre) _ refl
-
 pass-step-requires : tie.Need-pass-step-requires
 unfolding top
 pass-step-requires c κs =
@@ -24,11 +20,12 @@ returns c =
     root-passed (at-caps .before .before .before .before .pre) (at-caps .cap-step .ensures) (at-pass .pass-step .ensures)
 
 pub root-posts-spec : {M : Type 1} → statement M
+unfolding top
 root-posts-spec =
     tie.close
     (tie.spec
     (λ c. search needs)
-    cap-step-requires
+    (λ c κs. root-cappable (c .before .before .before .pre) _ refl)
     (λ c. search needs)
     pass-step-requires
     (λ c. search needs)
