@@ -4,9 +4,6 @@ use Rattle.drill_theory.specs.Draw.{drawn}
 use Rattle.drill.proofs.draw.Statement.{statement}
 use Rattle.drill.proofs.draw.Tie as tie
 
-returns : tie.Need-returns
-unfolding drawn
-returns c = refl
-
 pub draw-spec : {M : Type 1} → statement M
-draw-spec = tie.close (tie.spec (λ c. search needs) (λ c. search needs) (λ c. search needs) returns)
+unfolding drawn
+draw-spec = tie.close (tie.spec (λ c. search needs) (λ c. search needs) (λ c. search needs) (λ c. refl))

@@ -8,12 +8,6 @@ use Rattle.drill.proofs.Drilling.{program-of, split-of, program-short, 
 use Rattle.drill.proofs.drill.Statement.{statement}
 use Rattle.drill.proofs.drill.Tie as tie
 
-program-length-requires : tie.Need-program-length-requires
-program-length-requires c κs = rw (c .readers .ensures) (readers-drawable _)
-
-split-length-requires : tie.Need-split-length-requires
-split-length-requires c κs = rw (c .before .readers .ensures) (readers-drawable _)
-
 returns : tie.Need-returns
 returns c =
     let sizes = c .before in
@@ -56,8 +50,8 @@ drill-spec =
     (tie.spec
     (λ c κs. search needs)
     (λ c κs. search needs)
-    program-length-requires
-    split-length-requires
+    (λ c κs. rw (c .readers .ensures) (readers-drawable _))
+    (λ c κs. rw (c .before .readers .ensures) (readers-drawable _))
     (λ c. search needs)
     returns
     (λ c. search needs)

@@ -4,9 +4,6 @@ use Rattle.drill_theory.specs.Draw.{readers}
 use Rattle.drill.proofs.readers.Statement.{statement}
 use Rattle.drill.proofs.readers.Tie as tie
 
-returns : tie.Need-returns
-unfolding readers
-returns c = refl
-
 pub readers-spec : {M : Type 1} → statement M
-readers-spec = tie.close (tie.spec (λ c. search needs) (λ c. search needs) returns)
+unfolding readers
+readers-spec = tie.close (tie.spec (λ c. search needs) (λ c. search needs) (λ c. refl))

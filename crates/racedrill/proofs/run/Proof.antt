@@ -9,10 +9,6 @@ use Rattle.racedrill.proofs.Pairs.{shown-within}
 use Rattle.racedrill.proofs.run.Statement.{statement}
 use Rattle.racedrill.proofs.run.Tie as tie
 
-pair-of-requires : tie.Need-pair-of-requires
-unfolding programLimit splitLimit
-pair-of-requires c κs = search needs
-
 array-share-prefix-program : tie.Need-array-share-prefix-program
 array-share-prefix-program c =
     let call = c .before .before .before .before .before in
@@ -34,12 +30,13 @@ slice-aggregate-make-both-2 c =
     sym (length-take-le _ _ (omega (arith, call .pair-of .kept, shown-within _ _ _ _ (c .before .before .before .x .given .1) (call .pair-of .ensures) .1)))
 
 pub run-spec : {M : Type 1} → statement M
+unfolding programLimit splitLimit
 run-spec =
     tie.close
     (tie.spec
     (λ c. search needs)
     (λ c. search needs)
-    pair-of-requires
+    (λ c κs. search needs)
     (λ c. search needs)
     (λ c. search needs)
     array-share-prefix-program

@@ -5,9 +5,6 @@ use Rattle.racedrill.proofs.Pairs.{none-of, never-short, pair-of}
 use Rattle.racedrill.proofs.pair.pair_of.Statement.{statement}
 use Rattle.racedrill.proofs.pair.pair_of.Tie as tie
 
-returns : tie.Need-returns
-returns c = none-of _ _ _ (sym (c .before .before .seed-of .ensures) ∙ c .enum-told .given .1)
-
 returns-2 : tie.Need-returns-2
 returns-2 c =
     let drilled = c .before .before .before .before .before .before .before in
@@ -30,7 +27,7 @@ pair-of-spec =
     (λ c κs. search needs)
     (λ c. search needs)
     (λ c. search needs)
-    returns
+    (λ c. none-of _ _ _ (sym (c .before .before .seed-of .ensures) ∙ c .enum-told .given .1))
     (λ c κs. search needs)
     (λ c. search needs)
     (λ c. search needs)

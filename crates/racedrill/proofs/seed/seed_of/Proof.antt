@@ -6,10 +6,6 @@ use Rattle.racedrill.proofs.Seeds.{no-numeral, too-large, given}
 use Rattle.racedrill.proofs.seed.seed_of.Statement.{statement}
 use Rattle.racedrill.proofs.seed.seed_of.Tie as tie
 
-returns : tie.Need-returns
-unfolding seedOf
-returns c = no-numeral _ (sym (c .before .before .numeral-of .ensures) ∙ c .enum-told .given .1)
-
 returns-2 : tie.Need-returns-2
 unfolding seedOf
 returns-2 c =
@@ -23,6 +19,14 @@ returns-3 c =
     given _ _ (sym (read .before .before .numeral-of .ensures) ∙ read .n .given .1) (c .if1 .left)
 
 pub seed-of-spec : {M : Type 1} → statement M
+unfolding seedOf
 seed-of-spec =
     tie.close
-    (tie.spec (λ c κs. search needs) (λ c. search needs) (λ c. search needs) returns returns-2 (λ c. search needs) returns-3)
+    (tie.spec
+    (λ c κs. search needs)
+    (λ c. search needs)
+    (λ c. search needs)
+    (λ c. no-numeral _ (sym (c .before .before .numeral-of .ensures) ∙ c .enum-told .given .1))
+    returns-2
+    (λ c. search needs)
+    returns-3)
