@@ -3,8 +3,5 @@ use borrow.Author.Needs.{needs}
 use Rattle.control.proofs.below.Statement.{statement}
 use Rattle.control.proofs.below.Tie as tie
 
-returns-2 : tie.Need-returns-2
-returns-2 c = omega (arith, c .if1 .left)
-
 pub below-spec : {M : Type 1} → statement M
-below-spec = tie.close (tie.spec (λ c. search needs) (λ c. search needs) returns-2)
+below-spec = tie.close (tie.spec (λ c. search needs) (λ c. search needs) (λ c. omega (arith, c .if1 .left)))

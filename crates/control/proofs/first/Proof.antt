@@ -3,9 +3,12 @@ use borrow.Author.Needs.{needs}
 use Rattle.control.proofs.first.Statement.{statement}
 use Rattle.control.proofs.first.Tie as tie
 
-returns : tie.Need-returns
-unfolding firstOf
-returns c = rw (c .at .ensures, c .before .index .ensures .0)
-
 pub first-spec : {M : Type 1} → statement M
-first-spec = tie.close (tie.spec (λ c κs. search needs) (λ c. search needs) (λ c κs. search needs) returns)
+unfolding firstOf
+first-spec =
+    tie.close
+    (tie.spec
+    (λ c κs. search needs)
+    (λ c. search needs)
+    (λ c κs. search needs)
+    (λ c. rw (c .at .ensures, c .before .index .ensures .0)))

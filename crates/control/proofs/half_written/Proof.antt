@@ -8,9 +8,7 @@ returns : tie.Need-returns
 unfolding halfWritten
 returns c = rw (c .is-write .ensures, c .before .shape-at .ensures, lt-ltb _ _ (c .before .before .if1 .taken))
 
-returns-2 : tie.Need-returns-2
-unfolding halfWritten
-returns-2 c = rw (le-ltb _ _ (c .if1 .left))
-
 pub half-written-spec : {M : Type 1} → statement M
-half-written-spec = tie.close (tie.spec (λ c κs. search needs) (λ c κs. search needs) returns returns-2)
+unfolding halfWritten
+half-written-spec =
+    tie.close (tie.spec (λ c κs. search needs) (λ c κs. search needs) returns (λ c. rw (le-ltb _ _ (c .if1 .left))))

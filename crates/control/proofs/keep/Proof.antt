@@ -8,11 +8,8 @@ returns : tie.Need-returns
 unfolding returnedSpace
 returns c = rw (c .before .before .put .ensures, c .before .before .before .index2 .ensures .0, c .before .before .before .before .index .ensures .0, sym (c .before .before .before .before .before .before .before .half-written .ensures) ∙ c .before .before .before .before .before .before .if1 .taken)
 
-returns-2 : tie.Need-returns-2
-unfolding returnedSpace
-returns-2 c = rw (sym (c .before .half-written .ensures) ∙ c .if1 .left)
-
 pub keep-spec : {M : Type 1} → statement M
+unfolding returnedSpace
 keep-spec =
     tie.close
     (tie.spec
@@ -25,4 +22,4 @@ keep-spec =
     (λ c κs. search needs)
     (λ c. search needs)
     returns
-    returns-2)
+    (λ c. rw (sym (c .before .half-written .ensures) ∙ c .if1 .left)))

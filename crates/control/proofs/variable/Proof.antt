@@ -3,11 +3,8 @@ use borrow.Author.Needs.{needs}
 use Rattle.control.proofs.variable.Statement.{statement}
 use Rattle.control.proofs.variable.Tie as tie
 
-returns : tie.Need-returns
-unfolding variable
-returns c = rw (c .at .ensures, c .before .index2 .ensures .0, c .before .before .index .ensures .0)
-
 pub variable-spec : {M : Type 1} → statement M
+unfolding variable
 variable-spec =
     tie.close
     (tie.spec
@@ -17,4 +14,4 @@ variable-spec =
     (λ c κs. search needs)
     (λ c. search needs)
     (λ c κs. search needs)
-    returns)
+    (λ c. rw (c .at .ensures, c .before .index2 .ensures .0, c .before .before .index .ensures .0)))

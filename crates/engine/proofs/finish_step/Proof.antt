@@ -15,15 +15,8 @@ returns-3 : tie.Need-returns-3
 unfolding actStep
 returns-3 c = rw (c .before .before .before .before .before .a3 .given .1, c .before .before .join .ensures)
 
-returns-4 : tie.Need-returns-4
-unfolding actStep
-returns-4 c = rw (c .enum-told .given .1)
-
-returns-5 : tie.Need-returns-5
-unfolding actStep
-returns-5 c = rw (c .enum-told2 .given .1)
-
 pub finish-step-spec : {M : Type 1} → statement M
+unfolding actStep
 finish-step-spec =
     tie.close
     (tie.spec
@@ -42,5 +35,5 @@ finish-step-spec =
     returns-2
     (λ c. search needs)
     returns-3
-    returns-4
-    returns-5)
+    (λ c. rw (c .enum-told .given .1))
+    (λ c. rw (c .enum-told2 .given .1)))

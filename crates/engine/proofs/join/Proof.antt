@@ -15,11 +15,8 @@ returns c =
       c .before .before .before .before .proceed .ensures,
     )
 
-returns-2 : tie.Need-returns-2
-unfolding joinedStep joinedBy
-returns-2 c = rw (sym (c .before .before .lowest .ensures) ∙ c .enum-told .given .1)
-
 pub join-spec : {M : Type 1} → statement M
+unfolding joinedStep joinedBy
 join-spec =
     tie.close
     (tie.spec
@@ -32,4 +29,4 @@ join-spec =
     (λ c. search needs)
     (λ c. search needs)
     returns
-    returns-2)
+    (λ c. rw (sym (c .before .before .lowest .ensures) ∙ c .enum-told .given .1)))

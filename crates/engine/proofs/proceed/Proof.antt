@@ -7,11 +7,8 @@ returns : tie.Need-returns
 unfolding proceeded recorded
 returns c = rw (c .before .before .before .before .before .go-on .ensures, c .before .before .if1 .taken, c .finished .ensures, c .before .index .ensures .0)
 
-returns-2 : tie.Need-returns-2
-unfolding proceeded recorded
-returns-2 c = rw (c .before .before .before .go-on .ensures, c .if1 .left)
-
 pub proceed-spec : {M : Type 1} → statement M
+unfolding proceeded recorded
 proceed-spec =
     tie.close
     (tie.spec
@@ -21,4 +18,4 @@ proceed-spec =
     (λ c. search needs)
     returns
     (λ c. search needs)
-    returns-2)
+    (λ c. rw (c .before .before .before .go-on .ensures, c .if1 .left)))

@@ -4,10 +4,6 @@ use borrow.Author.Needs.{needs}
 use Rattle.engine.proofs.spawn.Statement.{statement}
 use Rattle.engine.proofs.spawn.Tie as tie
 
-returns : tie.Need-returns
-unfolding spawnedStep
-returns c = rw (le-leb _ _ (c .if1 .taken))
-
 returns-2 : tie.Need-returns-2
 unfolding spawnedStep givesZero movedTo
 returns-2 c =
@@ -27,10 +23,11 @@ same-length : tie.Need-same-length
 same-length c = search (needs, c .before .before .before .before .proceed2, c .before .before .before .before .before .before .before .before .before .proceed, c .before .before .before .before .before .before .before .before .before .before .before .before .before .before .before .copy)
 
 pub spawn-spec : {M : Type 1} → statement M
+unfolding spawnedStep
 spawn-spec =
     tie.close
     (tie.spec
-    returns
+    (λ c. rw (le-leb _ _ (c .if1 .taken)))
     (λ c. search needs)
     (λ c. search needs)
     (λ c. search needs)

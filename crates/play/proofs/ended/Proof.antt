@@ -3,12 +3,9 @@ use Rattle.machine.specs.Replay.{ended}
 use Rattle.play.proofs.ended.Statement.{statement}
 use Rattle.play.proofs.ended.Tie as tie
 
-returns : tie.Need-returns
-unfolding ended
-returns c = refl
-
 pub ended-spec : {M : Type 1} → statement M
+unfolding ended
 ended-spec =
     tie.close
     (tie.spec
-    returns)
+    (λ c. refl))

@@ -7,10 +7,6 @@ use borrow.Author.Needs.{needs}
 use Rattle.play.proofs.race_after.Statement.{statement}
 use Rattle.play.proofs.race_after.Tie as tie
 
-returns : tie.Need-returns
-unfolding raceAfter orRace
-returns c = search needs
-
 returns-2 : tie.Need-returns-2
 returns-2 c =
     let found = c .before .before in
@@ -22,6 +18,7 @@ returns-3 c =
     race-here _ _ _ _ _ _ _ (found .before .enum-told2 .given .1) (sym (found .lowest-pair .ensures) ∙ c .before .i .given .1)
 
 pub race-after-spec : {M : Type 1} → statement M
+unfolding raceAfter orRace
 race-after-spec =
     tie.close
     (tie.spec
@@ -30,6 +27,6 @@ race-after-spec =
     (λ c κs. search needs)
     (λ c. search needs)
     (λ c. search needs)
-    returns
+    (λ c. search needs)
     returns-2
     returns-3)

@@ -16,8 +16,6 @@ ran text trace r long ending report =
     let told : r ≡ replay _ text trace = λ i. record { ending = ending i; report = report i } in
     ap Ran (told ∙ ap (λ (room : ℕ). replay room text trace) (long ∙ space-counted))
 
-returns : tie.Need-returns
-returns c = ran _ _ _ (search needs) (c .replay .ensures .0) (c .replay .ensures .1 .0)
-
 pub replay-in-spec : {M : Type 1} → statement M
-replay-in-spec = tie.close (tie.spec (λ c κs. search needs) returns)
+replay-in-spec =
+    tie.close (tie.spec (λ c κs. search needs) (λ c. ran _ _ _ (search needs) (c .replay .ensures .0) (c .replay .ensures .1 .0)))

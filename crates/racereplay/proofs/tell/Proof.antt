@@ -5,9 +5,6 @@ use borrow.Author.Needs.{needs}
 use Rattle.racereplay.proofs.tell.Statement.{statement}
 use Rattle.racereplay.proofs.tell.Tie as tie
 
-slice-aggregate-write-all : tie.Need-slice-aggregate-write-all
-slice-aggregate-write-all c = sym (length-take-le _ _ (search needs))
-
 pub tell-spec : {M : Type 1} → statement M
 tell-spec =
     tie.close
@@ -15,6 +12,6 @@ tell-spec =
     (λ c. search needs)
     (λ c κs. search needs)
     (λ c. search needs)
-    slice-aggregate-write-all
+    (λ c. sym (length-take-le _ _ (search needs)))
     (λ c κs. search needs)
     (λ c. search needs))

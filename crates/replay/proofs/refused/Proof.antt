@@ -3,9 +3,6 @@ use Rattle.replay_theory.specs.Replay.{refused}
 use Rattle.replay.proofs.refused.Statement.{statement}
 use Rattle.replay.proofs.refused.Tie as tie
 
-returns : tie.Need-returns
-unfolding refused
-returns c = refl
-
 pub refused-spec : {M : Type 1} → statement M
-refused-spec = tie.close (tie.spec returns)
+unfolding refused
+refused-spec = tie.close (tie.spec (λ c. refl))

@@ -6,9 +6,6 @@ use borrow.Author.Needs.{needs}
 use Rattle.replay.proofs.replay_texts.Statement.{statement}
 use Rattle.replay.proofs.replay_texts.Tie as tie
 
-returns : tie.Need-returns
-returns c = c .refused .ensures ∙ long-program _ _ (c .before .if1 .taken)
-
 run-held-requires : tie.Need-run-held-requires
 unfolding replaySpace
 run-held-requires c κs =
@@ -40,7 +37,7 @@ replay-texts-spec =
     tie.close
     (tie.spec
     (λ c κs. search needs)
-    returns
+    (λ c. c .refused .ensures ∙ long-program _ _ (c .before .if1 .taken))
     (λ c κs. search needs)
     (λ c. search needs)
     (λ c κs. search needs)

@@ -3,9 +3,6 @@ use Rattle.replay_theory.specs.Replay.{lineNumbers}
 use Rattle.replay_numbers.proofs.line_numbers.Statement.{statement}
 use Rattle.replay_numbers.proofs.line_numbers.Tie as tie
 
-returns : tie.Need-returns
-unfolding lineNumbers
-returns c = refl
-
 pub line-numbers-spec : {M : Type 1} → statement M
-line-numbers-spec = tie.close (tie.spec returns)
+unfolding lineNumbers
+line-numbers-spec = tie.close (tie.spec (λ c. refl))

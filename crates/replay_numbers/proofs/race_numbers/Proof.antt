@@ -3,11 +3,11 @@ use borrow.Author.Needs.{needs}
 use Rattle.replay_numbers.proofs.race_numbers.Statement.{statement}
 use Rattle.replay_numbers.proofs.race_numbers.Tie as tie
 
-returns : tie.Need-returns
-returns c = no-race-told _ (c .enum-told .given .1)
-
-returns-2 : tie.Need-returns-2
-returns-2 c = race-told _ _ _ _ (c .before .race .given .1)
-
 pub race-numbers-spec : {M : Type 1} → statement M
-race-numbers-spec = tie.close (tie.spec (λ c. search needs) (λ c. search needs) returns returns-2)
+race-numbers-spec =
+    tie.close
+    (tie.spec
+    (λ c. search needs)
+    (λ c. search needs)
+    (λ c. no-race-told _ (c .enum-told .given .1))
+    (λ c. race-told _ _ _ _ (c .before .race .given .1)))

@@ -3,8 +3,10 @@ use borrow.Author.Needs.{needs}
 use Rattle.replay_numbers.proofs.sheet_numbers.Statement.{statement}
 use Rattle.replay_numbers.proofs.sheet_numbers.Tie as tie
 
-returns : tie.Need-returns
-returns c = sheet-told _ _ _ (c .before .numbers-of .ensures) (c .index .ensures .0)
-
 pub sheet-numbers-spec : {M : Type 1} → statement M
-sheet-numbers-spec = tie.close (tie.spec (λ c κs. search needs) (λ c κs. search needs) returns)
+sheet-numbers-spec =
+    tie.close
+    (tie.spec
+    (λ c κs. search needs)
+    (λ c κs. search needs)
+    (λ c. sheet-told _ _ _ (c .before .numbers-of .ensures) (c .index .ensures .0)))

@@ -3,17 +3,11 @@ use borrow.Author.Tests.{eq-eqb, ne-eqb}
 use Rattle.things.proofs.locked.Statement.{statement}
 use Rattle.things.proofs.locked.Tie as tie
 
-returns : tie.Need-returns
-unfolding lockedOf
-returns c = rw (eq-eqb _ _ (c .if2 .taken), eq-eqb _ _ (c .before .before .if1 .taken))
-
-returns-2 : tie.Need-returns-2
-unfolding lockedOf
-returns-2 c = rw (ne-eqb _ _ (c .if2 .left), eq-eqb _ _ (c .before .before .if1 .taken))
-
-returns-3 : tie.Need-returns-3
-unfolding lockedOf
-returns-3 c = rw (ne-eqb _ _ (c .if1 .left))
-
 pub locked-spec : {M : Type 1} → statement M
-locked-spec = tie.close (tie.spec returns returns-2 returns-3)
+unfolding lockedOf
+locked-spec =
+    tie.close
+    (tie.spec
+    (λ c. rw (eq-eqb _ _ (c .if2 .taken), eq-eqb _ _ (c .before .before .if1 .taken)))
+    (λ c. rw (ne-eqb _ _ (c .if2 .left), eq-eqb _ _ (c .before .before .if1 .taken)))
+    (λ c. rw (ne-eqb _ _ (c .if1 .left))))

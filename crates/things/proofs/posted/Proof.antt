@@ -4,10 +4,6 @@ use borrow.Author.Needs.{needs}
 use Rattle.things.proofs.posted.Statement.{statement}
 use Rattle.things.proofs.posted.Tie as tie
 
-returns : tie.Need-returns
-unfolding postedOf
-returns c = rw (lt-ltb _ _ (c .if2 .taken), eq-eqb _ _ (c .before .if1 .taken))
-
 returns-2 : tie.Need-returns-2
 unfolding postedOf
 returns-2 c = rw (lt-ltb _ _ (c .if3 .taken), le-ltb _ _ (c .before .if2 .left), eq-eqb _ _ (c .before .before .if1 .taken))
@@ -16,9 +12,14 @@ returns-3 : tie.Need-returns-3
 unfolding postedOf
 returns-3 c = rw (le-ltb _ _ (c .if3 .left), le-ltb _ _ (c .before .if2 .left), eq-eqb _ _ (c .before .before .if1 .taken))
 
-returns-4 : tie.Need-returns-4
-unfolding postedOf
-returns-4 c = rw (ne-eqb _ _ (c .if1 .left))
-
 pub posted-spec : {M : Type 1} → statement M
-posted-spec = tie.close (tie.spec (λ c. search needs) returns (λ c. search needs) returns-2 returns-3 returns-4)
+unfolding postedOf
+posted-spec =
+    tie.close
+    (tie.spec
+    (λ c. search needs)
+    (λ c. rw (lt-ltb _ _ (c .if2 .taken), eq-eqb _ _ (c .before .if1 .taken)))
+    (λ c. search needs)
+    returns-2
+    returns-3
+    (λ c. rw (ne-eqb _ _ (c .if1 .left))))

@@ -4,17 +4,12 @@ use borrow.Author.Needs.{needs}
 use Rattle.things.proofs.rdunlocked.Statement.{statement}
 use Rattle.things.proofs.rdunlocked.Tie as tie
 
-returns : tie.Need-returns
-unfolding rdunlockedOf
-returns c = rw (lt-ltb _ _ (c .if2 .taken), eq-eqb _ _ (c .before .if1 .taken))
-
-returns-2 : tie.Need-returns-2
-unfolding rdunlockedOf
-returns-2 c = rw (le-ltb _ _ (c .if2 .left), eq-eqb _ _ (c .before .if1 .taken))
-
-returns-3 : tie.Need-returns-3
-unfolding rdunlockedOf
-returns-3 c = rw (ne-eqb _ _ (c .if1 .left))
-
 pub rdunlocked-spec : {M : Type 1} → statement M
-rdunlocked-spec = tie.close (tie.spec (λ c. search needs) returns returns-2 returns-3)
+unfolding rdunlockedOf
+rdunlocked-spec =
+    tie.close
+    (tie.spec
+    (λ c. search needs)
+    (λ c. rw (lt-ltb _ _ (c .if2 .taken), eq-eqb _ _ (c .before .if1 .taken)))
+    (λ c. rw (le-ltb _ _ (c .if2 .left), eq-eqb _ _ (c .before .if1 .taken)))
+    (λ c. rw (ne-eqb _ _ (c .if1 .left))))

@@ -4,12 +4,6 @@ use borrow.Author.Needs.{needs}
 use Rattle.trace.proofs.line_at.Statement.{statement}
 use Rattle.trace.proofs.line_at.Tie as tie
 
-number-before-requires : tie.Need-number-before-requires
-number-before-requires c κs = search needs
-
-enum-known-thread : tie.Need-enum-known-thread
-enum-known-thread c = search needs
-
 choice-at-requires : tie.Need-choice-at-requires
 choice-at-requires c κs =
     let read = c .before .before .before in
@@ -31,8 +25,8 @@ pub line-at-spec : {M : Type 1} → statement M
 line-at-spec =
     tie.close
     (tie.spec
-    number-before-requires
-    enum-known-thread
+    (λ c κs. search needs)
+    (λ c. search needs)
     choice-at-requires
     enum-told
     returns

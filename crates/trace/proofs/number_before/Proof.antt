@@ -4,40 +4,13 @@ use borrow.Author.Needs.{needs}
 use Rattle.trace.proofs.number_before.Statement.{statement}
 use Rattle.trace.proofs.number_before.Tie as tie
 
-field-end-requires : tie.Need-field-end-requires
-field-end-requires c κs = search needs
-
 returns : tie.Need-returns
 returns c = not-closed _ _ _ _ (c .before .before .before .pre) (c .before .field-end .ensures) (c .if1 .taken)
-
-shared-slice-read-if2 : tie.Need-shared-slice-read-if2
-shared-slice-read-if2 c = search needs
 
 returns-2 : tie.Need-returns-2
 returns-2 c =
     let end = c .before .before .before in
     other-byte _ _ _ _ (end .before .before .pre) (end .field-end .ensures) (c .before .before .if1 .left) (c .if2 .taken)
-
-sub-numeral-of : tie.Need-sub-numeral-of
-sub-numeral-of c = search needs
-
-part-numeral-of-start : tie.Need-part-numeral-of-start
-part-numeral-of-start c = search needs
-
-part-numeral-of-end : tie.Need-part-numeral-of-end
-part-numeral-of-end c = search needs
-
-numeral-of-requires : tie.Need-numeral-of-requires
-numeral-of-requires c κs = search needs
-
-enum-known-found : tie.Need-enum-known-found
-enum-known-found c = search needs
-
-narrow-requires : tie.Need-narrow-requires
-narrow-requires c κs = search needs
-
-add-t16 : tie.Need-add-t16
-add-t16 c = search needs
 
 enum-told : tie.Need-enum-told
 enum-told c = search needs
@@ -63,17 +36,17 @@ pub number-before-spec : {M : Type 1} → statement M
 number-before-spec =
     tie.close
     (tie.spec
-    field-end-requires
+    (λ c κs. search needs)
     returns
-    shared-slice-read-if2
+    (λ c. search needs)
     returns-2
-    sub-numeral-of
-    part-numeral-of-start
-    part-numeral-of-end
-    numeral-of-requires
-    enum-known-found
-    narrow-requires
-    add-t16
+    (λ c. search needs)
+    (λ c. search needs)
+    (λ c. search needs)
+    (λ c κs. search needs)
+    (λ c. search needs)
+    (λ c κs. search needs)
+    (λ c. search needs)
     enum-told
     returns-3
     returns-4)

@@ -3,9 +3,13 @@ use borrow.Author.Needs.{needs}
 use Rattle.control.proofs.continuations.join.Statement.{statement}
 use Rattle.control.proofs.continuations.join.Tie as tie
 
-returns : tie.Need-returns
-unfolding joined
-returns c = rw (c .before .before .put .ensures, c .before .before .before .index .ensures .0)
-
 pub join-spec : {M : Type 1} → statement M
-join-spec = tie.close (tie.spec (λ c κs. search needs) (λ c. search needs) (λ c κs. search needs) (λ c. search needs) returns)
+unfolding joined
+join-spec =
+    tie.close
+    (tie.spec
+    (λ c κs. search needs)
+    (λ c. search needs)
+    (λ c κs. search needs)
+    (λ c. search needs)
+    (λ c. rw (c .before .before .put .ensures, c .before .before .before .index .ensures .0)))

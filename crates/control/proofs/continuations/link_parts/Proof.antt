@@ -3,18 +3,6 @@ use borrow.Author.Needs.{needs}
 use Rattle.control.proofs.continuations.link_parts.Statement.{statement}
 use Rattle.control.proofs.continuations.link_parts.Tie as tie
 
-returns : tie.Need-returns
-unfolding linkedParts
-returns c = rw (c .enum-told .given .1)
-
-returns-2 : tie.Need-returns-2
-unfolding linkedParts
-returns-2 c = rw (c .enum-told2 .given .1)
-
-returns-3 : tie.Need-returns-3
-unfolding linkedParts
-returns-3 c = rw (c .enum-told3 .given .1)
-
 returns-4 : tie.Need-returns-4
 unfolding linkedParts
 returns-4 c = rw (c .before .before .join .ensures, c .before .before .before .before .enum-told4 .given .1)
@@ -44,6 +32,7 @@ unfolding linkedParts
 returns-10 c = rw (c .before .before .join11 .ensures, c .before .before .before .before .before .before .join10 .ensures, c .before .before .before .before .before .before .before .before .enum-told10 .given .1)
 
 pub link-parts-spec : {M : Type 1} → statement M
+unfolding linkedParts
 link-parts-spec =
     tie.close
     (tie.spec
@@ -76,9 +65,9 @@ link-parts-spec =
     (λ c κs. search needs)
     (λ c. search needs)
     (λ c κs. search needs)
-    returns
-    returns-2
-    returns-3
+    (λ c. rw (c .enum-told .given .1))
+    (λ c. rw (c .enum-told2 .given .1))
+    (λ c. rw (c .enum-told3 .given .1))
     (λ c. search needs)
     returns-4
     (λ c. search needs)

@@ -30,11 +30,8 @@ returns-2 c =
       ne-eqb _ _ (c .if2 .left),
     )
 
-returns-3 : tie.Need-returns-3
-unfolding accessOf accessAt
-returns-3 c = rw (← (c .before .before .focus-at .ensures), ne-eqb _ _ (c .if1 .left))
-
 pub access-of-spec : {M : Type 1} → statement M
+unfolding accessOf accessAt
 access-of-spec =
     tie.close
     (tie.spec
@@ -48,4 +45,4 @@ access-of-spec =
     (λ c κs. search needs)
     returns
     returns-2
-    returns-3)
+    (λ c. rw (← (c .before .before .focus-at .ensures), ne-eqb _ _ (c .if1 .left))))

@@ -8,19 +8,12 @@ returns : tie.Need-returns
 unfolding clash
 returns c = rw (c .before .before .before .a2 .given .1, sym (c .before .writes2 .ensures) ∙ c .if1 .taken)
 
-returns-2 : tie.Need-returns-2
-unfolding clash
-returns-2 c = rw (c .enum-told .given .1)
-
-returns-3 : tie.Need-returns-3
-unfolding clash
-returns-3 c = rw (c .before .before .a .given .1, c .writes .ensures)
-
 returns-4 : tie.Need-returns-4
 unfolding clash
 returns-4 c = rw (c .before .before .before .before .a2 .given .1, sym (c .before .before .writes2 .ensures) ∙ c .before .if1 .left, c .reads .ensures)
 
 pub clash-spec : {M : Type 1} → statement M
+unfolding clash
 clash-spec =
     tie.close
     (tie.spec
@@ -31,6 +24,6 @@ clash-spec =
     (λ c κs. search needs)
     returns
     (λ c κs. search needs)
-    returns-2
-    returns-3
+    (λ c. rw (c .enum-told .given .1))
+    (λ c. rw (c .before .before .a .given .1, c .writes .ensures))
     returns-4)

@@ -8,11 +8,8 @@ returns : tie.Need-returns
 unfolding slotAt
 returns c = rw (c .at3 .ensures, c .before .at2 .ensures, c .before .before .at .ensures, c .before .before .before .index .ensures .0, lt-ltb _ _ (c .before .before .before .before .if1 .taken))
 
-returns-2 : tie.Need-returns-2
-unfolding slotAt
-returns-2 c = rw (le-ltb _ _ (c .if1 .left))
-
 pub slot-at-spec : {M : Type 1} → statement M
+unfolding slotAt
 slot-at-spec =
     tie.close
     (tie.spec
@@ -24,4 +21,4 @@ slot-at-spec =
     (λ c. search needs)
     (λ c κs. search needs)
     returns
-    returns-2)
+    (λ c. rw (le-ltb _ _ (c .if1 .left))))

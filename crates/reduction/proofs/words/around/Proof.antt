@@ -4,14 +4,6 @@ use borrow.Author.Needs.{needs}
 use Rattle.reduction.proofs.words.around.Statement.{statement}
 use Rattle.reduction.proofs.words.around.Tie as tie
 
-returns : tie.Need-returns
-unfolding looped
-returns c = rw (eq-eqb _ _ (c .if1 .taken))
-
-returns-2 : tie.Need-returns-2
-unfolding looped
-returns-2 c = rw (eq-eqb _ _ (c .if2 .taken), ne-eqb _ _ (c .before .if1 .left))
-
 returns-3 : tie.Need-returns-3
 unfolding looped
 returns-3 c = rw (c .behind .ensures, eq-eqb _ _ (c .before .if3 .taken), ne-eqb _ _ (c .before .before .if2 .left), ne-eqb _ _ (c .before .before .before .if1 .left))
@@ -21,4 +13,13 @@ unfolding looped
 returns-4 c = rw (c .gives .ensures, ne-eqb _ _ (c .before .if3 .left), ne-eqb _ _ (c .before .before .if2 .left), ne-eqb _ _ (c .before .before .before .if1 .left))
 
 pub around-spec : {M : Type 1} → statement M
-around-spec = tie.close (tie.spec returns returns-2 (λ c κs. search needs) returns-3 (λ c κs. search needs) returns-4)
+unfolding looped
+around-spec =
+    tie.close
+    (tie.spec
+    (λ c. rw (eq-eqb _ _ (c .if1 .taken)))
+    (λ c. rw (eq-eqb _ _ (c .if2 .taken), ne-eqb _ _ (c .before .if1 .left)))
+    (λ c κs. search needs)
+    returns-3
+    (λ c κs. search needs)
+    returns-4)

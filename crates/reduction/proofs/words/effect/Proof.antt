@@ -3,10 +3,6 @@ use borrow.Author.Needs.{needs}
 use Rattle.reduction.proofs.words.effect.Statement.{statement}
 use Rattle.reduction.proofs.words.effect.Tie as tie
 
-returns : tie.Need-returns
-unfolding effected
-returns c = rw (c .gives .ensures, c .before .before .u .given .1)
-
 returns-2 : tie.Need-returns-2
 unfolding effected
 returns-2 c = rw (c .gives2 .ensures, c .before .before .before .put-slot .ensures, c .before .before .before .before .before .before .u2 .given .1)
@@ -15,19 +11,8 @@ returns-3 : tie.Need-returns-3
 unfolding effected
 returns-3 c = rw (← c .before .before .make .ensures, c .before .before .before .before .before .u3 .given .1)
 
-returns-4 : tie.Need-returns-4
-unfolding effected
-returns-4 c = rw (c .enum-told .given .1)
-
-returns-5 : tie.Need-returns-5
-unfolding effected
-returns-5 c = rw (c .enum-told2 .given .1)
-
-returns-6 : tie.Need-returns-6
-unfolding effected
-returns-6 c = rw (c .enum-told3 .given .1)
-
 pub effect-spec : {M : Type 1} → statement M
+unfolding effected
 effect-spec =
     tie.close
     (tie.spec
@@ -41,11 +26,11 @@ effect-spec =
     (λ c. search needs)
     (λ c. search needs)
     (λ c. search needs)
-    returns
+    (λ c. rw (c .gives .ensures, c .before .before .u .given .1))
     (λ c. search needs)
     returns-2
     (λ c. search needs)
     returns-3
-    returns-4
-    returns-5
-    returns-6)
+    (λ c. rw (c .enum-told .given .1))
+    (λ c. rw (c .enum-told2 .given .1))
+    (λ c. rw (c .enum-told3 .given .1)))

@@ -4,9 +4,12 @@ use borrow.Author.Needs.{needs}
 use Rattle.reduction.proofs.words.gives.Statement.{statement}
 use Rattle.reduction.proofs.words.gives.Tie as tie
 
-returns : tie.Need-returns
-unfolding given continuation
-returns c = rw (c .at .ensures, c .before .index .ensures .0)
-
 pub gives-spec : {M : Type 1} → statement M
-gives-spec = tie.close (tie.spec (λ c κs. search needs) (λ c. search needs) (λ c κs. search needs) returns)
+unfolding given continuation
+gives-spec =
+    tie.close
+    (tie.spec
+    (λ c κs. search needs)
+    (λ c. search needs)
+    (λ c κs. search needs)
+    (λ c. rw (c .at .ensures, c .before .index .ensures .0)))

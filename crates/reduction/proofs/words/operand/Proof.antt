@@ -4,13 +4,13 @@ use borrow.Author.Needs.{needs}
 use Rattle.reduction.proofs.words.operand.Statement.{statement}
 use Rattle.reduction.proofs.words.operand.Tie as tie
 
-returns : tie.Need-returns
-unfolding operand
-returns c = rw (c .at .ensures, c .before .index .ensures .0, eq-eqb _ _ (c .before .before .if1 .taken))
-
-returns-2 : tie.Need-returns-2
-unfolding operand
-returns-2 c = rw (ne-eqb _ _ (c .if1 .left))
-
 pub operand-spec : {M : Type 1} → statement M
-operand-spec = tie.close (tie.spec (λ c κs. search needs) (λ c. search needs) (λ c κs. search needs) returns returns-2)
+unfolding operand
+operand-spec =
+    tie.close
+    (tie.spec
+    (λ c κs. search needs)
+    (λ c. search needs)
+    (λ c κs. search needs)
+    (λ c. rw (c .at .ensures, c .before .index .ensures .0, eq-eqb _ _ (c .before .before .if1 .taken)))
+    (λ c. rw (ne-eqb _ _ (c .if1 .left))))

@@ -4,14 +4,6 @@ use borrow.Author.Needs.{needs}
 use Rattle.reduction.proofs.words.reduce.Statement.{statement}
 use Rattle.reduction.proofs.words.reduce.Tie as tie
 
-returns : tie.Need-returns
-unfolding acted actedBy
-returns c = rw (sym (c .before .before .shape-at .ensures) ∙ c .enum-told .given .1)
-
-returns-2 : tie.Need-returns-2
-unfolding acted actedBy
-returns-2 c = rw (sym (c .before .before .shape-at .ensures) ∙ c .enum-told2 .given .1)
-
 returns-3 : tie.Need-returns-3
 unfolding acted actedBy
 returns-3 c = rw (← c .before .before .use-word .ensures, sym (c .before .before .before .before .before .before .shape-at .ensures) ∙ c .before .before .before .before .enum-told3 .given .1)
@@ -45,6 +37,7 @@ unfolding acted actedBy
 returns-10 c = rw (← c .before .before .use-word4 .ensures, sym (c .before .before .before .before .before .before .shape-at .ensures) ∙ c .before .before .before .before .enum-told10 .given .1)
 
 pub reduce-spec : {M : Type 1} → statement M
+unfolding acted actedBy
 reduce-spec =
     tie.close
     (tie.spec
@@ -67,8 +60,8 @@ reduce-spec =
     (λ c κs. search needs)
     (λ c. search needs)
     (λ c κs. search needs)
-    returns
-    returns-2
+    (λ c. rw (sym (c .before .before .shape-at .ensures) ∙ c .enum-told .given .1))
+    (λ c. rw (sym (c .before .before .shape-at .ensures) ∙ c .enum-told2 .given .1))
     (λ c. search needs)
     returns-3
     returns-4

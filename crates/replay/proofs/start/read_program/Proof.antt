@@ -9,10 +9,6 @@ use borrow.Author.Needs.{needs}
 use Rattle.replay.proofs.start.read_program.Statement.{statement}
 use Rattle.replay.proofs.start.read_program.Tie as tie
 
-slice-relend-prefix-read : tie.Need-slice-relend-prefix-read
-unfolding replaySpace
-slice-relend-prefix-read c = let l = c .before .before .pre .0 in omega (arith, l)
-
 slice-aggregate-read : tie.Need-slice-aggregate-read
 unfolding replaySpace
 slice-aggregate-read c =
@@ -36,4 +32,12 @@ returns c =
     sheet-in workSize (omega arith) _ (start .args .space .now) (at-read .read .last .1 .0) _ (omega (arith, l)) (at-read .read .ensures)
 
 pub read-program-spec : {M : Type 1} → statement M
-read-program-spec = tie.close (tie.spec slice-relend-prefix-read slice-aggregate-read read-requires (λ c. search needs) returns)
+unfolding replaySpace
+read-program-spec =
+    tie.close
+    (tie.spec
+    (λ c. let l = c .before .before .pre .0 in omega (arith, l))
+    slice-aggregate-read
+    read-requires
+    (λ c. search needs)
+    returns)

@@ -3,9 +3,6 @@ use borrow.Author.Needs.{needs}
 use Rattle.threads.proofs.Threads.joined.Statement.{statement}
 use Rattle.threads.proofs.Threads.joined.Tie as tie
 
-returns : tie.Need-returns
-unfolding joined
-returns c = c .turned .ensures
-
 pub joined-spec : {M : Type 1} → statement M
-joined-spec = tie.close (tie.spec (λ c κs. search needs) returns)
+unfolding joined
+joined-spec = tie.close (tie.spec (λ c κs. search needs) (λ c. c .turned .ensures))
