@@ -7,14 +7,23 @@ use Prim.Native.String.{String, _++_ as _++ˢ_}
 use Rattle.spec.specs.Reading.{Out, on, _>>=_}
 use Rattle.spec.specs.Program.{program}
 use Rattle.spec.specs.Split.{Map, split, splitLimit}
+use Rattle.spec.specs.Sites.{isType, only}
 use Rattle.spec.specs.Workspace.{workspaceSize}
-use Rattle.spec.specs.Verdict.{four}
-use Rattle.spec.specs.Pairs.KnownPairs.{Pair, barred, _with_is_, P}
+use Rattle.spec.specs.Verdict.{four, typed}
+use Rattle.spec.specs.Pairs.KnownPairs.{Pair, barred, _with_is_, found, P}
 use Rattle.spec.specs.Pairs.EdgeSheets.{times}
 use Rattle.spec.specs.declared.Purpose.the-variants.{Fill}
 use Rattle.spec.specs.declared.Returned.{Returned}
-use Rattle.fill_theory.specs.GreatestMaps.{greatestMaps}
-use Rattle.fill_theory.specs.Answer.{fill, returnedFor}
+use Rattle.written.specs.Text.{digit, digitsWithin, decimal, line, text}
+use Rattle.written.specs.Sheet.{headingName, headerNumbers, headerFields, outNumber, typeFields, mapFields, signatureFields, postShown, startShown, rowFields, splitLines, written}
+use Rattle.fill_theory.specs.Filled.{withPosts, filled}
+use Rattle.fill_theory.specs.AfterMaps.{typeClaims}
+use Rattle.fill_theory.specs.Found as option
+use Rattle.fill_theory.specs.Flow.{unchanged, taking, giving, needing, lending}
+use Rattle.fill_theory.specs.Pass.{turn, forth, back, ownPost, weight, ceiling, reach, pass, greatestPosts, postsOfRoots}
+use Rattle.fill_theory.specs.FlowOf.{asks, loadHere, inHere, outHere, readHere, writeHere, startHere, keptHere, beforeHere, afterHere, accessHere, flowOf, rootsFrom, rootsOf}
+use Rattle.fill_theory.specs.GreatestMaps.{postsAt, mapOfStep, mapsOfSteps, greatestMaps}
+use Rattle.fill_theory.specs.Answer.{givenLimit, numberLimit, mapAtMost, allAtMost, foundOr, filledText, fill, returnedFor}
 
 -- ------------------------------------------------------------------ greatest after-maps
 
@@ -29,6 +38,7 @@ p with s has ms = record { program = p; split = s; maps = ms }
 
 -- what the definitions give a pair
 unfoldable pub mapsFound : Example → Out (Option (List Map))
+unfolding found option._>>=_ option.demand option.forEach unchanged taking giving needing lending turn forth back ownPost weight ceiling reach pass greatestPosts postsOfRoots asks loadHere inHere outHere readHere writeHere startHere keptHere beforeHere afterHere accessHere flowOf rootsFrom rootsOf postsAt mapOfStep mapsOfSteps greatestMaps
 mapsFound r = program (barred (r .program)) >>= λ p. split Fill p (barred (r .split)) >>= λ s. on (greatestMaps p s)
 
 -- maps of one location
@@ -109,6 +119,7 @@ AllFound rows = map mapsFound rows ≡ map (λ (r : Example). on (r .maps)) rows
 
 -- the answer to a pair with a buffer of so many bytes
 unfoldable pub answered : (buffer : ℕ) → Pair → Returned
+unfolding mapsFound isType only typed withPosts filled typeClaims givenLimit numberLimit mapAtMost allAtMost foundOr filledText fill returnedFor digit digitsWithin decimal line text headingName headerNumbers headerFields outNumber typeFields mapFields signatureFields postShown startShown rowFields splitLines written
 answered buffer r = returnedFor (fill workspaceSize buffer (barred (r .program)) (barred (r .split)))
 
 unfoldable pub AllAnswered : (buffer : ℕ) → List Pair → Type 0
@@ -166,6 +177,7 @@ p with s becomes t = record { program = p; given = s; whole = t }
 
 -- what is written for a pair
 unfoldable pub wholeOf : Filling → Out (List ℕ)
+unfolding answered
 wholeOf r = fill workspaceSize splitLimit (barred (r .program)) (barred (r .given))
 
 unfoldable pub AllWritten : List Filling → Type 0

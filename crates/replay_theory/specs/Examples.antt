@@ -4,14 +4,19 @@ use Prim.Native.String.{String, _++_}
 use mathlib.Core.Path.{_≡_}
 use mathlib.Core.List.{List, [], _∷_, map}
 use mathlib.Core.Option.{Option}
+use native.Mathlib.Decide.{ℕ-discrete, decLt}
 use Rattle.spec.specs.Text.{Line, lines}
 use Rattle.spec.specs.Reading.{Out, stop, on}
 use Rattle.spec.specs.Program.{Program}
-use Rattle.spec.specs.Pairs.KnownPairs.{barred, P}
+use Rattle.spec.specs.Pairs.KnownPairs.{barred, found, P}
 use Rattle.spec.specs.Pairs.EdgeSheets.{times}
-use Rattle.soundness.specs.Erasure.{eraseProgram}
-use Rattle.replay_theory.specs.Run.{Run, startRun, recordOf}
-use Rattle.replay_theory.specs.Replay.{way, replaySpace, judged, replay, lineNumbers, returnedFor}
+use Rattle.calculus.specs.Reduction.{reduce, startState}
+use Rattle.soundness.specs.Erasure.{eraseProgram, erase}
+use Rattle.replay_theory.specs.Run.{Run, startRun, recordOf, placeOf, hasFinished, recordFor, partOfIf, noChoice, partChosen, lowestFinished, finishedFor, ofUnary, nameIn, moveOf, taken, isOpen, openIn, openCalls, unaryEffect, kindMade, effect, numbersAfter, threadsAfter, callsAfter, oneMore, thingsAfter, nextAfter, after, stepped, threadLimit, thingLimit, withinLimits, callLimit, callsWithin, within}
+use Rattle.replay_theory.specs.Replay.{onLine, way, replaySpace, judged, replay, lineNumbers, returnedFor, limited, goesOn, raceOr, firstRace, reported, refused, played, sheetNumbers}
+use Rattle.replay_theory.specs.Trace.{twoNumbers, spelled, traceLine}
+use Rattle.replay_theory.specs.Paths.{once, nextPath, onlyPart, partOf, partAt}
+use Rattle.replay_theory.specs.LowestPair.{unaryReads, reads, writes, ifCell, usesOf, sameCell, clash, usesIn, clashing, pairOr, lowestAmong, lowestPair}
 use Rattle.replay_theory.specs.declared.Status.{Status}
 use Rattle.replay_theory.specs.declared.FirstRace.{FirstRace}
 use Rattle.replay_theory.specs.declared.FirstRace.the-variants.{None, Found}
@@ -35,6 +40,7 @@ numbersAndReport a = (returnedFor (a .ending), a .report)
 
 -- they give each row of a table its answer and its report
 unfoldable pub Replays : List Recorded → Type 0
+unfolding found ℕ-discrete decLt reduce startState erase twoNumbers spelled traceLine once nextPath onlyPart partOf partAt startRun placeOf hasFinished partOfIf noChoice partChosen lowestFinished finishedFor ofUnary nameIn moveOf taken isOpen openIn openCalls unaryEffect kindMade effect numbersAfter threadsAfter callsAfter oneMore thingsAfter nextAfter after stepped threadLimit thingLimit withinLimits callLimit callsWithin within unaryReads reads writes ifCell usesOf sameCell clash usesIn clashing pairOr lowestAmong lowestPair limited onLine goesOn way raceOr firstRace reported refused replaySpace judged played replay sheetNumbers lineNumbers returnedFor recordFor recordOf numbersAndReport
 Replays rows =
     map (λ (r : Recorded). numbersAndReport (replay replaySpace (barred (r .program)) (barred (r .trace)))) rows
     ≡ map (λ (r : Recorded). r .expected) rows
@@ -255,6 +261,7 @@ lastRecords (r ∷ []) = map (recordOf r) (0 ∷ 1 ∷ 2 ∷ 3 ∷ [])
 lastRecords (r ∷ r′ ∷ rs) = lastRecords (r′ ∷ rs)
 
 unfoldable pub recordsAlong : (program trace : String) → List (Option Status)
+unfolding Replays stepsFrom lastRecords
 recordsAlong p t = lastRecords (stepsFrom (judged replaySpace (barred p)) (lines (barred t)))
 
 -- before the join and after it

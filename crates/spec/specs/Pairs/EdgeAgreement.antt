@@ -81,4 +81,5 @@ deepRefsAgree =
 
 -- all of them
 unfoldable pub agreementEdges : List Pair
+unfolding afresh intsAgree tidsAgree locksAgree refsAgree deepRefsAgree
 agreementEdges = intsAgree ++ₗ tidsAgree ++ₗ locksAgree ++ₗ refsAgree ++ₗ deepRefsAgree

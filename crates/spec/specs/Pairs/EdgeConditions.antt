@@ -173,6 +173,7 @@ fullRows =
 
 -- all of them
 unfoldable pub conditionEdges : List Pair
+unfolding rows startRows varRows intRows letRows ifRows whileRows newtidRows spawnRows joinRows refRows readRows writeRows postRows newlockRows lockRows unlockRows fullRows
 conditionEdges =
     startRows
     ++ₗ varRows

@@ -37,4 +37,5 @@ freelockAmongLines =
     []
 
 unfoldable pub freelockEdges : List Pair
+unfolding freelockLines freelockAmongLines
 freelockEdges = freelockLines ++ freelockAmongLines

@@ -111,4 +111,5 @@ takesLessRows =
     []
 
 unfoldable pub lockEdges : List Pair
+unfolding unlike unlikeLast shownRows unlikeElsewhere meetingRows inOutRows lockLines takesLessRows
 lockEdges = shownRows ++ₗ unlikeElsewhere ++ₗ meetingRows ++ₗ inOutRows ++ₗ lockLines ++ₗ takesLessRows

@@ -75,4 +75,5 @@ bodyNumbers =
 
 -- all of them
 unfoldable pub numberEdges : List Pair
+unfolding parted largestRows past inProgram inSplit programNumbers headerNumbers typeNumbers bodyNumbers
 numberEdges = largestRows ++ₗ programNumbers ++ₗ headerNumbers ++ₗ typeNumbers ++ₗ bodyNumbers

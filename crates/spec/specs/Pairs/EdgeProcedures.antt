@@ -3,8 +3,9 @@
 use mathlib.Core.List.{List, [], _∷_, _++_ as _++ₗ_}
 use Prim.Native.String.{String, _++_}
 use Rattle.spec.specs.Reading.{_>>=_}
+use Rattle.spec.specs.Sites.{isType, only}
 use Rattle.spec.specs.Verdict.{four, returned, answer, sheets, startAtMostOne, typed}
-use Rattle.spec.specs.Pairs.KnownPairs.{Pair, barred, _with_is_, Z}
+use Rattle.spec.specs.Pairs.KnownPairs.{Pair, barred, _with_is_, found, Z}
 use Rattle.spec.specs.Pairs.EdgeSheets.{times}
 use Rattle.spec.specs.declared.Returned.{Returned}
 use Rattle.spec.specs.declared.Purpose.the-variants.{Fill}
@@ -281,6 +282,7 @@ looserRows =
 
 -- what filling gets of both sheets, 30 and 31; the sheets of callFills leave m empty
 unfoldable pub foundToFill : Pair → Returned
+unfolding found typed isType only
 foundToFill r = returned (answer (sheets Fill (barred (r .program)) (barred (r .split)) >>= λ (P, S). startAtMostOne P S >>= λ whole. typed P S))
 
 -- signatures and a call's s as in checking; an m that is a numeral is 22, before 50
@@ -302,6 +304,7 @@ callFills =
 
 -- all of the others
 unfoldable pub procedureEdges : List Pair
+unfolding procedureHeaders procedureLines procedureCounts procedureOrder procedureScopes under signed calling signatureLines keptRows callRows procRows rootRows parameterRows severalRows fifteen manyRows lent looserRows
 procedureEdges =
     procedureHeaders ++ₗ procedureLines ++ₗ procedureCounts ++ₗ procedureOrder ++ₗ procedureScopes ++ₗ signatureLines ++ₗ keptRows
     ++ₗ callRows ++ₗ procRows ++ₗ rootRows ++ₗ parameterRows ++ₗ severalRows ++ₗ manyRows ++ₗ looserRows

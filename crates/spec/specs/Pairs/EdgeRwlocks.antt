@@ -115,4 +115,5 @@ rwlocksAgree =
     []
 
 unfoldable pub rwlockEdges : List Pair
+unfolding booked rwlockWords rwlockLines newrwlockRows takingRows givingRows books rwlocksAgree
 rwlockEdges = rwlockWords ++ₗ rwlockLines ++ₗ newrwlockRows ++ₗ takingRows ++ₗ givingRows ++ₗ rwlocksAgree

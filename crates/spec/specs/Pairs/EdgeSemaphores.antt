@@ -81,4 +81,5 @@ semsAgree =
     []
 
 unfoldable pub semaphoreEdges : List Pair
+unfolding racked semWords semLines newsemRows semPostRows semWaitRows semsAgree
 semaphoreEdges = semWords ++ₗ semLines ++ₗ newsemRows ++ₗ semPostRows ++ₗ semWaitRows ++ₗ semsAgree

@@ -176,6 +176,7 @@ splitCountRows =
 
 -- all of them
 unfoldable pub sheetEdges : List Pair
+unfolding times of headerRows stepRows countRows scopeRows splitHeaderRows typeRows mapRows rowRows splitCountRows
 sheetEdges =
     headerRows
     ++ₗ stepRows

@@ -21,6 +21,7 @@ unfoldable pub reading : String → String
 reading rows = "C2,2,1,3,3,0|int,0,0|ref,0,0|tid,2,0|2|1|0|" ++ rows
 
 unfoldable pub spawnEdges : List Pair
+unfolding spawning plainly naming reading
 spawnEdges =
     -- 40 on its own line: after 21 and 22 there, before a later line's fault and before 23
     (spawning with (plainly "0,0,|1,0,|0,9,|") is four 40 7 0 0) ∷

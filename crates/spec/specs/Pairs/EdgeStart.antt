@@ -44,4 +44,5 @@ spawnedRows =
 
 -- all of them
 unfoldable pub startEdges : List Pair
+unfolding named headingRows namedRows spawnedRows
 startEdges = headingRows ++ₗ namedRows ++ₗ spawnedRows
