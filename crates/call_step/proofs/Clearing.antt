@@ -4,7 +4,7 @@ use mathlib.Core.List.{List}
 use Prim.Native.Nat.{ℕ, suc, _+_, _*_, _-_, _<_, _≤_}
 use native.Mathlib.Omega.{arith}
 use lib.ListN.{set}
-use Rattle.control.specs.Control.{environmentsAt}
+use Rattle.control.specs.Layout.{environmentsAt}
 use Rattle.call_step.specs.Calls.{rowClearedFrom}
 
 module _ (s : List ℕ) (r x : ℕ) where

@@ -5,8 +5,9 @@ use lib.Dec.{ltb}
 use lib.ListN.{getD, set}
 use Rattle.spec.specs.Choice.{if_then_else_}
 use Rattle.workspace.specs.Layout.{valuesAt, procVarsAt}
+use Rattle.control.specs.Layout.{environmentsAt, openCallsAt}
 use Rattle.control.specs.declared.Focus.{Focus}
-use Rattle.control.specs.Control.{environmentsAt, callsAt, firstOf, entering}
+use Rattle.control.specs.Control.{firstOf, entering}
 
 unfoldable pub above : ℕ → ℕ
 above r = if ltb r 1056 then r + 1 else r
@@ -28,7 +29,7 @@ callEntered p f = entering (above (f .row)) (firstOf p (calleeOf p (f .at)))
 
 -- the argument x of the body, and the step of the call, in the row r
 unfoldable pub argumentPut : (s : List ℕ) (r x v k : ℕ) → List ℕ
-argumentPut s r x v k = set (set (rowCleared s r) (environmentsAt + 256 * r + x) v) (callsAt + r) k
+argumentPut s r x v k = set (set (rowCleared s r) (environmentsAt + 256 * r + x) v) (openCallsAt + r) k
 
 unfoldable pub calledSpace : (p s : List ℕ) → Focus → List ℕ
 calledSpace p s f = argumentPut s (above (f .row)) (getD p (procVarsAt + calleeOf p (f .at)) 0) (f .value) (f .at)

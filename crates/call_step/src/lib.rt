@@ -1,6 +1,7 @@
 // The step of a call: its body is entered, in a row of its own.
 use control::ENTER;
 use control::Focus;
+use control::layout;
 use control::put;
 use workspace::at;
 use workspace::index;
@@ -11,7 +12,7 @@ ghost use Rattle.call_step.specs.Calls.{above as aboveOf, rowCleared, ca
 fn above(row: u32) -> u32
     ensures { λ r. ⌜ r ≡ aboveOf row ⌝ }
 {
-    if row < control::ROWS { row + 1 } else { row }
+    if row < layout::ROWS { row + 1 } else { row }
 }
 
 // No variable of that row is bound.
@@ -22,7 +23,7 @@ fn clear_row(space: &mut [u32], row: u32)
     while x < 256 {
         put(
             space,
-            control::ENVIRONMENTS + control::ROW * index(row) + index(x),
+            layout::ENVIRONMENTS + layout::ROW * index(row) + index(x),
             0,
         );
         x += 1;
@@ -39,9 +40,9 @@ pub fn call(program: &[u32], space: &mut [u32], f: Focus) -> Focus
     let procedure = at(program, workspace::VALUES + index(k));
     let x = at(program, workspace::PROC_VARS + index(procedure));
     clear_row(space, row);
-    let argument = control::ENVIRONMENTS + control::ROW * index(row) + index(x);
+    let argument = layout::ENVIRONMENTS + layout::ROW * index(row) + index(x);
     put(space, argument, f.value);
-    put(space, control::CALLS + index(row), k);
+    put(space, layout::OPEN_CALLS + index(row), k);
     Focus {
         mode: ENTER,
         at: control::first(program, procedure),

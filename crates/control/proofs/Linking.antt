@@ -4,8 +4,9 @@ use mathlib.Core.Path.{_≡_, refl, _∙_, ap}
 use mathlib.Core.List.{List}
 use native.Mathlib.Omega.{arith}
 use lib.ListN.{length, length-set}
+use Rattle.control.specs.Layout.{continuationsAt, secondPart, finish, leave}
 use Rattle.control.specs.Shapes.{shapeAt}
-use Rattle.control.specs.Control.{continuationsAt, secondPart, finish, leave, continuation, second, firstOf}
+use Rattle.control.specs.Control.{continuation, second, firstOf}
 use Rattle.control.specs.Continuations.{joined, linkedParts, linkedStep, linkedFrom, bodiesJoined}
 use Rattle.control.specs.declared.shapes.Shape.{Shape}
 use Rattle.control.specs.declared.shapes.Shape.the-variants.{Variable, Constant, Maker, While, OnePart, Call, Let, If, Spawn, Write}

@@ -8,8 +8,9 @@ use borrow.Author.Tests.{lt-ltb, le-ltb}
 use lib.ListN.{length, set, length-set}
 use lib.Dec.{eqb}
 use Rattle.spec.specs.Choice.{if_then_else_}
+use Rattle.control.specs.Layout.{keptValuesAt}
 use Rattle.control.specs.declared.Focus.{Focus}
-use Rattle.control.specs.Control.{keptAt, halfWritten, returnedSpace, turned, turnedSpace, found}
+use Rattle.control.specs.Control.{halfWritten, returnedSpace, turned, turnedSpace, found}
 
 module _ (p s : List ℕ) (f : Focus) where
   -- the word is found
@@ -35,7 +36,7 @@ module _ (p s : List ℕ) (f : Focus) where
   unfolding turnedSpace returnedSpace
   turn-length = go (eqb (f .mode) 0) (halfWritten p (f .at))
     where
-      go : (a b : Bool) → length (if a then s else if b then set s (keptAt + 256 * f .row + f .at) (f .value) else s) ≡ length s
+      go : (a b : Bool) → length (if a then s else if b then set s (keptValuesAt + 256 * f .row + f .at) (f .value) else s) ≡ length s
       go true b = refl
-      go false true = length-set s (keptAt + 256 * f .row + f .at) (f .value)
+      go false true = length-set s (keptValuesAt + 256 * f .row + f .at) (f .value)
       go false false = refl

@@ -4,8 +4,9 @@ use mathlib.Core.List.{List, [], _∷_, _++_}
 use lib.ListN.{set}
 use Rattle.spec.specs.Expression.{Expr, leaf, unary, binary, size}
 use Rattle.spec.specs.declared.BinaryWord.the-variants as word
+use Rattle.control.specs.Layout.{continuationsAt, secondPart, finish, leave, proceduresAt}
 use Rattle.control.specs.Shapes.{shapeAt}
-use Rattle.control.specs.Control.{continuationsAt, secondPart, finish, leave, proceduresAt, continuation, second, firstOf, rootOf}
+use Rattle.control.specs.Control.{continuation, second, firstOf, rootOf}
 use Rattle.control.specs.declared.shapes.Shape.{Shape}
 use Rattle.control.specs.declared.shapes.Shape.the-variants.{Variable, Constant, Maker, While, OnePart, Call, Let, If, Spawn, Write}
 

@@ -6,47 +6,22 @@ use lib.Dec.{eqb, ltb}
 use lib.ListN.{getD, set}
 use Rattle.spec.specs.Choice.{if_then_else_}
 use Rattle.workspace.specs.Layout.{valuesAt, endsAt, procFirstsAt}
+use Rattle.control.specs.Layout.{continuationsAt, secondPart, finish, leave, proceduresAt, environmentsAt, keptValuesAt, openCallsAt}
 use Rattle.control.specs.Shapes.{shapeAt, isWrite}
 use Rattle.control.specs.declared.Focus.{Focus}
 use Rattle.control.specs.declared.shapes.Shape.{Shape}
 use Rattle.control.specs.declared.shapes.Shape.the-variants.{Variable, Constant, Maker, While, OnePart, Call, Let, If, Spawn, Write}
-
--- ------------------------------------------------------------------ offsets
-
-abbrev pub continuationsAt : ℕ
-continuationsAt = 2176
-
-abbrev pub secondPart : ℕ
-secondPart = 256
-
-abbrev pub finish : ℕ
-finish = 512
-
-abbrev pub leave : ℕ
-leave = 513
-
-abbrev pub proceduresAt : ℕ
-proceduresAt = 2448
-
-abbrev pub environmentsAt : ℕ
-environmentsAt = 0
-
-abbrev pub keptAt : ℕ
-keptAt = 270336
-
-abbrev pub callsAt : ℕ
-callsAt = 540672
 
 unfoldable pub variable : (s : List ℕ) (r x : ℕ) → ℕ
 variable s r x = getD s (environmentsAt + 256 * r + x) 0
 
 -- what the first part of the `write` of step k gave
 unfoldable pub kept : (s : List ℕ) (r k : ℕ) → ℕ
-kept s r k = getD s (keptAt + 256 * r + k) 0
+kept s r k = getD s (keptValuesAt + 256 * r + k) 0
 
 -- the step of the open call whose body runs in row r
 unfoldable pub calledFrom : (s : List ℕ) (r : ℕ) → ℕ
-calledFrom s r = getD s (callsAt + r) 0
+calledFrom s r = getD s (openCallsAt + r) 0
 
 unfoldable pub continuation : (p : List ℕ) (k : ℕ) → ℕ
 continuation p k = getD p (continuationsAt + k) 0
@@ -120,7 +95,7 @@ returned p s r c v =
     else left p s r v
 
 unfoldable pub returnedSpace : (p s : List ℕ) (r c v : ℕ) → List ℕ
-returnedSpace p s r c v = if halfWritten p c then set s (keptAt + 256 * r + c) v else s
+returnedSpace p s r c v = if halfWritten p c then set s (keptValuesAt + 256 * r + c) v else s
 
 unfoldable pub turned : (p s : List ℕ) → Focus → Focus
 turned p s f = if eqb (f .mode) 0 then entered p s (f .row) (f .at) else returned p s (f .row) (f .at) (f .value)

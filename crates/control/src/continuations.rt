@@ -1,10 +1,10 @@
 // The continuation of each step, found once for a program: what follows once the step is a value.
-use crate::CONTINUATIONS;
-use crate::FINISH;
-use crate::LEAVE;
-use crate::PROCEDURES;
-use crate::SECOND_PART;
 use crate::Shape;
+use crate::layout::CONTINUATIONS;
+use crate::layout::FINISH;
+use crate::layout::LEAVE;
+use crate::layout::PROCEDURES;
+use crate::layout::SECOND_PART;
 use crate::put;
 use workspace::at;
 use workspace::index;

@@ -1,9 +1,19 @@
 // The control of a thread on numbers: from where a step leaves it to its next word. A step of the program has one continuation, what
 // follows once it is a value, so that no frames are stored.
 mod continuations;
+pub mod layout;
 mod shapes;
 
 pub use continuations::link;
+use layout::CONTINUATIONS;
+use layout::ENVIRONMENTS;
+use layout::FINISH;
+use layout::KEPT_VALUES;
+use layout::LEAVE;
+use layout::OPEN_CALLS;
+use layout::PROCEDURES;
+use layout::ROW;
+use layout::SECOND_PART;
 pub use shapes::Shape;
 pub use shapes::is_if;
 pub use shapes::is_write;
@@ -16,41 +26,6 @@ ghost use Prim.Native.Nat.{_<_, _-_};
 ghost use lib.ListN.{set};
 ghost use Rattle.control.specs.Shapes.{shapeAt};
 ghost use Rattle.control.specs.Control.{variable as variableOf, behind as behindOf, second as secondOf, firstOf, rootOf, enteredBy, entered, halfWritten, left, returned, returnedSpace, turned, turnedSpace, found};
-
-// Behind the program's columns in `workspace`: the continuation of each step. A number below 256 is the step whose first part this
-// value is, one from 256 on the step whose second part it is, 512 says that the thread finishes with it, and 513 that an open call
-// ends with it.
-pub const CONTINUATIONS: usize = 2176;
-
-pub const SECOND_PART: u32 = 256;
-
-pub const FINISH: u32 = 512;
-
-pub const LEAVE: u32 = 513;
-
-// How many procedures the program has.
-pub const PROCEDURES: usize = 2448;
-
-// How many numbers hold a program.
-pub const PROGRAM: usize = 2449;
-
-// In the lent space, 66 rows for each of 16 threads: one for what runs outside of calls, one for each of 64 open calls, and one for
-// the call that is tried.
-pub const LEVELS: usize = 66;
-
-// The rows of all threads.
-pub const ROWS: u32 = 1056;
-
-// A row has 256 numbers: the value of each variable; by step, the value that the first part of a `write` gave. A value is 0 for any
-// constant, since no step asks which constant it is, and n + 1 for the name n.
-pub const ENVIRONMENTS: usize = 0;
-
-pub const KEPT: usize = 270336;
-
-pub const ROW: usize = 256;
-
-// By row: the step of the open call whose body runs there.
-pub const CALLS: usize = 540672;
 
 // Where a thread is, while its next word is looked for and once it is found; its variables stand in that row.
 pub struct Focus {
@@ -231,7 +206,7 @@ fn below(row: u32) -> u32
 fn leave(program: &[u32], space: &[u32], row: u32, v: u32) -> Focus
     ensures { λ r. ⌜ r ≡ left (now (program .entry)) (now (space .entry)) row v ⌝ }
 {
-    let k = at(space, CALLS + index(row));
+    let k = at(space, OPEN_CALLS + index(row));
     let c = at(program, CONTINUATIONS + index(k));
     Focus {
         mode: RETURN,
@@ -285,7 +260,7 @@ fn keep(program: &[u32], space: &mut [u32], row: u32, c: u32, v: u32)
     ensures { λ _. ⌜ now (space .exit) ≡ returnedSpace (now (program .entry)) (now (space .entry)) row c v ⌝ }
 {
     if half_written(program, c) {
-        put(space, KEPT + ROW * index(row) + index(c), v);
+        put(space, KEPT_VALUES + ROW * index(row) + index(c), v);
     }
 }
 

@@ -4,7 +4,8 @@ use mathlib.Core.List.{List}
 use Prim.Native.Nat.{ℕ, suc, _+_, _*_, _-_, _<_, _≤_}
 use native.Mathlib.Omega.{arith}
 use lib.ListN.{set}
-use Rattle.control.specs.Control.{environmentsAt, variable}
+use Rattle.control.specs.Layout.{environmentsAt}
+use Rattle.control.specs.Control.{variable}
 use Rattle.engine.specs.Steps.{copiedFrom}
 
 module _ (s : List ℕ) (t u x : ℕ) where

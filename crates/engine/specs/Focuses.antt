@@ -4,26 +4,15 @@ use mathlib.Core.Bool.{Bool}
 use mathlib.Core.List.{List}
 use lib.Dec.{eqb}
 use lib.ListN.{getD, set}
+use Rattle.control.specs.Layout.{focusModesAt, focusPlacesAt, focusValuesAt, focusRowsAt}
 use Rattle.control.specs.declared.Focus.{Focus}
 use Rattle.control.specs.Control.{focus, found}
 
-abbrev pub modesAt : ℕ
-modesAt = 541728
-
-abbrev pub placesAt : ℕ
-placesAt = 541744
-
-abbrev pub givenAt : ℕ
-givenAt = 541760
-
-abbrev pub rowsAt : ℕ
-rowsAt = 541776
-
 unfoldable pub focusAt : (s : List ℕ) (t : ℕ) → Focus
-focusAt s t = focus (getD s (modesAt + t) 0) (getD s (placesAt + t) 0) (getD s (givenAt + t) 0) (getD s (rowsAt + t) 0)
+focusAt s t = focus (getD s (focusModesAt + t) 0) (getD s (focusPlacesAt + t) 0) (getD s (focusValuesAt + t) 0) (getD s (focusRowsAt + t) 0)
 
 unfoldable pub focusPut : (s : List ℕ) (t : ℕ) → Focus → List ℕ
-focusPut s t f = set (set (set (set s (modesAt + t) (f .mode)) (placesAt + t) (f .at)) (givenAt + t) (f .value)) (rowsAt + t) (f .row)
+focusPut s t f = set (set (set (set s (focusModesAt + t) (f .mode)) (focusPlacesAt + t) (f .at)) (focusValuesAt + t) (f .value)) (focusRowsAt + t) (f .row)
 
 -- the next word is found and stored; whether there is none
 unfoldable pub settled : (t : ℕ) → Focus × List ℕ → Bool × List ℕ

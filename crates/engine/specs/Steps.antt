@@ -10,12 +10,12 @@ use Rattle.threads.specs.declared.Found.{Found}
 use Rattle.threads.specs.declared.Found.the-variants.{At, Nothing}
 use Rattle.threads.specs.Records.{lowest}
 use Rattle.threads.specs.Threads.{started, spawned, finished, joined, runs}
+use Rattle.control.specs.Layout.{environmentsAt, focusRowsAt, nextValueAt, thingKindsAt}
 use Rattle.control.specs.declared.Focus.{Focus}
 use Rattle.control.specs.Shapes.{shapeAt, isIf}
-use Rattle.control.specs.Control.{environmentsAt, variable, second, rootOf, entering}
-use Rattle.engine.specs.Focuses.{rowsAt, focusAt, wentOn}
-use Rattle.reduction.specs.Slots.{kindsAt}
-use Rattle.reduction.specs.Words.{nextAt, given, acted}
+use Rattle.control.specs.Control.{variable, second, rootOf, entering}
+use Rattle.engine.specs.Focuses.{focusAt, wentOn}
+use Rattle.reduction.specs.Words.{given, acted}
 use Rattle.reduction.specs.declared.words.Act.{Act}
 use Rattle.reduction.specs.declared.words.Act.the-variants as act
 use Rattle.engine.specs.declared.Outcome.{Outcome}
@@ -41,7 +41,7 @@ ending o T = record { outcome = o; threads = T }
 
 -- a step of thread t is done; with more than 64 calls open it is past the limit
 unfoldable pub outcomeOf : (s : List ℕ) (t : ℕ) → Outcome
-outcomeOf s t = if ltb (66 * t + 64) (getD s (rowsAt + t) 0) then Past else Moved
+outcomeOf s t = if ltb (66 * t + 64) (getD s (focusRowsAt + t) 0) then Past else Moved
 
 unfoldable pub movedTo : (t : ℕ) → Threads × List ℕ → Stepped × List ℕ
 movedTo t (T, s) = (ending (outcomeOf s t) T, s)
@@ -96,7 +96,7 @@ stepped p s T t c = if runs T t then steppedFrom p s T t (focusAt s t) c else (e
 
 -- a cleared space with the start's identifier
 unfoldable pub startSpace : (s : List ℕ) → List ℕ
-startSpace s = set (set (replicate (length s) 0) (kindsAt + 1) 1) nextAt 2
+startSpace s = set (set (replicate (length s) 0) (thingKindsAt + 1) 1) nextValueAt 2
 
 unfoldable pub startOf : (p s : List ℕ) → Threads × List ℕ
 startOf p s = proceeded p (startSpace s) (started 1) 0 (entering 0 (rootOf p))

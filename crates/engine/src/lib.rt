@@ -6,9 +6,9 @@ mod races;
 use control::ENTER;
 use control::Focus;
 use control::UNROLLED;
+use control::layout;
 use control::put;
 use control::variable;
-use focuses::ROWS;
 use focuses::focus_at;
 use focuses::go_on;
 pub use races::Pair;
@@ -71,8 +71,8 @@ fn moved(space: &[u32], threads: Threads, t: u32) -> Stepped
     ensures { λ r. ⌜ r ≡ ending (outcomeOf (now (space .entry)) t) threads ⌝ }
 {
     let i = index(t);
-    let row = index(at(space, ROWS + i));
-    if control::LEVELS * i + CALL_LIMIT < row {
+    let row = index(at(space, layout::FOCUS_ROWS + i));
+    if layout::LEVELS * i + CALL_LIMIT < row {
         return Stepped {
             outcome: Outcome::Past,
             threads,
@@ -93,7 +93,7 @@ fn copy(space: &mut [u32], from: u32, to: u32)
         let v = variable(space, from, x);
         put(
             space,
-            control::ENVIRONMENTS + control::ROW * index(to) + index(x),
+            layout::ENVIRONMENTS + layout::ROW * index(to) + index(x),
             v,
         );
         x += 1;
@@ -119,7 +119,7 @@ fn spawn(
         };
     }
     let u = count as u32;
-    let row = (control::LEVELS * count) as u32;
+    let row = (layout::LEVELS * count) as u32;
     copy(space, f.row, row);
     let body = Focus {
         mode: ENTER,
@@ -201,8 +201,8 @@ pub fn start(program: &[u32], space: &mut [u32]) -> Threads
     ensures { λ r. ⌜ startOf (now (program .entry)) (now (space .entry)) ≡ (r, now (space .exit)) ⌝ }
 {
     workspace::clear(space);
-    put(space, reduction::KINDS + 1, things::IDENTIFIER);
-    put(space, reduction::NEXT, 2);
+    put(space, layout::THING_KINDS + 1, things::IDENTIFIER);
+    put(space, layout::NEXT_VALUE, 2);
     let root = Focus {
         mode: ENTER,
         at: control::root(program),

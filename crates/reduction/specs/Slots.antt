@@ -4,20 +4,12 @@ use mathlib.Core.List.{List}
 use lib.Dec.{ltb}
 use lib.ListN.{getD, set}
 use Rattle.spec.specs.Choice.{if_then_else_}
+use Rattle.control.specs.Layout.{thingKindsAt, thingFirstsAt, thingSecondsAt}
 use Rattle.things.specs.declared.Slot.{Slot}
 use Rattle.things.specs.Uses.{slot}
 
-abbrev pub kindsAt : ℕ
-kindsAt = 541808
-
-abbrev pub firstsAt : ℕ
-firstsAt = 542192
-
-abbrev pub secondsAt : ℕ
-secondsAt = 542576
-
 unfoldable pub slotAt : (s : List ℕ) (v : ℕ) → Slot
-slotAt s v = if ltb v 322 then slot (getD s (kindsAt + v) 0) (getD s (firstsAt + v) 0) (getD s (secondsAt + v) 0) else slot 0 0 0
+slotAt s v = if ltb v 322 then slot (getD s (thingKindsAt + v) 0) (getD s (thingFirstsAt + v) 0) (getD s (thingSecondsAt + v) 0) else slot 0 0 0
 
 unfoldable pub slotPut : (s : List ℕ) (v : ℕ) → Slot → List ℕ
-slotPut s v x = set (set (set s (kindsAt + v) (x .kind)) (firstsAt + v) (x .first)) (secondsAt + v) (x .second)
+slotPut s v x = set (set (set s (thingKindsAt + v) (x .kind)) (thingFirstsAt + v) (x .first)) (thingSecondsAt + v) (x .second)

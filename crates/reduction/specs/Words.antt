@@ -5,11 +5,12 @@ use lib.Dec.{eqb, leb}
 use lib.ListN.{getD, set}
 use Rattle.spec.specs.Choice.{if_then_else_}
 use Rattle.workspace.specs.Layout.{wordsAt, valuesAt, ruleOf}
+use Rattle.control.specs.Layout.{environmentsAt, thingCountsAt, nextValueAt}
 use Rattle.control.specs.declared.Focus.{Focus}
 use Rattle.control.specs.declared.shapes.Shape.{Shape}
 use Rattle.control.specs.declared.shapes.Shape.the-variants.{Variable, Constant, Maker, While, OnePart, Call, Let, If, Spawn as SpawnShape, Write}
 use Rattle.control.specs.Shapes.{shapeAt, isWrite}
-use Rattle.control.specs.Control.{environmentsAt, kept, continuation, second, behind, entering, returning, stoppedAt, unrolledAt}
+use Rattle.control.specs.Control.{kept, continuation, second, behind, entering, returning, stoppedAt, unrolledAt}
 use Rattle.things.specs.declared.Slot.{Slot}
 use Rattle.things.specs.declared.Used.{Used}
 use Rattle.things.specs.declared.Used.the-variants.{Gives, Leaves, Makes, Spawns, Joins}
@@ -19,12 +20,6 @@ use Rattle.call_step.specs.Calls.{callEntered, calledSpace}
 use Rattle.reduction.specs.Slots.{slotAt, slotPut}
 use Rattle.reduction.specs.declared.words.Act.{Act}
 use Rattle.reduction.specs.declared.words.Act.the-variants.{Go, Spawn, Join, Stuck, Past}
-
-abbrev pub countsAt : ℕ
-countsAt = 541792
-
-abbrev pub nextAt : ℕ
-nextAt = 541800
 
 -- ------------------------------------------------------------------ words of one thread
 
@@ -48,13 +43,13 @@ bound p s f = (Go (entering (f .row) (second p (f .at))), set s (environmentsAt 
 
 -- one thing more of its kind, with the next name
 unfoldable pub withThing : (s : List ℕ) → Slot → List ℕ
-withThing s x = set (set (slotPut s (getD s nextAt 0) x) (countsAt + x .kind) (getD s (countsAt + x .kind) 0 + 1)) nextAt (getD s nextAt 0 + 1)
+withThing s x = set (set (slotPut s (getD s nextValueAt 0) x) (thingCountsAt + x .kind) (getD s (thingCountsAt + x .kind) 0 + 1)) nextValueAt (getD s nextValueAt 0 + 1)
 
 unfoldable pub newThing : (p s : List ℕ) (r k : ℕ) → Slot → Act × List ℕ
 newThing p s r k x =
-    if leb 64 (getD s (countsAt + x .kind) 0) then (Past, s)
-    else if leb 322 (getD s nextAt 0) then (Past, s)
-    else (Go (given p r k (getD s nextAt 0)), withThing s x)
+    if leb 64 (getD s (thingCountsAt + x .kind) 0) then (Past, s)
+    else if leb 322 (getD s nextValueAt 0) then (Past, s)
+    else (Go (given p r k (getD s nextValueAt 0)), withThing s x)
 
 unfoldable pub subject : (p s : List ℕ) → Focus → ℕ
 subject p s f = if isWrite (shapeAt p (f .at)) then kept s (f .row) (f .at) else f .value

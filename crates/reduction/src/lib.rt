@@ -3,10 +3,8 @@
 mod slots;
 mod words;
 
-pub use slots::KINDS;
 pub use slots::slot_at;
 pub use words::Act;
-pub use words::NEXT;
 pub use words::gives;
 pub use words::reduce;
 pub use words::subject;

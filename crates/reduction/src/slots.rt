@@ -1,4 +1,8 @@
 // What each name names, in the lent space, by the value that stands for the name.
+use control::layout::THING_FIRSTS;
+use control::layout::THING_KINDS;
+use control::layout::THING_SECONDS;
+use control::layout::VALUE_LIMIT;
 use control::put;
 use things::Slot;
 use things::UNUSED;
@@ -7,26 +11,16 @@ use workspace::index;
 ghost use mathlib.Core.Path.{_≡_};
 ghost use Rattle.reduction.specs.Slots.{slotAt, slotPut};
 
-// By value, up to 321 names: what is named, and two numbers of it.
-pub const KINDS: usize = 541808;
-
-pub const FIRSTS: usize = 542192;
-
-pub const SECONDS: usize = 542576;
-
-// The first value that no name has: the start's identifier and 64 of each of five kinds have the values from 1 on.
-pub const VALUES: u32 = 322;
-
 // What a value names.
 pub fn slot_at(space: &[u32], v: u32) -> Slot
     ensures { λ r. ⌜ r ≡ slotAt (now (space .entry)) v ⌝ }
 {
-    if v < VALUES {
+    if v < VALUE_LIMIT {
         let i = index(v);
         return Slot {
-            kind: at(space, KINDS + i),
-            first: at(space, FIRSTS + i),
-            second: at(space, SECONDS + i),
+            kind: at(space, THING_KINDS + i),
+            first: at(space, THING_FIRSTS + i),
+            second: at(space, THING_SECONDS + i),
         };
     }
     Slot {
@@ -41,7 +35,7 @@ pub fn put_slot(space: &mut [u32], v: u32, x: Slot)
     ensures { λ _. ⌜ now (space .exit) ≡ slotPut (now (space .entry)) v x ⌝ }
 {
     let i = index(v);
-    put(space, KINDS + i, x.kind);
-    put(space, FIRSTS + i, x.first);
-    put(space, SECONDS + i, x.second);
+    put(space, THING_KINDS + i, x.kind);
+    put(space, THING_FIRSTS + i, x.first);
+    put(space, THING_SECONDS + i, x.second);
 }

@@ -1,5 +1,4 @@
 // The step of a thread's next word, as far as it does not touch the records of threads.
-use crate::slots::VALUES;
 use crate::slots::put_slot;
 use crate::slots::slot_at;
 use call_step::call;
@@ -10,6 +9,7 @@ use control::RETURN;
 use control::STOPPED;
 use control::Shape;
 use control::UNROLLED;
+use control::layout;
 use control::put;
 use things::Slot;
 use things::Used;
@@ -18,11 +18,6 @@ use workspace::at;
 use workspace::index;
 ghost use mathlib.Core.Path.{_≡_};
 ghost use Rattle.reduction.specs.Words.{given, branched, looped, bound, newThing, subject as subjectOf, operand as operandOf, effected, wordUsed, acted};
-
-// How many things of each kind there are, by kind; and the value that stands for the next name.
-pub const COUNTS: usize = 541792;
-
-pub const NEXT: usize = 541800;
 
 // The most things of a kind.
 const LIMIT: u32 = 64;
@@ -43,7 +38,7 @@ pub fn gives(program: &[u32], row: u32, k: u32, v: u32) -> Focus
 {
     Focus {
         mode: RETURN,
-        at: at(program, control::CONTINUATIONS + index(k)),
+        at: at(program, layout::CONTINUATIONS + index(k)),
         value: v,
         row,
     }
@@ -113,7 +108,7 @@ fn bind(program: &[u32], space: &mut [u32], f: Focus) -> Act
     let x = at(program, workspace::VALUES + index(k));
     put(
         space,
-        control::ENVIRONMENTS + control::ROW * index(row) + index(x),
+        layout::ENVIRONMENTS + layout::ROW * index(row) + index(x),
         f.value,
     );
     let next = Focus {
@@ -130,17 +125,17 @@ fn make(program: &[u32], space: &mut [u32], row: u32, k: u32, x: Slot) -> Act
     ensures { λ r. ⌜ newThing (now (program .entry)) (now (space .entry)) row k x ≡ (r, now (space .exit)) ⌝ }
 {
     let kind = index(x.kind);
-    let count = at(space, COUNTS + kind);
-    let next = at(space, NEXT);
+    let count = at(space, layout::THING_COUNTS + kind);
+    let next = at(space, layout::NEXT_VALUE);
     if LIMIT <= count {
         return Act::Past;
     }
-    if VALUES <= next {
+    if layout::VALUE_LIMIT <= next {
         return Act::Past;
     }
     put_slot(space, next, x);
-    put(space, COUNTS + kind, count + 1);
-    put(space, NEXT, next + 1);
+    put(space, layout::THING_COUNTS + kind, count + 1);
+    put(space, layout::NEXT_VALUE, next + 1);
     Act::Go(gives(program, row, k, next))
 }
 
@@ -152,7 +147,7 @@ pub fn subject(program: &[u32], space: &[u32], f: Focus) -> u32
     if control::is_write(control::shape_at(program, k)) {
         return at(
             space,
-            control::KEPT + control::ROW * index(f.row) + index(k),
+            layout::KEPT_VALUES + layout::ROW * index(f.row) + index(k),
         );
     }
     f.value

@@ -9,11 +9,12 @@ use Rattle.replay_theory.specs.Replay.{replaySpace, replay, returnedFor}
 use Rattle.replay_theory.specs.Claim.{TraceFollowed, RaceFound, NoneIfAccepted}
 use Rattle.replay_theory.specs.declared.Replayed.{Replayed}
 use Rattle.replay_theory.proofs.Reported.{trace-is-followed, race-is-found, none-if-accepted}
+use Rattle.control.specs.Layout.{spaceSize}
 
 -- ------------------------------------------------------------------ the space
 
 -- How many numbers the code lends, as an equation: where the two are compared by computing, `take 542960` is computed too.
-pub space-counted : 542960 ≡ replaySpace
+pub space-counted : spaceSize ≡ replaySpace
 unfolding replaySpace
 space-counted = refl
 

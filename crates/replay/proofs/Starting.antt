@@ -21,6 +21,7 @@ use Rattle.workspace.proofs.Held.{ends-length, body-sized, root-sized}
 use Rattle.workspace.proofs.Expression.{codes, values, linesOf, Standing}
 use Rattle.workspace.proofs.Bodies.{AllHere, all-here}
 use Rattle.threads.specs.declared.Threads.{Threads}
+use Rattle.control.specs.Layout.{continuationsAt, spaceSize}
 use Rattle.control.specs.Control.{firstOf}
 use Rattle.control.specs.Continuations.{linked}
 use Rattle.engine.specs.Steps.{startOf}
@@ -47,7 +48,7 @@ use Rattle.replay.specs.Start.{Copied, HeldAs, Held}
 
 -- ------------------------------------------------------------------ the first point
 
-module _ (p s : List ℕ) (long : length s ≡ 542960) (P : Program) (A : ProgramStands p (P .procedures) (P .root)) (T : Threads) (s′ : List ℕ) (e : startOf p s ≡ (T, s′)) where
+module _ (p s : List ℕ) (long : length s ≡ spaceSize) (P : Program) (A : ProgramStands p (P .procedures) (P .root)) (T : Threads) (s′ : List ℕ) (e : startOf p s ≡ (T, s′)) where
   held : Holds p s′ T (startReplay P)
   held = subst (λ (x : Threads × List ℕ). Holds p (x .1) (x .0) (startReplay P)) e (start-held p s long P A)
 
@@ -70,10 +71,10 @@ module _ (p s : List ℕ) (long : length s ≡ 542960) (P : Program) (A : Progra
 
 -- two lists have the same numbers in front, and room for them
 record Fronts (s p : List ℕ) : Type 0 where
-  long : 2176 ≤ length p
-  same : (i : ℕ) → i < 2176 → getD p i 0 ≡ getD s i 0
+  long : continuationsAt ≤ length p
+  same : (i : ℕ) → i < continuationsAt → getD p i 0 ≡ getD s i 0
 
-region-copied : {s p : List ℕ} → Fronts s p → (b : ℕ) (xs : List ℕ) → b + length xs ≤ 2176 → Region s b xs → Region p b xs
+region-copied : {s p : List ℕ} → Fronts s p → (b : ℕ) (xs : List ℕ) → b + length xs ≤ continuationsAt → Region s b xs → Region p b xs
 region-copied C b xs low r = record {
   fits = let l = C .long in omega (arith, l, low);
   at = λ i h. C .same (b + i) (omega (arith, h, low)) ∙ r .at i h;
@@ -223,10 +224,10 @@ module _ (text : List ℕ) (fits : length text ≤ 16384) where
     }
 
     -- in the space that the front is of
-    pub sheet-held : (s : List ℕ) → length s ≡ 542960 → ((i : ℕ) → i < 2176 → getD s i 0 ≡ getD w i 0) → HeldAs (F .P) s n m
+    pub sheet-held : (s : List ℕ) → length s ≡ spaceSize → ((i : ℕ) → i < continuationsAt → getD s i 0 ≡ getD w i 0) → HeldAs (F .P) s n m
     sheet-held s long same = held-copied (record { long = omega (arith, long); same = same }) (F .few) (F .procs) work-held
 
-    pub sheet-holds : (s : List ℕ) → length s ≡ 542960 → ((i : ℕ) → i < 2176 → getD s i 0 ≡ getD w i 0) → Held s n m
+    pub sheet-holds : (s : List ℕ) → length s ≡ spaceSize → ((i : ℕ) → i < continuationsAt → getD s i 0 ≡ getD w i 0) → Held s n m
     sheet-holds s long same = record { listed = F .P; held = sheet-held s long same; few = F .few; procs = F .procs; long = long }
 
     pub sheet-replayed : (trace : List ℕ) {r : Replayed} → r ≡ play (startReplay (F .P)) (lines trace) → r ≡ replay replaySpace text trace
@@ -240,10 +241,10 @@ long-program text trace h = rw (lt-leb (length text) 16384 h) refl
 -- ------------------------------------------------------------------ the whole
 
 -- more room changes nothing
-pub room-enough : (room : ℕ) (text trace : List ℕ) → 542960 ≤ room → replay replaySpace text trace ≡ definition.replay room text trace
+pub room-enough : (room : ℕ) (text trace : List ℕ) → spaceSize ≤ room → replay replaySpace text trace ≡ definition.replay room text trace
 unfolding definition.replay judged _>>=_ demand replaySpace
-room-enough room text trace h = machine-replays 542960 text trace ∙ rw (le-leb 542960 room h) refl
+room-enough room text trace h = machine-replays spaceSize text trace ∙ rw (le-leb spaceSize room h) refl
 
-pub short-room : (room : ℕ) (text trace : List ℕ) → room < 542960 → refused ShortWorkspace ≡ definition.replay room text trace
+pub short-room : (room : ℕ) (text trace : List ℕ) → room < spaceSize → refused ShortWorkspace ≡ definition.replay room text trace
 unfolding replaySpace
 short-room room text trace h = sym (short-space-is-refused room text trace h)

@@ -6,25 +6,26 @@ use lib.ListN.{length, getD}
 use Rattle.spec.specs.Program.{Program, program}
 use Rattle.program.specs.Sheet.{Answered}
 use Rattle.program.specs.declared.ProgramRead.{ProgramRead}
+use Rattle.control.specs.Layout.{continuationsAt, programSize, spaceSize}
 use Rattle.simulation.proofs.Bodies.{allSize, AllStanding, AllRanged, FirstsAt, VariablesAt, ProgramStands}
 
 -- a program sheet has been read in the front of a space: what its reader leaves there, and what it answers
 pub record SheetIn (text s s′ : List ℕ) (r : ProgramRead) : Type 0 where
   pub work : List ℕ
   pub answer : Answered work r (program text)
-  pub front : (i : ℕ) → i < 2176 → getD s′ i 0 ≡ getD work i 0
+  pub front : (i : ℕ) → i < continuationsAt → getD s′ i 0 ≡ getD work i 0
   pub long : length s′ ≡ length s
 
 -- the columns of a program, copied from the space
 pub record Copied (s p : List ℕ) : Type 0 where
-  pub long : length p ≡ 2449
-  pub same : (i : ℕ) → i < 2176 → getD p i 0 ≡ getD s i 0
+  pub long : length p ≡ programSize
+  pub same : (i : ℕ) → i < continuationsAt → getD p i 0 ≡ getD s i 0
 
 -- a linked program, and a space that is long enough
 pub record Runs (p s : List ℕ) : Type 0 where
   pub listed : Program
   pub stands : ProgramStands p (listed .procedures) (listed .root)
-  pub long : length s ≡ 542960
+  pub long : length s ≡ spaceSize
 
 -- the space holds that program, of so many steps and procedures
 pub record HeldAs (P : Program) (s : List ℕ) (steps procedures : ℕ) : Type 0 where
@@ -40,4 +41,4 @@ pub record Held (s : List ℕ) (steps procedures : ℕ) : Type 0 where
   pub held : HeldAs listed s steps procedures
   pub few : steps ≤ 256
   pub procs : procedures ≤ 16
-  pub long : length s ≡ 542960
+  pub long : length s ≡ spaceSize

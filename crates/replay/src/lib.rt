@@ -1,6 +1,7 @@
 // The offered call of request (xii): a program, a trace and a lent space in, an answer and a report out.
 mod start;
 
+use control::layout::SPACE;
 use program::ProgramRead;
 use replay_theory::Ending;
 use replay_theory::FirstRace;
@@ -24,9 +25,6 @@ fn refused(r: Refusal) -> Replayed
     let ending = Ending::Refused(r);
     Replayed { ending, report }
 }
-
-// How many 32-bit numbers a replay works in.
-pub const SPACE: usize = 542960;
 
 // The most bytes that a program sheet may have.
 const PROGRAM_LIMIT: usize = 16384;

@@ -1,4 +1,6 @@
 // The start of a replay: from the sheet that the space holds to the first line of the trace.
+use control::layout::CONTINUATIONS;
+use control::layout::PROGRAM;
 use control::put;
 use play::Point;
 use play::Progress;
@@ -15,6 +17,7 @@ ghost use Prim.Native.Nat.{_≤_};
 ghost use Rattle.spec.specs.Program.{Program};
 ghost use Rattle.replay_theory.specs.Replay.{replaySpace};
 ghost use Rattle.machine.specs.Replay.{startReplay, play as played};
+ghost use Rattle.control.specs.Layout.{programSize};
 ghost use Rattle.simulation.proofs.Bodies.{ProgramStands};
 ghost use Rattle.replay.specs.Start.{SheetIn, Copied, Runs, HeldAs, Held};
 
@@ -38,11 +41,11 @@ fn run(columns: &[u32], space: &mut [u32], trace: &[u8]) -> Replayed
 
 // The columns of the program that the space holds: its steps, as the reader of program sheets left them.
 fn copy_columns(columns: &mut [u32], space: &[u32])
-    requires { ⌜ length (now columns) ≡ 2449 ⌝ }
+    requires { ⌜ length (now columns) ≡ programSize ⌝ }
     ensures { λ _. ⌜ Copied (now (space .entry)) (now (columns .exit)) ⌝ }
 {
     let mut i: usize = 0;
-    while i < 2176 {
+    while i < CONTINUATIONS {
         let v = at(space, i);
         put(columns, i, v);
         i += 1;
@@ -64,7 +67,7 @@ pub(crate) fn run_held(space: &mut [u32], trace: &[u8], steps: usize, procedures
 {
     let n = steps as u32;
     let m = procedures as u32;
-    let mut columns = [0u32; 2449];
+    let mut columns = [0u32; PROGRAM];
     copy_columns(&mut columns, space);
     control::link(&mut columns, n, m);
     run(&columns, space, trace)

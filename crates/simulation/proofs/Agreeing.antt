@@ -7,8 +7,9 @@ use native.Mathlib.Omega.{arith}
 use native.Mathlib.Decide.{decLt}
 use lib.ListN.{length, getD, set, length-set}
 use lib.Seq.{getD-set-same, getD-set-other}
+use Rattle.control.specs.Layout.{keptValuesAt, openCallsAt, focusModesAt, focusPlacesAt, focusValuesAt, focusRowsAt, thingCountsAt, spaceSize}
 use Rattle.control.specs.declared.Focus.{Focus}
-use Rattle.control.specs.Control.{keptAt, callsAt, variable, kept, calledFrom, continuation, focus}
+use Rattle.control.specs.Control.{variable, kept, calledFrom, continuation, focus}
 use Rattle.engine.specs.Focuses.{focusAt, focusPut}
 use Rattle.machine.specs.Control as machine
 use Rattle.machine.specs.Control.{Control, done, at, openCalls}
@@ -29,7 +30,7 @@ pub record Agree (i : ℕ) (s s′ : List ℕ) : Type 0 where
 
 -- the numbers that all threads share are the same
 abbrev pub SharedSame : (s s′ : List ℕ) → Type 0
-SharedSame s s′ = (j : ℕ) → 541792 ≤ j → getD s′ j 0 ≡ getD s j 0
+SharedSame s s′ = (j : ℕ) → thingCountsAt ≤ j → getD s′ j 0 ≡ getD s j 0
 
 module _ (p : List ℕ) (i : ℕ) (s s′ : List ℕ) (a : RowsAgree i s s′) where
   word-same : (r : ℕ) → RowIn i r → (f : Focus) (w : machine.Word) → WordAt p s r f w → WordAt p s′ r f w
@@ -91,27 +92,27 @@ agree-then a b = record { rows = rows-then (a .rows) (b .rows); focused = b .foc
 -- a number is none of thread i's rows
 pub record Outside (i k : ℕ) : Type 0 where
   pub of-variables : (r y : ℕ) → RowIn i r → y < 256 → 0 + 256 * r + y ≢ k
-  pub of-kepts : (r j : ℕ) → RowIn i r → j < 256 → keptAt + 256 * r + j ≢ k
-  pub of-calls : (r : ℕ) → RowIn i r → callsAt + r ≢ k
+  pub of-kepts : (r j : ℕ) → RowIn i r → j < 256 → keptValuesAt + 256 * r + j ≢ k
+  pub of-calls : (r : ℕ) → RowIn i r → openCallsAt + r ≢ k
 
 -- a store of such a number
 pub rows-set : (i k x : ℕ) (s : List ℕ) → Outside i k → RowsAgree i s (set s k x)
 unfolding variable kept calledFrom
 rows-set i k x s o = record {
   variables = λ r y a h. getD-set-other s k (0 + 256 * r + y) x 0 (o .of-variables r y a h);
-  kepts = λ r j a h. getD-set-other s k (keptAt + 256 * r + j) x 0 (o .of-kepts r j a h);
-  calls = λ r a. getD-set-other s k (callsAt + r) x 0 (o .of-calls r a);
+  kepts = λ r j a h. getD-set-other s k (keptValuesAt + 256 * r + j) x 0 (o .of-kepts r j a h);
+  calls = λ r a. getD-set-other s k (openCallsAt + r) x 0 (o .of-calls r a);
 }
 
-pub agree-set : (i k x : ℕ) (s : List ℕ) → Outside i k → 541728 + i ≢ k → 541744 + i ≢ k → 541760 + i ≢ k → 541776 + i ≢ k → Agree i s (set s k x)
+pub agree-set : (i k x : ℕ) (s : List ℕ) → Outside i k → focusModesAt + i ≢ k → focusPlacesAt + i ≢ k → focusValuesAt + i ≢ k → focusRowsAt + i ≢ k → Agree i s (set s k x)
 unfolding focusAt
 agree-set i k x s o a b c d = record {
   rows = rows-set i k x s o;
-  focused = λ n. focus (getD-set-other s k (541728 + i) x 0 a n) (getD-set-other s k (541744 + i) x 0 b n) (getD-set-other s k (541760 + i) x 0 c n) (getD-set-other s k (541776 + i) x 0 d n);
+  focused = λ n. focus (getD-set-other s k (focusModesAt + i) x 0 a n) (getD-set-other s k (focusPlacesAt + i) x 0 b n) (getD-set-other s k (focusValuesAt + i) x 0 c n) (getD-set-other s k (focusRowsAt + i) x 0 d n);
 }
 
 -- all rows stand before these numbers
-pub outside-behind : (i k : ℕ) → i < 16 → 541728 ≤ k → Outside i k
+pub outside-behind : (i k : ℕ) → i < 16 → focusModesAt ≤ k → Outside i k
 outside-behind i k l h = record {
   of-variables = λ r y (lo, hi) m z. omega (arith, z, m, l, h, hi);
   of-kepts = λ r j (lo, hi) m z. omega (arith, z, m, l, h, hi);
@@ -119,7 +120,7 @@ outside-behind i k l h = record {
 }
 
 -- a store behind the threads' numbers
-pub agree-shared : (i k x : ℕ) (s : List ℕ) → i < 16 → 541792 ≤ k → Agree i s (set s k x)
+pub agree-shared : (i k x : ℕ) (s : List ℕ) → i < 16 → thingCountsAt ≤ k → Agree i s (set s k x)
 agree-shared i k x s l h =
     agree-set i k x s (outside-behind i k l (omega (arith, h))) (λ z. omega (arith, z, l, h)) (λ z. omega (arith, z, l, h)) (λ z. omega (arith, z, l, h)) (λ z. omega (arith, z, l, h))
 
@@ -146,10 +147,10 @@ outside-variable i t r y l m (lo, hi) h n = either (less-or-more i t n)
       of-calls = λ a (from, to) e. omega (arith, e, m, h, hi);
     }
 
-pub outside-call : (i t r : ℕ) → i < 16 → RowIn t r → i ≢ t → Outside i (callsAt + r)
+pub outside-call : (i t r : ℕ) → i < 16 → RowIn t r → i ≢ t → Outside i (openCallsAt + r)
 outside-call i t r l (lo, hi) n = either (less-or-more i t n)
   where
-    either : (i < t) ⊎ (t < i) → Outside i (callsAt + r)
+    either : (i < t) ⊎ (t < i) → Outside i (openCallsAt + r)
     either (inl q) = record {
       of-variables = λ a z (from, to) b e. omega (arith, e, b, l, to);
       of-kepts = λ a j (from, to) b e. omega (arith, e, b, l, to);
@@ -162,7 +163,7 @@ outside-call i t r l (lo, hi) n = either (less-or-more i t n)
     }
 
 -- a store before the focuses
-pub agree-before : (i k x : ℕ) (s : List ℕ) → k < 541728 → Outside i k → Agree i s (set s k x)
+pub agree-before : (i k x : ℕ) (s : List ℕ) → k < focusModesAt → Outside i k → Agree i s (set s k x)
 agree-before i k x s h o = agree-set i k x s o (λ e. omega (arith, e, h)) (λ e. omega (arith, e, h)) (λ e. omega (arith, e, h)) (λ e. omega (arith, e, h))
 
 -- a store of a variable of thread t
@@ -175,13 +176,13 @@ unfolding variable kept calledFrom focusAt
 agree-found i t s s′ l m n c = record {
   rows = record {
     variables = λ r y (lo, hi) h. c .kept (0 + 256 * r + y) (inl (omega (arith, l, h, hi)));
-    kepts = λ r j a h. c .kept (keptAt + 256 * r + j) (apart r j a h (less-or-more i t n));
-    calls = λ r (lo, hi). c .kept (callsAt + r) (inr (omega (arith, m)));
+    kepts = λ r j a h. c .kept (keptValuesAt + 256 * r + j) (apart r j a h (less-or-more i t n));
+    calls = λ r (lo, hi). c .kept (openCallsAt + r) (inr (omega (arith, m)));
   };
-  focused = λ z. focus (c .kept (541728 + i) (inr (omega (arith, m))) z) (c .kept (541744 + i) (inr (omega (arith, m))) z) (c .kept (541760 + i) (inr (omega (arith, m))) z) (c .kept (541776 + i) (inr (omega (arith, m))) z);
+  focused = λ z. focus (c .kept (focusModesAt + i) (inr (omega (arith, m))) z) (c .kept (focusPlacesAt + i) (inr (omega (arith, m))) z) (c .kept (focusValuesAt + i) (inr (omega (arith, m))) z) (c .kept (focusRowsAt + i) (inr (omega (arith, m))) z);
 }
   where
-    apart : (r j : ℕ) → RowIn i r → j < 256 → (i < t) ⊎ (t < i) → (keptAt + 256 * r + j < keptAt + 16896 * t) ⊎ (keptAt + 16896 * t + 16896 ≤ keptAt + 256 * r + j)
+    apart : (r j : ℕ) → RowIn i r → j < 256 → (i < t) ⊎ (t < i) → (keptValuesAt + 256 * r + j < keptValuesAt + 16896 * t) ⊎ (keptValuesAt + 16896 * t + 16896 ≤ keptValuesAt + 256 * r + j)
     apart r j (lo, hi) h (inl q) = inl (omega (arith, q, h, hi))
     apart r j (lo, hi) h (inr q) = inr (omega (arith, q, lo))
 
@@ -189,57 +190,57 @@ pub shared-found : (t : ℕ) (s s′ : List ℕ) → t < 16 → SameBut t s s′
 shared-found t s s′ m c j h = c .kept j (inr (omega (arith, m, h)))
 
 -- the focus of thread t
-pub focus-here : (s : List ℕ) (t : ℕ) (f : Focus) → length s ≡ 542960 → t < 16 → focusAt (focusPut s t f) t ≡ f
+pub focus-here : (s : List ℕ) (t : ℕ) (f : Focus) → length s ≡ spaceSize → t < 16 → focusAt (focusPut s t f) t ≡ f
 unfolding focusAt focusPut
 focus-here s t f long m = λ z. focus (modes z) (places z) (givens z) (rows z)
   where
     s₁ : List ℕ
-    s₁ = set s (541728 + t) (f .mode)
+    s₁ = set s (focusModesAt + t) (f .mode)
 
     s₂ : List ℕ
-    s₂ = set s₁ (541744 + t) (f .at)
+    s₂ = set s₁ (focusPlacesAt + t) (f .at)
 
     s₃ : List ℕ
-    s₃ = set s₂ (541760 + t) (f .value)
+    s₃ = set s₂ (focusValuesAt + t) (f .value)
 
-    long₁ : length s₁ ≡ 542960
-    long₁ = length-set s (541728 + t) (f .mode) ∙ long
+    long₁ : length s₁ ≡ spaceSize
+    long₁ = length-set s (focusModesAt + t) (f .mode) ∙ long
 
-    long₂ : length s₂ ≡ 542960
-    long₂ = length-set s₁ (541744 + t) (f .at) ∙ long₁
+    long₂ : length s₂ ≡ spaceSize
+    long₂ = length-set s₁ (focusPlacesAt + t) (f .at) ∙ long₁
 
-    long₃ : length s₃ ≡ 542960
-    long₃ = length-set s₂ (541760 + t) (f .value) ∙ long₂
+    long₃ : length s₃ ≡ spaceSize
+    long₃ = length-set s₂ (focusValuesAt + t) (f .value) ∙ long₂
 
-    modes : getD (set s₃ (541776 + t) (f .row)) (541728 + t) 0 ≡ f .mode
+    modes : getD (set s₃ (focusRowsAt + t) (f .row)) (focusModesAt + t) 0 ≡ f .mode
     modes =
-        getD-set-other s₃ (541776 + t) (541728 + t) (f .row) 0 (λ e. omega (arith, e)) ∙ getD-set-other s₂ (541760 + t) (541728 + t) (f .value) 0 (λ e. omega (arith, e))
-        ∙ getD-set-other s₁ (541744 + t) (541728 + t) (f .at) 0 (λ e. omega (arith, e)) ∙ getD-set-same s (541728 + t) (f .mode) 0 (omega (arith, long, m))
+        getD-set-other s₃ (focusRowsAt + t) (focusModesAt + t) (f .row) 0 (λ e. omega (arith, e)) ∙ getD-set-other s₂ (focusValuesAt + t) (focusModesAt + t) (f .value) 0 (λ e. omega (arith, e))
+        ∙ getD-set-other s₁ (focusPlacesAt + t) (focusModesAt + t) (f .at) 0 (λ e. omega (arith, e)) ∙ getD-set-same s (focusModesAt + t) (f .mode) 0 (omega (arith, long, m))
 
-    places : getD (set s₃ (541776 + t) (f .row)) (541744 + t) 0 ≡ f .at
+    places : getD (set s₃ (focusRowsAt + t) (f .row)) (focusPlacesAt + t) 0 ≡ f .at
     places =
-        getD-set-other s₃ (541776 + t) (541744 + t) (f .row) 0 (λ e. omega (arith, e)) ∙ getD-set-other s₂ (541760 + t) (541744 + t) (f .value) 0 (λ e. omega (arith, e))
-        ∙ getD-set-same s₁ (541744 + t) (f .at) 0 (omega (arith, long₁, m))
+        getD-set-other s₃ (focusRowsAt + t) (focusPlacesAt + t) (f .row) 0 (λ e. omega (arith, e)) ∙ getD-set-other s₂ (focusValuesAt + t) (focusPlacesAt + t) (f .value) 0 (λ e. omega (arith, e))
+        ∙ getD-set-same s₁ (focusPlacesAt + t) (f .at) 0 (omega (arith, long₁, m))
 
-    givens : getD (set s₃ (541776 + t) (f .row)) (541760 + t) 0 ≡ f .value
-    givens = getD-set-other s₃ (541776 + t) (541760 + t) (f .row) 0 (λ e. omega (arith, e)) ∙ getD-set-same s₂ (541760 + t) (f .value) 0 (omega (arith, long₂, m))
+    givens : getD (set s₃ (focusRowsAt + t) (f .row)) (focusValuesAt + t) 0 ≡ f .value
+    givens = getD-set-other s₃ (focusRowsAt + t) (focusValuesAt + t) (f .row) 0 (λ e. omega (arith, e)) ∙ getD-set-same s₂ (focusValuesAt + t) (f .value) 0 (omega (arith, long₂, m))
 
-    rows : getD (set s₃ (541776 + t) (f .row)) (541776 + t) 0 ≡ f .row
-    rows = getD-set-same s₃ (541776 + t) (f .row) 0 (omega (arith, long₃, m))
+    rows : getD (set s₃ (focusRowsAt + t) (f .row)) (focusRowsAt + t) 0 ≡ f .row
+    rows = getD-set-same s₃ (focusRowsAt + t) (f .row) 0 (omega (arith, long₃, m))
 
 -- the four stores of a focus: what holds of a store of each holds of all
 module _ (t : ℕ) (f : Focus) (P : List ℕ → List ℕ → Type 0) (then : (s s′ s″ : List ℕ) → P s s′ → P s′ s″ → P s s″)
-    (one : (k x : ℕ) (s : List ℕ) → (k ≡ 541728 + t) ⊎ ((k ≡ 541744 + t) ⊎ ((k ≡ 541760 + t) ⊎ (k ≡ 541776 + t))) → P s (set s k x)) where
+    (one : (k x : ℕ) (s : List ℕ) → (k ≡ focusModesAt + t) ⊎ ((k ≡ focusPlacesAt + t) ⊎ ((k ≡ focusValuesAt + t) ⊎ (k ≡ focusRowsAt + t))) → P s (set s k x)) where
   focus-stores : (s : List ℕ) → P s (focusPut s t f)
   unfolding focusPut
   focus-stores s =
-      let s₁ = set s (541728 + t) (f .mode) in
-      let s₂ = set s₁ (541744 + t) (f .at) in
-      let s₃ = set s₂ (541760 + t) (f .value) in
-      let s₄ = set s₃ (541776 + t) (f .row) in
-      then s s₁ s₄ (one (541728 + t) (f .mode) s (inl refl))
-      (then s₁ s₂ s₄ (one (541744 + t) (f .at) s₁ (inr (inl refl)))
-      (then s₂ s₃ s₄ (one (541760 + t) (f .value) s₂ (inr (inr (inl refl)))) (one (541776 + t) (f .row) s₃ (inr (inr (inr refl))))))
+      let s₁ = set s (focusModesAt + t) (f .mode) in
+      let s₂ = set s₁ (focusPlacesAt + t) (f .at) in
+      let s₃ = set s₂ (focusValuesAt + t) (f .value) in
+      let s₄ = set s₃ (focusRowsAt + t) (f .row) in
+      then s s₁ s₄ (one (focusModesAt + t) (f .mode) s (inl refl))
+      (then s₁ s₂ s₄ (one (focusPlacesAt + t) (f .at) s₁ (inr (inl refl)))
+      (then s₂ s₃ s₄ (one (focusValuesAt + t) (f .value) s₂ (inr (inr (inl refl)))) (one (focusRowsAt + t) (f .row) s₃ (inr (inr (inr refl))))))
 
 pub focus-length : (s : List ℕ) (t : ℕ) (f : Focus) → length (focusPut s t f) ≡ length s
 focus-length s t f = focus-stores t f (λ s s′. length s′ ≡ length s) (λ s s′ s″ a b. b ∙ a) (λ k x s o. length-set s k x) s
@@ -247,7 +248,7 @@ focus-length s t f = focus-stores t f (λ s s′. length s′ ≡ length s) (λ 
 pub focus-other : (i t : ℕ) (s : List ℕ) (f : Focus) → i < 16 → t < 16 → i ≢ t → Agree i s (focusPut s t f)
 focus-other i t s f l m n = focus-stores t f (Agree i) (λ s s′ s″ a b. agree-then a b) one s
   where
-    one : (k x : ℕ) (s : List ℕ) → (k ≡ 541728 + t) ⊎ ((k ≡ 541744 + t) ⊎ ((k ≡ 541760 + t) ⊎ (k ≡ 541776 + t))) → Agree i s (set s k x)
+    one : (k x : ℕ) (s : List ℕ) → (k ≡ focusModesAt + t) ⊎ ((k ≡ focusPlacesAt + t) ⊎ ((k ≡ focusValuesAt + t) ⊎ (k ≡ focusRowsAt + t))) → Agree i s (set s k x)
     one k x s (inl q) = agree-set i k x s (outside-behind i k l (omega (arith, q))) (λ z. n (omega (arith, z, q))) (λ z. omega (arith, z, q, l, m)) (λ z. omega (arith, z, q, l, m)) (λ z. omega (arith, z, q, l, m))
     one k x s (inr (inl q)) = agree-set i k x s (outside-behind i k l (omega (arith, q))) (λ z. omega (arith, z, q, l, m)) (λ z. n (omega (arith, z, q))) (λ z. omega (arith, z, q, l, m)) (λ z. omega (arith, z, q, l, m))
     one k x s (inr (inr (inl q))) = agree-set i k x s (outside-behind i k l (omega (arith, q))) (λ z. omega (arith, z, q, l, m)) (λ z. omega (arith, z, q, l, m)) (λ z. n (omega (arith, z, q))) (λ z. omega (arith, z, q, l, m))
@@ -256,7 +257,7 @@ focus-other i t s f l m n = focus-stores t f (Agree i) (λ s s′ s″ a b. agre
 pub focus-shared : (t : ℕ) (s : List ℕ) (f : Focus) → t < 16 → SharedSame s (focusPut s t f)
 focus-shared t s f m = focus-stores t f SharedSame (λ s s′ s″ a b j h. b j h ∙ a j h) one s
   where
-    one : (k x : ℕ) (s : List ℕ) → (k ≡ 541728 + t) ⊎ ((k ≡ 541744 + t) ⊎ ((k ≡ 541760 + t) ⊎ (k ≡ 541776 + t))) → SharedSame s (set s k x)
+    one : (k x : ℕ) (s : List ℕ) → (k ≡ focusModesAt + t) ⊎ ((k ≡ focusPlacesAt + t) ⊎ ((k ≡ focusValuesAt + t) ⊎ (k ≡ focusRowsAt + t))) → SharedSame s (set s k x)
     one k x s (inl q) j h = getD-set-other s k j x 0 (λ e. omega (arith, e, q, h, m))
     one k x s (inr (inl q)) j h = getD-set-other s k j x 0 (λ e. omega (arith, e, q, h, m))
     one k x s (inr (inr (inl q))) j h = getD-set-other s k j x 0 (λ e. omega (arith, e, q, h, m))
@@ -266,7 +267,7 @@ focus-shared t s f m = focus-stores t f SharedSame (λ s s′ s″ a b j h. b j 
 pub focus-rows : (i t : ℕ) (s : List ℕ) (f : Focus) → i < 16 → t < 16 → RowsAgree i s (focusPut s t f)
 focus-rows i t s f l m = focus-stores t f (RowsAgree i) (λ s s′ s″ a b. rows-then a b) one s
   where
-    one : (k x : ℕ) (s : List ℕ) → (k ≡ 541728 + t) ⊎ ((k ≡ 541744 + t) ⊎ ((k ≡ 541760 + t) ⊎ (k ≡ 541776 + t))) → RowsAgree i s (set s k x)
+    one : (k x : ℕ) (s : List ℕ) → (k ≡ focusModesAt + t) ⊎ ((k ≡ focusPlacesAt + t) ⊎ ((k ≡ focusValuesAt + t) ⊎ (k ≡ focusRowsAt + t))) → RowsAgree i s (set s k x)
     one k x s (inl q) = rows-set i k x s (outside-behind i k l (omega (arith, q)))
     one k x s (inr (inl q)) = rows-set i k x s (outside-behind i k l (omega (arith, q)))
     one k x s (inr (inr (inl q))) = rows-set i k x s (outside-behind i k l (omega (arith, q)))

@@ -15,9 +15,10 @@ use Rattle.calculus.specs.Expression.{Value, choose}
 use Rattle.calculus.specs.State.{first, second as secondOfTwo, update}
 use Rattle.workspace.specs.Layout.{ruleOf, printed}
 use Rattle.threads.specs.declared.Threads.{Threads}
+use Rattle.control.specs.Layout.{keptValuesAt, openCallsAt, spaceSize}
 use Rattle.control.specs.declared.Focus.{Focus}
 use Rattle.control.specs.Shapes.{shapeOf, shapeAt}
-use Rattle.control.specs.Control.{callsAt, variable, kept, calledFrom, continuation, second, entering, returning, stoppedAt, readyAt, unrolledAt, found}
+use Rattle.control.specs.Control.{variable, kept, calledFrom, continuation, second, entering, returning, stoppedAt, readyAt, unrolledAt, found}
 use Rattle.control.proofs.Turns.{found-stop}
 use Rattle.reduction.specs.declared.words.Act.{Act}
 use Rattle.reduction.specs.declared.words.Act.the-variants.{Go}
@@ -88,7 +89,7 @@ module _ (p s : List ℕ) (T : Threads) (R : Replay) (t tid : ℕ) (σ : Env) (K
       x-low : x < 256
       x-low = r .small
 
-      long₁ : length s₁ ≡ 542960
+      long₁ : length s₁ ≡ spaceSize
       long₁ = length-set s (0 + 256 * row + x) (codeValue v) ∙ H .long
 
       bound-values : Values p s₁ row (update σ x v)
@@ -102,10 +103,10 @@ module _ (p s : List ℕ) (T : Threads) (R : Replay) (t tid : ℕ) (σ : Env) (K
       rows-same : RowsSame p t row (q .index) s s₁
       unfolding kept variable calledFrom
       rows-same = record {
-        here = λ j l. getD-set-other s (0 + 256 * row + x) (270336 + 256 * row + j) (codeValue v) 0 (λ z. omega (arith, z, low, inside .1, x-low));
-        before = λ i j a l h. getD-set-other s (0 + 256 * row + x) (270336 + 256 * i + j) (codeValue v) 0 (λ z. omega (arith, z, low, inside .1, x-low));
+        here = λ j l. getD-set-other s (0 + 256 * row + x) (keptValuesAt + 256 * row + j) (codeValue v) 0 (λ z. omega (arith, z, low, inside .1, x-low));
+        before = λ i j a l h. getD-set-other s (0 + 256 * row + x) (keptValuesAt + 256 * i + j) (codeValue v) 0 (λ z. omega (arith, z, low, inside .1, x-low));
         variables = λ i y a l h. getD-set-other s (0 + 256 * row + x) (0 + 256 * i + y) (codeValue v) 0 (λ z. omega (arith, z, l, h));
-        called = λ i a l. getD-set-other s (0 + 256 * row + x) (callsAt + i) (codeValue v) 0 (λ z. omega (arith, z, low, inside .1, x-low));
+        called = λ i a l. getD-set-other s (0 + 256 * row + x) (openCallsAt + i) (codeValue v) 0 (λ z. omega (arith, z, low, inside .1, x-low));
       }
 
       pub let-goes : (c : ℕ) → getElem? (M .threads) t ≡ some (running tid (at σ (letWord q x v e) K)) → Goes (readyAt row (q .index) (codeValue v)) (enter (update σ x v) e K) (acted p s (readyAt row (q .index) (codeValue v)) c)

@@ -14,7 +14,8 @@ use Rattle.workspace.specs.Layout.{procVarsAt, procFirstsAt}
 use Rattle.workspace.specs.Region.{ChangedWithin}
 use Rattle.workspace.proofs.Region.{region-kept, changed-nothing, changed-store, changed-then, changed-wider}
 use Rattle.workspace.proofs.Expression.{Standing}
-use Rattle.control.specs.Control.{finish, leave, proceduresAt, continuation, firstOf, rootOf}
+use Rattle.control.specs.Layout.{continuationsAt, finish, leave, proceduresAt, programSize}
+use Rattle.control.specs.Control.{continuation, firstOf, rootOf}
 use Rattle.control.specs.Continuations.{joined, linkedFrom, bodiesJoined, rootJoined, linked}
 use Rattle.simulation.proofs.Held.{Stands, BodyStands, BodiesStand}
 use Rattle.simulation.proofs.Linked.{Ranged, continuations-length, standing-stands, standing-kept, linked-split, some-steps, Links, links}
@@ -54,30 +55,30 @@ AllStand p k (b ∷ ps) root = Stands p leave k (b .body) × AllStand p (k + siz
 
 -- ------------------------------------------------------------------ what linking keeps
 
-all-kept : {p p′ : List ℕ} {hi : ℕ} (ps : List Procedure) (root : Expr) (k : ℕ) → ChangedWithin 2176 hi p p′ → k + allSize ps root ≤ 256 → AllStanding p k ps root → AllStanding p′ k ps root
+all-kept : {p p′ : List ℕ} {hi : ℕ} (ps : List Procedure) (root : Expr) (k : ℕ) → ChangedWithin continuationsAt hi p p′ → k + allSize ps root ≤ 256 → AllStanding p k ps root → AllStanding p′ k ps root
 unfolding allSize
 all-kept [] root k c h S = standing-kept root k c h S
 all-kept (b ∷ ps) root k c h (S, Ss) = (standing-kept (b .body) k c (omega (arith, h)) S, all-kept ps root (k + size (b .body)) c (omega (arith, h)) Ss)
 
-owned-kept : {p p′ : List ℕ} {lo hi : ℕ} (ps : List Procedure) (k : ℕ) → ChangedWithin lo hi p p′ → hi ≤ 2176 + k → Owned p k ps → Owned p′ k ps
+owned-kept : {p p′ : List ℕ} {lo hi : ℕ} (ps : List Procedure) (k : ℕ) → ChangedWithin lo hi p p′ → hi ≤ continuationsAt + k → Owned p k ps → Owned p′ k ps
 unfolding continuation
-owned-kept [] k c h o = c .kept (2176 + k) (inr h) ∙ o
-owned-kept (b ∷ ps) k c h (o, os) = (c .kept (2176 + k) (inr h) ∙ o, owned-kept ps (k + size (b .body)) c (omega (arith, h)) os)
+owned-kept [] k c h o = c .kept (continuationsAt + k) (inr h) ∙ o
+owned-kept (b ∷ ps) k c h (o, os) = (c .kept (continuationsAt + k) (inr h) ∙ o, owned-kept ps (k + size (b .body)) c (omega (arith, h)) os)
 
 -- ------------------------------------------------------------------ all are linked
 
 record AllLinked (p p′ : List ℕ) (k : ℕ) (ps : List Procedure) (root : Expr) : Type 0 where
   stand : AllStand p′ k ps root
-  changed : ChangedWithin (2176 + k) (2176 + k + allSize ps root) p p′
+  changed : ChangedWithin (continuationsAt + k) (continuationsAt + k + allSize ps root) p p′
 
 -- one body, and all behind it
 module _ (b : Procedure) (ps : List Procedure) (root : Expr) (k : ℕ) (p : List ℕ) (S : Standing p k (b .body)) (o : continuation p k ≡ leave) (r : Ranged (getD p proceduresAt 0) (b .body))
-    (long : length p ≡ 2449) (h : k + (size (b .body) + allSize ps root) ≤ 256) where
+    (long : length p ≡ programSize) (h : k + (size (b .body) + allSize ps root) ≤ 256) where
   body-links : Links p (linkedFrom p k (size (b .body))) leave k (b .body)
   body-links = links (b .body) leave k p S long (omega (arith, h)) o
 
-  first-change : ChangedWithin (2176 + k) (2176 + k + size (b .body)) p (linkedFrom p k (size (b .body)))
-  first-change = changed-wider (2176 + k) (2176 + k + size (b .body)) (omega arith) (omega arith) (body-links .changed)
+  first-change : ChangedWithin (continuationsAt + k) (continuationsAt + k + size (b .body)) p (linkedFrom p k (size (b .body)))
+  first-change = changed-wider (continuationsAt + k) (continuationsAt + k + size (b .body)) (omega arith) (omega arith) (body-links .changed)
 
   abbrev q₁ : List ℕ
   q₁ = linkedFrom p k (size (b .body))
@@ -86,9 +87,9 @@ module _ (b : Procedure) (ps : List Procedure) (root : Expr) (k : ℕ) (p : List
   q₂ = linkedFrom q₁ (k + size (b .body)) (allSize ps root)
 
   module _ (rest : AllLinked q₁ q₂ (k + size (b .body)) ps root) where
-    whole : ChangedWithin (2176 + k) (2176 + k + (size (b .body) + allSize ps root)) p q₂
-    whole = changed-then (2176 + k) (2176 + k + (size (b .body) + allSize ps root)) (changed-wider (2176 + k) (2176 + k + (size (b .body) + allSize ps root)) (omega arith) (omega arith) first-change)
-        (changed-wider (2176 + k) (2176 + k + (size (b .body) + allSize ps root)) (omega arith) (omega arith) (rest .changed))
+    whole : ChangedWithin (continuationsAt + k) (continuationsAt + k + (size (b .body) + allSize ps root)) p q₂
+    whole = changed-then (continuationsAt + k) (continuationsAt + k + (size (b .body) + allSize ps root)) (changed-wider (continuationsAt + k) (continuationsAt + k + (size (b .body) + allSize ps root)) (omega arith) (omega arith) first-change)
+        (changed-wider (continuationsAt + k) (continuationsAt + k + (size (b .body) + allSize ps root)) (omega arith) (omega arith) (rest .changed))
 
     body-linked : AllLinked p (linkedFrom p k (size (b .body) + allSize ps root)) k (b ∷ ps) root
     unfolding allSize
@@ -96,7 +97,7 @@ module _ (b : Procedure) (ps : List Procedure) (root : Expr) (k : ℕ) (p : List
         subst (λ (q : List ℕ). AllLinked p q k (b ∷ ps) root) (sym (linked-split p k (size (b .body)) (allSize ps root)))
         (record {
           stand = (
-            standing-stands (b .body) leave k (standing-kept (b .body) k (changed-wider 2176 2448 (omega arith) (omega (arith, h)) whole) (omega (arith, h)) S)
+            standing-stands (b .body) leave k (standing-kept (b .body) k (changed-wider continuationsAt proceduresAt (omega arith) (omega (arith, h)) whole) (omega (arith, h)) S)
                 (subst (λ (n : ℕ). Ranged n (b .body)) (sym (whole .kept proceduresAt (inr (omega (arith, h))))) r) (omega (arith, h))
                 (region-kept (rest .changed) (inl (let n = continuations-length (b .body) leave k in omega (arith, n))) (body-links .region)),
             rest .stand,
@@ -104,21 +105,21 @@ module _ (b : Procedure) (ps : List Procedure) (root : Expr) (k : ℕ) (p : List
           changed = whole;
         })
 
-all-linked : (ps : List Procedure) (root : Expr) (k : ℕ) (p : List ℕ) → AllStanding p k ps root → Owned p k ps → AllRanged (getD p proceduresAt 0) ps root → length p ≡ 2449 →
+all-linked : (ps : List Procedure) (root : Expr) (k : ℕ) (p : List ℕ) → AllStanding p k ps root → Owned p k ps → AllRanged (getD p proceduresAt 0) ps root → length p ≡ programSize →
     k + allSize ps root ≤ 256 → AllLinked p (linkedFrom p k (allSize ps root)) k ps root
 unfolding allSize
 all-linked [] root k p S O r long h =
     let L = links root finish k p S long h O in
-    let c = changed-wider (2176 + k) (2176 + k + size root) (omega arith) (omega arith) (L .changed) in
+    let c = changed-wider (continuationsAt + k) (continuationsAt + k + size root) (omega arith) (omega arith) (L .changed) in
     let m = c .kept proceduresAt (inr (omega (arith, h))) in
     record {
-      stand = standing-stands root finish k (standing-kept root k (changed-wider 2176 2448 (omega arith) (omega (arith, h)) (L .changed)) h S) (subst (λ (n : ℕ). Ranged n root) (sym m) r) h (L .region);
+      stand = standing-stands root finish k (standing-kept root k (changed-wider continuationsAt proceduresAt (omega arith) (omega (arith, h)) (L .changed)) h S) (subst (λ (n : ℕ). Ranged n root) (sym m) r) h (L .region);
       changed = c;
     }
 all-linked (b ∷ ps) root k p (S, Ss) (o, os) (r, rs) long h =
     body-linked b ps root k p S o r long h
     (all-linked ps root (k + size (b .body)) (linkedFrom p k (size (b .body)))
-    (all-kept ps root (k + size (b .body)) (changed-wider 2176 2448 (omega arith) (omega (arith, h)) (first-change b ps root k p S o r long h)) (omega (arith, h)) Ss)
+    (all-kept ps root (k + size (b .body)) (changed-wider continuationsAt proceduresAt (omega arith) (omega (arith, h)) (first-change b ps root k p S o r long h)) (omega (arith, h)) Ss)
     (owned-kept ps (k + size (b .body)) (first-change b ps root k p S o r long h) (omega arith) os)
     (subst (λ (n : ℕ). AllRanged n ps root) (sym (first-change b ps root k p S o r long h .kept proceduresAt (inr (omega (arith, h))))) rs)
     (first-change b ps root k p S o r long h .long ∙ long) (omega (arith, h)))
@@ -130,7 +131,7 @@ abbrev pub FirstsAt : (p : List ℕ) (f k : ℕ) → List Procedure → Type 0
 FirstsAt p f k [] = firstOf p f ≡ k
 FirstsAt p f k (b ∷ ps) = (firstOf p f ≡ k) × FirstsAt p (f + 1) (k + size (b .body)) ps
 
-firsts-kept : {p p′ : List ℕ} (ps : List Procedure) (f k : ℕ) → ChangedWithin 2176 2449 p p′ → f + length ps ≤ 16 → FirstsAt p f k ps → FirstsAt p′ f k ps
+firsts-kept : {p p′ : List ℕ} (ps : List Procedure) (f k : ℕ) → ChangedWithin continuationsAt programSize p p′ → f + length ps ≤ 16 → FirstsAt p f k ps → FirstsAt p′ f k ps
 unfolding firstOf
 firsts-kept [] f k c h e = c .kept (procFirstsAt + f) (inl (omega (arith, h))) ∙ e
 firsts-kept (b ∷ ps) f k c h (e, es) = (c .kept (procFirstsAt + f) (inl (omega (arith, h))) ∙ e, firsts-kept ps (f + 1) (k + size (b .body)) c (omega (arith, h)) es)
@@ -141,29 +142,29 @@ OwnedBodies p k (b ∷ ps) = (continuation p k ≡ leave) × OwnedBodies p (k + 
 
 record BodiesOwned (p p′ : List ℕ) (k : ℕ) (ps : List Procedure) : Type 0 where
   owned : OwnedBodies p′ k ps
-  changed : ChangedWithin (2176 + k) (2176 + k + bodiesSize ps) p p′
+  changed : ChangedWithin (continuationsAt + k) (continuationsAt + k + bodiesSize ps) p p′
 
 -- one body, and those behind it
-body-owned : (b : Procedure) (ps : List Procedure) (f k : ℕ) (p : List ℕ) → length p ≡ 2449 → k + (size (b .body) + bodiesSize ps) ≤ 256 →
-    BodiesOwned (set p (2176 + k) leave) (bodiesJoined (set p (2176 + k) leave) (f + 1) (length ps)) (k + size (b .body)) ps → BodiesOwned p (bodiesJoined (set p (2176 + k) leave) (f + 1) (length ps)) k (b ∷ ps)
+body-owned : (b : Procedure) (ps : List Procedure) (f k : ℕ) (p : List ℕ) → length p ≡ programSize → k + (size (b .body) + bodiesSize ps) ≤ 256 →
+    BodiesOwned (set p (continuationsAt + k) leave) (bodiesJoined (set p (continuationsAt + k) leave) (f + 1) (length ps)) (k + size (b .body)) ps → BodiesOwned p (bodiesJoined (set p (continuationsAt + k) leave) (f + 1) (length ps)) k (b ∷ ps)
 unfolding bodiesSize continuation
 body-owned b ps f k p long h rest =
     let n = some-steps (b .body) in
     record {
-      owned = (rest .changed .kept (2176 + k) (inl (omega (arith, n))) ∙ getD-set-same p (2176 + k) leave 0 (omega (arith, long, h)), rest .owned);
-      changed = changed-then (2176 + k) (2176 + k + (size (b .body) + bodiesSize ps)) (changed-store (2176 + k) (2176 + k + (size (b .body) + bodiesSize ps)) p (2176 + k) leave (omega arith) (omega (arith, n)))
-          (changed-wider (2176 + k) (2176 + k + (size (b .body) + bodiesSize ps)) (omega arith) (omega arith) (rest .changed));
+      owned = (rest .changed .kept (continuationsAt + k) (inl (omega (arith, n))) ∙ getD-set-same p (continuationsAt + k) leave 0 (omega (arith, long, h)), rest .owned);
+      changed = changed-then (continuationsAt + k) (continuationsAt + k + (size (b .body) + bodiesSize ps)) (changed-store (continuationsAt + k) (continuationsAt + k + (size (b .body) + bodiesSize ps)) p (continuationsAt + k) leave (omega arith) (omega (arith, n)))
+          (changed-wider (continuationsAt + k) (continuationsAt + k + (size (b .body) + bodiesSize ps)) (omega arith) (omega arith) (rest .changed));
     }
 
-bodies-owned : (ps : List Procedure) (f k : ℕ) (p : List ℕ) → FirstsAt p f k ps → length p ≡ 2449 → k + bodiesSize ps ≤ 256 → f + length ps ≤ 16 → BodiesOwned p (bodiesJoined p f (length ps)) k ps
+bodies-owned : (ps : List Procedure) (f k : ℕ) (p : List ℕ) → FirstsAt p f k ps → length p ≡ programSize → k + bodiesSize ps ≤ 256 → f + length ps ≤ 16 → BodiesOwned p (bodiesJoined p f (length ps)) k ps
 unfolding bodiesSize bodiesJoined joined continuation
-bodies-owned [] f k p e long h few = record { owned = tt; changed = changed-nothing (2176 + k) (2176 + k + 0) p }
+bodies-owned [] f k p e long h few = record { owned = tt; changed = changed-nothing (continuationsAt + k) (continuationsAt + k + 0) p }
 bodies-owned (b ∷ ps) f k p (e, es) long h few =
-    subst (λ (i : ℕ). BodiesOwned p (bodiesJoined (set p (2176 + i) leave) (f + 1) (length ps)) k (b ∷ ps)) (sym e)
+    subst (λ (i : ℕ). BodiesOwned p (bodiesJoined (set p (continuationsAt + i) leave) (f + 1) (length ps)) k (b ∷ ps)) (sym e)
     (body-owned b ps f k p long h
-    (bodies-owned ps (f + 1) (k + size (b .body)) (set p (2176 + k) leave)
-    (firsts-kept ps (f + 1) (k + size (b .body)) (changed-store 2176 2449 p (2176 + k) leave (omega arith) (omega (arith, h))) (omega (arith, few)) es)
-    (length-set p (2176 + k) leave ∙ long) (omega (arith, h)) (omega (arith, few))))
+    (bodies-owned ps (f + 1) (k + size (b .body)) (set p (continuationsAt + k) leave)
+    (firsts-kept ps (f + 1) (k + size (b .body)) (changed-store continuationsAt programSize p (continuationsAt + k) leave (omega arith) (omega (arith, h))) (omega (arith, few)) es)
+    (length-set p (continuationsAt + k) leave ∙ long) (omega (arith, h)) (omega (arith, few))))
 
 -- where the root begins
 root-first : (p : List ℕ) (ps : List Procedure) (f k : ℕ) → FirstsAt p f k ps → firstOf p (f + length ps) ≡ k + bodiesSize ps
@@ -177,11 +178,11 @@ root-at p ps F =
     ap (firstOf p) (let z : length ps ≡ 0 + length ps = omega arith in z) ∙ root-first p ps 0 0 F ∙ (let z : 0 + bodiesSize ps ≡ bodiesSize ps = omega arith in z)
 
 -- with the root's own
-owned-all : (p : List ℕ) (ps : List Procedure) (k j : ℕ) → j ≡ k + bodiesSize ps → length p ≡ 2449 → j < 272 → OwnedBodies p k ps → Owned (set p (2176 + j) finish) k ps
+owned-all : (p : List ℕ) (ps : List Procedure) (k j : ℕ) → j ≡ k + bodiesSize ps → length p ≡ programSize → j < 272 → OwnedBodies p k ps → Owned (set p (continuationsAt + j) finish) k ps
 unfolding bodiesSize continuation
-owned-all p [] k j e long h o = ap (λ (i : ℕ). getD (set p (2176 + j) finish) (2176 + i) 0) (omega (arith, e)) ∙ getD-set-same p (2176 + j) finish 0 (omega (arith, long, h))
+owned-all p [] k j e long h o = ap (λ (i : ℕ). getD (set p (continuationsAt + j) finish) (continuationsAt + i) 0) (omega (arith, e)) ∙ getD-set-same p (continuationsAt + j) finish 0 (omega (arith, long, h))
 owned-all p (b ∷ ps) k j e long h (o, os) = (
-  getD-set-other p (2176 + j) (2176 + k) finish 0 (λ z. let n = some-steps (b .body) in omega (arith, z, e, n)) ∙ o,
+  getD-set-other p (continuationsAt + j) (continuationsAt + k) finish 0 (λ z. let n = some-steps (b .body) in omega (arith, z, e, n)) ∙ o,
   owned-all p ps (k + size (b .body)) j (omega (arith, e)) long h os,
 )
 
@@ -192,7 +193,7 @@ abbrev pub VariablesAt : (p : List ℕ) (f : ℕ) → List Procedure → Type 0
 VariablesAt p f [] = Unit {0}
 VariablesAt p f (b ∷ ps) = (getD p (procVarsAt + f) 0 ≡ b .parameter) × (b .parameter < 256) × VariablesAt p (f + 1) ps
 
-variables-kept : {p p′ : List ℕ} (ps : List Procedure) (f : ℕ) → ChangedWithin 2176 2449 p p′ → f + length ps ≤ 16 → VariablesAt p f ps → VariablesAt p′ f ps
+variables-kept : {p p′ : List ℕ} (ps : List Procedure) (f : ℕ) → ChangedWithin continuationsAt programSize p p′ → f + length ps ≤ 16 → VariablesAt p f ps → VariablesAt p′ f ps
 variables-kept [] f c h v = tt
 variables-kept (b ∷ ps) f c h (e, l, v) = (c .kept (procVarsAt + f) (inl (omega (arith, h))) ∙ e, l, variables-kept ps (f + 1) c (omega (arith, h)) v)
 
@@ -216,16 +217,16 @@ pub record ProgramStands (p : List ℕ) (ps : List Procedure) (root : Expr) : Ty
   pub root-stands : Stands p finish (rootOf p) root
 
 module _ (p : List ℕ) (ps : List Procedure) (root : Expr) (S : AllStanding p 0 ps root) (F : FirstsAt p 0 0 ps) (Vs : VariablesAt p 0 ps) (r : AllRanged (length ps) ps root)
-    (long : length p ≡ 2449) (few : allSize ps root ≤ 256) (procs : length ps ≤ 16) where
+    (long : length p ≡ programSize) (few : allSize ps root ≤ 256) (procs : length ps ≤ 16) where
   abbrev m : ℕ
   m = length ps
 
   unfoldable p₁ : List ℕ
-  p₁ = set p 2448 m
+  p₁ = set p proceduresAt m
 
-  count-store : ChangedWithin 2176 2449 p p₁
+  count-store : ChangedWithin continuationsAt programSize p p₁
   unfolding p₁
-  count-store = changed-store 2176 2449 p 2448 m (omega arith) (omega arith)
+  count-store = changed-store continuationsAt programSize p proceduresAt m (omega arith) (omega arith)
 
   unfoldable p₂ : List ℕ
   p₂ = bodiesJoined p₁ 0 m
@@ -237,12 +238,12 @@ module _ (p : List ℕ) (ps : List Procedure) (root : Expr) (S : AllStanding p 0
   unfolding p₂
   bodies-joined = bodies-owned ps 0 0 p₁ (firsts-kept ps 0 0 count-store (omega (arith, procs)) F) (count-store .long ∙ long) (let h = bodies-few in omega (arith, h)) (omega (arith, procs))
 
-  to-bodies : ChangedWithin 2176 2449 p p₂
-  to-bodies = changed-then 2176 2449 count-store (changed-wider 2176 2449 (omega arith) (let h = bodies-few in omega (arith, h)) (bodies-joined .changed))
+  to-bodies : ChangedWithin continuationsAt programSize p p₂
+  to-bodies = changed-then continuationsAt programSize count-store (changed-wider continuationsAt programSize (omega arith) (let h = bodies-few in omega (arith, h)) (bodies-joined .changed))
 
   count₂ : getD p₂ proceduresAt 0 ≡ m
   unfolding p₁
-  count₂ = bodies-joined .changed .kept proceduresAt (inr (let h = bodies-few in omega (arith, h))) ∙ getD-set-same p 2448 m 0 (omega (arith, long))
+  count₂ = bodies-joined .changed .kept proceduresAt (inr (let h = bodies-few in omega (arith, h))) ∙ getD-set-same p proceduresAt m 0 (omega (arith, long))
 
   firsts₂ : FirstsAt p₂ 0 0 ps
   firsts₂ = firsts-kept ps 0 0 to-bodies (omega (arith, procs)) F
@@ -252,14 +253,14 @@ module _ (p : List ℕ) (ps : List Procedure) (root : Expr) (S : AllStanding p 0
   root₂ = ap (firstOf p₂) count₂ ∙ root-at p₂ ps firsts₂
 
   unfoldable p₃ : List ℕ
-  p₃ = set p₂ (2176 + rootOf p₂) finish
+  p₃ = set p₂ (continuationsAt + rootOf p₂) finish
 
-  root-store : ChangedWithin 2176 2448 p₂ p₃
+  root-store : ChangedWithin continuationsAt proceduresAt p₂ p₃
   unfolding p₃
-  root-store = let e = root₂ in let h = bodies-few in changed-store 2176 2448 p₂ (2176 + rootOf p₂) finish (omega arith) (omega (arith, e, h))
+  root-store = let e = root₂ in let h = bodies-few in changed-store continuationsAt proceduresAt p₂ (continuationsAt + rootOf p₂) finish (omega arith) (omega (arith, e, h))
 
-  to-root : ChangedWithin 2176 2449 p p₃
-  to-root = changed-then 2176 2449 to-bodies (changed-wider 2176 2449 (omega arith) (omega arith) root-store)
+  to-root : ChangedWithin continuationsAt programSize p p₃
+  to-root = changed-then continuationsAt programSize to-bodies (changed-wider continuationsAt programSize (omega arith) (omega arith) root-store)
 
   owned₃ : Owned p₃ 0 ps
   unfolding p₃
@@ -277,9 +278,9 @@ module _ (p : List ℕ) (ps : List Procedure) (root : Expr) (S : AllStanding p 0
   unfoldable p₄ : List ℕ
   p₄ = linkedFrom p₃ 0 (allSize ps root)
 
-  to-end : ChangedWithin 2176 2449 p p₄
+  to-end : ChangedWithin continuationsAt programSize p p₄
   unfolding p₄
-  to-end = changed-then 2176 2449 to-root (changed-wider 2176 2449 (omega arith) (omega (arith, few)) (linked-all .changed))
+  to-end = changed-then continuationsAt programSize to-root (changed-wider continuationsAt programSize (omega arith) (omega (arith, few)) (linked-all .changed))
 
   count₄ : getD p₄ proceduresAt 0 ≡ m
   unfolding p₄

@@ -18,9 +18,10 @@ use Rattle.calculus.specs.State.{update}
 use Rattle.calculus.specs.Reduction.{_>>=_}
 use Rattle.workspace.specs.Layout.{ruleOf, printed}
 use Rattle.threads.specs.declared.Threads.{Threads}
+use Rattle.control.specs.Layout.{leave, proceduresAt, keptValuesAt, openCallsAt, focusModesAt, focusPlacesAt, focusValuesAt, focusRowsAt, spaceSize}
 use Rattle.control.specs.declared.Focus.{Focus}
 use Rattle.control.specs.Shapes.{shapeOf, shapeAt}
-use Rattle.control.specs.Control.{leave, keptAt, callsAt, variable, kept, calledFrom, continuation, firstOf, focus, entering, readyAt}
+use Rattle.control.specs.Control.{variable, kept, calledFrom, continuation, firstOf, focus, entering, readyAt}
 use Rattle.reduction.specs.declared.words.Act.{Act}
 use Rattle.reduction.specs.declared.words.Act.the-variants.{Go}
 use Rattle.call_step.specs.Calls.{above, rowClearedFrom, rowCleared, calleeOf, callEntered, argumentPut, calledSpace}
@@ -58,7 +59,7 @@ module _ (b : ℕ) where
   cleared-outside (suc n) s x j (inl l) = cleared-outside n (one s x) (x + 1) j (inl (omega (arith, l))) ∙ getD-set-other s (0 + 256 * b + x) j 0 0 (λ e. omega (arith, e, l))
   cleared-outside (suc n) s x j (inr l) = cleared-outside n (one s x) (x + 1) j (inr (omega (arith, l))) ∙ getD-set-other s (0 + 256 * b + x) j 0 0 (λ e. omega (arith, e, l))
 
-  cleared-row : (n : ℕ) (s : List ℕ) (x y : ℕ) → length s ≡ 542960 → b < 1056 → x + n ≤ 256 → x ≤ y → y < x + n → _≡_ {A = ℕ} (getD (rowClearedFrom s b x n) (0 + 256 * b + y) 0) 0
+  cleared-row : (n : ℕ) (s : List ℕ) (x y : ℕ) → length s ≡ spaceSize → b < 1056 → x + n ≤ 256 → x ≤ y → y < x + n → _≡_ {A = ℕ} (getD (rowClearedFrom s b x n) (0 + 256 * b + y) 0) 0
   unfolding rowClearedFrom
   cleared-row zero s x y long low h m l = absurd (omega (arith, m, l))
   cleared-row (suc n) s x y long low h m l = go (ℕ-discrete x y) (cleared-row n (one s x) (x + 1) y (length-set s (0 + 256 * b + x) 0 ∙ long) low (omega (arith, h)))
@@ -74,7 +75,7 @@ module _ (b : ℕ) where
 -- ------------------------------------------------------------------ the space of a call
 
 -- the row b, the variable x with the number v, the step k of the call
-module _ (s : List ℕ) (long : length s ≡ 542960) (b x v k : ℕ) (low : b < 1056) (x-low : x < 256) where
+module _ (s : List ℕ) (long : length s ≡ spaceSize) (b x v k : ℕ) (low : b < 1056) (x-low : x < 256) where
   abbrev s₀ : List ℕ
   s₀ = rowClearedFrom s b 0 256
 
@@ -82,32 +83,32 @@ module _ (s : List ℕ) (long : length s ≡ 542960) (b x v k : ℕ) (low : b < 
   s₁ = set s₀ (0 + 256 * b + x) v
 
   abbrev s₂ : List ℕ
-  s₂ = set s₁ (callsAt + b) k
+  s₂ = set s₁ (openCallsAt + b) k
 
-  long₀ : length s₀ ≡ 542960
+  long₀ : length s₀ ≡ spaceSize
   long₀ = cleared-length b 256 s 0 ∙ long
 
-  long₁ : length s₁ ≡ 542960
+  long₁ : length s₁ ≡ spaceSize
   long₁ = length-set s₀ (0 + 256 * b + x) v ∙ long₀
 
-  long₂ : length s₂ ≡ 542960
-  long₂ = length-set s₁ (callsAt + b) k ∙ long₁
+  long₂ : length s₂ ≡ spaceSize
+  long₂ = length-set s₁ (openCallsAt + b) k ∙ long₁
 
-  elsewhere : (j : ℕ) → (j < 256 * b) ⊎ (256 * b + 256 ≤ j) → j ≢ callsAt + b → getD s₂ j 0 ≡ getD s j 0
+  elsewhere : (j : ℕ) → (j < 256 * b) ⊎ (256 * b + 256 ≤ j) → j ≢ openCallsAt + b → getD s₂ j 0 ≡ getD s j 0
   elsewhere j (inl l) n =
-      getD-set-other s₁ (callsAt + b) j k 0 n ∙ getD-set-other s₀ (0 + 256 * b + x) j v 0 (λ e. omega (arith, e, l)) ∙ cleared-outside b 256 s 0 j (inl (omega (arith, l)))
+      getD-set-other s₁ (openCallsAt + b) j k 0 n ∙ getD-set-other s₀ (0 + 256 * b + x) j v 0 (λ e. omega (arith, e, l)) ∙ cleared-outside b 256 s 0 j (inl (omega (arith, l)))
   elsewhere j (inr l) n =
-      getD-set-other s₁ (callsAt + b) j k 0 n ∙ getD-set-other s₀ (0 + 256 * b + x) j v 0 (λ e. omega (arith, e, l, x-low)) ∙ cleared-outside b 256 s 0 j (inr (omega (arith, l)))
+      getD-set-other s₁ (openCallsAt + b) j k 0 n ∙ getD-set-other s₀ (0 + 256 * b + x) j v 0 (λ e. omega (arith, e, l, x-low)) ∙ cleared-outside b 256 s 0 j (inr (omega (arith, l)))
 
   call-here : calledFrom s₂ b ≡ k
   unfolding calledFrom
-  call-here = getD-set-same s₁ (callsAt + b) k 0 (omega (arith, long₁, low))
+  call-here = getD-set-same s₁ (openCallsAt + b) k 0 (omega (arith, long₁, low))
 
   -- the body's variables
   argument-values : (p : List ℕ) (u : Value) → codeValue u ≡ v → Values p s₂ b (update zeros x u)
   unfolding variable
   argument-values p u e y h =
-      getD-set-other s₁ (callsAt + b) (0 + 256 * b + y) k 0 (λ z. omega (arith, z, low, h)) ∙ by-name (ℕ-discrete y x)
+      getD-set-other s₁ (openCallsAt + b) (0 + 256 * b + y) k 0 (λ z. omega (arith, z, low, h)) ∙ by-name (ℕ-discrete y x)
     where
       by-name : (d : Dec (y ≡ x)) → getD s₁ (0 + 256 * b + y) 0 ≡ codeValue (choose d u (int 0))
       by-name (yes z) = ap (λ (j : ℕ). getD s₁ (0 + 256 * b + j) 0) z ∙ getD-set-same s₀ (0 + 256 * b + x) v 0 (omega (arith, long₀, low, x-low)) ∙ sym e
@@ -117,10 +118,10 @@ module _ (s : List ℕ) (long : length s ≡ 542960) (b x v k : ℕ) (low : b < 
   rows-before-same : (p : List ℕ) (t c : ℕ) → (row : ℕ) → b ≡ row + 1 → c ≤ 256 → RowsSame p t row c s s₂
   unfolding kept variable calledFrom
   rows-before-same p t c row is h = record {
-    here = λ j l. elsewhere (keptAt + 256 * row + j) (inr (omega (arith, low))) (λ e. omega (arith, e, low, is, l, h));
-    before = λ i j a l m. elsewhere (keptAt + 256 * i + j) (inr (omega (arith, low))) (λ e. omega (arith, e, low, is, l, m));
+    here = λ j l. elsewhere (keptValuesAt + 256 * row + j) (inr (omega (arith, low))) (λ e. omega (arith, e, low, is, l, h));
+    before = λ i j a l m. elsewhere (keptValuesAt + 256 * i + j) (inr (omega (arith, low))) (λ e. omega (arith, e, low, is, l, m));
     variables = λ i y a l m. elsewhere (0 + 256 * i + y) (inl (omega (arith, is, l, m))) (λ e. omega (arith, e, low, is, l, m));
-    called = λ i a l. elsewhere (callsAt + i) (inr (omega (arith, low))) (λ e. omega (arith, e, is, l));
+    called = λ i a l. elsewhere (openCallsAt + i) (inr (omega (arith, low))) (λ e. omega (arith, e, is, l));
   }
 
   row-before-same : (row y : ℕ) → b ≡ row + 1 → y < 256 → variable s₂ row y ≡ variable s row y
@@ -133,14 +134,14 @@ module _ (s : List ℕ) (long : length s ≡ 542960) (b x v k : ℕ) (low : b < 
   agree-called t i (lo, hi) h n = record {
     rows = record {
       variables = λ r y in-row m. elsewhere (0 + 256 * r + y) (beside r y in-row m (less-or-more i t n)) (λ e. omega (arith, e, m, h, in-row .1));
-      kepts = λ r j in-row m. elsewhere (keptAt + 256 * r + j) (inr (omega (arith, low))) (λ e. omega (arith, e, m, h, in-row .1));
-      calls = λ r in-row. elsewhere (callsAt + r) (inr (omega (arith, low))) (λ e. other r in-row (less-or-more i t n) (omega (arith, e)));
+      kepts = λ r j in-row m. elsewhere (keptValuesAt + 256 * r + j) (inr (omega (arith, low))) (λ e. omega (arith, e, m, h, in-row .1));
+      calls = λ r in-row. elsewhere (openCallsAt + r) (inr (omega (arith, low))) (λ e. other r in-row (less-or-more i t n) (omega (arith, e)));
     };
     focused = λ z. focus
-        (elsewhere (541728 + i) (inr (omega (arith, low))) (λ e. omega (arith, e, low)) z)
-        (elsewhere (541744 + i) (inr (omega (arith, low))) (λ e. omega (arith, e, low)) z)
-        (elsewhere (541760 + i) (inr (omega (arith, low))) (λ e. omega (arith, e, low)) z)
-        (elsewhere (541776 + i) (inr (omega (arith, low))) (λ e. omega (arith, e, low)) z);
+        (elsewhere (focusModesAt + i) (inr (omega (arith, low))) (λ e. omega (arith, e, low)) z)
+        (elsewhere (focusPlacesAt + i) (inr (omega (arith, low))) (λ e. omega (arith, e, low)) z)
+        (elsewhere (focusValuesAt + i) (inr (omega (arith, low))) (λ e. omega (arith, e, low)) z)
+        (elsewhere (focusRowsAt + i) (inr (omega (arith, low))) (λ e. omega (arith, e, low)) z);
   }
     where
       beside : (r y : ℕ) → RowIn i r → y < 256 → (i < t) ⊎ (t < i) → (0 + 256 * r + y < 256 * b) ⊎ (256 * b + 256 ≤ 0 + 256 * r + y)
@@ -177,7 +178,7 @@ module _ (p s : List ℕ) (T : Threads) (R : Replay) (t tid : ℕ) (σ : Env) (K
   new-low = let l = row-low in omega (arith, low)
 
   called : g < length (M .procedures)
-  called = let c = H .bodies .counted in let l : n < getD p 2448 0 = r .small in omega (arith, c, l, is)
+  called = let c = H .bodies .counted in let l : n < getD p proceduresAt 0 = r .small in omega (arith, c, l, is)
 
   module _ (body : Procedure) (listed : getElem? (M .procedures) g ≡ some body) where
     B : BodyStands p g body

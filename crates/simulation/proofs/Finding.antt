@@ -17,9 +17,10 @@ use Rattle.spec.specs.declared.BinaryWord.the-variants.{Let, If, Spawn, Write}
 use Rattle.calculus.specs.Expression as calculus
 use Rattle.calculus.specs.Expression.{Value, int, join, ref, read, lock, unlock, post, wait, hold, rdlock, rdunlock, wrlock, wrunlock, call}
 use Rattle.workspace.specs.Layout.{ruleOf, codeOf, printed}
+use Rattle.control.specs.Layout.{secondPart, finish, leave, keptValuesAt, openCallsAt, spaceSize}
 use Rattle.control.specs.declared.Focus.{Focus}
 use Rattle.control.specs.Shapes.{shapeOf, isWrite}
-use Rattle.control.specs.Control.{secondPart, finish, leave, keptAt, callsAt, variable, kept, calledFrom, continuation, second, entering, returning, stoppedAt, readyAt, doneWith, enteredBy}
+use Rattle.control.specs.Control.{variable, kept, calledFrom, continuation, second, entering, returning, stoppedAt, readyAt, doneWith, enteredBy}
 use Rattle.control.proofs.Turns.{found-stop}
 use Rattle.machine.specs.Environment.{Env}
 use Rattle.machine.specs.Control.{Frame, letFrame, spawnFrame, writeFirst, writeSecond, unaryFrame, againFrame, markFrame, letWord, ifWord, whileWord, spawnWord, writeWord, unaryWord, makeWord, againWord, Control, done, at, seekPart, seek, return, enter, runPart, marks}
@@ -77,18 +78,18 @@ module _ (p : List ℕ) (t : ℕ) where
       )
 
   -- the value of step k is kept
-  pub kept-other : (s : List ℕ) (row k x : ℕ) → t < 16 → RowIn t row → k < 256 → RowsSame row k s (set s (keptAt + 256 * row + k) x)
+  pub kept-other : (s : List ℕ) (row k x : ℕ) → t < 16 → RowIn t row → k < 256 → RowsSame row k s (set s (keptValuesAt + 256 * row + k) x)
   unfolding kept variable calledFrom
   kept-other s row k x small (lo, hi) low = record {
-    here = λ j l. getD-set-other s (keptAt + 256 * row + k) (keptAt + 256 * row + j) x 0 (λ e. omega (arith, e, l));
-    before = λ i j a l m. getD-set-other s (keptAt + 256 * row + k) (keptAt + 256 * i + j) x 0 (λ e. omega (arith, e, l, m));
-    variables = λ i y a l m. getD-set-other s (keptAt + 256 * row + k) (0 + 256 * i + y) x 0 (λ e. omega (arith, e, l, m, hi, small));
-    called = λ i a l. getD-set-other s (keptAt + 256 * row + k) (callsAt + i) x 0 (λ e. omega (arith, e, hi, small, low));
+    here = λ j l. getD-set-other s (keptValuesAt + 256 * row + k) (keptValuesAt + 256 * row + j) x 0 (λ e. omega (arith, e, l));
+    before = λ i j a l m. getD-set-other s (keptValuesAt + 256 * row + k) (keptValuesAt + 256 * i + j) x 0 (λ e. omega (arith, e, l, m));
+    variables = λ i y a l m. getD-set-other s (keptValuesAt + 256 * row + k) (0 + 256 * i + y) x 0 (λ e. omega (arith, e, l, m, hi, small));
+    called = λ i a l. getD-set-other s (keptValuesAt + 256 * row + k) (openCallsAt + i) x 0 (λ e. omega (arith, e, hi, small, low));
   }
 
-  pub kept-here : (s : List ℕ) (row k x : ℕ) → keptAt + 256 * row + k < length s → kept (set s (keptAt + 256 * row + k) x) row k ≡ x
+  pub kept-here : (s : List ℕ) (row k x : ℕ) → keptValuesAt + 256 * row + k < length s → kept (set s (keptValuesAt + 256 * row + k) x) row k ≡ x
   unfolding kept
-  kept-here s row k x h = getD-set-same s (keptAt + 256 * row + k) x 0 h
+  kept-here s row k x h = getD-set-same s (keptValuesAt + 256 * row + k) x 0 h
 
   -- the row of frames tells how many calls are open in them
   pub frames-row : (s : List ℕ) (K : List Frame) (row b c : ℕ) → Frames p s t row b c K → row ≡ 66 * t + marks K
@@ -112,7 +113,7 @@ module _ (p : List ℕ) (t : ℕ) (small : t < 16) (σ : Env) (row : ℕ) (s₀ 
   -- the space while the loop runs in that row, within frames whose steps are below b
   pub record Ready (s : List ℕ) (b c : ℕ) (K : List Frame) : Type 0 where
     pub same : SameBut t s₀ s
-    pub long : length s ≡ 542960
+    pub long : length s ≡ spaceSize
     pub inside : RowIn t row
     pub values : Values p s row σ
     pub frames : Frames p s t row b c K
@@ -191,19 +192,19 @@ module _ (p : List ℕ) (t : ℕ) (small : t < 16) (σ : Env) (row : ℕ) (s₀ 
 
   -- its first part's value is kept
   other-ready : (q : Position) (e : Expr) (w : Value) (b c : ℕ) (K : List Frame) (s : List ℕ) → Ready s b c (writeFirst q e ∷ K) →
-      Ready (set s (keptAt + 256 * row + q .index) (codeValue w)) (q .index + 1) (secondPart + q .index) (writeSecond q w ∷ K)
+      Ready (set s (keptValuesAt + 256 * row + q .index) (codeValue w)) (q .index + 1) (secondPart + q .index) (writeSecond q w ∷ K)
   unfolding variable
   other-ready q e w b c K s R =
       let ((l, is, n, r, S), F) = R .frames in
       let low = r .below in
       record {
         same = same-but-one t row (q .index) (codeValue w) s₀ s (R .inside) low (R .same);
-        long = length-set s (keptAt + 256 * row + q .index) (codeValue w) ∙ R .long;
+        long = length-set s (keptValuesAt + 256 * row + q .index) (codeValue w) ∙ R .long;
         inside = R .inside;
-        values = λ x h. getD-set-other s (keptAt + 256 * row + q .index) (0 + 256 * row + x) (codeValue w) 0 (λ z. omega (arith, z, h, small, R .inside .1)) ∙ R .values x h;
+        values = λ x h. getD-set-other s (keptValuesAt + 256 * row + q .index) (0 + 256 * row + x) (codeValue w) 0 (λ z. omega (arith, z, h, small, R .inside .1)) ∙ R .values x h;
         frames = (
           (omega arith, refl, n, r, kept-here p t s row (q .index) (codeValue w) (omega (arith, R .long, small, low, R .inside .1))),
-          frames-same p t s (set s (keptAt + 256 * row + q .index) (codeValue w)) row (q .index) (continuation p (q .index)) K (kept-other p t s row (q .index) (codeValue w) small (R .inside) low) F,
+          frames-same p t s (set s (keptValuesAt + 256 * row + q .index) (codeValue w)) row (q .index) (continuation p (q .index)) K (kept-other p t s row (q .index) (codeValue w) small (R .inside) low) F,
         );
       }
 
@@ -216,10 +217,10 @@ module _ (p : List ℕ) (t : ℕ) (small : t < 16) (σ : Env) (row : ℕ) (s₀ 
       let ((l, is, n, r, S), F) = R .frames in
       subst (λ (j : ℕ). Finds (seek σ e (writeSecond q w ∷ K) (λ u. at σ (writeWord q w u) K)) (go p row m s (returning row j (codeValue w)))) (sym is)
       (takes-turn (seek σ e (writeSecond q w ∷ K) (λ u. at σ (writeWord q w u) K)) m s (returning row (q .index) (codeValue w))
-      (go p row (m - 1) (set s (keptAt + 256 * row + q .index) (codeValue w)) (entering row (second p (q .index)))) (omega (arith, le))
+      (go p row (m - 1) (set s (keptValuesAt + 256 * row + q .index) (codeValue w)) (entering row (second p (q .index)))) (omega (arith, le))
       (to-other p row (m - 1) (q .index) (codeValue w) s r)
-      (rec (secondPart + q .index) (second p (q .index)) S (writeSecond q w ∷ K) (λ u. at σ (writeWord q w u) K) 1 (m - 1) (set s (keptAt + 256 * row + q .index) (codeValue w)) (omega (arith, le))
-      (raised (set s (keptAt + 256 * row + q .index) (codeValue w)) (q .index + 1) (second p (q .index)) (secondPart + q .index) (writeSecond q w ∷ K) (omega (arith, r .far)) (other-ready q e w b c K s R))
+      (rec (secondPart + q .index) (second p (q .index)) S (writeSecond q w ∷ K) (λ u. at σ (writeWord q w u) K) 1 (m - 1) (set s (keptValuesAt + 256 * row + q .index) (codeValue w)) (omega (arith, le))
+      (raised (set s (keptValuesAt + 256 * row + q .index) (codeValue w)) (q .index + 1) (second p (q .index)) (secondPart + q .index) (writeSecond q w ∷ K) (omega (arith, r .far)) (other-ready q e w b c K s R))
       (write-lands q w (secondPart + q .index) K)))
 
   -- ---------------------------------------------------------------- the theorem

@@ -16,8 +16,9 @@ use Rattle.spec.specs.declared.BinaryWord.the-variants.{Let, If, Spawn, Write}
 use Rattle.calculus.specs.Expression as calculus
 use Rattle.calculus.specs.Expression.{Value, int, name}
 use Rattle.workspace.specs.Layout.{wordsAt, valuesAt, procVarsAt, codeOf}
+use Rattle.control.specs.Layout.{secondPart, finish, leave, proceduresAt}
 use Rattle.control.specs.declared.Focus.{Focus}
-use Rattle.control.specs.Control.{secondPart, finish, leave, proceduresAt, variable, kept, calledFrom, continuation, second, firstOf, stoppedAt, readyAt, unrolledAt, doneWith}
+use Rattle.control.specs.Control.{variable, kept, calledFrom, continuation, second, firstOf, stoppedAt, readyAt, unrolledAt, doneWith}
 use Rattle.machine.specs.Environment.{Env}
 use Rattle.machine.specs.Control as machine
 use Rattle.machine.specs.Control.{Frame, letFrame, spawnFrame, writeFirst, writeSecond, unaryFrame, againFrame, markFrame, Control, done, at}

@@ -13,10 +13,10 @@ use Rattle.threads.specs.declared.State.the-variants.{Running, Finished, Joined
 use Rattle.threads.specs.declared.Record.{Record}
 use Rattle.threads.specs.declared.Threads.{Threads}
 use Rattle.threads.specs.Records.{noRecord}
+use Rattle.control.specs.Layout.{thingCountsAt, nextValueAt, spaceSize}
 use Rattle.things.specs.declared.Slot.{Slot}
 use Rattle.reduction.specs.Slots.{slotAt}
 use Rattle.engine.specs.Focuses.{focusAt}
-use Rattle.reduction.specs.Words.{countsAt, nextAt}
 use Rattle.replay_theory.specs.Run.{Kind, cells, locks, rwlocks, semaphores, identifiers}
 use Rattle.machine.specs.Control.{Control, done, at, openCalls}
 use Rattle.machine.specs.State.{MachineThread}
@@ -61,8 +61,8 @@ pub record NamesHeld (s : List ℕ) (names : ℕ → calculus.Slot) (next : ℕ)
   pub constant : slotAt s 0 .kind ≡ 0
   pub slots : (n : ℕ) → suc n < 322 → SlotIs (slotAt s (suc n)) (names n)
   pub unused-from : UnusedFrom names next
-  pub nextStored : getD s nextAt 0 ≡ suc next
-  pub counted : (k : Kind) → getD s (countsAt + kindCode k) 0 ≡ things k
+  pub nextStored : getD s nextValueAt 0 ≡ suc next
+  pub counted : (k : Kind) → getD s (thingCountsAt + kindCode k) 0 ≡ things k
   pub few : (k : Kind) → things k ≤ 64
   pub all : next ≡ suc (allThings things)
 
@@ -95,7 +95,7 @@ ThreadsHeld p s T ts = (i : ℕ) (th : MachineThread) → getElem? ts i ≡ some
 -- ------------------------------------------------------------------ all
 
 pub record Holds (p s : List ℕ) (T : Threads) (R : Replay) : Type 0 where
-  pub long : length s ≡ 542960
+  pub long : length s ≡ spaceSize
   pub bodies : BodiesStand p (R .machine .procedures)
   pub names : NamesHeld s (R .machine .names) (R .machine .next) (R .things)
   pub sized : Sized T (R .machine .threads)

@@ -22,8 +22,9 @@ use Rattle.spec.specs.WellFormed.{prefix}
 use Rattle.spec.proofs.Listing.{prefix-length}
 use Rattle.workspace.proofs.Held.{ends-length}
 use Rattle.workspace.proofs.Expression.{codes, values, linesOf, Standing, leaf-head, unary-head, binary-head, standing-end, standing-part, standing-first, standing-second}
+use Rattle.control.specs.Layout.{continuationsAt, proceduresAt, programSize}
 use Rattle.control.specs.Shapes.{shapeOf, shapeAt}
-use Rattle.control.specs.Control.{proceduresAt, continuation, second}
+use Rattle.control.specs.Control.{continuation, second}
 use Rattle.control.specs.Continuations.{continuations, joined, linkedParts, linkedStep, linkedFrom}
 use Rattle.simulation.proofs.Held.{Small, afterFirst, afterSecond, Stands}
 
@@ -53,7 +54,7 @@ continuations-length (binary w q v e₁ e₂) c k =
     ∙ (let a = continuations-length e₁ (afterFirst w k c) (k + 1) in let b = continuations-length e₂ (afterSecond w k c) (k + 1 + size e₁) in omega (arith, a, b)))
 
 module _ {p : List ℕ} where
-  pub standing-stands : (e : Expr) (c k : ℕ) → Standing p k e → Ranged (getD p proceduresAt 0) e → k + size e ≤ 256 → Region p (2176 + k) (continuations c k e) → Stands p c k e
+  pub standing-stands : (e : Expr) (c k : ℕ) → Standing p k e → Ranged (getD p proceduresAt 0) e → k + size e ≤ 256 → Region p (continuationsAt + k) (continuations c k e) → Stands p c k e
   unfolding size continuations continuation second
   standing-stands (leaf w q v) c k S r h L =
       let d = leaf-head w q v S in
@@ -61,25 +62,25 @@ module _ {p : List ℕ} where
   standing-stands (unary w q v e) c k S (r, r₁) h L =
       let d = unary-head w q v e S in (
         record { below = omega (arith, h); index = d .index; code = d .code; number = d .value; next = region-first L; small = r; far = tt },
-        standing-stands e k (k + 1) (standing-part w q v e S) r₁ (omega (arith, h)) (region-moved (2176 + k + 1) (2176 + (k + 1)) (omega arith) (region-behind L)),
+        standing-stands e k (k + 1) (standing-part w q v e S) r₁ (omega (arith, h)) (region-moved (continuationsAt + k + 1) (continuationsAt + (k + 1)) (omega arith) (region-behind L)),
       )
   standing-stands (binary w q v e₁ e₂) c k S (r, r₁, r₂) h L =
       let d = binary-head w q v e₁ e₂ S in
-      let L′ = subst (Region p (2176 + k)) (continuations-binary w c k v q e₁ e₂) L in
+      let L′ = subst (Region p (continuationsAt + k)) (continuations-binary w c k v q e₁ e₂) L in
       let parts = region-behind L′ in
       let z : getD p (544 + 1 + k) 0 ≡ k + 1 + size e₁ = ap (λ (i : ℕ). getD p i 0) (omega arith) ∙ standing-end e₁ (standing-first w q v e₁ e₂ S) in
       let n = continuations-length e₁ (afterFirst w k c) (k + 1) in (
         record { below = omega (arith, h); index = d .index; code = d .code; number = d .value; next = region-first L′; small = r; far = (omega (arith, z)) },
-        standing-stands e₁ (afterFirst w k c) (k + 1) (standing-first w q v e₁ e₂ S) r₁ (omega (arith, h)) (region-moved (2176 + k + 1) (2176 + (k + 1)) (omega arith) (region-left _ _ parts)),
+        standing-stands e₁ (afterFirst w k c) (k + 1) (standing-first w q v e₁ e₂ S) r₁ (omega (arith, h)) (region-moved (continuationsAt + k + 1) (continuationsAt + (k + 1)) (omega arith) (region-left _ _ parts)),
         z,
         subst (λ (j : ℕ). Stands p (afterSecond w k c) j e₂) (sym z)
             (standing-stands e₂ (afterSecond w k c) (k + 1 + size e₁) (standing-second w q v e₁ e₂ S) r₂ (omega (arith, h))
-            (region-moved (2176 + k + 1 + length (continuations (afterFirst w k c) (k + 1) e₁)) (2176 + (k + 1 + size e₁)) (omega (arith, n)) (region-right (continuations (afterFirst w k c) (k + 1) e₁) _ parts))),
+            (region-moved (continuationsAt + k + 1 + length (continuations (afterFirst w k c) (k + 1) e₁)) (continuationsAt + (k + 1 + size e₁)) (omega (arith, n)) (region-right (continuations (afterFirst w k c) (k + 1) e₁) _ parts))),
       )
 
 -- ------------------------------------------------------------------ what linking does not touch
 
-pub standing-kept : {p p′ : List ℕ} {hi : ℕ} (e : Expr) (k : ℕ) → ChangedWithin 2176 hi p p′ → k + size e ≤ 256 → Standing p k e → Standing p′ k e
+pub standing-kept : {p p′ : List ℕ} {hi : ℕ} (e : Expr) (k : ℕ) → ChangedWithin continuationsAt hi p p′ → k + size e ≤ 256 → Standing p k e → Standing p′ k e
 unfolding codes values linesOf
 standing-kept e k x h S =
     let n = prefix-length e in
@@ -138,8 +139,8 @@ binary-linked p k Write e = rw e
 
 -- the continuations of an expression at k have been stored behind its own
 pub record Links (p p′ : List ℕ) (c k : ℕ) (e : Expr) : Type 0 where
-  pub region : Region p′ (2176 + k) (continuations c k e)
-  pub changed : ChangedWithin (2176 + k + 1) (2176 + k + size e) p p′
+  pub region : Region p′ (continuationsAt + k) (continuations c k e)
+  pub changed : ChangedWithin (continuationsAt + k + 1) (continuationsAt + k + size e) p p′
 
 region-cons : {p : List ℕ} {b x : ℕ} {xs : List ℕ} → getD p b 0 ≡ x → b < length p → Region p (b + 1) xs → Region p b (x ∷ xs)
 region-cons {p} {b} {x} {xs} e l r = record { fits = omega (arith, r .fits); at = at }
@@ -150,7 +151,7 @@ region-cons {p} {b} {x} {xs} e l r = record { fits = omega (arith, r .fits); at 
 
 -- linking an expression at k, in any columns where it stands and has its own continuation
 abbrev pub Linking : (c k : ℕ) → Expr → Type 0
-Linking c k e = (p : List ℕ) → Standing p k e → length p ≡ 2449 → k + size e ≤ 256 → continuation p k ≡ c → Links p (linkedFrom p k (size e)) c k e
+Linking c k e = (p : List ℕ) → Standing p k e → length p ≡ programSize → k + size e ≤ 256 → continuation p k ≡ c → Links p (linkedFrom p k (size e)) c k e
 
 pub some-steps : (e : Expr) → 1 ≤ size e
 unfolding size
@@ -163,29 +164,29 @@ unfolding linkedFrom continuations size continuation joined
 unary-links w q v e c k rec p S long h z =
     subst (λ (p₁ : List ℕ). Links p (linkedFrom p₁ (k + 1) (size e)) c k (unary w q v e)) (sym (unary-linked p k w (unary-head w q v e S .code)))
     (record {
-      region = region-cons (rest .changed .kept (2176 + k) (inl (omega arith)) ∙ getD-set-other p (2176 + (k + 1)) (2176 + k) k 0 (λ y. omega (arith, y)) ∙ z)
-          (let l = rest .changed .long in omega (arith, l, long₁, h)) (region-moved (2176 + (k + 1)) (2176 + k + 1) (omega arith) (rest .region));
-      changed = changed-then (2176 + k + 1) (2176 + k + suc (size e)) first-change (changed-wider (2176 + k + 1) (2176 + k + suc (size e)) (omega arith) (omega arith) (rest .changed));
+      region = region-cons (rest .changed .kept (continuationsAt + k) (inl (omega arith)) ∙ getD-set-other p (continuationsAt + (k + 1)) (continuationsAt + k) k 0 (λ y. omega (arith, y)) ∙ z)
+          (let l = rest .changed .long in omega (arith, l, long₁, h)) (region-moved (continuationsAt + (k + 1)) (continuationsAt + k + 1) (omega arith) (rest .region));
+      changed = changed-then (continuationsAt + k + 1) (continuationsAt + k + suc (size e)) first-change (changed-wider (continuationsAt + k + 1) (continuationsAt + k + suc (size e)) (omega arith) (omega arith) (rest .changed));
     })
   where
-    first-change : ChangedWithin (2176 + k + 1) (2176 + k + suc (size e)) p (set p (2176 + (k + 1)) k)
-    first-change = changed-store (2176 + k + 1) (2176 + k + suc (size e)) p (2176 + (k + 1)) k (omega arith) (let n = some-steps e in omega (arith, n))
+    first-change : ChangedWithin (continuationsAt + k + 1) (continuationsAt + k + suc (size e)) p (set p (continuationsAt + (k + 1)) k)
+    first-change = changed-store (continuationsAt + k + 1) (continuationsAt + k + suc (size e)) p (continuationsAt + (k + 1)) k (omega arith) (let n = some-steps e in omega (arith, n))
 
-    long₁ : length (set p (2176 + (k + 1)) k) ≡ 2449
-    long₁ = length-set p (2176 + (k + 1)) k ∙ long
+    long₁ : length (set p (continuationsAt + (k + 1)) k) ≡ programSize
+    long₁ = length-set p (continuationsAt + (k + 1)) k ∙ long
 
-    rest : Links (set p (2176 + (k + 1)) k) (linkedFrom (set p (2176 + (k + 1)) k) (k + 1) (size e)) k (k + 1) e
-    rest = rec (set p (2176 + (k + 1)) k)
-        (standing-kept e (k + 1) (changed-store 2176 2448 p (2176 + (k + 1)) k (omega arith) (let n = some-steps e in omega (arith, h, n))) (omega (arith, h)) (standing-part w q v e S))
-        long₁ (omega (arith, h)) (getD-set-same p (2176 + (k + 1)) k 0 (let n = some-steps e in omega (arith, long, h, n)))
+    rest : Links (set p (continuationsAt + (k + 1)) k) (linkedFrom (set p (continuationsAt + (k + 1)) k) (k + 1) (size e)) k (k + 1) e
+    rest = rec (set p (continuationsAt + (k + 1)) k)
+        (standing-kept e (k + 1) (changed-store continuationsAt proceduresAt p (continuationsAt + (k + 1)) k (omega arith) (let n = some-steps e in omega (arith, h, n))) (omega (arith, h)) (standing-part w q v e S))
+        long₁ (omega (arith, h)) (getD-set-same p (continuationsAt + (k + 1)) k 0 (let n = some-steps e in omega (arith, long, h, n)))
 
 module _ (w : BinaryWord) (q : Position) (v : ℕ) (e₁ e₂ : Expr) (c k : ℕ) (rec₁ : Linking (afterFirst w k c) (k + 1) e₁) (rec₂ : Linking (afterSecond w k c) (k + 1 + size e₁) e₂)
-    (p : List ℕ) (S : Standing p k (binary w q v e₁ e₂)) (long : length p ≡ 2449) (h : k + suc (size e₁ + size e₂) ≤ 256) (z : getD p (2176 + k) 0 ≡ c) where
+    (p : List ℕ) (S : Standing p k (binary w q v e₁ e₂)) (long : length p ≡ programSize) (h : k + suc (size e₁ + size e₂) ≤ 256) (z : getD p (continuationsAt + k) 0 ≡ c) where
   abbrev a : ℕ
-  a = 2176 + (k + 1)
+  a = continuationsAt + (k + 1)
 
   abbrev b : ℕ
-  b = 2176 + (k + 1 + size e₁)
+  b = continuationsAt + (k + 1 + size e₁)
 
   abbrev p₀ : List ℕ
   p₀ = set p a (afterFirst w k c)
@@ -206,7 +207,7 @@ module _ (w : BinaryWord) (q : Position) (v : ℕ) (e₁ e₂ : Expr) (c k : ℕ
       let y : getD p (544 + 1 + k) 0 ≡ k + 1 + size e₁ = ap (λ (i : ℕ). getD p i 0) (omega arith) ∙ standing-end e₁ (standing-first w q v e₁ e₂ S) in
       binary-linked p k w (binary-head w q v e₁ e₂ S .code) ∙ rw (z, y)
 
-  long₁ : length p₁ ≡ 2449
+  long₁ : length p₁ ≡ programSize
   long₁ = length-set p₀ b (afterSecond w k c) ∙ length-set p a (afterFirst w k c) ∙ long
 
   within : (lo hi : ℕ) → lo ≤ a → b < hi → ChangedWithin lo hi p p₁
@@ -219,10 +220,10 @@ module _ (w : BinaryWord) (q : Position) (v : ℕ) (e₁ e₂ : Expr) (c k : ℕ
   first =
       let n = some-steps e₁ in
       let m = some-steps e₂ in
-      rec₁ p₁ (standing-kept e₁ (k + 1) (within 2176 2448 (omega arith) (omega (arith, h, m))) (omega (arith, h)) (standing-first w q v e₁ e₂ S)) long₁ (omega (arith, h))
+      rec₁ p₁ (standing-kept e₁ (k + 1) (within continuationsAt proceduresAt (omega arith) (omega (arith, h, m))) (omega (arith, h)) (standing-first w q v e₁ e₂ S)) long₁ (omega (arith, h))
       (getD-set-other p₀ b a (afterSecond w k c) 0 (λ y. omega (arith, y, n)) ∙ getD-set-same p a (afterFirst w k c) 0 (omega (arith, long, h)))
 
-  long₂ : length p₂ ≡ 2449
+  long₂ : length p₂ ≡ programSize
   long₂ = first .changed .long ∙ long₁
 
   rest : Links p₂ p₃ (afterSecond w k c) (k + 1 + size e₁) e₂
@@ -230,16 +231,16 @@ module _ (w : BinaryWord) (q : Position) (v : ℕ) (e₁ e₂ : Expr) (c k : ℕ
   rest =
       let m = some-steps e₂ in
       rec₂ p₂
-      (standing-kept e₂ (k + 1 + size e₁) (changed-then 2176 2448 (within 2176 2448 (omega arith) (omega (arith, h, m))) (changed-wider 2176 2448 (omega arith) (omega (arith, h)) (first .changed))) (omega (arith, h)) (standing-second w q v e₁ e₂ S))
+      (standing-kept e₂ (k + 1 + size e₁) (changed-then continuationsAt proceduresAt (within continuationsAt proceduresAt (omega arith) (omega (arith, h, m))) (changed-wider continuationsAt proceduresAt (omega arith) (omega (arith, h)) (first .changed))) (omega (arith, h)) (standing-second w q v e₁ e₂ S))
       long₂ (omega (arith, h))
       (first .changed .kept b (inr (omega arith)) ∙ getD-set-same p₀ b (afterSecond w k c) 0 (let l = length-set p a (afterFirst w k c) in omega (arith, l, long, h, m)))
 
-  own : getD p₃ (2176 + k) 0 ≡ c
+  own : getD p₃ (continuationsAt + k) 0 ≡ c
   own =
-      rest .changed .kept (2176 + k) (inl (omega arith))
-      ∙ first .changed .kept (2176 + k) (inl (omega arith))
-      ∙ getD-set-other p₀ b (2176 + k) (afterSecond w k c) 0 (λ y. omega (arith, y))
-      ∙ getD-set-other p a (2176 + k) (afterFirst w k c) 0 (λ y. omega (arith, y))
+      rest .changed .kept (continuationsAt + k) (inl (omega arith))
+      ∙ first .changed .kept (continuationsAt + k) (inl (omega arith))
+      ∙ getD-set-other p₀ b (continuationsAt + k) (afterSecond w k c) 0 (λ y. omega (arith, y))
+      ∙ getD-set-other p a (continuationsAt + k) (afterFirst w k c) 0 (λ y. omega (arith, y))
       ∙ z
 
   both-linked : Links p p₃ c k (binary w q v e₁ e₂)
@@ -249,16 +250,16 @@ module _ (w : BinaryWord) (q : Position) (v : ℕ) (e₁ e₂ : Expr) (c k : ℕ
       let m = some-steps e₂ in
       let l = rest .changed .long in
       record {
-        region = subst (Region p₃ (2176 + k)) (sym (continuations-binary w c k v q e₁ e₂))
+        region = subst (Region p₃ (continuationsAt + k)) (sym (continuations-binary w c k v q e₁ e₂))
             (region-cons own (omega (arith, l, long₂, h))
             (region-append (continuations (afterFirst w k c) (k + 1) e₁) (continuations (afterSecond w k c) (k + 1 + size e₁) e₂)
-            (region-moved (2176 + (k + 1)) (2176 + k + 1) (omega arith) (region-kept (rest .changed) (inl (omega (arith, n))) (first .region)))
-            (region-moved (2176 + (k + 1 + size e₁)) (2176 + k + 1 + length (continuations (afterFirst w k c) (k + 1) e₁)) (omega (arith, n)) (rest .region))));
+            (region-moved (continuationsAt + (k + 1)) (continuationsAt + k + 1) (omega arith) (region-kept (rest .changed) (inl (omega (arith, n))) (first .region)))
+            (region-moved (continuationsAt + (k + 1 + size e₁)) (continuationsAt + k + 1 + length (continuations (afterFirst w k c) (k + 1) e₁)) (omega (arith, n)) (rest .region))));
         changed =
-            changed-then (2176 + k + 1) (2176 + k + suc (size e₁ + size e₂)) (within (2176 + k + 1) (2176 + k + suc (size e₁ + size e₂)) (omega arith) (omega (arith, m)))
-            (changed-then (2176 + k + 1) (2176 + k + suc (size e₁ + size e₂))
-            (changed-wider (2176 + k + 1) (2176 + k + suc (size e₁ + size e₂)) (omega arith) (omega arith) (first .changed))
-            (changed-wider (2176 + k + 1) (2176 + k + suc (size e₁ + size e₂)) (omega arith) (omega arith) (rest .changed)));
+            changed-then (continuationsAt + k + 1) (continuationsAt + k + suc (size e₁ + size e₂)) (within (continuationsAt + k + 1) (continuationsAt + k + suc (size e₁ + size e₂)) (omega arith) (omega (arith, m)))
+            (changed-then (continuationsAt + k + 1) (continuationsAt + k + suc (size e₁ + size e₂))
+            (changed-wider (continuationsAt + k + 1) (continuationsAt + k + suc (size e₁ + size e₂)) (omega arith) (omega arith) (first .changed))
+            (changed-wider (continuationsAt + k + 1) (continuationsAt + k + suc (size e₁ + size e₂)) (omega arith) (omega arith) (rest .changed)));
       }
 
 binary-links : (w : BinaryWord) (q : Position) (v : ℕ) (e₁ e₂ : Expr) (c k : ℕ) → Linking (afterFirst w k c) (k + 1) e₁ → Linking (afterSecond w k c) (k + 1 + size e₁) e₂ → Linking c k (binary w q v e₁ e₂)
@@ -274,7 +275,7 @@ leaf-links w q v c k p S long h e =
     subst (λ (p′ : List ℕ). Links p p′ c k (leaf w q v)) (sym (leaf-linked p k w (leaf-head w q v S .code)))
     (record {
       region = region-cons e (omega (arith, long, h)) (record { fits = omega (arith, long, h); at = λ i l. absurd (omega (arith, l)) });
-      changed = changed-nothing (2176 + k + 1) (2176 + k + 1) p;
+      changed = changed-nothing (continuationsAt + k + 1) (continuationsAt + k + 1) p;
     })
 
 pub links : (e : Expr) (c k : ℕ) → Linking c k e

@@ -23,6 +23,7 @@ use Rattle.calculus.specs.Reduction.{made}
 use Rattle.calculus.proofs.Laws.Maps.{update-other}
 use Rattle.workspace.specs.Layout.{ruleOf, printed}
 use Rattle.threads.specs.declared.Threads.{Threads}
+use Rattle.control.specs.Layout.{thingCountsAt, nextValueAt, thingKindsAt, thingFirstsAt, thingSecondsAt, spaceSize}
 use Rattle.control.specs.Shapes.{shapeOf, shapeAt, isWrite}
 use Rattle.control.specs.Control.{continuation, returning, stoppedAt, readyAt}
 use Rattle.things.specs.declared.Slot.{Slot}
@@ -31,7 +32,7 @@ use Rattle.reduction.specs.declared.words.Act.{Act}
 use Rattle.reduction.specs.declared.words.Act.the-variants as act
 use Rattle.things.specs.Uses.{slot, madeOf, usedBy}
 use Rattle.reduction.specs.Slots.{slotAt, slotPut}
-use Rattle.reduction.specs.Words.{countsAt, given, withThing, newThing, subject, operand, effected, wordUsed, actedBy, acted}
+use Rattle.reduction.specs.Words.{given, withThing, newThing, subject, operand, effected, wordUsed, actedBy, acted}
 use Rattle.engine.specs.Steps.{actStep, afterAct}
 use Rattle.replay_theory.specs.Run.{Kind, cells, locks, rwlocks, semaphores, identifiers, sameKind, oneMore, threadLimit, thingLimit, withinLimits, kindMade}
 use Rattle.replay_theory.specs.Replay.{limited}
@@ -95,23 +96,23 @@ past-limits n identifiers things h few p =
 
 -- ------------------------------------------------------------------ names
 
-slot-set : (s : List ℕ) (j y v : ℕ) → j < 541808 → slotAt (set s j y) v ≡ slotAt s v
+slot-set : (s : List ℕ) (j y v : ℕ) → j < thingKindsAt → slotAt (set s j y) v ≡ slotAt s v
 unfolding slotAt
 slot-set s j y v h = λ z. if ltb v 322 then slot
-    (getD-set-other s j (541808 + v) y 0 (λ e. omega (arith, e, h)) z)
-    (getD-set-other s j (542192 + v) y 0 (λ e. omega (arith, e, h)) z)
-    (getD-set-other s j (542576 + v) y 0 (λ e. omega (arith, e, h)) z) else slot 0 0 0
+    (getD-set-other s j (thingKindsAt + v) y 0 (λ e. omega (arith, e, h)) z)
+    (getD-set-other s j (thingFirstsAt + v) y 0 (λ e. omega (arith, e, h)) z)
+    (getD-set-other s j (thingSecondsAt + v) y 0 (λ e. omega (arith, e, h)) z) else slot 0 0 0
 
-module _ {s : List ℕ} {names : ℕ → state.Slot} {next : ℕ} {things : Kind → ℕ} (N : NamesHeld s names next things) (long : length s ≡ 542960)
+module _ {s : List ℕ} {names : ℕ → state.Slot} {next : ℕ} {things : Kind → ℕ} (N : NamesHeld s names next things) (long : length s ≡ spaceSize)
     (k : Kind) (x : Slot) (new : state.Slot) (is-kind : x .kind ≡ kindCode k) (is : SlotIs x new) (room : things k < 64) where
   abbrev s₁ : List ℕ
   s₁ = slotPut s (suc next) x
 
   abbrev s₂ : List ℕ
-  s₂ = set s₁ (541792 + kindCode k) (things k + 1)
+  s₂ = set s₁ (thingCountsAt + kindCode k) (things k + 1)
 
   abbrev s₃ : List ℕ
-  s₃ = set s₂ 541800 (suc next + 1)
+  s₃ = set s₂ nextValueAt (suc next + 1)
 
   next-low : suc next < 322
   next-low =
@@ -130,17 +131,17 @@ module _ {s : List ℕ} {names : ℕ → state.Slot} {next : ℕ} {things : Kind
       less semaphores h a b c d e f = omega arith
       less rwlocks h a b c d e f = omega arith
 
-  long₁ : length s₁ ≡ 542960
+  long₁ : length s₁ ≡ spaceSize
   long₁ = slot-put-length s (suc next) x ∙ long
 
-  long₂ : length s₂ ≡ 542960
-  long₂ = length-set s₁ (541792 + kindCode k) (things k + 1) ∙ long₁
+  long₂ : length s₂ ≡ spaceSize
+  long₂ = length-set s₁ (thingCountsAt + kindCode k) (things k + 1) ∙ long₁
 
-  pub long₃ : length s₃ ≡ 542960
-  long₃ = length-set s₂ 541800 (suc next + 1) ∙ long₂
+  pub long₃ : length s₃ ≡ spaceSize
+  long₃ = length-set s₂ nextValueAt (suc next + 1) ∙ long₂
 
   slot-after : (v : ℕ) → slotAt s₃ v ≡ slotAt s₁ v
-  slot-after v = slot-set s₂ 541800 (suc next + 1) v (omega arith) ∙ slot-set s₁ (541792 + kindCode k) (things k + 1) v (let l = kind-low k in omega arith)
+  slot-after v = slot-set s₂ nextValueAt (suc next + 1) v (omega arith) ∙ slot-set s₁ (thingCountsAt + kindCode k) (things k + 1) v (let l = kind-low k in omega arith)
 
   pub names-made : NamesHeld s₃ (update names next new) (suc next) (oneMore k things)
   unfolding oneMore
@@ -148,7 +149,7 @@ module _ {s : List ℕ} {names : ℕ → state.Slot} {next : ℕ} {things : Kind
     constant = ap (λ (y : Slot). y .kind) (slot-after 0 ∙ slot-there s (suc next) x next-low 0 (λ e. omega (arith, e))) ∙ N .constant;
     slots = λ m h. by-name m h (ℕ-discrete m next);
     unused-from = λ m h. update-other names next m new (λ e. omega (arith, e, h)) ∙ N .unused-from m (omega (arith, h));
-    nextStored = getD-set-same s₂ 541800 (suc next + 1) 0 (omega (arith, long₂)) ∙ (let e : suc next + 1 ≡ suc (suc next) = omega arith in e);
+    nextStored = getD-set-same s₂ nextValueAt (suc next + 1) 0 (omega (arith, long₂)) ∙ (let e : suc next + 1 ≡ suc (suc next) = omega arith in e);
     counted = λ l. by-kind l (sameKind l k);
     few = one-more-few k things (N .few) room;
     all = (let a = N .all in let b = one-more-all k things in omega (arith, a, b));
@@ -158,23 +159,23 @@ module _ {s : List ℕ} {names : ℕ → state.Slot} {next : ℕ} {things : Kind
       by-name m h (yes e) = subst (λ (y : Slot). SlotIs y new) (sym (slot-after (suc m) ∙ ap (λ (j : ℕ). slotAt s₁ (suc j)) e ∙ slot-here s (suc next) x next-low long)) is
       by-name m h (no f) = subst (λ (y : Slot). SlotIs y (names m)) (sym (slot-after (suc m) ∙ slot-there s (suc next) x next-low (suc m) (λ e. f (omega (arith, e))))) (N .slots m h)
 
-      by-kind : (l : Kind) → (d : Dec (l ≡ k)) → getD s₃ (541792 + kindCode l) 0 ≡ choose d (suc (things l)) (things l)
+      by-kind : (l : Kind) → (d : Dec (l ≡ k)) → getD s₃ (thingCountsAt + kindCode l) 0 ≡ choose d (suc (things l)) (things l)
       by-kind l (yes e) =
-          getD-set-other s₂ 541800 (541792 + kindCode l) (suc next + 1) 0 (λ z. let a = kind-low l in omega (arith, z, a))
-          ∙ ap (λ (m : Kind). getD s₂ (541792 + kindCode m) 0) e
-          ∙ getD-set-same s₁ (541792 + kindCode k) (things k + 1) 0 (let a = kind-low k in omega (arith, a, long₁))
+          getD-set-other s₂ nextValueAt (thingCountsAt + kindCode l) (suc next + 1) 0 (λ z. let a = kind-low l in omega (arith, z, a))
+          ∙ ap (λ (m : Kind). getD s₂ (thingCountsAt + kindCode m) 0) e
+          ∙ getD-set-same s₁ (thingCountsAt + kindCode k) (things k + 1) 0 (let a = kind-low k in omega (arith, a, long₁))
           ∙ (let z : things k + 1 ≡ suc (things k) = omega arith in z) ∙ ap (λ (m : Kind). suc (things m)) (sym e)
       by-kind l (no n) =
           let a = kind-low l in
-          getD-set-other s₂ 541800 (541792 + kindCode l) (suc next + 1) 0 (λ z. omega (arith, z, a))
-          ∙ getD-set-other s₁ (541792 + kindCode k) (541792 + kindCode l) (things k + 1) 0 (λ z. kind-apart l k n (omega (arith, z)))
-          ∙ put-elsewhere s (suc next) x next-low (541792 + kindCode l) (λ z. omega (arith, z, a)) (λ z. omega (arith, z, a)) (λ z. omega (arith, z, a))
+          getD-set-other s₂ nextValueAt (thingCountsAt + kindCode l) (suc next + 1) 0 (λ z. omega (arith, z, a))
+          ∙ getD-set-other s₁ (thingCountsAt + kindCode k) (thingCountsAt + kindCode l) (things k + 1) 0 (λ z. kind-apart l k n (omega (arith, z)))
+          ∙ put-elsewhere s (suc next) x next-low (thingCountsAt + kindCode l) (λ z. omega (arith, z, a)) (λ z. omega (arith, z, a)) (λ z. omega (arith, z, a))
           ∙ N .counted l
 
   pub agree-made : (i : ℕ) → i < 16 → Agree i s s₃
   agree-made i h =
       agree-then (slot-agree i s (suc next) x h)
-      (agree-then (agree-shared i (541792 + kindCode k) (things k + 1) s₁ h (omega arith)) (agree-shared i 541800 (suc next + 1) s₂ h (omega arith)))
+      (agree-then (agree-shared i (thingCountsAt + kindCode k) (things k + 1) s₁ h (omega arith)) (agree-shared i nextValueAt (suc next + 1) s₂ h (omega arith)))
 
   -- the space that the code leaves
   pub thing-added : withThing s x ≡ s₃
@@ -192,8 +193,8 @@ module _ (p s : List ℕ) (T : Threads) (R : Replay) (t tid : ℕ) (σ : Env) (K
   abbrev Created : Replay
   Created = record { machine = creates M t tid σ K new; things = oneMore k (R .things) }
 
-  counted-here : getD s (countsAt + x .kind) 0 ≡ R .things k
-  counted-here = ap (λ (i : ℕ). getD s (countsAt + i) 0) is-kind ∙ H .names .counted k
+  counted-here : getD s (thingCountsAt + x .kind) 0 ≡ R .things k
+  counted-here = ap (λ (i : ℕ). getD s (thingCountsAt + i) 0) is-kind ∙ H .names .counted k
 
   makes-room : R .things k < 64 → Answered p (limited within (some Created)) (afterAct p T t f (newThing p s row j x))
   unfolding newThing given

@@ -16,10 +16,11 @@ use Rattle.threads.specs.declared.State.the-variants.{Running}
 use Rattle.threads.specs.declared.Threads.{Threads}
 use Rattle.engine.specs.declared.Outcome.the-variants.{Moved, Stuck, Past}
 use Rattle.engine.specs.declared.Stepped.{Stepped}
+use Rattle.control.specs.Layout.{focusRowsAt, spaceSize}
 use Rattle.control.specs.declared.Focus.{Focus}
 use Rattle.control.specs.Control.{found}
 use Rattle.reduction.specs.declared.words.Act.the-variants as act
-use Rattle.engine.specs.Focuses.{rowsAt, focusAt, settled, wentOn}
+use Rattle.engine.specs.Focuses.{focusAt, settled, wentOn}
 use Rattle.engine.specs.Steps.{recorded, proceeded, outcomeOf, movedTo, actStep, afterAct}
 use Rattle.replay_theory.specs.Run.{Kind, cells, locks, rwlocks, semaphores, identifiers, threadLimit, thingLimit, withinLimits, callLimit}
 use Rattle.replay_theory.specs.Replay.{Outcome, badForm, noStep, pastLimit, step, limited}
@@ -112,7 +113,7 @@ module _ (p s : List ℕ) (T : Threads) (ts : List MachineThread) (t tid : ℕ) 
   Next = record { machine = record { procedures = Q; threads = set ts t (running tid d); names = names; next = next }; things = things }
 
   -- what is stored of its row, once it has gone on
-  row-after : getD (proceeded p s T t g .1) (rowsAt + t) 0 ≡ 66 * t + openCalls d
+  row-after : getD (proceeded p s T t g .1) (focusRowsAt + t) 0 ≡ 66 * t + openCalls d
   unfolding proceeded recorded wentOn settled focusAt
   row-after =
       let found-at = found 2048 p s g .0 in
@@ -124,7 +125,7 @@ module _ (p s : List ℕ) (T : Threads) (ts : List MachineThread) (t tid : ℕ) 
   go-holds few =
       let H = proceeds p s T ts t tid P Q B names next things N g d few F in
       let e = row-after in
-      rw (within-held p Next H, le-ltb (66 * t + 64) (getD (proceeded p s T t g .1) (rowsAt + t) 0) (omega (arith, e, few))) (refl, H)
+      rw (within-held p Next H, le-ltb (66 * t + 64) (getD (proceeded p s T t g .1) (focusRowsAt + t) 0) (omega (arith, e, few))) (refl, H)
 
   go-fails : 64 < openCalls d → Answered p (limited within (some Next)) (afterAct p T t f (act.Go g, s))
   unfolding limited afterAct actStep movedTo outcomeOf
@@ -132,7 +133,7 @@ module _ (p s : List ℕ) (T : Threads) (ts : List MachineThread) (t tid : ℕ) 
       let e = row-after in
       rw (
         within-fails p Next t (running tid d) (set-there ts t (running tid d) (P .there)) refl over,
-        lt-ltb (66 * t + 64) (getD (proceeded p s T t g .1) (rowsAt + t) 0) (omega (arith, e, over)),
+        lt-ltb (66 * t + 64) (getD (proceeded p s T t g .1) (focusRowsAt + t) 0) (omega (arith, e, over)),
       )
       refl
 
@@ -148,7 +149,7 @@ module _ (p s : List ℕ) (T : Threads) (ts : List MachineThread) (t tid : ℕ) 
 
 -- it is on its way, in a space that differs in nothing of the others'
 pub pausing : (p s : List ℕ) (T : Threads) (R : Replay) (t tid : ℕ) (d : Control) → Holds p s T R → getElem? (R .machine .threads) t ≡ some (running tid d) → isDone d ≡ false →
-    (s₁ : List ℕ) → length s₁ ≡ 542960 → ((i : ℕ) → i < 16 → i ≢ t → Agree i s s₁) → Paused p s₁ T (R .machine .threads) t tid
+    (s₁ : List ℕ) → length s₁ ≡ spaceSize → ((i : ℕ) → i < 16 → i ≢ t → Agree i s s₁) → Paused p s₁ T (R .machine .threads) t tid
 pausing p s T R t tid d H there not-done s₁ long agree = record {
   long = long;
   sized = H .sized;

@@ -14,9 +14,10 @@ use Rattle.calculus.specs.Expression.{Value, int, name, choose}
 use Rattle.calculus.specs.State as state
 use Rattle.calculus.specs.State.{unused, update}
 use Rattle.calculus.proofs.Laws.Maps.{update-other}
+use Rattle.control.specs.Layout.{thingCountsAt, nextValueAt, thingKindsAt, thingFirstsAt, thingSecondsAt, spaceSize}
 use Rattle.things.specs.declared.Slot.{Slot}
 use Rattle.things.specs.Uses.{slot}
-use Rattle.reduction.specs.Slots.{kindsAt, firstsAt, secondsAt, slotAt, slotPut}
+use Rattle.reduction.specs.Slots.{slotAt, slotPut}
 use Rattle.replay_theory.specs.Run.{Kind, cells, locks, rwlocks, semaphores, identifiers}
 use Rattle.simulation.proofs.Held.{codeValue}
 use Rattle.simulation.proofs.Agreeing.{Agree, agree-then, agree-shared}
@@ -27,41 +28,41 @@ use Rattle.simulation.proofs.Holds.{SlotIs, NamesHeld, kindCode, kind-l
 pub slot-put-length : (s : List ℕ) (v : ℕ) (x : Slot) → length (slotPut s v x) ≡ length s
 unfolding slotPut
 slot-put-length s v x =
-    length-set (set (set s (kindsAt + v) (x .kind)) (firstsAt + v) (x .first)) (secondsAt + v) (x .second)
-    ∙ length-set (set s (kindsAt + v) (x .kind)) (firstsAt + v) (x .first)
-    ∙ length-set s (kindsAt + v) (x .kind)
+    length-set (set (set s (thingKindsAt + v) (x .kind)) (thingFirstsAt + v) (x .first)) (thingSecondsAt + v) (x .second)
+    ∙ length-set (set s (thingKindsAt + v) (x .kind)) (thingFirstsAt + v) (x .first)
+    ∙ length-set s (thingKindsAt + v) (x .kind)
 
 module _ (s : List ℕ) (v : ℕ) (x : Slot) (low : v < 322) where
   abbrev s₁ : List ℕ
-  s₁ = set s (541808 + v) (x .kind)
+  s₁ = set s (thingKindsAt + v) (x .kind)
 
   abbrev s₂ : List ℕ
-  s₂ = set s₁ (542192 + v) (x .first)
+  s₂ = set s₁ (thingFirstsAt + v) (x .first)
 
   -- another place
-  pub put-elsewhere : (j : ℕ) → j ≢ 541808 + v → j ≢ 542192 + v → j ≢ 542576 + v → getD (slotPut s v x) j 0 ≡ getD s j 0
+  pub put-elsewhere : (j : ℕ) → j ≢ thingKindsAt + v → j ≢ thingFirstsAt + v → j ≢ thingSecondsAt + v → getD (slotPut s v x) j 0 ≡ getD s j 0
   unfolding slotPut
   put-elsewhere j a b c =
-      getD-set-other s₂ (542576 + v) j (x .second) 0 c ∙ getD-set-other s₁ (542192 + v) j (x .first) 0 b ∙ getD-set-other s (541808 + v) j (x .kind) 0 a
+      getD-set-other s₂ (thingSecondsAt + v) j (x .second) 0 c ∙ getD-set-other s₁ (thingFirstsAt + v) j (x .first) 0 b ∙ getD-set-other s (thingKindsAt + v) j (x .kind) 0 a
 
-  pub slot-here : length s ≡ 542960 → slotAt (slotPut s v x) v ≡ x
+  pub slot-here : length s ≡ spaceSize → slotAt (slotPut s v x) v ≡ x
   unfolding slotAt slotPut
   slot-here long = rw (lt-ltb v 322 low) (λ z. slot (kind z) (first z) (second z))
     where
-      long₁ : length s₁ ≡ 542960
-      long₁ = length-set s (541808 + v) (x .kind) ∙ long
+      long₁ : length s₁ ≡ spaceSize
+      long₁ = length-set s (thingKindsAt + v) (x .kind) ∙ long
 
-      long₂ : length s₂ ≡ 542960
-      long₂ = length-set s₁ (542192 + v) (x .first) ∙ long₁
+      long₂ : length s₂ ≡ spaceSize
+      long₂ = length-set s₁ (thingFirstsAt + v) (x .first) ∙ long₁
 
-      kind : getD (set s₂ (542576 + v) (x .second)) (541808 + v) 0 ≡ x .kind
-      kind = getD-set-other s₂ (542576 + v) (541808 + v) (x .second) 0 (λ e. omega (arith, e)) ∙ getD-set-other s₁ (542192 + v) (541808 + v) (x .first) 0 (λ e. omega (arith, e)) ∙ getD-set-same s (541808 + v) (x .kind) 0 (omega (arith, long, low))
+      kind : getD (set s₂ (thingSecondsAt + v) (x .second)) (thingKindsAt + v) 0 ≡ x .kind
+      kind = getD-set-other s₂ (thingSecondsAt + v) (thingKindsAt + v) (x .second) 0 (λ e. omega (arith, e)) ∙ getD-set-other s₁ (thingFirstsAt + v) (thingKindsAt + v) (x .first) 0 (λ e. omega (arith, e)) ∙ getD-set-same s (thingKindsAt + v) (x .kind) 0 (omega (arith, long, low))
 
-      first : getD (set s₂ (542576 + v) (x .second)) (542192 + v) 0 ≡ x .first
-      first = getD-set-other s₂ (542576 + v) (542192 + v) (x .second) 0 (λ e. omega (arith, e)) ∙ getD-set-same s₁ (542192 + v) (x .first) 0 (omega (arith, long₁, low))
+      first : getD (set s₂ (thingSecondsAt + v) (x .second)) (thingFirstsAt + v) 0 ≡ x .first
+      first = getD-set-other s₂ (thingSecondsAt + v) (thingFirstsAt + v) (x .second) 0 (λ e. omega (arith, e)) ∙ getD-set-same s₁ (thingFirstsAt + v) (x .first) 0 (omega (arith, long₁, low))
 
-      second : getD (set s₂ (542576 + v) (x .second)) (542576 + v) 0 ≡ x .second
-      second = getD-set-same s₂ (542576 + v) (x .second) 0 (omega (arith, long₂, low))
+      second : getD (set s₂ (thingSecondsAt + v) (x .second)) (thingSecondsAt + v) 0 ≡ x .second
+      second = getD-set-same s₂ (thingSecondsAt + v) (x .second) 0 (omega (arith, long₂, low))
 
   pub slot-there : (u : ℕ) → u ≢ v → slotAt (slotPut s v x) u ≡ slotAt s u
   unfolding slotAt
@@ -69,18 +70,18 @@ module _ (s : List ℕ) (v : ℕ) (x : Slot) (low : v < 322) where
     where
       go : Dec (u < 322) → slotAt (slotPut s v x) u ≡ slotAt s u
       go (yes l) = rw (lt-ltb u 322 l) (λ z. slot
-          (put-elsewhere (541808 + u) (λ e. n (omega (arith, e))) (λ e. omega (arith, e, l, low)) (λ e. omega (arith, e, l, low)) z)
-          (put-elsewhere (542192 + u) (λ e. omega (arith, e, l, low)) (λ e. n (omega (arith, e))) (λ e. omega (arith, e, l, low)) z)
-          (put-elsewhere (542576 + u) (λ e. omega (arith, e, l, low)) (λ e. omega (arith, e, l, low)) (λ e. n (omega (arith, e))) z))
+          (put-elsewhere (thingKindsAt + u) (λ e. n (omega (arith, e))) (λ e. omega (arith, e, l, low)) (λ e. omega (arith, e, l, low)) z)
+          (put-elsewhere (thingFirstsAt + u) (λ e. omega (arith, e, l, low)) (λ e. n (omega (arith, e))) (λ e. omega (arith, e, l, low)) z)
+          (put-elsewhere (thingSecondsAt + u) (λ e. omega (arith, e, l, low)) (λ e. omega (arith, e, l, low)) (λ e. n (omega (arith, e))) z))
       go (no f) = rw (le-ltb u 322 (omega (arith, f)))
 
 -- no thread has a number there
 pub slot-agree : (i : ℕ) (s : List ℕ) (v : ℕ) (x : Slot) → i < 16 → Agree i s (slotPut s v x)
 unfolding slotPut
 slot-agree i s v x l =
-    agree-then (agree-shared i (kindsAt + v) (x .kind) s l (omega arith))
-    (agree-then (agree-shared i (firstsAt + v) (x .first) (set s (kindsAt + v) (x .kind)) l (omega arith))
-    (agree-shared i (secondsAt + v) (x .second) (set (set s (kindsAt + v) (x .kind)) (firstsAt + v) (x .first)) l (omega arith)))
+    agree-then (agree-shared i (thingKindsAt + v) (x .kind) s l (omega arith))
+    (agree-then (agree-shared i (thingFirstsAt + v) (x .first) (set s (thingKindsAt + v) (x .kind)) l (omega arith))
+    (agree-shared i (thingSecondsAt + v) (x .second) (set (set s (thingKindsAt + v) (x .kind)) (thingFirstsAt + v) (x .first)) l (omega arith)))
 
 -- ------------------------------------------------------------------ all names
 
@@ -110,7 +111,7 @@ module _ {s : List ℕ} {names : ℕ → state.Slot} {next : ℕ} {things : Kind
       go (no f) = subst (SlotIs (slotAt s (suc n))) (sym (N .unused-from n (let a = next-small in omega (arith, a, f)))) none-there
         where
           none-there : slotAt s (suc n) .kind ≡ 0
-          none-there = ap (λ (b : Bool). (if b then slot (getD s (kindsAt + suc n) 0) (getD s (firstsAt + suc n) 0) (getD s (secondsAt + suc n) 0) else slot 0 0 0) .kind) (le-ltb (suc n) 322 (omega (arith, f)))
+          none-there = ap (λ (b : Bool). (if b then slot (getD s (thingKindsAt + suc n) 0) (getD s (thingFirstsAt + suc n) 0) (getD s (thingSecondsAt + suc n) 0) else slot 0 0 0) .kind) (le-ltb (suc n) 322 (omega (arith, f)))
 
   -- a name that is used is below the next
   pub used-below : (n : ℕ) → names n ≢ unused → n < next
@@ -121,13 +122,13 @@ module _ {s : List ℕ} {names : ℕ → state.Slot} {next : ℕ} {things : Kind
       go (no f) = absurd (u (N .unused-from n (omega (arith, f))))
 
   -- the name n names sl from now on
-  pub names-put : (n : ℕ) (sl : state.Slot) (y : Slot) → length s ≡ 542960 → n < next → SlotIs y sl → NamesHeld (slotPut s (suc n) y) (update names n sl) next things
+  pub names-put : (n : ℕ) (sl : state.Slot) (y : Slot) → length s ≡ spaceSize → n < next → SlotIs y sl → NamesHeld (slotPut s (suc n) y) (update names n sl) next things
   names-put n sl y long l is = record {
     constant = ap (λ (x : Slot). x .kind) (slot-there s (suc n) y low 0 (λ e. omega (arith, e))) ∙ N .constant;
     slots = λ m h. by-name m h (ℕ-discrete m n);
     unused-from = λ m h. update-other names n m sl (λ e. omega (arith, e, h, l)) ∙ N .unused-from m h;
-    nextStored = put-elsewhere s (suc n) y low 541800 (λ e. omega (arith, e)) (λ e. omega (arith, e)) (λ e. omega (arith, e)) ∙ N .nextStored;
-    counted = λ k. put-elsewhere s (suc n) y low (541792 + kindCode k) (λ e. omega (arith, e, kind-low k)) (λ e. omega (arith, e, kind-low k)) (λ e. omega (arith, e, kind-low k)) ∙ N .counted k;
+    nextStored = put-elsewhere s (suc n) y low nextValueAt (λ e. omega (arith, e)) (λ e. omega (arith, e)) (λ e. omega (arith, e)) ∙ N .nextStored;
+    counted = λ k. put-elsewhere s (suc n) y low (thingCountsAt + kindCode k) (λ e. omega (arith, e, kind-low k)) (λ e. omega (arith, e, kind-low k)) (λ e. omega (arith, e, kind-low k)) ∙ N .counted k;
     few = N .few;
     all = N .all;
   }

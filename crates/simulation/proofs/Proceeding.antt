@@ -20,12 +20,12 @@ use Rattle.threads.specs.declared.Record.{Record}
 use Rattle.threads.specs.declared.Threads.{Threads}
 use Rattle.threads.specs.Records.{noRecord}
 use Rattle.threads.specs.Threads.{turned, finished}
+use Rattle.control.specs.Layout.{thingCountsAt, nextValueAt, thingKindsAt, thingFirstsAt, thingSecondsAt, spaceSize}
 use Rattle.control.specs.declared.Focus.{Focus}
 use Rattle.control.specs.Control.{found}
 use Rattle.things.specs.Uses.{slot}
 use Rattle.reduction.specs.Slots.{slotAt}
 use Rattle.engine.specs.Focuses.{focusAt, focusPut, settled, wentOn}
-use Rattle.reduction.specs.Words.{countsAt, nextAt}
 use Rattle.engine.specs.Steps.{recorded, proceeded}
 use Rattle.replay_theory.specs.Run.{Kind}
 use Rattle.machine.specs.Control as machine
@@ -42,15 +42,15 @@ use Rattle.simulation.proofs.Holds.{NamesHeld, SlotIs, kindCode, record
 
 pub slot-same : (s s′ : List ℕ) (v : ℕ) → SharedSame s s′ → slotAt s′ v ≡ slotAt s v
 unfolding slotAt
-slot-same s s′ v h = λ z. if ltb v 322 then slot (h (541808 + v) (omega arith) z) (h (542192 + v) (omega arith) z) (h (542576 + v) (omega arith) z) else slot 0 0 0
+slot-same s s′ v h = λ z. if ltb v 322 then slot (h (thingKindsAt + v) (omega arith) z) (h (thingFirstsAt + v) (omega arith) z) (h (thingSecondsAt + v) (omega arith) z) else slot 0 0 0
 
 pub names-same : (s s′ : List ℕ) {names : ℕ → calculus.Slot} {next : ℕ} {things : Kind → ℕ} → SharedSame s s′ → NamesHeld s names next things → NamesHeld s′ names next things
 names-same s s′ {names = names} h N = record {
   constant = ap (λ x. x .kind) (slot-same s s′ 0 h) ∙ N .constant;
   slots = λ n l. subst (λ x. SlotIs x (names n)) (sym (slot-same s s′ (suc n) h)) (N .slots n l);
   unused-from = N .unused-from;
-  nextStored = h nextAt (omega arith) ∙ N .nextStored;
-  counted = λ k. h (countsAt + kindCode k) (omega arith) ∙ N .counted k;
+  nextStored = h nextValueAt (omega arith) ∙ N .nextStored;
+  counted = λ k. h (thingCountsAt + kindCode k) (omega arith) ∙ N .counted k;
   few = N .few;
   all = N .all;
 }
@@ -117,7 +117,7 @@ set-here (x ∷ xs) (suc i) a b h = set-here xs i a b h
 
 -- thread t, which was running with the identifier tid, is on its way; all others stand where they stood
 pub record Paused (p s : List ℕ) (T : Threads) (ts : List MachineThread) (t tid : ℕ) : Type 0 where
-  pub long : length s ≡ 542960
+  pub long : length s ≡ spaceSize
   pub sized : Sized T ts
   pub there : t < length ts
   pub was : getD (T .records) t noRecord ≡ runningRecord tid
@@ -137,7 +137,7 @@ module _ (p s : List ℕ) (T : Threads) (ts : List MachineThread) (t tid : ℕ) 
     abbrev T′ : Threads
     T′ = after T t tid low (P .sized .records) (P .was) d
 
-    long₂ : length s₂ ≡ 542960
+    long₂ : length s₂ ≡ spaceSize
     long₂ = S .long ∙ P .long
 
     shared : SharedSame s s′

@@ -22,8 +22,9 @@ use Rattle.threads.specs.declared.Record.{Record}
 use Rattle.threads.specs.declared.Threads.{Threads}
 use Rattle.threads.specs.Records.{noRecord}
 use Rattle.threads.specs.Threads.{spawned}
+use Rattle.control.specs.Layout.{finish, keptValuesAt, openCallsAt, focusModesAt, focusPlacesAt, focusValuesAt, focusRowsAt, spaceSize}
 use Rattle.control.specs.declared.Focus.{Focus}
-use Rattle.control.specs.Control.{finish, keptAt, callsAt, variable, kept, calledFrom, continuation, second, focus, entering, returning, readyAt}
+use Rattle.control.specs.Control.{variable, kept, calledFrom, continuation, second, focus, entering, returning, readyAt}
 use Rattle.engine.specs.Focuses.{focusAt}
 use Rattle.reduction.specs.Words.{given}
 use Rattle.engine.specs.declared.Outcome.the-variants.{Past}
@@ -64,7 +65,7 @@ module _ (a b : ℕ) (apart : a ≢ b) where
   copied-outside (suc n) s x j (inr l) = copied-outside n (one s x) (x + 1) j (inr (omega (arith, l))) ∙ getD-set-other s (0 + 256 * b + x) j (variable s a x) 0 (λ e. omega (arith, e, l))
 
   -- its variables are those of row a
-  copied-row : (n : ℕ) (s : List ℕ) (x y : ℕ) → length s ≡ 542960 → b < 1056 → x + n ≤ 256 → x ≤ y → y < x + n → variable (copiedFrom s a b x n) b y ≡ variable s a y
+  copied-row : (n : ℕ) (s : List ℕ) (x y : ℕ) → length s ≡ spaceSize → b < 1056 → x + n ≤ 256 → x ≤ y → y < x + n → variable (copiedFrom s a b x n) b y ≡ variable s a y
   unfolding copiedFrom variable
   copied-row zero s x y long low h m l = absurd (omega (arith, m, l))
   copied-row (suc n) s x y long low h m l = go (ℕ-discrete x y) (copied-row n (one s x) (x + 1) y (length-set s (0 + 256 * b + x) (variable s a x) ∙ long) low (omega (arith, h)))
@@ -90,14 +91,14 @@ module _ (s : List ℕ) (a b : ℕ) (apart : a ≢ b) (u : ℕ) (is : b ≡ 66 *
   agree-copied i h n = record {
     rows = record {
       variables = λ r y in-row hy. copied-outside a b apart 256 s 0 (0 + 256 * r + y) (beside r y in-row hy (less-or-more i u n));
-      kepts = λ r j in-row hj. copied-outside a b apart 256 s 0 (keptAt + 256 * r + j) (inr (omega (arith, low, is)));
-      calls = λ r in-row. copied-outside a b apart 256 s 0 (callsAt + r) (inr (omega (arith, low, is)));
+      kepts = λ r j in-row hj. copied-outside a b apart 256 s 0 (keptValuesAt + 256 * r + j) (inr (omega (arith, low, is)));
+      calls = λ r in-row. copied-outside a b apart 256 s 0 (openCallsAt + r) (inr (omega (arith, low, is)));
     };
     focused = λ z. focus
-        (copied-outside a b apart 256 s 0 (541728 + i) (inr (omega (arith, low, is))) z)
-        (copied-outside a b apart 256 s 0 (541744 + i) (inr (omega (arith, low, is))) z)
-        (copied-outside a b apart 256 s 0 (541760 + i) (inr (omega (arith, low, is))) z)
-        (copied-outside a b apart 256 s 0 (541776 + i) (inr (omega (arith, low, is))) z);
+        (copied-outside a b apart 256 s 0 (focusModesAt + i) (inr (omega (arith, low, is))) z)
+        (copied-outside a b apart 256 s 0 (focusPlacesAt + i) (inr (omega (arith, low, is))) z)
+        (copied-outside a b apart 256 s 0 (focusValuesAt + i) (inr (omega (arith, low, is))) z)
+        (copied-outside a b apart 256 s 0 (focusRowsAt + i) (inr (omega (arith, low, is))) z);
   }
     where
       beside : (r y : ℕ) → RowIn i r → y < 256 → (i < u) ⊎ (u < i) → (0 + 256 * r + y < 256 * b + 0) ⊎ (256 * b + 0 + 256 ≤ 0 + 256 * r + y)
@@ -174,7 +175,7 @@ module _ (p s : List ℕ) (T : Threads) (R : Replay) (t tid : ℕ) (σ : Env) (K
     other : t ≢ u
     other z = let l = t-below in omega (arith, z, l)
 
-    long₁ : length s₁ ≡ 542960
+    long₁ : length s₁ ≡ spaceSize
     unfolding copied
     long₁ = copied-length row (66 * u) apart 256 s 0 ∙ H .long
 

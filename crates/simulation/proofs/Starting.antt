@@ -18,7 +18,8 @@ use Rattle.threads.specs.declared.State.the-variants.{Running}
 use Rattle.threads.specs.declared.Record.{Record}
 use Rattle.threads.specs.Records.{noRecord}
 use Rattle.threads.specs.Threads.{started}
-use Rattle.control.specs.Control.{finish, rootOf, variable, entering}
+use Rattle.control.specs.Layout.{finish, thingCountsAt, nextValueAt, thingKindsAt, spaceSize}
+use Rattle.control.specs.Control.{rootOf, variable, entering}
 use Rattle.reduction.specs.Slots.{slotAt}
 use Rattle.engine.specs.Steps.{startSpace, startOf}
 use Rattle.replay_theory.specs.Run.{openIn}
@@ -47,37 +48,37 @@ record-behind zero i r h = refl
 record-behind (suc n) zero r h = h
 record-behind (suc n) (suc i) r h = record-behind n i r h
 
-module _ (p s : List ℕ) (long : length s ≡ 542960) where
+module _ (p s : List ℕ) (long : length s ≡ spaceSize) where
   abbrev zeros : List ℕ
   zeros = replicate (length s) 0
 
   abbrev s₁ : List ℕ
-  s₁ = set (set zeros (541808 + 1) 1) 541800 2
+  s₁ = set (set zeros (thingKindsAt + 1) 1) nextValueAt 2
 
-  long₀ : length zeros ≡ 542960
+  long₀ : length zeros ≡ spaceSize
   long₀ = length-zeros (length s) ∙ long
 
-  long₁ : length s₁ ≡ 542960
-  long₁ = length-set (set zeros (541808 + 1) 1) 541800 2 ∙ length-set zeros (541808 + 1) 1 ∙ long₀
+  long₁ : length s₁ ≡ spaceSize
+  long₁ = length-set (set zeros (thingKindsAt + 1) 1) nextValueAt 2 ∙ length-set zeros (thingKindsAt + 1) 1 ∙ long₀
 
-  elsewhere : (j : ℕ) → j ≢ 541809 → j ≢ 541800 → getD s₁ j 0 ≡ 0
-  elsewhere j a b = getD-set-other (set zeros (541808 + 1) 1) 541800 j 2 0 b ∙ getD-set-other zeros (541808 + 1) j 1 0 a ∙ getD-zeros (length s) j
+  elsewhere : (j : ℕ) → j ≢ thingKindsAt + 1 → j ≢ nextValueAt → getD s₁ j 0 ≡ 0
+  elsewhere j a b = getD-set-other (set zeros (thingKindsAt + 1) 1) nextValueAt j 2 0 b ∙ getD-set-other zeros (thingKindsAt + 1) j 1 0 a ∙ getD-zeros (length s) j
 
   kind-elsewhere : (v : ℕ) → v ≢ 1 → v < 322 → slotAt s₁ v .kind ≡ 0
   unfolding slotAt
-  kind-elsewhere v n l = rw (lt-ltb v 322 l) (elsewhere (541808 + v) (λ e. n (omega (arith, e))) (λ e. omega (arith, e)))
+  kind-elsewhere v n l = rw (lt-ltb v 322 l) (elsewhere (thingKindsAt + v) (λ e. n (omega (arith, e))) (λ e. omega (arith, e)))
 
   kind-here : slotAt s₁ 1 .kind ≡ 1
   unfolding slotAt
-  kind-here = getD-set-other (set zeros (541808 + 1) 1) 541800 (541808 + 1) 2 0 (λ e. omega (arith, e)) ∙ getD-set-same zeros (541808 + 1) 1 0 (omega (arith, long₀))
+  kind-here = getD-set-other (set zeros (thingKindsAt + 1) 1) nextValueAt (thingKindsAt + 1) 2 0 (λ e. omega (arith, e)) ∙ getD-set-same zeros (thingKindsAt + 1) 1 0 (omega (arith, long₀))
 
   names-start : NamesHeld s₁ (update (λ n. unused) 0 identifier) 1 (λ k. 0)
   names-start = record {
     constant = kind-elsewhere 0 (λ e. omega (arith, e)) (omega arith);
     slots = λ n l. by-name n l (ℕ-discrete n 0);
     unused-from = λ n l. update-other (λ m. unused) 0 n identifier (λ e. omega (arith, e, l));
-    nextStored = getD-set-same (set zeros (541808 + 1) 1) 541800 2 0 (let l = length-set zeros (541808 + 1) 1 in omega (arith, l, long₀));
-    counted = λ k. let l = kind-low k in elsewhere (541792 + kindCode k) (λ e. omega (arith, e, l)) (λ e. omega (arith, e, l));
+    nextStored = getD-set-same (set zeros (thingKindsAt + 1) 1) nextValueAt 2 0 (let l = length-set zeros (thingKindsAt + 1) 1 in omega (arith, l, long₀));
+    counted = λ k. let l = kind-low k in elsewhere (thingCountsAt + kindCode k) (λ e. omega (arith, e, l)) (λ e. omega (arith, e, l));
     few = λ k. omega arith;
     all = refl;
   }

@@ -24,9 +24,10 @@ use Rattle.workspace.specs.Layout.{ruleOf, codeOf, printed}
 use Rattle.threads.specs.declared.Record.{Record}
 use Rattle.threads.specs.declared.Threads.{Threads}
 use Rattle.threads.specs.Threads.{isRunning, runs}
+use Rattle.control.specs.Layout.{finish}
 use Rattle.control.specs.declared.Focus.{Focus}
 use Rattle.control.specs.Shapes.{shapeOf, shapeAt, isWrite, isIf}
-use Rattle.control.specs.Control.{finish, continuation, second as secondAt, readyAt, stoppedAt, unrolledAt}
+use Rattle.control.specs.Control.{continuation, second as secondAt, readyAt, stoppedAt, unrolledAt}
 use Rattle.things.specs.declared.Slot.{Slot}
 use Rattle.things.specs.declared.Used.the-variants as used
 use Rattle.engine.specs.declared.Outcome.the-variants.{Stuck}

@@ -14,9 +14,10 @@ use Rattle.spec.specs.declared.Word.the-variants.{Binary}
 use Rattle.spec.specs.declared.BinaryWord.the-variants.{Write}
 use Rattle.workspace.specs.Layout.{ruleOf, codeOf, printed}
 use Rattle.workspace.specs.Region.{ChangedWithin}
+use Rattle.control.specs.Layout.{secondPart, finish, leave, keptValuesAt}
 use Rattle.control.specs.declared.Focus.{Focus}
 use Rattle.control.specs.Shapes.{shapeOf, shapeAt, isWrite}
-use Rattle.control.specs.Control.{secondPart, finish, leave, keptAt, variable, calledFrom, continuation, second, behind, entering, returning, readyAt, doneWith, enteredBy, entered, halfWritten, left, returned, returnedSpace, turned, turnedSpace, found}
+use Rattle.control.specs.Control.{variable, calledFrom, continuation, second, behind, entering, returning, readyAt, doneWith, enteredBy, entered, halfWritten, left, returned, returnedSpace, turned, turnedSpace, found}
 use Rattle.control.proofs.Turns.{found-stop, found-turn}
 use Rattle.simulation.proofs.Held.{Row, RowOf}
 
@@ -71,7 +72,7 @@ module _ (p : List ℕ) (r : ℕ) where
 
   -- from the value of the first part of a `write`
   pub to-other : (n j x : ℕ) {q : Position} {v c : ℕ} (s : List ℕ) → Row p j q (Binary Write) v c →
-      go (suc n) s (returning r j x) ≡ go n (set s (keptAt + 256 * r + j) x) (entering r (second p j))
+      go (suc n) s (returning r j x) ≡ go n (set s (keptValuesAt + 256 * r + j) x) (entering r (second p j))
   unfolding turned turnedSpace returned returnedSpace halfWritten shapeAt shapeOf ruleOf printed isWrite
   to-other n j x s d = found-turn p s (returning r j x) n (omega arith) ∙ rw (lt-ltb j 256 (d .below), d .code)
 
@@ -89,7 +90,7 @@ module _ (p : List ℕ) (r : ℕ) where
 
 -- the values kept for thread t's writes, in all its rows
 abbrev pub SameBut : (t : ℕ) → (s s′ : List ℕ) → Type 0
-SameBut t s s′ = ChangedWithin (keptAt + 16896 * t) (keptAt + 16896 * t + 16896) s s′
+SameBut t s s′ = ChangedWithin (keptValuesAt + 16896 * t) (keptValuesAt + 16896 * t + 16896) s s′
 
 pub same-all : (t : ℕ) (s : List ℕ) → SameBut t s s
 same-all t s = record { long = refl; kept = λ i o. refl }
@@ -98,12 +99,12 @@ same-all t s = record { long = refl; kept = λ i o. refl }
 abbrev pub RowIn : (t r : ℕ) → Type 0
 RowIn t r = (66 * t ≤ r) × (r ≤ 66 * t + 65)
 
-pub same-but-one : (t r k x : ℕ) (s s′ : List ℕ) → RowIn t r → k < 256 → SameBut t s s′ → SameBut t s (set s′ (keptAt + 256 * r + k) x)
+pub same-but-one : (t r k x : ℕ) (s s′ : List ℕ) → RowIn t r → k < 256 → SameBut t s s′ → SameBut t s (set s′ (keptValuesAt + 256 * r + k) x)
 same-but-one t r k x s s′ (lo, hi) h c = record {
-  long = length-set s′ (keptAt + 256 * r + k) x ∙ c .long;
-  kept = λ i o. getD-set-other s′ (keptAt + 256 * r + k) i x 0 (λ e. apart i o e) ∙ c .kept i o;
+  long = length-set s′ (keptValuesAt + 256 * r + k) x ∙ c .long;
+  kept = λ i o. getD-set-other s′ (keptValuesAt + 256 * r + k) i x 0 (λ e. apart i o e) ∙ c .kept i o;
 }
   where
-    apart : (i : ℕ) → (i < keptAt + 16896 * t) ⊎ (keptAt + 16896 * t + 16896 ≤ i) → i ≡ keptAt + 256 * r + k → ⊥
+    apart : (i : ℕ) → (i < keptValuesAt + 16896 * t) ⊎ (keptValuesAt + 16896 * t + 16896 ≤ i) → i ≡ keptValuesAt + 256 * r + k → ⊥
     apart i (inl l) e = omega (arith, l, e, lo)
     apart i (inr l) e = omega (arith, l, e, h, hi)

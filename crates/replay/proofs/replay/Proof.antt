@@ -2,6 +2,7 @@
 use mathlib.Core.Path.{refl, sym, _∙_}
 use lib.Seq.{length-take-le}
 use Rattle.replay_theory.specs.Replay.{replaySpace}
+use Rattle.control.specs.Layout.{spaceSize}
 use Rattle.replay.proofs.Starting.{short-room, room-enough}
 use Rattle.replay.proofs.Promises.{space-counted, front-long, short-space-after, long-space-after, promises-kept}
 use borrow.Author.Needs.{needs}
@@ -22,7 +23,7 @@ replay-texts-requires : tie.Need-replay-texts-requires
 replay-texts-requires c κs =
     let at-if = c .before in
     let start = at-if .before .before .before .before in
-    front-long 542960 (start .args .space .now) (at-if .if1 .left) space-counted
+    front-long spaceSize (start .args .space .now) (at-if .if1 .left) space-counted
 
 returns-2 : tie.Need-returns-2
 unfolding replaySpace

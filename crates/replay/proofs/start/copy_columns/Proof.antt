@@ -1,6 +1,7 @@
 -- The loop's invariant: the places below i are copied.
 use mathlib.Core.Path.{sym, _∙_}
 use Prim.Native.Nat.{_-_}
+use Rattle.control.specs.Layout.{continuationsAt}
 use Rattle.replay.proofs.Copying.{CopiedTo, copy-none, copy-more, copy-all}
 use borrow.Author.Needs.{needs}
 use Rattle.replay.proofs.start.copy_columns.Statement.{statement}
@@ -10,7 +11,7 @@ abbrev Inv-loop : tie.InvT-loop
 Inv-loop columns₀ space i₀ columns i = CopiedTo i space columns
 
 abbrev μ-loop : tie.MeasureT-loop
-μ-loop columns₀ space i₀ columns i = 2176 - i
+μ-loop columns₀ space i₀ columns i = continuationsAt - i
 
 loop-holds : tie.Need-loop-holds Inv-loop μ-loop
 loop-holds c = copy-none _ _ (c .before .before .pre)
