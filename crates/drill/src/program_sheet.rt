@@ -30,7 +30,7 @@ fn write_lets(buffer: &mut [u8], at: usize, value: &[u8], first: u64, end: u64) 
 }
 
 // Writes the program text of k readers, and hands back its length.
-pub fn write_program(buffer: &mut [u8], k: u64) -> usize
+pub(crate) fn write_program(buffer: &mut [u8], k: u64) -> usize
     requires { ⌜ Drawable k ⌝ }
     ensures { λ r. ⌜ Written (now (buffer .entry)) (now (buffer .exit)) 0 (programText k) r ⌝ }
 {

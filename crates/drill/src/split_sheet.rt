@@ -105,7 +105,7 @@ fn write_head(buffer: &mut [u8], k: u64) -> usize
 }
 
 // Writes the split text of k readers, and hands back its length.
-pub fn write_split(buffer: &mut [u8], k: u64) -> usize
+pub(crate) fn write_split(buffer: &mut [u8], k: u64) -> usize
     requires { ⌜ Drawable k ⌝ }
     ensures { λ r. ⌜ Written (now (buffer .entry)) (now (buffer .exit)) 0 (splitText k) r ⌝ }
 {

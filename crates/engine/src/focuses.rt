@@ -10,7 +10,7 @@ use workspace::index;
 ghost use mathlib.Core.Path.{_≡_};
 ghost use Rattle.engine.specs.Focuses.{focusAt, focusPut, wentOn};
 
-pub fn focus_at(space: &[u32], t: u32) -> Focus
+pub(crate) fn focus_at(space: &[u32], t: u32) -> Focus
     ensures { λ r. ⌜ r ≡ focusAt (now (space .entry)) t ⌝ }
 {
     let i = index(t);
@@ -33,7 +33,7 @@ fn put_focus(space: &mut [u32], t: u32, f: Focus)
 }
 
 // Thread t goes on from there to its next word; whether it has finished.
-pub fn go_on(program: &[u32], space: &mut [u32], t: u32, f: Focus) -> bool
+pub(crate) fn go_on(program: &[u32], space: &mut [u32], t: u32, f: Focus) -> bool
     ensures { λ r. ⌜ wentOn (now (program .entry)) (now (space .entry)) t f ≡ (r, now (space .exit)) ⌝ }
 {
     let g = control::find(program, space, f);

@@ -8,13 +8,13 @@ ghost use Rattle.program_lines.specs.Lines.{TailShown, PairShown};
 
 // The number behind a line's first field and the cursor behind the line; malformed, if the line does not end with that
 // number.
-pub enum Tail {
+pub(crate) enum Tail {
     Value(u32, Cursor),
     Malformed,
 }
 
 // What stands behind a line's first field: `end` ends the field, and `next` stands behind that.
-pub fn last_number(text: &[u8], end: FieldEnd, next: Cursor) -> Tail
+pub(crate) fn last_number(text: &[u8], end: FieldEnd, next: Cursor) -> Tail
     requires { ⌜ Placed (now text) next ⌝ }
     ensures { λ r. ⌜ TailShown (now (text .entry)) next end r ⌝ }
 {
@@ -33,13 +33,13 @@ pub fn last_number(text: &[u8], end: FieldEnd, next: Cursor) -> Tail
 }
 
 // The two numbers behind a line's first field and the cursor behind the line; malformed, if the line does not end with them.
-pub enum Pair {
+pub(crate) enum Pair {
     Values(u32, u32, Cursor),
     Malformed,
 }
 
 // What stands behind a line's first field: `end` ends the field, and `next` stands behind that.
-pub fn last_pair(text: &[u8], end: FieldEnd, next: Cursor) -> Pair
+pub(crate) fn last_pair(text: &[u8], end: FieldEnd, next: Cursor) -> Pair
     requires { ⌜ Placed (now text) next ⌝ }
     ensures { λ r. ⌜ PairShown (now (text .entry)) next end r ⌝ }
 {

@@ -5,7 +5,7 @@ ghost use Rattle.writer.specs.Buffer.{Written};
 ghost use Rattle.racedrill.specs.Line.{drillLine};
 
 // Writes `DRILL,` and three numbers in front of a buffer, and hands back the place behind them.
-pub fn write_line(buffer: &mut [u8], next: u32, program: u32, split: u32) -> usize
+pub(crate) fn write_line(buffer: &mut [u8], next: u32, program: u32, split: u32) -> usize
     ensures { λ r. ⌜ Written (now (buffer .entry)) (now (buffer .exit)) 0 (drillLine next program split) r ⌝ }
 {
     let headed = write_bytes(buffer, 0, b"DRILL,");

@@ -9,13 +9,13 @@ ghost use Rattle.racedrill.specs.Seed.{seedOf};
 ghost use Rattle.racedrill.specs.Pair.{Roomy, pairOf, shown};
 
 // The new x and the lengths of program and split; or that the word is no seed.
-pub enum Pair {
+pub(crate) enum Pair {
     Made { next: u32, program: u32, split: u32 },
     NoSeed,
 }
 
 // Writes the pair of a word in front of two buffers. They have room for any sheet, so none is too short for it.
-pub fn pair_of(word: &[u8], program: &mut [u8], split: &mut [u8]) -> Pair
+pub(crate) fn pair_of(word: &[u8], program: &mut [u8], split: &mut [u8]) -> Pair
     requires { ⌜ Roomy (length (now program)) (length (now split)) ⌝ }
     ensures { λ r. ⌜ shown r (now (program .exit)) (now (split .exit)) ≡ pairOf (seedOf (now (word .entry))) ⌝ }
 {

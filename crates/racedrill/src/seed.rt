@@ -4,7 +4,7 @@ ghost use mathlib.Core.Path.{_≡_};
 ghost use Rattle.racedrill.specs.Seed.{seedOf};
 
 // A number of 32 bits, or none.
-pub enum Seed {
+pub(crate) enum Seed {
     Given(u32),
     Absent,
 }
@@ -13,7 +13,7 @@ pub enum Seed {
 const END: u64 = 4294967296;
 
 // The seed that a word spells.
-pub fn seed_of(word: &[u8]) -> Seed
+pub(crate) fn seed_of(word: &[u8]) -> Seed
     ensures { λ r. ⌜ r ≡ seedOf (now (word .entry)) ⌝ }
 {
     let Numeral::Value(n) = lexer::numeral_of(word) else {

@@ -31,7 +31,7 @@ pub fn slot_at(space: &[u32], v: u32) -> Slot
 }
 
 // A value names this from now on.
-pub fn put_slot(space: &mut [u32], v: u32, x: Slot)
+pub(crate) fn put_slot(space: &mut [u32], v: u32, x: Slot)
     ensures { λ _. ⌜ now (space .exit) ≡ slotPut (now (space .entry)) v x ⌝ }
 {
     let i = index(v);

@@ -13,16 +13,16 @@ pub const IDENTIFIER: u32 = 1;
 pub const CELL: u32 = 2;
 
 // first: 0 open, 1 closed.
-pub const LOCK: u32 = 3;
+const LOCK: u32 = 3;
 
 // first and second: the count, of 64 bits.
-pub const SEMAPHORE: u32 = 4;
+const SEMAPHORE: u32 = 4;
 
 // first: its reading places. Nobody or readers are in; second: how many.
-pub const RWLOCK: u32 = 5;
+const RWLOCK: u32 = 5;
 
 // The same with a writer in.
-pub const RWLOCK_WRITTEN: u32 = 6;
+const RWLOCK_WRITTEN: u32 = 6;
 
 // What a name names: its kind, and two numbers of it.
 pub struct Slot {

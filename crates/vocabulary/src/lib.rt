@@ -134,7 +134,7 @@ fn binary_word(field: &[u8]) -> FoundWord
 }
 
 // The word of a step that a field spells.
-pub fn word_of(field: &[u8]) -> FoundWord
+fn word_of(field: &[u8]) -> FoundWord
     ensures { λ r. ⌜ r ≡ foundOf (lookUp words (now (field .entry))) ⌝ }
 {
     let parts = either(unary_word(field), binary_word(field));

@@ -53,7 +53,7 @@ fn digit(n: u64) -> u8
 }
 
 // Puts a numeral at a place, and hands back the place behind it: the digits in front of the last, then the last.
-pub fn write_numeral(buffer: &mut [u8], at: usize, n: u64) -> usize
+fn write_numeral(buffer: &mut [u8], at: usize, n: u64) -> usize
     ensures { λ r. ⌜ Written (now (buffer .entry)) (now (buffer .exit)) at (decimal n) r ⌝ }
 {
     let last = digit(n);
