@@ -12,14 +12,13 @@ use Rattle.spec.specs.Expression.{Expr, leaf, unary, binary, among}
 use Rattle.spec.specs.WellFormed.{StepInside, UsedInside}
 use Rattle.spec.specs.Words.{role, binding}
 use Rattle.spec.specs.declared.LeafWord.the-variants.{Var, Int, Newtid, Newlock, Newsem, Newrwlock}
-use Rattle.spec.specs.declared.UnaryWord.the-variants.{While, Join, Ref, Read, Lock, Unlock, Post, Wait, Rdlock, Rdunlock, Wrlock, Wrunlock, Call}
 use Rattle.spec.specs.declared.BinaryWord.the-variants.{Let, If, Spawn, Write}
 use Rattle.spec.proofs.Clashes.{true-is-not-false}
-use Rattle.calculus.specs.Expression.{Value, join, ref, read, lock, unlock, post, wait, hold, rdlock, rdunlock, wrlock, wrunlock, call, Exp, letIn, if, while, spawn, write, unary as onePart, choose, substitute}
+use Rattle.calculus.specs.Expression.{Value, Exp, letIn, if, while, spawn, write, choose, substitute}
 use Rattle.calculus.specs.State.{update}
 use Rattle.calculus.specs.Reduction.{nowhere}
 use Rattle.calculus.proofs.Laws.Maps.{update-other}
-use Rattle.soundness.specs.Erasure.{erase}
+use Rattle.soundness.specs.Erasure.{erase, UnaryForm, loop, strict, unaryForm, unaryExp}
 use Rattle.machine.specs.Environment.{Env, PartialEnv, all, hide, valueOr, close, closed, closedUnder}
 use Rattle.machine.specs.Control.{Frame, letFrame, spawnFrame, writeFirst, writeSecond, unaryFrame, againFrame, markFrame, around, fill}
 use Rattle.machine.proofs.Closing.{substitute-hidden, noValues, hide-none, close-with-none}
@@ -43,6 +42,10 @@ hidden-agree I ρ ρ′ x h y m = by-cases (ℕ-discrete y x)
     by-cases (yes p) = refl
     by-cases (no n) = h y (elsewhere (eqb y x) (λ q. n (eqb-true y x q)) m)
 
+close-unary : (f : UnaryForm) (e : Exp) (ρ : PartialEnv) → close ρ (unaryExp f e) ≡ unaryExp f (close ρ e)
+close-unary loop e ρ = refl
+close-unary (strict o) e ρ = refl
+
 pub close-agree : (count : ℕ) (e : Expr) (I : List ℕ) (ρ ρ′ : PartialEnv) → UsedInside count I e → AgreeOn I ρ ρ′ → close ρ (erase e) ≡ close ρ′ (erase e)
 unfolding erase UsedInside StepInside role binding
 close-agree count (leaf Var k x) I ρ ρ′ u h = ap (λ (o : Option Value). valueOr o x) (h x u)
@@ -51,19 +54,8 @@ close-agree count (leaf Newtid k v) I ρ ρ′ u h = refl
 close-agree count (leaf Newlock k v) I ρ ρ′ u h = refl
 close-agree count (leaf Newsem k v) I ρ ρ′ u h = refl
 close-agree count (leaf Newrwlock k v) I ρ ρ′ u h = refl
-close-agree count (unary While k v e) I ρ ρ′ u h = ap while (close-agree count e I ρ ρ′ (u .1) h)
-close-agree count (unary Join k v e) I ρ ρ′ u h = ap (onePart join) (close-agree count e I ρ ρ′ (u .1) h)
-close-agree count (unary Ref k v e) I ρ ρ′ u h = ap (onePart ref) (close-agree count e I ρ ρ′ (u .1) h)
-close-agree count (unary Read k v e) I ρ ρ′ u h = ap (onePart read) (close-agree count e I ρ ρ′ (u .1) h)
-close-agree count (unary Lock k v e) I ρ ρ′ u h = ap (onePart lock) (close-agree count e I ρ ρ′ (u .1) h)
-close-agree count (unary Unlock k v e) I ρ ρ′ u h = ap (onePart unlock) (close-agree count e I ρ ρ′ (u .1) h)
-close-agree count (unary Post k v e) I ρ ρ′ u h = ap (onePart post) (close-agree count e I ρ ρ′ (u .1) h)
-close-agree count (unary Wait k v e) I ρ ρ′ u h = ap (onePart wait) (close-agree count e I ρ ρ′ (u .1) h)
-close-agree count (unary Rdlock k v e) I ρ ρ′ u h = ap (onePart (hold rdlock)) (close-agree count e I ρ ρ′ (u .1) h)
-close-agree count (unary Rdunlock k v e) I ρ ρ′ u h = ap (onePart (hold rdunlock)) (close-agree count e I ρ ρ′ (u .1) h)
-close-agree count (unary Wrlock k v e) I ρ ρ′ u h = ap (onePart (hold wrlock)) (close-agree count e I ρ ρ′ (u .1) h)
-close-agree count (unary Wrunlock k v e) I ρ ρ′ u h = ap (onePart (hold wrunlock)) (close-agree count e I ρ ρ′ (u .1) h)
-close-agree count (unary Call k f e) I ρ ρ′ u h = ap (onePart (call f)) (close-agree count e I ρ ρ′ (u .1) h)
+close-agree count (unary w k v e) I ρ ρ′ u h =
+    close-unary (unaryForm w v) (erase e) ρ ∙ ap (unaryExp (unaryForm w v)) (close-agree count e I ρ ρ′ (u .1) h) ∙ sym (close-unary (unaryForm w v) (erase e) ρ′)
 close-agree count (binary Let k x e₁ e₂) I ρ ρ′ u h = λ i.
     letIn x (close-agree count e₁ I ρ ρ′ (u .1) h i) (close-agree count e₂ (x ∷ I) (hide ρ x) (hide ρ′ x) (u .2) (hidden-agree I ρ ρ′ x h) i)
 close-agree count (binary If k v e₁ e₂) I ρ ρ′ u h = λ i. if (close-agree count e₁ I ρ ρ′ (u .1) h i) (close-agree count e₂ I ρ ρ′ (u .2) h i)

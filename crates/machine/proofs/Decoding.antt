@@ -2,14 +2,12 @@
 use mathlib.Core.Path.{_≡_, refl, _∙_, ap}
 use mathlib.Core.List.{List, [], _∷_}
 use Rattle.spec.specs.Expression.{Position, Expr, leaf, unary, binary}
-use Rattle.spec.specs.declared.LeafWord.the-variants.{Var, Int, Newtid, Newlock, Newsem, Newrwlock}
-use Rattle.spec.specs.declared.UnaryWord.the-variants.{While, Join, Ref, Read, Lock, Unlock, Post, Wait, Rdlock, Rdunlock, Wrlock, Wrunlock, Call}
 use Rattle.spec.specs.declared.BinaryWord.the-variants.{Let, If, Spawn, Write}
-use Rattle.calculus.specs.Expression.{Value, Unary, Exp, value, letIn, while, spawn, write, unary as onePart, Redex, letRedex, spawnRedex, writeRedex, unaryRedex, Next, atWord, nextWord, plug, ifValue, once}
+use Rattle.calculus.specs.Expression.{Value, Exp, value, letIn, while, spawn, write, unary as onePart, Redex, letRedex, spawnRedex, writeRedex, unaryRedex, Next, atWord, nextWord, plug, ifValue, once}
 use Rattle.calculus.specs.Reduction.{nowhere, wordOf}
-use Rattle.soundness.specs.Erasure.{erase}
-use Rattle.machine.specs.Environment.{Env, closed, closedUnder}
-use Rattle.machine.specs.Control.{Frame, letFrame, spawnFrame, writeFirst, writeSecond, unaryFrame, againFrame, markFrame, behind, around, fill, Word, letWord, ifWord, whileWord, spawnWord, writeWord, unaryWord, makeWord, unrolledWord, againWord, wordExp, redex, Control, done, at, decode, nextRedex, seekPart, seek, return, enter, runPart}
+use Rattle.soundness.specs.Erasure.{LeafForm, variable, constant, makes, leafForm, leafExp, UnaryForm, loop, strict, unaryForm, unaryExp, erase}
+use Rattle.machine.specs.Environment.{Env, all, close, closed, closedUnder}
+use Rattle.machine.specs.Control.{Frame, letFrame, spawnFrame, writeFirst, writeSecond, unaryFrame, againFrame, markFrame, behind, around, fill, Word, letWord, ifWord, whileWord, spawnWord, writeWord, unaryWord, makeWord, unrolledWord, againWord, wordExp, redex, Control, done, at, decode, nextRedex, seekLeaf, seekUnary, seek, return, enter, runPart}
 
 -- ---- Finding the next word keeps the expression
 
@@ -19,31 +17,21 @@ Keeps σ K c = (v : Value) → decode (c v) ≡ fill σ K (value v)
 abbrev Found : Env → Expr → Type 0
 Found σ e = (K : List Frame) (c : Value → Control) → Keeps σ K c → decode (seek σ e K c) ≡ fill σ K (closed σ e)
 
-part-keeps : (σ : Env) (k : Position) (o : Unary) (e : Expr) (K : List Frame) → Found σ e →
-    decode (seekPart σ k o K (seek σ e)) ≡ fill σ K (onePart o (closed σ e))
-part-keeps σ k o e K found = found (unaryFrame k o ∷ K) (λ v. at σ (unaryWord k o v) K) (λ v. refl)
+leaf-keeps : (f : LeafForm) (σ : Env) (k : Position) (K : List Frame) (c : Value → Control) → Keeps σ K c →
+    decode (seekLeaf σ k f K c) ≡ fill σ K (close (all σ) (leafExp f))
+leaf-keeps (variable x) σ k K c h = h (σ x)
+leaf-keeps (constant n) σ k K c h = h _
+leaf-keeps (makes o) σ k K c h = refl
+
+unary-keeps : (f : UnaryForm) (σ : Env) (k : Position) (e : Expr) (K : List Frame) → Found σ e →
+    decode (seekUnary σ k f e K (seek σ e)) ≡ fill σ K (close (all σ) (unaryExp f (erase e)))
+unary-keeps loop σ k e K found = refl
+unary-keeps (strict o) σ k e K found = found (unaryFrame k o ∷ K) (λ v. at σ (unaryWord k o v) K) (λ v. refl)
 
 seek-keeps : (e : Expr) (σ : Env) → Found σ e
 unfolding erase
-seek-keeps (leaf Var k x) σ K c h = h (σ x)
-seek-keeps (leaf Int k v) σ K c h = h _
-seek-keeps (leaf Newtid k v) σ K c h = refl
-seek-keeps (leaf Newlock k v) σ K c h = refl
-seek-keeps (leaf Newsem k v) σ K c h = refl
-seek-keeps (leaf Newrwlock k v) σ K c h = refl
-seek-keeps (unary While k v e) σ K c h = refl
-seek-keeps (unary Join k v e) σ K c h = part-keeps σ k _ e K (seek-keeps e σ)
-seek-keeps (unary Ref k v e) σ K c h = part-keeps σ k _ e K (seek-keeps e σ)
-seek-keeps (unary Read k v e) σ K c h = part-keeps σ k _ e K (seek-keeps e σ)
-seek-keeps (unary Lock k v e) σ K c h = part-keeps σ k _ e K (seek-keeps e σ)
-seek-keeps (unary Unlock k v e) σ K c h = part-keeps σ k _ e K (seek-keeps e σ)
-seek-keeps (unary Post k v e) σ K c h = part-keeps σ k _ e K (seek-keeps e σ)
-seek-keeps (unary Wait k v e) σ K c h = part-keeps σ k _ e K (seek-keeps e σ)
-seek-keeps (unary Rdlock k v e) σ K c h = part-keeps σ k _ e K (seek-keeps e σ)
-seek-keeps (unary Rdunlock k v e) σ K c h = part-keeps σ k _ e K (seek-keeps e σ)
-seek-keeps (unary Wrlock k v e) σ K c h = part-keeps σ k _ e K (seek-keeps e σ)
-seek-keeps (unary Wrunlock k v e) σ K c h = part-keeps σ k _ e K (seek-keeps e σ)
-seek-keeps (unary Call k f e) σ K c h = part-keeps σ k _ e K (seek-keeps e σ)
+seek-keeps (leaf w k v) σ K c h = leaf-keeps (leafForm w v) σ k K c h
+seek-keeps (unary w k v e) σ K c h = unary-keeps (unaryForm w v) σ k e K (seek-keeps e σ)
 seek-keeps (binary Let k x e₁ e₂) σ K c h = seek-keeps e₁ σ (letFrame k x e₂ ∷ K) (λ v. at σ (letWord k x v e₂) K) (λ v. refl)
 seek-keeps (binary If k v e₁ e₂) σ K c h = refl
 seek-keeps (binary Spawn k v e₁ e₂) σ K c h = seek-keeps e₁ σ (spawnFrame k e₂ ∷ K) (λ w. at σ (spawnWord k w e₂) K) (λ w. refl)

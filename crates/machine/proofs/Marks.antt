@@ -6,15 +6,14 @@ use mathlib.Core.List.{List, [], _∷_}
 use lib.ListN.{length}
 use Rattle.spec.specs.Choice.{if_then_else_}
 use Rattle.spec.specs.Expression.{Position, Expr, leaf, unary, binary}
-use Rattle.spec.specs.declared.LeafWord.the-variants.{Var, Int, Newtid, Newlock, Newsem, Newrwlock}
-use Rattle.spec.specs.declared.UnaryWord.the-variants.{While, Join, Ref, Read, Lock, Unlock, Post, Wait, Rdlock, Rdunlock, Wrlock, Wrunlock, Call}
 use Rattle.spec.specs.declared.BinaryWord.the-variants.{Let, If, Spawn, Write}
-use Rattle.calculus.specs.Expression.{Value, int, Unary, join, ref, read, lock, unlock, post, wait, hold, rdlock, rdunlock, wrlock, wrunlock, call, newtid, newlock, newsem, newrwlock, Exp, value, Redex, Next, atWord, nextWord}
+use Rattle.calculus.specs.Expression.{Value, int, newtid, Exp, value, Redex, Next, atWord, nextWord}
 use Rattle.calculus.specs.State.{first, second}
+use Rattle.soundness.specs.Erasure.{LeafForm, variable, constant, makes, leafForm, UnaryForm, loop, strict, unaryForm}
 use Rattle.replay_theory.specs.Paths.{Path, once, nextPath, onlyPart, partOf, partAt}
 use Rattle.replay_theory.specs.Run.{hasFinished, isOpen, openIn}
 use Rattle.machine.specs.Environment.{Env, closed}
-use Rattle.machine.specs.Control.{Frame, letFrame, spawnFrame, writeFirst, writeSecond, unaryFrame, againFrame, markFrame, around, fill, Word, letWord, ifWord, whileWord, spawnWord, writeWord, unaryWord, makeWord, unrolledWord, againWord, wordExp, Control, done, at, decode, seekPart, seek, return, enter, runPart, marks, openCalls}
+use Rattle.machine.specs.Control.{Frame, letFrame, spawnFrame, writeFirst, writeSecond, unaryFrame, againFrame, markFrame, around, fill, Word, letWord, ifWord, whileWord, spawnWord, writeWord, unaryWord, makeWord, unrolledWord, againWord, wordExp, Control, done, at, decode, seekLeaf, seekUnary, seek, return, enter, runPart, marks, openCalls}
 use Rattle.machine.proofs.Decoding.{return-keeps, next-around, word-is-next}
 
 -- ---- Paths of frames
@@ -154,29 +153,19 @@ control-tells (at σ w K) = at-tells σ w K
 abbrev Sought : Env → Expr → Type 0
 Sought σ e = (K : List Frame) (c : Value → Control) → ((v : Value) → Tells (c v) (paths K)) → Tells (seek σ e K c) (paths K)
 
-part-tells : (σ : Env) (k : Position) (o : Unary) (e : Expr) (K : List Frame) → Sought σ e → Tells (seekPart σ k o K (seek σ e)) (paths K)
-part-tells σ k o e K sought = sought (unaryFrame k o ∷ K) (λ v. at σ (unaryWord k o v) K) (λ v. at-tells σ (unaryWord k o v) K)
+leaf-tells : (f : LeafForm) (σ : Env) (k : Position) (K : List Frame) (c : Value → Control) → ((v : Value) → Tells (c v) (paths K)) →
+    Tells (seekLeaf σ k f K c) (paths K)
+leaf-tells (variable x) σ k K c h = h (σ x)
+leaf-tells (constant n) σ k K c h = h (int n)
+leaf-tells (makes o) σ k K c h = at-tells σ (makeWord k o) K
+
+unary-tells : (f : UnaryForm) (σ : Env) (k : Position) (e : Expr) (K : List Frame) → Sought σ e → Tells (seekUnary σ k f e K (seek σ e)) (paths K)
+unary-tells loop σ k e K sought = at-tells σ (whileWord k e) K
+unary-tells (strict o) σ k e K sought = sought (unaryFrame k o ∷ K) (λ v. at σ (unaryWord k o v) K) (λ v. at-tells σ (unaryWord k o v) K)
 
 seek-tells : (e : Expr) (σ : Env) → Sought σ e
-seek-tells (leaf Var k x) σ K c h = h (σ x)
-seek-tells (leaf Int k v) σ K c h = h _
-seek-tells (leaf Newtid k v) σ K c h = at-tells σ (makeWord k newtid) K
-seek-tells (leaf Newlock k v) σ K c h = at-tells σ (makeWord k newlock) K
-seek-tells (leaf Newsem k v) σ K c h = at-tells σ (makeWord k newsem) K
-seek-tells (leaf Newrwlock k v) σ K c h = at-tells σ (makeWord k (newrwlock v)) K
-seek-tells (unary While k v e) σ K c h = at-tells σ (whileWord k e) K
-seek-tells (unary Join k v e) σ K c h = part-tells σ k join e K (seek-tells e σ)
-seek-tells (unary Ref k v e) σ K c h = part-tells σ k ref e K (seek-tells e σ)
-seek-tells (unary Read k v e) σ K c h = part-tells σ k read e K (seek-tells e σ)
-seek-tells (unary Lock k v e) σ K c h = part-tells σ k lock e K (seek-tells e σ)
-seek-tells (unary Unlock k v e) σ K c h = part-tells σ k unlock e K (seek-tells e σ)
-seek-tells (unary Post k v e) σ K c h = part-tells σ k post e K (seek-tells e σ)
-seek-tells (unary Wait k v e) σ K c h = part-tells σ k wait e K (seek-tells e σ)
-seek-tells (unary Rdlock k v e) σ K c h = part-tells σ k (hold rdlock) e K (seek-tells e σ)
-seek-tells (unary Rdunlock k v e) σ K c h = part-tells σ k (hold rdunlock) e K (seek-tells e σ)
-seek-tells (unary Wrlock k v e) σ K c h = part-tells σ k (hold wrlock) e K (seek-tells e σ)
-seek-tells (unary Wrunlock k v e) σ K c h = part-tells σ k (hold wrunlock) e K (seek-tells e σ)
-seek-tells (unary Call k v e) σ K c h = part-tells σ k (call v) e K (seek-tells e σ)
+seek-tells (leaf w k v) σ K c h = leaf-tells (leafForm w v) σ k K c h
+seek-tells (unary w k v e) σ K c h = unary-tells (unaryForm w v) σ k e K (seek-tells e σ)
 seek-tells (binary Let k x e₁ e₂) σ K c h = seek-tells e₁ σ (letFrame k x e₂ ∷ K) _ (λ v. at-tells σ (letWord k x v e₂) K)
 seek-tells (binary If k v e₁ e₂) σ K c h = at-tells σ (ifWord k e₁ e₂) K
 seek-tells (binary Spawn k v e₁ e₂) σ K c h = seek-tells e₁ σ (spawnFrame k e₂ ∷ K) _ (λ w. at-tells σ (spawnWord k w e₂) K)
@@ -207,37 +196,35 @@ run-part-tells σ k e K = seek-tells e σ (againFrame k e ∷ K) _ (λ v. at-tel
 -- ---- When a call opens
 
 -- A body that is not a value at once.
+abbrev pub LeafRuns : LeafForm → Type 0
+LeafRuns (variable x) = ⊥
+LeafRuns (constant n) = ⊥
+LeafRuns (makes o) = Unit {0}
+
 abbrev pub Runs : Expr → Type 0
-Runs (leaf Var k x) = ⊥
-Runs (leaf Int k v) = ⊥
-Runs (leaf Newtid k v) = Unit {0}
-Runs (leaf Newlock k v) = Unit {0}
-Runs (leaf Newsem k v) = Unit {0}
-Runs (leaf Newrwlock k v) = Unit {0}
+Runs (leaf w k v) = LeafRuns (leafForm w v)
 Runs (unary w k v e) = Unit {0}
 Runs (binary w k v e₁ e₂) = Unit {0}
 
-seek-marks : (e : Expr) (σ : Env) (K : List Frame) (c : Value → Control) → ((v : Value) → openCalls (c v) ≡ marks K) → openCalls (seek σ e K c) ≡ marks K
+abbrev Marked : Env → Expr → Type 0
+Marked σ e = (K : List Frame) (c : Value → Control) → ((v : Value) → openCalls (c v) ≡ marks K) → openCalls (seek σ e K c) ≡ marks K
+
+leaf-marks : (f : LeafForm) (σ : Env) (k : Position) (K : List Frame) (c : Value → Control) → ((v : Value) → openCalls (c v) ≡ marks K) →
+    openCalls (seekLeaf σ k f K c) ≡ marks K
 unfolding openCalls marks
-seek-marks (leaf Var k x) σ K c h = h (σ x)
-seek-marks (leaf Int k v) σ K c h = h (int v)
-seek-marks (leaf Newtid k v) σ K c h = refl
-seek-marks (leaf Newlock k v) σ K c h = refl
-seek-marks (leaf Newsem k v) σ K c h = refl
-seek-marks (leaf Newrwlock k v) σ K c h = refl
-seek-marks (unary While k v e) σ K c h = refl
-seek-marks (unary Join k v e) σ K c h = seek-marks e σ (unaryFrame k join ∷ K) (λ u. at σ (unaryWord k join u) K) (λ u. refl)
-seek-marks (unary Ref k v e) σ K c h = seek-marks e σ (unaryFrame k ref ∷ K) (λ u. at σ (unaryWord k ref u) K) (λ u. refl)
-seek-marks (unary Read k v e) σ K c h = seek-marks e σ (unaryFrame k read ∷ K) (λ u. at σ (unaryWord k read u) K) (λ u. refl)
-seek-marks (unary Lock k v e) σ K c h = seek-marks e σ (unaryFrame k lock ∷ K) (λ u. at σ (unaryWord k lock u) K) (λ u. refl)
-seek-marks (unary Unlock k v e) σ K c h = seek-marks e σ (unaryFrame k unlock ∷ K) (λ u. at σ (unaryWord k unlock u) K) (λ u. refl)
-seek-marks (unary Post k v e) σ K c h = seek-marks e σ (unaryFrame k post ∷ K) (λ u. at σ (unaryWord k post u) K) (λ u. refl)
-seek-marks (unary Wait k v e) σ K c h = seek-marks e σ (unaryFrame k wait ∷ K) (λ u. at σ (unaryWord k wait u) K) (λ u. refl)
-seek-marks (unary Rdlock k v e) σ K c h = seek-marks e σ (unaryFrame k (hold rdlock) ∷ K) (λ u. at σ (unaryWord k (hold rdlock) u) K) (λ u. refl)
-seek-marks (unary Rdunlock k v e) σ K c h = seek-marks e σ (unaryFrame k (hold rdunlock) ∷ K) (λ u. at σ (unaryWord k (hold rdunlock) u) K) (λ u. refl)
-seek-marks (unary Wrlock k v e) σ K c h = seek-marks e σ (unaryFrame k (hold wrlock) ∷ K) (λ u. at σ (unaryWord k (hold wrlock) u) K) (λ u. refl)
-seek-marks (unary Wrunlock k v e) σ K c h = seek-marks e σ (unaryFrame k (hold wrunlock) ∷ K) (λ u. at σ (unaryWord k (hold wrunlock) u) K) (λ u. refl)
-seek-marks (unary Call k v e) σ K c h = seek-marks e σ (unaryFrame k (call v) ∷ K) (λ u. at σ (unaryWord k (call v) u) K) (λ u. refl)
+leaf-marks (variable x) σ k K c h = h (σ x)
+leaf-marks (constant n) σ k K c h = h (int n)
+leaf-marks (makes o) σ k K c h = refl
+
+unary-marks : (f : UnaryForm) (σ : Env) (k : Position) (e : Expr) (K : List Frame) → Marked σ e → openCalls (seekUnary σ k f e K (seek σ e)) ≡ marks K
+unfolding openCalls marks
+unary-marks loop σ k e K marked = refl
+unary-marks (strict o) σ k e K marked = marked (unaryFrame k o ∷ K) (λ u. at σ (unaryWord k o u) K) (λ u. refl)
+
+seek-marks : (e : Expr) (σ : Env) → Marked σ e
+unfolding openCalls marks
+seek-marks (leaf w k v) σ K c h = leaf-marks (leafForm w v) σ k K c h
+seek-marks (unary w k v e) σ K c h = unary-marks (unaryForm w v) σ k e K (seek-marks e σ)
 seek-marks (binary Let k x e₁ e₂) σ K c h = seek-marks e₁ σ (letFrame k x e₂ ∷ K) (λ v. at σ (letWord k x v e₂) K) (λ v. refl)
 seek-marks (binary If k v e₁ e₂) σ K c h = refl
 seek-marks (binary Spawn k v e₁ e₂) σ K c h = seek-marks e₁ σ (spawnFrame k e₂ ∷ K) (λ w. at σ (spawnWord k w e₂) K) (λ w. refl)
@@ -246,26 +233,14 @@ seek-marks (binary Write k v e₁ e₂) σ K c h =
     (λ w. seek-marks e₂ σ (writeSecond k w ∷ K) (λ u. at σ (writeWord k w u) K) (λ u. refl))
 
 -- What follows a value is not asked.
+leaf-runs : (f : LeafForm) → LeafRuns f → (σ : Env) (k : Position) (K : List Frame) (c c′ : Value → Control) → seekLeaf σ k f K c ≡ seekLeaf σ k f K c′
+leaf-runs (variable x) r σ k K c c′ = absurd r
+leaf-runs (constant n) r σ k K c c′ = absurd r
+leaf-runs (makes o) r σ k K c c′ = refl
+
 seek-runs : (e : Expr) → Runs e → (σ : Env) (K : List Frame) (c c′ : Value → Control) → seek σ e K c ≡ seek σ e K c′
-seek-runs (leaf Var k x) r σ K c c′ = absurd r
-seek-runs (leaf Int k v) r σ K c c′ = absurd r
-seek-runs (leaf Newtid k v) r σ K c c′ = refl
-seek-runs (leaf Newlock k v) r σ K c c′ = refl
-seek-runs (leaf Newsem k v) r σ K c c′ = refl
-seek-runs (leaf Newrwlock k v) r σ K c c′ = refl
-seek-runs (unary While k v e) r σ K c c′ = refl
-seek-runs (unary Join k v e) r σ K c c′ = refl
-seek-runs (unary Ref k v e) r σ K c c′ = refl
-seek-runs (unary Read k v e) r σ K c c′ = refl
-seek-runs (unary Lock k v e) r σ K c c′ = refl
-seek-runs (unary Unlock k v e) r σ K c c′ = refl
-seek-runs (unary Post k v e) r σ K c c′ = refl
-seek-runs (unary Wait k v e) r σ K c c′ = refl
-seek-runs (unary Rdlock k v e) r σ K c c′ = refl
-seek-runs (unary Rdunlock k v e) r σ K c c′ = refl
-seek-runs (unary Wrlock k v e) r σ K c c′ = refl
-seek-runs (unary Wrunlock k v e) r σ K c c′ = refl
-seek-runs (unary Call k v e) r σ K c c′ = refl
+seek-runs (leaf w k v) r σ K c c′ = leaf-runs (leafForm w v) r σ k K c c′
+seek-runs (unary w k v e) r σ K c c′ = refl
 seek-runs (binary Let k v e₁ e₂) r σ K c c′ = refl
 seek-runs (binary If k v e₁ e₂) r σ K c c′ = refl
 seek-runs (binary Spawn k v e₁ e₂) r σ K c c′ = refl

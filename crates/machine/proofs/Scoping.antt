@@ -1,19 +1,18 @@
 -- Finding the next word keeps what runs later apart from what runs before it.
 use Prim.Native.Nat.{ℕ}
-use mathlib.Core.Path.{_≡_}
+use mathlib.Core.Path.{_≡_, _∙_, ap}
 use mathlib.Core.Logic.{_⊎_, inl, inr}
 use mathlib.Core.List.{List, [], _∷_}
-use Rattle.spec.specs.Expression.{Position, Expr, leaf, unary, binary}
+use Rattle.spec.specs.Expression.{Position, Expr, leaf, unary, binary, among}
 use Rattle.spec.specs.WellFormed.{binders, UsedInside}
 use Rattle.spec.specs.Words.{calls, role, binding}
-use Rattle.spec.specs.declared.LeafWord.the-variants.{Var, Int, Newtid, Newlock, Newsem, Newrwlock}
-use Rattle.spec.specs.declared.UnaryWord.the-variants.{While, Join, Ref, Read, Lock, Unlock, Post, Wait, Rdlock, Rdunlock, Wrlock, Wrunlock, Call}
 use Rattle.spec.specs.declared.BinaryWord.the-variants.{Let, If, Spawn, Write}
-use Rattle.calculus.specs.Expression.{Value, Unary}
+use Rattle.calculus.specs.Expression.{Value}
+use Rattle.soundness.specs.Erasure.{LeafForm, variable, constant, makes, leafForm, UnaryForm, loop, strict, unaryForm}
 use Rattle.machine.specs.Environment.{Env}
-use Rattle.machine.specs.Control.{Frame, letFrame, spawnFrame, writeFirst, writeSecond, unaryFrame, againFrame, markFrame, letWord, spawnWord, writeWord, unaryWord, againWord, Control, at, seekPart, seek, return, enter, runPart}
+use Rattle.machine.specs.Control.{Frame, letFrame, spawnFrame, writeFirst, writeSecond, unaryFrame, againFrame, markFrame, letWord, spawnWord, writeWord, unaryWord, againWord, Control, at, seekLeaf, seekUnary, seek, return, enter, runPart}
 use Rattle.machine.specs.Scoped.{Fits, Vars, Bound, Rest, LetRest, FrameOk, FrameBinds, BoundBehind, Nested, No, ControlOk}
-use Rattle.machine.proofs.Variables.{among-here, among-behind, among-left, among-right, among-either, part-fits, both-fit, let-fits}
+use Rattle.machine.proofs.Variables.{among-here, among-behind, among-left, among-right, among-either, one-part-binds, part-fits, both-fit, let-fits}
 
 -- ---- Fewer variables to be bound inside
 
@@ -89,10 +88,16 @@ Goes c = (v : Value) → ControlOk (c v)
 abbrev Sought : Expr → Env → Type 0
 Sought e σ = (I : List ℕ) (K : List Frame) (c : Value → Control) → Fits I e → Nested (Bound e) K → Goes c → ControlOk (seek σ e K c)
 
--- The part of a word with one.
-part-ok : (k : Position) (o : Unary) (e : Expr) (σ : Env) (I : List ℕ) (K : List Frame) → Sought e σ →
-    Fits I e → Nested (Bound e) K → ControlOk (seekPart σ k o K (seek σ e))
-part-ok k o e σ I K sought f n =
+leaf-ok : (w : LeafForm) (σ : Env) (k : Position) (B : Vars) (K : List Frame) (c : Value → Control) → Nested B K → Goes c → ControlOk (seekLeaf σ k w K c)
+leaf-ok (variable x) σ k B K c n g = g (σ x)
+leaf-ok (constant v) σ k B K c n g = g _
+leaf-ok (makes o) σ k B K c n g = (tt, nested-none K B n)
+
+-- A word with one part.
+unary-ok : (w : UnaryForm) (k : Position) (e : Expr) (σ : Env) (I : List ℕ) (K : List Frame) → Sought e σ → Fits I e → Nested (Bound e) K →
+    ControlOk (seekUnary σ k w e K (seek σ e))
+unary-ok loop k e σ I K sought f n = (fits-next f, n)
+unary-ok (strict o) k e σ I K sought f n =
     sought I (unaryFrame k o ∷ K) (λ u. at σ (unaryWord k o u) K) f (nested-behind K (Bound e) (unaryFrame k o) (λ y z. z) tt n)
     (λ u. (tt, nested-none K _ n))
 
@@ -105,25 +110,8 @@ second-ok k w e σ I K sought f n =
 
 seek-ok : (e : Expr) (σ : Env) → Sought e σ
 unfolding UsedInside binders calls role binding
-seek-ok (leaf Var k x) σ I K c f n g = g (σ x)
-seek-ok (leaf Int k v) σ I K c f n g = g _
-seek-ok (leaf Newtid k v) σ I K c f n g = (tt, nested-none K _ n)
-seek-ok (leaf Newlock k v) σ I K c f n g = (tt, nested-none K _ n)
-seek-ok (leaf Newsem k v) σ I K c f n g = (tt, nested-none K _ n)
-seek-ok (leaf Newrwlock k v) σ I K c f n g = (tt, nested-none K _ n)
-seek-ok (unary While k v e) σ I K c f n g = (fits-next (part-fits While e f), n)
-seek-ok (unary Join k v e) σ I K c f n g = part-ok k _ e σ I K (seek-ok e σ) (part-fits Join e f) n
-seek-ok (unary Ref k v e) σ I K c f n g = part-ok k _ e σ I K (seek-ok e σ) (part-fits Ref e f) n
-seek-ok (unary Read k v e) σ I K c f n g = part-ok k _ e σ I K (seek-ok e σ) (part-fits Read e f) n
-seek-ok (unary Lock k v e) σ I K c f n g = part-ok k _ e σ I K (seek-ok e σ) (part-fits Lock e f) n
-seek-ok (unary Unlock k v e) σ I K c f n g = part-ok k _ e σ I K (seek-ok e σ) (part-fits Unlock e f) n
-seek-ok (unary Post k v e) σ I K c f n g = part-ok k _ e σ I K (seek-ok e σ) (part-fits Post e f) n
-seek-ok (unary Wait k v e) σ I K c f n g = part-ok k _ e σ I K (seek-ok e σ) (part-fits Wait e f) n
-seek-ok (unary Rdlock k v e) σ I K c f n g = part-ok k _ e σ I K (seek-ok e σ) (part-fits Rdlock e f) n
-seek-ok (unary Rdunlock k v e) σ I K c f n g = part-ok k _ e σ I K (seek-ok e σ) (part-fits Rdunlock e f) n
-seek-ok (unary Wrlock k v e) σ I K c f n g = part-ok k _ e σ I K (seek-ok e σ) (part-fits Wrlock e f) n
-seek-ok (unary Wrunlock k v e) σ I K c f n g = part-ok k _ e σ I K (seek-ok e σ) (part-fits Wrunlock e f) n
-seek-ok (unary Call k v e) σ I K c f n g = part-ok k _ e σ I K (seek-ok e σ) (part-fits Call e f) n
+seek-ok (leaf w k v) σ I K c f n g = leaf-ok (leafForm w v) σ k (Bound (leaf w k v)) K c n g
+seek-ok (unary w k v e) σ I K c f n g = unary-ok (unaryForm w v) k e σ I K (seek-ok e σ) (part-fits w e f) (nested-fewer K _ _ (λ y h. ap (among y) (one-part-binds w k v e) ∙ h) n)
 seek-ok (binary Let k x e₁ e₂) σ I K c f n g =
     let P = let-fits x e₁ e₂ f in
     seek-ok e₁ σ I (letFrame k x e₂ ∷ K) (λ v. at σ (letWord k x v e₂) K) (P .value-fits)

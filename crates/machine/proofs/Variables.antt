@@ -82,7 +82,7 @@ apart-from y x xs h n =
 -- ---- The parts of an expression that fits a scope
 
 -- A word with one part binds nothing.
-one-part-binds : (w : UnaryWord) (k : Position) (v : ℕ) (e : Expr) → binders (unary w k v e) ≡ binders e
+pub one-part-binds : (w : UnaryWord) (k : Position) (v : ℕ) (e : Expr) → binders (unary w k v e) ≡ binders e
 unfolding binders role binding
 one-part-binds w k v e = by-cases (calls w)
   where

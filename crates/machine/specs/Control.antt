@@ -4,11 +4,10 @@ use Prim.Native.Nat.{ℕ, suc}
 use mathlib.Core.Option.{Option, none, some}
 use mathlib.Core.List.{List, [], _∷_}
 use Rattle.spec.specs.Expression.{Position, Expr, leaf, unary, binary}
-use Rattle.spec.specs.declared.LeafWord.the-variants.{Var, Int, Newtid, Newlock, Newsem, Newrwlock}
-use Rattle.spec.specs.declared.UnaryWord.the-variants.{While, Join, Ref, Read, Lock, Unlock, Post, Wait, Rdlock, Rdunlock, Wrlock, Wrunlock, Call}
 use Rattle.spec.specs.declared.BinaryWord.the-variants.{Let, If, Spawn, Write}
-use Rattle.calculus.specs.Expression.{Value, int, Unary, join, ref, read, lock, unlock, post, wait, hold, rdlock, rdunlock, wrlock, wrunlock, call, Maker, newtid, newlock, newsem, newrwlock, Exp, value, letIn, if, while, spawn, write, unary as onePart, make, Redex, letRedex, ifRedex, whileRedex, spawnRedex, writeRedex, unaryRedex, makeRedex}
+use Rattle.calculus.specs.Expression.{Value, int, Unary, Maker, Exp, value, letIn, if, while, spawn, write, unary as onePart, make, Redex, letRedex, ifRedex, whileRedex, spawnRedex, writeRedex, unaryRedex, makeRedex}
 use Rattle.calculus.specs.Reduction.{zeroExp, nowhere}
+use Rattle.soundness.specs.Erasure.{LeafForm, variable, constant, makes, leafForm, UnaryForm, loop, strict, unaryForm}
 use Rattle.machine.specs.Environment.{Env, closed, closedUnder}
 
 -- ---- Frames
@@ -110,27 +109,20 @@ nextRedex (at σ w K) = some (redex σ w)
 abbrev pub seekPart : Env → Position → Unary → List Frame → (List Frame → (Value → Control) → Control) → Control
 seekPart σ k o K s = s (unaryFrame k o ∷ K) (λ v. at σ (unaryWord k o v) K)
 
+-- A word without parts, and a word with one, whose part is sought by `part`.
+abbrev pub seekLeaf : Env → Position → LeafForm → List Frame → (Value → Control) → Control
+seekLeaf σ k (variable x) K c = c (σ x)
+seekLeaf σ k (constant n) K c = c (int n)
+seekLeaf σ k (makes o) K c = at σ (makeWord k o) K
+
+abbrev pub seekUnary : Env → Position → UnaryForm → Expr → List Frame → (part : List Frame → (Value → Control) → Control) → Control
+seekUnary σ k loop e K part = at σ (whileWord k e) K
+seekUnary σ k (strict o) e K part = seekPart σ k o K part
+
 -- The next word of an expression within frames; and what follows where it is a value.
 abbrev pub seek : Env → Expr → List Frame → (Value → Control) → Control
-seek σ (leaf Var k x) K c = c (σ x)
-seek σ (leaf Int k v) K c = c (int v)
-seek σ (leaf Newtid k v) K c = at σ (makeWord k newtid) K
-seek σ (leaf Newlock k v) K c = at σ (makeWord k newlock) K
-seek σ (leaf Newsem k v) K c = at σ (makeWord k newsem) K
-seek σ (leaf Newrwlock k v) K c = at σ (makeWord k (newrwlock v)) K
-seek σ (unary While k v e) K c = at σ (whileWord k e) K
-seek σ (unary Join k v e) K c = seekPart σ k join K (seek σ e)
-seek σ (unary Ref k v e) K c = seekPart σ k ref K (seek σ e)
-seek σ (unary Read k v e) K c = seekPart σ k read K (seek σ e)
-seek σ (unary Lock k v e) K c = seekPart σ k lock K (seek σ e)
-seek σ (unary Unlock k v e) K c = seekPart σ k unlock K (seek σ e)
-seek σ (unary Post k v e) K c = seekPart σ k post K (seek σ e)
-seek σ (unary Wait k v e) K c = seekPart σ k wait K (seek σ e)
-seek σ (unary Rdlock k v e) K c = seekPart σ k (hold rdlock) K (seek σ e)
-seek σ (unary Rdunlock k v e) K c = seekPart σ k (hold rdunlock) K (seek σ e)
-seek σ (unary Wrlock k v e) K c = seekPart σ k (hold wrlock) K (seek σ e)
-seek σ (unary Wrunlock k v e) K c = seekPart σ k (hold wrunlock) K (seek σ e)
-seek σ (unary Call k f e) K c = seekPart σ k (call f) K (seek σ e)
+seek σ (leaf w k v) K c = seekLeaf σ k (leafForm w v) K c
+seek σ (unary w k v e) K c = seekUnary σ k (unaryForm w v) e K (seek σ e)
 seek σ (binary Let k x e₁ e₂) K c = seek σ e₁ (letFrame k x e₂ ∷ K) (λ v. at σ (letWord k x v e₂) K)
 seek σ (binary If k v e₁ e₂) K c = at σ (ifWord k e₁ e₂) K
 seek σ (binary Spawn k v e₁ e₂) K c = seek σ e₁ (spawnFrame k e₂ ∷ K) (λ w. at σ (spawnWord k w e₂) K)

@@ -8,6 +8,7 @@ use native.Mathlib.Decide.{ℕ-discrete}
 use lib.ListN.{length, getD, set, getElem?, length-set}
 use lib.Seq.{getD-set-same, getD-set-other}
 use Rattle.spec.specs.Expression.{Position, Expr}
+use Rattle.spec.specs.Words.{largestValue}
 use Rattle.spec.specs.declared.Word.the-variants.{Unary, Binary}
 use Rattle.spec.specs.declared.UnaryWord.the-variants.{While}
 use Rattle.spec.specs.declared.BinaryWord.the-variants.{Let, If}
@@ -87,7 +88,8 @@ module _ (p s : List ℕ) (T : Threads) (R : Replay) (t tid : ℕ) (σ : Env) (K
       s₁ = set s (0 + 256 * row + x) (codeValue v)
 
       x-low : x < 256
-      x-low = r .small
+      unfolding largestValue
+      x-low = omega (arith, r .small .0)
 
       long₁ : length s₁ ≡ spaceSize
       long₁ = length-set s (0 + 256 * row + x) (codeValue v) ∙ H .long

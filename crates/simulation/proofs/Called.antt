@@ -11,6 +11,7 @@ use borrow.Author.Tests.{lt-ltb}
 use lib.ListN.{length, getD, set, getElem?, length-set}
 use lib.Seq.{getD-set-same, getD-set-other}
 use Rattle.spec.specs.Expression.{Position, Procedure}
+use Rattle.spec.specs.Words.{role, calls}
 use Rattle.spec.specs.declared.Word.the-variants.{Unary}
 use Rattle.spec.specs.declared.UnaryWord.the-variants.{Call}
 use Rattle.calculus.specs.Expression.{Value, int, call, choose}
@@ -178,7 +179,8 @@ module _ (p s : List ℕ) (T : Threads) (R : Replay) (t tid : ℕ) (σ : Env) (K
   new-low = let l = row-low in omega (arith, low)
 
   called : g < length (M .procedures)
-  called = let c = H .bodies .counted in let l : n < getD p proceduresAt 0 = r .small in omega (arith, c, l, is)
+  unfolding role calls
+  called = let c = H .bodies .counted in let l : n < getD p proceduresAt 0 = r .small .1 in omega (arith, c, l, is)
 
   module _ (body : Procedure) (listed : getElem? (M .procedures) g ≡ some body) where
     B : BodyStands p g body

@@ -9,6 +9,7 @@ use native.Mathlib.Omega.{arith}
 use lib.ListN.{length, set, length-set}
 use lib.Seq.{getD-set-same, getD-set-other}
 use Rattle.spec.specs.Expression.{Position, Expr, leaf, unary, binary, size}
+use Rattle.spec.specs.Words.{largestValue}
 use Rattle.spec.specs.declared.Word.{Word}
 use Rattle.spec.specs.declared.Word.the-variants.{Unary}
 use Rattle.spec.specs.declared.LeafWord.the-variants.{Var, Int, Newtid, Newlock, Newsem, Newrwlock}
@@ -262,10 +263,10 @@ module _ (p : List ℕ) (t : ℕ) (small : t < 16) (σ : Env) (row : ℕ) (s₀ 
       (let i = r .index in omega arith, sym (r .index), v, row-of r, N) (r .index) refl (unary-lands q o k K)
 
   pub seek-simulated : (e : Expr) (c k : ℕ) → Stands p c k e → Sought c k e
-  unfolding size enteredBy shapeOf ruleOf printed
+  unfolding size enteredBy shapeOf ruleOf printed largestValue
   seek-simulated (leaf Var q x) c k r K κ n m s fuel R next =
       takes-turn (κ (σ x)) m s (entering row k) (go p row (m - 1) s (returning row c (codeValue (σ x)))) (omega (arith, fuel))
-      (enters p row (m - 1) k s r ∙ ap (λ (z : ℕ). go p row (m - 1) s (returning row c z)) (R .values x (r .small))) (next (σ x) k (m - 1) s (omega (arith, fuel)) R)
+      (enters p row (m - 1) k s r ∙ ap (λ (z : ℕ). go p row (m - 1) s (returning row c z)) (R .values x (omega (arith, r .small .0)))) (next (σ x) k (m - 1) s (omega (arith, fuel)) R)
   seek-simulated (leaf Int q v) c k r K κ n m s fuel R next =
       takes-turn (κ (int v)) m s (entering row k) (go p row (m - 1) s (returning row c 0)) (omega (arith, fuel)) (enters p row (m - 1) k s r) (next (int v) k (m - 1) s (omega (arith, fuel)) R)
   seek-simulated (leaf Newtid q v) c k r K κ n m s fuel R next = stops (at σ (makeWord q calculus.newtid) K) k r (λ x. refl) m s (omega (arith, fuel))

@@ -1,10 +1,13 @@
 -- What the program's columns p and the lent space s hold of a thread of the machine: of its variables and frames, row by row.
-use Prim.Native.Nat.{ℕ, suc, _+_, _*_, _-_, _<_}
+use Prim.Native.Nat.{ℕ, suc, _+_, _*_, _-_, _<_, _≤_}
 use mathlib.Core.Path.{_≡_}
 use mathlib.Core.List.{List, [], _∷_}
 use mathlib.Core.Option.{some}
 use lib.ListN.{length, getD, getElem?}
 use Rattle.spec.specs.Expression.{Position, Expr, leaf, unary, binary, size, Procedure}
+use Rattle.spec.specs.Words.{largestValue, role}
+use Rattle.spec.specs.declared.Role.{Role}
+use Rattle.spec.specs.declared.Role.the-variants.{Binds, Uses, Calls, Neither}
 use Rattle.spec.specs.declared.Word.{Word}
 use Rattle.spec.specs.declared.Word.the-variants.{Leaf, Unary, Binary}
 use Rattle.spec.specs.declared.LeafWord.{LeafWord}
@@ -70,31 +73,16 @@ MakerNumber calculus.newlock v = Unit {0}
 MakerNumber calculus.newsem v = Unit {0}
 MakerNumber (calculus.newrwlock N) v = v ≡ N
 
--- a variable is below 256, a call's procedure is one of so many
+-- a call's procedure is one of so many
+abbrev pub Called : (procedures : ℕ) → Role → (v : ℕ) → Type 0
+Called m Binds v = Unit {0}
+Called m Uses v = Unit {0}
+Called m Calls v = v < m
+Called m Neither v = Unit {0}
+
+-- a number is in the range of its word
 abbrev pub Small : (procedures : ℕ) → Word → (v : ℕ) → Type 0
-Small m (Leaf leafWord.Var) v = v < 256
-Small m (Leaf leafWord.Int) v = Unit {0}
-Small m (Leaf leafWord.Newtid) v = Unit {0}
-Small m (Leaf leafWord.Newlock) v = Unit {0}
-Small m (Leaf leafWord.Newsem) v = Unit {0}
-Small m (Leaf leafWord.Newrwlock) v = Unit {0}
-Small m (Unary unaryWord.While) v = Unit {0}
-Small m (Unary unaryWord.Join) v = Unit {0}
-Small m (Unary unaryWord.Ref) v = Unit {0}
-Small m (Unary unaryWord.Read) v = Unit {0}
-Small m (Unary unaryWord.Lock) v = Unit {0}
-Small m (Unary unaryWord.Unlock) v = Unit {0}
-Small m (Unary unaryWord.Post) v = Unit {0}
-Small m (Unary unaryWord.Wait) v = Unit {0}
-Small m (Unary unaryWord.Rdlock) v = Unit {0}
-Small m (Unary unaryWord.Rdunlock) v = Unit {0}
-Small m (Unary unaryWord.Wrlock) v = Unit {0}
-Small m (Unary unaryWord.Wrunlock) v = Unit {0}
-Small m (Unary unaryWord.Call) v = v < m
-Small m (Binary Let) v = v < 256
-Small m (Binary If) v = Unit {0}
-Small m (Binary Spawn) v = Unit {0}
-Small m (Binary Write) v = Unit {0}
+Small m w v = (v ≤ largestValue w) × Called m (role w) v
 
 -- what follows the first and the second part of step k, which has continuation c
 abbrev pub afterFirst : BinaryWord → (k c : ℕ) → ℕ

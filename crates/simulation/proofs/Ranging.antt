@@ -13,17 +13,16 @@ use Rattle.spec.specs.Text.{bytes, same, Line, closed, Field, lookUp, fields}
 use Rattle.spec.specs.Reading.{Seen, right, wrong, wrongAfter, freelock, _to_, inRange, allInRange, numbers}
 use Rattle.spec.specs.Expression.{Step, Expr, leaf, unary, binary, Item, step, proc, Procedure}
 use Rattle.spec.specs.Program.{Program, firstNumber, stepOf, wordLine, procOf, procLine, itemLine, itemLines}
-use Rattle.spec.specs.Words.{calls, wordsUnder, leastValue, largestValue, valueRange, role, binding}
+use Rattle.spec.specs.Words.{wordsUnder, leastValue, largestValue, valueRange, role, binding}
 use Rattle.spec.specs.WellFormed.{Shows, nothing, line, prefix, itemsOf, listing, StepInside, UsedInside, AllUsedInside, firstItemLine, WellFormedProgram}
 use Rattle.spec.proofs.Seen.{wrong-is-not-right, seen-right, numbers-right}
 use Rattle.spec.specs.declared.ProgramHeading.{ProgramHeading}
 use Rattle.spec.specs.declared.ProgramHeading.the-variants.{P, P2}
+use Rattle.spec.specs.declared.Role.{Role}
+use Rattle.spec.specs.declared.Role.the-variants.{Binds, Uses, Calls, Neither}
 use Rattle.spec.specs.declared.Word.{Word}
 use Rattle.spec.specs.declared.Word.the-variants.{Leaf, Unary, Binary}
-use Rattle.spec.specs.declared.LeafWord.the-variants.{Var, Int, Newtid, Newlock, Newsem, Newrwlock}
-use Rattle.spec.specs.declared.UnaryWord.the-variants.{While, Join, Ref, Read, Lock, Unlock, Post, Wait, Rdlock, Rdunlock, Wrlock, Wrunlock, Call}
-use Rattle.spec.specs.declared.BinaryWord.the-variants.{Let, If, Spawn, Write}
-use Rattle.simulation.proofs.Held.{Small}
+use Rattle.simulation.proofs.Held.{Called, Small}
 use Rattle.simulation.proofs.Linked.{Ranged}
 use Rattle.simulation.proofs.Bodies.{AllRanged}
 
@@ -31,31 +30,15 @@ use Rattle.simulation.proofs.Bodies.{AllRanged}
 
 -- in a program of m procedures
 module _ (m : ℕ) where
+  called-of : (r : Role) (v : ℕ) (inside : List ℕ) → StepInside m inside r v → Called m r v
+  unfolding StepInside
+  called-of Binds v inside u = tt
+  called-of Uses v inside u = tt
+  called-of Calls v inside u = u
+  called-of Neither v inside u = tt
+
   small-of : (w : Word) (v : ℕ) (inside : List ℕ) → v ≤ largestValue w → StepInside m inside (role w) v → Small m w v
-  unfolding largestValue StepInside role calls
-  small-of (Leaf Var) v inside h u = omega (arith, h)
-  small-of (Leaf Int) v inside h u = tt
-  small-of (Leaf Newtid) v inside h u = tt
-  small-of (Leaf Newlock) v inside h u = tt
-  small-of (Leaf Newsem) v inside h u = tt
-  small-of (Leaf Newrwlock) v inside h u = tt
-  small-of (Unary While) v inside h u = tt
-  small-of (Unary Join) v inside h u = tt
-  small-of (Unary Ref) v inside h u = tt
-  small-of (Unary Read) v inside h u = tt
-  small-of (Unary Lock) v inside h u = tt
-  small-of (Unary Unlock) v inside h u = tt
-  small-of (Unary Post) v inside h u = tt
-  small-of (Unary Wait) v inside h u = tt
-  small-of (Unary Rdlock) v inside h u = tt
-  small-of (Unary Rdunlock) v inside h u = tt
-  small-of (Unary Wrlock) v inside h u = tt
-  small-of (Unary Wrunlock) v inside h u = tt
-  small-of (Unary Call) v inside h u = u
-  small-of (Binary Let) v inside h u = omega (arith, h)
-  small-of (Binary If) v inside h u = tt
-  small-of (Binary Spawn) v inside h u = tt
-  small-of (Binary Write) v inside h u = tt
+  small-of w v inside h u = (h, called-of (role w) v inside u)
 
 -- the numbers of steps are in the ranges of their words
 abbrev AllLow : List Step → Type 0

@@ -1,37 +1,69 @@
 -- The expression of the calculus that a listed expression is, the same words without lines; and the program that a sheet lists.
 use mathlib.Core.List.{map}
+use Prim.Native.Nat.{ℕ}
+use Rattle.spec.specs.declared.LeafWord.{LeafWord}
+use Rattle.spec.specs.declared.UnaryWord.{UnaryWord}
+use Rattle.spec.specs.declared.BinaryWord.{BinaryWord}
 use Rattle.spec.specs.Program as sheet
 use Rattle.spec.specs.Expression as listed
 use Rattle.spec.specs.Expression.{Expr, leaf, unary, binary}
 use Rattle.spec.specs.declared.LeafWord.the-variants.{Var, Int, Newtid, Newlock, Newsem, Newrwlock}
 use Rattle.spec.specs.declared.UnaryWord.the-variants.{While, Join, Ref, Read, Lock, Unlock, Post, Wait, Rdlock, Rdunlock, Wrlock, Wrunlock, Call}
 use Rattle.spec.specs.declared.BinaryWord.the-variants.{Let, If, Spawn, Write}
-use Rattle.calculus.specs.Expression.{Exp, value, int, var, letIn, if, while, spawn, write, unary as onePart, join, ref, read, lock, unlock, post, wait, hold, rdlock, rdunlock, wrlock, wrunlock, call, make, newtid, newlock, newsem, newrwlock, Procedure, Program}
+use Rattle.calculus.specs.Expression.{Exp, value, int, var, letIn, if, while, spawn, write, unary as onePart, Unary, Maker, join, ref, read, lock, unlock, post, wait, hold, rdlock, rdunlock, wrlock, wrunlock, call, make, newtid, newlock, newsem, newrwlock, Procedure, Program}
+
+-- What a word without parts is, with its number v: a variable, a constant, or a word that makes a new thing.
+pub data LeafForm : Type 0 where
+  variable constant : ℕ → LeafForm
+  makes : Maker → LeafForm
+
+abbrev pub leafForm : LeafWord → (v : ℕ) → LeafForm
+leafForm Var v = variable v
+leafForm Int v = constant v
+leafForm Newtid v = makes newtid
+leafForm Newlock v = makes newlock
+leafForm Newsem v = makes newsem
+leafForm Newrwlock v = makes (newrwlock v)
+
+-- What a word with one part is: a loop, or a word that wants its part to be a value.
+pub data UnaryForm : Type 0 where
+  loop : UnaryForm
+  strict : Unary → UnaryForm
+
+abbrev pub unaryForm : UnaryWord → (v : ℕ) → UnaryForm
+unaryForm While v = loop
+unaryForm Join v = strict join
+unaryForm Ref v = strict ref
+unaryForm Read v = strict read
+unaryForm Lock v = strict lock
+unaryForm Unlock v = strict unlock
+unaryForm Post v = strict post
+unaryForm Wait v = strict wait
+unaryForm Rdlock v = strict (hold rdlock)
+unaryForm Rdunlock v = strict (hold rdunlock)
+unaryForm Wrlock v = strict (hold wrlock)
+unaryForm Wrunlock v = strict (hold wrunlock)
+unaryForm Call v = strict (call v)
+
+abbrev pub leafExp : LeafForm → Exp
+leafExp (variable x) = var x
+leafExp (constant n) = value (int n)
+leafExp (makes o) = make o
+
+abbrev pub unaryExp : UnaryForm → Exp → Exp
+unaryExp loop e = while e
+unaryExp (strict o) e = onePart o e
+
+abbrev pub binaryExp : BinaryWord → (v : ℕ) → (e₁ e₂ : Exp) → Exp
+binaryExp Let x e₁ e₂ = letIn x e₁ e₂
+binaryExp If v e₁ e₂ = if e₁ e₂
+binaryExp Spawn v e₁ e₂ = spawn e₁ e₂
+binaryExp Write v e₁ e₂ = write e₁ e₂
 
 unfoldable pub erase : Expr → Exp
-erase (leaf Var k v) = var v
-erase (leaf Int k v) = value (int v)
-erase (leaf Newtid k v) = make newtid
-erase (leaf Newlock k v) = make newlock
-erase (leaf Newsem k v) = make newsem
-erase (leaf Newrwlock k v) = make (newrwlock v)
-erase (unary While k v e) = while (erase e)
-erase (unary Join k v e) = onePart join (erase e)
-erase (unary Ref k v e) = onePart ref (erase e)
-erase (unary Read k v e) = onePart read (erase e)
-erase (unary Lock k v e) = onePart lock (erase e)
-erase (unary Unlock k v e) = onePart unlock (erase e)
-erase (unary Post k v e) = onePart post (erase e)
-erase (unary Wait k v e) = onePart wait (erase e)
-erase (unary Rdlock k v e) = onePart (hold rdlock) (erase e)
-erase (unary Rdunlock k v e) = onePart (hold rdunlock) (erase e)
-erase (unary Wrlock k v e) = onePart (hold wrlock) (erase e)
-erase (unary Wrunlock k v e) = onePart (hold wrunlock) (erase e)
-erase (unary Call k f e) = onePart (call f) (erase e)
-erase (binary Let k v e₁ e₂) = letIn v (erase e₁) (erase e₂)
-erase (binary If k v e₁ e₂) = if (erase e₁) (erase e₂)
-erase (binary Spawn k v e₁ e₂) = spawn (erase e₁) (erase e₂)
-erase (binary Write k v e₁ e₂) = write (erase e₁) (erase e₂)
+erase (leaf w k v) = leafExp (leafForm w v)
+erase (unary w k v e) = unaryExp (unaryForm w v) (erase e)
+erase (binary w k v e₁ e₂) = binaryExp w v (erase e₁) (erase e₂)
 
 -- A procedure is known by its place, which a call names.
 abbrev pub eraseProcedure : listed.Procedure → Procedure
