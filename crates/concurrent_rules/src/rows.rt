@@ -12,11 +12,14 @@ use spec::TypeLine;
 use views::View;
 ghost use mathlib.Core.Path.{_≡_};
 ghost use Rattle.conditions.specs.Outcome.{outcome, firstFalseFrom};
-ghost use Rattle.rules.specs.Table.{newtRow, spawnRow, newlRow, newsemRow, newrwlockRow};
+ghost use Rattle.spec.specs.declared.Word.the-variants.{Leaf, Binary};
+ghost use Rattle.spec.specs.declared.LeafWord.the-variants.{Newtid, Newlock, Newsem, Newrwlock};
+ghost use Rattle.spec.specs.declared.BinaryWord.the-variants.{Spawn};
+ghost use Rattle.rules.specs.Table.{rowIn};
 
 // NEWT: 1 a tid type; 2 post = pre.
 pub fn check_newt(work: &[u32], s: View, kind: TypeLine) -> Ruling
-    ensures { λ r. ⌜ outcome r ≡ firstFalseFrom (s .line) 1 (newtRow (now (work .entry)) s kind) ⌝ }
+    ensures { λ r. ⌜ outcome r ≡ firstFalseFrom (s .line) 1 (rowIn (Leaf Newtid) (now (work .entry)) s kind kind) ⌝ }
 {
     let TypeLine::Tid(_) = kind else {
         return type_false(s.line, 1);
@@ -26,7 +29,7 @@ pub fn check_newt(work: &[u32], s: View, kind: TypeLine) -> Ruling
 
 // SPAWN: 1 type int; 2 e1 a tid; 3 post of e2 ≥ K; 4 post + s = post of e1.
 pub fn check_spawn(work: &[u32], s: View, kind: TypeLine, kind1: TypeLine) -> Ruling
-    ensures { λ r. ⌜ outcome r ≡ firstFalseFrom (s .line) 1 (spawnRow (now (work .entry)) s kind kind1) ⌝ }
+    ensures { λ r. ⌜ outcome r ≡ firstFalseFrom (s .line) 1 (rowIn (Binary Spawn) (now (work .entry)) s kind kind1) ⌝ }
 {
     let TypeLine::Int = kind else {
         return type_false(s.line, 1);
@@ -42,7 +45,7 @@ pub fn check_spawn(work: &[u32], s: View, kind: TypeLine, kind1: TypeLine) -> Ru
 
 // NEWL: 1 a lock type; 2 post + out = pre.
 pub fn check_newl(work: &[u32], s: View, kind: TypeLine) -> Ruling
-    ensures { λ r. ⌜ outcome r ≡ firstFalseFrom (s .line) 1 (newlRow (now (work .entry)) s kind) ⌝ }
+    ensures { λ r. ⌜ outcome r ≡ firstFalseFrom (s .line) 1 (rowIn (Leaf Newlock) (now (work .entry)) s kind kind) ⌝ }
 {
     let TypeLine::Lock(_, out) = kind else {
         return type_false(s.line, 1);
@@ -52,7 +55,7 @@ pub fn check_newl(work: &[u32], s: View, kind: TypeLine) -> Ruling
 
 // NEWSEM: 1 a sem type; 2 post = pre.
 pub fn check_newsem(work: &[u32], s: View, kind: TypeLine) -> Ruling
-    ensures { λ r. ⌜ outcome r ≡ firstFalseFrom (s .line) 1 (newsemRow (now (work .entry)) s kind) ⌝ }
+    ensures { λ r. ⌜ outcome r ≡ firstFalseFrom (s .line) 1 (rowIn (Leaf Newsem) (now (work .entry)) s kind kind) ⌝ }
 {
     let TypeLine::Sem(_) = kind else {
         return type_false(s.line, 1);
@@ -62,7 +65,7 @@ pub fn check_newsem(work: &[u32], s: View, kind: TypeLine) -> Ruling
 
 // NEWRWLOCK: 1 a rwlock type; 2 N × r ≤ w; 3 post + w = pre.
 pub fn check_newrwlock(work: &[u32], s: View, kind: TypeLine) -> Ruling
-    ensures { λ r. ⌜ outcome r ≡ firstFalseFrom (s .line) 1 (newrwlockRow (now (work .entry)) s kind) ⌝ }
+    ensures { λ r. ⌜ outcome r ≡ firstFalseFrom (s .line) 1 (rowIn (Leaf Newrwlock) (now (work .entry)) s kind kind) ⌝ }
 {
     let TypeLine::Rwlock(read, write) = kind else {
         return type_false(s.line, 1);

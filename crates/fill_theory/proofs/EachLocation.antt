@@ -14,7 +14,7 @@ use Rattle.spec.specs.Words.{role, binding, preOfPart, preOfSecond}
 use Rattle.spec.specs.Expression.{Step, Position, Expr, leaf, unary, binary, size, Procedure}
 use Rattle.spec.specs.Split.{Map, Split, mapAt}
 use Rattle.spec.specs.Maps.{_≥ᵐ_, share}
-use Rattle.spec.specs.Conditions.{Env, type, post, bodyStart, startMap, signature, K, inMap, outMap, readMap, writeMap, table, conditionsOf, procedureConditions}
+use Rattle.spec.specs.Conditions.{Env, type, post, bodyStart, keptBack, startMap, signature, conditionsBy, conditionsOf, procedureConditions}
 use Rattle.spec.specs.Sites.{Site, Claim, sites, numbered, claimsAt, claims, bodySites, claimsOfProcedure, claimsOfProcedures, isFlow, only}
 use Rattle.spec.specs.WellFormed.{NumberedFrom}
 use Rattle.spec.specs.FirstFalse.{Holds, AllHold}
@@ -114,7 +114,7 @@ module _ {ss : List Step} {S : Split} {σ : List Map} {T : Split} (G : Showing s
   -- pre is the map x; in the order of Figure 5
   pub flow-at-each-location : (Γ : Env) {pre x : Map} (e : Expr) (i : ℕ) → Placed ss i e → Known L pre x
       → AllFlow (sites T Γ pre e) ↔ Everywhere L (λ p. Passes (at σ p) i (share x p) (flowOf S p e))
-  unfolding AllHold Holds claimsAt numbered table conditionsOf only isFlow preOfPart preOfSecond K inMap outMap readMap writeMap loadHere inHere outHere readHere writeHere startHere keptHere beforeHere afterHere accessHere flowOf Passes
+  unfolding AllHold Holds claimsAt numbered conditionsBy conditionsOf only isFlow preOfPart preOfSecond keptBack loadHere inHere outHere readHere writeHere startHere keptHere beforeHere afterHere accessHere flowOf Passes
   flow-at-each-location Γ (leaf Var k v) i P before = no-part Γ _ Var k v (lastly (keeps (G .posts _ P) before))
   flow-at-each-location Γ (leaf Int k v) i P before = no-part Γ _ Int k v (lastly (keeps (G .posts _ P) before))
   flow-at-each-location Γ {x = x} (binary Let k v e₁ e₂) i P before =

@@ -1,18 +1,18 @@
 -- Filling changes no (T) condition.
 use mathlib.Core.Path.{_≡_, refl, ap₂, sym, _∙_}
-use mathlib.Core.List.{List, [], _∷_, _++_}
+use mathlib.Core.List.{List, [], _∷_, _++_, map}
 use Prim.Native.Nat.{ℕ, _+_}
 use Rattle.spec.specs.Words.{role, binding, preOfPart, preOfSecond}
-use Rattle.spec.specs.Expression.{Expr, leaf, unary, binary, Procedure}
+use Rattle.spec.specs.Expression.{Expr, leaf, unary, binary, lineOf, Procedure}
 use Rattle.spec.specs.Program.{Program}
 use Rattle.spec.specs.Split.{Map, Split}
-use Rattle.spec.specs.Conditions.{Env, type, post, bodyStart, signature, startMap, table, conditionsOf, procedureConditions}
+use Rattle.spec.specs.Table as entry
+use Rattle.spec.specs.Table.{TypeTerm, Entry, table}
+use Rattle.spec.specs.Conditions.{Env, type, post, bodyStart, signature, startMap, mayShow, wordOf, typeTerm, says, conditionsBy, conditionsOf, procedureConditions}
+use Rattle.spec.specs.Agreement.{agree}
 use Rattle.spec.specs.Sites.{Site, Claim, sites, numbered, claimsAt, claims, bodySites, claimsOfProcedure, claimsOfProcedures, claimsOf, isType, only}
 use Rattle.spec.specs.Ranges.{InRange}
 use Rattle.spec.specs.declared.Word.the-variants.{Binary}
-use Rattle.spec.specs.declared.LeafWord.the-variants.{Var, Int, Newtid, Newlock, Newsem, Newrwlock}
-use Rattle.spec.specs.declared.UnaryWord.the-variants.{While, Join, Ref, Read, Lock, Unlock, Post, Wait, Rdlock, Rdunlock, Wrlock, Wrunlock, Call}
-use Rattle.spec.specs.declared.BinaryWord.the-variants.{Let, If, Spawn, Write}
 use Rattle.spec.proofs.Claims.{claims-append}
 use Rattle.fill_theory.specs.Filled.{filled}
 use Rattle.fill_theory.proofs.Kept.{type-kept, kind-kept, agree-kept, may-show-kept, contains-kept}
@@ -53,31 +53,33 @@ module _ {P : Program} {S : Split} (R : InRange P S) (σ : List Map) where
   abbrev ownTypes : Split → Env → Map → Expr → List Claim
   ownTypes T Γ pre e = only isType (claimsAt T (record { Γ = Γ; pre = pre; step = e }))
 
-  own-kept : (Γ : Env) (pre pre′ : Map) (e : Expr) → ownTypes S′ Γ pre e ≡ ownTypes S Γ pre′ e
-  unfolding claimsAt numbered table conditionsOf only isType signature filled
-  own-kept Γ pre pre′ (leaf Var k v) = simp (type-kept S σ, may-show-kept R σ)
-  own-kept Γ pre pre′ (leaf Int k v) = simp (kind-kept S σ)
-  own-kept Γ pre pre′ (binary Let k v e₁ e₂) = simp (type-kept S σ, agree-kept R σ)
-  own-kept Γ pre pre′ (binary If k v e₁ e₂) = simp (type-kept S σ, agree-kept R σ)
-  own-kept Γ pre pre′ (unary While k v e₁) = simp (kind-kept S σ)
-  own-kept Γ pre pre′ (leaf Newtid k v) = simp (kind-kept S σ)
-  own-kept Γ pre pre′ (binary Spawn k v e₁ e₂) = simp (kind-kept S σ)
-  own-kept Γ pre pre′ (unary Join k v e₁) = simp (kind-kept S σ)
-  own-kept Γ pre pre′ (unary Ref k v e₁) = simp (type-kept S σ, kind-kept S σ, contains-kept R σ)
-  own-kept Γ pre pre′ (binary Write k v e₁ e₂) = simp (type-kept S σ, kind-kept S σ, contains-kept R σ)
-  own-kept Γ pre pre′ (unary Read k v e₁) = simp (type-kept S σ, kind-kept S σ, contains-kept R σ)
-  own-kept Γ pre pre′ (leaf Newlock k v) = simp (kind-kept S σ)
-  own-kept Γ pre pre′ (unary Lock k v e₁) = simp (kind-kept S σ)
-  own-kept Γ pre pre′ (unary Unlock k v e₁) = simp (kind-kept S σ)
-  own-kept Γ pre pre′ (leaf Newsem k v) = simp (kind-kept S σ)
-  own-kept Γ pre pre′ (leaf Newrwlock k v) = simp (kind-kept S σ)
-  own-kept Γ pre pre′ (unary Post k v e₁) = simp (kind-kept S σ)
-  own-kept Γ pre pre′ (unary Wait k v e₁) = simp (kind-kept S σ)
-  own-kept Γ pre pre′ (unary Rdlock k v e₁) = simp (kind-kept S σ)
-  own-kept Γ pre pre′ (unary Rdunlock k v e₁) = simp (kind-kept S σ)
-  own-kept Γ pre pre′ (unary Wrlock k v e₁) = simp (kind-kept S σ)
-  own-kept Γ pre pre′ (unary Wrunlock k v e₁) = simp (kind-kept S σ)
-  own-kept Γ pre pre′ (unary Call k f e₁) = simp (type-kept S σ, agree-kept R σ)
+  module _ (Γ : Env) (pre pre′ : Map) (e : Expr) where
+    term-kept : (t : TypeTerm) → typeTerm S′ Γ pre e t ≡ typeTerm S Γ pre′ e t
+    unfolding signature filled
+    term-kept (entry.type-of p) = type-kept S σ _
+    term-kept entry.that-of-its-let = refl
+    term-kept entry.result = refl
+    term-kept entry.argument = refl
+
+    entries-kept : (n i : ℕ) (xs : List Entry)
+        → only isType (numbered n i (map (says S′ Γ pre e (agree S′) (mayShow S′)) xs)) ≡ only isType (numbered n i (map (says S Γ pre′ e (agree S) (mayShow S)) xs))
+    unfolding numbered only isType
+    entries-kept n i [] = refl
+    entries-kept n i (entry._a_ p k ∷ xs) = rw (kind-kept S σ _, entries-kept n (i + 1) xs)
+    entries-kept n i (entry._is_ p t ∷ xs) = rw (type-kept S σ _, term-kept t, agree-kept R σ _ _, entries-kept n (i + 1) xs)
+    entries-kept n i (entry._shows_ p t ∷ xs) = rw (type-kept S σ _, term-kept t, may-show-kept R σ _ _, entries-kept n (i + 1) xs)
+    entries-kept n i (entry._is-c-of_ p q ∷ xs) = rw (type-kept S σ _, kind-kept S σ _, contains-kept R σ _ _, entries-kept n (i + 1) xs)
+    entries-kept n i (entry._＝_ l m ∷ xs) = entries-kept n (i + 1) xs
+    entries-kept n i (entry._≥_ l m ∷ xs) = entries-kept n (i + 1) xs
+    entries-kept n i (entry.N×_≤_ l m ∷ xs) = entries-kept n (i + 1) xs
+    entries-kept n i (entry._+_＝_ l m k ∷ xs) = entries-kept n (i + 1) xs
+    entries-kept n i (entry._＝_+_ l m k ∷ xs) = entries-kept n (i + 1) xs
+    entries-kept n i (entry.post-at-p>0 ∷ xs) = entries-kept n (i + 1) xs
+    entries-kept n i (entry.post-at-p≥D ∷ xs) = entries-kept n (i + 1) xs
+
+    own-kept : ownTypes S′ Γ pre e ≡ ownTypes S Γ pre′ e
+    unfolding claimsAt conditionsOf conditionsBy
+    own-kept = entries-kept (lineOf e) 1 (table (wordOf e))
 
   sites-alike : (Γ : Env) (pre pre′ : Map) (e : Expr) → Alike S′ (sites S′ Γ pre e) S (sites S Γ pre′ e)
   unfolding sites claims

@@ -8,8 +8,8 @@ use Rattle.spec.specs.Expression.{Expr, leaf, unary, binary, Procedure}
 use Rattle.spec.specs.Program.{Program}
 use Rattle.spec.specs.Split.{Split, mapAt}
 use Rattle.spec.specs.Maps.{share}
-use Rattle.spec.specs.Kinds.{refLocation}
-use Rattle.spec.specs.Conditions.{kind, startMap, bodyStart, keptBack, signature, K, inMap, outMap, readMap, writeMap}
+use Rattle.spec.specs.Kinds.{refLocation, firstMap, secondMap}
+use Rattle.spec.specs.Conditions.{kind, startMap, bodyStart, keptBack, signature}
 use Rattle.spec.specs.declared.Location.{Location}
 use Rattle.spec.specs.declared.LeafWord.the-variants.{Var, Int, Newtid, Newlock, Newsem, Newrwlock}
 use Rattle.spec.specs.declared.UnaryWord.the-variants.{While, Join, Ref, Read, Lock, Unlock, Post, Wait, Rdlock, Rdunlock, Wrlock, Wrunlock, Call}
@@ -23,19 +23,19 @@ asks here p d = if eqb (p .0) (here .0) then d else 0
 module _ (S : Split) (here : Location) where
   -- what the load of an expression's type, in and out of its lock type, r and w of its rwlock type, and the start of its body have here
   unfoldable pub loadHere : Expr → ℕ
-  loadHere e = share (K S e) here
+  loadHere e = share (mapAt S (firstMap (kind S e))) here
 
   unfoldable pub inHere : Expr → ℕ
-  inHere e = share (inMap S e) here
+  inHere e = share (mapAt S (firstMap (kind S e))) here
 
   unfoldable pub outHere : Expr → ℕ
-  outHere e = share (outMap S e) here
+  outHere e = share (mapAt S (secondMap (kind S e))) here
 
   unfoldable pub readHere : Expr → ℕ
-  readHere e = share (readMap S e) here
+  readHere e = share (mapAt S (firstMap (kind S e))) here
 
   unfoldable pub writeHere : Expr → ℕ
-  writeHere e = share (writeMap S e) here
+  writeHere e = share (mapAt S (secondMap (kind S e))) here
 
   unfoldable pub startHere : Expr → ℕ
   startHere e = share (bodyStart S e) here

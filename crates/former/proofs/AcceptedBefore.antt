@@ -1,19 +1,21 @@
 -- Pairs accepted before request (i) of document 02 remain accepted. "Before", two types agreed when their numbers agreed; that
 -- check is written out here, beside the theorem; no definition and no contract cites it.
 use mathlib.Core.Path.{_≡_, ap}
-use mathlib.Core.List.{List, [], _∷_, _++_}
+use mathlib.Core.List.{List, [], _∷_, _++_, map}
 use mathlib.Core.Bool.{Bool, true}
 use Prim.Native.Nat.{ℕ, _+_}
 use lib.Dec.{eqb, leb}
 use borrow.Author.Tests.{eqb-true}
 use Rattle.spec.specs.Reading.{Out, on, _>>=_, demand}
-use Rattle.spec.specs.Expression.{Expr, leaf, unary, binary, lineOf, Procedure}
+use Rattle.spec.specs.Expression.{Expr, lineOf, Procedure}
 use Rattle.spec.specs.Program.{Program}
 use Rattle.spec.specs.Split.{Map, Signature, Split, mapAt}
 use Rattle.spec.specs.Maps.{_≥ᵐ_}
 use Rattle.spec.specs.Agreement.{agree}
 use Rattle.spec.specs.Kinds.{ref, is, content}
-use Rattle.spec.specs.Conditions.{Condition, T, F, Env, type, post, startMap, signature, contains, mayShow, table, conditionsOf, procedureConditions}
+use Rattle.spec.specs.Table as entry
+use Rattle.spec.specs.Table.{Entry, table}
+use Rattle.spec.specs.Conditions.{Condition, T, F, Env, type, post, startMap, signature, contains, mayShow, wordOf, says, conditionsBy, conditionsOf, procedureConditions}
 use Rattle.spec.specs.Sites.{Site, sites, Claim, numbered, claimsAt, claims, bodySites, claimsOfProcedure, claimsOfProcedures, claimsOf, firstFalse}
 use Rattle.spec.specs.FirstFalse.{Holds, AllHold}
 use Rattle.spec.specs.Workspace.{workspaceSize}
@@ -23,9 +25,6 @@ use Rattle.spec.specs.declared.TypeLine.{TypeLine}
 use Rattle.spec.specs.declared.Answer.{Answer}
 use Rattle.spec.specs.declared.Answer.the-variants.{Accept}
 use Rattle.spec.specs.declared.Refusal.the-variants.{ShortWorkspace}
-use Rattle.spec.specs.declared.LeafWord.the-variants.{Var, Int, Newtid, Newlock, Newsem, Newrwlock}
-use Rattle.spec.specs.declared.UnaryWord.the-variants.{While, Join, Ref, Read, Lock, Unlock, Post, Wait, Rdlock, Rdunlock, Wrlock, Wrunlock, Call}
-use Rattle.spec.specs.declared.BinaryWord.the-variants.{Let, If, Spawn, Write}
 use Rattle.spec.proofs.Tests.{both-true}
 use Rattle.spec.proofs.Outcomes.{bind-goes-on, goes-on-bind}
 use Rattle.spec.proofs.Claims.{none-false-all-hold, all-hold-none-false, all-hold-parts, all-hold-append}
@@ -43,7 +42,7 @@ agreeBefore t u = eqb (t .0) (u .0)
 module _ (S : Split) where
   -- the table, with types compared by their numbers, on var lines too
   unfoldable pub conditionsBefore : Env → (pre : Map) → Expr → List Condition
-  conditionsBefore = table S agreeBefore agreeBefore
+  conditionsBefore Γ pre e = conditionsBy S Γ pre e agreeBefore agreeBefore
 
   unfoldable pub procedureConditionsBefore : Signature → Procedure → List Condition
   procedureConditionsBefore g p = T (agreeBefore (type S (p .body)) (g .result)) ∷ F (post S (p .body) ≥ᵐ mapAt S (g .after)) ∷ []
@@ -90,38 +89,37 @@ module _ (S : Split) where
   unfolding contains
   contained x u h = let (one, alike) = both-true (is ref x) (agreeBefore (content x) u) h in rw one (agreed (content x) u alike)
 
-  own-holds : (n i : ℕ) (Γ : Env) (pre : Map) (e : Expr) → AllHold (numbered n i (conditionsBefore S Γ pre e)) → AllHold (numbered n i (conditionsOf S Γ pre e))
-  unfolding AllHold Holds numbered table conditionsBefore conditionsOf
-  own-holds n i Γ pre (leaf Var k v) h = (shown _ _ (h .0), h .1)
-  own-holds n i Γ pre (leaf Int k v) h = h
-  own-holds n i Γ pre (binary Let k v e₁ e₂) h = (agreed _ _ (h .0), h .1)
-  own-holds n i Γ pre (binary If k v e₁ e₂) h = (agreed _ _ (h .0), (agreed _ _ (h .1 .0), h .1 .1))
-  own-holds n i Γ pre (unary While k v e₁) h = h
-  own-holds n i Γ pre (leaf Newtid k v) h = h
-  own-holds n i Γ pre (binary Spawn k v e₁ e₂) h = h
-  own-holds n i Γ pre (unary Join k v e₁) h = h
-  own-holds n i Γ pre (unary Ref k v e₁) h = (contained _ _ (h .0), h .1)
-  own-holds n i Γ pre (unary Read k v e₁) h = (h .0, (contained _ _ (h .1 .0), h .1 .1))
-  own-holds n i Γ pre (binary Write k v e₁ e₂) h = (h .0, (h .1 .0, (contained _ _ (h .1 .1 .0), h .1 .1 .1)))
-  own-holds n i Γ pre (leaf Newlock k v) h = h
-  own-holds n i Γ pre (unary Lock k v e₁) h = h
-  own-holds n i Γ pre (unary Unlock k v e₁) h = h
-  own-holds n i Γ pre (leaf Newsem k v) h = h
-  own-holds n i Γ pre (leaf Newrwlock k v) h = h
-  own-holds n i Γ pre (unary Post k v e₁) h = h
-  own-holds n i Γ pre (unary Wait k v e₁) h = h
-  own-holds n i Γ pre (unary Rdlock k v e₁) h = h
-  own-holds n i Γ pre (unary Rdunlock k v e₁) h = h
-  own-holds n i Γ pre (unary Wrlock k v e₁) h = h
-  own-holds n i Γ pre (unary Wrunlock k v e₁) h = h
-  own-holds n i Γ pre (unary Call k f e₁) h = (agreed _ _ (h .0), (agreed _ _ (h .1 .0), h .1 .1))
+  module _ (Γ : Env) (pre : Map) (e : Expr) where
+    says-holds : (x : Entry) → Holds (says S Γ pre e agreeBefore agreeBefore x) → Holds (says S Γ pre e (agree S) (mayShow S) x)
+    unfolding Holds
+    says-holds (entry._a_ p k) h = h
+    says-holds (entry._is_ p t) h = agreed _ _ h
+    says-holds (entry._shows_ p t) h = shown _ _ h
+    says-holds (entry._is-c-of_ p q) h = contained _ _ h
+    says-holds (entry._＝_ l m) h = h
+    says-holds (entry._≥_ l m) h = h
+    says-holds (entry.N×_≤_ l m) h = h
+    says-holds (entry._+_＝_ l m n) h = h
+    says-holds (entry._＝_+_ l m n) h = h
+    says-holds entry.post-at-p>0 h = h
+    says-holds entry.post-at-p≥D h = h
+
+    all-say : (n i : ℕ) (xs : List Entry) → AllHold (numbered n i (map (says S Γ pre e agreeBefore agreeBefore) xs))
+        → AllHold (numbered n i (map (says S Γ pre e (agree S) (mayShow S)) xs))
+    unfolding AllHold numbered
+    all-say n i [] h = h
+    all-say n i (x ∷ xs) h = (says-holds x (h .0), all-say n (i + 1) xs (h .1))
+
+    own-holds : (n i : ℕ) → AllHold (numbered n i (conditionsBefore S Γ pre e)) → AllHold (numbered n i (conditionsOf S Γ pre e))
+    unfolding conditionsBefore conditionsOf conditionsBy
+    own-holds n i = all-say n i (table (wordOf e))
 
   claims-hold : (ss : List Site) → AllHold (claimsBefore S ss) → AllHold (claims S ss)
   unfolding claims claimsAt claimsBefore
   claims-hold [] h = h
   claims-hold (s ∷ ss) h =
       let both = all-hold-parts _ (claimsBefore S ss) h in
-      all-hold-append _ (claims S ss) (own-holds _ 1 (s .Γ) _ (s .step) (both .0)) (claims-hold ss (both .1))
+      all-hold-append _ (claims S ss) (own-holds (s .Γ) _ (s .step) _ 1 (both .0)) (claims-hold ss (both .1))
 
   procedure-holds : (g : Signature) (p : Procedure) → AllHold (claimsOfProcedureBefore S g p) → AllHold (claimsOfProcedure S g p)
   unfolding claimsOfProcedureBefore claimsOfProcedure procedureConditionsBefore procedureConditions numbered AllHold Holds

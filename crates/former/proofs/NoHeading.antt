@@ -1,6 +1,6 @@
 -- 44 and 30 to 33 do not look at the heading: two splits that differ in nothing else get the same outcome.
 use mathlib.Core.Path.{_≡_, refl, ap, _∙_}
-use mathlib.Core.List.{List, [], _∷_, _++_}
+use mathlib.Core.List.{List, [], _∷_, _++_, map}
 use mathlib.Core.Bool.{Bool, _&&_}
 use mathlib.Core.Option.{Option, none, some}
 use Prim.Native.Nat.{ℕ, _+_}
@@ -13,7 +13,9 @@ use Rattle.spec.specs.Program.{Program}
 use Rattle.spec.specs.Split.{Map, Header, Signature, Split}
 use Rattle.spec.specs.Kinds.{int, lock, is, content}
 use Rattle.spec.specs.Agreement.{Tree, plain, sameTree, treeOf, trees, tree, agree}
-use Rattle.spec.specs.Conditions.{Condition, T, Env, typeAt, mapAt, startMap, contains, looserLock, mayShow, row, type, kind, post, startOr, bodyStart, keptBack, signature, K, inMap, outMap, readMap, writeMap, table, conditionsOf, procedureConditions}
+use Rattle.spec.specs.Table as entry
+use Rattle.spec.specs.Table.{TypeTerm, MapTerm, Entry, table}
+use Rattle.spec.specs.Conditions.{Condition, T, Env, typeAt, mapAt, startMap, contains, looserLock, mayShow, row, type, kind, post, startOr, bodyStart, signature, wordOf, typeTerm, mapTerm, says, conditionsBy, conditionsOf, procedureConditions}
 use Rattle.spec.specs.Sites.{Site, sites, claimsAt, claims, bodySites, claimsOfProcedure, claimsOfProcedures, claimsOf}
 use Rattle.spec.specs.Verdict.{takesEnough, allTakeEnough, locksTakeEnough, startAtMostOne, ruled}
 use Rattle.spec.specs.declared.Heading.{Heading}
@@ -22,9 +24,6 @@ use Rattle.spec.specs.declared.TypeNumber.{TypeNumber}
 use Rattle.spec.specs.declared.TypeLine.{TypeLine}
 use Rattle.spec.specs.declared.Refusal.the-variants.{LockTakesLess}
 use Rattle.spec.specs.declared.Word.the-variants.{Binary}
-use Rattle.spec.specs.declared.LeafWord.the-variants.{Var, Int, Newtid, Newlock, Newsem, Newrwlock}
-use Rattle.spec.specs.declared.UnaryWord.the-variants.{While, Join, Ref, Read, Lock, Unlock, Post, Wait, Rdlock, Rdunlock, Wrlock, Wrunlock, Call}
-use Rattle.spec.specs.declared.BinaryWord.the-variants.{Let, If, Spawn, Write}
 
 -- a header, and a split, under another heading
 unfoldable pub headedAs : Heading → Header → Header
@@ -89,43 +88,58 @@ module _ (h : Heading) (S : Split) where
 
   -- ---------------------------------------------------------------- conditions
 
-  -- lists of conditions that differ in how two types are compared, at the first or later
+  -- lists of conditions that differ in how two types are compared at the first
   at-first : {a b : Bool} (cs : List Condition) → a ≡ b → _≡_ {A = List Condition} (T a ∷ cs) (T b ∷ cs)
   at-first cs e = ap (λ (x : Bool). T x ∷ cs) e
-
-  later : (c : Condition) {cs ds : List Condition} → cs ≡ ds → _≡_ {A = List Condition} (c ∷ cs) (c ∷ ds)
-  later c e = ap (_∷_ c) e
 
   same-start-in : (o : Option MapNumber) → startOr (under h S) o ≡ startOr S o
   unfolding startOr mapAt under headedAs
   same-start-in none = refl
   same-start-in (some m) = refl
 
-  same-own : (Γ : Env) (pre : Map) (e : Expr) → conditionsOf (under h S) Γ pre e ≡ conditionsOf S Γ pre e
-  unfolding table conditionsOf row type kind post bodyStart startOr keptBack signature K inMap outMap readMap writeMap typeAt mapAt under headedAs
-  same-own Γ pre (leaf Var k v) = at-first _ (same-may-show _ _)
-  same-own Γ pre (leaf Int k v) = refl
-  same-own Γ pre (leaf Newtid k v) = refl
-  same-own Γ pre (leaf Newlock k v) = refl
-  same-own Γ pre (leaf Newsem k v) = refl
-  same-own Γ pre (leaf Newrwlock k v) = refl
-  same-own Γ pre (unary While k v e₁) = refl
-  same-own Γ pre (unary Join k v e₁) = refl
-  same-own Γ pre (unary Ref k v e₁) = at-first _ (same-contains _ _)
-  same-own Γ pre (unary Read k v e₁) = later _ (at-first _ (same-contains _ _))
-  same-own Γ pre (unary Lock k v e₁) = refl
-  same-own Γ pre (unary Unlock k v e₁) = refl
-  same-own Γ pre (unary Post k v e₁) = refl
-  same-own Γ pre (unary Wait k v e₁) = refl
-  same-own Γ pre (unary Rdlock k v e₁) = refl
-  same-own Γ pre (unary Rdunlock k v e₁) = refl
-  same-own Γ pre (unary Wrlock k v e₁) = refl
-  same-own Γ pre (unary Wrunlock k v e₁) = refl
-  same-own Γ pre (unary Call k f e₁) = rw (same-start-in (row S (unary Call k f e₁) .start)) (at-first _ (same-agree _ _) ∙ later _ (at-first _ (same-agree _ _)))
-  same-own Γ pre (binary Let k v e₁ e₂) = at-first _ (same-agree _ _)
-  same-own Γ pre (binary If k v e₁ e₂) = at-first _ (same-agree _ _) ∙ later _ (at-first _ (same-agree _ _))
-  same-own Γ pre (binary Spawn k v e₁ e₂) = rw (same-start-in (row S (binary Spawn k v e₁ e₂) .start))
-  same-own Γ pre (binary Write k v e₁ e₂) = later _ (later _ (at-first _ (same-contains _ _)))
+  module _ (Γ : Env) (pre : Map) (e : Expr) where
+    same-type : (t : TypeTerm) → typeTerm (under h S) Γ pre e t ≡ typeTerm S Γ pre e t
+    unfolding row type signature under
+    same-type (entry.type-of p) = refl
+    same-type entry.that-of-its-let = refl
+    same-type entry.result = refl
+    same-type entry.argument = refl
+
+    same-map : (m : MapTerm) → mapTerm (under h S) Γ pre e m ≡ mapTerm S Γ pre e m
+    unfolding row type kind post bodyStart signature typeAt mapAt under
+    same-map entry.pre = refl
+    same-map entry.s = same-start-in (row S e .start)
+    same-map (entry.post-of p) = refl
+    same-map entry.K = refl
+    same-map entry.«in» = refl
+    same-map entry.out = refl
+    same-map entry.r = refl
+    same-map entry.w = refl
+    same-map entry.before = refl
+    same-map entry.after = refl
+
+    same-says : (x : Entry) → says (under h S) Γ pre e (agree (under h S)) (mayShow (under h S)) x ≡ says S Γ pre e (agree S) (mayShow S) x
+    unfolding row type kind post typeAt mapAt under headedAs
+    same-says (entry._a_ p k) = refl
+    same-says (entry._is_ p t) = rw (same-type t) (ap T (same-agree _ _))
+    same-says (entry._shows_ p t) = rw (same-type t) (ap T (same-may-show _ _))
+    same-says (entry._is-c-of_ p q) = ap T (same-contains _ _)
+    same-says (entry._＝_ l m) = rw (same-map l, same-map m)
+    same-says (entry._≥_ l m) = rw (same-map l, same-map m)
+    same-says (entry.N×_≤_ l m) = rw (same-map l, same-map m)
+    same-says (entry._+_＝_ l m n) = rw (same-map l, same-map m, same-map n)
+    same-says (entry._＝_+_ l m n) = rw (same-map l, same-map m, same-map n)
+    same-says entry.post-at-p>0 = refl
+    same-says entry.post-at-p≥D = refl
+
+    same-all : (xs : List Entry)
+        → map (says (under h S) Γ pre e (agree (under h S)) (mayShow (under h S))) xs ≡ map (says S Γ pre e (agree S) (mayShow S)) xs
+    same-all [] = refl
+    same-all (x ∷ xs) = rw (same-says x, same-all xs)
+
+    same-own : conditionsOf (under h S) Γ pre e ≡ conditionsOf S Γ pre e
+    unfolding conditionsOf conditionsBy
+    same-own = same-all (table (wordOf e))
 
   -- ---------------------------------------------------------------- all of them
 

@@ -12,7 +12,7 @@ use Rattle.spec.specs.Program.{Program}
 use Rattle.spec.specs.Split.{Map, Signature, Split}
 use Rattle.spec.specs.Maps.{share}
 use Rattle.spec.specs.Kinds.{refLocation, firstMap, secondMap}
-use Rattle.spec.specs.Conditions.{Env, mapAt, mayShow, contains, type, kind, post, bodyStart, keptBack, signature, K, inMap, outMap, readMap, writeMap, table, conditionsOf, procedureConditions}
+use Rattle.spec.specs.Conditions.{Env, mapAt, mayShow, contains, type, kind, post, bodyStart, keptBack, signature, conditionsBy, conditionsOf, procedureConditions}
 use Rattle.spec.specs.Agreement.{agree}
 use Rattle.spec.specs.Ranges.{InRange}
 use Rattle.spec.specs.declared.MapNumber.{MapNumber}
@@ -25,7 +25,7 @@ use Rattle.spec.specs.declared.BinaryWord.{BinaryWord}
 use Rattle.spec.specs.declared.BinaryWord.the-variants.{Let, If, Spawn, Write}
 use Rattle.spec.proofs.Fits.{place-fits}
 use Rattle.workspace.specs.Layout as layout
-use Rattle.workspace.specs.Layout.{mapCell, printed, ruleOf, leafCode, unaryCode, binaryCode}
+use Rattle.workspace.specs.Layout.{mapCell, printed, ruleOf, wordBy, leafCode, unaryCode, binaryCode}
 use Rattle.workspace.specs.Holds.{HoldsSplit}
 use Rattle.workspace.proofs.Shown.{Stands, type-shown, first-stands, second-stands, has-shown}
 use Rattle.conditions.specs.Agreement.{agreeIn, mayShowIn}
@@ -87,7 +87,7 @@ module _ (w : List ℕ) (S : Split) (P : Program) (H : HoldsSplit w S) (R : InRa
 
   pub leaf-shown : (x : LeafWord) → Part w S (s .typed) (s .post) (leaf x l v) → Bound S x s Γ v
       → ruleRow (ruleOf (leafCode x)) w s (layout.typeAt w (s .typed)) (layout.typeAt w (s .type1)) ≡ conditionsOf S Γ pre (leaf x l v)
-  unfolding printed ruleOf ruleRow table conditionsOf type K inMap outMap readMap writeMap
+  unfolding printed ruleOf wordBy ruleRow conditionsBy conditionsOf type
   leaf-shown Var o b = rw (equal located (o .posted) pre-stands, shows _ _ o (b .0) (b .1))
   leaf-shown Int o b = rw (equal located (o .posted) pre-stands, typed-as _ o)
   leaf-shown Newtid o b = rw (equal located (o .posted) pre-stands, typed-as _ o)
@@ -106,7 +106,7 @@ module _ (w : List ℕ) (S : Split) (P : Program) (H : HoldsSplit w S) (R : InRa
     pub unary-shown : (x : UnaryWord) → Part w S (s .typed) (s .post) (unary x l v e₁)
         → Stands w S (s .start) (bodyStart S (unary x l v e₁)) → (x ≡ Call → Signed w S (s .signature) (signature S v))
         → ruleRow (ruleOf (unaryCode x)) w s (layout.typeAt w (s .typed)) (layout.typeAt w (s .type1)) ≡ conditionsOf S Γ pre (unary x l v e₁)
-    unfolding printed ruleOf ruleRow table conditionsOf type K inMap outMap readMap writeMap keptBack
+    unfolding printed ruleOf wordBy ruleRow conditionsBy conditionsOf type keptBack
     unary-shown While o b c =
         rw (at-least located pre-stands (o .posted), at-least located (f .posted) (o .posted), typed-as _ o)
     unary-shown Join o b c =
@@ -150,7 +150,7 @@ module _ (w : List ℕ) (S : Split) (P : Program) (H : HoldsSplit w S) (R : InRa
       pub binary-shown : (x : BinaryWord) → Part w S (s .typed) (s .post) (binary x l v e₁ e₂)
           → Stands w S (s .start) (bodyStart S (binary x l v e₁ e₂))
           → ruleRow (ruleOf (binaryCode x)) w s (layout.typeAt w (s .typed)) (layout.typeAt w (s .type1)) ≡ conditionsOf S Γ pre (binary x l v e₁ e₂)
-      unfolding printed ruleOf ruleRow table conditionsOf type K inMap outMap readMap writeMap
+      unfolding printed ruleOf wordBy ruleRow conditionsBy conditionsOf type
       binary-shown Let o b =
           rw (equal located (o .posted) (g .posted), agrees _ _ o (g .typed) (g .type-in))
       binary-shown If o b =

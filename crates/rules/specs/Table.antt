@@ -1,15 +1,20 @@
--- The conditions of each rule, from what the work space shows of a step, and those of a `proc` line. proofs/TableRows.antt
--- shows that these are the documents' for the sheets that the work space holds.
+-- The conditions of each word, spec's table read over what the work space shows of a step, and those of a `proc` line.
+-- proofs/TableRows.antt shows that these are the documents' for the sheets that the work space holds.
 use mathlib.Core.Bool.{Bool}
-use mathlib.Core.List.{List, [], _∷_}
+use mathlib.Core.List.{List, [], _∷_, map}
 use Prim.Native.Nat.{ℕ}
-use Rattle.spec.specs.Kinds.{int, ref, lock, tid, sem, rwlock, is, refLocation, firstMap, secondMap}
+use Rattle.spec.specs.Kinds.{int, is, refLocation, firstMap, secondMap}
+use Rattle.spec.specs.Table as entry
+use Rattle.spec.specs.Table.{Part, step, e1, e2, TypeTerm, type-of, that-of-its-let, result, argument, MapTerm, pre, post-of, K, «in», out, before, after, Entry, table}
 use Rattle.spec.specs.Conditions.{Condition, T, F, contains}
 use Rattle.spec.specs.declared.MapNumber.{MapNumber}
 use Rattle.spec.specs.declared.TypeNumber.{TypeNumber}
 use Rattle.spec.specs.declared.TypeLine.{TypeLine}
+use Rattle.spec.specs.declared.TypeLine.the-variants as type-line
+use Rattle.spec.specs.declared.Word.{Word}
+use Rattle.spec.specs.declared.Word.the-variants.{Leaf, Unary, Binary}
+use Rattle.workspace.specs.Layout.{wordBy}
 use Rattle.workspace.specs.declared.Rule.{Rule}
-use Rattle.workspace.specs.declared.Rule.the-variants.{VAR, INT, LET, IF, WHILE, NEWT, SPAWN, JOIN, REF, WRITE, READ, NEWL, LCK, ULCK, NEWSEM, POST, WAIT, NEWRWLOCK, RDLOCK, RDUNLOCK, WRLOCK, WRUNLOCK, CALL}
 use Rattle.conditions.specs.Relation.{fails, hasAtLeast}
 use Rattle.conditions.specs.Agreement.{agreeIn, mayShowIn}
 use Rattle.conditions.specs.declared.Relation.{Relation}
@@ -29,169 +34,71 @@ loaded w s kind fits less load more =
     ∷ flows w s (Sum less load more)
     ∷ []
 
--- ------------------------------------------------------------------ the rows, in the printed order
+-- ------------------------------------------------------------------ spec's table over a view
 
--- what a rule asks of the work space and of a view, with the type lines that it looks at: of the step, of its first part
-abbrev pub PlainRow : Type 0
-PlainRow = (w : List ℕ) → View → List Condition
+-- the types and posts of a step and its parts, the types and maps of the table's terms; K, in, out, r and w are those of the type line x
+abbrev pub typeIn : View → Part → TypeNumber
+typeIn s step = s .typed
+typeIn s e1 = s .type1
+typeIn s e2 = s .type2
 
-abbrev pub KindRow : Type 0
-KindRow = (w : List ℕ) → View → TypeLine → List Condition
+abbrev pub postIn : View → Part → MapNumber
+postIn s step = s .post
+postIn s e1 = s .post1
+postIn s e2 = s .post2
 
-abbrev pub KindsRow : Type 0
-KindsRow = (w : List ℕ) → View → (kind kind₁ : TypeLine) → List Condition
+abbrev pub typeTermIn : View → TypeTerm → TypeNumber
+typeTermIn s (type-of p) = typeIn s p
+typeTermIn s that-of-its-let = s .bound
+typeTermIn s result = s .signature .result
+typeTermIn s argument = s .signature .argument
 
-abbrev pub varRow : PlainRow
-varRow w s =
-    T (mayShowIn w (s .locations) (s .typed) (s .bound))
-    ∷ flows w s (Equal (s .post) (s .pre))
-    ∷ []
+abbrev pub mapTermIn : View → (x : TypeLine) → MapTerm → MapNumber
+mapTermIn s x pre = s .pre
+mapTermIn s x entry.s = s .start
+mapTermIn s x (post-of p) = postIn s p
+mapTermIn s x K = firstMap x
+mapTermIn s x «in» = firstMap x
+mapTermIn s x out = secondMap x
+mapTermIn s x entry.r = firstMap x
+mapTermIn s x entry.w = secondMap x
+mapTermIn s x before = s .signature .before
+mapTermIn s x after = s .signature .after
 
-abbrev pub intRow : KindRow
-intRow w s kind =
-    T (is int kind)
-    ∷ flows w s (Equal (s .post) (s .pre))
-    ∷ []
+-- the type lines of the step and of its first part; no entry looks at that of e2
+abbrev pub kindIn : (kind kind₁ : TypeLine) → Part → TypeLine
+kindIn kind kind₁ step = kind
+kindIn kind kind₁ e1 = kind₁
+kindIn kind kind₁ e2 = kind₁
 
-abbrev pub letRow : PlainRow
-letRow w s =
-    T (agreeIn w (s .locations) (s .typed) (s .type2))
-    ∷ flows w s (Equal (s .post) (s .post2))
-    ∷ []
+abbrev pub saysIn : (w : List ℕ) → View → (kinds : Part → TypeLine) → (x : TypeLine) → Entry → Condition
+saysIn w s kinds x (entry._a_ p k) = T (is k (kinds p))
+saysIn w s kinds x (entry._is_ p t) = T (agreeIn w (s .locations) (typeIn s p) (typeTermIn s t))
+saysIn w s kinds x (entry._shows_ p t) = T (mayShowIn w (s .locations) (typeIn s p) (typeTermIn s t))
+saysIn w s kinds x (entry._is-c-of_ p q) = T (contains (agreeIn w (s .locations)) (kinds q) (typeIn s p))
+saysIn w s kinds x (entry._＝_ l m) = flows w s (Equal (mapTermIn s x l) (mapTermIn s x m))
+saysIn w s kinds x (entry._≥_ l m) = flows w s (AtLeast (mapTermIn s x l) (mapTermIn s x m))
+saysIn w s kinds x (entry.N×_≤_ l m) = flows w s (Covers (mapTermIn s x m) (s .value) (mapTermIn s x l))
+saysIn w s kinds x (entry._+_＝_ l m n) = flows w s (Sum (mapTermIn s x l) (mapTermIn s x m) (mapTermIn s x n))
+saysIn w s kinds x (entry._＝_+_ l m n) = flows w s (Sum (mapTermIn s x m) (mapTermIn s x n) (mapTermIn s x l))
+saysIn w s kinds x entry.post-at-p>0 = hasAtLeast w (s .post) (refLocation x) 1
+saysIn w s kinds x entry.post-at-p≥D = hasAtLeast w (s .post) (refLocation x) (s .denominator)
 
-abbrev pub ifRow : PlainRow
-ifRow w s =
-    T (agreeIn w (s .locations) (s .typed) (s .type1))
-    ∷ T (agreeIn w (s .locations) (s .typed) (s .type2))
-    ∷ flows w s (AtLeast (s .post1) (s .post))
-    ∷ flows w s (AtLeast (s .post2) (s .post))
-    ∷ []
+-- the type line whose maps and location a word's row names: its own if it has no parts, else that of e1
+abbrev pub named : Word → (kind kind₁ : TypeLine) → TypeLine
+named (Leaf x) kind kind₁ = kind
+named (Unary x) kind kind₁ = kind₁
+named (Binary x) kind kind₁ = kind₁
 
-abbrev pub whileRow : KindRow
-whileRow w s kind =
-    T (is int kind)
-    ∷ flows w s (AtLeast (s .pre) (s .post))
-    ∷ flows w s (AtLeast (s .post1) (s .post))
-    ∷ []
+abbrev pub rowIn : Word → (w : List ℕ) → View → (kind kind₁ : TypeLine) → List Condition
+rowIn x w s kind kind₁ = map (saysIn w s (kindIn kind kind₁) (named x kind kind₁)) (table x)
 
-abbrev pub newtRow : KindRow
-newtRow w s kind =
-    T (is tid kind)
-    ∷ flows w s (Equal (s .post) (s .pre))
-    ∷ []
+-- of a word whose row looks at no type line
+abbrev pub plainRow : Word → (w : List ℕ) → View → List Condition
+plainRow x w s = rowIn x w s type-line.Int type-line.Int
 
-abbrev pub spawnRow : KindsRow
-spawnRow w s kind kind₁ =
-    T (is int kind)
-    ∷ T (is tid kind₁)
-    ∷ flows w s (AtLeast (s .post2) (firstMap kind₁))
-    ∷ flows w s (Sum (s .post) (s .start) (s .post1))
-    ∷ []
-
-abbrev pub joinRow : KindsRow
-joinRow w s kind kind₁ = loaded w s kind (is tid kind₁) (s .post1) (firstMap kind₁) (s .post)
-
-abbrev pub refRow : KindRow
-refRow w s kind =
-    T (contains (agreeIn w (s .locations)) kind (s .type1))
-    ∷ flows w s (Equal (s .post) (s .post1))
-    ∷ []
-
-abbrev pub writeRow : KindsRow
-writeRow w s kind kind₁ =
-    T (is int kind)
-    ∷ T (is ref kind₁)
-    ∷ T (contains (agreeIn w (s .locations)) kind₁ (s .type2))
-    ∷ flows w s (Equal (s .post) (s .post2))
-    ∷ hasAtLeast w (s .post) (refLocation kind₁) (s .denominator)
-    ∷ []
-
-abbrev pub readRow : KindRow
-readRow w s kind₁ =
-    T (is ref kind₁)
-    ∷ T (contains (agreeIn w (s .locations)) kind₁ (s .typed))
-    ∷ flows w s (Equal (s .post) (s .post1))
-    ∷ hasAtLeast w (s .post) (refLocation kind₁) 1
-    ∷ []
-
-abbrev pub newlRow : KindRow
-newlRow w s kind =
-    T (is lock kind)
-    ∷ flows w s (Sum (s .post) (secondMap kind) (s .pre))
-    ∷ []
-
-abbrev pub lckRow : KindsRow
-lckRow w s kind kind₁ = loaded w s kind (is lock kind₁) (s .post1) (firstMap kind₁) (s .post)
-
-abbrev pub ulckRow : KindsRow
-ulckRow w s kind kind₁ = loaded w s kind (is lock kind₁) (s .post) (secondMap kind₁) (s .post1)
-
--- section 3.1.4
-abbrev pub newsemRow : KindRow
-newsemRow w s kind =
-    T (is sem kind)
-    ∷ flows w s (Equal (s .post) (s .pre))
-    ∷ []
-
-abbrev pub postRow : KindsRow
-postRow w s kind kind₁ = loaded w s kind (is sem kind₁) (s .post) (firstMap kind₁) (s .post1)
-
-abbrev pub waitRow : KindsRow
-waitRow w s kind kind₁ = loaded w s kind (is sem kind₁) (s .post1) (firstMap kind₁) (s .post)
-
--- document 02, request (xi)
-abbrev pub newrwlockRow : KindRow
-newrwlockRow w s kind =
-    T (is rwlock kind)
-    ∷ flows w s (Covers (secondMap kind) (s .value) (firstMap kind))
-    ∷ flows w s (Sum (s .post) (secondMap kind) (s .pre))
-    ∷ []
-
-abbrev pub rdlockRow : KindsRow
-rdlockRow w s kind kind₁ = loaded w s kind (is rwlock kind₁) (s .post1) (firstMap kind₁) (s .post)
-
-abbrev pub rdunlockRow : KindsRow
-rdunlockRow w s kind kind₁ = loaded w s kind (is rwlock kind₁) (s .post) (firstMap kind₁) (s .post1)
-
-abbrev pub wrlockRow : KindsRow
-wrlockRow w s kind kind₁ = loaded w s kind (is rwlock kind₁) (s .post1) (secondMap kind₁) (s .post)
-
-abbrev pub wrunlockRow : KindsRow
-wrunlockRow w s kind kind₁ = loaded w s kind (is rwlock kind₁) (s .post) (secondMap kind₁) (s .post1)
-
--- document 02, request (xiv)
-abbrev pub callRow : PlainRow
-callRow w s =
-    T (agreeIn w (s .locations) (s .typed) (s .signature .result))
-    ∷ T (agreeIn w (s .locations) (s .type1) (s .signature .argument))
-    ∷ flows w s (Sum (s .signature .before) (s .start) (s .post1))
-    ∷ flows w s (Sum (s .signature .after) (s .start) (s .post))
-    ∷ []
-
-unfoldable pub ruleRow : Rule → KindsRow
-ruleRow VAR w s kind kind₁ = varRow w s
-ruleRow INT w s kind kind₁ = intRow w s kind
-ruleRow LET w s kind kind₁ = letRow w s
-ruleRow IF w s kind kind₁ = ifRow w s
-ruleRow WHILE w s kind kind₁ = whileRow w s kind
-ruleRow NEWT w s kind kind₁ = newtRow w s kind
-ruleRow SPAWN w s kind kind₁ = spawnRow w s kind kind₁
-ruleRow JOIN w s kind kind₁ = joinRow w s kind kind₁
-ruleRow REF w s kind kind₁ = refRow w s kind
-ruleRow WRITE w s kind kind₁ = writeRow w s kind kind₁
-ruleRow READ w s kind kind₁ = readRow w s kind₁
-ruleRow NEWL w s kind kind₁ = newlRow w s kind
-ruleRow LCK w s kind kind₁ = lckRow w s kind kind₁
-ruleRow ULCK w s kind kind₁ = ulckRow w s kind kind₁
-ruleRow NEWSEM w s kind kind₁ = newsemRow w s kind
-ruleRow POST w s kind kind₁ = postRow w s kind kind₁
-ruleRow WAIT w s kind kind₁ = waitRow w s kind kind₁
-ruleRow NEWRWLOCK w s kind kind₁ = newrwlockRow w s kind
-ruleRow RDLOCK w s kind kind₁ = rdlockRow w s kind kind₁
-ruleRow RDUNLOCK w s kind kind₁ = rdunlockRow w s kind kind₁
-ruleRow WRLOCK w s kind kind₁ = wrlockRow w s kind kind₁
-ruleRow WRUNLOCK w s kind kind₁ = wrunlockRow w s kind kind₁
-ruleRow CALL w s kind kind₁ = callRow w s
+unfoldable pub ruleRow : Rule → (w : List ℕ) → View → (kind kind₁ : TypeLine) → List Condition
+ruleRow rule = rowIn (wordBy rule)
 
 -- ------------------------------------------------------------------ a `proc` line
 

@@ -13,11 +13,15 @@ use spec::TypeLine;
 use views::View;
 ghost use mathlib.Core.Path.{_≡_};
 ghost use Rattle.conditions.specs.Outcome.{outcome, firstFalseFrom};
-ghost use Rattle.rules.specs.Table.{varRow, intRow, letRow, ifRow, whileRow, refRow, writeRow, readRow, callRow};
+ghost use Rattle.spec.specs.declared.Word.the-variants.{Leaf, Unary, Binary};
+ghost use Rattle.spec.specs.declared.LeafWord.the-variants.{Var, Int};
+ghost use Rattle.spec.specs.declared.UnaryWord.the-variants.{While, Ref, Read, Call};
+ghost use Rattle.spec.specs.declared.BinaryWord.the-variants.{Let, If, Write};
+ghost use Rattle.rules.specs.Table.{rowIn, plainRow};
 
 // VAR: 1 type is that of its let's e1, or for a lock a looser one; 2 post = pre.
 pub fn check_var(work: &[u32], s: View) -> Ruling
-    ensures { λ r. ⌜ outcome r ≡ firstFalseFrom (s .line) 1 (varRow (now (work .entry)) s) ⌝ }
+    ensures { λ r. ⌜ outcome r ≡ firstFalseFrom (s .line) 1 (plainRow (Leaf Var) (now (work .entry)) s) ⌝ }
 {
     if !may_show(work, s.locations, s.typed, s.bound) {
         return type_false(s.line, 1);
@@ -27,7 +31,7 @@ pub fn check_var(work: &[u32], s: View) -> Ruling
 
 // INT: 1 type int; 2 post = pre.
 pub fn check_int(work: &[u32], s: View, kind: TypeLine) -> Ruling
-    ensures { λ r. ⌜ outcome r ≡ firstFalseFrom (s .line) 1 (intRow (now (work .entry)) s kind) ⌝ }
+    ensures { λ r. ⌜ outcome r ≡ firstFalseFrom (s .line) 1 (rowIn (Leaf Int) (now (work .entry)) s kind kind) ⌝ }
 {
     let TypeLine::Int = kind else {
         return type_false(s.line, 1);
@@ -37,7 +41,7 @@ pub fn check_int(work: &[u32], s: View, kind: TypeLine) -> Ruling
 
 // LET: 1 type of e2; 2 post = post of e2.
 pub fn check_let(work: &[u32], s: View) -> Ruling
-    ensures { λ r. ⌜ outcome r ≡ firstFalseFrom (s .line) 1 (letRow (now (work .entry)) s) ⌝ }
+    ensures { λ r. ⌜ outcome r ≡ firstFalseFrom (s .line) 1 (plainRow (Binary Let) (now (work .entry)) s) ⌝ }
 {
     if !agrees(work, s.locations, s.typed, s.type2) {
         return type_false(s.line, 1);
@@ -47,7 +51,7 @@ pub fn check_let(work: &[u32], s: View) -> Ruling
 
 // IF: 1 type of e1; 2 type of e2; 3 post of e1 ≥ post; 4 post of e2 ≥ post.
 pub fn check_if(work: &[u32], s: View) -> Ruling
-    ensures { λ r. ⌜ outcome r ≡ firstFalseFrom (s .line) 1 (ifRow (now (work .entry)) s) ⌝ }
+    ensures { λ r. ⌜ outcome r ≡ firstFalseFrom (s .line) 1 (plainRow (Binary If) (now (work .entry)) s) ⌝ }
 {
     if !agrees(work, s.locations, s.typed, s.type1) {
         return type_false(s.line, 1);
@@ -63,7 +67,7 @@ pub fn check_if(work: &[u32], s: View) -> Ruling
 
 // WHILE: 1 type int; 2 pre ≥ post; 3 post of part ≥ post.
 pub fn check_while(work: &[u32], s: View, kind: TypeLine) -> Ruling
-    ensures { λ r. ⌜ outcome r ≡ firstFalseFrom (s .line) 1 (whileRow (now (work .entry)) s kind) ⌝ }
+    ensures { λ r. ⌜ outcome r ≡ firstFalseFrom (s .line) 1 (rowIn (Unary While) (now (work .entry)) s kind kind) ⌝ }
 {
     let TypeLine::Int = kind else {
         return type_false(s.line, 1);
@@ -77,7 +81,7 @@ pub fn check_while(work: &[u32], s: View, kind: TypeLine) -> Ruling
 
 // REF: 1 a ref type whose c is the part's type; 2 post = post of part.
 pub fn check_ref(work: &[u32], s: View, kind: TypeLine) -> Ruling
-    ensures { λ r. ⌜ outcome r ≡ firstFalseFrom (s .line) 1 (refRow (now (work .entry)) s kind) ⌝ }
+    ensures { λ r. ⌜ outcome r ≡ firstFalseFrom (s .line) 1 (rowIn (Unary Ref) (now (work .entry)) s kind kind) ⌝ }
 {
     let TypeLine::Ref(_, content) = kind else {
         return type_false(s.line, 1);
@@ -90,7 +94,7 @@ pub fn check_ref(work: &[u32], s: View, kind: TypeLine) -> Ruling
 
 // WRITE: 1 type int; 2 e1 a ref; 3 type of e2 is c; 4 post = post of e2; 5 post at p ≥ D.
 pub fn check_write(work: &[u32], s: View, kind: TypeLine, kind1: TypeLine) -> Ruling
-    ensures { λ r. ⌜ outcome r ≡ firstFalseFrom (s .line) 1 (writeRow (now (work .entry)) s kind kind1) ⌝ }
+    ensures { λ r. ⌜ outcome r ≡ firstFalseFrom (s .line) 1 (rowIn (Binary Write) (now (work .entry)) s kind kind1) ⌝ }
 {
     let TypeLine::Int = kind else {
         return type_false(s.line, 1);
@@ -109,7 +113,7 @@ pub fn check_write(work: &[u32], s: View, kind: TypeLine, kind1: TypeLine) -> Ru
 
 // READ: 1 part a ref; 2 type is c; 3 post = post of part; 4 post at p > 0.
 pub fn check_read(work: &[u32], s: View, kind1: TypeLine) -> Ruling
-    ensures { λ r. ⌜ outcome r ≡ firstFalseFrom (s .line) 1 (readRow (now (work .entry)) s kind1) ⌝ }
+    ensures { λ r. ⌜ outcome r ≡ firstFalseFrom (s .line) 1 (rowIn (Unary Read) (now (work .entry)) s kind1 kind1) ⌝ }
 {
     let TypeLine::Ref(p, content) = kind1 else {
         return type_false(s.line, 1);
@@ -125,7 +129,7 @@ pub fn check_read(work: &[u32], s: View, kind1: TypeLine) -> Ruling
 
 // CALL: 1 type is result; 2 type of part is argument; 3 post of part = before + s; 4 post = after + s.
 pub fn check_call(work: &[u32], s: View) -> Ruling
-    ensures { λ r. ⌜ outcome r ≡ firstFalseFrom (s .line) 1 (callRow (now (work .entry)) s) ⌝ }
+    ensures { λ r. ⌜ outcome r ≡ firstFalseFrom (s .line) 1 (plainRow (Unary Call) (now (work .entry)) s) ⌝ }
 {
     let g = s.signature;
     if !agrees(work, s.locations, s.typed, g.result) {

@@ -11,7 +11,7 @@ use Rattle.spec.specs.Expression.{Position, Expr, leaf, unary, binary, P
 use Rattle.spec.specs.Program.{Program}
 use Rattle.spec.specs.Split.{Map, Signature, Split}
 use Rattle.spec.specs.Kinds.{int, lock, tid, sem, rwlock}
-use Rattle.spec.specs.Conditions.{Env, startMap, type, post, bodyStart, keptBack, signature, K, inMap, outMap, readMap, writeMap, table, conditionsOf, procedureConditions}
+use Rattle.spec.specs.Conditions.{Env, startMap, type, post, bodyStart, keptBack, signature, conditionsBy, conditionsOf, procedureConditions}
 use Rattle.spec.specs.Sites.{Site, sites, numbered, claimsAt, claims, bodySites, claimsOfProcedure, claimsOfProcedures, claimsOf, firstFalse}
 use Rattle.spec.specs.FirstFalse.{Holds, AllHold}
 use Rattle.spec.specs.Figure5.{Derives, VAR, INT, LET, IF, WHILE, NEWT, SPAWN, JOIN, REF, WRITE, READ, NEWL, LCK, ULCK, NEWSEM, POST, WAIT, NEWRWLOCK, RDLOCK, RDUNLOCK, WRLOCK, WRUNLOCK, CALL, BodyDerives, BodiesDerive, noProcedures, procedure}
@@ -57,7 +57,7 @@ module _ (S : Split) where
   -- ------------------------------------------------------------------ from conditions to a derivation
 
   holding-derives : (Γ : Env) (pre : Map) (e : Expr) → AllAt (sites S Γ pre e) → Derives S Γ pre e
-  unfolding AllHold Holds claimsAt numbered table conditionsOf preOfPart preOfSecond role binding post bodyStart keptBack K inMap outMap readMap writeMap
+  unfolding AllHold Holds claimsAt numbered conditionsBy conditionsOf preOfPart preOfSecond role binding post bodyStart keptBack
   holding-derives Γ pre (leaf Var k v) h =
       let c = leaf-own Γ pre Var k v h in
       VAR (c .0) (none-equal (c .1 .0))
@@ -153,7 +153,7 @@ module _ (S : Split) where
   binary-all Γ pre w k v e₁ e₂ c h₁ h₂ = parts-step all-hold-each S _ _ c (parts-both all-hold-each S (sites S Γ pre e₁) _ h₁ h₂)
 
   derived-holds : {Γ : Env} {Ψ : Map} {e : Expr} → Derives S Γ Ψ e → AllAt (sites S Γ Ψ e)
-  unfolding AllHold Holds claimsAt numbered table conditionsOf preOfPart preOfSecond role binding post bodyStart keptBack K inMap outMap readMap writeMap
+  unfolding AllHold Holds claimsAt numbered conditionsBy conditionsOf preOfPart preOfSecond role binding post bodyStart keptBack
   derived-holds {Γ} {Ψ} (VAR {k = k} {v = v} t p) =
       leaf-all Γ Ψ Var k v (t, (equal-none p, tt))
   derived-holds {Γ} {Ψ} (INT {k = k} {v = v} t p) =

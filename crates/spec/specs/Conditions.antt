@@ -1,5 +1,5 @@
 -- The conditions, from Figure 5.
-use mathlib.Core.List.{List, [], _∷_}
+use mathlib.Core.List.{List, [], _∷_, map}
 use mathlib.Core.Bool.{Bool, _&&_}
 use mathlib.Core.Option.{Option, none, some}
 use Prim.Native.Nat.{ℕ}
@@ -9,16 +9,17 @@ use Rattle.spec.specs.Choice.{if_then_else_}
 use Rattle.spec.specs.Expression.{Expr, leaf, unary, binary, indexOf, Procedure}
 use Rattle.spec.specs.Split.{Map, Row, noRow, Signature, noSignature, Split}
 unfoldable pub use Rattle.spec.specs.Split.{typeAt, mapAt}
-use Rattle.spec.specs.Kinds.{int, ref, lock, tid, sem, rwlock, is, refLocation, content, firstMap, secondMap}
+use Rattle.spec.specs.Kinds.{ref, lock, is as is-of, refLocation, content, firstMap, secondMap}
 use Rattle.spec.specs.Agreement.{agree}
 use Rattle.spec.specs.Maps.{_=ᵐ_, _≥ᵐ_, nowhere, _+ᵐ_, _×ᵐ_, share}
 use Rattle.spec.specs.declared.TypeNumber.{TypeNumber}
 use Rattle.spec.specs.declared.MapNumber.{MapNumber}
 use Rattle.spec.specs.declared.Location.{Location}
 use Rattle.spec.specs.declared.TypeLine.{TypeLine}
-use Rattle.spec.specs.declared.LeafWord.the-variants.{Var, Int, Newtid, Newlock, Newsem, Newrwlock}
-use Rattle.spec.specs.declared.UnaryWord.the-variants.{While, Join, Ref, Read, Lock, Unlock, Post, Wait, Rdlock, Rdunlock, Wrlock, Wrunlock, Call}
-use Rattle.spec.specs.declared.BinaryWord.the-variants.{Let, If, Spawn, Write}
+use Rattle.spec.specs.declared.Word.{Word}
+use Rattle.spec.specs.declared.Word.the-variants.{Leaf, Unary, Binary}
+use Rattle.spec.specs.Table as entry
+use Rattle.spec.specs.Table.{Part, step, e1, e2, TypeTerm, type-of, that-of-its-let, result, argument, MapTerm, s, post-of, K, «in», out, r, before, after, Entry, _a_, _is_, _shows_, _is-c-of_, _＝_, _≥_, N×_≤_, _+_＝_, _＝_+_, post-at-p>0, post-at-p≥D, table}
 
 -- a condition: on types (T); on flow (F), with the lowest location at which it fails; on access (A) to a location
 pub data Condition : Type 0 where
@@ -37,7 +38,28 @@ typeIn (b ∷ Γ) v = if eqb (b .0) v then b .1 else typeIn Γ v
 
 -- a ref type whose c agrees with the type t
 unfoldable pub contains : (agrees : TypeNumber → TypeNumber → Bool) → TypeLine → TypeNumber → Bool
-contains agrees x t = is ref x && agrees (content x) t
+contains agrees x t = is-of ref x && agrees (content x) t
+
+-- of a step: its word, its number v, its parts; e1 of a step without parts is the step itself, and no row asks for other parts that its
+-- word has not
+abbrev pub wordOf : Expr → Word
+wordOf (leaf w k v) = Leaf w
+wordOf (unary w k v e₁) = Unary w
+wordOf (binary w k v e₁ e₂) = Binary w
+
+abbrev pub numberOf : Expr → ℕ
+numberOf (leaf w k v) = v
+numberOf (unary w k v e₁) = v
+numberOf (binary w k v e₁ e₂) = v
+
+abbrev pub partOf : Expr → Part → Expr
+partOf e step = e
+partOf (leaf w k v) e1 = leaf w k v
+partOf (leaf w k v) e2 = leaf w k v
+partOf (unary w k v e₁) e1 = e₁
+partOf (unary w k v e₁) e2 = e₁
+partOf (binary w k v e₁ e₂) e1 = e₁
+partOf (binary w k v e₁ e₂) e2 = e₂
 
 module _ (S : Split) where
   -- the start, which a program's first step has for its pre
@@ -52,7 +74,7 @@ module _ (S : Split) where
   -- agreement is unchanged, including inside refs."
   unfoldable pub mayShow : (shown own : TypeNumber) → Bool
   mayShow t u =
-      if is lock (typeAt S t) && is lock (typeAt S u)
+      if is-of lock (typeAt S t) && is-of lock (typeAt S u)
       then looserLock (typeAt S t) (typeAt S u)
       else agree S t u
 
@@ -87,78 +109,49 @@ module _ (S : Split) where
   unfoldable pub signature : (f : ℕ) → Signature
   signature f = getD (S .signatures) f noSignature
 
-  -- the maps of its type, by their names: K of a tid or sem, in and out of a lock, r and w of a rwlock
-  unfoldable pub K : Expr → Map
-  K e = mapAt S (firstMap (kind e))
+  -- ------------------------------------------------------------------ the table at a step
 
-  unfoldable pub inMap : Expr → Map
-  inMap e = mapAt S (firstMap (kind e))
+  -- at the step e, with the types of the variables there and its pre
+  module _ (Γ : Env) (pre : Map) (e : Expr) where
+    abbrev pub typeTerm : TypeTerm → TypeNumber
+    typeTerm (type-of p) = type (partOf e p)
+    typeTerm that-of-its-let = typeIn Γ (numberOf e)
+    typeTerm result = signature (numberOf e) .result
+    typeTerm argument = signature (numberOf e) .argument
 
-  unfoldable pub outMap : Expr → Map
-  outMap e = mapAt S (secondMap (kind e))
+    abbrev pub mapTerm : MapTerm → Map
+    mapTerm entry.pre = pre
+    mapTerm s = bodyStart e
+    mapTerm (post-of p) = post (partOf e p)
+    mapTerm K = mapAt S (firstMap (kind (partOf e e1)))
+    mapTerm «in» = mapAt S (firstMap (kind (partOf e e1)))
+    mapTerm out = mapAt S (secondMap (kind (partOf e e1)))
+    mapTerm r = mapAt S (firstMap (kind (partOf e e1)))
+    mapTerm entry.w = mapAt S (secondMap (kind (partOf e e1)))
+    mapTerm before = mapAt S (signature (numberOf e) .before)
+    mapTerm after = mapAt S (signature (numberOf e) .after)
 
-  unfoldable pub readMap : Expr → Map
-  readMap e = mapAt S (firstMap (kind e))
+    -- `agrees` says which types agree, `shown` which type a var line may show for its let's value; p is the location in the type of e1
+    module _ (agrees shown : TypeNumber → TypeNumber → Bool) where
+      abbrev pub says : Entry → Condition
+      says (p a k) = T (is-of k (kind (partOf e p)))
+      says (p is t) = T (agrees (type (partOf e p)) (typeTerm t))
+      says (p shows t) = T (shown (type (partOf e p)) (typeTerm t))
+      says (p is-c-of q) = T (contains agrees (kind (partOf e q)) (type (partOf e p)))
+      says (l ＝ m) = F (mapTerm l =ᵐ mapTerm m)
+      says (l ≥ m) = F (mapTerm l ≥ᵐ mapTerm m)
+      says (N× l ≤ m) = F (mapTerm m ≥ᵐ numberOf e ×ᵐ mapTerm l)
+      says (l + m ＝ n) = F (mapTerm l +ᵐ mapTerm m =ᵐ mapTerm n)
+      says (l ＝ m + n) = F (mapTerm l =ᵐ mapTerm m +ᵐ mapTerm n)
+      says post-at-p>0 = let p = refLocation (kind (partOf e e1)) in A (ltb 0 (share (post e) p)) p
+      says post-at-p≥D = let p = refLocation (kind (partOf e e1)) in A (leb (S .header .denominator) (share (post e) p)) p
 
-  unfoldable pub writeMap : Expr → Map
-  writeMap e = mapAt S (secondMap (kind e))
-
-  -- the table, in the order of Figure 5: the conditions of a step, in order, with the types of the variables there and its pre. `agrees`
-  -- says which types agree, `shows` which type a var line may show for its let's value.
-  module _ (agrees shows : TypeNumber → TypeNumber → Bool) where
-    unfoldable pub table : Env → (pre : Map) → Expr → List Condition
-    table Γ pre (leaf Var k v) = let e = leaf Var k v in
-        T (shows (type e) (typeIn Γ v)) ∷ F (post e =ᵐ pre) ∷ []
-    table Γ pre (leaf Int k v) = let e = leaf Int k v in
-        T (is int (kind e)) ∷ F (post e =ᵐ pre) ∷ []
-    table Γ pre (binary Let k v e₁ e₂) = let e = binary Let k v e₁ e₂ in
-        T (agrees (type e) (type e₂)) ∷ F (post e =ᵐ post e₂) ∷ []
-    table Γ pre (binary If k v e₁ e₂) = let e = binary If k v e₁ e₂ in
-        T (agrees (type e) (type e₁)) ∷ T (agrees (type e) (type e₂)) ∷ F (post e₁ ≥ᵐ post e) ∷ F (post e₂ ≥ᵐ post e) ∷ []
-    table Γ pre (unary While k v e₁) = let e = unary While k v e₁ in
-        T (is int (kind e)) ∷ F (pre ≥ᵐ post e) ∷ F (post e₁ ≥ᵐ post e) ∷ []
-    table Γ pre (leaf Newtid k v) = let e = leaf Newtid k v in
-        T (is tid (kind e)) ∷ F (post e =ᵐ pre) ∷ []
-    table Γ pre (binary Spawn k v e₁ e₂) = let e = binary Spawn k v e₁ e₂ in
-        T (is int (kind e)) ∷ T (is tid (kind e₁)) ∷ F (post e₂ ≥ᵐ K e₁) ∷ F (post e +ᵐ bodyStart e =ᵐ post e₁) ∷ []
-    table Γ pre (unary Join k v e₁) = let e = unary Join k v e₁ in
-        T (is int (kind e)) ∷ T (is tid (kind e₁)) ∷ F (post e =ᵐ post e₁ +ᵐ K e₁) ∷ []
-    table Γ pre (unary Ref k v e₁) = let e = unary Ref k v e₁ in
-        T (contains agrees (kind e) (type e₁)) ∷ F (post e =ᵐ post e₁) ∷ []
-    table Γ pre (binary Write k v e₁ e₂) = let e = binary Write k v e₁ e₂ in let p = refLocation (kind e₁) in
-        T (is int (kind e)) ∷ T (is ref (kind e₁)) ∷ T (contains agrees (kind e₁) (type e₂)) ∷ F (post e =ᵐ post e₂)
-        ∷ A (leb (S .header .denominator) (share (post e) p)) p ∷ []
-    table Γ pre (unary Read k v e₁) = let e = unary Read k v e₁ in let p = refLocation (kind e₁) in
-        T (is ref (kind e₁)) ∷ T (contains agrees (kind e₁) (type e)) ∷ F (post e =ᵐ post e₁) ∷ A (ltb 0 (share (post e) p)) p ∷ []
-    table Γ pre (leaf Newlock k v) = let e = leaf Newlock k v in
-        T (is lock (kind e)) ∷ F (post e +ᵐ outMap e =ᵐ pre) ∷ []
-    table Γ pre (unary Lock k v e₁) = let e = unary Lock k v e₁ in
-        T (is int (kind e)) ∷ T (is lock (kind e₁)) ∷ F (post e =ᵐ post e₁ +ᵐ inMap e₁) ∷ []
-    table Γ pre (unary Unlock k v e₁) = let e = unary Unlock k v e₁ in
-        T (is int (kind e)) ∷ T (is lock (kind e₁)) ∷ F (post e +ᵐ outMap e₁ =ᵐ post e₁) ∷ []
-    table Γ pre (leaf Newsem k v) = let e = leaf Newsem k v in
-        T (is sem (kind e)) ∷ F (post e =ᵐ pre) ∷ []
-    table Γ pre (unary Post k v e₁) = let e = unary Post k v e₁ in
-        T (is int (kind e)) ∷ T (is sem (kind e₁)) ∷ F (post e +ᵐ K e₁ =ᵐ post e₁) ∷ []
-    table Γ pre (unary Wait k v e₁) = let e = unary Wait k v e₁ in
-        T (is int (kind e)) ∷ T (is sem (kind e₁)) ∷ F (post e =ᵐ post e₁ +ᵐ K e₁) ∷ []
-    table Γ pre (leaf Newrwlock k v) = let e = leaf Newrwlock k v in
-        T (is rwlock (kind e)) ∷ F (writeMap e ≥ᵐ v ×ᵐ readMap e) ∷ F (post e +ᵐ writeMap e =ᵐ pre) ∷ []
-    table Γ pre (unary Rdlock k v e₁) = let e = unary Rdlock k v e₁ in
-        T (is int (kind e)) ∷ T (is rwlock (kind e₁)) ∷ F (post e =ᵐ post e₁ +ᵐ readMap e₁) ∷ []
-    table Γ pre (unary Rdunlock k v e₁) = let e = unary Rdunlock k v e₁ in
-        T (is int (kind e)) ∷ T (is rwlock (kind e₁)) ∷ F (post e +ᵐ readMap e₁ =ᵐ post e₁) ∷ []
-    table Γ pre (unary Wrlock k v e₁) = let e = unary Wrlock k v e₁ in
-        T (is int (kind e)) ∷ T (is rwlock (kind e₁)) ∷ F (post e =ᵐ post e₁ +ᵐ writeMap e₁) ∷ []
-    table Γ pre (unary Wrunlock k v e₁) = let e = unary Wrunlock k v e₁ in
-        T (is int (kind e)) ∷ T (is rwlock (kind e₁)) ∷ F (post e +ᵐ writeMap e₁ =ᵐ post e₁) ∷ []
-    table Γ pre (unary Call k f e₁) = let e = unary Call k f e₁ in let g = signature f in
-        T (agrees (type e) (g .result)) ∷ T (agrees (type e₁) (g .argument)) ∷ F (post e₁ =ᵐ mapAt S (g .before) +ᵐ keptBack e)
-        ∷ F (post e =ᵐ mapAt S (g .after) +ᵐ keptBack e) ∷ []
+      unfoldable pub conditionsBy : List Condition
+      conditionsBy = map says (table (wordOf e))
 
   -- the conditions of a step, by document 02's agreement and what it lets a var line show
   unfoldable pub conditionsOf : Env → (pre : Map) → Expr → List Condition
-  conditionsOf = table (agree S) mayShow
+  conditionsOf Γ pre e = conditionsBy Γ pre e (agree S) mayShow
 
   -- "At a `proc` line: 1 the body's type is result (T); 2 the body's post ≥ after (F)"
   unfoldable pub procedureConditions : Signature → Procedure → List Condition

@@ -9,6 +9,7 @@ pub mod Split
 pub mod Maps
 pub mod Kinds
 pub mod Agreement
+pub mod Table
 pub mod Conditions
 pub mod Sites
 pub mod Workspace

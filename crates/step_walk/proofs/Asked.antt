@@ -8,7 +8,7 @@ use Prim.Native.Nat.{ℕ, _+_}
 use Rattle.spec.specs.Reading.{on, _>>=_}
 use Rattle.spec.specs.Expression.{Expr, leaf, unary, binary, Procedure}
 use Rattle.spec.specs.Split.{Map, Signature, Split}
-use Rattle.spec.specs.Conditions.{Condition, T, F, A, Env, table, conditionsOf, procedureConditions}
+use Rattle.spec.specs.Conditions.{Condition, T, F, A, Env, conditionsBy, conditionsOf, procedureConditions}
 use Rattle.spec.specs.Sites.{Claim, numbered, judge, firstFalse, isType, only}
 use Rattle.spec.specs.Verdict.{four, returned}
 use Rattle.spec.specs.declared.Purpose.{Purpose}
@@ -48,7 +48,7 @@ TypesFirst (F o ∷ cs) = NoTypes cs
 TypesFirst (A b p ∷ cs) = NoTypes cs
 
 row-types-first : (S : Split) (Γ : Env) (pre : Map) (e : Expr) → TypesFirst (conditionsOf S Γ pre e)
-unfolding table conditionsOf TypesFirst NoTypes
+unfolding conditionsBy conditionsOf TypesFirst NoTypes
 row-types-first S Γ pre (leaf Var k v) = tt
 row-types-first S Γ pre (leaf Int k v) = tt
 row-types-first S Γ pre (binary Let k v e₁ e₂) = tt

@@ -8,7 +8,7 @@ use Rattle.spec.specs.Expression.{Expr, leaf, unary, binary, size, Position, in
 use Rattle.spec.specs.Program.{Program}
 use Rattle.spec.specs.Split.{Split, noRow}
 use Rattle.spec.specs.Kinds.{firstMap, secondMap}
-use Rattle.spec.specs.Conditions.{keptBack, mapAt, row, type, kind, K, inMap, outMap, readMap, writeMap}
+use Rattle.spec.specs.Conditions.{keptBack, mapAt, row, type, kind}
 use Rattle.spec.specs.Ranges.{InRange}
 use Rattle.spec.proofs.Fits.{first-fits, second-fits}
 use Rattle.spec.proofs.Listing.{size-positive}
@@ -128,7 +128,7 @@ module _ (w : List ℕ) (column : Column) (P : Program) (S : Split) (H : HoldsSp
 
   pub held-shows : (count k : ℕ) (inside : List (ℕ × ℕ)) (vars : List ℕ) (e : Expr) → Here w count k inside vars e → count ≤ length (S .signatures) → k + size e ≤ length (S .rows)
       → Shows w column k (flowOf S p e)
-  unfolding flowOf loadHere inHere outHere readHere writeHere K inMap outMap readMap writeMap size printed ruleOf wayBy lendingIn unaryFlow binaryFlow
+  unfolding flowOf loadHere inHere outHere readHere writeHere size printed ruleOf wayBy lendingIn unaryFlow binaryFlow
   held-shows count k inside vars (leaf Var l v) C few i = leaf-held count k Var l v unchanged C refl
   held-shows count k inside vars (leaf Int l v) C few i = leaf-held count k Int l v unchanged C refl
   held-shows count k inside vars (binary Let l v e₁ e₂) C few i =
