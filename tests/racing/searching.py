@@ -3,7 +3,8 @@ from explaining.names import Names
 from explaining.sheets import Step
 from jobs import sheet_of
 from racing.confirming import Replay
-from racing.search import Limits, search
+from racing.budget import Limits
+from racing.finding import find
 from racing.shown import Shown
 from stepping.machine import Machine
 from stepping.program import Steps
@@ -14,7 +15,7 @@ def machine_of(lines):
 
 
 def searched(lines):
-    return search(machine_of(lines), Limits(100_000, 60))
+    return find(machine_of(lines), Limits(100_000, 60))
 
 
 def objection(lines, order, shows, told):

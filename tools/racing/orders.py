@@ -1,4 +1,6 @@
 """Orders of moves: run one and see what happens, cut it where the race shows first, and make it shorter to read."""
+import time
+
 from stepping.happening import happened
 from stepping.machine import DONE, ODD, WAITS
 
@@ -48,13 +50,14 @@ def first_shown(machine, order, shows):
 # ---- Shorter
 
 
-def shortened(machine, order, shows):
-    """An order that shows the same with no more switches and no more steps: stretches of moves left out, blocks joined."""
+def shortened(machine, order, shows, until=None):
+    """An order that shows the same with no more switches and no more steps: stretches of moves left out, blocks joined. At a
+    time of the clock, if one is given, the best so far has to do."""
     best, left = first_shown(machine, order, shows), MOST_STEPS
     while True:
         for candidate in _candidates(_by_birth(machine, best)):
             left -= len(candidate)
-            if left < 0:
+            if left < 0 or until is not None and time.monotonic() > until:
                 return best
             tried, state = _by_number(machine, candidate)
             if tried is not None and _cost(tried) < _cost(best) and shows(machine, state):

@@ -5,10 +5,9 @@ as the thread's next step that others see, whichever loses nothing; docs/RACES.m
 come back to the same call is taken late, as a choice is: so a thread that goes on for ever by itself is seen to.
 """
 import heapq
-import time
 from typing import NamedTuple
 
-from stepping.machine import DONE, KIND, ODD, READY, ROOM, WAITS, WANTS, Room, kind
+from stepping.machine import DONE, KIND, ODD, READY, WAITS, WANTS, kind
 from stepping.program import FINISHED
 
 from .likeness import key, reached_by_others
@@ -20,16 +19,6 @@ LOCAL = {"let", "while", "call", "ref", "newtid", "newlock", "newsem", "newrwloc
 MAKERS = LOCAL - {"let", "while", "call"}
 # Steps that always go ahead, and only let others do more.
 GIVING = {"spawn", "post"}
-
-
-PLENTY = Room(256, 256, 256)  # to search on where there is no race within that of racereplay
-
-
-class Limits(NamedTuple):
-    """How far to search."""
-
-    states: int = 200_000
-    seconds: float = 20.0  # of processor time
 
 
 class Outcome(NamedTuple):
@@ -52,6 +41,7 @@ class Found(NamedTuple):
     limited: bool  # the search was ended by its limits
     cut: bool  # some order was left at the end of the room
     switches: int  # every order with fewer switches was tried
+    fewest: bool = True  # no order with fewer switches has a race
 
     def whole(self):
         """Whether every order was searched."""
@@ -72,50 +62,51 @@ class _Node(NamedTuple):
         return [move for piece in reversed(pieces) for move in piece]
 
 
-def search(machine, limits=Limits()):
-    """What is met in the room of racereplay; if some order goes past it and there is no race within, in plenty."""
-    found = Search(machine, limits, ROOM).run()
-    if found.race is not None or found.limited or not found.cut:
-        return found
-    return Search(machine, limits, PLENTY).run()
-
-
 class Search:
-    def __init__(self, machine, limits, room):
-        self.machine, self.points, self.limits, self.room = machine, machine.points, limits, room
+    """One that has come to a share of its budget can be run on."""
+
+    def __init__(self, machine, budget, room):
+        self.machine, self.points, self.budget, self.room = machine, machine.points, budget, room
         self._alike = alike(machine.steps)
         self._recursive = recursive(machine.steps)
+        self._share = None
         self.cut = False
         self.odd = self.stuck = None
         self._turn = 0
-        self._heap = []
+        self._heap, self._seen, self._switches = [], set(), 0
+        state, moves = self._settled(machine.start(), 0)
+        self._first = _Node(state, 0, moves, None)
+        self._push(0, len(moves), self._first, None)
 
-    def run(self):
-        self._begun = time.process_time()
-        state, moves = self._settled(self.machine.start(), 0)
-        self._push(0, len(moves), _Node(state, 0, moves, None), None)
-        seen, switches = set(), 0
+    def run(self, share=None):
+        """What is met within the budget, or within a share of it."""
+        self._share = share
         while self._heap:
-            switches, steps, _, node, race = heapq.heappop(self._heap)
+            self._switches, steps, turn, node, race = heapq.heappop(self._heap)
             if race is not None:
-                return self._found(race, seen, False, switches)
+                return self._found(race, False)
             known = key(node.state, node.last, self._alike)
-            if known in seen:
+            if known in self._seen:
                 continue
-            if self._is_enough(seen):
-                return self._found(None, seen, True, switches)
-            seen.add(known)
+            if self._is_enough():
+                heapq.heappush(self._heap, (self._switches, steps, turn, node, race))
+                return self._found(None, True)
+            self._seen.add(known)
+            self.budget.count()
             try:
-                self._expand(node, switches, steps)
+                self._expand(node, self._switches, steps)
             except _Enough:
-                return self._found(None, seen, True, switches)
-        return self._found(None, seen, False, switches)
+                self._seen.discard(known)
+                heapq.heappush(self._heap, (self._switches, steps, turn, node, race))
+                return self._found(None, True)
+        return self._found(None, False)
 
-    def _is_enough(self, seen):
-        return len(seen) >= self.limits.states or time.process_time() - self._begun > self.limits.seconds
+    def _is_enough(self):
+        return self.budget.is_over(self._share)
 
-    def _found(self, race, seen, limited, switches):
-        return Found(race, self.odd, self.stuck, len(seen), time.process_time() - self._begun, limited, self.cut, switches)
+    def _found(self, race, limited):
+        return Found(
+            race, self.odd, self.stuck, self.budget.states, self.budget.seconds(), limited, self.cut, self._switches)
 
     def _push(self, switches, steps, node, race):
         self._turn += 1
@@ -129,24 +120,27 @@ class Search:
             self.cut = True
             return
         outcomes = self._all_outcomes(state)
-        self._look_for_race(node, outcomes, switches, steps)
+        for order in self._races(node, outcomes):
+            self._push(switches_in(order), len(order), node, order)
         self._look_for_halts(node, outcomes)
         for thread, choices in outcomes:
             more = switches + (thread.number != node.last)
-            for outcome in choices:
-                if outcome.standing == READY:
-                    after = self.machine.step(outcome.state, outcome.at)
-                    after, rest = self._settled(after, after.at(thread.number))
-                    moves = (*outcome.moves, (thread.number, 0), *rest)
-                elif outcome.standing == DONE:
-                    after, moves = outcome.state, outcome.moves
-                else:
-                    continue
+            for after, moves in self._ways_on(thread.number, choices):
                 then = _Node(after, thread.number, moves, node)
                 if not self._only_gone(node, after, thread.number):
                     self._push(more, steps + len(moves), then, None)
                 elif self.stuck is None:
                     self._look_for_halts(then, self._all_outcomes(after))
+
+    def _ways_on(self, number, choices):
+        """Where a thread can get by its next step that others see, or by finishing: states, and the moves to each."""
+        for outcome in choices:
+            if outcome.standing == READY:
+                after = self.machine.step(outcome.state, outcome.at)
+                after, rest = self._settled(after, after.at(number))
+                yield after, (*outcome.moves, (number, 0), *rest)
+            elif outcome.standing == DONE:
+                yield outcome.state, outcome.moves
 
     def _only_gone(self, node, after, number):
         """Whether all that came of a thread's moves since some state on the way is that the thread is gone for good.
@@ -220,7 +214,7 @@ class Search:
                 here = self._here(thread)
                 if here in seen:
                     continue
-                if self._is_enough(seen):
+                if self._is_enough():
                     raise _Enough
                 seen.add(here)
             choices = (1, 0) if word == "if" else (0,)
@@ -234,7 +228,8 @@ class Search:
 
     # ---- What there is to see in a state
 
-    def _look_for_race(self, node, outcomes, switches, steps):
+    def _races(self, node, outcomes):
+        """The orders in which two threads go on to accesses that race."""
         made = len(node.state.cells)
         accesses = []
         for thread, choices in outcomes:
@@ -245,8 +240,7 @@ class Search:
         for place, (one, cell, writes, moves) in enumerate(accesses):
             for other, other_cell, other_writes, other_moves in accesses[place + 1:]:
                 if one is not other and cell == other_cell and (writes or other_writes):
-                    order = _with(_with(node.path(), moves), other_moves)
-                    self._push(switches_in(order), len(order), node, order)
+                    yield _with(_with(node.path(), moves), other_moves)
 
     def _look_for_halts(self, node, outcomes):
         for _, choices in outcomes:

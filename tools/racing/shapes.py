@@ -12,23 +12,49 @@ class Alike(NamedTuple):
 
     points: list  # of what is left at each point
     returns: dict  # by the step of a call, of what is left behind it; None if that is nothing
+    words: list  # the words in what is left at each point, those in spawned bodies and in called procedures included
+    words_behind: dict  # by the step of a call, those in what is left behind it
 
     def calls(self, thread):
         """The open calls of a thread that matter: those with nothing left behind them only hand the value on."""
         return tuple([call for call in thread.calls if self.returns[call.step] is not None])
 
+    def words_of(self, thread):
+        """Every word that a thread, or one that it starts, can still come to."""
+        return self.words[thread.point].union(*[self.words_behind[call.step] for call in thread.calls])
+
 
 def alike(steps):
-    numbers = {}
+    numbers, within = {}, _words_within(steps)
 
     def number(shape):
         return numbers.setdefault(shape.tokens, len(numbers))
 
     calls = [point for point in steps.points if point.word == "call"]
     returns = {point.step: _Shape(steps, point, is_over=True) for point in calls}
+    shapes = [_Shape(steps, point) for point in steps.points]
     return Alike(
-        [number(_Shape(steps, point)) for point in steps.points],
-        {step: number(shape) if shape.tokens else None for step, shape in returns.items()})
+        [number(shape) for shape in shapes],
+        {step: number(shape) if shape.tokens else None for step, shape in returns.items()},
+        [_words_in(shape.tokens, within) for shape in shapes],
+        {step: _words_in(shape.tokens, within) for step, shape in returns.items()})
+
+
+def _words_within(steps):
+    """The words of each procedure's body, and of those that it calls."""
+    ends = [*steps.procedures[1:], steps.root]
+    bodies = [[(step.word, step.number) for step in steps.steps[begin:end]] for begin, end in zip(steps.procedures, ends)]
+    within = [frozenset(word for word, _ in body) for body in bodies]
+    for _ in bodies:
+        within = [words.union(*[within[number] for word, number in body if word == "call"]) for words, body in zip(within, bodies)]
+    return within
+
+
+def _words_in(tokens, within):
+    """The words among the tokens of a shape: a word stands as itself, or second in ("again", word) and ("then", word, place)."""
+    words = {token if isinstance(token, str) else token[1] for token in tokens if isinstance(token, (str, tuple))}
+    called = [tokens[at + 1] for at, token in enumerate(tokens) if token == "call"]
+    return frozenset(word for word in words if isinstance(word, str)).union(*[within[number] for number in called])
 
 
 class _Shape:

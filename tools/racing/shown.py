@@ -9,9 +9,9 @@ MOST_NAMES = 5  # in a row
 
 
 class Shown:
-    def __init__(self, machine, names, order, shows):
-        self.machine = machine
-        self.order = shortened(machine, order, shows)
+    def __init__(self, machine, names, order, shows, fewest=True, until=None):
+        self.machine, self.fewest = machine, fewest
+        self.order = shortened(machine, order, shows, until)
         self.steps = happenings(machine, self.order)
         self.state = self.steps[-1].after if self.steps else machine.start()
         self.naming = Naming(machine.steps, names, self.steps)

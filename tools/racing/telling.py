@@ -2,7 +2,7 @@
 from stepping.machine import ROOM
 from stepping.wording import step_words
 
-from .search import PLENTY
+from .finding import PLENTY
 from .showing import capital, counted
 
 

@@ -1,5 +1,7 @@
 """tools/show-race: looks for an order with a race, has racereplay run it, and only then tells it."""
 import os
+import sys
+import time
 from typing import Callable, NamedTuple
 
 from starting.command import Failure, Usage, options, say, tell
@@ -15,14 +17,17 @@ from stepping.program import Steps
 
 from . import telling
 from .confirming import Replay, halt_lines, race_lines
+from .budget import Limits
 from .drawing import page
 from .endings import OddHalt, Race, Wait
+from .finding import find
 from .orders import trace_text
-from .search import Limits, search
+from .showing import counted
 from .shown import Shown
 
 NUMBERS = {"--states": int, "--seconds": float}
 FILES = {"--trace": "order", "--page": "page"}
+PROGRESS = 60  # letters, more than a line that tells how far a search is
 
 
 def main(arguments):
@@ -51,6 +56,15 @@ def _limits(given):
         return Limits(**{option.strip("-"): number(given[option]) for option, number in NUMBERS.items() if option in given})
     except ValueError:
         raise Usage
+
+
+def watched(machine, limits):
+    """What a search finds. How far it is stands in a line on a terminal, which is gone afterwards; elsewhere nothing is said."""
+    if not sys.stderr.isatty():
+        return find(machine, limits)
+    found = find(machine, limits, lambda states, left: say(f"\r{counted(states, 'state')} searched, {left:.0f} s left ", end=""))
+    say("\r" + " " * PROGRESS + "\r", end="")
+    return found
 
 
 class Kind(NamedTuple):
@@ -91,10 +105,10 @@ class Job:
 
     def search(self):
         """What there is to tell."""
-        machine = Machine(Steps(steps_of(self.program)))
-        found = search(machine, self.limits)
+        machine, self.until = Machine(Steps(steps_of(self.program))), time.monotonic() + self.limits.seconds
+        found = watched(machine, self.limits)
         if found.race is not None:
-            return self.show(RACE, machine, found.race)
+            return self.show(RACE, machine, found.race, found.fewest)
         status, lines = 0 if found.whole() else 4, telling.searched(found)
         for kind, order in ((ODD, found.odd), (WAIT, found.stuck)):
             if order is not None:
@@ -102,9 +116,9 @@ class Job:
                 return Told(shown.status or status, [*lines, "", *shown.lines], shown.page)
         return Told(status, lines + ["There is nothing to draw, so no page is written."] * ("--page" in self.given))
 
-    def show(self, kind, machine, order):
+    def show(self, kind, machine, order, fewest=True):
         """Has racereplay run an order; only then it is told."""
-        shown = Shown(machine, self.names, order, kind.ending.shows)
+        shown = Shown(machine, self.names, order, kind.ending.shows, fewest, self.until)
         written, lines = self.write_trace(shown.order), kind.lines(shown)
         if not all(ROOM.holds(one.after) for one in shown.steps):
             return Told(4 if kind.status else 0, [*telling.past_room(), written])  # that all can wait is no fault
@@ -131,4 +145,7 @@ class Job:
             kept = read_sheet(self.folder, TRACE)
             if kept is None or kept.text != text:
                 return f"{visible(file)} is there already and is left as it is; --trace FILE writes this order elsewhere."
+        except (OSError, Failure) as error:  # what was found is worth more than the file
+            why = error.strerror if isinstance(error, OSError) else error
+            return f"The order is not in a file: {visible(file)} cannot be written ({why}); --trace FILE writes it elsewhere."
         return f"The order is in {visible(file)}, as racereplay reads it."

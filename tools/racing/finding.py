@@ -1,0 +1,30 @@
+"""Whether a job races: the search for the fewest switches as far as it soon comes, then the one that holds threads, then on."""
+from stepping.machine import ROOM, Room
+
+from .budget import Budget, Limits
+from .holding import Holding
+from .search import Search
+
+PLENTY = Room(256, 256, 256)  # to search on where there is no race within the room of racereplay
+SOON = 1500, 0.25  # states, and the part of the seconds, for the first look for the fewest switches
+NEXT = 0.7  # the part of the seconds left then that the search that holds threads may take
+
+
+def find(machine, limits=Limits(), watch=None):
+    """What is met in the room of racereplay; if some order goes past it and there is no race within, in plenty."""
+    budget = Budget(limits, watch)
+    found = _find_within(machine, budget, ROOM)
+    if found.race is not None or found.limited or not found.cut:
+        return found
+    return _find_within(machine, budget, PLENTY)
+
+
+def _find_within(machine, budget, room):
+    fewest = Search(machine, budget, room)
+    first = fewest.run(budget.share(*SOON))
+    if not first.limited or budget.is_over():
+        return first
+    found = Holding(machine, budget, room).run(budget.share(budget.most(), NEXT))
+    if found.race is not None or found.whole():
+        return found
+    return fewest.run()
