@@ -29,7 +29,7 @@ def main(arguments):
     explanation = explain(run, folder)
     if run.answer != "FILLED" or explanation.disagrees or explanation.unseen:
         return _refused(folder, explanation)
-    answer = _checked(run, folder)
+    answer = checked(run, folder)
     if answer != "ACCEPT":
         tell([f"{visible(folder)}: racefill: filled", f"racecheck: {answer}"])
         say("fill: DISAGREEMENT of racefill and racecheck; nothing is written; hand this pair to their owners")
@@ -49,7 +49,7 @@ def _refused(folder, explanation):
     return 1 if explanation.answer.startswith("REFUSE") else 2
 
 
-def _checked(run, folder):
+def checked(run, folder):
     """racecheck's answer to the job and the filled sheet, in a folder of its own."""
     with tempfile.TemporaryDirectory() as scratch:
         _write_pair(run, folder, scratch)

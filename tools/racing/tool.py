@@ -34,7 +34,7 @@ def main(arguments):
     given, folders = options(arguments, valued=[*NUMBERS, *FILES])
     if len(folders) != 1:
         raise Usage
-    folder, limits = folders[0], _limits(given)
+    folder, limits = folders[0], limits_of(given)
     if not os.path.isdir(folder):
         raise Failure(f"no such folder: {visible(folder)}")
     job = Job(folder, given, limits)
@@ -51,7 +51,7 @@ def main(arguments):
     return told.status
 
 
-def _limits(given):
+def limits_of(given):
     try:
         return Limits(**{option.strip("-"): number(given[option]) for option, number in NUMBERS.items() if option in given})
     except ValueError:

@@ -134,7 +134,7 @@ class Telling:
         self._act(site)
         yield from self._tell(body, called)
         self.held.pop(own, None)
-        identifier = self._made_at(site.parts["e1"])
+        identifier = self.made_at(site.parts["e1"])
         if self._has_maps(site):
             self._set(Holder("identifier", identifier, site.body), self._load(site))
 
@@ -162,7 +162,7 @@ class Telling:
         made = self.all[lock.number - 2].type
         own = made if self.split.types[made].kind == "lock" else acted_on(site).type
         self.counts[lock] = 1
-        self._set(lock, self.split.map_in(own, self._map_names(own)[-1]))
+        self._set(lock, self.split.map_in(own, self.map_names(own)[-1]))
 
     def _closes(self, site):
         lock = self._keeper(site)
@@ -205,7 +205,7 @@ class Telling:
 
     def _finished(self, site):
         """The shares that wait for a join on this identifier."""
-        identifier = self._made_at(acted_on(site))
+        identifier = self.made_at(acted_on(site))
         return [holder for holder in self.held if holder.kind == "identifier" and holder.number == identifier]
 
     # ---- What is held, and what a part stands for
@@ -220,21 +220,21 @@ class Telling:
         """The lock, semaphore or read-write lock that a step makes or names; a refused step may name another kind of thing."""
         named = acted_on(site)
         kind = self.split.types[named.type].kind
-        return Holder(kind if kind in ("sem", "rwlock") else "lock", self._made_at(named))
+        return Holder(kind if kind in ("sem", "rwlock") else "lock", self.made_at(named))
 
     def _has_maps(self, site):
         """Whether the type that a step acts on has a map, which it may lack if the step is refused."""
-        return bool(self._map_names(acted_on(site).type))
+        return bool(self.map_names(acted_on(site).type))
 
-    def _map_names(self, number):
+    def map_names(self, number):
         return KINDS[self.split.types[number].kind].maps()
 
     def _load(self, site, place=0):
         """The first map in the type that a step acts on, or the last."""
         number = acted_on(site).type
-        return self.split.map_in(number, self._map_names(number)[place])
+        return self.split.map_in(number, self.map_names(number)[place])
 
-    def _made_at(self, site):
+    def made_at(self, site):
         """The line where the thing that a part stands for was made, as far as the sheets show it."""
         made = _origin(site)
         if made.word in MAKERS:
