@@ -6,6 +6,7 @@ from explaining.showing import listed
 from explaining.sites import acted_on
 
 # The steps that take from each kind of holder, and how that is said.
+NOUNS = {"lock": "lock", "sem": "semaphore", "rwlock": "read-write lock"}
 TAKING = {"identifier": ("join",), "thread": ("join",), "lock": ("lock",), "sem": ("wait",), "rwlock": ("rdlock", "wrlock")}
 MOST = 6  # lines in a row
 
@@ -13,12 +14,13 @@ MOST = 6  # lines in a row
 def rest_of(explanation):
     """Who holds the rest of the location, a sentence or two each; empty if the telling does not come to the step."""
     telling = Telling(explanation)
-    at = next((moment for moment in telling.moments if same_step(moment.site, explanation.site)), None)
-    if at is None:
+    places = [place for place, moment in enumerate(telling.moments) if same_step(moment.site, explanation.site)]
+    if not places:
         return []
-    rest = Rest(telling, explanation)
-    held = [(holder, numbers[explanation.location]) for holder, numbers in at.held.items()]
-    return [words for holder, number in held if number and holder != rest.own for words in rest.told(holder, number)]
+    rest, moments = Rest(telling, explanation), telling.moments[:places[0] + 1]
+    held = [(holder, numbers[explanation.location]) for holder, numbers in moments[-1].held.items()]
+    told = [words for holder, number in held if number and holder != rest.own for words in rest.told(holder, number)]
+    return told + [words for one, other in zip(moments, moments[1:]) for words in rest.lost(one, other)]
 
 
 class Rest:
@@ -29,20 +31,49 @@ class Rest:
 
     def told(self, holder, number):
         """Who it is and by which line of the split, then where it comes back."""
-        share = f"{self._split.fraction(number, self._location)} of {self._names.place(self._location)}"
-        if holder.thread() is not None:
-            spawn = next(site for site in self._sites.all if site.word == "spawn" and site.body == holder.thread())
-            made = self._telling.made_at(spawn.parts["e1"])
-            who = f"{self._names.thread(holder.thread())}, started on line {spawn.line},"
-            by = self._start_of(spawn) if holder.kind == "thread" else self._load_of(made)
-            has = "has" if holder.kind == "thread" else "has ended and left"
+        share = f"{self._amount(number)} of {self._names.place(self._location)}"
+        spawn = self._spawn_of(holder)
+        if holder.kind == "thread" and spawn is None:
+            return [f"{self._names.thread(holder.number)} has {share}"]
+        if holder.kind == "thread":
+            who, by = f"{self._started(spawn)} has", self._start_of(spawn)
+        elif holder.kind == "identifier":
+            who, by = f"{self._started(spawn)} has ended and left", self._load_of(holder.number)
         else:
-            made, has = holder.number, "has"
-            who, by = f"the {_noun(holder)} made on line {made}", self._load_of(made)
-        return [f"{who} {has} {share}: {by}", f"  {self._comes_back(holder, made)}"]
+            who, by = f"the {NOUNS[holder.kind]} made on line {holder.number} has", self._load_of(holder.number)
+        made = self._telling.made_at(spawn.parts["e1"]) if holder.kind == "thread" else holder.number
+        return [f"{who} {share}: {by}", f"  {self._comes_back(holder, made)}"]
+
+    def lost(self, before, after):
+        """Which share nobody has any more after a moment, and by which line of the split it went."""
+        whole, left = (sum(numbers[self._location] for numbers in moment.held.values()) for moment in (before, after))
+        if left >= whole:
+            return []
+        place = self._names.place(self._location)
+        gone = [holder for holder in before.held if holder.kind == "thread" and holder not in after.held and self._spawn_of(holder)]
+        for holder in gone:
+            spawn, had = self._spawn_of(holder), before.held[holder][self._location]
+            made = self._telling.made_at(spawn.parts["e1"])
+            kept = self._split.map_in(self._sites.at_line(made).type, "K")[self._location]
+            if had > kept:
+                return [f"{self._started(spawn)} ends with {self._amount(had)} of {place} and leaves {self._amount(kept)} for its"
+                        f" join: {self._load_of(made)}", f"  {self._amount(had - kept)} is lost there"]
+        return [f"{self._amount(whole - left)} of {place} is lost at line {after.site.line}, `{after.site.word}`:"
+                f" its row is on line {after.site.row.line} of {SPLIT}"]
+
+    def _amount(self, number):
+        return self._split.fraction(number, self._location)
+
+    def _spawn_of(self, holder):
+        """The spawn of the thread whose share this is or was; None for the first thread, a caller, a lock or a semaphore."""
+        return next((site for site in self._sites.all
+                     if site.word == "spawn" and holder.thread() and site.body == holder.thread()), None)
+
+    def _started(self, spawn):
+        return f"{self._names.thread(spawn.body)}, started on line {spawn.line},"
 
     def _start_of(self, spawn):
-        row, split = spawn.row, self._split
+        row = spawn.row
         map_line = "" if row.start is None else f", and map {row.start} on line {self._map_line(row.start)}"
         return f"its start is on line {row.line} of {SPLIT}{map_line}"
 
@@ -61,20 +92,14 @@ class Rest:
         return 2 + len(self._split.types) + number
 
     def _comes_back(self, holder, made):
+        """The steps by which the thread of the failing step can get a share from a holder."""
         words = TAKING[holder.kind]
-        takers = [site for site in self._sites.all
-                  if site.word in words and self._telling.made_at(acted_on(site)) == made]
-        own = [site for site in takers if site.thread == self._site.thread]
-        before, behind = ([site.line for site in own if (site.line < self._site.line) == is_before] for is_before in (True, False))
+        own = [site.line for site in self._sites.all if site.word in words and site.thread == self._site.thread
+               and self._telling.made_at(acted_on(site)) == made]
         verb = f"`{'` or `'.join(words)}`"
-        said = [f"{verb} on {_lines(before)}, before this step" if before else "", f"{verb} only on {_lines(behind)}, behind it" if behind else ""]
-        if not any(said):
-            return f"this thread never takes it back: no {verb} of it"
-        return f"this thread takes it back by {listed(filter(None, said))}"
-
-
-def _noun(holder):
-    return {"lock": "lock", "sem": "semaphore", "rwlock": "read-write lock"}[holder.kind]
+        before, behind = ([line for line in own if (line < self._site.line) == is_before] for is_before in (True, False))
+        said = [f"{where} the failing step on {_lines(lines)}" for where, lines in (("before", before), ("behind", behind)) if lines]
+        return f"it comes back by {verb}, {listed(said)}" if said else f"it does not come back: this thread has no {verb} of it"
 
 
 def _lines(lines):
