@@ -6,13 +6,15 @@ in that race, and then its touch can come first, unless another thread comes to 
 or it has, and then it stands where it is. So each touch is taken at once, and once more the thread is held there for good.
 Nothing else of a touch depends on when it comes. What is left to try in every order are steps on locks, semaphores, read-write
 locks and identifiers that other threads may use in a way that matters: from each state go on only the threads of one set that
-no other can get in the way of. docs/RACES.md has the reasons.
+no other can get in the way of. Where every lock is used in blocks (blocks.py), a block is taken at once like a touch; and once
+more its thread is kept before it, until others have gone on, and then held inside. docs/RACES.md has the reasons.
 """
 from collections import deque
 
 from stepping.machine import CELL, DONE, KIND, ODD, READY, kind, name
 from stepping.program import FINISHED
 
+from .blocks import Blocks
 from .likeness import key
 from .search import Search, _Enough, _Node
 
@@ -34,6 +36,8 @@ class Holding(Search):
     def __init__(self, machine, budget, room):
         super().__init__(machine, budget, room)
         self._is_flat = is_flat(machine.steps)
+        blocks = Blocks(machine.steps) if self._is_flat else None
+        self.takes, self.inside = (blocks.takes, blocks.inside) if blocks else (set(), set())
         self._families, self._turns = {}, deque()
         self._closed = set()
         self._put(None, self._first._replace(last=None))
@@ -83,6 +87,8 @@ class Holding(Search):
             return order
         self._look_for_halts(node, outcomes)
         others = _Others(self, node, [one for one in outcomes if one[0].number != node.last])
+        if node.last is not None:
+            self._enter(node, others)
         chosen = others.smallest()
         if node.last is None:
             self._hold(node, others, chosen)
@@ -110,16 +116,44 @@ class Holding(Search):
             for outcome in choices:
                 standing = outcome.state.threads[outcome.at]
                 access = self.machine.access(standing)
-                if access and others.may_race(at, *access):
+                is_kept = outcome.standing == READY and self.begins_block(standing)
+                if access and others.may_race(at, *access) or is_kept and any(self._entered(outcome.state, outcome.at, others, at)):
                     held = _Node(outcome.state, thread.number, outcome.moves, node)
                     self._put((thread.number, standing.point), held)
+
+    def _enter(self, node, others):
+        """If the thread of this family is kept before a block that it can enter: puts down the states in which it is held inside."""
+        at = node.state.at(node.last)
+        thread = node.state.threads[at]
+        if self.begins_block(thread) and self.machine.standing(node.state, thread) == READY:
+            for state, moves in self._entered(node.state, at, others):
+                self._put((node.last, state.threads[state.at(node.last)].point), _Node(state, node.last, moves, node))
+
+    def _entered(self, state, at, others, own=None):
+        """A thread that takes its block: the states, and the moves to each, before a touch that another can still race with."""
+        number, moves = state.threads[at].number, ()
+        while True:
+            state = self.machine.step(state, at)
+            state, rest = self._settled(state, state.at(number))
+            moves, at = (*moves, (number, 0), *rest), state.at(number)
+            access = self.machine.access(state.threads[at])
+            if not access or not self.is_inside(state.threads[at]):
+                return
+            if others.may_race(own, *access):
+                yield state, moves
+
+    def begins_block(self, thread):
+        return thread.point != FINISHED and self.points[thread.point].step in self.takes
+
+    def is_inside(self, thread):
+        return thread.point != FINISHED and self.points[thread.point].step in self.inside
 
 
 class _Others:
     """The threads that can be let go on from a state: what each is about to do, and what it can still come to."""
 
     def __init__(self, search, node, outcomes):
-        self._points, self._is_flat = search.points, search._is_flat
+        self._search, self._points, self._is_flat = search, search.points, search._is_flat
         self.moving = [(thread, choices) for thread, choices in outcomes if choices]
         self._words = [search._alike.words_of(thread) for thread, _ in self.moving]
         self._reach = [_reached(node.state, thread) for thread, _ in self.moving]
@@ -134,13 +168,17 @@ class _Others:
             if thread.point == FINISHED or outcome.standing == ODD:
                 continue
             word = self._points[thread.point].word
-            if word in MEETS:
+            if word in MEETS and not self._search.begins_block(thread) and not self._search.is_inside(thread):
                 waits = outcome.standing != READY
                 wants.append((thread.operands[0], MEETS[word][waits], word == "join" and waits))
         return wants
 
     def smallest(self):
-        """A small set of threads that the rest cannot get in the way of, one of which can go on; by their places."""
+        """A small set of threads that the rest cannot get in the way of, one of which can go on; by their places. A thread inside
+        of a block ends it first."""
+        for at, (thread, _) in enumerate(self.moving):
+            if self._can[at] and self._search.is_inside(thread):
+                return [at]
         best = ()
         for start in range(len(self.moving)):
             if self._can[start]:
