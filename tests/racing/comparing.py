@@ -2,16 +2,18 @@
 
 They must agree on whether there is a race, on its fewest switches, and where there is none on whether a thread can get stuck
 oddly; and racereplay must report each race. That all threads can wait is told if it is met: the tally has how often it was not.
+The search that holds threads must agree with the plain one by itself, save for the switches.
 """
 from collections import Counter
 
 import plain
 from checks import check
+from blocks import drawn_blocks
 from drawn import Draw
 from racing.confirming import race_lines
 from racing.orders import has_race
 from racing.search import switches_in
-from searching import objection, searched
+from searching import held, objection, searched
 
 LONGEST = 256  # steps of a program sheet
 
@@ -28,6 +30,7 @@ def check_drawn(count, seed, most):
             continue
         found = searched(lines)
         check(f"drawn program {number - 1} of seed {seed}: {'|'.join(lines)}", differences(lines, wanted, found), [])
+        check(f"drawn program {number - 1} of seed {seed}, threads held: {'|'.join(lines)}", held_differences(lines, wanted), [])
         tally["compared"] += 1
         tally["with calls"] += any(line.startswith("call,") for line in lines)
         count_met(tally, switches, wanted, found)
@@ -49,6 +52,33 @@ def differences(lines, wanted, found):
         "" if found.whole() else "not all was searched",
         "" if (found.odd is not None) == odd else f"odd halt {found.odd}, wanted {odd}",
         "" if found.stuck is None or waits else f"waits {found.stuck}, and none is wanted"]))
+
+
+def held_differences(lines, wanted):
+    """What the search that holds threads finds otherwise than the plain one."""
+    (least, odd, waits), found = wanted, held(lines)
+    if (found.race is None) != (least is None):
+        return [f"race {found.race}, wanted {least}"]
+    if found.race is not None:
+        return [] if (plain.replay(lines, found.race) or (0, None))[1] else ["the order has no race in the plain interpreter"]
+    return list(filter(None, [
+        "" if found.whole() else "not all was searched",
+        "" if (found.odd is not None) == odd else f"odd halt {found.odd}, wanted {odd}",
+        "" if found.stuck is None or waits else f"waits {found.stuck}, and none is wanted"]))
+
+
+def check_blocks(count, seed, most):
+    """So many drawn programs whose locks are used in blocks. The tally, in words."""
+    tally = Counter()
+    for lines in drawn_blocks(count, seed):
+        wanted = plain.search(lines, most)
+        if wanted is None:
+            tally["passed over"] += 1
+            continue
+        check(f"drawn blocks, threads held: {'|'.join(lines)}", held_differences(lines, wanted), [])
+        tally["compared"] += 1
+        tally["race"] += wanted[0] is not None
+    return ", ".join(f"{counted} {what}" for what, counted in tally.items())
 
 
 def count_met(tally, switches, wanted, found):

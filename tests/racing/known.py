@@ -2,15 +2,17 @@
 import re
 from pathlib import Path
 
+import families
 import losses
 import plain
 from checks import check
 from racing.confirming import halt_lines, race_lines
 from racing.orders import has_odd_halt, has_race, is_stuck
 from racing.search import switches_in
-from searching import objection, searched
+from searching import held, objection, searched
 
 MOST = 20_000  # states of a plain search
+FAMILY_SIZES, FAMILY_STATES = (2, 8, 15), 15_000
 LISTS = Path(__file__).resolve().parents[1] / "src" / "steps" / "programs.rs"
 
 
@@ -46,5 +48,16 @@ def check_losses():
         wanted, found = plain.search(lines, MOST), searched(lines)
         check(f"{what}: a race is wanted", wanted is not None and wanted[0] is not None, True)
         check(f"{what}: its fewest switches", found.race and switches_in(found.race), wanted[0])
+        if found.race is not None:
+            check(f"{what}: as racereplay has it", objection(lines, found.race, has_race, race_lines), "")
+        check(f"{what}: found with threads held", (plain.replay(lines, held(lines).race or []) or (0, None))[1] is not None, True)
+
+
+def check_families():
+    """Large jobs: a race is found and borne out, and where there is none all orders are searched, both soon."""
+    for what, is_racing, lines in families.jobs(FAMILY_SIZES):
+        found = searched(lines)
+        check(f"{what}: a race or none", (found.race is not None, found.race is not None or found.whole()), (is_racing, True))
+        check(f"{what}: within {FAMILY_STATES} states, not {found.states}", found.states <= FAMILY_STATES, True)
         if found.race is not None:
             check(f"{what}: as racereplay has it", objection(lines, found.race, has_race, race_lines), "")

@@ -3,10 +3,11 @@ from explaining.names import Names
 from explaining.sheets import Step
 from jobs import sheet_of
 from racing.confirming import Replay
-from racing.budget import Limits
+from racing.budget import Budget, Limits
 from racing.finding import find
+from racing.holding import Holding
 from racing.shown import Shown
-from stepping.machine import Machine
+from stepping.machine import ROOM, Machine
 from stepping.program import Steps
 
 
@@ -16,6 +17,11 @@ def machine_of(lines):
 
 def searched(lines):
     return find(machine_of(lines), Limits(100_000, 60))
+
+
+def held(lines):
+    """What the search that holds threads finds by itself."""
+    return Holding(machine_of(lines), Budget(Limits(100_000, 60)), ROOM).run()
 
 
 def objection(lines, order, shows, told):

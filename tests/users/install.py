@@ -9,7 +9,7 @@ from checks import HOUSE, check, contents, user_environment
 from header import check_linked, library
 from installing.manual import manual_pages
 
-COMMANDS = ["check-release", "explain", "fill", "racecheck", "racedrill", "racefill", "racereplay", "show-race"]
+COMMANDS = ["check-release", "explain", "fill", "racecheck", "racedrill", "racefill", "racereplay", "show-race", "triage"]
 
 
 def make_house(place, programs):

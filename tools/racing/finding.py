@@ -1,4 +1,5 @@
-"""Whether a job races: the search for the fewest switches as far as it soon comes, then the one that holds threads, then on."""
+"""Whether a job races: the search for the fewest switches as far as it soon comes, then the one that holds threads, which tells
+whether there is a race at all; then on for the fewest switches."""
 from stepping.machine import ROOM, Room
 
 from .budget import Budget, Limits
@@ -6,8 +7,10 @@ from .holding import Holding
 from .search import Search
 
 PLENTY = Room(256, 256, 256)  # to search on where there is no race within the room of racereplay
-SOON = 1500, 0.25  # states, and the part of the seconds, for the first look for the fewest switches
-NEXT = 0.7  # the part of the seconds left then that the search that holds threads may take
+# States, and the part of the seconds left then: for the first look for the fewest switches, and for the second, once it is known
+# that there is a race.
+SOON, LATER = (500, 0.25), (3000, 0.5)
+NEXT = 0.7  # the part of the seconds that the search that holds threads may take
 
 
 def find(machine, limits=Limits(), watch=None):
@@ -25,6 +28,9 @@ def _find_within(machine, budget, room):
     if not first.limited or budget.is_over():
         return first
     found = Holding(machine, budget, room).run(budget.share(budget.most(), NEXT))
-    if found.race is not None or found.whole():
+    if found.whole():
         return found
-    return fewest.run()
+    if found.race is None:
+        return fewest.run()
+    again = fewest.run(budget.share(*LATER))
+    return found if again.race is None else again
