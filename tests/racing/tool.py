@@ -1,19 +1,24 @@
 """The command tools/show-race: on every example, on jobs past its bounds, with replays that lie, and with files in its way."""
 import os
+import pty
 import shutil
 import subprocess
 import tempfile
+import time
 from collections import Counter
 from pathlib import Path
 
 import known
 import plain
 from checks import HOUSE, check
-from jobs import make_job, order_in, run, steps_in
+from jobs import TOOL, make_job, order_in, run, steps_in
 
 CONFIRMED = "racereplay, which is proved, runs this order and reports this race: "
 SEARCHED = "all of them were searched"
 SECONDS = 2
+CLOCK = 20  # seconds by the clock that are soon, on a machine with other work
+# A procedure that calls itself twice: a search of it comes to no end.
+ENDLESS = ["proc,0", "if,0", "let,1", "call,0", "var,0", "let,2", "call,0", "var,0", "int,0", "int,1", "call,0", "int,0"]
 
 
 def examples():
@@ -130,6 +135,37 @@ def check_bounds():
         check("20 readers, one not joined: its order races all the same", replayed[1] is not None, True)
 
 
+def check_clock():
+    """The seconds are those of the clock; how far the search is stands on a terminal and nowhere else."""
+    with tempfile.TemporaryDirectory() as scratch:
+        folder = make_job(Path(scratch) / "job", ENDLESS)
+        begun = time.monotonic()
+        done = run("--seconds", 1, folder)
+        took = time.monotonic() - begun
+        check(f"--seconds 1: soon over, not after {took:.1f} s", (done.status, took < CLOCK), (4, True))
+        check("--seconds 1: nothing else is said", done.error, "")
+        check("on a terminal: how far it is", "s left" in _said_on_terminal("--seconds", "2", folder), True)
+
+
+def _said_on_terminal(*arguments):
+    """What the tool says on standard error if that is a terminal."""
+    ours, its = pty.openpty()
+    done = subprocess.Popen([TOOL, *arguments], cwd=HOUSE, stdin=subprocess.DEVNULL, stdout=subprocess.DEVNULL, stderr=its)
+    os.close(its)
+    said = b""
+    while True:
+        try:
+            piece = os.read(ours, 4096)
+        except OSError:  # the other side is closed
+            break
+        if not piece:
+            break
+        said += piece
+    os.close(ours)
+    done.wait()
+    return said.decode()
+
+
 # ---- Calls
 
 
@@ -164,8 +200,7 @@ def check_calls():
         ]:
             done = run(make_job(scratch / what, steps))
             check(f"a procedure that calls itself {what}", (done.status, words in done.said), (status, True))
-        two = ["proc,0", "if,0", "let,1", "call,0", "var,0", "let,2", "call,0", "var,0", "int,0", "int,1", "call,0", "int,0"]
-        done = run("--seconds", 1, make_job(scratch / "twice", two))
+        done = run("--seconds", 1, make_job(scratch / "twice", ENDLESS))
         check("a procedure that calls itself twice: the limits are kept", (done.status, "its limits" in done.said), (4, True))
 
 
@@ -219,6 +254,16 @@ def check_files():
         done = run(folder)
         wanted = ["<level>, made on line 3", "pump is about to read <level>"]
         check("names are used", [words for words in wanted if words not in done.said], [])
+        done = run("--trace", Path(scratch) / "no" / "folder", folder)
+        check("an order that cannot be written is told all the same",
+              (done.status, CONFIRMED in done.said, "cannot be written" in done.said), (1, True, True))
+        trace.unlink()
+        folder.chmod(0o555)
+        if not os.access(folder, os.W_OK):  # who may do everything may write there too
+            done = run(folder)
+            check("a folder that cannot be written to", (done.status, CONFIRMED in done.said, "cannot be written" in done.said),
+                  (1, True, True))
+        folder.chmod(0o755)
 
 
 def check_errors():
@@ -261,6 +306,7 @@ def check_tool():
     check_refill()
     check_lies()
     check_bounds()
+    check_clock()
     check_calls()
     check_purge()
     check_halts()

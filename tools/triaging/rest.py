@@ -1,6 +1,6 @@
 """Where the rest of a location is at the step that no after-map can help: who has it, where it comes back, and by which line of
 the split it was handed over. It is told as the picture of tools/explain tells it, one telling of the job among others."""
-from explaining.drawing.holders import Telling, same_step
+from explaining.drawing.holders import Telling
 from explaining.refusals import SPLIT
 from explaining.showing import listed
 from explaining.sites import acted_on
@@ -14,16 +14,31 @@ MOST = 6  # lines in a row
 def rest_of(explanation):
     """Who holds the rest of the location, a sentence or two each; empty if the telling does not come to the step."""
     telling = Telling(explanation)
-    places = [place for place, moment in enumerate(telling.moments) if same_step(moment.site, explanation.site)]
-    if not places:
+    moments = _up_to(telling.moments, explanation.site)
+    if not moments:
         return []
-    rest, moments = Rest(telling, explanation), telling.moments[:places[0] + 1]
+    rest = Rest(telling, explanation)
     held = [(holder, numbers[explanation.location]) for holder, numbers in moments[-1].held.items()]
     told = [words for holder, number in held if number and holder != rest.own for words in rest.told(holder, number)]
     return told + [words for one, other in zip(moments, moments[1:]) for words in rest.lost(one, other)]
 
 
+def _up_to(moments, site):
+    """The moments up to the step. What a round of a loop lacks is seen at its end, behind its last step."""
+    within = _lines_of(site) if site.word == "while" else {site.line}
+    places = [place for place, moment in enumerate(moments) if moment.site.line in within]
+    if not places:
+        return []
+    return moments[:(places[-1] if site.word == "while" else places[0]) + 1]
+
+
+def _lines_of(site):
+    return {site.line}.union(*(_lines_of(part) for part in site.parts.values()))
+
+
 class Rest:
+    """The telling of a job, and the step and the location that it is asked about."""
+
     def __init__(self, telling, explanation):
         self._telling, self._sites, self._names = telling, explanation.sites, explanation.names
         self._split, self._site, self._location = explanation.sites.split, explanation.site, explanation.location
