@@ -99,14 +99,15 @@ def called(count, faulty):
 
 
 FAMILIES = {"joined": joined, "locked": locked, "posted": posted, "placed": placed, "called": called}
-MOST = 15  # threads that are started; with the first one as many as racereplay runs
+# Threads that are started, at most: with the first one as many as racereplay runs, and fewer where a search takes long.
+MOST = {**dict.fromkeys(FAMILIES, 15), "placed": 8}
 STEPS = 256
 
 
 def jobs(counts):
     """(what, whether it races, lines) of every family with so many threads, as far as a sheet has room."""
     for what, family in FAMILIES.items():
-        for count in counts:
+        for count in [count for count in counts if count <= MOST[what]]:
             for faulty in (True, False):
                 lines = family(count, faulty)
                 if sum(not line.startswith("proc,") for line in lines) <= STEPS:

@@ -103,7 +103,7 @@ class Holding(Search):
     def _take(self, family, node, others, chosen):
         """Puts down the states behind the steps of some threads. Whether one of them has yet to be looked at."""
         behind = []
-        for at in chosen:
+        for at in others.unlike(chosen):
             thread, choices = others.moving[at]
             behind += [self._put(family, _Node(after, node.last, moves, node))
                        for after, moves in self._ways_on(thread.number, choices)]
@@ -111,7 +111,7 @@ class Holding(Search):
 
     def _hold(self, node, others, chosen):
         """Puts down the states in which one of these threads is held before a touch that another can still race with."""
-        for at in chosen:
+        for at in others.unlike(chosen):
             thread, choices = others.moving[at]
             for outcome in choices:
                 standing = outcome.state.threads[outcome.at]
@@ -188,6 +188,10 @@ class _Others:
                 if len(best) == 1:
                     break
         return sorted(best)
+
+    def unlike(self, chosen):
+        """One of each kind among these threads: two of one identifier that stand alike lead to the same, up to names."""
+        return {self.moving[at][0]._replace(number=0): at for at in reversed(chosen)}.values()
 
     def _closed_under_meeting(self, start):
         chosen, waiting = {start}, [start]
