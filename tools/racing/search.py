@@ -214,7 +214,7 @@ class Search:
                 here = self._here(thread)
                 if here in seen:
                     continue
-                if self._is_enough():
+                if len(seen) >= self.budget.most() or self._is_enough():
                     raise _Enough
                 seen.add(here)
             choices = (1, 0) if word == "if" else (0,)
