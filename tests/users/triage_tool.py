@@ -55,7 +55,8 @@ def check_examples(programs):
             done = run(programs, *files, folder)
             wanted = RACES if folder.name.endswith("-race") else ROWS if folder.name.endswith("-to-fill") else ACCEPTED
             check(f"triage of {folder.name}", (done.returncode, done.stderr), (wanted, ""))
-            check(f"triage of {folder.name}: one line and the answer", re.match(r"\S+: (ACCEPT|REFUSE(,\d+){4})\. ", done.stdout) is not None, True)
+            verdict = re.match(r"\S+: (ACCEPT|REFUSE(,\d+){4})\. ", done.stdout)
+            check(f"triage of {folder.name}: one line and the answer", verdict is not None, True)
             confirmed = "racereplay, which is proved, runs this order and reports this race" in done.stdout
             check(f"triage of {folder.name}: a race is confirmed", confirmed, wanted == RACES)
 

@@ -117,7 +117,8 @@ class Holding(Search):
                 standing = outcome.state.threads[outcome.at]
                 access = self.machine.access(standing)
                 is_kept = outcome.standing == READY and self.begins_block(standing)
-                if access and others.may_race(at, *access) or is_kept and any(self._entered(outcome.state, outcome.at, others, at)):
+                meets_inside = is_kept and any(self._entered(outcome.state, outcome.at, others, at))
+                if meets_inside or access and others.may_race(at, *access):
                     held = _Node(outcome.state, thread.number, outcome.moves, node)
                     self._put((thread.number, standing.point), held)
 

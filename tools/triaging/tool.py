@@ -163,7 +163,8 @@ def _lack(filled):
     if filled.number != 41:
         return lines
     rest = rest_of(filled)
-    return [*lines, *_rounded(filled), *(["", "Who has the rest at that point, as the picture of tools/explain tells it:"] + rest if rest else [])]
+    title = ["", "Who has the rest at that point, as the picture of tools/explain tells it:"] if rest else []
+    return [*lines, *_rounded(filled), *title, *rest]
 
 
 def _rounded(filled):
