@@ -2,7 +2,7 @@
 from stepping.happening import happened
 from stepping.machine import DONE, NOUNS, ODD, ROOM, WANTS, kind, name
 from stepping.naming import Naming
-from stepping.wording import about, step_words
+from stepping.wording import BINDS, ON_A_LOOP, TO_LINE, about, step_words
 
 
 class Numbered(Naming):
@@ -19,17 +19,16 @@ class Numbered(Naming):
 def in_words(one, steps, naming):
     point = one.point
     if point.word == "let" and not point.loop:
-        return _bound(one, steps, naming) + f"goes on to line {_line(steps, point.parts[1])}"
+        return _bound(one, steps, naming) + _to_line(steps, point.parts[1])
     if point.word == "if" and not point.loop:
-        return f"goes on to line {_line(steps, point.parts[one.choice])}"
+        return _to_line(steps, point.parts[one.choice])
     if point.word == "call":
-        return f"{step_words(one, naming)}; goes on to line {_line(steps, steps.body_of(point.number))}"
-    of_a_loop = {"let": "the round is over", "while": "comes to the loop"}
-    return of_a_loop[point.word] if point.word in of_a_loop else step_words(one, naming)
+        return f"{step_words(one, naming)}; {_to_line(steps, steps.body_of(point.number))}"
+    return ON_A_LOOP[point.word] if point.word in ON_A_LOOP else step_words(one, naming)
 
 
-def _line(steps, at):
-    return steps.steps[at].line
+def _to_line(steps, at):
+    return TO_LINE.format(line=steps.steps[at].line)
 
 
 def _bound(one, steps, naming):
@@ -38,7 +37,7 @@ def _bound(one, steps, naming):
     is_used = any(step.word == "var" and step.number == variable for step in steps.steps)
     if not is_used or naming.bound.get(naming.made_line.get(value)) == variable:
         return ""
-    return f"{naming.names.variable(variable)} is {naming.thing(value)}; "
+    return BINDS.format(variable=naming.names.variable(variable), thing=naming.thing(value))
 
 
 def about_to(machine, state, number, naming):
