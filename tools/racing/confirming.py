@@ -16,9 +16,13 @@ class Replay:
 
     def answer(self, order):
         """Its line after an order, or why there is none."""
+        return self.answer_to(trace_text(order).encode("ascii"))
+
+    def answer_to(self, trace):
+        """Its line after a trace of any bytes, or why there is none."""
         with tempfile.TemporaryDirectory() as scratch:
             Path(scratch, PROGRAM).write_bytes(self._program)
-            Path(scratch, TRACE).write_text(trace_text(order), encoding="ascii")
+            Path(scratch, TRACE).write_bytes(trace)
             run = run_in(self._binary, scratch, REPLAYING)
         return run.answer if run.answer != "FAILED" else f"nothing ({run.failure})"
 
