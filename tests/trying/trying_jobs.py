@@ -1,0 +1,23 @@
+"""The tool as the tests start it."""
+import os
+import subprocess
+from typing import NamedTuple
+
+from checks import HOUSE, user_environment
+
+
+class Done(NamedTuple):
+    status: int
+    said: str
+    error: str
+
+
+def run(*arguments, **environment):
+    done = subprocess.run(
+        [HOUSE / "tools" / "try-orders", *map(str, arguments)], env=user_environment(**environment), cwd=HOUSE,
+        stdin=subprocess.DEVNULL, capture_output=True, text=True)
+    return Done(done.returncode, done.stdout, done.stderr)
+
+
+def racereplay():
+    return os.environ["RACEREPLAY"]
