@@ -12,7 +12,7 @@ from pathlib import Path
 from checks import HOUSE, check, contents, user_environment
 from starting.version import version
 
-TOOLS = ["check-release", "explain", "fill", "install", "show-race", "triage"]
+TOOLS = ["check-release", "explain", "fill", "install", "show-race", "triage", "try-orders"]
 OLD = "import runpy, sys; sys.version_info = (3, 8, 19, 'final', 0); runpy.run_path(sys.argv[1], run_name='__main__')"
 
 
@@ -56,6 +56,7 @@ def check_dash(binary):
             ("explain", ["--page", "-", join]), ("explain", ["-"]), ("check-release", [HOUSE / "examples", "-"]),
             ("check-release", ["--json", "-", HOUSE / "examples"]), ("check-release", ["--manifest", "-", HOUSE / "examples"]),
             ("show-race", ["--page", "-", join]), ("show-race", ["--trace", "-", join]), ("triage", ["--mended", "-", join]),
+            ("try-orders", ["--page", "-", join]), ("try-orders", ["--trace", "-", join]),
         ]:
             done = run(tool, *arguments, cwd=scratch, RACECHECK=binary)
             check(f"{tool} {arguments[0]} and a dash", (done.returncode, "- is not taken" in done.stderr), (2, True))
