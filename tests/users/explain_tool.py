@@ -1,4 +1,5 @@
 """tools/explain on every example, on every pair of the pages and on drawn pairs, and with racechecks that lie."""
+import re
 import shutil
 import subprocess
 import tempfile
@@ -23,9 +24,9 @@ GOOD = ("P,1|int,0|", "C,1,1,1,1|int,0,0|0|0,0,|")
 
 
 def run(binary, *arguments, **how):
-    how = {"stdout": subprocess.PIPE, **how}
+    how = {"stdout": subprocess.PIPE, "cwd": HOUSE, **how}
     return subprocess.run(
-        [TOOL, *map(str, arguments)], env=user_environment(RACECHECK=binary), cwd=HOUSE, stdin=subprocess.DEVNULL,
+        [TOOL, *map(str, arguments)], env=user_environment(RACECHECK=binary), stdin=subprocess.DEVNULL,
         stderr=subprocess.PIPE, text=True, **how)
 
 
@@ -42,7 +43,7 @@ def check_examples(binary):
             check(f"explain {folder.name}: status", done.returncode, 0 if answer == "ACCEPT" else 1)
             check(f"explain {folder.name}: the answer comes first", lines[0], f"{folder}: {answer}")
             check(f"explain {folder.name}: nothing on standard error", done.stderr, "")
-            walked_lines = list(filter(None, lines))[-steps:]
+            walked_lines = steps_told(lines)
             numbers = [int(line.lstrip(" >").split()[0]) for line in walked_lines]
             check(f"explain {folder.name}: the walk has every line", numbers, list(range(2, steps + 2)))
             marked = [line.split()[0] for line in walked_lines if line.lstrip().startswith(">")]
@@ -93,8 +94,12 @@ def faults(explanation, run_there):
 
 def walked(explanation):
     """Whether the walk of a pair comes to its last line."""
-    lines = list(filter(None, walk.text(explanation)))  # an empty one parts the procedures
-    return len(lines) == len(explanation.sites.all) + 1 == len(explanation.sites.steps) + 1
+    return len(steps_told(walk.text(explanation))) == len(explanation.sites.all) == len(explanation.sites.steps)
+
+
+def steps_told(lines):
+    """Those of a walk's lines that begin a step: others go on with one, or part the procedures."""
+    return [line for line in lines if re.match(r" *>?\d+  ", line)]
 
 
 def check_pages(binary):
@@ -169,14 +174,21 @@ def check_lies():
 def check_errors(binary):
     join = HOUSE / "examples" / "join"
     for what, arguments, message in [
-        ("no arguments", [], "usage: explain"), ("an unknown option", ["-x", join], "usage: explain"),
-        ("two folders", [join, join], "usage: explain"), ("a page without a file", [join, "--page"], "usage: explain"),
+        ("an unknown option", ["-x", join], "there is no option -x\nusage: explain"),
+        ("two folders", [join, join], f"one argument too many: {join}\nusage: explain"),
+        ("a page without a file", [join, "--page"], "--page wants a value behind it\nusage: explain"),
+        ("a page of an order", ["--replay", "--page", "x", join], "--replay and --page do not go together\nusage: explain"),
         ("no such folder", ["nowhere"], "no such folder"),
         ("a page in no folder", ["--page", "nowhere/page.html", join], "nowhere"),
     ]:
         done = run(binary, *arguments)
         check(f"explain, {what}", (done.returncode, message in done.stderr), (2, True))
-    check("explain, a page in no folder: the answer is told", done.stdout.startswith(f"{join}: ACCEPT"), True)
+        check(f"explain, {what}: not the whole help", len(done.stderr.splitlines()) < 8, True)
+    done = run(binary, cwd=join)
+    check("explain in the current folder", (done.returncode, done.stdout.startswith(".: ACCEPT")), (0, True))
+    piped = subprocess.run(f"'{TOOL}' --walk '{HOUSE}/examples/refill' | head -n 1", shell=True, env=user_environment(RACECHECK=binary),
+                           capture_output=True, text=True)
+    check("explain, its reader goes away", (piped.stdout.count("\n"), piped.stderr), (1, ""))
     check("explain, no racecheck", run("nowhere", join).returncode, 2)
     with open("/dev/full", "w") as full:
         check("explain to a full device", run(binary, join, stdout=full).returncode, 2)
@@ -236,7 +248,8 @@ def check_names(binary):
         check("explain with names", [words for words in wanted if words not in done.stdout], [])
         passed_over = [line for line in done.stderr.splitlines() if "is not understood and is passed over" in line]
         check("explain with names: what is not understood", [line.split(": ")[-1] for line in passed_over], [
-            "thread,x,y", "nothing", "variable,1,", "\\x07", "\\xff"])
+            "thread,x,y", "nothing", "variable,1,"])
+        check("explain with names: the others in one line", "2 more lines of names.txt are not understood" in done.stderr, True)
         text = (folder / "page.html").read_text()
         browser.check_markup("explain with names: its page", text)
         wanted = [">pump<", "&lt;level&gt;", ">thread 0<"]
@@ -255,10 +268,10 @@ def check_procedures(binary):
         for number, (what, signature, rows, answer, wanted) in enumerate([
             ("accepted", "0,1,0,0", WRITER_ROWS, "ACCEPT", ["\n\n", "call squirt with v1; keep back nothing", "squirt, of v0: it starts"]),
             ("a body that leaves less", "1,1,0,0", WRITER_ROWS.replace("0,0,|1,0,|0,0,|", "0,1,|1,1,|0,1,|", 1), "REFUSE,32,2,2,0",
-             ["1/2 ≥ 2/2 is false", "the body leaves", ">2  any"]),
+             ["1/2 ≥ 2/2 is false", "the body leaves", ">2  the caller"]),
             ("a result of another type", "0,1,0,1", WRITER_ROWS, "REFUSE,31,2,1,0", ["the result of squirt is type 1"]),
             ("an argument of another type", "0,0,0,0", WRITER_ROWS, "REFUSE,31,4,1,0",
-             ["the argument of the procedure on line 2", "taken by whichever thread calls it"]),
+             ["the argument of the procedure on line 2", "taken by the caller"]),
             ("too much kept back", "0,1,0,0", WRITER_ROWS.replace("0,0,2|", "0,0,0|"), "REFUSE,32,9,3,0",
              ["2/2 = 2/2 + 2/2 is false", "the procedure starts with (before)", "kept back (s)"]),
             ("nothing said to be kept", "0,1,0,0", WRITER_ROWS.replace("0,0,2|", "0,0,|"), "REFUSE,50,14,0,0",

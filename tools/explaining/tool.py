@@ -1,7 +1,7 @@
 """tools/explain: in words the answer to a pair, that to a recorded order, or a number."""
 import os
 
-from starting.command import Failure, Usage, options, say, tell
+from starting.command import Failure, Usage, options, say, take, tell
 from starting.files import PROGRAM, SPLIT, files_of
 from starting.writing import Output, approve, write
 
@@ -17,9 +17,9 @@ from .showing import visible
 
 def main(arguments):
     given, others = options(arguments, flags=["--replay", "--walk"], valued=["--page"])
-    if len(others) != 1 or {"--replay", "--page"} <= set(given):
-        raise Usage
-    folder, walks = others[0], "--walk" in given
+    if {"--replay", "--page"} <= set(given):
+        raise Usage("a recorded order has no page: --replay and --page do not go together")
+    folder, walks = take(others, "FOLDER", least=0)[0] or os.curdir, "--walk" in given
     if not os.path.isdir(folder):
         return _tell_alone(folder, given)
     pages = [Output("page", given["--page"], page.BEGINS)] if "--page" in given else []
@@ -36,7 +36,7 @@ def main(arguments):
         say(f"explain: DISAGREEMENT with {program}, see above")
     for output in pages:
         title = visible(os.path.basename(os.path.abspath(folder)))
-        write(output, page.text(title, explain(run, folder, reduced=True)).encode("utf-8", "replace"))
+        write(output, page.text(title, explanation).encode("utf-8", "replace"))
     return _status_of(explanation)
 
 

@@ -3,7 +3,7 @@ import os
 import shutil
 from pathlib import Path
 
-from starting.command import Failure, Usage, options, tell
+from starting.command import Failure, options, take, tell
 from starting.writing import replace
 
 from explaining.showing import visible
@@ -20,9 +20,7 @@ HOME = Path("lib") / "racecheck"
 
 def main(arguments):
     _, others = options(arguments)
-    if len(others) != 1:
-        raise Usage
-    prefix, pages = Path(os.path.abspath(others[0])), manual_pages()
+    prefix, pages = Path(os.path.abspath(*take(others, "PREFIX"))), manual_pages()
     programs = {name: HOUSE / "target" / "bin" / name for name in pages}
     _find_all(programs)
     links = {Path("bin") / name: HOME / "bin" / name for name in programs}

@@ -4,7 +4,7 @@ import sys
 import time
 from typing import Callable, NamedTuple
 
-from starting.command import Failure, Usage, options, say, tell
+from starting.command import Failure, Usage, options, say, take, tell
 from starting.files import PROGRAM, SHEETS, files_of
 from starting.writing import Output, approve, write
 
@@ -32,9 +32,7 @@ PROGRESS = 60  # letters, more than a line that tells how far a search is
 
 def main(arguments):
     given, folders = options(arguments, valued=[*NUMBERS, *FILES])
-    if len(folders) != 1:
-        raise Usage
-    folder, limits = folders[0], limits_of(given)
+    folder, limits = take(folders, "FOLDER", least=0)[0] or os.curdir, limits_of(given)
     if not os.path.isdir(folder):
         raise Failure(f"no such folder: {visible(folder)}")
     job = Job(folder, given, limits)
@@ -54,8 +52,8 @@ def main(arguments):
 def limits_of(given):
     try:
         return Limits(**{option.strip("-"): number(given[option]) for option, number in NUMBERS.items() if option in given})
-    except ValueError:
-        raise Usage
+    except ValueError as error:
+        raise Usage(f"--states and --seconds want a number: {error}") from error
 
 
 def watched(machine, limits):

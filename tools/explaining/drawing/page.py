@@ -6,19 +6,18 @@ from starting.pages import begins, opening
 
 from ..refusals import REFUSALS
 from ..telling import alarm, condition_line, maps_of
-from ..walk import past_the_lack, strides
+from ..walk import map_heads, past_the_lack, preface, strides
 from .holders import Holder
 from .fills import KEEPERS, colour_of, fill_of, patterns
 from .picture import Picture
 
 TOOL = "explain"
 BEGINS = begins(TOOL)
-FEW = 3  # locations whose fractions fit on one line of the walk
 BADGES = {
     "ACCEPT": ("accepted", "ACCEPTED"), "FILLED": ("accepted", "FILLED"), "UNREAD": ("none", "NOT READ"),
     "FAILED": ("none", "NO ANSWER")}
 ORDER = "This is one order of many. It is told so that each thread goes as far as it can before another is told on."
-APART = "The rows of its caller, at the end, are the body of the refused procedure by itself, from what it starts with."
+APART = "The rows of the caller, at the end, are the body of the refused procedure by itself, from what it starts with."
 
 STYLE = Path(__file__).with_name("style.css").read_text(encoding="utf-8")
 
@@ -33,7 +32,7 @@ def text(title, explanation):
         pieces += [*_picture(explanation), *_walk(explanation)]
     pieces += [
         f"<footer>The answer is {explanation.program}'s. The numbers beside it are worked out again from the two sheets by"
-        " tools/explain, which judges nothing.</footer>", "</body>", "</html>", ""]
+        " explain, which judges nothing.</footer>", "</body>", "</html>", ""]
     return "\n".join(pieces)
 
 
@@ -138,25 +137,26 @@ def _mark(shape):
 # ---- The walk
 
 
+def _sums(stride):
+    return f'<br/><span class="sums">{escape(stride.sums)}</span>' if stride.sums else ""
+
+
 def _walk(explanation):
-    head = "".join(f"<th>{name}</th>" for name in ("line", "thread", "step", "row", "before", "after", "in words", "in fractions"))
-    rows = []
+    heads = ["line", "thread", "step", "row", *map_heads(explanation), "in words"]
+    head, rows = "".join(f"<th>{name}</th>" for name in heads), []
     for stride in strides(explanation):
         site = stride.site
         colour = colour_of(Holder("thread", site.thread))
         cells = [
             f'<td class="number">{site.line}</td>',
-            f'<td class="thread"><i style="background:{colour}"></i>{escape(explanation.names.thread_mark(site.thread))}</td>',
+            f'<td class="thread"><i style="background:{colour}"></i>{escape(explanation.names.thread(site.thread))}</td>',
             f'<td class="step">{"  " * site.depth}{site.word},{site.number}</td>',
-            f'<td class="row">{escape(stride.row)}</td>', f'<td class="map">{escape(stride.before)}</td>',
-            f'<td class="map">{escape(stride.after)}</td>', f"<td>{escape(stride.words)}</td>",
-            f'<td class="sums">{escape(stride.sums)}</td>',
+            f'<td class="row">{escape(stride.row)}</td>', *(f'<td class="map">{escape(cell)}</td>' for cell in stride.maps),
+            f"<td>{escape(stride.words + explanation.names.source(site.line))}{_sums(stride)}</td>",
         ]
         kinds = " ".join(kind for kind, is_so in (("refused", stride.refused), ("apart", stride.apart)) if is_so)
         rows.append(f'<tr class="{kinds}">{"".join(cells)}</tr>' if kinds else f"<tr>{''.join(cells)}</tr>")
-    kind = "walk wide" if explanation.sites.split.locations > FEW else "walk"
+    kind = "walk wide" if len(heads) < 7 else "walk"
     return [
-        '<section class="walk-section">', "<h2>The walk, step by step</h2>",
-        "<p>Before and after are what the thread has, one fraction for each location in turn:"
-        f" {escape(', '.join(explanation.names.place(p) for p in range(explanation.sites.split.locations)))}.</p>",
+        '<section class="walk-section">', "<h2>The walk, step by step</h2>", f"<p>{escape(preface(explanation))}</p>",
         f'<table class="{kind}"><thead><tr>{head}</tr></thead><tbody>', *rows, "</tbody></table>", "</section>"]

@@ -8,8 +8,7 @@ from textwrap import wrap
 from typing import NamedTuple
 
 from ..conditions import cell_location
-from ..walk import in_words
-from ..words import WORDS
+from ..walk import in_words, touches
 from .fills import KEEPERS, colour_of, fill_of, ink_on
 from .holders import Holder, Telling, same_step
 from .places import places
@@ -119,7 +118,7 @@ class Picture:
         return [
             text("line", LINE_X, middle, str(site.line), LINE_X, "end"),
             f'<circle cx="{THREAD_X + 6}" cy="{middle - 4}" r="5" fill="{colour_of(Holder("thread", site.thread))}"/>',
-            text("thread", THREAD_X + 16, middle, self.names.thread_label(site.thread), STEP_X - THREAD_X - 20),
+            text("thread", THREAD_X + 16, middle, self.names.thread(site.thread), STEP_X - THREAD_X - 20),
             *(text(kind, left, middle + LINE * number, words, COLUMNS_X - left - 20, letter=letter)
               for number, words in enumerate(self._told(site))),
         ]
@@ -129,7 +128,7 @@ class Picture:
 
     def _told(self, site):
         """A step in words, on one line; the refused one whole, with what is false there, in as many lines as it takes."""
-        words = in_words(site, self.sites, self.names)
+        words = in_words(site, self.sites, self.names) + self.names.source(site.line)
         if not self._is_refused(site):
             return [words]
         letters = int((COLUMNS_X - self._left(site) - 20) / BOLD)
@@ -207,14 +206,14 @@ class Picture:
     def holder_name(self, holder):
         if holder.kind in KEEPERS:
             return self._made_name(holder)
-        return self.names.thread_label(holder.thread())
+        return self.names.thread(holder.thread())
 
     def _made_name(self, keeper):
         """The name of a lock, semaphore or read-write lock: that of the variable that its let binds, or its line."""
         for site in self.sites.all:
             if site.word == "let" and site.parts["e1"].line == keeper.number:
                 return self.names.variable(site.number)
-        return f"{KEEPERS[keeper.kind]} of line {keeper.number}"
+        return f"{KEEPERS[keeper.kind]} of {self.names.line(keeper.number)}"
 
     def folded_in_words(self):
         """Each location that is not drawn, with who has it all the while."""
@@ -228,10 +227,7 @@ class Picture:
 
     def _access(self, site):
         """The location that a read or write touches; None for other words, or where its part is no cell."""
-        if not any(condition.mark == "A" for condition in WORDS[site.word].conditions):
-            return None
-        types = [self.split.types[part.type].kind for part in site.parts.values()]
-        return cell_location(site, self.split) if types[0] == "ref" else None
+        return cell_location(site, self.split) if touches(site, self.split) else None
 
     def _touch(self, block, top, moment):
         location = self._access(moment.site)

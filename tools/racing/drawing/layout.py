@@ -94,9 +94,10 @@ class Layout:
         ends, machine, state = {}, self.shown.machine, self.shown.state
         for thread in state.threads:
             if thread.point != FINISHED and thread.number in self.threads:
-                words = about(machine, state, thread, self.naming)
+                line = machine.points[thread.point].line
+                words = about(machine, state, thread, self.naming) + self.naming.names.source(line)
                 letter = BOLD if thread.number in self.ending.numbers else LETTER
-                ends[thread.number] = wrapped(words, self.column - 2 * PAD, letter), machine.points[thread.point].line
+                ends[thread.number] = wrapped(words, self.column - 2 * PAD, letter), line
         return ends
 
     def stretches(self):

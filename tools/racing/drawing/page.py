@@ -6,6 +6,7 @@ from pathlib import Path
 from starting.pages import begins, opening
 
 from explaining.drawing.page import STYLE
+from explaining.showing import listed
 
 from .picture import Picture
 
@@ -25,7 +26,7 @@ def text(title, shown, ending, borne_out):
         '<dl class="facts">', *(f"<dt>{escape(name)}</dt><dd>{escape(words)}</dd>" for name, words in facts), "</dl>",
         *_legend(ending), *(f"<figure>{svg}</figure>" for svg in picture.svgs()),
         *_trace(shown.order),
-        f"<footer>{escape(borne_out)} The order was found by tools/show-race, which judges nothing itself.</footer>",
+        f"<footer>{escape(borne_out)} The order was found by show-race, which judges nothing itself.</footer>",
         "</body>", "</html>", ""])
 
 
@@ -42,7 +43,7 @@ def _facts(shown, ending, picture):
     if idle:
         facts.append(("not shown", f"{idle} here"))
     if picture.layout.left_out:
-        facts.append(("nor shown", f"what {', '.join(map(shown.naming.thing, picture.layout.left_out))} hold"))
+        facts.append(("not drawn", f"what goes on at {listed(map(shown.naming.thing, picture.layout.left_out))}"))
     return facts
 
 
