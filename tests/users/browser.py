@@ -68,6 +68,23 @@ def check_markup(what, text):
     return markup
 
 
+def without_foot(text):
+    """A page without the line that says when it was made and by what."""
+    return re.sub(r'<p class="made">[^<]*</p>\n', "", text)
+
+
+def sheets_of(browser, text):
+    """On how many sheets of paper a page comes out."""
+    with tempfile.TemporaryDirectory() as scratch:
+        copy, paper = Path(scratch) / "page.html", Path(scratch) / "paper.pdf"
+        copy.write_text(text)
+        command = [
+            browser, "--headless", "--no-sandbox", "--disable-gpu", f"--user-data-dir={scratch}/data", "--no-pdf-header-footer",
+            f"--print-to-pdf={paper}", copy.as_uri()]
+        subprocess.run(command, stdin=subprocess.DEVNULL, capture_output=True, timeout=60)
+        return len(re.findall(rb"/Type /Page\b(?!s)", paper.read_bytes())) if paper.exists() else None
+
+
 def find_browser():
     return next(filter(None, map(shutil.which, BROWSERS)), None)
 

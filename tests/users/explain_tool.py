@@ -51,7 +51,9 @@ def check_examples(binary):
             check(f"explain {folder.name}: the refused step is marked", marked, wanted)
             kept = folder / "page.html"
             if kept.exists():
-                check(f"explain {folder.name}: the page in its folder", kept.read_text() == file.read_text(), True)
+                run(binary, "--page", Path(scratch) / "kept.html", folder)
+                pages = [browser.without_foot(page.read_text()) for page in (kept, Path(scratch) / "kept.html")]
+                check(f"explain {folder.name}: the page in its folder", pages[0] == pages[1], True)
             browser.check_page(f"page of {folder.name}", file, steps, found if folder.name in SHOWN else None)
 
 
@@ -133,7 +135,7 @@ def check_drawn(binary):
             if number % 20 == 0:
                 browser.check_markup(f"drawn pair {number}, its page", page.text("drawn", explanation))
             if wide is None and explanation.sites and explanation.sites.split.locations > 12 and len(explanation.sites.all) > 100:
-                wide = number, len(explanation.sites.all), page.text("wide", explanation)
+                wide = number, len(explanation.sites.all), page.text("wide", explanation, walks=True)
     check("some drawn pair has many locations and many steps", wide is not None, True)
     if wide and found:
         number, steps, text = wide

@@ -5,9 +5,10 @@ from starting.command import Failure, Usage, options, say, take, tell
 from starting.files import PROGRAM, SPLIT, files_of
 from starting.writing import Output, approve, write
 
-from . import replays, telling, walk
+from . import replays, telling, touching, walk
 from .alone import told_alone
 from .drawing import page
+from .drawing.foot import foot
 from .filling import is_for_filling
 from .findings import explain
 from .running import CHECKING, FILLING, REPLAYING, find_program, run_in
@@ -16,9 +17,10 @@ from .showing import visible
 
 
 def main(arguments):
-    given, others = options(arguments, flags=["--replay", "--walk"], valued=["--page"])
-    if {"--replay", "--page"} <= set(given):
-        raise Usage("a recorded order has no page: --replay and --page do not go together")
+    given, others = options(arguments, flags=["--replay", "--touches", "--walk"], valued=["--page"])
+    for option in ("--page", "--touches"):
+        if {"--replay", option} <= set(given):
+            raise Usage(f"that is of a pair, not of a recorded order: --replay and {option} do not go together")
     folder, walks = take(others, "FOLDER", least=0)[0] or os.curdir, "--walk" in given
     if not os.path.isdir(folder):
         return _tell_alone(folder, given)
@@ -26,9 +28,11 @@ def main(arguments):
     approve(pages, files_of(folder))
     is_filling = is_for_filling(read_sheet(folder, PROGRAM), read_sheet(folder, SPLIT))
     program = REPLAYING if "--replay" in given else FILLING if is_filling else CHECKING
-    run = run_in(find_program(program), folder, program)
+    binary = find_program(program)
+    run = run_in(binary, folder, program)
     explanation = replays.explain(run, folder, walks) if program == REPLAYING else explain(run, folder)
     lines, walked = telling.told(explanation), replays.told if program == REPLAYING else walk.told
+    lines += [""] + touching.told(explanation) if "--touches" in given else []
     tell([f"{visible(folder)}: {lines[0]}", *lines[1:], *([""] + walked(explanation) if walks else [])])
     for words in explanation.names.passed_over:
         say(f"explain: {words}")
@@ -36,7 +40,8 @@ def main(arguments):
         say(f"explain: DISAGREEMENT with {program}, see above")
     for output in pages:
         title = visible(os.path.basename(os.path.abspath(folder)))
-        write(output, page.text(title, explanation).encode("utf-8", "replace"))
+        made = foot(page.TOOL, binary, (run.sheets or {}).values())
+        write(output, page.text(title, explanation, made, walks).encode("utf-8", "replace"))
     return _status_of(explanation)
 
 

@@ -8,7 +8,9 @@ from starting.command import Failure, Usage, options, say, take, tell
 from starting.files import PROGRAM, SHEETS, files_of
 from starting.writing import Output, approve, write
 
+from explaining.drawing.foot import foot
 from explaining.names import read_names
+from explaining.running import REPLAYING, find_program
 from explaining.sheets import read_sheet, steps_of
 from explaining.showing import visible
 from stepping.machine import ROOM, Machine
@@ -125,7 +127,7 @@ class Job:
             return Told(3, [*telling.alarm(objection), written])
         ending, borne_out = kind.ending(shown), kind.borne_out.format(lines[0][1])
         title = visible(os.path.basename(os.path.abspath(self.folder)))
-        drawn = page.text(title, shown, ending, borne_out) if "--page" in self.given else ""
+        drawn = page.text(title, shown, ending, borne_out, foot(page.TOOL, find_program(REPLAYING), [self.program])) if "--page" in self.given else ""
         return Told(kind.status, [*telling.told(shown, ending), "", borne_out, written], drawn)
 
     def write_trace(self, order):

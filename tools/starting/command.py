@@ -23,8 +23,6 @@ def run(words, main):
     except Usage as error:
         say(f"{name}: {str(error) or 'these arguments are not taken'}\n{usage_in(words)}\n{name} --help says more.")
         status = 2
-    except BrokenPipeError:  # whoever reads has seen enough, as head has
-        status = 2
     except (Failure, OSError) as error:
         say(f"{name}: {error}")
         status = 2
@@ -72,8 +70,8 @@ def tell(lines):
     try:
         sys.stdout.reconfigure(encoding="utf-8", errors="backslashreplace")
         print("\n".join(lines), flush=True)
-    except BrokenPipeError:
-        raise
+    except BrokenPipeError:  # whoever reads has seen enough, as head has; what else is to be done is done
+        pass
     except OSError as error:
         raise Failure(f"cannot write to standard output: {error.strerror}") from error
 

@@ -1,4 +1,5 @@
-"""One page that needs nothing else: the answer in words, the picture with its legend, and the walk."""
+"""One page that needs nothing else: the answer in words, who touches what, and the picture with its legend, on one sheet of A4
+if they fit; and the walk, if it is asked for, on sheets of its own."""
 from html import escape
 from pathlib import Path
 
@@ -6,12 +7,19 @@ from starting.pages import begins, opening
 
 from ..refusals import REFUSALS
 from ..telling import alarm, condition_line, maps_of
+from ..touching import parted
 from ..walk import map_heads, past_the_lack, preface, strides
-from .holders import Holder
 from .fills import KEEPERS, colour_of, fill_of, patterns
+from .foot import made
+from .holders import Holder
+from .narrow import Narrow
 from .picture import Picture
+from .touches import table
 
 TOOL = "explain"
+# In millimetres of A4: its width, what a header, a legend and a foot leave of its height, what the words of a refusal and each
+# touch take of that; and how small the picture may become.
+ACROSS, SHEET, WORDS, TOUCH, SMALLEST = 188, 205, 48, 2, 0.7
 BEGINS = begins(TOOL)
 BADGES = {
     "ACCEPT": ("accepted", "ACCEPTED"), "FILLED": ("accepted", "FILLED"), "UNREAD": ("none", "NOT READ"),
@@ -22,18 +30,29 @@ APART = "The rows of the caller, at the end, are the body of the refused procedu
 STYLE = Path(__file__).with_name("style.css").read_text(encoding="utf-8")
 
 
-def text(title, explanation):
+def text(title, explanation, words_of_foot="", walks=False):
     """The page of one pair."""
+    picture = Picture(explanation) if explanation.sites else None
+    is_sheet = picture is None or _fits(picture, explanation)
     pieces = [
         *opening(TOOL), f"<title>{escape(title)}: {escape(explanation.answer)}</title>", f"<style>{STYLE}</style>", "</head>", "<body>",
-        *_header(title, explanation), *_told(explanation),
+        f'<main class="{"sheet" if is_sheet else "sheets"}">', *_header(title, explanation), *_told(explanation),
     ]
-    if explanation.sites:
-        pieces += [*_picture(explanation), *_walk(explanation)]
+    if picture:
+        pieces += [*table(explanation), *_picture(picture, is_sheet)]
     pieces += [
-        f"<footer>The answer is {explanation.program}'s. The numbers beside it are worked out again from the two sheets by"
-        " explain, which judges nothing.</footer>", "</body>", "</html>", ""]
+        f"<footer><p>The answer is {explanation.program}'s. The numbers beside it are worked out again from the two sheets by"
+        " explain, which judges nothing.</p>", *made(words_of_foot), "</footer>", "</main>",
+        *(_walk(explanation) if walks and picture else []), "</body>", "</html>", ""]
     return "\n".join(pieces)
+
+
+def _fits(picture, explanation):
+    """Whether all but the walk can be read on one sheet: what is left below the words is enough for the picture, made a little
+    smaller if need be."""
+    touches = sum(len(cell.touches) for cell in parted(explanation.sites)[0])
+    left = SHEET - WORDS * bool(explanation.number) - TOUCH * touches
+    return len(picture.blocks) == 1 and SMALLEST * picture.height() * ACROSS / picture.width <= left
 
 
 # ---- The answer in words
@@ -79,17 +98,23 @@ def marked(words):
 # ---- The picture
 
 
-def _picture(explanation):
-    picture = Picture(explanation)
+def _picture(picture, is_sheet):
+    explanation = picture.explanation
     folded = ", ".join(picture.folded_in_words())
     return [
         f'<svg class="patterns" aria-hidden="true">{patterns(picture.holders + _threads(picture))}</svg>',
         "<h2>Who holds how much</h2>", f'<p class="order">{ORDER}</p>', *_legend(picture),
         *([f'<p class="order">Not drawn, since nothing moves or touches it: {escape(folded)}.</p>'] if folded else []),
         *([f'<p class="order">{APART}</p>'] if picture.apart else []),
-        *(piece for block in picture.blocks for piece in _columns(picture, block)),
+        *(_whole(picture) if is_sheet else [piece for block in picture.blocks for piece in _columns(picture, block)]),
         *(f'<p class="order">{escape(line)}</p>' for line in [past_the_lack(explanation)] if line),
     ]
+
+
+def _whole(picture):
+    """The picture in one piece, for a desk and for a telephone."""
+    kinds = {"for-desk": picture, "for-phone": Narrow(picture.explanation)}
+    return [f'<figure class="{kind}">{one.whole(one.blocks[0])}</figure>' for kind, one in kinds.items()]
 
 
 def _columns(picture, block):

@@ -98,6 +98,10 @@ class Picture:
             pieces += [
                 box(f'fill="{self.colour(thread)}"', x, 8, self.layout.column, 42),
                 text(f"head {self.ink_on(thread)}", x + self.layout.column / 2, 31, name, "middle")]
+        for thread in self.layout.sharing[:1]:
+            x, name = self.layout.x(thread), f"{len(self.layout.sharing)} others"
+            pieces += [
+                box('class="others"', x, 8, self.layout.column, 42), text("head", x + self.layout.column / 2, 31, name, "middle")]
         for value in self.layout.things:
             x, name = self.layout.thing_x(value), wrapped(self.naming.thing(value), THING, BOLD)
             top = 22 if len(name) > 1 else 31
