@@ -72,6 +72,28 @@ def check_tellings(binary):
             check(f"picture of {folder.name}: the post past the whole", (most, split.denominator), (3, 2))
 
 
+def check_sources(binary):
+    """Where a line of the program comes from is told wherever the line is: by each tool, and on each page."""
+    with tempfile.TemporaryDirectory() as scratch:
+        folder = Path(scratch) / "job"
+        shutil.copytree(HOUSE / "examples" / "refill-race", folder)
+        long = "/".join(["a"] * 30) + "/pump.c:12"
+        with open(folder / "names.txt", "a") as names:
+            names.write(f"line,70,refill.c:88\nline,37,{long}\nline,3,main.c:5\n")
+        refill, pump = "line 70 [refill.c:88]", f"line 37 [{long[-40:]}]"
+        for tool, arguments, wanted in [
+            ("explain", ["--walk", "--touches"], [refill, pump, "write level [refill.c:88]"]), ("explain", ["--replay"], [refill, pump]),
+            ("show-race", [], [refill, pump, "made on line 3 [main.c:5]"]),
+        ]:
+            done = subprocess.run([HOUSE / "tools" / tool, *arguments, folder], env=user_environment(RACECHECK=binary),
+                                  capture_output=True, text=True)
+            check(f"{tool} {arguments}: where lines come from", [words for words in wanted if words not in done.stdout], [])
+        for tool, wanted in [("explain", f"reads, {pump}"), ("show-race", refill), ("try-orders", '"70": "refill.c:88"')]:
+            page_file = Path(scratch) / f"{tool}.html"
+            subprocess.run([HOUSE / "tools" / tool, "--page", page_file, folder], env=user_environment(RACECHECK=binary), capture_output=True)
+            check(f"page of {tool}: where lines come from", wanted in page_file.read_text(), True)
+
+
 # ---- What is said of each refusal
 
 
@@ -305,6 +327,7 @@ def check_explain_tool(binary):
     check_alone()
     check_hints(binary)
     check_names(binary)
+    check_sources(binary)
     check_procedures(binary)
     check_drawn(binary)
     check("the tools leave nothing beside themselves", list((HOUSE / "tools").rglob("__pycache__")), [])
