@@ -182,6 +182,7 @@ def check_lies():
         text = "\n".join(telling.told(explanation))
         check(f"a lie about {folder.name}, {answer}", (text.startswith(answer), "*** DISAGREEMENT" in text), (True, True))
         browser.check_markup(f"a lie about {folder.name}, {answer}: its page", page.text("lie", explanation))
+        check(f"a lie about {folder.name}, {answer}: its badge", '"badge refused">DISAGREEMENT<' in page.text("lie", explanation), True)
     with tempfile.TemporaryDirectory() as scratch:
         liar, folder = Path(scratch) / "liar", Path(scratch) / "pair"
         lies = [(*GOOD, "REFUSE,32,2,2,0"), ("P,1|int|", GOOD[1], "ACCEPT"), ("P,9|int,0|", GOOD[1], "ACCEPT")]
@@ -193,6 +194,7 @@ def check_lies():
             check(f"a lying racecheck, {answer}: status", done.returncode, 3)
             said = ["DISAGREEMENT" in output for output in (done.stdout, done.stderr)]
             check(f"a lying racecheck, {answer}: both outputs say so", said, [True, True])
+            check(f"a lying racecheck, {answer}: it comes first", f": DISAGREEMENT, racecheck says {answer}\n" in done.stdout, True)
 
 
 def check_errors(binary):

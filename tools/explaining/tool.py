@@ -33,7 +33,8 @@ def main(arguments):
     explanation = replays.explain(run, folder, walks) if program == REPLAYING else explain(run, folder)
     lines, walked = telling.told(explanation), replays.told if program == REPLAYING else walk.told
     lines += [""] + touching.told(explanation) if "--touches" in given else []
-    tell([f"{visible(folder)}: {lines[0]}", *lines[1:], *([""] + walked(explanation) if walks else [])])
+    first = f"DISAGREEMENT, {program} says {lines[0]}" if explanation.disagrees else lines[0]
+    tell([f"{visible(folder)}: {first}", *lines[1:], *([""] + walked(explanation) if walks else [])])
     for words in explanation.names.passed_over:
         say(f"explain: {words}")
     if explanation.disagrees:

@@ -59,7 +59,7 @@ def _fits(picture, explanation):
 
 
 def _header(title, explanation):
-    kind, badge = BADGES.get(explanation.answer, ("refused", "REFUSED"))
+    kind, badge = ("refused", "DISAGREEMENT") if explanation.disagrees else BADGES.get(explanation.answer, ("refused", "REFUSED"))
     return [
         "<header>", f"<div><h1>{escape(title)}</h1>", f'<p class="meaning">{escape(explanation.meaning)}</p></div>',
         f'<div><div class="badge {kind}">{badge}</div><div class="answer">{escape(explanation.answer)}</div></div>', "</header>",
