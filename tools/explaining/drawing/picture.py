@@ -92,7 +92,8 @@ class Picture:
         """The picture in one piece."""
         label = "who holds how much of each location, step by step"
         return "\n".join([
-            f'<svg viewBox="0 0 {self.width} {self.height()}" role="img" aria-label="{label}">', self.head(block, 0),
+            f'<svg viewBox="0 0 {self.width} {self.height()}" preserveAspectRatio="xMidYMin" role="img" aria-label="{label}">',
+            self.head(block, 0),
             self._part(block, 0, self.moments, HEAD), "</svg>"])
 
     def _opening(self, height, label, top):
