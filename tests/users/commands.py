@@ -51,6 +51,18 @@ def _completed(script, words):
     return subprocess.run([shutil.which("bash"), "-c", told], cwd=script.parent, capture_output=True, text=True).stdout.strip()
 
 
+def check_called(programs):
+    """A tool names the others as they are started: by their place in the repository, and by their names once installed."""
+    join = HOUSE / "examples" / "join-race"
+    check("explain in the repository names tools/triage", "tools/triage tells" in run("explain", join, RACECHECK=programs[0]).stdout, True)
+    with tempfile.TemporaryDirectory() as scratch:
+        shutil.copytree(HOUSE / "tools", Path(scratch) / "tools", ignore=shutil.ignore_patterns("__pycache__"))
+        (Path(scratch) / "bin").mkdir()
+        shutil.copy(programs[0], Path(scratch) / "bin" / "racecheck")
+        done = subprocess.run([Path(scratch) / "tools" / "explain", join], env=user_environment(RACECHECK=""), capture_output=True, text=True)
+        check("explain, installed, names triage", (": triage tells" in done.stdout, "tools/" in done.stdout), (True, False))
+
+
 def check_limits(programs):
     """Each program does its work with the stack that the page names, and under a limit of files' sizes leaves no whole line."""
     sections = dict(re.findall(r"^## (\w+): [^\n]*\n(.*?)(?=^## )", PAGE.read_text(), re.M | re.S))
@@ -78,4 +90,5 @@ def _run(command, folder, kind, most, **how):
 def check_commands(programs):
     check_sections()
     check_options()
+    check_called(programs)
     check_limits(programs)
