@@ -14,7 +14,8 @@ from tools import run
 
 PAGE = HOUSE / "docs" / "COMMANDS.md"
 ALONE = {"--help", "--version"}
-STARTED = {"racecheck": ("refill", []), "racefill": ("top-up-to-fill", []), "racereplay": ("refill", []), "racedrill": (None, ["0"])}
+STARTED = {
+    "racecheck": ("refill", []), "racefill": ("top-up-to-fill", []), "racereplay": ("refill", []), "racedrill": (None, ["0"])}
 
 
 def check_sections():
@@ -37,8 +38,10 @@ def check_options():
             unknown = [option for option, words in tried.items() if "there is no option" in run(tool, *words).stderr]
             check(f"{tool}: the options that it names", unknown, [])
             check(f"{tool}: --help and --version are told", ALONE <= set(told), True)
-        for words, wanted in [(["explain", "--w"], "--walk"), (["explain", "--page", "p"], "page.html"), (["show-race", "fo"], "folder"),
-                              (["check-release", "--js"], "--json"), (["tools/explain", "--rep"], "--replay")]:
+        for words, wanted in [
+            (["explain", "--w"], "--walk"), (["explain", "--page", "p"], "page.html"), (["show-race", "fo"], "folder"),
+            (["check-release", "--js"], "--json"), (["tools/explain", "--rep"], "--replay"),
+        ]:
             check(f"completion of {words}", _completed(script, words), wanted)
 
 
@@ -54,12 +57,14 @@ def _completed(script, words):
 def check_called(programs):
     """A tool names the others as they are started: by their place in the repository, and by their names once installed."""
     join = HOUSE / "examples" / "join-race"
-    check("explain in the repository names tools/triage", "tools/triage tells" in run("explain", join, RACECHECK=programs[0]).stdout, True)
+    done = run("explain", join, RACECHECK=programs[0])
+    check("explain in the repository names tools/triage", "tools/triage tells" in done.stdout, True)
     with tempfile.TemporaryDirectory() as scratch:
         shutil.copytree(HOUSE / "tools", Path(scratch) / "tools", ignore=shutil.ignore_patterns("__pycache__"))
         (Path(scratch) / "bin").mkdir()
         shutil.copy(programs[0], Path(scratch) / "bin" / "racecheck")
-        done = subprocess.run([Path(scratch) / "tools" / "explain", join], env=user_environment(RACECHECK=""), capture_output=True, text=True)
+        command, environment = [Path(scratch) / "tools" / "explain", join], user_environment(RACECHECK="")
+        done = subprocess.run(command, env=environment, capture_output=True, text=True)
         check("explain, installed, names triage", (": triage tells" in done.stdout, "tools/" in done.stdout), (True, False))
 
 

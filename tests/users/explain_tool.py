@@ -82,7 +82,8 @@ def check_sources(binary):
             names.write(f"line,70,refill.c:88\nline,37,{long}\nline,3,main.c:5\n")
         refill, pump = "line 70 [refill.c:88]", f"line 37 [{long[-40:]}]"
         for tool, arguments, wanted in [
-            ("explain", ["--walk", "--touches"], [refill, pump, "write level [refill.c:88]"]), ("explain", ["--replay"], [refill, pump]),
+            ("explain", ["--walk", "--touches"], [refill, pump, "write level [refill.c:88]"]),
+            ("explain", ["--replay"], [refill, pump]),
             ("show-race", [], [refill, pump, "made on line 3 [main.c:5]"]),
         ]:
             done = subprocess.run([HOUSE / "tools" / tool, *arguments, folder], env=user_environment(RACECHECK=binary),
@@ -90,7 +91,8 @@ def check_sources(binary):
             check(f"{tool} {arguments}: where lines come from", [words for words in wanted if words not in done.stdout], [])
         for tool, wanted in [("explain", f"reads, {pump}"), ("show-race", refill), ("try-orders", '"70": "refill.c:88"')]:
             page_file = Path(scratch) / f"{tool}.html"
-            subprocess.run([HOUSE / "tools" / tool, "--page", page_file, folder], env=user_environment(RACECHECK=binary), capture_output=True)
+            command = [HOUSE / "tools" / tool, "--page", page_file, folder]
+            subprocess.run(command, env=user_environment(RACECHECK=binary), capture_output=True)
             check(f"page of {tool}: where lines come from", wanted in page_file.read_text(), True)
 
 
@@ -182,7 +184,8 @@ def check_lies():
         text = "\n".join(telling.told(explanation))
         check(f"a lie about {folder.name}, {answer}", (text.startswith(answer), "*** DISAGREEMENT" in text), (True, True))
         browser.check_markup(f"a lie about {folder.name}, {answer}: its page", page.text("lie", explanation))
-        check(f"a lie about {folder.name}, {answer}: its badge", '"badge refused">DISAGREEMENT<' in page.text("lie", explanation), True)
+        badge = '"badge refused">DISAGREEMENT<' in page.text("lie", explanation)
+        check(f"a lie about {folder.name}, {answer}: its badge", badge, True)
     with tempfile.TemporaryDirectory() as scratch:
         liar, folder = Path(scratch) / "liar", Path(scratch) / "pair"
         lies = [(*GOOD, "REFUSE,32,2,2,0"), ("P,1|int|", GOOD[1], "ACCEPT"), ("P,9|int,0|", GOOD[1], "ACCEPT")]
@@ -212,8 +215,9 @@ def check_errors(binary):
         check(f"explain, {what}: not the whole help", len(done.stderr.splitlines()) < 8, True)
     done = run(binary, cwd=join)
     check("explain in the current folder", (done.returncode, done.stdout.startswith(".: ACCEPT")), (0, True))
-    piped = subprocess.run(f"'{TOOL}' --walk '{HOUSE}/examples/refill' | head -n 1", shell=True, env=user_environment(RACECHECK=binary),
-                           capture_output=True, text=True)
+    piped = subprocess.run(
+        f"'{TOOL}' --walk '{HOUSE}/examples/refill' | head -n 1", shell=True, env=user_environment(RACECHECK=binary),
+        capture_output=True, text=True)
     check("explain, its reader goes away", (piped.stdout.count("\n"), piped.stderr), (1, ""))
     check("explain, no racecheck", run("nowhere", join).returncode, 2)
     with open("/dev/full", "w") as full:

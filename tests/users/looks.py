@@ -93,7 +93,8 @@ def check_paper(binary, racefill):
     for name in ("page.html", "race.html"):
         text = (HOUSE / "examples" / "refill-race" / name).read_text()
         check(f"refill-race/{name}: one sheet", browser.sheets_of(found, text), 1)
-        check(f"refill-race/{name}: its foot", re.search(r'<p class="made">Made on \d{4}-\d\d-\d\d at .*program.txt [0-9a-f]{16}', text) is not None, True)
+        foot = re.search(r'<p class="made">Made on \d{4}-\d\d-\d\d at .*program.txt [0-9a-f]{16}', text)
+        check(f"refill-race/{name}: its foot", foot is not None, True)
     with tempfile.TemporaryDirectory() as scratch:
         _, text = drawn(binary, large.filled(large.pumps().put_into(Path(scratch) / "pumps"), racefill))
     check("16 threads, 16 locations and 218 steps: sheets", browser.sheets_of(found, text) <= 11, True)
@@ -111,11 +112,14 @@ def check_touches(binary):
     done = subprocess.run(
         [HOUSE / "tools" / "explain", "--touches", HOUSE / "examples" / "colour-book-race"], capture_output=True, text=True,
         env=user_environment(RACECHECK=binary))
-    check("explain --touches: the one that lacks it", re.findall("\n +> .*", done.stdout), ["\n  >  desk    writes  line 36  book lock for reading"])
+    marked = re.findall("\n +> .*", done.stdout)
+    check("explain --touches: the one that lacks it", marked, ["\n  >  desk    writes  line 36  book lock for reading"])
     with tempfile.TemporaryDirectory() as scratch:
         for number, (what, block, held) in enumerate([
-            ("one way takes the lock", "if,0|lock,0|var,1|int,0|", "no lock"), ("both ways take it", "if,0|lock,0|var,1|lock,0|var,1|", "v1"),
-            ("a round gives it back", "while,0|unlock,0|var,1|", "no lock"), ("a thread of its own", "spawn,0|newtid,0|lock,0|var,1|", "no lock"),
+            ("one way takes the lock", "if,0|lock,0|var,1|int,0|", "no lock"),
+            ("both ways take it", "if,0|lock,0|var,1|lock,0|var,1|", "v1"),
+            ("a round gives it back", "while,0|unlock,0|var,1|", "no lock"),
+            ("a thread of its own", "spawn,0|newtid,0|lock,0|var,1|", "no lock"),
         ]):
             before = "lock,0|var,1|" if "while" in block else "int,0|"
             steps = f"let,0|ref,0|int,0|let,1|newlock,0|let,2|{before}let,3|{block}read,0|var,0|"

@@ -28,7 +28,8 @@ def check_order():
     built, early = set(), []
     for line in (HOUSE / "README.md").read_text().splitlines():
         if line.startswith("    $ "):
-            wanted = set(re.findall(r"target/bin/(\w+)", line)) | {one for tool in re.findall(r"tools/([\w-]+)", line) for one in RUNS[tool]}
+            wanted = set(re.findall(r"target/bin/(\w+)", line))
+            wanted.update(one for tool in re.findall(r"tools/([\w-]+)", line) for one in RUNS[tool])
             early += [line] * (not wanted <= built)
         for words in re.findall(r"rt (?:check|staticlib) ([a-z ]+)", line):
             built |= set(words.split())

@@ -43,7 +43,8 @@ def _bound(one, steps, naming):
 def about_to(machine, state, number, naming):
     """What a thread is about to do."""
     thread = state.threads[state.at(number)]
-    return f"{naming.thread(number)} {about(machine, state, thread, naming)} ({naming.names.line(machine.points[thread.point].line)} of the job)"
+    line = naming.names.line(machine.points[thread.point].line)
+    return f"{naming.thread(number)} {about(machine, state, thread, naming)} ({line} of the job)"
 
 
 # ---- Why it cannot be done

@@ -46,8 +46,8 @@ def told(explanation):
     if explanation.number in REFUSALS:
         lines += ["", f"Who looks first: {REFUSALS[explanation.number].owner}"]
     if explanation.number in ASKED and explanation.site:
-        lines += ["", f"Whose fault it is, the job's or the split's: {called('triage')} tells; {called('show-race')} shows an order in which the"
-                  " job races, if it finds one."]
+        lines += ["", f"Whose fault it is, the job's or the split's: {called('triage')} tells; {called('show-race')} shows an order"
+                  " in which the job races, if it finds one."]
     return lines
 
 

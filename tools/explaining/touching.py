@@ -26,7 +26,8 @@ class Touch(NamedTuple):
 
     def has(self, lock):
         """Whether a lock is held so that it is enough: a writer needs the whole of a read-write lock."""
-        return (lock, "") in self.held or (lock, "for writing") in self.held or (lock, "for reading") in self.held and self.word == "read"
+        ways = ["", "for writing"] + ["for reading"] * (self.word == "read")
+        return any((lock, way) in self.held for way in ways)
 
 
 class Cell(NamedTuple):

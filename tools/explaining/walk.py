@@ -66,9 +66,8 @@ def changes(site, split, names):
         return ""
     touched = [cell_location(site, split)] if touches(site, split) else []
     moved = [p for p in range(split.locations) if site.pre[p] != site.post[p] or p in touched]
-    return ", ".join(
-        f"{names.place(p)} {split.fraction(site.pre[p], p)}" + f" → {split.fraction(site.post[p], p)}" * (site.pre[p] != site.post[p])
-        for p in moved)
+    told = {p: dict.fromkeys(split.fraction(numbers[p], p) for numbers in (site.pre, site.post)) for p in moved}
+    return ", ".join(f"{names.place(p)} {' → '.join(amounts)}" for p, amounts in told.items())
 
 
 def touches(site, split):
@@ -194,7 +193,8 @@ def past_the_lack(explanation):
     """What is to be known about the walk of a sheet for filling that fails."""
     if explanation.number != 41:
         return ""
-    return f"From {explanation.names.line(explanation.site.line)} on, what is there is told as if that step took no more than there is."
+    line = explanation.names.line(explanation.site.line)
+    return f"From {line} on, what is there is told as if that step took no more than there is."
 
 
 def text(explanation):

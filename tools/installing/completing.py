@@ -24,7 +24,10 @@ complete -o filenames -o default -F _racecheck_tools {names}
 
 def completion():
     """The script."""
-    cases = [
-        f"    {tool}) options='{' '.join(options_of(tool))}' valued='{' '.join(f'{one}:{what}' for one, what in options_of(tool).items() if what)}' ;;"
-        for tool in tools()]
-    return SCRIPT.format(cases="\n".join(cases), names=" ".join(tools()))
+    return SCRIPT.format(cases="\n".join(map(_case, tools())), names=" ".join(tools()))
+
+
+def _case(tool):
+    options = options_of(tool)
+    valued = " ".join(f"{option}:{what}" for option, what in options.items() if what)
+    return f"    {tool}) options='{' '.join(options)}' valued='{valued}' ;;"

@@ -32,7 +32,8 @@ def _page(name, what, text, others):
     synopsis, *blocks = [block for block in re.split(r"\n{2,}", text.strip("\n")) if block.strip()]
     lines = [
         f'.TH {name} 1 "" "racecheck" "racecheck"', ".SH NAME", f"{name} \\- {_escaped(what)}",
-        ".SH SYNOPSIS", *(line for one in synopsis.split("\n") for line in (f".B {_escaped(one.strip())}", ".br")), ".SH DESCRIPTION"]
+        ".SH SYNOPSIS", *(line for one in synopsis.split("\n") for line in (f".B {_escaped(one.strip())}", ".br")),
+        ".SH DESCRIPTION"]
     for block in blocks:
         lines += _block(block)
     return "\n".join([*lines, ".SH SEE ALSO", ", ".join(f"\\fB{one}\\fR(1)" for one in others), ""])

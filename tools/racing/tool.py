@@ -127,7 +127,8 @@ class Job:
             return Told(3, [*telling.alarm(objection), written])
         ending, borne_out = kind.ending(shown), kind.borne_out.format(lines[0][1])
         title = visible(os.path.basename(os.path.abspath(self.folder)))
-        drawn = page.text(title, shown, ending, borne_out, foot(page.TOOL, find_program(REPLAYING), [self.program])) if "--page" in self.given else ""
+        made = foot(page.TOOL, find_program(REPLAYING), [self.program])
+        drawn = page.text(title, shown, ending, borne_out, made) if "--page" in self.given else ""
         return Told(kind.status, [*telling.told(shown, ending), "", borne_out, written], drawn)
 
     def write_trace(self, order):

@@ -35,7 +35,8 @@ def text(title, explanation, words_of_foot="", walks=False):
     picture = Picture(explanation) if explanation.sites else None
     is_sheet = picture is None or _fits(picture, explanation)
     pieces = [
-        *opening(TOOL), f"<title>{escape(title)}: {escape(explanation.answer)}</title>", f"<style>{STYLE}</style>", "</head>", "<body>",
+        *opening(TOOL), f"<title>{escape(title)}: {escape(explanation.answer)}</title>", f"<style>{STYLE}</style>", "</head>",
+        "<body>",
         f'<main class="{"sheet" if is_sheet else "sheets"}">', *_header(title, explanation), *_told(explanation),
     ]
     if picture:

@@ -68,7 +68,8 @@ class Layout:
     def _parted(self, rows):
         """The threads that have a column of their own, and those that share one: the threads that meet matter most, then those
         with the most rows."""
-        count = {thread: sum(row.thread == thread for row in rows) for thread in {row.thread for row in rows} | set(self.ending.numbers)}
+        threads = {row.thread for row in rows} | set(self.ending.numbers)
+        count = {thread: sum(row.thread == thread for row in rows) for thread in threads}
         by_worth = sorted(count, key=lambda thread: (thread not in self.ending.numbers, -count[thread], thread))
         own = len(count) if len(count) <= MOST_COLUMNS else MOST_COLUMNS - 1
         return sorted(by_worth[:own]), sorted(by_worth[own:])

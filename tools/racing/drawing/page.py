@@ -22,9 +22,10 @@ def text(title, shown, ending, borne_out, words_of_foot=""):
     return "\n".join([
         *opening(TOOL), f"<title>{escape(title)}: an order of its steps</title>",
         f"<style>{STYLE}\n{OWN_STYLE}\n{_paper(picture)}</style>", "</head>", "<body>",
-        f'<main class="{"sheet" if len(drawn) == 1 else "sheets"}">', "<header>", f'<div><h1>{escape(title)}</h1><p class="meaning">{escape(ending.sentence())}</p></div>',
+        f'<main class="{"sheet" if len(drawn) == 1 else "sheets"}">', "<header>",
+        f'<div><h1>{escape(title)}</h1><p class="meaning">{escape(ending.sentence())}</p></div>',
         f'<div><div class="badge {"refused" if ending.grave else "none"}">{ending.badge}</div></div>', "</header>",
-        '<dl class="facts">', *(f"<dt>{escape(name)}</dt><dd>{escape(words)}</dd>" for name, words in _facts(shown, ending, picture)), "</dl>",
+        '<dl class="facts">', *_facts(shown, ending, picture), "</dl>",
         *_legend(ending), *(f"<figure>{svg}</figure>" for svg in drawn),
         *_trace(shown.order),
         f"<footer><p>{escape(borne_out)} The order was found by show-race, which judges nothing itself.</p>", *made(words_of_foot),
@@ -44,7 +45,7 @@ def _facts(shown, ending, picture):
         facts.append(("not shown", f"{idle} here"))
     if picture.layout.left_out:
         facts.append(("not drawn", f"what goes on at {listed(map(shown.naming.thing, picture.layout.left_out))}"))
-    return facts
+    return [f"<dt>{escape(name)}</dt><dd>{escape(words)}</dd>" for name, words in facts]
 
 
 def _legend(ending):

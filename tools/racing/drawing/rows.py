@@ -56,7 +56,8 @@ def _row(number, one, made, naming):
     if made is None and word != "call" and operands and kind(operands[0]) in (CELL, LOCK, SEM, RWLOCK):
         touched = {operands[0]: word if word in ("read", "write") else "use"}
     started = [one.started()] if word == "spawn" else []
-    return Row(one.thread, number, number, [(one.point.line, _words(one, made, naming) + naming.names.source(one.point.line))], touched, started, False, one.after)
+    words = _words(one, made, naming) + naming.names.source(one.point.line)
+    return Row(one.thread, number, number, [(one.point.line, words)], touched, started, False, one.after)
 
 
 def _words(one, made, naming):
