@@ -3,7 +3,7 @@ import tempfile
 from pathlib import Path
 
 import known
-from browser import PHONE, check_markup, find_browser, seen_in
+from browser import PHONE, check_markup, find_browser, seen_in, without_foot
 from checks import HOUSE, check
 from jobs import make_job, run
 
@@ -58,7 +58,7 @@ def check_pages():
             check(f"page of {name}: who meets is marked", marks == (1, 2), name not in ("ODD", "WAITING"))
             kept = folder / "race.html"
             if kept.exists():
-                check(f"{name}: the page in its folder", kept.read_text() == text, True)
+                check(f"{name}: the page in its folder", without_foot(kept.read_text()) == without_foot(text), True)
             if browser is not None and name in SHOWN:
                 check_in_browser(name, browser, text)
     check("refill-race keeps its page", (HOUSE / "examples" / "refill-race" / "race.html").exists(), True)

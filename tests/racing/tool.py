@@ -214,7 +214,7 @@ def check_purge():
         check("purge-race: the order in its folder", same, True)
         for text in (done.said, page.read_text()):
             check("purge-race: calls are told by name", "calls purge with valve" in text, True)
-    wanted = "The first thread is about to write 1 into valve (line 4) while screen is about to write 1 into valve (line 4)."
+    wanted = "Thread 0 is about to write 1 into valve (line 4) while screen is about to write 1 into valve (line 4)."
     check("purge-race: both in the body", wanted in done.said, True)
 
 

@@ -18,10 +18,12 @@ PHONE = 500  # the narrowest that the browser opens
 MEASURE = """<script>
 const wide = [...document.querySelectorAll("text[data-room]")].filter(t => t.getComputedTextLength() > Number(t.dataset.room) + 1);
 const past = [...document.querySelectorAll("svg, table, p, div")].filter(e => e.getBoundingClientRect().right > innerWidth + 1);
+const figures = [...document.querySelectorAll("figure")].filter(f => f.getClientRects().length > 0);
 const seen = {rows: document.querySelectorAll("table.walk tbody tr").length, shares: document.querySelectorAll("rect.share").length,
   refused: document.querySelectorAll("tr.refused").length, wide: wide.map(t => t.textContent), past: past.length,
   scrolls: document.documentElement.scrollWidth > innerWidth + 1,
-  tall: [...document.querySelectorAll("figure")].every(f => f.getBoundingClientRect().height > 40)};
+  tall: figures.length > 0 && figures.every(f => f.getBoundingClientRect().height > 40),
+  small: figures.some(f => [...f.querySelectorAll("text")].some(t => t.getBoundingClientRect().height < 8))};
 document.body.append(Object.assign(document.createElement("pre"), {id: "seen", textContent: JSON.stringify(seen)}));
 </script></body>"""
 
@@ -68,6 +70,23 @@ def check_markup(what, text):
     return markup
 
 
+def without_foot(text):
+    """A page without the line that says when it was made and by what."""
+    return re.sub(r'<p class="made">[^<]*</p>\n', "", text)
+
+
+def sheets_of(browser, text):
+    """On how many sheets of paper a page comes out."""
+    with tempfile.TemporaryDirectory() as scratch:
+        copy, paper = Path(scratch) / "page.html", Path(scratch) / "paper.pdf"
+        copy.write_text(text)
+        command = [
+            browser, "--headless", "--no-sandbox", "--disable-gpu", f"--user-data-dir={scratch}/data", "--no-pdf-header-footer",
+            f"--print-to-pdf={paper}", copy.as_uri()]
+        subprocess.run(command, stdin=subprocess.DEVNULL, capture_output=True, timeout=60)
+        return len(re.findall(rb"/Type /Page\b(?!s)", paper.read_bytes())) if paper.exists() else None
+
+
 def find_browser():
     return next(filter(None, map(shutil.which, BROWSERS)), None)
 
@@ -104,7 +123,8 @@ def seen_in(browser, text, width, measure=MEASURE):
 def check_in_browser(what, browser, text, steps):
     refused = int('class="badge refused"' in text)
     shares = text.count('<rect class="share ')
-    wanted = {"rows": steps, "shares": shares, "refused": refused, "wide": [], "past": 0, "scrolls": False, "tall": True}
+    wanted = {"rows": steps, "shares": shares, "refused": refused, "wide": [], "past": 0, "scrolls": False, "tall": True,
+              "small": False}
     check(f"{what}: as it comes out in the browser", seen_in(browser, text, 1240), wanted)
     phone = seen_in(browser, text, PHONE) or {}
-    check(f"{what}: on a phone", (phone.get("rows"), phone.get("scrolls")), (steps, False))
+    check(f"{what}: on a phone", [phone.get(what) for what in ("rows", "scrolls", "tall", "small")], [steps, False, True, False])

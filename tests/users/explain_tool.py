@@ -1,4 +1,5 @@
 """tools/explain on every example, on every pair of the pages and on drawn pairs, and with racechecks that lie."""
+import re
 import shutil
 import subprocess
 import tempfile
@@ -23,9 +24,9 @@ GOOD = ("P,1|int,0|", "C,1,1,1,1|int,0,0|0|0,0,|")
 
 
 def run(binary, *arguments, **how):
-    how = {"stdout": subprocess.PIPE, **how}
+    how = {"stdout": subprocess.PIPE, "cwd": HOUSE, **how}
     return subprocess.run(
-        [TOOL, *map(str, arguments)], env=user_environment(RACECHECK=binary), cwd=HOUSE, stdin=subprocess.DEVNULL,
+        [TOOL, *map(str, arguments)], env=user_environment(RACECHECK=binary), stdin=subprocess.DEVNULL,
         stderr=subprocess.PIPE, text=True, **how)
 
 
@@ -42,7 +43,7 @@ def check_examples(binary):
             check(f"explain {folder.name}: status", done.returncode, 0 if answer == "ACCEPT" else 1)
             check(f"explain {folder.name}: the answer comes first", lines[0], f"{folder}: {answer}")
             check(f"explain {folder.name}: nothing on standard error", done.stderr, "")
-            walked_lines = list(filter(None, lines))[-steps:]
+            walked_lines = steps_told(lines)
             numbers = [int(line.lstrip(" >").split()[0]) for line in walked_lines]
             check(f"explain {folder.name}: the walk has every line", numbers, list(range(2, steps + 2)))
             marked = [line.split()[0] for line in walked_lines if line.lstrip().startswith(">")]
@@ -50,7 +51,9 @@ def check_examples(binary):
             check(f"explain {folder.name}: the refused step is marked", marked, wanted)
             kept = folder / "page.html"
             if kept.exists():
-                check(f"explain {folder.name}: the page in its folder", kept.read_text() == file.read_text(), True)
+                run(binary, "--page", Path(scratch) / "kept.html", folder)
+                pages = [browser.without_foot(page.read_text()) for page in (kept, Path(scratch) / "kept.html")]
+                check(f"explain {folder.name}: the page in its folder", pages[0] == pages[1], True)
             browser.check_page(f"page of {folder.name}", file, steps, found if folder.name in SHOWN else None)
 
 
@@ -67,6 +70,30 @@ def check_tellings(binary):
             check(f"picture of {folder.name}: nobody past the whole", most <= split.denominator, True)
         if folder.name == "canisters-race":
             check(f"picture of {folder.name}: the post past the whole", (most, split.denominator), (3, 2))
+
+
+def check_sources(binary):
+    """Where a line of the program comes from is told wherever the line is: by each tool, and on each page."""
+    with tempfile.TemporaryDirectory() as scratch:
+        folder = Path(scratch) / "job"
+        shutil.copytree(HOUSE / "examples" / "refill-race", folder)
+        long = "/".join(["a"] * 30) + "/pump.c:12"
+        with open(folder / "names.txt", "a") as names:
+            names.write(f"line,70,refill.c:88\nline,37,{long}\nline,3,main.c:5\n")
+        refill, pump = "line 70 [refill.c:88]", f"line 37 [{long[-40:]}]"
+        for tool, arguments, wanted in [
+            ("explain", ["--walk", "--touches"], [refill, pump, "write level [refill.c:88]"]),
+            ("explain", ["--replay"], [refill, pump]),
+            ("show-race", [], [refill, pump, "made on line 3 [main.c:5]"]),
+        ]:
+            done = subprocess.run([HOUSE / "tools" / tool, *arguments, folder], env=user_environment(RACECHECK=binary),
+                                  capture_output=True, text=True)
+            check(f"{tool} {arguments}: where lines come from", [words for words in wanted if words not in done.stdout], [])
+        for tool, wanted in [("explain", f"reads, {pump}"), ("show-race", refill), ("try-orders", '"70": "refill.c:88"')]:
+            page_file = Path(scratch) / f"{tool}.html"
+            command = [HOUSE / "tools" / tool, "--page", page_file, folder]
+            subprocess.run(command, env=user_environment(RACECHECK=binary), capture_output=True)
+            check(f"page of {tool}: where lines come from", wanted in page_file.read_text(), True)
 
 
 # ---- What is said of each refusal
@@ -93,8 +120,12 @@ def faults(explanation, run_there):
 
 def walked(explanation):
     """Whether the walk of a pair comes to its last line."""
-    lines = list(filter(None, walk.text(explanation)))  # an empty one parts the procedures
-    return len(lines) == len(explanation.sites.all) + 1 == len(explanation.sites.steps) + 1
+    return len(steps_told(walk.text(explanation))) == len(explanation.sites.all) == len(explanation.sites.steps)
+
+
+def steps_told(lines):
+    """Those of a walk's lines that begin a step: others go on with one, or part the procedures."""
+    return [line for line in lines if re.match(r" *>?\d+  ", line)]
 
 
 def check_pages(binary):
@@ -128,7 +159,7 @@ def check_drawn(binary):
             if number % 20 == 0:
                 browser.check_markup(f"drawn pair {number}, its page", page.text("drawn", explanation))
             if wide is None and explanation.sites and explanation.sites.split.locations > 12 and len(explanation.sites.all) > 100:
-                wide = number, len(explanation.sites.all), page.text("wide", explanation)
+                wide = number, len(explanation.sites.all), page.text("wide", explanation, walks=True)
     check("some drawn pair has many locations and many steps", wide is not None, True)
     if wide and found:
         number, steps, text = wide
@@ -153,6 +184,8 @@ def check_lies():
         text = "\n".join(telling.told(explanation))
         check(f"a lie about {folder.name}, {answer}", (text.startswith(answer), "*** DISAGREEMENT" in text), (True, True))
         browser.check_markup(f"a lie about {folder.name}, {answer}: its page", page.text("lie", explanation))
+        badge = '"badge refused">DISAGREEMENT<' in page.text("lie", explanation)
+        check(f"a lie about {folder.name}, {answer}: its badge", badge, True)
     with tempfile.TemporaryDirectory() as scratch:
         liar, folder = Path(scratch) / "liar", Path(scratch) / "pair"
         lies = [(*GOOD, "REFUSE,32,2,2,0"), ("P,1|int|", GOOD[1], "ACCEPT"), ("P,9|int,0|", GOOD[1], "ACCEPT")]
@@ -164,19 +197,28 @@ def check_lies():
             check(f"a lying racecheck, {answer}: status", done.returncode, 3)
             said = ["DISAGREEMENT" in output for output in (done.stdout, done.stderr)]
             check(f"a lying racecheck, {answer}: both outputs say so", said, [True, True])
+            check(f"a lying racecheck, {answer}: it comes first", f": DISAGREEMENT, racecheck says {answer}\n" in done.stdout, True)
 
 
 def check_errors(binary):
     join = HOUSE / "examples" / "join"
     for what, arguments, message in [
-        ("no arguments", [], "usage: explain"), ("an unknown option", ["-x", join], "usage: explain"),
-        ("two folders", [join, join], "usage: explain"), ("a page without a file", [join, "--page"], "usage: explain"),
+        ("an unknown option", ["-x", join], "there is no option -x\nusage: explain"),
+        ("two folders", [join, join], f"one argument too many: {join}\nusage: explain"),
+        ("a page without a file", [join, "--page"], "--page wants a value behind it\nusage: explain"),
+        ("a page of an order", ["--replay", "--page", "x", join], "--replay and --page do not go together\nusage: explain"),
         ("no such folder", ["nowhere"], "no such folder"),
         ("a page in no folder", ["--page", "nowhere/page.html", join], "nowhere"),
     ]:
         done = run(binary, *arguments)
         check(f"explain, {what}", (done.returncode, message in done.stderr), (2, True))
-    check("explain, a page in no folder: the answer is told", done.stdout.startswith(f"{join}: ACCEPT"), True)
+        check(f"explain, {what}: not the whole help", len(done.stderr.splitlines()) < 8, True)
+    done = run(binary, cwd=join)
+    check("explain in the current folder", (done.returncode, done.stdout.startswith(".: ACCEPT")), (0, True))
+    piped = subprocess.run(
+        f"'{TOOL}' --walk '{HOUSE}/examples/refill' | head -n 1", shell=True, env=user_environment(RACECHECK=binary),
+        capture_output=True, text=True)
+    check("explain, its reader goes away", (piped.stdout.count("\n"), piped.stderr), (1, ""))
     check("explain, no racecheck", run("nowhere", join).returncode, 2)
     with open("/dev/full", "w") as full:
         check("explain to a full device", run(binary, join, stdout=full).returncode, 2)
@@ -236,7 +278,8 @@ def check_names(binary):
         check("explain with names", [words for words in wanted if words not in done.stdout], [])
         passed_over = [line for line in done.stderr.splitlines() if "is not understood and is passed over" in line]
         check("explain with names: what is not understood", [line.split(": ")[-1] for line in passed_over], [
-            "thread,x,y", "nothing", "variable,1,", "\\x07", "\\xff"])
+            "thread,x,y", "nothing", "variable,1,"])
+        check("explain with names: the others in one line", "2 more lines of names.txt are not understood" in done.stderr, True)
         text = (folder / "page.html").read_text()
         browser.check_markup("explain with names: its page", text)
         wanted = [">pump<", "&lt;level&gt;", ">thread 0<"]
@@ -255,10 +298,10 @@ def check_procedures(binary):
         for number, (what, signature, rows, answer, wanted) in enumerate([
             ("accepted", "0,1,0,0", WRITER_ROWS, "ACCEPT", ["\n\n", "call squirt with v1; keep back nothing", "squirt, of v0: it starts"]),
             ("a body that leaves less", "1,1,0,0", WRITER_ROWS.replace("0,0,|1,0,|0,0,|", "0,1,|1,1,|0,1,|", 1), "REFUSE,32,2,2,0",
-             ["1/2 ≥ 2/2 is false", "the body leaves", ">2  any"]),
+             ["1/2 ≥ 2/2 is false", "the body leaves", ">2  the caller"]),
             ("a result of another type", "0,1,0,1", WRITER_ROWS, "REFUSE,31,2,1,0", ["the result of squirt is type 1"]),
             ("an argument of another type", "0,0,0,0", WRITER_ROWS, "REFUSE,31,4,1,0",
-             ["the argument of the procedure on line 2", "taken by whichever thread calls it"]),
+             ["the argument of the procedure on line 2", "taken by the caller"]),
             ("too much kept back", "0,1,0,0", WRITER_ROWS.replace("0,0,2|", "0,0,0|"), "REFUSE,32,9,3,0",
              ["2/2 = 2/2 + 2/2 is false", "the procedure starts with (before)", "kept back (s)"]),
             ("nothing said to be kept", "0,1,0,0", WRITER_ROWS.replace("0,0,2|", "0,0,|"), "REFUSE,50,14,0,0",
@@ -290,6 +333,7 @@ def check_explain_tool(binary):
     check_alone()
     check_hints(binary)
     check_names(binary)
+    check_sources(binary)
     check_procedures(binary)
     check_drawn(binary)
     check("the tools leave nothing beside themselves", list((HOUSE / "tools").rglob("__pycache__")), [])

@@ -181,11 +181,15 @@ def check_unfilled(racefill, racecheck):
             path.chmod(0o755)
         make_pair(Path(scratch) / "race", *race)
         make_pair(Path(scratch) / "good", *good)
+        make_pair(Path(scratch) / "filled", good[0], good[1].replace("0,,|", "0,0,|"))
+        make_pair(Path(scratch) / "plain", good[0], "C,1,1,1,1|int,0,0|1|0,0,|")
         make_pair(Path(scratch) / "empty", "absent", "absent")
         before = contents(Path(scratch))
         for what, programs, folder, status, words in [
             ("a job that fails", (racefill, racecheck), "race", 1, "racefill: REFUSE,41,0,0,0"),
             ("no pair", (racefill, racecheck), "empty", 2, "program.txt is missing"),
+            ("a sheet that is filled", (racefill, racecheck), "filled", 1, "there is nothing to fill"),
+            ("a C sheet", (racefill, racecheck), "plain", 1, "only `C2` and `C3` sheets are filled"),
             ("a racefill that lies", (liar, racecheck), "good", 3, "*** DISAGREEMENT"),
             ("a racecheck that does not accept", (racefill, no), "good", 3, "racecheck: REFUSE,32,2,2,0"),
         ]:

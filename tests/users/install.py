@@ -76,8 +76,8 @@ def check_manual(prefix):
     """Each man page comes out without a warning, where there is a `man` to do it."""
     pages = sorted(path.name for path in (prefix / "share" / "man" / "man1").iterdir())
     check("installed: the man pages", pages, sorted(f"{name}.1" for name in manual_pages()))
-    lacks = [name for name in COMMANDS if name.startswith("race") and f"{name}.1" not in pages]
-    check("there is a man page for each program", lacks, [])
+    lacks = [name for name in (*COMMANDS, "install") if f"{name}.1" not in pages]
+    check("there is a man page for each command", lacks, [])
     if shutil.which("man") is None or shutil.which("groff") is None:
         print("users: no man here, so that the man pages come out is not tried")
         return
@@ -85,7 +85,7 @@ def check_manual(prefix):
         path = prefix / "share" / "man" / "man1" / page
         command = ["man", "--warnings", "-E", "UTF-8", "-l", path]
         done = subprocess.run(command, env=user_environment(MANWIDTH=80), capture_output=True, text=True)
-        wanted = ["NAME", "SYNOPSIS", "DESCRIPTION", "EXIT STATUS", "FILES", "SEE ALSO"]
+        wanted = ["NAME", "SYNOPSIS", "DESCRIPTION", "EXIT STATUS", "SEE ALSO"] + ["FILES"] * page.startswith("race")
         lacks = [title for title in wanted if f"\n{title}\n" not in done.stdout]
         check(f"man -l {page}", (done.returncode, done.stderr, lacks), (0, "", []))
 

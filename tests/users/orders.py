@@ -155,7 +155,7 @@ def check_lies():
 
 def check_errors(binary):
     race = HOUSE / "examples" / "refill-race"
-    for what, arguments in [("a page", ["--page", "page.html", race]), ("no folder", [])]:
+    for what, arguments in [("a page", ["--page", "page.html", race]), ("two folders", [race, race])]:
         done = run(binary, *arguments)
         check(f"explain --replay, {what}", (done.returncode, "usage: explain" in done.stderr), (2, True))
     check("explain --replay, no racereplay", run("nowhere", race).returncode, 2)

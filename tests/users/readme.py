@@ -16,7 +16,28 @@ def shown():
             yield first, [line[4:] for line in rest]
 
 
+# The programs that a tool runs.
+RUNS = {
+    "explain": ["racecheck"], "show-race": ["racereplay"], "triage": ["racecheck", "racefill", "racereplay"],
+    "try-orders": ["racecheck", "racereplay"], "fill": ["racefill", "racecheck"], "check-release": ["racecheck"],
+    "install": ["racecheck", "racefill", "racedrill", "racereplay", "entries"]}
+
+
+def check_order():
+    """No command stands before the one that builds what it runs."""
+    built, early = set(), []
+    for line in (HOUSE / "README.md").read_text().splitlines():
+        if line.startswith("    $ "):
+            wanted = set(re.findall(r"target/bin/(\w+)", line))
+            wanted.update(one for tool in re.findall(r"tools/([\w-]+)", line) for one in RUNS[tool])
+            early += [line] * (not wanted <= built)
+        for words in re.findall(r"rt (?:check|staticlib) ([a-z ]+)", line):
+            built |= set(words.split())
+    check("README.md: commands that come too early", early, [])
+
+
 def check_readme(programs):
+    check_order()
     commands = list(shown())
     check("README.md shows commands", len(commands) >= 8, True)
     with tempfile.TemporaryDirectory() as scratch:

@@ -25,7 +25,7 @@ KINDS = [
         "A variable is used where it is not bound.", "program.txt line 2: var,0", "variable 0 is bound by no line above it",
         "who looks first: owner of the program"]),
     ("P,1|int,0|", "C,1,2,1,1|int,0,0|1,2|0,0,|", "REFUSE,30,2,0,1", [
-        "The job starts with more than one whole of a location.", "program.txt line 2: int,0", "taken by the first thread",
+        "The job starts with more than one whole of a location.", "program.txt line 2: int,0", "taken by thread 0",
         "at location 1: 2/1 is more than the whole", "who looks first: owner of the solver"]),
     GOOD,
     ("P,1|int,0|", "absent", "UNREAD", [

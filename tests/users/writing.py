@@ -56,7 +56,7 @@ def writers():
 
 
 def check_names(desk):
-    """No file of a sheet's name is written, in whatever folder, nor where a link leads to one; no input; nothing of somebody else."""
+    """No file of a sheet's name is written, in whatever folder, nor where a link leads to one; no input; nothing of others."""
     for tool, option, folder in writers():
         for name in SHEETS if tool == "explain" else SHEETS[-2:]:
             desk.check_refused(SHEET, tool, option, name, folder)

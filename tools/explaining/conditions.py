@@ -168,7 +168,7 @@ def _type_numbers(site, wording, split, names):
     if wanted or _lacks_cell(site, wording, split):
         part, kind = wanted or (None, "ref")
         which = _whose(site, part)
-        whose = f"the {_part_name(part)} (line {which.line})" if part else "the step's own type"
+        whose = f"the {_part_name(part)} ({names.line(which.line)})" if part else "the step's own type"
         return [f"{whose} is {described(which.type, split, names)}; wanted is {KINDS[kind].noun} (`{kind}`)"]
     (one, one_type), (other, other_type) = _compared(site, wording, split, names)
     numbers = [f"{one} is {described(one_type, split, names)}", f"{other} is {described(other_type, split, names)}"]
@@ -197,12 +197,12 @@ OF_PROCEDURE = {
     "type of body is result": ("result", "body")}
 
 
-def _bound(binder):
+def _bound(binder, names):
     """What a variable stands for, and its type: the first part of its let, or the argument of its procedure."""
     if binder.word == "proc":
-        return f"the argument of the procedure on line {binder.line}", binder.signature.argument
+        return f"the argument of the procedure on {names.line(binder.line)}", binder.signature.argument
     bound = binder.parts["e1"]
-    return f"what the let on line {binder.line} binds (line {bound.line})", bound.type
+    return f"what the let on {names.line(binder.line)} binds ({names.line(bound.line)})", bound.type
 
 
 def _compared(site, wording, split, names=Names()):
@@ -210,17 +210,17 @@ def _compared(site, wording, split, names=Names()):
     own = ("the step's own type", site.type)
     if wording in OF_PROCEDURE:
         field, part = OF_PROCEDURE[wording]
-        whose = (f"the {_part_name(part)} (line {site.parts[part].line})", site.parts[part].type) if part else own
+        whose = (f"the {_part_name(part)} ({names.line(site.parts[part].line)})", site.parts[part].type) if part else own
         return whose, (f"the {field} of {names.procedure(site.signature.number)}", getattr(site.signature, field))
     cell = acted_on(site)
     content = cell and ("the cell's content", split.types[cell.type].second)
     if wording == "a ref type whose c is the part's type":
         return ("the cell's content", split.types[site.type].second), ("the part", site.parts["part"].type)
     if wording == "type is that of its let's e1":
-        return own, _bound(site.binder)
+        return own, _bound(site.binder, names)
     if wording == "type is c":
         return own, content
     if wording == "type of e2 is c":
         return ("the second part", site.parts["e2"].type), content
     part = wording.removeprefix("type of ")  # "type of e1", "type of e2"
-    return own, (f"the {_part_name(part)} (line {site.parts[part].line})", site.parts[part].type)
+    return own, (f"the {_part_name(part)} ({names.line(site.parts[part].line)})", site.parts[part].type)

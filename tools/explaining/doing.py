@@ -43,7 +43,8 @@ def _bound(one, steps, naming):
 def about_to(machine, state, number, naming):
     """What a thread is about to do."""
     thread = state.threads[state.at(number)]
-    return f"{naming.thread(number)} {about(machine, state, thread, naming)} (line {machine.points[thread.point].line} of the job)"
+    line = naming.names.line(machine.points[thread.point].line)
+    return f"{naming.thread(number)} {about(machine, state, thread, naming)} ({line} of the job)"
 
 
 # ---- Why it cannot be done
@@ -62,7 +63,7 @@ def tried(machine, state, number, choice, naming):
 
 def _where(machine, thread, naming):
     point = machine.points[thread.point]
-    return f"{naming.thread(thread.number)} is at `{point.word}` on line {point.line} of the job"
+    return f"{naming.thread(thread.number)} is at `{point.word}` on {naming.names.line(point.line)} of the job"
 
 
 def _no_move(machine, state, number, choice, naming):

@@ -3,7 +3,7 @@ import os
 import shutil
 import tempfile
 
-from starting.command import Failure, Usage, options, say, tell
+from starting.command import Failure, options, say, take, tell
 from starting.files import NAMES, PROGRAM, SPLIT
 from starting.writing import replace
 
@@ -17,13 +17,11 @@ KEPT = "split-to-fill"
 
 def main(arguments):
     _, folders = options(arguments)
-    if not 1 <= len(folders) <= 2:
-        raise Usage
-    folder, new = folders[0], folders[1] if len(folders) == 2 else None
+    folder, new = take(folders, "FOLDER", "NEWFOLDER", least=1)
     if not os.path.isdir(folder):
         raise Failure(f"no such folder: {visible(folder)}")
     if new is not None and os.path.lexists(new):
-        raise Failure(f"it is there already, and nothing is written over: {visible(new)}")
+        raise Failure(f"{visible(new)} is there already and is left as it is: give a folder that is not there yet")
     run = run_in(find_program(FILLING), folder, FILLING)
     explanation = explain(run, folder)
     if run.answer != "FILLED" or explanation.disagrees or explanation.unseen:

@@ -89,7 +89,7 @@ def too_large(sheet, sites, names):
     for site in sites.all:
         for location, number in enumerate(site.post):
             if number > forms.WHOLE:
-                where = f"after line {site.line} there would be {grouped(number)} of {names.location(location)}"
+                where = f"after {names.line(site.line)} there would be {grouped(number)} of {names.location(location)}"
                 return f"{where}; a number in a map is at most {grouped(forms.WHOLE)}"
     length = len(filled_text(sheet, sites))
     if length > forms.SPLIT_BYTES:

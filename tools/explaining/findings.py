@@ -40,9 +40,9 @@ class Explanation:
     order: object = None  # the recorded order as far as it was done, when it was replayed
 
 
-def explain(run, folder, reduced=False):
-    """The explanation of a pair's answer in a folder; with fractions reduced where all of a location's can be."""
-    return explained(run, folder, lambda explanation, program, split: _compare(explanation, run, program, split, reduced))
+def explain(run, folder):
+    """The explanation of a pair's answer in a folder."""
+    return explained(run, folder, lambda explanation, program, split: _compare(explanation, run, program, split))
 
 
 def explained(run, folder, compare):
@@ -64,6 +64,7 @@ def explained(run, folder, compare):
             compare(explanation, *sheets.values())
         except Disagreement as why:
             explanation.disagrees = str(why)
+            explanation.meaning = f"{run.program} says so, and that is in doubt: {explanation.meaning}"
     return explanation
 
 
@@ -80,10 +81,10 @@ def refusal_meaning(number):
     return f"{found[0].upper()}{found[1:]}."
 
 
-def _compare(explanation, run, program, split, reduced):
+def _compare(explanation, run, program, split):
     """Works the answer out again, and fills the explanation if it is the same."""
     judgement, sheet = judge(program, split, run.program == FILLING), _sheet_at_fault(explanation, program, split)
-    explanation.place += place_in(sheet, run.numbers()[1]) if sheet else []
+    explanation.place += place_in(sheet, run.numbers()[1], explanation.names) if sheet else []
     nothing_wrong = "FILLED" if run.program == FILLING else "ACCEPT"
     found = "REFUSE," + ",".join(map(str, judgement.numbers())) if judgement.number else nothing_wrong
     why = f" ({judgement.why})" if judgement.why else ""
@@ -91,8 +92,8 @@ def _compare(explanation, run, program, split, reduced):
     if run.answer == "FILLED":
         require(run.written == filled_text(split, judgement.sites), "the sheet that was written is not the one found here")
         split = sheet_of(SPLIT, run.written)
-    _take_sites(explanation, judgement, program, split, reduced)
-    _tell_refusal(explanation, run, judgement, program, split)
+    _take_sites(explanation, judgement, program, split)
+    _tell_refusal(explanation, judgement, program, split)
 
 
 def _sheet_at_fault(explanation, program, split):
@@ -101,23 +102,23 @@ def _sheet_at_fault(explanation, program, split):
     return {PROGRAM: program, SPLIT: split}.get(refusal.sheet) if refusal else None
 
 
-def place_in(sheet, line):
-    """A line of a sheet with its text."""
-    text = sheet.line(line)
-    return [f"{sheet.name} line {line}" + ("" if text is None else f": {shown(text)}")]
+def place_in(sheet, line, names):
+    """A line of a sheet with its text, and of the program with where it comes from."""
+    text, source = sheet.line(line), names.source(line) if sheet.name == PROGRAM else ""
+    return [f"{sheet.name} line {line}{source}" + ("" if text is None else f": {shown(text)}")]
 
 
-def _take_sites(explanation, judgement, program, split, reduced):
-    """The steps, with what each leaves; a sheet for filling has that only where it was followed."""
+def _take_sites(explanation, judgement, program, split):
+    """The steps, with what each leaves; a sheet for filling has that only where it was followed. Fractions are shown reduced."""
+    if judgement.sites:
+        judgement.sites.split = judgement.sites.split.reduced()
     if explanation.answer == "FILLED":
-        explanation.sites = Sites(steps_of(program), split_of(split, counts_of(program).procedures))
+        explanation.sites = Sites(steps_of(program), split_of(split, counts_of(program).procedures).reduced())
     elif judgement.sites and judgement.sites.root.post is not None:
         explanation.sites = judgement.sites
-    if reduced and explanation.sites:
-        explanation.sites.split = explanation.sites.split.reduced()
 
 
-def _tell_refusal(explanation, run, judgement, program, split):
+def _tell_refusal(explanation, judgement, program, split):
     number, line, condition, location = judgement.numbers()
     if number in (31, 32, 33):
         _tell_condition(explanation, judgement.sites, line, condition, location)
@@ -125,7 +126,7 @@ def _tell_refusal(explanation, run, judgement, program, split):
         _tell_start(explanation, judgement.sites, location)
     elif number == 41:
         lack = judgement.sites.lack
-        explanation.place += place_in(program, lack.site.line)
+        explanation.place += place_in(program, lack.site.line, explanation.names)
         _tell_condition(explanation, judgement.sites, lack.site.line, lack.condition, lack.location)
         explanation.numbers.insert(0, lack_in_words(lack, judgement.sites.split, explanation.names))
     elif number == 42:
@@ -138,6 +139,10 @@ def _tell_refusal(explanation, run, judgement, program, split):
 def _tell_causes(explanation, line, program, split):
     sheet = _sheet_at_fault(explanation, program, split)
     explanation.causes += causes.line_causes(sheet, line) if sheet else []
+    filled = causes.filled_causes(split, line) if explanation.program == FILLING and sheet is split else []
+    if filled:
+        explanation.causes, explanation.helps = filled, []
+        return
     if explanation.number in (21, 22, 23, 40, 50) and line > 1:
         explanation.causes += causes.version_causes(program, split, lines_wanted(steps_of(program), split))
 

@@ -108,7 +108,7 @@ def _tell_fault(explanation, program, fault):
     """A program sheet that is refused, before any line of the order."""
     found = f"REFUSE,{fault.number},{fault.line},0,0,0"
     require(explanation.answer == found, f"by the numbers here the answer is {found} ({fault.why})")
-    explanation.place += place_in(program, fault.line)
+    explanation.place += place_in(program, fault.line, explanation.names)
     explanation.causes += causes.line_causes(program, fault.line)
     explanation.numbers.append(fault.why)
 

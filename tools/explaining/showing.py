@@ -2,6 +2,7 @@
 import os
 
 LONGEST = 72
+FEW = 3  # locations whose fractions fit on one line
 
 
 def visible(name):

@@ -1,6 +1,8 @@
 """An explanation as text for a person at the desk."""
+from starting.command import called
+
 from .refusals import REFUSALS
-from .showing import fractions, grouped
+from .showing import FEW, grouped
 from .words import WORDS
 
 # What document 01's names of maps are called beside "before" and "after".
@@ -22,8 +24,8 @@ PLAIN = {
     "post of e1": "e1 leaves",
     "post of e2": "e2 leaves",
 }
-# A refusal does not say which of the two is wrong.
-SHOW_RACE = "Whether the job or its split is at fault: tools/show-race looks for an order in which the job races, and shows it."
+# A refusal does not say whether the job or its split is at fault. Of a start that is too great nobody has to ask.
+ASKED = (31, 32, 33, 41)
 
 
 def told(explanation):
@@ -43,8 +45,9 @@ def told(explanation):
     lines += _titled("What usually helps", explanation.helps)
     if explanation.number in REFUSALS:
         lines += ["", f"Who looks first: {REFUSALS[explanation.number].owner}"]
-    if explanation.site:
-        lines += ["", SHOW_RACE]
+    if explanation.number in ASKED and explanation.site:
+        lines += ["", f"Whose fault it is, the job's or the split's: {called('triage')} tells; {called('show-race')} shows an order"
+                  " in which the job races, if it finds one."]
     return lines
 
 
@@ -71,10 +74,12 @@ def maps_of(explanation):
     if explanation.number != 41 or explanation.condition.mark == "A":  # else there is no map to leave
         named.append(("after", explanation.site.post))
     named += [(PLAIN.get(name, name), numbers) for name, numbers in explanation.maps if name not in ("pre", "post")]
-    rows = [(name, fractions(numbers, split)) for name, numbers in named]
+    # Of many locations the one at fault is enough.
+    told = range(split.locations) if split.locations <= FEW else [explanation.location]
+    rows = [(name, ", ".join(split.fraction(numbers[p], p) for p in told)) for name, numbers in named]
     if split.locations > 1:
-        rows.insert(0, ("of", ", ".join(map(explanation.names.place, range(split.locations)))))
-    wholes = dict.fromkeys(split.fraction(split.denominator, location) for location in range(split.locations))
+        rows.insert(0, ("of", ", ".join(map(explanation.names.place, told))))
+    wholes = dict.fromkeys(split.fraction(split.denominator, location) for location in told)
     return rows + [("D", f"{grouped(split.denominator)}, so {' or '.join(wholes)} is the whole")]
 
 

@@ -1,13 +1,14 @@
 """tools/explain: in words the answer to a pair, that to a recorded order, or a number."""
 import os
 
-from starting.command import Failure, Usage, options, say, tell
+from starting.command import Failure, Usage, options, say, take, tell
 from starting.files import PROGRAM, SPLIT, files_of
 from starting.writing import Output, approve, write
 
-from . import replays, telling, walk
+from . import replays, telling, touching, walk
 from .alone import told_alone
 from .drawing import page
+from .drawing.foot import foot
 from .filling import is_for_filling
 from .findings import explain
 from .running import CHECKING, FILLING, REPLAYING, find_program, run_in
@@ -16,27 +17,32 @@ from .showing import visible
 
 
 def main(arguments):
-    given, others = options(arguments, flags=["--replay", "--walk"], valued=["--page"])
-    if len(others) != 1 or {"--replay", "--page"} <= set(given):
-        raise Usage
-    folder, walks = others[0], "--walk" in given
+    given, others = options(arguments, flags=["--replay", "--touches", "--walk"], valued=["--page"])
+    for option in ("--page", "--touches"):
+        if {"--replay", option} <= set(given):
+            raise Usage(f"that is of a pair, not of a recorded order: --replay and {option} do not go together")
+    folder, walks = take(others, "FOLDER", least=0)[0] or os.curdir, "--walk" in given
     if not os.path.isdir(folder):
         return _tell_alone(folder, given)
     pages = [Output("page", given["--page"], page.BEGINS)] if "--page" in given else []
     approve(pages, files_of(folder))
     is_filling = is_for_filling(read_sheet(folder, PROGRAM), read_sheet(folder, SPLIT))
     program = REPLAYING if "--replay" in given else FILLING if is_filling else CHECKING
-    run = run_in(find_program(program), folder, program)
+    binary = find_program(program)
+    run = run_in(binary, folder, program)
     explanation = replays.explain(run, folder, walks) if program == REPLAYING else explain(run, folder)
     lines, walked = telling.told(explanation), replays.told if program == REPLAYING else walk.told
-    tell([f"{visible(folder)}: {lines[0]}", *lines[1:], *([""] + walked(explanation) if walks else [])])
+    lines += [""] + touching.told(explanation) if "--touches" in given else []
+    first = f"DISAGREEMENT, {program} says {lines[0]}" if explanation.disagrees else lines[0]
+    tell([f"{visible(folder)}: {first}", *lines[1:], *([""] + walked(explanation) if walks else [])])
     for words in explanation.names.passed_over:
         say(f"explain: {words}")
     if explanation.disagrees:
         say(f"explain: DISAGREEMENT with {program}, see above")
     for output in pages:
         title = visible(os.path.basename(os.path.abspath(folder)))
-        write(output, page.text(title, explain(run, folder, reduced=True)).encode("utf-8", "replace"))
+        made = foot(page.TOOL, binary, (run.sheets or {}).values())
+        write(output, page.text(title, explanation, made, walks).encode("utf-8", "replace"))
     return _status_of(explanation)
 
 

@@ -1,10 +1,16 @@
 """The whole pair as a walk: each step with its row, its thread, what is there before and after, and what it comes to."""
+from textwrap import wrap
 from typing import NamedTuple
 
-from .conditions import access_at, equation, find, holds_at, sides
-from .showing import fractions, listed
+from .conditions import access_at, cell_location, equation, find, holds_at, sides
+from .showing import FEW, fractions, listed
 from .sites import acted_on, map_named
 from .words import CALLED, KINDS, MAPS, WORDS
+
+
+WIDEST = {"what changes": 34, "in words": 72}  # letters of a column on the terminal
+DEEPEST = 12  # steps to the right on the terminal
+AROUND = {"let", "if", "while", "proc"}
 
 
 class Stride(NamedTuple):
@@ -12,8 +18,7 @@ class Stride(NamedTuple):
 
     site: object
     row: str
-    before: str
-    after: str
+    maps: list  # before and after, or what changes
     words: str
     sums: str  # the conditions that move or ask for rights, with their fractions
     refused: bool
@@ -30,13 +35,45 @@ def _stride(site, explanation):
     return Stride(
         site,
         site.row.text,
-        fractions(site.pre, split),
-        fractions(site.post, split),
+        [fractions(site.pre, split), fractions(site.post, split)] if split.locations <= FEW
+        else [changes(site, split, explanation.names)],
         in_words(site, explanation.sites, explanation.names),
         sums(site, split, explanation.names),
         site is explanation.site,
         site.line > 2 and (site.word == "proc" or site is explanation.sites.root),
     )
+
+
+def map_heads(explanation):
+    """What stands above the maps of a stride."""
+    return ["before", "after"] if explanation.sites.split.locations <= FEW else ["what changes"]
+
+
+def preface(explanation):
+    """What is to be known before the walk: which location each fraction is of, and what the job starts with."""
+    split, names = explanation.sites.split, explanation.names
+    if split.locations <= FEW:
+        return f"Before and after are what the thread has of {listed(map(names.place, range(split.locations)))}, in turn."
+    has_all = set(split.root_start()) == {split.denominator}
+    starts = "the whole of every location" if has_all else amounts(split.root_start(), split, names)
+    return f"The job starts with {starts}. What changes is told of the thread; a read or write has its cell's location beside it."
+
+
+def changes(site, split, names):
+    """The locations of which a step leaves more or less than there was, and the one that it touches; of a step that has others
+    in it nothing: they tell it."""
+    if site.word in AROUND:
+        return ""
+    touched = [cell_location(site, split)] if touches(site, split) else []
+    moved = [p for p in range(split.locations) if site.pre[p] != site.post[p] or p in touched]
+    told = {p: dict.fromkeys(split.fraction(numbers[p], p) for numbers in (site.pre, site.post)) for p in moved}
+    return ", ".join(f"{names.place(p)} {' → '.join(amounts)}" for p, amounts in told.items())
+
+
+def touches(site, split):
+    """Whether a step reads or writes a cell, which its part has to be."""
+    is_access = any(condition.mark == "A" for condition in WORDS[site.word].conditions)
+    return is_access and split.types[acted_on(site).type].kind == "ref"
 
 
 # ---- In words
@@ -156,23 +193,32 @@ def past_the_lack(explanation):
     """What is to be known about the walk of a sheet for filling that fails."""
     if explanation.number != 41:
         return ""
-    return f"From line {explanation.site.line} on, what is there is told as if that step took no more than there is."
+    line = explanation.names.line(explanation.site.line)
+    return f"From {line} on, what is there is told as if that step took no more than there is."
 
 
 def text(explanation):
     """The walk as lines of text, the refused step marked, and an empty line behind the body of each procedure."""
-    table = [("line", "thread", "step", "row", "before", "after", "in words")]
+    heads, names = ["line", "thread", "step", "row", *map_heads(explanation), "in words"], explanation.names
+    table = [[[head] for head in heads]]
     for stride in strides(explanation):
-        table += [("",) * len(table[0])] * stride.apart
+        table += [[[""]] * len(heads)] * stride.apart
         site = stride.site
-        words = f"{stride.words}: {stride.sums}" if stride.sums else stride.words
-        mark = ">" if stride.refused else " "
-        table.append((
-            f"{mark}{site.line}", explanation.names.thread_mark(site.thread), "  " * site.depth + f"{site.word},{site.number}",
-            stride.row, stride.before, stride.after, words))
-    widths = [max(len(row[column]) for row in table) for column in range(len(table[0]) - 1)]
-    lines = []
-    for row in table:
-        first = row[0].rjust(widths[0])
-        lines.append("  ".join([first, *(cell.ljust(width) for cell, width in zip(row[1:], widths[1:])), row[-1]]).rstrip())
-    return lines
+        cells = [
+            f"{'>' if stride.refused else ' '}{site.line}", names.thread(site.thread),
+            "  " * min(site.depth, DEEPEST) + f"{site.word},{site.number}", stride.row, *stride.maps,
+            f"{stride.words}{names.source(site.line)}" + (f": {stride.sums}" if stride.sums else "")]
+        table.append([_folded(cell, WIDEST.get(head)) for head, cell in zip(heads, cells)])
+    widths = [max(len(line) for row in table for line in row[column]) for column in range(len(heads))]
+    return [*wrap(preface(explanation), 100), "", *(line for row in table for line in _laid(row, widths))]
+
+
+def _folded(words, widest):
+    return (widest and wrap(words, widest)) or [words]
+
+
+def _laid(row, widths):
+    """A row of the table on as many lines as its longest cell takes."""
+    for number in range(max(map(len, row))):
+        cells = [cell[number] if number < len(cell) else "" for cell in row]
+        yield "  ".join([cells[0].rjust(widths[0]), *map(str.ljust, cells[1:], widths[1:])]).rstrip()

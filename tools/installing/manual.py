@@ -1,11 +1,17 @@
-"""The man pages, made of docs/COMMANDS.md: a section `## name: what it does` is a page. A new program is one more section."""
+"""The man pages, made of docs/COMMANDS.md: a section `## name: what it does` is a page. A new program is one more section.
+
+Behind the mark TOOLS that page has what the tools say of themselves: `python3 -m installing.manual`, in tools, writes it anew.
+"""
 import re
 from pathlib import Path
 
 from explaining.refusals import OF_CHECKING, OF_FILLING, OF_REPLAYING, REFUSALS
 
+from .helping import section_of, tools
+
 SOURCE = Path(__file__).resolve().parents[2] / "docs" / "COMMANDS.md"
-SECTION = re.compile(r"^## (\w+): (.*?)\n(.*?)(?=^## |\Z)", re.M | re.S)
+SECTION = re.compile(r"^## ([\w-]+): (.*?)\n(.*?)(?=^##? |\Z)", re.M | re.S)
+MARK = "<!-- the tools, as they say themselves -->"
 # Which answers a line `<!-- answers: kind -->` stands for.
 ANSWERS = {"checking": OF_CHECKING, "filling": OF_FILLING, "replaying": OF_REPLAYING}
 
@@ -17,11 +23,17 @@ def manual_pages():
     return {name: _page(name, what, text, [one for one in names if one != name]) for name, what, text in sections}
 
 
+def commands_page(text):
+    """docs/COMMANDS.md with the sections of the tools as the tools have them."""
+    return "\n".join([text.partition(MARK)[0] + MARK, *(f"\n{section_of(tool)}".rstrip("\n") for tool in tools()), ""])
+
+
 def _page(name, what, text, others):
     synopsis, *blocks = [block for block in re.split(r"\n{2,}", text.strip("\n")) if block.strip()]
     lines = [
         f'.TH {name} 1 "" "racecheck" "racecheck"', ".SH NAME", f"{name} \\- {_escaped(what)}",
-        ".SH SYNOPSIS", f".B {_escaped(synopsis.strip())}", ".SH DESCRIPTION"]
+        ".SH SYNOPSIS", *(line for one in synopsis.split("\n") for line in (f".B {_escaped(one.strip())}", ".br")),
+        ".SH DESCRIPTION"]
     for block in blocks:
         lines += _block(block)
     return "\n".join([*lines, ".SH SEE ALSO", ", ".join(f"\\fB{one}\\fR(1)" for one in others), ""])
@@ -54,3 +66,7 @@ def _escaped(words):
 def _guarded(words):
     """A line that does not begin as a request."""
     return "\\&" + words if words.startswith((".", "'")) else words
+
+
+if __name__ == "__main__":
+    SOURCE.write_text(commands_page(SOURCE.read_text(encoding="utf-8")), encoding="utf-8")

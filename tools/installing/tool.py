@@ -3,27 +3,29 @@ import os
 import shutil
 from pathlib import Path
 
-from starting.command import Failure, Usage, options, tell
+from starting.command import Failure, options, take, tell
 from starting.writing import replace
 
 from explaining.showing import visible
 
+from .completing import completion
 from .manual import manual_pages
 
 HOUSE = Path(__file__).resolve().parents[2]
+PROGRAMS = ("racecheck", "racefill", "racedrill", "racereplay")
 TOOLS = ("check-release", "explain", "fill", "show-race", "triage", "try-orders")
 LIBRARY = HOUSE / "target" / "staticlib" / "libentries.a"
 HEADER = HOUSE / "include" / "racecheck.h"
+# Where bash looks for what completes a command, below the prefix.
+COMPLETIONS = Path("share") / "bash-completion" / "completions"
 # Where everything lives that bin and share lead to, below the prefix.
 HOME = Path("lib") / "racecheck"
 
 
 def main(arguments):
     _, others = options(arguments)
-    if len(others) != 1:
-        raise Usage
-    prefix, pages = Path(os.path.abspath(others[0])), manual_pages()
-    programs = {name: HOUSE / "target" / "bin" / name for name in pages}
+    prefix, pages = Path(os.path.abspath(*take(others, "PREFIX"))), manual_pages()
+    programs = {name: HOUSE / "target" / "bin" / name for name in PROGRAMS}
     _find_all(programs)
     links = {Path("bin") / name: HOME / "bin" / name for name in programs}
     links.update({Path("bin") / name: HOME / "tools" / name for name in TOOLS})
@@ -36,6 +38,8 @@ def main(arguments):
     _put_file(prefix / "include" / "racecheck.h", HEADER.read_bytes())
     for name, page in pages.items():
         _put_file(prefix / "share" / "man" / "man1" / f"{name}.1", page.encode())
+    for name in (*TOOLS, "install"):
+        _put_file(prefix / COMPLETIONS / name, completion().encode())
     tell([f"installed below {visible(str(prefix))}; the commands are in {visible(str(prefix / 'bin'))}"])
     return 0
 

@@ -21,7 +21,7 @@ class Ending:
 
     def each(self):
         """Each thread with what it is about to do, and where."""
-        return [f"{self.naming.thread(number)} {words} (line {line})"
+        return [f"{self.naming.thread(number)} {words} ({self.naming.names.line(line)})"
                 for number, words, line in zip(self.numbers, self.words, self.lines)]
 
 
@@ -46,7 +46,7 @@ class Race(Ending):
     def facts(self):
         made = self.naming.made_line[self.cell]
         so = self._outcomes()
-        return [("the cell", f"{self.name}, made on line {made}; it holds {self.holds} at that moment"),
+        return [("the cell", f"{self.name}, made on {self.naming.names.line(made)}; it holds {self.holds} at that moment"),
                 ("the order", f"{self.size}; {self._fewest}"), *([("so", so)] if so else [])]
 
     def _outcomes(self):

@@ -25,13 +25,14 @@ def told(shown, ending):
 
 def _order(shown):
     """The steps of an order, a paragraph for each stretch of one thread."""
-    lines, last = [], None
+    lines, last, names = [], None, shown.naming.names
+    width = max([8, *(len(names.line(one.point.line)) for one in shown.steps)])
     for number, one in enumerate(shown.steps, 1):
         if one.thread != last:
             lines.append(f"{capital(shown.naming.thread(one.thread))}:")
             last = one.thread
         if not is_silent(one, shown.naming):
-            lines.append(f"{number:>6}  line {one.point.line:<3}  {step_words(one, shown.naming)}")
+            lines.append(f"{number:>6}  {names.line(one.point.line):<{width}}  {step_words(one, shown.naming)}")
     return lines
 
 
@@ -44,7 +45,7 @@ def searched(found):
     if found.whole():
         stuck = "" if found.odd is not None else " or to a thread stuck at a word of the wrong kind"
         return [f"No order of moves leads to a race{stuck}: all of them were searched, loops of any number of rounds"
-                f" included ({took}). The search is not proved; an accepted pair would be proof."]
+                f" included ({took}). The search is not proved; only an accepted pair is proof."]
     past = f"some go past {PLENTY.threads} threads, {PLENTY.things} things of a kind or {PLENTY.calls} open calls of one thread"
     bound = "the search came to its limits" if found.limited else past
     lines = [f"No race was found, and that proves nothing: not all orders were searched, since {bound} ({took})."]

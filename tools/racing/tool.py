@@ -4,11 +4,13 @@ import sys
 import time
 from typing import Callable, NamedTuple
 
-from starting.command import Failure, Usage, options, say, tell
+from starting.command import Failure, Usage, options, say, take, tell
 from starting.files import PROGRAM, SHEETS, files_of
 from starting.writing import Output, approve, write
 
+from explaining.drawing.foot import foot
 from explaining.names import read_names
+from explaining.running import REPLAYING, find_program
 from explaining.sheets import read_sheet, steps_of
 from explaining.showing import visible
 from stepping.machine import ROOM, Machine
@@ -32,9 +34,7 @@ PROGRESS = 60  # letters, more than a line that tells how far a search is
 
 def main(arguments):
     given, folders = options(arguments, valued=[*NUMBERS, *FILES])
-    if len(folders) != 1:
-        raise Usage
-    folder, limits = folders[0], limits_of(given)
+    folder, limits = take(folders, "FOLDER", least=0)[0] or os.curdir, limits_of(given)
     if not os.path.isdir(folder):
         raise Failure(f"no such folder: {visible(folder)}")
     job = Job(folder, given, limits)
@@ -54,8 +54,8 @@ def main(arguments):
 def limits_of(given):
     try:
         return Limits(**{option.strip("-"): number(given[option]) for option, number in NUMBERS.items() if option in given})
-    except ValueError:
-        raise Usage
+    except ValueError as error:
+        raise Usage(f"--states and --seconds want a number: {error}") from error
 
 
 def watched(machine, limits):
@@ -127,7 +127,8 @@ class Job:
             return Told(3, [*telling.alarm(objection), written])
         ending, borne_out = kind.ending(shown), kind.borne_out.format(lines[0][1])
         title = visible(os.path.basename(os.path.abspath(self.folder)))
-        drawn = page.text(title, shown, ending, borne_out) if "--page" in self.given else ""
+        made = foot(page.TOOL, find_program(REPLAYING), [self.program])
+        drawn = page.text(title, shown, ending, borne_out, made) if "--page" in self.given else ""
         return Told(kind.status, [*telling.told(shown, ending), "", borne_out, written], drawn)
 
     def write_trace(self, order):

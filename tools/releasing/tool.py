@@ -5,7 +5,7 @@ import sys
 import time
 from contextlib import closing
 
-from starting.command import Failure, Usage, options, say, tell
+from starting.command import Failure, options, say, take, tell
 from starting.version import version
 from starting.writing import Output, approve, is_device, write
 
@@ -27,11 +27,9 @@ BESIDE = {
 
 def main(arguments):
     given, others = options(arguments, flags=["--recheck", "--no-recheck"], valued=[*BESIDE, "--manifest"])
-    if not 1 <= len(others) <= 2:
-        raise Usage
+    release, asked = take(others, "FOLDER", "REPORT", least=1)
     when_told_to_end(_stopped)
-    release = others[0]
-    path = Output("report", others[1] if len(others) == 2 else USUAL, b"record\t")
+    path = Output("report", asked or USUAL, b"record\t")
     beside = {option: Output(BESIDE[option][0], given[option], BESIDE[option][1]) for option in BESIDE if option in given}
     approve([path, *beside.values()], [given["--manifest"]] if "--manifest" in given else [])
     for output in (path, *beside.values()):

@@ -3,7 +3,7 @@ import os
 import sys
 import traceback
 
-from .version import version
+from .version import TOOLS, version
 
 
 class Failure(Exception):
@@ -11,7 +11,7 @@ class Failure(Exception):
 
 
 class Usage(Exception):
-    """Arguments that a tool does not take."""
+    """Arguments that a tool does not take: what is wrong with them."""
 
 
 def run(words, main):
@@ -20,8 +20,8 @@ def run(words, main):
     sys.stderr = sys.stderr or open(os.devnull, "w")
     try:
         status = _status(name, words, main, sys.argv[1:])
-    except Usage:
-        say(words)
+    except Usage as error:
+        say(f"{name}: {str(error) or 'these arguments are not taken'}\n{usage_in(words)}\n{name} --help says more.")
         status = 2
     except (Failure, OSError) as error:
         say(f"{name}: {error}")
@@ -46,6 +46,16 @@ def _status(name, words, main, arguments):
     return main(arguments)
 
 
+def called(tool):
+    """How another tool is started: by its name where it is installed, else by its place in the repository."""
+    return tool if (TOOLS.parent / "bin").is_dir() else f"{TOOLS.name}/{tool}"
+
+
+def usage_in(words):
+    """The paragraph of a tool's words that says how it is started."""
+    return next(paragraph for paragraph in words.split("\n\n") if paragraph.startswith("usage: "))
+
+
 def fault(error):
     """An error of the tools themselves: what it is and where."""
     place = traceback.extract_tb(error.__traceback__)[-1:]
@@ -60,6 +70,8 @@ def tell(lines):
     try:
         sys.stdout.reconfigure(encoding="utf-8", errors="backslashreplace")
         print("\n".join(lines), flush=True)
+    except BrokenPipeError:  # whoever reads has seen enough, as head has; what else is to be done is done
+        pass
     except OSError as error:
         raise Failure(f"cannot write to standard output: {error.strerror}") from error
 
@@ -81,11 +93,22 @@ def options(arguments, flags=(), valued=()):
             given[argument] = True
         elif argument in valued and rest:
             given[argument] = file_name(rest.pop(0))
+        elif argument in valued:
+            raise Usage(f"{argument} wants a value behind it")
         elif argument.startswith("-") and argument != "-":
-            raise Usage
+            raise Usage(f"there is no option {argument}")
         else:
             others.append(file_name(argument))
     return given, others
+
+
+def take(others, *names, least=None):
+    """The arguments beside the options, which go by these names; None for those behind the least so many that are not given."""
+    if len(others) > len(names):
+        raise Usage(f"one argument too many: {others[len(names)]}")
+    if len(others) < (len(names) if least is None else least):
+        raise Usage(f"{names[len(others)]} is missing")
+    return [*others, *[None] * (len(names) - len(others))]
 
 
 def file_name(name):

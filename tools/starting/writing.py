@@ -85,7 +85,8 @@ def _require_place(output):
     full = os.path.realpath(path)
     for name in (os.path.basename(path), os.path.basename(full)):
         if name in SHEETS:
-            raise Failure(f"the {what} would be a file {name}, and a sheet of that name is never written over: give it another name")
+            never = "a sheet of that name is never written over"
+            raise Failure(f"the {what} would be called {name}, and {never}: give it another name")
     if os.path.isdir(full):
         raise Failure(f"the {what}'s name is that of a folder: {path}")
     if not os.path.isdir(os.path.dirname(full)):
@@ -96,7 +97,7 @@ def _require_place(output):
 
 def _require_replaceable(output):
     """Nothing is there, or nothing is in it, or it is an older one of the same kind."""
-    if not os.path.lexists(output.path) or is_device(output.path) or os.path.islink(output.path) and not os.path.exists(output.path):
+    if not os.path.exists(output.path) or is_device(output.path):
         return
     if _beginning(output) not in (b"", output.begins):
         kind = f"is no {output.what} of this tool" if output.begins else "may be somebody's own"

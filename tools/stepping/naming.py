@@ -32,7 +32,7 @@ class Naming:
     def thread(self, number):
         given, line = self.given(number), self.thread_line[number]
         if not given:
-            return "the first thread" if number == 0 else f"thread {number}"
+            return f"thread {number}"
         like = [other for other in self.thread_line if self.thread_line[other] == line]
         return given if like.index(number) == 0 else f"{given} ({ordinal(like.index(number))})"
 
@@ -57,7 +57,7 @@ class Naming:
     def _called(self, line, value):
         if self.is_bound(line):
             return self.names.variable(self.bound[line])
-        return f"the {NOUNS[kind(value)].split(' ', 1)[1]} of line {line}"
+        return f"the {NOUNS[kind(value)].split(' ', 1)[1]} of {self.names.line(line)}"
 
     def is_bound(self, line):
         """Whether a let binds what is made on a line."""

@@ -4,7 +4,7 @@ import os
 import tempfile
 from typing import NamedTuple
 
-from starting.command import Failure, Usage, options, say, tell
+from starting.command import Failure, options, say, take, tell
 from starting.files import PROGRAM, SHEETS, SPLIT, files_of
 from starting.writing import Output, approve, replace, write
 
@@ -36,9 +36,7 @@ class Verdict(NamedTuple):
 
 def main(arguments):
     given, folders = options(arguments, valued=["--states", "--seconds", "--trace", "--mended"])
-    if len(folders) != 1:
-        raise Usage
-    folder, limits = folders[0], limits_of(given)
+    folder, limits = take(folders, "FOLDER", least=0)[0] or os.curdir, limits_of(given)
     if not os.path.isdir(folder):
         raise Failure(f"no such folder: {visible(folder)}")
     approve([Output(what, given[option]) for option, what in FILES.items() if option in given], files_of(folder, SHEETS))

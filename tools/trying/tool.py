@@ -2,7 +2,7 @@
 import os
 from typing import NamedTuple
 
-from starting.command import Failure, Usage, options, say, tell
+from starting.command import Failure, options, say, take, tell
 from starting.files import PROGRAM, SPLIT, TRACE, files_of
 from starting.writing import Output, approve, write
 
@@ -43,9 +43,7 @@ class Job(NamedTuple):
 
 def main(arguments):
     given, folders = options(arguments, valued=["--page", "--trace"])
-    if len(folders) != 1:
-        raise Usage
-    folder = folders[0]
+    folder = take(folders, "FOLDER", least=0)[0] or os.curdir
     if not os.path.isdir(folder):
         raise Failure(f"no such folder: {visible(folder)}")
     output = Output("page", given.get("--page") or os.path.join(folder, PAGE), page.BEGINS)

@@ -236,7 +236,7 @@ class Telling:
 
     def made_at(self, site):
         """The line where the thing that a part stands for was made, as far as the sheets show it."""
-        made = _origin(site)
+        made = origin(site)
         if made.word in MAKERS:
             return made.line
         alike = [one.line for one in self.all if one.word in MAKERS and self.split.agree(one.type, site.type)]
@@ -248,15 +248,15 @@ def same_step(site, other):
     return other is not None and site.line == other.line
 
 
-def _origin(site):
+def origin(site):
     """The step whose value a part has, followed through variables, first parts of choices and cells to what they were made with."""
     if site.word == "var" and site.binder.word == "let":
-        return _origin(site.binder.parts["e1"])
+        return origin(site.binder.parts["e1"])
     if site.word == "let":
-        return _origin(site.parts["e2"])
+        return origin(site.parts["e2"])
     if site.word == "if":
-        return _origin(site.parts["e1"])
+        return origin(site.parts["e1"])
     if site.word == "read":
-        cell = _origin(site.parts["part"])
-        return _origin(cell.parts["part"]) if cell.word == "ref" else site
+        cell = origin(site.parts["part"])
+        return origin(cell.parts["part"]) if cell.word == "ref" else site
     return site

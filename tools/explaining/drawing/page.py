@@ -1,4 +1,5 @@
-"""One page that needs nothing else: the answer in words, the picture with its legend, and the walk."""
+"""One page that needs nothing else: the answer in words, who touches what, and the picture with its legend, on one sheet of A4
+if they fit; and the walk, if it is asked for, on sheets of its own."""
 from html import escape
 from pathlib import Path
 
@@ -6,42 +7,60 @@ from starting.pages import begins, opening
 
 from ..refusals import REFUSALS
 from ..telling import alarm, condition_line, maps_of
-from ..walk import past_the_lack, strides
-from .holders import Holder
+from ..touching import parted
+from ..walk import map_heads, past_the_lack, preface, strides
 from .fills import KEEPERS, colour_of, fill_of, patterns
+from .foot import made
+from .holders import Holder
+from .narrow import Narrow
 from .picture import Picture
+from .touches import table
 
 TOOL = "explain"
+# In millimetres of A4: its width, what a header, a legend and a foot leave of its height, what the words of a refusal and each
+# touch take of that; and how small the picture may become.
+ACROSS, SHEET, WORDS, TOUCH, SMALLEST = 188, 205, 48, 2, 0.7
 BEGINS = begins(TOOL)
-FEW = 3  # locations whose fractions fit on one line of the walk
 BADGES = {
     "ACCEPT": ("accepted", "ACCEPTED"), "FILLED": ("accepted", "FILLED"), "UNREAD": ("none", "NOT READ"),
     "FAILED": ("none", "NO ANSWER")}
 ORDER = "This is one order of many. It is told so that each thread goes as far as it can before another is told on."
-APART = "The rows of its caller, at the end, are the body of the refused procedure by itself, from what it starts with."
+APART = "The rows of the caller, at the end, are the body of the refused procedure by itself, from what it starts with."
 
 STYLE = Path(__file__).with_name("style.css").read_text(encoding="utf-8")
 
 
-def text(title, explanation):
+def text(title, explanation, words_of_foot="", walks=False):
     """The page of one pair."""
+    picture = Picture(explanation) if explanation.sites else None
+    is_sheet = picture is None or _fits(picture, explanation)
     pieces = [
-        *opening(TOOL), f"<title>{escape(title)}: {escape(explanation.answer)}</title>", f"<style>{STYLE}</style>", "</head>", "<body>",
-        *_header(title, explanation), *_told(explanation),
+        *opening(TOOL), f"<title>{escape(title)}: {escape(explanation.answer)}</title>", f"<style>{STYLE}</style>", "</head>",
+        "<body>",
+        f'<main class="{"sheet" if is_sheet else "sheets"}">', *_header(title, explanation), *_told(explanation),
     ]
-    if explanation.sites:
-        pieces += [*_picture(explanation), *_walk(explanation)]
+    if picture:
+        pieces += [*table(explanation), *_picture(picture, is_sheet)]
     pieces += [
-        f"<footer>The answer is {explanation.program}'s. The numbers beside it are worked out again from the two sheets by"
-        " tools/explain, which judges nothing.</footer>", "</body>", "</html>", ""]
+        f"<footer><p>The answer is {explanation.program}'s. The numbers beside it are worked out again from the two sheets by"
+        " explain, which judges nothing.</p>", *made(words_of_foot), "</footer>", "</main>",
+        *(_walk(explanation) if walks and picture else []), "</body>", "</html>", ""]
     return "\n".join(pieces)
+
+
+def _fits(picture, explanation):
+    """Whether all but the walk can be read on one sheet: what is left below the words is enough for the picture, made a little
+    smaller if need be."""
+    touches = sum(len(cell.touches) for cell in parted(explanation.sites)[0])
+    left = SHEET - WORDS * bool(explanation.number) - TOUCH * touches
+    return len(picture.blocks) == 1 and SMALLEST * picture.height() * ACROSS / picture.width <= left
 
 
 # ---- The answer in words
 
 
 def _header(title, explanation):
-    kind, badge = BADGES.get(explanation.answer, ("refused", "REFUSED"))
+    kind, badge = ("refused", "DISAGREEMENT") if explanation.disagrees else BADGES.get(explanation.answer, ("refused", "REFUSED"))
     return [
         "<header>", f"<div><h1>{escape(title)}</h1>", f'<p class="meaning">{escape(explanation.meaning)}</p></div>',
         f'<div><div class="badge {kind}">{badge}</div><div class="answer">{escape(explanation.answer)}</div></div>', "</header>",
@@ -80,17 +99,23 @@ def marked(words):
 # ---- The picture
 
 
-def _picture(explanation):
-    picture = Picture(explanation)
+def _picture(picture, is_sheet):
+    explanation = picture.explanation
     folded = ", ".join(picture.folded_in_words())
     return [
         f'<svg class="patterns" aria-hidden="true">{patterns(picture.holders + _threads(picture))}</svg>',
         "<h2>Who holds how much</h2>", f'<p class="order">{ORDER}</p>', *_legend(picture),
         *([f'<p class="order">Not drawn, since nothing moves or touches it: {escape(folded)}.</p>'] if folded else []),
         *([f'<p class="order">{APART}</p>'] if picture.apart else []),
-        *(piece for block in picture.blocks for piece in _columns(picture, block)),
+        *(_whole(picture) if is_sheet else [piece for block in picture.blocks for piece in _columns(picture, block)]),
         *(f'<p class="order">{escape(line)}</p>' for line in [past_the_lack(explanation)] if line),
     ]
+
+
+def _whole(picture):
+    """The picture in one piece, for a desk and for a telephone."""
+    kinds = {"for-desk": picture, "for-phone": Narrow(picture.explanation)}
+    return [f'<figure class="{kind}">{one.whole(one.blocks[0])}</figure>' for kind, one in kinds.items()]
 
 
 def _columns(picture, block):
@@ -138,25 +163,26 @@ def _mark(shape):
 # ---- The walk
 
 
+def _sums(stride):
+    return f'<br/><span class="sums">{escape(stride.sums)}</span>' if stride.sums else ""
+
+
 def _walk(explanation):
-    head = "".join(f"<th>{name}</th>" for name in ("line", "thread", "step", "row", "before", "after", "in words", "in fractions"))
-    rows = []
+    heads = ["line", "thread", "step", "row", *map_heads(explanation), "in words"]
+    head, rows = "".join(f"<th>{name}</th>" for name in heads), []
     for stride in strides(explanation):
         site = stride.site
         colour = colour_of(Holder("thread", site.thread))
         cells = [
             f'<td class="number">{site.line}</td>',
-            f'<td class="thread"><i style="background:{colour}"></i>{escape(explanation.names.thread_mark(site.thread))}</td>',
+            f'<td class="thread"><i style="background:{colour}"></i>{escape(explanation.names.thread(site.thread))}</td>',
             f'<td class="step">{"  " * site.depth}{site.word},{site.number}</td>',
-            f'<td class="row">{escape(stride.row)}</td>', f'<td class="map">{escape(stride.before)}</td>',
-            f'<td class="map">{escape(stride.after)}</td>', f"<td>{escape(stride.words)}</td>",
-            f'<td class="sums">{escape(stride.sums)}</td>',
+            f'<td class="row">{escape(stride.row)}</td>', *(f'<td class="map">{escape(cell)}</td>' for cell in stride.maps),
+            f"<td>{escape(stride.words + explanation.names.source(site.line))}{_sums(stride)}</td>",
         ]
         kinds = " ".join(kind for kind, is_so in (("refused", stride.refused), ("apart", stride.apart)) if is_so)
         rows.append(f'<tr class="{kinds}">{"".join(cells)}</tr>' if kinds else f"<tr>{''.join(cells)}</tr>")
-    kind = "walk wide" if explanation.sites.split.locations > FEW else "walk"
+    kind = "walk wide" if len(heads) < 7 else "walk"
     return [
-        '<section class="walk-section">', "<h2>The walk, step by step</h2>",
-        "<p>Before and after are what the thread has, one fraction for each location in turn:"
-        f" {escape(', '.join(explanation.names.place(p) for p in range(explanation.sites.split.locations)))}.</p>",
+        '<section class="walk-section">', "<h2>The walk, step by step</h2>", f"<p>{escape(preface(explanation))}</p>",
         f'<table class="{kind}"><thead><tr>{head}</tr></thead><tbody>', *rows, "</tbody></table>", "</section>"]

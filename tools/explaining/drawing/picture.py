@@ -1,15 +1,15 @@
 """The picture: steps down, locations across, and in each location's column who holds how much of it.
 
-It is drawn in parts, one below the other, each low enough for what is left of a printed page; the head stands apart, so that
-every printed page can have it. Many locations make several such pictures, each of as many columns as can be read.
+What fits on a sheet of paper is drawn in one piece. Else it is drawn in parts, one below the other, each low enough for what is
+left of a printed page; the head stands apart, so that every printed page can have it. Many locations make several such pictures,
+each of as many columns as can be read.
 """
 from html import escape
 from textwrap import wrap
 from typing import NamedTuple
 
 from ..conditions import cell_location
-from ..walk import in_words
-from ..words import WORDS
+from ..walk import in_words, touches
 from .fills import KEEPERS, colour_of, fill_of, ink_on
 from .holders import Holder, Telling, same_step
 from .places import places
@@ -39,6 +39,10 @@ class Span(NamedTuple):
 
 
 class Picture:
+    """For a desk's screen and for paper: the words of a step stand left of the columns."""
+
+    row, columns_x, widths = ROW, COLUMNS_X, WIDTHS
+
     def __init__(self, explanation):
         self.explanation = explanation
         self.names = explanation.names
@@ -53,7 +57,7 @@ class Picture:
         self.shown = [p for p in range(self.split.locations) if self._is_shown(p)] or [0]
         self.folded = [p for p in range(self.split.locations) if p not in self.shown]
         self.blocks = [self.shown[first:first + MOST_COLUMNS] for first in range(0, len(self.shown), MOST_COLUMNS)]
-        self.column, self.beside = next(widths for most, *widths in WIDTHS if len(self.blocks[0]) <= most)
+        self.column, self.beside = next(widths for most, *widths in self.widths if len(self.blocks[0]) <= most)
         self.places = {location: places(self.moments, location) for location in self.shown}
         self.x = {}
         self.width = max(map(self._place_columns, self.blocks))
@@ -68,7 +72,7 @@ class Picture:
 
     def _place_columns(self, block):
         """Where each column stands: behind one with narrow shares there is room for their names. Returns the width of all."""
-        at = COLUMNS_X
+        at = self.columns_x
         for location in block:
             self.x[location] = at
             narrow = any(not self._label(location, place) for row in self.places[location] for place in row)
@@ -77,9 +81,29 @@ class Picture:
 
     # ---- The parts
 
-    def head(self, block):
+    def height(self):
+        """How high the picture is with all steps below one head."""
+        return HEAD + sum(map(self._row_height, self.moments))
+
+    def _row_height(self, moment):
+        return self.row + LINE * (len(self._told(moment.site)) - 1)
+
+    def whole(self, block):
+        """The picture in one piece."""
+        label = "who holds how much of each location, step by step"
+        return "\n".join([
+            f'<svg viewBox="0 0 {self.width} {self.height()}" preserveAspectRatio="xMidYMin" role="img" aria-label="{label}">',
+            self.head(block, 0),
+            self._part(block, 0, self.moments, HEAD), "</svg>"])
+
+    def _opening(self, height, label, top):
+        """The beginning of an SVG by itself; or of one inside another, so far from its top."""
+        inside = "" if top is None else f' y="{top}" width="{self.width}" height="{height}"'
+        return f'<svg viewBox="0 0 {self.width} {height}"{inside} role="img" aria-label="{label}">'
+
+    def head(self, block, top=None):
         """The names of some columns, and their scale."""
-        pieces = [f'<svg viewBox="0 0 {self.width} {HEAD}" role="img" aria-label="the locations">']
+        pieces = [self._opening(HEAD, "the locations", top)]
         whole = self._scaled(self.split.denominator)
         for location in block:
             x = self.x[location]
@@ -93,18 +117,19 @@ class Picture:
         starts = range(0, len(self.moments), ROWS_IN_A_PART)
         return [self._part(block, start, self.moments[start:start + ROWS_IN_A_PART]) for start in starts]
 
-    def _part(self, block, start, moments):
+    def _part(self, block, start, moments, top=None):
         tops = [0]
         for moment in moments:
-            tops.append(tops[-1] + ROW + LINE * (len(self._told(moment.site)) - 1))
+            tops.append(tops[-1] + self._row_height(moment))
         label = f"steps {start + 1} to {start + len(moments)} of {len(self.moments)}: who holds how much of each location"
-        pieces = [f'<svg viewBox="0 0 {self.width} {tops[-1]}" role="img" aria-label="{label}">']
+        pieces = [self._opening(tops[-1], label, top)]
         for row, moment in enumerate(moments):
             pieces += self._band(tops[row], tops[row + 1], start + row, moment)
         for location in block:
             pieces += self._column(location, start, tops)
         for top, bottom, moment in zip(tops, tops[1:], moments):
-            pieces += [*self._step(top, moment), *self._touch(block, top, moment), *self._refusal(block, top, bottom, moment)]
+            pieces += [*self._step(top, moment), *self._touch(block, self._bar(top, bottom), moment)]
+            pieces += self._refusal(block, top, bottom, moment)
         return "\n".join(pieces + ["</svg>"])
 
     # ---- Rows
@@ -119,20 +144,31 @@ class Picture:
         return [
             text("line", LINE_X, middle, str(site.line), LINE_X, "end"),
             f'<circle cx="{THREAD_X + 6}" cy="{middle - 4}" r="5" fill="{colour_of(Holder("thread", site.thread))}"/>',
-            text("thread", THREAD_X + 16, middle, self.names.thread_label(site.thread), STEP_X - THREAD_X - 20),
-            *(text(kind, left, middle + LINE * number, words, COLUMNS_X - left - 20, letter=letter)
+            text("thread", THREAD_X + 16, middle, self.names.thread(site.thread), STEP_X - THREAD_X - 20),
+            *(text(kind, left, middle + LINE * number, words, self._room(site), letter=letter)
               for number, words in enumerate(self._told(site))),
         ]
 
     def _left(self, site):
         return STEP_X + INDENT * min(site.nest, DEEPEST)
 
+    def _room(self, site):
+        """The room for a step in words."""
+        return self.columns_x - self._left(site) - 20
+
+    def _bar(self, top, _bottom):
+        """The middle of the line of a row on which the bars have their labels and touches stand."""
+        return top + ROW / 2
+
+    def _words(self, site):
+        return in_words(site, self.sites, self.names) + self.names.source(site.line)
+
     def _told(self, site):
         """A step in words, on one line; the refused one whole, with what is false there, in as many lines as it takes."""
-        words = in_words(site, self.sites, self.names)
+        words = self._words(site)
         if not self._is_refused(site):
             return [words]
-        letters = int((COLUMNS_X - self._left(site) - 20) / BOLD)
+        letters = int(self._room(site) / BOLD)
         sums = [line for words in self.explanation.numbers for line in _broken(words.replace("`", ""), letters)]
         return wrap(words, letters) + sums
 
@@ -178,7 +214,8 @@ class Picture:
         label = self._label(location, span)
         if label:
             kind = f"share-label {ink_on(span.holder)}"
-            pieces.append(text(kind, left + 6, tops[span.first] + 16, label, width - 8, letter=BOLD))
+            y = self._bar(tops[span.first], tops[span.first + 1]) + 4
+            pieces.append(text(kind, left + 6, y, label, width - 8, letter=BOLD))
         return pieces
 
     def _label(self, location, share):
@@ -207,14 +244,14 @@ class Picture:
     def holder_name(self, holder):
         if holder.kind in KEEPERS:
             return self._made_name(holder)
-        return self.names.thread_label(holder.thread())
+        return self.names.thread(holder.thread())
 
     def _made_name(self, keeper):
         """The name of a lock, semaphore or read-write lock: that of the variable that its let binds, or its line."""
         for site in self.sites.all:
             if site.word == "let" and site.parts["e1"].line == keeper.number:
                 return self.names.variable(site.number)
-        return f"{KEEPERS[keeper.kind]} of line {keeper.number}"
+        return f"{KEEPERS[keeper.kind]} of {self.names.line(keeper.number)}"
 
     def folded_in_words(self):
         """Each location that is not drawn, with who has it all the while."""
@@ -228,17 +265,14 @@ class Picture:
 
     def _access(self, site):
         """The location that a read or write touches; None for other words, or where its part is no cell."""
-        if not any(condition.mark == "A" for condition in WORDS[site.word].conditions):
-            return None
-        types = [self.split.types[part.type].kind for part in site.parts.values()]
-        return cell_location(site, self.split) if types[0] == "ref" else None
+        return cell_location(site, self.split) if touches(site, self.split) else None
 
-    def _touch(self, block, top, moment):
+    def _touch(self, block, middle, moment):
         location = self._access(moment.site)
         if location not in block:
             return []
         kind = "write" if moment.site.word == "write" else "read"
-        return [f'<circle class="touch {kind}" cx="{self.x[location] - 12}" cy="{top + ROW / 2}" r="5"/>']
+        return [f'<circle class="touch {kind}" cx="{self.x[location] - 12}" cy="{middle}" r="5"/>']
 
     def _refusal(self, block, top, bottom, moment):
         if not self._is_refused(moment.site):

@@ -11,8 +11,9 @@ STEP, LETTER, BOLD = 17, 6.3, 7.1  # a line of text, and generous widths of a le
 HEAD, SWITCH, END_GAP, FOOT = 62, 34, 40, 16
 LEFT, GAP, PAD = 14, 22, 12
 NUMBER = 26  # room for a program line's number
-WIDTHS = [(2, 270), (3, 230), (4, 204), (5, 190), (16, 168)]
-THING, THING_GAP, MOST_THINGS = 92, 14, 6
+WIDTHS = [(2, 270), (3, 230), (4, 204), (5, 190)]
+MOST_COLUMNS = 5  # of threads; if there are more, those that matter least share the last
+THING, THING_GAP, MOST_THINGS, FEWER_THINGS = 92, 14, 6, 3  # fewer where threads share a column
 
 
 class Laid(NamedTuple):
@@ -50,11 +51,13 @@ class Layout:
     def __init__(self, shown, ending):
         self.shown, self.ending, self.naming = shown, ending, shown.naming
         rows = rows_of(shown.steps, shown.naming)
-        self.threads = sorted({row.thread for row in rows} | set(ending.numbers))
+        self.threads, self.sharing = self._parted(rows)
         used = columns_of(rows, ending.cell)
-        self.things, self.left_out = used[:MOST_THINGS], used[MOST_THINGS:]
-        self.column = next(width for count, width in WIDTHS if len(self.threads) <= count)
-        self.things_x = LEFT + len(self.threads) * (self.column + GAP) + GAP
+        most = FEWER_THINGS if self.sharing else MOST_THINGS
+        self.things, self.left_out = used[:most], used[most:]
+        columns = len(self.threads) + bool(self.sharing)
+        self.column = next(width for count, width in WIDTHS if columns <= count)
+        self.things_x = LEFT + columns * (self.column + GAP) + GAP
         self.width = self.things_x + len(self.things) * (THING + THING_GAP) + 8
         self.laid, bottom = self._laid(rows)
         self.ends = self._ends()
@@ -62,10 +65,20 @@ class Layout:
         self.end_bottom = self.end_top + 2 * STEP + max(2, *(len(texts) for texts, _ in self.ends.values())) * STEP + 4
         self.height = self.end_bottom + FOOT
 
+    def _parted(self, rows):
+        """The threads that have a column of their own, and those that share one: the threads that meet matter most, then those
+        with the most rows."""
+        threads = {row.thread for row in rows} | set(self.ending.numbers)
+        count = {thread: sum(row.thread == thread for row in rows) for thread in threads}
+        by_worth = sorted(count, key=lambda thread: (thread not in self.ending.numbers, -count[thread], thread))
+        own = len(count) if len(count) <= MOST_COLUMNS else MOST_COLUMNS - 1
+        return sorted(by_worth[:own]), sorted(by_worth[own:])
+
     # ---- Across
 
     def x(self, thread):
-        return LEFT + self.threads.index(thread) * (self.column + GAP)
+        column = self.threads.index(thread) if thread in self.threads else len(self.threads)
+        return LEFT + column * (self.column + GAP)
 
     def middle(self, thread):
         return self.x(thread) + self.column / 2
@@ -81,7 +94,8 @@ class Layout:
             first = row.thread != last
             if first:
                 y += SWITCH if last is not None else 8
-            texts = []
+            # A thread without a column of its own is named at each stretch.
+            texts = [(None, f"{self.naming.thread(row.thread)}:")] if first and row.thread in self.sharing else []
             for line, words in row.lines:
                 pieces = wrapped(words, self.column - 2 * PAD - NUMBER)
                 texts += [(line if at == 0 else None, piece) for at, piece in enumerate(pieces)]
@@ -94,9 +108,10 @@ class Layout:
         ends, machine, state = {}, self.shown.machine, self.shown.state
         for thread in state.threads:
             if thread.point != FINISHED and thread.number in self.threads:
-                words = about(machine, state, thread, self.naming)
+                line = machine.points[thread.point].line
+                words = about(machine, state, thread, self.naming) + self.naming.names.source(line)
                 letter = BOLD if thread.number in self.ending.numbers else LETTER
-                ends[thread.number] = wrapped(words, self.column - 2 * PAD, letter), machine.points[thread.point].line
+                ends[thread.number] = wrapped(words, self.column - 2 * PAD, letter), line
         return ends
 
     def stretches(self):

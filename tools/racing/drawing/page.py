@@ -5,7 +5,9 @@ from pathlib import Path
 
 from starting.pages import begins, opening
 
+from explaining.drawing.foot import made
 from explaining.drawing.page import STYLE
+from explaining.showing import listed
 
 from .picture import Picture
 
@@ -14,26 +16,26 @@ BEGINS = begins(TOOL)
 OWN_STYLE = Path(__file__).with_name("style.css").read_text(encoding="utf-8")
 
 
-def text(title, shown, ending, borne_out):
+def text(title, shown, ending, borne_out, words_of_foot=""):
     picture = Picture(shown, ending)
-    facts = _facts(shown, ending, picture)
+    drawn = picture.svgs()
     return "\n".join([
         *opening(TOOL), f"<title>{escape(title)}: an order of its steps</title>",
-        f"<style>{STYLE}\n{OWN_STYLE}\n{_paper(picture, len(facts))}</style>", "</head>", "<body>",
-        "<header>", f'<div><h1>{escape(title)}</h1><p class="meaning">{escape(ending.sentence())}</p></div>',
+        f"<style>{STYLE}\n{OWN_STYLE}\n{_paper(picture)}</style>", "</head>", "<body>",
+        f'<main class="{"sheet" if len(drawn) == 1 else "sheets"}">', "<header>",
+        f'<div><h1>{escape(title)}</h1><p class="meaning">{escape(ending.sentence())}</p></div>',
         f'<div><div class="badge {"refused" if ending.grave else "none"}">{ending.badge}</div></div>', "</header>",
-        '<dl class="facts">', *(f"<dt>{escape(name)}</dt><dd>{escape(words)}</dd>" for name, words in facts), "</dl>",
-        *_legend(ending), *(f"<figure>{svg}</figure>" for svg in picture.svgs()),
+        '<dl class="facts">', *_facts(shown, ending, picture), "</dl>",
+        *_legend(ending), *(f"<figure>{svg}</figure>" for svg in drawn),
         *_trace(shown.order),
-        f"<footer>{escape(borne_out)} The order was found by tools/show-race, which judges nothing itself.</footer>",
-        "</body>", "</html>", ""])
+        f"<footer><p>{escape(borne_out)} The order was found by show-race, which judges nothing itself.</p>", *made(words_of_foot),
+        "</footer>", "</main>", "</body>", "</html>", ""])
 
 
-def _paper(picture, facts):
-    """Sheets of A4, whichever way round the picture comes out larger; one sheet has room for so many facts beside it."""
-    way, most = ("landscape", 137) if picture.width > 1.1 * picture.height else ("portrait", 210)
-    most = f"max-height: {most - 5 * facts}mm; " if len(picture.svgs()) == 1 else ""
-    return f"@page {{ size: A4 {way}; margin: 10mm; }}\n@media print {{ figure > svg {{ {most}}} }}"
+def _paper(picture):
+    """Sheets of A4, whichever way round the picture comes out larger."""
+    way, high = ("landscape", 188) if picture.width > 1.1 * picture.height else ("portrait", 275)
+    return f"@page {{ size: A4 {way}; margin: 10mm; }}\n@media print {{ body {{ --sheet: {high}mm; }} }}"
 
 
 def _facts(shown, ending, picture):
@@ -42,8 +44,8 @@ def _facts(shown, ending, picture):
     if idle:
         facts.append(("not shown", f"{idle} here"))
     if picture.layout.left_out:
-        facts.append(("nor shown", f"what {', '.join(map(shown.naming.thing, picture.layout.left_out))} hold"))
-    return facts
+        facts.append(("not drawn", f"what goes on at {listed(map(shown.naming.thing, picture.layout.left_out))}"))
+    return [f"<dt>{escape(name)}</dt><dd>{escape(words)}</dd>" for name, words in facts]
 
 
 def _legend(ending):

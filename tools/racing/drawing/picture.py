@@ -75,7 +75,7 @@ class Picture:
         label = escape(self.ending.sentence() if at == 0 else "the picture goes on")
         width, height = f"{self.width:.0f}", f"{bottom - top:.0f}"
         return "\n".join([
-            f'<svg viewBox="0 0 {width} {STRIP + bottom - top:.0f}" role="img" aria-label="{label}"'
+            f'<svg viewBox="0 0 {width} {STRIP + bottom - top:.0f}" preserveAspectRatio="xMidYMin" role="img" aria-label="{label}"'
             f' style="min-width:{0.7 * self.width:.0f}px;max-width:{1.3 * self.width:.0f}px">',
             f'<svg y="{STRIP}" width="{width}" height="{height}" viewBox="0 {top:.0f} {width} {height}">',
             *(piece.markup for piece in pieces if piece.is_in(top, bottom)), "</svg>",
@@ -98,6 +98,10 @@ class Picture:
             pieces += [
                 box(f'fill="{self.colour(thread)}"', x, 8, self.layout.column, 42),
                 text(f"head {self.ink_on(thread)}", x + self.layout.column / 2, 31, name, "middle")]
+        for thread in self.layout.sharing[:1]:
+            x, name = self.layout.x(thread), f"{len(self.layout.sharing)} others"
+            pieces += [
+                box('class="others"', x, 8, self.layout.column, 42), text("head", x + self.layout.column / 2, 31, name, "middle")]
         for value in self.layout.things:
             x, name = self.layout.thing_x(value), wrapped(self.naming.thing(value), THING, BOLD)
             top = 22 if len(name) > 1 else 31

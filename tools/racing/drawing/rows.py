@@ -7,6 +7,9 @@ from stepping.wording import step_words
 from ..telling import is_silent
 
 
+MOST_MADE = 8  # lines that are told of makings in a row
+
+
 class Row(NamedTuple):
     thread: int
     first: int  # the steps that it tells, counted from 1
@@ -31,7 +34,13 @@ def rows_of(told, naming):
                                        state=row.state)
         else:
             rows.append(row)
-    return [_settled(row, rows, at, told) for at, row in enumerate(rows)]
+    return [_settled(row._replace(lines=_few(row.lines)), rows, at, told) for at, row in enumerate(rows)]
+
+
+def _few(lines):
+    """The first of many makings that follow one another, and how many more there are."""
+    more = len(lines) - MOST_MADE
+    return lines if more < 2 else [*lines[:MOST_MADE], (None, f"and makes {more} more")]
 
 
 def _settled(row, rows, at, told):
@@ -47,7 +56,8 @@ def _row(number, one, made, naming):
     if made is None and word != "call" and operands and kind(operands[0]) in (CELL, LOCK, SEM, RWLOCK):
         touched = {operands[0]: word if word in ("read", "write") else "use"}
     started = [one.started()] if word == "spawn" else []
-    return Row(one.thread, number, number, [(one.point.line, _words(one, made, naming))], touched, started, False, one.after)
+    words = _words(one, made, naming) + naming.names.source(one.point.line)
+    return Row(one.thread, number, number, [(one.point.line, words)], touched, started, False, one.after)
 
 
 def _words(one, made, naming):

@@ -24,6 +24,8 @@ const naming = (() => {
   const earlier = (lines, at) => lines.slice(0, at).filter(line => line === lines[at]).length;
 
   const variable = (book, number) => book.given.variable[number] ?? `v${number}`;
+  // A line of the program, with where it comes from if names.txt says so.
+  const line = (book, number) => `line ${number}` + (book.given.line[number] === undefined ? "" : ` [${book.given.line[number]}]`);
   const procedure = (book, number) => book.given.procedure[number] ?? `procedure ${number}`;
 
   // Which spawn line started a thread, counted from 1; 0 for the first thread.
@@ -31,18 +33,18 @@ const naming = (() => {
 
   function thread(book, known, number) {
     const called = book.given.thread[spawnOf(book, known, number)];
-    if (called === undefined) return number === 0 ? "the first thread" : `thread ${number}`;
+    if (called === undefined) return `thread ${number}`;
     return numbered(called, earlier(known.threads, number));
   }
 
   // A thing, or a constant.
   function thing(book, known, { kind, name }) {
     if (kind === "int") return String(name);
-    const lines = known.made[kind], line = lines[name];
-    const called = book.bound.has(line) ? variable(book, book.bound.get(line))
-      : `the ${book.nouns[kind].replace(/^an? /, "")} of line ${line}`;
+    const lines = known.made[kind], made = lines[name];
+    const called = book.bound.has(made) ? variable(book, book.bound.get(made))
+      : `the ${book.nouns[kind].replace(/^an? /, "")} of ${line(book, made)}`;
     return numbered(called, earlier(lines, name));
   }
 
-  return { book, procedure, spawnOf, thing, thread, variable };
+  return { book, line, procedure, spawnOf, thing, thread, variable };
 })();

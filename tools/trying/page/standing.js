@@ -16,7 +16,7 @@ const standings = (() => {
 
   function sentence(desk, thread) {
     const about = wording.about(desk.say, desk.book, desk.known, desk.state, thread);
-    return `${threads.called(desk, thread.number)} ${about} (line ${thread.next.line})`;
+    return `${threads.called(desk, thread.number)} ${about} (${naming.line(desk.book, thread.next.line)})`;
   }
 
   // What the latest press did: its last step that others can see, or its last.
@@ -26,7 +26,7 @@ const standings = (() => {
     const steps = moments.slice(0, at + 1).filter(moment => moment.press === press).reverse();
     const { step, known } = steps.find(moment => !wording.isQuiet(moment.step.next)) ?? steps[0];
     const words = `${threads.called(desk, step.thread)} ${wording.does(desk.say, desk.book, known, step)}`;
-    return make("span", "just-now", `Just now: ${words} (line ${step.next.line}).`);
+    return make("span", "just-now", `Just now: ${words} (${naming.line(desk.book, step.next.line)}).`);
   }
 
   function shown(desk) {

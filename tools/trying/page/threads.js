@@ -44,7 +44,7 @@ const threads = (() => {
       : standing === "odd" ? "has a value of the wrong kind" : next.word === "if" ? "has a choice"
       : ahead(desk, number, 0) ?? "would go past what racereplay holds";
     return [make("p", "about", told), calls(desk, thread),
-      make("p", "source", make("code", "", `${word},${v}`), make("span", "line", `line ${next.line}`))];
+      make("p", "source", make("code", "", `${word},${v}`), make("span", "line", naming.line(desk.book, next.line)))];
   }
 
   const about = (desk, thread) => wording.about(desk.say, desk.book, desk.known, desk.state, thread);
@@ -66,7 +66,7 @@ const threads = (() => {
   function calls(desk, thread) {
     const open = machine.openCalls(thread).reverse();
     if (open.length === 0) return null;
-    const told = open.slice(-MOST_CALLS).map(call => `${naming.procedure(desk.book, call.number)} (line ${call.line})`);
+    const told = open.slice(-MOST_CALLS).map(call => `${naming.procedure(desk.book, call.number)} (${naming.line(desk.book, call.line)})`);
     const more = open.length > MOST_CALLS ? `${open.length} open calls, the latest ` : "";
     return make("p", "soft", `inside ${more}${told.join(", ")}`);
   }
