@@ -8,7 +8,7 @@ from jobs import make_job
 from trying_jobs import racereplay, run
 
 RACE = HOUSE / "examples" / "refill-race"
-PAGE = "orders.html"
+PAGE = "step.html"
 
 
 def copied(scratch, name, *files):
@@ -71,7 +71,7 @@ def check_files():
             check(f"a page over {name}", (done.status, "over a file of the pair" in done.error), (2, True))
         (folder / PAGE).write_text("mine")
         done = run(folder)
-        check("an orders.html that is no such page", (done.status, "--page FILE writes elsewhere" in done.error), (2, True))
+        check("a step.html that is no such page", (done.status, "--page FILE writes elsewhere" in done.error), (2, True))
         check("the folder afterwards", contents(folder), {**before, PAGE: b"mine"})
 
 

@@ -57,7 +57,7 @@ def check_commands(prefix, scratch):
     check("installed: explain --replay", (done.returncode, "RAN,69" in done.stdout), (0, True))
     done = run(prefix, "show-race", "--trace", "order.txt", examples / "join-race", cwd=scratch)
     check("installed: show-race", (done.returncode, "This job can race." in done.stdout), (1, True))
-    done = run(prefix, "try-orders", "--page", "orders.html", examples / "join-race", cwd=scratch)
+    done = run(prefix, "try-orders", "--page", "step.html", examples / "join-race", cwd=scratch)
     check("installed: try-orders", (done.returncode, "the job can race" in done.stdout), (0, True))
     done = run(prefix, "check-release", examples, cwd=scratch)
     check("installed: check-release", (done.returncode, "count\tFAILED\t0" in done.stdout), (1, True))

@@ -13,21 +13,15 @@ from explaining.replays import order_of
 from explaining.running import CHECKING, find_program, run_in
 from explaining.sheets import read_sheet, sheet_of, steps_of
 from explaining.showing import grouped, visible
-from racing.confirming import Replay, race_lines
-from racing.orders import has_race
-from racing.search import Limits, search
-from racing.shown import Shown
+from racing.confirming import Replay
 from racing.telling import alarm
-from stepping.machine import ROOM, Machine
+from stepping.machine import Machine
 from stepping.program import Steps
 
 from . import page
+from .witness import Disagreement, witness
 
-PAGE = "orders.html"
-
-
-class Disagreement(Exception):
-    """racereplay does not say of an order what the steps taken here come to."""
+PAGE = "step.html"
 
 
 class Job(NamedTuple):
@@ -72,7 +66,7 @@ def main(arguments):
 
 
 def _page_file(folder, asked):
-    """Where the page goes. An orders.html that is no such page is left as it is."""
+    """Where the page goes. A step.html that is no such page is left as it is."""
     file = asked or os.path.join(folder, PAGE)
     spare(folder, (PROGRAM, SPLIT, TRACE, NAMES), file, "page")
     if not asked and os.path.lexists(file):
@@ -125,18 +119,11 @@ def _verdict(folder, machine, names, replay):
     if answer == "ACCEPT":
         return "racecheck accepts this job with its split: no order races, and that is proved.", None
     begins = f"racecheck refuses this pair ({answer})" if answer.startswith("REFUSE") else "No split of this job was judged here"
-    found = search(machine, Limits())
-    if found.race is None:
-        none = "all orders were searched, and none races; the search is not proved"
-        return f"{begins}; {none if found.whole() else 'no race was found, and not all orders were searched'}.", None
-    shown = Shown(machine, names, found.race, has_race)
-    if not all(ROOM.holds(one.after) for one in shown.steps):
-        return f"{begins}; no race was found in which racereplay can follow.", None
-    objection = replay.objection(race_lines(shown))
-    if objection:
-        raise Disagreement(objection)
-    quiz = {"order": shown.order, "switches": shown.switches()}
-    return f"{begins}, and the job can race.", quiz
+    sought = witness(machine, names, replay)
+    if sought.shown is None:
+        return f"{begins}; {sought.words}.", None
+    quiz = {"order": sought.shown.order, "switches": sought.shown.switches(), "fewest": sought.shown.fewest}
+    return f"{begins}, and {sought.words}.", quiz
 
 
 def _checked(folder):
