@@ -9,6 +9,7 @@ from trying_jobs import racereplay, run
 
 RACE = HOUSE / "examples" / "refill-race"
 PAGE = "step.html"
+LONG = 12_000  # lines of an order
 
 
 def copied(scratch, name, *files):
@@ -30,7 +31,7 @@ def check_said():
         check("refill-race: the page in its folder", (RACE / PAGE).read_text() == page.read_text(), True)
         bare = copied(scratch, "bare", "program.txt")
         done = run(bare)
-        check("without split, trace and names", (done.status, sorted(contents(bare))), (0, [PAGE, "program.txt"]))
+        check("without split, trace and names", (done.status, sorted(contents(bare))), (0, ["program.txt", PAGE]))
         wanted = [
             f"{bare}: the page is {bare / PAGE}; open it in a browser.",
             "No split of this job was judged here, and the job can race."]
@@ -41,7 +42,7 @@ def check_said():
 
 
 def check_traces():
-    """Any trace is taken: one that is refused, one of bytes, an empty one; of a long one as much as a page can have."""
+    """Any trace is taken: one that is refused, one of bytes, an empty one, a long one."""
     with tempfile.TemporaryDirectory() as scratch:
         folder, order, page = copied(scratch, "job", "program.txt"), Path(scratch) / "order", Path(scratch) / "page"
         for what, text, line in [
@@ -52,12 +53,10 @@ def check_traces():
             done = run("--trace", order, "--page", page, folder)
             check(f"a trace, {what}", (done.status, f"racereplay says {line}." in done.said), (0, True))
         loop = make_job(Path(scratch) / "loop", ["while,0", "int,0"])
-        order.write_text("0,0\n" * 5000)
+        order.write_text("0,0\n" * LONG)
         done = run("--trace", order, "--page", page, loop)
-        check("5,000 lines", ("RAN,5000" in done.said, "first 5,000" in done.said), (True, False))
-        order.write_text("0,0\n" * 5001)
-        done = run("--trace", order, "--page", page, loop)
-        check("5,001 lines", ("RAN,5000" in done.said, "The page has the first 5,000 lines" in done.said), (True, True))
+        whole = page.read_text().count(r"0,0\n")
+        check("a long trace is in the page whole", (f"RAN,{LONG}" in done.said, whole), (True, LONG))
         check("no such trace", run("--trace", Path(scratch) / "nowhere", "--page", page, folder).status, 2)
 
 

@@ -21,8 +21,7 @@ from stepping.wording import about, step_words
 from trying import page
 from trying.tool import Job
 
-PURE = ["machine", "trace", "knowing", "naming", "wording", "order"]  # the scripts that no page is needed for
-SCRIPTS = [(page.HERE / f"{name}.js").read_text() for name in PURE] + [Path(__file__).with_name("told.js").read_text()]
+SCRIPTS = [(page.HERE / f"{name}.js").read_text() for name in page.PURE] + [Path(__file__).with_name("told.js").read_text()]
 NUMERALS = [Range("a number", 0, 10**10)] * 2
 LONGEST, MOST_STEPS = 256, 400
 MANY = 1000  # traces of a draw that meet everything

@@ -3,6 +3,8 @@ import os
 
 from starting.command import Failure, Usage, options, say, tell
 from starting.writing import spare, write
+from trying.tool import page_of
+from trying.witness import Disagreement
 
 from . import replays, telling, walk
 from .alone import told_alone
@@ -18,7 +20,7 @@ from .showing import visible
 
 def main(arguments):
     given, others = options(arguments, flags=["--replay", "--walk"], valued=["--page"])
-    if len(others) != 1 or {"--replay", "--page"} <= set(given):
+    if len(others) != 1:
         raise Usage
     folder, file, walks = others[0], given.get("--page"), "--walk" in given
     if not os.path.isdir(folder):
@@ -35,9 +37,24 @@ def main(arguments):
         say(f"explain: {words}")
     if explanation.disagrees:
         say(f"explain: DISAGREEMENT with {program}, see above")
+    if file and program == REPLAYING:
+        return _write_order(file, folder, explanation)
     if file:
         title = visible(os.path.basename(os.path.abspath(folder)))
         write(file, page.text(title, explain(run, folder, reduced=True)).encode("utf-8", "replace"), "page")
+    return _status_of(explanation)
+
+
+def _write_order(file, folder, explanation):
+    """The page on which a recorded order is played, if there is one to play."""
+    if explanation.disagrees or explanation.unseen or explanation.order is None:
+        say("explain: there is no order to play, so no page is written")
+        return _status_of(explanation)
+    try:
+        write(file, page_of(folder)[0], "page")
+    except Disagreement as objection:
+        say(f"explain: DISAGREEMENT with racereplay, so no page is written: {objection}")
+        return 3
     return _status_of(explanation)
 
 

@@ -12,7 +12,7 @@ from explaining.refusals import PROGRAM, SPLIT, TRACE
 from explaining.replays import order_of
 from explaining.running import CHECKING, find_program, run_in
 from explaining.sheets import read_sheet, sheet_of, steps_of
-from explaining.showing import grouped, visible
+from explaining.showing import visible
 from racing.confirming import Replay
 from racing.telling import alarm
 from stepping.machine import Machine
@@ -29,11 +29,15 @@ class Job(NamedTuple):
 
     program: bytes
     names: Names
-    trace: bytes  # the recorded order, as far as the page has it; None if there is none
+    trace: bytes  # the recorded order; None if there is none
     answer: str  # racereplay's line on it
     verdict: str  # what is known of the job's orders, in a sentence
-    quiz: dict  # an order that races, which racereplay has confirmed, and its switches of thread; None if there is none
+    quiz: dict  # an order that races, which racereplay has confirmed, veiled, and its switches of thread; None if there is none
     source: str  # where the recorded order comes from, in a sentence
+
+
+class Malformed(Exception):
+    """racereplay's refusal of a program sheet."""
 
 
 def main(arguments):
@@ -44,25 +48,34 @@ def main(arguments):
     if not os.path.isdir(folder):
         raise Failure(f"no such folder: {visible(folder)}")
     file = _page_file(folder, given.get("--page"))
+    try:
+        text, lines = page_of(folder, given.get("--trace"))
+    except Malformed as refusal:
+        tell([f"{visible(folder)}: {refusal}", "The program sheet is not well formed; docs/REFUSALS.md tells what that means."])
+        return 2
+    except Disagreement as objection:
+        say("try-orders: DISAGREEMENT with racereplay, see above")
+        tell([f"{visible(folder)}: no page is written.", *alarm(objection)])
+        return 3
+    write(file, text, "page")
+    tell([f"{visible(folder)}: the page is {visible(file)}; open it in a browser.", *lines])
+    return 0
+
+
+def page_of(folder, asked=None):
+    """The page of a folder's job with its recorded order, or with the one asked for; and what is to be said of it."""
     program, names = read_sheet(folder, PROGRAM), read_names(folder)
     if program is None:
         raise Failure(f"no {PROGRAM} that can be read in {visible(folder)}")
     replay = Replay(program.text)
     answer = replay.answer([])  # it judges the program sheet before the trace
     if answer.startswith("REFUSE,"):
-        tell([f"{visible(folder)}: {answer}", "The program sheet is not well formed; docs/REFUSALS.md tells what that means."])
-        return 2
+        raise Malformed(answer)
     if answer != "RAN,0":
         raise Failure(f"racereplay says {answer}")
-    try:
-        job, lines = _job(folder, program, names, replay, given.get("--trace"))
-    except Disagreement as objection:
-        say("try-orders: DISAGREEMENT with racereplay, see above")
-        tell([f"{visible(folder)}: no page is written.", *alarm(objection)])
-        return 3
-    write(file, page.text(visible(os.path.basename(os.path.abspath(folder))), job).encode("utf-8", "replace"), "page")
-    tell([f"{visible(folder)}: the page is {visible(file)}; open it in a browser.", *lines, *names.passed_over])
-    return 0
+    job, lines = _job(folder, program, names, replay, asked)
+    title = visible(os.path.basename(os.path.abspath(folder)))
+    return page.text(title, job).encode("utf-8", "replace"), [*lines, *names.passed_over]
 
 
 def _page_file(folder, asked):
@@ -77,7 +90,7 @@ def _page_file(folder, asked):
 
 
 def _job(folder, program, names, replay, asked):
-    trace, told = _trace(folder, asked)
+    trace, told = _trace(folder, asked), []
     answer, source = "", "There is no recorded order in this page."
     if trace is not None:
         answer = replay.answer_to(trace)
@@ -94,20 +107,17 @@ def _require(answer, here):
 
 
 def _trace(folder, asked):
-    """The recorded order, as far as a page can have it, and what is to be said of it."""
+    """The recorded order; None if there is none."""
     file = asked or os.path.join(folder, TRACE)
     if not asked and not os.path.lexists(file):
-        return None, []
+        return None
     if not os.path.isfile(file):
         raise Failure(f"no recorded order that can be read: {visible(file)}")
     with open(file, "rb") as opened:
         text = opened.read(TRACE_BYTES + 1)
     if len(text) > TRACE_BYTES:
         raise Failure(f"the recorded order has more bytes than racereplay reads: {visible(file)}")
-    lines = text.split(b"\n", page.MOST_LINES)
-    if len(lines) <= page.MOST_LINES or not lines[-1]:
-        return text, []
-    return text[:-len(lines[-1])], [f"The page has the first {grouped(page.MOST_LINES)} lines of the recorded order."]
+    return text
 
 
 # ---- Whether it can race
@@ -122,7 +132,7 @@ def _verdict(folder, machine, names, replay):
     sought = witness(machine, names, replay)
     if sought.shown is None:
         return f"{begins}; {sought.words}.", None
-    quiz = {"order": sought.shown.order, "switches": sought.shown.switches(), "fewest": sought.shown.fewest}
+    quiz = {"veiled": page.veiled(sought.shown.order), "switches": sought.shown.switches(), "fewest": sought.shown.fewest}
     return f"{begins}, and {sought.words}.", quiz
 
 
