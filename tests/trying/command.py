@@ -1,4 +1,6 @@
 """The command tools/try-orders: what it says and writes, with files in its way and with programs that lie."""
+import json
+import re
 import shutil
 import tempfile
 from pathlib import Path
@@ -27,6 +29,9 @@ def check_said():
         done = run("--page", page, RACE)
         wanted = [f"{RACE}: the page is {page}; open it in a browser.", "Its recorded order: racereplay says RACE,34,34,2,4.",
                   "racecheck refuses this pair (REFUSE,33,70,5,0), and the job can race."]
+        shown = "\n    ".join(["    $ tools/try-orders --page refill-race.html examples/refill-race", *wanted])
+        shown = shown.replace(str(RACE), "examples/refill-race").replace(str(page), "refill-race.html")
+        check("docs/TRYING.md: what is said", shown in (HOUSE / "docs" / "TRYING.md").read_text(), True)
         check("try-orders of refill-race", (done.status, done.said.splitlines(), done.error), (0, wanted, ""))
         check("refill-race: the page in its folder", (RACE / PAGE).read_text() == page.read_text(), True)
         bare = copied(scratch, "bare", "program.txt")
@@ -107,9 +112,36 @@ def check_lies():
             check(f"a racereplay that lies about {what}", told, (3, True, True, False))
 
 
+def check_replayed():
+    """tools/explain --replay --page writes the same page; without an order to play none."""
+    with tempfile.TemporaryDirectory() as scratch:
+        page = Path(scratch) / "page"
+        done = run("--replay", "--page", page, RACE, tool="explain")
+        check("explain --replay --page", (done.status, done.said.splitlines()[0], done.error), (1, f"{RACE}: RACE,34,34,2,4", ""))
+        check("explain --replay --page: the page of try-orders", page.read_text() == (RACE / PAGE).read_text(), True)
+        bad = make_job(Path(scratch) / "bad", ["var,0"])
+        (bad / "trace.txt").write_text("0,0\n")
+        for what, folder, status in [("not well formed", bad, 1), ("no order", copied(scratch, "bare", "program.txt"), 2)]:
+            done = run("--replay", "--page", Path(scratch) / "none", folder, tool="explain")
+            told = done.status, "no page is written" in done.error, (Path(scratch) / "none").exists()
+            check(f"explain --replay --page, {what}", told, (status, True, False))
+
+
+def check_veiled():
+    """The quiz's answer is not to be read in the page's source."""
+    handed = json.loads(re.search(r'id="job">(.*?)</script>', (RACE / PAGE).read_text())[1])
+    check("the quiz: what is handed over", sorted(handed["quiz"]), ["fewest", "switches", "veiled"])
+    moves = [tuple(map(int, line.split(","))) for line in (RACE / "trace.txt").read_text().split()]
+    shown, plain = handed["quiz"]["veiled"], bytes(2 * thread + choice for thread, choice in moves).hex()
+    like = sum(one == other for one, other in zip(re.findall("..", shown), re.findall("..", plain)))
+    check("the quiz: moves that stand there as they are", (len(shown), like < len(moves) // 4), (len(plain), True))
+
+
 def check_command():
     check_said()
     check_traces()
     check_files()
     check_errors()
     check_lies()
+    check_replayed()
+    check_veiled()

@@ -24,7 +24,7 @@ from trying.tool import Job
 SCRIPTS = [(page.HERE / f"{name}.js").read_text() for name in page.PURE] + [Path(__file__).with_name("told.js").read_text()]
 NUMERALS = [Range("a number", 0, 10**10)] * 2
 LONGEST, MOST_STEPS = 256, 400
-MANY = 1000  # traces of a draw that meet everything
+MANY = 500  # traces of a draw that meet everything
 
 
 # ---- What tools/stepping makes of a trace, in the form of told.js

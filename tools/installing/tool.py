@@ -11,7 +11,7 @@ from explaining.showing import visible
 from .manual import manual_pages
 
 HOUSE = Path(__file__).resolve().parents[2]
-TOOLS = ("check-release", "explain", "fill", "show-race", "triage", "try-orders")
+TOOLS = ("check-release", "draw-faults", "explain", "fill", "show-race", "triage", "try-orders")
 LIBRARY = HOUSE / "target" / "staticlib" / "libentries.a"
 HEADER = HOUSE / "include" / "racecheck.h"
 # Where everything lives that bin and share lead to, below the prefix.

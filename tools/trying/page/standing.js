@@ -39,7 +39,7 @@ const standings = (() => {
   function changed(was, desk) {
     const { order } = desk, { title, words } = told(desk), isNext = order.at > was.order.at && order.moves !== was.order.moves;
     const first = isNext ? justNow(desk) : `State ${order.at} of ${order.moves.length}.`;
-    return wording.capital([first, ...moved(was, desk), title + words].join(" "));
+    return [first, ...moved(was, desk), title + words].map(wording.capital).join(" ");
   }
 
   function moved(was, desk) {
