@@ -1,5 +1,6 @@
 """Sound jobs of a tinting machine, each with its split. What makes one faulty is said by who asks for it."""
-from .sheets import Procedure, call, in_turn, loop, new, on, ref, sheets, spawn, variable, write
+from .sheets import sheets
+from .trees import Procedure, call, in_turn, loop, new, on, ref, spawn, variable, write
 
 # Threads, and what their identifiers are called.
 THREADS = {

@@ -10,12 +10,12 @@ OWN_STYLE = Path(__file__).with_name("style.css").read_text(encoding="utf-8")
 ASKED = (
     "Your guess: which line is refused?", "What does racecheck answer?", "Which fault is it (A to G)?",
     "Can the job race? If so, which two threads meet, and over which cell?", "Who mends it: the owner of the job, or of the split?")
-HOW = ("In each folder, 1 to {count}, is a pair with one fault. Read its two sheets first and guess; then start racecheck in the folder,"
-       " look the answer up with tools/explain, and try orders with tools/try-orders.")
+HOW = ("In each folder, 1 to {count}, is a pair with one fault. Read its two sheets first and guess; then start racecheck in the"
+       " folder, look the answer up with tools/explain, and try orders with tools/try-orders.")
 NAME = "Name ........................................      Date ...................."
 JUDGED = "racecheck and racereplay are proved, and are the ones to judge. Each pair has one fault, and one only."
-HELD = ("Every answer here is one that the proved programs gave when the sheet was made: racecheck's line on the pair, racereplay's on the"
-        " order that races, and racecheck's ACCEPT on the mended pair. The tool that drew them judges nothing.")
+HELD = ("Every answer here is one that the proved programs gave when the sheet was made: racecheck's line on the pair, racereplay's on"
+        " the order that races, and racecheck's ACCEPT on the mended pair. The tool that drew them judges nothing.")
 
 
 def questions(seed, count):
@@ -40,16 +40,16 @@ def _letter(fault):
 
 def _told(number, one):
     """The answers to what is asked, each with its name."""
-    drill = one.drill
+    drill, there = one.drill, f"answers/{number}"
     yield "racecheck", f"`{one.answer}` {one.meaning}"
     yield "refused", "; ".join(one.place)
     yield "what is wrong", drill.wrong
     if drill.at_fault == JOB:
-        yield "it can race", f"{one.race} `racereplay` says `{one.replayed}` of the order in answers/{number}/race.txt."
+        yield "it can race", f"{one.race} `racereplay` says `{one.replayed}` of the order in {there}/race.txt."
     else:
-        yield "it cannot race", f"The same job is accepted with the split in answers/{number}, so no order of it races: that is proved."
-    owner = "the owner of the job" if drill.at_fault == JOB else "the owner of the split"
-    yield "to mend it", f"{owner[0].upper()}{owner[1:]}: {drill.mend} The pair in answers/{number} is so mended; `racecheck` says `ACCEPT`."
+        yield "it cannot race", f"The same job is accepted with the split in {there}, so no order of it races: that is proved."
+    owner = "job" if drill.at_fault == JOB else "split"
+    yield "to mend it", f"The owner of the {owner}: {drill.mend} The pair in {there} is so mended; `racecheck` says `ACCEPT`."
 
 
 def _block(number, look, head, inside):

@@ -1,33 +1,16 @@
-"""A job as a tree, and its two sheets: program.txt, and a split whose rows follow from the start, step by step.
+"""The two sheets of a job: program.txt, and a split whose rows follow from the start, step by step.
 
 The after-map of each step is what its rule makes of the map before it. Where a rule would have to take more than is there,
-nothing is left: that row is where the split is refused. A tree calls variables, threads and procedures by their names, which
-names.txt then has.
+nothing is left: that row is where the split is refused.
 """
 from typing import NamedTuple
 
-INT = ("int",)
-# A type is its kind and its loads, each a number for every location; that of a cell is its kind and its location.
-TAKES = {"join": 1, "lock": 1, "wait": 1, "rdlock": 1, "wrlock": 2}  # and which load of their part these words take
+from .trees import INT
+
+# Which load of its part a word takes or gives, and which one a new thing gets from who makes it.
+TAKES = {"join": 1, "lock": 1, "wait": 1, "rdlock": 1, "wrlock": 2}
 GIVES = {"unlock": 1, "post": 1, "rdunlock": 1, "wrunlock": 2}
-MADE_OF = {"newlock": 1, "newrwlock": 2}  # the load that a new thing gets from who makes it
-
-
-class Step(NamedTuple):
-    word: str
-    parts: tuple = ()
-    number: int = 0
-    called: str = ""  # the variable of a let or var, the thread of a spawn
-    given: tuple = ()  # the type of what is made; what a spawn hands over, what a call keeps back
-
-
-class Procedure(NamedTuple):
-    called: str
-    variable: str
-    body: Step
-    before: tuple
-    argument: tuple
-    after: tuple
+MADE_OF = {"newlock": 1, "newrwlock": 2}
 
 
 class Row(NamedTuple):
@@ -35,58 +18,6 @@ class Row(NamedTuple):
     kind: tuple
     post: tuple
     start: tuple = None  # of a spawn and a call
-
-
-# ---- Trees
-
-
-def ref(location, value):
-    return Step("ref", (constant(value),), given=("ref", location))
-
-
-def new(word, *loads, number=0):
-    return Step(word, (), number, given=({"newtid": "tid", "newlock": "lock", "newsem": "sem", "newrwlock": "rwlock"}[word], *loads))
-
-
-def constant(value):
-    return Step("int", (), value)
-
-
-def variable(name):
-    return Step("var", called=name)
-
-
-def on(word, name):
-    """A word of one part, which is a variable."""
-    return Step(word, (variable(name),))
-
-
-def write(cell, value):
-    return Step("write", (variable(cell), constant(value)))
-
-
-def loop(*body):
-    return Step("while", (in_turn(*body),))
-
-
-def spawn(thread, identifier, start, *body):
-    return Step("spawn", (identifier, in_turn(*body)), called=thread, given=start)
-
-
-def call(procedure, argument, kept):
-    return Step("call", (variable(argument),), procedure, given=kept)
-
-
-def in_turn(*steps):
-    """Steps one after the other, each but the last bound by a let; a pair names the variable."""
-    *before, last = steps
-    for one in reversed(before):
-        name, step = ("", one) if isinstance(one, Step) else one
-        last = Step("let", (step, last), called=name)
-    return last
-
-
-# ---- Sheets
 
 
 class Sheets(NamedTuple):

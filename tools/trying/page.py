@@ -45,7 +45,7 @@ def handed(job):
 
 
 def veiled(order):
-    """An order that nobody reads by a look at the page's source: each move by the generator of document 02 (ii). It is no secret."""
+    """An order that a look at the page's source does not show: each move by the generator of document 02 (ii). It is no secret."""
     x, told = len(order), bytearray()
     for thread, choice in order:
         x = (1_664_525 * x + 1_013_904_223) % (1 << 32)

@@ -71,10 +71,12 @@ const showing = (() => {
     place("undo").disabled = place("restart").disabled = order.at === 0;
     place("redo").disabled = place("play").disabled = order.at === last;
     place("recorded").hidden = !recorded;
-    place("stopped").textContent = recorded && recorded.refused
-      ? `Line ${recorded.order.moves.length + 1} of the recorded order cannot be done (${recorded.refused}): it is here as far as that.` : "";
+    place("stopped").textContent = recorded && recorded.refused ? stopped(recorded) : "";
     place("play-words").textContent = isPlaying ? "Stop" : "Play";
   }
+
+  const stopped = ({ order, refused }) =>
+    `Line ${order.moves.length + 1} of the recorded order cannot be done (${refused}): it is here as far as that.`;
 
   // Where the first race is on the slider.
   function showFirst(at, last) {

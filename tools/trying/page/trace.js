@@ -41,5 +41,5 @@ const traces = (() => {
     return race ? `RACE,${steps},${told}` : `RAN,${steps}`;
   }
 
-  return { answer, done, followed, lines };
+  return { answer, done, followed };
 })();
