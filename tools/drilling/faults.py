@@ -1,7 +1,7 @@
 """The faults: from a draw a pair with the fault, the same pair mended, and what is wrong in a sentence."""
 from typing import NamedTuple
 
-from .jobs import Booked, Joined, Locked, Purged, Racked
+from .jobs import Canisters, ColourBook, Purge, Readers, Writers
 from .sheets import Sheets
 
 JOB, SPLIT = "the job", "the split"
@@ -17,42 +17,42 @@ class Drill(NamedTuple):
 
 
 def _join(draw):
-    job = Joined(draw)
+    job = Readers(draw)
     left = draw.one(job.threads)
     return (JOB, f"Main writes the level without having joined the {left}, which may still be reading it.",
             f"A join of the {left} before the write.", job.sheets(left), job.sheets())
 
 
 def _lock(draw):
-    job = Locked(draw)
+    job = Writers(draw)
     bare = draw.one(job.threads)
     return (JOB, f"The {bare} writes the level without the level lock; the others take it.",
             f"The {bare} takes the level lock and gives it back.", job.sheets(bare), job.sheets())
 
 
 def _canister(draw):
-    job = Racked(draw)
+    job = Canisters(draw)
     count = len(job.threads)
     return (JOB, f"Main waits for {count - 1} of {count} canisters, so one thread may still look at the rack when main writes it.",
             "One more wait at full.", job.sheets(1), job.sheets())
 
 
 def _reader(draw):
-    job = Booked(draw)
+    job = ColourBook(draw)
     places = len(job.threads)
     return (SPLIT, f"The book lock lets {places} readers in, and the split has a share for {places - 1} of them.",
             f"A split in {places} shares.", job.sheets(1), job.sheets())
 
 
 def _purge(draw):
-    job = Purged(draw)
+    job = Purge(draw)
     lost = draw.below(job.calls)
     return (SPLIT, f"Call {lost + 1} of the purge keeps nothing back, so main's right to the level is lost in it.",
             "What the purge does not need is kept back.", job.sheets(lost), job.sheets())
 
 
 def _row(draw):
-    sound = draw.one([Joined, Locked, Racked])(draw).sheets()
+    sound = draw.one([Readers, Writers, Canisters])(draw).sheets()
     moving = [at for at, row in enumerate(sound.rows)
               if row.word in ("spawn", "join", "lock", "wait", "post", "unlock") and sound.rows[at - 1].word == "let"]
     at = draw.one(moving)
@@ -64,7 +64,7 @@ def _row(draw):
 
 
 def _load(draw):
-    sound = draw.one([Joined, Locked, Racked])(draw).sheets()
+    sound = draw.one([Readers, Writers, Canisters])(draw).sheets()
     kinds = [row.kind for row in sound.rows if len(row.kind) == 2 and row.kind[0] != "ref" and any(row.kind[1])]
     kind = draw.one(sorted(set(kinds)))
     right = kind[1]

@@ -7,7 +7,7 @@ THREADS = {
     "pump": "pumping", "screen": "showing", "stirrer": "stirring", "scale": "weighing", "heater": "heating", "lamp": "lighting"}
 
 
-class Joined:
+class Readers:
     """Threads that read the level, some of them at work on the colour under its lock; main joins them all and writes the level."""
 
     def __init__(self, draw):
@@ -29,7 +29,7 @@ class Joined:
         return [on("read", "level"), *(work if one in self.at_colour else [])]
 
 
-class Locked:
+class Writers:
     """Threads that read the recipe and write the level under its lock, some of them again and again; main reads the recipe."""
 
     def __init__(self, draw):
@@ -51,7 +51,7 @@ class Locked:
         return [on("read", "recipe"), *([loop(*work)] if one in self.looping else work)]
 
 
-class Racked:
+class Canisters:
     """Feeders that look at the rack once a place is empty and put a canister in; main waits for every canister, then clears it."""
 
     def __init__(self, draw):
@@ -69,7 +69,7 @@ class Racked:
             *[on("wait", "full")] * (count - fewer), write("rack", 0)))
 
 
-class Booked:
+class ColourBook:
     """Readers of the colour book, a reading place for each; main writes it."""
 
     def __init__(self, draw):
@@ -87,7 +87,7 @@ class Booked:
             on("wrlock", "book lock"), write("book", 2), on("wrunlock", "book lock")))
 
 
-class Purged:
+class Purge:
     """Main purges the nozzle again and again while a thread reads the level, joins it and writes the level."""
 
     def __init__(self, draw):
