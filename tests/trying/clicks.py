@@ -116,12 +116,15 @@ def check_quiz(browser, scratch):
     check("quiz: from the start, and the recorded order is away", (desk.shown("where"), hidden), ("state 0 of 0", True))
     desk.tab.press("h")
     check("quiz: the first hint", "the cell is level." in desk.tab.value(words), True)
+    said = "document.getElementById('said').textContent"
+    check("quiz: the first hint is told too", desk.tab.value(said).endswith("Hint: the cell is level."), True)
     desk.tab.press("h")
     check("quiz: the second hint", "pump and refill can meet there." in desk.tab.value(words), True)
     for key in "000000000003333004":
         desk.tab.press(key, f"Digit{key}")
     solved = "Found, with 2 hints: 35 steps, 3 switches of thread. No race was found with fewer than 3 switches."
     check("quiz: solved", (desk.shown("kind"), solved in desk.tab.value(words)), ("race", True))
+    check("quiz: that it is solved is told too", desk.tab.value(said).endswith(solved), True)
     for key in ("q", "q", "h", "h", "h"):
         desk.tab.press(key)
     check("quiz: one is shown", desk.until("kind", "race"), True)

@@ -7,7 +7,6 @@ const showing = (() => {
   // `was` is what was shown before, or null.
   function all(desk, was) {
     const focus = document.activeElement && document.activeElement.id, stand = standings.told(desk), done = standings.justNow(desk);
-    if (was) place("said").textContent = standings.changed(was, desk);
     const stands = stand.title ? [make("b", "", stand.title), stand.words] : wording.capital(stand.words);
     fill("banner", make("span", "stands", stands), done ? make("span", "just-now", `Just now: ${done}`) : null);
     place("banner").className = `banner ${stand.kind}`;
@@ -17,11 +16,18 @@ const showing = (() => {
     place("threads").style.setProperty("--columns", Math.min(desk.known.threads.length, COLUMNS));
     fill("things", things.rows(desk));
     fill("quiz", desk.quiz);
+    if (was) place("said").textContent = said(was, desk);
     showLanes(desk);
     showOrder(desk);
     showControls(desk);
     const again = focus && place(focus);
     if (again && again !== document.activeElement) again.focus({ preventScroll: true });
+  }
+
+  // What has changed, and what the quiz says if it has come to something new.
+  function said(was, desk) {
+    const quiz = [...place("quiz").querySelectorAll("p")].map(one => one.textContent);
+    return [standings.changed(was, desk), ...(was.stage === desk.stage ? [] : quiz)].join(" ");
   }
 
   function showLanes(desk) {

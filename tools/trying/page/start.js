@@ -12,7 +12,8 @@
     const { state, race, known } = orders.now(order);
     const now = { job, book, say: data.say, colours: data.colours, dark: data.dark, order, state, race, known, move };
     const quizzing = quizzes.told(now, data, quiz, { start: startQuiz, hint, leave: leaveQuiz });
-    return { ...now, quiz: quizzing, isPlaying: playing !== null, recorded: quiz === null ? recorded : null };
+    const stage = quiz === null ? "" : `${quiz}, ${orders.raceSoFar(order) ? "found" : "not found"}`;
+    return { ...now, quiz: quizzing, stage, isPlaying: playing !== null, recorded: quiz === null ? recorded : null };
   }
 
   function show() {
