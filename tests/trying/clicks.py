@@ -141,18 +141,17 @@ def check_download(browser, scratch):
     desk.slide(34)
     browser.ask("Browser.setDownloadBehavior", behavior="allow", downloadPath=str(folder))
     desk.tab.click("#download")
-    for _ in range(50):
+    for _ in range(200):
         if (folder / "trace.txt").exists():
             break
         time.sleep(0.1)
     line = subprocess.run([racereplay()], cwd=folder, capture_output=True, text=True).stdout
     check("taken along: racereplay confirms it", line, "RACE,34,34,2,4\n")
+    desk.tab.value("new MutationObserver(() => { window.seen = window.seen || copied.textContent; }).observe(copied, {childList: true})")
     desk.tab.click("#copy")
-    for _ in range(20):
-        copied = desk.tab.value("document.getElementById('copied').textContent")
-        if copied:
-            break
-    check("taken along: copied", copied, "Copied.")
+    check("taken along: copied", desk.waited("window.seen || ''"), "Copied.")
+    browser.ask("Browser.grantPermissions", permissions=["clipboardReadWrite"])
+    check("taken along: what was copied", desk.tab.value("navigator.clipboard.readText()"), (RACE / "trace.txt").read_text())
 
 
 # ---- Who has no use for keys, and who does not see the page

@@ -36,11 +36,15 @@ class Desk:
 
     def until(self, what, wanted):
         """Waits until something is shown."""
-        for _ in range(200):
-            if self.shown(what) == wanted:
-                return True
+        return self.waited(f"({SHOWN})[{what!r}] === {wanted!r}")
+
+    def waited(self, script):
+        """What a script comes to once it comes to something; a machine with other work takes its time."""
+        for _ in range(400):
+            if found := self.tab.value(script):
+                return found
             time.sleep(0.1)
-        return False
+        return None
 
 
 def page_of(folder, scratch, *more):
