@@ -1,102 +1,23 @@
-"""The page in a real browser: clicks, keys, the slider, the quiz, names that mean harm, a wide screen, a telephone and paper."""
-import json
-import re
+"""The page in a real browser: an order clicked, typed, recorded, long; the quiz; what is told to who does not see it."""
 import subprocess
-import tempfile
 import time
 from pathlib import Path
 
 from checks import HOUSE, check
-from devtools import Browser
+from desks import RACE, Desk, page_of
 from jobs import make_job
-from trying_jobs import racereplay, run
-
-EXAMPLES = sorted(folder for folder in (HOUSE / "examples").iterdir() if (folder / "program.txt").exists())
-RACE = HOUSE / "examples" / "refill-race"
-SCREEN, TELEPHONE = 1300, 400
-
-# What the page shows, from inside it.
-SHOWN = """(() => {
-  const text = id => document.getElementById(id).textContent;
-  return {kind: document.getElementById("banner").className.split(" ")[1],
-    banner: document.querySelector(".stands").textContent, badge: text("badge"),
-    answer: text("answer"), where: text("where"), trace: document.getElementById("trace").value};
-})()"""
-# Whether everything is inside the window and large enough to touch, and what is too faint to read.
-LOOKS = """(() => {
-  const seen = [...document.querySelectorAll("body *")]
-    .filter(one => one.getClientRects().length && !one.closest(".unseen, .lanes"));
-  const past = seen.filter(one => one.getBoundingClientRect().right > innerWidth + 1).map(one => one.id || one.className);
-  const small = seen.filter(one => one.tagName === "BUTTON" && one.getBoundingClientRect().height < 24).map(one => one.textContent);
-  const cut = seen.filter(one => one.matches(".thread *, .thing *, button") && one.clientWidth)
-    .filter(one => one.scrollWidth > one.clientWidth + 1).map(one => one.textContent);
-  const numbers = colour => colour.match(/[\\d.]+/g).map(Number);
-  const light = ([r, g, b]) => [r, g, b].map(v => v / 255).map(v => v <= 0.04045 ? v / 12.92 : ((v + 0.055) / 1.055) ** 2.4)
-    .reduce((sum, v, i) => sum + v * [0.2126, 0.7152, 0.0722][i], 0);
-  const behind = one => { for (; one; one = one.parentElement) {
-    const at = numbers(getComputedStyle(one).backgroundColor); if (at.length < 4 || at[3] > 0) return at; } return [255, 255, 255]; };
-  const ratio = one => { const [a, b] = [light(numbers(getComputedStyle(one).color)), light(behind(one))].sort((x, y) => y - x);
-    return (a + 0.05) / (b + 0.05); };
-  const hasWords = one => [...one.childNodes].some(node => node.nodeType === 3 && node.textContent.trim());
-  const faint = seen.filter(one => hasWords(one) && !one.closest(":disabled") && ratio(one) < 4.5)
-    .map(one => `${ratio(one).toFixed(1)} ${one.textContent}`);
-  return {past, small, cut, faint, scrolls: document.documentElement.scrollWidth > innerWidth};
-})()"""
-WELL = {"past": [], "small": [], "cut": [], "faint": [], "scrolls": False}
-SLIDE = "(() => {{ const one = document.getElementById('slider'); one.value = {}; one.dispatchEvent(new Event('input')); }})()"
+from trying_jobs import racereplay
 
 
-class Desk:
-    """A page that is open."""
-
-    def __init__(self, browser, file, width=SCREEN):
-        self.tab = browser.open(file.as_uri(), width)
-
-    def shown(self, *what):
-        seen = self.tab.value(SHOWN)
-        return [seen[one] for one in what] if len(what) > 1 else seen[what[0]]
-
-    def move(self, thread, choice):
-        self.tab.click(f"#move-{thread}-{choice}")
-
-    def slide(self, state):
-        self.tab.value(SLIDE.format(state))
-
-    def until(self, what, wanted):
-        """Waits until something is shown."""
-        for _ in range(200):
-            if self.shown(what) == wanted:
-                return True
-            time.sleep(0.1)
-        return False
-
-
-def page_of(folder, scratch, *more):
-    file = Path(scratch) / f"{folder.name}.html"
-    done = run("--page", file, *more, folder)
-    check(f"page of {folder.name}", (done.status, done.error), (0, ""))
-    return file
-
-
-def check_pages():
-    """Every page in a browser, if there is one."""
-    browser = Browser()
-    try:
-        with tempfile.TemporaryDirectory() as scratch:
-            check_clicks(browser, scratch)
-            check_keys(browser, scratch)
-            check_recorded(browser, scratch)
-            check_quiz(browser, scratch)
-            check_download(browser, scratch)
-            check_names(browser, scratch)
-            check_endings(browser, scratch)
-            check_examples(browser, scratch)
-            check_paper(browser, scratch)
-    finally:
-        browser.close()
-
-
-# ---- One order, clicked and typed
+def check_orders(browser, scratch):
+    check_clicks(browser, scratch)
+    check_keys(browser, scratch)
+    check_without_keys(browser, scratch)
+    check_told(browser, scratch)
+    check_recorded(browser, scratch)
+    check_long(browser, scratch)
+    check_quiz(browser, scratch)
+    check_download(browser, scratch)
 
 
 def recorded_moves():
@@ -195,12 +116,15 @@ def check_quiz(browser, scratch):
     check("quiz: from the start, and the recorded order is away", (desk.shown("where"), hidden), ("state 0 of 0", True))
     desk.tab.press("h")
     check("quiz: the first hint", "the cell is level." in desk.tab.value(words), True)
+    said = "document.getElementById('said').textContent"
+    check("quiz: the first hint is told too", desk.tab.value(said).endswith("Hint: the cell is level."), True)
     desk.tab.press("h")
     check("quiz: the second hint", "pump and refill can meet there." in desk.tab.value(words), True)
     for key in "000000000003333004":
         desk.tab.press(key, f"Digit{key}")
     solved = "Found, with 2 hints: 35 steps, 3 switches of thread. No race was found with fewer than 3 switches."
     check("quiz: solved", (desk.shown("kind"), solved in desk.tab.value(words)), ("race", True))
+    check("quiz: that it is solved is told too", desk.tab.value(said).endswith(solved), True)
     for key in ("q", "q", "h", "h", "h"):
         desk.tab.press(key)
     check("quiz: one is shown", desk.until("kind", "race"), True)
@@ -217,99 +141,72 @@ def check_download(browser, scratch):
     desk.slide(34)
     browser.ask("Browser.setDownloadBehavior", behavior="allow", downloadPath=str(folder))
     desk.tab.click("#download")
-    for _ in range(50):
+    for _ in range(200):
         if (folder / "trace.txt").exists():
             break
         time.sleep(0.1)
     line = subprocess.run([racereplay()], cwd=folder, capture_output=True, text=True).stdout
     check("taken along: racereplay confirms it", line, "RACE,34,34,2,4\n")
+    desk.tab.value("new MutationObserver(() => { window.seen = window.seen || copied.textContent; }).observe(copied, {childList: true})")
     desk.tab.click("#copy")
-    for _ in range(20):
-        copied = desk.tab.value("document.getElementById('copied').textContent")
-        if copied:
-            break
-    check("taken along: copied", copied, "Copied.")
+    check("taken along: copied", desk.waited("window.seen || ''"), "Copied.")
+    browser.ask("Browser.grantPermissions", permissions=["clipboardReadWrite"])
+    check("taken along: what was copied", desk.tab.value("navigator.clipboard.readText()"), (RACE / "trace.txt").read_text())
 
 
-# ---- Names that mean harm, and every ending
+# ---- Who has no use for keys, and who does not see the page
 
 
-def check_names(browser, scratch):
-    """A name is only ever a name."""
-    folder = make_job(Path(scratch) / "harm <b>&amp;", [])
-    (folder / "program.txt").write_bytes((RACE / "program.txt").read_bytes())
-    (folder / "trace.txt").write_bytes((RACE / "trace.txt").read_bytes())
-    names = {
-        "variable,0": "<img src=x onerror=document.title=1>", "variable,2": "</script><script>document.title=2//",
-        "thread,0": "{thing} $& $1 `${document.title=3}`", "thread,2": "\"'><svg onload=document.title=4>", "thread,4": "<!--",
-        "variable,1": "javascript:document.title=5", "thread,3": "&lt;i&gt; \\u003cb"}
-    (folder / "names.txt").write_text("".join(f"{what},{name}\n" for what, name in names.items()))
-    file = page_of(folder, scratch)
-    desk = Desk(browser, file)
-    desk.slide(34)
-    text = desk.tab.value("document.body.innerText")
-    check("harmful names: shown as they stand", [name for name in names.values() if name not in text], [])
-    check("harmful names: the title", desk.tab.value("document.title"), "harm <b>&amp;: try orders")
-    made = desk.tab.value("document.querySelectorAll('img, svg, script[src], b b, h1 b').length")
-    check("harmful names: nothing is made of them", made, 0)
-    check("harmful names: scripts", desk.tab.value("document.scripts.length"), 2)
-    check("harmful names: nothing went wrong", desk.tab.complaints(), [])
-    check("the page asks for nothing", re.findall(r"https?:|@import|url\(|<link|<img", file.read_text()), [])
+def check_without_keys(browser, scratch):
+    """Single keys can be switched off and on again; what has the focus is pressed by the keyboard all the same."""
+    desk = Desk(browser, page_of(RACE, scratch))
+    desk.tab.click("#keys")
+    for key, code in (("0", "Digit0"), ("q", ""), ("ArrowRight", "")):
+        desk.tab.press(key, code)
+    hints = desk.tab.value("[...document.querySelectorAll('button kbd')].filter(one => one.getClientRects().length).length")
+    check("keys switched off", (desk.shown("where"), hints), ("state 0 of 34", 0))
+    desk.tab.value("document.getElementById('move-0-0').focus()")
+    desk.tab.press("Enter", text="\r")
+    check("keys switched off: a button that has the focus", desk.shown("where"), "state 2 of 2")
+    desk.tab.click("#keys")
+    desk.tab.press("0", "Digit0")
+    check("keys switched on again", desk.shown("where"), "state 4 of 4")
 
 
-ENDS = {
-    "done": (["let,0", "ref,0", "int,0", "read,0", "var,0"], "000", "Finished: all threads have finished."),
-    "waits": (["let,0", "newlock,0", "let,1", "lock,0", "var,0", "lock,0", "var,0"], "00",
-              "All wait: nobody can move: thread 0 waits for v0 (line 7)."),
-    "stuck": (["read,0", "int,3"], "", "Stuck: thread 0 is stuck at `read`, which cannot go on with a number (line 2)."
-              " The job is at fault."),
-}
+def check_told(browser, scratch):
+    """What changes is told in one place, which a screen reader speaks."""
+    desk, said = Desk(browser, page_of(RACE, scratch)), []
+    region = desk.tab.value("(() => { const one = document.getElementById('said'); return [one.getAttribute('role'), one.ariaLive]; })()")
+    check("told: a live region, and one only", (region, desk.tab.value("document.querySelectorAll('[aria-live]').length")),
+          (["status", "polite"], 1))
+    desk.slide(20)
+    for key in "01130u":
+        desk.tab.press(key, f"Digit{key}" if key.isdigit() else "")
+        said.append(desk.tab.value("document.getElementById('said').textContent"))
+    check("told: each change", said, TOLD)
 
 
-def check_endings(browser, scratch):
-    for kind, (lines, keys, words) in ENDS.items():
-        desk = Desk(browser, page_of(make_job(Path(scratch) / kind, lines), scratch))
-        for key in keys:
-            desk.tab.press(key, f"Digit{key}")
-        check(f"a job that comes to {kind}", desk.shown("kind", "banner"), [kind, words])
-    full = make_job(Path(scratch) / "full", ["while,0", "newlock,0"])
-    (full / "trace.txt").write_text("0,0\n" * 258)
-    desk = Desk(browser, page_of(full, scratch))
-    desk.slide(258)
-    greyed = desk.tab.value("document.querySelector('.move[aria-disabled]').textContent")
-    check("past the room of racereplay", (desk.shown("answer"), greyed), ("RAN,258", "no room"))
+WHO = "3 threads can move. Who goes next?"
+TOLD = [
+    f"Main starts screen (line 48). Main waits for a thread of showing (line 62). Screen can go on. {WHO}",
+    f"Stirrer comes to the loop (line 21). {WHO}", f"Stirrer goes round the loop (line 21). {WHO}",
+    f"Screen reads level: 100 (line 51). {WHO}", "Thread 0 waits for a thread of showing.", f"State 24 of 26. {WHO}"]
 
 
-# ---- How it looks
+def check_long(browser, scratch):
+    """An order of many lines is on the slider whole, with its last states as its first; what is copied is all of it."""
+    loop = make_job(Path(scratch) / "loop", ["while,0", "int,0"])
+    (loop / "trace.txt").write_text("0,0\n" * LONG)
+    desk = Desk(browser, page_of(loop, scratch))
+    check("long: on the slider", desk.shown("where", "kind"), [f"state 0 of {LONG}", "open"])
+    desk.slide(LONG)
+    cut = desk.tab.value("document.getElementById('cut').textContent")
+    check("long: its end", (desk.shown("answer"), cut), (
+        f"RAN,{LONG}", f"These are the latest 2000 of {LONG} lines; Copy and Download take all of them."))
+    desk.move(0, 0)
+    desk.tab.press("u")
+    check("long: a step more, and back", desk.shown("where"), f"state {LONG} of {LONG + 1}")
+    check("long: nothing went wrong", desk.tab.complaints(), [])
 
 
-def check_examples(browser, scratch):
-    """Every example: at the start, in the middle and at the end of its order nothing runs over, and nothing is too faint."""
-    for folder in EXAMPLES:
-        desk = Desk(browser, page_of(folder, scratch))
-        alarm = desk.tab.value("document.getElementById('alarm').hidden")
-        check(f"{folder.name}: no disagreement", alarm, True)
-        if not (folder / "trace.txt").exists():
-            for key in "qhhhp":  # an order that races, if there is one
-                desk.tab.press(key)
-        last = int(desk.shown("where").split()[-1])
-        for width in (SCREEN, TELEPHONE):
-            desk.tab.size(width, 900)
-            for state in {0, last // 2, last}:
-                desk.slide(state)
-                check(f"{folder.name}, state {state}, {width} wide", desk.tab.value(LOOKS), WELL)
-        if (folder / "replayed").exists():
-            check(f"{folder.name}: its recorded order", desk.shown("answer"), (folder / "replayed").read_text().strip())
-        check(f"{folder.name}: nothing went wrong", desk.tab.complaints(), [])
-    used = [node for node in desk.tab.ask("Accessibility.getFullAXTree")["nodes"]
-            if node.get("role", {}).get("value") in ("button", "slider", "checkbox", "textbox")]
-    check("there is something to use", len(used) > 8, True)
-    nameless = [node for node in used if not node.get("name", {}).get("value")]
-    check("everything that can be used has a name", json.dumps(nameless), "[]")
-
-
-def check_paper(browser, scratch):
-    desk, paper = Desk(browser, page_of(RACE, scratch)), Path(scratch) / "paper.pdf"
-    desk.slide(34)
-    desk.tab.paper(paper)
-    check("on paper: one sheet", len(re.findall(rb"/Type\s*/Page\b", paper.read_bytes())), 1)
+LONG = 30_000  # lines

@@ -1,4 +1,6 @@
 """The command tools/try-orders: what it says and writes, with files in its way and with programs that lie."""
+import json
+import re
 import shutil
 import tempfile
 from pathlib import Path
@@ -8,7 +10,8 @@ from jobs import make_job
 from trying_jobs import racereplay, run
 
 RACE = HOUSE / "examples" / "refill-race"
-PAGE = "orders.html"
+PAGE = "step.html"
+LONG = 12_000  # lines of an order
 
 
 def copied(scratch, name, *files):
@@ -26,11 +29,14 @@ def check_said():
         done = run("--page", page, RACE)
         wanted = [f"{RACE}: the page is {page}; open it in a browser.", "Its recorded order: racereplay says RACE,34,34,2,4.",
                   "racecheck refuses this pair (REFUSE,33,70,5,0), and the job can race."]
+        shown = "\n    ".join(["    $ tools/try-orders --page refill-race.html examples/refill-race", *wanted])
+        shown = shown.replace(str(RACE), "examples/refill-race").replace(str(page), "refill-race.html")
+        check("docs/TRYING.md: what is said", shown in (HOUSE / "docs" / "TRYING.md").read_text(), True)
         check("try-orders of refill-race", (done.status, done.said.splitlines(), done.error), (0, wanted, ""))
         check("refill-race: the page in its folder", (RACE / PAGE).read_text() == page.read_text(), True)
         bare = copied(scratch, "bare", "program.txt")
         done = run(bare)
-        check("without split, trace and names", (done.status, sorted(contents(bare))), (0, [PAGE, "program.txt"]))
+        check("without split, trace and names", (done.status, sorted(contents(bare))), (0, ["program.txt", PAGE]))
         wanted = [
             f"{bare}: the page is {bare / PAGE}; open it in a browser.",
             "No split of this job was judged here, and the job can race."]
@@ -41,7 +47,7 @@ def check_said():
 
 
 def check_traces():
-    """Any trace is taken: one that is refused, one of bytes, an empty one; of a long one as much as a page can have."""
+    """Any trace is taken: one that is refused, one of bytes, an empty one, a long one."""
     with tempfile.TemporaryDirectory() as scratch:
         folder, order, page = copied(scratch, "job", "program.txt"), Path(scratch) / "order", Path(scratch) / "page"
         for what, text, line in [
@@ -52,12 +58,10 @@ def check_traces():
             done = run("--trace", order, "--page", page, folder)
             check(f"a trace, {what}", (done.status, f"racereplay says {line}." in done.said), (0, True))
         loop = make_job(Path(scratch) / "loop", ["while,0", "int,0"])
-        order.write_text("0,0\n" * 5000)
+        order.write_text("0,0\n" * LONG)
         done = run("--trace", order, "--page", page, loop)
-        check("5,000 lines", ("RAN,5000" in done.said, "first 5,000" in done.said), (True, False))
-        order.write_text("0,0\n" * 5001)
-        done = run("--trace", order, "--page", page, loop)
-        check("5,001 lines", ("RAN,5000" in done.said, "The page has the first 5,000 lines" in done.said), (True, True))
+        whole = page.read_text().count(r"0,0\n")
+        check("a long trace is in the page whole", (f"RAN,{LONG}" in done.said, whole), (True, LONG))
         check("no such trace", run("--trace", Path(scratch) / "nowhere", "--page", page, folder).status, 2)
 
 
@@ -71,7 +75,7 @@ def check_files():
             check(f"a page over {name}", (done.status, "written over" in done.error), (2, True))
         (folder / PAGE).write_text("mine")
         done = run(folder)
-        check("an orders.html that is no such page", (done.status, "is no page of this tool" in done.error), (2, True))
+        check("a step.html that is no such page", (done.status, "is no page of this tool" in done.error), (2, True))
         check("the folder afterwards", contents(folder), {**before, PAGE: b"mine"})
 
 
@@ -108,9 +112,36 @@ def check_lies():
             check(f"a racereplay that lies about {what}", told, (3, True, True, False))
 
 
+def check_replayed():
+    """tools/explain --replay --page writes the same page; without an order to play none."""
+    with tempfile.TemporaryDirectory() as scratch:
+        page = Path(scratch) / "page"
+        done = run("--replay", "--page", page, RACE, tool="explain")
+        check("explain --replay --page", (done.status, done.said.splitlines()[0], done.error), (1, f"{RACE}: RACE,34,34,2,4", ""))
+        check("explain --replay --page: the page of try-orders", page.read_text() == (RACE / PAGE).read_text(), True)
+        bad = make_job(Path(scratch) / "bad", ["var,0"])
+        (bad / "trace.txt").write_text("0,0\n")
+        for what, folder, status in [("not well formed", bad, 1), ("no order", copied(scratch, "bare", "program.txt"), 2)]:
+            done = run("--replay", "--page", Path(scratch) / "none", folder, tool="explain")
+            told = done.status, "no page is written" in done.error, (Path(scratch) / "none").exists()
+            check(f"explain --replay --page, {what}", told, (status, True, False))
+
+
+def check_veiled():
+    """The quiz's answer is not to be read in the page's source."""
+    handed = json.loads(re.search(r'id="job">(.*?)</script>', (RACE / PAGE).read_text())[1])
+    check("the quiz: what is handed over", sorted(handed["quiz"]), ["fewest", "switches", "veiled"])
+    moves = [tuple(map(int, line.split(","))) for line in (RACE / "trace.txt").read_text().split()]
+    shown, plain = handed["quiz"]["veiled"], bytes(2 * thread + choice for thread, choice in moves).hex()
+    like = sum(one == other for one, other in zip(re.findall("..", shown), re.findall("..", plain)))
+    check("the quiz: moves that stand there as they are", (len(shown), like < len(moves) // 4), (len(plain), True))
+
+
 def check_command():
     check_said()
     check_traces()
     check_files()
     check_errors()
     check_lies()
+    check_replayed()
+    check_veiled()

@@ -116,10 +116,11 @@ class Tab:
         for kind in ("mousePressed", "mouseReleased"):
             self.ask("Input.dispatchMouseEvent", type=kind, x=place[0], y=place[1], button="left", clickCount=1)
 
-    def press(self, key, code=None, shift=False, **more):
-        """A real key."""
-        for kind, text in (("keyDown", {"text": key} if len(key) == 1 else {}), ("keyUp", {})):
-            self.ask("Input.dispatchKeyEvent", type=kind, key=key, code=code or "", modifiers=8 * shift, **text, **more)
+    def press(self, key, code="", shift=False, text=None):
+        """A real key, and what it writes: its own letter if nothing else is said."""
+        writes = text or (key if len(key) == 1 else "")
+        for kind, more in (("keyDown", {"text": writes} if writes else {}), ("keyUp", {})):
+            self.ask("Input.dispatchKeyEvent", type=kind, key=key, code=code, modifiers=8 * shift, **more)
 
     def picture(self, file, whole=True):
         shot = self.ask("Page.captureScreenshot", format="png", captureBeyondViewport=whole)

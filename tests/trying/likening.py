@@ -21,11 +21,10 @@ from stepping.wording import about, step_words
 from trying import page
 from trying.tool import Job
 
-PURE = ["machine", "trace", "knowing", "naming", "wording", "order"]  # the scripts that no page is needed for
-SCRIPTS = [(page.HERE / f"{name}.js").read_text() for name in PURE] + [Path(__file__).with_name("told.js").read_text()]
+SCRIPTS = [(page.HERE / f"{name}.js").read_text() for name in page.PURE] + [Path(__file__).with_name("told.js").read_text()]
 NUMERALS = [Range("a number", 0, 10**10)] * 2
 LONGEST, MOST_STEPS = 256, 400
-MANY = 1000  # traces of a draw that meet everything
+MANY = 500  # traces of a draw that meet everything
 
 
 # ---- What tools/stepping makes of a trace, in the form of told.js
@@ -168,6 +167,19 @@ def every_form():
         yield program, f"0,0\n{line}".encode()
 
 
+# What drawn traces seldom meet: the parts of a write, each a step; a reader past the last place; joined threads that free no room.
+SELDOM = [
+    (["write,0", "ref,0", "int,0", "ref,0", "int,1"], "0,0\n" * 4),
+    (["let,0", "newrwlock,2", *["let,1", "rdlock,0", "var,0", "let,2", "rdlock,0", "var,0"], "rdlock,0", "var,0"], "0,0\n" * 7),
+    (["while,0", "let,0", "newtid,0", "let,1", "spawn,0", "var,0", "int,0", "join,0", "var,0"], "0,0\n" * 128),
+]
+
+
+def seldom():
+    for lines, trace in SELDOM:
+        yield program_of(lines).encode(), trace.encode()
+
+
 def rust_draws(scratch, count, seed):
     """The programs and traces that the second replayer is tried on, those that racereplay does not turn away."""
     command = ["cargo", "run", "--release", "--offline", "--quiet", "--bin", "traces", "--", scratch, str(count), str(seed)]
@@ -224,7 +236,7 @@ def check_steps(kind_of_engine, binary, count, seed):
         racereplay = Racereplay(binary, scratch)
         for number, (program, trace) in enumerate(rust_draws(f"{scratch}/drawn", count, seed)):
             check_one(f"drawn trace {number}", program, trace, engine, racereplay, tally)
-        for number, (program, trace) in enumerate([*every_kind(), *every_form()]):
+        for number, (program, trace) in enumerate([*every_kind(), *every_form(), *seldom()]):
             check_one(f"known trace {number}", program, trace, engine, racereplay, tally)
         check_walks(engine, racereplay, count, seed, tally)
     engine.close()

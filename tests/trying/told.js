@@ -16,14 +16,14 @@ const stateTold = state => JSON.stringify([
   machine.race(state)]);
 
 function told([program, trace]) {
-  const job = machine.read(program), { states, refused } = traces.replayed(job, trace);
-  return [traces.answer(states, refused), states.map(stateTold)];
+  const job = machine.read(program), { order, refused } = orders.recorded(job, trace), steps = order.moves.length;
+  return [traces.answer(steps, order.race, refused), orders.moments(order, 0, steps).map(({ state }) => stateTold(state))];
 }
 
 // Every step of a trace in words, and after it what each thread is about to do.
 function worded([program, trace, { names, nouns, say }]) {
-  const job = machine.read(program), { moves } = traces.replayed(job, trace), book = naming.book(job, names, nouns);
-  return orders.loaded(job, moves).moments.slice(1).map(({ state, known, step }) => [
+  const job = machine.read(program), { order } = orders.recorded(job, trace), book = naming.book(job, names, nouns);
+  return orders.moments(order, 1, order.moves.length).map(({ state, known, step }) => [
     wording.does(say, book, known, step),
     ...state.threads.filter(thread => thread.next).map(thread =>
       `${naming.thread(book, known, thread.number)} ${wording.about(say, book, known, state, thread)}`)]);

@@ -12,9 +12,9 @@ class Done(NamedTuple):
     error: str
 
 
-def run(*arguments, **environment):
+def run(*arguments, tool="try-orders", **environment):
     done = subprocess.run(
-        [HOUSE / "tools" / "try-orders", *map(str, arguments)], env=user_environment(**environment), cwd=HOUSE,
+        [HOUSE / "tools" / tool, *map(str, arguments)], env=user_environment(**environment), cwd=HOUSE,
         stdin=subprocess.DEVNULL, capture_output=True, text=True)
     return Done(done.returncode, done.stdout, done.stderr)
 

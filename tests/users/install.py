@@ -9,7 +9,7 @@ from checks import HOUSE, check, contents, user_environment
 from header import check_linked, library
 from installing.manual import manual_pages
 
-COMMANDS = ["check-release", "explain", "fill", "racecheck", "racedrill", "racefill", "racereplay", "show-race", "triage", "try-orders"]
+COMMANDS = ["check-release", "draw-faults", "explain", "fill", "racecheck", "racedrill", "racefill", "racereplay", "show-race", "triage", "try-orders"]
 
 
 def make_house(place, programs):
@@ -57,8 +57,10 @@ def check_commands(prefix, scratch):
     check("installed: explain --replay", (done.returncode, "RAN,69" in done.stdout), (0, True))
     done = run(prefix, "show-race", "--trace", "order.txt", examples / "join-race", cwd=scratch)
     check("installed: show-race", (done.returncode, "This job can race." in done.stdout), (1, True))
-    done = run(prefix, "try-orders", "--page", "orders.html", examples / "join-race", cwd=scratch)
+    done = run(prefix, "try-orders", "--page", "step.html", examples / "join-race", cwd=scratch)
     check("installed: try-orders", (done.returncode, "the job can race" in done.stdout), (0, True))
+    done = run(prefix, "draw-faults", "1", "lesson", cwd=scratch)
+    check("installed: draw-faults", (done.returncode, "7 pairs with a fault each" in done.stdout), (0, True))
     done = run(prefix, "check-release", examples, cwd=scratch)
     check("installed: check-release", (done.returncode, "count\tFAILED\t0" in done.stdout), (1, True))
     record = (scratch / "release-report.txt").read_text()

@@ -11,7 +11,7 @@ from pathlib import Path
 from checks import HOUSE, check, contents, user_environment
 from starting.version import version
 
-TOOLS = ["check-release", "explain", "fill", "install", "show-race", "triage", "try-orders"]
+TOOLS = ["check-release", "draw-faults", "explain", "fill", "install", "show-race", "triage", "try-orders"]
 OLD = "import runpy, sys; sys.version_info = (3, 8, 19, 'final', 0); runpy.run_path(sys.argv[1], run_name='__main__')"
 
 

@@ -4,6 +4,9 @@ import os
 from starting.command import Failure, Usage, options, say, take, tell
 from starting.files import PROGRAM, SPLIT, files_of
 from starting.writing import Output, approve, write
+from trying.page import BEGINS as ORDER_BEGINS
+from trying.tool import page_of
+from trying.witness import Disagreement
 
 from . import replays, telling, touching, walk
 from .alone import told_alone
@@ -18,13 +21,13 @@ from .showing import visible
 
 def main(arguments):
     given, others = options(arguments, flags=["--replay", "--touches", "--walk"], valued=["--page"])
-    for option in ("--page", "--touches"):
-        if {"--replay", option} <= set(given):
-            raise Usage(f"that is of a pair, not of a recorded order: --replay and {option} do not go together")
+    if {"--replay", "--touches"} <= set(given):
+        raise Usage("that is of a pair, not of a recorded order: --replay and --touches do not go together")
     folder, walks = take(others, "FOLDER", least=0)[0] or os.curdir, "--walk" in given
     if not os.path.isdir(folder):
         return _tell_alone(folder, given)
-    pages = [Output("page", given["--page"], page.BEGINS)] if "--page" in given else []
+    begins = ORDER_BEGINS if "--replay" in given else page.BEGINS
+    pages = [Output("page", given["--page"], begins)] if "--page" in given else []
     approve(pages, files_of(folder))
     is_filling = is_for_filling(read_sheet(folder, PROGRAM), read_sheet(folder, SPLIT))
     program = REPLAYING if "--replay" in given else FILLING if is_filling else CHECKING
@@ -40,9 +43,24 @@ def main(arguments):
     if explanation.disagrees:
         say(f"explain: DISAGREEMENT with {program}, see above")
     for output in pages:
+        if program == REPLAYING:
+            return _write_order(output, folder, explanation)
         title = visible(os.path.basename(os.path.abspath(folder)))
         made = foot(page.TOOL, binary, (run.sheets or {}).values())
         write(output, page.text(title, explanation, made, walks).encode("utf-8", "replace"))
+    return _status_of(explanation)
+
+
+def _write_order(output, folder, explanation):
+    """The page on which a recorded order is played, if there is one to play."""
+    if explanation.disagrees or explanation.unseen or explanation.order is None:
+        say("explain: there is no order to play, so no page is written")
+        return _status_of(explanation)
+    try:
+        write(output, page_of(folder)[0])
+    except Disagreement as objection:
+        say(f"explain: DISAGREEMENT with racereplay, so no page is written: {objection}")
+        return 3
     return _status_of(explanation)
 
 

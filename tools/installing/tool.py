@@ -13,7 +13,7 @@ from .manual import manual_pages
 
 HOUSE = Path(__file__).resolve().parents[2]
 PROGRAMS = ("racecheck", "racefill", "racedrill", "racereplay")
-TOOLS = ("check-release", "explain", "fill", "show-race", "triage", "try-orders")
+TOOLS = ("check-release", "draw-faults", "explain", "fill", "show-race", "triage", "try-orders")
 LIBRARY = HOUSE / "target" / "staticlib" / "libentries.a"
 HEADER = HOUSE / "include" / "racecheck.h"
 # Where bash looks for what completes a command, below the prefix.

@@ -16,14 +16,12 @@ from stepping.machine import CELL, LOCK, NOUNS, RWLOCK, SEM, TID
 
 HERE = Path(__file__).with_name("page")
 # In the order in which they need one another.
-SCRIPTS = [
-    "machine", "trace", "knowing", "naming", "wording", "order",
-    "parts", "threads", "things", "lanes", "standing", "quiz", "showing", "start"]
+PURE = ["machine", "trace", "knowing", "naming", "wording", "order", "standing"]  # these need no page
+SCRIPTS = [*PURE, "parts", "threads", "things", "lanes", "quiz", "showing", "start"]
 # The kinds of values as the script calls them.
 KIND_NAMES = {"int": 0, "cell": CELL, "lock": LOCK, "tid": TID, "sem": SEM, "rwlock": RWLOCK}
 SAID = (
     "DOES", "MAKES_A_CELL", "MAKES_A_THING", "OF_A_LOOP", "ON_A_LOOP", "BINDS", "TO_LINE", "WAITING", "STUCK", "ABOUT", "GOES_ON")
-MOST_LINES = 5000  # of a recorded order: a page keeps every state of it
 TOOL = "try-orders"
 BEGINS = begins(TOOL)
 
@@ -42,11 +40,20 @@ def handed(job):
     names = {kind: {number: name for (sort, number), name in job.names.given.items() if sort == kind} for kind in KINDS}
     given = {
         "program": job.program.decode("ascii"), "trace": None if job.trace is None else job.trace.decode("latin-1"),
-        "answer": job.answer, "most": MOST_LINES, "verdict": job.verdict, "quiz": job.quiz, "names": names,
+        "answer": job.answer, "verdict": job.verdict, "quiz": job.quiz, "names": names,
         "nouns": {name: NOUNS[number] for name, number in KIND_NAMES.items()}, "colours": THREADS, "dark": sorted(DARK),
         "say": {name: getattr(wording, name) for name in SAID},
     }
     return json.dumps(given).replace("<", "\\u003c").replace(">", "\\u003e").replace("&", "\\u0026")
+
+
+def veiled(order):
+    """An order that a look at the page's source does not show: each move by the generator of document 02 (ii). It is no secret."""
+    x, told = len(order), bytearray()
+    for thread, choice in order:
+        x = (1_664_525 * x + 1_013_904_223) % (1 << 32)
+        told.append((2 * thread + choice) ^ (x >> 24))
+    return told.hex()
 
 
 def text(title, job):

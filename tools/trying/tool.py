@@ -11,22 +11,16 @@ from explaining.names import Names, read_names
 from explaining.replays import order_of
 from explaining.running import CHECKING, find_program, run_in
 from explaining.sheets import read_sheet, sheet_of, steps_of
-from explaining.showing import grouped, visible
-from racing.confirming import Replay, race_lines
-from racing.finding import find
-from racing.orders import has_race
-from racing.shown import Shown
+from explaining.showing import visible
+from racing.confirming import Replay
 from racing.telling import alarm
-from stepping.machine import ROOM, Machine
+from stepping.machine import Machine
 from stepping.program import Steps
 
 from . import page
+from .witness import Disagreement, witness
 
-PAGE = "orders.html"
-
-
-class Disagreement(Exception):
-    """racereplay does not say of an order what the steps taken here come to."""
+PAGE = "step.html"
 
 
 class Job(NamedTuple):
@@ -34,11 +28,15 @@ class Job(NamedTuple):
 
     program: bytes
     names: Names
-    trace: bytes  # the recorded order, as far as the page has it; None if there is none
+    trace: bytes  # the recorded order; None if there is none
     answer: str  # racereplay's line on it
     verdict: str  # what is known of the job's orders, in a sentence
-    quiz: dict  # an order that races, which racereplay has confirmed, and its switches of thread; None if there is none
+    quiz: dict  # an order that races, which racereplay has confirmed, veiled, and its switches of thread; None if there is none
     source: str  # where the recorded order comes from, in a sentence
+
+
+class Malformed(Exception):
+    """racereplay's refusal of a program sheet."""
 
 
 def main(arguments):
@@ -48,29 +46,38 @@ def main(arguments):
         raise Failure(f"no such folder: {visible(folder)}")
     output = Output("page", given.get("--page") or os.path.join(folder, PAGE), page.BEGINS)
     approve([output], [*files_of(folder), *filter(None, [given.get("--trace")])])
+    try:
+        text, lines = page_of(folder, given.get("--trace"))
+    except Malformed as refusal:
+        tell([f"{visible(folder)}: {refusal}", "The program sheet is not well formed; docs/REFUSALS.md tells what that means."])
+        return 2
+    except Disagreement as objection:
+        say("try-orders: DISAGREEMENT with racereplay, see above")
+        tell([f"{visible(folder)}: no page is written.", *alarm(objection)])
+        return 3
+    write(output, text)
+    tell([f"{visible(folder)}: the page is {visible(output.path)}; open it in a browser.", *lines])
+    return 0
+
+
+def page_of(folder, asked=None):
+    """The page of a folder's job with its recorded order, or with the one asked for; and what is to be said of it."""
     program, names = read_sheet(folder, PROGRAM), read_names(folder)
     if program is None:
         raise Failure(f"no {PROGRAM} that can be read in {visible(folder)}")
     replay = Replay(program.text)
     answer = replay.answer([])  # it judges the program sheet before the trace
     if answer.startswith("REFUSE,"):
-        tell([f"{visible(folder)}: {answer}", "The program sheet is not well formed; docs/REFUSALS.md tells what that means."])
-        return 2
+        raise Malformed(answer)
     if answer != "RAN,0":
         raise Failure(f"racereplay says {answer}")
-    try:
-        job, lines = _job(folder, program, names, replay, given.get("--trace"))
-    except Disagreement as objection:
-        say("try-orders: DISAGREEMENT with racereplay, see above")
-        tell([f"{visible(folder)}: no page is written.", *alarm(objection)])
-        return 3
-    write(output, page.text(visible(os.path.basename(os.path.abspath(folder))), job).encode("utf-8", "replace"))
-    tell([f"{visible(folder)}: the page is {visible(output.path)}; open it in a browser.", *lines, *names.passed_over])
-    return 0
+    job, lines = _job(folder, program, names, replay, asked)
+    title = visible(os.path.basename(os.path.abspath(folder)))
+    return page.text(title, job).encode("utf-8", "replace"), [*lines, *names.passed_over]
 
 
 def _job(folder, program, names, replay, asked):
-    trace, told = _trace(folder, asked)
+    trace, told = _trace(folder, asked), []
     answer, source = "", "There is no recorded order in this page."
     if trace is not None:
         answer = replay.answer_to(trace)
@@ -87,20 +94,17 @@ def _require(answer, here):
 
 
 def _trace(folder, asked):
-    """The recorded order, as far as a page can have it, and what is to be said of it."""
+    """The recorded order; None if there is none."""
     file = asked or os.path.join(folder, TRACE)
     if not asked and not os.path.lexists(file):
-        return None, []
+        return None
     if not os.path.isfile(file):
         raise Failure(f"no recorded order that can be read: {visible(file)}")
     with open(file, "rb") as opened:
         text = opened.read(TRACE_BYTES + 1)
     if len(text) > TRACE_BYTES:
         raise Failure(f"the recorded order has more bytes than racereplay reads: {visible(file)}")
-    lines = text.split(b"\n", page.MOST_LINES)
-    if len(lines) <= page.MOST_LINES or not lines[-1]:
-        return text, []
-    return text[:-len(lines[-1])], [f"The page has the first {grouped(page.MOST_LINES)} lines of the recorded order."]
+    return text
 
 
 # ---- Whether it can race
@@ -112,18 +116,11 @@ def _verdict(folder, machine, names, replay):
     if answer == "ACCEPT":
         return "racecheck accepts this job with its split: no order races, and that is proved.", None
     begins = f"racecheck refuses this pair ({answer})" if answer.startswith("REFUSE") else "No split of this job was judged here"
-    found = find(machine)
-    if found.race is None:
-        none = "all orders were searched, and none races; the search is not proved"
-        return f"{begins}; {none if found.whole() else 'no race was found, and not all orders were searched'}.", None
-    shown = Shown(machine, names, found.race, has_race)
-    if not all(ROOM.holds(one.after) for one in shown.steps):
-        return f"{begins}; no race was found in which racereplay can follow.", None
-    objection = replay.objection(race_lines(shown))
-    if objection:
-        raise Disagreement(objection)
-    quiz = {"order": shown.order, "switches": shown.switches()}
-    return f"{begins}, and the job can race.", quiz
+    sought = witness(machine, names, replay)
+    if sought.shown is None:
+        return f"{begins}; {sought.words}.", None
+    quiz = {"veiled": page.veiled(sought.shown.order), "switches": sought.shown.switches(), "fewest": sought.shown.fewest}
+    return f"{begins}, and {sought.words}.", quiz
 
 
 def _checked(folder):

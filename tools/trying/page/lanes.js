@@ -1,32 +1,33 @@
 // The order so far as the page of a race draws it: threads across, time down, each stretch of a thread a box.
 const lanes = (() => {
   const { make } = parts;
-  const MOST = 120, LINES = 60; // stretches, and lines of one: the latest
+  const MOST = 600; // steps: the latest
 
-  // The stretches of one thread each, with the steps that are worth a line; if none is, with all.
+  // The stretches of one thread each among the latest steps.
   function stretches(order) {
-    const told = [];
-    order.moments.slice(1, order.at + 1).forEach((moment, place) => {
-      const { thread } = moment.step, last = told[told.length - 1], one = { ...moment, number: place + 1 };
+    const told = [], from = Math.max(0, order.at - MOST);
+    orders.moments(order, from, order.at).forEach((moment, place, all) => {
+      if (place === 0) return; // what the first step begins from
+      const { thread } = moment.step, last = told[told.length - 1], one = { ...moment, number: from + place };
       if (last && last.thread === thread) last.moments.push(one);
-      else told.push({ thread, before: order.moments[place], moments: [one] });
+      else told.push({ thread, before: all[place - 1], moments: [one] });
     });
-    return told;
+    return { told, left: from };
   }
 
   // A step that only goes on, or makes an identifier that has no name.
   const isSilent = (desk, { next }) => wording.isQuiet(next) || next.word === "newtid" && !desk.book.bound.has(next.line);
 
   function rows(desk) {
-    const told = stretches(desk.order), shown = told.slice(-MOST), count = desk.known.threads.length;
+    const { told, left } = stretches(desk.order), count = desk.known.threads.length;
+    const before = orders.switches(desk.order, left + 1);
     const cells = [make("span", "corner"), ...desk.known.threads.map((_, number) =>
       threads.coloured(desk, number, make("div", "head", threads.called(desk, number))))];
-    shown.forEach((stretch, place) => {
-      const switches = told.length - shown.length + place;
-      cells.push(make("span", "gutter", switches ? `switch ${switches}` : ""));
+    told.forEach((stretch, place) => {
+      cells.push(make("span", "gutter", before + place ? `switch ${before + place}` : ""));
       for (let number = 0; number < count; number++) cells.push(cell(desk, stretch, number));
     });
-    return { cells, count, left: told.length - shown.length };
+    return { cells, count, left };
   }
 
   function cell(desk, stretch, number) {
@@ -40,10 +41,8 @@ const lanes = (() => {
 
   function box(desk, { thread, moments }) {
     const loud = moments.filter(moment => !isSilent(desk, moment.step));
-    const all = loud.length ? loud : moments, shown = all.slice(-LINES);
-    const left = all.length - shown.length;
-    const before = left ? make("p", "soft", `${wording.counted(left, "step")} more before`) : null;
-    return make("div", "stretch", make("b", "who", threads.called(desk, thread)), before, shown.map(line));
+    const shown = loud.length ? loud : moments;
+    return make("div", "stretch", make("b", "who", threads.called(desk, thread)), shown.map(line));
 
     function line({ step, known, number }) {
       const words = make("span", "", wording.does(desk.say, desk.book, known, step));

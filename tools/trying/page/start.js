@@ -5,17 +5,22 @@
   const job = machine.read(data.program), book = naming.book(job, data.names, data.nouns);
   const PLAY = 650; // milliseconds a press
 
-  let order = orders.begun(job), recorded = null, quiz = null, playing = null;
+  let order = orders.begun(job), recorded = null, quiz = null, playing = null, was = null;
 
   // What the parts of the page are handed.
   function desk() {
     const { state, race, known } = orders.now(order);
     const now = { job, book, say: data.say, colours: data.colours, dark: data.dark, order, state, race, known, move };
     const quizzing = quizzes.told(now, data, quiz, { start: startQuiz, hint, leave: leaveQuiz });
-    return { ...now, quiz: quizzing, isPlaying: playing !== null, recorded: quiz === null ? recorded : null };
+    const stage = quiz === null ? "" : `${quiz}, ${orders.raceSoFar(order) ? "found" : "not found"}`;
+    return { ...now, quiz: quizzing, stage, isPlaying: playing !== null, recorded: quiz === null ? recorded : null };
   }
 
-  const show = () => showing.all(desk());
+  function show() {
+    const now = desk();
+    showing.all(now, was);
+    was = now;
+  }
 
   // ---- What is done
 
@@ -40,7 +45,7 @@
     if (playing) return become(order);
     playing = setInterval(() => {
       order = orders.redone(order);
-      if (order.at === order.moments.length - 1 || orders.now(order).race) stop();
+      if (order.at === order.moves.length || orders.now(order).race) stop();
       show();
     }, PLAY);
     show();
@@ -48,21 +53,21 @@
 
   function playRecorded() {
     if (!recorded || quiz !== null) return;
-    become(orders.loaded(job, recorded.moves));
+    become(recorded.order);
     play();
   }
 
   // Takes a trace as the recorded order.
   function record(text) {
-    recorded = traces.replayed(job, traces.cut(text, data.most));
+    recorded = orders.recorded(job, text);
     quiz = null;
-    become(orders.loaded(job, recorded.moves));
+    become(recorded.order);
   }
 
   // A trace.txt that somebody chooses: a letter a byte.
   async function opened(event) {
     const [file] = event.target.files;
-    if (file) record(Array.from(new Uint8Array(await file.arrayBuffer()), byte => String.fromCharCode(byte)).join(""));
+    if (file) record(new TextDecoder("latin1").decode(await file.arrayBuffer()));
     event.target.value = "";
   }
 
@@ -80,16 +85,17 @@
     if (quiz === null) return;
     quiz += 1;
     if (quiz > 2) {
-      become(orders.loaded(job, data.quiz.order));
+      become(quizzes.shown(job, data.quiz).order);
       play();
     } else become(order);
   }
 
   async function copy() {
-    const trace = place("trace");
+    const trace = place("trace"), text = orders.text(order);
     try {
-      await navigator.clipboard.writeText(trace.value);
+      await navigator.clipboard.writeText(text);
     } catch {
+      trace.value = text;
       trace.select();
       document.execCommand("copy");
     }
@@ -98,7 +104,7 @@
   }
 
   function download() {
-    const link = make("a", ""), address = URL.createObjectURL(new Blob([place("trace").value], { type: "text/plain" }));
+    const link = make("a", ""), address = URL.createObjectURL(new Blob([orders.text(order)], { type: "text/plain" }));
     Object.assign(link, { href: address, download: "trace.txt" }).click();
     setTimeout(() => URL.revokeObjectURL(address), 1000);
   }
@@ -124,7 +130,7 @@
 
   function pressed(event) {
     const { target, key } = event;
-    if (event.ctrlKey || event.metaKey || event.altKey || target.tagName === "TEXTAREA") return;
+    if (!place("keys").checked || event.ctrlKey || event.metaKey || event.altKey || target.tagName === "TEXTAREA") return;
     if (target.type === "range" && (key.startsWith("Arrow") || ["Home", "End", "PageUp", "PageDown"].includes(key))) return;
     const thread = threadOf(event), act = BY_KEY[key.length === 1 ? key.toLowerCase() : key];
     if (thread < 0 && !act) return;
@@ -144,11 +150,12 @@
   for (const [id, act] of Object.entries(ACTS)) place(id).addEventListener("click", act);
   place("slider").addEventListener("input", event => become(orders.goneTo(order, Number(event.target.value))));
   place("file").addEventListener("change", opened);
+  place("keys").addEventListener("change", event => document.body.classList.toggle("without-keys", !event.target.checked));
   document.addEventListener("keydown", pressed);
 
   // A recorded order is done by this page as racereplay did it, or one of the two is wrong.
   function compare() {
-    const here = traces.answer(recorded.states, recorded.refused);
+    const here = traces.answer(recorded.order.moves.length, recorded.order.race, recorded.refused);
     if (here === data.answer) return;
     place("alarm").textContent =
       `*** DISAGREEMENT: racereplay says ${data.answer} of the recorded order, and this page ${here}. Trust neither. ***`;

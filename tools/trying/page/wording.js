@@ -47,7 +47,7 @@ const wording = (() => {
 
   const capital = words => words.slice(0, 1).toUpperCase() + words.slice(1);
   const counted = (number, what) => `${number} ${what}${number === 1 ? "" : what.endsWith("ch") ? "es" : "s"}`;
-  const size = moves => `${counted(moves.length, "step")}, ${counted(traces.switches(moves), "switch")} of thread`;
+  const size = (steps, switches) => `${counted(steps, "step")}, ${counted(switches, "switch")} of thread`;
   const listed = names => names.length < 2 ? names.join("") : `${names.slice(0, -1).join(", ")} and ${names[names.length - 1]}`;
 
   return { about, capital, counted, does, isQuiet, listed, size };
