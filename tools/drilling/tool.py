@@ -6,12 +6,11 @@ import tempfile
 from pathlib import Path
 from typing import NamedTuple
 
-from starting.command import Failure, Usage, options, say, tell
+from starting.command import Failure, options, say, take, tell
+from starting.files import NAMES, PROGRAM, SPLIT
 
 from explaining.findings import explain
-from explaining.names import FILE as NAMES
 from explaining.names import read_names
-from explaining.refusals import PROGRAM, SPLIT
 from explaining.running import CHECKING, find_program, run_in
 from explaining.sheets import read_sheet, steps_of
 from explaining.showing import visible
@@ -43,9 +42,7 @@ class Judged(NamedTuple):
 
 def main(arguments):
     _, others = options(arguments)
-    if len(others) != 2:
-        raise Usage
-    seed, folder = others
+    seed, folder = take(others, "SEED", "FOLDER")
     if not re.fullmatch("0|[1-9][0-9]{0,9}", seed) or int(seed) >= SEEDS:
         raise Failure(f"a seed is a number from 0 to {SEEDS - 1}, without leading zeros: {visible(seed)}")
     if os.path.lexists(folder):
