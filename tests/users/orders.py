@@ -146,16 +146,17 @@ def check_lies():
         for answer in lies:
             liar.write_text(f"#!/bin/sh\necho {answer}\n")
             liar.chmod(0o755)
-            done = run(liar, race)
+            done = run(liar, "--page", Path(scratch) / "page", race)
             said = ["DISAGREEMENT" in output for output in (done.stdout, done.stderr)]
             check(f"a lying racereplay, {answer}", (done.returncode, said), (3, [True, True]))
+        check("a lying racereplay: no page is written", (Path(scratch) / "page").exists(), False)
         liar.write_text("#!/bin/sh\necho RAN,x\n")
         check("a racereplay that writes something else", run(liar, race).returncode, 2)
 
 
 def check_errors(binary):
     race = HOUSE / "examples" / "refill-race"
-    for what, arguments in [("a page", ["--page", "page.html", race]), ("two folders", [race, race])]:
+    for what, arguments in [("a page without a name", [race, "--page"]), ("two folders", [race, race])]:
         done = run(binary, *arguments)
         check(f"explain --replay, {what}", (done.returncode, "usage: explain" in done.stderr), (2, True))
     check("explain --replay, no racereplay", run("nowhere", race).returncode, 2)
