@@ -92,7 +92,7 @@ def check_loads(programs):
              "leaves 0/2 for its join: its type is on line 4 of split.txt, with map 2 on line 7"]),
             ("a rounded load", wrecked("join", scratch, *rounded), ["Only 1 in 3,000,000 is missing", "1/3000000 is lost there"]),
             ("a lock with nothing", wrecked("refill", scratch, ("lock,1,0", "lock,2,0")), ["main has 2/2 of colour"]),
-            ("a wrong type", wrecked("join", scratch, ("\n1,0,\n", "\n0,0,\n")), ["The split's types", "racefill: REFUSE,31,3,1,0"]),
+            ("a wrong type", wrecked("join", scratch, ("\n1,0,\n", "\n0,0,\n")), ["The types of the split are wrong", "racefill: REFUSE,31,3,1,0"]),
         ]:
             done = run(programs, pair)
             check(f"triage, {what}", (done.returncode, [said for said in words if said not in done.stdout]), (LOADS, []))
@@ -120,9 +120,9 @@ def check_files(programs):
         check("a mended split that is there", (done.returncode, (pair / MENDED).read_text(), "left as it is" in done.stdout),
               (ROWS, "mine\n", True))
         done = run(programs, "--mended", Path(scratch) / "no" / "folder", pair)
-        check("a mended split that cannot be written", (done.returncode, "cannot be written" in done.stdout), (ROWS, True))
+        check("a mended split that cannot be written", (done.returncode, "is not in a file" in done.stdout), (ROWS, True))
         done = run(programs, "--trace", Path(scratch) / "no" / "folder", HOUSE / "examples" / "join-race")
-        check("an order that cannot be written", (done.returncode, "cannot be written" in done.stdout), (RACES, True))
+        check("an order that cannot be written", (done.returncode, "is not in a file" in done.stdout), (RACES, True))
         done = run(programs, "--mended", pair / "split.txt", pair)
         check("the mended split over the given one", (done.returncode, "over a file of the pair" in done.stderr), (FAILED, True))
 

@@ -28,7 +28,18 @@ SHOW_RACE = "Whether the job or its split is at fault: tools/show-race looks for
 
 def told(explanation):
     """The lines of an explanation, from the answer to what helps."""
-    lines = [explanation.answer, "", explanation.meaning]
+    lines = [explanation.answer, "", *finding(explanation)]
+    lines += _titled("What usually helps", explanation.helps)
+    if explanation.number in REFUSALS:
+        lines += ["", f"Who looks first: {REFUSALS[explanation.number].owner}"]
+    if explanation.site:
+        lines += ["", SHOW_RACE]
+    return lines
+
+
+def finding(explanation):
+    """What an answer means, and what it is about; not what to do then."""
+    lines = [explanation.meaning]
     lines += alarm(explanation)
     lines += _indented(explanation.unseen)
     lines += _indented(explanation.place)
@@ -39,13 +50,7 @@ def told(explanation):
         lines += _indented([f"that is: {explanation.condition.plain}"])
     lines += _indented(explanation.numbers)
     lines += _maps(explanation)
-    lines += _titled("Likely cause", explanation.causes)
-    lines += _titled("What usually helps", explanation.helps)
-    if explanation.number in REFUSALS:
-        lines += ["", f"Who looks first: {REFUSALS[explanation.number].owner}"]
-    if explanation.site:
-        lines += ["", SHOW_RACE]
-    return lines
+    return lines + _titled("Likely cause", explanation.causes)
 
 
 def condition_line(explanation):
