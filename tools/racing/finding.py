@@ -9,7 +9,7 @@ from .search import Search
 PLENTY = Room(256, 256, 256)  # to search on where there is no race within the room of racereplay
 # States, and the part of the seconds left then: for the first look for the fewest switches, and for the second, once it is known
 # that there is a race.
-SOON, LATER = (500, 0.2), (1500, 0.3)
+SOON, LATER = (500, 0.2), (1000, 0.2)
 NEXT = 0.7  # the part of the seconds that the search that holds threads may take
 
 

@@ -6,8 +6,9 @@ NEVER = 1 << 30
 CONSTANT, NOBODY = -1, -2
 
 
-def key(state, last, alike):
-    """The key of a state after a move of thread `last`. `alike` has the shapes of points and of what is behind open calls.
+def key(state, marks, alike):
+    """The key of a state with marks on some threads, by their numbers. `alike` has the shapes of points and of what is behind open
+    calls.
 
     Constants are left out, since no step depends on one. So is what no thread can reach any more, the value of a finished
     thread, which nobody sees, and an open call with nothing left behind it.
@@ -16,7 +17,7 @@ def key(state, last, alike):
     for thread in state.threads:
         if thread.point != FINISHED:
             values, behind = thread.values(), tuple([alike.returns[call.step] for call in alike.calls(thread)])
-            look = alike.points[thread.point], thread.number != last, tuple(map(kind, values)), behind
+            look = alike.points[thread.point], marks.get(thread.number, 0), tuple(map(kind, values)), behind
             entries.append((look, values, thread))
     entries.sort(key=lambda entry: entry[0])
     names = {}

@@ -1,5 +1,4 @@
 """A job searched, and what was found borne out by racereplay. Nothing is written: tools/show-race and tools/triage tell it."""
-import time
 from typing import Callable, NamedTuple
 
 from stepping.machine import ROOM
@@ -69,11 +68,10 @@ class Looked(NamedTuple):
 
 def look(machine, names, replay, limits, watch=None):
     """Searches a job within limits; the order that it leads to is made short, and run by racereplay."""
-    until = time.monotonic() + limits.seconds
     found = find(machine, limits, watch)
     for kind, order in ((RACE, found.race), (ODD, found.odd), (WAIT, found.stuck)):
         if order is not None:
-            shown = Shown(machine, names, order, kind.ending.shows, found.fewest or kind is not RACE, until)
+            shown = Shown(machine, names, order, kind.ending, found.fewest)
             return _borne_out(Looked(found, kind, shown), replay)
     return Looked(found)
 

@@ -67,14 +67,14 @@ class Search:
 
     def __init__(self, machine, budget, room):
         self.machine, self.points, self.budget, self.room = machine, machine.points, budget, room
-        self._alike = alike(machine.steps)
+        self.alike = alike(machine.steps)
         self._recursive = recursive(machine.steps)
         self._share = None
         self.cut = False
         self.odd = self.stuck = None
         self._turn = 0
         self._heap, self._seen, self._switches = [], set(), 0
-        state, moves = self._settled(machine.start(), 0)
+        state, moves = self.settled(machine.start(), 0)
         self._first = _Node(state, 0, moves, None)
         self._push(0, len(moves), self._first, None)
 
@@ -85,7 +85,7 @@ class Search:
             self._switches, steps, turn, node, race = heapq.heappop(self._heap)
             if race is not None:
                 return self._found(race, False)
-            known = key(node.state, node.last, self._alike)
+            known = key(node.state, {node.last: 1}, self.alike)
             if known in self._seen:
                 continue
             if self._is_enough():
@@ -95,7 +95,7 @@ class Search:
             self.budget.count()
             try:
                 self._expand(node, self._switches, steps)
-            except _Enough:
+            except Enough:
                 self._seen.discard(known)
                 heapq.heappush(self._heap, (self._switches, steps, turn, node, race))
                 return self._found(None, True)
@@ -137,7 +137,7 @@ class Search:
         for outcome in choices:
             if outcome.standing == READY:
                 after = self.machine.step(outcome.state, outcome.at)
-                after, rest = self._settled(after, after.at(number))
+                after, rest = self.settled(after, after.at(number))
                 yield after, (*outcome.moves, (number, 0), *rest)
             elif outcome.standing == DONE:
                 yield outcome.state, outcome.moves
@@ -158,7 +158,7 @@ class Search:
         return False
 
     def _all_outcomes(self, state):
-        return [(thread, self._outcomes(state, at)) for at, thread in enumerate(state.threads) if thread.point != FINISHED]
+        return [(thread, self.outcomes(state, at)) for at, thread in enumerate(state.threads) if thread.point != FINISHED]
 
     def _has_no_room(self, state, thread, word):
         """Whether such a step of a thread would leave the room: then it is not taken ahead of others."""
@@ -172,7 +172,7 @@ class Search:
                 "newrwlock": len(state.rwlocks)}
         return made[word] >= self.room.things
 
-    def _settled(self, state, at):
+    def settled(self, state, at):
         """A thread taken on through steps on nothing shared, up to a choice or a step that others see."""
         number, moves = state.threads[at].number, []
         while self._goes_on(state, at):
@@ -199,7 +199,7 @@ class Search:
         point = self.points[thread.point]
         return point.word == "if" or point.word == "call" and point.number in self._recursive
 
-    def _outcomes(self, state, at):
+    def outcomes(self, state, at):
         """Every way in which a thread can go on by itself: through local steps and choices to a step that others see."""
         number, outcomes, seen = state.threads[at].number, [], set()
         waiting = [((), state)]
@@ -211,19 +211,19 @@ class Search:
                 outcomes.append(Outcome(moves, now, at, self.machine.standing(now, thread)))
                 continue
             if self._may_come_back(thread):
-                here = self._here(thread)
+                here = self.here(thread)
                 if here in seen:
                     continue
                 if len(seen) >= self.budget.most() or self._is_enough():
-                    raise _Enough
+                    raise Enough
                 seen.add(here)
             choices = (1, 0) if word == "if" else (0,)
             waiting += [((*moves, (number, choice)), self.machine.step(now, at, choice)) for choice in choices]
         return outcomes
 
-    def _here(self, thread):
+    def here(self, thread):
         """Where a thread stands, constants and calls with nothing left behind them aside."""
-        calls = tuple(call.step for call in self._alike.calls(thread))
+        calls = tuple(call.step for call in self.alike.calls(thread))
         return thread.point, calls, tuple(value if kind(value) else 0 for value in thread.values())
 
     # ---- What there is to see in a state
@@ -263,7 +263,7 @@ class Search:
         return None if any(self.machine.standing(state, thread) == READY for thread in state.threads) else order
 
 
-class _Enough(Exception):
+class Enough(Exception):
     """The search has come to its limits."""
 
 
