@@ -11,7 +11,7 @@ from checks import check
 from blocks import drawn_blocks
 from drawn import Draw
 from racing.confirming import race_lines
-from racing.endings import Race
+from racing.orders import has_race
 from racing.search import switches_in
 from searching import held, objection, searched
 
@@ -47,7 +47,7 @@ def differences(lines, wanted, found):
         return list(filter(None, [
             "" if switches_in(found.race) == least else f"{switches_in(found.race)} switches, wanted {least}",
             "" if (plain.replay(lines, found.race) or (0, None))[1] else "the order has no race in the plain interpreter",
-            objection(lines, found.race, Race, race_lines)]))
+            objection(lines, found.race, has_race, race_lines)]))
     return list(filter(None, [
         "" if found.whole() else "not all was searched",
         "" if (found.odd is not None) == odd else f"odd halt {found.odd}, wanted {odd}",

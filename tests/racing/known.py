@@ -7,7 +7,7 @@ import losses
 import plain
 from checks import check
 from racing.confirming import halt_lines, race_lines
-from racing.endings import OddHalt, Race, Wait
+from racing.orders import has_odd_halt, has_race, is_stuck
 from racing.search import switches_in
 from searching import held, objection, searched
 
@@ -37,9 +37,9 @@ def check_known():
                "WAITING": found.stuck is not None and found.race is None and found.odd is None}[section]
         check(f"known program {number}, {section}: {'|'.join(lines)}", met, True)
         if met:
-            order, ending, told = {"RACY": (found.race, Race, race_lines), "ODD": (found.odd, OddHalt, halt_lines),
-                                  "WAITING": (found.stuck, Wait, halt_lines)}[section]
-            check(f"known program {number}, {section}: as racereplay has it", objection(lines, order, ending, told), "")
+            order, shows, told = {"RACY": (found.race, has_race, race_lines), "ODD": (found.odd, has_odd_halt, halt_lines),
+                                  "WAITING": (found.stuck, is_stuck, halt_lines)}[section]
+            check(f"known program {number}, {section}: as racereplay has it", objection(lines, order, shows, told), "")
 
 
 def check_losses():
@@ -49,7 +49,7 @@ def check_losses():
         check(f"{what}: a race is wanted", wanted is not None and wanted[0] is not None, True)
         check(f"{what}: its fewest switches", found.race and switches_in(found.race), wanted[0])
         if found.race is not None:
-            check(f"{what}: as racereplay has it", objection(lines, found.race, Race, race_lines), "")
+            check(f"{what}: as racereplay has it", objection(lines, found.race, has_race, race_lines), "")
         check(f"{what}: found with threads held", (plain.replay(lines, held(lines).race or []) or (0, None))[1] is not None, True)
 
 
@@ -60,4 +60,4 @@ def check_families():
         check(f"{what}: a race or none", (found.race is not None, found.race is not None or found.whole()), (is_racing, True))
         check(f"{what}: within {FAMILY_STATES} states, not {found.states}", found.states <= FAMILY_STATES, True)
         if found.race is not None:
-            check(f"{what}: as racereplay has it", objection(lines, found.race, Race, race_lines), "")
+            check(f"{what}: as racereplay has it", objection(lines, found.race, has_race, race_lines), "")

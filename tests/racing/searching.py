@@ -24,7 +24,7 @@ def held(lines):
     return Holding(machine_of(lines), Budget(Limits(100_000, 60)), ROOM).run()
 
 
-def objection(lines, order, ending, told):
-    """What racereplay says instead, if it does not bear out an order that leads to an ending; else empty."""
-    shown = Shown(machine_of(lines), Names(), order, ending)
+def objection(lines, order, shows, told):
+    """What racereplay says instead, if it does not bear out an order that shows something; else empty."""
+    shown = Shown(machine_of(lines), Names(), order, shows)
     return Replay(sheet_of(lines).encode()).objection(told(shown))

@@ -7,7 +7,7 @@ from collections import defaultdict, deque
 
 from stepping.machine import LOCK, kind, name, rwlock_after
 
-from .orders import first_shown, happenings
+from .orders import ABOUT, first_shown, happenings
 from .search import switches_in
 
 LOCKING = {"lock", "unlock"}
@@ -15,22 +15,22 @@ SHARING = {"rdlock", "rdunlock", "wrlock", "wrunlock"}
 GIVING_BACK = {"unlock", "rdunlock", "wrunlock"}
 
 
-def arranged(machine, order, ending):
-    """An order that shows the same ending with no more switches and no more steps."""
-    best = first_shown(machine, order, ending.shows)
+def arranged(machine, order, shows):
+    """An order that shows the same with no more switches and no more steps."""
+    best = first_shown(machine, order, shows)
     while True:
-        shorter = _shorter(machine, best, ending)
+        shorter = _shorter(machine, best, shows)
         if shorter is None:
             return best
         best = shorter
 
 
-def _shorter(machine, order, ending):
+def _shorter(machine, order, shows):
     """The best of the ways to put an order's moves, if it is better than the order itself; else None."""
     events = Events(machine, order)
-    kept = events.needed(ending.about(machine, events.last))
+    kept = events.needed(ABOUT[shows](machine, events.last))
     for moves in (kept, *events.cuts(kept)):
-        tried = [_run(machine, events, put, ending.shows) for put in events.ways_to_put(moves)]
+        tried = [_run(machine, events, put, shows) for put in events.ways_to_put(moves)]
         better = [one for one in tried if one is not None and cost(one) < cost(order)]
         if better:
             return min(better, key=cost)

@@ -8,10 +8,7 @@ from .showing import capital, counted
 
 
 class Ending:
-    """The threads that the last state of an order is about: their numbers, what each is about to do, and their lines.
-
-    `shows` says whether a state shows it, and `about` which threads have to be where they are for that.
-    """
+    """The threads that the last state of an order is about: their numbers, what each is about to do, and their lines."""
 
     cell = None  # the cell that two of them meet at
 
@@ -35,10 +32,6 @@ class Race(Ending):
     mark = "what both do next, in whatever order: the race"
     claim = "This job can race."
     shows = staticmethod(has_race)
-
-    @staticmethod
-    def about(machine, state):
-        return machine.race(state)
 
     def __init__(self, shown):
         machine, state = shown.machine, shown.state
@@ -75,12 +68,9 @@ class OddHalt(Ending):
     claim = "A thread of this job can get stuck."
     shows = staticmethod(has_odd_halt)
 
-    @staticmethod
-    def about(machine, state):
-        return [thread.number for thread in state.threads if machine.standing(state, thread) == ODD][:1]
-
     def __init__(self, shown):
-        super().__init__(shown, [shown.state.threads[shown.state.at(number)] for number in self.about(shown.machine, shown.state)])
+        odd = [thread for thread in shown.state.threads if shown.machine.standing(shown.state, thread) == ODD]
+        super().__init__(shown, odd[:1])
 
     def sentence(self):
         return capital(f"{self.each()[0]}.")
@@ -96,10 +86,6 @@ class Wait(Ending):
     mark = "waits, and nobody is left to let it go"
     claim = "All threads of this job can wait for ever."
     shows = staticmethod(is_stuck)
-
-    @staticmethod
-    def about(machine, state):
-        return [thread.number for thread in state.threads]
 
     def __init__(self, shown):
         super().__init__(shown, [

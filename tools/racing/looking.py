@@ -71,7 +71,7 @@ def look(machine, names, replay, limits, watch=None):
     found = find(machine, limits, watch)
     for kind, order in ((RACE, found.race), (ODD, found.odd), (WAIT, found.stuck)):
         if order is not None:
-            shown = Shown(machine, names, order, kind.ending, found.fewest)
+            shown = Shown(machine, names, order, kind.ending.shows, found.fewest)
             return _borne_out(Looked(found, kind, shown), replay)
     return Looked(found)
 

@@ -31,6 +31,14 @@ def is_stuck(machine, state):
     return WAITS in standings and standings <= {WAITS, DONE}
 
 
+# The threads that have to be where they are for that.
+ABOUT = {
+    has_race: lambda machine, state: machine.race(state),
+    has_odd_halt: lambda machine, state: [one.number for one in state.threads if machine.standing(state, one) == ODD][:1],
+    is_stuck: lambda machine, state: [one.number for one in state.threads],
+}
+
+
 def first_shown(machine, order, shows):
     """An order up to the first state that shows it."""
     state, at = machine.start(), 0
