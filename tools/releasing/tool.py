@@ -7,7 +7,7 @@ from contextlib import closing
 
 from starting.command import Failure, Usage, options, say, tell
 from starting.version import version
-from starting.writing import is_device, write, written_path
+from starting.writing import Output, approve, is_device, write
 
 from explaining.running import find_program
 from explaining.showing import visible
@@ -19,8 +19,10 @@ from .servers import as_json, as_junit
 from .workers import Lost, shared_out, when_told_to_end
 
 USUAL = "release-report.txt"
-# The files beside the report: by option, what each is called and how it is made.
-BESIDE = {"--json": ("JSON", as_json), "--junit": ("JUnit file", as_junit)}
+# The files beside the report: by option, what each is called, what it begins with and how it is made.
+BESIDE = {
+    "--json": ("JSON", b'{\n "record": {', as_json),
+    "--junit": ("JUnit file", b'<?xml version="1.0" encoding="UTF-8"?>\n<testsuite name="racecheck"', as_junit)}
 
 
 def main(arguments):
@@ -29,8 +31,11 @@ def main(arguments):
         raise Usage
     when_told_to_end(_stopped)
     release = others[0]
-    path = _path_outside(others[1] if len(others) == 2 else USUAL, release, "report")
-    beside = {option: _path_outside(given[option], release, BESIDE[option][0]) for option in BESIDE if option in given}
+    path = Output("report", others[1] if len(others) == 2 else USUAL, b"record\t")
+    beside = {option: Output(BESIDE[option][0], given[option], BESIDE[option][1]) for option in BESIDE if option in given}
+    approve([path, *beside.values()], [given["--manifest"]] if "--manifest" in given else [])
+    for output in (path, *beside.values()):
+        _require_outside(output, release)
     names = pairs_of(release, names_in(given["--manifest"]) if "--manifest" in given else set())
     binary, recheck = find_program("racecheck"), "--no-recheck" not in given
     record = _record(binary, release, given.get("--manifest"))
@@ -39,12 +44,11 @@ def main(arguments):
     for one in entries:
         if one.answer == "FAILED" or one.alarming:
             say(f"check-release: racecheck failed on {visible(one.name)}: {' '.join(one.details)}")
-    write(path, "".join(f"{line}\n" for line in report(record, entries)).encode(), "report")
-    for option, file in beside.items():
-        what, made = BESIDE[option]
-        write(file, made(record, entries).encode(), what)
+    write(path, "".join(f"{line}\n" for line in report(record, entries)).encode())
+    for option, output in beside.items():
+        write(output, BESIDE[option][2](record, entries).encode())
     tell(counts([one.answer for one in entries]))
-    say(f"check-release: {len(names)} pairs, report in {visible(path)}")
+    say(f"check-release: {len(names)} pairs, report in {visible(os.path.realpath(path.path))}")
     return _status_of(entries)
 
 
@@ -55,13 +59,11 @@ def _stopped(_number, _frame):
     raise Failure("stopped; the report is as it was")
 
 
-def _path_outside(path, release, what):
-    """A file's full path, which is in none of the pairs' folders."""
-    full = written_path(path, what)
-    folder, release = os.path.dirname(full), os.path.realpath(release)
-    if not is_device(full) and folder != release and folder.startswith(os.path.join(release, "")):
-        raise Failure(f"the {what} would be written into a pair's folder: {visible(path)}")
-    return full
+def _require_outside(output, release):
+    """Nothing is written into a pair's folder."""
+    folder, release = os.path.dirname(os.path.realpath(output.path)), os.path.realpath(release)
+    if not is_device(output.path) and folder != release and folder.startswith(os.path.join(release, "")):
+        raise Failure(f"the {output.what} would be written into a pair's folder: {visible(output.path)}")
 
 
 # ---- The runs

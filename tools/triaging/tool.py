@@ -3,10 +3,9 @@ import json
 import os
 
 from starting.command import Failure, Usage, options, say, tell
-from starting.writing import spare, write
+from starting.files import SHEETS, files_of
+from starting.writing import Output, approve, write
 
-from explaining.names import FILE as NAMES
-from explaining.refusals import PROGRAM, SPLIT
 from explaining.sheets import read_sheet
 from explaining.showing import visible
 from racing.orders import trace_text
@@ -27,9 +26,7 @@ def main(arguments):
     folder, limits = folders[0], limits_of(given)
     if not os.path.isdir(folder):
         raise Failure(f"no such folder: {visible(folder)}")
-    for option, what in FILES.items():
-        if option in given:
-            spare(folder, (PROGRAM, SPLIT, NAMES), given[option], what)
+    approve([Output(what, given[option]) for option, what in FILES.items() if option in given], files_of(folder, SHEETS))
     decision = watched(lambda watch: decide(folder, limits=limits, watch=watch))
     kept = _kept(decision, folder, given)
     if "--json" in given:
@@ -45,33 +42,20 @@ def _kept(decision, folder, given):
     """Writes the order if that was asked for, and the mended split beside the given one. Where they are, in words."""
     kept = []
     if decision.race and "--trace" in given:
-        kept.append(_written(given["--trace"], trace_text(decision.race.order).encode(), FILES["--trace"]))
-    if decision.mended and "--mended" in given:
-        kept.append(_written(given["--mended"], decision.mended, FILES["--mended"]))
-    elif decision.mended:
-        kept.append(_put_beside(os.path.join(folder, MENDED), decision.mended))
+        kept.append(_written("--trace", given["--trace"], trace_text(decision.race.order).encode()))
+    if decision.mended:
+        file = given.get("--mended") or os.path.join(folder, MENDED)
+        there = None if "--mended" in given else read_sheet(folder, MENDED)
+        is_there = there is not None and there.text == decision.mended
+        kept.append(f"The mended split is in {visible(file)}." if is_there else _written("--mended", file, decision.mended))
     return kept
 
 
-def _written(file, text, what):
+def _written(option, file, text):
     """What was decided is worth more than the file: if that cannot be written, it is said."""
+    what = FILES[option]
     try:
-        write(file, text, what)
-    except Failure as why:
-        return f"The {what} is not in a file: {why}."
+        write(Output(what, file), text)
+    except Failure as error:
+        return f"The {what} is in no file: {error}; {option} FILE writes it elsewhere."
     return f"The {what} is in {visible(file)}."
-
-
-def _put_beside(file, text):
-    """Nothing that is there is written over."""
-    try:
-        with open(file, "xb") as out:
-            out.write(text)
-    except FileExistsError:
-        kept = read_sheet(*os.path.split(file))
-        if kept is None or kept.text != text:
-            return f"{visible(file)} is there already and is left as it is; --mended FILE writes the mended split elsewhere."
-    except OSError as error:
-        return (f"The mended split is not in a file: {visible(file)} cannot be written ({error.strerror});"
-                " --mended FILE writes it elsewhere.")
-    return f"The mended split is in {visible(file)}."
