@@ -31,11 +31,20 @@ class _Draw:
             self.locks.append(("sem", self._let("newsem,0")))
             for _ in range(self.random.choice([1, 1, 2])):
                 self._let("post,0", f"var,{self.locks[-1][1]}")
+        self._let_either()
         for _ in range(self.random.choice([1, 2, 2])):
             self._let("spawn,0", f"var,{self.identifier}")
             self._acts()
         self._acts()
         return self.lines
+
+    def _let_either(self):
+        """Now and then a variable for one of two cells, or of two locks."""
+        locks = [lock for kind, lock in self.locks if kind == "lock"]
+        if len(self.cells) == 2 and self.random.random() < 0.4:
+            self.cells.append(self._let("if,0", *[f"var,{cell}" for cell in self.cells]))
+        if len(locks) == 2 and self.random.random() < 0.4:
+            self.locks.append(("lock", self._let("if,0", *[f"var,{lock}" for lock in locks])))
 
     def _let(self, *act):
         self.lines += [f"let,{self.variable}", *act]
@@ -44,8 +53,12 @@ class _Draw:
 
     def _acts(self):
         """One act or two, then a value."""
+        cells, locks = list(self.cells), list(self.locks)
+        if self.random.random() < 0.3:
+            self._let_either()
         for _ in range(self.random.randint(1, 2)):
             self._act(self.random.random())
+        self.cells, self.locks = cells, locks
         self.lines.append("int,0")
 
     def _act(self, chance):

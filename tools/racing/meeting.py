@@ -1,10 +1,11 @@
 """The threads that can be let go on from a state: what each is about to do, what it can still come to, and whom it can meet."""
 from typing import NamedTuple
 
-from stepping.machine import CELL, DONE, KIND, ODD, READY, kind, name
+from stepping.machine import CELL, DONE, KIND, ODD, READY
 from stepping.program import FINISHED
 
 from .blocks import Block, walk
+from .likeness import reached
 
 # For a word that can go ahead and for one that waits: the words of others on the same thing that it must be tried before and
 # behind. A word that is not here gets in nobody's way, and nobody in its.
@@ -60,7 +61,7 @@ class Others:
         self._held = {one.number: one.uses() for one in node.held}
         self.moving = [one for one in outcomes if one[1] and self._held.get(one[0].number) != frozenset()]
         self._words = [search.alike.words_of(thread) for thread, _ in self.moving]
-        self._reach = [_reached(node.state, thread) for thread, _ in self.moving]
+        self._reach = [reached(node.state, thread.values(), search.stands_for) for thread, _ in self.moving]
         self._goings, self._next = {}, {}
 
     def is_held(self, at):
@@ -138,18 +139,6 @@ class Others:
         if not words & self._words[at]:
             return False
         return thing in self._reach[at] if self._search.is_flat else any(thing in reached for reached in self._reach)
-
-
-def _reached(state, thread):
-    """The things that a thread can get at, through its variables and through cells."""
-    reached, waiting = set(), list(thread.values())
-    while waiting:
-        value = waiting.pop()
-        if kind(value) and value not in reached:
-            reached.add(value)
-            if kind(value) == CELL:
-                waiting.append(state.cells[name(value)])
-    return reached
 
 
 def may_meet(one, other):

@@ -65,6 +65,11 @@ class _Node(NamedTuple):
 class Search:
     """One that has come to a share of its budget can be run on."""
 
+    @staticmethod
+    def stands_for(value):
+        """The values that one stands for: here itself alone."""
+        return (value,)
+
     def __init__(self, machine, budget, room):
         self.machine, self.points, self.budget, self.room = machine, machine.points, budget, room
         self.alike = alike(machine.steps)
@@ -192,7 +197,7 @@ class Search:
             return True
         if word not in WANTS or self.machine.standing(state, thread) != READY:
             return False
-        return word in GIVING or thread.operands[0] not in reached_by_others(state, at)
+        return word in GIVING or thread.operands[0] not in reached_by_others(state, at, self.stands_for)
 
     def _may_come_back(self, thread):
         """Whether a thread is at a choice, or at a call by which it can come back to where it is."""
@@ -201,25 +206,32 @@ class Search:
 
     def outcomes(self, state, at):
         """Every way in which a thread can go on by itself: through local steps and choices to a step that others see."""
-        number, outcomes, seen = state.threads[at].number, [], set()
+        outcomes, seen, most = [], set(), self._share[0] if self._share else self.budget.most()
         waiting = [((), state)]
         while waiting:
             moves, now = waiting.pop()
             thread = now.threads[at]
-            word = self.points[thread.point].word if thread.point != FINISHED else None
-            if word not in LOCAL | {"if"} or self._has_no_room(now, thread, word):
+            branches = self._branches(now, at)
+            if not branches:
                 outcomes.append(Outcome(moves, now, at, self.machine.standing(now, thread)))
                 continue
             if self._may_come_back(thread):
                 here = self.here(thread)
                 if here in seen:
                     continue
-                if len(seen) >= self.budget.most() or self._is_enough():
+                if len(seen) >= most or self._is_enough():
                     raise Enough
                 seen.add(here)
-            choices = (1, 0) if word == "if" else (0,)
-            waiting += [((*moves, (number, choice)), self.machine.step(now, at, choice)) for choice in choices]
+            waiting += [((*moves, *more), then) for more, then in branches]
         return outcomes
+
+    def _branches(self, state, at):
+        """Where a step that others do not see takes a thread: the moves and the state of each way; none if it is at another step."""
+        thread = state.threads[at]
+        word = self.points[thread.point].word if thread.point != FINISHED else None
+        if word not in LOCAL | {"if"} or self._has_no_room(state, thread, word):
+            return []
+        return [(((thread.number, choice),), self.machine.step(state, at, choice)) for choice in ((1, 0) if word == "if" else (0,))]
 
     def here(self, thread):
         """Where a thread stands, constants and calls with nothing left behind them aside."""
@@ -255,12 +267,17 @@ class Search:
 
     def _waiting(self, node, outcomes):
         """The order in which every thread goes where it waits or finishes; None if a join can go on then after all."""
-        order, state = node.path(), node.state
+        order = node.path()
         for outcome in outcomes:
             order = _with(order, outcome.moves)
-            for number, choice in outcome.moves:
-                state = self.machine.step(state, state.at(number), choice)
+        order, state = self.plain(order), self.machine.start()
+        for number, choice in order:
+            state = self.machine.step(state, state.at(number), choice)
         return None if any(self.machine.standing(state, thread) == READY for thread in state.threads) else order
+
+    def plain(self, order):
+        """An order as moves alone."""
+        return order
 
 
 class Enough(Exception):

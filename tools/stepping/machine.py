@@ -156,6 +156,13 @@ class Machine:
         moved = self._thread(thread.number, thread.identifier, follows)
         return state._replace(threads=state.threads[:at] + (moved,) + state.threads[at + 1:])
 
+    def valued(self, state, at, value):
+        """The state once the word that a thread is at has become a value, whatever it is."""
+        thread = state.threads[at]
+        point = self.points[thread.point]
+        follows = self.steps.returned(point.step, value, dict(zip(point.live, thread.slots)), thread.calls)
+        return state._replace(threads=_put(state.threads, at, self._thread(thread.number, thread.identifier, follows)))
+
     def _gone_on(self, thread, point, slots, choice):
         """Where a thread stands after a word that changes nothing but itself; None at any other word."""
         word, here, calls, steps = point.word, point.step, thread.calls, self.steps
