@@ -107,8 +107,8 @@ def objections(decision, program, split):
         yield replay_objection(decision, program)
     if kind in ("loads", "types"):
         refilled = written_by("racefill", program, emptied(program, split)).strip().split(",")[:2]
-        wanted = ["REFUSE", {"loads": "41", "types": "31"}[kind]]
-        yield "" if refilled == wanted else f"racefill says {refilled}"
+        wanted = [["REFUSE", number] for number in {"loads": ("41", "30"), "types": ("31",)}[kind]]
+        yield "" if refilled in wanted else f"racefill says {refilled}"
     yield "" if (decision.mended is None) == (decision.status != 5) else "a mended split, or none"
     yield "" if decision.kind not in ("disagreement", "failed", "unread") else f"{decision.kind}: {decision.grounds}"
 

@@ -27,10 +27,17 @@ def _find_within(machine, budget, room):
     first = fewest.run(budget.share(*SOON))
     if not first.limited or budget.is_over():
         return first
-    found = Holding(machine, budget, room).run(budget.share(budget.most(), NEXT))
+    found = hold(machine, budget, room, budget.share(budget.most(), NEXT))
     if found.whole():
         return found
     if found.race is None:
         return fewest.run()
     again = fewest.run(budget.share(*LATER))
     return found if again.race is None else again
+
+
+def hold(machine, budget, room, share=None):
+    """The search that holds threads. If there is a race once there are enough threads of a kind, it is run again for an order."""
+    search = Holding(machine, budget, room)
+    found = search.run(share)
+    return Holding(machine, budget, room, is_endless=False).run(share) if search.needs_many else found

@@ -18,8 +18,10 @@ from stepping.program import FINISHED
 
 from .blocks import GIVES, TAKES, is_flat, takes_in
 from .choices import EITHER, Eithers, Made, Open, made, put_for
+from .endless import ENDLESS, FAR, evened, grown
 from .likeness import key
 from .meeting import Going, Others, Touch, may_meet
+from .recursion import recursive
 from .search import Enough, Search
 
 BURST = 16  # states of one family before it is another's turn
@@ -43,6 +45,7 @@ class Node(NamedTuple):
     opened: tuple  # (number, what it has taken since) of threads whose block is taken step by step
     moves: tuple
     before: object
+    many: frozenset = frozenset()  # how threads look of which there can be any number
 
     def path(self):
         pieces, node = [], self
@@ -61,7 +64,9 @@ class Node(NamedTuple):
 class Holding(Search):
     """The states with the same threads held or opened, where they are, are a family of their own; the families take turns."""
 
-    def __init__(self, machine, budget, room):
+    def __init__(self, machine, budget, room, is_endless=True):
+        self._is_endless = is_endless and goes_round(machine.steps)
+        self.needs_many = False  # a race was met among any number of threads, and no order to it is known
         self._eithers = Eithers(machine.steps)
         self.stands_for = self._eithers.values
         super().__init__(machine, budget, room)
@@ -76,13 +81,13 @@ class Holding(Search):
             while self._turns:
                 race = self._burst(self._turns.popleft())
                 if race is not None:
-                    return self._found(race, False)._replace(fewest=False)
+                    return self._found(*race)._replace(fewest=False)
         except Enough:
             return self._found(None, True)
         return self._found(None, False)
 
     def _burst(self, family):
-        """Looks at some states of a family: a race, or None."""
+        """Looks at some states of a family: a race and that nothing ended the search, or None."""
         waiting = self._families[family]
         for _ in range(BURST):
             if not waiting:
@@ -90,17 +95,25 @@ class Holding(Search):
             if self._is_enough():
                 raise Enough
             self.budget.count()
-            race = self._go_on(family, *waiting.pop())
+            node, known = waiting.pop()
+            race = self._go_on(family, node, known)
+            if race is not None and self._is_unending(node):
+                self.needs_many = True
+                raise Enough
             if race is not None:
-                return race
+                return race, False
         if waiting:
             self._turns.append(family)
         else:
             del self._families[family]
         return None
 
+    def _is_unending(self, node):
+        return bool(node.many) or max(node.state.sems, default=0) >= ENDLESS // 2
+
     def _put(self, family, node):
         """Has a state looked at later, if it is a new one. Its key."""
+        node = self._many(node) if self._is_endless else node
         known = key(node.state, node.marks(), self.alike, self.stands_for)
         if known not in self._seen:
             self._seen.add(known)
@@ -131,6 +144,25 @@ class Holding(Search):
             self._hold(node, others, rest)
             self._take(family, node, others, rest)
         return None
+
+    def _many(self, node):
+        """A state that goes on from one with any number of some threads, or that has come to more than there was on the way."""
+        apart, before = node.marks(), node.before
+        node = self._evened(node, before.many if before else frozenset(), [])
+        for _ in range(FAR):
+            if before is None or before.marks() != apart:
+                return node
+            more = grown(before.state, node.state, apart, self.stands_for)
+            if more:
+                node = self._evened(node, node.many | more[0], more[1])
+            before = before.before
+        return node
+
+    def _evened(self, node, many, counts):
+        if not many and not counts and max(node.state.sems, default=0) < ENDLESS // 2:
+            return node
+        sems = tuple(ENDLESS if at in counts else count for at, count in enumerate(node.state.sems))
+        return node._replace(state=evened(node.state._replace(sems=sems), many, node.marks(), self.stands_for), many=many)
 
     # ---- Going on
 
@@ -167,10 +199,11 @@ class Holding(Search):
 
     def _hold(self, node, others, chosen):
         """Puts down the states in which one of these threads is held, or opened, before a touch that another can race with."""
-        if len(node.held) == 2:
-            return
+        meeting = [*node.held_numbers(), *dict(node.opened)]  # two threads race, and no more
         for at in others.unlike(chosen):
-            for going in others.goings(at) if not others.is_held(at) else ():
+            if others.is_held(at) or len(meeting) == 2 and others.number(at) not in meeting:
+                continue
+            for going in others.goings(at):
                 if self._is_to_be_held(node, others, at, going):
                     self._hold_one(node, others.number(at), going)
 
@@ -254,6 +287,11 @@ class Holding(Search):
     def _found(self, race, limited):
         found = super()._found(race, limited)
         return found._replace(race=self.plain(found.race), odd=self.plain(found.odd), stuck=self.plain(found.stuck))
+
+
+def goes_round(steps):
+    """Whether a job can come back to where it was."""
+    return bool(recursive(steps)) or any(step.word == "while" for step in steps.steps)
 
 
 def _opened_behind(opened, number, going):

@@ -10,7 +10,7 @@ from .rest import rest_of
 
 FEW = 1000  # parts in D that look like rounding, if D is that many times greater
 # What is wrong by racefill's answer, as a kind of decision. 42 and 43 say nothing of it.
-KINDS = {30: "start", 31: "types", 41: "loads"}
+KINDS = {30: "loads", 31: "types", 41: "loads"}
 
 
 class Lack(NamedTuple):
