@@ -1,5 +1,4 @@
 """An explanation as text for a person at the desk."""
-from .refusals import REFUSALS
 from .showing import fractions, grouped
 from .words import WORDS
 
@@ -30,8 +29,8 @@ def told(explanation):
     """The lines of an explanation, from the answer to what helps."""
     lines = [explanation.answer, "", *finding(explanation)]
     lines += _titled("What usually helps", explanation.helps)
-    if explanation.number in REFUSALS:
-        lines += ["", f"Who looks first: {REFUSALS[explanation.number].owner}"]
+    if explanation.owner:
+        lines += ["", f"Who looks first: {explanation.owner}"]
     if explanation.site:
         lines += ["", SHOW_RACE]
     return lines

@@ -21,6 +21,10 @@ from .lacking import is_rounded, lack_of, lacking
 from .mending import Mending
 
 
+# Nothing tells a split that is wrong from a job that is safe for a reason which the rules do not see.
+OTHERWISE = "If the solver finds no other split either, the owner of the program has to write the job more plainly."
+
+
 class Programs(NamedTuple):
     """The proved programs, as files that can be run."""
 
@@ -103,7 +107,8 @@ class _Pair:
             kind = "races" if looked.kind is RACE else "gets-stuck"
             return self._of(kind, looked.lines(), race=Race(looked.shown.order, looked.replayed), search=search)
         kind = lacks.kind if looked.status() == NONE and lacks.kind else "undecided"
-        return self._of(kind, [*lacks.lines, "", *looked.lines()], lack=lacks.lack, is_rounded=lacks.is_rounded, search=search)
+        grounds = [*lacks.lines, "", *looked.lines(), *([OTHERWISE] if kind != "undecided" else [])]
+        return self._of(kind, grounds, lack=lacks.lack, is_rounded=lacks.is_rounded, search=search)
 
 
 def _is_of_split(explanation):

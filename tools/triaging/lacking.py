@@ -22,9 +22,10 @@ class Lack(NamedTuple):
     location: int
     missing: int
     of: int  # D
+    rest: tuple = ()  # who has the rest, where it is lost and where it comes back, in words
 
     def fields(self):
-        return self._asdict()
+        return {**self._asdict(), "rest": list(self.rest)}
 
 
 class Lacking(NamedTuple):
@@ -38,12 +39,16 @@ def lacking(filled):
     """What is to be said of racefill's refusal."""
     lines = ["The split without its after-maps:", *_indented([f"racefill: {filled.answer}", "", *telling.finding(filled)])]
     lack = lack_of(filled)
-    is_few = lack is not None and is_rounded(lack.missing, lack.of)
+    if lack is None:
+        return Lacking(KINDS.get(filled.number), None, False, lines)
+    lack, is_few = lack._replace(rest=tuple(rest_of(filled))), is_rounded(lack.missing, lack.of)
+    amount = filled.sites.split.fraction(lack.missing, lack.location)
+    lines += ["", f"At line {lack.line}, `{lack.word}`, the loads and starts are {amount} of"
+              f" {filled.names.location(lack.location)} off."]
     if is_few:
-        lines += ["", f"Only {grouped(lack.missing)} in {grouped(lack.of)} is missing: the loads and starts look rounded."]
-    rest = rest_of(filled) if filled.number == 41 else []
-    if rest:
-        lines += ["", "Who has the rest at that point, as the picture of tools/explain tells it:", *_indented(rest)]
+        lines.append(f"That is only {grouped(lack.missing)} in {grouped(lack.of)}: they look rounded.")
+    if lack.rest:
+        lines += ["", "Who has the rest at that point, as the picture of tools/explain tells it:", *_indented(lack.rest)]
     return Lacking(KINDS.get(filled.number), lack, is_few, lines)
 
 
