@@ -1,4 +1,5 @@
 """tools/triage: whose fault a refusal is. Accepted examples with one thing made wrong, the races, and files in its way."""
+import json
 import os
 import re
 import shutil
@@ -7,6 +8,7 @@ import tempfile
 from pathlib import Path
 
 from checks import HOUSE, check, user_environment
+from triaging.decision import KINDS
 
 ACCEPTED, RACES, FAILED, DISAGREES, UNDECIDED, ROWS, LOADS, PROGRAM_SHEET, SPLIT_SHEET = range(9)
 MENDED = "split-mended.txt"
@@ -20,6 +22,9 @@ def check_triage(binary, racefill, racereplay):
     check_sheets(programs)
     check_files(programs)
     check_lies(programs)
+    check_fields(programs)
+    check_page(programs)
+    check_hints(programs)
 
 
 def run(programs, *arguments):
@@ -140,3 +145,46 @@ def check_lies(programs):
         pair = wrecked("join", Path(scratch) / "pairs", (f"{lines[-2]}\n", "0,1,\n"))
         done = run({**programs, "RACEFILL": liar}, pair)
         check("triage with a lying racefill", (done.returncode, "DISAGREEMENT" in done.stdout), (DISAGREES, True))
+
+
+def check_fields(programs):
+    """--json has the documented fields, and says what is said otherwise."""
+    page = (HOUSE / "docs" / "REFUSALS.md").read_text()
+    rows = re.findall(r"^\| (`.*?) \|", page.split("With `--json`")[1].split("`tools/show-race FOLDER`")[0], re.M)
+    documented = [name for row in rows for name in re.findall(r"`(\w+)`", row)]
+    with tempfile.TemporaryDirectory() as scratch:
+        lines = (HOUSE / "examples" / "join" / "split.txt").read_text().split("\n")
+        wrong = wrecked("join", scratch, (f"{lines[-2]}\n", "0,1,\n"))
+        for folder in (HOUSE / "examples" / "join-race", HOUSE / "examples" / "join", wrong):
+            plain, done = run(programs, folder), run(programs, "--json", folder)
+            fields = json.loads(done.stdout)
+            check(f"--json of {folder.name}: the documented fields", sorted(fields), sorted(documented))
+            check(f"--json of {folder.name}: status", (done.returncode, fields["status"]), (plain.returncode,) * 2)
+            check(f"--json of {folder.name}: the line", plain.stdout.split("\n")[0], f"{fields['folder']}: {fields['says']}")
+            check(f"--json of {folder.name}: a race, a mended split", (fields["race"] is not None, fields["mended"] is not None),
+                  (fields["kind"] == "races", fields["kind"] == "rows"))
+            numbers = ",".join(map(str, fields["numbers"]))
+            check(f"--json of {folder.name}: the numbers", fields["answer"], "ACCEPT" if numbers == "0,0,0,0" else f"REFUSE,{numbers}")
+
+
+def check_page(programs):
+    """docs/REFUSALS.md has every kind of decision with its status and who acts, and the example as it comes out."""
+    page = (HOUSE / "docs" / "REFUSALS.md").read_text()
+    for kind, (status, who, _) in KINDS.items():
+        rows = [row for row in page.split("\n") if row.startswith("| ") and f"`{kind}`" in row]
+        check(f"docs/REFUSALS.md on {kind}", [str(status) in row.split("|")[1] and who.split()[-1] in row for row in rows], [True])
+    shown = page.split("    $ tools/triage examples/join-race\n    ")[1].split("\n")[0]
+    check("docs/REFUSALS.md: the example", run(programs, "examples/join-race").stdout.split("\n")[0], shown)
+
+
+def check_hints(programs):
+    """What explain says where the start has too little, and fill of sheets that are not for filling."""
+    with tempfile.TemporaryDirectory() as scratch:
+        pair = wrecked("join", scratch, ("C,2,", "C,3,"))
+        done = subprocess.run([HOUSE / "tools" / "explain", pair], env=user_environment(**programs), capture_output=True, text=True)
+        told = ["nobody holds the rest" in done.stdout, "Who looks first: owner of the solver\n" in done.stdout]
+        check("explain, a D that is too great", told, [True, True])
+        for example, words in (("join", "a `C` sheet is not filled"), ("top-up", "the sheet is filled already")):
+            folder = wrecked(example, scratch)
+            done = subprocess.run([HOUSE / "tools" / "fill", folder], env=user_environment(**programs), capture_output=True, text=True)
+            check(f"fill of {example}", (done.returncode, words in done.stdout, "version of the job" in done.stdout), (1, True, False))
