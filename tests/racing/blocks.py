@@ -1,6 +1,6 @@
-"""Drawn programs whose locks are used in blocks: taken, cells touched, given back; blocks in blocks, choices, loops and calls inside,
-semaphores used as locks, and now and then something taken that is not given back. Few steps, so that the plain search is soon
-through; semaphores, joins and choices between."""
+"""Drawn programs whose locks are used in blocks: taken, cells touched, given back; blocks in blocks, choices, loops and calls
+inside, semaphores used as locks, and now and then something taken that is not given back. Few steps, so that the plain search is
+soon through; semaphores, joins and choices between."""
 import random
 
 TAKING = {"lock": [("lock", "unlock")], "rwlock": [("rdlock", "rdunlock"), ("wrlock", "wrunlock")], "sem": [("wait", "post")]}

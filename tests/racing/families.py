@@ -99,7 +99,7 @@ def called(count, faulty):
 
 
 def nested(count, faulty):
-    """Threads write one cell under a lock, then another under a second one too, then read the first again; one forgets the outer."""
+    """Threads under a lock write a cell under a second one too, then read another, which the first writes; one forgets the outer."""
     job = _Job()
     one, other, outer, inner = *_cells(job, 2), job.let("newlock,0"), job.let("newlock,0")
     for number in range(count):
@@ -171,9 +171,10 @@ ENDLESS = [
     ("writers for ever", True, _CELL + _ANEW + "write,0|var,0|int,1"),
     ("writers for ever under a lock", False, _CELL + "let,1|newlock,0|" + _ANEW
      + "let,2|lock,0|var,1|let,3|write,0|var,0|int,1|unlock,0|var,1"),
-    ("counts for ever", False, _CELL + "let,1|newsem,0|let,2|spawn,0|newtid,0|while,0|post,0|var,1|while,0|let,3|wait,0|var,1|" + _READS),
-    ("readers that count for ever", False, _CELL + "let,1|newsem,0|" + _ANEW + "let,2|read,0|var,0|let,3|post,0|var,1|let,4|wait,0|var,1|"
-     + _READS),
+    ("counts for ever", False, _CELL + "let,1|newsem,0|let,2|spawn,0|newtid,0|while,0|post,0|var,1|"
+     "while,0|let,3|wait,0|var,1|" + _READS),
+    ("readers that count for ever", False, _CELL + "let,1|newsem,0|" + _ANEW
+     + "let,2|read,0|var,0|let,3|post,0|var,1|let,4|wait,0|var,1|" + _READS),
     ("threads that start threads", False, "proc,0|let,1|spawn,0|newtid,0|call,0|var,0|read,0|var,0|let,2|ref,0|int,0|call,0|var,2"),
     ("a write once three are there", True, _CELL + "let,1|newsem,0|let,2|" + _ANEW
      + "let,3|post,0|var,1|let,4|wait,0|var,1|read,0|var,0|let,5|wait,0|var,1|let,6|wait,0|var,1|write,0|var,0|int,1"),

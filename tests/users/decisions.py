@@ -1,5 +1,5 @@
-"""What tools/triage decides: of families of pairs the right thing, and of drawn refused pairs nothing that a proved program does not
-confirm.
+"""What tools/triage decides: of families of pairs the right thing, and of drawn refused pairs nothing that a proved program does
+not confirm.
 
 usage: python3 tests/users/decisions.py RACECHECK RACEFILL RACEREPLAY [PAIRS [SEED]]
 """
@@ -26,6 +26,10 @@ SECONDS = 5  # of processor time, for one decision
 LIMITS = Limits(20_000, 60)
 FEW_STATES = Limits(2_000, 60)
 MALFORMED = {"program-malformed": {10, 11, 12, 13, 14, 15, 45, 49}, "split-malformed": {20, 21, 22, 23, 40, 44, 50}}
+
+
+_ONE, _TWO = ("read", "join", "lock", "unlock", "wait", "post", "rdlock", "rdunlock", "wrlock", "wrunlock"), ("write", "spawn")
+WORDS = {word: words for words in (_ONE, _TWO) for word in words}  # with as many parts
 
 
 # ---- Families
@@ -177,11 +181,8 @@ def changed(text, drawn):
     at, chance = drawn.randrange(len(lines)), drawn.random()
     if chance < 0.03:
         del lines[at]
-    elif lines[at].startswith(("read,", "write,", "lock,0", "unlock,", "join,", "wait,", "post,", "rdlock,", "wrlock,")) and chance < 0.8:
-        same = [["read", "join", "lock", "unlock", "wait", "post", "rdlock", "rdunlock", "wrlock", "wrunlock"], ["write", "spawn"]]
-        word = lines[at].split(",")[0]
-        others = next((words for words in same if word in words), [word])
-        lines[at] = ",".join([drawn.choice(others), *lines[at].split(",")[1:]])
+    elif lines[at].split(",")[0] in WORDS and chance < 0.8:
+        lines[at] = ",".join([drawn.choice(WORDS[lines[at].split(",")[0]]), *lines[at].split(",")[1:]])
     else:
         fields = lines[at].split(",")
         places = [place for place, field in enumerate(fields) if field.isdigit()]

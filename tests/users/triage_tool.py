@@ -27,9 +27,9 @@ def check_triage(binary, racefill, racereplay):
     check_hints(programs)
 
 
-def run(programs, *arguments):
+def run(programs, *arguments, tool="triage"):
     return subprocess.run(
-        [HOUSE / "tools" / "triage", *map(str, arguments)], env=user_environment(**programs), cwd=HOUSE, stdin=subprocess.DEVNULL,
+        [HOUSE / "tools" / tool, *map(str, arguments)], env=user_environment(**programs), cwd=HOUSE, stdin=subprocess.DEVNULL,
         capture_output=True, text=True)
 
 
@@ -161,7 +161,7 @@ def check_fields(programs):
             check(f"--json of {folder.name}: the documented fields", sorted(fields), sorted(documented))
             check(f"--json of {folder.name}: status", (done.returncode, fields["status"]), (plain.returncode,) * 2)
             check(f"--json of {folder.name}: the line", plain.stdout.split("\n")[0], f"{fields['folder']}: {fields['says']}")
-            check(f"--json of {folder.name}: a race, a mended split", (fields["race"] is not None, fields["mended"] is not None),
+            check(f"--json of {folder.name}: a race, a mended split", (bool(fields["race"]), bool(fields["mended"])),
                   (fields["kind"] == "races", fields["kind"] == "rows"))
             numbers = ",".join(map(str, fields["numbers"]))
             check(f"--json of {folder.name}: the numbers", fields["answer"], "ACCEPT" if numbers == "0,0,0,0" else f"REFUSE,{numbers}")
@@ -181,10 +181,10 @@ def check_hints(programs):
     """What explain says where the start has too little, and fill of sheets that are not for filling."""
     with tempfile.TemporaryDirectory() as scratch:
         pair = wrecked("join", scratch, ("C,2,", "C,3,"))
-        done = subprocess.run([HOUSE / "tools" / "explain", pair], env=user_environment(**programs), capture_output=True, text=True)
+        done = run(programs, pair, tool="explain")
         told = ["nobody holds the rest" in done.stdout, "Who looks first: owner of the solver\n" in done.stdout]
         check("explain, a D that is too great", told, [True, True])
         for example, words in (("join", "a `C` sheet is not filled"), ("top-up", "the sheet is filled already")):
             folder = wrecked(example, scratch)
-            done = subprocess.run([HOUSE / "tools" / "fill", folder], env=user_environment(**programs), capture_output=True, text=True)
+            done = run(programs, folder, tool="fill")
             check(f"fill of {example}", (done.returncode, words in done.stdout, "version of the job" in done.stdout), (1, True, False))

@@ -162,7 +162,7 @@ class Events:
     # ---- Putting them
 
     def ways_to_put(self, kept):
-        """Orders of the steps that are kept, each as their places: with the steps on a lock in the order that they had, or in any."""
+        """Orders of the steps that are kept, each as their places. Steps on one lock keep their order, or may change it."""
         for words in (LOCKING | SHARING, LOCKING, ()):
             before = self._before(kept, words)
             yield from (_put(self, before, choose) for choose in (_demanded, _longest))

@@ -9,7 +9,7 @@ from collections import Counter
 from stepping.machine import START, kind, name
 from stepping.program import FINISHED
 
-from .likeness import reached
+from .likeness import reached, same_things
 
 ENDLESS = 1 << 30  # a count that does not end
 COPIES = 2  # of one of many
@@ -20,8 +20,13 @@ def looks(state, apart, stands_for):
     """The threads of a state as they look, their numbers aside, and the identifiers that nobody can get at; and how many of each.
     Those that are kept apart do not count."""
     free = [thread for thread in state.threads if thread.number not in apart]
-    known = reached(state, [value for thread in state.threads if thread.point != FINISHED for value in thread.values()], stands_for)
+    known = _known(state, stands_for)
     return Counter(look(thread, known) for thread in free if thread.point != FINISHED or thread.identifier in known)
+
+
+def _known(state, stands_for):
+    """The things that some thread can get at."""
+    return reached(state, [value for thread in state.threads if thread.point != FINISHED for value in thread.values()], stands_for)
 
 
 def look(thread, known):
@@ -30,8 +35,8 @@ def look(thread, known):
 
 
 def grown(earlier, later, apart, stands_for):
-    """What there is more of in a later state, which has all of an earlier one: threads as they look, and semaphores; None if it does
-    not, or has no more."""
+    """What there is more of in a later state, which has all of an earlier one: threads as they look, and semaphores. None if it
+    has not all of it, or no more."""
     if not _has_all_of(earlier, later):
         return None
     before, now = (looks(state, apart, stands_for) for state in (earlier, later))
@@ -45,11 +50,9 @@ def grown(earlier, later, apart, stands_for):
 
 
 def _has_all_of(earlier, later):
-    """Whether the things of an earlier state are the same in a later one, constants aside, and no count is less."""
-    cells = zip(earlier.cells, later.cells)
-    return (len(earlier.threads) <= len(later.threads) and all(one == other or not kind(one) and not kind(other) for one, other in cells)
-            and earlier.locks == later.locks[:len(earlier.locks)] and earlier.rwlocks == later.rwlocks[:len(earlier.rwlocks)]
-            and all(one <= other for one, other in zip(earlier.sems, later.sems)))
+    """Whether a later state may have all of an earlier one: the same things, no fewer threads, and no count that is less."""
+    return (len(earlier.threads) <= len(later.threads) and all(one <= other for one, other in zip(earlier.sems, later.sems))
+            and same_things(earlier, later))
 
 
 def _is_old(value, state, stands_for):
@@ -60,7 +63,7 @@ def _is_old(value, state, stands_for):
 
 def evened(state, many, apart, stands_for):
     """A state with as many copies of each of many as stand for all of them, and counts that do not end as they were."""
-    known = reached(state, [value for thread in state.threads if thread.point != FINISHED for value in thread.values()], stands_for)
+    known = _known(state, stands_for)
     there, kept, spawned = Counter(), [], state.spawned
     for thread in state.threads:
         one = look(thread, known)

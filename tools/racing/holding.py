@@ -13,16 +13,16 @@ docs/RACES.md has the reasons.
 from collections import deque
 from typing import NamedTuple
 
-from stepping.machine import CELL, KIND, kind
+from stepping.machine import CELL, KIND
 from stepping.program import FINISHED
 
 from .blocks import GIVES, TAKES, is_flat, takes_in
-from .choices import EITHER, Eithers, Made, Open, made, put_for
 from .endless import ENDLESS, FAR, evened, grown
 from .likeness import key
 from .meeting import Going, Others, Touch, may_meet
+from .late import Late
 from .recursion import recursive
-from .search import Enough, Search
+from .search import Enough
 
 BURST = 16  # states of one family before it is another's turn
 HELD, OPENED = 1, 2  # marks on threads
@@ -61,14 +61,12 @@ class Node(NamedTuple):
         return {**{number: OPENED + len(taken) for number, taken in self.opened}, **dict.fromkeys(self.held_numbers(), HELD)}
 
 
-class Holding(Search):
+class Holding(Late):
     """The states with the same threads held or opened, where they are, are a family of their own; the families take turns."""
 
     def __init__(self, machine, budget, room, is_endless=True):
         self._is_endless = is_endless and goes_round(machine.steps)
         self.needs_many = False  # a race was met among any number of threads, and no order to it is known
-        self._eithers = Eithers(machine.steps)
-        self.stands_for = self._eithers.values
         super().__init__(machine, budget, room)
         self.is_flat, self.takes = is_flat(machine.steps), takes_in(machine.steps)
         self._families, self._turns = {}, deque()
@@ -249,44 +247,6 @@ class Holding(Search):
 
     def _may_reach(self, thread, access):
         return not self.is_flat or CELL * KIND + access[0] in [one for value in thread.values() for one in self.stands_for(value)]
-
-    # ---- Choices made late
-
-    def _branches(self, state, at):
-        thread = state.threads[at]
-        if thread.point == FINISHED:
-            return []
-        for value in self._to_be_made(thread):
-            return [(((thread.number, Made(value, ways)),), state._replace(threads=(
-                *state.threads[:at], put_for(thread, value, one), *state.threads[at + 1:])))
-                for one, ways in self._eithers.ways(value)]
-        value = self._eithers.at(thread, self.points[thread.point])
-        if value is not None and len(self._eithers.ways(value)) > 1:
-            ways = self._eithers.ways(value)[0][1]
-            return [(((thread.number, Open(value, ways)),), self.machine.valued(state, at, value))]
-        return super()._branches(state, at)
-
-    def _to_be_made(self, thread):
-        """The values that the next step of a thread uses, or hands to another thread, and that stand for several."""
-        point = self.points[thread.point]
-        if point.word in ("let", "call"):
-            return []
-        used = list(thread.operands)
-        if point.word == "spawn":
-            free = self.machine.steps.free[point.parts[1]]
-            used += [value for slot, value in zip(point.live, thread.slots) if slot in free]
-        return [value for value in used if kind(value) == EITHER]
-
-    def _goes_on(self, state, at):
-        thread = state.threads[at]
-        return not (thread.point != FINISHED and self._to_be_made(thread)) and super()._goes_on(state, at)
-
-    def plain(self, order):
-        return order and made(order)
-
-    def _found(self, race, limited):
-        found = super()._found(race, limited)
-        return found._replace(race=self.plain(found.race), odd=self.plain(found.odd), stuck=self.plain(found.stuck))
 
 
 def goes_round(steps):

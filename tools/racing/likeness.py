@@ -77,6 +77,13 @@ def _things(state, names, stands_for):
     return tuple(things)
 
 
+def same_things(earlier, later):
+    """Whether the cells, locks and read-write locks that there were earlier are the same later, constants aside."""
+    cells = zip(earlier.cells, later.cells)
+    return (all(one == other or not kind(one) and not kind(other) for one, other in cells)
+            and earlier.locks == later.locks[:len(earlier.locks)] and earlier.rwlocks == later.rwlocks[:len(earlier.rwlocks)])
+
+
 def reached_by_others(state, at, stands_for=lambda value: (value,)):
     """The things that a thread other than the one at this place can get at."""
     return reached(state, [

@@ -7,10 +7,10 @@ come back to the same call is taken late, as a choice is: so a thread that goes 
 import heapq
 from typing import NamedTuple
 
-from stepping.machine import DONE, KIND, ODD, READY, WAITS, WANTS, kind
+from stepping.machine import DONE, ODD, READY, WAITS, WANTS, kind
 from stepping.program import FINISHED
 
-from .likeness import key, reached_by_others
+from .likeness import key, reached_by_others, same_things
 from .recursion import recursive
 from .shapes import alike
 
@@ -157,7 +157,8 @@ class Search:
             return False
         others = _without(after, number)
         while node is not None and node.state.at(number) is not None:
-            if _without(node.state, number) == others and _holds_alike(node.state, after):
+            then = node.state  # what was made since then has no name but in a cell
+            if _without(then, number) == others and same_things(then, after) and then.sems == after.sems[:len(then.sems)]:
                 return True
             node = node.before
         return False
@@ -226,12 +227,13 @@ class Search:
         return outcomes
 
     def _branches(self, state, at):
-        """Where a step that others do not see takes a thread: the moves and the state of each way; none if it is at another step."""
+        """Where a step that others do not see takes a thread: the moves and the state of each way; none at any other step."""
         thread = state.threads[at]
         word = self.points[thread.point].word if thread.point != FINISHED else None
         if word not in LOCAL | {"if"} or self._has_no_room(state, thread, word):
             return []
-        return [(((thread.number, choice),), self.machine.step(state, at, choice)) for choice in ((1, 0) if word == "if" else (0,))]
+        choices = (1, 0) if word == "if" else (0,)
+        return [(((thread.number, choice),), self.machine.step(state, at, choice)) for choice in choices]
 
     def here(self, thread):
         """Where a thread stands, constants and calls with nothing left behind them aside."""
@@ -286,14 +288,6 @@ class Enough(Exception):
 
 def _without(state, number):
     return tuple(thread for thread in state.threads if thread.number != number)
-
-
-def _holds_alike(earlier, later):
-    """Whether what there was earlier is the same later, constants aside. What was made since then has no name but in a cell."""
-    cells = zip(earlier.cells, later.cells)
-    return (all(one == other or one < KIND > other for one, other in cells)
-            and earlier.locks == later.locks[:len(earlier.locks)] and earlier.sems == later.sems[:len(earlier.sems)]
-            and earlier.rwlocks == later.rwlocks[:len(earlier.rwlocks)])
 
 
 def _with(order, moves):

@@ -25,7 +25,7 @@ KINDS = {
     "rows": Kind(5, OF_SOLVER, "The rows of the split are wrong. A mended split is accepted, so the job is safe."),
     "unfilled": Kind(5, OF_SOLVER, "The split is a sheet for filling. Filled, it is accepted, so the job is safe."),
     "denominator": Kind(5, OF_SOLVER, "D of the split is wrong. With another D it is accepted, so the job is safe."),
-    "start": Kind(5, OF_SOLVER, "The start of the split is wrong. With a whole of each location it is accepted, so the job is safe."),
+    "start": Kind(5, OF_SOLVER, "The start of the split is wrong. With a whole of each it is accepted, so the job is safe."),
     "loads": Kind(6, OF_SOLVER, "No after-maps go with the loads and starts of the split. A search of all orders met no race."),
     "types": Kind(6, OF_SOLVER, "The types of the split are wrong. A search of all orders met no race."),
     "program-malformed": Kind(7, OF_PROGRAM, "The program sheet is malformed."),
