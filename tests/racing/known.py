@@ -1,5 +1,6 @@
 """Programs whose fate is known through the search of tools/show-race: those of tests/src/steps/programs.rs, and losses.py."""
 import re
+import time
 from pathlib import Path
 
 import families
@@ -12,7 +13,8 @@ from racing.search import switches_in
 from searching import held, objection, searched
 
 MOST = 20_000  # states of a plain search
-FAMILY_SIZES, FAMILY_STATES = (2, 8, 15), 15_000
+FAMILY_SIZES, FAMILY_STATES = (2, 8, 15), 3_000
+FAMILY_SECONDS = 5  # of processor time
 LISTS = Path(__file__).resolve().parents[1] / "src" / "steps" / "programs.rs"
 
 
@@ -55,9 +57,13 @@ def check_losses():
 
 def check_families():
     """Large jobs: a race is found and borne out, and where there is none all orders are searched, both soon."""
-    for what, is_racing, lines in families.jobs(FAMILY_SIZES):
+    endless = [(what, is_racing, text.split("|")) for what, is_racing, text in families.ENDLESS]
+    for what, is_racing, lines in [*families.jobs(FAMILY_SIZES), *endless]:
+        begun = time.process_time()
         found = searched(lines)
+        took = time.process_time() - begun
         check(f"{what}: a race or none", (found.race is not None, found.race is not None or found.whole()), (is_racing, True))
         check(f"{what}: within {FAMILY_STATES} states, not {found.states}", found.states <= FAMILY_STATES, True)
+        check(f"{what}: within {FAMILY_SECONDS} s, not {took:.1f}", took < FAMILY_SECONDS, True)
         if found.race is not None:
             check(f"{what}: as racereplay has it", objection(lines, found.race, has_race, race_lines), "")

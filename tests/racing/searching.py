@@ -4,8 +4,7 @@ from explaining.sheets import Step
 from jobs import sheet_of
 from racing.confirming import Replay
 from racing.budget import Budget, Limits
-from racing.finding import find
-from racing.holding import Holding
+from racing.finding import find, hold
 from racing.shown import Shown
 from stepping.machine import ROOM, Machine
 from stepping.program import Steps
@@ -21,7 +20,7 @@ def searched(lines):
 
 def held(lines):
     """What the search that holds threads finds by itself."""
-    return Holding(machine_of(lines), Budget(Limits(100_000, 60)), ROOM).run()
+    return hold(machine_of(lines), Budget(Limits(100_000, 60)), ROOM)
 
 
 def objection(lines, order, shows, told):

@@ -12,6 +12,11 @@ import known
 import plain
 from checks import HOUSE, check
 from jobs import TOOL, make_job, order_in, run, steps_in
+from racing.budget import Budget, Limits
+from racing.search import Search
+from racing.telling import searched
+from searching import machine_of
+from stepping.machine import ROOM
 
 CONFIRMED = "racereplay, which is proved, runs this order and reports this race: "
 SEARCHED = "all of them were searched"
@@ -123,8 +128,10 @@ def check_bounds():
         for option in ("--states", "--seconds"):
             done = run(option, 0, HOUSE / "examples" / "refill")
             check(f"{option} 0", (done.status, "that proves nothing" in done.said, SEARCHED in done.said), (4, True, False))
-        done = run("--states", 60, HOUSE / "examples" / "refill")
-        check("--states 60: the bound is told", (done.status, "Every order with fewer than" in done.said), (4, True))
+        done = run("--states", 20, HOUSE / "examples" / "refill")
+        check("--states 20: the bound is told", (done.status, "20 states" in done.said), (4, True))
+        found = Search(machine_of(steps_in(HOUSE / "examples" / "refill")), Budget(Limits(60, 60)), ROOM).run()
+        check("60 states of the search for the fewest switches", "Every order with fewer than" in searched(found)[-1], True)
         done = run(make_job(scratch / "all joined", readers(20, 20)))
         check("20 readers, all joined", (done.status, SEARCHED in done.said), (0, True))
         done = run(make_job(scratch / "none joined", readers(15, 0)))

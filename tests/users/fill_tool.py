@@ -188,7 +188,7 @@ def check_unfilled(racefill, racecheck):
         for what, programs, folder, status, words in [
             ("a job that fails", (racefill, racecheck), "race", 1, "racefill: REFUSE,41,0,0,0"),
             ("no pair", (racefill, racecheck), "empty", 2, "program.txt is missing"),
-            ("a sheet that is filled", (racefill, racecheck), "filled", 1, "there is nothing to fill"),
+            ("a sheet that is filled", (racefill, racecheck), "filled", 1, "the sheet is filled already"),
             ("a C sheet", (racefill, racecheck), "plain", 1, "only `C2` and `C3` sheets are filled"),
             ("a racefill that lies", (liar, racecheck), "good", 3, "*** DISAGREEMENT"),
             ("a racecheck that does not accept", (racefill, no), "good", 3, "racecheck: REFUSE,32,2,2,0"),

@@ -1,4 +1,5 @@
 """tools/triage: whose fault a refusal is. Accepted examples with one thing made wrong, the races, and files in its way."""
+import json
 import os
 import re
 import shutil
@@ -7,6 +8,7 @@ import tempfile
 from pathlib import Path
 
 from checks import HOUSE, check, user_environment
+from triaging.decision import KINDS
 
 ACCEPTED, RACES, FAILED, DISAGREES, UNDECIDED, ROWS, LOADS, PROGRAM_SHEET, SPLIT_SHEET = range(9)
 MENDED = "split-mended.txt"
@@ -20,11 +22,14 @@ def check_triage(binary, racefill, racereplay):
     check_sheets(programs)
     check_files(programs)
     check_lies(programs)
+    check_fields(programs)
+    check_page(programs)
+    check_hints(programs)
 
 
-def run(programs, *arguments):
+def run(programs, *arguments, tool="triage"):
     return subprocess.run(
-        [HOUSE / "tools" / "triage", *map(str, arguments)], env=user_environment(**programs), cwd=HOUSE, stdin=subprocess.DEVNULL,
+        [HOUSE / "tools" / tool, *map(str, arguments)], env=user_environment(**programs), cwd=HOUSE, stdin=subprocess.DEVNULL,
         capture_output=True, text=True)
 
 
@@ -90,9 +95,9 @@ def check_loads(programs):
         for what, pair, words in [
             ("a smaller load", wrecked("join", scratch, *smaller), ["program.txt line 15: write,0", "ends with 1/2 of location 0",
              "leaves 0/2 for its join: its type is on line 4 of split.txt, with map 2 on line 7"]),
-            ("a rounded load", wrecked("join", scratch, *rounded), ["Only 1 in 3,000,000 is missing", "1/3000000 is lost there"]),
+            ("a rounded load", wrecked("join", scratch, *rounded), ["only 1 in 3,000,000: they look rounded", "1/3000000 is lost there"]),
             ("a lock with nothing", wrecked("refill", scratch, ("lock,1,0", "lock,2,0")), ["main has 2/2 of colour"]),
-            ("a wrong type", wrecked("join", scratch, ("\n1,0,\n", "\n0,0,\n")), ["The split's types", "racefill: REFUSE,31,3,1,0"]),
+            ("a wrong type", wrecked("join", scratch, ("\n1,0,\n", "\n0,0,\n")), ["The types of the split are wrong", "racefill: REFUSE,31,3,1,0"]),
         ]:
             done = run(programs, pair)
             check(f"triage, {what}", (done.returncode, [said for said in words if said not in done.stdout]), (LOADS, []))
@@ -120,7 +125,7 @@ def check_files(programs):
         check("a mended split that is there", (done.returncode, (pair / MENDED).read_text(), "left as it is" in done.stdout),
               (ROWS, "mine\n", True))
         done = run(programs, "--mended", "/dev/full", pair)
-        check("a mended split that cannot be written", (done.returncode, "is in no new file: cannot" in done.stdout), (ROWS, True))
+        check("a mended split that cannot be written", (done.returncode, "is in no file: cannot" in done.stdout), (ROWS, True))
         done = run(programs, "--trace", "/dev/full", HOUSE / "examples" / "join-race")
         check("an order that cannot be written", (done.returncode, "is in no file: cannot" in done.stdout), (RACES, True))
 
@@ -140,3 +145,46 @@ def check_lies(programs):
         pair = wrecked("join", Path(scratch) / "pairs", (f"{lines[-2]}\n", "0,1,\n"))
         done = run({**programs, "RACEFILL": liar}, pair)
         check("triage with a lying racefill", (done.returncode, "DISAGREEMENT" in done.stdout), (DISAGREES, True))
+
+
+def check_fields(programs):
+    """--json has the documented fields, and says what is said otherwise."""
+    page = (HOUSE / "docs" / "REFUSALS.md").read_text()
+    rows = re.findall(r"^\| (`.*?) \|", page.split("With `--json`")[1].split("`tools/show-race FOLDER`")[0], re.M)
+    documented = [name for row in rows for name in re.findall(r"`(\w+)`", row)]
+    with tempfile.TemporaryDirectory() as scratch:
+        lines = (HOUSE / "examples" / "join" / "split.txt").read_text().split("\n")
+        wrong = wrecked("join", scratch, (f"{lines[-2]}\n", "0,1,\n"))
+        for folder in (HOUSE / "examples" / "join-race", HOUSE / "examples" / "join", wrong):
+            plain, done = run(programs, folder), run(programs, "--json", folder)
+            fields = json.loads(done.stdout)
+            check(f"--json of {folder.name}: the documented fields", sorted(fields), sorted(documented))
+            check(f"--json of {folder.name}: status", (done.returncode, fields["status"]), (plain.returncode,) * 2)
+            check(f"--json of {folder.name}: the line", plain.stdout.split("\n")[0], f"{fields['folder']}: {fields['says']}")
+            check(f"--json of {folder.name}: a race, a mended split", (bool(fields["race"]), bool(fields["mended"])),
+                  (fields["kind"] == "races", fields["kind"] == "rows"))
+            numbers = ",".join(map(str, fields["numbers"]))
+            check(f"--json of {folder.name}: the numbers", fields["answer"], "ACCEPT" if numbers == "0,0,0,0" else f"REFUSE,{numbers}")
+
+
+def check_page(programs):
+    """docs/REFUSALS.md has every kind of decision with its status and who acts, and the example as it comes out."""
+    page = (HOUSE / "docs" / "REFUSALS.md").read_text()
+    for kind, (status, who, _) in KINDS.items():
+        rows = [row for row in page.split("\n") if row.startswith("| ") and f"`{kind}`" in row]
+        check(f"docs/REFUSALS.md on {kind}", [str(status) in row.split("|")[1] and who.split()[-1] in row for row in rows], [True])
+    shown = page.split("    $ tools/triage examples/join-race\n    ")[1].split("\n")[0]
+    check("docs/REFUSALS.md: the example", run(programs, "examples/join-race").stdout.split("\n")[0], shown)
+
+
+def check_hints(programs):
+    """What explain says where the start has too little, and fill of sheets that are not for filling."""
+    with tempfile.TemporaryDirectory() as scratch:
+        pair = wrecked("join", scratch, ("C,2,", "C,3,"))
+        done = run(programs, pair, tool="explain")
+        told = ["nobody holds the rest" in done.stdout, "Who looks first: owner of the solver\n" in done.stdout]
+        check("explain, a D that is too great", told, [True, True])
+        for example, words in (("join", "a `C` sheet is not filled"), ("top-up", "the sheet is filled already")):
+            folder = wrecked(example, scratch)
+            done = run(programs, folder, tool="fill")
+            check(f"fill of {example}", (done.returncode, words in done.stdout, "version of the job" in done.stdout), (1, True, False))

@@ -5,6 +5,7 @@ import stat
 
 from starting.files import PROGRAM, SPLIT
 
+from .conditions import least
 from .sheets import counts_of
 from .showing import grouped
 
@@ -60,17 +61,6 @@ def line_causes(sheet, line):
     return causes
 
 
-def filled_causes(split, line):
-    """Whether a split that is to be filled is no sheet for filling."""
-    text = split.line(line) or b""
-    if line == 1 and text.startswith(b"C,"):
-        return ["it is a `C` sheet, and only `C2` and `C3` sheets are filled: `triage` makes one of it and fills that"]
-    if re.fullmatch(rb"\d+,\d+,\d*", text):
-        return ["the row has its after-map already, so there is nothing to fill: `racecheck` judges such a sheet, and `triage`"
-                " fills it anew if it is refused"]
-    return []
-
-
 def version_causes(program, split, expected_lines):
     """Whether the split looks like one of another version of the job."""
     if len(split.lines) == expected_lines:
@@ -79,3 +69,27 @@ def version_causes(program, split, expected_lines):
         f"by its line 1 and the job's {counts_of(program)} the split should have"
         f" {grouped(expected_lines)} lines and has {grouped(len(split.lines))}: it may be that of another version of the job"
     ]
+
+
+def never_there(split, condition, location):
+    """That the start has too little of a location for a touch, whoever holds it: then D or the start is wrong. Else empty."""
+    wanted = least(condition.wording, split) if condition.mark == "A" else 0
+    start = split.root_start()[location]
+    if start >= wanted:
+        return ""
+    return (f"nobody holds the rest: the job starts with {split.fraction(start, location)} of the location, so there is never more;"
+            " D or the start is wrong")
+
+
+def filling_cause(sheet, line):
+    """Why racefill refuses a split that is no sheet for filling, and what to do then; empty if that is not why."""
+    if sheet is None or sheet.name != SPLIT:
+        return ""
+    text = sheet.line(line) or b""
+    if line == 1 and re.fullmatch(rb"C(,\d+){4}", text):
+        return ("a `C` sheet is not filled, since it does not name its start: write `C2` in the place of `C` and the number of the"
+                " start, `,0`, at the end of line 1; or let triage do that")
+    if re.fullmatch(rb"\d+,\d+,\d*", text):
+        return ("the sheet is filled already: `racecheck` judges it as it is, and triage fills it afresh, without its after-maps;"
+                " for racefill leave the after-map of every row empty")
+    return ""

@@ -25,6 +25,7 @@ class Explanation:
     names: object
     program: str = "racecheck"  # whose answer it is
     number: int = 0
+    owner: str = ""  # who looks first, of a refusal
     place: list = field(default_factory=list)  # file, line and the line's text, as sentences
     site: object = None  # the refused step
     condition: object = None  # the refused condition, with its number
@@ -58,7 +59,9 @@ def explained(run, folder, compare):
     explanation.unseen += [f"{name} has changed since {run.program} read it; run again" for name in run.changed]
     if run.answer.startswith("REFUSE"):
         explanation.number = run.numbers()[0]
-        explanation.helps += [REFUSALS[explanation.number].helps] if explanation.number in REFUSALS else []
+        if explanation.number in REFUSALS:
+            explanation.helps.append(REFUSALS[explanation.number].helps)
+            explanation.owner = REFUSALS[explanation.number].owner
     if not explanation.unseen:
         try:
             compare(explanation, *sheets.values())
@@ -139,9 +142,8 @@ def _tell_refusal(explanation, judgement, program, split):
 def _tell_causes(explanation, line, program, split):
     sheet = _sheet_at_fault(explanation, program, split)
     explanation.causes += causes.line_causes(sheet, line) if sheet else []
-    filled = causes.filled_causes(split, line) if explanation.program == FILLING and sheet is split else []
-    if filled:
-        explanation.causes, explanation.helps = filled, []
+    if explanation.program == FILLING and causes.filling_cause(sheet, line):
+        explanation.causes, explanation.helps = [], [causes.filling_cause(sheet, line)]
         return
     if explanation.number in (21, 22, 23, 40, 50) and line > 1:
         explanation.causes += causes.version_causes(program, split, lines_wanted(steps_of(program), split))
@@ -164,8 +166,10 @@ def _tell_condition(explanation, sites, line, condition, location):
     explanation.place.append(f"{SPLIT} line {site.row.line}: {site.row.text}")
     explanation.condition = WORDS[site.word].conditions[condition - 1]
     explanation.condition_number = condition
-    usually = USUALLY.get((site.word, condition))
-    if usually:
+    usually, never = USUALLY.get((site.word, condition)), causes.never_there(sites.split, explanation.condition, location)
+    if never:
+        explanation.helps, explanation.owner = [never], REFUSALS[30].owner
+    elif usually:
         explanation.helps.insert(0, usually)
     finding = find(site, condition, sites.split, explanation.names)
     explanation.numbers, explanation.maps = finding.numbers, finding.maps

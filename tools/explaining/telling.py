@@ -1,7 +1,6 @@
 """An explanation as text for a person at the desk."""
 from starting.command import called
 
-from .refusals import REFUSALS
 from .showing import FEW, grouped
 from .words import WORDS
 
@@ -30,7 +29,19 @@ ASKED = (31, 32, 33, 41)
 
 def told(explanation):
     """The lines of an explanation, from the answer to what helps."""
-    lines = [explanation.answer, "", explanation.meaning]
+    lines = [explanation.answer, "", *finding(explanation)]
+    lines += _titled("What usually helps", explanation.helps)
+    if explanation.owner:
+        lines += ["", f"Who looks first: {explanation.owner}"]
+    if explanation.number in ASKED and explanation.site:
+        lines += ["", f"Whose fault it is, the job's or the split's: {called('triage')} tells; {called('show-race')} shows an order"
+                  " in which the job races, if it finds one."]
+    return lines
+
+
+def finding(explanation):
+    """What an answer means, and what it is about; not what to do then."""
+    lines = [explanation.meaning]
     lines += alarm(explanation)
     lines += _indented(explanation.unseen)
     lines += _indented(explanation.place)
@@ -41,14 +52,7 @@ def told(explanation):
         lines += _indented([f"that is: {explanation.condition.plain}"])
     lines += _indented(explanation.numbers)
     lines += _maps(explanation)
-    lines += _titled("Likely cause", explanation.causes)
-    lines += _titled("What usually helps", explanation.helps)
-    if explanation.number in REFUSALS:
-        lines += ["", f"Who looks first: {REFUSALS[explanation.number].owner}"]
-    if explanation.number in ASKED and explanation.site:
-        lines += ["", f"Whose fault it is, the job's or the split's: {called('triage')} tells; {called('show-race')} shows an order"
-                  " in which the job races, if it finds one."]
-    return lines
+    return lines + _titled("Likely cause", explanation.causes)
 
 
 def condition_line(explanation):

@@ -9,10 +9,10 @@ from .orders import trace_text
 
 
 class Replay:
-    """racereplay on one program sheet."""
+    """racereplay on one program sheet: the one that is given, else the one that is found."""
 
-    def __init__(self, program):
-        self._binary, self._program = find_program(REPLAYING), program
+    def __init__(self, program, binary=None):
+        self._binary, self._program = binary or find_program(REPLAYING), program
 
     def answer(self, order):
         """Its line after an order, or why there is none."""

@@ -1,5 +1,5 @@
-"""Whether a job races: the search for the fewest switches as far as it soon comes, then the one that holds threads, which tells
-whether there is a race at all; then on for the fewest switches."""
+"""Whether a job races: the search that holds threads tells whether there is a race at all; if there is one, the search for the
+fewest switches goes on a little for an order that is good to read."""
 from stepping.machine import ROOM, Room
 
 from .budget import Budget, Limits
@@ -7,10 +7,9 @@ from .holding import Holding
 from .search import Search
 
 PLENTY = Room(256, 256, 256)  # to search on where there is no race within the room of racereplay
-# States, and the part of the seconds left then: for the first look for the fewest switches, and for the second, once it is known
-# that there is a race.
-SOON, LATER = (500, 0.2), (1500, 0.3)
-NEXT = 0.7  # the part of the seconds that the search that holds threads may take
+NEXT = 0.6  # the part of the seconds that the search that holds threads may take
+# States, and the part of the seconds left then, for the fewest switches once it is known that there is a race.
+LATER = 1000, 0.3
 
 
 def find(machine, limits=Limits(), watch=None):
@@ -23,14 +22,15 @@ def find(machine, limits=Limits(), watch=None):
 
 
 def _find_within(machine, budget, room):
-    fewest = Search(machine, budget, room)
-    first = fewest.run(budget.share(*SOON))
-    if not first.limited or budget.is_over():
-        return first
-    found = Holding(machine, budget, room).run(budget.share(budget.most(), NEXT))
+    found = hold(machine, budget, room, budget.share(budget.most(), NEXT))
     if found.whole():
         return found
-    if found.race is None:
-        return fewest.run()
-    again = fewest.run(budget.share(*LATER))
-    return found if again.race is None else again
+    fewest = Search(machine, budget, room).run(None if found.race is None else budget.share(*LATER))
+    return found if fewest.race is None and found.race is not None else fewest
+
+
+def hold(machine, budget, room, share=None):
+    """The search that holds threads. If there is a race once there are enough threads of a kind, it is run again for an order."""
+    search = Holding(machine, budget, room)
+    found = search.run(share)
+    return Holding(machine, budget, room, is_endless=False).run(share) if search.needs_many else found

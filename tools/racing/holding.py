@@ -6,74 +6,119 @@ in that race, and then its touch can come first, unless another thread comes to 
 or it has, and then it stands where it is. So each touch is taken at once, and once more the thread is held there for good.
 Nothing else of a touch depends on when it comes. What is left to try in every order are steps on locks, semaphores, read-write
 locks and identifiers that other threads may use in a way that matters: from each state go on only the threads of one set that
-no other can get in the way of. Where every lock is used in blocks (blocks.py), a block is taken at once like a touch; and once
-more its thread is kept before it, until others have gone on, and then held inside. docs/RACES.md has the reasons.
+no other can get in the way of. A block (blocks.py) is taken at once like a touch, and once more its thread is held before it,
+until it can meet another inside; or, if it gives back something before a touch, it is opened: taken step by step once more.
+docs/RACES.md has the reasons.
 """
 from collections import deque
+from typing import NamedTuple
 
-from stepping.machine import CELL, DONE, KIND, ODD, READY, kind, name
+from stepping.machine import CELL, KIND
 from stepping.program import FINISHED
 
-from .blocks import Blocks
+from .blocks import GIVES, TAKES, is_flat, takes_in
+from .endless import ENDLESS, FAR, evened, grown
 from .likeness import key
-from .search import Search, _Enough, _Node
+from .meeting import Going, Others, Touch, may_meet
+from .late import Late
+from .recursion import recursive
+from .search import Enough
 
-# For a word that can go ahead and for one that waits: the words of others on the same thing that it must be tried before and
-# behind. A word that is not here gets in nobody's way, and nobody in its.
-_LOCKING, _SHARING = frozenset({"lock", "unlock"}), frozenset({"rdlock", "rdunlock", "wrlock", "wrunlock"})
-MEETS = {
-    "lock": (_LOCKING, _LOCKING), "unlock": (_LOCKING, _LOCKING), "wait": (frozenset({"wait"}), frozenset({"wait", "post"})),
-    "join": (frozenset({"join"}), frozenset({"join", "spawn"})), **dict.fromkeys(_SHARING, (_SHARING, _SHARING)),
-}
-# The words that race with a read, and with a write.
-RACES = {False: frozenset({"write"}), True: frozenset({"read", "write"})}
-BURST = 16  # states of one held touch before it is another's turn
+BURST = 16  # states of one family before it is another's turn
+HELD, OPENED = 1, 2  # marks on threads
 
 
-class Holding(Search):
-    """The states of each held touch are a family of their own, and so are those without one; the families take turns."""
+class Held(NamedTuple):
+    """A thread that moves no more, save to meet another."""
 
-    def __init__(self, machine, budget, room):
+    number: int
+    touches: tuple  # those that it can come to: that which it is at, or those inside of the block that it is before
+
+    def uses(self):
+        """What it still has to take, with the words that do."""
+        return frozenset((TAKES[give], thing) for touch in self.touches for give, thing in touch.taken)
+
+
+class Node(NamedTuple):
+    state: object
+    held: tuple  # at most two
+    opened: tuple  # (number, what it has taken since) of threads whose block is taken step by step
+    moves: tuple
+    before: object
+    many: frozenset = frozenset()  # how threads look of which there can be any number
+
+    def path(self):
+        pieces, node = [], self
+        while node is not None:
+            pieces.append(node.moves)
+            node = node.before
+        return [move for piece in reversed(pieces) for move in piece]
+
+    def held_numbers(self):
+        return [one.number for one in self.held]
+
+    def marks(self):
+        return {**{number: OPENED + len(taken) for number, taken in self.opened}, **dict.fromkeys(self.held_numbers(), HELD)}
+
+
+class Holding(Late):
+    """The states with the same threads held or opened, where they are, are a family of their own; the families take turns."""
+
+    def __init__(self, machine, budget, room, is_endless=True):
+        self._is_endless = is_endless and goes_round(machine.steps)
+        self.needs_many = False  # a race was met among any number of threads, and no order to it is known
         super().__init__(machine, budget, room)
-        self._is_flat = is_flat(machine.steps)
-        blocks = Blocks(machine.steps) if self._is_flat else None
-        self.takes, self.inside = (blocks.takes, blocks.inside) if blocks else (set(), set())
+        self.is_flat, self.takes = is_flat(machine.steps), takes_in(machine.steps)
         self._families, self._turns = {}, deque()
         self._closed = set()
-        self._put(None, self._first._replace(last=None))
+        self._put(None, Node(self._first.state, (), (), self._first.moves, None))
 
     def run(self, share=None):
         self._share = share
-        while self._turns:
-            family = self._turns.popleft()
-            waiting = self._families[family]
-            for _ in range(BURST):
-                if not waiting:
-                    break
-                if self._is_enough():
-                    return self._found(None, True)
-                self.budget.count()
-                try:
-                    race = self._go_on(*waiting.pop())
-                except _Enough:
-                    return self._found(None, True)
+        try:
+            while self._turns:
+                race = self._burst(self._turns.popleft())
                 if race is not None:
-                    return self._found(race, False)._replace(fewest=False)
-            if waiting:
-                self._turns.append(family)
-            else:
-                del self._families[family]
+                    return self._found(*race)._replace(fewest=False)
+        except Enough:
+            return self._found(None, True)
         return self._found(None, False)
+
+    def _burst(self, family):
+        """Looks at some states of a family: a race and that nothing ended the search, or None."""
+        waiting = self._families[family]
+        for _ in range(BURST):
+            if not waiting:
+                break
+            if self._is_enough():
+                raise Enough
+            self.budget.count()
+            node, known = waiting.pop()
+            race = self._go_on(family, node, known)
+            if race is not None and self._is_unending(node):
+                self.needs_many = True
+                raise Enough
+            if race is not None:
+                return race, False
+        if waiting:
+            self._turns.append(family)
+        else:
+            del self._families[family]
+        return None
+
+    def _is_unending(self, node):
+        return bool(node.many) or max(node.state.sems, default=0) >= ENDLESS // 2
 
     def _put(self, family, node):
         """Has a state looked at later, if it is a new one. Its key."""
-        known = key(node.state, node.last, self._alike)
+        node = self._many(node) if self._is_endless else node
+        known = key(node.state, node.marks(), self.alike, self.stands_for)
         if known not in self._seen:
             self._seen.add(known)
             if family not in self._families:
                 self._families[family] = []
                 self._turns.append(family)
-            self._families[family].append((family, node, known))
+            self._families[family].append((node, known))
         return known
 
     def _go_on(self, family, node, known):
@@ -85,165 +130,141 @@ class Holding(Search):
         outcomes = self._all_outcomes(node.state)
         for order in self._races(node, outcomes):
             return order
+        for order in self._meetings(node):
+            return order
         self._look_for_halts(node, outcomes)
-        others = _Others(self, node, [one for one in outcomes if one[0].number != node.last])
-        if node.last is not None:
-            self._enter(node, others)
+        others = Others(self, node, outcomes)
         chosen = others.smallest()
-        if node.last is None:
-            self._hold(node, others, chosen)
+        self._hold(node, others, chosen)
         if not self._take(family, node, others, chosen):
             # All that these threads do has been looked at: without the others, nobody might ever come to theirs.
             rest = [at for at in range(len(others.moving)) if at not in chosen]
-            if node.last is None:
-                self._hold(node, others, rest)
+            self._hold(node, others, rest)
             self._take(family, node, others, rest)
         return None
+
+    def _many(self, node):
+        """A state that goes on from one with any number of some threads, or that has come to more than there was on the way."""
+        apart, before = node.marks(), node.before
+        node = self._evened(node, before.many if before else frozenset(), [])
+        for _ in range(FAR):
+            if before is None or before.marks() != apart:
+                return node
+            more = grown(before.state, node.state, apart, self.stands_for)
+            if more:
+                node = self._evened(node, node.many | more[0], more[1])
+            before = before.before
+        return node
+
+    def _evened(self, node, many, counts):
+        if not many and not counts and max(node.state.sems, default=0) < ENDLESS // 2:
+            return node
+        sems = tuple(ENDLESS if at in counts else count for at, count in enumerate(node.state.sems))
+        return node._replace(state=evened(node.state._replace(sems=sems), many, node.marks(), self.stands_for), many=many)
+
+    # ---- Going on
 
     def _take(self, family, node, others, chosen):
         """Puts down the states behind the steps of some threads. Whether one of them has yet to be looked at."""
         behind = []
         for at in others.unlike(chosen):
-            thread, choices = others.moving[at]
-            behind += [self._put(family, _Node(after, node.last, moves, node))
-                       for after, moves in self._ways_on(thread.number, choices)]
+            if others.is_held(at):
+                behind += self._entered(family, node, others.number(at))
+                continue
+            behind += [self._put(family, Node(state, node.held, opened, moves, node))
+                       for going in others.goings(at) for state, moves, opened in self._behind(node, others.number(at), going)]
         return any(known not in self._closed for known in behind)
 
+    def _entered(self, family, node, number):
+        """Puts down the states in which a thread that is held before a block is held inside, before a touch."""
+        for access, state, moves in self._touches_of(node.state, number):
+            held = tuple(Held(number, (Touch(access, ()),)) if one.number == number else one for one in node.held)
+            yield self._put(family, Node(state, held, node.opened, moves, node))
+
+    def _behind(self, node, number, going):
+        """Where a thread gets by a block or by one step: states, the moves to each, and what is opened then."""
+        if going.block.is_whole:
+            for state, moves in going.block.ends:
+                state, rest = self.settled(state, state.at(number))
+                yield state, (*moves, *rest), node.opened
+            return
+        opened = _opened_behind(node.opened, number, going)
+        if opened is not None:
+            for state, moves in self._ways_on(number, [going.outcome]):
+                yield state, moves, opened
+
+    # ---- Holding
+
     def _hold(self, node, others, chosen):
-        """Puts down the states in which one of these threads is held before a touch that another can still race with."""
+        """Puts down the states in which one of these threads is held, or opened, before a touch that another can race with."""
+        meeting = [*node.held_numbers(), *dict(node.opened)]  # two threads race, and no more
         for at in others.unlike(chosen):
-            thread, choices = others.moving[at]
-            for outcome in choices:
-                standing = outcome.state.threads[outcome.at]
-                access = self.machine.access(standing)
-                is_kept = outcome.standing == READY and self.begins_block(standing)
-                meets_inside = is_kept and any(self._entered(outcome.state, outcome.at, others, at))
-                if meets_inside or access and others.may_race(at, *access):
-                    held = _Node(outcome.state, thread.number, outcome.moves, node)
-                    self._put((thread.number, standing.point), held)
-
-    def _enter(self, node, others):
-        """If the thread of this family is kept before a block that it can enter: puts down the states in which it is held inside."""
-        at = node.state.at(node.last)
-        thread = node.state.threads[at]
-        if self.begins_block(thread) and self.machine.standing(node.state, thread) == READY:
-            for state, moves in self._entered(node.state, at, others):
-                self._put((node.last, state.threads[state.at(node.last)].point), _Node(state, node.last, moves, node))
-
-    def _entered(self, state, at, others, own=None):
-        """A thread that takes its block: the states, and the moves to each, before a touch that another can still race with."""
-        number, moves = state.threads[at].number, ()
-        while True:
-            state = self.machine.step(state, at)
-            state, rest = self._settled(state, state.at(number))
-            moves, at = (*moves, (number, 0), *rest), state.at(number)
-            access = self.machine.access(state.threads[at])
-            if not access or not self.is_inside(state.threads[at]):
-                return
-            if others.may_race(own, *access):
-                yield state, moves
-
-    def begins_block(self, thread):
-        return thread.point != FINISHED and self.points[thread.point].step in self.takes
-
-    def is_inside(self, thread):
-        return thread.point != FINISHED and self.points[thread.point].step in self.inside
-
-
-class _Others:
-    """The threads that can be let go on from a state: what each is about to do, and what it can still come to."""
-
-    def __init__(self, search, node, outcomes):
-        self._search, self._points, self._is_flat = search, search.points, search._is_flat
-        self.moving = [(thread, choices) for thread, choices in outcomes if choices]
-        self._words = [search._alike.words_of(thread) for thread, _ in self.moving]
-        self._reach = [_reached(node.state, thread) for thread, _ in self.moving]
-        self._next = [self._wants(choices) for _, choices in self.moving]
-        self._can = [any(outcome.standing in (READY, DONE) for outcome in choices) for _, choices in self.moving]
-
-    def _wants(self, choices):
-        """The things that a thread is about to use, each with the words of others that matter then, and whether it waits there."""
-        wants = []
-        for outcome in choices:
-            thread = outcome.state.threads[outcome.at]
-            if thread.point == FINISHED or outcome.standing == ODD:
+            if others.is_held(at) or len(meeting) == 2 and others.number(at) not in meeting:
                 continue
-            word = self._points[thread.point].word
-            if word in MEETS and not self._search.begins_block(thread) and not self._search.is_inside(thread):
-                waits = outcome.standing != READY
-                wants.append((thread.operands[0], MEETS[word][waits], word == "join" and waits))
-        return wants
+            for going in others.goings(at):
+                if self._is_to_be_held(node, others, at, going):
+                    self._hold_one(node, others.number(at), going)
 
-    def smallest(self):
-        """A small set of threads that the rest cannot get in the way of, one of which can go on; by their places. A thread inside
-        of a block ends it first."""
-        for at, (thread, _) in enumerate(self.moving):
-            if self._can[at] and self._search.is_inside(thread):
-                return [at]
-        best = ()
-        for start in range(len(self.moving)):
-            if self._can[start]:
-                chosen = self._closed_under_meeting(start)
-                if not best or len(chosen) < len(best):
-                    best = chosen
-                if len(best) == 1:
-                    break
-        return sorted(best)
-
-    def unlike(self, chosen):
-        """One of each kind among these threads: two of one identifier that stand alike lead to the same, up to names."""
-        return {self.moving[at][0]._replace(number=0): at for at in reversed(chosen)}.values()
-
-    def _closed_under_meeting(self, start):
-        chosen, waiting = {start}, [start]
-        while waiting:
-            for thing, words, is_waiting_for_end in self._next[waiting.pop()]:
-                for at in range(len(self.moving)):
-                    if at in chosen:
-                        continue
-                    ends = is_waiting_for_end and self.moving[at][0].identifier == thing
-                    if ends or self._may_use(at, words, thing):
-                        chosen.add(at)
-                        waiting.append(at)
-        return chosen
-
-    def may_race(self, held, cell, writes):
-        """Whether another thread can still come to touch the cell that one is about to touch."""
-        return any(at != held and self._may_use(at, RACES[writes], CELL * KIND + cell) for at in range(len(self.moving)))
-
-    def _may_use(self, at, words, thing):
-        """Whether a thread, or one that it starts, can come to one of these words on a thing. A thing that is written into cells
-        may come to anybody."""
-        if not words & self._words[at]:
+    def _is_to_be_held(self, node, others, at, going):
+        """Whether a thread may come to race where it goes: with any other thread, or with the one that is held."""
+        if not going.block.is_whole and going.word in self.takes:
             return False
-        return thing in self._reach[at] if self._is_flat else any(thing in reached for reached in self._reach)
+        if not node.held:
+            return any(others.may_race(at, *touch.access) for touch in going.touches())
+        return any(may_meet(one, other) for one in going.touches() for other in node.held[0].touches)
+
+    def _hold_one(self, node, number, going):
+        outcome, point, touches = going.outcome, going.thread.point, tuple(going.touches())
+        others_opened = tuple(one for one in node.opened if one[0] != number)
+        if going.block.enters_once():
+            held = (*node.held, Held(number, touches))
+            self._put((held[0].number, number, point), Node(outcome.state, held, others_opened, outcome.moves, node))
+        else:
+            opened = (*others_opened, (number, ()))
+            self._put((number, point, OPENED), Node(outcome.state, node.held, opened, outcome.moves, node))
+
+    # ---- Meeting
+
+    def _meetings(self, node):
+        """The orders in which a held thread goes on to a touch, and another, or the other held one, to one that races with it."""
+        if not node.held:
+            return
+        first, *second = node.held_numbers()
+        for access, state, moves in self._touches_of(node.state, first):
+            for thread in state.threads:
+                if thread.number == first or second and thread.number != second[0] or not self._may_reach(thread, access):
+                    continue
+                for other, _, rest in self._touches_of(state, thread.number):
+                    if access[0] == other[0] and (access[1] or other[1]):
+                        yield [*node.path(), *moves, *rest]
+
+    def _touches_of(self, state, number):
+        """The touches that a thread comes to by itself: what it accesses, the state before it, and the moves to it."""
+        at = state.at(number)
+        if state.threads[at].point == FINISHED:
+            return []
+        return [touch for one in self.outcomes(state, at) for touch in Going(self, one).steps_to()]
+
+    def _may_reach(self, thread, access):
+        return not self.is_flat or CELL * KIND + access[0] in [one for value in thread.values() for one in self.stands_for(value)]
 
 
-def _reached(state, thread):
-    """The things that a thread can get at, through its variables and through cells."""
-    reached, waiting = set(), list(thread.values())
-    while waiting:
-        value = waiting.pop()
-        if kind(value) and value not in reached:
-            reached.add(value)
-            if kind(value) == CELL:
-                waiting.append(state.cells[name(value)])
-    return reached
+def goes_round(steps):
+    """Whether a job can come back to where it was."""
+    return bool(recursive(steps)) or any(step.word == "while" for step in steps.steps)
 
 
-# ---- What cells hold
-
-
-def is_flat(steps):
-    """Whether nothing but numbers is ever written into a cell, by the looks of the sheet."""
-    bound = {step.number: steps.parts[at][0] for at, step in enumerate(steps.steps) if step.word == "let"}
-
-    def is_number(at):
-        step, parts = steps.steps[at], steps.parts[at]
-        if step.word == "var":
-            return step.number in bound and is_number(bound[step.number])
-        if step.word in ("let", "if"):
-            return all(map(is_number, parts[step.word == "let":]))
-        return step.word not in ("ref", "newtid", "newlock", "newsem", "newrwlock", "call")
-
-    return all(is_number(steps.parts[at][-1]) for at, step in enumerate(steps.steps) if step.word in ("ref", "write"))
+def _opened_behind(opened, number, going):
+    """What is opened behind a step; None once an opened thread has given back all that it took."""
+    taken = dict(opened).get(number)
+    if taken is None:
+        return opened
+    thing = going.thread.operands[0] if going.thread.operands else None
+    if going.word in GIVES and going.word != "post":
+        taken = (*taken, (GIVES[going.word], thing))
+    elif (going.word, thing) in taken:
+        place = taken.index((going.word, thing))
+        taken = taken[:place] + taken[place + 1:]
+        if not taken:
+            return None
+    return tuple((other, taken if other == number else has) for other, has in opened)

@@ -7,10 +7,10 @@ come back to the same call is taken late, as a choice is: so a thread that goes 
 import heapq
 from typing import NamedTuple
 
-from stepping.machine import DONE, KIND, ODD, READY, WAITS, WANTS, kind
+from stepping.machine import DONE, ODD, READY, WAITS, WANTS, kind
 from stepping.program import FINISHED
 
-from .likeness import key, reached_by_others
+from .likeness import key, reached_by_others, same_things
 from .recursion import recursive
 from .shapes import alike
 
@@ -65,16 +65,21 @@ class _Node(NamedTuple):
 class Search:
     """One that has come to a share of its budget can be run on."""
 
+    @staticmethod
+    def stands_for(value):
+        """The values that one stands for: here itself alone."""
+        return (value,)
+
     def __init__(self, machine, budget, room):
         self.machine, self.points, self.budget, self.room = machine, machine.points, budget, room
-        self._alike = alike(machine.steps)
+        self.alike = alike(machine.steps)
         self._recursive = recursive(machine.steps)
         self._share = None
         self.cut = False
         self.odd = self.stuck = None
         self._turn = 0
         self._heap, self._seen, self._switches = [], set(), 0
-        state, moves = self._settled(machine.start(), 0)
+        state, moves = self.settled(machine.start(), 0)
         self._first = _Node(state, 0, moves, None)
         self._push(0, len(moves), self._first, None)
 
@@ -85,7 +90,7 @@ class Search:
             self._switches, steps, turn, node, race = heapq.heappop(self._heap)
             if race is not None:
                 return self._found(race, False)
-            known = key(node.state, node.last, self._alike)
+            known = key(node.state, {node.last: 1}, self.alike)
             if known in self._seen:
                 continue
             if self._is_enough():
@@ -95,7 +100,7 @@ class Search:
             self.budget.count()
             try:
                 self._expand(node, self._switches, steps)
-            except _Enough:
+            except Enough:
                 self._seen.discard(known)
                 heapq.heappush(self._heap, (self._switches, steps, turn, node, race))
                 return self._found(None, True)
@@ -137,7 +142,7 @@ class Search:
         for outcome in choices:
             if outcome.standing == READY:
                 after = self.machine.step(outcome.state, outcome.at)
-                after, rest = self._settled(after, after.at(number))
+                after, rest = self.settled(after, after.at(number))
                 yield after, (*outcome.moves, (number, 0), *rest)
             elif outcome.standing == DONE:
                 yield outcome.state, outcome.moves
@@ -152,13 +157,14 @@ class Search:
             return False
         others = _without(after, number)
         while node is not None and node.state.at(number) is not None:
-            if _without(node.state, number) == others and _holds_alike(node.state, after):
+            then = node.state  # what was made since then has no name but in a cell
+            if _without(then, number) == others and same_things(then, after) and then.sems == after.sems[:len(then.sems)]:
                 return True
             node = node.before
         return False
 
     def _all_outcomes(self, state):
-        return [(thread, self._outcomes(state, at)) for at, thread in enumerate(state.threads) if thread.point != FINISHED]
+        return [(thread, self.outcomes(state, at)) for at, thread in enumerate(state.threads) if thread.point != FINISHED]
 
     def _has_no_room(self, state, thread, word):
         """Whether such a step of a thread would leave the room: then it is not taken ahead of others."""
@@ -172,7 +178,7 @@ class Search:
                 "newrwlock": len(state.rwlocks)}
         return made[word] >= self.room.things
 
-    def _settled(self, state, at):
+    def settled(self, state, at):
         """A thread taken on through steps on nothing shared, up to a choice or a step that others see."""
         number, moves = state.threads[at].number, []
         while self._goes_on(state, at):
@@ -192,38 +198,46 @@ class Search:
             return True
         if word not in WANTS or self.machine.standing(state, thread) != READY:
             return False
-        return word in GIVING or thread.operands[0] not in reached_by_others(state, at)
+        return word in GIVING or thread.operands[0] not in reached_by_others(state, at, self.stands_for)
 
     def _may_come_back(self, thread):
         """Whether a thread is at a choice, or at a call by which it can come back to where it is."""
         point = self.points[thread.point]
         return point.word == "if" or point.word == "call" and point.number in self._recursive
 
-    def _outcomes(self, state, at):
+    def outcomes(self, state, at):
         """Every way in which a thread can go on by itself: through local steps and choices to a step that others see."""
-        number, outcomes, seen = state.threads[at].number, [], set()
+        outcomes, seen, most = [], set(), self._share[0] if self._share else self.budget.most()
         waiting = [((), state)]
         while waiting:
             moves, now = waiting.pop()
             thread = now.threads[at]
-            word = self.points[thread.point].word if thread.point != FINISHED else None
-            if word not in LOCAL | {"if"} or self._has_no_room(now, thread, word):
+            branches = self._branches(now, at)
+            if not branches:
                 outcomes.append(Outcome(moves, now, at, self.machine.standing(now, thread)))
                 continue
             if self._may_come_back(thread):
-                here = self._here(thread)
+                here = self.here(thread)
                 if here in seen:
                     continue
-                if len(seen) >= self.budget.most() or self._is_enough():
-                    raise _Enough
+                if len(seen) >= most or self._is_enough():
+                    raise Enough
                 seen.add(here)
-            choices = (1, 0) if word == "if" else (0,)
-            waiting += [((*moves, (number, choice)), self.machine.step(now, at, choice)) for choice in choices]
+            waiting += [((*moves, *more), then) for more, then in branches]
         return outcomes
 
-    def _here(self, thread):
+    def _branches(self, state, at):
+        """Where a step that others do not see takes a thread: the moves and the state of each way; none at any other step."""
+        thread = state.threads[at]
+        word = self.points[thread.point].word if thread.point != FINISHED else None
+        if word not in LOCAL | {"if"} or self._has_no_room(state, thread, word):
+            return []
+        choices = (1, 0) if word == "if" else (0,)
+        return [(((thread.number, choice),), self.machine.step(state, at, choice)) for choice in choices]
+
+    def here(self, thread):
         """Where a thread stands, constants and calls with nothing left behind them aside."""
-        calls = tuple(call.step for call in self._alike.calls(thread))
+        calls = tuple(call.step for call in self.alike.calls(thread))
         return thread.point, calls, tuple(value if kind(value) else 0 for value in thread.values())
 
     # ---- What there is to see in a state
@@ -255,28 +269,25 @@ class Search:
 
     def _waiting(self, node, outcomes):
         """The order in which every thread goes where it waits or finishes; None if a join can go on then after all."""
-        order, state = node.path(), node.state
+        order = node.path()
         for outcome in outcomes:
             order = _with(order, outcome.moves)
-            for number, choice in outcome.moves:
-                state = self.machine.step(state, state.at(number), choice)
+        order, state = self.plain(order), self.machine.start()
+        for number, choice in order:
+            state = self.machine.step(state, state.at(number), choice)
         return None if any(self.machine.standing(state, thread) == READY for thread in state.threads) else order
 
+    def plain(self, order):
+        """An order as moves alone."""
+        return order
 
-class _Enough(Exception):
+
+class Enough(Exception):
     """The search has come to its limits."""
 
 
 def _without(state, number):
     return tuple(thread for thread in state.threads if thread.number != number)
-
-
-def _holds_alike(earlier, later):
-    """Whether what there was earlier is the same later, constants aside. What was made since then has no name but in a cell."""
-    cells = zip(earlier.cells, later.cells)
-    return (all(one == other or one < KIND > other for one, other in cells)
-            and earlier.locks == later.locks[:len(earlier.locks)] and earlier.sems == later.sems[:len(earlier.sems)]
-            and earlier.rwlocks == later.rwlocks[:len(earlier.rwlocks)])
 
 
 def _with(order, moves):

@@ -2,16 +2,17 @@
 from explaining.showing import listed
 from stepping.naming import Naming
 
-from .orders import happenings, shortened
+from .arranging import arranged
+from .orders import happenings
 from .search import switches_in
 
 MOST_NAMES = 5  # in a row
 
 
 class Shown:
-    def __init__(self, machine, names, order, shows, fewest=True, until=None):
+    def __init__(self, machine, names, order, shows, fewest=True):
         self.machine, self.fewest = machine, fewest
-        self.order = shortened(machine, order, shows, until)
+        self.order = arranged(machine, order, shows)
         self.steps = happenings(machine, self.order)
         self.state = self.steps[-1].after if self.steps else machine.start()
         self.naming = Naming(machine.steps, names, self.steps)

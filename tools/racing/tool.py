@@ -1,8 +1,6 @@
 """tools/show-race: looks for an order with a race, has racereplay run it, and only then tells it."""
 import os
 import sys
-import time
-from typing import Callable, NamedTuple
 
 from starting.command import Failure, Usage, options, say, take, tell
 from starting.files import PROGRAM, SHEETS, files_of
@@ -13,18 +11,15 @@ from explaining.names import read_names
 from explaining.running import REPLAYING, find_program
 from explaining.sheets import read_sheet, steps_of
 from explaining.showing import visible
-from stepping.machine import ROOM, Machine
+from stepping.machine import Machine
 from stepping.program import Steps
 
-from . import telling
-from .confirming import Replay, halt_lines, race_lines
 from .budget import Limits
+from .confirming import Replay
 from .drawing import page
-from .endings import OddHalt, Race, Wait
-from .finding import find
+from .looking import look
 from .orders import trace_text
 from .showing import counted
-from .shown import Shown
 
 NUMBERS = {"--states": int, "--seconds": float}
 # What the file behind an option is called, and what such a file begins with.
@@ -44,11 +39,7 @@ def main(arguments):
         return 2
     if answer != "RAN,0":
         raise Failure(f"racereplay says {answer}")
-    told = job.search()
-    tell([f"{visible(folder)}: {told.lines[0]}", *told.lines[1:]])
-    if told.page:
-        write(job.files["--page"], told.page.encode("utf-8", "replace"))
-    return told.status
+    return job.show()
 
 
 def limits_of(given):
@@ -58,36 +49,13 @@ def limits_of(given):
         raise Usage(f"--states and --seconds want a number: {error}") from error
 
 
-def watched(machine, limits):
+def watched(search):
     """What a search finds. How far it is stands in a line on a terminal, which is gone afterwards; elsewhere nothing is said."""
     if not sys.stderr.isatty():
-        return find(machine, limits)
-    found = find(machine, limits, lambda states, left: say(f"\r{counted(states, 'state')} searched, {left:.0f} s left ", end=""))
+        return search(None)
+    found = search(lambda states, left: say(f"\r{counted(states, 'state')} searched, {left:.0f} s left ", end=""))
     say("\r" + " " * PROGRESS + "\r", end="")
     return found
-
-
-class Kind(NamedTuple):
-    """Something that an order can lead to."""
-
-    ending: type
-    lines: Callable  # the lines by which racereplay bears it out
-    borne_out: str  # what racereplay has done then
-    status: int
-
-
-RACE = Kind(Race, race_lines, "racereplay, which is proved, runs this order and reports this race: {}.", 1)
-NO_STEP = "racereplay, which is proved, runs this order and refuses a step behind it: {}."
-ODD = Kind(OddHalt, halt_lines, NO_STEP, 1)
-WAIT = Kind(Wait, halt_lines, NO_STEP, 0)
-
-
-class Told(NamedTuple):
-    """What is told of a job."""
-
-    status: int
-    lines: list
-    page: str = ""  # its text, if there is one to write
 
 
 class Job:
@@ -102,34 +70,23 @@ class Job:
         approve(list(self.files.values()), files_of(folder, SHEETS))
         self.replay = Replay(self.program.text)
 
-    def search(self):
-        """What there is to tell."""
-        machine, self.until = Machine(Steps(steps_of(self.program))), time.monotonic() + self.limits.seconds
-        found = watched(machine, self.limits)
-        if found.race is not None:
-            return self.show(RACE, machine, found.race, found.fewest)
-        status, lines = 0 if found.whole() else 4, telling.searched(found)
-        for kind, order in ((ODD, found.odd), (WAIT, found.stuck)):
-            if order is not None:
-                shown = self.show(kind, machine, order)
-                return Told(shown.status or status, [*lines, "", *shown.lines], shown.page)
-        return Told(status, lines + ["There is nothing to draw, so no page is written."] * ("--page" in self.given))
-
-    def show(self, kind, machine, order, fewest=True):
-        """Has racereplay run an order; only then it is told."""
-        shown = Shown(machine, self.names, order, kind.ending.shows, fewest, self.until)
-        written, lines = self.write_trace(shown.order), kind.lines(shown)
-        if not all(ROOM.holds(one.after) for one in shown.steps):
-            return Told(4 if kind.status else 0, [*telling.past_room(), written])  # that all can wait is no fault
-        objection = self.replay.objection(lines)
-        if objection:
+    def show(self):
+        """Searches the job and tells what was found. The status."""
+        looked = watched(lambda watch: look(Machine(Steps(steps_of(self.program))), self.names, self.replay, self.limits, watch))
+        first, *rest = looked.lines()
+        if looked.kind is not None:
+            rest.append(self.write_trace(looked.shown.order))
+        elif "--page" in self.given:
+            rest.append("There is nothing to draw, so no page is written.")
+        tell([f"{visible(self.folder)}: {first}", *rest])
+        if looked.objection:
             say("show-race: DISAGREEMENT with racereplay, see above")
-            return Told(3, [*telling.alarm(objection), written])
-        ending, borne_out = kind.ending(shown), kind.borne_out.format(lines[0][1])
-        title = visible(os.path.basename(os.path.abspath(self.folder)))
-        made = foot(page.TOOL, find_program(REPLAYING), [self.program])
-        drawn = page.text(title, shown, ending, borne_out, made) if "--page" in self.given else ""
-        return Told(kind.status, [*telling.told(shown, ending), "", borne_out, written], drawn)
+        if looked.is_told() and "--page" in self.given:
+            title = visible(os.path.basename(os.path.abspath(self.folder)))
+            made = foot(page.TOOL, find_program(REPLAYING), [self.program])
+            drawn = page.text(title, looked.shown, looked.ending(), looked.borne_out(), made)
+            write(self.files["--page"], drawn.encode("utf-8", "replace"))
+        return looked.status()
 
     def write_trace(self, order):
         """Where the order is, in words. It is written if that was asked for: a folder's trace.txt is the bench's."""

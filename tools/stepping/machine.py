@@ -128,7 +128,7 @@ class Machine:
         if word == "wait":
             return state.sems[thing] > 0
         if word in ("rdlock", "rdunlock", "wrlock", "wrunlock"):
-            return _rwlock_after(state.rwlocks[thing], word) is not None
+            return rwlock_after(state.rwlocks[thing], word) is not None
         return True
 
     def access(self, thread):
@@ -155,6 +155,13 @@ class Machine:
                 at = state.at(thread.number)
         moved = self._thread(thread.number, thread.identifier, follows)
         return state._replace(threads=state.threads[:at] + (moved,) + state.threads[at + 1:])
+
+    def valued(self, state, at, value):
+        """The state once the word that a thread is at has become a value, whatever it is."""
+        thread = state.threads[at]
+        point = self.points[thread.point]
+        follows = self.steps.returned(point.step, value, dict(zip(point.live, thread.slots)), thread.calls)
+        return state._replace(threads=_put(state.threads, at, self._thread(thread.number, thread.identifier, follows)))
 
     def _gone_on(self, thread, point, slots, choice):
         """Where a thread stands after a word that changes nothing but itself; None at any other word."""
@@ -190,7 +197,7 @@ class Machine:
             return state._replace(locks=_put(state.locks, thing, word == "unlock")), 0
         if word in ("post", "wait"):
             return state._replace(sems=_put(state.sems, thing, state.sems[thing] + (1 if word == "post" else -1))), 0
-        return state._replace(rwlocks=_put(state.rwlocks, thing, _rwlock_after(state.rwlocks[thing], word))), 0
+        return state._replace(rwlocks=_put(state.rwlocks, thing, rwlock_after(state.rwlocks[thing], word))), 0
 
     def _made(self, state, word, point):
         value = MAKES[word] * KIND
@@ -224,7 +231,7 @@ def _put(values, at, value):
     return values[:at] + (value,) + values[at + 1:]
 
 
-def _rwlock_after(lock, word):
+def rwlock_after(lock, word):
     """A read-write lock after one of its four words; None while the word waits."""
     places, reading, writing = lock
     if word == "rdlock":

@@ -82,7 +82,7 @@ def _told(explanation):
     left += ['<table class="maps"><tbody>', *maps, "</tbody></table>"] if maps else []
     right = _list("Likely cause", explanation.causes) + _list("What usually helps", explanation.helps)
     if explanation.number in REFUSALS:
-        right.append(f"<h3>Who looks first</h3><div>{escape(REFUSALS[explanation.number].owner)}</div>")
+        right.append(f"<h3>Who looks first</h3><div>{escape(explanation.owner)}</div>")
     return ['<section class="told">', "<div>", *left, "</div>", "<div>", *right, "</div>", "</section>"]
 
 
