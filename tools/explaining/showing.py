@@ -6,6 +6,8 @@ LONGEST = 72
 
 def visible(name):
     """A file's name with a backslash, and all that does not print, as the bytes \\xNN that they are."""
+    if name.isprintable() and "\\" not in name:
+        return name
     return "".join(
         letter if letter.isprintable() and letter != "\\" else "".join(f"\\x{byte:02x}" for byte in os.fsencode(letter))
         for letter in name)
