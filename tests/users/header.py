@@ -7,6 +7,8 @@ import tempfile
 from pathlib import Path
 
 from checks import HOUSE, check
+from installing.shared import COMPILERS, make_shared
+from racecheck.finding import NAME
 
 HEADER = HOUSE / "include" / "racecheck.h"
 ENTRIES = HOUSE / "crates" / "entries" / "src" / "lib.rt"
@@ -35,6 +37,16 @@ def declared():
 
 def library():
     return Path(os.environ.get("RACECHECK_LIB_DIR") or HOUSE / "target" / "staticlib") / "libentries.a"
+
+
+def shared_library(folder):
+    """The shared library, made of the static one in a folder; None where it cannot be made."""
+    if not library().exists() or not any(map(shutil.which, COMPILERS)):
+        print(f"users: no {'C compiler' if library().exists() else library()}, so that the shared library is not tried")
+        return None
+    if not (folder / NAME).exists():
+        make_shared(library(), folder / NAME)
+    return folder / NAME
 
 
 def compile_with(compiler, *arguments):

@@ -9,7 +9,8 @@ import time
 from pathlib import Path
 
 from checks import check, contents, make_pair, user_environment
-from desk import TOOLS, Desk, body_of, digests_of, make_release, wanted_body, wanted_digests
+from header import shared_library
+from desk import TOOLS, Desk, body_of, counts_in, digests_of, make_release, record_of, wanted_body, wanted_counts, wanted_digests
 
 Z = "C,1,1,1,1|int,0,0|0|0,0,|"
 
@@ -53,21 +54,42 @@ CAUSES = [
 ]
 
 
-def check_releases(desk, binary):
-    """Reports, counts, order and status of whole releases."""
+def judges(desk, binary):
+    """Each thing that can judge a release, as a variable of the environment."""
+    shared = shared_library(desk.scratch)
+    return [{"RACECHECK": binary}, *([{"RACECHECK": "", "RACECHECK_LIBRARY": shared}] if shared else [])]
+
+
+def check_releases(desk, judged):
+    """Reports, counts, order and status of whole releases. `judged` is by what, as variables of the environment."""
     release = desk.scratch / "a release"
     entries = make_release(release, 400, KINDS)
     before = contents(release)
-    done = desk.run("a release", RACECHECK=binary)
+    done = desk.run("a release", **judged)
     report = desk.scratch / "release-report.txt"
     check("400 pairs: report", body_of(report.read_text()), wanted_body(entries))
     check("400 pairs: digests", digests_of(report.read_text()), wanted_digests(release, entries))
-    counts = "ACCEPT 150, REFUSE 150, REFUSE,12 50, REFUSE,14 50, REFUSE,30 50, UNREAD 100, FAILED 0"
-    check("400 pairs: counts printed", ", ".join(" ".join(c.split("\t")[1:]) for c in done.stdout.splitlines()), counts)
+    check("400 pairs: counts printed", counts_in(done.stdout), wanted_counts(entries))
+    check("400 pairs: the others printed", ("\nNot accepted: 250\n" in done.stdout, "\nand 230 more, in the report\n" in done.stdout),
+          (True, True))
     check("400 pairs: status", done.returncode, 2)
     check("400 pairs: progress", "checked 400 of 400" in done.stderr, True)
     check("400 pairs: the folders are as they were", contents(release) == before, True)
+    check("400 pairs: by what", [kind for kind in ("program", "library") if f"the {kind}, " in record_of(report.read_text())["judged by"]],
+          ["library" if "RACECHECK_LIBRARY" in judged else "program"])
+    shutil.rmtree(release)
+    report.unlink()
 
+
+def check_again(desk, binary):
+    """A report without a name takes a free one: the last is never written over."""
+    for number in range(3):
+        desk.run("two", RACECHECK=binary)
+    names = sorted(path.name for path in desk.scratch.glob("release-report*"))
+    check("reports without a name", names, ["release-report-2.txt", "release-report-3.txt", "release-report.txt"])
+
+
+def check_small(desk, binary):
     for name, count, kinds, status in [("accepted", 9, [GOOD], 0), ("refused", 9, KINDS[:5], 1)]:
         entries = make_release(desk.scratch / name, count, kinds)
         report = desk.scratch / f"report of {name}"
@@ -112,10 +134,14 @@ def check_hindrances(desk, binary):
             before = ()
     if (release / "shut").exists():
         entries.append(("shut", "FAILED", ["There is no answer: the folder cannot be entered."]))
-    (release / "waits" / "program.txt").unlink()
-    os.mkfifo(release / "waits" / "program.txt")
+    make_pair(release / "pipe", *GOOD[:2])
+    (release / "pipe" / "program.txt").unlink()
+    os.mkfifo(release / "pipe" / "program.txt")
+    entries.append(("pipe", "FAILED", ["There is no answer: program.txt is no plain file."]))
     entries.append(("waits", "FAILED", ["There is no answer: no answer within 10 seconds."]))
-    process = desk.start("hindered", "hindered report", before=before, RACECHECK=binary)
+    entries.sort()
+    slow = desk.binary("waiting", f"case $PWD in */waits) exec sleep 30;; esac; exec '{binary}'")
+    process = desk.start("hindered", "hindered report", before=before, RACECHECK=slow)
 
     def finish():
         process.communicate()
@@ -133,7 +159,7 @@ def check_stopped(desk):
     under_way = desk.scratch / "under way"
     slow = desk.binary("slow", f"echo $$ >> '{under_way}'; exec sleep 30")
     for number in [signal.SIGTERM, signal.SIGINT, signal.SIGHUP]:
-        report.write_text("the old one")
+        report.write_text("record\told\n")
         under_way.unlink(missing_ok=True)
         signal.signal(number, signal.SIG_DFL)  # the tool leaves alone what is ignored, as under nohup; this test may run there
         process = desk.start("two", "old report", RACECHECK=slow)
@@ -144,7 +170,7 @@ def check_stopped(desk):
         check(f"stopped by {number.name}: status", process.returncode, 2)
         check(f"stopped by {number.name}: at once", time.monotonic() - begun < 5, True)
         check(f"stopped by {number.name}: message", "stopped" in error, True)
-        check(f"stopped by {number.name}: report", report.read_text(), "the old one")
+        check(f"stopped by {number.name}: report", report.read_text(), "record\told\n")
         check(f"stopped by {number.name}: what goes on", [pid for pid in under_way.read_text().split() if _goes_on(int(pid))], [])
         desk.check_nothing_left(number.name)
 
@@ -199,8 +225,10 @@ def check_outputs(desk, binary):
     check("counts to a full device", (done.returncode, "cannot write to standard output" in done.stderr), (2, True))
     done = desk.run("two", "report", before=["sh", "-c", 'exec "$@" >&-', "sh"], RACECHECK=binary)
     check("counts to a closed output", (done.returncode, "there is no standard output" in done.stderr), (2, True))
-    done = desk.run("two", "/dev/full", RACECHECK=binary)
+    done = desk.run("two", "/dev/full", "--json", "json beside", RACECHECK=binary)
     check("a report to a full device", (done.returncode, "cannot write the report" in done.stderr), (2, True))
+    check("the counts are told all the same", "count\tACCEPT\t2\n" in done.stdout, True)
+    check("and what else can be written is", (desk.scratch / "json beside").is_file(), True)
     check("the device is still there", Path("/dev/full").is_char_device(), True)
     done = desk.run("two", "/dev/stdout", RACECHECK=binary)
     check("a report to standard output", (done.returncode, done.stdout.count("count\tACCEPT\t2")), (0, 2))
@@ -214,6 +242,7 @@ def check_liar(desk):
     done = desk.run("two", "report", RACECHECK=desk.binary("liar", "echo REFUSE,32,2,2,0"))
     check("a lying binary: status", done.returncode, 2)
     check("a lying binary: report", (desk.scratch / "report").read_text().count("*** DISAGREEMENT"), 2)
+    check("a lying binary: counts", done.stdout.startswith("count\tDISAGREEMENT\t2\ncount\tACCEPT\t0\ncount\tREFUSE\t0\n"), True)
 
 
 def check_nonsense(desk):
@@ -227,9 +256,8 @@ def check_nonsense(desk):
     for name, script in scripts.items():
         done = desk.run("two", "report", RACECHECK=desk.binary(name, script))
         check(f"{name} binary: status", done.returncode, 2)
-        check(f"{name} binary: counts", done.stdout, "".join(f"count\t{a}\t{n}\n" for a, n in
-              [("ACCEPT", 0), ("REFUSE", 0), ("UNREAD", 0), ("FAILED", 2)]))
-        check(f"{name} binary: message", "racecheck failed on job 000" in done.stderr, True)
+        check(f"{name} binary: counts", counts_in(done.stdout), wanted_counts([("", "FAILED", [])] * 2))
+        check(f"{name} binary: message", "no answer for 2 of 2 pairs" in done.stderr, True)
     make_pair(desk.scratch / "one" / "job", *KINDS[3][:2])
     done = desk.run("one", "report", RACECHECK=desk.binary("honest", "echo REFUSE,14,2,0,0"))
     check("a binary of the right form: status", done.returncode, 1)
@@ -248,6 +276,10 @@ def check_errors(desk, binary):
         ("a report in a pair's folder", ["two", "two/job 000/unwritten"], "pair's folder"),
         ("a report that is a folder", ["two", "none"], "folder"),
         ("a report in no folder", ["two", "nowhere/unwritten"], "no folder"),
+        ("a page in the release", ["--page", "two/pages", "two", "unwritten"], "pair's folder, or as one"),
+        ("a page in no folder", ["--page", "nowhere/pages", "two", "unwritten"], "no folder to make the pages in"),
+        ("a page that is a file", ["--page", "liar", "two", "unwritten"], "wants a folder"),
+        ("a time that is no number", ["--decide", "soon", "two", "unwritten"], "usage"),
     ]
     before = contents(desk.scratch / "two")
     for what, arguments, message in wrong:
@@ -260,7 +292,7 @@ def check_errors(desk, binary):
         check(f"{what}: message", "no racecheck that can be run" in done.stderr, True)
     check("no report after an error", [p for p in desk.scratch.rglob("unwritten")], [])
     check("the pairs are as they were", contents(desk.scratch / "two") == before, True)
-    done = desk.run("--help")
+    done = desk.run("--help", decide=None)
     check("--help", (done.returncode, "usage: check-release" in done.stdout), (0, True))
 
 
@@ -282,9 +314,12 @@ def check_release_tool(binary):
     with tempfile.TemporaryDirectory() as scratch:
         desk = Desk(Path(scratch))
         finish_hindrances = check_hindrances(desk, binary)
-        check_releases(desk, binary)
+        for judged in judges(desk, binary):
+            check_releases(desk, judged)
+        check_small(desk, binary)
         check_causes(desk, binary)
         check_nonsense(desk)
+        check_again(desk, binary)
         check_liar(desk)
         check_stopped(desk)
         check_killed(desk)
