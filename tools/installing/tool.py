@@ -42,7 +42,7 @@ Cflags: -I${includedir}
 def main(arguments):
     given, others = options(arguments, flags=["--library"], valued=["--archive"])
     if len(given) + len(others) != 1:
-        raise Usage
+        raise Usage("one of PREFIX, --archive FILE and --library is wanted")
     programs = {name: HOUSE / "target" / "bin" / name for name in PROGRAMS}
     _find_all([] if "--library" in given else [*programs.values(), HEADER])
     if "--library" in given:

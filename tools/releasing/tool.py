@@ -23,7 +23,7 @@ def main(arguments):
     valued = [*BESIDE, *NAMED, "--page", "--decide"]
     given, others = options(arguments, flags=["--recheck", "--no-recheck"], valued=valued)
     if not 1 <= len(others) <= 2:
-        raise Usage
+        raise Usage("one folder is wanted, and at most one report")
     when_told_to_end(_stopped)
     folder, seconds = others[0], _seconds(given)
     outputs = outputs_of(others[1] if len(others) == 2 else "", given, folder)
@@ -42,7 +42,7 @@ def _seconds(given):
     try:
         return max(0.0, float(given.get("--decide", USUAL_SECONDS)))
     except ValueError:
-        raise Usage
+        raise Usage("--decide wants a number of seconds") from None
 
 
 def _stopped(_number, _frame):
@@ -94,6 +94,8 @@ def _told(release, outputs, pages):
         try:
             step()
             written += [os.path.realpath(path)] if path and path != outputs.pages else []
+        except BrokenPipeError:  # whoever reads has seen enough, as head has
+            pass
         except (Failure, OSError) as error:
             faults.append(str(error))
     for words in faults:
