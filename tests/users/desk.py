@@ -7,6 +7,8 @@ from explaining.showing import visible
 
 TOOLS = HOUSE / "tools"
 TOOL = TOOLS / "check-release"
+# A pair that is accepted, with what the report says below it.
+GOOD = ("P,1|int,0|", "C,1,1,1,1|int,0,0|0|0,0,|", "ACCEPT", [])
 NAMES = [
     "job {:03}", "job {:03}-b", "job-{:03}", "{:03} pump  and stirrer ", "refill's \"{:03}\" $x *", "-{:03}", "screen\\n{:03}",
     "Füllstand {:03}",

@@ -1,21 +1,20 @@
 """tools/check-release on generated releases, with the given racecheck and with ones that do not keep their word."""
 import os
+import pty
+import re
 import shutil
-import signal
-import subprocess
-import sys
 import tempfile
-import time
 from pathlib import Path
 
-from checks import check, contents, make_pair, user_environment
+from checks import check, contents, make_pair
+from desk import (
+    GOOD, TOOLS, Desk, body_of, counts_in, digests_of, make_release, record_of, wanted_body, wanted_counts, wanted_digests)
+from ended import check_ended, start_deaf
 from header import shared_library
-from desk import TOOLS, Desk, body_of, counts_in, digests_of, make_release, record_of, wanted_body, wanted_counts, wanted_digests
 
 Z = "C,1,1,1,1|int,0,0|0|0,0,|"
 
 # Programs and splits with their answers and what the report says below them.
-GOOD = ("P,1|int,0|", Z, "ACCEPT", [])
 KINDS = [
     GOOD,
     ("P,1|int,65535|", Z, "ACCEPT", []),
@@ -89,6 +88,17 @@ def check_again(desk, binary):
     check("reports without a name", names, ["release-report-2.txt", "release-report-3.txt", "release-report.txt"])
 
 
+def check_terminal(desk, binary):
+    """How far it is, on a terminal: one line that is written again, and closed."""
+    terminal, end = pty.openpty()
+    process = desk.start("two", "report", error=end, RACECHECK=binary)
+    os.close(end)
+    process.wait()
+    said = os.read(terminal, 4096).decode()
+    os.close(terminal)
+    check("progress on a terminal", bool(re.match(r"(\rchecked \d of 2)*\rchecked 2 of 2\r\n", said)), True)
+
+
 def check_small(desk, binary):
     for name, count, kinds, status in [("accepted", 9, [GOOD], 0), ("refused", 9, KINDS[:5], 1)]:
         entries = make_release(desk.scratch / name, count, kinds)
@@ -151,69 +161,6 @@ def check_hindrances(desk, binary):
             (release / "shut").chmod(0o755)
 
     return finish
-
-
-def check_stopped(desk):
-    """A run that is stopped leaves the old report and nothing else, and no racecheck goes on."""
-    report = desk.scratch / "old report"
-    under_way = desk.scratch / "under way"
-    slow = desk.binary("slow", f"echo $$ >> '{under_way}'; exec sleep 30")
-    for number in [signal.SIGTERM, signal.SIGINT, signal.SIGHUP]:
-        report.write_text("record\told\n")
-        under_way.unlink(missing_ok=True)
-        signal.signal(number, signal.SIG_DFL)  # the tool leaves alone what is ignored, as under nohup; this test may run there
-        process = desk.start("two", "old report", RACECHECK=slow)
-        _await(under_way)
-        begun = time.monotonic()
-        process.send_signal(number)
-        _, error = process.communicate()
-        check(f"stopped by {number.name}: status", process.returncode, 2)
-        check(f"stopped by {number.name}: at once", time.monotonic() - begun < 5, True)
-        check(f"stopped by {number.name}: message", "stopped" in error, True)
-        check(f"stopped by {number.name}: report", report.read_text(), "record\told\n")
-        check(f"stopped by {number.name}: what goes on", [pid for pid in under_way.read_text().split() if _goes_on(int(pid))], [])
-        desk.check_nothing_left(number.name)
-
-
-def _await(path):
-    begun = time.monotonic()
-    while not path.exists() and time.monotonic() - begun < 60:
-        time.sleep(0.05)
-
-
-def _goes_on(process):
-    try:
-        os.kill(process, 0)
-    except ProcessLookupError:
-        return False
-    return True
-
-
-def check_killed(desk):
-    """A tool that is killed leaves no process of its own behind, which would hold its standard error open."""
-    workers = desk.scratch / "workers"
-    make_release(desk.scratch / "many", 99, [GOOD])
-    process = desk.start("many", "unwritten", RACECHECK=desk.binary("lasting", f"echo $PPID >> '{workers}'; sleep 1; echo ACCEPT"))
-    _await(workers)
-    process.kill()
-    try:
-        process.communicate(timeout=9)
-        left = set()
-    except subprocess.TimeoutExpired:
-        left = set(workers.read_text().split())
-    check("killed: what is left", left, set())
-    for worker in left:
-        os.kill(int(worker), signal.SIGKILL)
-
-
-def check_late(desk):
-    """A run that starts while the others are ended ends with them."""
-    slow = desk.binary("late", "exec sleep 30")
-    script = "import sys; from explaining.running import run_in, stop_all; stop_all(); print(run_in(*sys.argv[1:]).answer)"
-    begun = time.monotonic()
-    done = subprocess.run(
-        [sys.executable, "-B", "-c", script, slow, desk.scratch], env=user_environment(PYTHONPATH=TOOLS), stdout=subprocess.PIPE)
-    check("a late run", (done.stdout, time.monotonic() - begun < 5), (b"FAILED\n", True))
 
 
 def check_outputs(desk, binary):
@@ -313,18 +260,18 @@ def check_release_tool(binary):
     """check-release on whole releases and on binaries that do not keep their word."""
     with tempfile.TemporaryDirectory() as scratch:
         desk = Desk(Path(scratch))
-        finish_hindrances = check_hindrances(desk, binary)
+        finish_hindrances, finish_deaf = check_hindrances(desk, binary), start_deaf(desk)
         for judged in judges(desk, binary):
             check_releases(desk, judged)
         check_small(desk, binary)
         check_causes(desk, binary)
         check_nonsense(desk)
         check_again(desk, binary)
+        check_terminal(desk, binary)
         check_liar(desk)
-        check_stopped(desk)
-        check_killed(desk)
-        check_late(desk)
+        check_ended(desk)
         check_outputs(desk, binary)
         check_which_binary(desk)
         check_errors(desk, binary)
         finish_hindrances()
+        finish_deaf()

@@ -22,8 +22,8 @@ def make_shared(archive, path):
         with open(seen, "w", encoding="ascii") as file:
             file.write(SEEN)
         done = subprocess.run(
-            [compiler, "-shared", "-o", made, "-Wl,--whole-archive", archive, "-Wl,--no-whole-archive", f"-Wl,--version-script={seen}",
-             f"-Wl,-soname,{path.name}", "-Wl,-z,defs,-z,now,-z,relro", "-Wl,--build-id=none"],
+            [compiler, "-shared", "-o", made, "-Wl,--whole-archive", archive, "-Wl,--no-whole-archive",
+             f"-Wl,--version-script={seen}", f"-Wl,-soname,{path.name}", "-Wl,-z,defs,-z,now,-z,relro", "-Wl,--build-id=none"],
             stdin=subprocess.DEVNULL, capture_output=True, text=True)
         if done.returncode:
             raise Failure(f"{compiler} cannot make {path.name}: {done.stderr.strip()}")

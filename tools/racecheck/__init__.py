@@ -11,7 +11,8 @@ from .answers import Answer, Drill, Filling, Race, Replay
 from .finding import NoLibrary, find_library
 from .library import Library
 
-__all__ = ["Answer", "Drill", "Filling", "Library", "NoLibrary", "Race", "Replay", "check", "drill", "fill", "find_library", "replay"]
+__all__ = [
+    "Answer", "Drill", "Filling", "Library", "NoLibrary", "Race", "Replay", "check", "drill", "fill", "find_library", "replay"]
 
 _own = threading.local()
 

@@ -1,4 +1,4 @@
-"""Where the library is: the file that RACECHECK_LIBRARY names, else that of the repository or of the prefix that this is a part of."""
+"""Where the library is: the file that RACECHECK_LIBRARY names, else that of the repository or prefix that this is a part of."""
 from __future__ import annotations
 
 import os

@@ -47,8 +47,8 @@ class Deciding(NamedTuple):
         except Failure as error:
             return entry._replace(details=(*entry.details, f"no decision: {error}"))
         if decision.answer != entry.answer:
-            told = f"*** {DISAGREEMENT}: the {self.judge.kind} answered {entry.answer}, {self.programs.racecheck} {decision.answer} ***"
-            return entry._replace(details=(entry.details[0], told, *entry.details[1:]), alarming=True)
+            parts = f"the {self.judge.kind} answered {entry.answer}, {self.programs.racecheck} {decision.answer}"
+            return entry._replace(details=(f"*** {DISAGREEMENT}: {parts} ***", *entry.details), alarming=True)
         return entry._replace(decision=decision, alarming=decision.kind == "disagreement")
 
     # ---- Its files

@@ -1,4 +1,4 @@
-"""By what a release is judged: the library, which each of the tool's processes calls, or the program racecheck, run for each pair."""
+"""By what a release is judged: the library, which each process of the tool calls, or the program racecheck, run for each pair."""
 import os
 
 from starting.command import say

@@ -1,5 +1,5 @@
-"""The report of a release, for a person: what was judged by what, the counts, what has changed, the refused pairs with what is wrong,
-the others. Nothing here is worked out: it tells what a Release holds."""
+"""The report of a release, for a person: what was judged by what, the counts, what has changed, the refused pairs with what is
+wrong, the others. Nothing here is worked out: it tells what a Release holds."""
 from collections import Counter
 from typing import NamedTuple
 

@@ -1,5 +1,5 @@
-"""One page that needs nothing else but the pairs' own pages beside it: the counts, what has changed, each pair that was not accepted
-with what is decided on it, the accepted ones, and what was judged by what."""
+"""One page that needs nothing else but the pairs' own pages beside it: the counts, what has changed, each pair that was not
+accepted with what is decided on it, the accepted ones, and what was judged by what."""
 import os
 from html import escape
 from pathlib import Path
