@@ -107,8 +107,8 @@ def check_archive(house, scratch):
 
     def used(*command, cwd=place):
         """A command of somebody who has the archive, and nothing else."""
-        path = f"PATH={place}/racecheck/bin:/usr/bin:/bin"
-        return subprocess.run([*who, "env", "-i", path, f"HOME={place}", *command], cwd=cwd, stdin=subprocess.DEVNULL, capture_output=True, text=True)
+        environment = ["env", "-i", f"PATH={place}/racecheck/bin:/usr/bin:/bin", f"HOME={place}"]
+        return subprocess.run([*who, *environment, *command], cwd=cwd, stdin=subprocess.DEVNULL, capture_output=True, text=True)
 
     done = used("tar", "-xzf", str(files[0]))
     check("unpacked", (done.returncode, done.stderr, os.listdir(place)), (0, "", ["racecheck"]))
@@ -131,7 +131,8 @@ def another_user(place):
     who = ["setpriv", "--reuid=65534", "--regid=65534", "--clear-groups"]
     if os.geteuid() == 0 and shutil.which("setpriv"):
         os.chown(place, 65534, 65534)
-        tried = subprocess.run([*who, "env", "-i", "PATH=/usr/bin:/bin", "python3", "-c", "import os; os.listdir('.')"], cwd=place, capture_output=True)
+        command = ["env", "-i", "PATH=/usr/bin:/bin", "python3", "-c", "import os; os.listdir('.')"]
+        tried = subprocess.run([*who, *command], cwd=place, capture_output=True)
         if tried.returncode == 0:
             return who
         os.chown(place, 0, 0)

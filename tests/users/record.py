@@ -42,8 +42,8 @@ def check_sums(desk, release, count):
     lines = digests_of(report_text(desk))
     check(f"digests of {release}", len(lines), count)
     if shutil.which("sha256sum"):
-        command = ["sha256sum", "--check", "--quiet", "--strict"]
-        done = subprocess.run(command, input="".join(f"{line}\n" for line in lines).encode(), cwd=desk.scratch / release, capture_output=True)
+        command, sums = ["sha256sum", "--check", "--quiet", "--strict"], "".join(f"{line}\n" for line in lines)
+        done = subprocess.run(command, input=sums.encode(), cwd=desk.scratch / release, capture_output=True)
         check(f"sha256sum on the digests of {release}", (done.returncode, done.stdout, done.stderr), (0, b"", b""))
 
 
@@ -66,8 +66,9 @@ def check_second_look(desk, binary):
     done = desk.run("many false", "report", RACECHECK=yes)
     parts = [name for name, answer, _ in entries if answer != "ACCEPT"]
     counts = f"count\tDISAGREEMENT\t{len(parts)}\ncount\tACCEPT\t{MANY - len(parts)}\n"
-    check("disagreements are counted first", (done.stdout.startswith(counts), body_of(report_text(desk)).startswith(counts)), (True, True))
-    first = body_of(report_text(desk)).partition(f"\n\nDisagreements: {len(parts)}\n")[2].partition("\n\n")[0].replace("\n    ", " ")
+    body = body_of(report_text(desk))
+    check("disagreements are counted first", (done.stdout.startswith(counts), body.startswith(counts)), (True, True))
+    first = body.partition(f"\n\nDisagreements: {len(parts)}\n")[2].partition("\n\n")[0].replace("\n    ", " ")
     told = [line.partition("\t")[0] for line in first.splitlines() if "*** DISAGREEMENT" in line]
     check("disagreements stand first", told, [visible(name) for name in parts])
 

@@ -69,13 +69,13 @@ def check_releases(desk, judged):
     check("400 pairs: report", body_of(report.read_text()), wanted_body(entries))
     check("400 pairs: digests", digests_of(report.read_text()), wanted_digests(release, entries))
     check("400 pairs: counts printed", counts_in(done.stdout), wanted_counts(entries))
-    check("400 pairs: the others printed", ("\nNot accepted: 250\n" in done.stdout, "\nand 230 more, in the report\n" in done.stdout),
-          (True, True))
+    printed = ["\nNot accepted: 250\n", "\nand 230 more, in the report\n"]
+    check("400 pairs: the others printed", [words for words in printed if words not in done.stdout], [])
     check("400 pairs: status", done.returncode, 2)
     check("400 pairs: progress", "checked 400 of 400" in done.stderr, True)
     check("400 pairs: the folders are as they were", contents(release) == before, True)
-    check("400 pairs: by what", [kind for kind in ("program", "library") if f"the {kind}, " in record_of(report.read_text())["judged by"]],
-          ["library" if "RACECHECK_LIBRARY" in judged else "program"])
+    by_what = "library" if "RACECHECK_LIBRARY" in judged else "program"
+    check("400 pairs: by what", record_of(report.read_text())["judged by"].startswith(f"the {by_what}, "), True)
     shutil.rmtree(release)
     report.unlink()
 

@@ -58,7 +58,8 @@ def check_schema(given):
         ("a field less", lambda one: one["pairs"][0].pop("seconds")), ("a field more", lambda one: one["pairs"][0].update(more=1)),
         ("an answer", lambda one: one["pairs"][0].update(answer="YES")), ("a number", lambda one: one["pairs"][0].update(number="33")),
         ("a digest", lambda one: one["pairs"][0]["sha256"].update({"split.txt": "0"})), ("no pairs", lambda one: one.pop("pairs")),
-        ("a date", lambda one: one["record"].update(date="2026-01-01T00:00:00+0000")), ("a count", lambda one: one["counts"].update(REFUSE=-1)),
+        ("a date", lambda one: one["record"].update(date="2026-01-01T00:00:00+0000")),
+        ("a count", lambda one: one["counts"].update(REFUSE=-1)),
         ("a manifest", lambda one: one.update(manifest={})), ("a form", lambda one: one.update(format=2)),
         ("a decision", lambda one: one["pairs"][0].update(decision={"kind": "races"})),
     ]:
@@ -70,7 +71,8 @@ def check_schema(given):
 def check_told():
     """docs/RELEASES.md tells every field in the schema's words."""
     page = (HOUSE / "docs" / "RELEASES.md").read_text()
-    for name, form in [("the report", SCHEMA), *((name, SCHEMA["definitions"][name]) for name in ("record", "pair", "decision", "manifest", "against"))]:
+    for name in ("the report", "record", "pair", "decision", "manifest", "against"):
+        form = SCHEMA["definitions"].get(name, SCHEMA)
         wanted = [[f"`{field}`", one["description"]] for field, one in form["properties"].items() if "description" in one]
         check(f"RELEASES.md, the fields of {name}", rows_of(page, f"| field of {name} |"), wanted)
 
@@ -80,15 +82,16 @@ def check_junit(desk):
     path = desk.scratch / "out.xml"
     suite = ElementTree.parse(path).getroot()
     check("JUnit: counts", [suite.get(what) for what in ("tests", "failures", "errors", "skipped")], ["3", "1", "1", "0"])
-    check("JUnit: when and how long", (datetime.fromisoformat(suite.get("timestamp")).utcoffset() is not None, float(suite.get("time")) >= 0),
-          (True, True))
+    check("JUnit: when", datetime.fromisoformat(suite.get("timestamp")).utcoffset() is not None, True)
+    check("JUnit: how long", float(suite.get("time")) >= 0, True)
     cases = list(suite.iter("testcase"))
     check("JUnit: pairs", {case.get("name"): [child.tag for child in case] for case in cases}, {
         visible(ESCAPE): [], ODD: ["failure"], "unread": ["error"]})
     check("JUnit: the class does not change with the folder", {case.get("classname") for case in cases}, {"racecheck.release"})
     check("JUnit: times", all(re.fullmatch(r"\d+\.\d{3}", case.get("time")) for case in cases), True)
-    check("JUnit: a message in words", suite.find(".//failure").get("message"), "REFUSE,14,2,0,0: A variable is used where it is not bound.")
-    check("JUnit: what is wrong", "variable 0 is bound by no line" in suite.find(".//failure").text, True)
+    failure = suite.find(".//failure")
+    check("JUnit: a message in words", failure.get("message"), "REFUSE,14,2,0,0: A variable is used where it is not bound.")
+    check("JUnit: what is wrong", "variable 0 is bound by no line" in failure.text, True)
     if shutil.which("xmllint") is None:
         print("users: no xmllint here, so that the XML is of the usual form is not tried")
         return
@@ -125,11 +128,13 @@ def check_against(desk, binary):
     refused = "REFUSE,12,2,0,0"
     wanted = {
         "worse": 3, "newly_refused": [("worse", "ACCEPT", refused, True)], "newly_unanswered": [("lost", "ACCEPT", "UNREAD", True)],
-        "refused_otherwise": [("otherwise", "REFUSE,14,2,0,0", refused, False)], "newly_accepted": [("better", "REFUSE,14,2,0,0", "ACCEPT", False)],
+        "refused_otherwise": [("otherwise", "REFUSE,14,2,0,0", refused, False)],
+        "newly_accepted": [("better", "REFUSE,14,2,0,0", "ACCEPT", False)],
         "new": [("new bad", "", "REFUSE,14,2,0,0", True), ("new good", "", "ACCEPT", False)], "gone": [("gone", "ACCEPT", "", False)],
         "other_sheets": [("sheets", "ACCEPT", "ACCEPT", False)], "unchanged": 1}
     given = json_of(desk, "new.json")["against"]
-    check("against: JSON", {kind: told if isinstance(told, int) else [tuple(one.values()) for one in told] for kind, told in given.items()}, wanted)
+    told = {kind: one if isinstance(one, int) else [tuple(change.values()) for change in one] for kind, one in given.items()}
+    check("against: JSON", told, wanted)
     for text in (done.stdout, (desk.scratch / "report").read_text()):
         check("against: counts", [line for line in text.splitlines() if line.startswith("against\t")], [
             "against\tWorse\t3", "against\tNewly refused\t1", "against\tNewly without an answer that stands\t1",
@@ -141,7 +146,8 @@ def check_against(desk, binary):
 
 def check_beside_others(desk, binary):
     """Reports that are none, and a checker that lies: nothing got worse is not said of it."""
-    for what, text in [("no JSON", "P,1\n"), ("a list", "[1]"), ("no pairs", "{}"), ("odd pairs", '{"pairs":[{"name":1,"answer":"ACCEPT","sha256":{}}]}')]:
+    odd = '{"pairs":[{"name":1,"answer":"ACCEPT","sha256":{}}]}'
+    for what, text in [("no JSON", "P,1\n"), ("a list", "[1]"), ("no pairs", "{}"), ("odd pairs", odd)]:
         (desk.scratch / "odd.json").write_text(text)
         done = desk.run("--against", "odd.json", "newer", "unwritten", RACECHECK=binary)
         check(f"against {what}", (done.returncode, "not a report that check-release --json" in done.stderr), (2, True))
