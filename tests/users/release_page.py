@@ -120,6 +120,16 @@ def check_program_parts(desk, shared):
     check("a library and a program that part", told, (2, True, True))
 
 
+def check_no_programs(desk, shared):
+    """Where the programs that decide are not there, the pairs are judged all the same."""
+    shutil.rmtree(desk.scratch / "house" / "target")
+    environment = {"RACECHECK": "", "RACECHECK_LIBRARY": shared, "PATH": "/usr/bin:/bin"}
+    done = desk.run("jobs", "report", tool=desk.scratch / "house" / "tools" / "check-release", decide="5", **environment)
+    text = (desk.scratch / "report").read_text()
+    told = done.returncode, "no decisions: racecheck is not built" in done.stderr, "count\tREFUSE\t3\n" in text
+    check("without the programs that decide", (*told, "record\tdecisions\tnone: racecheck is" in text), (2, True, True, True))
+
+
 def check_stopped(desk):
     """A run that is stopped leaves no half of a folder."""
     under_way = desk.scratch / "under way"
@@ -143,5 +153,6 @@ def check_release_page(programs):
         shared = shared_library(desk.scratch)
         if shared:
             check_program_parts(desk, shared)
+            check_no_programs(desk, shared)
         signal.signal(signal.SIGTERM, signal.SIG_DFL)
         check_stopped(desk)

@@ -17,7 +17,7 @@ from racing.orders import trace_text
 from racing.shown import Shown
 from stepping.machine import Machine
 from stepping.program import Steps
-from triaging.deciding import decide
+from triaging.deciding import decide, found_programs
 
 from .entries import DISAGREEMENT
 from .reading import read_pair

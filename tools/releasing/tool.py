@@ -30,7 +30,7 @@ def main(arguments):
     must_have = names_in(given["--manifest"]) if "--manifest" in given else None
     older = read_older(given["--against"]) if "--against" in given else None
     names, judge = pairs_of(folder, must_have or set()), find_judge()
-    record = {**record_of(judge, folder, given), "decisions": f"up to {seconds:g} seconds of search a pair" if seconds else "none"}
+    record = record_of(judge, folder, given)
     with PageFolder(outputs.pages, record["date"]) as pages:
         release = _judged(judge, folder, names, "--no-recheck" not in given, record)
         release = _decided_on(release, judge, folder, seconds, pages)
@@ -59,13 +59,20 @@ def _judged(judge, folder, names, recheck, record):
 
 def _decided_on(release, judge, folder, seconds, pages):
     """The refused pairs with their decisions and pages. What that takes is loaded where there are some."""
+    release.record["decisions"] = f"up to {seconds:g} seconds of search a pair" if seconds else "none"
     if not (seconds or pages.path) or not any(one.answer.startswith("REFUSE") for one in release.entries):
         return release
-    from triaging.deciding import found_programs
+    from .deciding import Deciding, found_programs
 
-    from .deciding import Deciding
-    deciding = Deciding(os.path.realpath(folder), judge, found_programs() if seconds else None, seconds, pages.path)
-    return release._replace(entries=decided(deciding, release.entries))
+    programs = None
+    if seconds:
+        try:
+            programs = found_programs()
+        except Failure as error:  # what is judged is worth more than the decisions
+            release.record["decisions"] = f"none: {error}"
+            say(f"check-release: no decisions: {error}")
+    deciding = Deciding(os.path.realpath(folder), judge, programs, seconds, pages.path)
+    return release._replace(entries=decided(deciding, release.entries)) if programs or pages.path else release
 
 
 def _beside_lists(release, folder, must_have, older):
