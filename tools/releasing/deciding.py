@@ -66,7 +66,7 @@ class Deciding(NamedTuple):
         files = read_pair(folder, self.release)
         run = self.judge.answer(folder, files)
         run = run if run.sheets else run._replace(sheets={file.name: file.sheet() for file in files})
-        explanation = explain(run, folder, reduced=True)
+        explanation = explain(run, folder)
         yield "the pair, with its picture", "pair.html", pair_page.text(title, explanation).encode("utf-8", "replace")
         if decision and decision.race:
             if decision.kind == "races":
