@@ -158,6 +158,25 @@ def check_manual(prefix):
         check(f"man -l {page}", (done.returncode, done.stderr, lacks), (0, "", []))
 
 
+def check_shared(house):
+    """In the repository: the library is made where the tools find it, and is not used once the archive is newer."""
+    check("no library in the repository", judged_by(house)[0], "bin/racecheck")
+    done = install(house, "--library")
+    check("install --library", (done.returncode, done.stderr), (0, ""))
+    check("the library of the repository", judged_by(house)[0], "staticlib/libracecheck.so")
+    os.utime(house / "target" / "staticlib" / "libentries.a", (4e9, 4e9))
+    checker, said = judged_by(house)
+    check("a library that is too old", (checker, "older than the archive" in said), ("bin/racecheck", True))
+
+
+def judged_by(house):
+    """What check-release of a repository judges by, below its target, and what it says beside."""
+    environment = user_environment(RACECHECK="", RACECHECK_LIBRARY="")
+    command = [house / "tools" / "check-release", "--decide", "0", house / "examples", "/dev/stdout"]
+    done = subprocess.run(command, env=environment, stdin=subprocess.DEVNULL, capture_output=True, text=True)
+    return done.stdout.partition("record\tchecker\t")[2].partition("\n")[0].partition("/target/")[2], done.stderr
+
+
 def check_again(house, prefix):
     """An installation replaces an older one, spares what is not its own, and says what is not built."""
     before = contents(prefix)
@@ -186,4 +205,5 @@ def check_install(programs):
         check_libraries(prefix)
         check_manual(prefix)
         check_archive(house, Path(scratch))
+        check_shared(house)
         check_again(house, prefix)

@@ -57,7 +57,9 @@ def check_folder(desk, environment):
     folders = sorted((desk.scratch / "pages").iterdir())
     dated = [one.name for one in folders if re.fullmatch(r"release-\d{4}-\d\d-\d\d-\d{6}(-2)?", one.name)]
     check("page: a folder by the date for each run", (len(dated), len(folders)), (2, 2))
-    given = {pair["name"]: pair for pair in json_of(desk, "out.json")["pairs"]}
+    given = json_of(desk, "out.json")
+    check("page: where it is", given["record"]["page"], str(folders[1] / "index.html"))
+    given = {pair["name"]: pair for pair in given["pairs"]}
     for name, (kind, files) in DECIDED.items():
         check(f"page: the decision on {name}", given[name]["decision"]["kind"], kind)
         check(f"page: the files of {name}", sorted(file.rpartition("-")[2] for file in given[name]["pages"]), files)

@@ -2,6 +2,7 @@
 is written."""
 import os
 import shutil
+from contextlib import suppress
 from typing import NamedTuple
 
 from starting.command import Failure
@@ -74,23 +75,29 @@ def _require_folder(pages, folder):
 
 
 class PageFolder:
-    """A folder of pages under way: beside the place that it is renamed to once it is whole. Nothing is written over."""
+    """A folder of pages under way. It is filled beside an empty one of its name, whose place it takes once it is whole; one that is
+    there is never written over."""
 
     def __init__(self, place, date):
-        self.place, self.date = place, date
+        self.place, self.name = place, f"release-{date[:19].replace(':', '').replace('T', '-')}{{}}"
         self.path = os.path.join(place, f".release.{os.getpid()}") if place else ""
 
     def __enter__(self):
         if self.place:
             os.makedirs(os.path.join(self.path, "pairs"))
+            self.final = free(os.path.join(os.path.realpath(self.place), self.name))
+            os.mkdir(self.final)
         return self
 
+    def index(self):
+        """Where the page of the release will be."""
+        return os.path.join(self.final, "index.html")
+
     def finish(self):
-        """Puts it into place, and returns where its first page is."""
-        final = free(os.path.join(self.place, f"release-{self.date[:19].replace(':', '').replace('T', '-')}{{}}"))
-        os.rename(self.path, final)
-        return os.path.join(final, "index.html")
+        os.rename(self.path, self.final)
 
     def __exit__(self, *_):
         if self.place:
             shutil.rmtree(self.path, ignore_errors=True)
+            with suppress(OSError):  # it is not empty if it is finished
+                os.rmdir(self.final)

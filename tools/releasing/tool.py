@@ -32,6 +32,7 @@ def main(arguments):
     names, judge = pairs_of(folder, must_have or set()), find_judge()
     record = record_of(judge, folder, given)
     with PageFolder(outputs.pages, record["date"]) as pages:
+        record.update({"page": visible(pages.index())} if pages.path else {})
         release = _judged(judge, folder, names, "--no-recheck" not in given, record)
         release = _decided_on(release, judge, folder, seconds, pages)
         release = _beside_lists(release, folder, must_have, older)
@@ -115,7 +116,8 @@ def _write_page(release, pages, written):
     from .drawing.page import write_page
 
     write_page(pages.path, release)
-    written.append(pages.finish())
+    pages.finish()
+    written.append(pages.index())
 
 
 def status_of(release):
