@@ -237,6 +237,8 @@ def check_errors(desk, binary):
         done = desk.run("two", "unwritten", RACECHECK=missing)
         check(f"{what}: status", done.returncode, 2)
         check(f"{what}: message", "no racecheck that can be run" in done.stderr, True)
+    done = desk.run("two", "unwritten", RACECHECK="", RACECHECK_LIBRARY=desk.scratch / "missing")
+    check("a missing library", (done.returncode, "a library that cannot be used" in done.stderr), (2, True))
     check("no report after an error", [p for p in desk.scratch.rglob("unwritten")], [])
     check("the pairs are as they were", contents(desk.scratch / "two") == before, True)
     done = desk.run("--help", decide=None)

@@ -75,8 +75,8 @@ def _told(name, run, files, folder, recheck):
     if run.answer == "ACCEPT" and not recheck and not run.changed and None not in files:
         return Entry(name, run.answer)
     run = run if run.sheets else run._replace(sheets={file.name: file.sheet() for file in files if file})
-    begun = time.thread_time()
-    if run.answer == "ACCEPT" and not run.changed and None not in run.sheets.values() and judge(*run.sheets.values()).number == 0:
+    sheets, begun = run.sheets.values(), time.thread_time()
+    if run.answer == "ACCEPT" and not run.changed and None not in sheets and judge(*sheets).number == 0:
         return Entry(name, run.answer, look=time.thread_time() - begun)
     explanation = explain(run, folder)
     if explanation.unseen:
@@ -86,8 +86,10 @@ def _told(name, run, files, folder, recheck):
 
 
 def details(explanation):
-    """What is wrong with a pair: its meaning, the place, the thread, the condition with its numbers, the likely cause."""
-    lines = [explanation.meaning, *filter(None, alarm(explanation)), *explanation.place]
+    """What is wrong with a pair: a disagreement, what the answer means, the place, the thread, the condition with its numbers, the
+    likely cause."""
+    meaning = f"{explanation.program} says: {explanation.meaning}" if explanation.disagrees else explanation.meaning
+    lines = [*filter(None, alarm(explanation)), meaning, *explanation.place]
     if explanation.site:
         lines.append(f"taken by {explanation.names.thread(explanation.site.thread)}")
     if explanation.condition:

@@ -1,12 +1,12 @@
 """By what a release is judged: the library, which each process of the tool calls, or the program racecheck, run for each pair."""
 import os
 
-from starting.command import say
+from starting.command import Failure, say
 
 from explaining.running import CHECKING, Run, find_program, run_in
 from explaining.showing import visible
 from racecheck import Library, NoLibrary, find_library
-from racecheck.finding import is_stale
+from racecheck.finding import VARIABLE, is_stale
 
 
 class ByLibrary:
@@ -49,5 +49,7 @@ def find_judge():
             try:
                 return ByLibrary(Library(path))
             except NoLibrary as error:
+                if os.environ.get(VARIABLE):
+                    raise Failure(f"{VARIABLE} names a library that cannot be used: {visible(path)}: {error}") from error
                 say(f"check-release: {visible(path)} cannot be used, so the program judges: {error}")
     return ByProgram(find_program(CHECKING))
