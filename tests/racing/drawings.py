@@ -24,7 +24,7 @@ document.body.append(Object.assign(document.createElement("pre"), {id: "seen", t
 
 def page_of(folder, scratch, name):
     file = Path(scratch) / f"{name}.html"
-    done = run("--trace", Path(scratch) / "trace", "--page", file, folder)
+    done = run("--page", file, folder)
     check(f"page of {name}: written", (done.error, file.exists()), ("", True))
     return file.read_text() if file.exists() else ""
 

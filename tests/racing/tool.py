@@ -72,6 +72,7 @@ def check_refill():
     """The order of the counter school's job: who meets where, after how much."""
     with tempfile.TemporaryDirectory() as scratch:
         done = run("--trace", Path(scratch) / "trace", HOUSE / "examples" / "refill-race")
+        check("refill-race: its order is written", f"The order is in {scratch}/trace, as racereplay reads it." in done.said, True)
     for words in [
         "Pump is about to read level (line 37) while refill is about to write 100 into level (line 70).",
         "level, made on line 3; it holds 100 at that moment", "34 steps, 3 switches of thread"]:
@@ -86,7 +87,7 @@ def check_lies():
     race, waiting = HOUSE / "examples" / "join-race", known.programs_of("WAITING")[0]
     with tempfile.TemporaryDirectory() as scratch:
         waits = make_job(Path(scratch) / "job", waiting)
-        honest = run("--trace", Path(scratch) / "trace", race).said.split(CONFIRMED)[1].split(".")[0]
+        honest = run(race).said.split(CONFIRMED)[1].split(".")[0]
         other = ",".join([*honest.split(",")[:-1], "9"])
         lies = ["RAN,5", "RACE,1,1,0,1", other, "UNREAD", f"{honest},0", "nothing", "REFUSE,47,1,0,0,0",
                 "REFUSE,46,9,0,0,8,RACE,8,0,1"]
@@ -95,7 +96,7 @@ def check_lies():
             # It judges the program sheet rightly, which has an empty trace beside it.
             liar.write_text(f"#!/bin/sh\nif test -s trace.txt; then echo '{lie}'; else echo RAN,0; fi\n")
             liar.chmod(0o755)
-            done = run("--trace", Path(scratch) / "trace", "--page", page, folder, racereplay=liar)
+            done = run("--page", page, folder, racereplay=liar)
             loud = ["DISAGREEMENT" in words for words in (done.said, done.error)]
             check(f"a lying racereplay, {lie}: status, loudly", (done.status, loud), (3, [True, True]))
             told = ["This job can race" in done.said, "line 13" in done.said, "waits" in done.said, page.exists()]
@@ -129,7 +130,7 @@ def check_bounds():
         done = run(make_job(scratch / "none joined", readers(15, 0)))
         check("15 readers, none joined: within the room", (done.status, CONFIRMED in done.said), (1, True))
         folder = make_job(scratch / "one not joined", readers(20, 19))
-        done = run(folder)
+        done = run("--trace", folder / "trace.txt", folder)
         check("20 readers, one not joined: past the room", (done.status, "it is not told" in done.said), (4, True))
         replayed = plain.replay(steps_in(folder), order_in(folder / "trace.txt"))
         check("20 readers, one not joined: its order races all the same", replayed[1] is not None, True)
@@ -186,7 +187,7 @@ def check_calls():
         done = run(make_job(scratch / "64 open", nested(63)))
         check("a race behind 64 open calls is confirmed", (done.status, CONFIRMED in done.said), (1, True))
         folder = make_job(scratch / "65 open", nested(64))
-        done = run(folder)
+        done = run("--trace", folder / "trace.txt", folder)
         check("a race behind 65 open calls: past the room", (done.status, "64 open calls of one thread" in done.said), (4, True))
         replayed = plain.replay(steps_in(folder), order_in(folder / "trace.txt"))
         check("a race behind 65 open calls: its order races all the same", replayed[1] is not None, True)
@@ -226,7 +227,7 @@ def check_halts():
         for section, status, words in [("ODD", 1, "can get stuck"), ("WAITING", 0, "can wait for ever")]:
             for number, steps in enumerate(known.programs_of(section)[:3]):
                 folder = make_job(Path(scratch) / f"{section}{number}", steps)
-                done = run(folder)
+                done = run("--trace", folder / "trace.txt", folder)
                 told = [words in done.said, "refuses a step behind it: REFUSE,47," in done.said, "can race" in done.said]
                 check(f"{section} {number}", (done.status, told), (status, [True, True, False]))
                 check(f"{section} {number}: its order runs", plain.replay(steps, order_in(folder / "trace.txt")) is not None, True)
@@ -236,33 +237,29 @@ def check_halts():
 
 
 def check_files():
-    """trace.txt is written into the folder if there is none; nothing is written over without being asked."""
+    """Nothing is written unasked, nothing written over; a folder that cannot be written to loses nothing."""
     with tempfile.TemporaryDirectory() as scratch:
         folder = Path(scratch) / "job"
         folder.mkdir()
         shutil.copy(HOUSE / "examples" / "join-race" / "program.txt", folder)
         trace = folder / "trace.txt"
         check("the split is not needed", run(folder).status, 1)
-        written = trace.read_bytes()
-        check("the folder afterwards", sorted(file.name for file in folder.iterdir()), ["program.txt", "trace.txt"])
-        check("the same order again", f"The order is in {trace}" in run(folder).said, True)
+        check("the folder afterwards", [file.name for file in folder.iterdir()], ["program.txt"])
         trace.write_text("0,0\n")
-        done = run(folder)
-        check("another trace.txt is left", (done.status, "is left as it is" in done.said, trace.read_text()), (1, True, "0,0\n"))
-        check("--trace writes over it", (run("--trace", trace, folder).status, trace.read_bytes()), (1, written))
+        done = run("--trace", trace, folder)
+        check("a trace.txt that is there is left", (done.status, "may be somebody's own" in done.error, trace.read_text()), (2, True, "0,0\n"))
         (folder / "names.txt").write_text("variable,0,<level>\nthread,1,pump\n")
         done = run(folder)
         wanted = ["<level>, made on line 3", "pump is about to read <level>"]
         check("names are used", [words for words in wanted if words not in done.said], [])
-        done = run("--trace", Path(scratch) / "no" / "folder", folder)
+        done = run("--trace", "/dev/full", folder)
         check("an order that cannot be written is told all the same",
-              (done.status, CONFIRMED in done.said, "cannot be written" in done.said), (1, True, True))
+              (done.status, CONFIRMED in done.said, "The order is in no file: cannot write" in done.said), (1, True, True))
         trace.unlink()
         folder.chmod(0o555)
         if not os.access(folder, os.W_OK):  # who may do everything may write there too
             done = run(folder)
-            check("a folder that cannot be written to", (done.status, CONFIRMED in done.said, "cannot be written" in done.said),
-                  (1, True, True))
+            check("a folder that cannot be written to", (done.status, CONFIRMED in done.said), (1, True))
         folder.chmod(0o755)
 
 
@@ -290,7 +287,7 @@ def check_errors():
             program.chmod(0o755)
             check(f"a racereplay that fails, {dead}", run(join, racereplay=program).status, 2)
     done = run("--trace", HOUSE / "examples" / "join-race" / "program.txt", HOUSE / "examples" / "join-race")
-    check("a trace over the program", (done.status, "over a file of the pair" in done.error), (2, True))
+    check("a trace over the program", (done.status, "a sheet of that name is never written over" in done.error), (2, True))
     check("show-race --help", run("--help").said.count("usage: show-race"), 1)
 
 

@@ -68,10 +68,10 @@ def check_files():
         before = contents(folder)
         for name in before:
             done = run("--page", folder / name, folder)
-            check(f"a page over {name}", (done.status, "over a file of the pair" in done.error), (2, True))
+            check(f"a page over {name}", (done.status, "written over" in done.error), (2, True))
         (folder / PAGE).write_text("mine")
         done = run(folder)
-        check("an orders.html that is no such page", (done.status, "--page FILE writes elsewhere" in done.error), (2, True))
+        check("an orders.html that is no such page", (done.status, "is no page of this tool" in done.error), (2, True))
         check("the folder afterwards", contents(folder), {**before, PAGE: b"mine"})
 
 
@@ -83,7 +83,7 @@ def check_errors():
             ("no arguments", [], "usage: try-orders"), ("two folders", [RACE, RACE], "usage: try-orders"),
             ("an unknown option", ["-x", RACE], "usage: try-orders"), ("no such folder", ["nowhere"], "no such folder"),
             ("no program", [empty], "no program.txt"),
-            ("a page in no folder", ["--page", "nowhere/page", RACE], "cannot write the page"),
+            ("a page in no folder", ["--page", "nowhere/page", RACE], "no folder to write the page in"),
         ]:
             done = run(*arguments)
             check(f"try-orders, {what}", (done.status, words in done.error), (2, True))

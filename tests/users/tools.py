@@ -1,7 +1,6 @@
-"""What all tools share: help, version, a Python that is too old, a dash as a file's name, and files that are written."""
+"""What all tools share: help, version, a Python that is too old, and a dash as a file's name."""
 import ast
 import io
-import os
 import re
 import subprocess
 import sys
@@ -63,33 +62,7 @@ def check_dash(binary):
         check("no file is made of a dash", contents(Path(scratch)), {})
 
 
-def check_page_kept(binary):
-    """A page is renamed into place and never written over a file of the pair."""
-    with tempfile.TemporaryDirectory() as scratch:
-        pair, page = Path(scratch) / "pair", Path(scratch) / "page.html"
-        pair.mkdir()
-        for name in ("program.txt", "split.txt"):
-            (pair / name).write_bytes((HOUSE / "examples" / "join-race" / name).read_bytes())
-        (pair / "names.txt").write_text("thread,1,pump\n")
-        (Path(scratch) / "link").symlink_to("pair/split.txt")
-        os.link(pair / "program.txt", Path(scratch) / "second name")
-        (pair / "trace.txt").write_text("0,0\n")
-        before = contents(pair)
-        for name in ["pair/trace.txt", "pair/split.txt", "pair/program.txt", "pair/names.txt", "link", "second name"]:
-            done = run("explain", "--page", name, "pair", cwd=scratch, RACECHECK=binary)
-            check(f"explain --page {name}", (done.returncode, "over a file of the pair" in done.stderr), (2, True))
-        check("explain --page, the pair afterwards", contents(pair) == before, True)
-        page.write_text("the old one")
-        old = os.stat(page).st_ino
-        done = run("explain", "--page", page, "pair", cwd=scratch, RACECHECK=binary)
-        check("explain --page, renamed into place", (done.returncode, os.stat(page).st_ino != old), (1, True))
-        check("explain --page, nothing beside it", sorted(os.listdir(scratch)), ["link", "page.html", "pair", "second name"])
-        done = run("explain", "--page", "/dev/stdout", "pair", cwd=scratch, RACECHECK=binary)
-        check("explain --page to a device", (done.returncode, done.stdout.count("</html>")), (1, 1))
-
-
 def check_tools(binary):
     check_help()
     check_old_python()
     check_dash(binary)
-    check_page_kept(binary)

@@ -50,8 +50,8 @@ def wrecked(example, scratch, *changes):
 def check_examples(programs):
     """Every example: accepted, a race that is confirmed, or a sheet for filling that is filled."""
     with tempfile.TemporaryDirectory() as scratch:
-        files = ["--trace", Path(scratch) / "trace", "--mended", Path(scratch) / "mended"]
         for folder in examples():
+            files = ["--trace", Path(scratch) / f"{folder.name}.trace", "--mended", Path(scratch) / f"{folder.name}.split"]
             done = run(programs, *files, folder)
             wanted = RACES if folder.name.endswith("-race") else ROWS if folder.name.endswith("-to-fill") else ACCEPTED
             check(f"triage of {folder.name}", (done.returncode, done.stderr), (wanted, ""))
@@ -111,7 +111,7 @@ def check_sheets(programs):
 
 
 def check_files(programs):
-    """Nothing is written over without being asked, and a file that cannot be written loses nothing."""
+    """Nothing is written over, and a file that cannot be written loses nothing."""
     with tempfile.TemporaryDirectory() as scratch:
         lines = (HOUSE / "examples" / "join" / "split.txt").read_text().split("\n")
         pair = wrecked("join", scratch, (f"{lines[-2]}\n", "0,1,\n"))
@@ -119,12 +119,10 @@ def check_files(programs):
         done = run(programs, pair)
         check("a mended split that is there", (done.returncode, (pair / MENDED).read_text(), "left as it is" in done.stdout),
               (ROWS, "mine\n", True))
-        done = run(programs, "--mended", Path(scratch) / "no" / "folder", pair)
-        check("a mended split that cannot be written", (done.returncode, "cannot be written" in done.stdout), (ROWS, True))
-        done = run(programs, "--trace", Path(scratch) / "no" / "folder", HOUSE / "examples" / "join-race")
-        check("an order that cannot be written", (done.returncode, "cannot be written" in done.stdout), (RACES, True))
-        done = run(programs, "--mended", pair / "split.txt", pair)
-        check("the mended split over the given one", (done.returncode, "over a file of the pair" in done.stderr), (FAILED, True))
+        done = run(programs, "--mended", "/dev/full", pair)
+        check("a mended split that cannot be written", (done.returncode, "is in no new file: cannot" in done.stdout), (ROWS, True))
+        done = run(programs, "--trace", "/dev/full", HOUSE / "examples" / "join-race")
+        check("an order that cannot be written", (done.returncode, "is in no file: cannot" in done.stdout), (RACES, True))
 
 
 def check_lies(programs):

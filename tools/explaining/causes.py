@@ -3,7 +3,8 @@ import os
 import re
 import stat
 
-from .refusals import PROGRAM, SPLIT
+from starting.files import PROGRAM, SPLIT
+
 from .sheets import counts_of
 from .showing import grouped
 

@@ -4,12 +4,11 @@ import shutil
 import tempfile
 
 from starting.command import Failure, Usage, options, say, tell
+from starting.files import NAMES, PROGRAM, SPLIT
 from starting.writing import replace
 
 from . import telling
 from .findings import explain
-from .names import FILE as NAMES
-from .refusals import PROGRAM, SPLIT
 from .running import CHECKING, FILLING, find_program, run_in
 from .showing import grouped, visible
 

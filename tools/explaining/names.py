@@ -5,9 +5,10 @@ this file, and no answer depends on it: a line that is not understood, or a file
 """
 import os
 
+from starting.files import NAMES
+
 from .showing import shown
 
-FILE = "names.txt"
 KINDS = ("location", "variable", "thread", "procedure")
 MOST_BYTES, LONGEST = 1 << 16, 40
 
@@ -51,23 +52,23 @@ class Names:
 
 def read_names(folder):
     """The names of a folder's pair."""
-    path = os.path.join(folder, FILE)
+    path = os.path.join(folder, NAMES)
     if not os.path.lexists(path):
         return Names()
     if not os.path.isfile(path):
-        return Names(passed_over=[f"{FILE} is no plain file and is passed over"])
+        return Names(passed_over=[f"{NAMES} is no plain file and is passed over"])
     try:
         with open(path, "rb") as file:
             text = file.read(MOST_BYTES)
     except OSError as error:
-        return Names(passed_over=[f"{FILE} cannot be read and is passed over: {error.strerror}"])
+        return Names(passed_over=[f"{NAMES} cannot be read and is passed over: {error.strerror}"])
     given, passed_over = {}, []
     for number, line in enumerate(text.split(b"\n"), 1):
         name = _name_of(line)
         if name:
             given[name[0], name[1]] = name[2]
         elif line:
-            passed_over.append(f"{FILE} line {number} is not understood and is passed over: {shown(line)}")
+            passed_over.append(f"{NAMES} line {number} is not understood and is passed over: {shown(line)}")
     return Names(given, passed_over)
 
 

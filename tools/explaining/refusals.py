@@ -4,7 +4,7 @@ A new refusal is a row of REFUSALS.
 """
 from typing import NamedTuple
 
-PROGRAM, SPLIT, TRACE = "program.txt", "split.txt", "trace.txt"
+from starting.files import PROGRAM, SPLIT, TRACE
 
 
 class Refusal(NamedTuple):

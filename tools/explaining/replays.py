@@ -2,13 +2,13 @@
 from dataclasses import dataclass, field
 from functools import lru_cache
 
+from starting.files import TRACE
 from stepping.machine import Machine
 from stepping.program import Steps
 
 from . import causes, doing, forms
 from .disagreement import require
 from .findings import explained, place_in
-from .refusals import TRACE
 from .sheets import counts_of, read_sheet, steps_of
 from .showing import grouped, shown
 from .texts import job_fault, program_lines_fault

@@ -9,9 +9,9 @@ from pathlib import Path
 from typing import NamedTuple
 
 from starting.command import Failure
+from starting.files import PROGRAM, SPLIT, TRACE
 
 from .forms import SPLIT_BYTES
-from .refusals import PROGRAM, SPLIT, TRACE
 from .sheets import is_as_read, read_sheets
 
 CHECKING, FILLING, REPLAYING = "racecheck", "racefill", "racereplay"

@@ -5,8 +5,9 @@ import stat
 from math import gcd
 from typing import NamedTuple
 
+from starting.files import TRACE
+
 from .forms import TRACE_BYTES
-from .refusals import TRACE
 from .words import KINDS
 
 # More than the longest sheet or trace: enough to see that a file is longer.

@@ -2,15 +2,14 @@
 import os
 
 from starting.command import Failure, Usage, options, say, tell
-from starting.writing import spare, write
+from starting.files import PROGRAM, SPLIT, files_of
+from starting.writing import Output, approve, write
 
 from . import replays, telling, walk
 from .alone import told_alone
 from .drawing import page
 from .filling import is_for_filling
 from .findings import explain
-from .names import FILE as NAMES
-from .refusals import PROGRAM, SPLIT, TRACE
 from .running import CHECKING, FILLING, REPLAYING, find_program, run_in
 from .sheets import read_sheet
 from .showing import visible
@@ -20,11 +19,11 @@ def main(arguments):
     given, others = options(arguments, flags=["--replay", "--walk"], valued=["--page"])
     if len(others) != 1 or {"--replay", "--page"} <= set(given):
         raise Usage
-    folder, file, walks = others[0], given.get("--page"), "--walk" in given
+    folder, walks = others[0], "--walk" in given
     if not os.path.isdir(folder):
         return _tell_alone(folder, given)
-    if file:
-        spare(folder, (PROGRAM, SPLIT, TRACE, NAMES), file, "page")
+    pages = [Output("page", given["--page"], page.BEGINS)] if "--page" in given else []
+    approve(pages, files_of(folder))
     is_filling = is_for_filling(read_sheet(folder, PROGRAM), read_sheet(folder, SPLIT))
     program = REPLAYING if "--replay" in given else FILLING if is_filling else CHECKING
     run = run_in(find_program(program), folder, program)
@@ -35,9 +34,9 @@ def main(arguments):
         say(f"explain: {words}")
     if explanation.disagrees:
         say(f"explain: DISAGREEMENT with {program}, see above")
-    if file:
+    for output in pages:
         title = visible(os.path.basename(os.path.abspath(folder)))
-        write(file, page.text(title, explain(run, folder, reduced=True)).encode("utf-8", "replace"), "page")
+        write(output, page.text(title, explain(run, folder, reduced=True)).encode("utf-8", "replace"))
     return _status_of(explanation)
 
 

@@ -5,11 +5,10 @@ import time
 from typing import Callable, NamedTuple
 
 from starting.command import Failure, Usage, options, say, tell
-from starting.writing import spare, write
+from starting.files import PROGRAM, SHEETS, files_of
+from starting.writing import Output, approve, write
 
-from explaining.names import FILE as NAMES
 from explaining.names import read_names
-from explaining.refusals import PROGRAM, SPLIT, TRACE
 from explaining.sheets import read_sheet, steps_of
 from explaining.showing import visible
 from stepping.machine import ROOM, Machine
@@ -26,7 +25,8 @@ from .showing import counted
 from .shown import Shown
 
 NUMBERS = {"--states": int, "--seconds": float}
-FILES = {"--trace": "order", "--page": "page"}
+# What the file behind an option is called, and what such a file begins with.
+FILES = {"--trace": ("order", b""), "--page": ("page", page.BEGINS)}
 PROGRESS = 60  # letters, more than a line that tells how far a search is
 
 
@@ -47,7 +47,7 @@ def main(arguments):
     told = job.search()
     tell([f"{visible(folder)}: {told.lines[0]}", *told.lines[1:]])
     if told.page:
-        write(given["--page"], told.page.encode("utf-8", "replace"), FILES["--page"])
+        write(job.files["--page"], told.page.encode("utf-8", "replace"))
     return told.status
 
 
@@ -98,9 +98,8 @@ class Job:
         self.program, self.names = read_sheet(folder, PROGRAM), read_names(folder)
         if self.program is None:
             raise Failure(f"no {PROGRAM} that can be read in {visible(folder)}")
-        for option, own in (("--trace", (PROGRAM, SPLIT, NAMES)), ("--page", (PROGRAM, SPLIT, TRACE, NAMES))):
-            if option in given:
-                spare(folder, own, given[option], FILES[option])
+        self.files = {option: Output(what, given[option], begins) for option, (what, begins) in FILES.items() if option in given}
+        approve(list(self.files.values()), files_of(folder, SHEETS))
         self.replay = Replay(self.program.text)
 
     def search(self):
@@ -132,20 +131,11 @@ class Job:
         return Told(kind.status, [*telling.told(shown, ending), "", borne_out, written], drawn)
 
     def write_trace(self, order):
-        """Where the order is, in words. A trace.txt that is there already may be a record of the bench, and is left as it is."""
-        asked, text = self.given.get("--trace"), trace_text(order).encode()
-        file = asked or os.path.join(self.folder, TRACE)
+        """Where the order is, in words. It is written if that was asked for: a folder's trace.txt is the bench's."""
+        if "--trace" not in self.files:
+            return "--trace FILE writes this order, as racereplay reads it."
         try:
-            if asked:
-                write(asked, text, FILES["--trace"])
-            else:
-                with open(file, "xb") as out:
-                    out.write(text)
-        except FileExistsError:
-            kept = read_sheet(self.folder, TRACE)
-            if kept is None or kept.text != text:
-                return f"{visible(file)} is there already and is left as it is; --trace FILE writes this order elsewhere."
-        except (OSError, Failure) as error:  # what was found is worth more than the file
-            why = error.strerror if isinstance(error, OSError) else error
-            return f"The order is not in a file: {visible(file)} cannot be written ({why}); --trace FILE writes it elsewhere."
-        return f"The order is in {visible(file)}, as racereplay reads it."
+            write(self.files["--trace"], trace_text(order).encode())
+        except Failure as error:  # what was found is worth more than the file
+            return f"The order is in no file: {error}; --trace FILE writes it elsewhere."
+        return f"The order is in {visible(self.given['--trace'])}, as racereplay reads it."

@@ -5,14 +5,14 @@ import tempfile
 from typing import NamedTuple
 
 from starting.command import Failure, Usage, options, say, tell
-from starting.writing import replace, spare, write
+from starting.files import PROGRAM, SHEETS, SPLIT, files_of
+from starting.writing import Output, approve, replace, write
 
 from explaining import telling
 from explaining.fill_tool import checked
 from explaining.filling import is_for_filling
 from explaining.findings import explain
-from explaining.names import FILE as NAMES
-from explaining.refusals import PROGRAM, REFUSALS, SPLIT, TRACE
+from explaining.refusals import REFUSALS
 from explaining.running import CHECKING, FILLING, find_program, run_in
 from explaining.sheets import counts_of, read_sheet
 from explaining.showing import grouped, visible
@@ -23,6 +23,7 @@ from .rest import rest_of
 
 ACCEPTED, RACES, FAILED, DISAGREES, UNDECIDED, ROWS, LOADS, PROGRAM_SHEET, SPLIT_SHEET = range(9)
 MENDED = "split-mended.txt"
+FILES = {"--trace": "order", "--mended": "mended split"}
 NO_ROOM = (42, 43)  # the answers of racefill that fewer maps may help
 FEW = 1000  # parts in D that look like rounding, if D is far greater
 
@@ -40,9 +41,7 @@ def main(arguments):
     folder, limits = folders[0], limits_of(given)
     if not os.path.isdir(folder):
         raise Failure(f"no such folder: {visible(folder)}")
-    for option, what in (("--trace", "order"), ("--mended", "mended split")):
-        if option in given:
-            spare(folder, (PROGRAM, SPLIT, NAMES), given[option], what)
+    approve([Output(what, given[option]) for option, what in FILES.items() if option in given], files_of(folder, SHEETS))
     verdict = Pair(folder, given, limits).verdict()
     tell([f"{visible(folder)}: {verdict.line}", *([""] + verdict.grounds if verdict.grounds else [])])
     if verdict.status == DISAGREES:
@@ -107,22 +106,14 @@ class Pair:
         return run, explain(run._replace(changed=()), self.folder)
 
     def _write_mended(self, text):
-        """Where the mended split is, in words. Nothing is written over without being asked."""
-        asked = self.given.get("--mended")
-        file = asked or os.path.join(self.folder, MENDED)
+        """Where the mended split is, in words. Nothing is written over."""
+        file = self.given.get("--mended") or os.path.join(self.folder, MENDED)
+        kept = read_sheet(self.folder, MENDED) if "--mended" not in self.given else None
         try:
-            if asked:
-                write(asked, text, "mended split")
-            else:
-                with open(file, "xb") as out:
-                    out.write(text)
-        except FileExistsError:
-            kept = read_sheet(self.folder, MENDED)
             if kept is None or kept.text != text:
-                return f"{visible(file)} is there already and is left as it is; --mended FILE writes the mended split elsewhere."
-        except (OSError, Failure) as error:
-            why = error.strerror if isinstance(error, OSError) else error
-            return f"The mended split is not in a file: {visible(file)} cannot be written ({why}); --mended FILE writes it elsewhere."
+                write(Output(FILES["--mended"], file), text)
+        except Failure as error:
+            return f"The mended split is in no new file: {error}; --mended FILE writes it elsewhere."
         return f"The mended split is in {visible(file)}."
 
     # ---- The job itself

@@ -5,6 +5,8 @@ from hashlib import sha256
 from html import escape
 from pathlib import Path
 
+from starting.pages import begins, opening
+
 from explaining.drawing.fills import DARK, THREADS
 from explaining.drawing.page import STYLE
 from explaining.names import KINDS
@@ -22,7 +24,8 @@ KIND_NAMES = {"int": 0, "cell": CELL, "lock": LOCK, "tid": TID, "sem": SEM, "rwl
 SAID = (
     "DOES", "MAKES_A_CELL", "MAKES_A_THING", "OF_A_LOOP", "ON_A_LOOP", "BINDS", "TO_LINE", "WAITING", "STUCK", "ABOUT", "GOES_ON")
 MOST_LINES = 5000  # of a recorded order: a page keeps every state of it
-MARK = '<meta name="generator" content="racecheck try-orders"/>'
+TOOL = "try-orders"
+BEGINS = begins(TOOL)
 
 
 def script():
@@ -50,9 +53,8 @@ def text(title, job):
     look, does = style(), script()
     body = (HERE / "body.html").read_text(encoding="utf-8").format(title=escape(title), source=escape(job.source))
     return "\n".join([
-        "<!DOCTYPE html>", '<html lang="en">', "<head>", '<meta charset="utf-8"/>',
-        f'<meta http-equiv="Content-Security-Policy" content="{_allowed(look, does)}"/>',
-        '<meta name="viewport" content="width=device-width"/>', MARK, f"<title>{escape(title)}: try orders</title>",
+        *opening(TOOL), f'<meta http-equiv="Content-Security-Policy" content="{_allowed(look, does)}"/>',
+        f"<title>{escape(title)}: try orders</title>",
         f"<style>{look}</style>", "</head>", "<body>", body,
         f'<script type="application/json" id="job">{handed(job)}</script>', f"<script>{does}</script>", "</body>", "</html>", ""])
 

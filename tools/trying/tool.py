@@ -3,19 +3,18 @@ import os
 from typing import NamedTuple
 
 from starting.command import Failure, Usage, options, say, tell
-from starting.writing import spare, write
+from starting.files import PROGRAM, SPLIT, TRACE, files_of
+from starting.writing import Output, approve, write
 
 from explaining.forms import TRACE_BYTES
-from explaining.names import FILE as NAMES
 from explaining.names import Names, read_names
-from explaining.refusals import PROGRAM, SPLIT, TRACE
 from explaining.replays import order_of
 from explaining.running import CHECKING, find_program, run_in
 from explaining.sheets import read_sheet, sheet_of, steps_of
 from explaining.showing import grouped, visible
 from racing.confirming import Replay, race_lines
+from racing.finding import find
 from racing.orders import has_race
-from racing.search import Limits, search
 from racing.shown import Shown
 from racing.telling import alarm
 from stepping.machine import ROOM, Machine
@@ -49,7 +48,8 @@ def main(arguments):
     folder = folders[0]
     if not os.path.isdir(folder):
         raise Failure(f"no such folder: {visible(folder)}")
-    file = _page_file(folder, given.get("--page"))
+    output = Output("page", given.get("--page") or os.path.join(folder, PAGE), page.BEGINS)
+    approve([output], [*files_of(folder), *filter(None, [given.get("--trace")])])
     program, names = read_sheet(folder, PROGRAM), read_names(folder)
     if program is None:
         raise Failure(f"no {PROGRAM} that can be read in {visible(folder)}")
@@ -66,20 +66,9 @@ def main(arguments):
         say("try-orders: DISAGREEMENT with racereplay, see above")
         tell([f"{visible(folder)}: no page is written.", *alarm(objection)])
         return 3
-    write(file, page.text(visible(os.path.basename(os.path.abspath(folder))), job).encode("utf-8", "replace"), "page")
-    tell([f"{visible(folder)}: the page is {visible(file)}; open it in a browser.", *lines, *names.passed_over])
+    write(output, page.text(visible(os.path.basename(os.path.abspath(folder))), job).encode("utf-8", "replace"))
+    tell([f"{visible(folder)}: the page is {visible(output.path)}; open it in a browser.", *lines, *names.passed_over])
     return 0
-
-
-def _page_file(folder, asked):
-    """Where the page goes. An orders.html that is no such page is left as it is."""
-    file = asked or os.path.join(folder, PAGE)
-    spare(folder, (PROGRAM, SPLIT, TRACE, NAMES), file, "page")
-    if not asked and os.path.lexists(file):
-        kept = read_sheet(folder, PAGE)
-        if kept is None or page.MARK.encode() not in kept.text:
-            raise Failure(f"{visible(file)} is there already and is no page of try-orders; --page FILE writes elsewhere")
-    return file
 
 
 def _job(folder, program, names, replay, asked):
@@ -125,7 +114,7 @@ def _verdict(folder, machine, names, replay):
     if answer == "ACCEPT":
         return "racecheck accepts this job with its split: no order races, and that is proved.", None
     begins = f"racecheck refuses this pair ({answer})" if answer.startswith("REFUSE") else "No split of this job was judged here"
-    found = search(machine, Limits())
+    found = find(machine)
     if found.race is None:
         none = "all orders were searched, and none races; the search is not proved"
         return f"{begins}; {none if found.whole() else 'no race was found, and not all orders were searched'}.", None

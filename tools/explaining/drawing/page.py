@@ -2,6 +2,8 @@
 from html import escape
 from pathlib import Path
 
+from starting.pages import begins, opening
+
 from ..refusals import REFUSALS
 from ..telling import alarm, condition_line, maps_of
 from ..walk import past_the_lack, strides
@@ -9,6 +11,8 @@ from .holders import Holder
 from .fills import KEEPERS, colour_of, fill_of, patterns
 from .picture import Picture
 
+TOOL = "explain"
+BEGINS = begins(TOOL)
 FEW = 3  # locations whose fractions fit on one line of the walk
 BADGES = {
     "ACCEPT": ("accepted", "ACCEPTED"), "FILLED": ("accepted", "FILLED"), "UNREAD": ("none", "NOT READ"),
@@ -22,9 +26,7 @@ STYLE = Path(__file__).with_name("style.css").read_text(encoding="utf-8")
 def text(title, explanation):
     """The page of one pair."""
     pieces = [
-        "<!DOCTYPE html>", '<html lang="en">', "<head>", '<meta charset="utf-8"/>',
-        '<meta name="viewport" content="width=device-width"/>',
-        f"<title>{escape(title)}: {escape(explanation.answer)}</title>", f"<style>{STYLE}</style>", "</head>", "<body>",
+        *opening(TOOL), f"<title>{escape(title)}: {escape(explanation.answer)}</title>", f"<style>{STYLE}</style>", "</head>", "<body>",
         *_header(title, explanation), *_told(explanation),
     ]
     if explanation.sites:

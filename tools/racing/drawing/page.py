@@ -3,10 +3,14 @@ from html import escape
 from itertools import groupby
 from pathlib import Path
 
+from starting.pages import begins, opening
+
 from explaining.drawing.page import STYLE
 
 from .picture import Picture
 
+TOOL = "show-race"
+BEGINS = begins(TOOL)
 OWN_STYLE = Path(__file__).with_name("style.css").read_text(encoding="utf-8")
 
 
@@ -14,8 +18,7 @@ def text(title, shown, ending, borne_out):
     picture = Picture(shown, ending)
     facts = _facts(shown, ending, picture)
     return "\n".join([
-        "<!DOCTYPE html>", '<html lang="en">', "<head>", '<meta charset="utf-8"/>',
-        '<meta name="viewport" content="width=device-width"/>', f"<title>{escape(title)}: an order of its steps</title>",
+        *opening(TOOL), f"<title>{escape(title)}: an order of its steps</title>",
         f"<style>{STYLE}\n{OWN_STYLE}\n{_paper(picture, len(facts))}</style>", "</head>", "<body>",
         "<header>", f'<div><h1>{escape(title)}</h1><p class="meaning">{escape(ending.sentence())}</p></div>',
         f'<div><div class="badge {"refused" if ending.grave else "none"}">{ending.badge}</div></div>', "</header>",
