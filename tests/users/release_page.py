@@ -122,6 +122,18 @@ def check_program_parts(desk, shared):
     check("a library and a program that part", told, (2, True, True))
 
 
+def check_fault(desk, environment):
+    """A fault of what decides is told with the pair, and its answer stays."""
+    deciding = desk.scratch / "house" / "tools" / "triaging" / "deciding.py"
+    kept = deciding.read_text()
+    deciding.write_text(kept + "\n\ndef decide(*_):\n    raise TypeError('broken')\n")
+    done = desk.run("jobs", "report", tool=desk.scratch / "house" / "tools" / "check-release", decide="5", **environment)
+    text = (desk.scratch / "report").read_text()
+    told = done.returncode, text.count("by a fault of check-release: TypeError: broken"), "count\tREFUSE\t3\n" in text
+    check("a fault of what decides", told, (2, 3, True))
+    deciding.write_text(kept)
+
+
 def check_no_programs(desk, shared):
     """Where the programs that decide are not there, the pairs are judged all the same."""
     shutil.rmtree(desk.scratch / "house" / "target")
@@ -155,6 +167,7 @@ def check_release_page(programs):
         shared = shared_library(desk.scratch)
         if shared:
             check_program_parts(desk, shared)
+            check_fault(desk, environment)
             check_no_programs(desk, shared)
         signal.signal(signal.SIGTERM, signal.SIG_DFL)
         check_stopped(desk)

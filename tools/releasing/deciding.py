@@ -3,7 +3,7 @@ import os
 import re
 from typing import NamedTuple
 
-from starting.command import Failure
+from starting.command import Failure, fault
 from starting.writing import replace
 
 from explaining.drawing import page as pair_page
@@ -20,7 +20,7 @@ from stepping.program import Steps
 from triaging.deciding import decide, found_programs
 
 from .entries import DISAGREEMENT
-from .reading import read_pair
+from .reading import Unfit, read_pair
 
 LETTERS = 40  # of a pair's name in the names of its files
 
@@ -35,17 +35,19 @@ class Deciding(NamedTuple):
     folder: str = ""  # where pages are put; empty if none are wanted
 
     def decided(self, task):
-        """A pair's entry, which comes with its number, with the decision and its pages."""
+        """A pair's entry, which comes with its number, with the decision and its pages. What goes wrong is told; the answer stays."""
         number, entry = task
         folder = os.path.join(self.release, entry.name)
-        entry = self._with_decision(entry, folder) if self.programs and entry.kind() == "REFUSE" else entry
-        return entry._replace(pages=tuple(self._pages(number, entry, folder))) if self.folder else entry
+        try:
+            entry = self._with_decision(entry, folder) if self.programs and entry.kind() == "REFUSE" else entry
+            return entry._replace(pages=tuple(self._pages(number, entry, folder))) if self.folder else entry
+        except (Failure, Unfit) as error:
+            return entry._replace(details=(*entry.details, f"no decision or page: {error}"))
+        except Exception as error:  # a fault of the tools is told and stops nothing
+            return entry._replace(details=(*entry.details, f"no decision or page, by a fault of check-release: {fault(error)}"))
 
     def _with_decision(self, entry, folder):
-        try:
-            decision = decide(folder, self.programs, Limits(seconds=self.seconds))
-        except Failure as error:
-            return entry._replace(details=(*entry.details, f"no decision: {error}"))
+        decision = decide(folder, self.programs, Limits(seconds=self.seconds))
         if decision.answer != entry.answer:
             parts = f"the {self.judge.kind} answered {entry.answer}, {self.programs.racecheck} {decision.answer}"
             return entry._replace(details=(f"*** {DISAGREEMENT}: {parts} ***", *entry.details), alarming=True)
