@@ -1,11 +1,13 @@
 """The module for scripts in Python: the examples of docs/PYTHON.md, the header that it follows, several threads, and no library."""
 import ctypes
+import inspect
 import os
 import re
 import subprocess
 import sys
 import tempfile
 import threading
+import typing
 from pathlib import Path
 
 import racecheck
@@ -29,6 +31,15 @@ def check_declared():
     check("the module has the calls of the header", library.ENTRIES, wanted)
     defined = dict(re.findall(r"#define (RACECHECK_\w+) (\d+)", HEADER.read_text()))
     check("the module has the sizes of the header", {name: int(defined[name]) for name in NUMBERS}, NUMBERS)
+
+
+def check_typed():
+    """Every call says what it takes and gives."""
+    calls = [racecheck.check, racecheck.drill, racecheck.fill, racecheck.replay, racecheck.find_library]
+    calls += [getattr(library.Library, name) for name in ("__init__", "check", "drill", "fill", "replay")]
+    for call in calls:
+        taken = set(inspect.signature(call).parameters) - {"self"} | {"return"}
+        check(f"{call.__qualname__} has its types", set(typing.get_type_hints(call)), taken)
 
 
 def check_page(shared):
@@ -107,6 +118,7 @@ def check_none(scratch):
 
 def check_scripts(programs):
     check_declared()
+    check_typed()
     with tempfile.TemporaryDirectory() as scratch:
         shared = shared_library(Path(scratch))
         if shared:
