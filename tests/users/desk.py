@@ -7,6 +7,8 @@ from explaining.showing import visible
 
 TOOLS = HOUSE / "tools"
 TOOL = TOOLS / "check-release"
+# A pair that is accepted, with what the report says below it.
+GOOD = ("P,1|int,0|", "C,1,1,1,1|int,0,0|0|0,0,|", "ACCEPT", [])
 NAMES = [
     "job {:03}", "job {:03}-b", "job-{:03}", "{:03} pump  and stirrer ", "refill's \"{:03}\" $x *", "-{:03}", "screen\\n{:03}",
     "Füllstand {:03}",
@@ -28,7 +30,7 @@ def make_release(folder, count, kinds):
 def wanted_counts(entries):
     answers = [answer for _, answer, _ in entries]
     refusals = [int(a.split(",")[1]) for a in answers if a.startswith("REFUSE")]
-    counts = [("ACCEPT", answers.count("ACCEPT")), ("REFUSE", len(refusals))]
+    counts = [("DISAGREEMENT", 0), ("ACCEPT", answers.count("ACCEPT")), ("REFUSE", len(refusals))]
     counts += [(f"REFUSE,{n}", refusals.count(n)) for n in sorted(set(refusals))]
     counts += [("UNREAD", answers.count("UNREAD")), ("FAILED", answers.count("FAILED"))]
     return "".join(f"count\t{answer}\t{count}\n" for answer, count in counts)
@@ -45,6 +47,11 @@ def wanted_body(entries):
     return text
 
 
+def counts_in(output):
+    """The counts that were printed."""
+    return "".join(line for line in output.splitlines(keepends=True) if line.startswith("count\t"))
+
+
 def record_of(report):
     """What a report says was judged by what."""
     return dict(line.split("\t")[1:] for line in report.splitlines() if line.startswith("record\t"))
@@ -58,7 +65,7 @@ def body_of(report):
 
 def digests_of(report):
     """The lines of a report that sha256sum would write."""
-    return report.partition("\nSHA-256 of the sheets")[2].splitlines()[1:]
+    return report.partition("\nSHA-256 of the sheets, ")[2].partition("\n\n")[0].splitlines()[1:]
 
 
 def wanted_digests(release, entries):
@@ -66,8 +73,14 @@ def wanted_digests(release, entries):
     for name, _, _ in entries:
         for sheet in ("program.txt", "split.txt"):
             path = release / name / sheet
-            lines += [f"{hashlib.sha256(path.read_bytes()).hexdigest()}  {visible(name)}/{sheet}"] if path.is_file() else []
+            lines += [sum_line(path, f"{name}/{sheet}")] if path.is_file() else []
     return lines
+
+
+def sum_line(path, name):
+    """As sha256sum writes it."""
+    digest = hashlib.sha256(path.read_bytes()).hexdigest()
+    return f"\\{digest}  {name}".replace(name, name.replace("\\", "\\\\")) if "\\" in name else f"{digest}  {name}"
 
 
 class Desk:
@@ -78,10 +91,11 @@ class Desk:
         self.temporary = scratch / "temporary"
         self.temporary.mkdir()
 
-    def start(self, *arguments, tool=TOOL, before=(), output=subprocess.PIPE, error=subprocess.PIPE, **environment):
+    def start(self, *arguments, tool=TOOL, before=(), output=subprocess.PIPE, error=subprocess.PIPE, decide="0", **environment):
         environment = user_environment(TMPDIR=self.temporary, **environment)
+        decided = ["--decide", decide] if decide and tool.name == TOOL.name else []
         return subprocess.Popen(
-            [*before, tool, *arguments], cwd=self.scratch, env=environment, stdin=subprocess.DEVNULL, stdout=output,
+            [*before, tool, *decided, *arguments], cwd=self.scratch, env=environment, stdin=subprocess.DEVNULL, stdout=output,
             stderr=error, text=True)
 
     def run(self, *arguments, **how):

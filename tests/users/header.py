@@ -6,7 +6,9 @@ import subprocess
 import tempfile
 from pathlib import Path
 
-from checks import HOUSE, check
+from checks import HOUSE, check, user_environment
+from installing.shared import COMPILERS, make_shared
+from racecheck.finding import NAME
 
 HEADER = HOUSE / "include" / "racecheck.h"
 ENTRIES = HOUSE / "crates" / "entries" / "src" / "lib.rt"
@@ -37,20 +39,29 @@ def library():
     return Path(os.environ.get("RACECHECK_LIB_DIR") or HOUSE / "target" / "staticlib") / "libentries.a"
 
 
+def shared_library(folder):
+    """The shared library, made of the static one in a folder; None where it cannot be made."""
+    if not library().exists() or not any(map(shutil.which, COMPILERS)):
+        print(f"users: no {'C compiler' if library().exists() else library()}, so that the shared library is not tried")
+        return None
+    if not (folder / NAME).exists():
+        make_shared(library(), folder / NAME)
+    return folder / NAME
+
+
 def compile_with(compiler, *arguments):
     command = [compiler, "-Wall", "-Wextra", "-Wpedantic", "-Werror", *map(str, arguments)]
     return subprocess.run(command, capture_output=True, text=True)
 
 
-def check_linked(compiler, include, archive):
+def check_linked(compiler, *flags, **environment):
     """A program in C, compiled with the header and linked with the library, as a caller does it."""
     with tempfile.TemporaryDirectory() as scratch:
         program = Path(scratch) / "calls"
-        done = compile_with(
-            compiler, "-std=c11", f"-I{include}", HOUSE / "tests" / "users" / "calls.c", archive, "-pthread", "-o", program)
+        done = compile_with(compiler, "-std=c11", HOUSE / "tests" / "users" / "calls.c", *flags, "-pthread", "-o", program)
         check("calls in C: compiled and linked", (done.returncode, done.stderr), (0, ""))
         if done.returncode == 0:
-            ran = subprocess.run([program], capture_output=True, text=True)
+            ran = subprocess.run([program], env=user_environment(**environment), capture_output=True, text=True)
             stacks = [int(words.split()[1]) for words in ran.stdout.splitlines() if words.startswith("stack")]
             check("calls in C: what they return", (ran.returncode, len(stacks), "wrong" in ran.stdout), (0, 2, False))
             check("calls in C: stack", max(stacks, default=0) <= 81 * KILOBYTE + 8 * KILOBYTE, True)  # with the thread's own
@@ -65,4 +76,4 @@ def check_header():
     for language in ("c", "c++"):
         done = compile_with(compiler, "-fsyntax-only", "-x", language, HEADER)
         check(f"the header as {language}", (done.returncode, done.stderr), (0, ""))
-    check_linked(compiler, HOUSE / "include", library())
+    check_linked(compiler, f"-I{HOUSE / 'include'}", library())

@@ -1,12 +1,14 @@
-"""tools/install: what it puts in place works from there, and the man pages come out without a warning."""
+"""tools/install: what it puts in place works from there, and so does the archive elsewhere; the man pages come out without a warning."""
 import os
+import shlex
 import shutil
 import subprocess
+import sys
 import tempfile
 from pathlib import Path
 
 from checks import HOUSE, check, contents, user_environment
-from header import check_linked, library
+from header import check_linked, declared, library
 from installing.manual import manual_pages
 
 COMMANDS = ["check-release", "draw-faults", "explain", "fill", "racecheck", "racedrill", "racefill", "racereplay", "show-race", "triage", "try-orders"]
@@ -20,15 +22,12 @@ def make_house(place, programs):
     for path in programs:
         shutil.copy(path, place / "target" / "bin")
     (place / "target" / "staticlib").mkdir()
-    if library().exists():
-        shutil.copy(library(), place / "target" / "staticlib")
-    else:
-        (place / "target" / "staticlib" / "libentries.a").write_bytes(b"")
+    shutil.copy(library(), place / "target" / "staticlib")
 
 
-def install(house, prefix):
+def install(house, *arguments):
     return subprocess.run(
-        [house / "tools" / "install", prefix], env=user_environment(), stdin=subprocess.DEVNULL, capture_output=True, text=True)
+        [house / "tools" / "install", *arguments], env=user_environment(), stdin=subprocess.DEVNULL, capture_output=True, text=True)
 
 
 def run(prefix, command, *arguments, cwd):
@@ -64,14 +63,83 @@ def check_commands(prefix, scratch):
     done = run(prefix, "check-release", examples, cwd=scratch)
     check("installed: check-release", (done.returncode, "count\tFAILED\t0" in done.stdout), (1, True))
     record = (scratch / "release-report.txt").read_text()
-    check("installed: whose racecheck", f"record\tchecker\t{prefix.resolve()}/lib/racecheck/bin/racecheck\n" in record, True)
+    check("installed: what judges", f"record\tchecker\t{prefix.resolve()}/lib/libracecheck.so\n" in record, True)
     done = subprocess.run([prefix / "bin" / "explain", "--version"], env=user_environment(), capture_output=True, text=True)
     check("installed: explain by its path", done.returncode, 0)
     pages = {path.name for path in (prefix / "share" / "doc" / "racecheck").glob("*.md")}
     check("installed: the pages", {path.name for path in (HOUSE / "docs").glob("*.md")} - pages, set())
+
+
+def check_libraries(prefix):
+    """Both libraries for C, one by pkg-config, and the module for Python."""
     compiler = shutil.which("cc")
-    if compiler and library().exists():
-        check_linked(compiler, prefix / "include", prefix / "lib" / "libracecheck.a")
+    check_linked(compiler, f"-I{prefix / 'include'}", prefix / "lib" / "libracecheck.a")
+    if shutil.which("pkg-config"):
+        environment = user_environment(PKG_CONFIG_PATH=prefix / "lib" / "pkgconfig")
+        done = subprocess.run(["pkg-config", "--cflags", "--libs", "racecheck"], env=environment, capture_output=True, text=True)
+        check("installed: pkg-config", (done.returncode, done.stderr), (0, ""))
+        check_linked(compiler, *shlex.split(done.stdout), LD_LIBRARY_PATH=prefix / "lib")
+    else:
+        print("users: no pkg-config here, so that its file is read is not tried")
+    seen = subprocess.run(["nm", "-D", "--defined-only", prefix / "lib" / "libracecheck.so"], capture_output=True, text=True).stdout
+    check("installed: what the shared library shows", sorted(line.split()[-1] for line in seen.splitlines()), sorted(declared()))
+    script = "import racecheck; print(racecheck.drill(0), racecheck.find_library())"
+    done = subprocess.run([sys.executable, "-B", "-c", script], env=user_environment(PYTHONPATH=prefix / "lib" / "python"),
+                          capture_output=True, text=True)
+    check("installed: the module", done.stdout, f"DRILL,1013904223,162,162 {prefix.resolve()}/lib/libracecheck.so\n")
+
+
+# ---- The archive
+
+
+def check_archive(house, scratch):
+    """One file, the same each time, which somebody else unpacks elsewhere and uses with nothing of the kit."""
+    files = [scratch / "one.tar.gz", scratch / "two.tar.gz"]
+    for file in files:
+        done = install(house, "--archive", file)
+        check(f"install --archive {file.name}", (done.returncode, done.stderr), (0, ""))
+    check("archives of the same files are the same", files[0].read_bytes() == files[1].read_bytes(), True)
+    done = install(house, "--archive", files[0])
+    check("an archive is not written over", (done.returncode, "is there already" in done.stderr), (2, True))
+    place = scratch / "elsewhere"
+    place.mkdir()
+    scratch.chmod(0o755)
+    who = another_user(place)
+    house.rename(scratch / "house, put away")
+
+    def used(*command, cwd=place):
+        """A command of somebody who has the archive, and nothing else."""
+        environment = ["env", "-i", f"PATH={place}/racecheck/bin:/usr/bin:/bin", f"HOME={place}"]
+        return subprocess.run([*who, *environment, *command], cwd=cwd, stdin=subprocess.DEVNULL, capture_output=True, text=True)
+
+    done = used("tar", "-xzf", str(files[0]))
+    check("unpacked", (done.returncode, done.stderr, os.listdir(place)), (0, "", ["racecheck"]))
+    examples = place / "racecheck" / "lib" / "racecheck" / "examples"
+    check("unpacked: racecheck", used("racecheck", cwd=examples / "join-race").stdout, "REFUSE,33,13,5,0\n")
+    done = used("check-release", "--page", "pages", str(examples), "report")
+    check("unpacked: check-release", (done.returncode, "count\tFAILED\t0" in done.stdout), (1, True))
+    check("unpacked: what judges", f"record\tchecker\t{place}/racecheck/lib/libracecheck.so\n" in (place / "report").read_text(), True)
+    check("unpacked: its page", len(list((place / "pages").glob("release-*/pairs/*-race.html"))) >= 5, True)
+    for command, said in [("explain", "REFUSE,33,13,5,0"), ("show-race", "This job can race."), ("triage", "The job races")]:
+        done = used(command, str(examples / "join-race"))
+        check(f"unpacked: {command}", (done.returncode, said in done.stdout), (1, True))
+    done = used("env", f"PYTHONPATH={place}/racecheck/lib/python", "python3", "-B", "-c", "import racecheck; print(racecheck.drill(0))")
+    check("unpacked: the module", done.stdout, "DRILL,1013904223,162,162\n")
+    (scratch / "house, put away").rename(house)
+
+
+def another_user(place):
+    """In front of a command: what runs it as nobody, who gets the folder. Nothing, where that cannot be done."""
+    who = ["setpriv", "--reuid=65534", "--regid=65534", "--clear-groups"]
+    if os.geteuid() == 0 and shutil.which("setpriv"):
+        os.chown(place, 65534, 65534)
+        command = ["env", "-i", "PATH=/usr/bin:/bin", "python3", "-c", "import os; os.listdir('.')"]
+        tried = subprocess.run([*who, *command], cwd=place, capture_output=True)
+        if tried.returncode == 0:
+            return who
+        os.chown(place, 0, 0)
+    print("users: nobody has no Python here, or cannot be asked, so that the archive is used by another user is not tried")
+    return []
 
 
 def check_manual(prefix):
@@ -90,6 +158,25 @@ def check_manual(prefix):
         wanted = ["NAME", "SYNOPSIS", "DESCRIPTION", "EXIT STATUS", "SEE ALSO"] + ["FILES"] * page.startswith("race")
         lacks = [title for title in wanted if f"\n{title}\n" not in done.stdout]
         check(f"man -l {page}", (done.returncode, done.stderr, lacks), (0, "", []))
+
+
+def check_shared(house):
+    """In the repository: the library is made where the tools find it, and is not used once the archive is newer."""
+    check("no library in the repository", judged_by(house)[0], "bin/racecheck")
+    done = install(house, "--library")
+    check("install --library", (done.returncode, done.stderr), (0, ""))
+    check("the library of the repository", judged_by(house)[0], "staticlib/libracecheck.so")
+    os.utime(house / "target" / "staticlib" / "libentries.a", (4e9, 4e9))
+    checker, said = judged_by(house)
+    check("a library that is too old", (checker, "older than the archive" in said), ("bin/racecheck", True))
+
+
+def judged_by(house):
+    """What check-release of a repository judges by, below its target, and what it says beside."""
+    environment = user_environment(RACECHECK="", RACECHECK_LIBRARY="")
+    command = [house / "tools" / "check-release", "--decide", "0", house / "examples", "/dev/stdout"]
+    done = subprocess.run(command, env=environment, stdin=subprocess.DEVNULL, capture_output=True, text=True)
+    return done.stdout.partition("record\tchecker\t")[2].partition("\n")[0].partition("/target/")[2], done.stderr
 
 
 def check_again(house, prefix):
@@ -117,5 +204,8 @@ def check_install(programs):
         work = Path(scratch) / "work"
         work.mkdir()
         check_commands(prefix, work)
+        check_libraries(prefix)
         check_manual(prefix)
+        check_archive(house, Path(scratch))
+        check_shared(house)
         check_again(house, prefix)

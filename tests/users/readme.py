@@ -1,4 +1,4 @@
-"""The commands that README.md shows, as they are written there: they run, and write what is shown below them."""
+"""The commands that README.md and docs/RELEASES.md show, as they are written there: they run, and write what is shown below them."""
 import re
 import subprocess
 import tempfile
@@ -50,3 +50,13 @@ def check_readme(programs):
             check(f"README.md, {command}: status", done.returncode in (0, 1), True)
             if lines:
                 check(f"README.md, {command}", done.stdout.splitlines(), lines)
+        check_releases(house)
+
+
+def check_releases(house):
+    """Those of docs/RELEASES.md, one after the other: some examples race, and nothing is worse than the time before."""
+    commands = re.findall(r"^    (tools/.*)$", (HOUSE / "docs" / "RELEASES.md").read_text(), re.M)
+    ended = [subprocess.run(
+        ["bash", "-c", command], cwd=house, env=user_environment(RACECHECK="", RACEFILL="", RACEREPLAY=""), stdin=subprocess.DEVNULL,
+        capture_output=True).returncode for command in commands]
+    check("RELEASES.md, its commands", ended, [1, 0])

@@ -1,18 +1,16 @@
-"""A release on record: what check-release says was judged by what, its second look, odd entries, manifests, and other forms."""
+"""A release on record: what check-release says was judged by what, its second look, odd entries, links and manifests."""
 import hashlib
-import json
 import os
 import shutil
 import subprocess
 import tempfile
 import time
 from pathlib import Path
-from xml.etree import ElementTree
 
 from checks import HOUSE, check, make_pair
 from desk import TOOLS, Desk, body_of, digests_of, make_release, record_of, wanted_body
 from explaining.showing import visible
-from release import GOOD, KINDS
+from release import GOOD, KINDS, judges
 from starting.version import version
 
 ESCAPE = "red \x1b[31m"
@@ -36,11 +34,17 @@ def check_record(desk, binary):
     check("the record's date", abs(age) < 600, True)
     check("the record's second look", record["second look"].startswith("2 accepted pairs, all found the same, 0."), True)
     check("the entry of a refused pair", body_of(report_text(desk)).count("who looks first: owner of the program"), 2)
+    check_sums(desk, "four", 8)
+
+
+def check_sums(desk, release, count):
+    """sha256sum finds the sheets of a report unchanged."""
+    lines = digests_of(report_text(desk))
+    check(f"digests of {release}", len(lines), count)
     if shutil.which("sha256sum"):
-        sums = "\n".join(digests_of(report_text(desk))) + "\n"
-        command = ["sha256sum", "--check", "--quiet"]
-        done = subprocess.run(command, input=sums.encode(), cwd=desk.scratch / "four", capture_output=True)
-        check("sha256sum on the report's digests", (done.returncode, done.stdout), (0, b""))
+        command, sums = ["sha256sum", "--check", "--quiet", "--strict"], "".join(f"{line}\n" for line in lines)
+        done = subprocess.run(command, input=sums.encode(), cwd=desk.scratch / release, capture_output=True)
+        check(f"sha256sum on the digests of {release}", (done.returncode, done.stdout, done.stderr), (0, b"", b""))
 
 
 def check_second_look(desk, binary):
@@ -60,9 +64,13 @@ def check_second_look(desk, binary):
     check("without the second look", (done.returncode, record_of(report_text(desk))["second look"]), (0, "none"))
     entries = make_release(desk.scratch / "many false", MANY, [GOOD, KINDS[3], KINDS[2]])
     done = desk.run("many false", "report", RACECHECK=yes)
-    accepted = body_of(report_text(desk)).partition(f"\nAccepted: {MANY}\n")[2].replace("\n    ", " ").splitlines()
-    told = [(line.partition("\t")[0], "*** DISAGREEMENT" in line) for line in accepted]
-    check("many pairs, all accepted", told, [(visible(name), answer != "ACCEPT") for name, answer, _ in entries])
+    parts = [name for name, answer, _ in entries if answer != "ACCEPT"]
+    counts = f"count\tDISAGREEMENT\t{len(parts)}\ncount\tACCEPT\t{MANY - len(parts)}\n"
+    body = body_of(report_text(desk))
+    check("disagreements are counted first", (done.stdout.startswith(counts), body.startswith(counts)), (True, True))
+    first = body.partition(f"\n\nDisagreements: {len(parts)}\n")[2].partition("\n\n")[0].replace("\n    ", " ")
+    told = [line.partition("\t")[0] for line in first.splitlines() if "*** DISAGREEMENT" in line]
+    check("disagreements stand first", told, [visible(name) for name in parts])
 
 
 def check_odd_entries(desk, binary):
@@ -83,21 +91,58 @@ def check_odd_entries(desk, binary):
     entries.sort(key=lambda entry: os.fsencode(entry[0]))
     check("odd entries: report", body_of(report_text(desk)), wanted_body(entries))
     check("odd entries: status", done.returncode, 2)
+    check_sums(desk, "odd", 6)
+    unprintable = report_text(desk).partition("not for sha256sum: 4\n")[2].splitlines()
+    check("odd entries: names that do not print", [line[66:] for line in unprintable], [
+        f"{visible(name)}/{sheet}" for name in (ESCAPE, "\udcff") for sheet in ("program.txt", "split.txt")])
     written = report_text(desk) + done.stdout + done.stderr
     check("odd entries: no control byte is written", [c for c in written if not c.isprintable() and c not in "\n\t"], [])
 
 
 def check_unsteady(desk):
-    """A sheet that is no plain file, or that changes under racecheck, is told as such and no disagreement."""
+    """A sheet that changes under racecheck is told as such, and is no disagreement."""
     make_pair(desk.scratch / "unsteady" / "changed", *GOOD[:2])
-    make_pair(desk.scratch / "unsteady" / "device", *GOOD[:2])
-    (desk.scratch / "unsteady" / "device" / "split.txt").unlink()
-    (desk.scratch / "unsteady" / "device" / "split.txt").symlink_to("/dev/null")
-    done = desk.run("unsteady", "report", RACECHECK=desk.binary("writer", "test -h split.txt || echo >> program.txt; echo ACCEPT"))
+    done = desk.run("unsteady", "report", RACECHECK=desk.binary("writer", "echo >> program.txt; echo ACCEPT"))
     text = report_text(desk)
-    check("unsteady sheets: status", (done.returncode, "count\tFAILED\t2" in done.stdout, "DISAGREEMENT" in text), (2, True, False))
+    told = done.returncode, "count\tFAILED\t1" in done.stdout, "*** DISAGREEMENT" in text
+    check("an unsteady sheet: status", told, (2, True, False))
     check("a sheet that changed", "program.txt has changed since racecheck read it" in text, True)
-    check("a sheet that is no plain file", "split.txt is no plain file" in text, True)
+
+
+def check_links(desk, judged):
+    """A sheet that is a link is followed within the release and within its own folder; what is outside is not quoted."""
+    release, outside = desk.scratch / "linked", desk.scratch / "elsewhere"
+    for folder in (release / "own", release / "shared", release / "outside", outside):
+        make_pair(folder, *KINDS[3][:2])
+    (outside / "program.txt").write_text("secret,0\n")
+    (release / "shared" / "program.txt").unlink()
+    (release / "shared" / "program.txt").symlink_to("../own/program.txt")
+    (release / "outside" / "program.txt").unlink()
+    (release / "outside" / "program.txt").symlink_to(outside / "program.txt")
+    (release / "nowhere").mkdir()
+    (release / "nowhere" / "program.txt").symlink_to("nothing")
+    (release / "whole").symlink_to(outside)
+    desk.run("linked", "report", **judged)
+    answers = dict(line.split("\t") for line in body_of(report_text(desk)).splitlines() if line.count("\t") == 1)
+    wanted = {"own": KINDS[3][2], "shared": KINDS[3][2], "outside": "FAILED", "nowhere": "UNREAD", "whole": "REFUSE,11,1,0,0"}
+    check("links: answers", answers, wanted)
+    told = body_of(report_text(desk)).partition("\noutside\tFAILED\n")[2].partition("\n")[0]
+    check("links: what is said", "program.txt is a link that leads out of the release" in told, True)
+    shutil.rmtree(release)
+    shutil.rmtree(outside)
+
+
+def check_long(desk, judged):
+    """A sheet that is far too long is not read to its end: it has an answer at once and no digest."""
+    release = desk.scratch / "long sheet"
+    make_pair(release / "long", *GOOD[:2])
+    with open(release / "long" / "program.txt", "r+b") as file:
+        file.truncate(1 << 36)
+    begun = time.monotonic()
+    desk.run("long sheet", "report", **judged)
+    check("a sheet of 64 GiB", ("\nlong\tREFUSE,10,0,0,0\n" in report_text(desk), time.monotonic() - begun < 20), (True, True))
+    check("a sheet of 64 GiB: digests", [line[66:] for line in digests_of(report_text(desk))], ["long/split.txt"])
+    shutil.rmtree(release)
 
 
 def tools_that(desk, what, line):
@@ -115,79 +160,66 @@ def check_own_fault(desk, binary):
     tools = tools_that(desk, "break", "raise TypeError('broken')")
     done = desk.run("four", "report", tool=tools / "check-release", RACECHECK=binary)
     text = report_text(desk)
-    check("a fault of check-release", (done.returncode, text.count("TypeError: broken"), "DISAGREEMENT" in text), (2, 4, False))
+    check("a fault of check-release", (done.returncode, text.count("TypeError: broken"), "*** DISAGREEMENT" in text), (2, 4, False))
     done = desk.run(HOUSE / "examples" / "join-race", tool=tools / "explain", RACECHECK=binary)
     said = ["TypeError: broken" in done.stderr, "DISAGREEMENT" in done.stderr]
     check("a fault of explain", (done.returncode, said), (2, [True, False]))
 
 
-def check_lost(desk, binary):
+def check_lost(desk, judged):
     """A process of the tool's own that is ended, as one that takes too much memory is: its pair is FAILED, the others are done."""
     tools = tools_that(desk, "die", "b'65535' in program.text and __import__('os').kill(__import__('os').getpid(), 9)")
     entries = make_release(desk.scratch / "deadly", MANY, [GOOD, KINDS[1], KINDS[3]])
     lost = "FAILED", ["There is no answer: the process that was at it ended with status -9."]
     wanted = [(name, *(lost if (desk.scratch / "deadly" / name / "program.txt").read_text() == "P,1\nint,65535\n" else rest))
               for name, *rest in entries]
-    done = desk.run("deadly", "report", tool=tools / "check-release", RACECHECK=binary)
+    done = desk.run("deadly", "report", tool=tools / "check-release", **judged)
     check("processes that are ended: report", body_of(report_text(desk)), wanted_body(wanted))
     check("processes that are ended: status", (done.returncode, f"count\tFAILED\t{MANY // 3}\n" in done.stdout), (2, True))
+    shutil.rmtree(desk.scratch / "deadly")
+    shutil.rmtree(desk.scratch / "die")
 
 
 def check_manifest(desk, binary):
-    """A pair that is missing is FAILED; a name is spelled as the report spells it."""
-    release = desk.scratch / "listed"
-    for name in ["one", ESCAPE]:
+    """A pair that is missing is FAILED, one that is not named is told; a name is spelled as the report or sha256sum spells it."""
+    release, slashed = desk.scratch / "listed", "back\\slash"
+    for name in ["one", ESCAPE, slashed]:
         make_pair(release / name, *GOOD[:2])
     manifest = desk.scratch / "manifest"
-    manifest.write_text(f"one\n{visible(ESCAPE)}\n")
-    done = desk.run("--manifest", "manifest", "listed", "report", RACECHECK=binary)
-    check("a manifest that is met", (done.returncode, record_of(report_text(desk)).get("manifest")), (0, "manifest"))
+    for spelled in (visible(slashed), "\\back\\\\slash"):
+        manifest.write_text(f"one\n{visible(ESCAPE)}\n{spelled}\n")
+        done = desk.run("--manifest", "manifest", "listed", "report", RACECHECK=binary)
+        check(f"a manifest with {spelled}", (done.returncode, record_of(report_text(desk)).get("manifest")), (0, "manifest"))
     manifest.write_text("one\nmissing\n")
     done = desk.run("--manifest", "manifest", "listed", "report", RACECHECK=binary)
     told = "\nmissing\tFAILED\n    There is no answer: the manifest names it, and there is no such folder.\n"
     check("a pair that the manifest misses", (done.returncode, told in report_text(desk)), (2, True))
-    for what, text in [("a path in a manifest", "../four\n"), ("a manifest that is a folder", None)]:
+    lists = (f"\nIn the manifest and not in the release: 1\nmissing\n\nIn the release and not in the manifest: 2\n{visible(slashed)}\n"
+             f"{visible(ESCAPE)}\n")
+    check("what only one of them has", (lists in report_text(desk), lists in done.stdout), (True, True))
+    for what, text, message in [
+        ("a path in a manifest", b"../four\n", "no pair's name: ../four"), ("an empty manifest", b"\n\n", "names no pair"),
+        ("a manifest with byte 13", b"one\r\nmissing\r\n", "byte 13 before the line's end, on 2 of 2 lines"),
+        ("a manifest with a mark", b"\xef\xbb\xbfone\n", "byte order mark"), ("a manifest that is a folder", None, "manifest"),
+    ]:
         manifest.unlink()
-        manifest.mkdir() if text is None else manifest.write_text(text)
+        manifest.mkdir() if text is None else manifest.write_bytes(text)
         done = desk.run("--manifest", "manifest", "listed", "unwritten", RACECHECK=binary)
-        check(what, (done.returncode, "manifest" in done.stderr, (desk.scratch / "unwritten").exists()), (2, True, False))
+        check(what, (done.returncode, message in done.stderr, (desk.scratch / "unwritten").exists()), (2, True, False))
 
 
-def check_servers(desk, binary):
-    """The same for programs: every pair with its answer and digests, as JSON and as XML."""
-    release = desk.scratch / "served"
-    for name, kind in [(ESCAPE, GOOD), ("<refused> & \"odd\"", KINDS[3]), ("unread", KINDS[6])]:
-        make_pair(release / name, *kind[:2])
-    done = desk.run("--json", "out.json", "--junit", "out.xml", "served", "report", RACECHECK=binary)
-    check("for servers: status", done.returncode, 2)
-    given = json.loads((desk.scratch / "out.json").read_text())
-    check("JSON: answers", {pair["name"]: pair["answer"] for pair in given["pairs"]}, {
-        visible(ESCAPE): "ACCEPT", "<refused> & \"odd\"": "REFUSE,14,2,0,0", "unread": "UNREAD"})
-    check("JSON: record", given["record"], record_of(report_text(desk)))
-    check("JSON: counts", given["counts"], {"ACCEPT": 1, "REFUSE": 1, "REFUSE,14": 1, "UNREAD": 1, "FAILED": 0})
-    digests = [f"{digest}  {pair['name']}/{sheet}" for pair in given["pairs"] for sheet, digest in pair["sha256"].items()]
-    check("JSON: digests", digests, digests_of(report_text(desk)))
-    suite = ElementTree.parse(desk.scratch / "out.xml").getroot()
-    check("JUnit: counts", [suite.get(what) for what in ("tests", "failures", "errors")], ["3", "1", "1"])
-    kinds = {case.get("name"): [child.tag for child in case] for case in suite.iter("testcase")}
-    check("JUnit: pairs", kinds, {visible(ESCAPE): [], "<refused> & \"odd\"": ["failure"], "unread": ["error"]})
-    check("JUnit: what is wrong", "variable 0 is bound by no line" in suite.find(".//failure").text, True)
-    done = desk.run("--json", "served/unread/x", "served", "unwritten", RACECHECK=binary)
-    check("JSON in a pair's folder", (done.returncode, "pair's folder" in done.stderr), (2, True))
-
-
-def check_time(desk, binary):
-    """400 pairs of ninety steps, the second look included, in a second and a half of two processors."""
+def check_time(desk, judged):
+    """400 pairs of ninety steps by the library: at most 0.4 s of processor, and 0.9 with the second look."""
     release = desk.scratch / "long"
     for number in range(400):
         shutil.copytree(HOUSE / "examples" / "refill", release / f"job {number}")
-    begun, before = time.monotonic(), os.times()
-    done = desk.run("long", "report", RACECHECK=binary)
-    after = os.times()
-    work = sum(getattr(after, kind) - getattr(before, kind) for kind in ("children_user", "children_system"))
-    look = float(record_of(report_text(desk))["second look"].split()[-2])
-    print(f"users: 400 pairs of 92 steps in {time.monotonic() - begun:.2f} s, {work:.2f} s of work, the second look {look:.2f} s")
-    check("400 long pairs", (done.returncode, work < 3 * SLACK, look < 1 * SLACK), (0, True, True))
+    for option, most in (("--no-recheck", 0.4), ("--recheck", 0.9)):
+        before = os.times()
+        done = desk.run(option, "long", "report", **judged)
+        after = os.times()
+        work = sum(getattr(after, kind) - getattr(before, kind) for kind in ("children_user", "children_system"))
+        print(f"users: 400 pairs of 92 steps, {option}: {work:.2f} s of processor")
+        check(f"400 long pairs, {option}", (done.returncode, work < most * SLACK), (0, True))
 
 
 SLACK = 4  # a machine that is busy or slow may take so many times as long
@@ -201,7 +233,9 @@ def check_records(binary):
         check_odd_entries(desk, binary)
         check_unsteady(desk)
         check_own_fault(desk, binary)
-        check_lost(desk, binary)
         check_manifest(desk, binary)
-        check_servers(desk, binary)
-        check_time(desk, binary)
+        for judged in judges(desk, binary):
+            check_links(desk, judged)
+            check_long(desk, judged)
+            check_lost(desk, judged)
+        check_time(desk, judged)

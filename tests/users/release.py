@@ -1,20 +1,20 @@
 """tools/check-release on generated releases, with the given racecheck and with ones that do not keep their word."""
 import os
+import pty
+import re
 import shutil
-import signal
-import subprocess
-import sys
 import tempfile
-import time
 from pathlib import Path
 
-from checks import check, contents, make_pair, user_environment
-from desk import TOOLS, Desk, body_of, digests_of, make_release, wanted_body, wanted_digests
+from checks import check, contents, make_pair
+from desk import (
+    GOOD, TOOLS, Desk, body_of, counts_in, digests_of, make_release, record_of, wanted_body, wanted_counts, wanted_digests)
+from ended import check_ended, start_deaf
+from header import shared_library
 
 Z = "C,1,1,1,1|int,0,0|0|0,0,|"
 
 # Programs and splits with their answers and what the report says below them.
-GOOD = ("P,1|int,0|", Z, "ACCEPT", [])
 KINDS = [
     GOOD,
     ("P,1|int,65535|", Z, "ACCEPT", []),
@@ -53,21 +53,53 @@ CAUSES = [
 ]
 
 
-def check_releases(desk, binary):
-    """Reports, counts, order and status of whole releases."""
+def judges(desk, binary):
+    """Each thing that can judge a release, as a variable of the environment."""
+    shared = shared_library(desk.scratch)
+    return [{"RACECHECK": binary}, *([{"RACECHECK": "", "RACECHECK_LIBRARY": shared}] if shared else [])]
+
+
+def check_releases(desk, judged):
+    """Reports, counts, order and status of whole releases. `judged` is by what, as variables of the environment."""
     release = desk.scratch / "a release"
     entries = make_release(release, 400, KINDS)
     before = contents(release)
-    done = desk.run("a release", RACECHECK=binary)
+    done = desk.run("a release", **judged)
     report = desk.scratch / "release-report.txt"
     check("400 pairs: report", body_of(report.read_text()), wanted_body(entries))
     check("400 pairs: digests", digests_of(report.read_text()), wanted_digests(release, entries))
-    counts = "ACCEPT 150, REFUSE 150, REFUSE,12 50, REFUSE,14 50, REFUSE,30 50, UNREAD 100, FAILED 0"
-    check("400 pairs: counts printed", ", ".join(" ".join(c.split("\t")[1:]) for c in done.stdout.splitlines()), counts)
+    check("400 pairs: counts printed", counts_in(done.stdout), wanted_counts(entries))
+    printed = ["\nNot accepted: 250\n", "\nand 230 more, in the report\n"]
+    check("400 pairs: the others printed", [words for words in printed if words not in done.stdout], [])
     check("400 pairs: status", done.returncode, 2)
     check("400 pairs: progress", "checked 400 of 400" in done.stderr, True)
     check("400 pairs: the folders are as they were", contents(release) == before, True)
+    by_what = "library" if "RACECHECK_LIBRARY" in judged else "program"
+    check("400 pairs: by what", record_of(report.read_text())["judged by"].startswith(f"the {by_what}, "), True)
+    shutil.rmtree(release)
+    report.unlink()
 
+
+def check_again(desk, binary):
+    """A report without a name takes a free one: the last is never written over."""
+    for number in range(3):
+        desk.run("two", RACECHECK=binary)
+    names = sorted(path.name for path in desk.scratch.glob("release-report*"))
+    check("reports without a name", names, ["release-report-2.txt", "release-report-3.txt", "release-report.txt"])
+
+
+def check_terminal(desk, binary):
+    """How far it is, on a terminal: one line that is written again, and closed."""
+    terminal, end = pty.openpty()
+    process = desk.start("two", "report", error=end, RACECHECK=binary)
+    os.close(end)
+    process.wait()
+    said = os.read(terminal, 4096).decode()
+    os.close(terminal)
+    check("progress on a terminal", bool(re.match(r"(\rchecked \d of 2)*\rchecked 2 of 2\r\n", said)), True)
+
+
+def check_small(desk, binary):
     for name, count, kinds, status in [("accepted", 9, [GOOD], 0), ("refused", 9, KINDS[:5], 1)]:
         entries = make_release(desk.scratch / name, count, kinds)
         report = desk.scratch / f"report of {name}"
@@ -112,10 +144,14 @@ def check_hindrances(desk, binary):
             before = ()
     if (release / "shut").exists():
         entries.append(("shut", "FAILED", ["There is no answer: the folder cannot be entered."]))
-    (release / "waits" / "program.txt").unlink()
-    os.mkfifo(release / "waits" / "program.txt")
+    make_pair(release / "pipe", *GOOD[:2])
+    (release / "pipe" / "program.txt").unlink()
+    os.mkfifo(release / "pipe" / "program.txt")
+    entries.append(("pipe", "FAILED", ["There is no answer: program.txt is no plain file."]))
     entries.append(("waits", "FAILED", ["There is no answer: no answer within 10 seconds."]))
-    process = desk.start("hindered", "hindered report", before=before, RACECHECK=binary)
+    entries.sort()
+    slow = desk.binary("waiting", f"case $PWD in */waits) exec sleep 30;; esac; exec '{binary}'")
+    process = desk.start("hindered", "hindered report", before=before, RACECHECK=slow)
 
     def finish():
         process.communicate()
@@ -127,69 +163,6 @@ def check_hindrances(desk, binary):
     return finish
 
 
-def check_stopped(desk):
-    """A run that is stopped leaves the old report and nothing else, and no racecheck goes on."""
-    report = desk.scratch / "old report"
-    under_way = desk.scratch / "under way"
-    slow = desk.binary("slow", f"echo $$ >> '{under_way}'; exec sleep 30")
-    for number in [signal.SIGTERM, signal.SIGINT, signal.SIGHUP]:
-        report.write_text("record\told\n")
-        under_way.unlink(missing_ok=True)
-        signal.signal(number, signal.SIG_DFL)  # the tool leaves alone what is ignored, as under nohup; this test may run there
-        process = desk.start("two", "old report", RACECHECK=slow)
-        _await(under_way)
-        begun = time.monotonic()
-        process.send_signal(number)
-        _, error = process.communicate()
-        check(f"stopped by {number.name}: status", process.returncode, 2)
-        check(f"stopped by {number.name}: at once", time.monotonic() - begun < 5, True)
-        check(f"stopped by {number.name}: message", "stopped" in error, True)
-        check(f"stopped by {number.name}: report", report.read_text(), "record\told\n")
-        check(f"stopped by {number.name}: what goes on", [pid for pid in under_way.read_text().split() if _goes_on(int(pid))], [])
-        desk.check_nothing_left(number.name)
-
-
-def _await(path):
-    begun = time.monotonic()
-    while not path.exists() and time.monotonic() - begun < 60:
-        time.sleep(0.05)
-
-
-def _goes_on(process):
-    try:
-        os.kill(process, 0)
-    except ProcessLookupError:
-        return False
-    return True
-
-
-def check_killed(desk):
-    """A tool that is killed leaves no process of its own behind, which would hold its standard error open."""
-    workers = desk.scratch / "workers"
-    make_release(desk.scratch / "many", 99, [GOOD])
-    process = desk.start("many", "unwritten", RACECHECK=desk.binary("lasting", f"echo $PPID >> '{workers}'; sleep 1; echo ACCEPT"))
-    _await(workers)
-    process.kill()
-    try:
-        process.communicate(timeout=9)
-        left = set()
-    except subprocess.TimeoutExpired:
-        left = set(workers.read_text().split())
-    check("killed: what is left", left, set())
-    for worker in left:
-        os.kill(int(worker), signal.SIGKILL)
-
-
-def check_late(desk):
-    """A run that starts while the others are ended ends with them."""
-    slow = desk.binary("late", "exec sleep 30")
-    script = "import sys; from explaining.running import run_in, stop_all; stop_all(); print(run_in(*sys.argv[1:]).answer)"
-    begun = time.monotonic()
-    done = subprocess.run(
-        [sys.executable, "-B", "-c", script, slow, desk.scratch], env=user_environment(PYTHONPATH=TOOLS), stdout=subprocess.PIPE)
-    check("a late run", (done.stdout, time.monotonic() - begun < 5), (b"FAILED\n", True))
-
-
 def check_outputs(desk, binary):
     """Counts or a report that cannot be written give status 2; what is no plain file is not replaced."""
     with open("/dev/full", "w") as full:
@@ -199,8 +172,10 @@ def check_outputs(desk, binary):
     check("counts to a full device", (done.returncode, "cannot write to standard output" in done.stderr), (2, True))
     done = desk.run("two", "report", before=["sh", "-c", 'exec "$@" >&-', "sh"], RACECHECK=binary)
     check("counts to a closed output", (done.returncode, "there is no standard output" in done.stderr), (2, True))
-    done = desk.run("two", "/dev/full", RACECHECK=binary)
+    done = desk.run("two", "/dev/full", "--json", "json beside", RACECHECK=binary)
     check("a report to a full device", (done.returncode, "cannot write the report" in done.stderr), (2, True))
+    check("the counts are told all the same", "count\tACCEPT\t2\n" in done.stdout, True)
+    check("and what else can be written is", (desk.scratch / "json beside").is_file(), True)
     check("the device is still there", Path("/dev/full").is_char_device(), True)
     done = desk.run("two", "/dev/stdout", RACECHECK=binary)
     check("a report to standard output", (done.returncode, done.stdout.count("count\tACCEPT\t2")), (0, 2))
@@ -214,6 +189,7 @@ def check_liar(desk):
     done = desk.run("two", "report", RACECHECK=desk.binary("liar", "echo REFUSE,32,2,2,0"))
     check("a lying binary: status", done.returncode, 2)
     check("a lying binary: report", (desk.scratch / "report").read_text().count("*** DISAGREEMENT"), 2)
+    check("a lying binary: counts", done.stdout.startswith("count\tDISAGREEMENT\t2\ncount\tACCEPT\t0\ncount\tREFUSE\t0\n"), True)
 
 
 def check_nonsense(desk):
@@ -227,9 +203,8 @@ def check_nonsense(desk):
     for name, script in scripts.items():
         done = desk.run("two", "report", RACECHECK=desk.binary(name, script))
         check(f"{name} binary: status", done.returncode, 2)
-        check(f"{name} binary: counts", done.stdout, "".join(f"count\t{a}\t{n}\n" for a, n in
-              [("ACCEPT", 0), ("REFUSE", 0), ("UNREAD", 0), ("FAILED", 2)]))
-        check(f"{name} binary: message", "racecheck failed on job 000" in done.stderr, True)
+        check(f"{name} binary: counts", counts_in(done.stdout), wanted_counts([("", "FAILED", [])] * 2))
+        check(f"{name} binary: message", "no answer for 2 of 2 pairs" in done.stderr, True)
     make_pair(desk.scratch / "one" / "job", *KINDS[3][:2])
     done = desk.run("one", "report", RACECHECK=desk.binary("honest", "echo REFUSE,14,2,0,0"))
     check("a binary of the right form: status", done.returncode, 1)
@@ -248,6 +223,10 @@ def check_errors(desk, binary):
         ("a report in a pair's folder", ["two", "two/job 000/unwritten"], "pair's folder"),
         ("a report that is a folder", ["two", "none"], "folder"),
         ("a report in no folder", ["two", "nowhere/unwritten"], "no folder"),
+        ("a page in the release", ["--page", "two/pages", "two", "unwritten"], "pair's folder, or as one"),
+        ("a page in no folder", ["--page", "nowhere/pages", "two", "unwritten"], "no folder to make the pages in"),
+        ("a page that is a file", ["--page", "liar", "two", "unwritten"], "wants a folder"),
+        ("a time that is no number", ["--decide", "soon", "two", "unwritten"], "usage"),
     ]
     before = contents(desk.scratch / "two")
     for what, arguments, message in wrong:
@@ -258,9 +237,11 @@ def check_errors(desk, binary):
         done = desk.run("two", "unwritten", RACECHECK=missing)
         check(f"{what}: status", done.returncode, 2)
         check(f"{what}: message", "no racecheck that can be run" in done.stderr, True)
+    done = desk.run("two", "unwritten", RACECHECK="", RACECHECK_LIBRARY=desk.scratch / "missing")
+    check("a missing library", (done.returncode, "a library that cannot be used" in done.stderr), (2, True))
     check("no report after an error", [p for p in desk.scratch.rglob("unwritten")], [])
     check("the pairs are as they were", contents(desk.scratch / "two") == before, True)
-    done = desk.run("--help")
+    done = desk.run("--help", decide=None)
     check("--help", (done.returncode, "usage: check-release" in done.stdout), (0, True))
 
 
@@ -281,15 +262,18 @@ def check_release_tool(binary):
     """check-release on whole releases and on binaries that do not keep their word."""
     with tempfile.TemporaryDirectory() as scratch:
         desk = Desk(Path(scratch))
-        finish_hindrances = check_hindrances(desk, binary)
-        check_releases(desk, binary)
+        finish_hindrances, finish_deaf = check_hindrances(desk, binary), start_deaf(desk)
+        for judged in judges(desk, binary):
+            check_releases(desk, judged)
+        check_small(desk, binary)
         check_causes(desk, binary)
         check_nonsense(desk)
+        check_again(desk, binary)
+        check_terminal(desk, binary)
         check_liar(desk)
-        check_stopped(desk)
-        check_killed(desk)
-        check_late(desk)
+        check_ended(desk)
         check_outputs(desk, binary)
         check_which_binary(desk)
         check_errors(desk, binary)
         finish_hindrances()
+        finish_deaf()

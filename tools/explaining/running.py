@@ -58,14 +58,20 @@ def find_program(name):
 
 def run_in(binary, folder, program=CHECKING):
     """A program's answer in a folder, with the files it had. What is no answer is FAILED, with the reason."""
-    if not os.path.isdir(folder):
-        return Run("FAILED", "a link that leads nowhere" if os.path.islink(folder) else "no such folder", program)
-    if not os.access(folder, os.X_OK):
-        return Run("FAILED", "the folder cannot be entered", program)
+    why = unreachable(folder)
+    if why:
+        return Run("FAILED", why, program)
     sheets = read_sheets(folder, READS[program])
     run = _started(binary, folder, program)
     changed = tuple(name for name, sheet in sheets.items() if sheet and not is_as_read(folder, sheet))
     return run._replace(sheets=sheets, changed=changed)
+
+
+def unreachable(folder):
+    """Why nothing can be run in a folder; empty if it can."""
+    if not os.path.isdir(folder):
+        return "a link that leads nowhere" if os.path.islink(folder) else "no such folder"
+    return "" if os.access(folder, os.X_OK) else "the folder cannot be entered"
 
 
 def _started(binary, folder, program):

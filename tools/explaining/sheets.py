@@ -25,7 +25,7 @@ class Sheet(NamedTuple):
     text: bytes  # its first MOST_BYTES bytes
     length: int
     lines: list
-    digest: str = ""  # the SHA-256 of the whole file
+    digest: str = ""  # the SHA-256 of the whole file; none of one that is too long, which is not read to its end
     mark: tuple = ()  # what a file system changes with the file
 
     def line(self, number):
@@ -47,13 +47,15 @@ def read_sheet(folder, name):
         if not stat.S_ISREG(status.st_mode):
             return None
         with open(path, "rb") as file:
-            text = file.read(MOST_TRACE_BYTES if name == TRACE else MOST_BYTES)
-            digest = hashlib.sha256(text)
-            while piece := file.read(MOST_BYTES):
-                digest.update(piece)
+            most = MOST_TRACE_BYTES if name == TRACE else MOST_BYTES
+            text = file.read(most)
     except OSError:
         return None
-    return sheet_of(name, text, status.st_size, digest.hexdigest(), _mark(status))
+    return sheet_of(name, text, status.st_size, digest_of(text) if len(text) < most else "", _mark(status))
+
+
+def digest_of(text):
+    return hashlib.sha256(text).hexdigest()
 
 
 def _mark(status):

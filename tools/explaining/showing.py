@@ -7,6 +7,8 @@ FEW = 3  # locations whose fractions fit on one line
 
 def visible(name):
     """A file's name with a backslash, and all that does not print, as the bytes \\xNN that they are."""
+    if name.isprintable() and "\\" not in name:
+        return name
     return "".join(
         letter if letter.isprintable() and letter != "\\" else "".join(f"\\x{byte:02x}" for byte in os.fsencode(letter))
         for letter in name)

@@ -1,117 +1,129 @@
 """tools/check-release: every pair of a release, some at once."""
-import hashlib
 import os
-import sys
-import time
-from contextlib import closing
 
-from starting.command import Failure, options, say, take, tell
-from starting.version import version
-from starting.writing import Output, approve, is_device, write
+from starting.command import Failure, Usage, options, say, take, tell
 
-from explaining.running import find_program
 from explaining.showing import visible
 
-from .entries import entry, failed
-from .pairs import names_in, pairs_of
-from .report import counts, report
-from .servers import as_json, as_junit
-from .workers import Lost, shared_out, when_told_to_end
+from .against import changes, read_older
+from .checking import checked, decided
+from .entries import DISAGREEMENT
+from .judges import find_judge
+from .manifest import names_in
+from .outputs import BESIDE, PageFolder, outputs_of
+from .pairs import pairs_of
+from .record import NAMED, record_of, second_look
+from .report import Release, terminal_lines
+from .workers import when_told_to_end
 
-USUAL = "release-report.txt"
-# The files beside the report: by option, what each is called, what it begins with and how it is made.
-BESIDE = {
-    "--json": ("JSON", b'{\n "record": {', as_json),
-    "--junit": ("JUnit file", b'<?xml version="1.0" encoding="UTF-8"?>\n<testsuite name="racecheck"', as_junit)}
+USUAL_SECONDS = 5.0
 
 
 def main(arguments):
-    given, others = options(arguments, flags=["--recheck", "--no-recheck"], valued=[*BESIDE, "--manifest"])
-    release, asked = take(others, "FOLDER", "REPORT", least=1)
+    valued = [*BESIDE, *NAMED, "--page", "--decide"]
+    given, others = options(arguments, flags=["--recheck", "--no-recheck"], valued=valued)
+    folder, asked = take(others, "FOLDER", "REPORT", least=1)
     when_told_to_end(_stopped)
-    path = Output("report", asked or USUAL, b"record\t")
-    beside = {option: Output(BESIDE[option][0], given[option], BESIDE[option][1]) for option in BESIDE if option in given}
-    approve([path, *beside.values()], [given["--manifest"]] if "--manifest" in given else [])
-    for output in (path, *beside.values()):
-        _require_outside(output, release)
-    names = pairs_of(release, names_in(given["--manifest"]) if "--manifest" in given else set())
-    binary, recheck = find_program("racecheck"), "--no-recheck" not in given
-    record = _record(binary, release, given.get("--manifest"))
-    entries = _checked(binary, release, names, recheck)
-    record["second look"] = _second_look(entries, recheck)
-    for one in entries:
-        if one.answer == "FAILED" or one.alarming:
-            say(f"check-release: racecheck failed on {visible(one.name)}: {' '.join(one.details)}")
-    write(path, "".join(f"{line}\n" for line in report(record, entries)).encode())
-    for option, output in beside.items():
-        write(output, BESIDE[option][2](record, entries).encode())
-    tell(counts([one.answer for one in entries]))
-    say(f"check-release: {len(names)} pairs, report in {visible(os.path.realpath(path.path))}")
-    return _status_of(entries)
+    seconds = _seconds(given)
+    outputs = outputs_of(asked or "", given, folder)
+    must_have = names_in(given["--manifest"]) if "--manifest" in given else None
+    older = read_older(given["--against"]) if "--against" in given else None
+    names, judge = pairs_of(folder, must_have or set()), find_judge()
+    record = record_of(judge, folder, given)
+    with PageFolder(outputs.pages, record["date"]) as pages:
+        record.update({"page": visible(pages.index())} if pages.path else {})
+        release = _judged(judge, folder, names, "--no-recheck" not in given, record)
+        release = _decided_on(release, judge, folder, seconds, pages)
+        release = _beside_lists(release, folder, must_have, older)
+        return _told(release, outputs, pages)
 
 
-# ---- What is asked
+def _seconds(given):
+    try:
+        return max(0.0, float(given.get("--decide", USUAL_SECONDS)))
+    except ValueError:
+        raise Usage("--decide wants a number of seconds") from None
 
 
 def _stopped(_number, _frame):
-    raise Failure("stopped; the report is as it was")
+    raise Failure("stopped; nothing is written, and an older report is as it was")
 
 
-def _require_outside(output, release):
-    """Nothing is written into a pair's folder."""
-    folder, release = os.path.dirname(os.path.realpath(output.path)), os.path.realpath(release)
-    if not is_device(output.path) and folder != release and folder.startswith(os.path.join(release, "")):
-        raise Failure(f"the {output.what} would be written into a pair's folder: {visible(output.path)}")
+# ---- What there is to tell
 
 
-# ---- The runs
+def _judged(judge, folder, names, recheck, record):
+    entries = checked(judge, os.path.realpath(folder), names, recheck)
+    return Release({**record, "second look": second_look(entries, recheck)}, entries)
 
 
-def _checked(binary, release, names, recheck):
-    """Each pair's entry, in the order of the names."""
-    entries = {}
-    with closing(shared_out(lambda name: entry(name, binary, release, recheck), names)) as results:
-        for name, made in results:
-            lost = isinstance(made, Lost)
-            entries[name] = failed(name, f"the process that was at it ended with status {made.status}") if lost else made
-            _show_progress(len(entries), len(names))
-    return [entries[name] for name in names]
+def _decided_on(release, judge, folder, seconds, pages):
+    """The refused pairs with their decisions and pages. What that takes is loaded where there are some."""
+    release.record["decisions"] = f"up to {seconds:g} seconds of search a pair" if seconds else "none"
+    if not (seconds or pages.path) or not any(one.answer.startswith("REFUSE") for one in release.entries):
+        return release
+    from .deciding import Deciding, found_programs
+
+    programs = None
+    if seconds:
+        try:
+            programs = found_programs()
+        except Failure as error:  # what is judged is worth more than the decisions
+            release.record["decisions"] = f"none: {error}"
+            say(f"check-release: no decisions: {error}")
+    deciding = Deciding(os.path.realpath(folder), judge, programs, seconds, pages.path)
+    return release._replace(entries=decided(deciding, release.entries)) if programs or pages.path else release
 
 
-def _show_progress(done, total):
-    if sys.stderr.isatty():
-        say(f"\rchecked {done} of {total}", end="\n" if done == total else "")
-    elif done % 50 == 0 or done == total:
-        say(f"checked {done} of {total}")
+def _beside_lists(release, folder, must_have, older):
+    """What the release is held against: the manifest, and an older report."""
+    if must_have is not None:
+        present = [one.name for one in release.entries if os.path.lexists(os.path.join(folder, one.name))]
+        missing = [one.name for one in release.entries if one.name not in set(present)]
+        release = release._replace(missing=missing, unnamed=[name for name in present if name not in must_have])
+    return release if older is None else release._replace(changes=changes(older, release.entries))
 
 
-# ---- What is put on record
+# ---- Telling it
 
 
-def _record(binary, release, manifest):
-    """What was judged by what."""
-    record = {
-        "date": time.strftime("%Y-%m-%dT%H:%M:%S%z"), "folder": visible(os.path.realpath(release)), "checker": visible(binary),
-        "checker SHA-256": _digest(binary), "tools": version()}
-    return {**record, "manifest": visible(manifest), "manifest SHA-256": _digest(manifest)} if manifest else record
+def _told(release, outputs, pages):
+    """Tells and writes all there is. What cannot be written stops nothing else, and makes the status 2."""
+    for kind, words in (("FAILED", "no answer for"), (DISAGREEMENT, f"{DISAGREEMENT} on")):
+        count = sum(one.kind() == kind for one in release.entries)
+        if count:
+            say(f"check-release: {words} {count} of {len(release.entries)} pairs")
+    written, faults = [], []
+    steps = [("", lambda: tell(terminal_lines(release))), *outputs.writes(release)]
+    if pages.path:
+        steps.append((outputs.pages, lambda: _write_page(release, pages, written)))
+    for path, step in steps:
+        try:
+            step()
+            written += [os.path.realpath(path)] if path and path != outputs.pages else []
+        except BrokenPipeError:  # whoever reads has seen enough, as head has
+            pass
+        except (Failure, OSError) as error:
+            faults.append(str(error))
+    for words in faults:
+        say(f"check-release: {words}")
+    say(f"check-release: {len(release.entries)} pairs, {', '.join(map(visible, written)) or 'nothing'} written")
+    return 2 if faults else status_of(release)
 
 
-def _digest(path):
-    with open(path, "rb") as file:
-        return hashlib.sha256(file.read()).hexdigest()
+def _write_page(release, pages, written):
+    from .drawing.page import write_page
+
+    write_page(pages.path, release)
+    pages.finish()
+    written.append(pages.index())
 
 
-def _second_look(entries, recheck):
-    if not recheck:
-        return "none"
-    looked = [one for one in entries if one.answer == "ACCEPT"]
-    parts = sum(one.alarming for one in looked)
-    seconds = sum(one.seconds for one in looked)
-    found = f"DISAGREEMENT on {parts}" if parts else "all found the same"
-    return f"{len(looked)} accepted pairs, {found}, {seconds:.2f} seconds"
-
-
-def _status_of(entries):
-    if any(one.answer in ("UNREAD", "FAILED") or one.alarming for one in entries):
+def status_of(release):
+    """0 if all is well, 1 if not, 2 if some have no answer that stands. Beside an older report, whether anything got worse."""
+    kinds = {one.kind() for one in release.entries}
+    if DISAGREEMENT in kinds:
         return 2
-    return 0 if all(one.answer == "ACCEPT" for one in entries) else 1
+    if release.changes:
+        return 1 if release.changes.worse() else 0
+    return 2 if kinds & {"UNREAD", "FAILED"} else 1 if "REFUSE" in kinds else 0
