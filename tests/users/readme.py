@@ -19,7 +19,8 @@ def shown():
 # The programs that a tool runs.
 RUNS = {
     "explain": ["racecheck"], "show-race": ["racereplay"], "triage": ["racecheck", "racefill", "racereplay"],
-    "try-orders": ["racecheck", "racereplay"], "fill": ["racefill", "racecheck"], "check-release": ["racecheck"],
+    "try-orders": ["racecheck", "racereplay"], "draw-faults": ["racecheck", "racereplay"], "fill": ["racefill", "racecheck"],
+    "check-release": ["racecheck", "racefill", "racereplay"],
     "install": ["racecheck", "racefill", "racedrill", "racereplay", "entries"]}
 
 
