@@ -60,17 +60,6 @@ def line_causes(sheet, line):
     return causes
 
 
-def filled_causes(split, line):
-    """Whether a split that is to be filled is no sheet for filling."""
-    text = split.line(line) or b""
-    if line == 1 and text.startswith(b"C,"):
-        return ["it is a `C` sheet, and only `C2` and `C3` sheets are filled: `triage` makes one of it and fills that"]
-    if re.fullmatch(rb"\d+,\d+,\d*", text):
-        return ["the row has its after-map already, so there is nothing to fill: `racecheck` judges such a sheet, and `triage`"
-                " fills it anew if it is refused"]
-    return []
-
-
 def version_causes(program, split, expected_lines):
     """Whether the split looks like one of another version of the job."""
     if len(split.lines) == expected_lines:

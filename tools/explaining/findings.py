@@ -139,10 +139,6 @@ def _tell_refusal(explanation, judgement, program, split):
 def _tell_causes(explanation, line, program, split):
     sheet = _sheet_at_fault(explanation, program, split)
     explanation.causes += causes.line_causes(sheet, line) if sheet else []
-    filled = causes.filled_causes(split, line) if explanation.program == FILLING and sheet is split else []
-    if filled:
-        explanation.causes, explanation.helps = filled, []
-        return
     if explanation.number in (21, 22, 23, 40, 50) and line > 1:
         explanation.causes += causes.version_causes(program, split, lines_wanted(steps_of(program), split))
 

@@ -38,7 +38,7 @@ def main(arguments):
     _put_file(prefix / "include" / "racecheck.h", HEADER.read_bytes())
     for name, page in pages.items():
         _put_file(prefix / "share" / "man" / "man1" / f"{name}.1", page.encode())
-    for name in (*TOOLS, "install"):
+    for name in TOOLS:
         _put_file(prefix / COMPLETIONS / name, completion().encode())
     tell([f"installed below {visible(str(prefix))}; the commands are in {visible(str(prefix / 'bin'))}"])
     return 0
