@@ -84,7 +84,7 @@ def check_sources(binary):
         for tool, arguments, wanted in [
             ("explain", ["--walk", "--touches"], [refill, pump, "write level [refill.c:88]"]),
             ("explain", ["--replay"], [refill, pump]),
-            ("show-race", [], [refill, pump, "made on line 3 [main.c:5]"]),
+            ("show-race", [], [refill, pump, "made on line 3 [main.c:5]"]), ("triage", [], [refill, pump]),
         ]:
             done = subprocess.run([HOUSE / "tools" / tool, *arguments, folder], env=user_environment(RACECHECK=binary),
                                   capture_output=True, text=True)

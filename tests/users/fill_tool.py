@@ -7,8 +7,8 @@ from pathlib import Path
 
 import browser
 from checks import HOUSE, check, contents, make_pair, user_environment
-from explain_tool import draw
-from explaining import telling, walk
+from explain_tool import draw, walked
+from explaining import telling
 from explaining.drawing import page
 from explaining.findings import explain
 from explaining.refusals import OF_FILLING, REFUSALS
@@ -49,7 +49,7 @@ def lacks(explanation, run_there):
     if run_there.answer == "UNREAD":
         return faults
     if run_there.answer == "FILLED":
-        return faults + ([] if len(list(filter(None, walk.text(explanation)))) == len(explanation.sites.all) + 1 else ["the walk"])
+        return faults + ([] if walked(explanation) else ["the walk"])
     number = run_there.numbers()[0]
     wanted = [REFUSALS[number].helps, *explanation.numbers[:1]]
     if number == 41:
@@ -62,7 +62,7 @@ def check_explained(racefill, what, folder):
     run_there = run_in(racefill, folder, FILLING)
     explanation = explain(run_there, folder)
     check(f"{what}, explained", lacks(explanation, run_there), [])
-    browser.check_markup(f"{what}, its page", page.text("sheet", explain(run_there, folder, reduced=True)))
+    browser.check_markup(f"{what}, its page", page.text("sheet", explain(run_there, folder)))
     return explanation
 
 
@@ -181,15 +181,11 @@ def check_unfilled(racefill, racecheck):
             path.chmod(0o755)
         make_pair(Path(scratch) / "race", *race)
         make_pair(Path(scratch) / "good", *good)
-        make_pair(Path(scratch) / "filled", good[0], good[1].replace("0,,|", "0,0,|"))
-        make_pair(Path(scratch) / "plain", good[0], "C,1,1,1,1|int,0,0|1|0,0,|")
         make_pair(Path(scratch) / "empty", "absent", "absent")
         before = contents(Path(scratch))
         for what, programs, folder, status, words in [
             ("a job that fails", (racefill, racecheck), "race", 1, "racefill: REFUSE,41,0,0,0"),
             ("no pair", (racefill, racecheck), "empty", 2, "program.txt is missing"),
-            ("a sheet that is filled", (racefill, racecheck), "filled", 1, "the sheet is filled already"),
-            ("a C sheet", (racefill, racecheck), "plain", 1, "only `C2` and `C3` sheets are filled"),
             ("a racefill that lies", (liar, racecheck), "good", 3, "*** DISAGREEMENT"),
             ("a racecheck that does not accept", (racefill, no), "good", 3, "racecheck: REFUSE,32,2,2,0"),
         ]:

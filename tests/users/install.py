@@ -146,7 +146,7 @@ def check_manual(prefix):
     """Each man page comes out without a warning, where there is a `man` to do it."""
     pages = sorted(path.name for path in (prefix / "share" / "man" / "man1").iterdir())
     check("installed: the man pages", pages, sorted(f"{name}.1" for name in manual_pages()))
-    lacks = [name for name in (*COMMANDS, "install") if f"{name}.1" not in pages]
+    lacks = [name for name in (*COMMANDS, "racecheck-install") if f"{name}.1" not in pages]
     check("there is a man page for each command", lacks, [])
     if shutil.which("man") is None or shutil.which("groff") is None:
         print("users: no man here, so that the man pages come out is not tried")

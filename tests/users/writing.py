@@ -6,12 +6,15 @@ import tempfile
 from pathlib import Path
 
 from checks import HOUSE, check, contents, user_environment
+from starting.command import Failure
+from starting.writing import Output, approve
 
 EXAMPLES = HOUSE / "examples"
 SHEETS = ("program.txt", "split.txt", "names.txt", "pair/program.txt", "release/one/split.txt", "link")
 SHEET = "a sheet of that name is never written over"
 READ = "which is read here"
 TWICE = "give each a name of its own"
+OWN = "may be somebody's own"
 # The options of each tool behind which a file to write stands.
 PAGES = {"explain": ["--page"], "show-race": ["--page"], "try-orders": ["--page"]}
 ORDERS = {"show-race": ["--trace"], "triage": ["--trace"]}
@@ -34,6 +37,9 @@ class Desk:
         (self.scratch / "link").symlink_to("pair/split.txt")
         os.link(self.scratch / "pair" / "program.txt", self.scratch / "second name")
 
+    def path(self, name):
+        return os.path.join(self.scratch, name)
+
     def run(self, tool, *arguments):
         return subprocess.run(
             [HOUSE / "tools" / tool, *map(str, arguments)], cwd=self.scratch, env=user_environment(**self.programs),
@@ -55,22 +61,40 @@ def writers():
                 yield tool, option, "release" if tool == "check-release" else "pair"
 
 
+def check_rule(desk):
+    """The rule by itself, in the folder of the desk: by the name, by a link, by what is read, by what is there."""
+    inputs, dangling = [desk.scratch / "pair" / "program.txt", desk.scratch / "pair" / "trace.txt"], desk.scratch / "dangling"
+    dangling.symlink_to("not there yet")
+    for name, words in [
+        *((name, SHEET) for name in SHEETS), ("second name", READ), ("pair/trace.txt", READ), ("./pair/../pair/trace.txt", READ),
+        ("mine", "is no page of this tool"), ("nowhere/file", "no folder to write the page in"), ("release", "that of a folder"),
+        ("new", None), ("empty", None), ("dangling", None), ("/dev/null", None),
+    ]:
+        check(f"a page named {name}", _refusal([Output("page", desk.path(name), b"<")], inputs, words), words)
+    dangling.unlink()
+    check("an order where something is", _refusal([Output("order", desk.path("mine"))], inputs, OWN), OWN)
+    check("an older page", _refusal([Output("page", desk.path("mine"), b"the ")], inputs, None), None)
+    check("one name twice", _refusal([Output("a", desk.path("new")), Output("b", desk.path("./new"))], inputs, TWICE), TWICE)
+
+
+def _refusal(outputs, inputs, words):
+    """The words, if they are in the reason why these may not be written; None if they may."""
+    try:
+        approve(outputs, inputs)
+    except Failure as why:
+        return words if words and words in str(why) else str(why)
+    return None
+
+
 def check_names(desk):
-    """No file of a sheet's name is written, in whatever folder, nor where a link leads to one; no input; nothing of others."""
+    """Every tool keeps to it: no sheet's name, and nothing of others."""
     for tool, option, folder in writers():
-        for name in SHEETS if tool == "explain" else SHEETS[-2:]:
-            desk.check_refused(SHEET, tool, option, name, folder)
-        if folder == "pair":
-            desk.check_refused(READ, tool, option, "second name", folder)
-        words = "may be somebody's own" if option in ("--trace", "--mended") else "of this tool, so it is left as it is"
+        desk.check_refused(SHEET, tool, option, "pair/split.txt", folder)
+        words = OWN if option in ("--trace", "--mended") else "of this tool, so it is left as it is"
         desk.check_refused(words, tool, option, "mine", folder)
-    desk.check_refused("no folder to write the page in", "explain", "--page", "nowhere/file", "pair")
-    desk.check_refused("that of a folder", "explain", "--page", "release", "pair")
-    desk.check_refused(READ, "explain", "--page", "pair/trace.txt", "pair")
-    for name in ("split.txt", "pair/split.txt", "release/one/split.txt"):
-        desk.check_refused(SHEET, "check-release", "release", name)
-    desk.check_refused("is no report of this tool", "check-release", "release", "mine")
-    desk.check_refused("into a pair's folder", "check-release", "release", "release/one/report")
+    desk.check_refused(READ, "explain", "--page", "second name", "pair")
+    for name, words in [("split.txt", SHEET), ("mine", "is no report of this tool"), ("release/one/report", "into a pair's folder")]:
+        desk.check_refused(words, "check-release", "release", name)
 
 
 def check_twice(desk):
@@ -108,6 +132,7 @@ def check_replaced(desk):
 def check_writing(programs):
     with tempfile.TemporaryDirectory() as scratch:
         desk = Desk(scratch, programs)
+        check_rule(desk)
         check_names(desk)
         check_twice(desk)
         check_replaced(desk)

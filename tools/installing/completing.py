@@ -24,7 +24,8 @@ complete -o filenames -o default -F _racecheck_tools {names}
 
 def completion():
     """The script."""
-    return SCRIPT.format(cases="\n".join(map(_case, tools())), names=" ".join(tools()))
+    completed = [tool for tool in tools() if tool != "install"]  # a system has an `install` of its own
+    return SCRIPT.format(cases="\n".join(map(_case, completed)), names=" ".join(completed))
 
 
 def _case(tool):

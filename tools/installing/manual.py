@@ -11,6 +11,8 @@ from .helping import section_of, tools
 
 SOURCE = Path(__file__).resolve().parents[2] / "docs" / "COMMANDS.md"
 SECTION = re.compile(r"^## ([\w-]+): (.*?)\n(.*?)(?=^##? |\Z)", re.M | re.S)
+# A section whose man page has another name: a system has one of an `install` of its own.
+OTHERWISE = {"install": "racecheck-install"}
 MARK = "<!-- the tools, as they say themselves -->"
 # Which answers a line `<!-- answers: kind -->` stands for.
 ANSWERS = {"checking": OF_CHECKING, "filling": OF_FILLING, "replaying": OF_REPLAYING}
@@ -19,8 +21,8 @@ ANSWERS = {"checking": OF_CHECKING, "filling": OF_FILLING, "replaying": OF_REPLA
 def manual_pages():
     """Each program's name, and its man page."""
     sections = SECTION.findall(SOURCE.read_text(encoding="utf-8"))
-    names = [name for name, _, _ in sections]
-    return {name: _page(name, what, text, [one for one in names if one != name]) for name, what, text in sections}
+    titled = {OTHERWISE.get(name, name): (what, text) for name, what, text in sections}
+    return {name: _page(name, *told, [one for one in titled if one != name]) for name, told in titled.items()}
 
 
 def commands_page(text):

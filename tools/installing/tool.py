@@ -83,7 +83,7 @@ def _install(prefix, programs):
     _put_file(prefix / "include" / "racecheck.h", HEADER.read_bytes())
     for name, page in manual_pages().items():
         _put_file(prefix / "share" / "man" / "man1" / f"{name}.1", page.encode())
-    for name in (*TOOLS, "install"):
+    for name in TOOLS:
         _put_file(prefix / COMPLETIONS / name, completion().encode())
 
 

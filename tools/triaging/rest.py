@@ -55,7 +55,7 @@ class Rest:
         elif holder.kind == "identifier":
             who, by = f"{self._started(spawn)} has ended and left", self._load_of(holder.number)
         else:
-            who, by = f"the {NOUNS[holder.kind]} made on line {holder.number} has", self._load_of(holder.number)
+            who, by = f"the {NOUNS[holder.kind]} made on {self._names.line(holder.number)} has", self._load_of(holder.number)
         made = self._telling.made_at(spawn.parts["e1"]) if holder.kind == "thread" else holder.number
         return [f"{who} {share}: {by}", f"  {self._comes_back(holder, made)}"]
 
@@ -73,7 +73,7 @@ class Rest:
             if had > kept:
                 return [f"{self._started(spawn)} ends with {self._amount(had)} of {place} and leaves {self._amount(kept)} for its"
                         f" join: {self._load_of(made)}", f"  {self._amount(had - kept)} is lost there"]
-        return [f"{self._amount(whole - left)} of {place} is lost at line {after.site.line}, `{after.site.word}`:"
+        return [f"{self._amount(whole - left)} of {place} is lost at {self._names.line(after.site.line)}, `{after.site.word}`:"
                 f" its row is on line {after.site.row.line} of {SPLIT}"]
 
     def _amount(self, number):
@@ -85,7 +85,7 @@ class Rest:
                      if site.word == "spawn" and holder.thread() and site.body == holder.thread()), None)
 
     def _started(self, spawn):
-        return f"{self._names.thread(spawn.body)}, started on line {spawn.line},"
+        return f"{self._names.thread(spawn.body)}, started on {self._names.line(spawn.line)},"
 
     def _start_of(self, spawn):
         row = spawn.row
@@ -113,10 +113,11 @@ class Rest:
                and self._telling.made_at(acted_on(site)) == made]
         verb = f"`{'` or `'.join(words)}`"
         before, behind = ([line for line in own if (line < self._site.line) == is_before] for is_before in (True, False))
-        said = [f"{where} the failing step on {_lines(lines)}" for where, lines in (("before", before), ("behind", behind)) if lines]
+        said = [f"{where} the failing step on {self._lines(lines)}" for where, lines in (("before", before), ("behind", behind)) if lines]
         return f"it comes back by {verb}, {listed(said)}" if said else f"it does not come back: this thread has no {verb} of it"
 
-
-def _lines(lines):
-    shown = listed(map(str, lines)) if len(lines) <= MOST else f"{lines[0]} to {lines[-1]}, {len(lines)} times"
-    return f"line {shown}" if len(lines) == 1 else f"lines {shown}"
+    def _lines(self, lines):
+        if len(lines) == 1:
+            return self._names.line(lines[0])
+        shown = [f"{line}{self._names.source(line)}" for line in lines]
+        return f"lines {listed(shown) if len(lines) <= MOST else f'{shown[0]} to {shown[-1]}, {len(lines)} times'}"

@@ -28,6 +28,9 @@ class Narrow(Picture):
     def _bar(self, _top, bottom):
         return bottom - BARS / 2
 
+    def _bars_top(self, _top, bottom):
+        return bottom - BARS
+
     def _words(self, site):
         return f"{self.names.thread(site.thread)}: {super()._words(site)}"
 

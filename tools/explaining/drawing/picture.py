@@ -160,6 +160,10 @@ class Picture:
         """The middle of the line of a row on which the bars have their labels and touches stand."""
         return top + ROW / 2
 
+    def _bars_top(self, top, _bottom):
+        """Where the bars of a row are seen from on."""
+        return top
+
     def _words(self, site):
         return in_words(site, self.sites, self.names) + self.names.source(site.line)
 
@@ -279,8 +283,8 @@ class Picture:
             return []
         pieces = [f'<rect class="refusal" x="1" y="{top + 1}" width="{self.width - 2}" height="{bottom - top - 2}"/>']
         if self.explanation.number in (30, 32, 33, 41) and self.explanation.location in block:
-            x, whole = self.x[self.explanation.location], self._scaled(self.split.denominator)
-            pieces.append(f'<rect class="wanted" x="{x}" y="{top + 3}" width="{whole:.1f}" height="{bottom - top - 6}"/>')
+            x, whole, first = self.x[self.explanation.location], self._scaled(self.split.denominator), self._bars_top(top, bottom)
+            pieces.append(f'<rect class="wanted" x="{x}" y="{first + 3}" width="{whole:.1f}" height="{bottom - first - 6}"/>')
         return pieces
 
 
