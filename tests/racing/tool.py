@@ -254,7 +254,8 @@ def check_files():
         check("the folder afterwards", [file.name for file in folder.iterdir()], ["program.txt"])
         trace.write_text("0,0\n")
         done = run("--trace", trace, folder)
-        check("a trace.txt that is there is left", (done.status, "may be somebody's own" in done.error, trace.read_text()), (2, True, "0,0\n"))
+        left = done.status, "may be somebody's own" in done.error, trace.read_text()
+        check("a trace.txt that is there is left", left, (2, True, "0,0\n"))
         (folder / "names.txt").write_text("variable,0,<level>\nthread,1,pump\n")
         done = run(folder)
         wanted = ["<level>, made on line 3", "pump is about to read <level>"]
@@ -278,7 +279,8 @@ def check_errors():
         bad.mkdir()
         (bad / "program.txt").write_text("P,1\nvar,0\n")
         for what, arguments, message in [
-            ("no arguments", [], "usage: show-race"), ("an unknown option", ["-x", join], "usage: show-race"),
+            ("no arguments, and no job here", [], "no program.txt that can be read in ."),
+            ("an unknown option", ["-x", join], "usage: show-race"),
             ("two folders", [join, join], "usage: show-race"), ("a page without a file", [join, "--page"], "usage: show-race"),
             ("no number", ["--states", "many", join], "usage: show-race"), ("no such folder", ["nowhere"], "no such folder"),
             ("no program", [empty], "no program.txt"),

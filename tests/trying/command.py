@@ -84,6 +84,7 @@ def check_errors():
         bad, empty = make_job(Path(scratch) / "bad", ["var,0"]), Path(scratch) / "empty"
         empty.mkdir()
         for what, arguments, words in [
+            ("no arguments, and no job here", [], "no program.txt that can be read in ."),
             ("two folders", [RACE, RACE], "usage: try-orders"),
             ("an unknown option", ["-x", RACE], "usage: try-orders"), ("no such folder", ["nowhere"], "no such folder"),
             ("no program", [empty], "no program.txt"),

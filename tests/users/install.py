@@ -10,6 +10,7 @@ from pathlib import Path
 from checks import HOUSE, check, contents, user_environment
 from header import check_linked, declared, library
 from installing.manual import manual_pages
+from installing.tool import PROGRAMS
 
 COMMANDS = ["check-release", "draw-faults", "explain", "fill", "racecheck", "racedrill", "racefill", "racereplay", "show-race", "triage", "try-orders"]
 
@@ -155,7 +156,7 @@ def check_manual(prefix):
         path = prefix / "share" / "man" / "man1" / page
         command = ["man", "--warnings", "-E", "UTF-8", "-l", path]
         done = subprocess.run(command, env=user_environment(MANWIDTH=80), capture_output=True, text=True)
-        wanted = ["NAME", "SYNOPSIS", "DESCRIPTION", "EXIT STATUS", "SEE ALSO"] + ["FILES"] * page.startswith("race")
+        wanted = ["NAME", "SYNOPSIS", "DESCRIPTION", "EXIT STATUS", "SEE ALSO"] + ["FILES"] * (page[:-2] in PROGRAMS)
         lacks = [title for title in wanted if f"\n{title}\n" not in done.stdout]
         check(f"man -l {page}", (done.returncode, done.stderr, lacks), (0, "", []))
 
