@@ -1,3 +1,10 @@
+pub mod AtMostOneRace
+pub mod AtMostOneStep
+pub mod AtMostOneEnd
+pub mod AlikeCalls
+pub mod AtMostOneWay
+pub mod AtLimits
+pub mod Implied
 pub mod Lists
 pub mod Calls
 pub mod Changes
@@ -5,7 +12,6 @@ pub mod Proper
 pub mod Order
 pub mod Records
 pub mod Joining
-pub mod Bodies
 pub mod Complete
 pub mod Races
 pub mod Lowest

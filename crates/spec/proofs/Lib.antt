@@ -1,3 +1,4 @@
+pub mod AtMostOneRefusal
 pub mod KnownPairs
 pub mod Workspace
 pub mod Reasons

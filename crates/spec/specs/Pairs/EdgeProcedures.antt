@@ -1,6 +1,7 @@
 -- Rows for procedures: the sheets with each new refusal, each condition of a call and of a `proc` line met and false, and where 30
 -- stands. The answers are worked out by hand from documents 01 and 02.
-use mathlib.Core.List.{List, [], _∷_, _++_ as _++ₗ_}
+use mathlib.Core.Path.{_≡_}
+use mathlib.Core.List.{List, [], _∷_, _++_ as _++ₗ_, map}
 use Prim.Native.String.{String, _++_}
 use Rattle.spec.specs.Reading.{_>>=_}
 use Rattle.spec.specs.Sites.{isType, only}
@@ -301,6 +302,10 @@ callFills =
     (calling with (under "C2,2,1,2,3,0" "1,0,0,1|0,,|0,,1|0,,|") is four 31 2 1 0) ∷
     (calling with (under "C2,2,1,2,3,0" "1,1,0,0|0,,|0,,0|0,,|") is four 31 4 2 0) ∷
     []
+
+-- filling gives each row of a table its answer
+unfoldable pub Filled : List Pair → Type 0
+Filled rows = map foundToFill rows ≡ map (λ (r : Pair). r .expected) rows
 
 -- all of the others
 unfoldable pub procedureEdges : List Pair
