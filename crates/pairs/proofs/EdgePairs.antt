@@ -10,7 +10,7 @@ use Rattle.spec.specs.Pairs.EdgeNumbers.{numberEdges}
 use Rattle.spec.specs.Pairs.EdgeStart.{startEdges}
 use Rattle.spec.specs.Pairs.EdgeSemaphores.{semaphoreEdges}
 use Rattle.spec.specs.Pairs.EdgeRwlocks.{rwlockEdges}
-use Rattle.spec.specs.Pairs.EdgeProcedures.{under, calling, foundToFill, callFills, Filled, procedureEdges}
+use Rattle.spec.specs.Pairs.EdgeProcedures.{under, calling, foundToFill, headingFills, callFills, Filled, procedureEdges}
 use Rattle.spec.specs.Pairs.EdgeFreelock.{freelockEdges}
 use Rattle.spec.specs.Pairs.EdgeLocks.{lockEdges}
 use Rattle.spec.specs.Pairs.EdgeSpawns.{spawnEdges}
@@ -20,6 +20,6 @@ unfolding Answered found _with_is_ P S Z sheetEdges conditionEdges agreementEdge
 edge-pairs = refl
 
 -- with a sheet that is to be filled
-pub fill-pairs : Filled callFills
-unfolding foundToFill _with_is_ under calling callFills Filled
+pub fill-pairs : Filled (headingFills ++ callFills)
+unfolding foundToFill _with_is_ under calling headingFills callFills Filled
 fill-pairs = refl

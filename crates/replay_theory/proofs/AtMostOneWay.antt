@@ -18,7 +18,7 @@ use Rattle.replay_theory.proofs.Lists.{there-below, first-of, one-more-
 use Rattle.replay_theory.proofs.Proper.{Rising, start-is-proper}
 use Rattle.replay_theory.proofs.AtMostOneStep.{alike-back, rising-apart, step-rises, one-reduced, one-after}
 use Rattle.replay_theory.proofs.AtMostOneEnd.{no-step-beside, same-line, not-a-line, stepping, same-end}
-use Rattle.replay_theory.proofs.AlikeCalls.{AllAlike, alike-first, alike-more, within-alike, made-within}
+use Rattle.replay_theory.proofs.SameCalls.{AllAlike, alike-first, alike-more, within-alike, made-within}
 
 abbrev makesSo : Effect → ℕ
 makesSo plain = 0

@@ -1,15 +1,9 @@
-pub mod AtMostOneRace
-pub mod AtMostOneStep
-pub mod AtMostOneEnd
-pub mod AlikeCalls
-pub mod AtMostOneWay
-pub mod AtLimits
-pub mod Implied
 pub mod Lists
 pub mod Calls
 pub mod Changes
 pub mod Proper
 pub mod Order
+pub mod Implied
 pub mod Records
 pub mod Joining
 pub mod Complete
@@ -24,4 +18,10 @@ pub mod Limits
 pub mod Followed
 pub mod Answer
 pub mod Reported
+pub mod AtLimits
+pub mod AtMostOneRace
+pub mod AtMostOneStep
+pub mod AtMostOneEnd
+pub mod SameCalls
+pub mod AtMostOneWay
 pub mod Examples

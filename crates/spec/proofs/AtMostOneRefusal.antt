@@ -1,108 +1,23 @@
--- Claims have one order, by line and then by number; of the false ones a refusal names the earliest, so that one refusal alone fits a pair.
-use mathlib.Core.Path.{_≡_, refl, sym, ap, _∙_, subst}
-use mathlib.Core.Logic.{_⊎_, inl, inr}
-use mathlib.Core.List.{List, [], _∷_, _++_}
-use Prim.Native.Nat.{ℕ, _<_}
-use native.Mathlib.Decide.{decLt}
-use native.Mathlib.Omega.{arith}
+-- Of the false conditions of a pair a refusal names the earliest, so that one refusal alone fits.
+use mathlib.Core.Path.{_≡_, sym, ap, _∙_}
+use mathlib.Core.Logic.{_⊎_}
+use mathlib.Core.List.{List}
+use Prim.Native.Nat.{ℕ}
 use Rattle.spec.specs.Program.{Program}
 use Rattle.spec.specs.Split.{Split}
-use Rattle.spec.specs.Conditions.{Condition}
 use Rattle.spec.specs.Sites.{Claim, claimsOf}
-use Rattle.spec.specs.FirstFalse.{Holds, AllHold, Names, type, flow, access, FirstFalse, Earlier, byLine, byNumber, EarlierThanAll, InOrder, Refuted}
+use Rattle.spec.specs.FirstFalse.{Holds, Earlier, Refuted}
 use Rattle.spec.specs.declared.Refusal.{Refusal}
 use Rattle.spec.specs.declared.Purpose.the-variants.{Check}
 use Rattle.spec.proofs.Outcomes.{on-injective}
 use Rattle.spec.proofs.Sheets.{well-formed-sheets}
-
--- ------------------------------------------------------------------ the order
-
-pub earlier-irreflexive : (c : Claim) → ¬ Earlier c c
-earlier-irreflexive c (byLine h) = omega (arith, h)
-earlier-irreflexive c (byNumber e h) = omega (arith, h)
-
-pub earlier-asymmetric : (c d : Claim) → Earlier c d → ¬ Earlier d c
-earlier-asymmetric c d (byLine h) (byLine k) = omega (arith, h, k)
-earlier-asymmetric c d (byLine h) (byNumber e k) = omega (arith, h, e)
-earlier-asymmetric c d (byNumber e h) (byLine k) = omega (arith, e, k)
-earlier-asymmetric c d (byNumber e h) (byNumber q k) = omega (arith, h, k)
-
-pub earlier-transitive : (c d e : Claim) → Earlier c d → Earlier d e → Earlier c e
-earlier-transitive c d e (byLine h) (byLine k) = byLine (omega (arith, h, k))
-earlier-transitive c d e (byLine h) (byNumber q k) = byLine (omega (arith, h, q))
-earlier-transitive c d e (byNumber p h) (byLine k) = byLine (omega (arith, p, k))
-earlier-transitive c d e (byNumber p h) (byNumber q k) = byNumber (p ∙ q) (omega (arith, h, k))
-
--- of two claims at different places one is earlier
-pub earlier-total : (c d : Claim) → ¬ ((c .line ≡ d .line) × (c .number ≡ d .number)) → Earlier c d ⊎ Earlier d c
-earlier-total c d apart = by-line (decLt (c .line) (d .line)) (decLt (d .line) (c .line))
-  where
-    by-number : c .line ≡ d .line → Dec (c .number < d .number) → Dec (d .number < c .number) → Earlier c d ⊎ Earlier d c
-    by-number e (yes h) k = inl (byNumber e h)
-    by-number e (no h) (yes k) = inr (byNumber (sym e) k)
-    by-number e (no h) (no k) = absurd (apart (e, omega (arith, h, k)))
-
-    by-line : Dec (c .line < d .line) → Dec (d .line < c .line) → Earlier c d ⊎ Earlier d c
-    by-line (yes h) k = inl (byLine h)
-    by-line (no h) (yes k) = inr (byLine k)
-    by-line (no h) (no k) = by-number (omega (arith, h, k)) (decLt (c .number) (d .number)) (decLt (d .number) (c .number))
-
--- ------------------------------------------------------------------ the earliest
-
--- d is one of the claims
-abbrev pub Among : Claim → List Claim → Type 0
-Among d [] = ⊥
-Among d (c ∷ cs) = (d ≡ c) ⊎ Among d cs
-
-earlier-than-each : (c d : Claim) (cs : List Claim) → EarlierThanAll c cs → Among d cs → Earlier c d
-unfolding EarlierThanAll
-earlier-than-each c d [] all among = absurd among
-earlier-than-each c d (e ∷ cs) all (inl is) = subst (Earlier c) (sym is) (all .0)
-earlier-than-each c d (e ∷ cs) all (inr among) = earlier-than-each c d cs (all .1) among
-
-module _ {all : List Claim} {r : Refusal} (f : FirstFalse all r) where
-  others-later : (d : Claim) → InOrder all → Among d all → (Holds (d .condition) → ⊥) → (d ≡ f .here) ⊎ Earlier (f .here) d
-  unfolding AllHold InOrder
-  others-later d order among isFalse = past (f .before) (f .holdBefore) (subst InOrder (f .parted) order) (subst (Among d) (f .parted) among)
-    where
-      past : (before : List Claim) → AllHold before → InOrder (before ++ f .here ∷ f .after) → Among d (before ++ f .here ∷ f .after) →
-          (d ≡ f .here) ⊎ Earlier (f .here) d
-      past [] hold order (inl is) = inl is
-      past [] hold order (inr among) = inr (earlier-than-each (f .here) d (f .after) (order .0) among)
-      past (c ∷ cs) hold order (inl is) = absurd (isFalse (subst (λ (x : Claim). Holds (x .condition)) (sym is) (hold .0)))
-      past (c ∷ cs) hold order (inr among) = past cs (hold .1) (order .1) among
+use Rattle.spec.proofs.Claims.{one-first}
+use Rattle.spec.proofs.Earlier.{Among, others-later}
 
 -- any other claim of the pair that is false is later than the one that a refusal names
 pub named-is-earliest : {p s : List ℕ} {r : Refusal} (f : Refuted p s r) (d : Claim) → Among d (claimsOf (f .S) (f .P)) → (Holds (d .condition) → ⊥) →
     (d ≡ f .first .here) ⊎ Earlier (f .first .here) d
 named-is-earliest f d among isFalse = others-later (f .first) d (f .inOrder) among isFalse
-
--- ------------------------------------------------------------------ one refusal
-
-one-name : {k i : ℕ} {c : Condition} {r q : Refusal} → Names k i c r → Names k i c q → r ≡ q
-one-name type type = refl
-one-name flow flow = refl
-one-name access access = refl
-
-head-of : {c d : Claim} {cs ds : List Claim} → c ∷ cs ≡ d ∷ ds → c ≡ d
-head-of h = cc
-
-tail-of : {c d : Claim} {cs ds : List Claim} → c ∷ cs ≡ d ∷ ds → cs ≡ ds
-tail-of h = cc
-
--- the first false claim is one
-one-here : {a b : Claim} (cs ds xs ys : List Claim) → AllHold xs → AllHold ys → (Holds (a .condition) → ⊥) → (Holds (b .condition) → ⊥) →
-    xs ++ a ∷ cs ≡ ys ++ b ∷ ds → a ≡ b
-unfolding AllHold
-one-here cs ds [] [] hold hold′ isFalse isFalse′ e = head-of e
-one-here cs ds [] (y ∷ ys) hold hold′ isFalse isFalse′ e = absurd (isFalse (subst (λ (x : Claim). Holds (x .condition)) (sym (head-of e)) (hold′ .0)))
-one-here cs ds (x ∷ xs) [] hold hold′ isFalse isFalse′ e = absurd (isFalse′ (subst (λ (x : Claim). Holds (x .condition)) (head-of e) (hold .0)))
-one-here cs ds (x ∷ xs) (y ∷ ys) hold hold′ isFalse isFalse′ e = one-here cs ds xs ys (hold .1) (hold′ .1) isFalse isFalse′ (tail-of e)
-
-one-first : {all all′ : List Claim} {r q : Refusal} → all ≡ all′ → FirstFalse all r → FirstFalse all′ q → r ≡ q
-one-first {r = r} same f g =
-    let here = one-here (f .after) (g .after) (f .before) (g .before) (f .holdBefore) (g .holdBefore) (f .isFalse) (g .isFalse) (sym (f .parted) ∙ same ∙ g .parted) in
-    one-name (subst (λ (c : Claim). Names (c .line) (c .number) (c .condition) r) here (f .named)) (g .named)
 
 pub one-refusal : {p s : List ℕ} {r q : Refusal} → Refuted p s r → Refuted p s q → r ≡ q
 one-refusal {p} {s} f g =

@@ -7,7 +7,7 @@ use Rattle.spec.specs.Pairs.Reasons.{reasons, Returns}
 use Rattle.spec.specs.Pairs.EdgeSheets.{countRows}
 use Rattle.spec.specs.Pairs.EdgeConditions.{rows, intRows}
 use Rattle.spec.specs.Pairs.EdgeRwlocks.{rwlockWords}
-use Rattle.spec.specs.Pairs.EdgeProcedures.{procedureHeaders, procedureLines, procedureOrder, procedureScopes, under, signed, calling, keptRows, callRows, procRows, rootRows, parameterRows, foundToFill, callFills, Filled}
+use Rattle.spec.specs.Pairs.EdgeProcedures.{mostProcedures, procedureLines, procedureOrder, procedureScopes, under, signed, calling, keptRows, unlikeRows, rootRows, parameterRows, foundToFill, headingFills, Filled}
 use Rattle.spec.specs.Pairs.EdgeFreelock.{freelockLines, freelockAmongLines, freelockEdges}
 use Rattle.spec.specs.Pairs.EdgeLocks.{takesLessRows}
 use Rattle.spec.specs.Pairs.EdgeSpawns.{spawning, plainly, naming, reading, spawnEdges}
@@ -24,20 +24,19 @@ pub record TellingRows : Type 0 where
   pub freelocks : Answered freelockEdges
   pub places : Answered rwlockWords
   pub takesLess : Answered takesLessRows
-  pub headers : Answered procedureHeaders
+  pub most : Answered mostProcedures
   pub procedures : Answered procedureLines
   pub order : Answered procedureOrder
   pub scopes : Answered procedureScopes
   pub kept : Answered keptRows
-  pub calls : Answered callRows
-  pub bodies : Answered procRows
+  pub unlike : Answered unlikeRows
   pub root : Answered rootRows
   pub parameter : Answered parameterRows
-  pub fills : Filled callFills
+  pub fills : Filled headingFills
   pub numbers : Returns reasons
 
 pub telling-rows : TellingRows
-unfolding _with_is_ found Answered P S Z countRows rows intRows spawning plainly naming reading spawnEdges takesLessRows freelockLines freelockAmongLines freelockEdges rwlockWords procedureHeaders procedureLines procedureOrder procedureScopes under signed calling keptRows callRows procRows rootRows parameterRows foundToFill callFills Filled returned reasons Returns
+unfolding _with_is_ found Answered P S Z countRows rows intRows spawning plainly naming reading spawnEdges takesLessRows freelockLines freelockAmongLines freelockEdges rwlockWords mostProcedures procedureLines procedureOrder procedureScopes under signed calling keptRows unlikeRows rootRows parameterRows foundToFill headingFills Filled returned reasons Returns
 telling-rows =
     record {
       counts = refl;
@@ -46,13 +45,12 @@ telling-rows =
       freelocks = refl;
       places = refl;
       takesLess = refl;
-      headers = refl;
+      most = refl;
       procedures = refl;
       order = refl;
       scopes = refl;
       kept = refl;
-      calls = refl;
-      bodies = refl;
+      unlike = refl;
       root = refl;
       parameter = refl;
       fills = refl;

@@ -1,4 +1,3 @@
-pub mod AtMostOneRefusal
 pub mod KnownPairs
 pub mod Workspace
 pub mod Reasons
@@ -28,4 +27,6 @@ pub mod Reached
 pub mod Accepted
 pub mod StepLines
 pub mod Order
+pub mod Earlier
 pub mod FirstFalse
+pub mod AtMostOneRefusal
