@@ -149,7 +149,7 @@ word-injective h = cc
 
 module _ {r s r′ s′ : Run} {l l′ : TraceLine} {d e : Reduced} (E : Alike r s) (line : l ≡ l′) (A : Step r l d r′) (B : Step s l′ e s′) where
   one-place : A .move .thread ≡ B .move .thread
-  one-place = some-injective (sym (A .listed .place) ∙ (λ z. placeOf (line z .thread) (E .numbers z)) ∙ B .listed .place)
+  one-place = some-injective {a = A .move .thread} (sym (A .listed .place) ∙ (λ z. placeOf (line z .thread) (E .numbers z)) ∙ B .listed .place)
 
   one-thread : A .thread ≡ B .thread
   one-thread = some-injective (sym (A .there) ∙ (λ z. getElem? (E .state z .threads) (one-place z)) ∙ B .there)
@@ -158,7 +158,7 @@ module _ {r s r′ s′ : Run} {l l′ : TraceLine} {d e : Reduced} (E : Alike r
   one-word = word-injective (sym (A .next) ∙ ap (λ (t : Thread). nextWord (t .body)) one-thread ∙ B .next)
 
   one-part : A .move .part ≡ B .move .part
-  one-part = some-injective
+  one-part = some-injective {a = A .move .part}
       (sym (A .listed .chosen (A .thread) (d .word) (A .there) (ap wordOf (A .next)))
       ∙ (λ z. partChosen (one-word z) (line z .choice))
       ∙ B .listed .chosen (B .thread) (e .word) (B .there) (ap wordOf (B .next)))
