@@ -41,35 +41,38 @@ staying n = replicate n (startRun (record { procedures = []; root = make newtid 
 pub threads-at-limit : Within [] (spawning 15) × (¬ Within [] (spawning 16))
 unfolding spawning steps howMany openCallsOf effect threadLimit thingLimit callLimit
 threads-at-limit = (
-  record { threads = omega arith; things = nothing; calls = λ i. omega arith },
+  record { threads = omega arith; things = λ k. let none-made = nothing k in omega (arith, none-made); calls = λ i. omega arith },
   λ W. let many = W .threads in omega (arith, many),
 )
   where
-    nothing : (k : Kind) → howMany (makes k) (spawning 15) ≤ thingLimit
-    nothing cells = omega arith
-    nothing locks = omega arith
-    nothing rwlocks = omega arith
-    nothing semaphores = omega arith
-    nothing identifiers = omega arith
+    nothing : (k : Kind) → howMany (makes k) (spawning 15) ≡ 0
+    nothing cells = refl
+    nothing locks = refl
+    nothing rwlocks = refl
+    nothing semaphores = refl
+    nothing identifiers = refl
 
 -- 64 things of every kind are within the limit: each kind is counted by itself. 65 of one kind are not.
 pub things-at-limit : Within [] (making 64) × ((k : Kind) → ¬ Within [] (steps 65 (made k)))
 unfolding making made steps howMany openCallsOf effect unaryEffect kindMade threadLimit thingLimit callLimit
-things-at-limit = (record { threads = omega arith; things = each; calls = λ i. omega arith }, past)
+things-at-limit = (
+  record { threads = omega arith; things = λ k. let made-of = by-itself k in omega (arith, made-of); calls = λ i. omega arith },
+  λ k W. let many = W .things k in let made-of = one-past k in omega (arith, many, made-of),
+)
   where
-    each : (k : Kind) → howMany (makes k) (making 64) ≤ thingLimit
-    each cells = omega arith
-    each locks = omega arith
-    each rwlocks = omega arith
-    each semaphores = omega arith
-    each identifiers = omega arith
+    by-itself : (k : Kind) → howMany (makes k) (making 64) ≡ 64
+    by-itself cells = refl
+    by-itself locks = refl
+    by-itself rwlocks = refl
+    by-itself semaphores = refl
+    by-itself identifiers = refl
 
-    past : (k : Kind) → ¬ Within [] (steps 65 (made k))
-    past cells W = let many = W .things cells in omega (arith, many)
-    past locks W = let many = W .things locks in omega (arith, many)
-    past rwlocks W = let many = W .things rwlocks in omega (arith, many)
-    past semaphores W = let many = W .things semaphores in omega (arith, many)
-    past identifiers W = let many = W .things identifiers in omega (arith, many)
+    one-past : (k : Kind) → howMany (makes k) (steps 65 (made k)) ≡ 65
+    one-past cells = refl
+    one-past locks = refl
+    one-past rwlocks = refl
+    one-past semaphores = refl
+    one-past identifiers = refl
 
 -- 64 open calls are within the limit, a 65th is not.
 pub calls-at-limit : (length (openCallsOf 0 (calling 64) (staying 64)) ≡ callLimit) × (¬ Within (staying 65) (calling 65))

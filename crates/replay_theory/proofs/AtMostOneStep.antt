@@ -147,6 +147,11 @@ numbers-alike m k (makes thing) E same = E .numbers
 word-injective : {w u : Redex} → atWord w ≡ atWord u → w ≡ u
 word-injective h = cc
 
+word-reduces : {r r′ : Run} {l : TraceLine} {d : Reduced} (A : Step r l d r′) → reduct (r .procedures) (r .state) (A .move) (A .thread) (d .word) ≡ some (r′ .state)
+unfolding reduce
+word-reduces {r} A = bind-goes-on (wordOf (nextWord (A .thread .body))) _ (ap wordOf (A .next))
+    (bind-goes-on (getElem? (r .state .threads) (A .move .thread)) _ (A .there) (A .reduces))
+
 module _ {r s r′ s′ : Run} {l l′ : TraceLine} {d e : Reduced} (E : Alike r s) (line : l ≡ l′) (A : Step r l d r′) (B : Step s l′ e s′) where
   one-place : A .move .thread ≡ B .move .thread
   one-place = some-injective {a = A .move .thread} (sym (A .listed .place) ∙ (λ z. placeOf (line z .thread) (E .numbers z)) ∙ B .listed .place)
@@ -169,11 +174,6 @@ module _ {r s r′ s′ : Run} {l l′ : TraceLine} {d e : Reduced} (E : Alike r
       let taker = A .taker ∙ ap (λ (x : TraceLine). x .thread) line ∙ sym (B .taker) in
       let path = sym (A .path) ∙ ap (λ (t : Thread). nextPath (t .body)) one-thread ∙ B .path in
       λ z. record { thread = taker z; path = path z; word = one-word z }
-
-  word-reduces : {r r′ : Run} {l : TraceLine} {d : Reduced} (A : Step r l d r′) → reduct (r .procedures) (r .state) (A .move) (A .thread) (d .word) ≡ some (r′ .state)
-  unfolding reduce
-  word-reduces {r} A = bind-goes-on (wordOf (nextWord (A .thread .body))) _ (ap wordOf (A .next))
-      (bind-goes-on (getElem? (r .state .threads) (A .move .thread)) _ (A .there) (A .reduces))
 
   module _ (apart : Apart (r .numbers)) where
     one-finished : effect (d .word) ≡ joins → A .move .finished ≡ B .move .finished
