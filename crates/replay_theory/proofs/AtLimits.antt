@@ -1,14 +1,13 @@
 -- Steps at the limits and one past them, and things of every kind at once: what `Within` counts, in examples.
-use Prim.Native.Nat.{ℕ, zero, suc, _≤_}
+use Prim.Native.Nat.{ℕ}
 use mathlib.Core.Path.{_≡_, refl}
-use mathlib.Core.List.{List, [], _∷_, _++_}
-use native.Mathlib.Decide.{ℕ-discrete}
+use mathlib.Core.List.{List, [], _++_}
 use native.Mathlib.Omega.{arith}
 use lib.ListN.{length, replicate}
 use Rattle.calculus.specs.Expression.{int, name, value, ref, call, newtid, newlock, newsem, newrwlock, make, Redex, spawnRedex, unaryRedex, makeRedex}
 use Rattle.calculus.specs.Reduction.{startState}
 use Rattle.replay_theory.specs.Paths.{partAt}
-use Rattle.replay_theory.specs.Run.{Kind, cells, locks, rwlocks, semaphores, identifiers, Run, startRun, placeOf, hasFinished, isOpen, spawns, makes, unaryEffect, kindMade, effect, threadLimit, thingLimit, callLimit}
+use Rattle.replay_theory.specs.Run.{Kind, cells, locks, rwlocks, semaphores, identifiers, Run, startRun, placeOf, hasFinished, isOpen, makes, unaryEffect, kindMade, effect, threadLimit, thingLimit, callLimit}
 use Rattle.replay_theory.specs.Claim.{Reduced, partIn, openThrough, takesCall, openCallsOf, howMany, Within}
 
 -- Thread 0 reduces that word so many times.

@@ -11,7 +11,6 @@ use Rattle.calculus.proofs.Laws.Maps.{some-injective}
 use Rattle.replay_theory.specs.Run.{Run}
 use Rattle.replay_theory.specs.Claim.{Racing, FirstRaceIs, RaceTold}
 use Rattle.replay_theory.specs.Exact.{OneRace}
-use Rattle.replay_theory.specs.declared.FirstRace.{FirstRace}
 use Rattle.replay_theory.specs.declared.FirstRace.the-variants.{None, Found}
 use Rattle.replay_theory.proofs.Lists.{every-at}
 use Rattle.replay_theory.proofs.Pairs.{racing-is-race}

@@ -16,6 +16,7 @@ use Rattle.replay_theory.specs.Paths.{nextPath}
 use Rattle.replay_theory.specs.Run.{Kind, cells, Run, placeOf, partChosen, Effect, plain, spawns, joins, opens, makes, unaryEffect, kindMade, effect, numbersAfter, threadsAfter}
 use Rattle.replay_theory.specs.Claim.{Numbered, LowestFinished, Reduced, Step}
 use Rattle.replay_theory.specs.Exact.{Apart, OneLowest, Alike}
+use Rattle.replay_theory.proofs.Effects.{another}
 use Rattle.replay_theory.proofs.Proper.{Rising, rising-append, rising-remove}
 use Rattle.replay_theory.proofs.Order.{rising-order}
 
@@ -72,17 +73,6 @@ step-rises {r} {r′} {d = d} A rising =
 abbrev listing : Move → (finished fresh : ℕ) → Move
 listing m f n = record { thread = m .thread; part = m .part; finished = f; fresh = n }
 
-abbrev joinsSo : Effect → ℕ
-joinsSo plain = 0
-joinsSo spawns = 0
-joinsSo joins = 1
-joinsSo opens = 0
-joinsSo (makes k) = 0
-
--- A word with another effect is no join.
-not-joins : {A : Type 0} {e : Effect} → joinsSo e ≡ 0 → e ≡ joins → A
-not-joins other is = let so = ap joinsSo is in absurd (omega (arith, other, so))
-
 -- A join alone looks at the finished thread, a word that makes something alone at the name.
 module _ (P : List Procedure) (s : State) (m : Move) (t : Thread) (f n : ℕ) where
   unary-looks : (o : Unary) (v : Value) → (unaryEffect o ≡ joins → m .finished ≡ f) → ((k : Kind) → unaryEffect o ≡ makes k → m .fresh ≡ n) →
@@ -115,24 +105,24 @@ module _ (P : List Procedure) (s : State) (m : Move) (t : Thread) (f n : ℕ) wh
   unfolding unaryEffect
   unary-name join (int k) is q = none-is-not-some q
   unary-name join (name i) is q = (i, refl)
-  unary-name ref v is q = not-joins refl is
-  unary-name read v is q = not-joins refl is
-  unary-name lock v is q = not-joins refl is
-  unary-name unlock v is q = not-joins refl is
-  unary-name post v is q = not-joins refl is
-  unary-name wait v is q = not-joins refl is
-  unary-name (hold w) v is q = not-joins refl is
-  unary-name (call g) v is q = not-joins refl is
+  unary-name ref v is q = another (makes cells) joins refl is
+  unary-name read v is q = another plain joins refl is
+  unary-name lock v is q = another plain joins refl is
+  unary-name unlock v is q = another plain joins refl is
+  unary-name post v is q = another plain joins refl is
+  unary-name wait v is q = another plain joins refl is
+  unary-name (hold w) v is q = another plain joins refl is
+  unary-name (call g) v is q = another opens joins refl is
 
   joins-name : {s′ : State} (w : Redex) → effect w ≡ joins → reduct P s m t w ≡ some s′ → (i : ℕ) × (w ≡ unaryRedex join (name i))
   unfolding effect
-  joins-name (letRedex x v e) is q = not-joins refl is
-  joins-name (ifRedex e₁ e₂) is q = not-joins refl is
-  joins-name (whileRedex e) is q = not-joins refl is
-  joins-name (spawnRedex v e) is q = not-joins refl is
-  joins-name (writeRedex v u) is q = not-joins refl is
+  joins-name (letRedex x v e) is q = another plain joins refl is
+  joins-name (ifRedex e₁ e₂) is q = another plain joins refl is
+  joins-name (whileRedex e) is q = another plain joins refl is
+  joins-name (spawnRedex v e) is q = another spawns joins refl is
+  joins-name (writeRedex v u) is q = another plain joins refl is
   joins-name (unaryRedex o v) is q = unary-name o v is q
-  joins-name (makeRedex o) is q = not-joins refl is
+  joins-name (makeRedex o) is q = another (makes (kindMade o)) joins refl is
 
 numbers-alike : {r s : Run} (m k : Move) (e : Effect) → Alike r s → (e ≡ joins → m .finished ≡ k .finished) → numbersAfter r m e ≡ numbersAfter s k e
 unfolding numbersAfter

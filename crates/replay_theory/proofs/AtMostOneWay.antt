@@ -1,35 +1,31 @@
 -- From the start of a program one list of runs follows a trace, once the names of new things are given.
 use Prim.Native.Nat.{ℕ, zero, suc, _≤_, _<_}
 use mathlib.Core.Path.{_≡_, refl, sym, _∙_, ap, subst}
+use mathlib.Core.Bool.{false}
 use mathlib.Core.Option.{Option, some}
 use mathlib.Core.List.{List, [], _∷_, _++_}
 use native.Mathlib.Decide.{decLt}
 use native.Mathlib.Omega.{arith}
-use lib.ListN.{getElem?, length, take}
+use lib.Dec.{eqb}
+use lib.ListN.{getElem?, take}
 use Rattle.spec.specs.Text.{Line}
 use Rattle.calculus.specs.Expression.{Program}
 use Rattle.calculus.proofs.Laws.Maps.{some-injective, none-is-not-some}
 use Rattle.replay_theory.specs.Trace.{TraceLine, traceLine}
 use Rattle.replay_theory.specs.Run.{Kind, Run, startRun, Effect, plain, spawns, joins, opens, makes, effect}
 use Rattle.replay_theory.specs.Claim.{Reduced, Step, Within, StepDone, Stops, allDone, notALine, cannotStep, tooMany, Follows}
-use Rattle.replay_theory.specs.Exact.{Alike, SameNames, SameWay, OneWay}
+use Rattle.replay_theory.specs.Exact.{Alike, SameNames, OneWay}
 use Rattle.replay_theory.specs.declared.Numbers.{Numbers}
 use Rattle.replay_theory.proofs.Lists.{there-below, first-of, one-more-of, all-of}
+use Rattle.replay_theory.proofs.Effects.{effectNumber, another}
 use Rattle.replay_theory.proofs.Proper.{Rising, start-is-proper}
-use Rattle.replay_theory.proofs.AtMostOneStep.{alike-back, rising-apart, step-rises, one-reduced, one-after}
+use Rattle.replay_theory.proofs.AtMostOneStep.{rising-apart, step-rises, one-reduced, one-after}
 use Rattle.replay_theory.proofs.AtMostOneEnd.{no-step-beside, same-line, not-a-line, stepping, same-end}
 use Rattle.replay_theory.proofs.SameCalls.{AllAlike, alike-first, alike-more, within-alike, made-within}
 
-abbrev makesSo : Effect → ℕ
-makesSo plain = 0
-makesSo spawns = 0
-makesSo joins = 0
-makesSo opens = 0
-makesSo (makes k) = 1
-
--- A word with another effect makes nothing.
-makes-nothing : {A : Type 0} {e : Effect} {k : Kind} → makesSo e ≡ 0 → e ≡ makes k → A
-makes-nothing other is = let so = ap makesSo is in absurd (omega (arith, other, so))
+-- It makes nothing.
+abbrev Other : Effect → Type 0
+Other e = (k : Kind) → eqb (effectNumber e) (effectNumber (makes k)) ≡ false
 
 module _ (p : Program) {rs ss : List Run} {ls : List Line} {m n : ℕ} {a b : Numbers} (begins : getElem? rs 0 ≡ some (startRun p))
     (begins′ : getElem? ss 0 ≡ some (startRun p)) (F : Follows rs ls m a) (G : Follows ss ls n b) (named : SameNames F G) where
@@ -108,12 +104,12 @@ module _ (p : Program) {rs ss : List Run} {ls : List Line} {m n : ℕ} {a b : Nu
           subst (Within rs) (all-of (F .reduced) m (omega (arith, counted′)))
           (subst (λ (xs : List Run). Within xs (take m (F .reduced))) (all-of rs (suc m) (omega (arith, counted))) (F .within m (omega arith)))
 
-      after-alike : (e : Effect) → makesSo e ≡ 0 → effect (d .word) ≡ e → Alike r (goes .after)
+      after-alike : (e : Effect) → Other e → effect (d .word) ≡ e → Alike r (goes .after)
       after-alike e other is =
           one-after (last-alike .0) read A (goes .step) (rising-apart 0 (F .last .threads) (F .last .numbers) (last-alike .1))
-          (λ k h. makes-nothing other (sym is ∙ h))
+          (λ k h. another e (makes k) (other k) (sym is ∙ h))
 
-      plainly : (e : Effect) → makesSo e ≡ 0 → effect (d .word) ≡ e → Within (rs ++ (r ∷ [])) (F .reduced ++ (d ∷ []))
+      plainly : (e : Effect) → Other e → effect (d .word) ≡ e → Within (rs ++ (r ∷ [])) (F .reduced ++ (d ∷ []))
       plainly e other is =
           within-alike (rs ++ (r ∷ [])) (take (suc (suc m)) ss) (F .reduced ++ (d ∷ [])) (take (suc m) (G .reduced))
           (subst (AllAlike (rs ++ (r ∷ []))) (sym (one-more-of ss (suc m) (goes .afterThere)))
@@ -121,10 +117,10 @@ module _ (p : Program) {rs ss : List Run} {ls : List Line} {m n : ℕ} {a b : Nu
 
       -- The step passes no limit, since the other passes none with it.
       within-too : (e : Effect) → effect (d .word) ≡ e → Within (rs ++ (r ∷ [])) (F .reduced ++ (d ∷ []))
-      within-too plain is = plainly plain refl is
-      within-too spawns is = plainly spawns refl is
-      within-too joins is = plainly joins refl is
-      within-too opens is = plainly opens refl is
+      within-too plain is = plainly plain (λ k. refl) is
+      within-too spawns is = plainly spawns (λ k. refl) is
+      within-too joins is = plainly joins (λ k. refl) is
+      within-too opens is = plainly opens (λ k. refl) is
       within-too (makes k) is =
           let counted = F .runsCounted in
           let counted′ = F .reducedCounted in

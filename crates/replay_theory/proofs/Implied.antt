@@ -2,15 +2,14 @@
 use Prim.Native.Nat.{ℕ}
 use mathlib.Core.Path.{_≡_, refl, sym, _∙_, ap, subst}
 use mathlib.Core.Option.{Option, some}
-use mathlib.Core.List.{List}
 use lib.Dec.{ltb}
 use lib.ListN.{getElem?, set}
-use Rattle.calculus.specs.Expression.{Value, call, Exp, Redex, unaryRedex, atWord, nextWord, plug, substitute, Procedure}
-use Rattle.calculus.specs.State.{Thread, State, Move}
+use Rattle.calculus.specs.Expression.{Value, call, Redex, unaryRedex, atWord, nextWord, plug, substitute, Procedure}
+use Rattle.calculus.specs.State.{Thread, Move}
 use Rattle.calculus.specs.Reduction.{_>>=_, wordOf, becomes, reduct, reduce}
 use Rattle.calculus.specs.Claim.{ThreadAt}
 use Rattle.calculus.proofs.Laws.Maps.{some-injective, bind-is-some, bind-goes-on}
-use Rattle.replay_theory.specs.Paths.{Path, nextPath, partAt}
+use Rattle.replay_theory.specs.Paths.{nextPath, partAt}
 use Rattle.replay_theory.specs.Run.{Run, placeOf, hasFinished, recordFor, recordOf, unaryEffect, effect, numbersAfter}
 use Rattle.replay_theory.specs.Claim.{partIn}
 use Rattle.replay_theory.specs.declared.Status.the-variants.{Running}

@@ -1,5 +1,6 @@
 pub mod Lists
 pub mod Calls
+pub mod Effects
 pub mod Changes
 pub mod Proper
 pub mod Order

@@ -12,9 +12,10 @@ use Rattle.calculus.specs.Expression.{choose}
 use Rattle.calculus.specs.State.{Thread}
 use Rattle.calculus.specs.Reduction.{_>>=_}
 use Rattle.replay_theory.specs.Paths.{Path, partAt}
-use Rattle.replay_theory.specs.Run.{Kind, sameKind, Run, placeOf, isOpen, openIn, Effect, plain, spawns, joins, opens, makes, sameEffect, effect, callLimit}
+use Rattle.replay_theory.specs.Run.{Kind, sameKind, Run, placeOf, isOpen, openIn, opens, makes, sameEffect, effect, callLimit}
 use Rattle.replay_theory.specs.Claim.{Reduced, partIn, openThrough, takesCall, openCallsOf, Within}
 use Rattle.replay_theory.specs.Exact.{Alike}
+use Rattle.replay_theory.proofs.Effects.{another}
 use Rattle.replay_theory.proofs.ThreadCalls.{oneIf, openFor}
 use Rattle.replay_theory.proofs.OpenCalls.{open-more}
 
@@ -82,19 +83,12 @@ fewer (some t) (q ∷ ps) = by-cases (isOpen (partAt q (t .body))) (fewer (some 
     by-cases true later = omega (arith, later)
     by-cases false later = omega (arith, later)
 
-abbrev opensSo : Effect → ℕ
-opensSo plain = 0
-opensSo spawns = 0
-opensSo joins = 0
-opensSo opens = 1
-opensSo (makes k) = 0
-
 no-call : (i : ℕ) (d : Reduced) (k : Kind) → effect (d .word) ≡ makes k → takesCall i d ≡ false
 unfolding takesCall
 no-call i d k is = by-cases (sameEffect sameKind (effect (d .word)) opens)
   where
     by-cases : (same : Dec (effect (d .word) ≡ opens)) → choose same (eqb i (d .thread)) false ≡ false
-    by-cases (yes p) = let so = ap opensSo (sym is ∙ p) in absurd (omega (arith, so))
+    by-cases (yes p) = another (makes k) opens refl (sym is ∙ p)
     by-cases (no p) = refl
 
 pub made-within : (rs : List Run) (r : Run) (ds es : List Reduced) (d : Reduced) (k : Kind) (ss : List Run) → effect (d .word) ≡ makes k →
