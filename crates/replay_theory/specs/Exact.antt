@@ -1,5 +1,6 @@
 -- That the claims are exact: at most one report fits given runs; one count of steps and one answer; and for a program and a trace one list of
--- runs. That what is handed back fits is claimed of every replay (Claim), and these are proved in proofs/AtMostOneRace, AtMostOneStep, AtMostOneEnd and AtMostOneWay.
+-- runs. That what is handed back fits is claimed of every replay (Claim). These are proved in proofs/AtMostOneRace, AtMostOneEnd, AtMostOneStep
+-- and AtMostOneWay.
 use Prim.Native.Nat.{ℕ, _<_}
 use mathlib.Core.Path.{_≡_}
 use mathlib.Core.List.{List}
