@@ -19,8 +19,7 @@ use Rattle.replay_theory.specs.Claim.{MoveOf, LowestFinished, Reduced, S
 use Rattle.replay_theory.proofs.Lists.{there-in-both}
 use Rattle.replay_theory.proofs.Proper.{Proper, Stepped, step-taken, state-after, procedures-after, step-reduces}
 use Rattle.replay_theory.proofs.Order.{not-below}
-use Rattle.replay_theory.proofs.Bodies.{body-is-put}
-use Rattle.replay_theory.proofs.Records.{step-is-of-running}
+use Rattle.replay_theory.proofs.Implied.{running-implied, body-implied}
 use Rattle.replay_theory.proofs.Joining.{FirstFinished, first-is-there, finished-has-value, value-has-finished, finished-tells, finished-is-told}
 
 -- ---- The move that a line lists goes wherever a move of that thread with that part goes
@@ -147,22 +146,28 @@ module _ {r r′ : Run} {l : TraceLine} (S : Stepped r l r′) where
 
   pub step-is-the-languages : Proper r → Step r l reduced r′
   unfolding moveOf after
-  step-is-the-languages proper = record {
-    move = moveOf r (S .place) (S .word) (S .part);
-    listed = record { place = S .there; chosen = chosen-part };
-    running = step-is-of-running S;
-    thread = S .thread;
-    there = S .thread-there;
-    taker = refl;
-    next = word-tells (nextWord (S .thread .body)) (S .is-next);
-    path = refl;
-    reduces = S .reduces ∙ ap some (state-after S);
-    joinsLowest = lowest-taken proper;
-    putsBody = body-is-put S;
-    sameProcedures = procedures-after S;
-    numbered = sym (ap (λ (z : Run). z .numbers) (S .is-after));
-    counted = sym (ap (λ (z : Run). z .threads) (S .is-after));
-  }
+  step-is-the-languages proper =
+      let move = moveOf r (S .place) (S .word) (S .part) in
+      let next = word-tells (nextWord (S .thread .body)) (S .is-next) in
+      let reduces = S .reduces ∙ ap some (state-after S) in
+      let numbered = sym (ap (λ (z : Run). z .numbers) (S .is-after)) in
+      record {
+        move = move;
+        listed = record { place = S .there; chosen = chosen-part };
+        running = running-implied r (l .thread) move (S .thread) (S .word) (S .there) (S .thread-there) next;
+        thread = S .thread;
+        there = S .thread-there;
+        taker = refl;
+        next = next;
+        path = refl;
+        reduces = reduces;
+        joinsLowest = lowest-taken proper;
+        putsBody = λ f v p is called.
+            body-implied r (l .thread) move (S .thread) (S .word) (S .there) (S .thread-there) next r′ f v p reduces numbered is called;
+        sameProcedures = procedures-after S;
+        numbered = numbered;
+        counted = sym (ap (λ (z : Run). z .threads) (S .is-after));
+      }
 
 -- ---- No step
 

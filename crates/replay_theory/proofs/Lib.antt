@@ -1,11 +1,12 @@
 pub mod Lists
 pub mod Calls
+pub mod Effects
 pub mod Changes
 pub mod Proper
 pub mod Order
+pub mod Implied
 pub mod Records
 pub mod Joining
-pub mod Bodies
 pub mod Complete
 pub mod Races
 pub mod Lowest
@@ -18,4 +19,10 @@ pub mod Limits
 pub mod Followed
 pub mod Answer
 pub mod Reported
+pub mod AtLimits
+pub mod AtMostOneRace
+pub mod AtMostOneStep
+pub mod AtMostOneEnd
+pub mod SameCalls
+pub mod AtMostOneWay
 pub mod Examples

@@ -1,10 +1,10 @@
 -- Laws of lists: their lengths, their places, and what holds of every element.
-use Prim.Native.Nat.{ℕ, zero, suc}
-use mathlib.Core.Path.{_≡_, refl, ap, subst}
+use Prim.Native.Nat.{ℕ, zero, suc, _<_}
+use mathlib.Core.Path.{_≡_, refl, sym, ap, subst}
 use mathlib.Core.Option.{some}
 use mathlib.Core.List.{List, [], _∷_, _++_}
 use native.Mathlib.Omega.{arith}
-use lib.ListN.{getElem?, set, length}
+use lib.ListN.{getElem?, set, length, take}
 use Rattle.calculus.specs.State.{remove}
 use Rattle.calculus.specs.Claim.{Every}
 use Rattle.calculus.proofs.Laws.Maps.{some-injective, none-is-not-some}
@@ -67,3 +67,32 @@ every-to (x ∷ xs) f ps = (f x (ps .0), every-to xs f (ps .1))
 pub every-both : {A : Type 0} {P Q R : A → Type 0} (xs : List A) → ((x : A) → P x → Q x → R x) → Every P xs → Every Q xs → Every R xs
 every-both [] f ps qs = tt
 every-both (x ∷ xs) f ps qs = (f x (ps .0) (qs .0), every-both xs f (ps .1) (qs .1))
+
+-- ---- The first elements
+
+pub there-below : {A : Type 0} {x : A} (xs : List A) (k : ℕ) → getElem? xs k ≡ some x → k < length xs
+there-below [] k h = none-is-not-some h
+there-below (y ∷ xs) zero h = omega arith
+there-below (y ∷ xs) (suc k) h = let later = there-below xs k h in omega (arith, later)
+
+-- A list of m elements that are the first of another.
+pub first-of : {A : Type 0} (xs ys : List A) (m : ℕ) → length xs ≡ m → ((k : ℕ) → k < m → getElem? xs k ≡ getElem? ys k) → xs ≡ take m ys
+first-of [] ys zero h same = refl
+first-of [] ys (suc m) h same = absurd (omega (arith, h))
+first-of (x ∷ xs) ys zero h same = absurd (omega (arith, h))
+first-of (x ∷ xs) [] (suc m) h same = none-is-not-some (sym (same 0 (omega arith)))
+first-of (x ∷ xs) (y ∷ ys) (suc m) h same =
+    let here = some-injective (same 0 (omega arith)) in
+    let later = first-of xs ys m (omega (arith, h)) (λ k b. same (suc k) (omega (arith, b))) in
+    λ z. here z ∷ later z
+
+pub one-more-of : {A : Type 0} {y : A} (ys : List A) (m : ℕ) → getElem? ys m ≡ some y → take (suc m) ys ≡ take m ys ++ (y ∷ [])
+one-more-of [] m h = none-is-not-some h
+one-more-of (x ∷ ys) zero h = ap (λ x′. x′ ∷ []) (some-injective h)
+one-more-of (x ∷ ys) (suc m) h = ap (λ xs. x ∷ xs) (one-more-of ys m h)
+
+pub all-of : {A : Type 0} (xs : List A) (m : ℕ) → length xs ≡ m → take m xs ≡ xs
+all-of [] zero h = refl
+all-of [] (suc m) h = refl
+all-of (x ∷ xs) zero h = absurd (omega (arith, h))
+all-of (x ∷ xs) (suc m) h = ap (λ ys. x ∷ ys) (all-of xs m (omega (arith, h)))

@@ -66,7 +66,7 @@ module _ (r : Run) (d : Reduced) (i : ℕ) where
       (ap (λ (b : Bool). takesCall i e && b) (through-more rs (e .path)) ∙ both-assoc (takesCall i e) (openThrough rs i (e .path)) (isOpenNow (e .path)))
       ∙ sym (open-one now (takesCall i e && openThrough rs i (e .path)) (e .path))
 
-  open-more : (ds : List Reduced) (rs : List Run) → length rs ≡ suc (length ds) →
+  pub open-more : (ds : List Reduced) (rs : List Run) → length rs ≡ suc (length ds) →
       openCallsOf i (ds ++ (d ∷ [])) (rs ++ (r ∷ [])) ≡ openFor now (oneIf (takesCall i d) (d .path) ++ openCallsOf i ds rs)
   unfolding openCallsOf openThrough
   open-more [] [] h = absurd (omega (arith, h))

@@ -15,7 +15,7 @@ rising-above low high [] p i r h = none-is-not-some h
 rising-above low high (n ∷ ns) zero i r h = let first = r .0 in let same = some-injective h in omega (arith, first, same)
 rising-above low high (n ∷ ns) (suc p) i r h = let first = r .0 in let above = rising-above (suc n) high ns p i (r .1) h in omega (arith, first, above)
 
-rising-order : (low high : ℕ) (ns : List ℕ) (p q i j : ℕ) → Rising low ns high → p < q → getElem? ns p ≡ some i → getElem? ns q ≡ some j → i < j
+pub rising-order : (low high : ℕ) (ns : List ℕ) (p q i j : ℕ) → Rising low ns high → p < q → getElem? ns p ≡ some i → getElem? ns q ≡ some j → i < j
 rising-order low high [] p q i j r l h k = none-is-not-some h
 rising-order low high (n ∷ ns) p zero i j r l h k = absurd (omega (arith, l))
 rising-order low high (n ∷ ns) zero (suc q) i j r l h k =

@@ -84,11 +84,11 @@ rising-from : (low low′ high : ℕ) (ns : List ℕ) → low′ ≤ low → Ris
 rising-from low low′ high [] h r = omega (arith, h, r)
 rising-from low low′ high (n ∷ ns) h r = let first = r .0 in (omega (arith, h, first), r .1)
 
-rising-append : (low high : ℕ) (ns : List ℕ) → Rising low ns high → Rising low (ns ++ (high ∷ [])) (suc high)
+pub rising-append : (low high : ℕ) (ns : List ℕ) → Rising low ns high → Rising low (ns ++ (high ∷ [])) (suc high)
 rising-append low high [] r = (r, omega arith)
 rising-append low high (n ∷ ns) r = (r .0, rising-append (suc n) high ns (r .1))
 
-rising-remove : (low high : ℕ) (ns : List ℕ) (i : ℕ) → Rising low ns high → Rising low (remove ns i) high
+pub rising-remove : (low high : ℕ) (ns : List ℕ) (i : ℕ) → Rising low ns high → Rising low (remove ns i) high
 rising-remove low high [] i r = r
 rising-remove low high (n ∷ ns) zero r = let first = r .0 in rising-from (suc n) low high ns (omega (arith, first)) (r .1)
 rising-remove low high (n ∷ ns) (suc i) r = (r .0, rising-remove (suc n) high ns i (r .1))

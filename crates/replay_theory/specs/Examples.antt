@@ -1,4 +1,4 @@
--- Replays with what they come to, as a table. The bar (|) stands for byte 10.
+-- Replays with what they come to, as tables; crates/replays computes those that go to a limit. The bar (|) stands for byte 10.
 use Prim.Native.Nat.{ℕ}
 use Prim.Native.String.{String, _++_}
 use mathlib.Core.Path.{_≡_}
@@ -98,6 +98,7 @@ choiceRows =
     ∷ ("P,4|if,0|int,0|wait,0|newsem,0|" along "0,0|0,0|" is lineNumbers 47 2 after 1 and None)
     ∷ ("P,4|if,0|int,0|wait,0|newsem,0|" along "0,1|0,0|" is whole after 2 and None)
     ∷ ("P,4|if,0|int,0|wait,0|newsem,0|" along "0,2|" is lineNumbers 47 1 after 0 and None)
+    ∷ ("P,3|spawn,0|newtid,0|int,0|" along "0,0|0,1|" is lineNumbers 47 2 after 1 and None)
     ∷ []
 
 -- ------------------------------------------------------------------ words that wait

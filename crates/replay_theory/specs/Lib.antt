@@ -5,4 +5,5 @@ pub mod Run
 pub mod LowestPair
 pub mod Replay
 pub mod Claim
+pub mod Exact
 pub mod Examples

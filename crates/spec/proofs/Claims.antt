@@ -1,4 +1,4 @@
--- No claim of a list is false exactly when all of them hold; else the first that is false is named.
+-- No claim of a list is false exactly when all of them hold; else the first that is false is named, and no other.
 use mathlib.Core.Path.{_≡_, refl, ap, sym, _∙_, subst}
 use mathlib.Core.List.{List, [], _∷_, _++_, append-assoc}
 use mathlib.Core.Bool.{Bool, true, false}
@@ -96,6 +96,33 @@ module _ {Q : List Claim → Type 0} (each : OfEach Q) (S : Split) where
 
   pub parts-both : (xs ys : List Site) → Q (claims S xs) → Q (claims S ys) → Q (claims S (xs ++ ys))
   parts-both xs ys p q = subst Q (sym (claims-append S xs ys)) (each .whole (claims S xs) (claims S ys) p q)
+
+-- ------------------------------------------------------------------ the first false one is one
+
+one-name : {k i : ℕ} {c : Condition} {r q : Refusal} → Names k i c r → Names k i c q → r ≡ q
+one-name type type = refl
+one-name flow flow = refl
+one-name access access = refl
+
+head-of : {c d : Claim} {cs ds : List Claim} → c ∷ cs ≡ d ∷ ds → c ≡ d
+head-of h = cc
+
+tail-of : {c d : Claim} {cs ds : List Claim} → c ∷ cs ≡ d ∷ ds → cs ≡ ds
+tail-of h = cc
+
+-- the first false claim is one
+one-here : {a b : Claim} (cs ds xs ys : List Claim) → AllHold xs → AllHold ys → (Holds (a .condition) → ⊥) → (Holds (b .condition) → ⊥) →
+    xs ++ a ∷ cs ≡ ys ++ b ∷ ds → a ≡ b
+unfolding AllHold
+one-here cs ds [] [] hold hold′ isFalse isFalse′ e = head-of e
+one-here cs ds [] (y ∷ ys) hold hold′ isFalse isFalse′ e = absurd (isFalse (subst (λ (x : Claim). Holds (x .condition)) (sym (head-of e)) (hold′ .0)))
+one-here cs ds (x ∷ xs) [] hold hold′ isFalse isFalse′ e = absurd (isFalse′ (subst (λ (x : Claim). Holds (x .condition)) (head-of e) (hold .0)))
+one-here cs ds (x ∷ xs) (y ∷ ys) hold hold′ isFalse isFalse′ e = one-here cs ds xs ys (hold .1) (hold′ .1) isFalse isFalse′ (tail-of e)
+
+pub one-first : {all all′ : List Claim} {r q : Refusal} → all ≡ all′ → FirstFalse all r → FirstFalse all′ q → r ≡ q
+one-first {r = r} same f g =
+    let here = one-here (f .after) (g .after) (f .before) (g .before) (f .holdBefore) (g .holdBefore) (f .isFalse) (g .isFalse) (sym (f .parted) ∙ same ∙ g .parted) in
+    one-name (subst (λ (c : Claim). Names (c .line) (c .number) (c .condition) r) here (f .named)) (g .named)
 
 -- ------------------------------------------------------------------ the first false one
 

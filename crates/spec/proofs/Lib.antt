@@ -27,4 +27,6 @@ pub mod Reached
 pub mod Accepted
 pub mod StepLines
 pub mod Order
+pub mod Earlier
 pub mod FirstFalse
+pub mod AtMostOneRefusal

@@ -1,5 +1,6 @@
 -- Tables of pairs with their answers: those of document 01, then our edge rows, by what they try.
 pub mod KnownPairs
+pub mod Reasons
 pub mod EdgeSheets
 pub mod EdgeConditions
 pub mod EdgeAgreement

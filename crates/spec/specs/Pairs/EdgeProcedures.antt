@@ -1,6 +1,7 @@
 -- Rows for procedures: the sheets with each new refusal, each condition of a call and of a `proc` line met and false, and where 30
 -- stands. The answers are worked out by hand from documents 01 and 02.
-use mathlib.Core.List.{List, [], _∷_, _++_ as _++ₗ_}
+use mathlib.Core.Path.{_≡_}
+use mathlib.Core.List.{List, [], _∷_, _++_ as _++ₗ_, map}
 use Prim.Native.String.{String, _++_}
 use Rattle.spec.specs.Reading.{_>>=_}
 use Rattle.spec.specs.Sites.{isType, only}
@@ -12,7 +13,14 @@ use Rattle.spec.specs.declared.Purpose.the-variants.{Fill}
 
 -- ------------------------------------------------------------------ the program sheet
 
--- line 1: as many numerals as the heading wants, then form before range; n 1 to 256, k 0 to 16
+-- n 1 to 256, k 0 to 16
+unfoldable pub mostProcedures : List Pair
+mostProcedures =
+    ("P2,256,16|int,0|" with Z is four 13 2 0 0) ∷
+    ("P2,1,17|int,0|" with Z is four 12 1 0 0) ∷
+    []
+
+-- line 1: as many numerals as the heading wants, then form before range
 unfoldable pub procedureHeaders : List Pair
 procedureHeaders =
     ("P2,1,0|int,0|" with Z is four 0 0 0 0) ∷
@@ -28,9 +36,7 @@ procedureHeaders =
     ("P3,1,0|int,0|" with Z is four 11 1 0 0) ∷
     ("P2,0,0|int,0|" with Z is four 12 1 0 0) ∷
     ("P2,257,0|int,0|" with Z is four 12 1 0 0) ∷
-    ("P2,1,17|int,0|" with Z is four 12 1 0 0) ∷
     ("P2,1,4294967296|int,0|" with Z is four 12 1 0 0) ∷
-    ("P2,256,16|int,0|" with Z is four 13 2 0 0) ∷
     []
 
 -- `proc,x` and `call,f`: their form, then x 0 to 255, f 0 to 15; in a `P` sheet they are no words
@@ -167,6 +173,7 @@ keptRows =
     (calling with (signed "1,0,1,0|0,1,|0,0,x|0,0,|") is four 21 9 0 0) ∷
     (calling with (signed "1,0,1,0|0,1,|0,0,3|0,0,|") is four 22 9 0 0) ∷
     (calling with (signed "1,0,1,0|0,1,|0,0,|x,0,|") is four 50 9 0 0) ∷
+    (calling with (signed "1,0,1,0|0,1,|0,0,|9,0,|") is four 50 9 0 0) ∷
     (calling with (signed "1,0,1,0|0,1,|0,0,|") is four 50 9 0 0) ∷
     (calling with (signed "1,0,1,0|0,1,|0,0,|0,0,|0,0,|") is four 50 9 0 0) ∷
     (calling with (signed "1,0,1,0|0,9,|0,0,|0,0,|") is four 22 8 0 0) ∷
@@ -188,9 +195,6 @@ callRows =
     (calling with (signed "1,0,1,0|0,1,|0,1,0|0,0,|") is four 32 4 3 0) ∷
     (calling with (signed "1,1,1,0|0,1,|1,1,0|0,0,|") is four 31 4 1 0) ∷
     (calling with (signed "1,1,1,0|0,1,|0,1,0|0,0,|") is four 31 4 2 0) ∷
-    -- more than `after` is left, and the caller gets `after` back
-    (calling with (signed "1,0,2,0|0,1,|0,1,1|0,0,|") is four 0 0 0 0) ∷
-    (calling with (signed "1,0,2,0|0,1,|0,0,1|0,0,|") is four 32 4 4 0) ∷
     -- what is kept back is had again, also if nothing is kept
     (calling with (signed "0,0,0,0|0,0,|0,0,2|0,0,|") is four 0 0 0 0) ∷
     (calling with (signed "2,0,2,0|0,2,|0,0,0|0,0,|") is four 0 0 0 0) ∷
@@ -199,6 +203,13 @@ callRows =
     (calling with "C,2,2,1,3|int,0,0|2,2|1,1|1,0|1,0,1,0|0,1,|0,0,2|0,0,|" is four 32 4 3 1) ∷
     -- a type afresh under another number agrees
     (calling with "C,2,1,2,3|int,0,0|int,0,0|2|1|0|1,1,1,1|0,1,|0,0,1|0,0,|" is four 0 0 0 0) ∷
+    []
+
+-- `after` unlike `before`: the body starts with `before` and leaves more than `after`, and the caller gets `after` back
+unfoldable pub unlikeRows : List Pair
+unlikeRows =
+    (calling with (signed "1,0,2,0|0,1,|0,1,1|0,0,|") is four 0 0 0 0) ∷
+    (calling with (signed "1,0,2,0|0,1,|0,0,1|0,0,|") is four 32 4 4 0) ∷
     []
 
 -- a `proc` line: the body's type is result, the body's post is at least `after`; then the body, whose pre is `before`; called or not
@@ -285,12 +296,17 @@ unfoldable pub foundToFill : Pair → Returned
 unfolding found typed isType only
 foundToFill r = returned (answer (sheets Fill (barred (r .program)) (barred (r .split)) >>= λ (P, S). startAtMostOne P S >>= λ whole. typed P S))
 
+-- "A `C` header is 21"
+unfoldable pub headingFills : List Pair
+headingFills =
+    (calling with (under "C,2,1,2,3" "1,0,1,0|0,,|0,,1|0,,|") is four 21 1 0 0) ∷
+    (calling with (under "C2,2,1,2,3,0" "1,0,1,0|0,,|0,,1|0,,|") is four 0 0 0 0) ∷
+    (calling with (under "C3,2,1,2,3,0" "1,0,1,0|0,,|0,,1|0,,|") is four 0 0 0 0) ∷
+    []
+
 -- signatures and a call's s as in checking; an m that is a numeral is 22, before 50
 unfoldable pub callFills : List Pair
 callFills =
-    (calling with (under "C2,2,1,2,3,0" "1,0,1,0|0,,|0,,1|0,,|") is four 0 0 0 0) ∷
-    (calling with (under "C3,2,1,2,3,0" "1,0,1,0|0,,|0,,1|0,,|") is four 0 0 0 0) ∷
-    (calling with (under "C,2,1,2,3" "1,0,1,0|0,,|0,,1|0,,|") is four 21 1 0 0) ∷
     (calling with (under "C2,2,1,2,3,0" "1,0,1|0,,|0,,1|0,,|") is four 21 7 0 0) ∷
     (calling with (under "C2,2,1,2,3,0" "1,2,1,0|0,,|0,,1|0,,|") is four 22 7 0 0) ∷
     (calling with (under "C2,2,1,2,3,0" "1,0,1,0|0,,|0,,|0,,|") is four 50 9 0 0) ∷
@@ -302,9 +318,13 @@ callFills =
     (calling with (under "C2,2,1,2,3,0" "1,1,0,0|0,,|0,,0|0,,|") is four 31 4 2 0) ∷
     []
 
+-- filling gives each row of a table its answer
+unfoldable pub Filled : List Pair → Type 0
+Filled rows = map foundToFill rows ≡ map (λ (r : Pair). r .expected) rows
+
 -- all of the others
 unfoldable pub procedureEdges : List Pair
-unfolding procedureHeaders procedureLines procedureCounts procedureOrder procedureScopes under signed calling signatureLines keptRows callRows procRows rootRows parameterRows severalRows fifteen manyRows lent looserRows
+unfolding mostProcedures procedureHeaders procedureLines procedureCounts procedureOrder procedureScopes under signed calling signatureLines keptRows callRows unlikeRows procRows rootRows parameterRows severalRows fifteen manyRows lent looserRows
 procedureEdges =
-    procedureHeaders ++ₗ procedureLines ++ₗ procedureCounts ++ₗ procedureOrder ++ₗ procedureScopes ++ₗ signatureLines ++ₗ keptRows
-    ++ₗ callRows ++ₗ procRows ++ₗ rootRows ++ₗ parameterRows ++ₗ severalRows ++ₗ manyRows ++ₗ looserRows
+    mostProcedures ++ₗ procedureHeaders ++ₗ procedureLines ++ₗ procedureCounts ++ₗ procedureOrder ++ₗ procedureScopes ++ₗ signatureLines ++ₗ keptRows
+    ++ₗ callRows ++ₗ unlikeRows ++ₗ procRows ++ₗ rootRows ++ₗ parameterRows ++ₗ severalRows ++ₗ manyRows ++ₗ looserRows
