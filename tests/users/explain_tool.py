@@ -110,7 +110,8 @@ def faults(explanation, run_there):
     if run_there.answer == "UNREAD":
         return lacks + ([] if "Likely cause" in text else ["the file at fault"])
     number, line, condition, _ = run_there.numbers()
-    wanted = [REFUSALS[number].helps, *explanation.numbers[:1]]
+    never = number == 33 and "nobody holds the rest: the job starts with" in text  # then there is nobody to be asked
+    wanted = [*([] if never else [REFUSALS[number].helps]), *explanation.numbers[:1]]
     wanted += [f"line {line}"] if REFUSALS[number].sheet else []
     if condition:
         wanted += [f"Condition {condition} of ", explanation.condition.wording, explanation.condition.plain]
@@ -206,7 +207,7 @@ def check_errors(binary):
         ("an unknown option", ["-x", join], "there is no option -x\nusage: explain"),
         ("two folders", [join, join], f"one argument too many: {join}\nusage: explain"),
         ("a page without a file", [join, "--page"], "--page wants a value behind it\nusage: explain"),
-        ("a page of an order", ["--replay", "--page", "x", join], "--replay and --page do not go together\nusage: explain"),
+        ("the touches of an order", ["--replay", "--touches", join], "--replay and --touches do not go together\nusage: explain"),
         ("no such folder", ["nowhere"], "no such folder"),
         ("a page in no folder", ["--page", "nowhere/page.html", join], "nowhere"),
     ]:

@@ -56,9 +56,10 @@ stepRows =
     ("P,2|foo,0|int,65536|" with Z is four 11 2 0 0) ∷
     []
 
--- 13: lines missing and spare, then an expression unfinished or finished early
+-- eleven digits are no numeral; 13: lines missing and spare, then an expression unfinished or finished early
 unfoldable pub countRows : List Pair
 countRows =
+    ("P,10000000000|int,0|" with Z is four 11 1 0 0) ∷
     ("P,2|int,0|" with Z is four 13 2 0 0) ∷
     ("P,3|foo,0|" with Z is four 11 2 0 0) ∷
     ("P,3|int,65536|" with Z is four 12 2 0 0) ∷
