@@ -51,7 +51,9 @@ def lacks(explanation, run_there):
     if run_there.answer == "FILLED":
         return faults + ([] if walked(explanation) else ["the walk"])
     number = run_there.numbers()[0]
-    wanted = [REFUSALS[number].helps, *explanation.numbers[:1]]
+    # A sheet that is not for filling is told so, in the place of what usually helps.
+    usual = REFUSALS[number].helps
+    wanted = [usual if usual in explanation.helps else explanation.helps[0], *explanation.numbers[:1]]
     if number == 41:
         wanted += [f"program.txt line {explanation.site.line}", f"Condition {explanation.condition_number} of ", "at location "]
         faults += [] if len(explanation.numbers) > 1 else ["what is there"]

@@ -81,7 +81,7 @@ def never_there(split, condition, location):
             " D or the start is wrong")
 
 
-def filling_cause(sheet, line):
+def filling_cause(sheet, line, is_for_filling):
     """Why racefill refuses a split that is no sheet for filling, and what to do then; empty if that is not why."""
     if sheet is None or sheet.name != SPLIT:
         return ""
@@ -89,7 +89,7 @@ def filling_cause(sheet, line):
     if line == 1 and re.fullmatch(rb"C(,\d+){4}", text):
         return ("a `C` sheet is not filled, since it does not name its start: write `C2` in the place of `C` and the number of the"
                 " start, `,0`, at the end of line 1; or let triage do that")
-    if re.fullmatch(rb"\d+,\d+,\d*", text):
+    if not is_for_filling and re.fullmatch(rb"\d+,\d+,\d*", text):
         return ("the sheet is filled already: `racecheck` judges it as it is, and triage fills it afresh, without its after-maps;"
                 " for racefill leave the after-map of every row empty")
     return ""

@@ -4,7 +4,7 @@ from dataclasses import dataclass, field
 from . import causes
 from .conditions import find
 from .disagreement import Disagreement, require
-from .filling import filled_text, lack_in_words, too_large
+from .filling import filled_text, is_for_filling, lack_in_words, too_large
 from .judging import judge
 from .names import read_names
 from .refusals import MEANINGS, PROGRAM, REFUSALS, SPLIT, USUALLY
@@ -142,8 +142,9 @@ def _tell_refusal(explanation, judgement, program, split):
 def _tell_causes(explanation, line, program, split):
     sheet = _sheet_at_fault(explanation, program, split)
     explanation.causes += causes.line_causes(sheet, line) if sheet else []
-    if explanation.program == FILLING and causes.filling_cause(sheet, line):
-        explanation.causes, explanation.helps = [], [causes.filling_cause(sheet, line)]
+    other = causes.filling_cause(sheet, line, is_for_filling(program, split)) if explanation.program == FILLING else ""
+    if other:
+        explanation.causes, explanation.helps = [], [other]
         return
     if explanation.number in (21, 22, 23, 40, 50) and line > 1:
         explanation.causes += causes.version_causes(program, split, lines_wanted(steps_of(program), split))
@@ -168,8 +169,8 @@ def _tell_condition(explanation, sites, line, condition, location):
     explanation.condition_number = condition
     usually, never = USUALLY.get((site.word, condition)), causes.never_there(sites.split, explanation.condition, location)
     if never:
-        explanation.helps, explanation.owner = [never], REFUSALS[30].owner
-    elif usually:
-        explanation.helps.insert(0, usually)
+        explanation.owner = REFUSALS[30].owner
+    if never or usually:
+        explanation.helps.insert(0, never or usually)
     finding = find(site, condition, sites.split, explanation.names)
     explanation.numbers, explanation.maps = finding.numbers, finding.maps
