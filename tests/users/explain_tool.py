@@ -110,8 +110,7 @@ def faults(explanation, run_there):
     if run_there.answer == "UNREAD":
         return lacks + ([] if "Likely cause" in text else ["the file at fault"])
     number, line, condition, _ = run_there.numbers()
-    never = number == 33 and "nobody holds the rest: the job starts with" in text  # then there is nobody to be asked
-    wanted = [*([] if never else [REFUSALS[number].helps]), *explanation.numbers[:1]]
+    wanted = [REFUSALS[number].helps, *explanation.numbers[:1]]
     wanted += [f"line {line}"] if REFUSALS[number].sheet else []
     if condition:
         wanted += [f"Condition {condition} of ", explanation.condition.wording, explanation.condition.plain]
