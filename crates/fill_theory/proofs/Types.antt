@@ -57,7 +57,7 @@ module _ {P : Program} {S : Split} (R : InRange P S) (σ : List Map) where
     term-kept : (t : TypeTerm) → typeTerm S′ Γ pre e t ≡ typeTerm S Γ pre′ e t
     unfolding signature filled
     term-kept (entry.type-of p) = type-kept S σ _
-    term-kept entry.that-of-its-let = refl
+    term-kept entry.type-of-its-let = refl
     term-kept entry.result = refl
     term-kept entry.argument = refl
 
@@ -70,12 +70,12 @@ module _ {P : Program} {S : Split} (R : InRange P S) (σ : List Map) where
     entries-kept n i (entry._shows_ p t ∷ xs) = rw (type-kept S σ _, term-kept t, may-show-kept R σ _ _, entries-kept n (i + 1) xs)
     entries-kept n i (entry._is-c-of_ p q ∷ xs) = rw (type-kept S σ _, kind-kept S σ _, contains-kept R σ _ _, entries-kept n (i + 1) xs)
     entries-kept n i (entry._＝_ l m ∷ xs) = entries-kept n (i + 1) xs
-    entries-kept n i (entry._≥_ l m ∷ xs) = entries-kept n (i + 1) xs
-    entries-kept n i (entry.N×_≤_ l m ∷ xs) = entries-kept n (i + 1) xs
-    entries-kept n i (entry._+_＝_ l m k ∷ xs) = entries-kept n (i + 1) xs
-    entries-kept n i (entry._＝_+_ l m k ∷ xs) = entries-kept n (i + 1) xs
-    entries-kept n i (entry.post-at-p>0 ∷ xs) = entries-kept n (i + 1) xs
-    entries-kept n i (entry.post-at-p≥D ∷ xs) = entries-kept n (i + 1) xs
+    entries-kept n i (entry._≧_ l m ∷ xs) = entries-kept n (i + 1) xs
+    entries-kept n i (entry.N×_≦_ l m ∷ xs) = entries-kept n (i + 1) xs
+    entries-kept n i (entry._⊕_＝_ l m k ∷ xs) = entries-kept n (i + 1) xs
+    entries-kept n i (entry._＝_⊕_ l m k ∷ xs) = entries-kept n (i + 1) xs
+    entries-kept n i (entry.post-at-p＞0 ∷ xs) = entries-kept n (i + 1) xs
+    entries-kept n i (entry.post-at-p≧D ∷ xs) = entries-kept n (i + 1) xs
 
     own-kept : ownTypes S′ Γ pre e ≡ ownTypes S Γ pre′ e
     unfolding claimsAt conditionsOf conditionsBy

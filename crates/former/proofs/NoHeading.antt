@@ -101,7 +101,7 @@ module _ (h : Heading) (S : Split) where
     same-type : (t : TypeTerm) → typeTerm (under h S) Γ pre e t ≡ typeTerm S Γ pre e t
     unfolding row type signature under
     same-type (entry.type-of p) = refl
-    same-type entry.that-of-its-let = refl
+    same-type entry.type-of-its-let = refl
     same-type entry.result = refl
     same-type entry.argument = refl
 
@@ -125,12 +125,12 @@ module _ (h : Heading) (S : Split) where
     same-says (entry._shows_ p t) = rw (same-type t) (ap T (same-may-show _ _))
     same-says (entry._is-c-of_ p q) = ap T (same-contains _ _)
     same-says (entry._＝_ l m) = rw (same-map l, same-map m)
-    same-says (entry._≥_ l m) = rw (same-map l, same-map m)
-    same-says (entry.N×_≤_ l m) = rw (same-map l, same-map m)
-    same-says (entry._+_＝_ l m n) = rw (same-map l, same-map m, same-map n)
-    same-says (entry._＝_+_ l m n) = rw (same-map l, same-map m, same-map n)
-    same-says entry.post-at-p>0 = refl
-    same-says entry.post-at-p≥D = refl
+    same-says (entry._≧_ l m) = rw (same-map l, same-map m)
+    same-says (entry.N×_≦_ l m) = rw (same-map l, same-map m)
+    same-says (entry._⊕_＝_ l m n) = rw (same-map l, same-map m, same-map n)
+    same-says (entry._＝_⊕_ l m n) = rw (same-map l, same-map m, same-map n)
+    same-says entry.post-at-p＞0 = refl
+    same-says entry.post-at-p≧D = refl
 
     same-all : (xs : List Entry)
         → map (says (under h S) Γ pre e (agree (under h S)) (mayShow (under h S))) xs ≡ map (says S Γ pre e (agree S) (mayShow S)) xs

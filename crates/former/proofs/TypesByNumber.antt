@@ -53,12 +53,12 @@ module _ (S : Split) where
     says-holds (entry._shows_ p t) h = shown _ _ h
     says-holds (entry._is-c-of_ p q) h = contained _ _ h
     says-holds (entry._＝_ l m) h = h
-    says-holds (entry._≥_ l m) h = h
-    says-holds (entry.N×_≤_ l m) h = h
-    says-holds (entry._+_＝_ l m n) h = h
-    says-holds (entry._＝_+_ l m n) h = h
-    says-holds entry.post-at-p>0 h = h
-    says-holds entry.post-at-p≥D h = h
+    says-holds (entry._≧_ l m) h = h
+    says-holds (entry.N×_≦_ l m) h = h
+    says-holds (entry._⊕_＝_ l m n) h = h
+    says-holds (entry._＝_⊕_ l m n) h = h
+    says-holds entry.post-at-p＞0 h = h
+    says-holds entry.post-at-p≧D h = h
 
     all-say : (n i : ℕ) (xs : List Entry) → AllHold (numbered n i (map (says S Γ pre e agreeByNumber agreeByNumber) xs))
         → AllHold (numbered n i (map (says S Γ pre e (agree S) (mayShow S)) xs))

@@ -5,7 +5,7 @@ use mathlib.Core.List.{List, [], _∷_, map}
 use Prim.Native.Nat.{ℕ}
 use Rattle.spec.specs.Kinds.{int, is, refLocation, firstMap, secondMap}
 use Rattle.spec.specs.Table as entry
-use Rattle.spec.specs.Table.{Part, step, e1, e2, TypeTerm, type-of, that-of-its-let, result, argument, MapTerm, pre, post-of, K, «in», out, before, after, Entry, table}
+use Rattle.spec.specs.Table.{Node, step, e1, e2, TypeTerm, type-of, type-of-its-let, result, argument, MapTerm, pre, post-of, K, «in», out, before, after, Entry, table}
 use Rattle.spec.specs.Conditions.{Condition, T, F, contains}
 use Rattle.spec.specs.declared.MapNumber.{MapNumber}
 use Rattle.spec.specs.declared.TypeNumber.{TypeNumber}
@@ -37,19 +37,19 @@ loaded w s kind fits less load more =
 -- ------------------------------------------------------------------ spec's table over a view
 
 -- the types and posts of a step and its parts, the types and maps of the table's terms; K, in, out, r and w are those of the type line x
-abbrev pub typeIn : View → Part → TypeNumber
+abbrev pub typeIn : View → Node → TypeNumber
 typeIn s step = s .typed
 typeIn s e1 = s .type1
 typeIn s e2 = s .type2
 
-abbrev pub postIn : View → Part → MapNumber
+abbrev pub postIn : View → Node → MapNumber
 postIn s step = s .post
 postIn s e1 = s .post1
 postIn s e2 = s .post2
 
 abbrev pub typeTermIn : View → TypeTerm → TypeNumber
 typeTermIn s (type-of p) = typeIn s p
-typeTermIn s that-of-its-let = s .bound
+typeTermIn s type-of-its-let = s .bound
 typeTermIn s result = s .signature .result
 typeTermIn s argument = s .signature .argument
 
@@ -66,23 +66,23 @@ mapTermIn s x before = s .signature .before
 mapTermIn s x after = s .signature .after
 
 -- the type lines of the step and of its first part; no entry looks at that of e2
-abbrev pub kindIn : (kind kind₁ : TypeLine) → Part → TypeLine
+abbrev pub kindIn : (kind kind₁ : TypeLine) → Node → TypeLine
 kindIn kind kind₁ step = kind
 kindIn kind kind₁ e1 = kind₁
 kindIn kind kind₁ e2 = kind₁
 
-abbrev pub saysIn : (w : List ℕ) → View → (kinds : Part → TypeLine) → (x : TypeLine) → Entry → Condition
+abbrev pub saysIn : (w : List ℕ) → View → (kinds : Node → TypeLine) → (x : TypeLine) → Entry → Condition
 saysIn w s kinds x (entry._a_ p k) = T (is k (kinds p))
 saysIn w s kinds x (entry._is_ p t) = T (agreeIn w (s .locations) (typeIn s p) (typeTermIn s t))
 saysIn w s kinds x (entry._shows_ p t) = T (mayShowIn w (s .locations) (typeIn s p) (typeTermIn s t))
 saysIn w s kinds x (entry._is-c-of_ p q) = T (contains (agreeIn w (s .locations)) (kinds q) (typeIn s p))
 saysIn w s kinds x (entry._＝_ l m) = flows w s (Equal (mapTermIn s x l) (mapTermIn s x m))
-saysIn w s kinds x (entry._≥_ l m) = flows w s (AtLeast (mapTermIn s x l) (mapTermIn s x m))
-saysIn w s kinds x (entry.N×_≤_ l m) = flows w s (Covers (mapTermIn s x m) (s .value) (mapTermIn s x l))
-saysIn w s kinds x (entry._+_＝_ l m n) = flows w s (Sum (mapTermIn s x l) (mapTermIn s x m) (mapTermIn s x n))
-saysIn w s kinds x (entry._＝_+_ l m n) = flows w s (Sum (mapTermIn s x m) (mapTermIn s x n) (mapTermIn s x l))
-saysIn w s kinds x entry.post-at-p>0 = hasAtLeast w (s .post) (refLocation x) 1
-saysIn w s kinds x entry.post-at-p≥D = hasAtLeast w (s .post) (refLocation x) (s .denominator)
+saysIn w s kinds x (entry._≧_ l m) = flows w s (AtLeast (mapTermIn s x l) (mapTermIn s x m))
+saysIn w s kinds x (entry.N×_≦_ l m) = flows w s (Covers (mapTermIn s x m) (s .value) (mapTermIn s x l))
+saysIn w s kinds x (entry._⊕_＝_ l m n) = flows w s (Sum (mapTermIn s x l) (mapTermIn s x m) (mapTermIn s x n))
+saysIn w s kinds x (entry._＝_⊕_ l m n) = flows w s (Sum (mapTermIn s x m) (mapTermIn s x n) (mapTermIn s x l))
+saysIn w s kinds x entry.post-at-p＞0 = hasAtLeast w (s .post) (refLocation x) 1
+saysIn w s kinds x entry.post-at-p≧D = hasAtLeast w (s .post) (refLocation x) (s .denominator)
 
 -- the type line whose maps and location a word's row names: its own if it has no parts, else that of e1
 abbrev pub named : Word → (kind kind₁ : TypeLine) → TypeLine
