@@ -8,8 +8,9 @@ use Rattle.spec.specs.Verdict.{four, returned}
 use Rattle.spec.specs.Pairs.EdgeConditions.{rows}
 use Rattle.spec.specs.declared.Returned.{Returned}
 use Rattle.spec.specs.Pairs.KnownPairs.{Pair, barred, _with_is_, found, Answered}
-use Rattle.former.proofs.Texts.{_above_, joined, onClosed}
-use Rattle.former.proofs.FreelockBefore.{itemLineFormerly, itemLinesFormerly, programFormerly, sheetsFormerly, checkedFormerly, verdictFormerly, freelockFirst, lockInstead, locksInstead}
+use Rattle.former.specs.Texts.{_above_, joined, onClosed}
+use Rattle.former.specs.Judging.{programBy, sheetsBy, checkedBy, verdictBy}
+use Rattle.former.specs.Freelock.{itemLineWithFreelock, itemLinesWithFreelock, programWithFreelock, verdictWithFreelock, freelockFirst, lockInstead, locksInstead}
 
 -- a lock taken by the word w; with `freelock` each used to get the answer listed
 unfoldable pub frees : String → List Pair
@@ -22,7 +23,7 @@ frees w =
     []
 
 unfoldable pub answeredFormerly : Pair → Returned
-answeredFormerly r = returned (verdictFormerly workspaceSize (barred (r .program)) (barred (r .split)))
+answeredFormerly r = returned (verdictWithFreelock workspaceSize (barred (r .program)) (barred (r .split)))
 
 unfoldable pub textsOf : List Pair → List (List ℕ)
 textsOf rows = map (λ (r : Pair). barred (r .program)) rows
@@ -34,5 +35,5 @@ pub record FreesAnswered : Type 0 where
   pub written : map locksInstead (textsOf (frees "freelock")) ≡ textsOf (frees "lock")
 
 pub frees-answered : FreesAnswered
-unfolding _with_is_ found Answered rows itemLineFormerly itemLinesFormerly programFormerly sheetsFormerly checkedFormerly verdictFormerly freelockFirst lockInstead locksInstead joined _above_ onClosed frees answeredFormerly textsOf
+unfolding _with_is_ found Answered rows itemLineWithFreelock itemLinesWithFreelock programWithFreelock verdictWithFreelock programBy sheetsBy checkedBy verdictBy freelockFirst lockInstead locksInstead joined _above_ onClosed frees answeredFormerly textsOf
 frees-answered = record { formerly = refl; now = refl; withLock = refl; written = refl }

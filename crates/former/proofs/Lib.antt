@@ -1,14 +1,20 @@
--- First what two headings have in common, then the readings that are gone, each with the theorem and the pairs that it is tried on.
+-- First what two headings have in common, then request by request that what specs/ says of its sheets holds, and the pairs that a former
+-- check is tried on.
 pub mod Texts
 pub mod ZeroField
 pub mod NoHeading
-pub mod Headings
-pub mod LocksWritten
 pub mod ProgramStages
-pub mod ProgramHeadings
-pub mod AcceptedBefore
-pub mod AcceptedPairs
-pub mod StartsBefore
-pub mod StartsPairs
-pub mod FreelockBefore
+pub mod Unless
+pub mod TypesByNumber
+pub mod TypesByNumberPairs
+pub mod SevenDigits
+pub mod SevenDigitsPairs
+pub mod StartNamed
+pub mod EmptyStarts
+pub mod EmptyStartsPairs
+pub mod LockLines
+pub mod Freelock
 pub mod FreelockPairs
+pub mod PlainPrograms
+pub mod PlainProgramsPairs
+pub mod NoProcedures

@@ -10,12 +10,14 @@ use Rattle.spec.specs.Reading.{Out, _>>=_, demand}
 use Rattle.spec.specs.Words.{role, binding, preOfPart, preOfSecond}
 use Rattle.spec.specs.Expression.{Expr, leaf, unary, binary, Procedure}
 use Rattle.spec.specs.Program.{Program}
-use Rattle.spec.specs.Split.{Map, Header, Signature, Split}
+use Rattle.spec.specs.Split.{Map, Split}
+use Rattle.spec.specs.declared.Signature.{Signature}
+use Rattle.spec.specs.declared.Header.{Header}
 use Rattle.spec.specs.Kinds.{int, lock, is, content}
 use Rattle.spec.specs.Agreement.{Tree, plain, sameTree, treeOf, trees, tree, agree}
 use Rattle.spec.specs.Table as entry
 use Rattle.spec.specs.Table.{TypeTerm, MapTerm, Entry, table}
-use Rattle.spec.specs.Conditions.{Condition, T, Env, typeAt, mapAt, startMap, contains, looserLock, mayShow, row, type, kind, post, startOr, bodyStart, signature, wordOf, typeTerm, mapTerm, says, conditionsBy, conditionsOf, procedureConditions}
+use Rattle.spec.specs.Conditions.{Condition, T, Env, typeAt, mapAt, startMap, contains, looserLock, mayShow, row, type, kind, post, startOr, bodyStart, signature, stepWord, typeTerm, mapTerm, says, conditionsBy, conditionsOf, procedureConditions}
 use Rattle.spec.specs.Sites.{Site, sites, claimsAt, claims, bodySites, claimsOfProcedure, claimsOfProcedures, claimsOf}
 use Rattle.spec.specs.Verdict.{takesEnough, allTakeEnough, locksTakeEnough, startAtMostOne, ruled}
 use Rattle.spec.specs.declared.Heading.{Heading}
@@ -33,7 +35,7 @@ headedAs h H = record {
   locations = H .locations;
   types = H .types;
   maps = H .maps;
-  rootStart = H .rootStart;
+  start = H .start;
 }
 
 unfoldable pub under : Heading → Split → Split
@@ -101,7 +103,7 @@ module _ (h : Heading) (S : Split) where
     same-type : (t : TypeTerm) → typeTerm (under h S) Γ pre e t ≡ typeTerm S Γ pre e t
     unfolding row type signature under
     same-type (entry.type-of p) = refl
-    same-type entry.that-of-its-let = refl
+    same-type entry.type-of-its-let = refl
     same-type entry.result = refl
     same-type entry.argument = refl
 
@@ -125,12 +127,12 @@ module _ (h : Heading) (S : Split) where
     same-says (entry._shows_ p t) = rw (same-type t) (ap T (same-may-show _ _))
     same-says (entry._is-c-of_ p q) = ap T (same-contains _ _)
     same-says (entry._＝_ l m) = rw (same-map l, same-map m)
-    same-says (entry._≥_ l m) = rw (same-map l, same-map m)
-    same-says (entry.N×_≤_ l m) = rw (same-map l, same-map m)
-    same-says (entry._+_＝_ l m n) = rw (same-map l, same-map m, same-map n)
-    same-says (entry._＝_+_ l m n) = rw (same-map l, same-map m, same-map n)
-    same-says entry.post-at-p>0 = refl
-    same-says entry.post-at-p≥D = refl
+    same-says (entry._≧_ l m) = rw (same-map l, same-map m)
+    same-says (entry.N×_≦_ l m) = rw (same-map l, same-map m)
+    same-says (entry._⊕_＝_ l m n) = rw (same-map l, same-map m, same-map n)
+    same-says (entry._＝_⊕_ l m n) = rw (same-map l, same-map m, same-map n)
+    same-says entry.post-at-p＞0 = refl
+    same-says entry.post-at-p≧D = refl
 
     same-all : (xs : List Entry)
         → map (says (under h S) Γ pre e (agree (under h S)) (mayShow (under h S))) xs ≡ map (says S Γ pre e (agree S) (mayShow S)) xs
@@ -139,7 +141,7 @@ module _ (h : Heading) (S : Split) where
 
     same-own : conditionsOf (under h S) Γ pre e ≡ conditionsOf S Γ pre e
     unfolding conditionsOf conditionsBy
-    same-own = same-all (table (wordOf e))
+    same-own = same-all (table (stepWord e))
 
   -- ---------------------------------------------------------------- all of them
 

@@ -7,7 +7,8 @@ use Rattle.spec.specs.Reading.{Out, on, _>>=_, programSheet, Seen, Place, passe
 use Rattle.spec.specs.Expression.{Item, stepsAmong, structure, scopes}
 use Rattle.spec.specs.Program.{Counts, countLine, itemLines, Program, program}
 use Rattle.spec.specs.declared.ProgramHeading.{ProgramHeading}
-use Rattle.former.proofs.Texts.{OneLine, _above_, above-lines}
+use Rattle.former.specs.Texts.{OneLine, _above_}
+use Rattle.former.proofs.Texts.{above-lines}
 
 -- behind the lines counted, and behind the header
 unfoldable pub afterItems : (k : ℕ) → List Item × Place → Out Program

@@ -9,29 +9,14 @@ use lib.ListN.{length}
 use borrow.Author.Tests.{ne-eqb, eqb-true, eqb-false}
 use Rattle.spec.specs.Choice.{if_then_else_}
 use Rattle.spec.specs.Text.{Line, closed, unclosed, onLine, lines, Field, onField, fields}
+use Rattle.former.specs.Texts.{OneLine, _above_, joined}
 
 -- ------------------------------------------------------------------ lines
-
--- bytes without byte 10
-abbrev pub OneLine : List ℕ → Type 0
-OneLine [] = Unit {0}
-OneLine (b ∷ l) = (b ≡ 10 → ⊥) × OneLine l
-
--- a line in front of a text
-infixl 20 _above_
-unfoldable pub _above_ : List ℕ → List ℕ → List ℕ
-l above t = l ++ 10 ∷ t
 
 pub above-lines : (l t : List ℕ) → OneLine l → lines (l above t) ≡ closed l ∷ lines t
 unfolding _above_ lines onLine
 above-lines [] t one = refl
 above-lines (b ∷ l) t one = rw (ne-eqb b 10 (one .0), above-lines l t (one .1))
-
--- the text with these lines
-unfoldable pub joined : List Line → List ℕ
-joined [] = []
-joined (closed l ∷ ls) = l above joined ls
-joined (unclosed l ∷ ls) = l
 
 -- the lines that a text can have: the last alone may be unclosed, and is not empty then
 pub data Lined : List Line → Type 0 where
@@ -71,11 +56,6 @@ joined-lines (b ∷ t) = by-byte (eqb b 10) refl (lines t) (joined-lines t)
     by-byte false e [] h = ap (b ∷_) h
     by-byte false e (closed l ∷ ls) h = ap (b ∷_) h
     by-byte false e (unclosed l ∷ ls) h = ap (b ∷_) h
-
--- a change of the closed lines
-unfoldable pub onClosed : (List ℕ → List ℕ) → Line → Line
-onClosed f (closed l) = closed (f l)
-onClosed f (unclosed l) = unclosed l
 
 -- ------------------------------------------------------------------ fields
 

@@ -6,7 +6,7 @@ use Prim.Native.Nat.{ℕ, _<_}
 use native.Mathlib.Omega.{arith}
 use Rattle.spec.specs.Text.{Field, digitLimit, digits, leadingZero, value, numeral}
 use Rattle.spec.specs.Reading.{withNumeral, numerals}
-use Rattle.former.proofs.Texts.{OneLine}
+use Rattle.former.specs.Texts.{OneLine}
 
 unfoldable pub withZero : Option (List ℕ) → Option (List ℕ)
 withZero none = none

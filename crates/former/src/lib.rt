@@ -1,1 +1,1 @@
-// Theorems about readings and headings that came before: what a sheet got formerly, it gets. No code, and nothing stands on it.
+// What is promised of sheets that were there before a request of document 02, and that it holds. No code, and nothing stands on it.

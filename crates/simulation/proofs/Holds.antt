@@ -1,15 +1,13 @@
 -- What the lent space and the records hold of the machine, with the counts of what it has made.
 use Prim.Native.Nat.{ℕ, suc, _+_, _*_, _<_, _≤_}
 use mathlib.Core.Path.{_≡_}
-use mathlib.Core.Bool.{Bool, true, false}
+use mathlib.Core.Bool.{true}
 use mathlib.Core.List.{List}
 use mathlib.Core.Option.{some}
 use native.Mathlib.Omega.{arith}
 use lib.ListN.{length, getD, getElem?}
 use Rattle.calculus.specs.State as calculus
 use Rattle.calculus.specs.State.{opened, closed, readers, writer, unused, identifier, cell, aLock, semaphore, rwlock}
-use Rattle.threads.specs.declared.State.{State}
-use Rattle.threads.specs.declared.State.the-variants.{Running, Finished, Joined}
 use Rattle.threads.specs.declared.Record.{Record}
 use Rattle.threads.specs.declared.Threads.{Threads}
 use Rattle.threads.specs.Records.{noRecord}
@@ -17,12 +15,13 @@ use Rattle.control.specs.Layout.{thingCountsAt, nextValueAt, spaceSize}
 use Rattle.things.specs.declared.Slot.{Slot}
 use Rattle.reduction.specs.Slots.{slotAt}
 use Rattle.engine.specs.Focuses.{focusAt}
-use Rattle.replay_theory.specs.Run.{Kind, cells, locks, rwlocks, semaphores, identifiers}
-use Rattle.machine.specs.Control.{Control, done, at, openCalls}
+use Rattle.replay_theory.specs.Run.{ObjectKind, cells, locks, rwlocks, semaphores, identifiers}
+use Rattle.machine.specs.Control.{openCalls}
 use Rattle.machine.specs.State.{MachineThread}
 use Rattle.machine.specs.Step.{isDone}
 use Rattle.machine.specs.Kept.{UnusedFrom}
-use Rattle.machine.specs.Replay.{Replay}
+use Rattle.replay_theory.specs.declared.Status.the-variants.{Running}
+use Rattle.machine.specs.Replay.{Replay, statusOf}
 use Rattle.simulation.proofs.Held.{codeValue, BodiesStand, ControlAt}
 
 -- ------------------------------------------------------------------ names
@@ -39,14 +38,14 @@ SlotIs x (rwlock N (readers k)) = (x .kind ≡ 5) × (x .first ≡ N) × (x .sec
 SlotIs x (rwlock N writer) = (x .kind ≡ 6) × (x .first ≡ N)
 
 -- the number of a kind of things
-abbrev pub kindCode : Kind → ℕ
+abbrev pub kindCode : ObjectKind → ℕ
 kindCode identifiers = 1
 kindCode cells = 2
 kindCode locks = 3
 kindCode semaphores = 4
 kindCode rwlocks = 5
 
-pub kind-low : (k : Kind) → kindCode k < 8
+pub kind-low : (k : ObjectKind) → kindCode k < 8
 kind-low identifiers = omega arith
 kind-low cells = omega arith
 kind-low locks = omega arith
@@ -54,28 +53,22 @@ kind-low semaphores = omega arith
 kind-low rwlocks = omega arith
 
 -- how many things there are in all
-abbrev pub allThings : (Kind → ℕ) → ℕ
+abbrev pub allThings : (ObjectKind → ℕ) → ℕ
 allThings things = things identifiers + things cells + things locks + things semaphores + things rwlocks
 
-pub record NamesHeld (s : List ℕ) (names : ℕ → calculus.Slot) (next : ℕ) (things : Kind → ℕ) : Type 0 where
+pub record NamesHeld (s : List ℕ) (names : ℕ → calculus.Slot) (next : ℕ) (things : ObjectKind → ℕ) : Type 0 where
   pub constant : slotAt s 0 .kind ≡ 0
   pub slots : (n : ℕ) → suc n < 322 → SlotIs (slotAt s (suc n)) (names n)
   pub unused-from : UnusedFrom names next
   pub nextStored : getD s nextValueAt 0 ≡ suc next
-  pub counted : (k : Kind) → getD s (thingCountsAt + kindCode k) 0 ≡ things k
-  pub few : (k : Kind) → things k ≤ 64
+  pub counted : (k : ObjectKind) → getD s (thingCountsAt + kindCode k) 0 ≡ things k
+  pub few : (k : ObjectKind) → things k ≤ 64
   pub all : next ≡ suc (allThings things)
 
 -- ------------------------------------------------------------------ threads
 
--- the record of a thread
-abbrev pub stateOf : (joined : Bool) → Control → State
-stateOf true d = Joined
-stateOf false (done v) = Finished
-stateOf false (at σ w K) = Running
-
 abbrev pub recordOf : MachineThread → Record
-recordOf th = record { state = stateOf (th .joined) (th .control); tid = suc (th .tid) }
+recordOf th = record { state = statusOf (th .joined) (th .control); tid = suc (th .tid) }
 
 pub record ThreadHeld (p s : List ℕ) (T : Threads) (i : ℕ) (th : MachineThread) : Type 0 where
   pub recorded : getD (T .records) i noRecord ≡ recordOf th

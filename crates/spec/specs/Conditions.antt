@@ -7,11 +7,12 @@ use lib.Dec.{eqb, leb, ltb}
 use lib.ListN.{getD, replicate}
 use Rattle.spec.specs.Choice.{if_then_else_}
 use Rattle.spec.specs.Expression.{Expr, leaf, unary, binary, indexOf, Procedure}
-use Rattle.spec.specs.Split.{Map, Row, noRow, Signature, noSignature, Split}
+use Rattle.spec.specs.Split.{Map, Row, noRow, noSignature, Split}
+use Rattle.spec.specs.declared.Signature.{Signature}
 unfoldable pub use Rattle.spec.specs.Split.{typeAt, mapAt}
 use Rattle.spec.specs.Kinds.{ref, lock, is as is-of, refLocation, content, firstMap, secondMap}
 use Rattle.spec.specs.Agreement.{agree}
-use Rattle.spec.specs.Maps.{_=ᵐ_, _≥ᵐ_, nowhere, _+ᵐ_, _×ᵐ_, share}
+use Rattle.spec.specs.Maps.{_=ᵐ_, _≥ᵐ_, holdsEverywhere, _+ᵐ_, _×ᵐ_, share}
 use Rattle.spec.specs.declared.TypeNumber.{TypeNumber}
 use Rattle.spec.specs.declared.MapNumber.{MapNumber}
 use Rattle.spec.specs.declared.Location.{Location}
@@ -19,7 +20,7 @@ use Rattle.spec.specs.declared.TypeLine.{TypeLine}
 use Rattle.spec.specs.declared.Word.{Word}
 use Rattle.spec.specs.declared.Word.the-variants.{Leaf, Unary, Binary}
 use Rattle.spec.specs.Table as entry
-use Rattle.spec.specs.Table.{Part, step, e1, e2, TypeTerm, type-of, that-of-its-let, result, argument, MapTerm, s, post-of, K, «in», out, r, before, after, Entry, _a_, _is_, _shows_, _is-c-of_, _＝_, _≥_, N×_≤_, _+_＝_, _＝_+_, post-at-p>0, post-at-p≥D, table}
+use Rattle.spec.specs.Table.{Node, step, e1, e2, TypeTerm, type-of, type-of-its-let, result, argument, MapTerm, s, post-of, K, «in», out, r, before, after, Entry, _a_, _is_, _shows_, _is-c-of_, _＝_, _≧_, N×_≦_, _⊕_＝_, _＝_⊕_, post-at-p＞0, post-at-p≧D, table}
 
 -- a condition: on types (T); on flow (F), with the lowest location at which it fails; on access (A) to a location
 pub data Condition : Type 0 where
@@ -40,35 +41,35 @@ typeIn (b ∷ Γ) v = if eqb (b .0) v then b .1 else typeIn Γ v
 unfoldable pub contains : (agrees : TypeNumber → TypeNumber → Bool) → TypeLine → TypeNumber → Bool
 contains agrees x t = is-of ref x && agrees (content x) t
 
--- of a step: its word, its number v, its parts; e1 of a step without parts is the step itself, and no row asks for other parts that its
--- word has not
-abbrev pub wordOf : Expr → Word
-wordOf (leaf w k v) = Leaf w
-wordOf (unary w k v e₁) = Unary w
-wordOf (binary w k v e₁ e₂) = Binary w
+-- of a step: its word, its number v, and the step or part that an entry names. For e1 a step without parts is taken itself, since its K, in,
+-- out, r and w are those of its own type; no line of the table names another part that its word has not.
+abbrev pub stepWord : Expr → Word
+stepWord (leaf w k v) = Leaf w
+stepWord (unary w k v e₁) = Unary w
+stepWord (binary w k v e₁ e₂) = Binary w
 
-abbrev pub numberOf : Expr → ℕ
-numberOf (leaf w k v) = v
-numberOf (unary w k v e₁) = v
-numberOf (binary w k v e₁ e₂) = v
+abbrev pub stepNumber : Expr → ℕ
+stepNumber (leaf w k v) = v
+stepNumber (unary w k v e₁) = v
+stepNumber (binary w k v e₁ e₂) = v
 
-abbrev pub partOf : Expr → Part → Expr
-partOf e step = e
-partOf (leaf w k v) e1 = leaf w k v
-partOf (leaf w k v) e2 = leaf w k v
-partOf (unary w k v e₁) e1 = e₁
-partOf (unary w k v e₁) e2 = e₁
-partOf (binary w k v e₁ e₂) e1 = e₁
-partOf (binary w k v e₁ e₂) e2 = e₂
+abbrev pub nodeOf : Expr → Node → Expr
+nodeOf e step = e
+nodeOf (leaf w k v) e1 = leaf w k v
+nodeOf (leaf w k v) e2 = leaf w k v
+nodeOf (unary w k v e₁) e1 = e₁
+nodeOf (unary w k v e₁) e2 = e₁
+nodeOf (binary w k v e₁ e₂) e1 = e₁
+nodeOf (binary w k v e₁ e₂) e2 = e₂
 
 module _ (S : Split) where
   -- the start, which a program's first step has for its pre
   unfoldable pub startMap : Map
-  startMap = mapAt S (S .header .rootStart)
+  startMap = mapAt S (S .header .start)
 
   -- of two lock types: the in of the first is nowhere above that of the second, its out nowhere below
   unfoldable pub looserLock : (shown own : TypeLine) → Bool
-  looserLock x y = nowhere (mapAt S (firstMap y) ≥ᵐ mapAt S (firstMap x)) && nowhere (mapAt S (secondMap x) ≥ᵐ mapAt S (secondMap y))
+  looserLock x y = holdsEverywhere (mapAt S (firstMap y) ≥ᵐ mapAt S (firstMap x)) && holdsEverywhere (mapAt S (secondMap x) ≥ᵐ mapAt S (secondMap y))
 
   -- "A var line may show a lock type whose in is nowhere above and whose out is nowhere below those of its let's value; other
   -- agreement is unchanged, including inside refs."
@@ -114,40 +115,40 @@ module _ (S : Split) where
   -- at the step e, with the types of the variables there and its pre
   module _ (Γ : Env) (pre : Map) (e : Expr) where
     abbrev pub typeTerm : TypeTerm → TypeNumber
-    typeTerm (type-of p) = type (partOf e p)
-    typeTerm that-of-its-let = typeIn Γ (numberOf e)
-    typeTerm result = signature (numberOf e) .result
-    typeTerm argument = signature (numberOf e) .argument
+    typeTerm (type-of p) = type (nodeOf e p)
+    typeTerm type-of-its-let = typeIn Γ (stepNumber e)
+    typeTerm result = signature (stepNumber e) .result
+    typeTerm argument = signature (stepNumber e) .argument
 
     abbrev pub mapTerm : MapTerm → Map
     mapTerm entry.pre = pre
     mapTerm s = bodyStart e
-    mapTerm (post-of p) = post (partOf e p)
-    mapTerm K = mapAt S (firstMap (kind (partOf e e1)))
-    mapTerm «in» = mapAt S (firstMap (kind (partOf e e1)))
-    mapTerm out = mapAt S (secondMap (kind (partOf e e1)))
-    mapTerm r = mapAt S (firstMap (kind (partOf e e1)))
-    mapTerm entry.w = mapAt S (secondMap (kind (partOf e e1)))
-    mapTerm before = mapAt S (signature (numberOf e) .before)
-    mapTerm after = mapAt S (signature (numberOf e) .after)
+    mapTerm (post-of p) = post (nodeOf e p)
+    mapTerm K = mapAt S (firstMap (kind (nodeOf e e1)))
+    mapTerm «in» = mapAt S (firstMap (kind (nodeOf e e1)))
+    mapTerm out = mapAt S (secondMap (kind (nodeOf e e1)))
+    mapTerm r = mapAt S (firstMap (kind (nodeOf e e1)))
+    mapTerm entry.w = mapAt S (secondMap (kind (nodeOf e e1)))
+    mapTerm before = mapAt S (signature (stepNumber e) .before)
+    mapTerm after = mapAt S (signature (stepNumber e) .after)
 
     -- `agrees` says which types agree, `shown` which type a var line may show for its let's value; p is the location in the type of e1
     module _ (agrees shown : TypeNumber → TypeNumber → Bool) where
       abbrev pub says : Entry → Condition
-      says (p a k) = T (is-of k (kind (partOf e p)))
-      says (p is t) = T (agrees (type (partOf e p)) (typeTerm t))
-      says (p shows t) = T (shown (type (partOf e p)) (typeTerm t))
-      says (p is-c-of q) = T (contains agrees (kind (partOf e q)) (type (partOf e p)))
+      says (p a k) = T (is-of k (kind (nodeOf e p)))
+      says (p is t) = T (agrees (type (nodeOf e p)) (typeTerm t))
+      says (p shows t) = T (shown (type (nodeOf e p)) (typeTerm t))
+      says (p is-c-of q) = T (contains agrees (kind (nodeOf e q)) (type (nodeOf e p)))
       says (l ＝ m) = F (mapTerm l =ᵐ mapTerm m)
-      says (l ≥ m) = F (mapTerm l ≥ᵐ mapTerm m)
-      says (N× l ≤ m) = F (mapTerm m ≥ᵐ numberOf e ×ᵐ mapTerm l)
-      says (l + m ＝ n) = F (mapTerm l +ᵐ mapTerm m =ᵐ mapTerm n)
-      says (l ＝ m + n) = F (mapTerm l =ᵐ mapTerm m +ᵐ mapTerm n)
-      says post-at-p>0 = let p = refLocation (kind (partOf e e1)) in A (ltb 0 (share (post e) p)) p
-      says post-at-p≥D = let p = refLocation (kind (partOf e e1)) in A (leb (S .header .denominator) (share (post e) p)) p
+      says (l ≧ m) = F (mapTerm l ≥ᵐ mapTerm m)
+      says (N× l ≦ m) = F (mapTerm m ≥ᵐ stepNumber e ×ᵐ mapTerm l)
+      says (l ⊕ m ＝ n) = F (mapTerm l +ᵐ mapTerm m =ᵐ mapTerm n)
+      says (l ＝ m ⊕ n) = F (mapTerm l =ᵐ mapTerm m +ᵐ mapTerm n)
+      says post-at-p＞0 = let p = refLocation (kind (nodeOf e e1)) in A (ltb 0 (share (post e) p)) p
+      says post-at-p≧D = let p = refLocation (kind (nodeOf e e1)) in A (leb (S .header .denominator) (share (post e) p)) p
 
       unfoldable pub conditionsBy : List Condition
-      conditionsBy = map says (table (wordOf e))
+      conditionsBy = map says (table (stepWord e))
 
   -- the conditions of a step, by document 02's agreement and what it lets a var line show
   unfoldable pub conditionsOf : Env → (pre : Map) → Expr → List Condition

@@ -16,14 +16,18 @@ use Rattle.spec.specs.Reading.{splitSheet, Out, stop, on, _>>=_, demand, noStar
 use Rattle.spec.specs.Expression.{Step}
 use Rattle.spec.specs.Words.{keepsBack}
 use Rattle.spec.specs.Program.{Program, programLimit, program}
-use Rattle.spec.specs.Split.{Map, Header, headings, headerRanges, mapsOf, mapsIn, startOf, headerOf, headed, headerLine, lockOf, outRange, typeLine, typeLines, mapLine, Signature, signatureLine, Row, startRange, mayBeEmpty, emptyFault, postRange, rowLine, Split, splitLimit, split}
+use Rattle.spec.specs.Split.{Map, headings, headerRanges, mapsOf, mapsIn, startOf, headerOf, headed, headerLine, lockOf, outRange, typeLine, typeLines, mapLine, signatureLine, Row, startRange, mayBeEmpty, emptyFault, postRange, rowLine, Split, splitLimit, split}
+use Rattle.spec.specs.declared.Signature.{Signature}
+use Rattle.spec.specs.declared.Header.{Header}
 use Rattle.spec.specs.Workspace.{workspaceSize}
 use Rattle.spec.specs.Verdict.{checked, answer, verdict}
 use Rattle.spec.specs.declared.Heading.the-variants.{C, C2}
 use Rattle.spec.specs.declared.TypeLine.{TypeLine}
 use Rattle.spec.specs.declared.Refusal.the-variants.{ShortWorkspace, LongProgram, LongSplit, NoStart}
 use Rattle.spec.specs.declared.Answer.the-variants.{Refuse}
-use Rattle.former.proofs.Texts.{OneLine, _above_, above-lines, fields-append}
+use Rattle.former.specs.Texts.{OneLine, _above_}
+use Rattle.former.specs.StartNamed.{headerUnnamed, headerNamed, MapZeroStays}
+use Rattle.former.proofs.Texts.{above-lines, fields-append}
 use Rattle.spec.proofs.Sheets.{sheets-then}
 use Rattle.former.proofs.NoHeading.{headedAs, under, ruling, same-ruling}
 use Rattle.spec.proofs.Seen.{seen-right, first-map-fits}
@@ -69,17 +73,11 @@ header-plain fs H h = let (ns, _, e) = seen-right _ h in sym (ap (λ (x : Header
 -- ------------------------------------------------------------------ line 1
 
 module _ (a : List ℕ) where
-  abbrev pub unnamed : List ℕ
-  unnamed = bytes "C," ++ a
-
-  abbrev pub named : List ℕ
-  named = bytes "C2," ++ a ++ bytes ",0"
-
-  line-plain : (H : Header) → headerLine Check (fields unnamed) ≡ right H → H .heading ≡ C
+  line-plain : (H : Header) → headerLine Check (fields (headerUnnamed a)) ≡ right H → H .heading ≡ C
   unfolding bytes fields onField
   line-plain H h = header-plain (fields a) H h
 
-  line-named : headerLine Check (fields named) ≡ seen (headedAs C2) (headerLine Check (fields unnamed))
+  line-named : headerLine Check (fields (headerNamed a)) ≡ seen (headedAs C2) (headerLine Check (fields (headerUnnamed a)))
   unfolding bytes fields onField
   line-named = ap (λ (fs : List Field). headerLine Check (bytes "C2" ∷ fs)) (fields-append a (48 ∷ [])) ∙ header-named (fields a)
 
@@ -253,44 +251,46 @@ module _ (P : Program) (r : List Line) where
   passed-same (wrong w) plain started = refl
 
 module _ (a t : List ℕ) (one : OneLine a) where
-  unnamed-line : OneLine (unnamed a)
+  unnamed-line : OneLine (headerUnnamed a)
   unfolding bytes
   unnamed-line = (not-ten 67 (omega arith), (not-ten 44 (omega arith), one))
 
-  named-line : OneLine (named a)
+  named-line : OneLine (headerNamed a)
   unfolding bytes
   named-line =
       let zero-named = one-line-append a (44 ∷ 48 ∷ []) one (not-ten 44 (omega arith), (not-ten 48 (omega arith), tt)) in
       (not-ten 67 (omega arith), (not-ten 50 (omega arith), (not-ten 44 (omega arith), zero-named)))
 
-  sheet-same : (P : Program) → Started (split Check P (unnamed a above t) >>= ruling P)
-      → (split Check P (named a above t) >>= ruling P) ≡ (split Check P (unnamed a above t) >>= ruling P)
+  sheet-same : (P : Program) → Started (split Check P (headerUnnamed a above t) >>= ruling P)
+      → (split Check P (headerNamed a above t) >>= ruling P) ≡ (split Check P (headerUnnamed a above t) >>= ruling P)
   sheet-same P started =
-      ap (λ (o : Out Split). o >>= ruling P) (by-lines P (named a) t named-line)
+      ap (λ (o : Out Split). o >>= ruling P) (by-lines P (headerNamed a) t named-line)
       ∙ ap (λ (s : Seen Header). passed splitSheet 1 (lines t) s >>= behind P >>= ruling P) (line-named a)
-      ∙ passed-same P (lines t) (headerLine Check (fields (unnamed a))) (line-plain a)
-      (along Started (ap (λ (o : Out Split). o >>= ruling P) (by-lines P (unnamed a) t unnamed-line)) started)
-      ∙ sym (ap (λ (o : Out Split). o >>= ruling P) (by-lines P (unnamed a) t unnamed-line))
+      ∙ passed-same P (lines t) (headerLine Check (fields (headerUnnamed a))) (line-plain a)
+      (along Started (ap (λ (o : Out Split). o >>= ruling P) (by-lines P (headerUnnamed a) t unnamed-line)) started)
+      ∙ sym (ap (λ (o : Out Split). o >>= ruling P) (by-lines P (headerUnnamed a) t unnamed-line))
 
-  module _ (fits : length (named a above t) ≤ splitLimit) where
-    shorter : length (unnamed a above t) ≤ splitLimit
+  module _ (fits : length (headerNamed a above t) ≤ splitLimit) where
+    shorter : length (headerUnnamed a above t) ≤ splitLimit
     unfolding bytes _above_
     shorter =
         omega (arith, fits, length-append a (10 ∷ t), length-append (a ++ 44 ∷ 48 ∷ []) (10 ∷ t), length-append a (44 ∷ 48 ∷ []))
 
     answer-same : (P : Program)
-        → Started (demand (leb (length (unnamed a above t)) splitLimit) LongSplit >>= λ fits. split Check P (unnamed a above t) >>= ruling P)
-        → (demand (leb (length (named a above t)) splitLimit) LongSplit >>= λ fits. split Check P (named a above t) >>= ruling P)
-        ≡ (demand (leb (length (unnamed a above t)) splitLimit) LongSplit >>= λ fits. split Check P (unnamed a above t) >>= ruling P)
+        → Started (demand (leb (length (headerUnnamed a above t)) splitLimit) LongSplit >>= λ fits. split Check P (headerUnnamed a above t) >>= ruling P)
+        → (demand (leb (length (headerNamed a above t)) splitLimit) LongSplit >>= λ fits. split Check P (headerNamed a above t) >>= ruling P)
+        ≡ (demand (leb (length (headerUnnamed a above t)) splitLimit) LongSplit >>= λ fits. split Check P (headerUnnamed a above t) >>= ruling P)
     unfolding demand _>>=_
     answer-same P started = rw (le-leb _ _ fits, le-leb _ _ shorter) (sheet-same P (rw (le-leb _ _ shorter) at started))
 
-    -- "A `C` sheet still means map 0"
-    pub start-written-out : (room : ℕ) (p : List ℕ) → ((k : ℕ) → verdict room p (unnamed a above t) ≡ Refuse (NoStart k) → ⊥)
-        → verdict room p (named a above t) ≡ verdict room p (unnamed a above t)
+    start-written-out : (room : ℕ) (p : List ℕ) → ((k : ℕ) → verdict room p (headerUnnamed a above t) ≡ Refuse (NoStart k) → ⊥)
+        → verdict room p (headerNamed a above t) ≡ verdict room p (headerUnnamed a above t)
     unfolding verdict checked ruling answer Started
     start-written-out room p started =
         ap answer
         (same-then (demand (leb workspaceSize room) ShortWorkspace) _ _
-        (rw (sheets-then Check p (unnamed a above t), sheets-then Check p (named a above t)) (λ enough. same-then (demand (leb (length p) programLimit) LongProgram) _ _
+        (rw (sheets-then Check p (headerUnnamed a above t), sheets-then Check p (headerNamed a above t)) (λ enough. same-then (demand (leb (length p) programLimit) LongProgram) _ _
         (λ fits. same-then (program p) _ _ answer-same))) (λ k e. started k (ap answer e)))
+
+pub map-zero-stays : MapZeroStays
+map-zero-stays room p a t one fits = start-written-out a t one fits room p

@@ -11,8 +11,9 @@ use Rattle.spec.specs.Pairs.KnownPairs.{Pair, barred, _with_is_, found, Answere
 use Rattle.spec.specs.Pairs.EdgeConditions.{rows}
 use Rattle.spec.specs.Pairs.EdgeSpawns.{spawning, naming}
 use Rattle.spec.specs.declared.Returned.{Returned}
-use Rattle.former.proofs.Texts.{onClosed}
-use Rattle.former.proofs.StartsBefore.{startLeft, rowLineFormerly, splitFormerly, sheetsFormerly, checkedFormerly, verdictFormerly, writeZero, kept, along, zerosBehind, zerosWritten}
+use Rattle.former.specs.Texts.{onClosed}
+use Rattle.former.specs.Judging.{splitBy, sheetsBy, checkedBy, verdictBy}
+use Rattle.former.specs.EmptyStarts.{startLeft, rowLineWithMapZero, verdictWithMapZero, writeZero, asItWas, changedInTurn, zerosBehind, zerosWritten}
 
 -- pairs with one spawn, by what its row has for s; with nothing there, each used to get the answer listed
 unfoldable pub spawns : String → List Pair
@@ -24,7 +25,7 @@ spawns s =
     []
 
 unfoldable pub answeredFormerly : Pair → Returned
-answeredFormerly r = returned (verdictFormerly workspaceSize (barred (r .program)) (barred (r .split)))
+answeredFormerly r = returned (verdictWithMapZero workspaceSize (barred (r .program)) (barred (r .split)))
 
 -- the lines of a pair's split, with 0 written
 unfoldable pub linesWritten : Pair → Out (List Line)
@@ -37,5 +38,5 @@ pub record SpawnsAnswered : Type 0 where
   pub written : map linesWritten (spawns "") ≡ map (λ (r : Pair). on (lines (barred (r .split)))) (spawns "0")
 
 pub spawns-answered : SpawnsAnswered
-unfolding startLeft rowLineFormerly splitFormerly sheetsFormerly checkedFormerly verdictFormerly _with_is_ found Answered P S rows spawning naming spawns answeredFormerly writeZero kept onClosed along zerosBehind zerosWritten linesWritten
+unfolding startLeft rowLineWithMapZero splitBy sheetsBy checkedBy verdictBy verdictWithMapZero _with_is_ found Answered P S rows spawning naming spawns answeredFormerly writeZero asItWas onClosed changedInTurn zerosBehind zerosWritten linesWritten
 spawns-answered = record { formerly = refl; now = refl; withZero = refl; written = refl }

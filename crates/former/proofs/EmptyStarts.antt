@@ -1,105 +1,28 @@
--- A sheet that writes 0 where it left the start of a spawned body empty gets what it used to get. "Used to": an empty start meant
--- map 0; that reading is written out here, beside the theorem; no definition and no contract cites it.
+-- Request (vii): with 0 written for an empty start, each line of a split is read as it was, and so the sheet.
 use mathlib.Core.Path.{_≡_, refl, ap, sym, _∙_}
 use mathlib.Core.List.{List, [], _∷_, _++_, map}
 use mathlib.Core.Bool.{Bool, true, false, _&&_, not}
 use mathlib.Core.Option.{Option, none, some}
 use Prim.Native.Nat.{ℕ, zero, suc, _+_, _≤_}
 use native.Mathlib.Omega.{arith}
-use lib.Dec.{eqb, leb, ltb}
-use lib.ListN.{length, replicate, take}
+use lib.Dec.{eqb, ltb}
+use lib.ListN.{length, replicate}
 use borrow.Author.Tests.{ltb-true, lt-ltb, le-leb}
 use Rattle.spec.specs.Choice.{if_then_else_}
 use Rattle.spec.specs.Text.{bytes, Line, closed, unclosed, lines, Field, onField, fields, digitLimit, digits, leadingZero, value, numeral}
-use Rattle.spec.specs.Reading.{Out, stop, on, _>>=_, demand, Seen, right, wrong, badRange, seen, below, inRange, allInRange, withNumeral, numerals, ranged, numbers, splitSheet, Place, passed, nextLine, readLine, readLines, begin, end}
+use Rattle.spec.specs.Reading.{Out, stop, on, _>>=_, Seen, right, wrong, badRange, seen, below, inRange, allInRange, withNumeral, numerals, ranged, numbers, splitSheet, Place, passed, nextLine, readLine, readLines, begin, end}
 use Rattle.spec.specs.Words.{takesStart, keepsBack}
 use Rattle.spec.specs.Expression.{Step}
-use Rattle.spec.specs.Program.{Program, program, programLimit}
-use Rattle.spec.specs.Split.{splitLimit, Header, headerLine, typeLines, mapLine, signatureLine, Row, rowOf, startGiven, startRange, postRange, postField, rowLine, Split, split}
-use Rattle.spec.specs.Workspace.{workspaceSize}
-use Rattle.spec.specs.Verdict.{sheets, locksTakeEnough, startAtMostOne, ruled, checked, answer, verdict}
-use Rattle.spec.specs.declared.Answer.{Answer}
-use Rattle.spec.specs.declared.Refusal.the-variants.{ShortWorkspace, LongProgram, LongSplit}
+use Rattle.spec.specs.Program.{Program, program}
+use Rattle.spec.specs.Split.{splitLimit, headerLine, typeLines, mapLine, signatureLine, rowOf, startGiven, startRange, postRange, postField, rowLine, split}
+use Rattle.spec.specs.declared.Header.{Header}
+use Rattle.spec.specs.Verdict.{sheets, ruled, checked, verdict}
 use Rattle.spec.specs.declared.Purpose.the-variants.{Check}
 use Rattle.spec.proofs.Outcomes.{bind-alike}
 use Rattle.spec.proofs.Tests.{both-true}
-use Rattle.former.proofs.Texts.{onClosed}
-
--- ------------------------------------------------------------------ the reading before
-
--- whether the line of a step is a spawn's and leaves its start empty, as `t,m,` does; a call's s was never left empty
-unfoldable pub startLeft : Step → List Field → Bool
-startLeft s [] = false
-startLeft s (t ∷ []) = false
-startLeft s (t ∷ m ∷ []) = false
-startLeft s (t ∷ m ∷ [] ∷ []) = takesStart (s .word) && not (keepsBack (s .word))
-startLeft s (t ∷ m ∷ (b ∷ f) ∷ []) = false
-startLeft s (t ∷ m ∷ f ∷ g ∷ fs) = false
-
--- "On a spawn, an empty s means map 0", under each heading; other lines are read as they are now
-unfoldable pub rowLineFormerly : Header → Step → List Field → Seen Row
-rowLineFormerly H s fs =
-    if startLeft s fs
-    then seen (rowOf (some (record { 0 = 0 }))) (numbers (below (H .types) ∷ below (H .maps) ∷ []) (take 2 fs))
-    else rowLine Check H s fs
-
-unfoldable pub splitFormerly : Program → List ℕ → Out Split
-splitFormerly P text = do
-  top ← begin splitSheet (lines text)
-  (H, p₁) ← readLine splitSheet (headerLine Check) top
-  (types, p₂) ← readLines splitSheet (typeLines H 0 (H .types)) p₁
-  (maps, p₃) ← readLines splitSheet (replicate (H .maps) (mapLine H)) p₂
-  (signatures, p₄) ← readLines splitSheet (replicate (length (P .procedures)) (signatureLine H)) p₃
-  (rows, p₅) ← readLines splitSheet (map (rowLineFormerly H) (P .steps)) p₄
-  done ← end splitSheet p₅
-  on (record { header = H; types = types; maps = maps; signatures = signatures; rows = rows })
-
-unfoldable pub sheetsFormerly : (programText splitText : List ℕ) → Out (Program × Split)
-sheetsFormerly programText splitText = do
-  fits ← demand (leb (length programText) programLimit) LongProgram
-  P ← program programText
-  fits′ ← demand (leb (length splitText) splitLimit) LongSplit
-  S ← splitFormerly P splitText
-  on (P, S)
-
-unfoldable pub checkedFormerly : (room : ℕ) → (programText splitText : List ℕ) → Out (Unit {0})
-checkedFormerly room programText splitText = do
-  enough ← demand (leb workspaceSize room) ShortWorkspace
-  (P, S) ← sheetsFormerly programText splitText
-  locks ← locksTakeEnough S
-  whole ← startAtMostOne P S
-  ruled P S
-
-unfoldable pub verdictFormerly : (room : ℕ) → (programText splitText : List ℕ) → Answer
-verdictFormerly room programText splitText = answer (checkedFormerly room programText splitText)
-
--- ------------------------------------------------------------------ the owner's change
-
--- on the line of a step: `t,m,` of a spawn becomes `t,m,0`
-unfoldable pub writeZero : Step → List ℕ → List ℕ
-writeZero s l = if startLeft s (fields l) then l ++ bytes "0" else l
-
-unfoldable pub kept : List ℕ → List ℕ
-kept l = l
-
--- lines changed in turn, each in its own way; those behind them stay
-unfoldable pub along : List (List ℕ → List ℕ) → List Line → List Line
-along [] ls = ls
-along (f ∷ fs) [] = []
-along (f ∷ fs) (l ∷ ls) = onClosed f l ∷ along fs ls
-
--- the lines behind a header: types, maps and signatures are kept, and 0 is written on the lines of the steps; behind what is no header
--- all stays
-unfoldable pub zerosBehind : Seen Header → Program → List Line → List Line
-zerosBehind (wrong w) P ls = ls
-zerosBehind (right H) P ls =
-    along (replicate (H .types) kept ++ (replicate (H .maps) kept ++ (replicate (length (P .procedures)) kept ++ map writeZero (P .steps)))) ls
-
--- the lines of a sheet, for a program
-unfoldable pub zerosWritten : Program → List Line → List Line
-zerosWritten P [] = []
-zerosWritten P (unclosed l ∷ ls) = unclosed l ∷ ls
-zerosWritten P (closed l ∷ ls) = closed l ∷ zerosBehind (headerLine Check (fields l)) P ls
+use Rattle.former.specs.Texts.{onClosed}
+use Rattle.former.specs.Judging.{splitBy, sheetsBy, checkedBy, verdictBy}
+use Rattle.former.specs.EmptyStarts.{startLeft, rowLineWithMapZero, linesWithMapZero, verdictWithMapZero, writeZero, asItWas, changedInTurn, zerosBehind, zerosWritten, ZeroWritten, ZeroKeepsTheAnswer}
 
 -- ------------------------------------------------------------------ one line
 
@@ -155,29 +78,29 @@ module _ (H : Header) (s : Step) where
       rw (zero-in-range (H .types) (H .maps) t m) (judged-alike t m (allInRange (below (H .types) ∷ below (H .maps) ∷ []) (t ∷ m ∷ [])))
 
   -- a spawn's row with an empty start, and the same with 0
-  zero-alike : (t m : Field) → (takesStart (s .word) && not (keepsBack (s .word))) ≡ true → rowLineFormerly H s (t ∷ m ∷ [] ∷ []) ≡ rowLine Check H s (t ∷ m ∷ bytes "0" ∷ [])
-  unfolding rowLineFormerly startLeft rowLine postRange postField startRange numbers numerals numeral digitLimit digits leadingZero value bytes withNumeral
+  zero-alike : (t m : Field) → (takesStart (s .word) && not (keepsBack (s .word))) ≡ true → rowLineWithMapZero H s (t ∷ m ∷ [] ∷ []) ≡ rowLine Check H s (t ∷ m ∷ bytes "0" ∷ [])
+  unfolding rowLineWithMapZero startLeft rowLine postRange postField startRange numbers numerals numeral digitLimit digits leadingZero value bytes withNumeral
   zero-alike t m h = rw (h, both-true (takesStart (s .word)) (not (keepsBack (s .word))) h .0) (numbers-alike (numeral t) (numeral m))
 
-  unchanged : (l : List ℕ) → startLeft s (fields l) ≡ false → rowLineFormerly H s (fields l) ≡ rowLine Check H s (fields (writeZero s l))
-  unfolding rowLineFormerly writeZero
+  unchanged : (l : List ℕ) → startLeft s (fields l) ≡ false → rowLineWithMapZero H s (fields l) ≡ rowLine Check H s (fields (writeZero s l))
+  unfolding rowLineWithMapZero writeZero
   unchanged l h = rw h
 
   fields-alike : (f : Field) (fs : List Field) (l : List ℕ) → fields l ≡ f ∷ fs → fields (l ++ bytes "0") ≡ onLast 48 f fs
-      → rowLineFormerly H s (fields l) ≡ rowLine Check H s (fields (writeZero s l))
+      → rowLineWithMapZero H s (fields l) ≡ rowLine Check H s (fields (writeZero s l))
   unfolding startLeft writeZero onLast bytes
   fields-alike t [] l e e′ = unchanged l (rw e)
   fields-alike t (m ∷ []) l e e′ = unchanged l (rw e)
   fields-alike t (m ∷ [] ∷ []) l e e′ = by-word (takesStart (s .word) && not (keepsBack (s .word))) refl
     where
-      by-word : (b : Bool) → (takesStart (s .word) && not (keepsBack (s .word))) ≡ b → rowLineFormerly H s (fields l) ≡ rowLine Check H s (fields (writeZero s l))
+      by-word : (b : Bool) → (takesStart (s .word) && not (keepsBack (s .word))) ≡ b → rowLineWithMapZero H s (fields l) ≡ rowLine Check H s (fields (writeZero s l))
       by-word true h = rw (e, h, e′) (zero-alike t m h)
       by-word false h = unchanged l (rw e h)
   fields-alike t (m ∷ (b ∷ f) ∷ []) l e e′ = unchanged l (rw e)
   fields-alike t (m ∷ f ∷ g ∷ fs) l e e′ = unchanged l (rw e)
 
   -- a row reads now, with 0 written, as it used to read
-  row-alike : (l : List ℕ) → rowLineFormerly H s (fields l) ≡ rowLine Check H s (fields (writeZero s l))
+  row-alike : (l : List ℕ) → rowLineWithMapZero H s (fields l) ≡ rowLine Check H s (fields (writeZero s l))
   row-alike l = let (f, fs, e, e′) = zero-ends l in fields-alike f fs l e e′
 
 -- ------------------------------------------------------------------ lines in turn
@@ -209,43 +132,43 @@ module _ {A B : Type 0} where
 
   all-alike : {reads reads′ : List (List Field → Seen A)} {fs gs : List (List ℕ → List ℕ)} → Alike reads reads′ fs gs
       → (k : ℕ) (ls : List Line) (go go′ : List A × Place → Out B)
-      → ((as′ : List A) (k : ℕ) (rest : List Line) → go (as′, record { last = k; rest = rest }) ≡ go′ (as′, record { last = k; rest = along gs rest }))
+      → ((as′ : List A) (k : ℕ) (rest : List Line) → go (as′, record { last = k; rest = rest }) ≡ go′ (as′, record { last = k; rest = changedInTurn gs rest }))
       → (readLines splitSheet reads (record { last = k; rest = ls }) >>= go)
-      ≡ (readLines splitSheet reads′ (record { last = k; rest = along fs ls }) >>= go′)
-  unfolding readLines readLine nextLine passed _>>=_ along onClosed
+      ≡ (readLines splitSheet reads′ (record { last = k; rest = changedInTurn fs ls }) >>= go′)
+  unfolding readLines readLine nextLine passed _>>=_ changedInTurn onClosed
   all-alike nothing k ls go go′ h = h [] k ls
   all-alike (line e more) k [] go go′ h = refl
   all-alike (line e more) k (unclosed l ∷ ls) go go′ h = refl
   all-alike (line {read′ = read′} {f} {reads} {reads′} {fs} e more) k (closed l ∷ ls) go go′ h =
-      rw (e l) (one-alike (read′ (fields (f l))) (k + 1) ls (along fs ls) (readLines splitSheet reads) (readLines splitSheet reads′) go go′
+      rw (e l) (one-alike (read′ (fields (f l))) (k + 1) ls (changedInTurn fs ls) (readLines splitSheet reads) (readLines splitSheet reads′) go go′
       (λ a. all-alike more (k + 1) ls (λ (as′, end). go (a ∷ as′, end)) (λ (as′, end). go′ (a ∷ as′, end)) (λ as′. h (a ∷ as′))))
 
 -- ------------------------------------------------------------------ the sheet
 
 module _ (H : Header) {gs : List (List ℕ → List ℕ)} where
-  types-alike : (own n : ℕ) → Alike (typeLines H own n) (typeLines H own n) (replicate n kept ++ gs) gs
-  unfolding typeLines kept
+  types-alike : (own n : ℕ) → Alike (typeLines H own n) (typeLines H own n) (replicate n asItWas ++ gs) gs
+  unfolding typeLines asItWas
   types-alike own zero = nothing
   types-alike own (suc n) = line (λ l. refl) (types-alike (own + 1) n)
 
-  signatures-alike : (n : ℕ) → Alike (replicate n (signatureLine H)) (replicate n (signatureLine H)) (replicate n kept ++ gs) gs
-  unfolding kept
+  signatures-alike : (n : ℕ) → Alike (replicate n (signatureLine H)) (replicate n (signatureLine H)) (replicate n asItWas ++ gs) gs
+  unfolding asItWas
   signatures-alike zero = nothing
   signatures-alike (suc n) = line (λ l. refl) (signatures-alike n)
 
-  maps-alike : (n : ℕ) → Alike (replicate n (mapLine H)) (replicate n (mapLine H)) (replicate n kept ++ gs) gs
-  unfolding kept
+  maps-alike : (n : ℕ) → Alike (replicate n (mapLine H)) (replicate n (mapLine H)) (replicate n asItWas ++ gs) gs
+  unfolding asItWas
   maps-alike zero = nothing
   maps-alike (suc n) = line (λ l. refl) (maps-alike n)
 
-rows-alike : (H : Header) (steps : List Step) → Alike (map (rowLineFormerly H) steps) (map (rowLine Check H) steps) (map writeZero steps) []
+rows-alike : (H : Header) (steps : List Step) → Alike (map (rowLineWithMapZero H) steps) (map (rowLine Check H) steps) (map writeZero steps) []
 rows-alike H [] = nothing
 rows-alike H (s ∷ steps) = line (row-alike H s) (rows-alike H steps)
 
 module _ (P : Program) (t t′ : List ℕ) where
   header-alike : (l : List ℕ) (ls : List Line) (x : Seen Header) → headerLine Check (fields l) ≡ x
-      → lines t ≡ closed l ∷ ls → lines t′ ≡ closed l ∷ zerosBehind x P ls → splitFormerly P t ≡ split Check P t′
-  unfolding splitFormerly split begin readLine nextLine passed _>>=_ zerosBehind along
+      → lines t ≡ closed l ∷ ls → lines t′ ≡ closed l ∷ zerosBehind x P ls → splitBy linesWithMapZero P t ≡ split Check P t′
+  unfolding splitBy split begin readLine nextLine passed _>>=_ zerosBehind changedInTurn
   header-alike l ls (wrong w) h e e′ = rw (e, e′, h)
   header-alike l ls (right H) h e e′ = rw (e, e′, h) (
       all-alike (types-alike H 0 (H .types)) 1 ls _ _ λ types k₁ rest₁.
@@ -253,28 +176,23 @@ module _ (P : Program) (t t′ : List ℕ) where
       all-alike (signatures-alike H (length (P .procedures))) k₂ rest₂ _ _ λ signatures k₃ rest₃.
       all-alike (rows-alike H (P .steps)) k₃ rest₃ _ _ λ rows k₄ rest₄. refl)
 
-  sheet-alike : (ls : List Line) → lines t ≡ ls → lines t′ ≡ zerosWritten P ls → splitFormerly P t ≡ split Check P t′
-  unfolding splitFormerly split begin readLine nextLine _>>=_ zerosWritten
+  sheet-alike : (ls : List Line) → lines t ≡ ls → lines t′ ≡ zerosWritten P ls → splitBy linesWithMapZero P t ≡ split Check P t′
+  unfolding splitBy split begin readLine nextLine _>>=_ zerosWritten
   sheet-alike [] e e′ = rw (e, e′)
   sheet-alike (unclosed l ∷ ls) e e′ = rw (e, e′)
   sheet-alike (closed l ∷ ls) e e′ = header-alike l ls _ refl e e′
 
--- ------------------------------------------------------------------ the theorem
+-- ------------------------------------------------------------------ the answer
 
--- t′ is t with 0 written, for the program p
-abbrev pub ZeroWritten : (p t t′ : List ℕ) → Type 0
-ZeroWritten p t t′ = (P : Program) → program p ≡ on P → lines t′ ≡ zerosWritten P (lines t)
-
-sheets-alike : (p t t′ : List ℕ) → length t ≤ splitLimit → length t′ ≤ splitLimit → ZeroWritten p t t′ → sheetsFormerly p t ≡ sheets Check p t′
-unfolding sheetsFormerly sheets
+sheets-alike : (p t t′ : List ℕ) → length t ≤ splitLimit → length t′ ≤ splitLimit → ZeroWritten p t t′
+    → sheetsBy program (splitBy linesWithMapZero) ruled p t ≡ sheets Check p t′
+unfolding sheetsBy sheets
 sheets-alike p t t′ fits fits′ written = rw (le-leb _ _ fits, le-leb _ _ fits′) (
     bind-alike _ _ _ λ _ _.
     bind-alike _ _ _ λ P reads.
     bind-alike _ _ _ λ _ _.
     ap (_>>= λ S. on (P, S)) (sheet-alike P t t′ (lines t) refl (written P reads)))
 
--- of each pair, refused or accepted, under each heading
-pub zero-written-as-formerly : (room : ℕ) (p t t′ : List ℕ) → length t ≤ splitLimit → length t′ ≤ splitLimit → ZeroWritten p t t′
-    → verdictFormerly room p t ≡ verdict room p t′
-unfolding verdictFormerly verdict checkedFormerly checked
-zero-written-as-formerly room p t t′ fits fits′ written = rw (sheets-alike p t t′ fits fits′ written)
+pub zero-keeps-the-answer : ZeroKeepsTheAnswer
+unfolding verdictWithMapZero verdictBy verdict checkedBy checked
+zero-keeps-the-answer room p t t′ fits fits′ written = rw (sheets-alike p t t′ fits fits′ written)

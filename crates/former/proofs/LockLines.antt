@@ -11,11 +11,12 @@ use lib.Dec.{ltb}
 use lib.ListN.{length}
 use borrow.Author.Tests.{le-leb}
 use Rattle.spec.specs.Choice.{if_then_else_}
-use Rattle.spec.specs.Text.{bytes, same, Line, closed, lines, Field, fields, lookUp, numeral}
+use Rattle.spec.specs.Text.{bytes, same, Line, closed, lines, Field, lookUp, numeral}
 use Rattle.spec.specs.Reading.{on, _>>=_, right, wrong, badRange, seen, _to_, below, inRange, allInRange, withNumeral, numerals, ranged, numbers}
 use Rattle.spec.specs.Expression.{Step}
-use Rattle.spec.specs.Program.{Program, program}
-use Rattle.spec.specs.Split.{Header, headings, headerRanges, startOf, headerOf, headed, headerLine, lockOf, outRange, typeLine, typeLines, mapLine, signatureLine, startRange, mayBeEmpty, postRange, rowLine, Split, split, splitLimit}
+use Rattle.spec.specs.Program.{Program}
+use Rattle.spec.specs.Split.{headings, headerRanges, startOf, headerOf, headed, headerLine, lockOf, outRange, typeLine, typeLines, mapLine, signatureLine, startRange, mayBeEmpty, postRange, rowLine, Split, split, splitLimit}
+use Rattle.spec.specs.declared.Header.{Header}
 use Rattle.spec.specs.Verdict.{checked, answer, verdict}
 use Rattle.spec.specs.WellFormed.{Shows, nothing, line, WellFormedSplit}
 use Rattle.spec.specs.declared.Heading.the-variants.{C2, C3}
@@ -26,32 +27,8 @@ use Rattle.spec.proofs.Outcomes.{bind-alike}
 use Rattle.spec.proofs.Seen.{wrong-is-not-right, seen-right, numbers-right, numbers-spelled, numerals-counted}
 use Rattle.spec.proofs.WellFormed.{split-well-formed, well-formed-split}
 use Rattle.spec.proofs.Sheets.{sheets-then}
+use Rattle.former.specs.LockLines.{secondToo, outWritten, OutsWritten, stay, change, WrittenOut, heading, LocksWritten, InIsOutStays}
 use Rattle.former.proofs.NoHeading.{headedAs, under, ruling, same-ruling}
-
--- ------------------------------------------------------------------ the change
-
--- `k,0` becomes `k,k`
-unfoldable pub secondToo : List Field → List Field
-secondToo [] = []
-secondToo (k ∷ []) = k ∷ []
-secondToo (k ∷ z ∷ []) = k ∷ k ∷ []
-secondToo (k ∷ z ∷ f ∷ fs) = k ∷ z ∷ f ∷ fs
-
--- the fields of a type line: those of a lock line change
-unfoldable pub outWritten : List Field → List Field
-outWritten [] = []
-outWritten (f ∷ fs) = if same f (bytes "lock") then f ∷ secondToo fs else f ∷ fs
-
--- n type lines are changed so; the lines behind them stay
-pub data OutsWritten : (n : ℕ) → List Line → List Line → Type 0 where
-  stay : {ls : List Line} → OutsWritten zero ls ls
-  change : {n : ℕ} {l l′ : List ℕ} {ls ls′ : List Line} → fields l′ ≡ outWritten (fields l) → OutsWritten n ls ls′
-      → OutsWritten (suc n) (closed l ∷ ls) (closed l′ ∷ ls′)
-
--- the lines of a `C2` sheet with n types, and those of the `C3` sheet
-pub data WrittenOut (n : ℕ) : List Line → List Line → Type 0 where
-  heading : {l l′ : List ℕ} {fs : List Field} {ls ls′ : List Line} → fields l ≡ bytes "C2" ∷ fs → fields l′ ≡ bytes "C3" ∷ fs
-      → OutsWritten n ls ls′ → WrittenOut n (closed l ∷ ls) (closed l′ ∷ ls′)
 
 -- ------------------------------------------------------------------ a lock line
 
@@ -180,10 +157,6 @@ sheet-alike P S t t′ fits fits′ read out =
     let formed = written-well-formed P S t t′ (split-well-formed Check P t fits read) fits′ out in
     ap (_>>= ruling P) read ∙ sym (same-ruling C3 S P) ∙ sym (ap (_>>= ruling P) (well-formed-split Check P t′ formed))
 
--- t′ is the `C2` sheet t written out, for the steps of the program p, which reads t
-abbrev pub LocksWritten : (p t t′ : List ℕ) → Type 0
-LocksWritten p t t′ = (P : Program) → program p ≡ on P → (S : Split) × (split Check P t ≡ on S) × WrittenOut (S .header .types) (lines t) (lines t′)
-
 checked-alike : (room : ℕ) (p t t′ : List ℕ) → length t ≤ splitLimit → length t′ ≤ splitLimit → LocksWritten p t t′
     → checked room p t ≡ checked room p t′
 unfolding checked ruling
@@ -194,8 +167,6 @@ checked-alike room p t t′ fits fits′ written = bind-alike _ _ _ λ _ _. rw (
     let (S, read, out) = written P reads in
     sheet-alike P S t t′ fits fits′ read out)
 
--- "Older lock lines mean in = out"
-pub locks-written-same : (room : ℕ) (p t t′ : List ℕ) → length t ≤ splitLimit → length t′ ≤ splitLimit → LocksWritten p t t′
-    → verdict room p t ≡ verdict room p t′
+pub in-is-out-stays : InIsOutStays
 unfolding verdict
-locks-written-same room p t t′ fits fits′ written = ap answer (checked-alike room p t t′ fits fits′ written)
+in-is-out-stays room p t t′ fits fits′ written = ap answer (checked-alike room p t t′ fits fits′ written)

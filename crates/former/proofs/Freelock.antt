@@ -1,91 +1,32 @@
--- A program sheet with `lock` written for each word `freelock` gets what the sheet used to get. "Used to": `freelock` was a word with the
--- conditions of `lock`; that reading is written out here, beside the theorem; no definition and no contract cites it.
+-- Request (x): with `lock` written for `freelock`, each line of a program is read as it was, and so the sheet.
 use mathlib.Core.Path.{_≡_, refl, ap, sym, _∙_}
 use mathlib.Core.List.{List, [], _∷_, map}
-use mathlib.Core.Bool.{Bool, true, false, _&&_, _||_}
-use mathlib.Core.Option.{some}
+use mathlib.Core.Bool.{Bool, true, false}
 use Prim.Native.Nat.{ℕ, zero, suc, _+_, _≤_}
 use native.Mathlib.Omega.{arith}
-use lib.Dec.{eqb, leb}
+use lib.Dec.{leb}
 use lib.ListN.{length, drop, length-append, length-drop}
 use borrow.Author.Tests.{leb-true, le-leb}
 use Rattle.spec.specs.Choice.{if_then_else_}
 use Rattle.spec.specs.Text.{bytes, same, Line, closed, unclosed, lines, Field, fields, lookUp}
-use Rattle.spec.specs.Reading.{Out, stop, on, _>>=_, demand, Seen, right, wrong, badForm, programSheet, Place, passed, nextLine, readLine, readLines, begin, noneLeft, end}
+use Rattle.spec.specs.Reading.{Out, stop, on, _>>=_, demand, Seen, right, wrong, programSheet, Place, passed, nextLine, readLine, readLines, begin, noneLeft, end}
 use Rattle.spec.specs.Words.{leafWords, cellWords, lockWords, unaryWords, words, wordsUnder}
-use Rattle.spec.specs.Expression.{Item, stepsAmong, structure, scopes}
-use Rattle.spec.specs.Program.{programLimit, Counts, programHeadings, countLine, wordLine, procLine, itemLine, itemLines, Program, program}
+use Rattle.spec.specs.Expression.{Item}
+use Rattle.spec.specs.Program.{programLimit, Counts, programHeadings, countLine, itemLine, itemLines, Program, program}
 use Rattle.spec.specs.declared.ProgramHeading.{ProgramHeading}
 use Rattle.spec.specs.declared.ProgramHeading.the-variants as heading
-use Rattle.spec.specs.Split.{Split, split, splitLimit}
+use Rattle.spec.specs.Split.{Split, split}
 use Rattle.spec.specs.Workspace.{workspaceSize}
-use Rattle.spec.specs.Verdict.{sheets, locksTakeEnough, startAtMostOne, ruled, checked, answer, verdict, four, returned}
-use Rattle.spec.specs.declared.Answer.{Answer}
-use Rattle.spec.specs.declared.Word.the-variants.{Unary}
-use Rattle.spec.specs.declared.UnaryWord.the-variants.{Lock}
+use Rattle.spec.specs.Verdict.{sheets, ruled, checked, answer, verdict, four, returned}
 use Rattle.spec.specs.declared.Purpose.the-variants.{Check}
-use Rattle.spec.specs.declared.Refusal.the-variants.{ShortWorkspace, LongProgram, LongSplit}
+use Rattle.spec.specs.declared.Refusal.the-variants.{ShortWorkspace, LongProgram}
 use Rattle.spec.proofs.Clashes.{true-is-not-false}
 use Rattle.spec.proofs.Tests.{same-equal}
 use Rattle.former.proofs.ProgramStages.{afterItems, afterCount}
-use Rattle.former.proofs.Texts.{OneLine, _above_, joined, Lined, no-line, closed-line, last-line, text-lined, lines-joined, joined-lines, onClosed, field-byte}
-
--- ------------------------------------------------------------------ the reading before
-
--- `freelock,v` had the conditions of `lock,v`; other lines are read as they are now
-unfoldable pub itemLineFormerly : ProgramHeading → (line : ℕ) → List Field → Seen Item
-itemLineFormerly h k [] = wrong badForm
-itemLineFormerly h k (f ∷ fs) =
-    if same f (bytes "freelock") then wordLine k (some (Unary Lock)) fs
-    else if same f (bytes "proc") then procLine h k fs
-    else wordLine k (lookUp (wordsUnder h) f) fs
-
-unfoldable pub itemLinesFormerly : ProgramHeading → (line n : ℕ) → List (List Field → Seen Item)
-itemLinesFormerly h k zero = []
-itemLinesFormerly h k (suc n) = itemLineFormerly h k ∷ itemLinesFormerly h (k + 1) n
-
-unfoldable pub programFormerly : List ℕ → Out Program
-programFormerly text = do
-  top ← begin programSheet (lines text)
-  (N, first) ← readLine programSheet countLine top
-  (items, last) ← readLines programSheet (itemLinesFormerly (N .heading) (first .last + 1) (N .steps + N .procedures)) first
-  done ← end programSheet last
-  (ps, e) ← structure (last .last) (N .procedures) 0 items
-  bound ← scopes (N .procedures) ps e []
-  on (record { steps = stepsAmong items; procedures = ps; root = e })
-
-unfoldable pub sheetsFormerly : (programText splitText : List ℕ) → Out (Program × Split)
-sheetsFormerly programText splitText = do
-  fits ← demand (leb (length programText) programLimit) LongProgram
-  P ← programFormerly programText
-  fits′ ← demand (leb (length splitText) splitLimit) LongSplit
-  S ← split Check P splitText
-  on (P, S)
-
-unfoldable pub checkedFormerly : (room : ℕ) → (programText splitText : List ℕ) → Out (Unit {0})
-checkedFormerly room programText splitText = do
-  enough ← demand (leb workspaceSize room) ShortWorkspace
-  (P, S) ← sheetsFormerly programText splitText
-  locks ← locksTakeEnough S
-  whole ← startAtMostOne P S
-  ruled P S
-
-unfoldable pub verdictFormerly : (room : ℕ) → (programText splitText : List ℕ) → Answer
-verdictFormerly room programText splitText = answer (checkedFormerly room programText splitText)
-
--- ------------------------------------------------------------------ the owner's change
-
-unfoldable pub freelockFirst : List Field → Bool
-freelockFirst [] = false
-freelockFirst (f ∷ fs) = same f (bytes "freelock")
-
--- a line whose word is `freelock` loses its first four bytes
-unfoldable pub lockInstead : List ℕ → List ℕ
-lockInstead l = if freelockFirst (fields l) then drop 4 l else l
-
--- a text with each word `freelock` changed to `lock`
-unfoldable pub locksInstead : List ℕ → List ℕ
-locksInstead text = joined (map (onClosed lockInstead) (lines text))
+use Rattle.former.specs.Texts.{OneLine, _above_, joined, onClosed}
+use Rattle.former.specs.Judging.{programBy, sheetsBy, checkedBy, verdictBy}
+use Rattle.former.specs.Freelock.{itemLineWithFreelock, itemLinesWithFreelock, programWithFreelock, verdictWithFreelock, freelockFirst, lockInstead, locksInstead, judgedByRules, LockKeepsTheAnswer}
+use Rattle.former.proofs.Texts.{Lined, no-line, closed-line, last-line, text-lined, lines-joined, joined-lines, field-byte}
 
 -- ------------------------------------------------------------------ one line
 
@@ -117,18 +58,18 @@ changed-alike read read′ empty gone other l = by-fields (fields l) refl
     by-fields [] e = empty ∙ sym (ap read′ e)
     by-fields (f ∷ fs) e = by-word f fs e (same f (bytes "freelock")) refl
 
-item-alike : (h : ProgramHeading) (k : ℕ) (l : List ℕ) → itemLineFormerly h k (fields l) ≡ itemLine h k (fields (lockInstead l))
-item-alike h k = changed-alike (itemLineFormerly h k) (itemLine h k) no-fields (changed h) other
+item-alike : (h : ProgramHeading) (k : ℕ) (l : List ℕ) → itemLineWithFreelock h k (fields l) ≡ itemLine h k (fields (lockInstead l))
+item-alike h k = changed-alike (itemLineWithFreelock h k) (itemLine h k) no-fields (changed h) other
   where
-    no-fields : itemLineFormerly h k [] ≡ itemLine h k []
-    no-fields = unfold itemLineFormerly itemLine in refl
+    no-fields : itemLineWithFreelock h k [] ≡ itemLine h k []
+    no-fields = unfold itemLineWithFreelock itemLine in refl
 
-    changed : (h : ProgramHeading) (fs : List Field) → itemLineFormerly h k (bytes "freelock" ∷ fs) ≡ itemLine h k (bytes "lock" ∷ fs)
-    changed heading.P fs = unfold itemLineFormerly itemLine lookUp wordsUnder words leafWords unaryWords cellWords lockWords same bytes in refl
-    changed heading.P2 fs = unfold itemLineFormerly itemLine lookUp wordsUnder words leafWords unaryWords cellWords lockWords same bytes in refl
+    changed : (h : ProgramHeading) (fs : List Field) → itemLineWithFreelock h k (bytes "freelock" ∷ fs) ≡ itemLine h k (bytes "lock" ∷ fs)
+    changed heading.P fs = unfold itemLineWithFreelock itemLine lookUp wordsUnder words leafWords unaryWords cellWords lockWords same bytes in refl
+    changed heading.P2 fs = unfold itemLineWithFreelock itemLine lookUp wordsUnder words leafWords unaryWords cellWords lockWords same bytes in refl
 
-    other : (f : Field) (fs : List Field) → same f (bytes "freelock") ≡ false → itemLineFormerly h k (f ∷ fs) ≡ itemLine h k (f ∷ fs)
-    other f fs w = unfold itemLineFormerly itemLine in rw w
+    other : (f : Field) (fs : List Field) → same f (bytes "freelock") ≡ false → itemLineWithFreelock h k (f ∷ fs) ≡ itemLine h k (f ∷ fs)
+    other f fs w = unfold itemLineWithFreelock itemLine in rw w
 
 count-alike : (l : List ℕ) → countLine (fields l) ≡ countLine (fields (lockInstead l))
 count-alike = changed-alike countLine countLine refl (λ fs. unfold countLine lookUp programHeadings same bytes in refl) (λ f fs w. refl)
@@ -175,13 +116,13 @@ module _ {A : Type 0} where
         behind (on (as′, q)) = refl
 
 items-moved : (h : ProgramHeading) (k n : ℕ) (p : Place)
-    → readLines programSheet (itemLines h k n) (changedPlace p) ≡ (readLines programSheet (itemLinesFormerly h k n) p >>= moved)
-unfolding readLines itemLines itemLinesFormerly
+    → readLines programSheet (itemLines h k n) (changedPlace p) ≡ (readLines programSheet (itemLinesWithFreelock h k n) p >>= moved)
+unfolding readLines itemLines itemLinesWithFreelock
 items-moved h k zero p = unfold _>>=_ moved in refl
 items-moved h k (suc n) p =
-    rw (next-moved (itemLineFormerly h k) (itemLine h k) (item-alike h k) p)
-    (then-moved (itemLineFormerly h k) (itemLine h k) (item-alike h k) (readLine programSheet (itemLineFormerly h k) p)
-    (readLines programSheet (itemLinesFormerly h (k + 1) n)) (readLines programSheet (itemLines h (k + 1) n)) (items-moved h (k + 1) n))
+    rw (next-moved (itemLineWithFreelock h k) (itemLine h k) (item-alike h k) p)
+    (then-moved (itemLineWithFreelock h k) (itemLine h k) (item-alike h k) (readLine programSheet (itemLineWithFreelock h k) p)
+    (readLines programSheet (itemLinesWithFreelock h (k + 1) n)) (readLines programSheet (itemLines h (k + 1) n)) (items-moved h (k + 1) n))
 
 end-moved : (p : Place) → end programSheet (changedPlace p) ≡ end programSheet p
 unfolding end changedPlace
@@ -198,24 +139,24 @@ unfolding _>>=_ moved afterItems
 tree-moved k (stop r) = refl
 tree-moved k (on (items, p)) = rw (end-moved p) (unfold changedPlace in refl)
 
-count-moved : (o : Out (Counts × Place)) → (o >>= moved >>= afterCount itemLines) ≡ (o >>= afterCount itemLinesFormerly)
+count-moved : (o : Out (Counts × Place)) → (o >>= moved >>= afterCount itemLines) ≡ (o >>= afterCount itemLinesWithFreelock)
 unfolding _>>=_ moved afterCount
 count-moved (stop r) = refl
 count-moved (on (N, p)) = unfold changedPlace in
     ap (_>>= afterItems (N .procedures)) (items-moved (N .heading) (p .last + 1) (N .steps + N .procedures) p)
-    ∙ tree-moved (N .procedures) (readLines programSheet (itemLinesFormerly (N .heading) (p .last + 1) (N .steps + N .procedures)) p)
+    ∙ tree-moved (N .procedures) (readLines programSheet (itemLinesWithFreelock (N .heading) (p .last + 1) (N .steps + N .procedures)) p)
 
-program-alike : (p p′ : List ℕ) → lines p′ ≡ map (onClosed lockInstead) (lines p) → program p′ ≡ programFormerly p
-unfolding program programFormerly afterCount afterItems
+program-alike : (p p′ : List ℕ) → lines p′ ≡ map (onClosed lockInstead) (lines p) → program p′ ≡ programWithFreelock p
+unfolding program programBy programWithFreelock afterCount afterItems
 program-alike p p′ e = by-lines (lines p) refl
   where
-    by-lines : (ls : List Line) → lines p ≡ ls → program p′ ≡ programFormerly p
+    by-lines : (ls : List Line) → lines p ≡ ls → program p′ ≡ programWithFreelock p
     by-lines [] h = rw (e, h) (unfold begin _>>=_ in refl)
     by-lines (l ∷ ls) h = rw (e, h) (begun l ls)
       where
         begun : (l : Line) (ls : List Line)
             → (begin programSheet (map (onClosed lockInstead) (l ∷ ls)) >>= λ top. readLine programSheet countLine top >>= afterCount itemLines)
-            ≡ (begin programSheet (l ∷ ls) >>= λ top. readLine programSheet countLine top >>= afterCount itemLinesFormerly)
+            ≡ (begin programSheet (l ∷ ls) >>= λ top. readLine programSheet countLine top >>= afterCount itemLinesWithFreelock)
         begun l ls = unfold begin _>>=_ changedPlace in
             ap (_>>= afterCount itemLines) (next-moved countLine countLine count-alike (record { last = 0; rest = l ∷ ls }))
             ∙ count-moved (readLine programSheet countLine (record { last = 0; rest = l ∷ ls }))
@@ -264,22 +205,19 @@ text-no-longer : (p : List ℕ) → length (locksInstead p) ≤ length p
 unfolding locksInstead
 text-no-longer p = omega (arith, lines-no-longer (lines p), ap length (joined-lines p))
 
--- ------------------------------------------------------------------ the theorem
+-- ------------------------------------------------------------------ the answer
 
-checked-alike : (room : ℕ) (p s : List ℕ) → length p ≤ programLimit → checked room (locksInstead p) s ≡ checkedFormerly room p s
-unfolding sheets checked sheetsFormerly checkedFormerly
+checked-alike : (room : ℕ) (p s : List ℕ) → length p ≤ programLimit
+    → checked room (locksInstead p) s ≡ checkedBy programWithFreelock (split Check) ruled room p s
+unfolding sheets checked sheetsBy checkedBy
 checked-alike room p s fits =
     let fits′ : length (locksInstead p) ≤ programLimit = omega (arith, fits, text-no-longer p) in
     rw (le-leb _ _ fits, le-leb _ _ fits′, program-alike p (locksInstead p) (lines-instead p))
 
 -- of each pair whose program sheet is not too long, refused or accepted
-pub lock-instead-as-formerly : (room : ℕ) (p s : List ℕ) → length p ≤ programLimit → verdict room (locksInstead p) s ≡ verdictFormerly room p s
-unfolding verdictFormerly verdict
+pub lock-instead-as-formerly : (room : ℕ) (p s : List ℕ) → length p ≤ programLimit → verdict room (locksInstead p) s ≡ verdictWithFreelock room p s
+unfolding verdictWithFreelock verdictBy verdict
 lock-instead-as-formerly room p s fits = ap answer (checked-alike room p s fits)
-
--- ACCEPT and 30 to 33
-unfoldable pub judgedByRules : Answer → Bool
-judgedByRules a = let n = returned a .number in eqb n 0 || (leb 30 n && leb n 33)
 
 long-refused : (b : Bool) (m : Out (Program × Split)) (f : Program × Split → Out (Unit {0}))
     → judgedByRules (answer (demand b ShortWorkspace >>= λ enough. (demand false LongProgram >>= λ fits. m) >>= f)) ≡ false
@@ -287,15 +225,13 @@ unfolding judgedByRules answer returned four demand _>>=_
 long-refused true m f = refl
 long-refused false m f = refl
 
-long-not-judged : (room : ℕ) (p s : List ℕ) → leb (length p) programLimit ≡ false → judgedByRules (verdictFormerly room p s) ≡ false
-unfolding verdictFormerly checkedFormerly sheetsFormerly
+long-not-judged : (room : ℕ) (p s : List ℕ) → leb (length p) programLimit ≡ false → judgedByRules (verdictWithFreelock room p s) ≡ false
+unfolding verdictWithFreelock verdictBy checkedBy sheetsBy
 long-not-judged room p s long = rw long (long-refused (leb workspaceSize room) _ _)
 
--- "a pair that used to get ACCEPT or 30 to 33 gets that same answer with each such word changed"
-pub judged-as-formerly : (room : ℕ) (p s : List ℕ) → judgedByRules (verdictFormerly room p s) ≡ true
-    → verdict room (locksInstead p) s ≡ verdictFormerly room p s
-judged-as-formerly room p s judged = by-length (leb (length p) programLimit) refl
+pub lock-keeps-the-answer : LockKeepsTheAnswer
+lock-keeps-the-answer room p s judged = by-length (leb (length p) programLimit) refl
   where
-    by-length : (b : Bool) → leb (length p) programLimit ≡ b → verdict room (locksInstead p) s ≡ verdictFormerly room p s
+    by-length : (b : Bool) → leb (length p) programLimit ≡ b → verdict room (locksInstead p) s ≡ verdictWithFreelock room p s
     by-length true fits = lock-instead-as-formerly room p s (leb-true _ _ fits)
     by-length false long = true-is-not-false (sym judged ∙ long-not-judged room p s long)

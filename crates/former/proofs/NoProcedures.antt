@@ -21,7 +21,9 @@ use Rattle.spec.specs.declared.ProgramHeading.the-variants.{P, P2}
 use Rattle.spec.specs.declared.Word.the-variants.{Unary}
 use Rattle.spec.specs.declared.UnaryWord.the-variants.{Call}
 use Rattle.spec.proofs.Clashes.{true-is-not-false}
-use Rattle.former.proofs.Texts.{OneLine, _above_, fields-append}
+use Rattle.former.specs.Texts.{OneLine, _above_}
+use Rattle.former.specs.PlainPrograms.{plainHeader, headerWithNone, newWord, NoNewWords, NoProceduresStay}
+use Rattle.former.proofs.Texts.{fields-append}
 use Rattle.former.proofs.ZeroField.{withZero, numerals-zero, one-line-append, not-ten}
 use Rattle.former.proofs.ProgramStages.{afterItems, afterCount, program-stages}
 use Rattle.spec.proofs.Seen.{wrong-is-not-right, seen-right}
@@ -60,31 +62,15 @@ unfolding countLine counted programHeadings lookUp same bytes countsOf
 count-plain fs N h = let (ns, _, e) = seen-right _ h in sym (ap (λ (x : Counts). x .heading) e)
 
 module _ (a : List ℕ) where
-  abbrev pub plain : List ℕ
-  plain = bytes "P," ++ a
-
-  abbrev pub withNone : List ℕ
-  withNone = bytes "P2," ++ a ++ bytes ",0"
-
-  line-plain : (N : Counts) → countLine (fields plain) ≡ right N → N .heading ≡ P
+  line-plain : (N : Counts) → countLine (fields (plainHeader a)) ≡ right N → N .heading ≡ P
   unfolding bytes fields onField
   line-plain N h = count-plain (fields a) N h
 
-  line-counted : countLine (fields withNone) ≡ seen underP2 (countLine (fields plain))
+  line-counted : countLine (fields (headerWithNone a)) ≡ seen underP2 (countLine (fields (plainHeader a)))
   unfolding bytes fields onField
   line-counted = ap (λ (fs : List Field). countLine (bytes "P2" ∷ fs)) (fields-append a (48 ∷ [])) ∙ count-counted (fields a)
 
 -- ------------------------------------------------------------------ the lines behind it
-
--- whether the word of a line is one of the two that a `P` sheet does not know
-unfoldable pub newWord : List Field → Bool
-newWord [] = false
-newWord (f ∷ fs) = same f (bytes "proc") || same (bytes "call") f
-
-unfoldable pub NoNewWords : List Line → Type 0
-NoNewWords [] = Unit {0}
-NoNewWords (closed l ∷ ls) = (newWord (fields l) ≡ false) × NoNewWords ls
-NoNewWords (unclosed l ∷ ls) = NoNewWords ls
 
 -- a line with another word is read alike
 item-same : (k : ℕ) (fs : List Field) → newWord fs ≡ false → itemLine P2 k fs ≡ itemLine P k fs
@@ -131,32 +117,35 @@ passed-same ls old (right N) headed =
 passed-same ls old (wrong w) headed = refl
 
 module _ (a t : List ℕ) (one : OneLine a) (old : NoNewWords (lines t)) where
-  plain-line : OneLine (plain a)
+  plain-line : OneLine (plainHeader a)
   unfolding bytes
   plain-line = (not-ten 80 (omega arith), (not-ten 44 (omega arith), one))
 
-  none-line : OneLine (withNone a)
+  none-line : OneLine (headerWithNone a)
   unfolding bytes
   none-line =
       let zero-counted = one-line-append a (44 ∷ 48 ∷ []) one (not-ten 44 (omega arith), (not-ten 48 (omega arith), tt)) in
       (not-ten 80 (omega arith), (not-ten 50 (omega arith), (not-ten 44 (omega arith), zero-counted)))
 
-  program-same : program (withNone a above t) ≡ program (plain a above t)
+  program-same : program (headerWithNone a above t) ≡ program (plainHeader a above t)
   program-same =
-      program-stages (withNone a) t none-line
+      program-stages (headerWithNone a) t none-line
       ∙ ap (λ (s : Seen Counts). passed programSheet 1 (lines t) s >>= afterCount itemLines) (line-counted a)
-      ∙ passed-same (lines t) old (countLine (fields (plain a))) (line-plain a)
-      ∙ sym (program-stages (plain a) t plain-line)
+      ∙ passed-same (lines t) old (countLine (fields (plainHeader a))) (line-plain a)
+      ∙ sym (program-stages (plainHeader a) t plain-line)
 
   -- of each pair whose program sheet is not too long, refused or accepted
-  pub no-procedures-same : (room : ℕ) (s : List ℕ) → length (withNone a above t) ≤ programLimit
-      → verdict room (withNone a above t) s ≡ verdict room (plain a above t) s
+  no-procedures-same : (room : ℕ) (s : List ℕ) → length (headerWithNone a above t) ≤ programLimit
+      → verdict room (headerWithNone a above t) s ≡ verdict room (plainHeader a above t) s
   unfolding verdict checked sheets
   no-procedures-same room s fits = rw (le-leb _ _ fits, le-leb _ _ (shorter fits), program-same)
     where
-      shorter : length (withNone a above t) ≤ programLimit → length (plain a above t) ≤ programLimit
+      shorter : length (headerWithNone a above t) ≤ programLimit → length (plainHeader a above t) ≤ programLimit
       shorter fits = unfold bytes _above_ in
           omega (arith, fits, length-append a (10 ∷ t), length-append (a ++ 44 ∷ 48 ∷ []) (10 ∷ t), length-append a (44 ∷ 48 ∷ []))
+
+pub no-procedures-stay : NoProceduresStay
+no-procedures-stay room a t s one old fits = no-procedures-same a t one old room s fits
 
 -- ------------------------------------------------------------------ a well-formed `P` sheet
 
